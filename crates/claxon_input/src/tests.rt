@@ -1,0 +1,127 @@
+//! Rows of the papers.
+use crate::crc::Crc8Reader;
+use crate::input::{Bitstream, BufferedReader, ReadBytes};
+use std::io;
+use std::io::Cursor;
+use std::test::Fail;
+
+#[test]
+fn cursor_far_out(rt: HostRuntime) -> Result<(), Fail> {
+    let mut cursor = Cursor::new([1u8, 2, 3]);
+    cursor.set_position(u64::MAX);
+    assert!(rt; cursor.read_u8().is_err());
+    assert_eq!(rt; cursor.read_u8_or_eof()?, None);
+    assert!(rt; cursor.skip(0).is_ok());
+    assert!(rt; cursor.skip(1).is_err());
+    let mut none = [0u8; 0];
+    assert!(rt; cursor.read_into(&mut none).is_ok());
+    assert_eq!(rt; cursor.position(), u64::MAX);
+    Ok(())
+}
+
+#[test]
+fn bits_of_two_bytes(rt: HostRuntime) -> Result<(), Fail> {
+    let mut bits = Bitstream::new(Cursor::new([0u8, 0x80]));
+    assert_eq!(rt; bits.read_unary()?, 8);
+    assert_eq!(rt; bits.read_leq_u32(7)?, 0);
+    assert_eq!(rt; bits.read_leq_u32(0)?, 0);
+    assert!(rt; bits.read_bit().is_err());
+    Ok(())
+}
+
+#[test]
+fn bits_take_no_byte_early(rt: HostRuntime) -> Result<(), Fail> {
+    let mut cursor = Cursor::new([0xA5u8, 0xE1, 0xD2, 0x55, 0xF0]);
+    {
+        let mut bits = Bitstream::new(&mut cursor);
+        assert_eq!(rt; bits.read_leq_u32(32)?, 0xA5E1_D255);
+        assert_eq!(rt; bits.read_leq_u32(0)?, 0);
+    }
+    assert_eq!(rt; cursor.position(), 4);
+    {
+        let mut bits = Bitstream::new(&mut cursor);
+        assert_eq!(rt; bits.read_unary()?, 0);
+        assert!(rt; bits.read_leq_u32(20).is_err());
+    }
+    assert_eq!(rt; cursor.position(), 5);
+    Ok(())
+}
+
+#[test]
+fn crc_of_three_bytes(rt: HostRuntime) -> Result<(), Fail> {
+    let mut crc = Crc8Reader::new(Cursor::new([0x61u8, 0x62, 0x63]));
+    crc.skip(1)?;
+    let mut two = [0u8; 2];
+    crc.read_into(&mut two)?;
+    assert_eq!(rt; crc.crc(), 0x5F);
+    Ok(())
+}
+
+#[test]
+fn buffered_number(rt: HostRuntime) -> Result<(), Fail> {
+    let mut reader = BufferedReader::new(rt.alloc(), Cursor::new([1u8, 2, 3, 4, 5]))?;
+    assert_eq!(rt; reader.read_be_u32()?, 0x0102_0304);
+    assert_eq!(rt; reader.read_be_u16_or_eof()?, None);
+    Ok(())
+}
+
+// Zeros without end, which tells nothing.
+#[derive(Drop)]
+struct Zeros;
+
+impl ReadBytes for Zeros {
+    fn read_u8(&mut self) -> io::Result<u8> {
+        Ok(0)
+    }
+
+    fn read_u8_or_eof(&mut self) -> io::Result<Option<u8>> {
+        Ok(Some(0))
+    }
+
+    fn read_into(&mut self, buffer: &mut [u8]) -> io::Result<()> {
+        for slot in buffer.iter_mut() {
+            *slot = 0;
+        }
+        Ok(())
+    }
+
+    fn skip(&mut self, _amount: u32) -> io::Result<()> {
+        Ok(())
+    }
+}
+
+// A reader that fails at its second read and goes on.
+#[derive(Drop)]
+struct FailsOnce {
+    reads: u32,
+}
+
+impl io::Read for FailsOnce {
+    fn read(&mut self, buf: &mut [u8]) -> io::Result<usize> {
+        self.reads = self.reads.wrapping_add(1);
+        if self.reads == 2 {
+            return Err(io::Error::new(io::ErrorKind::Other, "failed"));
+        }
+        if buf.is_empty() {
+            return Ok(0);
+        }
+        buf[0] = 7;
+        Ok(1)
+    }
+}
+
+#[test]
+fn a_failed_read_is_an_error_once(rt: HostRuntime) -> Result<(), Fail> {
+    let mut reader = BufferedReader::new(rt.alloc(), FailsOnce { reads: 0 })?;
+    assert_eq!(rt; reader.read_u8()?, 7);
+    assert!(rt; reader.read_u8_or_eof().is_err());
+    assert_eq!(rt; reader.read_u8()?, 7);
+    Ok(())
+}
+
+#[test]
+fn zeros_give_zero(rt: HostRuntime) -> Result<(), Fail> {
+    let mut bits = Bitstream::new(Zeros);
+    assert_eq!(rt; bits.read_leq_u32(13)?, 0);
+    Ok(())
+}
