@@ -45,7 +45,8 @@ bits_of-push s y = bits_of-append s (y ∷ []) ∙ ap (λ l. bits_of s ++ l)
     (bits_of-one y [] ∙ ap (λ l. bits 8 y ++ l) bits_of-none ∙ append-nil (bits 8 y) ∙ sym (bits-low 8 y))
 
 module _ (d p : ℕ) (some : 2 ≤ 2 ^ d) (low : 2 ^ d ≤ p) (high : p < 2 * 2 ^ d) where
-  whole : List ℕ → ℕ
+  -- the remainder of the bytes, with d zeros behind them
+  abbrev pub whole : List ℕ → ℕ
   whole s = divide d p 0 (bits_of s ++ replicate d false)
 
   -- a byte more, where d zeros stand behind
@@ -66,7 +67,6 @@ module _ (d p : ℕ) (some : 2 ≤ 2 ^ d) (low : 2 ^ d ≤ p) (high : p < 2 * 2 
       ∙ sym (zeros-xor d p some low high 8 (zeros d p d r) (y * 2 ^ k) (divide_lt d p some low high (replicate d false) r h) fits)
 
   at : (s : List ℕ) → whole s ≡ zeros d p d (divide d p 0 (bits_of s))
-  unfolding whole
   at s = divide-append d p 0 (bits_of s) (replicate d false)
 
   push : (s : List ℕ) (y : ℕ) → 8 ≤ d → whole (s ++ y ∷ []) ≡ zeros d p 8 (bit_xor (whole s) (y % 256 * 2 ^ (d - 8)))
@@ -83,11 +83,11 @@ module _ (d p : ℕ) (some : 2 ≤ 2 ^ d) (low : 2 ^ d ≤ p) (high : p < 2 * 2 
   goes_on (y ∷ ys) s e = ap (λ c. check d p c ys) (sym (push s y e)) ∙ goes_on ys (s ++ y ∷ []) e ∙ ap whole (append_assoc s (y ∷ []) ys)
 
 pub goes_on_8 : GoesOn8
-unfolding crc8 whole
+unfolding crc8
 goes_on_8 s xs = goes_on 8 0x107 (omega arith) (omega arith) (omega arith) xs s (omega arith)
 
 pub goes_on_16 : GoesOn16
-unfolding crc16 whole
+unfolding crc16
 goes_on_16 s xs = goes_on 16 0x18005 (omega arith) (omega arith) (omega arith) xs s (omega arith)
 
 -- ---- tables
@@ -115,10 +115,10 @@ table_at d p n i (suc j) (t ∷ ts) e h =
     table_at d p n (i + 1) j ts (both _ _ e).1 (omega arith) ∙ ap (λ m. zeros d p n (m * 2 ^ (d - 8))) k
 
 entry_8 : (i : ℕ) → i < 256 → get_or CRC8_TABLE i 0 ≡ zeros 8 0x107 8 (i * 2 ^ (8 - 8))
-entry_8 i h = table_at 8 0x107 8 0 i CRC8_TABLE table8 h
+entry_8 i h = let k : 0 + i ≡ i = omega arith in table_at 8 0x107 8 0 i CRC8_TABLE table8 h ∙ ap (λ m. zeros 8 0x107 8 (m * 2 ^ (8 - 8))) k
 
 entry_16 : (i : ℕ) → i < 256 → get_or CRC16_TABLE i 0 ≡ zeros 16 0x18005 8 (i * 2 ^ (16 - 8))
-entry_16 i h = table_at 16 0x18005 8 0 i CRC16_TABLE table16 h
+entry_16 i h = let k : 0 + i ≡ i = omega arith in table_at 16 0x18005 8 0 i CRC16_TABLE table16 h ∙ ap (λ m. zeros 16 0x18005 8 (m * 2 ^ (16 - 8))) k
 
 -- ---- the code's steps are those of the definition
 

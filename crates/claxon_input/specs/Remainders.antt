@@ -17,8 +17,8 @@ check16 = check 16 0x18005
 
 -- the entry at each index is the remainder of the index, put into the highest bits, after this many zeros
 unfoldable pub is_table : ℕ → ℕ → ℕ → ℕ → List ℕ → Bool
-is_table degree poly zeros i [] = true
-is_table degree poly zeros i (t ∷ ts) = (t == divide degree poly (i * 2 ^ (degree - 8)) (replicate zeros false)) && is_table degree poly zeros (i + 1) ts
+is_table degree poly n i [] = true
+is_table degree poly n i (t ∷ ts) = (t == divide degree poly (i * 2 ^ (degree - 8)) (replicate n false)) && is_table degree poly n (i + 1) ts
 
 -- where c is the remainder of s, it is after more bytes that of s and these
 abbrev pub GoesOn8 : Type 0

@@ -1,5 +1,5 @@
-//! Rows of the papers.
-use crate::crc::Crc8Reader;
+//! Readers that fail, and worked values.
+use crate::crc::{Crc8Reader, Crc16Reader};
 use crate::input::{Bitstream, BufferedReader, ReadBytes};
 use std::io;
 use std::io::Cursor;
@@ -58,6 +58,25 @@ fn crc_of_three_bytes(rt: HostRuntime) -> Result<(), Fail> {
 }
 
 #[test]
+fn wide_crc_of_three_bytes(rt: HostRuntime) -> Result<(), Fail> {
+    let mut crc = Crc16Reader::new(Cursor::new([0x61u8, 0x62, 0x63]));
+    let mut one = [0u8; 1];
+    crc.read_into(&mut one)?;
+    crc.skip(1)?;
+    assert_eq!(rt; crc.read_u8_or_eof()?, Some(0x63));
+    assert_eq!(rt; crc.crc(), 0xCADB);
+    Ok(())
+}
+
+#[test]
+fn little_end_first(rt: HostRuntime) -> Result<(), Fail> {
+    let mut cursor = Cursor::new([4u8, 3, 2, 1]);
+    assert_eq!(rt; cursor.at_hand().len(), 4);
+    assert_eq!(rt; cursor.read_le_u32()?, 0x0102_0304);
+    Ok(())
+}
+
+#[test]
 fn buffered_number(rt: HostRuntime) -> Result<(), Fail> {
     let mut reader = BufferedReader::new(rt.alloc(), Cursor::new([1u8, 2, 3, 4, 5]))?;
     assert_eq!(rt; reader.read_be_u32()?, 0x0102_0304);
@@ -65,7 +84,7 @@ fn buffered_number(rt: HostRuntime) -> Result<(), Fail> {
     Ok(())
 }
 
-// Zeros without end, which tells nothing.
+// Zeros without end: a reader with the four calls that are asked for, which tells nothing of its bytes.
 #[derive(Drop)]
 struct Zeros;
 
@@ -121,7 +140,11 @@ fn a_failed_read_is_an_error_once(rt: HostRuntime) -> Result<(), Fail> {
 
 #[test]
 fn zeros_give_zero(rt: HostRuntime) -> Result<(), Fail> {
-    let mut bits = Bitstream::new(Zeros);
-    assert_eq!(rt; bits.read_leq_u32(13)?, 0);
+    assert!(rt; Zeros.at_hand().is_empty());
+    let mut crc = Crc16Reader::new(Zeros);
+    crc.skip(3)?;
+    let mut bits = Bitstream::new(&mut crc);
+    assert_eq!(rt; bits.read_leq_u16(13)?, 0);
+    assert_eq!(rt; crc.crc(), 0);
     Ok(())
 }

@@ -1,0 +1,15 @@
+use Rattle.std.proofs.Common.{arith, rules, ap, ◌∙◌, ◌++◌, sym}
+use Rattle.claxon_input.proofs.Sources.{takes_checked, same_front}
+use Rattle.claxon_input.proofs.crc.CheckedReader.skip_some.Goals as goal
+
+pub returns-clause-ok : goal.returns-clause-ok
+returns-clause-ok g c =
+    let old = g.R.ReadBytes.source c.args.self.now.inner in
+    let new = g.R.ReadBytes.source c.skip.new.self in
+    let (xs, l, t) = c.in_ok-skip.ensures.ok in (
+      xs,
+      l,
+      takes_checked (g.S.Remainder.check c.args.self.now.state) (g.S.Remainder.check c.after-state.result) t
+          (λ told ys. c.after-state.ensures ys
+          ∙ ap (λ bytes. g.S.Remainder.check c.args.self.now.state (bytes ++ ys)) (sym (same_front old.to_come new.to_come c.at_hand-bytes.result.now xs c.min-count.result c.at_hand-bytes.ensures t.lost.front l (search rules) told))),
+    )
