@@ -1,0 +1,6 @@
+use Rattle.claxon_input.specs.BitSource.{bit_state}
+use Rattle.claxon.specs.Loans.{KeepsBitLoans}
+use Rattle.claxon.proofs.subframe.read_coefficients.Given as goal
+
+abbrev pub invariant-loop-coefficient : goal.invariant-loop-coefficient
+invariant-loop-coefficient g l = KeepsBitLoans (bit_state g.R.ReadBytes.source l.initial.input) (bit_state g.R.ReadBytes.source l.input)

@@ -1,0 +1,12 @@
+pub mod Errors
+pub mod Loans
+pub mod Kinds
+pub mod Partitions
+pub mod Assignment
+pub mod Channels
+pub mod Stereo
+pub mod Comments
+pub mod Tags
+pub mod BlockReader
+pub mod Blocks
+pub mod Flac

@@ -1,0 +1,158 @@
+//! Frames: blocks of samples, one after another.
+ghost use Rattle.std.specs.Prelude.{◌≡◌, ℕ, ◌+◌, ◌*◌, ◌<◌, ◌≤◌, IfOk, IfErr, IfSome, length, vec_len, vec_capacity, true, false};
+ghost use Rattle.claxon.specs.Assignment.{channels_of};
+ghost use Rattle.claxon.specs.Channels.{duration_of};
+ghost use Rattle.claxon.specs.Errors.{is_memory};
+ghost use Rattle.claxon.specs.Loans.{KeepsLoans};
+ghost use Rattle.claxon_input.specs.Checked.{checked_source};
+ghost use Rattle.claxon_input.specs.Remainders.{check16};
+
+mod block;
+mod header;
+mod stereo;
+
+use crate::error::{Error, Result};
+use crate::input::{Bitstream, ReadBytes};
+use crate::metadata::StreamInfo;
+use crate::subframe;
+pub use block::{Block, StereoSamples};
+use claxon_input::crc::Crc16Reader;
+use header::{FrameHeader, StreamShape, read_frame_header_or_eof};
+use std::alloc::{Allocator, Global};
+use stereo::unmix;
+
+/// Reads frames one after another.
+#[derive(Drop)]
+pub struct FrameReader<R> {
+    input: R,
+    stream: Option<StreamShape>,
+}
+
+/// A block, None at the end of the input, or an error.
+pub type FrameResult<A = Global> = Result<Option<Block<A>>>;
+
+impl<R: ReadBytes> FrameReader<R> {
+    ghost use Rattle.claxon.specs.Flac.{frame_input};
+
+    /// A reader that knows nothing of the stream: a header has to name the width of its samples.
+    pub fn new(input: R) -> FrameReader<R>
+        ensures { frame_input result ≡ input }
+    {
+        FrameReader {
+            input,
+            stream: None,
+        }
+    }
+
+    /// A reader of frames of the stream with this streaminfo, whose width is 1 to 32 bits.
+    pub fn with_streaminfo(input: R, info: StreamInfo) -> FrameReader<R>
+        requires some { 1 ≤ info.bits_per_sample }
+        requires most { info.bits_per_sample ≤ 32 }
+        ensures { frame_input result ≡ input }
+    {
+        let is_fixed = info.min_block_size == info.max_block_size;
+        let block_size = if is_fixed {
+            Some(info.min_block_size)
+        } else {
+            None
+        };
+        FrameReader {
+            input,
+            stream: Some(StreamShape {
+                bits_per_sample: info.bits_per_sample,
+                block_size,
+            }),
+        }
+    }
+
+    /// Reads the next block, into the buffer's memory where it suffices.
+    ///
+    /// None where fewer than two bytes are left, which are taken. What the buffer held, its length and its capacity don't
+    /// show in the block. Where its capacity is channels times block size or more no memory is taken; else `OutOfMemory` may
+    /// come after the header was taken. After an error the next call starts at the first byte not taken.
+    pub fn read_next_or_eof<A: Allocator>(&mut self, buffer: Vec<i32, A>) -> FrameResult<A>
+        ensures some { IfOk result (λ found. IfSome found (λ block. (1 ≤ length block.channels) × (1 ≤ duration_of block.channels))) }
+        ensures memory { IfErr result (λ error. is_memory error ≡ true → vec_capacity buffer < 8 * 65535) }
+    {
+        let mut input = Crc16Reader::new(&mut self.input);
+        read_frame_or_eof(&mut input, self.stream, buffer)
+    }
+
+    /// The wrapped reader.
+    pub fn into_inner(self) -> R
+        ensures { result ≡ frame_input self }
+    {
+        let FrameReader { input, stream: _ } = self;
+        input
+    }
+}
+
+fn read_frame_or_eof<R: ReadBytes, A: Allocator>(
+    input: &mut Crc16Reader<R>,
+    stream: Option<StreamShape>,
+    buffer: Vec<i32, A>,
+) -> FrameResult<A>
+    ensures some { IfOk result (λ found. IfSome found (λ block. (1 ≤ length block.channels) × (1 ≤ duration_of block.channels))) }
+    ensures memory { IfErr result (λ error. is_memory error ≡ true → vec_capacity buffer < 8 * 65535) }
+    ensures loans { KeepsLoans (checked_source R.source check16 input.old) (checked_source R.source check16 input.new) }
+{
+    let Some(header) = read_frame_header_or_eof(input, stream)? else {
+        return Ok(None);
+    };
+    let channels = u32::from(header.channel_assignment.channels());
+    let duration = u32::from(header.block_size);
+    let mut buffer = ensure_buffer_len(buffer, channels as usize * duration as usize)?;
+    decode_subframes(input, &header, buffer.as_mut_slice())?;
+    check_footer(input)?;
+    unmix(header.channel_assignment, buffer.as_mut_slice());
+    Ok(Some(Block::new(header.time, channels, duration, buffer)))
+}
+
+// The buffer with so many samples of any value. It grows only where its capacity is below that.
+fn ensure_buffer_len<A: Allocator>(buffer: Vec<i32, A>, new_len: usize) -> Result<Vec<i32, A>>
+    ensures len { IfOk result (λ filled. vec_len filled ≡ new_len) }
+    ensures memory { IfErr result (λ error. vec_capacity buffer < new_len) }
+{
+    let mut buffer = buffer;
+    if buffer.len() < new_len {
+        buffer.resize(new_len, 0)?;
+    } else {
+        buffer.truncate(new_len);
+    }
+    Ok(buffer)
+}
+
+// The subframes of all coded channels, and with them the padding bits up to a byte border, which may have any value.
+#[tactic(auto, using(crate::proofs::Chunks::chunk_ends))]
+fn decode_subframes<R: ReadBytes>(
+    input: &mut R,
+    header: &FrameHeader,
+    buffer: &mut [i32],
+) -> Result<()>
+    requires { length buffer.old ≡ channels_of header.now.channel_assignment * header.now.block_size }
+    ensures no_memory { IfErr result (λ error. is_memory error ≡ false) }
+    ensures loans { KeepsLoans (R.source input.old) (R.source input.new) }
+{
+    let mut bits = Bitstream::new(input);
+    let assignment = header.channel_assignment;
+    let size = usize::from(header.block_size);
+    let mut start = 0;
+    for ch in 0..assignment.channels() {
+        let width = assignment.width(header.bits_per_sample, ch);
+        subframe::decode(&mut bits, width, &mut buffer[start..start + size])?;
+        start += size;
+    }
+    Ok(())
+}
+
+// The guard of all bytes of the frame.
+fn check_footer<R: ReadBytes>(input: &mut Crc16Reader<R>) -> Result<()>
+    ensures no_memory { IfErr result (λ error. is_memory error ≡ false) }
+    ensures loans { KeepsLoans (checked_source R.source check16 input.old) (checked_source R.source check16 input.new) }
+{
+    let computed = input.crc();
+    if input.read_be_u16()? != computed {
+        return Err(Error::FormatError("frame CRC mismatch"));
+    }
+    Ok(())
+}

@@ -1,0 +1,381 @@
+//! The `metadata` module deals with metadata at the beginning of a FLAC stream.
+ghost use Rattle.std.specs.Prelude.{◌≡◌, ◌≢◌, ◌≤◌, false, IfOk, OnOk, vec_len};
+ghost use Rattle.claxon_input.specs.Source.{Skips};
+ghost use Rattle.claxon.specs.Blocks.{HasBounds, IsSound};
+
+mod comment;
+mod tags;
+#[cfg(test)]
+mod tests;
+
+use crate::input::ReadBytes;
+use crate::{Error, Result};
+use comment::read_vorbis_comment_block;
+use std::alloc::{Allocator, Global};
+pub use tags::{GetTag, Tags};
+
+/// The length in bytes of the longest block that is read into memory.
+const MAX_BLOCK_LENGTH: u32 = 10 * 1024 * 1024;
+
+#[derive(Clone, Copy)]
+struct MetadataBlockHeader {
+    is_last: bool,
+    block_type: u8,
+    length: u32,
+}
+
+/// The streaminfo metadata block, with important information about the stream.
+#[derive(Clone, Copy, Debug)]
+pub struct StreamInfo {
+    /// The least number of samples of a channel in a block, the last block aside.
+    pub min_block_size: u16,
+    /// The greatest number of samples of a channel in a block.
+    pub max_block_size: u16,
+    /// The least number of bytes of a frame, if it is known.
+    pub min_frame_size: Option<u32>,
+    /// The greatest number of bytes of a frame, if it is known.
+    pub max_frame_size: Option<u32>,
+    /// The sample rate in Hz.
+    pub sample_rate: u32,
+    /// The number of channels.
+    pub channels: u32,
+    /// The width of a sample in bits.
+    pub bits_per_sample: u32,
+    /// The number of samples of each channel of the stream, if it is known.
+    pub samples: Option<u64>,
+    /// The MD5 sum of the samples that were encoded. It isn't compared.
+    pub md5sum: [u8; 16],
+}
+
+/// A seek point in the seek table.
+#[derive(Clone, Copy)]
+pub struct SeekPoint {
+    /// The number of the first sample of the frame, or 2^64 - 1 for a placeholder.
+    pub sample: u64,
+    /// The bytes from the first frame's header to this frame's.
+    pub offset: u64,
+    /// The number of samples of a channel in the frame.
+    pub samples: u16,
+}
+
+/// A seek table. None is read yet: its block is answered as padding.
+#[derive(Drop)]
+pub struct SeekTable<A: Allocator = Global> {
+    #[allow(dead_code)]
+    seekpoints: Vec<SeekPoint, A>,
+}
+
+/// Vorbis comments, also known as FLAC tags: artist, title and so on.
+#[derive(Drop)]
+pub struct VorbisComment<A: Allocator = Global> {
+    /// What the encoder's vendor says of itself.
+    pub vendor: String<A>,
+    /// Each entry as the text `NAME=value` and the place of its first `=`.
+    ///
+    /// In what was read from a stream a name has only bytes from 0x20 to 0x7d. Upper and lower
+    /// case of a name are to be treated alike, and a name may occur more than once: `GetTag`
+    /// looks one up.
+    pub comments: Vec<(String<A>, usize), A>,
+}
+
+/// A block of metadata.
+#[derive(Drop)]
+pub enum MetadataBlock<A: Allocator = Global> {
+    /// A streaminfo block.
+    StreamInfo(StreamInfo),
+    /// A block whose bytes have no meaning here.
+    Padding {
+        /// The number of bytes.
+        length: u32,
+    },
+    /// A block of an application's own.
+    Application {
+        /// The registered number of the application.
+        id: u32,
+        /// What the block holds after it.
+        bytes: Vec<u8, A>,
+    },
+    /// A seek table. It is never answered.
+    SeekTable(SeekTable<A>),
+    /// A Vorbis comment block, also known as FLAC tags.
+    VorbisComment(VorbisComment<A>),
+    /// A cue sheet. It is never answered.
+    CueSheet,
+    /// A picture. It is never answered.
+    Picture,
+    /// A block of a type that has no meaning yet.
+    Reserved,
+}
+
+/// Either a `MetadataBlock` or an `Error`.
+pub type MetadataBlockResult<A = Global> = Result<MetadataBlock<A>>;
+
+// The last flag, the type and the length of a block.
+fn read_metadata_block_header<R: ReadBytes>(input: &mut R) -> Result<MetadataBlockHeader> {
+    let first = input.read_u8()?;
+    let length = input.read_be_u24()?;
+    Ok(MetadataBlockHeader {
+        is_last: first >= 128,
+        block_type: first % 128,
+        length,
+    })
+}
+
+// A block, and whether it is marked as the last one.
+pub(crate) fn read_metadata_block_and_flag<R: ReadBytes, A: Allocator + Copy>(
+    alloc: A,
+    input: &mut R,
+) -> Result<(bool, MetadataBlock<A>)>
+    ensures { IfOk result (λ found. IsSound found.1) }
+{
+    let header = read_metadata_block_header(input)?;
+    let block = read_metadata_block(alloc, input, header.block_type, header.length)?;
+    Ok((header.is_last, block))
+}
+
+/// Reads a metadata block with its header, as Ogg embeds them.
+///
+/// An Ok takes just the block from the input. An Err may have taken some of its bytes.
+///
+/// # Errors
+///
+/// Those of `read_metadata_block`.
+pub fn read_metadata_block_with_header<R: ReadBytes, A: Allocator + Copy>(
+    alloc: A,
+    input: &mut R,
+) -> Result<MetadataBlock<A>>
+    ensures { IfOk result (λ block. IsSound block) }
+{
+    let (_, block) = read_metadata_block_and_flag(alloc, input)?;
+    Ok(block)
+}
+
+/// Reads the content of a metadata block of this type and length (in bytes), as MP4 embeds them.
+///
+/// The input stands after the block's header. An Ok takes just the content. Seek tables, cue
+/// sheets and pictures are skipped and answered as padding.
+///
+/// # Errors
+///
+/// `FormatError` and `Unsupported` where the block is ill-formed or too large, `IoError` where
+/// the input ends or fails, `OutOfMemory` where memory for texts or application data is refused.
+/// An Err may have taken some of the block's bytes.
+pub fn read_metadata_block<R: ReadBytes, A: Allocator + Copy>(
+    alloc: A,
+    input: &mut R,
+    block_type: u8,
+    length: u32,
+) -> Result<MetadataBlock<A>>
+    ensures sound { IfOk result (λ block. IsSound block) }
+    ensures skipped { block_type ≢ 0 → block_type ≢ 2 → block_type ≢ 4 → OnOk result (Skips (R.source input.old) (R.source input.new) length) }
+{
+    match block_type {
+        0 => Ok(MetadataBlock::StreamInfo(read_streaminfo_block(input, length)?)),
+        1 | 3 | 5 | 6 => {
+            input.skip(length)?;
+            Ok(MetadataBlock::Padding { length })
+        }
+        2 => {
+            let (id, bytes) = read_application_block(alloc, input, length)?;
+            Ok(MetadataBlock::Application { id, bytes })
+        }
+        4 => {
+            let comment = read_vorbis_comment_block(alloc, input, length)?;
+            Ok(MetadataBlock::VorbisComment(comment))
+        }
+        127 => Err(Error::FormatError("invalid metadata block type")),
+        _ => {
+            input.skip(length)?;
+            Ok(MetadataBlock::Reserved)
+        }
+    }
+}
+
+// The bounds on the sizes of blocks and frames, as a streaminfo block has them.
+#[derive(Clone, Copy)]
+struct SizeBounds {
+    min_block_size: u16,
+    max_block_size: u16,
+    min_frame_size: u32,
+    max_frame_size: u32,
+}
+
+fn read_size_bounds<R: ReadBytes>(input: &mut R) -> Result<SizeBounds> {
+    let min_block_size = input.read_be_u16()?;
+    let max_block_size = input.read_be_u16()?;
+    let min_frame_size = input.read_be_u24()?;
+    let max_frame_size = input.read_be_u24()?;
+    Ok(SizeBounds {
+        min_block_size,
+        max_block_size,
+        min_frame_size,
+        max_frame_size,
+    })
+}
+
+// What a streaminfo block says of the samples.
+#[derive(Clone, Copy)]
+struct SampleFormat {
+    sample_rate: u32,
+    channels: u32,
+    bits_per_sample: u32,
+    samples: u64,
+}
+
+// 20 bits of the rate, 3 of the channels less one, 5 of the width less one, 36 of the number.
+fn read_sample_format<R: ReadBytes>(input: &mut R) -> Result<SampleFormat>
+    ensures channels { IfOk result (λ format. (1 ≤ format.channels) × (format.channels ≤ 8)) }
+    ensures width { IfOk result (λ format. (1 ≤ format.bits_per_sample) × (format.bits_per_sample ≤ 32)) }
+{
+    let high = input.read_be_u32()?;
+    let low = input.read_be_u32()?;
+    Ok(SampleFormat {
+        sample_rate: high >> 12,
+        channels: (high >> 9 & 7) + 1,
+        bits_per_sample: (high >> 4 & 31) + 1,
+        samples: u64::from(high & 15) << 32 | u64::from(low),
+    })
+}
+
+fn read_streaminfo_block<R: ReadBytes>(input: &mut R, length: u32) -> Result<StreamInfo>
+    ensures { IfOk result (λ info. HasBounds info) }
+{
+    if length != 34 {
+        return Err(Error::FormatError("invalid streaminfo metadata block length"));
+    }
+    let sizes = read_size_bounds(input)?;
+    let format = read_sample_format(input)?;
+    let mut md5sum = [0; 16];
+    input.read_into(&mut md5sum)?;
+    check_size_bounds(sizes)?;
+    if format.sample_rate == 0 || format.sample_rate > 655_350 {
+        return Err(Error::FormatError("invalid sample rate"));
+    }
+    Ok(StreamInfo {
+        min_block_size: sizes.min_block_size,
+        max_block_size: sizes.max_block_size,
+        min_frame_size: if_known(sizes.min_frame_size),
+        max_frame_size: if_known(sizes.max_frame_size),
+        sample_rate: format.sample_rate,
+        channels: format.channels,
+        bits_per_sample: format.bits_per_sample,
+        samples: if format.samples == 0 {
+            None
+        } else {
+            Some(format.samples)
+        },
+        md5sum,
+    })
+}
+
+// A frame size of 0 stands for one that isn't known.
+fn if_known(size: u32) -> Option<u32> {
+    if size == 0 { None } else { Some(size) }
+}
+
+fn check_size_bounds(sizes: SizeBounds) -> Result<()> {
+    if sizes.min_block_size > sizes.max_block_size {
+        return Err(Error::FormatError("inconsistent bounds, min block size > max block size"));
+    }
+    if sizes.min_block_size < 16 {
+        return Err(Error::FormatError("invalid block size, must be at least 16"));
+    }
+    if sizes.max_frame_size != 0 && sizes.min_frame_size > sizes.max_frame_size {
+        return Err(Error::FormatError("inconsistent bounds, min frame size > max frame size"));
+    }
+    Ok(())
+}
+
+// The application's number and its data.
+fn read_application_block<R: ReadBytes, A: Allocator>(
+    alloc: A,
+    input: &mut R,
+    length: u32,
+) -> Result<(u32, Vec<u8, A>)> {
+    if length < 4 {
+        return Err(Error::FormatError("application block length must be at least 4 bytes"));
+    }
+    if length > MAX_BLOCK_LENGTH {
+        return Err(Error::Unsupported("application blocks larger than 10 MiB are not supported"));
+    }
+    let id = input.read_be_u32()?;
+    let bytes = read_bytes(alloc, input, length - 4)?;
+    Ok((id, bytes))
+}
+
+// That many bytes. A caller bounds the count, since the memory is taken before the bytes are read.
+fn read_bytes<R: ReadBytes, A: Allocator>(alloc: A, input: &mut R, count: u32) -> Result<Vec<u8, A>>
+    ensures { IfOk result (λ bytes. vec_len bytes ≡ count) }
+{
+    let mut bytes = Vec::new(alloc);
+    bytes.resize(count as usize, 0)?;
+    input.read_into(&mut bytes)?;
+    Ok(bytes)
+}
+
+/// Reads metadata blocks one after another, up to the one that is marked as the last.
+///
+/// After an Err and after the last block it answers None, and takes nothing from the input.
+/// It has no limit on the number of blocks.
+#[derive(Drop)]
+pub struct MetadataBlockReader<R: ReadBytes, A: Allocator = Global> {
+    alloc: A,
+    input: R,
+    done: bool,
+}
+
+impl<R: ReadBytes, A: Allocator + Copy> MetadataBlockReader<R, A> {
+    ghost use Rattle.claxon.specs.BlockReader.{reader_input, has_ended};
+
+    /// Reads blocks from where the input stands, which is to be a block's header.
+    pub fn new(alloc: A, input: R) -> MetadataBlockReader<R, A>
+        ensures input { reader_input result ≡ input }
+        ensures going { has_ended result ≡ false }
+    {
+        MetadataBlockReader {
+            alloc,
+            input,
+            done: false,
+        }
+    }
+
+    fn read_next(&mut self) -> MetadataBlockResult<A>
+        ensures { IfOk result (λ block. IsSound block) }
+    {
+        let (is_last, block) = read_metadata_block_and_flag(self.alloc, &mut self.input)?;
+        self.done = is_last;
+        Ok(block)
+    }
+}
+
+impl<R: ReadBytes + Drop, A: Allocator + Copy> Iterator for MetadataBlockReader<R, A> {
+    ghost use Rattle.std.specs.Iterator.{UpTo, at_most, endless};
+    ghost use Rattle.std.specs.Iterator.SizeHint.{IsWithinCount};
+    ghost use Rattle.std.specs.Prelude.{if◌then◌else◌, None, Some, IfSome};
+    ghost use Rattle.claxon.specs.BlockReader.{ReaderStep, has_ended};
+
+    type Item = MetadataBlockResult<A>;
+
+    ghost next_gives = { ReaderStep };
+
+    ghost remaining = { λ s. if has_ended s then at_most 0 else endless };
+
+    fn next(&mut self) -> Option<MetadataBlockResult<A>> {
+        if self.done {
+            return None;
+        }
+        let block = self.read_next();
+        if block.is_err() {
+            self.done = true;
+        }
+        Some(block)
+    }
+
+    fn size_hint(&self) -> (usize, Option<usize>)
+        ensures exact { result ≡ (if has_ended self.now then (0, Some 0) else (1, None)) }
+        ensures lower { IsWithinCount result.0 (if has_ended self.now then at_most 0 else endless) }
+        ensures upper { IfSome result.1 (UpTo (if has_ended self.now then at_most 0 else endless)) }
+    {
+        if self.done { (0, Some(0)) } else { (1, None) }
+    }
+}

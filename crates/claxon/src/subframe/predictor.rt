@@ -1,0 +1,206 @@
+//! Predictors: samples from their first ones and a residual, in place. All sums are modulo 2^32 in the end.
+ghost use Rattle.std.specs.Prelude.{◌≡◌, ◌+◌, ◌-◌, ◌*◌, ◌<◌, ◌≤◌, length};
+
+use std::simd::prelude::*;
+
+/// The samples of a fixed predictor, from its first `order` samples and the residual after them.
+/// (RFC 9639, section 9.2.5.)
+pub fn predict_fixed(order: u32, buffer: &mut [i32])
+    requires some { order ≤ 4 }
+    requires warm { order ≤ length buffer.old }
+{
+    match order {
+        1 => predict_fixed_1(buffer),
+        2 => predict_fixed_2(buffer),
+        3 => predict_fixed_3(buffer),
+        4 => predict_fixed_4(buffer),
+        _ => {}
+    }
+}
+
+#[inline(never)]
+fn predict_fixed_1(buffer: &mut [i32])
+    requires warm { 1 ≤ length buffer.old }
+{
+    let mut newest = buffer[0];
+    for place in &mut buffer[1..] {
+        newest = newest.wrapping_add(*place);
+        *place = newest;
+    }
+}
+
+#[inline(never)]
+fn predict_fixed_2(buffer: &mut [i32])
+    requires warm { 2 ≤ length buffer.old }
+{
+    let mut second = buffer[0];
+    let mut newest = buffer[1];
+    for place in &mut buffer[2..] {
+        let early = (*place).wrapping_sub(second);
+        let sample = early.wrapping_add(newest.wrapping_mul(2));
+        second = newest;
+        newest = sample;
+        *place = sample;
+    }
+}
+
+#[inline(never)]
+fn predict_fixed_3(buffer: &mut [i32])
+    requires warm { 3 ≤ length buffer.old }
+{
+    let mut third = buffer[0];
+    let mut second = buffer[1];
+    let mut newest = buffer[2];
+    for place in &mut buffer[3..] {
+        let early = (*place)
+            .wrapping_add(third)
+            .wrapping_sub(second.wrapping_mul(3));
+        let sample = early.wrapping_add(newest.wrapping_mul(3));
+        third = second;
+        second = newest;
+        newest = sample;
+        *place = sample;
+    }
+}
+
+#[inline(never)]
+fn predict_fixed_4(buffer: &mut [i32])
+    requires warm { 4 ≤ length buffer.old }
+{
+    let mut fourth = buffer[0];
+    let mut third = buffer[1];
+    let mut second = buffer[2];
+    let mut newest = buffer[3];
+    for place in &mut buffer[4..] {
+        let early = (*place)
+            .wrapping_sub(fourth)
+            .wrapping_add(third.wrapping_mul(4))
+            .wrapping_sub(second.wrapping_mul(6));
+        let sample = early.wrapping_add(newest.wrapping_mul(4));
+        fourth = third;
+        third = second;
+        second = newest;
+        newest = sample;
+        *place = sample;
+    }
+}
+
+// The low 32 bits of a number, as a signed number.
+#[inline(always)]
+fn low_bits(value: i64) -> i32 {
+    ((value.cast_unsigned() & 0xffff_ffff) as u32).cast_signed()
+}
+
+// The sum of the products of coefficients and samples. With 32 products of at most 2^14 * 2^31 it stays below 2^51.
+#[inline(always)]
+fn inner_product(coefficients: &[i16], samples: &[i32]) -> i64 {
+    let mut sum = 0i64;
+    for (coefficient, sample) in coefficients.iter().zip(samples) {
+        sum = sum.wrapping_add(i64::from(*coefficient).wrapping_mul(i64::from(*sample)));
+    }
+    sum
+}
+
+// By the plain sum, at any order.
+#[inline(never)]
+fn predict_plain(coefficients: &[i16], shift: u32, buffer: &mut [i32])
+    requires warm { length coefficients.now ≤ length buffer.old }
+    requires shift { shift ≤ 15 }
+{
+    let order = coefficients.len();
+    for i in order..buffer.len() {
+        let prediction = inner_product(coefficients, &buffer[i - order..i]) >> shift;
+        buffer[i] = low_bits(prediction).wrapping_add(buffer[i]);
+    }
+}
+
+/// The samples of a linear predictor of more than 12 coefficients, from as many samples as it has coefficients, the
+/// oldest first, and the residual after them. (RFC 9639, section 9.2.6.)
+pub fn predict_lpc_high_order(coefficients: &[i16], shift: u32, buffer: &mut [i32])
+    requires warm { length coefficients.now ≤ length buffer.old }
+    requires shift { shift ≤ 15 }
+{
+    predict_plain(coefficients, shift, buffer);
+}
+
+/// The same of a predictor of at most 12 coefficients.
+pub fn predict_lpc_low_order(coefficients: &[i16], shift: u32, buffer: &mut [i32])
+    requires few { length coefficients.now ≤ 12 }
+    requires warm { length coefficients.now ≤ length buffer.old }
+    requires shift { shift ≤ 15 }
+{
+    let front = buffer.len().min(12);
+    predict_plain(coefficients, shift, &mut buffer[..front]);
+    let twelve = last_of_twelve(coefficients);
+    if coefficients.len() <= 8 {
+        predict_in_lanes::<false>(&twelve, shift, buffer);
+    } else {
+        predict_in_lanes::<true>(&twelve, shift, buffer);
+    }
+}
+
+// The coefficients as the last of twelve numbers, zeros before them.
+#[inline(always)]
+fn last_of_twelve(coefficients: &[i16]) -> [i64; 12]
+    requires { length coefficients.now ≤ 12 }
+{
+    let mut twelve = [0i64; 12];
+    let start = 12 - coefficients.len();
+    for (place, coefficient) in twelve[start..].iter_mut().zip(coefficients) {
+        *place = i64::from(*coefficient);
+    }
+    twelve
+}
+
+// The same lanes. That they have 32 bits is seen by the compiler from the shifts, so that it multiplies 32 bits by 32.
+#[inline(always)]
+fn narrow(lanes: i64x4) -> i64x4 {
+    (lanes << i64x4::splat(32)) >> i64x4::splat(32)
+}
+
+#[inline(always)]
+fn widened(samples: &[i32]) -> i64x4
+    requires { length samples.now ≡ 4 }
+{
+    i32x4::from_slice(samples).cast::<i64>()
+}
+
+// Places from 12 on, each by its twelve newest samples. Where `ALL` is false the oldest four coefficients are zeros.
+//
+// A place waits for the sample before it, so the newest two samples are left out of the lanes and their products come
+// last. The coefficients come by reference and this isn't inlined, so that `narrow` keeps its shifts.
+#[inline(never)]
+fn predict_in_lanes<const ALL: bool>(twelve: &[i64; 12], shift: u32, buffer: &mut [i32])
+    requires { shift ≤ 15 }
+{
+    if buffer.len() <= 12 {
+        return;
+    }
+    let oldest = i64x4::from_slice(&twelve[0..4]);
+    let older = i64x4::from_slice(&twelve[4..8]);
+    let old = i64x4::from_slice(&twelve[8..12]);
+    let [_, _, before, last] = old.to_array();
+    let mut fourth = i64::from(buffer[8]);
+    let mut third = i64::from(buffer[9]);
+    let mut second = i64::from(buffer[10]);
+    let mut newest = i64::from(buffer[11]);
+    for i in 12..buffer.len() {
+        let lanes = narrow(older) * widened(&buffer[i - 8..i - 4])
+            + narrow(old) * i64x4::from_array([fourth, third, 0, 0]);
+        let lanes = if ALL {
+            lanes + narrow(oldest) * widened(&buffer[i - 12..i - 8])
+        } else {
+            lanes
+        };
+        let sum = (i64::from(buffer[i]) << shift)
+            .wrapping_add(lanes.reduce_sum())
+            .wrapping_add(before.wrapping_mul(second))
+            .wrapping_add(last.wrapping_mul(newest));
+        let sample = low_bits(sum >> shift);
+        buffer[i] = sample;
+        fourth = third;
+        third = second;
+        second = newest;
+        newest = i64::from(sample);
+    }
+}

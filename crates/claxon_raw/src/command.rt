@@ -1,0 +1,65 @@
+//! What the program does for its arguments.
+use crate::output::Output;
+use crate::run::run;
+use claxon::{FlacReader, FlacReaderOptions, Result};
+use std::fs;
+use std::io::{Read, Write};
+use std::rt::Files;
+
+/// Does what the arguments say, and answers the status: 0, 1 for a fault, whose text goes to `errors`, or 2 for arguments
+/// that the usage line doesn't have. A failed write to `errors` changes nothing.
+pub fn command<Q: Files + AllocGlobal, W: Write, E: Write>(
+    rt: &Q,
+    words: &[String],
+    output: &mut W,
+    errors: &mut E,
+) -> u8
+where
+    Q::File: Read,
+{
+    let outcome = match words {
+        [option, name] if option.as_str() == "--tags" => print_tags(rt, name.as_str(), output),
+        [name] if name.as_str() != "--tags" => decode(rt, name.as_str(), output),
+        _ => {
+            let _ = writeln!(errors, "usage: claxon_raw [--tags] FILE");
+            return 2;
+        }
+    };
+    match outcome {
+        Ok(()) => 0,
+        Err(error) => {
+            let _ = writeln!(errors, "{error}");
+            1
+        }
+    }
+}
+
+fn decode<Q: Files + AllocGlobal, W: Write>(rt: &Q, name: &str, output: &mut W) -> Result<()>
+where
+    Q::File: Read,
+{
+    let input = fs::open(rt, name)?;
+    run(rt.alloc(), input, output)?;
+    Ok(())
+}
+
+// A line `NAME=value` for each tag.
+fn print_tags<Q: Files + AllocGlobal, W: Write>(rt: &Q, name: &str, output: &mut W) -> Result<()>
+where
+    Q::File: Read,
+{
+    let options = FlacReaderOptions {
+        metadata_only: true,
+        read_vorbis_comment: true,
+    };
+    let flac = FlacReader::new_ext(rt.alloc(), fs::open(rt, name)?, options)?;
+    let mut output = Output::new(output);
+    for (name, value) in flac.tags() {
+        output.put(name.as_bytes())?;
+        output.put(b"=")?;
+        output.put(value.as_bytes())?;
+        output.put(b"\n")?;
+    }
+    output.write_gathered()?;
+    output.flush()
+}
