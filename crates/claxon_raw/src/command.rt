@@ -60,6 +60,5 @@ where
         output.put(value.as_bytes())?;
         output.put(b"\n")?;
     }
-    output.write_gathered()?;
     output.flush()
 }

@@ -8,10 +8,9 @@ mod run;
 pub use command::command;
 pub use output::Output;
 pub use run::{run, write_samples};
-
-use std::{env, io};
 use std::process::ExitCode;
 use std::rt::Env;
+use std::{env, io};
 
 // The arguments after the program's name. One that isn't UTF-8 is an error.
 fn words<Q: Env + AllocGlobal>(rt: &Q) -> io::Result<Vec<String>> {

@@ -1,6 +1,7 @@
 //! The samples of a stream, written as bytes.
-ghost use Rattle.std.specs.Prelude.{◌≡◌, ◌≤◌, ◌+◌, IfOk, false};
+ghost use Rattle.std.specs.Prelude.{◌≡◌, false};
 ghost use Rattle.claxon.specs.Flac.{flac_metadata_only};
+ghost use Rattle.claxon_raw.specs.Lent.{output_name};
 
 use crate::output::Output;
 use claxon::frame::FrameReader;
@@ -33,21 +34,18 @@ pub fn write_samples<R: Read + Drop, W: Write, A: Allocator + Copy>(
     output: &mut Output<'_, W>,
 ) -> Result<u64>
     requires { flac_metadata_only flac.old ≡ false }
+    ensures same_reference { output_name output.new ≡ output_name output.old }
 {
     let info = flac.streaminfo();
     let mut frames = FrameReader::with_streaminfo(flac.input(), info);
     let end = write_blocks(alloc, &mut frames, output)?;
     output.write_gathered()?;
-    match end.fault {
-        None => {
-            output.flush()?;
-            Ok(end.count)
-        }
-        Some(fault) => {
-            let _ = output.flush();
-            Err(fault)
-        }
+    let flushed = output.flush();
+    if let Some(fault) = end.fault {
+        return Err(fault);
     }
+    flushed?;
+    Ok(end.count)
 }
 
 /// How many samples were written or gathered, and the decoder's fault that ended them.
@@ -62,7 +60,9 @@ fn write_blocks<R: ReadBytes, W: Write, A: Allocator + Copy>(
     alloc: A,
     frames: &mut FrameReader<R>,
     output: &mut Output<'_, W>,
-) -> Result<End> {
+) -> Result<End>
+    ensures same_reference { output_name output.new ≡ output_name output.old }
+{
     let mut count = 0u64;
     let mut buffer = Vec::new(alloc);
     loop {

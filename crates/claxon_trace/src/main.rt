@@ -4,11 +4,10 @@
 mod trace;
 
 use claxon::Result;
-use std::fs;
 use std::io::{BufWriter, Read, Write};
 use std::process::ExitCode;
 use std::rt::{Env, Files};
-use std::{env, io};
+use std::{env, fs, io};
 use trace::trace;
 
 // The arguments after the program's name. One that isn't UTF-8 is an error.
@@ -17,7 +16,11 @@ fn words<Q: Env + AllocGlobal>(rt: &Q) -> io::Result<Vec<String>> {
 }
 
 // Whether no call answered a fault.
-fn trace_file<Q: Files + AllocGlobal, W: Write + Drop>(rt: &Q, name: &str, output: W) -> Result<bool>
+fn trace_file<Q: Files + AllocGlobal, W: Write + Drop>(
+    rt: &Q,
+    name: &str,
+    output: W,
+) -> Result<bool>
 where
     Q::File: Read,
 {

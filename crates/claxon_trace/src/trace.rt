@@ -48,6 +48,7 @@ fn print_fault<W: Write>(output: &mut W, error: &Error) -> Result<()> {
 }
 
 /// A number, or `none`.
+#[derive(Drop)]
 struct OrNone<T>(Option<T>);
 
 impl<T: fmt::Display> fmt::Display for OrNone<T> {
@@ -60,11 +61,23 @@ impl<T: fmt::Display> fmt::Display for OrNone<T> {
 }
 
 fn print_head<W: Write>(output: &mut W, info: &StreamInfo) -> Result<()> {
-    write!(output, "head blocks {}-{}", info.min_block_size, info.max_block_size)?;
+    write!(
+        output,
+        "head blocks {}-{}",
+        info.min_block_size, info.max_block_size
+    )?;
     let least = OrNone(info.min_frame_size);
     let greatest = OrNone(info.max_frame_size);
-    write!(output, " frames {least}-{greatest} rate {}", info.sample_rate)?;
-    write!(output, " channels {} width {}", info.channels, info.bits_per_sample)?;
+    write!(
+        output,
+        " frames {least}-{greatest} rate {}",
+        info.sample_rate
+    )?;
+    write!(
+        output,
+        " channels {} width {}",
+        info.channels, info.bits_per_sample
+    )?;
     write!(output, " samples {} md5 ", OrNone(info.samples))?;
     for byte in &info.md5sum {
         write!(output, "{byte:02x}")?;
@@ -79,7 +92,10 @@ fn print_block<W: Write, A: Allocator>(output: &mut W, block: &Block<A>) -> Resu
         hash = hash_on(hash, block.channel(ch));
     }
     let (time, channels, duration) = (block.time(), block.channels(), block.duration());
-    writeln!(output, "block time {time} channels {channels} duration {duration} fnv {hash:016x}")?;
+    writeln!(
+        output,
+        "block time {time} channels {channels} duration {duration} fnv {hash:016x}"
+    )?;
     Ok(())
 }
 

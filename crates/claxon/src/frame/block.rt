@@ -73,14 +73,16 @@ impl<A: Allocator> Block<A> {
 
     /// The number of samples of each channel.
     pub fn duration(&self) -> u32
-        ensures { result ≡ duration_of self.now.channels }
+        ensures value { result ≡ duration_of self.now.channels }
+        ensures short { result < 65536 }
     {
         self.duration
     }
 
     /// The number of channels.
     pub fn channels(&self) -> u32
-        ensures { result ≡ length self.now.channels }
+        ensures value { result ≡ length self.now.channels }
+        ensures few { result ≤ 8 }
     {
         self.channels
     }

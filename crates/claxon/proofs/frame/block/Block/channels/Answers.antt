@@ -2,5 +2,5 @@ use Rattle.std.proofs.Common.{sym, ◌∙◌, ap}
 use Rattle.claxon.proofs.Chunks.{length-chunks}
 use Rattle.claxon.proofs.frame.block.Block.channels.Goals as goal
 
-pub returns : goal.returns
-returns g c = rw (← c.self.view_is) (sym (length-chunks _ _ _))
+pub returns-clause-value : goal.returns-clause-value
+returns-clause-value g c = rw (← c.self.view_is) (sym (length-chunks _ _ _))

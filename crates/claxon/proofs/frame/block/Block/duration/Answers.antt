@@ -2,5 +2,5 @@ use Rattle.std.proofs.Common.{sym, ◌∙◌, ap}
 use Rattle.claxon.proofs.Chunks.{duration-chunks}
 use Rattle.claxon.proofs.frame.block.Block.duration.Goals as goal
 
-pub returns : goal.returns
-returns g c = rw (← c.self.view_is) (sym (duration-chunks _ _ _ c.self.invariant.0 c.self.invariant.3))
+pub returns-clause-value : goal.returns-clause-value
+returns-clause-value g c = rw (← c.self.view_is) (sym (duration-chunks _ _ _ c.self.invariant.0 c.self.invariant.3))
