@@ -68,6 +68,18 @@ fn wide_crc_of_three_bytes(rt: HostRuntime) -> Result<(), Fail> {
     Ok(())
 }
 
+// The check values of both polynomials in the usual catalogues.
+#[test]
+fn crc_of_nine_digits(rt: HostRuntime) -> Result<(), Fail> {
+    let mut narrow = Crc8Reader::new(Cursor::new(b"123456789"));
+    narrow.skip(9)?;
+    assert_eq!(rt; narrow.crc(), 0xF4);
+    let mut wide = Crc16Reader::new(Cursor::new(b"123456789"));
+    wide.skip(9)?;
+    assert_eq!(rt; wide.crc(), 0xFEE8);
+    Ok(())
+}
+
 #[test]
 fn little_end_first(rt: HostRuntime) -> Result<(), Fail> {
     let mut cursor = Cursor::new([4u8, 3, 2, 1]);
