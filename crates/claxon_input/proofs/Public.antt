@@ -1,11 +1,21 @@
 -- What a call that gives what reading gives promises to callers.
-use Rattle.std.proofs.Common.{◌≡◌, ◌⊎◌, inl, inr, true, ◌++◌, List, refl, sym, ap, subst, ◌∙◌}
-use Rattle.std.specs.Prelude.{IfOk, IfErr, Result, Ok, Err}
-use Rattle.claxon_format.specs.Fault.{Fault}
+use Rattle.std.proofs.Common.{◌≡◌, ◌⊎◌, inl, inr, Bool, true, false, ◌++◌, List, refl, sym, ap, subst, ◌∙◌}
+use Rattle.std.specs.Prelude.{not, ◌&&◌, ◌==◌, IfOk, IfErr, Result, Ok, Err}
+use Rattle.std.specs.Cmp.Lexicographic.{pointwise, same_text}
+use Rattle.std.proofs.lemmas.List.Folds.{Any-from_list_any}
+use Rattle.claxon_format.specs.Fault.{Fault, faults, fault_text, is_unsupported}
 use Rattle.claxon_format.specs.Reading.{Reading, Reads, Done, Faulty, Short}
 use Rattle.claxon_input.specs.declared.error.Error.{Error}
 use Rattle.claxon_input.specs.declared.error.Error.TheVariants.{IoError, FormatError, Unsupported, OutOfMemory}
-use Rattle.claxon_input.specs.Stream.{Stream, Went, Stuck, FailedIn, IsFault, IsFaultOf, IsIo, Stops, Gives, Took, Honestly}
+use Rattle.claxon_input.specs.Stream.{Stream, Went, Stuck, FailedIn, IsFault, IsFaultOf, IsIo, is_named, Stops, Gives, Took, Honestly}
+
+and_true : (a b : Bool) → (a && b) ≡ true → (a ≡ true) × (b ≡ true)
+and_true true b e = (refl, e)
+and_true false b e = absurd cc
+
+flipped : (b : Bool) → not b ≡ true → b ≡ false
+flipped true e = absurd cc
+flipped false e = refl
 
 no_failure : {X : Type 0} (a b : Stream X) (t rest : List X) → Honestly a b t rest → FailedIn a b → ⊥
 no_failure a b t rest h (inl f) = f h.errors
@@ -29,6 +39,13 @@ fault_at e (Done z k) m f rest h q = absurd h
 fault_at e (Faulty g k) m f rest h q = let s : g ≡ f = cc in let t : k ≡ rest = cc in (subst (λ (z : Fault). IsFault z e) s h.0, sym h.1 ∙ t)
 fault_at e Short m f rest h q = absurd h
 
+-- an error that is named is an `IoError` or a fault's
+pub named_is : (e : Error) → is_named e ≡ true → IsIo e ⊎ ((f : Fault) × IsFault f e)
+named_is (IoError cause) h = inl refl
+named_is (FormatError text) h = inr (let a = Any-from_list_any (λ f. not (is_unsupported f) && pointwise ◌==◌ text.now (fault_text f)) faults h in let b = and_true (not (is_unsupported a.1)) _ a.4 in (a.1, (same_text _ _ (sym b.1), flipped _ b.0)))
+named_is (Unsupported text) h = inr (let a = Any-from_list_any (λ f. is_unsupported f && pointwise ◌==◌ text.now (fault_text f)) faults h in let b = and_true (is_unsupported a.1) _ a.4 in (a.1, (same_text _ _ (sym b.1), b.0)))
+named_is OutOfMemory h = absurd cc
+
 module _ {X Y : Type 0} {read : List X → Reading X Y} {C : Y → List X → Type 0} {F : Fault → List X → Type 0} (law : Reads X Y read C F) where
   -- what was read is a code, and it alone was taken
   pub gives_code : {A : Type 0} (view : A → Y) (r : Result A Error) (a b : Stream X) → Gives view r read a b → IfOk r (λ x. Took a b (C (view x)))
@@ -48,7 +65,7 @@ module _ {X Y : Type 0} {read : List X → Reading X Y} {C : Y → List X → Ty
       let k : Short ≡ Done y rest = sym (stuck_short a b t rest o (g.stuck refl)) ∙ read_there a b y t rest c o in absurd cc
   gives_again view (Err (FormatError i)) a b g y t rest c o = absurd (not_fault (FormatError i) (read a.coming) b.coming y rest ((g.fault refl).known o.told).is (read_there a b y t rest c o))
   gives_again view (Err (Unsupported i)) a b g y t rest c o = absurd (not_fault (Unsupported i) (read a.coming) b.coming y rest ((g.fault refl).known o.told).is (read_there a b y t rest c o))
-  gives_again view (Err OutOfMemory) a b g y t rest c o = let k = g.memory in absurd cc
+  gives_again view (Err OutOfMemory) a b g y t rest c o = let k = g.named in absurd cc
 
   fault_bad : (e : Error) (a b : Stream X) → Went a b (λ s m. IsFaultOf e (read s) m)
       → (a.told ≡ true → (f : Fault) × IsFault f e × ((t : List X) × F f t × (a.coming ≡ t ++ b.coming)))
@@ -61,7 +78,7 @@ module _ {X Y : Type 0} {read : List X → Reading X Y} {C : Y → List X → Ty
   gives_fault view (Err (IoError i)) a b g = inl refl
   gives_fault view (Err (FormatError i)) a b g = inr (fault_bad (FormatError i) a b (g.fault refl))
   gives_fault view (Err (Unsupported i)) a b g = inr (fault_bad (Unsupported i) a b (g.fault refl))
-  gives_fault view (Err OutOfMemory) a b g = let k = g.memory in absurd cc
+  gives_fault view (Err OutOfMemory) a b g = let k = g.named in absurd cc
 
   fault_there : (a b : Stream X) (f : Fault) (t rest : List X) → F f t → Honestly a b t rest → read a.coming ≡ Faulty f rest
   fault_there a b f t rest c o = ap read o.here ∙ law.bad_again f t rest c
@@ -75,7 +92,7 @@ module _ {X Y : Type 0} {read : List X → Reading X Y} {C : Y → List X → Ty
       let k : Short ≡ Faulty f rest = sym (stuck_short a b t rest o (g.stuck refl)) ∙ fault_there a b f t rest c o in absurd cc
   gives_fault_again view (Err (FormatError i)) a b g f t rest c o = let p = fault_at (FormatError i) (read a.coming) b.coming f rest ((g.fault refl).known o.told).is (fault_there a b f t rest c o) in (FormatError i, refl, p.0, p.1)
   gives_fault_again view (Err (Unsupported i)) a b g f t rest c o = let p = fault_at (Unsupported i) (read a.coming) b.coming f rest ((g.fault refl).known o.told).is (fault_there a b f t rest c o) in (Unsupported i, refl, p.0, p.1)
-  gives_fault_again view (Err OutOfMemory) a b g f t rest c o = let k = g.memory in absurd cc
+  gives_fault_again view (Err OutOfMemory) a b g f t rest c o = let k = g.named in absurd cc
 
   -- in all other cases the answer is an `IoError`: what is to come is known, no read failed, and neither a code nor a fault stands there
   pub gives_io : {A : Type 0} (view : A → Y) (r : Result A Error) (a b : Stream X) → Gives view r read a b → a.told ≡ true
@@ -84,4 +101,4 @@ module _ {X Y : Type 0} {read : List X → Reading X Y} {C : Y → List X → Ty
   gives_io view (Err (IoError i)) a b g t n m = (IoError i, refl, refl)
   gives_io view (Err (FormatError i)) a b g t n m = let p = fault_bad (FormatError i) a b (g.fault refl) t in absurd (m p.0 p.2.0 b.coming p.2.1 p.2.2)
   gives_io view (Err (Unsupported i)) a b g t n m = let p = fault_bad (Unsupported i) a b (g.fault refl) t in absurd (m p.0 p.2.0 b.coming p.2.1 p.2.2)
-  gives_io view (Err OutOfMemory) a b g t n m = let k = g.memory in absurd cc
+  gives_io view (Err OutOfMemory) a b g t n m = let k = g.named in absurd cc

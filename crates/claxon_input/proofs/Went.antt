@@ -50,7 +50,7 @@ pub stops_after : {X Y Z : Type 0} {e : Error} {a b c : Stream X} {read : List X
 stops_after {e = e} {b = b} {c = c} {read = read} {next = next} {whole = whole} h w k = record {
   stuck = λ i. stuck_after (λ s. whole s ≡ Short) h (k.stuck i) (λ p q. p ∙ w.short b.coming q);
   fault = λ i. went_both (λ s m. IsFaultOf e (whole s) m) h (k.fault i) (λ p q. rw p (fault_of e (read b.coming) (next b.coming) c.coming (w.fault b.coming) q));
-  memory = k.memory;
+  named = k.named;
 }
 
 -- the call that the function ends with
@@ -62,7 +62,7 @@ gives_after view (Err e) c h k = stops_after h (record { fault = λ s f rest q. 
 
 -- by a `?` on a call of the stream
 pub io_exit : {X A Y : Type 0} (view : A → Y) {r : Result A Error} {read : List X → Reading X Y} {a c : Stream X} {cause : io.Error} → (y : Error) × (r ≡ Err y) × (y ≡ IoError cause) → Stuck a c (λ s. read s ≡ Short) → Gives view r read a c
-io_exit view p h = rw (p.1, p.2) (record { stuck = λ i. h; fault = λ i. absurd cc; memory = refl })
+io_exit view p h = rw (p.1, p.2) (record { stuck = λ i. h; fault = λ i. absurd cc; named = refl })
 
 -- by a `?` on a call that gives what reading gives
 pub exit : {X A Y : Type 0} (view : A → Y) {read : List X → Reading X Y} {a c : Stream X} {r : Result A Error} {e : Error} → (y : Error) × (r ≡ Err y) × (y ≡ e) → Stops e read a c → Gives view r read a c
@@ -78,5 +78,5 @@ pub stops_as : {X Y Z : Type 0} {e : Error} {read : List X → Reading X Y} {who
 stops_as {e = e} {read = read} {whole = whole} {a = a} {b = b} {c = c} h k = record {
   stuck = λ i. stuck_after (λ s. whole s ≡ Short) h (k.stuck i) (λ p q. p.short q);
   fault = λ i. went_both (λ s m. IsFaultOf e (whole s) m) h (k.fault i) (λ p q. fault_of e (read b.coming) (whole a.coming) c.coming p.fault q);
-  memory = k.memory;
+  named = k.named;
 }

@@ -1,8 +1,10 @@
 -- What a call that reads a field answered and took, told by a reader on lists: of bits, where X is Bool, or of bytes, where it is ℕ.
 use Rattle.std.specs.Borrow.{GName}
-use Rattle.std.specs.Prelude.{◌≡◌, ◌≢◌, ℕ, Option, None, Some, ◌⊎◌, Bool, true, false, List, [], ◌++◌, Result, Ok, Err}
+use Rattle.std.specs.Prelude.{◌≡◌, ◌≢◌, ℕ, Option, None, Some, ◌⊎◌, Bool, true, false, List, [], ◌++◌, not, ◌&&◌, ◌==◌, Result, Ok, Err}
+use Rattle.std.specs.Cmp.Lexicographic.{pointwise}
+use Rattle.std.specs.List.{list_any}
 use Rattle.claxon_format.specs.Bits.{bits_of}
-use Rattle.claxon_format.specs.Fault.{Fault, fault_text, is_unsupported}
+use Rattle.claxon_format.specs.Fault.{Fault, fault_text, faults, is_unsupported}
 use Rattle.claxon_format.specs.Reading.{Reading, Done, Faulty, Short}
 use Rattle.claxon_input.specs.Source.{Source}
 use Rattle.claxon_input.specs.BitSource.{BitState, bit_state}
@@ -107,18 +109,21 @@ abbrev pub is_io : Error → Bool
 is_io (IoError cause) = true
 is_io _ = false
 
-abbrev pub is_memory : Error → Bool
-is_memory OutOfMemory = true
-is_memory _ = false
+-- an `IoError`, or an error of a fault's kind with its text
+abbrev pub is_named : Error → Bool
+is_named (IoError cause) = true
+is_named (FormatError text) = list_any (λ f. not (is_unsupported f) && pointwise ◌==◌ text.now (fault_text f)) faults
+is_named (Unsupported text) = list_any (λ f. is_unsupported f && pointwise ◌==◌ text.now (fault_text f)) faults
+is_named OutOfMemory = false
 
 abbrev pub IsIo : Error → Type 0
 IsIo e = is_io e ≡ true
 
--- An `IoError` says that the source failed or what was to come ended, and any other Err the fault that was read. Want of memory it is not.
+-- An `IoError` says that the source failed or what was to come ended, and any other Err the fault that was read. Nothing else is answered, whether what was to come is known or not.
 pub record Stops {X Y : Type 0} (e : Error) (read : List X → Reading X Y) (old new : Stream X) : Type 0 where
   pub stuck : is_io e ≡ true → Stuck old new (λ s. read s ≡ Short)
   pub fault : is_io e ≡ false → Went old new (λ s m. IsFaultOf e (read s) m)
-  pub memory : is_memory e ≡ false
+  pub named : is_named e ≡ true
 
 -- Want of memory leaves a rest of what was to come.
 pub record Starved {X : Type 0} (old new : Stream X) : Type 0 where
