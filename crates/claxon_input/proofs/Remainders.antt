@@ -2,7 +2,7 @@
 use Rattle.std.proofs.Common.{◌≡◌, ℕ, zero, suc, ◌+◌, ◌-◌, ◌*◌, ◌/◌, ◌%◌, ◌^◌, ◌<◌, ◌≤◌, Bool, true, false, ◌&&◌, bit_xor, List, [], ◌∷◌, ◌++◌, length, get_or, take, drop, replicate, refl, sym, ap, ap₂, ◌∙◌, append_assoc, arith, add-zero}
 use Rattle.std.specs.Prelude.{◌==◌}
 use Rattle.std.specs.Simd.{first_chunks}
-use Rattle.std.specs.Int.Bits.{xor_assoc, xor_zero_r, xor_zero_l, xor_shifted}
+use Rattle.std.specs.Int.Bits.{xor_assoc, xor_self, xor_zero_r, xor_zero_l, xor_shifted}
 use Rattle.std.proofs.lemmas.Nat.{xor_comm, xor_lt, xor_block, pow-add, pow_pos}
 use Rattle.std.proofs.lemmas.List.{append-nil, drop_more, drop-drop, take-append-drop}
 use Rattle.std.proofs.lemmas.Bool.{false≢true, eqb-true}
@@ -12,7 +12,7 @@ use Rattle.claxon_format.specs.Bits.{bits, bits_of}
 use Rattle.claxon_format.specs.Guards.{divide, divide_step, crc8, crc16}
 use Rattle.claxon_format.proofs.Numbers.{length-bits, number-bits}
 use Rattle.claxon_format.proofs.Bytes.{bits_of-append}
-use Rattle.claxon_format.proofs.Division.{zeros, zeros-add, zeros_swap, divide-append, divide_lt, divide-number, zeros-xor, zeros-small}
+use Rattle.claxon_format.proofs.Division.{zeros, zeros-add, zeros_swap, divide-append, divide_lt, divide-number, zeros-xor, zeros-small, zeros-injective}
 use Rattle.claxon_input.specs.Remainders.{check, check8, check16, after_zeros, GoesOn8, GoesOn16}
 use Rattle.claxon_input.specs.declared.crc.TheConstants.{CRC8_TABLE, CRC16_TABLES}
 use Rattle.claxon_input.proofs.BitLists.{bits-low}
@@ -84,6 +84,37 @@ module _ (d p : ℕ) (some : 2 ≤ 2 ^ d) (low : 2 ^ d ≤ p) (high : p < 2 * 2 
   goes_on [] s e = ap whole (sym (append-nil s))
   goes_on (y ∷ ys) s e = ap (λ c. check d p c ys) (sym (push s y e)) ∙ goes_on ys (s ++ y ∷ []) e ∙ ap whole (append_assoc s (y ∷ []) ys)
 
+  mixed_lt : (c y : ℕ) → 8 ≤ d → c < 2 ^ d → bit_xor c (y % 256 * 2 ^ (d - 8)) < 2 ^ d
+  mixed_lt c y e h =
+      let k : (d - 8) + 8 ≡ d = omega arith in
+      let bound : 2 ^ d ≡ 2 ^ (d - 8) * 256 = ap (λ z. 2 ^ z) (sym k) ∙ pow-add 2 (d - 8) 8 in
+      let q = pow_pos (d - 8) in
+      let b : y % 256 < 256 = omega arith in
+      xor_lt d c (y % 256 * 2 ^ (d - 8)) h (rw (bound, mul_comm (y % 256) (2 ^ (d - 8))) (mul-lt-mul_of_pos_left b q))
+
+  check_lt : (xs : List ℕ) (c : ℕ) → 8 ≤ d → c < 2 ^ d → check d p c xs < 2 ^ d
+  unfolding check
+  check_lt [] c e h = h
+  check_lt (y ∷ ys) c e h = check_lt ys _ e (divide_lt d p some low high (replicate 8 false) (bit_xor c (y % 256 * 2 ^ (d - 8))) (mixed_lt c y e h))
+
+  -- remainders that the same bytes make one were one before
+  check-injective : (xs : List ℕ) (a c : ℕ) → p % 2 ≡ 1 → 8 ≤ d → a < 2 ^ d → c < 2 ^ d → check d p a xs ≡ check d p c xs → a ≡ c
+  unfolding check
+  check-injective [] a c odd e h l k = k
+  check-injective (y ∷ ys) a c odd e h l k =
+      let y' = y % 256 * 2 ^ (d - 8) in
+      let one : check d p a (y ∷ []) ≡ check d p c (y ∷ []) =
+      check-injective ys (check d p a (y ∷ [])) (check d p c (y ∷ [])) odd e (check_lt (y ∷ []) a e h) (check_lt (y ∷ []) c e l) k in
+      let m : bit_xor a y' ≡ bit_xor c y' = zeros-injective d p some low high 8 (bit_xor a y') (bit_xor c y') odd (mixed_lt a y e h) (mixed_lt c y e l) one in
+      sym (xor_back a y') ∙ ap (λ z. bit_xor z y') m ∙ xor_back c y'
+    where
+      xor_back : (a b : ℕ) → bit_xor (bit_xor a b) b ≡ a
+      xor_back a b = xor_assoc a b b ∙ ap (bit_xor a) (xor_self b) ∙ xor_zero_r a
+
+  -- what a remainder is after bytes of which the end is known
+  pub check-taken : (taken left : List ℕ) (a c : ℕ) → p % 2 ≡ 1 → 8 ≤ d → a < 2 ^ d → c < 2 ^ d → check d p c left ≡ check d p a (taken ++ left) → c ≡ check d p a taken
+  check-taken taken left a c odd e h l k = check-injective left c (check d p a taken) odd e l (check_lt taken a e h) (k ∙ sym (check-append d p taken left a))
+
 pub goes_on_8 : GoesOn8
 unfolding crc8
 goes_on_8 s xs = goes_on 8 0x107 (omega arith) (omega arith) (omega arith) xs s (omega arith)
@@ -91,6 +122,34 @@ goes_on_8 s xs = goes_on 8 0x107 (omega arith) (omega arith) (omega arith) xs s 
 pub goes_on_16 : GoesOn16
 unfolding crc16
 goes_on_16 s xs = goes_on 16 0x18005 (omega arith) (omega arith) (omega arith) xs s (omega arith)
+
+-- from the start on
+pub begun_8 : (xs : List ℕ) → check8 0 xs ≡ crc8 (bits_of xs)
+unfolding crc8 divide divide_step bits_of
+begun_8 xs = goes_on_8 [] xs
+
+pub begun_16 : (xs : List ℕ) → check16 0 xs ≡ crc16 (bits_of xs)
+unfolding crc16 divide divide_step bits_of
+begun_16 xs = goes_on_16 [] xs
+
+-- ---- what is kept past all that is to come tells what was taken
+
+-- the remainders past what is to come, where the outermost is c
+abbrev pub past_all : (List ℕ → ℕ) → List ℕ → (List ℕ → List ℕ) → List ℕ → List ℕ
+past_all check left others more = check (left ++ more) ∷ others (left ++ more)
+
+first_is : (f g : List ℕ → ℕ) (a b : List ℕ) (u v : List ℕ → List ℕ) → past_all g b v ≡ past_all f a u → g (b ++ []) ≡ f (a ++ [])
+first_is f g a b u v e = let k : past_all g b v [] ≡ past_all f a u [] = ap (λ (h : List ℕ → List ℕ). h []) e in cc
+
+pub taken_8 : (taken left : List ℕ) (a c : ℕ) (u v : List ℕ → List ℕ) → a < 256 → c < 256 → past_all (check8 c) left v ≡ past_all (check8 a) (taken ++ left) u → c ≡ check8 a taken
+taken_8 taken left a c u v h l e =
+    check-taken 8 0x107 (omega arith) (omega arith) (omega arith) taken left a c refl (omega arith) h l
+    (rw (append-nil left, append-nil (taken ++ left)) at (first_is (check8 a) (check8 c) (taken ++ left) left u v e))
+
+pub taken_16 : (taken left : List ℕ) (a c : ℕ) (u v : List ℕ → List ℕ) → a < 65536 → c < 65536 → past_all (check16 c) left v ≡ past_all (check16 a) (taken ++ left) u → c ≡ check16 a taken
+taken_16 taken left a c u v h l e =
+    check-taken 16 0x18005 (omega arith) (omega arith) (omega arith) taken left a c refl (omega arith) h l
+    (rw (append-nil left, append-nil (taken ++ left)) at (first_is (check16 a) (check16 c) (taken ++ left) left u v e))
 
 -- ---- tables
 
