@@ -135,7 +135,7 @@ unfolding number_at
 short_number w s h = let k : ltb (length s) w ≡ true = lt-ltb _ _ h in rw k refl
 
 pub stuck_number : {a b : BitState} (w : ℕ) → RefusesBits a b w → Stuck (bits_in a) (bits_in b) (λ s. number_at w s ≡ Short)
-stuck_number {a} {b} w h = stuck a b (λ s. number_at w s ≡ Short) (λ s. length s < w) h.rest h.emptied h.cause (short_number w)
+stuck_number {a} {b} w h = stuck a b (λ s. number_at w s ≡ Short) (λ s. (length s < w) × (b.source.to_come ≡ Some [])) h.rest h.emptied h.cause (λ s q. short_number w s q.0)
 
 pub went_bit : {a b : BitState} (bit : Bool) → TakesBits a b (bit ∷ []) → Went (bits_in a) (bits_in b) (λ s m. bit_at s ≡ Done bit m)
 unfolding bit_at
@@ -147,7 +147,7 @@ short_bit [] h = refl
 short_bit (b ∷ s) h = absurd (omega arith)
 
 pub stuck_bit : {a b : BitState} → RefusesBits a b 1 → Stuck (bits_in a) (bits_in b) (λ s. bit_at s ≡ Short)
-stuck_bit {a} {b} h = stuck a b (λ s. bit_at s ≡ Short) (λ s. length s < 1) h.rest h.emptied h.cause short_bit
+stuck_bit {a} {b} h = stuck a b (λ s. bit_at s ≡ Short) (λ s. (length s < 1) × (b.source.to_come ≡ Some [])) h.rest h.emptied h.cause (λ s q. short_bit s q.0)
 
 -- ---- bytes
 
@@ -199,13 +199,13 @@ too_many n (Done q s) h le = let k : ltb (n + q) (2 ^ 32) ≡ false = le-ltb _ _
 too_many n (Faulty f s) h le = absurd (h f s refl)
 too_many n Short h le = rw (many_short n) refl
 
-short_unary : (s : Bits) → HasNoOne s → unary_at s ≡ Short
+short_unary : (s : Bits) (o : Option (List ℕ)) → HasNoOne s o → unary_at s ≡ Short
 unfolding unary_at
-short_unary s (inl h) = rw (h.1, no_one h.0) refl
-short_unary s (inr h) = rw (h.3, many_zeros h.0 h.1) (too_many h.0 (zeros_at h.1) (zeros_no_fault h.1) h.2)
+short_unary s o (inl h) = rw (h.1, no_one h.0) refl
+short_unary s o (inr h) = rw (h.3, many_zeros h.0 h.1) (too_many h.0 (zeros_at h.1) (zeros_no_fault h.1) h.2)
 
 pub stuck_unary : {a b : BitState} → RefusesOne a b → Stuck (bits_in a) (bits_in b) (λ s. unary_at s ≡ Short)
-stuck_unary {a} {b} h = stuck a b (λ s. unary_at s ≡ Short) HasNoOne h.rest h.emptied h.cause short_unary
+stuck_unary {a} {b} h = stuck a b (λ s. unary_at s ≡ Short) (λ s. HasNoOne s b.source.to_come) h.rest h.emptied h.cause (λ s. short_unary s b.source.to_come)
 
 -- ---- the exit by a `?`
 
