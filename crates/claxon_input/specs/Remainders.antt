@@ -1,5 +1,5 @@
 -- Remainders that go on from byte to byte.
-use Rattle.std.specs.Prelude.{◌≡◌, ℕ, ◌+◌, ◌-◌, ◌*◌, ◌%◌, ◌^◌, ◌==◌, ◌&&◌, Bool, true, false, bit_xor, List, [], ◌∷◌, ◌++◌, replicate}
+use Rattle.std.specs.Prelude.{◌≡◌, ℕ, ◌+◌, ◌-◌, ◌*◌, ◌%◌, ◌^◌, false, bit_xor, List, [], ◌∷◌, ◌++◌, replicate}
 use Rattle.claxon_format.specs.Bits.{bits_of}
 use Rattle.claxon_format.specs.Guards.{divide, crc8, crc16}
 
@@ -15,10 +15,9 @@ check8 = check 8 0x107
 abbrev pub check16 : ℕ → List ℕ → ℕ
 check16 = check 16 0x18005
 
--- the entry at each index is the remainder of the index, put into the highest bits, after this many zeros
-unfoldable pub is_table : ℕ → ℕ → ℕ → ℕ → List ℕ → Bool
-is_table degree poly n i [] = true
-is_table degree poly n i (t ∷ ts) = (t == divide degree poly (i * 2 ^ (degree - 8)) (replicate n false)) && is_table degree poly n (i + 1) ts
+-- a remainder of 16 bits after as many bytes of zeros
+abbrev pub after_zeros : ℕ → ℕ → ℕ
+after_zeros count c = divide 16 0x18005 c (replicate (8 * count) false)
 
 -- where c is the remainder of s, it is after more bytes that of s and these
 abbrev pub GoesOn8 : Type 0

@@ -1,5 +1,12 @@
 //! Readers that fail, and worked values.
+ghost use Rattle.std.specs.Prelude.{◌≡◌, ◌==◌};
+ghost use Rattle.claxon_format.specs.Fault.{MethodReserved};
+ghost use Rattle.claxon_format.specs.Reading.{and_then, test, done};
+ghost use Rattle.claxon_format.specs.Readers.{number_at, unary_at};
+ghost use Rattle.claxon_input.specs.Stream.{stream, Gives};
+
 use crate::crc::{Crc8Reader, Crc16Reader};
+use crate::error::{Error, Result as InputResult};
 use crate::input::{Bitstream, BufferedReader, ReadBytes};
 use std::io;
 use std::io::Cursor;
@@ -65,6 +72,18 @@ fn wide_crc_of_three_bytes(rt: HostRuntime) -> Result<(), Fail> {
     crc.skip(1)?;
     assert_eq!(rt; crc.read_u8_or_eof()?, Some(0x63));
     assert_eq!(rt; crc.crc(), 0xCADB);
+    Ok(())
+}
+
+// The check values of both polynomials in the usual catalogues.
+#[test]
+fn crc_of_nine_digits(rt: HostRuntime) -> Result<(), Fail> {
+    let mut narrow = Crc8Reader::new(Cursor::new(b"123456789"));
+    narrow.skip(9)?;
+    assert_eq!(rt; narrow.crc(), 0xF4);
+    let mut wide = Crc16Reader::new(Cursor::new(b"123456789"));
+    wide.skip(9)?;
+    assert_eq!(rt; wide.crc(), 0xFEE8);
     Ok(())
 }
 
@@ -146,5 +165,27 @@ fn zeros_give_zero(rt: HostRuntime) -> Result<(), Fail> {
     let mut bits = Bitstream::new(&mut crc);
     assert_eq!(rt; bits.read_leq_u16(13)?, 0);
     assert_eq!(rt; crc.crc(), 0);
+    Ok(())
+}
+
+// Two fields, the first of which may have a fault: as the code above is written and told.
+#[tactic(auto, unfolding(claxon_format::specs::Fault::fault_text))]
+fn two_fields<R: ReadBytes>(input: &mut Bitstream<R>) -> InputResult<u32>
+    ensures { Gives (λ x. x) result (and_then (number_at 4) (λ method. test (method == 15) MethodReserved (and_then unary_at (λ q. done q)))) (stream R.source input.old) (stream R.source input.new) }
+{
+    let method = input.read_leq_u8(4)?;
+    if method == 15 {
+        return Err(Error::FormatError("invalid residual, encountered reserved value"));
+    }
+    let quotient = input.read_unary()?;
+    Ok(quotient)
+}
+
+#[test]
+fn fields_and_their_fault(rt: HostRuntime) -> Result<(), Fail> {
+    let mut bits = Bitstream::new(Cursor::new([0x12u8, 0xF0]));
+    assert_eq!(rt; two_fields(&mut bits)?, 2);
+    assert_eq!(rt; bits.read_bit()?, false);
+    assert!(rt; two_fields(&mut bits).is_err());
     Ok(())
 }

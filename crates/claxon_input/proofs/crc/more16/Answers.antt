@@ -1,12 +1,19 @@
-use Rattle.std.proofs.Common.{refl, sym, ◌∙◌}
-use Rattle.claxon_input.proofs.Remainders.{check-at, check-end}
+use Rattle.std.proofs.Common.{arith, refl, sym, ap, ◌∙◌, ◌≡◌, ◌+◌, ◌*◌, ◌/◌, [], get_or, drop, length}
+use Rattle.claxon_input.specs.Remainders.{check16}
+use Rattle.claxon_input.proofs.Remainders.{check-piece, piece_at}
 use Rattle.claxon_input.proofs.crc.more16.Goals as goal
 
-pub loop-byte-init : goal.loop-byte-init
-loop-byte-init c = refl
+pub loop-eight-init : goal.loop-eight-init
+loop-eight-init c = refl
 
-pub loop-byte-preserved : goal.loop-byte-preserved
-loop-byte-preserved c = check-at 16 0x18005 c.loop-byte.state c.next16-state.result c.args.bytes.now c.loop-byte.byte-index c.loop-byte-test.true c.next16-state.ensures ∙ c.loop-byte.invariant
+pub loop-eight-preserved : goal.loop-eight-preserved
+loop-eight-preserved c =
+    let i = c.loop-eight.eight-index in
+    let bs = c.args.bytes.now in
+    let piece = ap (λ xss. get_or xss i []) c.as_chunks.ensures.front ∙ piece_at (length bs / 8) i (8 * i) bs [] (omega arith) refl in
+    check-piece 16 0x18005 c.loop-eight.state c.eight16-state.result bs (8 * i) (8 * (i + 1)) (omega arith) (c.eight16-state.ensures ∙ ap (check16 c.loop-eight.state) piece) ∙ c.loop-eight.invariant
 
 pub returns : goal.returns
-returns c = sym (check-end 16 0x18005 c.loop-byte.state c.args.bytes.now c.loop-byte.byte-index c.loop-byte-test.false) ∙ c.loop-byte.invariant
+returns c =
+    let at : length c.args.bytes.now / 8 * 8 ≡ 8 * c.loop-eight.eight-index = omega arith in
+    c.each16.ensures ∙ ap (check16 c.loop-eight.state) (c.as_chunks.ensures.back ∙ ap (λ i. drop i c.args.bytes.now) at) ∙ c.loop-eight.invariant

@@ -1,0 +1,214 @@
+-- The calls of readers and of a `Bitstream` give what readers on lists give.
+use Rattle.std.proofs.Common.{◌≡◌, ℕ, zero, suc, ◌+◌, ◌^◌, ◌<◌, ◌≤◌, ◌⊎◌, inl, inr, Bool, true, false, List, [], ◌∷◌, ◌++◌, length, replicate, Option, None, Some, refl, sym, ap, subst, ◌∙◌, append_assoc, arith, ltb}
+use Rattle.std.specs.Prelude.{IfSome, IfOk, OnErr, Result, Ok, Err}
+use Rattle.std.specs.Option.{option_map}
+use Rattle.std.specs.Result.{IsErr}
+use Rattle.std.proofs.lemmas.List.{take_at, drop_at, length-append}
+use Rattle.std.proofs.lemmas.Bool.{lt-ltb, le-ltb}
+use Rattle.claxon_format.specs.Bits.{Bits, bits, bits_of}
+use Rattle.claxon_format.specs.Fault.{Fault}
+use Rattle.claxon_format.specs.Metadata.{bytes_at}
+use Rattle.claxon_format.specs.Reading.{Reading, Done, Faulty, Short}
+use Rattle.claxon_format.specs.Readers.{number_at, zeros_at, one_more, in_32, unary_at, bit_at}
+use Rattle.claxon_format.proofs.Bytes.{bits_of-append}
+use Rattle.claxon_format.proofs.Numbers.{Reads-number}
+use Rattle.claxon_format.proofs.Words.{Reads-unary, zeros_no_fault}
+use Rattle.claxon_input.specs.Source.{Source, LosesFront, IsTold, Takes, Refuses, Failed, LosesSome, HasMore}
+use Rattle.claxon_input.specs.BitSource.{BitState, bits_to_come, TakesBits, TakesNumber, RefusesBits, HasNoOne, RefusesOne}
+use Rattle.claxon_input.specs.Stream.{Stream, stream_of, bits_after, past, is_told, known, IsRest, Knows, Went, Stuck, Fails, FailedIn, Yields}
+
+-- functions that agree are one
+same_function : {A B : Type 0} {f g : A → B} → ((x : A) → f x ≡ g x) → f ≡ g
+same_function h i x = h x i
+
+rest_after : {X : Type 0} (z s t m : List X) → s ≡ t ++ m → IsRest z s → IsRest z m
+unfolding IsRest
+rest_after z s t m e h = (h.0 ++ t, h.1 ∙ ap (λ (l : List _). h.0 ++ l) e ∙ sym (append_assoc h.0 t m))
+
+-- ---- what was taken
+
+-- taking the bytes from the source takes xs from what is to come, seen by f before and by g after
+abbrev Cuts : {X : Type 0} → (List ℕ → List X) → (List ℕ → List X) → List ℕ → List X → Type 0
+Cuts f g bytes xs = (rest : List ℕ) → f (bytes ++ rest) ≡ xs ++ g rest
+
+record Told {X : Type 0} (f g : List ℕ → List X) (a b : Source ℕ) (p q : Option (List ℕ)) (P : List X → List X → Type 0) : Type 0 where
+  told : is_told q ≡ true
+  is : P (known f p) (known g q)
+  rest : (z : List X) → IsRest z (known f p) → IsRest z (known g q)
+  checks : past q b.checks ≡ past p a.checks
+
+knows : {X : Type 0} (f g : List ℕ → List X) (a b : Source ℕ) (p q : Option (List ℕ)) (bytes : List ℕ) (xs : List X) (P : List X → List X → Type 0) → LosesFront p q bytes → Cuts f g bytes xs
+    → (IsTold p → (more : List ℕ) → b.checks more ≡ a.checks (bytes ++ more)) → ((m : List X) → P (xs ++ m) m) → is_told p ≡ true → Told f g a b p q P
+knows f g a b None q bytes xs P l e c h t = absurd cc
+knows f g a b (Some all) None bytes xs P l e c h t = absurd l
+knows f g a b (Some all) (Some rest) bytes xs P l e c h t =
+    let k : f all ≡ xs ++ g rest = ap f l ∙ e rest in
+    record {
+      told = refl;
+      is = subst (λ (s : List _). P s (g rest)) (sym k) (h (g rest));
+      rest = λ z. rest_after z (f all) xs (g rest) k;
+      checks = same_function (λ more. c tt (rest ++ more) ∙ ap a.checks (sym (append_assoc bytes rest more) ∙ ap (λ (x : List ℕ). x ++ more) (sym l)));
+    }
+
+went_by : {X : Type 0} (f g : List ℕ → List X) {a b : Source ℕ} {bytes : List ℕ} (xs : List X) (P : List X → List X → Type 0) → Takes a b bytes → Cuts f g bytes xs → ((m : List X) → P (xs ++ m) m) → Went (stream_of f a) (stream_of g b) P
+went_by f g {a = a} {b = b} {bytes = bytes} xs P h e k = record {
+  errors = h.errors;
+  empties = h.empties;
+  loans = h.lost.loans;
+  known = λ t. let w = knows f g a b a.to_come b.to_come bytes xs P h.lost.front e h.lost.checks k t in record { told = w.told; is = w.is; rest = w.rest; checks = w.checks };
+}
+
+cuts_bits : (old new : Bits) (bytes : List ℕ) (bs : Bits) → old ++ bits_of bytes ≡ bs ++ new → Cuts (bits_after old) (bits_after new) bytes bs
+cuts_bits old new bytes bs e rest =
+    rw (bits_of-append bytes rest) (sym (append_assoc old (bits_of bytes) (bits_of rest)) ∙ ap (λ (x : Bits). x ++ bits_of rest) e ∙ append_assoc bs new (bits_of rest))
+
+-- the stream of a state
+abbrev pub bits_in : BitState → Stream Bool
+bits_in s = stream_of (bits_after s.left) s.source
+
+abbrev pub bytes_of_source : Source ℕ → Stream ℕ
+bytes_of_source s = stream_of (λ all. all) s
+
+-- bits were taken, and P holds of what begins with them
+pub went : {a b : BitState} {bs : Bits} (P : Bits → Bits → Type 0) → TakesBits a b bs → ((m : Bits) → P (bs ++ m) m) → Went (bits_in a) (bits_in b) P
+went {a} {b} {bs} P h k = went_by (bits_after a.left) (bits_after b.left) bs P h.taken (cuts_bits a.left b.left h.bytes bs h.split) k
+
+-- bytes were taken
+pub went_bytes : {a b : Source ℕ} {xs : List ℕ} (P : List ℕ → List ℕ → Type 0) → Takes a b xs → ((m : List ℕ) → P (xs ++ m) m) → Went (bytes_of_source a) (bytes_of_source b) P
+went_bytes {xs = xs} P h k = went_by (λ all. all) (λ all. all) xs P h (λ rest. refl) k
+
+-- ---- an Err
+
+record Failing {X : Type 0} (f g : List ℕ → List X) (a b : Source ℕ) (p q : Option (List ℕ)) (P : List X → Type 0) : Type 0 where
+  told : is_told q ≡ true
+  why : P (known f p) ⊎ FailedIn (stream_of f a) (stream_of g b)
+  rest : (z : List X) → IsRest z (known f p) → IsRest z (known g q)
+
+failed_in : {X : Type 0} (f g : List ℕ → List X) (a b : Source ℕ) (left : List ℕ) → b.to_come ≡ Some left → (HasMore (Some left) → g left ≡ [] → ⊥) → Failed a b → FailedIn (stream_of f a) (stream_of g b)
+failed_in f g a b left e n (inl h) = inl h
+failed_in f g a b left e n (inr h) = inr (h.0, rw e (n (subst (λ (o : Option (List ℕ)). HasMore o) e h.1)))
+
+fails : {X : Type 0} (f g : List ℕ → List X) (a b : Source ℕ) (p q : Option (List ℕ)) (lost : List ℕ) (xs : List X) (P Q : List X → Type 0) → b.to_come ≡ q → LosesFront p q lost → Cuts f g lost xs
+    → ((left : List ℕ) → HasMore (Some left) → g left ≡ [] → ⊥) → IfSome (option_map f p) (λ all. Q all ⊎ Failed a b) → ((s : List X) → Q s → P s) → is_told p ≡ true → Failing f g a b p q P
+fails f g a b None q lost xs P Q e l k n c h t = absurd cc
+fails f g a b (Some all) None lost xs P Q e l k n c h t = absurd l
+fails f g a b (Some all) (Some left) lost xs P Q e l k n c h t = record {
+  told = refl;
+  why = elim c [ inl q ↦ inl (h (f all) q) | inr q ↦ inr (failed_in f g a b left e (n left) q) ];
+  rest = λ z. rest_after z (f all) xs (g left) (ap f l ∙ k left);
+}
+
+stuck_by : {X : Type 0} (f g : List ℕ → List X) {a b : Source ℕ} (xs : List X) (P Q : List X → Type 0) → (r : LosesSome a b) → Cuts f g r.lost xs → ((left : List ℕ) → HasMore (Some left) → g left ≡ [] → ⊥)
+    → IfSome (option_map f a.to_come) (λ all. Q all ⊎ Failed a b) → ((s : List X) → Q s → P s) → Stuck (stream_of f a) (stream_of g b) P
+stuck_by f g {a = a} {b = b} xs P Q r k n c h = record {
+  loans = r.loans;
+  known = λ t. let w = fails f g a b a.to_come b.to_come r.lost xs P Q refl r.front k n c h t in record { told = w.told; why = w.why; rest = w.rest };
+}
+
+no_bits : (left : List ℕ) → HasMore (Some left) → [] ++ bits_of left ≡ [] → ⊥
+unfolding bits_of bits
+no_bits [] h e = h refl
+no_bits (x ∷ left) h e = cc
+
+pub stuck : (a b : BitState) (P Q : Bits → Type 0) → LosesSome a.source b.source → b.left ≡ [] → IfSome (bits_to_come a) (λ all. Q all ⊎ Failed a.source b.source) → ((s : Bits) → Q s → P s)
+    → Stuck (bits_in a) (bits_in b) P
+stuck a b P Q r e c h =
+    stuck_by (bits_after a.left) (bits_after b.left) (a.left ++ bits_of r.lost) P Q r
+    (cuts_bits a.left b.left r.lost (a.left ++ bits_of r.lost) (rw e (sym (append_nil (a.left ++ bits_of r.lost)))))
+    (λ left m k. no_bits left m (subst (λ (l : Bits). l ++ bits_of left ≡ []) e k)) c h
+  where
+    append_nil : (xs : Bits) → xs ++ [] ≡ xs
+    append_nil [] = refl
+    append_nil (x ∷ xs) = ap (λ (l : Bits). x ∷ l) (append_nil xs)
+
+bytes_cause : (p : Option (List ℕ)) (n : ℕ) (F : Type 0) → IfSome p (λ all. (length all < n) ⊎ F) → IfSome (option_map (λ (all : List ℕ). all) p) (λ all. (length all < n) ⊎ F)
+bytes_cause None n F h = h
+bytes_cause (Some all) n F h = h
+
+-- ---- numbers
+
+pub went_number : {a b : BitState} (n w : ℕ) → n < 2 ^ w → TakesNumber a b w n → Went (bits_in a) (bits_in b) (λ s m. number_at w s ≡ Done n m)
+went_number n w small h = went (λ s m. number_at w s ≡ Done n m) h (λ m. (Reads-number w).again n (bits w n) m (small, refl))
+
+short_number : (w : ℕ) (s : Bits) → length s < w → number_at w s ≡ Short
+unfolding number_at
+short_number w s h = let k : ltb (length s) w ≡ true = lt-ltb _ _ h in rw k refl
+
+pub stuck_number : {a b : BitState} (w : ℕ) → RefusesBits a b w → Stuck (bits_in a) (bits_in b) (λ s. number_at w s ≡ Short)
+stuck_number {a} {b} w h = stuck a b (λ s. number_at w s ≡ Short) (λ s. (length s < w) × (b.source.to_come ≡ Some [])) h.rest h.emptied h.cause (λ s q. short_number w s q.0)
+
+pub went_bit : {a b : BitState} (bit : Bool) → TakesBits a b (bit ∷ []) → Went (bits_in a) (bits_in b) (λ s m. bit_at s ≡ Done bit m)
+unfolding bit_at
+went_bit bit h = went (λ s m. bit_at s ≡ Done bit m) h (λ m. refl)
+
+short_bit : (s : Bits) → length s < 1 → bit_at s ≡ Short
+unfolding bit_at
+short_bit [] h = refl
+short_bit (b ∷ s) h = absurd (omega arith)
+
+pub stuck_bit : {a b : BitState} → RefusesBits a b 1 → Stuck (bits_in a) (bits_in b) (λ s. bit_at s ≡ Short)
+stuck_bit {a} {b} h = stuck a b (λ s. bit_at s ≡ Short) (λ s. (length s < 1) × (b.source.to_come ≡ Some [])) h.rest h.emptied h.cause (λ s q. short_bit s q.0)
+
+-- ---- bytes
+
+pub went_taken : {a b : Source ℕ} {xs : List ℕ} (n : ℕ) → length xs ≡ n → Takes a b xs → Went (bytes_of_source a) (bytes_of_source b) (λ s m. bytes_at n s ≡ Done xs m)
+unfolding bytes_at
+went_taken {xs = xs} n l h = went_bytes (λ s m. bytes_at n s ≡ Done xs m) h (λ m.
+    let long : ltb (length (xs ++ m)) n ≡ false = le-ltb _ _ (omega (arith, length-append xs m)) in
+    rw (long, take_at xs m n l, drop_at xs m n l) refl)
+
+short_bytes : (n : ℕ) (s : List ℕ) → length s < n → bytes_at n s ≡ Short
+unfolding bytes_at
+short_bytes n s h = let k : ltb (length s) n ≡ true = lt-ltb _ _ h in rw k refl
+
+pub stuck_bytes : {a b : Source ℕ} (n : ℕ) → Refuses a b n → Stuck (bytes_of_source a) (bytes_of_source b) (λ s. bytes_at n s ≡ Short)
+stuck_bytes {a} {b} n h =
+    stuck_by (λ all. all) (λ all. all) h.rest.lost (λ s. bytes_at n s ≡ Short) (λ s. length s < n) h.rest (λ rest. refl) (λ left m. m) (bytes_cause a.to_come n (Failed a b) h.cause) (short_bytes n)
+
+-- ---- zeros up to a one
+
+pub went_unary : {a b : BitState} (q : ℕ) → q < 2 ^ 32 → TakesBits a b (replicate q false ++ true ∷ []) → Went (bits_in a) (bits_in b) (λ s m. unary_at s ≡ Done q m)
+went_unary q small h = went (λ s m. unary_at s ≡ Done q m) h (λ m. Reads-unary.again q (replicate q false ++ true ∷ []) m (small, refl))
+
+no_one : (n : ℕ) → zeros_at (replicate n false) ≡ Short
+unfolding zeros_at
+no_one zero = refl
+no_one (suc n) = rw (no_one n) refl
+
+many : ℕ → Reading Bool ℕ → Reading Bool ℕ
+many zero x = x
+many (suc n) x = one_more (many n x)
+
+many_zeros : (n : ℕ) (rest : Bits) → zeros_at (replicate n false ++ rest) ≡ many n (zeros_at rest)
+unfolding zeros_at many
+many_zeros zero rest = refl
+many_zeros (suc n) rest = ap one_more (many_zeros n rest)
+
+many_done : (n q : ℕ) (s : Bits) → many n (Done q s) ≡ Done (n + q) s
+unfolding many
+many_done zero q s = let e : q ≡ 0 + q = omega arith in ap (λ (k : ℕ). Done k s) e
+many_done (suc n) q s = let e : suc (n + q) ≡ suc n + q = omega arith in rw (many_done n q s) (ap (λ (k : ℕ). Done k s) e)
+
+many_short : (n : ℕ) → many n Short ≡ Short
+unfolding many
+many_short zero = refl
+many_short (suc n) = rw (many_short n) refl
+
+too_many : (n : ℕ) (x : Reading Bool ℕ) → ((f : Fault) (rest : Bits) → x ≡ Faulty f rest → ⊥) → 2 ^ 32 ≤ n → in_32 (many n x) ≡ Short
+too_many n (Done q s) h le = let k : ltb (n + q) (2 ^ 32) ≡ false = le-ltb _ _ (omega arith) in rw (many_done n q s, k) refl
+too_many n (Faulty f s) h le = absurd (h f s refl)
+too_many n Short h le = rw (many_short n) refl
+
+short_unary : (s : Bits) (o : Option (List ℕ)) → HasNoOne s o → unary_at s ≡ Short
+unfolding unary_at
+short_unary s o (inl h) = rw (h.1, no_one h.0) refl
+short_unary s o (inr h) = rw (h.3, many_zeros h.0 h.1) (too_many h.0 (zeros_at h.1) (zeros_no_fault h.1) h.2)
+
+pub stuck_unary : {a b : BitState} → RefusesOne a b → Stuck (bits_in a) (bits_in b) (λ s. unary_at s ≡ Short)
+stuck_unary {a} {b} h = stuck a b (λ s. unary_at s ≡ Short) (λ s. HasNoOne s b.source.to_come) h.rest h.emptied h.cause (λ s. short_unary s b.source.to_come)
+
+-- ---- the exit by a `?`
+
+pub yields_err : {X A Y E : Type 0} (view : A → Y) (r : Result A E) (read : List X → Reading X Y) (a b : Stream X) → IsErr r → Stuck a b (λ s. read s ≡ Short) → Yields view r read a b
+yields_err view (Ok x) read a b h k = absurd cc
+yields_err view (Err e) read a b h k = k
