@@ -15,7 +15,7 @@ use Rattle.claxon_format.proofs.Numbers.{Reads-number}
 use Rattle.claxon_format.proofs.Words.{Reads-unary, zeros_no_fault}
 use Rattle.claxon_input.specs.Source.{Source, LosesFront, IsTold, Takes, Refuses, Failed, LosesSome, HasMore}
 use Rattle.claxon_input.specs.BitSource.{BitState, bits_to_come, TakesBits, TakesNumber, RefusesBits, HasNoOne, RefusesOne}
-use Rattle.claxon_input.specs.Stream.{Stream, stream_of, bytes_in, bits_after, past, is_told, known, IsRest, Knows, Went, Stuck, Fails, FailedIn, Yields}
+use Rattle.claxon_input.specs.Stream.{Stream, stream_of, bytes_in, bits_after, past, is_told, known, IsRest, Went, Stuck, FailedIn, Yields}
 
 -- functions that agree are one
 same_function : {A B : Type 0} {f g : A → B} → ((x : A) → f x ≡ g x) → f ≡ g

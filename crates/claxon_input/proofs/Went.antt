@@ -1,12 +1,12 @@
 -- What calls one after another did to a stream.
-use Rattle.std.proofs.Common.{◌≡◌, ◌⊎◌, inl, inr, Bool, true, false, List, Option, Some, refl, sym, ◌∙◌}
+use Rattle.std.proofs.Common.{◌≡◌, inl, inr, List, refl, sym, ◌∙◌}
 use Rattle.std.specs.Prelude.{Result, Ok, Err}
 use Rattle.std.specs.declared.io.Error as io
 use Rattle.claxon_format.specs.Fault.{Fault}
 use Rattle.claxon_format.specs.Reading.{Reading, Done, Faulty, Short}
 use Rattle.claxon_input.specs.declared.error.Error.{Error}
 use Rattle.claxon_input.specs.declared.error.Error.TheVariants.{IoError}
-use Rattle.claxon_input.specs.Stream.{Stream, Knows, Fails, Went, Stuck, FailedIn, IsFaultOf, Stops, Gives}
+use Rattle.claxon_input.specs.Stream.{Stream, Went, Stuck, FailedIn, IsFaultOf, Stops, Gives}
 
 -- nothing was done
 pub went_none : {X : Type 0} (a : Stream X) (P : List X → List X → Type 0) → P a.coming a.coming → Went a a P

@@ -298,6 +298,38 @@ fn an_end_within_a_number(rt: HostRuntime) -> Result<(), Fail> {
     Ok(())
 }
 
+#[test]
+fn an_end_has_its_kind(rt: HostRuntime) -> Result<(), Fail> {
+    let mut cursor = Cursor::new([1u8, 2]);
+    assert!(rt;
+        cursor
+            .read_be_u24()
+            .err()
+            .is_some_and(|error| error.kind() == io::ErrorKind::UnexpectedEof)
+    );
+    cursor.set_position(0);
+    assert!(rt;
+        cursor
+            .skip(3)
+            .err()
+            .is_some_and(|error| error.kind() == io::ErrorKind::UnexpectedEof)
+    );
+    assert_eq!(rt; cursor.read_be_u16()?, 0x0102);
+    Ok(())
+}
+
+#[test]
+fn errors_and_their_texts(rt: HostRuntime) -> Result<(), Fail> {
+    let fault = Error::FormatError("frame CRC mismatch");
+    assert!(rt; fault == Error::FormatError("frame CRC mismatch"));
+    assert!(rt; fault != Error::Unsupported("frame CRC mismatch"));
+    let text = format!(in rt.alloc(); "{fault}")?;
+    assert_eq!(rt; text.as_str(), "Ill-formed FLAC stream: frame CRC mismatch");
+    let cause = Error::from(io::Error::new(io::ErrorKind::Other, "failed"));
+    assert!(rt; cause != Error::from(io::Error::new(io::ErrorKind::Other, "failed")));
+    Ok(())
+}
+
 // So many zeros, and then bytes of one value.
 #[derive(Drop)]
 struct ZerosFirst {
@@ -339,7 +371,10 @@ fn a_run_of_zeros_too_long(rt: HostRuntime) -> Result<(), Fail> {
         },
     )?;
     let mut bits = Bitstream::new(&mut reader);
-    assert!(rt; bits.read_unary().is_err());
+    match bits.read_unary() {
+        Ok(_) => assert!(rt; false),
+        Err(error) => assert!(rt; error.kind() == io::ErrorKind::InvalidData),
+    }
     assert_eq!(rt; bits.read_unary()?, 0);
     Ok(())
 }
