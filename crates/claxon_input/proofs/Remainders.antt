@@ -42,10 +42,6 @@ check-end d p c bs i h = ap (check d p c) (drop_of_length-le bs h) ∙ check-non
 
 -- ---- what goes on is the remainder of the whole
 
-bits_of-push : (s : List ℕ) (y : ℕ) → bits_of (s ++ y ∷ []) ≡ bits_of s ++ bits 8 (y % 256)
-bits_of-push s y = bits_of-append s (y ∷ []) ∙ ap (λ l. bits_of s ++ l)
-    (bits_of-one y [] ∙ ap (λ l. bits 8 y ++ l) bits_of-none ∙ append-nil (bits 8 y) ∙ sym (bits-low 8 y))
-
 divide_none : (d p r : ℕ) → divide d p r [] ≡ r
 unfolding divide
 divide_none d p r = refl
@@ -74,19 +70,6 @@ module _ (d p : ℕ) (some : 2 ≤ 2 ^ d) (low : 2 ^ d ≤ p) (high : p < 2 * 2 
 
   at : (s : List ℕ) → whole s ≡ zeros d p d (divide d p 0 (bits_of s))
   at s = divide-append d p 0 (bits_of s) (replicate d false)
-
-  push : (s : List ℕ) (y : ℕ) → 8 ≤ d → whole (s ++ y ∷ []) ≡ zeros d p 8 (bit_xor (whole s) (y % 256 * 2 ^ (d - 8)))
-  push s y e =
-      let r = divide d p 0 (bits_of s) in
-      at (s ++ y ∷ [])
-      ∙ ap (zeros d p d) (ap (divide d p 0) (bits_of-push s y) ∙ divide-append d p 0 (bits_of s) (bits 8 (y % 256)))
-      ∙ byte_more (d - 8) r (y % 256) (omega arith) (divide_lt d p some low high (bits_of s) 0 (omega arith)) (omega arith)
-      ∙ ap (λ z. zeros d p 8 (bit_xor z (y % 256 * 2 ^ (d - 8)))) (sym (at s))
-
-  pub goes_on : (xs s : List ℕ) → 8 ≤ d → check d p (whole s) xs ≡ whole (s ++ xs)
-  unfolding check
-  goes_on [] s e = ap whole (sym (append-nil s))
-  goes_on (y ∷ ys) s e = ap (λ c. check d p c ys) (sym (push s y e)) ∙ goes_on ys (s ++ y ∷ []) e ∙ ap whole (append_assoc s (y ∷ []) ys)
 
   mixed_lt : (c y : ℕ) → 8 ≤ d → c < 2 ^ d → bit_xor c (y % 256 * 2 ^ (d - 8)) < 2 ^ d
   mixed_lt c y e h =
@@ -131,6 +114,14 @@ module _ (d p : ℕ) (some : 2 ≤ 2 ^ d) (low : 2 ^ d ≤ p) (high : p < 2 * 2 
       ap (λ c. check d p c ys) (sym (byte_more (d - 8) r (y % 256) (omega arith) h (omega arith)))
       ∙ from_raw ys (divide d p r b) e (divide_lt d p some low high b r h)
       ∙ ap (zeros d p d) (sym (divide-append d p r b (bits_of ys)) ∙ ap (λ z. divide d p r (z ++ bits_of ys)) (bits-low 8 y) ∙ sym (ap (divide d p r) (bits_of-one y ys)))
+
+  pub goes_on : (xs s : List ℕ) → 8 ≤ d → check d p (whole s) xs ≡ whole (s ++ xs)
+  goes_on xs s e =
+      let r = divide d p 0 (bits_of s) in
+      ap (λ c. check d p c xs) (at s)
+      ∙ from_raw xs r e (divide_lt d p some low high (bits_of s) 0 (omega arith))
+      ∙ ap (zeros d p d) (sym (divide-append d p 0 (bits_of s) (bits_of xs)) ∙ ap (divide d p 0) (sym (bits_of-append s xs)))
+      ∙ sym (at (s ++ xs))
 
   -- the remainder that goes on to the end as that of the whole does is that of what stands before
   pub of_bits : (all rest : List ℕ) (x : Bits) (c : ℕ) → p % 2 ≡ 1 → 8 ≤ d → c < 2 ^ d → bits_of all ≡ x ++ bits_of rest → check d p c rest ≡ check d p 0 all → c ≡ divide d p 0 (x ++ replicate d false)

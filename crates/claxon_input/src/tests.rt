@@ -1,7 +1,7 @@
 //! Readers that fail, and worked values.
-ghost use Rattle.std.specs.Prelude.{◌≡◌, ◌==◌};
+ghost use Rattle.std.specs.Prelude.{◌≡◌, ◌==◌, length};
 ghost use Rattle.claxon_format.specs.Fault.{MethodReserved};
-ghost use Rattle.claxon_format.specs.Reading.{and_then, test, done};
+ghost use Rattle.claxon_format.specs.Reading.{and_then, test, done, times_at};
 ghost use Rattle.claxon_format.specs.Readers.{number_at, unary_at};
 ghost use Rattle.claxon_input.specs.Stream.{stream, Gives};
 
@@ -403,11 +403,23 @@ fn two_fields<R: ReadBytes>(input: &mut Bitstream<R>) -> InputResult<u32>
     Ok(quotient)
 }
 
+// As many numbers of three bits as the buffer has room for.
+fn read_threes<R: ReadBytes>(input: &mut Bitstream<R>, buffer: &mut [u8]) -> InputResult<()>
+    ensures { Gives (λ x. buffer.new) result (times_at (length buffer.old) (number_at 3)) (stream R.source input.old) (stream R.source input.new) }
+{
+    for slot in buffer.iter_mut() {
+        *slot = input.read_leq_u8(3)?;
+    }
+    Ok(())
+}
+
 #[test]
 fn fields_and_their_fault(rt: HostRuntime) -> Result<(), Fail> {
     let mut bits = Bitstream::new(Cursor::new([0x12u8, 0xF0]));
     assert_eq!(rt; two_fields(&mut bits)?, 2);
     assert_eq!(rt; bits.read_bit()?, false);
     assert!(rt; two_fields(&mut bits).is_err());
+    let mut threes = [0u8; 2];
+    assert!(rt; read_threes(&mut bits, &mut threes).is_err());
     Ok(())
 }
