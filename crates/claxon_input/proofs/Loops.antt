@@ -3,8 +3,8 @@ use Rattle.std.proofs.Common.{◌≡◌, ℕ, suc, ◌+◌, ◌-◌, ◌<◌, �
 use Rattle.std.proofs.lemmas.List.{append-nil, take_more_set, length-set, take_all}
 use Rattle.claxon_format.specs.Reading.{Reading, Done, Faulty, Short, bind, times_at, each_at}
 use Rattle.claxon_input.specs.declared.error.Error.{Error}
-use Rattle.claxon_input.specs.Stream.{Stream, Went, Stops}
-use Rattle.claxon_input.proofs.Went.{went_both, went_map, went_none, stops_after, StopsWith}
+use Rattle.claxon_input.specs.Stream.{Stream, Went, Stuck, Stops}
+use Rattle.claxon_input.proofs.Went.{went_both, went_map, went_none, stops_after, stuck_after, StopsWith}
 
 -- what was read before, and what is still read
 abbrev pub with_front : {X A : Type 0} → List A → Reading X (List A) → Reading X (List A)
@@ -60,3 +60,7 @@ times_stop read xs i lt =
 
 pub times_err : {X A : Type 0} {read : List X → Reading X A} {n : ℕ} {xs : List A} {i : ℕ} {e : Error} {a b c : Stream X} → i < length xs → TimesSoFar read n xs i a b → Stops e read b c → Stops e (times_at n read) a c
 times_err {read = read} {xs = xs} {i = i} lt h k = stops_after h.so_far (times_stop read xs i lt) k
+
+-- the same where the field is read by a call that knows no faults
+pub times_stuck : {X A : Type 0} {read : List X → Reading X A} {n : ℕ} {xs : List A} {i : ℕ} {a b c : Stream X} → i < length xs → TimesSoFar read n xs i a b → Stuck b c (λ s. read s ≡ Short) → Stuck a c (λ s. times_at n read s ≡ Short)
+times_stuck {read = read} {xs = xs} {i = i} {b = b} lt h k = stuck_after _ h.so_far k (λ p q. p ∙ (times_stop read xs i lt).short b.coming q)

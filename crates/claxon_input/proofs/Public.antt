@@ -7,7 +7,7 @@ use Rattle.claxon_format.specs.Fault.{Fault, faults, fault_text, is_unsupported}
 use Rattle.claxon_format.specs.Reading.{Reading, Reads, Done, Faulty, Short}
 use Rattle.claxon_input.specs.declared.error.Error.{Error}
 use Rattle.claxon_input.specs.declared.error.Error.TheVariants.{IoError, FormatError, Unsupported, OutOfMemory}
-use Rattle.claxon_input.specs.Stream.{Stream, Went, Stuck, FailedIn, IsFault, IsFaultOf, IsIo, is_named, Stops, Gives, Took, Honestly}
+use Rattle.claxon_input.specs.Stream.{Stream, Went, Stuck, FailedIn, IsFault, IsFaultOf, IsIo, is_named, Gives, Took, Honestly}
 
 and_true : (a b : Bool) → (a && b) ≡ true → (a ≡ true) × (b ≡ true)
 and_true true b e = (refl, e)

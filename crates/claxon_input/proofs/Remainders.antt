@@ -8,7 +8,7 @@ use Rattle.std.proofs.lemmas.List.{append-nil, drop_more, drop-drop, take-append
 use Rattle.std.proofs.lemmas.Bool.{false≢true, eqb-true}
 use Rattle.std.proofs.Math.Nat.{mul_comm, mod-eq_of_lt, mul-lt-mul_of_pos_left}
 use Rattle.std.proofs.Math.ListN.{drop_of_length-le}
-use Rattle.claxon_format.specs.Bits.{bits, bits_of}
+use Rattle.claxon_format.specs.Bits.{Bits, bits, bits_of}
 use Rattle.claxon_format.specs.Guards.{divide, divide_step, crc8, crc16}
 use Rattle.claxon_format.proofs.Numbers.{length-bits, number-bits}
 use Rattle.claxon_format.proofs.Bytes.{bits_of-append}
@@ -42,9 +42,9 @@ check-end d p c bs i h = ap (check d p c) (drop_of_length-le bs h) ∙ check-non
 
 -- ---- what goes on is the remainder of the whole
 
-bits_of-push : (s : List ℕ) (y : ℕ) → bits_of (s ++ y ∷ []) ≡ bits_of s ++ bits 8 (y % 256)
-bits_of-push s y = bits_of-append s (y ∷ []) ∙ ap (λ l. bits_of s ++ l)
-    (bits_of-one y [] ∙ ap (λ l. bits 8 y ++ l) bits_of-none ∙ append-nil (bits 8 y) ∙ sym (bits-low 8 y))
+divide_none : (d p r : ℕ) → divide d p r [] ≡ r
+unfolding divide
+divide_none d p r = refl
 
 module _ (d p : ℕ) (some : 2 ≤ 2 ^ d) (low : 2 ^ d ≤ p) (high : p < 2 * 2 ^ d) where
   -- the remainder of the bytes, with d zeros behind them
@@ -70,19 +70,6 @@ module _ (d p : ℕ) (some : 2 ≤ 2 ^ d) (low : 2 ^ d ≤ p) (high : p < 2 * 2 
 
   at : (s : List ℕ) → whole s ≡ zeros d p d (divide d p 0 (bits_of s))
   at s = divide-append d p 0 (bits_of s) (replicate d false)
-
-  push : (s : List ℕ) (y : ℕ) → 8 ≤ d → whole (s ++ y ∷ []) ≡ zeros d p 8 (bit_xor (whole s) (y % 256 * 2 ^ (d - 8)))
-  push s y e =
-      let r = divide d p 0 (bits_of s) in
-      at (s ++ y ∷ [])
-      ∙ ap (zeros d p d) (ap (divide d p 0) (bits_of-push s y) ∙ divide-append d p 0 (bits_of s) (bits 8 (y % 256)))
-      ∙ byte_more (d - 8) r (y % 256) (omega arith) (divide_lt d p some low high (bits_of s) 0 (omega arith)) (omega arith)
-      ∙ ap (λ z. zeros d p 8 (bit_xor z (y % 256 * 2 ^ (d - 8)))) (sym (at s))
-
-  pub goes_on : (xs s : List ℕ) → 8 ≤ d → check d p (whole s) xs ≡ whole (s ++ xs)
-  unfolding check
-  goes_on [] s e = ap whole (sym (append-nil s))
-  goes_on (y ∷ ys) s e = ap (λ c. check d p c ys) (sym (push s y e)) ∙ goes_on ys (s ++ y ∷ []) e ∙ ap whole (append_assoc s (y ∷ []) ys)
 
   mixed_lt : (c y : ℕ) → 8 ≤ d → c < 2 ^ d → bit_xor c (y % 256 * 2 ^ (d - 8)) < 2 ^ d
   mixed_lt c y e h =
@@ -114,6 +101,38 @@ module _ (d p : ℕ) (some : 2 ≤ 2 ^ d) (low : 2 ^ d ≤ p) (high : p < 2 * 2 
   -- what a remainder is after bytes of which the end is known
   pub check-taken : (taken left : List ℕ) (a c : ℕ) → p % 2 ≡ 1 → 8 ≤ d → a < 2 ^ d → c < 2 ^ d → check d p c left ≡ check d p a (taken ++ left) → c ≡ check d p a taken
   check-taken taken left a c odd e h l k = check-injective left c (check d p a taken) odd e l (check_lt taken a e h) (k ∙ sym (check-append d p taken left a))
+
+  zero_stays : (n : ℕ) → zeros d p n 0 ≡ 0
+  zero_stays n = zeros-small d p some low high n 0 (omega arith) ∙ omega arith
+
+  -- what goes on from a remainder with d zeros behind it
+  from_raw : (ys : List ℕ) (r : ℕ) → 8 ≤ d → r < 2 ^ d → check d p (zeros d p d r) ys ≡ zeros d p d (divide d p r (bits_of ys))
+  unfolding check
+  from_raw [] r e h = ap (zeros d p d) (sym (ap (divide d p r) bits_of-none ∙ divide_none d p r))
+  from_raw (y ∷ ys) r e h =
+      let b = bits 8 (y % 256) in
+      ap (λ c. check d p c ys) (sym (byte_more (d - 8) r (y % 256) (omega arith) h (omega arith)))
+      ∙ from_raw ys (divide d p r b) e (divide_lt d p some low high b r h)
+      ∙ ap (zeros d p d) (sym (divide-append d p r b (bits_of ys)) ∙ ap (λ z. divide d p r (z ++ bits_of ys)) (bits-low 8 y) ∙ sym (ap (divide d p r) (bits_of-one y ys)))
+
+  pub goes_on : (xs s : List ℕ) → 8 ≤ d → check d p (whole s) xs ≡ whole (s ++ xs)
+  goes_on xs s e =
+      let r = divide d p 0 (bits_of s) in
+      ap (λ c. check d p c xs) (at s)
+      ∙ from_raw xs r e (divide_lt d p some low high (bits_of s) 0 (omega arith))
+      ∙ ap (zeros d p d) (sym (divide-append d p 0 (bits_of s) (bits_of xs)) ∙ ap (divide d p 0) (sym (bits_of-append s xs)))
+      ∙ sym (at (s ++ xs))
+
+  -- the remainder that goes on to the end as that of the whole does is that of what stands before
+  pub of_bits : (all rest : List ℕ) (x : Bits) (c : ℕ) → p % 2 ≡ 1 → 8 ≤ d → c < 2 ^ d → bits_of all ≡ x ++ bits_of rest → check d p c rest ≡ check d p 0 all → c ≡ divide d p 0 (x ++ replicate d false)
+  of_bits all rest x c odd e h split k =
+      let r = divide d p 0 x in
+      let r_lt : r < 2 ^ d = divide_lt d p some low high x 0 (omega arith) in
+      let whole_is : check d p 0 all ≡ zeros d p d (divide d p 0 (bits_of all)) = ap (λ z. check d p z all) (sym (zero_stays d)) ∙ from_raw all 0 e (omega arith) in
+      let parts : zeros d p d (divide d p 0 (bits_of all)) ≡ check d p (zeros d p d r) rest =
+      ap (zeros d p d) (ap (divide d p 0) split ∙ divide-append d p 0 x (bits_of rest)) ∙ sym (from_raw rest r e r_lt) in
+      check-injective rest c (zeros d p d r) odd e h (divide_lt d p some low high (replicate d false) r r_lt) (k ∙ whole_is ∙ parts)
+      ∙ sym (divide-append d p 0 x (replicate d false))
 
 pub goes_on_8 : GoesOn8
 unfolding crc8
@@ -150,6 +169,17 @@ pub taken_16 : (taken left : List ℕ) (a c : ℕ) (u v : List ℕ → List ℕ)
 taken_16 taken left a c u v h l e =
     check-taken 16 0x18005 (omega arith) (omega arith) (omega arith) taken left a c refl (omega arith) h l
     (rw (append-nil left, append-nil (taken ++ left)) at (first_is (check16 a) (check16 c) (taken ++ left) left u v e))
+
+-- what is known of the remainders past the end, over the bits of what was taken
+pub bits_8 : (all rest : List ℕ) (x : Bits) (c : ℕ) (u v : List ℕ → List ℕ) → c < 256 → bits_of all ≡ x ++ bits_of rest → past_all (check8 c) rest v ≡ past_all (check8 0) all u → c ≡ crc8 x
+unfolding crc8
+bits_8 all rest x c u v h split e =
+    of_bits 8 0x107 (omega arith) (omega arith) (omega arith) all rest x c refl (omega arith) h split (rw (append-nil rest, append-nil all) at (first_is (check8 0) (check8 c) all rest u v e))
+
+pub bits_16 : (all rest : List ℕ) (x : Bits) (c : ℕ) (u v : List ℕ → List ℕ) → c < 65536 → bits_of all ≡ x ++ bits_of rest → past_all (check16 c) rest v ≡ past_all (check16 0) all u → c ≡ crc16 x
+unfolding crc16
+bits_16 all rest x c u v h split e =
+    of_bits 16 0x18005 (omega arith) (omega arith) (omega arith) all rest x c refl (omega arith) h split (rw (append-nil rest, append-nil all) at (first_is (check16 0) (check16 c) all rest u v e))
 
 -- ---- tables
 

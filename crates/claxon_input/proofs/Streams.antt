@@ -15,7 +15,7 @@ use Rattle.claxon_format.proofs.Numbers.{Reads-number}
 use Rattle.claxon_format.proofs.Words.{Reads-unary, zeros_no_fault}
 use Rattle.claxon_input.specs.Source.{Source, LosesFront, IsTold, Takes, Refuses, Failed, LosesSome, HasMore}
 use Rattle.claxon_input.specs.BitSource.{BitState, bits_to_come, TakesBits, TakesNumber, RefusesBits, HasNoOne, RefusesOne}
-use Rattle.claxon_input.specs.Stream.{Stream, stream_of, bits_after, past, is_told, known, IsRest, Knows, Went, Stuck, Fails, FailedIn, Yields}
+use Rattle.claxon_input.specs.Stream.{Stream, stream_of, bytes_in, bits_after, past, is_told, known, IsRest, Went, Stuck, FailedIn, Yields}
 
 -- functions that agree are one
 same_function : {A B : Type 0} {f g : A → B} → ((x : A) → f x ≡ g x) → f ≡ g
@@ -212,3 +212,11 @@ stuck_unary {a} {b} h = stuck a b (λ s. unary_at s ≡ Short) (λ s. HasNoOne s
 pub yields_err : {X A Y E : Type 0} (view : A → Y) (r : Result A E) (read : List X → Reading X Y) (a b : Stream X) → IsErr r → Stuck a b (λ s. read s ≡ Short) → Yields view r read a b
 yields_err view (Ok x) read a b h k = absurd cc
 yields_err view (Err e) read a b h k = k
+
+-- ---- a call that takes a number of bytes, as one that yields them
+
+pub yields_taken : {E R A : Type 0} (source : R → Source ℕ) (bytes : A → List ℕ) (n : ℕ) (r : Result A E) (a b : R) → ((x : A) → length (bytes x) ≡ n) → IfOk r (λ x. Takes (source a) (source b) (bytes x)) → OnErr r (Refuses (source a) (source b) n)
+    → Yields bytes r (bytes_at n) (bytes_in source a) (bytes_in source b)
+unfolding bytes_in
+yields_taken source bytes n (Ok x) a b l h k = went_taken n (l x) h
+yields_taken source bytes n (Err e) a b l h k = stuck_bytes n k

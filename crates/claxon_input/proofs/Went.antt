@@ -1,12 +1,12 @@
 -- What calls one after another did to a stream.
-use Rattle.std.proofs.Common.{◌≡◌, ◌⊎◌, inl, inr, Bool, true, false, List, Option, Some, refl, sym, ◌∙◌}
+use Rattle.std.proofs.Common.{◌≡◌, ◌⊎◌, inl, inr, List, refl, sym, ◌∙◌}
 use Rattle.std.specs.Prelude.{Result, Ok, Err}
 use Rattle.std.specs.declared.io.Error as io
 use Rattle.claxon_format.specs.Fault.{Fault}
 use Rattle.claxon_format.specs.Reading.{Reading, Done, Faulty, Short}
 use Rattle.claxon_input.specs.declared.error.Error.{Error}
-use Rattle.claxon_input.specs.declared.error.Error.TheVariants.{IoError}
-use Rattle.claxon_input.specs.Stream.{Stream, Knows, Fails, Went, Stuck, FailedIn, IsFaultOf, Stops, Gives}
+use Rattle.claxon_input.specs.declared.error.Error.TheVariants.{IoError, FormatError, Unsupported, OutOfMemory}
+use Rattle.claxon_input.specs.Stream.{Stream, Went, Stuck, FailedIn, IsFaultOf, Stops, Gives, Starved, GivesOrStarves}
 
 -- nothing was done
 pub went_none : {X : Type 0} (a : Stream X) (P : List X → List X → Type 0) → P a.coming a.coming → Went a a P
@@ -80,3 +80,33 @@ stops_as {e = e} {read = read} {whole = whole} {a = a} {b = b} {c = c} h k = rec
   fault = λ i. went_both (λ s m. IsFaultOf e (whole s) m) h (k.fault i) (λ p q. fault_of e (read b.coming) (whole a.coming) c.coming p.fault q);
   named = k.named;
 }
+
+-- ---- calls that take memory
+
+-- want of memory after something was done
+pub starved_after : {X : Type 0} {a b c : Stream X} {P : List X → List X → Type 0} → Went a b P → Starved b c → Starved a c
+starved_after h k = record { went = went_both _ h k.went (λ p q. tt) }
+
+-- a call that takes no memory is never refused any
+pub starves_never : {X A Y : Type 0} (view : A → Y) (r : Result A Error) (read : List X → Reading X Y) (a b : Stream X) → Gives view r read a b → GivesOrStarves view r read a b
+starves_never view (Ok x) read a b h = h
+starves_never view (Err (IoError cause)) read a b h = h
+starves_never view (Err (FormatError text)) read a b h = h
+starves_never view (Err (Unsupported text)) read a b h = h
+starves_never view (Err OutOfMemory) read a b h = let k = h.named in absurd cc
+
+-- want of memory, or what a call gives that takes none
+pub fed : {X A Y : Type 0} (view : A → Y) (r : Result A Error) (read : List X → Reading X Y) (a b : Stream X) → GivesOrStarves view r read a b → ((r ≡ Err OutOfMemory) × Starved a b) ⊎ Gives view r read a b
+fed view (Ok x) read a b h = inr h
+fed view (Err (IoError cause)) read a b h = inr h
+fed view (Err (FormatError text)) read a b h = inr h
+fed view (Err (Unsupported text)) read a b h = inr h
+fed view (Err OutOfMemory) read a b h = inl (refl, h)
+
+-- the call that such a function ends with
+pub starves_after : {X A Y : Type 0} (view : A → Y) {next whole : List X → Reading X Y} {a b : Stream X} (r : Result A Error) (c : Stream X) → Went a b (λ s m. whole s ≡ next m) → GivesOrStarves view r next b c → GivesOrStarves view r whole a c
+starves_after view (Err OutOfMemory) c h k = starved_after h k
+starves_after view (Ok x) c h k = gives_after view (Ok x) c h k
+starves_after view (Err (IoError cause)) c h k = gives_after view (Err (IoError cause)) c h k
+starves_after view (Err (FormatError text)) c h k = gives_after view (Err (FormatError text)) c h k
+starves_after view (Err (Unsupported text)) c h k = gives_after view (Err (Unsupported text)) c h k

@@ -1,5 +1,5 @@
 -- Remainders that go on from byte to byte.
-use Rattle.std.specs.Prelude.{◌≡◌, ℕ, ◌+◌, ◌-◌, ◌*◌, ◌%◌, ◌^◌, false, bit_xor, List, [], ◌∷◌, ◌++◌, replicate}
+use Rattle.std.specs.Prelude.{◌≡◌, ℕ, ◌-◌, ◌*◌, ◌%◌, ◌^◌, false, bit_xor, List, [], ◌∷◌, ◌++◌, replicate}
 use Rattle.claxon_format.specs.Bits.{bits_of}
 use Rattle.claxon_format.specs.Guards.{divide, crc8, crc16}
 

@@ -7,7 +7,7 @@ use Rattle.claxon_format.specs.Bits.{bits_of}
 use Rattle.claxon_format.specs.Fault.{Fault, fault_text, faults, is_unsupported}
 use Rattle.claxon_format.specs.Reading.{Reading, Done, Faulty, Short}
 use Rattle.claxon_input.specs.Source.{Source}
-use Rattle.claxon_input.specs.BitSource.{BitState, bit_state}
+use Rattle.claxon_input.specs.BitSource.{bit_state}
 use Rattle.claxon_input.specs.declared.bits.Bitstream.{Bitstream}
 use Rattle.claxon_input.specs.declared.error.Error.{Error}
 use Rattle.claxon_input.specs.declared.error.Error.TheVariants.{IoError, FormatError, Unsupported, OutOfMemory}

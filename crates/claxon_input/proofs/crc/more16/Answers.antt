@@ -1,4 +1,4 @@
-use Rattle.std.proofs.Common.{arith, refl, sym, ap, ◌∙◌, ◌≡◌, ◌+◌, ◌*◌, ◌/◌, [], get_or, drop, length}
+use Rattle.std.proofs.Common.{arith, refl, ap, ◌∙◌, ◌≡◌, ◌+◌, ◌*◌, ◌/◌, [], get_or, drop, length}
 use Rattle.claxon_input.specs.Remainders.{check16}
 use Rattle.claxon_input.proofs.Remainders.{check-piece, piece_at}
 use Rattle.claxon_input.proofs.crc.more16.Goals as goal

@@ -1,4 +1,4 @@
-use Rattle.std.proofs.Common.{◌≡◌, ◌*◌, ◌≤◌, drop, length}
+use Rattle.std.proofs.Common.{◌≡◌, ◌*◌, drop}
 use Rattle.claxon_input.specs.Remainders.{check16}
 use Rattle.claxon_input.proofs.crc.more16.Given as goal
 

@@ -1,4 +1,4 @@
-use Rattle.std.proofs.Common.{arith, rules, ap, ◌∙◌, ◌++◌, sym}
+use Rattle.std.proofs.Common.{rules, ap, ◌∙◌, ◌++◌, sym}
 use Rattle.claxon_input.proofs.Sources.{takes_checked, same_front, refuses_more, refuses_checked, on_err}
 use Rattle.claxon_input.proofs.crc.CheckedReader.skip_some.Goals as goal
 

@@ -1,4 +1,4 @@
-use Rattle.std.proofs.Common.{rules, ◌≡◌, ℕ, List, length, replicate, refl}
+use Rattle.std.proofs.Common.{replicate, refl}
 use Rattle.std.proofs.Math.ListN.{length-replicate}
 use Rattle.claxon_input.proofs.tests.ZerosReadBytes.skip.Goals as goal
 
