@@ -20,11 +20,11 @@ or_false : (a b : Bool) → (a || b) ≡ false → (a ≡ false) × (b ≡ false
 or_false true b e = absurd cc
 or_false false b e = (refl, e)
 
-not_true : (b : Bool) → not b ≡ false → b ≡ true
+pub not_true : (b : Bool) → not b ≡ false → b ≡ true
 not_true true e = refl
 not_true false e = absurd cc
 
-not_false : (b : Bool) → b ≡ true → not b ≡ false
+pub not_false : (b : Bool) → b ≡ true → not b ≡ false
 not_false b e = rw e refl
 
 -- where the name ends, the first '=' stands
