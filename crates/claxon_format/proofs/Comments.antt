@@ -16,7 +16,7 @@ use Rattle.claxon_format.proofs.Metadata.{Reads-bytes, Reads-little}
 
 -- ---- a text before and after its first '='
 
-or_false : (a b : Bool) → (a || b) ≡ false → (a ≡ false) × (b ≡ false)
+pub or_false : (a b : Bool) → (a || b) ≡ false → (a ≡ false) × (b ≡ false)
 or_false true b e = absurd cc
 or_false false b e = (refl, e)
 
