@@ -251,8 +251,20 @@ comment_to n c t (short, (large, (v, x, u, (vendor_small, (x-len, v-is)), (vendo
     let joined : t ≡ (x ++ y) ++ (z ++ q) = t-is ∙ ap (λ (r : List ℕ). x ++ r) (u-is ∙ ap (λ (r : List ℕ). y ++ r) w-is) ∙ sym (append_assoc x y (z ++ q)) in
     let len : length t ≡ (length x + length y) + (length z + length q) = ap length joined ∙ length-append (x ++ y) (z ++ q) ∙ ap₂ (λ (a b : ℕ). a + b) (length-append x y) (length-append z q) in
     let vendor-len : length y ≡ v = ap length y-is ∙ y-len in
-    rw c-is (e.texts, x ++ y, z, q, ltb-false _ _ large, omega arith, (x, (x-len, y-len ∙ v-is), ap (λ (r : List ℕ). x ++ r) y-is), IsUtf8-from_is_utf8 vendor (not_true _ utf8),
-    (z-len, e.count_is ∙ count-is), e.each, e.meant, joined)
+    rw c-is (
+      e.texts,
+      x ++ y,
+      z,
+      q,
+      ltb-false _ _ large,
+      omega arith,
+      (x, (x-len, y-len ∙ v-is), ap (λ (r : List ℕ). x ++ r) y-is),
+      IsUtf8-from_is_utf8 vendor (not_true _ utf8),
+      (z-len, e.count_is ∙ count-is),
+      e.each,
+      e.meant,
+      joined,
+    )
 
 comment_from : (n : ℕ) (c : Comment) (t : List ℕ) → CommentCode n c t → CommentTested n c t
 unfolding CommentTested
@@ -260,11 +272,27 @@ comment_from n c t (texts, x, y, z, most, len, (h, (h-len, v-is), x-is), utf8, (
     let joined : t ≡ h ++ (c.vendor ++ (y ++ z)) = t-is ∙ ap (λ (r : List ℕ). r ++ (y ++ z)) x-is ∙ append_assoc h c.vendor (y ++ z) in
     let lens : length t ≡ length h + (length c.vendor + (length y + length z)) = ap length joined ∙ length-append h (c.vendor ++ (y ++ z)) ∙ ap (λ (m : ℕ). length h + m) (length-append c.vendor (y ++ z) ∙ ap (λ (m : ℕ). length c.vendor + m) (length-append y z)) in
     let least = each_least texts z each in
-    let after : length z ≡ n - 8 - length c.vendor = omega arith in
-    (le-ltb _ _ (omega arith), (le-ltb _ _ most,
-    (length c.vendor, h, c.vendor ++ (y ++ z), (le-ltb _ _ (omega arith), (h-len, v-is)),
-    (c.vendor, c.vendor, y ++ z, (not_false _ (is_utf8-from_IsUtf8 c.vendor utf8), (refl, refl)),
-    (length texts, y, z, (lt-leb _ _ (omega arith), (y-len, count-is)), (c.entries, entries_from texts (length texts) (n - 8 - length c.vendor) c.entries z refl each meant after, refl), refl), refl), joined)))
+    let after : length z ≡ n - 8 - length c.vendor = omega arith in (
+      le-ltb _ _ (omega arith),
+      (
+        le-ltb _ _ most,
+        (
+          length c.vendor,
+          h,
+          c.vendor ++ (y ++ z),
+          (le-ltb _ _ (omega arith), (h-len, v-is)),
+          (
+            c.vendor,
+            c.vendor,
+            y ++ z,
+            (not_false _ (is_utf8-from_IsUtf8 c.vendor utf8), (refl, refl)),
+            (length texts, y, z, (lt-leb _ _ (omega arith), (y-len, count-is)), (c.entries, entries_from texts (length texts) (n - 8 - length c.vendor) c.entries z refl each meant after, refl), refl),
+            refl,
+          ),
+          joined,
+        ),
+      ),
+    )
 
 pub Reads-vendor_length : (most : ℕ) → Reads ℕ ℕ (vendor_length_at most) (VendorLength most) (VendorLengthFault most)
 unfolding vendor_length_at

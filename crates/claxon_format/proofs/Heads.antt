@@ -149,7 +149,7 @@ later_more : (o : Options) (k : ℕ) (found r : Option Comment) (t x u : List �
     → Others o k (found_with found b.content) r u → t ≡ x ++ u → Others o (suc k) found r t
 later_more o k found r t x u b w code plain single going rest t-is =
     let l : listed found ++ comments_in (b ∷ rest.next ∷ rest.others) ≡ listed (found_with found b.content) ++ comments_in (rest.next ∷ rest.others) =
-        sym (append_assoc (listed found) (comment_of b.content) (comments_in (rest.next ∷ rest.others))) ∙ ap (λ (z : List Comment). z ++ comments_in (rest.next ∷ rest.others)) (sym (found_listed found b.content single)) in
+    sym (append_assoc (listed found) (comment_of b.content) (comments_in (rest.next ∷ rest.others))) ∙ ap (λ (z : List Comment). z ++ comments_in (rest.next ∷ rest.others)) (sym (found_listed found b.content single)) in
     let f = rest.few in
     record {
       next = b;
@@ -187,7 +187,7 @@ others_from o (c ∷ others) (suc k) b found r t w few (x, u, code, each, t-is) 
     let p : (is_info b.content ≡ false) × (list_any (λ b. is_info b.content) (c ∷ others) ≡ false) = or_false _ _ plain in
     let single = not_second found b.content (comments_in (c ∷ others)) one in
     let l : listed found ++ comments_in (b ∷ c ∷ others) ≡ listed (found_with found b.content) ++ comments_in (c ∷ others) =
-        sym (append_assoc (listed found) (comment_of b.content) (comments_in (c ∷ others))) ∙ ap (λ (z : List Comment). z ++ comments_in (c ∷ others)) (sym (found_listed found b.content single)) in
+    sym (append_assoc (listed found) (comment_of b.content) (comments_in (c ∷ others))) ∙ ap (λ (z : List Comment). z ++ comments_in (c ∷ others)) (sym (found_listed found b.content single)) in
     let going : is_done o.metadata_only found b ≡ false = end_same o found b w ∙ ends.0 in
     let rest = others_from o others k c (found_with found b.content) r u (wishes_next o found b w going) (omega arith) each p.1 (rw (← l) one) ends.1 (shown ∙ ap first l) in
     (b, x, u, code, (p.0, (single, rw going rest)), t-is)

@@ -104,7 +104,7 @@ one_stream wants s h g blocks others r q a b =
     let same = one_reading Head (head_at (with_samples wants)) (HeadCode (with_samples wants)) (HeadFault (with_samples wants)) (Reads-head (with_samples wants)) h g a.front b.front a.frames b.frames a.head b.head (sym a.joined ∙ b.joined) in
     let rest : a.frames ≡ b.frames = append_cancel_left a.front a.frames b.frames (sym a.joined ∙ b.joined ∙ ap (λ (z : List ℕ). z ++ b.frames) (sym same.1)) in
     let blocks_are : Frames (Some (stream_of h.info)) a.frames others q =
-        subst (λ (z : Head). Frames (Some (stream_of z.info)) a.frames others q) (sym same.0) (subst (λ (z : List ℕ). Frames (Some (stream_of g.info)) z others q) (sym rest) b.blocks_are) in
+    subst (λ (z : Head). Frames (Some (stream_of z.info)) a.frames others q) (sym same.0) (subst (λ (z : List ℕ). Frames (Some (stream_of g.info)) z others q) (sym rest) b.blocks_are) in
     let complete : IsComplete (Some (stream_of h.info)) q = subst (λ (z : Head). IsComplete (Some (stream_of z.info)) q) (sym same.0) b.complete in
     let run = one_run (Some (stream_of h.info)) (head_width (with_samples wants) h a.front a.head) a.frames r q blocks others a.blocks_are a.complete blocks_are complete in
     (same.0, run.0, run.1)
