@@ -1,0 +1,5 @@
+use Rattle.claxon_format.proofs.Blocks.{Reads-body as law}
+use Rattle.claxon_format.proofs.body_reads.Goals as goal
+
+pub returns : goal.returns
+returns c = law

@@ -1,0 +1,5 @@
+use Rattle.claxon_format.proofs.Coded.{Reads-spelled as law}
+use Rattle.claxon_format.proofs.coded_number_reads.Goals as goal
+
+pub returns : goal.returns
+returns c = law

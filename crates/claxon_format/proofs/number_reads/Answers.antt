@@ -1,0 +1,5 @@
+use Rattle.claxon_format.proofs.Numbers.{Reads-number as law}
+use Rattle.claxon_format.proofs.number_reads.Goals as goal
+
+pub returns : goal.returns
+returns c = law

@@ -1,0 +1,5 @@
+use Rattle.claxon_format.proofs.Formats.{plans_written as law}
+use Rattle.claxon_format.proofs.plans_written.Goals as goal
+
+pub returns : goal.returns
+returns c = law

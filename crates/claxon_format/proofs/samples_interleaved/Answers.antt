@@ -1,0 +1,5 @@
+use Rattle.claxon_format.proofs.Formats.{samples_interleaved as law}
+use Rattle.claxon_format.proofs.samples_interleaved.Goals as goal
+
+pub returns : goal.returns
+returns c = law

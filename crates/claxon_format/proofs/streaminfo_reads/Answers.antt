@@ -1,0 +1,5 @@
+use Rattle.claxon_format.proofs.Streaminfos.{Reads-streaminfo as law}
+use Rattle.claxon_format.proofs.streaminfo_reads.Goals as goal
+
+pub returns : goal.returns
+returns c = law

@@ -1,0 +1,5 @@
+use Rattle.claxon_format.proofs.Tags.{tags_split as law}
+use Rattle.claxon_format.proofs.tags_split.Goals as goal
+
+pub returns : goal.returns
+returns c = law

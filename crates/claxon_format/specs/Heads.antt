@@ -1,0 +1,137 @@
+-- The head of a stream: its marker and metadata blocks (RFC 9639, sections 6 and 8). `HeadCode` is the code, `head_at` its reader.
+use Rattle.std.specs.Prelude.{◌≡◌, ℕ, zero, suc, ◌/◌, ◌<◌, ◌≤◌, Bool, true, false, cond, not, ◌==◌, ◌&&◌, ◌||◌, List, [], ◌∷◌, ◌++◌, length, Option, Some, None}
+use Rattle.std.specs.List.{list_any}
+use Rattle.claxon_format.specs.Fault.{Fault, Id3Header, StreamMarker, StreaminfoMissing, SecondComment, SecondStreaminfo, TooManyBlocks}
+use Rattle.claxon_format.specs.Reading.{Reading, Each, ThenFault, MeetsOr, Met, Never, choose, pick, and_then, done, test, fails}
+use Rattle.claxon_format.specs.Metadata.{Big, big_at}
+use Rattle.claxon_format.specs.Streaminfo.{Streaminfo}
+use Rattle.claxon_format.specs.Comments.{Comment}
+use Rattle.claxon_format.specs.Blocks.{Content, Info, Comments, MetadataBlock, BlockCode, BlockFault, block_at}
+
+-- which metadata is wished: that alone, or samples after it; and whether comments are
+pub record Options : Type 0 where
+  pub metadata_only : Bool
+  pub wants_comment : Bool
+
+-- what is shown
+pub record Head : Type 0 where
+  pub info : Streaminfo
+  pub comment : Option Comment
+
+abbrev pub is_info : Content → Bool
+is_info (Info i) = true
+is_info _ = false
+
+abbrev pub is_comment : Content → Bool
+is_comment (Comments c) = true
+is_comment _ = false
+
+-- `fLaC`, big-endian
+abbrev pub stream_marker : ℕ
+stream_marker = 0x664c6143
+
+abbrev pub Marker : ℕ → List ℕ → Type 0
+Marker m t = (m ≡ stream_marker) × Big 4 m t
+
+-- the standard sets no limit
+abbrev pub most_blocks : ℕ
+most_blocks = 65536
+
+-- ---- the code
+
+-- a block at which no more is wished: the comments, or the streaminfo where no comments are wished
+abbrev pub is_enough : Options → Content → Bool
+is_enough o c = o.metadata_only && cond o.wants_comment (is_comment c) (is_info c)
+
+abbrev pub is_end : Options → MetadataBlock → Bool
+is_end o b = b.is_last || is_enough o b.content
+
+-- of a block and those after it just the last is an end
+abbrev pub Ends : Options → MetadataBlock → List MetadataBlock → Type 0
+Ends o b [] = is_end o b ≡ true
+Ends o b (c ∷ others) = (is_end o b ≡ false) × Ends o c others
+
+abbrev pub comment_of : Content → List Comment
+comment_of (Comments c) = c ∷ []
+comment_of _ = []
+
+abbrev pub comments_in : List MetadataBlock → List Comment
+comments_in [] = []
+comments_in (b ∷ others) = comment_of b.content ++ comments_in others
+
+abbrev pub first : List Comment → Option Comment
+first [] = None
+first (c ∷ others) = Some c
+
+-- the streaminfo comes first and nowhere else, at most one block has comments, and just the last block is an end
+pub record IsHead (o : Options) (h : Head) (b : MetadataBlock) (others : List MetadataBlock) : Type 0 where
+  pub info : b.content ≡ Info h.info
+  pub no_info : list_any (λ b. is_info b.content) others ≡ false
+  pub one_comment : length (comments_in others) ≤ 1
+  pub few : length others < most_blocks
+  pub ends : Ends o b others
+  pub comment : h.comment ≡ cond o.wants_comment (first (comments_in others)) None
+
+abbrev pub HeadCode : Options → Head → List ℕ → Type 0
+HeadCode o h t =
+    (b : MetadataBlock) × (others : List MetadataBlock) × (x : List ℕ) × (y : List ℕ) × (z : List ℕ)
+    × Big 4 stream_marker x × BlockCode b y × Each BlockCode others z × IsHead o h b others × (t ≡ x ++ (y ++ z))
+
+-- ---- faults, block by block
+
+abbrev pub is_some : Option Comment → Bool
+is_some None = false
+is_some (Some c) = true
+
+-- the comments that were found, after one more block
+abbrev pub found_with : Option Comment → Content → Option Comment
+found_with found (Comments c) = Some c
+found_with found _ = found
+
+abbrev pub is_second : Option Comment → Content → Bool
+is_second found c = is_comment c && is_some found
+
+-- nothing is wished after this block
+abbrev pub is_done : Bool → Option Comment → MetadataBlock → Bool
+is_done suffices found b = b.is_last || (suffices && is_some (found_with found b.content))
+
+-- of the blocks after the streaminfo, of which so many may come
+abbrev pub OthersFault : Bool → ℕ → Option Comment → Fault → List ℕ → Type 0
+OthersFault suffices zero found = Met TooManyBlocks
+OthersFault suffices (suc k) found =
+    ThenFault BlockCode BlockFault (λ b. MeetsOr (is_info b.content) SecondStreaminfo (MeetsOr (is_second found b.content) SecondComment (
+    choose (is_done suffices found b) Never (OthersFault suffices k (found_with found b.content)))))
+
+-- the streaminfo ends the head
+abbrev pub is_short : Options → Bool → Bool
+is_short o is_last = is_last || (o.metadata_only && not o.wants_comment)
+
+abbrev pub FirstFault : Options → Bool → Content → Fault → List ℕ → Type 0
+FirstFault o is_last (Info i) = choose (is_short o is_last) Never (OthersFault o.metadata_only 65535 None)
+FirstFault o is_last _ = Met StreaminfoMissing
+
+-- an ID3 tag begins with 49 44 33
+abbrev pub MarkerFault : Fault → List ℕ → Type 0
+MarkerFault = ThenFault (Big 4) Never (λ m. MeetsOr (m / 256 == 0x494433) Id3Header (MeetsOr (not (m == stream_marker)) StreamMarker Never))
+
+abbrev pub HeadFault : Options → Fault → List ℕ → Type 0
+HeadFault o = ThenFault Marker MarkerFault (λ m. ThenFault BlockCode BlockFault (λ b. FirstFault o b.is_last b.content))
+
+-- ---- the reader
+
+unfoldable pub marker_at : List ℕ → Reading ℕ ℕ
+marker_at = and_then (big_at 4) (λ m. test (m / 256 == 0x494433) Id3Header (test (not (m == stream_marker)) StreamMarker (done m)))
+
+unfoldable pub others_at : Bool → ℕ → Option Comment → List ℕ → Reading ℕ (Option Comment)
+others_at suffices zero found = fails TooManyBlocks
+others_at suffices (suc k) found =
+    and_then block_at (λ b. test (is_info b.content) SecondStreaminfo (test (is_second found b.content) SecondComment (
+    pick (is_done suffices found b) (done (found_with found b.content)) (others_at suffices k (found_with found b.content)))))
+
+unfoldable pub after_first : Options → Bool → Content → List ℕ → Reading ℕ Head
+after_first o is_last (Info i) =
+    and_then (pick (is_short o is_last) (done None) (others_at o.metadata_only 65535 None)) (λ found. done (record { info = i; comment = cond o.wants_comment found None }))
+after_first o is_last _ = fails StreaminfoMissing
+
+unfoldable pub head_at : Options → List ℕ → Reading ℕ Head
+head_at o = and_then marker_at (λ m. and_then block_at (λ b. after_first o b.is_last b.content))

@@ -1,0 +1,18 @@
+-- Names and values of Vorbis comments (RFC 9639, section 8.6).
+use Rattle.std.specs.Prelude.{◌≡◌, ℕ, ◌+◌, cond, nat_lt, List, take, drop, map}
+use Rattle.claxon_format.specs.Comments.{Entry}
+
+-- the text before the place, and the text after the character there
+abbrev pub pair : Entry → List ℕ × List ℕ
+pair e = (take e.place e.text, drop (e.place + 1) e.text)
+
+abbrev pub pairs : List Entry → List (List ℕ × List ℕ)
+pairs entries = map pair entries
+
+-- 0x41 to 0x5a, the letters A to Z, are as 0x61 to 0x7a
+abbrev pub lower : ℕ → ℕ
+lower y = cond (nat_lt y 0x41) y (cond (nat_lt y 0x5b) (y + 0x20) y)
+
+-- two names are the same
+abbrev pub Same : List ℕ → List ℕ → Type 0
+Same a b = map lower a ≡ map lower b
