@@ -7,6 +7,8 @@ ghost use Rattle.claxon.specs.Kinds.{fixed_order, lpc_order};
 ghost use Rattle.claxon.specs.Partitions.{lengths, total};
 
 mod predictor;
+#[cfg(test)]
+mod tests;
 
 use crate::error::{Error, Result};
 use crate::input::{Bitstream, ReadBytes};

@@ -3,6 +3,9 @@ ghost use Rattle.std.specs.Prelude.{Option, Some, ◌≡◌, ℕ, ℤ, ◌<◌, 
 ghost use Rattle.std.specs.Iterator.{YieldsFirst, item_count};
 ghost use Rattle.claxon.specs.Channels.{BlockValue, chunks, duration_of, joined};
 
+#[cfg(test)]
+mod tests;
+
 use std::alloc::{Allocator, Global};
 use std::marker::Model;
 

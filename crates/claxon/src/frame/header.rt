@@ -5,6 +5,9 @@ ghost use Rattle.claxon.specs.Assignment.{channels_of, least_size, widest};
 ghost use Rattle.claxon.specs.Errors.{is_memory};
 ghost use Rattle.claxon.specs.Loans.{KeepsLoans};
 
+#[cfg(test)]
+mod tests;
+
 use crate::error::{Error, Result};
 use crate::input::ReadBytes;
 use claxon_input::crc::Crc8Reader;

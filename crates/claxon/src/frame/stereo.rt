@@ -1,4 +1,7 @@
 //! Left and right from two coded channels, in place (RFC 9639, section 4.2). All sums are modulo 2^32.
+#[cfg(test)]
+mod tests;
+
 use super::header::ChannelAssignment;
 
 /// Turns the coded channels, which stand one after another, into those that they stand for.

@@ -1,0 +1,50 @@
+//! Samples at their places.
+use super::*;
+use std::test::Fail;
+
+#[test]
+fn three_channels(rt: HostRuntime) -> Result<(), Fail> {
+    let numbers = [2, 3, 5, 7, 11, 13, 17, 19, 23, 29, 31, 37, 41, 43, 47];
+    let block = Block::new(7, 3, 5, Vec::from_slice(rt.alloc(), &numbers)?);
+    assert_eq!(rt;
+        (
+            block.time(),
+            block.channels(),
+            block.duration(),
+            block.len()
+        ),
+        (7, 3, 5, 15)
+    );
+    assert_eq!(rt; block.sample(0, 2), 5);
+    assert_eq!(rt; block.sample(1, 3), 23);
+    assert_eq!(rt; block.sample(2, 4), 47);
+    assert_eq!(rt; block.channel(1), [13, 17, 19, 23, 29].as_slice());
+    assert_eq!(rt; block.into_buffer().as_slice(), numbers.as_slice());
+    Ok(())
+}
+
+#[test]
+fn stereo_pairs(rt: HostRuntime) -> Result<(), Fail> {
+    let block = Block::new(0, 2, 3, Vec::from_slice(rt.alloc(), &[2, 3, 5, 7, 11, 13])?);
+    let mut pairs = block.stereo_samples();
+    assert_eq!(rt; pairs.next(), Some((2, 7)));
+    assert_eq!(rt; pairs.next(), Some((3, 11)));
+    assert_eq!(rt; pairs.next(), Some((5, 13)));
+    assert_eq!(rt; pairs.next(), None);
+    Ok(())
+}
+
+#[test]
+fn an_empty_block(rt: HostRuntime) {
+    let block = Block::empty(rt.alloc());
+    assert_eq!(rt;
+        (
+            block.time(),
+            block.channels(),
+            block.duration(),
+            block.len()
+        ),
+        (0, 0, 0, 0)
+    );
+    assert!(rt; block.into_buffer().is_empty());
+}

@@ -1,0 +1,230 @@
+//! What calls answered, in forms that can be compared, and bytes that serve in many places.
+ghost use Rattle.std.specs.Prelude.{◌≡◌};
+
+use claxon::frame::{FrameReader, FrameResult};
+use claxon::input::ReadBytes;
+use claxon::metadata::StreamInfo;
+use claxon::{Block, Error, FlacReader};
+use std::alloc::{AllocError, AllocFailed, Allocator, Global};
+use std::io::Read;
+
+/// A fault, whatever the cause of an `IoError` is.
+#[derive(PartialEq, Debug, Clone, Copy)]
+pub enum Fault {
+    Io,
+    Format(&'static str),
+    Unsupported(&'static str),
+    Memory,
+}
+
+pub fn fault_of(error: &Error) -> Fault {
+    match error {
+        Error::IoError(_) => Fault::Io,
+        Error::FormatError(text) => Fault::Format(*text),
+        Error::Unsupported(text) => Fault::Unsupported(*text),
+        Error::OutOfMemory => Fault::Memory,
+    }
+}
+
+/// What a block shows: of its buffer the first four samples, with zeros where there are fewer.
+#[derive(PartialEq, Debug, Clone, Copy)]
+pub struct Shown {
+    pub time: u64,
+    pub channels: u32,
+    pub duration: u32,
+    pub samples: [i32; 4],
+}
+
+/// What one call for a block answered.
+#[derive(PartialEq, Debug, Clone, Copy)]
+pub enum Step {
+    Block(Shown),
+    End,
+    Fault(Fault),
+}
+
+/// A block of one sample.
+pub fn mono(time: u64, sample: i32) -> Step {
+    Step::Block(Shown {
+        time,
+        channels: 1,
+        duration: 1,
+        samples: [sample, 0, 0, 0],
+    })
+}
+
+/// A block at time 0 of one stereo pair.
+pub fn pair(left: i32, right: i32) -> Step {
+    Step::Block(Shown {
+        time: 0,
+        channels: 2,
+        duration: 1,
+        samples: [left, right, 0, 0],
+    })
+}
+
+pub fn format(text: &'static str) -> Step {
+    Step::Fault(Fault::Format(text))
+}
+
+/// The first four of the samples.
+pub fn first_four(samples: &[i32]) -> [i32; 4] {
+    let mut four = [0; 4];
+    for (place, sample) in four.iter_mut().zip(samples) {
+        *place = *sample;
+    }
+    four
+}
+
+fn show<A: Allocator>(block: Block<A>) -> Shown {
+    let (time, channels, duration) = (block.time(), block.channels(), block.duration());
+    Shown {
+        time,
+        channels,
+        duration,
+        samples: first_four(block.into_buffer().as_slice()),
+    }
+}
+
+pub fn step_of<A: Allocator>(answer: FrameResult<A>) -> Step {
+    match answer {
+        Ok(Some(block)) => Step::Block(show(block)),
+        Ok(None) => Step::End,
+        Err(error) => Step::Fault(fault_of(&error)),
+    }
+}
+
+/// What the next call answers, into an empty buffer.
+pub fn next_step<R: ReadBytes>(alloc: Global, reader: &mut FrameReader<R>) -> Step {
+    step_of(reader.read_next_or_eof(Vec::new(alloc)))
+}
+
+/// What a stream gave by its samples: the first four of them, their number, and what ended them.
+#[derive(PartialEq, Debug, Clone, Copy)]
+pub struct Run {
+    pub samples: [i32; 4],
+    pub count: usize,
+    pub fault: Option<Fault>,
+}
+
+/// What the samples of an open stream give, from here on.
+pub fn rest_of<R: Read + Drop, A: Allocator + Copy>(flac: &mut FlacReader<R, A>) -> Run {
+    let mut run = Run {
+        samples: [0; 4],
+        count: 0,
+        fault: None,
+    };
+    if flac.is_metadata_only() {
+        return run;
+    }
+    for answer in flac.samples().take(100) {
+        match answer {
+            Ok(sample) => {
+                if run.count < 4 {
+                    run.samples[run.count] = sample;
+                }
+                run.count = run.count.saturating_add(1);
+            }
+            Err(error) => run.fault = Some(fault_of(&error)),
+        }
+    }
+    run
+}
+
+/// What the next call for a sample of an open stream answers. The rest of its block is lost.
+pub fn one_sample<R: Read + Drop>(flac: &mut FlacReader<R>) -> Result<Option<i32>, Fault> {
+    if flac.is_metadata_only() {
+        return Ok(None);
+    }
+    match flac.samples().next() {
+        Some(Ok(sample)) => Ok(Some(sample)),
+        Some(Err(error)) => Err(fault_of(&error)),
+        None => Ok(None),
+    }
+}
+
+/// Whether the next call for a sample fails, and whether each of the two calls after it answers none.
+pub fn after_error<R: Read + Drop>(flac: &mut FlacReader<R>) -> (bool, bool, bool) {
+    if flac.is_metadata_only() {
+        return (false, false, false);
+    }
+    let mut samples = flac.samples();
+    let fails = matches!(samples.next(), Some(Err(_)));
+    (fails, samples.next().is_none(), samples.next().is_none())
+}
+
+/// What the next call for a block of an open stream answers.
+pub fn one_block<R: Read + Drop>(alloc: Global, flac: &mut FlacReader<R>) -> Step {
+    if flac.is_metadata_only() {
+        return Step::End;
+    }
+    next_step(alloc, &mut flac.blocks())
+}
+
+/// What a stream gives, or the fault that keeps it from being opened.
+pub fn run_of<R: Read + Drop, A: Allocator + Copy>(alloc: A, reader: R) -> Result<Run, Fault> {
+    match FlacReader::new(alloc, reader) {
+        Ok(flac) => {
+            let mut flac = flac;
+            Ok(rest_of(&mut flac))
+        }
+        Err(error) => Err(fault_of(&error)),
+    }
+}
+
+/// What a stream gives whose samples are few and end without a fault.
+pub fn clean(samples: &[i32]) -> Result<Run, Fault> {
+    Ok(Run {
+        samples: first_four(samples),
+        count: samples.len(),
+        fault: None,
+    })
+}
+
+/// The marker and a streaminfo of blocks of 16 samples, 44,100 Hz, one channel of 8 bits, and one sample. The first byte
+/// of its block is 0x80 where it is the last.
+pub fn head(first: u8) -> [u8; 42] {
+    let mut bytes = [0; 42];
+    bytes[..26].copy_from_slice(&[
+        0x66, 0x4c, 0x61, 0x43, first, 0x00, 0x00, 0x22, 0x00, 0x10, 0x00, 0x10, 0x00, 0x00, 0x00,
+        0x00, 0x00, 0x00, 0x0a, 0xc4, 0x40, 0x70, 0x00, 0x00, 0x00, 0x01,
+    ]);
+    bytes
+}
+
+/// The number of the first frame, and one sample, 5.
+pub const FRAME: [u8; 11] = [
+    0xff, 0xf8, 0x69, 0x02, 0x00, 0x00, 0x9a, 0x00, 0x05, 0x34, 0x58,
+];
+
+/// The content of a comment block: no vendor, an empty entry and `X=Y`.
+pub const COMMENT: [u8; 19] = [
+    0x00, 0x00, 0x00, 0x00, 0x02, 0x00, 0x00, 0x00, 0x00, 0x00, 0x00, 0x00, 0x03, 0x00, 0x00, 0x00,
+    0x58, 0x3d, 0x59,
+];
+
+/// The parts, one after another.
+pub fn joined(alloc: Global, parts: &[&[u8]]) -> Result<Vec<u8>, AllocError> {
+    let mut bytes = Vec::new(alloc);
+    for part in parts {
+        bytes.extend_from_slice(*part)?;
+    }
+    Ok(bytes)
+}
+
+/// What is known of a stream of samples of so many bits, in blocks between 16 and so many.
+pub fn stream_info(bits_per_sample: u32, max_block_size: u16) -> StreamInfo
+    ensures { result.bits_per_sample ≡ bits_per_sample }
+{
+    StreamInfo {
+        min_block_size: 16,
+        max_block_size,
+        min_frame_size: None,
+        max_frame_size: None,
+        sample_rate: 44100,
+        channels: 1,
+        bits_per_sample,
+        samples: None,
+        md5sum: [0; 16],
+    }
+}

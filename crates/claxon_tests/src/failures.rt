@@ -1,0 +1,81 @@
+//! Memory that is refused.
+use crate::answers::{
+    COMMENT, FRAME, Fault, Step, clean, fault_of, format, head, joined, mono, run_of, step_of,
+};
+use claxon::frame::FrameReader;
+use claxon::metadata::{MetadataBlock, read_metadata_block_with_header};
+use linked_list_allocator::LocalHeap;
+use std::io::Cursor;
+use std::test::Fail;
+
+// Heaps of so many sizes: what doesn't fit is refused, so that each request is refused at some of them.
+const SIZES: usize = 600;
+
+#[test]
+fn streams(rt: HostRuntime) -> Result<(), Fail> {
+    let bytes = joined(
+        rt.alloc(),
+        &[&head(0x00), &[0x84, 0x00, 0x00, 0x13], &COMMENT, &FRAME],
+    )?;
+    let mut refused = 0usize;
+    for size in 0..SIZES {
+        let heap = LocalHeap::new(rt.alloc(), 8 * size)?;
+        match run_of(&heap, Cursor::new(bytes.as_slice())) {
+            Err(Fault::Memory) => refused = refused.saturating_add(1),
+            Ok(run) if run.fault == Some(Fault::Memory) => refused = refused.saturating_add(1),
+            run => assert_eq!(rt; run, clean(&[5]), "{size}"),
+        }
+        assert_eq!(rt; heap.used(), 0);
+    }
+    // The byte buffer alone has 2048 bytes.
+    assert!(rt; refused > 256 && refused < 300, "{refused}");
+    Ok(())
+}
+
+#[test]
+fn application_blocks(rt: HostRuntime) -> Result<(), Fail> {
+    let bytes = [0x02, 0x00, 0x00, 0x05, 0x00, 0x00, 0x00, 0x07, 0x09];
+    let mut refused = 0u32;
+    for size in 0..16usize {
+        let heap = LocalHeap::new(rt.alloc(), 8 * size)?;
+        let hold = Vec::<u8, &LocalHeap>::with_capacity(&heap, 8);
+        match read_metadata_block_with_header(&heap, &mut Cursor::new(bytes.as_slice())) {
+            Ok(block) => assert!(rt; matches!(block, MetadataBlock::Application { id: 7, .. })),
+            Err(error) => {
+                assert_eq!(rt; fault_of(&error), Fault::Memory);
+                refused = refused.saturating_add(1);
+            }
+        }
+        let _ = hold;
+    }
+    assert!(rt; refused > 0 && refused < 8, "{refused}");
+    Ok(())
+}
+
+// The header is taken, so the next call reads what follows it.
+#[test]
+fn a_buffer_that_cannot_grow(rt: HostRuntime) -> Result<(), Fail> {
+    let heap = LocalHeap::new(rt.alloc(), 16)?;
+    let last = Vec::<i32, &LocalHeap>::with_capacity(&heap, 4)?;
+    let mut reader = FrameReader::new(Cursor::new(FRAME.as_slice()));
+    let answer = step_of(reader.read_next_or_eof(Vec::new(&heap)));
+    assert_eq!(rt; answer, Step::Fault(Fault::Memory));
+    let mut reader = FrameReader::new(reader.into_inner());
+    let answer = step_of(reader.read_next_or_eof(Vec::new(&heap)));
+    assert_eq!(rt; answer, format("frame sync code missing"));
+    // The header and the two bytes after it.
+    assert_eq!(rt; reader.into_inner().position(), 9);
+    assert_eq!(rt; last.capacity(), 4);
+    Ok(())
+}
+
+#[test]
+fn a_buffer_that_suffices(rt: HostRuntime) -> Result<(), Fail> {
+    let heap = LocalHeap::new(rt.alloc(), 16)?;
+    let buffer = Vec::with_capacity(&heap, 1)?;
+    let rest = Vec::<u8, &LocalHeap>::with_capacity(&heap, 1);
+    let mut reader = FrameReader::new(Cursor::new(FRAME.as_slice()));
+    assert_eq!(rt; step_of(reader.read_next_or_eof(buffer)), mono(0, 5));
+    let _ = rest;
+    Ok(())
+}

@@ -1,0 +1,19 @@
+//! Worked subframes, frames and streams, over readers that cut and fail and memory that is refused.
+#![tactic(auto)]
+
+#[cfg(test)]
+mod answers;
+#[cfg(test)]
+mod failures;
+#[cfg(test)]
+mod frames;
+#[cfg(test)]
+mod header_faults;
+#[cfg(test)]
+mod readers;
+#[cfg(test)]
+mod sources;
+#[cfg(test)]
+mod streams;
+#[cfg(test)]
+mod subframes;

@@ -1,0 +1,200 @@
+//! Subframes, and how many bytes of them are taken.
+ghost use Rattle.std.specs.Prelude.{◌≤◌};
+
+use crate::answers::{Fault, fault_of, first_four};
+use claxon::input::Bitstream;
+use claxon::subframe;
+use std::alloc::Global;
+use std::io::Cursor;
+use std::process::Abort;
+
+// The first four samples of a subframe of so many samples of this width, or the fault, and how many bytes were taken.
+fn decode(alloc: Global, bytes: &[u8], width: u32, len: u8) -> (Result<[i32; 4], Fault>, u64)
+    requires { width ≤ 32 }
+{
+    let Ok(bytes) = Vec::from_slice(alloc, bytes) else {
+        return (Err(Fault::Memory), 0);
+    };
+    let mut buffer = [13; 255];
+    let buffer = &mut buffer[..usize::from(len)];
+    let mut input = Cursor::new(bytes);
+    let answer = match subframe::decode(&mut Bitstream::new(&mut input), width, buffer) {
+        Ok(()) => Ok(first_four(buffer)),
+        Err(error) => Err(fault_of(&error)),
+    };
+    (answer, input.position())
+}
+
+// Each of the subframes, of samples of 8 bits, is these samples and nothing more.
+fn check(rt: &(impl Abort + AllocGlobal), rows: &[(&[u8], &[i32])]) {
+    for (bytes, want) in rows {
+        assert!(rt; want.len() < 256);
+        let (answer, taken) = decode(rt.alloc(), *bytes, 8, want.len() as u8);
+        assert_eq!(rt; answer, Ok(first_four(*want)), "{bytes:?}");
+        assert_eq!(rt; taken, bytes.len() as u64, "{bytes:?}");
+    }
+}
+
+// Each of the subframes, of so many samples of 8 bits, is refused at its last byte.
+fn check_refusals(rt: &(impl Abort + AllocGlobal), rows: &[(&[u8], u8, Fault)]) {
+    for (bytes, len, fault) in rows {
+        let (answer, taken) = decode(rt.alloc(), *bytes, 8, *len);
+        assert_eq!(rt; answer, Err(*fault), "{bytes:?}");
+        assert_eq!(rt; taken, bytes.len() as u64, "{bytes:?}");
+    }
+}
+
+#[test]
+fn verbatim_of_twelve_bits(rt: HostRuntime) {
+    let (answer, taken) = decode(rt.alloc(), &[0x02, 0xff, 0xf7, 0xff], 12, 2);
+    assert_eq!(rt; answer, Ok([-1, 2047, 0, 0]));
+    assert_eq!(rt; taken, 4);
+}
+
+#[test]
+fn no_width(rt: HostRuntime) {
+    let fault = Fault::Format("subframe has no non-wasted bits");
+    assert_eq!(rt; decode(rt.alloc(), &[0x00, 0x00], 0, 1), (Err(fault), 1));
+}
+
+#[test]
+fn linear_predictors(rt: HostRuntime) {
+    check(
+        &rt,
+        &[
+            // Precision 2, shift 1, coefficient 1, residuals 0 and 1: the floor of -5 halves is -3.
+            (&[0x40, 0xfb, 0x10, 0xa0, 0x04, 0x80], &[-5, -3, -1]),
+            // Precision 1, coefficient -1, shift 0, residuals 0 and 0.
+            (&[0x40, 0x05, 0x00, 0x40, 0x0c], &[5, -5, 5]),
+            // Precision 2, coefficient 1, shift 0, each residual 1.
+            (
+                &[0x40, 0x03, 0x10, 0x20, 0x01, 0x24, 0x92, 0x49, 0x24, 0x90],
+                &[3, 4, 5, 6, 7, 8, 9, 10, 11, 12, 13, 14, 15, 16],
+            ),
+        ],
+    );
+}
+
+#[test]
+fn residuals(rt: HostRuntime) {
+    check(
+        &rt,
+        &[
+            // A parameter of 5 bits, 16: samples wider than the width are accepted after a residual.
+            (&[0x10, 0x42, 0x10, 0x00, 0x24, 0x00, 0x04], &[1, -32769]),
+            // Parameter 30 and quotient 4: the number is 0 modulo 2^32.
+            (&[0x10, 0x43, 0xc1, 0x00, 0x00, 0x00, 0x00], &[0]),
+            // Order 2 and two partitions, the first one empty with the parameter 7; residuals 0 and -1.
+            (&[0x14, 0x01, 0x02, 0x05, 0xc2, 0x80], &[1, 2, 3, 3]),
+        ],
+    );
+}
+
+#[test]
+fn escapes(rt: HostRuntime) {
+    check(
+        &rt,
+        &[
+            // Entries of 5 bits.
+            (&[0x10, 0x03, 0xcb, 0xa0], &[-6]),
+            // Entries of no bits are zeros.
+            (&[0x10, 0x03, 0xc0], &[0, 0, 0]),
+            // After a parameter of 5 bits, entries of 2 bits.
+            (&[0x10, 0x43, 0xe2, 0x60], &[1, -2]),
+            // An empty first partition has its width too.
+            (&[0x14, 0x01, 0x02, 0x07, 0xc0, 0x14], &[1, 2, 3, 3]),
+        ],
+    );
+}
+
+#[test]
+fn refused_headers(rt: HostRuntime) {
+    let reserved = Fault::Format("invalid subframe header, encountered reserved value");
+    check_refusals(
+        &rt,
+        &[
+            (&[0x80], 1, Fault::Format("invalid subframe header")),
+            (&[0x04], 1, reserved),
+            (&[0x1a], 1, reserved),
+            (&[0x20], 1, reserved),
+            (
+                &[0x01, 0x00, 0x00, 0x00, 0x01],
+                1,
+                Fault::Format("wasted bits per sample must not exceed 31"),
+            ),
+            (
+                &[0x01, 0x01],
+                1,
+                Fault::Format("subframe has no non-wasted bits"),
+            ),
+        ],
+    );
+}
+
+#[test]
+fn refused_predictors(rt: HostRuntime) {
+    check_refusals(
+        &rt,
+        &[
+            (
+                &[0x14],
+                1,
+                Fault::Format("invalid fixed subframe, order is larger than block size"),
+            ),
+            (
+                &[0x40],
+                0,
+                Fault::Format("invalid LPC subframe, lpc order is larger than block size"),
+            ),
+            (
+                &[0x40, 0x05, 0xf0],
+                2,
+                Fault::Format("invalid subframe, qlp precision value invalid"),
+            ),
+            (
+                &[0x40, 0x05, 0x18, 0x00],
+                2,
+                Fault::Unsupported(
+                    "a negative quantized linear predictor coefficient shift is not supported, please file a bug.",
+                ),
+            ),
+        ],
+    );
+}
+
+#[test]
+fn refused_residuals(rt: HostRuntime) {
+    check_refusals(
+        &rt,
+        &[
+            (
+                &[0x10, 0x80],
+                1,
+                Fault::Format("invalid residual, encountered reserved value"),
+            ),
+            (&[0x10, 0x04], 3, Fault::Format("invalid partition order")),
+            (
+                &[0x14, 0x01, 0x02, 0x04],
+                2,
+                Fault::Format("invalid residual"),
+            ),
+        ],
+    );
+}
+
+// Without a sample a constant still has its value, and a residual its parameters.
+#[test]
+fn no_samples(rt: HostRuntime) {
+    check(
+        &rt,
+        &[
+            (&[0x00, 0x05], &[]),
+            (&[0x02], &[]),
+            (&[0x10, 0x00, 0x00], &[]),
+        ],
+    );
+    assert_eq!(rt;
+        decode(rt.alloc(), &[0x10, 0x00], 8, 0),
+        (Err(Fault::Io), 2)
+    );
+}
