@@ -3,7 +3,7 @@ use Rattle.std.proofs.Common.{List, sym, ◌∙◌, ℤ}
 use Rattle.claxon_format.specs.Readers.{subframe_at}
 use Rattle.claxon_format.specs.Subframe.{Subframe, SubframeFault}
 use Rattle.claxon_format.specs.Frame.{Block, Frame, FrameBytesFault, frame_bytes_at}
-use Rattle.claxon_format.specs.Writer.{write_bytes, written_block}
+use Rattle.claxon_format.specs.FrameWriter.{write_bytes, written_block}
 use Rattle.claxon_format.specs.Blocks.{Content, Body, BodyFault, body_at, MetadataBlock, BlockCode, BlockFault, block_at}
 use Rattle.claxon_format.specs.Heads.{Head, HeadCode, HeadFault, head_at}
 use Rattle.claxon_format.specs.Laws.{SubframesTold, FramesTold, BodiesTold, MetadataBlocksTold, HeadsTold, GuardsDivide, FramesDivide, ChannelsTold, MixingUndone, FramesLossless, PlansWritten, Interleaved}

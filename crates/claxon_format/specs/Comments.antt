@@ -1,4 +1,4 @@
--- The content of a Vorbis comment block (RFC 9639, section 8.6; RFC 9639, appendix D.2.3). `CommentCode` is the code, `comment_at` its reader.
+-- The content of a Vorbis comment block (RFC 9639, section 8.6). `CommentCode` is the code, `comment_at` its reader.
 use Rattle.std.specs.Prelude.{◌≡◌, ℕ, zero, suc, ◌-◌, ◌/◌, ◌≤◌, Bool, true, false, not, ◌==◌, ◌&&◌, nat_lt, nat_le, List, [], ◌∷◌, ◌++◌, length, IsUtf8}
 use Rattle.std.specs.List.{list_all, list_any, position_or_len, before_first}
 use Rattle.std.specs.Str.{is_utf8}
