@@ -213,6 +213,18 @@ pub yields_err : {X A Y E : Type 0} (view : A → Y) (r : Result A E) (read : Li
 yields_err view (Ok x) read a b h k = absurd cc
 yields_err view (Err e) read a b h k = k
 
+-- ---- a call that answers what another one did
+
+pub yields_number : {E : Type 0} (a b : BitState) (w : ℕ) (r : Result ℕ E) → IfOk r (λ n. n < 2 ^ w) → IfOk r (λ n. TakesNumber a b w n) → OnErr r (RefusesBits a b w)
+    → Yields (λ (n : ℕ). n) r (number_at w) (bits_in a) (bits_in b)
+yields_number a b w (Ok n) v h k = went_number n w v h
+yields_number a b w (Err e) v h k = stuck_number w k
+
+pub yields_unary : {E : Type 0} (a b : BitState) (r : Result ℕ E) → IfOk r (λ q. q < 2 ^ 32) → IfOk r (λ q. TakesBits a b (replicate q false ++ true ∷ [])) → OnErr r (RefusesOne a b)
+    → Yields (λ (q : ℕ). q) r unary_at (bits_in a) (bits_in b)
+yields_unary a b (Ok q) v h k = went_unary q v h
+yields_unary a b (Err e) v h k = stuck_unary k
+
 -- ---- a call that takes a number of bytes, as one that yields them
 
 pub yields_taken : {E R A : Type 0} (source : R → Source ℕ) (bytes : A → List ℕ) (n : ℕ) (r : Result A E) (a b : R) → ((x : A) → length (bytes x) ≡ n) → IfOk r (λ x. Takes (source a) (source b) (bytes x)) → OnErr r (Refuses (source a) (source b) n)
