@@ -1,5 +1,5 @@
 -- Worked rows: what the readers give for the bytes of some metadata blocks and heads.
-use Rattle.std.proofs.Common.{◌≡◌, ℕ, Bool, true, false, List, [], ◌∷◌, refl}
+use Rattle.std.proofs.Common.{◌≡◌, ℕ, Bool, true, false, List, [], ◌∷◌, ◌++◌, refl}
 use Rattle.std.specs.Prelude.{Option, Some, None}
 use Rattle.std.proofs.Math.Utf8.{encode}
 use Rattle.std.specs.Str.{chars, is_utf8}
@@ -11,7 +11,7 @@ use Rattle.claxon_format.specs.Metadata.{bytes_at, big_endian, little_endian, bi
 use Rattle.claxon_format.specs.Streaminfo.{Streaminfo, streaminfo_bits_at}
 use Rattle.claxon_format.specs.Comments.{Comment, Entry, entry_at, kept_at, entry_length_at, entries_at, vendor_length_at, vendor_at, count_at, comment_at}
 use Rattle.claxon_format.specs.Blocks.{Content, Info, Padding, Application, Comments, Reserved, MetadataBlock, info_body_at, application_at, body_at, block_at}
-use Rattle.claxon_format.specs.Heads.{Head, marker_at, others_at, after_first, head_at}
+use Rattle.claxon_format.specs.Heads.{Options, Head, marker_at, others_at, after_first, head_at}
 
 body : ℕ → ℕ → List ℕ → Reading ℕ Content
 unfolding bits bits_of number each_at times_at number_at bytes_at big_endian little_endian big_at little_at streaminfo_bits_at chars encode is_utf8 entry_at kept_at entry_length_at entries_at vendor_length_at vendor_at count_at comment_at info_body_at application_at body_at
@@ -163,6 +163,19 @@ rate_zero = refl
 rate_large : body 0 34 (0x00 ∷ 0x10 ∷ 0x00 ∷ 0x10 ∷ 0x00 ∷ 0x00 ∷ 0x00 ∷ 0x00 ∷ 0x00 ∷ 0x00 ∷ 0xa0 ∷ 0x00 ∷ 0x70 ∷ 0x70 ∷ 0x00 ∷ 0x00 ∷ 0x00 ∷ 0x01 ∷ 0x00 ∷ 0x00 ∷ 0x00 ∷ 0x00 ∷ 0x00 ∷ 0x00 ∷ 0x00 ∷ 0x00 ∷ 0x00 ∷ 0x00 ∷ 0x00 ∷ 0x00 ∷ 0x00 ∷ 0x00 ∷ 0x00 ∷ 0x00 ∷ []) ≡ Faulty SampleRate []
 unfolding body
 rate_large = refl
+
+rate_greatest : body 0 34 (0x00 ∷ 0x10 ∷ 0x00 ∷ 0x10 ∷ 0x00 ∷ 0x00 ∷ 0x00 ∷ 0x00 ∷ 0x00 ∷ 0x00 ∷ 0x9f ∷ 0xff ∷ 0x60 ∷ 0x70 ∷ 0x00 ∷ 0x00 ∷ 0x00 ∷ 0x01 ∷ 0x00 ∷ 0x00 ∷ 0x00 ∷ 0x00 ∷ 0x00 ∷ 0x00 ∷ 0x00 ∷ 0x00 ∷ 0x00 ∷ 0x00 ∷ 0x00 ∷ 0x00 ∷ 0x00 ∷ 0x00 ∷ 0x00 ∷ 0x00 ∷ []) ≡ Done (Info (record info { rate = 655350 })) []
+unfolding body info
+rate_greatest = refl
+
+rate_over : body 0 34 (0x00 ∷ 0x10 ∷ 0x00 ∷ 0x10 ∷ 0x00 ∷ 0x00 ∷ 0x00 ∷ 0x00 ∷ 0x00 ∷ 0x00 ∷ 0x9f ∷ 0xff ∷ 0x70 ∷ 0x70 ∷ 0x00 ∷ 0x00 ∷ 0x00 ∷ 0x01 ∷ 0x00 ∷ 0x00 ∷ 0x00 ∷ 0x00 ∷ 0x00 ∷ 0x00 ∷ 0x00 ∷ 0x00 ∷ 0x00 ∷ 0x00 ∷ 0x00 ∷ 0x00 ∷ 0x00 ∷ 0x00 ∷ 0x00 ∷ 0x00 ∷ []) ≡ Faulty SampleRate []
+unfolding body
+rate_over = refl
+
+info_distinct : body 0 34 (0x00 ∷ 0x11 ∷ 0x01 ∷ 0x00 ∷ 0x00 ∷ 0x00 ∷ 0x07 ∷ 0x00 ∷ 0x10 ∷ 0x00 ∷ 0x0b ∷ 0xb8 ∷ 0x13 ∷ 0x75 ∷ 0x12 ∷ 0x34 ∷ 0x56 ∷ 0x78 ∷ 0x00 ∷ 0x01 ∷ 0x02 ∷ 0x03 ∷ 0x04 ∷ 0x05 ∷ 0x06 ∷ 0x07 ∷ 0x08 ∷ 0x09 ∷ 0x0a ∷ 0x0b ∷ 0x0c ∷ 0x0d ∷ 0x0e ∷ 0x0f ∷ [])
+    ≡ Done (Info (record { least_block = 17; greatest_block = 256; least_frame = 7; greatest_frame = 4096; rate = 48001; channels = 2; width = 24; samples = 21780256376; md5 = 0 ∷ 1 ∷ 2 ∷ 3 ∷ 4 ∷ 5 ∷ 6 ∷ 7 ∷ 8 ∷ 9 ∷ 10 ∷ 11 ∷ 12 ∷ 13 ∷ 14 ∷ 15 ∷ [] })) []
+unfolding body
+info_distinct = refl
 
 -- ---- blocks
 
