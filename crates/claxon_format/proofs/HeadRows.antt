@@ -1,5 +1,5 @@
 -- Worked rows: what the readers give for the bytes of some metadata blocks and heads.
-use Rattle.std.proofs.Common.{◌≡◌, ℕ, Bool, true, false, List, [], ◌∷◌, ◌++◌, refl}
+use Rattle.std.proofs.Common.{◌≡◌, ℕ, Bool, true, false, List, [], ◌∷◌, refl}
 use Rattle.std.specs.Prelude.{Option, Some, None}
 use Rattle.std.proofs.Math.Utf8.{encode}
 use Rattle.std.specs.Str.{chars, is_utf8}
@@ -11,7 +11,7 @@ use Rattle.claxon_format.specs.Metadata.{bytes_at, big_endian, little_endian, bi
 use Rattle.claxon_format.specs.Streaminfo.{Streaminfo, streaminfo_bits_at}
 use Rattle.claxon_format.specs.Comments.{Comment, Entry, entry_at, kept_at, entry_length_at, entries_at, vendor_length_at, vendor_at, count_at, comment_at}
 use Rattle.claxon_format.specs.Blocks.{Content, Info, Padding, Application, Comments, Reserved, MetadataBlock, info_body_at, application_at, body_at, block_at}
-use Rattle.claxon_format.specs.Heads.{Options, Head, marker_at, others_at, after_first, head_at}
+use Rattle.claxon_format.specs.Heads.{Head, marker_at, others_at, after_first, head_at}
 
 body : ℕ → ℕ → List ℕ → Reading ℕ Content
 unfolding bits bits_of number each_at times_at number_at bytes_at big_endian little_endian big_at little_at streaminfo_bits_at chars encode is_utf8 entry_at kept_at entry_length_at entries_at vendor_length_at vendor_at count_at comment_at info_body_at application_at body_at

@@ -1,18 +1,17 @@
 -- Tables of the standard (RFC 9639, section 9), and the edges of what is accepted. Codes and readers share these functions, so their laws don't see them.
-use Rattle.std.proofs.Common.{◌≡◌, ℕ, Bool, true, false, List, [], ◌∷◌, map, replicate, refl}
-use Rattle.std.specs.Prelude.{Option, Some, None}
-use Rattle.claxon_format.specs.Bits.{bits, bits_of, fold}
+use Rattle.std.proofs.Common.{◌≡◌, true, false, [], ◌∷◌, map, replicate, refl}
+use Rattle.std.specs.Prelude.{Some, None}
+use Rattle.claxon_format.specs.Bits.{bits, bits_of}
 use Rattle.claxon_format.specs.Residual.{escape, partition_lengths}
 use Rattle.claxon_format.specs.Subframe.{reserved}
 use Rattle.claxon_format.specs.Coded.{bad_first, further, bad_follower}
 use Rattle.claxon_format.specs.Guards.{gap}
 use Rattle.claxon_format.specs.Header.{size_of, rate_bits, width_of, width_reserved, number_large}
 use Rattle.claxon_format.specs.Stereo.{widths}
-use Rattle.claxon_format.specs.Frame.{Stream, block_step}
+use Rattle.claxon_format.specs.Frame.{block_step}
 use Rattle.claxon_format.specs.FrameWriter.{count_of}
 use Rattle.claxon_format.specs.Blocks.{Padding, Reserved, skipped}
-use Rattle.claxon_format.specs.Metadata.{BlockHeader, block_header, big_endian}
-use Rattle.claxon_format.specs.Streams.{interleave}
+use Rattle.claxon_format.specs.Metadata.{block_header, big_endian}
 use Rattle.claxon_format.specs.Tags.{lower}
 
 sizes : map size_of (1 ∷ 2 ∷ 3 ∷ 4 ∷ 5 ∷ 8 ∷ 9 ∷ 10 ∷ 11 ∷ 12 ∷ 13 ∷ 14 ∷ 15 ∷ []) ≡ 192 ∷ 576 ∷ 1152 ∷ 2304 ∷ 4608 ∷ 256 ∷ 512 ∷ 1024 ∷ 2048 ∷ 4096 ∷ 8192 ∷ 16384 ∷ 32768 ∷ []
