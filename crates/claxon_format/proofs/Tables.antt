@@ -1,0 +1,80 @@
+-- Tables of the standard (RFC 9639, section 9), and the edges of what is accepted. Codes and readers share these functions, so their laws don't see them.
+use Rattle.std.proofs.Common.{◌≡◌, true, false, [], ◌∷◌, map, replicate, refl}
+use Rattle.std.specs.Prelude.{Some, None}
+use Rattle.claxon_format.specs.Bits.{bits, bits_of}
+use Rattle.claxon_format.specs.Residual.{escape, partition_lengths}
+use Rattle.claxon_format.specs.Subframe.{reserved}
+use Rattle.claxon_format.specs.Coded.{bad_first, further, bad_follower}
+use Rattle.claxon_format.specs.Guards.{gap}
+use Rattle.claxon_format.specs.Header.{size_of, rate_bits, width_of, width_reserved, number_large}
+use Rattle.claxon_format.specs.Stereo.{widths}
+use Rattle.claxon_format.specs.Frame.{block_step}
+use Rattle.claxon_format.specs.FrameWriter.{count_of}
+use Rattle.claxon_format.specs.Blocks.{Padding, Reserved, skipped}
+use Rattle.claxon_format.specs.Metadata.{block_header, big_endian}
+use Rattle.claxon_format.specs.Tags.{lower}
+
+sizes : map size_of (1 ∷ 2 ∷ 3 ∷ 4 ∷ 5 ∷ 8 ∷ 9 ∷ 10 ∷ 11 ∷ 12 ∷ 13 ∷ 14 ∷ 15 ∷ []) ≡ 192 ∷ 576 ∷ 1152 ∷ 2304 ∷ 4608 ∷ 256 ∷ 512 ∷ 1024 ∷ 2048 ∷ 4096 ∷ 8192 ∷ 16384 ∷ 32768 ∷ []
+sizes = refl
+
+rates : map rate_bits (0 ∷ 1 ∷ 2 ∷ 3 ∷ 4 ∷ 5 ∷ 6 ∷ 7 ∷ 8 ∷ 9 ∷ 10 ∷ 11 ∷ 12 ∷ 13 ∷ 14 ∷ []) ≡ 0 ∷ 0 ∷ 0 ∷ 0 ∷ 0 ∷ 0 ∷ 0 ∷ 0 ∷ 0 ∷ 0 ∷ 0 ∷ 0 ∷ 8 ∷ 16 ∷ 16 ∷ []
+rates = refl
+
+sample_widths : map (width_of None) (1 ∷ 2 ∷ 4 ∷ 5 ∷ 6 ∷ []) ≡ 8 ∷ 12 ∷ 16 ∷ 20 ∷ 24 ∷ []
+sample_widths = refl
+
+reserved_widths : map width_reserved (0 ∷ 1 ∷ 2 ∷ 3 ∷ 4 ∷ 5 ∷ 6 ∷ 7 ∷ []) ≡ false ∷ false ∷ false ∷ true ∷ false ∷ false ∷ false ∷ true ∷ []
+reserved_widths = refl
+
+counts : map count_of (0 ∷ 1 ∷ 2 ∷ 3 ∷ 4 ∷ 5 ∷ 6 ∷ 7 ∷ 8 ∷ 9 ∷ 10 ∷ []) ≡ 1 ∷ 2 ∷ 3 ∷ 4 ∷ 5 ∷ 6 ∷ 7 ∷ 8 ∷ 2 ∷ 2 ∷ 2 ∷ []
+counts = refl
+
+eight_channels : widths 7 16 ≡ replicate 8 16
+eight_channels = refl
+
+side_widths : map (λ code. widths code 16) (8 ∷ 9 ∷ 10 ∷ []) ≡ (16 ∷ 17 ∷ []) ∷ (17 ∷ 16 ∷ []) ∷ (16 ∷ 17 ∷ []) ∷ []
+side_widths = refl
+
+numbers_large : map (number_large false) (2147483647 ∷ 2147483648 ∷ []) ≡ false ∷ true ∷ []
+numbers_large = refl
+
+numbers_variable : number_large true 68719476735 ≡ false
+numbers_variable = refl
+
+first_bytes : map bad_first (127 ∷ 128 ∷ 191 ∷ 192 ∷ 254 ∷ 255 ∷ []) ≡ false ∷ true ∷ true ∷ false ∷ false ∷ true ∷ []
+first_bytes = refl
+
+further_bytes : map further (127 ∷ 192 ∷ 223 ∷ 224 ∷ 239 ∷ 240 ∷ 247 ∷ 248 ∷ 251 ∷ 252 ∷ 253 ∷ 254 ∷ []) ≡ 0 ∷ 1 ∷ 1 ∷ 2 ∷ 2 ∷ 3 ∷ 3 ∷ 4 ∷ 4 ∷ 5 ∷ 5 ∷ 6 ∷ []
+further_bytes = refl
+
+follower_bytes : map bad_follower (127 ∷ 128 ∷ 191 ∷ 192 ∷ []) ≡ true ∷ false ∷ false ∷ true ∷ []
+follower_bytes = refl
+
+kinds_reserved : map reserved (0 ∷ 1 ∷ 2 ∷ 7 ∷ 8 ∷ 12 ∷ 13 ∷ 31 ∷ 32 ∷ 63 ∷ []) ≡ false ∷ false ∷ true ∷ true ∷ false ∷ false ∷ true ∷ true ∷ false ∷ false ∷ []
+kinds_reserved = refl
+
+escapes : map escape (0 ∷ 1 ∷ []) ≡ 15 ∷ 31 ∷ []
+escapes = refl
+
+partitions : partition_lengths 16 2 2 ≡ 2 ∷ 4 ∷ 4 ∷ 4 ∷ []
+partitions = refl
+
+gaps : map (λ n. gap (replicate n false)) (0 ∷ 1 ∷ 2 ∷ 3 ∷ 4 ∷ 5 ∷ 6 ∷ 7 ∷ 8 ∷ []) ≡ 0 ∷ 7 ∷ 6 ∷ 5 ∷ 4 ∷ 3 ∷ 2 ∷ 1 ∷ 0 ∷ []
+gaps = refl
+
+most_significant_first : bits_of (0xa5 ∷ []) ≡ true ∷ false ∷ true ∷ false ∷ false ∷ true ∷ false ∷ true ∷ []
+unfolding bits bits_of
+most_significant_first = refl
+
+skipped_types : map (λ type. skipped type 5) (1 ∷ 3 ∷ 5 ∷ 6 ∷ 7 ∷ 126 ∷ 128 ∷ 255 ∷ []) ≡ Padding 5 ∷ Padding 5 ∷ Padding 5 ∷ Padding 5 ∷ Reserved ∷ Reserved ∷ Reserved ∷ Reserved ∷ []
+skipped_types = refl
+
+header_of_block : block_header (0x84 ∷ []) (1 ∷ 2 ∷ 3 ∷ []) ≡ record { is_last = true; type = 4; length = 66051 }
+unfolding big_endian
+header_of_block = refl
+
+steps : map (λ greatest. block_step (Some (record { width = 8; least_block = 16; greatest_block = greatest })) 5) (16 ∷ 17 ∷ []) ≡ 16 ∷ 5 ∷ []
+steps = refl
+
+letters : map lower (64 ∷ 65 ∷ 90 ∷ 91 ∷ 97 ∷ 193 ∷ []) ≡ 64 ∷ 97 ∷ 122 ∷ 91 ∷ 97 ∷ 193 ∷ []
+letters = refl
