@@ -1,3 +1,14 @@
 pub mod Pairs
 pub mod Chunks
 pub mod Shifts
+pub mod Escapes
+pub mod Faults
+pub mod Words
+pub mod Signs
+pub mod Parts
+pub mod Cuts
+pub mod Scales
+pub mod Restores
+pub mod Wraps
+pub mod Taking
+pub mod Predictors

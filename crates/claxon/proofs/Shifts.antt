@@ -1,6 +1,7 @@
 -- Shifts and masks by a partition order.
 use Rattle.std.proofs.Common.{◌≡◌, ℕ, zero, suc, ◌+◌, ◌-◌, ◌*◌, ◌/◌, ◌%◌, ◌^◌, ◌<◌, ◌≤◌, refl, sym, ap, ◌∙◌, arith, bit_and, length, List, ℤ, replicate}
 use Rattle.std.proofs.lemmas.Nat.{and_mask, one_shl, pow_pos}
+use Rattle.claxon_format.specs.Residual.{partition_lengths}
 use Rattle.claxon.specs.Partitions.{lengths, total}
 use Rattle.std.proofs.Math.Nat.{suc-mul}
 
@@ -32,3 +33,7 @@ pub first_left : (parts i len each : ℕ) → i < parts → total (lengths (part
 first_left parts i len each lt =
     let e : parts - i ≡ suc (parts - (i + 1)) = omega arith in
     ap (λ (n : ℕ). total (lengths n len each)) e ∙ ap (λ (ls : List ℕ). len + total ls) (sym (lengths_each (parts - (i + 1)) each))
+
+-- how many entries the partitions have
+pub lengths_are : (n order p : ℕ) → p < 16 → lengths (1 * 2 ^ p % 4294967296) (n / 2 ^ p - order) (n / 2 ^ p) ≡ partition_lengths n order p
+lengths_are n order p lt = rw (some_parts p lt) refl

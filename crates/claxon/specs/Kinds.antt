@@ -1,5 +1,9 @@
--- The kinds of a subframe (RFC 9639, section 9.2.1).
-use Rattle.std.specs.Prelude.{ℕ}
+-- The kinds and fields of a subframe as the code keeps them (RFC 9639, section 9.2).
+use Rattle.std.specs.Prelude.{ℕ, ◌+◌}
+use Rattle.claxon.specs.Cuts.{Header, Parameters}
+use Rattle.claxon.specs.declared.subframe.LpcParameters.{LpcParameters}
+use Rattle.claxon.specs.declared.subframe.RicePartitionType.{RicePartitionType}
+use Rattle.claxon.specs.declared.subframe.RicePartitionType.TheVariants.{Rice, Rice2}
 use Rattle.claxon.specs.declared.subframe.SubframeType.{SubframeType}
 use Rattle.claxon.specs.declared.subframe.SubframeType.TheVariants.{Constant, Verbatim, Fixed, Lpc}
 
@@ -11,3 +15,21 @@ fixed_order _ = 0
 abbrev pub lpc_order : SubframeType → ℕ
 lpc_order (Lpc order) = order
 lpc_order _ = 0
+
+-- the six bits that spell a kind
+abbrev pub type_number : SubframeType → ℕ
+type_number Constant = 0
+type_number Verbatim = 1
+type_number (Fixed order) = 8 + order
+type_number (Lpc order) = 31 + order
+
+abbrev pub header_with : SubframeType → ℕ → Header
+header_with sf_type waste = record { type = type_number sf_type; waste = waste }
+
+abbrev pub parameters_of : LpcParameters → Parameters
+parameters_of lpc = record { precision = lpc.precision; shift = lpc.shift }
+
+-- the two bits that spell a method
+abbrev pub method_of : RicePartitionType → ℕ
+method_of Rice = 0
+method_of Rice2 = 1

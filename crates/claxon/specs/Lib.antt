@@ -1,5 +1,6 @@
 pub mod Errors
 pub mod Loans
+pub mod Cuts
 pub mod Kinds
 pub mod Partitions
 pub mod Assignment

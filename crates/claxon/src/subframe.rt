@@ -1,9 +1,17 @@
 //! Subframes: one channel of a frame.
-ghost use Rattle.std.specs.Prelude.{◌≡◌, ◌+◌, ◌-◌, ◌*◌, ◌^◌, ◌<◌, ◌≤◌, IfOk, IfErr, length, false};
+ghost use Rattle.std.specs.Prelude.{◌≡◌, ℕ, ◌+◌, ◌-◌, ◌*◌, ◌/◌, ◌%◌, ◌^◌, ◌<◌, ◌≤◌, ◌++◌, ◌⊎◌, IfOk, IfErr, IsOk, List, ℤ, length, map, replicate, false, true};
+ghost use Rattle.std.specs.Result.{IsErrAnd};
+ghost use Rattle.claxon_format.specs.Bits.{Bits, FitsIn, residue, twos, unfold_at};
+ghost use Rattle.claxon_format.specs.Fault.{Fault};
+ghost use Rattle.claxon_format.specs.Reading.{and_then, done, times_at};
+ghost use Rattle.claxon_format.specs.Readers.{signed_at, word_at, partition_at, residual_at, fixed_at, subframe_at};
+ghost use Rattle.claxon_format.specs.Subframe.{Subframe, SubframeFault, scaled};
 ghost use Rattle.claxon_input.specs.BitSource.{bit_state};
+ghost use Rattle.claxon_input.specs.Stream.{stream, Gives, Took, Honestly, IsFault, IsIo};
+ghost use Rattle.claxon.specs.Cuts.{type_at, few_at, header_at, parameters_at, lpc_at, entries_at, taking, taken_at, escaped_at, joined_at, method_at};
 ghost use Rattle.claxon.specs.Errors.{is_memory};
 ghost use Rattle.claxon.specs.Loans.{KeepsBitLoans};
-ghost use Rattle.claxon.specs.Kinds.{fixed_order, lpc_order};
+ghost use Rattle.claxon.specs.Kinds.{fixed_order, lpc_order, type_number, header_with, parameters_of, method_of};
 ghost use Rattle.claxon.specs.Partitions.{lengths, total};
 
 mod predictor;
@@ -34,11 +42,11 @@ struct SubframeHeader {
     ghost wasted: { wasted_bits_per_sample ≤ 31 },
 }
 
+#[tactic(auto, unfolding(crate::specs::Cuts::type_at, claxon_format::specs::Fault::fault_text))]
 fn read_subframe_type<R: ReadBytes>(input: &mut Bitstream<R>) -> Result<SubframeType>
     ensures fixed { IfOk result (λ sf_type. fixed_order sf_type ≤ 4) }
     ensures lpc { IfOk result (λ sf_type. lpc_order sf_type ≤ 32) }
-    ensures no_memory { IfErr result (λ error. is_memory error ≡ false) }
-    ensures loans { KeepsBitLoans (bit_state R.source input.old) (bit_state R.source input.new) }
+    ensures gives { Gives (type_number) result (type_at) (stream R.source input.old) (stream R.source input.new) }
 {
     if input.read_bit()? {
         return Err(Error::FormatError("invalid subframe header"));
@@ -53,10 +61,10 @@ fn read_subframe_type<R: ReadBytes>(input: &mut Bitstream<R>) -> Result<Subframe
 }
 
 // How many low bits of each sample are zeros that were left out.
+#[tactic(auto, unfolding(crate::specs::Cuts::few_at, claxon_format::specs::Readers::waste_at, claxon_format::specs::Fault::fault_text))]
 fn read_wasted_bits<R: ReadBytes>(input: &mut Bitstream<R>) -> Result<u32>
     ensures most { IfOk result (λ wasted. wasted ≤ 31) }
-    ensures no_memory { IfErr result (λ error. is_memory error ≡ false) }
-    ensures loans { KeepsBitLoans (bit_state R.source input.old) (bit_state R.source input.new) }
+    ensures gives { Gives (λ x. x) result (few_at) (stream R.source input.old) (stream R.source input.new) }
 {
     if !input.read_bit()? {
         return Ok(0);
@@ -68,9 +76,9 @@ fn read_wasted_bits<R: ReadBytes>(input: &mut Bitstream<R>) -> Result<u32>
     Ok(zeros + 1)
 }
 
+#[tactic(auto, unfolding(crate::specs::Cuts::header_at))]
 fn read_subframe_header<R: ReadBytes>(input: &mut Bitstream<R>) -> Result<SubframeHeader>
-    ensures no_memory { IfErr result (λ error. is_memory error ≡ false) }
-    ensures loans { KeepsBitLoans (bit_state R.source input.old) (bit_state R.source input.new) }
+    ensures { Gives (λ header. header_with header.sf_type header.wasted_bits_per_sample) result header_at (stream R.source input.old) (stream R.source input.new) }
 {
     let sf_type = read_subframe_type(input)?;
     let wasted_bits_per_sample = read_wasted_bits(input)?;
@@ -84,6 +92,8 @@ fn read_subframe_header<R: ReadBytes>(input: &mut Bitstream<R>) -> Result<Subfra
 fn extend_sign_u16(val: u16, bits: u32) -> i16
     requires some { 0 < bits }
     requires most { bits ≤ 16 }
+    requires fits { val < 2 ^ bits }
+    ensures { result ≡ twos bits val }
 {
     (val << (16 - bits)).cast_signed() >> (16 - bits)
 }
@@ -92,13 +102,18 @@ fn extend_sign_u16(val: u16, bits: u32) -> i16
 pub fn extend_sign_u32(val: u32, bits: u32) -> i32
     requires some { 0 < bits }
     requires most { bits ≤ 32 }
+    ensures fits { FitsIn bits result }
+    ensures congruent { residue bits result ≡ val % 2 ^ bits }
+    ensures value { result ≡ twos bits (val % 2 ^ bits) }
 {
     (val << (32 - bits)).cast_signed() >> (32 - bits)
 }
 
 // The entry that a folded number stands for: 0, -1, 1, -2, 2, ..
 #[inline(always)]
-fn rice_to_signed(val: u32) -> i32 {
+fn rice_to_signed(val: u32) -> i32
+    ensures { result ≡ unfold_at val }
+{
     let half = (val >> 1) as i32;
     let extended_bit_0 = (val << 31).cast_signed() >> 31;
     half ^ extended_bit_0
@@ -111,8 +126,37 @@ fn rice_to_signed(val: u32) -> i32 {
 pub fn decode<R: ReadBytes>(input: &mut Bitstream<R>, bps: u32, buffer: &mut [i32]) -> Result<()>
     requires width { bps ≤ 32 }
     requires block { length buffer.old < 65536 }
+    // What was read is a subframe, and it alone was taken.
+    ensures sound { IfOk result (λ x. Took (stream R.source input.old) (stream R.source input.new) (λ t. (channel : List ℤ) × Subframe bps (length buffer.old) channel t)) }
+    // A subframe of any channel is read, whatever follows, and it alone is taken.
+    ensures complete { (channel : List ℤ) (t rest : Bits) → Subframe bps (length buffer.old) channel t → Honestly (stream R.source input.old) (stream R.source input.new) t rest →
+        IsOk result × ((stream R.source input.new).coming ≡ rest) }
+    // An Err that is no `IoError` names a fault that the bits taken have.
+    ensures fault { IfErr result (λ error. IsIo error ⊎ ((stream R.source input.old).told ≡ true → (f : Fault) × IsFault f error ×
+        ((t : Bits) × SubframeFault bps (length buffer.old) f t × ((stream R.source input.old).coming ≡ t ++ (stream R.source input.new).coming)))) }
+    // Where the bits have a fault it is named, and they alone are taken.
+    ensures named { (f : Fault) (t rest : Bits) → SubframeFault bps (length buffer.old) f t → Honestly (stream R.source input.old) (stream R.source input.new) t rest →
+        IsErrAnd result (IsFault f) × ((stream R.source input.new).coming ≡ rest) }
+    // Where neither stands there, the bits end or 2^32 zeros run.
+    ensures io { (stream R.source input.old).told ≡ true →
+        ((channel : List ℤ) (t rest : Bits) → Subframe bps (length buffer.old) channel t → (stream R.source input.old).coming ≡ t ++ rest → ⊥) →
+        ((f : Fault) (t rest : Bits) → SubframeFault bps (length buffer.old) f t → (stream R.source input.old).coming ≡ t ++ rest → ⊥) → IsErrAnd result IsIo }
+    ensures gives { Gives (λ x. tt) result (taking (subframe_at bps (length buffer.old))) (stream R.source input.old) (stream R.source input.new) }
     ensures no_memory { IfErr result (λ error. is_memory error ≡ false) }
     ensures loans { KeepsBitLoans (bit_state R.source input.old) (bit_state R.source input.new) }
+{
+    decode_channel(input, bps, buffer)
+}
+
+#[tactic(auto, unfolding(crate::specs::Cuts::taken_at, claxon_format::specs::Fault::fault_text))]
+fn decode_channel<R: ReadBytes>(
+    input: &mut Bitstream<R>,
+    bps: u32,
+    buffer: &mut [i32],
+) -> Result<()>
+    requires width { bps ≤ 32 }
+    requires block { length buffer.old < 65536 }
+    ensures { Gives (λ x. tt) result (taken_at bps (length buffer.old)) (stream R.source input.old) (stream R.source input.new) }
 {
     let header = read_subframe_header(input)?;
     let wasted = header.wasted_bits_per_sample;
@@ -137,8 +181,7 @@ fn decode_samples<R: ReadBytes>(
     requires some { 0 < bps }
     requires width { bps ≤ 32 }
     requires block { length buffer.old < 65536 }
-    ensures no_memory { IfErr result (λ error. is_memory error ≡ false) }
-    ensures loans { KeepsBitLoans (bit_state R.source input.old) (bit_state R.source input.new) }
+    ensures { Gives (λ x. tt) result (taking (entries_at bps (length buffer.old) (type_number sf_type))) (stream R.source input.old) (stream R.source input.new) }
 {
     match sf_type {
         SubframeType::Constant => decode_constant(input, bps, buffer),
@@ -151,6 +194,7 @@ fn decode_samples<R: ReadBytes>(
 // Puts back the low zeros, modulo 2^32.
 fn restore_wasted_bits(wasted: u32, buffer: &mut [i32])
     requires { wasted ≤ 31 }
+    ensures { buffer.new ≡ map (scaled wasted) buffer.old }
 {
     for sample in buffer.iter_mut() {
         *sample = *sample << wasted;
@@ -158,11 +202,11 @@ fn restore_wasted_bits(wasted: u32, buffer: &mut [i32])
 }
 
 #[inline(always)]
+#[tactic(auto, unfolding(claxon_format::specs::Readers::signed_at))]
 fn read_sample<R: ReadBytes>(input: &mut Bitstream<R>, bps: u32) -> Result<i32>
     requires some { 0 < bps }
     requires width { bps ≤ 32 }
-    ensures no_memory { IfErr result (λ error. is_memory error ≡ false) }
-    ensures loans { KeepsBitLoans (bit_state R.source input.old) (bit_state R.source input.new) }
+    ensures { Gives (λ x. x) result (signed_at bps) (stream R.source input.old) (stream R.source input.new) }
 {
     let sample = input.read_leq_u32(bps)?;
     Ok(extend_sign_u32(sample, bps))
@@ -175,8 +219,7 @@ fn decode_constant<R: ReadBytes>(
 ) -> Result<()>
     requires some { 0 < bps }
     requires width { bps ≤ 32 }
-    ensures no_memory { IfErr result (λ error. is_memory error ≡ false) }
-    ensures loans { KeepsBitLoans (bit_state R.source input.old) (bit_state R.source input.new) }
+    ensures { Gives (λ x. buffer.new) result (and_then (signed_at bps) (λ x. done (replicate (length buffer.old) x))) (stream R.source input.old) (stream R.source input.new) }
 {
     let sample = read_sample(input, bps)?;
     buffer.fill(sample);
@@ -190,8 +233,7 @@ fn decode_verbatim<R: ReadBytes>(
 ) -> Result<()>
     requires some { 0 < bps }
     requires width { bps ≤ 32 }
-    ensures no_memory { IfErr result (λ error. is_memory error ≡ false) }
-    ensures loans { KeepsBitLoans (bit_state R.source input.old) (bit_state R.source input.new) }
+    ensures { Gives (λ x. buffer.new) result (times_at (length buffer.old) (signed_at bps)) (stream R.source input.old) (stream R.source input.new) }
 {
     for sample in buffer.iter_mut() {
         *sample = read_sample(input, bps)?;
@@ -199,6 +241,7 @@ fn decode_verbatim<R: ReadBytes>(
     Ok(())
 }
 
+#[tactic(auto, unfolding(claxon_format::specs::Readers::fixed_at, claxon_format::specs::Fault::fault_text))]
 fn decode_fixed<R: ReadBytes>(
     input: &mut Bitstream<R>,
     bps: u32,
@@ -209,13 +252,16 @@ fn decode_fixed<R: ReadBytes>(
     requires width { bps ≤ 32 }
     requires order { order ≤ 4 }
     requires block { length buffer.old < 65536 }
-    ensures no_memory { IfErr result (λ error. is_memory error ≡ false) }
-    ensures loans { KeepsBitLoans (bit_state R.source input.old) (bit_state R.source input.new) }
+    ensures { Gives (λ x. buffer.new) result (fixed_at bps (length buffer.old) order) (stream R.source input.old) (stream R.source input.new) }
 {
     if buffer.len() < order as usize {
         return Err(Error::FormatError("invalid fixed subframe, order is larger than block size"));
     }
     let block_size = buffer.len() as u16;
+    // Of order 0 the residual is the samples.
+    if order == 0 {
+        return decode_residual(input, block_size, buffer);
+    }
     decode_verbatim(input, bps, &mut buffer[..order as usize])?;
     decode_residual(input, block_size, &mut buffer[order as usize..])?;
     predict_fixed(order, buffer);
@@ -229,12 +275,12 @@ struct LpcParameters {
     shift: u32,
 }
 
+#[tactic(auto, unfolding(crate::specs::Cuts::parameters_at, claxon_format::specs::Fault::fault_text))]
 fn read_lpc_parameters<R: ReadBytes>(input: &mut Bitstream<R>) -> Result<LpcParameters>
     ensures some { IfOk result (λ lpc. 0 < lpc.precision) }
     ensures most { IfOk result (λ lpc. lpc.precision ≤ 15) }
     ensures shift { IfOk result (λ lpc. lpc.shift ≤ 15) }
-    ensures no_memory { IfErr result (λ error. is_memory error ≡ false) }
-    ensures loans { KeepsBitLoans (bit_state R.source input.old) (bit_state R.source input.new) }
+    ensures gives { Gives (parameters_of) result (parameters_at) (stream R.source input.old) (stream R.source input.new) }
 {
     let precision_less_one = u32::from(input.read_leq_u8(4)?);
     if precision_less_one == 0b1111 {
@@ -260,16 +306,26 @@ fn read_coefficients<R: ReadBytes>(
 ) -> Result<()>
     requires some { 0 < precision }
     requires most { precision ≤ 16 }
-    ensures no_memory { IfErr result (λ error. is_memory error ≡ false) }
-    ensures loans { KeepsBitLoans (bit_state R.source input.old) (bit_state R.source input.new) }
+    ensures { Gives (λ x. coefficients.new) result (times_at (length coefficients.old) (signed_at precision)) (stream R.source input.old) (stream R.source input.new) }
 {
     for coefficient in coefficients.iter_mut() {
-        let number = input.read_leq_u16(precision)?;
-        *coefficient = extend_sign_u16(number, precision);
+        *coefficient = read_coefficient(input, precision)?;
     }
     Ok(())
 }
 
+#[inline(always)]
+#[tactic(auto, unfolding(claxon_format::specs::Readers::signed_at))]
+fn read_coefficient<R: ReadBytes>(input: &mut Bitstream<R>, precision: u32) -> Result<i16>
+    requires some { 0 < precision }
+    requires most { precision ≤ 16 }
+    ensures { Gives (λ x. x) result (signed_at precision) (stream R.source input.old) (stream R.source input.new) }
+{
+    let number = input.read_leq_u16(precision)?;
+    Ok(extend_sign_u16(number, precision))
+}
+
+#[tactic(auto, unfolding(crate::specs::Cuts::lpc_at, claxon_format::specs::Fault::fault_text))]
 fn decode_lpc<R: ReadBytes>(
     input: &mut Bitstream<R>,
     bps: u32,
@@ -280,8 +336,7 @@ fn decode_lpc<R: ReadBytes>(
     requires width { bps ≤ 32 }
     requires order { order ≤ 32 }
     requires block { length buffer.old < 65536 }
-    ensures no_memory { IfErr result (λ error. is_memory error ≡ false) }
-    ensures loans { KeepsBitLoans (bit_state R.source input.old) (bit_state R.source input.new) }
+    ensures { Gives (λ x. tt) result (taking (lpc_at bps (length buffer.old) order)) (stream R.source input.old) (stream R.source input.new) }
 {
     if buffer.len() < order as usize {
         return Err(Error::FormatError("invalid LPC subframe, lpc order is larger than block size"));
@@ -310,6 +365,17 @@ enum RicePartitionType {
     Rice2,
 }
 
+#[tactic(auto, unfolding(crate::specs::Cuts::method_at, claxon_format::specs::Fault::fault_text))]
+fn read_partition_type<R: ReadBytes>(input: &mut Bitstream<R>) -> Result<RicePartitionType>
+    ensures { Gives method_of result method_at (stream R.source input.old) (stream R.source input.new) }
+{
+    match input.read_leq_u8(2)? {
+        0b00 => Ok(RicePartitionType::Rice),
+        0b01 => Ok(RicePartitionType::Rice2),
+        _ => Err(Error::FormatError("invalid residual, encountered reserved value")),
+    }
+}
+
 // A residual of as many entries as the buffer is long, which are the last of the block's.
 fn decode_residual<R: ReadBytes>(
     input: &mut Bitstream<R>,
@@ -317,14 +383,9 @@ fn decode_residual<R: ReadBytes>(
     buffer: &mut [i32],
 ) -> Result<()>
     requires { length buffer.old ≤ block_size }
-    ensures no_memory { IfErr result (λ error. is_memory error ≡ false) }
-    ensures loans { KeepsBitLoans (bit_state R.source input.old) (bit_state R.source input.new) }
+    ensures { Gives (λ x. buffer.new) result (residual_at block_size (block_size - length buffer.old)) (stream R.source input.old) (stream R.source input.new) }
 {
-    let partition_type = match input.read_leq_u8(2)? {
-        0b00 => RicePartitionType::Rice,
-        0b01 => RicePartitionType::Rice2,
-        _ => return Err(Error::FormatError("invalid residual, encountered reserved value")),
-    };
+    let partition_type = read_partition_type(input)?;
     let order = u32::from(input.read_leq_u8(4)?);
     let n_partitions = 1u32 << order;
     let n_samples_per_partition = block_size >> order;
@@ -355,27 +416,35 @@ fn decode_partitions<R: ReadBytes>(
     buffer: &mut [i32],
 ) -> Result<()>
     requires { total (lengths n_partitions first each) ≡ length buffer.old }
-    ensures no_memory { IfErr result (λ error. is_memory error ≡ false) }
-    ensures loans { KeepsBitLoans (bit_state R.source input.old) (bit_state R.source input.new) }
+    ensures { Gives (λ x. buffer.new) result (joined_at (partition_at (method_of partition_type)) (lengths n_partitions first each)) (stream R.source input.old) (stream R.source input.new) }
 {
     let mut start = 0;
     let mut len = first as usize;
     for _ in 0..n_partitions {
-        let partition = &mut buffer[start..start + len];
-        match partition_type {
-            RicePartitionType::Rice => decode_rice_partition(input, partition)?,
-            RicePartitionType::Rice2 => decode_rice2_partition(input, partition)?,
-        }
+        decode_partition(input, partition_type, &mut buffer[start..start + len])?;
         start += len;
         len = each as usize;
     }
     Ok(())
 }
 
+fn decode_partition<R: ReadBytes>(
+    input: &mut Bitstream<R>,
+    partition_type: RicePartitionType,
+    buffer: &mut [i32],
+) -> Result<()>
+    ensures { Gives (λ x. buffer.new) result (partition_at (method_of partition_type) (length buffer.old)) (stream R.source input.old) (stream R.source input.new) }
+{
+    match partition_type {
+        RicePartitionType::Rice => decode_rice_partition(input, buffer),
+        RicePartitionType::Rice2 => decode_rice2_partition(input, buffer),
+    }
+}
+
 // A partition under a parameter of 4 bits, where 15 is the escape.
+#[tactic(auto, unfolding(claxon_format::specs::Readers::partition_at, crate::specs::Cuts::escaped_at))]
 fn decode_rice_partition<R: ReadBytes>(input: &mut Bitstream<R>, buffer: &mut [i32]) -> Result<()>
-    ensures no_memory { IfErr result (λ error. is_memory error ≡ false) }
-    ensures loans { KeepsBitLoans (bit_state R.source input.old) (bit_state R.source input.new) }
+    ensures { Gives (λ x. buffer.new) result (partition_at 0 (length buffer.old)) (stream R.source input.old) (stream R.source input.new) }
 {
     let rice_param = u32::from(input.read_leq_u8(4)?);
     if rice_param == 0b1111 {
@@ -385,9 +454,9 @@ fn decode_rice_partition<R: ReadBytes>(input: &mut Bitstream<R>, buffer: &mut [i
 }
 
 // A partition under a parameter of 5 bits, where 31 is the escape.
+#[tactic(auto, unfolding(claxon_format::specs::Readers::partition_at, crate::specs::Cuts::escaped_at))]
 fn decode_rice2_partition<R: ReadBytes>(input: &mut Bitstream<R>, buffer: &mut [i32]) -> Result<()>
-    ensures no_memory { IfErr result (λ error. is_memory error ≡ false) }
-    ensures loans { KeepsBitLoans (bit_state R.source input.old) (bit_state R.source input.new) }
+    ensures { Gives (λ x. buffer.new) result (partition_at 1 (length buffer.old)) (stream R.source input.old) (stream R.source input.new) }
 {
     let rice_param = u32::from(input.read_leq_u8(5)?);
     if rice_param == 0b11111 {
@@ -397,9 +466,9 @@ fn decode_rice2_partition<R: ReadBytes>(input: &mut Bitstream<R>, buffer: &mut [
 }
 
 // Entries that are no words: a width of 5 bits, and each entry in that width. In none each is 0.
+#[tactic(auto, unfolding(crate::specs::Cuts::escaped_at, claxon_format::specs::Readers::raw_at))]
 fn decode_escape_partition<R: ReadBytes>(input: &mut Bitstream<R>, buffer: &mut [i32]) -> Result<()>
-    ensures no_memory { IfErr result (λ error. is_memory error ≡ false) }
-    ensures loans { KeepsBitLoans (bit_state R.source input.old) (bit_state R.source input.new) }
+    ensures { Gives (λ x. buffer.new) result (escaped_at (length buffer.old)) (stream R.source input.old) (stream R.source input.new) }
 {
     let width = u32::from(input.read_leq_u8(5)?);
     if width == 0 {
@@ -415,8 +484,7 @@ fn read_words<R: ReadBytes>(
     buffer: &mut [i32],
 ) -> Result<()>
     requires { parameter ≤ 30 }
-    ensures no_memory { IfErr result (λ error. is_memory error ≡ false) }
-    ensures loans { KeepsBitLoans (bit_state R.source input.old) (bit_state R.source input.new) }
+    ensures { Gives (λ x. buffer.new) result (times_at (length buffer.old) (word_at parameter)) (stream R.source input.old) (stream R.source input.new) }
 {
     for entry in buffer.iter_mut() {
         *entry = read_word(input, parameter)?;
@@ -426,10 +494,10 @@ fn read_words<R: ReadBytes>(
 
 // A quotient in as many zeros, a one, and `parameter` low bits. The number is taken modulo 2^32.
 #[inline(always)]
+#[tactic(auto, unfolding(claxon_format::specs::Readers::word_at))]
 fn read_word<R: ReadBytes>(input: &mut Bitstream<R>, parameter: u32) -> Result<i32>
     requires { parameter ≤ 30 }
-    ensures no_memory { IfErr result (λ error. is_memory error ≡ false) }
-    ensures loans { KeepsBitLoans (bit_state R.source input.old) (bit_state R.source input.new) }
+    ensures { Gives (λ x. x) result (word_at parameter) (stream R.source input.old) (stream R.source input.new) }
 {
     let quotient = input.read_unary()?;
     let low = input.read_leq_u32(parameter)?;

@@ -1,26 +1,29 @@
 //! Predictors: samples from their first ones and a residual, in place. All sums are modulo 2^32 in the end.
-ghost use Rattle.std.specs.Prelude.{◌≡◌, ◌+◌, ◌-◌, ◌*◌, ◌<◌, ◌≤◌, length};
+ghost use Rattle.std.specs.Prelude.{◌≡◌, ◌+◌, ◌-◌, ◌*◌, ◌<◌, ◌≤◌, length, reverse};
+ghost use Rattle.claxon_format.specs.Predict.{wrap, dot, fixed, linear, restored};
 
 use std::simd::prelude::*;
 
 /// The samples of a fixed predictor, from its first `order` samples and the residual after them.
 /// (RFC 9639, section 9.2.5.)
 pub fn predict_fixed(order: u32, buffer: &mut [i32])
-    requires some { order ≤ 4 }
+    requires some { 1 ≤ order }
+    requires most { order ≤ 4 }
     requires warm { order ≤ length buffer.old }
+    ensures { buffer.new ≡ restored (fixed order) order buffer.old }
 {
     match order {
         1 => predict_fixed_1(buffer),
         2 => predict_fixed_2(buffer),
         3 => predict_fixed_3(buffer),
-        4 => predict_fixed_4(buffer),
-        _ => {}
+        _ => predict_fixed_4(buffer),
     }
 }
 
 #[inline(never)]
 fn predict_fixed_1(buffer: &mut [i32])
     requires warm { 1 ≤ length buffer.old }
+    ensures { buffer.new ≡ restored (fixed 1) 1 buffer.old }
 {
     let mut newest = buffer[0];
     for place in &mut buffer[1..] {
@@ -32,6 +35,7 @@ fn predict_fixed_1(buffer: &mut [i32])
 #[inline(never)]
 fn predict_fixed_2(buffer: &mut [i32])
     requires warm { 2 ≤ length buffer.old }
+    ensures { buffer.new ≡ restored (fixed 2) 2 buffer.old }
 {
     let mut second = buffer[0];
     let mut newest = buffer[1];
@@ -47,6 +51,7 @@ fn predict_fixed_2(buffer: &mut [i32])
 #[inline(never)]
 fn predict_fixed_3(buffer: &mut [i32])
     requires warm { 3 ≤ length buffer.old }
+    ensures { buffer.new ≡ restored (fixed 3) 3 buffer.old }
 {
     let mut third = buffer[0];
     let mut second = buffer[1];
@@ -66,6 +71,7 @@ fn predict_fixed_3(buffer: &mut [i32])
 #[inline(never)]
 fn predict_fixed_4(buffer: &mut [i32])
     requires warm { 4 ≤ length buffer.old }
+    ensures { buffer.new ≡ restored (fixed 4) 4 buffer.old }
 {
     let mut fourth = buffer[0];
     let mut third = buffer[1];
@@ -87,16 +93,22 @@ fn predict_fixed_4(buffer: &mut [i32])
 
 // The low 32 bits of a number, as a signed number.
 #[inline(always)]
-fn low_bits(value: i64) -> i32 {
+fn low_bits(value: i64) -> i32
+    ensures { result ≡ wrap value }
+{
     ((value.cast_unsigned() & 0xffff_ffff) as u32).cast_signed()
 }
 
 // The sum of the products of coefficients and samples. With 32 products of at most 2^14 * 2^31 it stays below 2^51.
 #[inline(always)]
-fn inner_product(coefficients: &[i16], samples: &[i32]) -> i64 {
-    let mut sum = 0i64;
-    for (coefficient, sample) in coefficients.iter().zip(samples) {
-        sum = sum.wrapping_add(i64::from(*coefficient).wrapping_mul(i64::from(*sample)));
+fn inner_product(coefficients: &[i16], samples: &[i32]) -> i64
+    requires same { length coefficients.now ≡ length samples.now }
+    requires few { length coefficients.now ≤ 32 }
+    ensures { result ≡ dot coefficients.now samples.now }
+{
+    let mut sum = 0;
+    for (i, coefficient) in coefficients.iter().enumerate() {
+        sum += i64::from(*coefficient) * i64::from(samples[i]);
     }
     sum
 }
@@ -104,8 +116,10 @@ fn inner_product(coefficients: &[i16], samples: &[i32]) -> i64 {
 // By the plain sum, at any order.
 #[inline(never)]
 fn predict_plain(coefficients: &[i16], shift: u32, buffer: &mut [i32])
+    requires few { length coefficients.now ≤ 32 }
     requires warm { length coefficients.now ≤ length buffer.old }
     requires shift { shift ≤ 15 }
+    ensures { buffer.new ≡ restored (linear (reverse coefficients.now) shift) (length coefficients.now) buffer.old }
 {
     let order = coefficients.len();
     for i in order..buffer.len() {
@@ -117,8 +131,10 @@ fn predict_plain(coefficients: &[i16], shift: u32, buffer: &mut [i32])
 /// The samples of a linear predictor of more than 12 coefficients, from as many samples as it has coefficients, the
 /// oldest first, and the residual after them. (RFC 9639, section 9.2.6.)
 pub fn predict_lpc_high_order(coefficients: &[i16], shift: u32, buffer: &mut [i32])
+    requires few { length coefficients.now ≤ 32 }
     requires warm { length coefficients.now ≤ length buffer.old }
     requires shift { shift ≤ 15 }
+    ensures { buffer.new ≡ restored (linear (reverse coefficients.now) shift) (length coefficients.now) buffer.old }
 {
     predict_plain(coefficients, shift, buffer);
 }

@@ -1,11 +1,11 @@
-use Rattle.std.proofs.Common.{◌≡◌, ◌+◌, ◌-◌, length}
-use Rattle.claxon_input.specs.BitSource.{bit_state}
-use Rattle.claxon.specs.Loans.{KeepsBitLoans}
-use Rattle.claxon.specs.Partitions.{lengths, total}
+use Rattle.claxon_format.specs.Readers.{partition_at}
+use Rattle.claxon_input.specs.Stream.{stream}
+use Rattle.claxon.specs.Kinds.{method_of}
+use Rattle.claxon.specs.Partitions.{lengths}
+use Rattle.claxon.proofs.Parts.{PartsSoFar}
 use Rattle.claxon.proofs.subframe.decode_partitions.Given as goal
 
 abbrev pub invariant-loop : goal.invariant-loop
-invariant-loop g l = record {
-  room : l.start + total (lengths (l.n_partitions - l.counter) l.len l.each) ≡ length l.buffer;
-  loans : KeepsBitLoans (bit_state g.R.ReadBytes.source l.initial.input) (bit_state g.R.ReadBytes.source l.input);
-}
+invariant-loop g l =
+    PartsSoFar (partition_at (method_of l.partition_type)) (lengths l.n_partitions l.first l.each) l.n_partitions l.counter l.start l.len l.each l.buffer
+    (stream g.R.ReadBytes.source l.fn.input) (stream g.R.ReadBytes.source l.input)

@@ -1,6 +1,8 @@
-use Rattle.claxon_input.specs.BitSource.{bit_state}
-use Rattle.claxon.specs.Loans.{KeepsBitLoans}
+use Rattle.std.proofs.Common.{length}
+use Rattle.claxon_format.specs.Readers.{word_at}
+use Rattle.claxon_input.specs.Stream.{stream}
+use Rattle.claxon_input.proofs.Loops.{TimesSoFar}
 use Rattle.claxon.proofs.subframe.read_words.Given as goal
 
 abbrev pub invariant-loop-entry : goal.invariant-loop-entry
-invariant-loop-entry g l = KeepsBitLoans (bit_state g.R.ReadBytes.source l.initial.input) (bit_state g.R.ReadBytes.source l.input)
+invariant-loop-entry g l = TimesSoFar (word_at l.parameter) (length l.fn.buffer) l.buffer l.entry-index (stream g.R.ReadBytes.source l.fn.input) (stream g.R.ReadBytes.source l.input)

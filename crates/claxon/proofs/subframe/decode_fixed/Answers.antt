@@ -1,0 +1,11 @@
+use Rattle.std.proofs.Common.{◌≡◌, ◌∙◌, ◌-◌, ℕ, length, ap, arith}
+use Rattle.claxon_format.specs.Readers.{fixed_at, residual_at}
+use Rattle.claxon_input.proofs.Went.{went_none, gives_after}
+use Rattle.claxon.proofs.Restores.{fixed_0_at}
+use Rattle.claxon.proofs.subframe.decode_fixed.Goals as goal
+
+pub returns-then-order-eq0 : goal.returns-then-order-eq0
+returns-then-order-eq0 g c =
+    let none : length c.args.buffer.now - length c.args.buffer.now ≡ 0 = omega arith in
+    let e = rw none at c.decode_residual.ensures in
+    gives_after _ c.decode_residual.result _ (went_none _ (λ s m. fixed_at c.args.bps (length c.args.buffer.now) c.args.order s ≡ residual_at (length c.args.buffer.now) 0 m) (rw c.if-order-eq0.true (fixed_0_at c.args.bps (length c.args.buffer.now) _))) e
