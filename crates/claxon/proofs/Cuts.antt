@@ -1,14 +1,13 @@
 -- The reader of a subframe is the composition of its parts.
-use Rattle.std.proofs.Common.{◌≡◌, ℕ, ◌+◌, ◌-◌, ◌≤◌, Bool, true, false, not, cond, eqb, ltb, List, ◌++◌, ℤ, reverse, map, replicate, refl, sym, ap, ◌∙◌, arith}
+use Rattle.std.proofs.Common.{◌≡◌, ℕ, ◌+◌, ◌-◌, ◌≤◌, Bool, true, false, not, cond, eqb, ltb, List, map, replicate, refl, sym, ap, ◌∙◌, arith}
 use Rattle.std.proofs.lemmas.Bool.{lt-ltb, le-ltb}
 use Rattle.std.proofs.lemmas.Bool.Decides.{nat_tests}
 use Rattle.claxon_format.specs.Bits.{Bits}
-use Rattle.claxon_format.specs.Fault.{Fault, SubframeStart, KindReserved, WasteLarge, WasteWhole, LinearOrder, PrecisionInvalid, ShiftNegative, MethodReserved}
-use Rattle.claxon_format.specs.Predict.{restore, linear}
-use Rattle.claxon_format.specs.Reading.{Reading, Done, Faulty, Short, bind, and_then, done, test, pick, times_at}
+use Rattle.claxon_format.specs.Fault.{Fault, SubframeStart, KindReserved, WasteLarge, WasteWhole, PrecisionInvalid, ShiftNegative, MethodReserved}
+use Rattle.claxon_format.specs.Reading.{Reading, Done, Faulty, Short, bind, and_then, done, pick, times_at}
 use Rattle.claxon_format.specs.Readers.{bit_at, number_at, signed_at, waste_at, residual_at, fixed_at, linear_at, kind_at, subframe_at}
 use Rattle.claxon_format.specs.Subframe.{reserved, scaled}
-use Rattle.claxon.specs.Cuts.{Header, Parameters, type_at, few_at, header_at, parameters_at, lpc_at, entries_at, channel_at, method_at, parts_at, taking, taken_at}
+use Rattle.claxon.specs.Cuts.{type_at, few_at, header_at, parameters_at, lpc_at, entries_at, channel_at, method_at, parts_at, taking, taken_at}
 
 bind_same : {X A B : Type 0} (x : Reading X A) (f g : A → List X → Reading X B) → ((a : A) (m : List X) → f a m ≡ g a m) → bind x f ≡ bind x g
 bind_same (Done a m) f g h = h a m

@@ -1,5 +1,5 @@
 -- Entries that are no words.
-use Rattle.std.proofs.Common.{◌≡◌, ◌≢◌, ℕ, zero, suc, List, [], ◌∷◌, replicate, refl, ap, ℤ, pos}
+use Rattle.std.proofs.Common.{◌≡◌, ◌≢◌, ℕ, zero, suc, replicate, refl, pos}
 use Rattle.claxon_format.specs.Bits.{Bits}
 use Rattle.claxon_format.specs.Reading.{Done, times_at, each_at}
 use Rattle.claxon_format.specs.Readers.{raw_at, signed_at}

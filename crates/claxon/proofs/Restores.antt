@@ -1,5 +1,5 @@
 -- A loop that brings samples back in place, with the newest ones in variables.
-use Rattle.std.proofs.Common.{◌≡◌, ℕ, Bool, false, ltb, suc, ◌+◌, ◌-◌, ◌<◌, ◌≤◌, List, [], ◌∷◌, ◌++◌, length, take, drop, reverse, get_or, set, refl, sym, ap, subst, ◌∙◌, append_assoc, arith, ℤ, pos, ◌+ℤ◌, w32, FitsSigned, to_z, of_z}
+use Rattle.std.proofs.Common.{◌≡◌, ℕ, Bool, false, ltb, ◌+◌, ◌-◌, ◌<◌, ◌≤◌, List, [], ◌∷◌, ◌++◌, length, take, drop, reverse, get_or, set, refl, sym, ap, ◌∙◌, append_assoc, arith, ℤ, pos, ◌+ℤ◌, w32, FitsSigned, to_z, of_z}
 use Rattle.std.proofs.lemmas.List.{take_more_set, drop_more, drop-set-lt, reverse-append, drop_all, take_all, append-nil, length-drop}
 use Rattle.std.proofs.lemmas.Bool.{le-ltb}
 use Rattle.std.proofs.lemmas.Int.{ints, int_wrap_fits, to_z-of_z}

@@ -1,5 +1,5 @@
 -- A word by shifts and an or, and the number that a folded one stands for.
-use Rattle.std.proofs.Common.{◌≡◌, ℕ, ◌+◌, ◌-◌, ◌*◌, ◌/◌, ◌%◌, ◌^◌, ◌<◌, ◌≤◌, ltb, false, refl, sym, ap, subst, ◌∙◌, arith, inl, inr, ◌⊎◌, ℤ, pos, negsuc, to_z, of_z, w32, FitsSigned, bit_or, bit_xor}
+use Rattle.std.proofs.Common.{◌≡◌, ℕ, ◌+◌, ◌-◌, ◌*◌, ◌/◌, ◌%◌, ◌^◌, ◌<◌, ◌≤◌, ltb, false, refl, sym, ap, ◌∙◌, arith, inl, inr, ◌⊎◌, ℤ, pos, negsuc, to_z, of_z, w32, FitsSigned, bit_or, bit_xor}
 use Rattle.std.proofs.lemmas.Bool.{le-ltb}
 use Rattle.std.proofs.lemmas.Nat.{and_mask, div-mul-add, mod-mul-add, mod_below, pow_pos, shl-shr, or_shifted}
 use Rattle.std.proofs.lemmas.Int.{ints, to_z-of_z}

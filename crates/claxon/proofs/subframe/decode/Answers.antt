@@ -1,4 +1,4 @@
-use Rattle.std.proofs.Common.{◌≡◌, List, ℤ, sym, refl, length}
+use Rattle.std.proofs.Common.{List, ℤ, sym, refl, length}
 use Rattle.std.proofs.lemmas.Result.{IfOk-weaker}
 use Rattle.claxon_format.proofs.Laws.{Reads-map}
 use Rattle.claxon_format.proofs.Subframes.{Reads-subframe}

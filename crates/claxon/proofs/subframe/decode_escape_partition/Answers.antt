@@ -1,7 +1,4 @@
-use Rattle.std.proofs.Common.{◌≡◌, ◌≢◌, ◌∙◌, List, ℤ, pos, length, replicate, refl, rules, arith, sym, ap}
-use Rattle.std.proofs.lemmas.Grind.{common_steps}
-use Rattle.claxon_format.specs.Reading.{Done, times_at}
-use Rattle.claxon_format.specs.Readers.{raw_at}
+use Rattle.std.proofs.Common.{◌≡◌, ◌≢◌, pos, length, replicate, refl, rules, arith}
 use Rattle.claxon_input.proofs.Went.{gives_after, went_map}
 use Rattle.claxon.specs.Cuts.{escaped_at}
 use Rattle.claxon.proofs.Escapes.{raw_none, raw_some}

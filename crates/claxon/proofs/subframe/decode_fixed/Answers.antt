@@ -1,4 +1,4 @@
-use Rattle.std.proofs.Common.{◌≡◌, ◌∙◌, ◌-◌, ℕ, length, ap, arith}
+use Rattle.std.proofs.Common.{◌≡◌, ◌-◌, length, arith}
 use Rattle.claxon_format.specs.Readers.{fixed_at, residual_at}
 use Rattle.claxon_input.proofs.Went.{went_none, gives_after}
 use Rattle.claxon.proofs.Restores.{fixed_0_at}

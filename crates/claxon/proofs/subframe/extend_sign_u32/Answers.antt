@@ -1,6 +1,5 @@
-use Rattle.std.proofs.Common.{◌≡◌, ◌%◌, ◌^◌, ◌<◌}
+use Rattle.std.proofs.Common.{◌%◌, ◌^◌, ◌<◌}
 use Rattle.std.proofs.lemmas.Nat.{mod_below, pow_pos}
-use Rattle.claxon_format.specs.Bits.{twos}
 use Rattle.claxon_format.proofs.Signeds.{twos_cases}
 use Rattle.claxon.proofs.Signs.{extended_32}
 use Rattle.claxon.proofs.subframe.extend_sign_u32.Goals as goal

@@ -1,4 +1,4 @@
-use Rattle.std.proofs.Common.{◌≡◌, get_or, length, pos, rules, FitsSigned, w32, arith}
+use Rattle.std.proofs.Common.{get_or, pos, rules, FitsSigned, w32, arith}
 use Rattle.claxon_format.specs.Subframe.{scaled}
 use Rattle.claxon.proofs.Scales.{scaled_is, mapped_more}
 use Rattle.claxon.proofs.subframe.restore_wasted_bits.Goals as goal

@@ -1,7 +1,6 @@
-use Rattle.std.proofs.Common.{◌≡◌, get_or, pos, rules, FitsSigned, w16, w32, w64, arith, refl, sym, subst, ap, ◌∙◌, ℤ, to_z, of_z, ◌+ℤ◌, ◌*ℤ◌, ◌≤ℤ◌, neg_ℤ, ◌*◌, ◌+◌, drop}
-use Rattle.std.proofs.lemmas.Int.{ints, to_z-of_z}
-use Rattle.claxon_format.specs.Predict.{dot}
-use Rattle.claxon.proofs.Predictors.{Summed, sum_step, dot_step}
+use Rattle.std.proofs.Common.{get_or, pos, rules, FitsSigned, w16, w32, w64, arith, refl, ap, ◌∙◌, ℤ, to_z, of_z}
+use Rattle.std.proofs.lemmas.Int.{to_z-of_z}
+use Rattle.claxon.proofs.Predictors.{sum_step, dot_step}
 use Rattle.claxon.proofs.subframe.predictor.inner_product.Goals as goal
 
 pub overflow_add-sum : goal.overflow_add-sum

@@ -1,4 +1,4 @@
-use Rattle.std.proofs.Common.{◌≡◌, [], ◌∷◌, get_or, pos, rules, refl, FitsSigned, w32, to_z, of_z, arith}
+use Rattle.std.proofs.Common.{◌∷◌, get_or, pos, rules, refl, FitsSigned, w32, to_z, arith}
 use Rattle.claxon.proofs.Restores.{restoring_next}
 use Rattle.claxon.proofs.Wraps.{rep_fits, rep_bits, step_2}
 use Rattle.claxon.proofs.subframe.predictor.predict_fixed_2.Goals as goal

@@ -1,4 +1,4 @@
-use Rattle.std.proofs.Common.{◌≡◌, [], ◌∷◌, get_or, pos, rules, refl, FitsSigned, w32, to_z, of_z, arith}
+use Rattle.std.proofs.Common.{◌∷◌, get_or, pos, rules, refl, FitsSigned, w32, to_z, arith}
 use Rattle.claxon_format.specs.Predict.{fixed}
 use Rattle.claxon.proofs.Restores.{restoring_next, restoring_from, restoring_end, restored_into, front_3}
 use Rattle.claxon.proofs.Wraps.{rep_fits, rep_bits, step_3}

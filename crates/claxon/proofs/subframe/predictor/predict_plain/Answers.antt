@@ -1,4 +1,4 @@
-use Rattle.std.proofs.Common.{◌≡◌, ◌∙◌, get_or, pos, rules, FitsSigned, w32, w64, arith, reverse, length}
+use Rattle.std.proofs.Common.{◌∙◌, get_or, pos, rules, FitsSigned, w32, w64, arith, reverse}
 use Rattle.std.proofs.lemmas.List.{length-set}
 use Rattle.claxon_format.specs.Predict.{linear}
 use Rattle.claxon.proofs.Predictors.{restored_more, linear_step}

@@ -1,5 +1,4 @@
-use Rattle.std.proofs.Common.{sym, ◌∙◌, ap, length-drop, ◌*◌, ◌+◌, ◌≤◌, ◌<◌, ◌-◌, ◌≡◌, length, arith, rules, Some, take, drop, List, ℤ}
-use Rattle.std.specs.Prelude.{slice_get}
+use Rattle.std.proofs.Common.{sym, ◌∙◌, ap, length-drop, ◌*◌, ◌+◌, ◌<◌, ◌-◌, ◌≡◌, length, arith}
 use Rattle.claxon.proofs.Chunks.{length-chunks, get-chunks, chunk_ends, duration-chunks}
 use Rattle.std.proofs.lemmas.List.{length-take-le}
 use Rattle.claxon.proofs.frame.block.Block.channel.Goals as goal

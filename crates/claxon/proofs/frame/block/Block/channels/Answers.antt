@@ -1,4 +1,4 @@
-use Rattle.std.proofs.Common.{sym, ◌∙◌, ap}
+use Rattle.std.proofs.Common.{sym}
 use Rattle.claxon.proofs.Chunks.{length-chunks}
 use Rattle.claxon.proofs.frame.block.Block.channels.Goals as goal
 

@@ -1,4 +1,4 @@
-use Rattle.std.proofs.Common.{sym, ◌∙◌, ap}
+use Rattle.std.proofs.Common.{sym}
 use Rattle.claxon.proofs.Chunks.{duration-chunks}
 use Rattle.claxon.proofs.frame.block.Block.duration.Goals as goal
 

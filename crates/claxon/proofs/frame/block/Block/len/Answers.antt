@@ -1,4 +1,3 @@
-use Rattle.std.proofs.Common.{sym, ◌∙◌, ap, ◌*◌}
 use Rattle.claxon.proofs.Chunks.{length-chunks, duration-chunks}
 use Rattle.claxon.proofs.frame.block.Block.len.Goals as goal
 

@@ -1,4 +1,4 @@
-use Rattle.std.proofs.Common.{rules, arith, ◌≡◌, ◌<◌, length, pos, Some}
+use Rattle.std.proofs.Common.{rules, arith, ◌<◌, length, pos}
 use Rattle.std.proofs.lemmas.Option.{slice_get-get_or}
 use Rattle.claxon.proofs.frame.block.Block.sample.Goals as goal
 
