@@ -4,6 +4,8 @@
 mod command;
 mod output;
 mod run;
+#[cfg(test)]
+mod tests;
 
 pub use command::command;
 pub use output::Output;

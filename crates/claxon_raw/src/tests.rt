@@ -1,0 +1,348 @@
+//! Streams run into writers of all kinds, and the words of a command line.
+ghost use Rattle.std.specs.Prelude.{◌≤◌};
+
+use crate::{Output, command, run, write_samples};
+use claxon::{Error, FlacReader};
+use std::io::{Cursor, ErrorKind, Read, Write};
+use std::test::Fail;
+use std::{fs, io, process};
+
+// A place for a few bytes. It takes so many bytes a call, fails from some write on, and perhaps at each flush.
+#[derive(Drop)]
+struct Sink {
+    bytes: [u8; 32],
+    used: usize,
+    most: usize,
+    writes_left: u32,
+    fails_at_flush: bool,
+    flushes: u32,
+    ghost in_bounds: { used ≤ 32 },
+}
+
+impl Sink {
+    const fn new(most: usize, writes_left: u32, fails_at_flush: bool) -> Sink {
+        Sink {
+            bytes: [0; 32],
+            used: 0,
+            most,
+            writes_left,
+            fails_at_flush,
+            flushes: 0,
+        }
+    }
+
+    fn written(&self) -> &[u8] {
+        &self.bytes[..self.used]
+    }
+}
+
+impl Write for Sink {
+    fn write(&mut self, buf: &[u8]) -> io::Result<usize> {
+        if self.writes_left == 0 {
+            return Err(io::Error::from(ErrorKind::Other));
+        }
+        self.writes_left -= 1;
+        let count = buf.len().min(self.most).min(32 - self.used);
+        self.bytes[self.used..self.used + count].copy_from_slice(&buf[..count]);
+        self.used += count;
+        Ok(count)
+    }
+
+    fn flush(&mut self) -> io::Result<()> {
+        self.flushes = self.flushes.wrapping_add(1);
+        if self.fails_at_flush {
+            return Err(io::Error::from(ErrorKind::Other));
+        }
+        Ok(())
+    }
+}
+
+// Gives one byte a read, and fails once, after so many reads.
+#[derive(Drop)]
+struct FailsOnce<'a> {
+    bytes: &'a [u8],
+    left: u32,
+    has_failed: bool,
+}
+
+impl Read for FailsOnce<'_> {
+    fn read(&mut self, buf: &mut [u8]) -> io::Result<usize> {
+        if self.left == 0 && !self.has_failed {
+            self.has_failed = true;
+            return Err(io::Error::from(ErrorKind::Other));
+        }
+        self.left = self.left.saturating_sub(1);
+        let Some((first, rest)) = self.bytes.split_first() else {
+            return Ok(0);
+        };
+        if buf.is_empty() {
+            return Ok(0);
+        }
+        buf[0] = *first;
+        self.bytes = rest;
+        Ok(1)
+    }
+}
+
+// What a run ended with.
+#[derive(PartialEq, Debug, Clone, Copy)]
+enum End {
+    Clean(u64),
+    Io,
+    BadFooter,
+    Other,
+}
+
+fn end_of(outcome: claxon::Result<u64>) -> End {
+    match outcome {
+        Ok(count) => End::Clean(count),
+        Err(Error::IoError(_)) => End::Io,
+        Err(error) if error == Error::FormatError("frame CRC mismatch") => End::BadFooter,
+        Err(_) => End::Other,
+    }
+}
+
+// A head of one channel of 8 bits. The first byte of its block is 0x80 where it is the last.
+fn head(first: u8) -> [u8; 42] {
+    let mut bytes = [0; 42];
+    bytes[..26].copy_from_slice(&[
+        0x66, 0x4c, 0x61, 0x43, first, 0x00, 0x00, 0x22, 0x00, 0x10, 0x00, 0x10, 0x00, 0x00, 0x00,
+        0x00, 0x00, 0x00, 0x0a, 0xc4, 0x40, 0x70, 0x00, 0x00, 0x00, 0x01,
+    ]);
+    bytes
+}
+
+// The head and two frames of one sample, 5. The last byte ends the second one's guard.
+fn stream(last: u8) -> [u8; 64] {
+    let mut bytes = [0; 64];
+    bytes[..26].copy_from_slice(&[
+        0x66, 0x4c, 0x61, 0x43, 0x80, 0x00, 0x00, 0x22, 0x00, 0x10, 0x00, 0x10, 0x00, 0x00, 0x00,
+        0x00, 0x00, 0x00, 0x0a, 0xc4, 0x40, 0x70, 0x00, 0x00, 0x00, 0x01,
+    ]);
+    let frame = [
+        0xff, 0xf8, 0x69, 0x02, 0x00, 0x00, 0x9a, 0x00, 0x05, 0x34, 0x58,
+    ];
+    bytes[42..53].copy_from_slice(&frame);
+    bytes[53..64].copy_from_slice(&frame);
+    bytes[63] = last;
+    bytes
+}
+
+const FIVES: [u8; 8] = [5, 0, 0, 0, 5, 0, 0, 0];
+
+#[test]
+fn into_a_vector(rt: HostRuntime) -> Result<(), Fail> {
+    let mut output = Vec::new(rt.alloc());
+    let end = end_of(run(rt.alloc(), Cursor::new(stream(0x58)), &mut output));
+    assert_eq!(rt; end, End::Clean(2));
+    assert_eq!(rt; output.as_slice(), FIVES.as_slice());
+    Ok(())
+}
+
+#[test]
+fn stereo_pairs(rt: HostRuntime) -> Result<(), Fail> {
+    let mut bytes = Vec::new(rt.alloc());
+    bytes.extend_from_slice(&head(0x80))?;
+    bytes.extend_from_slice(&[
+        0xff, 0xf8, 0x69, 0x12, 0x00, 0x01, 0x3f, 0x00, 0x03, 0x00, 0xfe, 0x71, 0x51,
+    ])?;
+    let mut output = Sink::new(32, 9, false);
+    let end = end_of(run(rt.alloc(), Cursor::new(bytes.as_slice()), &mut output));
+    assert_eq!(rt; end, End::Clean(4));
+    let want = [
+        3, 0, 0, 0, 0xfe, 0xff, 0xff, 0xff, 3, 0, 0, 0, 0xfe, 0xff, 0xff, 0xff,
+    ];
+    assert_eq!(rt; output.written(), want.as_slice());
+    Ok(())
+}
+
+#[test]
+fn a_byte_a_write(rt: HostRuntime) {
+    let mut output = Sink::new(1, 8, false);
+    let end = end_of(run(rt.alloc(), Cursor::new(stream(0x58)), &mut output));
+    assert_eq!(rt; end, End::Clean(2));
+    assert_eq!(rt; output.written(), FIVES.as_slice());
+    assert!(rt; output.flushes > 0);
+}
+
+// A write that takes nothing is a failed one too.
+#[test]
+fn failed_writes(rt: HostRuntime) {
+    for (most, writes_left) in [(8, 0), (0, 9), (1, 3), (4, 1)] {
+        let mut output = Sink::new(most, writes_left, false);
+        let end = end_of(run(rt.alloc(), Cursor::new(stream(0x58)), &mut output));
+        assert_eq!(rt; end, End::Io, "{most} {writes_left}");
+    }
+}
+
+#[test]
+fn failed_flushes(rt: HostRuntime) {
+    let mut output = Sink::new(8, 9, true);
+    let end = end_of(run(rt.alloc(), Cursor::new(stream(0x58)), &mut output));
+    assert_eq!(rt; end, End::Io);
+    // The decoder's fault stands.
+    let mut output = Sink::new(8, 9, true);
+    let end = end_of(run(rt.alloc(), Cursor::new(stream(0x59)), &mut output));
+    assert_eq!(rt; end, End::BadFooter);
+}
+
+#[test]
+fn a_fault_after_samples(rt: HostRuntime) {
+    let mut output = Sink::new(32, 9, false);
+    let end = end_of(run(rt.alloc(), Cursor::new(stream(0x59)), &mut output));
+    assert_eq!(rt; end, End::BadFooter);
+    assert_eq!(rt; output.written(), &FIVES[..4]);
+    assert!(rt; output.flushes > 0);
+}
+
+#[test]
+fn each_read_failed(rt: HostRuntime) {
+    let bytes = stream(0x58);
+    for left in 0..65 {
+        let mut output = Sink::new(32, 9, false);
+        let input = FailsOnce {
+            bytes: &bytes,
+            left,
+            has_failed: false,
+        };
+        let want = if left < 53 {
+            0
+        } else if left < 64 {
+            4
+        } else {
+            8
+        };
+        assert_eq!(rt;
+            end_of(run(rt.alloc(), input, &mut output)),
+            End::Io,
+            "{left}"
+        );
+        assert_eq!(rt; output.written(), &FIVES[..want], "{left}");
+    }
+}
+
+// What comes after the first frame.
+#[test]
+fn the_rest_of_a_stream(rt: HostRuntime) -> Result<(), Fail> {
+    let mut flac = FlacReader::new(rt.alloc(), Cursor::new(stream(0x58)))?;
+    assert!(rt; matches!(flac.samples().next(), Some(Ok(5))));
+    assert!(rt; !flac.is_metadata_only());
+    let mut sink = Sink::new(32, 9, false);
+    let mut output = Output::new(&mut sink);
+    assert_eq!(rt;
+        end_of(write_samples(rt.alloc(), &mut flac, &mut output)),
+        End::Clean(1)
+    );
+    drop(output);
+    assert_eq!(rt; sink.written(), &FIVES[..4]);
+    Ok(())
+}
+
+// What a command line gives: its status, what it writes, and what it says.
+#[derive(Drop)]
+struct Outcome {
+    status: u8,
+    output: Vec<u8>,
+    errors: Vec<u8>,
+}
+
+fn outcome_of(rt: &HostRuntime, words: &[&str]) -> claxon::Result<Outcome> {
+    let mut owned = Vec::new(rt.alloc());
+    for word in words {
+        owned.push(String::from_str(rt.alloc(), *word)?)?;
+    }
+    let (mut output, mut errors) = (Vec::new(rt.alloc()), Vec::new(rt.alloc()));
+    let status = command(rt, &owned, &mut output, &mut errors);
+    Ok(Outcome {
+        status,
+        output,
+        errors,
+    })
+}
+
+// The name of a file of this process's own that holds these bytes.
+fn file_of(rt: &HostRuntime, name: &str, bytes: &[u8]) -> Result<String, Fail> {
+    let id = process::id(rt.process());
+    let path = format!(in rt.alloc(); "/tmp/claxon_raw_{name}_{id}")?;
+    fs::write(rt, path.as_str(), bytes)?;
+    Ok(path)
+}
+
+#[test]
+fn files_of_samples(rt: HostRuntime) -> Result<(), Fail> {
+    let path = file_of(&rt, "whole", &stream(0x58))?;
+    let clean = outcome_of(&rt, &[path.as_str()]);
+    fs::remove_file(&rt, path.as_str())?;
+    let clean = clean?;
+    assert_eq!(rt; clean.status, 0);
+    assert_eq!(rt; clean.output.as_slice(), FIVES.as_slice());
+    assert!(rt; clean.errors.is_empty());
+    Ok(())
+}
+
+#[test]
+fn damaged_files(rt: HostRuntime) -> Result<(), Fail> {
+    let path = file_of(&rt, "damaged", &stream(0x59))?;
+    let damaged = outcome_of(&rt, &[path.as_str()]);
+    fs::remove_file(&rt, path.as_str())?;
+    let damaged = damaged?;
+    assert_eq!(rt; damaged.status, 1);
+    assert_eq!(rt; damaged.output.as_slice(), &FIVES[..4]);
+    let text = b"Ill-formed FLAC stream: frame CRC mismatch\n";
+    assert_eq!(rt; damaged.errors.as_slice(), text.as_slice());
+    Ok(())
+}
+
+#[test]
+fn files_that_are_not_there(rt: HostRuntime) -> Result<(), Fail> {
+    for words in [
+        ["/tmp/claxon_raw_none/none"].as_slice(),
+        ["--tags", "/tmp/claxon_raw_none/none"].as_slice(),
+    ] {
+        let absent = outcome_of(&rt, words)?;
+        assert_eq!(rt; absent.status, 1);
+        assert!(rt; absent.output.is_empty());
+        assert!(rt; !absent.errors.is_empty());
+    }
+    Ok(())
+}
+
+#[test]
+fn tags_of_a_file(rt: HostRuntime) -> Result<(), Fail> {
+    let mut bytes = Vec::new(rt.alloc());
+    bytes.extend_from_slice(&head(0x00))?;
+    bytes.extend_from_slice(&[
+        0x84, 0x00, 0x00, 0x13, 0x00, 0x00, 0x00, 0x00, 0x02, 0x00, 0x00, 0x00, 0x00, 0x00, 0x00,
+        0x00, 0x03, 0x00, 0x00, 0x00, 0x58, 0x3d, 0x59,
+    ])?;
+    let path = file_of(&rt, "tags", &bytes)?;
+    let tags = outcome_of(&rt, &["--tags", path.as_str()]);
+    fs::remove_file(&rt, path.as_str())?;
+    let tags = tags?;
+    assert_eq!(rt; tags.status, 0);
+    assert_eq!(rt; tags.output.as_slice(), b"X=Y\n".as_slice());
+    assert!(rt; tags.errors.is_empty());
+    Ok(())
+}
+
+#[test]
+fn other_words(rt: HostRuntime) -> Result<(), Fail> {
+    let rows: [&[&str]; 4] = [&[], &["--tags"], &["a", "b"], &["--tags", "a", "b"]];
+    for words in rows {
+        let usage = outcome_of(&rt, words)?;
+        assert_eq!(rt; usage.status, 2);
+        assert!(rt; usage.output.is_empty());
+        let text = b"usage: claxon_raw [--tags] FILE\n";
+        assert_eq!(rt; usage.errors.as_slice(), text.as_slice());
+    }
+    Ok(())
+}
+
+// A failed write of the text changes nothing.
+#[test]
+fn a_usage_line_that_is_lost(rt: HostRuntime) {
+    let words = Vec::new(rt.alloc());
+    let mut errors = Sink::new(1, 0, false);
+    let status = command(&rt, &words, &mut Sink::new(1, 0, false), &mut errors);
+    assert_eq!(rt; status, 2);
+}
