@@ -1,8 +1,8 @@
 -- Bits at hand, and bits that are skipped.
-use Rattle.std.proofs.Common.{bit_or, bit_and, ◌≡◌, ℕ, suc, ◌+◌, ◌-◌, ◌*◌, ◌/◌, ◌%◌, ◌^◌, ◌<◌, ◌≤◌, ◌⊎◌, inl, inr, Bool, true, false, ltb, List, [], ◌∷◌, ◌++◌, length, take, drop, get_or, replicate, Option, None, Some, refl, sym, ap, subst, ◌∙◌, append_assoc, arith, length-append}
+use Rattle.std.proofs.Common.{bit_or, bit_and, ◌≡◌, ℕ, suc, ◌+◌, ◌-◌, ◌*◌, ◌/◌, ◌%◌, ◌^◌, ◌<◌, ◌≤◌, ◌⊎◌, inl, inr, Bool, true, false, ltb, cond, List, [], ◌∷◌, ◌++◌, length, take, drop, get_or, replicate, Option, None, Some, refl, sym, ap, subst, ◌∙◌, append_assoc, arith, length-append}
 use Rattle.std.specs.Prelude.{IfSome}
 use Rattle.std.specs.Option.{option_map}
-use Rattle.std.proofs.lemmas.Bool.{lt-ltb, le-ltb}
+use Rattle.std.proofs.lemmas.Bool.{lt-ltb, le-ltb, ltb-true}
 use Rattle.std.proofs.lemmas.Nat.{or_shifted, shr_below, pow-add}
 use Rattle.std.proofs.lemmas.List.{drop_at, drop-drop, take-append-drop, drop_more, append-nil}
 use Rattle.claxon_format.specs.Bits.{Bits, bits, bits_of}
@@ -32,8 +32,8 @@ four_here bytes i n h small e =
     let q : i + 2 + 1 ≡ i + 3 = omega arith in
     let part : take 4 (drop i bytes) ≡ get_or bytes i 0 ∷ get_or bytes (i + 1) 0 ∷ get_or bytes (i + 2) 0 ∷ get_or bytes (i + 3) 0 ∷ []
     = one_byte bytes i 3 (omega arith) ∙ ap (λ (t : List ℕ). get_or bytes i 0 ∷ t) (one_byte bytes (i + 1) 2 (omega arith) ∙ ap (λ (t : List ℕ). get_or bytes (i + 1) 0 ∷ t) (
-        ap (λ (j : ℕ). take 2 (drop j bytes)) p ∙ one_byte bytes (i + 2) 1 (omega arith) ∙ ap (λ (t : List ℕ). get_or bytes (i + 2) 0 ∷ t) (
-        ap (λ (j : ℕ). take 1 (drop j bytes)) q ∙ one_byte bytes (i + 3) 0 (omega arith)))) in
+    ap (λ (j : ℕ). take 2 (drop j bytes)) p ∙ one_byte bytes (i + 2) 1 (omega arith) ∙ ap (λ (t : List ℕ). get_or bytes (i + 2) 0 ∷ t) (
+    ap (λ (j : ℕ). take 1 (drop j bytes)) q ∙ one_byte bytes (i + 3) 0 (omega arith)))) in
     let a : ℕ = get_or bytes i 0 in
     let b : ℕ = get_or bytes (i + 1) 0 in
     let c : ℕ = get_or bytes (i + 2) 0 in
@@ -85,10 +85,11 @@ number_here cache count n m rest h k l =
 pub is_ahead : (left : Bits) (o : Option (List ℕ)) (bytes part : List ℕ) (most : ℕ) → IsFront bytes o → part ≡ take most bytes → is_told o ≡ true → (rest : Bits) × (known (bits_after left) o ≡ (left ++ bits_of (drop 0 part)) ++ rest)
 is_ahead left None bytes part most h p t = absurd cc
 is_ahead left (Some all) bytes part most h p t =
-    let whole : all ≡ take most bytes ++ (drop most bytes ++ h.0) = h.1 ∙ ap (λ (x : List ℕ). x ++ h.0) (sym (take-append-drop most bytes)) ∙ append_assoc (take most bytes) (drop most bytes) h.0 in
-    (bits_of (drop most bytes ++ h.0),
-     ap (λ (x : List ℕ). left ++ bits_of x) whole ∙ ap (λ (x : Bits). left ++ x) (bits_of-append (take most bytes) (drop most bytes ++ h.0))
-     ∙ sym (append_assoc left (bits_of (take most bytes)) (bits_of (drop most bytes ++ h.0))) ∙ ap (λ (x : List ℕ). (left ++ bits_of x) ++ bits_of (drop most bytes ++ h.0)) (sym p))
+    let whole : all ≡ take most bytes ++ (drop most bytes ++ h.0) = h.1 ∙ ap (λ (x : List ℕ). x ++ h.0) (sym (take-append-drop most bytes)) ∙ append_assoc (take most bytes) (drop most bytes) h.0 in (
+      bits_of (drop most bytes ++ h.0),
+      ap (λ (x : List ℕ). left ++ bits_of x) whole ∙ ap (λ (x : Bits). left ++ x) (bits_of-append (take most bytes) (drop most bytes ++ h.0))
+          ∙ sym (append_assoc left (bits_of (take most bytes)) (bits_of (drop most bytes ++ h.0))) ∙ ap (λ (x : List ℕ). (left ++ bits_of x) ++ bits_of (drop most bytes ++ h.0)) (sym p),
+    )
 
 -- ---- bits that are skipped
 
@@ -101,6 +102,22 @@ passed n t m e =
 too_few : (n : ℕ) (s : Bits) → length s < n → passed_at n s ≡ Short
 unfolding passed_at
 too_few n s h = let k : ltb (length s) n ≡ true = lt-ltb _ _ h in rw k refl
+
+pub passed_is : (n : ℕ) (s m : Bits) → passed_at n s ≡ Done tt m → m ≡ drop n s
+unfolding passed_at
+passed_is n s m e = go (ltb (length s) n) e
+  where
+    go : (b : Bool) → cond b Short (Done (tt {0}) (drop n s)) ≡ Done (tt {0}) m → m ≡ drop n s
+    go true h = absurd cc
+    go false h = cc
+
+pub not_passed : (n : ℕ) (s : Bits) → passed_at n s ≡ Short → length s < n
+unfolding passed_at
+not_passed n s e = go (ltb (length s) n) refl e
+  where
+    go : (b : Bool) → ltb (length s) n ≡ b → cond b Short (Done (tt {0}) (drop n s)) ≡ Short → length s < n
+    go true h k = ltb-true (length s) n h
+    go false h k = absurd cc
 
 pub went_passed : {a b : BitState} {t : Bits} (n : ℕ) → TakesBits a b t → length t ≡ n → Went (bits_in a) (bits_in b) (λ s m. passed_at n s ≡ Done tt m)
 went_passed {t = t} n h e = went (λ s m. passed_at n s ≡ Done tt m) h (λ m. passed n t m e)
