@@ -1,5 +1,5 @@
 -- Readers of bits whose fields are whole bytes, and the readers of bytes that do the same.
-use Rattle.std.proofs.Common.{◌≡◌, ℕ, zero, suc, ◌-◌, ◌*◌, ◌/◌, ◌≤◌, Bool, true, false, ltb, List, [], ◌++◌, length, take, drop, refl, sym, ap, subst, ◌∙◌, append_assoc, arith}
+use Rattle.std.proofs.Common.{◌≡◌, ℕ, ◌-◌, ◌/◌, Bool, true, false, List, [], ◌++◌, length, drop, refl, sym, ap, subst, ◌∙◌, append_assoc, arith}
 use Rattle.claxon_format.specs.Bits.{Bits, bits_of}
 use Rattle.claxon_format.specs.Fault.{Fault}
 use Rattle.claxon_format.specs.Frame.{by_bytes, whole}
@@ -23,9 +23,9 @@ pub record Whole (A : Type 0) (r : Bits → Reading Bool A) (q : List ℕ → Re
   pub same : (s : List ℕ) → r (bits_of s) ≡ in_bits (q s)
   pub rest : (s : List ℕ) → Leaves s (q s)
 
--- bytes are read as the reader of bytes does
-pub whole_is : {A : Type 0} {r : Bits → Reading Bool A} {q : List ℕ → Reading ℕ A} → Whole A r q → (s : List ℕ) → by_bytes r s ≡ q s
-whole_is {A = A} {r = r} {q = q} h s = ap (whole s) (h.same s) ∙ go (q s) (h.rest s)
+-- what a reader of bytes leaves is whole
+pub whole_again : {A : Type 0} (s : List ℕ) (x : Reading ℕ A) → Leaves s x → whole s (in_bits x) ≡ x
+whole_again {A = A} s x l = go x l
   where
     back : (t m : List ℕ) → s ≡ t ++ m → drop (length s - length (bits_of m) / 8) s ≡ m
     back t m e = subst (λ (z : List ℕ). drop (length z - length (bits_of m) / 8) z ≡ m) (sym e) (left_again t m [] (omega arith))
@@ -35,6 +35,10 @@ whole_is {A = A} {r = r} {q = q} h s = ap (whole s) (h.same s) ∙ go (q s) (h.r
     go (Faulty f m) l = ap (λ (z : List ℕ). Faulty f z) (back l.0 m l.1)
     go Short l = refl
 
+-- bytes are read as the reader of bytes does
+pub whole_is : {A : Type 0} {r : Bits → Reading Bool A} {q : List ℕ → Reading ℕ A} → Whole A r q → (s : List ℕ) → by_bytes r s ≡ q s
+whole_is {A = A} {r = r} {q = q} h s = ap (whole s) (h.same s) ∙ whole_again s (q s) (h.rest s)
+
 -- ---- readers put together
 
 in_bits_then : {A B : Type 0} (x : Reading ℕ A) {f : A → Bits → Reading Bool B} {g : A → List ℕ → Reading ℕ B} → ((a : A) → Whole B (f a) (g a)) → bind (in_bits x) f ≡ in_bits (bind x g)
@@ -42,7 +46,7 @@ in_bits_then (Done a m) k = (k a).same m
 in_bits_then (Faulty f m) k = refl
 in_bits_then Short k = refl
 
-leaves_later : {A : Type 0} (s t m : List ℕ) (x : Reading ℕ A) → s ≡ t ++ m → Leaves m x → Leaves s x
+pub leaves_later : {A : Type 0} (s t m : List ℕ) (x : Reading ℕ A) → s ≡ t ++ m → Leaves m x → Leaves s x
 leaves_later s t m (Done a k) e l = (t ++ l.0, e ∙ ap (λ (z : List ℕ). t ++ z) l.1 ∙ sym (append_assoc t l.0 k))
 leaves_later s t m (Faulty f k) e l = (t ++ l.0, e ∙ ap (λ (z : List ℕ). t ++ z) l.1 ∙ sym (append_assoc t l.0 k))
 leaves_later s t m Short e l = tt
