@@ -34,7 +34,7 @@ Cuts f g bytes xs = (rest : List ℕ) → f (bytes ++ rest) ≡ xs ++ g rest
 record Told {X : Type 0} (f g : List ℕ → List X) (a b : Source ℕ) (p q : Option (List ℕ)) (P : List X → List X → Type 0) : Type 0 where
   told : is_told q ≡ true
   is : P (known f p) (known g q)
-  rest : (z : List X) → IsRest z (known f p) → IsRest z (known g q)
+  rest : (z : List ℕ) → IsRest z (known (λ all. all) p) → IsRest z (known (λ all. all) q)
   checks : past q b.checks ≡ past p a.checks
 
 knows : {X : Type 0} (f g : List ℕ → List X) (a b : Source ℕ) (p q : Option (List ℕ)) (bytes : List ℕ) (xs : List X) (P : List X → List X → Type 0) → LosesFront p q bytes → Cuts f g bytes xs
@@ -46,7 +46,7 @@ knows f g a b (Some all) (Some rest) bytes xs P l e c h t =
     record {
       told = refl;
       is = subst (λ (s : List _). P s (g rest)) (sym k) (h (g rest));
-      rest = λ z. rest_after z (f all) xs (g rest) k;
+      rest = λ z. rest_after z all bytes rest l;
       checks = same_function (λ more. c tt (rest ++ more) ∙ ap a.checks (sym (append_assoc bytes rest more) ∙ ap (λ (x : List ℕ). x ++ more) (sym l)));
     }
 
@@ -82,27 +82,27 @@ went_bytes {xs = xs} P h k = went_by (λ all. all) (λ all. all) xs P h (λ rest
 record Failing {X : Type 0} (f g : List ℕ → List X) (a b : Source ℕ) (p q : Option (List ℕ)) (P : List X → Type 0) : Type 0 where
   told : is_told q ≡ true
   why : P (known f p) ⊎ FailedIn (stream_of f a) (stream_of g b)
-  rest : (z : List X) → IsRest z (known f p) → IsRest z (known g q)
+  rest : (z : List ℕ) → IsRest z (known (λ all. all) p) → IsRest z (known (λ all. all) q)
 
 failed_in : {X : Type 0} (f g : List ℕ → List X) (a b : Source ℕ) (left : List ℕ) → b.to_come ≡ Some left → (HasMore (Some left) → g left ≡ [] → ⊥) → Failed a b → FailedIn (stream_of f a) (stream_of g b)
 failed_in f g a b left e n (inl h) = inl h
 failed_in f g a b left e n (inr h) = inr (h.0, rw e (n (subst (λ (o : Option (List ℕ)). HasMore o) e h.1)))
 
-fails : {X : Type 0} (f g : List ℕ → List X) (a b : Source ℕ) (p q : Option (List ℕ)) (lost : List ℕ) (xs : List X) (P Q : List X → Type 0) → b.to_come ≡ q → LosesFront p q lost → Cuts f g lost xs
+fails : {X : Type 0} (f g : List ℕ → List X) (a b : Source ℕ) (p q : Option (List ℕ)) (lost : List ℕ) (P Q : List X → Type 0) → b.to_come ≡ q → LosesFront p q lost
     → ((left : List ℕ) → HasMore (Some left) → g left ≡ [] → ⊥) → IfSome (option_map f p) (λ all. Q all ⊎ Failed a b) → ((s : List X) → Q s → P s) → is_told p ≡ true → Failing f g a b p q P
-fails f g a b None q lost xs P Q e l k n c h t = absurd cc
-fails f g a b (Some all) None lost xs P Q e l k n c h t = absurd l
-fails f g a b (Some all) (Some left) lost xs P Q e l k n c h t = record {
+fails f g a b None q lost P Q e l n c h t = absurd cc
+fails f g a b (Some all) None lost P Q e l n c h t = absurd l
+fails f g a b (Some all) (Some left) lost P Q e l n c h t = record {
   told = refl;
   why = elim c [ inl q ↦ inl (h (f all) q) | inr q ↦ inr (failed_in f g a b left e (n left) q) ];
-  rest = λ z. rest_after z (f all) xs (g left) (ap f l ∙ k left);
+  rest = λ z. rest_after z all lost left l;
 }
 
-stuck_by : {X : Type 0} (f g : List ℕ → List X) {a b : Source ℕ} (xs : List X) (P Q : List X → Type 0) → (r : LosesSome a b) → Cuts f g r.lost xs → ((left : List ℕ) → HasMore (Some left) → g left ≡ [] → ⊥)
+stuck_by : {X : Type 0} (f g : List ℕ → List X) {a b : Source ℕ} (P Q : List X → Type 0) → LosesSome a b → ((left : List ℕ) → HasMore (Some left) → g left ≡ [] → ⊥)
     → IfSome (option_map f a.to_come) (λ all. Q all ⊎ Failed a b) → ((s : List X) → Q s → P s) → Stuck (stream_of f a) (stream_of g b) P
-stuck_by f g {a = a} {b = b} xs P Q r k n c h = record {
+stuck_by f g {a = a} {b = b} P Q r n c h = record {
   loans = r.loans;
-  known = λ t. let w = fails f g a b a.to_come b.to_come r.lost xs P Q refl r.front k n c h t in record { told = w.told; why = w.why; rest = w.rest };
+  known = λ t. let w = fails f g a b a.to_come b.to_come r.lost P Q refl r.front n c h t in record { told = w.told; why = w.why; rest = w.rest };
 }
 
 no_bits : (left : List ℕ) → HasMore (Some left) → [] ++ bits_of left ≡ [] → ⊥
@@ -113,13 +113,7 @@ no_bits (x ∷ left) h e = cc
 pub stuck : (a b : BitState) (P Q : Bits → Type 0) → LosesSome a.source b.source → b.left ≡ [] → IfSome (bits_to_come a) (λ all. Q all ⊎ Failed a.source b.source) → ((s : Bits) → Q s → P s)
     → Stuck (bits_in a) (bits_in b) P
 stuck a b P Q r e c h =
-    stuck_by (bits_after a.left) (bits_after b.left) (a.left ++ bits_of r.lost) P Q r
-    (cuts_bits a.left b.left r.lost (a.left ++ bits_of r.lost) (rw e (sym (append_nil (a.left ++ bits_of r.lost)))))
-    (λ left m k. no_bits left m (subst (λ (l : Bits). l ++ bits_of left ≡ []) e k)) c h
-  where
-    append_nil : (xs : Bits) → xs ++ [] ≡ xs
-    append_nil [] = refl
-    append_nil (x ∷ xs) = ap (λ (l : Bits). x ∷ l) (append_nil xs)
+    stuck_by (bits_after a.left) (bits_after b.left) P Q r (λ left m k. no_bits left m (subst (λ (l : Bits). l ++ bits_of left ≡ []) e k)) c h
 
 bytes_cause : (p : Option (List ℕ)) (n : ℕ) (F : Type 0) → IfSome p (λ all. (length all < n) ⊎ F) → IfSome (option_map (λ (all : List ℕ). all) p) (λ all. (length all < n) ⊎ F)
 bytes_cause None n F h = h
@@ -163,7 +157,7 @@ short_bytes n s h = let k : ltb (length s) n ≡ true = lt-ltb _ _ h in rw k ref
 
 pub stuck_bytes : {a b : Source ℕ} (n : ℕ) → Refuses a b n → Stuck (bytes_of_source a) (bytes_of_source b) (λ s. bytes_at n s ≡ Short)
 stuck_bytes {a} {b} n h =
-    stuck_by (λ all. all) (λ all. all) h.rest.lost (λ s. bytes_at n s ≡ Short) (λ s. length s < n) h.rest (λ rest. refl) (λ left m. m) (bytes_cause a.to_come n (Failed a b) h.cause) (short_bytes n)
+    stuck_by (λ all. all) (λ all. all) (λ s. bytes_at n s ≡ Short) (λ s. length s < n) h.rest (λ left m. m) (bytes_cause a.to_come n (Failed a b) h.cause) (short_bytes n)
 
 -- ---- zeros up to a one
 
