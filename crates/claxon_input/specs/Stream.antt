@@ -82,7 +82,7 @@ pub record Went {X : Type 0} (old new : Stream X) (P : List X → List X → Typ
 
 -- a read of the source answered an Err, or nothing before the end
 abbrev pub FailedIn : {X : Type 0} → Stream X → Stream X → Type 0
-FailedIn old new = (new.errors ≢ old.errors) ⊎ ((new.empties ≢ old.empties) × (new.coming ≢ []))
+FailedIn old new = (new.errors ≢ old.errors) ⊎ ((new.empties ≢ old.empties) × (new.bytes ≢ []))
 
 -- What is to come is still known, P holds or the source failed, and a front was taken.
 pub record Fails {X : Type 0} (old new : Stream X) (P : Type 0) : Type 0 where
