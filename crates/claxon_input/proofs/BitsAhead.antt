@@ -130,7 +130,7 @@ short_cause left (Some all) few n F e (inr h) = inr h
 -- the bytes of the skipped bits didn't come
 pub stuck_skip : (a : BitState) (s : Source ℕ) (few n : ℕ) → length a.left + 8 * few ≤ n → Refuses a.source s few → Stuck (bits_in a) (bits_in (left_in 0 0 s)) (λ x. passed_at n x ≡ Short)
 unfolding bits
-stuck_skip a s few n e h = stuck a (left_in 0 0 s) (λ x. passed_at n x ≡ Short) (λ x. length x < n) h.rest refl (short_cause a.left a.source.to_come few n (Failed a.source s) e h.cause) (too_few n)
+stuck_skip a s few n e h = stuck a (left_in 0 0 s) (λ x. passed_at n x ≡ Short) (λ x. length x < n) h.rest (short_cause a.left a.source.to_come few n (Failed a.source s) e h.cause) (too_few n)
 
 -- the left-over bits and whole bytes were taken
 pub bytes_passed : (a : BitState) (s : Source ℕ) (few : ℕ) → Skips a.source s few → (t : Bits) × (length t ≡ length a.left + 8 * few) × TakesBits a (left_in 0 0 s) t
@@ -147,7 +147,7 @@ unfolding bits
 stuck_last a m s few n e h k =
     let p = bytes_passed a m few h in
     let r : RefusesBits a (left_in 0 0 s) n = refused n p.2 (omega (arith, p.1)) k in
-    stuck a (left_in 0 0 s) (λ x. passed_at n x ≡ Short) (λ x. (length x < n) × (s.to_come ≡ Some [])) r.rest r.emptied r.cause (λ x q. too_few n x q.0)
+    stuck a (left_in 0 0 s) (λ x. passed_at n x ≡ Short) (λ x. (length x < n) × (s.to_come ≡ Some [])) r.rest r.cause (λ x q. too_few n x q.0)
 
 -- and then the upper bits of one more byte
 pub last_passed : (a : BitState) (m s : Source ℕ) (few n byte left : ℕ) → length a.left + 8 * few + (8 - left) ≡ n → left < 8 → Skips a.source m few → Takes m s (byte ∷ [])

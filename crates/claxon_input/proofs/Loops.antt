@@ -18,7 +18,7 @@ front_none (Done xs rest) = refl
 front_none (Faulty f rest) = refl
 front_none Short = refl
 
-regroup : {X A : Type 0} (front : List A) (a : A) (x : Reading X (List A)) → with_front front (bind x (λ others rest. Done (a ∷ others) rest)) ≡ with_front (front ++ a ∷ []) x
+pub regroup : {X A : Type 0} (front : List A) (a : A) (x : Reading X (List A)) → with_front front (bind x (λ others rest. Done (a ∷ others) rest)) ≡ with_front (front ++ a ∷ []) x
 regroup front a (Done others rest) = ap (λ (t : List _). Done t rest) (sym (append_assoc front (a ∷ []) others))
 regroup front a (Faulty f rest) = refl
 regroup front a Short = refl
