@@ -12,3 +12,5 @@ pub mod Restores
 pub mod Wraps
 pub mod Taking
 pub mod Predictors
+pub mod Lanes
+pub mod Windows
