@@ -14,3 +14,4 @@ pub mod Taking
 pub mod Predictors
 pub mod Lanes
 pub mod Windows
+pub mod Entries

@@ -131,6 +131,23 @@ fn predict_plain(coefficients: &[i16], shift: u32, buffer: &mut [i32])
     }
 }
 
+/// The samples of a linear predictor, from as many samples as it has coefficients and the residual after them. The first
+/// coefficient belongs to the newest sample; they are turned round. (RFC 9639, section 9.2.6.)
+pub fn predict_lpc(coefficients: &mut [i16], shift: u32, buffer: &mut [i32])
+    requires few { length coefficients.old ≤ 32 }
+    requires warm { length coefficients.old ≤ length buffer.old }
+    requires shift { shift ≤ 15 }
+    ensures { buffer.new ≡ restored (linear coefficients.old shift) (length coefficients.old) buffer.old }
+{
+    // The predictors take the oldest sample's first.
+    coefficients.reverse();
+    if coefficients.len() <= 12 {
+        predict_lpc_low_order(coefficients, shift, buffer);
+    } else {
+        predict_lpc_high_order(coefficients, shift, buffer);
+    }
+}
+
 /// The samples of a linear predictor of more than 12 coefficients, from as many samples as it has coefficients, the
 /// oldest first, and the residual after them. (RFC 9639, section 9.2.6.)
 pub fn predict_lpc_high_order(coefficients: &[i16], shift: u32, buffer: &mut [i32])
@@ -183,6 +200,7 @@ fn narrow(lanes: i64x4) -> i64x4
     (lanes << i64x4::splat(32)) >> i64x4::splat(32)
 }
 
+// Four samples in 64 bits each. They are read one by one, so that each is known to fit 32 bits: it compiles to one load.
 #[inline(always)]
 fn widened(samples: &[i32]) -> i64x4
     requires { length samples.now ≡ 4 }
