@@ -16,3 +16,6 @@ pub mod Restores
 pub mod Wraps
 pub mod Taking
 pub mod Predictors
+pub mod Lanes
+pub mod Windows
+pub mod Entries
