@@ -1,6 +1,6 @@
 -- What was read through a remainder: the remainder is that of the bytes taken, and a guard is compared with it.
-use Rattle.std.specs.Borrow.{GName}
-use Rattle.std.proofs.Common.{◌≡◌, ℕ, ◌<◌, true, List, [], ◌∷◌, ◌++◌, Option, None, Some, refl, sym, ap, ◌∙◌}
+use Rattle.std.specs.Borrow.{GName, MutBor}
+use Rattle.std.proofs.Common.{◌≡◌, ℕ, ◌<◌, true, List, [], ◌∷◌, ◌++◌, Option, None, Some, refl, subst, sym, ap, ◌∙◌}
 use Rattle.std.specs.Prelude.{Result, Ok, Err}
 use Rattle.claxon_format.specs.Bits.{Bits, bits_of}
 use Rattle.claxon_format.specs.Fault.{Fault}
@@ -10,12 +10,15 @@ use Rattle.claxon_format.specs.Reading.{Reading, Done, Short, bind, done, taken}
 use Rattle.claxon_format.proofs.SealedBytes.{sealed_after}
 use Rattle.claxon_format.proofs.Bytes.{bits_of-append}
 use Rattle.claxon_format.proofs.Sealed.{taken_is}
-use Rattle.claxon_input.specs.Source.{Source, with_check}
+use Rattle.claxon_input.specs.Source.{Source, through_loan, with_check}
 use Rattle.claxon_input.specs.Remainders.{check8, check16}
-use Rattle.claxon_input.specs.Stream.{Stream, past, is_told, known, IsRest, Went, Stuck, IsFaultOf, Stops, Gives, GivesOrStarves}
+use Rattle.claxon_input.specs.Stream.{Stream, bytes_in, past, is_told, known, IsRest, Went, Stuck, IsFaultOf, Stops, Gives, GivesOrStarves}
+use Rattle.claxon_input.specs.Checked.{checked_source, checked_state, checked_inner}
+use Rattle.claxon_input.specs.declared.crc.CheckedReader.{CheckedReader}
 use Rattle.claxon_input.specs.declared.error.Error.{Error}
 use Rattle.claxon_input.specs.declared.error.Error.TheVariants.{IoError, FormatError, Unsupported, OutOfMemory}
 use Rattle.claxon_input.proofs.Streams.{bytes_of_source, same_function}
+use Rattle.claxon_input.proofs.Went.{gives_loans}
 use Rattle.claxon_input.proofs.Remainders.{bits_8, bits_16}
 
 -- the bytes that are to come, where they are known
@@ -84,6 +87,9 @@ module _ {X : Type 0} (a b : Stream X) (l m : List GName) (f g : List ℕ → Li
 pub same_below : (m n : GName) (xs ys : List GName) → n ∷ ys ≡ m ∷ xs → ys ≡ xs
 same_below m n xs ys e = cc
 
+pub name_below : (m n : GName) (xs ys : List GName) → n ∷ ys ≡ m ∷ xs → m ≡ n
+name_below m n xs ys e = cc
+
 -- a remainder, and those below it
 pub kept_below : (p q : Option (List ℕ)) (f g : List ℕ → ℕ) (u v : List ℕ → List ℕ) → is_told p ≡ true → is_told q ≡ true → past q (λ xs. g xs ∷ v xs) ≡ past p (λ xs. f xs ∷ u xs) → past q v ≡ past p u
 kept_below None q f g u v t k e = absurd cc
@@ -100,3 +106,29 @@ went_told T h f = record { errors = h.errors; empties = h.empties; loans = h.loa
 pub went_sealed : {A : Type 0} (w c : ℕ) (guard : Bits → ℕ) (f : Fault) (r : List ℕ → Reading ℕ A) (y : A) (a m : Stream ℕ) → Went a m (λ s k. r s ≡ Done y k) → (a.told ≡ true → c ≡ guard (bits_of (taken a.coming m.coming)))
     → Went a m (λ s k. sealed_bytes_at w guard f r s ≡ bind (expected_at w c f k) (λ u. done y))
 went_sealed w c guard f r y a m h k = went_told _ h (λ t p. sealed_after w c guard f r y a.coming m.coming p (k t))
+
+-- ---- a reader of remainders over a reference
+
+-- the source behind a reference
+abbrev pub behind : {R : Type 0} → (R → Source ℕ) → MutBor R → Source ℕ
+behind source r = through_loan r.ghost_name (source r.now)
+
+module _ {R S A Y : Type 0} (source : R → Source ℕ) (check : S → List ℕ → ℕ) (x : R) (j : GName) (f : List ℕ → ℕ) (b c : CheckedReader (MutBor R) S) (view : A → Y) (r : Result A Error) (read : List ℕ → Reading ℕ Y)
+    (made : checked_source (behind source) check b ≡ with_check f (through_loan j (source x))) where
+  -- what it gave is given by what the reference reaches
+  pub gives_checked : Gives view r read (bytes_in (checked_source (behind source) check) b) (bytes_in (checked_source (behind source) check) c) → Gives view r read (bytes_in source x) (bytes_in source (checked_inner c).now)
+  unfolding bytes_in
+  gives_checked h =
+      let y = source (checked_inner c).now in
+      gives_below (bytes_of_source (source x)) (bytes_of_source y) (j ∷ (source x).loans) ((checked_inner c).ghost_name ∷ y.loans)
+      (past (source x).to_come (λ xs. f xs ∷ (source x).checks xs)) (past y.to_come (λ xs. check (checked_state c) xs ∷ y.checks xs)) (same_below j (checked_inner c).ghost_name (source x).loans y.loans)
+      (λ t u. kept_below (source x).to_come y.to_come f (check (checked_state c)) (source x).checks y.checks t u) view r read
+      (subst (λ (z : Source ℕ). Gives view r read (bytes_of_source z) (bytes_of_source (with_check (check (checked_state c)) (through_loan (checked_inner c).ghost_name y)))) made h)
+
+  -- and the reference is still the same
+  pub name_checked : Gives view r read (bytes_in (checked_source (behind source) check) b) (bytes_in (checked_source (behind source) check) c) → j ≡ (checked_inner c).ghost_name
+  unfolding bytes_in
+  name_checked h =
+      let y = source (checked_inner c).now in
+      name_below j (checked_inner c).ghost_name (source x).loans y.loans
+      (gives_loans view r read _ _ (subst (λ (z : Source ℕ). Gives view r read (bytes_of_source z) (bytes_of_source (with_check (check (checked_state c)) (through_loan (checked_inner c).ghost_name y)))) made h))
