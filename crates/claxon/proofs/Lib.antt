@@ -1,4 +1,5 @@
 pub mod ByteFields
+pub mod Borders
 pub mod Ends
 pub mod EndsPublic
 pub mod Pairs
