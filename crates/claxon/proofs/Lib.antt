@@ -12,6 +12,11 @@ pub mod WordsAhead
 pub mod Signs
 pub mod Parts
 pub mod Cuts
+pub mod FrameCuts
+pub mod Checked
+pub mod Followers
+pub mod Guarded
+pub mod Widths
 pub mod Scales
 pub mod Restores
 pub mod Wraps

@@ -6,6 +6,7 @@ pub mod Fields
 pub mod Kinds
 pub mod Partitions
 pub mod Assignment
+pub mod FrameCuts
 pub mod Channels
 pub mod Stereo
 pub mod Comments
