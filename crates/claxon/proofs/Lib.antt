@@ -1,3 +1,5 @@
+pub mod ByteFields
+pub mod Ends
 pub mod Pairs
 pub mod Chunks
 pub mod Shifts
