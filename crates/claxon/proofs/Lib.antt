@@ -14,3 +14,4 @@ pub mod Restores
 pub mod Wraps
 pub mod Taking
 pub mod Predictors
+pub mod Bodies
