@@ -15,3 +15,6 @@ pub mod Restores
 pub mod Wraps
 pub mod Taking
 pub mod Predictors
+pub mod Starving
+pub mod Comments
+pub mod EntryLoop

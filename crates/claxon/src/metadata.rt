@@ -1,6 +1,8 @@
 //! The `metadata` module deals with metadata at the beginning of a FLAC stream.
 ghost use Rattle.std.specs.Prelude.{◌≡◌, ◌≢◌, ◌≤◌, false, IfOk, OnOk, vec_len};
+ghost use Rattle.claxon_format.specs.Metadata.{bytes_at};
 ghost use Rattle.claxon_input.specs.Source.{Skips};
+ghost use Rattle.claxon_input.specs.Stream.{bytes_in, GivesOrStarves};
 ghost use Rattle.claxon.specs.Blocks.{HasBounds, IsSound};
 
 mod comment;
@@ -8,6 +10,7 @@ mod tags;
 #[cfg(test)]
 mod tests;
 
+use crate::fields::read_whole;
 use crate::input::ReadBytes;
 use crate::{Error, Result};
 use comment::read_vorbis_comment_block;
@@ -305,11 +308,12 @@ fn read_application_block<R: ReadBytes, A: Allocator>(
 
 // That many bytes. A caller bounds the count, since the memory is taken before the bytes are read.
 fn read_bytes<R: ReadBytes, A: Allocator>(alloc: A, input: &mut R, count: u32) -> Result<Vec<u8, A>>
-    ensures { IfOk result (λ bytes. vec_len bytes ≡ count) }
+    ensures length { IfOk result (λ bytes. vec_len bytes ≡ count) }
+    ensures gives { GivesOrStarves (λ bytes. bytes.items) result (bytes_at count) (bytes_in R.source input.old) (bytes_in R.source input.new) }
 {
     let mut bytes = Vec::new(alloc);
     bytes.resize(count as usize, 0)?;
-    input.read_into(&mut bytes)?;
+    read_whole(input, &mut bytes)?;
     Ok(bytes)
 }
 
