@@ -1,5 +1,6 @@
 pub mod ByteFields
 pub mod Ends
+pub mod EndsPublic
 pub mod Pairs
 pub mod Chunks
 pub mod Shifts
@@ -14,4 +15,7 @@ pub mod Restores
 pub mod Wraps
 pub mod Taking
 pub mod Predictors
+pub mod Starving
+pub mod Comments
+pub mod EntryLoop
 pub mod Bodies

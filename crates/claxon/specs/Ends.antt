@@ -1,5 +1,5 @@
 -- What a call answered and took that reads a field or meets the end of what is to come.
-use Rattle.std.specs.Prelude.{◌≡◌, ℕ, true, cond, nat_lt, Option, None, Some, List, [], length, Result, Ok, Err}
+use Rattle.std.specs.Prelude.{◌≡◌, ◌≢◌, ℕ, true, cond, nat_lt, Option, None, Some, List, [], length, Result, Ok, Err}
 use Rattle.claxon_format.specs.Reading.{Reading, Done, and_then, done}
 use Rattle.claxon_input.specs.declared.error.Error.{Error}
 use Rattle.claxon_input.specs.declared.error.Error.TheVariants.{OutOfMemory}
@@ -28,3 +28,9 @@ GivesOrEndsOrStarves count view (Ok (Some x)) read old new = Went old new (λ s 
 GivesOrEndsOrStarves count view (Ok None) read old new = Ended count old new
 GivesOrEndsOrStarves count view (Err OutOfMemory) read old new = Starved old new
 GivesOrEndsOrStarves count view (Err e) read old new = Stops e (or_end count read) old new
+
+-- what is to come is known, and no read of the source answered an Err, or nothing before the end
+pub record Fairly {X : Type 0} (old new : Stream X) : Type 0 where
+  pub told : old.told ≡ true
+  pub errors : new.errors ≡ old.errors
+  pub empties : new.coming ≢ [] → new.empties ≡ old.empties
