@@ -1,12 +1,15 @@
 -- The reader of a metadata block's content, by the block's type.
-use Rattle.std.proofs.Common.{◌≡◌, ◌≢◌, ℕ, Bool, true, false, eqb, List, refl, ◌∙◌}
+use Rattle.std.proofs.Common.{◌≡◌, ◌≢◌, ℕ, false, eqb, List, refl, ◌∙◌}
 use Rattle.std.proofs.lemmas.Bool.{ne_eqb}
-use Rattle.claxon_format.specs.Blocks.{Content, Info, Padding, Comments, Reserved, is_padding, skipped, info_body_at, application_at, body_at}
+use Rattle.claxon_format.specs.Blocks.{Content, Info, Comments, skipped, BlockFault, info_body_at, application_at, body_at}
 use Rattle.claxon_format.specs.Comments.{comment_at}
 use Rattle.claxon_format.specs.Fault.{BlockType}
 use Rattle.claxon_format.specs.Metadata.{bytes_at}
-use Rattle.claxon_format.specs.Reading.{Reading, Done, Faulty, Short, bind, and_then, done}
+use Rattle.claxon_format.specs.Reading.{Reads, Reading, Done, Faulty, Short, bind, done}
+use Rattle.claxon_format.proofs.Blocks.{Reads-block}
+use Rattle.claxon_format.proofs.Laws.{Reads-map}
 use Rattle.claxon_input.proofs.Went.{StopsAs}
+use Rattle.claxon.specs.Blocks.{ContentCode, content_at}
 use Rattle.claxon.specs.Fields.{skipped_at}
 
 -- where the first field stops, so does the whole
@@ -49,3 +52,8 @@ body_skipped type n s h =
     let c : eqb type 4 ≡ false = ne_eqb _ _ h.not_comment in
     let d : eqb type 127 ≡ false = ne_eqb _ _ h.not_invalid in
     rw (a, b, c, d) (regrouped (bytes_at n s) (skipped type n))
+
+-- without the last flag
+pub Reads-content : Reads ℕ Content content_at ContentCode BlockFault
+unfolding content_at
+Reads-content = Reads-map (λ block. block.content) Reads-block

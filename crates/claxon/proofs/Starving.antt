@@ -26,3 +26,10 @@ fed_exit view {e = e} {whole = whole} {a = a} {c = c} p h k = rw (p.1, p.2) (sta
 pub starved_exit : {X A B Y Z : Type 0} (view : A → Y) (seen : B → Z) {r : Result A Error} {e : Error} {read : List X → Reading X Z} {whole : List X → Reading X Y} {a b : Stream X} (c : Stream X)
     → (y : Error) × (r ≡ Err y) × (y ≡ e) → Went a b (λ s m. StopsAs (read m) (whole s)) → GivesOrStarves seen (Err e) read b c → GivesOrStarves view r whole a c
 starved_exit view seen {e = e} c p h k = rw (p.1, p.2) (starves_as view seen e c h k)
+
+-- an Err is one however an Ok would be seen
+pub starves_seen : {X A B Y : Type 0} (view : A → Y) (seen : B → Y) (e : Error) (read : List X → Reading X Y) (a b : Stream X) → GivesOrStarves seen (Err e) read a b → GivesOrStarves view (Err e) read a b
+starves_seen view seen (IoError cause) read a b k = k
+starves_seen view seen (FormatError text) read a b k = k
+starves_seen view seen (Unsupported text) read a b k = k
+starves_seen view seen OutOfMemory read a b k = k

@@ -1,8 +1,12 @@
 -- What metadata blocks of the code say, in the words of the format, and what holds of every one that was read (RFC 9639, section 8).
-use Rattle.std.specs.Prelude.{◌≡◌, ◌⊎◌, Bool, ℕ, ◌-◌, ◌<◌, ◌≤◌, List, [], ◌∷◌, Option, None, Some, IfSome}
-use Rattle.claxon_format.specs.Blocks.{Content, Info, Padding, Application, Comments, Reserved, MetadataBlock as Block}
-use Rattle.claxon_format.specs.Metadata.{BlockHeader, most_bytes}
+use Rattle.std.specs.Prelude.{◌≡◌, ◌⊎◌, ◌++◌, Bool, true, Result, ℕ, ◌-◌, ◌<◌, ◌≤◌, List, [], ◌∷◌, Option, None, Some, IfSome}
+use Rattle.claxon_format.specs.Blocks.{Content, Info, Padding, Application, Comments, Reserved, MetadataBlock as Block, BlockCode, block_at}
+use Rattle.claxon_format.specs.Metadata.{BlockHeader, BlockHeaderCode, most_bytes}
+use Rattle.claxon_format.specs.Reading.{Reading, Mapped, and_then, done}
 use Rattle.claxon_format.specs.Streaminfo.{Streaminfo}
+use Rattle.claxon_input.specs.declared.error.Error.{Error}
+use Rattle.claxon_input.specs.Promises.{IsStarved}
+use Rattle.claxon_input.specs.Stream.{Stream}
 use Rattle.claxon.specs.declared.metadata.StreamInfo.{StreamInfo}
 use Rattle.claxon.specs.declared.metadata.SizeBounds.{SizeBounds}
 use Rattle.claxon.specs.declared.metadata.SampleFormat.{SampleFormat}
@@ -56,6 +60,18 @@ block_view is_last block = record { is_last = is_last; content = content_view bl
 -- Blocks of applications and comments take memory, where their length is one that they can have.
 abbrev pub MayStarve : ℕ → ℕ → Type 0
 MayStarve type length = (((type ≡ 2) × (4 ≤ length)) ⊎ ((type ≡ 4) × (8 ≤ length))) × (length ≤ most_bytes)
+
+-- Memory is refused only to a block that takes some, after its header was read.
+abbrev pub StarvesLate : {A : Type 0} → Result A Error → Stream ℕ → Type 0
+StarvesLate r old =
+    IsStarved r → old.told ≡ true → (h : BlockHeader) × (x : List ℕ) × (rest : List ℕ) × BlockHeaderCode h x × MayStarve h.type h.length × (old.coming ≡ x ++ rest)
+
+-- a block without its last flag
+abbrev pub ContentCode : Content → List ℕ → Type 0
+ContentCode = Mapped (λ block. block.content) BlockCode
+
+unfoldable pub content_at : List ℕ → Reading ℕ Content
+content_at = and_then block_at (λ block. done block.content)
 
 -- one to eight channels, of samples of 1 to 32 bits, and no 0 for what isn't known (RFC 9639, section 8.2)
 pub record HasBounds (info : StreamInfo) : Type 0 where

@@ -1,11 +1,11 @@
 //! The `metadata` module deals with metadata at the beginning of a FLAC stream.
 ghost use Rattle.std.specs.Prelude.{◌≡◌, ◌<◌, ◌≤◌, ◌⊎◌, ◌++◌, ◌%◌, false, map, IfOk, IfSome, vec_len};
-ghost use Rattle.claxon_format.specs.Blocks.{Body, BodyFault, BlockCode, BlockFault, skipped, info_body_at, application_at, body_at, block_at};
+ghost use Rattle.claxon_format.specs.Blocks.{Body, BodyFault, BlockFault, skipped, info_body_at, application_at, body_at, block_at};
 ghost use Rattle.claxon_format.specs.Metadata.{bytes_at, most_bytes, block_header_at};
 ghost use Rattle.claxon_format.specs.Streaminfo.{info_of, sizes_at, format_at, info_fields_at, streaminfo_by_numbers_at, frames_crossed};
 ghost use Rattle.claxon_input.specs.Promises.{IsStarved, TakesCode, AnswersCode, TakesFault, NamesFault, EndsElse, LeavesRest};
 ghost use Rattle.claxon_input.specs.Stream.{bytes_in, Gives, GivesOrStarves};
-ghost use Rattle.claxon.specs.Blocks.{HasBounds, IsSound, MayStarve, block_view, content_view, format_view, header_view, info_view, or_zero, sizes_view};
+ghost use Rattle.claxon.specs.Blocks.{ContentCode, HasBounds, IsSound, MayStarve, StarvesLate, block_view, content_at, content_view, format_view, header_view, info_view, or_zero, sizes_view};
 
 mod comment;
 mod tags;
@@ -135,11 +135,12 @@ pub(crate) fn read_metadata_block_and_flag<R: ReadBytes, A: Allocator + Copy>(
     alloc: A,
     input: &mut R,
 ) -> Result<(bool, MetadataBlock<A>)>
-    ensures places { IfOk result (λ found. IsSound found.1) }
+    ensures bounds { IfOk result (λ found. IsSound found.1) }
+    ensures memory { StarvesLate result (bytes_in R.source input.old) }
     ensures gives { GivesOrStarves (λ found. block_view found.0 found.1) result block_at (bytes_in R.source input.old) (bytes_in R.source input.new) }
 {
     let header = read_metadata_block_header(input)?;
-    let block = read_metadata_block(alloc, input, header.block_type, header.length)?;
+    let block = read_content(alloc, input, header.block_type, header.length)?;
     Ok((header.is_last, block))
 }
 
@@ -154,7 +155,32 @@ pub fn read_metadata_block_with_header<R: ReadBytes, A: Allocator + Copy>(
     alloc: A,
     input: &mut R,
 ) -> Result<MetadataBlock<A>>
-    ensures places { IfOk result (λ block. IsSound block) }
+    ensures bounds { IfOk result (λ block. IsSound block) }
+    ensures memory { StarvesLate result (bytes_in R.source input.old) }
+    // What was read is a block, and it alone was taken.
+    ensures sound { TakesCode content_view result ContentCode (bytes_in R.source input.old) (bytes_in R.source input.new) }
+    // Any block is read, whatever follows, and it alone is taken, if memory is found.
+    ensures complete { AnswersCode content_view result ContentCode (bytes_in R.source input.old) (bytes_in R.source input.new) }
+    // An Err other than want of memory and `IoError` names a fault that the bytes taken have.
+    ensures fault { TakesFault result BlockFault (bytes_in R.source input.old) (bytes_in R.source input.new) }
+    // Where the bytes have a fault it is named, and they alone are taken.
+    ensures named { NamesFault result BlockFault (bytes_in R.source input.old) (bytes_in R.source input.new) }
+    // Where neither stands there, the bytes end.
+    ensures io { EndsElse result ContentCode BlockFault (bytes_in R.source input.old) (bytes_in R.source input.new) }
+    ensures front { LeavesRest result (bytes_in R.source input.old) (bytes_in R.source input.new) }
+    ensures gives { GivesOrStarves content_view result content_at (bytes_in R.source input.old) (bytes_in R.source input.new) }
+{
+    read_unflagged_block(alloc, input)
+}
+
+#[tactic(auto, unfolding(crate::specs::Blocks::content_at))]
+fn read_unflagged_block<R: ReadBytes, A: Allocator + Copy>(
+    alloc: A,
+    input: &mut R,
+) -> Result<MetadataBlock<A>>
+    ensures bounds { IfOk result (λ block. IsSound block) }
+    ensures memory { StarvesLate result (bytes_in R.source input.old) }
+    ensures gives { GivesOrStarves content_view result content_at (bytes_in R.source input.old) (bytes_in R.source input.new) }
 {
     let (_, block) = read_metadata_block_and_flag(alloc, input)?;
     Ok(block)
@@ -176,7 +202,32 @@ pub fn read_metadata_block<R: ReadBytes, A: Allocator + Copy>(
     block_type: u8,
     length: u32,
 ) -> Result<MetadataBlock<A>>
-    ensures places { IfOk result (λ block. IsSound block) }
+    ensures bounds { IfOk result (λ block. IsSound block) }
+    // Memory is asked for only by blocks of applications and comments, after their length was tested.
+    ensures memory { IsStarved result → MayStarve block_type length }
+    // What was read is the content of a block, and it alone was taken.
+    ensures sound { TakesCode content_view result (Body block_type length) (bytes_in R.source input.old) (bytes_in R.source input.new) }
+    // Any content is read, whatever follows, and it alone is taken, if memory is found.
+    ensures complete { AnswersCode content_view result (Body block_type length) (bytes_in R.source input.old) (bytes_in R.source input.new) }
+    // An Err other than want of memory and `IoError` names a fault that the bytes taken have.
+    ensures fault { TakesFault result (BodyFault block_type length) (bytes_in R.source input.old) (bytes_in R.source input.new) }
+    // Where the bytes have a fault it is named, and they alone are taken.
+    ensures named { NamesFault result (BodyFault block_type length) (bytes_in R.source input.old) (bytes_in R.source input.new) }
+    // Where neither stands there, the bytes end.
+    ensures io { EndsElse result (Body block_type length) (BodyFault block_type length) (bytes_in R.source input.old) (bytes_in R.source input.new) }
+    ensures front { LeavesRest result (bytes_in R.source input.old) (bytes_in R.source input.new) }
+    ensures gives { GivesOrStarves content_view result (body_at block_type length) (bytes_in R.source input.old) (bytes_in R.source input.new) }
+{
+    read_content(alloc, input, block_type, length)
+}
+
+fn read_content<R: ReadBytes, A: Allocator + Copy>(
+    alloc: A,
+    input: &mut R,
+    block_type: u8,
+    length: u32,
+) -> Result<MetadataBlock<A>>
+    ensures bounds { IfOk result (λ block. IsSound block) }
     ensures memory { IsStarved result → MayStarve block_type length }
     ensures gives { GivesOrStarves content_view result (body_at block_type length) (bytes_in R.source input.old) (bytes_in R.source input.new) }
 {
@@ -197,7 +248,7 @@ pub fn read_metadata_block<R: ReadBytes, A: Allocator + Copy>(
 
 // What a block is answered as whose content isn't read.
 fn skipped_block<A: Allocator>(block_type: u8, length: u32) -> MetadataBlock<A>
-    ensures places { IsSound result }
+    ensures bounds { IsSound result }
     ensures value { content_view result ≡ skipped block_type length }
 {
     match block_type {
@@ -351,7 +402,7 @@ fn read_application_block<R: ReadBytes, A: Allocator>(
     input: &mut R,
     length: u32,
 ) -> Result<MetadataBlock<A>>
-    ensures places { IfOk result (λ block. IsSound block) }
+    ensures bounds { IfOk result (λ block. IsSound block) }
     ensures memory { IsStarved result → (4 ≤ length) × (length ≤ most_bytes) }
     ensures gives { GivesOrStarves content_view result (application_at length) (bytes_in R.source input.old) (bytes_in R.source input.new) }
 {
@@ -389,7 +440,7 @@ pub struct MetadataBlockReader<R: ReadBytes, A: Allocator = Global> {
 }
 
 impl<R: ReadBytes, A: Allocator + Copy> MetadataBlockReader<R, A> {
-    ghost use Rattle.claxon.specs.BlockReader.{reader_input, has_ended};
+    ghost use Rattle.claxon.specs.BlockReader.{ReadsBlock, reader_input, has_ended};
 
     /// Reads blocks from where the input stands, which is to be a block's header.
     pub fn new(alloc: A, input: R) -> MetadataBlockReader<R, A>
@@ -404,11 +455,18 @@ impl<R: ReadBytes, A: Allocator + Copy> MetadataBlockReader<R, A> {
     }
 
     fn read_next(&mut self) -> MetadataBlockResult<A>
-        ensures { IfOk result (λ block. IsSound block) }
+        ensures { ReadsBlock R.source self.old result self.new }
     {
-        let (is_last, block) = read_metadata_block_and_flag(self.alloc, &mut self.input)?;
-        self.done = is_last;
-        Ok(block)
+        match read_metadata_block_and_flag(self.alloc, &mut self.input) {
+            Ok((is_last, block)) => {
+                self.done = is_last;
+                Ok(block)
+            }
+            Err(error) => {
+                self.done = true;
+                Err(error)
+            }
+        }
     }
 }
 
@@ -420,7 +478,7 @@ impl<R: ReadBytes + Drop, A: Allocator + Copy> Iterator for MetadataBlockReader<
 
     type Item = MetadataBlockResult<A>;
 
-    ghost next_gives = { ReaderStep };
+    ghost next_gives = { ReaderStep R.source };
 
     ghost remaining = { λ s. if has_ended s then at_most 0 else endless };
 
@@ -428,11 +486,7 @@ impl<R: ReadBytes + Drop, A: Allocator + Copy> Iterator for MetadataBlockReader<
         if self.done {
             return None;
         }
-        let block = self.read_next();
-        if block.is_err() {
-            self.done = true;
-        }
-        Some(block)
+        Some(self.read_next())
     }
 
     fn size_hint(&self) -> (usize, Option<usize>)
