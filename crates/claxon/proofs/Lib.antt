@@ -25,3 +25,7 @@ pub mod Predictors
 pub mod Lanes
 pub mod Windows
 pub mod Entries
+pub mod Starving
+pub mod Comments
+pub mod EntryLoop
+pub mod Bodies

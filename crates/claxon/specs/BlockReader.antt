@@ -1,8 +1,13 @@
--- What a clause reads of a `MetadataBlockReader`.
-use Rattle.std.specs.Prelude.{Option, None, Some, Result, Ok, Err, Bool, true, ◌≡◌, MatchBool}
+-- What a clause reads of a `MetadataBlockReader`, and what one call of its `next` does.
+use Rattle.std.specs.Prelude.{ℕ, Option, None, Some, Result, Bool, true, IfOk, IfErr, ◌≡◌, MatchBool}
+use Rattle.claxon_format.specs.Blocks.{BlockCode, BlockFault, block_at}
+use Rattle.claxon_input.specs.declared.error.Error.{Error}
+use Rattle.claxon_input.specs.Promises.{Promises}
+use Rattle.claxon_input.specs.Source.{Source}
+use Rattle.claxon_input.specs.Stream.{bytes_in, GivesOrStarves}
 use Rattle.claxon.specs.declared.metadata.MetadataBlock.{MetadataBlock}
 use Rattle.claxon.specs.declared.metadata.MetadataBlockReader.{MetadataBlockReader}
-use Rattle.claxon.specs.Blocks.{IsSound}
+use Rattle.claxon.specs.Blocks.{IsSound, StarvesLate, block_view}
 
 abbrev pub reader_input : {R A : Type 0} → MetadataBlockReader R A → R
 reader_input r = r.input
@@ -11,12 +16,18 @@ reader_input r = r.input
 abbrev pub has_ended : {R A : Type 0} → MetadataBlockReader R A → Bool
 has_ended r = r.done
 
--- a block, or an Err that is the end
-abbrev pub BlockStep : {A E : Type 0} → Option (Result (MetadataBlock A) E) → Bool → Type 0
-BlockStep None ended = ⊥
-BlockStep (Some (Ok block)) ended = IsSound block
-BlockStep (Some (Err error)) ended = ended ≡ true
+-- A block with its header was read, or an Err was answered, which is the end. The block marked last is the end too.
+pub record ReadsBlock {R A : Type 0} (source : R → Source ℕ) (old : MetadataBlockReader R A) (result : Result (MetadataBlock A) Error) (new : MetadataBlockReader R A) : Type 0 where
+  pub bounds : IfOk result (λ block. IsSound block)
+  pub memory : StarvesLate result (bytes_in source (reader_input old))
+  pub promises : Promises (block_view (has_ended new)) result BlockCode BlockFault (bytes_in source (reader_input old)) (bytes_in source (reader_input new))
+  pub gives : GivesOrStarves (block_view (has_ended new)) result block_at (bytes_in source (reader_input old)) (bytes_in source (reader_input new))
+  pub ended : IfErr result (λ error. has_ended new ≡ true)
+
+abbrev pub BlockStep : {R A : Type 0} → (R → Source ℕ) → MetadataBlockReader R A → Option (Result (MetadataBlock A) Error) → MetadataBlockReader R A → Type 0
+BlockStep source old None new = ⊥
+BlockStep source old (Some result) new = ReadsBlock source old result new
 
 -- one call of `next`: after the end it gives None and changes nothing
-abbrev pub ReaderStep : {R A E : Type 0} → MetadataBlockReader R A → Option (Result (MetadataBlock A) E) → MetadataBlockReader R A → Type 0
-ReaderStep old result new = MatchBool (has_ended old) ((result ≡ None) × (new ≡ old)) (BlockStep result (has_ended new))
+abbrev pub ReaderStep : {R A : Type 0} → (R → Source ℕ) → MetadataBlockReader R A → Option (Result (MetadataBlock A) Error) → MetadataBlockReader R A → Type 0
+ReaderStep source old result new = MatchBool (has_ended old) ((result ≡ None) × (new ≡ old)) (BlockStep source old result new)

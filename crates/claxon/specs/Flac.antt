@@ -9,7 +9,8 @@ use Rattle.claxon.specs.declared.samples.FlacSamples.{FlacSamples}
 use Rattle.claxon.specs.declared.frame.FrameReader.{FrameReader}
 use Rattle.claxon.specs.declared.metadata.StreamInfo.{StreamInfo}
 use Rattle.claxon.specs.declared.metadata.VorbisComment.{VorbisComment}
-use Rattle.claxon.specs.Comments.{pairs}
+use Rattle.claxon_format.specs.Tags.{pairs}
+use Rattle.claxon.specs.Comments.{entries_view}
 use Rattle.claxon.specs.contracts.reader.FlacReader.{the_row}
 
 -- `flac.is_metadata_only()`
@@ -26,7 +27,7 @@ comment_vendor (Some comment) = Some (string_bytes comment.vendor)
 
 abbrev pub comment_tags : {A : Type 0} → Option (VorbisComment A) → List (List ℕ × List ℕ)
 comment_tags None = []
-comment_tags (Some comment) = pairs comment.comments.items
+comment_tags (Some comment) = pairs (entries_view comment.comments.items)
 
 -- the vendor that is shown
 abbrev pub vendor_of : {R A : Type 0} → FlacReader R A → Option (List ℕ)

@@ -2,12 +2,13 @@
 use Rattle.std.specs.Prelude.{ℕ, List}
 use Rattle.claxon.specs.declared.metadata.tags.Tags.{Tags}
 use Rattle.claxon.specs.declared.metadata.tags.GetTag.{GetTag}
-use Rattle.claxon.specs.Comments.{pairs, values_of}
+use Rattle.claxon_format.specs.Tags.{pairs, values}
+use Rattle.claxon.specs.Comments.{entries_view}
 
 -- the pairs that are left
 abbrev pub tags_left : {A : Type 0} → Tags A → List (List ℕ × List ℕ)
-tags_left t = pairs t.comments.now
+tags_left t = pairs (entries_view t.comments.now)
 
 -- the values that are left
 abbrev pub values_left : {A : Type 0} → GetTag A → List (List ℕ)
-values_left t = values_of t.needle.now (tags_left t.tags)
+values_left t = values t.needle.now (tags_left t.tags)

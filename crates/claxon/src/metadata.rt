@@ -1,13 +1,18 @@
 //! The `metadata` module deals with metadata at the beginning of a FLAC stream.
-ghost use Rattle.std.specs.Prelude.{◌≡◌, ◌≢◌, ◌≤◌, false, IfOk, OnOk, vec_len};
-ghost use Rattle.claxon_input.specs.Source.{Skips};
-ghost use Rattle.claxon.specs.Blocks.{HasBounds, IsSound};
+ghost use Rattle.std.specs.Prelude.{◌≡◌, ◌<◌, ◌≤◌, ◌⊎◌, ◌++◌, ◌%◌, false, map, IfOk, IfSome, vec_len};
+ghost use Rattle.claxon_format.specs.Blocks.{Body, BodyFault, BlockFault, skipped, info_body_at, application_at, body_at, block_at};
+ghost use Rattle.claxon_format.specs.Metadata.{bytes_at, most_bytes, block_header_at};
+ghost use Rattle.claxon_format.specs.Streaminfo.{info_of, sizes_at, format_at, info_fields_at, streaminfo_by_numbers_at, frames_crossed};
+ghost use Rattle.claxon_input.specs.Promises.{IsStarved, TakesCode, AnswersCode, TakesFault, NamesFault, EndsElse, LeavesRest};
+ghost use Rattle.claxon_input.specs.Stream.{bytes_in, Gives, GivesOrStarves};
+ghost use Rattle.claxon.specs.Blocks.{ContentCode, HasBounds, IsSound, MayStarve, StarvesLate, block_view, content_at, content_view, format_view, header_view, info_view, or_zero, sizes_view};
 
 mod comment;
 mod tags;
 #[cfg(test)]
 mod tests;
 
+use crate::fields::{read_big_u16, read_big_u24, read_big_u32, read_byte, read_whole, skip_bytes};
 use crate::input::ReadBytes;
 use crate::{Error, Result};
 use comment::read_vorbis_comment_block;
@@ -111,9 +116,12 @@ pub enum MetadataBlock<A: Allocator = Global> {
 pub type MetadataBlockResult<A = Global> = Result<MetadataBlock<A>>;
 
 // The last flag, the type and the length of a block.
-fn read_metadata_block_header<R: ReadBytes>(input: &mut R) -> Result<MetadataBlockHeader> {
-    let first = input.read_u8()?;
-    let length = input.read_be_u24()?;
+#[tactic(auto, unfolding(claxon_format::specs::Metadata::block_header_at))]
+fn read_metadata_block_header<R: ReadBytes>(input: &mut R) -> Result<MetadataBlockHeader>
+    ensures { Gives header_view result block_header_at (bytes_in R.source input.old) (bytes_in R.source input.new) }
+{
+    let first = read_byte(input)?;
+    let length = read_big_u24(input)?;
     Ok(MetadataBlockHeader {
         is_last: first >= 128,
         block_type: first % 128,
@@ -122,14 +130,17 @@ fn read_metadata_block_header<R: ReadBytes>(input: &mut R) -> Result<MetadataBlo
 }
 
 // A block, and whether it is marked as the last one.
+#[tactic(auto, unfolding(claxon_format::specs::Blocks::block_at))]
 pub(crate) fn read_metadata_block_and_flag<R: ReadBytes, A: Allocator + Copy>(
     alloc: A,
     input: &mut R,
 ) -> Result<(bool, MetadataBlock<A>)>
-    ensures { IfOk result (λ found. IsSound found.1) }
+    ensures bounds { IfOk result (λ found. IsSound found.1) }
+    ensures memory { StarvesLate result (bytes_in R.source input.old) }
+    ensures gives { GivesOrStarves (λ found. block_view found.0 found.1) result block_at (bytes_in R.source input.old) (bytes_in R.source input.new) }
 {
     let header = read_metadata_block_header(input)?;
-    let block = read_metadata_block(alloc, input, header.block_type, header.length)?;
+    let block = read_content(alloc, input, header.block_type, header.length)?;
     Ok((header.is_last, block))
 }
 
@@ -144,7 +155,32 @@ pub fn read_metadata_block_with_header<R: ReadBytes, A: Allocator + Copy>(
     alloc: A,
     input: &mut R,
 ) -> Result<MetadataBlock<A>>
-    ensures { IfOk result (λ block. IsSound block) }
+    ensures bounds { IfOk result (λ block. IsSound block) }
+    ensures memory { StarvesLate result (bytes_in R.source input.old) }
+    // What was read is a block, and it alone was taken.
+    ensures sound { TakesCode content_view result ContentCode (bytes_in R.source input.old) (bytes_in R.source input.new) }
+    // Any block is read, whatever follows, and it alone is taken, if memory is found.
+    ensures complete { AnswersCode content_view result ContentCode (bytes_in R.source input.old) (bytes_in R.source input.new) }
+    // An Err other than want of memory and `IoError` names a fault that the bytes taken have.
+    ensures fault { TakesFault result BlockFault (bytes_in R.source input.old) (bytes_in R.source input.new) }
+    // Where the bytes have a fault it is named, and they alone are taken.
+    ensures named { NamesFault result BlockFault (bytes_in R.source input.old) (bytes_in R.source input.new) }
+    // Where neither stands there, the bytes end.
+    ensures io { EndsElse result ContentCode BlockFault (bytes_in R.source input.old) (bytes_in R.source input.new) }
+    ensures front { LeavesRest result (bytes_in R.source input.old) (bytes_in R.source input.new) }
+    ensures gives { GivesOrStarves content_view result content_at (bytes_in R.source input.old) (bytes_in R.source input.new) }
+{
+    read_unflagged_block(alloc, input)
+}
+
+#[tactic(auto, unfolding(crate::specs::Blocks::content_at))]
+fn read_unflagged_block<R: ReadBytes, A: Allocator + Copy>(
+    alloc: A,
+    input: &mut R,
+) -> Result<MetadataBlock<A>>
+    ensures bounds { IfOk result (λ block. IsSound block) }
+    ensures memory { StarvesLate result (bytes_in R.source input.old) }
+    ensures gives { GivesOrStarves content_view result content_at (bytes_in R.source input.old) (bytes_in R.source input.new) }
 {
     let (_, block) = read_metadata_block_and_flag(alloc, input)?;
     Ok(block)
@@ -166,28 +202,58 @@ pub fn read_metadata_block<R: ReadBytes, A: Allocator + Copy>(
     block_type: u8,
     length: u32,
 ) -> Result<MetadataBlock<A>>
-    ensures sound { IfOk result (λ block. IsSound block) }
-    ensures skipped { block_type ≢ 0 → block_type ≢ 2 → block_type ≢ 4 → OnOk result (Skips (R.source input.old) (R.source input.new) length) }
+    ensures bounds { IfOk result (λ block. IsSound block) }
+    // Memory is asked for only by blocks of applications and comments, after their length was tested.
+    ensures memory { IsStarved result → MayStarve block_type length }
+    // What was read is the content of a block, and it alone was taken.
+    ensures sound { TakesCode content_view result (Body block_type length) (bytes_in R.source input.old) (bytes_in R.source input.new) }
+    // Any content is read, whatever follows, and it alone is taken, if memory is found.
+    ensures complete { AnswersCode content_view result (Body block_type length) (bytes_in R.source input.old) (bytes_in R.source input.new) }
+    // An Err other than want of memory and `IoError` names a fault that the bytes taken have.
+    ensures fault { TakesFault result (BodyFault block_type length) (bytes_in R.source input.old) (bytes_in R.source input.new) }
+    // Where the bytes have a fault it is named, and they alone are taken.
+    ensures named { NamesFault result (BodyFault block_type length) (bytes_in R.source input.old) (bytes_in R.source input.new) }
+    // Where neither stands there, the bytes end.
+    ensures io { EndsElse result (Body block_type length) (BodyFault block_type length) (bytes_in R.source input.old) (bytes_in R.source input.new) }
+    ensures front { LeavesRest result (bytes_in R.source input.old) (bytes_in R.source input.new) }
+    ensures gives { GivesOrStarves content_view result (body_at block_type length) (bytes_in R.source input.old) (bytes_in R.source input.new) }
+{
+    read_content(alloc, input, block_type, length)
+}
+
+fn read_content<R: ReadBytes, A: Allocator + Copy>(
+    alloc: A,
+    input: &mut R,
+    block_type: u8,
+    length: u32,
+) -> Result<MetadataBlock<A>>
+    ensures bounds { IfOk result (λ block. IsSound block) }
+    ensures memory { IsStarved result → MayStarve block_type length }
+    ensures gives { GivesOrStarves content_view result (body_at block_type length) (bytes_in R.source input.old) (bytes_in R.source input.new) }
 {
     match block_type {
         0 => Ok(MetadataBlock::StreamInfo(read_streaminfo_block(input, length)?)),
-        1 | 3 | 5 | 6 => {
-            input.skip(length)?;
-            Ok(MetadataBlock::Padding { length })
-        }
-        2 => {
-            let (id, bytes) = read_application_block(alloc, input, length)?;
-            Ok(MetadataBlock::Application { id, bytes })
-        }
+        2 => read_application_block(alloc, input, length),
         4 => {
             let comment = read_vorbis_comment_block(alloc, input, length)?;
             Ok(MetadataBlock::VorbisComment(comment))
         }
         127 => Err(Error::FormatError("invalid metadata block type")),
         _ => {
-            input.skip(length)?;
-            Ok(MetadataBlock::Reserved)
+            skip_bytes(input, length)?;
+            Ok(skipped_block(block_type, length))
         }
+    }
+}
+
+// What a block is answered as whose content isn't read.
+fn skipped_block<A: Allocator>(block_type: u8, length: u32) -> MetadataBlock<A>
+    ensures bounds { IsSound result }
+    ensures value { content_view result ≡ skipped block_type length }
+{
+    match block_type {
+        1 | 3 | 5 | 6 => MetadataBlock::Padding { length },
+        _ => MetadataBlock::Reserved,
     }
 }
 
@@ -200,11 +266,14 @@ struct SizeBounds {
     max_frame_size: u32,
 }
 
-fn read_size_bounds<R: ReadBytes>(input: &mut R) -> Result<SizeBounds> {
-    let min_block_size = input.read_be_u16()?;
-    let max_block_size = input.read_be_u16()?;
-    let min_frame_size = input.read_be_u24()?;
-    let max_frame_size = input.read_be_u24()?;
+#[tactic(auto, unfolding(claxon_format::specs::Streaminfo::sizes_at, claxon_format::specs::Reading::each_at))]
+fn read_size_bounds<R: ReadBytes>(input: &mut R) -> Result<SizeBounds>
+    ensures { Gives sizes_view result sizes_at (bytes_in R.source input.old) (bytes_in R.source input.new) }
+{
+    let min_block_size = read_big_u16(input)?;
+    let max_block_size = read_big_u16(input)?;
+    let min_frame_size = read_big_u24(input)?;
+    let max_frame_size = read_big_u24(input)?;
     Ok(SizeBounds {
         min_block_size,
         max_block_size,
@@ -223,12 +292,14 @@ struct SampleFormat {
 }
 
 // 20 bits of the rate, 3 of the channels less one, 5 of the width less one, 36 of the number.
+#[tactic(auto, unfolding(claxon_format::specs::Streaminfo::format_at))]
 fn read_sample_format<R: ReadBytes>(input: &mut R) -> Result<SampleFormat>
     ensures channels { IfOk result (λ format. (1 ≤ format.channels) × (format.channels ≤ 8)) }
     ensures width { IfOk result (λ format. (1 ≤ format.bits_per_sample) × (format.bits_per_sample ≤ 32)) }
+    ensures gives { Gives format_view result format_at (bytes_in R.source input.old) (bytes_in R.source input.new) }
 {
-    let high = input.read_be_u32()?;
-    let low = input.read_be_u32()?;
+    let high = read_big_u32(input)?;
+    let low = read_big_u32(input)?;
     Ok(SampleFormat {
         sample_rate: high >> 12,
         channels: (high >> 9 & 7) + 1,
@@ -237,21 +308,26 @@ fn read_sample_format<R: ReadBytes>(input: &mut R) -> Result<SampleFormat>
     })
 }
 
-fn read_streaminfo_block<R: ReadBytes>(input: &mut R, length: u32) -> Result<StreamInfo>
-    ensures { IfOk result (λ info. HasBounds info) }
+// What a streaminfo block says, whether it can be or not.
+#[tactic(auto, unfolding(claxon_format::specs::Streaminfo::info_fields_at, claxon_format::specs::Streaminfo::md5_at))]
+fn read_streaminfo_fields<R: ReadBytes>(input: &mut R) -> Result<StreamInfo>
+    ensures bounds { IfOk result (λ info. HasBounds info) }
+    ensures gives { Gives info_view result info_fields_at (bytes_in R.source input.old) (bytes_in R.source input.new) }
 {
-    if length != 34 {
-        return Err(Error::FormatError("invalid streaminfo metadata block length"));
-    }
     let sizes = read_size_bounds(input)?;
     let format = read_sample_format(input)?;
     let mut md5sum = [0; 16];
-    input.read_into(&mut md5sum)?;
-    check_size_bounds(sizes)?;
-    if format.sample_rate == 0 || format.sample_rate > 655_350 {
-        return Err(Error::FormatError("invalid sample rate"));
-    }
-    Ok(StreamInfo {
+    read_whole(input, &mut md5sum)?;
+    Ok(stream_info(sizes, format, &md5sum))
+}
+
+fn stream_info(sizes: SizeBounds, format: SampleFormat, md5sum: &[u8; 16]) -> StreamInfo
+    requires channels { (1 ≤ format.channels) × (format.channels ≤ 8) }
+    requires width { (1 ≤ format.bits_per_sample) × (format.bits_per_sample ≤ 32) }
+    ensures bounds { HasBounds result }
+    ensures value { info_view result ≡ info_of (sizes_view sizes ++ format_view format) (map (λ byte. byte % 256) md5sum.now) }
+{
+    StreamInfo {
         min_block_size: sizes.min_block_size,
         max_block_size: sizes.max_block_size,
         min_frame_size: if_known(sizes.min_frame_size),
@@ -264,52 +340,91 @@ fn read_streaminfo_block<R: ReadBytes>(input: &mut R, length: u32) -> Result<Str
         } else {
             Some(format.samples)
         },
-        md5sum,
-    })
+        md5sum: *md5sum,
+    }
+}
+
+#[tactic(auto, unfolding(claxon_format::specs::Blocks::info_body_at, claxon_format::specs::Fault::fault_text))]
+fn read_streaminfo_block<R: ReadBytes>(input: &mut R, length: u32) -> Result<StreamInfo>
+    ensures bounds { IfOk result (λ info. HasBounds info) }
+    ensures gives { Gives info_view result (info_body_at length) (bytes_in R.source input.old) (bytes_in R.source input.new) }
+{
+    if length != 34 {
+        return Err(Error::FormatError("invalid streaminfo metadata block length"));
+    }
+    read_streaminfo(input)
+}
+
+#[tactic(auto, unfolding(claxon_format::specs::Streaminfo::streaminfo_by_numbers_at, claxon_format::specs::Fault::fault_text))]
+fn read_streaminfo<R: ReadBytes>(input: &mut R) -> Result<StreamInfo>
+    ensures bounds { IfOk result (λ info. HasBounds info) }
+    ensures gives { Gives info_view result streaminfo_by_numbers_at (bytes_in R.source input.old) (bytes_in R.source input.new) }
+{
+    let info = read_streaminfo_fields(input)?;
+    if info.min_block_size > info.max_block_size {
+        return Err(Error::FormatError("inconsistent bounds, min block size > max block size"));
+    }
+    if info.min_block_size < 16 {
+        return Err(Error::FormatError("invalid block size, must be at least 16"));
+    }
+    if are_frame_sizes_crossed(&info) {
+        return Err(Error::FormatError("inconsistent bounds, min frame size > max frame size"));
+    }
+    if info.sample_rate == 0 || info.sample_rate > 655_350 {
+        return Err(Error::FormatError("invalid sample rate"));
+    }
+    Ok(info)
 }
 
 // A frame size of 0 stands for one that isn't known.
-fn if_known(size: u32) -> Option<u32> {
+fn if_known(size: u32) -> Option<u32>
+    ensures value { or_zero result ≡ size }
+    ensures some { IfSome result (λ n. 0 < n) }
+{
     if size == 0 { None } else { Some(size) }
 }
 
-fn check_size_bounds(sizes: SizeBounds) -> Result<()> {
-    if sizes.min_block_size > sizes.max_block_size {
-        return Err(Error::FormatError("inconsistent bounds, min block size > max block size"));
+// Whether the least size is above the greatest, where that is known.
+fn are_frame_sizes_crossed(info: &StreamInfo) -> bool
+    requires { HasBounds info.now }
+    ensures { result ≡ frames_crossed (info_view info.now) }
+{
+    match (info.min_frame_size, info.max_frame_size) {
+        (Some(least), Some(greatest)) => least > greatest,
+        _ => false,
     }
-    if sizes.min_block_size < 16 {
-        return Err(Error::FormatError("invalid block size, must be at least 16"));
-    }
-    if sizes.max_frame_size != 0 && sizes.min_frame_size > sizes.max_frame_size {
-        return Err(Error::FormatError("inconsistent bounds, min frame size > max frame size"));
-    }
-    Ok(())
 }
 
 // The application's number and its data.
+#[tactic(auto, unfolding(claxon_format::specs::Blocks::application_at, claxon_format::specs::Fault::fault_text))]
 fn read_application_block<R: ReadBytes, A: Allocator>(
     alloc: A,
     input: &mut R,
     length: u32,
-) -> Result<(u32, Vec<u8, A>)> {
+) -> Result<MetadataBlock<A>>
+    ensures bounds { IfOk result (λ block. IsSound block) }
+    ensures memory { IsStarved result → (4 ≤ length) × (length ≤ most_bytes) }
+    ensures gives { GivesOrStarves content_view result (application_at length) (bytes_in R.source input.old) (bytes_in R.source input.new) }
+{
     if length < 4 {
         return Err(Error::FormatError("application block length must be at least 4 bytes"));
     }
     if length > MAX_BLOCK_LENGTH {
         return Err(Error::Unsupported("application blocks larger than 10 MiB are not supported"));
     }
-    let id = input.read_be_u32()?;
+    let id = read_big_u32(input)?;
     let bytes = read_bytes(alloc, input, length - 4)?;
-    Ok((id, bytes))
+    Ok(MetadataBlock::Application { id, bytes })
 }
 
 // That many bytes. A caller bounds the count, since the memory is taken before the bytes are read.
 fn read_bytes<R: ReadBytes, A: Allocator>(alloc: A, input: &mut R, count: u32) -> Result<Vec<u8, A>>
-    ensures { IfOk result (λ bytes. vec_len bytes ≡ count) }
+    ensures length { IfOk result (λ bytes. vec_len bytes ≡ count) }
+    ensures gives { GivesOrStarves (λ bytes. bytes.items) result (bytes_at count) (bytes_in R.source input.old) (bytes_in R.source input.new) }
 {
     let mut bytes = Vec::new(alloc);
     bytes.resize(count as usize, 0)?;
-    input.read_into(&mut bytes)?;
+    read_whole(input, &mut bytes)?;
     Ok(bytes)
 }
 
@@ -325,7 +440,7 @@ pub struct MetadataBlockReader<R: ReadBytes, A: Allocator = Global> {
 }
 
 impl<R: ReadBytes, A: Allocator + Copy> MetadataBlockReader<R, A> {
-    ghost use Rattle.claxon.specs.BlockReader.{reader_input, has_ended};
+    ghost use Rattle.claxon.specs.BlockReader.{ReadsBlock, reader_input, has_ended};
 
     /// Reads blocks from where the input stands, which is to be a block's header.
     pub fn new(alloc: A, input: R) -> MetadataBlockReader<R, A>
@@ -340,11 +455,18 @@ impl<R: ReadBytes, A: Allocator + Copy> MetadataBlockReader<R, A> {
     }
 
     fn read_next(&mut self) -> MetadataBlockResult<A>
-        ensures { IfOk result (λ block. IsSound block) }
+        ensures { ReadsBlock R.source self.old result self.new }
     {
-        let (is_last, block) = read_metadata_block_and_flag(self.alloc, &mut self.input)?;
-        self.done = is_last;
-        Ok(block)
+        match read_metadata_block_and_flag(self.alloc, &mut self.input) {
+            Ok((is_last, block)) => {
+                self.done = is_last;
+                Ok(block)
+            }
+            Err(error) => {
+                self.done = true;
+                Err(error)
+            }
+        }
     }
 }
 
@@ -356,7 +478,7 @@ impl<R: ReadBytes + Drop, A: Allocator + Copy> Iterator for MetadataBlockReader<
 
     type Item = MetadataBlockResult<A>;
 
-    ghost next_gives = { ReaderStep };
+    ghost next_gives = { ReaderStep R.source };
 
     ghost remaining = { λ s. if has_ended s then at_most 0 else endless };
 
@@ -364,11 +486,7 @@ impl<R: ReadBytes + Drop, A: Allocator + Copy> Iterator for MetadataBlockReader<
         if self.done {
             return None;
         }
-        let block = self.read_next();
-        if block.is_err() {
-            self.done = true;
-        }
-        Some(block)
+        Some(self.read_next())
     }
 
     fn size_hint(&self) -> (usize, Option<usize>)

@@ -1,7 +1,8 @@
 //! Streams from their head to their last block.
 ghost use Rattle.std.specs.Prelude.{Option, ◌≡◌, ◌≤◌, IfOk, true, false};
 ghost use Rattle.std.specs.Option.{ForSome, option_map};
-ghost use Rattle.claxon.specs.Comments.{HavePlaces, values_of};
+ghost use Rattle.claxon_format.specs.Tags.{values};
+ghost use Rattle.claxon.specs.Comments.{HavePlaces};
 
 use crate::error::Result;
 use crate::frame::FrameReader;
@@ -96,7 +97,7 @@ impl<R: Read, A: Allocator + Copy> FlacReader<R, A> {
 
     /// The values of the tags of this name, in order. Upper and lower case of the letters A to Z aren't told apart.
     pub fn get_tag<'a>(&'a self, tag_name: &'a str) -> GetTag<'a, A>
-        ensures { values_left result ≡ values_of tag_name.now (tags_of self.now) }
+        ensures { values_left result ≡ values tag_name.now (tags_of self.now) }
     {
         match &self.head.vorbis_comment {
             Some(comment) => GetTag::new(comment.comments.as_slice(), tag_name),

@@ -1,15 +1,15 @@
 -- Metadata blocks, and their readers.
-use Rattle.std.proofs.Common.{◌≡◌, ℕ, ◌+◌, ◌-◌, ◌≤◌, Bool, true, false, not, eqb, ltb, List, ◌++◌, length, refl, ap, ◌∙◌, arith}
+use Rattle.std.proofs.Common.{◌≡◌, ℕ, ◌+◌, ◌-◌, ◌≤◌, Bool, true, false, cond, not, eqb, ltb, List, ◌++◌, length, refl, ap, ◌∙◌, arith}
 use Rattle.std.proofs.lemmas.Bool.{ltb-false, le-ltb, eqb-true, eq-eqb}
 use Rattle.std.proofs.lemmas.List.{length-append}
 use Rattle.claxon_format.specs.Fault.{StreaminfoLength, BlockType, ApplicationShort, ApplicationLarge}
-use Rattle.claxon_format.specs.Reading.{Reads, and_then, done, test, Then, MeetsOr, Never, Mapped, choose}
+use Rattle.claxon_format.specs.Reading.{Reading, Faulty, Reads, and_then, done, test, Then, MeetsOr, Never, Mapped, choose}
 use Rattle.claxon_format.specs.Metadata.{Bytes, bytes_at, Big, most_bytes, BlockHeaderCode}
-use Rattle.claxon_format.specs.Streaminfo.{Streaminfo, StreaminfoCode, StreaminfoFault}
+use Rattle.claxon_format.specs.Streaminfo.{Streaminfo, StreaminfoCode, StreaminfoFault, streaminfo_by_numbers_at}
 use Rattle.claxon_format.specs.Blocks.{Content, Info, Application, Comments, InfoBody, ApplicationBody, skipped, Body, ApplicationFault, BodyFault, MetadataBlock, BlockCode, BlockFault, info_body_at, application_at, body_at, block_at}
 use Rattle.claxon_format.proofs.Laws.{Reads-then, Reads-same, Reads-test, Reads-map, Reads-pick}
 use Rattle.claxon_format.proofs.Metadata.{Reads-bytes, Reads-big, Reads-block_header, no_second}
-use Rattle.claxon_format.proofs.Streaminfos.{Reads-streaminfo}
+use Rattle.claxon_format.proofs.Streaminfos.{Reads-streaminfo, streaminfo_by_numbers}
 use Rattle.claxon_format.proofs.Comments.{Reads-comment, not_true, not_false}
 
 -- ---- bodies
@@ -17,6 +17,11 @@ use Rattle.claxon_format.proofs.Comments.{Reads-comment, not_true, not_false}
 Reads-info_body : (n : ℕ) → Reads ℕ Streaminfo (info_body_at n) (λ i t. (not (eqb n 34) ≡ false) × StreaminfoCode i t) (MeetsOr (not (eqb n 34)) StreaminfoLength StreaminfoFault)
 unfolding info_body_at
 Reads-info_body n = Reads-test (not (eqb n 34)) StreaminfoLength (λ e. Reads-streaminfo)
+
+-- number by number
+pub info_body_by_numbers : (n : ℕ) (s : List ℕ) → info_body_at n s ≡ test (not (eqb n 34)) StreaminfoLength streaminfo_by_numbers_at s
+unfolding info_body_at
+info_body_by_numbers n s = ap (λ (x : Reading ℕ Streaminfo). cond (not (eqb n 34)) (Faulty StreaminfoLength s) x) (streaminfo_by_numbers s)
 
 Reads-info : (n : ℕ) → Reads ℕ Content (and_then (info_body_at n) (λ i. done (Info i))) (InfoBody n) (MeetsOr (not (eqb n 34)) StreaminfoLength StreaminfoFault)
 Reads-info n =

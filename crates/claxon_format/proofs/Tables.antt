@@ -69,7 +69,7 @@ most_significant_first = refl
 skipped_types : map (λ type. skipped type 5) (1 ∷ 3 ∷ 5 ∷ 6 ∷ 7 ∷ 126 ∷ 128 ∷ 255 ∷ []) ≡ Padding 5 ∷ Padding 5 ∷ Padding 5 ∷ Padding 5 ∷ Reserved ∷ Reserved ∷ Reserved ∷ Reserved ∷ []
 skipped_types = refl
 
-header_of_block : block_header (0x84 ∷ []) (1 ∷ 2 ∷ 3 ∷ []) ≡ record { is_last = true; type = 4; length = 66051 }
+header_of_block : block_header (big_endian (0x84 ∷ [])) (big_endian (1 ∷ 2 ∷ 3 ∷ [])) ≡ record { is_last = true; type = 4; length = 66051 }
 unfolding big_endian
 header_of_block = refl
 

@@ -3,10 +3,9 @@ use Rattle.std.proofs.Common.{◌≡◌, ℕ, ◌+◌, Bool, true, false, List, 
 use Rattle.std.specs.Prelude.{nat_eq}
 use Rattle.std.specs.Cmp.Lexicographic.{pointwise, same_text, other_text}
 use Rattle.std.specs.List.{list_any}
-use Rattle.std.specs.Str.{str_eq_ignore_ascii_case}
 use Rattle.std.proofs.lemmas.List.{take_at, drop_at, length-append}
 use Rattle.claxon_format.specs.Comments.{Entry, is_separator, IsEntry}
-use Rattle.claxon_format.specs.Tags.{pair, lower}
+use Rattle.claxon_format.specs.Tags.{pair, lower, same}
 use Rattle.claxon_format.specs.Laws.{NamesSame}
 
 pub tags_split : (e : Entry) → IsEntry e → (e.text ≡ (pair e).0 ++ (0x3d ∷ (pair e).1)) × (list_any is_separator (pair e).0 ≡ false)
@@ -23,5 +22,6 @@ equal_text false xs ys e same = absurd (other_text xs ys e same)
 pub names_same : NamesSame
 names_same = record {
   told = λ a b e. same_text (map lower a) (map lower b) (sym e);
-  tests = λ a b e. equal_text (str_eq_ignore_ascii_case a b) (map lower a) (map lower b) refl e;
+  tests = λ a b e. equal_text (same a b) (map lower a) (map lower b) refl e;
+  std = λ a b. refl;
 }

@@ -1,20 +1,29 @@
 //! Reads Vorbis comments.
-ghost use Rattle.std.specs.Prelude.{◌≡◌, ◌≤◌, ◌==◌, ◌&&◌, nat_le, string_bytes, position, IfOk};
-ghost use Rattle.std.specs.List.{list_all};
-ghost use Rattle.claxon.specs.Comments.{HavePlaces, IsPlace};
+ghost use Rattle.std.specs.Prelude.{◌≡◌, ◌≤◌, ◌-◌, ◌/◌, Bool, true, false, not, string_bytes, IfOk, IfSome, MatchResult};
+ghost use Rattle.std.specs.List.{list_all, position};
+ghost use Rattle.claxon_format.specs.Comments.{is_separator, is_name_byte, not_utf8, entry_at, kept_at, entry_length_at, entries_at, vendor_length_at, vendor_at, count_at, comment_at};
+ghost use Rattle.claxon_format.specs.Fault.{EntryNotUtf8};
+ghost use Rattle.claxon_format.specs.Metadata.{most_bytes};
+ghost use Rattle.claxon_input.specs.Promises.{IsStarved};
+ghost use Rattle.claxon_input.specs.Stream.{bytes_in, Gives, GivesOrStarves, IsFault};
+ghost use Rattle.claxon.specs.Comments.{HavePlaces, IsPlace, entry_view, entries_view, kept_view, comment_view};
 
 use super::{MAX_BLOCK_LENGTH, VorbisComment, read_bytes};
+use crate::fields::read_little_u32;
 use crate::input::ReadBytes;
 use crate::{Error, Result};
 use std::alloc::Allocator;
 
 /// Reads the content of a Vorbis comment block of this length.
+#[tactic(auto, unfolding(claxon_format::specs::Comments::comment_at, claxon_format::specs::Fault::fault_text))]
 pub fn read_vorbis_comment_block<R: ReadBytes, A: Allocator + Copy>(
     alloc: A,
     input: &mut R,
     length: u32,
 ) -> Result<VorbisComment<A>>
-    ensures { IfOk result (λ comment. HavePlaces comment.comments.items) }
+    ensures places { IfOk result (λ comment. HavePlaces comment.comments.items) }
+    ensures memory { IsStarved result → (8 ≤ length) × (length ≤ most_bytes) }
+    ensures gives { GivesOrStarves comment_view result (comment_at length) (bytes_in R.source input.old) (bytes_in R.source input.new) }
 {
     if length < 8 {
         return Err(Error::FormatError("Vorbis comment block is too short"));
@@ -31,28 +40,44 @@ pub fn read_vorbis_comment_block<R: ReadBytes, A: Allocator + Copy>(
     Ok(VorbisComment { vendor, comments })
 }
 
+#[tactic(auto, unfolding(claxon_format::specs::Comments::vendor_length_at, claxon_format::specs::Fault::fault_text))]
 fn read_vendor_length<R: ReadBytes>(input: &mut R, most: u32) -> Result<u32>
-    ensures { IfOk result (λ length. length ≤ most) }
+    ensures most { IfOk result (λ length. length ≤ most) }
+    ensures gives { Gives (λ x. x) result (vendor_length_at most) (bytes_in R.source input.old) (bytes_in R.source input.new) }
 {
-    let length = input.read_le_u32()?;
+    let length = read_little_u32(input)?;
     if length > most {
         return Err(Error::FormatError("vendor string too long"));
     }
     Ok(length)
 }
 
+#[tactic(auto, unfolding(claxon_format::specs::Comments::vendor_at, claxon_format::specs::Fault::fault_text))]
 fn read_vendor<R: ReadBytes, A: Allocator>(
     alloc: A,
     input: &mut R,
     length: u32,
-) -> Result<String<A>> {
+) -> Result<String<A>>
+    ensures { GivesOrStarves string_bytes result (vendor_at length) (bytes_in R.source input.old) (bytes_in R.source input.new) }
+{
     let bytes = read_bytes(alloc, input, length)?;
+    text_of(bytes)
+}
+
+// The bytes as a text.
+fn text_of<A: Allocator>(bytes: Vec<u8, A>) -> Result<String<A>>
+    ensures { MatchResult result (λ text. (string_bytes text ≡ bytes.items) × (not_utf8 bytes.items ≡ false))
+        (λ error. IsFault EntryNotUtf8 error × (not_utf8 bytes.items ≡ true)) }
+{
     Ok(String::from_utf8(bytes)?)
 }
 
 // How many entries follow. Each takes four bytes at least, so a greater count can't be right.
-fn read_count<R: ReadBytes>(input: &mut R, limit: u32) -> Result<u32> {
-    let count = input.read_le_u32()?;
+#[tactic(auto, unfolding(claxon_format::specs::Comments::count_at, claxon_format::specs::Fault::fault_text))]
+fn read_count<R: ReadBytes>(input: &mut R, limit: u32) -> Result<u32>
+    ensures { Gives (λ x. x) result (count_at limit) (bytes_in R.source input.old) (bytes_in R.source input.new) }
+{
+    let count = read_little_u32(input)?;
     if count >= limit {
         return Err(Error::FormatError("too many entries for Vorbis comment block"));
     }
@@ -66,16 +91,16 @@ fn read_entries<R: ReadBytes, A: Allocator + Copy>(
     count: u32,
     length: u32,
 ) -> Result<Vec<(String<A>, usize), A>>
-    ensures { IfOk result (λ comments. HavePlaces comments.items) }
+    ensures places { IfOk result (λ comments. HavePlaces comments.items) }
+    ensures gives { GivesOrStarves (λ comments. entries_view comments.items) result (entries_at count length) (bytes_in R.source input.old) (bytes_in R.source input.new) }
 {
     let mut comments = Vec::new(alloc);
     let mut missing = count;
     let mut bytes_left = length;
     while missing > 0 && bytes_left >= 4 {
         let entry_length = read_entry_length(input, bytes_left - 4)?;
-        // Old encoders write empty entries, which say nothing.
-        if entry_length > 0 {
-            comments.push(read_entry(alloc, input, entry_length)?)?;
+        if let Some(entry) = read_kept_entry(alloc, input, entry_length)? {
+            comments.push(entry)?;
         }
         missing -= 1;
         bytes_left -= 4 + entry_length;
@@ -89,23 +114,43 @@ fn read_entries<R: ReadBytes, A: Allocator + Copy>(
     Ok(comments)
 }
 
+#[tactic(auto, unfolding(claxon_format::specs::Comments::entry_length_at, claxon_format::specs::Fault::fault_text))]
 fn read_entry_length<R: ReadBytes>(input: &mut R, most: u32) -> Result<u32>
-    ensures { IfOk result (λ length. length ≤ most) }
+    ensures most { IfOk result (λ length. length ≤ most) }
+    ensures gives { Gives (λ x. x) result (entry_length_at most) (bytes_in R.source input.old) (bytes_in R.source input.new) }
 {
-    let length = input.read_le_u32()?;
+    let length = read_little_u32(input)?;
     if length > most {
         return Err(Error::FormatError("Vorbis comment too long for Vorbis comment block"));
     }
     Ok(length)
 }
 
+// An entry of that many bytes, unless it is empty: old encoders write such, which say nothing.
+#[tactic(auto, unfolding(claxon_format::specs::Comments::kept_at))]
+fn read_kept_entry<R: ReadBytes, A: Allocator>(
+    alloc: A,
+    input: &mut R,
+    length: u32,
+) -> Result<Option<(String<A>, usize)>>
+    ensures place { IfOk result (λ found. IfSome found (λ entry. IsPlace (string_bytes entry.0) entry.1)) }
+    ensures gives { GivesOrStarves kept_view result (kept_at length) (bytes_in R.source input.old) (bytes_in R.source input.new) }
+{
+    if length == 0 {
+        return Ok(None);
+    }
+    Ok(Some(read_entry(alloc, input, length)?))
+}
+
 // An entry of that many bytes, and the place of its first `=`.
+#[tactic(auto, unfolding(claxon_format::specs::Comments::entry_at, claxon_format::specs::Fault::fault_text))]
 fn read_entry<R: ReadBytes, A: Allocator>(
     alloc: A,
     input: &mut R,
     length: u32,
 ) -> Result<(String<A>, usize)>
-    ensures { IfOk result (λ entry. IsPlace (string_bytes entry.0) entry.1) }
+    ensures place { IfOk result (λ entry. IsPlace (string_bytes entry.0) entry.1) }
+    ensures gives { GivesOrStarves entry_view result (entry_at length) (bytes_in R.source input.old) (bytes_in R.source input.new) }
 {
     let bytes = read_bytes(alloc, input, length)?;
     let Some(place) = first_separator(&bytes) else {
@@ -114,18 +159,18 @@ fn read_entry<R: ReadBytes, A: Allocator>(
     if !is_name(&bytes[..place]) {
         return Err(Error::FormatError("Vorbis comment field name contains invalid byte"));
     }
-    Ok((String::from_utf8(bytes)?, place))
+    Ok((text_of(bytes)?, place))
 }
 
 fn first_separator(bytes: &[u8]) -> Option<usize>
-    ensures { result ≡ position (λ byte. byte == 61) bytes.now }
+    ensures { result ≡ position is_separator bytes.now }
 {
     bytes.iter().position(|byte| *byte == b'=')
 }
 
 // Whether these are bytes that a name may have.
 fn is_name(bytes: &[u8]) -> bool
-    ensures { result ≡ list_all (λ byte. nat_le 32 byte && nat_le byte 125) bytes.now }
+    ensures { result ≡ list_all is_name_byte bytes.now }
 {
     bytes.iter().all(|byte| (0x20..=0x7d).contains(byte))
 }

@@ -1,8 +1,9 @@
 //! Goes over Vorbis comments as pairs of a name and a value.
-ghost use Rattle.std.specs.Prelude.{◌≡◌, [], ◌∷◌, Some, IfSome, length, string_bytes};
+ghost use Rattle.std.specs.Prelude.{◌≡◌, Some, IfSome, length, string_bytes};
 ghost use Rattle.std.specs.Iterator.{UpTo, YieldsFirstBy, YieldsFirstRef, item_count};
 ghost use Rattle.std.specs.Iterator.SizeHint.{IsWithinCount};
-ghost use Rattle.claxon.specs.Comments.{HavePlaces, IsPlace, pairs, shown, values_of};
+ghost use Rattle.claxon_format.specs.Tags.{pair, pairs, values};
+ghost use Rattle.claxon.specs.Comments.{HavePlaces, IsPlace, entry_view, entries_view, shown};
 
 use std::alloc::{Allocator, Global};
 
@@ -19,19 +20,19 @@ impl<'a, A: Allocator> Tags<'a, A> {
     /// Goes over texts, each with the place of a character of one byte that parts it.
     pub fn new(comments: &'a [(String<A>, usize)]) -> Tags<'a, A>
         requires { HavePlaces comments.now }
-        ensures { tags_left result ≡ pairs comments.now }
+        ensures { tags_left result ≡ pairs (entries_view comments.now) }
     {
         Tags { comments }
     }
 }
 
 // The text before the place and the text after it.
-fn split<A: Allocator>(pair: &(String<A>, usize)) -> (&str, &str)
-    requires { IsPlace (string_bytes pair.now.0) pair.now.1 }
-    ensures { pairs (pair.now ∷ []) ≡ shown result ∷ [] }
+fn split<A: Allocator>(comment: &(String<A>, usize)) -> (&str, &str)
+    requires { IsPlace (string_bytes comment.now.0) comment.now.1 }
+    ensures { shown result ≡ pair (entry_view comment.now) }
 {
-    let text = pair.0.as_str();
-    let place = pair.1;
+    let text = comment.0.as_str();
+    let place = comment.1;
     (&text[..place], &text[place + 1..])
 }
 
@@ -83,7 +84,7 @@ impl<'a, A: Allocator> GetTag<'a, A> {
     /// parts it.
     pub fn new(vorbis_comments: &'a [(String<A>, usize)], needle: &'a str) -> GetTag<'a, A>
         requires { HavePlaces vorbis_comments.now }
-        ensures { values_left result ≡ values_of needle.now (pairs vorbis_comments.now) }
+        ensures { values_left result ≡ values needle.now (pairs (entries_view vorbis_comments.now)) }
     {
         GetTag {
             tags: Tags::new(vorbis_comments),

@@ -1,9 +1,12 @@
-use Rattle.std.proofs.Common.{Some, ◌≡◌, eqb, string_bytes}
+use Rattle.std.proofs.Common.{◌≡◌, ℕ, List, Some, sym, subst}
 use Rattle.std.specs.List.{position}
-use Rattle.claxon.proofs.Pairs.{place_of_separator}
+use Rattle.claxon_format.specs.Comments.{is_separator}
+use Rattle.claxon.specs.Comments.{IsPlace}
+use Rattle.claxon.proofs.Comments.{separator_is_place}
 use Rattle.claxon.proofs.metadata.comment.read_entry.Goals as goal
 
-pub returns : goal.returns
-returns g c =
-    let first : position (λ byte. eqb byte 61) (string_bytes c.in_ok-from_utf8.field-0) ≡ Some c.in-Some.place = cc (c.in_ok-from_utf8.ensures.ok, c.deref.ensures.value, c.in-Some.ensures) in
-    place_of_separator (string_bytes c.in_ok-from_utf8.field-0) c.in-Some.place first
+pub returns-clause-place : goal.returns-clause-place
+returns-clause-place g c =
+    let e : position is_separator c.in_ok-bytes.bytes.items ≡ Some c.in-Some.place = cc in
+    let t = c.in_ok-text_of.ensures in
+    subst (λ (b : List ℕ). IsPlace b c.in-Some.place) (sym t.0) (separator_is_place c.in_ok-bytes.bytes.items c.in-Some.place e)
