@@ -14,6 +14,8 @@ mod frames;
 #[cfg(test)]
 mod header_faults;
 #[cfg(test)]
+mod metadata;
+#[cfg(test)]
 mod readers;
 #[cfg(test)]
 mod sources;
@@ -21,3 +23,9 @@ mod sources;
 mod streams;
 #[cfg(test)]
 mod subframes;
+#[cfg(test)]
+mod writer;
+#[cfg(test)]
+mod written;
+#[cfg(test)]
+mod zeros;
