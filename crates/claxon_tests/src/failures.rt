@@ -52,6 +52,44 @@ fn application_blocks(rt: HostRuntime) -> Result<(), Fail> {
     Ok(())
 }
 
+// A vendor and five entries, for which the vector of comments has to grow.
+fn many_comments(rt: &impl AllocGlobal) -> Result<Vec<u8>, Fail> {
+    let mut bytes = joined(
+        rt.alloc(),
+        &[
+            &[0x04, 0x00, 0x00, 0x2d],
+            &[2, 0, 0, 0],
+            b"ab",
+            &[5, 0, 0, 0],
+        ],
+    )?;
+    for _ in 0..5 {
+        bytes.extend_from_slice(&[3, 0, 0, 0, b'X', b'=', b'Y'])?;
+    }
+    Ok(bytes)
+}
+
+#[test]
+fn comment_blocks(rt: HostRuntime) -> Result<(), Fail> {
+    let bytes = many_comments(&rt)?;
+    let mut refused = 0u32;
+    for size in 0..128usize {
+        let heap = LocalHeap::new(rt.alloc(), 8 * size)?;
+        match read_metadata_block_with_header(&heap, &mut Cursor::new(bytes.as_slice())) {
+            Ok(MetadataBlock::VorbisComment(comment)) => {
+                assert_eq!(rt; comment.comments.len(), 5);
+            }
+            Ok(_) => return Err(Fail::new("not a comment block")),
+            Err(error) => {
+                assert_eq!(rt; fault_of(&error), Fault::Memory);
+                refused = refused.saturating_add(1);
+            }
+        }
+    }
+    assert!(rt; refused > 64 && refused < 128, "{refused}");
+    Ok(())
+}
+
 // The header is taken, so the next call reads what follows it.
 #[test]
 fn a_buffer_that_cannot_grow(rt: HostRuntime) -> Result<(), Fail> {

@@ -4,12 +4,18 @@ use claxon::input::{BufferedReader, ReadBytes};
 use claxon::{FlacReader, FlacReaderOptions, read_head};
 use std::io::Cursor;
 use std::test::Fail;
-use std::{fs, process};
+use std::{env, fs, process};
 
-// The name of a file of this process's own that holds these bytes.
+// A name of this process's own in the folder for files that don't last.
+fn path_of(rt: &HostRuntime, name: &str) -> Result<String, Fail> {
+    let (folder, id) = (env::temp_dir(rt)?, process::id(rt.process()));
+    let folder = folder.as_str();
+    Ok(format!(in rt.alloc(); "{folder}/claxon_tests_{name}_{id}")?)
+}
+
+// The name of such a file, which holds these bytes.
 fn file_of(rt: &HostRuntime, name: &str, bytes: &[u8]) -> Result<String, Fail> {
-    let id = process::id(rt.process());
-    let path = format!(in rt.alloc(); "/tmp/claxon_tests_{name}_{id}")?;
+    let path = path_of(rt, name)?;
     fs::write(rt, path.as_str(), bytes)?;
     Ok(path)
 }
@@ -64,7 +70,8 @@ fn refuses_files(rt: HostRuntime) -> Result<(), Fail> {
     fs::remove_file(&rt, path.as_str())?;
     let text = "stream starts with ID3 header rather than FLAC header";
     assert_eq!(rt; refused, Err(Fault::Format(text)));
-    assert_eq!(rt; opened(&rt, "/tmp/claxon_tests_none/none"), Err(Fault::Io));
+    let absent = path_of(&rt, "none")?;
+    assert_eq!(rt; opened(&rt, absent.as_str()), Err(Fault::Io));
     Ok(())
 }
 

@@ -15,6 +15,8 @@ pub mod guarded;
 #[cfg(test)]
 mod header_faults;
 #[cfg(test)]
+mod metadata;
+#[cfg(test)]
 mod readers;
 #[cfg(test)]
 mod sources;
@@ -22,3 +24,9 @@ mod sources;
 mod streams;
 #[cfg(test)]
 mod subframes;
+#[cfg(test)]
+mod writer;
+#[cfg(test)]
+mod written;
+#[cfg(test)]
+mod zeros;

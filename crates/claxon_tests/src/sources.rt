@@ -56,3 +56,34 @@ impl Read for FailsOnce<'_> {
         self.inner.read(buf)
     }
 }
+
+/// Gives a byte, so many zero bytes, and then another byte without an end.
+#[derive(Drop)]
+pub struct ZerosBetween {
+    first: Option<u8>,
+    zeros: u32,
+    last: u8,
+}
+
+impl ZerosBetween {
+    pub fn new(first: u8, zeros: u32, last: u8) -> ZerosBetween {
+        ZerosBetween {
+            first: Some(first),
+            zeros,
+            last,
+        }
+    }
+}
+
+impl Read for ZerosBetween {
+    fn read(&mut self, buf: &mut [u8]) -> io::Result<usize> {
+        for slot in buf.iter_mut() {
+            *slot = if self.zeros > 0 { 0 } else { self.last };
+            match self.first.take() {
+                Some(first) => *slot = first,
+                None => self.zeros = self.zeros.saturating_sub(1),
+            }
+        }
+        Ok(buf.len())
+    }
+}

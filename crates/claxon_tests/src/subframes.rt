@@ -1,60 +1,65 @@
-//! Subframes, and how many bytes of them are taken.
+//! Subframes, and how many bits of them are taken.
 ghost use Rattle.std.specs.Prelude.{◌≤◌};
 
 use crate::answers::{Fault, fault_of, first_four};
-use claxon::input::Bitstream;
+use claxon::input::{Bitstream, ReadBytes};
 use claxon::subframe;
-use std::alloc::Global;
 use std::io::Cursor;
 use std::process::Abort;
 
-// The first four samples of a subframe of so many samples of this width, or the fault, and how many bytes were taken.
-fn decode(alloc: Global, bytes: &[u8], width: u32, len: u8) -> (Result<[i32; 4], Fault>, u64)
+// How many bits come. They are taken.
+fn bits_left<R: ReadBytes>(bits: &mut Bitstream<R>) -> u64 {
+    for count in 0..u64::MAX {
+        if bits.read_bit().is_err() {
+            return count;
+        }
+    }
+    u64::MAX
+}
+
+// The first four samples of a subframe of so many samples of this width, or the fault, and how many bits were taken.
+fn decode(bytes: &[u8], width: u32, len: u8) -> (Result<[i32; 4], Fault>, u64)
     requires { width ≤ 32 }
 {
-    let Ok(bytes) = Vec::from_slice(alloc, bytes) else {
-        return (Err(Fault::Memory), 0);
-    };
     let mut buffer = [13; 255];
     let buffer = &mut buffer[..usize::from(len)];
-    let mut input = Cursor::new(bytes);
-    let answer = match subframe::decode(&mut Bitstream::new(&mut input), width, buffer) {
+    let mut bits = Bitstream::new(Cursor::new(bytes));
+    let answer = match subframe::decode(&mut bits, width, buffer) {
         Ok(()) => Ok(first_four(buffer)),
         Err(error) => Err(fault_of(&error)),
     };
-    (answer, input.position())
+    let all = (bytes.len() as u64).saturating_mul(8);
+    (answer, all.saturating_sub(bits_left(&mut bits)))
 }
 
-// Each of the subframes, of samples of 8 bits, is these samples and nothing more.
-fn check(rt: &(impl Abort + AllocGlobal), rows: &[(&[u8], &[i32])]) {
+// Each of the subframes, of samples of 8 bits, is these samples, with its end in its last byte.
+fn check(rt: &impl Abort, rows: &[(&[u8], &[i32])]) {
     for (bytes, want) in rows {
         assert!(rt; want.len() < 256);
-        let (answer, taken) = decode(rt.alloc(), *bytes, 8, want.len() as u8);
+        let (answer, taken) = decode(*bytes, 8, want.len() as u8);
         assert_eq!(rt; answer, Ok(first_four(*want)), "{bytes:?}");
-        assert_eq!(rt; taken, bytes.len() as u64, "{bytes:?}");
+        assert_eq!(rt; taken.div_ceil(8), bytes.len() as u64, "{bytes:?}");
     }
 }
 
-// Each of the subframes, of so many samples of 8 bits, is refused at its last byte.
-fn check_refusals(rt: &(impl Abort + AllocGlobal), rows: &[(&[u8], u8, Fault)]) {
-    for (bytes, len, fault) in rows {
-        let (answer, taken) = decode(rt.alloc(), *bytes, 8, *len);
-        assert_eq!(rt; answer, Err(*fault), "{bytes:?}");
-        assert_eq!(rt; taken, bytes.len() as u64, "{bytes:?}");
+// Each of the subframes, of so many samples of 8 bits, is refused after so many bits.
+fn check_refusals(rt: &impl Abort, rows: &[(&[u8], u8, Fault, u64)]) {
+    for (bytes, len, fault, taken) in rows {
+        assert_eq!(rt; decode(*bytes, 8, *len), (Err(*fault), *taken), "{bytes:?}");
     }
 }
 
 #[test]
 fn verbatim_of_twelve_bits(rt: HostRuntime) {
-    let (answer, taken) = decode(rt.alloc(), &[0x02, 0xff, 0xf7, 0xff], 12, 2);
+    let (answer, taken) = decode(&[0x02, 0xff, 0xf7, 0xff], 12, 2);
     assert_eq!(rt; answer, Ok([-1, 2047, 0, 0]));
-    assert_eq!(rt; taken, 4);
+    assert_eq!(rt; taken, 32);
 }
 
 #[test]
 fn no_width(rt: HostRuntime) {
     let fault = Fault::Format("subframe has no non-wasted bits");
-    assert_eq!(rt; decode(rt.alloc(), &[0x00, 0x00], 0, 1), (Err(fault), 1));
+    assert_eq!(rt; decode(&[0x00, 0x00], 0, 1), (Err(fault), 8));
 }
 
 #[test]
@@ -113,19 +118,21 @@ fn refused_headers(rt: HostRuntime) {
     check_refusals(
         &rt,
         &[
-            (&[0x80], 1, Fault::Format("invalid subframe header")),
-            (&[0x04], 1, reserved),
-            (&[0x1a], 1, reserved),
-            (&[0x20], 1, reserved),
+            (&[0x80], 1, Fault::Format("invalid subframe header"), 1),
+            (&[0x04], 1, reserved, 7),
+            (&[0x1a], 1, reserved, 7),
+            (&[0x20], 1, reserved, 7),
             (
                 &[0x01, 0x00, 0x00, 0x00, 0x01],
                 1,
                 Fault::Format("wasted bits per sample must not exceed 31"),
+                40,
             ),
             (
                 &[0x01, 0x01],
                 1,
                 Fault::Format("subframe has no non-wasted bits"),
+                16,
             ),
         ],
     );
@@ -140,16 +147,19 @@ fn refused_predictors(rt: HostRuntime) {
                 &[0x14],
                 1,
                 Fault::Format("invalid fixed subframe, order is larger than block size"),
+                8,
             ),
             (
                 &[0x40],
                 0,
                 Fault::Format("invalid LPC subframe, lpc order is larger than block size"),
+                8,
             ),
             (
                 &[0x40, 0x05, 0xf0],
                 2,
                 Fault::Format("invalid subframe, qlp precision value invalid"),
+                20,
             ),
             (
                 &[0x40, 0x05, 0x18, 0x00],
@@ -157,6 +167,7 @@ fn refused_predictors(rt: HostRuntime) {
                 Fault::Unsupported(
                     "a negative quantized linear predictor coefficient shift is not supported, please file a bug.",
                 ),
+                25,
             ),
         ],
     );
@@ -171,12 +182,19 @@ fn refused_residuals(rt: HostRuntime) {
                 &[0x10, 0x80],
                 1,
                 Fault::Format("invalid residual, encountered reserved value"),
+                10,
             ),
-            (&[0x10, 0x04], 3, Fault::Format("invalid partition order")),
+            (
+                &[0x10, 0x04],
+                3,
+                Fault::Format("invalid partition order"),
+                14,
+            ),
             (
                 &[0x14, 0x01, 0x02, 0x04],
                 2,
                 Fault::Format("invalid residual"),
+                30,
             ),
         ],
     );
@@ -193,8 +211,5 @@ fn no_samples(rt: HostRuntime) {
             (&[0x10, 0x00, 0x00], &[]),
         ],
     );
-    assert_eq!(rt;
-        decode(rt.alloc(), &[0x10, 0x00], 8, 0),
-        (Err(Fault::Io), 2)
-    );
+    assert_eq!(rt; decode(&[0x10, 0x00], 8, 0), (Err(Fault::Io), 16));
 }
