@@ -110,7 +110,7 @@ module _ {X Y : Type 0} {read : List X → Reading X Y} {C : Y → List X → Ty
   ]
 
   -- in all other cases the answer is an `IoError`, where the source gives nothing at its end alone
-  pub ends_io : {A : Type 0} (view : A → Y) (r : Result (Option A) Error) (a b : Stream X) → GivesOrEnds k view r read a b → a.told ≡ true → k ≤ length a.coming → (b.coming ≢ [] → b.empties ≡ a.empties)
+  pub ends_io : {A : Type 0} (view : A → Y) (r : Result (Option A) Error) (a b : Stream X) → GivesOrEnds k view r read a b → a.told ≡ true → k ≤ length a.coming → (b.bytes ≢ [] → b.empties ≡ a.empties)
       → ((y : Y) (t rest : List X) → C y t → a.coming ≡ t ++ rest → ⊥) → ((f : Fault) (t rest : List X) → F f t → a.coming ≡ t ++ rest → ⊥) → (e : Error) × (r ≡ Err e) × IsIo e
   unfolding some_of
   ends_io view r a b g t l fair n m = elim (ended_or k view r read a b g) [

@@ -33,4 +33,4 @@ GivesOrEndsOrStarves count view (Err e) read old new = Stops e (or_end count rea
 pub record Fairly {X : Type 0} (old new : Stream X) : Type 0 where
   pub told : old.told ≡ true
   pub errors : new.errors ≡ old.errors
-  pub empties : new.coming ≢ [] → new.empties ≡ old.empties
+  pub empties : new.bytes ≢ [] → new.empties ≡ old.empties

@@ -1,7 +1,7 @@
 -- Numbers of whole bytes, as bytes and as bits.
-use Rattle.std.proofs.Common.{◌≡◌, ℕ, zero, suc, ◌+◌, ◌-◌, ◌*◌, ◌/◌, ◌^◌, ◌<◌, ◌≤◌, Bool, true, false, cond, ltb, List, [], ◌∷◌, ◌++◌, length, take, drop, refl, sym, ap, ◌∙◌, arith}
+use Rattle.std.proofs.Common.{◌≡◌, ℕ, zero, suc, ◌+◌, ◌*◌, ◌^◌, ◌<◌, ◌≤◌, Bool, true, false, cond, ltb, List, [], ◌∷◌, ◌++◌, length, take, drop, refl, sym, ap, ◌∙◌, arith}
 use Rattle.std.proofs.lemmas.Bool.{ltb-false, ltb-true, le-ltb, lt-ltb}
-use Rattle.std.proofs.lemmas.List.{take_at, drop_at, take-append-drop, length-append, length-take, length-drop}
+use Rattle.std.proofs.lemmas.List.{take_at, drop_at, take-append-drop, length-append, length-take}
 use Rattle.std.proofs.lemmas.Nat.{pow-add}
 use Rattle.std.proofs.Math.Nat.{pow-suc, mul_comm, add-mul}
 use Rattle.claxon_format.specs.Bits.{Bits, bits, bits_of, number}
@@ -9,7 +9,9 @@ use Rattle.claxon_format.specs.Readers.{number_at}
 use Rattle.claxon_format.specs.Metadata.{bytes_at, big_endian, big_at}
 use Rattle.claxon_format.specs.Frame.{by_bytes}
 use Rattle.claxon_format.proofs.Numbers.{number-bits}
+use Rattle.claxon_format.specs.Reading.{Done, Short, bind, done}
 use Rattle.claxon_format.proofs.Bytes.{bits_of-append, length-bits_of}
+use Rattle.claxon_format.proofs.WholeBytes.{Leaves, Whole, in_bits, whole_is}
 
 number-append : (s t : Bits) → number (s ++ t) ≡ number s * 2 ^ length t + number t
 unfolding number
@@ -36,17 +38,17 @@ number-bits_of (y ∷ s) =
     number-append (bits 8 y) (bits_of s) ∙ rw (number-bits 8 y, length-bits_of s, number-bits_of s, bytes_pow (length s)) refl
 
 -- a number of k bytes is one of 8 * k bits
-pub big_in_bits : (k : ℕ) (s : List ℕ) → by_bytes (number_at (8 * k)) s ≡ big_at k s
+pub Whole-number : (k : ℕ) → Whole ℕ (number_at (8 * k)) (big_at k)
 unfolding number_at big_at bytes_at
-big_in_bits k s = go (ltb (length s) k) refl
+Whole-number k = record { same = λ s. go s (ltb (length s) k) refl; rest = λ s. left s (ltb (length s) k) }
   where
-    go : (b : Bool) → ltb (length s) k ≡ b → by_bytes (number_at (8 * k)) s ≡ big_at k s
-    go true e =
+    go : (s : List ℕ) (b : Bool) → ltb (length s) k ≡ b → number_at (8 * k) (bits_of s) ≡ in_bits (big_at k s)
+    go s true e =
         let l : length s < k = ltb-true _ _ e in
         let n = length-bits_of s in
         let f : ltb (length (bits_of s)) (8 * k) ≡ true = lt-ltb _ _ (omega arith) in
         rw (f, e) refl
-    go false e =
+    go s false e =
         let l : k ≤ length s = ltb-false _ _ e in
         let n = length-bits_of s in
         let f : ltb (length (bits_of s)) (8 * k) ≡ false = le-ltb _ _ (omega arith) in
@@ -54,5 +56,11 @@ big_in_bits k s = go (ltb (length s) k) refl
         let len : length (bits_of (take k s)) ≡ 8 * k = length-bits_of (take k s) ∙ ap (λ (m : ℕ). 8 * m) (omega (arith, length-take k s)) in
         let front : take (8 * k) (bits_of s) ≡ bits_of (take k s) = ap (take (8 * k)) parts ∙ take_at (bits_of (take k s)) (bits_of (drop k s)) (8 * k) len in
         let back : drop (8 * k) (bits_of s) ≡ bits_of (drop k s) = ap (drop (8 * k)) parts ∙ drop_at (bits_of (take k s)) (bits_of (drop k s)) (8 * k) len in
-        let left : length s - length (bits_of (drop k s)) / 8 ≡ k = omega (arith, length-bits_of (drop k s), length-drop k s) in
-        rw (f, e, front, back, number-bits_of (take k s), left) refl
+        rw (f, e, front, back, number-bits_of (take k s)) refl
+
+    left : (s : List ℕ) (b : Bool) → Leaves s (bind (cond b Short (Done (take k s) (drop k s))) (λ xs. done (big_endian xs)))
+    left s true = tt
+    left s false = (take k s, sym (take-append-drop k s))
+
+pub big_in_bits : (k : ℕ) (s : List ℕ) → by_bytes (number_at (8 * k)) s ≡ big_at k s
+big_in_bits k s = whole_is (Whole-number k) s
