@@ -1,8 +1,10 @@
 -- Vorbis comments (RFC 9639, 8.6) as the code keeps them: texts, each with the place of its first '='.
-use Rattle.std.specs.Prelude.{ℕ, ◌<◌, Option, None, Some, List, [], ◌∷◌, All, map, slice_index, length, string_bytes}
+use Rattle.std.specs.Prelude.{◌≡◌, ℕ, true, ◌<◌, Option, None, Some, List, [], ◌∷◌, All, map, slice_index, length, string_bytes}
 use Rattle.std.specs.declared.string.String.{String}
 use Rattle.std.specs.Borrow.{Bor}
-use Rattle.claxon_format.specs.Comments.{Entry, Comment}
+use Rattle.claxon_format.specs.Comments.{Entry, Comment, vendor_length_at}
+use Rattle.claxon_format.specs.Reading.{Done}
+use Rattle.claxon_input.specs.Stream.{Stream}
 use Rattle.claxon.specs.declared.metadata.VorbisComment.{VorbisComment}
 
 abbrev pub entry_view : {A : Type 0} → String A × ℕ → Entry
@@ -18,6 +20,10 @@ comment_view comment = record { vendor = string_bytes comment.vendor; entries = 
 abbrev pub kept_view : {A : Type 0} → Option (String A × ℕ) → List Entry
 kept_view None = []
 kept_view (Some pair) = entry_view pair ∷ []
+
+-- a length of the vendor that is no more than most
+abbrev pub HasVendorLength : ℕ → Stream ℕ → Type 0
+HasVendorLength most old = old.told ≡ true → (v : ℕ) × (rest : List ℕ) × (vendor_length_at most old.coming ≡ Done v rest)
 
 -- at the place stands a character of one byte
 pub record IsPlace (bytes : List ℕ) (place : ℕ) : Type 0 where

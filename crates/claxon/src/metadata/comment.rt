@@ -6,7 +6,7 @@ ghost use Rattle.claxon_format.specs.Fault.{EntryNotUtf8};
 ghost use Rattle.claxon_format.specs.Metadata.{most_bytes};
 ghost use Rattle.claxon_input.specs.Promises.{IsStarved};
 ghost use Rattle.claxon_input.specs.Stream.{bytes_in, Gives, GivesOrStarves, IsFault};
-ghost use Rattle.claxon.specs.Comments.{HavePlaces, IsPlace, entry_view, entries_view, kept_view, comment_view};
+ghost use Rattle.claxon.specs.Comments.{HavePlaces, HasVendorLength, IsPlace, entry_view, entries_view, kept_view, comment_view};
 
 use super::{MAX_BLOCK_LENGTH, VorbisComment, read_bytes};
 use crate::fields::read_little_u32;
@@ -22,7 +22,9 @@ pub fn read_vorbis_comment_block<R: ReadBytes, A: Allocator + Copy>(
     length: u32,
 ) -> Result<VorbisComment<A>>
     ensures places { IfOk result (λ comment. HavePlaces comment.comments.items) }
+    // Memory is asked for only after the lengths of the block and of its vendor were tested.
     ensures memory { IsStarved result → (8 ≤ length) × (length ≤ most_bytes) }
+    ensures vendor { IsStarved result → HasVendorLength (length - 8) (bytes_in R.source input.old) }
     ensures gives { GivesOrStarves comment_view result (comment_at length) (bytes_in R.source input.old) (bytes_in R.source input.new) }
 {
     if length < 8 {
