@@ -168,7 +168,7 @@ pub fn read_metadata_block_with_header<R: ReadBytes, A: Allocator + Copy>(
     ensures named { NamesFault result BlockFault (bytes_in R.source input.old) (bytes_in R.source input.new) }
     // Where neither stands there, the bytes end.
     ensures io { EndsElse result ContentCode BlockFault (bytes_in R.source input.old) (bytes_in R.source input.new) }
-    // After an Err a rest of what was to come is left.
+    // After an Err a rest of the bytes to come is left.
     ensures front { LeavesRest result (bytes_in R.source input.old) (bytes_in R.source input.new) }
     ensures gives { GivesOrStarves content_view result content_at (bytes_in R.source input.old) (bytes_in R.source input.new) }
 {
@@ -218,7 +218,7 @@ pub fn read_metadata_block<R: ReadBytes, A: Allocator + Copy>(
     ensures named { NamesFault result (BodyFault block_type length) (bytes_in R.source input.old) (bytes_in R.source input.new) }
     // Where neither stands there, the bytes end.
     ensures io { EndsElse result (Body block_type length) (BodyFault block_type length) (bytes_in R.source input.old) (bytes_in R.source input.new) }
-    // After an Err a rest of what was to come is left.
+    // After an Err a rest of the bytes to come is left.
     ensures front { LeavesRest result (bytes_in R.source input.old) (bytes_in R.source input.new) }
     ensures gives { GivesOrStarves content_view result (body_at block_type length) (bytes_in R.source input.old) (bytes_in R.source input.new) }
 {

@@ -16,16 +16,16 @@ whole_rest : {X : Type 0} (s : List X) → IsRest s s
 unfolding IsRest
 whole_rest s = ([], refl)
 
-stops_rest : {X Y : Type 0} (e : Error) (read : List X → Reading X Y) (a b : Stream X) (io : Bool) → is_io e ≡ io → Stops e read a b → a.told ≡ true → (b.told ≡ true) × IsRest a.coming b.coming
-stops_rest e read a b true i k t = let w = (k.stuck i).known t in (w.told, w.rest a.coming (whole_rest a.coming))
-stops_rest e read a b false i k t = let w = (k.fault i).known t in (w.told, w.rest a.coming (whole_rest a.coming))
+stops_rest : {X Y : Type 0} (e : Error) (read : List X → Reading X Y) (a b : Stream X) (io : Bool) → is_io e ≡ io → Stops e read a b → a.told ≡ true → (b.told ≡ true) × IsRest a.bytes b.bytes
+stops_rest e read a b true i k t = let w = (k.stuck i).known t in (w.told, w.rest a.bytes (whole_rest a.bytes))
+stops_rest e read a b false i k t = let w = (k.fault i).known t in (w.told, w.rest a.bytes (whole_rest a.bytes))
 
 pub leaves_rest : {X A Y : Type 0} (view : A → Y) (r : Result A Error) (read : List X → Reading X Y) (a b : Stream X) → GivesOrStarves view r read a b → LeavesRest r a b
 leaves_rest view (Ok x) read a b g = tt
 leaves_rest view (Err (IoError i)) read a b g = stops_rest (IoError i) read a b true refl g
 leaves_rest view (Err (FormatError i)) read a b g = stops_rest (FormatError i) read a b false refl g
 leaves_rest view (Err (Unsupported i)) read a b g = stops_rest (Unsupported i) read a b false refl g
-leaves_rest view (Err OutOfMemory) read a b g = λ t. let w = g.went.known t in (w.told, w.rest a.coming (whole_rest a.coming))
+leaves_rest view (Err OutOfMemory) read a b g = λ t. let w = g.went.known t in (w.told, w.rest a.bytes (whole_rest a.bytes))
 
 -- ---- by the laws of a reader
 

@@ -33,9 +33,9 @@ abbrev pub EndsElse : {X A Y : Type 0} → Result A Error → (Y → List X → 
 EndsElse {X} {A} {Y} r Code Bad old new =
     old.told ≡ true → ((y : Y) (t rest : List X) → Code y t → old.coming ≡ t ++ rest → ⊥) → ((f : Fault) (t rest : List X) → Bad f t → old.coming ≡ t ++ rest → ⊥) → IsStarved r ⊎ IsErrAnd r IsIo
 
--- An Err leaves a rest of what was to come.
+-- An Err leaves a rest of the bytes that were to come.
 abbrev pub LeavesRest : {X A : Type 0} → Result A Error → Stream X → Stream X → Type 0
-LeavesRest r old new = IfErr r (λ e. old.told ≡ true → (new.told ≡ true) × IsRest old.coming new.coming)
+LeavesRest r old new = IfErr r (λ e. old.told ≡ true → (new.told ≡ true) × IsRest old.bytes new.bytes)
 
 -- all of it
 pub record Promises {X A Y : Type 0} (view : A → Y) (r : Result A Error) (Code : Y → List X → Type 0) (Bad : Fault → List X → Type 0) (old new : Stream X) : Type 0 where
