@@ -57,11 +57,11 @@ content_view Picture = Reserved
 abbrev pub block_view : {A : Type 0} → Bool → MetadataBlock A → Block
 block_view is_last block = record { is_last = is_last; content = content_view block }
 
--- Blocks of applications and comments take memory, where their length is one that they can have.
+-- Only blocks of applications and comments take memory, where their length is one that they can have.
 abbrev pub MayStarve : ℕ → ℕ → Type 0
 MayStarve type length = (((type ≡ 2) × (4 ≤ length)) ⊎ ((type ≡ 4) × (8 ≤ length))) × (length ≤ most_bytes)
 
--- Memory is refused only to a block that takes some, after its header was read.
+-- Memory is wanted only where a header of such a block stands.
 abbrev pub StarvesLate : {A : Type 0} → Result A Error → Stream ℕ → Type 0
 StarvesLate r old =
     IsStarved r → old.told ≡ true → (h : BlockHeader) × (x : List ℕ) × (rest : List ℕ) × BlockHeaderCode h x × MayStarve h.type h.length × (old.coming ≡ x ++ rest)

@@ -156,6 +156,7 @@ pub fn read_metadata_block_with_header<R: ReadBytes, A: Allocator + Copy>(
     input: &mut R,
 ) -> Result<MetadataBlock<A>>
     ensures bounds { IfOk result (λ block. IsSound block) }
+    // Only blocks of applications and comments want memory, after their length was tested.
     ensures memory { StarvesLate result (bytes_in R.source input.old) }
     // What was read is a block, and it alone was taken.
     ensures sound { TakesCode content_view result ContentCode (bytes_in R.source input.old) (bytes_in R.source input.new) }
@@ -167,12 +168,14 @@ pub fn read_metadata_block_with_header<R: ReadBytes, A: Allocator + Copy>(
     ensures named { NamesFault result BlockFault (bytes_in R.source input.old) (bytes_in R.source input.new) }
     // Where neither stands there, the bytes end.
     ensures io { EndsElse result ContentCode BlockFault (bytes_in R.source input.old) (bytes_in R.source input.new) }
+    // After an Err a rest of the bytes to come is left.
     ensures front { LeavesRest result (bytes_in R.source input.old) (bytes_in R.source input.new) }
     ensures gives { GivesOrStarves content_view result content_at (bytes_in R.source input.old) (bytes_in R.source input.new) }
 {
     read_unflagged_block(alloc, input)
 }
 
+// A block without its last flag.
 #[tactic(auto, unfolding(crate::specs::Blocks::content_at))]
 fn read_unflagged_block<R: ReadBytes, A: Allocator + Copy>(
     alloc: A,
@@ -203,7 +206,7 @@ pub fn read_metadata_block<R: ReadBytes, A: Allocator + Copy>(
     length: u32,
 ) -> Result<MetadataBlock<A>>
     ensures bounds { IfOk result (λ block. IsSound block) }
-    // Memory is asked for only by blocks of applications and comments, after their length was tested.
+    // Only blocks of applications and comments want memory, after their length was tested.
     ensures memory { IsStarved result → MayStarve block_type length }
     // What was read is the content of a block, and it alone was taken.
     ensures sound { TakesCode content_view result (Body block_type length) (bytes_in R.source input.old) (bytes_in R.source input.new) }
@@ -215,12 +218,14 @@ pub fn read_metadata_block<R: ReadBytes, A: Allocator + Copy>(
     ensures named { NamesFault result (BodyFault block_type length) (bytes_in R.source input.old) (bytes_in R.source input.new) }
     // Where neither stands there, the bytes end.
     ensures io { EndsElse result (Body block_type length) (BodyFault block_type length) (bytes_in R.source input.old) (bytes_in R.source input.new) }
+    // After an Err a rest of the bytes to come is left.
     ensures front { LeavesRest result (bytes_in R.source input.old) (bytes_in R.source input.new) }
     ensures gives { GivesOrStarves content_view result (body_at block_type length) (bytes_in R.source input.old) (bytes_in R.source input.new) }
 {
     read_content(alloc, input, block_type, length)
 }
 
+// What a block of this type and length holds.
 fn read_content<R: ReadBytes, A: Allocator + Copy>(
     alloc: A,
     input: &mut R,
