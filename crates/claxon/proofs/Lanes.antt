@@ -2,20 +2,20 @@
 use Rattle.std.proofs.Common.{◌≡◌, ℕ, zero, suc, ◌+◌, ◌-◌, ◌*◌, ◌/◌, ◌%◌, ◌^◌, ◌<◌, ◌≤◌, inl, inr, List, [], ◌∷◌, ◌++◌, length, map, take, drop, replicate, get_or, append_assoc, refl, sym, ap, subst, ◌∙◌, arith, ℤ, pos, negsuc, ◌+ℤ◌, ◌*ℤ◌, of_z, to_z, w64, w32, FitsSigned, unsigned_abs}
 use Rattle.std.specs.Int.{int_wrap}
 use Rattle.std.specs.Int.Signed.{shr_z}
-use Rattle.std.proofs.Math.IntN.{+ℤ_assoc, +ℤ_comm, suc_ℤ, suc_ℤ-*ℤ, zero-*ℤ, *ℤ_comm}
+use Rattle.std.proofs.Math.IntN.{+ℤ_idl, +ℤ_assoc, +ℤ_comm, suc_ℤ, suc_ℤ-*ℤ, zero-*ℤ, *ℤ_comm}
 use Rattle.std.proofs.Math.Nat.{mul-suc, pow-le-pow_right, add-div_right, div-eq_of_lt}
 use Rattle.std.proofs.lemmas.Bool.{cases_lt}
-use Rattle.std.proofs.lemmas.Nat.{mul-le, pow_pos}
+use Rattle.std.proofs.lemmas.Nat.{pow_pos}
 use Rattle.std.proofs.lemmas.List.{take_all, take-append-drop, length-take, length-drop}
 use Rattle.std.proofs.lemmas.Simd.{length-zip2}
-use Rattle.std.proofs.lemmas.Int.{ints, to_z-of_z, int_wrap_fits, unsigned_abs-mul, fits_signed_from_abs, fits_signed_mul, wrapping_mul_is, SFits-int_wrap}
+use Rattle.std.proofs.lemmas.Int.{ints, to_z-of_z, int_wrap_fits, fits_signed_from_abs, fits_signed_mul, wrapping_mul_is, SFits-int_wrap}
 use borrow.Rule.Simd.Lanes.{act2}
 use borrow.Table.Row.{s_int}
 use mir.Syntax.{wrap_add, wrap_mul, shl, shr, signed}
 use lib.Lanes.{zip2, fold_l}
 use Rattle.claxon_format.specs.Predict.{wrap, dot, floor_shift}
 use Rattle.claxon.specs.Lanes.{AllWithin, Lanes}
-use Rattle.claxon.proofs.Predictors.{floor_is, shifted_fits}
+use Rattle.claxon.proofs.Predictors.{floor_is, shifted_fits, abs_32, value_32, product_size}
 use Rattle.claxon.proofs.Wraps.{Rep, rep_add, rep_mul, rep_fits}
 
 -- ---- division by a power of two, rounded down
@@ -39,14 +39,11 @@ shr_step (negsuc a) m h =
           ap (λ (y : ℤ). shr_z y m) sum ∙ one_up ((a - m) / m) ∙ ap (λ (n : ℕ). negsuc n +ℤ pos 1) (sym more))
     ]
 
-none : (z : ℤ) → pos 0 +ℤ z ≡ z
-none z = omega (arith, ints)
-
 next : (r p : ℤ) (m : ℕ) → suc_ℤ r *ℤ pos m +ℤ p ≡ (r *ℤ pos m +ℤ p) +ℤ pos m
 next r p m = ap (λ (y : ℤ). y +ℤ p) (suc_ℤ-*ℤ r (pos m)) ∙ omega (arith, ints)
 
 more_pos : (n : ℕ) (p : ℤ) (m : ℕ) → 0 < m → shr_z (pos n *ℤ pos m +ℤ p) m ≡ pos n +ℤ shr_z p m
-more_pos zero p m h = ap (λ (y : ℤ). shr_z (y +ℤ p) m) (zero-*ℤ (pos m)) ∙ ap (λ (y : ℤ). shr_z y m) (none p) ∙ sym (none (shr_z p m))
+more_pos zero p m h = ap (λ (y : ℤ). shr_z (y +ℤ p) m) (zero-*ℤ (pos m)) ∙ ap (λ (y : ℤ). shr_z y m) (+ℤ_idl p) ∙ sym (+ℤ_idl (shr_z p m))
 more_pos (suc n) p m h =
     ap (λ (y : ℤ). shr_z y m) (next (pos n) p m) ∙ shr_step (pos n *ℤ pos m +ℤ p) m h ∙ ap (λ (y : ℤ). y +ℤ pos 1) (more_pos n p m h)
     ∙ omega (arith, ints)
@@ -114,9 +111,6 @@ narrow_is (a ∷ b ∷ c ∷ d ∷ []) h = rw (one_narrow a h.each.0, one_narrow
 narrow_is (a ∷ b ∷ c ∷ d ∷ e ∷ xs) h = absurd (omega arith)
 
 -- ---- products added to sums
-
-pub product_size : (c x : ℤ) → unsigned_abs c ≤ 32768 → unsigned_abs x ≤ 2147483648 → unsigned_abs (c *ℤ x) ≤ 2 ^ 46
-product_size c x h k = subst (λ (m : ℕ). m ≤ 2 ^ 46) (sym (unsigned_abs-mul c x)) (mul-le (unsigned_abs c) (unsigned_abs x) 32768 2147483648 h k)
 
 unsigned_abs-add : (y z : ℤ) → unsigned_abs (y +ℤ z) ≤ unsigned_abs y + unsigned_abs z
 unsigned_abs-add (pos m) (pos n) = omega (arith, ints)
@@ -187,7 +181,7 @@ pub reduced_is : (zs : List ℤ) → Lanes (2 ^ 50) zs → to_z w64 (fold_l (act
 reduced_is zs h =
     let fits : FitsSigned w64 (total zs) = small_fits (2 ^ 52) (total zs) (omega arith) (omega (arith, total_size (2 ^ 50) zs h.each)) in
     let zero : FitsSigned w64 (pos 0) = record { sfits = omega arith } in
-    (reduced zs 0 (pos 0) (rep_fits (pos 0) zero) h.each).value ∙ ap (int_wrap w64) (none (total zs)) ∙ int_wrap_fits w64 (total zs) fits
+    (reduced zs 0 (pos 0) (rep_fits (pos 0) zero) h.each).value ∙ ap (int_wrap w64) (+ℤ_idl (total zs)) ∙ int_wrap_fits w64 (total zs) fits
 
 pub reduced_small : (zs : List ℤ) → Lanes (2 ^ 48) zs → unsigned_abs (to_z w64 (fold_l (act2 wrap_add (s_int w64) (s_int w64) (s_int w64)) 0 (map (of_z w64) zs))) ≤ 2 ^ 50
 reduced_small zs h =
@@ -216,7 +210,7 @@ adds_more {m} {z} {zs} {cs} {xs} r lt h hc hx e =
 -- ---- the products of twelve coefficients
 
 pub dot_parts : (a b xs ys : List ℤ) → length a ≡ length xs → dot (a ++ b) (xs ++ ys) ≡ dot a xs +ℤ dot b ys
-dot_parts [] b [] ys e = sym (none (dot b ys))
+dot_parts [] b [] ys e = sym (+ℤ_idl (dot b ys))
 dot_parts [] b (x ∷ xs) ys e = absurd (omega arith)
 dot_parts (c ∷ a) b [] ys e = absurd (omega arith)
 dot_parts (c ∷ a) b (x ∷ xs) ys e = ap (λ (v : ℤ). c *ℤ x +ℤ v) (dot_parts a b xs ys (omega arith)) ∙ sym (+ℤ_assoc (c *ℤ x) (dot a xs) (dot b ys))
@@ -225,7 +219,7 @@ dot_parts (c ∷ a) b (x ∷ xs) ys e = ap (λ (v : ℤ). c *ℤ x +ℤ v) (dot_
 pub dot_behind : (n : ℕ) (cs xs : List ℤ) → dot (cs ++ replicate n (pos 0)) xs ≡ dot cs xs
 dot_behind zero [] xs = refl
 dot_behind (suc n) [] [] = refl
-dot_behind (suc n) [] (x ∷ xs) = ap (λ (v : ℤ). v +ℤ dot (replicate n (pos 0)) xs) (zero-*ℤ x) ∙ none (dot (replicate n (pos 0)) xs) ∙ dot_behind n [] xs
+dot_behind (suc n) [] (x ∷ xs) = ap (λ (v : ℤ). v +ℤ dot (replicate n (pos 0)) xs) (zero-*ℤ x) ∙ +ℤ_idl (dot (replicate n (pos 0)) xs) ∙ dot_behind n [] xs
 dot_behind n (c ∷ cs) [] = refl
 dot_behind n (c ∷ cs) (x ∷ xs) = ap (λ (v : ℤ). c *ℤ x +ℤ v) (dot_behind n cs xs)
 
@@ -256,27 +250,18 @@ Fit xs k = FitsSigned w32 (get_or xs k (pos 0))
 abbrev lane : List ℤ → ℕ → ℤ
 lane xs k = to_z w64 (of_z w64 (to_z w32 (of_z w32 (get_or xs k (pos 0)))))
 
-pub one_widened : (x : ℤ) → FitsSigned w32 x → to_z w64 (of_z w64 (to_z w32 (of_z w32 x))) ≡ x
-one_widened x h =
-    let f : FitsSigned w64 x = record { sfits = omega (arith, h.sfits) } in
-    ap (λ (y : ℤ). to_z w64 (of_z w64 y)) (to_z-of_z w32 x h) ∙ to_z-of_z w64 x f
-
-pub size_32 : (x : ℤ) → FitsSigned w32 x → unsigned_abs x ≤ 2147483648
-size_32 (pos n) h = omega (arith, h.sfits)
-size_32 (negsuc n) h = omega (arith, h.sfits)
-
 pub widened_is : (xs : List ℤ) → Fit xs 0 → Fit xs 1 → Fit xs 2 → Fit xs 3 → length xs ≡ 4 → lane xs 0 ∷ lane xs 1 ∷ lane xs 2 ∷ lane xs 3 ∷ [] ≡ xs
 widened_is [] f g h k e = absurd (omega arith)
 widened_is (a ∷ []) f g h k e = absurd (omega arith)
 widened_is (a ∷ b ∷ []) f g h k e = absurd (omega arith)
 widened_is (a ∷ b ∷ c ∷ []) f g h k e = absurd (omega arith)
-widened_is (a ∷ b ∷ c ∷ d ∷ []) f g h k e = rw (one_widened a f, one_widened b g, one_widened c h, one_widened d k) refl
+widened_is (a ∷ b ∷ c ∷ d ∷ []) f g h k e = rw (value_32 a f, value_32 b g, value_32 c h, value_32 d k) refl
 widened_is (a ∷ b ∷ c ∷ d ∷ x ∷ xs) f g h k e = absurd (omega arith)
 
 pub widened_lanes : (xs : List ℤ) → Fit xs 0 → Fit xs 1 → Fit xs 2 → Fit xs 3 → length xs ≡ 4 → Lanes 2147483648 (lane xs 0 ∷ lane xs 1 ∷ lane xs 2 ∷ lane xs 3 ∷ [])
 widened_lanes xs f g h k e =
-    rw (one_widened (get_or xs 0 (pos 0)) f, one_widened (get_or xs 1 (pos 0)) g, one_widened (get_or xs 2 (pos 0)) h, one_widened (get_or xs 3 (pos 0)) k)
-    (record { four = refl; each = (size_32 _ f, (size_32 _ g, (size_32 _ h, (size_32 _ k, tt)))) })
+    rw (value_32 (get_or xs 0 (pos 0)) f, value_32 (get_or xs 1 (pos 0)) g, value_32 (get_or xs 2 (pos 0)) h, value_32 (get_or xs 3 (pos 0)) k)
+    (record { four = refl; each = (abs_32 _ f, (abs_32 _ g, (abs_32 _ h, (abs_32 _ k, tt)))) })
 
 pub newest_lanes : {x y : ℤ} → unsigned_abs x ≤ 2147483648 → unsigned_abs y ≤ 2147483648 → Lanes 2147483648 (x ∷ y ∷ pos 0 ∷ pos 0 ∷ [])
 newest_lanes h k = record { four = refl; each = (h, (k, (omega arith, (omega arith, tt)))) }
@@ -311,8 +296,8 @@ sample_is r o b s l n f low t fr ht ho hb hs hl hn ef el =
     let residual : f ≡ r = ef ∙ to_z-of_z w32 r fr in
     let power : 2 ^ t ≤ 32768 = pow-le-pow_right (omega arith) ht in
     let same : shr_z (to_z w64 (((((of_z w64 f * 2 ^ t % 18446744073709551616) + of_z w64 o) % 18446744073709551616 + (of_z w64 b * of_z w64 s) % 18446744073709551616) % 18446744073709551616 + (of_z w64 l * of_z w64 n) % 18446744073709551616) % 18446744073709551616)) (2 ^ t) ≡ shr_z (((r *ℤ pos (2 ^ t) +ℤ o) +ℤ b *ℤ s) +ℤ l *ℤ n) (2 ^ t)
-    = rw residual (ap (λ (y : ℤ). shr_z y (2 ^ t)) (wide_sum r o b s l n (2 ^ t) (size_32 r fr) power ho hb hs hl hn)) in
-    let fits = shifted_fits (((r *ℤ pos (2 ^ t) +ℤ o) +ℤ b *ℤ s) +ℤ l *ℤ n) t (wide_fits r o b s l n (2 ^ t) (size_32 r fr) power ho hb hs hl hn) in
+    = rw residual (ap (λ (y : ℤ). shr_z y (2 ^ t)) (wide_sum r o b s l n (2 ^ t) (abs_32 r fr) power ho hb hs hl hn)) in
+    let fits = shifted_fits (((r *ℤ pos (2 ^ t) +ℤ o) +ℤ b *ℤ s) +ℤ l *ℤ n) t (wide_fits r o b s l n (2 ^ t) (abs_32 r fr) power ho hb hs hl hn) in
     let grouped : ((r *ℤ pos (2 ^ t) +ℤ o) +ℤ b *ℤ s) +ℤ l *ℤ n ≡ r *ℤ pos (2 ^ t) +ℤ ((o +ℤ b *ℤ s) +ℤ l *ℤ n) = omega (arith, ints) in
     let down : shr_z (((r *ℤ pos (2 ^ t) +ℤ o) +ℤ b *ℤ s) +ℤ l *ℤ n) (2 ^ t) ≡ floor_shift ((o +ℤ b *ℤ s) +ℤ l *ℤ n) t +ℤ r
     = ap (λ (y : ℤ). shr_z y (2 ^ t)) grouped ∙ shr_more r ((o +ℤ b *ℤ s) +ℤ l *ℤ n) (2 ^ t) (pow_pos t) ∙ ap (λ (y : ℤ). r +ℤ y) (floor_is ((o +ℤ b *ℤ s) +ℤ l *ℤ n) t) ∙ +ℤ_comm r (floor_shift ((o +ℤ b *ℤ s) +ℤ l *ℤ n) t) in

@@ -63,19 +63,27 @@ low_bits_is z u r fits e k =
 
 -- ---- a sum of products
 
-abs_16 : (c : ℤ) → FitsSigned w16 c → unsigned_abs c ≤ 2 ^ 15
+pub abs_16 : (c : ℤ) → FitsSigned w16 c → unsigned_abs c ≤ 2 ^ 15
 abs_16 (pos n) h = omega arith
 abs_16 (negsuc n) h = omega arith
 
-abs_32 : (c : ℤ) → FitsSigned w32 c → unsigned_abs c ≤ 2 ^ 31
+pub abs_32 : (c : ℤ) → FitsSigned w32 c → unsigned_abs c ≤ 2 ^ 31
 abs_32 (pos n) h = omega arith
 abs_32 (negsuc n) h = omega arith
 
-wider : (c : ℤ) → FitsSigned w16 c → FitsSigned w64 c
-wider c h = record { sfits = omega arith }
+-- a number of 16 or 32 bits in 64
+pub value_16 : (c : ℤ) → FitsSigned w16 c → to_z w64 (of_z w64 (to_z w16 (of_z w16 c))) ≡ c
+value_16 c h =
+    let f : FitsSigned w64 c = record { sfits = omega arith } in
+    ap (λ (y : ℤ). to_z w64 (of_z w64 y)) (to_z-of_z w16 c h) ∙ to_z-of_z w64 c f
 
-wider_32 : (c : ℤ) → FitsSigned w32 c → FitsSigned w64 c
-wider_32 c h = record { sfits = omega arith }
+pub value_32 : (c : ℤ) → FitsSigned w32 c → to_z w64 (of_z w64 (to_z w32 (of_z w32 c))) ≡ c
+value_32 c h =
+    let f : FitsSigned w64 c = record { sfits = omega arith } in
+    ap (λ (y : ℤ). to_z w64 (of_z w64 y)) (to_z-of_z w32 c h) ∙ to_z-of_z w64 c f
+
+pub product_size : (c x : ℤ) → unsigned_abs c ≤ 2 ^ 15 → unsigned_abs x ≤ 2 ^ 31 → unsigned_abs (c *ℤ x) ≤ 2 ^ 46
+product_size c x h k = subst (λ (m : ℕ). m ≤ 2 ^ 46) (sym (unsigned_abs-mul c x)) (mul-le (unsigned_abs c) (unsigned_abs x) (2 ^ 15) (2 ^ 31) h k)
 
 between : (p : ℤ) (m : ℕ) → unsigned_abs p ≤ m → (neg_ℤ (pos m) ≤ℤ p) × (p ≤ℤ pos m)
 between (pos n) m h = (omega (arith, ints), omega (arith, ints))
@@ -94,9 +102,9 @@ pub sum_step : (b : ℕ) (sum cr sr c s : ℤ) (i : ℕ) → to_z w64 b ≡ sum 
     → neg_ℤ (pos (2 ^ 46 * i)) ≤ℤ sum → sum ≤ℤ pos (2 ^ 46 * i)
     → Summed (to_z w64 b +ℤ to_z w64 (of_z w64 (to_z w64 (of_z w64 cr) *ℤ to_z w64 (of_z w64 sr)))) (sum +ℤ c *ℤ s) (i + 1)
 sum_step b sum cr sr c s i eb ec es f g lt low high =
-    let c-is : to_z w64 (of_z w64 cr) ≡ c = ap (λ (y : ℤ). to_z w64 (of_z w64 y)) (ec ∙ to_z-of_z w16 c f) ∙ to_z-of_z w64 c (wider c f) in
-    let s-is : to_z w64 (of_z w64 sr) ≡ s = ap (λ (y : ℤ). to_z w64 (of_z w64 y)) (es ∙ to_z-of_z w32 s g) ∙ to_z-of_z w64 s (wider_32 s g) in
-    let size : unsigned_abs (c *ℤ s) ≤ 2 ^ 46 = subst (λ (m : ℕ). m ≤ 2 ^ 46) (sym (unsigned_abs-mul c s)) (mul-le (unsigned_abs c) (unsigned_abs s) (2 ^ 15) (2 ^ 31) (abs_16 c f) (abs_32 s g)) in
+    let c-is : to_z w64 (of_z w64 cr) ≡ c = ap (λ (y : ℤ). to_z w64 (of_z w64 y)) ec ∙ value_16 c f in
+    let s-is : to_z w64 (of_z w64 sr) ≡ s = ap (λ (y : ℤ). to_z w64 (of_z w64 y)) es ∙ value_32 s g in
+    let size = product_size c s (abs_16 c f) (abs_32 s g) in
     let p = between (c *ℤ s) (2 ^ 46) size in
     let p-low = p.0 in
     let p-high = p.1 in

@@ -1,14 +1,14 @@
 -- Twelve coefficients, and the twelve newest samples.
-use Rattle.std.proofs.Common.{◌≡◌, ℕ, zero, suc, ◌+◌, ◌-◌, ◌^◌, ◌<◌, ◌≤◌, min, inl, inr, List, [], ◌∷◌, ◌++◌, length, map, take, drop, reverse, replicate, get_or, set, append_assoc, refl, sym, ap, add-zero, subst, ◌∙◌, arith, ℤ, pos, negsuc, ◌+ℤ◌, ◌*ℤ◌, of_z, to_z, w16, w32, w64, FitsSigned, unsigned_abs}
+use Rattle.std.proofs.Common.{◌≡◌, ℕ, zero, suc, ◌+◌, ◌-◌, ◌^◌, ◌<◌, ◌≤◌, min, inl, inr, List, [], ◌∷◌, ◌++◌, length, map, take, drop, reverse, replicate, get_or, set, append_assoc, refl, sym, ap, add-zero, subst, ◌∙◌, arith, ℤ, pos, ◌+ℤ◌, ◌*ℤ◌, of_z, to_z, w16, w32, w64, FitsSigned, unsigned_abs}
 use Rattle.std.proofs.lemmas.Int.{ints, to_z-of_z, SFits-int_wrap}
 use Rattle.std.proofs.lemmas.List.{take_more_set, take_more, take_all, append-nil, take-replicate, length-set, length-take, length-drop, drop_more, drop_all, drop-take, drop-drop, take-take, get_or-take, get_or-drop, take-append-drop, drop-append-le, reverse-append, length-append, length-replicate, replicate-append-replicate, take-append-le}
 use Rattle.std.proofs.Math.Seq.{take-append_seam, drop-append_seam}
 use Rattle.std.proofs.lemmas.Bool.{cases_lt}
 use Rattle.claxon_format.proofs.Predicted.{length-restore}
 use Rattle.claxon_format.specs.Predict.{wrap, dot, floor_shift, linear, restore, restored}
-use Rattle.claxon.proofs.Predictors.{dot_window, restored_all}
+use Rattle.claxon.proofs.Predictors.{dot_window, restored_all, abs_16, abs_32, value_16, value_32}
 use Rattle.claxon.specs.Lanes.{AllWithin, Within, Lanes}
-use Rattle.claxon.proofs.Lanes.{same_lanes, small_fits, one_widened, size_32, dot_parts, dot_behind}
+use Rattle.claxon.proofs.Lanes.{same_lanes, small_fits, dot_parts, dot_behind}
 
 -- ---- zeros and coefficients behind them
 
@@ -34,15 +34,6 @@ filled_none k cs le = record {
   small = record { each = within_zeros (2 ^ 15) 12 };
 }
 
-value_16 : (x : ℤ) → FitsSigned w16 x → to_z w64 (of_z w64 (to_z w16 (of_z w16 x))) ≡ x
-value_16 x h =
-    let f : FitsSigned w64 x = record { sfits = omega (arith, h.sfits) } in
-    ap (λ (y : ℤ). to_z w64 (of_z w64 y)) (to_z-of_z w16 x h) ∙ to_z-of_z w64 x f
-
-size_16 : (x : ℤ) → FitsSigned w16 x → unsigned_abs x ≤ 32768
-size_16 (pos n) h = omega (arith, h.sfits)
-size_16 (negsuc n) h = omega (arith, h.sfits)
-
 pub filled_more : {k i : ℕ} {cs xs : List ℤ} (x : ℤ) → i < length cs → k + i < 12 → FitsSigned w16 (get_or cs i (pos 0)) → x ≡ to_z w16 (of_z w16 (get_or cs i (pos 0))) → Filled k i cs xs
     → Filled k (i + 1) cs (set xs (k + i) (to_z w64 (of_z w64 x)))
 filled_more {k} {i} {cs} {xs} x lt room f e h =
@@ -53,7 +44,7 @@ filled_more {k} {i} {cs} {xs} x lt room f e h =
       long = length-set xs (k + i) (to_z w64 (of_z w64 x)) ∙ h.long;
       front = next ∙ ap (λ (t : List ℤ). t ++ to_z w64 (of_z w64 x) ∷ []) h.front ∙ append_assoc (replicate k (pos 0)) (take i cs) (to_z w64 (of_z w64 x) ∷ [])
           ∙ ap (λ (y : ℤ). replicate k (pos 0) ++ (take i cs ++ y ∷ [])) value ∙ ap (λ (t : List ℤ). replicate k (pos 0) ++ t) (sym (take_more cs i (pos 0) lt));
-      small = record { each = within_set (2 ^ 15) xs (k + i) (to_z w64 (of_z w64 x)) (subst (λ (y : ℤ). unsigned_abs y ≤ 32768) (sym value) (size_16 (get_or cs i (pos 0)) f)) h.small.each };
+      small = record { each = within_set (2 ^ 15) xs (k + i) (to_z w64 (of_z w64 x)) (subst (λ (y : ℤ). unsigned_abs y ≤ 32768) (sym value) (abs_16 (get_or cs i (pos 0)) f)) h.small.each };
     }
 
 pub filled_all : {k i : ℕ} {cs xs : List ℤ} → length cs ≤ i → 12 ≤ k + i → Filled k i cs xs → xs ≡ replicate k (pos 0) ++ cs
@@ -115,7 +106,7 @@ last_small j cs lt e h = subst (λ (y : ℤ). unsigned_abs y ≤ 32768) (sym (la
 -- ---- as a loop goes on
 
 newest_entry : (xs : List ℤ) (i : ℕ) (r : ℤ) → FitsSigned w32 (get_or xs i (pos 0)) → r ≡ to_z w32 (of_z w32 (get_or xs i (pos 0))) → to_z w64 (of_z w64 r) ≡ get_or xs i (pos 0)
-newest_entry xs i r f e = ap (λ (y : ℤ). to_z w64 (of_z w64 y)) e ∙ one_widened (get_or xs i (pos 0)) f
+newest_entry xs i r f e = ap (λ (y : ℤ). to_z w64 (of_z w64 y)) e ∙ value_32 (get_or xs i (pos 0)) f
 
 pub newest_first : (xs : List ℤ) (a b c d : ℤ) → 12 ≤ length xs → FitsSigned w32 (get_or xs 8 (pos 0)) → FitsSigned w32 (get_or xs 9 (pos 0)) → FitsSigned w32 (get_or xs 10 (pos 0)) → FitsSigned w32 (get_or xs 11 (pos 0))
     → a ≡ to_z w32 (of_z w32 (get_or xs 8 (pos 0))) → b ≡ to_z w32 (of_z w32 (get_or xs 9 (pos 0))) → c ≡ to_z w32 (of_z w32 (get_or xs 10 (pos 0))) → d ≡ to_z w32 (of_z w32 (get_or xs 11 (pos 0)))
@@ -125,18 +116,18 @@ newest_first xs a b c d le f g h k ea eb ec ed =
     let last : drop 8 (take 12 xs) ≡ get_or xs 8 (pos 0) ∷ get_or xs 9 (pos 0) ∷ get_or xs 10 (pos 0) ∷ get_or xs 11 (pos 0) ∷ []
     = four_from (take 12 xs) 8 (omega (arith, length-take 12 xs)) ∙ rw (there 8 (omega arith), there 9 (omega arith), there 10 (omega arith), there 11 (omega arith)) refl in
     rw (newest_entry xs 8 a f ea, newest_entry xs 9 b g eb, newest_entry xs 10 c h ec, newest_entry xs 11 d k ed)
-    (record { past = last; small = (size_32 _ f, (size_32 _ g, (size_32 _ h, (size_32 _ k, tt)))) })
+    (record { past = last; small = (abs_32 _ f, (abs_32 _ g, (abs_32 _ h, (abs_32 _ k, tt)))) })
 
 pub newest_next : {xs : List ℤ} {i : ℕ} {a b c d : ℤ} (r x : ℤ) → 4 ≤ i → i < length xs → FitsSigned w32 r → x ≡ to_z w32 (of_z w32 r) → Newest xs i a b c d → Newest (set xs i (to_z w32 (of_z w32 r))) (i + 1) b c d (to_z w64 (of_z w64 x))
 newest_next {xs} {i} {a} {b} {c} {d} r x four lt f e h =
     let one : i - 4 + 1 ≡ i + 1 - 4 = omega arith in
     let later : drop (i + 1 - 4) (take i xs) ≡ b ∷ c ∷ d ∷ [] = ap (λ (n : ℕ). drop n (take i xs)) (sym one) ∙ sym (drop-drop 1 (i - 4) (take i xs)) ∙ ap (drop 1) h.past in
     let there : to_z w32 (of_z w32 r) ≡ r = to_z-of_z w32 r f in
-    let here : to_z w64 (of_z w64 x) ≡ r = ap (λ (y : ℤ). to_z w64 (of_z w64 y)) e ∙ one_widened r f in
+    let here : to_z w64 (of_z w64 x) ≡ r = ap (λ (y : ℤ). to_z w64 (of_z w64 y)) e ∙ value_32 r f in
     rw (there, here)
     (record {
       past = ap (drop (i + 1 - 4)) (take_more_set xs i r lt) ∙ drop-append-le (i + 1 - 4) (take i xs) (r ∷ []) (omega (arith, length-take i xs)) ∙ ap (λ (t : List ℤ). t ++ r ∷ []) later;
-      small = (h.small.1.0, (h.small.1.1.0, (h.small.1.1.1.0, (size_32 r f, tt))));
+      small = (h.small.1.0, (h.small.1.1.0, (h.small.1.1.1.0, (abs_32 r f, tt))));
     })
 
 window : {xs : List ℤ} {i : ℕ} {a b c d : ℤ} → 12 ≤ i → i ≤ length xs → Newest xs i a b c d → drop (i - 12) (take i xs) ≡ take (i - 4 - (i - 12)) (drop (i - 12) xs) ++ (a ∷ b ∷ c ∷ d ∷ [])
