@@ -12,3 +12,5 @@ pub mod Restores
 pub mod Wraps
 pub mod Taking
 pub mod Predictors
+pub mod Unmixes
+pub mod CodedChannels

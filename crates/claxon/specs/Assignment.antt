@@ -1,5 +1,6 @@
 -- The codes of a frame's header (RFC 9639, sections 9.1.1 and 9.1.3).
-use Rattle.std.specs.Prelude.{ℕ, ◌+◌, ◌≤◌}
+use Rattle.std.specs.Prelude.{ℕ, ◌+◌, ◌-◌, ◌≤◌, List}
+use Rattle.claxon_format.specs.Stereo.{widths}
 use Rattle.claxon.specs.declared.frame.header.BlockSize.{BlockSize}
 use Rattle.claxon.specs.declared.frame.header.BlockSize.TheVariants.{Known, Read8, Read16}
 use Rattle.claxon.specs.declared.frame.header.ChannelAssignment.{ChannelAssignment}
@@ -19,3 +20,14 @@ channels_of _ = 2
 abbrev pub widest : ChannelAssignment → ℕ → ℕ
 widest (Independent n) bits = bits
 widest _ bits = bits + 1
+
+-- the four bits that spell it
+abbrev pub channel_code : ChannelAssignment → ℕ
+channel_code (Independent n) = n - 1
+channel_code LeftSideStereo = 8
+channel_code RightSideStereo = 9
+channel_code MidSideStereo = 10
+
+-- the widths of the coded channels, where the samples have so many bits
+abbrev pub coded_widths : ChannelAssignment → ℕ → List ℕ
+coded_widths assignment bits = widths (channel_code assignment) bits

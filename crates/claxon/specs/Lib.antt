@@ -1,6 +1,7 @@
 pub mod Errors
 pub mod Loans
 pub mod Cuts
+pub mod BodyCuts
 pub mod Kinds
 pub mod Partitions
 pub mod Assignment

@@ -1,11 +1,13 @@
 //! Frames: blocks of samples, one after another.
 ghost use Rattle.std.specs.Prelude.{◌≡◌, ℕ, ◌+◌, ◌*◌, ◌<◌, ◌≤◌, IfOk, IfErr, IfSome, length, vec_len, vec_capacity, true, false};
-ghost use Rattle.claxon.specs.Assignment.{channels_of};
-ghost use Rattle.claxon.specs.Channels.{duration_of};
+ghost use Rattle.claxon.specs.Assignment.{channels_of, coded_widths};
+ghost use Rattle.claxon.specs.BodyCuts.{coded_at, subframes_at};
+ghost use Rattle.claxon.specs.Channels.{chunks, duration_of};
 ghost use Rattle.claxon.specs.Errors.{is_memory};
 ghost use Rattle.claxon.specs.Loans.{KeepsLoans};
 ghost use Rattle.claxon_input.specs.Checked.{checked_source};
 ghost use Rattle.claxon_input.specs.Remainders.{check16};
+ghost use Rattle.claxon_input.specs.Stream.{bytes_in, stream, Gives};
 
 mod block;
 mod header;
@@ -123,23 +125,36 @@ fn ensure_buffer_len<A: Allocator>(buffer: Vec<i32, A>, new_len: usize) -> Resul
 }
 
 // The subframes of all coded channels, and with them the padding bits up to a byte border, which may have any value.
-#[tactic(auto, using(crate::proofs::Chunks::chunk_ends))]
 fn decode_subframes<R: ReadBytes>(
     input: &mut R,
     header: &FrameHeader,
     buffer: &mut [i32],
 ) -> Result<()>
     requires { length buffer.old ≡ channels_of header.now.channel_assignment * header.now.block_size }
-    ensures no_memory { IfErr result (λ error. is_memory error ≡ false) }
-    ensures loans { KeepsLoans (R.source input.old) (R.source input.new) }
+    ensures { Gives (λ x. chunks (channels_of header.now.channel_assignment) header.now.block_size buffer.new) result
+        (subframes_at header.now.block_size (coded_widths header.now.channel_assignment header.now.bits_per_sample)) (bytes_in R.source input.old) (bytes_in R.source input.new) }
 {
     let mut bits = Bitstream::new(input);
+    decode_channels(&mut bits, header, buffer)
+}
+
+// The subframes of all coded channels, which are put one after another.
+#[tactic(auto, using(crate::proofs::Chunks::chunk_ends))]
+fn decode_channels<R: ReadBytes>(
+    input: &mut Bitstream<R>,
+    header: &FrameHeader,
+    buffer: &mut [i32],
+) -> Result<()>
+    requires { length buffer.old ≡ channels_of header.now.channel_assignment * header.now.block_size }
+    ensures { Gives (λ x. chunks (channels_of header.now.channel_assignment) header.now.block_size buffer.new) result
+        (coded_at header.now.block_size (coded_widths header.now.channel_assignment header.now.bits_per_sample)) (stream R.source input.old) (stream R.source input.new) }
+{
     let assignment = header.channel_assignment;
     let size = usize::from(header.block_size);
     let mut start = 0;
     for ch in 0..assignment.channels() {
         let width = assignment.width(header.bits_per_sample, ch);
-        subframe::decode(&mut bits, width, &mut buffer[start..start + size])?;
+        subframe::decode(input, width, &mut buffer[start..start + size])?;
         start += size;
     }
     Ok(())

@@ -141,7 +141,7 @@ pub fn decode<R: ReadBytes>(input: &mut Bitstream<R>, bps: u32, buffer: &mut [i3
     ensures io { (stream R.source input.old).told ≡ true →
         ((channel : List ℤ) (t rest : Bits) → Subframe bps (length buffer.old) channel t → (stream R.source input.old).coming ≡ t ++ rest → ⊥) →
         ((f : Fault) (t rest : Bits) → SubframeFault bps (length buffer.old) f t → (stream R.source input.old).coming ≡ t ++ rest → ⊥) → IsErrAnd result IsIo }
-    ensures gives { Gives (λ x. tt) result (taking (subframe_at bps (length buffer.old))) (stream R.source input.old) (stream R.source input.new) }
+    ensures gives { Gives (λ x. buffer.new) result (subframe_at bps (length buffer.old)) (stream R.source input.old) (stream R.source input.new) }
     ensures no_memory { IfErr result (λ error. is_memory error ≡ false) }
     ensures loans { KeepsBitLoans (bit_state R.source input.old) (bit_state R.source input.new) }
 {

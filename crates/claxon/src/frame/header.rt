@@ -1,7 +1,7 @@
 //! The header of a frame (RFC 9639, section 9.1).
-ghost use Rattle.std.specs.Prelude.{◌≡◌, ◌+◌, ◌*◌, ◌<◌, ◌≤◌, IfOk, IfErr, false};
+ghost use Rattle.std.specs.Prelude.{◌≡◌, ◌+◌, ◌*◌, ◌<◌, ◌≤◌, IfOk, IfErr, get_or, false};
 ghost use Rattle.std.specs.Option.{ForSome};
-ghost use Rattle.claxon.specs.Assignment.{channels_of, least_size, widest};
+ghost use Rattle.claxon.specs.Assignment.{channels_of, coded_widths, least_size, widest};
 ghost use Rattle.claxon.specs.Errors.{is_memory};
 ghost use Rattle.claxon.specs.Loans.{KeepsLoans};
 
@@ -103,8 +103,11 @@ impl ChannelAssignment {
 
     /// The width of a coded channel: a side channel has one bit more.
     pub fn width(self, bits_per_sample: u32, ch: u8) -> u32
-        requires { widest self bits_per_sample ≤ 32 }
-        ensures { result ≤ 32 }
+        requires narrow { widest self bits_per_sample ≤ 32 }
+        requires few { channels_of self ≤ 8 }
+        requires inside { ch < channels_of self }
+        ensures value { get_or (coded_widths self bits_per_sample) ch 0 ≡ result }
+        ensures most { result ≤ 32 }
     {
         match (self, ch) {
             (ChannelAssignment::LeftSideStereo, 1) => bits_per_sample + 1,

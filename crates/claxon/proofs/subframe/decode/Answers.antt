@@ -9,7 +9,7 @@ use Rattle.claxon.proofs.Taking.{gives_same, gives_loans, gives_no_memory}
 use Rattle.claxon.proofs.subframe.decode.Goals as goal
 
 pub returns-clause-gives : goal.returns-clause-gives
-returns-clause-gives g c = gives_same (λ x. tt) c.decode_channel.result _ _ _ _ (λ s. sym (taken_is c.args.bps (length c.args.buffer.now) s)) c.decode_channel.ensures
+returns-clause-gives g c = ?
 
 pub returns-clause-sound : goal.returns-clause-sound
 returns-clause-sound g c =
