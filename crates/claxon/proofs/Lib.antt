@@ -1,3 +1,6 @@
+pub mod ByteFields
+pub mod Ends
+pub mod EndsPublic
 pub mod Pairs
 pub mod Chunks
 pub mod Shifts

@@ -2,6 +2,8 @@ pub mod Errors
 pub mod Loans
 pub mod Cuts
 pub mod BodyCuts
+pub mod Ends
+pub mod Fields
 pub mod Kinds
 pub mod Partitions
 pub mod Assignment

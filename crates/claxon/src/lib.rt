@@ -4,6 +4,7 @@
 //! parts where they stand in other containers.
 #![tactic(auto)]
 
+mod fields;
 pub mod frame;
 mod head;
 pub mod metadata;

@@ -13,7 +13,7 @@ use Rattle.claxon_format.specs.Readers.{number_at, zeros_at, one_more, in_32, un
 use Rattle.claxon_format.proofs.Bytes.{bits_of-append}
 use Rattle.claxon_format.proofs.Numbers.{Reads-number}
 use Rattle.claxon_format.proofs.Words.{Reads-unary, zeros_no_fault}
-use Rattle.claxon_input.specs.Source.{Source, LosesFront, IsTold, Takes, Refuses, Failed, LosesSome, HasMore}
+use Rattle.claxon_input.specs.Source.{Source, LosesFront, IsTold, Takes, Refuses, Breaks, Failed, LosesSome, HasMore}
 use Rattle.claxon_input.specs.BitSource.{BitState, bits_to_come, TakesBits, TakesNumber, RefusesBits, HasNoOne, RefusesOne}
 use Rattle.claxon_input.specs.Stream.{Stream, stream_of, bytes_in, bits_after, past, is_told, known, IsRest, Went, Stuck, FailedIn, Yields}
 
@@ -110,9 +110,21 @@ pub stuck : (a b : BitState) (P Q : Bits → Type 0) → LosesSome a.source b.so
 stuck a b P Q r c h =
     stuck_by (bits_after a.left) (bits_after b.left) P Q r c h
 
-bytes_cause : (p : Option (List ℕ)) (n : ℕ) (F : Type 0) → IfSome p (λ all. (length all < n) ⊎ F) → IfSome (option_map (λ (all : List ℕ). all) p) (λ all. (length all < n) ⊎ F)
-bytes_cause None n F h = h
-bytes_cause (Some all) n F h = h
+-- bytes are as they are
+as_bytes : (p : Option (List ℕ)) (Q : List ℕ → Type 0) (F : Type 0) → IfSome p (λ all. Q all ⊎ F) → IfSome (option_map (λ (all : List ℕ). all) p) (λ all. Q all ⊎ F)
+as_bytes None Q F h = h
+as_bytes (Some all) Q F h = h
+
+pub stuck_in_bytes : (a b : Source ℕ) (P Q : List ℕ → Type 0) → LosesSome a b → IfSome a.to_come (λ all. Q all ⊎ Failed a b) → ((s : List ℕ) → Q s → P s) → Stuck (bytes_of_source a) (bytes_of_source b) P
+stuck_in_bytes a b P Q r c h = stuck_by (λ all. all) (λ all. all) P Q r (as_bytes a.to_come Q (Failed a b) c) h
+
+only_failed : (p : Option (List ℕ)) (F : Type 0) → IfSome p (λ _. F) → IfSome p (λ _. ⊥ ⊎ F)
+only_failed None F h = tt
+only_failed (Some all) F h = inr h
+
+-- where the source failed, any reader is stuck
+pub stuck_broken : {a b : Source ℕ} (P : List ℕ → Type 0) → Breaks a b → Stuck (bytes_of_source a) (bytes_of_source b) P
+stuck_broken {a} {b} P h = stuck_in_bytes a b P (λ s. ⊥) h.rest (only_failed a.to_come (Failed a b) h.cause) (λ s q. absurd q)
 
 -- ---- numbers
 
@@ -151,8 +163,7 @@ unfolding bytes_at
 short_bytes n s h = let k : ltb (length s) n ≡ true = lt-ltb _ _ h in rw k refl
 
 pub stuck_bytes : {a b : Source ℕ} (n : ℕ) → Refuses a b n → Stuck (bytes_of_source a) (bytes_of_source b) (λ s. bytes_at n s ≡ Short)
-stuck_bytes {a} {b} n h =
-    stuck_by (λ all. all) (λ all. all) (λ s. bytes_at n s ≡ Short) (λ s. length s < n) h.rest (bytes_cause a.to_come n (Failed a b) h.cause) (short_bytes n)
+stuck_bytes {a} {b} n h = stuck_in_bytes a b (λ s. bytes_at n s ≡ Short) (λ s. length s < n) h.rest h.cause (short_bytes n)
 
 -- ---- zeros up to a one
 
