@@ -17,3 +17,4 @@ pub mod Taking
 pub mod Predictors
 pub mod Unmixes
 pub mod CodedChannels
+pub mod Borders

@@ -1,0 +1,129 @@
+-- From bits to whole bytes: what is left over of the last byte taken is padding.
+use Rattle.std.proofs.Common.{◌≡◌, ◌≢◌, ℕ, suc, ◌+◌, ◌-◌, ◌*◌, ◌/◌, ◌%◌, ◌<◌, ◌≤◌, ◌⊎◌, Bool, true, false, cond, ltb, List, [], ◌∷◌, ◌++◌, length, take, drop, refl, sym, ap, subst, ◌∙◌, arith, inl, inr}
+use Rattle.std.specs.Prelude.{Result, Ok, Err, Option, None, Some}
+use Rattle.std.specs.Borrow.{MutBor, GName}
+use Rattle.std.proofs.lemmas.Bool.{le-ltb}
+use Rattle.std.proofs.lemmas.List.{length-append, length-take, length-drop, drop_at}
+use Rattle.claxon_format.specs.Bits.{Bits, bits, bits_of, number}
+use Rattle.claxon_format.specs.Fault.{Fault}
+use Rattle.claxon_format.specs.Frame.{by_bytes, whole, left_bytes}
+use Rattle.claxon_format.specs.Guards.{gap, padded_at}
+use Rattle.claxon_format.specs.Reading.{Reading, Done, Faulty, Short, bind, taken}
+use Rattle.claxon_format.specs.Readers.{number_at}
+use Rattle.claxon_format.proofs.Bytes.{length-bits_of}
+use Rattle.claxon_format.proofs.Numbers.{length-bits}
+use Rattle.claxon_input.specs.Source.{Source, through_loan}
+use Rattle.claxon_input.specs.Stream.{Stream, Went, Stuck, Stops, Gives, Knows, Fails, FailedIn, IsRest, IsFault, IsFaultOf, is_io, stream, bytes_in, stream_of, bits_after, known, is_told, past}
+use Rattle.claxon_input.specs.BitSource.{BitState, bit_state}
+use Rattle.claxon_input.specs.declared.bits.Bitstream.{Bitstream}
+use Rattle.claxon_input.specs.declared.error.Error.{Error}
+use Rattle.claxon_input.proofs.Public.{fault_is}
+use Rattle.claxon.proofs.Taking.{gives_loans}
+
+-- the length of a rest
+rest_length : (z m : List ℕ) → IsRest z m → length m ≤ length z
+unfolding IsRest
+rest_length z m h = omega (arith, ap length h.1, length-append h.0 m)
+
+-- and the rest itself
+rest_is : (z m : List ℕ) (n : ℕ) → IsRest z m → n ≡ length z - length m → drop n z ≡ m
+unfolding IsRest
+rest_is z m n h e =
+    let len = ap length h.1 ∙ length-append h.0 m in
+    ap (drop n) h.1 ∙ drop_at h.0 m n (omega arith)
+
+-- where fewer than eight bits and m are left of z, m is what is left of its bytes
+left_is : (z m : List ℕ) (left : Bits) → length left < 8 → IsRest z m → left_bytes z (left ++ bits_of m) ≡ m
+left_is z m left few h =
+    let len = length-append left (bits_of m) ∙ ap (λ n. length left + n) (length-bits_of m) in
+    let n : length (left ++ bits_of m) / 8 ≡ length m = omega arith in
+    rest_is z m _ h (ap (λ k. length z - k) n)
+
+-- the padding is fewer than eight bits, and no more than are there
+record Padding (z m : List ℕ) (left : Bits) (g : ℕ) : Type 0 where
+  within : g ≤ length (left ++ bits_of m)
+  border : length (drop g (left ++ bits_of m)) / 8 ≡ length m
+
+padding : (z m : List ℕ) (left : Bits) → length left < 8 → IsRest z m → Padding z m left (gap (taken (bits_of z) (left ++ bits_of m)))
+padding z m left few h =
+    let x = left ++ bits_of m in
+    let len : length (left ++ bits_of m) ≡ length left + 8 * length m = length-append left (bits_of m) ∙ ap (λ n. length left + n) (length-bits_of m) in
+    let all = length-bits_of z in
+    let room = rest_length z m h in
+    let t = length-take (length (bits_of z) - length (left ++ bits_of m)) (bits_of z) in
+    let within : gap (taken (bits_of z) (left ++ bits_of m)) ≤ length (left ++ bits_of m) = omega arith in
+    record { within = within; border = omega (arith, length-drop (gap (taken (bits_of z) (left ++ bits_of m))) (left ++ bits_of m)) }
+
+-- ---- what reading gives
+
+padded_is : {A : Type 0} (read : Bits → Reading Bool A) (a : A) (z m : List ℕ) (left : Bits) → length left < 8 → IsRest z m → read (bits_of z) ≡ Done a (left ++ bits_of m) → by_bytes (padded_at read) z ≡ Done a m
+unfolding padded_at number_at
+padded_is read a z m left few h e =
+    let p = padding z m left few h in
+    let g = gap (taken (bits_of z) (left ++ bits_of m)) in
+    let enough : ltb (length (left ++ bits_of m)) (gap (taken (bits_of z) (left ++ bits_of m))) ≡ false = le-ltb _ _ p.within in
+    rw (e, enough) (ap (Done a) (rest_is z m _ h (ap (λ k. length z - k) p.border)))
+
+padded_fault_is : {A : Type 0} (read : Bits → Reading Bool A) (f : Fault) (z m : List ℕ) (left : Bits) → length left < 8 → IsRest z m → read (bits_of z) ≡ Faulty f (left ++ bits_of m) → by_bytes (padded_at read) z ≡ Faulty f m
+unfolding padded_at
+padded_fault_is read f z m left few h e = rw e (ap (Faulty f) (left_is z m left few h))
+
+padded_short_is : {A : Type 0} (read : Bits → Reading Bool A) (z : List ℕ) → read (bits_of z) ≡ Short → by_bytes (padded_at read) z ≡ Short
+unfolding padded_at
+padded_short_is read z e = rw e refl
+
+-- ---- what was done
+
+came : (P : Bits → Bits → Type 0) (Q : List ℕ → List ℕ → Type 0) (left : Bits) (p q : Option (List ℕ)) → ((z m : List ℕ) → IsRest z m → P (bits_of z) (left ++ bits_of m) → Q z m) → is_told p ≡ true → is_told q ≡ true
+    → ((z : List ℕ) → IsRest z (known (λ all. all) p) → IsRest z (known (λ all. all) q)) → P (known (bits_after []) p) (known (bits_after left) q) → Q (known (λ all. all) p) (known (λ all. all) q)
+unfolding IsRest
+came P Q left None q f t u rest k = absurd cc
+came P Q left (Some z) None f t u rest k = absurd cc
+came P Q left (Some z) (Some m) f t u rest k = f z m (rest z ([], refl)) k
+
+module _ (s t : Source ℕ) (j k : GName) (left : Bits) (few : length left < 8) where
+  went_border : (P : Bits → Bits → Type 0) (Q : List ℕ → List ℕ → Type 0) → ((z m : List ℕ) → IsRest z m → P (bits_of z) (left ++ bits_of m) → Q z m)
+      → Went (stream_of (bits_after []) (through_loan j s)) (stream_of (bits_after left) (through_loan k t)) P → Went (stream_of (λ all. all) s) (stream_of (λ all. all) t) Q
+  went_border P Q f h = record {
+    errors = h.errors;
+    empties = h.empties;
+    loans = (let e : k ∷ t.loans ≡ j ∷ s.loans = h.loans in cc);
+    known = λ told. let x = h.known told in record { told = x.told; is = came P Q left s.to_come t.to_come f told x.told x.rest x.is; rest = x.rest; checks = x.checks };
+  }
+
+  stuck_border : (P : Bits → Type 0) (Q : List ℕ → Type 0) → ((z : List ℕ) → P (bits_of z) → Q z)
+      → Stuck (stream_of (bits_after []) (through_loan j s)) (stream_of (bits_after left) (through_loan k t)) P → Stuck (stream_of (λ all. all) s) (stream_of (λ all. all) t) Q
+  stuck_border P Q f h = record {
+    loans = (let e : k ∷ t.loans ≡ j ∷ s.loans = h.loans in cc);
+    known = λ told. let x = h.known told in record { told = x.told; why = elim x.why [ inl p ↦ inl (came (λ a b. P a) (λ a b. Q a) left s.to_come t.to_come (λ z m r. f z) told x.told x.rest p) | inr p ↦ inr p ]; rest = x.rest };
+  }
+
+  -- reading bits up to a border gives what reading their bytes does
+  gives_border : {A Y : Type 0} (view : A → Y) (r : Result A Error) (read : Bits → Reading Bool Y)
+      → Gives view r read (stream_of (bits_after []) (through_loan j s)) (stream_of (bits_after left) (through_loan k t)) → Gives view r (by_bytes (padded_at read)) (stream_of (λ all. all) s) (stream_of (λ all. all) t)
+  gives_border view (Ok x) read h = went_border _ _ (λ z m r. padded_is read (view x) z m left few r) h
+  gives_border view (Err e) read h = record {
+    stuck = λ i. stuck_border _ _ (padded_short_is read) (h.stuck i);
+    fault = λ i. went_border _ _ (λ z m r p. let f = fault_is e (read (bits_of z)) (left ++ bits_of m) p in rw (padded_fault_is read f.0 z m left few r f.2) (f.1, refl)) (h.fault i);
+    named = h.named;
+  }
+
+  -- and the reference is still the same
+  border_name : {A Y : Type 0} (view : A → Y) (r : Result A Error) (read : Bits → Reading Bool Y)
+      → Gives view r read (stream_of (bits_after []) (through_loan j s)) (stream_of (bits_after left) (through_loan k t)) → j ≡ k
+  border_name view r read h = let e : k ∷ t.loans ≡ j ∷ s.loans = gives_loans view r read _ _ h in cc
+
+-- the source behind a reference
+abbrev behind : {R : Type 0} → (R → Source ℕ) → MutBor R → Source ℕ
+behind source r = through_loan r.ghost_name (source r.now)
+
+-- what was read by a `Bitstream` that began at a border, of the reader behind its reference
+pub gives_through : {R A Y : Type 0} {g : _} (source : R → Source ℕ) (x : R) (j : GName) (b c : Bitstream (MutBor R) g) (view : A → Y) (r : Result A Error) (read : Bits → Reading Bool Y) → bit_state (behind source) b ≡ record { left = []; source = through_loan j (source x) }
+    → Gives view r read (stream (behind source) b) (stream (behind source) c) → Gives view r (by_bytes (padded_at read)) (bytes_in source x) (bytes_in source c.reader.now)
+unfolding stream bytes_in
+gives_through source x j b c view r read e h = gives_border (source x) (source c.reader.now) j c.reader.ghost_name (bits c.count c.cache) (rw length-bits c.few) view r read (subst (λ z. Gives view r read (stream_of (bits_after z.left) z.source) (stream (behind source) c)) e h)
+
+pub name_through : {R A Y : Type 0} {g : _} (source : R → Source ℕ) (x : R) (j : GName) (b c : Bitstream (MutBor R) g) (view : A → Y) (r : Result A Error) (read : Bits → Reading Bool Y) → bit_state (behind source) b ≡ record { left = []; source = through_loan j (source x) }
+    → Gives view r read (stream (behind source) b) (stream (behind source) c) → j ≡ c.reader.ghost_name
+unfolding stream
+name_through source x j b c view r read e h = border_name (source x) (source c.reader.now) j c.reader.ghost_name (bits c.count c.cache) (rw length-bits c.few) view r read (subst (λ z. Gives view r read (stream_of (bits_after z.left) z.source) (stream (behind source) c)) e h)
