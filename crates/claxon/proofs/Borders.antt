@@ -7,7 +7,6 @@ use Rattle.std.proofs.lemmas.List.{length-append, length-take, length-drop, drop
 use Rattle.claxon_format.specs.Bits.{Bits, bits, bits_of, number}
 use Rattle.claxon_format.specs.Fault.{Fault}
 use Rattle.claxon_format.specs.Frame.{by_bytes, whole, left_bytes}
-use Rattle.claxon_format.specs.Guards.{gap, padded_at}
 use Rattle.claxon_format.specs.Reading.{Reading, Done, Faulty, Short, bind, taken}
 use Rattle.claxon_format.specs.Readers.{number_at}
 use Rattle.claxon_format.proofs.Bytes.{length-bits_of}
@@ -39,38 +38,16 @@ left_is z m left few h =
     let n : length (left ++ bits_of m) / 8 ≡ length m = omega arith in
     rest_is z m _ h (ap (λ k. length z - k) n)
 
--- the padding is fewer than eight bits, and no more than are there
-record Padding (z m : List ℕ) (left : Bits) (g : ℕ) : Type 0 where
-  within : g ≤ length (left ++ bits_of m)
-  border : length (drop g (left ++ bits_of m)) / 8 ≡ length m
-
-padding : (z m : List ℕ) (left : Bits) → length left < 8 → IsRest z m → Padding z m left (gap (taken (bits_of z) (left ++ bits_of m)))
-padding z m left few h =
-    let x = left ++ bits_of m in
-    let len : length (left ++ bits_of m) ≡ length left + 8 * length m = length-append left (bits_of m) ∙ ap (λ n. length left + n) (length-bits_of m) in
-    let all = length-bits_of z in
-    let room = rest_length z m h in
-    let t = length-take (length (bits_of z) - length (left ++ bits_of m)) (bits_of z) in
-    let within : gap (taken (bits_of z) (left ++ bits_of m)) ≤ length (left ++ bits_of m) = omega arith in
-    record { within = within; border = omega (arith, length-drop (gap (taken (bits_of z) (left ++ bits_of m))) (left ++ bits_of m)) }
-
 -- ---- what reading gives
 
-padded_is : {A : Type 0} (read : Bits → Reading Bool A) (a : A) (z m : List ℕ) (left : Bits) → length left < 8 → IsRest z m → read (bits_of z) ≡ Done a (left ++ bits_of m) → by_bytes (padded_at read) z ≡ Done a m
-unfolding padded_at number_at
-padded_is read a z m left few h e =
-    let p = padding z m left few h in
-    let g = gap (taken (bits_of z) (left ++ bits_of m)) in
-    let enough : ltb (length (left ++ bits_of m)) (gap (taken (bits_of z) (left ++ bits_of m))) ≡ false = le-ltb _ _ p.within in
-    rw (e, enough) (ap (Done a) (rest_is z m _ h (ap (λ k. length z - k) p.border)))
+border_is : {A : Type 0} (read : Bits → Reading Bool A) (a : A) (z m : List ℕ) (left : Bits) → length left < 8 → IsRest z m → read (bits_of z) ≡ Done a (left ++ bits_of m) → by_bytes read z ≡ Done a m
+border_is read a z m left few h e = rw e (ap (Done a) (left_is z m left few h))
 
-padded_fault_is : {A : Type 0} (read : Bits → Reading Bool A) (f : Fault) (z m : List ℕ) (left : Bits) → length left < 8 → IsRest z m → read (bits_of z) ≡ Faulty f (left ++ bits_of m) → by_bytes (padded_at read) z ≡ Faulty f m
-unfolding padded_at
-padded_fault_is read f z m left few h e = rw e (ap (Faulty f) (left_is z m left few h))
+border_fault_is : {A : Type 0} (read : Bits → Reading Bool A) (f : Fault) (z m : List ℕ) (left : Bits) → length left < 8 → IsRest z m → read (bits_of z) ≡ Faulty f (left ++ bits_of m) → by_bytes read z ≡ Faulty f m
+border_fault_is read f z m left few h e = rw e (ap (Faulty f) (left_is z m left few h))
 
-padded_short_is : {A : Type 0} (read : Bits → Reading Bool A) (z : List ℕ) → read (bits_of z) ≡ Short → by_bytes (padded_at read) z ≡ Short
-unfolding padded_at
-padded_short_is read z e = rw e refl
+border_short_is : {A : Type 0} (read : Bits → Reading Bool A) (z : List ℕ) → read (bits_of z) ≡ Short → by_bytes read z ≡ Short
+border_short_is read z e = rw e refl
 
 -- ---- what was done
 
@@ -100,11 +77,11 @@ module _ (s t : Source ℕ) (j k : GName) (left : Bits) (few : length left < 8) 
 
   -- reading bits up to a border gives what reading their bytes does
   gives_border : {A Y : Type 0} (view : A → Y) (r : Result A Error) (read : Bits → Reading Bool Y)
-      → Gives view r read (stream_of (bits_after []) (through_loan j s)) (stream_of (bits_after left) (through_loan k t)) → Gives view r (by_bytes (padded_at read)) (stream_of (λ all. all) s) (stream_of (λ all. all) t)
-  gives_border view (Ok x) read h = went_border _ _ (λ z m r. padded_is read (view x) z m left few r) h
+      → Gives view r read (stream_of (bits_after []) (through_loan j s)) (stream_of (bits_after left) (through_loan k t)) → Gives view r (by_bytes read) (stream_of (λ all. all) s) (stream_of (λ all. all) t)
+  gives_border view (Ok x) read h = went_border _ _ (λ z m r. border_is read (view x) z m left few r) h
   gives_border view (Err e) read h = record {
-    stuck = λ i. stuck_border _ _ (padded_short_is read) (h.stuck i);
-    fault = λ i. went_border _ _ (λ z m r p. let f = fault_is e (read (bits_of z)) (left ++ bits_of m) p in rw (padded_fault_is read f.0 z m left few r f.2) (f.1, refl)) (h.fault i);
+    stuck = λ i. stuck_border _ _ (border_short_is read) (h.stuck i);
+    fault = λ i. went_border _ _ (λ z m r p. let f = fault_is e (read (bits_of z)) (left ++ bits_of m) p in rw (border_fault_is read f.0 z m left few r f.2) (f.1, refl)) (h.fault i);
     named = h.named;
   }
 
@@ -119,7 +96,7 @@ behind source r = through_loan r.ghost_name (source r.now)
 
 -- what was read by a `Bitstream` that began at a border, of the reader behind its reference
 pub gives_through : {R A Y : Type 0} {g : _} (source : R → Source ℕ) (x : R) (j : GName) (b c : Bitstream (MutBor R) g) (view : A → Y) (r : Result A Error) (read : Bits → Reading Bool Y) → bit_state (behind source) b ≡ record { left = []; source = through_loan j (source x) }
-    → Gives view r read (stream (behind source) b) (stream (behind source) c) → Gives view r (by_bytes (padded_at read)) (bytes_in source x) (bytes_in source c.reader.now)
+    → Gives view r read (stream (behind source) b) (stream (behind source) c) → Gives view r (by_bytes read) (bytes_in source x) (bytes_in source c.reader.now)
 unfolding stream bytes_in
 gives_through source x j b c view r read e h = gives_border (source x) (source c.reader.now) j c.reader.ghost_name (bits c.count c.cache) (rw length-bits c.few) view r read (subst (λ z. Gives view r read (stream_of (bits_after z.left) z.source) (stream (behind source) c)) e h)
 
