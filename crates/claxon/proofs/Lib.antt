@@ -18,3 +18,4 @@ pub mod Predictors
 pub mod Unmixes
 pub mod CodedChannels
 pub mod Borders
+pub mod BodyCuts
