@@ -1,7 +1,9 @@
 pub mod Errors
 pub mod Loans
 pub mod Cuts
+pub mod FrameCuts
 pub mod BodyCuts
+pub mod Frames
 pub mod Ends
 pub mod Fields
 pub mod Kinds
