@@ -18,7 +18,7 @@ use Rattle.claxon_input.specs.BitSource.{BitState, bits_to_come, TakesBits, Take
 use Rattle.claxon_input.specs.Stream.{Stream, stream_of, bytes_in, bits_after, past, is_told, known, IsRest, Went, Stuck, FailedIn, Yields}
 
 -- functions that agree are one
-same_function : {A B : Type 0} {f g : A → B} → ((x : A) → f x ≡ g x) → f ≡ g
+pub same_function : {A B : Type 0} {f g : A → B} → ((x : A) → f x ≡ g x) → f ≡ g
 same_function h i x = h x i
 
 rest_after : {X : Type 0} (z s t m : List X) → s ≡ t ++ m → IsRest z s → IsRest z m
