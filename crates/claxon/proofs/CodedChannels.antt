@@ -14,8 +14,8 @@ use Rattle.claxon_input.proofs.Went.{went_both, went_map, went_none, stops_after
 use Rattle.claxon.specs.Assignment.{channels_of, coded_widths}
 use Rattle.claxon.specs.BodyCuts.{coded_at}
 use Rattle.claxon.specs.Channels.{chunks}
-use Rattle.claxon.specs.declared.frame.header.ChannelAssignment.{ChannelAssignment}
-use Rattle.claxon.specs.declared.frame.header.ChannelAssignment.TheVariants.{Independent, LeftSideStereo, RightSideStereo, MidSideStereo}
+use Rattle.claxon.specs.declared.frame.header.parts.ChannelAssignment.{ChannelAssignment}
+use Rattle.claxon.specs.declared.frame.header.parts.ChannelAssignment.TheVariants.{Independent, LeftSideStereo, RightSideStereo, MidSideStereo}
 use Rattle.claxon.proofs.Chunks.{chunk_ends}
 
 -- there is a width for each channel

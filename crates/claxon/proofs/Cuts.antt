@@ -9,22 +9,22 @@ use Rattle.claxon_format.specs.Readers.{bit_at, number_at, signed_at, waste_at, 
 use Rattle.claxon_format.specs.Subframe.{reserved, scaled}
 use Rattle.claxon.specs.Cuts.{type_at, few_at, header_at, parameters_at, lpc_at, entries_at, channel_at, method_at, parts_at, taking, taken_at}
 
-bind_same : {X A B : Type 0} (x : Reading X A) (f g : A → List X → Reading X B) → ((a : A) (m : List X) → f a m ≡ g a m) → bind x f ≡ bind x g
+pub bind_same : {X A B : Type 0} (x : Reading X A) (f g : A → List X → Reading X B) → ((a : A) (m : List X) → f a m ≡ g a m) → bind x f ≡ bind x g
 bind_same (Done a m) f g h = h a m
 bind_same (Faulty e m) f g h = refl
 bind_same Short f g h = refl
 
-bind_bind : {X A B C : Type 0} (x : Reading X A) (f : A → List X → Reading X B) (g : B → List X → Reading X C) → bind (bind x f) g ≡ bind x (λ a m. bind (f a m) g)
+pub bind_bind : {X A B C : Type 0} (x : Reading X A) (f : A → List X → Reading X B) (g : B → List X → Reading X C) → bind (bind x f) g ≡ bind x (λ a m. bind (f a m) g)
 bind_bind (Done a m) f g = refl
 bind_bind (Faulty e m) f g = refl
 bind_bind Short f g = refl
 
 -- a test, where what comes after it is the same
-cond_same : {X A : Type 0} (b : Bool) (x : Reading X A) {y z : Reading X A} → y ≡ z → cond b x y ≡ cond b x z
+pub cond_same : {X A : Type 0} (b : Bool) (x : Reading X A) {y z : Reading X A} → y ≡ z → cond b x y ≡ cond b x z
 cond_same true x h = refl
 cond_same false x h = h
 
-bind_cond : {X A B : Type 0} (b : Bool) (e : Fault) (m : List X) (y : Reading X A) (g : A → List X → Reading X B) → bind (cond b (Faulty e m) y) g ≡ cond b (Faulty e m) (bind y g)
+pub bind_cond : {X A B : Type 0} (b : Bool) (e : Fault) (m : List X) (y : Reading X A) (g : A → List X → Reading X B) → bind (cond b (Faulty e m) y) g ≡ cond b (Faulty e m) (bind y g)
 bind_cond true e m y g = refl
 bind_cond false e m y g = refl
 

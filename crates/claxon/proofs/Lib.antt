@@ -19,3 +19,7 @@ pub mod Unmixes
 pub mod CodedChannels
 pub mod Borders
 pub mod BodyCuts
+pub mod FrameSteps
+pub mod FrameCuts
+pub mod Followers
+pub mod Widths

@@ -1,10 +1,15 @@
--- The codes of a frame's header (RFC 9639, sections 9.1.1 and 9.1.3).
-use Rattle.std.specs.Prelude.{ℕ, ◌+◌, ◌-◌, List}
+-- What a frame's header says, as the code keeps it (RFC 9639, section 9.1).
 use Rattle.claxon_format.specs.Stereo.{widths}
-use Rattle.claxon.specs.declared.frame.header.BlockSize.{BlockSize}
-use Rattle.claxon.specs.declared.frame.header.BlockSize.TheVariants.{Known}
-use Rattle.claxon.specs.declared.frame.header.ChannelAssignment.{ChannelAssignment}
-use Rattle.claxon.specs.declared.frame.header.ChannelAssignment.TheVariants.{Independent, LeftSideStereo, RightSideStereo, MidSideStereo}
+use Rattle.std.specs.Prelude.{List, ◌≡◌, ℕ, ◌+◌, ◌-◌, ◌≤◌, Bool, true, false, cond, ◌==◌, Option, Some, None}
+use Rattle.claxon_format.specs.Header.{width_of}
+use Rattle.claxon.specs.declared.frame.header.parts.BlockingStrategy.{BlockingStrategy}
+use Rattle.claxon.specs.declared.frame.header.parts.BlockingStrategy.TheVariants.{Fixed, Variable}
+use Rattle.claxon.specs.declared.frame.header.parts.BlockTime.{BlockTime}
+use Rattle.claxon.specs.declared.frame.header.parts.BlockTime.TheVariants.{FrameNumber, SampleNumber}
+use Rattle.claxon.specs.declared.frame.header.parts.BlockSize.{BlockSize}
+use Rattle.claxon.specs.declared.frame.header.parts.BlockSize.TheVariants.{Known, Read8, Read16}
+use Rattle.claxon.specs.declared.frame.header.parts.ChannelAssignment.{ChannelAssignment}
+use Rattle.claxon.specs.declared.frame.header.parts.ChannelAssignment.TheVariants.{Independent, LeftSideStereo, RightSideStereo, MidSideStereo}
 
 -- the least size that a size code can give
 abbrev pub least_size : BlockSize → ℕ
@@ -16,17 +21,35 @@ abbrev pub channels_of : ChannelAssignment → ℕ
 channels_of (Independent n) = n
 channels_of _ = 2
 
--- the width of the widest one, where the samples have so many bits: a side channel has one more
-abbrev pub widest : ChannelAssignment → ℕ → ℕ
-widest (Independent n) bits = bits
-widest _ bits = bits + 1
-
--- the four bits that spell it
+-- the four bits that spell the channels (section 9.1.3)
 abbrev pub channel_code : ChannelAssignment → ℕ
 channel_code (Independent n) = n - 1
 channel_code LeftSideStereo = 8
 channel_code RightSideStereo = 9
 channel_code MidSideStereo = 10
+
+-- the width of the widest one, where the samples have so many bits: a side channel has one more
+abbrev pub widest : ChannelAssignment → ℕ → ℕ
+widest (Independent n) bits = bits
+widest _ bits = bits + 1
+
+-- the three bits that spell a width (section 9.1.4), or that it is the stream's
+abbrev pub width_code : Option ℕ → ℕ
+width_code None = 0
+width_code (Some bits) = cond (bits == 8) 1 (cond (bits == 12) 2 (cond (bits == 16) 4 (cond (bits == 20) 5 6)))
+
+-- a width that has a code
+abbrev pub HasCode : ℕ → Type 0
+HasCode bits = width_of None (width_code (Some bits)) ≡ bits
+
+-- which blocking a header has, and a number of it
+abbrev pub is_variable : BlockingStrategy → Bool
+is_variable Fixed = false
+is_variable Variable = true
+
+abbrev pub time_number : BlockTime → Bool × ℕ
+time_number (FrameNumber n) = (false, n)
+time_number (SampleNumber n) = (true, n)
 
 -- the widths of the coded channels, where the samples have so many bits
 abbrev pub coded_widths : ChannelAssignment → ℕ → List ℕ

@@ -4,7 +4,7 @@ use Rattle.std.specs.List.{zip}
 use Rattle.claxon_format.specs.Stereo.{unmixed, channels_of as unmixed_channels}
 use Rattle.claxon.specs.Assignment.{channels_of, channel_code}
 use Rattle.claxon.specs.Channels.{chunks}
-use Rattle.claxon.specs.declared.frame.header.ChannelAssignment.{ChannelAssignment}
+use Rattle.claxon.specs.declared.frame.header.parts.ChannelAssignment.{ChannelAssignment}
 use Rattle.claxon.specs.declared.frame.block.StereoSamples.{StereoSamples}
 
 -- of two halves that are coded the ones that they stand for (RFC 9639, section 4.2)

@@ -1,19 +1,24 @@
 //! Frames: blocks of samples, one after another.
 ghost use Rattle.std.specs.Prelude.{◌≡◌, ℕ, ◌+◌, ◌*◌, ◌<◌, ◌≤◌, IfOk, IfErr, IfSome, length, vec_len, vec_capacity, true, false};
 ghost use Rattle.claxon.specs.Assignment.{channels_of, coded_widths};
-ghost use Rattle.claxon.specs.BodyCuts.{coded_at, subframes_at};
+ghost use Rattle.claxon.specs.BodyCuts.{block_at, coded_at, footer_at, subframes_at};
 ghost use Rattle.claxon.specs.Channels.{chunks, duration_of};
 ghost use Rattle.claxon.specs.Errors.{is_memory};
 ghost use Rattle.claxon.specs.Loans.{KeepsLoans};
-ghost use Rattle.claxon_input.specs.Checked.{checked_source};
+ghost use Rattle.claxon_format.specs.Frame.{frame_bytes_at};
+ghost use Rattle.claxon_input.specs.Checked.{checked_source, checked_state};
 ghost use Rattle.claxon_input.specs.Remainders.{check16};
-ghost use Rattle.claxon_input.specs.Stream.{bytes_in, stream, Gives};
+ghost use Rattle.claxon_input.specs.Stream.{bytes_in, stream, Gives, GivesOrStarves, Went};
+ghost use Rattle.claxon.specs.Ends.{GivesOrEndsOrStarves};
+ghost use Rattle.claxon.specs.FrameCuts.{shape_view, start_view};
+ghost use Rattle.claxon.specs.Frames.{block_view, NoRoom};
 
 mod block;
 mod header;
 mod stereo;
 
 use crate::error::{Error, Result};
+use crate::fields::read_big_u16;
 use crate::input::{Bitstream, ReadBytes};
 use crate::metadata::StreamInfo;
 use crate::subframe;
@@ -89,31 +94,59 @@ impl<R: ReadBytes> FrameReader<R> {
     }
 }
 
+// Reads a frame through a remainder that begins with it.
 fn read_frame_or_eof<R: ReadBytes, A: Allocator>(
     input: &mut Crc16Reader<R>,
     stream: Option<StreamShape>,
     buffer: Vec<i32, A>,
 ) -> FrameResult<A>
-    ensures some { IfOk result (λ found. IfSome found (λ block. (1 ≤ length block.channels) × (1 ≤ duration_of block.channels))) }
-    ensures memory { IfErr result (λ error. is_memory error ≡ true → vec_capacity buffer < 8 * 65535) }
-    ensures loans { KeepsLoans (checked_source R.source check16 input.old) (checked_source R.source check16 input.new) }
+    requires { checked_state input.old ≡ 0 }
+    ensures gives { GivesOrEndsOrStarves 2 block_view result (frame_bytes_at (shape_view stream)) (bytes_in (checked_source R.source check16) input.old) (bytes_in (checked_source R.source check16) input.new) }
+    ensures room { IfErr result (λ error. is_memory error ≡ true →
+        NoRoom (shape_view stream) (vec_capacity buffer) (bytes_in (checked_source R.source check16) input.old) (bytes_in (checked_source R.source check16) input.new)) }
 {
     let Some(header) = read_frame_header_or_eof(input, stream)? else {
         return Ok(None);
     };
-    let channels = u32::from(header.channel_assignment.channels());
-    let duration = u32::from(header.block_size);
-    let mut buffer = ensure_buffer_len(buffer, channels as usize * duration as usize)?;
-    decode_subframes(input, &header, buffer.as_mut_slice())?;
+    let buffer = read_channels(input, &header, buffer)?;
     check_footer(input)?;
+    Ok(Some(to_block(header, buffer)))
+}
+
+// The coded channels, in the buffer's memory where it suffices.
+fn read_channels<R: ReadBytes, A: Allocator>(
+    input: &mut R,
+    header: &FrameHeader,
+    buffer: Vec<i32, A>,
+) -> Result<Vec<i32, A>>
+    ensures len { IfOk result (λ filled. vec_len filled ≡ channels_of header.now.channel_assignment * header.now.block_size) }
+    ensures gives { GivesOrStarves (λ filled. chunks (channels_of header.now.channel_assignment) header.now.block_size filled.items) result
+        (subframes_at header.now.block_size (coded_widths header.now.channel_assignment header.now.bits_per_sample)) (bytes_in R.source input.old) (bytes_in R.source input.new) }
+    ensures room { IfErr result (λ error. is_memory error ≡ true → vec_capacity buffer < channels_of header.now.channel_assignment * header.now.block_size) }
+    ensures none_taken { IfErr result (λ error. is_memory error ≡ true → Went (bytes_in R.source input.old) (bytes_in R.source input.new) (λ s m. s ≡ m)) }
+{
+    let samples = usize::from(header.channel_assignment.channels()) * usize::from(header.block_size);
+    let mut buffer = ensure_buffer_len(buffer, samples)?;
+    decode_subframes(input, header, buffer.as_mut_slice())?;
+    Ok(buffer)
+}
+
+// The block of coded channels that stand in the buffer one after another.
+fn to_block<A: Allocator>(header: FrameHeader, buffer: Vec<i32, A>) -> Block<A>
+    requires { vec_len buffer ≡ channels_of header.channel_assignment * header.block_size }
+    ensures { block_view result ≡ block_at (start_view header) (chunks (channels_of header.channel_assignment) header.block_size buffer.items) }
+{
+    let mut buffer = buffer;
     unmix(header.channel_assignment, buffer.as_mut_slice());
-    Ok(Some(Block::new(header.time, channels, duration, buffer)))
+    let channels = u32::from(header.channel_assignment.channels());
+    Block::new(header.time, channels, u32::from(header.block_size), buffer)
 }
 
 // The buffer with so many samples of any value. It grows only where its capacity is below that.
 fn ensure_buffer_len<A: Allocator>(buffer: Vec<i32, A>, new_len: usize) -> Result<Vec<i32, A>>
     ensures len { IfOk result (λ filled. vec_len filled ≡ new_len) }
-    ensures memory { IfErr result (λ error. vec_capacity buffer < new_len) }
+    ensures refused { IfErr result (λ error. is_memory error ≡ true) }
+    ensures small { IfErr result (λ error. vec_capacity buffer < new_len) }
 {
     let mut buffer = buffer;
     if buffer.len() < new_len {
@@ -161,12 +194,12 @@ fn decode_channels<R: ReadBytes>(
 }
 
 // The guard of all bytes of the frame.
+#[tactic(auto, unfolding(crate::specs::BodyCuts::footer_at, claxon_format::specs::Fault::fault_text))]
 fn check_footer<R: ReadBytes>(input: &mut Crc16Reader<R>) -> Result<()>
-    ensures no_memory { IfErr result (λ error. is_memory error ≡ false) }
-    ensures loans { KeepsLoans (checked_source R.source check16 input.old) (checked_source R.source check16 input.new) }
+    ensures { Gives (λ x. tt) result (footer_at (checked_state input.old)) (bytes_in (checked_source R.source check16) input.old) (bytes_in (checked_source R.source check16) input.new) }
 {
     let computed = input.crc();
-    if input.read_be_u16()? != computed {
+    if read_big_u16(input)? != computed {
         return Err(Error::FormatError("frame CRC mismatch"));
     }
     Ok(())

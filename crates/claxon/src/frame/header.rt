@@ -1,136 +1,34 @@
 //! The header of a frame (RFC 9639, section 9.1).
-ghost use Rattle.std.specs.Prelude.{◌≡◌, ◌+◌, ◌*◌, ◌<◌, ◌≤◌, IfOk, IfErr, get_or, false};
+ghost use Rattle.std.specs.Prelude.{◌≡◌, ℕ, ◌+◌, ◌*◌, ◌<◌, ◌≤◌, IfOk, IfErr, false};
 ghost use Rattle.std.specs.Option.{ForSome};
-ghost use Rattle.claxon.specs.Assignment.{channels_of, coded_widths, least_size, widest};
+ghost use Rattle.claxon_format.specs.Frame.{block_step, known_width, time_of};
+ghost use Rattle.claxon_format.specs.Header.{header_of};
+ghost use Rattle.claxon_input.specs.Checked.{checked_source, checked_state};
+ghost use Rattle.claxon_input.specs.Remainders.{check8};
+ghost use Rattle.claxon_input.specs.Stream.{Stream, bytes_in, Gives};
+ghost use Rattle.claxon.specs.Assignment.{HasCode, channel_code, channels_of, is_variable, least_size, time_number, widest, width_code};
+ghost use Rattle.claxon.specs.Ends.{GivesOrEnds};
 ghost use Rattle.claxon.specs.Errors.{is_memory};
+ghost use Rattle.claxon.specs.FrameCuts.{all_fields_at, blocking_at, channels_at, coded_at, codes_at, fields_after, fields_view, followed_at, follower_at, guard_at, guarded_at, number_in, rate_kind, rated_at, shape_view, size_kind, sized_at, start_at, start_view, sync_at, width_at};
 ghost use Rattle.claxon.specs.Loans.{KeepsLoans};
 
+mod parts;
 #[cfg(test)]
 mod tests;
 
 use crate::error::{Error, Result};
+use crate::fields::{read_big_u16, read_big_u16_or_eof, read_byte};
 use crate::input::ReadBytes;
 use claxon_input::crc::Crc8Reader;
-
-/// What is known of the stream before its frames.
-#[derive(Clone, Copy, Debug)]
-pub struct StreamShape {
-    /// The width of the samples where a header names none, 1 to 32 bits.
-    pub bits_per_sample: u32,
-
-    /// The size of every block but the last, where the stream has one.
-    pub block_size: Option<u16>,
-    ghost some: { 1 ≤ bits_per_sample },
-    ghost most: { bits_per_sample ≤ 32 },
-}
-
-#[derive(Clone, Copy, Debug)]
-enum BlockingStrategy {
-    Fixed,
-    Variable,
-}
-
-/// The coded number of a header: of the frame in fixed blocking, of its first sample in variable blocking.
-#[derive(Clone, Copy, Debug)]
-enum BlockTime {
-    FrameNumber(u32),
-    SampleNumber(u64),
-}
-
-/// How the channels are coded: as they are, or one of two as the difference of left and right.
-#[derive(Clone, Copy, Debug)]
-pub enum ChannelAssignment {
-    Independent(u8),
-    LeftSideStereo,
-    RightSideStereo,
-    MidSideStereo,
-}
-
-#[derive(Clone, Copy, Debug)]
-enum BlockSize {
-    Known(u16),
-    Read8,
-    Read16,
-}
-
-// How many bits of the sample rate follow the size. The rate isn't shown anywhere.
-#[derive(Clone, Copy, Debug)]
-enum SampleRate {
-    Known,
-    Read8,
-    Read16,
-}
-
-/// A frame's header.
-#[derive(Clone, Copy, Debug)]
-pub struct FrameHeader {
-    /// The number of samples of each channel before this frame.
-    pub time: u64,
-
-    /// The number of samples of each channel in this frame.
-    pub block_size: u16,
-    pub channel_assignment: ChannelAssignment,
-    pub bits_per_sample: u32,
-    ghost some_samples: { 1 ≤ block_size },
-    ghost some_channels: { 1 ≤ channels_of channel_assignment },
-    ghost few_channels: { channels_of channel_assignment ≤ 8 },
-    ghost narrow: { widest channel_assignment bits_per_sample ≤ 32 },
-}
-
-// The fields of a header before its guard.
-#[derive(Clone, Copy, Debug)]
-struct HeaderFields {
-    block_time: BlockTime,
-    block_size: u16,
-    channel_assignment: ChannelAssignment,
-    bits_per_sample: Option<u32>,
-    ghost some_samples: { 1 ≤ block_size },
-    ghost some_channels: { 1 ≤ channels_of channel_assignment },
-    ghost few_channels: { channels_of channel_assignment ≤ 8 },
-    ghost narrow: { ForSome bits_per_sample (λ bits. bits ≤ 24) },
-}
-
-impl ChannelAssignment {
-    pub fn channels(self) -> u8
-        requires { channels_of self ≤ 8 }
-        ensures { result ≡ channels_of self }
-    {
-        match self {
-            ChannelAssignment::Independent(n) => n,
-            _ => 2,
-        }
-    }
-
-    /// The width of a coded channel: a side channel has one bit more.
-    pub fn width(self, bits_per_sample: u32, ch: u8) -> u32
-        requires narrow { widest self bits_per_sample ≤ 32 }
-        requires few { channels_of self ≤ 8 }
-        requires inside { ch < channels_of self }
-        ensures value { get_or (coded_widths self bits_per_sample) ch 0 ≡ result }
-        ensures most { result ≤ 32 }
-    {
-        match (self, ch) {
-            (ChannelAssignment::LeftSideStereo, 1) => bits_per_sample + 1,
-            (ChannelAssignment::RightSideStereo, 0) => bits_per_sample + 1,
-            (ChannelAssignment::MidSideStereo, 1) => bits_per_sample + 1,
-            _ => bits_per_sample,
-        }
-    }
-}
-
-#[cold]
-#[inline(never)]
-fn reserved_value() -> Error
-    ensures { is_memory result ≡ false }
-{
-    Error::FormatError("invalid frame header, encountered reserved value")
-}
+use parts::{BlockSize, BlockTime, BlockingStrategy, HeaderFields, SampleRate};
+pub use parts::{ChannelAssignment, FrameHeader, StreamShape};
 
 /// Reads the header of the next frame, its guard included. None where fewer than two bytes were left, which are taken.
 pub fn read_frame_header_or_eof<R: ReadBytes>(
     input: &mut R,
     stream: Option<StreamShape>,
 ) -> Result<Option<FrameHeader>>
+    ensures gives { GivesOrEnds 2 start_view result (start_at (shape_view stream)) (bytes_in R.source input.old) (bytes_in R.source input.new) }
     ensures no_memory { IfErr result (λ error. is_memory error ≡ false) }
     ensures loans { KeepsLoans (R.source input.old) (R.source input.new) }
 {
@@ -138,29 +36,40 @@ pub fn read_frame_header_or_eof<R: ReadBytes>(
         return Ok(None);
     };
     let bits_per_sample = resolve_width(&fields, stream)?;
-    let time = match fields.block_time {
-        BlockTime::SampleNumber(number) => number,
-        BlockTime::FrameNumber(number) => u64::from(number)
-            * u64::from(block_step(&fields, stream)),
-    };
     Ok(Some(FrameHeader {
-        time,
+        time: time_of_block(&fields, stream),
         block_size: fields.block_size,
         channel_assignment: fields.channel_assignment,
         bits_per_sample,
     }))
 }
 
+// How many samples of each channel stand before a frame.
+fn time_of_block(fields: &HeaderFields, stream: Option<StreamShape>) -> u64
+    ensures { result ≡ time_of (shape_view stream) (header_of (known_width (shape_view stream)) (fields_view fields.now)) }
+{
+    match fields.block_time {
+        BlockTime::SampleNumber(number) => number,
+        BlockTime::FrameNumber(number) => u64::from(number)
+            * u64::from(size_before(fields.block_size, stream)),
+    }
+}
+
 // How many samples stand before a frame for each frame before it.
-fn block_step(fields: &HeaderFields, stream: Option<StreamShape>) -> u16 {
-    let shape_size = stream.and_then(|shape| shape.block_size);
-    shape_size.unwrap_or(fields.block_size)
+fn size_before(block_size: u16, stream: Option<StreamShape>) -> u16
+    ensures { result ≡ block_step (shape_view stream) block_size }
+{
+    let Some(shape) = stream else {
+        return block_size;
+    };
+    shape.block_size.unwrap_or(block_size)
 }
 
 // The width that the header names, or else that of the stream.
+#[tactic(auto, unfolding(crate::specs::FrameCuts::width_at, claxon_format::specs::Fault::fault_text))]
 fn resolve_width(fields: &HeaderFields, stream: Option<StreamShape>) -> Result<u32>
     ensures value { IfOk result (λ bits. widest fields.now.channel_assignment bits ≤ 32) }
-    ensures no_memory { IfErr result (λ error. is_memory error ≡ false) }
+    ensures gives { (here : Stream ℕ) → Gives (λ x. x) result (width_at (shape_view stream) (fields_view fields.now)) here here }
 {
     if let Some(bits) = fields.bits_per_sample {
         return Ok(bits);
@@ -177,99 +86,144 @@ fn resolve_width(fields: &HeaderFields, stream: Option<StreamShape>) -> Result<u
 }
 
 fn read_guarded_fields<R: ReadBytes>(input: &mut R) -> Result<Option<HeaderFields>>
-    ensures no_memory { IfErr result (λ error. is_memory error ≡ false) }
-    ensures loans { KeepsLoans (R.source input.old) (R.source input.new) }
+    ensures { GivesOrEnds 2 fields_view result guarded_at (bytes_in R.source input.old) (bytes_in R.source input.new) }
 {
     let mut input = Crc8Reader::new(input);
-    let Some(fields) = read_fields(&mut input)? else {
+    read_checked_fields(&mut input)
+}
+
+fn read_checked_fields<R: ReadBytes>(input: &mut Crc8Reader<R>) -> Result<Option<HeaderFields>>
+    requires { checked_state input.old ≡ 0 }
+    ensures { GivesOrEnds 2 fields_view result guarded_at (bytes_in (checked_source R.source check8) input.old) (bytes_in (checked_source R.source check8) input.new) }
+{
+    let Some(fields) = read_fields_or_eof(input)? else {
         return Ok(None);
     };
-    let computed = input.crc();
-    if input.read_u8()? != computed {
-        return Err(Error::FormatError("frame header CRC mismatch"));
-    }
+    check_guard(input)?;
     Ok(Some(fields))
 }
 
-fn read_fields<R: ReadBytes>(input: &mut R) -> Result<Option<HeaderFields>>
-    ensures no_memory { IfErr result (λ error. is_memory error ≡ false) }
-    ensures loans { KeepsLoans (R.source input.old) (R.source input.new) }
+// The guard of all bytes of the header.
+#[tactic(auto, unfolding(crate::specs::FrameCuts::guard_at, claxon_format::specs::Fault::fault_text))]
+fn check_guard<R: ReadBytes>(input: &mut Crc8Reader<R>) -> Result<()>
+    ensures { Gives (λ x. tt) result (guard_at (checked_state input.old)) (bytes_in (checked_source R.source check8) input.old) (bytes_in (checked_source R.source check8) input.new) }
+{
+    let computed = input.crc();
+    if read_byte(input)? != computed {
+        return Err(Error::FormatError("frame header CRC mismatch"));
+    }
+    Ok(())
+}
+
+fn read_fields_or_eof<R: ReadBytes>(input: &mut R) -> Result<Option<HeaderFields>>
+    ensures { GivesOrEnds 2 fields_view result all_fields_at (bytes_in R.source input.old) (bytes_in R.source input.new) }
 {
     let Some(blocking) = read_sync_or_eof(input)? else {
         return Ok(None);
     };
+    Ok(Some(read_fields(input, blocking)?))
+}
+
+#[tactic(auto, unfolding(crate::specs::FrameCuts::fields_after))]
+fn read_fields<R: ReadBytes>(input: &mut R, blocking: BlockingStrategy) -> Result<HeaderFields>
+    ensures { Gives fields_view result (fields_after (is_variable blocking)) (bytes_in R.source input.old) (bytes_in R.source input.new) }
+{
     let (size, rate) = read_size_and_rate(input)?;
     let (channel_assignment, bits_per_sample) = read_channels_and_width(input)?;
     let block_time = read_block_time(input, blocking)?;
     let block_size = read_block_size(input, size)?;
     skip_rate(input, rate)?;
-    Ok(Some(HeaderFields {
+    Ok(HeaderFields {
         block_time,
         block_size,
         channel_assignment,
         bits_per_sample,
-    }))
+    })
+}
+
+fn read_sync_or_eof<R: ReadBytes>(input: &mut R) -> Result<Option<BlockingStrategy>>
+    ensures { GivesOrEnds 2 is_variable result sync_at (bytes_in R.source input.old) (bytes_in R.source input.new) }
+{
+    let Some(sync) = read_big_u16_or_eof(input)? else {
+        return Ok(None);
+    };
+    Ok(Some(blocking_strategy(sync)?))
 }
 
 // The sync code, a reserved bit and the blocking strategy.
-fn read_sync_or_eof<R: ReadBytes>(input: &mut R) -> Result<Option<BlockingStrategy>>
-    ensures no_memory { IfErr result (λ error. is_memory error ≡ false) }
-    ensures loans { KeepsLoans (R.source input.old) (R.source input.new) }
+#[tactic(auto, unfolding(crate::specs::FrameCuts::blocking_at, claxon_format::specs::Fault::fault_text))]
+fn blocking_strategy(sync: u16) -> Result<BlockingStrategy>
+    ensures { (here : Stream ℕ) → Gives is_variable result (blocking_at sync) here here }
 {
-    let Some(sync) = input.read_be_u16_or_eof()? else {
-        return Ok(None);
-    };
-    if sync & 0xfffc != 0xfff8 {
+    if sync >> 2 != 0x3ffe {
         return Err(Error::FormatError("frame sync code missing"));
     }
-    if sync & 0b10 != 0 {
-        return Err(reserved_value());
+    if sync >> 1 & 1 == 1 {
+        return Err(Error::FormatError("invalid frame header, encountered reserved value"));
     }
-    if sync & 0b01 == 0 {
-        Ok(Some(BlockingStrategy::Fixed))
+    if sync & 1 == 0 {
+        Ok(BlockingStrategy::Fixed)
     } else {
-        Ok(Some(BlockingStrategy::Variable))
+        Ok(BlockingStrategy::Variable)
     }
 }
 
+#[tactic(auto, unfolding(crate::specs::FrameCuts::codes_at, claxon_format::specs::Fault::fault_text))]
 fn read_size_and_rate<R: ReadBytes>(input: &mut R) -> Result<(BlockSize, SampleRate)>
     ensures value { IfOk result (λ codes. 1 ≤ least_size codes.0) }
-    ensures no_memory { IfErr result (λ error. is_memory error ≡ false) }
-    ensures loans { KeepsLoans (R.source input.old) (R.source input.new) }
+    ensures gives { Gives (λ x. x) result codes_at (bytes_in R.source input.old) (bytes_in R.source input.new) }
 {
-    let codes = input.read_u8()?;
-    let size = match codes >> 4 {
-        0 => return Err(reserved_value()),
+    let codes = read_byte(input)?;
+    if codes >> 4 == 0 {
+        return Err(Error::FormatError("invalid frame header, encountered reserved value"));
+    }
+    if codes & 0b1111 == 15 {
+        return Err(Error::FormatError("invalid frame header"));
+    }
+    Ok((block_size_of(codes >> 4), sample_rate_of(codes & 0b1111)))
+}
+
+// The size that a code from 1 to 15 spells.
+fn block_size_of(code: u8) -> BlockSize
+    requires some { 1 ≤ code }
+    requires most { code ≤ 15 }
+    ensures some { 1 ≤ least_size result }
+    ensures kind { result ≡ size_kind code }
+{
+    match code {
         1 => BlockSize::Known(192),
         n if n <= 5 => BlockSize::Known(576 << (n - 2)),
         6 => BlockSize::Read8,
         7 => BlockSize::Read16,
         n => BlockSize::Known(256 << (n - 8)),
-    };
-    let rate = match codes & 0b1111 {
-        n if n <= 11 => SampleRate::Known,
+    }
+}
+
+fn sample_rate_of(code: u8) -> SampleRate
+    ensures { result ≡ rate_kind code }
+{
+    match code {
+        n if n < 12 => SampleRate::Known,
         12 => SampleRate::Read8,
-        15 => return Err(Error::FormatError("invalid frame header")),
         _ => SampleRate::Read16,
-    };
-    Ok((size, rate))
+    }
 }
 
 // The width is None where it is that of the stream.
+#[tactic(auto, unfolding(crate::specs::FrameCuts::channels_at, claxon_format::specs::Fault::fault_text))]
 fn read_channels_and_width<R: ReadBytes>(input: &mut R) -> Result<(ChannelAssignment, Option<u32>)>
     ensures some { IfOk result (λ codes. 1 ≤ channels_of codes.0) }
     ensures few { IfOk result (λ codes. channels_of codes.0 ≤ 8) }
-    ensures narrow { IfOk result (λ codes. ForSome codes.1 (λ bits. bits ≤ 24)) }
-    ensures no_memory { IfErr result (λ error. is_memory error ≡ false) }
-    ensures loans { KeepsLoans (R.source input.old) (R.source input.new) }
+    ensures named { IfOk result (λ codes. ForSome codes.1 HasCode) }
+    ensures gives { Gives (λ codes. (channel_code codes.0, width_code codes.1)) result channels_at (bytes_in R.source input.old) (bytes_in R.source input.new) }
 {
-    let codes = input.read_u8()?;
+    let codes = read_byte(input)?;
     let channel_assignment = match codes >> 4 {
         n if n < 8 => ChannelAssignment::Independent(n + 1),
         8 => ChannelAssignment::LeftSideStereo,
         9 => ChannelAssignment::RightSideStereo,
         10 => ChannelAssignment::MidSideStereo,
-        _ => return Err(reserved_value()),
+        _ => return Err(Error::FormatError("invalid frame header, encountered reserved value")),
     };
     let bits_per_sample = match (codes >> 1) & 0b111 {
         0 => None,
@@ -278,17 +232,17 @@ fn read_channels_and_width<R: ReadBytes>(input: &mut R) -> Result<(ChannelAssign
         4 => Some(16),
         5 => Some(20),
         6 => Some(24),
-        _ => return Err(reserved_value()),
+        _ => return Err(Error::FormatError("invalid frame header, encountered reserved value")),
     };
     if codes & 1 == 1 {
-        return Err(reserved_value());
+        return Err(Error::FormatError("invalid frame header, encountered reserved value"));
     }
     Ok((channel_assignment, bits_per_sample))
 }
 
+#[tactic(auto, unfolding(crate::specs::FrameCuts::number_in, claxon_format::specs::Fault::fault_text))]
 fn read_block_time<R: ReadBytes>(input: &mut R, blocking: BlockingStrategy) -> Result<BlockTime>
-    ensures no_memory { IfErr result (λ error. is_memory error ≡ false) }
-    ensures loans { KeepsLoans (R.source input.old) (R.source input.new) }
+    ensures { Gives time_number result (number_in (is_variable blocking)) (bytes_in R.source input.old) (bytes_in R.source input.new) }
 {
     let number = read_var_length_int(input)?;
     match blocking {
@@ -304,49 +258,60 @@ fn read_block_time<R: ReadBytes>(input: &mut R, blocking: BlockingStrategy) -> R
 
 // A number of at most 36 bits in one to seven bytes, as UTF-8 writes characters. Spellings that are longer than needed
 // are accepted.
+#[tactic(auto, unfolding(crate::specs::FrameCuts::coded_at, claxon_format::specs::Fault::fault_text))]
 fn read_var_length_int<R: ReadBytes>(input: &mut R) -> Result<u64>
-    ensures no_memory { IfErr result (λ error. is_memory error ≡ false) }
-    ensures loans { KeepsLoans (R.source input.old) (R.source input.new) }
+    ensures { Gives (λ x. x) result coded_at (bytes_in R.source input.old) (bytes_in R.source input.new) }
 {
-    let first = input.read_u8()?;
-    let ones = (!first).leading_zeros();
+    let first = read_byte(input)?;
+    let ones = first.leading_ones();
     if ones == 0 {
         return Ok(u64::from(first));
     }
     // A byte 10xxxxxx follows a first one, and 11111111 begins no number.
     if ones == 1 || ones == 8 {
-        return Err(bad_number());
+        return Err(Error::FormatError("invalid variable-length integer"));
     }
-    let mut number = u64::from(first & (0x7f >> ones));
-    for _ in 1..ones {
-        let byte = input.read_u8()?;
-        if byte & 0b1100_0000 != 0b1000_0000 {
-            return Err(bad_number());
-        }
-        number = number << 6 | u64::from(byte & 0b0011_1111);
+    read_followers(input, ones - 1, u64::from(first & (0x7f >> ones)))
+}
+
+// So many bytes more of a number, six bits each.
+fn read_followers<R: ReadBytes>(input: &mut R, count: u32, number: u64) -> Result<u64>
+    requires count { count ≤ 6 }
+    requires number { number < 64 }
+    ensures { Gives (λ x. x) result (followed_at count number) (bytes_in R.source input.old) (bytes_in R.source input.new) }
+{
+    let mut number = number;
+    for _ in 0..count {
+        number = number << 6 | u64::from(read_follower(input)?);
     }
     Ok(number)
 }
 
-#[cold]
-#[inline(never)]
-fn bad_number() -> Error
-    ensures { is_memory result ≡ false }
+// Six bits of a number.
+#[inline(always)]
+#[tactic(auto, unfolding(crate::specs::FrameCuts::follower_at, claxon_format::specs::Fault::fault_text))]
+fn read_follower<R: ReadBytes>(input: &mut R) -> Result<u8>
+    ensures fits { IfOk result (λ bits. bits < 64) }
+    ensures gives { Gives (λ x. x) result follower_at (bytes_in R.source input.old) (bytes_in R.source input.new) }
 {
-    Error::FormatError("invalid variable-length integer")
+    let byte = read_byte(input)?;
+    if byte >> 6 != 0b10 {
+        return Err(Error::FormatError("invalid variable-length integer"));
+    }
+    Ok(byte & 0b0011_1111)
 }
 
+#[tactic(auto, unfolding(crate::specs::FrameCuts::sized_at, claxon_format::specs::Fault::fault_text))]
 fn read_block_size<R: ReadBytes>(input: &mut R, size: BlockSize) -> Result<u16>
     requires { 1 ≤ least_size size }
     ensures value { IfOk result (λ n. 1 ≤ n) }
-    ensures no_memory { IfErr result (λ error. is_memory error ≡ false) }
-    ensures loans { KeepsLoans (R.source input.old) (R.source input.new) }
+    ensures gives { Gives (λ x. x) result (sized_at size) (bytes_in R.source input.old) (bytes_in R.source input.new) }
 {
     match size {
         BlockSize::Known(n) => Ok(n),
-        BlockSize::Read8 => Ok(u16::from(input.read_u8()?) + 1),
+        BlockSize::Read8 => Ok(u16::from(read_byte(input)?) + 1),
         BlockSize::Read16 => {
-            let less_one = input.read_be_u16()?;
+            let less_one = read_big_u16(input)?;
             if less_one == 0xffff {
                 return Err(Error::FormatError("invalid block size, exceeds 65535"));
             }
@@ -355,17 +320,17 @@ fn read_block_size<R: ReadBytes>(input: &mut R, size: BlockSize) -> Result<u16>
     }
 }
 
+#[tactic(auto, unfolding(crate::specs::FrameCuts::rated_at))]
 fn skip_rate<R: ReadBytes>(input: &mut R, rate: SampleRate) -> Result<()>
-    ensures no_memory { IfErr result (λ error. is_memory error ≡ false) }
-    ensures loans { KeepsLoans (R.source input.old) (R.source input.new) }
+    ensures { Gives (λ x. tt) result (rated_at rate) (bytes_in R.source input.old) (bytes_in R.source input.new) }
 {
     match rate {
         SampleRate::Known => {}
         SampleRate::Read8 => {
-            input.read_u8()?;
+            read_byte(input)?;
         }
         SampleRate::Read16 => {
-            input.read_be_u16()?;
+            read_big_u16(input)?;
         }
     }
     Ok(())

@@ -20,13 +20,13 @@ returns-in_err-decode g c =
     let n = length-coded_widths c.args.header.now.channel_assignment c.args.header.now.bits_per_sample c.args.header.now.some_channels c.args.header.now.few_channels in
     let p = err_from_is_err_and c.from_residual.result c.from_residual.ensures.1 in
     let lt : c.loop-ch.ch < length (coded_widths c.args.header.now.channel_assignment c.args.header.now.bits_per_sample) = omega (arith, c.channels-ch-end.ensures) in
-    rw (p.1, p.2, ← c.from-size.ensures) (channels_err c.width-width.result lt c.width-width.ensures.value c.loop-ch.invariant c.in_err-decode.ensures.gives)
+    rw (p.1, p.2, ← c.from-size.ensures) (channels_err c.width-width.result lt (sym (c.width-width.ensures.value c.args.header.now.few_channels (omega (arith, c.channels-ch-end.ensures)))) c.loop-ch.invariant c.in_err-decode.ensures.gives)
 
 pub loop-ch-preserved : goal.loop-ch-preserved
 loop-ch-preserved g c =
     let n = length-coded_widths c.args.header.now.channel_assignment c.args.header.now.bits_per_sample c.args.header.now.some_channels c.args.header.now.few_channels in
     let lt : c.loop-ch.ch < length (coded_widths c.args.header.now.channel_assignment c.args.header.now.bits_per_sample) = omega (arith, c.channels-ch-end.ensures) in
-    channels_next c.width-width.result c.decode.new.buffer lt c.width-width.ensures.value c.loop-ch.invariant c.decode.auto.buffer c.in_ok-decode.ensures.gives
+    channels_next c.width-width.result c.decode.new.buffer lt (sym (c.width-width.ensures.value c.args.header.now.few_channels (omega (arith, c.channels-ch-end.ensures)))) c.loop-ch.invariant c.decode.auto.buffer c.in_ok-decode.ensures.gives
 
 pub returns : goal.returns
 returns g c =

@@ -1,4 +1,4 @@
-use Rattle.claxon.proofs.BodyCuts.{body_in_bytes}
+
 use Rattle.std.proofs.Common.{rules}
 use Rattle.claxon.specs.BodyCuts.{subframes_at}
 use Rattle.claxon.proofs.Borders.{gives_through, name_through}

@@ -1,0 +1,15 @@
+use Rattle.std.proofs.Common.{◌≡◌, ℕ, zero, suc, ◌-◌, ◌*◌, ◌%◌, ◌^◌, ◌≤◌, refl, arith}
+use Rattle.claxon.specs.FrameCuts.{size_kind}
+use Rattle.claxon.specs.declared.frame.header.parts.BlockSize.TheVariants.{Known}
+use Rattle.claxon.proofs.frame.header.block_size_of.Goals as goal
+
+small : (code : ℕ) → 2 ≤ code → code ≤ 5 → Known (576 * 2 ^ (code - 2) % 65536) ≡ size_kind code
+small (suc (suc zero)) lo hi = refl
+small (suc (suc (suc zero))) lo hi = refl
+small (suc (suc (suc (suc zero)))) lo hi = refl
+small (suc (suc (suc (suc (suc zero))))) lo hi = refl
+small (suc (suc (suc (suc (suc (suc n)))))) lo hi = absurd (omega arith)
+small _ lo hi = absurd (omega arith)
+
+pub returns-in_default-clause-kind : goal.returns-in_default-clause-kind
+returns-in_default-clause-kind c = small c.args.code (omega arith) (omega arith)

@@ -1,0 +1,28 @@
+use Rattle.std.proofs.Common.{◌≡◌, ap, ◌∙◌}
+use Rattle.std.proofs.lemmas.Result.{err_from_is_err_and}
+use Rattle.claxon_format.specs.Reading.{Done, bind}
+use Rattle.claxon_input.proofs.Went.{StopsWith}
+use Rattle.claxon.specs.Assignment.{is_variable}
+use Rattle.claxon.specs.FrameCuts.{all_fields_at, fields_after, sync_at}
+use Rattle.claxon.proofs.Ends.{exit_or_end, first_stops, after_first, some_ok, some_stops}
+use Rattle.claxon.proofs.FrameCuts.{all_fields_are}
+use Rattle.claxon.proofs.frame.header.read_fields_or_eof.Goals as goal
+
+stops_with : StopsWith sync_at all_fields_at
+stops_with = record {
+  fault = λ s f rest e. all_fields_are s ∙ ap (λ x. bind x fields_after) e;
+  short = λ s e. all_fields_are s ∙ ap (λ x. bind x fields_after) e;
+}
+
+pub returns-in_err-blocking : goal.returns-in_err-blocking
+returns-in_err-blocking g c =
+    exit_or_end 2 _ all_fields_at (err_from_is_err_and c.from_residual.result c.from_residual.ensures.1) (first_stops 2 sync_at all_fields_at stops_with c.in_err-blocking.ensures)
+
+pub returns-in_err-read_fields : goal.returns-in_err-read_fields
+returns-in_err-read_fields g c =
+    exit_or_end 2 _ all_fields_at (err_from_is_err_and c.from_residual-in_err-read_fields.result c.from_residual-in_err-read_fields.ensures.1)
+    (some_stops 2 all_fields_at (fields_after (is_variable c.in-Some.blocking)) (after_first 2 sync_at all_fields_at (fields_after (is_variable c.in-Some.blocking)) (λ s m e. all_fields_are s ∙ ap (λ x. bind x fields_after) e) (rw c.in-Some.is at c.in_ok-blocking.ensures)) c.in_err-read_fields.ensures)
+
+pub returns : goal.returns
+returns g c =
+    some_ok 2 all_fields_at (fields_after (is_variable c.in-Some.blocking)) (after_first 2 sync_at all_fields_at (fields_after (is_variable c.in-Some.blocking)) (λ s m e. all_fields_are s ∙ ap (λ x. bind x fields_after) e) (rw c.in-Some.is at c.in_ok-blocking.ensures)) c.in_ok-read_fields.ensures
