@@ -8,7 +8,8 @@ use Rattle.claxon_format.specs.Frame.{Stream, Block, IsWidth, known_width, block
 use Rattle.claxon_format.specs.FrameWriter.{bytes_of}
 use Rattle.claxon_format.specs.Guards.{gap, crc16}
 use Rattle.claxon_format.specs.Header.{Header, HeaderCode, HeaderFault, header_at}
-use Rattle.claxon_format.specs.Reading.{Reading, Reads, Done, Faulty, Short, bind, and_then, done, each_at}
+use Rattle.claxon_format.specs.Metadata.{big_at}
+use Rattle.claxon_format.specs.Reading.{Reading, Reads, Done, Faulty, Short, bind, and_then, done, each_at, taken, test}
 use Rattle.claxon_format.specs.Readers.{subframe_at}
 use Rattle.claxon_format.specs.Stereo.{widths}
 use Rattle.claxon_format.proofs.Bytes.{bits_of-bytes_of, by_bytes_then, bind_same, length-bits_of}
@@ -17,7 +18,10 @@ use Rattle.claxon_format.proofs.Headers.{Reads-header}
 use Rattle.claxon_format.proofs.Laws.{Reads-map}
 use Rattle.claxon_format.proofs.SealedBytes.{sealed_bytes_at, sealed_in_bytes}
 use Rattle.claxon_format.proofs.WholeBytes.{Whole, in_bits}
-use Rattle.claxon.specs.BodyCuts.{coded_at, subframes_at}
+use Rattle.claxon_input.proofs.Went.{StopsWith, StopsAs}
+use Rattle.claxon.specs.BodyCuts.{coded_at, subframes_at, block_at, unsealed_at, footer_at}
+use Rattle.claxon.specs.FrameCuts.{Start, start_of, start_at}
+use Rattle.claxon.proofs.FrameCuts.{Whole-header}
 
 -- ---- a code whose reader leaves whole bytes of whole bytes has whole bytes
 
@@ -58,3 +62,55 @@ unfolding body_at
 body_in_bytes stream k header s =
     by_bytes_then (Reads-header (known_width stream)) (fills_bytes (Reads-header (known_width stream)) header) (λ h t c. Reads-map (block_of stream h) (Reads-coded (known_width stream) k h t c)) s
     ∙ bind_same (by_bytes (header_at (known_width stream)) s) _ _ (coded_in_bytes stream)
+
+-- ---- the whole frame
+
+-- what is read after it is a function of what is read
+then_map : {X A B C : Type 0} (x : Reading X A) (f : A → B) (g : B → List X → Reading X C) → bind (bind x (λ a. done (f a))) g ≡ bind x (λ a. g (f a))
+then_map (Done a m) f g = refl
+then_map (Faulty e m) f g = refl
+then_map Short f g = refl
+
+unsealed_is : (stream : Option Stream) → IsWidth (known_width stream) → (s : List ℕ) → by_bytes (body_at stream) s ≡ unsealed_at stream s
+unfolding unsealed_at start_at
+unsealed_is stream k s =
+    body_in_bytes stream k (Whole-header (known_width stream)) s
+    ∙ sym (ap (λ x. bind x (λ start. and_then (subframes_at start.size (widths start.channels start.width)) (λ coded. done (block_at start coded)))) (map_by_bytes (start_of stream) (header_at (known_width stream)) s)
+    ∙ then_map (by_bytes (header_at (known_width stream)) s) (start_of stream) (λ start. and_then (subframes_at start.size (widths start.channels start.width)) (λ coded. done (block_at start coded))))
+
+pub frame_is : (stream : Option Stream) → IsWidth (known_width stream) → (s : List ℕ) → frame_bytes_at stream s ≡ sealed_bytes_at 2 crc16 FrameGuard (unsealed_at stream) s
+unfolding frame_at
+frame_is stream k s =
+    sealed_in_bytes 2 crc16 FrameGuard (Reads-body stream k) s
+    ∙ ap (λ x. bind x (λ a m. and_then (big_at 2) (λ n. test (not (eqb n (crc16 (bits_of (taken s m))))) FrameGuard (done a)) m)) (unsealed_is stream k s)
+
+-- where its parts stop, so does the frame
+pub start_stops : (stream : Option Stream) → IsWidth (known_width stream) → StopsWith (start_at stream) (frame_bytes_at stream)
+unfolding unsealed_at
+start_stops stream k = record {
+  fault = λ s f rest e. frame_is stream k s ∙ rw e refl;
+  short = λ s e. frame_is stream k s ∙ rw e refl;
+}
+
+pub channels_stop : (stream : Option Stream) → IsWidth (known_width stream) → (start : Start) (s m : List ℕ) → start_at stream s ≡ Done start m → StopsAs (subframes_at start.size (widths start.channels start.width) m) (frame_bytes_at stream s)
+unfolding unsealed_at
+channels_stop stream k start s m h = record {
+  fault = λ f rest e. frame_is stream k s ∙ rw (h, e) refl;
+  short = λ e. frame_is stream k s ∙ rw (h, e) refl;
+}
+
+test_then : {A : Type 0} (b : Bool) (f : Fault) (a : A) (n : List ℕ) → bind (test b f (done (tt {0})) n) (λ u. done a) ≡ test b f (done a) n
+test_then true f a n = refl
+test_then false f a n = refl
+
+ended : {A : Type 0} (x : Reading ℕ ℕ) (guard : ℕ) (f : Fault) (a : A) → bind (bind x (λ n. test (not (eqb n guard)) f (done (tt {0})))) (λ u. done a) ≡ bind x (λ n. test (not (eqb n guard)) f (done a))
+ended (Done n j) guard f a = test_then (not (eqb n guard)) f a j
+ended (Faulty e j) guard f a = refl
+ended Short guard f a = refl
+
+-- behind the channels stands the guard of the bytes before
+pub footer_is : (stream : Option Stream) → IsWidth (known_width stream) → (start : Start) (coded : List (List ℤ)) (guard : ℕ) (s m rest : List ℕ) → start_at stream s ≡ Done start m → subframes_at start.size (widths start.channels start.width) m ≡ Done coded rest
+    → guard ≡ crc16 (bits_of (taken s rest)) → frame_bytes_at stream s ≡ and_then (footer_at guard) (λ u. done (block_at start coded)) rest
+unfolding unsealed_at footer_at
+footer_is stream k start coded guard s m rest h e same =
+    frame_is stream k s ∙ rw (h, e, ← same) (sym (ended (big_at 2 rest) guard FrameGuard (block_at start coded)))

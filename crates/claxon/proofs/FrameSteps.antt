@@ -1,12 +1,23 @@
 -- What the calls one after another that read a frame did.
-use Rattle.std.proofs.Common.{◌≡◌, ℕ, ◌<◌, ◌⊎◌, inl, inr, Bool, true, false, not, eqb, ltb, List, [], length, refl, sym, ap, subst, ◌∙◌, ℤ}
+use Rattle.std.proofs.Common.{◌≡◌, ℕ, ◌<◌, ◌⊎◌, inl, inr, Bool, true, false, ltb, List, [], length, refl, sym, ap, ◌∙◌, ℤ}
 use Rattle.std.specs.Prelude.{Result, Ok, Err, Option, None, Some}
+use Rattle.claxon_format.specs.Frame as Format
+use Rattle.claxon_format.specs.Reading.{Reading, Done, Faulty, Short, bind, done}
+use Rattle.claxon_format.specs.Stereo.{widths}
 use Rattle.claxon_input.specs.declared.error.Error.{Error}
 use Rattle.claxon_input.specs.declared.error.Error.TheVariants.{IoError, FormatError, Unsupported, OutOfMemory}
-use Rattle.claxon_format.specs.Reading.{Reading, Done, Faulty, Short, bind}
-use Rattle.claxon_input.specs.Stream.{Stream, Went, Stuck, Stops, Gives, Starved, GivesOrStarves}
-use Rattle.claxon_input.proofs.Went.{went_none}
+use Rattle.claxon_input.specs.Remainders.{check16}
+use Rattle.claxon_input.specs.Source.{Source, with_check}
+use Rattle.claxon_input.specs.Stream.{Stream, Went, Stops, Starved, GivesOrStarves}
+use Rattle.claxon_input.proofs.Guarded.{remainder_16}
+use Rattle.claxon_input.proofs.Streams.{bytes_of_source}
+use Rattle.claxon_input.proofs.Went.{went_none, went_map, went_both, stops_as}
+use Rattle.claxon.specs.BodyCuts.{block_at, subframes_at, footer_at}
+use Rattle.claxon.specs.Ends.{or_end}
 use Rattle.claxon.specs.Errors.{is_memory}
+use Rattle.claxon.specs.FrameCuts.{Start, start_at}
+use Rattle.claxon.proofs.BodyCuts.{start_stops, channels_stop, footer_is}
+use Rattle.claxon.proofs.Ends.{found, first_stops, some_read}
 
 -- want of memory before anything was done
 pub refused_at_once : {X A Y : Type 0} (view : A → Y) {r : Result A Error} (read : List X → Reading X Y) (a : Stream X) {e : Error} → (y : Error) × (r ≡ Err y) × (y ≡ e) → is_memory e ≡ true → GivesOrStarves view r read a a
@@ -17,3 +28,68 @@ refused_at_once view read a {e} p m = rw (p.1, p.2) (go e m)
     go (IoError cause) m = absurd cc
     go (FormatError text) m = absurd cc
     go (Unsupported text) m = absurd cc
+
+-- ---- a frame through a remainder that begins with it
+
+-- the bytes of a source that keeps a remainder
+abbrev pub kept : ℕ → Source ℕ → Stream ℕ
+kept guard s = bytes_of_source (with_check (check16 guard) s)
+
+or_found : {X A : Type 0} (k : ℕ) (read : List X → Reading X A) (s : List X) (x : Reading X A) → ltb (length s) k ≡ false → read s ≡ x → or_end k read s ≡ found x
+or_found k read s x t e = rw (t, e) refl
+
+module _ (stream : Option Format.Stream) (width : Format.IsWidth (Format.known_width stream)) where
+  -- the header stops
+  pub header_stops : {e : Error} {a b : Stream ℕ} → Stops e (or_end 2 (start_at stream)) a b → Stops e (or_end 2 (Format.frame_bytes_at stream)) a b
+  header_stops h = first_stops 2 (start_at stream) (Format.frame_bytes_at stream) (start_stops stream width) h
+
+  -- or its channels do
+  pub channels_stopped : {e : Error} {start : Start} {a b c : Stream ℕ} → Went a b (λ s m. or_end 2 (start_at stream) s ≡ Done (Some start) m) → Stops e (subframes_at start.size (widths start.channels start.width)) b c
+      → Stops e (or_end 2 (Format.frame_bytes_at stream)) a c
+  channels_stopped {start = start} {a = a} {b = b} h k = stops_as (went_map _ h (λ p.
+      let q = some_read 2 (start_at stream) a.coming start b.coming p in
+      let w = channels_stop stream width start a.coming b.coming q.1 in
+      record {
+        fault = λ f rest e. or_found 2 (Format.frame_bytes_at stream) a.coming (Faulty f rest) q.0 (w.fault f rest e);
+        short = λ e. or_found 2 (Format.frame_bytes_at stream) a.coming Short q.0 (w.short e);
+      })) k
+
+  -- what stands before the guard, and the remainder of it
+  record Unguarded (start : Start) (coded : List (List ℤ)) (guard : ℕ) (s rest : List ℕ) : Type 0 where
+    enough : ltb (length s) 2 ≡ false
+    guarded : Format.frame_bytes_at stream s ≡ bind (footer_at guard rest) (λ u. done (block_at start coded))
+
+  unguarded : (start : Start) (coded : List (List ℤ)) (guard : ℕ) (s t : Source ℕ) {b : Stream ℕ} → guard < 65536 → Went (kept 0 s) b (λ s m. or_end 2 (start_at stream) s ≡ Done (Some start) m)
+      → Went b (kept guard t) (λ s m. subframes_at start.size (widths start.channels start.width) s ≡ Done coded m) → Went (kept 0 s) (kept guard t) (Unguarded start coded guard)
+  unguarded start coded guard s t {b = b} small h k =
+      let all = went_both (λ s m. Unit {0}) h k (λ p q. tt) in
+      record {
+        errors = all.errors;
+        empties = all.empties;
+        loans = all.loans;
+        known = λ told.
+            let x = h.known told in
+            let y = k.known x.told in
+            let z = all.known told in
+            let q = some_read 2 (start_at stream) (kept 0 s).coming start b.coming x.is in
+            record {
+              told = z.told;
+              is = record { enough = q.0; guarded = footer_is stream width start coded guard (kept 0 s).coming b.coming (kept guard t).coming q.1 y.is (remainder_16 s t guard small all told) };
+              rest = z.rest;
+              checks = z.checks;
+            };
+      }
+
+  -- the guard isn't right, or doesn't come
+  pub footer_stops : {e : Error} (start : Start) (coded : List (List ℤ)) (guard : ℕ) (s t : Source ℕ) {b c : Stream ℕ} → guard < 65536 → Went (kept 0 s) b (λ s m. or_end 2 (start_at stream) s ≡ Done (Some start) m)
+      → Went b (kept guard t) (λ s m. subframes_at start.size (widths start.channels start.width) s ≡ Done coded m) → Stops e (footer_at guard) (kept guard t) c → Stops e (or_end 2 (Format.frame_bytes_at stream)) (kept 0 s) c
+  footer_stops start coded guard s t small h k e = stops_as (went_map _ (unguarded start coded guard s t small h k) (λ p. record {
+    fault = λ f rest q. or_found 2 (Format.frame_bytes_at stream) (kept 0 s).coming (Faulty f rest) p.enough (p.guarded ∙ rw q refl);
+    short = λ q. or_found 2 (Format.frame_bytes_at stream) (kept 0 s).coming Short p.enough (p.guarded ∙ rw q refl);
+  })) e
+
+  pub frame_went : (start : Start) (coded : List (List ℤ)) (guard : ℕ) (s t : Source ℕ) {b c : Stream ℕ} → guard < 65536 → Went (kept 0 s) b (λ s m. or_end 2 (start_at stream) s ≡ Done (Some start) m)
+      → Went b (kept guard t) (λ s m. subframes_at start.size (widths start.channels start.width) s ≡ Done coded m) → Went (kept guard t) c (λ s m. footer_at guard s ≡ Done tt m)
+      → Went (kept 0 s) c (λ s m. or_end 2 (Format.frame_bytes_at stream) s ≡ Done (Some (block_at start coded)) m)
+  frame_went start coded guard s t {c = c} small h k f =
+      went_both _ (unguarded start coded guard s t small h k) f (λ p q. or_found 2 (Format.frame_bytes_at stream) (kept 0 s).coming (Done (block_at start coded) c.coming) p.enough (p.guarded ∙ rw q refl))
