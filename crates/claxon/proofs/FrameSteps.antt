@@ -1,7 +1,9 @@
 -- What the calls one after another that read a frame did.
-use Rattle.std.proofs.Common.{◌≡◌, ℕ, ◌<◌, ◌⊎◌, inl, inr, Bool, true, false, ltb, List, [], length, refl, sym, ap, ◌∙◌, ℤ}
+use Rattle.std.proofs.lemmas.Bool.{lt-ltb}
+use Rattle.std.proofs.Common.{◌≡◌, ℕ, ◌+◌, ◌-◌, ◌*◌, ◌≤◌, arith, ◌<◌, ◌⊎◌, inl, inr, Bool, true, false, ltb, List, [], length, refl, sym, ap, subst, ◌∙◌, ℤ}
 use Rattle.std.specs.Prelude.{Result, Ok, Err, Option, None, Some}
 use Rattle.claxon_format.specs.Frame as Format
+use Rattle.claxon_format.specs.FrameWriter.{count_of}
 use Rattle.claxon_format.specs.Reading.{Reading, Done, Faulty, Short, bind, done}
 use Rattle.claxon_format.specs.Stereo.{widths}
 use Rattle.claxon_input.specs.declared.error.Error.{Error}
@@ -11,13 +13,18 @@ use Rattle.claxon_input.specs.Source.{Source, with_check}
 use Rattle.claxon_input.specs.Stream.{Stream, Went, Stops, Starved, GivesOrStarves}
 use Rattle.claxon_input.proofs.Guarded.{remainder_16}
 use Rattle.claxon_input.proofs.Streams.{bytes_of_source}
-use Rattle.claxon_input.proofs.Went.{went_none, went_map, went_both, stops_as}
+use Rattle.claxon_input.proofs.Went.{went_none, went_map, went_both, stops_as, fed, starved_after}
 use Rattle.claxon.specs.BodyCuts.{block_at, subframes_at, footer_at}
-use Rattle.claxon.specs.Ends.{or_end}
+use Rattle.claxon.specs.Ends.{or_end, GivesOrEndsOrStarves}
 use Rattle.claxon.specs.Errors.{is_memory}
-use Rattle.claxon.specs.FrameCuts.{Start, start_at}
+use Rattle.claxon.specs.FrameCuts.{Start, start_at, shape_view}
+use Rattle.claxon.specs.Frames.{NoRoom}
+use Rattle.claxon.specs.Assignment.{channels_of, channel_code}
+use Rattle.claxon.specs.declared.frame.header.parts.ChannelAssignment.{ChannelAssignment}
+use Rattle.claxon.specs.declared.frame.header.parts.ChannelAssignment.TheVariants.{Independent, LeftSideStereo, RightSideStereo, MidSideStereo}
+use Rattle.claxon.specs.declared.frame.header.parts.StreamShape.{StreamShape}
 use Rattle.claxon.proofs.BodyCuts.{start_stops, channels_stop, footer_is}
-use Rattle.claxon.proofs.Ends.{found, first_stops, some_read}
+use Rattle.claxon.proofs.Ends.{found, first_stops, some_read, exit_fed, exit_starved}
 
 -- want of memory before anything was done
 pub refused_at_once : {X A Y : Type 0} (view : A → Y) {r : Result A Error} (read : List X → Reading X Y) (a : Stream X) {e : Error} → (y : Error) × (r ≡ Err y) × (y ≡ e) → is_memory e ≡ true → GivesOrStarves view r read a a
@@ -59,9 +66,9 @@ module _ (stream : Option Format.Stream) (width : Format.IsWidth (Format.known_w
     enough : ltb (length s) 2 ≡ false
     guarded : Format.frame_bytes_at stream s ≡ bind (footer_at guard rest) (λ u. done (block_at start coded))
 
-  unguarded : (start : Start) (coded : List (List ℤ)) (guard : ℕ) (s t : Source ℕ) {b : Stream ℕ} → guard < 65536 → Went (kept 0 s) b (λ s m. or_end 2 (start_at stream) s ≡ Done (Some start) m)
-      → Went b (kept guard t) (λ s m. subframes_at start.size (widths start.channels start.width) s ≡ Done coded m) → Went (kept 0 s) (kept guard t) (Unguarded start coded guard)
-  unguarded start coded guard s t {b = b} small h k =
+  unguarded : (start : Start) (coded : List (List ℤ)) (first guard : ℕ) (s t : Source ℕ) {b : Stream ℕ} → first ≡ 0 → guard < 65536 → Went (kept first s) b (λ s m. or_end 2 (start_at stream) s ≡ Done (Some start) m)
+      → Went b (kept guard t) (λ s m. subframes_at start.size (widths start.channels start.width) s ≡ Done coded m) → Went (kept first s) (kept guard t) (Unguarded start coded guard)
+  unguarded start coded first guard s t {b = b} zero small h k =
       let all = went_both (λ s m. Unit {0}) h k (λ p q. tt) in
       record {
         errors = all.errors;
@@ -71,25 +78,65 @@ module _ (stream : Option Format.Stream) (width : Format.IsWidth (Format.known_w
             let x = h.known told in
             let y = k.known x.told in
             let z = all.known told in
-            let q = some_read 2 (start_at stream) (kept 0 s).coming start b.coming x.is in
+            let q = some_read 2 (start_at stream) (kept first s).coming start b.coming x.is in
             record {
               told = z.told;
-              is = record { enough = q.0; guarded = footer_is stream width start coded guard (kept 0 s).coming b.coming (kept guard t).coming q.1 y.is (remainder_16 s t guard small all told) };
+              is = record { enough = q.0; guarded = footer_is stream width start coded guard (kept first s).coming b.coming (kept guard t).coming q.1 y.is (remainder_16 s t guard small (subst (λ (n : ℕ). Went (kept n s) (kept guard t) (λ s m. Unit {0})) zero all) told) };
               rest = z.rest;
               checks = z.checks;
             };
       }
 
   -- the guard isn't right, or doesn't come
-  pub footer_stops : {e : Error} (start : Start) (coded : List (List ℤ)) (guard : ℕ) (s t : Source ℕ) {b c : Stream ℕ} → guard < 65536 → Went (kept 0 s) b (λ s m. or_end 2 (start_at stream) s ≡ Done (Some start) m)
-      → Went b (kept guard t) (λ s m. subframes_at start.size (widths start.channels start.width) s ≡ Done coded m) → Stops e (footer_at guard) (kept guard t) c → Stops e (or_end 2 (Format.frame_bytes_at stream)) (kept 0 s) c
-  footer_stops start coded guard s t small h k e = stops_as (went_map _ (unguarded start coded guard s t small h k) (λ p. record {
-    fault = λ f rest q. or_found 2 (Format.frame_bytes_at stream) (kept 0 s).coming (Faulty f rest) p.enough (p.guarded ∙ rw q refl);
-    short = λ q. or_found 2 (Format.frame_bytes_at stream) (kept 0 s).coming Short p.enough (p.guarded ∙ rw q refl);
+  pub footer_stops : {e : Error} (start : Start) (coded : List (List ℤ)) (first guard : ℕ) (s t : Source ℕ) {b c : Stream ℕ} → first ≡ 0 → guard < 65536 → Went (kept first s) b (λ s m. or_end 2 (start_at stream) s ≡ Done (Some start) m)
+      → Went b (kept guard t) (λ s m. subframes_at start.size (widths start.channels start.width) s ≡ Done coded m) → Stops e (footer_at guard) (kept guard t) c → Stops e (or_end 2 (Format.frame_bytes_at stream)) (kept first s) c
+  footer_stops start coded first guard s t zero small h k e = stops_as (went_map _ (unguarded start coded first guard s t zero small h k) (λ p. record {
+    fault = λ f rest q. or_found 2 (Format.frame_bytes_at stream) (kept first s).coming (Faulty f rest) p.enough (p.guarded ∙ rw q refl);
+    short = λ q. or_found 2 (Format.frame_bytes_at stream) (kept first s).coming Short p.enough (p.guarded ∙ rw q refl);
   })) e
 
-  pub frame_went : (start : Start) (coded : List (List ℤ)) (guard : ℕ) (s t : Source ℕ) {b c : Stream ℕ} → guard < 65536 → Went (kept 0 s) b (λ s m. or_end 2 (start_at stream) s ≡ Done (Some start) m)
+  pub frame_went : (start : Start) (coded : List (List ℤ)) (first guard : ℕ) (s t : Source ℕ) {b c : Stream ℕ} → first ≡ 0 → guard < 65536 → Went (kept first s) b (λ s m. or_end 2 (start_at stream) s ≡ Done (Some start) m)
       → Went b (kept guard t) (λ s m. subframes_at start.size (widths start.channels start.width) s ≡ Done coded m) → Went (kept guard t) c (λ s m. footer_at guard s ≡ Done tt m)
-      → Went (kept 0 s) c (λ s m. or_end 2 (Format.frame_bytes_at stream) s ≡ Done (Some (block_at start coded)) m)
-  frame_went start coded guard s t {c = c} small h k f =
-      went_both _ (unguarded start coded guard s t small h k) f (λ p q. or_found 2 (Format.frame_bytes_at stream) (kept 0 s).coming (Done (block_at start coded) c.coming) p.enough (p.guarded ∙ rw q refl))
+      → Went (kept first s) c (λ s m. or_end 2 (Format.frame_bytes_at stream) s ≡ Done (Some (block_at start coded)) m)
+  frame_went start coded first guard s t {c = c} zero small h k f =
+      went_both _ (unguarded start coded first guard s t zero small h k) f (λ p q. or_found 2 (Format.frame_bytes_at stream) (kept first s).coming (Done (block_at start coded) c.coming) p.enough (p.guarded ∙ rw q refl))
+
+-- ---- the width of a stream
+
+pub shape_width : (shape : Option StreamShape) → Format.IsWidth (Format.known_width (shape_view shape))
+shape_width None = tt
+shape_width (Some shape) = (shape.some, shape.most)
+
+-- ---- want of memory
+
+-- there are as many channels as their code says
+pub counted : (assignment : ChannelAssignment) → 1 ≤ channels_of assignment → channels_of assignment ≤ 8 → count_of (channel_code assignment) ≡ channels_of assignment
+counted (Independent n) some few =
+    let b : ltb (n - 1) 8 ≡ true = lt-ltb _ _ (omega arith) in
+    rw b (omega arith)
+counted LeftSideStereo some few = refl
+counted RightSideStereo some few = refl
+counted MidSideStereo some few = refl
+
+is_refused : {A : Type 0} (x : Result A Error) (e : Error) → x ≡ Err e → x ≡ Err OutOfMemory → e ≡ OutOfMemory
+is_refused x e h k = cc
+
+abbrev pub nothing : Unit {0} → List (List ℤ)
+nothing u = []
+
+module _ (stream : Option Format.Stream) (width : Format.IsWidth (Format.known_width stream)) where
+  -- the channels stop, or there is no memory for them
+  pub channels_failed : {A : Type 0} (view : A → Format.Block) {r : Result (Option A) Error} {e : Error} {start : Start} {a b : Stream ℕ} (c : Stream ℕ) → (y : Error) × (r ≡ Err y) × (y ≡ e)
+      → Went a b (λ s m. or_end 2 (start_at stream) s ≡ Done (Some start) m) → GivesOrStarves nothing (Err e) (subframes_at start.size (widths start.channels start.width)) b c → GivesOrEndsOrStarves 2 view r (Format.frame_bytes_at stream) a c
+  channels_failed view {e = e} {start = start} {b = b} c p h k = elim (fed nothing (Err e) (subframes_at start.size (widths start.channels start.width)) b c k) [
+      inl q ↦ exit_starved 2 view (Format.frame_bytes_at stream) (p.0, p.1, p.2 ∙ is_refused (Err e) e refl q.0) (starved_after h q.1)
+    | inr q ↦ exit_fed 2 view (Format.frame_bytes_at stream) p (channels_stopped stream width h q)
+  ]
+
+  -- and then nothing was taken but the header
+  pub no_room : {start : Start} {a b c : Stream ℕ} (room n : ℕ) → Went a b (λ s m. or_end 2 (start_at stream) s ≡ Done (Some start) m) → Went b c (λ s m. s ≡ m) → n ≡ count_of start.channels → room < n * start.size → NoRoom stream room a c
+  no_room {start = start} {a = a} {b = b} {c = c} room n h k e small = record {
+    start = start;
+    header = went_both _ h k (λ p q. subst (λ z. start_at stream a.coming ≡ Done start z) q (some_read 2 (start_at stream) a.coming start b.coming p).1);
+    small = rw (← e) small;
+  }

@@ -196,7 +196,8 @@ fn decode_channels<R: ReadBytes>(
 // The guard of all bytes of the frame.
 #[tactic(auto, unfolding(crate::specs::BodyCuts::footer_at, claxon_format::specs::Fault::fault_text))]
 fn check_footer<R: ReadBytes>(input: &mut Crc16Reader<R>) -> Result<()>
-    ensures { Gives (λ x. tt) result (footer_at (checked_state input.old)) (bytes_in (checked_source R.source check16) input.old) (bytes_in (checked_source R.source check16) input.new) }
+    ensures fits { checked_state input.old < 65536 }
+    ensures gives { Gives (λ x. tt) result (footer_at (checked_state input.old)) (bytes_in (checked_source R.source check16) input.old) (bytes_in (checked_source R.source check16) input.new) }
 {
     let computed = input.crc();
     if read_big_u16(input)? != computed {
