@@ -1,4 +1,5 @@
 pub mod ByteFields
+pub mod Borders
 pub mod Ends
 pub mod EndsPublic
 pub mod Pairs
@@ -7,6 +8,7 @@ pub mod Shifts
 pub mod Escapes
 pub mod Faults
 pub mod Words
+pub mod WordsAhead
 pub mod Signs
 pub mod Parts
 pub mod Cuts

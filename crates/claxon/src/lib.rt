@@ -18,7 +18,7 @@ mod error {
 
 /// Bytes and bits.
 pub mod input {
-    pub use claxon_input::input::{Bitstream, BufferedReader, ReadBytes};
+    pub use claxon_input::input::{Ahead, Bitstream, BufferedReader, ReadBytes};
 }
 
 pub use error::{Error, Result};

@@ -1,12 +1,14 @@
 -- A code of bits with padding and a guard, read in bytes.
-use Rattle.std.proofs.Common.{◌≡◌, ℕ, ◌+◌, ◌-◌, ◌*◌, ◌/◌, ◌%◌, ◌^◌, ◌<◌, ◌≤◌, Bool, not, eqb, List, ◌++◌, length, take, drop, refl, sym, ap, subst, ◌∙◌, append_assoc, arith}
+use Rattle.std.proofs.Common.{◌≡◌, ◌≢◌, ℕ, ◌+◌, ◌-◌, ◌*◌, ◌/◌, ◌%◌, ◌^◌, ◌<◌, ◌≤◌, Bool, true, false, cond, not, eqb, List, ◌++◌, length, take, drop, refl, sym, ap, subst, ◌∙◌, append_assoc, arith}
 use Rattle.std.proofs.lemmas.List.{length-append, length-take, take-append-drop}
+use Rattle.std.proofs.lemmas.Bool.Decides.{nat_tests}
 use Rattle.claxon_format.specs.Bits.{Bits, bits, bits_of, number}
 use Rattle.claxon_format.specs.Fault.{Fault}
 use Rattle.claxon_format.specs.Frame.{by_bytes, whole, left_bytes}
 use Rattle.claxon_format.specs.Guards.{gap, padded_at, sealed_at}
+use Rattle.claxon_format.specs.GuardBytes.{expected_at, sealed_bytes_at}
 use Rattle.claxon_format.specs.Metadata.{big_at}
-use Rattle.claxon_format.specs.Reading.{Reading, Reads, Done, Faulty, Short, bind, and_then, and_with, done, taken, test}
+use Rattle.claxon_format.specs.Reading.{Reading, Reads, Done, Faulty, Short, bind, and_then, done, taken, test}
 use Rattle.claxon_format.specs.Readers.{number_at}
 use Rattle.claxon_format.proofs.Bytes.{bits_of-append, length-bits_of, cut}
 use Rattle.claxon_format.proofs.ByteNumbers.{Whole-number}
@@ -14,9 +16,36 @@ use Rattle.claxon_format.proofs.Sealed.{taken_is}
 use Rattle.claxon_format.proofs.WholeBytes.{Whole-then, Whole-test, Whole-done, whole_again, leaves_later}
 use Rattle.claxon_format.proofs.Numbers.{Reads-number, bits-number, number-lt}
 
--- a guard of w bytes, behind what is read in bytes
-abbrev pub sealed_bytes_at : {A : Type 0} → ℕ → (Bits → ℕ) → Fault → (List ℕ → Reading ℕ A) → List ℕ → Reading ℕ A
-sealed_bytes_at w guard f r = and_with r (λ a x. and_then (big_at w) (λ n. test (not (eqb n (guard (bits_of x)))) f (done a)))
+-- ---- the guard as a call of its own
+
+expected_then : {A : Type 0} (w guard : ℕ) (f : Fault) (y : A) (m : List ℕ) → and_then (big_at w) (λ n. test (not (eqb n guard)) f (done y)) m ≡ bind (expected_at w guard f m) (λ u. done y)
+unfolding expected_at
+expected_then {A = A} w guard f y m = go (big_at w m)
+  where
+    pick : (b : Bool) (rest : List ℕ) → cond b (Faulty f rest) (Done y rest) ≡ bind (cond b (Faulty f rest) (Done (tt {0}) rest)) (λ u. done y)
+    pick true rest = refl
+    pick false rest = refl
+
+    go : (x : Reading ℕ ℕ) → bind x (λ n rest. cond (not (eqb n guard)) (Faulty f rest) (Done y rest)) ≡ bind (bind x (λ n rest. cond (not (eqb n guard)) (Faulty f rest) (Done (tt {0}) rest))) (λ u. done y)
+    go (Done n rest) = pick (not (eqb n guard)) rest
+    go (Faulty g rest) = refl
+    go Short = refl
+
+-- after what is guarded, where its guard is known
+pub sealed_after : {A : Type 0} (w c : ℕ) (guard : Bits → ℕ) (f : Fault) (r : List ℕ → Reading ℕ A) (y : A) (s m : List ℕ) → r s ≡ Done y m → c ≡ guard (bits_of (taken s m)) → sealed_bytes_at w guard f r s ≡ bind (expected_at w c f m) (λ u. done y)
+sealed_after w c guard f r y s m e k = rw e (ap (λ (g : ℕ). and_then (big_at w) (λ n. test (not (eqb n g)) f (done y)) m) (sym k) ∙ expected_then w c f y m)
+
+pub expected_done : (w c n : ℕ) (f : Fault) (s m : List ℕ) → n ≡ c → big_at w s ≡ Done n m → expected_at w c f s ≡ Done tt m
+unfolding expected_at
+expected_done w c n f s m same e = let k : not (eqb n c) ≡ false = grind (arith, nat_tests) in rw (e, k) refl
+
+pub expected_fault : (w c n : ℕ) (f : Fault) (s m : List ℕ) → n ≢ c → big_at w s ≡ Done n m → expected_at w c f s ≡ Faulty f m
+unfolding expected_at
+expected_fault w c n f s m other e = let k : not (eqb n c) ≡ true = grind (arith, nat_tests) in rw (e, k) refl
+
+pub expected_short : (w c : ℕ) (f : Fault) (s : List ℕ) → big_at w s ≡ Short → expected_at w c f s ≡ Short
+unfolding expected_at
+expected_short w c f s e = rw e refl
 
 -- where a code ends inside a byte, the rest of that byte is padding
 record Border (s : List ℕ) (t m : Bits) : Type 0 where

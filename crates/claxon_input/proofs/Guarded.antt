@@ -1,87 +1,29 @@
--- What was read in bits and what was read through a remainder, as what was read in bytes.
-use Rattle.std.specs.Borrow.{GName}
-use Rattle.std.proofs.Common.{◌≡◌, ◌≢◌, ℕ, ◌-◌, ◌/◌, ◌<◌, ◌⊎◌, inl, inr, Bool, true, false, List, [], ◌∷◌, ◌++◌, length, drop, Option, None, Some, refl, sym, ap, subst, ◌∙◌}
+-- What was read through a remainder: the remainder is that of the bytes taken, and a guard is compared with it.
+use Rattle.std.specs.Borrow.{GName, MutBor}
+use Rattle.std.proofs.Common.{◌≡◌, ℕ, ◌<◌, true, List, [], ◌∷◌, ◌++◌, Option, None, Some, refl, subst, sym, ap, ◌∙◌}
 use Rattle.std.specs.Prelude.{Result, Ok, Err}
 use Rattle.claxon_format.specs.Bits.{Bits, bits_of}
 use Rattle.claxon_format.specs.Fault.{Fault}
-use Rattle.claxon_format.specs.Frame.{by_bytes, whole, left_bytes}
 use Rattle.claxon_format.specs.Guards.{crc8, crc16}
-use Rattle.claxon_format.specs.Reading.{Reading, Done, Faulty, Short, taken}
-use Rattle.claxon_format.proofs.Bytes.{bits_of-append, left_again}
+use Rattle.claxon_format.specs.GuardBytes.{expected_at, sealed_bytes_at}
+use Rattle.claxon_format.specs.Reading.{Reading, Done, Short, bind, done, taken}
+use Rattle.claxon_format.proofs.SealedBytes.{sealed_after}
+use Rattle.claxon_format.proofs.Bytes.{bits_of-append}
 use Rattle.claxon_format.proofs.Sealed.{taken_is}
 use Rattle.claxon_input.specs.Source.{Source, through_loan, with_check}
 use Rattle.claxon_input.specs.Remainders.{check8, check16}
-use Rattle.claxon_input.specs.Stream.{Stream, stream_of, bits_after, past, is_told, known, IsRest, Knows, Went, Fails, Stuck, IsFaultOf, IsFault, Stops, Starved, Gives, GivesOrStarves}
+use Rattle.claxon_input.specs.Stream.{Stream, bytes_in, past, is_told, known, IsRest, Went, Stuck, IsFaultOf, Stops, Gives, GivesOrStarves}
+use Rattle.claxon_input.specs.Checked.{checked_source, checked_state, checked_inner}
+use Rattle.claxon_input.specs.declared.crc.CheckedReader.{CheckedReader}
 use Rattle.claxon_input.specs.declared.error.Error.{Error}
 use Rattle.claxon_input.specs.declared.error.Error.TheVariants.{IoError, FormatError, Unsupported, OutOfMemory}
-use Rattle.claxon_input.proofs.Public.{fault_is}
 use Rattle.claxon_input.proofs.Streams.{bytes_of_source, same_function}
-use Rattle.claxon_input.proofs.Remainders.{past_all, bits_8, bits_16}
+use Rattle.claxon_input.proofs.Went.{gives_loans}
+use Rattle.claxon_input.proofs.Remainders.{bits_8, bits_16}
 
 -- the bytes that are to come, where they are known
 abbrev bytes_of_all : Option (List ℕ) → List ℕ
 bytes_of_all = known (λ all. all)
-
--- ---- a `Bitstream` over a reader, from its making to its end: what is left over of the last byte is lost
-
-begun : (p : Option (List ℕ)) → is_told p ≡ true → known (bits_after []) p ≡ bits_of (bytes_of_all p)
-begun None t = absurd cc
-begun (Some all) t = refl
-
-left_whole : (p q : Option (List ℕ)) (left : Bits) → length left < 8 → is_told q ≡ true → IsRest (bytes_of_all p) (bytes_of_all q) → left_bytes (bytes_of_all p) (known (bits_after left) q) ≡ bytes_of_all q
-unfolding IsRest
-left_whole p None left small t r = absurd cc
-left_whole p (Some rest) left small t r = subst (λ (z : List ℕ). left_bytes z (left ++ bits_of rest) ≡ rest) (sym r.1) (left_again r.0 rest left small)
-
-module _ {Y : Type 0} (read : Bits → Reading Bool Y) (a b : Source ℕ) (left : Bits) (small : length left < 8) where
-  -- all is a rest of itself
-  from_all : ((z : List ℕ) → IsRest z (bytes_of_all a.to_come) → IsRest z (bytes_of_all b.to_come)) → IsRest (bytes_of_all a.to_come) (bytes_of_all b.to_come)
-  unfolding IsRest
-  from_all h = h (bytes_of_all a.to_come) ([], refl)
-
-  whole_done : (y : Y) → is_told a.to_come ≡ true → is_told b.to_come ≡ true → IsRest (bytes_of_all a.to_come) (bytes_of_all b.to_come) → read (known (bits_after []) a.to_come) ≡ Done y (known (bits_after left) b.to_come)
-      → by_bytes read (bytes_of_all a.to_come) ≡ Done y (bytes_of_all b.to_come)
-  whole_done y t u r e =
-      ap (λ (s : Bits). whole (bytes_of_all a.to_come) (read s)) (sym (begun a.to_come t)) ∙ ap (whole (bytes_of_all a.to_come)) e
-      ∙ ap (λ (s : List ℕ). Done y s) (left_whole a.to_come b.to_come left small u r)
-
-  whole_fault : (f : Fault) → is_told a.to_come ≡ true → is_told b.to_come ≡ true → IsRest (bytes_of_all a.to_come) (bytes_of_all b.to_come) → read (known (bits_after []) a.to_come) ≡ Faulty f (known (bits_after left) b.to_come)
-      → by_bytes read (bytes_of_all a.to_come) ≡ Faulty f (bytes_of_all b.to_come)
-  whole_fault f t u r e =
-      ap (λ (s : Bits). whole (bytes_of_all a.to_come) (read s)) (sym (begun a.to_come t)) ∙ ap (whole (bytes_of_all a.to_come)) e
-      ∙ ap (λ (s : List ℕ). Faulty f s) (left_whole a.to_come b.to_come left small u r)
-
-  whole_short : is_told a.to_come ≡ true → read (known (bits_after []) a.to_come) ≡ Short → by_bytes read (bytes_of_all a.to_come) ≡ Short
-  whole_short t e = ap (λ (s : Bits). whole (bytes_of_all a.to_come) (read s)) (sym (begun a.to_come t)) ∙ ap (whole (bytes_of_all a.to_come)) e
-
-  went_whole : (y : Y) → Went (stream_of (bits_after []) a) (stream_of (bits_after left) b) (λ s m. read s ≡ Done y m) → Went (bytes_of_source a) (bytes_of_source b) (λ s m. by_bytes read s ≡ Done y m)
-  went_whole y h = record {
-    errors = h.errors;
-    empties = h.empties;
-    loans = h.loans;
-    known = λ t. let x = h.known t in record { told = x.told; is = whole_done y t x.told (from_all x.rest) x.is; rest = x.rest; checks = x.checks };
-  }
-
-  stops_whole : (e : Error) → Stops e read (stream_of (bits_after []) a) (stream_of (bits_after left) b) → Stops e (by_bytes read) (bytes_of_source a) (bytes_of_source b)
-  stops_whole e h = record {
-    stuck = λ i. let w = h.stuck i in record {
-      loans = w.loans;
-      known = λ t. let x = w.known t in record { told = x.told; why = elim x.why [ inl p ↦ inl (whole_short t p) | inr p ↦ inr p ]; rest = x.rest };
-    };
-    fault = λ i. let w = h.fault i in record {
-      errors = w.errors;
-      empties = w.empties;
-      loans = w.loans;
-      known = λ t. let x = w.known t in
-          let p = fault_is e (read (known (bits_after []) a.to_come)) (known (bits_after left) b.to_come) x.is in
-          record { told = x.told; is = rw (whole_fault p.0 t x.told (from_all x.rest) p.2) (p.1, refl); rest = x.rest; checks = x.checks };
-    };
-    named = h.named;
-  }
-
-  pub gives_whole : {A : Type 0} (view : A → Y) (r : Result A Error) → Gives view r read (stream_of (bits_after []) a) (stream_of (bits_after left) b) → Gives view r (by_bytes read) (bytes_of_source a) (bytes_of_source b)
-  gives_whole view (Ok x) h = went_whole (view x) h
-  gives_whole view (Err e) h = stops_whole e h
 
 -- ---- a reader that keeps a remainder
 
@@ -145,9 +87,48 @@ module _ {X : Type 0} (a b : Stream X) (l m : List GName) (f g : List ℕ → Li
 pub same_below : (m n : GName) (xs ys : List GName) → n ∷ ys ≡ m ∷ xs → ys ≡ xs
 same_below m n xs ys e = cc
 
+pub name_below : (m n : GName) (xs ys : List GName) → n ∷ ys ≡ m ∷ xs → m ≡ n
+name_below m n xs ys e = cc
+
 -- a remainder, and those below it
 pub kept_below : (p q : Option (List ℕ)) (f g : List ℕ → ℕ) (u v : List ℕ → List ℕ) → is_told p ≡ true → is_told q ≡ true → past q (λ xs. g xs ∷ v xs) ≡ past p (λ xs. f xs ∷ u xs) → past q v ≡ past p u
 kept_below None q f g u v t k e = absurd cc
 kept_below (Some all) None f g u v t k e = absurd cc
 kept_below (Some all) (Some rest) f g u v t k e =
     same_function (λ more. let o : g (rest ++ more) ∷ v (rest ++ more) ≡ f (all ++ more) ∷ u (all ++ more) = ap (λ (h : List ℕ → List ℕ). h more) e in cc)
+
+-- ---- a guard after what it guards
+
+went_told : {X : Type 0} {a b : Stream X} {P : List X → List X → Type 0} (T : List X → List X → Type 0) → Went a b P → (a.told ≡ true → P a.coming b.coming → T a.coming b.coming) → Went a b T
+went_told T h f = record { errors = h.errors; empties = h.empties; loans = h.loans; known = λ t. let x = h.known t in record { told = x.told; is = f t x.is; rest = x.rest; checks = x.checks } }
+
+-- what was read is sealed by c, where this is its guard: a number that is to be c is still to be read
+pub went_sealed : {A : Type 0} (w c : ℕ) (guard : Bits → ℕ) (f : Fault) (r : List ℕ → Reading ℕ A) (y : A) (a m : Stream ℕ) → Went a m (λ s k. r s ≡ Done y k) → (a.told ≡ true → c ≡ guard (bits_of (taken a.coming m.coming)))
+    → Went a m (λ s k. sealed_bytes_at w guard f r s ≡ bind (expected_at w c f k) (λ u. done y))
+went_sealed w c guard f r y a m h k = went_told _ h (λ t p. sealed_after w c guard f r y a.coming m.coming p (k t))
+
+-- ---- a reader of remainders over a reference
+
+-- the source behind a reference
+abbrev pub behind : {R : Type 0} → (R → Source ℕ) → MutBor R → Source ℕ
+behind source r = through_loan r.ghost_name (source r.now)
+
+module _ {R S A Y : Type 0} (source : R → Source ℕ) (check : S → List ℕ → ℕ) (x : R) (j : GName) (f : List ℕ → ℕ) (b c : CheckedReader (MutBor R) S) (view : A → Y) (r : Result A Error) (read : List ℕ → Reading ℕ Y)
+    (made : checked_source (behind source) check b ≡ with_check f (through_loan j (source x))) where
+  -- what it gave is given by what the reference reaches
+  pub gives_checked : Gives view r read (bytes_in (checked_source (behind source) check) b) (bytes_in (checked_source (behind source) check) c) → Gives view r read (bytes_in source x) (bytes_in source (checked_inner c).now)
+  unfolding bytes_in
+  gives_checked h =
+      let y = source (checked_inner c).now in
+      gives_below (bytes_of_source (source x)) (bytes_of_source y) (j ∷ (source x).loans) ((checked_inner c).ghost_name ∷ y.loans)
+      (past (source x).to_come (λ xs. f xs ∷ (source x).checks xs)) (past y.to_come (λ xs. check (checked_state c) xs ∷ y.checks xs)) (same_below j (checked_inner c).ghost_name (source x).loans y.loans)
+      (λ t u. kept_below (source x).to_come y.to_come f (check (checked_state c)) (source x).checks y.checks t u) view r read
+      (subst (λ (z : Source ℕ). Gives view r read (bytes_of_source z) (bytes_of_source (with_check (check (checked_state c)) (through_loan (checked_inner c).ghost_name y)))) made h)
+
+  -- and the reference is still the same
+  pub name_checked : Gives view r read (bytes_in (checked_source (behind source) check) b) (bytes_in (checked_source (behind source) check) c) → j ≡ (checked_inner c).ghost_name
+  unfolding bytes_in
+  name_checked h =
+      let y = source (checked_inner c).now in
+      name_below j (checked_inner c).ghost_name (source x).loans y.loans
+      (gives_loans view r read _ _ (subst (λ (z : Source ℕ). Gives view r read (bytes_of_source z) (bytes_of_source (with_check (check (checked_state c)) (through_loan (checked_inner c).ghost_name y)))) made h))

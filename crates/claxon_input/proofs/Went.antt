@@ -1,12 +1,12 @@
 -- What calls one after another did to a stream.
-use Rattle.std.proofs.Common.{◌≡◌, ◌⊎◌, inl, inr, List, refl, sym, ◌∙◌}
+use Rattle.std.proofs.Common.{◌≡◌, ◌⊎◌, inl, inr, Bool, true, false, List, refl, sym, ◌∙◌}
 use Rattle.std.specs.Prelude.{Result, Ok, Err}
 use Rattle.std.specs.declared.io.Error as io
 use Rattle.claxon_format.specs.Fault.{Fault}
 use Rattle.claxon_format.specs.Reading.{Reading, Done, Faulty, Short}
 use Rattle.claxon_input.specs.declared.error.Error.{Error}
 use Rattle.claxon_input.specs.declared.error.Error.TheVariants.{IoError, FormatError, Unsupported, OutOfMemory}
-use Rattle.claxon_input.specs.Stream.{Stream, Went, Stuck, FailedIn, IsFaultOf, Stops, Gives, Starved, GivesOrStarves}
+use Rattle.claxon_input.specs.Stream.{Stream, Went, Stuck, FailedIn, IsFaultOf, Stops, is_io, Gives, Starved, GivesOrStarves}
 
 -- nothing was done
 pub went_none : {X : Type 0} (a : Stream X) (P : List X → List X → Type 0) → P a.coming a.coming → Went a a P
@@ -23,6 +23,13 @@ went_both T h k f = record {
 
 pub went_map : {X : Type 0} {a b : Stream X} {P : List X → List X → Type 0} (T : List X → List X → Type 0) → Went a b P → (P a.coming b.coming → T a.coming b.coming) → Went a b T
 went_map T h f = record { errors = h.errors; empties = h.empties; loans = h.loans; known = λ t. let x = h.known t in record { told = x.told; is = f x.is; rest = x.rest; checks = x.checks } }
+
+-- the same, where what is to come is known
+pub went_told : {X : Type 0} {a b : Stream X} {P : List X → List X → Type 0} (T : List X → List X → Type 0) → Went a b P → (a.told ≡ true → P a.coming b.coming → T a.coming b.coming) → Went a b T
+went_told T h f = record { errors = h.errors; empties = h.empties; loans = h.loans; known = λ t. let x = h.known t in record { told = x.told; is = f t x.is; rest = x.rest; checks = x.checks } }
+
+pub stuck_told : {X : Type 0} {a b : Stream X} {Q : List X → Type 0} (T : List X → Type 0) → Stuck a b Q → (a.told ≡ true → Q a.coming → T a.coming) → Stuck a b T
+stuck_told T h f = record { loans = h.loans; known = λ t. let x = h.known t in record { told = x.told; why = elim x.why [ inl q ↦ inl (f t q) | inr q ↦ inr q ]; rest = x.rest } }
 
 failed_later : {X : Type 0} {a b : Stream X} (c : Stream X) {P : List X → List X → Type 0} → Went a b P → FailedIn b c → FailedIn a c
 failed_later c h (inl e) = inl (λ p. e (p ∙ sym h.errors))
@@ -67,6 +74,20 @@ io_exit view p h = rw (p.1, p.2) (record { stuck = λ i. h; fault = λ i. absurd
 -- by a `?` on a call that gives what reading gives
 pub exit : {X A Y : Type 0} (view : A → Y) {read : List X → Reading X Y} {a c : Stream X} {r : Result A Error} {e : Error} → (y : Error) × (r ≡ Err y) × (y ≡ e) → Stops e read a c → Gives view r read a c
 exit view p h = rw (p.1, p.2) h
+
+-- the loans on the way are kept
+stops_loans : {X Y : Type 0} (e : Error) (read : List X → Reading X Y) (a b : Stream X) (io : Bool) → is_io e ≡ io → Stops e read a b → b.loans ≡ a.loans
+stops_loans e read a b true i k = (k.stuck i).loans
+stops_loans e read a b false i k = (k.fault i).loans
+
+pub gives_loans : {X A Y : Type 0} (view : A → Y) (r : Result A Error) (read : List X → Reading X Y) (a b : Stream X) → Gives view r read a b → b.loans ≡ a.loans
+gives_loans view (Ok x) read a b g = g.loans
+gives_loans view (Err e) read a b g = stops_loans e read a b (is_io e) refl g
+
+-- the same under another reader
+pub gives_same : {X A Y : Type 0} (view : A → Y) (r : Result A Error) (read whole : List X → Reading X Y) (a b : Stream X) → ((s : List X) → whole s ≡ read s) → Gives view r read a b → Gives view r whole a b
+gives_same view (Ok x) read whole a b h g = went_map _ g (λ p. h _ ∙ p)
+gives_same view (Err e) read whole a b h g = stops_after (went_none a (λ s m. whole s ≡ whole m) refl) (record { fault = λ s f rest p. h s ∙ p; short = λ s p. h s ∙ p }) g
 
 -- where x stops, so does y
 pub record StopsAs {X Y Z : Type 0} (x : Reading X Y) (y : Reading X Z) : Type 0 where
