@@ -16,10 +16,11 @@ use Rattle.claxon_format.proofs.Bytes.{bits_of-bytes_of, by_bytes_then, bind_sam
 use Rattle.claxon_format.proofs.Frames.{Reads-coded, Reads-body}
 use Rattle.claxon_format.proofs.Headers.{Reads-header}
 use Rattle.claxon_format.proofs.Laws.{Reads-map}
-use Rattle.claxon_format.proofs.SealedBytes.{sealed_bytes_at, sealed_in_bytes}
+use Rattle.claxon_format.specs.GuardBytes.{expected_at, sealed_bytes_at}
+use Rattle.claxon_format.proofs.SealedBytes.{sealed_after, sealed_in_bytes}
 use Rattle.claxon_format.proofs.WholeBytes.{Whole, in_bits}
 use Rattle.claxon_input.proofs.Went.{StopsWith, StopsAs}
-use Rattle.claxon.specs.BodyCuts.{coded_at, subframes_at, block_at, unsealed_at, footer_at}
+use Rattle.claxon.specs.BodyCuts.{coded_at, subframes_at, block_at, unsealed_at}
 use Rattle.claxon.specs.FrameCuts.{Start, start_of, start_at}
 use Rattle.claxon.proofs.FrameCuts.{Whole-header}
 
@@ -99,18 +100,9 @@ channels_stop stream k start s m h = record {
   short = λ e. frame_is stream k s ∙ rw (h, e) refl;
 }
 
-test_then : {A : Type 0} (b : Bool) (f : Fault) (a : A) (n : List ℕ) → bind (test b f (done (tt {0})) n) (λ u. done a) ≡ test b f (done a) n
-test_then true f a n = refl
-test_then false f a n = refl
-
-ended : {A : Type 0} (x : Reading ℕ ℕ) (guard : ℕ) (f : Fault) (a : A) → bind (bind x (λ n. test (not (eqb n guard)) f (done (tt {0})))) (λ u. done a) ≡ bind x (λ n. test (not (eqb n guard)) f (done a))
-ended (Done n j) guard f a = test_then (not (eqb n guard)) f a j
-ended (Faulty e j) guard f a = refl
-ended Short guard f a = refl
-
 -- behind the channels stands the guard of the bytes before
 pub footer_is : (stream : Option Stream) → IsWidth (known_width stream) → (start : Start) (coded : List (List ℤ)) (guard : ℕ) (s m rest : List ℕ) → start_at stream s ≡ Done start m → subframes_at start.size (widths start.channels start.width) m ≡ Done coded rest
-    → guard ≡ crc16 (bits_of (taken s rest)) → frame_bytes_at stream s ≡ and_then (footer_at guard) (λ u. done (block_at start coded)) rest
-unfolding unsealed_at footer_at
+    → guard ≡ crc16 (bits_of (taken s rest)) → frame_bytes_at stream s ≡ bind (expected_at 2 guard FrameGuard rest) (λ u. done (block_at start coded))
+unfolding unsealed_at
 footer_is stream k start coded guard s m rest h e same =
-    frame_is stream k s ∙ rw (h, e, ← same) (sym (ended (big_at 2 rest) guard FrameGuard (block_at start coded)))
+    frame_is stream k s ∙ sealed_after 2 guard crc16 FrameGuard (unsealed_at stream) (block_at start coded) s rest (rw (h, e) refl) same

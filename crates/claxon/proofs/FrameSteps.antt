@@ -2,7 +2,9 @@
 use Rattle.std.proofs.lemmas.Bool.{lt-ltb}
 use Rattle.std.proofs.Common.{◌≡◌, ℕ, ◌+◌, ◌-◌, ◌*◌, ◌≤◌, arith, ◌<◌, ◌⊎◌, inl, inr, Bool, true, false, ltb, List, [], length, refl, sym, ap, subst, ◌∙◌, ℤ}
 use Rattle.std.specs.Prelude.{Result, Ok, Err, Option, None, Some}
+use Rattle.claxon_format.specs.Fault.{FrameGuard}
 use Rattle.claxon_format.specs.Frame as Format
+use Rattle.claxon_format.specs.GuardBytes.{expected_at}
 use Rattle.claxon_format.specs.FrameWriter.{count_of}
 use Rattle.claxon_format.specs.Reading.{Reading, Done, Faulty, Short, bind, done}
 use Rattle.claxon_format.specs.Stereo.{widths}
@@ -14,7 +16,7 @@ use Rattle.claxon_input.specs.Stream.{Stream, Went, Stops, Starved, GivesOrStarv
 use Rattle.claxon_input.proofs.Guarded.{remainder_16}
 use Rattle.claxon_input.proofs.Streams.{bytes_of_source}
 use Rattle.claxon_input.proofs.Went.{went_none, went_map, went_both, stops_as, fed, starved_after}
-use Rattle.claxon.specs.BodyCuts.{block_at, subframes_at, footer_at}
+use Rattle.claxon.specs.BodyCuts.{block_at, subframes_at}
 use Rattle.claxon.specs.Ends.{or_end, GivesOrEndsOrStarves}
 use Rattle.claxon.specs.Errors.{is_memory}
 use Rattle.claxon.specs.FrameCuts.{Start, start_at, shape_view}
@@ -64,7 +66,7 @@ module _ (stream : Option Format.Stream) (width : Format.IsWidth (Format.known_w
   -- what stands before the guard, and the remainder of it
   record Unguarded (start : Start) (coded : List (List ℤ)) (guard : ℕ) (s rest : List ℕ) : Type 0 where
     enough : ltb (length s) 2 ≡ false
-    guarded : Format.frame_bytes_at stream s ≡ bind (footer_at guard rest) (λ u. done (block_at start coded))
+    guarded : Format.frame_bytes_at stream s ≡ bind (expected_at 2 guard FrameGuard rest) (λ u. done (block_at start coded))
 
   unguarded : (start : Start) (coded : List (List ℤ)) (first guard : ℕ) (s t : Source ℕ) {b : Stream ℕ} → first ≡ 0 → guard < 65536 → Went (kept first s) b (λ s m. or_end 2 (start_at stream) s ≡ Done (Some start) m)
       → Went b (kept guard t) (λ s m. subframes_at start.size (widths start.channels start.width) s ≡ Done coded m) → Went (kept first s) (kept guard t) (Unguarded start coded guard)
@@ -89,14 +91,14 @@ module _ (stream : Option Format.Stream) (width : Format.IsWidth (Format.known_w
 
   -- the guard isn't right, or doesn't come
   pub footer_stops : {e : Error} (start : Start) (coded : List (List ℤ)) (first guard : ℕ) (s t : Source ℕ) {b c : Stream ℕ} → first ≡ 0 → guard < 65536 → Went (kept first s) b (λ s m. or_end 2 (start_at stream) s ≡ Done (Some start) m)
-      → Went b (kept guard t) (λ s m. subframes_at start.size (widths start.channels start.width) s ≡ Done coded m) → Stops e (footer_at guard) (kept guard t) c → Stops e (or_end 2 (Format.frame_bytes_at stream)) (kept first s) c
+      → Went b (kept guard t) (λ s m. subframes_at start.size (widths start.channels start.width) s ≡ Done coded m) → Stops e (expected_at 2 guard FrameGuard) (kept guard t) c → Stops e (or_end 2 (Format.frame_bytes_at stream)) (kept first s) c
   footer_stops start coded first guard s t zero small h k e = stops_as (went_map _ (unguarded start coded first guard s t zero small h k) (λ p. record {
     fault = λ f rest q. or_found 2 (Format.frame_bytes_at stream) (kept first s).coming (Faulty f rest) p.enough (p.guarded ∙ rw q refl);
     short = λ q. or_found 2 (Format.frame_bytes_at stream) (kept first s).coming Short p.enough (p.guarded ∙ rw q refl);
   })) e
 
   pub frame_went : (start : Start) (coded : List (List ℤ)) (first guard : ℕ) (s t : Source ℕ) {b c : Stream ℕ} → first ≡ 0 → guard < 65536 → Went (kept first s) b (λ s m. or_end 2 (start_at stream) s ≡ Done (Some start) m)
-      → Went b (kept guard t) (λ s m. subframes_at start.size (widths start.channels start.width) s ≡ Done coded m) → Went (kept guard t) c (λ s m. footer_at guard s ≡ Done tt m)
+      → Went b (kept guard t) (λ s m. subframes_at start.size (widths start.channels start.width) s ≡ Done coded m) → Went (kept guard t) c (λ s m. expected_at 2 guard FrameGuard s ≡ Done tt m)
       → Went (kept first s) c (λ s m. or_end 2 (Format.frame_bytes_at stream) s ≡ Done (Some (block_at start coded)) m)
   frame_went start coded first guard s t {c = c} zero small h k f =
       went_both _ (unguarded start coded first guard s t zero small h k) f (λ p q. or_found 2 (Format.frame_bytes_at stream) (kept first s).coming (Done (block_at start coded) c.coming) p.enough (p.guarded ∙ rw q refl))

@@ -22,6 +22,8 @@ pub mod CodedChannels
 pub mod Borders
 pub mod BodyCuts
 pub mod FrameSteps
+pub mod Checked
+pub mod CheckedFrames
 pub mod FrameCuts
 pub mod Followers
 pub mod Widths

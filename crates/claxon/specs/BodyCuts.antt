@@ -1,10 +1,8 @@
 -- The reader of a frame, cut into the readers of its parts (RFC 9639, section 9).
-use Rattle.std.specs.Prelude.{ℕ, Bool, not, ◌==◌, List, ℤ, Option}
+use Rattle.std.specs.Prelude.{ℕ, Bool, List, ℤ, Option}
 use Rattle.claxon_format.specs.Bits.{Bits}
-use Rattle.claxon_format.specs.Fault.{FrameGuard}
 use Rattle.claxon_format.specs.Frame.{Stream, Block, by_bytes}
-use Rattle.claxon_format.specs.Metadata.{big_at}
-use Rattle.claxon_format.specs.Reading.{Reading, and_then, done, each_at, test}
+use Rattle.claxon_format.specs.Reading.{Reading, and_then, done, each_at}
 use Rattle.claxon_format.specs.Readers.{subframe_at}
 use Rattle.claxon_format.specs.Stereo.{widths, channels_of}
 use Rattle.claxon.specs.FrameCuts.{Start, start_at}
@@ -24,7 +22,3 @@ block_at start coded = record { time = start.time; channels = channels_of start.
 -- a header and its channels
 unfoldable pub unsealed_at : Option Stream → List ℕ → Reading ℕ Block
 unsealed_at stream = and_then (start_at stream) (λ start. and_then (subframes_at start.size (widths start.channels start.width)) (λ coded. done (block_at start coded)))
-
--- a guard that is to be so much (section 9.3)
-unfoldable pub footer_at : ℕ → List ℕ → Reading ℕ (Unit {0})
-footer_at guard = and_then (big_at 2) (λ n. test (not (n == guard)) FrameGuard (done tt))

@@ -1,11 +1,13 @@
 //! Frames: blocks of samples, one after another.
 ghost use Rattle.std.specs.Prelude.{◌≡◌, ℕ, ◌+◌, ◌*◌, ◌<◌, ◌≤◌, IfOk, IfErr, IfSome, length, vec_len, vec_capacity, true, false};
 ghost use Rattle.claxon.specs.Assignment.{channels_of, coded_widths};
-ghost use Rattle.claxon.specs.BodyCuts.{block_at, coded_at, footer_at, subframes_at};
+ghost use Rattle.claxon.specs.BodyCuts.{block_at, coded_at, subframes_at};
 ghost use Rattle.claxon.specs.Channels.{chunks, duration_of};
 ghost use Rattle.claxon.specs.Errors.{is_memory};
 ghost use Rattle.claxon.specs.Loans.{KeepsLoans};
+ghost use Rattle.claxon_format.specs.Fault.{FrameGuard};
 ghost use Rattle.claxon_format.specs.Frame.{frame_bytes_at};
+ghost use Rattle.claxon_format.specs.GuardBytes.{expected_at};
 ghost use Rattle.claxon_input.specs.Checked.{checked_source, checked_state};
 ghost use Rattle.claxon_input.specs.Remainders.{check16};
 ghost use Rattle.claxon_input.specs.Stream.{bytes_in, stream, Gives, GivesOrStarves, Went};
@@ -92,6 +94,19 @@ impl<R: ReadBytes> FrameReader<R> {
         let FrameReader { input, stream: _ } = self;
         input
     }
+}
+
+// Reads a frame, or meets the end.
+fn read_next<R: ReadBytes, A: Allocator>(
+    input: &mut R,
+    stream: Option<StreamShape>,
+    buffer: Vec<i32, A>,
+) -> FrameResult<A>
+    ensures gives { GivesOrEndsOrStarves 2 block_view result (frame_bytes_at (shape_view stream)) (bytes_in R.source input.old) (bytes_in R.source input.new) }
+    ensures room { IfErr result (λ error. is_memory error ≡ true → NoRoom (shape_view stream) (vec_capacity buffer) (bytes_in R.source input.old) (bytes_in R.source input.new)) }
+{
+    let mut input = Crc16Reader::new(input);
+    read_frame_or_eof(&mut input, stream, buffer)
 }
 
 // Reads a frame through a remainder that begins with it.
@@ -194,10 +209,10 @@ fn decode_channels<R: ReadBytes>(
 }
 
 // The guard of all bytes of the frame.
-#[tactic(auto, unfolding(crate::specs::BodyCuts::footer_at, claxon_format::specs::Fault::fault_text))]
+#[tactic(auto, unfolding(claxon_format::specs::GuardBytes::expected_at, claxon_format::specs::Fault::fault_text))]
 fn check_footer<R: ReadBytes>(input: &mut Crc16Reader<R>) -> Result<()>
     ensures fits { checked_state input.old < 65536 }
-    ensures gives { Gives (λ x. tt) result (footer_at (checked_state input.old)) (bytes_in (checked_source R.source check16) input.old) (bytes_in (checked_source R.source check16) input.new) }
+    ensures gives { Gives (λ x. tt) result (expected_at 2 (checked_state input.old) FrameGuard) (bytes_in (checked_source R.source check16) input.old) (bytes_in (checked_source R.source check16) input.new) }
 {
     let computed = input.crc();
     if read_big_u16(input)? != computed {
