@@ -21,7 +21,7 @@ use Rattle.claxon.proofs.Faults.{stops_fault}
 -- ---- the calls of a reader of bytes
 
 -- the field is read where enough is left
-enough : {X A : Type 0} (k : ℕ) (read : List X → Reading X A) (s : List X) → ltb (length s) k ≡ false → or_end k read s ≡ bind (read s) (λ a. done (Some a))
+pub enough : {X A : Type 0} (k : ℕ) (read : List X → Reading X A) (s : List X) → ltb (length s) k ≡ false → or_end k read s ≡ bind (read s) (λ a. done (Some a))
 enough k read s t = rw t refl
 
 big_enough : (k : ℕ) (s m : List ℕ) (n : ℕ) → big_at k s ≡ Done n m → ltb (length s) k ≡ false

@@ -1,5 +1,5 @@
 -- A loop that reads the bytes behind the first one of a coded number.
-use Rattle.std.proofs.Common.{◌≡◌, ◌≢◌, ℕ, zero, suc, ◌+◌, ◌-◌, ◌*◌, ◌/◌, ◌%◌, ◌^◌, ◌<◌, ◌≤◌, ◌⊎◌, inl, inr, Bool, true, false, not, cond, ◌&&◌, ◌||◌, eqb, ltb, bit_and, bit_or, List, refl, sym, ap, ◌∙◌, arith}
+use Rattle.std.proofs.Common.{◌≡◌, ◌≢◌, ℕ, zero, suc, ◌+◌, ◌-◌, ◌*◌, ◌/◌, ◌%◌, ◌^◌, ◌<◌, ◌≤◌, ◌⊎◌, inl, inr, Bool, true, false, not, cond, ◌&&◌, ◌||◌, eqb, ltb, bit_and, bit_or, List, refl, ap, ◌∙◌, arith}
 use Rattle.std.specs.Int.{w8, leading_ones}
 use lib.Count.{count_leading_zeros}
 use Rattle.std.proofs.lemmas.Bool.{eqb-true, eqb-false, ne_eqb, ltb-true}
@@ -11,7 +11,7 @@ use Rattle.claxon_format.specs.Metadata.{big_at}
 use Rattle.claxon_format.specs.Reading.{Done, Faulty, bind}
 use Rattle.claxon_input.specs.declared.error.Error.{Error}
 use Rattle.claxon_input.specs.Stream.{Stream, Went, Stops}
-use Rattle.claxon_input.proofs.Went.{went_both, went_map, went_none, stops_after, StopsWith}
+use Rattle.claxon_input.proofs.Went.{went_both, went_map, went_none, stops_after}
 use Rattle.claxon.specs.FrameCuts.{coded_at, followed_at, follower_at}
 
 -- i of them were read, and the number so far is y

@@ -1,20 +1,21 @@
 -- The reader of a frame's header is the composition of its parts.
-use Rattle.std.proofs.Common.{◌≡◌, ℕ, zero, suc, ◌+◌, ◌-◌, ◌*◌, ◌/◌, ◌%◌, Bool, true, false, not, cond, eqb, ltb, List, Option, length, arith, refl, sym, ap, ◌∙◌}
+use Rattle.std.proofs.Common.{◌≡◌, ℕ, zero, suc, ◌+◌, ◌*◌, ◌/◌, ◌%◌, Bool, true, false, not, cond, eqb, ltb, List, Option, length, arith, refl, sym, ap, ◌∙◌}
 use Rattle.std.proofs.lemmas.Bool.{le-ltb}
 use Rattle.claxon_format.specs.Bits.{Bits, bits_of}
 use Rattle.claxon_format.specs.Coded.{bad_first, bad_follower, further, lead, followers_at, spelled_at}
 use Rattle.claxon_format.specs.Fault.{Fault, SyncMissing, ReservedBit, SizeReserved, RateInvalid, ChannelsReserved, WidthReserved, ReservedEnd, NumberFirst, NumberFollower, NumberLarge, SizeLarge, HeaderGuard, WidthUnknown, SideWide}
-use Rattle.claxon_format.specs.Frame.{Stream, by_bytes, known_width}
+use Rattle.claxon_format.specs.Frame.{Stream, known_width}
+use Rattle.claxon_format.specs.GuardBytes.{sealed_bytes_at}
 use Rattle.claxon_format.specs.Guards.{crc8, sealed_at}
-use Rattle.claxon_format.specs.Header.{Fields, fields_at, header_at, header_of, is_too_wide, is_unknown, number_large, rate_bits, size_at, size_of, width_of, width_reserved}
+use Rattle.claxon_format.specs.Header.{Fields, fields_at, header_at, header_of, is_too_wide, is_unknown, number_large, size_at, size_of, width_reserved}
 use Rattle.claxon_format.specs.Metadata.{big_at}
-use Rattle.claxon_format.specs.Reading.{Reading, Done, Faulty, Short, bind, and_then, and_with, done, pick, taken, test}
+use Rattle.claxon_format.specs.Reading.{Reading, Faulty, Short, bind, and_then, done, pick, taken, test}
 use Rattle.claxon_format.specs.Readers.{number_at}
 use Rattle.claxon_format.proofs.ByteNumbers.{Whole-number}
 use Rattle.claxon_format.proofs.WholeBytes.{Whole, whole_is, Whole-then, Whole-test, Whole-done, Whole-pick, Whole-same, Whole-with}
 use Rattle.claxon.specs.declared.frame.header.parts.BlockSize.TheVariants.{Known as KnownSize, Read8 as SizeOf8, Read16 as SizeOf16}
 use Rattle.claxon.specs.declared.frame.header.parts.SampleRate.TheVariants.{Known as NoRate, Read8 as RateOf8, Read16 as RateOf16}
-use Rattle.claxon.specs.FrameCuts.{Start, start_of, start_at, blocking_at, sync_at, size_kind, rate_kind, codes_at, channels_at, follower_at, followed_at, coded_at, number_in, sized_at, rated_at, fields_of, fields_after, guard_at, all_fields_at, guarded_at, width_at}
+use Rattle.claxon.specs.FrameCuts.{Start, start_of, start_at, blocking_at, sync_at, size_kind, rate_kind, codes_at, channels_at, follower_at, followed_at, coded_at, number_in, sized_at, rated_at, fields_of, fields_after, all_fields_at, guarded_at, width_at}
 use Rattle.claxon.proofs.Cuts.{bind_same, bind_bind, cond_same, bind_cond}
 
 -- ---- coded numbers
@@ -107,35 +108,27 @@ all_fields_are s = whole_is Whole-fields s
 
 -- ---- the guard
 
-pub sealed_bytes : List ℕ → Reading ℕ Fields
-sealed_bytes = and_with (and_then sync_at fields_after) (λ f t. and_then (big_at 1) (λ n. test (not (eqb n (crc8 (bits_of t)))) HeaderGuard (done f)))
-
-Whole-sealed : Whole Fields (sealed_at 8 crc8 HeaderGuard fields_at) sealed_bytes
-unfolding sealed_at sealed_bytes
+Whole-sealed : Whole Fields (sealed_at 8 crc8 HeaderGuard fields_at) (sealed_bytes_at 1 crc8 HeaderGuard (and_then sync_at fields_after))
+unfolding sealed_at
 Whole-sealed =
     Whole-with (λ f x. and_then (number_at 8) (λ n. test (not (eqb n (crc8 x))) HeaderGuard (done f))) (λ f t. and_then (big_at 1) (λ n. test (not (eqb n (crc8 (bits_of t)))) HeaderGuard (done f)))
     Whole-fields (λ f t. Whole-then (Whole-number 1) (λ n. Whole-test (not (eqb n (crc8 (bits_of t)))) HeaderGuard (Whole-done f)))
 
--- the guard of what spells the fields, and then these
-guarding : List ℕ → Fields → List ℕ → Reading ℕ Fields
-guarding s f m = and_then (big_at 1) (λ n. test (not (eqb n (crc8 (bits_of (taken s m))))) HeaderGuard (done f)) m
+-- what is read behind the fields
+behind_fields : List ℕ → Fields → List ℕ → Reading ℕ Fields
+behind_fields s f m = and_then (big_at 1) (λ n. test (not (eqb n (crc8 (bits_of (taken s m))))) HeaderGuard (done f)) m
 
-guarded_is : (s : List ℕ) → guarded_at s ≡ bind (all_fields_at s) (guarding s)
-unfolding guarded_at sealed_bytes guarding
-guarded_is s = whole_is Whole-sealed s ∙ ap (λ x. bind x (guarding s)) (sym (all_fields_are s))
-
--- behind the fields stands the guard of the bytes that spell them
-pub guarded_done : (s m : List ℕ) (f : Fields) → all_fields_at s ≡ Done f m → guarded_at s ≡ and_then (guard_at (crc8 (bits_of (taken s m)))) (λ u. done f) m
-unfolding guard_at guarding
-guarded_done s m f e =
-    guarded_is s ∙ ap (λ x. bind x (guarding s)) e
-    ∙ sym (bind_bind (big_at 1 m) _ _ ∙ bind_same (big_at 1 m) _ _ (λ n k. bind_cond (not (eqb n (crc8 (bits_of (taken s m))))) HeaderGuard k _ _))
+pub guarded_is : (s : List ℕ) → guarded_at s ≡ sealed_bytes_at 1 crc8 HeaderGuard all_fields_at s
+unfolding guarded_at behind_fields
+guarded_is s = whole_is Whole-sealed s ∙ ap (λ x. bind x (behind_fields s)) (sym (all_fields_are s))
 
 pub guarded_faulty : (s m : List ℕ) (f : Fault) → all_fields_at s ≡ Faulty f m → guarded_at s ≡ Faulty f m
-guarded_faulty s m f e = guarded_is s ∙ ap (λ x. bind x (guarding s)) e
+unfolding behind_fields
+guarded_faulty s m f e = guarded_is s ∙ ap (λ x. bind x (behind_fields s)) e
 
 pub guarded_short : (s : List ℕ) → all_fields_at s ≡ Short → guarded_at s ≡ Short
-guarded_short s e = guarded_is s ∙ ap (λ x. bind x (guarding s)) e
+unfolding behind_fields
+guarded_short s e = guarded_is s ∙ ap (λ x. bind x (behind_fields s)) e
 
 -- ---- what the fields say
 
@@ -143,7 +136,7 @@ guarded_short s e = guarded_is s ∙ ap (λ x. bind x (guarding s)) e
 abbrev pub start_with : Option Stream → Fields → ℕ → Start
 start_with stream f w = record { time = (start_of stream (header_of (known_width stream) f)).time; size = f.size; channels = f.channels; width = w }
 
-pub Whole-header : (known : Option ℕ) → Whole _ (header_at known) (and_then sealed_bytes (λ f. test (is_unknown known f) WidthUnknown (test (is_too_wide known f) SideWide (done (header_of known f)))))
+pub Whole-header : (known : Option ℕ) → Whole _ (header_at known) (and_then (sealed_bytes_at 1 crc8 HeaderGuard (and_then sync_at fields_after)) (λ f. test (is_unknown known f) WidthUnknown (test (is_too_wide known f) SideWide (done (header_of known f)))))
 unfolding header_at
 Whole-header known = Whole-then Whole-sealed (λ f. Whole-test (is_unknown known f) WidthUnknown (Whole-test (is_too_wide known f) SideWide (Whole-done (header_of known f))))
 
@@ -151,6 +144,6 @@ pub start_is : (stream : Option Stream) (s : List ℕ) → start_at stream s ≡
 unfolding start_at guarded_at width_at
 start_is stream s =
     whole_is (Whole-then (Whole-header (known_width stream)) (λ h. Whole-done (start_of stream h))) s
-    ∙ bind_bind (sealed_bytes s) _ _ ∙ bind_same (sealed_bytes s) _ _ (λ f m. bind_cond (is_unknown (known_width stream) f) WidthUnknown m _ _ ∙ cond_same (is_unknown (known_width stream) f) _ (bind_cond (is_too_wide (known_width stream) f) SideWide m _ _)
+    ∙ bind_bind (sealed_bytes_at 1 crc8 HeaderGuard (and_then sync_at fields_after) s) _ _ ∙ bind_same (sealed_bytes_at 1 crc8 HeaderGuard (and_then sync_at fields_after) s) _ _ (λ f m. bind_cond (is_unknown (known_width stream) f) WidthUnknown m _ _ ∙ cond_same (is_unknown (known_width stream) f) _ (bind_cond (is_too_wide (known_width stream) f) SideWide m _ _)
     ∙ sym (bind_cond (is_unknown (known_width stream) f) WidthUnknown m _ _ ∙ cond_same (is_unknown (known_width stream) f) _ (bind_cond (is_too_wide (known_width stream) f) SideWide m _ _)))
     ∙ ap (λ x. bind x (λ f. and_then (width_at stream f) (λ w. done (start_with stream f w)))) (sym (whole_is Whole-sealed s))

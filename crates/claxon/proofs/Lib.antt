@@ -12,6 +12,11 @@ pub mod WordsAhead
 pub mod Signs
 pub mod Parts
 pub mod Cuts
+pub mod FrameCuts
+pub mod Checked
+pub mod Followers
+pub mod Guarded
+pub mod Widths
 pub mod Scales
 pub mod Restores
 pub mod Wraps
@@ -19,11 +24,6 @@ pub mod Taking
 pub mod Predictors
 pub mod Unmixes
 pub mod CodedChannels
-pub mod Borders
 pub mod BodyCuts
 pub mod FrameSteps
-pub mod Checked
 pub mod CheckedFrames
-pub mod FrameCuts
-pub mod Followers
-pub mod Widths

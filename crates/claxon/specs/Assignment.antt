@@ -1,13 +1,13 @@
 -- What a frame's header says, as the code keeps it (RFC 9639, section 9.1).
-use Rattle.claxon_format.specs.Stereo.{widths}
-use Rattle.std.specs.Prelude.{List, ◌≡◌, ℕ, ◌+◌, ◌-◌, ◌≤◌, Bool, true, false, cond, ◌==◌, Option, Some, None}
+use Rattle.std.specs.Prelude.{◌≡◌, ℕ, ◌+◌, ◌-◌, Bool, true, false, cond, ◌==◌, Option, Some, None}
 use Rattle.claxon_format.specs.Header.{width_of}
+use Rattle.claxon_format.specs.Stereo.{widths}
 use Rattle.claxon.specs.declared.frame.header.parts.BlockingStrategy.{BlockingStrategy}
 use Rattle.claxon.specs.declared.frame.header.parts.BlockingStrategy.TheVariants.{Fixed, Variable}
 use Rattle.claxon.specs.declared.frame.header.parts.BlockTime.{BlockTime}
 use Rattle.claxon.specs.declared.frame.header.parts.BlockTime.TheVariants.{FrameNumber, SampleNumber}
 use Rattle.claxon.specs.declared.frame.header.parts.BlockSize.{BlockSize}
-use Rattle.claxon.specs.declared.frame.header.parts.BlockSize.TheVariants.{Known, Read8, Read16}
+use Rattle.claxon.specs.declared.frame.header.parts.BlockSize.TheVariants.{Known}
 use Rattle.claxon.specs.declared.frame.header.parts.ChannelAssignment.{ChannelAssignment}
 use Rattle.claxon.specs.declared.frame.header.parts.ChannelAssignment.TheVariants.{Independent, LeftSideStereo, RightSideStereo, MidSideStereo}
 

@@ -1,5 +1,5 @@
 -- The reader of a frame's header, cut into readers of its parts, which are whole bytes (RFC 9639, section 9.1).
-use Rattle.std.specs.Prelude.{◌≡◌, ℕ, zero, suc, ◌+◌, ◌-◌, ◌/◌, ◌%◌, ◌*◌, Bool, true, false, cond, not, ◌==◌, nat_lt, List, Option, Some, None}
+use Rattle.std.specs.Prelude.{ℕ, zero, suc, ◌+◌, ◌/◌, ◌%◌, ◌*◌, Bool, cond, not, ◌==◌, nat_lt, List, Option, Some, None}
 use Rattle.claxon_format.specs.Coded.{bad_first, bad_follower, further, lead}
 use Rattle.claxon_format.specs.Fault.{SyncMissing, ReservedBit, SizeReserved, RateInvalid, ChannelsReserved, WidthReserved, ReservedEnd, NumberFirst, NumberFollower, NumberLarge, SizeLarge, HeaderGuard, WidthUnknown, SideWide}
 use Rattle.claxon_format.specs.Frame.{Stream, by_bytes, known_width, time_of}
@@ -89,11 +89,7 @@ unfoldable pub fields_after : Bool → List ℕ → Reading ℕ Fields
 fields_after variable =
     and_then codes_at (λ kinds. and_then channels_at (λ codes. and_then (number_in variable) (λ time. and_then (sized_at kinds.0) (λ size. and_then (rated_at kinds.1) (λ rate. done (fields_of time codes size))))))
 
--- a guard that is to be so much (section 9.1.8)
-unfoldable pub guard_at : ℕ → List ℕ → Reading ℕ (Unit {0})
-guard_at guard = and_then (big_at 1) (λ n. test (not (n == guard)) HeaderGuard (done tt))
-
--- all fields, and with their guard
+-- all fields, and with their guard (section 9.1.8)
 unfoldable pub all_fields_at : List ℕ → Reading ℕ Fields
 all_fields_at = by_bytes fields_at
 
@@ -118,12 +114,7 @@ fields_view h = record {
 abbrev pub start_view : FrameHeader → Start
 start_view h = record { time = h.time; size = h.block_size; channels = channel_code h.channel_assignment; width = h.bits_per_sample }
 
--- the one size of blocks, or else this
-abbrev pub size_or : ℕ → Option ℕ → ℕ
-size_or other None = other
-size_or other (Some size) = size
-
--- a stream whose blocks have the one size, or sizes from 0 to 1 where they vary: only that they differ shows
+-- what is known of the stream
 abbrev pub shape_view : Option StreamShape → Option Stream
 shape_view None = None
-shape_view (Some shape) = Some record { width = shape.bits_per_sample; least_block = size_or 0 shape.block_size; greatest_block = size_or 1 shape.block_size }
+shape_view (Some shape) = Some record { width = shape.bits_per_sample; least_block = shape.min_block_size; greatest_block = shape.max_block_size }

@@ -5,7 +5,9 @@ use Rattle.claxon_format.specs.FrameWriter.{count_of}
 use Rattle.claxon_format.specs.Reading.{Done}
 use Rattle.claxon_input.specs.Stream as Streams
 use Rattle.claxon.specs.Channels.{BlockValue}
-use Rattle.claxon.specs.FrameCuts.{Start, start_at}
+use Rattle.claxon.specs.FrameCuts.{Start, start_at, shape_view}
+use Rattle.claxon.specs.declared.frame.FrameReader.{FrameReader}
+use Rattle.claxon.specs.declared.metadata.StreamInfo.{StreamInfo}
 
 -- a block as the format has it
 abbrev pub block_view : BlockValue → Block
@@ -16,3 +18,11 @@ pub record NoRoom (stream : Option Stream) (room : ℕ) (old new : Streams.Strea
   pub start : Start
   pub header : Streams.Went old new (λ s m. start_at stream s ≡ Done start m)
   pub small : room < count_of start.channels * start.size
+
+-- what a reader of frames knows of its stream
+abbrev pub frame_stream : {R : Type 0} → FrameReader R → Option Stream
+frame_stream reader = shape_view reader.stream
+
+-- what frames need to know of a stream with this streaminfo
+abbrev pub stream_with : StreamInfo → Stream
+stream_with info = record { width = info.bits_per_sample; least_block = info.min_block_size; greatest_block = info.max_block_size }

@@ -42,10 +42,12 @@ pub type FrameResult<A = Global> = Result<Option<Block<A>>>;
 
 impl<R: ReadBytes> FrameReader<R> {
     ghost use Rattle.claxon.specs.Flac.{frame_input};
+    ghost use Rattle.claxon.specs.Frames.{frame_stream, stream_with};
 
     /// A reader that knows nothing of the stream: a header has to name the width of its samples.
     pub fn new(input: R) -> FrameReader<R>
-        ensures { frame_input result ≡ input }
+        ensures input { frame_input result ≡ input }
+        ensures stream { frame_stream result ≡ None }
     {
         FrameReader {
             input,
@@ -57,19 +59,15 @@ impl<R: ReadBytes> FrameReader<R> {
     pub fn with_streaminfo(input: R, info: StreamInfo) -> FrameReader<R>
         requires some { 1 ≤ info.bits_per_sample }
         requires most { info.bits_per_sample ≤ 32 }
-        ensures { frame_input result ≡ input }
+        ensures input { frame_input result ≡ input }
+        ensures stream { frame_stream result ≡ Some (stream_with info) }
     {
-        let is_fixed = info.min_block_size == info.max_block_size;
-        let block_size = if is_fixed {
-            Some(info.min_block_size)
-        } else {
-            None
-        };
         FrameReader {
             input,
             stream: Some(StreamShape {
                 bits_per_sample: info.bits_per_sample,
-                block_size,
+                min_block_size: info.min_block_size,
+                max_block_size: info.max_block_size,
             }),
         }
     }

@@ -1,7 +1,9 @@
 //! The header of a frame (RFC 9639, section 9.1).
 ghost use Rattle.std.specs.Prelude.{◌≡◌, ℕ, ◌+◌, ◌*◌, ◌<◌, ◌≤◌, IfOk, IfErr, false};
 ghost use Rattle.std.specs.Option.{ForSome};
+ghost use Rattle.claxon_format.specs.Fault.{HeaderGuard};
 ghost use Rattle.claxon_format.specs.Frame.{block_step, known_width, time_of};
+ghost use Rattle.claxon_format.specs.GuardBytes.{expected_at};
 ghost use Rattle.claxon_format.specs.Header.{header_of};
 ghost use Rattle.claxon_input.specs.Checked.{checked_source, checked_state};
 ghost use Rattle.claxon_input.specs.Remainders.{check8};
@@ -9,7 +11,7 @@ ghost use Rattle.claxon_input.specs.Stream.{Stream, bytes_in, Gives};
 ghost use Rattle.claxon.specs.Assignment.{HasCode, channel_code, channels_of, is_variable, least_size, time_number, widest, width_code};
 ghost use Rattle.claxon.specs.Ends.{GivesOrEnds};
 ghost use Rattle.claxon.specs.Errors.{is_memory};
-ghost use Rattle.claxon.specs.FrameCuts.{all_fields_at, blocking_at, channels_at, coded_at, codes_at, fields_after, fields_view, followed_at, follower_at, guard_at, guarded_at, number_in, rate_kind, rated_at, shape_view, size_kind, sized_at, start_at, start_view, sync_at, width_at};
+ghost use Rattle.claxon.specs.FrameCuts.{all_fields_at, blocking_at, channels_at, coded_at, codes_at, fields_after, fields_view, followed_at, follower_at, guarded_at, number_in, rate_kind, rated_at, shape_view, size_kind, sized_at, start_at, start_view, sync_at, width_at};
 ghost use Rattle.claxon.specs.Loans.{KeepsLoans};
 
 mod parts;
@@ -62,7 +64,11 @@ fn size_before(block_size: u16, stream: Option<StreamShape>) -> u16
     let Some(shape) = stream else {
         return block_size;
     };
-    shape.block_size.unwrap_or(block_size)
+    if shape.min_block_size == shape.max_block_size {
+        shape.min_block_size
+    } else {
+        block_size
+    }
 }
 
 // The width that the header names, or else that of the stream.
@@ -99,16 +105,15 @@ fn read_checked_fields<R: ReadBytes>(input: &mut Crc8Reader<R>) -> Result<Option
     let Some(fields) = read_fields_or_eof(input)? else {
         return Ok(None);
     };
-    check_guard(input)?;
+    let computed = input.crc();
+    check_guard(input, computed)?;
     Ok(Some(fields))
 }
 
-// The guard of all bytes of the header.
-#[tactic(auto, unfolding(crate::specs::FrameCuts::guard_at, claxon_format::specs::Fault::fault_text))]
-fn check_guard<R: ReadBytes>(input: &mut Crc8Reader<R>) -> Result<()>
-    ensures { Gives (λ x. tt) result (guard_at (checked_state input.old)) (bytes_in (checked_source R.source check8) input.old) (bytes_in (checked_source R.source check8) input.new) }
+#[tactic(auto, unfolding(claxon_format::specs::GuardBytes::expected_at, claxon_format::specs::Fault::fault_text))]
+fn check_guard<R: ReadBytes>(input: &mut R, computed: u8) -> Result<()>
+    ensures { Gives (λ x. tt) result (expected_at 1 computed HeaderGuard) (bytes_in R.source input.old) (bytes_in R.source input.new) }
 {
-    let computed = input.crc();
     if read_byte(input)? != computed {
         return Err(Error::FormatError("frame header CRC mismatch"));
     }

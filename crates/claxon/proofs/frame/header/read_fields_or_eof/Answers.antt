@@ -1,6 +1,6 @@
-use Rattle.std.proofs.Common.{◌≡◌, ap, ◌∙◌}
+use Rattle.std.proofs.Common.{ap, ◌∙◌}
 use Rattle.std.proofs.lemmas.Result.{err_from_is_err_and}
-use Rattle.claxon_format.specs.Reading.{Done, bind}
+use Rattle.claxon_format.specs.Reading.{bind}
 use Rattle.claxon_input.proofs.Went.{StopsWith}
 use Rattle.claxon.specs.Assignment.{is_variable}
 use Rattle.claxon.specs.FrameCuts.{all_fields_at, fields_after, sync_at}

@@ -1,7 +1,7 @@
-use Rattle.std.proofs.Common.{◌≡◌, refl, ap, ◌∙◌}
+use Rattle.std.proofs.Common.{ap}
 use Rattle.std.proofs.lemmas.Result.{err_from_is_err_and}
 use Rattle.claxon_format.specs.Metadata.{big_at}
-use Rattle.claxon_format.specs.Reading.{Done, bind}
+use Rattle.claxon_format.specs.Reading.{bind}
 use Rattle.claxon_input.proofs.Went.{StopsWith}
 use Rattle.claxon.specs.FrameCuts.{blocking_at, sync_at}
 use Rattle.claxon.proofs.Ends.{exit_or_end, first_stops, after_first, some_ok, some_stops}

@@ -1,4 +1,4 @@
-use Rattle.std.proofs.Common.{refl, rules}
+use Rattle.std.proofs.Common.{inl, inr, refl, rules}
 use Rattle.claxon_format.specs.Fault.{NumberFirst, fault_text}
 use Rattle.claxon_input.proofs.Went.{gives_after, went_map}
 use Rattle.claxon.proofs.Faults.{stops_fault}
@@ -12,7 +12,7 @@ returns-then-ones-eq0 g c =
 pub returns-then-ones-eq1 : goal.returns-then-ones-eq1
 unfolding fault_text
 returns-then-ones-eq1 g c =
-    stops_fault NumberFirst refl refl (refl, refl) (went_map _ c.in_ok-first.ensures (λ p. coded_bad c.in_ok-first.first _ _ (bad_byte c.in_ok-first.first c.leading_ones-ones.result (search rules) c.leading_ones-ones.ensures c.then-ones-eq1.either) p))
+    stops_fault NumberFirst refl refl (refl, refl) (went_map _ c.in_ok-first.ensures (λ p. coded_bad c.in_ok-first.first _ _ (bad_byte c.in_ok-first.first c.leading_ones-ones.result (search rules) c.leading_ones-ones.ensures (elim c.then-ones-eq1.either [ inl e ↦ inl e | inr e ↦ inr e.1 ])) p))
 
 pub read_followers-requires-clause-number : goal.read_followers-requires-clause-number
 read_followers-requires-clause-number g c =

@@ -1,10 +1,10 @@
-use Rattle.std.proofs.Common.{◌≡◌, ℕ, ◌+◌, ◌-◌, ◌<◌, ◌≤◌, Bool, true, false, ◌&&◌, List, Option, None, Some, eqb, ltb, not, refl, arith}
+use Rattle.std.proofs.Common.{◌≡◌, ℕ, ◌-◌, ◌<◌, ◌≤◌, Bool, true, false, ◌&&◌, List, Option, None, Some, eqb, ltb, refl, arith}
 use Rattle.std.proofs.lemmas.Bool.{lt-ltb}
 use Rattle.claxon_format.specs.Frame.{Stream, known_width}
 use Rattle.claxon_format.specs.Header.{Fields}
 use Rattle.claxon_format.specs.Reading.{Done}
 use Rattle.claxon_input.proofs.Went.{went_none}
-use Rattle.claxon.specs.Assignment.{HasCode, channels_of, widest, width_code}
+use Rattle.claxon.specs.Assignment.{HasCode, widest, width_code}
 use Rattle.claxon.specs.FrameCuts.{fields_view, shape_view, width_at}
 use Rattle.claxon.specs.declared.frame.header.parts.ChannelAssignment.{ChannelAssignment}
 use Rattle.claxon.specs.declared.frame.header.parts.ChannelAssignment.TheVariants.{Independent, LeftSideStereo, RightSideStereo, MidSideStereo}
