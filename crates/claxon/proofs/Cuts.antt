@@ -1,13 +1,13 @@
 -- The reader of a subframe is the composition of its parts.
-use Rattle.std.proofs.Common.{◌≡◌, ℕ, ◌+◌, ◌-◌, ◌≤◌, Bool, true, false, not, cond, eqb, ltb, List, map, replicate, refl, sym, ap, ◌∙◌, arith}
+use Rattle.std.proofs.Common.{◌≡◌, ℕ, ◌+◌, ◌-◌, ◌≤◌, Bool, true, false, not, cond, eqb, ltb, List, map, replicate, refl, ap, ◌∙◌, arith}
 use Rattle.std.proofs.lemmas.Bool.{lt-ltb, le-ltb}
 use Rattle.std.proofs.lemmas.Bool.Decides.{nat_tests}
 use Rattle.claxon_format.specs.Bits.{Bits}
-use Rattle.claxon_format.specs.Fault.{Fault, SubframeStart, KindReserved, WasteLarge, WasteWhole, PrecisionInvalid, ShiftNegative, MethodReserved}
+use Rattle.claxon_format.specs.Fault.{Fault, SubframeStart, KindReserved, WasteLarge, PrecisionInvalid, ShiftNegative, MethodReserved}
 use Rattle.claxon_format.specs.Reading.{Reading, Done, Faulty, Short, bind, and_then, done, pick, times_at}
 use Rattle.claxon_format.specs.Readers.{bit_at, number_at, signed_at, waste_at, residual_at, fixed_at, linear_at, kind_at, subframe_at}
 use Rattle.claxon_format.specs.Subframe.{reserved, scaled}
-use Rattle.claxon.specs.Cuts.{type_at, few_at, header_at, parameters_at, lpc_at, entries_at, channel_at, method_at, parts_at, taking, taken_at}
+use Rattle.claxon.specs.Cuts.{type_at, few_at, header_at, parameters_at, lpc_at, entries_at, channel_at, method_at, parts_at}
 
 pub bind_same : {X A B : Type 0} (x : Reading X A) (f g : A → List X → Reading X B) → ((a : A) (m : List X) → f a m ≡ g a m) → bind x f ≡ bind x g
 bind_same (Done a m) f g h = h a m
@@ -39,7 +39,7 @@ lpc_is w n order s =
     bind_bind (number_at 4 m) _ _ ∙ bind_same (number_at 4 m) _ _ (λ p k. bind_cond (eqb p 15) PrecisionInvalid k _ _ ∙ cond_same (eqb p 15) _ (
     bind_bind (number_at 5 k) _ _ ∙ bind_same (number_at 5 k) _ _ (λ shift j. bind_cond (ltb 15 shift) ShiftNegative j _ _)))))
 
-entries_are : (w n type : ℕ) (s : Bits) → entries_at w n type s ≡ kind_at w n type s
+pub entries_are : (w n type : ℕ) (s : Bits) → entries_at w n type s ≡ kind_at w n type s
 unfolding kind_at entries_at
 entries_are w n type s =
     pick_same (eqb type 0) (and_then (signed_at w) (λ x. done (replicate n x))) _ _ s (pick_same (eqb type 1) (times_at n (signed_at w)) _ _ s (pick_same (ltb type 13) (fixed_at w n (type - 8)) _ _ s (lpc_is w n (type - 31) s)))
@@ -55,12 +55,6 @@ channel_is w n s =
     bind_bind (number_at 6 m) _ _ ∙ bind_same (number_at 6 m) _ _ (λ type k. bind_cond (reserved type) KindReserved k _ _ ∙ cond_same (reserved type) _ (
     bind_bind (bind (waste_at k) _) _ _ ∙ bind_bind (waste_at k) _ _ ∙ bind_same (waste_at k) _ _ (λ z j. bind_cond (ltb 31 z) WasteLarge j _ _ ∙ cond_same (ltb 31 z) _ (
     cond_same (not (ltb z w)) _ (ap (λ x. bind x (λ u. done (map (scaled z) u))) (entries_are (w - z) n type j))))))))
-
-pub taken_is : (w n : ℕ) (s : Bits) → taken_at w n s ≡ taking (subframe_at w n) s
-unfolding taken_at channel_at
-taken_is w n s =
-    sym (bind_bind (header_at s) _ _ ∙ bind_same (header_at s) _ _ (λ h m. bind_cond (not (ltb h.waste w)) WasteWhole m _ _ ∙ cond_same (not (ltb h.waste w)) _ (bind_bind (entries_at (w - h.waste) n h.type m) _ _)))
-    ∙ ap (λ x. bind x (λ u. done tt)) (channel_is w n s)
 
 -- ---- the kinds by their numbers
 

@@ -27,3 +27,6 @@ pub mod CodedChannels
 pub mod BodyCuts
 pub mod FrameSteps
 pub mod CheckedFrames
+pub mod Lanes
+pub mod Windows
+pub mod Entries

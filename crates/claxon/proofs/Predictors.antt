@@ -151,11 +151,11 @@ dot_window cs xs i le lt =
     ∙ sym (dot-append (reverse cs) (reverse (drop (i - length cs) (take i xs))) (reverse (take (i - length cs) (take i xs))) (omega (arith, length-reverse cs, length-reverse (drop (i - length cs) (take i xs)))))
     ∙ ap (dot (reverse cs)) (sym split)
 
-floor_is : (z : ℤ) (s : ℕ) → shr_z z (2 ^ s) ≡ floor_shift z s
+pub floor_is : (z : ℤ) (s : ℕ) → shr_z z (2 ^ s) ≡ floor_shift z s
 floor_is (pos n) s = refl
 floor_is (negsuc n) s = refl
 
-shifted_fits : (z : ℤ) (s : ℕ) → FitsSigned w64 z → FitsSigned w64 (shr_z z (2 ^ s))
+pub shifted_fits : (z : ℤ) (s : ℕ) → FitsSigned w64 z → FitsSigned w64 (shr_z z (2 ^ s))
 shifted_fits z s h = record { sfits = omega (arith, h.sfits, mag_shr z (2 ^ s)) }
 
 pub linear_step : (cs xs : List ℤ) (i s : ℕ) (l r d : ℤ) → length cs ≤ i → i ≤ length xs → FitsSigned w64 r → FitsSigned w32 d

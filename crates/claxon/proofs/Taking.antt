@@ -7,13 +7,7 @@ use Rattle.claxon_input.specs.declared.error.Error.{Error}
 use Rattle.claxon_input.specs.declared.error.Error.TheVariants.{IoError, FormatError, Unsupported, OutOfMemory}
 use Rattle.claxon_input.specs.Stream.{Stream, Gives, Stops, is_io}
 use Rattle.claxon_input.proofs.Went.{went_map, went_none, stops_after}
-use Rattle.claxon.specs.Cuts.{taking}
 use Rattle.claxon.specs.Errors.{is_memory}
-
--- what is read doesn't matter
-pub gives_taking : {A Y : Type 0} (view : A → Y) (r : Result A Error) (read : Bits → Reading Bool Y) (a b : Stream Bool) → Gives view r read a b → Gives (λ x. tt) r (taking read) a b
-gives_taking view (Ok x) read a b g = went_map _ g (λ p. rw p refl)
-gives_taking view (Err e) read a b g = stops_after (went_none a (λ s m. taking read s ≡ taking read m) refl) (record { fault = λ s f rest p. rw p refl; short = λ s p. rw p refl }) g
 
 -- the same under another reader
 pub gives_same : {A Y : Type 0} (view : A → Y) (r : Result A Error) (read whole : Bits → Reading Bool Y) (a b : Stream Bool) → ((s : Bits) → whole s ≡ read s) → Gives view r read a b → Gives view r whole a b

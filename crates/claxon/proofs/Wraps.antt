@@ -1,7 +1,8 @@
 -- Sums, differences and products modulo a power of two.
-use Rattle.std.proofs.Common.{◌≡◌, ℕ, ◌+◌, ◌-◌, ◌*◌, ◌%◌, ◌^◌, ◌<◌, true, false, ltb, inl, inr, sym, ap, ◌∙◌, arith, ℤ, pos, negsuc, ◌+ℤ◌, ◌-ℤ◌, ◌*ℤ◌, neg_ℤ, to_z, of_z, w32, FitsSigned}
+use Rattle.std.proofs.Common.{◌≡◌, ℕ, ◌+◌, ◌-◌, ◌*◌, ◌%◌, ◌^◌, ◌<◌, true, false, ltb, inl, inr, sym, ap, ◌∙◌, arith, ℤ, pos, ◌+ℤ◌, ◌-ℤ◌, ◌*ℤ◌, neg_ℤ, to_z, of_z, w32, FitsSigned}
 use Rattle.std.specs.Int.{int_wrap}
 use Rattle.std.proofs.lemmas.Int.{ints, to_z-of_z, wrapping_add-bits, wrapping_sub-bits, wrapping_mul-bits, int_wrap-add_left, int_wrap-add_right, int_wrap-sub_right, int_wrap-mul_left, int_wrap-mul_right, int_wrap_fits}
+use Rattle.std.proofs.Math.Facts.{Fits-of_z}
 use Rattle.std.proofs.lemmas.Bool.{cases_lt, lt-ltb, le-ltb}
 use Rattle.std.proofs.lemmas.Nat.{mod_below, pow_pos}
 use Rattle.claxon_format.specs.Predict.{wrap}
@@ -34,14 +35,10 @@ rep_mul {w} {m} {n} {x} {y} p q = record {
       ∙ int_wrap-mul_left w x (int_wrap w y) ∙ int_wrap-mul_right w x y;
 }
 
+pub rep_fits : {w : Width} (x : ℤ) → FitsSigned w x → Rep w (of_z w x) x
+rep_fits {w} x h = record { below = (Fits-of_z h).fits; value = to_z-of_z w x h ∙ sym (int_wrap_fits w x h) }
+
 -- ---- 32 bits
-
-bits_below : (x : ℤ) → FitsSigned w32 x → of_z w32 x < 2 ^ 32
-bits_below (pos n) h = omega (arith, h.sfits)
-bits_below (negsuc n) h = omega (arith, h.sfits)
-
-pub rep_fits : (x : ℤ) → FitsSigned w32 x → Rep w32 (of_z w32 x) x
-rep_fits x h = record { below = bits_below x h; value = to_z-of_z w32 x h ∙ sym (int_wrap_fits w32 x h) }
 
 signed_fits : (n : ℕ) → n < 2 ^ 32 → FitsSigned w32 (to_z w32 n)
 signed_fits n lt =

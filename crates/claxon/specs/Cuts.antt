@@ -56,10 +56,3 @@ method_at = and_then (number_at 2) (λ method. test (nat_lt 1 method) MethodRese
 -- the partitions of n entries but the first ones, as many as order
 unfoldable pub parts_at : ℕ → ℕ → ℕ → Bits → Reading Bool (List ℤ)
 parts_at n order method = and_then (number_at 4) (λ p. test (nat_lt 0 (n % 2 ^ p)) PartitionOrder (test (nat_lt (n / 2 ^ p) order) PartitionShort (joined_at (partition_at method) (partition_lengths n order p))))
-
--- what a reader takes, whatever it reads there
-abbrev pub taking : {A : Type 0} → (Bits → Reading Bool A) → Bits → Reading Bool (Unit {0})
-taking r = and_then r (λ u. done tt)
-
-unfoldable pub taken_at : ℕ → ℕ → Bits → Reading Bool (Unit {0})
-taken_at w n = and_then header_at (λ h. test (not (nat_lt h.waste w)) WasteWhole (taking (entries_at (w - h.waste) n h.type)))

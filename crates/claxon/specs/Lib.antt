@@ -16,3 +16,4 @@ pub mod Tags
 pub mod BlockReader
 pub mod Blocks
 pub mod Flac
+pub mod Lanes

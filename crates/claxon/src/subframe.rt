@@ -3,12 +3,13 @@ ghost use Rattle.std.specs.Prelude.{◌≡◌, ℕ, ◌+◌, ◌-◌, ◌*◌, �
 ghost use Rattle.std.specs.Result.{IsErrAnd};
 ghost use Rattle.claxon_format.specs.Bits.{Bits, FitsIn, residue, twos, unfold_at};
 ghost use Rattle.claxon_format.specs.Fault.{Fault};
+ghost use Rattle.claxon_format.specs.Laws.{IsTold};
 ghost use Rattle.claxon_format.specs.Reading.{and_then, done, times_at};
 ghost use Rattle.claxon_format.specs.Readers.{signed_at, word_at, partition_at, residual_at, fixed_at, subframe_at};
 ghost use Rattle.claxon_format.specs.Subframe.{Subframe, SubframeFault, scaled};
 ghost use Rattle.claxon_input.specs.BitSource.{bit_state};
 ghost use Rattle.claxon_input.specs.Stream.{stream, Gives, Took, Honestly, IsFault, IsIo};
-ghost use Rattle.claxon.specs.Cuts.{type_at, few_at, header_at, parameters_at, lpc_at, entries_at, taking, taken_at, escaped_at, joined_at, method_at};
+ghost use Rattle.claxon.specs.Cuts.{type_at, few_at, header_at, parameters_at, lpc_at, entries_at, channel_at, escaped_at, joined_at, method_at};
 ghost use Rattle.claxon.specs.Errors.{is_memory};
 ghost use Rattle.claxon.specs.Loans.{KeepsBitLoans};
 ghost use Rattle.claxon.specs.Kinds.{fixed_order, lpc_order, type_number, header_with, parameters_of, method_of};
@@ -21,7 +22,7 @@ mod words;
 
 use crate::error::{Error, Result};
 use crate::input::{Bitstream, ReadBytes};
-use predictor::{predict_fixed, predict_lpc_high_order, predict_lpc_low_order};
+use predictor::{predict_fixed, predict_lpc};
 use words::read_words;
 
 /// How the samples of a subframe are written.
@@ -128,11 +129,13 @@ fn rice_to_signed(val: u32) -> i32
 pub fn decode<R: ReadBytes>(input: &mut Bitstream<R>, bps: u32, buffer: &mut [i32]) -> Result<()>
     requires width { bps ≤ 32 }
     requires block { length buffer.old < 65536 }
-    // What was read is a subframe, and it alone was taken.
-    ensures sound { IfOk result (λ x. Took (stream R.source input.old) (stream R.source input.new) (λ t. (channel : List ℤ) × Subframe bps (length buffer.old) channel t)) }
-    // A subframe of any channel is read, whatever follows, and it alone is taken.
+    // What was read is a subframe of the channel that the buffer holds, and it alone was taken.
+    ensures sound { IfOk result (λ x. Took (stream R.source input.old) (stream R.source input.new) (Subframe bps (length buffer.old) buffer.new)) }
+    // A subframe of any channel is read, whatever follows: the buffer holds that channel, and the subframe alone is taken.
     ensures complete { (channel : List ℤ) (t rest : Bits) → Subframe bps (length buffer.old) channel t → Honestly (stream R.source input.old) (stream R.source input.new) t rest →
-        IsOk result × ((stream R.source input.new).coming ≡ rest) }
+        IsOk result × (buffer.new ≡ channel) × ((stream R.source input.new).coming ≡ rest) }
+    // No bits begin with subframes of two channels or of two lengths, with a subframe and a fault, or with two faults.
+    ensures told { IsTold (Subframe bps (length buffer.old)) (SubframeFault bps (length buffer.old)) }
     // An Err that is no `IoError` names a fault that the bits taken have.
     ensures fault { IfErr result (λ error. IsIo error ⊎ ((stream R.source input.old).told ≡ true → (f : Fault) × IsFault f error ×
         ((t : Bits) × SubframeFault bps (length buffer.old) f t × ((stream R.source input.old).coming ≡ t ++ (stream R.source input.new).coming)))) }
@@ -150,7 +153,7 @@ pub fn decode<R: ReadBytes>(input: &mut Bitstream<R>, bps: u32, buffer: &mut [i3
     decode_channel(input, bps, buffer)
 }
 
-#[tactic(auto, unfolding(crate::specs::Cuts::taken_at, claxon_format::specs::Fault::fault_text))]
+#[tactic(auto, unfolding(crate::specs::Cuts::channel_at, claxon_format::specs::Fault::fault_text))]
 fn decode_channel<R: ReadBytes>(
     input: &mut Bitstream<R>,
     bps: u32,
@@ -158,7 +161,7 @@ fn decode_channel<R: ReadBytes>(
 ) -> Result<()>
     requires width { bps ≤ 32 }
     requires block { length buffer.old < 65536 }
-    ensures { Gives (λ x. tt) result (taken_at bps (length buffer.old)) (stream R.source input.old) (stream R.source input.new) }
+    ensures { Gives (λ x. buffer.new) result (channel_at bps (length buffer.old)) (stream R.source input.old) (stream R.source input.new) }
 {
     let header = read_subframe_header(input)?;
     let wasted = header.wasted_bits_per_sample;
@@ -183,7 +186,7 @@ fn decode_samples<R: ReadBytes>(
     requires some { 0 < bps }
     requires width { bps ≤ 32 }
     requires block { length buffer.old < 65536 }
-    ensures { Gives (λ x. tt) result (taking (entries_at bps (length buffer.old) (type_number sf_type))) (stream R.source input.old) (stream R.source input.new) }
+    ensures { Gives (λ x. buffer.new) result (entries_at bps (length buffer.old) (type_number sf_type)) (stream R.source input.old) (stream R.source input.new) }
 {
     match sf_type {
         SubframeType::Constant => decode_constant(input, bps, buffer),
@@ -338,7 +341,7 @@ fn decode_lpc<R: ReadBytes>(
     requires width { bps ≤ 32 }
     requires order { order ≤ 32 }
     requires block { length buffer.old < 65536 }
-    ensures { Gives (λ x. tt) result (taking (lpc_at bps (length buffer.old) order)) (stream R.source input.old) (stream R.source input.new) }
+    ensures { Gives (λ x. buffer.new) result (lpc_at bps (length buffer.old) order) (stream R.source input.old) (stream R.source input.new) }
 {
     if buffer.len() < order as usize {
         return Err(Error::FormatError("invalid LPC subframe, lpc order is larger than block size"));
@@ -347,16 +350,11 @@ fn decode_lpc<R: ReadBytes>(
     let order = order as usize;
     decode_verbatim(input, bps, &mut buffer[..order])?;
     let lpc = read_lpc_parameters(input)?;
-    let mut coefficients = [0i16; 32];
-    read_coefficients(input, lpc.precision, &mut coefficients[..order])?;
-    // The first one read belongs to the newest sample. The predictors take the oldest first.
-    coefficients[..order].reverse();
+    let mut numbers = [0i16; 32];
+    let coefficients = &mut numbers[..order];
+    read_coefficients(input, lpc.precision, coefficients)?;
     decode_residual(input, block_size, &mut buffer[order..])?;
-    if order <= 12 {
-        predict_lpc_low_order(&coefficients[..order], lpc.shift, buffer);
-    } else {
-        predict_lpc_high_order(&coefficients[..order], lpc.shift, buffer);
-    }
+    predict_lpc(coefficients, lpc.shift, buffer);
     Ok(())
 }
 

@@ -1,4 +1,5 @@
 //! Worked values of single steps.
+use super::predictor::{predict_lpc_high_order, predict_lpc_low_order};
 use super::*;
 
 #[test]

@@ -2,39 +2,39 @@ use Rattle.std.proofs.Common.{◌≡◌, ℕ, ◌≤◌, length, replicate, refl
 use Rattle.claxon_format.specs.Bits.{Bits}
 use Rattle.claxon_format.specs.Reading.{and_then, done, times_at}
 use Rattle.claxon_format.specs.Readers.{signed_at, fixed_at}
-use Rattle.claxon.specs.Cuts.{entries_at, lpc_at, taking}
+use Rattle.claxon.specs.Cuts.{entries_at, lpc_at}
 use Rattle.claxon.specs.Kinds.{type_number}
 use Rattle.claxon.specs.declared.subframe.SubframeType.{SubframeType}
 use Rattle.claxon.specs.declared.subframe.SubframeType.TheVariants.{Constant, Verbatim, Fixed, Lpc}
 use Rattle.claxon.proofs.Cuts.{fixed_entries, lpc_entries}
-use Rattle.claxon.proofs.Taking.{gives_taking, gives_same}
+use Rattle.claxon.proofs.Taking.{gives_same}
 use Rattle.claxon.proofs.subframe.decode_samples.Goals as goal
 
-constant_is : (kind : SubframeType) (w n : ℕ) → kind ≡ Constant → (s : Bits) → taking (entries_at w n (type_number kind)) s ≡ taking (and_then (signed_at w) (λ x. done (replicate n x))) s
+constant_is : (kind : SubframeType) (w n : ℕ) → kind ≡ Constant → (s : Bits) → entries_at w n (type_number kind) s ≡ (and_then (signed_at w) (λ x. done (replicate n x))) s
 unfolding entries_at
 constant_is kind w n e s = rw e refl
 
-verbatim_is : (kind : SubframeType) (w n : ℕ) → kind ≡ Verbatim → (s : Bits) → taking (entries_at w n (type_number kind)) s ≡ taking (times_at n (signed_at w)) s
+verbatim_is : (kind : SubframeType) (w n : ℕ) → kind ≡ Verbatim → (s : Bits) → entries_at w n (type_number kind) s ≡ times_at n (signed_at w) s
 unfolding entries_at
 verbatim_is kind w n e s = rw e refl
 
-fixed_is : (kind : SubframeType) (w n order : ℕ) → order ≤ 4 → kind ≡ Fixed order → (s : Bits) → taking (entries_at w n (type_number kind)) s ≡ taking (fixed_at w n order) s
+fixed_is : (kind : SubframeType) (w n order : ℕ) → order ≤ 4 → kind ≡ Fixed order → (s : Bits) → entries_at w n (type_number kind) s ≡ fixed_at w n order s
 fixed_is kind w n order four e s = rw (e, fixed_entries w n order four) refl
 
-lpc_is : (kind : SubframeType) (w n order : ℕ) → kind ≡ Lpc order → (s : Bits) → taking (entries_at w n (type_number kind)) s ≡ taking (lpc_at w n order) s
+lpc_is : (kind : SubframeType) (w n order : ℕ) → kind ≡ Lpc order → (s : Bits) → entries_at w n (type_number kind) s ≡ lpc_at w n order s
 lpc_is kind w n order e s = rw (e, lpc_entries w n order) refl
 
 pub returns-in-Constant : goal.returns-in-Constant
 returns-in-Constant g c =
-    gives_same _ c.decode_constant.result _ _ _ _ (constant_is c.args.sf_type c.args.bps (length c.args.buffer.now) c.in-Constant.is) (gives_taking _ c.decode_constant.result _ _ _ c.decode_constant.ensures)
+    gives_same _ c.decode_constant.result _ _ _ _ (constant_is c.args.sf_type c.args.bps (length c.args.buffer.now) c.in-Constant.is) c.decode_constant.ensures
 
 pub returns-in-Verbatim : goal.returns-in-Verbatim
 returns-in-Verbatim g c =
-    gives_same _ c.decode_verbatim.result _ _ _ _ (verbatim_is c.args.sf_type c.args.bps (length c.args.buffer.now) c.in-Verbatim.is) (gives_taking _ c.decode_verbatim.result _ _ _ c.decode_verbatim.ensures)
+    gives_same _ c.decode_verbatim.result _ _ _ _ (verbatim_is c.args.sf_type c.args.bps (length c.args.buffer.now) c.in-Verbatim.is) c.decode_verbatim.ensures
 
 pub returns-in-Fixed : goal.returns-in-Fixed
 returns-in-Fixed g c =
-    gives_same _ c.decode_fixed.result _ _ _ _ (fixed_is c.args.sf_type c.args.bps (length c.args.buffer.now) c.in-Fixed.order (rw c.in-Fixed.is at c.requires.fixed) c.in-Fixed.is) (gives_taking _ c.decode_fixed.result _ _ _ c.decode_fixed.ensures)
+    gives_same _ c.decode_fixed.result _ _ _ _ (fixed_is c.args.sf_type c.args.bps (length c.args.buffer.now) c.in-Fixed.order (rw c.in-Fixed.is at c.requires.fixed) c.in-Fixed.is) c.decode_fixed.ensures
 
 pub returns-in-Lpc : goal.returns-in-Lpc
 returns-in-Lpc g c =
