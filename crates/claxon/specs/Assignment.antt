@@ -1,5 +1,5 @@
 -- What a frame's header says, as the code keeps it (RFC 9639, section 9.1).
-use Rattle.std.specs.Prelude.{◌≡◌, ℕ, ◌+◌, ◌-◌, Bool, true, false, cond, ◌==◌, Option, Some, None}
+use Rattle.std.specs.Prelude.{◌≡◌, ℕ, ◌+◌, ◌-◌, List, Bool, true, false, cond, ◌==◌, Option, Some, None}
 use Rattle.claxon_format.specs.Header.{width_of}
 use Rattle.claxon_format.specs.Stereo.{widths}
 use Rattle.claxon.specs.declared.frame.header.parts.BlockingStrategy.{BlockingStrategy}
