@@ -27,6 +27,7 @@ pub mod CodedChannels
 pub mod BodyCuts
 pub mod FrameSteps
 pub mod CheckedFrames
+pub mod FramesPublic
 pub mod Lanes
 pub mod Windows
 pub mod Entries

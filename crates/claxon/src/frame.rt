@@ -1,19 +1,23 @@
 //! Frames: blocks of samples, one after another.
-ghost use Rattle.std.specs.Prelude.{◌≡◌, ℕ, ◌+◌, ◌*◌, ◌<◌, ◌≤◌, IfOk, IfErr, IfSome, length, vec_len, vec_capacity, true, false};
+ghost use Rattle.std.specs.Prelude.{◌≡◌, ◌≢◌, ℕ, ℤ, ◌+◌, ◌*◌, ◌<◌, ◌≤◌, ◌⊎◌, Bool, true, false, IfOk, IfErr, IfSome, Ok, Some, None, List, [], ◌++◌, length, vec_len, vec_capacity};
+ghost use Rattle.std.specs.Result.{IsErrAnd};
 ghost use Rattle.claxon.specs.Assignment.{channels_of, coded_widths};
 ghost use Rattle.claxon.specs.BodyCuts.{block_at, coded_at, subframes_at};
-ghost use Rattle.claxon.specs.Channels.{chunks, duration_of};
+ghost use Rattle.claxon.specs.Channels.{BlockValue, chunks, duration_of};
 ghost use Rattle.claxon.specs.Errors.{is_memory};
 ghost use Rattle.claxon.specs.Loans.{KeepsLoans};
-ghost use Rattle.claxon_format.specs.Fault.{FrameGuard};
-ghost use Rattle.claxon_format.specs.Frame.{frame_bytes_at};
+ghost use Rattle.claxon_format.specs.Fault.{Fault, FrameGuard};
+ghost use Rattle.claxon_format.specs.Frame.{Block as FrameBlock, Frame, FrameBytesFault, frame_bytes_at};
+ghost use Rattle.claxon_format.specs.FrameWriter.{HeaderPlan, SuitsFrame, SuitsEach, coded_widths as planned_widths, mixed, write_bytes, written_block};
 ghost use Rattle.claxon_format.specs.GuardBytes.{expected_at};
+ghost use Rattle.claxon_format.specs.Header.{Fields};
+ghost use Rattle.claxon_format.specs.Writer.{SubframePlan};
 ghost use Rattle.claxon_input.specs.Checked.{checked_source, checked_state};
 ghost use Rattle.claxon_input.specs.Remainders.{check16};
-ghost use Rattle.claxon_input.specs.Stream.{bytes_in, stream, Gives, GivesOrStarves, Went};
-ghost use Rattle.claxon.specs.Ends.{GivesOrEndsOrStarves};
+ghost use Rattle.claxon_input.specs.Stream.{bytes_in, stream, Gives, GivesOrStarves, Went, Took, Honestly, IsFault, IsIo};
+ghost use Rattle.claxon.specs.Ends.{Fairly, GivesOrEndsOrStarves};
 ghost use Rattle.claxon.specs.FrameCuts.{shape_view, start_view};
-ghost use Rattle.claxon.specs.Frames.{block_view, NoRoom};
+ghost use Rattle.claxon.specs.Frames.{block_view, is_starved, HeaderAlone, NoRoom};
 
 mod block;
 mod header;
@@ -42,7 +46,7 @@ pub type FrameResult<A = Global> = Result<Option<Block<A>>>;
 
 impl<R: ReadBytes> FrameReader<R> {
     ghost use Rattle.claxon.specs.Flac.{frame_input};
-    ghost use Rattle.claxon.specs.Frames.{frame_stream, stream_with};
+    ghost use Rattle.claxon.specs.Frames.{frame_bytes, frame_stream, stream_with};
 
     /// A reader that knows nothing of the stream: a header has to name the width of its samples.
     pub fn new(input: R) -> FrameReader<R>
@@ -78,11 +82,45 @@ impl<R: ReadBytes> FrameReader<R> {
     /// show in the block. Where its capacity is channels times block size or more no memory is taken; else `OutOfMemory` may
     /// come after the header was taken. After an error the next call starts at the first byte not taken.
     pub fn read_next_or_eof<A: Allocator>(&mut self, buffer: Vec<i32, A>) -> FrameResult<A>
+        ensures stream { frame_stream self.new ≡ frame_stream self.old }
         ensures some { IfOk result (λ found. IfSome found (λ block. (1 ≤ length block.channels) × (1 ≤ duration_of block.channels))) }
-        ensures memory { IfErr result (λ error. is_memory error ≡ true → vec_capacity buffer < 8 * 65535) }
+        // What was taken is a frame of the block.
+        ensures sound { IfOk result (λ found. IfSome found (λ block. Took (frame_bytes R.source self.old) (frame_bytes R.source self.new) (Frame (frame_stream self.old) (block_view block)))) }
+        // A frame of any block is read, whatever follows, and it alone is taken.
+        ensures complete { (block : FrameBlock) (t rest : List ℕ) → Frame (frame_stream self.old) block t → Honestly (frame_bytes R.source self.old) (frame_bytes R.source self.new) t rest → is_starved result ≡ false →
+            (found : BlockValue) × (result ≡ Ok (Some found)) × (block_view found ≡ block) × ((frame_bytes R.source self.new).coming ≡ rest) }
+        // No bytes begin with frames of two blocks, or of two lengths.
+        ensures one_reading { (a b : FrameBlock) (t u x y : List ℕ) → Frame (frame_stream self.old) a t → Frame (frame_stream self.old) b u → t ++ x ≡ u ++ y → (a ≡ b) × (t ≡ u) }
+        // What a writer wrote under any plan that suits comes back.
+        ensures lossless { (f : Fields) (header : HeaderPlan) (plans : List SubframePlan) (channels : List (List ℤ)) (rest : List ℕ) → SuitsFrame (frame_stream self.old) f header channels →
+            SuitsEach f.size (planned_widths (frame_stream self.old) f) plans (mixed f.channels channels) →
+            Honestly (frame_bytes R.source self.old) (frame_bytes R.source self.new) (write_bytes (frame_stream self.old) f header plans channels) rest → is_starved result ≡ false →
+            (found : BlockValue) × (result ≡ Ok (Some found)) × (block_view found ≡ written_block (frame_stream self.old) f channels) × ((frame_bytes R.source self.new).coming ≡ rest) }
+        // None says that fewer than two bytes were left, which were taken.
+        ensures at_end { IfOk result (λ found. found ≡ None → Fairly (frame_bytes R.source self.old) (frame_bytes R.source self.new) →
+            (length (frame_bytes R.source self.old).coming < 2) × ((frame_bytes R.source self.new).coming ≡ [])) }
+        // Where fewer are left None is answered.
+        ensures ended { Fairly (frame_bytes R.source self.old) (frame_bytes R.source self.new) → length (frame_bytes R.source self.old).coming < 2 →
+            (result ≡ Ok None) × ((frame_bytes R.source self.new).coming ≡ []) }
+        // An Err of a read is never answered by the end, nor by a block.
+        ensures no_failure { IfOk result (λ found. (frame_bytes R.source self.new).errors ≡ (frame_bytes R.source self.old).errors) }
+        // An Err that is neither want of memory nor an `IoError` names a fault that the bytes taken have.
+        ensures fault { IfErr result (λ error. (is_memory error ≡ true) ⊎ (IsIo error ⊎ ((frame_bytes R.source self.old).told ≡ true → (f : Fault) × IsFault f error ×
+            ((t : List ℕ) × FrameBytesFault (frame_stream self.old) f t × ((frame_bytes R.source self.old).coming ≡ t ++ (frame_bytes R.source self.new).coming))))) }
+        // Where the bytes have a fault it is named, and they alone are taken.
+        ensures named { (f : Fault) (t rest : List ℕ) → FrameBytesFault (frame_stream self.old) f t → Honestly (frame_bytes R.source self.old) (frame_bytes R.source self.new) t rest → is_starved result ≡ false →
+            IsErrAnd result (IsFault f) × ((frame_bytes R.source self.new).coming ≡ rest) }
+        // Where neither stands there, the bytes end or 2^32 zeros run.
+        ensures io { (frame_bytes R.source self.old).told ≡ true → 2 ≤ length (frame_bytes R.source self.old).coming →
+            ((frame_bytes R.source self.new).bytes ≢ [] → (frame_bytes R.source self.new).empties ≡ (frame_bytes R.source self.old).empties) →
+            ((block : FrameBlock) (t rest : List ℕ) → Frame (frame_stream self.old) block t → (frame_bytes R.source self.old).coming ≡ t ++ rest → ⊥) →
+            ((f : Fault) (t rest : List ℕ) → FrameBytesFault (frame_stream self.old) f t → (frame_bytes R.source self.old).coming ≡ t ++ rest → ⊥) → is_starved result ≡ false → IsErrAnd result IsIo }
+        // Want of memory comes behind a header whose block has more samples than the buffer has room for.
+        ensures memory { IfErr result (λ error. is_memory error ≡ true → Took (frame_bytes R.source self.old) (frame_bytes R.source self.new) (HeaderAlone (frame_stream self.old) (vec_capacity buffer))) }
+        ensures room { IfErr result (λ error. is_memory error ≡ true → vec_capacity buffer < 8 * 65535) }
+        ensures gives { GivesOrEndsOrStarves 2 block_view result (frame_bytes_at (frame_stream self.old)) (frame_bytes R.source self.old) (frame_bytes R.source self.new) }
     {
-        let mut input = Crc16Reader::new(&mut self.input);
-        read_frame_or_eof(&mut input, self.stream, buffer)
+        read_next(&mut self.input, self.stream, buffer)
     }
 
     /// The wrapped reader.
@@ -101,7 +139,9 @@ fn read_next<R: ReadBytes, A: Allocator>(
     buffer: Vec<i32, A>,
 ) -> FrameResult<A>
     ensures gives { GivesOrEndsOrStarves 2 block_view result (frame_bytes_at (shape_view stream)) (bytes_in R.source input.old) (bytes_in R.source input.new) }
-    ensures room { IfErr result (λ error. is_memory error ≡ true → NoRoom (shape_view stream) (vec_capacity buffer) (bytes_in R.source input.old) (bytes_in R.source input.new)) }
+    ensures some { IfOk result (λ found. IfSome found (λ block. (1 ≤ length block.channels) × (1 ≤ duration_of block.channels))) }
+    ensures no_room { IfErr result (λ error. is_memory error ≡ true → NoRoom (shape_view stream) (vec_capacity buffer) (bytes_in R.source input.old) (bytes_in R.source input.new)) }
+    ensures room { IfErr result (λ error. is_memory error ≡ true → vec_capacity buffer < 8 * 65535) }
 {
     let mut input = Crc16Reader::new(input);
     read_frame_or_eof(&mut input, stream, buffer)
@@ -115,8 +155,10 @@ fn read_frame_or_eof<R: ReadBytes, A: Allocator>(
 ) -> FrameResult<A>
     requires { checked_state input.old ≡ 0 }
     ensures gives { GivesOrEndsOrStarves 2 block_view result (frame_bytes_at (shape_view stream)) (bytes_in (checked_source R.source check16) input.old) (bytes_in (checked_source R.source check16) input.new) }
-    ensures room { IfErr result (λ error. is_memory error ≡ true →
+    ensures some { IfOk result (λ found. IfSome found (λ block. (1 ≤ length block.channels) × (1 ≤ duration_of block.channels))) }
+    ensures no_room { IfErr result (λ error. is_memory error ≡ true →
         NoRoom (shape_view stream) (vec_capacity buffer) (bytes_in (checked_source R.source check16) input.old) (bytes_in (checked_source R.source check16) input.new)) }
+    ensures room { IfErr result (λ error. is_memory error ≡ true → vec_capacity buffer < 8 * 65535) }
 {
     let Some(header) = read_frame_header_or_eof(input, stream)? else {
         return Ok(None);
@@ -135,7 +177,8 @@ fn read_channels<R: ReadBytes, A: Allocator>(
     ensures len { IfOk result (λ filled. vec_len filled ≡ channels_of header.now.channel_assignment * header.now.block_size) }
     ensures gives { GivesOrStarves (λ filled. chunks (channels_of header.now.channel_assignment) header.now.block_size filled.items) result
         (subframes_at header.now.block_size (coded_widths header.now.channel_assignment header.now.bits_per_sample)) (bytes_in R.source input.old) (bytes_in R.source input.new) }
-    ensures room { IfErr result (λ error. is_memory error ≡ true → vec_capacity buffer < channels_of header.now.channel_assignment * header.now.block_size) }
+    ensures no_room { IfErr result (λ error. is_memory error ≡ true → vec_capacity buffer < channels_of header.now.channel_assignment * header.now.block_size) }
+    ensures room { IfErr result (λ error. is_memory error ≡ true → vec_capacity buffer < 8 * 65535) }
     ensures none_taken { IfErr result (λ error. is_memory error ≡ true → Went (bytes_in R.source input.old) (bytes_in R.source input.new) (λ s m. s ≡ m)) }
 {
     let samples = usize::from(header.channel_assignment.channels()) * usize::from(header.block_size);
@@ -147,7 +190,8 @@ fn read_channels<R: ReadBytes, A: Allocator>(
 // The block of coded channels that stand in the buffer one after another.
 fn to_block<A: Allocator>(header: FrameHeader, buffer: Vec<i32, A>) -> Block<A>
     requires { vec_len buffer ≡ channels_of header.channel_assignment * header.block_size }
-    ensures { block_view result ≡ block_at (start_view header) (chunks (channels_of header.channel_assignment) header.block_size buffer.items) }
+    ensures some { (1 ≤ length result.channels) × (1 ≤ duration_of result.channels) }
+    ensures value { block_view result ≡ block_at (start_view header) (chunks (channels_of header.channel_assignment) header.block_size buffer.items) }
 {
     let mut buffer = buffer;
     unmix(header.channel_assignment, buffer.as_mut_slice());

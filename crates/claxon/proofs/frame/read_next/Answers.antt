@@ -9,8 +9,8 @@ returns-clause-gives g c =
     let k = fed_through g.R.ReadBytes.source check16 c.args.input.now _ _ c.new-input.result c.read_frame_or_eof.new.input c.new-input.ensures.source 2 _ c.read_frame_or_eof.result _ c.read_frame_or_eof.ensures.gives in
     search rules
 
-pub returns-clause-room : goal.returns-clause-room
-returns-clause-room g c =
+pub returns-clause-no_room : goal.returns-clause-no_room
+returns-clause-no_room g c =
     let e = fed_same g.R.ReadBytes.source check16 c.args.input.now _ _ c.new-input.result c.read_frame_or_eof.new.input c.new-input.ensures.source 2 _ c.read_frame_or_eof.result _ c.read_frame_or_eof.ensures.gives in
-    let k = refused_through g.R.ReadBytes.source check16 c.args.input.now _ _ c.new-input.result c.read_frame_or_eof.new.input c.new-input.ensures.source _ _ c.read_frame_or_eof.result c.read_frame_or_eof.ensures.room in
+    let k = refused_through g.R.ReadBytes.source check16 c.args.input.now _ _ c.new-input.result c.read_frame_or_eof.new.input c.new-input.ensures.source _ _ c.read_frame_or_eof.result c.read_frame_or_eof.ensures.no_room in
     search rules
