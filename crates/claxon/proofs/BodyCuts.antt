@@ -1,13 +1,13 @@
 -- The reader of a frame is the composition of its parts.
-use Rattle.std.proofs.Common.{◌≡◌, ℕ, suc, ◌+◌, ◌-◌, ◌*◌, ◌/◌, ◌%◌, ◌≤◌, Bool, true, false, not, eqb, List, [], ◌∷◌, ◌++◌, length, replicate, refl, sym, ap, subst, ◌∙◌, arith, ℤ}
+use Rattle.std.proofs.Common.{◌≡◌, ℕ, ◌+◌, ◌%◌, Bool, false, not, eqb, List, ◌++◌, length, replicate, refl, sym, ap, ◌∙◌, arith, ℤ}
 use Rattle.std.specs.Prelude.{Option}
 use Rattle.std.proofs.lemmas.List.{length-append, length-replicate}
 use Rattle.claxon_format.specs.Bits.{Bits, bits_of}
 use Rattle.claxon_format.specs.Fault.{Fault, FrameGuard}
-use Rattle.claxon_format.specs.Frame.{Stream, Block, IsWidth, known_width, block_of, body_at, frame_at, by_bytes, whole, frame_bytes_at}
+use Rattle.claxon_format.specs.Frame.{Stream, IsWidth, known_width, block_of, body_at, frame_at, by_bytes, whole, frame_bytes_at}
 use Rattle.claxon_format.specs.FrameWriter.{bytes_of}
 use Rattle.claxon_format.specs.Guards.{gap, crc16}
-use Rattle.claxon_format.specs.Header.{Header, HeaderCode, HeaderFault, header_at}
+use Rattle.claxon_format.specs.Header.{Header, header_at}
 use Rattle.claxon_format.specs.Metadata.{big_at}
 use Rattle.claxon_format.specs.Reading.{Reading, Reads, Done, Faulty, Short, bind, and_then, done, each_at, taken, test}
 use Rattle.claxon_format.specs.Readers.{subframe_at}

@@ -1,20 +1,19 @@
 -- What a frame's reader that keeps a remainder did, of the reader behind its reference.
-use Rattle.std.proofs.Common.{◌≡◌, ℕ, Option, None, Some, List, ◌∷◌, inl, inr, refl, subst, ◌∙◌}
+use Rattle.std.proofs.Common.{◌≡◌, ℕ, Option, List, ◌∷◌, inl, inr, subst}
 use Rattle.std.specs.Borrow.{GName, MutBor}
 use Rattle.std.specs.Prelude.{Result, Ok, Err, IfErr, true}
 use Rattle.claxon_format.specs.Frame as Format
 use Rattle.claxon_format.specs.Reading.{Reading, Done}
 use Rattle.claxon_input.specs.Checked.{checked_inner, checked_source, checked_state}
 use Rattle.claxon_input.specs.Source.{Source, through_loan, with_check}
-use Rattle.claxon_input.specs.Stream.{Stream, bytes_in, past, Starved, Went}
+use Rattle.claxon_input.specs.Stream.{bytes_in, past, Went}
 use Rattle.claxon_input.specs.declared.crc.CheckedReader.{CheckedReader}
 use Rattle.claxon_input.specs.declared.error.Error.{Error}
-use Rattle.claxon_input.specs.declared.error.Error.TheVariants.{OutOfMemory}
 use Rattle.claxon_input.proofs.Guarded.{behind, kept_below, same_below, went_below}
 use Rattle.claxon_input.proofs.Streams.{bytes_of_source}
 use Rattle.claxon.specs.Ends.{GivesOrEndsOrStarves}
 use Rattle.claxon.specs.Errors.{is_memory}
-use Rattle.claxon.specs.FrameCuts.{Start, start_at}
+use Rattle.claxon.specs.FrameCuts.{start_at}
 use Rattle.claxon.specs.Frames.{NoRoom}
 use Rattle.claxon.proofs.Checked.{ends_behind, name_behind}
 use Rattle.claxon.proofs.Ends.{fed_or_end, never_starves}

@@ -1,11 +1,10 @@
 -- Channels read one after another into one slice.
-use Rattle.std.proofs.Common.{◌≡◌, ℕ, zero, suc, ◌+◌, ◌-◌, ◌*◌, ◌<◌, ◌≤◌, Bool, true, false, ltb, List, [], ◌∷◌, ◌++◌, length, take, drop, get_or, replicate, refl, sym, ap, subst, ◌∙◌, arith, inl, inr, ℤ}
+use Rattle.std.proofs.Common.{◌≡◌, ℕ, zero, suc, ◌+◌, ◌-◌, ◌*◌, ◌<◌, ◌≤◌, Bool, true, ltb, List, [], ◌∷◌, ◌++◌, length, take, drop, get_or, refl, sym, ap, subst, ◌∙◌, arith, ℤ}
 use Rattle.std.proofs.lemmas.Bool.{lt-ltb}
-use Rattle.std.proofs.lemmas.List.{append-nil, take_all, length-append, length-take, length-take-le, length-drop, length-replicate, drop_all, drop_more, take-append-drop, take-append-le, drop-append-le}
-use Rattle.std.proofs.lemmas.Slice.{take-put_mid}
+use Rattle.std.proofs.lemmas.List.{append-nil, take_all, length-append, length-take-le, length-drop, length-replicate, drop_all, drop_more, take-append-drop, take-append-le, drop-append-le}
 use borrow.Rule.Slice.PartMut.{put_mid, same_len_mid}
 use Rattle.claxon_format.specs.Bits.{Bits}
-use Rattle.claxon_format.specs.Reading.{Reading, Done, Faulty, Short, bind, each_at}
+use Rattle.claxon_format.specs.Reading.{Reading, Done, each_at}
 use Rattle.claxon_format.specs.Readers.{subframe_at}
 use Rattle.claxon_input.specs.declared.error.Error.{Error}
 use Rattle.claxon_input.specs.Stream.{Stream, Went, Stops}
@@ -17,6 +16,7 @@ use Rattle.claxon.specs.Channels.{chunks}
 use Rattle.claxon.specs.declared.frame.header.parts.ChannelAssignment.{ChannelAssignment}
 use Rattle.claxon.specs.declared.frame.header.parts.ChannelAssignment.TheVariants.{Independent, LeftSideStereo, RightSideStereo, MidSideStereo}
 use Rattle.claxon.proofs.Chunks.{chunk_ends}
+use Rattle.claxon.proofs.Parts.{part_length, put_front}
 
 -- there is a width for each channel
 pub length-coded_widths : (assignment : ChannelAssignment) (bits : ℕ) → 1 ≤ channels_of assignment → channels_of assignment ≤ 8 → length (coded_widths assignment bits) ≡ channels_of assignment
@@ -48,7 +48,7 @@ chunks_more (suc k) n xs ys h e =
 -- where the slice from start on has size entries, they are put behind the chunks before them
 put_chunk : (k n start : ℕ) (xs ys : List ℤ) → start ≡ k * n → start + n ≤ length xs → length ys ≡ n → chunks (k + 1) n (put_mid start (start + n - start) xs ys) ≡ chunks k n xs ++ ys ∷ []
 put_chunk k n start xs ys place room e =
-    let here : take (start + n) (put_mid start (start + n - start) xs ys) ≡ take start xs ++ ys = take-put_mid start (start + n - start) xs ys (start + n) (omega arith) (omega arith) in
+    let here = put_front start n xs ys room (e ∙ sym (part_length start n xs room)) in
     let front : length (take start xs) ≡ k * n = length-take-le start xs (omega arith) ∙ place in
     let new = put_mid start (start + n - start) xs ys in
     let one : k + 1 ≡ suc k = omega arith in
@@ -75,9 +75,6 @@ room_is i n size start len lt place whole = let e = chunk_ends n size i lt in om
 
 pub channels_room : {ws : List ℕ} {size i start : ℕ} {xs : List ℤ} {a b : Stream Bool} → i < length ws → ChannelsSoFar ws size i start xs a b → start + size ≤ length xs
 channels_room {ws = ws} {size = size} {i = i} {start = start} {xs = xs} lt h = room_is i (length ws) size start (length xs) lt h.place h.whole
-
-part_length : (a k : ℕ) (xs : List ℤ) → a + k ≤ length xs → length (take (a + k - a) (drop a xs)) ≡ k
-part_length a k xs le = omega (arith, length-take (a + k - a) (drop a xs), length-drop a xs)
 
 coded_more : (ws : List ℕ) (size i w : ℕ) (front : List (List ℤ)) (ys : List ℤ) (s m : Bits) (total : Reading Bool (List (List ℤ))) → i < length ws → get_or ws i 0 ≡ w → subframe_at w size s ≡ Done ys m
     → with_front front (coded_at size (drop i ws) s) ≡ total → with_front (front ++ ys ∷ []) (coded_at size (drop (i + 1) ws) m) ≡ total

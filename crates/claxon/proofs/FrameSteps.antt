@@ -1,7 +1,7 @@
 -- What the calls one after another that read a frame did.
 use Rattle.std.proofs.lemmas.Bool.{lt-ltb}
-use Rattle.std.proofs.Common.{◌≡◌, ℕ, ◌+◌, ◌-◌, ◌*◌, ◌≤◌, arith, ◌<◌, ◌⊎◌, inl, inr, Bool, true, false, ltb, List, [], length, refl, sym, ap, subst, ◌∙◌, ℤ}
-use Rattle.std.specs.Prelude.{Result, Ok, Err, Option, None, Some}
+use Rattle.std.proofs.Common.{◌≡◌, ℕ, ◌-◌, ◌*◌, ◌≤◌, arith, ◌<◌, inl, inr, true, false, ltb, List, [], length, refl, subst, ◌∙◌, ℤ}
+use Rattle.std.specs.Prelude.{Result, Err, Option, None, Some}
 use Rattle.claxon_format.specs.Fault.{FrameGuard}
 use Rattle.claxon_format.specs.Frame as Format
 use Rattle.claxon_format.specs.GuardBytes.{expected_at}
@@ -12,7 +12,7 @@ use Rattle.claxon_input.specs.declared.error.Error.{Error}
 use Rattle.claxon_input.specs.declared.error.Error.TheVariants.{IoError, FormatError, Unsupported, OutOfMemory}
 use Rattle.claxon_input.specs.Remainders.{check16}
 use Rattle.claxon_input.specs.Source.{Source, with_check}
-use Rattle.claxon_input.specs.Stream.{Stream, Went, Stops, Starved, GivesOrStarves}
+use Rattle.claxon_input.specs.Stream.{Stream, Went, Stops, GivesOrStarves}
 use Rattle.claxon_input.proofs.Guarded.{remainder_16}
 use Rattle.claxon_input.proofs.Streams.{bytes_of_source}
 use Rattle.claxon_input.proofs.Went.{went_none, went_map, went_both, stops_as, fed, starved_after}

@@ -1,16 +1,16 @@
 -- What a call that reads a frame, or meets the end, promises to callers.
-use Rattle.std.proofs.Common.{◌≡◌, ◌≢◌, ◌⊎◌, inl, inr, ℕ, ◌*◌, ◌<◌, ◌≤◌, Bool, true, false, ltb, List, [], ◌++◌, length, Option, None, Some, refl, sym, ap, subst, ◌∙◌, arith}
+use Rattle.std.proofs.Common.{◌≡◌, ◌≢◌, ◌⊎◌, inl, inr, ℕ, ◌*◌, ◌<◌, ◌≤◌, true, false, ltb, List, [], ◌++◌, length, Option, None, Some, refl, sym, subst, ◌∙◌, arith}
 use Rattle.std.specs.Prelude.{IfOk, IfErr, IfSome, Result, Ok, Err}
 use Rattle.std.specs.Result.{IsErrAnd}
 use Rattle.std.proofs.lemmas.Bool.{lt-ltb}
 use Rattle.std.proofs.lemmas.Result.{IfErr-weaker}
-use Rattle.claxon_format.specs.Bits.{Bits, bits_of}
+use Rattle.claxon_format.specs.Bits.{bits_of}
 use Rattle.claxon_format.specs.Fault.{Fault}
 use Rattle.claxon_format.specs.Frame as Format
 use Rattle.claxon_format.specs.FrameWriter.{count_of}
-use Rattle.claxon_format.specs.Header.{Header, HeaderCode, HeaderFault, fields_at, header_at}
+use Rattle.claxon_format.specs.Header.{HeaderCode, HeaderFault, fields_at, header_at}
 use Rattle.claxon_format.specs.Guards.{sealed_at}
-use Rattle.claxon_format.specs.Reading.{Reading, Reads, Done, Faulty, Short, and_then, done, Mapped}
+use Rattle.claxon_format.specs.Reading.{Reads, Done, Short, Mapped}
 use Rattle.claxon_format.specs.Readers.{number_at}
 use Rattle.claxon_format.proofs.Bytes.{Reads-by_bytes, length-bits_of}
 use Rattle.claxon_format.proofs.Frames.{Reads-frame_bytes}
@@ -23,7 +23,7 @@ use Rattle.claxon.specs.Ends.{GivesOrEnds, GivesOrEndsOrStarves, Fairly}
 use Rattle.claxon.specs.Errors.{is_memory}
 use Rattle.claxon.specs.FrameCuts.{Start, start_of, start_at}
 use Rattle.claxon.specs.Frames.{NoRoom, HeaderAlone, is_starved}
-use Rattle.claxon.proofs.BodyCuts.{fills_bytes, frame_is, start_stops}
+use Rattle.claxon.proofs.BodyCuts.{fills_bytes, start_stops}
 use Rattle.claxon.proofs.Ends.{fed_or_end}
 use Rattle.claxon.proofs.EndsPublic.{ends_none, ends_errors, ends_again, ends_code, ends_code_again, ends_fault, ends_fault_again, ends_io}
 use Rattle.claxon.proofs.FrameCuts.{Whole-header}

@@ -1,13 +1,12 @@
 -- Left and right come back in place.
-use Rattle.std.proofs.Common.{◌≡◌, ℕ, ◌+◌, ◌-◌, ◌*◌, ◌/◌, ◌%◌, ◌^◌, ◌<◌, ◌≤◌, List, [], ◌∷◌, ◌++◌, length, take, drop, get_or, set, zero, suc, refl, sym, ap, ap₂, subst, ◌∙◌, arith, ℤ, pos, negsuc, ◌+ℤ◌, ◌-ℤ◌, ◌*ℤ◌, to_z, of_z, w32, FitsSigned, bit_or, bit_and}
+use Rattle.std.proofs.Common.{◌≡◌, ℕ, ◌+◌, ◌-◌, ◌*◌, ◌%◌, ◌^◌, ◌<◌, ◌≤◌, List, [], ◌∷◌, ◌++◌, length, take, drop, get_or, set, zero, suc, refl, sym, ap, ap₂, subst, ◌∙◌, arith, ℤ, pos, negsuc, ◌+ℤ◌, ◌*ℤ◌, to_z, of_z, w32, FitsSigned, bit_or, bit_and}
 use Rattle.std.specs.Int.Signed.{shr_z, mag_shr}
 use Rattle.std.proofs.lemmas.Int.{to_z-of_z, ints}
 use Rattle.std.proofs.lemmas.List.{take_more_set, drop_more, drop-set-lt, take_all, take_at, drop_at}
-use Rattle.std.proofs.lemmas.Nat.{and_mask, or_shifted, mod_below, pow_pos}
+use Rattle.std.proofs.lemmas.Nat.{and_mask, or_shifted}
 use Rattle.claxon_format.specs.Bits.{residue}
 use Rattle.claxon_format.specs.Predict.{wrap, floor_shift}
 use Rattle.claxon_format.specs.Stereo.{parity, left_of, right_of, zipped, unmixed}
-use Rattle.claxon_format.proofs.Numbers.{mod_small}
 use Rattle.claxon.specs.Channels.{chunks}
 use Rattle.claxon.proofs.Wraps.{Rep, rep_fits, rep_add, rep_sub, rep_mul, rep_num}
 

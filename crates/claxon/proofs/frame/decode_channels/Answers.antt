@@ -1,11 +1,6 @@
-use Rattle.std.proofs.Common.{◌≡◌, ◌<◌, ◌≤◌, ◌*◌, ℕ, length, ap, subst, ◌∙◌, sym, arith}
+use Rattle.std.proofs.Common.{◌≡◌, ◌<◌, ◌*◌, length, sym, arith}
 use Rattle.std.proofs.lemmas.Result.{err_from_is_err_and}
-use Rattle.claxon_input.specs.Stream.{stream, Stops, Went}
-use Rattle.claxon_input.proofs.Went.{exit}
-use Rattle.claxon_format.specs.Reading.{Done}
 use Rattle.claxon.specs.Assignment.{channels_of, coded_widths}
-use Rattle.claxon.specs.BodyCuts.{coded_at}
-use Rattle.claxon.specs.Channels.{chunks}
 use Rattle.claxon.proofs.CodedChannels.{length-coded_widths, channels_begin, channels_next, channels_err, channels_end}
 use Rattle.claxon.proofs.frame.decode_channels.Goals as goal
 

@@ -1,10 +1,6 @@
-use Rattle.std.proofs.Common.{◌≡◌, ◌<◌, rules, arith, refl, sym, ap, ◌∙◌, ℕ}
+use Rattle.std.proofs.Common.{sym}
 use Rattle.std.proofs.lemmas.Result.{err_from_is_err_and}
-use Rattle.claxon_format.specs.Reading.{Done}
-use Rattle.claxon_input.specs.Stream.{bytes_in, Went}
-use Rattle.claxon.specs.Channels.{chunks}
-use Rattle.claxon.specs.Assignment.{channels_of}
-use Rattle.claxon.specs.BodyCuts.{block_at}
+use Rattle.claxon_input.specs.Stream.{bytes_in}
 use Rattle.claxon.specs.FrameCuts.{start_view}
 use Rattle.claxon.proofs.Ends.{exit_fed}
 use Rattle.claxon.proofs.FrameSteps.{shape_width, counted, header_stops, channels_failed, no_room, footer_stops, frame_went}

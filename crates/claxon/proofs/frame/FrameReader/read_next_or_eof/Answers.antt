@@ -1,6 +1,6 @@
 use Rattle.claxon_format.proofs.Formats.{frames_lossless}
 use Rattle.claxon_format.proofs.Frames.{one_block}
-use Rattle.claxon.specs.Frames.{block_view, frame_stream, frame_bytes}
+use Rattle.claxon.specs.Frames.{block_view, frame_stream}
 use Rattle.claxon.proofs.FrameSteps.{shape_width}
 use Rattle.claxon.proofs.FramesPublic.{sound_is, complete_is, end_is, ended_is, errors_are, fault_is, named_is, io_is, memory_is}
 use Rattle.claxon.proofs.frame.FrameReader.read_next_or_eof.Goals as goal

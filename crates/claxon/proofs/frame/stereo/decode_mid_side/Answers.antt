@@ -1,4 +1,4 @@
-use Rattle.std.proofs.Common.{◌≡◌, ◌/◌, ◌*◌, length, ◌<◌, get_or, pos, rules, arith, sym, ap, ap₂, refl, ◌∙◌, FitsSigned, w32}
+use Rattle.std.proofs.Common.{◌≡◌, length, ◌<◌, get_or, pos, rules, arith, sym, ap, ap₂, refl, ◌∙◌, FitsSigned, w32}
 use Rattle.claxon_format.specs.Stereo.{left_of, right_of, unmixed}
 use Rattle.claxon.specs.Channels.{chunks}
 use Rattle.claxon.proofs.Unmixes.{mid_left_is, mid_right_is, zipped_here, zipped_next, zipped_end, halves_are}

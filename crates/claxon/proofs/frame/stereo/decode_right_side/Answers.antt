@@ -1,4 +1,4 @@
-use Rattle.std.proofs.Common.{◌≡◌, ◌/◌, ◌*◌, length, ◌<◌, get_or, pos, rules, arith, sym, ap, ◌∙◌, FitsSigned, w32}
+use Rattle.std.proofs.Common.{◌≡◌, length, ◌<◌, get_or, pos, rules, arith, sym, ap, ◌∙◌, FitsSigned, w32}
 use Rattle.claxon_format.specs.Stereo.{left_of, unmixed}
 use Rattle.claxon.specs.Channels.{chunks}
 use Rattle.claxon.proofs.Unmixes.{right_side_is, zipped_here, zipped_next, zipped_end, zipped_second, halves_are}
