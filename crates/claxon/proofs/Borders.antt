@@ -1,21 +1,20 @@
 -- From bits to whole bytes: what is left over of the last byte taken is padding.
-use Rattle.std.proofs.Common.{◌≡◌, ◌≢◌, ℕ, suc, ◌+◌, ◌-◌, ◌*◌, ◌/◌, ◌%◌, ◌<◌, ◌≤◌, ◌⊎◌, Bool, true, false, cond, ltb, List, [], ◌∷◌, ◌++◌, length, take, drop, refl, sym, ap, subst, ◌∙◌, arith, inl, inr}
+use Rattle.std.proofs.Common.{◌≡◌, ℕ, ◌+◌, ◌-◌, ◌/◌, ◌<◌, ◌≤◌, Bool, true, List, [], ◌∷◌, ◌++◌, length, drop, refl, ap, subst, ◌∙◌, arith, inl, inr}
 use Rattle.std.specs.Prelude.{Result, Ok, Err, Option, None, Some}
 use Rattle.std.specs.Borrow.{MutBor, GName}
-use Rattle.std.proofs.lemmas.Bool.{le-ltb}
-use Rattle.std.proofs.lemmas.List.{length-append, length-take, length-drop, drop_at}
-use Rattle.claxon_format.specs.Bits.{Bits, bits, bits_of, number}
+use Rattle.std.proofs.lemmas.List.{length-append, drop_at}
+use Rattle.claxon_format.specs.Bits.{Bits, bits, bits_of}
 use Rattle.claxon_format.specs.Fault.{Fault}
-use Rattle.claxon_format.specs.Frame.{by_bytes, whole, left_bytes}
-use Rattle.claxon_format.specs.Reading.{Reading, Done, Faulty, Short, bind, taken}
-use Rattle.claxon_format.specs.Readers.{number_at}
+use Rattle.claxon_format.specs.Frame.{by_bytes, left_bytes}
+use Rattle.claxon_format.specs.Reading.{Reading, Done, Faulty, Short}
 use Rattle.claxon_format.proofs.Bytes.{length-bits_of}
 use Rattle.claxon_format.proofs.Numbers.{length-bits}
 use Rattle.claxon_input.specs.Source.{Source, through_loan}
-use Rattle.claxon_input.specs.Stream.{Stream, Went, Stuck, Stops, Gives, Knows, Fails, FailedIn, IsRest, IsFault, IsFaultOf, is_io, stream, bytes_in, stream_of, bits_after, known, is_told, past}
-use Rattle.claxon_input.specs.BitSource.{BitState, bit_state}
+use Rattle.claxon_input.specs.Stream.{Went, Stuck, Gives, IsRest, stream, bytes_in, stream_of, bits_after, known, is_told}
+use Rattle.claxon_input.specs.BitSource.{bit_state}
 use Rattle.claxon_input.specs.declared.bits.Bitstream.{Bitstream}
 use Rattle.claxon_input.specs.declared.error.Error.{Error}
+use Rattle.claxon_input.proofs.Guarded.{behind}
 use Rattle.claxon_input.proofs.Public.{fault_is}
 use Rattle.claxon.proofs.Taking.{gives_loans}
 
@@ -89,10 +88,6 @@ module _ (s t : Source ℕ) (j k : GName) (left : Bits) (few : length left < 8) 
   border_name : {A Y : Type 0} (view : A → Y) (r : Result A Error) (read : Bits → Reading Bool Y)
       → Gives view r read (stream_of (bits_after []) (through_loan j s)) (stream_of (bits_after left) (through_loan k t)) → j ≡ k
   border_name view r read h = let e : k ∷ t.loans ≡ j ∷ s.loans = gives_loans view r read _ _ h in cc
-
--- the source behind a reference
-abbrev behind : {R : Type 0} → (R → Source ℕ) → MutBor R → Source ℕ
-behind source r = through_loan r.ghost_name (source r.now)
 
 -- what was read by a `Bitstream` that began at a border, of the reader behind its reference
 pub gives_through : {R A Y : Type 0} {g : _} (source : R → Source ℕ) (x : R) (j : GName) (b c : Bitstream (MutBor R) g) (view : A → Y) (r : Result A Error) (read : Bits → Reading Bool Y) → bit_state (behind source) b ≡ record { left = []; source = through_loan j (source x) }

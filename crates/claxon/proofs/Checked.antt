@@ -10,7 +10,7 @@ use Rattle.claxon_input.specs.Stream.{Stops, Stream, bytes_in, is_io, past}
 use Rattle.claxon_input.specs.declared.crc.CheckedReader.{CheckedReader}
 use Rattle.claxon_input.specs.declared.error.Error.{Error}
 use Rattle.claxon_input.specs.declared.error.Error.TheVariants.{IoError, FormatError, Unsupported, OutOfMemory}
-use Rattle.claxon_input.proofs.Guarded.{kept_below, same_below, stops_below, under, went_below}
+use Rattle.claxon_input.proofs.Guarded.{behind, kept_below, same_below, stops_below, under, went_below}
 use Rattle.claxon_input.proofs.Streams.{bytes_of_source}
 use Rattle.claxon.specs.Ends.{Ended, GivesOrEnds, or_end}
 use Rattle.claxon.specs.Errors.{is_memory}
@@ -24,10 +24,6 @@ module _ {X : Type 0} (a b : Stream X) (l m : List GName) (f g : List ℕ → Li
   ends_below count view (Ok (Some x)) read h = went_below a b l m f g loans checks (λ s k. or_end count read s ≡ Done (Some (view x)) k) h
   ends_below count view (Ok None) read h = ended_below count h
   ends_below count view (Err e) read h = stops_below a b l m f g loans checks e (or_end count read) h
-
--- a remainder of what is read through a reference
-abbrev pub behind : {R : Type 0} → (R → Source ℕ) → MutBor R → Source ℕ
-behind source r = through_loan r.ghost_name (source r.now)
 
 -- what is left of the loans and the kind of an Err
 loans_of : {X Y : Type 0} (e : Error) (read : List X → Reading X Y) (a b : Stream X) (io : Bool) → is_io e ≡ io → Stops e read a b → b.loans ≡ a.loans
@@ -53,7 +49,7 @@ module _ (s t : Source ℕ) (j k : GName) (f g : List ℕ → ℕ) where
       (same_below j k s.loans t.loans) (kept_below s.to_come t.to_come f g s.checks t.checks) count view r read h
 
   -- and the reference is still the same
-  name_behind : {A Y : Type 0} (count : ℕ) (view : A → Y) (r : Result (Option A) Error) (read : List ℕ → Reading ℕ Y)
+  pub name_behind : {A Y : Type 0} (count : ℕ) (view : A → Y) (r : Result (Option A) Error) (read : List ℕ → Reading ℕ Y)
       → GivesOrEnds count view r read (bytes_of_source (with_check f (through_loan j s))) (bytes_of_source (with_check g (through_loan k t))) → j ≡ k
   name_behind count view r read h = let e : k ∷ t.loans ≡ j ∷ s.loans = ends_loans count view r read _ _ h in cc
 

@@ -136,7 +136,7 @@ guarded_short s e = guarded_is s ∙ ap (λ x. bind x (behind_fields s)) e
 abbrev pub start_with : Option Stream → Fields → ℕ → Start
 start_with stream f w = record { time = (start_of stream (header_of (known_width stream) f)).time; size = f.size; channels = f.channels; width = w }
 
-Whole-header : (known : Option ℕ) → Whole _ (header_at known) (and_then (sealed_bytes_at 1 crc8 HeaderGuard (and_then sync_at fields_after)) (λ f. test (is_unknown known f) WidthUnknown (test (is_too_wide known f) SideWide (done (header_of known f)))))
+pub Whole-header : (known : Option ℕ) → Whole _ (header_at known) (and_then (sealed_bytes_at 1 crc8 HeaderGuard (and_then sync_at fields_after)) (λ f. test (is_unknown known f) WidthUnknown (test (is_too_wide known f) SideWide (done (header_of known f)))))
 unfolding header_at
 Whole-header known = Whole-then Whole-sealed (λ f. Whole-test (is_unknown known f) WidthUnknown (Whole-test (is_too_wide known f) SideWide (Whole-done (header_of known f))))
 

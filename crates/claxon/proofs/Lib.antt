@@ -22,6 +22,12 @@ pub mod Restores
 pub mod Wraps
 pub mod Taking
 pub mod Predictors
+pub mod Unmixes
+pub mod CodedChannels
+pub mod BodyCuts
+pub mod FrameSteps
+pub mod CheckedFrames
+pub mod FramesPublic
 pub mod Lanes
 pub mod Windows
 pub mod Entries

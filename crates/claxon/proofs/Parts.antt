@@ -48,10 +48,10 @@ room parts i start len each n lt e =
     let q : start + (len + total (replicate (parts - (i + 1)) each)) ≡ n = subst (λ (m : ℕ). start + total (lengths m len each) ≡ n) k e in
     (omega arith, rw left_next (omega arith))
 
-part_length : (a k : ℕ) (xs : List ℤ) → a + k ≤ length xs → length (take (a + k - a) (drop a xs)) ≡ k
+pub part_length : (a k : ℕ) (xs : List ℤ) → a + k ≤ length xs → length (take (a + k - a) (drop a xs)) ≡ k
 part_length a k xs le = omega (arith, length-take (a + k - a) (drop a xs), length-drop a xs)
 
-put_front : (a k : ℕ) (xs ys : List ℤ) → a + k ≤ length xs → length ys ≡ length (take (a + k - a) (drop a xs)) → take (a + k) (put_mid a (a + k - a) xs ys) ≡ take a xs ++ ys
+pub put_front : (a k : ℕ) (xs ys : List ℤ) → a + k ≤ length xs → length ys ≡ length (take (a + k - a) (drop a xs)) → take (a + k) (put_mid a (a + k - a) xs ys) ≡ take a xs ++ ys
 put_front a k xs ys le e = let p = part_length a k xs le in take-put_mid a (a + k - a) xs ys (a + k) (omega arith) (omega arith)
 
 -- ---- what a loop did

@@ -53,7 +53,7 @@ rep_bits n x lt e =
     let f = signed_fits n lt in
     record { below = lt; value = sym (int_wrap_fits w32 (to_z w32 n) f) ∙ ap (int_wrap w32) e }
 
-rep_num : (n : ℕ) → n < 2 ^ 31 → Rep w32 n (pos n)
+pub rep_num : (n : ℕ) → n < 2 ^ 31 → Rep w32 n (pos n)
 rep_num n lt = let f : FitsSigned w32 (pos n) = record { sfits = lt } in record { below = omega arith; value = omega (arith, ints) ∙ sym (int_wrap_fits w32 (pos n) f) }
 
 -- ---- what the fixed predictors compute: e is the residual's entry, a the newest sample, b the one before it, ..

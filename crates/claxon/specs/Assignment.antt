@@ -1,6 +1,7 @@
 -- What a frame's header says, as the code keeps it (RFC 9639, section 9.1).
-use Rattle.std.specs.Prelude.{◌≡◌, ℕ, ◌+◌, ◌-◌, Bool, true, false, cond, ◌==◌, Option, Some, None}
+use Rattle.std.specs.Prelude.{◌≡◌, ℕ, ◌+◌, ◌-◌, List, Bool, true, false, cond, ◌==◌, Option, Some, None}
 use Rattle.claxon_format.specs.Header.{width_of}
+use Rattle.claxon_format.specs.Stereo.{widths}
 use Rattle.claxon.specs.declared.frame.header.parts.BlockingStrategy.{BlockingStrategy}
 use Rattle.claxon.specs.declared.frame.header.parts.BlockingStrategy.TheVariants.{Fixed, Variable}
 use Rattle.claxon.specs.declared.frame.header.parts.BlockTime.{BlockTime}
@@ -49,3 +50,7 @@ is_variable Variable = true
 abbrev pub time_number : BlockTime → Bool × ℕ
 time_number (FrameNumber n) = (false, n)
 time_number (SampleNumber n) = (true, n)
+
+-- the widths of the coded channels, where the samples have so many bits
+abbrev pub coded_widths : ChannelAssignment → ℕ → List ℕ
+coded_widths assignment bits = widths (channel_code assignment) bits

@@ -114,12 +114,7 @@ fields_view h = record {
 abbrev pub start_view : FrameHeader → Start
 start_view h = record { time = h.time; size = h.block_size; channels = channel_code h.channel_assignment; width = h.bits_per_sample }
 
--- the one size of blocks, or else this
-abbrev pub size_or : ℕ → Option ℕ → ℕ
-size_or other None = other
-size_or other (Some size) = size
-
--- a stream whose blocks have the one size, or sizes from 0 to 1 where they vary: only that they differ shows
+-- what is known of the stream
 abbrev pub shape_view : Option StreamShape → Option Stream
 shape_view None = None
-shape_view (Some shape) = Some record { width = shape.bits_per_sample; least_block = size_or 0 shape.block_size; greatest_block = size_or 1 shape.block_size }
+shape_view (Some shape) = Some record { width = shape.bits_per_sample; least_block = shape.min_block_size; greatest_block = shape.max_block_size }

@@ -1,12 +1,14 @@
 pub mod Errors
 pub mod Loans
 pub mod Cuts
+pub mod FrameCuts
+pub mod BodyCuts
+pub mod Frames
 pub mod Ends
 pub mod Fields
 pub mod Kinds
 pub mod Partitions
 pub mod Assignment
-pub mod FrameCuts
 pub mod Channels
 pub mod Stereo
 pub mod Comments

@@ -64,7 +64,11 @@ fn size_before(block_size: u16, stream: Option<StreamShape>) -> u16
     let Some(shape) = stream else {
         return block_size;
     };
-    shape.block_size.unwrap_or(block_size)
+    if shape.min_block_size == shape.max_block_size {
+        shape.min_block_size
+    } else {
+        block_size
+    }
 }
 
 // The width that the header names, or else that of the stream.

@@ -10,8 +10,9 @@ pub struct StreamShape {
     /// The width of the samples where a header names none, 1 to 32 bits.
     pub bits_per_sample: u32,
 
-    /// The size of every block but the last, where the stream has one.
-    pub block_size: Option<u16>,
+    /// The least and the greatest size of a block. Where they are one all blocks but the last have it.
+    pub min_block_size: u16,
+    pub max_block_size: u16,
     ghost some: { 1 ≤ bits_per_sample },
     ghost most: { bits_per_sample ≤ 32 },
 }

@@ -1,4 +1,4 @@
-use Rattle.std.proofs.Common.{arith, [], take}
+use Rattle.std.proofs.Common.{[], take}
 use Rattle.claxon_input.proofs.Sources.{on_err}
 use Rattle.claxon.proofs.WordsAhead.{words_taken, words_went, words_stuck}
 use Rattle.claxon.proofs.subframe.words.read_words_at_hand.Goals as goal

@@ -1,4 +1,4 @@
-use Rattle.std.proofs.Common.{rules, arith, refl, subst, sym, ℕ, ◌+◌, ◌<◌, length, set, w32, FitsSigned}
+use Rattle.std.proofs.Common.{rules, arith, refl, subst, ℕ, ◌+◌, ◌<◌, length, set, w32, FitsSigned}
 use Rattle.std.proofs.lemmas.Int.{to_z-of_z}
 use Rattle.claxon.proofs.WordsAhead.{WordsSoFar, words_begin, words_next}
 use Rattle.claxon.proofs.subframe.words.words_ahead.Goals as goal
