@@ -3,9 +3,10 @@ ghost use Rattle.std.specs.Prelude.{◌≤◌};
 
 use crate::{Output, command, run, write_samples};
 use claxon::{Error, FlacReader};
+use linked_list_allocator::LocalHeap;
 use std::io::{Cursor, ErrorKind, Read, Write};
 use std::test::Fail;
-use std::{fs, io, process};
+use std::{env, fs, io, process};
 
 // A place for a few bytes. It takes so many bytes a call, fails from some write on, and perhaps at each flush.
 #[derive(Drop)]
@@ -221,6 +222,26 @@ fn each_read_failed(rt: HostRuntime) {
     }
 }
 
+// Heaps of so many sizes: what doesn't fit is refused, so that each request is refused at some of them.
+#[test]
+fn refused_memory(rt: HostRuntime) -> Result<(), Fail> {
+    let mut refused = 0usize;
+    for size in 0..512usize {
+        let heap = LocalHeap::new(rt.alloc(), 8 * size)?;
+        let mut output = Sink::new(32, 9, false);
+        match run(&heap, Cursor::new(stream(0x58)), &mut output) {
+            Err(Error::OutOfMemory) => refused = refused.saturating_add(1),
+            outcome => {
+                assert_eq!(rt; end_of(outcome), End::Clean(2), "{size}");
+                assert_eq!(rt; output.written(), FIVES.as_slice(), "{size}");
+            }
+        }
+    }
+    // The byte buffer alone has 2048 bytes.
+    assert!(rt; refused > 256 && refused < 300, "{refused}");
+    Ok(())
+}
+
 // What comes after the first frame.
 #[test]
 fn the_rest_of_a_stream(rt: HostRuntime) -> Result<(), Fail> {
@@ -260,10 +281,16 @@ fn outcome_of(rt: &HostRuntime, words: &[&str]) -> claxon::Result<Outcome> {
     })
 }
 
-// The name of a file of this process's own that holds these bytes.
+// A name of this process's own in the folder for files that don't last.
+fn path_of(rt: &HostRuntime, name: &str) -> Result<String, Fail> {
+    let (folder, id) = (env::temp_dir(rt)?, process::id(rt.process()));
+    let folder = folder.as_str();
+    Ok(format!(in rt.alloc(); "{folder}/claxon_raw_{name}_{id}")?)
+}
+
+// The name of such a file, which holds these bytes.
 fn file_of(rt: &HostRuntime, name: &str, bytes: &[u8]) -> Result<String, Fail> {
-    let id = process::id(rt.process());
-    let path = format!(in rt.alloc(); "/tmp/claxon_raw_{name}_{id}")?;
+    let path = path_of(rt, name)?;
     fs::write(rt, path.as_str(), bytes)?;
     Ok(path)
 }
@@ -293,17 +320,17 @@ fn damaged_files(rt: HostRuntime) -> Result<(), Fail> {
     Ok(())
 }
 
+// Whether a command line gives a fault's text and nothing else.
+fn has_failed(rt: &HostRuntime, words: &[&str]) -> claxon::Result<bool> {
+    let outcome = outcome_of(rt, words)?;
+    Ok(outcome.status == 1 && outcome.output.is_empty() && !outcome.errors.is_empty())
+}
+
 #[test]
 fn files_that_are_not_there(rt: HostRuntime) -> Result<(), Fail> {
-    for words in [
-        ["/tmp/claxon_raw_none/none"].as_slice(),
-        ["--tags", "/tmp/claxon_raw_none/none"].as_slice(),
-    ] {
-        let absent = outcome_of(&rt, words)?;
-        assert_eq!(rt; absent.status, 1);
-        assert!(rt; absent.output.is_empty());
-        assert!(rt; !absent.errors.is_empty());
-    }
+    let path = path_of(&rt, "none")?;
+    assert!(rt; has_failed(&rt, &[path.as_str()])?);
+    assert!(rt; has_failed(&rt, &["--tags", path.as_str()])?);
     Ok(())
 }
 

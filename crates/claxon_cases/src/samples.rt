@@ -1,0 +1,54 @@
+//! Files by the samples that they give.
+use claxon::{Error, FlacReader, Result};
+use std::alloc::Global;
+use std::io::{Read, Write};
+
+/// How many samples there were, and the FNV-1a hash of their little-endian bytes.
+#[derive(Clone, Copy)]
+struct Tally {
+    count: u64,
+    hash: u64,
+}
+
+impl Tally {
+    const fn new() -> Tally {
+        Tally {
+            count: 0,
+            hash: 0xcbf2_9ce4_8422_2325,
+        }
+    }
+
+    fn add(&mut self, sample: i32) {
+        self.count = self.count.wrapping_add(1);
+        for byte in sample.cast_unsigned().to_le_bytes() {
+            self.hash = (self.hash ^ u64::from(byte)).wrapping_mul(0x0000_0100_0000_01b3);
+        }
+    }
+}
+
+// Counts the samples up to the end or the first fault.
+fn decode<R: Read + Drop>(alloc: Global, input: R, tally: &mut Tally) -> Result<()> {
+    let mut flac = FlacReader::new(alloc, input)?;
+    for sample in flac.samples().take(usize::MAX) {
+        tally.add(sample?);
+    }
+    Ok(())
+}
+
+/// Prints how many samples a file gives, a hash of their bytes, and how it ends.
+pub fn print_tally<R: Read + Drop, W: Write>(
+    alloc: Global,
+    name: &str,
+    input: R,
+    output: &mut W,
+) -> Result<()> {
+    let mut tally = Tally::new();
+    let outcome = decode(alloc, input, &mut tally);
+    write!(output, "{name} {} {:016x} ", tally.count, tally.hash)?;
+    match outcome {
+        Ok(()) => writeln!(output, "ok")?,
+        Err(Error::IoError(_)) => writeln!(output, "IO")?,
+        Err(error) => writeln!(output, "{error}")?,
+    }
+    Ok(())
+}
