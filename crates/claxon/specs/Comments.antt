@@ -1,4 +1,4 @@
--- Vorbis comments (RFC 9639, 8.6) as the code keeps them: texts, each with the place of its first '='.
+-- Vorbis comments (RFC 9639, section 8.6) as the code keeps them: texts, each with the place of its first '='.
 use Rattle.std.specs.Prelude.{◌≡◌, ℕ, true, ◌<◌, Option, None, Some, List, [], ◌∷◌, All, map, slice_index, length, string_bytes}
 use Rattle.std.specs.declared.string.String.{String}
 use Rattle.std.specs.Borrow.{Bor}
