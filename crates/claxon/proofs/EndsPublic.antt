@@ -90,7 +90,7 @@ module _ {X Y : Type 0} {read : List X → Reading X Y} {C : Y → List X → Ty
       → (y : Y) (t rest : List X) → C y t → Honestly a b t rest → (x : A) × (r ≡ Ok (Some x)) × (view x ≡ y) × (b.coming ≡ rest)
   unfolding some_of
   ends_code_again view r a b g y t rest c o = elim (ended_or k view r read a b g) [
-      inl p ↦ absurd (not_ended a b t rest o (Done y rest) (ap read o.here ∙ law.again y t rest c) (λ q. cc) p.1)
+    | inl p ↦ absurd (not_ended a b t rest o (Done y rest) (ap read o.here ∙ law.again y t rest c) (λ q. cc) p.1)
     | inr p ↦ let z = gives_again law view p.0 a b p.2 y t rest c o in (z.0, p.1 ∙ ap some_of z.1, z.2, z.3)
   ]
 
@@ -105,7 +105,7 @@ module _ {X Y : Type 0} {read : List X → Reading X Y} {C : Y → List X → Ty
       → (f : Fault) (t rest : List X) → F f t → Honestly a b t rest → (e : Error) × (r ≡ Err e) × IsFault f e × (b.coming ≡ rest)
   unfolding some_of
   ends_fault_again view r a b g f t rest c o = elim (ended_or k view r read a b g) [
-      inl p ↦ absurd (not_ended a b t rest o (Faulty f rest) (ap read o.here ∙ law.bad_again f t rest c) (λ q. cc) p.1)
+    | inl p ↦ absurd (not_ended a b t rest o (Faulty f rest) (ap read o.here ∙ law.bad_again f t rest c) (λ q. cc) p.1)
     | inr p ↦ let z = gives_fault_again law view p.0 a b p.2 f t rest c o in (z.0, p.1 ∙ ap some_of z.1, z.2, z.3)
   ]
 
@@ -114,7 +114,7 @@ module _ {X Y : Type 0} {read : List X → Reading X Y} {C : Y → List X → Ty
       → ((y : Y) (t rest : List X) → C y t → a.coming ≡ t ++ rest → ⊥) → ((f : Fault) (t rest : List X) → F f t → a.coming ≡ t ++ rest → ⊥) → (e : Error) × (r ≡ Err e) × IsIo e
   unfolding some_of
   ends_io view r a b g t l fair n m = elim (ended_or k view r read a b g) [
-      inl p ↦ absurd (not_failed_end p.1)
+    | inl p ↦ absurd (not_failed_end p.1)
     | inr p ↦ let z = gives_io law view p.0 a b p.2 t n m in (z.0, p.1 ∙ ap some_of z.1, z.2)
   ]
     where

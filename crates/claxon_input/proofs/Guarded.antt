@@ -56,6 +56,22 @@ module _ (a b : Source ℕ) {P : List ℕ → List ℕ → Type 0} (x : ℕ) whe
   unfolding IsRest first_kept
   remainder_16 small h t = let k = h.known t in kept_16 a.to_come b.to_come x a.checks b.checks small t k.told (k.rest (bytes_of_all a.to_come) ([], refl)) k.checks
 
+-- what `crc` gives is the remainder of what was taken since the reader was made
+module _ {R : Type 0} (source : R → Source ℕ) (b c : CheckedReader R ℕ) {P : List ℕ → List ℕ → Type 0} (start : checked_state b ≡ 0) where
+  pub crc_8 : checked_state c < 256 → Went (bytes_in (checked_source source check8) b) (bytes_in (checked_source source check8) c) P → (bytes_in (checked_source source check8) b).told ≡ true
+      → checked_state c ≡ crc8 (bits_of (taken (bytes_in (checked_source source check8) b).coming (bytes_in (checked_source source check8) c).coming))
+  unfolding bytes_in
+  crc_8 small h t =
+      remainder_8 (source (checked_inner b)) (source (checked_inner c)) (checked_state c) small
+      (subst (λ (x : ℕ). Went (bytes_of_source (with_check (check8 x) (source (checked_inner b)))) (bytes_of_source (with_check (check8 (checked_state c)) (source (checked_inner c)))) P) start h) t
+
+  pub crc_16 : checked_state c < 65536 → Went (bytes_in (checked_source source check16) b) (bytes_in (checked_source source check16) c) P → (bytes_in (checked_source source check16) b).told ≡ true
+      → checked_state c ≡ crc16 (bits_of (taken (bytes_in (checked_source source check16) b).coming (bytes_in (checked_source source check16) c).coming))
+  unfolding bytes_in
+  crc_16 small h t =
+      remainder_16 (source (checked_inner b)) (source (checked_inner c)) (checked_state c) small
+      (subst (λ (x : ℕ). Went (bytes_of_source (with_check (check16 x) (source (checked_inner b)))) (bytes_of_source (with_check (check16 (checked_state c)) (source (checked_inner c)))) P) start h) t
+
 -- ---- what happened behind a remainder or a loan happened to what it reaches
 
 -- other loans and remainders on the way

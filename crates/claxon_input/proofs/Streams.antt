@@ -199,13 +199,13 @@ too_many n (Done q s) h le = let k : ltb (n + q) (2 ^ 32) ≡ false = le-ltb _ _
 too_many n (Faulty f s) h le = absurd (h f s refl)
 too_many n Short h le = rw (many_short n) refl
 
-short_unary : (s : Bits) (o : Option (List ℕ)) → HasNoOne s o → unary_at s ≡ Short
+short_unary : (a b : BitState) (s : Bits) → HasNoOne a b s → unary_at s ≡ Short
 unfolding unary_at
-short_unary s o (inl h) = rw (h.1, no_one h.0) refl
-short_unary s o (inr h) = rw (h.3, many_zeros h.0 h.1) (too_many h.0 (zeros_at h.1) (zeros_no_fault h.1) h.2)
+short_unary a b s (inl h) = rw (h.2, no_one h.0) refl
+short_unary a b s (inr h) = rw (h.3, many_zeros h.0 h.1) (too_many h.0 (zeros_at h.1) (zeros_no_fault h.1) h.2)
 
 pub stuck_unary : {a b : BitState} → RefusesOne a b → Stuck (bits_in a) (bits_in b) (λ s. unary_at s ≡ Short)
-stuck_unary {a} {b} h = stuck a b (λ s. unary_at s ≡ Short) (λ s. HasNoOne s b.source.to_come) h.rest h.cause (λ s. short_unary s b.source.to_come)
+stuck_unary {a} {b} h = stuck a b (λ s. unary_at s ≡ Short) (λ s. HasNoOne a b s) h.rest h.cause (short_unary a b)
 
 -- ---- the exit by a `?`
 

@@ -366,11 +366,13 @@ fn a_run_of_zeros_too_long(rt: HostRuntime) -> Result<(), Fail> {
     let mut reader = BufferedReader::new(
         rt.alloc(),
         ZerosFirst {
-            zeros: 536_870_912,
+            zeros: 536_870_913,
             then: 0x80,
         },
     )?;
     let mut bits = Bitstream::new(&mut reader);
+    // Some of the run is at hand, and counts.
+    assert_eq!(rt; bits.read_leq_u8(8)?, 0);
     match bits.read_unary() {
         Ok(_) => assert!(rt; false),
         Err(error) => assert!(rt; error.kind() == io::ErrorKind::InvalidData),

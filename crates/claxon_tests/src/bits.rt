@@ -1,4 +1,5 @@
 //! Bits, bytes and remainders of worked bytes.
+use crate::guarded::read_guarded_pair;
 use claxon::input::{Bitstream, BufferedReader, ReadBytes};
 use claxon_input::crc::{Crc8Reader, Crc16Reader};
 use std::io::Cursor;
@@ -79,5 +80,13 @@ fn remainders(rt: HostRuntime) -> Result<(), Fail> {
         reader.skip(bytes.len() as u32)?;
         assert_eq!(rt; reader.crc(), wide);
     }
+    Ok(())
+}
+
+#[test]
+fn a_guarded_pair(rt: HostRuntime) -> Result<(), Fail> {
+    let mut reader = Cursor::new([0xacu8, 0x04, 0x68, 0x11, 0xac, 0x04, 0x68, 0x10]);
+    assert_eq!(rt; read_guarded_pair(&mut reader).ok(), Some((21, 257)));
+    assert_eq!(rt; read_guarded_pair(&mut reader).ok(), None);
     Ok(())
 }

@@ -11,6 +11,7 @@ mod failures;
 mod files;
 #[cfg(test)]
 mod frames;
+pub mod guarded;
 #[cfg(test)]
 mod header_faults;
 #[cfg(test)]
