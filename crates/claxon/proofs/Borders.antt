@@ -16,7 +16,7 @@ use Rattle.claxon_input.specs.declared.bits.Bitstream.{Bitstream}
 use Rattle.claxon_input.specs.declared.error.Error.{Error}
 use Rattle.claxon_input.proofs.Guarded.{behind}
 use Rattle.claxon_input.proofs.Public.{fault_is}
-use Rattle.claxon.proofs.Taking.{gives_loans}
+use Rattle.claxon_input.proofs.Went.{gives_loans}
 
 -- the length of a rest
 rest_length : (z m : List ℕ) → IsRest z m → length m ≤ length z

@@ -1,19 +1,18 @@
 -- What was read by a reader that keeps a remainder, of the reader behind its reference.
-use Rattle.std.proofs.Common.{◌≡◌, ℕ, Option, None, Some, List, ◌∷◌, Bool, true, false, refl, subst}
+use Rattle.std.proofs.Common.{◌≡◌, ℕ, Option, None, Some, List, ◌∷◌, true, refl, subst}
 use Rattle.std.specs.Borrow.{GName, MutBor}
 use Rattle.std.specs.Prelude.{Result, Ok, Err}
 use Rattle.claxon_format.specs.Reading.{Reading, Done}
 use Rattle.claxon_input.specs.Checked.{checked_inner, checked_source, checked_state}
 use Rattle.claxon_input.specs.Remainders.{check8}
 use Rattle.claxon_input.specs.Source.{Source, through_loan, with_check}
-use Rattle.claxon_input.specs.Stream.{Stops, Stream, bytes_in, is_io, past}
+use Rattle.claxon_input.specs.Stream.{Stream, bytes_in, is_io, past}
 use Rattle.claxon_input.specs.declared.crc.CheckedReader.{CheckedReader}
 use Rattle.claxon_input.specs.declared.error.Error.{Error}
-use Rattle.claxon_input.specs.declared.error.Error.TheVariants.{IoError, FormatError, Unsupported, OutOfMemory}
 use Rattle.claxon_input.proofs.Guarded.{behind, kept_below, same_below, stops_below, under, went_below}
 use Rattle.claxon_input.proofs.Streams.{bytes_of_source}
+use Rattle.claxon_input.proofs.Went.{stops_loans}
 use Rattle.claxon.specs.Ends.{Ended, GivesOrEnds, or_end}
-use Rattle.claxon.specs.Errors.{is_memory}
 
 module _ {X : Type 0} (a b : Stream X) (l m : List GName) (f g : List ℕ → List ℕ) (loans : m ≡ l → b.loans ≡ a.loans) (checks : a.told ≡ true → b.told ≡ true → g ≡ f → b.checks ≡ a.checks) where
   ended_below : (count : ℕ) → Ended count (under l f a) (under m g b) → Ended count a b
@@ -25,21 +24,11 @@ module _ {X : Type 0} (a b : Stream X) (l m : List GName) (f g : List ℕ → Li
   ends_below count view (Ok None) read h = ended_below count h
   ends_below count view (Err e) read h = stops_below a b l m f g loans checks e (or_end count read) h
 
--- what is left of the loans and the kind of an Err
-loans_of : {X Y : Type 0} (e : Error) (read : List X → Reading X Y) (a b : Stream X) (io : Bool) → is_io e ≡ io → Stops e read a b → b.loans ≡ a.loans
-loans_of e read a b true i k = (k.stuck i).loans
-loans_of e read a b false i k = (k.fault i).loans
-
+-- the loans on the way are kept
 pub ends_loans : {X A Y : Type 0} (count : ℕ) (view : A → Y) (r : Result (Option A) Error) (read : List X → Reading X Y) (a b : Stream X) → GivesOrEnds count view r read a b → b.loans ≡ a.loans
 ends_loans count view (Ok (Some x)) read a b g = g.loans
 ends_loans count view (Ok None) read a b g = g.loans
-ends_loans count view (Err e) read a b g = loans_of e (or_end count read) a b (is_io e) refl g
-
-pub stops_no_memory : {X Y : Type 0} (e : Error) (read : List X → Reading X Y) (a b : Stream X) → Stops e read a b → is_memory e ≡ false
-stops_no_memory (IoError i) read a b h = refl
-stops_no_memory (FormatError i) read a b h = refl
-stops_no_memory (Unsupported i) read a b h = refl
-stops_no_memory OutOfMemory read a b h = let k = h.named in absurd cc
+ends_loans count view (Err e) read a b g = stops_loans e (or_end count read) a b (is_io e) refl g
 
 module _ (s t : Source ℕ) (j k : GName) (f g : List ℕ → ℕ) where
   pub ends_behind : {A Y : Type 0} (count : ℕ) (view : A → Y) (r : Result (Option A) Error) (read : List ℕ → Reading ℕ Y)

@@ -76,7 +76,7 @@ pub exit : {X A Y : Type 0} (view : A → Y) {read : List X → Reading X Y} {a 
 exit view p h = rw (p.1, p.2) h
 
 -- the loans on the way are kept
-stops_loans : {X Y : Type 0} (e : Error) (read : List X → Reading X Y) (a b : Stream X) (io : Bool) → is_io e ≡ io → Stops e read a b → b.loans ≡ a.loans
+pub stops_loans : {X Y : Type 0} (e : Error) (read : List X → Reading X Y) (a b : Stream X) (io : Bool) → is_io e ≡ io → Stops e read a b → b.loans ≡ a.loans
 stops_loans e read a b true i k = (k.stuck i).loans
 stops_loans e read a b false i k = (k.fault i).loans
 

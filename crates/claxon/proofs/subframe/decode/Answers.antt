@@ -8,7 +8,8 @@ use Rattle.claxon_input.specs.Stream.{Stream, stream, Gives}
 use Rattle.claxon_input.proofs.Public.{gives_code, gives_again, gives_fault, gives_fault_again, gives_io}
 use Rattle.claxon.specs.Cuts.{channel_at}
 use Rattle.claxon.proofs.Cuts.{channel_is}
-use Rattle.claxon.proofs.Taking.{gives_same, gives_loans, gives_no_memory}
+use Rattle.claxon_input.proofs.Went.{gives_same, gives_loans}
+use Rattle.claxon.proofs.Taking.{gives_no_memory}
 use Rattle.claxon.proofs.subframe.decode.Goals as goal
 
 -- the cut reader is the format's

@@ -7,7 +7,7 @@ use Rattle.claxon.specs.Kinds.{type_number}
 use Rattle.claxon.specs.declared.subframe.SubframeType.{SubframeType}
 use Rattle.claxon.specs.declared.subframe.SubframeType.TheVariants.{Constant, Verbatim, Fixed, Lpc}
 use Rattle.claxon.proofs.Cuts.{fixed_entries, lpc_entries}
-use Rattle.claxon.proofs.Taking.{gives_same}
+use Rattle.claxon_input.proofs.Went.{gives_same}
 use Rattle.claxon.proofs.subframe.decode_samples.Goals as goal
 
 constant_is : (kind : SubframeType) (w n : ℕ) → kind ≡ Constant → (s : Bits) → entries_at w n (type_number kind) s ≡ (and_then (signed_at w) (λ x. done (replicate n x))) s

@@ -6,7 +6,8 @@ use Rattle.claxon_format.specs.Reading.{Done, Reading, and_then, bind, done}
 use Rattle.claxon_input.specs.Stream.{bytes_in}
 use Rattle.claxon_input.proofs.Went.{StopsWith, stops_after, went_map, went_none}
 use Rattle.claxon.specs.FrameCuts.{Start, fields_view, guarded_at, shape_view, start_at, width_at}
-use Rattle.claxon.proofs.Checked.{ends_loans, stops_no_memory}
+use Rattle.claxon.proofs.Checked.{ends_loans}
+use Rattle.claxon.proofs.Taking.{stops_no_memory}
 use Rattle.claxon.proofs.Ends.{after_first, exit_or_end, first_stops, some_ok, some_stops}
 use Rattle.claxon.proofs.FrameCuts.{start_is, start_with}
 use Rattle.claxon.proofs.frame.header.read_frame_header_or_eof.Goals as goal
