@@ -3,7 +3,6 @@ ghost use Rattle.std.specs.Prelude.{◌≤◌};
 
 use crate::{Output, command, run, write_samples};
 use claxon::{Error, FlacReader};
-use linked_list_allocator::LocalHeap;
 use std::io::{Cursor, ErrorKind, Read, Write};
 use std::test::Fail;
 use std::{env, fs, io, process};
@@ -220,26 +219,6 @@ fn each_read_failed(rt: HostRuntime) {
         );
         assert_eq!(rt; output.written(), &FIVES[..want], "{left}");
     }
-}
-
-// Heaps of so many sizes: what doesn't fit is refused, so that each request is refused at some of them.
-#[test]
-fn refused_memory(rt: HostRuntime) -> Result<(), Fail> {
-    let mut refused = 0usize;
-    for size in 0..512usize {
-        let heap = LocalHeap::new(rt.alloc(), 8 * size)?;
-        let mut output = Sink::new(32, 9, false);
-        match run(&heap, Cursor::new(stream(0x58)), &mut output) {
-            Err(Error::OutOfMemory) => refused = refused.saturating_add(1),
-            outcome => {
-                assert_eq!(rt; end_of(outcome), End::Clean(2), "{size}");
-                assert_eq!(rt; output.written(), FIVES.as_slice(), "{size}");
-            }
-        }
-    }
-    // The byte buffer alone has 2048 bytes.
-    assert!(rt; refused > 256 && refused < 300, "{refused}");
-    Ok(())
 }
 
 // What comes after the first frame.
