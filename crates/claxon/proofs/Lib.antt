@@ -1,9 +1,13 @@
+pub mod ByteFields
+pub mod Ends
+pub mod EndsPublic
 pub mod Pairs
 pub mod Chunks
 pub mod Shifts
 pub mod Escapes
 pub mod Faults
 pub mod Words
+pub mod WordsAhead
 pub mod Signs
 pub mod Parts
 pub mod Cuts

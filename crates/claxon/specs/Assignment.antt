@@ -1,9 +1,9 @@
 -- The codes of a frame's header (RFC 9639, sections 9.1.1 and 9.1.3).
-use Rattle.std.specs.Prelude.{ℕ, ◌+◌, ◌≤◌}
+use Rattle.std.specs.Prelude.{ℕ, ◌+◌}
 use Rattle.claxon.specs.declared.frame.header.BlockSize.{BlockSize}
-use Rattle.claxon.specs.declared.frame.header.BlockSize.TheVariants.{Known, Read8, Read16}
+use Rattle.claxon.specs.declared.frame.header.BlockSize.TheVariants.{Known}
 use Rattle.claxon.specs.declared.frame.header.ChannelAssignment.{ChannelAssignment}
-use Rattle.claxon.specs.declared.frame.header.ChannelAssignment.TheVariants.{Independent, LeftSideStereo, RightSideStereo, MidSideStereo}
+use Rattle.claxon.specs.declared.frame.header.ChannelAssignment.TheVariants.{Independent}
 
 -- the least size that a size code can give
 abbrev pub least_size : BlockSize → ℕ

@@ -1,6 +1,8 @@
 pub mod Errors
 pub mod Loans
 pub mod Cuts
+pub mod Ends
+pub mod Fields
 pub mod Kinds
 pub mod Partitions
 pub mod Assignment

@@ -4,6 +4,7 @@
 //! parts where they stand in other containers.
 #![tactic(auto)]
 
+mod fields;
 pub mod frame;
 mod head;
 pub mod metadata;
@@ -17,7 +18,7 @@ mod error {
 
 /// Bytes and bits.
 pub mod input {
-    pub use claxon_input::input::{Bitstream, BufferedReader, ReadBytes};
+    pub use claxon_input::input::{Ahead, Bitstream, BufferedReader, ReadBytes};
 }
 
 pub use error::{Error, Result};

@@ -18,10 +18,12 @@ ghost use Rattle.claxon.specs.Partitions.{lengths, total};
 mod predictor;
 #[cfg(test)]
 mod tests;
+mod words;
 
 use crate::error::{Error, Result};
 use crate::input::{Bitstream, ReadBytes};
 use predictor::{predict_fixed, predict_lpc};
+use words::read_words;
 
 /// How the samples of a subframe are written.
 #[derive(Clone, Copy, Debug)]
@@ -474,20 +476,6 @@ fn decode_escape_partition<R: ReadBytes>(input: &mut Bitstream<R>, buffer: &mut 
         return Ok(());
     }
     decode_verbatim(input, width, buffer)
-}
-
-fn read_words<R: ReadBytes>(
-    input: &mut Bitstream<R>,
-    parameter: u32,
-    buffer: &mut [i32],
-) -> Result<()>
-    requires { parameter ≤ 30 }
-    ensures { Gives (λ x. buffer.new) result (times_at (length buffer.old) (word_at parameter)) (stream R.source input.old) (stream R.source input.new) }
-{
-    for entry in buffer.iter_mut() {
-        *entry = read_word(input, parameter)?;
-    }
-    Ok(())
 }
 
 // A quotient in as many zeros, a one, and `parameter` low bits. The number is taken modulo 2^32.

@@ -29,7 +29,7 @@ not_fault e (Done z k) m y rest h q = h
 not_fault e (Faulty f k) m y rest h q = cc
 not_fault e Short m y rest h q = h
 
-fault_is : {X Y : Type 0} (e : Error) (x : Reading X Y) (m : List X) → IsFaultOf e x m → (f : Fault) × IsFault f e × (x ≡ Faulty f m)
+pub fault_is : {X Y : Type 0} (e : Error) (x : Reading X Y) (m : List X) → IsFaultOf e x m → (f : Fault) × IsFault f e × (x ≡ Faulty f m)
 fault_is e (Done z k) m h = absurd h
 fault_is e (Faulty f k) m h = (f, h.0, ap (λ (l : List _). Faulty f l) h.1)
 fault_is e Short m h = absurd h

@@ -13,12 +13,12 @@ use Rattle.claxon_format.specs.Readers.{number_at, zeros_at, one_more, in_32, un
 use Rattle.claxon_format.proofs.Bytes.{bits_of-append}
 use Rattle.claxon_format.proofs.Numbers.{Reads-number}
 use Rattle.claxon_format.proofs.Words.{Reads-unary, zeros_no_fault}
-use Rattle.claxon_input.specs.Source.{Source, LosesFront, IsTold, Takes, Refuses, Failed, LosesSome, HasMore}
+use Rattle.claxon_input.specs.Source.{Source, LosesFront, IsTold, Takes, Refuses, Breaks, Failed, LosesSome, HasMore}
 use Rattle.claxon_input.specs.BitSource.{BitState, bits_to_come, TakesBits, TakesNumber, RefusesBits, HasNoOne, RefusesOne}
 use Rattle.claxon_input.specs.Stream.{Stream, stream_of, bytes_in, bits_after, past, is_told, known, IsRest, Went, Stuck, FailedIn, Yields}
 
 -- functions that agree are one
-same_function : {A B : Type 0} {f g : A → B} → ((x : A) → f x ≡ g x) → f ≡ g
+pub same_function : {A B : Type 0} {f g : A → B} → ((x : A) → f x ≡ g x) → f ≡ g
 same_function h i x = h x i
 
 rest_after : {X : Type 0} (z s t m : List X) → s ≡ t ++ m → IsRest z s → IsRest z m
@@ -34,7 +34,7 @@ Cuts f g bytes xs = (rest : List ℕ) → f (bytes ++ rest) ≡ xs ++ g rest
 record Told {X : Type 0} (f g : List ℕ → List X) (a b : Source ℕ) (p q : Option (List ℕ)) (P : List X → List X → Type 0) : Type 0 where
   told : is_told q ≡ true
   is : P (known f p) (known g q)
-  rest : (z : List X) → IsRest z (known f p) → IsRest z (known g q)
+  rest : (z : List ℕ) → IsRest z (known (λ all. all) p) → IsRest z (known (λ all. all) q)
   checks : past q b.checks ≡ past p a.checks
 
 knows : {X : Type 0} (f g : List ℕ → List X) (a b : Source ℕ) (p q : Option (List ℕ)) (bytes : List ℕ) (xs : List X) (P : List X → List X → Type 0) → LosesFront p q bytes → Cuts f g bytes xs
@@ -46,7 +46,7 @@ knows f g a b (Some all) (Some rest) bytes xs P l e c h t =
     record {
       told = refl;
       is = subst (λ (s : List _). P s (g rest)) (sym k) (h (g rest));
-      rest = λ z. rest_after z (f all) xs (g rest) k;
+      rest = λ z. rest_after z all bytes rest l;
       checks = same_function (λ more. c tt (rest ++ more) ∙ ap a.checks (sym (append_assoc bytes rest more) ∙ ap (λ (x : List ℕ). x ++ more) (sym l)));
     }
 
@@ -82,48 +82,49 @@ went_bytes {xs = xs} P h k = went_by (λ all. all) (λ all. all) xs P h (λ rest
 record Failing {X : Type 0} (f g : List ℕ → List X) (a b : Source ℕ) (p q : Option (List ℕ)) (P : List X → Type 0) : Type 0 where
   told : is_told q ≡ true
   why : P (known f p) ⊎ FailedIn (stream_of f a) (stream_of g b)
-  rest : (z : List X) → IsRest z (known f p) → IsRest z (known g q)
+  rest : (z : List ℕ) → IsRest z (known (λ all. all) p) → IsRest z (known (λ all. all) q)
 
-failed_in : {X : Type 0} (f g : List ℕ → List X) (a b : Source ℕ) (left : List ℕ) → b.to_come ≡ Some left → (HasMore (Some left) → g left ≡ [] → ⊥) → Failed a b → FailedIn (stream_of f a) (stream_of g b)
-failed_in f g a b left e n (inl h) = inl h
-failed_in f g a b left e n (inr h) = inr (h.0, rw e (n (subst (λ (o : Option (List ℕ)). HasMore o) e h.1)))
+failed_in : {X : Type 0} (f g : List ℕ → List X) (a b : Source ℕ) (left : List ℕ) → b.to_come ≡ Some left → Failed a b → FailedIn (stream_of f a) (stream_of g b)
+failed_in f g a b left e (inl h) = inl h
+failed_in f g a b left e (inr h) = inr (h.0, rw e (subst (λ (o : Option (List ℕ)). HasMore o) e h.1))
 
-fails : {X : Type 0} (f g : List ℕ → List X) (a b : Source ℕ) (p q : Option (List ℕ)) (lost : List ℕ) (xs : List X) (P Q : List X → Type 0) → b.to_come ≡ q → LosesFront p q lost → Cuts f g lost xs
-    → ((left : List ℕ) → HasMore (Some left) → g left ≡ [] → ⊥) → IfSome (option_map f p) (λ all. Q all ⊎ Failed a b) → ((s : List X) → Q s → P s) → is_told p ≡ true → Failing f g a b p q P
-fails f g a b None q lost xs P Q e l k n c h t = absurd cc
-fails f g a b (Some all) None lost xs P Q e l k n c h t = absurd l
-fails f g a b (Some all) (Some left) lost xs P Q e l k n c h t = record {
+fails : {X : Type 0} (f g : List ℕ → List X) (a b : Source ℕ) (p q : Option (List ℕ)) (lost : List ℕ) (P Q : List X → Type 0) → b.to_come ≡ q → LosesFront p q lost
+    → IfSome (option_map f p) (λ all. Q all ⊎ Failed a b) → ((s : List X) → Q s → P s) → is_told p ≡ true → Failing f g a b p q P
+fails f g a b None q lost P Q e l c h t = absurd cc
+fails f g a b (Some all) None lost P Q e l c h t = absurd l
+fails f g a b (Some all) (Some left) lost P Q e l c h t = record {
   told = refl;
-  why = elim c [ inl q ↦ inl (h (f all) q) | inr q ↦ inr (failed_in f g a b left e (n left) q) ];
-  rest = λ z. rest_after z (f all) xs (g left) (ap f l ∙ k left);
+  why = elim c [ inl q ↦ inl (h (f all) q) | inr q ↦ inr (failed_in f g a b left e q) ];
+  rest = λ z. rest_after z all lost left l;
 }
 
-stuck_by : {X : Type 0} (f g : List ℕ → List X) {a b : Source ℕ} (xs : List X) (P Q : List X → Type 0) → (r : LosesSome a b) → Cuts f g r.lost xs → ((left : List ℕ) → HasMore (Some left) → g left ≡ [] → ⊥)
+stuck_by : {X : Type 0} (f g : List ℕ → List X) {a b : Source ℕ} (P Q : List X → Type 0) → LosesSome a b
     → IfSome (option_map f a.to_come) (λ all. Q all ⊎ Failed a b) → ((s : List X) → Q s → P s) → Stuck (stream_of f a) (stream_of g b) P
-stuck_by f g {a = a} {b = b} xs P Q r k n c h = record {
+stuck_by f g {a = a} {b = b} P Q r c h = record {
   loans = r.loans;
-  known = λ t. let w = fails f g a b a.to_come b.to_come r.lost xs P Q refl r.front k n c h t in record { told = w.told; why = w.why; rest = w.rest };
+  known = λ t. let w = fails f g a b a.to_come b.to_come r.lost P Q refl r.front c h t in record { told = w.told; why = w.why; rest = w.rest };
 }
 
-no_bits : (left : List ℕ) → HasMore (Some left) → [] ++ bits_of left ≡ [] → ⊥
-unfolding bits_of bits
-no_bits [] h e = h refl
-no_bits (x ∷ left) h e = cc
-
-pub stuck : (a b : BitState) (P Q : Bits → Type 0) → LosesSome a.source b.source → b.left ≡ [] → IfSome (bits_to_come a) (λ all. Q all ⊎ Failed a.source b.source) → ((s : Bits) → Q s → P s)
+pub stuck : (a b : BitState) (P Q : Bits → Type 0) → LosesSome a.source b.source → IfSome (bits_to_come a) (λ all. Q all ⊎ Failed a.source b.source) → ((s : Bits) → Q s → P s)
     → Stuck (bits_in a) (bits_in b) P
-stuck a b P Q r e c h =
-    stuck_by (bits_after a.left) (bits_after b.left) (a.left ++ bits_of r.lost) P Q r
-    (cuts_bits a.left b.left r.lost (a.left ++ bits_of r.lost) (rw e (sym (append_nil (a.left ++ bits_of r.lost)))))
-    (λ left m k. no_bits left m (subst (λ (l : Bits). l ++ bits_of left ≡ []) e k)) c h
-  where
-    append_nil : (xs : Bits) → xs ++ [] ≡ xs
-    append_nil [] = refl
-    append_nil (x ∷ xs) = ap (λ (l : Bits). x ∷ l) (append_nil xs)
+stuck a b P Q r c h =
+    stuck_by (bits_after a.left) (bits_after b.left) P Q r c h
 
-bytes_cause : (p : Option (List ℕ)) (n : ℕ) (F : Type 0) → IfSome p (λ all. (length all < n) ⊎ F) → IfSome (option_map (λ (all : List ℕ). all) p) (λ all. (length all < n) ⊎ F)
-bytes_cause None n F h = h
-bytes_cause (Some all) n F h = h
+-- bytes are as they are
+as_bytes : (p : Option (List ℕ)) (Q : List ℕ → Type 0) (F : Type 0) → IfSome p (λ all. Q all ⊎ F) → IfSome (option_map (λ (all : List ℕ). all) p) (λ all. Q all ⊎ F)
+as_bytes None Q F h = h
+as_bytes (Some all) Q F h = h
+
+pub stuck_in_bytes : (a b : Source ℕ) (P Q : List ℕ → Type 0) → LosesSome a b → IfSome a.to_come (λ all. Q all ⊎ Failed a b) → ((s : List ℕ) → Q s → P s) → Stuck (bytes_of_source a) (bytes_of_source b) P
+stuck_in_bytes a b P Q r c h = stuck_by (λ all. all) (λ all. all) P Q r (as_bytes a.to_come Q (Failed a b) c) h
+
+only_failed : (p : Option (List ℕ)) (F : Type 0) → IfSome p (λ _. F) → IfSome p (λ _. ⊥ ⊎ F)
+only_failed None F h = tt
+only_failed (Some all) F h = inr h
+
+-- where the source failed, any reader is stuck
+pub stuck_broken : {a b : Source ℕ} (P : List ℕ → Type 0) → Breaks a b → Stuck (bytes_of_source a) (bytes_of_source b) P
+stuck_broken {a} {b} P h = stuck_in_bytes a b P (λ s. ⊥) h.rest (only_failed a.to_come (Failed a b) h.cause) (λ s q. absurd q)
 
 -- ---- numbers
 
@@ -135,7 +136,7 @@ unfolding number_at
 short_number w s h = let k : ltb (length s) w ≡ true = lt-ltb _ _ h in rw k refl
 
 pub stuck_number : {a b : BitState} (w : ℕ) → RefusesBits a b w → Stuck (bits_in a) (bits_in b) (λ s. number_at w s ≡ Short)
-stuck_number {a} {b} w h = stuck a b (λ s. number_at w s ≡ Short) (λ s. (length s < w) × (b.source.to_come ≡ Some [])) h.rest h.emptied h.cause (λ s q. short_number w s q.0)
+stuck_number {a} {b} w h = stuck a b (λ s. number_at w s ≡ Short) (λ s. (length s < w) × (b.source.to_come ≡ Some [])) h.rest h.cause (λ s q. short_number w s q.0)
 
 pub went_bit : {a b : BitState} (bit : Bool) → TakesBits a b (bit ∷ []) → Went (bits_in a) (bits_in b) (λ s m. bit_at s ≡ Done bit m)
 unfolding bit_at
@@ -147,7 +148,7 @@ short_bit [] h = refl
 short_bit (b ∷ s) h = absurd (omega arith)
 
 pub stuck_bit : {a b : BitState} → RefusesBits a b 1 → Stuck (bits_in a) (bits_in b) (λ s. bit_at s ≡ Short)
-stuck_bit {a} {b} h = stuck a b (λ s. bit_at s ≡ Short) (λ s. (length s < 1) × (b.source.to_come ≡ Some [])) h.rest h.emptied h.cause (λ s q. short_bit s q.0)
+stuck_bit {a} {b} h = stuck a b (λ s. bit_at s ≡ Short) (λ s. (length s < 1) × (b.source.to_come ≡ Some [])) h.rest h.cause (λ s q. short_bit s q.0)
 
 -- ---- bytes
 
@@ -162,8 +163,7 @@ unfolding bytes_at
 short_bytes n s h = let k : ltb (length s) n ≡ true = lt-ltb _ _ h in rw k refl
 
 pub stuck_bytes : {a b : Source ℕ} (n : ℕ) → Refuses a b n → Stuck (bytes_of_source a) (bytes_of_source b) (λ s. bytes_at n s ≡ Short)
-stuck_bytes {a} {b} n h =
-    stuck_by (λ all. all) (λ all. all) h.rest.lost (λ s. bytes_at n s ≡ Short) (λ s. length s < n) h.rest (λ rest. refl) (λ left m. m) (bytes_cause a.to_come n (Failed a b) h.cause) (short_bytes n)
+stuck_bytes {a} {b} n h = stuck_in_bytes a b (λ s. bytes_at n s ≡ Short) (λ s. length s < n) h.rest h.cause (short_bytes n)
 
 -- ---- zeros up to a one
 
@@ -205,7 +205,7 @@ short_unary s o (inl h) = rw (h.1, no_one h.0) refl
 short_unary s o (inr h) = rw (h.3, many_zeros h.0 h.1) (too_many h.0 (zeros_at h.1) (zeros_no_fault h.1) h.2)
 
 pub stuck_unary : {a b : BitState} → RefusesOne a b → Stuck (bits_in a) (bits_in b) (λ s. unary_at s ≡ Short)
-stuck_unary {a} {b} h = stuck a b (λ s. unary_at s ≡ Short) (λ s. HasNoOne s b.source.to_come) h.rest h.emptied h.cause (λ s. short_unary s b.source.to_come)
+stuck_unary {a} {b} h = stuck a b (λ s. unary_at s ≡ Short) (λ s. HasNoOne s b.source.to_come) h.rest h.cause (λ s. short_unary s b.source.to_come)
 
 -- ---- the exit by a `?`
 

@@ -1,5 +1,5 @@
 -- What calls one after another did to a stream.
-use Rattle.std.proofs.Common.{◌≡◌, ◌⊎◌, inl, inr, List, refl, sym, ◌∙◌}
+use Rattle.std.proofs.Common.{◌≡◌, ◌⊎◌, inl, inr, true, List, refl, sym, ◌∙◌}
 use Rattle.std.specs.Prelude.{Result, Ok, Err}
 use Rattle.std.specs.declared.io.Error as io
 use Rattle.claxon_format.specs.Fault.{Fault}
@@ -23,6 +23,13 @@ went_both T h k f = record {
 
 pub went_map : {X : Type 0} {a b : Stream X} {P : List X → List X → Type 0} (T : List X → List X → Type 0) → Went a b P → (P a.coming b.coming → T a.coming b.coming) → Went a b T
 went_map T h f = record { errors = h.errors; empties = h.empties; loans = h.loans; known = λ t. let x = h.known t in record { told = x.told; is = f x.is; rest = x.rest; checks = x.checks } }
+
+-- the same, where what is to come is known
+pub went_told : {X : Type 0} {a b : Stream X} {P : List X → List X → Type 0} (T : List X → List X → Type 0) → Went a b P → (a.told ≡ true → P a.coming b.coming → T a.coming b.coming) → Went a b T
+went_told T h f = record { errors = h.errors; empties = h.empties; loans = h.loans; known = λ t. let x = h.known t in record { told = x.told; is = f t x.is; rest = x.rest; checks = x.checks } }
+
+pub stuck_told : {X : Type 0} {a b : Stream X} {Q : List X → Type 0} (T : List X → Type 0) → Stuck a b Q → (a.told ≡ true → Q a.coming → T a.coming) → Stuck a b T
+stuck_told T h f = record { loans = h.loans; known = λ t. let x = h.known t in record { told = x.told; why = elim x.why [ inl q ↦ inl (f t q) | inr q ↦ inr q ]; rest = x.rest } }
 
 failed_later : {X : Type 0} {a b : Stream X} (c : Stream X) {P : List X → List X → Type 0} → Went a b P → FailedIn b c → FailedIn a c
 failed_later c h (inl e) = inl (λ p. e (p ∙ sym h.errors))

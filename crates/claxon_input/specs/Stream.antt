@@ -12,11 +12,12 @@ use Rattle.claxon_input.specs.declared.bits.Bitstream.{Bitstream}
 use Rattle.claxon_input.specs.declared.error.Error.{Error}
 use Rattle.claxon_input.specs.declared.error.Error.TheVariants.{IoError, FormatError, Unsupported, OutOfMemory}
 
--- What a source still gives: whether what is to come is known, this, the counts of failures, the loans on the way, and
--- what the remainders are past all that is to come and more.
+-- What a source still gives: whether what is to come is known, this, the bytes of it that are still in the source, the counts
+-- of failures, the loans on the way, and what the remainders are past all that is to come and more.
 pub record Stream (X : Type 0) : Type 0 where
   pub told : Bool
   pub coming : List X
+  pub bytes : List ℕ
   pub errors : ℕ
   pub empties : ℕ
   pub loans : List GName
@@ -39,6 +40,7 @@ abbrev pub stream_of : {X : Type 0} → (List ℕ → List X) → Source ℕ →
 stream_of f s = record {
   told = is_told s.to_come;
   coming = known f s.to_come;
+  bytes = known (λ all. all) s.to_come;
   errors = s.errors;
   empties = s.empties;
   loans = s.loans;
@@ -63,11 +65,12 @@ bytes_in source r = stream_of (λ all. all) (source r)
 unfoldable pub IsRest : {X : Type 0} → List X → List X → Type 0
 IsRest {X} s m = (t : List X) × (s ≡ t ++ m)
 
--- What is to come is still known, and P holds; what it is a rest of is as before, and so are the remainders at the end.
+-- What is to come is still known, and P holds; the bytes in the source are a rest of those before, and the remainders at the
+-- end are as before.
 pub record Knows {X : Type 0} (old new : Stream X) (P : Type 0) : Type 0 where
   pub told : new.told ≡ true
   pub is : P
-  pub rest : (z : List X) → IsRest z old.coming → IsRest z new.coming
+  pub rest : (z : List ℕ) → IsRest z old.bytes → IsRest z new.bytes
   pub checks : new.checks ≡ old.checks
 
 -- No read of the source failed, and P holds of what was to come before and after.
@@ -79,13 +82,13 @@ pub record Went {X : Type 0} (old new : Stream X) (P : List X → List X → Typ
 
 -- a read of the source answered an Err, or nothing before the end
 abbrev pub FailedIn : {X : Type 0} → Stream X → Stream X → Type 0
-FailedIn old new = (new.errors ≢ old.errors) ⊎ ((new.empties ≢ old.empties) × (new.coming ≢ []))
+FailedIn old new = (new.errors ≢ old.errors) ⊎ ((new.empties ≢ old.empties) × (new.bytes ≢ []))
 
 -- What is to come is still known, P holds or the source failed, and a front was taken.
 pub record Fails {X : Type 0} (old new : Stream X) (P : Type 0) : Type 0 where
   pub told : new.told ≡ true
   pub why : P ⊎ FailedIn old new
-  pub rest : (z : List X) → IsRest z old.coming → IsRest z new.coming
+  pub rest : (z : List ℕ) → IsRest z old.bytes → IsRest z new.bytes
 
 -- The source failed, or P holds of what was to come.
 pub record Stuck {X : Type 0} (old new : Stream X) (P : List X → Type 0) : Type 0 where
