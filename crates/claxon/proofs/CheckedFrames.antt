@@ -27,14 +27,14 @@ module _ (s t : Source ℕ) (j k : GName) (f g : List ℕ → ℕ) where
   fed_behind : {A Y : Type 0} (count : ℕ) (view : A → Y) (r : Result (Option A) Error) (read : List ℕ → Reading ℕ Y)
       → GivesOrEndsOrStarves count view r read (bytes_of_source (with_check f (through_loan j s))) (bytes_of_source (with_check g (through_loan k t))) → GivesOrEndsOrStarves count view r read (bytes_of_source s) (bytes_of_source t)
   fed_behind count view r read h = elim (fed_or_end count view r read _ _ h) [
-      inl p ↦ rw p.0 (record { went = went_behind (λ s m. Unit {0}) p.1.went })
+    | inl p ↦ rw p.0 (record { went = went_behind (λ s m. Unit {0}) p.1.went })
     | inr q ↦ never_starves count view r read (bytes_of_source s) (bytes_of_source t) (ends_behind s t j k f g count view r read q)
   ]
 
   fed_name : {A Y : Type 0} (count : ℕ) (view : A → Y) (r : Result (Option A) Error) (read : List ℕ → Reading ℕ Y)
       → GivesOrEndsOrStarves count view r read (bytes_of_source (with_check f (through_loan j s))) (bytes_of_source (with_check g (through_loan k t))) → j ≡ k
   fed_name count view r read h = elim (fed_or_end count view r read _ _ h) [
-      inl p ↦ (let e : k ∷ t.loans ≡ j ∷ s.loans = p.1.went.loans in cc)
+    | inl p ↦ (let e : k ∷ t.loans ≡ j ∷ s.loans = p.1.went.loans in cc)
     | inr q ↦ name_behind s t j k f g count view r read q
   ]
 

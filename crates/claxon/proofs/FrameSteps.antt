@@ -131,7 +131,7 @@ module _ (stream : Option Format.Stream) (width : Format.IsWidth (Format.known_w
   pub channels_failed : {A : Type 0} (view : A → Format.Block) {r : Result (Option A) Error} {e : Error} {start : Start} {a b : Stream ℕ} (c : Stream ℕ) → (y : Error) × (r ≡ Err y) × (y ≡ e)
       → Went a b (λ s m. or_end 2 (start_at stream) s ≡ Done (Some start) m) → GivesOrStarves nothing (Err e) (subframes_at start.size (widths start.channels start.width)) b c → GivesOrEndsOrStarves 2 view r (Format.frame_bytes_at stream) a c
   channels_failed view {e = e} {start = start} {b = b} c p h k = elim (fed nothing (Err e) (subframes_at start.size (widths start.channels start.width)) b c k) [
-      inl q ↦ exit_starved 2 view (Format.frame_bytes_at stream) (p.0, p.1, p.2 ∙ is_refused (Err e) e refl q.0) (starved_after h q.1)
+    | inl q ↦ exit_starved 2 view (Format.frame_bytes_at stream) (p.0, p.1, p.2 ∙ is_refused (Err e) e refl q.0) (starved_after h q.1)
     | inr q ↦ exit_fed 2 view (Format.frame_bytes_at stream) p (channels_stopped stream width h q)
   ]
 

@@ -81,7 +81,7 @@ module _ {A : Type 0} (view : A → Format.Block) (stream : Option Format.Stream
 
   pub ended_is : (room : ℕ) → IfErr r (λ e. is_memory e ≡ true → NoRoom stream room a b) → Fairly a b → length a.coming < 2 → (r ≡ Ok None) × (b.coming ≡ [])
   ended_is room h fair small = elim split [
-      inl p ↦ absurd (no_header stream room a b (of_starved r (λ e. NoRoom stream room a b) p.0 h) fair.told small)
+    | inl p ↦ absurd (no_header stream room a b (of_starved r (λ e. NoRoom stream room a b) p.0 h) fair.told small)
     | inr q ↦ ends_again 2 view r (Format.frame_bytes_at stream) a b q fair small
   ]
 
@@ -93,13 +93,13 @@ module _ {A : Type 0} (view : A → Format.Block) (stream : Option Format.Stream
 
   pub named_is : (f : Fault) (t rest : List ℕ) → Format.FrameBytesFault stream f t → Honestly a b t rest → is_starved r ≡ false → IsErrAnd r (IsFault f) × (b.coming ≡ rest)
   named_is f t rest c o m = elim split [
-      inl p ↦ no_want r p.0 m
+    | inl p ↦ no_want r p.0 m
     | inr q ↦ (let z = ends_fault_again law 2 short view r a b q f t rest c o in (rw z.1 z.2, z.3))
   ]
 
   pub io_is : a.told ≡ true → 2 ≤ length a.coming → (b.bytes ≢ [] → b.empties ≡ a.empties) → ((block : Format.Block) (t rest : List ℕ) → Format.Frame stream block t → a.coming ≡ t ++ rest → ⊥)
       → ((f : Fault) (t rest : List ℕ) → Format.FrameBytesFault stream f t → a.coming ≡ t ++ rest → ⊥) → is_starved r ≡ false → IsErrAnd r IsIo
   io_is told enough fair none fine m = elim split [
-      inl p ↦ no_want r p.0 m
+    | inl p ↦ no_want r p.0 m
     | inr q ↦ (let z = ends_io law 2 short view r a b q told enough fair none fine in rw z.1 z.2)
   ]

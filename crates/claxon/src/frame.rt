@@ -181,7 +181,8 @@ fn read_channels<R: ReadBytes, A: Allocator>(
     ensures room { IfErr result (λ error. is_memory error ≡ true → vec_capacity buffer < 8 * 65535) }
     ensures none_taken { IfErr result (λ error. is_memory error ≡ true → Went (bytes_in R.source input.old) (bytes_in R.source input.new) (λ s m. s ≡ m)) }
 {
-    let samples = usize::from(header.channel_assignment.channels()) * usize::from(header.block_size);
+    let samples = usize::from(header.channel_assignment.channels())
+        * usize::from(header.block_size);
     let mut buffer = ensure_buffer_len(buffer, samples)?;
     decode_subframes(input, header, buffer.as_mut_slice())?;
     Ok(buffer)

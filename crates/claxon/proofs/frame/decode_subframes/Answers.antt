@@ -1,4 +1,3 @@
-
 use Rattle.std.proofs.Common.{rules}
 use Rattle.claxon.specs.BodyCuts.{subframes_at}
 use Rattle.claxon.proofs.Borders.{gives_through, name_through}
