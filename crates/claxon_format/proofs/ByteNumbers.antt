@@ -5,9 +5,8 @@ use Rattle.std.proofs.lemmas.List.{take_at, drop_at, take-append-drop, length-ap
 use Rattle.std.proofs.lemmas.Nat.{pow-add}
 use Rattle.std.proofs.Math.Nat.{pow-suc, mul_comm, add-mul}
 use Rattle.claxon_format.specs.Bits.{Bits, bits, bits_of, number}
-use Rattle.claxon_format.specs.Readers.{number_at}
-use Rattle.claxon_format.specs.Metadata.{bytes_at, big_endian, big_at}
-use Rattle.claxon_format.specs.Frame.{by_bytes}
+use Rattle.claxon_format.specs.read.Bits.{number_at}
+use Rattle.claxon_format.specs.read.Bytes.{bytes_at, big_at, by_bytes, big_endian}
 use Rattle.claxon_format.proofs.Numbers.{number-bits}
 use Rattle.claxon_format.specs.Reading.{Done, Short, bind, done}
 use Rattle.claxon_format.proofs.Bytes.{bits_of-append, length-bits_of}

@@ -9,10 +9,11 @@ use Rattle.std.proofs.lemmas.List.{take_at, length-append, append-nil}
 use Rattle.std.proofs.lemmas.Str.{IsUtf8-from_is_utf8, is_utf8-from_IsUtf8}
 use Rattle.claxon_format.specs.Fault.{CommentShort, CommentLarge, VendorLong, VendorNotUtf8, TooManyEntries, EntryLong, SeparatorMissing, NameByte, EntryNotUtf8, ExcessData, EntriesMissing}
 use Rattle.claxon_format.specs.Reading.{Reads, Then, Is, Each, Mapped, choose}
-use Rattle.claxon_format.specs.Metadata.{Bytes, most_bytes}
-use Rattle.claxon_format.specs.Comments.{Entry, is_separator, IsEntry, Counted, Mean, entry_of, has_separator, has_name, not_utf8, EntryFault, EntryCode, Kept, KeptFault, EntryLength, EntryLengthFault, EndFault, EntriesFault, VendorLength, VendorLengthFault, Vendor, VendorFault, Count, CountFault, Comment, CommentCode, CommentFault, entry_at, kept_at, entry_length_at, end_at, entries_at, vendor_length_at, vendor_at, count_at, comment_at}
+use Rattle.claxon_format.specs.Metadata.{Bytes, Little, most_bytes}
+use Rattle.claxon_format.specs.Comments.{Entry, is_separator, IsEntry, Counted, Mean, entry_of, has_separator, has_name, not_utf8, EntryFault, EntryCode, Kept, KeptFault, EntryLength, EntryLengthFault, EndFault, EntriesFault, VendorLength, VendorLengthFault, Vendor, VendorFault, Count, CountFault, Comment, CommentCode, CommentFault}
+use Rattle.claxon_format.specs.read.Comments.{entry_at, kept_at, entry_length_at, end_at, entries_at, vendor_length_at, vendor_at, count_at, comment_at}
 use Rattle.claxon_format.proofs.Laws.{Reads-then, Reads-same, Reads-test, Reads-done, Reads-map, Reads-pick, Reads-checked}
-use Rattle.claxon_format.proofs.Metadata.{Reads-bytes, Reads-little}
+use Rattle.claxon_format.proofs.Metadata.{Reads-bytes, Reads-little, little_length}
 
 -- ---- a text before and after its first '='
 
@@ -167,7 +168,8 @@ end_to count left es t zero-is (empty, (none, (es-is, t-is))) =
 
 next_to : (count left : ℕ) (es : List Entry) (t : List ℕ) → 4 ≤ left → ((l : ℕ) (es : List Entry) (t : List ℕ) → EntriesTested count l es t → Entries count l es t) → NextTested (EntriesTested count) left es t → Entries (suc count) left es t
 unfolding NextTested
-next_to count left es t enough rest (n, x, u, (small, (len, n-is)), (ks, y, z, kept, (others, tested, es-is), u-is), t-is) =
+next_to count left es t enough rest (n, x, u, (small, code), (ks, y, z, kept, (others, tested, es-is), u-is), t-is) =
+    let len = little_length 4 n x code in
     let r = rest (left - 4 - n) others z tested in
     let l : length y ≡ n = kept_length n ks y kept in
     let le : n ≤ left - 4 = ltb-false _ _ small in
@@ -176,7 +178,7 @@ next_to count left es t enough rest (n, x, u, (small, (len, n-is)), (ks, y, z, k
     record {
       texts = y ∷ r.texts;
       count_is = ap suc r.count_is;
-      each = (x ++ y, z, (x, (len, l ∙ n-is), refl), r.each, t-is ∙ ap (λ (q : List ℕ). x ++ q) u-is ∙ sym (append_assoc x y z));
+      each = (x ++ y, z, (x, subst (λ (k : ℕ). Little 4 k x) (sym l) code, refl), r.each, t-is ∙ ap (λ (q : List ℕ). x ++ q) u-is ∙ sym (append_assoc x y z));
       meant = rw es-is (mean_cons n ks others y r.texts kept r.meant);
       fills = omega arith;
     }
@@ -197,7 +199,8 @@ entries_to (suc count) left es t c = choose_to (ltb left 4) refl c (entries_to c
 -- each text has its length in four bytes
 each_least : (texts : List (List ℕ)) (t : List ℕ) → Each Counted texts t → 4 * length texts ≤ length t
 each_least [] t c = omega arith
-each_least (x ∷ texts) t (p, q, (h, (len, n-is), p-is), rest, t-is) =
+each_least (x ∷ texts) t (p, q, (h, code, p-is), rest, t-is) =
+    let len = little_length 4 (length x) h code in
     let k = each_least texts q rest in
     let e : length t ≡ (length h + length x) + length q = ap length (t-is ∙ ap (λ (z : List ℕ). z ++ q) p-is) ∙ length-append (h ++ x) q ∙ ap (λ (m : ℕ). m + length q) (length-append h x) in
     omega arith
@@ -210,7 +213,8 @@ entries_from [] zero left [] t n c m len =
 entries_from [] zero left (e ∷ es) t n c m len = absurd m
 entries_from [] (suc count) left es t n c m len = absurd (let k : 0 ≡ suc count = n in omega arith)
 entries_from (x ∷ texts) zero left es t n c m len = absurd (let k : suc (length texts) ≡ 0 = n in omega arith)
-entries_from (x ∷ texts) (suc count) left es t n (p, q, (h, (hlen, n-is), p-is), rest, t-is) m len =
+entries_from (x ∷ texts) (suc count) left es t n (p, q, (h, code, p-is), rest, t-is) m len =
+    let hlen = little_length 4 (length x) h code in
     let parts = mean_parts x texts es m in
     let e : length t ≡ (length h + length x) + length q = ap length (t-is ∙ ap (λ (z : List ℕ). z ++ q) p-is) ∙ length-append (h ++ x) q ∙ ap (λ (m : ℕ). m + length q) (length-append h x) in
     let k : suc (length texts) ≡ suc count = n in
@@ -218,7 +222,7 @@ entries_from (x ∷ texts) (suc count) left es t n (p, q, (h, (hlen, n-is), p-is
     let others = entries_from texts count (left - 4 - length x) parts.others q (omega arith) rest parts.rest after in
     let enough : ltb left 4 ≡ false = le-ltb _ _ (omega arith) in
     let small : ltb (left - 4) (length x) ≡ false = le-ltb _ _ (omega arith) in
-    rw enough (length x, h, x ++ q, (small, (hlen, n-is)), (parts.first, x, q, parts.kept, (parts.others, others, parts.joined), refl), t-is ∙ ap (λ (z : List ℕ). z ++ q) p-is ∙ append_assoc h x q)
+    rw enough (length x, h, x ++ q, (small, code), (parts.first, x, q, parts.kept, (parts.others, others, parts.joined), refl), t-is ∙ ap (λ (z : List ℕ). z ++ q) p-is ∙ append_assoc h x q)
 
 pub Reads-entry_length : (most : ℕ) → Reads ℕ ℕ (entry_length_at most) (EntryLength most) (EntryLengthFault most)
 unfolding entry_length_at
@@ -243,7 +247,9 @@ CommentTested n c t =
 
 comment_to : (n : ℕ) (c : Comment) (t : List ℕ) → CommentTested n c t → CommentCode n c t
 unfolding CommentTested
-comment_to n c t (short, (large, (v, x, u, (vendor_small, (x-len, v-is)), (vendor, y, w, (utf8, (y-len, y-is)), (count, z, q, (count_small, (z-len, count-is)), (entries, tested, c-is), w-is), u-is), t-is))) =
+comment_to n c t (short, (large, (v, x, u, (vendor_small, x-code), (vendor, y, w, (utf8, (y-len, y-is)), (count, z, q, (count_small, z-code), (entries, tested, c-is), w-is), u-is), t-is))) =
+    let x-len = little_length 4 v x x-code in
+    let z-len = little_length 4 count z z-code in
     let e = entries_to count (n - 8 - v) entries q tested in
     let a : 8 ≤ n = ltb-false _ _ short in
     let b : v ≤ n - 8 = ltb-false _ _ vendor_small in
@@ -258,9 +264,9 @@ comment_to n c t (short, (large, (v, x, u, (vendor_small, (x-len, v-is)), (vendo
       q,
       ltb-false _ _ large,
       omega arith,
-      (x, (x-len, y-len ∙ v-is), ap (λ (r : List ℕ). x ++ r) y-is),
+      (x, subst (λ (k : ℕ). Little 4 k x) (sym y-len) x-code, ap (λ (r : List ℕ). x ++ r) y-is),
       IsUtf8-from_is_utf8 vendor (not_true _ utf8),
-      (z-len, e.count_is ∙ count-is),
+      subst (λ (k : ℕ). Little 4 k z) (sym e.count_is) z-code,
       e.each,
       e.meant,
       joined,
@@ -268,7 +274,9 @@ comment_to n c t (short, (large, (v, x, u, (vendor_small, (x-len, v-is)), (vendo
 
 comment_from : (n : ℕ) (c : Comment) (t : List ℕ) → CommentCode n c t → CommentTested n c t
 unfolding CommentTested
-comment_from n c t (texts, x, y, z, most, len, (h, (h-len, v-is), x-is), utf8, (y-len, count-is), each, meant, t-is) =
+comment_from n c t (texts, x, y, z, most, len, (h, h-code, x-is), utf8, y-code, each, meant, t-is) =
+    let h-len = little_length 4 (length c.vendor) h h-code in
+    let y-len = little_length 4 (length texts) y y-code in
     let joined : t ≡ h ++ (c.vendor ++ (y ++ z)) = t-is ∙ ap (λ (r : List ℕ). r ++ (y ++ z)) x-is ∙ append_assoc h c.vendor (y ++ z) in
     let lens : length t ≡ length h + (length c.vendor + (length y + length z)) = ap length joined ∙ length-append h (c.vendor ++ (y ++ z)) ∙ ap (λ (m : ℕ). length h + m) (length-append c.vendor (y ++ z) ∙ ap (λ (m : ℕ). length c.vendor + m) (length-append y z)) in
     let least = each_least texts z each in
@@ -280,13 +288,13 @@ comment_from n c t (texts, x, y, z, most, len, (h, (h-len, v-is), x-is), utf8, (
           length c.vendor,
           h,
           c.vendor ++ (y ++ z),
-          (le-ltb _ _ (omega arith), (h-len, v-is)),
+          (le-ltb _ _ (omega arith), h-code),
           (
             c.vendor,
             c.vendor,
             y ++ z,
             (not_false _ (is_utf8-from_IsUtf8 c.vendor utf8), (refl, refl)),
-            (length texts, y, z, (lt-leb _ _ (omega arith), (y-len, count-is)), (c.entries, entries_from texts (length texts) (n - 8 - length c.vendor) c.entries z refl each meant after, refl), refl),
+            (length texts, y, z, (lt-leb _ _ (omega arith), y-code), (c.entries, entries_from texts (length texts) (n - 8 - length c.vendor) c.entries z refl each meant after, refl), refl),
             refl,
           ),
           joined,

@@ -1,19 +1,23 @@
 -- The laws that the functions of the crate promise.
 use Rattle.std.proofs.Common.{List, sym, ◌∙◌, ℤ}
-use Rattle.claxon_format.specs.Readers.{subframe_at}
+use Rattle.claxon_format.specs.read.Subframe.{subframe_at}
 use Rattle.claxon_format.specs.Subframe.{Subframe, SubframeFault}
-use Rattle.claxon_format.specs.Frame.{Block, Frame, FrameBytesFault, frame_bytes_at}
+use Rattle.claxon_format.specs.Frame.{Block, Frame, FrameBytesFault}
+use Rattle.claxon_format.specs.read.Frame.{frame_bytes_at}
 use Rattle.claxon_format.specs.FrameWriter.{write_bytes, written_block}
-use Rattle.claxon_format.specs.Blocks.{Content, Body, BodyFault, body_at, MetadataBlock, BlockCode, BlockFault, block_at}
-use Rattle.claxon_format.specs.Heads.{Head, HeadCode, HeadFault, head_at}
+use Rattle.claxon_format.specs.MetadataBlocks.{Content, Body, BodyFault, MetadataBlock, BlockCode, BlockFault}
+use Rattle.claxon_format.specs.read.MetadataBlocks.{body_at, block_at}
+use Rattle.claxon_format.specs.Heads.{Head, HeadCode, HeadFault}
+use Rattle.claxon_format.specs.read.Heads.{head_at}
 use Rattle.claxon_format.specs.Laws.{SubframesTold, FramesTold, BodiesTold, MetadataBlocksTold, HeadsTold, GuardsDivide, FramesDivide, ChannelsTold, MixingUndone, FramesLossless, PlansWritten, Interleaved}
 use Rattle.claxon_format.proofs.Laws.{told}
 use Rattle.claxon_format.proofs.Division.{guarded8, guarded16}
 use Rattle.claxon_format.proofs.Subframes.{Reads-subframe}
-use Rattle.claxon_format.proofs.Frames.{Reads-frame_bytes, frame_guarded, header_guarded}
+use Rattle.claxon_format.proofs.FrameBytes.{Reads-frame_bytes}
+use Rattle.claxon_format.proofs.Frames.{frame_guarded, header_guarded}
 use Rattle.claxon_format.proofs.Stereo.{unmixed_to}
 use Rattle.claxon_format.proofs.LosslessFrames.{coded_unmixed, written_is_frame, planned_is_frame}
-use Rattle.claxon_format.proofs.Blocks.{Reads-body, Reads-block}
+use Rattle.claxon_format.proofs.MetadataBlocks.{Reads-body, Reads-block}
 use Rattle.claxon_format.proofs.Heads.{Reads-head}
 use Rattle.claxon_format.proofs.Streams.{interleaved, length-interleave}
 

@@ -6,23 +6,28 @@ use Rattle.std.specs.Str.{chars, is_utf8}
 use Rattle.claxon_format.specs.Fault.{Id3Header, StreamMarker, StreaminfoMissing, SecondComment, SecondStreaminfo, StreaminfoLength, BlockSizeBounds, BlockSizeSmall, FrameSizeBounds, SampleRate, BlockType, ApplicationShort, ApplicationLarge, CommentShort, CommentLarge, VendorLong, VendorNotUtf8, TooManyEntries, EntryLong, SeparatorMissing, NameByte, EntryNotUtf8, ExcessData, EntriesMissing}
 use Rattle.claxon_format.specs.Bits.{bits, bits_of, number}
 use Rattle.claxon_format.specs.Reading.{Reading, Done, Faulty, Short, each_at, times_at}
-use Rattle.claxon_format.specs.Readers.{number_at}
-use Rattle.claxon_format.specs.Metadata.{bytes_at, big_endian, little_endian, big_at, little_at, block_header_at}
-use Rattle.claxon_format.specs.Streaminfo.{Streaminfo, streaminfo_bits_at}
-use Rattle.claxon_format.specs.Comments.{Comment, Entry, entry_at, kept_at, entry_length_at, entries_at, vendor_length_at, vendor_at, count_at, comment_at}
-use Rattle.claxon_format.specs.Blocks.{Content, Info, Padding, Application, Comments, Reserved, MetadataBlock, info_body_at, application_at, body_at, block_at}
-use Rattle.claxon_format.specs.Heads.{Head, marker_at, others_at, after_first, head_at}
+use Rattle.claxon_format.specs.read.Bits.{number_at}
+use Rattle.claxon_format.specs.read.Bytes.{bytes_at, big_at, little_at, big_endian, little_endian}
+use Rattle.claxon_format.specs.read.Metadata.{block_header_at}
+use Rattle.claxon_format.specs.Streaminfo.{Streaminfo}
+use Rattle.claxon_format.specs.read.Streaminfo.{sizes_at, format_at, md5_at, info_fields_at, streaminfo_at}
+use Rattle.claxon_format.specs.Comments.{Comment, Entry}
+use Rattle.claxon_format.specs.read.Comments.{entry_at, kept_at, entry_length_at, entries_at, vendor_length_at, vendor_at, count_at, comment_at}
+use Rattle.claxon_format.specs.MetadataBlocks.{Content, Info, Padding, Application, Comments, Reserved, MetadataBlock}
+use Rattle.claxon_format.specs.read.MetadataBlocks.{info_body_at, application_at, body_at, block_at}
+use Rattle.claxon_format.specs.Heads.{Head}
+use Rattle.claxon_format.specs.read.Heads.{marker_at, others_at, after_first, head_at}
 
 body : ℕ → ℕ → List ℕ → Reading ℕ Content
-unfolding bits bits_of number each_at times_at number_at bytes_at big_endian little_endian big_at little_at streaminfo_bits_at chars encode is_utf8 entry_at kept_at entry_length_at entries_at vendor_length_at vendor_at count_at comment_at info_body_at application_at body_at
+unfolding bits bits_of number each_at times_at number_at bytes_at big_endian little_endian big_at little_at sizes_at format_at md5_at info_fields_at streaminfo_at chars encode is_utf8 entry_at kept_at entry_length_at entries_at vendor_length_at vendor_at count_at comment_at info_body_at application_at body_at
 body type n s = body_at type n s
 
 block : List ℕ → Reading ℕ MetadataBlock
-unfolding bits bits_of number each_at times_at number_at bytes_at big_endian little_endian big_at little_at streaminfo_bits_at chars encode is_utf8 entry_at kept_at entry_length_at entries_at vendor_length_at vendor_at count_at comment_at info_body_at application_at body_at block_header_at block_at
+unfolding bits bits_of number each_at times_at number_at bytes_at big_endian little_endian big_at little_at sizes_at format_at md5_at info_fields_at streaminfo_at chars encode is_utf8 entry_at kept_at entry_length_at entries_at vendor_length_at vendor_at count_at comment_at info_body_at application_at body_at block_header_at block_at
 block s = block_at s
 
 head : Bool → Bool → List ℕ → Reading ℕ Head
-unfolding bits bits_of number each_at times_at number_at bytes_at big_endian little_endian big_at little_at streaminfo_bits_at chars encode is_utf8 entry_at kept_at entry_length_at entries_at vendor_length_at vendor_at count_at comment_at info_body_at application_at body_at block_header_at block_at marker_at others_at after_first head_at
+unfolding bits bits_of number each_at times_at number_at bytes_at big_endian little_endian big_at little_at sizes_at format_at md5_at info_fields_at streaminfo_at chars encode is_utf8 entry_at kept_at entry_length_at entries_at vendor_length_at vendor_at count_at comment_at info_body_at application_at body_at block_header_at block_at marker_at others_at after_first head_at
 head metadata_only wants_comment s = head_at (record { metadata_only = metadata_only; wants_comment = wants_comment }) s
 
 entry : List ℕ → ℕ → Entry

@@ -1,5 +1,5 @@
 -- The head of a stream, and its reader.
-use Rattle.std.proofs.Common.{◌≡◌, ℕ, zero, suc, ◌/◌, ◌<◌, ◌≤◌, Bool, true, false, cond, not, eqb, List, [], ◌∷◌, ◌++◌, length, refl, sym, ap, ◌∙◌, append_assoc, arith}
+use Rattle.std.proofs.Common.{◌≡◌, ℕ, zero, suc, ◌/◌, ◌<◌, ◌≤◌, Bool, true, false, cond, not, eqb, List, [], ◌∷◌, ◌++◌, length, refl, sym, ap, ◌∙◌, append_assoc, arith, subst}
 use Rattle.std.specs.Prelude.{◌&&◌, ◌||◌, Option, Some, None}
 use Rattle.std.specs.List.{list_any}
 use Rattle.std.proofs.lemmas.Bool.{eqb-true}
@@ -9,11 +9,12 @@ use Rattle.claxon_format.specs.Reading.{Reads, Each, Then, Is, Mapped, choose, d
 use Rattle.claxon_format.specs.Metadata.{Big}
 use Rattle.claxon_format.specs.Streaminfo.{Streaminfo}
 use Rattle.claxon_format.specs.Comments.{Comment}
-use Rattle.claxon_format.specs.Blocks.{Content, Info, Padding, Application, Comments, Reserved, MetadataBlock, BlockCode}
-use Rattle.claxon_format.specs.Heads.{Options, Head, is_info, is_comment, stream_marker, Marker, MarkerFault, is_end, Ends, comment_of, comments_in, first, IsHead, HeadCode, HeadFault, is_some, found_with, is_second, is_done, OthersFault, is_short, FirstFault, marker_at, others_at, after_first, head_at}
+use Rattle.claxon_format.specs.MetadataBlocks.{Content, Info, Padding, Application, Comments, Reserved, MetadataBlock, BlockCode}
+use Rattle.claxon_format.specs.Heads.{Options, Head, is_info, is_comment, stream_marker, Marker, MarkerFault, is_end, EndsAtLast, comment_of, comments_in, first, IsHead, HeadCode, HeadFault, is_some, found_with, is_second, is_done, OthersFault, is_short, FirstFault}
+use Rattle.claxon_format.specs.read.Heads.{marker_at, others_at, after_first, head_at}
 use Rattle.claxon_format.proofs.Laws.{Reads-then, Reads-same, Reads-test, Reads-done, Reads-map, Reads-pick, Reads-fails}
 use Rattle.claxon_format.proofs.Metadata.{Reads-big}
-use Rattle.claxon_format.proofs.Blocks.{Reads-block}
+use Rattle.claxon_format.proofs.MetadataBlocks.{Reads-block}
 use Rattle.claxon_format.proofs.Comments.{not_true, or_false}
 
 -- ---- the marker
@@ -23,9 +24,9 @@ MarkerTested = Then (Big 4) (λ m k t. (eqb (m / 256) 0x494433 ≡ false) × ((n
 
 marker_to : (m : ℕ) (t : List ℕ) → MarkerTested m t → Marker m t
 unfolding MarkerTested
-marker_to m t (k, x, u, (len, k-is), (a, (b, (m-is, u-is))), t-is) =
+marker_to m t (k, x, u, code, (a, (b, (m-is, u-is))), t-is) =
     let e : t ≡ x = t-is ∙ ap (λ (z : List ℕ). x ++ z) u-is ∙ append-nil x in
-    (m-is ∙ eqb-true k stream_marker (not_true _ b), rw e (len, m-is ∙ k-is))
+    (m-is ∙ eqb-true k stream_marker (not_true _ b), subst (λ (z : List ℕ). Big 4 m z) (sym e) (subst (λ (q : ℕ). Big 4 q x) (sym m-is) code))
 
 marker_from : (m : ℕ) (t : List ℕ) → Marker m t → MarkerTested m t
 unfolding MarkerTested
@@ -127,7 +128,7 @@ record Others (o : Options) (k : ℕ) (found r : Option Comment) (t : List ℕ) 
   each : Each BlockCode (next ∷ others) t
   no_info : list_any (λ b. is_info b.content) (next ∷ others) ≡ false
   one : length (listed found ++ comments_in (next ∷ others)) ≤ 1
-  ends : Ends o next others
+  ends : EndsAtLast o next others
   shown : r ≡ first (listed found ++ comments_in (next ∷ others))
 
 later_last : (o : Options) (k : ℕ) (found r : Option Comment) (t x u : List ℕ) (b : MetadataBlock) → Wishes o found → BlockCode b x → is_info b.content ≡ false → is_second found b.content ≡ false → is_done o.metadata_only found b ≡ true
@@ -174,7 +175,7 @@ others_to o (suc k) found r t w (b, x, u, code, (plain, (single, tail)), t-is) =
     go false e c rest = later_more o k found r t x u b w code plain single e (rest (wishes_next o found b w e) c) t-is
 
 others_from : (o : Options) (others : List MetadataBlock) (k : ℕ) (b : MetadataBlock) (found r : Option Comment) (t : List ℕ) → Wishes o found → length others < k → Each BlockCode (b ∷ others) t
-    → list_any (λ b. is_info b.content) (b ∷ others) ≡ false → length (listed found ++ comments_in (b ∷ others)) ≤ 1 → Ends o b others → r ≡ first (listed found ++ comments_in (b ∷ others)) → OthersTested o.metadata_only k found r t
+    → list_any (λ b. is_info b.content) (b ∷ others) ≡ false → length (listed found ++ comments_in (b ∷ others)) ≤ 1 → EndsAtLast o b others → r ≡ first (listed found ++ comments_in (b ∷ others)) → OthersTested o.metadata_only k found r t
 unfolding OthersTested LaterTested
 others_from o others zero b found r t w few each plain one ends shown = absurd (omega arith)
 others_from o [] (suc k) b found r t w few (x, u, code, u-is, t-is) plain one ends shown =
@@ -262,15 +263,15 @@ head_long o h b found t e info shown r =
 
 head_to : (o : Options) (h : Head) (t : List ℕ) → HeadTested o h t → HeadCode o h t
 unfolding HeadTested
-head_to o h t (m, x, u, (m-is, (len, big)), (b, y, v, code, tested, u-is), t-is) =
+head_to o h t (m, x, u, (m-is, marker), (b, y, v, code, tested, u-is), t-is) =
     let f = first_is o b.is_last b.content h v tested in
     go (is_short o b.is_last) refl f.found f.rest f.info f.comment (t-is ∙ ap (λ (z : List ℕ). x ++ z) u-is)
   where
     go : (q : Bool) → is_short o b.is_last ≡ q → (found : Option Comment) → choose q (Is None) (OthersTested o.metadata_only 65535 None) found v → b.content ≡ Info h.info → h.comment ≡ cond o.wants_comment found None → t ≡ x ++ (y ++ v) → HeadCode o h t
-    go true e found c info shown joined = (b, [], x, y, v, (len, sym m-is ∙ big), code, c.1, head_short o h b found e info shown c.0, joined)
+    go true e found c info shown joined = (b, [], x, y, v, subst (λ (q : ℕ). Big 4 q x) m-is marker, code, c.1, head_short o h b found e info shown c.0, joined)
     go false e found c info shown joined =
         let r = others_to o 65535 None found v (wishes_first o b.is_last e) c in
-        (b, r.next ∷ r.others, x, y, v, (len, sym m-is ∙ big), code, r.each, head_long o h b found v e info shown r, joined)
+        (b, r.next ∷ r.others, x, y, v, subst (λ (q : ℕ). Big 4 q x) m-is marker, code, r.each, head_long o h b found v e info shown r, joined)
 
 first_from : (o : Options) (is_last : Bool) (c : Content) (h : Head) (found : Option Comment) (t : List ℕ) → c ≡ Info h.info → h.comment ≡ cond o.wants_comment found None
     → choose (is_short o is_last) (Is None) (OthersTested o.metadata_only 65535 None) found t → FirstTested o is_last c h t
@@ -278,14 +279,14 @@ unfolding FirstTested
 first_from o is_last c h found t info shown rest = rw info (found, rest, ap (λ (z : Option Comment). record { info = h.info; comment = z }) shown)
 
 others_none : (o : Options) (others : List MetadataBlock) (b : MetadataBlock) (r : Option Comment) (t : List ℕ) → Wishes o None → length others < 65535 → Each BlockCode (b ∷ others) t
-    → list_any (λ b. is_info b.content) (b ∷ others) ≡ false → length (comments_in (b ∷ others)) ≤ 1 → Ends o b others → r ≡ first (comments_in (b ∷ others)) → OthersTested o.metadata_only 65535 None r t
+    → list_any (λ b. is_info b.content) (b ∷ others) ≡ false → length (comments_in (b ∷ others)) ≤ 1 → EndsAtLast o b others → r ≡ first (comments_in (b ∷ others)) → OthersTested o.metadata_only 65535 None r t
 unfolding listed
 others_none o others b r t = others_from o others 65535 b None r t
 
 head_from : (o : Options) (h : Head) (t : List ℕ) → HeadCode o h t → HeadTested o h t
 unfolding HeadTested
-head_from o h t (b, others, x, y, z, (len, big), code, each, is, t-is) =
-    (stream_marker, x, y ++ z, (refl, (len, big)), (b, y, z, code, go others each is, refl), t-is)
+head_from o h t (b, others, x, y, z, marker, code, each, is, t-is) =
+    (stream_marker, x, y ++ z, (refl, marker), (b, y, z, code, go others each is, refl), t-is)
   where
     go : (others : List MetadataBlock) → Each BlockCode others z → IsHead o h b others → FirstTested o b.is_last b.content h z
     go [] each is =

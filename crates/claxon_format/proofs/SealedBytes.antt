@@ -4,12 +4,11 @@ use Rattle.std.proofs.lemmas.List.{length-append, length-take, take-append-drop}
 use Rattle.std.proofs.lemmas.Bool.Decides.{nat_tests}
 use Rattle.claxon_format.specs.Bits.{Bits, bits, bits_of, number}
 use Rattle.claxon_format.specs.Fault.{Fault}
-use Rattle.claxon_format.specs.Frame.{by_bytes, whole, left_bytes}
-use Rattle.claxon_format.specs.Guards.{gap, padded_at, sealed_at}
-use Rattle.claxon_format.specs.GuardBytes.{expected_at, sealed_bytes_at}
-use Rattle.claxon_format.specs.Metadata.{big_at}
+use Rattle.claxon_format.specs.read.Bytes.{by_bytes, whole, left_bytes, expected_at, sealed_bytes_at, big_at}
+use Rattle.claxon_format.specs.Guards.{gap}
+use Rattle.claxon_format.specs.read.Guards.{padded_at, sealed_at}
 use Rattle.claxon_format.specs.Reading.{Reading, Reads, Done, Faulty, Short, bind, and_then, done, taken, test}
-use Rattle.claxon_format.specs.Readers.{number_at}
+use Rattle.claxon_format.specs.read.Bits.{number_at}
 use Rattle.claxon_format.proofs.Bytes.{bits_of-append, length-bits_of, cut}
 use Rattle.claxon_format.proofs.ByteNumbers.{Whole-number}
 use Rattle.claxon_format.proofs.Sealed.{taken_is}

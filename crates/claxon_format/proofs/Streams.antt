@@ -8,13 +8,14 @@ use Rattle.claxon_format.specs.Reading.{EachWith, Mapped, choose}
 use Rattle.claxon_format.specs.Metadata.{Bytes}
 use Rattle.claxon_format.specs.Streaminfo.{Streaminfo, info_widths, StreaminfoCode}
 use Rattle.claxon_format.specs.Comments.{CommentCode}
-use Rattle.claxon_format.specs.Blocks.{Content, Info, Padding, Comments, Reserved, ApplicationBody, skipped, is_padding, Body, InfoBody}
+use Rattle.claxon_format.specs.MetadataBlocks.{Content, Info, Padding, Comments, Reserved, ApplicationBody, skipped, is_padding, Body, InfoBody}
 use Rattle.claxon_format.specs.Frame.{Block, IsWidth, Frames, IsComplete}
-use Rattle.claxon_format.specs.Heads.{Options, Head, HeadCode, HeadFault, head_at}
+use Rattle.claxon_format.specs.Heads.{Options, Head, HeadCode, HeadFault}
+use Rattle.claxon_format.specs.read.Heads.{head_at}
 use Rattle.claxon_format.specs.Streams.{duration, samples_at, interleave, stream_of, with_samples, IsStream}
 use Rattle.claxon_format.proofs.Laws.{one_reading}
 use Rattle.claxon_format.proofs.Heads.{Reads-head}
-use Rattle.claxon_format.proofs.Frames.{one_run}
+use Rattle.claxon_format.proofs.FrameBytes.{one_run}
 
 -- ---- where a sample stands
 

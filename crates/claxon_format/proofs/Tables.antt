@@ -10,9 +10,10 @@ use Rattle.claxon_format.specs.Header.{size_of, rate_bits, width_of, width_reser
 use Rattle.claxon_format.specs.Stereo.{widths}
 use Rattle.claxon_format.specs.Frame.{block_step}
 use Rattle.claxon_format.specs.FrameWriter.{count_of}
-use Rattle.claxon_format.specs.Blocks.{Padding, Reserved, skipped}
-use Rattle.claxon_format.specs.Metadata.{block_header, big_endian}
-use Rattle.claxon_format.specs.Tags.{lower}
+use Rattle.claxon_format.specs.MetadataBlocks.{Padding, Reserved, skipped}
+use Rattle.claxon_format.specs.read.Metadata.{block_header}
+use Rattle.claxon_format.specs.read.Bytes.{big_endian}
+use Rattle.claxon_format.specs.Pairs.{lower}
 
 sizes : map size_of (1 ∷ 2 ∷ 3 ∷ 4 ∷ 5 ∷ 8 ∷ 9 ∷ 10 ∷ 11 ∷ 12 ∷ 13 ∷ 14 ∷ 15 ∷ []) ≡ 192 ∷ 576 ∷ 1152 ∷ 2304 ∷ 4608 ∷ 256 ∷ 512 ∷ 1024 ∷ 2048 ∷ 4096 ∷ 8192 ∷ 16384 ∷ 32768 ∷ []
 sizes = refl

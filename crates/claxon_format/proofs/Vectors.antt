@@ -4,11 +4,11 @@ use Rattle.std.specs.Int.{int_wrap}
 use Rattle.claxon_format.specs.Fault.{NumberFirst}
 use Rattle.claxon_format.specs.Bits.{bits, bits_of, number, residue, twos, unfold_at}
 use Rattle.claxon_format.specs.Reading.{Reading, Done, Faulty}
-use Rattle.claxon_format.specs.Readers.{number_at}
+use Rattle.claxon_format.specs.read.Bits.{number_at}
 use Rattle.claxon_format.specs.Predict.{restored, fixed, linear}
-use Rattle.claxon_format.specs.Coded.{followers_at, spelled_at}
+use Rattle.claxon_format.specs.read.Coded.{follower_at, followers_at, coded_number_at, spelled_at}
 use Rattle.claxon_format.specs.Stereo.{unmixed}
-use Rattle.claxon_format.specs.Frame.{by_bytes}
+use Rattle.claxon_format.specs.read.Bytes.{by_bytes}
 
 -- ---- predictors
 
@@ -83,7 +83,7 @@ unfolding twos
 signed_17 = refl
 
 coded : List ℕ → Reading ℕ ℕ
-unfolding bits bits_of number number_at followers_at spelled_at
+unfolding bits bits_of number number_at follower_at followers_at coded_number_at
 coded s = by_bytes spelled_at s
 
 coded_1 : coded (0x24 ∷ 0xc2 ∷ 0xa2 ∷ 0xe2 ∷ 0x82 ∷ 0xac ∷ 0xf0 ∷ 0x90 ∷ 0x8d ∷ 0x88 ∷ 0xc2 ∷ 0x00 ∷ 0x80 ∷ []) ≡ Done 36 (0xc2 ∷ 0xa2 ∷ 0xe2 ∷ 0x82 ∷ 0xac ∷ 0xf0 ∷ 0x90 ∷ 0x8d ∷ 0x88 ∷ 0xc2 ∷ 0x00 ∷ 0x80 ∷ [])

@@ -2,8 +2,8 @@
 use Rattle.std.proofs.Common.{◌≡◌, ℕ, ◌-◌, ◌/◌, Bool, true, false, List, [], ◌++◌, length, drop, refl, sym, ap, subst, ◌∙◌, append_assoc, arith}
 use Rattle.claxon_format.specs.Bits.{Bits, bits_of}
 use Rattle.claxon_format.specs.Fault.{Fault}
-use Rattle.claxon_format.specs.Frame.{by_bytes, whole}
-use Rattle.claxon_format.specs.Reading.{Reading, Done, Faulty, Short, bind, and_then, and_with, done, pick, taken, test}
+use Rattle.claxon_format.specs.read.Bytes.{by_bytes, whole}
+use Rattle.claxon_format.specs.Reading.{Reading, Done, Faulty, Short, bind, and_then, and_with, done, taken, test}
 use Rattle.claxon_format.proofs.Bytes.{bits_of-append, left_again}
 use Rattle.claxon_format.proofs.Sealed.{taken_is}
 
@@ -69,14 +69,6 @@ Whole-test false f h = record { same = λ s. h.same s; rest = λ s. h.rest s }
 
 pub Whole-done : {A : Type 0} (a : A) → Whole A (done a) (done a)
 Whole-done a = record { same = λ s. refl; rest = λ s. ([], refl) }
-
-pub Whole-pick : {A : Type 0} {r p : Bits → Reading Bool A} {q n : List ℕ → Reading ℕ A} (b : Bool) → Whole A r q → Whole A p n → Whole A (pick b r p) (pick b q n)
-Whole-pick true h k = h
-Whole-pick false h k = k
-
--- the same under other names
-pub Whole-same : {A : Type 0} {r p : Bits → Reading Bool A} {q n : List ℕ → Reading ℕ A} → Whole A r q → ((s : Bits) → p s ≡ r s) → ((s : List ℕ) → n s ≡ q s) → Whole A p n
-Whole-same h a b = record { same = λ s. a (bits_of s) ∙ h.same s ∙ ap in_bits (sym (b s)); rest = λ s. rw (b s) (h.rest s) }
 
 -- ---- a field that depends on what spells the one before it
 

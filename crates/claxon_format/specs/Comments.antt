@@ -1,22 +1,24 @@
--- The content of a Vorbis comment block (RFC 9639, section 8.6). `CommentCode` is the code, `comment_at` its reader.
+-- The content of a Vorbis comment block (RFC 9639, section 8.6).
 use Rattle.std.specs.Prelude.{◌≡◌, ℕ, zero, suc, ◌-◌, ◌/◌, ◌≤◌, Bool, true, false, not, ◌==◌, ◌&&◌, nat_lt, nat_le, List, [], ◌∷◌, ◌++◌, length, IsUtf8}
 use Rattle.std.specs.List.{list_all, list_any, position_or_len, before_first}
 use Rattle.std.specs.Str.{is_utf8}
 use Rattle.claxon_format.specs.Fault.{Fault, CommentShort, CommentLarge, VendorLong, VendorNotUtf8, TooManyEntries, EntryLong, SeparatorMissing, NameByte, EntryNotUtf8, ExcessData, EntriesMissing}
-use Rattle.claxon_format.specs.Reading.{Reading, Each, ThenFault, MeetsOr, Never, Is, Mapped, choose, Checked, CheckedFault, pick, and_then, done, test, checked_at}
-use Rattle.claxon_format.specs.Metadata.{Bytes, bytes_at, Little, little_at, most_bytes}
+use Rattle.claxon_format.specs.Reading.{Each, ThenFault, MeetsOr, Never, Is, Mapped, choose, Checked, CheckedFault}
+use Rattle.claxon_format.specs.Metadata.{Bytes, Little, most_bytes}
 
 -- an entry: its text, and the place of its first '='
 pub record Entry : Type 0 where
   pub text : List ℕ
   pub place : ℕ
 
+-- who wrote the block, and what it says
 pub record Comment : Type 0 where
   pub vendor : List ℕ
   pub entries : List Entry
 
 -- ---- the code
 
+-- '='
 abbrev pub is_separator : ℕ → Bool
 is_separator y = y == 0x3d
 
@@ -64,6 +66,7 @@ has_name text = list_all is_name_byte (before_first is_separator text)
 abbrev pub not_utf8 : List ℕ → Bool
 not_utf8 text = not (is_utf8 text)
 
+-- a text of n bytes that is no entry
 abbrev pub EntryFault : ℕ → Fault → List ℕ → Type 0
 EntryFault n = ThenFault (Bytes n) Never (λ text. MeetsOr (not (has_separator text)) SeparatorMissing (MeetsOr (not (has_name text)) NameByte (MeetsOr (not_utf8 text) EntryNotUtf8 Never)))
 
@@ -75,6 +78,7 @@ EntryCode n e t = (length t ≡ n) × (e.text ≡ t) × IsEntry e
 abbrev pub Kept : ℕ → List Entry → List ℕ → Type 0
 Kept n = choose (n == 0) (Is []) (Mapped (λ e. e ∷ []) (EntryCode n))
 
+-- an empty text has no fault
 abbrev pub KeptFault : ℕ → Fault → List ℕ → Type 0
 KeptFault n = choose (n == 0) Never (EntryFault n)
 
@@ -82,18 +86,23 @@ KeptFault n = choose (n == 0) Never (EntryFault n)
 abbrev pub EntryLength : ℕ → ℕ → List ℕ → Type 0
 EntryLength most = Checked (nat_lt most) (Little 4)
 
+-- and one that is more
 abbrev pub EntryLengthFault : ℕ → Fault → List ℕ → Type 0
 EntryLengthFault most = CheckedFault (nat_lt most) EntryLong (Little 4) Never
 
+-- the length of the vendor, which stands in so many bytes at most
 abbrev pub VendorLength : ℕ → ℕ → List ℕ → Type 0
 VendorLength most = Checked (nat_lt most) (Little 4)
 
+-- and one that is more
 abbrev pub VendorLengthFault : ℕ → Fault → List ℕ → Type 0
 VendorLengthFault most = CheckedFault (nat_lt most) VendorLong (Little 4) Never
 
+-- the vendor in n bytes of UTF-8
 abbrev pub Vendor : ℕ → List ℕ → List ℕ → Type 0
 Vendor n = Checked not_utf8 (Bytes n)
 
+-- and bytes that are none
 abbrev pub VendorFault : ℕ → Fault → List ℕ → Type 0
 VendorFault n = CheckedFault not_utf8 VendorNotUtf8 (Bytes n) Never
 
@@ -101,6 +110,7 @@ VendorFault n = CheckedFault not_utf8 VendorNotUtf8 (Bytes n) Never
 abbrev pub Count : ℕ → ℕ → List ℕ → Type 0
 Count limit = Checked (nat_le limit) (Little 4)
 
+-- and a count that reaches the limit
 abbrev pub CountFault : ℕ → Fault → List ℕ → Type 0
 CountFault limit = CheckedFault (nat_le limit) TooManyEntries (Little 4) Never
 
@@ -114,43 +124,9 @@ EntriesFault zero left = EndFault zero left
 EntriesFault (suc missing) left = choose (nat_lt left 4) (EndFault (suc missing) left) (
     ThenFault (EntryLength (left - 4)) (EntryLengthFault (left - 4)) (λ n. ThenFault (Kept n) (KeptFault n) (λ entries. EntriesFault missing (left - 4 - n))))
 
+-- the fields in order, with the faults that they meet
 abbrev pub CommentFault : ℕ → Fault → List ℕ → Type 0
 CommentFault n =
     MeetsOr (nat_lt n 8) CommentShort (MeetsOr (nat_lt most_bytes n) CommentLarge (
     ThenFault (VendorLength (n - 8)) (VendorLengthFault (n - 8)) (λ v. ThenFault (Vendor v) (VendorFault v) (λ vendor.
     ThenFault (Count (n / 4)) (CountFault (n / 4)) (λ count. EntriesFault count (n - 8 - v))))))
-
--- ---- the reader
-
-unfoldable pub entry_at : ℕ → List ℕ → Reading ℕ Entry
-entry_at n = and_then (bytes_at n) (λ text. test (not (has_separator text)) SeparatorMissing (test (not (has_name text)) NameByte (test (not_utf8 text) EntryNotUtf8 (done (entry_of text)))))
-
-unfoldable pub kept_at : ℕ → List ℕ → Reading ℕ (List Entry)
-kept_at n = pick (n == 0) (done []) (and_then (entry_at n) (λ e. done (e ∷ [])))
-
-unfoldable pub entry_length_at : ℕ → List ℕ → Reading ℕ ℕ
-entry_length_at most = checked_at (nat_lt most) EntryLong (little_at 4)
-
-abbrev pub end_at : ℕ → ℕ → List ℕ → Reading ℕ (List Entry)
-end_at missing left = test (nat_lt 0 left) ExcessData (test (nat_lt 0 missing) EntriesMissing (done []))
-
-unfoldable pub entries_at : ℕ → ℕ → List ℕ → Reading ℕ (List Entry)
-entries_at zero left = end_at zero left
-entries_at (suc missing) left = pick (nat_lt left 4) (end_at (suc missing) left) (
-    and_then (entry_length_at (left - 4)) (λ n. and_then (kept_at n) (λ entries. and_then (entries_at missing (left - 4 - n)) (λ others. done (entries ++ others)))))
-
-unfoldable pub vendor_length_at : ℕ → List ℕ → Reading ℕ ℕ
-vendor_length_at most = checked_at (nat_lt most) VendorLong (little_at 4)
-
-unfoldable pub vendor_at : ℕ → List ℕ → Reading ℕ (List ℕ)
-vendor_at n = checked_at not_utf8 VendorNotUtf8 (bytes_at n)
-
-unfoldable pub count_at : ℕ → List ℕ → Reading ℕ ℕ
-count_at limit = checked_at (nat_le limit) TooManyEntries (little_at 4)
-
-unfoldable pub comment_at : ℕ → List ℕ → Reading ℕ Comment
-comment_at n =
-    test (nat_lt n 8) CommentShort (test (nat_lt most_bytes n) CommentLarge (
-    and_then (vendor_length_at (n - 8)) (λ v. and_then (vendor_at v) (λ vendor.
-    and_then (count_at (n / 4)) (λ count. and_then (entries_at count (n - 8 - v)) (λ entries.
-    done (record { vendor = vendor; entries = entries })))))))

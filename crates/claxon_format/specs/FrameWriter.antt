@@ -1,11 +1,11 @@
 -- What a writer writes for a whole frame under plans (RFC 9639, section 9), and which plans suit the channels.
-use Rattle.std.specs.Prelude.{ℕ, zero, suc, true, false, cond, List, length, replicate, nat_lt, ℤ, Option, ◌≡◌, ◌+◌, ◌-◌, ◌*◌, ◌/◌, ◌^◌, ◌<◌, ◌≤◌, ◌∷◌, ◌++◌, ◌==◌, []}
+use Rattle.std.specs.Prelude.{ℕ, zero, suc, true, false, cond, List, length, take, replicate, nat_lt, ℤ, Option, ◌≡◌, ◌+◌, ◌-◌, ◌*◌, ◌/◌, ◌^◌, ◌<◌, ◌≤◌, ◌∷◌, ◌++◌, ◌==◌, []}
 use Rattle.claxon_format.specs.Bits.{Bits, bits, number}
 use Rattle.claxon_format.specs.Guards.{gap, crc8, crc16, bit}
 use Rattle.claxon_format.specs.Coded.{followers}
 use Rattle.claxon_format.specs.Header.{Fields, header_of, width_of, is_unknown, is_too_wide, size_of, rate_bits, width_reserved, number_large}
 use Rattle.claxon_format.specs.Stereo.{either, widths, zipped, mix_first, mix_second}
-use Rattle.claxon_format.specs.Frame.{Stream, Block, known_width, time_of}
+use Rattle.claxon_format.specs.Frame.{StreamShape, Block, known_width, time_of}
 use Rattle.claxon_format.specs.Writer.{AllFitIn, SubframePlan, write_subframe, SuitsSubframe, plan_with_quotients, SuitsShape}
 
 -- ---- whole frames
@@ -24,39 +24,49 @@ abbrev pub mixed_pair : ℕ → List (List ℤ) → List (List ℤ)
 mixed_pair code (l ∷ r ∷ []) = zipped (mix_first code) l r ∷ zipped (mix_second code) l r ∷ []
 mixed_pair code other = other
 
+-- the coded channels: those with codes from 8 on are mixed (section 4.2)
 abbrev pub mixed : ℕ → List (List ℤ) → List (List ℤ)
 mixed code channels = cond (nat_lt code 8) channels (mixed_pair code channels)
 
+-- one subframe after another
 abbrev pub write_each : ℕ → List ℕ → List SubframePlan → List (List ℤ) → Bits
 write_each n (w ∷ ws) (p ∷ ps) (c ∷ cs) = write_subframe w n p c ++ write_each n ws ps cs
 write_each n _ _ _ = []
 
+-- each plan suits its channel
 abbrev pub SuitsEach : ℕ → List ℕ → List SubframePlan → List (List ℤ) → Type 0
 SuitsEach n [] [] [] = Unit {0}
 SuitsEach n (w ∷ ws) (p ∷ ps) (c ∷ cs) = SuitsSubframe w n p c × SuitsEach n ws ps cs
 SuitsEach n _ _ _ = ⊥
 
--- bits, zeros up to a border of 8, and a guard
-abbrev pub padded : Bits → Bits
-padded x = x ++ replicate (gap x) false
+-- n bits of padding: those of p, and zeros where p has fewer
+abbrev pub padding_of : ℕ → Bits → Bits
+padding_of n p = take n (p ++ replicate n false)
 
+-- bits, and padding up to a border of 8 (section 9.3)
+abbrev pub padded : Bits → Bits → Bits
+padded p x = x ++ padding_of (gap x) p
+
+-- bits and their guard
 abbrev pub sealed : ℕ → (Bits → ℕ) → Bits → Bits
 sealed w guard x = x ++ bits w (guard x)
 
--- the fields of a header, written as x, and the channels under plans
-abbrev pub write_frame : Fields → ℕ → Bits → List SubframePlan → List (List ℤ) → Bits
-write_frame f w x plans channels =
-    sealed 16 crc16 (padded (sealed 8 crc8 x ++ write_each f.size (widths f.channels w) plans (mixed f.channels channels)))
+-- the fields of a header, written as x, the channels under plans, and padding of the bits p
+abbrev pub write_frame : Fields → ℕ → Bits → Bits → List SubframePlan → List (List ℤ) → Bits
+write_frame f w x p plans channels =
+    sealed 16 crc16 (padded p (sealed 8 crc8 x ++ write_each f.size (widths f.channels w) plans (mixed f.channels channels)))
 
 -- ---- headers
 
--- the codes of a header, with the bits of its rate, and how many bytes its number has after the first
+-- the codes of a header, with the bits of its rate, how many bytes its number has after the first, and the padding bits of its frame, of any value
 pub record HeaderPlan : Type 0 where
   pub size_code : ℕ
   pub rate_code : ℕ
   pub rate : Bits
   pub further : ℕ
+  pub padding : Bits
 
+-- a coded number in a byte and so many more (section 9.1.5)
 abbrev pub write_number : ℕ → ℕ → Bits
 write_number zero x = bits 8 x
 write_number (suc j) x = let k = suc j in replicate (k + 1) true ++ (false ∷ (bits (6 - k) (x / 2 ^ (6 * k)) ++ followers k x))
@@ -66,17 +76,21 @@ abbrev pub number_end : ℕ → ℕ
 number_end zero = 2 ^ 7
 number_end (suc j) = 2 ^ (5 * suc j + 6)
 
+-- the size less one, under codes 6 and 7 (section 9.1.6)
 abbrev pub write_size : ℕ → ℕ → Bits
 write_size code n = cond (code == 6) (bits 8 (n - 1)) (cond (code == 7) (bits 16 (n - 1)) [])
 
+-- the fields of a header in order (section 9.1)
 abbrev pub write_fields : Fields → HeaderPlan → Bits
 write_fields f plan =
     (bits 14 0x3ffe ++ (bits 1 0 ++ bits 1 (bit f.variable))) ++ ((bits 4 plan.size_code ++ bits 4 plan.rate_code) ++ ((bits 4 f.channels ++ (bits 3 f.width_code ++ bits 1 0))
     ++ (write_number plan.further f.number ++ (write_size plan.size_code f.size ++ plan.rate))))
 
+-- a size that this code can spell (section 9.1.1)
 abbrev pub SuitsSize : ℕ → ℕ → Type 0
 SuitsSize code n = either (code == 6) ((1 ≤ n) × (n ≤ 256)) (either (code == 7) ((1 ≤ n) × (n ≤ 65535)) (n ≡ size_of code))
 
+-- codes that spell these fields
 abbrev pub SuitsHeader : Fields → HeaderPlan → Type 0
 SuitsHeader f plan =
     (1 ≤ plan.size_code) × (plan.size_code ≤ 15) × (plan.rate_code ≤ 14) × (f.channels ≤ 10) × (f.width_code < 8) × (width_reserved f.width_code ≡ false)
@@ -84,10 +98,12 @@ SuitsHeader f plan =
 
 -- ---- plans without quotients
 
+-- each plan with the quotients of its channel
 abbrev pub plans_with_quotients : ℕ → List SubframePlan → List (List ℤ) → List SubframePlan
 plans_with_quotients n (p ∷ ps) (c ∷ cs) = plan_with_quotients n p c ∷ plans_with_quotients n ps cs
 plans_with_quotients n ps _ = ps
 
+-- each plan suits its channel, quotients aside
 abbrev pub SuitsEachShape : ℕ → List ℕ → List SubframePlan → List (List ℤ) → Type 0
 SuitsEachShape n [] [] [] = Unit {0}
 SuitsEachShape n (w ∷ ws) (p ∷ ps) (c ∷ cs) = SuitsShape w n p c × SuitsEachShape n ws ps cs
@@ -101,22 +117,23 @@ bytes_of (a ∷ b ∷ c ∷ d ∷ e ∷ f ∷ g ∷ h ∷ t) = number (a ∷ b �
 bytes_of _ = []
 
 -- the width of a frame's samples, and of each coded channel
-abbrev pub frame_width : Option Stream → Fields → ℕ
+abbrev pub frame_width : Option StreamShape → Fields → ℕ
 frame_width stream f = width_of (known_width stream) f.width_code
 
-abbrev pub coded_widths : Option Stream → Fields → List ℕ
-coded_widths stream f = widths f.channels (frame_width stream f)
+-- a side channel has one bit more
+abbrev pub planned_widths : Option StreamShape → Fields → List ℕ
+planned_widths stream f = widths f.channels (frame_width stream f)
 
 -- the block that is written
-abbrev pub written_block : Option Stream → Fields → List (List ℤ) → Block
+abbrev pub written_block : Option StreamShape → Fields → List (List ℤ) → Block
 written_block stream f channels = record { time = time_of stream (header_of (known_width stream) f); channels = channels }
 
 -- the bytes of a frame
-abbrev pub write_bytes : Option Stream → Fields → HeaderPlan → List SubframePlan → List (List ℤ) → List ℕ
-write_bytes stream f header plans channels = bytes_of (write_frame f (frame_width stream f) (write_fields f header) plans channels)
+abbrev pub write_bytes : Option StreamShape → Fields → HeaderPlan → List SubframePlan → List (List ℤ) → List ℕ
+write_bytes stream f header plans channels = bytes_of (write_frame f (frame_width stream f) (write_fields f header) header.padding plans channels)
 
 -- the fields and their codes suit one another, and the channels: their width is known and at most 32, at most 31 where a side is coded
-pub record SuitsFrame (stream : Option Stream) (f : Fields) (header : HeaderPlan) (channels : List (List ℤ)) : Type 0 where
+pub record SuitsFrame (stream : Option StreamShape) (f : Fields) (header : HeaderPlan) (channels : List (List ℤ)) : Type 0 where
   pub codes : SuitsHeader f header
   pub known : is_unknown (known_width stream) f ≡ false
   pub narrow : is_too_wide (known_width stream) f ≡ false

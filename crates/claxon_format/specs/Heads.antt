@@ -1,12 +1,12 @@
--- The head of a stream: its marker and metadata blocks (RFC 9639, sections 6 and 8). `HeadCode` is the code, `head_at` its reader.
+-- The head of a stream: its marker and metadata blocks (RFC 9639, sections 6 and 8).
 use Rattle.std.specs.Prelude.{◌≡◌, ℕ, zero, suc, ◌/◌, ◌<◌, ◌≤◌, Bool, true, false, cond, not, ◌==◌, ◌&&◌, ◌||◌, List, [], ◌∷◌, ◌++◌, length, Option, Some, None}
 use Rattle.std.specs.List.{list_any}
 use Rattle.claxon_format.specs.Fault.{Fault, Id3Header, StreamMarker, StreaminfoMissing, SecondComment, SecondStreaminfo, TooManyBlocks}
-use Rattle.claxon_format.specs.Reading.{Reading, Each, ThenFault, MeetsOr, Met, Never, choose, pick, and_then, done, test, fails}
-use Rattle.claxon_format.specs.Metadata.{Big, big_at}
+use Rattle.claxon_format.specs.Reading.{Each, ThenFault, MeetsOr, Met, Never, choose}
+use Rattle.claxon_format.specs.Metadata.{Big}
 use Rattle.claxon_format.specs.Streaminfo.{Streaminfo}
 use Rattle.claxon_format.specs.Comments.{Comment}
-use Rattle.claxon_format.specs.Blocks.{Content, Info, Comments, MetadataBlock, BlockCode, BlockFault, block_at}
+use Rattle.claxon_format.specs.MetadataBlocks.{Content, Info, Comments, MetadataBlock, BlockCode, BlockFault}
 
 -- which metadata is wished: that alone, or samples after it; and whether comments are
 pub record Options : Type 0 where
@@ -30,6 +30,7 @@ is_comment _ = false
 abbrev pub stream_marker : ℕ
 stream_marker = 0x664c6143
 
+-- what a stream begins with (section 6)
 abbrev pub Marker : ℕ → List ℕ → Type 0
 Marker m t = (m ≡ stream_marker) × Big 4 m t
 
@@ -43,18 +44,21 @@ most_blocks = 65536
 abbrev pub is_enough : Options → Content → Bool
 is_enough o c = o.metadata_only && cond o.wants_comment (is_comment c) (is_info c)
 
+-- the last block, or one after which no more is wished
 abbrev pub is_end : Options → MetadataBlock → Bool
 is_end o b = b.is_last || is_enough o b.content
 
 -- of a block and those after it just the last is an end
-abbrev pub Ends : Options → MetadataBlock → List MetadataBlock → Type 0
-Ends o b [] = is_end o b ≡ true
-Ends o b (c ∷ others) = (is_end o b ≡ false) × Ends o c others
+abbrev pub EndsAtLast : Options → MetadataBlock → List MetadataBlock → Type 0
+EndsAtLast o b [] = is_end o b ≡ true
+EndsAtLast o b (c ∷ others) = (is_end o b ≡ false) × EndsAtLast o c others
 
+-- the comments of a block, if it has any
 abbrev pub comment_of : Content → List Comment
 comment_of (Comments c) = c ∷ []
 comment_of _ = []
 
+-- those of all blocks
 abbrev pub comments_in : List MetadataBlock → List Comment
 comments_in [] = []
 comments_in (b ∷ others) = comment_of b.content ++ comments_in others
@@ -69,9 +73,10 @@ pub record IsHead (o : Options) (h : Head) (b : MetadataBlock) (others : List Me
   pub no_info : list_any (λ b. is_info b.content) others ≡ false
   pub one_comment : length (comments_in others) ≤ 1
   pub few : length others < most_blocks
-  pub ends : Ends o b others
+  pub ends : EndsAtLast o b others
   pub comment : h.comment ≡ cond o.wants_comment (first (comments_in others)) None
 
+-- the marker, a block and others, of which these are shown
 abbrev pub HeadCode : Options → Head → List ℕ → Type 0
 HeadCode o h t =
     (b : MetadataBlock) × (others : List MetadataBlock) × (x : List ℕ) × (y : List ℕ) × (z : List ℕ)
@@ -88,6 +93,7 @@ abbrev pub found_with : Option Comment → Content → Option Comment
 found_with found (Comments c) = Some c
 found_with found _ = found
 
+-- a block has comments, and others were found before
 abbrev pub is_second : Option Comment → Content → Bool
 is_second found c = is_comment c && is_some found
 
@@ -106,6 +112,7 @@ OthersFault suffices (suc k) found =
 abbrev pub is_short : Options → Bool → Bool
 is_short o is_last = is_last || (o.metadata_only && not o.wants_comment)
 
+-- the first block is a streaminfo, and faults of others come behind it
 abbrev pub FirstFault : Options → Bool → Content → Fault → List ℕ → Type 0
 FirstFault o is_last (Info i) = choose (is_short o is_last) Never (OthersFault o.metadata_only 65535 None)
 FirstFault o is_last _ = Met StreaminfoMissing
@@ -114,24 +121,6 @@ FirstFault o is_last _ = Met StreaminfoMissing
 abbrev pub MarkerFault : Fault → List ℕ → Type 0
 MarkerFault = ThenFault (Big 4) Never (λ m. MeetsOr (m / 256 == 0x494433) Id3Header (MeetsOr (not (m == stream_marker)) StreamMarker Never))
 
+-- the fields in order, with the faults that they meet
 abbrev pub HeadFault : Options → Fault → List ℕ → Type 0
 HeadFault o = ThenFault Marker MarkerFault (λ m. ThenFault BlockCode BlockFault (λ b. FirstFault o b.is_last b.content))
-
--- ---- the reader
-
-unfoldable pub marker_at : List ℕ → Reading ℕ ℕ
-marker_at = and_then (big_at 4) (λ m. test (m / 256 == 0x494433) Id3Header (test (not (m == stream_marker)) StreamMarker (done m)))
-
-unfoldable pub others_at : Bool → ℕ → Option Comment → List ℕ → Reading ℕ (Option Comment)
-others_at suffices zero found = fails TooManyBlocks
-others_at suffices (suc k) found =
-    and_then block_at (λ b. test (is_info b.content) SecondStreaminfo (test (is_second found b.content) SecondComment (
-    pick (is_done suffices found b) (done (found_with found b.content)) (others_at suffices k (found_with found b.content)))))
-
-unfoldable pub after_first : Options → Bool → Content → List ℕ → Reading ℕ Head
-after_first o is_last (Info i) =
-    and_then (pick (is_short o is_last) (done None) (others_at o.metadata_only 65535 None)) (λ found. done (record { info = i; comment = cond o.wants_comment found None }))
-after_first o is_last _ = fails StreaminfoMissing
-
-unfoldable pub head_at : Options → List ℕ → Reading ℕ Head
-head_at o = and_then marker_at (λ m. and_then block_at (λ b. after_first o b.is_last b.content))

@@ -2,7 +2,7 @@
 use Rattle.std.specs.Prelude.{◌≡◌, ℕ, Bool, false, List, [], ◌∷◌, ◌++◌, length, map, get_or, ℤ, pos, Some}
 use Rattle.std.specs.List.{flat_map, range_with_len}
 use Rattle.claxon_format.specs.Streaminfo.{Streaminfo}
-use Rattle.claxon_format.specs.Frame.{Stream, Block, Frames, IsComplete}
+use Rattle.claxon_format.specs.Frame.{StreamShape, Block, Frames, IsComplete}
 use Rattle.claxon_format.specs.Heads.{Options, Head, HeadCode}
 
 -- how many samples each channel has
@@ -19,7 +19,7 @@ abbrev pub interleave : List (List ℤ) → List ℤ
 interleave channels = flat_map (samples_at channels) (range_with_len 0 (duration channels))
 
 -- what frames need to know of their stream
-abbrev pub stream_of : Streaminfo → Stream
+abbrev pub stream_of : Streaminfo → StreamShape
 stream_of i = record { width = i.width; least_block = i.least_block; greatest_block = i.greatest_block }
 
 -- all blocks up to the first frame are read

@@ -1,4 +1,4 @@
-use Rattle.claxon_format.proofs.Blocks.{Reads-body as law}
+use Rattle.claxon_format.proofs.MetadataBlocks.{Reads-body as law}
 use Rattle.claxon_format.proofs.body_reads.Goals as goal
 
 pub returns : goal.returns

@@ -1,4 +1,4 @@
-use Rattle.claxon_format.proofs.Blocks.{Reads-block as law}
+use Rattle.claxon_format.proofs.MetadataBlocks.{Reads-block as law}
 use Rattle.claxon_format.proofs.metadata_block_reads.Goals as goal
 
 pub returns : goal.returns

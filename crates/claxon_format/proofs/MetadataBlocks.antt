@@ -1,15 +1,17 @@
 -- Metadata blocks, and their readers.
-use Rattle.std.proofs.Common.{◌≡◌, ℕ, ◌+◌, ◌-◌, ◌≤◌, Bool, true, false, cond, not, eqb, ltb, List, ◌++◌, length, refl, ap, ◌∙◌, arith}
+use Rattle.std.proofs.Common.{◌≡◌, ℕ, ◌+◌, ◌-◌, ◌≤◌, Bool, true, false, not, eqb, ltb, List, ◌++◌, length, refl, ap, ◌∙◌, arith}
 use Rattle.std.proofs.lemmas.Bool.{ltb-false, le-ltb, eqb-true, eq-eqb}
 use Rattle.std.proofs.lemmas.List.{length-append}
 use Rattle.claxon_format.specs.Fault.{StreaminfoLength, BlockType, ApplicationShort, ApplicationLarge}
-use Rattle.claxon_format.specs.Reading.{Reading, Faulty, Reads, and_then, done, test, Then, MeetsOr, Never, Mapped, choose}
-use Rattle.claxon_format.specs.Metadata.{Bytes, bytes_at, Big, most_bytes, BlockHeaderCode}
-use Rattle.claxon_format.specs.Streaminfo.{Streaminfo, StreaminfoCode, StreaminfoFault, streaminfo_by_numbers_at}
-use Rattle.claxon_format.specs.Blocks.{Content, Info, Application, Comments, InfoBody, ApplicationBody, skipped, Body, ApplicationFault, BodyFault, MetadataBlock, BlockCode, BlockFault, info_body_at, application_at, body_at, block_at}
+use Rattle.claxon_format.specs.Reading.{Reads, and_then, done, test, Then, MeetsOr, Never, Mapped, choose}
+use Rattle.claxon_format.specs.Metadata.{Bytes, Big, most_bytes, BlockHeaderCode}
+use Rattle.claxon_format.specs.read.Bytes.{bytes_at}
+use Rattle.claxon_format.specs.Streaminfo.{Streaminfo, StreaminfoCode, StreaminfoFault}
+use Rattle.claxon_format.specs.MetadataBlocks.{Content, Info, Application, Comments, InfoBody, ApplicationBody, skipped, Body, ApplicationFault, BodyFault, MetadataBlock, BlockCode, BlockFault}
+use Rattle.claxon_format.specs.read.MetadataBlocks.{info_body_at, application_at, body_at, block_at}
 use Rattle.claxon_format.proofs.Laws.{Reads-then, Reads-same, Reads-test, Reads-map, Reads-pick}
-use Rattle.claxon_format.proofs.Metadata.{Reads-bytes, Reads-big, Reads-block_header, no_second}
-use Rattle.claxon_format.proofs.Streaminfos.{Reads-streaminfo, streaminfo_by_numbers}
+use Rattle.claxon_format.proofs.Metadata.{Reads-bytes, Reads-big, big_length, Reads-block_header, no_second}
+use Rattle.claxon_format.proofs.Streaminfos.{Reads-streaminfo}
 use Rattle.claxon_format.proofs.Comments.{Reads-comment, not_true, not_false}
 
 -- ---- bodies
@@ -17,11 +19,6 @@ use Rattle.claxon_format.proofs.Comments.{Reads-comment, not_true, not_false}
 Reads-info_body : (n : ℕ) → Reads ℕ Streaminfo (info_body_at n) (λ i t. (not (eqb n 34) ≡ false) × StreaminfoCode i t) (MeetsOr (not (eqb n 34)) StreaminfoLength StreaminfoFault)
 unfolding info_body_at
 Reads-info_body n = Reads-test (not (eqb n 34)) StreaminfoLength (λ e. Reads-streaminfo)
-
--- number by number
-pub info_body_by_numbers : (n : ℕ) (s : List ℕ) → info_body_at n s ≡ test (not (eqb n 34)) StreaminfoLength streaminfo_by_numbers_at s
-unfolding info_body_at
-info_body_by_numbers n s = ap (λ (x : Reading ℕ Streaminfo). cond (not (eqb n 34)) (Faulty StreaminfoLength s) x) (streaminfo_by_numbers s)
 
 Reads-info : (n : ℕ) → Reads ℕ Content (and_then (info_body_at n) (λ i. done (Info i))) (InfoBody n) (MeetsOr (not (eqb n 34)) StreaminfoLength StreaminfoFault)
 Reads-info n =
@@ -33,17 +30,19 @@ ApplicationTested n b t = (ltb n 4 ≡ false) × ((ltb most_bytes n ≡ false) �
 
 application_to : (n : ℕ) (b : Content) (t : List ℕ) → ApplicationTested n b t → ApplicationBody n b t
 unfolding ApplicationTested
-application_to n b t (short, (large, (id, x, u, (x-len, id-is), (bytes, (len, u-is), b-is), t-is))) =
+application_to n b t (short, (large, (id, x, u, code, (bytes, (len, u-is), b-is), t-is))) =
+    let x-len = big_length 4 id x code in
     let joined : t ≡ x ++ bytes = t-is ∙ ap (λ (z : List ℕ). x ++ z) u-is in
     let total : length t ≡ length x + length bytes = ap length joined ∙ length-append x bytes in
     let a : 4 ≤ n = ltb-false _ _ short in
-    (id, x, bytes, ltb-false _ _ large, omega arith, (x-len, id-is), b-is, joined)
+    (id, x, bytes, ltb-false _ _ large, omega arith, code, b-is, joined)
 
 application_from : (n : ℕ) (b : Content) (t : List ℕ) → ApplicationBody n b t → ApplicationTested n b t
 unfolding ApplicationTested
-application_from n b t (id, x, bytes, most, len, (x-len, id-is), b-is, t-is) =
+application_from n b t (id, x, bytes, most, len, code, b-is, t-is) =
+    let x-len = big_length 4 id x code in
     let total : length t ≡ length x + length bytes = ap length t-is ∙ length-append x bytes in
-    (le-ltb _ _ (omega arith), (le-ltb _ _ most, (id, x, bytes, (x-len, id-is), (bytes, (omega arith, refl), b-is), t-is)))
+    (le-ltb _ _ (omega arith), (le-ltb _ _ most, (id, x, bytes, code, (bytes, (omega arith, refl), b-is), t-is)))
 
 pub Reads-application : (n : ℕ) → Reads ℕ Content (application_at n) (ApplicationBody n) (ApplicationFault n)
 unfolding application_at ApplicationTested

@@ -1,10 +1,10 @@
--- Metadata blocks (RFC 9639, section 8). `Body` and `BlockCode` are codes, `body_at` and `block_at` their readers.
-use Rattle.std.specs.Prelude.{◌≡◌, ℕ, ◌-◌, ◌≤◌, Bool, cond, not, ◌==◌, ◌||◌, nat_lt, List, ◌++◌, length}
+-- Metadata blocks (RFC 9639, section 8).
+use Rattle.std.specs.Prelude.{◌≡◌, ℕ, ◌≤◌, Bool, cond, not, ◌==◌, ◌||◌, nat_lt, List, ◌++◌, length}
 use Rattle.claxon_format.specs.Fault.{Fault, StreaminfoLength, BlockType, ApplicationShort, ApplicationLarge}
-use Rattle.claxon_format.specs.Reading.{Reading, ThenFault, MeetsOr, Never, Mapped, choose, pick, and_then, done, test}
-use Rattle.claxon_format.specs.Metadata.{Bytes, bytes_at, Big, big_at, most_bytes, BlockHeader, BlockHeaderCode, block_header_at}
-use Rattle.claxon_format.specs.Streaminfo.{Streaminfo, StreaminfoCode, StreaminfoFault, streaminfo_at}
-use Rattle.claxon_format.specs.Comments.{Comment, CommentCode, CommentFault, comment_at}
+use Rattle.claxon_format.specs.Reading.{ThenFault, MeetsOr, Never, Mapped, choose}
+use Rattle.claxon_format.specs.Metadata.{Bytes, Big, most_bytes, BlockHeader, BlockHeaderCode}
+use Rattle.claxon_format.specs.Streaminfo.{Streaminfo, StreaminfoCode, StreaminfoFault}
+use Rattle.claxon_format.specs.Comments.{Comment, CommentCode, CommentFault}
 
 -- what a block says
 pub data Content : Type 0 where
@@ -28,6 +28,7 @@ ApplicationBody n b t = (id : ℕ) × (x : List ℕ) × (bytes : List ℕ) × (n
 abbrev pub is_padding : ℕ → Bool
 is_padding type = (type == 1) || (type == 3) || (type == 5) || (type == 6)
 
+-- what is shown of it
 abbrev pub skipped : ℕ → ℕ → Content
 skipped type n = cond (is_padding type) (Padding n) Reserved
 
@@ -37,9 +38,11 @@ Body type n =
     choose (type == 0) (InfoBody n) (choose (type == 2) (ApplicationBody n) (choose (type == 4) (Mapped Comments (CommentCode n)) (
     choose (type == 127) (λ b t. ⊥) (Mapped (λ bytes. skipped type n) (Bytes n)))))
 
+-- the length is asked for first
 abbrev pub ApplicationFault : ℕ → Fault → List ℕ → Type 0
 ApplicationFault n = MeetsOr (nat_lt n 4) ApplicationShort (MeetsOr (nat_lt most_bytes n) ApplicationLarge Never)
 
+-- what a type and a length have against them, and then the content
 abbrev pub BodyFault : ℕ → ℕ → Fault → List ℕ → Type 0
 BodyFault type n =
     choose (type == 0) (MeetsOr (not (n == 34)) StreaminfoLength StreaminfoFault) (choose (type == 2) (ApplicationFault n) (choose (type == 4) (CommentFault n) (
@@ -47,29 +50,15 @@ BodyFault type n =
 
 -- ---- a block with its header
 
+-- a content, and whether no block follows
 pub record MetadataBlock : Type 0 where
   pub is_last : Bool
   pub content : Content
 
+-- a header and the content that it announces
 abbrev pub BlockCode : MetadataBlock → List ℕ → Type 0
 BlockCode b t = (h : BlockHeader) × (x : List ℕ) × (y : List ℕ) × BlockHeaderCode h x × Body h.type h.length b.content y × (b.is_last ≡ h.is_last) × (t ≡ x ++ y)
 
+-- a header has no fault, and its content may
 abbrev pub BlockFault : Fault → List ℕ → Type 0
 BlockFault = ThenFault BlockHeaderCode Never (λ h. BodyFault h.type h.length)
-
--- ---- the readers
-
-unfoldable pub info_body_at : ℕ → List ℕ → Reading ℕ Streaminfo
-info_body_at n = test (not (n == 34)) StreaminfoLength streaminfo_at
-
-unfoldable pub application_at : ℕ → List ℕ → Reading ℕ Content
-application_at n = test (nat_lt n 4) ApplicationShort (test (nat_lt most_bytes n) ApplicationLarge (
-    and_then (big_at 4) (λ id. and_then (bytes_at (n - 4)) (λ bytes. done (Application id bytes)))))
-
-unfoldable pub body_at : ℕ → ℕ → List ℕ → Reading ℕ Content
-body_at type n =
-    pick (type == 0) (and_then (info_body_at n) (λ i. done (Info i))) (pick (type == 2) (application_at n) (pick (type == 4) (and_then (comment_at n) (λ c. done (Comments c))) (
-    test (type == 127) BlockType (and_then (bytes_at n) (λ bytes. done (skipped type n))))))
-
-unfoldable pub block_at : List ℕ → Reading ℕ MetadataBlock
-block_at = and_then block_header_at (λ h. and_then (body_at h.type h.length) (λ content. done (record { is_last = h.is_last; content = content })))

@@ -7,6 +7,7 @@ use Rattle.claxon_format.specs.Comments.{Entry}
 abbrev pub pair : Entry → List ℕ × List ℕ
 pair e = (take e.place e.text, drop (e.place + 1) e.text)
 
+-- those of all entries
 abbrev pub pairs : List Entry → List (List ℕ × List ℕ)
 pairs entries = map pair entries
 

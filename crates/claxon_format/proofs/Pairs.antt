@@ -5,7 +5,7 @@ use Rattle.std.specs.Cmp.Lexicographic.{pointwise, same_text, other_text}
 use Rattle.std.specs.List.{list_any}
 use Rattle.std.proofs.lemmas.List.{take_at, drop_at, length-append}
 use Rattle.claxon_format.specs.Comments.{Entry, is_separator, IsEntry}
-use Rattle.claxon_format.specs.Tags.{pair, lower, same}
+use Rattle.claxon_format.specs.Pairs.{pair, lower, same}
 use Rattle.claxon_format.specs.Laws.{NamesSame}
 
 pub tags_split : (e : Entry) → IsEntry e → (e.text ≡ (pair e).0 ++ (0x3d ∷ (pair e).1)) × (list_any is_separator (pair e).0 ≡ false)

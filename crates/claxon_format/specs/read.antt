@@ -1,0 +1,13 @@
+pub mod Bits
+pub mod Bytes
+pub mod Guards
+pub mod Residual
+pub mod Subframe
+pub mod Coded
+pub mod Header
+pub mod Frame
+pub mod Metadata
+pub mod Streaminfo
+pub mod Comments
+pub mod MetadataBlocks
+pub mod Heads

@@ -1,0 +1,54 @@
+-- Readers of a subframe and of its parts (RFC 9639, sections 9.2.1 to 9.2.6).
+use Rattle.std.specs.Prelude.{ℕ, suc, ◌+◌, ◌-◌, Bool, ◌==◌, not, nat_lt, List, ◌++◌, ℤ, replicate, reverse, map}
+use Rattle.claxon_format.specs.Bits.{Bits}
+use Rattle.claxon_format.specs.Fault.{SubframeStart, KindReserved, WasteLarge, WasteWhole, FixedOrder, LinearOrder, PrecisionInvalid, ShiftNegative}
+use Rattle.claxon_format.specs.Predict.{restore, fixed, linear}
+use Rattle.claxon_format.specs.Reading.{Reading, and_then, done, times_at, test, checked_at, pick}
+use Rattle.claxon_format.specs.Subframe.{reserved, scaled}
+use Rattle.claxon_format.specs.read.Bits.{bit_at, number_at, signed_at, unary_at}
+use Rattle.claxon_format.specs.read.Residual.{residual_at}
+
+-- the number of the kind and how many bits are wasted
+pub record SubframeFields : Type 0 where
+  pub type : ℕ
+  pub waste : ℕ
+
+-- the number of the kind
+unfoldable pub type_at : Bits → Reading Bool ℕ
+type_at = and_then bit_at (λ b. test b SubframeStart (checked_at reserved KindReserved (number_at 6)))
+
+unfoldable pub waste_at : Bits → Reading Bool ℕ
+waste_at = and_then bit_at (λ b. pick b (and_then unary_at (λ q. done (suc q))) (done 0))
+
+-- of wasted bits there are 31 at most
+unfoldable pub few_at : Bits → Reading Bool ℕ
+few_at = checked_at (nat_lt 31) WasteLarge waste_at
+
+-- the kind, and how many bits are wasted (section 9.2.1)
+unfoldable pub subframe_header_at : Bits → Reading Bool SubframeFields
+subframe_header_at = and_then type_at (λ n. and_then few_at (λ z. done record { type = n; waste = z }))
+
+-- n samples of w bits under a fixed predictor (section 9.2.5)
+unfoldable pub fixed_at : ℕ → ℕ → ℕ → Bits → Reading Bool (List ℤ)
+fixed_at w n order = test (nat_lt n order) FixedOrder (and_then (times_at order (signed_at w)) (λ warm. and_then (residual_at n order) (λ e. done (warm ++ restore (fixed order) (reverse warm) e))))
+
+-- the precision of coefficients and their shift
+pub record Parameters : Type 0 where
+  pub precision : ℕ
+  pub shift : ℕ
+
+unfoldable pub parameters_at : Bits → Reading Bool Parameters
+parameters_at = and_then (checked_at (λ m. m == 15) PrecisionInvalid (number_at 4)) (λ m. and_then (checked_at (nat_lt 15) ShiftNegative (number_at 5)) (λ s. done record { precision = m + 1; shift = s }))
+
+-- n samples of w bits under a linear predictor (section 9.2.6)
+unfoldable pub linear_at : ℕ → ℕ → ℕ → Bits → Reading Bool (List ℤ)
+linear_at w n order = test (nat_lt n order) LinearOrder (and_then (times_at order (signed_at w)) (λ warm. and_then parameters_at (λ p.
+    and_then (times_at order (signed_at p.precision)) (λ cs. and_then (residual_at n order) (λ e. done (warm ++ restore (linear cs p.shift) (reverse warm) e))))))
+
+-- n samples of w bits, of the kind with this number
+unfoldable pub kind_at : ℕ → ℕ → ℕ → Bits → Reading Bool (List ℤ)
+kind_at w n type = pick (type == 0) (and_then (signed_at w) (λ x. done (replicate n x))) (pick (type == 1) (times_at n (signed_at w)) (pick (nat_lt type 13) (fixed_at w n (type - 8)) (linear_at w n (type - 31))))
+
+-- n samples of w bits
+unfoldable pub subframe_at : ℕ → ℕ → Bits → Reading Bool (List ℤ)
+subframe_at w n = and_then subframe_header_at (λ h. test (not (nat_lt h.waste w)) WasteWhole (and_then (kind_at (w - h.waste) n h.type) (λ u. done (map (scaled h.waste) u))))
