@@ -142,15 +142,6 @@ pub goes_on_16 : GoesOn16
 unfolding crc16
 goes_on_16 s xs = goes_on 16 0x18005 (omega arith) (omega arith) (omega arith) xs s (omega arith)
 
--- from the start on
-pub begun_8 : (xs : List ℕ) → check8 0 xs ≡ crc8 (bits_of xs)
-unfolding crc8 divide divide_step bits_of
-begun_8 xs = goes_on_8 [] xs
-
-pub begun_16 : (xs : List ℕ) → check16 0 xs ≡ crc16 (bits_of xs)
-unfolding crc16 divide divide_step bits_of
-begun_16 xs = goes_on_16 [] xs
-
 -- ---- what is kept past all that is to come tells what was taken
 
 -- the remainders past what is to come, where the outermost is c
@@ -159,16 +150,6 @@ past_all check left others more = check (left ++ more) ∷ others (left ++ more)
 
 first_is : (f g : List ℕ → ℕ) (a b : List ℕ) (u v : List ℕ → List ℕ) → past_all g b v ≡ past_all f a u → g (b ++ []) ≡ f (a ++ [])
 first_is f g a b u v e = let k : past_all g b v [] ≡ past_all f a u [] = ap (λ (h : List ℕ → List ℕ). h []) e in cc
-
-pub taken_8 : (taken left : List ℕ) (a c : ℕ) (u v : List ℕ → List ℕ) → a < 256 → c < 256 → past_all (check8 c) left v ≡ past_all (check8 a) (taken ++ left) u → c ≡ check8 a taken
-taken_8 taken left a c u v h l e =
-    check-taken 8 0x107 (omega arith) (omega arith) (omega arith) taken left a c refl (omega arith) h l
-    (rw (append-nil left, append-nil (taken ++ left)) at (first_is (check8 a) (check8 c) (taken ++ left) left u v e))
-
-pub taken_16 : (taken left : List ℕ) (a c : ℕ) (u v : List ℕ → List ℕ) → a < 65536 → c < 65536 → past_all (check16 c) left v ≡ past_all (check16 a) (taken ++ left) u → c ≡ check16 a taken
-taken_16 taken left a c u v h l e =
-    check-taken 16 0x18005 (omega arith) (omega arith) (omega arith) taken left a c refl (omega arith) h l
-    (rw (append-nil left, append-nil (taken ++ left)) at (first_is (check16 a) (check16 c) (taken ++ left) left u v e))
 
 -- what is known of the remainders past the end, over the bits of what was taken
 pub bits_8 : (all rest : List ℕ) (x : Bits) (c : ℕ) (u v : List ℕ → List ℕ) → c < 256 → bits_of all ≡ x ++ bits_of rest → past_all (check8 c) rest v ≡ past_all (check8 0) all u → c ≡ crc8 x

@@ -9,6 +9,7 @@ unfoldable pub check : ℕ → ℕ → ℕ → List ℕ → ℕ
 check degree poly c [] = c
 check degree poly c (y ∷ ys) = check degree poly (divide degree poly (bit_xor c (y % 256 * 2 ^ (degree - 8))) (replicate 8 false)) ys
 
+-- the remainders of 8 and of 16 bits
 abbrev pub check8 : ℕ → List ℕ → ℕ
 check8 = check 8 0x107
 

@@ -1,7 +1,7 @@
 //! Bits at hand: those that a `Bitstream` can give without asking its source, read without being taken.
-ghost use Rattle.std.specs.Prelude.{◌≡◌, ◌+◌, ◌*◌, ◌-◌, ◌^◌, ◌<◌, ◌≤◌, length, take, drop, MatchOption};
+ghost use Rattle.std.specs.Prelude.{◌≡◌, ◌+◌, ◌*◌, ◌-◌, ◌^◌, ◌<◌, ◌≤◌, length, take, drop};
 ghost use Rattle.claxon_format.specs.Bits.{bits, bits_of};
-ghost use Rattle.claxon_format.specs.Readers.{number_at, unary_at};
+ghost use Rattle.claxon_format.specs.read.Bits.{number_at, unary_at};
 
 use super::{Bitstream, highest_one};
 use crate::input::ReadBytes;
@@ -30,7 +30,7 @@ pub struct Ahead<'a> {
 }
 
 impl Ahead<'_> {
-    ghost use Rattle.claxon_input.specs.BitsAhead.{bits_ahead, GivesAhead};
+    ghost use Rattle.claxon_input.specs.Ahead.{MayBeGivenAhead, bits_ahead};
 
     /// How many bits are left.
     pub fn len(&self) -> u32
@@ -56,7 +56,7 @@ impl Ahead<'_> {
     /// The number of zeros before the next one, where this is at hand and in reach of the cache. It is taken too.
     #[inline(always)]
     pub fn unary(&mut self) -> Option<u32>
-        ensures { MatchOption result (bits_ahead self.new ≡ bits_ahead self.old) (GivesAhead self.old self.new unary_at) }
+        ensures { MayBeGivenAhead unary_at self.old result self.new }
     {
         self.fill(32);
         if self.cache == 0 {
@@ -73,7 +73,7 @@ impl Ahead<'_> {
     #[inline(always)]
     pub fn number(&mut self, bits: u32) -> Option<u32>
         requires { bits ≤ 32 }
-        ensures { MatchOption result (bits_ahead self.new ≡ bits_ahead self.old) (GivesAhead self.old self.new (number_at bits)) }
+        ensures { MayBeGivenAhead (number_at bits) self.old result self.new }
     {
         self.fill(bits);
         if self.count < bits {
@@ -97,12 +97,13 @@ fn four_bytes(bytes: &[u8], at: usize) -> u32
 }
 
 impl<R: ReadBytes> Bitstream<R> {
-    ghost use Rattle.claxon_input.specs.BitsAhead.{IsAhead, passed_at};
-    ghost use Rattle.claxon_input.specs.Stream.{stream, Yields};
+    ghost use Rattle.claxon_input.specs.Ahead.{IsAhead};
+    ghost use Rattle.claxon_input.specs.ReadBits.{BitsArePassed, FewAreLeft, SkipLosesBits};
+    ghost use Rattle.claxon_input.specs.State.{bits_in};
 
     /// The bits at hand. None of them is taken.
     pub fn ahead(&self) -> Ahead<'_>
-        ensures { IsAhead result (stream R.source self.now) }
+        ensures { IsAhead result (bits_in R.source self.now) }
     {
         let bytes = self.reader.at_hand();
         let most = bytes.len().min(65536);
@@ -114,9 +115,12 @@ impl<R: ReadBytes> Bitstream<R> {
         }
     }
 
-    /// Skips over so many bits.
+    /// Skips over so many bits. After an error none is left over.
+    #[tactic(auto, using(crate::proofs::BitSteps::few_bits))]
     pub fn skip_bits(&mut self, amount: u32) -> io::Result<()>
-        ensures { Yields (λ x. tt) result (passed_at amount) (stream R.source self.old) (stream R.source self.new) }
+        ensures gives { BitsArePassed R.source amount self.old result self.new }
+        ensures err { SkipLosesBits R.source amount self.old result self.new }
+        ensures few { FewAreLeft self.new }
     {
         if amount <= self.count {
             self.count -= amount;

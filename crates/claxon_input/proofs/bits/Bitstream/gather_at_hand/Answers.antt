@@ -1,5 +1,5 @@
 use Rattle.std.proofs.Common.{rules, arith, ◌<◌}
-use Rattle.claxon_input.specs.BitSource.{left_in}
+use Rattle.claxon_input.specs.Bitstream.{left_in}
 use Rattle.claxon_input.proofs.BitSteps.{bits_none, bits_both, gathered, joined, joined_lt}
 use Rattle.claxon_input.proofs.bits.Bitstream.gather_at_hand.Goals as goal
 

@@ -1,5 +1,5 @@
 use Rattle.std.proofs.Common.{◌+◌, ◌-◌, ◌^◌, ◌<◌, []}
-use Rattle.claxon_input.specs.BitSource.{left_in, TakesBits}
+use Rattle.claxon_input.specs.Bitstream.{left_in, TakesBits}
 use Rattle.claxon_input.proofs.bits.Bitstream.gather_at_hand.Given as goal
 
 abbrev pub invariant-loop-count : goal.invariant-loop-count

@@ -1,5 +1,5 @@
 use Rattle.std.proofs.Common.{rules, arith, subst, ◌+◌, false, replicate}
-use Rattle.claxon_input.specs.BitSource.{left_in, TakesBits}
+use Rattle.claxon_input.specs.Bitstream.{left_in, TakesBits}
 use Rattle.claxon_input.proofs.BitSteps.{bits_none, more_zeros, fetched}
 use Rattle.claxon_input.proofs.bits.Bitstream.zeros_at_hand.Goals as goal
 

@@ -1,5 +1,5 @@
 use Rattle.std.proofs.Common.{◌+◌, ◌-◌, ◌^◌, ◌<◌, ◌≤◌, false, replicate}
-use Rattle.claxon_input.specs.BitSource.{left_in, TakesBits}
+use Rattle.claxon_input.specs.Bitstream.{left_in, TakesBits}
 use Rattle.claxon_input.proofs.bits.Bitstream.zeros_at_hand.Given as goal
 
 abbrev pub invariant-loop-cache : goal.invariant-loop-cache

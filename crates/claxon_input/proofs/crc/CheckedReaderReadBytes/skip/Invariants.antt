@@ -1,6 +1,6 @@
 use Rattle.std.proofs.Common.{◌-◌, ◌≤◌}
 use Rattle.claxon_input.specs.Source.{Skips}
-use Rattle.claxon_input.specs.Checked.{checked_source}
+use Rattle.claxon_input.specs.CheckedReader.{checked_source}
 use Rattle.claxon_input.proofs.crc.CheckedReaderReadBytes.skip.Given as goal
 
 abbrev pub invariant-loop-left : goal.invariant-loop-left

@@ -1,6 +1,5 @@
-use Rattle.std.proofs.Common.{arith, drop}
-use Rattle.claxon_format.specs.Bits.{bits_of}
-use Rattle.claxon_input.proofs.BitsAhead.{filled, wider_fits}
+use Rattle.std.proofs.Common.{arith}
+use Rattle.claxon_input.proofs.BitsAtHand.{filled, wider_fits}
 use Rattle.claxon_input.proofs.bits.ahead.Ahead.fill.Goals as goal
 
 pub invariant_of-self : goal.invariant_of-self

@@ -1,4 +1,4 @@
-use Rattle.std.proofs.Common.{rules, arith, drop, length-append, ◌∙◌}
+use Rattle.std.proofs.Common.{arith, drop, length-append}
 use Rattle.std.proofs.lemmas.List.{length-drop}
 use Rattle.claxon_format.specs.Bits.{bits, bits_of}
 use Rattle.claxon_format.proofs.Bytes.{length-bits_of}

@@ -1,8 +1,8 @@
 use Rattle.std.proofs.Common.{rules, arith, drop, ap, ◌++◌, ◌∙◌, sym}
 use Rattle.claxon_format.specs.Bits.{Bits, bits_of}
-use Rattle.claxon_format.specs.Readers.{number_at}
+use Rattle.claxon_format.specs.read.Bits.{number_at}
 use Rattle.claxon_input.proofs.BitSteps.{top_fits}
-use Rattle.claxon_input.proofs.BitsAhead.{number_here}
+use Rattle.claxon_input.proofs.BitsAtHand.{number_here}
 use Rattle.claxon_input.proofs.bits.ahead.Ahead.number.Goals as goal
 
 pub overflow_cast-result : goal.overflow_cast-result

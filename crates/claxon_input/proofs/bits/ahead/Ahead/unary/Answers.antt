@@ -1,8 +1,8 @@
 use Rattle.std.proofs.Common.{arith, drop, ap, ◌++◌, ◌∙◌, sym}
 use Rattle.std.proofs.lemmas.Nat.{one_shl}
-use Rattle.claxon_format.specs.Bits.{Bits, bits, bits_of}
-use Rattle.claxon_format.specs.Readers.{unary_at}
-use Rattle.claxon_input.proofs.BitsAhead.{unary_here}
+use Rattle.claxon_format.specs.Bits.{Bits, bits_of}
+use Rattle.claxon_format.specs.read.Bits.{unary_at}
+use Rattle.claxon_input.proofs.BitsAtHand.{unary_here}
 use Rattle.claxon_input.proofs.bits.ahead.Ahead.unary.Goals as goal
 
 pub returns : goal.returns

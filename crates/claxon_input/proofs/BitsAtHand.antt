@@ -1,0 +1,162 @@
+-- Bits at hand, and bits that are skipped.
+use Rattle.std.proofs.Common.{bit_or, bit_and, ◌≡◌, ℕ, suc, ◌+◌, ◌-◌, ◌*◌, ◌/◌, ◌%◌, ◌^◌, ◌<◌, ◌≤◌, ◌⊎◌, inl, inr, Bool, true, false, ltb, cond, List, [], ◌∷◌, ◌++◌, length, take, drop, get_or, replicate, Option, None, Some, refl, sym, ap, subst, ◌∙◌, append_assoc, arith, length-append}
+use Rattle.std.specs.Prelude.{IfSome}
+use Rattle.std.specs.Option.{option_map}
+use Rattle.std.proofs.lemmas.Bool.{lt-ltb, le-ltb, ltb-true}
+use Rattle.std.proofs.lemmas.Nat.{or_shifted, pow-add}
+use Rattle.std.proofs.lemmas.List.{drop_at, drop-drop, take-append-drop, drop_more, append-nil}
+use Rattle.claxon_format.specs.Bits.{Bits, bits, bits_of}
+use Rattle.claxon_format.specs.Reading.{Done, Short}
+use Rattle.claxon_format.specs.read.Bits.{number_at, unary_at}
+use Rattle.claxon_format.proofs.Bytes.{bits_of-append, length-bits_of}
+use Rattle.claxon_format.proofs.Numbers.{Reads-number, length-bits}
+use Rattle.claxon_format.proofs.Words.{Reads-unary}
+use Rattle.claxon_input.specs.Bitstream.{BitState, left_in, TakesBits, RefusesBits}
+use Rattle.claxon_input.specs.Ahead.{passed_at}
+use Rattle.claxon_input.specs.Source.{Source, IsFront, Skips, Takes, Refuses, Failed}
+use Rattle.claxon_input.specs.State.{is_told, known, bits_after}
+use Rattle.claxon_input.specs.Gives.{Went, Stuck}
+use Rattle.claxon_input.proofs.BitLists.{bits-join, bits-cut}
+use Rattle.claxon_input.proofs.BitSteps.{small, one_at, mask, top_lt, bits_both, fetched, cut_in_cache, refused}
+use Rattle.claxon_input.proofs.States.{state_of_bits, went, stuck}
+
+-- ---- the cache
+
+one_byte : (bytes : List ℕ) (i n : ℕ) → i < length bytes → take (suc n) (drop i bytes) ≡ get_or bytes i 0 ∷ take n (drop (i + 1) bytes)
+one_byte bytes i n h = ap (take (suc n)) (drop_more bytes i 0 h)
+
+pub four_here : (bytes : List ℕ) (i n : ℕ) → i + 4 ≤ length bytes → ((k : ℕ) → get_or bytes k 0 < 256)
+    → n ≡ ((get_or bytes i 0 * 256 + get_or bytes (i + 1) 0) * 256 + get_or bytes (i + 2) 0) * 256 + get_or bytes (i + 3) 0 → bits 32 n ≡ bits_of (take 4 (drop i bytes))
+unfolding bits_of
+four_here bytes i n h small e =
+    let p : i + 1 + 1 ≡ i + 2 = omega arith in
+    let q : i + 2 + 1 ≡ i + 3 = omega arith in
+    let part : take 4 (drop i bytes) ≡ get_or bytes i 0 ∷ get_or bytes (i + 1) 0 ∷ get_or bytes (i + 2) 0 ∷ get_or bytes (i + 3) 0 ∷ []
+    = one_byte bytes i 3 (omega arith) ∙ ap (λ (t : List ℕ). get_or bytes i 0 ∷ t) (one_byte bytes (i + 1) 2 (omega arith) ∙ ap (λ (t : List ℕ). get_or bytes (i + 1) 0 ∷ t) (
+    ap (λ (j : ℕ). take 2 (drop j bytes)) p ∙ one_byte bytes (i + 2) 1 (omega arith) ∙ ap (λ (t : List ℕ). get_or bytes (i + 2) 0 ∷ t) (
+    ap (λ (j : ℕ). take 1 (drop j bytes)) q ∙ one_byte bytes (i + 3) 0 (omega arith)))) in
+    let a : ℕ = get_or bytes i 0 in
+    let b : ℕ = get_or bytes (i + 1) 0 in
+    let c : ℕ = get_or bytes (i + 2) 0 in
+    let d : ℕ = get_or bytes (i + 3) 0 in
+    rw (e, part, bits-join ((a * 256 + b) * 256 + c) d 24 8 (small (i + 3)), bits-join (a * 256 + b) c 16 8 (small (i + 2)), bits-join a b 8 8 (small (i + 1)))
+    (simp (append_assoc, append-nil))
+
+-- four bytes are put below the cache
+pub wider : (cache count n : ℕ) → cache < 2 ^ count → count ≤ 32 → n < 2 ^ 32 → bit_or (cache * 4294967296 % 18446744073709551616) n ≡ cache * 4294967296 + n
+wider cache count n h k l =
+    let s = small cache count h k in
+    let e : cache * 4294967296 % 18446744073709551616 ≡ cache * 4294967296 = omega arith in
+    rw e (or_shifted cache 32 n l)
+
+pub wider_fits : (cache count n : ℕ) → cache < 2 ^ count → count ≤ 32 → n < 2 ^ 32 → bit_or (cache * 4294967296 % 18446744073709551616) n < 2 ^ (count + 32)
+wider_fits cache count n h k l = rw (wider cache count n h k l, pow-add 2 count 32) (omega arith)
+
+pub filled : (cache count at n : ℕ) (bytes : List ℕ) → cache < 2 ^ count → count ≤ 32 → n < 2 ^ 32 → bits 32 n ≡ bits_of (take 4 (drop at bytes))
+    → bits (count + 32) (bit_or (cache * 4294967296 % 18446744073709551616) n) ++ bits_of (drop (at + 4) bytes) ≡ bits count cache ++ bits_of (drop at bytes)
+filled cache count at n bytes h k l e =
+    let one : bits (count + 32) (bit_or (cache * 4294967296 % 18446744073709551616) n) ≡ bits count cache ++ bits 32 n = rw (wider cache count n h k l) (bits-join cache n count 32 l) in
+    let two : bits_of (drop at bytes) ≡ bits 32 n ++ bits_of (drop (at + 4) bytes)
+    = ap bits_of (sym (take-append-drop 4 (drop at bytes))) ∙ bits_of-append (take 4 (drop at bytes)) (drop 4 (drop at bytes))
+    ∙ ap (λ (x : Bits). x ++ bits_of (drop 4 (drop at bytes))) (sym e) ∙ ap (λ (x : List ℕ). bits 32 n ++ bits_of x) (drop-drop 4 at bytes) in
+    ap (λ (x : Bits). x ++ bits_of (drop (at + 4) bytes)) one ∙ append_assoc (bits count cache) (bits 32 n) (bits_of (drop (at + 4) bytes)) ∙ ap (λ (x : Bits). bits count cache ++ x) (sym two)
+
+-- a run of zeros and its one stand in the cache
+pub unary_here : (cache count j : ℕ) (m rest : Bits) → 2 ^ j ≤ cache → cache < 2 ^ (j + 1) → j < count → count < 64
+    → unary_at ((bits count cache ++ m) ++ rest) ≡ Done (count - 1 - j) ((bits j (cache - 2 ^ j) ++ m) ++ rest)
+unary_here cache count j m rest a b h k =
+    let z : ℕ = count - 1 - j in
+    let split : (bits count cache ++ m) ++ rest ≡ (replicate (count - 1 - j) false ++ true ∷ []) ++ ((bits j (cache - 2 ^ j) ++ m) ++ rest)
+    = ap (λ (x : Bits). (x ++ m) ++ rest) (one_at cache count j a b h) ∙ (simp append_assoc) in
+    ap unary_at split ∙ Reads-unary.again (count - 1 - j) (replicate (count - 1 - j) false ++ true ∷ []) ((bits j (cache - 2 ^ j) ++ m) ++ rest) (omega arith, refl)
+
+-- a number stands in the cache
+pub number_here : (cache count n : ℕ) (m rest : Bits) → n ≤ count → count < 64 → cache < 2 ^ count
+    → number_at n ((bits count cache ++ m) ++ rest) ≡ Done (cache / 2 ^ (count - n)) ((bits (count - n) (bit_and cache (1 * 2 ^ (count - n) % 18446744073709551616 - 1)) ++ m) ++ rest)
+number_here cache count n m rest h k l =
+    let e : count ≡ n + (count - n) = omega arith in
+    let cut : bits count cache ≡ bits n (cache / 2 ^ (count - n)) ++ bits (count - n) (cache % 2 ^ (count - n)) = ap (λ (k : ℕ). bits k cache) e ∙ bits-cut cache n (count - n) in
+    let split : (bits count cache ++ m) ++ rest ≡ bits n (cache / 2 ^ (count - n)) ++ ((bits (count - n) (cache % 2 ^ (count - n)) ++ m) ++ rest)
+    = ap (λ (x : Bits). (x ++ m) ++ rest) cut ∙ (simp append_assoc) in
+    rw (mask cache (count - n) (omega arith))
+    (ap (number_at n) split ∙ (Reads-number n).again (cache / 2 ^ (count - n)) (bits n (cache / 2 ^ (count - n))) ((bits (count - n) (cache % 2 ^ (count - n)) ++ m) ++ rest) (top_lt cache count n h l, refl))
+
+-- ---- those at hand come first
+
+pub is_ahead : (left : Bits) (o : Option (List ℕ)) (bytes part : List ℕ) (most : ℕ) → IsFront bytes o → part ≡ take most bytes → is_told o ≡ true → (rest : Bits) × (known (bits_after left) o ≡ (left ++ bits_of (drop 0 part)) ++ rest)
+is_ahead left None bytes part most h p t = absurd cc
+is_ahead left (Some all) bytes part most h p t =
+    let whole : all ≡ take most bytes ++ (drop most bytes ++ h.0) = h.1 ∙ ap (λ (x : List ℕ). x ++ h.0) (sym (take-append-drop most bytes)) ∙ append_assoc (take most bytes) (drop most bytes) h.0 in (
+      bits_of (drop most bytes ++ h.0),
+      ap (λ (x : List ℕ). left ++ bits_of x) whole ∙ ap (λ (x : Bits). left ++ x) (bits_of-append (take most bytes) (drop most bytes ++ h.0))
+          ∙ sym (append_assoc left (bits_of (take most bytes)) (bits_of (drop most bytes ++ h.0))) ∙ ap (λ (x : List ℕ). (left ++ bits_of x) ++ bits_of (drop most bytes ++ h.0)) (sym p),
+    )
+
+-- ---- bits that are skipped
+
+pub passed : (n : ℕ) (t m : Bits) → length t ≡ n → passed_at n (t ++ m) ≡ Done tt m
+unfolding passed_at
+passed n t m e =
+    let k : ltb (length (t ++ m)) n ≡ false = le-ltb _ _ (omega (arith, length-append t m)) in
+    rw (k, drop_at t m n e) refl
+
+too_few : (n : ℕ) (s : Bits) → length s < n → passed_at n s ≡ Short
+unfolding passed_at
+too_few n s h = let k : ltb (length s) n ≡ true = lt-ltb _ _ h in rw k refl
+
+pub passed_is : (n : ℕ) (s m : Bits) → passed_at n s ≡ Done tt m → m ≡ drop n s
+unfolding passed_at
+passed_is n s m e = go (ltb (length s) n) e
+  where
+    go : (b : Bool) → cond b Short (Done (tt {0}) (drop n s)) ≡ Done (tt {0}) m → m ≡ drop n s
+    go true h = absurd cc
+    go false h = cc
+
+pub not_passed : (n : ℕ) (s : Bits) → passed_at n s ≡ Short → length s < n
+unfolding passed_at
+not_passed n s e = go (ltb (length s) n) refl e
+  where
+    go : (b : Bool) → ltb (length s) n ≡ b → cond b Short (Done (tt {0}) (drop n s)) ≡ Short → length s < n
+    go true h k = ltb-true (length s) n h
+    go false h k = absurd cc
+
+pub went_passed : {a b : BitState} {t : Bits} (n : ℕ) → TakesBits a b t → length t ≡ n → Went (state_of_bits a) (state_of_bits b) (λ s m. passed_at n s ≡ Done tt m)
+went_passed {t = t} n h e = went (λ s m. passed_at n s ≡ Done tt m) h (λ m. passed n t m e)
+
+short_cause : (left : Bits) (o : Option (List ℕ)) (few n : ℕ) (F : Type 0) → length left + 8 * few ≤ n → IfSome o (λ all. (length all < few) ⊎ F) → IfSome (option_map (λ xs. left ++ bits_of xs) o) (λ all. (length all < n) ⊎ F)
+short_cause left None few n F e h = tt
+short_cause left (Some all) few n F e (inl h) = inl (omega (arith, length-append left (bits_of all), length-bits_of all))
+short_cause left (Some all) few n F e (inr h) = inr h
+
+-- the bytes of the skipped bits didn't come
+pub stuck_skip : (a : BitState) (s : Source ℕ) (few n : ℕ) → length a.left + 8 * few ≤ n → Refuses a.source s few → Stuck (state_of_bits a) (state_of_bits (left_in 0 0 s)) (λ x. passed_at n x ≡ Short)
+unfolding bits
+stuck_skip a s few n e h = stuck a (left_in 0 0 s) (λ x. passed_at n x ≡ Short) (λ x. length x < n) h.rest (short_cause a.left a.source.to_come few n (Failed a.source s) e h.cause) (too_few n)
+
+-- the left-over bits and whole bytes were taken
+pub bytes_passed : (a : BitState) (s : Source ℕ) (few : ℕ) → Skips a.source s few → (t : Bits) × (length t ≡ length a.left + 8 * few) × TakesBits a (left_in 0 0 s) t
+unfolding bits
+bytes_passed a s few h =
+    (a.left ++ bits_of h.0, length-append a.left (bits_of h.0) ∙ omega (arith, length-bits_of h.0, h.1), record { bytes = h.0; taken = h.2; split = sym (nothing (a.left ++ bits_of h.0)) })
+  where
+    nothing : (xs : Bits) → xs ++ [] ≡ xs
+    nothing [] = refl
+    nothing (x ∷ xs) = ap (λ (l : Bits). x ∷ l) (nothing xs)
+
+pub stuck_last : (a : BitState) (m s : Source ℕ) (few n : ℕ) → length a.left + 8 * few < n → Skips a.source m few → Refuses m s 1 → Stuck (state_of_bits a) (state_of_bits (left_in 0 0 s)) (λ x. passed_at n x ≡ Short)
+unfolding bits
+stuck_last a m s few n e h k =
+    let p = bytes_passed a m few h in
+    let r : RefusesBits a (left_in 0 0 s) n = refused n p.2 (omega (arith, p.1)) k in
+    stuck a (left_in 0 0 s) (λ x. passed_at n x ≡ Short) (λ x. (length x < n) × (s.to_come ≡ Some [])) r.rest r.cause (λ x q. too_few n x q.0)
+
+-- and then the upper bits of one more byte
+pub last_passed : (a : BitState) (m s : Source ℕ) (few n byte left : ℕ) → length a.left + 8 * few + (8 - left) ≡ n → left < 8 → Skips a.source m few → Takes m s (byte ∷ [])
+    → Went (state_of_bits a) (state_of_bits (left_in (bit_and byte (1 * 2 ^ left % 18446744073709551616 - 1)) left s)) (λ x y. passed_at n x ≡ Done tt y)
+last_passed a m s few n byte left e lt h k =
+    let p = bytes_passed a m few h in
+    let back : 8 - (8 - left) ≡ left = omega arith in
+    let cut = cut_in_cache s byte 8 (8 - left) (omega arith) (omega arith) in
+    let taken : TakesBits (left_in byte 8 s) (left_in (bit_and byte (1 * 2 ^ left % 18446744073709551616 - 1)) left s) (bits (8 - left) (byte / 2 ^ left))
+    = subst (λ (j : ℕ). TakesBits (left_in byte 8 s) (left_in (bit_and byte (1 * 2 ^ j % 18446744073709551616 - 1)) j s) (bits (8 - left) (byte / 2 ^ j))) back cut in
+    went_passed n (bits_both (fetched p.0 byte p.2 k) taken) (length-append p.0 (bits (8 - left) (byte / 2 ^ left)) ∙ omega (arith, length-bits (8 - left) (byte / 2 ^ left), p.1))

@@ -1,0 +1,52 @@
+-- The calls of a reader of bytes give what the readers of fields give.
+use Rattle.std.proofs.Common.{◌≡◌, ℕ, ◌*◌, ◌^◌, ◌<◌, List, [], ◌∷◌, length, refl, ◌∙◌}
+use Rattle.std.proofs.lemmas.List.{length-reverse}
+use Rattle.claxon_format.specs.read.Bytes.{bytes_at, big_at, little_at, skipped_at}
+use Rattle.claxon_format.specs.Reading.{Reading, Done, Short}
+use Rattle.claxon_input.specs.Bytes.{be_bytes, le_bytes}
+use Rattle.claxon_input.specs.Source.{Source, Takes, Refuses, Skips}
+use Rattle.claxon_input.specs.State.{State, bytes_in}
+use Rattle.claxon_input.specs.Gives.{Went, Stuck}
+use Rattle.claxon_input.proofs.BigEndian.{be_1, length-be_bytes, big_endian-bytes, little_endian-bytes}
+use Rattle.claxon_input.proofs.States.{went_taken, stuck_bytes}
+use Rattle.claxon_input.proofs.CallsInTurn.{went_map, went_none, stuck_after}
+
+-- what is made of the bytes doesn't matter to an end
+short_after : {X Y : Type 0} {a b : State X} {read : List X → Reading X Y} {Z : Type 0} (whole : List X → Reading X Z) → ((s : List X) → read s ≡ Short → whole s ≡ Short) → Stuck a b (λ s. read s ≡ Short) → Stuck a b (λ s. whole s ≡ Short)
+short_after {a = a} whole f k = stuck_after (λ s. whole s ≡ Short) (went_none a (λ s m. s ≡ m) refl) k (λ p q. f a.coming q)
+
+module _ {R : Type 0} (source : R → Source ℕ) {a b : R} where
+  pub went_big : (k n : ℕ) → n < 2 ^ (8 * k) → Takes (source a) (source b) (be_bytes k n) → Went (bytes_in source a) (bytes_in source b) (λ s m. big_at k s ≡ Done n m)
+  unfolding bytes_in big_at
+  went_big k n small h = went_map _ (went_taken k (length-be_bytes k n) h) (λ p. rw (p, big_endian-bytes k n small) refl)
+
+  pub went_byte : (n : ℕ) → n < 256 → Takes (source a) (source b) (n ∷ []) → Went (bytes_in source a) (bytes_in source b) (λ s m. big_at 1 s ≡ Done n m)
+  went_byte n small h = went_big 1 n small (rw (be_1 n small) h)
+
+  pub stuck_big : (k : ℕ) → Refuses (source a) (source b) k → Stuck (bytes_in source a) (bytes_in source b) (λ s. big_at k s ≡ Short)
+  unfolding bytes_in big_at
+  stuck_big k h = short_after (big_at k) (λ s p. rw p refl) (stuck_bytes k h)
+
+  pub went_little : (n : ℕ) → n < 2 ^ 32 → Takes (source a) (source b) (le_bytes 4 n) → Went (bytes_in source a) (bytes_in source b) (λ s m. little_at 4 s ≡ Done n m)
+  unfolding bytes_in little_at
+  went_little n small h = went_map _ (went_taken 4 (length-reverse (be_bytes 4 n) ∙ length-be_bytes 4 n) h) (λ p. rw (p, little_endian-bytes n small) refl)
+
+  pub stuck_little : (k : ℕ) → Refuses (source a) (source b) k → Stuck (bytes_in source a) (bytes_in source b) (λ s. little_at k s ≡ Short)
+  unfolding bytes_in little_at
+  stuck_little k h = short_after (little_at k) (λ s p. rw p refl) (stuck_bytes k h)
+
+  pub went_whole : (k : ℕ) (xs : List ℕ) → length xs ≡ k → Takes (source a) (source b) xs → Went (bytes_in source a) (bytes_in source b) (λ s m. bytes_at k s ≡ Done xs m)
+  unfolding bytes_in
+  went_whole k xs l h = went_taken k l h
+
+  pub stuck_whole : (k : ℕ) → Refuses (source a) (source b) k → Stuck (bytes_in source a) (bytes_in source b) (λ s. bytes_at k s ≡ Short)
+  unfolding bytes_in
+  stuck_whole k h = stuck_bytes k h
+
+  pub went_skipped : (k : ℕ) → Skips (source a) (source b) k → Went (bytes_in source a) (bytes_in source b) (λ s m. skipped_at k s ≡ Done tt m)
+  unfolding bytes_in skipped_at
+  went_skipped k (xs, l, h) = went_map _ (went_taken k l h) (λ p. rw p refl)
+
+  pub stuck_skipped : (k : ℕ) → Refuses (source a) (source b) k → Stuck (bytes_in source a) (bytes_in source b) (λ s. skipped_at k s ≡ Short)
+  unfolding bytes_in skipped_at
+  stuck_skipped k h = short_after (skipped_at k) (λ s p. rw p refl) (stuck_bytes k h)

@@ -1,0 +1,30 @@
+-- What a clause reads of a `BufferedReader`.
+use Rattle.std.specs.Prelude.{◌≡◌, ℕ, List, [], slice_range, IfOk, Result}
+use Rattle.std.specs.Io.KnownBytes.{prepend_known}
+use Rattle.std.specs.declared.option.Option.{Option}
+use Rattle.claxon_input.specs.declared.error.Error.{Error}
+use Rattle.claxon_input.specs.Source.{Source}
+use Rattle.claxon_input.specs.declared.input.BufferedReader.{BufferedReader}
+
+-- the bytes that were read ahead and not yet taken
+abbrev pub read_ahead : {R A : Type 0} → BufferedReader R A → List ℕ
+read_ahead r = slice_range r.buf.items r.pos r.num_valid
+
+-- the bytes read ahead, and then those that the inner reader still gives
+abbrev pub buffered_source : {R A : Type 0} → (R → Option (List ℕ)) → BufferedReader R A → Source ℕ
+buffered_source remaining r = record {
+  to_come = prepend_known (read_ahead r) (remaining r.inner);
+  errors = r.errors;
+  empties = r.empties;
+  loans = [];
+  checks = λ _. [];
+}
+
+-- the wrapped reader
+abbrev pub buffered_inner : {R A : Type 0} → BufferedReader R A → R
+buffered_inner r = r.inner
+
+-- Nothing was read of the inner reader, and no read failed.
+abbrev pub NothingWasRead : {R A : Type 0} → (R → Option (List ℕ)) → R → Result (BufferedReader R A) Error → Type 0
+NothingWasRead remaining inner result =
+    IfOk result (λ r. buffered_source remaining r ≡ record { to_come = prepend_known [] (remaining inner); errors = 0; empties = 0; loans = []; checks = λ _. [] })

@@ -1,0 +1,57 @@
+-- The state of a reader: what its source still gives, seen as bits, where X is Bool, or as bytes, where it is ℕ.
+use Rattle.std.specs.Borrow.{GName}
+use Rattle.std.specs.Prelude.{ℕ, Option, None, Some, Bool, true, false, List, [], ◌++◌}
+use Rattle.claxon_format.specs.Bits.{bits_of}
+use Rattle.claxon_input.specs.Source.{Source}
+use Rattle.claxon_input.specs.Bitstream.{bit_state}
+use Rattle.claxon_input.specs.declared.bits.Bitstream.{Bitstream}
+
+-- What a source still gives: whether what is to come is known, this, the bytes of it that are still in the source, the counts
+-- of failures, the loans on the way, and what the remainders are past all that is to come and more.
+pub record State (X : Type 0) : Type 0 where
+  pub told : Bool
+  pub coming : List X
+  pub bytes : List ℕ
+  pub errors : ℕ
+  pub empties : ℕ
+  pub loans : List GName
+  pub checks : List ℕ → List ℕ
+
+-- whether what is to come is known
+abbrev pub is_told : Option (List ℕ) → Bool
+is_told None = false
+is_told (Some all) = true
+
+-- what is to come, seen by f; nothing where it isn't known
+abbrev pub known : {X : Type 0} → (List ℕ → List X) → Option (List ℕ) → List X
+known f None = []
+known f (Some all) = f all
+
+-- the remainders past what is to come
+abbrev pub past : Option (List ℕ) → (List ℕ → List ℕ) → List ℕ → List ℕ
+past None checks more = []
+past (Some all) checks more = checks (all ++ more)
+
+-- the state of a source, whose bytes are seen by f
+abbrev pub state_of : {X : Type 0} → (List ℕ → List X) → Source ℕ → State X
+state_of f s = record {
+  told = is_told s.to_come;
+  coming = known f s.to_come;
+  bytes = known (λ all. all) s.to_come;
+  errors = s.errors;
+  empties = s.empties;
+  loans = s.loans;
+  checks = past s.to_come s.checks;
+}
+
+-- the left-over bits and those of the bytes to come
+abbrev pub bits_after : List Bool → List ℕ → List Bool
+bits_after left all = left ++ bits_of all
+
+-- a `Bitstream` over a reader with this source
+unfoldable pub bits_in : {R : Type 0} {g : _} → (R → Source ℕ) → Bitstream R g → State Bool
+bits_in source b = state_of (bits_after (bit_state source b).left) (bit_state source b).source
+
+-- a reader of bytes with this source
+unfoldable pub bytes_in : {R : Type 0} → (R → Source ℕ) → R → State ℕ
+bytes_in source r = state_of (λ all. all) (source r)
