@@ -1,10 +1,19 @@
 //! The head of a stream: its marker and metadata blocks (RFC 9639, sections 6 and 8).
-ghost use Rattle.std.specs.Prelude.{◌≡◌, ◌≤◌, IfOk, IfSome, true, false};
-ghost use Rattle.claxon.specs.Comments.{HavePlaces};
+ghost use Rattle.std.specs.Prelude.{◌≡◌, IfOk, IfSome, true, false, None, ◌&&◌, ◌||◌};
+ghost use Rattle.std.specs.Option.{is_some};
+ghost use Rattle.claxon_format.specs.read.Heads.{head_at, marker_at, others_at};
+ghost use Rattle.claxon_format.specs.Heads.{is_short, stream_marker};
+ghost use Rattle.claxon_input.specs.State.{bytes_in};
+ghost use Rattle.claxon_input.specs.Gives.{Gives, GivesOrStarves};
+ghost use Rattle.claxon_metadata.specs.VorbisComment.{HavePlaces};
+ghost use Rattle.claxon.specs.ReadHead.{CommentHasPlaces, EachHeadFaultIsNamed, EachHeadIsAnswered, HeadFaultWasTaken, HeadIsRead, HeadLeavesRest, HeadMayStarve, HeadWasTaken, InfoHasBounds, NoHeadIsIoError, StarvesBehind, found_view, head_view, other_at, other_view, wishes};
 
 use crate::error::{Error, Result};
 use crate::input::{BufferedReader, ReadBytes};
-use crate::metadata::{MetadataBlock, StreamInfo, VorbisComment, read_metadata_block_and_flag};
+use claxon_input::fields::read_big_u32;
+use claxon_metadata::metadata::{
+    MetadataBlock, StreamInfo, VorbisComment, read_metadata_block_and_flag,
+};
 use std::alloc::Allocator;
 use std::io::Read;
 
@@ -39,9 +48,11 @@ impl Default for FlacReaderOptions {
 }
 
 impl FlacReaderOptions {
-    // Whether the streaminfo is all that is wished.
-    fn is_streaminfo_only(self) -> bool {
-        self.metadata_only && !self.read_vorbis_comment
+    // Whether no more than the streaminfo is wished, or it is the last block.
+    fn ends_with_streaminfo(self, is_last: bool) -> bool
+        ensures { result ≡ is_short (wishes self) is_last }
+    {
+        is_last || (self.metadata_only && !self.read_vorbis_comment)
     }
 }
 
@@ -56,16 +67,37 @@ pub fn read_head<R: Read, A: Allocator + Copy>(
     input: &mut BufferedReader<R, A>,
     options: FlacReaderOptions,
 ) -> Result<(StreamInfo, Option<VorbisComment<A>>)>
-    ensures some { IfOk result (λ shown. 1 ≤ shown.0.bits_per_sample) }
-    ensures most { IfOk result (λ shown. shown.0.bits_per_sample ≤ 32) }
-    ensures places { IfOk result (λ shown. IfSome shown.1 (λ comment. HavePlaces comment.comments.items)) }
+    ensures bounds { InfoHasBounds result }
+    ensures places { CommentHasPlaces result }
+    ensures memory { HeadMayStarve R.remaining input.old result }
+    ensures sound { HeadWasTaken R.remaining options input.old result input.new }
+    ensures complete { EachHeadIsAnswered R.remaining options input.old result input.new }
+    ensures fault { HeadFaultWasTaken R.remaining options input.old result input.new }
+    ensures named { EachHeadFaultIsNamed R.remaining options input.old result input.new }
+    ensures io { NoHeadIsIoError R.remaining options input.old result input.new }
+    ensures front { HeadLeavesRest R.remaining input.old result input.new }
+    ensures gives { HeadIsRead R.remaining options input.old result input.new }
+{
+    read_shown(alloc, input, options)
+}
+
+// A head, and what is shown of it.
+fn read_shown<R: ReadBytes, A: Allocator + Copy>(
+    alloc: A,
+    input: &mut R,
+    options: FlacReaderOptions,
+) -> Result<(StreamInfo, Option<VorbisComment<A>>)>
+    ensures bounds { InfoHasBounds result }
+    ensures places { CommentHasPlaces result }
+    ensures memory { StarvesBehind result (bytes_in R.source input.old) }
+    ensures gives { GivesOrStarves head_view result (head_at (wishes options)) (bytes_in R.source input.old) (bytes_in R.source input.new) }
 {
     read_stream_header(input)?;
     let (is_last, first) = read_metadata_block_and_flag(alloc, input)?;
     let MetadataBlock::StreamInfo(info) = first else {
         return Err(Error::FormatError("streaminfo block missing"));
     };
-    if is_last || options.is_streaminfo_only() {
+    if options.ends_with_streaminfo(is_last) {
         return Ok((info, None));
     }
     let comment = read_other_blocks(alloc, input, options.metadata_only)?;
@@ -76,8 +108,11 @@ pub fn read_head<R: Read, A: Allocator + Copy>(
     }
 }
 
-fn read_stream_header<R: ReadBytes>(input: &mut R) -> Result<()> {
-    let marker = input.read_be_u32()?;
+#[tactic(auto, unfolding(claxon_format::specs::read::Heads::marker_at, claxon_format::specs::Fault::fault_text))]
+fn read_stream_header<R: ReadBytes>(input: &mut R) -> Result<()>
+    ensures { Gives (λ x. stream_marker) result marker_at (bytes_in R.source input.old) (bytes_in R.source input.new) }
+{
+    let marker = read_big_u32(input)?;
     if marker == 0x664c_6143 {
         return Ok(());
     }
@@ -94,25 +129,55 @@ fn read_other_blocks<R: ReadBytes, A: Allocator + Copy>(
     comments_suffice: bool,
 ) -> Result<Option<VorbisComment<A>>>
     ensures places { IfOk result (λ found. IfSome found (λ comment. HavePlaces comment.comments.items)) }
+    ensures memory { StarvesBehind result (bytes_in R.source input.old) }
+    ensures gives { GivesOrStarves found_view result (others_at comments_suffice 65535 None) (bytes_in R.source input.old) (bytes_in R.source input.new) }
 {
     let mut found = None;
-    for _ in 1..MOST_BLOCKS {
-        let (is_last, block) = read_metadata_block_and_flag(alloc, input)?;
-        match block {
-            MetadataBlock::StreamInfo(_) => {
-                return Err(Error::FormatError("encountered second streaminfo block"));
-            }
-            MetadataBlock::VorbisComment(comment) => {
-                if found.is_some() {
-                    return Err(Error::FormatError("encountered second Vorbis comment block"));
-                }
-                found = Some(comment);
-            }
-            _ => {}
-        }
-        if is_last || (comments_suffice && found.is_some()) {
+    let mut most = MOST_BLOCKS - 1;
+    while most > 0 {
+        let (is_last, with_block) = read_other_block(alloc, input, found)?;
+        found = with_block;
+        if are_enough(is_last, comments_suffice, &found) {
             return Ok(found);
         }
+        most -= 1;
     }
     Err(Error::Unsupported("more than 65536 metadata blocks are not supported"))
+}
+
+// Whether no further block is wished.
+fn are_enough<A: Allocator>(
+    is_last: bool,
+    comments_suffice: bool,
+    found: &Option<VorbisComment<A>>,
+) -> bool
+    ensures { result ≡ (is_last || (comments_suffice && is_some found.now)) }
+{
+    is_last || (comments_suffice && found.is_some())
+}
+
+// One of them: whether it is marked as last, and the comments that were found up to it.
+fn read_other_block<R: ReadBytes, A: Allocator + Copy>(
+    alloc: A,
+    input: &mut R,
+    found: Option<VorbisComment<A>>,
+) -> Result<(bool, Option<VorbisComment<A>>)>
+    requires { IfSome found (λ comment. HavePlaces comment.comments.items) }
+    ensures places { IfOk result (λ other. IfSome other.1 (λ comment. HavePlaces comment.comments.items)) }
+    ensures memory { StarvesBehind result (bytes_in R.source input.old) }
+    ensures gives { GivesOrStarves other_view result (other_at (found_view found)) (bytes_in R.source input.old) (bytes_in R.source input.new) }
+{
+    let (is_last, block) = read_metadata_block_and_flag(alloc, input)?;
+    match block {
+        MetadataBlock::StreamInfo(_) => {
+            Err(Error::FormatError("encountered second streaminfo block"))
+        }
+        MetadataBlock::VorbisComment(comment) => {
+            if found.is_some() {
+                return Err(Error::FormatError("encountered second Vorbis comment block"));
+            }
+            Ok((is_last, Some(comment)))
+        }
+        _ => Ok((is_last, found)),
+    }
 }

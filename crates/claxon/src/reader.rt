@@ -1,15 +1,15 @@
 //! Streams from their head to their last block.
-ghost use Rattle.std.specs.Prelude.{Option, ◌≡◌, ◌≤◌, IfOk, true, false};
+ghost use Rattle.std.specs.Prelude.{Option, Some, ◌≡◌, ◌≤◌, true, false, []};
 ghost use Rattle.std.specs.Option.{ForSome, option_map};
-ghost use Rattle.claxon_format.specs.Tags.{values};
-ghost use Rattle.claxon.specs.Comments.{HavePlaces};
+ghost use Rattle.claxon_format.specs.Pairs.{values};
+ghost use Rattle.claxon_metadata.specs.VorbisComment.{HavePlaces};
 
 use crate::error::Result;
-use crate::frame::FrameReader;
 use crate::head::{FlacReaderOptions, read_head};
 use crate::input::BufferedReader;
-use crate::metadata::{GetTag, StreamInfo, Tags, VorbisComment};
 use crate::samples::FlacSamples;
+use claxon_frame::frame::FrameReader;
+use claxon_metadata::metadata::{GetTag, StreamInfo, Tags, VorbisComment};
 use std::alloc::{Allocator, Global};
 use std::fs::File;
 use std::io::Read;
@@ -23,6 +23,8 @@ struct Head<A: Allocator = Global> {
     vorbis_comment: Option<VorbisComment<A>>,
     ghost some: { 1 ≤ streaminfo.bits_per_sample },
     ghost most: { streaminfo.bits_per_sample ≤ 32 },
+    ghost some_channels: { 1 ≤ streaminfo.channels },
+    ghost few_channels: { streaminfo.channels ≤ 8 },
     ghost places: { ForSome vorbis_comment (λ comment. HavePlaces comment.comments.items) },
 }
 
@@ -37,14 +39,27 @@ pub struct FlacReader<R, A: Allocator = Global> {
 
 impl<R: Read, A: Allocator + Copy> FlacReader<R, A> {
     ghost use Rattle.std.specs.Borrow.{sem};
-    ghost use Rattle.claxon.specs.Flac.{LendsInput, LendsBlocks, LendsSamples, flac_input, flac_metadata_only, flac_streaminfo, frame_input, samples_input, tags_of, vendor_of};
-    ghost use Rattle.claxon.specs.Tags.{tags_left, values_left};
+    ghost use Rattle.claxon_format.specs.Streams.{with_samples};
+    ghost use Rattle.claxon.specs.ReadHead.{wishes};
+    ghost use Rattle.claxon.specs.Opening.{EachFaultIsNamedOnOpening, EachHeadIsOpened, HeadFaultIsThere, HeadIsShown, NoHeadIsNotOpened, NoReadFailed, ShowsMetadataOnly};
+    ghost use Rattle.claxon_frame.specs.FrameReader.{frame_input, frame_stream, stream_with};
+    ghost use Rattle.claxon_input.specs.BufferedReader.{buffered_inner};
+    ghost use Rattle.claxon.specs.FlacSamples.{have_failed, samples_left, samples_stream};
+    ghost use Rattle.claxon.specs.FlacReader.{LendsInput, LendsBlocks, LendsSamples, flac_input, flac_metadata_only, flac_streaminfo, samples_input, tags_of, vendor_of};
+    ghost use Rattle.claxon_metadata.specs.Tags.{tags_left, values_left};
 
     /// Reads the head of a stream, with the default options.
     pub fn new(alloc: A, reader: R) -> Result<FlacReader<R, A>>
     where
         R: Drop,
-        ensures full { IfOk result (λ flac. flac_metadata_only flac ≡ false) }
+        // Its blocks and samples can be asked for.
+        ensures full { ShowsMetadataOnly false result }
+        ensures no_failure { NoReadFailed R.remaining result }
+        ensures sound { HeadIsShown R.remaining (with_samples true) reader result }
+        ensures complete { EachHeadIsOpened R.remaining (with_samples true) reader result }
+        ensures fault { HeadFaultIsThere R.remaining (with_samples true) reader result }
+        ensures named { EachFaultIsNamedOnOpening R.remaining (with_samples true) reader result }
+        ensures io { NoHeadIsNotOpened R.remaining (with_samples true) reader result }
     {
         FlacReader::new_ext(alloc, reader, FlacReaderOptions::default())
     }
@@ -53,7 +68,13 @@ impl<R: Read, A: Allocator + Copy> FlacReader<R, A> {
     pub fn new_ext(alloc: A, reader: R, options: FlacReaderOptions) -> Result<FlacReader<R, A>>
     where
         R: Drop,
-        ensures metadata_only { IfOk result (λ flac. flac_metadata_only flac ≡ options.metadata_only) }
+        ensures metadata_only { ShowsMetadataOnly options.metadata_only result }
+        ensures no_failure { NoReadFailed R.remaining result }
+        ensures sound { HeadIsShown R.remaining (wishes options) reader result }
+        ensures complete { EachHeadIsOpened R.remaining (wishes options) reader result }
+        ensures fault { HeadFaultIsThere R.remaining (wishes options) reader result }
+        ensures named { EachFaultIsNamedOnOpening R.remaining (wishes options) reader result }
+        ensures io { NoHeadIsNotOpened R.remaining (wishes options) reader result }
     {
         let mut input = BufferedReader::new(alloc, reader)?;
         let (streaminfo, vorbis_comment) = read_head(alloc, &mut input, options)?;
@@ -70,7 +91,9 @@ impl<R: Read, A: Allocator + Copy> FlacReader<R, A> {
 
     /// The streaminfo.
     pub fn streaminfo(&self) -> StreamInfo
-        ensures { result ≡ flac_streaminfo self.now }
+        ensures value { result ≡ flac_streaminfo self.now }
+        ensures channels { (1 ≤ result.channels) × (result.channels ≤ 8) }
+        ensures width { (1 ≤ result.bits_per_sample) × (result.bits_per_sample ≤ 32) }
     {
         self.head.streaminfo
     }
@@ -124,7 +147,9 @@ impl<R: Read, A: Allocator + Copy> FlacReader<R, A> {
     pub fn blocks(&mut self) -> FrameReader<&mut BufferedReader<R, A>>
         requires { flac_metadata_only self.old ≡ false }
         ensures* writes_back { sem 𝓛 (LendsBlocks R.row A.row A.Allocator self.entry result) }
+        // It goes on at the next byte that wasn't taken.
         ensures input { (frame_input result).now ≡ flac_input self.old }
+        ensures stream { frame_stream result ≡ Some (stream_with (flac_streaminfo self.old)) }
     {
         let info = self.head.streaminfo;
         FrameReader::with_streaminfo(&mut self.input, info)
@@ -135,14 +160,20 @@ impl<R: Read, A: Allocator + Copy> FlacReader<R, A> {
     pub fn samples(&mut self) -> FlacSamples<&mut BufferedReader<R, A>, A>
         requires { flac_metadata_only self.old ≡ false }
         ensures* writes_back { sem 𝓛 (LendsSamples R.row A.row A.Allocator self.entry result) }
+        // It goes on at the next byte that wasn't taken.
         ensures input { (samples_input result).now ≡ flac_input self.old }
+        ensures stream { samples_stream result ≡ Some (stream_with (flac_streaminfo self.old)) }
+        ensures none_left { samples_left result ≡ [] }
+        ensures goes_on { have_failed result ≡ false }
     {
         let (alloc, info) = (self.alloc, self.head.streaminfo);
         FlacSamples::new(alloc, &mut self.input, info)
     }
 
     /// The wrapped reader. What was read ahead of it is lost.
-    pub fn into_inner(self) -> R {
+    pub fn into_inner(self) -> R
+        ensures { result ≡ buffered_inner (flac_input self) }
+    {
         let FlacReader {
             head: _,
             metadata_only: _,
@@ -154,11 +185,16 @@ impl<R: Read, A: Allocator + Copy> FlacReader<R, A> {
 }
 
 impl FlacReader<File> {
+    ghost use Rattle.claxon.specs.Opening.{ShowsMetadataOnly};
+
     /// Opens a file and reads its head, with the default options. A file that can't be opened is an `IoError`.
     pub fn open<Q: Files<File = File> + AllocGlobal, P: AsPath>(
         rt: &Q,
         filename: P,
-    ) -> Result<FlacReader<File>> {
+    ) -> Result<FlacReader<File>>
+        // Its blocks and samples can be asked for.
+        ensures full { ShowsMetadataOnly false result }
+    {
         FlacReader::open_ext(rt, filename, FlacReaderOptions::default())
     }
 
@@ -167,7 +203,9 @@ impl FlacReader<File> {
         rt: &Q,
         filename: P,
         options: FlacReaderOptions,
-    ) -> Result<FlacReader<File>> {
+    ) -> Result<FlacReader<File>>
+        ensures metadata_only { ShowsMetadataOnly options.metadata_only result }
+    {
         let file = File::open(rt, filename)?;
         FlacReader::new_ext(rt.alloc(), file, options)
     }

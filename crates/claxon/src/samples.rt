@@ -1,11 +1,11 @@
 //! Samples one by one.
-ghost use Rattle.std.specs.Prelude.{◌≡◌, ◌≤◌, ◌<◌, IfOk, IsTrue, length};
-ghost use Rattle.claxon.specs.Channels.{duration_of};
+ghost use Rattle.std.specs.Prelude.{◌≡◌, ◌≤◌, ◌<◌, ◌∷◌, true, false, IfOk, IsTrue, length, Some};
+ghost use Rattle.claxon_frame.specs.Block.{duration_of};
 
 use crate::error::Result;
-use crate::frame::{Block, FrameReader};
 use crate::input::ReadBytes;
-use crate::metadata::StreamInfo;
+use claxon_frame::frame::{Block, FrameReader};
+use claxon_metadata::metadata::StreamInfo;
 use std::alloc::{Allocator, Global};
 use std::mem;
 
@@ -27,13 +27,20 @@ pub struct FlacSamples<R, A: Allocator = Global> {
 }
 
 impl<R: ReadBytes, A: Allocator + Copy> FlacSamples<R, A> {
-    ghost use Rattle.claxon.specs.Flac.{samples_input};
+    ghost use Rattle.std.specs.Prelude.{[]};
+    ghost use Rattle.claxon_format.specs.Streams.{interleave};
+    ghost use Rattle.claxon.specs.FlacReader.{samples_input};
+    ghost use Rattle.claxon_frame.specs.FrameReader.{stream_with};
+    ghost use Rattle.claxon.specs.FlacSamples.{NextBlock, NextSample, BlockIsAsked, have_failed, samples_left, samples_stream};
 
     /// The samples of the frames of the stream with this streaminfo, whose width is 1 to 32 bits.
     pub fn new(alloc: A, input: R, info: StreamInfo) -> FlacSamples<R, A>
         requires some { 1 ≤ info.bits_per_sample }
         requires most { info.bits_per_sample ≤ 32 }
-        ensures { samples_input result ≡ input }
+        ensures input { samples_input result ≡ input }
+        ensures stream { samples_stream result ≡ Some (stream_with info) }
+        ensures none_left { samples_left result ≡ [] }
+        ensures goes_on { have_failed result ≡ false }
     {
         FlacSamples {
             frame_reader: FrameReader::with_streaminfo(input, info),
@@ -47,7 +54,12 @@ impl<R: ReadBytes, A: Allocator + Copy> FlacSamples<R, A> {
 
     // Reads the next block into the memory of the last one. Says whether there was one.
     fn read_block(&mut self) -> Result<bool>
-        ensures { IfOk result (λ more. IsTrue more → self.new.sample < duration_of self.new.block.channels) }
+        ensures more { IfOk result (λ more. IsTrue more → self.new.sample < duration_of self.new.block.channels) }
+        ensures stream { samples_stream self.new ≡ samples_stream self.old }
+        ensures has_failed { have_failed self.new ≡ have_failed self.old }
+        ensures reads { BlockIsAsked R.source self.old result self.new }
+        ensures none_left { IfOk result (λ more. more ≡ false → samples_left self.new ≡ []) }
+        ensures left { IfOk result (λ more. more ≡ true → samples_left self.new ≡ interleave self.new.block.channels) }
     {
         self.sample = 0;
         self.channel = 0;
@@ -61,8 +73,38 @@ impl<R: ReadBytes, A: Allocator + Copy> FlacSamples<R, A> {
         }
     }
 
+    // The next sample of the block at hand, or else the first one of the next block.
+    fn next_sample(&mut self) -> Option<Result<i32>>
+        requires { have_failed self.old ≡ false }
+        ensures { NextSample R.source self.old result self.new }
+    {
+        if self.sample < self.block.duration() {
+            return Some(Ok(self.give()));
+        }
+        self.first_of_next_block()
+    }
+
+    // Reads the next block, and gives its first sample.
+    fn first_of_next_block(&mut self) -> Option<Result<i32>>
+        requires { have_failed self.old ≡ false }
+        ensures stream { samples_stream self.new ≡ samples_stream self.old }
+        ensures step { NextBlock R.source self.old result self.new }
+    {
+        match self.read_block() {
+            Ok(more) => { if more { Some(Ok(self.give())) } else { None } }
+            Err(error) => {
+                self.has_failed = true;
+                Some(Err(error))
+            }
+        }
+    }
+
+    // Gives the next sample of the block at hand.
     fn give(&mut self) -> i32
         requires { self.old.sample < duration_of self.old.block.channels }
+        ensures stream { self.new.frame_reader ≡ self.old.frame_reader }
+        ensures has_failed { have_failed self.new ≡ have_failed self.old }
+        ensures sample { samples_left self.old ≡ result ∷ samples_left self.new }
     {
         let sample = self.block.sample(self.channel, self.sample);
         let (channels, duration) = (self.block.channels(), self.block.duration());
@@ -79,22 +121,16 @@ impl<R: ReadBytes, A: Allocator + Copy> FlacSamples<R, A> {
 }
 
 impl<R: ReadBytes + Drop, A: Allocator + Copy> Iterator for FlacSamples<R, A> {
+    ghost use Rattle.claxon.specs.FlacSamples.{SamplesStep};
+
     type Item = Result<i32>;
+
+    ghost next_gives = { SamplesStep R.source };
 
     fn next(&mut self) -> Option<Result<i32>> {
         if self.has_failed {
             return None;
         }
-        if self.sample >= self.block.duration() {
-            match self.read_block() {
-                Ok(true) => {}
-                Ok(false) => return None,
-                Err(error) => {
-                    self.has_failed = true;
-                    return Some(Err(error));
-                }
-            }
-        }
-        Some(Ok(self.give()))
+        self.next_sample()
     }
 }

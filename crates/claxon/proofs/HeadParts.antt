@@ -1,0 +1,278 @@
+-- The reader of a head, read as the code reads it.
+use Rattle.std.proofs.Common.{◌≡◌, ℕ, zero, suc, ◌-◌, ◌<◌, Bool, true, false, cond, List, [], ◌++◌, Option, None, Some, refl, sym, ap, ◌∙◌, append_assoc, arith}
+use Rattle.std.specs.Prelude.{Result, Err, ◌&&◌, ◌||◌}
+use Rattle.claxon_format.specs.MetadataBlocks.{Info, MetadataBlock as Block}
+use Rattle.claxon_format.specs.read.MetadataBlocks.{block_at}
+use Rattle.claxon_format.specs.Comments.{Comment}
+use Rattle.claxon_format.specs.Fault.{SecondComment, SecondStreaminfo, StreaminfoMissing, TooManyBlocks}
+use Rattle.claxon_format.specs.Heads.{Options, Head, is_info, is_some, is_second, is_done, is_short, found_with, stream_marker}
+use Rattle.claxon_format.specs.read.Heads.{marker_at, others_at, after_first, head_at}
+use Rattle.claxon_format.specs.Metadata.{BlockHeader, BlockHeaderCode}
+use Rattle.claxon_format.specs.Reading.{Reading, Done, Faulty, Short, bind, test, pick, done}
+use Rattle.claxon_format.specs.Streaminfo.{Streaminfo}
+use Rattle.std.specs.Option as Options
+use Rattle.claxon_input.specs.declared.error.Error.{Error}
+use Rattle.claxon_input.specs.declared.error.Error.TheVariants.{OutOfMemory}
+use Rattle.claxon_input.specs.Source.{Source}
+use Rattle.claxon_input.specs.State.{State, bytes_in}
+use Rattle.claxon_input.specs.Gives.{Went, IsRest}
+use Rattle.claxon_input.proofs.CallsInTurn.{went_both, went_map, went_none, StopsAs}
+use Rattle.claxon_metadata.specs.MetadataBlock.{MayStarve, flagged_view, content_view, info_view}
+use Rattle.claxon.specs.ReadHead.{StarvesBehind, WantsMemory, found_view, other_at}
+use Rattle.claxon_metadata.specs.declared.metadata.StreamInfo.{StreamInfo}
+use Rattle.claxon_metadata.specs.declared.metadata.VorbisComment.{VorbisComment}
+use Rattle.claxon_metadata.specs.declared.metadata.MetadataBlock.{MetadataBlock}
+use Rattle.claxon_metadata.specs.declared.metadata.MetadataBlock.TheVariants.{StreamInfo as InfoBlock, Padding as PaddingBlock, Application as ApplicationBlock, SeekTable, VorbisComment as CommentBlock, CueSheet, Picture, Reserved as ReservedBlock}
+use Rattle.claxon_metadata.proofs.ContentByType.{stops_with}
+
+-- ---- want of memory
+
+is_refused : {A : Type 0} (r : Result A Error) (e : Error) → (y : Error) × (r ≡ Err y) × (y ≡ e) → r ≡ Err OutOfMemory → e ≡ OutOfMemory
+is_refused r e p h =
+    let both : Err p.0 ≡ Err OutOfMemory = sym p.1 ∙ h in
+    let same : p.0 ≡ OutOfMemory = cc both in
+    sym p.2 ∙ same
+
+-- behind the header of the next block
+pub starved_here : {A : Type 0} (a : State ℕ) {r : Result A Error} {e : Error} → (y : Error) × (r ≡ Err y) × (y ≡ e)
+    → (e ≡ OutOfMemory → a.told ≡ true → (h : BlockHeader) × (x : List ℕ) × (rest : List ℕ) × BlockHeaderCode h x × MayStarve h.type h.length × (a.coming ≡ x ++ rest)) → StarvesBehind r a
+starved_here a {r = r} {e = e} p h starved told = let t = h (is_refused r e p starved) told in ([], t.0, t.1, t.2, t.3, t.4, t.5)
+
+-- a front was taken
+front_taken : {R : Type 0} (source : R → Source ℕ) (a b : R) {P : List ℕ → List ℕ → Type 0} → Went (bytes_in source a) (bytes_in source b) P → (bytes_in source a).told ≡ true → (t : List ℕ) × ((bytes_in source a).coming ≡ t ++ (bytes_in source b).coming)
+unfolding bytes_in IsRest
+front_taken source a b h told = (h.known told).rest (bytes_in source a).bytes ([], refl)
+
+-- after some of it was taken
+pub starved_later : {R A : Type 0} (source : R → Source ℕ) (a b : R) {P : List ℕ → List ℕ → Type 0} {r : Result A Error} {e : Error} → (y : Error) × (r ≡ Err y) × (y ≡ e) → Went (bytes_in source a) (bytes_in source b) P
+    → (e ≡ OutOfMemory → (bytes_in source b).told ≡ true → WantsMemory (bytes_in source b).coming) → StarvesBehind r (bytes_in source a)
+starved_later source a b {r = r} {e = e} p w h starved told =
+    let t = h (is_refused r e p starved) (w.known told).told in
+    let f = front_taken source a b w told in
+    (f.0 ++ t.0, t.1, t.2, t.3, t.4, t.5, f.1 ∙ ap (λ (z : List ℕ). f.0 ++ z) t.6 ∙ sym (append_assoc f.0 t.0 (t.2 ++ t.3)))
+
+-- the same where the header is the next one
+pub starved_next : {R A : Type 0} (source : R → Source ℕ) (a b : R) {P : List ℕ → List ℕ → Type 0} {r : Result A Error} {e : Error} → (y : Error) × (r ≡ Err y) × (y ≡ e) → Went (bytes_in source a) (bytes_in source b) P
+    → (e ≡ OutOfMemory → (bytes_in source b).told ≡ true → (h : BlockHeader) × (x : List ℕ) × (rest : List ℕ) × BlockHeaderCode h x × MayStarve h.type h.length × ((bytes_in source b).coming ≡ x ++ rest)) → StarvesBehind r (bytes_in source a)
+starved_next source a b p w h = starved_later source a b p w (λ m told. let t = h m told in ([], t.0, t.1, t.2, t.3, t.4, t.5))
+
+-- ---- one of the blocks after the streaminfo
+
+pub other_stops : (found : Option Comment) (s : List ℕ) → StopsAs (block_at s) (other_at found s)
+unfolding other_at
+other_stops found s = stops_with _ refl
+
+pub other_info : (found : Option Comment) (b : Block) (s m : List ℕ) → block_at s ≡ Done b m → is_info b.content ≡ true → other_at found s ≡ Faulty SecondStreaminfo m
+unfolding other_at
+other_info found b s m e i = rw (e, i) refl
+
+pub other_second : (found : Option Comment) (b : Block) (s m : List ℕ) → block_at s ≡ Done b m → is_info b.content ≡ false → is_second found b.content ≡ true → other_at found s ≡ Faulty SecondComment m
+unfolding other_at
+other_second found b s m e i c = rw (e, i, c) refl
+
+pub other_done : (found : Option Comment) (b : Block) (s m : List ℕ) → block_at s ≡ Done b m → is_info b.content ≡ false → is_second found b.content ≡ false → other_at found s ≡ Done (b.is_last, found_with found b.content) m
+unfolding other_at
+other_done found b s m e i c = rw (e, i, c) refl
+
+-- ---- what the code keeps of blocks
+
+pub is_found : {A : Type 0} (found : Option (VorbisComment A)) → is_some (found_view found) ≡ Options.is_some found
+is_found None = refl
+is_found (Some comment) = refl
+
+abbrev pub NoInfo : {A : Type 0} → MetadataBlock A → Type 0
+NoInfo block = (info : StreamInfo) → block ≡ InfoBlock info → ⊥
+
+pub not_info : {A : Type 0} (block : MetadataBlock A) → NoInfo block → is_info (content_view block) ≡ false
+not_info (InfoBlock info) h = absurd (h info refl)
+not_info (PaddingBlock n) h = refl
+not_info (ApplicationBlock id bytes) h = refl
+not_info (SeekTable table) h = refl
+not_info (CommentBlock comment) h = refl
+not_info CueSheet h = refl
+not_info Picture h = refl
+not_info ReservedBlock h = refl
+
+pub not_second : {A : Type 0} (found : Option Comment) (block : MetadataBlock A) → ((comment : VorbisComment A) → block ≡ CommentBlock comment → ⊥) → (is_second found (content_view block) ≡ false) × (found_with found (content_view block) ≡ found)
+not_second found (InfoBlock info) h = (refl, refl)
+not_second found (PaddingBlock n) h = (refl, refl)
+not_second found (ApplicationBlock id bytes) h = (refl, refl)
+not_second found (SeekTable table) h = (refl, refl)
+not_second found (CommentBlock comment) h = absurd (h comment refl)
+not_second found CueSheet h = (refl, refl)
+not_second found Picture h = (refl, refl)
+not_second found ReservedBlock h = (refl, refl)
+
+pub other_kept : {A : Type 0} (found : Option Comment) (is_last : Bool) (block : MetadataBlock A) (s m : List ℕ) → NoInfo block → ((comment : VorbisComment A) → block ≡ CommentBlock comment → ⊥) → block_at s ≡ Done (flagged_view is_last block) m
+    → other_at found s ≡ Done (is_last, found) m
+other_kept found is_last block s m h k e =
+    let n = not_second found block k in
+    other_done found (flagged_view is_last block) s m e (not_info block h) n.0 ∙ ap (λ (z : Option Comment). Done (is_last, z) m) n.1
+
+-- ---- all blocks after the streaminfo
+
+-- what is kept of one of them
+abbrev other_of : Option Comment → Block → Bool × Option Comment
+other_of found b = (b.is_last, found_with found b.content)
+
+-- where a block was read that is no end, the others are
+tested : (suffices : Bool) (k : ℕ) (found next : Option Comment) (is_last : Bool) (b : Block) (rest m : List ℕ) (p q : Bool)
+    → cond p (Faulty SecondStreaminfo rest) (cond q (Faulty SecondComment rest) (Done (other_of found b) rest)) ≡ Done (is_last, next) m
+    → cond p (Faulty SecondStreaminfo rest) (cond q (Faulty SecondComment rest) (pick (is_done suffices found b) (done (found_with found b.content)) (others_at suffices k (found_with found b.content)) rest))
+    ≡ pick (is_last || (suffices && is_some next)) (done next) (others_at suffices k next) m
+tested suffices k found next is_last b rest m true q e = absurd cc
+tested suffices k found next is_last b rest m false true e = absurd cc
+tested suffices k found next is_last b rest m false false e =
+    let both : other_of found b ≡ (is_last, next) = cc in
+    let l : b.is_last ≡ is_last = ap (λ (z : Bool × Option Comment). z.0) both in
+    let f : found_with found b.content ≡ next = ap (λ (z : Bool × Option Comment). z.1) both in
+    let r : rest ≡ m = cc in
+    rw (l, f, r) refl
+
+other_then : (suffices : Bool) (k : ℕ) (found next : Option Comment) (is_last : Bool) (s m : List ℕ) → 0 < k → other_at found s ≡ Done (is_last, next) m
+    → others_at suffices k found s ≡ pick (is_last || (suffices && is_some next)) (done next) (others_at suffices (k - 1) next) m
+unfolding other_at others_at
+other_then suffices zero found next is_last s m some e = absurd (omega arith)
+other_then suffices (suc k) found next is_last s m some e =
+    let o : suc k - 1 ≡ k = omega arith in
+    rw o (go (block_at s) e)
+  where
+    go : (x : Reading ℕ Block) → bind x (λ b. test (is_info b.content) SecondStreaminfo (test (is_second found b.content) SecondComment (done (other_of found b)))) ≡ Done (is_last, next) m
+        → bind x (λ b. test (is_info b.content) SecondStreaminfo (test (is_second found b.content) SecondComment (pick (is_done suffices found b) (done (found_with found b.content)) (others_at suffices k (found_with found b.content)))))
+        ≡ pick (is_last || (suffices && is_some next)) (done next) (others_at suffices k next) m
+    go (Done b rest) h = tested suffices k found next is_last b rest m (is_info b.content) (is_second found b.content) h
+    go (Faulty f rest) h = absurd cc
+    go Short h = absurd cc
+
+tested_stops : (suffices : Bool) (k : ℕ) (found : Option Comment) (b : Block) (rest : List ℕ) (p q : Bool) (x : Reading ℕ (Option Comment))
+    → StopsAs (cond p (Faulty SecondStreaminfo rest) (cond q (Faulty SecondComment rest) (Done (other_of found b) rest))) (cond p (Faulty SecondStreaminfo rest) (cond q (Faulty SecondComment rest) x))
+tested_stops suffices k found b rest true q x = record { fault = λ f r e. cc; short = λ e. absurd cc }
+tested_stops suffices k found b rest false true x = record { fault = λ f r e. cc; short = λ e. absurd cc }
+tested_stops suffices k found b rest false false x = record { fault = λ f r e. absurd cc; short = λ e. absurd cc }
+
+others_stops : (suffices : Bool) (k : ℕ) (found : Option Comment) (s : List ℕ) → 0 < k → StopsAs (other_at found s) (others_at suffices k found s)
+unfolding other_at others_at
+others_stops suffices zero found s some = absurd (omega arith)
+others_stops suffices (suc k) found s some = go (block_at s)
+  where
+    go : (x : Reading ℕ Block)
+        → StopsAs (bind x (λ b. test (is_info b.content) SecondStreaminfo (test (is_second found b.content) SecondComment (done (other_of found b)))))
+        (bind x (λ b. test (is_info b.content) SecondStreaminfo (test (is_second found b.content) SecondComment (pick (is_done suffices found b) (done (found_with found b.content)) (others_at suffices k (found_with found b.content))))))
+    go (Done b rest) = tested_stops suffices k found b rest (is_info b.content) (is_second found b.content) _
+    go (Faulty f rest) = record { fault = λ g r e. cc; short = λ e. absurd cc }
+    go Short = record { fault = λ g r e. absurd cc; short = λ e. refl }
+
+-- so many blocks may still come, and these comments were found
+pub record OthersSoFar (suffices : Bool) (most : ℕ) (found : Option Comment) (old new : State ℕ) : Type 0 where
+  pub so_far : Went old new (λ s m. others_at suffices 65535 None s ≡ others_at suffices most found m)
+
+pub others_next : {suffices : Bool} {most : ℕ} {found : Option Comment} (is_last : Bool) (next : Option Comment) {a b c : State ℕ} → 0 < most → (is_last || (suffices && is_some next)) ≡ false → OthersSoFar suffices most found a b
+    → Went b c (λ s m. other_at found s ≡ Done (is_last, next) m) → OthersSoFar suffices (most - 1) next a c
+others_next {suffices = suffices} {most = most} {found = found} is_last next some going h k =
+    record { so_far = went_both _ h.so_far k (λ p q. p ∙ other_then suffices most found next is_last _ _ some q ∙ rw going refl) }
+
+pub others_done : {suffices : Bool} {most : ℕ} {found : Option Comment} (is_last : Bool) (next : Option Comment) {a b c : State ℕ} → 0 < most → (is_last || (suffices && is_some next)) ≡ true → OthersSoFar suffices most found a b
+    → Went b c (λ s m. other_at found s ≡ Done (is_last, next) m) → Went a c (λ s m. others_at suffices 65535 None s ≡ Done next m)
+others_done {suffices = suffices} {most = most} {found = found} is_last next some ends h k =
+    went_both _ h.so_far k (λ p q. p ∙ other_then suffices most found next is_last _ _ some q ∙ rw ends refl)
+
+pub others_stop : {suffices : Bool} {most : ℕ} {found : Option Comment} {a b : State ℕ} → 0 < most → OthersSoFar suffices most found a b → Went a b (λ s m. StopsAs (other_at found m) (others_at suffices 65535 None s))
+others_stop {suffices = suffices} {most = most} {found = found} {b = b} some h = went_map _ h.so_far (λ p. rw p (others_stops suffices most found b.coming some))
+
+others_end : (suffices : Bool) (k : ℕ) (found : Option Comment) (s : List ℕ) → k ≡ 0 → others_at suffices k found s ≡ Faulty TooManyBlocks s
+unfolding others_at
+others_end suffices zero found s e = refl
+others_end suffices (suc k) found s e = absurd (omega arith)
+
+pub others_too_many : {suffices : Bool} {most : ℕ} {found : Option Comment} {a b : State ℕ} → most ≡ 0 → OthersSoFar suffices most found a b → Went a b (λ s m. others_at suffices 65535 None s ≡ Faulty TooManyBlocks m)
+others_too_many {suffices = suffices} {most = most} {found = found} {b = b} none h = went_map _ h.so_far (λ p. p ∙ others_end suffices most found b.coming none)
+
+-- ---- the whole head
+
+pub marker_stops : (o : Options) (s : List ℕ) → StopsAs (marker_at s) (head_at o s)
+unfolding head_at
+marker_stops o s = stops_with _ refl
+
+pub first_stops : (o : Options) (k : ℕ) (s m : List ℕ) → marker_at s ≡ Done k m → StopsAs (block_at m) (head_at o s)
+unfolding head_at
+first_stops o k s m e = stops_with (λ b. after_first o b.is_last b.content) (rw e refl)
+
+after_block : (o : Options) (k : ℕ) (b : Block) (s m n : List ℕ) → marker_at s ≡ Done k m → block_at m ≡ Done b n → head_at o s ≡ after_first o b.is_last b.content n
+unfolding head_at
+after_block o k b s m n e f = rw (e, f) refl
+
+first_missing : {A : Type 0} (o : Options) (is_last : Bool) (block : MetadataBlock A) (n : List ℕ) → NoInfo block → after_first o is_last (content_view block) n ≡ Faulty StreaminfoMissing n
+unfolding after_first
+first_missing o is_last (InfoBlock info) n h = absurd (h info refl)
+first_missing o is_last (PaddingBlock k) n h = refl
+first_missing o is_last (ApplicationBlock id bytes) n h = refl
+first_missing o is_last (SeekTable table) n h = refl
+first_missing o is_last (CommentBlock comment) n h = refl
+first_missing o is_last CueSheet n h = refl
+first_missing o is_last Picture n h = refl
+first_missing o is_last ReservedBlock n h = refl
+
+pub no_streaminfo : {A : Type 0} (o : Options) (k : ℕ) (is_last : Bool) (block : MetadataBlock A) (s m n : List ℕ) → NoInfo block → marker_at s ≡ Done k m → block_at m ≡ Done (flagged_view is_last block) n → head_at o s ≡ Faulty StreaminfoMissing n
+no_streaminfo o k is_last block s m n h e f = after_block o k (flagged_view is_last block) s m n e f ∙ first_missing o is_last block n h
+
+-- the streaminfo, and then what is shown of the blocks behind it
+abbrev pub head_with : Options → Streaminfo → Option Comment → Head
+head_with o info found = record { info = info; comment = cond o.wants_comment found None }
+
+pub head_short : (o : Options) (k : ℕ) (is_last : Bool) (info : Streaminfo) (s m n : List ℕ) → is_short o is_last ≡ true → marker_at s ≡ Done k m → block_at m ≡ Done (record { is_last = is_last; content = Info info }) n
+    → head_at o s ≡ Done (head_with o info None) n
+unfolding after_first
+head_short o k is_last info s m n short e f = after_block o k (record { is_last = is_last; content = Info info }) s m n e f ∙ rw short refl
+
+head_long : (o : Options) (k : ℕ) (is_last : Bool) (info : Streaminfo) (s m n : List ℕ) → is_short o is_last ≡ false → marker_at s ≡ Done k m → block_at m ≡ Done (record { is_last = is_last; content = Info info }) n
+    → head_at o s ≡ bind (others_at o.metadata_only 65535 None n) (λ found. done (head_with o info found))
+unfolding after_first
+head_long o k is_last info s m n long e f = after_block o k (record { is_last = is_last; content = Info info }) s m n e f ∙ rw long refl
+
+pub later_stops : (o : Options) (k : ℕ) (is_last : Bool) (info : Streaminfo) (s m n : List ℕ) → is_short o is_last ≡ false → marker_at s ≡ Done k m → block_at m ≡ Done (record { is_last = is_last; content = Info info }) n
+    → StopsAs (others_at o.metadata_only 65535 None n) (head_at o s)
+later_stops o k is_last info s m n long e f = stops_with (λ found. done (head_with o info found)) (head_long o k is_last info s m n long e f)
+
+pub head_whole : (o : Options) (k : ℕ) (is_last : Bool) (info : Streaminfo) (found : Option Comment) (s m n rest : List ℕ) → is_short o is_last ≡ false → marker_at s ≡ Done k m → block_at m ≡ Done (record { is_last = is_last; content = Info info }) n
+    → others_at o.metadata_only 65535 None n ≡ Done found rest → head_at o s ≡ Done (head_with o info found) rest
+head_whole o k is_last info found s m n rest long e f q = head_long o k is_last info s m n long e f ∙ rw q refl
+
+-- ---- the marker and the streaminfo, and what follows
+
+Begun : Bool → Streaminfo → List ℕ → List ℕ → Type 0
+Begun is_last info s n = (m : List ℕ) × (marker_at s ≡ Done stream_marker m) × (block_at m ≡ Done (record { is_last = is_last; content = Info info }) n)
+
+pub record HeadBegun (is_last : Bool) (info : Streaminfo) (old new : State ℕ) : Type 0 where
+  begun : Went old new (Begun is_last info)
+
+pub head_begun : {A : Type 0} {is_last : Bool} {block : MetadataBlock A} (info : StreamInfo) {a b c : State ℕ} → block ≡ InfoBlock info → Went a b (λ s m. marker_at s ≡ Done stream_marker m)
+    → Went b c (λ s m. block_at s ≡ Done (flagged_view is_last block) m) → HeadBegun is_last (info_view info) a c
+unfolding Begun
+head_begun info {b = b} e h k = record { begun = went_both _ h k (λ p q. (b.coming, p, rw e at q)) }
+
+shown_none : (wants : Bool) → cond wants None None ≡ (let none : Option Comment = None in none)
+shown_none true = refl
+shown_none false = refl
+
+pub begun_short : (o : Options) {is_last : Bool} {info : Streaminfo} {a b : State ℕ} → is_short o is_last ≡ true → HeadBegun is_last info a b → Went a b (λ s m. head_at o s ≡ Done (record { info = info; comment = None }) m)
+unfolding Begun
+begun_short o {is_last = is_last} {info = info} {b = b} short h =
+    went_map _ h.begun (λ p. head_short o stream_marker is_last info _ p.0 b.coming short p.1 p.2 ∙ ap (λ (z : Option Comment). Done (record { info = info; comment = z }) b.coming) (shown_none o.wants_comment))
+
+pub begun_stops : (o : Options) {is_last : Bool} {info : Streaminfo} {a b : State ℕ} → is_short o is_last ≡ false → HeadBegun is_last info a b → Went a b (λ s m. StopsAs (others_at o.metadata_only 65535 None m) (head_at o s))
+unfolding Begun
+begun_stops o {is_last = is_last} {info = info} {b = b} long h = went_map _ h.begun (λ p. later_stops o stream_marker is_last info _ p.0 b.coming long p.1 p.2)
+
+begun_whole : (o : Options) {is_last : Bool} {info : Streaminfo} {a b c : State ℕ} (found shown : Option Comment) → is_short o is_last ≡ false → cond o.wants_comment found None ≡ shown → HeadBegun is_last info a b
+    → Went b c (λ s m. others_at o.metadata_only 65535 None s ≡ Done found m) → Went a c (λ s m. head_at o s ≡ Done (record { info = info; comment = shown }) m)
+unfolding Begun
+begun_whole o {is_last = is_last} {info = info} {b = b} {c = c} found shown long e h k =
+    went_both _ h.begun k (λ p q. head_whole o stream_marker is_last info found _ p.0 b.coming c.coming long p.1 p.2 q ∙ ap (λ (z : Option Comment). Done (record { info = info; comment = z }) c.coming) e)
+
+pub begun_with : (o : Options) {is_last : Bool} {info : Streaminfo} {a b c : State ℕ} (found : Option Comment) → is_short o is_last ≡ false → o.wants_comment ≡ true → HeadBegun is_last info a b
+    → Went b c (λ s m. others_at o.metadata_only 65535 None s ≡ Done found m) → Went a c (λ s m. head_at o s ≡ Done (record { info = info; comment = found }) m)
+begun_with o found long wished h k = begun_whole o found found long (rw wished refl) h k
+
+pub begun_without : (o : Options) {is_last : Bool} {info : Streaminfo} {a b c : State ℕ} (found : Option Comment) → is_short o is_last ≡ false → o.wants_comment ≡ false → HeadBegun is_last info a b
+    → Went b c (λ s m. others_at o.metadata_only 65535 None s ≡ Done found m) → Went a c (λ s m. head_at o s ≡ Done (record { info = info; comment = None }) m)
+begun_without o found long wished h k = begun_whole o found None long (rw wished refl) h k

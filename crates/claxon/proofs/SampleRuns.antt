@@ -1,0 +1,198 @@
+-- Blocks that are read one after another, and the samples that calls gave of them.
+use Rattle.std.specs.Borrow.{MutBor}
+use Rattle.std.proofs.Common.{◌≡◌, ℕ, ◌+◌, ◌<◌, ◌≤◌, true, false, List, [], ◌∷◌, ◌++◌, length, refl, sym, ap, subst, ◌∙◌, append_assoc, arith, ℤ}
+use Rattle.std.specs.Prelude.{Bool, MatchBool, Option, None, Some, Result, Ok, Err}
+use Rattle.std.proofs.lemmas.List.{append-nil, length-append}
+use Rattle.claxon_format.specs.Bits.{bits, bits_of}
+use Rattle.claxon_format.specs.Frame.{StreamShape, Block, Frame, Frames, IsComplete}
+use Rattle.claxon_format.specs.Guards.{crc16}
+use Rattle.claxon_format.specs.Heads.{HeadCode}
+use Rattle.claxon_format.specs.Streams.{interleave, stream_of, with_samples}
+use Rattle.claxon_format.proofs.Bytes.{length-bits_of}
+use Rattle.claxon_format.proofs.Numbers.{length-bits}
+use Rattle.claxon_input.specs.declared.error.Error.{Error}
+use Rattle.claxon_input.specs.declared.input.BufferedReader.{BufferedReader}
+use Rattle.claxon_input.specs.BufferedReader.{buffered_source}
+use Rattle.claxon_input.specs.Source.{Source}
+use Rattle.claxon_input.specs.State.{State, bytes_in}
+use Rattle.claxon_input.specs.Promises.{Took}
+use Rattle.claxon_input.proofs.CallsInTurn.{went_none, went_both, went_told}
+use Rattle.claxon_frame.specs.Block.{BlockValue}
+use Rattle.claxon_frame.specs.FrameReader.{ReadsFrame, block_view}
+use Rattle.claxon.specs.FlacReader.{flac_head}
+use Rattle.claxon.specs.FlacSamples.{BlockAnswer, NextSample, SamplesStep, have_failed, samples_bytes, samples_left, samples_stream}
+use Rattle.claxon.specs.Opening.{flac_bytes}
+use Rattle.claxon.specs.SampleRuns.{BeginsAt, Calls, GaveAll, GaveSamples, ReadsFrames, StreamOf, TakesFrames, end_answer, end_found, lent, samples_of}
+use Rattle.claxon.specs.declared.reader.FlacReader.{FlacReader}
+use Rattle.claxon.specs.declared.samples.FlacSamples.{FlacSamples}
+
+-- one frame more
+frames_add : (stream : Option StreamShape) (blocks : List Block) (b : Block) (s m r t : List ℕ) → Frames stream s blocks m → Frame stream b t → m ≡ t ++ r → Frames stream s (blocks ++ b ∷ []) r
+frames_add stream [] b s m r t c f e = (t, r, f, c ∙ e, refl)
+frames_add stream (x ∷ blocks) b s m r t c f e = (c.0, c.1, c.2, c.3, frames_add stream blocks b c.1 m r t c.4 f e)
+
+pub samples_add : (blocks : List Block) (b : Block) → samples_of (blocks ++ b ∷ []) ≡ samples_of blocks ++ interleave b.channels
+samples_add [] b = append-nil (interleave b.channels)
+samples_add (x ∷ blocks) b = ap (λ (z : List ℤ). interleave x.channels ++ z) (samples_add blocks b) ∙ sym (append_assoc (interleave x.channels) (samples_of blocks) (interleave b.channels))
+
+pub takes_none : (stream : Option StreamShape) (a : State ℕ) → TakesFrames stream [] a a
+takes_none stream a = record { went = went_none a _ refl }
+
+pub takes_more : {stream : Option StreamShape} {blocks : List Block} (block : BlockValue) {a b c : State ℕ} → TakesFrames stream blocks a b → ReadsFrame stream (Ok (Some block)) b c → TakesFrames stream (blocks ++ block_view block ∷ []) a c
+takes_more {stream = stream} {blocks = blocks} block h k =
+    let w = went_told (λ s m. (t : List ℕ) × Frame stream (block_view block) t × (s ≡ t ++ m)) k.gives (λ told p. (k.promises.sound told).1) in
+    record { went = went_both _ h.went w (λ p q. frames_add stream blocks (block_view block) _ _ _ q.0 p q.1 q.2) }
+
+-- ---- calls for samples
+
+-- a call that was made before an Err
+goes_on : {R A : Type 0} (source : R → Source ℕ) (s : FlacSamples R A) (r : Option (Result ℤ Error)) (new : FlacSamples R A) → have_failed s ≡ false → SamplesStep source s r new → NextSample source s r new
+goes_on source s r new e h = subst (λ (b : Bool). MatchBool b ((r ≡ None) × (new ≡ s)) (NextSample source s r new)) e h
+
+same_sample : {x y : ℤ} → (let answer : Option (Result ℤ Error) = Some (Ok x) in answer) ≡ Some (Ok y) → x ≡ y
+same_sample e = cc
+
+module _ {R A : Type 0} (source : R → Source ℕ) where
+  -- before the first call
+  pub gave_none : (s : FlacSamples R A) → have_failed s ≡ false → GaveSamples source s [] s
+  gave_none s e = record { blocks = []; frames = takes_none (samples_stream s) (samples_bytes source s); samples = append-nil (samples_left s); stream = refl; goes_on = e }
+
+  module _ {old mid : FlacSamples R A} {xs : List ℤ} (h : GaveSamples source old xs mid) where
+    -- the next one is a sample of the block at hand
+    gave_at_hand : (x y : ℤ) (left : List ℤ) (new : FlacSamples R A) → NextSample source mid (Some (Ok x)) new → samples_left mid ≡ y ∷ left → GaveSamples source old (xs ++ x ∷ []) new
+    gave_at_hand x y left new n e =
+        let g = n.at_hand y left e in
+        let s : x ≡ y = same_sample g.0.is in
+        record {
+          blocks = h.blocks;
+          frames = subst (λ (b : State ℕ). TakesFrames (samples_stream old) h.blocks (samples_bytes source old) b) (sym g.1) h.frames;
+          samples = h.samples ∙ ap (λ (z : List ℤ). xs ++ z) (e ∙ ap (λ (z : ℤ). z ∷ left) (sym s) ∙ ap (λ (z : List ℤ). x ∷ z) (sym g.0.left_are)) ∙ sym (append_assoc xs (x ∷ []) (samples_left new));
+          stream = n.stream ∙ h.stream;
+          goes_on = g.0.goes_on;
+        }
+
+    -- or the first one of the next block
+    gave_behind : (x : ℤ) (new : FlacSamples R A) → NextSample source mid (Some (Ok x)) new → samples_left mid ≡ [] → GaveSamples source old (xs ++ x ∷ []) new
+    gave_behind x new n e = let b = n.behind e in go b.found b.reads b.answer
+      where
+        go : (found : Result (Option BlockValue) Error) → ReadsFrame (samples_stream mid) found (samples_bytes source mid) (samples_bytes source new) → BlockAnswer found (Some (Ok x)) new → GaveSamples source old (xs ++ x ∷ []) new
+        go (Ok None) reads answer = let z = answer.0 in absurd cc
+        go (Err error) reads answer = let z = answer.0 in absurd cc
+        go (Ok (Some block)) reads answer =
+            let g = answer.3 in
+            let s : x ≡ answer.0 = same_sample g.is in
+            let r = subst (λ (k : Option StreamShape). ReadsFrame k (Ok (Some block)) (samples_bytes source mid) (samples_bytes source new)) h.stream reads in
+            let first : interleave block.channels ≡ x ∷ samples_left new = answer.2 ∙ ap (λ (z : ℤ). z ∷ answer.1) (sym s) ∙ ap (λ (z : List ℤ). x ∷ z) (sym g.left_are) in
+            record {
+              blocks = h.blocks ++ block_view block ∷ [];
+              frames = takes_more block h.frames r;
+              samples =
+                  ap (λ (z : List ℤ). samples_left old ++ z) (samples_add h.blocks (block_view block)) ∙ sym (append_assoc (samples_left old) (samples_of h.blocks) (interleave block.channels))
+                  ∙ ap (λ (z : List ℤ). z ++ interleave block.channels) (h.samples ∙ ap (λ (z : List ℤ). xs ++ z) e ∙ append-nil xs) ∙ ap (λ (z : List ℤ). xs ++ z) first
+                  ∙ sym (append_assoc xs (x ∷ []) (samples_left new));
+              stream = n.stream ∙ h.stream;
+              goes_on = g.goes_on;
+            }
+
+    -- one call more
+    pub gave_more : (x : ℤ) (new : FlacSamples R A) → SamplesStep source mid (Some (Ok x)) new → GaveSamples source old (xs ++ x ∷ []) new
+    gave_more x new step = go (samples_left mid) refl
+      where
+        n : NextSample source mid (Some (Ok x)) new
+        n = goes_on source mid (Some (Ok x)) new h.goes_on step
+
+        go : (left : List ℤ) → samples_left mid ≡ left → GaveSamples source old (xs ++ x ∷ []) new
+        go [] e = gave_behind x new n e
+        go (y ∷ left) e = gave_at_hand x y left new n e
+
+    -- no sample is at hand where none is answered
+    none_at_hand : (end : Option Error) (y : ℤ) (left : List ℤ) (new : FlacSamples R A) → NextSample source mid (end_answer end) new → samples_left mid ≡ y ∷ left → ⊥
+    none_at_hand None y left new n e = let z = (n.at_hand y left e).0.is in cc
+    none_at_hand (Some error) y left new n e = let z = (n.at_hand y left e).0.is in cc
+
+    found_is : (end : Option Error) (found : Result (Option BlockValue) Error) (new : FlacSamples R A) → BlockAnswer found (end_answer end) new → found ≡ end_found end
+    found_is None (Ok None) new answer = refl
+    found_is None (Ok (Some block)) new answer = let z = answer.3.is in absurd cc
+    found_is None (Err error) new answer = let z = answer.0 in absurd cc
+    found_is (Some e) (Ok None) new answer = let z = answer.0 in absurd cc
+    found_is (Some e) (Ok (Some block)) new answer = let z = answer.3.is in absurd cc
+    found_is (Some e) (Err error) new answer = let z = answer.0 in let s : e ≡ error = cc in ap (λ (y : Error). Err y) (sym s)
+
+    -- the call that answers no sample
+    pub gave_all : (end : Option Error) (new : FlacSamples R A) → SamplesStep source mid (end_answer end) new → GaveAll source old xs end new
+    gave_all end new step = go (samples_left mid) refl
+      where
+        n : NextSample source mid (end_answer end) new
+        n = goes_on source mid (end_answer end) new h.goes_on step
+
+        go : (left : List ℤ) → samples_left mid ≡ left → GaveAll source old xs end new
+        go (y ∷ left) e = absurd (none_at_hand end y left new n e)
+        go [] e =
+            let b = n.behind e in
+            let f : b.found ≡ end_found end = found_is end b.found new b.answer in
+            let r = subst (λ (k : Option StreamShape). ReadsFrame k b.found (samples_bytes source mid) (samples_bytes source new)) h.stream b.reads in
+            record {
+              blocks = h.blocks;
+              ends = record { between = samples_bytes source mid; blocks_are = h.frames; last = subst (λ (q : Result (Option BlockValue) Error). ReadsFrame (samples_stream old) q (samples_bytes source mid) (samples_bytes source new)) f r };
+              samples = h.samples ∙ ap (λ (z : List ℤ). xs ++ z) e ∙ append-nil xs;
+            }
+
+  gave_calls : (old : FlacSamples R A) (before xs : List ℤ) (mid new : FlacSamples R A) → GaveSamples source old before mid → Calls source mid xs new → GaveSamples source old (before ++ xs) new
+  gave_calls old before [] mid new h e = subst (λ (z : FlacSamples R A). GaveSamples source old (before ++ []) z) e (subst (λ (z : List ℤ). GaveSamples source old z mid) (sym (append-nil before)) h)
+  gave_calls old before (x ∷ xs) mid new h c = subst (λ (z : List ℤ). GaveSamples source old z new) (append_assoc before (x ∷ []) xs) (gave_calls old (before ++ x ∷ []) xs c.0 new (gave_more h x c.0 c.1) c.2)
+
+  pub samples_in_turn : (old : FlacSamples R A) (xs : List ℤ) (new : FlacSamples R A) → have_failed old ≡ false → Calls source old xs new → GaveSamples source old xs new
+  samples_in_turn old xs new e c = gave_calls old [] xs old new (gave_none old e) c
+
+  pub samples_to_the_end : (old : FlacSamples R A) (xs : List ℤ) (mid : FlacSamples R A) (end : Option Error) (new : FlacSamples R A) → have_failed old ≡ false → Calls source old xs mid
+      → SamplesStep source mid (end_answer end) new → GaveAll source old xs end new
+  samples_to_the_end old xs mid end new e c step = gave_all (samples_in_turn old xs mid e c) end new step
+
+-- ---- whole streams
+
+-- a frame has two bytes or more
+frame_long : (stream : Option StreamShape) (b : Block) (t : List ℕ) → Frame stream b t → 2 ≤ length t
+frame_long stream b t c =
+    let l : length (bits_of t) ≡ length c.0 + 16 = ap length c.2 ∙ length-append c.0 (bits 16 (crc16 c.0)) ∙ ap (λ (n : ℕ). length c.0 + n) (length-bits 16 (crc16 c.0)) in
+    omega (arith, l, length-bits_of t)
+
+-- so fewer begin with none
+pub short_complete : (stream : Option StreamShape) (r : List ℕ) → length r < 2 → IsComplete stream r
+short_complete stream r short b t u c e =
+    let l : length r ≡ length t + length u = ap length e ∙ length-append t u in
+    let f = frame_long stream b t c in
+    omega arith
+
+-- where the frames end fewer than two bytes are left
+few_left : {stream : Option StreamShape} {blocks : List Block} {a b : State ℕ} (h : ReadsFrames stream blocks (Ok None) a b) → a.told ≡ true → length h.between.coming < 2
+few_left h told = (h.last.promises.at_end refl (h.blocks_are.went.known told).told).0
+
+module _ {R A : Type 0} (remaining : R → Option (List ℕ)) where
+  -- what comes behind the loan comes
+  behind_loan : (flac : FlacReader R A) (s : FlacSamples (MutBor (BufferedReader R A)) A) → BeginsAt flac s
+      → ((samples_bytes (lent (buffered_source remaining)) s).coming ≡ (flac_bytes remaining flac).coming) × ((samples_bytes (lent (buffered_source remaining)) s).told ≡ (flac_bytes remaining flac).told)
+  unfolding bytes_in
+  behind_loan flac s h = (rw h.input refl, rw h.input refl)
+
+  pub whole_streams : (wants : Bool) (s : State ℕ) (flac : FlacReader R A) (old new : FlacSamples (MutBor (BufferedReader R A)) A) (xs : List ℤ) → Took s (flac_bytes remaining flac) (HeadCode (with_samples wants) (flac_head flac))
+      → BeginsAt flac old → GaveAll (lent (buffered_source remaining)) old xs None new → s.told ≡ true → StreamOf wants s.coming flac xs
+  whole_streams wants s flac old new xs head begins gave told =
+      let k = (head told).1 in
+      let here = behind_loan flac old begins in
+      let t : (samples_bytes (lent (buffered_source remaining)) old).told ≡ true = here.1 ∙ (head told).0 in
+      let ends = gave.ends in
+      let frames = (ends.blocks_are.went.known t).is in
+      let few = few_left ends t in
+      let f : Frames (samples_stream old) (flac_bytes remaining flac).coming gave.blocks ends.between.coming = subst (λ (z : List ℕ). Frames (samples_stream old) z gave.blocks ends.between.coming) here.0 frames in (
+        gave.blocks,
+        ends.between.coming,
+        record {
+          front = k.0;
+          frames = (flac_bytes remaining flac).coming;
+          head = k.1;
+          joined = k.2;
+          blocks_are = subst (λ (z : Option StreamShape). Frames z (flac_bytes remaining flac).coming gave.blocks ends.between.coming) begins.stream f;
+          complete = short_complete (Some (stream_of (flac_head flac).info)) ends.between.coming few;
+        },
+        ap (λ (z : List ℤ). z ++ samples_of gave.blocks) (sym begins.none_left) ∙ gave.samples,
+      )

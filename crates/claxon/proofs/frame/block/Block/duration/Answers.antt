@@ -1,6 +1,0 @@
-use Rattle.std.proofs.Common.{sym}
-use Rattle.claxon.proofs.Chunks.{duration-chunks}
-use Rattle.claxon.proofs.frame.block.Block.duration.Goals as goal
-
-pub returns-clause-value : goal.returns-clause-value
-returns-clause-value g c = rw (← c.self.view_is) (sym (duration-chunks _ _ _ c.self.invariant.0 c.self.invariant.3))

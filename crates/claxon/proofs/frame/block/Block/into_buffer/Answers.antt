@@ -1,6 +1,0 @@
-use Rattle.std.proofs.Common.{sym}
-use Rattle.claxon.proofs.Chunks.{joined-chunks}
-use Rattle.claxon.proofs.frame.block.Block.into_buffer.Goals as goal
-
-pub returns : goal.returns
-returns g c = rw (← c.self.view_is) (sym (joined-chunks _ _ _ c.self.invariant.0))

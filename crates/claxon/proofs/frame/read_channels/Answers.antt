@@ -1,6 +1,0 @@
-use Rattle.std.proofs.lemmas.Result.{err_from_is_err_and}
-use Rattle.claxon.proofs.FrameSteps.{refused_at_once}
-use Rattle.claxon.proofs.frame.read_channels.Goals as goal
-
-pub returns-in_err-buffer-clause-gives : goal.returns-in_err-buffer-clause-gives
-returns-in_err-buffer-clause-gives g c = refused_at_once _ _ _ (err_from_is_err_and c.from_residual.result c.from_residual.ensures.1) c.in_err-buffer.ensures.refused

@@ -1,6 +1,0 @@
-use Rattle.claxon_format.specs.Stereo.{right_of}
-use Rattle.claxon.proofs.Unmixes.{ZippedUpTo}
-use Rattle.claxon.proofs.frame.stereo.decode_left_side.Given as goal
-
-abbrev pub invariant-loop-i : goal.invariant-loop-i
-invariant-loop-i l = ZippedUpTo (right_of 8) l.left l.initial.side l.initial.side l.side l.i

@@ -1,6 +1,0 @@
-use Rattle.claxon_format.specs.Stereo.{left_of}
-use Rattle.claxon.proofs.Unmixes.{ZippedUpTo}
-use Rattle.claxon.proofs.frame.stereo.decode_right_side.Given as goal
-
-abbrev pub invariant-loop-i : goal.invariant-loop-i
-invariant-loop-i l = ZippedUpTo (left_of 9) l.initial.side l.right l.initial.side l.side l.i

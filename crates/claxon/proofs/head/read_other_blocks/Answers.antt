@@ -1,0 +1,36 @@
+use Rattle.std.proofs.Common.{Bool, Err, refl, sym, ap, ◌∙◌, arith}
+use Rattle.std.specs.Prelude.{◌&&◌, ◌||◌}
+use Rattle.std.proofs.lemmas.Result.{err_from_is_err_and}
+use Rattle.claxon_format.specs.Fault.{fault_text, TooManyBlocks}
+use Rattle.claxon_input.specs.declared.error.Error.{Error}
+use Rattle.claxon.specs.ReadHead.{found_view, other_view}
+use Rattle.claxon_input.proofs.Faults.{stops_fault}
+use Rattle.claxon.proofs.HeadParts.{starved_later, is_found, others_next, others_done, others_stop, others_too_many}
+use Rattle.claxon_input.proofs.Memory.{starved_exit}
+use Rattle.claxon.proofs.head.read_other_blocks.Goals as goal
+
+pub returns-in_err-is_last-clause-memory : goal.returns-in_err-is_last-clause-memory
+returns-in_err-is_last-clause-memory g c =
+    starved_later g.R.ReadBytes.source _ _ (err_from_is_err_and c.from_residual.result c.from_residual.ensures.1) c.loop-most.invariant.read.so_far (λ q. c.in_err-is_last.ensures.memory (ap (λ (z : Error). Err z) q))
+
+pub returns-in_err-is_last-clause-gives : goal.returns-in_err-is_last-clause-gives
+returns-in_err-is_last-clause-gives g c =
+    starved_exit (found_view {A = g.row.A.Denot}) (other_view {A = g.row.A.Denot}) _ (err_from_is_err_and c.from_residual.result c.from_residual.ensures.1)
+    (others_stop (omega (arith, c.loop-most-test.true)) c.loop-most.invariant.read) c.in_err-is_last.ensures.gives
+
+pub returns-then-are_enough-clause-gives : goal.returns-then-are_enough-clause-gives
+returns-then-are_enough-clause-gives g c =
+    let e = ap (λ (z : Bool). c.in_ok-is_last.is_last || (c.args.comments_suffice && z)) (is_found c.in_ok-is_last.with_block) ∙ sym c.are_enough.ensures ∙ c.if-are_enough.true in
+    others_done c.in_ok-is_last.is_last (found_view c.in_ok-is_last.with_block) (omega (arith, c.loop-most-test.true)) e c.loop-most.invariant.read c.in_ok-is_last.ensures.gives
+
+pub loop-most-preserved : goal.loop-most-preserved
+loop-most-preserved g c =
+    let e = ap (λ (z : Bool). c.in_ok-is_last.is_last || (c.args.comments_suffice && z)) (is_found c.in_ok-is_last.with_block) ∙ sym c.are_enough.ensures ∙ c.if-are_enough.false in
+    record {
+      places = c.in_ok-is_last.ensures.places;
+      read = others_next c.in_ok-is_last.is_last (found_view c.in_ok-is_last.with_block) (omega (arith, c.loop-most-test.true)) e c.loop-most.invariant.read c.in_ok-is_last.ensures.gives;
+    }
+
+pub returns-clause-gives : goal.returns-clause-gives
+unfolding fault_text
+returns-clause-gives g c = stops_fault TooManyBlocks refl refl (refl, refl) (others_too_many (omega (arith, c.loop-most-test.false)) c.loop-most.invariant.read)

@@ -1,0 +1,57 @@
+use Rattle.std.proofs.Common.{Bool, Err, refl, sym, ap, ◌∙◌}
+use Rattle.std.proofs.lemmas.Result.{err_from_is_err_and}
+use Rattle.claxon_format.specs.Fault.{fault_text, StreaminfoMissing}
+use Rattle.claxon_format.specs.Heads.{stream_marker}
+use Rattle.claxon_input.specs.declared.error.Error.{Error}
+use Rattle.claxon_input.proofs.CallsInTurn.{went_none, went_map, went_both}
+use Rattle.claxon_metadata.specs.MetadataBlock.{flagged_view}
+use Rattle.claxon.specs.ReadHead.{found_view, head_view, wishes}
+use Rattle.claxon_metadata.specs.declared.metadata.MetadataBlock.{MetadataBlock}
+use Rattle.claxon_input.proofs.Faults.{stops_fault}
+use Rattle.claxon.proofs.HeadParts.{starved_next, starved_later, marker_stops, first_stops, no_streaminfo, head_begun, begun_short, begun_stops, begun_with, begun_without}
+use Rattle.claxon_input.proofs.Memory.{fed_exit, starved_exit}
+use Rattle.claxon.proofs.head.read_shown.Goals as goal
+
+pub returns-in_err-read_stream_header-clause-gives : goal.returns-in_err-read_stream_header-clause-gives
+returns-in_err-read_stream_header-clause-gives g c =
+    fed_exit (head_view {A = g.row.A.Denot}) (err_from_is_err_and c.from_residual.result c.from_residual.ensures.1) (went_none _ _ (marker_stops (wishes c.args.options) _)) c.in_err-read_stream_header.ensures
+
+pub returns-in_err-is_last-clause-memory : goal.returns-in_err-is_last-clause-memory
+returns-in_err-is_last-clause-memory g c =
+    starved_next g.R.ReadBytes.source _ _ (err_from_is_err_and c.from_residual-in_err-is_last.result c.from_residual-in_err-is_last.ensures.1) c.in_ok-read_stream_header.ensures (λ q. c.in_err-is_last.ensures.memory (ap (λ (z : Error). Err z) q))
+
+pub returns-in_err-is_last-clause-gives : goal.returns-in_err-is_last-clause-gives
+returns-in_err-is_last-clause-gives g c =
+    starved_exit (head_view {A = g.row.A.Denot}) (λ (found : Bool × MetadataBlock g.row.A.Denot). flagged_view found.0 found.1) _ (err_from_is_err_and c.from_residual-in_err-is_last.result c.from_residual-in_err-is_last.ensures.1)
+    (went_map _ c.in_ok-read_stream_header.ensures (λ p. first_stops (wishes c.args.options) stream_marker _ _ p)) c.in_err-is_last.ensures.gives
+
+pub returns-in_default-clause-gives : goal.returns-in_default-clause-gives
+unfolding fault_text
+returns-in_default-clause-gives g c =
+    stops_fault StreaminfoMissing refl refl (refl, refl)
+    (went_both _ c.in_ok-read_stream_header.ensures c.in_ok-is_last.ensures.gives (λ p q. no_streaminfo (wishes c.args.options) stream_marker c.in_ok-is_last.is_last c.in_ok-is_last.first _ _ _ c.in_default.not-StreamInfo p q))
+
+pub returns-then-ends_with_streaminfo-clause-gives : goal.returns-then-ends_with_streaminfo-clause-gives
+returns-then-ends_with_streaminfo-clause-gives g c =
+    begun_short (wishes c.args.options) (sym c.ends_with_streaminfo.ensures ∙ c.if-ends_with_streaminfo.true) (head_begun c.in-StreamInfo.info c.in-StreamInfo.is c.in_ok-read_stream_header.ensures c.in_ok-is_last.ensures.gives)
+
+pub returns-in_err-comment-clause-memory : goal.returns-in_err-comment-clause-memory
+returns-in_err-comment-clause-memory g c =
+    starved_later g.R.ReadBytes.source _ _ (err_from_is_err_and c.from_residual-in_err-comment.result c.from_residual-in_err-comment.ensures.1)
+    (went_both (λ s m. Unit {0}) c.in_ok-read_stream_header.ensures c.in_ok-is_last.ensures.gives (λ p q. tt)) (λ q. c.in_err-comment.ensures.memory (ap (λ (z : Error). Err z) q))
+
+pub returns-in_err-comment-clause-gives : goal.returns-in_err-comment-clause-gives
+returns-in_err-comment-clause-gives g c =
+    starved_exit (head_view {A = g.row.A.Denot}) (found_view {A = g.row.A.Denot}) _ (err_from_is_err_and c.from_residual-in_err-comment.result c.from_residual-in_err-comment.ensures.1)
+    (begun_stops (wishes c.args.options) (sym c.ends_with_streaminfo.ensures ∙ c.if-ends_with_streaminfo.false) (head_begun c.in-StreamInfo.info c.in-StreamInfo.is c.in_ok-read_stream_header.ensures c.in_ok-is_last.ensures.gives))
+    c.in_err-comment.ensures.gives
+
+pub returns-then-options-clause-gives : goal.returns-then-options-clause-gives
+returns-then-options-clause-gives g c =
+    begun_with (wishes c.args.options) (found_view c.in_ok-comment.comment) (sym c.ends_with_streaminfo.ensures ∙ c.if-ends_with_streaminfo.false) c.if-options.true
+    (head_begun c.in-StreamInfo.info c.in-StreamInfo.is c.in_ok-read_stream_header.ensures c.in_ok-is_last.ensures.gives) c.in_ok-comment.ensures.gives
+
+pub returns-else-options-clause-gives : goal.returns-else-options-clause-gives
+returns-else-options-clause-gives g c =
+    begun_without (wishes c.args.options) (found_view c.in_ok-comment.comment) (sym c.ends_with_streaminfo.ensures ∙ c.if-ends_with_streaminfo.false) c.if-options.false
+    (head_begun c.in-StreamInfo.info c.in-StreamInfo.is c.in_ok-read_stream_header.ensures c.in_ok-is_last.ensures.gives) c.in_ok-comment.ensures.gives

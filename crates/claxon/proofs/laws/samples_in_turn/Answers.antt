@@ -1,0 +1,5 @@
+use Rattle.claxon.proofs.SampleRuns.{samples_in_turn as law}
+use Rattle.claxon.proofs.laws.samples_in_turn.Goals as goal
+
+pub returns : goal.returns
+returns g c = law g.R.ReadBytes.source

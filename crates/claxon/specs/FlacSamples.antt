@@ -1,0 +1,65 @@
+-- What a clause reads of a `FlacSamples`, and what one call of its `next` does.
+use Rattle.std.specs.Prelude.{◌≡◌, ℕ, ◌+◌, ◌*◌, ℤ, Bool, true, false, List, [], ◌∷◌, length, drop, Option, None, Some, Result, Ok, Err, MatchBool}
+use Rattle.claxon_format.specs.Frame.{StreamShape}
+use Rattle.claxon_format.specs.Streams.{interleave}
+use Rattle.claxon_input.specs.declared.error.Error.{Error}
+use Rattle.claxon_input.specs.Source.{Source}
+use Rattle.claxon_input.specs.State.{State, bytes_in}
+use Rattle.claxon_frame.specs.Block.{BlockValue}
+use Rattle.claxon.specs.FlacReader.{samples_input}
+use Rattle.claxon_frame.specs.FrameReader.{ReadsFrame, frame_stream}
+use Rattle.claxon.specs.declared.samples.FlacSamples.{FlacSamples}
+
+-- the samples of the block at hand that weren't given yet
+abbrev pub samples_left : {R A : Type 0} → FlacSamples R A → List ℤ
+samples_left s = drop (s.sample * length s.block.channels + s.channel) (interleave s.block.channels)
+
+-- an Err was answered
+abbrev pub have_failed : {R A : Type 0} → FlacSamples R A → Bool
+have_failed s = s.has_failed
+
+-- what is known of the stream
+abbrev pub samples_stream : {R A : Type 0} → FlacSamples R A → Option StreamShape
+samples_stream s = frame_stream s.frame_reader
+
+-- the bytes behind the block at hand
+abbrev pub samples_bytes : {R A : Type 0} → (R → Source ℕ) → FlacSamples R A → State ℕ
+samples_bytes source s = bytes_in source (samples_input s)
+
+-- what the frame reader answered, where a block that it found is at hand now
+abbrev pub block_answer : {R A : Type 0} → Result Bool Error → FlacSamples R A → Result (Option BlockValue) Error
+block_answer (Ok true) new = Ok (Some new.block)
+block_answer (Ok false) new = Ok None
+block_answer (Err error) new = Err error
+
+-- the next frame was read, into the block at hand where there was one
+abbrev pub BlockIsAsked : {R A : Type 0} → (R → Source ℕ) → FlacSamples R A → Result Bool Error → FlacSamples R A → Type 0
+BlockIsAsked source old r new = ReadsFrame (samples_stream old) (block_answer r new) (samples_bytes source old) (samples_bytes source new)
+
+-- a sample is answered, and these are left
+pub record GivesSample {R A : Type 0} (x : ℤ) (left : List ℤ) (result : Option (Result ℤ Error)) (new : FlacSamples R A) : Type 0 where
+  pub is : result ≡ Some (Ok x)
+  pub left_are : samples_left new ≡ left
+  pub goes_on : have_failed new ≡ false
+
+-- what is answered for a block that was read: its first sample; for the end, nothing, and for an Err, that
+abbrev pub BlockAnswer : {R A : Type 0} → Result (Option BlockValue) Error → Option (Result ℤ Error) → FlacSamples R A → Type 0
+BlockAnswer (Ok (Some block)) result new = (x : ℤ) × (left : List ℤ) × (interleave block.channels ≡ x ∷ left) × GivesSample x left result new
+BlockAnswer (Ok None) result new = (result ≡ None) × (samples_left new ≡ []) × (have_failed new ≡ false)
+BlockAnswer (Err error) result new = (result ≡ Some (Err error)) × (have_failed new ≡ true)
+
+-- the next block was asked for
+pub record NextBlock {R A : Type 0} (source : R → Source ℕ) (old : FlacSamples R A) (result : Option (Result ℤ Error)) (new : FlacSamples R A) : Type 0 where
+  pub found : Result (Option BlockValue) Error
+  pub reads : ReadsFrame (samples_stream old) found (samples_bytes source old) (samples_bytes source new)
+  pub answer : BlockAnswer found result new
+
+-- The samples of the block at hand come first, and take nothing; then the next block is read.
+pub record NextSample {R A : Type 0} (source : R → Source ℕ) (old : FlacSamples R A) (result : Option (Result ℤ Error)) (new : FlacSamples R A) : Type 0 where
+  pub stream : samples_stream new ≡ samples_stream old
+  pub at_hand : (x : ℤ) (left : List ℤ) → samples_left old ≡ x ∷ left → GivesSample x left result new × (samples_bytes source new ≡ samples_bytes source old)
+  pub behind : samples_left old ≡ [] → NextBlock source old result new
+
+-- one call of `next`: after an Err it gives None for good and changes nothing
+abbrev pub SamplesStep : {R A : Type 0} → (R → Source ℕ) → FlacSamples R A → Option (Result ℤ Error) → FlacSamples R A → Type 0
+SamplesStep source old result new = MatchBool (have_failed old) ((result ≡ None) × (new ≡ old)) (NextSample source old result new)

@@ -1,0 +1,102 @@
+-- The head of a stream (RFC 9639, sections 6 and 8) as the code shows it, and the reader of it cut where the code is cut.
+use Rattle.std.specs.Prelude.{◌≡◌, ◌++◌, ℕ, Bool, true, List, Option, Some, None, Result, IfOk, IfSome}
+use Rattle.claxon_format.specs.read.MetadataBlocks.{block_at}
+use Rattle.claxon_format.specs.Comments.{Comment}
+use Rattle.claxon_format.specs.Fault.{SecondComment, SecondStreaminfo}
+use Rattle.claxon_format.specs.Heads.{Options, Head, HeadCode, HeadFault, is_info, is_second, found_with}
+use Rattle.claxon_format.specs.read.Heads.{head_at}
+use Rattle.claxon_format.specs.Metadata.{BlockHeader, BlockHeaderCode}
+use Rattle.claxon_format.specs.Reading.{Reading, and_then, done, test}
+use Rattle.claxon_input.specs.declared.error.Error.{Error}
+use Rattle.claxon_input.specs.declared.input.BufferedReader.{BufferedReader}
+use Rattle.claxon_input.specs.BufferedReader.{buffered_source}
+use Rattle.claxon_input.specs.Gives.{GivesOrStarves}
+use Rattle.claxon_input.specs.Promises.{IsStarved, TakesCode, AnswersCode, TakesFault, NamesFault, EndsElse, LeavesRest}
+use Rattle.claxon_input.specs.State.{State, bytes_in}
+use Rattle.claxon_metadata.specs.MetadataBlock.{HasBounds, MayStarve, info_view}
+use Rattle.claxon_metadata.specs.VorbisComment.{HavePlaces, comment_view}
+use Rattle.claxon.specs.declared.head.FlacReaderOptions.{FlacReaderOptions}
+use Rattle.claxon_metadata.specs.declared.metadata.StreamInfo.{StreamInfo}
+use Rattle.claxon_metadata.specs.declared.metadata.VorbisComment.{VorbisComment}
+
+-- what the options wish
+abbrev pub wishes : FlacReaderOptions → Options
+wishes options = record { metadata_only = options.metadata_only; wants_comment = options.read_vorbis_comment }
+
+-- comments, where there are some
+abbrev pub found_view : {A : Type 0} → Option (VorbisComment A) → Option Comment
+found_view None = None
+found_view (Some comment) = Some (comment_view comment)
+
+-- what is shown of a head
+abbrev pub head_view : {A : Type 0} → StreamInfo × Option (VorbisComment A) → Head
+head_view shown = record { info = info_view shown.0; comment = found_view shown.1 }
+
+-- of a block after the streaminfo: whether it is marked as the last, and the comments that were found with it
+abbrev pub other_view : {A : Type 0} → Bool × Option (VorbisComment A) → Bool × Option Comment
+other_view other = (other.0, found_view other.1)
+
+-- a block behind the streaminfo, after these comments
+unfoldable pub other_at : Option Comment → List ℕ → Reading ℕ (Bool × Option Comment)
+other_at found =
+    and_then block_at (λ b. test (is_info b.content) SecondStreaminfo (test (is_second found b.content) SecondComment (done (b.is_last, found_with found b.content))))
+
+-- somewhere in s stands a header of a block of an application or of comments, whose length is one that it can have
+abbrev pub WantsMemory : List ℕ → Type 0
+WantsMemory s = (front : List ℕ) × (h : BlockHeader) × (x : List ℕ) × (rest : List ℕ) × BlockHeaderCode h x × MayStarve h.type h.length × (s ≡ front ++ (x ++ rest))
+
+-- Memory is wanted only behind such a header.
+abbrev pub StarvesBehind : {A : Type 0} → Result A Error → State ℕ → Type 0
+StarvesBehind r old = IsStarved r → old.told ≡ true → WantsMemory old.coming
+
+-- ---- what `read_head` promises
+
+-- what it answers: a streaminfo, and comments where they are wished and there
+abbrev pub HeadAnswer : Type 0 → Type 0
+HeadAnswer A = Result (StreamInfo × Option (VorbisComment A)) Error
+
+-- the bytes that a byte buffer still gives
+abbrev pub buffered_bytes : {R A : Type 0} → (R → Option (List ℕ)) → BufferedReader R A → State ℕ
+buffered_bytes remaining input = bytes_in (buffered_source remaining) input
+
+-- The streaminfo has 1 to 8 channels of 1 to 32 bits.
+abbrev pub InfoHasBounds : {A : Type 0} → HeadAnswer A → Type 0
+InfoHasBounds result = IfOk result (λ shown. HasBounds shown.0)
+
+-- The entries of the comments are split at places within them.
+abbrev pub CommentHasPlaces : {A : Type 0} → HeadAnswer A → Type 0
+CommentHasPlaces result = IfOk result (λ shown. IfSome shown.1 (λ comment. HavePlaces comment.comments.items))
+
+-- Memory is wanted only behind the header of a block of an application or of comments, whose length was tested.
+abbrev pub HeadMayStarve : {R A Z : Type 0} → (R → Option (List ℕ)) → BufferedReader R A → HeadAnswer Z → Type 0
+HeadMayStarve remaining old result = StarvesBehind result (buffered_bytes remaining old)
+
+-- An Err leaves a rest of the bytes that were to come.
+abbrev pub HeadLeavesRest : {R A Z : Type 0} → (R → Option (List ℕ)) → BufferedReader R A → HeadAnswer Z → BufferedReader R A → Type 0
+HeadLeavesRest remaining old result new = LeavesRest result (buffered_bytes remaining old) (buffered_bytes remaining new)
+
+-- `old` and `new` are the byte buffer before and after the call.
+module _ {R A Z : Type 0} (remaining : R → Option (List ℕ)) (options : FlacReaderOptions) (old : BufferedReader R A) (result : HeadAnswer Z) (new : BufferedReader R A) where
+  -- What was taken is a head under these options, and it is shown.
+  abbrev pub HeadWasTaken : Type 0
+  HeadWasTaken = TakesCode head_view result (HeadCode (wishes options)) (buffered_bytes remaining old) (buffered_bytes remaining new)
+
+  -- Where any head stands, whatever follows, it is shown and alone taken, or memory or the source failed.
+  abbrev pub EachHeadIsAnswered : Type 0
+  EachHeadIsAnswered = AnswersCode head_view result (HeadCode (wishes options)) (buffered_bytes remaining old) (buffered_bytes remaining new)
+
+  -- An Err that is neither want of memory nor an `IoError` names a fault that the bytes taken have.
+  abbrev pub HeadFaultWasTaken : Type 0
+  HeadFaultWasTaken = TakesFault result (HeadFault (wishes options)) (buffered_bytes remaining old) (buffered_bytes remaining new)
+
+  -- Where the bytes have a fault it is named, and they alone are taken, or memory or the source failed.
+  abbrev pub EachHeadFaultIsNamed : Type 0
+  EachHeadFaultIsNamed = NamesFault result (HeadFault (wishes options)) (buffered_bytes remaining old) (buffered_bytes remaining new)
+
+  -- Where neither stands the bytes end, which is an `IoError`, or memory is refused.
+  abbrev pub NoHeadIsIoError : Type 0
+  NoHeadIsIoError = EndsElse result (HeadCode (wishes options)) (HeadFault (wishes options)) (buffered_bytes remaining old) (buffered_bytes remaining new)
+
+  -- What was answered and taken is what the format's reader gives.
+  abbrev pub HeadIsRead : Type 0
+  HeadIsRead = GivesOrStarves head_view result (head_at (wishes options)) (buffered_bytes remaining old) (buffered_bytes remaining new)

@@ -1,0 +1,21 @@
+//! What calls for samples gave, one after another: laws, each the contract of a function without a body.
+ghost use Rattle.claxon.specs.SampleRuns.{SamplesInTurn, SamplesToTheEnd, WholeStreams};
+
+use crate::input::ReadBytes;
+use std::alloc::Allocator;
+use std::io::Read;
+
+/// Samples that are given are those of blocks whose frames stand one after another.
+pub fn samples_in_turn<R: ReadBytes, A: Allocator>()
+    ensures { SamplesInTurn R.row A.row R.source }
+{}
+
+/// Where then no sample is given, all samples of these blocks were.
+pub fn samples_to_the_end<R: ReadBytes, A: Allocator>()
+    ensures { SamplesToTheEnd R.row A.row R.source }
+{}
+
+/// A stream that was opened and gave its samples up to None was read whole.
+pub fn whole_streams<R: Read, A: Allocator>()
+    ensures { WholeStreams R.row A.row R.remaining }
+{}

@@ -1,0 +1,11 @@
+pub mod Chunks
+pub mod BehindReference
+pub mod NumberFollowers
+pub mod HeaderGuard
+pub mod WidthCodes
+pub mod Unmixing
+pub mod CodedChannels
+pub mod FrameParts
+pub mod FrameSteps
+pub mod FrameBehindReference
+pub mod FramePromises

@@ -1,0 +1,46 @@
+use Rattle.claxon_format.proofs.Formats.{frames_lossless, frames_told}
+use Rattle.claxon_frame.specs.FrameReader.{block_view, frame_stream}
+use Rattle.claxon_frame.proofs.FrameSteps.{shape_width}
+use Rattle.claxon_frame.proofs.FramePromises.{frame_promises, ended_is, memory_is, where_starved}
+use Rattle.claxon_frame.proofs.frame.FrameReader.read_next_or_eof.Goals as goal
+
+pub returns-clause-sound : goal.returns-clause-sound
+returns-clause-sound g c = (frame_promises block_view _ (shape_width c.args.self.now.stream) c.read_next.result _ _ c.read_next.ensures.gives).sound
+
+pub returns-clause-complete : goal.returns-clause-complete
+returns-clause-complete g c = (frame_promises block_view _ (shape_width c.args.self.now.stream) c.read_next.result _ _ c.read_next.ensures.gives).complete
+
+pub returns-clause-one_reading : goal.returns-clause-one_reading
+returns-clause-one_reading g c = frames_told _ (shape_width c.args.self.now.stream)
+
+pub returns-clause-lossless : goal.returns-clause-lossless
+returns-clause-lossless g c f header plans channels rest fits suits o =
+    let code = frames_lossless (frame_stream c.args.self.now) f header plans channels rest (shape_width c.args.self.now.stream) fits suits in
+    (frame_promises block_view _ (shape_width c.args.self.now.stream) c.read_next.result _ _ c.read_next.ensures.gives).complete _ _ rest code.0 o
+
+pub returns-clause-at_end : goal.returns-clause-at_end
+returns-clause-at_end g c = (frame_promises block_view _ (shape_width c.args.self.now.stream) c.read_next.result _ _ c.read_next.ensures.gives).at_end
+
+pub returns-clause-ended : goal.returns-clause-ended
+returns-clause-ended g c = ended_is block_view _ (shape_width c.args.self.now.stream) c.read_next.result _ _ c.read_next.ensures.gives _ c.read_next.ensures.no_room
+
+pub returns-clause-no_failure : goal.returns-clause-no_failure
+returns-clause-no_failure g c = (frame_promises block_view _ (shape_width c.args.self.now.stream) c.read_next.result _ _ c.read_next.ensures.gives).no_failure
+
+pub returns-clause-fault : goal.returns-clause-fault
+returns-clause-fault g c = (frame_promises block_view _ (shape_width c.args.self.now.stream) c.read_next.result _ _ c.read_next.ensures.gives).fault
+
+pub returns-clause-named : goal.returns-clause-named
+returns-clause-named g c = (frame_promises block_view _ (shape_width c.args.self.now.stream) c.read_next.result _ _ c.read_next.ensures.gives).named
+
+pub returns-clause-io : goal.returns-clause-io
+returns-clause-io g c = (frame_promises block_view _ (shape_width c.args.self.now.stream) c.read_next.result _ _ c.read_next.ensures.gives).io
+
+pub returns-clause-front : goal.returns-clause-front
+returns-clause-front g c = (frame_promises block_view _ (shape_width c.args.self.now.stream) c.read_next.result _ _ c.read_next.ensures.gives).front
+
+pub returns-clause-memory : goal.returns-clause-memory
+returns-clause-memory g c = memory_is _ _ c.read_next.result _ _ c.read_next.ensures.no_room
+
+pub returns-clause-room : goal.returns-clause-room
+returns-clause-room g c = where_starved c.read_next.result c.read_next.ensures.room

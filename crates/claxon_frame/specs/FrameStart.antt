@@ -1,0 +1,56 @@
+-- What the code keeps of a frame's header, in the readers' words (RFC 9639, section 9.1).
+use Rattle.std.specs.Prelude.{ℕ, List, Option, Some, None, Result}
+use Rattle.claxon_format.specs.Frame.{StreamShape, known_width, time_of}
+use Rattle.claxon_format.specs.Header.{Fields, Header, header_with}
+use Rattle.claxon_format.specs.Reading.{Reading}
+use Rattle.claxon_format.specs.read.Frame.{Start, start_at}
+use Rattle.claxon_format.specs.read.Header.{SizeSpelling, ByCode, InByte, InTwoBytes, guarded_at, with_width}
+use Rattle.claxon_input.specs.Gives.{GivesOrEnds}
+use Rattle.claxon_input.specs.Source.{Source}
+use Rattle.claxon_input.specs.State.{bytes_in}
+use Rattle.claxon_input.specs.declared.error.Error.{Error}
+use Rattle.claxon_frame.specs.declared.frame.header.parts.BlockSize.{BlockSize}
+use Rattle.claxon_frame.specs.declared.frame.header.parts.BlockSize.TheVariants.{Known as KnownSize, Read8 as SizeOf8, Read16 as SizeOf16}
+use Rattle.claxon_frame.specs.declared.frame.header.parts.FrameHeader.{FrameHeader}
+use Rattle.claxon_frame.specs.declared.frame.header.parts.HeaderFields.{HeaderFields}
+use Rattle.claxon_frame.specs.declared.frame.header.parts.SampleRate.{SampleRate}
+use Rattle.claxon_frame.specs.declared.frame.header.parts.SampleRate.TheVariants.{Known as NoRate, Read8 as RateOf8, Read16 as RateOf16}
+use Rattle.claxon_frame.specs.declared.frame.header.parts.KnownStream.{KnownStream}
+use Rattle.claxon_frame.specs.FrameHeader.{channel_code, time_number, width_code}
+
+-- how the size is spelled
+abbrev pub size_view : BlockSize → SizeSpelling
+size_view (KnownSize n) = ByCode n
+size_view SizeOf8 = InByte
+size_view SizeOf16 = InTwoBytes
+
+-- in how many bytes the rate is spelled
+abbrev pub rate_view : SampleRate → ℕ
+rate_view NoRate = 0
+rate_view RateOf8 = 1
+rate_view RateOf16 = 2
+
+-- the fields of a header
+abbrev pub fields_view : HeaderFields → Fields
+fields_view h = record {
+  variable = (time_number h.block_time).0;
+  size = h.block_size;
+  channels = channel_code h.channel_assignment;
+  width_code = width_code h.bits_per_sample;
+  number = (time_number h.block_time).1;
+}
+
+-- what the body of a frame needs of it
+abbrev pub start_view : FrameHeader → Start
+start_view h = record { time = h.time; size = h.block_size; channels = channel_code h.channel_assignment; width = h.bits_per_sample }
+
+-- what is known of the stream
+abbrev pub shape_view : Option KnownStream → Option StreamShape
+shape_view None = None
+shape_view (Some shape) = Some record { width = shape.bits_per_sample; least_block = shape.min_block_size; greatest_block = shape.max_block_size }
+
+-- ---- what the call that reads a header promises
+
+-- What was answered and taken is what the format's reader gives, or the end where fewer than two bytes are left, which are taken.
+abbrev pub HeaderIsRead : {R : Type 0} → (R → Source ℕ) → Option StreamShape → R → Result (Option FrameHeader) Error → R → Type 0
+HeaderIsRead source stream old result new = GivesOrEnds 2 start_view result (start_at stream) (bytes_in source old) (bytes_in source new)

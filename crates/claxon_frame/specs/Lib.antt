@@ -1,0 +1,5 @@
+pub mod FrameStart
+pub mod FrameReader
+pub mod FrameHeader
+pub mod Block
+pub mod Unmixing

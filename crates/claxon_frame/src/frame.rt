@@ -1,0 +1,238 @@
+//! Frames: blocks of samples, one after another.
+ghost use Rattle.std.specs.Prelude.{◌≡◌, ◌+◌, ◌*◌, ◌<◌, ◌≤◌, true, IfOk, IfErr, Ok, Some, None, length, vec_len, vec_capacity};
+ghost use Rattle.claxon_frame.specs.FrameHeader.{channels_of, coded_widths};
+ghost use Rattle.claxon_format.specs.read.Frame.{block_from, coded_channels_at, subframes_at, frame_bytes_at};
+ghost use Rattle.claxon_frame.specs.Block.{chunks, duration_of};
+ghost use Rattle.claxon_input.specs.Error.{is_memory};
+ghost use Rattle.claxon_format.specs.Fault.{Fault, FrameGuard};
+ghost use Rattle.claxon_format.specs.read.Bytes.{expected_at};
+ghost use Rattle.claxon_input.specs.CheckedReader.{checked_source, checked_state};
+ghost use Rattle.claxon_input.specs.Remainders.{check16};
+ghost use Rattle.claxon_input.specs.State.{bytes_in, bits_in};
+ghost use Rattle.claxon_input.specs.Gives.{Gives, GivesOrStarves, Went, GivesOrEndsOrStarves};
+ghost use Rattle.claxon_input.specs.Promises.{IfStarved};
+ghost use Rattle.claxon_frame.specs.FrameStart.{shape_view, start_view};
+ghost use Rattle.claxon_frame.specs.FrameReader.{BlockHasSamples, NoRoom, block_view};
+
+mod block;
+mod header;
+mod stereo;
+
+pub use block::{Block, StereoSamples};
+use claxon_input::crc::Crc16Reader;
+use claxon_input::error::{Error, Result};
+use claxon_input::fields::read_big_u16;
+use claxon_input::input::{Bitstream, ReadBytes};
+use claxon_metadata::metadata::StreamInfo;
+use claxon_subframe::subframe;
+use header::{FrameHeader, KnownStream, read_frame_header_or_eof};
+use std::alloc::{Allocator, Global};
+use stereo::unmix;
+
+/// Reads frames one after another.
+#[derive(Drop)]
+pub struct FrameReader<R> {
+    input: R,
+    stream: Option<KnownStream>,
+}
+
+/// A block, None at the end of the input, or an error.
+pub type FrameResult<A = Global> = Result<Option<Block<A>>>;
+
+impl<R: ReadBytes> FrameReader<R> {
+    ghost use Rattle.claxon_frame.specs.FrameReader.{BlockHasSamples, EachFrameFaultIsNamed, EachFrameIsAnswered, EachPlanIsAnswered, FailureIsErr, FrameFaultWasTaken, FrameIsRead, FrameIsTold, FrameLeavesRest, FrameWasTaken, NoFrameIsIoError, NoneIsTheEnd, StarvesBehindHeader, StarvesForRoom, TheEndIsNone, frame_input, frame_stream, stream_with};
+
+    /// A reader that knows nothing of the stream: a header has to name the width of its samples.
+    pub fn new(input: R) -> FrameReader<R>
+        ensures input { frame_input result ≡ input }
+        ensures stream { frame_stream result ≡ None }
+    {
+        FrameReader {
+            input,
+            stream: None,
+        }
+    }
+
+    /// A reader of frames of the stream with this streaminfo, whose width is 1 to 32 bits.
+    pub fn with_streaminfo(input: R, info: StreamInfo) -> FrameReader<R>
+        requires some { 1 ≤ info.bits_per_sample }
+        requires most { info.bits_per_sample ≤ 32 }
+        ensures input { frame_input result ≡ input }
+        ensures stream { frame_stream result ≡ Some (stream_with info) }
+    {
+        FrameReader {
+            input,
+            stream: Some(KnownStream {
+                bits_per_sample: info.bits_per_sample,
+                min_block_size: info.min_block_size,
+                max_block_size: info.max_block_size,
+            }),
+        }
+    }
+
+    /// Reads the next block, into the buffer's memory where it suffices.
+    ///
+    /// None where fewer than two bytes are left, which are taken. What the buffer held, its length and its capacity don't
+    /// show in the block. Where its capacity is channels times block size or more no memory is taken; else `OutOfMemory` may
+    /// come after the header was taken. After an error the next call starts at the first byte not taken.
+    pub fn read_next_or_eof<A: Allocator>(&mut self, buffer: Vec<i32, A>) -> FrameResult<A>
+        ensures stream { frame_stream self.new ≡ frame_stream self.old }
+        ensures some { BlockHasSamples result }
+        ensures sound { FrameWasTaken R.source self.old result self.new }
+        ensures complete { EachFrameIsAnswered R.source self.old result self.new }
+        ensures one_reading { FrameIsTold (frame_stream self.old) }
+        ensures lossless { EachPlanIsAnswered R.source self.old result self.new }
+        ensures at_end { NoneIsTheEnd R.source self.old result self.new }
+        ensures ended { TheEndIsNone R.source self.old result self.new }
+        ensures no_failure { FailureIsErr R.source self.old result self.new }
+        ensures fault { FrameFaultWasTaken R.source self.old result self.new }
+        ensures named { EachFrameFaultIsNamed R.source self.old result self.new }
+        ensures io { NoFrameIsIoError R.source self.old result self.new }
+        ensures front { FrameLeavesRest R.source self.old result self.new }
+        ensures memory { StarvesBehindHeader R.source (vec_capacity buffer) self.old result self.new }
+        ensures room { StarvesForRoom (vec_capacity buffer) result }
+        ensures gives { FrameIsRead R.source self.old result self.new }
+    {
+        read_next(&mut self.input, self.stream, buffer)
+    }
+
+    /// The wrapped reader.
+    pub fn into_inner(self) -> R
+        ensures { result ≡ frame_input self }
+    {
+        let FrameReader { input, stream: _ } = self;
+        input
+    }
+}
+
+// Reads a frame, or meets the end. The remainder is made here and read through by `read_frame_or_eof`, over a reference: where
+// two wrappers are made in one function the prover loses the shape of the inner one.
+fn read_next<R: ReadBytes, A: Allocator>(
+    input: &mut R,
+    stream: Option<KnownStream>,
+    buffer: Vec<i32, A>,
+) -> FrameResult<A>
+    ensures gives { GivesOrEndsOrStarves 2 block_view result (frame_bytes_at (shape_view stream)) (bytes_in R.source input.old) (bytes_in R.source input.new) }
+    ensures some { BlockHasSamples result }
+    ensures no_room { IfStarved result (NoRoom (shape_view stream) (vec_capacity buffer) (bytes_in R.source input.old) (bytes_in R.source input.new)) }
+    ensures room { IfStarved result (vec_capacity buffer < 8 * 65535) }
+{
+    let mut input = Crc16Reader::new(input);
+    read_frame_or_eof(&mut input, stream, buffer)
+}
+
+// Reads a frame through a remainder that begins with it.
+fn read_frame_or_eof<R: ReadBytes, A: Allocator>(
+    input: &mut Crc16Reader<R>,
+    stream: Option<KnownStream>,
+    buffer: Vec<i32, A>,
+) -> FrameResult<A>
+    requires { checked_state input.old ≡ 0 }
+    ensures gives { GivesOrEndsOrStarves 2 block_view result (frame_bytes_at (shape_view stream)) (bytes_in (checked_source R.source check16) input.old) (bytes_in (checked_source R.source check16) input.new) }
+    ensures some { BlockHasSamples result }
+    ensures no_room { IfStarved result (NoRoom (shape_view stream) (vec_capacity buffer) (bytes_in (checked_source R.source check16) input.old) (bytes_in (checked_source R.source check16) input.new)) }
+    ensures room { IfStarved result (vec_capacity buffer < 8 * 65535) }
+{
+    let Some(header) = read_frame_header_or_eof(input, stream)? else {
+        return Ok(None);
+    };
+    let buffer = read_channels(input, &header, buffer)?;
+    check_footer(input)?;
+    Ok(Some(to_block(header, buffer)))
+}
+
+// The coded channels, in the buffer's memory where it suffices.
+fn read_channels<R: ReadBytes, A: Allocator>(
+    input: &mut R,
+    header: &FrameHeader,
+    buffer: Vec<i32, A>,
+) -> Result<Vec<i32, A>>
+    ensures len { IfOk result (λ filled. vec_len filled ≡ channels_of header.now.channel_assignment * header.now.block_size) }
+    ensures gives { GivesOrStarves (λ filled. chunks (channels_of header.now.channel_assignment) header.now.block_size filled.items) result
+        (subframes_at header.now.block_size (coded_widths header.now.channel_assignment header.now.bits_per_sample)) (bytes_in R.source input.old) (bytes_in R.source input.new) }
+    ensures no_room { IfStarved result (vec_capacity buffer < channels_of header.now.channel_assignment * header.now.block_size) }
+    ensures room { IfStarved result (vec_capacity buffer < 8 * 65535) }
+    ensures none_taken { IfStarved result (Went (bytes_in R.source input.old) (bytes_in R.source input.new) (λ s m. s ≡ m)) }
+{
+    let samples = usize::from(header.channel_assignment.channels())
+        * usize::from(header.block_size);
+    let mut buffer = ensure_buffer_len(buffer, samples)?;
+    decode_subframes(input, header, buffer.as_mut_slice())?;
+    Ok(buffer)
+}
+
+// The block of coded channels that stand in the buffer one after another.
+fn to_block<A: Allocator>(header: FrameHeader, buffer: Vec<i32, A>) -> Block<A>
+    requires { vec_len buffer ≡ channels_of header.channel_assignment * header.block_size }
+    ensures some { (1 ≤ length result.channels) × (1 ≤ duration_of result.channels) }
+    ensures value { block_view result ≡ block_from (start_view header) (chunks (channels_of header.channel_assignment) header.block_size buffer.items) }
+{
+    let mut buffer = buffer;
+    unmix(header.channel_assignment, buffer.as_mut_slice());
+    let channels = u32::from(header.channel_assignment.channels());
+    Block::new(header.time, channels, u32::from(header.block_size), buffer)
+}
+
+// The buffer with so many samples of any value. It grows only where its capacity is below that.
+fn ensure_buffer_len<A: Allocator>(buffer: Vec<i32, A>, new_len: usize) -> Result<Vec<i32, A>>
+    ensures len { IfOk result (λ filled. vec_len filled ≡ new_len) }
+    ensures refused { IfErr result (λ error. is_memory error ≡ true) }
+    ensures small { IfErr result (λ error. vec_capacity buffer < new_len) }
+{
+    let mut buffer = buffer;
+    if buffer.len() < new_len {
+        buffer.resize(new_len, 0)?;
+    } else {
+        buffer.truncate(new_len);
+    }
+    Ok(buffer)
+}
+
+// The subframes of all coded channels, and with them the padding bits up to a byte border, which may have any value.
+fn decode_subframes<R: ReadBytes>(
+    input: &mut R,
+    header: &FrameHeader,
+    buffer: &mut [i32],
+) -> Result<()>
+    requires { length buffer.old ≡ channels_of header.now.channel_assignment * header.now.block_size }
+    ensures { Gives (λ x. chunks (channels_of header.now.channel_assignment) header.now.block_size buffer.new) result
+        (subframes_at header.now.block_size (coded_widths header.now.channel_assignment header.now.bits_per_sample)) (bytes_in R.source input.old) (bytes_in R.source input.new) }
+{
+    let mut bits = Bitstream::new(input);
+    decode_channels(&mut bits, header, buffer)
+}
+
+// The subframes of all coded channels, which are put one after another.
+#[tactic(auto, using(crate::proofs::Chunks::chunk_ends))]
+fn decode_channels<R: ReadBytes>(
+    input: &mut Bitstream<R>,
+    header: &FrameHeader,
+    buffer: &mut [i32],
+) -> Result<()>
+    requires { length buffer.old ≡ channels_of header.now.channel_assignment * header.now.block_size }
+    ensures { Gives (λ x. chunks (channels_of header.now.channel_assignment) header.now.block_size buffer.new) result
+        (coded_channels_at header.now.block_size (coded_widths header.now.channel_assignment header.now.bits_per_sample)) (bits_in R.source input.old) (bits_in R.source input.new) }
+{
+    let assignment = header.channel_assignment;
+    let size = usize::from(header.block_size);
+    let mut start = 0;
+    for ch in 0..assignment.channels() {
+        let width = assignment.width(header.bits_per_sample, ch);
+        subframe::decode(input, width, &mut buffer[start..start + size])?;
+        start += size;
+    }
+    Ok(())
+}
+
+// The guard of all bytes of the frame.
+#[tactic(auto, unfolding(claxon_format::specs::read::Bytes::expected_at, claxon_format::specs::Fault::fault_text))]
+fn check_footer<R: ReadBytes>(input: &mut Crc16Reader<R>) -> Result<()>
+    ensures fits { checked_state input.old < 65536 }
+    ensures gives { Gives (λ x. tt) result (expected_at 2 (checked_state input.old) FrameGuard) (bytes_in (checked_source R.source check16) input.old) (bytes_in (checked_source R.source check16) input.new) }
+{
+    let computed = input.crc();
+    if read_big_u16(input)? != computed {
+        return Err(Error::FormatError("frame CRC mismatch"));
+    }
+    Ok(())
+}

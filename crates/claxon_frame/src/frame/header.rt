@@ -1,0 +1,345 @@
+//! The header of a frame (RFC 9639, section 9.1).
+ghost use Rattle.std.specs.Prelude.{◌≡◌, ℕ, ◌+◌, ◌*◌, ◌<◌, ◌≤◌, IfOk, IfErr, false};
+ghost use Rattle.std.specs.Option.{ForSome};
+ghost use Rattle.claxon_format.specs.Fault.{HeaderGuard};
+ghost use Rattle.claxon_format.specs.Frame.{block_step, known_width, time_of};
+ghost use Rattle.claxon_format.specs.read.Bytes.{expected_at, big_at};
+ghost use Rattle.claxon_format.specs.Header.{header_of, rate_bytes};
+ghost use Rattle.claxon_input.specs.CheckedReader.{checked_source, checked_state};
+ghost use Rattle.claxon_input.specs.Remainders.{check8};
+ghost use Rattle.claxon_input.specs.State.{State, bytes_in};
+ghost use Rattle.claxon_input.specs.Gives.{Gives, GivesOrEnds};
+ghost use Rattle.claxon_frame.specs.FrameHeader.{HasCode, channel_code, channels_of, is_variable, least_size, time_number, widest, width_code};
+ghost use Rattle.claxon_input.specs.Error.{is_memory};
+ghost use Rattle.claxon_format.specs.read.Header.{fields_at, blocking_at, channels_at, codes_at, fields_after, guarded_at, number_in, rate_at, size_spelling, size_at, sync_at, width_at};
+ghost use Rattle.claxon_format.specs.read.Coded.{coded_number_at, followers_at, follower_at};
+ghost use Rattle.claxon_frame.specs.FrameStart.{HeaderIsRead, fields_view, rate_view, shape_view, size_view};
+ghost use Rattle.claxon_input.specs.Source.{KeepsLoans};
+
+mod parts;
+
+use claxon_input::crc::Crc8Reader;
+use claxon_input::error::{Error, Result};
+use claxon_input::fields::{read_big_u16, read_big_u16_or_eof, read_byte};
+use claxon_input::input::ReadBytes;
+use parts::{BlockSize, BlockTime, BlockingStrategy, HeaderFields, SampleRate};
+pub use parts::{ChannelAssignment, FrameHeader, KnownStream};
+
+/// Reads the header of the next frame, its guard included. None where fewer than two bytes were left, which are taken.
+pub fn read_frame_header_or_eof<R: ReadBytes>(
+    input: &mut R,
+    stream: Option<KnownStream>,
+) -> Result<Option<FrameHeader>>
+    ensures gives { HeaderIsRead R.source (shape_view stream) input.old result input.new }
+    ensures no_memory { IfErr result (λ error. is_memory error ≡ false) }
+    ensures loans { KeepsLoans (R.source input.old) (R.source input.new) }
+{
+    let Some(fields) = read_guarded_fields(input)? else {
+        return Ok(None);
+    };
+    let bits_per_sample = resolve_width(&fields, stream)?;
+    Ok(Some(FrameHeader {
+        time: time_of_block(&fields, stream),
+        block_size: fields.block_size,
+        channel_assignment: fields.channel_assignment,
+        bits_per_sample,
+    }))
+}
+
+// How many samples of each channel stand before a frame.
+fn time_of_block(fields: &HeaderFields, stream: Option<KnownStream>) -> u64
+    ensures { result ≡ time_of (shape_view stream) (header_of (known_width (shape_view stream)) (fields_view fields.now)) }
+{
+    match fields.block_time {
+        BlockTime::SampleNumber(number) => number,
+        BlockTime::FrameNumber(number) => u64::from(number)
+            * u64::from(size_before(fields.block_size, stream)),
+    }
+}
+
+// How many samples stand before a frame for each frame before it.
+fn size_before(block_size: u16, stream: Option<KnownStream>) -> u16
+    ensures { result ≡ block_step (shape_view stream) block_size }
+{
+    let Some(shape) = stream else {
+        return block_size;
+    };
+    if shape.min_block_size == shape.max_block_size {
+        shape.min_block_size
+    } else {
+        block_size
+    }
+}
+
+// The width that the header names, or else that of the stream.
+#[tactic(auto, unfolding(claxon_format::specs::read::Header::width_at, claxon_format::specs::Fault::fault_text))]
+fn resolve_width(fields: &HeaderFields, stream: Option<KnownStream>) -> Result<u32>
+    ensures value { IfOk result (λ bits. widest fields.now.channel_assignment bits ≤ 32) }
+    ensures gives { (here : State ℕ) → Gives (λ x. x) result (width_at (known_width (shape_view stream)) (fields_view fields.now)) here here }
+{
+    if let Some(bits) = fields.bits_per_sample {
+        return Ok(bits);
+    }
+    let Some(shape) = stream else {
+        return Err(Error::Unsupported("header without bits per sample info"));
+    };
+    let bits = shape.bits_per_sample;
+    match fields.channel_assignment {
+        ChannelAssignment::Independent(_) => Ok(bits),
+        _ if bits < 32 => Ok(bits),
+        _ => Err(Error::Unsupported("side channels of 33 bits are not supported")),
+    }
+}
+
+// The remainder is made here and read through by `read_checked_fields`, over a reference: the prover loses the shape of a
+// wrapper around another that is made in the same function, and here the other one is the frame's remainder of 16 bits.
+fn read_guarded_fields<R: ReadBytes>(input: &mut R) -> Result<Option<HeaderFields>>
+    ensures { GivesOrEnds 2 fields_view result guarded_at (bytes_in R.source input.old) (bytes_in R.source input.new) }
+{
+    let mut input = Crc8Reader::new(input);
+    read_checked_fields(&mut input)
+}
+
+// Reads the fields through a remainder that begins with them, and then the guard.
+fn read_checked_fields<R: ReadBytes>(input: &mut Crc8Reader<R>) -> Result<Option<HeaderFields>>
+    requires { checked_state input.old ≡ 0 }
+    ensures { GivesOrEnds 2 fields_view result guarded_at (bytes_in (checked_source R.source check8) input.old) (bytes_in (checked_source R.source check8) input.new) }
+{
+    let Some(fields) = read_fields_or_eof(input)? else {
+        return Ok(None);
+    };
+    let computed = input.crc();
+    check_guard(input, computed)?;
+    Ok(Some(fields))
+}
+
+#[tactic(auto, unfolding(claxon_format::specs::read::Bytes::expected_at, claxon_format::specs::Fault::fault_text))]
+fn check_guard<R: ReadBytes>(input: &mut R, computed: u8) -> Result<()>
+    ensures { Gives (λ x. tt) result (expected_at 1 computed HeaderGuard) (bytes_in R.source input.old) (bytes_in R.source input.new) }
+{
+    if read_byte(input)? != computed {
+        return Err(Error::FormatError("frame header CRC mismatch"));
+    }
+    Ok(())
+}
+
+fn read_fields_or_eof<R: ReadBytes>(input: &mut R) -> Result<Option<HeaderFields>>
+    ensures { GivesOrEnds 2 fields_view result (fields_at big_at) (bytes_in R.source input.old) (bytes_in R.source input.new) }
+{
+    let Some(blocking) = read_sync_or_eof(input)? else {
+        return Ok(None);
+    };
+    Ok(Some(read_fields(input, blocking)?))
+}
+
+#[tactic(auto, unfolding(claxon_format::specs::read::Header::fields_after))]
+fn read_fields<R: ReadBytes>(input: &mut R, blocking: BlockingStrategy) -> Result<HeaderFields>
+    ensures { Gives fields_view result (fields_after big_at (is_variable blocking)) (bytes_in R.source input.old) (bytes_in R.source input.new) }
+{
+    let (size, rate) = read_size_and_rate(input)?;
+    let (channel_assignment, bits_per_sample) = read_channels_and_width(input)?;
+    let block_time = read_block_time(input, blocking)?;
+    let block_size = read_block_size(input, size)?;
+    skip_rate(input, rate)?;
+    Ok(HeaderFields {
+        block_time,
+        block_size,
+        channel_assignment,
+        bits_per_sample,
+    })
+}
+
+fn read_sync_or_eof<R: ReadBytes>(input: &mut R) -> Result<Option<BlockingStrategy>>
+    ensures { GivesOrEnds 2 is_variable result (sync_at big_at) (bytes_in R.source input.old) (bytes_in R.source input.new) }
+{
+    let Some(sync) = read_big_u16_or_eof(input)? else {
+        return Ok(None);
+    };
+    Ok(Some(blocking_strategy(sync)?))
+}
+
+// The sync code, a reserved bit and the blocking strategy.
+#[tactic(auto, unfolding(claxon_format::specs::read::Header::blocking_at, claxon_format::specs::Fault::fault_text))]
+fn blocking_strategy(sync: u16) -> Result<BlockingStrategy>
+    ensures { (here : State ℕ) → Gives is_variable result (blocking_at sync) here here }
+{
+    if sync >> 2 != 0x3ffe {
+        return Err(Error::FormatError("frame sync code missing"));
+    }
+    if sync >> 1 & 1 == 1 {
+        return Err(Error::FormatError("invalid frame header, encountered reserved value"));
+    }
+    if sync & 1 == 0 {
+        Ok(BlockingStrategy::Fixed)
+    } else {
+        Ok(BlockingStrategy::Variable)
+    }
+}
+
+#[tactic(auto, unfolding(claxon_format::specs::read::Header::codes_at, claxon_format::specs::Fault::fault_text))]
+fn read_size_and_rate<R: ReadBytes>(input: &mut R) -> Result<(BlockSize, SampleRate)>
+    ensures value { IfOk result (λ codes. 1 ≤ least_size codes.0) }
+    ensures gives { Gives (λ codes. (size_view codes.0, rate_view codes.1)) result (codes_at big_at) (bytes_in R.source input.old) (bytes_in R.source input.new) }
+{
+    let codes = read_byte(input)?;
+    if codes >> 4 == 0 {
+        return Err(Error::FormatError("invalid frame header, encountered reserved value"));
+    }
+    if codes & 0b1111 == 15 {
+        return Err(Error::FormatError("invalid frame header"));
+    }
+    Ok((block_size_of(codes >> 4), sample_rate_of(codes & 0b1111)))
+}
+
+// The size that a code from 1 to 15 spells.
+fn block_size_of(code: u8) -> BlockSize
+    requires some { 1 ≤ code }
+    requires most { code ≤ 15 }
+    ensures some { 1 ≤ least_size result }
+    ensures kind { size_view result ≡ size_spelling code }
+{
+    match code {
+        1 => BlockSize::Known(192),
+        n if n <= 5 => BlockSize::Known(576 << (n - 2)),
+        6 => BlockSize::Read8,
+        7 => BlockSize::Read16,
+        n => BlockSize::Known(256 << (n - 8)),
+    }
+}
+
+fn sample_rate_of(code: u8) -> SampleRate
+    ensures { rate_view result ≡ rate_bytes code }
+{
+    match code {
+        n if n < 12 => SampleRate::Known,
+        12 => SampleRate::Read8,
+        _ => SampleRate::Read16,
+    }
+}
+
+// The width is None where it is that of the stream.
+#[tactic(auto, unfolding(claxon_format::specs::read::Header::channels_at, claxon_format::specs::Fault::fault_text))]
+fn read_channels_and_width<R: ReadBytes>(input: &mut R) -> Result<(ChannelAssignment, Option<u32>)>
+    ensures some { IfOk result (λ codes. 1 ≤ channels_of codes.0) }
+    ensures few { IfOk result (λ codes. channels_of codes.0 ≤ 8) }
+    ensures named { IfOk result (λ codes. ForSome codes.1 HasCode) }
+    ensures gives { Gives (λ codes. (channel_code codes.0, width_code codes.1)) result (channels_at big_at) (bytes_in R.source input.old) (bytes_in R.source input.new) }
+{
+    let codes = read_byte(input)?;
+    let channel_assignment = match codes >> 4 {
+        n if n < 8 => ChannelAssignment::Independent(n + 1),
+        8 => ChannelAssignment::LeftSideStereo,
+        9 => ChannelAssignment::RightSideStereo,
+        10 => ChannelAssignment::MidSideStereo,
+        _ => return Err(Error::FormatError("invalid frame header, encountered reserved value")),
+    };
+    let bits_per_sample = match (codes >> 1) & 0b111 {
+        0 => None,
+        1 => Some(8),
+        2 => Some(12),
+        4 => Some(16),
+        5 => Some(20),
+        6 => Some(24),
+        _ => return Err(Error::FormatError("invalid frame header, encountered reserved value")),
+    };
+    if codes & 1 == 1 {
+        return Err(Error::FormatError("invalid frame header, encountered reserved value"));
+    }
+    Ok((channel_assignment, bits_per_sample))
+}
+
+#[tactic(auto, unfolding(claxon_format::specs::read::Header::number_in, claxon_format::specs::Fault::fault_text))]
+fn read_block_time<R: ReadBytes>(input: &mut R, blocking: BlockingStrategy) -> Result<BlockTime>
+    ensures { Gives time_number result (number_in big_at (is_variable blocking)) (bytes_in R.source input.old) (bytes_in R.source input.new) }
+{
+    let number = read_var_length_int(input)?;
+    match blocking {
+        BlockingStrategy::Variable => Ok(BlockTime::SampleNumber(number)),
+        BlockingStrategy::Fixed => {
+            if number > 0x7fff_ffff {
+                return Err(Error::FormatError("invalid frame header, frame number too large"));
+            }
+            Ok(BlockTime::FrameNumber(number as u32))
+        }
+    }
+}
+
+// A number of at most 36 bits in one to seven bytes, as UTF-8 writes characters. Spellings that are longer than needed
+// are accepted.
+#[tactic(auto, unfolding(claxon_format::specs::read::Coded::coded_number_at, claxon_format::specs::Fault::fault_text))]
+fn read_var_length_int<R: ReadBytes>(input: &mut R) -> Result<u64>
+    ensures { Gives (λ x. x) result (coded_number_at big_at) (bytes_in R.source input.old) (bytes_in R.source input.new) }
+{
+    let first = read_byte(input)?;
+    let ones = first.leading_ones();
+    if ones == 0 {
+        return Ok(u64::from(first));
+    }
+    // A byte 10xxxxxx follows a first one, and 11111111 begins no number.
+    if ones == 1 || ones == 8 {
+        return Err(Error::FormatError("invalid variable-length integer"));
+    }
+    read_followers(input, ones - 1, u64::from(first & (0x7f >> ones)))
+}
+
+// So many bytes more of a number, six bits each.
+fn read_followers<R: ReadBytes>(input: &mut R, count: u32, number: u64) -> Result<u64>
+    requires count { count ≤ 6 }
+    requires number { number < 64 }
+    ensures { Gives (λ x. x) result (followers_at big_at count number) (bytes_in R.source input.old) (bytes_in R.source input.new) }
+{
+    let mut number = number;
+    for _ in 0..count {
+        number = number << 6 | u64::from(read_follower(input)?);
+    }
+    Ok(number)
+}
+
+// Six bits of a number.
+#[inline(always)]
+#[tactic(auto, unfolding(claxon_format::specs::read::Coded::follower_at, claxon_format::specs::Fault::fault_text))]
+fn read_follower<R: ReadBytes>(input: &mut R) -> Result<u8>
+    ensures fits { IfOk result (λ bits. bits < 64) }
+    ensures gives { Gives (λ x. x) result (follower_at big_at) (bytes_in R.source input.old) (bytes_in R.source input.new) }
+{
+    let byte = read_byte(input)?;
+    if byte >> 6 != 0b10 {
+        return Err(Error::FormatError("invalid variable-length integer"));
+    }
+    Ok(byte & 0b0011_1111)
+}
+
+#[tactic(auto, unfolding(claxon_format::specs::read::Header::size_at, claxon_format::specs::Fault::fault_text))]
+fn read_block_size<R: ReadBytes>(input: &mut R, size: BlockSize) -> Result<u16>
+    requires { 1 ≤ least_size size }
+    ensures value { IfOk result (λ n. 1 ≤ n) }
+    ensures gives { Gives (λ x. x) result (size_at big_at (size_view size)) (bytes_in R.source input.old) (bytes_in R.source input.new) }
+{
+    match size {
+        BlockSize::Known(n) => Ok(n),
+        BlockSize::Read8 => Ok(u16::from(read_byte(input)?) + 1),
+        BlockSize::Read16 => {
+            let less_one = read_big_u16(input)?;
+            if less_one == 0xffff {
+                return Err(Error::FormatError("invalid block size, exceeds 65535"));
+            }
+            Ok(less_one + 1)
+        }
+    }
+}
+
+#[tactic(auto, unfolding(claxon_format::specs::read::Header::rate_at))]
+fn skip_rate<R: ReadBytes>(input: &mut R, rate: SampleRate) -> Result<()>
+    ensures { Gives (λ x. tt) result (rate_at big_at (rate_view rate)) (bytes_in R.source input.old) (bytes_in R.source input.new) }
+{
+    match rate {
+        SampleRate::Known => {}
+        SampleRate::Read8 => {
+            read_byte(input)?;
+        }
+        SampleRate::Read16 => {
+            read_big_u16(input)?;
+        }
+    }
+    Ok(())
+}

@@ -1,0 +1,57 @@
+//! Left and right from two coded channels, in place (RFC 9639, section 4.2). All sums are modulo 2^32.
+ghost use Rattle.std.specs.Prelude.{◌≤◌};
+ghost use Rattle.claxon_frame.specs.FrameHeader.{channels_of};
+ghost use Rattle.claxon_frame.specs.Unmixing.{AreUnmixed, IsUnmixed};
+
+use super::header::ChannelAssignment;
+
+/// Turns the coded channels, which stand one after another, into those that they stand for.
+pub fn unmix(channel_assignment: ChannelAssignment, buffer: &mut [i32])
+    requires { channels_of channel_assignment ≤ 8 }
+    ensures { AreUnmixed channel_assignment buffer.old buffer.new }
+{
+    match channel_assignment {
+        ChannelAssignment::Independent(_) => {}
+        ChannelAssignment::LeftSideStereo => decode_left_side(buffer),
+        ChannelAssignment::RightSideStereo => decode_right_side(buffer),
+        ChannelAssignment::MidSideStereo => decode_mid_side(buffer),
+    }
+}
+
+// The side is left less right.
+#[inline(never)]
+fn decode_left_side(buffer: &mut [i32])
+    ensures { IsUnmixed 8 buffer.old buffer.new }
+{
+    let half = buffer.len() / 2;
+    let (left, side) = buffer.split_at_mut(half);
+    for i in 0..half {
+        side[i] = left[i].wrapping_sub(side[i]);
+    }
+}
+
+#[inline(never)]
+fn decode_right_side(buffer: &mut [i32])
+    ensures { IsUnmixed 9 buffer.old buffer.new }
+{
+    let half = buffer.len() / 2;
+    let (side, right) = buffer.split_at_mut(half);
+    for i in 0..half {
+        side[i] = side[i].wrapping_add(right[i]);
+    }
+}
+
+// The mid lost its lowest bit when it was halved. It is that of the side.
+#[inline(never)]
+fn decode_mid_side(buffer: &mut [i32])
+    ensures { IsUnmixed 10 buffer.old buffer.new }
+{
+    let half = buffer.len() / 2;
+    let (mid, side) = buffer.split_at_mut(half);
+    for i in 0..half {
+        let sum = mid[i].wrapping_mul(2) | (side[i] & 1);
+        let difference = side[i];
+        mid[i] = sum.wrapping_add(difference) >> 1;
+        side[i] = sum.wrapping_sub(difference) >> 1;
+    }
+}

@@ -1,0 +1,4 @@
+//! Frames: blocks of samples.
+#![tactic(auto)]
+
+pub mod frame;

@@ -1,0 +1,43 @@
+-- Entries of Vorbis comments: texts in UTF-8, and the place of the first '='.
+use Rattle.std.proofs.Common.{◌≡◌, ℕ, Some, Bool, true, false, List, get_or, refl, sym, ap, ◌∙◌, arith, String, string_bytes}
+use Rattle.std.specs.Prelude.{not, IsUtf8}
+use Rattle.std.specs.List.{position}
+use Rattle.std.specs.Str.{is_utf8}
+use Rattle.std.proofs.lemmas.Str.{is_utf8-from_IsUtf8, IsUtf8-from_is_utf8, IsUtf8-string_bytes}
+use Rattle.std.proofs.lemmas.Bool.Decides.{Decides-eqb}
+use Rattle.std.proofs.lemmas.List.Quantifiers.{position-Some}
+use Rattle.claxon_format.specs.Comments.{is_separator, not_utf8}
+use Rattle.claxon_format.specs.Fault.{Fault, fault_text, is_unsupported}
+use Rattle.claxon_input.specs.declared.error.Error.{Error}
+use Rattle.claxon_input.specs.declared.error.Error.TheVariants.{IoError, FormatError, Unsupported, OutOfMemory}
+use Rattle.claxon_input.specs.Error.{IsFormatError, IsFault}
+use Rattle.claxon_metadata.specs.VorbisComment.{IsPlace}
+
+-- ---- UTF-8
+
+-- the bytes of a `String`
+pub text_utf8 : {A : Type 0} (text : String A) (bytes : List ℕ) → string_bytes text ≡ bytes → not_utf8 bytes ≡ false
+text_utf8 text bytes e = ap (λ (b : List ℕ). not_utf8 b) (sym e) ∙ ap (λ (b : Bool). not b) (is_utf8-from_IsUtf8 (string_bytes text) (IsUtf8-string_bytes text))
+
+-- bytes that can't be UTF-8
+pub text_refused : (bytes : List ℕ) → (IsUtf8 bytes → ⊥) → not_utf8 bytes ≡ true
+text_refused bytes h = go (is_utf8 bytes) refl
+  where
+    go : (b : Bool) → is_utf8 bytes ≡ b → not b ≡ true
+    go true e = absurd (h (IsUtf8-from_is_utf8 bytes e))
+    go false e = refl
+
+pub names_fault : (f : Fault) (e : Error) (text : List ℕ) → text ≡ fault_text f → is_unsupported f ≡ false → IsFormatError e text → IsFault f e
+names_fault f (FormatError reason) text t u h = (h ∙ t, u)
+names_fault f (IoError cause) text t u h = absurd h
+names_fault f (Unsupported reason) text t u h = absurd h
+names_fault f OutOfMemory text t u h = absurd h
+
+-- ---- the first '='
+
+-- a character of one byte stands there
+pub separator_is_place : (bytes : List ℕ) (place : ℕ) → position is_separator bytes ≡ Some place → IsPlace bytes place
+separator_is_place bytes place e =
+    let found = position-Some is_separator bytes place 0 e in
+    let is : get_or bytes place 0 ≡ 61 = (Decides-eqb (get_or bytes place 0) 61).0 found.1 in
+    record { inside = found.0; short = omega arith }

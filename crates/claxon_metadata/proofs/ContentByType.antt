@@ -1,0 +1,59 @@
+-- The reader of a metadata block's content, by the block's type.
+use Rattle.std.proofs.Common.{◌≡◌, ◌≢◌, ℕ, false, eqb, List, refl, ◌∙◌}
+use Rattle.std.proofs.lemmas.Bool.{ne_eqb}
+use Rattle.claxon_format.specs.MetadataBlocks.{Content, Info, Comments, skipped, BlockFault}
+use Rattle.claxon_format.specs.read.MetadataBlocks.{info_body_at, application_at, body_at}
+use Rattle.claxon_format.specs.read.Comments.{comment_at}
+use Rattle.claxon_format.specs.Fault.{BlockType}
+use Rattle.claxon_format.specs.read.Bytes.{bytes_at, skipped_at}
+use Rattle.claxon_format.specs.Reading.{Reads, Reading, Done, Faulty, Short, bind, done}
+use Rattle.claxon_format.proofs.MetadataBlocks.{Reads-block}
+use Rattle.claxon_format.proofs.Laws.{Reads-map}
+use Rattle.claxon_input.proofs.CallsInTurn.{StopsAs}
+use Rattle.claxon_metadata.specs.MetadataBlock.{ContentCode, content_at}
+
+-- where the first field stops, so does the whole
+pub stops_with : {X Y Z : Type 0} {x : Reading X Y} {whole : Reading X Z} (f : Y → List X → Reading X Z) → whole ≡ bind x f → StopsAs x whole
+stops_with f e = record { fault = λ g rest q. e ∙ rw q refl; short = λ q. e ∙ rw q refl }
+
+pub body_info : (type n : ℕ) (s : List ℕ) → type ≡ 0 → body_at type n s ≡ bind (info_body_at n s) (λ i. done (Info i))
+unfolding body_at
+body_info type n s e = rw e refl
+
+pub body_application : (type n : ℕ) (s : List ℕ) → type ≡ 2 → body_at type n s ≡ application_at n s
+unfolding body_at
+body_application type n s e = rw e refl
+
+pub body_comment : (type n : ℕ) (s : List ℕ) → type ≡ 4 → body_at type n s ≡ bind (comment_at n s) (λ c. done (Comments c))
+unfolding body_at
+body_comment type n s e = rw e refl
+
+pub body_invalid : (type n : ℕ) (s : List ℕ) → type ≡ 127 → body_at type n s ≡ Faulty BlockType s
+unfolding body_at
+body_invalid type n s e = rw e refl
+
+-- bytes that are passed over mean the same
+regrouped : (x : Reading ℕ (List ℕ)) (content : Content) → bind x (λ bytes. done content) ≡ bind (bind x (λ (bytes : List ℕ). done (tt {0}))) (λ (u : Unit {0}). done content)
+regrouped (Done bytes m) content = refl
+regrouped (Faulty f m) content = refl
+regrouped Short content = refl
+
+pub record IsSkipped (type : ℕ) : Type 0 where
+  pub not_info : type ≢ 0
+  pub not_application : type ≢ 2
+  pub not_comment : type ≢ 4
+  pub not_invalid : type ≢ 127
+
+pub body_skipped : (type n : ℕ) (s : List ℕ) → IsSkipped type → body_at type n s ≡ bind (skipped_at n s) (λ u. done (skipped type n))
+unfolding body_at skipped_at
+body_skipped type n s h =
+    let a : eqb type 0 ≡ false = ne_eqb _ _ h.not_info in
+    let b : eqb type 2 ≡ false = ne_eqb _ _ h.not_application in
+    let c : eqb type 4 ≡ false = ne_eqb _ _ h.not_comment in
+    let d : eqb type 127 ≡ false = ne_eqb _ _ h.not_invalid in
+    rw (a, b, c, d) (regrouped (bytes_at n s) (skipped type n))
+
+-- without the last flag
+pub Reads-content : Reads ℕ Content content_at ContentCode BlockFault
+unfolding content_at
+Reads-content = Reads-map (λ block. block.content) Reads-block

@@ -1,0 +1,4 @@
+pub mod TagPlaces
+pub mod CommentTexts
+pub mod CommentEntries
+pub mod ContentByType

@@ -1,0 +1,13 @@
+use Rattle.claxon_input.specs.State.{bytes_in}
+use Rattle.claxon_metadata.specs.VorbisComment.{HavePlaces, entries_view}
+use Rattle.claxon_metadata.proofs.CommentEntries.{EntriesSoFar}
+use Rattle.claxon_metadata.proofs.metadata.comment.read_entries.Given as goal
+
+abbrev pub invariant-loop-missing : goal.invariant-loop-missing
+invariant-loop-missing g l = record {
+  places : HavePlaces l.comments.items;
+  read : EntriesSoFar l.count l.length l.missing l.bytes_left (entries_view l.comments.items) (bytes_in g.R.ReadBytes.source l.fn.input) (bytes_in g.R.ReadBytes.source l.input);
+}
+
+abbrev pub decreases-loop-missing : goal.decreases-loop-missing
+decreases-loop-missing g l = l.missing

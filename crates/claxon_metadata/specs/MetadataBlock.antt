@@ -1,0 +1,99 @@
+-- What metadata blocks of the code say, in the words of the format, and what holds of every one that was read (RFC 9639, section 8).
+use Rattle.std.specs.Prelude.{◌≡◌, ◌⊎◌, ◌++◌, Bool, true, Result, ℕ, ◌-◌, ◌<◌, ◌≤◌, List, [], ◌∷◌, Option, None, Some, IfSome}
+use Rattle.claxon_format.specs.MetadataBlocks.{Content, Info, Padding, Application, Comments, Reserved, MetadataBlock as Block, BlockCode}
+use Rattle.claxon_format.specs.read.MetadataBlocks.{block_at}
+use Rattle.claxon_format.specs.Metadata.{BlockHeader, BlockHeaderCode, most_bytes}
+use Rattle.claxon_format.specs.Reading.{Reading, Mapped, and_then, done}
+use Rattle.claxon_format.specs.Streaminfo.{Streaminfo}
+use Rattle.claxon_input.specs.declared.error.Error.{Error}
+use Rattle.claxon_input.specs.Promises.{IsStarved}
+use Rattle.claxon_input.specs.State.{State}
+use Rattle.claxon_metadata.specs.declared.metadata.StreamInfo.{StreamInfo}
+use Rattle.claxon_metadata.specs.declared.metadata.SizeBounds.{SizeBounds}
+use Rattle.claxon_metadata.specs.declared.metadata.SampleFormat.{SampleFormat}
+use Rattle.claxon_metadata.specs.declared.metadata.MetadataBlockHeader.{MetadataBlockHeader}
+use Rattle.claxon_metadata.specs.declared.metadata.MetadataBlock.{MetadataBlock}
+use Rattle.claxon_metadata.specs.declared.metadata.MetadataBlock.TheVariants.{StreamInfo as InfoBlock, Padding as PaddingBlock, Application as ApplicationBlock, SeekTable, VorbisComment as CommentBlock, CueSheet, Picture, Reserved as ReservedBlock}
+use Rattle.claxon_metadata.specs.VorbisComment.{HavePlaces, comment_view}
+
+-- a number that isn't known is written as 0
+abbrev pub or_zero : Option ℕ → ℕ
+or_zero None = 0
+or_zero (Some n) = n
+
+-- a streaminfo (section 8.2)
+abbrev pub info_view : StreamInfo → Streaminfo
+info_view info = record {
+  least_block = info.min_block_size;
+  greatest_block = info.max_block_size;
+  least_frame = or_zero info.min_frame_size;
+  greatest_frame = or_zero info.max_frame_size;
+  rate = info.sample_rate;
+  channels = info.channels;
+  width = info.bits_per_sample;
+  samples = or_zero info.samples;
+  md5 = info.md5sum;
+}
+
+-- the header of a block (section 8.1)
+abbrev pub header_view : MetadataBlockHeader → BlockHeader
+header_view header = record { is_last = header.is_last; type = header.block_type; length = header.length }
+
+-- the bounds on sizes, as they are written one after another
+abbrev pub sizes_view : SizeBounds → List ℕ
+sizes_view sizes = sizes.min_block_size ∷ sizes.max_block_size ∷ sizes.min_frame_size ∷ sizes.max_frame_size ∷ []
+
+-- the channels and the width are written less one
+abbrev pub format_view : SampleFormat → List ℕ
+format_view format = format.sample_rate ∷ (format.channels - 1) ∷ (format.bits_per_sample - 1) ∷ format.samples ∷ []
+
+-- of a block that is answered; the last three never are
+abbrev pub content_view : {A : Type 0} → MetadataBlock A → Content
+content_view (InfoBlock info) = Info (info_view info)
+content_view (PaddingBlock length) = Padding length
+content_view (ApplicationBlock id bytes) = Application id bytes.items
+content_view (CommentBlock comment) = Comments (comment_view comment)
+content_view ReservedBlock = Reserved
+content_view (SeekTable table) = Reserved
+content_view CueSheet = Reserved
+content_view Picture = Reserved
+
+-- a block and whether it is marked as the last one
+abbrev pub flagged_view : {A : Type 0} → Bool → MetadataBlock A → Block
+flagged_view is_last block = record { is_last = is_last; content = content_view block }
+
+-- Only blocks of applications and comments take memory, where their length is one that they can have.
+abbrev pub MayStarve : ℕ → ℕ → Type 0
+MayStarve type length = (((type ≡ 2) × (4 ≤ length)) ⊎ ((type ≡ 4) × (8 ≤ length))) × (length ≤ most_bytes)
+
+-- Memory is wanted only where a header of such a block stands.
+abbrev pub StarvesLate : {A : Type 0} → Result A Error → State ℕ → Type 0
+StarvesLate r old =
+    IsStarved r → old.told ≡ true → (h : BlockHeader) × (x : List ℕ) × (rest : List ℕ) × BlockHeaderCode h x × MayStarve h.type h.length × (old.coming ≡ x ++ rest)
+
+-- a block without its last flag
+abbrev pub ContentCode : Content → List ℕ → Type 0
+ContentCode = Mapped (λ block. block.content) BlockCode
+
+-- its reader
+unfoldable pub content_at : List ℕ → Reading ℕ Content
+content_at = and_then block_at (λ block. done block.content)
+
+-- one to eight channels, of samples of 1 to 32 bits, and no 0 for what isn't known (RFC 9639, section 8.2)
+pub record HasBounds (info : StreamInfo) : Type 0 where
+  pub some_channels : 1 ≤ info.channels
+  pub channels : info.channels ≤ 8
+  pub some_bits : 1 ≤ info.bits_per_sample
+  pub bits : info.bits_per_sample ≤ 32
+  pub least_frame : IfSome info.min_frame_size (λ n. 0 < n)
+  pub greatest_frame : IfSome info.max_frame_size (λ n. 0 < n)
+  pub samples : IfSome info.samples (λ n. 0 < n)
+
+-- a streaminfo has its bounds, and each comment the place that parts it; seek tables, cue sheets and pictures aren't answered
+abbrev pub IsSound : {A : Type 0} → MetadataBlock A → Type 0
+IsSound (InfoBlock info) = HasBounds info
+IsSound (CommentBlock comment) = HavePlaces comment.comments.items
+IsSound (SeekTable table) = ⊥
+IsSound CueSheet = ⊥
+IsSound Picture = ⊥
+IsSound _ = Unit {0}

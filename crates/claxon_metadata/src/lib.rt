@@ -1,0 +1,4 @@
+//! Metadata blocks, Vorbis comments and tags.
+#![tactic(auto)]
+
+pub mod metadata;

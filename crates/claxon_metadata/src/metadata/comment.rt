@@ -1,0 +1,182 @@
+//! Reads Vorbis comments.
+ghost use Rattle.std.specs.Prelude.{◌≡◌, ◌≤◌, ◌-◌, ◌/◌, true, false, not, string_bytes, IfOk, IfSome, MatchResult};
+ghost use Rattle.std.specs.List.{list_all, position};
+ghost use Rattle.claxon_format.specs.Comments.{is_separator, is_name_byte, not_utf8};
+ghost use Rattle.claxon_format.specs.read.Comments.{entry_at, kept_at, entry_length_at, entries_at, vendor_length_at, vendor_at, count_at, comment_at};
+ghost use Rattle.claxon_format.specs.Fault.{EntryNotUtf8};
+ghost use Rattle.claxon_format.specs.Metadata.{most_bytes};
+ghost use Rattle.claxon_input.specs.Promises.{IsStarved};
+ghost use Rattle.claxon_input.specs.State.{bytes_in};
+ghost use Rattle.claxon_input.specs.Gives.{Gives, GivesOrStarves};
+ghost use Rattle.claxon_input.specs.Error.{IsFault};
+ghost use Rattle.claxon_metadata.specs.ReadMetadataBlock.{CommentIsRead};
+ghost use Rattle.claxon_metadata.specs.VorbisComment.{HavePlaces, HasVendorLength, IsPlace, entry_view, entries_view, kept_view};
+
+use super::{MAX_BLOCK_LENGTH, VorbisComment, read_bytes};
+use claxon_input::error::{Error, Result};
+use claxon_input::fields::read_little_u32;
+use claxon_input::input::ReadBytes;
+use std::alloc::Allocator;
+
+/// Reads the content of a Vorbis comment block of this length.
+#[tactic(auto, unfolding(claxon_format::specs::read::Comments::comment_at, claxon_format::specs::Fault::fault_text))]
+pub fn read_vorbis_comment_block<R: ReadBytes, A: Allocator + Copy>(
+    alloc: A,
+    input: &mut R,
+    length: u32,
+) -> Result<VorbisComment<A>>
+    ensures places { IfOk result (λ comment. HavePlaces comment.comments.items) }
+    // Memory is asked for only after the lengths of the block and of its vendor were tested.
+    ensures memory { IsStarved result → (8 ≤ length) × (length ≤ most_bytes) }
+    ensures vendor { IsStarved result → HasVendorLength (length - 8) (bytes_in R.source input.old) }
+    ensures gives { CommentIsRead R.source length input.old result input.new }
+{
+    if length < 8 {
+        return Err(Error::FormatError("Vorbis comment block is too short"));
+    }
+    if length > MAX_BLOCK_LENGTH {
+        return Err(Error::Unsupported(
+            "Vorbis comment blocks larger than 10 MiB are not supported",
+        ));
+    }
+    let vendor_length = read_vendor_length(input, length - 8)?;
+    let vendor = read_vendor(alloc, input, vendor_length)?;
+    let count = read_count(input, length / 4)?;
+    let comments = read_entries(alloc, input, count, length - 8 - vendor_length)?;
+    Ok(VorbisComment { vendor, comments })
+}
+
+#[tactic(auto, unfolding(claxon_format::specs::read::Comments::vendor_length_at, claxon_format::specs::Fault::fault_text))]
+fn read_vendor_length<R: ReadBytes>(input: &mut R, most: u32) -> Result<u32>
+    ensures most { IfOk result (λ length. length ≤ most) }
+    ensures gives { Gives (λ x. x) result (vendor_length_at most) (bytes_in R.source input.old) (bytes_in R.source input.new) }
+{
+    let length = read_little_u32(input)?;
+    if length > most {
+        return Err(Error::FormatError("vendor string too long"));
+    }
+    Ok(length)
+}
+
+#[tactic(auto, unfolding(claxon_format::specs::read::Comments::vendor_at, claxon_format::specs::Fault::fault_text))]
+fn read_vendor<R: ReadBytes, A: Allocator>(
+    alloc: A,
+    input: &mut R,
+    length: u32,
+) -> Result<String<A>>
+    ensures { GivesOrStarves string_bytes result (vendor_at length) (bytes_in R.source input.old) (bytes_in R.source input.new) }
+{
+    let bytes = read_bytes(alloc, input, length)?;
+    text_of(bytes)
+}
+
+// The bytes as a text.
+fn text_of<A: Allocator>(bytes: Vec<u8, A>) -> Result<String<A>>
+    ensures { MatchResult result (λ text. (string_bytes text ≡ bytes.items) × (not_utf8 bytes.items ≡ false))
+        (λ error. IsFault EntryNotUtf8 error × (not_utf8 bytes.items ≡ true)) }
+{
+    Ok(String::from_utf8(bytes)?)
+}
+
+// How many entries follow. Each takes four bytes at least, so a greater count can't be right.
+#[tactic(auto, unfolding(claxon_format::specs::read::Comments::count_at, claxon_format::specs::Fault::fault_text))]
+fn read_count<R: ReadBytes>(input: &mut R, limit: u32) -> Result<u32>
+    ensures { Gives (λ x. x) result (count_at limit) (bytes_in R.source input.old) (bytes_in R.source input.new) }
+{
+    let count = read_little_u32(input)?;
+    if count >= limit {
+        return Err(Error::FormatError("too many entries for Vorbis comment block"));
+    }
+    Ok(count)
+}
+
+// The entries of a block, which fill just that many bytes.
+fn read_entries<R: ReadBytes, A: Allocator + Copy>(
+    alloc: A,
+    input: &mut R,
+    count: u32,
+    length: u32,
+) -> Result<Vec<(String<A>, usize), A>>
+    ensures places { IfOk result (λ comments. HavePlaces comments.items) }
+    ensures gives { GivesOrStarves (λ comments. entries_view comments.items) result (entries_at count length) (bytes_in R.source input.old) (bytes_in R.source input.new) }
+{
+    let mut comments = Vec::new(alloc);
+    let mut missing = count;
+    let mut bytes_left = length;
+    while missing > 0 && bytes_left >= 4 {
+        let entry_length = read_entry_length(input, bytes_left - 4)?;
+        if let Some(entry) = read_kept_entry(alloc, input, entry_length)? {
+            comments.push(entry)?;
+        }
+        missing -= 1;
+        bytes_left -= 4 + entry_length;
+    }
+    if bytes_left > 0 {
+        return Err(Error::FormatError("Vorbis comment block has excess data"));
+    }
+    if missing > 0 {
+        return Err(Error::FormatError("Vorbis comment block contains wrong number of entries"));
+    }
+    Ok(comments)
+}
+
+#[tactic(auto, unfolding(claxon_format::specs::read::Comments::entry_length_at, claxon_format::specs::Fault::fault_text))]
+fn read_entry_length<R: ReadBytes>(input: &mut R, most: u32) -> Result<u32>
+    ensures most { IfOk result (λ length. length ≤ most) }
+    ensures gives { Gives (λ x. x) result (entry_length_at most) (bytes_in R.source input.old) (bytes_in R.source input.new) }
+{
+    let length = read_little_u32(input)?;
+    if length > most {
+        return Err(Error::FormatError("Vorbis comment too long for Vorbis comment block"));
+    }
+    Ok(length)
+}
+
+// An entry of that many bytes, unless it is empty: old encoders write such, which say nothing.
+#[tactic(auto, unfolding(claxon_format::specs::read::Comments::kept_at))]
+fn read_kept_entry<R: ReadBytes, A: Allocator>(
+    alloc: A,
+    input: &mut R,
+    length: u32,
+) -> Result<Option<(String<A>, usize)>>
+    ensures place { IfOk result (λ found. IfSome found (λ entry. IsPlace (string_bytes entry.0) entry.1)) }
+    ensures gives { GivesOrStarves kept_view result (kept_at length) (bytes_in R.source input.old) (bytes_in R.source input.new) }
+{
+    if length == 0 {
+        return Ok(None);
+    }
+    Ok(Some(read_entry(alloc, input, length)?))
+}
+
+// An entry of that many bytes, and the place of its first `=`.
+#[tactic(auto, unfolding(claxon_format::specs::read::Comments::entry_at, claxon_format::specs::Fault::fault_text))]
+fn read_entry<R: ReadBytes, A: Allocator>(
+    alloc: A,
+    input: &mut R,
+    length: u32,
+) -> Result<(String<A>, usize)>
+    ensures place { IfOk result (λ entry. IsPlace (string_bytes entry.0) entry.1) }
+    ensures gives { GivesOrStarves entry_view result (entry_at length) (bytes_in R.source input.old) (bytes_in R.source input.new) }
+{
+    let bytes = read_bytes(alloc, input, length)?;
+    let Some(place) = first_separator(&bytes) else {
+        return Err(Error::FormatError("Vorbis comment does not contain '='"));
+    };
+    if !is_name(&bytes[..place]) {
+        return Err(Error::FormatError("Vorbis comment field name contains invalid byte"));
+    }
+    Ok((text_of(bytes)?, place))
+}
+
+fn first_separator(bytes: &[u8]) -> Option<usize>
+    ensures { result ≡ position is_separator bytes.now }
+{
+    bytes.iter().position(|byte| *byte == b'=')
+}
+
+// Whether these are bytes that a name may have.
+fn is_name(bytes: &[u8]) -> bool
+    ensures { result ≡ list_all is_name_byte bytes.now }
+{
+    bytes.iter().all(|byte| (0x20..=0x7d).contains(byte))
+}

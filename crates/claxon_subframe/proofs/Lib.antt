@@ -1,0 +1,13 @@
+pub mod PartitionLengths
+pub mod EscapedEntries
+pub mod WordShifts
+pub mod WordsAhead
+pub mod SignExtension
+pub mod PartitionLoop
+pub mod KindNumbers
+pub mod WastedBits
+pub mod RestoreLoop
+pub mod Predictors
+pub mod Lanes
+pub mod NewestSamples
+pub mod ScaledSamples

@@ -1,0 +1,96 @@
+-- Partitions read one after another into one slice.
+use Rattle.std.proofs.Common.{◌≡◌, ℕ, zero, suc, ◌+◌, ◌-◌, ◌<◌, ◌≤◌, Bool, List, ◌∷◌, ◌++◌, length, take, drop, replicate, refl, sym, ap, subst, ◌∙◌, append_assoc, arith, ℤ}
+use Rattle.std.specs.List.{flat_map}
+use Rattle.std.proofs.lemmas.List.{append-nil, take_all, length-take, length-drop}
+use Rattle.std.proofs.lemmas.Slice.{take-put_mid}
+use borrow.Rule.Slice.PartMut.{put_mid, same_len_mid}
+use Rattle.claxon_format.specs.Bits.{Bits}
+use Rattle.claxon_format.specs.Reading.{Reading, Done, Faulty, Short, bind, done, each_at}
+use Rattle.claxon_input.specs.declared.error.Error.{Error}
+use Rattle.claxon_input.specs.State.{State}
+use Rattle.claxon_input.specs.Gives.{Went, Stops}
+use Rattle.claxon_input.proofs.FieldLoops.{with_front, front_none}
+use Rattle.claxon_input.proofs.CallsInTurn.{went_both, went_map, went_none, stops_after, StopsWith}
+use Rattle.claxon_format.specs.read.Residual.{joined_at}
+use Rattle.claxon_subframe.specs.Partitions.{lengths, total}
+
+left_next : (n each : ℕ) → lengths n each each ≡ replicate n each
+left_next zero each = refl
+left_next (suc n) each = refl
+
+regroup : (front es : List ℤ) (x : Reading Bool (List (List ℤ))) → with_front front (bind (bind x (λ others rest. Done (es ∷ others) rest)) (λ parts. done (flat_map (λ x. x) parts)))
+    ≡ with_front (front ++ es) (bind x (λ parts. done (flat_map (λ x. x) parts)))
+regroup front es (Done others rest) = ap (λ (t : List ℤ). Done t rest) (sym (append_assoc front es (flat_map (λ x. x) others)))
+regroup front es (Faulty f rest) = refl
+regroup front es Short = refl
+
+parts_more : (r : ℕ → Bits → Reading Bool (List ℤ)) (front es : List ℤ) (parts i len each : ℕ) (s m : Bits) (whole : Reading Bool (List ℤ)) → i < parts → r len s ≡ Done es m
+    → with_front front (joined_at r (lengths (parts - i) len each) s) ≡ whole → with_front (front ++ es) (joined_at r (lengths (parts - (i + 1)) each each) m) ≡ whole
+unfolding each_at
+parts_more r front es parts i len each s m whole lt e so_far =
+    let k : parts - i ≡ suc (parts - (i + 1)) = omega arith in
+    let one : with_front front (joined_at r (lengths (parts - i) len each) s) ≡ with_front (front ++ es) (joined_at r (replicate (parts - (i + 1)) each) m)
+    = rw (k, e) (regroup front es (each_at r (replicate (parts - (i + 1)) each) m)) in
+    rw left_next (sym one ∙ so_far)
+
+parts_done : (r : ℕ → Bits → Reading Bool (List ℤ)) (xs : List ℤ) (parts i start len each : ℕ) (s : Bits) (whole : Reading Bool (List ℤ)) → parts ≤ i → start + total (lengths (parts - i) len each) ≡ length xs
+    → with_front (take start xs) (joined_at r (lengths (parts - i) len each) s) ≡ whole → whole ≡ Done xs s
+unfolding each_at
+parts_done r xs parts i start len each s whole le room so_far =
+    let k : parts - i ≡ 0 = omega arith in
+    let full : length xs ≤ start = let q : start + total (lengths 0 len each) ≡ length xs = subst (λ (n : ℕ). start + total (lengths n len each) ≡ length xs) k room in omega arith in
+    let one : with_front (take start xs) (joined_at r (lengths (parts - i) len each) s) ≡ Done xs s = rw (k, take_all start xs full) (ap (λ (t : List ℤ). Done t s) (append-nil xs)) in
+    sym so_far ∙ one
+
+-- room for the part, and what is lengths after it
+room : (parts i start len each n : ℕ) → i < parts → start + total (lengths (parts - i) len each) ≡ n → (start + len ≤ n) × ((start + len) + total (lengths (parts - (i + 1)) each each) ≡ n)
+room parts i start len each n lt e =
+    let k : parts - i ≡ suc (parts - (i + 1)) = omega arith in
+    let q : start + (len + total (replicate (parts - (i + 1)) each)) ≡ n = subst (λ (m : ℕ). start + total (lengths m len each) ≡ n) k e in
+    (omega arith, rw left_next (omega arith))
+
+pub part_length : (a k : ℕ) (xs : List ℤ) → a + k ≤ length xs → length (take (a + k - a) (drop a xs)) ≡ k
+part_length a k xs le = omega (arith, length-take (a + k - a) (drop a xs), length-drop a xs)
+
+pub put_front : (a k : ℕ) (xs ys : List ℤ) → a + k ≤ length xs → length ys ≡ length (take (a + k - a) (drop a xs)) → take (a + k) (put_mid a (a + k - a) xs ys) ≡ take a xs ++ ys
+put_front a k xs ys le e = let p = part_length a k xs le in take-put_mid a (a + k - a) xs ys (a + k) (omega arith) (omega arith)
+
+-- ---- what a loop did
+
+-- i of the parts were read and put into xs up to start; the next has len entries, and those after it as many as each
+pub record PartsSoFar (read : ℕ → Bits → Reading Bool (List ℤ)) (all : List ℕ) (parts i start len each : ℕ) (xs : List ℤ) (old new : State Bool) : Type 0 where
+  pub so_far : Went old new (λ s m. joined_at read all s ≡ with_front (take start xs) (joined_at read (lengths (parts - i) len each) m))
+  pub rest : start + total (lengths (parts - i) len each) ≡ length xs
+
+-- there is room for the next part
+pub parts_room : {read : ℕ → Bits → Reading Bool (List ℤ)} {all : List ℕ} {parts i start len each : ℕ} {xs : List ℤ} {a b : State Bool} → i < parts → PartsSoFar read all parts i start len each xs a b → start + len ≤ length xs
+parts_room {parts = parts} {i = i} {start = start} {len = len} {each = each} {xs = xs} lt h = (room parts i start len each (length xs) lt h.rest).0
+
+pub parts_next : {read : ℕ → Bits → Reading Bool (List ℤ)} {all : List ℕ} {parts i start len each : ℕ} {xs : List ℤ} (ys : List ℤ) {a b c : State Bool} → i < parts → PartsSoFar read all parts i start len each xs a b
+    → length ys ≡ length (take (start + len - start) (drop start xs)) → Went b c (λ s m. read (length (take (start + len - start) (drop start xs))) s ≡ Done ys m)
+    → PartsSoFar read all parts (i + 1) (start + len) each each (put_mid start (start + len - start) xs ys) a c
+parts_next {read = read} {all = all} {parts = parts} {i = i} {start = start} {len = len} {each = each} {xs = xs} ys {a = a} {b = b} {c = c} lt h e k =
+    let r = room parts i start len each (length xs) lt h.rest in
+    let n = part_length start len xs r.0 in
+    let q : Went b c (λ s m. read len s ≡ Done ys m) = subst (λ (z : ℕ). Went b c (λ s m. read z s ≡ Done ys m)) n k in
+    let front = put_front start len xs ys r.0 e in
+    record {
+      so_far = went_both _ h.so_far q (λ x y. rw front (sym (parts_more read (take start xs) ys parts i len each _ _ (joined_at read all a.coming) lt y (sym x))));
+      rest = rw (same_len_mid start (start + len - start) xs ys e) r.1;
+    }
+
+parts_stop : (read : ℕ → Bits → Reading Bool (List ℤ)) (front : List ℤ) (parts i len each : ℕ) → i < parts → StopsWith (read len) (λ m. with_front front (joined_at read (lengths (parts - i) len each) m))
+unfolding each_at
+parts_stop read front parts i len each lt =
+    let k : parts - i ≡ suc (parts - (i + 1)) = omega arith in
+    record { fault = λ s f rest e. rw (k, e) refl; short = λ s e. rw (k, e) refl }
+
+pub parts_err : {read : ℕ → Bits → Reading Bool (List ℤ)} {all : List ℕ} {parts i start len each : ℕ} {xs : List ℤ} {e : Error} {a b c : State Bool} → i < parts → PartsSoFar read all parts i start len each xs a b
+    → Stops e (read (length (take (start + len - start) (drop start xs)))) b c → Stops e (joined_at read all) a c
+parts_err {read = read} {parts = parts} {i = i} {start = start} {len = len} {each = each} {xs = xs} {e = e} {b = b} {c = c} lt h k =
+    let n = part_length start len xs (parts_room lt h) in
+    stops_after h.so_far (parts_stop read (take start xs) parts i len each lt) (subst (λ (z : ℕ). Stops e (read z) b c) n k)
+
+pub parts_end : {read : ℕ → Bits → Reading Bool (List ℤ)} {all : List ℕ} {parts i start len each : ℕ} {xs : List ℤ} {a b : State Bool} → parts ≤ i → PartsSoFar read all parts i start len each xs a b → Went a b (λ s m. joined_at read all s ≡ Done xs m)
+parts_end {read = read} {all = all} {parts = parts} {i = i} {start = start} {len = len} {each = each} {xs = xs} {a = a} le h =
+    went_map _ h.so_far (λ p. parts_done read xs parts i start len each _ (joined_at read all a.coming) le h.rest (sym p))

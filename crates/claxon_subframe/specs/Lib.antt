@@ -1,0 +1,6 @@
+pub mod SubframeFields
+pub mod Partitions
+pub mod Lanes
+pub mod Decode
+pub mod Words
+pub mod Predictor

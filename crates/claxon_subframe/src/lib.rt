@@ -1,0 +1,4 @@
+//! Subframes: the samples of a channel.
+#![tactic(auto)]
+
+pub mod subframe;

@@ -1,0 +1,455 @@
+//! Subframes: one channel of a frame.
+ghost use Rattle.std.specs.Prelude.{◌≡◌, ◌+◌, ◌-◌, ◌*◌, ◌%◌, ◌^◌, ◌<◌, ◌≤◌, IfOk, length, map, replicate};
+ghost use Rattle.claxon_format.specs.Bits.{FitsIn, residue, twos};
+ghost use Rattle.claxon_format.specs.Fault.{Fault};
+ghost use Rattle.claxon_format.specs.Reading.{and_then, done, times_at};
+ghost use Rattle.claxon_format.specs.read.Bits.{signed_at};
+ghost use Rattle.claxon_format.specs.read.Residual.{partition_at, residual_at, escaped_at, joined_at, method_at};
+ghost use Rattle.claxon_format.specs.read.Subframe.{fixed_at, subframe_at, type_at, few_at, subframe_header_at, parameters_at, linear_at, kind_at};
+ghost use Rattle.claxon_format.specs.Subframe.{scaled};
+ghost use Rattle.claxon_input.specs.State.{bits_in};
+ghost use Rattle.claxon_input.specs.Gives.{Gives};
+ghost use Rattle.claxon_subframe.specs.Decode.{EachSubframeFaultIsNamed, EachSubframeIsAnswered, IsReachedAsBefore, NoSubframeIsIoError, SubframeFaultWasTaken, SubframeIsRead, SubframeIsTold, SubframeLeavesRest, SubframeWasTaken, WantsNoMemory};
+ghost use Rattle.claxon_subframe.specs.SubframeFields.{fixed_order, lpc_order, type_number, subframe_view, parameters_of, method_of};
+ghost use Rattle.claxon_subframe.specs.Partitions.{lengths, total};
+
+mod predictor;
+mod words;
+
+use claxon_input::error::{Error, Result};
+use claxon_input::input::{Bitstream, ReadBytes};
+use predictor::{predict_fixed, predict_lpc};
+use words::read_words;
+
+/// How the samples of a subframe are written.
+#[derive(Clone, Copy, Debug)]
+enum SubframeType {
+    Constant,
+    Verbatim,
+    /// A fixed predictor of this order, 0 to 4.
+    Fixed(u32),
+    /// A linear predictor of this order, 1 to 32.
+    Lpc(u32),
+}
+
+#[derive(Clone, Copy, Debug)]
+struct SubframeHeader {
+    sf_type: SubframeType,
+    wasted_bits_per_sample: u32,
+    ghost fixed: { fixed_order sf_type ≤ 4 },
+    ghost lpc: { lpc_order sf_type ≤ 32 },
+    ghost wasted: { wasted_bits_per_sample ≤ 31 },
+}
+
+#[tactic(auto, unfolding(claxon_format::specs::read::Subframe::type_at, claxon_format::specs::Fault::fault_text))]
+fn read_subframe_type<R: ReadBytes>(input: &mut Bitstream<R>) -> Result<SubframeType>
+    ensures fixed { IfOk result (λ sf_type. fixed_order sf_type ≤ 4) }
+    ensures lpc { IfOk result (λ sf_type. lpc_order sf_type ≤ 32) }
+    ensures gives { Gives (type_number) result (type_at) (bits_in R.source input.old) (bits_in R.source input.new) }
+{
+    if input.read_bit()? {
+        return Err(Error::FormatError("invalid subframe header"));
+    }
+    match u32::from(input.read_leq_u8(6)?) {
+        0 => Ok(SubframeType::Constant),
+        1 => Ok(SubframeType::Verbatim),
+        n if 8 <= n && n <= 12 => Ok(SubframeType::Fixed(n - 8)),
+        n if 32 <= n => Ok(SubframeType::Lpc(n - 31)),
+        _ => Err(Error::FormatError("invalid subframe header, encountered reserved value")),
+    }
+}
+
+// How many low bits of each sample are zeros that were left out.
+#[tactic(auto, unfolding(claxon_format::specs::read::Subframe::few_at, claxon_format::specs::read::Subframe::waste_at, claxon_format::specs::Fault::fault_text))]
+fn read_wasted_bits<R: ReadBytes>(input: &mut Bitstream<R>) -> Result<u32>
+    ensures most { IfOk result (λ wasted. wasted ≤ 31) }
+    ensures gives { Gives (λ x. x) result (few_at) (bits_in R.source input.old) (bits_in R.source input.new) }
+{
+    if !input.read_bit()? {
+        return Ok(0);
+    }
+    let zeros = input.read_unary()?;
+    if zeros >= 31 {
+        return Err(Error::FormatError("wasted bits per sample must not exceed 31"));
+    }
+    Ok(zeros + 1)
+}
+
+#[tactic(auto, unfolding(claxon_format::specs::read::Subframe::subframe_header_at))]
+fn read_subframe_header<R: ReadBytes>(input: &mut Bitstream<R>) -> Result<SubframeHeader>
+    ensures { Gives (λ header. subframe_view header.sf_type header.wasted_bits_per_sample) result subframe_header_at (bits_in R.source input.old) (bits_in R.source input.new) }
+{
+    let sf_type = read_subframe_type(input)?;
+    let wasted_bits_per_sample = read_wasted_bits(input)?;
+    Ok(SubframeHeader {
+        sf_type,
+        wasted_bits_per_sample,
+    })
+}
+
+// The two's complement value of the low `bits` bits of a coefficient.
+fn extend_sign_u16(val: u16, bits: u32) -> i16
+    requires some { 0 < bits }
+    requires most { bits ≤ 16 }
+    requires fits { val < 2 ^ bits }
+    ensures { result ≡ twos bits val }
+{
+    (val << (16 - bits)).cast_signed() >> (16 - bits)
+}
+
+/// The two's complement value of the low `bits` bits, 1 to 32 of them.
+pub fn extend_sign_u32(val: u32, bits: u32) -> i32
+    requires some { 0 < bits }
+    requires most { bits ≤ 32 }
+    ensures fits { FitsIn bits result }
+    ensures congruent { residue bits result ≡ val % 2 ^ bits }
+    ensures value { result ≡ twos bits (val % 2 ^ bits) }
+{
+    (val << (32 - bits)).cast_signed() >> (32 - bits)
+}
+
+/// Decodes one channel of as many samples as the buffer is long, each of `bps` bits.
+///
+/// Whatever the buffer held is written over. After an error its samples are open. A width of 0 is refused, since no bit
+/// of it can be left. No memory is taken. (RFC 9639, section 9.2.)
+pub fn decode<R: ReadBytes>(input: &mut Bitstream<R>, bps: u32, buffer: &mut [i32]) -> Result<()>
+    requires width { bps ≤ 32 }
+    requires block { length buffer.old < 65536 }
+    ensures sound { SubframeWasTaken R.source bps (length buffer.old) input.old result input.new buffer.new }
+    ensures complete { EachSubframeIsAnswered R.source bps (length buffer.old) input.old result input.new buffer.new }
+    ensures told { SubframeIsTold bps (length buffer.old) }
+    ensures fault { SubframeFaultWasTaken R.source bps (length buffer.old) input.old result input.new }
+    ensures named { EachSubframeFaultIsNamed R.source bps (length buffer.old) input.old result input.new }
+    ensures io { NoSubframeIsIoError R.source bps (length buffer.old) input.old result input.new }
+    ensures front { SubframeLeavesRest R.source bps (length buffer.old) input.old result input.new }
+    ensures gives { SubframeIsRead R.source bps (length buffer.old) input.old result input.new buffer.new }
+    ensures no_memory { WantsNoMemory result }
+    ensures loans { IsReachedAsBefore R.source input.old input.new }
+{
+    decode_channel(input, bps, buffer)
+}
+
+#[tactic(auto, unfolding(claxon_format::specs::read::Subframe::subframe_at, claxon_format::specs::Fault::fault_text))]
+fn decode_channel<R: ReadBytes>(
+    input: &mut Bitstream<R>,
+    bps: u32,
+    buffer: &mut [i32],
+) -> Result<()>
+    requires width { bps ≤ 32 }
+    requires block { length buffer.old < 65536 }
+    ensures { Gives (λ x. buffer.new) result (subframe_at bps (length buffer.old)) (bits_in R.source input.old) (bits_in R.source input.new) }
+{
+    let header = read_subframe_header(input)?;
+    let wasted = header.wasted_bits_per_sample;
+    if wasted >= bps {
+        return Err(Error::FormatError("subframe has no non-wasted bits"));
+    }
+    decode_samples(input, header.sf_type, bps - wasted, buffer)?;
+    if wasted > 0 {
+        restore_wasted_bits(wasted, buffer);
+    }
+    Ok(())
+}
+
+fn decode_samples<R: ReadBytes>(
+    input: &mut Bitstream<R>,
+    sf_type: SubframeType,
+    bps: u32,
+    buffer: &mut [i32],
+) -> Result<()>
+    requires fixed { fixed_order sf_type ≤ 4 }
+    requires lpc { lpc_order sf_type ≤ 32 }
+    requires some { 0 < bps }
+    requires width { bps ≤ 32 }
+    requires block { length buffer.old < 65536 }
+    ensures { Gives (λ x. buffer.new) result (kind_at bps (length buffer.old) (type_number sf_type)) (bits_in R.source input.old) (bits_in R.source input.new) }
+{
+    match sf_type {
+        SubframeType::Constant => decode_constant(input, bps, buffer),
+        SubframeType::Verbatim => decode_verbatim(input, bps, buffer),
+        SubframeType::Fixed(order) => decode_fixed(input, bps, order, buffer),
+        SubframeType::Lpc(order) => decode_lpc(input, bps, order, buffer),
+    }
+}
+
+// Puts back the low zeros, modulo 2^32.
+fn restore_wasted_bits(wasted: u32, buffer: &mut [i32])
+    requires { wasted ≤ 31 }
+    ensures { buffer.new ≡ map (scaled wasted) buffer.old }
+{
+    for sample in buffer.iter_mut() {
+        *sample = *sample << wasted;
+    }
+}
+
+#[inline(always)]
+#[tactic(auto, unfolding(claxon_format::specs::read::Bits::signed_at))]
+fn read_sample<R: ReadBytes>(input: &mut Bitstream<R>, bps: u32) -> Result<i32>
+    requires some { 0 < bps }
+    requires width { bps ≤ 32 }
+    ensures { Gives (λ x. x) result (signed_at bps) (bits_in R.source input.old) (bits_in R.source input.new) }
+{
+    let sample = input.read_leq_u32(bps)?;
+    Ok(extend_sign_u32(sample, bps))
+}
+
+fn decode_constant<R: ReadBytes>(
+    input: &mut Bitstream<R>,
+    bps: u32,
+    buffer: &mut [i32],
+) -> Result<()>
+    requires some { 0 < bps }
+    requires width { bps ≤ 32 }
+    ensures { Gives (λ x. buffer.new) result (and_then (signed_at bps) (λ x. done (replicate (length buffer.old) x))) (bits_in R.source input.old) (bits_in R.source input.new) }
+{
+    let sample = read_sample(input, bps)?;
+    buffer.fill(sample);
+    Ok(())
+}
+
+fn decode_verbatim<R: ReadBytes>(
+    input: &mut Bitstream<R>,
+    bps: u32,
+    buffer: &mut [i32],
+) -> Result<()>
+    requires some { 0 < bps }
+    requires width { bps ≤ 32 }
+    ensures { Gives (λ x. buffer.new) result (times_at (length buffer.old) (signed_at bps)) (bits_in R.source input.old) (bits_in R.source input.new) }
+{
+    for sample in buffer.iter_mut() {
+        *sample = read_sample(input, bps)?;
+    }
+    Ok(())
+}
+
+#[tactic(auto, unfolding(claxon_format::specs::read::Subframe::fixed_at, claxon_format::specs::Fault::fault_text))]
+fn decode_fixed<R: ReadBytes>(
+    input: &mut Bitstream<R>,
+    bps: u32,
+    order: u32,
+    buffer: &mut [i32],
+) -> Result<()>
+    requires some { 0 < bps }
+    requires width { bps ≤ 32 }
+    requires order { order ≤ 4 }
+    requires block { length buffer.old < 65536 }
+    ensures { Gives (λ x. buffer.new) result (fixed_at bps (length buffer.old) order) (bits_in R.source input.old) (bits_in R.source input.new) }
+{
+    if buffer.len() < order as usize {
+        return Err(Error::FormatError("invalid fixed subframe, order is larger than block size"));
+    }
+    let block_size = buffer.len() as u16;
+    // Of order 0 the residual is the samples.
+    if order == 0 {
+        return decode_residual(input, block_size, buffer);
+    }
+    decode_verbatim(input, bps, &mut buffer[..order as usize])?;
+    decode_residual(input, block_size, &mut buffer[order as usize..])?;
+    predict_fixed(order, buffer);
+    Ok(())
+}
+
+/// The precision of a linear predictor's coefficients, 1 to 15 bits, and its shift, 0 to 15.
+#[derive(Clone, Copy, Debug)]
+struct LpcParameters {
+    precision: u32,
+    shift: u32,
+}
+
+#[tactic(auto, unfolding(claxon_format::specs::read::Subframe::parameters_at, claxon_format::specs::Fault::fault_text))]
+fn read_lpc_parameters<R: ReadBytes>(input: &mut Bitstream<R>) -> Result<LpcParameters>
+    ensures some { IfOk result (λ lpc. 0 < lpc.precision) }
+    ensures most { IfOk result (λ lpc. lpc.precision ≤ 15) }
+    ensures shift { IfOk result (λ lpc. lpc.shift ≤ 15) }
+    ensures gives { Gives (parameters_of) result (parameters_at) (bits_in R.source input.old) (bits_in R.source input.new) }
+{
+    let precision_less_one = u32::from(input.read_leq_u8(4)?);
+    if precision_less_one == 0b1111 {
+        return Err(Error::FormatError("invalid subframe, qlp precision value invalid"));
+    }
+    // The shift is signed: from 16 on it stands for a negative one.
+    let shift = u32::from(input.read_leq_u8(5)?);
+    if shift > 15 {
+        return Err(Error::Unsupported(
+            "a negative quantized linear predictor coefficient shift is not supported, please file a bug.",
+        ));
+    }
+    Ok(LpcParameters {
+        precision: precision_less_one + 1,
+        shift,
+    })
+}
+
+fn read_coefficients<R: ReadBytes>(
+    input: &mut Bitstream<R>,
+    precision: u32,
+    coefficients: &mut [i16],
+) -> Result<()>
+    requires some { 0 < precision }
+    requires most { precision ≤ 16 }
+    ensures { Gives (λ x. coefficients.new) result (times_at (length coefficients.old) (signed_at precision)) (bits_in R.source input.old) (bits_in R.source input.new) }
+{
+    for coefficient in coefficients.iter_mut() {
+        *coefficient = read_coefficient(input, precision)?;
+    }
+    Ok(())
+}
+
+#[inline(always)]
+#[tactic(auto, unfolding(claxon_format::specs::read::Bits::signed_at))]
+fn read_coefficient<R: ReadBytes>(input: &mut Bitstream<R>, precision: u32) -> Result<i16>
+    requires some { 0 < precision }
+    requires most { precision ≤ 16 }
+    ensures { Gives (λ x. x) result (signed_at precision) (bits_in R.source input.old) (bits_in R.source input.new) }
+{
+    let number = input.read_leq_u16(precision)?;
+    Ok(extend_sign_u16(number, precision))
+}
+
+#[tactic(auto, unfolding(claxon_format::specs::read::Subframe::linear_at, claxon_format::specs::Fault::fault_text))]
+fn decode_lpc<R: ReadBytes>(
+    input: &mut Bitstream<R>,
+    bps: u32,
+    order: u32,
+    buffer: &mut [i32],
+) -> Result<()>
+    requires some { 0 < bps }
+    requires width { bps ≤ 32 }
+    requires order { order ≤ 32 }
+    requires block { length buffer.old < 65536 }
+    ensures { Gives (λ x. buffer.new) result (linear_at bps (length buffer.old) order) (bits_in R.source input.old) (bits_in R.source input.new) }
+{
+    if buffer.len() < order as usize {
+        return Err(Error::FormatError("invalid LPC subframe, lpc order is larger than block size"));
+    }
+    let block_size = buffer.len() as u16;
+    let order = order as usize;
+    decode_verbatim(input, bps, &mut buffer[..order])?;
+    let lpc = read_lpc_parameters(input)?;
+    let mut numbers = [0i16; 32];
+    let coefficients = &mut numbers[..order];
+    read_coefficients(input, lpc.precision, coefficients)?;
+    decode_residual(input, block_size, &mut buffer[order..])?;
+    predict_lpc(coefficients, lpc.shift, buffer);
+    Ok(())
+}
+
+/// How many bits the parameter of a partition has: 4 or 5.
+#[derive(Clone, Copy, Debug)]
+enum RicePartitionType {
+    Rice,
+    Rice2,
+}
+
+#[tactic(auto, unfolding(claxon_format::specs::read::Residual::method_at, claxon_format::specs::Fault::fault_text))]
+fn read_partition_type<R: ReadBytes>(input: &mut Bitstream<R>) -> Result<RicePartitionType>
+    ensures { Gives method_of result method_at (bits_in R.source input.old) (bits_in R.source input.new) }
+{
+    match input.read_leq_u8(2)? {
+        0b00 => Ok(RicePartitionType::Rice),
+        0b01 => Ok(RicePartitionType::Rice2),
+        _ => Err(Error::FormatError("invalid residual, encountered reserved value")),
+    }
+}
+
+// A residual of as many entries as the buffer is long, which are the last of the block's.
+fn decode_residual<R: ReadBytes>(
+    input: &mut Bitstream<R>,
+    block_size: u16,
+    buffer: &mut [i32],
+) -> Result<()>
+    requires { length buffer.old ≤ block_size }
+    ensures { Gives (λ x. buffer.new) result (residual_at block_size (block_size - length buffer.old)) (bits_in R.source input.old) (bits_in R.source input.new) }
+{
+    let partition_type = read_partition_type(input)?;
+    let order = u32::from(input.read_leq_u8(4)?);
+    let n_partitions = 1u32 << order;
+    let n_samples_per_partition = block_size >> order;
+    if u32::from(block_size) & (n_partitions - 1) != 0 {
+        return Err(Error::FormatError("invalid partition order"));
+    }
+    let n_warm_up = block_size - buffer.len() as u16;
+    if n_warm_up > n_samples_per_partition {
+        return Err(Error::FormatError("invalid residual"));
+    }
+    decode_partitions(
+        input,
+        partition_type,
+        n_partitions,
+        n_samples_per_partition - n_warm_up,
+        n_samples_per_partition,
+        buffer,
+    )
+}
+
+// So many partitions, the first of `first` entries and the others of `each`.
+fn decode_partitions<R: ReadBytes>(
+    input: &mut Bitstream<R>,
+    partition_type: RicePartitionType,
+    n_partitions: u32,
+    first: u16,
+    each: u16,
+    buffer: &mut [i32],
+) -> Result<()>
+    requires { total (lengths n_partitions first each) ≡ length buffer.old }
+    ensures { Gives (λ x. buffer.new) result (joined_at (partition_at (method_of partition_type)) (lengths n_partitions first each)) (bits_in R.source input.old) (bits_in R.source input.new) }
+{
+    let mut start = 0;
+    let mut len = first as usize;
+    for _ in 0..n_partitions {
+        decode_partition(input, partition_type, &mut buffer[start..start + len])?;
+        start += len;
+        len = each as usize;
+    }
+    Ok(())
+}
+
+fn decode_partition<R: ReadBytes>(
+    input: &mut Bitstream<R>,
+    partition_type: RicePartitionType,
+    buffer: &mut [i32],
+) -> Result<()>
+    ensures { Gives (λ x. buffer.new) result (partition_at (method_of partition_type) (length buffer.old)) (bits_in R.source input.old) (bits_in R.source input.new) }
+{
+    match partition_type {
+        RicePartitionType::Rice => decode_rice_partition(input, buffer),
+        RicePartitionType::Rice2 => decode_rice2_partition(input, buffer),
+    }
+}
+
+// A partition under a parameter of 4 bits, where 15 is the escape.
+#[tactic(auto, unfolding(claxon_format::specs::read::Residual::partition_at, claxon_format::specs::read::Residual::escaped_at))]
+fn decode_rice_partition<R: ReadBytes>(input: &mut Bitstream<R>, buffer: &mut [i32]) -> Result<()>
+    ensures { Gives (λ x. buffer.new) result (partition_at 0 (length buffer.old)) (bits_in R.source input.old) (bits_in R.source input.new) }
+{
+    let rice_param = u32::from(input.read_leq_u8(4)?);
+    if rice_param == 0b1111 {
+        return decode_escape_partition(input, buffer);
+    }
+    read_words(input, rice_param, buffer)
+}
+
+// A partition under a parameter of 5 bits, where 31 is the escape.
+#[tactic(auto, unfolding(claxon_format::specs::read::Residual::partition_at, claxon_format::specs::read::Residual::escaped_at))]
+fn decode_rice2_partition<R: ReadBytes>(input: &mut Bitstream<R>, buffer: &mut [i32]) -> Result<()>
+    ensures { Gives (λ x. buffer.new) result (partition_at 1 (length buffer.old)) (bits_in R.source input.old) (bits_in R.source input.new) }
+{
+    let rice_param = u32::from(input.read_leq_u8(5)?);
+    if rice_param == 0b11111 {
+        return decode_escape_partition(input, buffer);
+    }
+    read_words(input, rice_param, buffer)
+}
+
+// Entries that are no words: a width of 5 bits, and each entry in that width. In none each is 0.
+#[tactic(auto, unfolding(claxon_format::specs::read::Residual::escaped_at, claxon_format::specs::read::Residual::raw_at))]
+fn decode_escape_partition<R: ReadBytes>(input: &mut Bitstream<R>, buffer: &mut [i32]) -> Result<()>
+    ensures { Gives (λ x. buffer.new) result (escaped_at (length buffer.old)) (bits_in R.source input.old) (bits_in R.source input.new) }
+{
+    let width = u32::from(input.read_leq_u8(5)?);
+    if width == 0 {
+        buffer.fill(0);
+        return Ok(());
+    }
+    decode_verbatim(input, width, buffer)
+}

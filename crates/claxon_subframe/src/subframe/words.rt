@@ -1,0 +1,106 @@
+//! The words of a partition: most of a stream, and so most of its time. They are read from the bits at hand, where no call
+//! can fail, and then these bits are skipped at once.
+ghost use Rattle.std.specs.Prelude.{◌≡◌, ◌≤◌, ◌++◌, IfOk, IfErr, OnErr, MatchOption, length, take};
+ghost use Rattle.claxon_format.specs.Bits.{Bits, unfold_at};
+ghost use Rattle.claxon_format.specs.Reading.{Done, times_at};
+ghost use Rattle.claxon_format.specs.read.Bits.{word_at};
+ghost use Rattle.claxon_input.specs.Ahead.{bits_ahead, GivesAhead};
+ghost use Rattle.claxon_input.specs.State.{bits_in};
+ghost use Rattle.claxon_input.specs.Gives.{Gives, Went, Stuck};
+ghost use Rattle.claxon_input.specs.Error.{IsIo};
+ghost use Rattle.claxon_subframe.specs.Words.{WordsAreRead};
+
+use claxon_input::error::Result;
+use claxon_input::input::{Ahead, Bitstream, ReadBytes};
+
+/// So many words as the buffer is long.
+pub fn read_words<R: ReadBytes>(
+    input: &mut Bitstream<R>,
+    parameter: u32,
+    buffer: &mut [i32],
+) -> Result<()>
+    requires { parameter ≤ 30 }
+    ensures { WordsAreRead R.source parameter input.old result input.new buffer.old buffer.new }
+{
+    let mut start = 0;
+    while start < buffer.len() {
+        start += read_words_at_hand(input, parameter, &mut buffer[start..])?;
+        if start < buffer.len() {
+            buffer[start] = read_word(input, parameter)?;
+            start += 1;
+        }
+    }
+    Ok(())
+}
+
+// Reads the words that stand whole in the bits at hand, and says how many. Only the source can fail.
+fn read_words_at_hand<R: ReadBytes>(
+    input: &mut Bitstream<R>,
+    parameter: u32,
+    buffer: &mut [i32],
+) -> Result<usize>
+    requires { parameter ≤ 30 }
+    ensures few { IfOk result (λ words. words ≤ length buffer.new) }
+    ensures ok { IfOk result (λ words. Went (bits_in R.source input.old) (bits_in R.source input.new) (λ s m. times_at words (word_at parameter) s ≡ Done (take words buffer.new) m)) }
+    ensures io { IfErr result IsIo }
+    ensures err { OnErr result (Stuck (bits_in R.source input.old) (bits_in R.source input.new) (λ s. ⊥)) }
+{
+    let mut ahead = input.ahead();
+    let bits = ahead.len();
+    let words = words_ahead(&mut ahead, parameter, buffer);
+    let passed = bits - ahead.len();
+    input.skip_bits(passed)?;
+    Ok(words)
+}
+
+#[inline(never)]
+fn words_ahead(ahead: &mut Ahead, parameter: u32, buffer: &mut [i32]) -> usize
+    requires { parameter ≤ 30 }
+    ensures few { result ≤ length buffer.new }
+    ensures words { (rest : Bits) → times_at result (word_at parameter) (bits_ahead ahead.old ++ rest) ≡ Done (take result buffer.new) (bits_ahead ahead.new ++ rest) }
+{
+    let mut words = 0;
+    for entry in buffer.iter_mut() {
+        let Some(word) = word_ahead(ahead, parameter) else {
+            break;
+        };
+        *entry = word;
+        words += 1;
+    }
+    words
+}
+
+// A word, where it stands whole in the bits at hand.
+#[inline(always)]
+fn word_ahead(ahead: &mut Ahead, parameter: u32) -> Option<i32>
+    requires { parameter ≤ 30 }
+    ensures { MatchOption result (bits_ahead ahead.new ≡ bits_ahead ahead.old) (GivesAhead ahead.old ahead.new (word_at parameter)) }
+{
+    let mut next = *ahead;
+    let quotient = next.unary()?;
+    let low = next.number(parameter)?;
+    *ahead = next;
+    Some(rice_to_signed((quotient << parameter) | low))
+}
+
+// A quotient in as many zeros, a one, and `parameter` low bits. The number is taken modulo 2^32.
+#[inline(always)]
+#[tactic(auto, unfolding(claxon_format::specs::read::Bits::word_at))]
+fn read_word<R: ReadBytes>(input: &mut Bitstream<R>, parameter: u32) -> Result<i32>
+    requires { parameter ≤ 30 }
+    ensures { Gives (λ x. x) result (word_at parameter) (bits_in R.source input.old) (bits_in R.source input.new) }
+{
+    let quotient = input.read_unary()?;
+    let low = input.read_leq_u32(parameter)?;
+    Ok(rice_to_signed((quotient << parameter) | low))
+}
+
+// The entry that a folded number stands for: 0, -1, 1, -2, 2, ..
+#[inline(always)]
+fn rice_to_signed(val: u32) -> i32
+    ensures { result ≡ unfold_at val }
+{
+    let half = (val >> 1) as i32;
+    let extended_bit_0 = (val << 31).cast_signed() >> 31;
+    half ^ extended_bit_0
+}
