@@ -4,16 +4,12 @@
 mod trace;
 
 use claxon::Result;
+use claxon_write::words;
+use std::fs;
 use std::io::{BufWriter, Read, Write};
 use std::process::ExitCode;
-use std::rt::{Env, Files};
-use std::{env, fs, io};
+use std::rt::Files;
 use trace::trace;
-
-// The arguments after the program's name. One that isn't UTF-8 is an error.
-fn words<Q: Env + AllocGlobal>(rt: &Q) -> io::Result<Vec<String>> {
-    Ok(env::args(rt)?.skip(1).collect(rt.alloc())?)
-}
 
 // Whether no call answered a fault.
 fn trace_file<Q: Files + AllocGlobal, W: Write + Drop>(
@@ -31,16 +27,34 @@ where
     Ok(is_clean)
 }
 
-fn main(rt: HostRuntime) -> ExitCode {
-    let words = words(&rt).unwrap_or(Vec::new(rt.alloc()));
-    let mut errors = rt.stderr();
-    let [name] = words.as_slice() else {
-        let _ = writeln!(&mut errors, "usage: claxon_trace FILE");
-        return ExitCode::from(2);
+// The status: 0 where no call answered a fault, 1 where one did, 2 for arguments that the usage line doesn't have.
+fn command<Q: Files + AllocGlobal, W: Write + Drop, E: Write>(
+    rt: &Q,
+    words: &[String],
+    output: W,
+    errors: &mut E,
+) -> u8
+where
+    Q::File: Read,
+{
+    let [name] = words else {
+        let _ = writeln!(errors, "usage: claxon_trace FILE");
+        return 2;
     };
-    match trace_file(&rt, name.as_str(), rt.stdout()) {
-        Ok(true) => ExitCode::from(0),
-        Ok(false) => ExitCode::from(1),
+    match trace_file(rt, name.as_str(), output) {
+        Ok(true) => 0,
+        Ok(false) => 1,
+        Err(error) => {
+            let _ = writeln!(errors, "{error}");
+            1
+        }
+    }
+}
+
+fn main(rt: HostRuntime) -> ExitCode {
+    let mut errors = rt.stderr();
+    match words(&rt) {
+        Ok(words) => ExitCode::from(command(&rt, &words, rt.stdout(), &mut errors)),
         Err(error) => {
             let _ = writeln!(&mut errors, "{error}");
             ExitCode::from(1)

@@ -1,9 +1,0 @@
-use Rattle.std.proofs.Common.{◌≡◌, ◌≤◌, ◌-◌, ℕ, ◌++◌, List, length, take}
-use Rattle.std.specs.Io.KnownBytes.{Appends}
-use Rattle.claxon_raw.proofs.output.Counted.write_whole.Given as goal
-
-abbrev pub invariant-loop-at : goal.invariant-loop-at
-invariant-loop-at g l = (l.at ≤ length l.bytes) × Appends (g.W.Write.contents l.initial.self.inner.now) (g.W.Write.contents l.self.inner.now) (take l.at l.bytes) × (l.self.inner.ghost_name ≡ l.initial.self.inner.ghost_name) × (l.self.failures ≡ l.initial.self.failures)
-
-abbrev pub decreases-loop-at : goal.decreases-loop-at
-decreases-loop-at g l = length l.bytes - l.at

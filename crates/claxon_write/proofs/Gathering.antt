@@ -1,0 +1,98 @@
+-- Blocks that are read and gathered one after another.
+use Rattle.std.proofs.Common.{◌≡◌, inl, inr, ℕ, ◌+◌, ◌*◌, ◌<◌, ◌≤◌, ◌^◌, true, false, List, [], ◌∷◌, ◌++◌, length, Option, None, Some, refl, sym, ap, subst, ◌∙◌, arith, length-append}
+use Rattle.std.specs.Prelude.{Result, Ok, Err}
+use Rattle.claxon_format.specs.Frame.{StreamShape, Block}
+use Rattle.claxon_format.specs.read.Frame.{frame_bytes_at}
+use Rattle.claxon_format.specs.Reading.{Reading}
+use Rattle.claxon_format.specs.Streams.{interleave}
+use Rattle.claxon_format.proofs.Streams.{length-interleave}
+use Rattle.claxon_input.specs.State.{State}
+use Rattle.claxon_input.specs.declared.error.Error.{Error}
+use Rattle.claxon_input.specs.declared.error.Error.TheVariants.{IoError, FormatError, Unsupported, OutOfMemory}
+use Rattle.claxon_input.proofs.CallsInTurn.{stops_loans}
+use Rattle.claxon_input.specs.Gives.{GivesOrEndsOrStarves, or_end}
+use Rattle.claxon_frame.specs.Block.{BlockValue, duration_of}
+use Rattle.claxon_frame.specs.FrameReader.{ReadsFrame, block_view}
+use Rattle.claxon.specs.SampleRuns.{TakesFrames, samples_of}
+use Rattle.claxon.proofs.SamplesInTurn.{reads_as, same_duration}
+use Rattle.claxon.proofs.SampleRuns.{samples_add, takes_none, takes_more}
+use Rattle.claxon_write.specs.Decoded.{IsLimit, Gathers, FailsToWrite}
+use Rattle.claxon_write.specs.SampleBytes.{bytes_of_samples}
+use Rattle.claxon_write.specs.Written.{FailsToPut, Puts}
+use Rattle.claxon_write.specs.declared.output.Output.{Output}
+use Rattle.claxon_write.proofs.Puts.{puts_none, puts_both, puts_as, fails_after, fails_as, bytes_append}
+
+pub record GatheredSoFar {W : Type 0} (contents : W → Option (List ℕ)) (stream : Option StreamShape) (n : ℕ) (old new : State ℕ) (before after : Output W) : Type 0 where
+  pub blocks : List Block
+  pub frames : TakesFrames stream blocks old new
+  pub count : n ≡ length (samples_of blocks)
+  pub puts : Puts contents (bytes_of_samples (samples_of blocks)) before after
+
+-- the same where what is known of the stream and the answer have other names
+pub reads_with : {stream known : Option StreamShape} {r q : Result (Option BlockValue) Error} {a b : State ℕ} → stream ≡ known → r ≡ q → ReadsFrame stream r a b → ReadsFrame known q a b
+reads_with {q = q} {a = a} {b = b} e f h = subst (λ (z : Option StreamShape). ReadsFrame z q a b) e (reads_as f h)
+
+-- the loans on the way stay
+loans_stay : {A Y : Type 0} (count : ℕ) (view : A → Y) (r : Result (Option A) Error) (read : List ℕ → Reading ℕ Y) (a b : State ℕ) → GivesOrEndsOrStarves count view r read a b → b.loans ≡ a.loans
+loans_stay count view (Ok (Some x)) read a b g = g.loans
+loans_stay count view (Ok None) read a b g = g.loans
+loans_stay count view (Err OutOfMemory) read a b g = g.went.loans
+loans_stay count view (Err (IoError cause)) read a b g = stops_loans (IoError cause) (or_end count read) a b true refl g
+loans_stay count view (Err (FormatError text)) read a b g = stops_loans (FormatError text) (or_end count read) a b false refl g
+loans_stay count view (Err (Unsupported text)) read a b g = stops_loans (Unsupported text) (or_end count read) a b false refl g
+
+pub reads_loans : {stream : Option StreamShape} {r : Result (Option BlockValue) Error} {a b : State ℕ} → ReadsFrame stream r a b → b.loans ≡ a.loans
+reads_loans {stream = stream} {r = r} {a = a} {b = b} h = loans_stay 2 block_view r (frame_bytes_at stream) a b h.gives
+
+pub not_below : (a b : ℕ) → (a < b → ⊥) → b ≤ a
+not_below a b h = omega (arith, h)
+
+more_bytes : (blocks : List Block) (block : BlockValue) → bytes_of_samples (samples_of blocks) ++ bytes_of_samples (interleave block.channels) ≡ bytes_of_samples (samples_of (blocks ++ block_view block ∷ []))
+more_bytes blocks block = sym (ap bytes_of_samples (samples_add blocks (block_view block)) ∙ bytes_append (samples_of blocks) (interleave block.channels))
+
+more_count : (blocks : List Block) (block : BlockValue) (n len : ℕ) → n ≡ length (samples_of blocks) → len ≡ length block.channels * duration_of block.channels → n + len ≡ length (samples_of (blocks ++ block_view block ∷ []))
+more_count blocks block n len e f =
+    let l = length-interleave block.channels in
+    let d = same_duration block.channels in
+    let m : length (samples_of blocks ++ interleave block.channels) ≡ length (samples_of blocks) + length (interleave block.channels) = length-append (samples_of blocks) (interleave block.channels) in
+    let k : length (interleave block.channels) ≡ len = l ∙ ap (λ (z : ℕ). z * length block.channels) d ∙ omega (arith, f) in
+    omega (arith, e, k) ∙ sym (ap length (samples_add blocks (block_view block)) ∙ m)
+
+module _ {W : Type 0} {contents : W → Option (List ℕ)} {stream : Option StreamShape} where
+  pub gathered_none : (a : State ℕ) (o : Output W) → GatheredSoFar contents stream 0 a a o o
+  unfolding bytes_of_samples
+  gathered_none a o = record { blocks = []; frames = takes_none stream a; count = refl; puts = puts_none o }
+
+  pub gathered_more : {n len : ℕ} (block : BlockValue) {a b c : State ℕ} {x y z : Output W} → len ≡ length block.channels * duration_of block.channels → GatheredSoFar contents stream n a b x y → ReadsFrame stream (Ok (Some block)) b c
+      → Puts contents (bytes_of_samples (interleave block.channels)) y z → GatheredSoFar contents stream (n + len) a c x z
+  gathered_more {n = n} {len = len} block len-is h k p = record {
+    blocks = h.blocks ++ block_view block ∷ [];
+    frames = takes_more block h.frames k;
+    count = more_count h.blocks block n len h.count len-is;
+    puts = puts_as (more_bytes h.blocks block) (puts_both h.puts p);
+  }
+
+  pub gathered_as : {n m : ℕ} {a b : State ℕ} {x y : Output W} → n ≡ m → GatheredSoFar contents stream n a b x y → GatheredSoFar contents stream m a b x y
+  gathered_as {a = a} {b = b} {x = x} {y = y} e h = subst (λ (k : ℕ). GatheredSoFar contents stream k a b x y) e h
+
+  pub gathered_end : {n : ℕ} {a b c : State ℕ} {x y : Output W} → GatheredSoFar contents stream n a b x y → ReadsFrame stream (Ok None) b c → Gathers contents stream None n a c x y
+  gathered_end {b = b} h k = record { blocks = h.blocks; ends = record { between = b; blocks_are = h.frames; last = k }; count = h.count; puts = h.puts }
+
+  pub gathered_fault : {n : ℕ} {error : Error} {a b c : State ℕ} {x y : Output W} → GatheredSoFar contents stream n a b x y → ReadsFrame stream (Err error) b c → Gathers contents stream (Some error) n a c x y
+  gathered_fault {b = b} h k = record { blocks = h.blocks; ends = inl (record { between = b; blocks_are = h.frames; last = k }); count = h.count; puts = h.puts }
+
+  pub gathered_limit : {n len : ℕ} {error : Error} (block : BlockValue) {a b c : State ℕ} {x y : Output W} → IsLimit error → len ≡ length block.channels * duration_of block.channels → 2 ^ 64 ≤ n + len → GatheredSoFar contents stream n a b x y
+      → ReadsFrame stream (Ok (Some block)) b c → Gathers contents stream (Some error) n a c x y
+  gathered_limit {n = n} {len = len} block limit len-is many h k = record {
+    blocks = h.blocks;
+    ends = inr (record { is_limit = limit; last = block_view block; frames = takes_more block h.frames k; many = (let e = more_count h.blocks block n len h.count len-is in omega (arith, many, e)) });
+    count = h.count;
+    puts = h.puts;
+  }
+
+  pub gathered_fails : {n : ℕ} {error : Error} (block : BlockValue) {a b c : State ℕ} {x y z : Output W} → GatheredSoFar contents stream n a b x y → ReadsFrame stream (Ok (Some block)) b c
+      → FailsToPut contents (bytes_of_samples (interleave block.channels)) error y z → FailsToWrite contents stream error a x z
+  gathered_fails block {a = a} {c = c} h k f =
+      let w = takes_more block h.frames k in
+      let p = fails_as (more_bytes h.blocks block) (fails_after h.puts f) in
+      record { is_io = p.is_io; failures = p.failures; blocks = h.blocks ++ block_view block ∷ []; frames = λ told. (c.coming, (w.went.known told).is); front = p.front }

@@ -1,0 +1,226 @@
+-- Bytes that are written or wait.
+use Rattle.std.proofs.Common.{◌≡◌, ℕ, zero, suc, ◌+◌, ◌%◌, ◌^◌, List, [], ◌∷◌, ◌++◌, length, take, drop, Option, None, Some, refl, sym, ap, subst, ◌∙◌, append_assoc, arith, ℤ}
+use Rattle.std.specs.Prelude.{IfErr, OnOk, OnErr, Result, Ok, Err}
+use Rattle.std.specs.Io.KnownBytes.{Appends, Keeps, append_known}
+use Rattle.std.specs.List.{flat_map, range_with_len}
+use Rattle.std.proofs.Math.Seq.{take-add}
+use Rattle.std.proofs.lemmas.List.{append-nil, append_cancel_left, take_at, drop_at, take_all, take-append-drop}
+use Rattle.claxon_format.specs.Streams.{duration, interleave, samples_at}
+use Rattle.claxon_input.specs.Error.{IsIo}
+use Rattle.claxon_input.specs.declared.error.Error.{Error}
+use Rattle.claxon_write.specs.SampleBytes.{bytes_of_samples, places, sample_bytes}
+use Rattle.claxon_write.specs.Written.{AppendsFront, FailsToPut, Puts, held, held_and_waiting, output_failures, waiting}
+use Rattle.claxon_frame.specs.Block.{duration_of}
+use Rattle.claxon.proofs.SamplesInTurn.{same_duration}
+use Rattle.claxon_write.specs.declared.output.Counted.{Counted}
+use Rattle.claxon_write.specs.declared.output.Output.{Output}
+
+pub appends_nothing : (o : Option (List ℕ)) → Appends o o []
+appends_nothing None = tt
+appends_nothing (Some xs) = sym (append-nil xs)
+
+pub appends_keeps : (a b c : Option (List ℕ)) (xs : List ℕ) → Appends a b xs → Keeps b c → Appends a c xs
+appends_keeps None b c xs h k = tt
+appends_keeps (Some x) None c xs h k = absurd h
+appends_keeps (Some x) (Some y) None xs h k = absurd k
+appends_keeps (Some x) (Some y) (Some z) xs h k = k ∙ h
+
+-- a front was written before the failure
+pub front_kept : (a b c : Option (List ℕ)) (at : ℕ) (xs : List ℕ) → Appends a b (take at xs) → Keeps b c → AppendsFront a c xs
+front_kept a b c at xs h k = (at, appends_keeps a b c (take at xs) h k)
+
+-- all is a front
+pub front_all : (a b : Option (List ℕ)) (xs : List ℕ) → Appends a b xs → AppendsFront a b xs
+front_all a b xs h = (length xs, subst (λ (z : List ℕ). Appends a b z) (sym (take_all (length xs) xs (omega arith))) h)
+
+pub front_none : (a : Option (List ℕ)) (xs : List ℕ) → AppendsFront a a xs
+front_none a xs = (0, appends_nothing a)
+
+pub front_held : (a b : Option (List ℕ)) (xs : List ℕ) → Keeps a b → AppendsFront a b xs
+front_held None b xs k = (0, tt)
+front_held (Some x) None xs k = absurd k
+front_held (Some x) (Some y) xs k = (0, k ∙ sym (append-nil x))
+
+-- ---- what waits
+
+-- more waits
+pub more_waits : (a : Option (List ℕ)) (w bytes : List ℕ) → Appends (append_known a w) (append_known a (w ++ bytes)) bytes
+more_waits None w bytes = tt
+more_waits (Some x) w bytes = sym (append_assoc x w bytes)
+
+-- what waited was written
+pub none_waits : (a b : Option (List ℕ)) (w : List ℕ) → Appends a b w → Appends (append_known a w) (append_known b []) []
+none_waits None b w h = tt
+none_waits (Some x) None w h = absurd h
+none_waits (Some x) (Some y) w h = ap (λ (z : List ℕ). z ++ []) h
+
+-- where none waits, what is held is all
+pub held_alone : (a b : Option (List ℕ)) (w bytes : List ℕ) → w ≡ [] → Appends a (append_known b w) bytes → Appends a b bytes
+held_alone None b w bytes e h = tt
+held_alone (Some x) None w bytes e h = absurd h
+held_alone (Some x) (Some y) w bytes e h = (let k = rw e at h in sym (append-nil y) ∙ k)
+
+fronts : (x y z wa wb xs ys : List ℕ) (j k : ℕ) → y ≡ x ++ take j (wa ++ xs) → y ++ wb ≡ (x ++ wa) ++ xs → z ≡ y ++ take k (wb ++ ys) → z ≡ x ++ take (length (take j (wa ++ xs)) + k) (wa ++ (xs ++ ys))
+fronts x y z wa wb xs ys j k f e g =
+    let p = take j (wa ++ xs) in
+    let both : x ++ (p ++ wb) ≡ x ++ (wa ++ xs) = sym (append_assoc x p wb) ∙ ap (λ (t : List ℕ). t ++ wb) (sym f) ∙ e ∙ append_assoc x wa xs in
+    let same : p ++ wb ≡ wa ++ xs = append_cancel_left x (p ++ wb) (wa ++ xs) both in
+    let whole : wa ++ (xs ++ ys) ≡ p ++ (wb ++ ys) = sym (append_assoc wa xs ys) ∙ ap (λ (t : List ℕ). t ++ ys) (sym same) ∙ append_assoc p wb ys in
+    let cut : take (length p + k) (p ++ (wb ++ ys)) ≡ p ++ take k (wb ++ ys) = take-add (length p) k (p ++ (wb ++ ys)) ∙ (rw (take_at p (wb ++ ys) (length p) refl, drop_at p (wb ++ ys) (length p) refl) refl) in
+    g ∙ ap (λ (t : List ℕ). t ++ take k (wb ++ ys)) f ∙ append_assoc x p (take k (wb ++ ys)) ∙ ap (λ (t : List ℕ). x ++ t) (sym cut ∙ ap (take (length p + k)) (sym whole))
+
+pub front_both : (a b c : Option (List ℕ)) (wa wb xs ys : List ℕ) → AppendsFront a b (wa ++ xs) → Appends (append_known a wa) (append_known b wb) xs → AppendsFront b c (wb ++ ys) → AppendsFront a c (wa ++ (xs ++ ys))
+front_both None b c wa wb xs ys f e g = (0, tt)
+front_both (Some x) None c wa wb xs ys f e g = absurd e
+front_both (Some x) (Some y) None wa wb xs ys f e g = absurd g.1
+front_both (Some x) (Some y) (Some z) wa wb xs ys f e g = (length (take f.0 (wa ++ xs)) + g.0, fronts x y z wa wb xs ys f.0 g.0 f.1 e g.1)
+
+appends_both : (a b c : Option (List ℕ)) (xs ys : List ℕ) → Appends a b xs → Appends b c ys → Appends a c (xs ++ ys)
+appends_both None b c xs ys h k = tt
+appends_both (Some x) None c xs ys h k = absurd h
+appends_both (Some x) (Some y) None xs ys h k = absurd k
+appends_both (Some x) (Some y) (Some z) xs ys h k = k ∙ (ap (λ t. t ++ ys) h ∙ append_assoc x xs ys)
+
+-- a list is a front of it and what is behind
+take_parts : (k : ℕ) (s : List ℕ) → s ≡ take k s ++ drop k s
+take_parts k s = sym (take-append-drop k s)
+
+-- ---- one after another
+
+module _ {W : Type 0} {contents : W → Option (List ℕ)} where
+  pub puts_none : (a : Output W) → Puts contents [] a a
+  puts_none a = record { front = front_none (held contents a) (waiting a ++ []); bytes_are = appends_nothing (held_and_waiting contents a); failures = refl }
+
+  pub puts_both : {xs ys : List ℕ} {a b c : Output W} → Puts contents xs a b → Puts contents ys b c → Puts contents (xs ++ ys) a c
+  puts_both {xs = xs} {ys = ys} {a = a} {b = b} {c = c} h k = record {
+    front = front_both (held contents a) (held contents b) (held contents c) (waiting a) (waiting b) xs ys h.front h.bytes_are k.front;
+    bytes_are = appends_both (held_and_waiting contents a) (held_and_waiting contents b) (held_and_waiting contents c) xs ys h.bytes_are k.bytes_are;
+    failures = k.failures ∙ h.failures;
+  }
+
+  pub puts_as : {xs ys : List ℕ} {a b : Output W} → xs ≡ ys → Puts contents xs a b → Puts contents ys a b
+  puts_as {a = a} {b = b} e h = subst (λ (z : List ℕ). Puts contents z a b) e h
+
+  pub fails_after : {xs ys : List ℕ} {error : Error} {a b c : Output W} → Puts contents xs a b → FailsToPut contents ys error b c → FailsToPut contents (xs ++ ys) error a c
+  fails_after {xs = xs} {ys = ys} {a = a} {b = b} {c = c} h k = record {
+    is_io = k.is_io;
+    failures = k.failures ∙ ap (λ (n : ℕ). (n + 1) % 2 ^ 64) h.failures;
+    front = front_both (held contents a) (held contents b) (held contents c) (waiting a) (waiting b) xs ys h.front h.bytes_are k.front;
+    none_wait = k.none_wait;
+  }
+
+  pub fails_as : {xs ys : List ℕ} {error : Error} {a b : Output W} → xs ≡ ys → FailsToPut contents xs error a b → FailsToPut contents ys error a b
+  fails_as {error = error} {a = a} {b = b} e h = subst (λ (z : List ℕ). FailsToPut contents z error a b) e h
+
+  -- what was asked for is more than what failed
+  pub fails_more : {xs : List ℕ} (ys : List ℕ) {error : Error} {a b : Output W} → FailsToPut contents xs error a b → FailsToPut contents (xs ++ ys) error a b
+  fails_more {xs = xs} ys {a = a} {b = b} h = record {
+    is_io = h.is_io;
+    failures = h.failures;
+    front = longer (held contents a) (held contents b) (waiting a) xs ys h.front;
+    none_wait = h.none_wait;
+  }
+    where
+      longer : (p q : Option (List ℕ)) (w xs ys : List ℕ) → AppendsFront p q (w ++ xs) → AppendsFront p q (w ++ (xs ++ ys))
+      longer p q w xs ys f =
+          let front : List ℕ = take f.0 (w ++ xs) in
+          (length front, subst (λ (z : List ℕ). Appends p q z) (cut (w ++ xs) ys f.0 ∙ ap (take (length front)) (append_assoc w xs ys)) f.1)
+        where
+          cut : (s t : List ℕ) (k : ℕ) → take k s ≡ take (length (take k s)) (s ++ t)
+          cut s t k =
+              let p : List ℕ = take k s in
+              sym (ap (λ (z : List ℕ). take (length p) (z ++ t)) (take_parts k s) ∙ ap (take (length p)) (append_assoc p (drop k s) t) ∙ take_at p (drop k s ++ t) (length p) refl)
+
+still_waits : (p q : Option (List ℕ)) (w : List ℕ) → Keeps p q → Appends (append_known p w) (append_known q w) []
+still_waits None q w k = tt
+still_waits (Some x) None w k = absurd k
+still_waits (Some x) (Some y) w k = ap (λ (z : List ℕ). z ++ w) k ∙ sym (append-nil (x ++ w))
+
+-- ---- what the calls of the writer did
+
+module _ {W : Type 0} (contents : W → Option (List ℕ)) where
+  pub gathered_ok : (r : Result (Unit {0}) Error) (a b : Output W) (bytes : List ℕ) → bytes ≡ waiting a → waiting b ≡ [] → OnOk r (Appends (held contents a) (held contents b) bytes) → OnOk r (output_failures b ≡ output_failures a) → OnOk r (Puts contents [] a b)
+  gathered_ok (Err e) a b bytes same none h k = tt
+  gathered_ok (Ok x) a b bytes same none h k =
+      let w : Appends (held contents a) (held contents b) (waiting a) = subst (λ (z : List ℕ). Appends (held contents a) (held contents b) z) same h in
+      record {
+        front = subst (λ (z : List ℕ). AppendsFront (held contents a) (held contents b) z) (sym (append-nil (waiting a))) (front_all (held contents a) (held contents b) (waiting a) w);
+        bytes_are = subst (λ (z : List ℕ). Appends (held_and_waiting contents a) (append_known (held contents b) z) []) (sym none) (none_waits (held contents a) (held contents b) (waiting a) w);
+        failures = k;
+      }
+
+  pub gathered_err : (r : Result (Unit {0}) Error) (a b : Output W) (bytes : List ℕ) → bytes ≡ waiting a → waiting b ≡ [] → IfErr r (λ e. IsIo e) → OnErr r (AppendsFront (held contents a) (held contents b) bytes)
+      → OnErr r (output_failures b ≡ (output_failures a + 1) % 2 ^ 64) → IfErr r (λ e. FailsToPut contents [] e a b)
+  gathered_err (Ok x) a b bytes same none i h k = tt
+  gathered_err (Err e) a b bytes same none i h k = record {
+    is_io = i;
+    failures = k;
+    front = subst (λ (z : List ℕ). AppendsFront (held contents a) (held contents b) z) (same ∙ sym (append-nil (waiting a))) h;
+    none_wait = none;
+  }
+
+  pub flushed_ok : (r : Result (Unit {0}) Error) (a b c : Output W) → Puts contents [] a b → waiting c ≡ waiting b → Keeps (held contents b) (held contents c) → OnOk r (output_failures c ≡ output_failures b) → OnOk r (Puts contents [] a c)
+  flushed_ok (Err e) a b c h w k t = tt
+  flushed_ok (Ok x) a b c h w k t = puts_both h (record {
+    front = front_held (held contents b) (held contents c) (waiting b ++ []) k;
+    bytes_are = subst (λ (z : List ℕ). Appends (held_and_waiting contents b) (append_known (held contents c) z) []) (sym w) (still_waits (held contents b) (held contents c) (waiting b) k);
+    failures = t;
+  })
+
+  pub flushed_err : (r : Result (Unit {0}) Error) (a b c : Output W) → Puts contents [] a b → waiting c ≡ [] → Keeps (held contents b) (held contents c) → IfErr r (λ e. IsIo e) → OnErr r (output_failures c ≡ (output_failures b + 1) % 2 ^ 64)
+      → IfErr r (λ e. FailsToPut contents [] e a c)
+  flushed_err (Ok x) a b c h w k i t = tt
+  flushed_err (Err e) a b c h w k i t = fails_after h (record { is_io = i; failures = t; front = front_held (held contents b) (held contents c) (waiting b ++ []) k; none_wait = w })
+
+  -- more bytes wait, and the writer was left alone
+  pub puts_waiting : (a b : Output W) (bytes : List ℕ) → b.writer ≡ a.writer → waiting b ≡ waiting a ++ bytes → Puts contents bytes a b
+  puts_waiting a b bytes same more =
+      let h : held contents b ≡ held contents a = ap (λ (w : Counted W). contents w.inner.now) same in
+      record {
+        front = subst (λ (o : Option (List ℕ)). AppendsFront (held contents a) o (waiting a ++ bytes)) (sym h) (front_none (held contents a) (waiting a ++ bytes));
+        bytes_are = rw (h, more) (more_waits (held contents a) (waiting a) bytes);
+        failures = ap (λ (w : Counted W). w.failures) same;
+      }
+
+-- ---- samples as bytes
+
+pub bytes_append : (xs ys : List ℤ) → bytes_of_samples (xs ++ ys) ≡ bytes_of_samples xs ++ bytes_of_samples ys
+unfolding bytes_of_samples
+bytes_append [] ys = refl
+bytes_append (x ∷ xs) ys = ap (λ (z : List ℕ). sample_bytes x ++ z) (bytes_append xs ys) ∙ sym (append_assoc (sample_bytes x) (bytes_of_samples xs) (bytes_of_samples ys))
+
+-- places one after another
+pub places_more : (channels : List (List ℤ)) (from n m : ℕ) → places channels from (n + m) ≡ places channels from n ++ places channels (from + n) m
+unfolding places
+places_more channels from n m = more (samples_at channels) n from m
+  where
+    more : (f : ℕ → List ℤ) (n from m : ℕ) → flat_map f (range_with_len from (n + m)) ≡ flat_map f (range_with_len from n) ++ flat_map f (range_with_len (from + n) m)
+    more f zero from m =
+        let a : 0 + m ≡ m = omega arith in
+        let b : from + 0 ≡ from = omega arith in
+        rw (a, b) refl
+    more f (suc n) from m =
+        let a : suc n + m ≡ suc (n + m) = omega arith in
+        let b : from + 1 + n ≡ from + suc n = omega arith in
+        rw a (ap (λ (z : List ℤ). f from ++ z) (more f n (from + 1) m ∙ ap (λ (k : ℕ). flat_map f (range_with_len (from + 1) n) ++ flat_map f (range_with_len k m)) b) ∙ sym (append_assoc (f from) (flat_map f (range_with_len (from + 1) n)) (flat_map f (range_with_len (from + suc n) m))))
+
+pub places_none : (channels : List (List ℤ)) (from : ℕ) → places channels from 0 ≡ []
+unfolding places
+places_none channels from = refl
+
+pub places_all : (channels : List (List ℤ)) → places channels 0 (duration channels) ≡ interleave channels
+unfolding places
+places_all channels = refl
+
+-- the bytes of some places, and of those behind them
+pub bytes_more : (channels : List (List ℤ)) (n m k : ℕ) → k ≡ n + m → bytes_of_samples (places channels 0 n) ++ bytes_of_samples (places channels n m) ≡ bytes_of_samples (places channels 0 k)
+bytes_more channels n m k e =
+    let z : 0 + n ≡ n = omega arith in
+    sym (ap (λ (j : ℕ). bytes_of_samples (places channels 0 j)) e ∙ ap bytes_of_samples (places_more channels 0 n m) ∙ bytes_append (places channels 0 n) (places channels (0 + n) m) ∙ ap (λ (j : ℕ). bytes_of_samples (places channels 0 n) ++ bytes_of_samples (places channels j m)) z)
+
+pub bytes_all : (channels : List (List ℤ)) (n : ℕ) → n ≡ duration_of channels → bytes_of_samples (places channels 0 n) ≡ bytes_of_samples (interleave channels)
+bytes_all channels n e = ap (λ (j : ℕ). bytes_of_samples (places channels 0 j)) (e ∙ sym (same_duration channels)) ∙ ap bytes_of_samples (places_all channels)
+
+pub bytes_none : (channels : List (List ℤ)) → bytes_of_samples (places channels 0 0) ≡ []
+unfolding bytes_of_samples
+bytes_none channels = rw (places_none channels 0) refl

@@ -1,0 +1,23 @@
+use Rattle.std.proofs.Common.{◌+◌, ◌*◌, ◌-◌, length, get_or, pos, ap, ◌∙◌, arith, rules}
+use Rattle.std.proofs.lemmas.Int.{to_z-of_z}
+use Rattle.std.specs.Int.{w32}
+use mir.Val.{SFits}
+use Rattle.claxon_write.specs.SampleBytes.{sample_bytes}
+use Rattle.claxon_write.proofs.Places.{channel_none, channel_more, room_for_place}
+use Rattle.claxon_write.proofs.output.put_channel.Goals as goal
+
+pub loop-i-init : goal.loop-i-init
+loop-i-init c = channel_none (4 * c.args.channels) (4 * c.args.ch) c.args.samples.now c.args.room.now
+
+pub loop-i-preserved : goal.loop-i-preserved
+loop-i-preserved c =
+    let s = c.args.samples.now in
+    let i = c.loop-i.i in
+    let size = 4 * c.args.channels in
+    let at = i * size + 4 * c.args.ch in
+    let f : SFits w32 (get_or s i (pos 0)) = search rules in
+    let bytes = c.copy_from_slice.ensures.after ∙ c.little_endian.ensures ∙ ap sample_bytes (to_z-of_z w32 (get_or s i (pos 0)) f) in
+    channel_more size (4 * c.args.ch) i (at + 4 - at) s c.args.room.now c.loop-i.room c.copy_from_slice.new.self bytes (omega arith) (omega arith) (room_for_place size i (length s) (length c.loop-i.room) c.loop-i-test.true (omega arith)) c.loop-i.invariant
+
+pub returns : goal.returns
+returns c = λ i lt. c.loop-i.invariant.put i (omega arith)

@@ -1,0 +1,32 @@
+use Rattle.std.proofs.Common.{inl, inr, refl, ◌∙◌}
+use Rattle.std.proofs.lemmas.Result.{err_from_is_err_and}
+use Rattle.claxon_input.specs.BufferedReader.{buffered_source}
+use Rattle.claxon_write.proofs.Unlent.{decodes_flushed, fails_shown, flush_fails_shown}
+use Rattle.claxon_write.proofs.stream.decode_and_flush.Goals as goal
+
+pub returns-clause-head : goal.returns-clause-head
+returns-clause-head g c = refl
+
+pub returns-clause-ok : goal.returns-clause-ok
+returns-clause-ok g c =
+    let k = c.in_ok-end.ensures.ok in
+    let f = c.flush_writer-flushed.ensures in
+    (decodes_flushed (buffered_source g.R.Read.remaining) c.streaminfo-info.ensures.value c.input.ensures.input c.write_blocks.new.input c.in_default.is k.0 f.kept f.waiting, c.in_ok-flushed.ensures.told ∙ k.1)
+
+pub returns-in-Some-clause-err : goal.returns-in-Some-clause-err
+returns-in-Some-clause-err g c =
+    let k = c.in_ok-end.ensures.ok in
+    let f = c.flush_writer-flushed.ensures in
+    inl (c.in_ok-end.end.count, decodes_flushed (buffered_source g.R.Read.remaining) c.streaminfo-info.ensures.value c.input.ensures.input c.write_blocks.new.input c.in-Some.is k.0 f.kept f.waiting)
+
+pub returns-in_err-end-clause-err : goal.returns-in_err-end-clause-err
+returns-in_err-end-clause-err g c =
+    let p = err_from_is_err_and c.from_residual.result c.from_residual.ensures.1 in
+    rw (p.1, p.2) (inr (fails_shown (buffered_source g.R.Read.remaining) c.streaminfo-info.ensures.value c.input.ensures.input c.in_err-end.ensures.err))
+
+pub returns-in_err-flushed-clause-err : goal.returns-in_err-flushed-clause-err
+returns-in_err-flushed-clause-err g c =
+    let p = err_from_is_err_and c.from_residual-in_err-flushed.result c.from_residual-in_err-flushed.ensures.1 in
+    let k = c.in_ok-end.ensures.ok in
+    let f = c.flush_writer-flushed.ensures in
+    rw (p.1, p.2) (inr (flush_fails_shown (buffered_source g.R.Read.remaining) c.streaminfo-info.ensures.value c.input.ensures.input c.write_blocks.new.input c.in_default.is k.0 k.1 f.kept c.in_err-flushed.ensures.io c.in_err-flushed.ensures.failed))

@@ -1,0 +1,72 @@
+use Rattle.std.proofs.Common.{◌≡◌, ◌≤◌, ◌+◌, ◌^◌, Ok, Option, refl, ap, ◌∙◌, rules}
+use Rattle.std.proofs.lemmas.Result.{err_from_is_err_and}
+use Rattle.claxon_frame.specs.Block.{BlockValue}
+use Rattle.claxon_frame.specs.FrameReader.{frame_bytes}
+use Rattle.claxon.proofs.SamplesInTurn.{reads_frame}
+use Rattle.claxon_write.proofs.Gathering.{reads_with, reads_loans, not_below, gathered_none, gathered_as, gathered_more, gathered_end, gathered_fault, gathered_limit, gathered_fails}
+use Rattle.claxon_write.proofs.stream.gather_blocks.Goals as goal
+
+pub loop-block-init : goal.loop-block-init
+loop-block-init g c = record { reference = refl; stream = refl; loans = refl; so_far = gathered_none (frame_bytes g.R.ReadBytes.source c.args.frames.now) c.args.output.now }
+
+pub loop-block-preserved : goal.loop-block-preserved
+loop-block-preserved g c =
+    let e = c.read_next_or_eof.ensures in
+    let v = c.loop-block.invariant in
+    let reads = reads_with v.stream (c.in-Ok-Some.is ∙ ap (λ (z : Option BlockValue). Ok z) c.in-Ok-Some.field-0-is) (reads_frame _ e.sound e.complete e.at_end e.ended e.no_failure e.fault e.named e.io e.front e.memory e.gives) in
+    let s = c.in-Some.ensures in
+    let more : c.loop-block.count + c.len.result ≡ c.in-Some.more = rw (← c.from.ensures) (search rules) in
+    record {
+      reference = c.in_ok-put_block.ensures.same_reference ∙ v.reference;
+      stream = e.stream ∙ v.stream;
+      loans = reads_loans reads ∙ v.loans;
+      so_far = gathered_as more (gathered_more c.in-Ok-Some.block c.len.ensures v.so_far reads c.in_ok-put_block.ensures.ok);
+    }
+
+pub returns-in-Ok-None-clause-ok : goal.returns-in-Ok-None-clause-ok
+returns-in-Ok-None-clause-ok g c =
+    let e = c.read_next_or_eof.ensures in
+    let v = c.loop-block.invariant in
+    gathered_end v.so_far (reads_with v.stream (c.in-Ok-None.is ∙ ap (λ (z : Option BlockValue). Ok z) c.in-Ok-None.field-0-is) (reads_frame _ e.sound e.complete e.at_end e.ended e.no_failure e.fault e.named e.io e.front e.memory e.gives))
+
+pub returns-in-Err-clause-ok : goal.returns-in-Err-clause-ok
+returns-in-Err-clause-ok g c =
+    let e = c.read_next_or_eof.ensures in
+    let v = c.loop-block.invariant in
+    gathered_fault v.so_far (reads_with v.stream c.in-Err.is (reads_frame _ e.sound e.complete e.at_end e.ended e.no_failure e.fault e.named e.io e.front e.memory e.gives))
+
+pub returns-in_default-clause-ok : goal.returns-in_default-clause-ok
+returns-in_default-clause-ok g c =
+    let e = c.read_next_or_eof.ensures in
+    let v = c.loop-block.invariant in
+    let reads = reads_with v.stream (c.in-Ok-Some.is ∙ ap (λ (z : Option BlockValue). Ok z) c.in-Ok-Some.field-0-is) (reads_frame _ e.sound e.complete e.at_end e.ended e.no_failure e.fault e.named e.io e.front e.memory e.gives) in
+    let many : 2 ^ 64 ≤ c.loop-block.count + c.len.result = rw (← c.from.ensures) (not_below (c.loop-block.count + c.from.result) (2 ^ 64) c.in_default.ensures) in
+    gathered_limit c.in-Ok-Some.block refl c.len.ensures many v.so_far reads
+
+pub returns-in_err-put_block-clause-err : goal.returns-in_err-put_block-clause-err
+returns-in_err-put_block-clause-err g c =
+    let e = c.read_next_or_eof.ensures in
+    let v = c.loop-block.invariant in
+    let reads = reads_with v.stream (c.in-Ok-Some.is ∙ ap (λ (z : Option BlockValue). Ok z) c.in-Ok-Some.field-0-is) (reads_frame _ e.sound e.complete e.at_end e.ended e.no_failure e.fault e.named e.io e.front e.memory e.gives) in
+    let p = err_from_is_err_and c.from_residual.result c.from_residual.ensures.1 in
+    rw (p.1, p.2) (gathered_fails c.in-Ok-Some.block v.so_far reads c.in_err-put_block.ensures.err)
+
+pub returns-in-Ok-None-clause-loans : goal.returns-in-Ok-None-clause-loans
+returns-in-Ok-None-clause-loans g c =
+    let e = c.read_next_or_eof.ensures in
+    reads_loans (reads_frame _ e.sound e.complete e.at_end e.ended e.no_failure e.fault e.named e.io e.front e.memory e.gives) ∙ c.loop-block.invariant.loans
+
+pub returns-in-Err-clause-loans : goal.returns-in-Err-clause-loans
+returns-in-Err-clause-loans g c =
+    let e = c.read_next_or_eof.ensures in
+    reads_loans (reads_frame _ e.sound e.complete e.at_end e.ended e.no_failure e.fault e.named e.io e.front e.memory e.gives) ∙ c.loop-block.invariant.loans
+
+pub returns-in_default-clause-loans : goal.returns-in_default-clause-loans
+returns-in_default-clause-loans g c =
+    let e = c.read_next_or_eof.ensures in
+    reads_loans (reads_frame _ e.sound e.complete e.at_end e.ended e.no_failure e.fault e.named e.io e.front e.memory e.gives) ∙ c.loop-block.invariant.loans
+
+pub returns-in_err-put_block-clause-loans : goal.returns-in_err-put_block-clause-loans
+returns-in_err-put_block-clause-loans g c =
+    let e = c.read_next_or_eof.ensures in
+    reads_loans (reads_frame _ e.sound e.complete e.at_end e.ended e.no_failure e.fault e.named e.io e.front e.memory e.gives) ∙ c.loop-block.invariant.loans

@@ -1,0 +1,17 @@
+use Rattle.std.proofs.Common.{refl, subst, sym}
+use Rattle.std.specs.Prelude.{List, ℕ, Some, ◌++◌}
+use Rattle.claxon.specs.FlacReader.{flac_streaminfo}
+use Rattle.claxon_frame.specs.FrameReader.{stream_with}
+use Rattle.claxon_format.specs.Frame.{Frames}
+use Rattle.claxon_write.proofs.WholeRuns.{named_behind, written_whole}
+use Rattle.claxon_write.proofs.stream.write_samples.Goals as goal
+
+pub returns-clause-complete : goal.returns-clause-complete
+returns-clause-complete g c blocks s rest comes frames short few =
+    let e = c.decode_and_flush.ensures in
+    written_whole _ e.width _ _ _ _ _ blocks rest comes.told (subst (λ (z : List ℕ). Frames (Some (stream_with (flac_streaminfo c.args.flac.now))) z blocks rest) (sym comes.are) frames) few c.decode_and_flush.result e.ok e.err short
+
+pub returns-clause-named : goal.returns-clause-named
+returns-clause-named g c blocks s t rest f comes frames bad few =
+    let e = c.decode_and_flush.ensures in
+    named_behind _ e.width _ _ _ _ _ blocks _ comes.told (subst (λ (z : List ℕ). Frames (Some (stream_with (flac_streaminfo c.args.flac.now))) z blocks (t ++ rest)) (sym comes.are) frames) few c.decode_and_flush.result e.ok e.err f t rest bad refl

@@ -1,0 +1,7 @@
+-- What clauses read of an `Output`.
+use Rattle.std.specs.Borrow.{GName}
+use Rattle.claxon_write.specs.declared.output.Output.{Output}
+
+-- which reference to the writer it holds
+abbrev pub output_name : {W : Type 0} → Output W → GName
+output_name s = s.writer.inner.ghost_name

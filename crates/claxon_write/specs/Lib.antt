@@ -1,0 +1,7 @@
+pub mod Lent
+pub mod SampleBytes
+pub mod Written
+pub mod Decoded
+pub mod Output
+pub mod WriteSamples
+pub mod Run

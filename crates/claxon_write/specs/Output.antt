@@ -1,0 +1,20 @@
+-- What calls of an `Output` promise.
+use Rattle.std.specs.Prelude.{ℕ, List, Option, Result, IfErr, OnOk}
+use Rattle.claxon_format.specs.Streams.{interleave}
+use Rattle.claxon_frame.specs.Block.{BlockValue}
+use Rattle.claxon_input.specs.declared.error.Error.{Error}
+use Rattle.claxon_write.specs.SampleBytes.{bytes_of_samples}
+use Rattle.claxon_write.specs.Written.{FailsToPut, Puts}
+use Rattle.claxon_write.specs.declared.output.Output.{Output}
+
+-- An Ok put these bytes behind all that was put before.
+abbrev pub PutsAll : {W : Type 0} → (W → Option (List ℕ)) → List ℕ → Result (Unit {0}) Error → Output W → Output W → Type 0
+PutsAll contents bytes r old new = OnOk r (Puts contents bytes old new)
+
+-- An Err says that the writer failed, and that a front of what waited and of these bytes was written.
+abbrev pub PutsFront : {W : Type 0} → (W → Option (List ℕ)) → List ℕ → Result (Unit {0}) Error → Output W → Output W → Type 0
+PutsFront contents bytes r old new = IfErr r (λ error. FailsToPut contents bytes error old new)
+
+-- the bytes of a block's samples, place by place
+abbrev pub block_bytes : BlockValue → List ℕ
+block_bytes block = bytes_of_samples (interleave block.channels)

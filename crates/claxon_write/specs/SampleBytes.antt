@@ -1,0 +1,25 @@
+-- Samples as bytes.
+use Rattle.std.specs.Prelude.{◌≡◌, ℕ, ◌+◌, ◌*◌, ℤ, List, ◌++◌, length, take, drop}
+use Rattle.std.specs.Int.{cast_unsigned, to_le_bytes, w32}
+use Rattle.std.specs.List.{flat_map, range_with_len}
+use Rattle.claxon_format.specs.Streams.{samples_at}
+
+-- a sample in two's complement, in four bytes, the least significant first
+unfoldable pub sample_bytes : ℤ → List ℕ
+sample_bytes x = to_le_bytes w32 (cast_unsigned w32 x)
+
+-- the bytes of samples, one after another
+unfoldable pub bytes_of_samples : List ℤ → List ℕ
+bytes_of_samples xs = flat_map sample_bytes xs
+
+-- the samples of so many places from one on, place by place
+unfoldable pub places : List (List ℤ) → ℕ → ℕ → List ℤ
+places channels from count = flat_map (samples_at channels) (range_with_len from count)
+
+-- the bytes of one place, of so many each
+abbrev pub place_bytes : ℕ → ℕ → List ℕ → List ℕ
+place_bytes size i room = take size (drop (i * size) room)
+
+-- Behind the first at bytes of that place, which stay, stand these.
+abbrev pub PutBehind : ℕ → ℕ → ℕ → List ℕ → List ℕ → List ℕ → Type 0
+PutBehind size at i bytes old new = take (at + length bytes) (place_bytes size i new) ≡ take at (place_bytes size i old) ++ bytes

@@ -1,0 +1,12 @@
+//! The samples of a stream written as bytes, and what `claxon_raw` does for its arguments.
+#![tactic(auto)]
+
+mod arguments;
+mod output;
+mod stream;
+#[cfg(test)]
+mod tests;
+
+pub use arguments::{command, words};
+pub use output::Output;
+pub use stream::{run, write_samples};

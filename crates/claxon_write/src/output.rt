@@ -1,0 +1,347 @@
+//! Bytes on their way to a writer.
+ghost use Rattle.std.specs.Prelude.{◌≡◌, ◌≤◌, ◌<◌, ◌+◌, ◌*◌, ◌-◌, ◌%◌, ◌^◌, ◌∷◌, ◌++◌, ℕ, pos, IfOk, IfErr, OnOk, OnErr, [], get_or, length, take};
+ghost use Rattle.std.specs.Io.KnownBytes.{Appends, Keeps};
+ghost use Rattle.claxon_input.specs.Error.{IsIo};
+ghost use Rattle.claxon_frame.specs.Block.{duration_of};
+ghost use Rattle.claxon_write.specs.SampleBytes.{PutBehind, bytes_of_samples, places, sample_bytes};
+
+use claxon::{Block, Error, Result};
+use std::alloc::Allocator;
+use std::io;
+use std::io::{ErrorKind, Write};
+
+const CAPACITY: usize = 16384;
+
+// So many places of at most eight channels fill the bytes that are gathered.
+const MOST_PLACES: usize = 512;
+
+/// A writer, and how many of its writes and flushes failed. The count wraps.
+struct Counted<'w, W> {
+    inner: &'w mut W,
+    failures: u64,
+}
+
+impl<'w, W> Drop for Counted<'w, W> {
+    fn drop(self)
+        ensures { self.exit.0.now ≡ self.entry.inner.now }
+    {
+        let Counted {
+            inner: _,
+            failures: _,
+        } = self;
+    }
+}
+
+impl<'w, W: Write> Counted<'w, W> {
+    ghost use Rattle.claxon_write.specs.Written.{AppendsFront};
+
+    fn into_inner(self) -> &'w mut W
+        ensures same_reference { result.ghost_name ≡ self.entry.inner.ghost_name }
+        ensures writer { result.now ≡ self.entry.inner.now }
+    {
+        let Counted { inner, failures: _ } = self;
+        inner
+    }
+
+    // The one call of the writer's `write`. It wrote some of the bytes, or it failed.
+    fn write_some(&mut self, bytes: &[u8]) -> Result<usize>
+        ensures same_reference { self.new.inner.ghost_name ≡ self.old.inner.ghost_name }
+        ensures ok { IfOk result (λ n. (0 < n) × (n ≤ length bytes.now) × Appends (W.contents self.old.inner.now) (W.contents self.new.inner.now) (take n bytes.now)) }
+        ensures kept { OnErr result (Keeps (W.contents self.old.inner.now) (W.contents self.new.inner.now)) }
+        ensures io { IfErr result (λ error. IsIo error) }
+        ensures told { OnOk result (self.new.failures ≡ self.old.failures) }
+        ensures failed { OnErr result (self.new.failures ≡ (self.old.failures + 1) % 2 ^ 64) }
+    {
+        match self.inner.write(bytes) {
+            Ok(0) => {
+                self.failures = self.failures.wrapping_add(1);
+                Err(Error::IoError(io::Error::from(ErrorKind::WriteZero)))
+            }
+            Ok(count) => Ok(count),
+            Err(error) => {
+                self.failures = self.failures.wrapping_add(1);
+                Err(Error::IoError(error))
+            }
+        }
+    }
+
+    // Writes all of the bytes. An `Interrupted` is a failure too.
+    fn write_whole(&mut self, bytes: &[u8]) -> Result<()>
+        ensures same_reference { self.new.inner.ghost_name ≡ self.old.inner.ghost_name }
+        ensures ok { OnOk result (Appends (W.contents self.old.inner.now) (W.contents self.new.inner.now) bytes.now) }
+        ensures front { OnErr result (AppendsFront (W.contents self.old.inner.now) (W.contents self.new.inner.now) bytes.now) }
+        ensures io { IfErr result (λ error. IsIo error) }
+        ensures told { OnOk result (self.new.failures ≡ self.old.failures) }
+        ensures failed { OnErr result (self.new.failures ≡ (self.old.failures + 1) % 2 ^ 64) }
+    {
+        let mut at = 0;
+        while at < bytes.len() {
+            at += self.write_some(&bytes[at..])?;
+        }
+        Ok(())
+    }
+
+    fn flush(&mut self) -> Result<()>
+        ensures same_reference { self.new.inner.ghost_name ≡ self.old.inner.ghost_name }
+        ensures kept { Keeps (W.contents self.old.inner.now) (W.contents self.new.inner.now) }
+        ensures io { IfErr result (λ error. IsIo error) }
+        ensures told { OnOk result (self.new.failures ≡ self.old.failures) }
+        ensures failed { OnErr result (self.new.failures ≡ (self.old.failures + 1) % 2 ^ 64) }
+    {
+        match self.inner.flush() {
+            Ok(()) => Ok(()),
+            Err(error) => {
+                self.failures = self.failures.wrapping_add(1);
+                Err(Error::IoError(error))
+            }
+        }
+    }
+}
+
+/// Bytes that wait to be written.
+#[derive(Drop)]
+struct Gathered {
+    // Those that wait stand in front.
+    bytes: [u8; 16384],
+    used: usize,
+    ghost in_bounds: { used ≤ 16384 },
+}
+
+impl Gathered {
+    ghost use Rattle.claxon_write.specs.Written.{waiting_in};
+
+    fn waiting(&self) -> &[u8]
+        ensures { result.now ≡ waiting_in self.now }
+    {
+        &self.bytes[..self.used]
+    }
+
+    // Adds as many of the bytes as there is room for, and says how many.
+    fn add_front(&mut self, bytes: &[u8]) -> usize
+        requires room { self.old.used < 16384 }
+        requires some { 0 < length bytes.now }
+        ensures some { 0 < result }
+        ensures most { result ≤ length bytes.now }
+        ensures added { waiting_in self.new ≡ waiting_in self.old ++ take result bytes.now }
+    {
+        let count = bytes.len().min(CAPACITY - self.used);
+        self.bytes[self.used..self.used + count].copy_from_slice(&bytes[..count]);
+        self.used += count;
+        count
+    }
+
+    // Adds the samples of a block between two places, whose bytes are so many.
+    fn add_places<A: Allocator>(&mut self, block: &Block<A>, from: usize, to: usize, size: usize)
+        requires order { from ≤ to }
+        requires in_block { to ≤ duration_of block.now.channels }
+        requires size { size ≡ (to - from) * (4 * length block.now.channels) }
+        requires room { self.old.used + size ≤ 16384 }
+        ensures added { waiting_in self.new ≡ waiting_in self.old ++ bytes_of_samples (places block.now.channels from (to - from)) }
+    {
+        let end = self.used + size;
+        interleave(block, from, to, &mut self.bytes[self.used..end]);
+        self.used = end;
+    }
+}
+
+/// A writer with bytes gathered for it.
+#[derive(Drop)]
+pub struct Output<'w, W> {
+    writer: Counted<'w, W>,
+    gathered: Gathered,
+}
+
+impl<'w, W: Write> Output<'w, W> {
+    ghost use Rattle.claxon_write.specs.Lent.{output_name};
+    ghost use Rattle.claxon_write.specs.Output.{PutsAll, PutsFront, block_bytes};
+    ghost use Rattle.claxon_write.specs.Written.{held, output_failures, waiting};
+
+    /// Lends the writer. Nothing was gathered and nothing failed so far.
+    pub fn new(inner: &'w mut W) -> Output<'w, W>
+        ensures same_reference { output_name result ≡ inner.entry.ghost_name }
+        ensures held { held W.contents result ≡ W.contents inner.old }
+        ensures none_wait { waiting result ≡ [] }
+        ensures failures { output_failures result ≡ 0 }
+    {
+        Output {
+            writer: Counted { inner, failures: 0 },
+            gathered: Gathered {
+                bytes: [0; 16384],
+                used: 0,
+            },
+        }
+    }
+
+    /// Gives the writer back. What was gathered and not written is lost.
+    pub fn into_inner(self) -> &'w mut W
+        ensures same_reference { result.ghost_name ≡ output_name self.entry }
+        ensures writer { result.now ≡ self.entry.writer.inner.now }
+    {
+        let Output {
+            writer,
+            gathered: _,
+        } = self;
+        writer.into_inner()
+    }
+
+    /// Writes all that was gathered. After an error nothing of it is kept.
+    pub fn write_gathered(&mut self) -> Result<()>
+        ensures same_reference { output_name self.new ≡ output_name self.old }
+        ensures none_wait { waiting self.new ≡ [] }
+        ensures none { self.new.gathered.used ≡ 0 }
+        ensures ok { PutsAll W.contents [] result self.old self.new }
+        ensures err { PutsFront W.contents [] result self.old self.new }
+    {
+        let outcome = self.writer.write_whole(self.gathered.waiting());
+        self.gathered.used = 0;
+        outcome
+    }
+
+    // Flushes the writer. What waits stays.
+    pub(crate) fn flush_writer(&mut self) -> Result<()>
+        ensures same_reference { output_name self.new ≡ output_name self.old }
+        ensures waiting { waiting self.new ≡ waiting self.old }
+        ensures kept { Keeps (held W.contents self.old) (held W.contents self.new) }
+        ensures io { IfErr result (λ error. IsIo error) }
+        ensures told { OnOk result (output_failures self.new ≡ output_failures self.old) }
+        ensures failed { OnErr result (output_failures self.new ≡ (output_failures self.old + 1) % 2 ^ 64) }
+    {
+        self.writer.flush()
+    }
+
+    /// Writes all that was gathered, and flushes the writer.
+    pub fn flush(&mut self) -> Result<()>
+        ensures same_reference { output_name self.new ≡ output_name self.old }
+        ensures none_wait { waiting self.new ≡ [] }
+        ensures ok { PutsAll W.contents [] result self.old self.new }
+        ensures err { PutsFront W.contents [] result self.old self.new }
+    {
+        self.write_gathered()?;
+        self.flush_writer()
+    }
+
+    // Writes what was gathered where there is no room for so many bytes more.
+    fn make_room(&mut self, size: usize) -> Result<()>
+        requires { size ≤ 16384 }
+        ensures same_reference { output_name self.new ≡ output_name self.old }
+        ensures room { OnOk result (self.new.gathered.used + size ≤ 16384) }
+        ensures ok { PutsAll W.contents [] result self.old self.new }
+        ensures err { PutsFront W.contents [] result self.old self.new }
+    {
+        if CAPACITY - self.gathered.used < size {
+            return self.write_gathered();
+        }
+        Ok(())
+    }
+
+    /// Gathers bytes, and writes where there is no more room.
+    pub fn put(&mut self, bytes: &[u8]) -> Result<()>
+        ensures same_reference { output_name self.new ≡ output_name self.old }
+        ensures ok { PutsAll W.contents bytes.now result self.old self.new }
+        ensures err { PutsFront W.contents bytes.now result self.old self.new }
+    {
+        let mut from = 0;
+        while from < bytes.len() {
+            self.make_room(1)?;
+            from += self.gathered.add_front(&bytes[from..]);
+        }
+        Ok(())
+    }
+
+    /// Gathers the samples of a block: for each place the sample of each channel, in four little-endian bytes.
+    #[tactic(auto, using(crate::proofs::MostPlaces::bytes_of_places))]
+    pub fn put_block<A: Allocator>(&mut self, block: &Block<A>) -> Result<()>
+        ensures same_reference { output_name self.new ≡ output_name self.old }
+        ensures ok { PutsAll W.contents (block_bytes block.now) result self.old self.new }
+        ensures err { PutsFront W.contents (block_bytes block.now) result self.old self.new }
+    {
+        let duration = block.duration() as usize;
+        let channels = block.channels() as usize;
+        let mut from = 0;
+        while from < duration {
+            let count = MOST_PLACES.min(duration - from);
+            let size = count * (4 * channels);
+            self.make_room(size)?;
+            self.gathered.add_places(block, from, from + count, size);
+            from += count;
+        }
+        Ok(())
+    }
+}
+
+// The bytes of the samples between two places, for which there is just room.
+fn interleave<A: Allocator>(block: &Block<A>, from: usize, to: usize, room: &mut [u8])
+    requires order { from ≤ to }
+    requires in_block { to ≤ duration_of block.now.channels }
+    requires room { length room.old ≡ (to - from) * (4 * length block.now.channels) }
+    ensures { room.new ≡ bytes_of_samples (places block.now.channels from (to - from)) }
+{
+    match block.channels() {
+        1 => put_mono(&block.channel(0)[from..to], room),
+        2 => put_stereo(
+            &block.channel(0)[from..to],
+            &block.channel(1)[from..to],
+            room,
+        ),
+        channels => {
+            for ch in 0..channels {
+                put_channel(
+                    &block.channel(ch)[from..to],
+                    ch as usize,
+                    channels as usize,
+                    room,
+                );
+            }
+        }
+    }
+}
+
+fn little_endian(sample: i32) -> [u8; 4]
+    ensures { result ≡ sample_bytes sample }
+{
+    sample.cast_unsigned().to_le_bytes()
+}
+
+// As one number of 64 bits, so that one store writes both.
+fn little_endian_pair(left: i32, right: i32) -> [u8; 8]
+    ensures { result ≡ sample_bytes left ++ sample_bytes right }
+{
+    let low = u64::from(left.cast_unsigned());
+    let high = u64::from(right.cast_unsigned());
+    ((high << 32) + low).to_le_bytes()
+}
+
+#[inline(never)]
+fn put_mono(samples: &[i32], room: &mut [u8])
+    requires { length room.old ≡ 4 * length samples.now }
+    ensures { room.new ≡ bytes_of_samples (places (samples.now ∷ []) 0 (length samples.now)) }
+{
+    for i in 0..samples.len() {
+        room[4 * i..4 * i + 4].copy_from_slice(&little_endian(samples[i]));
+    }
+}
+
+#[inline(never)]
+fn put_stereo(left: &[i32], right: &[i32], room: &mut [u8])
+    requires same { length right.now ≡ length left.now }
+    requires room { length room.old ≡ 8 * length left.now }
+    ensures { room.new ≡ bytes_of_samples (places (left.now ∷ right.now ∷ []) 0 (length left.now)) }
+{
+    for i in 0..left.len() {
+        room[8 * i..8 * i + 8].copy_from_slice(&little_endian_pair(left[i], right[i]));
+    }
+}
+
+// The samples of one of several channels, each behind those of the channels before it.
+#[inline(never)]
+fn put_channel(samples: &[i32], ch: usize, channels: usize, room: &mut [u8])
+    requires here { ch < channels }
+    requires few { channels ≤ 8 }
+    requires room { length room.old ≡ length samples.now * (4 * channels) }
+    ensures { (i : ℕ) → i < length samples.now → PutBehind (4 * channels) (4 * ch) i (sample_bytes (get_or samples.now i (pos 0))) room.old room.new }
+{
+    for i in 0..samples.len() {
+        let at = i * (4 * channels) + 4 * ch;
+        room[at..at + 4].copy_from_slice(&little_endian(samples[i]));
+    }
+}
