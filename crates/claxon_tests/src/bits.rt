@@ -67,10 +67,12 @@ fn buffered_bytes(rt: HostRuntime) -> Result<(), Fail> {
 
 #[test]
 fn remainders(rt: HostRuntime) -> Result<(), Fail> {
-    let rows: [(&[u8], u8, u16); 3] = [
+    let rows: [(&[u8], u8, u16); 4] = [
         (&[0x1f], 0x5d, 0x8041),
         (&[0x04, 0x01], 0x53, 0x1806),
         (&[0x61, 0x62, 0x63], 0x5f, 0xcadb),
+        // The check values of both polynomials in the usual catalogues.
+        (b"123456789", 0xf4, 0xfee8),
     ];
     for (bytes, narrow, wide) in rows {
         let mut reader = Crc8Reader::new(Cursor::new(bytes));

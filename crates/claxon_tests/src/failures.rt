@@ -1,11 +1,14 @@
 //! Memory that is refused.
+ghost use Rattle.std.specs.Prelude.{◌≤◌};
+
 use crate::answers::{
     COMMENT, FRAME, Fault, Step, clean, fault_of, format, head, joined, mono, run_of, step_of,
 };
 use claxon::frame::FrameReader;
 use claxon::metadata::{MetadataBlock, read_metadata_block_with_header};
+use claxon_write::run;
 use linked_list_allocator::LocalHeap;
-use std::io::Cursor;
+use std::io::{self, Cursor, Write};
 use std::test::Fail;
 
 // Heaps of so many sizes: what doesn't fit is refused, so that each request is refused at some of them.
@@ -115,5 +118,54 @@ fn a_buffer_that_suffices(rt: HostRuntime) -> Result<(), Fail> {
     let mut reader = FrameReader::new(Cursor::new(FRAME.as_slice()));
     assert_eq!(rt; step_of(reader.read_next_or_eof(buffer)), mono(0, 5));
     let _ = rest;
+    Ok(())
+}
+
+// Room for the bytes of two samples.
+#[derive(Drop)]
+struct Room {
+    bytes: [u8; 8],
+    used: usize,
+    ghost in_bounds: { used ≤ 8 },
+}
+
+impl Write for Room {
+    fn write(&mut self, buf: &[u8]) -> io::Result<usize> {
+        let count = buf.len().min(8 - self.used);
+        self.bytes[self.used..self.used + count].copy_from_slice(&buf[..count]);
+        self.used += count;
+        Ok(count)
+    }
+
+    fn flush(&mut self) -> io::Result<()> {
+        Ok(())
+    }
+}
+
+// Writing takes no memory of its own.
+#[test]
+fn samples_written(rt: HostRuntime) -> Result<(), Fail> {
+    let bytes = joined(rt.alloc(), &[&head(0x80), &FRAME, &FRAME])?;
+    let mut refused = 0u32;
+    for size in 0..SIZES {
+        let heap = LocalHeap::new(rt.alloc(), 8 * size)?;
+        let mut room = Room {
+            bytes: [0; 8],
+            used: 0,
+        };
+        match run(&heap, Cursor::new(bytes.as_slice()), &mut room) {
+            Ok(count) => {
+                assert_eq!(rt; count, 2, "{size}");
+                assert_eq!(rt; room.bytes, [5, 0, 0, 0, 5, 0, 0, 0], "{size}");
+            }
+            Err(error) => {
+                assert_eq!(rt; fault_of(&error), Fault::Memory, "{size}");
+                assert_eq!(rt; room.used, 0, "{size}");
+                refused = refused.saturating_add(1);
+            }
+        }
+        assert_eq!(rt; heap.used(), 0);
+    }
+    assert!(rt; refused > 256 && refused < 300, "{refused}");
     Ok(())
 }

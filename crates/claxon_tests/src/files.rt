@@ -1,5 +1,6 @@
 //! Streams in files, and heads that are read alone.
 use crate::answers::{COMMENT, FRAME, Fault, fault_of, head, joined, one_sample};
+use crate::openings::{OPTIONS, Opened, agree, head_shown, shown};
 use claxon::input::{BufferedReader, ReadBytes};
 use claxon::{FlacReader, FlacReaderOptions, read_head};
 use std::io::Cursor;
@@ -72,6 +73,41 @@ fn refuses_files(rt: HostRuntime) -> Result<(), Fail> {
     assert_eq!(rt; refused, Err(Fault::Format(text)));
     let absent = path_of(&rt, "none")?;
     assert_eq!(rt; opened(&rt, absent.as_str()), Err(Fault::Io));
+    Ok(())
+}
+
+// What a file shows under each choice of options, and by default.
+fn all_shown(rt: &HostRuntime, path: &str) -> Result<(Vec<Opened>, Opened), Fail> {
+    let alloc = rt.alloc();
+    let mut each = Vec::new(alloc);
+    for options in OPTIONS {
+        each.push(shown(alloc, FlacReader::open_ext(rt, path, options))?)?;
+    }
+    Ok((each, shown(alloc, FlacReader::open(rt, path))?))
+}
+
+// Whether a file shows what its bytes do.
+fn agrees(rt: &HostRuntime, name: &str, parts: &[&[u8]]) -> Result<bool, Fail> {
+    let bytes = joined(rt.alloc(), parts)?;
+    let path = file_of(rt, name, &bytes)?;
+    let (each, by_default) = all_shown(rt, path.as_str())?;
+    fs::remove_file(rt, path.as_str())?;
+    let want = head_shown(rt.alloc(), &bytes, FlacReaderOptions::default())?;
+    let mut all = agree(&by_default, &want);
+    for (opened, options) in each.iter().zip(&OPTIONS) {
+        all = all && agree(opened, &head_shown(rt.alloc(), &bytes, *options)?);
+    }
+    Ok(all)
+}
+
+#[test]
+fn files_show_their_bytes(rt: HostRuntime) -> Result<(), Fail> {
+    let (first, last) = (head(0x00), [0x84, 0x00, 0x00, 0x13]);
+    assert!(rt; agrees(&rt, "tagged", &[&first, &last, &COMMENT, &FRAME])?);
+    assert!(rt; agrees(&rt, "alone", &[&first])?);
+    assert!(rt; agrees(&rt, "marker", &[&[0x66, 0x4c, 0x61, 0x44]])?);
+    assert!(rt; agrees(&rt, "other", &[&[0x49, 0x44, 0x33, 0x04]])?);
+    assert!(rt; agrees(&rt, "empty", &[])?);
     Ok(())
 }
 

@@ -5,6 +5,7 @@ use crate::answers::{
     FRAME, Fault, Shown, Step, format, mono, next_step, pair, step_of, stream_info,
 };
 use crate::sources::OneByte;
+use claxon::Block;
 use claxon::frame::FrameReader;
 use claxon::input::BufferedReader;
 use claxon::metadata::StreamInfo;
@@ -140,6 +141,35 @@ fn samples_of_frames(rt: HostRuntime) {
             ),
         ],
     );
+}
+
+#[test]
+fn places_of_a_block(rt: HostRuntime) -> Result<(), Fail> {
+    let mut reader = FrameReader::new(Cursor::new(AS_THEY_ARE));
+    let Ok(Some(block)) = reader.read_next_or_eof(Vec::new(rt.alloc())) else {
+        return Err(Fail::new("no block"));
+    };
+    if block.channels() != 2 || block.duration() != 2 {
+        return Err(Fail::new("other channels"));
+    }
+    assert_eq!(rt; block.len(), 4);
+    assert_eq!(rt; block.channel(1), [-2, -2].as_slice());
+    assert_eq!(rt; block.sample(0, 1), 3);
+    let mut pairs = block.stereo_samples();
+    assert_eq!(rt; pairs.next(), Some((3, -2)));
+    assert_eq!(rt; pairs.next(), Some((3, -2)));
+    assert_eq!(rt; pairs.next(), None);
+    Ok(())
+}
+
+#[test]
+fn an_empty_block(rt: HostRuntime) {
+    let block = Block::empty(rt.alloc());
+    assert_eq!(rt;
+        (block.time(), block.channels(), block.duration()),
+        (0, 0, 0)
+    );
+    assert!(rt; block.into_buffer().is_empty());
 }
 
 // The number 0 in two bytes, and the greatest number.

@@ -1,12 +1,12 @@
 //! A field of bits with padding and a guard, read as a frame is: bits through a remainder, and then the guard in bytes.
 ghost use Rattle.std.specs.Prelude.{◌≡◌};
 ghost use Rattle.claxon_format.specs.Fault.{FrameGuard};
-ghost use Rattle.claxon_format.specs.Frame.{by_bytes};
-ghost use Rattle.claxon_format.specs.GuardBytes.{expected_at};
-ghost use Rattle.claxon_input.specs.Checked.{checked_source, checked_state};
+ghost use Rattle.claxon_format.specs.read.Bytes.{by_bytes, expected_at};
+ghost use Rattle.claxon_input.specs.CheckedReader.{checked_source, checked_state};
 ghost use Rattle.claxon_input.specs.Remainders.{check16};
-ghost use Rattle.claxon_input.specs.Stream.{bytes_in, stream, Gives};
-ghost use Rattle.claxon_tests.specs.Pairs.{pair_at, guarded_pair_at};
+ghost use Rattle.claxon_input.specs.State.{bytes_in, bits_in};
+ghost use Rattle.claxon_input.specs.Gives.{Gives};
+ghost use Rattle.claxon_tests.specs.GuardedPair.{PairIsRead, pair_at, guarded_pair_at};
 
 use claxon::input::{Bitstream, ReadBytes};
 use claxon::{Error, Result};
@@ -14,7 +14,7 @@ use claxon_input::crc::Crc16Reader;
 
 /// Reads two numbers, of 5 and of 9 bits, up to a byte border, and the guard of these bytes.
 pub fn read_guarded_pair<R: ReadBytes>(input: &mut R) -> Result<(u32, u32)>
-    ensures { Gives (λ pair. pair) result guarded_pair_at (bytes_in R.source input.old) (bytes_in R.source input.new) }
+    ensures { PairIsRead R.source input.old result input.new }
 {
     let mut input = Crc16Reader::new(input);
     read_checked_pair(&mut input)
@@ -37,9 +37,9 @@ fn read_pair<R: ReadBytes>(input: &mut R) -> Result<(u32, u32)>
     read_pair_of_bits(&mut bits)
 }
 
-#[tactic(auto, unfolding(crate::specs::Pairs::pair_at))]
+#[tactic(auto, unfolding(crate::specs::GuardedPair::pair_at))]
 fn read_pair_of_bits<R: ReadBytes>(bits: &mut Bitstream<R>) -> Result<(u32, u32)>
-    ensures { Gives (λ pair. pair) result pair_at (stream R.source bits.old) (stream R.source bits.new) }
+    ensures { Gives (λ pair. pair) result pair_at (bits_in R.source bits.old) (bits_in R.source bits.new) }
 {
     let first = bits.read_leq_u32(5)?;
     let second = bits.read_leq_u32(9)?;

@@ -6,6 +6,8 @@ mod answers;
 #[cfg(test)]
 mod bits;
 #[cfg(test)]
+mod bytes;
+#[cfg(test)]
 mod failures;
 #[cfg(test)]
 mod files;
@@ -16,6 +18,8 @@ pub mod guarded;
 mod header_faults;
 #[cfg(test)]
 mod metadata;
+#[cfg(test)]
+mod openings;
 #[cfg(test)]
 mod readers;
 #[cfg(test)]

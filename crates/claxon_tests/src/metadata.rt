@@ -1,6 +1,10 @@
 //! For each fault of a metadata block bytes that end where it is seen, and blocks one after another.
 use crate::answers::{COMMENT, Fault, fault_of, joined};
-use claxon::metadata::{MetadataBlock, MetadataBlockReader, VorbisComment, read_metadata_block};
+use claxon::Error;
+use claxon::metadata::{
+    MetadataBlock, MetadataBlockReader, VorbisComment, read_metadata_block,
+    read_metadata_block_with_header,
+};
 use std::alloc::Global;
 use std::io::Cursor;
 use std::process::Abort;
@@ -231,11 +235,43 @@ fn blocks_one_after_another(rt: HostRuntime) -> Result<(), Fail> {
         return Err(Fail::new("no comment block"));
     };
     assert!(rt; is_worked(&comment));
+    assert_eq!(rt; blocks.size_hint(), (1, None));
     let Some(Ok(MetadataBlock::Padding { length })) = blocks.next() else {
         return Err(Fail::new("no padding"));
     };
     assert_eq!(rt; length, 0);
     assert!(rt; blocks.next().is_none());
     assert_eq!(rt; blocks.size_hint(), (0, Some(0)));
+    Ok(())
+}
+
+#[test]
+fn no_block_after_a_failure(rt: HostRuntime) {
+    let mut blocks = MetadataBlockReader::new(rt.alloc(), Cursor::new([0x7f].as_slice()));
+    assert!(rt; matches!(blocks.next(), Some(Err(Error::IoError(_)))));
+    assert!(rt; blocks.next().is_none());
+    assert_eq!(rt; blocks.size_hint(), (0, Some(0)));
+}
+
+// A type of no block, an application block, and one that is too large.
+#[test]
+fn blocks_with_headers(rt: HostRuntime) -> Result<(), Fail> {
+    let mut input = Cursor::new([
+        0x7f, 0, 0, 0, 2, 0, 0, 5, 0, 0, 0, 7, 9, 2, 0xa0, 0, 1,
+    ].as_slice());
+    let block = read_metadata_block_with_header(rt.alloc(), &mut input);
+    assert!(rt; block.err() == Some(Error::FormatError("invalid metadata block type")));
+    assert_eq!(rt; input.position(), 4);
+    match read_metadata_block_with_header(rt.alloc(), &mut input)? {
+        MetadataBlock::Application { id, bytes } => {
+            assert_eq!(rt; id, 7);
+            assert!(rt; bytes.as_slice() == [9].as_slice());
+        }
+        _ => return Err(Fail::new("not an application block")),
+    }
+    let large = Error::Unsupported("application blocks larger than 10 MiB are not supported");
+    let block = read_metadata_block_with_header(rt.alloc(), &mut input);
+    assert!(rt; block.err() == Some(large));
+    assert_eq!(rt; input.position(), 17);
     Ok(())
 }

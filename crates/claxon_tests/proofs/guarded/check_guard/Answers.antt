@@ -2,9 +2,9 @@ use Rattle.std.proofs.Common.{◌≡◌, rules, refl}
 use Rattle.std.proofs.lemmas.Result.{err_from_is_err_and}
 use Rattle.claxon_format.specs.Fault.{FrameGuard, fault_text}
 use Rattle.claxon_format.proofs.SealedBytes.{expected_done, expected_fault, expected_short}
-use Rattle.claxon_input.proofs.Went.{went_map, went_none, io_exit, stuck_after}
-use Rattle.claxon.proofs.ByteFields.{went_big, stuck_big}
-use Rattle.claxon.proofs.Faults.{stops_fault}
+use Rattle.claxon_input.proofs.CallsInTurn.{went_map, went_none, io_exit, stuck_after}
+use Rattle.claxon_input.proofs.ByteFields.{went_big, stuck_big}
+use Rattle.claxon_input.proofs.Faults.{stops_fault}
 use Rattle.claxon_tests.proofs.guarded.check_guard.Goals as goal
 
 pub returns-in_err-read_be_u16 : goal.returns-in_err-read_be_u16

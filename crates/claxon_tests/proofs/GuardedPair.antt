@@ -1,21 +1,21 @@
 -- Guarded pairs in bytes.
 use Rattle.std.proofs.Common.{◌≡◌, ◌<◌, ℕ, List, subst, ◌∙◌}
 use Rattle.claxon_format.specs.Fault.{FrameGuard}
-use Rattle.claxon_format.specs.Frame.{by_bytes}
-use Rattle.claxon_format.specs.GuardBytes.{expected_at, sealed_bytes_at}
+use Rattle.claxon_format.specs.read.Bytes.{by_bytes, expected_at, sealed_bytes_at}
 use Rattle.claxon_format.specs.Guards.{crc16}
 use Rattle.claxon_format.specs.Reading.{Done, bind, done}
 use Rattle.claxon_format.proofs.Laws.{Reads-then, Reads-map}
 use Rattle.claxon_format.proofs.Numbers.{Reads-number}
 use Rattle.claxon_format.proofs.SealedBytes.{sealed_in_bytes}
-use Rattle.claxon_input.specs.Checked.{checked_source, checked_state}
+use Rattle.claxon_input.specs.CheckedReader.{checked_source, checked_state}
 use Rattle.claxon_input.specs.Remainders.{check16}
 use Rattle.claxon_input.specs.Source.{Source}
-use Rattle.claxon_input.specs.Stream.{bytes_in, Went}
+use Rattle.claxon_input.specs.State.{bytes_in}
+use Rattle.claxon_input.specs.Gives.{Went}
 use Rattle.claxon_input.specs.declared.crc.CheckedReader.{CheckedReader}
-use Rattle.claxon_input.proofs.Guarded.{crc_16, went_sealed}
-use Rattle.claxon_input.proofs.Went.{went_map}
-use Rattle.claxon_tests.specs.Pairs.{pair_at, guarded_pair_at}
+use Rattle.claxon_input.proofs.RemainderReaders.{crc_16, went_sealed}
+use Rattle.claxon_input.proofs.CallsInTurn.{went_map}
+use Rattle.claxon_tests.specs.GuardedPair.{pair_at, guarded_pair_at}
 
 pub pair_is : (s : List ℕ) → guarded_pair_at s ≡ sealed_bytes_at 2 crc16 FrameGuard (by_bytes pair_at) s
 unfolding guarded_pair_at pair_at
