@@ -1,10 +1,10 @@
 //! Frames, and how many bytes of them are taken.
 ghost use Rattle.std.specs.Prelude.{◌≤◌};
 
-use crate::answers::{
+use claxon_test_support::answers::{
     FRAME, Fault, Shown, Step, format, mono, next_step, pair, step_of, stream_info,
 };
-use crate::sources::OneByte;
+use claxon_test_support::sources::OneByte;
 use claxon::Block;
 use claxon::frame::FrameReader;
 use claxon::input::BufferedReader;

@@ -1,5 +1,5 @@
 //! For each fault of a frame bytes that end where it is seen.
-use crate::answers::{Fault, Step, format, next_step, stream_info};
+use claxon_test_support::answers::{Fault, Step, format, next_step, stream_info};
 use claxon::frame::FrameReader;
 use std::io::Cursor;
 use std::process::Abort;

@@ -1,5 +1,5 @@
 //! For each fault of a metadata block bytes that end where it is seen, and blocks one after another.
-use crate::answers::{COMMENT, Fault, fault_of, joined};
+use claxon_test_support::answers::{COMMENT, Fault, fault_of, joined};
 use claxon::Error;
 use claxon::metadata::{
     MetadataBlock, MetadataBlockReader, VorbisComment, read_metadata_block,

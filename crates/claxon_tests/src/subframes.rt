@@ -1,7 +1,7 @@
 //! Subframes, and how many bits of them are taken.
 ghost use Rattle.std.specs.Prelude.{◌≤◌};
 
-use crate::answers::{Fault, fault_of, first_four};
+use claxon_test_support::answers::{Fault, fault_of, first_four};
 use claxon::input::{Bitstream, ReadBytes};
 use claxon::subframe;
 use std::io::Cursor;

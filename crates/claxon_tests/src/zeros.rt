@@ -1,6 +1,6 @@
 //! Runs of some 2^32 zeros in subframes.
-use crate::answers::{Fault, fault_of};
-use crate::sources::ZerosBetween;
+use claxon_test_support::answers::{Fault, fault_of};
+use claxon_test_support::sources::ZerosBetween;
 use claxon::input::{Bitstream, BufferedReader, ReadBytes};
 use claxon::subframe;
 use std::process::Abort;

@@ -1,7 +1,7 @@
 //! Memory that is refused.
 ghost use Rattle.std.specs.Prelude.{◌≤◌};
 
-use crate::answers::{
+use claxon_test_support::answers::{
     COMMENT, FRAME, Fault, Step, clean, fault_of, format, head, joined, mono, run_of, step_of,
 };
 use claxon::frame::FrameReader;

@@ -1,5 +1,5 @@
 //! What opening a stream shows, under each choice of options, and what its blocks and samples are.
-use crate::answers::{
+use claxon_test_support::answers::{
     COMMENT, FRAME, Fault, Run, Step, clean, fault_of, head, joined, mono, one_block, pair, run_of,
 };
 use crate::writer::{Kind, Places, frame_of};

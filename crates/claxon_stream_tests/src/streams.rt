@@ -1,5 +1,5 @@
 //! Streams from their head to their end.
-use crate::answers::{
+use claxon_test_support::answers::{
     COMMENT, FRAME, Fault, Run, Step, clean, fault_of, head, joined, mono, one_block, one_sample,
     rest_of, run_of,
 };

@@ -1,5 +1,5 @@
 //! Streams in files, and heads that are read alone.
-use crate::answers::{COMMENT, FRAME, Fault, fault_of, head, joined, one_sample};
+use claxon_test_support::answers::{COMMENT, FRAME, Fault, fault_of, head, joined, one_sample};
 use crate::openings::{OPTIONS, Opened, agree, head_shown, shown};
 use claxon::input::{BufferedReader, ReadBytes};
 use claxon::{FlacReader, FlacReaderOptions, read_head};
@@ -11,7 +11,7 @@ use std::{env, fs, process};
 fn path_of(rt: &HostRuntime, name: &str) -> Result<String, Fail> {
     let (folder, id) = (env::temp_dir(rt)?, process::id(rt.process()));
     let folder = folder.as_str();
-    Ok(format!(in rt.alloc(); "{folder}/claxon_tests_{name}_{id}")?)
+    Ok(format!(in rt.alloc(); "{folder}/claxon_{name}_{id}")?)
 }
 
 // The name of such a file, which holds these bytes.

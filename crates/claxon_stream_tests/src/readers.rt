@@ -1,8 +1,8 @@
 //! Readers that give little, cut and fail.
-use crate::answers::{
+use claxon_test_support::answers::{
     FRAME, Fault, Run, Step, after_error, format, head, joined, mono, next_step, one_sample, run_of,
 };
-use crate::sources::{FailsOnce, OneByte};
+use claxon_test_support::sources::{FailsOnce, OneByte};
 use claxon::FlacReader;
 use claxon::frame::FrameReader;
 use claxon::input::BufferedReader;

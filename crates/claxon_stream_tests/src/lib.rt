@@ -1,0 +1,18 @@
+//! Tests of whole streams: how they open, from files and over readers that fail; frames of a writer of the tests' own;
+//! memory that is refused.
+#![tactic(auto)]
+
+#[cfg(test)]
+mod failures;
+#[cfg(test)]
+mod files;
+#[cfg(test)]
+mod openings;
+#[cfg(test)]
+mod readers;
+#[cfg(test)]
+mod streams;
+#[cfg(test)]
+mod writer;
+#[cfg(test)]
+mod written;
