@@ -4,9 +4,9 @@ use Rattle.std.specs.Prelude.{◌==◌}
 use Rattle.std.specs.Simd.{first_chunks}
 use Rattle.std.specs.Int.Bits.{xor_assoc, xor_self, xor_zero_r, xor_zero_l, xor_shifted}
 use Rattle.std.proofs.lemmas.Nat.{xor_comm, xor_lt, xor_block, pow-add, pow_pos}
-use Rattle.std.proofs.lemmas.List.{append-nil, drop_more, drop-drop, take-append-drop}
+use Rattle.std.proofs.lemmas.List.{append-nil, drop_more, drop-drop, take-append-drop, get_or-drop, length-take, length-drop, take_all}
 use Rattle.std.proofs.lemmas.Bool.{false≢true, eqb-true}
-use Rattle.std.proofs.Math.Nat.{mul_comm, mod-eq_of_lt, mul-lt-mul_of_pos_left}
+use Rattle.std.proofs.Math.Nat.{mul_comm, mul-suc, mod-eq_of_lt, mul-lt-mul_of_pos_left}
 use Rattle.std.proofs.Math.ListN.{drop_of_length-le}
 use Rattle.claxon_format.specs.Bits.{Bits, bits, bits_of}
 use Rattle.claxon_format.specs.Guards.{divide, divide_step, crc8, crc16}
@@ -164,45 +164,84 @@ bits_16 all rest x c u v h split e =
 
 -- ---- tables
 
--- at each place stands the remainder of its low byte, put into the highest bits, after as many bytes of zeros as the rows say
-unfoldable is_table : ℕ → ℕ → ℕ → List ℕ → Bool
-is_table d p j [] = true
-is_table d p j (t ∷ ts) = (t == zeros d p (8 * (j / 256 + 1)) (j % 256 * 2 ^ (d - 8))) && is_table d p (j + 1) ts
+-- so many bytes from j on, each put into the highest bits
+unfoldable highest : ℕ → ℕ → ℕ → List ℕ
+highest d zero j = []
+highest d (suc n) j = j * 2 ^ (d - 8) ∷ highest d n (j + 1)
 
-table8 : is_table 8 0x107 0 CRC8_TABLE ≡ true
-unfolding is_table divide divide_step
+-- each remainder of a table is that in the same place of the other one, after one more byte of zeros
+unfoldable follows : ℕ → ℕ → List ℕ → List ℕ → Bool
+follows d p [] [] = true
+follows d p [] (t ∷ ts) = false
+follows d p (s ∷ ss) [] = false
+follows d p (s ∷ ss) (t ∷ ts) = (t == zeros d p 8 s) && follows d p ss ts
+
+-- each table follows the one before it
+unfoldable in_turn : ℕ → ℕ → List ℕ → List (List ℕ) → Bool
+in_turn d p ss [] = true
+in_turn d p ss (ts ∷ tables) = follows d p ss ts && in_turn d p ts tables
+
+table8 : follows 8 0x107 (highest 8 256 0) CRC8_TABLE ≡ true
+unfolding highest follows divide divide_step
 table8 = refl
 
-table16 : is_table 16 0x18005 0 CRC16_TABLES ≡ true
-unfolding is_table divide divide_step
-table16 = refl
+tables16 : in_turn 16 0x18005 (highest 16 256 0) CRC16_TABLES ≡ true
+unfolding highest follows in_turn divide divide_step
+tables16 = refl
 
 both : (a b : Bool) → (a && b) ≡ true → (a ≡ true) × (b ≡ true)
 both true b e = (refl, e)
 both false b e = absurd (false≢true e)
 
-table_at : (d p i j : ℕ) (ts : List ℕ) → is_table d p i ts ≡ true → j < length ts → get_or ts j 0 ≡ zeros d p (8 * ((i + j) / 256 + 1)) ((i + j) % 256 * 2 ^ (d - 8))
-unfolding is_table
-table_at d p i j [] e h = absurd (omega arith)
-table_at d p i zero (t ∷ ts) e h =
-    let k : i + 0 ≡ i = omega arith in
-    eqb-true t _ (both _ _ e).0 ∙ ap (λ m. zeros d p (8 * (m / 256 + 1)) (m % 256 * 2 ^ (d - 8))) (sym k)
-table_at d p i (suc j) (t ∷ ts) e h =
-    let k : i + 1 + j ≡ i + suc j = omega arith in
-    table_at d p (i + 1) j ts (both _ _ e).1 (omega arith) ∙ ap (λ m. zeros d p (8 * (m / 256 + 1)) (m % 256 * 2 ^ (d - 8))) k
+length-highest : (d n j : ℕ) → length (highest d n j) ≡ n
+unfolding highest
+length-highest d zero j = refl
+length-highest d (suc n) j = ap suc (length-highest d n (j + 1))
+
+highest_at : (d n j i : ℕ) → i < n → get_or (highest d n j) i 0 ≡ (j + i) * 2 ^ (d - 8)
+unfolding highest
+highest_at d zero j i h = absurd (omega arith)
+highest_at d (suc n) j zero h = ap (λ m. m * 2 ^ (d - 8)) (sym (add-zero j))
+highest_at d (suc n) j (suc i) h =
+    let k : j + 1 + i ≡ j + suc i = omega arith in
+    highest_at d n (j + 1) i (omega arith) ∙ ap (λ m. m * 2 ^ (d - 8)) k
+
+follows-length : (d p : ℕ) (ss ts : List ℕ) → follows d p ss ts ≡ true → length ts ≡ length ss
+unfolding follows
+follows-length d p [] [] e = refl
+follows-length d p [] (t ∷ ts) e = absurd (false≢true e)
+follows-length d p (s ∷ ss) [] e = absurd (false≢true e)
+follows-length d p (s ∷ ss) (t ∷ ts) e = ap suc (follows-length d p ss ts (both _ _ e).1)
+
+follows_at : (d p : ℕ) (ss ts : List ℕ) (i : ℕ) → follows d p ss ts ≡ true → i < length ss → get_or ts i 0 ≡ zeros d p 8 (get_or ss i 0)
+unfolding follows
+follows_at d p [] ts i e h = absurd (omega arith)
+follows_at d p (s ∷ ss) [] i e h = absurd (false≢true e)
+follows_at d p (s ∷ ss) (t ∷ ts) zero e h = eqb-true t _ (both _ _ e).0
+follows_at d p (s ∷ ss) (t ∷ ts) (suc i) e h = follows_at d p ss ts i (both _ _ e).1 (omega arith)
+
+table_at : (d p : ℕ) (ss : List ℕ) (tables : List (List ℕ)) (n i : ℕ) → in_turn d p ss tables ≡ true → n < length tables → i < length ss
+    → get_or (get_or tables n []) i 0 ≡ zeros d p (8 * (n + 1)) (get_or ss i 0)
+unfolding in_turn
+table_at d p ss [] n i e l h = absurd (omega arith)
+table_at d p ss (ts ∷ tables) zero i e l h = follows_at d p ss ts i (both _ _ e).0 h
+table_at d p ss (ts ∷ tables) (suc n) i e l h =
+    let f : follows d p ss ts ≡ true = (both _ _ e).0 in
+    let k : 8 + 8 * (n + 1) ≡ 8 * (suc n + 1) = omega arith in
+    table_at d p ts tables n i (both _ _ e).1 (omega arith) (omega (arith, follows-length d p ss ts f))
+    ∙ ap (zeros d p (8 * (n + 1))) (follows_at d p ss ts i f h)
+    ∙ sym (zeros-add d p 8 (8 * (n + 1)) (get_or ss i 0))
+    ∙ ap (λ m. zeros d p m (get_or ss i 0)) k
 
 entry_8 : (i : ℕ) → i < 256 → get_or CRC8_TABLE i 0 ≡ zeros 8 0x107 8 i
 entry_8 i h =
-    let k : 8 * ((0 + i) / 256 + 1) ≡ 8 = omega arith in
-    let m : (0 + i) % 256 * 2 ^ (8 - 8) ≡ i = omega arith in
-    table_at 8 0x107 0 i CRC8_TABLE table8 h ∙ ap₂ (zeros 8 0x107) k m
+    let m : (0 + i) * 2 ^ (8 - 8) ≡ i = omega arith in
+    follows_at 8 0x107 (highest 8 256 0) CRC8_TABLE i table8 (omega (arith, length-highest 8 256 0)) ∙ ap (zeros 8 0x107 8) (highest_at 8 256 0 i h ∙ m)
 
-pub entry_16 : (zeros i : ℕ) → zeros < 8 → i < 256 → get_or CRC16_TABLES (256 * zeros + i) 0 ≡ after_zeros (zeros + 1) (i * 256)
+pub entry_16 : (zeros i : ℕ) → zeros < 16 → i < 256 → get_or (get_or CRC16_TABLES zeros []) i 0 ≡ after_zeros (zeros + 1) (i * 256)
 entry_16 n i l h =
-    let j : 0 + (256 * n + i) ≡ 256 * n + i = omega arith in
-    let k : (256 * n + i) / 256 ≡ n = omega arith in
-    let m : (256 * n + i) % 256 ≡ i = omega arith in
-    table_at 16 0x18005 0 (256 * n + i) CRC16_TABLES table16 (omega arith) ∙ (rw (j, k, m) refl)
+    let m : (0 + i) * 2 ^ (16 - 8) ≡ i * 256 = omega arith in
+    table_at 16 0x18005 (highest 16 256 0) CRC16_TABLES n i tables16 (omega arith) (omega (arith, length-highest 16 256 0)) ∙ ap (after_zeros (n + 1)) (highest_at 16 256 0 i h ∙ m)
 
 -- ---- the code's steps are those of the definition
 
@@ -250,22 +289,22 @@ next16_is c y e h l k =
 
 -- ---- eight bytes at once
 
--- what each byte adds to the remainder, whatever the others are
-unfoldable shares : List ℕ → ℕ
-shares [] = 0
-shares (y ∷ ys) = bit_xor (after_zeros (suc (length ys)) (y % 256 * 256)) (shares ys)
+-- what each byte adds to the remainder after so many bytes of zeros more, whatever the others are
+unfoldable shares : ℕ → List ℕ → ℕ
+shares n [] = 0
+shares n (y ∷ ys) = bit_xor (after_zeros (n + suc (length ys)) (y % 256 * 256)) (shares n ys)
 
-apart : (ys : List ℕ) (c : ℕ) → c < 65536 → check16 c ys ≡ bit_xor (after_zeros (length ys) c) (shares ys)
-unfolding check shares divide
-apart [] c h = sym (xor_zero_r c)
-apart (y ∷ ys) c h =
+apart : (n : ℕ) (ys : List ℕ) (c : ℕ) → c < 65536 → after_zeros n (check16 c ys) ≡ bit_xor (after_zeros (n + length ys) c) (shares n ys)
+unfolding check shares
+apart n [] c h = ap (λ m. after_zeros m c) (sym (add-zero n)) ∙ sym (xor_zero_r (after_zeros (n + 0) c))
+apart n (y ∷ ys) c h =
     let b : y % 256 * 256 < 65536 = omega arith in
     let x = bit_xor c (y % 256 * 256) in
-    let k : 8 + 8 * length ys ≡ 8 * suc (length ys) = omega arith in
-    let n = 8 * suc (length ys) in
-    apart ys (zeros 16 0x18005 8 x) (zeros16_lt 8 x (xor_lt 16 c (y % 256 * 256) h b))
-    ∙ ap (λ z. bit_xor z (shares ys)) (sym (zeros-add 16 0x18005 8 (8 * length ys) x) ∙ ap (λ z. zeros 16 0x18005 z x) k ∙ zeros16-xor n c (y % 256 * 256) h b)
-    ∙ xor_assoc (zeros 16 0x18005 n c) (zeros 16 0x18005 n (y % 256 * 256)) (shares ys)
+    let k : 8 + 8 * (n + length ys) ≡ 8 * (n + suc (length ys)) = omega arith in
+    let m = 8 * (n + suc (length ys)) in
+    apart n ys (zeros 16 0x18005 8 x) (zeros16_lt 8 x (xor_lt 16 c (y % 256 * 256) h b))
+    ∙ ap (λ z. bit_xor z (shares n ys)) (sym (zeros-add 16 0x18005 8 (8 * (n + length ys)) x) ∙ ap (λ z. zeros 16 0x18005 z x) k ∙ zeros16-xor m c (y % 256 * 256) h b)
+    ∙ xor_assoc (zeros 16 0x18005 m c) (zeros 16 0x18005 m (y % 256 * 256)) (shares n ys)
 
 -- a remainder goes into the two bytes that come next
 absorbed : (c y0 y1 : ℕ) (ys : List ℕ) → c < 65536 → y0 < 256 → y1 < 256 → check16 c (y0 ∷ y1 ∷ ys) ≡ check16 0 (bit_xor (c / 256) y0 ∷ bit_xor (c % 256) y1 ∷ ys)
@@ -285,62 +324,90 @@ absorbed c y0 y1 ys h a b =
     ap₂ (λ u v. bit_xor (zeros 16 0x18005 8 (bit_xor 0 (u * 256))) (v * 256)) n0 n1 ∙ ap (λ u. bit_xor (zeros 16 0x18005 8 u) (lo * 256)) (xor_zero_l (hi * 256)) in
     ap (λ u. check16 (zeros 16 0x18005 8 u) ys) (left ∙ sym right)
 
-from_none : (ys : List ℕ) → check16 0 ys ≡ shares ys
-from_none ys =
-    let none : zeros 16 0x18005 (8 * length ys) 0 ≡ 0 = zeros16-small (8 * length ys) 0 (omega arith) ∙ omega arith in
-    apart ys 0 (omega arith) ∙ ap (λ z. bit_xor z (shares ys)) none ∙ xor_zero_l (shares ys)
+from_none : (n : ℕ) (ys : List ℕ) → after_zeros n (check16 0 ys) ≡ shares n ys
+from_none n ys =
+    let none : after_zeros (n + length ys) 0 ≡ 0 = zeros16-small (8 * (n + length ys)) 0 (omega arith) ∙ omega arith in
+    apart n ys 0 (omega arith) ∙ ap (λ z. bit_xor z (shares n ys)) none ∙ xor_zero_l (shares n ys)
 
-share : (k y e : ℕ) → y < 256 → e ≡ after_zeros k (y * 256) → e ≡ after_zeros k (y % 256 * 256)
-share k y e h p = let m : y ≡ y % 256 = omega arith in p ∙ ap (λ z. after_zeros k (z * 256)) m
+share : (k m y e : ℕ) → y < 256 → m ≡ k → e ≡ after_zeros m (y * 256) → e ≡ after_zeros k (y % 256 * 256)
+share k m y e h q p = let r : y ≡ y % 256 = omega arith in p ∙ ap₂ (λ j z. after_zeros j (z * 256)) q r
 
 -- each index of the tables is a byte
-pub record Looked (c y0 y1 y2 y3 y4 y5 y6 y7 e7 e6 e5 e4 e3 e2 e1 e0 : ℕ) : Type 0 where
-  pub at7 : e7 ≡ after_zeros 8 (bit_xor (c / 256) y0 * 256)
-  pub at6 : e6 ≡ after_zeros 7 (bit_xor (c % 256) y1 * 256)
-  pub at5 : e5 ≡ after_zeros 6 (y2 * 256)
-  pub at4 : e4 ≡ after_zeros 5 (y3 * 256)
-  pub at3 : e3 ≡ after_zeros 4 (y4 * 256)
-  pub at2 : e2 ≡ after_zeros 3 (y5 * 256)
-  pub at1 : e1 ≡ after_zeros 2 (y6 * 256)
-  pub at0 : e0 ≡ after_zeros 1 (y7 * 256)
+pub record Looked (n c y0 y1 y2 y3 y4 y5 y6 y7 e7 e6 e5 e4 e3 e2 e1 e0 : ℕ) : Type 0 where
+  pub at7 : e7 ≡ after_zeros (n + 7 + 1) (bit_xor (c / 256) y0 * 256)
+  pub at6 : e6 ≡ after_zeros (n + 6 + 1) (bit_xor (c % 256) y1 * 256)
+  pub at5 : e5 ≡ after_zeros (n + 5 + 1) (y2 * 256)
+  pub at4 : e4 ≡ after_zeros (n + 4 + 1) (y3 * 256)
+  pub at3 : e3 ≡ after_zeros (n + 3 + 1) (y4 * 256)
+  pub at2 : e2 ≡ after_zeros (n + 2 + 1) (y5 * 256)
+  pub at1 : e1 ≡ after_zeros (n + 1 + 1) (y6 * 256)
+  pub at0 : e0 ≡ after_zeros (n + 1) (y7 * 256)
 
-pub eight_is : (c y0 y1 y2 y3 y4 y5 y6 y7 e7 e6 e5 e4 e3 e2 e1 e0 : ℕ) → c < 65536 → y0 < 256 → y1 < 256 → y2 < 256 → y3 < 256 → y4 < 256 → y5 < 256 → y6 < 256 → y7 < 256
-    → Looked c y0 y1 y2 y3 y4 y5 y6 y7 e7 e6 e5 e4 e3 e2 e1 e0
-    → bit_xor (bit_xor (bit_xor (bit_xor (bit_xor (bit_xor (bit_xor e7 e6) e5) e4) e3) e2) e1) e0 ≡ check16 c (y0 ∷ y1 ∷ y2 ∷ y3 ∷ y4 ∷ y5 ∷ y6 ∷ y7 ∷ [])
+pub eight_is : (n c y0 y1 y2 y3 y4 y5 y6 y7 e7 e6 e5 e4 e3 e2 e1 e0 : ℕ) → c < 65536 → y0 < 256 → y1 < 256 → y2 < 256 → y3 < 256 → y4 < 256 → y5 < 256 → y6 < 256 → y7 < 256
+    → Looked n c y0 y1 y2 y3 y4 y5 y6 y7 e7 e6 e5 e4 e3 e2 e1 e0
+    → bit_xor (bit_xor (bit_xor (bit_xor (bit_xor (bit_xor (bit_xor e7 e6) e5) e4) e3) e2) e1) e0 ≡ after_zeros n (check16 c (y0 ∷ y1 ∷ y2 ∷ y3 ∷ y4 ∷ y5 ∷ y6 ∷ y7 ∷ []))
 unfolding shares
-eight_is c y0 y1 y2 y3 y4 y5 y6 y7 e7 e6 e5 e4 e3 e2 e1 e0 h b0 b1 b2 b3 b4 b5 b6 b7 l =
+eight_is n c y0 y1 y2 y3 y4 y5 y6 y7 e7 e6 e5 e4 e3 e2 e1 e0 h b0 b1 b2 b3 b4 b5 b6 b7 l =
     let hi = bit_xor (c / 256) y0 in
     let lo = bit_xor (c % 256) y1 in
-    let p7 = share 8 hi e7 (xor_lt 8 (c / 256) y0 (omega arith) b0) l.at7 in
-    let p6 = share 7 lo e6 (xor_lt 8 (c % 256) y1 (omega arith) b1) l.at6 in
-    let p5 = share 6 y2 e5 b2 l.at5 in
-    let p4 = share 5 y3 e4 b3 l.at4 in
-    let p3 = share 4 y4 e3 b4 l.at3 in
-    let p2 = share 3 y5 e2 b5 l.at2 in
-    let p1 = share 2 y6 e1 b6 l.at1 in
-    let p0 = share 1 y7 e0 b7 l.at0 in
+    let p7 = share (n + 8) (n + 7 + 1) hi e7 (xor_lt 8 (c / 256) y0 (omega arith) b0) (omega arith) l.at7 in
+    let p6 = share (n + 7) (n + 6 + 1) lo e6 (xor_lt 8 (c % 256) y1 (omega arith) b1) (omega arith) l.at6 in
+    let p5 = share (n + 6) (n + 5 + 1) y2 e5 b2 (omega arith) l.at5 in
+    let p4 = share (n + 5) (n + 4 + 1) y3 e4 b3 (omega arith) l.at4 in
+    let p3 = share (n + 4) (n + 3 + 1) y4 e3 b4 (omega arith) l.at3 in
+    let p2 = share (n + 3) (n + 2 + 1) y5 e2 b5 (omega arith) l.at2 in
+    let p1 = share (n + 2) (n + 1 + 1) y6 e1 b6 (omega arith) l.at1 in
+    let p0 = share (n + 1) (n + 1) y7 e0 b7 refl l.at0 in
     let grouped : bit_xor (bit_xor (bit_xor (bit_xor (bit_xor (bit_xor (bit_xor e7 e6) e5) e4) e3) e2) e1) e0
     ≡ bit_xor e7 (bit_xor e6 (bit_xor e5 (bit_xor e4 (bit_xor e3 (bit_xor e2 (bit_xor e1 (bit_xor e0 0))))))) =
     simp xor_assoc (ap (λ z. bit_xor e7 (bit_xor e6 (bit_xor e5 (bit_xor e4 (bit_xor e3 (bit_xor e2 (bit_xor e1 z))))))) (sym (xor_zero_r e0))) in
     grouped
     ∙ ap₂ bit_xor p7 (ap₂ bit_xor p6 (ap₂ bit_xor p5 (ap₂ bit_xor p4 (ap₂ bit_xor p3 (ap₂ bit_xor p2 (ap₂ bit_xor p1 (ap (λ z. bit_xor z 0) p0)))))))
-    ∙ sym (absorbed c y0 y1 (y2 ∷ y3 ∷ y4 ∷ y5 ∷ y6 ∷ y7 ∷ []) h b0 b1 ∙ from_none (hi ∷ lo ∷ y2 ∷ y3 ∷ y4 ∷ y5 ∷ y6 ∷ y7 ∷ []))
+    ∙ sym (ap (after_zeros n) (absorbed c y0 y1 (y2 ∷ y3 ∷ y4 ∷ y5 ∷ y6 ∷ y7 ∷ []) h b0 b1) ∙ from_none n (hi ∷ lo ∷ y2 ∷ y3 ∷ y4 ∷ y5 ∷ y6 ∷ y7 ∷ []))
 
-pub eight_of : (bs : List ℕ) → length bs ≡ 8
-    → bs ≡ get_or bs 0 0 ∷ get_or bs 1 0 ∷ get_or bs 2 0 ∷ get_or bs 3 0 ∷ get_or bs 4 0 ∷ get_or bs 5 0 ∷ get_or bs 6 0 ∷ get_or bs 7 0 ∷ []
-eight_of (y0 ∷ y1 ∷ y2 ∷ y3 ∷ y4 ∷ y5 ∷ y6 ∷ y7 ∷ []) e = refl
-eight_of _ e = absurd (omega arith)
+first_eight : (bs : List ℕ) → 8 ≤ length bs
+    → take 8 bs ≡ get_or bs 0 0 ∷ get_or bs 1 0 ∷ get_or bs 2 0 ∷ get_or bs 3 0 ∷ get_or bs 4 0 ∷ get_or bs 5 0 ∷ get_or bs 6 0 ∷ get_or bs 7 0 ∷ []
+first_eight (y0 ∷ y1 ∷ y2 ∷ y3 ∷ y4 ∷ y5 ∷ y6 ∷ y7 ∷ bs) e = refl
+first_eight _ e = absurd (omega arith)
 
--- ---- pieces of eight
+pub eight_of : (i : ℕ) (bs : List ℕ) → i + 8 ≤ length bs
+    → take 8 (drop i bs) ≡ get_or bs i 0 ∷ get_or bs (i + 1) 0 ∷ get_or bs (i + 2) 0 ∷ get_or bs (i + 3) 0 ∷ get_or bs (i + 4) 0 ∷ get_or bs (i + 5) 0 ∷ get_or bs (i + 6) 0 ∷ get_or bs (i + 7) 0 ∷ []
+eight_of i bs e = simp (get_or-drop, add-zero) at (first_eight (drop i bs) (omega (arith, length-drop i bs)))
 
-pub check-piece : (d p c e : ℕ) (bs : List ℕ) (i j : ℕ) → j ≡ i + 8 → e ≡ check d p c (take 8 (drop i bs)) → check d p e (drop j bs) ≡ check d p c (drop i bs)
-check-piece d p c e bs i j n k =
-    ap₂ (λ s m. check d p s (drop m bs)) k n ∙ check-append d p (take 8 (drop i bs)) (drop (i + 8) bs) c
-    ∙ ap (check d p c) (ap (λ r. take 8 (drop i bs) ++ r) (sym (drop-drop 8 i bs)) ∙ take-append-drop 8 (drop i bs))
+-- no zeros follow
+none_more : (c : ℕ) → after_zeros 0 c ≡ c
+none_more c = divide_none 16 0x18005 c
 
-pub piece_at : (k i j : ℕ) (bs : List ℕ) (d : List ℕ) → i < k → j ≡ 8 * i → get_or (first_chunks 8 k bs) i d ≡ take 8 (drop j bs)
-piece_at zero i j bs d h e = absurd (omega arith)
-piece_at (suc k) zero j bs d h e = let z : j ≡ 0 = omega arith in rw z refl
-piece_at (suc k) (suc i) j bs d h e =
-    let n : j ≡ 8 + 8 * i = omega arith in
-    piece_at k i (8 * i) (drop 8 bs) d (omega arith) refl ∙ ap (take 8) (drop-drop (8 * i) 8 bs ∙ ap (λ m. drop m bs) (sym n))
+pub eight_alone : (c e i : ℕ) (bs xs : List ℕ) → xs ≡ take 8 (drop i bs) → e ≡ after_zeros 0 (check16 c (take 8 (drop 0 xs))) → e ≡ check16 c (take 8 (drop i bs))
+eight_alone c e i bs xs q p =
+    let ys = take 8 (drop i bs) in
+    p ∙ none_more (check16 c (take 8 xs)) ∙ ap (λ z. check16 c (take 8 z)) q ∙ ap (check16 c) (take_all 8 ys (omega (arith, length-take 8 (drop i bs))))
+
+-- the shares of the last eight bytes, and what the first eight leave after eight bytes of zeros
+pub sixteen_is : (c e f : ℕ) (bs : List ℕ) → c < 65536 → length bs ≡ 16 → e ≡ after_zeros 0 (check16 0 (take 8 (drop 8 bs))) → f ≡ after_zeros 8 (check16 c (take 8 (drop 0 bs))) → bit_xor e f ≡ check16 c bs
+sixteen_is c e f bs h l p q =
+    let xs = take 8 bs in
+    let ys = take 8 (drop 8 bs) in
+    let n : length ys ≡ 8 = omega (arith, length-take 8 (drop 8 bs), length-drop 8 bs) in
+    let rest : ys ≡ drop 8 bs = take_all 8 (drop 8 bs) (omega (arith, length-drop 8 bs)) in
+    let whole : xs ++ ys ≡ bs = ap (λ z. xs ++ z) rest ∙ take-append-drop 8 bs in
+    let a = check16 c xs in
+    let b : a < 65536 = check_lt 16 0x18005 (omega arith) (omega arith) (omega arith) xs c (omega arith) h in
+    let k : 8 ≡ 0 + length ys = omega arith in
+    let first : f ≡ after_zeros (0 + length ys) a = q ∙ ap (λ m. after_zeros m a) k in
+    xor_comm e f ∙ ap₂ bit_xor first (p ∙ from_none 0 ys) ∙ sym (apart 0 ys a b)
+    ∙ none_more (check16 a ys) ∙ check-append 16 0x18005 xs ys c ∙ ap (check16 c) whole
+
+-- ---- pieces
+
+pub check-piece : (d p n c e : ℕ) (bs : List ℕ) (i j : ℕ) → j ≡ i + n → e ≡ check d p c (take n (drop i bs)) → check d p e (drop j bs) ≡ check d p c (drop i bs)
+check-piece d p n c e bs i j m k =
+    ap₂ (λ s m. check d p s (drop m bs)) k m ∙ check-append d p (take n (drop i bs)) (drop (i + n) bs) c
+    ∙ ap (check d p c) (ap (λ r. take n (drop i bs) ++ r) (sym (drop-drop n i bs)) ∙ take-append-drop n (drop i bs))
+
+pub piece_at : (n k i j : ℕ) (bs : List ℕ) (d : List ℕ) → i < k → j ≡ n * i → get_or (first_chunks n k bs) i d ≡ take n (drop j bs)
+piece_at n zero i j bs d h e = absurd (omega arith)
+piece_at n (suc k) zero j bs d h e = let z : j ≡ 0 = e ∙ mul_comm n 0 ∙ omega arith in rw z refl
+piece_at n (suc k) (suc i) j bs d h e =
+    let m : j ≡ n + n * i = e ∙ mul-suc n i ∙ omega arith in
+    piece_at n k i (n * i) (drop n bs) d (omega arith) refl ∙ ap (take n) (drop-drop (n * i) n bs ∙ ap (λ z. drop z bs) (sym m))

@@ -2,6 +2,7 @@ pub mod PartitionLengths
 pub mod EscapedEntries
 pub mod WordShifts
 pub mod WordsAhead
+pub mod FieldsAhead
 pub mod SignExtension
 pub mod PartitionLoop
 pub mod KindNumbers

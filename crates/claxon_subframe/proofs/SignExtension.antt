@@ -5,8 +5,10 @@ use Rattle.std.proofs.lemmas.Bool.{cases_lt, lt-ltb, le-ltb}
 use Rattle.std.proofs.lemmas.Int.{to_z-of_z}
 use Rattle.std.proofs.lemmas.Nat.{pow-add, pow_pos, div-mul-add, mod-mul-add, mod_below}
 use Rattle.std.proofs.Math.Nat.{pow-suc, mul_assoc}
-use Rattle.claxon_format.specs.Bits.{twos}
-use Rattle.claxon_format.proofs.Numbers.{mod_small}
+use Rattle.claxon_format.specs.Bits.{Bits, twos}
+use Rattle.claxon_format.specs.Reading.{Done, done}
+use Rattle.claxon_format.specs.read.Bits.{number_at, signed_at}
+use Rattle.claxon_format.proofs.Numbers.{Reads-number, mod_small}
 
 -- what n stands for in two's complement of twice half
 abbrev signed_of : ℕ → ℕ → ℤ
@@ -79,3 +81,10 @@ extended_16 bits v z some most lt fits e =
     to_z-of_z w16 (shr_z (to_z w16 (of_z w16 z)) (2 ^ (16 - bits))) (rw k (shift_fits_16 z (16 - bits) fits))
     ∙ ap (λ (y : ℤ). shr_z y (2 ^ (16 - bits))) (k ∙ e)
     ∙ shifted 32768 16 bits v some most refl lt
+
+-- the sample of a call, and the bits that it leaves
+pub sample_from : (w n : ℕ) (v : ℤ) (s left : Bits) → number_at w s ≡ Done n left → v ≡ twos w (n % 2 ^ w) → signed_at w s ≡ Done v left
+unfolding signed_at
+sample_from w n v s left e v-is =
+    let small : n < 2 ^ w = ((Reads-number w).takes s n left e).1.0 in
+    rw e (ap (λ (y : ℤ). done y left) (ap (twos w) (sym (mod_small n (2 ^ w) small)) ∙ sym v-is))

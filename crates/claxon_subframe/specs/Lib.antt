@@ -3,4 +3,5 @@ pub mod Partitions
 pub mod Lanes
 pub mod Decode
 pub mod Words
+pub mod Samples
 pub mod Predictor

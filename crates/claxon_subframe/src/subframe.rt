@@ -14,11 +14,13 @@ ghost use Rattle.claxon_subframe.specs.SubframeFields.{fixed_order, lpc_order, t
 ghost use Rattle.claxon_subframe.specs.Partitions.{lengths, total};
 
 mod predictor;
+mod verbatim;
 mod words;
 
 use claxon_input::error::{Error, Result};
 use claxon_input::input::{Bitstream, ReadBytes};
 use predictor::{predict_fixed, predict_lpc};
+use verbatim::decode_verbatim;
 use words::read_words;
 
 /// How the samples of a subframe are written.
@@ -204,21 +206,6 @@ fn decode_constant<R: ReadBytes>(
 {
     let sample = read_sample(input, bps)?;
     buffer.fill(sample);
-    Ok(())
-}
-
-fn decode_verbatim<R: ReadBytes>(
-    input: &mut Bitstream<R>,
-    bps: u32,
-    buffer: &mut [i32],
-) -> Result<()>
-    requires some { 0 < bps }
-    requires width { bps ≤ 32 }
-    ensures { Gives (λ x. buffer.new) result (times_at (length buffer.old) (signed_at bps)) (bits_in R.source input.old) (bits_in R.source input.new) }
-{
-    for sample in buffer.iter_mut() {
-        *sample = read_sample(input, bps)?;
-    }
     Ok(())
 }
 

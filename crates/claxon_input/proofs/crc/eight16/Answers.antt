@@ -1,4 +1,4 @@
-use Rattle.std.proofs.Common.{rules, sym, ap, ◌≡◌, ◌∙◌, ◌*◌, bit_xor, get_or, length}
+use Rattle.std.proofs.Common.{rules, sym, ap, ◌∙◌, ◌+◌, ◌*◌, bit_xor, get_or}
 use Rattle.std.proofs.lemmas.Nat.{and_mask}
 use Rattle.claxon_input.specs.Remainders.{check16, after_zeros}
 use Rattle.claxon_input.proofs.Remainders.{eight_is, eight_of}
@@ -7,13 +7,14 @@ use Rattle.claxon_input.proofs.crc.eight16.Goals as goal
 pub returns : goal.returns
 returns c =
     let bs = c.args.bytes.now in
-    let l : length bs ≡ 8 = search rules in
-    eight_is c.args.state (get_or bs 0 0) (get_or bs 1 0) (get_or bs 2 0) (get_or bs 3 0) (get_or bs 4 0) (get_or bs 5 0) (get_or bs 6 0) (get_or bs 7 0)
+    let i = c.args.at in
+    let n = c.args.zeros in
+    eight_is n c.args.state (get_or bs i 0) (get_or bs (i + 1) 0) (get_or bs (i + 2) 0) (get_or bs (i + 3) 0) (get_or bs (i + 4) 0) (get_or bs (i + 5) 0) (get_or bs (i + 6) 0) (get_or bs (i + 7) 0)
     c.entry16.result c.entry16-2.result c.entry16-3.result c.entry16-4.result c.entry16-5.result c.entry16-6.result c.entry16-7.result c.entry16-8.result
     (search rules) (search rules) (search rules) (search rules) (search rules) (search rules) (search rules) (search rules) (search rules)
     (record {
       at7 = c.entry16.ensures;
-      at6 = c.entry16-2.ensures ∙ ap (λ z. after_zeros 7 (bit_xor z (get_or bs 1 0) * 256)) (and_mask c.args.state 8);
+      at6 = c.entry16-2.ensures ∙ ap (λ z. after_zeros (n + 6 + 1) (bit_xor z (get_or bs (i + 1) 0) * 256)) (and_mask c.args.state 8);
       at5 = c.entry16-3.ensures;
       at4 = c.entry16-4.ensures;
       at3 = c.entry16-5.ensures;
@@ -21,4 +22,4 @@ returns c =
       at1 = c.entry16-7.ensures;
       at0 = c.entry16-8.ensures;
     })
-    ∙ ap (check16 c.args.state) (sym (eight_of bs l))
+    ∙ ap (λ z. after_zeros n (check16 c.args.state z)) (sym (eight_of i bs c.requires.within))

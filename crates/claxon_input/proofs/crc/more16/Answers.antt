@@ -3,17 +3,17 @@ use Rattle.claxon_input.specs.Remainders.{check16}
 use Rattle.claxon_input.proofs.Remainders.{check-piece, piece_at}
 use Rattle.claxon_input.proofs.crc.more16.Goals as goal
 
-pub loop-eight-init : goal.loop-eight-init
-loop-eight-init c = refl
+pub loop-sixteen-init : goal.loop-sixteen-init
+loop-sixteen-init c = refl
 
-pub loop-eight-preserved : goal.loop-eight-preserved
-loop-eight-preserved c =
-    let i = c.loop-eight.eight-index in
+pub loop-sixteen-preserved : goal.loop-sixteen-preserved
+loop-sixteen-preserved c =
+    let i = c.loop-sixteen.sixteen-index in
     let bs = c.args.bytes.now in
-    let piece = ap (λ xss. get_or xss i []) c.as_chunks.ensures.front ∙ piece_at (length bs / 8) i (8 * i) bs [] (omega arith) refl in
-    check-piece 16 0x18005 c.loop-eight.state c.eight16-state.result bs (8 * i) (8 * (i + 1)) (omega arith) (c.eight16-state.ensures ∙ ap (check16 c.loop-eight.state) piece) ∙ c.loop-eight.invariant
+    let piece = ap (λ xss. get_or xss i []) c.as_chunks.ensures.front ∙ piece_at 16 (length bs / 16) i (16 * i) bs [] (omega arith) refl in
+    check-piece 16 0x18005 16 c.loop-sixteen.state c.sixteen16-state.result bs (16 * i) (16 * (i + 1)) (omega arith) (c.sixteen16-state.ensures ∙ ap (check16 c.loop-sixteen.state) piece) ∙ c.loop-sixteen.invariant
 
 pub returns : goal.returns
 returns c =
-    let at : length c.args.bytes.now / 8 * 8 ≡ 8 * c.loop-eight.eight-index = omega arith in
-    c.each16.ensures ∙ ap (check16 c.loop-eight.state) (c.as_chunks.ensures.back ∙ ap (λ i. drop i c.args.bytes.now) at) ∙ c.loop-eight.invariant
+    let at : length c.args.bytes.now / 16 * 16 ≡ 16 * c.loop-sixteen.sixteen-index = omega arith in
+    c.eights16.ensures ∙ ap (check16 c.loop-sixteen.state) (c.as_chunks.ensures.back ∙ ap (λ i. drop i c.args.bytes.now) at) ∙ c.loop-sixteen.invariant

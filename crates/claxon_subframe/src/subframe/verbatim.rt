@@ -1,0 +1,89 @@
+//! Samples that are written as they are. They are read from the bits at hand, where no call can fail, and then these bits are
+//! skipped at once.
+ghost use Rattle.std.specs.Prelude.{◌≡◌, ◌<◌, ◌≤◌, ◌++◌, IfOk, IfErr, OnErr, MatchOption, length, take};
+ghost use Rattle.claxon_format.specs.Bits.{Bits};
+ghost use Rattle.claxon_format.specs.Reading.{Done, times_at};
+ghost use Rattle.claxon_format.specs.read.Bits.{signed_at};
+ghost use Rattle.claxon_input.specs.Ahead.{bits_ahead, GivesAhead};
+ghost use Rattle.claxon_input.specs.State.{bits_in};
+ghost use Rattle.claxon_input.specs.Gives.{Went, Stuck};
+ghost use Rattle.claxon_input.specs.Error.{IsIo};
+ghost use Rattle.claxon_subframe.specs.Samples.{SamplesAreRead};
+
+use super::{extend_sign_u32, read_sample};
+use claxon_input::error::Result;
+use claxon_input::input::{Ahead, Bitstream, ReadBytes};
+
+/// So many samples of `bps` bits as the buffer is long.
+pub fn decode_verbatim<R: ReadBytes>(
+    input: &mut Bitstream<R>,
+    bps: u32,
+    buffer: &mut [i32],
+) -> Result<()>
+    requires some { 0 < bps }
+    requires width { bps ≤ 32 }
+    ensures { SamplesAreRead R.source bps input.old result input.new buffer.old buffer.new }
+{
+    let mut start = 0;
+    while start < buffer.len() {
+        start += read_samples_at_hand(input, bps, &mut buffer[start..])?;
+        if start < buffer.len() {
+            buffer[start] = read_sample(input, bps)?;
+            start += 1;
+        }
+    }
+    Ok(())
+}
+
+// Reads the samples that stand whole in the bits at hand, and says how many. Only the source can fail.
+fn read_samples_at_hand<R: ReadBytes>(
+    input: &mut Bitstream<R>,
+    bps: u32,
+    buffer: &mut [i32],
+) -> Result<usize>
+    requires some { 0 < bps }
+    requires width { bps ≤ 32 }
+    ensures few { IfOk result (λ samples. samples ≤ length buffer.new) }
+    ensures ok { IfOk result (λ samples. Went (bits_in R.source input.old) (bits_in R.source input.new) (λ s m. times_at samples (signed_at bps) s ≡ Done (take samples buffer.new) m)) }
+    ensures io { IfErr result IsIo }
+    ensures err { OnErr result (Stuck (bits_in R.source input.old) (bits_in R.source input.new) (λ s. ⊥)) }
+{
+    let mut ahead = input.ahead();
+    let bits = ahead.len();
+    let samples = samples_ahead(&mut ahead, bps, buffer);
+    let passed = bits - ahead.len();
+    input.skip_bits(passed)?;
+    Ok(samples)
+}
+
+// The bits at hand are copied, since what is reached by a reference may be in the buffer and would be stored at each sample.
+#[inline(never)]
+fn samples_ahead(ahead: &mut Ahead, bps: u32, buffer: &mut [i32]) -> usize
+    requires some { 0 < bps }
+    requires width { bps ≤ 32 }
+    ensures few { result ≤ length buffer.new }
+    ensures samples { (rest : Bits) → times_at result (signed_at bps) (bits_ahead ahead.old ++ rest) ≡ Done (take result buffer.new) (bits_ahead ahead.new ++ rest) }
+{
+    let mut next = *ahead;
+    let mut samples = 0;
+    for place in buffer.iter_mut() {
+        let Some(sample) = sample_ahead(&mut next, bps) else {
+            break;
+        };
+        *place = sample;
+        samples += 1;
+    }
+    *ahead = next;
+    samples
+}
+
+// A sample, where it stands whole in the bits at hand.
+#[inline(always)]
+fn sample_ahead(ahead: &mut Ahead, bps: u32) -> Option<i32>
+    requires some { 0 < bps }
+    requires width { bps ≤ 32 }
+    ensures { MatchOption result (bits_ahead ahead.new ≡ bits_ahead ahead.old) (GivesAhead ahead.old ahead.new (signed_at bps)) }
+{
+    let sample = ahead.number(bps)?;
+    Some(extend_sign_u32(sample, bps))
+}
