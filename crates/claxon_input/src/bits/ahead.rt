@@ -1,9 +1,9 @@
 //! Bits at hand: those that a `Bitstream` can give without asking its source, read without being taken.
-ghost use Rattle.std.specs.Prelude.{◌≡◌, ◌+◌, ◌*◌, ◌-◌, ◌^◌, ◌<◌, ◌≤◌, length, take, drop};
+ghost use Rattle.std.specs.Prelude.{◌≡◌, ◌+◌, ◌*◌, ◌-◌, ◌%◌, ◌^◌, ◌<◌, ◌≤◌, IfSome, length, take, drop};
 ghost use Rattle.claxon_format.specs.Bits.{bits, bits_of};
 ghost use Rattle.claxon_format.specs.read.Bits.{number_at, unary_at};
 
-use super::{Bitstream, highest_one};
+use super::Bitstream;
 use crate::input::ReadBytes;
 use std::io;
 
@@ -18,7 +18,7 @@ pub struct Ahead<'a> {
     /// The index of the first byte that isn't in the cache.
     at: usize,
 
-    /// The bits before it, in the low places.
+    /// The bits before it, in the high places, and zeros below.
     cache: u64,
 
     /// How many those are.
@@ -26,11 +26,11 @@ pub struct Ahead<'a> {
     ghost within: { at ≤ length bytes.now },
     ghost few_bytes: { length bytes.now ≤ 65536 },
     ghost few: { count < 64 },
-    ghost fits: { cache < 2 ^ count },
+    ghost fits: { cache % 2 ^ (64 - count) ≡ 0 },
 }
 
 impl Ahead<'_> {
-    ghost use Rattle.claxon_input.specs.Ahead.{MayBeGivenAhead, bits_ahead};
+    ghost use Rattle.claxon_input.specs.Ahead.{MayBeGivenAhead, ShowsWindow, bits_ahead, in_cache};
 
     /// How many bits are left.
     pub fn len(&self) -> u32
@@ -48,7 +48,8 @@ impl Ahead<'_> {
         if self.count >= bits || self.bytes.len() - self.at < 4 {
             return;
         }
-        self.cache = self.cache << 32 | four_bytes(self.bytes, self.at) as u64;
+        let bytes = (four_bytes(self.bytes, self.at) as u64) << 32;
+        self.cache |= bytes >> self.count;
         self.count += 32;
         self.at += 4;
     }
@@ -62,10 +63,8 @@ impl Ahead<'_> {
         if self.cache == 0 {
             return None;
         }
-        let left = highest_one(self.cache, self.count);
-        let zeros = self.count - 1 - left;
-        self.cache -= 1 << left;
-        self.count = left;
+        let zeros = self.cache.leading_zeros();
+        self.pass(zeros + 1);
         Some(zeros)
     }
 
@@ -79,11 +78,37 @@ impl Ahead<'_> {
         if self.count < bits {
             return None;
         }
-        let left = self.count - bits;
-        let number = self.cache >> left;
-        self.cache &= (1 << left) - 1;
-        self.count = left;
+        let number = (self.cache >> 1) >> (63 - bits);
+        self.pass(bits);
         Some(number as u32)
+    }
+
+    /// The next 64 bits, where the cache and eight bytes behind it have them. None of them is taken: `pass` takes the first ones,
+    /// up to 56.
+    #[inline(always)]
+    pub fn window(&mut self) -> Option<u64>
+        ensures same { bits_ahead self.new ≡ bits_ahead self.old }
+        ensures some { IfSome result (λ window. ShowsWindow window self.new) }
+    {
+        if self.bytes.len() - self.at < 8 {
+            return None;
+        }
+        let window = self.cache | eight_bytes(self.bytes, self.at) >> self.count;
+        let kept = self.count % 8;
+        self.at += ((56 - (self.count - kept)) / 8) as usize;
+        self.cache = window - (window & ((1 << (8 - kept)) - 1));
+        self.count = 56 + kept;
+        Some(window)
+    }
+
+    /// Takes so many bits, which stand in the cache.
+    #[inline(always)]
+    pub fn pass(&mut self, bits: u32)
+        requires { bits ≤ in_cache self.now }
+        ensures { bits_ahead self.new ≡ drop bits (bits_ahead self.old) }
+    {
+        self.cache <<= bits;
+        self.count -= bits;
     }
 }
 
@@ -94,6 +119,24 @@ fn four_bytes(bytes: &[u8], at: usize) -> u32
     ensures { bits 32 result ≡ bits_of (take 4 (drop at bytes.now)) }
 {
     u32::from_be_bytes([bytes[at], bytes[at + 1], bytes[at + 2], bytes[at + 3]])
+}
+
+// Eight bytes as a number.
+#[inline(always)]
+fn eight_bytes(bytes: &[u8], at: usize) -> u64
+    requires { at + 8 ≤ length bytes.now }
+    ensures { bits 64 result ≡ bits_of (take 8 (drop at bytes.now)) }
+{
+    u64::from_be_bytes([
+        bytes[at],
+        bytes[at + 1],
+        bytes[at + 2],
+        bytes[at + 3],
+        bytes[at + 4],
+        bytes[at + 5],
+        bytes[at + 6],
+        bytes[at + 7],
+    ])
 }
 
 impl<R: ReadBytes> Bitstream<R> {
@@ -110,7 +153,7 @@ impl<R: ReadBytes> Bitstream<R> {
         Ahead {
             bytes: &bytes[..most],
             at: 0,
-            cache: self.cache,
+            cache: (self.cache << (63 - self.count)) << 1,
             count: self.count,
         }
     }

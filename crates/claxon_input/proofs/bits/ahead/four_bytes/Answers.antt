@@ -1,5 +1,5 @@
 use Rattle.std.proofs.Common.{arith}
-use Rattle.claxon_input.proofs.BitsAtHand.{four_here}
+use Rattle.claxon_input.proofs.CacheBits.{four_here}
 use Rattle.claxon_input.proofs.bits.ahead.four_bytes.Goals as goal
 
 pub returns : goal.returns

@@ -1,13 +1,22 @@
-use Rattle.std.proofs.Common.{arith}
-use Rattle.claxon_input.proofs.BitsAtHand.{filled, wider_fits}
+use Rattle.std.proofs.Common.{arith, ◌≤◌, ◌-◌, ◌*◌, ◌%◌, ◌≡◌, drop, length}
+use Rattle.std.proofs.lemmas.List.{length-drop}
+use Rattle.claxon_format.specs.Bits.{bits, bits_of}
+use Rattle.claxon_input.proofs.CacheBits.{put_below, put_fits, more_in_cache, four_read, bytes_behind}
 use Rattle.claxon_input.proofs.bits.ahead.Ahead.fill.Goals as goal
 
 pub invariant_of-self : goal.invariant_of-self
 invariant_of-self c =
     let a = c.args.self.now in
-    record { within = omega arith; few_bytes = a.few_bytes; few = omega arith; fits = wider_fits a.cache a.count c.four_bytes.result a.fits (omega arith) c.four_bytes.type_inv }
+    let y = c.four_bytes.result * 4294967296 % 18446744073709551616 in
+    let low : c.four_bytes.result * 4294967296 % 18446744073709551616 % 4294967296 ≡ 0 = omega arith in
+    record { within = omega arith; few_bytes = a.few_bytes; few = omega arith; fits = put_fits a.cache a.count y 32 (omega arith) (omega arith) a.fits (omega arith) low }
 
 pub returns : goal.returns
 returns c =
     let a = c.args.self.now in
-    filled a.cache a.count a.at c.four_bytes.result a.bytes.now a.fits (omega arith) c.four_bytes.type_inv c.four_bytes.ensures
+    let y = c.four_bytes.result * 4294967296 % 18446744073709551616 in
+    let some : 4 ≤ length (drop a.at a.bytes.now) = omega (arith, length-drop a.at a.bytes.now) in
+    more_in_cache a.cache a.count _ 32 (bits 64 y) (bits_of (drop a.at a.bytes.now)) _
+    (put_below a.cache a.count y 32 (omega arith) (omega arith) a.fits (omega arith))
+    (four_read c.four_bytes.result (drop a.at a.bytes.now) (omega arith) some c.four_bytes.ensures)
+    (bytes_behind a.at 32 4 a.bytes.now (omega arith) (omega arith))

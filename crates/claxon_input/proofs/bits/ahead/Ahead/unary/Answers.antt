@@ -1,13 +1,19 @@
-use Rattle.std.proofs.Common.{arith, drop, ap, ◌++◌, ◌∙◌, sym}
-use Rattle.std.proofs.lemmas.Nat.{one_shl}
+use Rattle.std.proofs.Common.{arith, drop, ap, ◌++◌, ◌∙◌, ◌<◌, sym}
+use Rattle.std.specs.Int.{leading_zeros, w64}
 use Rattle.claxon_format.specs.Bits.{Bits, bits_of}
+use Rattle.claxon_format.specs.Reading.{Done}
 use Rattle.claxon_format.specs.read.Bits.{unary_at}
-use Rattle.claxon_input.proofs.BitsAtHand.{unary_here}
+use Rattle.claxon_input.proofs.CacheBits.{unary_on_top, one_in_cache}
 use Rattle.claxon_input.proofs.bits.ahead.Ahead.unary.Goals as goal
+
+pub pass-requires : goal.pass-requires
+pass-requires c =
+    let a = c.fill.new.self in
+    one_in_cache a.cache a.count (omega arith) (omega arith) (omega arith) a.fits
 
 pub returns : goal.returns
 returns c rest =
     let a = c.fill.new.self in
-    let j = c.highest_one-left.result in
-    rw (one_shl j 64 (omega (arith, c.highest_one-left.ensures.below, a.few)))
-    (ap (λ (s : Bits). unary_at (s ++ rest)) (sym c.fill.ensures) ∙ unary_here a.cache a.count j (bits_of (drop a.at a.bytes.now)) rest c.highest_one-left.ensures.here c.highest_one-left.ensures.above c.highest_one-left.ensures.below a.few)
+    ap (λ (s : Bits). unary_at (s ++ rest)) (sym c.fill.ensures)
+    ∙ unary_on_top a.cache a.count (bits_of (drop a.at a.bytes.now)) rest (omega arith) (omega arith) (omega arith) a.fits
+    ∙ ap (λ (s : Bits). Done (leading_zeros w64 a.cache) (s ++ rest)) (sym c.pass.ensures)
