@@ -1,6 +1,7 @@
 -- What the calls that read the words of a partition promise (RFC 9639, section 9.2.7.1).
-use Rattle.std.specs.Prelude.{ℕ, List, ℤ, length, Result}
-use Rattle.claxon_format.specs.Reading.{times_at}
+use Rattle.std.specs.Prelude.{◌≡◌, ℕ, ◌-◌, ◌<◌, ◌≤◌, List, ◌++◌, ℤ, length, take, drop, Result}
+use Rattle.claxon_format.specs.Bits.{Bits, bits}
+use Rattle.claxon_format.specs.Reading.{Done, times_at}
 use Rattle.claxon_format.specs.read.Bits.{word_at}
 use Rattle.claxon_input.specs.Gives.{Gives}
 use Rattle.claxon_input.specs.Source.{Source}
@@ -11,3 +12,8 @@ use Rattle.claxon_input.specs.declared.error.Error.{Error}
 -- The buffer now holds the entries of words under this parameter, as many as it is long, which were taken.
 abbrev pub WordsAreRead : {R A : Type 0} {g : _} → (R → Source ℕ) → ℕ → Bitstream R g → Result A Error → Bitstream R g → List ℤ → List ℤ → Type 0
 WordsAreRead source parameter old result new was is = Gives (λ x. is) result (times_at (length was) (word_at parameter)) (bits_in source old) (bits_in source new)
+
+-- The first n of the window's 64 bits begin with a word of x in so many bits, and what is left of them comes first in `turned`.
+pub record IsFirstWord (parameter window : ℕ) (x : ℤ) (many turned : ℕ) : Type 0 where
+  pub word : (n : ℕ) (rest : Bits) → many < 64 → many ≤ n → n ≤ 64 → word_at parameter (take n (bits 64 window) ++ rest) ≡ Done x (drop many (take n (bits 64 window)) ++ rest)
+  pub others : (n : ℕ) → many < 64 → many ≤ n → n ≤ 64 → take (n - many) (bits 64 turned) ≡ drop many (take n (bits 64 window))

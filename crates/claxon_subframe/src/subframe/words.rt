@@ -1,6 +1,7 @@
 //! The words of a partition: most of a stream, and so most of its time. They are read from the bits at hand, where no call
 //! can fail, and then these bits are skipped at once.
-ghost use Rattle.std.specs.Prelude.{◌≡◌, ◌≤◌, ◌++◌, IfOk, IfErr, OnErr, MatchOption, length, take};
+ghost use Rattle.std.specs.Prelude.{◌≡◌, ◌<◌, ◌≤◌, ◌++◌, IfOk, IfErr, OnErr, MatchOption, length, take};
+ghost use Rattle.std.specs.Bool.{MatchBool};
 ghost use Rattle.claxon_format.specs.Bits.{Bits, unfold_at};
 ghost use Rattle.claxon_format.specs.Reading.{Done, times_at};
 ghost use Rattle.claxon_format.specs.read.Bits.{word_at};
@@ -8,7 +9,7 @@ ghost use Rattle.claxon_input.specs.Ahead.{bits_ahead, GivesAhead};
 ghost use Rattle.claxon_input.specs.State.{bits_in};
 ghost use Rattle.claxon_input.specs.Gives.{Gives, Went, Stuck};
 ghost use Rattle.claxon_input.specs.Error.{IsIo};
-ghost use Rattle.claxon_subframe.specs.Words.{WordsAreRead};
+ghost use Rattle.claxon_subframe.specs.Words.{WordsAreRead, IsFirstWord};
 
 use claxon_input::error::Result;
 use claxon_input::input::{Ahead, Bitstream, ReadBytes};
@@ -59,15 +60,94 @@ fn words_ahead(ahead: &mut Ahead, parameter: u32, buffer: &mut [i32]) -> usize
     ensures few { result ≤ length buffer.new }
     ensures words { (rest : Bits) → times_at result (word_at parameter) (bits_ahead ahead.old ++ rest) ≡ Done (take result buffer.new) (bits_ahead ahead.new ++ rest) }
 {
+    // What a reference leads to might lie in the buffer, so it would be read again after each word: a copy stays in registers.
+    let mut next = *ahead;
+    let words = match parameter {
+        0..=4 => words_by(6, &mut next, parameter, buffer),
+        5..=9 => words_by(4, &mut next, parameter, buffer),
+        10..=13 => words_by(3, &mut next, parameter, buffer),
+        _ => words_by(2, &mut next, parameter, buffer),
+    };
+    *ahead = next;
+    words
+}
+
+// The words that stand whole in the bits at hand, so many at once where they fit into a window.
+#[inline(always)]
+fn words_by(group: usize, ahead: &mut Ahead, parameter: u32, buffer: &mut [i32]) -> usize
+    requires parameter { parameter ≤ 30 }
+    requires group { group ≤ 6 }
+    ensures few { result ≤ length buffer.new }
+    ensures words { GivesAhead ahead.old ahead.new (times_at result (word_at parameter)) (take result buffer.new) }
+{
     let mut words = 0;
-    for entry in buffer.iter_mut() {
-        let Some(word) = word_ahead(ahead, parameter) else {
+    while words < buffer.len() {
+        let more = group_or_word(group, ahead, parameter, &mut buffer[words..]);
+        if more == 0 {
             break;
-        };
-        *entry = word;
-        words += 1;
+        }
+        words += more;
     }
     words
+}
+
+// A group of words, or else one, or none: how many.
+#[inline(always)]
+fn group_or_word(group: usize, ahead: &mut Ahead, parameter: u32, buffer: &mut [i32]) -> usize
+    requires parameter { parameter ≤ 30 }
+    requires group { group ≤ 6 }
+    requires room { 0 < length buffer.now }
+    ensures few { result ≤ length buffer.new }
+    ensures words { GivesAhead ahead.old ahead.new (times_at result (word_at parameter)) (take result buffer.new) }
+{
+    if group <= buffer.len() && group_ahead(ahead, parameter, &mut buffer[..group]) {
+        return group;
+    }
+    let Some(word) = word_ahead(ahead, parameter) else {
+        return 0;
+    };
+    buffer[0] = word;
+    1
+}
+
+// As many words as the group has places, where they fit into a window. Otherwise what is in the group is of no use.
+#[inline(always)]
+fn group_ahead(ahead: &mut Ahead, parameter: u32, group: &mut [i32]) -> bool
+    requires parameter { parameter ≤ 30 }
+    requires few { length group.now ≤ 6 }
+    ensures { MatchBool result (GivesAhead ahead.old ahead.new (times_at (length group.new) (word_at parameter)) group.new) (bits_ahead ahead.new ≡ bits_ahead ahead.old) }
+{
+    let Some(first) = ahead.window() else {
+        return false;
+    };
+    let mut window = first;
+    let mut used = 0;
+    for entry in group.iter_mut() {
+        let (word, bits, turned) = first_word(window, parameter);
+        *entry = word;
+        used += bits;
+        window = turned;
+    }
+    if used > 56 {
+        return false;
+    }
+    ahead.pass(used);
+    true
+}
+
+// The word that a window of 64 bits begins with, how many bits it has, and the window turned past them. Where it has 64 bits
+// or more nothing is known of it.
+#[inline(always)]
+fn first_word(window: u64, parameter: u32) -> (i32, u32, u64)
+    requires { parameter ≤ 30 }
+    ensures few { result.1 ≤ 94 }
+    ensures word { IsFirstWord parameter window result.0 result.1 result.2 }
+{
+    let zeros = (window | 1).leading_zeros();
+    let bits = zeros + 1 + parameter;
+    let turned = window.rotate_left(bits);
+    let low = (turned & ((1 << parameter) - 1)) as u32;
+    (rice_to_signed((zeros << parameter) | low), bits, turned)
 }
 
 // A word, where it stands whole in the bits at hand.

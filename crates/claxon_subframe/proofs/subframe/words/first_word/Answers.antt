@@ -1,0 +1,17 @@
+use Rattle.std.proofs.Common.{arith, refl, ap, bit_or, ◌*◌, ◌%◌, ◌^◌, ◌∙◌, ℕ}
+use Rattle.std.specs.Int.{leading_zeros, w64}
+use Rattle.claxon_format.specs.Bits.{unfold_at}
+use Rattle.claxon_input.proofs.BitSteps.{mask}
+use Rattle.claxon_subframe.proofs.WordWindows.{first_is, one_below}
+use Rattle.claxon_subframe.proofs.subframe.words.first_word.Goals as goal
+
+pub returns-clause-few : goal.returns-clause-few
+returns-clause-few c = let z = one_below c.args.window (omega arith) in omega arith
+
+pub returns-clause-word : goal.returns-clause-word
+returns-clause-word c =
+    let k = c.args.parameter in
+    let turned = c.rotate_left-turned.ensures in
+    let low = mask c.rotate_left-turned.result k (omega arith) ∙ ap (λ (t : ℕ). t % 2 ^ k) turned in
+    rw turned
+    (first_is k c.args.window c.rice_to_signed.result _ c.requires (omega arith) (c.rice_to_signed.ensures ∙ ap (λ (r : ℕ). unfold_at (bit_or (leading_zeros w64 (bit_or c.args.window 1) * 2 ^ k % 4294967296) r)) low) refl)
