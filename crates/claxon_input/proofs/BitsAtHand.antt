@@ -1,23 +1,19 @@
 -- Bits at hand, and bits that are skipped.
-use Rattle.std.proofs.Common.{bit_or, bit_and, ◌≡◌, ℕ, suc, ◌+◌, ◌-◌, ◌*◌, ◌/◌, ◌%◌, ◌^◌, ◌<◌, ◌≤◌, ◌⊎◌, inl, inr, Bool, true, false, ltb, cond, List, [], ◌∷◌, ◌++◌, length, take, drop, get_or, replicate, Option, None, Some, refl, sym, ap, subst, ◌∙◌, append_assoc, arith, length-append}
+use Rattle.std.proofs.Common.{bit_and, ◌≡◌, ℕ, ◌+◌, ◌-◌, ◌*◌, ◌/◌, ◌%◌, ◌^◌, ◌<◌, ◌≤◌, ◌⊎◌, inl, inr, Bool, true, false, ltb, cond, List, [], ◌∷◌, ◌++◌, length, take, drop, Option, None, Some, refl, sym, ap, subst, ◌∙◌, append_assoc, arith, length-append}
 use Rattle.std.specs.Prelude.{IfSome}
 use Rattle.std.specs.Option.{option_map}
 use Rattle.std.proofs.lemmas.Bool.{lt-ltb, le-ltb, ltb-true}
-use Rattle.std.proofs.lemmas.Nat.{or_shifted, pow-add}
-use Rattle.std.proofs.lemmas.List.{drop_at, drop-drop, take-append-drop, drop_more, append-nil}
+use Rattle.std.proofs.lemmas.List.{drop_at, take-append-drop}
 use Rattle.claxon_format.specs.Bits.{Bits, bits, bits_of}
 use Rattle.claxon_format.specs.Reading.{Done, Short}
-use Rattle.claxon_format.specs.read.Bits.{number_at, unary_at}
 use Rattle.claxon_format.proofs.Bytes.{bits_of-append, length-bits_of}
-use Rattle.claxon_format.proofs.Numbers.{Reads-number, length-bits}
-use Rattle.claxon_format.proofs.Words.{Reads-unary}
+use Rattle.claxon_format.proofs.Numbers.{length-bits}
 use Rattle.claxon_input.specs.Bitstream.{BitState, left_in, TakesBits, RefusesBits}
 use Rattle.claxon_input.specs.Ahead.{passed_at}
 use Rattle.claxon_input.specs.Source.{Source, IsFront, Skips, Takes, Refuses, Failed}
 use Rattle.claxon_input.specs.State.{is_told, known, bits_after}
 use Rattle.claxon_input.specs.Gives.{Went, Stuck}
-use Rattle.claxon_input.proofs.BitLists.{bits-join, bits-cut}
-use Rattle.claxon_input.proofs.BitSteps.{small, one_at, mask, top_lt, bits_both, fetched, cut_in_cache, refused}
+use Rattle.claxon_input.proofs.BitSteps.{bits_both, fetched, cut_in_cache, refused}
 use Rattle.claxon_input.proofs.States.{state_of_bits, went, stuck}
 
 -- ---- those at hand come first

@@ -59,7 +59,6 @@ length_in_cache x count h = length-take-le count (bits 64 x) (rw (length-bits 64
 pub taken_off : (x count n : ℕ) (m : Bits) → n ≤ count → count ≤ 64 → take (count - n) (bits 64 (x * 2 ^ n % 18446744073709551616)) ++ m ≡ drop n (take count (bits 64 x) ++ m)
 taken_off x count n m h k =
     let len = length_in_cache x count k in
-    let y : ℕ = x * 2 ^ n % 18446744073709551616 in
     let e : count ≡ n + (count - n) = omega arith in
     let one : take (count - n) (bits 64 (x * 2 ^ n % 18446744073709551616)) ≡ take (count - n) (drop n (bits 64 x))
     = sym (take-take (count - n) (64 - n) (bits 64 (x * 2 ^ n % 18446744073709551616)) (omega arith)) ∙ ap (take (count - n)) (shifted x n (omega arith)) in
@@ -68,8 +67,6 @@ taken_off x count n m h k =
 
 pub taken_fits : (x count n : ℕ) → n ≤ count → count ≤ 64 → x % 2 ^ (64 - count) ≡ 0 → x * 2 ^ n % 18446744073709551616 % 2 ^ (64 - (count - n)) ≡ 0
 taken_fits x count n h k z =
-    let c : ℕ = x / 2 ^ (64 - count) in
-    let p : ℕ = 64 - (count - n) in
     let e : 64 - count + n ≡ 64 - (count - n) = omega arith in
     let w : count - n + (64 - (count - n)) ≡ 64 = omega arith in
     let y : x * 2 ^ n ≡ x / 2 ^ (64 - count) * 2 ^ (64 - (count - n))
@@ -78,7 +75,7 @@ taken_fits x count n h k z =
     ∙ subst (λ (j : ℕ). x / 2 ^ (64 - count) * 2 ^ (64 - (count - n)) % 2 ^ j % 2 ^ (64 - (count - n)) ≡ 0) w (whole_mod_twice (x / 2 ^ (64 - count)) (64 - (count - n)) (count - n))
 
 -- the first n are read from the cache
-pub front_taken : (x count n : ℕ) (m : Bits) → n ≤ count → count ≤ 64 → take count (bits 64 x) ++ m ≡ take n (bits 64 x) ++ drop n (take count (bits 64 x) ++ m)
+front_taken : (x count n : ℕ) (m : Bits) → n ≤ count → count ≤ 64 → take count (bits 64 x) ++ m ≡ take n (bits 64 x) ++ drop n (take count (bits 64 x) ++ m)
 front_taken x count n m h k =
     let len = length_in_cache x count k in
     sym (take-append-drop n (take count (bits 64 x) ++ m))
@@ -88,14 +85,11 @@ front_taken x count n m h k =
 
 pub record HighestOne (x zeros : ℕ) : Type 0 where
   pub within : zeros < 64
-  pub above : 2 ^ (63 - zeros) ≤ x
   pub front : take (zeros + 1) (bits 64 x) ≡ replicate zeros false ++ true ∷ []
 
 pub highest : (x : ℕ) → 0 < x → x < 18446744073709551616 → HighestOne x (leading_zeros w64 x)
 highest x some lt =
     let (j, e, a, b) = leading_top 64 x some lt in
-    let z : ℕ = leading_zeros w64 x in
-    let p : 63 - leading_zeros w64 x ≡ j = omega (arith, e) in
     let q : 64 - 1 - j ≡ leading_zeros w64 x = omega (arith, e) in
     let k : suc j ≡ j + 1 = omega arith in
     let all : bits 64 x ≡ replicate (64 - 1 - j) false ++ true ∷ bits j (x - 2 ^ j) = one_at x 64 j a (subst (λ (m : ℕ). x < 2 ^ m) k b) (omega (arith, e)) in
@@ -104,7 +98,6 @@ highest x some lt =
     let len : length (replicate (leading_zeros w64 x) false ++ true ∷ []) ≡ leading_zeros w64 x + 1 = length-append (replicate (leading_zeros w64 x) false) (true ∷ []) ∙ ap (λ (m : ℕ). m + 1) (length-replicate (leading_zeros w64 x) false) in
     record {
       within = omega (arith, e);
-      above = rw p a;
       front = ap (take (leading_zeros w64 x + 1)) split ∙ take_at (replicate (leading_zeros w64 x) false ++ true ∷ []) (bits j (x - 2 ^ j)) (leading_zeros w64 x + 1) len;
     }
 
@@ -113,15 +106,14 @@ pub one_in_cache : (x count : ℕ) → count ≤ 64 → 0 < x → x < 1844674407
 one_in_cache x count h some lt fits =
     let (j, e, a, b) = leading_top 64 x some lt in
     ⊎_elim (λ (l : j < 64 - count).
-        let p : 2 ^ suc j ≤ 2 ^ (64 - count) = pow-le-pow_right (omega arith) (omega arith) in
-        let s : x % 2 ^ (64 - count) ≡ x = mod_small x (2 ^ (64 - count)) (omega arith) in absurd (omega arith))
+    let p : 2 ^ suc j ≤ 2 ^ (64 - count) = pow-le-pow_right (omega arith) (omega arith) in
+    let s : x % 2 ^ (64 - count) ≡ x = mod_small x (2 ^ (64 - count)) (omega arith) in absurd (omega arith))
     (λ (l : 64 - count ≤ j). omega (arith, e))
     (cases_lt j (64 - count))
 
 pub unary_on_top : (x count : ℕ) (m rest : Bits) → count ≤ 64 → 0 < x → x < 18446744073709551616 → x % 2 ^ (64 - count) ≡ 0
     → unary_at ((take count (bits 64 x) ++ m) ++ rest) ≡ Done (leading_zeros w64 x) (drop (leading_zeros w64 x + 1) (take count (bits 64 x) ++ m) ++ rest)
 unary_on_top x count m rest h some lt fits =
-    let z : ℕ = leading_zeros w64 x in
     let one = highest x some lt in
     let within : leading_zeros w64 x < 64 = one.within in
     let split : (take count (bits 64 x) ++ m) ++ rest ≡ (replicate (leading_zeros w64 x) false ++ true ∷ []) ++ (drop (leading_zeros w64 x + 1) (take count (bits 64 x) ++ m) ++ rest)
@@ -173,7 +165,6 @@ put_below x count y m h k z lt =
 
 pub put_fits : (x count y m : ℕ) → m ≤ 64 - count → count ≤ 64 → x % 2 ^ (64 - count) ≡ 0 → y < 18446744073709551616 → y % 2 ^ (64 - m) ≡ 0 → bit_or x (y / 2 ^ count) % 2 ^ (64 - (count + m)) ≡ 0
 put_fits x count y m h k z lt low =
-    let p : ℕ = 64 - (count + m) in
     let e : 64 - m ≡ 64 - (count + m) + count = omega arith in
     let f : 64 - count ≡ m + (64 - (count + m)) = omega arith in
     let d : y / 2 ^ count ≡ y / 2 ^ (64 - m) * 2 ^ (64 - (count + m))
@@ -196,12 +187,11 @@ length_bytes : (j : ℕ) (d : List ℕ) → j ≤ length d → length (bits_of (
 length_bytes j d h = length-bits_of (take j d) ∙ ap (λ (m : ℕ). 8 * m) (length-take-le j d h)
 
 -- bits of the first j bytes
-pub bytes_front : (m j : ℕ) (d : List ℕ) → m ≤ 8 * j → j ≤ length d → take m (bits_of (take j d)) ≡ take m (bits_of d)
+bytes_front : (m j : ℕ) (d : List ℕ) → m ≤ 8 * j → j ≤ length d → take m (bits_of (take j d)) ≡ take m (bits_of d)
 bytes_front m j d h k = let len = length_bytes j d k in sym (ap (take m) (bytes_cut j d) ∙ take-append-le m (bits_of (take j d)) (bits_of (drop j d)) (omega arith))
 
 pub bytes_behind : (at m j : ℕ) (bytes : List ℕ) → m ≡ 8 * j → at + j ≤ length bytes → bits_of (drop (at + j) bytes) ≡ drop m (bits_of (drop at bytes))
 bytes_behind at m j bytes e h =
-    let d : List ℕ = drop at bytes in
     let k : j ≤ length (drop at bytes) = omega (arith, length-drop at bytes) in
     let len : length (bits_of (take j (drop at bytes))) ≡ m = length_bytes j (drop at bytes) k ∙ sym e in
     ap bits_of (sym (drop-drop j at bytes)) ∙ sym (ap (drop m) (bytes_cut j (drop at bytes)) ∙ drop_at (bits_of (take j (drop at bytes))) (bits_of (drop j (drop at bytes))) m len)
@@ -271,7 +261,6 @@ pub window_next : (x count y at : ℕ) (bytes : List ℕ) → count < 64 → x %
     → take count (bits 64 x) ++ bits_of (drop at bytes) ≡ bits 64 (bit_or x (y / 2 ^ count)) ++ drop (64 - count) (bits_of (drop at bytes))
 window_next x count y at bytes lt fits small h e =
     let some : 8 ≤ length (drop at bytes) = omega (arith, length-drop at bytes) in
-    let w : ℕ = bit_or x (y / 2 ^ count) in
     let all : count + (64 - count) ≡ 64 = omega arith in
     let more = more_in_cache x count (bit_or x (y / 2 ^ count)) (64 - count) (bits 64 y) (bits_of (drop at bytes)) (drop (64 - count) (bits_of (drop at bytes)))
     (put_below x count y (64 - count) (omega arith) (omega arith) fits small) (eight_read y (64 - count) (drop at bytes) (omega arith) some e) refl in
@@ -283,7 +272,6 @@ pub window_kept : (x count y at w : ℕ) (bytes : List ℕ) → count < 64 → x
     → take (56 + count % 8) (bits 64 (w - bit_and w (1 * 2 ^ (8 - count % 8) % 18446744073709551616 - 1))) ++ bits_of (drop (at + (56 - (count - count % 8)) / 8) bytes) ≡ take count (bits 64 x) ++ bits_of (drop at bytes)
 window_kept x count y at w bytes lt fits small h e is =
     let some : 8 ≤ length (drop at bytes) = omega (arith, length-drop at bytes) in
-    let m : ℕ = 56 - (count - count % 8) in
     let kept : 64 - (8 - count % 8) ≡ 56 + count % 8 = omega arith in
     let sum : 56 + count % 8 ≡ count + (56 - (count - count % 8)) = omega arith in
     let zeroed = (low_zeroed w (8 - count % 8) (omega arith)).0 in

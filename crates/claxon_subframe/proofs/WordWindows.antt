@@ -1,8 +1,8 @@
 -- Words that are read from a window of 64 bits, which is turned past each.
-use Rattle.std.proofs.Common.{bit_or, bit_and, ◌≡◌, ℕ, suc, zero, ◌+◌, ◌-◌, ◌*◌, ◌/◌, ◌%◌, ◌^◌, ◌<◌, ◌≤◌, Bool, true, false, List, [], ◌∷◌, ◌++◌, length, take, drop, set, replicate, refl, sym, ap, ap₂, subst, ◌∙◌, append_assoc, arith, ℤ, length-append, take-add, to_z, of_z, w32}
+use Rattle.std.proofs.Common.{bit_or, ◌≡◌, ℕ, suc, ◌+◌, ◌-◌, ◌*◌, ◌/◌, ◌%◌, ◌^◌, ◌<◌, ◌≤◌, true, false, List, [], ◌∷◌, ◌++◌, length, take, drop, set, replicate, refl, sym, ap, ap₂, subst, ◌∙◌, append_assoc, arith, ℤ, take-add, to_z, of_z, w32}
 use Rattle.std.specs.Int.{leading_zeros, rotate_left, w64}
 use Rattle.std.specs.Int.Bits.{or_zero_r}
-use Rattle.std.proofs.lemmas.List.{take_at, drop_at, take-take, drop-take, take-append-le, drop-append-le, length-take-le, length-drop, take-append-drop, drop-drop, take_more_set, take_all, append-nil}
+use Rattle.std.proofs.lemmas.List.{take-take, drop-take, take-append-le, drop-append-le, length-drop, take-append-drop, drop-drop, take_more_set, take_all}
 use Rattle.std.proofs.lemmas.Nat.{pow_pos, shl-shr, shr_below, or_shifted, or_shr, or_lt, mod-pow-add, mod-mul-add, mod_below, le_or_r}
 use Rattle.std.proofs.Math.Nat.{pow-le-pow_right, div-eq_of_lt}
 use Rattle.std.proofs.Math.Seq.{drop-append-add}
@@ -40,8 +40,6 @@ turned_bits x n some h lt =
 -- the bits that come last once z + 1 + k were turned past
 last_bits : (x z k : ℕ) → z + 1 + k < 64 → x < 18446744073709551616 → bits k (rotate_left w64 x (z + 1 + k) % 2 ^ k) ≡ take k (drop (z + 1) (bits 64 x))
 last_bits x z k h lt =
-    let n : ℕ = z + 1 + k in
-    let t : ℕ = rotate_left w64 x (z + 1 + k) in
     let len : length (drop (z + 1 + k) (bits 64 x)) ≡ 64 - (z + 1 + k) = length-drop (z + 1 + k) (bits 64 x) ∙ ap (λ (m : ℕ). m - (z + 1 + k)) (length-bits 64 x) in
     let e : 64 - (64 - k) ≡ k = omega arith in
     let f : 64 - k ≡ length (drop (z + 1 + k) (bits 64 x)) + (z + 1) = omega arith in
@@ -57,7 +55,6 @@ last_bits x z k h lt =
 -- one more bit at the end doesn't move the first one
 first_one : (x : ℕ) → x < 18446744073709551616 → leading_zeros w64 (bit_or x 1) < 63 → take (leading_zeros w64 (bit_or x 1) + 1) (bits 64 x) ≡ replicate (leading_zeros w64 (bit_or x 1)) false ++ true ∷ []
 first_one x lt h =
-    let z : ℕ = leading_zeros w64 (bit_or x 1) in
     let some : 1 ≤ bit_or x 1 = le_or_r x 1 in
     let one = highest (bit_or x 1) some (or_lt 64 x 1 lt (omega arith)) in
     let e : 64 - (leading_zeros w64 (bit_or x 1) + 1) ≡ suc (62 - leading_zeros w64 (bit_or x 1)) = omega arith in

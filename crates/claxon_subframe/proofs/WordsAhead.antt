@@ -42,7 +42,6 @@ no_word k a c same rest = ap (λ (t : Bits). Done [] (t ++ rest)) (sym same)
 pub words_more : (k : ℕ) (xs ys : List ℤ) (words more : ℕ) (a b c : Ahead) → words ≤ length xs → more ≤ length ys → length ys ≡ length (take (length xs - words) (drop words xs)) → WordsSoFar k xs words a b
     → GivesAhead b c (times_at more (word_at k)) (take more ys) → WordsSoFar k (put_mid words (length xs - words) xs ys) (words + more) a c
 words_more k xs ys words more a b c le few same h e =
-    let zs : List ℤ = put_mid words (length xs - words) xs ys in
     let front : length (take words xs) ≡ words = length-take-le words xs le in
     let whole : length (put_mid words (length xs - words) xs ys) ≡ length xs = same_len_mid words (length xs - words) xs ys same in
     let room : length ys ≡ length xs - words = same ∙ omega (arith, length-take (length xs - words) (drop words xs), length-drop words xs) in

@@ -1,4 +1,3 @@
-use Rattle.std.proofs.Common.{◌≡◌}
 use Rattle.claxon_subframe.proofs.WordWindows.{GroupSoFar}
 use Rattle.claxon_subframe.proofs.subframe.words.group_ahead.Given as goal
 

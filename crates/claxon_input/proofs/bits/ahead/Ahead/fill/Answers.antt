@@ -1,4 +1,4 @@
-use Rattle.std.proofs.Common.{arith, ◌≤◌, ◌-◌, ◌*◌, ◌%◌, ◌≡◌, drop, length}
+use Rattle.std.proofs.Common.{arith, ◌≤◌, ◌*◌, ◌%◌, ◌≡◌, drop, length}
 use Rattle.std.proofs.lemmas.List.{length-drop}
 use Rattle.claxon_format.specs.Bits.{bits, bits_of}
 use Rattle.claxon_input.proofs.CacheBits.{put_below, put_fits, more_in_cache, four_read, bytes_behind}

@@ -1,5 +1,5 @@
-use Rattle.std.proofs.Common.{rules, arith, drop, ap, ◌≡◌, ◌+◌, ◌-◌, ◌/◌, ◌^◌, ◌++◌, ◌∙◌, sym}
-use Rattle.claxon_format.specs.Bits.{Bits, bits, bits_of}
+use Rattle.std.proofs.Common.{rules, arith, drop, ap, ◌-◌, ◌/◌, ◌^◌, ◌++◌, ◌∙◌, sym}
+use Rattle.claxon_format.specs.Bits.{Bits, bits_of}
 use Rattle.claxon_format.specs.Reading.{Done}
 use Rattle.claxon_format.specs.read.Bits.{number_at}
 use Rattle.claxon_input.proofs.CacheBits.{number_on_top, number_fits}

@@ -1,4 +1,4 @@
-use Rattle.std.proofs.Common.{arith, drop, ap, ◌++◌, ◌∙◌, ◌<◌, sym}
+use Rattle.std.proofs.Common.{arith, drop, ap, ◌++◌, ◌∙◌, sym}
 use Rattle.std.specs.Int.{leading_zeros, w64}
 use Rattle.claxon_format.specs.Bits.{Bits, bits_of}
 use Rattle.claxon_format.specs.Reading.{Done}

@@ -1,4 +1,4 @@
-use Rattle.std.proofs.Common.{arith, refl, ◌-◌, ◌^◌, ◌/◌, drop, bit_or, sym, ◌∙◌}
+use Rattle.std.proofs.Common.{arith, refl, ◌-◌, ◌^◌, ◌/◌, drop, bit_or, ◌∙◌}
 use Rattle.claxon_format.specs.Bits.{bits_of}
 use Rattle.claxon_input.proofs.CacheBits.{window_next, window_kept, window_fits}
 use Rattle.claxon_input.proofs.bits.ahead.Ahead.window.Goals as goal
