@@ -1,19 +1,25 @@
 -- The calls of a reader of bytes give what the readers of fields give.
-use Rattle.std.proofs.Common.{◌≡◌, ℕ, ◌*◌, ◌^◌, ◌<◌, List, [], ◌∷◌, length, refl, ◌∙◌}
-use Rattle.std.proofs.lemmas.List.{length-reverse}
+use Rattle.std.proofs.Common.{◌≡◌, ℕ, ◌+◌, ◌*◌, ◌^◌, ◌<◌, ◌≤◌, List, [], ◌∷◌, length, Option, None, Some, refl, ◌∙◌, arith}
 use Rattle.claxon_format.specs.read.Bytes.{bytes_at, big_at, little_at, skipped_at}
 use Rattle.claxon_format.specs.Reading.{Reading, Done, Short}
 use Rattle.claxon_input.specs.Bytes.{be_bytes, le_bytes}
-use Rattle.claxon_input.specs.Source.{Source, Takes, Refuses, Skips}
-use Rattle.claxon_input.specs.State.{State, bytes_in}
+use Rattle.claxon_input.specs.Promises.{TakesAtMost}
+use Rattle.claxon_input.specs.Source.{Source, LosesAtMost, Takes, Refuses, Skips}
+use Rattle.claxon_input.specs.State.{State, bytes_in, known}
 use Rattle.claxon_input.specs.Gives.{Went, Stuck}
-use Rattle.claxon_input.proofs.BigEndian.{be_1, length-be_bytes, big_endian-bytes, little_endian-bytes}
+use Rattle.claxon_input.proofs.BigEndian.{be_1, length-be_bytes, length-le_bytes, big_endian-bytes, little_endian-bytes}
+use Rattle.claxon_input.proofs.Sources.{most_front}
 use Rattle.claxon_input.proofs.States.{went_taken, stuck_bytes}
 use Rattle.claxon_input.proofs.CallsInTurn.{went_map, went_none, stuck_after}
 
 -- what is made of the bytes doesn't matter to an end
 short_after : {X Y : Type 0} {a b : State X} {read : List X → Reading X Y} {Z : Type 0} (whole : List X → Reading X Z) → ((s : List X) → read s ≡ Short → whole s ≡ Short) → Stuck a b (λ s. read s ≡ Short) → Stuck a b (λ s. whole s ≡ Short)
 short_after {a = a} whole f k = stuck_after (λ s. whole s ≡ Short) (went_none a (λ s m. s ≡ m) refl) k (λ p q. f a.coming q)
+
+most_known : (p q : Option (List ℕ)) (n : ℕ) → LosesAtMost p q n → length (known (λ all. all) p) ≤ n + length (known (λ all. all) q)
+most_known None q n h = omega arith
+most_known (Some all) None n h = absurd h
+most_known (Some all) (Some left) n h = h
 
 module _ {R : Type 0} (source : R → Source ℕ) {a b : R} where
   pub went_big : (k n : ℕ) → n < 2 ^ (8 * k) → Takes (source a) (source b) (be_bytes k n) → Went (bytes_in source a) (bytes_in source b) (λ s m. big_at k s ≡ Done n m)
@@ -29,7 +35,7 @@ module _ {R : Type 0} (source : R → Source ℕ) {a b : R} where
 
   pub went_little : (n : ℕ) → n < 2 ^ 32 → Takes (source a) (source b) (le_bytes 4 n) → Went (bytes_in source a) (bytes_in source b) (λ s m. little_at 4 s ≡ Done n m)
   unfolding bytes_in little_at
-  went_little n small h = went_map _ (went_taken 4 (length-reverse (be_bytes 4 n) ∙ length-be_bytes 4 n) h) (λ p. rw (p, little_endian-bytes n small) refl)
+  went_little n small h = went_map _ (went_taken 4 (length-le_bytes 4 n) h) (λ p. rw (p, little_endian-bytes n small) refl)
 
   pub stuck_little : (k : ℕ) → Refuses (source a) (source b) k → Stuck (bytes_in source a) (bytes_in source b) (λ s. little_at k s ≡ Short)
   unfolding bytes_in little_at
@@ -50,3 +56,16 @@ module _ {R : Type 0} (source : R → Source ℕ) {a b : R} where
   pub stuck_skipped : (k : ℕ) → Refuses (source a) (source b) k → Stuck (bytes_in source a) (bytes_in source b) (λ s. skipped_at k s ≡ Short)
   unfolding bytes_in skipped_at
   stuck_skipped k h = short_after (skipped_at k) (λ s p. rw p refl) (stuck_bytes k h)
+
+  -- ---- how many bytes were taken
+
+  pub most_refused : (n : ℕ) → Refuses (source a) (source b) n → TakesAtMost n (bytes_in source a) (bytes_in source b)
+  unfolding bytes_in
+  most_refused n h = most_known (source a).to_come (source b).to_come n h.most
+
+  pub most_taken : {xs : List ℕ} (n : ℕ) → length xs ≤ n → Takes (source a) (source b) xs → TakesAtMost n (bytes_in source a) (bytes_in source b)
+  unfolding bytes_in
+  most_taken {xs = xs} n l h = most_known (source a).to_come (source b).to_come n (most_front (source a).to_come (source b).to_come xs n h.lost.front l)
+
+  pub most_skipped : (n : ℕ) → Skips (source a) (source b) n → TakesAtMost n (bytes_in source a) (bytes_in source b)
+  most_skipped n (xs, l, h) = most_taken n (omega arith) h

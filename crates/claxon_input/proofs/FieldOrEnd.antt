@@ -39,7 +39,7 @@ module _ {R : Type 0} (source : R → Source ℕ) {a b : R} where
   went_big_or_end : (k n : ℕ) → n < 2 ^ (8 * k) → Takes (source a) (source b) (be_bytes k n) → Went (bytes_in source a) (bytes_in source b) (λ s m. or_end k (big_at k) s ≡ Done (Some n) m)
   went_big_or_end k n small h = went_map _ (went_big source k n small h) (λ p. big_or_end k _ _ n p)
 
-  pub stuck_broken_in : (P : List ℕ → Type 0) → Breaks (source a) (source b) → Stuck (bytes_in source a) (bytes_in source b) P
+  pub stuck_broken_in : {n : ℕ} (P : List ℕ → Type 0) → Breaks (source a) (source b) n → Stuck (bytes_in source a) (bytes_in source b) P
   unfolding bytes_in
   stuck_broken_in P h = stuck_broken P h
 

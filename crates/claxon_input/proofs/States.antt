@@ -149,7 +149,7 @@ only_failed None F h = tt
 only_failed (Some all) F h = inr h
 
 -- where the source failed, any reader is stuck
-pub stuck_broken : {a b : Source ℕ} (P : List ℕ → Type 0) → Breaks a b → Stuck (bytes_of_source a) (bytes_of_source b) P
+pub stuck_broken : {a b : Source ℕ} {n : ℕ} (P : List ℕ → Type 0) → Breaks a b n → Stuck (bytes_of_source a) (bytes_of_source b) P
 stuck_broken {a} {b} P h = stuck_in_bytes a b P (λ s. ⊥) h.rest (only_failed a.to_come (Failed a b) h.cause) (λ s q. absurd q)
 
 -- ---- numbers

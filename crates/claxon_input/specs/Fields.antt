@@ -3,6 +3,7 @@ use Rattle.std.specs.Prelude.{ℕ, List, length, Option, Result}
 use Rattle.claxon_format.specs.read.Bytes.{bytes_at, skipped_at}
 use Rattle.claxon_format.specs.Reading.{Reading}
 use Rattle.claxon_input.specs.Gives.{Gives, GivesOrEnds}
+use Rattle.claxon_input.specs.Promises.{TakesAtMost}
 use Rattle.claxon_input.specs.Source.{Source}
 use Rattle.claxon_input.specs.State.{bytes_in}
 use Rattle.claxon_input.specs.declared.error.Error.{Error}
@@ -22,3 +23,7 @@ BufferIsFilled source old result new was is = Gives (λ x. is) result (bytes_at 
 -- So many bytes were passed over.
 abbrev pub BytesArePassed : {R A : Type 0} → (R → Source ℕ) → ℕ → R → Result A Error → R → Type 0
 BytesArePassed source n old result new = Gives (λ x. tt) result (skipped_at n) (bytes_in source old) (bytes_in source new)
+
+-- Whatever was answered, at most so many bytes were taken.
+abbrev pub AtMostIsTaken : {R : Type 0} → (R → Source ℕ) → ℕ → R → R → Type 0
+AtMostIsTaken source n old new = TakesAtMost n (bytes_in source old) (bytes_in source new)

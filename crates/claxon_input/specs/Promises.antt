@@ -1,5 +1,5 @@
 -- What callers see of a call that reads a field, and may take memory: its answer by the codes of the field and their faults.
-use Rattle.std.specs.Prelude.{◌≡◌, ℕ, ◌<◌, ◌≤◌, ◌⊎◌, true, List, [], ◌++◌, length, Option, None, Result, Ok, Err, IfOk, IfErr, IfSome, IsOkAnd, IsErrAnd, IsSomeAnd}
+use Rattle.std.specs.Prelude.{◌≡◌, ℕ, ◌+◌, ◌<◌, ◌≤◌, ◌⊎◌, true, List, [], ◌++◌, length, Option, None, Result, Ok, Err, IfOk, IfErr, IfSome, IsOkAnd, IsErrAnd, IsSomeAnd}
 use Rattle.claxon_format.specs.Fault.{Fault}
 use Rattle.claxon_input.specs.Error.{IsFault, IsIo, is_memory}
 use Rattle.claxon_input.specs.Gives.{FailedIn, IsRest}
@@ -17,6 +17,10 @@ pub record Comes {X : Type 0} (s : State X) (xs : List X) : Type 0 where
 -- Where what is to come is known, what was taken is as C says, and what is to come is known still.
 abbrev pub Took : {X : Type 0} → State X → State X → (List X → Type 0) → Type 0
 Took {X} old new C = old.told ≡ true → (new.told ≡ true) × ((t : List X) × C t × (old.coming ≡ t ++ new.coming))
+
+-- At most so many were taken, where what is to come is known.
+abbrev pub TakesAtMost : {X : Type 0} → ℕ → State X → State X → Type 0
+TakesAtMost n old new = length old.coming ≤ n + length new.coming
 
 -- ---- the answers that say nothing of what is to come
 

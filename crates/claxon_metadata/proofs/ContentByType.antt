@@ -1,15 +1,20 @@
 -- The reader of a metadata block's content, by the block's type.
-use Rattle.std.proofs.Common.{◌≡◌, ◌≢◌, ℕ, false, eqb, List, refl, ◌∙◌}
+use Rattle.std.proofs.Common.{◌≡◌, ◌≢◌, ℕ, false, eqb, List, ◌++◌, refl, sym, ap, ◌∙◌}
 use Rattle.std.proofs.lemmas.Bool.{ne_eqb}
+use Rattle.claxon_format.specs.Metadata.{BlockHeader, BlockHeaderCode}
 use Rattle.claxon_format.specs.MetadataBlocks.{Content, Info, Comments, skipped, BlockFault}
+use Rattle.claxon_format.specs.read.Metadata.{block_header_at}
 use Rattle.claxon_format.specs.read.MetadataBlocks.{info_body_at, application_at, body_at}
-use Rattle.claxon_format.specs.read.Comments.{comment_at}
+use Rattle.claxon_format.specs.read.Comments.{comment_at, vendor_length_at}
 use Rattle.claxon_format.specs.Fault.{BlockType}
 use Rattle.claxon_format.specs.read.Bytes.{bytes_at, skipped_at}
 use Rattle.claxon_format.specs.Reading.{Reads, Reading, Done, Faulty, Short, bind, done}
+use Rattle.claxon_format.proofs.Comments.{Reads-vendor_length}
+use Rattle.claxon_format.proofs.Metadata.{Reads-block_header}
 use Rattle.claxon_format.proofs.MetadataBlocks.{Reads-block}
 use Rattle.claxon_format.proofs.Laws.{Reads-map}
 use Rattle.claxon_input.proofs.CallsInTurn.{StopsAs}
+use Rattle.claxon_metadata.specs.VorbisComment.{HasVendorLength}
 use Rattle.claxon_metadata.specs.MetadataBlock.{ContentCode, content_at}
 
 -- where the first field stops, so does the whole
@@ -57,3 +62,14 @@ body_skipped type n s h =
 pub Reads-content : Reads ℕ Content content_at ContentCode BlockFault
 unfolding content_at
 Reads-content = Reads-map (λ block. block.content) Reads-block
+
+-- the header that was read is the one that stands there
+pub header_is : (found h : BlockHeader) (x rest : List ℕ) {s m : List ℕ} → BlockHeaderCode h x → s ≡ x ++ rest → block_header_at s ≡ Done found m → found.length ≡ h.length
+header_is found h x rest code e read =
+    let both : Done found _ ≡ Done h rest = sym (rw e at read) ∙ Reads-block_header.again h x rest code in
+    let same : found ≡ h = cc both in
+    ap (λ (b : BlockHeader). b.length) same
+
+-- a vendor's length that was read stands there
+pub vendor_stands : (most v : ℕ) (s m : List ℕ) → vendor_length_at most s ≡ Done v m → HasVendorLength most s
+vendor_stands most v s m e = let t = (Reads-vendor_length most).takes s v m e in (v, t.0, m, t.1, t.2)

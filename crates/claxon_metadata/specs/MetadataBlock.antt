@@ -14,7 +14,7 @@ use Rattle.claxon_metadata.specs.declared.metadata.SampleFormat.{SampleFormat}
 use Rattle.claxon_metadata.specs.declared.metadata.MetadataBlockHeader.{MetadataBlockHeader}
 use Rattle.claxon_metadata.specs.declared.metadata.MetadataBlock.{MetadataBlock}
 use Rattle.claxon_metadata.specs.declared.metadata.MetadataBlock.TheVariants.{StreamInfo as InfoBlock, Padding as PaddingBlock, Application as ApplicationBlock, SeekTable, VorbisComment as CommentBlock, CueSheet, Picture, Reserved as ReservedBlock}
-use Rattle.claxon_metadata.specs.VorbisComment.{HavePlaces, comment_view}
+use Rattle.claxon_metadata.specs.VorbisComment.{HasVendorLength, HavePlaces, comment_view}
 
 -- a number that isn't known is written as 0
 abbrev pub or_zero : Option ℕ → ℕ
@@ -63,13 +63,17 @@ abbrev pub flagged_view : {A : Type 0} → Bool → MetadataBlock A → Block
 flagged_view is_last block = record { is_last = is_last; content = content_view block }
 
 -- Only blocks of applications and comments take memory, where their length is one that they can have.
-abbrev pub MayStarve : ℕ → ℕ → Type 0
-MayStarve type length = (((type ≡ 2) × (4 ≤ length)) ⊎ ((type ≡ 4) × (8 ≤ length))) × (length ≤ most_bytes)
+abbrev pub TakesMemory : ℕ → ℕ → Type 0
+TakesMemory type length = (((type ≡ 2) × (4 ≤ length)) ⊎ ((type ≡ 4) × (8 ≤ length))) × (length ≤ most_bytes)
 
--- Memory is wanted only where a header of such a block stands.
+-- Those of comments take it only where the length of a vendor that fits stands at the front of their bytes.
+abbrev pub MayStarve : ℕ → ℕ → List ℕ → Type 0
+MayStarve type length s = TakesMemory type length × (type ≡ 4 → HasVendorLength (length - 8) s)
+
+-- Memory is wanted only where a header of such a block stands, with its content behind it.
 abbrev pub StarvesLate : {A : Type 0} → Result A Error → State ℕ → Type 0
 StarvesLate r old =
-    IsStarved r → old.told ≡ true → (h : BlockHeader) × (x : List ℕ) × (rest : List ℕ) × BlockHeaderCode h x × MayStarve h.type h.length × (old.coming ≡ x ++ rest)
+    IsStarved r → old.told ≡ true → (h : BlockHeader) × (x : List ℕ) × (rest : List ℕ) × BlockHeaderCode h x × MayStarve h.type h.length rest × (old.coming ≡ x ++ rest)
 
 -- a block without its last flag
 abbrev pub ContentCode : Content → List ℕ → Type 0

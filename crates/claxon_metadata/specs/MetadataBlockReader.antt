@@ -9,6 +9,7 @@ use Rattle.claxon_input.specs.State.{bytes_in}
 use Rattle.claxon_input.specs.Gives.{GivesOrStarves}
 use Rattle.claxon_metadata.specs.declared.metadata.MetadataBlock.{MetadataBlock}
 use Rattle.claxon_metadata.specs.declared.metadata.MetadataBlockReader.{MetadataBlockReader}
+use Rattle.claxon_metadata.specs.ReadMetadataBlock.{AtMostBlockIsTaken}
 use Rattle.claxon_metadata.specs.MetadataBlock.{IsSound, StarvesLate, flagged_view}
 
 -- the wrapped reader
@@ -23,6 +24,7 @@ has_ended r = r.done
 pub record ReadsBlock {R A : Type 0} (source : R → Source ℕ) (old : MetadataBlockReader R A) (result : Result (MetadataBlock A) Error) (new : MetadataBlockReader R A) : Type 0 where
   pub bounds : IfOk result (λ block. IsSound block)
   pub memory : StarvesLate result (bytes_in source (reader_input old))
+  pub within : AtMostBlockIsTaken source (reader_input old) (reader_input new)
   pub promises : Promises (flagged_view (has_ended new)) result BlockCode BlockFault (bytes_in source (reader_input old)) (bytes_in source (reader_input new))
   pub gives : GivesOrStarves (flagged_view (has_ended new)) result block_at (bytes_in source (reader_input old)) (bytes_in source (reader_input new))
   pub ended : IfErr result (λ error. has_ended new ≡ true)

@@ -1,16 +1,18 @@
 -- What the calls that read a metadata block promise their callers, a word for each clause (RFC 9639, section 8). `old` and `new`
 -- are the reader before and after the call.
-use Rattle.std.specs.Prelude.{ℕ, Bool, Result, IfOk}
+use Rattle.std.specs.Prelude.{◌≡◌, ◌+◌, ◌-◌, ◌++◌, ℕ, Bool, List, Result, IfOk}
 use Rattle.claxon_format.specs.read.Comments.{comment_at}
+use Rattle.claxon_format.specs.Metadata.{BlockHeader, BlockHeaderCode}
 use Rattle.claxon_format.specs.MetadataBlocks.{BlockFault, Body, BodyFault}
 use Rattle.claxon_format.specs.read.MetadataBlocks.{block_at, body_at}
+use Rattle.claxon_input.specs.Fields.{AtMostIsTaken}
 use Rattle.claxon_input.specs.Gives.{GivesOrStarves}
-use Rattle.claxon_input.specs.Promises.{AnswersCode, EndsElse, IsStarved, LeavesRest, NamesFault, TakesCode, TakesFault}
+use Rattle.claxon_input.specs.Promises.{AnswersCode, Comes, EndsElse, IsStarved, LeavesRest, NamesFault, TakesCode, TakesFault}
 use Rattle.claxon_input.specs.Source.{Source}
 use Rattle.claxon_input.specs.State.{bytes_in}
 use Rattle.claxon_input.specs.declared.error.Error.{Error}
-use Rattle.claxon_metadata.specs.MetadataBlock.{ContentCode, IsSound, MayStarve, StarvesLate, content_at, content_view, flagged_view}
-use Rattle.claxon_metadata.specs.VorbisComment.{comment_view}
+use Rattle.claxon_metadata.specs.MetadataBlock.{ContentCode, IsSound, StarvesLate, TakesMemory, content_at, content_view, flagged_view}
+use Rattle.claxon_metadata.specs.VorbisComment.{StarvesBehindVendorLength, comment_view}
 use Rattle.claxon_metadata.specs.declared.metadata.MetadataBlock.{MetadataBlock}
 use Rattle.claxon_metadata.specs.declared.metadata.VorbisComment.{VorbisComment}
 
@@ -53,9 +55,11 @@ module _ {R A : Type 0} (source : R → Source ℕ) (type length : ℕ) (old : R
   abbrev pub ContentIsRead : Type 0
   ContentIsRead = GivesOrStarves content_view result (body_at type length) (bytes_in source old) (bytes_in source new)
 
--- Only blocks of applications and comments want memory, after their length was tested.
-abbrev pub ContentMayStarve : {A : Type 0} → ℕ → ℕ → MetadataAnswer A → Type 0
-ContentMayStarve type length result = IsStarved result → MayStarve type length
+-- Only blocks of applications and comments want memory, after their length was tested; those of comments only where the
+-- bytes begin with the length of a vendor that fits into the block.
+abbrev pub ContentMayStarve : {R A : Type 0} → (R → Source ℕ) → ℕ → ℕ → R → MetadataAnswer A → Type 0
+ContentMayStarve source type length old result =
+    (IsStarved result → TakesMemory type length) × (type ≡ 4 → StarvesBehindVendorLength (length - 8) result (bytes_in source old))
 
 -- ---- a block with its header
 
@@ -84,9 +88,15 @@ module _ {R A : Type 0} (source : R → Source ℕ) (old : R) (result : Metadata
   abbrev pub BlockIsRead : Type 0
   BlockIsRead = GivesOrStarves content_view result content_at (bytes_in source old) (bytes_in source new)
 
--- Only behind a header of a block of an application or of comments is memory wanted, after the length was tested.
+-- Only behind a header of a block of an application or of comments is memory wanted, after the length was tested; of comments
+-- only where the length of a vendor that fits follows.
 abbrev pub BlockMayStarve : {R A : Type 0} → (R → Source ℕ) → R → MetadataAnswer A → Type 0
 BlockMayStarve source old result = StarvesLate result (bytes_in source old)
+
+-- Whatever is answered, where a header stands at most its four bytes and as many as it says are taken.
+abbrev pub AtMostBlockIsTaken : {R : Type 0} → (R → Source ℕ) → R → R → Type 0
+AtMostBlockIsTaken source old new =
+    (h : BlockHeader) (x rest : List ℕ) → BlockHeaderCode h x → Comes (bytes_in source old) (x ++ rest) → AtMostIsTaken source (4 + h.length) old new
 
 -- ---- calls of this crate
 

@@ -1,11 +1,11 @@
 -- Vorbis comments (RFC 9639, section 8.6) as the code keeps them: texts, each with the place of its first '='.
-use Rattle.std.specs.Prelude.{◌≡◌, ℕ, true, ◌<◌, Option, None, Some, List, [], ◌∷◌, All, map, slice_index, length, string_bytes}
+use Rattle.std.specs.Prelude.{◌≡◌, ℕ, true, ◌<◌, Option, None, Some, Result, List, [], ◌∷◌, ◌++◌, All, map, slice_index, length, string_bytes}
 use Rattle.std.specs.declared.string.String.{String}
 use Rattle.std.specs.Borrow.{Bor}
-use Rattle.claxon_format.specs.Comments.{Entry, Comment}
-use Rattle.claxon_format.specs.read.Comments.{vendor_length_at}
-use Rattle.claxon_format.specs.Reading.{Done}
+use Rattle.claxon_format.specs.Comments.{Entry, Comment, VendorLength}
+use Rattle.claxon_input.specs.Promises.{IsStarved}
 use Rattle.claxon_input.specs.State.{State}
+use Rattle.claxon_input.specs.declared.error.Error.{Error}
 use Rattle.claxon_metadata.specs.declared.metadata.VorbisComment.{VorbisComment}
 
 -- an entry: its text, and the place of the first `=`
@@ -23,9 +23,13 @@ abbrev pub kept_view : {A : Type 0} → Option (String A × ℕ) → List Entry
 kept_view None = []
 kept_view (Some pair) = entry_view pair ∷ []
 
--- a length of the vendor that is no more than most
-abbrev pub HasVendorLength : ℕ → State ℕ → Type 0
-HasVendorLength most old = old.told ≡ true → (v : ℕ) × (rest : List ℕ) × (vendor_length_at most old.coming ≡ Done v rest)
+-- the bytes begin with the length of a vendor, which is at most most
+abbrev pub HasVendorLength : ℕ → List ℕ → Type 0
+HasVendorLength most s = (v : ℕ) × (x : List ℕ) × (rest : List ℕ) × VendorLength most v x × (s ≡ x ++ rest)
+
+-- Memory is wanted only where the bytes begin with such a length.
+abbrev pub StarvesBehindVendorLength : {A : Type 0} → ℕ → Result A Error → State ℕ → Type 0
+StarvesBehindVendorLength most r old = IsStarved r → old.told ≡ true → HasVendorLength most old.coming
 
 -- at the place stands a character of one byte
 pub record IsPlace (bytes : List ℕ) (place : ℕ) : Type 0 where

@@ -7,10 +7,11 @@ ghost use Rattle.claxon_format.specs.Metadata.{most_bytes};
 ghost use Rattle.claxon_format.specs.read.Metadata.{block_header_at};
 ghost use Rattle.claxon_format.specs.Streaminfo.{info_of, frames_crossed};
 ghost use Rattle.claxon_format.specs.read.Streaminfo.{sizes_at, format_at, info_fields_at, streaminfo_at};
+ghost use Rattle.claxon_input.specs.Fields.{AtMostIsTaken};
 ghost use Rattle.claxon_input.specs.Promises.{IsStarved};
 ghost use Rattle.claxon_input.specs.State.{bytes_in};
 ghost use Rattle.claxon_input.specs.Gives.{Gives, GivesOrStarves};
-ghost use Rattle.claxon_metadata.specs.ReadMetadataBlock.{BlockFaultWasTaken, BlockIsRead, BlockIsSound, BlockMayStarve, BlockWasTaken, ContentFaultWasTaken, ContentIsRead, ContentMayStarve, ContentWasTaken, EachBlockFaultIsNamed, EachBlockIsAnswered, EachContentFaultIsNamed, EachContentIsAnswered, FlaggedBlockIsRead, NoBlockIsIoError, NoContentIsIoError, RestIsLeft};
+ghost use Rattle.claxon_metadata.specs.ReadMetadataBlock.{AtMostBlockIsTaken, BlockFaultWasTaken, BlockIsRead, BlockIsSound, BlockMayStarve, BlockWasTaken, ContentFaultWasTaken, ContentIsRead, ContentMayStarve, ContentWasTaken, EachBlockFaultIsNamed, EachBlockIsAnswered, EachContentFaultIsNamed, EachContentIsAnswered, FlaggedBlockIsRead, NoBlockIsIoError, NoContentIsIoError, RestIsLeft};
 ghost use Rattle.claxon_metadata.specs.MetadataBlock.{HasBounds, IsSound, StarvesLate, content_at, content_view, format_view, header_view, info_view, or_zero, sizes_view};
 
 mod comment;
@@ -124,7 +125,8 @@ pub type MetadataBlockResult<A = Global> = Result<MetadataBlock<A>>;
 // The last flag, the type and the length of a block.
 #[tactic(auto, unfolding(claxon_format::specs::read::Metadata::block_header_at))]
 fn read_metadata_block_header<R: ReadBytes>(input: &mut R) -> Result<MetadataBlockHeader>
-    ensures { Gives header_view result block_header_at (bytes_in R.source input.old) (bytes_in R.source input.new) }
+    ensures gives { Gives header_view result block_header_at (bytes_in R.source input.old) (bytes_in R.source input.new) }
+    ensures within { AtMostIsTaken R.source 4 input.old input.new }
 {
     let first = read_byte(input)?;
     let length = read_big_u24(input)?;
@@ -144,6 +146,7 @@ pub fn read_metadata_block_and_flag<R: ReadBytes, A: Allocator + Copy>(
     ensures bounds { IfOk result (λ found. IsSound found.1) }
     ensures memory { StarvesLate result (bytes_in R.source input.old) }
     ensures gives { FlaggedBlockIsRead R.source input.old result input.new }
+    ensures within { AtMostBlockIsTaken R.source input.old input.new }
 {
     let header = read_metadata_block_header(input)?;
     let block = read_content(alloc, input, header.block_type, header.length)?;
@@ -152,7 +155,8 @@ pub fn read_metadata_block_and_flag<R: ReadBytes, A: Allocator + Copy>(
 
 /// Reads a metadata block with its header, as Ogg embeds them.
 ///
-/// An Ok takes just the block from the input. An Err may have taken some of its bytes.
+/// An Ok takes just the block from the input. An Err may have taken some of its bytes, but no more than the block has by its
+/// header.
 ///
 /// # Errors
 ///
@@ -170,6 +174,7 @@ pub fn read_metadata_block_with_header<R: ReadBytes, A: Allocator + Copy>(
     ensures io { NoBlockIsIoError R.source input.old result input.new }
     ensures front { RestIsLeft R.source input.old result input.new }
     ensures gives { BlockIsRead R.source input.old result input.new }
+    ensures within { AtMostBlockIsTaken R.source input.old input.new }
 {
     read_unflagged_block(alloc, input)
 }
@@ -183,6 +188,7 @@ fn read_unflagged_block<R: ReadBytes, A: Allocator + Copy>(
     ensures bounds { BlockIsSound result }
     ensures memory { BlockMayStarve R.source input.old result }
     ensures gives { BlockIsRead R.source input.old result input.new }
+    ensures within { AtMostBlockIsTaken R.source input.old input.new }
 {
     let (_, block) = read_metadata_block_and_flag(alloc, input)?;
     Ok(block)
@@ -197,7 +203,7 @@ fn read_unflagged_block<R: ReadBytes, A: Allocator + Copy>(
 ///
 /// `FormatError` and `Unsupported` where the block is ill-formed or too large, `IoError` where
 /// the input ends or fails, `OutOfMemory` where memory for texts or application data is refused.
-/// An Err may have taken some of the block's bytes.
+/// An Err may have taken some of the block's bytes, `length` at most.
 pub fn read_metadata_block<R: ReadBytes, A: Allocator + Copy>(
     alloc: A,
     input: &mut R,
@@ -205,7 +211,7 @@ pub fn read_metadata_block<R: ReadBytes, A: Allocator + Copy>(
     length: u32,
 ) -> Result<MetadataBlock<A>>
     ensures bounds { BlockIsSound result }
-    ensures memory { ContentMayStarve block_type length result }
+    ensures memory { ContentMayStarve R.source block_type length input.old result }
     ensures sound { ContentWasTaken R.source block_type length input.old result input.new }
     ensures complete { EachContentIsAnswered R.source block_type length input.old result input.new }
     ensures fault { ContentFaultWasTaken R.source block_type length input.old result input.new }
@@ -213,6 +219,7 @@ pub fn read_metadata_block<R: ReadBytes, A: Allocator + Copy>(
     ensures io { NoContentIsIoError R.source block_type length input.old result input.new }
     ensures front { RestIsLeft R.source input.old result input.new }
     ensures gives { ContentIsRead R.source block_type length input.old result input.new }
+    ensures within { AtMostIsTaken R.source length input.old input.new }
 {
     read_content(alloc, input, block_type, length)
 }
@@ -225,8 +232,9 @@ fn read_content<R: ReadBytes, A: Allocator + Copy>(
     length: u32,
 ) -> Result<MetadataBlock<A>>
     ensures bounds { BlockIsSound result }
-    ensures memory { ContentMayStarve block_type length result }
+    ensures memory { ContentMayStarve R.source block_type length input.old result }
     ensures gives { ContentIsRead R.source block_type length input.old result input.new }
+    ensures within { AtMostIsTaken R.source length input.old input.new }
 {
     match block_type {
         0 => Ok(MetadataBlock::StreamInfo(read_streaminfo_block(input, length)?)),
@@ -265,7 +273,8 @@ struct SizeBounds {
 
 #[tactic(auto, unfolding(claxon_format::specs::read::Streaminfo::sizes_at, claxon_format::specs::Reading::each_at))]
 fn read_size_bounds<R: ReadBytes>(input: &mut R) -> Result<SizeBounds>
-    ensures { Gives sizes_view result sizes_at (bytes_in R.source input.old) (bytes_in R.source input.new) }
+    ensures gives { Gives sizes_view result sizes_at (bytes_in R.source input.old) (bytes_in R.source input.new) }
+    ensures within { AtMostIsTaken R.source 10 input.old input.new }
 {
     let min_block_size = read_big_u16(input)?;
     let max_block_size = read_big_u16(input)?;
@@ -294,6 +303,7 @@ fn read_sample_format<R: ReadBytes>(input: &mut R) -> Result<SampleFormat>
     ensures channels { IfOk result (λ format. (1 ≤ format.channels) × (format.channels ≤ 8)) }
     ensures width { IfOk result (λ format. (1 ≤ format.bits_per_sample) × (format.bits_per_sample ≤ 32)) }
     ensures gives { Gives format_view result format_at (bytes_in R.source input.old) (bytes_in R.source input.new) }
+    ensures within { AtMostIsTaken R.source 8 input.old input.new }
 {
     let high = read_big_u32(input)?;
     let low = read_big_u32(input)?;
@@ -310,6 +320,7 @@ fn read_sample_format<R: ReadBytes>(input: &mut R) -> Result<SampleFormat>
 fn read_streaminfo_fields<R: ReadBytes>(input: &mut R) -> Result<StreamInfo>
     ensures bounds { IfOk result (λ info. HasBounds info) }
     ensures gives { Gives info_view result info_fields_at (bytes_in R.source input.old) (bytes_in R.source input.new) }
+    ensures within { AtMostIsTaken R.source 34 input.old input.new }
 {
     let sizes = read_size_bounds(input)?;
     let format = read_sample_format(input)?;
@@ -345,6 +356,7 @@ fn stream_info(sizes: SizeBounds, format: SampleFormat, md5sum: &[u8; 16]) -> St
 fn read_streaminfo_block<R: ReadBytes>(input: &mut R, length: u32) -> Result<StreamInfo>
     ensures bounds { IfOk result (λ info. HasBounds info) }
     ensures gives { Gives info_view result (info_body_at length) (bytes_in R.source input.old) (bytes_in R.source input.new) }
+    ensures within { AtMostIsTaken R.source length input.old input.new }
 {
     if length != 34 {
         return Err(Error::FormatError("invalid streaminfo metadata block length"));
@@ -356,6 +368,7 @@ fn read_streaminfo_block<R: ReadBytes>(input: &mut R, length: u32) -> Result<Str
 fn read_streaminfo<R: ReadBytes>(input: &mut R) -> Result<StreamInfo>
     ensures bounds { IfOk result (λ info. HasBounds info) }
     ensures gives { Gives info_view result streaminfo_at (bytes_in R.source input.old) (bytes_in R.source input.new) }
+    ensures within { AtMostIsTaken R.source 34 input.old input.new }
 {
     let info = read_streaminfo_fields(input)?;
     if info.min_block_size > info.max_block_size {
@@ -402,6 +415,7 @@ fn read_application_block<R: ReadBytes, A: Allocator>(
     ensures bounds { IfOk result (λ block. IsSound block) }
     ensures memory { IsStarved result → (4 ≤ length) × (length ≤ most_bytes) }
     ensures gives { GivesOrStarves content_view result (application_at length) (bytes_in R.source input.old) (bytes_in R.source input.new) }
+    ensures within { AtMostIsTaken R.source length input.old input.new }
 {
     if length < 4 {
         return Err(Error::FormatError("application block length must be at least 4 bytes"));
@@ -418,6 +432,7 @@ fn read_application_block<R: ReadBytes, A: Allocator>(
 fn read_bytes<R: ReadBytes, A: Allocator>(alloc: A, input: &mut R, count: u32) -> Result<Vec<u8, A>>
     ensures length { IfOk result (λ bytes. vec_len bytes ≡ count) }
     ensures gives { GivesOrStarves (λ bytes. bytes.items) result (bytes_at count) (bytes_in R.source input.old) (bytes_in R.source input.new) }
+    ensures within { AtMostIsTaken R.source count input.old input.new }
 {
     let mut bytes = Vec::new(alloc);
     bytes.resize(count as usize, 0)?;

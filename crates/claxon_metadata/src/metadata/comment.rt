@@ -5,12 +5,13 @@ ghost use Rattle.claxon_format.specs.Comments.{is_separator, is_name_byte, not_u
 ghost use Rattle.claxon_format.specs.read.Comments.{entry_at, kept_at, entry_length_at, entries_at, vendor_length_at, vendor_at, count_at, comment_at};
 ghost use Rattle.claxon_format.specs.Fault.{EntryNotUtf8};
 ghost use Rattle.claxon_format.specs.Metadata.{most_bytes};
+ghost use Rattle.claxon_input.specs.Fields.{AtMostIsTaken};
 ghost use Rattle.claxon_input.specs.Promises.{IsStarved};
 ghost use Rattle.claxon_input.specs.State.{bytes_in};
 ghost use Rattle.claxon_input.specs.Gives.{Gives, GivesOrStarves};
 ghost use Rattle.claxon_input.specs.Error.{IsFault};
 ghost use Rattle.claxon_metadata.specs.ReadMetadataBlock.{CommentIsRead};
-ghost use Rattle.claxon_metadata.specs.VorbisComment.{HavePlaces, HasVendorLength, IsPlace, entry_view, entries_view, kept_view};
+ghost use Rattle.claxon_metadata.specs.VorbisComment.{HavePlaces, IsPlace, StarvesBehindVendorLength, entry_view, entries_view, kept_view};
 
 use super::{MAX_BLOCK_LENGTH, VorbisComment, read_bytes};
 use claxon_input::error::{Error, Result};
@@ -28,8 +29,9 @@ pub fn read_vorbis_comment_block<R: ReadBytes, A: Allocator + Copy>(
     ensures places { IfOk result (λ comment. HavePlaces comment.comments.items) }
     // Memory is asked for only after the lengths of the block and of its vendor were tested.
     ensures memory { IsStarved result → (8 ≤ length) × (length ≤ most_bytes) }
-    ensures vendor { IsStarved result → HasVendorLength (length - 8) (bytes_in R.source input.old) }
+    ensures vendor { StarvesBehindVendorLength (length - 8) result (bytes_in R.source input.old) }
     ensures gives { CommentIsRead R.source length input.old result input.new }
+    ensures within { AtMostIsTaken R.source length input.old input.new }
 {
     if length < 8 {
         return Err(Error::FormatError("Vorbis comment block is too short"));
@@ -50,6 +52,7 @@ pub fn read_vorbis_comment_block<R: ReadBytes, A: Allocator + Copy>(
 fn read_vendor_length<R: ReadBytes>(input: &mut R, most: u32) -> Result<u32>
     ensures most { IfOk result (λ length. length ≤ most) }
     ensures gives { Gives (λ x. x) result (vendor_length_at most) (bytes_in R.source input.old) (bytes_in R.source input.new) }
+    ensures within { AtMostIsTaken R.source 4 input.old input.new }
 {
     let length = read_little_u32(input)?;
     if length > most {
@@ -64,7 +67,8 @@ fn read_vendor<R: ReadBytes, A: Allocator>(
     input: &mut R,
     length: u32,
 ) -> Result<String<A>>
-    ensures { GivesOrStarves string_bytes result (vendor_at length) (bytes_in R.source input.old) (bytes_in R.source input.new) }
+    ensures gives { GivesOrStarves string_bytes result (vendor_at length) (bytes_in R.source input.old) (bytes_in R.source input.new) }
+    ensures within { AtMostIsTaken R.source length input.old input.new }
 {
     let bytes = read_bytes(alloc, input, length)?;
     text_of(bytes)
@@ -81,7 +85,8 @@ fn text_of<A: Allocator>(bytes: Vec<u8, A>) -> Result<String<A>>
 // How many entries follow. Each takes four bytes at least, so a greater count can't be right.
 #[tactic(auto, unfolding(claxon_format::specs::read::Comments::count_at, claxon_format::specs::Fault::fault_text))]
 fn read_count<R: ReadBytes>(input: &mut R, limit: u32) -> Result<u32>
-    ensures { Gives (λ x. x) result (count_at limit) (bytes_in R.source input.old) (bytes_in R.source input.new) }
+    ensures gives { Gives (λ x. x) result (count_at limit) (bytes_in R.source input.old) (bytes_in R.source input.new) }
+    ensures within { AtMostIsTaken R.source 4 input.old input.new }
 {
     let count = read_little_u32(input)?;
     if count >= limit {
@@ -99,6 +104,7 @@ fn read_entries<R: ReadBytes, A: Allocator + Copy>(
 ) -> Result<Vec<(String<A>, usize), A>>
     ensures places { IfOk result (λ comments. HavePlaces comments.items) }
     ensures gives { GivesOrStarves (λ comments. entries_view comments.items) result (entries_at count length) (bytes_in R.source input.old) (bytes_in R.source input.new) }
+    ensures within { AtMostIsTaken R.source length input.old input.new }
 {
     let mut comments = Vec::new(alloc);
     let mut missing = count;
@@ -124,6 +130,7 @@ fn read_entries<R: ReadBytes, A: Allocator + Copy>(
 fn read_entry_length<R: ReadBytes>(input: &mut R, most: u32) -> Result<u32>
     ensures most { IfOk result (λ length. length ≤ most) }
     ensures gives { Gives (λ x. x) result (entry_length_at most) (bytes_in R.source input.old) (bytes_in R.source input.new) }
+    ensures within { AtMostIsTaken R.source 4 input.old input.new }
 {
     let length = read_little_u32(input)?;
     if length > most {
@@ -141,6 +148,7 @@ fn read_kept_entry<R: ReadBytes, A: Allocator>(
 ) -> Result<Option<(String<A>, usize)>>
     ensures place { IfOk result (λ found. IfSome found (λ entry. IsPlace (string_bytes entry.0) entry.1)) }
     ensures gives { GivesOrStarves kept_view result (kept_at length) (bytes_in R.source input.old) (bytes_in R.source input.new) }
+    ensures within { AtMostIsTaken R.source length input.old input.new }
 {
     if length == 0 {
         return Ok(None);
@@ -157,6 +165,7 @@ fn read_entry<R: ReadBytes, A: Allocator>(
 ) -> Result<(String<A>, usize)>
     ensures place { IfOk result (λ entry. IsPlace (string_bytes entry.0) entry.1) }
     ensures gives { GivesOrStarves entry_view result (entry_at length) (bytes_in R.source input.old) (bytes_in R.source input.new) }
+    ensures within { AtMostIsTaken R.source length input.old input.new }
 {
     let bytes = read_bytes(alloc, input, length)?;
     let Some(place) = first_separator(&bytes) else {

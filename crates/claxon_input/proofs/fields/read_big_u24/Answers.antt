@@ -1,7 +1,8 @@
-use Rattle.std.proofs.Common.{rules}
+use Rattle.std.proofs.Common.{arith, rules}
 use Rattle.std.proofs.lemmas.Result.{err_from_is_err_and}
+use Rattle.claxon_input.proofs.BigEndian.{length-be_bytes}
 use Rattle.claxon_input.proofs.CallsInTurn.{io_exit}
-use Rattle.claxon_input.proofs.ByteFields.{went_big, stuck_big}
+use Rattle.claxon_input.proofs.ByteFields.{went_big, stuck_big, most_refused, most_taken}
 use Rattle.claxon_input.proofs.fields.read_big_u24.Goals as goal
 
 pub returns-in_err-read_be_u24-clause-gives : goal.returns-in_err-read_be_u24-clause-gives
@@ -9,3 +10,9 @@ returns-in_err-read_be_u24-clause-gives g c = io_exit _ (err_from_is_err_and c.f
 
 pub returns-clause-gives : goal.returns-clause-gives
 returns-clause-gives g c = went_big g.R.ReadBytes.source 3 c.in_ok-read_be_u24.field-0 (search rules) c.in_ok-read_be_u24.ensures.ok
+
+pub returns-in_err-read_be_u24-clause-within : goal.returns-in_err-read_be_u24-clause-within
+returns-in_err-read_be_u24-clause-within g c = most_refused g.R.ReadBytes.source 3 c.in_err-read_be_u24.ensures.err
+
+pub returns-clause-within : goal.returns-clause-within
+returns-clause-within g c = most_taken g.R.ReadBytes.source 3 (omega (arith, length-be_bytes 3 c.in_ok-read_be_u24.field-0)) c.in_ok-read_be_u24.ensures.ok

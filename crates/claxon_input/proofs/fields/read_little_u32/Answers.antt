@@ -1,11 +1,18 @@
-use Rattle.std.proofs.Common.{rules}
+use Rattle.std.proofs.Common.{arith, rules}
 use Rattle.std.proofs.lemmas.Result.{err_from_is_err_and}
+use Rattle.claxon_input.proofs.BigEndian.{length-le_bytes}
 use Rattle.claxon_input.proofs.CallsInTurn.{io_exit}
-use Rattle.claxon_input.proofs.ByteFields.{went_little, stuck_little}
+use Rattle.claxon_input.proofs.ByteFields.{went_little, stuck_little, most_refused, most_taken}
 use Rattle.claxon_input.proofs.fields.read_little_u32.Goals as goal
 
-pub returns-in_err-read_le_u32 : goal.returns-in_err-read_le_u32
-returns-in_err-read_le_u32 g c = io_exit _ (err_from_is_err_and c.from_residual.result c.from_residual.ensures.1) (stuck_little g.R.ReadBytes.source 4 c.in_err-read_le_u32.ensures.err)
+pub returns-in_err-read_le_u32-clause-gives : goal.returns-in_err-read_le_u32-clause-gives
+returns-in_err-read_le_u32-clause-gives g c = io_exit _ (err_from_is_err_and c.from_residual.result c.from_residual.ensures.1) (stuck_little g.R.ReadBytes.source 4 c.in_err-read_le_u32.ensures.err)
 
-pub returns : goal.returns
-returns g c = went_little g.R.ReadBytes.source c.in_ok-read_le_u32.field-0 (search rules) c.in_ok-read_le_u32.ensures.ok
+pub returns-clause-gives : goal.returns-clause-gives
+returns-clause-gives g c = went_little g.R.ReadBytes.source c.in_ok-read_le_u32.field-0 (search rules) c.in_ok-read_le_u32.ensures.ok
+
+pub returns-in_err-read_le_u32-clause-within : goal.returns-in_err-read_le_u32-clause-within
+returns-in_err-read_le_u32-clause-within g c = most_refused g.R.ReadBytes.source 4 c.in_err-read_le_u32.ensures.err
+
+pub returns-clause-within : goal.returns-clause-within
+returns-clause-within g c = most_taken g.R.ReadBytes.source 4 (omega (arith, length-le_bytes 4 c.in_ok-read_le_u32.field-0)) c.in_ok-read_le_u32.ensures.ok

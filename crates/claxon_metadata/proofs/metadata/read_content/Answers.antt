@@ -26,13 +26,13 @@ returns-in-127-clause-gives g c = stops_fault BlockType refl refl (refl, refl) (
 pub returns-in_ok-skip_bytes-in_default-clause-gives : goal.returns-in_ok-skip_bytes-in_default-clause-gives
 returns-in_ok-skip_bytes-in_default-clause-gives g c =
     let other : IsSkipped c.args.block_type = record { not_info = omega arith; not_application = omega arith; not_comment = omega arith; not_invalid = omega arith } in
-    went_map _ c.in_ok-skip_bytes-in_default.ensures (λ p. body_skipped c.args.block_type c.args.length _ other ∙ rw (p, c.skipped_block.ensures.value) refl)
+    went_map _ c.in_ok-skip_bytes-in_default.ensures.gives (λ p. body_skipped c.args.block_type c.args.length _ other ∙ rw (p, c.skipped_block.ensures.value) refl)
 
 pub returns-in_err-skip_bytes-in_default-clause-gives : goal.returns-in_err-skip_bytes-in_default-clause-gives
 returns-in_err-skip_bytes-in_default-clause-gives g c =
     let other : IsSkipped c.args.block_type = record { not_info = omega arith; not_application = omega arith; not_comment = omega arith; not_invalid = omega arith } in
     fed_exit content_view (err_from_is_err_and c.from_residual-in_err-skip_bytes-in_default.result c.from_residual-in_err-skip_bytes-in_default.ensures.1)
-    (went_none _ _ (stops_with _ (body_skipped c.args.block_type c.args.length _ other))) c.in_err-skip_bytes-in_default.ensures
+    (went_none _ _ (stops_with _ (body_skipped c.args.block_type c.args.length _ other))) c.in_err-skip_bytes-in_default.ensures.gives
 
 pub returns-in-2-clause-gives : goal.returns-in-2-clause-gives
 returns-in-2-clause-gives g c =

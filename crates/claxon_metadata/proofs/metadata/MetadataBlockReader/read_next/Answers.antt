@@ -13,6 +13,7 @@ pub returns-in-Ok : goal.returns-in-Ok
 returns-in-Ok g c = record {
   bounds = c.in-Ok.ensures.bounds;
   memory = λ starved told. absurd cc;
+  within = c.in-Ok.ensures.within;
   promises = promises Reads-block (flagged_view c.in-Ok.is_last) (Ok c.in-Ok.block) _ _ c.in-Ok.ensures.gives;
   gives = c.in-Ok.ensures.gives;
   ended = tt;
@@ -24,6 +25,7 @@ returns-in-Err g c =
     record {
       bounds = tt;
       memory = λ starved. c.in-Err.ensures.memory (let same : c.in-Err.error ≡ OutOfMemory = cc starved in ap (λ (z : Error). Err z) same);
+      within = c.in-Err.ensures.within;
       promises = promises Reads-block (flagged_view true) (Err c.in-Err.error) _ _ fed;
       gives = fed;
       ended = refl;

@@ -27,12 +27,14 @@ loop-missing-preserved g c =
           (let e : c.match-branch-3.comments.items ≡ c.loop-missing.comments.items ++ w.in-Some.entry ∷ [] = ap (λ (v : Vec (String g.row.A.Denot × ℕ) g.row.A.Denot). v.items) w.comments-is ∙ w.in_ok-push.ensures.items in
           record {
             places = places_push here all w.in-Some.entry e c.loop-missing.invariant.places (rw w.in-Some.is at c.in_ok-entry.ensures.place);
+            within = omega (arith, c.loop-missing.invariant.within, c.in_ok-entry_length.ensures.most, c.in_ok-entry_length.ensures.within, c.in_ok-entry.ensures.within);
             read = entries_next (omega arith) (omega arith) (kept_more here all w.in-Some.entry c.in_ok-entry.field-0 w.in-Some.is e) c.loop-missing.invariant.read c.in_ok-entry_length.ensures.gives c.in_ok-entry.ensures.gives;
           })
       | in_default w ↦
           (let e : c.match-branch-3.comments.items ≡ c.loop-missing.comments.items = ap (λ (v : Vec (String g.row.A.Denot × ℕ) g.row.A.Denot). v.items) w.comments-is in
           record {
             places = rw w.comments-is c.loop-missing.invariant.places;
+            within = omega (arith, c.loop-missing.invariant.within, c.in_ok-entry_length.ensures.most, c.in_ok-entry_length.ensures.within, c.in_ok-entry.ensures.within);
             read = entries_next (omega arith) (omega arith) (kept_same here all c.in_ok-entry.field-0 w.in_default.is e) c.loop-missing.invariant.read c.in_ok-entry_length.ensures.gives c.in_ok-entry.ensures.gives;
           })
     ]

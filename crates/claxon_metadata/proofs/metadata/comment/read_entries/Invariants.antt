@@ -1,3 +1,4 @@
+use Rattle.std.proofs.Common.{length, ◌+◌, ◌≤◌}
 use Rattle.claxon_input.specs.State.{bytes_in}
 use Rattle.claxon_metadata.specs.VorbisComment.{HavePlaces, entries_view}
 use Rattle.claxon_metadata.proofs.CommentEntries.{EntriesSoFar}
@@ -6,6 +7,7 @@ use Rattle.claxon_metadata.proofs.metadata.comment.read_entries.Given as goal
 abbrev pub invariant-loop-missing : goal.invariant-loop-missing
 invariant-loop-missing g l = record {
   places : HavePlaces l.comments.items;
+  within : length (bytes_in g.R.ReadBytes.source l.fn.input).coming + l.bytes_left ≤ l.length + length (bytes_in g.R.ReadBytes.source l.input).coming;
   read : EntriesSoFar l.count l.length l.missing l.bytes_left (entries_view l.comments.items) (bytes_in g.R.ReadBytes.source l.fn.input) (bytes_in g.R.ReadBytes.source l.input);
 }
 
