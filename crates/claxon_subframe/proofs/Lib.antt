@@ -12,4 +12,6 @@ pub mod RestoreLoop
 pub mod Predictors
 pub mod Lanes
 pub mod NewestSamples
+pub mod Sums
+pub mod SampleLoop
 pub mod ScaledSamples

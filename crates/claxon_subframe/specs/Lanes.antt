@@ -1,5 +1,7 @@
 -- Four numbers side by side.
-use Rattle.std.specs.Prelude.{◌≡◌, ℕ, ◌≤◌, ℤ, List, [], ◌∷◌, length}
+use Rattle.std.specs.Prelude.{◌≡◌, ℕ, ◌≤◌, ℤ, FitsSigned, ◌+ℤ◌, ◌*ℤ◌, List, [], ◌∷◌, ◌++◌, length, map, take, drop}
+use Rattle.std.specs.Int.{int_wrap, w64}
+use Rattle.std.specs.Simd.Lanes.{zip2}
 use Rattle.std.specs.Int.RustNames.{unsigned_abs}
 
 -- each number is at most m in size
@@ -15,3 +17,25 @@ pub record Within (m : ℕ) (xs : List ℤ) : Type 0 where
 pub record Lanes (m : ℕ) (xs : List ℤ) : Type 0 where
   pub four : length xs ≡ 4
   pub each : AllWithin m xs
+
+-- the number that fits 64 bits and is x modulo 2 ^ 64
+abbrev pub wrap_64 : ℤ → ℤ
+wrap_64 x = int_wrap w64 x
+
+-- each number fits 64 bits
+abbrev pub AllFit64 : List ℤ → Type 0
+AllFit64 [] = Unit {0}
+AllFit64 (x ∷ xs) = FitsSigned w64 x × AllFit64 xs
+
+-- four numbers that fit 64 bits
+pub record Wide (xs : List ℤ) : Type 0 where
+  pub four : length xs ≡ 4
+  pub each : AllFit64 xs
+
+-- each number and a product, modulo 2 ^ 64
+abbrev pub plus_products : List ℤ → List ℤ → List ℤ → List ℤ
+plus_products zs cs xs = map wrap_64 (zip2 ◌+ℤ◌ zs (zip2 ◌*ℤ◌ cs xs))
+
+-- the last two numbers before some and their first two, and two products to each, modulo 2 ^ 64
+abbrev pub two_on : List ℤ → List ℤ → List ℤ → List ℤ → List ℤ → List ℤ → List ℤ
+two_on before zs cs xs ds ys = plus_products (plus_products (drop 2 before ++ take 2 zs) cs xs) ds ys

@@ -5,3 +5,4 @@ pub mod Decode
 pub mod Words
 pub mod Samples
 pub mod Predictor
+pub mod Sums

@@ -1,10 +1,9 @@
 //! Predictors: samples from their first ones and a residual, in place. All sums are modulo 2^32 in the end.
 ghost use Rattle.std.specs.Prelude.{◌≡◌, ◌+◌, ◌-◌, ◌*◌, ◌^◌, ◌<◌, ◌≤◌, false, [], ◌∷◌, ◌++◌, length, take, reverse, replicate, pos, ◌+ℤ◌, ◌*ℤ◌};
-ghost use Rattle.std.specs.Int.RustNames.{unsigned_abs};
-ghost use Rattle.std.specs.Simd.Lanes.{zip2};
 ghost use Rattle.claxon_format.specs.Predict.{wrap, dot, floor_shift, fixed, linear, restored};
 ghost use Rattle.claxon_subframe.specs.Predictor.{SamplesCameBack};
-ghost use Rattle.claxon_subframe.specs.Lanes.{Within, Lanes};
+ghost use Rattle.claxon_subframe.specs.Lanes.{Within, Lanes, Wide, plus_products, two_on};
+ghost use Rattle.claxon_subframe.specs.Sums.{but_newest_two, AreTaps, SmallTaps, WideTwelve, WaitsTwoOn, WaitsAfter, IsSample};
 
 use std::simd::prelude::*;
 
@@ -171,9 +170,9 @@ pub fn predict_lpc_low_order(coefficients: &[i16], shift: u32, buffer: &mut [i32
     predict_plain(coefficients, shift, &mut buffer[..front]);
     let twelve = last_of_twelve(coefficients);
     if coefficients.len() <= 8 {
-        predict_in_lanes::<false>(&twelve, shift, buffer);
+        predict_by_sums::<false>(&twelve, shift, buffer);
     } else {
-        predict_in_lanes::<true>(&twelve, shift, buffer);
+        predict_by_sums::<true>(&twelve, shift, buffer);
     }
 }
 
@@ -201,90 +200,181 @@ fn narrow(lanes: i64x4) -> i64x4
     (lanes << i64x4::splat(32)) >> i64x4::splat(32)
 }
 
-// Four samples in 64 bits each. They are read one by one, so that each is known to fit 32 bits: it compiles to one load.
+// A sample in each lane. It is widened there, so that each lane is known to fit 32 bits.
 #[inline(always)]
-fn widened(samples: &[i32]) -> i64x4
-    requires { length samples.now ≡ 4 }
-    ensures value { result ≡ samples.now }
+fn spread(sample: i32) -> i64x4
+    ensures value { result ≡ replicate 4 sample }
     ensures lanes { Lanes (2 ^ 31) result }
 {
-    i32x4::from_array([samples[0], samples[1], samples[2], samples[3]]).cast::<i64>()
+    i32x4::splat(sample).cast::<i64>()
 }
 
-// Each sum and the product of its lane.
+// Each sum and the product of its lane, modulo 2^64.
 #[inline(always)]
 fn add_products(sums: i64x4, coefficients: i64x4, samples: i64x4) -> i64x4
-    requires sums { Lanes (2 ^ 48) sums }
+    requires sums { Wide sums }
     requires coefficients { Lanes (2 ^ 15) coefficients }
     requires samples { Lanes (2 ^ 31) samples }
-    ensures { result ≡ zip2 ◌+ℤ◌ sums (zip2 ◌*ℤ◌ coefficients samples) }
+    ensures { result ≡ plus_products sums coefficients samples }
 {
     sums + narrow(coefficients) * samples
 }
 
-// The sum of the products of twelve coefficients and samples but for the newest two.
+// The sums of four places, two places on: those that stood there, the first two of them before `sums`, and what two
+// samples add to them.
 #[inline(always)]
-fn older_products<const ALL: bool>(
+fn later_sums(
+    before: i64x4,
+    sums: i64x4,
+    for_second: i64x4,
+    second: i64x4,
+    for_newest: i64x4,
+    newest: i64x4,
+) -> i64x4
+    requires before { Wide before }
+    requires sums { Wide sums }
+    requires for_second { Lanes (2 ^ 15) for_second }
+    requires second { Lanes (2 ^ 31) second }
+    requires for_newest { Lanes (2 ^ 15) for_newest }
+    requires newest { Lanes (2 ^ 31) newest }
+    ensures value { result ≡ two_on before sums for_second second for_newest newest }
+    ensures wide { Wide result }
+{
+    let moved = before.shuffle(sums, [2, 3, 4, 5]);
+    add_products(add_products(moved, for_second, second), for_newest, newest)
+}
+
+// Twelve numbers in three vectors of four lanes.
+#[derive(Clone, Copy)]
+struct Twelve {
     oldest: i64x4,
     older: i64x4,
     old: i64x4,
-    samples: &[i32],
-    fourth: i64,
-    third: i64,
-) -> i64
-    requires zeros { ALL ≡ false → oldest ≡ replicate 4 (pos 0) }
-    requires oldest { Lanes (2 ^ 15) oldest }
-    requires older { Lanes (2 ^ 15) older }
-    requires old { Lanes (2 ^ 15) old }
-    requires samples { length samples.now ≡ 8 }
-    requires fourth { unsigned_abs fourth ≤ 2 ^ 31 }
-    requires third { unsigned_abs third ≤ 2 ^ 31 }
-    ensures value { result ≡ dot (oldest ++ (older ++ old)) (samples.now ++ (fourth ∷ third ∷ pos 0 ∷ pos 0 ∷ [])) }
-    ensures small { unsigned_abs result ≤ 2 ^ 50 }
-{
-    let zeros = i64x4::splat(0);
-    let lanes = add_products(zeros, older, widened(&samples[4..8]));
-    let lanes = add_products(lanes, old, i64x4::from_array([fourth, third, 0, 0]));
-    let lanes = if ALL {
-        add_products(lanes, oldest, widened(&samples[0..4]))
-    } else {
-        lanes
-    };
-    lanes.reduce_sum()
 }
 
-// A sample from its residual, the products of all coefficients and samples but the newest two, and those two.
+// What a sample adds to the sums of the next twelve places, the farthest first: a coefficient each, none to a place that
+// it is one of the newest two of. That of the newer of two samples, and of the one before it, of which the places are the
+// same and which is one farther from them.
+#[derive(Clone, Copy)]
+struct Taps {
+    second: Twelve,
+    newest: Twelve,
+}
+
+#[inline(always)]
+fn taps_of(twelve: &[i64; 12]) -> Taps
+    requires { Within (2 ^ 15) twelve.now }
+    ensures value { AreTaps (but_newest_two twelve.now) result }
+    ensures small { SmallTaps result }
+{
+    Taps {
+        second: Twelve {
+            oldest: i64x4::from_array([0, twelve[0], twelve[1], twelve[2]]),
+            older: i64x4::from_array([twelve[3], twelve[4], twelve[5], twelve[6]]),
+            old: i64x4::from_array([twelve[7], twelve[8], twelve[9], 0]),
+        },
+        newest: Twelve {
+            oldest: i64x4::from_array([twelve[0], twelve[1], twelve[2], twelve[3]]),
+            older: i64x4::from_array([twelve[4], twelve[5], twelve[6], twelve[7]]),
+            old: i64x4::from_array([twelve[8], twelve[9], 0, 0]),
+        },
+    }
+}
+
+// The sums that wait for the next twelve places, two places on.
+#[inline(always)]
+fn sums_two_on<const ALL: bool>(sums: Twelve, taps: Taps, second: i32, newest: i32) -> Twelve
+    requires sums { WideTwelve sums }
+    requires taps { SmallTaps taps }
+    requires zeros { ALL ≡ false → taps.newest.oldest ≡ replicate 4 (pos 0) }
+    ensures value { WaitsTwoOn taps sums second newest result }
+    ensures wide { WideTwelve result }
+{
+    let second = spread(second);
+    let newest = spread(newest);
+    let zeros = i64x4::splat(0);
+    Twelve {
+        oldest: if ALL {
+            later_sums(
+                zeros,
+                sums.oldest,
+                taps.second.oldest,
+                second,
+                taps.newest.oldest,
+                newest,
+            )
+        } else {
+            zeros
+        },
+        older: later_sums(
+            sums.oldest,
+            sums.older,
+            taps.second.older,
+            second,
+            taps.newest.older,
+            newest,
+        ),
+        old: later_sums(
+            sums.older,
+            sums.old,
+            taps.second.old,
+            second,
+            taps.newest.old,
+            newest,
+        ),
+    }
+}
+
+// The sums that wait for the twelve places behind these samples.
+#[inline(always)]
+fn first_sums<const ALL: bool>(taps: Taps, samples: &[i32]) -> Twelve
+    requires samples { length samples.now ≡ 12 }
+    requires taps { SmallTaps taps }
+    requires zeros { ALL ≡ false → taps.newest.oldest ≡ replicate 4 (pos 0) }
+    ensures { WaitsAfter taps samples.now result }
+{
+    let zeros = i64x4::splat(0);
+    let mut sums = Twelve {
+        oldest: zeros,
+        older: zeros,
+        old: zeros,
+    };
+    for pair in 0..6 {
+        sums = sums_two_on::<ALL>(sums, taps, samples[2 * pair], samples[2 * pair + 1]);
+    }
+    sums
+}
+
+// A sample from its residual, the sum that waited for it, modulo 2^64, and the products of the newest two. All is put so
+// far up that its low 32 bits are what the shift would drop: a shift by 32 leaves a sample that needs no cut.
 #[inline(always)]
 fn sample_of(
     residual: i32,
-    older: i64,
+    waiting: i64,
     before: i64,
-    second: i64,
+    second: i32,
     last: i64,
-    newest: i64,
+    newest: i32,
     shift: u32,
 ) -> i32
-    requires shift { shift ≤ 15 }
-    requires older { unsigned_abs older ≤ 2 ^ 50 }
-    requires before { unsigned_abs before ≤ 2 ^ 15 }
-    requires second { unsigned_abs second ≤ 2 ^ 31 }
-    requires last { unsigned_abs last ≤ 2 ^ 15 }
-    requires newest { unsigned_abs newest ≤ 2 ^ 31 }
-    ensures { result ≡ wrap (floor_shift ((older +ℤ before *ℤ second) +ℤ last *ℤ newest) shift +ℤ residual) }
+    requires { shift ≤ 15 }
+    ensures { IsSample residual waiting before second last newest shift result }
 {
-    let sum = (i64::from(residual) << shift)
-        .wrapping_add(older)
-        .wrapping_add(before.wrapping_mul(second))
-        .wrapping_add(last.wrapping_mul(newest));
-    low_bits(sum >> shift)
+    let up = 32 - shift;
+    let sum = (waiting << up)
+        .wrapping_add(i64::from(residual) << 32)
+        .wrapping_add((before << up).wrapping_mul(i64::from(second)))
+        .wrapping_add((last << up).wrapping_mul(i64::from(newest)));
+    low_bits(sum >> 32)
 }
 
 // Places from 12 on, each by its twelve newest samples. Where `ALL` is false the oldest four coefficients are zeros.
 //
-// A place waits for the sample before it, so the newest two samples are left out of the lanes and their products come
-// last. The coefficients come by reference and this isn't inlined, so that `narrow` keeps its shifts.
+// A sample's products go at once to the sums of later places, two samples at a time, so that sums move by whole halves of
+// a vector. A place waits for the samples before it, so the products of its newest two come last, one by one. The
+// coefficients come by reference and this isn't inlined, so that `narrow` keeps its shifts.
 #[inline(never)]
-fn predict_in_lanes<const ALL: bool>(twelve: &[i64; 12], shift: u32, buffer: &mut [i32])
+fn predict_by_sums<const ALL: bool>(twelve: &[i64; 12], shift: u32, buffer: &mut [i32])
     requires shift { shift ≤ 15 }
     requires small { Within (2 ^ 15) twelve.now }
     requires zeros { ALL ≡ false → take 4 twelve.now ≡ replicate 4 (pos 0) }
@@ -293,28 +383,27 @@ fn predict_in_lanes<const ALL: bool>(twelve: &[i64; 12], shift: u32, buffer: &mu
     if buffer.len() <= 12 {
         return;
     }
-    let oldest = i64x4::from_slice(&twelve[0..4]);
-    let older = i64x4::from_slice(&twelve[4..8]);
-    let old = i64x4::from_slice(&twelve[8..12]);
-    let [_, _, before, last] = old.to_array();
-    let mut fourth = i64::from(buffer[8]);
-    let mut third = i64::from(buffer[9]);
-    let mut second = i64::from(buffer[10]);
-    let mut newest = i64::from(buffer[11]);
-    for i in 12..buffer.len() {
-        let products = older_products::<ALL>(
-            oldest,
-            older,
-            old,
-            &buffer[i - 12..i - 4],
-            fourth,
-            third,
-        );
-        let sample = sample_of(buffer[i], products, before, second, last, newest, shift);
-        buffer[i] = sample;
-        fourth = third;
-        third = second;
-        second = newest;
-        newest = i64::from(sample);
+    let before = twelve[10];
+    let last = twelve[11];
+    let taps = taps_of(twelve);
+    let mut sums = first_sums::<ALL>(taps, &buffer[..12]);
+    let mut second = buffer[10];
+    let mut newest = buffer[11];
+    for pair in 6..buffer.len() / 2 {
+        let i = 2 * pair;
+        let [_, _, farther, nearest] = sums.old.to_array();
+        let one = sample_of(buffer[i], nearest, before, second, last, newest, shift);
+        let two = sample_of(buffer[i + 1], farther, before, newest, last, one, shift);
+        buffer[i] = one;
+        buffer[i + 1] = two;
+        sums = sums_two_on::<ALL>(sums, taps, one, two);
+        second = one;
+        newest = two;
+    }
+    // A last place alone.
+    if buffer.len() % 2 == 1 {
+        let i = buffer.len() - 1;
+        let [_, _, _, nearest] = sums.old.to_array();
+        buffer[i] = sample_of(buffer[i], nearest, before, second, last, newest, shift);
     }
 }

@@ -1,0 +1,76 @@
+-- A loop that brings samples back two at a time, with the newest two in variables.
+use Rattle.std.proofs.Common.{◌≡◌, ℕ, ◌+◌, ◌<◌, ◌≤◌, List, [], ◌∷◌, length, take, reverse, get_or, set, refl, sym, ap, subst, ◌∙◌, arith, ℤ, pos, ◌+ℤ◌, to_z, of_z, w32, FitsSigned}
+use Rattle.std.proofs.lemmas.Int.{to_z-of_z}
+use Rattle.std.proofs.lemmas.List.{take_more, take_more_set, get_or-set_other, length-set, reverse-append}
+use Rattle.claxon_format.specs.Predict.{wrap, linear, restored}
+use Rattle.claxon_subframe.specs.Sums.{but_newest_two, waiting, Waits, IsSample}
+use Rattle.claxon_subframe.specs.declared.subframe.predictor.Twelve.{Twelve}
+use Rattle.claxon_subframe.proofs.Predictors.{restored_more, restored_all}
+use Rattle.claxon_subframe.proofs.Sums.{one_is, two_is}
+
+-- right before i stand these two, the newest last
+pub record EndsIn (xs : List ℤ) (i : ℕ) (second newest : ℤ) : Type 0 where
+  pub rest : List ℤ
+  pub is : reverse (take i xs) ≡ newest ∷ second ∷ rest
+
+-- one more sample
+past_more : (xs : List ℤ) (i j : ℕ) (x : ℤ) → j ≡ i + 1 → i < length xs → reverse (take j (set xs i x)) ≡ x ∷ reverse (take i xs)
+past_more xs i j x e lt = ap (λ (n : ℕ). reverse (take n (set xs i x))) e ∙ ap reverse (take_more_set xs i x lt) ∙ reverse-append (take i xs) (x ∷ [])
+
+past_read : (xs : List ℤ) (i j : ℕ) → j ≡ i + 1 → i < length xs → reverse (take j xs) ≡ get_or xs i (pos 0) ∷ reverse (take i xs)
+past_read xs i j e lt = ap (λ (n : ℕ). reverse (take n xs)) e ∙ ap reverse (take_more xs i (pos 0) lt) ∙ reverse-append (take i xs) (get_or xs i (pos 0) ∷ [])
+
+-- two entries that were read
+pub ends_read : (xs : List ℤ) (i j k : ℕ) → j ≡ i + 1 → k ≡ j + 1 → j < length xs → reverse (take k xs) ≡ get_or xs j (pos 0) ∷ get_or xs i (pos 0) ∷ reverse (take i xs)
+ends_read xs i j k ej ek lt = past_read xs j k ek lt ∙ ap (λ (l : List ℤ). get_or xs j (pos 0) ∷ l) (past_read xs i j ej (omega arith))
+
+pub waits_read : (ks xs : List ℤ) (i j k : ℕ) (x y : ℤ) (sums : Twelve) → x ≡ get_or xs i (pos 0) → y ≡ get_or xs j (pos 0) → j ≡ i + 1 → k ≡ j + 1 → j < length xs
+    → Waits ks (y ∷ x ∷ reverse (take i xs)) sums → Waits ks (reverse (take k xs)) sums
+waits_read ks xs i j k x y sums ex ey ej ek lt w =
+    subst (λ (l : List ℤ). Waits ks l sums) (ap (λ (v : ℤ). v ∷ x ∷ reverse (take i xs)) ey ∙ ap (λ (v : ℤ). get_or xs j (pos 0) ∷ v ∷ reverse (take i xs)) ex ∙ sym (ends_read xs i j k ej ek lt)) w
+
+-- the entries at i and after it are replaced by what comes back there
+pub two_restored : (p : List ℤ → ℤ) (xs : List ℤ) (i j k : ℕ) (x y : ℤ) → j ≡ i + 1 → k ≡ j + 1 → j < length xs
+    → x ≡ wrap (p (reverse (take i xs)) +ℤ get_or xs i (pos 0)) → y ≡ wrap (p (x ∷ reverse (take i xs)) +ℤ get_or xs j (pos 0))
+    → restored p k (set (set xs i x) j y) ≡ restored p i xs
+two_restored p xs i j k x y ej ek lt ex ey =
+    let there : get_or (set xs i x) j (pos 0) ≡ get_or xs j (pos 0) = get_or-set_other xs i j x (pos 0) (omega arith) in
+    let past : reverse (take j (set xs i x)) ≡ x ∷ reverse (take i xs) = past_more xs i j x ej (omega arith) in
+    let value : y ≡ wrap (p (reverse (take j (set xs i x))) +ℤ get_or (set xs i x) j (pos 0)) = rw (past, there) ey in
+    let second : restored p (j + 1) (set (set xs i x) j y) ≡ restored p j (set xs i x) = restored_more p (set xs i x) j y (omega (arith, length-set xs i x)) value in
+    let first : restored p (i + 1) (set xs i x) ≡ restored p i xs = restored_more p xs i x (omega arith) ex in
+    ap (λ (n : ℕ). restored p n (set (set xs i x) j y)) ek ∙ second ∙ ap (λ (n : ℕ). restored p n (set xs i x)) ej ∙ first
+
+pub past_two : (xs : List ℤ) (i j k : ℕ) (x y : ℤ) → j ≡ i + 1 → k ≡ j + 1 → j < length xs → reverse (take k (set (set xs i x) j y)) ≡ y ∷ x ∷ reverse (take i xs)
+past_two xs i j k x y ej ek lt = past_more (set xs i x) j k y ek (omega (arith, length-set xs i x)) ∙ ap (λ (l : List ℤ). y ∷ l) (past_more xs i j x ej (omega arith))
+
+pub ends_first : (xs : List ℤ) → 12 ≤ length xs → FitsSigned w32 (get_or xs 10 (pos 0)) → FitsSigned w32 (get_or xs 11 (pos 0))
+    → EndsIn xs 12 (to_z w32 (of_z w32 (get_or xs 10 (pos 0)))) (to_z w32 (of_z w32 (get_or xs 11 (pos 0))))
+ends_first xs le f g =
+    let second : to_z w32 (of_z w32 (get_or xs 10 (pos 0))) ≡ get_or xs 10 (pos 0) = to_z-of_z w32 _ f in
+    let newest : to_z w32 (of_z w32 (get_or xs 11 (pos 0))) ≡ get_or xs 11 (pos 0) = to_z-of_z w32 _ g in
+    rw (second, newest) (record { rest = reverse (take 10 xs); is = ends_read xs 10 11 12 refl refl (omega arith) })
+
+-- ---- a place and the one after it
+
+pub one_place : (ts xs : List ℤ) (i : ℕ) (n s r w b l x : ℤ) (t : ℕ) (sums : Twelve) → length ts ≡ 12 → EndsIn xs i s n → Waits (but_newest_two ts) (reverse (take i xs)) sums
+    → r ≡ get_or xs i (pos 0) → w ≡ get_or sums.old 3 (pos 0) → b ≡ get_or ts 10 (pos 0) → l ≡ get_or ts 11 (pos 0) → IsSample r w b s l n t x → x ≡ wrap (linear (reverse ts) t (reverse (take i xs)) +ℤ get_or xs i (pos 0))
+one_place ts xs i n s r w b l x t sums long past waits er ew eb el is =
+    let there : get_or sums.old 3 (pos 0) ≡ waiting (but_newest_two ts) (reverse (take i xs)) 0 = ap (λ (o : List ℤ). get_or o 3 (pos 0)) waits.old in
+    one_is ts past.rest n s r w b l x t long eb el (ew ∙ there ∙ ap (λ (p : List ℤ). waiting (but_newest_two ts) p 0) past.is) is
+    ∙ ap (λ (v : ℤ). wrap (linear (reverse ts) t (n ∷ s ∷ past.rest) +ℤ v)) er ∙ ap (λ (p : List ℤ). wrap (linear (reverse ts) t p +ℤ get_or xs i (pos 0))) (sym past.is)
+
+pub two_place : (ts xs : List ℤ) (i j : ℕ) (m n s r w b l x : ℤ) (t : ℕ) (sums : Twelve) → length ts ≡ 12 → EndsIn xs i s n → Waits (but_newest_two ts) (reverse (take i xs)) sums
+    → r ≡ get_or xs j (pos 0) → w ≡ get_or sums.old 2 (pos 0) → b ≡ get_or ts 10 (pos 0) → l ≡ get_or ts 11 (pos 0) → IsSample r w b n l m t x → x ≡ wrap (linear (reverse ts) t (m ∷ reverse (take i xs)) +ℤ get_or xs j (pos 0))
+two_place ts xs i j m n s r w b l x t sums long past waits er ew eb el is =
+    let there : get_or sums.old 2 (pos 0) ≡ waiting (but_newest_two ts) (reverse (take i xs)) 1 = ap (λ (o : List ℤ). get_or o 2 (pos 0)) waits.old in
+    two_is ts past.rest m n s r w b l x t long eb el (ew ∙ there ∙ ap (λ (p : List ℤ). waiting (but_newest_two ts) p 1) past.is) is
+    ∙ ap (λ (v : ℤ). wrap (linear (reverse ts) t (m ∷ n ∷ s ∷ past.rest) +ℤ v)) er ∙ ap (λ (p : List ℤ). wrap (linear (reverse ts) t (m ∷ p) +ℤ get_or xs j (pos 0))) (sym past.is)
+
+-- a last place alone
+pub last_restored : (p : List ℤ → ℤ) (xs whole : List ℤ) (i m : ℕ) (x : ℤ) → m ≡ i → length xs ≡ i + 1 → x ≡ wrap (p (reverse (take i xs)) +ℤ get_or xs i (pos 0)) → restored p i xs ≡ whole → set xs m x ≡ whole
+last_restored p xs whole i m x em long ex same =
+    ap (λ (n : ℕ). set xs n x) em ∙ sym (restored_all p (set xs i x) (i + 1) (omega (arith, length-set xs i x))) ∙ restored_more p xs i x (omega arith) ex ∙ same
+
+pub waits_past : (ks xs : List ℤ) (i j k : ℕ) (x y : ℤ) (sums : Twelve) → j ≡ i + 1 → k ≡ j + 1 → j < length xs → Waits ks (y ∷ x ∷ reverse (take i xs)) sums → Waits ks (reverse (take k (set (set xs i x) j y))) sums
+waits_past ks xs i j k x y sums ej ek lt w = subst (λ (l : List ℤ). Waits ks l sums) (sym (past_two xs i j k x y ej ek lt)) w

@@ -1,0 +1,27 @@
+use Rattle.std.proofs.Common.{◌+◌, ◌*◌, get_or, take, reverse, pos, refl, subst, rules, arith, FitsSigned, w32, List, ℤ}
+use Rattle.std.proofs.lemmas.Int.{to_z-of_z}
+use Rattle.std.proofs.lemmas.List.{take_all}
+use Rattle.claxon_subframe.specs.Sums.{Waits}
+use Rattle.claxon_subframe.proofs.Sums.{zeros_wide, nothing_yet}
+use Rattle.claxon_subframe.proofs.SampleLoop.{waits_read}
+use Rattle.claxon_subframe.proofs.subframe.predictor.first_sums.Goals as goal
+
+pub loop-pair-init : goal.loop-pair-init
+loop-pair-init g c = record {
+  wide = record { oldest = zeros_wide; older = zeros_wide; old = zeros_wide };
+  waits = λ ks taps. record { oldest = nothing_yet ks 8; older = nothing_yet ks 4; old = nothing_yet ks 0 };
+}
+
+pub loop-pair-preserved : goal.loop-pair-preserved
+loop-pair-preserved g c =
+    let first : FitsSigned w32 (get_or c.args.samples.now (2 * c.loop-pair.pair) (pos 0)) = search rules in
+    let second : FitsSigned w32 (get_or c.args.samples.now (2 * c.loop-pair.pair + 1) (pos 0)) = search rules in
+    record {
+      wide = c.sums_two_on-sums.ensures.wide;
+      waits = λ ks taps.
+          waits_read ks c.args.samples.now (2 * c.loop-pair.pair) (2 * c.loop-pair.pair + 1) (2 * (c.loop-pair.pair + 1)) _ _ c.sums_two_on-sums.result (to_z-of_z w32 _ first) (to_z-of_z w32 _ second) refl (omega arith) (omega arith)
+          (c.sums_two_on-sums.ensures.value ks (reverse (take (2 * c.loop-pair.pair) c.args.samples.now)) taps (c.loop-pair.invariant.waits ks taps));
+    }
+
+pub returns : goal.returns
+returns g c = λ ks taps. subst (λ (l : List ℤ). Waits ks (reverse l) c.loop-pair.sums) (take_all (2 * c.loop-pair.pair) c.args.samples.now (omega arith)) (c.loop-pair.invariant.waits ks taps)

@@ -1,0 +1,64 @@
+use Rattle.std.proofs.Common.{◌≡◌, ◌+◌, ◌-◌, ◌*◌, ◌∙◌, length, get_or, take, reverse, pos, refl, sym, ap, rules, arith, FitsSigned, w32, to_z, of_z, ℕ, ℤ}
+use Rattle.std.proofs.lemmas.Int.{to_z-of_z}
+use Rattle.std.proofs.lemmas.List.{length-set}
+use Rattle.claxon_format.specs.Predict.{linear}
+use Rattle.claxon_subframe.specs.Sums.{but_newest_two}
+use Rattle.claxon_subframe.proofs.Predictors.{restored_all}
+use Rattle.claxon_subframe.proofs.Sums.{waits_wide, lane_is, entry_is, no_farthest_taps}
+use Rattle.claxon_subframe.proofs.SampleLoop.{ends_first, one_place, two_place, two_restored, past_two, last_restored, waits_past}
+use Rattle.claxon_subframe.proofs.subframe.predictor.predict_by_sums.Goals as goal
+
+pub returns-then-buffer-le12 : goal.returns-then-buffer-le12
+returns-then-buffer-le12 g c = sym (restored_all (linear (reverse c.args.twelve.now) c.args.shift) c.args.buffer.now 12 c.if-buffer-le12.true)
+
+pub first_sums-sums-requires-clause-zeros : goal.first_sums-sums-requires-clause-zeros
+first_sums-sums-requires-clause-zeros g c = λ h. no_farthest_taps c.args.twelve.now c.taps_of-taps.result.newest.oldest c.told-twelve c.taps_of-taps.ensures.value.newest_oldest (c.requires.zeros h)
+
+pub sums_two_on-sums-requires-clause-zeros : goal.sums_two_on-sums-requires-clause-zeros
+sums_two_on-sums-requires-clause-zeros g c = λ h. no_farthest_taps c.args.twelve.now c.taps_of-taps.result.newest.oldest c.told-twelve c.taps_of-taps.ensures.value.newest_oldest (c.requires.zeros h)
+
+pub sums_two_on-sums-requires-clause-sums : goal.sums_two_on-sums-requires-clause-sums
+sums_two_on-sums-requires-clause-sums g c = waits_wide c.loop-pair.invariant.sums
+
+pub loop-pair-init : goal.loop-pair-init
+loop-pair-init g c =
+    let second : FitsSigned w32 (get_or c.args.buffer.now 10 (pos 0)) = search rules in
+    let newest : FitsSigned w32 (get_or c.args.buffer.now 11 (pos 0)) = search rules in
+    record {
+      kept = refl;
+      same = refl;
+      past = ends_first c.args.buffer.now (omega arith) second newest;
+      sums = c.first_sums-sums.ensures (but_newest_two c.args.twelve.now) c.taps_of-taps.ensures.value;
+    }
+
+pub loop-pair-preserved : goal.loop-pair-preserved
+loop-pair-preserved g c =
+    let first : FitsSigned w32 (get_or c.loop-pair.buffer (2 * c.loop-pair.pair) (pos 0)) = search rules in
+    let after : FitsSigned w32 (get_or c.loop-pair.buffer (2 * c.loop-pair.pair + 1) (pos 0)) = search rules in
+    let one : FitsSigned w32 c.sample_of-one.result = search rules in
+    let two : FitsSigned w32 c.sample_of-two.result = search rules in
+    let wide = waits_wide c.loop-pair.invariant.sums in
+    let one-is = to_z-of_z w32 c.sample_of-one.result one
+    ∙ one_place c.args.twelve.now c.loop-pair.buffer (2 * c.loop-pair.pair) _ _ _ _ _ _ c.sample_of-one.result c.args.shift c.loop-pair.sums c.told-twelve c.loop-pair.invariant.past c.loop-pair.invariant.sums
+    (to_z-of_z w32 _ first) (lane_is c.loop-pair.sums.old 3 wide.old) (entry_is c.args.twelve.now 10 c.requires.small) (entry_is c.args.twelve.now 11 c.requires.small) c.sample_of-one.ensures in
+    let two-is = to_z-of_z w32 c.sample_of-two.result two
+    ∙ two_place c.args.twelve.now c.loop-pair.buffer (2 * c.loop-pair.pair) (2 * c.loop-pair.pair + 1) _ _ _ _ _ _ _ c.sample_of-two.result c.args.shift c.loop-pair.sums c.told-twelve c.loop-pair.invariant.past c.loop-pair.invariant.sums
+    (to_z-of_z w32 _ after) (lane_is c.loop-pair.sums.old 2 wide.old) (entry_is c.args.twelve.now 10 c.requires.small) (entry_is c.args.twelve.now 11 c.requires.small) c.sample_of-two.ensures in
+    record {
+      kept = length-set _ _ _ ∙ length-set c.loop-pair.buffer _ _ ∙ c.loop-pair.invariant.kept;
+      same = two_restored (linear (reverse c.args.twelve.now) c.args.shift) c.loop-pair.buffer (2 * c.loop-pair.pair) (2 * c.loop-pair.pair + 1) (2 * (c.loop-pair.pair + 1)) _ _ refl (omega arith) (omega arith) one-is two-is ∙ c.loop-pair.invariant.same;
+      past = record { rest = reverse (take (2 * c.loop-pair.pair) c.loop-pair.buffer); is = past_two c.loop-pair.buffer (2 * c.loop-pair.pair) (2 * c.loop-pair.pair + 1) (2 * (c.loop-pair.pair + 1)) _ _ refl (omega arith) (omega arith) };
+      sums = waits_past (but_newest_two c.args.twelve.now) c.loop-pair.buffer (2 * c.loop-pair.pair) (2 * c.loop-pair.pair + 1) (2 * (c.loop-pair.pair + 1)) _ _ c.sums_two_on-sums.result refl (omega arith) (omega arith)
+          (c.sums_two_on-sums.ensures.value (but_newest_two c.args.twelve.now) (reverse (take (2 * c.loop-pair.pair) c.loop-pair.buffer)) c.taps_of-taps.ensures.value c.loop-pair.invariant.sums);
+    }
+
+pub returns-then-buffer-eq1 : goal.returns-then-buffer-eq1
+returns-then-buffer-eq1 g c =
+    let at : length c.loop-pair.buffer - 1 ≡ 2 * c.loop-pair.pair = omega arith in
+    let residual : FitsSigned w32 (get_or c.loop-pair.buffer (length c.loop-pair.buffer - 1) (pos 0)) = search rules in
+    let sample : FitsSigned w32 c.sample_of.result = search rules in
+    let wide = waits_wide c.loop-pair.invariant.sums in
+    let is = to_z-of_z w32 c.sample_of.result sample
+    ∙ one_place c.args.twelve.now c.loop-pair.buffer (2 * c.loop-pair.pair) _ _ _ _ _ _ c.sample_of.result c.args.shift c.loop-pair.sums c.told-twelve c.loop-pair.invariant.past c.loop-pair.invariant.sums
+    (to_z-of_z w32 _ residual ∙ ap (λ (n : ℕ). get_or c.loop-pair.buffer n (pos 0)) at) (lane_is c.loop-pair.sums.old 3 wide.old) (entry_is c.args.twelve.now 10 c.requires.small) (entry_is c.args.twelve.now 11 c.requires.small) c.sample_of.ensures in
+    last_restored (linear (reverse c.args.twelve.now) c.args.shift) c.loop-pair.buffer _ (2 * c.loop-pair.pair) (length c.loop-pair.buffer - 1) _ at (omega arith) is c.loop-pair.invariant.same

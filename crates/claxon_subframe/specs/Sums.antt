@@ -1,0 +1,67 @@
+-- Sums that wait for their places: what the samples so far add to each place to come.
+use Rattle.std.specs.Prelude.{◌≡◌, ℕ, ◌+◌, ◌^◌, ℤ, pos, ◌+ℤ◌, ◌*ℤ◌, List, [], ◌∷◌, take, drop, reverse, replicate, length, get_or}
+use Rattle.claxon_format.specs.Predict.{wrap, dot, floor_shift}
+use Rattle.claxon_subframe.specs.Lanes.{Lanes, Wide, wrap_64}
+use Rattle.claxon_subframe.specs.declared.subframe.predictor.Taps.{Taps}
+use Rattle.claxon_subframe.specs.declared.subframe.predictor.Twelve.{Twelve}
+
+-- The coefficients, the newest sample's first, zeros in place of the newest two. They come with the newest sample's last.
+abbrev pub but_newest_two : List ℤ → List ℤ
+but_newest_two twelve = pos 0 ∷ pos 0 ∷ drop 2 (reverse twelve)
+
+-- what the samples so far, the newest first, add to the place that is j places on, modulo 2 ^ 64
+abbrev pub waiting : List ℤ → List ℤ → ℕ → ℤ
+waiting coefficients past j = wrap_64 (dot (drop j coefficients) past)
+
+-- the same for four places, the farthest first
+abbrev pub four_waiting : List ℤ → List ℤ → ℕ → List ℤ
+four_waiting coefficients past j = waiting coefficients past (j + 3) ∷ waiting coefficients past (j + 2) ∷ waiting coefficients past (j + 1) ∷ waiting coefficients past j ∷ []
+
+-- twelve lanes hold what waits for twelve places
+pub record Waits (coefficients past : List ℤ) (sums : Twelve) : Type 0 where
+  pub oldest : sums.oldest ≡ four_waiting coefficients past 8
+  pub older : sums.older ≡ four_waiting coefficients past 4
+  pub old : sums.old ≡ four_waiting coefficients past 0
+
+-- four coefficients, the farthest place's first
+abbrev pub four_taps : List ℤ → ℕ → List ℤ
+four_taps coefficients j = get_or coefficients (j + 3) (pos 0) ∷ get_or coefficients (j + 2) (pos 0) ∷ get_or coefficients (j + 1) (pos 0) ∷ get_or coefficients j (pos 0) ∷ []
+
+-- what two samples add: the newer one's coefficients, and those of the one before it
+pub record AreTaps (coefficients : List ℤ) (taps : Taps) : Type 0 where
+  pub twelve : length coefficients ≡ 12
+  pub second_oldest : taps.second.oldest ≡ four_taps coefficients 9
+  pub second_older : taps.second.older ≡ four_taps coefficients 5
+  pub second_old : taps.second.old ≡ four_taps coefficients 1
+  pub newest_oldest : taps.newest.oldest ≡ four_taps coefficients 8
+  pub newest_older : taps.newest.older ≡ four_taps coefficients 4
+  pub newest_old : taps.newest.old ≡ four_taps coefficients 0
+
+-- sums as an operation on lanes takes them
+pub record WideTwelve (sums : Twelve) : Type 0 where
+  pub oldest : Wide sums.oldest
+  pub older : Wide sums.older
+  pub old : Wide sums.old
+
+-- the same of coefficients
+pub record SmallTaps (taps : Taps) : Type 0 where
+  pub second_oldest : Lanes (2 ^ 15) taps.second.oldest
+  pub second_older : Lanes (2 ^ 15) taps.second.older
+  pub second_old : Lanes (2 ^ 15) taps.second.old
+  pub newest_oldest : Lanes (2 ^ 15) taps.newest.oldest
+  pub newest_older : Lanes (2 ^ 15) taps.newest.older
+  pub newest_old : Lanes (2 ^ 15) taps.newest.old
+
+-- what waited does so after two more samples
+abbrev pub WaitsTwoOn : Taps → Twelve → ℤ → ℤ → Twelve → Type 0
+WaitsTwoOn taps old second newest new =
+    (coefficients past : List ℤ) → AreTaps coefficients taps → Waits coefficients past old → Waits coefficients (newest ∷ second ∷ past) new
+
+-- what these samples add waits
+abbrev pub WaitsAfter : Taps → List ℤ → Twelve → Type 0
+WaitsAfter taps samples sums = (coefficients : List ℤ) → AreTaps coefficients taps → Waits coefficients (reverse samples) sums
+
+-- the sample of a residual, a sum that is known modulo 2 ^ 64, and the products of the newest two samples
+abbrev pub IsSample : ℤ → ℤ → ℤ → ℤ → ℤ → ℤ → ℕ → ℤ → Type 0
+IsSample residual waiting before second last newest shift sample =
+    (sum : ℤ) → waiting ≡ wrap_64 sum → sample ≡ wrap (floor_shift ((sum +ℤ before *ℤ second) +ℤ last *ℤ newest) shift +ℤ residual)
