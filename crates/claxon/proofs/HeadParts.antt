@@ -35,7 +35,7 @@ is_refused r e p h =
 
 -- behind the header of the next block
 pub starved_here : {A : Type 0} (a : State ℕ) {r : Result A Error} {e : Error} → (y : Error) × (r ≡ Err y) × (y ≡ e)
-    → (e ≡ OutOfMemory → a.told ≡ true → (h : BlockHeader) × (x : List ℕ) × (rest : List ℕ) × BlockHeaderCode h x × MayStarve h.type h.length × (a.coming ≡ x ++ rest)) → StarvesBehind r a
+    → (e ≡ OutOfMemory → a.told ≡ true → (h : BlockHeader) × (x : List ℕ) × (rest : List ℕ) × BlockHeaderCode h x × MayStarve h.type h.length rest × (a.coming ≡ x ++ rest)) → StarvesBehind r a
 starved_here a {r = r} {e = e} p h starved told = let t = h (is_refused r e p starved) told in ([], t.0, t.1, t.2, t.3, t.4, t.5)
 
 -- a front was taken
@@ -53,7 +53,7 @@ starved_later source a b {r = r} {e = e} p w h starved told =
 
 -- the same where the header is the next one
 pub starved_next : {R A : Type 0} (source : R → Source ℕ) (a b : R) {P : List ℕ → List ℕ → Type 0} {r : Result A Error} {e : Error} → (y : Error) × (r ≡ Err y) × (y ≡ e) → Went (bytes_in source a) (bytes_in source b) P
-    → (e ≡ OutOfMemory → (bytes_in source b).told ≡ true → (h : BlockHeader) × (x : List ℕ) × (rest : List ℕ) × BlockHeaderCode h x × MayStarve h.type h.length × ((bytes_in source b).coming ≡ x ++ rest)) → StarvesBehind r (bytes_in source a)
+    → (e ≡ OutOfMemory → (bytes_in source b).told ≡ true → (h : BlockHeader) × (x : List ℕ) × (rest : List ℕ) × BlockHeaderCode h x × MayStarve h.type h.length rest × ((bytes_in source b).coming ≡ x ++ rest)) → StarvesBehind r (bytes_in source a)
 starved_next source a b p w h = starved_later source a b p w (λ m told. let t = h m told in ([], t.0, t.1, t.2, t.3, t.4, t.5))
 
 -- ---- one of the blocks after the streaminfo

@@ -41,9 +41,10 @@ unfoldable pub other_at : Option Comment → List ℕ → Reading ℕ (Bool × O
 other_at found =
     and_then block_at (λ b. test (is_info b.content) SecondStreaminfo (test (is_second found b.content) SecondComment (done (b.is_last, found_with found b.content))))
 
--- somewhere in s stands a header of a block of an application or of comments, whose length is one that it can have
+-- somewhere in s stands a header of a block of an application or of comments, whose length is one that it can have, and behind
+-- that of comments the length of a vendor that fits
 abbrev pub WantsMemory : List ℕ → Type 0
-WantsMemory s = (front : List ℕ) × (h : BlockHeader) × (x : List ℕ) × (rest : List ℕ) × BlockHeaderCode h x × MayStarve h.type h.length × (s ≡ front ++ (x ++ rest))
+WantsMemory s = (front : List ℕ) × (h : BlockHeader) × (x : List ℕ) × (rest : List ℕ) × BlockHeaderCode h x × MayStarve h.type h.length rest × (s ≡ front ++ (x ++ rest))
 
 -- Memory is wanted only behind such a header.
 abbrev pub StarvesBehind : {A : Type 0} → Result A Error → State ℕ → Type 0
@@ -67,7 +68,8 @@ InfoHasBounds result = IfOk result (λ shown. HasBounds shown.0)
 abbrev pub CommentHasPlaces : {A : Type 0} → HeadAnswer A → Type 0
 CommentHasPlaces result = IfOk result (λ shown. IfSome shown.1 (λ comment. HavePlaces comment.comments.items))
 
--- Memory is wanted only behind the header of a block of an application or of comments, whose length was tested.
+-- Memory is wanted only behind the header of a block of an application or of comments, whose length was tested, and for
+-- comments only behind the length of a vendor that fits.
 abbrev pub HeadMayStarve : {R A Z : Type 0} → (R → Option (List ℕ)) → BufferedReader R A → HeadAnswer Z → Type 0
 HeadMayStarve remaining old result = StarvesBehind result (buffered_bytes remaining old)
 

@@ -2,7 +2,7 @@ use Rattle.std.proofs.Common.{Some, ◌≡◌, ℕ, zero, suc, ℤ, ◌+◌, ◌
 use Rattle.std.specs.Prelude.{slice_get}
 use Rattle.std.proofs.lemmas.List.{take-append-drop, length-take-le, drop_all}
 use Rattle.std.proofs.lemmas.Grind.{common_steps}
-use Rattle.claxon_frame.specs.Block.{chunks, duration_of, joined}
+use Rattle.claxon_frame.specs.Block.{AreOfLength, chunks, duration_of, joined}
 
 pub length-chunks : (k n : ℕ) (xs : List ℤ) → length (chunks k n xs) ≡ k
 length-chunks zero n xs = refl
@@ -11,6 +11,11 @@ length-chunks (suc k) n xs = ap suc (length-chunks k n (drop n xs))
 pub duration-chunks : (k n : ℕ) (xs : List ℤ) → length xs ≡ k * n → (k ≡ 0 → n ≡ 0) → duration_of (chunks k n xs) ≡ n
 duration-chunks zero n xs e z = sym (z refl)
 duration-chunks (suc k) n xs e z = length-take-le n xs (omega arith)
+
+pub lengths-chunks : (k n : ℕ) (xs : List ℤ) → length xs ≡ k * n → AreOfLength n (chunks k n xs)
+lengths-chunks zero n xs e i d below = absurd (omega arith)
+lengths-chunks (suc k) n xs e zero d below = length-take-le n xs (omega arith)
+lengths-chunks (suc k) n xs e (suc i) d below = lengths-chunks k n (drop n xs) (omega (arith, length-drop n xs)) i d (omega arith)
 
 pub joined-chunks : (k n : ℕ) (xs : List ℤ) → length xs ≡ k * n → joined (chunks k n xs) ≡ xs
 joined-chunks zero n xs e = sym (drop_all 0 xs (omega arith))

@@ -1,7 +1,8 @@
 //! Blocks: the samples of a frame.
 ghost use Rattle.std.specs.Prelude.{Option, Some, ◌≡◌, ◌<◌, ◌≤◌, ◌+◌, ◌*◌, [], length, slice_get, IfSome};
 ghost use Rattle.std.specs.Iterator.{YieldsFirst, item_count};
-ghost use Rattle.claxon_frame.specs.Block.{BlockValue, chunks, duration_of, joined};
+ghost use Rattle.claxon_frame.specs.Block.{AreOfLength, BlockValue, chunks, duration_of, joined};
+ghost use Rattle.claxon_frame.specs.Unmixing.{pairs_left};
 
 use std::alloc::{Allocator, Global};
 use std::marker::Model;
@@ -74,6 +75,7 @@ impl<A: Allocator> Block<A> {
     /// The number of samples of each channel.
     pub fn duration(&self) -> u32
         ensures value { result ≡ duration_of self.now.channels }
+        ensures each { AreOfLength result self.now.channels }
         ensures short { result < 65536 }
     {
         self.duration
@@ -120,11 +122,12 @@ impl<A: Allocator> Block<A> {
         buffer
     }
 
-    /// The pairs of samples of the first and the second channel, place by place.
+    /// The pairs of samples of the first and the second channel, place by place: `duration()` many.
     pub fn stereo_samples(&self) -> StereoSamples<'_>
         requires { length self.now.channels ≡ 2 }
         ensures left { slice_get self.now.channels 0 ≡ Some result.left.now }
         ensures right { slice_get self.now.channels 1 ≡ Some result.right.now }
+        ensures count { length (pairs_left result) ≡ duration_of self.now.channels }
     {
         StereoSamples {
             left: self.channel(0),
@@ -141,8 +144,6 @@ pub struct StereoSamples<'a> {
 }
 
 impl Iterator for StereoSamples<'_> {
-    ghost use Rattle.claxon_frame.specs.Unmixing.{pairs_left};
-
     type Item = (i32, i32);
 
     ghost next_gives = { YieldsFirst pairs_left };

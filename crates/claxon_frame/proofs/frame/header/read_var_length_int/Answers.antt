@@ -7,12 +7,12 @@ use Rattle.claxon_frame.proofs.frame.header.read_var_length_int.Goals as goal
 
 pub returns-then-ones-eq0 : goal.returns-then-ones-eq0
 returns-then-ones-eq0 g c =
-    rw c.from.ensures (went_map _ c.in_ok-first.ensures (λ p. coded_one _ _ (one_byte c.in_ok-first.first c.leading_ones-ones.result (search rules) c.leading_ones-ones.ensures c.if-ones-eq0.true) p))
+    rw c.from.ensures (went_map _ c.in_ok-first.ensures.gives (λ p. coded_one _ _ (one_byte c.in_ok-first.first c.leading_ones-ones.result (search rules) c.leading_ones-ones.ensures c.if-ones-eq0.true) p))
 
 pub returns-then-ones-eq1 : goal.returns-then-ones-eq1
 unfolding fault_text
 returns-then-ones-eq1 g c =
-    stops_fault NumberFirst refl refl (refl, refl) (went_map _ c.in_ok-first.ensures (λ p. coded_bad c.in_ok-first.first _ _ (bad_byte c.in_ok-first.first c.leading_ones-ones.result (search rules) c.leading_ones-ones.ensures (elim c.then-ones-eq1.either [ inl e ↦ inl e | inr e ↦ inr e.1 ])) p))
+    stops_fault NumberFirst refl refl (refl, refl) (went_map _ c.in_ok-first.ensures.gives (λ p. coded_bad c.in_ok-first.first _ _ (bad_byte c.in_ok-first.first c.leading_ones-ones.result (search rules) c.leading_ones-ones.ensures (elim c.then-ones-eq1.either [ inl e ↦ inl e | inr e ↦ inr e.1 ])) p))
 
 pub read_followers-requires-clause-number : goal.read_followers-requires-clause-number
 read_followers-requires-clause-number g c =
@@ -22,4 +22,4 @@ read_followers-requires-clause-number g c =
 pub returns : goal.returns
 returns g c =
     let m = more_bytes c.in_ok-first.first c.leading_ones-ones.result (search rules) c.leading_ones-ones.ensures c.if-ones-eq0.false c.if-ones-eq1.false c.if-ones-eq8.false in
-    gives_after _ c.read_followers.result _ (went_map _ c.in_ok-first.ensures (λ p. rw c.from-2.ensures (coded_good _ _ m.0 p))) c.read_followers.ensures
+    gives_after _ c.read_followers.result _ (went_map _ c.in_ok-first.ensures.gives (λ p. rw c.from-2.ensures (coded_good _ _ m.0 p))) c.read_followers.ensures

@@ -16,6 +16,6 @@ unfolding rate_at
 returns g c =
     elim c.match-rate.branch [
       | in-Known w ↦ rw w.input-is (went_none _ _ (rw w.in-Known.is (no_rate _)))
-      | in-Read8+in_ok-read_byte-in-Read8 w ↦ rw w.input-is (went_map _ w.in_ok-read_byte-in-Read8.ensures (λ p. rw (w.in-Read8.is, p) refl))
-      | in-Read16+in_ok-read_big_u16-in-Read16 w ↦ rw w.input-is (went_map _ w.in_ok-read_big_u16-in-Read16.ensures (λ p. rw (w.in-Read16.is, p) refl))
+      | in-Read8+in_ok-read_byte-in-Read8 w ↦ rw w.input-is (went_map _ w.in_ok-read_byte-in-Read8.ensures.gives (λ p. rw (w.in-Read8.is, p) refl))
+      | in-Read16+in_ok-read_big_u16-in-Read16 w ↦ rw w.input-is (went_map _ w.in_ok-read_big_u16-in-Read16.ensures.gives (λ p. rw (w.in-Read16.is, p) refl))
     ]

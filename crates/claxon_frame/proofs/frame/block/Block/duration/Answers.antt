@@ -1,6 +1,9 @@
 use Rattle.std.proofs.Common.{sym}
-use Rattle.claxon_frame.proofs.Chunks.{duration-chunks}
+use Rattle.claxon_frame.proofs.Chunks.{duration-chunks, lengths-chunks}
 use Rattle.claxon_frame.proofs.frame.block.Block.duration.Goals as goal
 
 pub returns-clause-value : goal.returns-clause-value
 returns-clause-value g c = rw (← c.self.view_is) (sym (duration-chunks _ _ _ c.self.invariant.0 c.self.invariant.3))
+
+pub returns-clause-each : goal.returns-clause-each
+returns-clause-each g c = rw (← c.self.view_is) (lengths-chunks _ _ _ c.self.invariant.0)
