@@ -56,7 +56,8 @@ fn read_samples_at_hand<R: ReadBytes>(
     Ok(samples)
 }
 
-// The bits at hand are copied, since what is reached by a reference may be in the buffer and would be stored at each sample.
+// Reads from a copy of the bits at hand. By the reference they would be stored and loaded at each sample, since it isn't known
+// not to reach into the buffer.
 #[inline(never)]
 fn samples_ahead(ahead: &mut Ahead, bps: u32, buffer: &mut [i32]) -> usize
     requires some { 0 < bps }
