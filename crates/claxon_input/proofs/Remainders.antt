@@ -345,7 +345,7 @@ pub record Looked (n c y0 y1 y2 y3 y4 y5 y6 y7 e7 e6 e5 e4 e3 e2 e1 e0 : ℕ) : 
 
 pub eight_is : (n c y0 y1 y2 y3 y4 y5 y6 y7 e7 e6 e5 e4 e3 e2 e1 e0 : ℕ) → c < 65536 → y0 < 256 → y1 < 256 → y2 < 256 → y3 < 256 → y4 < 256 → y5 < 256 → y6 < 256 → y7 < 256
     → Looked n c y0 y1 y2 y3 y4 y5 y6 y7 e7 e6 e5 e4 e3 e2 e1 e0
-    → bit_xor (bit_xor (bit_xor (bit_xor (bit_xor (bit_xor (bit_xor e7 e6) e5) e4) e3) e2) e1) e0 ≡ after_zeros n (check16 c (y0 ∷ y1 ∷ y2 ∷ y3 ∷ y4 ∷ y5 ∷ y6 ∷ y7 ∷ []))
+    → bit_xor (bit_xor (bit_xor (bit_xor (bit_xor (bit_xor (bit_xor e5 e4) e3) e2) e1) e0) e7) e6 ≡ after_zeros n (check16 c (y0 ∷ y1 ∷ y2 ∷ y3 ∷ y4 ∷ y5 ∷ y6 ∷ y7 ∷ []))
 unfolding shares
 eight_is n c y0 y1 y2 y3 y4 y5 y6 y7 e7 e6 e5 e4 e3 e2 e1 e0 h b0 b1 b2 b3 b4 b5 b6 b7 l =
     let hi = bit_xor (c / 256) y0 in
@@ -358,9 +358,11 @@ eight_is n c y0 y1 y2 y3 y4 y5 y6 y7 e7 e6 e5 e4 e3 e2 e1 e0 h b0 b1 b2 b3 b4 b5
     let p2 = share (n + 3) (n + 2 + 1) y5 e2 b5 (omega arith) l.at2 in
     let p1 = share (n + 2) (n + 1 + 1) y6 e1 b6 (omega arith) l.at1 in
     let p0 = share (n + 1) (n + 1) y7 e0 b7 refl l.at0 in
-    let grouped : bit_xor (bit_xor (bit_xor (bit_xor (bit_xor (bit_xor (bit_xor e7 e6) e5) e4) e3) e2) e1) e0
-    ≡ bit_xor e7 (bit_xor e6 (bit_xor e5 (bit_xor e4 (bit_xor e3 (bit_xor e2 (bit_xor e1 (bit_xor e0 0))))))) =
-    simp xor_assoc (ap (λ z. bit_xor e7 (bit_xor e6 (bit_xor e5 (bit_xor e4 (bit_xor e3 (bit_xor e2 (bit_xor e1 z))))))) (sym (xor_zero_r e0))) in
+    let alone = bit_xor (bit_xor (bit_xor (bit_xor (bit_xor e5 e4) e3) e2) e1) e0 in
+    let last : alone ≡ bit_xor e5 (bit_xor e4 (bit_xor e3 (bit_xor e2 (bit_xor e1 (bit_xor e0 0))))) =
+    simp xor_assoc (ap (λ z. bit_xor e5 (bit_xor e4 (bit_xor e3 (bit_xor e2 (bit_xor e1 z))))) (sym (xor_zero_r e0))) in
+    let grouped : bit_xor (bit_xor alone e7) e6 ≡ bit_xor e7 (bit_xor e6 (bit_xor e5 (bit_xor e4 (bit_xor e3 (bit_xor e2 (bit_xor e1 (bit_xor e0 0))))))) =
+    xor_assoc alone e7 e6 ∙ xor_comm alone (bit_xor e7 e6) ∙ xor_assoc e7 e6 alone ∙ ap (λ z. bit_xor e7 (bit_xor e6 z)) last in
     grouped
     ∙ ap₂ bit_xor p7 (ap₂ bit_xor p6 (ap₂ bit_xor p5 (ap₂ bit_xor p4 (ap₂ bit_xor p3 (ap₂ bit_xor p2 (ap₂ bit_xor p1 (ap (λ z. bit_xor z 0) p0)))))))
     ∙ sym (ap (after_zeros n) (absorbed c y0 y1 (y2 ∷ y3 ∷ y4 ∷ y5 ∷ y6 ∷ y7 ∷ []) h b0 b1) ∙ from_none n (hi ∷ lo ∷ y2 ∷ y3 ∷ y4 ∷ y5 ∷ y6 ∷ y7 ∷ []))
