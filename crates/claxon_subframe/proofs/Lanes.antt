@@ -1,8 +1,7 @@
 -- Four lanes: what each operation on them computes.
-use Rattle.std.proofs.Common.{◌≡◌, ℕ, zero, suc, ◌+◌, ◌-◌, ◌*◌, ◌/◌, ◌%◌, ◌^◌, ◌<◌, ◌≤◌, inl, inr, List, [], ◌∷◌, ◌++◌, length, map, take, drop, replicate, get_or, append_assoc, refl, sym, ap, subst, ◌∙◌, arith, ℤ, pos, negsuc, ◌+ℤ◌, ◌*ℤ◌, of_z, to_z, w64, w32, FitsSigned, unsigned_abs}
-use Rattle.std.specs.Int.{int_wrap}
+use Rattle.std.proofs.Common.{◌≡◌, ℕ, zero, suc, ◌+◌, ◌-◌, ◌*◌, ◌/◌, ◌%◌, ◌^◌, ◌<◌, ◌≤◌, inl, inr, List, [], ◌∷◌, ◌++◌, length, map, take, drop, replicate, refl, sym, ap, subst, ◌∙◌, arith, ℤ, pos, negsuc, ◌+ℤ◌, ◌*ℤ◌, of_z, to_z, w64, FitsSigned, unsigned_abs}
 use Rattle.std.specs.Int.Signed.{shr_z}
-use Rattle.std.proofs.Math.IntN.{+ℤ_idl, +ℤ_assoc, +ℤ_comm, suc_ℤ, suc_ℤ-*ℤ, zero-*ℤ, *ℤ_comm}
+use Rattle.std.proofs.Math.IntN.{+ℤ_idl, suc_ℤ, suc_ℤ-*ℤ, zero-*ℤ}
 use Rattle.std.proofs.Math.Nat.{add-div_right, div-eq_of_lt}
 use Rattle.std.proofs.lemmas.Bool.{cases_lt}
 use Rattle.std.proofs.lemmas.Simd.{length-zip2}
@@ -14,7 +13,7 @@ use mir.Syntax.{wrap_add, wrap_mul, shl, shr, signed}
 use lib.Lanes.{zip2, pick_l}
 use Rattle.claxon_format.specs.Predict.{dot}
 use Rattle.claxon_subframe.specs.Lanes.{AllWithin, Lanes, AllFit64, Wide, wrap_64, plus_products, two_on}
-use Rattle.claxon_input.proofs.Wraps.{Rep, rep_add, rep_mul, rep_fits}
+use Rattle.claxon_input.proofs.Wraps.{rep_add, rep_mul, rep_fits}
 
 -- ---- division by a power of two, rounded down
 

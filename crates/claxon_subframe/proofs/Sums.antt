@@ -1,17 +1,17 @@
 -- Sums that wait for their places, and the sample that comes of one.
-use Rattle.std.proofs.Common.{◌≡◌, ℕ, Bool, zero, suc, true, false, ltb, ◌+◌, ◌-◌, ◌*◌, ◌/◌, ◌%◌, ◌^◌, ◌<◌, ◌≤◌, inl, inr, List, [], ◌∷◌, ◌++◌, length, take, drop, reverse, replicate, get_or, map, refl, sym, ap, subst, ◌∙◌, arith, ℤ, pos, negsuc, neg_ℤ, ◌+ℤ◌, ◌*ℤ◌, of_z, to_z, w32, w64, FitsSigned, unsigned_abs}
+use Rattle.std.proofs.Common.{◌≡◌, ℕ, zero, suc, true, false, ltb, ◌+◌, ◌-◌, ◌*◌, ◌/◌, ◌%◌, ◌^◌, ◌<◌, ◌≤◌, inl, inr, List, [], ◌∷◌, length, take, drop, reverse, replicate, get_or, map, refl, sym, ap, subst, ◌∙◌, arith, ℤ, pos, negsuc, neg_ℤ, ◌+ℤ◌, ◌*ℤ◌, of_z, to_z, w32, w64, FitsSigned, unsigned_abs}
 use Rattle.std.specs.Int.{int_wrap}
 use Rattle.std.specs.Int.Signed.{shr_z}
 use Rattle.std.proofs.Math.IntN.{+ℤ_idl, +ℤ_comm, suc_ℤ-*ℤ, *ℤ_comm, zero-*ℤ, *ℤ-zero, *ℤ-negsuc}
 use Rattle.std.proofs.Math.Nat.{div-div-eq-div-mul, mul-div_cancel, suc-mul, pow-le-pow_right}
 use Rattle.std.proofs.lemmas.Bool.{cases_lt, lt-ltb, le-ltb}
 use Rattle.std.proofs.lemmas.Nat.{pow_pos, pow-add, div-mul-add}
-use Rattle.std.proofs.lemmas.Int.{ints, to_z-of_z, int_wrap_fits, int_wrap-add_left, int_wrap-add_right, int_wrap-mul_right, SFits-int_wrap}
+use Rattle.std.proofs.lemmas.Int.{ints, to_z-of_z, int_wrap_fits, int_wrap-add_left, int_wrap-mul_right, SFits-int_wrap}
 use Rattle.std.proofs.lemmas.List.{drop_all, drop_more, drop-drop, get_or_past}
 use Rattle.claxon_format.specs.Predict.{wrap, dot, floor_shift, linear}
 use Rattle.claxon_input.proofs.Wraps.{Rep, rep_add, rep_mul, rep_fits}
 use Rattle.claxon_subframe.specs.Lanes.{AllWithin, AllFit64, Within, Lanes, Wide, wrap_64, two_on}
-use Rattle.claxon_subframe.specs.Sums.{but_newest_two, waiting, four_waiting, four_taps, Waits, AreTaps, SmallTaps, WideTwelve, WaitsTwoOn, WaitsAfter, IsSample}
+use Rattle.claxon_subframe.specs.Sums.{but_newest_two, waiting, four_waiting, four_taps, Waits, AreTaps, SmallTaps, WideTwelve, IsSample}
 use Rattle.claxon_subframe.specs.declared.subframe.predictor.Taps.{Taps}
 use Rattle.claxon_subframe.specs.declared.subframe.predictor.Twelve.{Twelve}
 use Rattle.claxon_subframe.proofs.Predictors.{floor_is, abs_32, shifted_fits}

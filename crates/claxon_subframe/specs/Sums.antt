@@ -1,5 +1,5 @@
 -- Sums that wait for their places: what the samples so far add to each place to come.
-use Rattle.std.specs.Prelude.{◌≡◌, ℕ, ◌+◌, ◌^◌, ℤ, pos, ◌+ℤ◌, ◌*ℤ◌, List, [], ◌∷◌, take, drop, reverse, replicate, length, get_or}
+use Rattle.std.specs.Prelude.{◌≡◌, ℕ, ◌+◌, ◌^◌, ℤ, pos, ◌+ℤ◌, ◌*ℤ◌, List, [], ◌∷◌, drop, reverse, length, get_or}
 use Rattle.claxon_format.specs.Predict.{wrap, dot, floor_shift}
 use Rattle.claxon_subframe.specs.Lanes.{Lanes, Wide, wrap_64}
 use Rattle.claxon_subframe.specs.declared.subframe.predictor.Taps.{Taps}

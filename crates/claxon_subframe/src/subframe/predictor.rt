@@ -220,8 +220,7 @@ fn add_products(sums: i64x4, coefficients: i64x4, samples: i64x4) -> i64x4
     sums + narrow(coefficients) * samples
 }
 
-// The sums of four places, two places on: those that stood there, the first two of them before `sums`, and what two
-// samples add to them.
+// The sums of four places, two places on: the last two lanes before `sums` and its first two, and what two samples add.
 #[inline(always)]
 fn later_sums(
     before: i64x4,
@@ -252,9 +251,8 @@ struct Twelve {
     old: i64x4,
 }
 
-// What a sample adds to the sums of the next twelve places, the farthest first: a coefficient each, none to a place that
-// it is one of the newest two of. That of the newer of two samples, and of the one before it, of which the places are the
-// same and which is one farther from them.
+// By which coefficients the newer of two samples adds to the sums of the next twelve places, the farthest first, and by
+// which the one before it does. They are 0 where a sample is one of the newest two of a place.
 #[derive(Clone, Copy)]
 struct Taps {
     second: Twelve,
@@ -345,8 +343,8 @@ fn first_sums<const ALL: bool>(taps: Taps, samples: &[i32]) -> Twelve
     sums
 }
 
-// A sample from its residual, the sum that waited for it, modulo 2^64, and the products of the newest two. All is put so
-// far up that its low 32 bits are what the shift would drop: a shift by 32 leaves a sample that needs no cut.
+// A sample from its residual, the sum that waited for it, modulo 2^64, and the products of the newest two samples. All is
+// put up so far that one shift by 32 drops what `shift` would, and leaves a number of 32 bits.
 #[inline(always)]
 fn sample_of(
     residual: i32,

@@ -1,5 +1,5 @@
 use Rattle.std.proofs.Common.{◌-◌, length, get_or, pos, rules, FitsSigned, w16, arith}
-use Rattle.claxon_subframe.proofs.NewestSamples.{filled_none, filled_more, filled_all}
+use Rattle.claxon_subframe.proofs.TwelveCoefficients.{filled_none, filled_more, filled_all}
 use Rattle.claxon_subframe.proofs.subframe.predictor.last_of_twelve.Goals as goal
 
 pub loop-i-init : goal.loop-i-init

@@ -1,5 +1,5 @@
 use Rattle.std.proofs.Common.{◌-◌, length}
-use Rattle.claxon_subframe.proofs.NewestSamples.{Filled}
+use Rattle.claxon_subframe.proofs.TwelveCoefficients.{Filled}
 use Rattle.claxon_subframe.proofs.subframe.predictor.last_of_twelve.Given as goal
 
 abbrev pub invariant-loop-i : goal.invariant-loop-i

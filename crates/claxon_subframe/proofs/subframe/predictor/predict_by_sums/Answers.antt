@@ -1,4 +1,4 @@
-use Rattle.std.proofs.Common.{◌≡◌, ◌+◌, ◌-◌, ◌*◌, ◌∙◌, length, get_or, take, reverse, pos, refl, sym, ap, rules, arith, FitsSigned, w32, to_z, of_z, ℕ, ℤ}
+use Rattle.std.proofs.Common.{◌≡◌, ◌+◌, ◌-◌, ◌*◌, ◌∙◌, length, get_or, take, reverse, pos, refl, sym, ap, rules, arith, FitsSigned, w32, ℕ}
 use Rattle.std.proofs.lemmas.Int.{to_z-of_z}
 use Rattle.std.proofs.lemmas.List.{length-set}
 use Rattle.claxon_format.specs.Predict.{linear}

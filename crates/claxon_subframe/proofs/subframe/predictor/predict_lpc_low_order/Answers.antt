@@ -1,5 +1,5 @@
 use Rattle.std.proofs.Common.{arith}
-use Rattle.claxon_subframe.proofs.NewestSamples.{no_oldest, low_order_is}
+use Rattle.claxon_subframe.proofs.TwelveCoefficients.{no_oldest, low_order_is}
 use Rattle.claxon_subframe.proofs.subframe.predictor.predict_lpc_low_order.Goals as goal
 
 pub predict_by_sums-requires-clause-zeros : goal.predict_by_sums-requires-clause-zeros

@@ -1,12 +1,11 @@
--- Twelve coefficients, and the first twelve samples.
-use Rattle.std.proofs.Common.{◌≡◌, ℕ, zero, suc, ◌+◌, ◌-◌, ◌^◌, ◌<◌, ◌≤◌, min, inl, inr, List, [], ◌∷◌, ◌++◌, length, map, take, drop, reverse, replicate, get_or, set, append_assoc, refl, sym, ap, add-zero, subst, ◌∙◌, arith, ℤ, pos, ◌+ℤ◌, ◌*ℤ◌, of_z, to_z, w16, w32, w64, FitsSigned, unsigned_abs}
-use Rattle.std.proofs.lemmas.Int.{ints, to_z-of_z, SFits-int_wrap}
-use Rattle.std.proofs.lemmas.List.{take_more_set, take_more, take_all, append-nil, take-replicate, length-set, length-take, length-drop, drop_more, drop_all, drop-take, drop-drop, take-take, get_or-take, get_or-drop, take-append-drop, drop-append-le, reverse-append, length-append, length-replicate, replicate-append-replicate, take-append-le}
+-- Twelve coefficients, zeros before them, and the first twelve samples.
+use Rattle.std.proofs.Common.{◌≡◌, ℕ, zero, suc, ◌+◌, ◌-◌, ◌^◌, ◌<◌, ◌≤◌, min, inl, inr, List, [], ◌∷◌, ◌++◌, length, take, drop, reverse, replicate, get_or, set, append_assoc, refl, sym, ap, add-zero, subst, ◌∙◌, arith, ℤ, pos, ◌+ℤ◌, of_z, to_z, w16, w64, FitsSigned, unsigned_abs}
+use Rattle.std.proofs.lemmas.List.{take_more_set, take_more, take_all, append-nil, take-replicate, length-set, length-take, length-drop, drop_all, take-take, take-append-drop, drop-append-le, reverse-append, length-append, length-replicate, replicate-append-replicate, take-append-le}
 use Rattle.std.proofs.Math.Seq.{take-append_seam, drop-append_seam}
 use Rattle.std.proofs.lemmas.Bool.{cases_lt}
 use Rattle.claxon_format.proofs.Predicted.{length-restore}
 use Rattle.claxon_format.specs.Predict.{wrap, dot, floor_shift, linear, restore, restored}
-use Rattle.claxon_subframe.proofs.Predictors.{dot_window, restored_all, abs_16, abs_32, value_16, value_32}
+use Rattle.claxon_subframe.proofs.Predictors.{restored_all, abs_16, value_16}
 use Rattle.claxon_subframe.specs.Lanes.{AllWithin, Within}
 use Rattle.claxon_subframe.proofs.Lanes.{dot_behind}
 
