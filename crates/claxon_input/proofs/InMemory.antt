@@ -1,0 +1,47 @@
+-- Bytes in memory, behind a `Cursor`: what is to come is told, and no read of them fails. So of the two answers that excuse a call
+-- just want of memory is left.
+use Rattle.std.proofs.Common.{◌≡◌, inl, inr, ℕ, List, drop, refl, ap, ◌∙◌}
+use Rattle.std.specs.Prelude.{Result}
+use Rattle.std.specs.declared.io.Cursor.{Cursor}
+use Rattle.std.specs.Io.Cursor.{cursor_position, cursor_inner}
+use Rattle.claxon_input.specs.Cursor.{cursor_source}
+use Rattle.claxon_input.specs.Gives.{FailedIn}
+use Rattle.claxon_input.specs.Promises.{Comes, IsExcused, IsStarved}
+use Rattle.claxon_input.specs.State.{State, bytes_in}
+use Rattle.claxon_input.specs.declared.error.Error.{Error}
+
+-- ---- any source whose counts stay
+
+-- Where both counts are as they were the source didn't fail.
+pub never_failed : {X : Type 0} (a b : State X) → b.errors ≡ a.errors → b.empties ≡ a.empties → FailedIn a b → ⊥
+never_failed a b e k (inl h) = h e
+never_failed a b e k (inr h) = h.0 k
+
+-- So an excuse is want of memory.
+pub just_starved : {X A : Type 0} (r : Result A Error) (a b : State X) → b.errors ≡ a.errors → b.empties ≡ a.empties → IsExcused r a b → IsStarved r
+just_starved r a b e k (inl h) = h
+just_starved r a b e k (inr h) = absurd (never_failed a b e k h.1)
+
+-- ---- a cursor, where items are the bytes that it is over: of a slice `λ s. s.now`
+
+module _ {T : Type 0} (items : T → List ℕ) where
+  -- The bytes from the position on are to come.
+  pub cursor_comes : (c : Cursor T) → Comes (bytes_in (cursor_source items) c) (drop (cursor_position c) (items (cursor_inner c)))
+  unfolding bytes_in
+  cursor_comes c = record { told = refl; are = refl }
+
+  -- Of a new cursor that is all of them.
+  pub new_cursor_comes : (c : Cursor T) (inner : T) → cursor_position c ≡ 0 → cursor_inner c ≡ inner → Comes (bytes_in (cursor_source items) c) (items inner)
+  new_cursor_comes c inner at is =
+      let h = cursor_comes c in
+      record { told = h.told; are = h.are ∙ ap (λ (n : ℕ). drop n (items (cursor_inner c))) at ∙ ap items is }
+
+  -- Whatever calls were made in between, no read failed.
+  pub cursor_never_fails : (a b : Cursor T) → FailedIn (bytes_in (cursor_source items) a) (bytes_in (cursor_source items) b) → ⊥
+  unfolding bytes_in
+  cursor_never_fails a b f = never_failed (bytes_in (cursor_source items) a) (bytes_in (cursor_source items) b) refl refl f
+
+  -- So of the answers that excuse a call just want of memory is left.
+  pub cursor_just_starved : {A : Type 0} (r : Result A Error) (a b : Cursor T) → IsExcused r (bytes_in (cursor_source items) a) (bytes_in (cursor_source items) b) → IsStarved r
+  unfolding bytes_in
+  cursor_just_starved r a b h = just_starved r (bytes_in (cursor_source items) a) (bytes_in (cursor_source items) b) refl refl h
