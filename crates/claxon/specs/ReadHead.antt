@@ -12,6 +12,7 @@ use Rattle.claxon_input.specs.declared.input.BufferedReader.{BufferedReader}
 use Rattle.claxon_input.specs.BufferedReader.{buffered_source}
 use Rattle.claxon_input.specs.Gives.{GivesOrStarves}
 use Rattle.claxon_input.specs.Promises.{IsStarved, TakesCode, AnswersCode, TakesFault, NamesFault, EndsElse, LeavesRest}
+use Rattle.claxon_input.specs.Source.{Source}
 use Rattle.claxon_input.specs.State.{State, bytes_in}
 use Rattle.claxon_metadata.specs.MetadataBlock.{HasBounds, MayStarve, info_view}
 use Rattle.claxon_metadata.specs.VorbisComment.{HavePlaces, comment_view}
@@ -70,35 +71,35 @@ CommentHasPlaces result = IfOk result (λ shown. IfSome shown.1 (λ comment. Hav
 
 -- Memory is wanted only behind the header of a block of an application or of comments, whose length was tested, and for
 -- comments only behind the length of a vendor that fits.
-abbrev pub HeadMayStarve : {R A Z : Type 0} → (R → Option (List ℕ)) → BufferedReader R A → HeadAnswer Z → Type 0
-HeadMayStarve remaining old result = StarvesBehind result (buffered_bytes remaining old)
+abbrev pub HeadMayStarve : {R Z : Type 0} → (R → Source ℕ) → R → HeadAnswer Z → Type 0
+HeadMayStarve source old result = StarvesBehind result (bytes_in source old)
 
 -- An Err leaves a rest of the bytes that were to come.
-abbrev pub HeadLeavesRest : {R A Z : Type 0} → (R → Option (List ℕ)) → BufferedReader R A → HeadAnswer Z → BufferedReader R A → Type 0
-HeadLeavesRest remaining old result new = LeavesRest result (buffered_bytes remaining old) (buffered_bytes remaining new)
+abbrev pub HeadLeavesRest : {R Z : Type 0} → (R → Source ℕ) → R → HeadAnswer Z → R → Type 0
+HeadLeavesRest source old result new = LeavesRest result (bytes_in source old) (bytes_in source new)
 
--- `old` and `new` are the byte buffer before and after the call.
-module _ {R A Z : Type 0} (remaining : R → Option (List ℕ)) (options : FlacReaderOptions) (old : BufferedReader R A) (result : HeadAnswer Z) (new : BufferedReader R A) where
+-- `old` and `new` are the reader before and after the call.
+module _ {R Z : Type 0} (source : R → Source ℕ) (options : FlacReaderOptions) (old : R) (result : HeadAnswer Z) (new : R) where
   -- What was taken is a head under these options, and it is shown.
   abbrev pub HeadWasTaken : Type 0
-  HeadWasTaken = TakesCode head_view result (HeadCode (wishes options)) (buffered_bytes remaining old) (buffered_bytes remaining new)
+  HeadWasTaken = TakesCode head_view result (HeadCode (wishes options)) (bytes_in source old) (bytes_in source new)
 
   -- Where any head stands, whatever follows, it is shown and alone taken, or memory or the source failed.
   abbrev pub EachHeadIsAnswered : Type 0
-  EachHeadIsAnswered = AnswersCode head_view result (HeadCode (wishes options)) (buffered_bytes remaining old) (buffered_bytes remaining new)
+  EachHeadIsAnswered = AnswersCode head_view result (HeadCode (wishes options)) (bytes_in source old) (bytes_in source new)
 
   -- An Err that is neither want of memory nor an `IoError` names a fault that the bytes taken have.
   abbrev pub HeadFaultWasTaken : Type 0
-  HeadFaultWasTaken = TakesFault result (HeadFault (wishes options)) (buffered_bytes remaining old) (buffered_bytes remaining new)
+  HeadFaultWasTaken = TakesFault result (HeadFault (wishes options)) (bytes_in source old) (bytes_in source new)
 
   -- Where the bytes have a fault it is named, and they alone are taken, or memory or the source failed.
   abbrev pub EachHeadFaultIsNamed : Type 0
-  EachHeadFaultIsNamed = NamesFault result (HeadFault (wishes options)) (buffered_bytes remaining old) (buffered_bytes remaining new)
+  EachHeadFaultIsNamed = NamesFault result (HeadFault (wishes options)) (bytes_in source old) (bytes_in source new)
 
   -- Where neither stands the bytes end, which is an `IoError`, or memory is refused.
   abbrev pub NoHeadIsIoError : Type 0
-  NoHeadIsIoError = EndsElse result (HeadCode (wishes options)) (HeadFault (wishes options)) (buffered_bytes remaining old) (buffered_bytes remaining new)
+  NoHeadIsIoError = EndsElse result (HeadCode (wishes options)) (HeadFault (wishes options)) (bytes_in source old) (bytes_in source new)
 
   -- What was answered and taken is what the format's reader gives.
   abbrev pub HeadIsRead : Type 0
-  HeadIsRead = GivesOrStarves head_view result (head_at (wishes options)) (buffered_bytes remaining old) (buffered_bytes remaining new)
+  HeadIsRead = GivesOrStarves head_view result (head_at (wishes options)) (bytes_in source old) (bytes_in source new)

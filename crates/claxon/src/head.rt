@@ -9,13 +9,12 @@ ghost use Rattle.claxon_metadata.specs.VorbisComment.{HavePlaces};
 ghost use Rattle.claxon.specs.ReadHead.{CommentHasPlaces, EachHeadFaultIsNamed, EachHeadIsAnswered, HeadFaultWasTaken, HeadIsRead, HeadLeavesRest, HeadMayStarve, HeadWasTaken, InfoHasBounds, NoHeadIsIoError, StarvesBehind, found_view, head_view, other_at, other_view, wishes};
 
 use crate::error::{Error, Result};
-use crate::input::{BufferedReader, ReadBytes};
+use crate::input::ReadBytes;
 use claxon_input::fields::read_big_u32;
 use claxon_metadata::metadata::{
     MetadataBlock, StreamInfo, VorbisComment, read_metadata_block_and_flag,
 };
 use std::alloc::Allocator;
-use std::io::Read;
 
 /// Which metadata a `FlacReader` reads when it is made.
 ///
@@ -62,21 +61,21 @@ const MOST_BLOCKS: u32 = 65536;
 /// Takes the head of a stream, and answers its streaminfo and, where wished and there, its Vorbis comments.
 ///
 /// Which blocks are taken the options say. An error has taken a front of the bytes to come.
-pub fn read_head<R: Read, A: Allocator + Copy>(
+pub fn read_head<R: ReadBytes, A: Allocator + Copy>(
     alloc: A,
-    input: &mut BufferedReader<R, A>,
+    input: &mut R,
     options: FlacReaderOptions,
 ) -> Result<(StreamInfo, Option<VorbisComment<A>>)>
     ensures bounds { InfoHasBounds result }
     ensures places { CommentHasPlaces result }
-    ensures memory { HeadMayStarve R.remaining input.old result }
-    ensures sound { HeadWasTaken R.remaining options input.old result input.new }
-    ensures complete { EachHeadIsAnswered R.remaining options input.old result input.new }
-    ensures fault { HeadFaultWasTaken R.remaining options input.old result input.new }
-    ensures named { EachHeadFaultIsNamed R.remaining options input.old result input.new }
-    ensures io { NoHeadIsIoError R.remaining options input.old result input.new }
-    ensures front { HeadLeavesRest R.remaining input.old result input.new }
-    ensures gives { HeadIsRead R.remaining options input.old result input.new }
+    ensures memory { HeadMayStarve R.source input.old result }
+    ensures sound { HeadWasTaken R.source options input.old result input.new }
+    ensures complete { EachHeadIsAnswered R.source options input.old result input.new }
+    ensures fault { HeadFaultWasTaken R.source options input.old result input.new }
+    ensures named { EachHeadFaultIsNamed R.source options input.old result input.new }
+    ensures io { NoHeadIsIoError R.source options input.old result input.new }
+    ensures front { HeadLeavesRest R.source input.old result input.new }
+    ensures gives { HeadIsRead R.source options input.old result input.new }
 {
     read_shown(alloc, input, options)
 }
