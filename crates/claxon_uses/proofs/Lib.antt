@@ -1,0 +1,3 @@
+pub mod FramesInMemory
+pub mod GuardedPair
+pub mod Packets

@@ -1,0 +1,4 @@
+pub mod Fronts
+pub mod FramesInMemory
+pub mod GuardedPair
+pub mod Packets

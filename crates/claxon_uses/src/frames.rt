@@ -1,0 +1,55 @@
+//! Frames that stand in memory.
+ghost use Rattle.std.specs.Prelude.{◌≤◌, None, Some};
+ghost use Rattle.claxon.specs.FrameReader.{stream_with};
+ghost use Rattle.claxon_uses.specs.FramesInMemory.{BlockIsThere, EachBlockIsDecoded, EachFaultIsTold, FaultIsThere, NoneIsNoFrame, StarvesAtHeader};
+ghost use Rattle.claxon_uses.specs.Packets.{EachPacketFaultIsTold, EachPacketIsDecoded, PacketIsBlock, PacketIsRefused};
+
+use claxon::frame::{FrameReader, FrameResult};
+use claxon::metadata::StreamInfo;
+use claxon::{Block, Error, Result};
+use std::alloc::Allocator;
+use std::io::Cursor;
+
+/// The block of the frame that the bytes begin with; None where they are fewer than two.
+///
+/// The header has to name the width of the samples, since nothing is known of the stream. What follows the frame is ignored.
+/// An error names the fault that stands there; it is an `IoError` where the bytes end within the frame.
+pub fn decode_one<A: Allocator>(alloc: A, bytes: &[u8]) -> FrameResult<A>
+    ensures sound { BlockIsThere None bytes.now result }
+    ensures complete { EachBlockIsDecoded None bytes.now result }
+    ensures end { NoneIsNoFrame bytes.now result }
+    ensures fault { FaultIsThere None bytes.now result }
+    ensures named { EachFaultIsTold None bytes.now result }
+    ensures memory { StarvesAtHeader None bytes.now result }
+{
+    let mut frames = FrameReader::new(Cursor::new(bytes));
+    frames.read_next_or_eof(Vec::new(alloc))
+}
+
+/// The block of a packet that is a whole frame of the stream with this streaminfo, as Ogg and MP4 hand them out, in the
+/// buffer's memory where it suffices.
+///
+/// An error names the fault that stands there, or says that the packet holds less or more than a frame.
+pub fn decode_packet<A: Allocator>(
+    info: StreamInfo,
+    packet: &[u8],
+    buffer: Vec<i32, A>,
+) -> Result<Block<A>>
+    requires some { 1 ≤ info.bits_per_sample }
+    requires most { info.bits_per_sample ≤ 32 }
+    ensures sound { PacketIsBlock (Some (stream_with info)) packet.now result }
+    ensures complete { EachPacketIsDecoded (Some (stream_with info)) packet.now result }
+    ensures refused { PacketIsRefused (Some (stream_with info)) packet.now result }
+    ensures named { EachPacketFaultIsTold (Some (stream_with info)) packet.now result }
+{
+    let mut frames = FrameReader::with_streaminfo(Cursor::new(packet), info);
+    let Some(block) = frames.read_next_or_eof(buffer)? else {
+        return Err(Error::FormatError("packet without a frame"));
+    };
+    let cursor = frames.into_inner();
+    let slice = *cursor.get_ref();
+    if cursor.position() < slice.len() as u64 {
+        return Err(Error::FormatError("packet of more than a frame"));
+    }
+    Ok(block)
+}
