@@ -7,7 +7,6 @@ mod bits;
 mod bytes;
 #[cfg(test)]
 mod frames;
-pub mod guarded;
 #[cfg(test)]
 mod header_faults;
 #[cfg(test)]
