@@ -3,7 +3,7 @@ use Rattle.std.proofs.Common.{◌≡◌, ℕ, ◌+◌, ◌<◌, ◌≤◌, List,
 use Rattle.std.proofs.lemmas.Int.{to_z-of_z}
 use Rattle.std.proofs.lemmas.List.{take_more, take_more_set, get_or-set_other, length-set, reverse-append}
 use Rattle.claxon_format.specs.Predict.{wrap, linear, restored}
-use Rattle.claxon_subframe.specs.Sums.{but_newest_two, waiting, Waits, IsSample}
+use Rattle.claxon_subframe.specs.Sums.{but_newest_two, waiting_at, Waits, IsSample}
 use Rattle.claxon_subframe.specs.declared.subframe.predictor.Twelve.{Twelve}
 use Rattle.claxon_subframe.proofs.Predictors.{restored_more, restored_all}
 use Rattle.claxon_subframe.proofs.Sums.{one_is, two_is}
@@ -56,15 +56,15 @@ ends_first xs le f g =
 pub one_place : (ts xs : List ℤ) (i : ℕ) (n s r w b l x : ℤ) (t : ℕ) (sums : Twelve) → length ts ≡ 12 → EndsIn xs i s n → Waits (but_newest_two ts) (reverse (take i xs)) sums
     → r ≡ get_or xs i (pos 0) → w ≡ get_or sums.old 3 (pos 0) → b ≡ get_or ts 10 (pos 0) → l ≡ get_or ts 11 (pos 0) → IsSample r w b s l n t x → x ≡ wrap (linear (reverse ts) t (reverse (take i xs)) +ℤ get_or xs i (pos 0))
 one_place ts xs i n s r w b l x t sums long past waits er ew eb el is =
-    let there : get_or sums.old 3 (pos 0) ≡ waiting (but_newest_two ts) (reverse (take i xs)) 0 = ap (λ (o : List ℤ). get_or o 3 (pos 0)) waits.old in
-    one_is ts past.rest n s r w b l x t long eb el (ew ∙ there ∙ ap (λ (p : List ℤ). waiting (but_newest_two ts) p 0) past.is) is
+    let there : get_or sums.old 3 (pos 0) ≡ waiting_at (but_newest_two ts) (reverse (take i xs)) 0 = ap (λ (o : List ℤ). get_or o 3 (pos 0)) waits.old in
+    one_is ts past.rest n s r w b l x t long eb el (ew ∙ there ∙ ap (λ (p : List ℤ). waiting_at (but_newest_two ts) p 0) past.is) is
     ∙ ap (λ (v : ℤ). wrap (linear (reverse ts) t (n ∷ s ∷ past.rest) +ℤ v)) er ∙ ap (λ (p : List ℤ). wrap (linear (reverse ts) t p +ℤ get_or xs i (pos 0))) (sym past.is)
 
 pub two_place : (ts xs : List ℤ) (i j : ℕ) (m n s r w b l x : ℤ) (t : ℕ) (sums : Twelve) → length ts ≡ 12 → EndsIn xs i s n → Waits (but_newest_two ts) (reverse (take i xs)) sums
     → r ≡ get_or xs j (pos 0) → w ≡ get_or sums.old 2 (pos 0) → b ≡ get_or ts 10 (pos 0) → l ≡ get_or ts 11 (pos 0) → IsSample r w b n l m t x → x ≡ wrap (linear (reverse ts) t (m ∷ reverse (take i xs)) +ℤ get_or xs j (pos 0))
 two_place ts xs i j m n s r w b l x t sums long past waits er ew eb el is =
-    let there : get_or sums.old 2 (pos 0) ≡ waiting (but_newest_two ts) (reverse (take i xs)) 1 = ap (λ (o : List ℤ). get_or o 2 (pos 0)) waits.old in
-    two_is ts past.rest m n s r w b l x t long eb el (ew ∙ there ∙ ap (λ (p : List ℤ). waiting (but_newest_two ts) p 1) past.is) is
+    let there : get_or sums.old 2 (pos 0) ≡ waiting_at (but_newest_two ts) (reverse (take i xs)) 1 = ap (λ (o : List ℤ). get_or o 2 (pos 0)) waits.old in
+    two_is ts past.rest m n s r w b l x t long eb el (ew ∙ there ∙ ap (λ (p : List ℤ). waiting_at (but_newest_two ts) p 1) past.is) is
     ∙ ap (λ (v : ℤ). wrap (linear (reverse ts) t (m ∷ n ∷ s ∷ past.rest) +ℤ v)) er ∙ ap (λ (p : List ℤ). wrap (linear (reverse ts) t (m ∷ p) +ℤ get_or xs j (pos 0))) (sym past.is)
 
 -- a last place alone

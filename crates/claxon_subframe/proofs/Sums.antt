@@ -11,7 +11,7 @@ use Rattle.std.proofs.lemmas.List.{drop_all, drop_more, drop-drop, get_or_past}
 use Rattle.claxon_format.specs.Predict.{wrap, dot, floor_shift, linear}
 use Rattle.claxon_input.proofs.Wraps.{Rep, rep_add, rep_mul, rep_fits}
 use Rattle.claxon_subframe.specs.Lanes.{AllWithin, AllFit64, Within, Lanes, Wide, wrap_64, two_on}
-use Rattle.claxon_subframe.specs.Sums.{but_newest_two, waiting, four_waiting, four_taps, Waits, AreTaps, SmallTaps, WideTwelve, IsSample}
+use Rattle.claxon_subframe.specs.Sums.{but_newest_two, waiting_at, four_waiting, four_taps, Waits, AreTaps, SmallTaps, WideTwelve, IsSample}
 use Rattle.claxon_subframe.specs.declared.subframe.predictor.Taps.{Taps}
 use Rattle.claxon_subframe.specs.declared.subframe.predictor.Twelve.{Twelve}
 use Rattle.claxon_subframe.proofs.Predictors.{floor_is, abs_32, shifted_fits}
@@ -33,14 +33,14 @@ dot_one ks j y past =
 
 -- a sum two places on, and two products
 waiting_two : (ks past : List ℤ) (x y : ℤ) (j k m : ℕ) → k ≡ j + 1 → m ≡ j + 2
-    → wrap_64 (wrap_64 (waiting ks past m +ℤ get_or ks k (pos 0) *ℤ x) +ℤ get_or ks j (pos 0) *ℤ y) ≡ waiting ks (y ∷ x ∷ past) j
+    → wrap_64 (wrap_64 (waiting_at ks past m +ℤ get_or ks k (pos 0) *ℤ x) +ℤ get_or ks j (pos 0) *ℤ y) ≡ waiting_at ks (y ∷ x ∷ past) j
 waiting_two ks past x y j k m ek em =
     let next : k + 1 ≡ m = omega arith in
     let one : dot (drop k ks) (x ∷ past) ≡ get_or ks k (pos 0) *ℤ x +ℤ dot (drop m ks) past
     = subst (λ (n : ℕ). dot (drop k ks) (x ∷ past) ≡ get_or ks k (pos 0) *ℤ x +ℤ dot (drop n ks) past) next (dot_one ks k x past) in
     let two : dot (drop j ks) (y ∷ x ∷ past) ≡ get_or ks j (pos 0) *ℤ y +ℤ dot (drop k ks) (x ∷ past)
     = subst (λ (n : ℕ). dot (drop j ks) (y ∷ x ∷ past) ≡ get_or ks j (pos 0) *ℤ y +ℤ dot (drop n ks) (x ∷ past)) (sym ek) (dot_one ks j y (x ∷ past)) in
-    let first : wrap_64 (waiting ks past m +ℤ get_or ks k (pos 0) *ℤ x) ≡ wrap_64 (dot (drop k ks) (x ∷ past))
+    let first : wrap_64 (waiting_at ks past m +ℤ get_or ks k (pos 0) *ℤ x) ≡ wrap_64 (dot (drop k ks) (x ∷ past))
     = int_wrap-add_left w64 (dot (drop m ks) past) (get_or ks k (pos 0) *ℤ x) ∙ ap wrap_64 (+ℤ_comm (dot (drop m ks) past) (get_or ks k (pos 0) *ℤ x) ∙ sym one) in
     ap (λ (v : ℤ). wrap_64 (v +ℤ get_or ks j (pos 0) *ℤ y)) first ∙ int_wrap-add_left w64 (dot (drop k ks) (x ∷ past)) (get_or ks j (pos 0) *ℤ y)
     ∙ ap wrap_64 (+ℤ_comm (dot (drop k ks) (x ∷ past)) (get_or ks j (pos 0) *ℤ y) ∙ sym two)
@@ -63,7 +63,7 @@ two_on_8 ks past x y = four_same (waiting_two ks past x y 11 12 13 refl refl) (w
 zero_64 : wrap_64 (pos 0) ≡ pos 0
 zero_64 = int_wrap_fits w64 (pos 0) (record { sfits = omega arith })
 
-waits_none : (ks past : List ℤ) (j : ℕ) → length ks ≤ j → waiting ks past j ≡ pos 0
+waits_none : (ks past : List ℤ) (j : ℕ) → length ks ≤ j → waiting_at ks past j ≡ pos 0
 waits_none ks past j le = ap (λ (l : List ℤ). wrap_64 (dot l past)) (drop_all j ks le) ∙ zero_64
 
 none_past : (ks past : List ℤ) → length ks ≡ 12 → four_waiting ks past 12 ≡ replicate 4 (pos 0)
@@ -78,14 +78,14 @@ dot_nothing : (ks : List ℤ) → dot ks [] ≡ pos 0
 dot_nothing [] = refl
 dot_nothing (k ∷ ks) = refl
 
-waits_nothing : (ks : List ℤ) (j : ℕ) → waiting ks [] j ≡ pos 0
+waits_nothing : (ks : List ℤ) (j : ℕ) → waiting_at ks [] j ≡ pos 0
 waits_nothing ks j = ap wrap_64 (dot_nothing (drop j ks)) ∙ zero_64
 
 -- no sample yet
 pub nothing_yet : (ks : List ℤ) (j : ℕ) → replicate 4 (pos 0) ≡ four_waiting ks [] j
 nothing_yet ks j = sym (four_same (waits_nothing ks (j + 3)) (waits_nothing ks (j + 2)) (waits_nothing ks (j + 1)) (waits_nothing ks j))
 
-zeros_wait : (ks past : List ℤ) (n j : ℕ) → drop j ks ≡ replicate n (pos 0) → waiting ks past j ≡ pos 0
+zeros_wait : (ks past : List ℤ) (n j : ℕ) → drop j ks ≡ replicate n (pos 0) → waiting_at ks past j ≡ pos 0
 zeros_wait ks past n j e = ap (λ (l : List ℤ). wrap_64 (dot l past)) e ∙ ap wrap_64 (dot_behind n [] past) ∙ zero_64
 
 -- without coefficients nothing waits for the farthest four places
@@ -265,7 +265,7 @@ two_last ts rest n s e =
     let regroup : (a b d : ℤ) → (a +ℤ b) +ℤ d ≡ d +ℤ (b +ℤ a) = λ a b d. omega (arith, ints) in
     regroup (dot (drop 2 (reverse ts)) rest) (get_or ts 10 (pos 0) *ℤ s) (get_or ts 11 (pos 0) *ℤ n) ∙ ap (λ (l : List ℤ). dot l (n ∷ s ∷ rest)) (sym (turned ts e))
 
-pub one_is : (ts rest : List ℤ) (n s r w b l x : ℤ) (t : ℕ) → length ts ≡ 12 → b ≡ get_or ts 10 (pos 0) → l ≡ get_or ts 11 (pos 0) → w ≡ waiting (but_newest_two ts) (n ∷ s ∷ rest) 0
+pub one_is : (ts rest : List ℤ) (n s r w b l x : ℤ) (t : ℕ) → length ts ≡ 12 → b ≡ get_or ts 10 (pos 0) → l ≡ get_or ts 11 (pos 0) → w ≡ waiting_at (but_newest_two ts) (n ∷ s ∷ rest) 0
     → IsSample r w b s l n t x → x ≡ wrap (linear (reverse ts) t (n ∷ s ∷ rest) +ℤ r)
 one_is ts rest n s r w b l x t long eb el ew is =
     let sum : ℤ = dot (drop 2 (reverse ts)) rest in
@@ -273,7 +273,7 @@ one_is ts rest n s r w b l x t long eb el ew is =
     is sum (ew ∙ ap wrap_64 (others_wait (drop 2 (reverse ts)) rest n s)) ∙ ap (λ (v : ℤ). wrap (floor_shift v t +ℤ r)) all
 
 -- the place after it
-pub two_is : (ts rest : List ℤ) (m n s r w b l x : ℤ) (t : ℕ) → length ts ≡ 12 → b ≡ get_or ts 10 (pos 0) → l ≡ get_or ts 11 (pos 0) → w ≡ waiting (but_newest_two ts) (n ∷ s ∷ rest) 1
+pub two_is : (ts rest : List ℤ) (m n s r w b l x : ℤ) (t : ℕ) → length ts ≡ 12 → b ≡ get_or ts 10 (pos 0) → l ≡ get_or ts 11 (pos 0) → w ≡ waiting_at (but_newest_two ts) (n ∷ s ∷ rest) 1
     → IsSample r w b n l m t x → x ≡ wrap (linear (reverse ts) t (m ∷ n ∷ s ∷ rest) +ℤ r)
 two_is ts rest m n s r w b l x t long eb el ew is =
     let sum : ℤ = dot (drop 2 (reverse ts)) (s ∷ rest) in

@@ -10,12 +10,12 @@ abbrev pub but_newest_two : List ℤ → List ℤ
 but_newest_two twelve = pos 0 ∷ pos 0 ∷ drop 2 (reverse twelve)
 
 -- what the samples so far, the newest first, add to the place that is j places on, modulo 2 ^ 64
-abbrev pub waiting : List ℤ → List ℤ → ℕ → ℤ
-waiting coefficients past j = wrap_64 (dot (drop j coefficients) past)
+abbrev pub waiting_at : List ℤ → List ℤ → ℕ → ℤ
+waiting_at coefficients past j = wrap_64 (dot (drop j coefficients) past)
 
 -- the same for four places, the farthest first
 abbrev pub four_waiting : List ℤ → List ℤ → ℕ → List ℤ
-four_waiting coefficients past j = waiting coefficients past (j + 3) ∷ waiting coefficients past (j + 2) ∷ waiting coefficients past (j + 1) ∷ waiting coefficients past j ∷ []
+four_waiting coefficients past j = waiting_at coefficients past (j + 3) ∷ waiting_at coefficients past (j + 2) ∷ waiting_at coefficients past (j + 1) ∷ waiting_at coefficients past j ∷ []
 
 -- twelve lanes hold what waits for twelve places
 pub record Waits (coefficients past : List ℤ) (sums : Twelve) : Type 0 where

@@ -1,6 +1,6 @@
 //! Predictors: samples from their first ones and a residual, in place. All sums are modulo 2^32 in the end.
-ghost use Rattle.std.specs.Prelude.{◌≡◌, ◌+◌, ◌-◌, ◌*◌, ◌^◌, ◌<◌, ◌≤◌, false, [], ◌∷◌, ◌++◌, length, take, reverse, replicate, pos, ◌+ℤ◌, ◌*ℤ◌};
-ghost use Rattle.claxon_format.specs.Predict.{wrap, dot, floor_shift, fixed, linear, restored};
+ghost use Rattle.std.specs.Prelude.{◌≡◌, ◌+◌, ◌-◌, ◌*◌, ◌^◌, ◌<◌, ◌≤◌, false, ◌++◌, length, take, reverse, replicate, pos};
+ghost use Rattle.claxon_format.specs.Predict.{wrap, dot, fixed, linear, restored};
 ghost use Rattle.claxon_subframe.specs.Predictor.{SamplesCameBack};
 ghost use Rattle.claxon_subframe.specs.Lanes.{Within, Lanes, Wide, plus_products, two_on};
 ghost use Rattle.claxon_subframe.specs.Sums.{but_newest_two, AreTaps, SmallTaps, WideTwelve, WaitsTwoOn, WaitsAfter, IsSample};
