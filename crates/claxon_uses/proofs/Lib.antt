@@ -1,3 +1,5 @@
+pub mod Collecting
 pub mod FramesInMemory
 pub mod GuardedPair
 pub mod Packets
+pub mod StreamsInMemory

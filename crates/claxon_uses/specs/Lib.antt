@@ -1,4 +1,6 @@
+pub mod Collecting
 pub mod Fronts
 pub mod FramesInMemory
 pub mod GuardedPair
 pub mod Packets
+pub mod StreamsInMemory

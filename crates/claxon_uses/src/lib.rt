@@ -3,6 +3,8 @@
 
 mod frames;
 mod guarded;
+mod streams;
 
 pub use frames::{decode_one, decode_packet};
 pub use guarded::read_guarded_pair;
+pub use streams::decode_all;

@@ -9,6 +9,6 @@ returns g c =
     let old = c.new-frames.result in
     let new = c.read_next_or_eof.new.self in
     let comes = slice_comes old c.new.result c.args.bytes c.new-frames.ensures.input c.new.ensures.position c.new.ensures.inner in
-    let reads = known_as c.new-frames.ensures.stream (reads_frame _ e.sound e.complete e.at_end e.ended e.no_failure e.fault e.named e.io e.front e.memory e.gives) in
+    let reads = known_as {a = slice_bytes old} {b = slice_bytes new} c.new-frames.ensures.stream (reads_frame _ e.sound e.complete e.at_end e.ended e.no_failure e.fault e.named e.io e.front e.memory e.gives) in
     let m = frame_in_memory None c.args.bytes.now (slice_bytes old) (slice_bytes new) comes (slice_never_fails old new) c.read_next_or_eof.result reads e.ended in
     record { sound = m.sound; complete = m.complete; end = m.end; fault = m.fault; named = m.named; memory = m.memory }

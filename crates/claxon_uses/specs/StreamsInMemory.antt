@@ -1,0 +1,48 @@
+-- What a call answers for a whole stream that stands in bytes in memory: a head, frames, and what begins with no further frame.
+use Rattle.std.specs.Prelude.{◌≡◌, ◌⊎◌, ◌<◌, ℕ, ℤ, true, List, ◌++◌, length, Some, IfOk, IfErr, IsOkAnd, IsErrAnd, Result}
+use Rattle.claxon.specs.Error.{IsFault, IsIo}
+use Rattle.claxon.specs.Fault.{Fault}
+use Rattle.claxon.specs.Frame.{Block, Frame, FrameBytesFault}
+use Rattle.claxon.specs.FrameReader.{HeaderAlone}
+use Rattle.claxon.specs.Heads.{Head, HeadCode, HeadFault}
+use Rattle.claxon.specs.Promises.{IsStarved}
+use Rattle.claxon.specs.ReadHead.{WantsMemory}
+use Rattle.claxon.specs.SampleRuns.{samples_of}
+use Rattle.claxon.specs.Streams.{IsStream, stream_of, with_samples}
+use Rattle.claxon_input.specs.declared.error.Error.{Error}
+use Rattle.claxon_input.specs.declared.error.Error.TheVariants.{OutOfMemory}
+use Rattle.claxon_uses.specs.Fronts.{BeginsWith}
+
+-- the fault of a head stands at the front, or that of a frame behind a head and all frames that stand there
+abbrev pub HasStreamFault : List ℕ → Fault → Type 0
+HasStreamFault bytes f =
+    BeginsWith (HeadFault (with_samples true) f) bytes
+    ⊎ ((h : Head) × (blocks : List Block) × (rest : List ℕ) × IsStream true bytes h blocks rest × BeginsWith (FrameBytesFault (Some (stream_of h.info)) f) rest)
+
+-- a head stands there, and behind it the header of a frame
+abbrev pub HasSamples : List ℕ → Type 0
+HasSamples bytes =
+    (h : Head) × (front : List ℕ) × (frames : List ℕ) × HeadCode (with_samples true) h front × (bytes ≡ front ++ frames)
+    × (BeginsWith (HeaderAlone (Some (stream_of h.info)) 0) frames ⊎ ((block : Block) × BeginsWith (Frame (Some (stream_of h.info)) block) frames))
+
+-- `view` shows the samples of what is answered.
+module _ {X : Type 0} (view : X → List ℤ) (bytes : List ℕ) (result : Result X Error) where
+  -- The bytes are a stream whose samples, interleaved, are answered, and fewer than two bytes more.
+  abbrev pub StreamIsThere : Type 0
+  StreamIsThere = IfOk result (λ x. (h : Head) × (blocks : List Block) × (rest : List ℕ) × IsStream true bytes h blocks rest × (length rest < 2) × (view x ≡ samples_of blocks))
+
+  -- The samples of any such stream are answered, if memory is found.
+  abbrev pub EachStreamIsDecoded : Type 0
+  EachStreamIsDecoded = (h : Head) (blocks : List Block) (rest : List ℕ) → IsStream true bytes h blocks rest → length rest < 2 → IsOkAnd result (λ x. view x ≡ samples_of blocks) ⊎ IsStarved result
+
+-- An Err that is neither want of memory nor an `IoError` names a fault that the bytes have.
+abbrev pub StreamFaultIsThere : {X : Type 0} → List ℕ → Result X Error → Type 0
+StreamFaultIsThere bytes result = IfErr result (λ e. (e ≡ OutOfMemory) ⊎ (IsIo e ⊎ ((f : Fault) × IsFault f e × HasStreamFault bytes f)))
+
+-- Any fault that they have is named, if memory is found.
+abbrev pub EachStreamFaultIsTold : {X : Type 0} → List ℕ → Result X Error → Type 0
+EachStreamFaultIsTold bytes result = (f : Fault) → HasStreamFault bytes f → IsErrAnd result (IsFault f) ⊎ IsStarved result
+
+-- Memory is wanted only for a block of an application or of comments, or for samples.
+abbrev pub StarvesForStream : {X : Type 0} → List ℕ → Result X Error → Type 0
+StarvesForStream bytes result = IsStarved result → WantsMemory bytes ⊎ HasSamples bytes
