@@ -1,5 +1,5 @@
 -- Blocks that are read and gathered one after another.
-use Rattle.std.proofs.Common.{◌≡◌, inl, inr, ℕ, ◌+◌, ◌*◌, ◌<◌, ◌≤◌, ◌^◌, true, false, List, [], ◌∷◌, ◌++◌, length, Option, None, Some, refl, sym, ap, subst, ◌∙◌, arith, length-append}
+use Rattle.std.proofs.Common.{◌≡◌, inl, inr, ℕ, ◌+◌, ◌*◌, ◌≤◌, ◌^◌, true, false, List, [], ◌∷◌, ◌++◌, length, Option, None, Some, refl, sym, ap, subst, ◌∙◌, arith, length-append}
 use Rattle.std.specs.Prelude.{Result, Ok, Err}
 use Rattle.claxon_format.specs.Frame.{StreamShape, Block}
 use Rattle.claxon_format.specs.read.Frame.{frame_bytes_at}
@@ -43,9 +43,6 @@ loans_stay count view (Err (Unsupported text)) read a b g = stops_loans (Unsuppo
 
 pub reads_loans : {stream : Option StreamShape} {r : Result (Option BlockValue) Error} {a b : State ℕ} → ReadsFrame stream r a b → b.loans ≡ a.loans
 reads_loans {stream = stream} {r = r} {a = a} {b = b} h = loans_stay 2 block_view r (frame_bytes_at stream) a b h.gives
-
-pub not_below : (a b : ℕ) → (a < b → ⊥) → b ≤ a
-not_below a b h = omega (arith, h)
 
 more_bytes : (blocks : List Block) (block : BlockValue) → bytes_of_samples (samples_of blocks) ++ bytes_of_samples (interleave block.channels) ≡ bytes_of_samples (samples_of (blocks ++ block_view block ∷ []))
 more_bytes blocks block = sym (ap bytes_of_samples (samples_add blocks (block_view block)) ∙ bytes_append (samples_of blocks) (interleave block.channels))

@@ -29,6 +29,13 @@ two_samples : (x y : ℤ) → bytes_of_samples (x ∷ y ∷ []) ≡ sample_bytes
 unfolding bytes_of_samples
 two_samples x y = ap (λ (z : List ℕ). sample_bytes x ++ z) (append-nil (sample_bytes y))
 
+-- the same where the sample has another name
+pub sample_bytes_as : {bytes given : List ℕ} {x y : ℤ} → bytes ≡ given → given ≡ sample_bytes x → x ≡ y → bytes ≡ sample_bytes y
+sample_bytes_as same is named = same ∙ is ∙ ap sample_bytes named
+
+pub pair_bytes_as : {bytes given : List ℕ} {x y v w : ℤ} → bytes ≡ given → given ≡ sample_bytes x ++ sample_bytes y → x ≡ v → y ≡ w → bytes ≡ sample_bytes v ++ sample_bytes w
+pair_bytes_as {x = x} {w = w} same is first second = same ∙ is ∙ ap (λ (z : ℤ). sample_bytes x ++ sample_bytes z) second ∙ ap (λ (z : ℤ). sample_bytes z ++ sample_bytes w) first
+
 -- after the places so far, one of one channel
 pub mono_more : (s : List ℤ) (i j k : ℕ) (room bytes : List ℕ) → j ≡ 4 * (i + 1) → 4 * i ≤ length room → bytes ≡ sample_bytes (get_or s i (pos 0)) → take (4 * i) room ≡ bytes_of_samples (places (s ∷ []) 0 i)
     → take j (put_mid (4 * i) k room bytes) ≡ bytes_of_samples (places (s ∷ []) 0 (i + 1))
@@ -123,9 +130,9 @@ put_more size at i n k samples old room bytes (inr e) same fits len inside h =
     let named : PutBehind size at i (sample_bytes (get_or samples i (pos 0))) old new = subst (λ (z : List ℕ). PutBehind size at i z old new) same here in
     subst (λ (j : ℕ). PutBehind size at j (sample_bytes (get_or samples j (pos 0))) old new) (sym e) named
 
-pub channel_more : (size at i n : ℕ) (samples : List ℤ) (old room bytes : List ℕ) → bytes ≡ sample_bytes (get_or samples i (pos 0)) → n ≡ 4 → at + 4 ≤ size → (i + 1) * size ≤ length room → ChannelSoFar size at i samples old room
+more_put : (size at i n : ℕ) (samples : List ℤ) (old room bytes : List ℕ) → bytes ≡ sample_bytes (get_or samples i (pos 0)) → n ≡ 4 → at + 4 ≤ size → (i + 1) * size ≤ length room → ChannelSoFar size at i samples old room
     → ChannelSoFar size at (i + 1) samples old (put_mid (i * size + at) n room bytes)
-channel_more size at i n samples old room bytes same four small inside h =
+more_put size at i n samples old room bytes same four small inside h =
     let len : n ≡ length bytes = four ∙ sym (ap length same ∙ length-sample_bytes (get_or samples i (pos 0))) in
     let fits : at + n ≤ size = omega arith in
     let before : i * size + size ≤ (i + 1) * size = apart size i (i + 1) (omega arith) in
@@ -134,6 +141,11 @@ channel_more size at i n samples old room bytes same four small inside h =
       put = λ k lt. put_more size at i n k samples old room bytes (below_or k i lt) same fits len room_for h;
       left = λ k le. other_place size k i at n room bytes (inr (omega arith)) fits len room_for ∙ h.left k (omega arith);
     }
+
+pub channel_more : (size at i : ℕ) {start n : ℕ} (samples : List ℤ) (old room bytes : List ℕ) → bytes ≡ sample_bytes (get_or samples i (pos 0)) → n ≡ 4 → at + 4 ≤ size → (i + 1) * size ≤ length room → ChannelSoFar size at i samples old room → start ≡ i * size + at
+    → ChannelSoFar size at (i + 1) samples old (put_mid start n room bytes)
+channel_more size at i {start} {n} samples old room bytes same four small inside h place =
+    subst (λ (k : ℕ). ChannelSoFar size at (i + 1) samples old (put_mid k n room bytes)) (sym place) (more_put size at i n samples old room bytes same four small inside h)
 
 -- ---- the samples of all channels
 

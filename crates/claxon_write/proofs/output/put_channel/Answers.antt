@@ -1,9 +1,8 @@
-use Rattle.std.proofs.Common.{◌+◌, ◌*◌, ◌-◌, length, get_or, pos, ap, ◌∙◌, arith, rules}
-use Rattle.std.proofs.lemmas.Int.{to_z-of_z}
+use Rattle.std.proofs.Common.{◌≡◌, ◌+◌, ◌*◌, ◌-◌, length, get_or, pos, arith, rules}
 use Rattle.std.specs.Int.{w32}
 use mir.Val.{SFits}
 use Rattle.claxon_write.specs.SampleBytes.{sample_bytes}
-use Rattle.claxon_write.proofs.Places.{channel_none, channel_more, room_for_place}
+use Rattle.claxon_write.proofs.Places.{sample_bytes_as, channel_none, channel_more, room_for_place}
 use Rattle.claxon_write.proofs.output.put_channel.Goals as goal
 
 pub loop-i-init : goal.loop-i-init
@@ -14,10 +13,9 @@ loop-i-preserved c =
     let s = c.args.samples.now in
     let i = c.loop-i.i in
     let size = 4 * c.args.channels in
-    let at = i * size + 4 * c.args.ch in
     let f : SFits w32 (get_or s i (pos 0)) = search rules in
-    let bytes = c.copy_from_slice.ensures.after ∙ c.little_endian.ensures ∙ ap sample_bytes (to_z-of_z w32 (get_or s i (pos 0)) f) in
-    channel_more size (4 * c.args.ch) i (at + 4 - at) s c.args.room.now c.loop-i.room c.copy_from_slice.new.self bytes (omega arith) (omega arith) (room_for_place size i (length s) (length c.loop-i.room) c.loop-i-test.true (omega arith)) c.loop-i.invariant
+    let bytes : c.copy_from_slice.new.self ≡ sample_bytes (get_or s i (pos 0)) = sample_bytes_as c.copy_from_slice.ensures.after c.little_endian.ensures (search rules) in
+    channel_more size (4 * c.args.ch) i s c.args.room.now c.loop-i.room c.copy_from_slice.new.self bytes (omega arith) (omega arith) (room_for_place size i (length s) (length c.loop-i.room) c.loop-i-test.true (omega arith)) c.loop-i.invariant (omega arith)
 
 pub returns : goal.returns
 returns c = λ i lt. c.loop-i.invariant.put i (omega arith)

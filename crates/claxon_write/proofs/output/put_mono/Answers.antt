@@ -1,9 +1,8 @@
-use Rattle.std.proofs.Common.{◌+◌, ◌*◌, ◌-◌, ◌∷◌, [], length, get_or, pos, refl, sym, ap, ◌∙◌, arith, rules}
-use Rattle.std.proofs.lemmas.Int.{to_z-of_z}
+use Rattle.std.proofs.Common.{◌≡◌, ◌+◌, ◌*◌, ◌-◌, ◌∷◌, [], length, get_or, pos, refl, sym, arith, rules}
 use Rattle.std.specs.Int.{w32}
 use mir.Val.{SFits}
 use Rattle.claxon_write.specs.SampleBytes.{sample_bytes}
-use Rattle.claxon_write.proofs.Places.{mono_more, all_written}
+use Rattle.claxon_write.proofs.Places.{sample_bytes_as, mono_more, all_written}
 use Rattle.claxon_write.proofs.Puts.{bytes_none}
 use Rattle.claxon_write.proofs.output.put_mono.Goals as goal
 
@@ -15,7 +14,7 @@ loop-i-preserved c =
     let s = c.args.samples.now in
     let i = c.loop-i.i in
     let f : SFits w32 (get_or s i (pos 0)) = search rules in
-    let bytes = c.copy_from_slice.ensures.after ∙ c.little_endian.ensures ∙ ap sample_bytes (to_z-of_z w32 (get_or s i (pos 0)) f) in
+    let bytes : c.copy_from_slice.new.self ≡ sample_bytes (get_or s i (pos 0)) = sample_bytes_as c.copy_from_slice.ensures.after c.little_endian.ensures (search rules) in
     mono_more s i (4 * (i + 1)) (4 * i + 4 - 4 * i) c.loop-i.room c.copy_from_slice.new.self refl (omega arith) bytes c.loop-i.invariant
 
 pub returns : goal.returns

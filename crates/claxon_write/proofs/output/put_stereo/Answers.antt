@@ -1,9 +1,8 @@
-use Rattle.std.proofs.Common.{◌+◌, ◌*◌, ◌-◌, ◌∷◌, ◌++◌, ℤ, [], length, get_or, pos, refl, sym, ap, ◌∙◌, arith, rules}
-use Rattle.std.proofs.lemmas.Int.{to_z-of_z}
+use Rattle.std.proofs.Common.{◌≡◌, ◌+◌, ◌*◌, ◌-◌, ◌∷◌, ◌++◌, [], length, get_or, pos, refl, sym, arith, rules}
 use Rattle.std.specs.Int.{w32}
-use mir.Val.{SFits, of_z, to_z}
+use mir.Val.{SFits}
 use Rattle.claxon_write.specs.SampleBytes.{sample_bytes}
-use Rattle.claxon_write.proofs.Places.{stereo_more, all_written}
+use Rattle.claxon_write.proofs.Places.{pair_bytes_as, stereo_more, all_written}
 use Rattle.claxon_write.proofs.Puts.{bytes_none}
 use Rattle.claxon_write.proofs.output.put_stereo.Goals as goal
 
@@ -19,7 +18,7 @@ loop-i-preserved c =
     let y = get_or t i (pos 0) in
     let f : SFits w32 (get_or s i (pos 0)) = search rules in
     let g : SFits w32 (get_or t i (pos 0)) = search rules in
-    let bytes = c.copy_from_slice.ensures.after ∙ c.little_endian_pair.ensures ∙ ap (λ (z : ℤ). sample_bytes z ++ sample_bytes (to_z w32 (of_z w32 y))) (to_z-of_z w32 x f) ∙ ap (λ (z : ℤ). sample_bytes x ++ sample_bytes z) (to_z-of_z w32 y g) in
+    let bytes : c.copy_from_slice.new.self ≡ sample_bytes x ++ sample_bytes y = pair_bytes_as c.copy_from_slice.ensures.after c.little_endian_pair.ensures (search rules) (search rules) in
     stereo_more s t i (8 * (i + 1)) (8 * i + 8 - 8 * i) c.loop-i.room c.copy_from_slice.new.self refl (omega arith) bytes c.loop-i.invariant
 
 pub returns : goal.returns

@@ -1,9 +1,9 @@
-use Rattle.std.proofs.Common.{◌≡◌, ◌≤◌, ◌+◌, ◌^◌, Ok, Option, refl, ap, ◌∙◌, rules}
+use Rattle.std.proofs.Common.{◌≡◌, ◌≤◌, ◌+◌, ◌^◌, Ok, Option, refl, ap, ◌∙◌, arith}
 use Rattle.std.proofs.lemmas.Result.{err_from_is_err_and}
 use Rattle.claxon_frame.specs.Block.{BlockValue}
 use Rattle.claxon_frame.specs.FrameReader.{frame_bytes}
 use Rattle.claxon.proofs.SamplesInTurn.{reads_frame}
-use Rattle.claxon_write.proofs.Gathering.{reads_with, reads_loans, not_below, gathered_none, gathered_as, gathered_more, gathered_end, gathered_fault, gathered_limit, gathered_fails}
+use Rattle.claxon_write.proofs.Gathering.{reads_with, reads_loans, gathered_none, gathered_as, gathered_more, gathered_end, gathered_fault, gathered_limit, gathered_fails}
 use Rattle.claxon_write.proofs.stream.gather_blocks.Goals as goal
 
 pub loop-block-init : goal.loop-block-init
@@ -14,8 +14,7 @@ loop-block-preserved g c =
     let e = c.read_next_or_eof.ensures in
     let v = c.loop-block.invariant in
     let reads = reads_with v.stream (c.in-Ok-Some.is ∙ ap (λ (z : Option BlockValue). Ok z) c.in-Ok-Some.field-0-is) (reads_frame _ e.sound e.complete e.at_end e.ended e.no_failure e.fault e.named e.io e.front e.memory e.gives) in
-    let s = c.in-Some.ensures in
-    let more : c.loop-block.count + c.len.result ≡ c.in-Some.more = rw (← c.from.ensures) (search rules) in
+    let more : c.loop-block.count + c.len.result ≡ c.in-Some.more = omega (arith, c.from.ensures, c.in-Some.ensures) in
     record {
       reference = c.in_ok-put_block.ensures.same_reference ∙ v.reference;
       stream = e.stream ∙ v.stream;
@@ -40,7 +39,7 @@ returns-in_default-clause-ok g c =
     let e = c.read_next_or_eof.ensures in
     let v = c.loop-block.invariant in
     let reads = reads_with v.stream (c.in-Ok-Some.is ∙ ap (λ (z : Option BlockValue). Ok z) c.in-Ok-Some.field-0-is) (reads_frame _ e.sound e.complete e.at_end e.ended e.no_failure e.fault e.named e.io e.front e.memory e.gives) in
-    let many : 2 ^ 64 ≤ c.loop-block.count + c.len.result = rw (← c.from.ensures) (not_below (c.loop-block.count + c.from.result) (2 ^ 64) c.in_default.ensures) in
+    let many : 2 ^ 64 ≤ c.loop-block.count + c.len.result = omega (arith, c.from.ensures, c.in_default.ensures) in
     gathered_limit c.in-Ok-Some.block refl c.len.ensures many v.so_far reads
 
 pub returns-in_err-put_block-clause-err : goal.returns-in_err-put_block-clause-err
