@@ -3,5 +3,6 @@ pub mod SampleBytes
 pub mod Written
 pub mod Decoded
 pub mod Output
+pub mod WriteBlocks
 pub mod WriteSamples
 pub mod Run

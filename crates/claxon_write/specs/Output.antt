@@ -1,11 +1,21 @@
 -- What calls of an `Output` promise.
-use Rattle.std.specs.Prelude.{ℕ, List, Option, Result, IfErr, OnOk}
+use Rattle.std.specs.Prelude.{ℕ, ◌<◌, ◌≤◌, List, length, take, Option, Result, IfErr, IfOk, OnErr, OnOk}
+use Rattle.std.specs.Io.KnownBytes.{Appends}
 use Rattle.claxon_format.specs.Streams.{interleave}
 use Rattle.claxon_frame.specs.Block.{BlockValue}
 use Rattle.claxon_input.specs.declared.error.Error.{Error}
 use Rattle.claxon_write.specs.SampleBytes.{bytes_of_samples}
-use Rattle.claxon_write.specs.Written.{FailsToPut, Puts}
+use Rattle.claxon_write.specs.Written.{AppendsFront, FailsToPut, Puts}
+use Rattle.claxon_write.specs.declared.output.Counted.{Counted}
 use Rattle.claxon_write.specs.declared.output.Output.{Output}
+
+-- An Ok wrote just so many of these bytes, one at least.
+abbrev pub WritesSome : {W : Type 0} → (W → Option (List ℕ)) → List ℕ → Result ℕ Error → Counted W → Counted W → Type 0
+WritesSome contents bytes r old new = IfOk r (λ n. (0 < n) × (n ≤ length bytes) × Appends (contents old.inner.now) (contents new.inner.now) (take n bytes))
+
+-- An Err wrote a front of these bytes.
+abbrev pub WritesFront : {W : Type 0} → (W → Option (List ℕ)) → List ℕ → Result (Unit {0}) Error → Counted W → Counted W → Type 0
+WritesFront contents bytes r old new = OnErr r (AppendsFront (contents old.inner.now) (contents new.inner.now) bytes)
 
 -- An Ok put these bytes behind all that was put before.
 abbrev pub PutsAll : {W : Type 0} → (W → Option (List ℕ)) → List ℕ → Result (Unit {0}) Error → Output W → Output W → Type 0

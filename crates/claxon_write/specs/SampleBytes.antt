@@ -1,5 +1,5 @@
 -- Samples as bytes.
-use Rattle.std.specs.Prelude.{◌≡◌, ℕ, ◌+◌, ◌*◌, ℤ, List, ◌++◌, length, take, drop}
+use Rattle.std.specs.Prelude.{◌≡◌, ℕ, ◌+◌, ◌-◌, ◌*◌, ◌<◌, ℤ, pos, List, ◌++◌, length, take, drop, get_or}
 use Rattle.std.specs.Int.{cast_unsigned, to_le_bytes, w32}
 use Rattle.std.specs.List.{flat_map, range_with_len}
 use Rattle.claxon_format.specs.Streams.{samples_at}
@@ -16,6 +16,10 @@ bytes_of_samples xs = flat_map sample_bytes xs
 unfoldable pub places : List (List ℤ) → ℕ → ℕ → List ℤ
 places channels from count = flat_map (samples_at channels) (range_with_len from count)
 
+-- the bytes of the samples between two places
+abbrev pub bytes_between : List (List ℤ) → ℕ → ℕ → List ℕ
+bytes_between channels from to = bytes_of_samples (places channels from (to - from))
+
 -- the bytes of one place, of so many each
 abbrev pub place_bytes : ℕ → ℕ → List ℕ → List ℕ
 place_bytes size i room = take size (drop (i * size) room)
@@ -23,3 +27,7 @@ place_bytes size i room = take size (drop (i * size) room)
 -- Behind the first at bytes of that place, which stay, stand these.
 abbrev pub PutBehind : ℕ → ℕ → ℕ → List ℕ → List ℕ → List ℕ → Type 0
 PutBehind size at i bytes old new = take (at + length bytes) (place_bytes size i new) ≡ take at (place_bytes size i old) ++ bytes
+
+-- In each place the sample of the channel of this number, of so many channels, is put behind those of the channels before it.
+abbrev pub PutsChannel : List ℤ → ℕ → ℕ → List ℕ → List ℕ → Type 0
+PutsChannel samples ch channels old new = (i : ℕ) → i < length samples → PutBehind (4 * channels) (4 * ch) i (sample_bytes (get_or samples i (pos 0))) old new

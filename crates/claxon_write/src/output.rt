@@ -1,9 +1,9 @@
 //! Bytes on their way to a writer.
-ghost use Rattle.std.specs.Prelude.{◌≡◌, ◌≤◌, ◌<◌, ◌+◌, ◌*◌, ◌-◌, ◌%◌, ◌^◌, ◌∷◌, ◌++◌, ℕ, pos, IfOk, IfErr, OnOk, OnErr, [], get_or, length, take};
+ghost use Rattle.std.specs.Prelude.{◌≡◌, ◌≤◌, ◌<◌, ◌+◌, ◌*◌, ◌-◌, ◌%◌, ◌^◌, ◌∷◌, ◌++◌, IfErr, OnOk, OnErr, [], length, take};
 ghost use Rattle.std.specs.Io.KnownBytes.{Appends, Keeps};
 ghost use Rattle.claxon_input.specs.Error.{IsIo};
 ghost use Rattle.claxon_frame.specs.Block.{duration_of};
-ghost use Rattle.claxon_write.specs.SampleBytes.{PutBehind, bytes_of_samples, places, sample_bytes};
+ghost use Rattle.claxon_write.specs.SampleBytes.{PutsChannel, bytes_between, bytes_of_samples, places, sample_bytes};
 
 use claxon::{Block, Error, Result};
 use std::alloc::Allocator;
@@ -33,7 +33,7 @@ impl<'w, W> Drop for Counted<'w, W> {
 }
 
 impl<'w, W: Write> Counted<'w, W> {
-    ghost use Rattle.claxon_write.specs.Written.{AppendsFront};
+    ghost use Rattle.claxon_write.specs.Output.{WritesFront, WritesSome};
 
     fn into_inner(self) -> &'w mut W
         ensures same_reference { result.ghost_name ≡ self.entry.inner.ghost_name }
@@ -46,7 +46,7 @@ impl<'w, W: Write> Counted<'w, W> {
     // The one call of the writer's `write`. It wrote some of the bytes, or it failed.
     fn write_some(&mut self, bytes: &[u8]) -> Result<usize>
         ensures same_reference { self.new.inner.ghost_name ≡ self.old.inner.ghost_name }
-        ensures ok { IfOk result (λ n. (0 < n) × (n ≤ length bytes.now) × Appends (W.contents self.old.inner.now) (W.contents self.new.inner.now) (take n bytes.now)) }
+        ensures ok { WritesSome W.contents bytes.now result self.old self.new }
         ensures kept { OnErr result (Keeps (W.contents self.old.inner.now) (W.contents self.new.inner.now)) }
         ensures io { IfErr result (λ error. IsIo error) }
         ensures told { OnOk result (self.new.failures ≡ self.old.failures) }
@@ -69,7 +69,7 @@ impl<'w, W: Write> Counted<'w, W> {
     fn write_whole(&mut self, bytes: &[u8]) -> Result<()>
         ensures same_reference { self.new.inner.ghost_name ≡ self.old.inner.ghost_name }
         ensures ok { OnOk result (Appends (W.contents self.old.inner.now) (W.contents self.new.inner.now) bytes.now) }
-        ensures front { OnErr result (AppendsFront (W.contents self.old.inner.now) (W.contents self.new.inner.now) bytes.now) }
+        ensures front { WritesFront W.contents bytes.now result self.old self.new }
         ensures io { IfErr result (λ error. IsIo error) }
         ensures told { OnOk result (self.new.failures ≡ self.old.failures) }
         ensures failed { OnErr result (self.new.failures ≡ (self.old.failures + 1) % 2 ^ 64) }
@@ -136,7 +136,7 @@ impl Gathered {
         requires in_block { to ≤ duration_of block.now.channels }
         requires size { size ≡ (to - from) * (4 * length block.now.channels) }
         requires room { self.old.used + size ≤ 16384 }
-        ensures added { waiting_in self.new ≡ waiting_in self.old ++ bytes_of_samples (places block.now.channels from (to - from)) }
+        ensures added { waiting_in self.new ≡ waiting_in self.old ++ bytes_between block.now.channels from to }
     {
         let end = self.used + size;
         interleave(block, from, to, &mut self.bytes[self.used..end]);
@@ -274,7 +274,7 @@ fn interleave<A: Allocator>(block: &Block<A>, from: usize, to: usize, room: &mut
     requires order { from ≤ to }
     requires in_block { to ≤ duration_of block.now.channels }
     requires room { length room.old ≡ (to - from) * (4 * length block.now.channels) }
-    ensures { room.new ≡ bytes_of_samples (places block.now.channels from (to - from)) }
+    ensures { room.new ≡ bytes_between block.now.channels from to }
 {
     match block.channels() {
         1 => put_mono(&block.channel(0)[from..to], room),
@@ -338,7 +338,7 @@ fn put_channel(samples: &[i32], ch: usize, channels: usize, room: &mut [u8])
     requires here { ch < channels }
     requires few { channels ≤ 8 }
     requires room { length room.old ≡ length samples.now * (4 * channels) }
-    ensures { (i : ℕ) → i < length samples.now → PutBehind (4 * channels) (4 * ch) i (sample_bytes (get_or samples.now i (pos 0))) room.old room.new }
+    ensures { PutsChannel samples.now ch channels room.old room.new }
 {
     for i in 0..samples.len() {
         let at = i * (4 * channels) + 4 * ch;

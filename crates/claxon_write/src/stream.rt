@@ -1,15 +1,13 @@
 //! The samples of a stream, written as bytes.
-ghost use Rattle.std.specs.Prelude.{◌≡◌, ◌≤◌, false, IfOk, IfErr, Some};
+ghost use Rattle.std.specs.Prelude.{◌≡◌, ◌≤◌, false, Some};
 ghost use Rattle.claxon_format.specs.Frame.{IsWidth};
-ghost use Rattle.claxon_input.specs.State.{bytes_in};
 ghost use Rattle.claxon.specs.FlacReader.{flac_head, flac_metadata_only, flac_streaminfo};
-ghost use Rattle.claxon_frame.specs.FrameReader.{frame_bytes, frame_stream, stream_with};
+ghost use Rattle.claxon_frame.specs.FrameReader.{frame_bytes};
 ghost use Rattle.claxon.specs.Opening.{unread};
-ghost use Rattle.claxon_write.specs.Decoded.{Decodes, FailsToWrite, Gathers};
 ghost use Rattle.claxon_write.specs.Lent.{output_name};
 ghost use Rattle.claxon_write.specs.Run.{RunStops, RunsToTheEnd};
+ghost use Rattle.claxon_write.specs.WriteBlocks.{FailsToGatherBlocks, FailsToWriteBlocks, GathersBlocks, WritesBlocks};
 ghost use Rattle.claxon_write.specs.WriteSamples.{EachStreamFaultIsNamed, EachStreamIsWritten, WritesAll, WritesUpTo};
-ghost use Rattle.claxon_write.specs.Written.{output_failures};
 
 use crate::output::Output;
 use claxon::frame::FrameReader;
@@ -109,8 +107,8 @@ fn write_blocks<R: ReadBytes, W: Write, A: Allocator + Copy>(
     requires some { 1 ≤ info.bits_per_sample }
     requires most { info.bits_per_sample ≤ 32 }
     ensures same_reference { output_name output.new ≡ output_name output.old }
-    ensures ok { IfOk result (λ end. Decodes W.contents (Some (stream_with info)) end.fault end.count (bytes_in R.source input.old) (bytes_in R.source input.new) output.old output.new × (output_failures output.new ≡ output_failures output.old)) }
-    ensures err { IfErr result (λ error. FailsToWrite W.contents (Some (stream_with info)) error (bytes_in R.source input.old) output.old output.new) }
+    ensures ok { WritesBlocks W.contents R.source info result input.old input.new output.old output.new }
+    ensures err { FailsToWriteBlocks W.contents R.source info result input.old output.old output.new }
 {
     let mut frames = FrameReader::with_streaminfo(input, info);
     let end = gather_blocks(alloc, &mut frames, output)?;
@@ -126,8 +124,8 @@ fn gather_blocks<R: ReadBytes, W: Write, A: Allocator + Copy>(
 ) -> Result<End>
     ensures same_reference { output_name output.new ≡ output_name output.old }
     ensures loans { (frame_bytes R.source frames.new).loans ≡ (frame_bytes R.source frames.old).loans }
-    ensures ok { IfOk result (λ end. Gathers W.contents (frame_stream frames.old) end.fault end.count (frame_bytes R.source frames.old) (frame_bytes R.source frames.new) output.old output.new) }
-    ensures err { IfErr result (λ error. FailsToWrite W.contents (frame_stream frames.old) error (frame_bytes R.source frames.old) output.old output.new) }
+    ensures ok { GathersBlocks W.contents R.source result frames.old frames.new output.old output.new }
+    ensures err { FailsToGatherBlocks W.contents R.source result frames.old output.old output.new }
 {
     let mut count = 0u64;
     let mut buffer = Vec::new(alloc);
