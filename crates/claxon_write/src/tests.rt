@@ -1,10 +1,13 @@
 //! Streams run into writers of all kinds, and the words of a command line.
 ghost use Rattle.std.specs.Prelude.{◌≤◌};
 
-use crate::{Output, command, run, write_samples};
+use crate::{Output, command, run, words, write_samples};
 use claxon::{Error, FlacReader};
 use std::alloc::Global;
+use std::env::FillError;
 use std::io::{Cursor, ErrorKind, Read, Write};
+use std::process::Abort;
+use std::rt::Env;
 use std::test::Fail;
 use std::{env, fs, io, process};
 
@@ -85,21 +88,25 @@ impl Read for FailsOnce<'_> {
     }
 }
 
-// What a run ended with.
+// What a run ended with, whatever the cause of an `IoError` is.
 #[derive(PartialEq, Debug, Clone, Copy)]
 enum End {
     Clean(u64),
     Io,
-    BadFooter,
-    Other,
+    Format(&'static str),
+    Unsupported(&'static str),
+    Memory,
 }
+
+const BAD_FOOTER: End = End::Format("frame CRC mismatch");
 
 fn end_of(outcome: claxon::Result<u64>) -> End {
     match outcome {
         Ok(count) => End::Clean(count),
         Err(Error::IoError(_)) => End::Io,
-        Err(error) if error == Error::FormatError("frame CRC mismatch") => End::BadFooter,
-        Err(_) => End::Other,
+        Err(Error::FormatError(text)) => End::Format(text),
+        Err(Error::Unsupported(text)) => End::Unsupported(text),
+        Err(Error::OutOfMemory) => End::Memory,
     }
 }
 
@@ -193,61 +200,83 @@ const BLOCKS: [Blocks; 5] = [
     },
 ];
 
-#[test]
-fn blocks_of_channels(rt: HostRuntime) -> Result<(), Fail> {
-    for row in &BLOCKS {
-        let mut first = head(0x80);
-        first[20] = 0x3e + 2 * (row.channels & 15);
-        let (mut bytes, mut want) = (Vec::new(rt.alloc()), Vec::new(rt.alloc()));
-        bytes.extend_from_slice(&first)?;
-        bytes.extend_from_slice(row.frames)?;
-        for sample in row.samples {
-            want.extend_from_slice(&i32::from(*sample).cast_unsigned().to_le_bytes())?;
-        }
-        let mut output = Vec::new(rt.alloc());
-        let end = end_of(run(rt.alloc(), Cursor::new(bytes.as_slice()), &mut output));
-        assert_eq!(rt;
-            end,
-            End::Clean(row.samples.len() as u64),
-            "{}",
-            row.channels
-        );
-        assert_eq!(rt; output.as_slice(), want.as_slice(), "{}", row.channels);
-    }
-    Ok(())
+// What may stand between the streaminfo and the frames: nothing, padding, or comments.
+const BETWEEN: [&[u8]; 3] = [
+    &[],
+    &[0x81, 0x00, 0x00, 0x02, 0x00, 0x00],
+    &[
+        0x84, 0x00, 0x00, 0x0f, 0, 0, 0, 0, 1, 0, 0, 0, 3, 0, 0, 0, 0x58, 0x3d, 0x59,
+    ],
+];
+
+// The head of so many channels of 8 bits, these metadata blocks, and the frames.
+fn stream_of(alloc: Global, row: &Blocks, between: &[u8]) -> Result<Vec<u8>, Fail> {
+    let mut first = head(if between.is_empty() { 0x80 } else { 0x00 });
+    first[20] = 0x3e + 2 * (row.channels & 15);
+    let mut bytes = Vec::new(alloc);
+    bytes.extend_from_slice(&first)?;
+    bytes.extend_from_slice(between)?;
+    bytes.extend_from_slice(row.frames)?;
+    Ok(bytes)
 }
 
 // What opening a stream and writing its samples end with.
-fn opened_and_written(alloc: Global, bytes: &[u8], output: &mut Sink) -> End {
+fn opened_and_written(alloc: Global, bytes: &[u8], output: &mut Vec<u8>) -> End {
     match FlacReader::new(alloc, Cursor::new(bytes)) {
         Ok(flac) if !flac.is_metadata_only() => {
             let mut flac = flac;
             let mut output = Output::new(output);
             end_of(write_samples(alloc, &mut flac, &mut output))
         }
-        Ok(_) => End::Other,
+        Ok(_) => End::Unsupported("metadata alone"),
         Err(error) => end_of(Err(error)),
     }
 }
 
-// A stream that is cut at each place, and one with a bit turned in each byte.
+// What a run ends with and writes is what opening the stream and writing its samples do.
+fn check_run(rt: &(impl Abort + AllocGlobal), bytes: &[u8], at: usize) {
+    let alloc = rt.alloc();
+    let (mut one, mut other) = (Vec::new(alloc), Vec::new(alloc));
+    let end = end_of(run(alloc, Cursor::new(bytes), &mut one));
+    assert_eq!(rt; end, opened_and_written(alloc, bytes, &mut other), "{at}");
+    assert_eq!(rt; one.as_slice(), other.as_slice(), "{at}");
+}
+
 #[test]
-fn runs_of_damaged_streams(rt: HostRuntime) {
-    let whole = stream(0x58);
-    for at in 0..64usize {
-        let mut turned = whole;
-        turned[at] ^= 0x10;
-        for bytes in [&whole[..at], turned.as_slice()] {
-            let (mut one, mut other) = (Sink::new(32, 9, false), Sink::new(32, 9, false));
-            let end = end_of(run(rt.alloc(), Cursor::new(bytes), &mut one));
-            assert_eq!(rt;
-                end,
-                opened_and_written(rt.alloc(), bytes, &mut other),
-                "{at}"
-            );
-            assert_eq!(rt; one.written(), other.written(), "{at}");
+fn blocks_of_channels(rt: HostRuntime) -> Result<(), Fail> {
+    for row in &BLOCKS {
+        let mut want = Vec::new(rt.alloc());
+        for sample in row.samples {
+            want.extend_from_slice(&i32::from(*sample).cast_unsigned().to_le_bytes())?;
+        }
+        for between in BETWEEN {
+            let bytes = stream_of(rt.alloc(), row, between)?;
+            let mut output = Vec::new(rt.alloc());
+            let end = end_of(run(rt.alloc(), Cursor::new(bytes.as_slice()), &mut output));
+            let clean = End::Clean(row.samples.len() as u64);
+            assert_eq!(rt; end, clean, "{}", row.channels);
+            assert_eq!(rt; output.as_slice(), want.as_slice(), "{}", row.channels);
         }
     }
+    Ok(())
+}
+
+// Each stream, cut at each place, and with a bit turned in each byte.
+#[test]
+fn runs_of_damaged_streams(rt: HostRuntime) -> Result<(), Fail> {
+    for row in &BLOCKS {
+        for between in BETWEEN {
+            let mut bytes = stream_of(rt.alloc(), row, between)?;
+            check_run(&rt, &bytes, bytes.len());
+            for at in 0..bytes.len() {
+                check_run(&rt, &bytes[..at], at);
+                bytes[at] ^= 0x10;
+                check_run(&rt, &bytes, at);
+                bytes[at] ^= 0x10;
+            }
+        }
+    }
+    Ok(())
 }
 
 #[test]
@@ -294,14 +323,14 @@ fn failed_flushes(rt: HostRuntime) {
     // The decoder's fault stands.
     let mut output = Sink::new(8, 9, true);
     let end = end_of(run(rt.alloc(), Cursor::new(stream(0x59)), &mut output));
-    assert_eq!(rt; end, End::BadFooter);
+    assert_eq!(rt; end, BAD_FOOTER);
 }
 
 #[test]
 fn a_fault_after_samples(rt: HostRuntime) {
     let mut output = Sink::new(32, 9, false);
     let end = end_of(run(rt.alloc(), Cursor::new(stream(0x59)), &mut output));
-    assert_eq!(rt; end, End::BadFooter);
+    assert_eq!(rt; end, BAD_FOOTER);
     assert_eq!(rt; output.written(), &FIVES[..4]);
     assert!(rt; output.flushes > 0);
 }
@@ -473,4 +502,53 @@ fn a_usage_line_that_is_lost(rt: HostRuntime) {
     let mut errors = Sink::new(1, 0, false);
     let status = command(&rt, &words, &mut Sink::new(1, 0, false), &mut errors);
     assert_eq!(rt; status, 2);
+}
+
+// A command line of these words, the program's name among them.
+#[derive(Drop)]
+struct Given {
+    words: &'static [&'static [u8]],
+}
+
+impl Env for Given {
+    fn arg(&self, i: usize, buf: &mut [u8]) -> Result<usize, FillError> {
+        let Some(word) = self.words.get(i) else {
+            return Err(FillError::NotPresent);
+        };
+        if word.len() > buf.len() {
+            return Err(FillError::TooLong);
+        }
+        buf[..word.len()].copy_from_slice(*word);
+        Ok(word.len())
+    }
+
+    fn var(&self, _name: &str, _buf: &mut [u8]) -> Result<usize, FillError> {
+        Err(FillError::NotPresent)
+    }
+
+    fn var_at(&self, _i: usize, _buf: &mut [u8]) -> Result<usize, FillError> {
+        Err(FillError::NotPresent)
+    }
+}
+
+// Command lines, and their words: none where one isn't UTF-8.
+#[rattlefmt::skip]
+const COMMAND_LINES: [(&[&[u8]], &[&[u8]]); 5] = [
+    (&[], &[]),
+    (&[b"claxon_raw"], &[]),
+    (&[b"claxon_raw", b"--tags", b"a.flac"], &[b"--tags", b"a.flac"]),
+    (&[b"claxon_raw", b"", b"\xc3\xa9.flac", &[b'a'; 300]], &[b"", b"\xc3\xa9.flac", &[b'a'; 300]]),
+    (&[b"claxon_raw", b"a.flac", b"\xff.flac"], &[]),
+];
+
+#[test]
+fn words_of_command_lines(rt: HostRuntime) -> Result<(), Fail> {
+    for (given, want) in COMMAND_LINES {
+        let words = words(&(Given { words: given }, rt.alloc()))?;
+        assert_eq!(rt; words.len(), want.len());
+        for (word, want) in words.iter().zip(want) {
+            assert_eq!(rt; word.as_bytes(), *want);
+        }
+    }
+    Ok(())
 }
