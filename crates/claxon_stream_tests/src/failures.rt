@@ -1,11 +1,11 @@
 //! Memory that is refused.
 ghost use Rattle.std.specs.Prelude.{◌≤◌};
 
+use claxon::frame::FrameReader;
+use claxon::metadata::{MetadataBlock, read_metadata_block_with_header};
 use claxon_test_support::answers::{
     COMMENT, FRAME, Fault, Step, clean, fault_of, format, head, joined, mono, run_of, step_of,
 };
-use claxon::frame::FrameReader;
-use claxon::metadata::{MetadataBlock, read_metadata_block_with_header};
 use claxon_write::run;
 use linked_list_allocator::LocalHeap;
 use std::io::{self, Cursor, Write};

@@ -1,8 +1,8 @@
 //! Streams in files, and heads that are read alone.
-use claxon_test_support::answers::{COMMENT, FRAME, Fault, fault_of, head, joined, one_sample};
 use crate::openings::{OPTIONS, Opened, agree, head_shown, shown};
 use claxon::input::{BufferedReader, ReadBytes};
 use claxon::{FlacReader, FlacReaderOptions, read_head};
+use claxon_test_support::answers::{COMMENT, FRAME, Fault, fault_of, head, joined, one_sample};
 use std::io::Cursor;
 use std::test::Fail;
 use std::{env, fs, process};

@@ -1,11 +1,11 @@
 //! What opening a stream shows, under each choice of options, and what its blocks and samples are.
-use claxon_test_support::answers::{
-    COMMENT, FRAME, Fault, Run, Step, clean, fault_of, head, joined, mono, one_block, pair, run_of,
-};
 use crate::writer::{Kind, Places, frame_of};
 use claxon::input::BufferedReader;
 use claxon::metadata::{StreamInfo, Tags};
 use claxon::{FlacReader, FlacReaderOptions, read_head};
+use claxon_test_support::answers::{
+    COMMENT, FRAME, Fault, Run, Step, clean, fault_of, head, joined, mono, one_block, pair, run_of,
+};
 use std::alloc::Global;
 use std::io::{Cursor, Read};
 use std::process::Abort;

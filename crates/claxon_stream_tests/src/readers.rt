@@ -1,11 +1,11 @@
 //! Readers that give little, cut and fail.
+use claxon::FlacReader;
+use claxon::frame::FrameReader;
+use claxon::input::BufferedReader;
 use claxon_test_support::answers::{
     FRAME, Fault, Run, Step, after_error, format, head, joined, mono, next_step, one_sample, run_of,
 };
 use claxon_test_support::sources::{FailsOnce, OneByte};
-use claxon::FlacReader;
-use claxon::frame::FrameReader;
-use claxon::input::BufferedReader;
 use std::test::Fail;
 
 // What a stream gives that fails or is cut after so many samples of 5.

@@ -1,9 +1,9 @@
 //! Streams from their head to their end.
+use claxon::{FlacReader, FlacReaderOptions};
 use claxon_test_support::answers::{
     COMMENT, FRAME, Fault, Run, Step, clean, fault_of, head, joined, mono, one_block, one_sample,
     rest_of, run_of,
 };
-use claxon::{FlacReader, FlacReaderOptions};
 use std::alloc::Global;
 use std::io::Cursor;
 use std::process::Abort;

@@ -1,5 +1,5 @@
 -- Shifts and masks by a partition order.
-use Rattle.std.proofs.Common.{◌≡◌, ℕ, zero, suc, ◌+◌, ◌-◌, ◌*◌, ◌/◌, ◌%◌, ◌^◌, ◌<◌, ◌≤◌, refl, sym, ap, ◌∙◌, arith, bit_and, List, replicate}
+use Rattle.std.proofs.Common.{◌≡◌, ℕ, zero, suc, ◌+◌, ◌-◌, ◌*◌, ◌/◌, ◌%◌, ◌^◌, ◌<◌, ◌≤◌, refl, ap, ◌∙◌, arith, bit_and, replicate}
 use Rattle.std.proofs.lemmas.Nat.{and_mask, one_shl, pow_pos}
 use Rattle.claxon_format.specs.Residual.{partition_lengths}
 use Rattle.claxon_subframe.specs.Partitions.{lengths, total}

@@ -9,8 +9,8 @@ use Rattle.claxon_format.specs.Reading.{Reading, Done, Faulty, Short, bind, done
 use Rattle.claxon_input.specs.declared.error.Error.{Error}
 use Rattle.claxon_input.specs.State.{State}
 use Rattle.claxon_input.specs.Gives.{Went, Stops}
-use Rattle.claxon_input.proofs.FieldLoops.{with_front, front_none}
-use Rattle.claxon_input.proofs.CallsInTurn.{went_both, went_map, went_none, stops_after, StopsWith}
+use Rattle.claxon_input.proofs.FieldLoops.{with_front}
+use Rattle.claxon_input.proofs.CallsInTurn.{went_both, went_map, stops_after, StopsWith}
 use Rattle.claxon_format.specs.read.Residual.{joined_at}
 use Rattle.claxon_subframe.specs.Partitions.{lengths, total}
 

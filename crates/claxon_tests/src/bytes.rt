@@ -6,10 +6,10 @@ ghost use Rattle.claxon_format.specs.read.Bits.{number_at, unary_at};
 ghost use Rattle.claxon_input.specs.State.{bits_in};
 ghost use Rattle.claxon_input.specs.Gives.{Gives};
 
-use claxon_test_support::sources::{FailsOnce, OneByte, ZerosBetween};
 use claxon::input::{Bitstream, BufferedReader, ReadBytes};
 use claxon::{Error, Result as InputResult};
 use claxon_input::crc::Crc16Reader;
+use claxon_test_support::sources::{FailsOnce, OneByte, ZerosBetween};
 use std::io;
 use std::io::{Cursor, Read};
 use std::test::Fail;

@@ -1,14 +1,14 @@
 //! Frames, and how many bytes of them are taken.
 ghost use Rattle.std.specs.Prelude.{◌≤◌};
 
-use claxon_test_support::answers::{
-    FRAME, Fault, Shown, Step, format, mono, next_step, pair, step_of, stream_info,
-};
-use claxon_test_support::sources::OneByte;
 use claxon::Block;
 use claxon::frame::FrameReader;
 use claxon::input::BufferedReader;
 use claxon::metadata::StreamInfo;
+use claxon_test_support::answers::{
+    FRAME, Fault, Shown, Step, format, mono, next_step, pair, step_of, stream_info,
+};
+use claxon_test_support::sources::OneByte;
 use std::alloc::Global;
 use std::io::Cursor;
 use std::process::Abort;

@@ -1,6 +1,6 @@
 //! For each fault of a frame bytes that end where it is seen.
-use claxon_test_support::answers::{Fault, Step, format, next_step, stream_info};
 use claxon::frame::FrameReader;
+use claxon_test_support::answers::{Fault, Step, format, next_step, stream_info};
 use std::io::Cursor;
 use std::process::Abort;
 

@@ -1,10 +1,10 @@
 //! For each fault of a metadata block bytes that end where it is seen, and blocks one after another.
-use claxon_test_support::answers::{COMMENT, Fault, fault_of, joined};
 use claxon::Error;
 use claxon::metadata::{
     MetadataBlock, MetadataBlockReader, VorbisComment, read_metadata_block,
     read_metadata_block_with_header,
 };
+use claxon_test_support::answers::{COMMENT, Fault, fault_of, joined};
 use std::alloc::Global;
 use std::io::Cursor;
 use std::process::Abort;

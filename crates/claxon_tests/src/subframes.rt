@@ -1,9 +1,9 @@
 //! Subframes, and how many bits of them are taken.
 ghost use Rattle.std.specs.Prelude.{◌≤◌};
 
-use claxon_test_support::answers::{Fault, fault_of, first_four};
 use claxon::input::{Bitstream, ReadBytes};
 use claxon::subframe;
+use claxon_test_support::answers::{Fault, fault_of, first_four};
 use std::io::Cursor;
 use std::process::Abort;
 

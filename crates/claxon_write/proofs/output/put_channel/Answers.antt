@@ -1,4 +1,4 @@
-use Rattle.std.proofs.Common.{◌≡◌, ◌+◌, ◌*◌, ◌-◌, length, get_or, pos, arith, rules}
+use Rattle.std.proofs.Common.{◌≡◌, ◌*◌, length, get_or, pos, arith, rules}
 use Rattle.std.specs.Int.{w32}
 use mir.Val.{SFits}
 use Rattle.claxon_write.specs.SampleBytes.{sample_bytes}
