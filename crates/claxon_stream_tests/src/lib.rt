@@ -11,6 +11,8 @@ mod openings;
 #[cfg(test)]
 mod readers;
 #[cfg(test)]
+mod runs;
+#[cfg(test)]
 mod streams;
 #[cfg(test)]
 mod writer;

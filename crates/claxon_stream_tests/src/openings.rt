@@ -1,4 +1,5 @@
 //! What opening a stream shows, under each choice of options, and what its blocks and samples are.
+use crate::runs::check_run;
 use crate::writer::{Kind, Places, frame_of};
 use claxon::input::BufferedReader;
 use claxon::metadata::{StreamInfo, Tags};
@@ -88,7 +89,8 @@ pub fn agree(one: &Opened, other: &Opened) -> bool {
     }
 }
 
-// Under each choice of options a reader shows what the head alone does, and without any what it does by default.
+// Under each choice of options a reader shows what the head alone does, and without any what it does by default; and a run
+// gives what the reader does.
 fn check_agreement(rt: &(impl Abort + AllocGlobal), bytes: &[u8]) -> Result<(), Fail> {
     let alloc = rt.alloc();
     for options in OPTIONS {
@@ -108,6 +110,7 @@ fn check_agreement(rt: &(impl Abort + AllocGlobal), bytes: &[u8]) -> Result<(), 
             &head_shown(alloc, bytes, FlacReaderOptions::default())?
         )
     );
+    check_run(rt, bytes);
     Ok(())
 }
 

@@ -1,4 +1,5 @@
 //! Streams from their head to their end.
+use crate::runs::check_run;
 use claxon::{FlacReader, FlacReaderOptions};
 use claxon_test_support::answers::{
     COMMENT, FRAME, Fault, Run, Step, clean, fault_of, head, joined, mono, one_block, one_sample,
@@ -22,10 +23,11 @@ fn failed(count: usize, text: &'static str) -> Result<Run, Fault> {
     })
 }
 
-// What the stream of these parts gives.
-fn run_parts(alloc: Global, parts: &[&[u8]]) -> Result<Result<Run, Fault>, Fail> {
-    let bytes = joined(alloc, parts)?;
-    Ok(run_of(alloc, Cursor::new(bytes.as_slice())))
+// What the stream of these parts gives, by its samples and by a run.
+fn run_parts(rt: &(impl Abort + AllocGlobal), parts: &[&[u8]]) -> Result<Result<Run, Fault>, Fail> {
+    let bytes = joined(rt.alloc(), parts)?;
+    check_run(rt, &bytes);
+    Ok(run_of(rt.alloc(), Cursor::new(bytes.as_slice())))
 }
 
 #[test]
@@ -50,24 +52,23 @@ fn the_smallest_stream(rt: HostRuntime) -> Result<(), Fail> {
 
 #[test]
 fn samples(rt: HostRuntime) -> Result<(), Fail> {
-    let alloc = rt.alloc();
-    assert_eq!(rt; run_parts(alloc, &[&head(0x80)])?, clean(&[]));
-    assert_eq!(rt; run_parts(alloc, &[&head(0x80), &FRAME])?, clean(&[5]));
+    assert_eq!(rt; run_parts(&rt, &[&head(0x80)])?, clean(&[]));
+    assert_eq!(rt; run_parts(&rt, &[&head(0x80), &FRAME])?, clean(&[5]));
     assert_eq!(rt;
-        run_parts(alloc, &[&head(0x80), &FRAME, &FRAME])?,
+        run_parts(&rt, &[&head(0x80), &FRAME, &FRAME])?,
         clean(&[5, 5])
     );
     assert_eq!(rt;
-        run_parts(alloc, &[&head(0x80), &PAIRS])?,
+        run_parts(&rt, &[&head(0x80), &PAIRS])?,
         clean(&[3, -2, 3, -2])
     );
     let padding = [0x81, 0x00, 0x00, 0x00];
     assert_eq!(rt;
-        run_parts(alloc, &[&head(0x00), &padding, &FRAME])?,
+        run_parts(&rt, &[&head(0x00), &padding, &FRAME])?,
         clean(&[5])
     );
     // A header that names no width.
-    assert_eq!(rt; run_parts(alloc, &[&head(0x80), &NO_WIDTH])?, clean(&[5]));
+    assert_eq!(rt; run_parts(&rt, &[&head(0x80), &NO_WIDTH])?, clean(&[5]));
     Ok(())
 }
 
@@ -91,9 +92,9 @@ fn samples_before_a_fault(rt: HostRuntime) -> Result<(), Fail> {
         (0, bad_footer, "frame CRC mismatch"),
         (0, bad_header, "frame header CRC mismatch"),
     ] {
-        let run = run_parts(rt.alloc(), &[&head, &frame, &FRAME])?;
+        let run = run_parts(&rt, &[&head, &frame, &FRAME])?;
         assert_eq!(rt; run, failed(count, text));
-        let run = run_parts(rt.alloc(), &[&head, &FRAME, &frame, &FRAME])?;
+        let run = run_parts(&rt, &[&head, &FRAME, &frame, &FRAME])?;
         assert_eq!(rt; run, failed(1, text));
     }
     Ok(())
@@ -134,22 +135,21 @@ fn refused_markers(rt: HostRuntime) {
 
 #[test]
 fn refused_heads(rt: HostRuntime) -> Result<(), Fail> {
-    let alloc = rt.alloc();
     let (first, last) = (head(0x00), head(0x80));
-    let run = run_parts(alloc, &[&first[..4], &[0x81, 0x00, 0x00, 0x00]])?;
+    let run = run_parts(&rt, &[&first[..4], &[0x81, 0x00, 0x00, 0x00]])?;
     assert_eq!(rt; run, Err(Fault::Format("streaminfo block missing")));
-    let run = run_parts(alloc, &[&first, &last[4..]])?;
+    let run = run_parts(&rt, &[&first, &last[4..]])?;
     assert_eq!(rt;
         run,
         Err(Fault::Format("encountered second streaminfo block"))
     );
     let (more, done) = ([0x04, 0x00, 0x00, 0x13], [0x84, 0x00, 0x00, 0x13]);
-    let run = run_parts(alloc, &[&first, &more, &COMMENT, &done, &COMMENT])?;
+    let run = run_parts(&rt, &[&first, &more, &COMMENT, &done, &COMMENT])?;
     assert_eq!(rt;
         run,
         Err(Fault::Format("encountered second Vorbis comment block"))
     );
-    assert_eq!(rt; run_parts(alloc, &[&first])?, Err(Fault::Io));
+    assert_eq!(rt; run_parts(&rt, &[&first])?, Err(Fault::Io));
     Ok(())
 }
 
@@ -161,6 +161,7 @@ fn check_head(rt: &(impl Abort + AllocGlobal), changes: &[(u8, u8)], text: &'sta
             bytes[usize::from(*at)] = *byte;
         }
     }
+    check_run(rt, &bytes);
     let run = run_of(rt.alloc(), Cursor::new(bytes.as_slice()));
     assert_eq!(rt; run, Err(Fault::Format(text)));
 }
