@@ -60,7 +60,12 @@ const MOST_BLOCKS: u32 = 65536;
 
 /// Takes the head of a stream, and answers its streaminfo and, where wished and there, its Vorbis comments.
 ///
-/// Which blocks are taken the options say. An error has taken a front of the bytes to come.
+/// Which blocks are taken the options say; the input then stands at the first frame, if all were. Over a `Cursor` its
+/// position says how long the head is. (RFC 9639, sections 6 and 8.)
+///
+/// # Errors
+///
+/// Those of `FlacReader::new`. An error has taken a front of the bytes to come.
 pub fn read_head<R: ReadBytes, A: Allocator + Copy>(
     alloc: A,
     input: &mut R,

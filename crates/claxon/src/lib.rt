@@ -2,6 +2,37 @@
 //!
 //! `FlacReader` opens a stream and gives its blocks or its samples. `frame`, `subframe` and `metadata` read the same
 //! parts where they stand in other containers.
+//!
+//! # Example
+//!
+//! The loudest sample of a file, over one buffer for all blocks:
+//!
+//! ```
+//! fn peak(rt: &(impl Files<File = File> + AllocGlobal), name: &str) -> claxon::Result<u32> {
+//!     let mut flac = FlacReader::open(rt, name)?;
+//!     let mut blocks = flac.blocks();
+//!     let (mut buffer, mut peak) = (Vec::new(rt.alloc()), 0);
+//!     for _ in 0..u64::MAX {
+//!         let Some(block) = blocks.read_next_or_eof(buffer)? else {
+//!             break;
+//!         };
+//!         for channel in 0..block.channels() {
+//!             for sample in block.channel(channel) {
+//!                 peak = peak.max(sample.unsigned_abs());
+//!             }
+//!         }
+//!         buffer = block.into_buffer();
+//!     }
+//!     Ok(peak)
+//! }
+//! ```
+//!
+//! # Damaged streams
+//!
+//! A frame has a guard of 8 bits for its header and one of 16 for all of it, so one damaged bit is mostly one lost frame:
+//! an `Err`, after which `read_next_or_eof` may be called again and goes on at the first byte that wasn't taken. Where that
+//! is no frame, the calls that follow are refused too, two bytes at a time, until the bytes are at a frame again: a long
+//! stretch of damage is thousands of faults. No call searches for the next frame.
 #![tactic(auto)]
 
 mod head;

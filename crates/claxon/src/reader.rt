@@ -29,6 +29,17 @@ struct Head<A: Allocator = Global> {
 }
 
 /// A FLAC stream whose head was read.
+///
+/// ```
+/// let mut flac = FlacReader::open(rt, "music.flac")?;
+/// let info = flac.streaminfo();
+/// for artist in flac.get_tag("artist") {
+///     println!(rt; "{artist}")?;
+/// }
+/// for sample in flac.samples().take(usize::MAX) {
+///     sum = sum.wrapping_add(i64::from(sample?));
+/// }
+/// ```
 #[derive(Drop)]
 pub struct FlacReader<R, A: Allocator = Global> {
     head: Head<A>,
@@ -49,6 +60,19 @@ impl<R: Read, A: Allocator + Copy> FlacReader<R, A> {
     ghost use Rattle.claxon_metadata.specs.Tags.{tags_left, values_left};
 
     /// Reads the head of a stream, with the default options.
+    ///
+    /// The reader is wrapped in a buffer here, so it needs none of its own. Frames are read when they are asked for.
+    ///
+    /// ```
+    /// let mut flac = FlacReader::new(alloc, Cursor::new(bytes))?;
+    /// ```
+    ///
+    /// # Errors
+    ///
+    /// `FormatError` where the bytes aren't a head of a stream. `Unsupported` where a block of comments or of an application
+    /// says that it is larger than 10 MiB, or where there are more than 65,536 blocks: a small file can't ask for much
+    /// memory or time. `IoError` where the reader fails or its bytes end inside the head, `OutOfMemory` where memory is
+    /// refused. The reader is dropped then.
     pub fn new(alloc: A, reader: R) -> Result<FlacReader<R, A>>
     where
         R: Drop,
@@ -64,7 +88,11 @@ impl<R: Read, A: Allocator + Copy> FlacReader<R, A> {
         FlacReader::new_ext(alloc, reader, FlacReaderOptions::default())
     }
 
-    /// Reads the head of a stream, as far as the options say. After an error the reader is dropped.
+    /// Reads the head of a stream, as far as the options say.
+    ///
+    /// # Errors
+    ///
+    /// Those of `new`. The reader is dropped then.
     pub fn new_ext(alloc: A, reader: R, options: FlacReaderOptions) -> Result<FlacReader<R, A>>
     where
         R: Drop,
@@ -89,7 +117,9 @@ impl<R: Read, A: Allocator + Copy> FlacReader<R, A> {
         })
     }
 
-    /// The streaminfo.
+    /// The streaminfo: the samples' rate, channels, width and number, the sizes of blocks and frames, and the MD5 sum.
+    ///
+    /// Frames aren't compared with it, and the sum isn't computed.
     pub fn streaminfo(&self) -> StreamInfo
         ensures value { result ≡ flac_streaminfo self.now }
         ensures channels { (1 ≤ result.channels) × (result.channels ≤ 8) }
@@ -98,7 +128,7 @@ impl<R: Read, A: Allocator + Copy> FlacReader<R, A> {
         self.head.streaminfo
     }
 
-    /// The name of the program that wrote the stream, where comments are shown.
+    /// The name of the program that wrote the stream, as `reference libFLAC 1.4.2 20221022`, where comments are shown.
     pub fn vendor(&self) -> Option<&str>
         ensures { option_map (λ text. text.now) result ≡ vendor_of self.now }
     {
@@ -109,6 +139,9 @@ impl<R: Read, A: Allocator + Copy> FlacReader<R, A> {
     }
 
     /// The names and values of all tags, in order.
+    ///
+    /// A name may occur more than once, as `ARTIST` does where several play. Its bytes are from 0x20 to 0x7D, in the case
+    /// that the stream has; a value is any text.
     pub fn tags<'a>(&'a self) -> Tags<'a, A>
         ensures { tags_left result ≡ tags_of self.now }
     {
@@ -118,7 +151,8 @@ impl<R: Read, A: Allocator + Copy> FlacReader<R, A> {
         }
     }
 
-    /// The values of the tags of this name, in order. Upper and lower case of the letters A to Z aren't told apart.
+    /// The values of the tags of this name, in order. Upper and lower case of the letters A to Z aren't told apart, other
+    /// letters are: no tag has a name that holds one of those.
     pub fn get_tag<'a>(&'a self, tag_name: &'a str) -> GetTag<'a, A>
         ensures { values_left result ≡ values tag_name.now (tags_of self.now) }
     {
@@ -144,6 +178,18 @@ impl<R: Read, A: Allocator + Copy> FlacReader<R, A> {
     }
 
     /// A reader of the blocks from here on. What it hasn't taken when it is dropped a later one takes.
+    ///
+    /// This is the fast way: a block's samples stand in memory, channel after channel. A buffer whose capacity is the
+    /// streaminfo's `max_block_size` times `channels` holds each block of a stream that keeps to its streaminfo, and no
+    /// memory is taken then.
+    ///
+    /// ```
+    /// let mut blocks = flac.blocks();
+    /// while let Some(block) = blocks.read_next_or_eof(buffer)? {
+    ///     // block.channel(0), block.stereo_samples() ..
+    ///     buffer = block.into_buffer();
+    /// }
+    /// ```
     pub fn blocks(&mut self) -> FrameReader<&mut BufferedReader<R, A>>
         requires { flac_metadata_only self.old ≡ false }
         ensures* writes_back { sem 𝓛 (LendsBlocks R.row A.row A.Allocator self.entry result) }
@@ -157,6 +203,14 @@ impl<R: Read, A: Allocator + Copy> FlacReader<R, A> {
 
     /// An iterator over the samples from here on, the channels interleaved. A block of which a sample was given is taken
     /// whole, so what is left of it is lost when the iterator is dropped.
+    ///
+    /// Each sample is a `Result`, which costs more than the sample: where speed counts, take `blocks`.
+    ///
+    /// ```
+    /// for sample in flac.samples().take(usize::MAX) {
+    ///     sum = sum.wrapping_add(i64::from(sample?));
+    /// }
+    /// ```
     pub fn samples(&mut self) -> FlacSamples<&mut BufferedReader<R, A>, A>
         requires { flac_metadata_only self.old ≡ false }
         ensures* writes_back { sem 𝓛 (LendsSamples R.row A.row A.Allocator self.entry result) }
@@ -187,7 +241,15 @@ impl<R: Read, A: Allocator + Copy> FlacReader<R, A> {
 impl FlacReader<File> {
     ghost use Rattle.claxon.specs.Opening.{ShowsMetadataOnly};
 
-    /// Opens a file and reads its head, with the default options. A file that can't be opened is an `IoError`.
+    /// Opens a file and reads its head, with the default options. The file needs no `BufReader`.
+    ///
+    /// ```
+    /// let mut flac = FlacReader::open(rt, "music.flac")?;
+    /// ```
+    ///
+    /// # Errors
+    ///
+    /// Those of `new`, and an `IoError` where the file can't be opened.
     pub fn open<Q: Files<File = File> + AllocGlobal, P: AsPath>(
         rt: &Q,
         filename: P,
@@ -199,6 +261,10 @@ impl FlacReader<File> {
     }
 
     /// Opens a file and reads its head, as far as the options say.
+    ///
+    /// # Errors
+    ///
+    /// Those of `open`.
     pub fn open_ext<Q: Files<File = File> + AllocGlobal, P: AsPath>(
         rt: &Q,
         filename: P,

@@ -30,6 +30,9 @@ use std::alloc::{Allocator, Global};
 use stereo::unmix;
 
 /// Reads frames one after another.
+///
+/// Each call starts at a frame's header, where the input stands: no sync code is searched for. A container that holds
+/// frames apart, as Ogg and MP4 do, has a reader over each packet.
 #[derive(Drop)]
 pub struct FrameReader<R> {
     input: R,
@@ -73,8 +76,22 @@ impl<R: ReadBytes> FrameReader<R> {
     /// Reads the next block, into the buffer's memory where it suffices.
     ///
     /// None where fewer than two bytes are left, which are taken. What the buffer held, its length and its capacity don't
-    /// show in the block. Where its capacity is channels times block size or more no memory is taken; else `OutOfMemory` may
-    /// come after the header was taken. After an error the next call starts at the first byte not taken.
+    /// show in the block. Where its capacity is channels times block size or more no memory is taken. (RFC 9639, section 9.)
+    ///
+    /// ```
+    /// while let Some(block) = frames.read_next_or_eof(buffer)? {
+    ///     // block.channel(0), block.time() ..
+    ///     buffer = block.into_buffer();
+    /// }
+    /// ```
+    ///
+    /// # Errors
+    ///
+    /// `FormatError` where the bytes aren't a frame, be it that a guard doesn't fit; `Unsupported` where they are one that
+    /// isn't decoded: a width that neither header nor streaminfo gives, a side channel of 33 bits, a negative shift.
+    /// `IoError` where the source fails or the bytes end inside the frame. `OutOfMemory`, after the header was taken, where
+    /// the buffer is too small and memory for another is refused. After an error the next call starts at the first byte not
+    /// taken.
     pub fn read_next_or_eof<A: Allocator>(&mut self, buffer: Vec<i32, A>) -> FrameResult<A>
         ensures stream { frame_stream self.new ≡ frame_stream self.old }
         ensures some { BlockHasSamples result }

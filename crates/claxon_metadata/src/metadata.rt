@@ -444,6 +444,16 @@ fn read_bytes<R: ReadBytes, A: Allocator>(alloc: A, input: &mut R, count: u32) -
 ///
 /// After an Err and after the last block it answers None, and takes nothing from the input.
 /// It has no limit on the number of blocks.
+///
+/// ```
+/// for block in MetadataBlockReader::new(alloc, &mut input).take(1000) {
+///     match block? {
+///         MetadataBlock::StreamInfo(info) => rate = info.sample_rate,
+///         MetadataBlock::Padding { length } => unread += u64::from(length),
+///         _ => {}
+///     }
+/// }
+/// ```
 #[derive(Drop)]
 pub struct MetadataBlockReader<R: ReadBytes, A: Allocator = Global> {
     alloc: A,

@@ -58,7 +58,7 @@ impl<A: Allocator> Block<A> {
         }
     }
 
-    /// The number of samples of each channel before this block.
+    /// The number of samples of each channel before this block. In seconds: this by the streaminfo's sample rate.
     pub fn time(&self) -> u64
         ensures { result ≡ self.now.time }
     {
@@ -72,7 +72,7 @@ impl<A: Allocator> Block<A> {
         self.channels * self.duration
     }
 
-    /// The number of samples of each channel.
+    /// The number of samples of each channel. In seconds: this by the streaminfo's sample rate.
     pub fn duration(&self) -> u32
         ensures value { result ≡ duration_of self.now.channels }
         ensures each { AreOfLength result self.now.channels }
@@ -89,7 +89,7 @@ impl<A: Allocator> Block<A> {
         self.channels
     }
 
-    /// The samples of a channel.
+    /// The samples of a channel. The first one is channel 0.
     pub fn channel(&self, ch: u32) -> &[i32]
         requires { ch < length self.now.channels }
         ensures samples { slice_get self.now.channels ch ≡ Some result.now }
@@ -100,7 +100,7 @@ impl<A: Allocator> Block<A> {
         &self.buffer[start..end]
     }
 
-    /// The sample of a channel at a place.
+    /// The sample of a channel at a place. The first channel and the first place are 0.
     pub fn sample(&self, ch: u32, sample: u32) -> i32
         requires channel { ch < length self.now.channels }
         requires place { sample < duration_of self.now.channels }
