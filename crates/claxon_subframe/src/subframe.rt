@@ -112,8 +112,13 @@ pub fn extend_sign_u32(val: u32, bits: u32) -> i32
 
 /// Decodes one channel of as many samples as the buffer is long, each of `bps` bits.
 ///
-/// Whatever the buffer held is written over. After an error its samples are open. A width of 0 is refused, since no bit
-/// of it can be left. No memory is taken. (RFC 9639, section 9.2.)
+/// Whatever the buffer held is written over. No memory is taken. (RFC 9639, section 9.2.)
+///
+/// # Errors
+///
+/// `FormatError` where the bits aren't a subframe of this width and length; a width of 0 is refused too, since no bit of it
+/// can be left. `Unsupported` where a predictor's shift is negative. `IoError` where the bits end or the source fails. The
+/// buffer's samples are open then.
 pub fn decode<R: ReadBytes>(input: &mut Bitstream<R>, bps: u32, buffer: &mut [i32]) -> Result<()>
     requires width { bps ≤ 32 }
     requires block { length buffer.old < 65536 }

@@ -11,6 +11,10 @@ use std::rt::{Env, Files};
 use std::{env, fs};
 
 /// The arguments after the program's name, or none where one of them isn't UTF-8.
+///
+/// # Errors
+///
+/// `OutOfMemory` alone.
 pub fn words<Q: Env + Alloc>(rt: &Q) -> Result<Vec<String<Q::A>, Q::A>>
     ensures { IfErr result (λ error. error ≡ OutOfMemory) }
 {

@@ -184,7 +184,12 @@ impl<'w, W: Write> Output<'w, W> {
         writer.into_inner()
     }
 
-    /// Writes all that was gathered. After an error nothing of it is kept.
+    /// Writes all that was gathered.
+    ///
+    /// # Errors
+    ///
+    /// An `IoError` where a write fails, or writes nothing. A front of what was gathered was written then, and nothing of it
+    /// is kept.
     pub fn write_gathered(&mut self) -> Result<()>
         ensures same_reference { output_name self.new ≡ output_name self.old }
         ensures none_wait { waiting self.new ≡ [] }
@@ -210,6 +215,10 @@ impl<'w, W: Write> Output<'w, W> {
     }
 
     /// Writes all that was gathered, and flushes the writer.
+    ///
+    /// # Errors
+    ///
+    /// Those of `write_gathered`, and an `IoError` where the flush fails.
     pub fn flush(&mut self) -> Result<()>
         ensures same_reference { output_name self.new ≡ output_name self.old }
         ensures none_wait { waiting self.new ≡ [] }
@@ -235,6 +244,10 @@ impl<'w, W: Write> Output<'w, W> {
     }
 
     /// Gathers bytes, and writes where there is no more room.
+    ///
+    /// # Errors
+    ///
+    /// Those of `write_gathered`.
     pub fn put(&mut self, bytes: &[u8]) -> Result<()>
         ensures same_reference { output_name self.new ≡ output_name self.old }
         ensures ok { PutsAll W.contents bytes.now result self.old self.new }
@@ -249,6 +262,10 @@ impl<'w, W: Write> Output<'w, W> {
     }
 
     /// Gathers the samples of a block: for each place the sample of each channel, in four little-endian bytes.
+    ///
+    /// # Errors
+    ///
+    /// Those of `write_gathered`.
     #[tactic(auto, using(crate::proofs::MostPlaces::bytes_of_places))]
     pub fn put_block<A: Allocator>(&mut self, block: &Block<A>) -> Result<()>
         ensures same_reference { output_name self.new ≡ output_name self.old }

@@ -19,8 +19,11 @@ use std::io::{Read, Write};
 
 /// Writes each sample of the input as four little-endian bytes, and answers how many there are.
 ///
-/// Where the decoder fails all samples before the fault were written. How often the writer failed is not told: for that
-/// use `write_samples`.
+/// How often the writer failed is not told: for that use `write_samples`.
+///
+/// # Errors
+///
+/// The fault of the head, as `FlacReader::new` names it, and then nothing was written; else those of `write_samples`.
 pub fn run<R: Read + Drop, W: Write, A: Allocator + Copy>(
     alloc: A,
     input: R,
@@ -40,9 +43,11 @@ pub fn run<R: Read + Drop, W: Write, A: Allocator + Copy>(
 
 /// Writes each sample from here on as four little-endian bytes, flushes, and answers how many there were.
 ///
-/// The error is the first fault of the decoder or of the writer, an `IoError`. After a decoder's fault all samples before
-/// it were written, and the output was flushed; a flush that fails then changes nothing. After a failed write a front of
-/// the samples so far was written.
+/// # Errors
+///
+/// The first fault of the decoder, or of the writer, an `IoError`. After a decoder's fault all samples before it were
+/// written, and the output was flushed; a flush that fails then changes nothing. After a failed write a front of the samples
+/// so far was written. `Unsupported` where the samples are 2^64 or more.
 pub fn write_samples<R: Read + Drop, W: Write, A: Allocator + Copy>(
     alloc: A,
     flac: &mut FlacReader<R, A>,
