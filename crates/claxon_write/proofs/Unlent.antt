@@ -225,8 +225,9 @@ ran contents remaining flac s o (Ok n) b x y head is none h = record {
   stands = λ t.
       let all = head t in
       let k = all.1 in
-      let f = ends_frames (Some (stream_with (flac_streaminfo flac))) h.0.blocks None (flac_bytes remaining flac) b h.0.ends all.0 in
-      (flac_head flac, k.0, (flac_bytes remaining flac).coming, f.0, k.1, f.1, k.2);
+      let w = h.0.ends.blocks_are.went.known all.0 in
+      let few = (h.0.ends.last.promises.at_end refl w.told).0 in
+      (flac_head flac, k.0, (flac_bytes remaining flac).coming, h.0.ends.between.coming, k.1, w.is, few, k.2);
 }
 
 -- a decoder's fault behind a head

@@ -1,5 +1,5 @@
 -- Streams that are decoded into an `Output`.
-use Rattle.std.specs.Prelude.{◌≡◌, ◌≤◌, ◌⊎◌, ℕ, ◌+◌, ◌%◌, ◌^◌, true, List, [], ◌∷◌, ◌++◌, length, codes, Option, None, Some, IsErrAnd, Result, Ok, Err}
+use Rattle.std.specs.Prelude.{◌≡◌, ◌<◌, ◌≤◌, ◌⊎◌, ℕ, ◌+◌, ◌%◌, ◌^◌, true, List, [], ◌∷◌, ◌++◌, length, codes, Option, None, Some, IsErrAnd, Result, Ok, Err}
 use Rattle.std.specs.Io.KnownBytes.{Appends}
 use Rattle.claxon_format.specs.Frame.{StreamShape, Block, Frames}
 use Rattle.claxon_format.specs.Heads.{Head, HeadCode}
@@ -57,9 +57,9 @@ pub record FailsToWrite {W : Type 0} (contents : W → Option (List ℕ)) (strea
 abbrev pub WriterHasFailed : {A W : Type 0} → Result A Error → Output W → Output W → Type 0
 WriterHasFailed r before after = IsErrAnd r IsIo × (output_failures after ≡ (output_failures before + 1) % 2 ^ 64)
 
--- What is to come is a head, the frames of some blocks and a rest, and just the samples of these, n in number, were written.
+-- What is to come is a head, the frames of some blocks and a rest of fewer than two bytes, and just the samples of these blocks, n in number, were written.
 pub record Ran (n : ℕ) (s : State ℕ) (old new : Option (List ℕ)) : Type 0 where
   pub blocks : List Block
   pub count : n ≡ length (samples_of blocks)
   pub written : Appends old new (bytes_of_samples (samples_of blocks))
-  pub stands : s.told ≡ true → (h : Head) × (t : List ℕ) × (frames : List ℕ) × (rest : List ℕ) × HeadCode (with_samples true) h t × Frames (Some (stream_of h.info)) frames blocks rest × (s.coming ≡ t ++ frames)
+  pub stands : s.told ≡ true → (h : Head) × (t : List ℕ) × (frames : List ℕ) × (rest : List ℕ) × HeadCode (with_samples true) h t × Frames (Some (stream_of h.info)) frames blocks rest × (length rest < 2) × (s.coming ≡ t ++ frames)

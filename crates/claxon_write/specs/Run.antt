@@ -13,7 +13,7 @@ use Rattle.claxon.specs.SampleRuns.{samples_of}
 use Rattle.claxon_write.specs.Decoded.{IsLimit, Ran}
 use Rattle.claxon_write.specs.SampleBytes.{bytes_of_samples}
 
--- An Ok says that a head, frames and a rest were to come, and that just the samples of these, so many, were written.
+-- An Ok says that a head, the frames of blocks and a rest of fewer than two bytes were to come, and that just the samples of these blocks, so many, were written.
 abbrev pub RunsToTheEnd : {W : Type 0} → (W → Option (List ℕ)) → Result ℕ Error → State ℕ → W → W → Type 0
 RunsToTheEnd contents r s old new = IfOk r (λ n. Ran n s (contents old) (contents new))
 

@@ -29,7 +29,7 @@ pub fn run<R: Read + Drop, W: Write, A: Allocator + Copy>(
     input: R,
     output: &mut W,
 ) -> Result<u64>
-    // The input is a head and frames, and just the samples of these were written.
+    // The input is a head, frames and fewer than two bytes, and just the samples of these frames were written.
     ensures ok { RunsToTheEnd W.contents result (unread (R.remaining input)) output.old output.new }
     // A fault stands in the input, and just the samples before it were written; else it is an `IoError` or want of memory.
     ensures err { RunStops W.contents result (unread (R.remaining input)) output.old output.new }
