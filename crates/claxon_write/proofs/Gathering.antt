@@ -92,4 +92,4 @@ module _ {W : Type 0} {contents : W → Option (List ℕ)} {stream : Option Stre
   gathered_fails block {a = a} {c = c} h k f =
       let w = takes_more block h.frames k in
       let p = fails_as (more_bytes h.blocks block) (fails_after h.puts f) in
-      record { is_io = p.is_io; failures = p.failures; blocks = h.blocks ++ block_view block ∷ []; frames = λ told. (c.coming, (w.went.known told).is); front = p.front }
+      record { is_io = p.is_io; failures = p.failures; blocks = h.blocks ++ block_view block ∷ []; frames = λ told. (c.coming, (w.went.known told).is); front = p.front; none_wait = p.none_wait }

@@ -133,11 +133,11 @@ module _ {W : Type 0} {contents : W → Option (List ℕ)} {stream : Option Stre
   unfolding unlent
   fails_behind end {a = a} {b = b} h k =
       let p = fails_as (append-nil (bytes_of_samples (samples_of h.blocks))) (fails_after h.puts k) in
-      record { is_io = p.is_io; failures = p.failures; blocks = h.blocks; frames = ends_frames stream h.blocks end a b h.ends; front = p.front }
+      record { is_io = p.is_io; failures = p.failures; blocks = h.blocks; frames = ends_frames stream h.blocks end a b h.ends; front = p.front; none_wait = p.none_wait }
 
   pub fails_unlent_too : {error : Error} {a : State ℕ} {x y : Output W} → FailsToWrite contents stream error a x y → FailsToWrite contents stream error (unlent a) x y
   unfolding unlent
-  fails_unlent_too h = record { is_io = h.is_io; failures = h.failures; blocks = h.blocks; frames = h.frames; front = h.front }
+  fails_unlent_too h = record { is_io = h.is_io; failures = h.failures; blocks = h.blocks; frames = h.frames; front = h.front; none_wait = h.none_wait }
 
 -- the source of a loan
 abbrev pub lent : {R : Type 0} → (R → Source ℕ) → MutBor R → Source ℕ
@@ -173,14 +173,15 @@ module _ {W : Type 0} {contents : W → Option (List ℕ)} where
   flushed {x = x} {z = z} {w = w} h k e =
       record { blocks = h.blocks; ends = h.ends; count = h.count; written = appends_keeps (held_and_waiting contents x) (held contents z) (held contents w) (bytes_of_samples (samples_of h.blocks)) h.written k; none_wait = e ∙ h.none_wait }
 
-  flush_fails : {stream : Option StreamShape} {n : ℕ} {error : Error} {a b : State ℕ} {x z w : Output W} → Decodes contents stream None n a b x z → output_failures z ≡ output_failures x → Keeps (held contents z) (held contents w) → IsIo error
+  flush_fails : {stream : Option StreamShape} {n : ℕ} {error : Error} {a b : State ℕ} {x z w : Output W} → Decodes contents stream None n a b x z → output_failures z ≡ output_failures x → Keeps (held contents z) (held contents w) → waiting w ≡ waiting z → IsIo error
       → output_failures w ≡ (output_failures z + 1) % 2 ^ 64 → FailsToWrite contents stream error a x w
-  flush_fails {stream = stream} {a = a} {b = b} {x = x} {z = z} {w = w} h same k i f = record {
+  flush_fails {stream = stream} {a = a} {b = b} {x = x} {z = z} {w = w} h same k l i f = record {
     is_io = i;
     failures = f ∙ ap (λ (m : ℕ). (m + 1) % 2 ^ 64) same;
     blocks = h.blocks;
     frames = ends_frames stream h.blocks None a b h.ends;
     front = behind (held contents x) (held contents z) (held contents w) (waiting x) (bytes_of_samples (samples_of h.blocks)) h.written k;
+    none_wait = l ∙ h.none_wait;
   }
     where
       behind : (p q r : Option (List ℕ)) (v bytes : List ℕ) → Appends (append_known p v) q bytes → Keeps q r → AppendsFront p r (v ++ bytes)
@@ -203,9 +204,9 @@ module _ {W : Type 0} {contents : W → Option (List ℕ)} where
         subst (λ (i : StreamInfo). FailsToWrite contents (Some (stream_with i)) error (bytes_in source v) x y) head (subst (λ (r : R). FailsToWrite contents (Some (stream_with info)) error (bytes_in source r) x y) at h)
 
     pub flush_fails_shown : {end : Option Error} {n : ℕ} {error : Error} (q : R) {x z w : Output W} → end ≡ None → Decodes contents (Some (stream_with info)) end n (bytes_in source u) (bytes_in source q) x z → output_failures z ≡ output_failures x
-        → Keeps (held contents z) (held contents w) → IsIo error → output_failures w ≡ (output_failures z + 1) % 2 ^ 64 → FailsToWrite contents (Some (stream_with shown)) error (bytes_in source v) x w
-    flush_fails_shown {n = n} q {x = x} {z = z} e h same k i f =
-        fails_shown (flush_fails (subst (λ (f : Option Error). Decodes contents (Some (stream_with info)) f n (bytes_in source u) (bytes_in source q) x z) e h) same k i f)
+        → Keeps (held contents z) (held contents w) → waiting w ≡ waiting z → IsIo error → output_failures w ≡ (output_failures z + 1) % 2 ^ 64 → FailsToWrite contents (Some (stream_with shown)) error (bytes_in source v) x w
+    flush_fails_shown {n = n} q {x = x} {z = z} e h same k l i f =
+        fails_shown (flush_fails (subst (λ (f : Option Error). Decodes contents (Some (stream_with info)) f n (bytes_in source u) (bytes_in source q) x z) e h) same k l i f)
 
 -- ---- a whole run
 

@@ -45,13 +45,14 @@ pub record Decodes {W : Type 0} (contents : W → Option (List ℕ)) (stream : O
   pub written : Appends (held_and_waiting contents before) (held contents after) (bytes_of_samples (samples_of blocks))
   pub none_wait : waiting after ≡ []
 
--- The writer failed, which was counted: a front of what waited and of the samples of blocks whose frames stand there was written.
+-- The writer failed, which was counted: a front of what waited and of the samples of blocks whose frames stand there was written, and none wait any more.
 pub record FailsToWrite {W : Type 0} (contents : W → Option (List ℕ)) (stream : Option StreamShape) (error : Error) (old : State ℕ) (before after : Output W) : Type 0 where
   pub is_io : IsIo error
   pub failures : output_failures after ≡ (output_failures before + 1) % 2 ^ 64
   pub blocks : List Block
   pub frames : old.told ≡ true → (rest : List ℕ) × Frames stream old.coming blocks rest
   pub front : AppendsFront (held contents before) (held contents after) (waiting before ++ bytes_of_samples (samples_of blocks))
+  pub none_wait : waiting after ≡ []
 
 -- The answer is an `IoError`, and a write or flush failed, which was counted.
 abbrev pub WriterHasFailed : {A W : Type 0} → Result A Error → Output W → Output W → Type 0

@@ -29,4 +29,4 @@ returns-in_err-flushed-clause-err g c =
     let p = err_from_is_err_and c.from_residual-in_err-flushed.result c.from_residual-in_err-flushed.ensures.1 in
     let k = c.in_ok-end.ensures.ok in
     let f = c.flush_writer-flushed.ensures in
-    rw (p.1, p.2) (inr (flush_fails_shown (buffered_source g.R.Read.remaining) c.streaminfo-info.ensures.value c.input.ensures.input c.write_blocks.new.input c.in_default.is k.0 k.1 f.kept c.in_err-flushed.ensures.io c.in_err-flushed.ensures.failed))
+    rw (p.1, p.2) (inr (flush_fails_shown (buffered_source g.R.Read.remaining) c.streaminfo-info.ensures.value c.input.ensures.input c.write_blocks.new.input c.in_default.is k.0 k.1 f.kept f.waiting c.in_err-flushed.ensures.io c.in_err-flushed.ensures.failed))
