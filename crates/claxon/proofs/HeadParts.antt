@@ -7,54 +7,20 @@ use Rattle.claxon_format.specs.Comments.{Comment}
 use Rattle.claxon_format.specs.Fault.{SecondComment, SecondStreaminfo, StreaminfoMissing, TooManyBlocks}
 use Rattle.claxon_format.specs.Heads.{Options, Head, is_info, is_some, is_second, is_done, is_short, found_with, stream_marker}
 use Rattle.claxon_format.specs.read.Heads.{marker_at, others_at, after_first, head_at}
-use Rattle.claxon_format.specs.Metadata.{BlockHeader, BlockHeaderCode}
 use Rattle.claxon_format.specs.Reading.{Reading, Done, Faulty, Short, bind, test, pick, done}
 use Rattle.claxon_format.specs.Streaminfo.{Streaminfo}
 use Rattle.std.specs.Option as Options
-use Rattle.claxon_input.specs.declared.error.Error.{Error}
-use Rattle.claxon_input.specs.declared.error.Error.TheVariants.{OutOfMemory}
-use Rattle.claxon_input.specs.Source.{Source}
 use Rattle.claxon_input.specs.State.{State, bytes_in}
 use Rattle.claxon_input.specs.Gives.{Went, IsRest}
 use Rattle.claxon_input.proofs.CallsInTurn.{went_both, went_map, went_none, StopsAs}
 use Rattle.claxon_metadata.specs.MetadataBlock.{MayStarve, flagged_view, content_view, info_view}
-use Rattle.claxon.specs.ReadHead.{StarvesBehind, WantsMemory, found_view, other_at}
+use Rattle.claxon.specs.ReadHead.{PassesBlocks, found_view, other_at}
+use Rattle.claxon.proofs.HeadMemory.{passes_both, passes_other}
 use Rattle.claxon_metadata.specs.declared.metadata.StreamInfo.{StreamInfo}
 use Rattle.claxon_metadata.specs.declared.metadata.VorbisComment.{VorbisComment}
 use Rattle.claxon_metadata.specs.declared.metadata.MetadataBlock.{MetadataBlock}
 use Rattle.claxon_metadata.specs.declared.metadata.MetadataBlock.TheVariants.{StreamInfo as InfoBlock, Padding as PaddingBlock, Application as ApplicationBlock, SeekTable, VorbisComment as CommentBlock, CueSheet, Picture, Reserved as ReservedBlock}
 use Rattle.claxon_metadata.proofs.ContentByType.{stops_with}
-
--- ---- want of memory
-
-is_refused : {A : Type 0} (r : Result A Error) (e : Error) → (y : Error) × (r ≡ Err y) × (y ≡ e) → r ≡ Err OutOfMemory → e ≡ OutOfMemory
-is_refused r e p h =
-    let both : Err p.0 ≡ Err OutOfMemory = sym p.1 ∙ h in
-    let same : p.0 ≡ OutOfMemory = cc both in
-    sym p.2 ∙ same
-
--- behind the header of the next block
-pub starved_here : {A : Type 0} (a : State ℕ) {r : Result A Error} {e : Error} → (y : Error) × (r ≡ Err y) × (y ≡ e)
-    → (e ≡ OutOfMemory → a.told ≡ true → (h : BlockHeader) × (x : List ℕ) × (rest : List ℕ) × BlockHeaderCode h x × MayStarve h.type h.length rest × (a.coming ≡ x ++ rest)) → StarvesBehind r a
-starved_here a {r = r} {e = e} p h starved told = let t = h (is_refused r e p starved) told in ([], t.0, t.1, t.2, t.3, t.4, t.5)
-
--- a front was taken
-front_taken : {R : Type 0} (source : R → Source ℕ) (a b : R) {P : List ℕ → List ℕ → Type 0} → Went (bytes_in source a) (bytes_in source b) P → (bytes_in source a).told ≡ true → (t : List ℕ) × ((bytes_in source a).coming ≡ t ++ (bytes_in source b).coming)
-unfolding bytes_in IsRest
-front_taken source a b h told = (h.known told).rest (bytes_in source a).bytes ([], refl)
-
--- after some of it was taken
-pub starved_later : {R A : Type 0} (source : R → Source ℕ) (a b : R) {P : List ℕ → List ℕ → Type 0} {r : Result A Error} {e : Error} → (y : Error) × (r ≡ Err y) × (y ≡ e) → Went (bytes_in source a) (bytes_in source b) P
-    → (e ≡ OutOfMemory → (bytes_in source b).told ≡ true → WantsMemory (bytes_in source b).coming) → StarvesBehind r (bytes_in source a)
-starved_later source a b {r = r} {e = e} p w h starved told =
-    let t = h (is_refused r e p starved) (w.known told).told in
-    let f = front_taken source a b w told in
-    (f.0 ++ t.0, t.1, t.2, t.3, t.4, t.5, f.1 ∙ ap (λ (z : List ℕ). f.0 ++ z) t.6 ∙ sym (append_assoc f.0 t.0 (t.2 ++ t.3)))
-
--- the same where the header is the next one
-pub starved_next : {R A : Type 0} (source : R → Source ℕ) (a b : R) {P : List ℕ → List ℕ → Type 0} {r : Result A Error} {e : Error} → (y : Error) × (r ≡ Err y) × (y ≡ e) → Went (bytes_in source a) (bytes_in source b) P
-    → (e ≡ OutOfMemory → (bytes_in source b).told ≡ true → (h : BlockHeader) × (x : List ℕ) × (rest : List ℕ) × BlockHeaderCode h x × MayStarve h.type h.length rest × ((bytes_in source b).coming ≡ x ++ rest)) → StarvesBehind r (bytes_in source a)
-starved_next source a b p w h = starved_later source a b p w (λ m told. let t = h m told in ([], t.0, t.1, t.2, t.3, t.4, t.5))
 
 -- ---- one of the blocks after the streaminfo
 
@@ -165,11 +131,15 @@ others_stops suffices (suc k) found s some = go (block_at s)
 -- so many blocks may still come, and these comments were found
 pub record OthersSoFar (suffices : Bool) (most : ℕ) (found : Option Comment) (old new : State ℕ) : Type 0 where
   pub so_far : Went old new (λ s m. others_at suffices 65535 None s ≡ others_at suffices most found m)
+  pub passed : Went old new PassesBlocks
 
 pub others_next : {suffices : Bool} {most : ℕ} {found : Option Comment} (is_last : Bool) (next : Option Comment) {a b c : State ℕ} → 0 < most → (is_last || (suffices && is_some next)) ≡ false → OthersSoFar suffices most found a b
     → Went b c (λ s m. other_at found s ≡ Done (is_last, next) m) → OthersSoFar suffices (most - 1) next a c
 others_next {suffices = suffices} {most = most} {found = found} is_last next some going h k =
-    record { so_far = went_both _ h.so_far k (λ p q. p ∙ other_then suffices most found next is_last _ _ some q ∙ rw going refl) }
+    record {
+      so_far = went_both _ h.so_far k (λ p q. p ∙ other_then suffices most found next is_last _ _ some q ∙ rw going refl);
+      passed = went_both _ h.passed k (λ p q. passes_both p (passes_other found (is_last, next) _ _ q));
+    }
 
 pub others_done : {suffices : Bool} {most : ℕ} {found : Option Comment} (is_last : Bool) (next : Option Comment) {a b c : State ℕ} → 0 < most → (is_last || (suffices && is_some next)) ≡ true → OthersSoFar suffices most found a b
     → Went b c (λ s m. other_at found s ≡ Done (is_last, next) m) → Went a c (λ s m. others_at suffices 65535 None s ≡ Done next m)

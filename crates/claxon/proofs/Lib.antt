@@ -1,3 +1,4 @@
+pub mod HeadMemory
 pub mod HeadParts
 pub mod SamplesInTurn
 pub mod Opening

@@ -3,10 +3,11 @@ use Rattle.std.specs.Prelude.{◌≡◌, ◌++◌, ℕ, Bool, true, List, Option
 use Rattle.claxon_format.specs.read.MetadataBlocks.{block_at}
 use Rattle.claxon_format.specs.Comments.{Comment}
 use Rattle.claxon_format.specs.Fault.{SecondComment, SecondStreaminfo}
-use Rattle.claxon_format.specs.Heads.{Options, Head, HeadCode, HeadFault, is_info, is_second, found_with}
+use Rattle.claxon_format.specs.Heads.{Options, Head, HeadCode, HeadFault, Marker, is_info, is_second, found_with, stream_marker}
 use Rattle.claxon_format.specs.read.Heads.{head_at}
 use Rattle.claxon_format.specs.Metadata.{BlockHeader, BlockHeaderCode}
-use Rattle.claxon_format.specs.Reading.{Reading, and_then, done, test}
+use Rattle.claxon_format.specs.MetadataBlocks.{MetadataBlock, BlockCode}
+use Rattle.claxon_format.specs.Reading.{Each, Reading, and_then, done, test}
 use Rattle.claxon_input.specs.declared.error.Error.{Error}
 use Rattle.claxon_input.specs.declared.input.BufferedReader.{BufferedReader}
 use Rattle.claxon_input.specs.BufferedReader.{buffered_source}
@@ -42,12 +43,24 @@ unfoldable pub other_at : Option Comment → List ℕ → Reading ℕ (Bool × O
 other_at found =
     and_then block_at (λ b. test (is_info b.content) SecondStreaminfo (test (is_second found b.content) SecondComment (done (b.is_last, found_with found b.content))))
 
--- somewhere in s stands a header of a block of an application or of comments, whose length is one that it can have, and behind
--- that of comments the length of a vendor that fits
-abbrev pub WantsMemory : List ℕ → Type 0
-WantsMemory s = (front : List ℕ) × (h : BlockHeader) × (x : List ℕ) × (rest : List ℕ) × BlockHeaderCode h x × MayStarve h.type h.length rest × (s ≡ front ++ (x ++ rest))
+-- s is whole blocks, one after another, and m
+abbrev pub PassesBlocks : List ℕ → List ℕ → Type 0
+PassesBlocks s m = (blocks : List MetadataBlock) × (t : List ℕ) × Each BlockCode blocks t × (s ≡ t ++ m)
 
--- Memory is wanted only behind such a header.
+-- behind whole blocks stands the header of a block of an application or of comments, whose length is one that it can have,
+-- and behind that of comments the length of a vendor that fits
+abbrev pub BlockWantsMemory : List ℕ → Type 0
+BlockWantsMemory s = (m : List ℕ) × PassesBlocks s m × (h : BlockHeader) × (x : List ℕ) × (rest : List ℕ) × BlockHeaderCode h x × MayStarve h.type h.length rest × (m ≡ x ++ rest)
+
+-- it stands behind the marker of a stream
+abbrev pub WantsMemory : List ℕ → Type 0
+WantsMemory s = (t : List ℕ) × (m : List ℕ) × Marker stream_marker t × BlockWantsMemory m × (s ≡ t ++ m)
+
+-- Memory is wanted only behind whole blocks and such a header.
+abbrev pub StarvesBehindBlocks : {A : Type 0} → Result A Error → State ℕ → Type 0
+StarvesBehindBlocks r old = IsStarved r → old.told ≡ true → BlockWantsMemory old.coming
+
+-- Memory is wanted only behind the marker, whole blocks and such a header.
 abbrev pub StarvesBehind : {A : Type 0} → Result A Error → State ℕ → Type 0
 StarvesBehind r old = IsStarved r → old.told ≡ true → WantsMemory old.coming
 
@@ -69,8 +82,8 @@ InfoHasBounds result = IfOk result (λ shown. HasBounds shown.0)
 abbrev pub CommentHasPlaces : {A : Type 0} → HeadAnswer A → Type 0
 CommentHasPlaces result = IfOk result (λ shown. IfSome shown.1 (λ comment. HavePlaces comment.comments.items))
 
--- Memory is wanted only behind the header of a block of an application or of comments, whose length was tested, and for
--- comments only behind the length of a vendor that fits.
+-- Memory is wanted only behind the marker, whole blocks and the header of a block of an application or of comments, whose
+-- length was tested, and for comments only behind the length of a vendor that fits.
 abbrev pub HeadMayStarve : {R Z : Type 0} → (R → Source ℕ) → R → HeadAnswer Z → Type 0
 HeadMayStarve source old result = StarvesBehind result (bytes_in source old)
 

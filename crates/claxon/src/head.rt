@@ -6,7 +6,7 @@ ghost use Rattle.claxon_format.specs.Heads.{is_short, stream_marker};
 ghost use Rattle.claxon_input.specs.State.{bytes_in};
 ghost use Rattle.claxon_input.specs.Gives.{Gives, GivesOrStarves};
 ghost use Rattle.claxon_metadata.specs.VorbisComment.{HavePlaces};
-ghost use Rattle.claxon.specs.ReadHead.{CommentHasPlaces, EachHeadFaultIsNamed, EachHeadIsAnswered, HeadFaultWasTaken, HeadIsRead, HeadLeavesRest, HeadMayStarve, HeadWasTaken, InfoHasBounds, NoHeadIsIoError, StarvesBehind, found_view, head_view, other_at, other_view, wishes};
+ghost use Rattle.claxon.specs.ReadHead.{CommentHasPlaces, EachHeadFaultIsNamed, EachHeadIsAnswered, HeadFaultWasTaken, HeadIsRead, HeadLeavesRest, HeadMayStarve, HeadWasTaken, InfoHasBounds, NoHeadIsIoError, StarvesBehind, StarvesBehindBlocks, found_view, head_view, other_at, other_view, wishes};
 
 use crate::error::{Error, Result};
 use crate::input::ReadBytes;
@@ -133,7 +133,7 @@ fn read_other_blocks<R: ReadBytes, A: Allocator + Copy>(
     comments_suffice: bool,
 ) -> Result<Option<VorbisComment<A>>>
     ensures places { IfOk result (λ found. IfSome found (λ comment. HavePlaces comment.comments.items)) }
-    ensures memory { StarvesBehind result (bytes_in R.source input.old) }
+    ensures memory { StarvesBehindBlocks result (bytes_in R.source input.old) }
     ensures gives { GivesOrStarves found_view result (others_at comments_suffice 65535 None) (bytes_in R.source input.old) (bytes_in R.source input.new) }
 {
     let mut found = None;
@@ -168,7 +168,7 @@ fn read_other_block<R: ReadBytes, A: Allocator + Copy>(
 ) -> Result<(bool, Option<VorbisComment<A>>)>
     requires { IfSome found (λ comment. HavePlaces comment.comments.items) }
     ensures places { IfOk result (λ other. IfSome other.1 (λ comment. HavePlaces comment.comments.items)) }
-    ensures memory { StarvesBehind result (bytes_in R.source input.old) }
+    ensures memory { StarvesBehindBlocks result (bytes_in R.source input.old) }
     ensures gives { GivesOrStarves other_view result (other_at (found_view found)) (bytes_in R.source input.old) (bytes_in R.source input.new) }
 {
     let (is_last, block) = read_metadata_block_and_flag(alloc, input)?;

@@ -8,7 +8,8 @@ use Rattle.claxon_metadata.specs.MetadataBlock.{flagged_view}
 use Rattle.claxon.specs.ReadHead.{found_view, other_view}
 use Rattle.claxon_metadata.specs.declared.metadata.MetadataBlock.{MetadataBlock}
 use Rattle.claxon_input.proofs.Faults.{stops_fault}
-use Rattle.claxon.proofs.HeadParts.{starved_here, other_stops, other_info, other_second, other_done, is_found, other_kept}
+use Rattle.claxon.proofs.HeadMemory.{starved_here}
+use Rattle.claxon.proofs.HeadParts.{other_stops, other_info, other_second, other_done, is_found, other_kept}
 use Rattle.claxon_input.proofs.Memory.{starved_exit}
 use Rattle.claxon.proofs.head.read_other_block.Goals as goal
 

@@ -5,13 +5,14 @@ use Rattle.claxon_format.specs.Fault.{fault_text, TooManyBlocks}
 use Rattle.claxon_input.specs.declared.error.Error.{Error}
 use Rattle.claxon.specs.ReadHead.{found_view, other_view}
 use Rattle.claxon_input.proofs.Faults.{stops_fault}
-use Rattle.claxon.proofs.HeadParts.{starved_later, is_found, others_next, others_done, others_stop, others_too_many}
+use Rattle.claxon.proofs.HeadMemory.{starved_later}
+use Rattle.claxon.proofs.HeadParts.{is_found, others_next, others_done, others_stop, others_too_many}
 use Rattle.claxon_input.proofs.Memory.{starved_exit}
 use Rattle.claxon.proofs.head.read_other_blocks.Goals as goal
 
 pub returns-in_err-is_last-clause-memory : goal.returns-in_err-is_last-clause-memory
 returns-in_err-is_last-clause-memory g c =
-    starved_later g.R.ReadBytes.source _ _ (err_from_is_err_and c.from_residual.result c.from_residual.ensures.1) c.loop-most.invariant.read.so_far (λ q. c.in_err-is_last.ensures.memory (ap (λ (z : Error). Err z) q))
+    starved_later _ _ (err_from_is_err_and c.from_residual.result c.from_residual.ensures.1) c.loop-most.invariant.read.passed (λ q. c.in_err-is_last.ensures.memory (ap (λ (z : Error). Err z) q))
 
 pub returns-in_err-is_last-clause-gives : goal.returns-in_err-is_last-clause-gives
 returns-in_err-is_last-clause-gives g c =

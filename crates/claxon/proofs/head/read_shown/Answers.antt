@@ -8,7 +8,8 @@ use Rattle.claxon_metadata.specs.MetadataBlock.{flagged_view}
 use Rattle.claxon.specs.ReadHead.{found_view, head_view, wishes}
 use Rattle.claxon_metadata.specs.declared.metadata.MetadataBlock.{MetadataBlock}
 use Rattle.claxon_input.proofs.Faults.{stops_fault}
-use Rattle.claxon.proofs.HeadParts.{starved_next, starved_later, marker_stops, first_stops, no_streaminfo, head_begun, begun_short, begun_stops, begun_with, begun_without}
+use Rattle.claxon.proofs.HeadMemory.{starved_first, starved_after_first}
+use Rattle.claxon.proofs.HeadParts.{marker_stops, first_stops, no_streaminfo, head_begun, begun_short, begun_stops, begun_with, begun_without}
 use Rattle.claxon_input.proofs.Memory.{fed_exit, starved_exit}
 use Rattle.claxon.proofs.head.read_shown.Goals as goal
 
@@ -18,7 +19,7 @@ returns-in_err-read_stream_header-clause-gives g c =
 
 pub returns-in_err-is_last-clause-memory : goal.returns-in_err-is_last-clause-memory
 returns-in_err-is_last-clause-memory g c =
-    starved_next g.R.ReadBytes.source _ _ (err_from_is_err_and c.from_residual-in_err-is_last.result c.from_residual-in_err-is_last.ensures.1) c.in_ok-read_stream_header.ensures (λ q. c.in_err-is_last.ensures.memory (ap (λ (z : Error). Err z) q))
+    starved_first _ _ (err_from_is_err_and c.from_residual-in_err-is_last.result c.from_residual-in_err-is_last.ensures.1) c.in_ok-read_stream_header.ensures (λ q. c.in_err-is_last.ensures.memory (ap (λ (z : Error). Err z) q))
 
 pub returns-in_err-is_last-clause-gives : goal.returns-in_err-is_last-clause-gives
 returns-in_err-is_last-clause-gives g c =
@@ -37,8 +38,8 @@ returns-then-ends_with_streaminfo-clause-gives g c =
 
 pub returns-in_err-comment-clause-memory : goal.returns-in_err-comment-clause-memory
 returns-in_err-comment-clause-memory g c =
-    starved_later g.R.ReadBytes.source _ _ (err_from_is_err_and c.from_residual-in_err-comment.result c.from_residual-in_err-comment.ensures.1)
-    (went_both (λ s m. Unit {0}) c.in_ok-read_stream_header.ensures c.in_ok-is_last.ensures.gives (λ p q. tt)) (λ q. c.in_err-comment.ensures.memory (ap (λ (z : Error). Err z) q))
+    starved_after_first _ _ _ _ (err_from_is_err_and c.from_residual-in_err-comment.result c.from_residual-in_err-comment.ensures.1)
+    c.in_ok-read_stream_header.ensures c.in_ok-is_last.ensures.gives (λ q. c.in_err-comment.ensures.memory (ap (λ (z : Error). Err z) q))
 
 pub returns-in_err-comment-clause-gives : goal.returns-in_err-comment-clause-gives
 returns-in_err-comment-clause-gives g c =
