@@ -1,25 +1,29 @@
 -- Blocks that are read one after another, and the samples that calls gave of them.
 use Rattle.std.specs.Borrow.{MutBor}
-use Rattle.std.proofs.Common.{◌≡◌, ℕ, ◌+◌, ◌<◌, ◌≤◌, true, false, List, [], ◌∷◌, ◌++◌, length, refl, sym, ap, subst, ◌∙◌, append_assoc, arith, ℤ}
-use Rattle.std.specs.Prelude.{Bool, MatchBool, Option, None, Some, Result, Ok, Err}
-use Rattle.std.proofs.lemmas.List.{append-nil, length-append}
+use Rattle.std.proofs.Common.{◌≡◌, ◌⊎◌, inl, inr, ℕ, ◌+◌, ◌<◌, ◌≤◌, true, false, List, [], ◌∷◌, ◌++◌, length, refl, sym, ap, ap₂, subst, ◌∙◌, append_assoc, arith, ℤ}
+use Rattle.std.specs.Prelude.{Bool, IsOkAnd, IsSomeAnd, MatchBool, Option, None, Some, Result, Ok, Err}
+use Rattle.std.proofs.lemmas.List.{append-nil, append_cancel_left, length-append}
 use Rattle.claxon_format.specs.Bits.{bits, bits_of}
-use Rattle.claxon_format.specs.Frame.{StreamShape, Block, Frame, Frames, IsComplete}
+use Rattle.claxon_format.specs.Fault.{Fault}
+use Rattle.claxon_format.specs.Frame.{StreamShape, Block, Frame, FrameBytesFault, Frames, IsComplete, IsWidth, known_width}
 use Rattle.claxon_format.specs.Guards.{crc16}
 use Rattle.claxon_format.specs.Heads.{HeadCode}
 use Rattle.claxon_format.specs.Streams.{interleave, stream_of, with_samples}
 use Rattle.claxon_format.proofs.Bytes.{length-bits_of}
+use Rattle.claxon_format.proofs.Formats.{frames_told}
+use Rattle.claxon_format.proofs.FrameBytes.{one_block}
 use Rattle.claxon_format.proofs.Numbers.{length-bits}
 use Rattle.claxon_input.specs.declared.error.Error.{Error}
 use Rattle.claxon_input.specs.declared.input.BufferedReader.{BufferedReader}
 use Rattle.claxon_input.specs.BufferedReader.{buffered_source}
 use Rattle.claxon_input.specs.Source.{Source}
 use Rattle.claxon_input.specs.State.{State, bytes_in}
-use Rattle.claxon_input.specs.Promises.{Took}
+use Rattle.claxon_input.specs.Gives.{FailedIn, Went}
+use Rattle.claxon_input.specs.Promises.{Comes, IsExcused, Took}
 use Rattle.claxon_input.proofs.CallsInTurn.{went_none, went_both, went_told}
 use Rattle.claxon_frame.specs.Block.{BlockValue}
 use Rattle.claxon_frame.specs.FrameReader.{ReadsFrame, block_view}
-use Rattle.claxon.specs.FlacReader.{flac_head}
+use Rattle.claxon.specs.FlacReader.{flac_head, flac_input, samples_input}
 use Rattle.claxon.specs.FlacSamples.{BlockAnswer, NextSample, SamplesStep, have_failed, samples_bytes, samples_left, samples_stream}
 use Rattle.claxon.specs.Opening.{flac_bytes}
 use Rattle.claxon.specs.SampleRuns.{BeginsAt, Calls, GaveAll, GaveSamples, ReadsFrames, StreamOf, TakesFrames, end_answer, end_found, lent, samples_of}
@@ -148,7 +152,7 @@ module _ {R A : Type 0} (source : R → Source ℕ) where
       → SamplesStep source mid (end_answer end) new → GaveAll source old xs end new
   samples_to_the_end old xs mid end new e c step = gave_all (samples_in_turn old xs mid e c) end new step
 
--- ---- whole streams
+-- ---- the end of the frames
 
 -- a frame has two bytes or more
 frame_long : (stream : Option StreamShape) (b : Block) (t : List ℕ) → Frame stream b t → 2 ≤ length t
@@ -167,18 +171,65 @@ short_complete stream r short b t u c e =
 few_left : {stream : Option StreamShape} {blocks : List Block} {a b : State ℕ} (h : ReadsFrames stream blocks (Ok None) a b) → a.told ≡ true → length h.between.coming < 2
 few_left h told = (h.last.promises.at_end refl (h.blocks_are.went.known told).told).0
 
+-- ---- where the frames of blocks are to come, and then no frame
+
+-- what failed after something was done failed
+failed_after : {X : Type 0} {P : List X → List X → Type 0} {a b : State X} (c : State X) → Went a b P → FailedIn b c → FailedIn a c
+failed_after c w (inl f) = inl (λ p. f (p ∙ sym w.errors))
+failed_after c w (inr f) = inr ((λ p. f.0 (p ∙ sym w.empties)), f.1)
+
+pub excused_after : {X A : Type 0} {P : List X → List X → Type 0} {a b : State X} (c : State X) (r : Result A Error) → Went a b P → IsExcused r b c → IsExcused r a c
+excused_after c r w (inl e) = inl e
+excused_after c r w (inr f) = inr (f.0, failed_after c w f.1)
+
+not_found : (P : BlockValue → Type 0) (end : Option Error) → IsOkAnd (end_found end) (λ found. IsSomeAnd found P) → ⊥
+not_found P None h = h
+not_found P (Some e) h = h
+
+module _ (stream : Option StreamShape) (width : IsWidth (known_width stream)) where
+  -- where a fault stands no frame does
+  pub fault_complete : (f : Fault) (s t rest : List ℕ) → FrameBytesFault stream f t → s ≡ t ++ rest → IsComplete stream s
+  fault_complete f s t rest bad e block u v c p = (frames_told stream width).no_fault block f u t v rest c bad (sym p ∙ e)
+
+  -- frames that were read are the first ones of those that stand there
+  pub frames_left : (s m rest : List ℕ) (done blocks : List Block) → Frames stream s done m → Frames stream s blocks rest → IsComplete stream rest → (others : List Block) × (blocks ≡ done ++ others) × Frames stream m others rest
+  frames_left s m rest [] blocks d f c = (blocks, refl, subst (λ (z : List ℕ). Frames stream z blocks rest) d f)
+  frames_left s m rest (x ∷ done) [] d f c = absurd (c x d.0 d.1 d.2 (sym f ∙ d.3))
+  frames_left s m rest (x ∷ done) (y ∷ blocks) d f c =
+      let p = one_block stream width x y d.0 f.0 d.1 f.1 d.2 f.2 (sym d.3 ∙ f.3) in
+      let l : d.1 ≡ f.1 = append_cancel_left d.0 d.1 f.1 (sym d.3 ∙ f.3 ∙ ap (λ (z : List ℕ). z ++ f.1) (sym p.1)) in
+      let q = frames_left f.1 m rest done blocks (subst (λ (z : List ℕ). Frames stream z done m) l d.4) f.4 c in
+      (q.0, ap₂ (λ (z : Block) (zs : List Block). z ∷ zs) (sym p.0) q.1, q.2)
+
+  -- All of them were read and the last answer is of what follows, or it is excused.
+  pub behind : (end : Option Error) (done blocks : List Block) (m : List ℕ) {a b : State ℕ} (h : ReadsFrames stream done (end_found end) a b) → a.told ≡ true → Frames stream a.coming blocks m → IsComplete stream m
+      → ((blocks ≡ done) × Comes h.between m) ⊎ IsExcused (end_found end) a b
+  behind end done blocks m {a = a} {b = b} h told f c =
+      let w = h.blocks_are.went.known told in
+      let q = frames_left a.coming h.between.coming m done blocks w.is f c in
+      go q.0 q.1 q.2
+    where
+      go : (others : List Block) → blocks ≡ done ++ others → Frames stream h.between.coming others m → ((blocks ≡ done) × Comes h.between m) ⊎ IsExcused (end_found end) a b
+      go [] e g = inl (e ∙ append-nil done, record { told = (h.blocks_are.went.known told).told; are = g })
+      go (o ∷ others) e g = elim (h.last.promises.complete o g.0 g.1 g.2 (record { told = (h.blocks_are.went.known told).told; are = g.3 })) [
+        | inl p ↦ absurd (not_found _ end p.0)
+        | inr x ↦ inr (excused_after b (end_found end) h.blocks_are.went x)
+      ]
+
+-- ---- streams that were opened
+
 module _ {R A : Type 0} (remaining : R → Option (List ℕ)) where
-  -- what comes behind the loan comes
-  behind_loan : (flac : FlacReader R A) (s : FlacSamples (MutBor (BufferedReader R A)) A) → BeginsAt flac s
-      → ((samples_bytes (lent (buffered_source remaining)) s).coming ≡ (flac_bytes remaining flac).coming) × ((samples_bytes (lent (buffered_source remaining)) s).told ≡ (flac_bytes remaining flac).told)
+  -- what comes behind the loan of a reader's byte buffer is what comes
+  pub behind_loan : (flac : FlacReader R A) (input : MutBor (BufferedReader R A)) → input.now ≡ flac_input flac
+      → ((bytes_in (lent (buffered_source remaining)) input).coming ≡ (flac_bytes remaining flac).coming) × ((bytes_in (lent (buffered_source remaining)) input).told ≡ (flac_bytes remaining flac).told)
   unfolding bytes_in
-  behind_loan flac s h = (rw h.input refl, rw h.input refl)
+  behind_loan flac input is = (rw is refl, rw is refl)
 
   pub whole_streams : (wants : Bool) (s : State ℕ) (flac : FlacReader R A) (old new : FlacSamples (MutBor (BufferedReader R A)) A) (xs : List ℤ) → Took s (flac_bytes remaining flac) (HeadCode (with_samples wants) (flac_head flac))
       → BeginsAt flac old → GaveAll (lent (buffered_source remaining)) old xs None new → s.told ≡ true → StreamOf wants s.coming flac xs
   whole_streams wants s flac old new xs head begins gave told =
       let k = (head told).1 in
-      let here = behind_loan flac old begins in
+      let here = behind_loan flac (samples_input old) begins.input in
       let t : (samples_bytes (lent (buffered_source remaining)) old).told ≡ true = here.1 ∙ (head told).0 in
       let ends = gave.ends in
       let frames = (ends.blocks_are.went.known t).is in

@@ -1,14 +1,11 @@
 -- What a call answers that reads a whole stream of bytes in memory.
-use Rattle.std.proofs.Common.{◌≡◌, ◌⊎◌, inl, inr, ℕ, ℤ, ◌<◌, true, List, [], ◌∷◌, ◌++◌, length, Option, None, Some, refl, sym, ap, ap₂, subst, ◌∙◌, append-nil, Bor}
-use Rattle.std.specs.Prelude.{IfErr, IfOk, IsErrAnd, IsOkAnd, IsSomeAnd, Result, Ok, Err}
+use Rattle.std.proofs.Common.{◌≡◌, ◌⊎◌, inl, inr, ℕ, ℤ, ◌<◌, true, List, [], ◌∷◌, ◌++◌, length, Option, None, Some, refl, sym, ap, subst, ◌∙◌, Bor}
+use Rattle.std.specs.Prelude.{IfErr, IfOk, IsErrAnd, Result, Ok, Err}
 use Rattle.std.specs.declared.io.Cursor.{Cursor}
-use Rattle.std.proofs.lemmas.List.{append_cancel_left}
 use Rattle.claxon_format.specs.Fault.{Fault}
-use Rattle.claxon_format.specs.Frame.{Block, Frame, FrameBytesFault, Frames, IsComplete, IsWidth, StreamShape, known_width}
+use Rattle.claxon_format.specs.Frame.{Block, Frame, FrameBytesFault, Frames, IsComplete, IsWidth, StreamShape}
 use Rattle.claxon_format.specs.Heads.{Head, HeadCode, HeadFault}
 use Rattle.claxon_format.specs.Streams.{IsStream, stream_of, with_samples}
-use Rattle.claxon_format.proofs.Formats.{frames_told}
-use Rattle.claxon_format.proofs.FrameBytes.{one_block}
 use Rattle.claxon_input.specs.Cursor.{cursor_source}
 use Rattle.claxon_input.specs.Error.{IsFault}
 use Rattle.claxon_input.specs.Gives.{Went}
@@ -16,37 +13,15 @@ use Rattle.claxon_input.specs.Promises.{AnswersCode, Comes, IsExcused, IsStarved
 use Rattle.claxon_input.specs.State.{State, bytes_in}
 use Rattle.claxon_input.specs.declared.error.Error.{Error}
 use Rattle.claxon_input.specs.declared.error.Error.TheVariants.{OutOfMemory}
-use Rattle.claxon_frame.specs.Block.{BlockValue}
 use Rattle.claxon_frame.specs.FrameReader.{HeaderAlone}
 use Rattle.claxon.specs.ReadHead.{StarvesBehind, WantsMemory}
-use Rattle.claxon.specs.SampleRuns.{ReadsFrames, end_found, samples_of}
-use Rattle.claxon.proofs.SampleRuns.{short_complete}
+use Rattle.claxon.specs.SampleRuns.{end_found, samples_of}
+use Rattle.claxon.proofs.SampleRuns.{behind, excused_after, fault_complete, short_complete}
 use Rattle.claxon_uses.specs.Collecting.{Collects, LacksRoom, StopsCollecting}
 use Rattle.claxon_uses.specs.Fronts.{BeginsWith}
 use Rattle.claxon_uses.specs.StreamsInMemory.{EachStreamFaultIsTold, EachStreamIsDecoded, HasSamples, StarvesForStream, StreamFaultIsThere, StreamIsThere}
 use Rattle.claxon_uses.proofs.FramesInMemory.{took_front}
-use Rattle.claxon_input.proofs.InMemory.{cursor_just_starved, cursor_never_fails}
-
--- ---- frames that stand there, and those that were read
-
-module _ (stream : Option StreamShape) (width : IsWidth (known_width stream)) where
-  -- frames that were read are the first ones of those that stand there
-  frames_left : (s m rest : List ℕ) (done blocks : List Block) → Frames stream s done m → Frames stream s blocks rest → IsComplete stream rest → (others : List Block) × (blocks ≡ done ++ others) × Frames stream m others rest
-  frames_left s m rest [] blocks d f c = (blocks, refl, subst (λ (z : List ℕ). Frames stream z blocks rest) d f)
-  frames_left s m rest (x ∷ done) [] d f c = absurd (c x d.0 d.1 d.2 (sym f ∙ d.3))
-  frames_left s m rest (x ∷ done) (y ∷ blocks) d f c =
-      let p = one_block stream width x y d.0 f.0 d.1 f.1 d.2 f.2 (sym d.3 ∙ f.3) in
-      let l : d.1 ≡ f.1 = append_cancel_left d.0 d.1 f.1 (sym d.3 ∙ f.3 ∙ ap (λ (z : List ℕ). z ++ f.1) (sym p.1)) in
-      let q = frames_left f.1 m rest done blocks (subst (λ (z : List ℕ). Frames stream z done m) l d.4) f.4 c in
-      (q.0, ap₂ (λ (z : Block) (zs : List Block). z ∷ zs) (sym p.0) q.1, q.2)
-
-  -- where a fault stands no frame does
-  fault_complete : (f : Fault) (s : List ℕ) → BeginsWith (FrameBytesFault stream f) s → IsComplete stream s
-  fault_complete f s begins block t u c e = (frames_told stream width).no_fault block f t begins.0 u begins.1 c begins.2 (sym e ∙ begins.3)
-
-not_found : (P : BlockValue → Type 0) (end : Option Error) → IsOkAnd (end_found end) (λ found. IsSomeAnd found P) → ⊥
-not_found P None h = h
-not_found P (Some e) h = h
+use Rattle.claxon_input.proofs.InMemory.{cursor_just_starved}
 
 not_starved : {A : Type 0} (x : A) → (let q : Result A Error = Ok x in q) ≡ Err OutOfMemory → ⊥
 not_starved x p = cc
@@ -62,27 +37,12 @@ Slice = Cursor (Bor (List ℕ))
 abbrev pub slice_state : Slice → State ℕ
 slice_state c = bytes_in (cursor_source (λ (s : Bor (List ℕ)). s.now)) c
 
+just_starved : {A : Type 0} (r : Result A Error) (b after : Slice) → IsExcused r (slice_state b) (slice_state after) → IsStarved r
+just_starved r b after x = cursor_just_starved (λ (s : Bor (List ℕ)). s.now) r b after x
+
 -- an excuse behind frames that were read is want of memory
 starved_behind : {A : Type 0} {P : List ℕ → List ℕ → Type 0} (r : Result A Error) (b after : Slice) (mid : State ℕ) → Went (slice_state b) mid P → IsExcused r mid (slice_state after) → IsStarved r
-starved_behind r b after mid w (inl s) = s
-starved_behind r b after mid w (inr (h, inl f)) = absurd (cursor_never_fails (λ (s : Bor (List ℕ)). s.now) b after (inl (λ p. f (p ∙ sym w.errors))))
-starved_behind r b after mid w (inr (h, inr f)) = absurd (cursor_never_fails (λ (s : Bor (List ℕ)). s.now) b after (inr ((λ p. f.0 (p ∙ sym w.empties)), f.1)))
-
-module _ (stream : Option StreamShape) (width : IsWidth (known_width stream)) (b after : Slice) where
-  -- All frames that stand there were read, and the last answer is of what follows, or memory was refused.
-  behind : (end : Option Error) (done blocks : List Block) (rest : List ℕ) (h : ReadsFrames stream done (end_found end) (slice_state b) (slice_state after)) → (slice_state b).told ≡ true → Frames stream (slice_state b).coming blocks rest → IsComplete stream rest
-      → ((blocks ≡ done) × Comes h.between rest) ⊎ IsStarved (end_found end)
-  behind end done blocks rest h told f c =
-      let w = h.blocks_are.went.known told in
-      let q = frames_left stream width (slice_state b).coming h.between.coming rest done blocks w.is f c in
-      go q.0 q.1 q.2
-    where
-      go : (others : List Block) → blocks ≡ done ++ others → Frames stream h.between.coming others rest → ((blocks ≡ done) × Comes h.between rest) ⊎ IsStarved (end_found end)
-      go [] e g = inl (e ∙ append-nil done, record { told = (h.blocks_are.went.known told).told; are = g })
-      go (o ∷ others) e g = elim (h.last.promises.complete o g.0 g.1 g.2 (record { told = (h.blocks_are.went.known told).told; are = g.3 })) [
-        | inl p ↦ absurd (not_found _ end p.0)
-        | inr x ↦ inr (starved_behind (end_found end) b after h.between h.blocks_are.went x)
-      ]
+starved_behind r b after mid w x = just_starved r b after (excused_after (slice_state after) r w x)
 
 -- ---- the whole call
 
@@ -185,7 +145,7 @@ module _ {X Z : Type 0} (view : X → List ℤ) (show : Z → Head) (bytes : Lis
     -- what follows the frames that were read
     module _ (end : Option Error) (xs : List ℤ) (h : Collects (cursor_source (λ (s : Bor (List ℕ)). s.now)) (Some stream) b end xs) where
       past : (g : Head) (blocks : List Block) (rest : List ℕ) → IsStream true bytes g blocks rest → ((blocks ≡ h.blocks) × Comes h.ends.between rest) ⊎ IsStarved (end_found end)
-      past g blocks rest st = let s = same_head g blocks rest st in behind (Some stream) width b h.after end h.blocks blocks rest h.ends told s.1.0 s.1.1
+      past g blocks rest st = let s = same_head g blocks rest st in elim (behind (Some stream) width end h.blocks blocks rest h.ends told s.1.0 s.1.1) [ inl p ↦ inl p | inr x ↦ inr (just_starved (end_found end) b h.after x) ]
 
       named_past : (f : Fault) (g : Head) (blocks : List Block) (rest : List ℕ) → IsStream true bytes g blocks rest → BeginsWith (FrameBytesFault (Some (stream_of g.info)) f) rest → IsErrAnd (end_found end) (IsFault f) ⊎ IsStarved (end_found end)
       named_past f g blocks rest st begins = elim (past g blocks rest st) [
@@ -226,7 +186,7 @@ module _ {X Z : Type 0} (view : X → List ℤ) (show : Z → Head) (bytes : Lis
             | inr (inr bad) ↦ inr (inr (
                 let f = bad w.told in
                 let begins = took_front h.ends.between (slice_state h.after) h.ends.between.coming here f.2 in
-                let st = stands h.blocks h.ends.between.coming w.is (fault_complete (Some stream) width f.0 h.ends.between.coming begins) in
+                let st = stands h.blocks h.ends.between.coming w.is (fault_complete (Some stream) width f.0 h.ends.between.coming begins.0 begins.1 begins.2 begins.3) in
                 (f.0, f.1, inr (show z, h.blocks, h.ends.between.coming, st, subst (λ (q : StreamShape). BeginsWith (FrameBytesFault (Some q) f.0) h.ends.between.coming) is begins))
                 ))
           ];
