@@ -1,6 +1,9 @@
 pub mod Collecting
+pub mod FirstSamples
 pub mod Fronts
 pub mod FramesInMemory
 pub mod GuardedPair
 pub mod Packets
 pub mod StreamsInMemory
+pub mod Tags
+pub mod Verified

@@ -1,10 +1,18 @@
 //! Callers of the decoder, proved from its contracts: each says what it does in terms of the bytes that it is handed.
 #![tactic(auto)]
 
+mod blocks;
+mod damaged;
 mod frames;
 mod guarded;
+mod samples;
 mod streams;
+mod tags;
 
+pub use blocks::peak;
+pub use damaged::{Found, verify};
 pub use frames::{decode_one, decode_packet};
 pub use guarded::read_guarded_pair;
+pub use samples::first_samples;
 pub use streams::decode_all;
+pub use tags::{list_tags, tag_lines};

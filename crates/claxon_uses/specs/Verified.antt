@@ -1,0 +1,110 @@
+-- What is found in a stream that may be damaged: frames and faults, one behind another.
+use Rattle.std.specs.Prelude.{◌≡◌, ◌⊎◌, ◌↔◌, ◌<◌, ◌+◌, ℕ, false, true, List, [], ◌∷◌, ◌++◌, codes, length, Option, Some, IfErr, IfOk, IsTrue, Ok, Err, Result}
+use Rattle.std.specs.List.{sum_by}
+use Rattle.claxon.specs.Error.{IsFault, IsIo, is_io, is_memory}
+use Rattle.claxon.specs.Fault.{Fault}
+use Rattle.claxon.specs.Frame.{Block, Frame, FrameBytesFault, StreamShape}
+use Rattle.claxon.specs.FrameReader.{frame_bytes, frame_stream}
+use Rattle.claxon.specs.Heads.{Head, HeadCode, HeadFault}
+use Rattle.claxon.specs.Opening.{unread}
+use Rattle.claxon.specs.Source.{Source}
+use Rattle.claxon.specs.State.{State}
+use Rattle.claxon.specs.Streams.{duration, stream_of, with_samples}
+use Rattle.claxon_frame.specs.declared.frame.FrameReader.{FrameReader}
+use Rattle.claxon_input.specs.declared.error.Error.{Error}
+use Rattle.claxon_input.specs.declared.error.Error.TheVariants.{OutOfMemory, Unsupported}
+use Rattle.claxon_uses.specs.Fronts.{BeginsWith}
+use Rattle.claxon_uses.specs.declared.damaged.Found.{Found}
+
+-- the frame of a block, or a fault
+abbrev pub Part : Type 0
+Part = Result Block Fault
+
+-- its bytes
+abbrev pub PartBytes : Option StreamShape → Part → List ℕ → Type 0
+PartBytes stream (Ok block) t = Frame stream block t
+PartBytes stream (Err f) t = FrameBytesFault stream f t
+
+-- s is these parts, one behind another, and r
+abbrev pub Parts : Option StreamShape → List ℕ → List Part → List ℕ → Type 0
+Parts stream s [] r = s ≡ r
+Parts stream s (part ∷ parts) r = (t : List ℕ) × (m : List ℕ) × PartBytes stream part t × (s ≡ t ++ m) × Parts stream m parts r
+
+-- ---- how many there are
+
+abbrev pub frames_of : Part → ℕ
+frames_of (Ok block) = 1
+frames_of (Err f) = 0
+
+abbrev pub faults_of : Part → ℕ
+faults_of (Ok block) = 0
+faults_of (Err f) = 1
+
+-- of each channel
+abbrev pub samples_of : Part → ℕ
+samples_of (Ok block) = duration block.channels
+samples_of (Err f) = 0
+
+-- These are the numbers of all of them together.
+pub record AreCounted (parts : List Part) (found : Found) : Type 0 where
+  pub frames : found.frames ≡ sum_by frames_of parts
+  pub faults : found.faults ≡ sum_by faults_of parts
+  pub samples : found.samples ≡ sum_by samples_of parts
+
+-- One part more is counted.
+pub record CountsPart (frames faults samples : ℕ) (old new : Found) : Type 0 where
+  pub frames_are : new.frames ≡ old.frames + frames
+  pub faults_are : new.faults ≡ old.faults + faults
+  pub samples_are : new.samples ≡ old.samples + samples
+
+-- So far just parts were taken, and these were counted.
+pub record TakesParts (stream : Option StreamShape) (old new : State ℕ) (found : Found) : Type 0 where
+  pub taken : old.told ≡ true → (new.told ≡ true) × ((parts : List Part) × Parts stream old.coming parts new.coming × AreCounted parts found)
+
+-- The blocks to come are such parts up to their end.
+abbrev pub CountsParts : {R : Type 0} → (R → Source ℕ) → FrameReader R → Found → Type 0
+CountsParts source blocks found =
+    (frame_bytes source blocks).told ≡ true
+    → (parts : List Part) × (rest : List ℕ) × Parts (frame_stream blocks) (frame_bytes source blocks).coming parts rest × AreCounted parts found × (length rest < 2)
+
+-- ---- a whole stream
+
+-- It is right where no part is a fault, and there are as many samples as the streaminfo says, where it doesn't say 0.
+abbrev pub IsRight : Head → Found → Type 0
+IsRight head found = IsTrue found.is_right ↔ ((found.faults ≡ 0) × ((head.info.samples ≡ 0) ⊎ (head.info.samples ≡ found.samples)))
+
+-- s is a head, parts that were counted, and fewer than two bytes.
+pub record IsVerified (s : List ℕ) (found : Found) : Type 0 where
+  pub head : Head
+  pub front : List ℕ
+  pub frames : List ℕ
+  pub parts : List Part
+  pub rest : List ℕ
+  pub code : HeadCode (with_samples true) head front
+  pub joined : s ≡ front ++ frames
+  pub parts_are : Parts (Some (stream_of head.info)) frames parts rest
+  pub few : length rest < 2
+  pub counted : AreCounted parts found
+  pub right : IsRight head found
+
+-- it is too much to be counted
+abbrev pub IsTooMany : Error → Type 0
+IsTooMany (Unsupported text) = text.now ≡ codes "more than 18446744073709551615 frames, faults or samples"
+IsTooMany _ = ⊥
+
+-- an error that no part of a stream has
+abbrev pub IsUncounted : Error → Type 0
+IsUncounted e = (e ≡ OutOfMemory) ⊎ (IsIo e ⊎ IsTooMany e)
+
+-- an error of another kind than these
+abbrev pub NamesPart : Error → Type 0
+NamesPart e = (is_memory e ≡ false) × (is_io e ≡ false)
+
+module _ {R : Type 0} (remaining : R → Option (List ℕ)) (reader : R) (result : Result Found Error) where
+  -- What is to come was counted up to its end.
+  abbrev pub StreamIsVerified : Type 0
+  StreamIsVerified = IfOk result (λ found. (unread (remaining reader)).told ≡ true → IsVerified (unread (remaining reader)).coming found)
+
+  -- An Err is the name of the fault of a head that stands there, or no fault of the stream.
+  abbrev pub CannotBeVerified : Type 0
+  CannotBeVerified = IfErr result (λ e. IsUncounted e ⊎ ((unread (remaining reader)).told ≡ true → (f : Fault) × IsFault f e × BeginsWith (HeadFault (with_samples true) f) (unread (remaining reader)).coming))

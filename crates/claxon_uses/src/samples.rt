@@ -1,0 +1,25 @@
+//! The samples of a stream, one by one.
+ghost use Rattle.claxon_uses.specs.FirstSamples.{FirstFaultIsThere, FirstSamplesAreThere};
+
+use claxon::{FlacReader, Result};
+use std::alloc::Allocator;
+use std::io::Read;
+
+/// The first samples of a stream, for each place of a block the sample of each channel: so many, or all where it has fewer.
+///
+/// An error names the first fault of the stream; it is an `IoError` where its bytes end within the head or a frame.
+pub fn first_samples<R: Read + Drop, A: Allocator + Copy>(
+    alloc: A,
+    reader: R,
+    count: usize,
+) -> Result<Vec<i32, A>>
+    ensures sound { FirstSamplesAreThere count R.remaining reader result }
+    ensures fault { FirstFaultIsThere count R.remaining reader result }
+{
+    let mut flac = FlacReader::new(alloc, reader)?;
+    let mut first = Vec::new(alloc);
+    for sample in flac.samples().take(count) {
+        first.push(sample?)?;
+    }
+    Ok(first)
+}
