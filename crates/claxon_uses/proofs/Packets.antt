@@ -11,7 +11,7 @@ use Rattle.claxon_input.specs.State.{State}
 use Rattle.claxon_frame.specs.Block.{BlockValue}
 use Rattle.claxon_frame.specs.FrameReader.{ReadsFrame, block_view}
 use Rattle.claxon_uses.specs.Fronts.{BeginsWith}
-use Rattle.claxon_uses.specs.Packets.{EachPacketFaultIsTold, EachPacketIsDecoded, HasMoreThanFrame, PacketIsBlock, PacketIsRefused}
+use Rattle.claxon_uses.specs.Packets.{EachPacketFaultIsTold, EachPacketIsDecoded, HasMoreThanFrame, PacketIsBlock, PacketIsRefused, PacketStarvesAtHeader}
 use Rattle.claxon_uses.proofs.FramesInMemory.{FrameInMemory}
 
 -- all that is promised of such a call
@@ -20,6 +20,14 @@ pub record PacketAnswer (stream : Option StreamShape) (packet : List ℕ) (r : R
   pub complete : EachPacketIsDecoded stream packet r
   pub refused : PacketIsRefused stream packet r
   pub named : EachPacketFaultIsTold stream packet r
+  pub memory : PacketStarvesAtHeader stream packet r
+
+-- another error is no want of memory
+other_than_memory : {A : Type 0} (e : Error) (text : List ℕ) → IsFormatError e text → (let q : Result A Error = Err e in q) ≡ Err OutOfMemory → ⊥
+other_than_memory e text is starved =
+    let k : e ≡ OutOfMemory = cc in
+    let none : IsFormatError OutOfMemory text = rw k at is in
+    none
 
 module _ (stream : Option StreamShape) (packet : List ℕ) where
   -- a whole packet stands at its front
@@ -36,6 +44,7 @@ module _ (stream : Option StreamShape) (packet : List ℕ) where
     complete = λ block c. elim (m.complete block (whole_begins c)) [ inl p ↦ absurd p | inr s ↦ inr (same_starved e s) ];
     refused = elim m.fault [ inl p ↦ inl p | inr (inl i) ↦ inr (inl i) | inr (inr f) ↦ inr (inr (inl f)) ];
     named = λ f c. elim (m.named f c) [ inl p ↦ inl p | inr s ↦ inr (same_starved e s) ];
+    memory = λ s. m.memory (same_starved e s);
   }
 
   not_starved : {A : Type 0} (x : A) → (let q : Result A Error = Ok x in q) ≡ Err OutOfMemory → ⊥
@@ -48,6 +57,7 @@ module _ (stream : Option StreamShape) (packet : List ℕ) where
     complete = λ block c. absurd (elim (m.complete block (whole_begins c)) [ inl p ↦ p | inr s ↦ not_starved None s ]);
     refused = inr (inr (inr (inl (m.end.0 refl, is))));
     named = λ f c. absurd (elim (m.named f c) [ inl p ↦ p | inr s ↦ not_starved None s ]);
+    memory = λ s. absurd (other_than_memory e (codes "packet without a frame") is s);
   }
 
   module _ (block : BlockValue) (slice : List ℕ) (at : ℕ) (a b : State ℕ) (start : Comes a packet) (left : Comes b (drop at slice)) (reads : ReadsFrame stream (Ok (Some block)) a b) (m : FrameInMemory stream packet (Ok (Some block))) where
@@ -66,6 +76,7 @@ module _ (stream : Option StreamShape) (packet : List ℕ) where
           complete = λ other c. elim (m.complete other (whole_begins c)) [ inl p ↦ inl p | inr s ↦ absurd (not_starved (Some block) s) ];
           refused = tt;
           named = λ f c. elim (m.named f c) [ inl p ↦ inl p | inr s ↦ absurd (not_starved (Some block) s) ];
+          memory = λ s. absurd (not_starved block s);
         }
 
     more_than : (rest : List ℕ) → drop at slice ≡ rest → 0 < length rest → (e : Error) → IsFormatError e (codes "packet of more than a frame") → HasMoreThanFrame stream packet e
@@ -85,4 +96,5 @@ module _ (stream : Option StreamShape) (packet : List ℕ) where
           ]);
           refused = inr (inr (inr (inr (more_than (drop at slice) refl some e is))));
           named = λ f c. absurd (elim (m.named f c) [ inl p ↦ p | inr s ↦ not_starved (Some block) s ]);
+          memory = λ s. absurd (other_than_memory e (codes "packet of more than a frame") is s);
         }

@@ -4,7 +4,7 @@ use Rattle.claxon.specs.Block.{BlockValue}
 use Rattle.claxon.specs.Fault.{Fault}
 use Rattle.claxon.specs.Frame.{StreamShape, Block, Frame, FrameBytesFault}
 use Rattle.claxon.specs.Error.{IsFault, IsFormatError, IsIo}
-use Rattle.claxon.specs.FrameReader.{block_view}
+use Rattle.claxon.specs.FrameReader.{HeaderAlone, block_view}
 use Rattle.claxon.specs.Promises.{IsStarved}
 use Rattle.claxon_input.specs.declared.error.Error.{Error}
 use Rattle.claxon_input.specs.declared.error.Error.TheVariants.{OutOfMemory}
@@ -35,3 +35,7 @@ module _ (stream : Option StreamShape) (packet : List ℕ) (result : Result Bloc
   -- Any fault that it begins with is named, if memory is found.
   abbrev pub EachPacketFaultIsTold : Type 0
   EachPacketFaultIsTold = (f : Fault) → BeginsWith (FrameBytesFault stream f) packet → IsErrAnd result (IsFault f) ⊎ IsStarved result
+
+  -- Memory is wanted only where it begins with the header of a frame that has samples.
+  abbrev pub PacketStarvesAtHeader : Type 0
+  PacketStarvesAtHeader = IsStarved result → BeginsWith (HeaderAlone stream 0) packet

@@ -2,7 +2,7 @@
 ghost use Rattle.std.specs.Prelude.{◌≤◌, None, Some};
 ghost use Rattle.claxon.specs.FrameReader.{stream_with};
 ghost use Rattle.claxon_uses.specs.FramesInMemory.{BlockIsThere, EachBlockIsDecoded, EachFaultIsTold, FaultIsThere, NoneIsNoFrame, StarvesAtHeader};
-ghost use Rattle.claxon_uses.specs.Packets.{EachPacketFaultIsTold, EachPacketIsDecoded, PacketIsBlock, PacketIsRefused};
+ghost use Rattle.claxon_uses.specs.Packets.{EachPacketFaultIsTold, EachPacketIsDecoded, PacketIsBlock, PacketIsRefused, PacketStarvesAtHeader};
 
 use claxon::frame::{FrameReader, FrameResult};
 use claxon::metadata::StreamInfo;
@@ -41,6 +41,7 @@ pub fn decode_packet<A: Allocator>(
     ensures complete { EachPacketIsDecoded (Some (stream_with info)) packet.now result }
     ensures refused { PacketIsRefused (Some (stream_with info)) packet.now result }
     ensures named { EachPacketFaultIsTold (Some (stream_with info)) packet.now result }
+    ensures memory { PacketStarvesAtHeader (Some (stream_with info)) packet.now result }
 {
     let mut frames = FrameReader::with_streaminfo(Cursor::new(packet), info);
     let Some(block) = frames.read_next_or_eof(buffer)? else {

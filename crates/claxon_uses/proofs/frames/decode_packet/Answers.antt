@@ -16,7 +16,7 @@ returns-in_err-block g c =
     let m = frame_in_memory (Some (stream_with c.args.info)) c.args.packet.now (slice_bytes old) (slice_bytes new) comes (slice_never_fails old new) _ reads e.ended in
     let p = err_from_is_err_and c.from_residual.result c.from_residual.ensures.1 in
     let k = packet_failed (Some (stream_with c.args.info)) c.args.packet.now _ m in
-    rw (p.1, p.2) (record { sound = k.sound; complete = k.complete; refused = k.refused; named = k.named })
+    rw (p.1, p.2) (record { sound = k.sound; complete = k.complete; refused = k.refused; named = k.named; memory = k.memory })
 
 pub returns-in_default : goal.returns-in_default
 returns-in_default g c =
@@ -27,7 +27,7 @@ returns-in_default g c =
     let reads = known_as {a = slice_bytes old} {b = slice_bytes new} c.with_streaminfo-frames.ensures.stream (reads_frame _ e.sound e.complete e.at_end e.ended e.no_failure e.fault e.named e.io e.front e.memory e.gives) in
     let m = frame_in_memory (Some (stream_with c.args.info)) c.args.packet.now (slice_bytes old) (slice_bytes new) comes (slice_never_fails old new) (Ok c.in_ok-block.field-0) reads e.ended in
     let k = packet_without (Some (stream_with c.args.info)) c.args.packet.now _ (rw c.in_default.is at m) refl in
-    record { sound = k.sound; complete = k.complete; refused = k.refused; named = k.named }
+    record { sound = k.sound; complete = k.complete; refused = k.refused; named = k.named; memory = k.memory }
 
 pub returns-then-position-slice : goal.returns-then-position-slice
 returns-then-position-slice g c =
@@ -39,7 +39,7 @@ returns-then-position-slice g c =
     let reads = known_as {a = slice_bytes old} {b = slice_bytes new} c.with_streaminfo-frames.ensures.stream (rw c.in-Some.is at (reads_frame _ e.sound e.complete e.at_end e.ended e.no_failure e.fault e.named e.io e.front e.memory e.gives)) in
     let m = frame_in_memory (Some (stream_with c.args.info)) c.args.packet.now (slice_bytes old) (slice_bytes new) comes (slice_never_fails old new) _ reads (rw c.in-Some.is at e.ended) in
     let k = packet_of_more (Some (stream_with c.args.info)) c.args.packet.now c.in-Some.block _ c.position.result (slice_bytes old) (slice_bytes new) comes left reads m c.if-position-slice.true _ refl in
-    record { sound = k.sound; complete = k.complete; refused = k.refused; named = k.named }
+    record { sound = k.sound; complete = k.complete; refused = k.refused; named = k.named; memory = k.memory }
 
 pub returns : goal.returns
 returns g c =
@@ -51,4 +51,4 @@ returns g c =
     let reads = known_as {a = slice_bytes old} {b = slice_bytes new} c.with_streaminfo-frames.ensures.stream (rw c.in-Some.is at (reads_frame _ e.sound e.complete e.at_end e.ended e.no_failure e.fault e.named e.io e.front e.memory e.gives)) in
     let m = frame_in_memory (Some (stream_with c.args.info)) c.args.packet.now (slice_bytes old) (slice_bytes new) comes (slice_never_fails old new) _ reads (rw c.in-Some.is at e.ended) in
     let k = packet_whole (Some (stream_with c.args.info)) c.args.packet.now c.in-Some.block _ c.position.result (slice_bytes old) (slice_bytes new) comes left reads m c.if-position-slice.false in
-    record { sound = k.sound; complete = k.complete; refused = k.refused; named = k.named }
+    record { sound = k.sound; complete = k.complete; refused = k.refused; named = k.named; memory = k.memory }
