@@ -12,6 +12,8 @@ mod header_faults;
 #[cfg(test)]
 mod metadata;
 #[cfg(test)]
+mod predictors;
+#[cfg(test)]
 mod subframes;
 #[cfg(test)]
 mod zeros;

@@ -1,9 +1,9 @@
 //! Subframes, and how many bits of them are taken.
-ghost use Rattle.std.specs.Prelude.{◌≤◌};
+ghost use Rattle.std.specs.Prelude.{◌≤◌, length};
 
 use claxon::input::{Bitstream, ReadBytes};
 use claxon::subframe;
-use claxon_test_support::answers::{Fault, fault_of, first_four};
+use claxon_test_support::answers::{Fault, fault_of};
 use std::io::Cursor;
 use std::process::Abort;
 
@@ -17,27 +17,51 @@ fn bits_left<R: ReadBytes>(bits: &mut Bitstream<R>) -> u64 {
     u64::MAX
 }
 
-// The first four samples of a subframe of so many samples of this width, or the fault, and how many bits were taken.
-fn decode(bytes: &[u8], width: u32, len: u8) -> (Result<[i32; 4], Fault>, u64)
-    requires { width ≤ 32 }
+// Whether a subframe of samples of this width fills the buffer, or the fault, and how many bits were taken.
+fn decode(bytes: &[u8], width: u32, buffer: &mut [i32]) -> (Result<(), Fault>, u64)
+    requires width { width ≤ 32 }
+    requires few { length buffer.old ≤ 255 }
 {
-    let mut buffer = [13; 255];
-    let buffer = &mut buffer[..usize::from(len)];
     let mut bits = Bitstream::new(Cursor::new(bytes));
     let answer = match subframe::decode(&mut bits, width, buffer) {
-        Ok(()) => Ok(first_four(buffer)),
+        Ok(()) => Ok(()),
         Err(error) => Err(fault_of(&error)),
     };
     let all = (bytes.len() as u64).saturating_mul(8);
     (answer, all.saturating_sub(bits_left(&mut bits)))
 }
 
+/// In a block of so many places the subframe is the front of these samples, or has this fault, and takes so many bits.
+pub fn check_places(
+    rt: &impl Abort,
+    bytes: &[u8],
+    width: u32,
+    places: usize,
+    want: Result<&[i32], Fault>,
+    end: u64,
+)
+    requires { width ≤ 32 }
+{
+    let mut buffer = [13; 64];
+    assert!(rt; places <= 64);
+    let buffer = &mut buffer[..places];
+    let (answer, taken) = decode(bytes, width, buffer);
+    assert_eq!(rt; answer, want.map(|_| ()), "{bytes:?} {places}");
+    assert_eq!(rt; taken, end, "{bytes:?} {places}");
+    if let Ok(samples) = want {
+        assert!(rt; samples.starts_with(&*buffer), "{bytes:?} {places}");
+    }
+}
+
 // Each of the subframes, of samples of 8 bits, is these samples, with its end in its last byte.
 fn check(rt: &impl Abort, rows: &[(&[u8], &[i32])]) {
     for (bytes, want) in rows {
-        assert!(rt; want.len() < 256);
-        let (answer, taken) = decode(*bytes, 8, want.len() as u8);
-        assert_eq!(rt; answer, Ok(first_four(*want)), "{bytes:?}");
+        let mut buffer = [13; 16];
+        assert!(rt; want.len() <= 16);
+        let buffer = &mut buffer[..want.len()];
+        let (answer, taken) = decode(*bytes, 8, buffer);
+        assert_eq!(rt; answer, Ok(()), "{bytes:?}");
+        assert_eq!(rt; &*buffer, *want, "{bytes:?}");
         assert_eq!(rt; taken.div_ceil(8), bytes.len() as u64, "{bytes:?}");
     }
 }
@@ -45,21 +69,20 @@ fn check(rt: &impl Abort, rows: &[(&[u8], &[i32])]) {
 // Each of the subframes, of so many samples of 8 bits, is refused after so many bits.
 fn check_refusals(rt: &impl Abort, rows: &[(&[u8], u8, Fault, u64)]) {
     for (bytes, len, fault, taken) in rows {
-        assert_eq!(rt; decode(*bytes, 8, *len), (Err(*fault), *taken), "{bytes:?}");
+        check_places(rt, *bytes, 8, usize::from(*len), Err(*fault), *taken);
     }
 }
 
 #[test]
 fn verbatim_of_twelve_bits(rt: HostRuntime) {
-    let (answer, taken) = decode(&[0x02, 0xff, 0xf7, 0xff], 12, 2);
-    assert_eq!(rt; answer, Ok([-1, 2047, 0, 0]));
-    assert_eq!(rt; taken, 32);
+    let bytes = [0x02, 0xff, 0xf7, 0xff];
+    check_places(&rt, &bytes, 12, 2, Ok(&[-1, 2047]), 32);
 }
 
 #[test]
 fn no_width(rt: HostRuntime) {
     let fault = Fault::Format("subframe has no non-wasted bits");
-    assert_eq!(rt; decode(&[0x00, 0x00], 0, 1), (Err(fault), 8));
+    check_places(&rt, &[0x00, 0x00], 0, 1, Err(fault), 8);
 }
 
 #[test]
@@ -211,5 +234,5 @@ fn no_samples(rt: HostRuntime) {
             (&[0x10, 0x00, 0x00], &[]),
         ],
     );
-    assert_eq!(rt; decode(&[0x10, 0x00], 8, 0), (Err(Fault::Io), 16));
+    check_places(&rt, &[0x10, 0x00], 8, 0, Err(Fault::Io), 16);
 }
