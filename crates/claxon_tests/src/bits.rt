@@ -37,14 +37,35 @@ fn numbers_of_many_bits(rt: HostRuntime) -> Result<(), Fail> {
     Ok(())
 }
 
-// However 32 bits are split in two, they are the same number.
+// However 32 bits are split in two, they are the same number, also with numbers of no bits between the two.
 #[test]
 fn splits(rt: HostRuntime) -> Result<(), Fail> {
     for first in 0..33 {
         let mut bits = Bitstream::new(Cursor::new([0xa5u8, 0xe1, 0xd2, 0x55]));
         let high = u64::from(bits.read_leq_u32(first)?);
+        assert_eq!(rt; bits.read_leq_u8(0)?, 0);
         let low = u64::from(bits.read_leq_u32(32 - first)?);
         assert_eq!(rt; high << (32 - first) | low, 0xa5e1_d255, "{first}");
+    }
+    Ok(())
+}
+
+// A number of no bits takes no byte, wherever it is read.
+#[test]
+fn no_bits(rt: HostRuntime) -> Result<(), Fail> {
+    for before in 0..33u32 {
+        let mut cursor = Cursor::new([0xa5u8, 0xe1, 0xd2, 0x55, 0xf0]);
+        {
+            let mut bits = Bitstream::new(&mut cursor);
+            bits.read_leq_u32(before)?;
+            assert_eq!(rt; bits.read_leq_u8(0)?, 0);
+            assert_eq!(rt; bits.read_leq_u16(0)?, 0);
+        }
+        assert_eq!(rt;
+            cursor.position(),
+            u64::from(before.div_ceil(8)),
+            "{before}"
+        );
     }
     Ok(())
 }
@@ -82,6 +103,21 @@ fn remainders(rt: HostRuntime) -> Result<(), Fail> {
         reader.skip(bytes.len() as u32)?;
         assert_eq!(rt; reader.crc(), wide);
     }
+    Ok(())
+}
+
+// A byte is passed over, and two are read.
+#[test]
+fn remainders_of_parts(rt: HostRuntime) -> Result<(), Fail> {
+    let mut two = [0; 2];
+    let mut narrow = Crc8Reader::new(Cursor::new([0x61, 0x62, 0x63]));
+    narrow.skip(1)?;
+    narrow.read_into(&mut two)?;
+    assert_eq!(rt; (two, narrow.crc()), ([0x62, 0x63], 0x5f));
+    let mut wide = Crc16Reader::new(Cursor::new([0x61, 0x62, 0x63]));
+    wide.skip(1)?;
+    wide.read_into(&mut two)?;
+    assert_eq!(rt; (two, wide.crc()), ([0x62, 0x63], 0xcadb));
     Ok(())
 }
 

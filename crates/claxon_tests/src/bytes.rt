@@ -33,7 +33,7 @@ fn bits_of_two_bytes(rt: HostRuntime) -> Result<(), Fail> {
     let mut bits = Bitstream::new(Cursor::new([0u8, 0x80]));
     assert_eq!(rt; bits.read_unary()?, 8);
     assert_eq!(rt; bits.read_leq_u8(7)?, 0);
-    assert_eq!(rt; bits.read_leq_u16(0)?, 0);
+    assert_eq!(rt; bits.read_leq_u8(0)?, 0);
     assert!(rt; bits.read_bit().is_err());
     Ok(())
 }
@@ -50,22 +50,39 @@ fn no_byte_is_taken_early(rt: HostRuntime) -> Result<(), Fail> {
     Ok(())
 }
 
-#[test]
-fn all_of_the_cache(rt: HostRuntime) -> Result<(), Fail> {
+const UNASKED: Option<u32> = Some(13);
+
+// What the first of four calls answer, and how many bytes they take.
+fn first_calls(count: usize) -> ([Option<u32>; 4], u64) {
     let mut cursor = Cursor::new([0xA5u8, 0xE1, 0xD2, 0x55, 0xF0]);
+    let mut answers = [UNASKED; 4];
     {
         let mut bits = Bitstream::new(&mut cursor);
-        assert_eq!(rt; bits.read_leq_u32(32)?, 0xA5E1_D255);
-        assert_eq!(rt; bits.read_leq_u32(0)?, 0);
+        for (call, answer) in answers.iter_mut().take(count).enumerate() {
+            *answer = match call {
+                0 => bits.read_leq_u32(32).ok(),
+                1 => bits.read_leq_u8(0).ok().map(|number| u32::from(number)),
+                2 => bits.read_unary().ok(),
+                _ => bits.read_leq_u32(20).ok(),
+            };
+        }
     }
-    assert_eq!(rt; cursor.position(), 4);
-    {
-        let mut bits = Bitstream::new(&mut cursor);
-        assert_eq!(rt; bits.read_unary()?, 0);
-        assert!(rt; bits.read_leq_u32(20).is_err());
+    (answers, cursor.position())
+}
+
+#[test]
+fn all_of_the_cache(rt: HostRuntime) {
+    let (all, zero) = (Some(0xA5E1_D255), Some(0));
+    let rows = [
+        ([UNASKED; 4], 0),
+        ([all, UNASKED, UNASKED, UNASKED], 4),
+        ([all, zero, UNASKED, UNASKED], 4),
+        ([all, zero, zero, UNASKED], 5),
+        ([all, zero, zero, None], 5),
+    ];
+    for (count, want) in rows.iter().enumerate() {
+        assert_eq!(rt; first_calls(count), *want, "{count}");
     }
-    assert_eq!(rt; cursor.position(), 5);
-    Ok(())
 }
 
 #[test]
