@@ -4,7 +4,7 @@ use claxon::metadata::{
     MetadataBlock, MetadataBlockReader, VorbisComment, read_metadata_block,
     read_metadata_block_with_header,
 };
-use claxon_test_support::answers::{COMMENT, Fault, fault_of, joined};
+use claxon_test_support::answers::{COMMENT, Fault, fault_of, head, joined};
 use std::alloc::Global;
 use std::io::Cursor;
 use std::process::Abort;
@@ -74,6 +74,40 @@ fn streaminfos(rt: HostRuntime) {
             ),
         ],
     );
+}
+
+// A streaminfo with other numbers, alone and without a header.
+#[test]
+fn other_numbers(rt: HostRuntime) {
+    let rows: [(&[(u8, u8)], &'static str); 3] = [
+        (
+            &[(1, 17)],
+            "inconsistent bounds, min block size > max block size",
+        ),
+        (
+            &[(1, 15), (3, 15)],
+            "invalid block size, must be at least 16",
+        ),
+        (&[(10, 0), (11, 0), (12, 0)], "invalid sample rate"),
+    ];
+    let whole = head(0x80);
+    assert_eq!(rt; fault_at(rt.alloc(), 0, 34, &whole[8..]), (None, 34));
+    for (changes, text) in rows {
+        let bytes = with_changes(&whole, changes);
+        let answer = fault_at(rt.alloc(), 0, 34, &bytes[8..]);
+        assert_eq!(rt; answer, (Some(Fault::Format(text)), 34));
+    }
+}
+
+// The head with other bytes at some places of its streaminfo.
+fn with_changes(head: &[u8; 42], changes: &[(u8, u8)]) -> [u8; 42] {
+    let mut bytes = *head;
+    for (place, byte) in changes {
+        if *place < 34 {
+            bytes[8 + usize::from(*place)] = *byte;
+        }
+    }
+    bytes
 }
 
 // The bytes that follow aren't asked for.
@@ -274,4 +308,27 @@ fn blocks_with_headers(rt: HostRuntime) -> Result<(), Fail> {
     assert!(rt; block.err() == Some(large));
     assert_eq!(rt; input.position(), 17);
     Ok(())
+}
+
+// Headers that are cut, or say more than there is. What an `IoError` has taken isn't said.
+#[test]
+fn lying_headers(rt: HostRuntime) {
+    let large = "Vorbis comment blocks larger than 10 MiB are not supported";
+    let rows: [(&[u8], Fault); 7] = [
+        (&[], Fault::Io),
+        (&[0x7f], Fault::Io),
+        (&[0x80, 0x00, 0x00], Fault::Io),
+        (&[0x02, 0xa0, 0x00, 0x00], Fault::Io),
+        (&[0x04, 0xa0, 0x00, 0x00, 0xf8, 0xff, 0x9f, 0x00], Fault::Io),
+        (&[0x04, 0xa0, 0x00, 0x01], Fault::Unsupported(large)),
+        (&[0x01, 0xff, 0xff, 0xff], Fault::Io),
+    ];
+    for (bytes, fault) in rows {
+        let mut input = Cursor::new(bytes);
+        match read_metadata_block_with_header(rt.alloc(), &mut input) {
+            Ok(_) => assert!(rt; false, "{bytes:?}"),
+            Err(error) => assert_eq!(rt; fault_of(&error), fault, "{bytes:?}"),
+        }
+        assert!(rt; fault == Fault::Io || input.position() == 4, "{bytes:?}");
+    }
 }
