@@ -53,20 +53,18 @@ const MID_SIDE: [u8; 14] = [
     0xff, 0xf8, 0x69, 0xa2, 0x00, 0x00, 0xd2, 0x00, 0x00, 0x00, 0x02, 0x80, 0x24, 0xd1,
 ];
 
+// The last padding bit is a one.
+const MID_SIDE_PADDED: [u8; 14] = [
+    0xff, 0xf8, 0x69, 0xa2, 0x00, 0x00, 0xd2, 0x00, 0x00, 0x00, 0x02, 0x81, 0xa4, 0xd4,
+];
+
 #[test]
 fn stereo_modes(rt: HostRuntime) {
     check(
         &rt,
         &[
             (&MID_SIDE, pair(3, -2)),
-            // The last padding bit is a one.
-            (
-                &[
-                    0xff, 0xf8, 0x69, 0xa2, 0x00, 0x00, 0xd2, 0x00, 0x00, 0x00, 0x02, 0x81, 0xa4,
-                    0xd4,
-                ],
-                pair(3, -2),
-            ),
+            (&MID_SIDE_PADDED, pair(3, -2)),
             // Left and side.
             (
                 &[
@@ -99,30 +97,29 @@ const WASTED_BITS: [u8; 11] = [
     0xff, 0xf8, 0x69, 0x02, 0x00, 0x00, 0x9a, 0x01, 0x7d, 0xb3, 0x4b,
 ];
 
+// The block of two places as they are, and that of the first order.
+const PAIRS: Step = Step::Block(Shown {
+    time: 0,
+    channels: 2,
+    duration: 2,
+    samples: [3, 3, -2, -2],
+});
+
+const FOUR: Step = Step::Block(Shown {
+    time: 0,
+    channels: 1,
+    duration: 4,
+    samples: [10, 11, 11, 9],
+});
+
 #[test]
 fn samples_of_frames(rt: HostRuntime) {
     check(
         &rt,
         &[
             (&FRAME, mono(0, 5)),
-            (
-                &AS_THEY_ARE,
-                Step::Block(Shown {
-                    time: 0,
-                    channels: 2,
-                    duration: 2,
-                    samples: [3, 3, -2, -2],
-                }),
-            ),
-            (
-                &FIRST_ORDER,
-                Step::Block(Shown {
-                    time: 0,
-                    channels: 1,
-                    duration: 4,
-                    samples: [10, 11, 11, 9],
-                }),
-            ),
+            (&AS_THEY_ARE, PAIRS),
+            (&FIRST_ORDER, FOUR),
             // -3 in 6 bits, and 2 wasted ones.
             (&WASTED_BITS, mono(0, -12)),
             // An escape partition.
@@ -301,26 +298,52 @@ fn the_header_guard_of_a_known_stream(rt: HostRuntime) {
     );
 }
 
-// The samples of a buffer that is handed in don't show.
-fn check_buffers(rt: &(impl Abort + AllocGlobal), bytes: &[u8], filler: i32) -> Result<(), Fail> {
-    let (want, _) = first_step(rt.alloc(), bytes);
-    for len in [0, 1, 16384] {
-        let mut buffer = Vec::new(rt.alloc());
-        buffer.resize(len, filler)?;
-        let mut reader = FrameReader::new(Cursor::new(bytes));
-        assert_eq!(rt; step_of(reader.read_next_or_eof(buffer)), want, "{len}");
+// The samples of a buffer that is handed in don't show, and none of it is left over.
+fn check_buffer(
+    rt: &(impl Abort + AllocGlobal),
+    bytes: &[u8],
+    buffer: Vec<i32>,
+    want: Step,
+    count: usize,
+) -> Result<(), Fail> {
+    let mut reader = FrameReader::new(Cursor::new(bytes));
+    let Some(block) = reader.read_next_or_eof(buffer)? else {
+        return Err(Fail::new("no block"));
+    };
+    assert_eq!(rt; block.len() as usize, count);
+    assert_eq!(rt; step_of(Ok(Some(block))), want);
+    Ok(())
+}
+
+fn check_buffers(
+    rt: &(impl Abort + AllocGlobal),
+    bytes: &[u8],
+    want: Step,
+    count: usize,
+) -> Result<(), Fail> {
+    for filler in [13, 17] {
+        for len in [0, 1, 16384] {
+            let mut buffer = Vec::new(rt.alloc());
+            buffer.resize(len, filler)?;
+            check_buffer(rt, bytes, buffer, want, count)?;
+        }
     }
     Ok(())
 }
 
 #[test]
 fn old_buffers(rt: HostRuntime) -> Result<(), Fail> {
-    for filler in [13, 17] {
-        check_buffers(&rt, &MID_SIDE, filler)?;
-        check_buffers(&rt, &AS_THEY_ARE, filler)?;
-        check_buffers(&rt, &FIRST_ORDER, filler)?;
-        check_buffers(&rt, &WASTED_BITS, filler)?;
-        check_buffers(&rt, &LONG_ZERO, filler)?;
+    let rows: [(&[u8], Step, usize); 7] = [
+        (&MID_SIDE, pair(3, -2), 2),
+        (&MID_SIDE_PADDED, pair(3, -2), 2),
+        (&AS_THEY_ARE, PAIRS, 4),
+        (&FIRST_ORDER, FOUR, 4),
+        (&WASTED_BITS, mono(0, -12), 1),
+        (&LONG_ZERO, mono(0, 5), 1),
+        (&GREATEST, mono(68_719_476_735, 5), 1),
+    ];
+    for (bytes, want, count) in rows {
+        check_buffers(&rt, bytes, want, count)?;
     }
     Ok(())
 }
