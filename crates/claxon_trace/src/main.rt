@@ -9,22 +9,37 @@ use std::fs;
 use std::io::{BufWriter, Read, Write};
 use std::process::ExitCode;
 use std::rt::Files;
-use trace::trace;
+use trace::{Ending, trace};
 
-// Whether no call answered a fault.
+// Where garbage stands each two bytes are a fault.
+const MOST_FAULTS: u64 = 10_000;
+
+// After how many faults to stop, 0 for never, and the file.
+fn request(words: &[String]) -> Option<(u64, &str)> {
+    match words {
+        [name] if name.as_str() != "--faults" => Some((MOST_FAULTS, name.as_str())),
+        [option, number, name] if option.as_str() == "--faults" => {
+            let most = number.as_str().parse::<u64>().ok()?;
+            Some((most, name.as_str()))
+        }
+        _ => None,
+    }
+}
+
 fn trace_file<Q: Files + AllocGlobal, W: Write + Drop>(
     rt: &Q,
+    most: u64,
     name: &str,
     output: W,
-) -> Result<bool>
+) -> Result<Ending>
 where
     Q::File: Read,
 {
     let input = fs::open(rt, name)?;
     let mut output = BufWriter::new(rt.alloc(), output)?;
-    let is_clean = trace(rt.alloc(), input, &mut output)?;
+    let ending = trace(rt.alloc(), input, most, &mut output)?;
     output.flush()?;
-    Ok(is_clean)
+    Ok(ending)
 }
 
 // The status: 0 where no call answered a fault, 1 where one did, 2 for arguments that the usage line doesn't have.
@@ -37,13 +52,17 @@ fn command<Q: Files + AllocGlobal, W: Write + Drop, E: Write>(
 where
     Q::File: Read,
 {
-    let [name] = words else {
-        let _ = writeln!(errors, "usage: claxon_trace FILE");
+    let Some((most, name)) = request(words) else {
+        let _ = writeln!(errors, "usage: claxon_trace [--faults N] FILE");
         return 2;
     };
-    match trace_file(rt, name.as_str(), output) {
-        Ok(true) => 0,
-        Ok(false) => 1,
+    match trace_file(rt, most, name, output) {
+        Ok(Ending::Clean) => 0,
+        Ok(Ending::Faulty) => 1,
+        Ok(Ending::Stopped) => {
+            let _ = writeln!(errors, "claxon_trace: stopped after {most} faults");
+            1
+        }
         Err(error) => {
             let _ = writeln!(errors, "{error}");
             1

@@ -1,25 +1,51 @@
 //! One line for each answer.
 use claxon::frame::FrameReader;
+use claxon::input::ReadBytes;
 use claxon::metadata::StreamInfo;
 use claxon::{Block, Error, FlacReader, Result};
 use std::alloc::{Allocator, Global};
 use std::fmt;
 use std::io::{Read, Write};
 
-/// Writes a line for the head and one for each call that reads a block, made again after a fault, until the end or an
-/// `IoError`. Says whether no call answered a fault.
-pub fn trace<R: Read + Drop, W: Write>(alloc: Global, input: R, output: &mut W) -> Result<bool> {
+/// How a trace ended.
+#[derive(Clone, Copy)]
+pub enum Ending {
+    /// No call answered a fault.
+    Clean,
+    /// Some call did, and the last one answered the end, an `IoError` or the fault of the head.
+    Faulty,
+    /// There were as many faults as were to be told, and the stream may go on.
+    Stopped,
+}
+
+/// Writes a line for the head and one for each call that reads a block, made again after a fault, until the end, an
+/// `IoError`, or so many faults. With 0 no number of faults ends it.
+pub fn trace<R: Read + Drop, W: Write>(
+    alloc: Global,
+    input: R,
+    most: u64,
+    output: &mut W,
+) -> Result<Ending> {
     let mut flac = match FlacReader::new(alloc, input) {
         Ok(flac) => flac,
         Err(error) => {
             print_fault(output, &error)?;
-            return Ok(false);
+            return Ok(Ending::Faulty);
         }
     };
     let info = flac.streaminfo();
     print_head(output, &info)?;
     let mut frames = FrameReader::with_streaminfo(flac.input(), info);
-    let mut is_clean = true;
+    trace_frames(alloc, &mut frames, most, output)
+}
+
+fn trace_frames<R: ReadBytes, W: Write>(
+    alloc: Global,
+    frames: &mut FrameReader<R>,
+    most: u64,
+    output: &mut W,
+) -> Result<Ending> {
+    let mut faults = 0u64;
     for _ in 0..u64::MAX {
         match frames.read_next_or_eof(Vec::new(alloc)) {
             Ok(Some(block)) => print_block(output, &block)?,
@@ -28,15 +54,22 @@ pub fn trace<R: Read + Drop, W: Write>(alloc: Global, input: R, output: &mut W) 
                 break;
             }
             Err(error) => {
-                is_clean = false;
+                faults = faults.saturating_add(1);
                 print_fault(output, &error)?;
                 if let Error::IoError(_) = error {
                     break;
                 }
+                if faults == most {
+                    return Ok(Ending::Stopped);
+                }
             }
         }
     }
-    Ok(is_clean)
+    Ok(if faults == 0 {
+        Ending::Clean
+    } else {
+        Ending::Faulty
+    })
 }
 
 fn print_fault<W: Write>(output: &mut W, error: &Error) -> Result<()> {
