@@ -19,11 +19,14 @@ class Limits:
     seconds: int
     memory: int
 
-    def set(self):
-        resource.setrlimit(resource.RLIMIT_CPU, (self.seconds, self.seconds + 1))
-        resource.setrlimit(resource.RLIMIT_CORE, (0, 0))
-        if self.memory:
-            resource.setrlimit(resource.RLIMIT_AS, (self.memory << 20, self.memory << 20))
+    def set(self, process):
+        """Limits a process that has just begun. To do so in it beforehand would copy this one for each run."""
+        try:
+            resource.prlimit(process, resource.RLIMIT_CPU, (self.seconds, self.seconds + 1))
+            if self.memory:
+                resource.prlimit(process, resource.RLIMIT_AS, (self.memory << 20, self.memory << 20))
+        except ProcessLookupError:
+            pass
 
 
 @dataclasses.dataclass
@@ -36,13 +39,17 @@ class Run:
 
 
 def run(words, limits):
+    """Runs a program to its end, or until it took too long."""
+    process = subprocess.Popen(words, stdin=subprocess.DEVNULL, stdout=subprocess.PIPE, stderr=subprocess.PIPE)
+    limits.set(process.pid)
     try:
-        done = subprocess.run(words, stdin=subprocess.DEVNULL, stdout=subprocess.PIPE, stderr=subprocess.PIPE,
-                              preexec_fn=limits.set, timeout=4 * limits.seconds)
+        output, errors = process.communicate(timeout=4 * limits.seconds)
     except subprocess.TimeoutExpired:
+        process.kill()
+        process.communicate()
         return Run(b'', '', -1, 'no end')
-    trouble = 'signal %d' % -done.returncode if done.returncode < 0 else None
-    return Run(done.stdout, done.stderr.decode('utf-8', 'replace'), done.returncode, trouble)
+    trouble = 'signal %d' % -process.returncode if process.returncode < 0 else None
+    return Run(output, errors.decode('utf-8', 'replace'), process.returncode, trouble)
 
 
 @dataclasses.dataclass

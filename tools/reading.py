@@ -221,18 +221,21 @@ def read_header(data, stream_width):
     return header
 
 
-def read_entries(bits, escape_width, parameter, count, remarks):
-    """The residual of one partition."""
-    if escape_width is not None:
-        return [bits.signed(escape_width) for _ in range(count)]
-    entries = []
+def read_words(bits, parameter, count, remarks):
+    """Rice words."""
+    text, at, entries = bits.text, bits.at, []
     for _ in range(count):
-        number = bits.zeros() << parameter
-        number |= bits.number(parameter)
+        one = text.find('1', at)
+        end = one + 1 + parameter
+        if one < 0 or end > len(text):
+            raise Short('the bits end')
+        number = one - at << parameter | int('0' + text[one + 1:end], 2)
         if number >= 0xFFFFFFFF:
             remarks.add('residual beyond 32 bits')
             number &= 0xFFFFFFFF
         entries.append(number >> 1 ^ -(number & 1))
+        at = end
+    bits.at = at
     return entries
 
 
@@ -248,10 +251,12 @@ def read_residual(bits, size, order, remarks):
     residual = []
     for part in range(parts):
         parameter = bits.field(4 + method)
-        is_escape = parameter == (31 if method else 15)
-        escape_width = bits.field(5) if is_escape else None
         count = size // parts - (order if part == 0 else 0)
-        residual += read_entries(bits, escape_width, parameter, count, remarks)
+        if parameter == (31 if method else 15):
+            width = bits.field(5)
+            residual += [bits.signed(width) for _ in range(count)]
+        else:
+            residual += read_words(bits, parameter, count, remarks)
     return residual
 
 
@@ -418,7 +423,7 @@ def read_blocks(data):
 
 
 def read_head(data):
-    """What the streaminfo says, and where the frames begin."""
+    """What the streaminfo says, the blocks, and where the frames begin."""
     blocks, end = read_blocks(data)
     if blocks[0][0] != 0:
         raise Fault('first block')
@@ -434,7 +439,13 @@ def read_head(data):
                 check_comments(body)
             except UnicodeDecodeError:
                 raise Fault('text of a comment')
-    return info, end
+    return info, blocks, end
+
+
+def has_odd_seek_table(blocks):
+    """Whether there are several seek tables, or one whose points aren't whole."""
+    lengths = [len(body) for kind, body in blocks if kind == 3]
+    return len(lengths) > 1 or any(length % 18 for length in lengths)
 
 
 def remarks_of(info, frame):
@@ -513,7 +524,9 @@ def read_stream(data):
     """The stream, up to its first fault."""
     reading = Reading()
     try:
-        reading.info, at = read_head(data)
+        reading.info, blocks, at = read_head(data)
+        if has_odd_seek_table(blocks):
+            reading.remarks.add('odd seek table')
         read_frames(data, at, reading)
     except Fault as fault:
         reading.fault = str(fault)
