@@ -157,14 +157,15 @@ def change_frame(rng, frame, info):
     return mend(rng, frame, info) if rng.random() < 0.95 else frame
 
 
-def write_streaminfo(info, least_frame, greatest_frame):
+def write_streaminfo(info):
+    """Its 34 bytes, without sizes of frames."""
     word = info.rate << 44 | info.channels - 1 << 41 | info.width - 1 << 36 | info.samples
-    return (info.least_block.to_bytes(2, 'big') + info.greatest_block.to_bytes(2, 'big')
-            + least_frame.to_bytes(3, 'big') + greatest_frame.to_bytes(3, 'big') + word.to_bytes(8, 'big') + info.md5)
+    return (info.least_block.to_bytes(2, 'big') + info.greatest_block.to_bytes(2, 'big') + bytes(6)
+            + word.to_bytes(8, 'big') + info.md5)
 
 
 def changed_streaminfo(rng, info):
-    body = write_streaminfo(info, 0, 0)
+    body = write_streaminfo(info)
     if rng.random() < 0.06:
         body = rng.choice((flip_bits, set_bytes, set_bytes, drop_piece))(rng, body)
     return body
