@@ -178,14 +178,18 @@ def spelled_rate(code, data, at):
 
 def codes_of(data):
     """The codes of the size, the rate, the channels and the width in a header."""
-    if len(data) < 4:
-        raise Short('the header ends')
-    if data[0] != 0xFF or data[1] >> 2 != 0x3E:
-        raise Fault('sync code')
-    size_code, rate_code, code, width_code = data[2] >> 4, data[2] & 15, data[3] >> 4, data[3] >> 1 & 7
-    if data[1] & 2 or size_code == 0 or rate_code == 15 or code > 10 or width_code == 3 or data[3] & 1:
+    codes = []
+    for place in range(4):
+        if place >= len(data):
+            raise Short('the header ends')
+        codes += divmod(data[place], 16)
+        if place == 1 and (data[0] != 0xFF or data[1] >> 2 != 0x3E):
+            raise Fault('sync code')
+        if place == 1 and data[1] & 2 or place == 2 and (codes[4] == 0 or codes[5] == 15):
+            raise Fault('reserved value of the header')
+    if codes[6] > 10 or codes[7] in (6, 7) or codes[7] & 1:
         raise Fault('reserved value of the header')
-    return size_code, rate_code, code, width_code
+    return codes[4], codes[5], codes[6], codes[7] >> 1
 
 
 def is_spelled_long(number, length):
