@@ -202,6 +202,51 @@ def write_head(rng, info, blocks):
     return head
 
 
+def near(rng, number):
+    """The number, or one beside it, or a large one."""
+    return max(0, rng.choice((number,) * 20 + (number - 1, number + 1, 0xFFFFFFFF, rng.getrandbits(32)))) & 0xFFFFFFFF
+
+
+def odd_comments(rng):
+    """Comments whose numbers are just wrong, or right."""
+    some = (b'A=B', b'TITLE=x=y', b'=', b'', b'no', b' }=', b'x\x7e=y', b'\x1f=', 'x=é'.encode(), b'a=\xc3')
+    entries = [rng.choice(some) for _ in range(rng.randint(0, 3))]
+    vendor = rng.choice((b'', b'', b'ab', 'é'.encode(), b'\xff'))
+    body = near(rng, len(vendor)).to_bytes(4, 'little') + vendor + near(rng, len(entries)).to_bytes(4, 'little')
+    for entry in entries:
+        body += near(rng, len(entry)).to_bytes(4, 'little') + entry
+    return body + rng.choice((b'',) * 10 + (b'\0', bytes(3), bytes(4), bytes(9)))
+
+
+def odd_streaminfo(rng, info):
+    """A streaminfo with bounds of its fields."""
+    sizes = (0, 15, 16, 17, 4096, 65535)
+    info = dataclasses.replace(info, rate=rng.choice((0, 1, 8000, 44100, 655350, 655351, 1048575)),
+                               least_block=rng.choice(sizes[1:5] * 3 + sizes),
+                               greatest_block=rng.choice(sizes[3:] * 3 + sizes))
+    body = write_streaminfo(info)
+    frames = rng.choice((0, 0, 1, 14)).to_bytes(3, 'big') + rng.choice((0, 0, 13, 0xFFFFFF)).to_bytes(3, 'big')
+    return body[:4] + frames + body[10:]
+
+
+def odd_block(rng, info):
+    if rng.random() < 0.6:
+        return 4, odd_comments(rng)
+    if rng.random() < 0.1:
+        return 0, odd_streaminfo(rng, info)
+    return rng.choice((1, 2, 2, 3, 5, 6, 7, 126, 127)), rng.randbytes(rng.choice((0, 1, 3, 4, 5, 18)))
+
+
+def odd_head(rng, info):
+    """A head whose fields are near what is refused."""
+    first = odd_streaminfo(rng, info) if rng.random() < 0.6 else write_streaminfo(info)
+    blocks = [(0, first)] + [odd_block(rng, info) for _ in range(rng.choice((0, 1, 1, 1, 2, 3)))]
+    head = rng.choice((b'fLaC',) * 20 + (b'ID3\4', b'fLaD'))
+    for place, (kind, body) in enumerate(blocks):
+        head += bytes([kind | (place + 1 == len(blocks)) << 7]) + len(body).to_bytes(3, 'big') + body
+    return head
+
+
 def info_for(rng, info, frames):
     """A streaminfo that fits the first frame, mostly, and tells neither samples nor sum."""
     info = dataclasses.replace(info)
@@ -293,7 +338,10 @@ def make(rng, pick):
     source, other, way = pick(rng), pick(rng), rng.random()
     if way < 0.1:
         return damaged_file(rng, source, other)
-    if way < 0.45 or not source.frames:
+    if way > 0.88 and source.frames:
+        frame = rng.choice(source.frames)
+        data = odd_head(rng, info_for(rng, source.info, [frame])) + frame
+    elif way < 0.45 or not source.frames:
         data = new_stream(rng)
     else:
         data = changed_stream(rng, source, other.frames)
