@@ -1,0 +1,26 @@
+//! Converts a FLAC file into a WAV file.
+#![tactic(auto)]
+
+mod command;
+mod error;
+mod header;
+mod progress;
+mod samples;
+mod writer;
+
+use claxon_write::words;
+use command::command;
+use std::io::{IsTerminal, Write};
+use std::process::ExitCode;
+
+fn main(rt: HostRuntime) -> ExitCode {
+    let mut errors = rt.stderr();
+    let shows_progress = errors.is_terminal();
+    match words(&rt) {
+        Ok(words) => ExitCode::from(command(&rt, &words, shows_progress, &mut errors)),
+        Err(error) => {
+            let _ = writeln!(&mut errors, "{error}");
+            ExitCode::from(1)
+        }
+    }
+}

@@ -1,0 +1,97 @@
+//! A WAV file that is being written.
+ghost use Rattle.std.specs.Prelude.{◌≡◌, ◌≤◌, OnOk};
+
+use crate::error::{Error, Result};
+use crate::header::{Layout, MOST_BYTES};
+use crate::samples::pack;
+use claxon::Block;
+use std::alloc::{Allocator, Global};
+use std::io::{Seek, SeekFrom, Write};
+
+/// A WAV file at the start of its output, and the samples that stand in it so far.
+#[derive(Drop)]
+pub struct WavWriter<W> {
+    output: W,
+    layout: Layout,
+    // The bytes of samples that the header names, and those that were written.
+    announced: u32,
+    written: u32,
+    // The room of what is written is kept from one time to the next.
+    header: Vec<u8>,
+    interleaved: Vec<i32>,
+    bytes: Vec<u8>,
+    ghost announced_fits: { announced ≤ 4294967234 },
+    ghost written_fits: { written ≤ 4294967234 },
+}
+
+impl<W: Write + Seek> WavWriter<W> {
+    ghost use Rattle.claxon_wav.specs.Writer.{BeginsWithHeader, PutsBlock};
+
+    /// Writes a header for so many bytes of samples. Others may come: `finish` mends it.
+    pub fn start(alloc: Global, output: W, layout: Layout, announced: u32) -> Result<WavWriter<W>>
+    where
+        W: Drop,
+        requires { announced ≤ 4294967234 }
+        ensures { BeginsWithHeader W.contents layout announced output result }
+    {
+        let mut output = output;
+        let mut header = Vec::new(alloc);
+        layout.put_header(announced, &mut header)?;
+        output.write_all(header.as_slice())?;
+        Ok(WavWriter {
+            output,
+            layout,
+            announced,
+            written: 0,
+            header,
+            interleaved: Vec::new(alloc),
+            bytes: Vec::new(alloc),
+        })
+    }
+
+    /// Writes the samples of a block.
+    pub fn put_block<A: Allocator>(&mut self, block: &Block<A>) -> Result<()>
+        ensures ok { PutsBlock W.contents block.now result self.old self.new }
+        ensures layout { self.new.layout ≡ self.old.layout }
+    {
+        if block.channels() != self.layout.channels() {
+            return Err(Error::OtherChannels);
+        }
+        let width = self.layout.width();
+        pack(block, width, &mut self.interleaved, &mut self.bytes)?;
+        let room = (MOST_BYTES - self.written) as usize;
+        let size = self.bytes.len();
+        if size > room {
+            return Err(Error::TooLong);
+        }
+        self.output.write_all(self.bytes.as_slice())?;
+        self.written += size as u32;
+        Ok(())
+    }
+
+    /// Makes a whole file of what was written so far. Where the header was right no seek is made.
+    pub fn finish(&mut self) -> Result<()> {
+        let padded = self.pad();
+        let mended = self.mend_header();
+        padded?;
+        mended
+    }
+
+    fn pad(&mut self) -> Result<()> {
+        if self.written % 2 == 1 {
+            self.output.write_all(&[0])?;
+        }
+        Ok(())
+    }
+
+    fn mend_header(&mut self) -> Result<()> {
+        if self.written != self.announced {
+            self.layout.put_header(self.written, &mut self.header)?;
+            self.output.seek(SeekFrom::Start(0))?;
+            self.output.write_all(self.header.as_slice())?;
+            self.announced = self.written;
+        }
+        self.output.flush()?;
+        Ok(())
+    }
+}
