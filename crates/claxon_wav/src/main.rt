@@ -6,6 +6,8 @@ mod error;
 mod header;
 mod progress;
 mod samples;
+#[cfg(test)]
+mod tests;
 mod writer;
 
 use claxon_write::words;

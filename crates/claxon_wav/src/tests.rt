@@ -1,0 +1,166 @@
+//! Headers and whole files, as another decoder writes them.
+ghost use Rattle.std.specs.Prelude.{◌≡◌};
+
+use crate::command::{command, convert};
+use crate::error::Result;
+use crate::header::Layout;
+use crate::progress::Progress;
+use crate::writer::WavWriter;
+use claxon::FlacReader;
+use claxon::metadata::StreamInfo;
+use std::alloc::Global;
+use std::io::Cursor;
+use std::test::Fail;
+use std::{fs, result};
+
+struct Header {
+    channels: u32,
+    width: u32,
+    speakers: Option<u32>,
+    size: u32,
+    bytes: &'static [u8],
+}
+
+// What stands before the samples in files of 44,100 places a second that `flac -d` wrote.
+#[rattlefmt::skip]
+const HEADERS: [Header; 4] = [
+    Header {
+        channels: 2, width: 16, speakers: None, size: 20004,
+        bytes: b"RIFF\x48\x4e\x00\x00WAVEfmt \x10\x00\x00\x00\x01\x00\x02\x00\x44\xac\x00\x00\x10\xb1\x02\x00\x04\x00\x10\x00data\x24\x4e\x00\x00",
+    },
+    Header {
+        channels: 1, width: 8, speakers: Some(4), size: 5001,
+        bytes: b"RIFF\xae\x13\x00\x00WAVEfmt \x10\x00\x00\x00\x01\x00\x01\x00\x44\xac\x00\x00\x44\xac\x00\x00\x01\x00\x08\x00data\x89\x13\x00\x00",
+    },
+    Header {
+        channels: 1, width: 12, speakers: None, size: 10002,
+        bytes: b"RIFF\x4e\x27\x00\x00WAVEfmt \x28\x00\x00\x00\xfe\xff\x01\x00\x44\xac\x00\x00\x88\x58\x01\x00\x02\x00\x10\x00\x16\x00\x0c\x00\x04\x00\x00\x00\
+\x01\x00\x00\x00\x00\x00\x10\x00\x80\x00\x00\xaa\x00\x38\x9b\x71data\x12\x27\x00\x00",
+    },
+    Header {
+        channels: 6, width: 24, speakers: Some(0x3f), size: 90018,
+        bytes: b"RIFF\xde\x5f\x01\x00WAVEfmt \x28\x00\x00\x00\xfe\xff\x06\x00\x44\xac\x00\x00\xc8\x1c\x0c\x00\x12\x00\x18\x00\x16\x00\x18\x00\x3f\x00\x00\x00\
+\x01\x00\x00\x00\x00\x00\x10\x00\x80\x00\x00\xaa\x00\x38\x9b\x71data\xa2\x5f\x01\x00",
+    },
+];
+
+fn info_of(channels: u32, width: u32) -> StreamInfo
+    ensures channels { result.channels ≡ channels }
+    ensures width { result.bits_per_sample ≡ width }
+{
+    StreamInfo {
+        min_block_size: 16,
+        max_block_size: 16,
+        min_frame_size: None,
+        max_frame_size: None,
+        sample_rate: 44100,
+        channels,
+        bits_per_sample: width,
+        samples: None,
+        md5sum: [0; 16],
+    }
+}
+
+#[test]
+fn headers(rt: HostRuntime) -> result::Result<(), Fail> {
+    let mut bytes = Vec::new(rt.alloc());
+    for row in &HEADERS {
+        let info = info_of(row.channels.clamp(1, 8), row.width.clamp(1, 32));
+        let layout = Layout::new(&info, row.speakers);
+        layout.put_header(row.size.min(100_000), &mut bytes)?;
+        assert_eq!(rt; bytes.as_slice(), row.bytes, "{}", row.width);
+    }
+    Ok(())
+}
+
+// One channel of 8 bits, of which the streaminfo says that one sample comes, and two blocks, with three samples and with two.
+const STREAM: [u8; 67] = [
+    0x66, 0x4c, 0x61, 0x43, 0x80, 0x00, 0x00, 0x22, 0x00, 0x10, 0x00, 0x10, 0x00, 0x00, 0x00, 0x00,
+    0x00, 0x00, 0x0a, 0xc4, 0x40, 0x70, 0x00, 0x00, 0x00, 0x01, 0x00, 0x00, 0x00, 0x00, 0x00, 0x00,
+    0x00, 0x00, 0x00, 0x00, 0x00, 0x00, 0x00, 0x00, 0x00, 0x00, 0xff, 0xf8, 0x69, 0x02, 0x00, 0x02,
+    0x94, 0x02, 0x01, 0xfe, 0x03, 0x67, 0x56, 0xff, 0xf8, 0x69, 0x02, 0x01, 0x01, 0x88, 0x02, 0x80,
+    0x7f, 0xd7, 0xe5,
+];
+
+const WHOLE: &[u8] =
+    b"RIFF\x2a\x00\x00\x00WAVEfmt \x10\x00\x00\x00\x01\x00\x01\x00\x44\xac\x00\x00\x44\xac\x00\x00\x01\x00\x08\x00data\x05\x00\x00\x00\x81\x7e\x83\x00\xff\x00";
+
+const FIRST_BLOCK: &[u8] =
+    b"RIFF\x28\x00\x00\x00WAVEfmt \x10\x00\x00\x00\x01\x00\x01\x00\x44\xac\x00\x00\x44\xac\x00\x00\x01\x00\x08\x00data\x03\x00\x00\x00\x81\x7e\x83\x00";
+
+// Whether all of a stream was converted into these bytes.
+fn is_converted(
+    alloc: Global,
+    stream: &[u8],
+    bytes: &mut Vec<u8>,
+    errors: &mut Vec<u8>,
+) -> Result<bool> {
+    let mut flac = FlacReader::new(alloc, Cursor::new(stream))?;
+    if flac.is_metadata_only() {
+        return Ok(false);
+    }
+    let layout = Layout::new(&flac.streaminfo(), None);
+    let mut wav = WavWriter::start(alloc, Cursor::new(bytes), layout, 1)?;
+    let mut progress = Progress::new(Some(5));
+    let outcome = convert(alloc, &mut flac, &mut wav, &mut progress, errors);
+    progress.end(errors);
+    Ok(outcome.is_ok())
+}
+
+// The whole stream, one whose last byte is turned, and one that is cut within the second block.
+#[test]
+fn in_memory(rt: HostRuntime) -> result::Result<(), Fail> {
+    let mut stream = STREAM;
+    for (len, last, is_whole) in [(67, 0xe5, true), (67, 0xe4, false), (60, 0xe5, false)] {
+        stream[66] = last;
+        let (mut bytes, mut errors) = (Vec::new(rt.alloc()), Vec::new(rt.alloc()));
+        let outcome = is_converted(rt.alloc(), &stream[..len], &mut bytes, &mut errors)?;
+        assert_eq!(rt; outcome, is_whole, "{len} {last}");
+        let (want, shown): (&[u8], &[u8]) = if is_whole {
+            (WHOLE, b"\r60 %\r100 %\n")
+        } else {
+            (FIRST_BLOCK, b"\r60 %\n")
+        };
+        assert_eq!(rt; bytes.as_slice(), want, "{len} {last}");
+        assert_eq!(rt; errors.as_slice(), shown, "{len} {last}");
+    }
+    Ok(())
+}
+
+// For these arguments the status, and what stands in the output afterwards. The long stream has 2^36 - 1 samples by its streaminfo.
+#[test]
+fn with_files(rt: HostRuntime) -> result::Result<(), Fail> {
+    let mut long = STREAM;
+    long[21..26].copy_from_slice(&[0x7f, 0xff, 0xff, 0xff, 0xff]);
+    fs::write(&rt, "in.flac", STREAM.as_slice())?;
+    fs::write(&rt, "long.flac", long.as_slice())?;
+    fs::write(&rt, "out.wav", b"old".as_slice())?;
+    let rows: [(&str, &str, u8, &[u8]); 5] = [
+        ("in.flac", "in.flac", 1, b"old"),
+        ("none.flac", "out.wav", 1, b"old"),
+        ("long.flac", "out.wav", 1, b"old"),
+        ("in.flac", "out.wav", 0, WHOLE),
+        ("in.flac", "none/out.wav", 1, WHOLE),
+    ];
+    let mut errors = Vec::new(rt.alloc());
+    for (from, to, status, want) in rows {
+        let words = [
+            String::from_str(rt.alloc(), from)?,
+            String::from_str(rt.alloc(), to)?,
+        ];
+        assert_eq!(rt;
+            command(&rt, &words, false, &mut errors),
+            status,
+            "{from} {to}"
+        );
+        assert_eq!(rt; fs::read(&rt, "out.wav")?.as_slice(), want, "{from} {to}");
+    }
+    assert_eq!(rt; fs::read(&rt, "in.flac")?.as_slice(), STREAM.as_slice());
+    errors.clear();
+    assert_eq!(rt; command(&rt, &[], false, &mut errors), 2);
+    assert_eq!(rt;
+        errors.as_slice(),
+        b"usage: claxon_wav FILE OUT.wav\n".as_slice()
+    );
+    Ok(())
+}
