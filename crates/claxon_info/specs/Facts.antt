@@ -1,11 +1,13 @@
 -- The lines that are printed of a stream.
 use Rattle.std.specs.Prelude.{◌≡◌, ℕ, Option, None, Some, Result, IfOk, OnOk, List, ◌++◌, flat_map, codes, string_bytes}
 use Rattle.std.specs.declared.alloc.AllocError.{AllocError}
+use Rattle.std.specs.Io.KnownBytes.{Appends}
 use Rattle.std.specs.declared.string.String.{String}
 use Rattle.claxon.specs.FlacReader.{flac_streaminfo, tags_of, vendor_of}
 use Rattle.claxon.specs.declared.reader.FlacReader.{FlacReader}
+use Rattle.claxon_input.specs.declared.error.Error.{Error}
 use Rattle.claxon_metadata.specs.declared.metadata.StreamInfo.{StreamInfo}
-use Rattle.claxon_info.specs.Text.{escaped_text, length_text, md5_text, number_text, unknown}
+use Rattle.claxon_info.specs.Text.{escaped_text, length_text, md5_text, number_text, unknown_text}
 
 -- The text is these bytes.
 abbrev pub IsText : {A : Type 0} → List ℕ → Result (String A) AllocError → Type 0
@@ -36,7 +38,7 @@ sizes_text info = line (codes "min_block_size") (number_text (Some info.min_bloc
     ++ line (codes "md5sum") (md5_text info.md5sum)
 
 abbrev pub vendor_text : Option (List ℕ) → List ℕ
-vendor_text None = line (codes "vendor") unknown
+vendor_text None = line (codes "vendor") unknown_text
 vendor_text (Some vendor) = line (codes "vendor") (escaped_text vendor)
 
 -- `tag: NAME=value`
@@ -50,6 +52,15 @@ tags_text tags = flat_map tag_text tags
 abbrev pub facts_text : StreamInfo → Option (List ℕ) → List (List ℕ × List ℕ) → List ℕ
 facts_text info vendor tags = format_text info ++ sizes_text info ++ vendor_text vendor ++ tags_text tags
 
--- An Ok is all that is shown of the stream's head.
+-- those of all that is shown of a stream's head
+abbrev pub facts_of : {R A : Type 0} → FlacReader R A → List ℕ
+facts_of flac = facts_text (flac_streaminfo flac) (vendor_of flac) (tags_of flac)
+
+-- An Ok is those lines.
 abbrev pub FactsAreTold : {R A : Type 0} → FlacReader R A → Result (String A) AllocError → Type 0
-FactsAreTold flac r = IsText (facts_text (flac_streaminfo flac) (vendor_of flac) (tags_of flac)) r
+FactsAreTold flac r = IsText (facts_of flac) r
+
+-- An Ok wrote just those lines.
+abbrev pub FactsAreWritten : {R W A : Type 0} → (W → Option (List ℕ)) → FlacReader R A
+    → Result (Unit {0}) Error → W → W → Type 0
+FactsAreWritten contents flac r old new = OnOk r (Appends (contents old) (contents new) (facts_of flac))

@@ -3,12 +3,12 @@ use Rattle.std.specs.Prelude.{Bool, false, ℕ, ◌+◌, ◌*◌, ◌/◌, ◌%�
 use Rattle.std.specs.Fmt.{digit_glyph, digits}
 use Rattle.std.specs.Str.{chars}
 
-abbrev pub unknown : List ℕ
-unknown = codes "unknown"
+abbrev pub unknown_text : List ℕ
+unknown_text = codes "unknown"
 
 -- a number, or `unknown` where there is none
 unfoldable pub number_text : Option ℕ → List ℕ
-number_text None = unknown
+number_text None = unknown_text
 number_text (Some n) = decimal n
 
 -- a number below 100 in two digits, and one below 1000 in three
@@ -25,8 +25,8 @@ time_text t = decimal (t / 3600000) ++ codes ":" ++ two_digits (t / 60000 % 60) 
 
 -- how long so many samples take at so many a second, rounded down
 unfoldable pub length_text : Option ℕ → ℕ → List ℕ
-length_text None rate = unknown
-length_text (Some samples) rate = if rate == 0 then unknown else time_text (samples * 1000 / rate)
+length_text None rate = unknown_text
+length_text (Some samples) rate = if rate == 0 then unknown_text else time_text (samples * 1000 / rate)
 
 -- a byte in two hexadecimal digits
 abbrev pub hex_byte : ℕ → List ℕ
@@ -34,14 +34,14 @@ hex_byte b = digit_glyph false (b / 16) ∷ digit_glyph false (b % 16) ∷ []
 
 -- an MD5 sum, which isn't known where all its bytes are 0
 unfoldable pub md5_text : List ℕ → List ℕ
-md5_text md5 = if bytes_eq md5 (replicate 16 0) then unknown else flat_map hex_byte md5
+md5_text md5 = if bytes_eq md5 (replicate 16 0) then unknown_text else flat_map hex_byte md5
 
--- a character that may begin a line or steer a terminal: the control characters, and the separators of lines and paragraphs
+-- a character that may begin a line or steer a terminal: a control character, a separator of lines or of paragraphs
 abbrev pub is_control : ℕ → Bool
 is_control c = nat_lt c 32 || (nat_le 127 c && nat_lt c 160) || c == 0x2028 || c == 0x2029
 
--- a character as it stands on a line, in UTF-8: a backslash, a line feed, a carriage return and a tab by a letter, another
--- control character by its number
+-- a character as it stands on a line, in UTF-8: a backslash, a line feed, a carriage return and a tab by a letter,
+-- another control character by its number
 unfoldable pub escaped_char : ℕ → List ℕ
 escaped_char c = if c == 0x5C then codes "\\\\" else (if c == 0x0A then codes "\\n" else (if c == 0x0D then codes "\\r"
     else (if c == 0x09 then codes "\\t" else (if is_control c then codes "\\u{" ++ digits 16 false c ++ codes "}"

@@ -1,21 +1,36 @@
 //! The lines that are printed of a stream.
-ghost use Rattle.std.specs.Prelude.{◌≡◌, string_bytes};
+ghost use Rattle.std.specs.Prelude.{◌≡◌};
 ghost use Rattle.std.specs.Option.{option_map};
 ghost use Rattle.claxon_metadata.specs.Tags.{tags_left};
-ghost use Rattle.claxon_info.specs.Facts.{Adds, FactsAreTold, format_text, line, sizes_text, tag_text, tags_text, vendor_text};
+ghost use Rattle.claxon_info.specs.Facts.{Adds, FactsAreTold, FactsAreWritten, format_text, line, sizes_text, tag_text, tags_text, vendor_text};
 ghost use Rattle.claxon_info.specs.Text.{number_text};
 
 use crate::text::{escaped_text, length_text, md5_text, number_text};
 use claxon::FlacReader;
 use claxon::metadata::{StreamInfo, Tags};
 use std::alloc::{AllocError, Allocator};
-use std::io::Read;
+use std::io::{Read, Write};
 
-/// The lines `NAME: value` of a stream: those of its streaminfo, one for the vendor, and one for each tag, in order.
+/// Writes the lines `NAME: value` of a stream, and flushes: those of its streaminfo, one for the vendor, and one for each
+/// tag, in order. After an error a front of them may have been written.
 ///
 /// A value that the head doesn't tell is `unknown`. A vendor or a tag stands on one line, whatever its text holds, as
 /// `escaped_text` says.
-pub fn facts<R: Read, A: Allocator + Copy>(
+pub fn write_facts<R: Read, W: Write, A: Allocator + Copy>(
+    alloc: A,
+    flac: &FlacReader<R, A>,
+    output: &mut W,
+) -> claxon::Result<()>
+    ensures { FactsAreWritten W.contents flac.now result output.old output.new }
+{
+    let text = facts(alloc, flac)?;
+    output.write_all(text.as_bytes())?;
+    output.flush()?;
+    Ok(())
+}
+
+// The lines.
+fn facts<R: Read, A: Allocator + Copy>(
     alloc: A,
     flac: &FlacReader<R, A>,
 ) -> Result<String<A>, AllocError>

@@ -7,8 +7,8 @@ mod tests;
 mod text;
 
 use claxon::{FlacReader, FlacReaderOptions, Result};
-use claxon_write::{Output, words};
-use facts::facts;
+use claxon_write::words;
+use facts::write_facts;
 use std::fs;
 use std::io::{Read, Write};
 use std::process::ExitCode;
@@ -23,10 +23,7 @@ where
         read_vorbis_comment: true,
     };
     let flac = FlacReader::new_ext(rt.alloc(), fs::open(rt, name)?, options)?;
-    let text = facts(rt.alloc(), &flac)?;
-    let mut output = Output::new(output);
-    output.put(text.as_bytes())?;
-    output.flush()
+    write_facts(rt.alloc(), &flac, output)
 }
 
 // The status: 0, 1 for a fault, whose text goes to `errors`, or 2 for arguments that the usage line doesn't have.

@@ -1,5 +1,4 @@
 //! Values as text.
-ghost use Rattle.std.specs.Prelude.{◌≡◌, string_bytes};
 ghost use Rattle.claxon_info.specs.Facts.{Adds, IsText};
 ghost use Rattle.claxon_info.specs.Text.{escaped_char, escaped_text, length_text, md5_text, number_text, time_text};
 
