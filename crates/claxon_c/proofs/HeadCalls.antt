@@ -1,0 +1,102 @@
+-- What calls answer for the head at the front of bytes.
+use Rattle.std.proofs.Common.{◌≡◌, inl, inr, ℕ, zero, suc, true, List, [], ◌∷◌, length, nat_le, Option, None, Some, refl, sym, ap, subst, ◌∙◌, rules, Global}
+use Rattle.std.specs.Prelude.{Result, Ok, Err, map, slice_get, ◌≢◌, string_bytes}
+use Rattle.std.specs.declared.string.String.{String}
+use Rattle.claxon_format.specs.Heads.{Head, HeadCode, HeadFault}
+use Rattle.claxon_format.specs.Streams.{stream_of, with_samples}
+use Rattle.claxon_input.specs.declared.error.Error.{Error}
+use Rattle.claxon_input.specs.declared.error.Error.TheVariants.{OutOfMemory}
+use Rattle.claxon_metadata.specs.MetadataBlock.{HasBounds, info_view}
+use Rattle.claxon_metadata.specs.VorbisComment.{entry_view}
+use Rattle.claxon_metadata.specs.declared.metadata.StreamInfo.{StreamInfo}
+use Rattle.claxon_metadata.specs.declared.metadata.VorbisComment.{VorbisComment}
+use Rattle.claxon.specs.ReadHead.{found_view, head_view}
+use Rattle.claxon_uses.specs.Fronts.{BeginsWith}
+use Rattle.claxon_c.specs.declared.heads.ClaxonInfo.{ClaxonInfo}
+use Rattle.claxon_c.specs.Fronts.{FrontIs, HeadAtFront}
+use Rattle.claxon_c.specs.Heads.{AnswersText, EachHeadFaultIsTold, HeadFaultIsThere, NoHeadIsEnd, ShowsHead, StarvesAtHead, texts_of}
+use Rattle.claxon_c.specs.Info.{InfoShows, known_stream}
+use Rattle.claxon_c.specs.Status.{ErrorIsTold, SaysFault, out_of_memory}
+use Rattle.claxon_c.proofs.Told.{each_told, end_told, fault_told, memory_told, starved_told}
+
+module _ {A : Type 0} (view : StreamInfo × Option A → Head) (bytes : List ℕ) (taken status : ℕ) (old new : List ℕ) where
+  -- there is none
+  module _ (e : Error) (h : HeadAtFront view bytes (Err e) taken) (told : ErrorIsTold e status old new) where
+    pub head_fault : HeadFaultIsThere bytes status old new
+    head_fault = fault_told status old new bytes (λ f. HeadFault (with_samples true) f) e told h.fault
+
+    pub head_named : EachHeadFaultIsTold bytes status old new
+    head_named f begins = each_told status old new bytes (λ f. HeadFault (with_samples true) f) e told {A = StreamInfo × Option A} f (h.named f begins)
+
+    pub head_io : NoHeadIsEnd bytes status
+    head_io n = end_told status old new bytes (λ f. HeadFault (with_samples true) f) e told h.fault n
+
+    pub head_memory : StarvesAtHead bytes status
+    head_memory is = h.memory (memory_told status old new bytes (λ f. HeadFault (with_samples true) f) e told is)
+
+    pub head_starves : (head : Head) → BeginsWith (HeadCode (with_samples true) head) bytes → status ≡ out_of_memory
+    head_starves head begins = elim (h.complete head begins) [ inl p ↦ absurd p | inr s ↦ starved_told status old new bytes (λ f. HeadFault (with_samples true) f) e told s ]
+
+  -- this one stands there
+  module _ (z : StreamInfo × Option A) (h : HeadAtFront view bytes (Ok z) taken) where
+    not_starved : (let q : Result (StreamInfo × Option A) Error = Ok z in q) ≡ Err OutOfMemory → ⊥
+    not_starved p = cc
+
+    pub head_begins : BeginsWith (HeadCode (with_samples true) (view z)) bytes
+    head_begins = (h.sound.0, h.sound.1, h.sound.2, h.sound.3)
+
+    pub same_head : (head : Head) → BeginsWith (HeadCode (with_samples true) head) bytes → view z ≡ head
+    same_head head begins = elim (h.complete head begins) [ inl p ↦ p | inr s ↦ absurd (not_starved s) ]
+
+    pub no_head_fault : EachHeadFaultIsTold bytes status old new
+    no_head_fault f begins = absurd (elim (h.named f begins) [ inl p ↦ p | inr s ↦ not_starved s ])
+
+    pub head_is_there : NoHeadIsEnd bytes status
+    head_is_there n = absurd (n.no_code (view z) h.sound.0 h.sound.1 h.sound.2 h.sound.3)
+
+-- ---- what is shown of it
+
+known : (found : StreamInfo) (info : ClaxonInfo) (tags taken : ℕ) → InfoShows found tags taken info → HasBounds found → known_stream info ≡ Some (stream_of (info_view found))
+known found info tags taken shows bounds =
+    let some : nat_le 1 found.bits_per_sample ≡ true = search (rules, bounds.some_bits) in
+    let most : nat_le found.bits_per_sample 32 ≡ true = search (rules, bounds.bits) in
+    rw (shows.width, shows.least_block, shows.greatest_block, some, most) refl
+
+pub shows_head : (found : StreamInfo) (comment : Option (VorbisComment Global)) (info : ClaxonInfo) (tags taken : ℕ) → InfoShows found tags taken info → tags ≡ length (texts_of (found_view comment)) → HasBounds found
+    → ShowsHead (head_view (found, comment)) info.first_frame info
+shows_head found comment info tags taken shows count bounds = record {
+  first_frame = refl;
+  tags = shows.tags_are ∙ count;
+  samples = shows.samples;
+  rate = shows.rate;
+  channels = shows.channels;
+  width = shows.width;
+  least_block = shows.least_block;
+  greatest_block = shows.greatest_block;
+  stream = known found info tags taken shows bounds;
+}
+
+-- ---- a tag
+
+text_of_entry : (xs : List (String Global × ℕ)) (index : ℕ) (pair : String Global × ℕ) → slice_get xs index ≡ Some pair → slice_get (map (λ entry. entry.text) (map entry_view xs)) index ≡ Some (string_bytes pair.0)
+text_of_entry [] index pair e = absurd cc
+text_of_entry (x ∷ xs) zero pair e = let same : x ≡ pair = cc in ap (λ (z : String Global × ℕ). Some (string_bytes z.0)) same
+text_of_entry (x ∷ xs) (suc index) pair e = text_of_entry xs index pair e
+
+-- a tag is no error
+pub text_no_error : (text : Option (List ℕ)) (status : ℕ) (old new : List ℕ) (count : ℕ) → AnswersText text status old new count → (SaysFault status → ⊥) × (status ≢ out_of_memory)
+text_no_error None status old new count h = (λ says. elim says [ inl p ↦ absurd cc | inr p ↦ absurd cc ], λ p. absurd cc)
+text_no_error (Some text) status old new count (len, inl h) = (λ says. elim says [ inl p ↦ absurd cc | inr p ↦ absurd cc ], λ p. absurd cc)
+text_no_error (Some text) status old new count (len, inr h) = (λ says. elim says [ inl p ↦ absurd cc | inr p ↦ absurd cc ], λ p. absurd cc)
+
+-- it is that of the entry
+pub gives_text : (found : Option (VorbisComment Global)) (comment : VorbisComment Global) (index : ℕ) (pair : String Global × ℕ) (status : ℕ) (old new : List ℕ) (count : ℕ) → found ≡ Some comment → slice_get comment.comments.items index ≡ Some pair
+    → AnswersText (Some (string_bytes pair.0)) status old new count → AnswersText (slice_get (texts_of (found_view found)) index) status old new count
+gives_text found comment index pair status old new count is at h =
+    let e : slice_get (texts_of (found_view found)) index ≡ Some (string_bytes pair.0) = ap (λ (x : Option (VorbisComment Global)). slice_get (texts_of (found_view x)) index) is ∙ text_of_entry comment.comments.items index pair at in
+    subst (λ (x : Option (List ℕ)). AnswersText x status old new count) (sym e) h
+
+-- the head is what stands before the first frame
+pub head_at_first_frame : (found : StreamInfo) (comment : Option (VorbisComment Global)) (bytes : List ℕ) (info : ClaxonInfo) (tags taken : ℕ) → HeadAtFront (head_view {A = Global}) bytes (Ok (found, comment)) taken → InfoShows found tags taken info
+    → FrontIs (HeadCode (with_samples true) (head_view {A = Global} (found, comment))) bytes info.first_frame
+head_at_first_frame found comment bytes info tags taken h shows = (h.sound.0, h.sound.1, h.sound.2, h.sound.3, shows.first_frame_is ∙ h.sound.4)

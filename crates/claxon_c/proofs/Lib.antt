@@ -1,0 +1,5 @@
+pub mod AtFront
+pub mod BlockCalls
+pub mod HeadCalls
+pub mod PutPlaces
+pub mod Told

@@ -1,0 +1,50 @@
+use Rattle.std.proofs.Common.{inl, inr, refl, Global, subst}
+use Rattle.std.specs.Prelude.{Option}
+use Rattle.claxon_format.specs.Heads.{Head}
+use Rattle.claxon_metadata.specs.declared.metadata.StreamInfo.{StreamInfo}
+use Rattle.claxon_metadata.specs.declared.metadata.VorbisComment.{VorbisComment}
+use Rattle.claxon.specs.ReadHead.{head_view}
+use Rattle.claxon_c.specs.Heads.{ShowsHead}
+use Rattle.claxon_c.proofs.HeadCalls.{head_at_first_frame, head_fault, head_io, head_is_there, head_memory, head_named, head_starves, no_head_fault, same_head, shows_head}
+use Rattle.claxon_c.proofs.Told.{just_error}
+use Rattle.claxon_c.proofs.heads.claxon_open.Goals as goal
+
+pub returns-in-Ok : goal.returns-in-Ok
+returns-in-Ok c =
+    let view = head_view {A = Global} in
+    let bytes = c.args.bytes.now in
+    let taken = c.head_at_front.new.taken in
+    let old = c.args.error.now in
+    let z : StreamInfo × Option (VorbisComment Global) = (c.in-Ok.found, c.in-Ok.comment) in
+    let h = c.in-Ok.ensures in
+    let shows = shows_head c.in-Ok.found c.in-Ok.comment c.new.result c.count_tags.result taken c.new.ensures c.count_tags.ensures h.bounds in
+    record {
+      sound = λ says. (view z, head_at_first_frame c.in-Ok.found c.in-Ok.comment bytes c.new.result c.count_tags.result taken h c.new.ensures, shows);
+      complete = λ head begins. inl (refl, subst (λ (x : Head). ShowsHead x c.new.result.first_frame c.new.result) (same_head view bytes taken 0 old old z h head begins) shows);
+      fault = λ says. absurd (elim says [ inl p ↦ absurd cc | inr p ↦ absurd cc ]);
+      named = no_head_fault view bytes taken 0 old old z h;
+      io = head_is_there view bytes taken 0 old old z h;
+      memory = λ is. absurd cc;
+      kept = λ no. absurd (no refl);
+    }
+
+pub returns-in-Err : goal.returns-in-Err
+returns-in-Err c =
+    let view = head_view {A = Global} in
+    let bytes = c.args.bytes.now in
+    let taken = c.head_at_front.new.taken in
+    let status = c.tell.result in
+    let old = c.args.error.now in
+    let new = c.tell.new.output in
+    let e = c.in-Err.fault in
+    let h = c.in-Err.ensures in
+    let told = c.tell.ensures in
+    record {
+      sound = λ says. absurd ((just_error status old new e told).0 says);
+      complete = λ head begins. inr (head_starves view bytes taken status old new e h told head begins);
+      fault = head_fault view bytes taken status old new e h told;
+      named = head_named view bytes taken status old new e h told;
+      io = head_io view bytes taken status old new e h told;
+      memory = head_memory view bytes taken status old new e h told;
+      kept = λ no. refl;
+    }

@@ -1,0 +1,42 @@
+-- What private calls answer for what stands at the front of bytes, and how many bytes that has.
+use Rattle.std.specs.Prelude.{◌≡◌, ◌⊎◌, ℕ, ◌≤◌, true, List, ◌++◌, length, Option, Result, IfErr, IfOk, IfSome, IsErrAnd, IsOkAnd}
+use Rattle.claxon_format.specs.Fault.{Fault}
+use Rattle.claxon_format.specs.Frame.{StreamShape, Frame}
+use Rattle.claxon_format.specs.Heads.{Head, HeadCode, HeadFault}
+use Rattle.claxon_format.specs.Streams.{with_samples}
+use Rattle.claxon_input.specs.Error.{IsFault, IsIo}
+use Rattle.claxon_input.specs.Promises.{IsStarved}
+use Rattle.claxon_input.specs.declared.error.Error.{Error}
+use Rattle.claxon_input.specs.declared.error.Error.TheVariants.{OutOfMemory}
+use Rattle.claxon_metadata.specs.declared.metadata.StreamInfo.{StreamInfo}
+use Rattle.claxon_metadata.specs.MetadataBlock.{HasBounds}
+use Rattle.claxon_frame.specs.FrameReader.{FrameAnswer, block_view}
+use Rattle.claxon.specs.ReadHead.{WantsMemory}
+use Rattle.claxon_uses.specs.Fronts.{BeginsWith}
+use Rattle.claxon_uses.specs.FramesInMemory.{EachBlockIsDecoded, EachFaultIsTold, FaultIsThere, NoneIsNoFrame, StarvesAtHeader}
+
+-- its samples have a width
+abbrev pub HasWidth : StreamInfo → Type 0
+HasWidth info = (1 ≤ info.bits_per_sample) × (info.bits_per_sample ≤ 32)
+
+-- A code of so many bytes stands at the front.
+abbrev pub FrontIs : (List ℕ → Type 0) → List ℕ → ℕ → Type 0
+FrontIs Code bytes count = (t : List ℕ) × (rest : List ℕ) × Code t × (bytes ≡ t ++ rest) × (count ≡ length t)
+
+-- What stands there is the head that is answered, or what the error says.
+pub record HeadAtFront {A : Type 0} (view : StreamInfo × Option A → Head) (bytes : List ℕ) (r : Result (StreamInfo × Option A) Error) (taken : ℕ) : Type 0 where
+  pub bounds : IfOk r (λ shown. HasBounds shown.0)
+  pub sound : IfOk r (λ shown. FrontIs (HeadCode (with_samples true) (view shown)) bytes taken)
+  pub complete : (h : Head) → BeginsWith (HeadCode (with_samples true) h) bytes → IsOkAnd r (λ shown. view shown ≡ h) ⊎ IsStarved r
+  pub fault : IfErr r (λ e. (e ≡ OutOfMemory) ⊎ (IsIo e ⊎ ((f : Fault) × IsFault f e × BeginsWith (HeadFault (with_samples true) f) bytes)))
+  pub named : (f : Fault) → BeginsWith (HeadFault (with_samples true) f) bytes → IsErrAnd r (IsFault f) ⊎ IsStarved r
+  pub memory : IsStarved r → WantsMemory bytes
+
+-- What stands there is the frame of the block that is answered, or what the error says, or there are too few bytes for one.
+pub record FrameAtFront (stream : Option StreamShape) (bytes : List ℕ) (r : FrameAnswer) (taken : ℕ) : Type 0 where
+  pub sound : IfOk r (λ found. IfSome found (λ block. FrontIs (Frame stream (block_view block)) bytes taken))
+  pub complete : EachBlockIsDecoded stream bytes r
+  pub end : NoneIsNoFrame bytes r
+  pub fault : FaultIsThere stream bytes r
+  pub named : EachFaultIsTold stream bytes r
+  pub memory : StarvesAtHeader stream bytes r

@@ -1,0 +1,77 @@
+-- What calls answer that read the head at the front of bytes. Of the excuses of a reader just want of memory is left, since no read of bytes in memory fails.
+use Rattle.std.specs.Prelude.{◌≡◌, ◌≢◌, ◌⊎◌, ℕ, ◌≤◌, ◌<◌, true, List, [], length, map, slice_get, Option, None, Some}
+use Rattle.claxon_format.specs.Comments.{Comment}
+use Rattle.claxon_format.specs.Fault.{Fault}
+use Rattle.claxon_format.specs.Heads.{Head, HeadCode, HeadFault}
+use Rattle.claxon_format.specs.Streams.{stream_of, with_samples}
+use Rattle.claxon_input.specs.Promises.{HasNeither}
+use Rattle.claxon.specs.ReadHead.{WantsMemory}
+use Rattle.claxon_uses.specs.Fronts.{BeginsWith}
+use Rattle.claxon_c.specs.declared.heads.ClaxonInfo.{ClaxonInfo}
+use Rattle.claxon_c.specs.Fronts.{FrontIs}
+use Rattle.claxon_c.specs.Info.{known_stream}
+use Rattle.claxon_c.specs.Status.{FaultIsTold, SaysFault, TextIsPut, buffer_short, input_ends, no_more, ok, out_of_memory}
+
+-- the texts of tags
+abbrev pub texts_of : Option Comment → List (List ℕ)
+texts_of None = []
+texts_of (Some comment) = map (λ entry. entry.text) comment.entries
+
+-- It shows this head of so many bytes, and says what its frames need to know.
+pub record ShowsHead (h : Head) (count : ℕ) (info : ClaxonInfo) : Type 0 where
+  pub first_frame : info.first_frame ≡ count
+  pub tags : info.tags ≡ length (texts_of h.comment)
+  pub samples : info.samples ≡ h.info.samples
+  pub rate : info.sample_rate ≡ h.info.rate
+  pub channels : info.channels ≡ h.info.channels
+  pub width : info.bits_per_sample ≡ h.info.width
+  pub least_block : info.min_block_size ≡ h.info.least_block
+  pub greatest_block : info.max_block_size ≡ h.info.greatest_block
+  pub stream : known_stream info ≡ Some (stream_of h.info)
+
+-- The answer for a place among texts: the text and its length, its length alone where there is no room for it, or that there is none.
+abbrev pub AnswersText : Option (List ℕ) → ℕ → List ℕ → List ℕ → ℕ → Type 0
+AnswersText None status old new count = status ≡ no_more
+AnswersText (Some text) status old new count =
+    (count ≡ length text) × (((status ≡ ok) × (length text < length old) × TextIsPut text old new) ⊎ ((status ≡ buffer_short) × (length old ≤ length text)))
+
+-- the status says that a head stands there
+abbrev pub SaysHead : ℕ → Type 0
+SaysHead status = (status ≡ ok) ⊎ ((status ≡ no_more) ⊎ (status ≡ buffer_short))
+
+-- Nothing is shown but a head.
+abbrev pub InfoIsKept : ℕ → ClaxonInfo → ClaxonInfo → Type 0
+InfoIsKept status old new = status ≢ ok → new ≡ old
+
+module _ (bytes : List ℕ) (status : ℕ) where
+  -- `ok` says that the head that is shown stands at the front.
+  abbrev pub HeadIsOpened : ClaxonInfo → Type 0
+  HeadIsOpened info = status ≡ ok → (h : Head) × FrontIs (HeadCode (with_samples true) h) bytes info.first_frame × ShowsHead h info.first_frame info
+
+  -- Any head that stands there is shown, if memory is found.
+  abbrev pub EachHeadIsOpened : ClaxonInfo → Type 0
+  EachHeadIsOpened info = (h : Head) → BeginsWith (HeadCode (with_samples true) h) bytes → ((status ≡ ok) × ShowsHead h info.first_frame info) ⊎ (status ≡ out_of_memory)
+
+  -- A tag, or that there is none, or that there is no room for it, is answered of the head that stands there.
+  abbrev pub TagIsThere : ℕ → List ℕ → List ℕ → ℕ → Type 0
+  TagIsThere index old new count = SaysHead status → (h : Head) × BeginsWith (HeadCode (with_samples true) h) bytes × AnswersText (slice_get (texts_of h.comment) index) status old new count
+
+  -- That of any head that stands there is, if memory is found.
+  abbrev pub EachTagIsGiven : ℕ → List ℕ → List ℕ → ℕ → Type 0
+  EachTagIsGiven index old new count = (h : Head) → BeginsWith (HeadCode (with_samples true) h) bytes → AnswersText (slice_get (texts_of h.comment) index) status old new count ⊎ (status ≡ out_of_memory)
+
+  -- A status of a fault tells one that stands there; the text is put into `new`.
+  abbrev pub HeadFaultIsThere : List ℕ → List ℕ → Type 0
+  HeadFaultIsThere old new = SaysFault status → (f : Fault) × BeginsWith (HeadFault (with_samples true) f) bytes × FaultIsTold f status old new
+
+  -- Any fault that stands there is told, if memory is found.
+  abbrev pub EachHeadFaultIsTold : List ℕ → List ℕ → Type 0
+  EachHeadFaultIsTold old new = (f : Fault) → BeginsWith (HeadFault (with_samples true) f) bytes → FaultIsTold f status old new ⊎ (status ≡ out_of_memory)
+
+  -- Where neither stands the bytes end, if memory is found.
+  abbrev pub NoHeadIsEnd : Type 0
+  NoHeadIsEnd = HasNeither (HeadCode (with_samples true)) (HeadFault (with_samples true)) bytes → (status ≡ input_ends) ⊎ (status ≡ out_of_memory)
+
+  -- Memory is wanted only for a block of an application or of comments.
+  abbrev pub StarvesAtHead : Type 0
+  StarvesAtHead = status ≡ out_of_memory → WantsMemory bytes

@@ -1,0 +1,24 @@
+-- A `ClaxonInfo` in the words of the format.
+use Rattle.std.specs.Prelude.{◌≡◌, ℕ, nat_le, ◌&&◌, cond, Option, None, Some}
+use Rattle.claxon_format.specs.Frame.{StreamShape}
+use Rattle.claxon_metadata.specs.MetadataBlock.{or_zero}
+use Rattle.claxon_metadata.specs.declared.metadata.StreamInfo.{StreamInfo}
+use Rattle.claxon_c.specs.declared.heads.ClaxonInfo.{ClaxonInfo}
+
+-- It shows this streaminfo, and these counts of tags and of bytes before the first frame.
+pub record InfoShows (found : StreamInfo) (tags first_frame : ℕ) (info : ClaxonInfo) : Type 0 where
+  pub first_frame_is : info.first_frame ≡ first_frame
+  pub tags_are : info.tags ≡ tags
+  pub samples : info.samples ≡ or_zero found.samples
+  pub rate : info.sample_rate ≡ found.sample_rate
+  pub channels : info.channels ≡ found.channels
+  pub width : info.bits_per_sample ≡ found.bits_per_sample
+  pub least_block : info.min_block_size ≡ found.min_block_size
+  pub greatest_block : info.max_block_size ≡ found.max_block_size
+
+-- What it says of the stream: nothing, where no sample has its width.
+abbrev pub known_stream : ClaxonInfo → Option StreamShape
+known_stream info =
+    cond (nat_le 1 info.bits_per_sample && nat_le info.bits_per_sample 32)
+    (Some (record { width = info.bits_per_sample; least_block = info.min_block_size; greatest_block = info.max_block_size }))
+    None

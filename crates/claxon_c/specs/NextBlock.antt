@@ -1,0 +1,73 @@
+-- What a call answers for the frame at a place in bytes.
+use Rattle.std.specs.Prelude.{◌≡◌, ◌≢◌, ◌⊎◌, ◌↔◌, ℕ, ℤ, ◌+◌, ◌*◌, ◌<◌, ◌≤◌, List, ◌++◌, length, drop, Option}
+use Rattle.claxon_format.specs.Fault.{Fault}
+use Rattle.claxon_format.specs.Frame.{StreamShape, Block, Frame, FrameBytesFault}
+use Rattle.claxon_format.specs.Streams.{duration, interleave}
+use Rattle.claxon_input.specs.Promises.{HasNeither}
+use Rattle.claxon_frame.specs.FrameReader.{HeaderAlone}
+use Rattle.claxon_uses.specs.Fronts.{BeginsWith}
+use Rattle.claxon_c.specs.declared.next_block.ClaxonBlock.{ClaxonBlock}
+use Rattle.claxon_c.specs.Status.{FaultIsTold, SaysFault, buffer_short, input_ends, no_more, ok, out_of_memory}
+
+-- The samples of each place stand in front now, and what was behind them stays.
+abbrev pub SamplesArePut : List (List ℤ) → List ℤ → List ℤ → Type 0
+SamplesArePut channels old new = new ≡ interleave channels ++ drop (length channels * duration channels) old
+
+-- It shows this block.
+pub record ShowsBlock (b : Block) (shown : ClaxonBlock) : Type 0 where
+  pub time : shown.time ≡ b.time
+  pub channels : shown.channels ≡ length b.channels
+  pub duration_is : shown.duration ≡ duration b.channels
+
+-- The samples of the block are put where there is room, and else it is said that there is none.
+abbrev pub SamplesAreGiven : Block → ℕ → List ℤ → List ℤ → Type 0
+SamplesAreGiven b status old new =
+    ((status ≡ ok) × (length b.channels * duration b.channels ≤ length old) × SamplesArePut b.channels old new)
+    ⊎ ((status ≡ buffer_short) × (length old < length b.channels * duration b.channels))
+
+-- the status says that a frame stands there
+abbrev pub SaysBlock : ℕ → Type 0
+SaysBlock status = (status ≡ ok) ⊎ (status ≡ buffer_short)
+
+-- A frame of the block stands at the place, and with `ok` the place is behind it now.
+pub record StandsAt (stream : Option StreamShape) (bytes : List ℕ) (b : Block) (status from to : ℕ) : Type 0 where
+  pub front : List ℕ
+  pub rest : List ℕ
+  pub frame : Frame stream b front
+  pub joined : drop from bytes ≡ front ++ rest
+  pub place : status ≡ ok → to ≡ from + length front
+
+module _ (stream : Option StreamShape) (bytes : List ℕ) (status from to : ℕ) (old new : List ℤ) (shown : ClaxonBlock) where
+  -- The block is shown whose frame stands at the place, its samples are put, and the place is behind it.
+  abbrev pub BlockIsThere : Type 0
+  BlockIsThere = SaysBlock status → (b : Block) × StandsAt stream bytes b status from to × ShowsBlock b shown × SamplesAreGiven b status old new
+
+  -- The block of any frame that stands there is, if memory is found.
+  abbrev pub EachBlockIsGiven : Type 0
+  EachBlockIsGiven = (b : Block) → BeginsWith (Frame stream b) (drop from bytes) → (ShowsBlock b shown × SamplesAreGiven b status old new) ⊎ (status ≡ out_of_memory)
+
+-- Nothing else moves the place or puts samples.
+abbrev pub PlaceIsKept : ℕ → ℕ → ℕ → List ℤ → List ℤ → Type 0
+PlaceIsKept status from to old new = status ≢ ok → (to ≡ from) × (new ≡ old)
+
+-- `bytes` are those from the place on.
+module _ (stream : Option StreamShape) (bytes : List ℕ) (status : ℕ) where
+  -- A status of a fault tells one that stands there; the text is put into `new`.
+  abbrev pub FaultIsThere : List ℕ → List ℕ → Type 0
+  FaultIsThere old new = SaysFault status → (f : Fault) × BeginsWith (FrameBytesFault stream f) bytes × FaultIsTold f status old new
+
+  -- Any fault that stands there is told, if memory is found.
+  abbrev pub EachFaultIsTold : List ℕ → List ℕ → Type 0
+  EachFaultIsTold old new = (f : Fault) → BeginsWith (FrameBytesFault stream f) bytes → FaultIsTold f status old new ⊎ (status ≡ out_of_memory)
+
+  -- Where two bytes or more are left and neither stands the bytes end, if memory is found.
+  abbrev pub NoFrameIsEnd : Type 0
+  NoFrameIsEnd = 2 ≤ length bytes → HasNeither (Frame stream) (FrameBytesFault stream) bytes → (status ≡ input_ends) ⊎ (status ≡ out_of_memory)
+
+  -- Memory is wanted only where they begin with the header of a frame that has samples.
+  abbrev pub StarvesAtHeader : Type 0
+  StarvesAtHeader = status ≡ out_of_memory → BeginsWith (HeaderAlone stream 0) bytes
+
+-- `no_more` is answered exactly where fewer than two bytes are left.
+abbrev pub TooFewIsNoMore : List ℕ → ℕ → Type 0
+TooFewIsNoMore bytes status = (status ≡ no_more) ↔ (length bytes < 2)

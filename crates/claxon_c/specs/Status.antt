@@ -1,0 +1,49 @@
+-- What calls answer: a status, and a text that ends with a zero byte.
+use Rattle.std.specs.Prelude.{◌≡◌, ◌⊎◌, ℕ, ◌-◌, ◌<◌, cond, List, [], ◌∷◌, ◌++◌, codes, length, take, drop}
+use Rattle.claxon_format.specs.Fault.{Fault, fault_text, is_unsupported}
+use Rattle.claxon_input.specs.declared.error.Error.{Error}
+use Rattle.claxon_input.specs.declared.error.Error.TheVariants.{IoError, FormatError, Unsupported, OutOfMemory}
+
+abbrev pub ok : ℕ
+ok = 0
+
+abbrev pub format_error : ℕ
+format_error = 1
+
+abbrev pub unsupported : ℕ
+unsupported = 2
+
+abbrev pub input_ends : ℕ
+input_ends = 3
+
+abbrev pub out_of_memory : ℕ
+out_of_memory = 4
+
+abbrev pub no_more : ℕ
+no_more = 5
+
+abbrev pub buffer_short : ℕ
+buffer_short = 6
+
+-- as much of a text as so much room takes, and a zero byte
+abbrev pub ended : List ℕ → ℕ → List ℕ
+ended text room = take (room - 1) text ++ 0 ∷ []
+
+-- That stands in front now, if there is any room, and what was behind it stays.
+abbrev pub TextIsPut : List ℕ → List ℕ → List ℕ → Type 0
+TextIsPut text old new = 0 < length old → new ≡ ended text (length old) ++ drop (length (ended text (length old))) old
+
+-- The status is that of the error, and its text is put.
+abbrev pub ErrorIsTold : Error → ℕ → List ℕ → List ℕ → Type 0
+ErrorIsTold (FormatError reason) status old new = (status ≡ format_error) × TextIsPut reason.now old new
+ErrorIsTold (Unsupported feature) status old new = (status ≡ unsupported) × TextIsPut feature.now old new
+ErrorIsTold (IoError cause) status old new = (status ≡ input_ends) × TextIsPut (codes "the bytes end") old new
+ErrorIsTold OutOfMemory status old new = (status ≡ out_of_memory) × TextIsPut (codes "out of memory") old new
+
+-- The status is that of the fault's kind, and the fault's text is put.
+abbrev pub FaultIsTold : Fault → ℕ → List ℕ → List ℕ → Type 0
+FaultIsTold f status old new = (status ≡ cond (is_unsupported f) unsupported format_error) × TextIsPut (fault_text f) old new
+
+-- the status says that there is a fault
+abbrev pub SaysFault : ℕ → Type 0
+SaysFault status = (status ≡ format_error) ⊎ (status ≡ unsupported)

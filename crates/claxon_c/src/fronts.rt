@@ -1,0 +1,72 @@
+//! What stands at the front of bytes.
+ghost use Rattle.std.specs.Prelude.{◌≡◌, IfSome};
+ghost use Rattle.std.specs.Option.{option_map};
+ghost use Rattle.std.specs.Io.Cursor.{cursor_inner, cursor_position};
+ghost use Rattle.claxon_input.specs.Cursor.{cursor_left};
+ghost use Rattle.claxon.specs.ReadHead.{head_view};
+ghost use Rattle.claxon_frame.specs.FrameReader.{frame_input, frame_stream, stream_with};
+ghost use Rattle.claxon_c.specs.Fronts.{FrameAtFront, HasWidth, HeadAtFront};
+
+use claxon::frame::{FrameReader, FrameResult};
+use claxon::metadata::{StreamInfo, VorbisComment};
+use claxon::{FlacReaderOptions, Result, read_head};
+use std::alloc::Global;
+use std::io::Cursor;
+
+// The head at the front, and how many bytes it has.
+pub(crate) fn head_at_front(
+    alloc: Global,
+    bytes: &[u8],
+    taken: &mut usize,
+) -> Result<(StreamInfo, Option<VorbisComment>)>
+    ensures { HeadAtFront head_view bytes.now result taken.new }
+{
+    let options = FlacReaderOptions {
+        metadata_only: false,
+        read_vorbis_comment: true,
+    };
+    let mut input = Cursor::new(bytes);
+    let head = read_head(alloc, &mut input, options);
+    *taken = bytes.len().saturating_sub(left_in(&input));
+    head
+}
+
+// The block of the frame at the front, and how many bytes it has.
+pub(crate) fn block_at_front(
+    alloc: Global,
+    bytes: &[u8],
+    known: Option<StreamInfo>,
+    taken: &mut usize,
+) -> FrameResult
+    requires { IfSome known (λ info. HasWidth info) }
+    ensures { FrameAtFront (option_map stream_with known) bytes.now result taken.new }
+{
+    let mut frames = frames_of(bytes, known);
+    let found = frames.read_next_or_eof(Vec::new(alloc));
+    *taken = bytes.len().saturating_sub(left_in(&frames.into_inner()));
+    found
+}
+
+// A reader of the frames in the bytes.
+fn frames_of(bytes: &[u8], known: Option<StreamInfo>) -> FrameReader<Cursor<&[u8]>>
+    requires { IfSome known (λ info. HasWidth info) }
+    ensures position { cursor_position (frame_input result) ≡ 0 }
+    ensures inner { cursor_inner (frame_input result) ≡ bytes.entry }
+    ensures stream { frame_stream result ≡ option_map stream_with known }
+{
+    let input = Cursor::new(bytes);
+    match known {
+        Some(info) => FrameReader::with_streaminfo(input, info),
+        None => FrameReader::new(input),
+    }
+}
+
+// How many bytes it hasn't given.
+fn left_in(input: &Cursor<&[u8]>) -> usize
+    ensures { result ≡ cursor_left (λ slice. slice.now) input.now }
+{
+    input
+        .get_ref()
+        .len()
+        .saturating_sub(input.position() as usize)
+}

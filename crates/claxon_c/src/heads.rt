@@ -1,0 +1,154 @@
+//! The head of a stream.
+ghost use Rattle.std.specs.Prelude.{◌≡◌, IfSome, length, slice_get};
+ghost use Rattle.std.specs.Option.{option_map};
+ghost use Rattle.claxon.specs.ReadHead.{found_view};
+ghost use Rattle.claxon_frame.specs.FrameReader.{stream_with};
+ghost use Rattle.claxon_c.specs.Fronts.{HasWidth};
+ghost use Rattle.claxon_c.specs.Info.{InfoShows, known_stream};
+ghost use Rattle.claxon_c.specs.Heads.{AnswersText, EachHeadFaultIsTold, EachHeadIsOpened, EachTagIsGiven, HeadFaultIsThere, HeadIsOpened, InfoIsKept, NoHeadIsEnd, StarvesAtHead, TagIsThere, texts_of};
+
+use crate::fronts::head_at_front;
+use crate::status::{BUFFER_SHORT, NO_MORE, OK, put_text, tell};
+use claxon::metadata::{StreamInfo, VorbisComment};
+use std::alloc::Global;
+
+/// What the head of a stream says, and where its first frame stands.
+#[repr(C)]
+#[derive(Clone, Copy, Debug)]
+pub struct ClaxonInfo {
+    /// The number of bytes of the head.
+    pub first_frame: usize,
+    /// The number of tags.
+    pub tags: usize,
+    /// The number of samples of each channel, or 0 where it isn't known.
+    pub samples: u64,
+    /// The sample rate in Hz.
+    pub sample_rate: u32,
+    /// The number of channels, 1 to 8.
+    pub channels: u32,
+    /// The width of a sample in bits, 1 to 32.
+    pub bits_per_sample: u32,
+    /// The least number of samples of a channel in a block, the last block aside.
+    pub min_block_size: u16,
+    /// The greatest number of samples of a channel in a block.
+    pub max_block_size: u16,
+}
+
+impl ClaxonInfo {
+    fn new(found: &StreamInfo, tags: usize, first_frame: usize) -> ClaxonInfo
+        ensures { InfoShows found.now tags first_frame result }
+    {
+        ClaxonInfo {
+            first_frame,
+            tags,
+            samples: found.samples.unwrap_or(0),
+            sample_rate: found.sample_rate,
+            channels: found.channels,
+            bits_per_sample: found.bits_per_sample,
+            min_block_size: found.min_block_size,
+            max_block_size: found.max_block_size,
+        }
+    }
+
+    // What frames need of it. A width that no sample has says that nothing is known of the stream.
+    pub(crate) fn known_stream(&self) -> Option<StreamInfo>
+        ensures width { IfSome result (λ info. HasWidth info) }
+        ensures stream { option_map stream_with result ≡ known_stream self.now }
+    {
+        if self.bits_per_sample < 1 || self.bits_per_sample > 32 {
+            return None;
+        }
+        Some(StreamInfo {
+            min_block_size: self.min_block_size,
+            max_block_size: self.max_block_size,
+            min_frame_size: None,
+            max_frame_size: None,
+            sample_rate: self.sample_rate,
+            channels: self.channels,
+            bits_per_sample: self.bits_per_sample,
+            samples: None,
+            md5sum: [0; 16],
+        })
+    }
+}
+
+fn count_tags(comment: &Option<VorbisComment>) -> usize
+    ensures { result ≡ length (texts_of (found_view comment.now)) }
+{
+    match comment {
+        Some(comment) => comment.comments.len(),
+        None => 0,
+    }
+}
+
+/// Reads the head that the bytes begin with.
+#[unsafe(no_mangle)]
+pub extern "C" fn claxon_open(
+    alloc: Global,
+    bytes: &[u8],
+    info: &mut ClaxonInfo,
+    error: &mut [u8],
+) -> u32
+    ensures sound { HeadIsOpened bytes.now result info.new }
+    ensures complete { EachHeadIsOpened bytes.now result info.new }
+    ensures fault { HeadFaultIsThere bytes.now result error.old error.new }
+    ensures named { EachHeadFaultIsTold bytes.now result error.old error.new }
+    ensures io { NoHeadIsEnd bytes.now result }
+    ensures memory { StarvesAtHead bytes.now result }
+    ensures kept { InfoIsKept result info.old info.new }
+{
+    let mut taken = 0;
+    match head_at_front(alloc, bytes, &mut taken) {
+        Ok((found, comment)) => {
+            *info = ClaxonInfo::new(&found, count_tags(&comment), taken);
+            OK
+        }
+        Err(fault) => tell(&fault, error),
+    }
+}
+
+/// Puts the text `NAME=value` of a tag, and a zero byte behind it.
+#[unsafe(no_mangle)]
+pub extern "C" fn claxon_tag(
+    alloc: Global,
+    bytes: &[u8],
+    index: usize,
+    text: &mut [u8],
+    text_length: &mut usize,
+) -> u32
+    ensures sound { TagIsThere bytes.now result index text.old text.new text_length.new }
+    ensures complete { EachTagIsGiven bytes.now result index text.old text.new text_length.new }
+    ensures fault { HeadFaultIsThere bytes.now result text.old text.new }
+    ensures named { EachHeadFaultIsTold bytes.now result text.old text.new }
+    ensures io { NoHeadIsEnd bytes.now result }
+    ensures memory { StarvesAtHead bytes.now result }
+{
+    let mut taken = 0;
+    match head_at_front(alloc, bytes, &mut taken) {
+        Ok((_, comment)) => give_tag(&comment, index, text, text_length),
+        Err(fault) => tell(&fault, text),
+    }
+}
+
+// Puts a tag of these comments where there is room.
+fn give_tag(
+    comment: &Option<VorbisComment>,
+    index: usize,
+    text: &mut [u8],
+    text_length: &mut usize,
+) -> u32
+    ensures { AnswersText (slice_get (texts_of (found_view comment.now)) index) result text.old text.new text_length.new }
+{
+    let Some(comment) = comment else {
+        return NO_MORE;
+    };
+    let Some((tag, _)) = comment.comments.get(index) else {
+        return NO_MORE;
+    };
+    *text_length = tag.len();
+    if text.len() <= tag.len() {
+        return BUFFER_SHORT;
+    }
+    put_text(tag.as_str(), text);
+    OK
+}

@@ -1,0 +1,73 @@
+//! Blocks, one after another.
+ghost use Rattle.std.specs.Prelude.{◌≡◌, drop};
+ghost use Rattle.claxon_frame.specs.FrameReader.{block_view};
+ghost use Rattle.claxon_c.specs.Info.{known_stream};
+ghost use Rattle.claxon_c.specs.NextBlock.{BlockIsThere, EachBlockIsGiven, EachFaultIsTold, FaultIsThere, NoFrameIsEnd, PlaceIsKept, ShowsBlock, StarvesAtHeader, TooFewIsNoMore};
+
+use crate::fronts::block_at_front;
+use crate::heads::ClaxonInfo;
+use crate::place::put_samples;
+use crate::status::{BUFFER_SHORT, NO_MORE, OK, tell};
+use claxon::Block;
+use std::alloc::Global;
+
+/// What a block says of itself.
+#[repr(C)]
+#[derive(Clone, Copy, Debug)]
+pub struct ClaxonBlock {
+    /// The number of samples of each channel before it.
+    pub time: u64,
+    /// The number of channels.
+    pub channels: u32,
+    /// The number of samples of each channel.
+    pub duration: u32,
+}
+
+impl ClaxonBlock {
+    fn new(block: &Block) -> ClaxonBlock
+        ensures { ShowsBlock (block_view block.now) result }
+    {
+        ClaxonBlock {
+            time: block.time(),
+            channels: block.channels(),
+            duration: block.duration(),
+        }
+    }
+}
+
+/// Decodes the frame at the place into samples, place by place, and moves the place behind it.
+#[unsafe(no_mangle)]
+pub extern "C" fn claxon_next_block(
+    alloc: Global,
+    bytes: &[u8],
+    at: &mut usize,
+    info: &ClaxonInfo,
+    samples: &mut [i32],
+    block: &mut ClaxonBlock,
+    error: &mut [u8],
+) -> u32
+    ensures sound { BlockIsThere (known_stream info.now) bytes.now result at.old at.new samples.old samples.new block.new }
+    ensures complete { EachBlockIsGiven (known_stream info.now) bytes.now result at.old at.new samples.old samples.new block.new }
+    ensures fault { FaultIsThere (known_stream info.now) (drop at.old bytes.now) result error.old error.new }
+    ensures named { EachFaultIsTold (known_stream info.now) (drop at.old bytes.now) result error.old error.new }
+    ensures end { TooFewIsNoMore (drop at.old bytes.now) result }
+    ensures io { NoFrameIsEnd (known_stream info.now) (drop at.old bytes.now) result }
+    ensures memory { StarvesAtHeader (known_stream info.now) (drop at.old bytes.now) result }
+    ensures kept { PlaceIsKept result at.old at.new samples.old samples.new }
+{
+    let start = bytes.len().min(*at);
+    let mut taken = 0;
+    match block_at_front(alloc, &bytes[start..], info.known_stream(), &mut taken) {
+        Ok(Some(found)) => {
+            *block = ClaxonBlock::new(&found);
+            if samples.len() < found.len() as usize {
+                return BUFFER_SHORT;
+            }
+            put_samples(&found, samples);
+            *at = start + taken;
+            OK
+        }
+        Ok(None) => NO_MORE,
+        Err(fault) => tell(&fault, error),
+    }
+}

@@ -1,0 +1,55 @@
+//! What calls answer: a status, and a text for an error.
+ghost use Rattle.claxon_c.specs.Status.{ErrorIsTold, TextIsPut};
+
+use claxon::Error;
+
+pub(crate) const OK: u32 = 0;
+
+pub(crate) const FORMAT_ERROR: u32 = 1;
+
+pub(crate) const UNSUPPORTED: u32 = 2;
+
+pub(crate) const INPUT_ENDS: u32 = 3;
+
+pub(crate) const OUT_OF_MEMORY: u32 = 4;
+
+pub(crate) const NO_MORE: u32 = 5;
+
+pub(crate) const BUFFER_SHORT: u32 = 6;
+
+// Puts as much of the text as there is room for, and a zero byte behind it.
+pub(crate) fn put_text(text: &str, output: &mut [u8])
+    ensures { TextIsPut text.now output.old output.new }
+{
+    let room = output.len();
+    if room > 0 {
+        let bytes = text.as_bytes();
+        let count = bytes.len().min(room - 1);
+        output[..count].copy_from_slice(&bytes[..count]);
+        output[count] = 0;
+    }
+}
+
+// The status of the error, whose text is put.
+pub(crate) fn tell(error: &Error, output: &mut [u8]) -> u32
+    ensures { ErrorIsTold error.now result output.old output.new }
+{
+    match error {
+        Error::FormatError(reason) => {
+            put_text(reason, output);
+            FORMAT_ERROR
+        }
+        Error::Unsupported(feature) => {
+            put_text(feature, output);
+            UNSUPPORTED
+        }
+        Error::IoError(_) => {
+            put_text("the bytes end", output);
+            INPUT_ENDS
+        }
+        Error::OutOfMemory => {
+            put_text("out of memory", output);
+            OUT_OF_MEMORY
+        }
+    }
+}
