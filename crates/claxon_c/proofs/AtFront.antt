@@ -22,7 +22,7 @@ use Rattle.claxon_uses.proofs.StreamsInMemory.{slice_state}
 use Rattle.claxon_uses.specs.Fronts.{BeginsWith}
 use Rattle.claxon_input.specs.Error.{IsFault, IsIo}
 use Rattle.claxon_input.specs.declared.error.Error.TheVariants.{OutOfMemory}
-use Rattle.claxon_c.specs.Fronts.{FrameAtFront, FrontIs, HeadAtFront}
+use Rattle.claxon_c.specs.AtFront.{FrameAtFront, FrontIs, HeadAtFront}
 
 abbrev Slice : Type 0
 Slice = Cursor (Bor (List ℕ))

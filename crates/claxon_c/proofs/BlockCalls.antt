@@ -12,7 +12,7 @@ use Rattle.claxon_frame.specs.Block.{BlockValue}
 use Rattle.claxon_frame.specs.FrameReader.{FrameAnswer, block_view}
 use Rattle.claxon_uses.specs.Fronts.{BeginsWith}
 use Rattle.claxon_c.specs.declared.next_block.ClaxonBlock.{ClaxonBlock}
-use Rattle.claxon_c.specs.Fronts.{FrameAtFront}
+use Rattle.claxon_c.specs.AtFront.{FrameAtFront}
 use Rattle.claxon_c.specs.NextBlock.{BlockIsThere, SaysBlock, EachBlockIsGiven, EachFaultIsTold, FaultIsThere, NoFrameIsEnd, PlaceIsKept, SamplesAreGiven, ShowsBlock, StarvesAtHeader, TooFewIsNoMore}
 use Rattle.claxon_c.specs.Status.{ErrorIsTold, buffer_short, no_more, ok}
 use Rattle.claxon_c.proofs.Told.{each_told, end_told, fault_told, just_error, memory_told, starved_told}

@@ -13,8 +13,8 @@ use Rattle.claxon_metadata.specs.declared.metadata.VorbisComment.{VorbisComment}
 use Rattle.claxon.specs.ReadHead.{found_view, head_view}
 use Rattle.claxon_uses.specs.Fronts.{BeginsWith}
 use Rattle.claxon_c.specs.declared.heads.ClaxonInfo.{ClaxonInfo}
-use Rattle.claxon_c.specs.Fronts.{FrontIs, HeadAtFront}
-use Rattle.claxon_c.specs.Heads.{AnswersText, EachHeadFaultIsTold, HeadFaultIsThere, NoHeadIsEnd, ShowsHead, StarvesAtHead, texts_of}
+use Rattle.claxon_c.specs.AtFront.{FrontIs, HeadAtFront}
+use Rattle.claxon_c.specs.HeadCalls.{AnswersText, EachHeadFaultIsTold, HeadFaultIsThere, NoHeadIsEnd, ShowsHead, StarvesAtHead, texts_of}
 use Rattle.claxon_c.specs.Info.{InfoShows, known_stream}
 use Rattle.claxon_c.specs.Status.{ErrorIsTold, SaysFault, out_of_memory}
 use Rattle.claxon_c.proofs.Told.{each_told, end_told, fault_told, memory_told, starved_told}
@@ -97,6 +97,6 @@ gives_text found comment index pair status old new count is at h =
     subst (λ (x : Option (List ℕ)). AnswersText x status old new count) (sym e) h
 
 -- the head is what stands before the first frame
-pub head_at_first_frame : (found : StreamInfo) (comment : Option (VorbisComment Global)) (bytes : List ℕ) (info : ClaxonInfo) (tags taken : ℕ) → HeadAtFront (head_view {A = Global}) bytes (Ok (found, comment)) taken → InfoShows found tags taken info
+pub head_at_first_frame : (found : StreamInfo) (comment : Option (VorbisComment Global)) (bytes : List ℕ) (info : ClaxonInfo) (taken : ℕ) → HeadAtFront (head_view {A = Global}) bytes (Ok (found, comment)) taken → info.first_frame ≡ taken
     → FrontIs (HeadCode (with_samples true) (head_view {A = Global} (found, comment))) bytes info.first_frame
-head_at_first_frame found comment bytes info tags taken h shows = (h.sound.0, h.sound.1, h.sound.2, h.sound.3, shows.first_frame_is ∙ h.sound.4)
+head_at_first_frame found comment bytes info taken h first = (h.sound.0, h.sound.1, h.sound.2, h.sound.3, first ∙ h.sound.4)

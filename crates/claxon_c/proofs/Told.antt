@@ -7,7 +7,7 @@ use Rattle.claxon_input.specs.Promises.{HasNeither, IsStarved}
 use Rattle.claxon_input.specs.declared.error.Error.{Error}
 use Rattle.claxon_input.specs.declared.error.Error.TheVariants.{IoError, FormatError, Unsupported, OutOfMemory}
 use Rattle.claxon_uses.specs.Fronts.{BeginsWith}
-use Rattle.claxon_c.specs.Heads.{SaysHead}
+use Rattle.claxon_c.specs.HeadCalls.{SaysHead}
 use Rattle.claxon_c.specs.Status.{ErrorIsTold, FaultIsTold, SaysFault, TextIsPut, buffer_short, input_ends, no_more, ok, out_of_memory}
 
 module _ (status : ℕ) (old new : List ℕ) where

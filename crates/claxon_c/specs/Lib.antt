@@ -1,5 +1,5 @@
 pub mod Status
-pub mod Fronts
+pub mod AtFront
 pub mod Info
-pub mod Heads
+pub mod HeadCalls
 pub mod NextBlock

@@ -5,7 +5,7 @@ ghost use Rattle.std.specs.Io.Cursor.{cursor_inner, cursor_position};
 ghost use Rattle.claxon_input.specs.Cursor.{cursor_left};
 ghost use Rattle.claxon.specs.ReadHead.{head_view};
 ghost use Rattle.claxon_frame.specs.FrameReader.{frame_input, frame_stream, stream_with};
-ghost use Rattle.claxon_c.specs.Fronts.{FrameAtFront, HasWidth, HeadAtFront};
+ghost use Rattle.claxon_c.specs.AtFront.{FrameAtFront, HasWidth, HeadAtFront};
 
 use claxon::frame::{FrameReader, FrameResult};
 use claxon::metadata::{StreamInfo, VorbisComment};

@@ -3,9 +3,9 @@ ghost use Rattle.std.specs.Prelude.{◌≡◌, IfSome, length, slice_get};
 ghost use Rattle.std.specs.Option.{option_map};
 ghost use Rattle.claxon.specs.ReadHead.{found_view};
 ghost use Rattle.claxon_frame.specs.FrameReader.{stream_with};
-ghost use Rattle.claxon_c.specs.Fronts.{HasWidth};
+ghost use Rattle.claxon_c.specs.AtFront.{HasWidth};
 ghost use Rattle.claxon_c.specs.Info.{InfoShows, known_stream};
-ghost use Rattle.claxon_c.specs.Heads.{AnswersText, EachHeadFaultIsTold, EachHeadIsOpened, EachTagIsGiven, HeadFaultIsThere, HeadIsOpened, InfoIsKept, NoHeadIsEnd, StarvesAtHead, TagIsThere, texts_of};
+ghost use Rattle.claxon_c.specs.HeadCalls.{AnswersText, EachHeadFaultIsTold, EachHeadIsOpened, EachTagIsGiven, HeadFaultIsThere, HeadIsOpened, InfoIsKept, NoHeadIsEnd, StarvesAtHead, TagIsThere, texts_of};
 
 use crate::fronts::head_at_front;
 use crate::status::{BUFFER_SHORT, NO_MORE, OK, put_text, tell};

@@ -1,10 +1,10 @@
-use Rattle.std.proofs.Common.{inl, inr, refl, Global, subst}
+use Rattle.std.proofs.Common.{inl, inr, refl, Global, subst, rules, ◌≡◌}
 use Rattle.std.specs.Prelude.{Option}
 use Rattle.claxon_format.specs.Heads.{Head}
 use Rattle.claxon_metadata.specs.declared.metadata.StreamInfo.{StreamInfo}
 use Rattle.claxon_metadata.specs.declared.metadata.VorbisComment.{VorbisComment}
 use Rattle.claxon.specs.ReadHead.{head_view}
-use Rattle.claxon_c.specs.Heads.{ShowsHead}
+use Rattle.claxon_c.specs.HeadCalls.{ShowsHead}
 use Rattle.claxon_c.proofs.HeadCalls.{head_at_first_frame, head_fault, head_io, head_is_there, head_memory, head_named, head_starves, no_head_fault, same_head, shows_head}
 use Rattle.claxon_c.proofs.Told.{just_error}
 use Rattle.claxon_c.proofs.heads.claxon_open.Goals as goal
@@ -17,9 +17,10 @@ returns-in-Ok c =
     let old = c.args.error.now in
     let z : StreamInfo × Option (VorbisComment Global) = (c.in-Ok.found, c.in-Ok.comment) in
     let h = c.in-Ok.ensures in
+    let first : c.new.result.first_frame ≡ taken = search rules in
     let shows = shows_head c.in-Ok.found c.in-Ok.comment c.new.result c.count_tags.result taken c.new.ensures c.count_tags.ensures h.bounds in
     record {
-      sound = λ says. (view z, head_at_first_frame c.in-Ok.found c.in-Ok.comment bytes c.new.result c.count_tags.result taken h c.new.ensures, shows);
+      sound = λ says. (view z, head_at_first_frame c.in-Ok.found c.in-Ok.comment bytes c.new.result taken h first, shows);
       complete = λ head begins. inl (refl, subst (λ (x : Head). ShowsHead x c.new.result.first_frame c.new.result) (same_head view bytes taken 0 old old z h head begins) shows);
       fault = λ says. absurd (elim says [ inl p ↦ absurd cc | inr p ↦ absurd cc ]);
       named = no_head_fault view bytes taken 0 old old z h;

@@ -1,10 +1,10 @@
-use Rattle.std.proofs.Common.{inl, inr, Global, subst}
+use Rattle.std.proofs.Common.{inl, inr, Global, rules, subst}
 use Rattle.std.specs.Prelude.{Option, slice_get}
 use Rattle.claxon_metadata.specs.declared.metadata.StreamInfo.{StreamInfo}
 use Rattle.claxon_metadata.specs.declared.metadata.VorbisComment.{VorbisComment}
 use Rattle.claxon_format.specs.Heads.{Head}
 use Rattle.claxon.specs.ReadHead.{head_view}
-use Rattle.claxon_c.specs.Heads.{AnswersText, texts_of}
+use Rattle.claxon_c.specs.HeadCalls.{AnswersText, texts_of}
 use Rattle.claxon_c.proofs.HeadCalls.{head_begins, head_fault, head_io, head_is_there, head_memory, head_named, head_starves, no_head_fault, same_head, text_no_error}
 use Rattle.claxon_c.proofs.Told.{no_head}
 use Rattle.claxon_c.proofs.heads.claxon_tag.Goals as goal
@@ -20,10 +20,11 @@ returns-in-Ok c =
     let count = c.give_tag.new.text_length in
     let z : StreamInfo × Option (VorbisComment Global) = (c.in-Ok.field-0-0, c.in-Ok.comment) in
     let h = c.in-Ok.ensures in
-    let no = text_no_error (slice_get (texts_of (view z).comment) c.args.index) status old new count c.give_tag.ensures in
+    let given : AnswersText (slice_get (texts_of (view z).comment) c.args.index) status old new count = search rules in
+    let no = text_no_error (slice_get (texts_of (view z).comment) c.args.index) status old new count given in
     record {
-      sound = λ says. (view z, head_begins view bytes taken status old new z h, c.give_tag.ensures);
-      complete = λ head begins. inl (subst (λ (x : Head). AnswersText (slice_get (texts_of x.comment) c.args.index) status old new count) (same_head view bytes taken status old new z h head begins) c.give_tag.ensures);
+      sound = λ says. (view z, head_begins view bytes taken status old new z h, given);
+      complete = λ head begins. inl (subst (λ (x : Head). AnswersText (slice_get (texts_of x.comment) c.args.index) status old new count) (same_head view bytes taken status old new z h head begins) given);
       fault = λ says. absurd (no.0 says);
       named = no_head_fault view bytes taken status old new z h;
       io = head_is_there view bytes taken status old new z h;

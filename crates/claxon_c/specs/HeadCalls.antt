@@ -8,7 +8,7 @@ use Rattle.claxon_input.specs.Promises.{HasNeither}
 use Rattle.claxon.specs.ReadHead.{WantsMemory}
 use Rattle.claxon_uses.specs.Fronts.{BeginsWith}
 use Rattle.claxon_c.specs.declared.heads.ClaxonInfo.{ClaxonInfo}
-use Rattle.claxon_c.specs.Fronts.{FrontIs}
+use Rattle.claxon_c.specs.AtFront.{FrontIs}
 use Rattle.claxon_c.specs.Info.{known_stream}
 use Rattle.claxon_c.specs.Status.{FaultIsTold, SaysFault, TextIsPut, buffer_short, input_ends, no_more, ok, out_of_memory}
 
