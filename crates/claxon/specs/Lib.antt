@@ -6,6 +6,7 @@ pub use Rattle.claxon_input.specs.Source
 pub use Rattle.claxon_input.specs.Cursor
 pub use Rattle.claxon_input.specs.BufferedReader
 pub use Rattle.claxon_input.specs.Error
+pub use Rattle.claxon_input.specs.declared.error.Error as Errors
 pub use Rattle.claxon_input.specs.State
 pub use Rattle.claxon_input.specs.Gives
 pub use Rattle.claxon_input.specs.Promises
@@ -15,6 +16,7 @@ pub use Rattle.claxon_metadata.specs.MetadataBlock
 pub use Rattle.claxon_metadata.specs.MetadataBlockReader
 pub use Rattle.claxon_frame.specs.Block
 pub use Rattle.claxon_frame.specs.FrameReader
+pub use Rattle.claxon_frame.specs.declared.frame.FrameReader as FrameReaders
 pub use Rattle.claxon_frame.specs.Unmixing
 pub mod ReadHead
 pub mod FlacReader

@@ -3,7 +3,7 @@ use Rattle.std.proofs.Common.{◌≡◌, inl, inr, ℕ, ℤ, List, [], ◌∷◌
 use Rattle.claxon_format.specs.Frame.{StreamShape, Block}
 use Rattle.claxon_input.specs.Source.{Source}
 use Rattle.claxon_input.specs.State.{bytes_in}
-use Rattle.claxon_input.specs.declared.error.Error.{Error}
+use Rattle.claxon.specs.Errors.{Error}
 use Rattle.claxon.specs.FlacReader.{samples_input}
 use Rattle.claxon.specs.FlacSamples.{samples_bytes, samples_left, samples_stream}
 use Rattle.claxon.specs.SampleRuns.{GaveAll, GaveSamples, ReadsFrames, TakesFrames, end_found, samples_of}

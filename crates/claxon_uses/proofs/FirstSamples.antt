@@ -12,8 +12,8 @@ use Rattle.claxon_input.specs.BufferedReader.{buffered_source}
 use Rattle.claxon_input.specs.Error.{IsFault, IsIo}
 use Rattle.claxon_input.specs.Promises.{Took}
 use Rattle.claxon_input.specs.State.{State}
-use Rattle.claxon_input.specs.declared.error.Error.{Error}
-use Rattle.claxon_input.specs.declared.error.Error.TheVariants.{OutOfMemory}
+use Rattle.claxon.specs.Errors.{Error}
+use Rattle.claxon.specs.Errors.TheVariants.{OutOfMemory}
 use Rattle.claxon_input.specs.declared.input.BufferedReader.{BufferedReader}
 use Rattle.claxon.specs.FlacReader.{flac_head, samples_input}
 use Rattle.claxon.specs.FlacSamples.{SamplesStep, samples_bytes, samples_left, samples_stream}

@@ -8,8 +8,8 @@ use Rattle.claxon_input.specs.Cursor.{cursor_source}
 use Rattle.claxon_input.specs.Gives.{FailedIn}
 use Rattle.claxon_input.specs.Promises.{AnswersFound, Comes, HasFailed, NamesFault, NoneIsEnd, TakesFault, TakesFound, Took}
 use Rattle.claxon_input.specs.State.{State, bytes_in}
-use Rattle.claxon_frame.specs.FrameReader.{FrameAnswer, ReadsFrame, block_view, frame_bytes, frame_input}
-use Rattle.claxon_frame.specs.declared.frame.FrameReader.{FrameReader}
+use Rattle.claxon.specs.FrameReader.{FrameAnswer, ReadsFrame, block_view, frame_bytes, frame_input}
+use Rattle.claxon.specs.FrameReaders.{FrameReader}
 use Rattle.claxon_uses.specs.Fronts.{BeginsWith}
 use Rattle.claxon_uses.specs.FramesInMemory.{BlockIsThere, EachBlockIsDecoded, EachFaultIsTold, FaultIsThere, NoneIsNoFrame, StarvesAtHeader}
 use Rattle.claxon_input.proofs.InMemory.{cursor_comes, cursor_never_fails, new_cursor_comes}

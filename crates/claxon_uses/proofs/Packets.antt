@@ -3,13 +3,13 @@ use Rattle.std.proofs.Common.{◌≡◌, inl, inr, ℕ, ◌<◌, ◌≤◌, List
 use Rattle.std.specs.Prelude.{Result, Ok, Err}
 use Rattle.std.proofs.lemmas.List.{drop_all, length-drop}
 use Rattle.claxon_format.specs.Frame.{StreamShape, Frame}
-use Rattle.claxon_input.specs.declared.error.Error.{Error}
-use Rattle.claxon_input.specs.declared.error.Error.TheVariants.{OutOfMemory}
+use Rattle.claxon.specs.Errors.{Error}
+use Rattle.claxon.specs.Errors.TheVariants.{OutOfMemory}
 use Rattle.claxon_input.specs.Error.{IsFormatError}
 use Rattle.claxon_input.specs.Promises.{Comes}
 use Rattle.claxon_input.specs.State.{State}
-use Rattle.claxon_frame.specs.Block.{BlockValue}
-use Rattle.claxon_frame.specs.FrameReader.{ReadsFrame, block_view}
+use Rattle.claxon.specs.Block.{BlockValue}
+use Rattle.claxon.specs.FrameReader.{ReadsFrame, block_view}
 use Rattle.claxon_uses.specs.Fronts.{BeginsWith}
 use Rattle.claxon_uses.specs.Packets.{EachPacketFaultIsTold, EachPacketIsDecoded, HasMoreThanFrame, PacketIsBlock, PacketIsRefused, PacketStarvesAtHeader}
 use Rattle.claxon_uses.proofs.FramesInMemory.{FrameInMemory}

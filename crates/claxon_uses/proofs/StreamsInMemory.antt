@@ -11,9 +11,9 @@ use Rattle.claxon_input.specs.Error.{IsFault}
 use Rattle.claxon_input.specs.Gives.{Went}
 use Rattle.claxon_input.specs.Promises.{AnswersCode, Comes, IsExcused, IsStarved, NamesFault, TakesFault, Took}
 use Rattle.claxon_input.specs.State.{State, bytes_in}
-use Rattle.claxon_input.specs.declared.error.Error.{Error}
-use Rattle.claxon_input.specs.declared.error.Error.TheVariants.{OutOfMemory}
-use Rattle.claxon_frame.specs.FrameReader.{HeaderAlone}
+use Rattle.claxon.specs.Errors.{Error}
+use Rattle.claxon.specs.Errors.TheVariants.{OutOfMemory}
+use Rattle.claxon.specs.FrameReader.{HeaderAlone}
 use Rattle.claxon.specs.ReadHead.{StarvesBehind, WantsMemory}
 use Rattle.claxon.specs.SampleRuns.{end_found, samples_of}
 use Rattle.claxon.proofs.SampleRuns.{behind, excused_after, fault_complete, short_complete}

@@ -11,11 +11,11 @@ use Rattle.claxon_input.specs.BufferedReader.{buffered_source}
 use Rattle.claxon_input.specs.Error.{is_memory}
 use Rattle.claxon_input.specs.Promises.{NoneIsEnd, TakesFault, TakesFound, Took}
 use Rattle.claxon_input.specs.State.{State}
-use Rattle.claxon_input.specs.declared.error.Error.{Error}
+use Rattle.claxon.specs.Errors.{Error}
 use Rattle.claxon_input.specs.declared.input.BufferedReader.{BufferedReader}
-use Rattle.claxon_frame.specs.Block.{BlockValue, duration_of}
-use Rattle.claxon_frame.specs.FrameReader.{FrameAnswer, block_view, frame_input, frame_stream, stream_with}
-use Rattle.claxon_frame.specs.declared.frame.FrameReader.{FrameReader}
+use Rattle.claxon.specs.Block.{BlockValue, duration_of}
+use Rattle.claxon.specs.FrameReader.{FrameAnswer, block_view, frame_input, frame_stream, stream_with}
+use Rattle.claxon.specs.FrameReaders.{FrameReader}
 use Rattle.claxon.specs.FlacReader.{flac_head, flac_input, flac_streaminfo}
 use Rattle.claxon.specs.MetadataBlock.{or_zero}
 use Rattle.claxon.specs.Opening.{flac_bytes}

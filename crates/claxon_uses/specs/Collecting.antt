@@ -6,8 +6,8 @@ use Rattle.claxon.specs.SampleRuns.{ReadsFrames, TakesFrames, end_found, samples
 use Rattle.claxon.specs.declared.samples.FlacSamples.{FlacSamples}
 use Rattle.claxon.specs.Source.{Source}
 use Rattle.claxon.specs.State.{bytes_in}
-use Rattle.claxon_input.specs.declared.error.Error.{Error}
-use Rattle.claxon_input.specs.declared.error.Error.TheVariants.{OutOfMemory}
+use Rattle.claxon.specs.Errors.{Error}
+use Rattle.claxon.specs.Errors.TheVariants.{OutOfMemory}
 
 -- These are the samples of blocks behind whose frames stood the end, or what the error says. `after` is the reader then, which was dropped.
 pub record Collects {R : Type 0} (source : R → Source ℕ) (stream : Option StreamShape) (before : R) (end : Option Error) (xs : List ℤ) : Type 0 where

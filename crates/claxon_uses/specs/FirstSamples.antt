@@ -7,8 +7,8 @@ use Rattle.claxon.specs.Heads.{Head, HeadCode}
 use Rattle.claxon.specs.Opening.{unread}
 use Rattle.claxon.specs.SampleRuns.{samples_of}
 use Rattle.claxon.specs.Streams.{stream_of, with_samples}
-use Rattle.claxon_input.specs.declared.error.Error.{Error}
-use Rattle.claxon_input.specs.declared.error.Error.TheVariants.{OutOfMemory}
+use Rattle.claxon.specs.Errors.{Error}
+use Rattle.claxon.specs.Errors.TheVariants.{OutOfMemory}
 use Rattle.claxon_uses.specs.StreamsInMemory.{HasStreamFault}
 
 -- s begins with a head and the frames of blocks, and these are their first samples, so many; or all, and then fewer than two bytes follow.

@@ -6,7 +6,7 @@ use Rattle.claxon.specs.Frame.{StreamShape, Block, Frame, FrameBytesFault}
 use Rattle.claxon.specs.Error.{IsFault, IsIo}
 use Rattle.claxon.specs.FrameReader.{FrameAnswer, HeaderAlone, block_view}
 use Rattle.claxon.specs.Promises.{IsStarved}
-use Rattle.claxon_input.specs.declared.error.Error.TheVariants.{OutOfMemory}
+use Rattle.claxon.specs.Errors.TheVariants.{OutOfMemory}
 use Rattle.claxon_uses.specs.Fronts.{BeginsWith}
 
 module _ (stream : Option StreamShape) (bytes : List ℕ) (result : FrameAnswer) where

@@ -6,8 +6,8 @@ use Rattle.claxon.specs.Frame.{StreamShape, Block, Frame, FrameBytesFault}
 use Rattle.claxon.specs.Error.{IsFault, IsFormatError, IsIo}
 use Rattle.claxon.specs.FrameReader.{HeaderAlone, block_view}
 use Rattle.claxon.specs.Promises.{IsStarved}
-use Rattle.claxon_input.specs.declared.error.Error.{Error}
-use Rattle.claxon_input.specs.declared.error.Error.TheVariants.{OutOfMemory}
+use Rattle.claxon.specs.Errors.{Error}
+use Rattle.claxon.specs.Errors.TheVariants.{OutOfMemory}
 use Rattle.claxon_uses.specs.Fronts.{BeginsWith}
 
 -- It is too short for a frame, and the error says so.

@@ -9,8 +9,8 @@ use Rattle.claxon.specs.Promises.{IsStarved}
 use Rattle.claxon.specs.ReadHead.{WantsMemory}
 use Rattle.claxon.specs.SampleRuns.{samples_of}
 use Rattle.claxon.specs.Streams.{IsStream, stream_of, with_samples}
-use Rattle.claxon_input.specs.declared.error.Error.{Error}
-use Rattle.claxon_input.specs.declared.error.Error.TheVariants.{OutOfMemory}
+use Rattle.claxon.specs.Errors.{Error}
+use Rattle.claxon.specs.Errors.TheVariants.{OutOfMemory}
 use Rattle.claxon_uses.specs.Fronts.{BeginsWith}
 
 -- the fault of a head stands at the front, or that of a frame behind a head and all frames that stand there

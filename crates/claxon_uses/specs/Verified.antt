@@ -10,9 +10,9 @@ use Rattle.claxon.specs.Opening.{unread}
 use Rattle.claxon.specs.Source.{Source}
 use Rattle.claxon.specs.State.{State}
 use Rattle.claxon.specs.Streams.{duration, stream_of, with_samples}
-use Rattle.claxon_frame.specs.declared.frame.FrameReader.{FrameReader}
-use Rattle.claxon_input.specs.declared.error.Error.{Error}
-use Rattle.claxon_input.specs.declared.error.Error.TheVariants.{OutOfMemory, Unsupported}
+use Rattle.claxon.specs.FrameReaders.{FrameReader}
+use Rattle.claxon.specs.Errors.{Error}
+use Rattle.claxon.specs.Errors.TheVariants.{OutOfMemory, Unsupported}
 use Rattle.claxon_uses.specs.Fronts.{BeginsWith}
 use Rattle.claxon_uses.specs.declared.damaged.Found.{Found}
 

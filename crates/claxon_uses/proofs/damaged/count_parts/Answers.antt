@@ -1,6 +1,6 @@
 use Rattle.std.proofs.Common.{◌∙◌, ap, Ok, Option}
-use Rattle.claxon_frame.specs.Block.{BlockValue}
-use Rattle.claxon_frame.specs.FrameReader.{frame_bytes}
+use Rattle.claxon.specs.Block.{BlockValue}
+use Rattle.claxon.specs.FrameReader.{frame_bytes}
 use Rattle.claxon_uses.proofs.Verified.{counts_all, end_met, fault_taken, frame_taken, takes_fault, takes_frame}
 use Rattle.claxon_uses.proofs.damaged.count_parts.Goals.{in-Ok-Some+in_ok-found-in-Ok-Some, in-Err+in_ok-found-in-Err}
 use Rattle.claxon_uses.proofs.damaged.count_parts.Goals as goal

@@ -1,5 +1,5 @@
 use Rattle.std.proofs.Common.{◌≡◌}
-use Rattle.claxon_frame.specs.FrameReader.{frame_bytes, frame_stream}
+use Rattle.claxon.specs.FrameReader.{frame_bytes, frame_stream}
 use Rattle.claxon_uses.specs.Verified.{TakesParts}
 use Rattle.claxon_uses.proofs.damaged.count_parts.Given as goal
 

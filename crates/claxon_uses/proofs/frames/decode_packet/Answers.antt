@@ -1,6 +1,6 @@
 use Rattle.std.proofs.Common.{Some, Ok, refl}
 use Rattle.std.proofs.lemmas.Result.{err_from_is_err_and}
-use Rattle.claxon_frame.specs.FrameReader.{stream_with}
+use Rattle.claxon.specs.FrameReader.{stream_with}
 use Rattle.claxon.proofs.SamplesInTurn.{reads_frame}
 use Rattle.claxon_uses.proofs.FramesInMemory.{frame_in_memory, known_as, slice_bytes, slice_comes, slice_left, slice_never_fails}
 use Rattle.claxon_uses.proofs.Packets.{packet_failed, packet_of_more, packet_whole, packet_without}

@@ -1,7 +1,7 @@
 use Rattle.std.proofs.Common.{None, Some}
 use Rattle.std.proofs.lemmas.Result.{err_from_is_err_and}
 use Rattle.claxon.proofs.SampleRuns.{gave_all, gave_more, gave_none}
-use Rattle.claxon_frame.specs.FrameReader.{stream_with}
+use Rattle.claxon.specs.FrameReader.{stream_with}
 use Rattle.claxon_uses.proofs.Collecting.{collected, gave_as, stops}
 use Rattle.claxon_uses.proofs.streams.collect_samples.Goals as goal
 
