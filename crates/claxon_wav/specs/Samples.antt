@@ -1,9 +1,13 @@
 -- The samples of a block as the bytes of a WAV file.
-use Rattle.std.specs.Prelude.{◌==◌, ℕ, ◌+◌, ◌-◌, ◌*◌, ◌^◌, ◌%◌, ℤ, List, cond, take}
+use Rattle.std.specs.Prelude.{All, ◌≡◌, ◌==◌, ℕ, ◌+◌, ◌-◌, ◌*◌, ◌^◌, ◌%◌, ℤ, List, cond, take}
 use Rattle.std.specs.Int.{cast_unsigned, div_ceil, to_le_bytes, w32}
 use Rattle.std.specs.List.{flat_map}
+use Rattle.claxon_format.specs.Bits.{FitsIn}
 use Rattle.claxon_format.specs.Streams.{interleave}
 use Rattle.claxon_frame.specs.Block.{BlockValue}
+use Rattle.claxon_input.specs.declared.error.Error.TheVariants.{OutOfMemory}
+use Rattle.claxon_wav.specs.declared.error.Error.{Error}
+use Rattle.claxon_wav.specs.declared.error.Error.TheVariants.{Claxon, WideSample}
 
 -- the bytes of a sample of so many bits
 abbrev pub sample_size : ℕ → ℕ
@@ -28,3 +32,8 @@ bytes_of_samples width xs = flat_map (bytes_of_sample (sample_size width) width)
 -- the bytes of a block's samples, place by place
 abbrev pub block_bytes : ℕ → BlockValue → List ℕ
 block_bytes width block = bytes_of_samples width (interleave block.channels)
+
+-- A refusal of the width says that not all of the samples have so few bits. Else memory was refused.
+abbrev pub IsTooWide : ℕ → Error → List ℤ → Type 0
+IsTooWide width WideSample xs = All (FitsIn width) xs → ⊥
+IsTooWide width error xs = error ≡ Claxon OutOfMemory

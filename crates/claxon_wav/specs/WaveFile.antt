@@ -1,6 +1,7 @@
 -- WAV files.
-use Rattle.std.specs.Prelude.{nat_lt, ◌≡◌, ◌==◌, ◌||◌, not, ℕ, ◌*◌, ◌<◌, ◌%◌, ◌^◌, List, [], ◌∷◌, ◌++◌, Bool, cond, codes, length, replicate, ◌≤◌, Option, None, Some}
+use Rattle.std.specs.Prelude.{IfSome, nat_lt, ◌≡◌, ◌==◌, ◌||◌, not, ℕ, ◌*◌, ◌<◌, ◌%◌, ◌^◌, List, [], ◌∷◌, ◌++◌, Bool, cond, codes, length, replicate, ◌≤◌, Option, None, Some}
 use Rattle.std.specs.Int.{to_le_bytes, w16, w32}
+use Rattle.claxon_metadata.specs.declared.metadata.StreamInfo.{StreamInfo}
 use Rattle.claxon_wav.specs.Samples.{sample_size}
 use Rattle.claxon_wav.specs.declared.header.Layout.{Layout}
 
@@ -47,3 +48,10 @@ IsHeader l size header = (samples : List ℕ) → length samples ≡ size → wa
 abbrev pub IsSizeOf : Layout → ℕ → Option ℕ → Type 0
 IsSizeOf l places None = 4294967234 < places * place_size l
 IsSizeOf l places (Some size) = (size ≡ places * place_size l) × (size ≤ 4294967234)
+
+-- The channels, the width and the rate are those of the stream. The loudspeakers are those that are named.
+pub record IsLayoutOf (info : StreamInfo) (speakers : Option ℕ) (l : Layout) : Type 0 where
+  pub channels : l.channels ≡ info.channels
+  pub width : l.width ≡ info.bits_per_sample
+  pub sample_rate : l.sample_rate ≡ info.sample_rate
+  pub loudspeakers : IfSome speakers (λ s. l.speakers ≡ s)

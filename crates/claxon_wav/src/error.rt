@@ -1,4 +1,8 @@
 //! Why there is no whole WAV file.
+ghost use Rattle.std.specs.Prelude.{◌≡◌};
+ghost use Rattle.claxon_input.specs.declared.error.Error.TheVariants.{OutOfMemory};
+ghost use Rattle.claxon_wav.specs.declared.error.Error.TheVariants.{Claxon};
+
 use std::alloc::AllocError;
 use std::{fmt, io, result};
 
@@ -49,6 +53,8 @@ impl From<io::Error> for Error {
 }
 
 impl From<AllocError> for Error {
+    ghost from_gives = { λ _ e. e ≡ Claxon OutOfMemory };
+
     fn from(_cause: AllocError) -> Error {
         Error::Claxon(claxon::Error::OutOfMemory)
     }

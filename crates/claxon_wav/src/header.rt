@@ -26,7 +26,7 @@ pub struct Layout {
 
 impl Layout {
     ghost use Rattle.claxon_wav.specs.Samples.{sample_size};
-    ghost use Rattle.claxon_wav.specs.WaveFile.{IsHeader, IsSizeOf, extension, format, is_long, place_size, short_format};
+    ghost use Rattle.claxon_wav.specs.WaveFile.{IsHeader, IsLayoutOf, IsSizeOf, extension, format, is_long, place_size, short_format};
 
     /// The layout for such a stream, whose channels belong to these loudspeakers, a bit each. Where none are named they are the
     /// usual ones.
@@ -35,6 +35,7 @@ impl Layout {
         requires few_channels { info.now.channels ≤ 8 }
         requires some_bits { 1 ≤ info.now.bits_per_sample }
         requires few_bits { info.now.bits_per_sample ≤ 32 }
+        ensures { IsLayoutOf info.now speakers result }
     {
         Layout {
             channels: info.channels,

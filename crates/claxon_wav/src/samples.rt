@@ -1,10 +1,11 @@
 //! The samples of a block as the bytes of a WAV file.
-ghost use Rattle.std.specs.Prelude.{◌≡◌, ◌≤◌, ◌*◌, ◌<◌, ◌∷◌, OnOk, [], length};
+ghost use Rattle.std.specs.Prelude.{◌≡◌, ◌≤◌, ◌*◌, ◌<◌, ◌∷◌, All, IfErr, OnOk, [], false, length, true};
 ghost use Rattle.std.specs.Int.{to_le_bytes, w32};
 ghost use Rattle.std.specs.List.{flat_map};
+ghost use Rattle.claxon_format.specs.Bits.{FitsIn};
 ghost use Rattle.claxon_format.specs.Streams.{interleave, samples_at};
 ghost use Rattle.claxon_frame.specs.Block.{duration_of};
-ghost use Rattle.claxon_wav.specs.Samples.{block_bytes, bytes_of_sample, raised, sample_size, silence};
+ghost use Rattle.claxon_wav.specs.Samples.{IsTooWide, block_bytes, bytes_of_sample, raised, sample_size, silence};
 ghost use Rattle.claxon_write.specs.SampleBytes.{places};
 
 use crate::error::{Error, Result};
@@ -21,7 +22,9 @@ pub fn pack<A: Allocator>(
 ) -> Result<()>
     requires some_bits { 1 ≤ width }
     requires few_bits { width ≤ 32 }
-    ensures { OnOk result (bytes.new.items ≡ block_bytes width block.now) }
+    ensures ok { OnOk result (bytes.new.items ≡ block_bytes width block.now) }
+    ensures fits { OnOk result (All (FitsIn width) (interleave block.now.channels)) }
+    ensures wide { IfErr result (λ error. IsTooWide width error (interleave block.now.channels)) }
 {
     interleaved.resize(block.len() as usize, 0)?;
     interleave(block, interleaved.as_mut_slice());
@@ -84,14 +87,25 @@ fn put_place<A: Allocator>(block: &Block<A>, place: u32, room: &mut [i32])
 fn have_width(samples: &[i32], width: u32) -> bool
     requires some_bits { 1 ≤ width }
     requires few_bits { width ≤ 32 }
+    ensures yes { result ≡ true → All (FitsIn width) samples.now }
+    ensures no { result ≡ false → All (FitsIn width) samples.now → ⊥ }
 {
-    let least = i32::MIN >> (32 - width);
-    let most = i32::MAX >> (32 - width);
     let mut fit = true;
     for i in 0..samples.len() {
-        fit = fit & (least <= samples[i]) & (samples[i] <= most);
+        fit = fit & has_width(samples[i], width);
     }
     fit
+}
+
+fn has_width(sample: i32, width: u32) -> bool
+    requires some_bits { 1 ≤ width }
+    requires few_bits { width ≤ 32 }
+    ensures yes { result ≡ true → FitsIn width sample }
+    ensures no { result ≡ false → FitsIn width sample → ⊥ }
+{
+    let size = sample.unsigned_abs();
+    let folded = if sample < 0 { size - 1 } else { size };
+    folded < 1 << (width - 1)
 }
 
 // Each sample in N bytes, of which its bits are the highest ones.
