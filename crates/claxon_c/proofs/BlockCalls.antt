@@ -14,8 +14,8 @@ use Rattle.claxon_uses.specs.Fronts.{BeginsWith}
 use Rattle.claxon_c.specs.declared.next_block.ClaxonBlock.{ClaxonBlock}
 use Rattle.claxon_c.specs.AtFront.{FrameAtFront}
 use Rattle.claxon_c.specs.NextBlock.{BlockIsThere, SaysBlock, EachBlockIsGiven, EachFaultIsTold, FaultIsThere, NoFrameIsEnd, PlaceIsKept, SamplesAreGiven, ShowsBlock, StarvesAtHeader, TooFewIsNoMore}
-use Rattle.claxon_c.specs.Status.{ErrorIsTold, buffer_short, no_more, ok}
-use Rattle.claxon_c.proofs.Told.{each_told, end_told, fault_told, just_error, memory_told, starved_told}
+use Rattle.claxon_c.specs.Status.{ErrorIsTold, TextIsTold, buffer_short, no_more, ok}
+use Rattle.claxon_c.proofs.Told.{each_told, end_told, fault_told, just_error, memory_told, starved_told, text_told}
 
 -- all that is promised of it
 pub record NextAnswer (stream : Option StreamShape) (bytes : List ℕ) (status from to : ℕ) (old new : List ℤ) (shown : ClaxonBlock) (before after : List ℕ) : Type 0 where
@@ -26,6 +26,7 @@ pub record NextAnswer (stream : Option StreamShape) (bytes : List ℕ) (status f
   pub end : TooFewIsNoMore (drop from bytes) status
   pub io : NoFrameIsEnd stream (drop from bytes) status
   pub memory : StarvesAtHeader stream (drop from bytes) status
+  pub text : TextIsTold status before after
   pub kept : PlaceIsKept status from to old new
 
 -- a place past the end is as good as the end
@@ -60,6 +61,7 @@ module _ (stream : Option StreamShape) (bytes : List ℕ) (from taken : ℕ) (ol
         end = (λ p. absurd (no.1.0 p), λ few. absurd (let q = h.end.1 few in cc));
         io = λ some n. end_told status before after rest Bad e told h.fault n;
         memory = λ is. h.memory (memory_told status before after rest Bad e told is);
+        text = text_told status before after e told;
         kept = λ p. (refl, refl);
       }
 
@@ -73,6 +75,7 @@ module _ (stream : Option StreamShape) (bytes : List ℕ) (from taken : ℕ) (ol
     end = (λ p. h.end.0 refl, λ few. refl);
     io = λ some n. absurd (omega (arith, some, h.end.0 refl));
     memory = λ is. absurd cc;
+    text = (λ p. absurd cc, λ p. absurd cc);
     kept = λ p. (refl, refl);
   }
 
@@ -99,6 +102,7 @@ module _ (stream : Option StreamShape) (bytes : List ℕ) (from taken : ℕ) (ol
       end = (λ p. absurd (elim says [ inl a ↦ absurd cc | inr a ↦ absurd cc ]), λ few. absurd (enough few));
       io = λ some n. absurd (n.no_code (block_view found) h.sound.0 h.sound.1 h.sound.2 h.sound.3);
       memory = λ p. absurd (elim says [ inl a ↦ absurd cc | inr a ↦ absurd cc ]);
+      text = (λ p. absurd (elim says [ inl a ↦ absurd cc | inr a ↦ absurd cc ]), λ p. absurd (elim says [ inl a ↦ absurd cc | inr a ↦ absurd cc ]));
       kept = kept;
     }
 

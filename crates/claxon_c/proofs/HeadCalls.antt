@@ -16,7 +16,7 @@ use Rattle.claxon_c.specs.declared.heads.ClaxonInfo.{ClaxonInfo}
 use Rattle.claxon_c.specs.AtFront.{FrontIs, HeadAtFront}
 use Rattle.claxon_c.specs.HeadCalls.{AnswersText, EachHeadFaultIsTold, HeadFaultIsThere, NoHeadIsEnd, ShowsHead, StarvesAtHead, texts_of}
 use Rattle.claxon_c.specs.Info.{InfoShows, known_stream}
-use Rattle.claxon_c.specs.Status.{ErrorIsTold, SaysFault, out_of_memory}
+use Rattle.claxon_c.specs.Status.{ErrorIsTold, SaysFault, out_of_memory, input_ends}
 use Rattle.claxon_c.proofs.Told.{each_told, end_told, fault_told, memory_told, starved_told}
 
 module _ {A : Type 0} (view : StreamInfo × Option A → Head) (bytes : List ℕ) (taken status : ℕ) (old new : List ℕ) where
@@ -84,10 +84,10 @@ text_of_entry (x ∷ xs) zero pair e = let same : x ≡ pair = cc in ap (λ (z :
 text_of_entry (x ∷ xs) (suc index) pair e = text_of_entry xs index pair e
 
 -- a tag is no error
-pub text_no_error : (text : Option (List ℕ)) (status : ℕ) (old new : List ℕ) (count : ℕ) → AnswersText text status old new count → (SaysFault status → ⊥) × (status ≢ out_of_memory)
-text_no_error None status old new count h = (λ says. elim says [ inl p ↦ absurd cc | inr p ↦ absurd cc ], λ p. absurd cc)
-text_no_error (Some text) status old new count (len, inl h) = (λ says. elim says [ inl p ↦ absurd cc | inr p ↦ absurd cc ], λ p. absurd cc)
-text_no_error (Some text) status old new count (len, inr h) = (λ says. elim says [ inl p ↦ absurd cc | inr p ↦ absurd cc ], λ p. absurd cc)
+pub text_no_error : (text : Option (List ℕ)) (status : ℕ) (old new : List ℕ) (count : ℕ) → AnswersText text status old new count → (SaysFault status → ⊥) × ((status ≢ out_of_memory) × (status ≢ input_ends))
+text_no_error None status old new count h = (λ says. elim says [ inl p ↦ absurd cc | inr p ↦ absurd cc ], (λ p. absurd cc, λ p. absurd cc))
+text_no_error (Some text) status old new count (len, inl h) = (λ says. elim says [ inl p ↦ absurd cc | inr p ↦ absurd cc ], (λ p. absurd cc, λ p. absurd cc))
+text_no_error (Some text) status old new count (len, inr h) = (λ says. elim says [ inl p ↦ absurd cc | inr p ↦ absurd cc ], (λ p. absurd cc, λ p. absurd cc))
 
 -- it is that of the entry
 pub gives_text : (found : Option (VorbisComment Global)) (comment : VorbisComment Global) (index : ℕ) (pair : String Global × ℕ) (status : ℕ) (old new : List ℕ) (count : ℕ) → found ≡ Some comment → slice_get comment.comments.items index ≡ Some pair

@@ -8,7 +8,7 @@ use Rattle.claxon_input.specs.declared.error.Error.{Error}
 use Rattle.claxon_input.specs.declared.error.Error.TheVariants.{IoError, FormatError, Unsupported, OutOfMemory}
 use Rattle.claxon_uses.specs.Fronts.{BeginsWith}
 use Rattle.claxon_c.specs.HeadCalls.{SaysHead}
-use Rattle.claxon_c.specs.Status.{ErrorIsTold, FaultIsTold, SaysFault, TextIsPut, buffer_short, input_ends, no_more, ok, out_of_memory}
+use Rattle.claxon_c.specs.Status.{ErrorIsTold, FaultIsTold, SaysFault, TextIsPut, TextIsTold, buffer_short, input_ends, no_more, ok, out_of_memory}
 
 module _ (status : ℕ) (old new : List ℕ) where
   told_fault : (f : Fault) (e : Error) → IsFault f e → ErrorIsTold e status old new → FaultIsTold f status old new
@@ -47,6 +47,12 @@ module _ (status : ℕ) (old new : List ℕ) where
   just_error (Unsupported feature) t = (λ p. absurd cc, (λ p. absurd cc, λ p. absurd cc))
   just_error (IoError cause) t = (λ p. absurd cc, (λ p. absurd cc, λ p. absurd cc))
   just_error OutOfMemory t = (λ p. absurd cc, (λ p. absurd cc, λ p. absurd cc))
+
+  pub text_told : (e : Error) → ErrorIsTold e status old new → TextIsTold status old new
+  text_told (FormatError reason) t = (λ p. absurd cc, λ p. absurd cc)
+  text_told (Unsupported feature) t = (λ p. absurd cc, λ p. absurd cc)
+  text_told (IoError cause) t = (λ p. t.1, λ p. absurd cc)
+  text_told OutOfMemory t = (λ p. absurd cc, λ p. t.1)
 
   -- `Bad` are the faults that may stand at the front of the bytes
   module _ (bytes : List ℕ) (Bad : Fault → List ℕ → Type 0) (e : Error) (told : ErrorIsTold e status old new) where

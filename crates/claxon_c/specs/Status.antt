@@ -40,6 +40,10 @@ ErrorIsTold (Unsupported feature) status old new = (status ≡ unsupported) × T
 ErrorIsTold (IoError cause) status old new = (status ≡ input_ends) × TextIsPut (codes "the bytes end") old new
 ErrorIsTold OutOfMemory status old new = (status ≡ out_of_memory) × TextIsPut (codes "out of memory") old new
 
+-- The text of an error that names no fault is put.
+abbrev pub TextIsTold : ℕ → List ℕ → List ℕ → Type 0
+TextIsTold status old new = (status ≡ input_ends → TextIsPut (codes "the bytes end") old new) × (status ≡ out_of_memory → TextIsPut (codes "out of memory") old new)
+
 -- The status is that of the fault's kind, and the fault's text is put.
 abbrev pub FaultIsTold : Fault → ℕ → List ℕ → List ℕ → Type 0
 FaultIsTold f status old new = (status ≡ cond (is_unsupported f) unsupported format_error) × TextIsPut (fault_text f) old new

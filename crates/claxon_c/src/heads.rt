@@ -6,6 +6,7 @@ ghost use Rattle.claxon_frame.specs.FrameReader.{stream_with};
 ghost use Rattle.claxon_c.specs.AtFront.{HasWidth};
 ghost use Rattle.claxon_c.specs.Info.{InfoShows, known_stream};
 ghost use Rattle.claxon_c.specs.HeadCalls.{AnswersText, EachHeadFaultIsTold, EachHeadIsOpened, EachTagIsGiven, HeadFaultIsThere, HeadIsOpened, InfoIsKept, NoHeadIsEnd, StarvesAtHead, TagIsThere, texts_of};
+ghost use Rattle.claxon_c.specs.Status.{TextIsTold};
 
 use crate::fronts::head_at_front;
 use crate::status::{BUFFER_SHORT, NO_MORE, OK, put_text, tell};
@@ -95,6 +96,7 @@ pub extern "C" fn claxon_open(
     ensures named { EachHeadFaultIsTold bytes.now result error.old error.new }
     ensures io { NoHeadIsEnd bytes.now result }
     ensures memory { StarvesAtHead bytes.now result }
+    ensures text { TextIsTold result error.old error.new }
     ensures kept { InfoIsKept result info.old info.new }
 {
     let mut taken = 0;
@@ -122,6 +124,7 @@ pub extern "C" fn claxon_tag(
     ensures named { EachHeadFaultIsTold bytes.now result text.old text.new }
     ensures io { NoHeadIsEnd bytes.now result }
     ensures memory { StarvesAtHead bytes.now result }
+    ensures text { TextIsTold result text.old text.new }
 {
     let mut taken = 0;
     match head_at_front(alloc, bytes, &mut taken) {

@@ -3,6 +3,7 @@ ghost use Rattle.std.specs.Prelude.{drop};
 ghost use Rattle.claxon_frame.specs.FrameReader.{block_view};
 ghost use Rattle.claxon_c.specs.Info.{known_stream};
 ghost use Rattle.claxon_c.specs.NextBlock.{BlockIsThere, EachBlockIsGiven, EachFaultIsTold, FaultIsThere, NoFrameIsEnd, PlaceIsKept, ShowsBlock, StarvesAtHeader, TooFewIsNoMore};
+ghost use Rattle.claxon_c.specs.Status.{TextIsTold};
 
 use crate::fronts::block_at_front;
 use crate::heads::ClaxonInfo;
@@ -53,6 +54,7 @@ pub extern "C" fn claxon_next_block(
     ensures end { TooFewIsNoMore (drop at.old bytes.now) result }
     ensures io { NoFrameIsEnd (known_stream info.now) (drop at.old bytes.now) result }
     ensures memory { StarvesAtHeader (known_stream info.now) (drop at.old bytes.now) result }
+    ensures text { TextIsTold result error.old error.new }
     ensures kept { PlaceIsKept result at.old at.new samples.old samples.new }
 {
     let start = bytes.len().min(*at);

@@ -6,7 +6,7 @@ use Rattle.claxon_metadata.specs.declared.metadata.VorbisComment.{VorbisComment}
 use Rattle.claxon.specs.ReadHead.{head_view}
 use Rattle.claxon_c.specs.HeadCalls.{ShowsHead}
 use Rattle.claxon_c.proofs.HeadCalls.{head_at_first_frame, head_fault, head_io, head_is_there, head_memory, head_named, head_starves, no_head_fault, same_head, shows_head}
-use Rattle.claxon_c.proofs.Told.{just_error}
+use Rattle.claxon_c.proofs.Told.{just_error, text_told}
 use Rattle.claxon_c.proofs.heads.claxon_open.Goals as goal
 
 pub returns-in-Ok : goal.returns-in-Ok
@@ -26,6 +26,7 @@ returns-in-Ok c =
       named = no_head_fault view bytes taken 0 old old z h;
       io = head_is_there view bytes taken 0 old old z h;
       memory = λ is. absurd cc;
+      text = (λ is. absurd cc, λ is. absurd cc);
       kept = λ no. absurd (no refl);
     }
 
@@ -47,5 +48,6 @@ returns-in-Err c =
       named = head_named view bytes taken status old new e h told;
       io = head_io view bytes taken status old new e h told;
       memory = head_memory view bytes taken status old new e h told;
+      text = text_told status old new e told;
       kept = λ no. refl;
     }

@@ -6,7 +6,7 @@ use Rattle.claxon_format.specs.Heads.{Head}
 use Rattle.claxon.specs.ReadHead.{head_view}
 use Rattle.claxon_c.specs.HeadCalls.{AnswersText, texts_of}
 use Rattle.claxon_c.proofs.HeadCalls.{head_begins, head_fault, head_io, head_is_there, head_memory, head_named, head_starves, no_head_fault, same_head, text_no_error}
-use Rattle.claxon_c.proofs.Told.{no_head}
+use Rattle.claxon_c.proofs.Told.{no_head, text_told}
 use Rattle.claxon_c.proofs.heads.claxon_tag.Goals as goal
 
 pub returns-in-Ok : goal.returns-in-Ok
@@ -28,7 +28,8 @@ returns-in-Ok c =
       fault = λ says. absurd (no.0 says);
       named = no_head_fault view bytes taken status old new z h;
       io = head_is_there view bytes taken status old new z h;
-      memory = λ is. absurd (no.1 is);
+      memory = λ is. absurd (no.1.0 is);
+      text = (λ is. absurd (no.1.1 is), λ is. absurd (no.1.0 is));
     }
 
 pub returns-in-Err : goal.returns-in-Err
@@ -49,4 +50,5 @@ returns-in-Err c =
       named = head_named view bytes taken status old new e h told;
       io = head_io view bytes taken status old new e h told;
       memory = head_memory view bytes taken status old new e h told;
+      text = text_told status old new e told;
     }
