@@ -5,21 +5,20 @@
 //!
 //! # Example
 //!
-//! The loudest sample of a file, over one buffer for all blocks:
-//!
 //! ```
-//! fn peak(rt: &(impl Files<File = File> + AllocGlobal), name: &str) -> claxon::Result<u32> {
+//! /// The greatest magnitude of a sample of a file.
+//! pub fn peak<Q: Files<File = File> + AllocGlobal>(rt: &Q, name: &str) -> Result<u32> {
 //!     let mut flac = FlacReader::open(rt, name)?;
 //!     let mut blocks = flac.blocks();
-//!     let (mut buffer, mut peak) = (Vec::new(rt.alloc()), 0);
+//!     let mut buffer = Vec::new(rt.alloc());
+//!     let mut peak = 0;
 //!     for _ in 0..u64::MAX {
 //!         let Some(block) = blocks.read_next_or_eof(buffer)? else {
 //!             break;
 //!         };
-//!         for channel in 0..block.channels() {
-//!             for sample in block.channel(channel) {
-//!                 peak = peak.max(sample.unsigned_abs());
-//!             }
+//!         for ch in 0..block.channels() {
+//!             let greatest = block.channel(ch).iter().map(|x| x.unsigned_abs()).max();
+//!             peak = peak.max(greatest.unwrap_or(0));
 //!         }
 //!         buffer = block.into_buffer();
 //!     }
