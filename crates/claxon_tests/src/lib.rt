@@ -6,6 +6,8 @@ mod bits;
 #[cfg(test)]
 mod bytes;
 #[cfg(test)]
+mod callers;
+#[cfg(test)]
 mod frames;
 #[cfg(test)]
 mod header_faults;
