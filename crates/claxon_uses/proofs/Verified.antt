@@ -23,7 +23,7 @@ use Rattle.claxon.specs.SampleRuns.{lent}
 use Rattle.claxon.specs.declared.reader.FlacReader.{FlacReader}
 use Rattle.claxon.proofs.SampleRuns.{behind_loan}
 use Rattle.claxon.proofs.SamplesInTurn.{same_duration}
-use Rattle.claxon_uses.specs.Verified.{AreCounted, CountsPart, CountsParts, IsRight, IsVerified, NamesPart, Part, PartBytes, Parts, TakesParts, faults_of, frames_of, samples_of}
+use Rattle.claxon_uses.specs.Verified.{AreCounted, CountsPart, CountsParts, IsRight, IsVerified, NamesPart, Part, PartBytes, Parts, TakesParts, part_faults, part_frames, part_samples}
 use Rattle.claxon_uses.specs.declared.damaged.Found.{Found}
 
 -- one part more
@@ -37,7 +37,7 @@ module _ {stream : Option StreamShape} where
   takes_none a found frames faults samples = record { taken = λ told. (told, ([], refl, record { frames = frames; faults = faults; samples = samples })) }
 
   module _ {a b : State ℕ} (c : State ℕ) {found : Found} (so_far : TakesParts stream a b found) where
-    takes_part : {more : Found} (part : Part) → Took b c (PartBytes stream part) → CountsPart (frames_of part) (faults_of part) (samples_of part) found more → TakesParts stream a c more
+    takes_part : {more : Found} (part : Part) → Took b c (PartBytes stream part) → CountsPart (part_frames part) (part_faults part) (part_samples part) found more → TakesParts stream a c more
     takes_part part took n = record {
       taken = λ told.
           let k = so_far.taken told in
@@ -48,9 +48,9 @@ module _ {stream : Option StreamShape} where
               p.0 ++ part ∷ [],
               parts_push stream p.0 part a.coming b.coming w.1.0 c.coming p.1 w.1.1 w.1.2,
               record {
-                frames = n.frames_are ∙ ap (λ (z : ℕ). z + frames_of part) p.2.frames ∙ sym (sum_by_push frames_of p.0 part);
-                faults = n.faults_are ∙ ap (λ (z : ℕ). z + faults_of part) p.2.faults ∙ sym (sum_by_push faults_of p.0 part);
-                samples = n.samples_are ∙ ap (λ (z : ℕ). z + samples_of part) p.2.samples ∙ sym (sum_by_push samples_of p.0 part);
+                frames = n.frames_are ∙ ap (λ (z : ℕ). z + part_frames part) p.2.frames ∙ sym (sum_by_push part_frames p.0 part);
+                faults = n.faults_are ∙ ap (λ (z : ℕ). z + part_faults part) p.2.faults ∙ sym (sum_by_push part_faults p.0 part);
+                samples = n.samples_are ∙ ap (λ (z : ℕ). z + part_samples part) p.2.samples ∙ sym (sum_by_push part_samples p.0 part);
               },
             ),
           );

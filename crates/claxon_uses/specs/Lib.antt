@@ -5,5 +5,5 @@ pub mod FramesInMemory
 pub mod GuardedPair
 pub mod Packets
 pub mod StreamsInMemory
-pub mod Tags
+pub mod TagLines
 pub mod Verified

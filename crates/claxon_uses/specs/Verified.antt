@@ -32,24 +32,24 @@ Parts stream s (part ∷ parts) r = (t : List ℕ) × (m : List ℕ) × PartByte
 
 -- ---- how many there are
 
-abbrev pub frames_of : Part → ℕ
-frames_of (Ok block) = 1
-frames_of (Err f) = 0
+abbrev pub part_frames : Part → ℕ
+part_frames (Ok block) = 1
+part_frames (Err f) = 0
 
-abbrev pub faults_of : Part → ℕ
-faults_of (Ok block) = 0
-faults_of (Err f) = 1
+abbrev pub part_faults : Part → ℕ
+part_faults (Ok block) = 0
+part_faults (Err f) = 1
 
 -- of each channel
-abbrev pub samples_of : Part → ℕ
-samples_of (Ok block) = duration block.channels
-samples_of (Err f) = 0
+abbrev pub part_samples : Part → ℕ
+part_samples (Ok block) = duration block.channels
+part_samples (Err f) = 0
 
 -- These are the numbers of all of them together.
 pub record AreCounted (parts : List Part) (found : Found) : Type 0 where
-  pub frames : found.frames ≡ sum_by frames_of parts
-  pub faults : found.faults ≡ sum_by faults_of parts
-  pub samples : found.samples ≡ sum_by samples_of parts
+  pub frames : found.frames ≡ sum_by part_frames parts
+  pub faults : found.faults ≡ sum_by part_faults parts
+  pub samples : found.samples ≡ sum_by part_samples parts
 
 -- One part more is counted.
 pub record CountsPart (frames faults samples : ℕ) (old new : Found) : Type 0 where

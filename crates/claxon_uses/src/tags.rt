@@ -1,6 +1,6 @@
 //! Tags as text.
 ghost use Rattle.std.specs.Prelude.{◌≡◌, IfErr, IfOk};
-ghost use Rattle.claxon_uses.specs.Tags.{AreTags};
+ghost use Rattle.claxon_uses.specs.TagLines.{AreTags};
 
 use claxon::{Error, FlacReader, FlacReaderOptions, Result};
 use std::alloc::Allocator;

@@ -2,7 +2,7 @@ use Rattle.std.proofs.Common.{◌≡◌, ◌++◌, map}
 use Rattle.std.specs.Prelude.{string_bytes}
 use Rattle.claxon.specs.FlacReader.{tags_of}
 use Rattle.claxon.specs.Tags.{tags_left}
-use Rattle.claxon_uses.specs.Tags.{tag_line}
+use Rattle.claxon_uses.specs.TagLines.{tag_line}
 use Rattle.claxon_uses.proofs.tags.tag_lines.Given as goal
 
 abbrev pub invariant-loop-name : goal.invariant-loop-name
