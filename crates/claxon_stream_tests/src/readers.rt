@@ -51,6 +51,18 @@ fn cut_frames(rt: HostRuntime) -> Result<(), Fail> {
     Ok(())
 }
 
+// A frame that is cut gives one error.
+#[test]
+fn one_error(rt: HostRuntime) -> Result<(), Fail> {
+    let bytes = joined(rt.alloc(), &[&head(0x80), &FRAME])?;
+    assert_eq!(rt; bytes.len(), 53);
+    for len in 44..53 {
+        let mut flac = FlacReader::new(rt.alloc(), OneByte::new(&bytes[..len]))?;
+        assert_eq!(rt; after_error(&mut flac), (true, true, true), "{len}");
+    }
+    Ok(())
+}
+
 #[test]
 fn frames_after_a_failed_read(rt: HostRuntime) -> Result<(), Fail> {
     let bytes = joined(rt.alloc(), &[&FRAME, &FRAME])?;
