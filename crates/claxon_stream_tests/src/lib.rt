@@ -5,9 +5,9 @@
 #[cfg(test)]
 mod failing;
 #[cfg(test)]
-mod failures;
-#[cfg(test)]
 mod files;
+#[cfg(test)]
+mod memory;
 #[cfg(test)]
 mod openings;
 #[cfg(test)]

@@ -1,0 +1,233 @@
+//! Memory that is refused, each request in turn.
+ghost use Rattle.std.specs.Prelude.{◌≤◌};
+
+use claxon::FlacReader;
+use claxon::frame::FrameReader;
+use claxon::metadata::{MetadataBlock, VorbisComment, read_metadata_block_with_header};
+use claxon_test_memory::RefusesOne;
+use claxon_test_support::answers::{
+    COMMENT, FRAME, Fault, Step, clean, fault_of, format, head, joined, mono, run_of, step_of,
+};
+use claxon_write::run;
+use linked_list_allocator::LocalHeap;
+use std::alloc::{Allocator, Global};
+use std::io::{self, Cursor, Write};
+use std::process::Abort;
+use std::test::Fail;
+
+// Calls that take memory.
+#[derive(Clone, Copy, Debug)]
+enum Call {
+    Open,
+    Samples,
+    Run,
+    Block,
+}
+
+const OTHER: Result<(), Fault> = Err(Fault::Format("another answer"));
+
+// Whether the call answers what the bytes hold.
+fn answer_of<A: Allocator + Copy>(heap: A, call: Call, bytes: &[u8]) -> Result<(), Fault> {
+    match call {
+        Call::Open => opened(heap, bytes),
+        Call::Samples => sampled(heap, bytes),
+        Call::Run => written(heap, bytes),
+        Call::Block => block_read(heap, bytes),
+    }
+}
+
+// A stream with the one tag `X=Y`.
+fn opened<A: Allocator + Copy>(heap: A, bytes: &[u8]) -> Result<(), Fault> {
+    match FlacReader::new(heap, Cursor::new(bytes)) {
+        Ok(flac) if flac.get_tag("X").next().is_some_and(|value| value == "Y") => Ok(()),
+        Ok(_) => OTHER,
+        Err(error) => Err(fault_of(&error)),
+    }
+}
+
+// A stream of one sample, 5.
+fn sampled<A: Allocator + Copy>(heap: A, bytes: &[u8]) -> Result<(), Fault> {
+    let run = run_of(heap, Cursor::new(bytes))?;
+    match run.fault {
+        Some(fault) => Err(fault),
+        None if Ok(run) == clean(&[5]) => Ok(()),
+        None => OTHER,
+    }
+}
+
+// Room for the bytes of two samples.
+#[derive(Drop)]
+struct Room {
+    bytes: [u8; 8],
+    used: usize,
+    ghost in_bounds: { used ≤ 8 },
+}
+
+impl Write for Room {
+    fn write(&mut self, buf: &[u8]) -> io::Result<usize> {
+        let count = buf.len().min(8 - self.used);
+        self.bytes[self.used..self.used + count].copy_from_slice(&buf[..count]);
+        self.used += count;
+        Ok(count)
+    }
+
+    fn flush(&mut self) -> io::Result<()> {
+        Ok(())
+    }
+}
+
+// A stream of two samples, each 5. Where memory is refused none is written.
+fn written<A: Allocator + Copy>(heap: A, bytes: &[u8]) -> Result<(), Fault> {
+    let mut room = Room {
+        bytes: [0; 8],
+        used: 0,
+    };
+    match run(heap, Cursor::new(bytes), &mut room) {
+        Ok(2) if room.bytes == [5, 0, 0, 0, 5, 0, 0, 0] => Ok(()),
+        Err(error) if room.used == 0 => Err(fault_of(&error)),
+        _ => OTHER,
+    }
+}
+
+fn block_read<A: Allocator + Copy>(heap: A, bytes: &[u8]) -> Result<(), Fault> {
+    match read_metadata_block_with_header(heap, &mut Cursor::new(bytes)) {
+        Ok(block) => {
+            if is_block(&block, bytes) {
+                Ok(())
+            } else {
+                OTHER
+            }
+        }
+        Err(error) => Err(fault_of(&error)),
+    }
+}
+
+// An application block of the id 7 and the byte 9, or comments.
+fn is_block<A: Allocator>(block: &MetadataBlock<A>, bytes: &[u8]) -> bool {
+    match block {
+        MetadataBlock::Application { id, bytes } => *id == 7 && bytes.as_slice() == [9].as_slice(),
+        MetadataBlock::VorbisComment(comment) => is_worked(comment, bytes),
+        _ => false,
+    }
+}
+
+// The vendor `ab`, and as many entries as the bytes say, each `X=Y`.
+fn is_worked<A: Allocator>(comment: &VorbisComment<A>, bytes: &[u8]) -> bool {
+    let said = match bytes.get(10) {
+        Some(count) => usize::from(*count),
+        None => 0,
+    };
+    let mut all = said == comment.comments.len();
+    for (text, place) in &comment.comments {
+        all = all && text.as_str() == "X=Y" && *place == 1;
+    }
+    all && comment.vendor.as_str() == "ab"
+}
+
+// What the call answers where the request after so many is refused, and how many more would have been granted.
+fn attempt(
+    alloc: Global,
+    call: Call,
+    bytes: &[u8],
+    granted: u64,
+) -> Result<(Result<(), Fault>, u64), Fail> {
+    let heap = RefusesOne::new(LocalHeap::new(alloc, 8192)?, granted);
+    let answer = answer_of(&heap, call, bytes);
+    if heap.inner().used() > 0 {
+        return Err(Fail::new("memory that isn't given back"));
+    }
+    Ok((answer, heap.left()))
+}
+
+// The call makes so many requests, and want of memory is its answer where any of them is refused, which is then the last.
+fn check(
+    rt: &(impl Abort + AllocGlobal),
+    call: Call,
+    bytes: &[u8],
+    requests: u64,
+) -> Result<(), Fail> {
+    for granted in 0..requests {
+        let answer = attempt(rt.alloc(), call, bytes, granted)?;
+        assert_eq!(rt;
+            answer,
+            (Err(Fault::Memory), u64::MAX),
+            "{call:?} {granted}"
+        );
+    }
+    let answer = attempt(rt.alloc(), call, bytes, requests)?;
+    assert_eq!(rt; answer, (Ok(()), 0), "{call:?}");
+    Ok(())
+}
+
+// The bytes of the reader, an entry and their vector, then the samples of a block. The empty vendor takes none, and
+// neither does writing.
+#[test]
+fn streams(rt: HostRuntime) -> Result<(), Fail> {
+    let tagged = joined(
+        rt.alloc(),
+        &[&head(0x00), &[0x84, 0x00, 0x00, 0x13], &COMMENT, &FRAME],
+    )?;
+    check(&rt, Call::Open, &tagged, 3)?;
+    check(&rt, Call::Samples, &tagged, 4)?;
+    let twice = joined(rt.alloc(), &[&head(0x80), &FRAME, &FRAME])?;
+    check(&rt, Call::Run, &twice, 2)
+}
+
+// The vendor `ab` and so many entries `X=Y`.
+fn comment_block(alloc: Global, entries: u8) -> Result<Vec<u8>, Fail> {
+    let length = 10u8.saturating_add(entries.saturating_mul(7));
+    let mut bytes = joined(
+        alloc,
+        &[
+            &[0x04, 0x00, 0x00, length],
+            &[2, 0, 0, 0],
+            b"ab",
+            &[entries, 0, 0, 0],
+        ],
+    )?;
+    for _ in 0..entries {
+        bytes.extend_from_slice(&[3, 0, 0, 0, b'X', b'=', b'Y'])?;
+    }
+    Ok(bytes)
+}
+
+// The vendor, each entry, and their vector, which has room for four at first, and then for eight.
+#[test]
+fn metadata_blocks(rt: HostRuntime) -> Result<(), Fail> {
+    for (entries, requests) in [(0, 1), (1, 3), (3, 5), (4, 6), (5, 8)] {
+        let bytes = comment_block(rt.alloc(), entries)?;
+        check(&rt, Call::Block, &bytes, requests)?;
+    }
+    let application = [0x02, 0x00, 0x00, 0x05, 0x00, 0x00, 0x00, 0x07, 0x09];
+    check(&rt, Call::Block, &application, 1)
+}
+
+// What the calls answer, each into an empty buffer, the first of which can't grow, and how many bytes they take.
+fn check_calls(rt: &(impl Abort + AllocGlobal), wants: &[Step], taken: u64) {
+    let heap = RefusesOne::new(rt.alloc(), 0);
+    let mut reader = FrameReader::new(Cursor::new(FRAME.as_slice()));
+    for want in wants {
+        let answer = step_of(reader.read_next_or_eof(Vec::new(&heap)));
+        assert_eq!(rt; answer, *want);
+    }
+    assert_eq!(rt; reader.into_inner().position(), taken);
+    assert_eq!(rt; heap.left(), u64::MAX);
+}
+
+// The header is taken, so the next call reads the two bytes that follow it.
+#[test]
+fn a_buffer_that_cannot_grow(rt: HostRuntime) {
+    let memory = Step::Fault(Fault::Memory);
+    check_calls(&rt, &[memory], 7);
+    check_calls(&rt, &[memory, format("frame sync code missing")], 9);
+}
+
+#[test]
+fn a_buffer_that_suffices(rt: HostRuntime) -> Result<(), Fail> {
+    let heap = RefusesOne::new(rt.alloc(), 1);
+    let buffer = Vec::with_capacity(&heap, 1)?;
+    let mut reader = FrameReader::new(Cursor::new(FRAME.as_slice()));
+    assert_eq!(rt; step_of(reader.read_next_or_eof(buffer)), mono(0, 5));
+    assert_eq!(rt; heap.left(), 0);
+    Ok(())
+}
