@@ -20,6 +20,7 @@ impl<B: Allocator> RefusesOne<B> {
         }
     }
 
+    /// The allocator that requests are handed on to.
     pub fn inner(&self) -> &B {
         &self.inner
     }
