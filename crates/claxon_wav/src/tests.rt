@@ -11,7 +11,7 @@ use claxon::metadata::StreamInfo;
 use std::alloc::Global;
 use std::io::Cursor;
 use std::test::Fail;
-use std::{fs, result};
+use std::{env, fs, process, result};
 
 struct Header {
     channels: u32,
@@ -127,14 +127,33 @@ fn in_memory(rt: HostRuntime) -> result::Result<(), Fail> {
     Ok(())
 }
 
-// For these arguments the status, and what stands in the output afterwards. The long stream has 2^36 - 1 samples by its streaminfo.
+// A name of this process's own in the folder for files that don't last.
+fn path_of(rt: &HostRuntime, name: &str) -> result::Result<String, Fail> {
+    let (folder, id) = (env::temp_dir(rt)?, process::id(rt.process()));
+    let folder = folder.as_str();
+    Ok(format!(in rt.alloc(); "{folder}/claxon_wav_{id}_{name}")?)
+}
+
+fn status_of(
+    rt: &HostRuntime,
+    from: &str,
+    to: &str,
+    errors: &mut Vec<u8>,
+) -> result::Result<u8, Fail> {
+    let words = [path_of(rt, from)?, path_of(rt, to)?];
+    Ok(command(rt, &words, false, errors))
+}
+
+// The status, and what stands in the output afterwards. The long stream has 2^36 - 1 samples by its streaminfo.
 #[test]
 fn with_files(rt: HostRuntime) -> result::Result<(), Fail> {
-    let mut long = STREAM;
-    long[21..26].copy_from_slice(&[0x7f, 0xff, 0xff, 0xff, 0xff]);
-    fs::write(&rt, "in.flac", STREAM.as_slice())?;
-    fs::write(&rt, "long.flac", long.as_slice())?;
-    fs::write(&rt, "out.wav", b"old".as_slice())?;
+    let mut long_stream = STREAM;
+    long_stream[21..26].copy_from_slice(&[0x7f, 0xff, 0xff, 0xff, 0xff]);
+    let (input, long) = (path_of(&rt, "in.flac")?, path_of(&rt, "long.flac")?);
+    let output = path_of(&rt, "out.wav")?;
+    fs::write(&rt, input.as_str(), STREAM.as_slice())?;
+    fs::write(&rt, long.as_str(), long_stream.as_slice())?;
+    fs::write(&rt, output.as_str(), b"old".as_slice())?;
     let rows: [(&str, &str, u8, &[u8]); 5] = [
         ("in.flac", "in.flac", 1, b"old"),
         ("none.flac", "out.wav", 1, b"old"),
@@ -143,24 +162,29 @@ fn with_files(rt: HostRuntime) -> result::Result<(), Fail> {
         ("in.flac", "none/out.wav", 1, WHOLE),
     ];
     let mut errors = Vec::new(rt.alloc());
-    for (from, to, status, want) in rows {
-        let words = [
-            String::from_str(rt.alloc(), from)?,
-            String::from_str(rt.alloc(), to)?,
-        ];
+    for (from, to, want_status, want) in rows {
+        let status = status_of(&rt, from, to, &mut errors)?;
+        assert_eq!(rt; status, want_status, "{from} {to}");
         assert_eq!(rt;
-            command(&rt, &words, false, &mut errors),
-            status,
+            fs::read(&rt, output.as_str())?.as_slice(),
+            want,
             "{from} {to}"
         );
-        assert_eq!(rt; fs::read(&rt, "out.wav")?.as_slice(), want, "{from} {to}");
     }
-    assert_eq!(rt; fs::read(&rt, "in.flac")?.as_slice(), STREAM.as_slice());
-    errors.clear();
-    assert_eq!(rt; command(&rt, &[], false, &mut errors), 2);
     assert_eq!(rt;
-        errors.as_slice(),
-        b"usage: claxon_wav FILE OUT.wav\n".as_slice()
+        fs::read(&rt, input.as_str())?.as_slice(),
+        STREAM.as_slice()
     );
+    for path in [input.as_str(), long.as_str(), output.as_str()] {
+        fs::remove_file(&rt, path)?;
+    }
     Ok(())
+}
+
+#[test]
+fn without_arguments(rt: HostRuntime) {
+    let mut errors = Vec::new(rt.alloc());
+    assert_eq!(rt; command(&rt, &[], false, &mut errors), 2);
+    let usage = b"usage: claxon_wav FILE OUT.wav\n";
+    assert_eq!(rt; errors.as_slice(), usage.as_slice());
 }
