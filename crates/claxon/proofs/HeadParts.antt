@@ -12,7 +12,7 @@ use Rattle.claxon_format.specs.Streaminfo.{Streaminfo}
 use Rattle.std.specs.Option as Options
 use Rattle.claxon_input.specs.State.{State, bytes_in}
 use Rattle.claxon_input.specs.Gives.{Went, IsRest}
-use Rattle.claxon_input.proofs.CallsInTurn.{went_both, went_map, went_none, StopsAs}
+use Rattle.claxon_input.proofs.CallsInTurn.{went_both, went_map, StopsAs}
 use Rattle.claxon_metadata.specs.MetadataBlock.{MayStarve, flagged_view, content_view, info_view}
 use Rattle.claxon.specs.ReadHead.{PassesBlocks, found_view, other_at}
 use Rattle.claxon.proofs.HeadMemory.{passes_both, passes_other}

@@ -26,12 +26,12 @@ unfoldable pub bytes_of_sample : ℕ → ℕ → ℤ → List ℕ
 bytes_of_sample size width x = take size (to_le_bytes w32 (raised (8 * size - width) (silence size) x))
 
 -- the bytes of samples of so many bits, one after another
-abbrev pub bytes_of_samples : ℕ → List ℤ → List ℕ
-bytes_of_samples width xs = flat_map (bytes_of_sample (sample_size width) width) xs
+abbrev pub packed_samples : ℕ → List ℤ → List ℕ
+packed_samples width xs = flat_map (bytes_of_sample (sample_size width) width) xs
 
 -- the bytes of a block's samples, place by place
-abbrev pub block_bytes : ℕ → BlockValue → List ℕ
-block_bytes width block = bytes_of_samples width (interleave block.channels)
+abbrev pub packed_block : ℕ → BlockValue → List ℕ
+packed_block width block = packed_samples width (interleave block.channels)
 
 -- A refusal of the width says that not all of the samples have so few bits. Else memory was refused.
 abbrev pub IsTooWide : ℕ → Error → List ℤ → Type 0

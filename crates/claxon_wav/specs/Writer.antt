@@ -2,7 +2,7 @@
 use Rattle.std.specs.Prelude.{◌≡◌, ℕ, ◌+◌, List, length, Option, Result, IfOk, OnOk}
 use Rattle.std.specs.Io.KnownBytes.{Appends}
 use Rattle.claxon_frame.specs.Block.{BlockValue}
-use Rattle.claxon_wav.specs.Samples.{block_bytes}
+use Rattle.claxon_wav.specs.Samples.{packed_block}
 use Rattle.claxon_wav.specs.WaveFile.{IsHeader}
 use Rattle.claxon_wav.specs.declared.error.Error.{Error}
 use Rattle.claxon_wav.specs.declared.header.Layout.{Layout}
@@ -22,4 +22,4 @@ BeginsWithHeader contents layout announced output r = IfOk r (λ new. Begins con
 -- An Ok wrote the samples of the block behind all that was written before, in as many bytes as are told.
 abbrev pub PutsBlock : {W : Type 0} → (W → Option (List ℕ)) → BlockValue → Result (Unit {0}) Error → WavWriter W → WavWriter W → Type 0
 PutsBlock contents block r old new =
-    OnOk r (Appends (contents old.output) (contents new.output) (block_bytes old.layout.width block) × (length block.channels ≡ old.layout.channels) × (new.written ≡ old.written + length (block_bytes old.layout.width block)))
+    OnOk r (Appends (contents old.output) (contents new.output) (packed_block old.layout.width block) × (length block.channels ≡ old.layout.channels) × (new.written ≡ old.written + length (packed_block old.layout.width block)))

@@ -5,7 +5,7 @@ ghost use Rattle.std.specs.List.{flat_map};
 ghost use Rattle.claxon_format.specs.Bits.{FitsIn};
 ghost use Rattle.claxon_format.specs.Streams.{interleave, samples_at};
 ghost use Rattle.claxon_frame.specs.Block.{duration_of};
-ghost use Rattle.claxon_wav.specs.Samples.{IsTooWide, block_bytes, bytes_of_sample, raised, sample_size, silence};
+ghost use Rattle.claxon_wav.specs.Samples.{IsTooWide, packed_block, bytes_of_sample, raised, sample_size, silence};
 ghost use Rattle.claxon_write.specs.SampleBytes.{places};
 
 use crate::error::{Error, Result};
@@ -22,7 +22,7 @@ pub fn pack<A: Allocator>(
 ) -> Result<()>
     requires some_bits { 1 ≤ width }
     requires few_bits { width ≤ 32 }
-    ensures ok { OnOk result (bytes.new.items ≡ block_bytes width block.now) }
+    ensures ok { OnOk result (bytes.new.items ≡ packed_block width block.now) }
     ensures fits { OnOk result (All (FitsIn width) (interleave block.now.channels)) }
     ensures wide { IfErr result (λ error. IsTooWide width error (interleave block.now.channels)) }
 {

@@ -1,5 +1,5 @@
 //! A WAV file that is being written.
-ghost use Rattle.std.specs.Prelude.{◌≡◌, ◌≤◌, OnOk};
+ghost use Rattle.std.specs.Prelude.{◌≡◌, ◌≤◌};
 
 use crate::error::{Error, Result};
 use crate::header::{Layout, MOST_BYTES};
