@@ -1,13 +1,16 @@
 -- Bytes in memory, behind a `Cursor`: what is to come is told, and no read of them fails. So of the two answers that excuse a call
 -- just want of memory is left.
-use Rattle.std.proofs.Common.{◌≡◌, inl, inr, ℕ, List, drop, refl, ap, ◌∙◌}
+use Rattle.std.proofs.Common.{◌≡◌, inl, inr, ℕ, List, ◌++◌, drop, refl, ap, ◌∙◌}
 use Rattle.std.specs.Prelude.{Result}
 use Rattle.std.specs.declared.io.Cursor.{Cursor}
 use Rattle.std.specs.Io.Cursor.{cursor_position, cursor_inner}
+use Rattle.claxon_format.specs.Bits.{bits_of}
+use Rattle.claxon_input.specs.Bitstream.{left_over}
 use Rattle.claxon_input.specs.Cursor.{cursor_source}
 use Rattle.claxon_input.specs.Gives.{FailedIn}
 use Rattle.claxon_input.specs.Promises.{Comes, IsExcused, IsStarved}
-use Rattle.claxon_input.specs.State.{State, bytes_in}
+use Rattle.claxon_input.specs.State.{State, bits_in, bytes_in}
+use Rattle.claxon_input.specs.declared.bits.Bitstream.{Bitstream}
 use Rattle.claxon_input.specs.declared.error.Error.{Error}
 
 -- ---- any source whose counts stay
@@ -45,3 +48,15 @@ module _ {T : Type 0} (items : T → List ℕ) where
   pub cursor_just_starved : {A : Type 0} (r : Result A Error) (a b : Cursor T) → IsExcused r (bytes_in (cursor_source items) a) (bytes_in (cursor_source items) b) → IsStarved r
   unfolding bytes_in
   cursor_just_starved r a b h = just_starved r (bytes_in (cursor_source items) a) (bytes_in (cursor_source items) b) refl refl h
+
+  -- ---- bits over a cursor
+
+  -- The bits left over, and then those of the bytes from the position on, are to come.
+  pub bits_come : {g : _} (b : Bitstream (Cursor T) g) → Comes (bits_in (cursor_source items) b) (left_over b ++ bits_of (drop (cursor_position b.reader) (items (cursor_inner b.reader))))
+  unfolding bits_in
+  bits_come b = record { told = refl; are = refl }
+
+  -- No read of them fails.
+  pub bits_never_fail : {g h : _} (a : Bitstream (Cursor T) g) (b : Bitstream (Cursor T) h) → FailedIn (bits_in (cursor_source items) a) (bits_in (cursor_source items) b) → ⊥
+  unfolding bits_in
+  bits_never_fail a b f = never_failed (bits_in (cursor_source items) a) (bits_in (cursor_source items) b) refl refl f
