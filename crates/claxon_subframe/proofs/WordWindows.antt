@@ -1,6 +1,7 @@
 -- Words that are read from a window of 64 bits, which is turned past each.
-use Rattle.std.proofs.Common.{bit_or, ◌≡◌, ℕ, suc, ◌+◌, ◌-◌, ◌*◌, ◌/◌, ◌%◌, ◌^◌, ◌<◌, ◌≤◌, true, false, List, [], ◌∷◌, ◌++◌, length, take, drop, set, replicate, refl, sym, ap, ap₂, subst, ◌∙◌, append_assoc, arith, ℤ, take-add, to_z, of_z, w32}
+use Rattle.std.proofs.Common.{bit_or, ◌≡◌, ℕ, zero, suc, ◌+◌, ◌-◌, ◌*◌, ◌/◌, ◌%◌, ◌^◌, ◌<◌, ◌≤◌, true, false, List, [], ◌∷◌, ◌++◌, length, length-take, take, drop, set, replicate, refl, sym, ap, ap₂, subst, ◌∙◌, append_assoc, arith, ℤ, take-add, to_z, of_z, w32}
 use Rattle.std.specs.Int.{leading_zeros, rotate_left, w64}
+use Rattle.std.specs.Int.Count.{leading_of_zero}
 use Rattle.std.specs.Int.Bits.{or_zero_r}
 use Rattle.std.proofs.lemmas.List.{take-take, drop-take, take-append-le, drop-append-le, length-drop, take-append-drop, drop-drop, take_more_set, take_all}
 use Rattle.std.proofs.lemmas.Nat.{pow_pos, shl-shr, shr_below, or_shifted, or_shr, or_lt, mod-pow-add, mod-mul-add, mod_below, le_or_r}
@@ -52,19 +53,10 @@ last_bits x z k h lt =
 
 -- ---- the first word
 
--- one more bit at the end doesn't move the first one
-first_one : (x : ℕ) → x < 18446744073709551616 → leading_zeros w64 (bit_or x 1) < 63 → take (leading_zeros w64 (bit_or x 1) + 1) (bits 64 x) ≡ replicate (leading_zeros w64 (bit_or x 1)) false ++ true ∷ []
-first_one x lt h =
-    let some : 1 ≤ bit_or x 1 = le_or_r x 1 in
-    let one = highest (bit_or x 1) some (or_lt 64 x 1 lt (omega arith)) in
-    let e : 64 - (leading_zeros w64 (bit_or x 1) + 1) ≡ suc (62 - leading_zeros w64 (bit_or x 1)) = omega arith in
-    let p : 2 ≤ 2 ^ suc (62 - leading_zeros w64 (bit_or x 1)) = pow-le-pow_right {n = 2} (omega arith) {i = 1} {j = suc (62 - leading_zeros w64 (bit_or x 1))} (omega arith) in
-    let same : bit_or x 1 / 2 ^ (64 - (leading_zeros w64 (bit_or x 1) + 1)) ≡ x / 2 ^ (64 - (leading_zeros w64 (bit_or x 1) + 1))
-    = rw e (or_shr x 1 (suc (62 - leading_zeros w64 (bit_or x 1))) ∙ ap (bit_or (x / 2 ^ suc (62 - leading_zeros w64 (bit_or x 1)))) (div-eq_of_lt p) ∙ or_zero_r (x / 2 ^ suc (62 - leading_zeros w64 (bit_or x 1)))) in
-    top_bits x (leading_zeros w64 (bit_or x 1) + 1) (omega arith) ∙ ap (bits (leading_zeros w64 (bit_or x 1) + 1)) (sym same) ∙ sym (top_bits (bit_or x 1) (leading_zeros w64 (bit_or x 1) + 1) (omega arith)) ∙ one.front
-
-pub one_below : (x : ℕ) → x < 18446744073709551616 → leading_zeros w64 (bit_or x 1) < 64
-one_below x lt = (highest (bit_or x 1) (le_or_r x 1) (or_lt 64 x 1 lt (omega arith))).within
+-- fewer than 63 zeros and a one
+first_one : (x : ℕ) → x < 18446744073709551616 → leading_zeros w64 x < 63 → take (leading_zeros w64 x + 1) (bits 64 x) ≡ replicate (leading_zeros w64 x) false ++ true ∷ []
+first_one zero lt h = absurd (omega (arith, leading_of_zero 64))
+first_one (suc y) lt h = (highest (suc y) (omega arith) lt).front
 
 -- the first n of the bits are the zeros, the one, k bits, and the others
 split_word : (W P : Bits) (z k n : ℕ) → take (z + 1) W ≡ P → z + 1 + k ≤ n → n ≤ length W → take n W ≡ P ++ (take k (drop (z + 1) W) ++ drop (z + 1 + k) (take n W))
@@ -74,14 +66,14 @@ split_word W P z k n first h le =
     ∙ append_assoc P (take k (drop (z + 1) W)) (drop (z + 1 + k) (take n W))
 
 pub first_is : (k x : ℕ) (e v : ℤ) → k ≤ 30 → x < 18446744073709551616
-    → e ≡ unfold_at (bit_or (leading_zeros w64 (bit_or x 1) * 2 ^ k % 4294967296) (rotate_left w64 x (leading_zeros w64 (bit_or x 1) + 1 + k) % 2 ^ k)) → v ≡ to_z w32 (of_z w32 e)
-    → IsFirstWord k x v (leading_zeros w64 (bit_or x 1) + 1 + k) (rotate_left w64 x (leading_zeros w64 (bit_or x 1) + 1 + k))
+    → e ≡ unfold_at (bit_or (leading_zeros w64 x * 2 ^ k % 4294967296) (rotate_left w64 x (leading_zeros w64 x + 1 + k) % 2 ^ k)) → v ≡ to_z w32 (of_z w32 e)
+    → IsFirstWord k x v (leading_zeros w64 x + 1 + k) (rotate_left w64 x (leading_zeros w64 x + 1 + k))
 first_is k x e v le lt e-is v-is = record {
   word = λ n rest small h room.
-      let z : ℕ = leading_zeros w64 (bit_or x 1) in
-      let r : ℕ = rotate_left w64 x (leading_zeros w64 (bit_or x 1) + 1 + k) % 2 ^ k in
+      let z : ℕ = leading_zeros w64 x in
+      let r : ℕ = rotate_left w64 x (leading_zeros w64 x + 1 + k) % 2 ^ k in
       let P : Bits = replicate z false ++ true ∷ [] in
-      let left : Bits = drop (leading_zeros w64 (bit_or x 1) + 1 + k) (take n (bits 64 x)) in
+      let left : Bits = drop (leading_zeros w64 x + 1 + k) (take n (bits 64 x)) in
       let split : take n (bits 64 x) ++ rest ≡ P ++ (bits k r ++ (left ++ rest))
       = ap (λ (t : Bits). t ++ rest) (split_word (bits 64 x) P z k n (first_one x lt (omega arith)) h (rw (length-bits 64 x) room) ∙ ap (λ (t : Bits). P ++ (t ++ left)) (sym (last_bits x z k small lt)))
       ∙ append_assoc P (bits k r ++ left) rest ∙ ap (λ (t : Bits). P ++ t) (append_assoc (bits k r) left rest) in
@@ -89,7 +81,7 @@ first_is k x e v le lt e-is v-is = record {
       let second : number_at k (bits k r ++ (left ++ rest)) ≡ Done r (left ++ rest) = (Reads-number k).again r (bits k r) (left ++ rest) (mod_below (rotate_left w64 x (z + 1 + k)) (2 ^ k) (pow_pos k), refl) in
       word_from k z r e v (take n (bits 64 x) ++ rest) (bits k r ++ (left ++ rest)) (left ++ rest) le first second e-is v-is;
   others = λ n small h room.
-      let m : ℕ = leading_zeros w64 (bit_or x 1) + 1 + k in
+      let m : ℕ = leading_zeros w64 x + 1 + k in
       let len : length (drop m (bits 64 x)) ≡ 64 - m = length-drop m (bits 64 x) ∙ ap (λ (j : ℕ). j - m) (length-bits 64 x) in
       let f : n ≡ m + (n - m) = omega arith in
       ap (take (n - m)) (turned_bits x m (omega arith) small lt) ∙ take-append-le (n - m) (drop m (bits 64 x)) (take m (bits 64 x)) (omega arith)
@@ -98,36 +90,53 @@ first_is k x e v le lt e-is v-is = record {
 
 -- ---- a group of words
 
--- So many words of the window w are at the front of xs, if they fit: then those are its first bits, and the others come first in `window`.
+-- all bits of the window w but the last
+abbrev but_last : ℕ → Bits
+but_last w = take 63 (bits 64 w)
+
+-- So many words of the window w are at the front of xs, if they fit: then those are its first bits, and the others but the last come first in `window`.
 pub record GroupSoFar (k w : ℕ) (xs : List ℤ) (words used window : ℕ) : Type 0 where
-  pub few : used ≤ 94 * words
-  pub so_far : used ≤ 56 → (rest : Bits) → times_at words (word_at k) (bits 64 w ++ rest) ≡ Done (take words xs) (drop used (bits 64 w) ++ rest)
-  pub others : used ≤ 56 → take (64 - used) (bits 64 window) ≡ drop used (bits 64 w)
+  pub few : used ≤ 95 * words
+  pub so_far : used ≤ 56 → (rest : Bits) → times_at words (word_at k) (but_last w ++ rest) ≡ Done (take words xs) (drop used (but_last w) ++ rest)
+  pub others : used ≤ 56 → take (63 - used) (bits 64 window) ≡ drop used (but_last w)
 
-pub group_begins : (k w : ℕ) (xs : List ℤ) → GroupSoFar k w xs 0 0 w
+last_set : (w : ℕ) → but_last (bit_or w 1) ≡ but_last w
+last_set w =
+    let same : bit_or w 1 / 2 ^ 1 ≡ w / 2 ^ 1 = or_shr w 1 1 ∙ or_zero_r (w / 2 ^ 1) in
+    top_bits (bit_or w 1) 63 (omega arith) ∙ ap (bits 63) same ∙ sym (top_bits w 63 (omega arith))
+
+pub group_begins : (k w : ℕ) (xs : List ℤ) → GroupSoFar k w xs 0 0 (bit_or w 1)
 unfolding times_at each_at
-group_begins k w xs = record { few = omega arith; so_far = λ _ rest. refl; others = λ _. take_all 64 (bits 64 w) (omega (arith, length-bits 64 w)) }
+group_begins k w xs = record { few = omega arith; so_far = λ _ rest. refl; others = λ _. last_set w }
 
-pub group_next : (k w : ℕ) (xs : List ℤ) (words used window : ℕ) (x : ℤ) (many turned : ℕ) → words < length xs → GroupSoFar k w xs words used window → many ≤ 94 → IsFirstWord k window x many turned
+pub group_next : (k w : ℕ) (xs : List ℤ) (words used window : ℕ) (x : ℤ) (many turned : ℕ) → words < length xs → GroupSoFar k w xs words used window → many ≤ 95 → IsFirstWord k window x many turned
     → GroupSoFar k w (set xs words x) (words + 1) (used + many) turned
 group_next k w xs words used window x many turned lt h le is = record {
   few = (let f = h.few in omega arith);
   so_far = λ fits rest.
       let T = h.others (omega arith) in
-      let e : word_at k (drop used (bits 64 w) ++ rest) ≡ Done x (drop (used + many) (bits 64 w) ++ rest)
-      = subst (λ (t : Bits). word_at k (t ++ rest) ≡ Done x (drop many t ++ rest)) T (is.word (64 - used) rest (omega arith) (omega arith) (omega arith)) ∙ ap (λ (t : Bits). Done x (t ++ rest)) (drop-drop many used (bits 64 w)) in
-      times_push (word_at k) words (bits 64 w ++ rest) (drop used (bits 64 w) ++ rest) (drop (used + many) (bits 64 w) ++ rest) (take words xs) x (h.so_far (omega arith) rest) e
-      ∙ ap (λ (t : List ℤ). Done t (drop (used + many) (bits 64 w) ++ rest)) (sym (take_more_set xs words x lt));
+      let e : word_at k (drop used (but_last w) ++ rest) ≡ Done x (drop (used + many) (but_last w) ++ rest)
+      = subst (λ (t : Bits). word_at k (t ++ rest) ≡ Done x (drop many t ++ rest)) T (is.word (63 - used) rest (omega arith) (omega arith) (omega arith)) ∙ ap (λ (t : Bits). Done x (t ++ rest)) (drop-drop many used (but_last w)) in
+      times_push (word_at k) words (but_last w ++ rest) (drop used (but_last w) ++ rest) (drop (used + many) (but_last w) ++ rest) (take words xs) x (h.so_far (omega arith) rest) e
+      ∙ ap (λ (t : List ℤ). Done t (drop (used + many) (but_last w) ++ rest)) (sym (take_more_set xs words x lt));
   others = λ fits.
-      let n : 64 - (used + many) ≡ 64 - used - many = omega arith in
-      ap (λ (j : ℕ). take j (bits 64 turned)) n ∙ is.others (64 - used) (omega arith) (omega arith) (omega arith) ∙ ap (drop many) (h.others (omega arith)) ∙ drop-drop many used (bits 64 w);
+      let n : 63 - (used + many) ≡ 63 - used - many = omega arith in
+      ap (λ (j : ℕ). take j (bits 64 turned)) n ∙ is.others (63 - used) (omega arith) (omega arith) (omega arith) ∙ ap (drop many) (h.others (omega arith)) ∙ drop-drop many used (but_last w);
 }
+
+-- the last bit stands behind what was read
+behind_last : (w used : ℕ) (m : Bits) → used ≤ 56 → drop used (bits 64 w) ++ m ≡ drop used (but_last w) ++ (drop 63 (bits 64 w) ++ m)
+behind_last w used m le =
+    let long : used ≤ length (but_last w) = omega (arith, length-take 63 (bits 64 w), length-bits 64 w) in
+    ap (λ (t : Bits). t ++ m) (ap (drop used) (sym (take-append-drop 63 (bits 64 w))) ∙ drop-append-le used (but_last w) (drop 63 (bits 64 w)) long)
+    ∙ append_assoc (drop used (but_last w)) (drop 63 (bits 64 w)) m
 
 pub group_read : (k w : ℕ) (xs : List ℤ) (words used window : ℕ) (a b c : Ahead) → words ≡ length xs → used ≤ 56 → GroupSoFar k w xs words used window → bits_ahead b ≡ bits_ahead a → ShowsWindow w b → bits_ahead c ≡ drop used (bits_ahead b)
     → GivesAhead a c (times_at (length xs) (word_at k)) xs
 group_read k w xs words used window a b c e fits h same shows passed rest =
     let m : Bits = shows.behind in
-    let old : bits_ahead a ++ rest ≡ bits 64 w ++ (m ++ rest) = ap (λ (t : Bits). t ++ rest) (sym same ∙ shows.next) ∙ append_assoc (bits 64 w) m rest in
-    let new : bits_ahead c ++ rest ≡ drop used (bits 64 w) ++ (m ++ rest)
-    = ap (λ (t : Bits). t ++ rest) (passed ∙ ap (drop used) shows.next ∙ drop-append-le used (bits 64 w) m (omega (arith, length-bits 64 w))) ∙ append_assoc (drop used (bits 64 w)) m rest in
-    ap₂ (λ (n : ℕ) (s : Bits). times_at n (word_at k) s) (sym e) old ∙ h.so_far fits (m ++ rest) ∙ ap₂ (λ (t : List ℤ) (s : Bits). Done t s) (take_all words xs (omega arith)) (sym new)
+    let last : Bits = drop 63 (bits 64 w) in
+    let old : bits_ahead a ++ rest ≡ but_last w ++ (last ++ (m ++ rest)) = ap (λ (t : Bits). t ++ rest) (sym same ∙ shows.next) ∙ append_assoc (bits 64 w) m rest ∙ behind_last w 0 (m ++ rest) (omega arith) in
+    let new : bits_ahead c ++ rest ≡ drop used (but_last w) ++ (last ++ (m ++ rest))
+    = ap (λ (t : Bits). t ++ rest) (passed ∙ ap (drop used) shows.next ∙ drop-append-le used (bits 64 w) m (omega (arith, length-bits 64 w))) ∙ append_assoc (drop used (bits 64 w)) m rest ∙ behind_last w used (m ++ rest) fits in
+    ap₂ (λ (n : ℕ) (s : Bits). times_at n (word_at k) s) (sym e) old ∙ h.so_far fits (last ++ (m ++ rest)) ∙ ap₂ (λ (t : List ℤ) (s : Bits). Done t s) (take_all words xs (omega arith)) (sym new)

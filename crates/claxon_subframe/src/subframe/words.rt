@@ -120,7 +120,8 @@ fn group_ahead(ahead: &mut Ahead, parameter: u32, group: &mut [i32]) -> bool
     let Some(first) = ahead.window() else {
         return false;
     };
-    let mut window = first;
+    // With its last bit set no window is zero, however it is turned; a word that reaches this bit isn't taken.
+    let mut window = first | 1;
     let mut used = 0;
     for entry in group.iter_mut() {
         let (word, bits, turned) = first_word(window, parameter);
@@ -140,10 +141,10 @@ fn group_ahead(ahead: &mut Ahead, parameter: u32, group: &mut [i32]) -> bool
 #[inline(always)]
 fn first_word(window: u64, parameter: u32) -> (i32, u32, u64)
     requires { parameter ≤ 30 }
-    ensures few { result.1 ≤ 94 }
+    ensures few { result.1 ≤ 95 }
     ensures word { IsFirstWord parameter window result.0 result.1 result.2 }
 {
-    let zeros = (window | 1).leading_zeros();
+    let zeros = window.leading_zeros();
     let bits = zeros + 1 + parameter;
     let turned = window.rotate_left(bits);
     let low = (turned & ((1 << parameter) - 1)) as u32;
