@@ -1,11 +1,12 @@
 -- A loop that brings samples back two at a time, with the newest two in variables.
-use Rattle.std.proofs.Common.{◌≡◌, ℕ, ◌+◌, ◌<◌, ◌≤◌, List, [], ◌∷◌, length, take, reverse, get_or, set, refl, sym, ap, subst, ◌∙◌, arith, ℤ, pos, ◌+ℤ◌, to_z, of_z, w32, FitsSigned}
-use Rattle.std.proofs.lemmas.Int.{to_z-of_z}
+use Rattle.std.proofs.Common.{◌≡◌, ℕ, ◌+◌, ◌<◌, ◌≤◌, List, [], ◌∷◌, length, take, reverse, get_or, set, refl, sym, ap, subst, ◌∙◌, arith, ℤ, pos, ◌+ℤ◌, to_z, of_z, w32, w64, FitsSigned}
+use Rattle.std.proofs.lemmas.Int.{to_z-of_z, int_wrap_fits, SFits-int_wrap}
 use Rattle.std.proofs.lemmas.List.{take_more, take_more_set, get_or-set_other, length-set, reverse-append}
 use Rattle.claxon_format.specs.Predict.{wrap, linear, restored}
-use Rattle.claxon_subframe.specs.Sums.{but_newest_two, waiting_at, Waits, IsSample}
+use Rattle.claxon_subframe.specs.Sums.{but_newest_two, waiting_at, Waits, IsPutUp, IsSample}
 use Rattle.claxon_subframe.specs.declared.subframe.predictor.Twelve.{Twelve}
-use Rattle.claxon_subframe.proofs.Predictors.{restored_more, restored_all}
+use Rattle.claxon_subframe.proofs.Predictors.{restored_more, restored_all, abs_32}
+use Rattle.claxon_subframe.proofs.Lanes.{small_fits}
 use Rattle.claxon_subframe.proofs.Sums.{one_is, two_is}
 
 -- right before i stand these two, the newest last
@@ -44,27 +45,45 @@ two_restored p xs i j k x y ej ek lt ex ey =
 pub past_two : (xs : List ℤ) (i j k : ℕ) (x y : ℤ) → j ≡ i + 1 → k ≡ j + 1 → j < length xs → reverse (take k (set (set xs i x) j y)) ≡ y ∷ x ∷ reverse (take i xs)
 past_two xs i j k x y ej ek lt = past_more (set xs i x) j k y ek (omega (arith, length-set xs i x)) ∙ ap (λ (l : List ℤ). y ∷ l) (past_more xs i j x ej (omega arith))
 
-pub ends_first : (xs : List ℤ) → 12 ≤ length xs → FitsSigned w32 (get_or xs 10 (pos 0)) → FitsSigned w32 (get_or xs 11 (pos 0))
-    → EndsIn xs 12 (to_z w32 (of_z w32 (get_or xs 10 (pos 0)))) (to_z w32 (of_z w32 (get_or xs 11 (pos 0))))
-ends_first xs le f g =
-    let second : to_z w32 (of_z w32 (get_or xs 10 (pos 0))) ≡ get_or xs 10 (pos 0) = to_z-of_z w32 _ f in
-    let newest : to_z w32 (of_z w32 (get_or xs 11 (pos 0))) ≡ get_or xs 11 (pos 0) = to_z-of_z w32 _ g in
-    rw (second, newest) (record { rest = reverse (take 10 xs); is = ends_read xs 10 11 12 refl refl (omega arith) })
+-- the same with these in variables
+pub ends_two : (xs : List ℤ) (i j k : ℕ) (x y second newest : ℤ) → j ≡ i + 1 → k ≡ j + 1 → j < length xs → x ≡ second → y ≡ newest → EndsIn (set (set xs i x) j y) k second newest
+ends_two xs i j k x y second newest ej ek lt ex ey = record {
+  rest = reverse (take i xs);
+  is = past_two xs i j k x y ej ek lt ∙ ap (λ (v : ℤ). v ∷ x ∷ reverse (take i xs)) ey ∙ ap (λ (v : ℤ). newest ∷ v ∷ reverse (take i xs)) ex;
+}
+
+pub ends_first : (xs : List ℤ) (second newest : ℤ) → 12 ≤ length xs → second ≡ get_or xs 10 (pos 0) → newest ≡ get_or xs 11 (pos 0) → EndsIn xs 12 second newest
+ends_first xs second newest le es en = rw (es, en) (record { rest = reverse (take 10 xs); is = ends_read xs 10 11 12 refl refl (omega arith) })
+
+-- a sample as a number of 64 bits
+pub as_wide : (x : ℤ) → FitsSigned w32 x → to_z w64 (of_z w64 x) ≡ x
+as_wide x f = to_z-of_z w64 x (small_fits 2147483648 x (omega arith) (abs_32 x f))
+
+pub widened : (x y : ℤ) → FitsSigned w32 x → y ≡ to_z w32 (of_z w32 x) → to_z w64 (of_z w64 y) ≡ x
+widened x y f e = ap (λ (v : ℤ). to_z w64 (of_z w64 v)) (e ∙ to_z-of_z w32 x f) ∙ as_wide x f
+
+-- what was put up, as a call gets it
+pub passed_up : (w r e : ℤ) (t : ℕ) → IsPutUp w r t e → IsPutUp w r t (to_z w64 (of_z w64 e))
+passed_up w r e t up = λ sum h. ap (λ (v : ℤ). to_z w64 (of_z w64 v)) (up sum h) ∙ to_z-of_z w64 _ (SFits-int_wrap w64 _)
+
+-- and back
+pub narrowed : (x low : ℤ) → FitsSigned w32 x → low ≡ wrap (to_z w64 (of_z w64 x)) → to_z w32 (of_z w32 low) ≡ x
+narrowed x low f e = ap (λ (v : ℤ). to_z w32 (of_z w32 v)) (e ∙ ap wrap (as_wide x f) ∙ int_wrap_fits w32 x f) ∙ to_z-of_z w32 x f
 
 -- ---- a place and the one after it
 
-pub one_place : (ts xs : List ℤ) (i : ℕ) (n s r w b l x : ℤ) (t : ℕ) (sums : Twelve) → length ts ≡ 12 → EndsIn xs i s n → Waits (but_newest_two ts) (reverse (take i xs)) sums
-    → r ≡ get_or xs i (pos 0) → w ≡ get_or sums.old 3 (pos 0) → b ≡ get_or ts 10 (pos 0) → l ≡ get_or ts 11 (pos 0) → IsSample r w b s l n t x → x ≡ wrap (linear (reverse ts) t (reverse (take i xs)) +ℤ get_or xs i (pos 0))
-one_place ts xs i n s r w b l x t sums long past waits er ew eb el is =
+pub one_place : (ts xs : List ℤ) (i : ℕ) (n s r w e b l x : ℤ) (t : ℕ) (sums : Twelve) → length ts ≡ 12 → EndsIn xs i s n → Waits (but_newest_two ts) (reverse (take i xs)) sums
+    → r ≡ get_or xs i (pos 0) → w ≡ get_or sums.old 3 (pos 0) → b ≡ get_or ts 10 (pos 0) → l ≡ get_or ts 11 (pos 0) → IsPutUp w r t e → IsSample e b s l n t x → x ≡ wrap (linear (reverse ts) t (reverse (take i xs)) +ℤ get_or xs i (pos 0))
+one_place ts xs i n s r w e b l x t sums long past waits er ew eb el up is =
     let there : get_or sums.old 3 (pos 0) ≡ waiting_at (but_newest_two ts) (reverse (take i xs)) 0 = ap (λ (o : List ℤ). get_or o 3 (pos 0)) waits.old in
-    one_is ts past.rest n s r w b l x t long eb el (ew ∙ there ∙ ap (λ (p : List ℤ). waiting_at (but_newest_two ts) p 0) past.is) is
+    one_is ts past.rest n s r w e b l x t long eb el (ew ∙ there ∙ ap (λ (p : List ℤ). waiting_at (but_newest_two ts) p 0) past.is) up is
     ∙ ap (λ (v : ℤ). wrap (linear (reverse ts) t (n ∷ s ∷ past.rest) +ℤ v)) er ∙ ap (λ (p : List ℤ). wrap (linear (reverse ts) t p +ℤ get_or xs i (pos 0))) (sym past.is)
 
-pub two_place : (ts xs : List ℤ) (i j : ℕ) (m n s r w b l x : ℤ) (t : ℕ) (sums : Twelve) → length ts ≡ 12 → EndsIn xs i s n → Waits (but_newest_two ts) (reverse (take i xs)) sums
-    → r ≡ get_or xs j (pos 0) → w ≡ get_or sums.old 2 (pos 0) → b ≡ get_or ts 10 (pos 0) → l ≡ get_or ts 11 (pos 0) → IsSample r w b n l m t x → x ≡ wrap (linear (reverse ts) t (m ∷ reverse (take i xs)) +ℤ get_or xs j (pos 0))
-two_place ts xs i j m n s r w b l x t sums long past waits er ew eb el is =
+pub two_place : (ts xs : List ℤ) (i j : ℕ) (m n s r w e b l x : ℤ) (t : ℕ) (sums : Twelve) → length ts ≡ 12 → EndsIn xs i s n → Waits (but_newest_two ts) (reverse (take i xs)) sums
+    → r ≡ get_or xs j (pos 0) → w ≡ get_or sums.old 2 (pos 0) → b ≡ get_or ts 10 (pos 0) → l ≡ get_or ts 11 (pos 0) → IsPutUp w r t e → IsSample e b n l m t x → x ≡ wrap (linear (reverse ts) t (m ∷ reverse (take i xs)) +ℤ get_or xs j (pos 0))
+two_place ts xs i j m n s r w e b l x t sums long past waits er ew eb el up is =
     let there : get_or sums.old 2 (pos 0) ≡ waiting_at (but_newest_two ts) (reverse (take i xs)) 1 = ap (λ (o : List ℤ). get_or o 2 (pos 0)) waits.old in
-    two_is ts past.rest m n s r w b l x t long eb el (ew ∙ there ∙ ap (λ (p : List ℤ). waiting_at (but_newest_two ts) p 1) past.is) is
+    two_is ts past.rest m n s r w e b l x t long eb el (ew ∙ there ∙ ap (λ (p : List ℤ). waiting_at (but_newest_two ts) p 1) past.is) up is
     ∙ ap (λ (v : ℤ). wrap (linear (reverse ts) t (m ∷ n ∷ s ∷ past.rest) +ℤ v)) er ∙ ap (λ (p : List ℤ). wrap (linear (reverse ts) t (m ∷ p) +ℤ get_or xs j (pos 0))) (sym past.is)
 
 -- a last place alone
@@ -72,5 +91,5 @@ pub last_restored : (p : List ℤ → ℤ) (xs whole : List ℤ) (i m : ℕ) (x 
 last_restored p xs whole i m x em long ex same =
     ap (λ (n : ℕ). set xs n x) em ∙ sym (restored_all p (set xs i x) (i + 1) (omega (arith, length-set xs i x))) ∙ restored_more p xs i x (omega arith) ex ∙ same
 
-pub waits_past : (ks xs : List ℤ) (i j k : ℕ) (x y : ℤ) (sums : Twelve) → j ≡ i + 1 → k ≡ j + 1 → j < length xs → Waits ks (y ∷ x ∷ reverse (take i xs)) sums → Waits ks (reverse (take k (set (set xs i x) j y))) sums
-waits_past ks xs i j k x y sums ej ek lt w = subst (λ (l : List ℤ). Waits ks l sums) (sym (past_two xs i j k x y ej ek lt)) w
+pub waits_past : (ks xs : List ℤ) (i j k : ℕ) (x y second newest : ℤ) (sums : Twelve) → j ≡ i + 1 → k ≡ j + 1 → j < length xs → x ≡ second → y ≡ newest → Waits ks (newest ∷ second ∷ reverse (take i xs)) sums → Waits ks (reverse (take k (set (set xs i x) j y))) sums
+waits_past ks xs i j k x y second newest sums ej ek lt ex ey w = subst (λ (l : List ℤ). Waits ks l sums) (sym (past_two xs i j k x y ej ek lt ∙ ap (λ (v : ℤ). v ∷ x ∷ reverse (take i xs)) ey ∙ ap (λ (v : ℤ). newest ∷ v ∷ reverse (take i xs)) ex)) w

@@ -2,8 +2,13 @@
 use Rattle.std.proofs.Common.{◌≡◌, ℕ, zero, suc, true, false, ltb, ◌+◌, ◌-◌, ◌*◌, ◌/◌, ◌%◌, ◌^◌, ◌<◌, ◌≤◌, inl, inr, List, [], ◌∷◌, length, take, drop, reverse, replicate, get_or, map, refl, sym, ap, subst, ◌∙◌, arith, ℤ, pos, negsuc, neg_ℤ, ◌+ℤ◌, ◌*ℤ◌, of_z, to_z, w32, w64, FitsSigned, unsigned_abs}
 use Rattle.std.specs.Int.{int_wrap}
 use Rattle.std.specs.Int.Signed.{shr_z}
+use borrow.Rule.Simd.Lanes.{act2}
+use borrow.Table.Row.{s_int}
+use mir.Syntax.{wrap_add, shl}
+use lib.Lanes.{zip2}
 use Rattle.std.proofs.Math.IntN.{+ℤ_idl, +ℤ_comm, suc_ℤ-*ℤ, *ℤ_comm, zero-*ℤ, *ℤ-zero, *ℤ-negsuc}
 use Rattle.std.proofs.Math.Nat.{div-div-eq-div-mul, mul-div_cancel, suc-mul, pow-le-pow_right}
+use Rattle.std.proofs.Math.Facts.{sfits_to_z}
 use Rattle.std.proofs.lemmas.Bool.{cases_lt, lt-ltb, le-ltb}
 use Rattle.std.proofs.lemmas.Nat.{pow_pos, pow-add, div-mul-add}
 use Rattle.std.proofs.lemmas.Int.{ints, to_z-of_z, int_wrap_fits, int_wrap-add_left, int_wrap-mul_right, SFits-int_wrap}
@@ -11,7 +16,7 @@ use Rattle.std.proofs.lemmas.List.{drop_all, drop_more, drop-drop, get_or_past}
 use Rattle.claxon_format.specs.Predict.{wrap, dot, floor_shift, linear}
 use Rattle.claxon_input.proofs.Wraps.{Rep, rep_add, rep_mul, rep_fits}
 use Rattle.claxon_subframe.specs.Lanes.{AllWithin, AllFit64, Within, Lanes, Wide, wrap_64, two_on}
-use Rattle.claxon_subframe.specs.Sums.{but_newest_two, waiting_at, four_waiting, four_taps, Waits, AreTaps, SmallTaps, WideTwelve, IsSample}
+use Rattle.claxon_subframe.specs.Sums.{but_newest_two, waiting_at, four_waiting, four_taps, Waits, AreTaps, SmallTaps, WideTwelve, put_up, IsPutUp, IsSample}
 use Rattle.claxon_subframe.specs.declared.subframe.predictor.Taps.{Taps}
 use Rattle.claxon_subframe.specs.declared.subframe.predictor.Twelve.{Twelve}
 use Rattle.claxon_subframe.proofs.Predictors.{floor_is, abs_32, shifted_fits}
@@ -142,8 +147,8 @@ none_on ks past t long et zeros = eight_leave ks past (no_farthest ks long (sym 
 pub wide_is : {xs ys : List ℤ} → Wide xs → xs ≡ ys → as_lanes xs ≡ ys
 wide_is {xs} {ys} h e = same_wide h ∙ e
 
-pub sample_lanes : (x : ℤ) (xs : List ℤ) → FitsSigned w32 x → Lanes 2147483648 xs → xs ≡ replicate 4 (to_z w32 (of_z w32 x)) → as_lanes xs ≡ replicate 4 x
-sample_lanes x xs f h e = same_lanes (omega arith) h ∙ e ∙ ap (replicate 4) (to_z-of_z w32 x f)
+pub sample_lanes : (x : ℤ) (xs : List ℤ) → FitsSigned w64 x → Lanes 2147483648 xs → xs ≡ replicate 4 (to_z w64 (of_z w64 x)) → as_lanes xs ≡ replicate 4 x
+sample_lanes x xs f h e = same_lanes (omega arith) h ∙ e ∙ ap (replicate 4) (to_z-of_z w64 x f)
 
 pub taps_are : {xs ys : List ℤ} → Lanes 32768 xs → xs ≡ ys → as_lanes xs ≡ ys
 taps_are {xs} {ys} h e = same_lanes (omega arith) h ∙ e
@@ -217,9 +222,9 @@ plus_times_any x y (negsuc n) =
     let apart : (a b : ℤ) → neg_ℤ (a +ℤ b) ≡ neg_ℤ a +ℤ neg_ℤ b = λ a b. omega (arith, ints) in
     *ℤ-negsuc (x +ℤ y) n ∙ ap neg_ℤ (plus_times x y (suc n)) ∙ apart (x *ℤ pos (suc n)) (y *ℤ pos (suc n)) ∙ ap (λ (v : ℤ). v +ℤ neg_ℤ (y *ℤ pos (suc n))) (sym (*ℤ-negsuc x n)) ∙ ap (λ (v : ℤ). x *ℤ negsuc n +ℤ v) (sym (*ℤ-negsuc y n))
 
-put_up : (b : ℤ) (k : ℕ) (s : ℤ) → (b *ℤ pos k) *ℤ s ≡ (b *ℤ s) *ℤ pos k
-put_up b zero s = ap (λ (v : ℤ). v *ℤ s) (*ℤ-zero b) ∙ zero-*ℤ s ∙ sym (*ℤ-zero (b *ℤ s))
-put_up b (suc k) s = ap (λ (v : ℤ). v *ℤ s) (times_more b k) ∙ plus_times_any (b *ℤ pos k) b s ∙ ap (λ (v : ℤ). v +ℤ b *ℤ s) (put_up b k s) ∙ sym (times_more (b *ℤ s) k)
+times_up : (b : ℤ) (k : ℕ) (s : ℤ) → (b *ℤ pos k) *ℤ s ≡ (b *ℤ s) *ℤ pos k
+times_up b zero s = ap (λ (v : ℤ). v *ℤ s) (*ℤ-zero b) ∙ zero-*ℤ s ∙ sym (*ℤ-zero (b *ℤ s))
+times_up b (suc k) s = ap (λ (v : ℤ). v *ℤ s) (times_more b k) ∙ plus_times_any (b *ℤ pos k) b s ∙ ap (λ (v : ℤ). v +ℤ b *ℤ s) (times_up b k s) ∙ sym (times_more (b *ℤ s) k)
 
 all_up : (z r p q : ℤ) (k c : ℕ) → ((z *ℤ pos k +ℤ r *ℤ pos c) +ℤ p *ℤ pos k) +ℤ q *ℤ pos k ≡ r *ℤ pos c +ℤ ((z +ℤ p) +ℤ q) *ℤ pos k
 all_up z r p q k c =
@@ -236,7 +241,7 @@ put_up_is z r b s l n t ht =
     let back : 32 - t + t ≡ 32 = omega arith in
     let whole : 2 ^ (32 - t) * 2 ^ t ≡ 4294967296 = sym (pow-add 2 (32 - t) t) ∙ ap (λ (e : ℕ). 2 ^ e) back in
     let products : ((z *ℤ pos k +ℤ r *ℤ pos 4294967296) +ℤ (b *ℤ pos k) *ℤ s) +ℤ (l *ℤ pos k) *ℤ n ≡ r *ℤ pos 4294967296 +ℤ a *ℤ pos k
-    = ap (λ (v : ℤ). ((z *ℤ pos k +ℤ r *ℤ pos 4294967296) +ℤ v) +ℤ (l *ℤ pos k) *ℤ n) (put_up b k s) ∙ ap (λ (v : ℤ). ((z *ℤ pos k +ℤ r *ℤ pos 4294967296) +ℤ (b *ℤ s) *ℤ pos k) +ℤ v) (put_up l k n) ∙ all_up z r (b *ℤ s) (l *ℤ n) k 4294967296 in
+    = ap (λ (v : ℤ). ((z *ℤ pos k +ℤ r *ℤ pos 4294967296) +ℤ v) +ℤ (l *ℤ pos k) *ℤ n) (times_up b k s) ∙ ap (λ (v : ℤ). ((z *ℤ pos k +ℤ r *ℤ pos 4294967296) +ℤ (b *ℤ s) *ℤ pos k) +ℤ v) (times_up l k n) ∙ all_up z r (b *ℤ s) (l *ℤ n) k 4294967296 in
     let down : shr_z (a *ℤ pos k) 4294967296 ≡ floor_shift a t
     = ap (λ (m : ℕ). shr_z (a *ℤ pos k) m) (sym whole) ∙ shr_scaled a k (2 ^ t) (pow_pos (32 - t)) ∙ floor_is a t in
     let high : shr_z (r *ℤ pos 4294967296 +ℤ a *ℤ pos k) 4294967296 ≡ floor_shift a t +ℤ r
@@ -265,20 +270,20 @@ two_last ts rest n s e =
     let regroup : (a b d : ℤ) → (a +ℤ b) +ℤ d ≡ d +ℤ (b +ℤ a) = λ a b d. omega (arith, ints) in
     regroup (dot (drop 2 (reverse ts)) rest) (get_or ts 10 (pos 0) *ℤ s) (get_or ts 11 (pos 0) *ℤ n) ∙ ap (λ (l : List ℤ). dot l (n ∷ s ∷ rest)) (sym (turned ts e))
 
-pub one_is : (ts rest : List ℤ) (n s r w b l x : ℤ) (t : ℕ) → length ts ≡ 12 → b ≡ get_or ts 10 (pos 0) → l ≡ get_or ts 11 (pos 0) → w ≡ waiting_at (but_newest_two ts) (n ∷ s ∷ rest) 0
-    → IsSample r w b s l n t x → x ≡ wrap (linear (reverse ts) t (n ∷ s ∷ rest) +ℤ r)
-one_is ts rest n s r w b l x t long eb el ew is =
+pub one_is : (ts rest : List ℤ) (n s r w e b l x : ℤ) (t : ℕ) → length ts ≡ 12 → b ≡ get_or ts 10 (pos 0) → l ≡ get_or ts 11 (pos 0) → w ≡ waiting_at (but_newest_two ts) (n ∷ s ∷ rest) 0
+    → IsPutUp w r t e → IsSample e b s l n t x → x ≡ wrap (linear (reverse ts) t (n ∷ s ∷ rest) +ℤ r)
+one_is ts rest n s r w e b l x t long eb el ew up is =
     let sum : ℤ = dot (drop 2 (reverse ts)) rest in
     let all : (sum +ℤ b *ℤ s) +ℤ l *ℤ n ≡ dot (reverse ts) (n ∷ s ∷ rest) = ap (λ (v : ℤ). (sum +ℤ v *ℤ s) +ℤ l *ℤ n) eb ∙ ap (λ (v : ℤ). (sum +ℤ get_or ts 10 (pos 0) *ℤ s) +ℤ v *ℤ n) el ∙ two_last ts rest n s long in
-    is sum (ew ∙ ap wrap_64 (others_wait (drop 2 (reverse ts)) rest n s)) ∙ ap (λ (v : ℤ). wrap (floor_shift v t +ℤ r)) all
+    is sum r (up sum (ew ∙ ap wrap_64 (others_wait (drop 2 (reverse ts)) rest n s))) ∙ ap (λ (v : ℤ). wrap (floor_shift v t +ℤ r)) all
 
 -- the place after it
-pub two_is : (ts rest : List ℤ) (m n s r w b l x : ℤ) (t : ℕ) → length ts ≡ 12 → b ≡ get_or ts 10 (pos 0) → l ≡ get_or ts 11 (pos 0) → w ≡ waiting_at (but_newest_two ts) (n ∷ s ∷ rest) 1
-    → IsSample r w b n l m t x → x ≡ wrap (linear (reverse ts) t (m ∷ n ∷ s ∷ rest) +ℤ r)
-two_is ts rest m n s r w b l x t long eb el ew is =
+pub two_is : (ts rest : List ℤ) (m n s r w e b l x : ℤ) (t : ℕ) → length ts ≡ 12 → b ≡ get_or ts 10 (pos 0) → l ≡ get_or ts 11 (pos 0) → w ≡ waiting_at (but_newest_two ts) (n ∷ s ∷ rest) 1
+    → IsPutUp w r t e → IsSample e b n l m t x → x ≡ wrap (linear (reverse ts) t (m ∷ n ∷ s ∷ rest) +ℤ r)
+two_is ts rest m n s r w e b l x t long eb el ew up is =
     let sum : ℤ = dot (drop 2 (reverse ts)) (s ∷ rest) in
     let all : (sum +ℤ b *ℤ n) +ℤ l *ℤ m ≡ dot (reverse ts) (m ∷ n ∷ s ∷ rest) = ap (λ (v : ℤ). (sum +ℤ v *ℤ n) +ℤ l *ℤ m) eb ∙ ap (λ (v : ℤ). (sum +ℤ get_or ts 10 (pos 0) *ℤ n) +ℤ v *ℤ m) el ∙ two_last ts (s ∷ rest) m n long in
-    is sum (ew ∙ ap wrap_64 (one_waits (drop 2 (reverse ts)) (s ∷ rest) n)) ∙ ap (λ (v : ℤ). wrap (floor_shift v t +ℤ r)) all
+    is sum r (up sum (ew ∙ ap wrap_64 (one_waits (drop 2 (reverse ts)) (s ∷ rest) n))) ∙ ap (λ (v : ℤ). wrap (floor_shift v t +ℤ r)) all
 
 fit_at : (xs : List ℤ) (j : ℕ) → AllFit64 xs → FitsSigned w64 (get_or xs j (pos 0))
 fit_at [] j h = record { sfits = omega arith }
@@ -289,31 +294,62 @@ fit_at (x ∷ xs) (suc j) h = fit_at xs j h.1
 pub lane_is : (xs : List ℤ) (j : ℕ) → Wide xs → to_z w64 (of_z w64 (get_or (as_lanes xs) j (pos 0))) ≡ get_or xs j (pos 0)
 lane_is xs j h = ap (λ (l : List ℤ). to_z w64 (of_z w64 (get_or l j (pos 0)))) (same_wide h) ∙ to_z-of_z w64 (get_or xs j (pos 0)) (fit_at xs j h.each)
 
--- what the code computes
-pub sample_is : (r w b s l n f g h low z : ℤ) (t : ℕ) → FitsSigned w32 r → FitsSigned w32 s → FitsSigned w32 n → FitsSigned w64 w → FitsSigned w64 b → FitsSigned w64 l → t ≤ 15
-    → f ≡ to_z w32 (of_z w32 r) → g ≡ to_z w32 (of_z w32 s) → h ≡ to_z w32 (of_z w32 n)
-    → low ≡ wrap (to_z w64 (of_z w64 (shr_z (to_z w64 (((((of_z w64 w * 2 ^ (32 - t) % 18446744073709551616) + (of_z w64 f * 4294967296) % 18446744073709551616) % 18446744073709551616 + ((of_z w64 b * 2 ^ (32 - t) % 18446744073709551616) * of_z w64 g) % 18446744073709551616) % 18446744073709551616 + ((of_z w64 l * 2 ^ (32 - t) % 18446744073709551616) * of_z w64 h) % 18446744073709551616) % 18446744073709551616)) 4294967296)))
-    → w ≡ wrap_64 z → to_z w32 (of_z w32 low) ≡ wrap (floor_shift ((z +ℤ b *ℤ s) +ℤ l *ℤ n) t +ℤ r)
-sample_is r w b s l n f g h low z t fr fs fn fw fb fl ht ef eg eh el ew =
-    let k : ℕ = 2 ^ (32 - t) in
+-- what the code computes of a sum that was put up, in 64 bits
+abbrev pub in_64 : ℤ → ℤ → ℤ → ℤ → ℤ → ℕ → ℕ
+in_64 e b s l n t =
+    ((of_z w64 e + ((of_z w64 b * 2 ^ (32 - t) % 18446744073709551616) * of_z w64 s) % 18446744073709551616) % 18446744073709551616
+    + ((of_z w64 l * 2 ^ (32 - t) % 18446744073709551616) * of_z w64 n) % 18446744073709551616) % 18446744073709551616
+
+power_fits : (t : ℕ) → FitsSigned w64 (pos (2 ^ (32 - t)))
+power_fits t =
     let below : 32 - t ≤ 32 = omega arith in
     let power : 2 ^ (32 - t) ≤ 2 ^ 32 = pow-le-pow_right (omega arith) below in
-    let fk : FitsSigned w64 (pos (2 ^ (32 - t))) = record { sfits = omega arith } in
-    let fc : FitsSigned w64 (pos 4294967296) = record { sfits = omega arith } in
-    let f-is : f ≡ r = ef ∙ to_z-of_z w32 r fr in
-    let g-is : g ≡ s = eg ∙ to_z-of_z w32 s fs in
-    let h-is : h ≡ n = eh ∙ to_z-of_z w32 n fn in
-    let fr64 : FitsSigned w64 r = small_fits 2147483648 r (omega arith) (abs_32 r fr) in
-    let fs64 : FitsSigned w64 s = small_fits 2147483648 s (omega arith) (abs_32 s fs) in
-    let fn64 : FitsSigned w64 n = small_fits 2147483648 n (omega arith) (abs_32 n fn) in
-    let rep_z : Rep w64 (of_z w64 w) z = record { below = (rep_fits w fw).below; value = to_z-of_z w64 w fw ∙ ew } in
-    let rep_k = rep_fits (pos (2 ^ (32 - t))) fk in
-    let all = rep_add (rep_add (rep_add (rep_mul rep_z rep_k) (rep_mul (rep_fits r fr64) (rep_fits (pos 4294967296) fc))) (rep_mul (rep_mul (rep_fits b fb) rep_k) (rep_fits s fs64))) (rep_mul (rep_mul (rep_fits l fl) rep_k) (rep_fits n fn64)) in
+    record { sfits = omega arith }
+
+pub sample_is : (e b s l n z r : ℤ) (t : ℕ) → FitsSigned w64 e → FitsSigned w64 b → FitsSigned w64 s → FitsSigned w64 l → FitsSigned w64 n → t ≤ 15 → e ≡ put_up z r t
+    → to_z w64 (of_z w64 (shr_z (to_z w64 (in_64 e b s l n t)) 4294967296)) ≡ wrap (floor_shift ((z +ℤ b *ℤ s) +ℤ l *ℤ n) t +ℤ r)
+sample_is e b s l n z r t fe fb fs fl fn ht ee =
     let d : ℤ = ((z *ℤ pos (2 ^ (32 - t)) +ℤ r *ℤ pos 4294967296) +ℤ (b *ℤ pos (2 ^ (32 - t))) *ℤ s) +ℤ (l *ℤ pos (2 ^ (32 - t))) *ℤ n in
-    let fits : FitsSigned w64 (shr_z (wrap_64 d) 4294967296) = shifted_fits (wrap_64 d) 32 (SFits-int_wrap w64 d) in
-    let value : low ≡ wrap (floor_shift ((z +ℤ b *ℤ s) +ℤ l *ℤ n) t +ℤ r)
-    = el ∙ rw (f-is, g-is, h-is) (ap (λ (v : ℤ). wrap (to_z w64 (of_z w64 (shr_z v 4294967296)))) all.value) ∙ ap wrap (to_z-of_z w64 (shr_z (wrap_64 d) 4294967296) fits) ∙ put_up_is z r b s l n t ht in
-    ap (λ (v : ℤ). to_z w32 (of_z w32 v)) value ∙ to_z-of_z w32 _ (SFits-int_wrap w32 (floor_shift ((z +ℤ b *ℤ s) +ℤ l *ℤ n) t +ℤ r))
+    let rep_k = rep_fits (pos (2 ^ (32 - t))) (power_fits t) in
+    let rep_e : Rep w64 (of_z w64 e) (z *ℤ pos (2 ^ (32 - t)) +ℤ r *ℤ pos 4294967296) = record { below = (rep_fits e fe).below; value = to_z-of_z w64 e fe ∙ ee } in
+    let all = rep_add (rep_add rep_e (rep_mul (rep_mul (rep_fits b fb) rep_k) (rep_fits s fs))) (rep_mul (rep_mul (rep_fits l fl) rep_k) (rep_fits n fn)) in
+    let fits : FitsSigned w32 (shr_z (wrap_64 d) 4294967296) = high_fits (wrap_64 d) (SFits-int_wrap w64 d) in
+    let wide : FitsSigned w64 (shr_z (wrap_64 d) 4294967296) = shifted_fits (wrap_64 d) 32 (SFits-int_wrap w64 d) in
+    ap (λ (v : ℤ). to_z w64 (of_z w64 (shr_z v 4294967296))) all.value ∙ to_z-of_z w64 _ wide ∙ sym (int_wrap_fits w32 _ fits) ∙ put_up_is z r b s l n t ht
+
+pub sample_fits : (e b s l n : ℤ) (t : ℕ) → FitsSigned w32 (to_z w64 (of_z w64 (shr_z (to_z w64 (in_64 e b s l n t)) 4294967296)))
+sample_fits e b s l n t =
+    let v : ℤ = to_z w64 (in_64 e b s l n t) in
+    let below : in_64 e b s l n t < 18446744073709551616 = omega arith in
+    let f : FitsSigned w64 v = sfits_to_z (record { fits = below }) in
+    subst (FitsSigned w32) (sym (to_z-of_z w64 (shr_z v 4294967296) (shifted_fits v 32 f))) (high_fits v f)
+
+-- a lane that is put up
+pub lane_up : (x u r z : ℤ) (t : ℕ) → FitsSigned w64 x → FitsSigned w32 r → t ≤ 15 → u ≡ pos (32 - t) → x ≡ wrap_64 z
+    → to_z w64 (of_z w64 (to_z w64 (act2 wrap_add (s_int w64) (s_int w64) (s_int w64) (act2 shl (s_int w64) (s_int w64) (s_int w64) (of_z w64 x) (of_z w64 u)) (of_z w64 (to_z w32 (of_z w32 r)) * 4294967296 % 18446744073709551616)))) ≡ put_up z r t
+lane_up x u r z t fx fr ht eu ex =
+    let fc : FitsSigned w64 (pos 4294967296) = record { sfits = omega arith } in
+    let fr64 : FitsSigned w64 r = small_fits 2147483648 r (omega arith) (abs_32 r fr) in
+    let rep_x : Rep w64 (of_z w64 x) z = record { below = (rep_fits x fx).below; value = to_z-of_z w64 x fx ∙ ex } in
+    let all = rep_add (rep_mul rep_x (rep_fits (pos (2 ^ (32 - t))) (power_fits t))) (rep_mul (rep_fits r fr64) (rep_fits (pos 4294967296) fc)) in
+    rw (eu, to_z-of_z w32 r fr) (ap (λ (v : ℤ). to_z w64 (of_z w64 v)) all.value ∙ to_z-of_z w64 (put_up z r t) (SFits-int_wrap w64 _))
+
+-- four lanes that are put up, two residuals in the last two
+abbrev pub lanes_up : List ℤ → ℤ → ℤ → ℤ → List ℤ
+lanes_up xs u farther nearest =
+    map (to_z w64) (zip2 (act2 wrap_add (s_int w64) (s_int w64) (s_int w64))
+    (zip2 (act2 shl (s_int w64) (s_int w64) (s_int w64)) (map (of_z w64) xs) (of_z w64 u ∷ of_z w64 u ∷ of_z w64 u ∷ of_z w64 u ∷ []))
+    (0 ∷ 0 ∷ of_z w64 (to_z w32 (of_z w32 farther)) * 4294967296 % 18446744073709551616 ∷ of_z w64 (to_z w32 (of_z w32 nearest)) * 4294967296 % 18446744073709551616 ∷ []))
+
+pub nearest_up : (xs : List ℤ) (u farther nearest z : ℤ) (t : ℕ) → Wide xs → FitsSigned w32 nearest → t ≤ 15 → u ≡ pos (32 - t) → get_or xs 3 (pos 0) ≡ wrap_64 z
+    → to_z w64 (of_z w64 (get_or (lanes_up xs u farther nearest) 3 (pos 0))) ≡ put_up z nearest t
+nearest_up (a ∷ b ∷ c ∷ d ∷ []) u farther nearest z t h fits ht eu ex = lane_up d u nearest z t h.each.1.1.1.0 fits ht eu ex
+nearest_up xs u farther nearest z t h fits ht eu ex = absurd (omega (arith, h.four))
+
+pub farther_up : (xs : List ℤ) (u farther nearest z : ℤ) (t : ℕ) → Wide xs → FitsSigned w32 farther → t ≤ 15 → u ≡ pos (32 - t) → get_or xs 2 (pos 0) ≡ wrap_64 z
+    → to_z w64 (of_z w64 (get_or (lanes_up xs u farther nearest) 2 (pos 0))) ≡ put_up z farther t
+farther_up (a ∷ b ∷ c ∷ d ∷ []) u farther nearest z t h fits ht eu ex = lane_up c u farther z t h.each.1.1.0 fits ht eu ex
+farther_up xs u farther nearest z t h fits ht eu ex = absurd (omega (arith, h.four))
 
 -- ---- the coefficients, as the code makes them of twelve numbers
 

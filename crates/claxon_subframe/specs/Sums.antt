@@ -1,5 +1,5 @@
 -- Sums that wait for their places: what the samples so far add to each place to come.
-use Rattle.std.specs.Prelude.{◌≡◌, ℕ, ◌+◌, ◌^◌, ℤ, pos, ◌+ℤ◌, ◌*ℤ◌, List, [], ◌∷◌, drop, reverse, length, get_or}
+use Rattle.std.specs.Prelude.{◌≡◌, ℕ, ◌+◌, ◌-◌, ◌^◌, ℤ, pos, ◌+ℤ◌, ◌*ℤ◌, List, [], ◌∷◌, drop, reverse, length, get_or}
 use Rattle.claxon_format.specs.Predict.{wrap, dot, floor_shift}
 use Rattle.claxon_subframe.specs.Lanes.{Lanes, Wide, wrap_64}
 use Rattle.claxon_subframe.specs.declared.subframe.predictor.Taps.{Taps}
@@ -61,7 +61,15 @@ WaitsTwoOn taps old second newest new =
 abbrev pub WaitsAfter : Taps → List ℤ → Twelve → Type 0
 WaitsAfter taps samples sums = (coefficients : List ℤ) → AreTaps coefficients taps → Waits coefficients (reverse samples) sums
 
--- the sample of a residual, a sum that is known modulo 2 ^ 64, and the products of the newest two samples
-abbrev pub IsSample : ℤ → ℤ → ℤ → ℤ → ℤ → ℤ → ℕ → ℤ → Type 0
-IsSample residual waiting before second last newest shift sample =
-    (sum : ℤ) → waiting ≡ wrap_64 sum → sample ≡ wrap (floor_shift ((sum +ℤ before *ℤ second) +ℤ last *ℤ newest) shift +ℤ residual)
+-- a sum and a residual, put up so far that a shift by 32 drops what `shift` would drop of the sum and nothing of the residual
+abbrev pub put_up : ℤ → ℤ → ℕ → ℤ
+put_up sum residual shift = wrap_64 (sum *ℤ pos (2 ^ (32 - shift)) +ℤ residual *ℤ pos (2 ^ 32))
+
+-- so for a sum that is known modulo 2 ^ 64
+abbrev pub IsPutUp : ℤ → ℤ → ℕ → ℤ → Type 0
+IsPutUp waiting residual shift early = (sum : ℤ) → waiting ≡ wrap_64 sum → early ≡ put_up sum residual shift
+
+-- the sample of what was put up for its place and of the products of the newest two samples
+abbrev pub IsSample : ℤ → ℤ → ℤ → ℤ → ℤ → ℕ → ℤ → Type 0
+IsSample early before second last newest shift sample =
+    (sum residual : ℤ) → early ≡ put_up sum residual shift → sample ≡ wrap (floor_shift ((sum +ℤ before *ℤ second) +ℤ last *ℤ newest) shift +ℤ residual)

@@ -1,9 +1,10 @@
 //! Predictors: samples from their first ones and a residual, in place. All sums are modulo 2^32 in the end.
-ghost use Rattle.std.specs.Prelude.{◌≡◌, ◌+◌, ◌-◌, ◌*◌, ◌^◌, ◌<◌, ◌≤◌, false, ◌++◌, length, take, reverse, replicate, pos};
+ghost use Rattle.std.specs.Prelude.{◌≡◌, ◌+◌, ◌-◌, ◌*◌, ◌^◌, ◌<◌, ◌≤◌, false, ◌++◌, length, take, reverse, replicate, get_or, pos, FitsSigned};
+ghost use Rattle.std.specs.Int.{w32};
 ghost use Rattle.claxon_format.specs.Predict.{wrap, dot, fixed, linear, restored};
 ghost use Rattle.claxon_subframe.specs.Predictor.{SamplesCameBack};
 ghost use Rattle.claxon_subframe.specs.Lanes.{Within, Lanes, Wide, plus_products, two_on};
-ghost use Rattle.claxon_subframe.specs.Sums.{but_newest_two, AreTaps, SmallTaps, WideTwelve, WaitsTwoOn, WaitsAfter, IsSample};
+ghost use Rattle.claxon_subframe.specs.Sums.{but_newest_two, AreTaps, SmallTaps, WideTwelve, WaitsTwoOn, WaitsAfter, IsPutUp, IsSample};
 
 use std::simd::prelude::*;
 
@@ -200,13 +201,14 @@ fn narrow(lanes: i64x4) -> i64x4
     (lanes << i64x4::splat(32)) >> i64x4::splat(32)
 }
 
-// A sample in each lane. It is widened there, so that each lane is known to fit 32 bits.
+// A sample in each lane, each of which is known to have 32 bits by the shifts.
 #[inline(always)]
-fn spread(sample: i32) -> i64x4
+fn spread(sample: i64) -> i64x4
+    requires { FitsSigned w32 sample }
     ensures value { result ≡ replicate 4 sample }
     ensures lanes { Lanes (2 ^ 31) result }
 {
-    i32x4::splat(sample).cast::<i64>()
+    (i64x4::splat(sample) << i64x4::splat(32)) >> i64x4::splat(32)
 }
 
 // Each sum and the product of its lane, modulo 2^64.
@@ -281,9 +283,11 @@ fn taps_of(twelve: &[i64; 12]) -> Taps
 
 // The sums that wait for the next twelve places, two places on.
 #[inline(always)]
-fn sums_two_on<const ALL: bool>(sums: Twelve, taps: Taps, second: i32, newest: i32) -> Twelve
+fn sums_two_on<const ALL: bool>(sums: Twelve, taps: Taps, second: i64, newest: i64) -> Twelve
     requires sums { WideTwelve sums }
     requires taps { SmallTaps taps }
+    requires second { FitsSigned w32 second }
+    requires newest { FitsSigned w32 newest }
     requires zeros { ALL ≡ false → taps.newest.oldest ≡ replicate 4 (pos 0) }
     ensures value { WaitsTwoOn taps sums second newest result }
     ensures wide { WideTwelve result }
@@ -338,32 +342,41 @@ fn first_sums<const ALL: bool>(taps: Taps, samples: &[i32]) -> Twelve
         old: zeros,
     };
     for pair in 0..6 {
-        sums = sums_two_on::<ALL>(sums, taps, samples[2 * pair], samples[2 * pair + 1]);
+        let second = i64::from(samples[2 * pair]);
+        let newest = i64::from(samples[2 * pair + 1]);
+        sums = sums_two_on::<ALL>(sums, taps, second, newest);
     }
     sums
 }
 
-// A sample from its residual, the sum that waited for it, modulo 2^64, and the products of the newest two samples. All is
-// put up so far that one shift by 32 drops what `shift` would, and leaves a number of 32 bits.
+// The sums that wait for the nearest two places, each with the residual of its place. All is put up so far that one shift by
+// 32 drops what `shift` would, and leaves a number of 32 bits.
 #[inline(always)]
-fn sample_of(
-    residual: i32,
-    waiting: i64,
-    before: i64,
-    second: i32,
-    last: i64,
-    newest: i32,
-    shift: u32,
-) -> i32
+fn put_up(sums: i64x4, nearest: i32, farther: i32, shift: u32) -> (i64, i64)
+    requires sums { Wide sums }
+    requires shift { shift ≤ 15 }
+    ensures nearest { IsPutUp (get_or sums 3 (pos 0)) nearest shift result.0 }
+    ensures farther { IsPutUp (get_or sums 2 (pos 0)) farther shift result.1 }
+{
+    let up = i64x4::splat(i64::from(32 - shift));
+    let residuals = i32x4::from_array([0, 0, farther, nearest]).cast::<i64>();
+    let [_, _, second, first] = ((sums << up) + (residuals << i64x4::splat(32))).to_array();
+    (first, second)
+}
+
+// A sample from what was put up for its place and the products of the newest two samples. It is kept in 64 bits, in which it
+// is multiplied next.
+#[inline(always)]
+fn sample_of(early: i64, before: i64, second: i64, last: i64, newest: i64, shift: u32) -> i64
     requires { shift ≤ 15 }
-    ensures { IsSample residual waiting before second last newest shift result }
+    ensures value { IsSample early before second last newest shift result }
+    ensures fits { FitsSigned w32 result }
 {
     let up = 32 - shift;
-    let sum = (waiting << up)
-        .wrapping_add(i64::from(residual) << 32)
-        .wrapping_add((before << up).wrapping_mul(i64::from(second)))
-        .wrapping_add((last << up).wrapping_mul(i64::from(newest)));
-    low_bits(sum >> 32)
+    let sum = early
+        .wrapping_add((before << up).wrapping_mul(second))
+        .wrapping_add((last << up).wrapping_mul(newest));
+    sum >> 32
 }
 
 // Places from 12 on, each by its twelve newest samples. Where `ALL` is false the oldest four coefficients are zeros.
@@ -385,15 +398,15 @@ fn predict_by_sums<const ALL: bool>(twelve: &[i64; 12], shift: u32, buffer: &mut
     let last = twelve[11];
     let taps = taps_of(twelve);
     let mut sums = first_sums::<ALL>(taps, &buffer[..12]);
-    let mut second = buffer[10];
-    let mut newest = buffer[11];
+    let mut second = i64::from(buffer[10]);
+    let mut newest = i64::from(buffer[11]);
     for pair in 6..buffer.len() / 2 {
         let i = 2 * pair;
-        let [_, _, farther, nearest] = sums.old.to_array();
-        let one = sample_of(buffer[i], nearest, before, second, last, newest, shift);
-        let two = sample_of(buffer[i + 1], farther, before, newest, last, one, shift);
-        buffer[i] = one;
-        buffer[i + 1] = two;
+        let (nearest, farther) = put_up(sums.old, buffer[i], buffer[i + 1], shift);
+        let one = sample_of(nearest, before, second, last, newest, shift);
+        let two = sample_of(farther, before, newest, last, one, shift);
+        buffer[i] = low_bits(one);
+        buffer[i + 1] = low_bits(two);
         sums = sums_two_on::<ALL>(sums, taps, one, two);
         second = one;
         newest = two;
@@ -401,7 +414,7 @@ fn predict_by_sums<const ALL: bool>(twelve: &[i64; 12], shift: u32, buffer: &mut
     // A last place alone.
     if buffer.len() % 2 == 1 {
         let i = buffer.len() - 1;
-        let [_, _, _, nearest] = sums.old.to_array();
-        buffer[i] = sample_of(buffer[i], nearest, before, second, last, newest, shift);
+        let (nearest, _) = put_up(sums.old, buffer[i], 0, shift);
+        buffer[i] = low_bits(sample_of(nearest, before, second, last, newest, shift));
     }
 }

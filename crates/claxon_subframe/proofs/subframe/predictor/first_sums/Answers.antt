@@ -1,9 +1,8 @@
 use Rattle.std.proofs.Common.{◌+◌, ◌*◌, get_or, take, reverse, pos, refl, subst, rules, arith, FitsSigned, w32, List, ℤ}
-use Rattle.std.proofs.lemmas.Int.{to_z-of_z}
 use Rattle.std.proofs.lemmas.List.{take_all}
 use Rattle.claxon_subframe.specs.Sums.{Waits}
 use Rattle.claxon_subframe.proofs.Sums.{zeros_wide, nothing_yet}
-use Rattle.claxon_subframe.proofs.SampleLoop.{waits_read}
+use Rattle.claxon_subframe.proofs.SampleLoop.{waits_read, widened}
 use Rattle.claxon_subframe.proofs.subframe.predictor.first_sums.Goals as goal
 
 pub loop-pair-init : goal.loop-pair-init
@@ -19,7 +18,7 @@ loop-pair-preserved g c =
     record {
       wide = c.sums_two_on-sums.ensures.wide;
       waits = λ ks taps.
-          waits_read ks c.args.samples.now (2 * c.loop-pair.pair) (2 * c.loop-pair.pair + 1) (2 * (c.loop-pair.pair + 1)) _ _ c.sums_two_on-sums.result (to_z-of_z w32 _ first) (to_z-of_z w32 _ second) refl (omega arith) (omega arith)
+          waits_read ks c.args.samples.now (2 * c.loop-pair.pair) (2 * c.loop-pair.pair + 1) (2 * (c.loop-pair.pair + 1)) _ _ c.sums_two_on-sums.result (widened _ _ first c.from-second.ensures) (widened _ _ second c.from-newest.ensures) refl (omega arith) (omega arith)
           (c.sums_two_on-sums.ensures.value ks (reverse (take (2 * c.loop-pair.pair) c.args.samples.now)) taps (c.loop-pair.invariant.waits ks taps));
     }
 

@@ -1,11 +1,12 @@
-use Rattle.std.proofs.Common.{◌≡◌, ◌+◌, ◌-◌, ◌*◌, ◌∙◌, length, get_or, take, reverse, pos, refl, sym, ap, rules, arith, FitsSigned, w32, ℕ}
+use Rattle.std.proofs.Common.{◌≡◌, ◌+◌, ◌-◌, ◌*◌, ◌∙◌, ◌+ℤ◌, ◌∷◌, List, ℤ, length, get_or, take, reverse, pos, refl, sym, ap, rules, arith, to_z, of_z, FitsSigned, w32, ℕ}
 use Rattle.std.proofs.lemmas.Int.{to_z-of_z}
 use Rattle.std.proofs.lemmas.List.{length-set}
-use Rattle.claxon_format.specs.Predict.{linear}
+use Rattle.claxon_format.specs.Predict.{wrap, linear}
 use Rattle.claxon_subframe.specs.Sums.{but_newest_two}
 use Rattle.claxon_subframe.proofs.Predictors.{restored_all}
-use Rattle.claxon_subframe.proofs.Sums.{waits_wide, lane_is, entry_is, no_farthest_taps}
-use Rattle.claxon_subframe.proofs.SampleLoop.{ends_first, one_place, two_place, two_restored, past_two, last_restored, waits_past}
+use Rattle.claxon_subframe.proofs.Lanes.{kept_wide, same_wide}
+use Rattle.claxon_subframe.proofs.Sums.{waits_wide, entry_is, no_farthest_taps}
+use Rattle.claxon_subframe.proofs.SampleLoop.{ends_first, ends_two, widened, as_wide, narrowed, passed_up, one_place, two_place, two_restored, last_restored, waits_past}
 use Rattle.claxon_subframe.proofs.subframe.predictor.predict_by_sums.Goals as goal
 
 pub returns-then-buffer-le12 : goal.returns-then-buffer-le12
@@ -20,6 +21,12 @@ sums_two_on-sums-requires-clause-zeros g c = λ h. no_farthest_taps c.args.twelv
 pub sums_two_on-sums-requires-clause-sums : goal.sums_two_on-sums-requires-clause-sums
 sums_two_on-sums-requires-clause-sums g c = waits_wide c.loop-pair.invariant.sums
 
+pub put_up-nearest-requires-clause-sums : goal.put_up-nearest-requires-clause-sums
+put_up-nearest-requires-clause-sums g c = kept_wide (waits_wide c.loop-pair.invariant.sums).old
+
+pub put_up-nearest-requires-then-buffer-eq1-clause-sums : goal.put_up-nearest-requires-then-buffer-eq1-clause-sums
+put_up-nearest-requires-then-buffer-eq1-clause-sums g c = kept_wide (waits_wide c.loop-pair.invariant.sums).old
+
 pub loop-pair-init : goal.loop-pair-init
 loop-pair-init g c =
     let second : FitsSigned w32 (get_or c.args.buffer.now 10 (pos 0)) = search rules in
@@ -27,7 +34,7 @@ loop-pair-init g c =
     record {
       kept = refl;
       same = refl;
-      past = ends_first c.args.buffer.now (omega arith) second newest;
+      past = ends_first c.args.buffer.now _ _ (omega arith) (widened _ _ second c.from-second.ensures) (widened _ _ newest c.from-newest.ensures);
       sums = c.first_sums-sums.ensures (but_newest_two c.args.twelve.now) c.taps_of-taps.ensures.value;
     }
 
@@ -35,30 +42,35 @@ pub loop-pair-preserved : goal.loop-pair-preserved
 loop-pair-preserved g c =
     let first : FitsSigned w32 (get_or c.loop-pair.buffer (2 * c.loop-pair.pair) (pos 0)) = search rules in
     let after : FitsSigned w32 (get_or c.loop-pair.buffer (2 * c.loop-pair.pair + 1) (pos 0)) = search rules in
-    let one : FitsSigned w32 c.sample_of-one.result = search rules in
-    let two : FitsSigned w32 c.sample_of-two.result = search rules in
+    let in_buffer = λ (i : ℕ). to_z w32 (of_z w32 (get_or c.loop-pair.buffer i (pos 0))) in
+    let p = linear (reverse c.args.twelve.now) c.args.shift in
+    let past = reverse (take (2 * c.loop-pair.pair) c.loop-pair.buffer) in
     let wide = waits_wide c.loop-pair.invariant.sums in
-    let one-is = to_z-of_z w32 c.sample_of-one.result one
-    ∙ one_place c.args.twelve.now c.loop-pair.buffer (2 * c.loop-pair.pair) _ _ _ _ _ _ c.sample_of-one.result c.args.shift c.loop-pair.sums c.told-twelve c.loop-pair.invariant.past c.loop-pair.invariant.sums
-    (to_z-of_z w32 _ first) (lane_is c.loop-pair.sums.old 3 wide.old) (entry_is c.args.twelve.now 10 c.requires.small) (entry_is c.args.twelve.now 11 c.requires.small) c.sample_of-one.ensures in
-    let two-is = to_z-of_z w32 c.sample_of-two.result two
-    ∙ two_place c.args.twelve.now c.loop-pair.buffer (2 * c.loop-pair.pair) (2 * c.loop-pair.pair + 1) _ _ _ _ _ _ _ c.sample_of-two.result c.args.shift c.loop-pair.sums c.told-twelve c.loop-pair.invariant.past c.loop-pair.invariant.sums
-    (to_z-of_z w32 _ after) (lane_is c.loop-pair.sums.old 2 wide.old) (entry_is c.args.twelve.now 10 c.requires.small) (entry_is c.args.twelve.now 11 c.requires.small) c.sample_of-two.ensures in
+    let one = narrowed c.sample_of-one.result c.low_bits.result c.sample_of-one.ensures.fits c.low_bits.ensures in
+    let two = narrowed c.sample_of-two.result c.low_bits-in-loop-pair.result c.sample_of-two.ensures.fits c.low_bits-in-loop-pair.ensures in
+    let in_variable = sym (as_wide c.sample_of-one.result c.sample_of-one.ensures.fits) in
+    let one-is = one
+    ∙ one_place c.args.twelve.now c.loop-pair.buffer (2 * c.loop-pair.pair) _ _ _ _ _ _ _ c.sample_of-one.result c.args.shift c.loop-pair.sums c.told-twelve c.loop-pair.invariant.past c.loop-pair.invariant.sums
+    (to_z-of_z w32 _ first) (ap (λ (l : List ℤ). get_or l 3 (pos 0)) (same_wide wide.old)) (entry_is c.args.twelve.now 10 c.requires.small) (entry_is c.args.twelve.now 11 c.requires.small) (passed_up _ (in_buffer (2 * c.loop-pair.pair)) _ c.args.shift c.put_up-nearest.ensures.nearest) c.sample_of-one.ensures.value in
+    let two-is = two
+    ∙ two_place c.args.twelve.now c.loop-pair.buffer (2 * c.loop-pair.pair) (2 * c.loop-pair.pair + 1) _ _ _ _ _ _ _ _ c.sample_of-two.result c.args.shift c.loop-pair.sums c.told-twelve c.loop-pair.invariant.past c.loop-pair.invariant.sums
+    (to_z-of_z w32 _ after) (ap (λ (l : List ℤ). get_or l 2 (pos 0)) (same_wide wide.old)) (entry_is c.args.twelve.now 10 c.requires.small) (entry_is c.args.twelve.now 11 c.requires.small) (passed_up _ (in_buffer (2 * c.loop-pair.pair + 1)) _ c.args.shift c.put_up-nearest.ensures.farther) c.sample_of-two.ensures.value
+    ∙ ap (λ (v : ℤ). wrap (p (v ∷ past) +ℤ get_or c.loop-pair.buffer (2 * c.loop-pair.pair + 1) (pos 0))) (sym (one ∙ in_variable)) in
     record {
       kept = length-set _ _ _ ∙ length-set c.loop-pair.buffer _ _ ∙ c.loop-pair.invariant.kept;
-      same = two_restored (linear (reverse c.args.twelve.now) c.args.shift) c.loop-pair.buffer (2 * c.loop-pair.pair) (2 * c.loop-pair.pair + 1) (2 * (c.loop-pair.pair + 1)) _ _ refl (omega arith) (omega arith) one-is two-is ∙ c.loop-pair.invariant.same;
-      past = record { rest = reverse (take (2 * c.loop-pair.pair) c.loop-pair.buffer); is = past_two c.loop-pair.buffer (2 * c.loop-pair.pair) (2 * c.loop-pair.pair + 1) (2 * (c.loop-pair.pair + 1)) _ _ refl (omega arith) (omega arith) };
-      sums = waits_past (but_newest_two c.args.twelve.now) c.loop-pair.buffer (2 * c.loop-pair.pair) (2 * c.loop-pair.pair + 1) (2 * (c.loop-pair.pair + 1)) _ _ c.sums_two_on-sums.result refl (omega arith) (omega arith)
-          (c.sums_two_on-sums.ensures.value (but_newest_two c.args.twelve.now) (reverse (take (2 * c.loop-pair.pair) c.loop-pair.buffer)) c.taps_of-taps.ensures.value c.loop-pair.invariant.sums);
+      same = two_restored p c.loop-pair.buffer (2 * c.loop-pair.pair) (2 * c.loop-pair.pair + 1) (2 * (c.loop-pair.pair + 1)) _ _ refl (omega arith) (omega arith) one-is two-is ∙ c.loop-pair.invariant.same;
+      past = ends_two c.loop-pair.buffer (2 * c.loop-pair.pair) (2 * c.loop-pair.pair + 1) (2 * (c.loop-pair.pair + 1)) _ _ _ _ refl (omega arith) (omega arith) (one ∙ in_variable) (two ∙ sym (as_wide c.sample_of-two.result c.sample_of-two.ensures.fits));
+      sums = waits_past (but_newest_two c.args.twelve.now) c.loop-pair.buffer (2 * c.loop-pair.pair) (2 * c.loop-pair.pair + 1) (2 * (c.loop-pair.pair + 1)) _ _ _ _ c.sums_two_on-sums.result refl (omega arith) (omega arith)
+          (one ∙ in_variable) (two ∙ sym (as_wide c.sample_of-two.result c.sample_of-two.ensures.fits))
+          (c.sums_two_on-sums.ensures.value (but_newest_two c.args.twelve.now) past c.taps_of-taps.ensures.value c.loop-pair.invariant.sums);
     }
 
 pub returns-then-buffer-eq1 : goal.returns-then-buffer-eq1
 returns-then-buffer-eq1 g c =
     let at : length c.loop-pair.buffer - 1 ≡ 2 * c.loop-pair.pair = omega arith in
     let residual : FitsSigned w32 (get_or c.loop-pair.buffer (length c.loop-pair.buffer - 1) (pos 0)) = search rules in
-    let sample : FitsSigned w32 c.sample_of.result = search rules in
     let wide = waits_wide c.loop-pair.invariant.sums in
-    let is = to_z-of_z w32 c.sample_of.result sample
-    ∙ one_place c.args.twelve.now c.loop-pair.buffer (2 * c.loop-pair.pair) _ _ _ _ _ _ c.sample_of.result c.args.shift c.loop-pair.sums c.told-twelve c.loop-pair.invariant.past c.loop-pair.invariant.sums
-    (to_z-of_z w32 _ residual ∙ ap (λ (n : ℕ). get_or c.loop-pair.buffer n (pos 0)) at) (lane_is c.loop-pair.sums.old 3 wide.old) (entry_is c.args.twelve.now 10 c.requires.small) (entry_is c.args.twelve.now 11 c.requires.small) c.sample_of.ensures in
+    let is = narrowed c.sample_of.result c.low_bits-then-buffer-eq1.result c.sample_of.ensures.fits c.low_bits-then-buffer-eq1.ensures
+    ∙ one_place c.args.twelve.now c.loop-pair.buffer (2 * c.loop-pair.pair) _ _ _ _ _ _ _ c.sample_of.result c.args.shift c.loop-pair.sums c.told-twelve c.loop-pair.invariant.past c.loop-pair.invariant.sums
+    (to_z-of_z w32 _ residual ∙ ap (λ (n : ℕ). get_or c.loop-pair.buffer n (pos 0)) at) (ap (λ (l : List ℤ). get_or l 3 (pos 0)) (same_wide wide.old)) (entry_is c.args.twelve.now 10 c.requires.small) (entry_is c.args.twelve.now 11 c.requires.small) (passed_up _ (to_z w32 (of_z w32 (get_or c.loop-pair.buffer (length c.loop-pair.buffer - 1) (pos 0)))) _ c.args.shift c.put_up-nearest-then-buffer-eq1.ensures.nearest) c.sample_of.ensures.value in
     last_restored (linear (reverse c.args.twelve.now) c.args.shift) c.loop-pair.buffer _ (2 * c.loop-pair.pair) (length c.loop-pair.buffer - 1) _ at (omega arith) is c.loop-pair.invariant.same
