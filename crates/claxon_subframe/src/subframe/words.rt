@@ -65,7 +65,7 @@ fn words_ahead(ahead: &mut Ahead, parameter: u32, buffer: &mut [i32]) -> usize
     let words = match parameter {
         0..=4 => words_by(6, &mut next, parameter, buffer),
         5..=9 => words_by(4, &mut next, parameter, buffer),
-        10..=13 => words_by(3, &mut next, parameter, buffer),
+        10..=14 => words_by(3, &mut next, parameter, buffer),
         _ => words_by(2, &mut next, parameter, buffer),
     };
     *ahead = next;
