@@ -15,7 +15,7 @@ use Rattle.std.proofs.lemmas.Int.{ints, to_z-of_z, int_wrap_fits, int_wrap-add_l
 use Rattle.std.proofs.lemmas.List.{drop_all, drop_more, drop-drop, get_or_past}
 use Rattle.claxon_format.specs.Predict.{wrap, dot, floor_shift, linear}
 use Rattle.claxon_input.proofs.Wraps.{Rep, rep_add, rep_mul, rep_fits}
-use Rattle.claxon_subframe.specs.Lanes.{AllWithin, AllFit64, Within, Lanes, Wide, wrap_64, two_on}
+use Rattle.claxon_subframe.specs.Lanes.{AllWithin, Within, Lanes, Wide, wrap_64, two_on}
 use Rattle.claxon_subframe.specs.Sums.{but_newest_two, waiting_at, four_waiting, four_taps, Waits, AreTaps, SmallTaps, WideTwelve, put_up, IsPutUp, IsSample}
 use Rattle.claxon_subframe.specs.declared.subframe.predictor.Taps.{Taps}
 use Rattle.claxon_subframe.specs.declared.subframe.predictor.Twelve.{Twelve}
@@ -285,15 +285,6 @@ two_is ts rest m n s r w e b l x t long eb el ew up is =
     let all : (sum +ℤ b *ℤ n) +ℤ l *ℤ m ≡ dot (reverse ts) (m ∷ n ∷ s ∷ rest) = ap (λ (v : ℤ). (sum +ℤ v *ℤ n) +ℤ l *ℤ m) eb ∙ ap (λ (v : ℤ). (sum +ℤ get_or ts 10 (pos 0) *ℤ n) +ℤ v *ℤ m) el ∙ two_last ts (s ∷ rest) m n long in
     is sum r (up sum (ew ∙ ap wrap_64 (one_waits (drop 2 (reverse ts)) (s ∷ rest) n))) ∙ ap (λ (v : ℤ). wrap (floor_shift v t +ℤ r)) all
 
-fit_at : (xs : List ℤ) (j : ℕ) → AllFit64 xs → FitsSigned w64 (get_or xs j (pos 0))
-fit_at [] j h = record { sfits = omega arith }
-fit_at (x ∷ xs) zero h = h.0
-fit_at (x ∷ xs) (suc j) h = fit_at xs j h.1
-
--- a lane, as a call gets it
-pub lane_is : (xs : List ℤ) (j : ℕ) → Wide xs → to_z w64 (of_z w64 (get_or (as_lanes xs) j (pos 0))) ≡ get_or xs j (pos 0)
-lane_is xs j h = ap (λ (l : List ℤ). to_z w64 (of_z w64 (get_or l j (pos 0)))) (same_wide h) ∙ to_z-of_z w64 (get_or xs j (pos 0)) (fit_at xs j h.each)
-
 -- what the code computes of a sum that was put up, in 64 bits
 abbrev pub in_64 : ℤ → ℤ → ℤ → ℤ → ℤ → ℕ → ℕ
 in_64 e b s l n t =
@@ -317,12 +308,10 @@ sample_is e b s l n z r t fe fb fs fl fn ht ee =
     let wide : FitsSigned w64 (shr_z (wrap_64 d) 4294967296) = shifted_fits (wrap_64 d) 32 (SFits-int_wrap w64 d) in
     ap (λ (v : ℤ). to_z w64 (of_z w64 (shr_z v 4294967296))) all.value ∙ to_z-of_z w64 _ wide ∙ sym (int_wrap_fits w32 _ fits) ∙ put_up_is z r b s l n t ht
 
-pub sample_fits : (e b s l n : ℤ) (t : ℕ) → FitsSigned w32 (to_z w64 (of_z w64 (shr_z (to_z w64 (in_64 e b s l n t)) 4294967296)))
-sample_fits e b s l n t =
-    let v : ℤ = to_z w64 (in_64 e b s l n t) in
-    let below : in_64 e b s l n t < 18446744073709551616 = omega arith in
-    let f : FitsSigned w64 v = sfits_to_z (record { fits = below }) in
-    subst (FitsSigned w32) (sym (to_z-of_z w64 (shr_z v 4294967296) (shifted_fits v 32 f))) (high_fits v f)
+pub sample_fits : (n : ℕ) → n < 18446744073709551616 → FitsSigned w32 (to_z w64 (of_z w64 (shr_z (to_z w64 n) 4294967296)))
+sample_fits n below =
+    let f : FitsSigned w64 (to_z w64 n) = sfits_to_z (record { fits = below }) in
+    subst (FitsSigned w32) (sym (to_z-of_z w64 (shr_z (to_z w64 n) 4294967296) (shifted_fits (to_z w64 n) 32 f))) (high_fits (to_z w64 n) f)
 
 -- a lane that is put up
 pub lane_up : (x u r z : ℤ) (t : ℕ) → FitsSigned w64 x → FitsSigned w32 r → t ≤ 15 → u ≡ pos (32 - t) → x ≡ wrap_64 z

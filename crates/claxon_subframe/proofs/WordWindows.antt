@@ -4,8 +4,7 @@ use Rattle.std.specs.Int.{leading_zeros, rotate_left, w64}
 use Rattle.std.specs.Int.Count.{leading_of_zero}
 use Rattle.std.specs.Int.Bits.{or_zero_r}
 use Rattle.std.proofs.lemmas.List.{take-take, drop-take, take-append-le, drop-append-le, length-drop, take-append-drop, drop-drop, take_more_set, take_all}
-use Rattle.std.proofs.lemmas.Nat.{pow_pos, shl-shr, shr_below, or_shifted, or_shr, or_lt, mod-pow-add, mod-mul-add, mod_below, le_or_r}
-use Rattle.std.proofs.Math.Nat.{pow-le-pow_right, div-eq_of_lt}
+use Rattle.std.proofs.lemmas.Nat.{pow_pos, shl-shr, shr_below, or_shifted, or_shr, mod-pow-add, mod-mul-add, mod_below}
 use Rattle.std.proofs.Math.Seq.{drop-append-add}
 use Rattle.claxon_format.specs.Bits.{Bits, bits, unfold_at}
 use Rattle.claxon_format.specs.Reading.{Done, times_at, each_at}
