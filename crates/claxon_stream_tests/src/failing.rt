@@ -1,10 +1,10 @@
 //! Readers that fail, pause or are cut, and writers that fail, under frames and whole runs.
+use crate::readers::check_steps;
+use crate::runs::end_of;
 use claxon::FlacReader;
 use claxon::frame::FrameReader;
 use claxon::input::BufferedReader;
-use claxon_test_support::answers::{
-    FRAME, Fault, Step, fault_of, format, head, joined, mono, next_step, one_sample,
-};
+use claxon_test_support::answers::{FRAME, Fault, Step, format, head, joined, mono, one_sample};
 use claxon_write::run;
 use std::alloc::Global;
 use std::io::{self, Cursor, ErrorKind, Read, Write};
@@ -19,7 +19,7 @@ struct Interrupts<'a> {
     trouble: Option<Trouble>,
 }
 
-#[derive(Clone, Copy, Debug)]
+#[derive(Clone, Copy)]
 enum Trouble {
     Failure(ErrorKind),
     Empty,
@@ -70,8 +70,7 @@ fn frames_after_a_failure(rt: HostRuntime) -> Result<(), Fail> {
             trouble: Some(Trouble::Failure(kind)),
         };
         let mut reader = FrameReader::new(BufferedReader::new(rt.alloc(), source)?);
-        let answers = wants.map(|_| next_step(rt.alloc(), &mut reader));
-        assert_eq!(rt; answers, wants, "{kind:?}");
+        check_steps(&rt, &mut reader, &wants);
     }
     Ok(())
 }
@@ -90,10 +89,7 @@ fn troubled_run(
         trouble: Some(trouble),
     };
     let mut output = Vec::new(alloc);
-    let answer = match run(alloc, source, &mut output) {
-        Ok(count) => Ok(count),
-        Err(error) => Err(fault_of(&error)),
-    };
+    let answer = end_of(run(alloc, source, &mut output));
     if [5, 0, 0, 0, 5, 0, 0, 0].starts_with(output.as_slice()) {
         Ok((answer, output.len()))
     } else {
@@ -178,7 +174,13 @@ impl Write for Refuses {
     }
 }
 
-// After a decoder's fault nothing that the writer does shows. The last byte is that of the frame's guard.
+// What a run of a frame into the writer ends with. The last byte is that of the frame's guard.
+fn run_refused(alloc: Global, last: u8, mut output: Refuses) -> Result<Result<u64, Fault>, Fail> {
+    let bytes = joined(alloc, &[&head(0x80), &FRAME[..10], &[last]])?;
+    Ok(end_of(run(alloc, Cursor::new(bytes.as_slice()), &mut output)))
+}
+
+// After a decoder's fault nothing that the writer does shows.
 #[test]
 fn runs_into_failing_writers(rt: HostRuntime) -> Result<(), Fail> {
     let bad = Fault::Format("frame CRC mismatch");
@@ -194,13 +196,7 @@ fn runs_into_failing_writers(rt: HostRuntime) -> Result<(), Fail> {
         (0x59, other, other, Err(bad)),
     ];
     for (last, writes, flushes, want) in rows {
-        let frame = [&FRAME[..10], &[last]];
-        let bytes = joined(rt.alloc(), &[&head(0x80), frame[0], frame[1]])?;
-        let mut output = Refuses { writes, flushes };
-        let answer = match run(rt.alloc(), Cursor::new(bytes.as_slice()), &mut output) {
-            Ok(count) => Ok(count),
-            Err(error) => Err(fault_of(&error)),
-        };
+        let answer = run_refused(rt.alloc(), last, Refuses { writes, flushes })?;
         assert_eq!(rt; answer, want, "{last} {writes:?} {flushes:?}");
     }
     Ok(())

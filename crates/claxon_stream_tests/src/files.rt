@@ -7,15 +7,15 @@ use std::io::Cursor;
 use std::test::Fail;
 use std::{env, fs, process};
 
-// A name of this process's own in the folder for files that don't last.
-fn path_of(rt: &HostRuntime, name: &str) -> Result<String, Fail> {
+/// A name of this process's own in the folder for files that don't last.
+pub fn path_of(rt: &HostRuntime, name: &str) -> Result<String, Fail> {
     let (folder, id) = (env::temp_dir(rt)?, process::id(rt.process()));
     let folder = folder.as_str();
     Ok(format!(in rt.alloc(); "{folder}/claxon_{name}_{id}")?)
 }
 
-// The name of such a file, which holds these bytes.
-fn file_of(rt: &HostRuntime, name: &str, bytes: &[u8]) -> Result<String, Fail> {
+/// The name of such a file, which holds these bytes.
+pub fn file_of(rt: &HostRuntime, name: &str, bytes: &[u8]) -> Result<String, Fail> {
     let path = path_of(rt, name)?;
     fs::write(rt, path.as_str(), bytes)?;
     Ok(path)

@@ -1,7 +1,9 @@
-//! Tests of whole streams: how they open, from files and over readers that fail; frames of a writer of the tests' own;
-//! memory that is refused.
+//! Tests of whole streams: how they open, from files and over readers that fail; what runs write, and what the program
+//! does for its words; frames of a writer of the tests' own; memory that is refused.
 #![tactic(auto)]
 
+#[cfg(test)]
+mod commands;
 #[cfg(test)]
 mod failing;
 #[cfg(test)]
@@ -18,5 +20,7 @@ mod runs;
 mod streams;
 #[cfg(test)]
 mod writer;
+#[cfg(test)]
+mod writers;
 #[cfg(test)]
 mod written;

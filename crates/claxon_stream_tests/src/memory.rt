@@ -16,7 +16,7 @@ use std::process::Abort;
 use std::test::Fail;
 
 // Calls that take memory.
-#[derive(Clone, Copy, Debug)]
+#[derive(Clone, Copy)]
 enum Call {
     Open,
     Samples,
@@ -148,14 +148,10 @@ fn check(
 ) -> Result<(), Fail> {
     for granted in 0..requests {
         let answer = attempt(rt.alloc(), call, bytes, granted)?;
-        assert_eq!(rt;
-            answer,
-            (Err(Fault::Memory), u64::MAX),
-            "{call:?} {granted}"
-        );
+        assert_eq!(rt; answer, (Err(Fault::Memory), u64::MAX), "{granted}");
     }
     let answer = attempt(rt.alloc(), call, bytes, requests)?;
-    assert_eq!(rt; answer, (Ok(()), 0), "{call:?}");
+    assert_eq!(rt; answer, (Ok(()), 0));
     Ok(())
 }
 

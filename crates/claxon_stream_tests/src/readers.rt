@@ -1,11 +1,14 @@
 //! Readers that give little, cut and fail.
 use claxon::FlacReader;
 use claxon::frame::FrameReader;
-use claxon::input::BufferedReader;
+use claxon::input::{BufferedReader, ReadBytes};
 use claxon_test_support::answers::{
     FRAME, Fault, Run, Step, after_error, format, head, joined, mono, next_step, one_sample, run_of,
 };
 use claxon_test_support::sources::{FailsOnce, OneByte};
+use std::alloc::Global;
+use std::io::Read;
+use std::process::Abort;
 use std::test::Fail;
 
 // What a stream gives that fails or is cut after so many samples of 5.
@@ -51,16 +54,36 @@ fn cut_frames(rt: HostRuntime) -> Result<(), Fail> {
     Ok(())
 }
 
+// The same as `after_error` of a stream that is opened.
+fn opened_after_error<R: Read + Drop>(
+    alloc: Global,
+    reader: R,
+) -> Result<(bool, bool, bool), Fail> {
+    let mut flac = FlacReader::new(alloc, reader)?;
+    Ok(after_error(&mut flac))
+}
+
 // A frame that is cut gives one error.
 #[test]
 fn one_error(rt: HostRuntime) -> Result<(), Fail> {
     let bytes = joined(rt.alloc(), &[&head(0x80), &FRAME])?;
     assert_eq!(rt; bytes.len(), 53);
     for len in 44..53 {
-        let mut flac = FlacReader::new(rt.alloc(), OneByte::new(&bytes[..len]))?;
-        assert_eq!(rt; after_error(&mut flac), (true, true, true), "{len}");
+        let after = opened_after_error(rt.alloc(), OneByte::new(&bytes[..len]))?;
+        assert_eq!(rt; after, (true, true, true), "{len}");
     }
     Ok(())
+}
+
+/// Each of the calls answers this.
+pub fn check_steps<R: ReadBytes>(
+    rt: &(impl Abort + AllocGlobal),
+    reader: &mut FrameReader<R>,
+    wants: &[Step],
+) {
+    for want in wants {
+        assert_eq!(rt; next_step(rt.alloc(), reader), *want);
+    }
 }
 
 #[test]
@@ -68,16 +91,15 @@ fn frames_after_a_failed_read(rt: HostRuntime) -> Result<(), Fail> {
     let bytes = joined(rt.alloc(), &[&FRAME, &FRAME])?;
     let mut reader = FrameReader::new(BufferedReader::new(rt.alloc(), FailsOnce::new(&bytes, 5))?);
     let no_sync = format("frame sync code missing");
-    for want in [
+    let wants = [
         Step::Fault(Fault::Io),
         no_sync,
         no_sync,
         no_sync,
         mono(0, 5),
         Step::End,
-    ] {
-        assert_eq!(rt; next_step(rt.alloc(), &mut reader), want);
-    }
+    ];
+    check_steps(&rt, &mut reader, &wants);
     Ok(())
 }
 
@@ -109,7 +131,7 @@ fn samples_after_the_end(rt: HostRuntime) -> Result<(), Fail> {
     assert_eq!(rt; one_sample(&mut flac), Ok(Some(5)));
     assert_eq!(rt; one_sample(&mut flac), Ok(None));
     assert_eq!(rt; one_sample(&mut flac), Ok(None));
-    let mut flac = FlacReader::new(rt.alloc(), FailsOnce::new(&bytes, 45))?;
-    assert_eq!(rt; after_error(&mut flac), (true, true, true));
+    let after = opened_after_error(rt.alloc(), FailsOnce::new(&bytes, 45))?;
+    assert_eq!(rt; after, (true, true, true));
     Ok(())
 }

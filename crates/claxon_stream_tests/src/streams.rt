@@ -1,5 +1,5 @@
 //! Streams from their head to their end.
-use crate::runs::check_run;
+use crate::runs::runs_agree;
 use claxon::{FlacReader, FlacReaderOptions};
 use claxon_test_support::answers::{
     COMMENT, FRAME, Fault, Run, Step, clean, fault_of, head, joined, mono, one_block, one_sample,
@@ -26,7 +26,7 @@ fn failed(count: usize, text: &'static str) -> Result<Run, Fault> {
 // What the stream of these parts gives, by its samples and by a run.
 fn run_parts(rt: &(impl Abort + AllocGlobal), parts: &[&[u8]]) -> Result<Result<Run, Fault>, Fail> {
     let bytes = joined(rt.alloc(), parts)?;
-    check_run(rt, &bytes);
+    assert!(rt; runs_agree(rt.alloc(), &bytes));
     Ok(run_of(rt.alloc(), Cursor::new(bytes.as_slice())))
 }
 
@@ -161,7 +161,7 @@ fn check_head(rt: &(impl Abort + AllocGlobal), changes: &[(u8, u8)], text: &'sta
             bytes[usize::from(*at)] = *byte;
         }
     }
-    check_run(rt, &bytes);
+    assert!(rt; runs_agree(rt.alloc(), &bytes));
     let run = run_of(rt.alloc(), Cursor::new(bytes.as_slice()));
     assert_eq!(rt; run, Err(Fault::Format(text)));
 }

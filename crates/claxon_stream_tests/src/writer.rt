@@ -5,7 +5,7 @@ use std::alloc::{AllocError, Global};
 pub type Places = [i64; 8];
 
 /// How a residual is written.
-#[derive(Clone, Copy, Debug)]
+#[derive(Clone, Copy)]
 pub enum Form {
     /// By words under the least parameters that keep quotients below 8.
     Words,
@@ -14,7 +14,7 @@ pub enum Form {
 }
 
 /// How a channel is written, with the order of its predictor.
-#[derive(Clone, Copy, Debug)]
+#[derive(Clone, Copy)]
 pub enum Kind {
     Constant,
     Verbatim,

@@ -69,10 +69,7 @@ fn check(
     for sample in block.into_buffer() {
         given.push(i64::from(sample))?;
     }
-    assert!(rt;
-        given.as_slice() == want.as_slice(),
-        "{width} {code} {kind:?}"
-    );
+    assert!(rt; given.as_slice() == want.as_slice(), "{width} {code}");
     assert!(rt; reader.into_inner().position() == bytes.len() as u64);
     Ok(())
 }

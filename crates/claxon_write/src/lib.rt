@@ -4,8 +4,6 @@
 mod arguments;
 mod output;
 mod stream;
-#[cfg(test)]
-mod tests;
 
 pub use arguments::{command, words};
 pub use output::Output;

@@ -1,0 +1,237 @@
+//! What the program does for its words: samples and tags of files, and the words themselves.
+use crate::files::{file_of, path_of};
+use crate::writers::{FIVES, Sink, stream};
+use claxon_test_support::answers::{head, joined};
+use claxon_write::{command, words};
+use linked_list_allocator::LocalHeap;
+use std::alloc::Global;
+use std::env::FillError;
+use std::fs;
+use std::process::Abort;
+use std::rt::Env;
+use std::test::Fail;
+
+// What a command line gives: its status, what it writes, and what it says.
+#[derive(Drop)]
+struct Outcome {
+    status: u8,
+    output: Vec<u8>,
+    errors: Vec<u8>,
+}
+
+fn outcome_of(rt: &HostRuntime, words: &[&str]) -> claxon::Result<Outcome> {
+    let mut owned = Vec::new(rt.alloc());
+    for word in words {
+        owned.push(String::from_str(rt.alloc(), *word)?)?;
+    }
+    let (mut output, mut errors) = (Vec::new(rt.alloc()), Vec::new(rt.alloc()));
+    let status = command(rt, &owned, &mut output, &mut errors);
+    Ok(Outcome {
+        status,
+        output,
+        errors,
+    })
+}
+
+// What a file of these bytes gives, its samples or its tags.
+fn outcome_of_file(
+    rt: &HostRuntime,
+    name: &str,
+    bytes: &[u8],
+    is_of_tags: bool,
+) -> Result<Outcome, Fail> {
+    let path = file_of(rt, name, bytes)?;
+    let outcome = if is_of_tags {
+        outcome_of(rt, &["--tags", path.as_str()])
+    } else {
+        outcome_of(rt, &[path.as_str()])
+    };
+    fs::remove_file(rt, path.as_str())?;
+    Ok(outcome?)
+}
+
+fn check(rt: &impl Abort, outcome: &Outcome, status: u8, output: &[u8], errors: &[u8]) {
+    assert_eq!(rt; outcome.status, status);
+    assert_eq!(rt; outcome.output.as_slice(), output);
+    assert_eq!(rt; outcome.errors.as_slice(), errors);
+}
+
+#[test]
+fn files_of_samples(rt: HostRuntime) -> Result<(), Fail> {
+    let clean = outcome_of_file(&rt, "raw_whole", &stream(0x58), false)?;
+    check(&rt, &clean, 0, &FIVES, b"");
+    Ok(())
+}
+
+#[test]
+fn damaged_files(rt: HostRuntime) -> Result<(), Fail> {
+    let damaged = outcome_of_file(&rt, "raw_damaged", &stream(0x59), false)?;
+    let text = b"Ill-formed FLAC stream: frame CRC mismatch\n";
+    check(&rt, &damaged, 1, &FIVES[..4], text);
+    Ok(())
+}
+
+// Whether a command line gives a fault's text and nothing else.
+fn has_failed(rt: &HostRuntime, words: &[&str]) -> claxon::Result<bool> {
+    let outcome = outcome_of(rt, words)?;
+    Ok(outcome.status == 1 && outcome.output.is_empty() && !outcome.errors.is_empty())
+}
+
+#[test]
+fn files_that_are_not_there(rt: HostRuntime) -> Result<(), Fail> {
+    let path = path_of(&rt, "raw_none")?;
+    assert!(rt; has_failed(&rt, &[path.as_str()])?);
+    assert!(rt; has_failed(&rt, &["--tags", path.as_str()])?);
+    Ok(())
+}
+
+// A comment block's length, its tags, and what is printed of them. One tag has an empty value.
+#[rattlefmt::skip]
+const TAGS: [(&[u8], &[u8]); 3] = [
+    (&[0x08, 0, 0, 0, 0, 0, 0, 0, 0], b""),
+    (&[0x0f, 0, 0, 0, 0, 1, 0, 0, 0, 3, 0, 0, 0, 0x58, 0x3d, 0x59], b"X=Y\n"),
+    (
+        &[0x15, 0, 0, 0, 0, 2, 0, 0, 0, 2, 0, 0, 0, 0x41, 0x3d, 3, 0, 0, 0, 0x42, 0x3d, 0x78],
+        b"A=\nB=x\n",
+    ),
+];
+
+// The head and a comment block that ends like this.
+fn tagged(alloc: Global, block: &[u8]) -> Result<Vec<u8>, Fail> {
+    Ok(joined(alloc, &[&head(0x00), &[0x84, 0x00, 0x00], block])?)
+}
+
+#[test]
+fn tags_of_files(rt: HostRuntime) -> Result<(), Fail> {
+    for (block, lines) in TAGS {
+        let bytes = tagged(rt.alloc(), block)?;
+        let tags = outcome_of_file(&rt, "raw_tags", &bytes, true)?;
+        check(&rt, &tags, 0, lines, b"");
+    }
+    Ok(())
+}
+
+#[test]
+fn other_words(rt: HostRuntime) -> Result<(), Fail> {
+    let rows: [&[&str]; 4] = [&[], &["--tags"], &["a", "b"], &["--tags", "a", "b"]];
+    for words in rows {
+        let usage = outcome_of(&rt, words)?;
+        check(&rt, &usage, 2, b"", b"usage: claxon_raw [--tags] FILE\n");
+    }
+    Ok(())
+}
+
+// A failed write of the text changes nothing.
+#[test]
+fn a_usage_line_that_is_lost(rt: HostRuntime) {
+    let words = Vec::new(rt.alloc());
+    let mut errors = Sink::new(1, 0, false);
+    let status = command(&rt, &words, &mut Sink::new(1, 0, false), &mut errors);
+    assert_eq!(rt; status, 2);
+}
+
+// A command line of these words, the program's name among them.
+#[derive(Drop)]
+struct Given {
+    words: &'static [&'static [u8]],
+}
+
+impl Env for Given {
+    fn arg(&self, i: usize, buf: &mut [u8]) -> Result<usize, FillError> {
+        let Some(word) = self.words.get(i) else {
+            return Err(FillError::NotPresent);
+        };
+        if word.len() > buf.len() {
+            return Err(FillError::TooLong);
+        }
+        buf[..word.len()].copy_from_slice(*word);
+        Ok(word.len())
+    }
+
+    fn var(&self, _name: &str, _buf: &mut [u8]) -> Result<usize, FillError> {
+        Err(FillError::NotPresent)
+    }
+
+    fn var_at(&self, _i: usize, _buf: &mut [u8]) -> Result<usize, FillError> {
+        Err(FillError::NotPresent)
+    }
+}
+
+// Command lines, and their words: none where one isn't UTF-8.
+#[rattlefmt::skip]
+const COMMAND_LINES: [(&[&[u8]], &[&[u8]]); 5] = [
+    (&[], &[]),
+    (&[b"claxon_raw"], &[]),
+    (&[b"claxon_raw", b"--tags", b"a.flac"], &[b"--tags", b"a.flac"]),
+    (&[b"claxon_raw", b"", b"\xc3\xa9.flac", &[b'a'; 300]], &[b"", b"\xc3\xa9.flac", &[b'a'; 300]]),
+    (&[b"claxon_raw", b"a.flac", b"\xff.flac"], &[]),
+];
+
+fn words_given(alloc: Global, given: &'static [&'static [u8]]) -> Result<Vec<String>, Fail> {
+    Ok(words(&(Given { words: given }, alloc))?)
+}
+
+#[test]
+fn words_of_command_lines(rt: HostRuntime) -> Result<(), Fail> {
+    for (given, want) in COMMAND_LINES {
+        let words = words_given(rt.alloc(), given)?;
+        assert_eq!(rt; words.len(), want.len());
+        for (word, want) in words.iter().zip(want) {
+            assert_eq!(rt; word.as_bytes(), *want);
+        }
+    }
+    Ok(())
+}
+
+// A command line of two words behind the program's name.
+#[derive(Drop)]
+struct TwoWords;
+
+impl Env for TwoWords {
+    fn arg(&self, i: usize, buf: &mut [u8]) -> Result<usize, FillError> {
+        let word: &[u8] = match i {
+            0 => b"claxon_raw",
+            1 => b"--tags",
+            2 => b"music.flac",
+            _ => return Err(FillError::NotPresent),
+        };
+        if word.len() > buf.len() {
+            return Err(FillError::TooLong);
+        }
+        buf[..word.len()].copy_from_slice(word);
+        Ok(word.len())
+    }
+
+    fn var(&self, _name: &str, _buf: &mut [u8]) -> Result<usize, FillError> {
+        Err(FillError::NotPresent)
+    }
+
+    fn var_at(&self, _i: usize, _buf: &mut [u8]) -> Result<usize, FillError> {
+        Err(FillError::NotPresent)
+    }
+}
+
+// How many words it has in this memory.
+fn count_in<'a>(heap: &'a LocalHeap) -> Option<usize> {
+    let given = (TwoWords, heap);
+    match words(&given) {
+        Ok(words) => Some(words.len()),
+        Err(_) => None,
+    }
+}
+
+// Where memory is refused there are no words at all, not fewer.
+#[test]
+fn words_in_refused_memory(rt: HostRuntime) -> Result<(), Fail> {
+    let mut refused = 0u32;
+    for size in 0..200 {
+        let heap = LocalHeap::new(rt.alloc(), 8 * size)?;
+        match count_in(&heap) {
+            Some(count) => assert_eq!(rt; count, 2, "{size}"),
+            None => refused = refused.saturating_add(1),
+        }
+        assert_eq!(rt; heap.used(), 0, "{size}");
+    }
+    assert!(rt; 0 < refused && refused < 200, "{refused}");
+    Ok(())
+}

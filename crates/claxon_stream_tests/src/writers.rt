@@ -1,0 +1,357 @@
+//! Runs into writers of all kinds, and of streams that are cut and damaged.
+ghost use Rattle.std.specs.Prelude.{◌≤◌};
+
+use crate::runs::{end_of, runs_agree};
+use claxon::FlacReader;
+use claxon_test_support::answers::{Fault, head, one_sample};
+use claxon_test_support::sources::FailsOnce;
+use claxon_write::{Output, run, write_samples};
+use std::alloc::Global;
+use std::io;
+use std::io::{Cursor, ErrorKind, Read, Write};
+use std::process::Abort;
+use std::test::Fail;
+
+/// A place for a few bytes. It takes so many bytes a call, fails from some write on, and perhaps at each flush.
+#[derive(Drop)]
+pub struct Sink {
+    bytes: [u8; 32],
+    used: usize,
+    most: usize,
+    writes_left: u32,
+    fails_at_flush: bool,
+    flushes: u32,
+    ghost in_bounds: { used ≤ 32 },
+}
+
+impl Sink {
+    pub const fn new(most: usize, writes_left: u32, fails_at_flush: bool) -> Sink {
+        Sink {
+            bytes: [0; 32],
+            used: 0,
+            most,
+            writes_left,
+            fails_at_flush,
+            flushes: 0,
+        }
+    }
+
+    fn written(&self) -> &[u8] {
+        &self.bytes[..self.used]
+    }
+}
+
+impl Write for Sink {
+    fn write(&mut self, buf: &[u8]) -> io::Result<usize> {
+        if self.writes_left == 0 {
+            return Err(io::Error::from(ErrorKind::Other));
+        }
+        self.writes_left -= 1;
+        let count = buf.len().min(self.most).min(32 - self.used);
+        self.bytes[self.used..self.used + count].copy_from_slice(&buf[..count]);
+        self.used += count;
+        Ok(count)
+    }
+
+    fn flush(&mut self) -> io::Result<()> {
+        self.flushes = self.flushes.wrapping_add(1);
+        if self.fails_at_flush {
+            return Err(io::Error::from(ErrorKind::Other));
+        }
+        Ok(())
+    }
+}
+
+const BAD_FOOTER: Result<u64, Fault> = Err(Fault::Format("frame CRC mismatch"));
+
+/// The head and two frames of one sample, 5. The last byte ends the second one's guard.
+pub fn stream(last: u8) -> [u8; 64] {
+    let mut bytes = [0; 64];
+    bytes[..26].copy_from_slice(&[
+        0x66, 0x4c, 0x61, 0x43, 0x80, 0x00, 0x00, 0x22, 0x00, 0x10, 0x00, 0x10, 0x00, 0x00, 0x00,
+        0x00, 0x00, 0x00, 0x0a, 0xc4, 0x40, 0x70, 0x00, 0x00, 0x00, 0x01,
+    ]);
+    let frame = [
+        0xff, 0xf8, 0x69, 0x02, 0x00, 0x00, 0x9a, 0x00, 0x05, 0x34, 0x58,
+    ];
+    bytes[42..53].copy_from_slice(&frame);
+    bytes[53..64].copy_from_slice(&frame);
+    bytes[63] = last;
+    bytes
+}
+
+/// The samples of the two frames as bytes.
+pub const FIVES: [u8; 8] = [5, 0, 0, 0, 5, 0, 0, 0];
+
+// What a run ends with and writes.
+fn written(alloc: Global, bytes: &[u8]) -> (Result<u64, Fault>, Vec<u8>) {
+    let mut output = Vec::new(alloc);
+    let end = end_of(run(alloc, Cursor::new(bytes), &mut output));
+    (end, output)
+}
+
+#[test]
+fn into_a_vector(rt: HostRuntime) {
+    let (end, output) = written(rt.alloc(), &stream(0x58));
+    assert_eq!(rt; end, Ok(2));
+    assert_eq!(rt; output.as_slice(), FIVES.as_slice());
+}
+
+// Frames of so many channels of 8 bits, and their samples, place by place.
+struct Blocks {
+    channels: u8,
+    frames: &'static [u8],
+    samples: &'static [i8],
+}
+
+#[rattlefmt::skip]
+const BLOCKS: [Blocks; 5] = [
+    Blocks {
+        channels: 1,
+        frames: &[0xff, 0xf8, 0x69, 0x02, 0x00, 0x00, 0x9a, 0x00, 0x05, 0x34, 0x58],
+        samples: &[5],
+    },
+    Blocks {
+        channels: 1,
+        frames: &[
+            0xff, 0xf8, 0x69, 0x02, 0x00, 0x02, 0x94, 0x02, 0x01, 0xfe, 0x03, 0x67, 0x56,
+            0xff, 0xf8, 0x69, 0x02, 0x01, 0x01, 0x88, 0x02, 0x80, 0x7f, 0xd7, 0xe5,
+        ],
+        samples: &[1, -2, 3, -128, 127],
+    },
+    Blocks {
+        channels: 2,
+        frames: &[
+            0xff, 0xf8, 0x69, 0x12, 0x00, 0x02, 0x36, 0x02, 0x01, 0xfe, 0x03, 0x02, 0x04, 0x05, 0xfa, 0x2b, 0x54,
+            0xff, 0xf8, 0x69, 0x12, 0x01, 0x01, 0x2a, 0x02, 0x07, 0x08, 0x02, 0xf7, 0x0a, 0xda, 0x33,
+        ],
+        samples: &[1, 4, -2, 5, 3, -6, 7, -9, 8, 10],
+    },
+    Blocks {
+        channels: 3,
+        frames: &[
+            0xff, 0xf8, 0x69, 0x22, 0x00, 0x01, 0xde, 0x02, 0x01, 0xfe, 0x02, 0x03, 0x04, 0x02, 0xfb, 0x06, 0x90, 0xfb,
+            0xff, 0xf8, 0x69, 0x22, 0x01, 0x00, 0xcc, 0x00, 0x07, 0x00, 0x08, 0x00, 0xf7, 0x41, 0x23,
+        ],
+        samples: &[1, 3, -5, -2, 4, 6, 7, 8, -9],
+    },
+    Blocks {
+        channels: 8,
+        frames: &[
+            0xff, 0xf8, 0x69, 0x72, 0x00, 0x01, 0xfa, 0x02, 0xf8, 0x00, 0x02, 0xfa, 0x01, 0x02, 0xfc, 0x02, 0x02, 0xfe, 0x03,
+            0x02, 0x00, 0x04, 0x02, 0x02, 0x05, 0x02, 0x04, 0x06, 0x02, 0x06, 0x07, 0xff, 0x48,
+            0xff, 0xf8, 0x69, 0x72, 0x01, 0x01, 0xef, 0x02, 0xff, 0x00, 0x02, 0xfe, 0x03, 0x02, 0xfd, 0x06, 0x02, 0xfc, 0x09,
+            0x02, 0xfb, 0x0c, 0x02, 0xfa, 0x0f, 0x02, 0xf9, 0x12, 0x02, 0xf8, 0x15, 0x2d, 0xab,
+        ],
+        samples: &[
+            -8, -6, -4, -2, 0, 2, 4, 6, 0, 1, 2, 3, 4, 5, 6, 7,
+            -1, -2, -3, -4, -5, -6, -7, -8, 0, 3, 6, 9, 12, 15, 18, 21,
+        ],
+    },
+];
+
+// What may stand between the streaminfo and the frames: nothing, padding, or comments.
+const BETWEEN: [&[u8]; 3] = [
+    &[],
+    &[0x81, 0x00, 0x00, 0x02, 0x00, 0x00],
+    &[
+        0x84, 0x00, 0x00, 0x0f, 0, 0, 0, 0, 1, 0, 0, 0, 3, 0, 0, 0, 0x58, 0x3d, 0x59,
+    ],
+];
+
+// The head of so many channels of 8 bits, these metadata blocks, and the frames.
+fn stream_of(alloc: Global, row: &Blocks, between: &[u8]) -> Result<Vec<u8>, Fail> {
+    let mut first = head(if between.is_empty() { 0x80 } else { 0x00 });
+    first[20] = 0x3e + 2 * (row.channels & 15);
+    let mut bytes = Vec::new(alloc);
+    bytes.extend_from_slice(&first)?;
+    bytes.extend_from_slice(between)?;
+    bytes.extend_from_slice(row.frames)?;
+    Ok(bytes)
+}
+
+// The samples, each in four bytes.
+fn bytes_of(alloc: Global, samples: &[i8]) -> Result<Vec<u8>, Fail> {
+    let mut bytes = Vec::new(alloc);
+    for sample in samples {
+        bytes.extend_from_slice(&i32::from(*sample).cast_unsigned().to_le_bytes())?;
+    }
+    Ok(bytes)
+}
+
+// A run writes these bytes of the samples.
+fn check_block(
+    rt: &(impl Abort + AllocGlobal),
+    row: &Blocks,
+    between: &[u8],
+    want: &[u8],
+) -> Result<(), Fail> {
+    let bytes = stream_of(rt.alloc(), row, between)?;
+    let (end, output) = written(rt.alloc(), &bytes);
+    assert_eq!(rt; end, Ok(row.samples.len() as u64), "{}", row.channels);
+    assert_eq!(rt; output.as_slice(), want, "{}", row.channels);
+    Ok(())
+}
+
+// The same with each of the blocks between.
+fn check_blocks(rt: &(impl Abort + AllocGlobal), row: &Blocks) -> Result<(), Fail> {
+    let want = bytes_of(rt.alloc(), row.samples)?;
+    for between in BETWEEN {
+        check_block(rt, row, between, &want)?;
+    }
+    Ok(())
+}
+
+#[test]
+fn blocks_of_channels(rt: HostRuntime) -> Result<(), Fail> {
+    for row in &BLOCKS {
+        check_blocks(&rt, row)?;
+    }
+    Ok(())
+}
+
+// The stream, cut at each place, and with a bit turned in each byte.
+fn check_damaged(
+    rt: &(impl Abort + AllocGlobal),
+    row: &Blocks,
+    between: &[u8],
+) -> Result<(), Fail> {
+    let alloc = rt.alloc();
+    let mut bytes = stream_of(alloc, row, between)?;
+    assert!(rt; runs_agree(alloc, &bytes));
+    for at in 0..bytes.len() {
+        let cut = runs_agree(alloc, &bytes[..at]);
+        bytes[at] ^= 0x10;
+        let turned = runs_agree(alloc, &bytes);
+        bytes[at] ^= 0x10;
+        assert!(rt; cut && turned, "{at}");
+    }
+    Ok(())
+}
+
+#[test]
+fn runs_of_damaged_streams(rt: HostRuntime) -> Result<(), Fail> {
+    for row in &BLOCKS {
+        for between in BETWEEN {
+            check_damaged(&rt, row, between)?;
+        }
+    }
+    Ok(())
+}
+
+// What a run of the two frames into the sink ends with.
+fn run_into<R: Read + Drop>(alloc: Global, input: R, sink: &mut Sink) -> Result<u64, Fault> {
+    end_of(run(alloc, input, sink))
+}
+
+// A run into the sink ends with this and writes these bytes. What is written before a fault is a front of the samples.
+fn check(
+    rt: &(impl Abort + AllocGlobal),
+    last: u8,
+    sink: &mut Sink,
+    want: Result<u64, Fault>,
+    written: &[u8],
+) {
+    let (most, writes_left) = (sink.most, sink.writes_left);
+    let end = run_into(rt.alloc(), Cursor::new(stream(last)), sink);
+    assert_eq!(rt; end, want, "{most} {writes_left}");
+    assert_eq!(rt; sink.written(), written, "{most} {writes_left}");
+}
+
+#[test]
+fn a_byte_a_write(rt: HostRuntime) {
+    let mut sink = Sink::new(1, 8, false);
+    check(&rt, 0x58, &mut sink, Ok(2), &FIVES);
+    assert!(rt; sink.flushes > 0);
+}
+
+// A write that takes nothing is a failed one too.
+#[test]
+fn failed_writes(rt: HostRuntime) {
+    for (most, writes_left, count) in [(8, 0, 0), (0, 9, 0), (1, 3, 3), (4, 1, 4)] {
+        let mut sink = Sink::new(most, writes_left, false);
+        check(&rt, 0x58, &mut sink, Err(Fault::Io), &FIVES[..count]);
+    }
+}
+
+#[test]
+fn each_write_failed(rt: HostRuntime) {
+    for writes_left in 0..8u32 {
+        let mut sink = Sink::new(1, writes_left, false);
+        let front = &FIVES[..writes_left as usize];
+        check(&rt, 0x58, &mut sink, Err(Fault::Io), front);
+    }
+    for writes_left in 8..10 {
+        check(
+            &rt,
+            0x58,
+            &mut Sink::new(1, writes_left, false),
+            Ok(2),
+            &FIVES,
+        );
+    }
+}
+
+#[test]
+fn failed_flushes(rt: HostRuntime) {
+    check(
+        &rt,
+        0x58,
+        &mut Sink::new(8, 9, true),
+        Err(Fault::Io),
+        &FIVES,
+    );
+    // The decoder's fault stands.
+    check(
+        &rt,
+        0x59,
+        &mut Sink::new(8, 9, true),
+        BAD_FOOTER,
+        &FIVES[..4],
+    );
+}
+
+#[test]
+fn a_fault_after_samples(rt: HostRuntime) {
+    let mut sink = Sink::new(32, 9, false);
+    check(&rt, 0x59, &mut sink, BAD_FOOTER, &FIVES[..4]);
+    assert!(rt; sink.flushes > 0);
+}
+
+#[test]
+fn each_read_failed(rt: HostRuntime) {
+    let bytes = stream(0x58);
+    for left in 0..65 {
+        let mut sink = Sink::new(32, 9, false);
+        let end = run_into(rt.alloc(), FailsOnce::new(&bytes, left), &mut sink);
+        let want = match left {
+            0..53 => 0,
+            53..64 => 4,
+            _ => 8,
+        };
+        assert_eq!(rt; end, Err(Fault::Io), "{left}");
+        assert_eq!(rt; sink.written(), &FIVES[..want], "{left}");
+    }
+}
+
+// What comes after the first frame.
+fn write_rest<R: Read + Drop>(
+    alloc: Global,
+    flac: &mut FlacReader<R>,
+    sink: &mut Sink,
+) -> Result<u64, Fault> {
+    if flac.is_metadata_only() {
+        return Err(Fault::Unsupported("metadata alone"));
+    }
+    end_of(write_samples(alloc, flac, &mut Output::new(sink)))
+}
+
+#[test]
+fn the_rest_of_a_stream(rt: HostRuntime) -> Result<(), Fail> {
+    let mut flac = FlacReader::new(rt.alloc(), Cursor::new(stream(0x58)))?;
+    assert_eq!(rt; one_sample(&mut flac), Ok(Some(5)));
+    let mut sink = Sink::new(32, 9, false);
+    assert_eq!(rt; write_rest(rt.alloc(), &mut flac, &mut sink), Ok(1));
+    assert_eq!(rt; sink.written(), &FIVES[..4]);
+    Ok(())
+}
