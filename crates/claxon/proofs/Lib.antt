@@ -1,3 +1,4 @@
+pub use Rattle.claxon_input.proofs.InMemory
 pub mod HeadMemory
 pub mod HeadParts
 pub mod SamplesInTurn

@@ -7,6 +7,7 @@ pub use Rattle.claxon_input.specs.Cursor
 pub use Rattle.claxon_input.specs.BufferedReader
 pub use Rattle.claxon_input.specs.Error
 pub use Rattle.claxon_input.specs.declared.error.Error as Errors
+pub use Rattle.claxon_input.specs.declared.input.BufferedReader as BufferedReaders
 pub use Rattle.claxon_input.specs.State
 pub use Rattle.claxon_input.specs.Gives
 pub use Rattle.claxon_input.specs.Promises

@@ -9,6 +9,7 @@ mod bytes;
 mod callers;
 #[cfg(test)]
 mod frames;
+mod guarded;
 #[cfg(test)]
 mod header_faults;
 #[cfg(test)]
@@ -19,3 +20,5 @@ mod predictors;
 mod subframes;
 #[cfg(test)]
 mod zeros;
+
+pub use guarded::read_guarded_pair;

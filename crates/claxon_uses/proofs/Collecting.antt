@@ -1,8 +1,8 @@
 -- What calls for samples gave, collected.
 use Rattle.std.proofs.Common.{◌≡◌, inl, inr, ℕ, ℤ, List, [], ◌∷◌, ◌++◌, length, Option, Some, sym, ap, subst, ◌∙◌, arith, length-append}
-use Rattle.claxon_format.specs.Frame.{StreamShape, Block}
-use Rattle.claxon_input.specs.Source.{Source}
-use Rattle.claxon_input.specs.State.{bytes_in}
+use Rattle.claxon.specs.Frame.{StreamShape, Block}
+use Rattle.claxon.specs.Source.{Source}
+use Rattle.claxon.specs.State.{bytes_in}
 use Rattle.claxon.specs.Errors.{Error}
 use Rattle.claxon.specs.FlacReader.{samples_input}
 use Rattle.claxon.specs.FlacSamples.{samples_bytes, samples_left, samples_stream}

@@ -4,17 +4,17 @@ use Rattle.std.proofs.Common.{◌≡◌, ◌⊎◌, inl, inr, ℕ, suc, zero, �
 use Rattle.std.specs.Prelude.{Option, None, Some}
 use Rattle.std.proofs.Math.Seq.{take-append_seam}
 use Rattle.std.proofs.lemmas.List.{take_all}
-use Rattle.claxon_format.specs.Fault.{Fault}
-use Rattle.claxon_format.specs.Frame.{Block, FrameBytesFault, Frames, IsWidth, StreamShape}
-use Rattle.claxon_format.specs.Heads.{HeadCode, HeadFault}
-use Rattle.claxon_format.specs.Streams.{stream_of, with_samples}
-use Rattle.claxon_input.specs.BufferedReader.{buffered_source}
-use Rattle.claxon_input.specs.Error.{IsFault, IsIo}
-use Rattle.claxon_input.specs.Promises.{Took}
-use Rattle.claxon_input.specs.State.{State}
+use Rattle.claxon.specs.Fault.{Fault}
+use Rattle.claxon.specs.Frame.{Block, FrameBytesFault, Frames, IsWidth, StreamShape}
+use Rattle.claxon.specs.Heads.{HeadCode, HeadFault}
+use Rattle.claxon.specs.Streams.{stream_of, with_samples}
+use Rattle.claxon.specs.BufferedReader.{buffered_source}
+use Rattle.claxon.specs.Error.{IsFault, IsIo}
+use Rattle.claxon.specs.Promises.{Took}
+use Rattle.claxon.specs.State.{State}
 use Rattle.claxon.specs.Errors.{Error}
 use Rattle.claxon.specs.Errors.TheVariants.{OutOfMemory}
-use Rattle.claxon_input.specs.declared.input.BufferedReader.{BufferedReader}
+use Rattle.claxon.specs.BufferedReaders.{BufferedReader}
 use Rattle.claxon.specs.FlacReader.{flac_head, samples_input}
 use Rattle.claxon.specs.FlacSamples.{SamplesStep, samples_bytes, samples_left, samples_stream}
 use Rattle.claxon.specs.Opening.{flac_bytes}

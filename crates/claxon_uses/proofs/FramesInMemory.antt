@@ -3,16 +3,16 @@ use Rattle.std.proofs.Common.{◌≡◌, ◌⊎◌, inl, inr, ℕ, ◌<◌, true
 use Rattle.std.specs.Prelude.{Ok, Err}
 use Rattle.std.specs.declared.io.Cursor.{Cursor}
 use Rattle.std.specs.Io.Cursor.{cursor_position, cursor_inner}
-use Rattle.claxon_format.specs.Frame.{StreamShape, Frame, FrameBytesFault}
-use Rattle.claxon_input.specs.Cursor.{cursor_source}
-use Rattle.claxon_input.specs.Gives.{FailedIn}
-use Rattle.claxon_input.specs.Promises.{AnswersFound, Comes, HasFailed, NamesFault, NoneIsEnd, TakesFault, TakesFound, Took}
-use Rattle.claxon_input.specs.State.{State, bytes_in}
+use Rattle.claxon.specs.Frame.{StreamShape, Frame, FrameBytesFault}
+use Rattle.claxon.specs.Cursor.{cursor_source}
+use Rattle.claxon.specs.Gives.{FailedIn}
+use Rattle.claxon.specs.Promises.{AnswersFound, Comes, HasFailed, NamesFault, NoneIsEnd, TakesFault, TakesFound, Took}
+use Rattle.claxon.specs.State.{State, bytes_in}
 use Rattle.claxon.specs.FrameReader.{FrameAnswer, ReadsFrame, block_view, frame_bytes, frame_input}
 use Rattle.claxon.specs.FrameReaders.{FrameReader}
 use Rattle.claxon_uses.specs.Fronts.{BeginsWith}
 use Rattle.claxon_uses.specs.FramesInMemory.{BlockIsThere, EachBlockIsDecoded, EachFaultIsTold, FaultIsThere, NoneIsNoFrame, StarvesAtHeader}
-use Rattle.claxon_input.proofs.InMemory.{cursor_comes, cursor_never_fails, new_cursor_comes}
+use Rattle.claxon.proofs.InMemory.{cursor_comes, cursor_never_fails, new_cursor_comes}
 
 -- all that is promised of such a call
 pub record FrameInMemory (stream : Option StreamShape) (bytes : List ℕ) (r : FrameAnswer) : Type 0 where

@@ -1,7 +1,6 @@
 pub mod Collecting
 pub mod FirstSamples
 pub mod FramesInMemory
-pub mod GuardedPair
 pub mod Packets
 pub mod StreamsInMemory
 pub mod Verified

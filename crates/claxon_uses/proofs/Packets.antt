@@ -2,12 +2,12 @@
 use Rattle.std.proofs.Common.{◌≡◌, inl, inr, ℕ, ◌<◌, ◌≤◌, List, [], ◌∷◌, ◌++◌, length, drop, codes, Option, None, Some, sym, ap, subst, ◌∙◌, refl, arith, append-nil}
 use Rattle.std.specs.Prelude.{Result, Ok, Err}
 use Rattle.std.proofs.lemmas.List.{drop_all, length-drop}
-use Rattle.claxon_format.specs.Frame.{StreamShape, Frame}
+use Rattle.claxon.specs.Frame.{StreamShape, Frame}
 use Rattle.claxon.specs.Errors.{Error}
 use Rattle.claxon.specs.Errors.TheVariants.{OutOfMemory}
-use Rattle.claxon_input.specs.Error.{IsFormatError}
-use Rattle.claxon_input.specs.Promises.{Comes}
-use Rattle.claxon_input.specs.State.{State}
+use Rattle.claxon.specs.Error.{IsFormatError}
+use Rattle.claxon.specs.Promises.{Comes}
+use Rattle.claxon.specs.State.{State}
 use Rattle.claxon.specs.Block.{BlockValue}
 use Rattle.claxon.specs.FrameReader.{ReadsFrame, block_view}
 use Rattle.claxon_uses.specs.Fronts.{BeginsWith}

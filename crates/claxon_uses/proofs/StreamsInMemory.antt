@@ -2,15 +2,15 @@
 use Rattle.std.proofs.Common.{◌≡◌, ◌⊎◌, inl, inr, ℕ, ℤ, ◌<◌, true, List, [], ◌∷◌, ◌++◌, length, Option, None, Some, refl, sym, ap, subst, ◌∙◌, Bor}
 use Rattle.std.specs.Prelude.{IfErr, IfOk, IsErrAnd, Result, Ok, Err}
 use Rattle.std.specs.declared.io.Cursor.{Cursor}
-use Rattle.claxon_format.specs.Fault.{Fault}
-use Rattle.claxon_format.specs.Frame.{Block, Frame, FrameBytesFault, Frames, IsComplete, IsWidth, StreamShape}
-use Rattle.claxon_format.specs.Heads.{Head, HeadCode, HeadFault}
-use Rattle.claxon_format.specs.Streams.{IsStream, stream_of, with_samples}
-use Rattle.claxon_input.specs.Cursor.{cursor_source}
-use Rattle.claxon_input.specs.Error.{IsFault}
-use Rattle.claxon_input.specs.Gives.{Went}
-use Rattle.claxon_input.specs.Promises.{AnswersCode, Comes, IsExcused, IsStarved, NamesFault, TakesFault, Took}
-use Rattle.claxon_input.specs.State.{State, bytes_in}
+use Rattle.claxon.specs.Fault.{Fault}
+use Rattle.claxon.specs.Frame.{Block, Frame, FrameBytesFault, Frames, IsComplete, IsWidth, StreamShape}
+use Rattle.claxon.specs.Heads.{Head, HeadCode, HeadFault}
+use Rattle.claxon.specs.Streams.{IsStream, stream_of, with_samples}
+use Rattle.claxon.specs.Cursor.{cursor_source}
+use Rattle.claxon.specs.Error.{IsFault}
+use Rattle.claxon.specs.Gives.{Went}
+use Rattle.claxon.specs.Promises.{AnswersCode, Comes, IsExcused, IsStarved, NamesFault, TakesFault, Took}
+use Rattle.claxon.specs.State.{State, bytes_in}
 use Rattle.claxon.specs.Errors.{Error}
 use Rattle.claxon.specs.Errors.TheVariants.{OutOfMemory}
 use Rattle.claxon.specs.FrameReader.{HeaderAlone}
@@ -21,7 +21,7 @@ use Rattle.claxon_uses.specs.Collecting.{Collects, LacksRoom, StopsCollecting}
 use Rattle.claxon_uses.specs.Fronts.{BeginsWith}
 use Rattle.claxon_uses.specs.StreamsInMemory.{EachStreamFaultIsTold, EachStreamIsDecoded, HasSamples, StarvesForStream, StreamFaultIsThere, StreamIsThere}
 use Rattle.claxon_uses.proofs.FramesInMemory.{took_front}
-use Rattle.claxon_input.proofs.InMemory.{cursor_just_starved}
+use Rattle.claxon.proofs.InMemory.{cursor_just_starved}
 
 not_starved : {A : Type 0} (x : A) → (let q : Result A Error = Ok x in q) ≡ Err OutOfMemory → ⊥
 not_starved x p = cc

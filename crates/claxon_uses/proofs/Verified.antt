@@ -4,15 +4,15 @@ use Rattle.std.proofs.Common.{◌≡◌, ◌<◌, ◌+◌, ℕ, true, false, Lis
 use Rattle.std.specs.Option.{unwrap_or}
 use Rattle.std.specs.Prelude.{Option, None, Some, Ok, Err}
 use Rattle.std.proofs.lemmas.List.Sums.{sum_by_push}
-use Rattle.claxon_format.specs.Frame.{Frame, FrameBytesFault, StreamShape}
-use Rattle.claxon_format.specs.Heads.{HeadCode}
-use Rattle.claxon_format.specs.Streams.{with_samples}
-use Rattle.claxon_input.specs.BufferedReader.{buffered_source}
-use Rattle.claxon_input.specs.Error.{is_memory}
-use Rattle.claxon_input.specs.Promises.{NoneIsEnd, TakesFault, TakesFound, Took}
-use Rattle.claxon_input.specs.State.{State}
+use Rattle.claxon.specs.Frame.{Frame, FrameBytesFault, StreamShape}
+use Rattle.claxon.specs.Heads.{HeadCode}
+use Rattle.claxon.specs.Streams.{with_samples}
+use Rattle.claxon.specs.BufferedReader.{buffered_source}
+use Rattle.claxon.specs.Error.{is_memory}
+use Rattle.claxon.specs.Promises.{NoneIsEnd, TakesFault, TakesFound, Took}
+use Rattle.claxon.specs.State.{State}
 use Rattle.claxon.specs.Errors.{Error}
-use Rattle.claxon_input.specs.declared.input.BufferedReader.{BufferedReader}
+use Rattle.claxon.specs.BufferedReaders.{BufferedReader}
 use Rattle.claxon.specs.Block.{BlockValue, duration_of}
 use Rattle.claxon.specs.FrameReader.{FrameAnswer, block_view, frame_input, frame_stream, stream_with}
 use Rattle.claxon.specs.FrameReaders.{FrameReader}

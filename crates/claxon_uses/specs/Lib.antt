@@ -2,7 +2,6 @@ pub mod Collecting
 pub mod FirstSamples
 pub mod Fronts
 pub mod FramesInMemory
-pub mod GuardedPair
 pub mod Packets
 pub mod StreamsInMemory
 pub mod TagLines

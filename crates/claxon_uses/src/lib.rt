@@ -4,7 +4,6 @@
 mod blocks;
 mod damaged;
 mod frames;
-mod guarded;
 mod samples;
 mod streams;
 mod tags;
@@ -12,7 +11,6 @@ mod tags;
 pub use blocks::peak;
 pub use damaged::{Found, verify};
 pub use frames::{decode_one, decode_packet};
-pub use guarded::read_guarded_pair;
 pub use samples::first_samples;
 pub use streams::decode_all;
 pub use tags::{list_tags, tag_lines};

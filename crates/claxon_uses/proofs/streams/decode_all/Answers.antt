@@ -1,6 +1,6 @@
 use Rattle.std.proofs.Common.{Bor, List, Vec, refl, ℕ, ℤ}
 use Rattle.std.proofs.lemmas.Result.{err_from_is_err_and}
-use Rattle.claxon_input.proofs.InMemory.{new_cursor_comes}
+use Rattle.claxon.proofs.InMemory.{new_cursor_comes}
 use Rattle.claxon.specs.FrameReader.{stream_with}
 use Rattle.claxon.specs.ReadHead.{head_view}
 use Rattle.claxon_uses.proofs.StreamsInMemory.{head_failed, stream_answer}

@@ -6,7 +6,7 @@ ghost use Rattle.claxon_input.specs.CheckedReader.{checked_source, checked_state
 ghost use Rattle.claxon_input.specs.Remainders.{check16};
 ghost use Rattle.claxon_input.specs.State.{bytes_in, bits_in};
 ghost use Rattle.claxon_input.specs.Gives.{Gives};
-ghost use Rattle.claxon_uses.specs.GuardedPair.{PairIsRead, pair_at, guarded_pair_at};
+ghost use Rattle.claxon_tests.specs.GuardedPair.{PairIsRead, pair_at, guarded_pair_at};
 
 use claxon::input::{Bitstream, ReadBytes};
 use claxon::{Error, Result};
