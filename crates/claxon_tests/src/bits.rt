@@ -1,7 +1,7 @@
 //! Bits, bytes and remainders of worked bytes.
 use claxon::input::{Bitstream, BufferedReader, ReadBytes};
 use claxon_input::crc::{Crc8Reader, Crc16Reader};
-use crate::guarded::read_guarded_pair;
+use claxon_input_uses::read_guarded_pair;
 use std::io::Cursor;
 use std::test::Fail;
 

@@ -9,7 +9,6 @@ mod bytes;
 mod callers;
 #[cfg(test)]
 mod frames;
-mod guarded;
 #[cfg(test)]
 mod header_faults;
 #[cfg(test)]
@@ -20,5 +19,3 @@ mod predictors;
 mod subframes;
 #[cfg(test)]
 mod zeros;
-
-pub use guarded::read_guarded_pair;

@@ -1,8 +1,8 @@
 use Rattle.std.proofs.Common.{◌∙◌, rules, refl}
 use Rattle.std.proofs.lemmas.Result.{err_from_is_err_and}
 use Rattle.claxon_input.proofs.CallsInTurn.{exit, stops_after, went_both, went_none}
-use Rattle.claxon_tests.proofs.GuardedPair.{pair_is, after_pair}
-use Rattle.claxon_tests.proofs.guarded.read_checked_pair.Goals as goal
+use Rattle.claxon_input_uses.proofs.GuardedPair.{pair_is, after_pair}
+use Rattle.claxon_input_uses.proofs.guarded.read_checked_pair.Goals as goal
 
 pub returns-in_err-pair : goal.returns-in_err-pair
 returns-in_err-pair g c =

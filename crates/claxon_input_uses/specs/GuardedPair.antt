@@ -10,7 +10,7 @@ use Rattle.claxon_format.specs.read.Bits.{number_at}
 use Rattle.claxon_input.specs.Gives.{Gives}
 use Rattle.claxon_input.specs.Source.{Source}
 use Rattle.claxon_input.specs.State.{bytes_in}
-use Rattle.claxon.specs.Errors.{Error}
+use Rattle.claxon_input.specs.declared.error.Error.{Error}
 
 -- two numbers, of 5 and of 9 bits
 unfoldable pub pair_at : Bits → Reading Bool (ℕ × ℕ)

@@ -1,6 +1,6 @@
 use Rattle.std.proofs.Common.{rules}
 use Rattle.claxon_input.proofs.ByteBorders.{gives_through, name_through}
-use Rattle.claxon_tests.proofs.guarded.read_pair.Goals as goal
+use Rattle.claxon_input_uses.proofs.guarded.read_pair.Goals as goal
 
 pub returns : goal.returns
 returns g c =

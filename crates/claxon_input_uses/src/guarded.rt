@@ -6,11 +6,11 @@ ghost use Rattle.claxon_input.specs.CheckedReader.{checked_source, checked_state
 ghost use Rattle.claxon_input.specs.Remainders.{check16};
 ghost use Rattle.claxon_input.specs.State.{bytes_in, bits_in};
 ghost use Rattle.claxon_input.specs.Gives.{Gives};
-ghost use Rattle.claxon_tests.specs.GuardedPair.{PairIsRead, pair_at, guarded_pair_at};
+ghost use Rattle.claxon_input_uses.specs.GuardedPair.{PairIsRead, pair_at, guarded_pair_at};
 
-use claxon::input::{Bitstream, ReadBytes};
-use claxon::{Error, Result};
 use claxon_input::crc::Crc16Reader;
+use claxon_input::input::{Bitstream, ReadBytes};
+use claxon_input::{Error, Result};
 
 /// Reads two numbers, of 5 and of 9 bits, up to a byte border, and the guard of these bytes.
 pub fn read_guarded_pair<R: ReadBytes>(input: &mut R) -> Result<(u32, u32)>

@@ -1,7 +1,7 @@
 use Rattle.std.proofs.Common.{rules}
 use Rattle.claxon_input.specs.Remainders.{check16}
 use Rattle.claxon_input.proofs.RemainderReaders.{gives_checked, name_checked}
-use Rattle.claxon_tests.proofs.guarded.read_guarded_pair.Goals as goal
+use Rattle.claxon_input_uses.proofs.guarded.read_guarded_pair.Goals as goal
 
 pub returns : goal.returns
 returns g c =

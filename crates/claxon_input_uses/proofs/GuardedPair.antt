@@ -15,7 +15,7 @@ use Rattle.claxon_input.specs.Gives.{Went}
 use Rattle.claxon_input.specs.declared.crc.CheckedReader.{CheckedReader}
 use Rattle.claxon_input.proofs.RemainderReaders.{crc_16, went_sealed}
 use Rattle.claxon_input.proofs.CallsInTurn.{went_map}
-use Rattle.claxon_tests.specs.GuardedPair.{pair_at, guarded_pair_at}
+use Rattle.claxon_input_uses.specs.GuardedPair.{pair_at, guarded_pair_at}
 
 pub pair_is : (s : List ℕ) → guarded_pair_at s ≡ sealed_bytes_at 2 crc16 FrameGuard (by_bytes pair_at) s
 unfolding guarded_pair_at pair_at

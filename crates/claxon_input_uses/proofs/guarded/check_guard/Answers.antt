@@ -5,7 +5,7 @@ use Rattle.claxon_format.proofs.SealedBytes.{expected_done, expected_fault, expe
 use Rattle.claxon_input.proofs.CallsInTurn.{went_map, went_none, io_exit, stuck_after}
 use Rattle.claxon_input.proofs.ByteFields.{went_big, stuck_big}
 use Rattle.claxon_input.proofs.Faults.{stops_fault}
-use Rattle.claxon_tests.proofs.guarded.check_guard.Goals as goal
+use Rattle.claxon_input_uses.proofs.guarded.check_guard.Goals as goal
 
 pub returns-in_err-read_be_u16 : goal.returns-in_err-read_be_u16
 returns-in_err-read_be_u16 g c =
