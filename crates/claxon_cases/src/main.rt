@@ -1,7 +1,8 @@
-//! Decodes files, and replays lines of subframes and metadata blocks, whose answers others gave.
+//! Decodes files, and replays lines of subframes, metadata blocks and frames, whose answers others gave.
 #![tactic(auto)]
 
 mod blocks;
+mod frames;
 mod replay;
 mod samples;
 mod subframes;
@@ -19,6 +20,7 @@ fn kind_of(name: &str) -> Option<Kind> {
     match name {
         "subframes.txt" => Some(Kind::Subframe),
         "blocks.txt" => Some(Kind::Block),
+        "frames.txt" => Some(Kind::Frame),
         _ => None,
     }
 }

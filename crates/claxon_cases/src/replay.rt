@@ -1,5 +1,6 @@
 //! Lines `number length bytes: answer`, in which the number is a width or a type and the bytes are hexadecimal.
 use crate::blocks::answer_of_block;
+use crate::frames::answer_of_frames;
 use crate::subframes::answer_of_subframe;
 use claxon::Result;
 use std::alloc::Global;
@@ -12,6 +13,9 @@ pub enum Kind {
     Subframe,
     /// Of a type and of so many bytes.
     Block,
+    /// Of samples of a width, in blocks of at most so many; zeros where neither is known. There are as many calls as
+    /// answers.
+    Frame,
 }
 
 /// A line without its answer.
@@ -36,7 +40,7 @@ pub fn replay<W: Write>(
             writeln!(output, "{name}: no answer: {line}")?;
             continue;
         };
-        let answer = answer_of(alloc, kind, text)?;
+        let answer = answer_of(alloc, kind, text, want)?;
         if answer.as_slice() == want.as_bytes() {
             agreeing = agreeing.wrapping_add(1);
         } else {
@@ -50,13 +54,17 @@ pub fn replay<W: Write>(
 }
 
 // What the decoder answers, as a line has it.
-fn answer_of(alloc: Global, kind: Kind, text: &str) -> Result<Vec<u8>> {
+fn answer_of(alloc: Global, kind: Kind, text: &str, want: &str) -> Result<Vec<u8>> {
     let mut answer = Vec::new(alloc);
     match read_case(alloc, text)? {
         None => write!(&mut answer, "no case")?,
         Some(case) => match kind {
             Kind::Subframe => answer_of_subframe(alloc, &case, &mut answer)?,
             Kind::Block => answer_of_block(alloc, &case, &mut answer)?,
+            Kind::Frame => {
+                let calls = want.split('|').count();
+                answer_of_frames(alloc, &case, calls, &mut answer)?;
+            }
         },
     }
     Ok(answer)

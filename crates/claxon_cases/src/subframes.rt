@@ -5,7 +5,7 @@ use claxon::{Error, Result, subframe};
 use std::alloc::Global;
 use std::io::{Cursor, Write};
 
-/// Writes `ok BITS samples..`, `BITS text` or `IO`.
+/// Writes `ok BITS samples..`, `BITS text`, or `IO`, which has taken all bits.
 pub fn answer_of_subframe(alloc: Global, case: &Case, answer: &mut Vec<u8>) -> Result<()> {
     let (width, length) = (case.number, case.length as usize);
     if width > 32 || length > 65535 {
@@ -21,12 +21,18 @@ pub fn answer_of_subframe(alloc: Global, case: &Case, answer: &mut Vec<u8>) -> R
     match outcome {
         Ok(()) => {
             write!(answer, "ok {taken}")?;
-            for sample in &buffer {
-                write!(answer, " {sample}")?;
-            }
+            print_samples(&buffer, answer)?;
         }
-        Err(Error::IoError(_)) => write!(answer, "IO")?,
+        Err(Error::IoError(_)) if taken == all => write!(answer, "IO")?,
         Err(error) => write!(answer, "{taken} {error}")?,
+    }
+    Ok(())
+}
+
+/// Writes each of the samples, behind a space.
+pub fn print_samples(samples: &[i32], answer: &mut Vec<u8>) -> Result<()> {
+    for sample in samples {
+        write!(answer, " {sample}")?;
     }
     Ok(())
 }

@@ -1,9 +1,6 @@
 //! What calls answered, in forms that can be compared, and bytes that serve in many places.
-ghost use Rattle.std.specs.Prelude.{◌≡◌};
-
 use claxon::frame::{FrameReader, FrameResult};
 use claxon::input::ReadBytes;
-use claxon::metadata::StreamInfo;
 use claxon::{Block, Error, FlacReader};
 use std::alloc::{AllocError, AllocFailed, Allocator, Global};
 use std::io::Read;
@@ -210,21 +207,4 @@ pub fn joined(alloc: Global, parts: &[&[u8]]) -> Result<Vec<u8>, AllocError> {
         bytes.extend_from_slice(*part)?;
     }
     Ok(bytes)
-}
-
-/// What is known of a stream of samples of so many bits, in blocks between 16 and so many.
-pub fn stream_info(bits_per_sample: u32, max_block_size: u16) -> StreamInfo
-    ensures { result.bits_per_sample ≡ bits_per_sample }
-{
-    StreamInfo {
-        min_block_size: 16,
-        max_block_size,
-        min_frame_size: None,
-        max_frame_size: None,
-        sample_rate: 44100,
-        channels: 1,
-        bits_per_sample,
-        samples: None,
-        md5sum: [0; 16],
-    }
 }

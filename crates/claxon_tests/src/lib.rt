@@ -1,4 +1,5 @@
-//! Worked bytes, bits, metadata blocks, subframes and frames, over readers that cut and fail.
+//! Worked bytes, bits, metadata blocks and frames, over readers that cut and fail. Rows of bytes with their answer are
+//! lines of `claxon_cases`.
 #![tactic(auto)]
 
 #[cfg(test)]
@@ -10,12 +11,6 @@ mod callers;
 #[cfg(test)]
 mod frames;
 #[cfg(test)]
-mod header_faults;
-#[cfg(test)]
 mod metadata;
-#[cfg(test)]
-mod predictors;
-#[cfg(test)]
-mod subframes;
 #[cfg(test)]
 mod zeros;

@@ -1,0 +1,81 @@
+//! Frames: the bytes that are taken, and the blocks.
+ghost use Rattle.std.specs.Prelude.{◌≡◌};
+
+use crate::replay::Case;
+use crate::subframes::print_samples;
+use claxon::frame::{FrameReader, FrameResult};
+use claxon::metadata::StreamInfo;
+use claxon::{Error, Result};
+use std::alloc::Global;
+use std::io::{Cursor, Write};
+
+/// Writes what each of so many calls answers, with ` | ` between them: `BYTES block TIME CHANNELS DURATION samples..`,
+/// `BYTES end`, `BYTES text`, or `IO`, which has taken all bytes.
+pub fn answer_of_frames(
+    alloc: Global,
+    case: &Case,
+    calls: usize,
+    answer: &mut Vec<u8>,
+) -> Result<()> {
+    let (all, mut taken) = (case.bytes.len() as u64, 0);
+    for call in 0..calls {
+        if call > 0 {
+            write!(answer, " | ")?;
+        }
+        let Some((outcome, position)) = next_block(alloc, case, taken) else {
+            write!(answer, "no case")?;
+            return Ok(());
+        };
+        taken = position;
+        print_outcome(outcome, taken, all, answer)?;
+    }
+    Ok(())
+}
+
+// What a call answers that begins behind so many bytes, and where it ends; none where no stream has such samples or
+// blocks. A reader holds its input and what is known of the stream, so that each call may have one of its own.
+fn next_block(alloc: Global, case: &Case, start: u64) -> Option<(FrameResult, u64)> {
+    let mut input = Cursor::new(case.bytes.as_slice());
+    input.set_position(start);
+    let mut reader = match (case.number, u16::try_from(case.length)) {
+        (0, Ok(0)) => FrameReader::new(input),
+        (1..=32, Ok(length)) => FrameReader::with_streaminfo(
+            input,
+            stream_info(case.number, length),
+        ),
+        _ => return None,
+    };
+    let outcome = reader.read_next_or_eof(Vec::new(alloc));
+    Some((outcome, reader.into_inner().position()))
+}
+
+fn print_outcome(outcome: FrameResult, taken: u64, all: u64, answer: &mut Vec<u8>) -> Result<()> {
+    match outcome {
+        Ok(Some(block)) => {
+            let (time, channels, duration) = (block.time(), block.channels(), block.duration());
+            write!(answer, "{taken} block {time} {channels} {duration}")?;
+            print_samples(&block.into_buffer(), answer)?;
+        }
+        Ok(None) => write!(answer, "{taken} end")?,
+        Err(Error::IoError(_)) if taken == all => write!(answer, "IO")?,
+        Err(error) => write!(answer, "{taken} {error}")?,
+    }
+    Ok(())
+}
+
+// A stream of samples of so many bits, in blocks of 16 to so many.
+fn stream_info(bits_per_sample: u32, max_block_size: u16) -> StreamInfo
+    ensures { result.bits_per_sample ≡ bits_per_sample }
+{
+    StreamInfo {
+        min_block_size: 16,
+        max_block_size,
+        min_frame_size: None,
+        max_frame_size: None,
+        sample_rate: 44100,
+        channels: 1,
+        bits_per_sample,
+        samples: None,
+        md5sum: [0; 16],
+    }
+}
