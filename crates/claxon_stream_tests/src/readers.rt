@@ -2,10 +2,10 @@
 use claxon::FlacReader;
 use claxon::frame::FrameReader;
 use claxon::input::{BufferedReader, ReadBytes};
+use claxon_test_doubles::sources::{FailsOnce, OneByte};
 use claxon_test_support::answers::{
     FRAME, Fault, Run, Step, after_error, format, head, joined, mono, next_step, one_sample, run_of,
 };
-use claxon_test_support::sources::{FailsOnce, OneByte};
 use std::alloc::Global;
 use std::io::Read;
 use std::process::Abort;

@@ -3,8 +3,8 @@ ghost use Rattle.std.specs.Prelude.{◌≤◌};
 
 use crate::runs::{end_of, runs_agree};
 use claxon::FlacReader;
+use claxon_test_doubles::sources::FailsOnce;
 use claxon_test_support::answers::{Fault, head, one_sample};
-use claxon_test_support::sources::FailsOnce;
 use claxon_write::{Output, run, write_samples};
 use std::alloc::Global;
 use std::io;

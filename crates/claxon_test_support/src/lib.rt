@@ -1,6 +1,4 @@
-//! What the crates of tests share: answers that can be compared, bytes that serve in many places, and readers that give
-//! little, cut and fail.
+//! What the crates of tests share: answers that can be compared, and bytes that serve in many places.
 #![tactic(auto)]
 
 pub mod answers;
-pub mod sources;

@@ -2,8 +2,8 @@
 use claxon::Block;
 use claxon::frame::FrameReader;
 use claxon::input::BufferedReader;
+use claxon_test_doubles::sources::OneByte;
 use claxon_test_support::answers::{Shown, Step, mono, next_step, pair, step_of};
-use claxon_test_support::sources::OneByte;
 use std::io::Cursor;
 use std::process::Abort;
 use std::test::Fail;

@@ -3,10 +3,6 @@
 #![tactic(auto)]
 
 #[cfg(test)]
-mod bits;
-#[cfg(test)]
-mod bytes;
-#[cfg(test)]
 mod callers;
 #[cfg(test)]
 mod frames;

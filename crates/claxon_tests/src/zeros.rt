@@ -1,8 +1,8 @@
 //! Runs of some 2^32 zeros in subframes.
 use claxon::input::{Bitstream, BufferedReader, ReadBytes};
 use claxon::subframe;
+use claxon_test_doubles::sources::ZerosBetween;
 use claxon_test_support::answers::{Fault, fault_of};
-use claxon_test_support::sources::ZerosBetween;
 use std::process::Abort;
 use std::test::Fail;
 

@@ -1,0 +1,276 @@
+//! Bytes, bits and remainders from readers that fail, end and tell nothing.
+ghost use Rattle.std.specs.Prelude.{◌==◌, length};
+ghost use Rattle.claxon_format.specs.Fault.{MethodReserved};
+ghost use Rattle.claxon_format.specs.Reading.{and_then, test, done, times_at};
+ghost use Rattle.claxon_format.specs.read.Bits.{number_at, unary_at};
+ghost use Rattle.claxon_input.specs.State.{bits_in};
+ghost use Rattle.claxon_input.specs.Gives.{Gives};
+
+use claxon_input::crc::Crc16Reader;
+use claxon_input::input::{Bitstream, BufferedReader, ReadBytes};
+use claxon_input::{Error, Result as InputResult};
+use claxon_test_doubles::sources::{FailsOnce, OneByte, ZerosBetween};
+use std::io;
+use std::io::{Cursor, Read};
+use std::test::Fail;
+
+#[test]
+fn cursor_far_out(rt: HostRuntime) -> Result<(), Fail> {
+    let mut cursor = Cursor::new([1u8, 2, 3]);
+    cursor.set_position(u64::MAX);
+    assert!(rt; cursor.read_u8().is_err());
+    assert_eq!(rt; cursor.read_u8_or_eof()?, None);
+    assert!(rt; cursor.skip(0).is_ok());
+    assert!(rt; cursor.skip(1).is_err());
+    let mut none = [0u8; 0];
+    assert!(rt; cursor.read_into(&mut none).is_ok());
+    assert_eq!(rt; cursor.position(), u64::MAX);
+    Ok(())
+}
+
+#[test]
+fn bits_of_two_bytes(rt: HostRuntime) -> Result<(), Fail> {
+    let mut bits = Bitstream::new(Cursor::new([0u8, 0x80]));
+    assert_eq!(rt; bits.read_unary()?, 8);
+    assert_eq!(rt; bits.read_leq_u8(7)?, 0);
+    assert_eq!(rt; bits.read_leq_u8(0)?, 0);
+    assert!(rt; bits.read_bit().is_err());
+    Ok(())
+}
+
+#[test]
+fn no_byte_is_taken_early(rt: HostRuntime) -> Result<(), Fail> {
+    let mut cursor = Cursor::new([0xFFu8, 0x80, 0x55]);
+    {
+        let mut bits = Bitstream::new(&mut cursor);
+        assert!(rt; bits.read_bit()?);
+        assert_eq!(rt; bits.read_gt_u8_leq_u16(9)?, 510);
+    }
+    assert_eq!(rt; cursor.position(), 2);
+    Ok(())
+}
+
+const UNASKED: Option<u32> = Some(13);
+
+// What the first of four calls answer, and how many bytes they take.
+fn first_calls(count: usize) -> ([Option<u32>; 4], u64) {
+    let mut cursor = Cursor::new([0xA5u8, 0xE1, 0xD2, 0x55, 0xF0]);
+    let mut answers = [UNASKED; 4];
+    {
+        let mut bits = Bitstream::new(&mut cursor);
+        for (call, answer) in answers.iter_mut().take(count).enumerate() {
+            *answer = match call {
+                0 => bits.read_leq_u32(32).ok(),
+                1 => bits.read_leq_u8(0).ok().map(|number| u32::from(number)),
+                2 => bits.read_unary().ok(),
+                _ => bits.read_leq_u32(20).ok(),
+            };
+        }
+    }
+    (answers, cursor.position())
+}
+
+#[test]
+fn all_of_the_cache(rt: HostRuntime) {
+    let (all, zero) = (Some(0xA5E1_D255), Some(0));
+    let rows = [
+        ([UNASKED; 4], 0),
+        ([all, UNASKED, UNASKED, UNASKED], 4),
+        ([all, zero, UNASKED, UNASKED], 4),
+        ([all, zero, zero, UNASKED], 5),
+        ([all, zero, zero, None], 5),
+    ];
+    for (count, want) in rows.iter().enumerate() {
+        assert_eq!(rt; first_calls(count), *want, "{count}");
+    }
+}
+
+#[test]
+fn too_few_bits_take_all(rt: HostRuntime) -> Result<(), Fail> {
+    let mut cursor = Cursor::new([0xA5u8, 0xE1]);
+    {
+        let mut bits = Bitstream::new(&mut cursor);
+        assert!(rt; bits.read_leq_u32(20).is_err());
+        assert!(rt; bits.read_bit().is_err());
+    }
+    assert_eq!(rt; cursor.position(), 2);
+    Ok(())
+}
+
+#[test]
+fn wide_crc_of_three_bytes(rt: HostRuntime) -> Result<(), Fail> {
+    let mut crc = Crc16Reader::new(Cursor::new([0x61u8, 0x62, 0x63]));
+    let mut one = [0u8; 1];
+    crc.read_into(&mut one)?;
+    crc.skip(1)?;
+    assert_eq!(rt; crc.read_u8_or_eof()?, Some(0x63));
+    assert_eq!(rt; crc.crc(), 0xCADB);
+    Ok(())
+}
+
+#[test]
+fn little_end_first(rt: HostRuntime) -> Result<(), Fail> {
+    let mut cursor = Cursor::new([4u8, 3, 2, 1]);
+    assert_eq!(rt; cursor.at_hand().len(), 4);
+    assert_eq!(rt; cursor.read_le_u32()?, 0x0102_0304);
+    Ok(())
+}
+
+#[test]
+fn buffered_number(rt: HostRuntime) -> Result<(), Fail> {
+    let mut reader = BufferedReader::new(rt.alloc(), Cursor::new([1u8, 2, 3, 4, 5]))?;
+    assert_eq!(rt; reader.read_be_u32()?, 0x0102_0304);
+    assert_eq!(rt; reader.read_be_u16_or_eof()?, None);
+    Ok(())
+}
+
+#[test]
+fn an_end_has_its_kind(rt: HostRuntime) -> Result<(), Fail> {
+    let mut cursor = Cursor::new([1u8, 2]);
+    assert!(rt;
+        cursor
+            .read_be_u24()
+            .err()
+            .is_some_and(|error| error.kind() == io::ErrorKind::UnexpectedEof)
+    );
+    cursor.set_position(0);
+    assert!(rt;
+        cursor
+            .skip(3)
+            .err()
+            .is_some_and(|error| error.kind() == io::ErrorKind::UnexpectedEof)
+    );
+    assert_eq!(rt; cursor.read_be_u16()?, 0x0102);
+    Ok(())
+}
+
+#[test]
+fn errors_and_their_texts(rt: HostRuntime) -> Result<(), Fail> {
+    let fault = Error::FormatError("frame CRC mismatch");
+    assert!(rt; fault == Error::FormatError("frame CRC mismatch"));
+    assert!(rt; fault != Error::Unsupported("frame CRC mismatch"));
+    let text = format!(in rt.alloc(); "{fault}")?;
+    assert_eq!(rt; text.as_str(), "Ill-formed FLAC stream: frame CRC mismatch");
+    let cause = Error::from(io::Error::new(io::ErrorKind::Other, "failed"));
+    assert!(rt; cause != Error::from(io::Error::new(io::ErrorKind::Other, "failed")));
+    Ok(())
+}
+
+#[test]
+fn a_failed_read_is_one_error(rt: HostRuntime) -> Result<(), Fail> {
+    for reads in 0..4 {
+        let mut reader = BufferedReader::new(rt.alloc(), FailsOnce::new(&[7; 4], reads))?;
+        let mut errors = 0u32;
+        for _ in 0..5 {
+            if reader.read_u8_or_eof().is_err() {
+                errors = errors.wrapping_add(1);
+            }
+        }
+        assert_eq!(rt; errors, 1);
+        assert_eq!(rt; reader.read_u8_or_eof()?, None);
+    }
+    Ok(())
+}
+
+#[test]
+fn a_failure_is_no_end(rt: HostRuntime) -> Result<(), Fail> {
+    let mut reader = BufferedReader::new(rt.alloc(), FailsOnce::new(&[7; 3], 1))?;
+    assert!(rt; reader.read_be_u16_or_eof().is_err());
+    assert_eq!(rt; reader.read_be_u16_or_eof()?, Some(0x0707));
+    Ok(())
+}
+
+#[test]
+fn an_end_within_a_number(rt: HostRuntime) -> Result<(), Fail> {
+    let mut reader = BufferedReader::new(rt.alloc(), OneByte::new(&[7; 3]))?;
+    assert!(rt; reader.read_be_u32().is_err());
+    assert_eq!(rt; reader.read_u8_or_eof()?, None);
+    assert_eq!(rt; reader.into_inner().read(&mut [0; 1])?, 0);
+    Ok(())
+}
+
+#[test]
+fn a_run_of_zeros_too_long(rt: HostRuntime) -> Result<(), Fail> {
+    let source = ZerosBetween::new(0, 536_870_912, 0x80);
+    let mut reader = BufferedReader::new(rt.alloc(), source)?;
+    let mut bits = Bitstream::new(&mut reader);
+    // Some of the run is at hand, and counts.
+    assert_eq!(rt; bits.read_leq_u8(8)?, 0);
+    assert!(rt;
+        bits.read_unary()
+            .err()
+            .is_some_and(|error| error.kind() == io::ErrorKind::InvalidData)
+    );
+    assert_eq!(rt; bits.read_unary()?, 0);
+    Ok(())
+}
+
+// Zeros without end: a reader with the four calls that are asked for, which tells nothing of its bytes.
+#[derive(Drop)]
+struct Zeros;
+
+impl ReadBytes for Zeros {
+    fn read_u8(&mut self) -> io::Result<u8> {
+        Ok(0)
+    }
+
+    fn read_u8_or_eof(&mut self) -> io::Result<Option<u8>> {
+        Ok(Some(0))
+    }
+
+    fn read_into(&mut self, buffer: &mut [u8]) -> io::Result<()> {
+        for slot in buffer.iter_mut() {
+            *slot = 0;
+        }
+        Ok(())
+    }
+
+    fn skip(&mut self, _amount: u32) -> io::Result<()> {
+        Ok(())
+    }
+}
+
+#[test]
+fn zeros_give_zero(rt: HostRuntime) -> Result<(), Fail> {
+    assert!(rt; Zeros.at_hand().is_empty());
+    let mut crc = Crc16Reader::new(Zeros);
+    crc.skip(3)?;
+    let mut bits = Bitstream::new(&mut crc);
+    assert_eq!(rt; bits.read_leq_u16(13)?, 0);
+    assert_eq!(rt; crc.crc(), 0);
+    Ok(())
+}
+
+// Two fields, the first of which may have a fault: as the code above is written and told.
+#[tactic(auto, unfolding(claxon_format::specs::Fault::fault_text))]
+fn two_fields<R: ReadBytes>(input: &mut Bitstream<R>) -> InputResult<u32>
+    ensures { Gives (λ x. x) result (and_then (number_at 4) (λ method. test (method == 15) MethodReserved (and_then unary_at (λ q. done q)))) (bits_in R.source input.old) (bits_in R.source input.new) }
+{
+    let method = input.read_leq_u8(4)?;
+    if method == 15 {
+        return Err(Error::FormatError("invalid residual, encountered reserved value"));
+    }
+    let quotient = input.read_unary()?;
+    Ok(quotient)
+}
+
+// As many numbers of three bits as the buffer has room for.
+fn read_threes<R: ReadBytes>(input: &mut Bitstream<R>, buffer: &mut [u8]) -> InputResult<()>
+    ensures { Gives (λ x. buffer.new) result (times_at (length buffer.old) (number_at 3)) (bits_in R.source input.old) (bits_in R.source input.new) }
+{
+    for slot in buffer.iter_mut() {
+        *slot = input.read_leq_u8(3)?;
+    }
+    Ok(())
+}
+
+#[test]
+fn fields_and_their_fault(rt: HostRuntime) -> Result<(), Fail> {
+    let mut bits = Bitstream::new(Cursor::new([0x12u8, 0xF0]));
+    assert_eq!(rt; two_fields(&mut bits)?, 2);
+    assert_eq!(rt; bits.read_bit()?, false);
+    assert!(rt; two_fields(&mut bits).is_err());
+    let mut threes = [0u8; 2];
+    assert!(rt; read_threes(&mut bits, &mut threes).is_err());
+    Ok(())
+}
