@@ -70,7 +70,8 @@ impl<T: fmt::Display> fmt::Display for OrNone<T> {
     }
 }
 
-fn print_streaminfo(info: &StreamInfo, answer: &mut Vec<u8>) -> Result<()> {
+/// What a streaminfo says.
+pub fn print_streaminfo(info: &StreamInfo, answer: &mut Vec<u8>) -> Result<()> {
     let (least, greatest) = (info.min_block_size, info.max_block_size);
     write!(answer, "streaminfo blocks {least}-{greatest}")?;
     let (least, greatest) = (OrNone(info.min_frame_size), OrNone(info.max_frame_size));

@@ -1,10 +1,11 @@
-//! Decodes files, and replays lines of subframes, metadata blocks and frames, whose answers others gave.
+//! Decodes files, and replays lines of subframes, metadata blocks, frames and streams, whose answers others gave.
 #![tactic(auto)]
 
 mod blocks;
 mod frames;
 mod replay;
 mod samples;
+mod streams;
 mod subframes;
 
 use claxon::Result;
@@ -21,6 +22,7 @@ fn kind_of(name: &str) -> Option<Kind> {
         "subframes.txt" => Some(Kind::Subframe),
         "blocks.txt" => Some(Kind::Block),
         "frames.txt" => Some(Kind::Frame),
+        "streams.txt" => Some(Kind::Stream),
         _ => None,
     }
 }

@@ -1,6 +1,8 @@
-//! Lines `number length bytes: answer`, in which the number is a width or a type and the bytes are hexadecimal.
+//! Lines `number length bytes: answer`, in which the number is a width, a type or a choice of options and the bytes are
+//! hexadecimal.
 use crate::blocks::answer_of_block;
 use crate::frames::answer_of_frames;
+use crate::streams::answer_of_stream;
 use crate::subframes::answer_of_subframe;
 use claxon::Result;
 use std::alloc::Global;
@@ -16,6 +18,8 @@ pub enum Kind {
     /// Of samples of a width, in blocks of at most so many; zeros where neither is known. There are as many calls as
     /// answers.
     Frame,
+    /// Opened with these options, and so many samples shown.
+    Stream,
 }
 
 /// A line without its answer.
@@ -65,6 +69,7 @@ fn answer_of(alloc: Global, kind: Kind, text: &str, want: &str) -> Result<Vec<u8
                 let calls = want.split('|').count();
                 answer_of_frames(alloc, &case, calls, &mut answer)?;
             }
+            Kind::Stream => answer_of_stream(alloc, &case, &mut answer)?,
         },
     }
     Ok(answer)

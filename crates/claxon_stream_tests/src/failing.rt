@@ -1,10 +1,10 @@
 //! Readers that fail, pause or are cut, and writers that fail, under frames and whole runs.
-use crate::readers::check_steps;
+use crate::readers::{check_steps, gives_each};
 use crate::runs::end_of;
 use claxon::FlacReader;
 use claxon::frame::FrameReader;
 use claxon::input::BufferedReader;
-use claxon_test_support::answers::{FRAME, Fault, Step, format, head, joined, mono, one_sample};
+use claxon_test_support::answers::{FRAME, Fault, Step, format, head, joined, mono};
 use claxon_write::run;
 use std::alloc::Global;
 use std::io::{self, Cursor, ErrorKind, Read, Write};
@@ -108,7 +108,7 @@ fn runs_with_a_failed_read(rt: HostRuntime) -> Result<(), Fail> {
         };
         for kind in FAILURES {
             let answer = troubled_run(rt.alloc(), reads, Trouble::Failure(kind))?;
-            assert_eq!(rt; answer, (Err(Fault::Io), written), "{reads} {kind:?}");
+            assert!(rt; answer == (Err(Fault::Io), written), "{reads}");
         }
     }
     Ok(())
@@ -127,7 +127,7 @@ fn runs_with_an_empty_read(rt: HostRuntime) -> Result<(), Fail> {
             _ => (Ok(2), 8),
         };
         let answer = troubled_run(rt.alloc(), reads, Trouble::Empty)?;
-        assert_eq!(rt; answer, want, "{reads}");
+        assert!(rt; answer == want, "{reads}");
     }
     Ok(())
 }
@@ -143,9 +143,7 @@ fn samples_after_an_empty_read(rt: HostRuntime) -> Result<(), Fail> {
         trouble: Some(Trouble::Empty),
     };
     let mut flac = FlacReader::new(rt.alloc(), source)?;
-    for want in [Some(5), None, Some(5), None] {
-        assert_eq!(rt; one_sample(&mut flac), Ok(want));
-    }
+    assert!(rt; gives_each(&mut flac, &[Some(5), None, Some(5), None]));
     Ok(())
 }
 
@@ -195,9 +193,9 @@ fn runs_into_failing_writers(rt: HostRuntime) -> Result<(), Fail> {
         (0x59, None, other, Err(bad)),
         (0x59, other, other, Err(bad)),
     ];
-    for (last, writes, flushes, want) in rows {
+    for (row, (last, writes, flushes, want)) in rows.into_iter().enumerate() {
         let answer = run_refused(rt.alloc(), last, Refuses { writes, flushes })?;
-        assert_eq!(rt; answer, want, "{last} {writes:?} {flushes:?}");
+        assert!(rt; answer == want, "{row}");
     }
     Ok(())
 }

@@ -1,9 +1,9 @@
 //! Streams in files, and heads that are read alone.
-use crate::openings::{OPTIONS, Opened, agree, head_shown, shown};
 use claxon::input::{BufferedReader, ReadBytes};
-use claxon::{FlacReader, FlacReaderOptions, read_head};
-use claxon_test_support::answers::{COMMENT, FRAME, Fault, fault_of, head, joined, one_sample};
-use std::io::Cursor;
+use claxon::metadata::StreamInfo;
+use claxon::{Error, FlacReader, FlacReaderOptions, read_head};
+use claxon_test_support::answers::{FRAME, fault_of, head, joined, rest_of};
+use std::io::{Cursor, Read};
 use std::test::Fail;
 use std::{env, fs, process};
 
@@ -21,107 +21,128 @@ pub fn file_of(rt: &HostRuntime, name: &str, bytes: &[u8]) -> Result<String, Fai
     Ok(path)
 }
 
-// The first sample of a file and the number of its tags.
-fn opened(rt: &HostRuntime, path: &str) -> Result<(Option<i32>, usize), Fault> {
-    match FlacReader::open(rt, path) {
-        Ok(flac) => {
-            let mut flac = flac;
-            let tags = flac.tags().len();
-            Ok((one_sample(&mut flac)?, tags))
-        }
-        Err(error) => Err(fault_of(&error)),
-    }
-}
-
-// Whether a file's head alone can be read, and the number of its tags.
-fn opened_head(
-    rt: &HostRuntime,
-    path: &str,
-    read_vorbis_comment: bool,
-) -> Result<(bool, usize), Fault> {
-    let options = FlacReaderOptions {
+const OPTIONS: [FlacReaderOptions; 4] = [
+    FlacReaderOptions {
+        metadata_only: false,
+        read_vorbis_comment: true,
+    },
+    FlacReaderOptions {
+        metadata_only: false,
+        read_vorbis_comment: false,
+    },
+    FlacReaderOptions {
         metadata_only: true,
-        read_vorbis_comment,
-    };
-    match FlacReader::open_ext(rt, path, options) {
-        Ok(flac) => Ok((flac.is_metadata_only(), flac.tags().len())),
-        Err(error) => Err(fault_of(&error)),
+        read_vorbis_comment: true,
+    },
+    FlacReaderOptions {
+        metadata_only: true,
+        read_vorbis_comment: false,
+    },
+];
+
+fn is_same_info(one: StreamInfo, other: StreamInfo) -> bool {
+    let has_same_sizes = one.min_block_size == other.min_block_size
+        && one.max_block_size == other.max_block_size
+        && one.min_frame_size == other.min_frame_size
+        && one.max_frame_size == other.max_frame_size;
+    has_same_sizes
+        && one.sample_rate == other.sample_rate
+        && one.channels == other.channels
+        && one.bits_per_sample == other.bits_per_sample
+        && one.samples == other.samples
+        && one.md5sum == other.md5sum
+}
+
+// Whether two readers show the same.
+fn show_same<R: Read + Drop, S: Read + Drop>(one: &FlacReader<R>, other: &FlacReader<S>) -> bool {
+    let mut all = one.is_metadata_only() == other.is_metadata_only()
+        && one.vendor() == other.vendor()
+        && one.tags().len() == other.tags().len()
+        && is_same_info(one.streaminfo(), other.streaminfo());
+    for (tag, other_tag) in one.tags().zip(other.tags()) {
+        all = all && tag == other_tag;
+    }
+    all
+}
+
+// Whether two readers show the same and give the same samples, or the same fault refuses both.
+fn are_same<R: Read + Drop, S: Read + Drop>(
+    one: claxon::Result<FlacReader<R>>,
+    other: claxon::Result<FlacReader<S>>,
+) -> bool {
+    match (one, other) {
+        (Ok(one), Ok(other)) => {
+            let (mut one, mut other) = (one, other);
+            show_same(&one, &other) && rest_of(&mut one) == rest_of(&mut other)
+        }
+        (Err(one), Err(other)) => fault_of(&one) == fault_of(&other),
+        _ => false,
     }
 }
 
-#[test]
-fn opens_files(rt: HostRuntime) -> Result<(), Fail> {
-    let comments = [0x84, 0x00, 0x00, 0x13];
-    let bytes = joined(rt.alloc(), &[&head(0x00), &comments, &COMMENT, &FRAME])?;
-    let path = file_of(&rt, "tags", &bytes)?;
-    let whole = opened(&rt, path.as_str());
-    let tags = opened_head(&rt, path.as_str(), true);
-    let alone = opened_head(&rt, path.as_str(), false);
-    fs::remove_file(&rt, path.as_str())?;
-    assert_eq!(rt; whole, Ok((Some(5), 1)));
-    assert_eq!(rt; tags, Ok((true, 1)));
-    assert_eq!(rt; alone, Ok((true, 0)));
-    Ok(())
-}
-
-#[test]
-fn refuses_files(rt: HostRuntime) -> Result<(), Fail> {
-    let path = file_of(&rt, "id3", &[0x49, 0x44, 0x33, 0x04])?;
-    let refused = opened(&rt, path.as_str());
-    fs::remove_file(&rt, path.as_str())?;
-    let text = "stream starts with ID3 header rather than FLAC header";
-    assert_eq!(rt; refused, Err(Fault::Format(text)));
-    let absent = path_of(&rt, "none")?;
-    assert_eq!(rt; opened(&rt, absent.as_str()), Err(Fault::Io));
-    Ok(())
-}
-
-// What a file shows under each choice of options, and by default.
-fn all_shown(rt: &HostRuntime, path: &str) -> Result<(Vec<Opened>, Opened), Fail> {
+// Whether a file gives what these bytes do, under each choice of options and by default.
+fn gives(rt: &HostRuntime, path: &str, bytes: &[u8]) -> bool {
     let alloc = rt.alloc();
-    let mut each = Vec::new(alloc);
+    let mut all = are_same(
+        FlacReader::open(rt, path),
+        FlacReader::new(alloc, Cursor::new(bytes)),
+    );
     for options in OPTIONS {
-        each.push(shown(alloc, FlacReader::open_ext(rt, path, options))?)?;
+        let opened = FlacReader::open_ext(rt, path, options);
+        let want = FlacReader::new_ext(alloc, Cursor::new(bytes), options);
+        all = are_same(opened, want) && all;
     }
-    Ok((each, shown(alloc, FlacReader::open(rt, path))?))
+    all
 }
 
-// Whether a file shows what its bytes do.
-fn agrees(rt: &HostRuntime, name: &str, parts: &[&[u8]]) -> Result<bool, Fail> {
-    let bytes = joined(rt.alloc(), parts)?;
-    let path = file_of(rt, name, &bytes)?;
-    let (each, by_default) = all_shown(rt, path.as_str())?;
+// The same of a file that holds so much of a head, and then the rest.
+fn is_given_back(rt: &HostRuntime, front: usize, rest: &[u8]) -> Result<bool, Fail> {
+    let first = head(0x00);
+    let bytes = joined(rt.alloc(), &[&first[..front.min(42)], rest])?;
+    let path = file_of(rt, "opened", &bytes)?;
+    let all = gives(rt, path.as_str(), &bytes);
     fs::remove_file(rt, path.as_str())?;
-    let want = head_shown(rt.alloc(), &bytes, FlacReaderOptions::default())?;
-    let mut all = agree(&by_default, &want);
-    for (opened, options) in each.iter().zip(&OPTIONS) {
-        all = all && agree(opened, &head_shown(rt.alloc(), &bytes, *options)?);
-    }
     Ok(all)
 }
 
+// How much of a head the files begin with, and what comes then: a tag and a frame, nothing, markers of other streams,
+// and nothing at all.
+#[rattlefmt::skip]
+const FILES: [(usize, &[u8]); 5] = [
+    (42, &[
+        0x84, 0x00, 0x00, 0x13, 0, 0, 0, 0, 2, 0, 0, 0, 0, 0, 0, 0, 3, 0, 0, 0, 0x58, 0x3d, 0x59,
+        0xff, 0xf8, 0x69, 0x02, 0x00, 0x00, 0x9a, 0x00, 0x05, 0x34, 0x58,
+    ]),
+    (42, &[]),
+    (0, &[0x66, 0x4c, 0x61, 0x44]),
+    (0, &[0x49, 0x44, 0x33, 0x04]),
+    (0, &[]),
+];
+
 #[test]
-fn files_show_their_bytes(rt: HostRuntime) -> Result<(), Fail> {
-    let (first, last) = (head(0x00), [0x84, 0x00, 0x00, 0x13]);
-    assert!(rt; agrees(&rt, "tagged", &[&first, &last, &COMMENT, &FRAME])?);
-    assert!(rt; agrees(&rt, "alone", &[&first])?);
-    assert!(rt; agrees(&rt, "marker", &[&[0x66, 0x4c, 0x61, 0x44]])?);
-    assert!(rt; agrees(&rt, "other", &[&[0x49, 0x44, 0x33, 0x04]])?);
-    assert!(rt; agrees(&rt, "empty", &[])?);
+fn files_give_what_their_bytes_do(rt: HostRuntime) -> Result<(), Fail> {
+    for (front, rest) in FILES {
+        let is_given_back = is_given_back(&rt, front, rest)?;
+        assert!(rt; is_given_back, "{front} {}", rest.len());
+    }
     Ok(())
 }
 
-// After the head comes the first frame.
+#[test]
+fn a_file_that_is_not_there(rt: HostRuntime) -> Result<(), Fail> {
+    let path = path_of(&rt, "none")?;
+    assert!(rt; matches!(FlacReader::open(&rt, path.as_str()), Err(Error::IoError(_))));
+    Ok(())
+}
+
+// After the head comes the first frame, and what was read ahead is lost.
 #[test]
 fn reads_a_head(rt: HostRuntime) -> Result<(), Fail> {
     let bytes = joined(rt.alloc(), &[&head(0x80), &FRAME])?;
     let mut input = BufferedReader::new(rt.alloc(), Cursor::new(bytes.as_slice()))?;
-    let (info, comment) = read_head(rt.alloc(), &mut input, FlacReaderOptions::default())?;
-    assert_eq!(rt; info.sample_rate, 44100);
-    assert!(rt; comment.is_none());
-    assert_eq!(rt; input.read_be_u32()?, 0xfff8_6902);
-    // What was read ahead is lost.
-    assert_eq!(rt; input.into_inner().position(), 53);
+    read_head(rt.alloc(), &mut input, FlacReaderOptions::default())?;
+    let next = input.read_be_u32()?;
+    assert!(rt; next == 0xfff8_6902 && input.into_inner().position() == 53);
     Ok(())
 }
 

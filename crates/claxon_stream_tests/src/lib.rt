@@ -11,8 +11,6 @@ mod files;
 #[cfg(test)]
 mod memory;
 #[cfg(test)]
-mod openings;
-#[cfg(test)]
 mod readers;
 #[cfg(test)]
 mod runs;

@@ -148,10 +148,10 @@ fn check(
 ) -> Result<(), Fail> {
     for granted in 0..requests {
         let answer = attempt(rt.alloc(), call, bytes, granted)?;
-        assert_eq!(rt; answer, (Err(Fault::Memory), u64::MAX), "{granted}");
+        assert!(rt; answer == (Err(Fault::Memory), u64::MAX), "{granted}");
     }
     let answer = attempt(rt.alloc(), call, bytes, requests)?;
-    assert_eq!(rt; answer, (Ok(()), 0));
+    assert!(rt; answer == (Ok(()), 0));
     Ok(())
 }
 
@@ -204,7 +204,7 @@ fn check_calls(rt: &(impl Abort + AllocGlobal), wants: &[Step], taken: u64) {
     let mut reader = FrameReader::new(Cursor::new(FRAME.as_slice()));
     for want in wants {
         let answer = step_of(reader.read_next_or_eof(Vec::new(&heap)));
-        assert_eq!(rt; answer, *want);
+        assert!(rt; answer == *want);
     }
     assert_eq!(rt; reader.into_inner().position(), taken);
     assert_eq!(rt; heap.left(), u64::MAX);
@@ -223,7 +223,7 @@ fn a_buffer_that_suffices(rt: HostRuntime) -> Result<(), Fail> {
     let heap = RefusesOne::new(rt.alloc(), 1);
     let buffer = Vec::with_capacity(&heap, 1)?;
     let mut reader = FrameReader::new(Cursor::new(FRAME.as_slice()));
-    assert_eq!(rt; step_of(reader.read_next_or_eof(buffer)), mono(0, 5));
+    assert!(rt; step_of(reader.read_next_or_eof(buffer)) == mono(0, 5));
     assert_eq!(rt; heap.left(), 0);
     Ok(())
 }

@@ -1,10 +1,11 @@
 //! Runs into writers of all kinds, and of streams that are cut and damaged.
 ghost use Rattle.std.specs.Prelude.{◌≤◌};
 
+use crate::readers::gives_each;
 use crate::runs::{end_of, runs_agree};
 use claxon::FlacReader;
 use claxon_test_doubles::sources::FailsOnce;
-use claxon_test_support::answers::{Fault, head, one_sample};
+use claxon_test_support::answers::{Fault, head};
 use claxon_write::{Output, run, write_samples};
 use std::alloc::Global;
 use std::io;
@@ -93,8 +94,7 @@ fn written(alloc: Global, bytes: &[u8]) -> (Result<u64, Fault>, Vec<u8>) {
 #[test]
 fn into_a_vector(rt: HostRuntime) {
     let (end, output) = written(rt.alloc(), &stream(0x58));
-    assert_eq!(rt; end, Ok(2));
-    assert_eq!(rt; output.as_slice(), FIVES.as_slice());
+    assert!(rt; end == Ok(2) && output.as_slice() == FIVES.as_slice());
 }
 
 // Frames of so many channels of 8 bits, and their samples, place by place.
@@ -188,8 +188,8 @@ fn check_block(
 ) -> Result<(), Fail> {
     let bytes = stream_of(rt.alloc(), row, between)?;
     let (end, output) = written(rt.alloc(), &bytes);
-    assert_eq!(rt; end, Ok(row.samples.len() as u64), "{}", row.channels);
-    assert_eq!(rt; output.as_slice(), want, "{}", row.channels);
+    assert!(rt; end == Ok(row.samples.len() as u64), "{}", row.channels);
+    assert!(rt; output.as_slice() == want, "{}", row.channels);
     Ok(())
 }
 
@@ -254,8 +254,8 @@ fn check(
 ) {
     let (most, writes_left) = (sink.most, sink.writes_left);
     let end = run_into(rt.alloc(), Cursor::new(stream(last)), sink);
-    assert_eq!(rt; end, want, "{most} {writes_left}");
-    assert_eq!(rt; sink.written(), written, "{most} {writes_left}");
+    assert!(rt; end == want, "{most} {writes_left}");
+    assert!(rt; sink.written() == written, "{most} {writes_left}");
 }
 
 #[test]
@@ -329,8 +329,8 @@ fn each_read_failed(rt: HostRuntime) {
             53..64 => 4,
             _ => 8,
         };
-        assert_eq!(rt; end, Err(Fault::Io), "{left}");
-        assert_eq!(rt; sink.written(), &FIVES[..want], "{left}");
+        assert!(rt; end == Err(Fault::Io), "{left}");
+        assert!(rt; sink.written() == &FIVES[..want], "{left}");
     }
 }
 
@@ -349,9 +349,9 @@ fn write_rest<R: Read + Drop>(
 #[test]
 fn the_rest_of_a_stream(rt: HostRuntime) -> Result<(), Fail> {
     let mut flac = FlacReader::new(rt.alloc(), Cursor::new(stream(0x58)))?;
-    assert_eq!(rt; one_sample(&mut flac), Ok(Some(5)));
+    assert!(rt; gives_each(&mut flac, &[Some(5)]));
     let mut sink = Sink::new(32, 9, false);
-    assert_eq!(rt; write_rest(rt.alloc(), &mut flac, &mut sink), Ok(1));
-    assert_eq!(rt; sink.written(), &FIVES[..4]);
+    assert!(rt; write_rest(rt.alloc(), &mut flac, &mut sink) == Ok(1));
+    assert!(rt; sink.written() == &FIVES[..4]);
     Ok(())
 }
