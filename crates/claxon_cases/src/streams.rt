@@ -10,8 +10,8 @@ use std::io::{Cursor, Read, Write};
 
 type Opened<'a> = Result<FlacReader<Cursor<&'a [u8]>>>;
 
-/// Writes what opening the stream shows, and then its samples, its blocks and how they end, unless it was opened for its
-/// metadata alone; behind that the calls that disagree, if any do.
+/// Writes what opening the stream shows, and unless it was opened for its metadata alone its samples, its blocks and
+/// how they end; behind that the calls that disagree, if any do.
 pub fn answer_of_stream(alloc: Global, case: &Case, answer: &mut Vec<u8>) -> Result<()> {
     if case.number > 3 {
         write!(answer, "no case")?;

@@ -1,7 +1,7 @@
 //! What the program does for its words: samples and tags of files, and the words themselves.
 use crate::files::{file_of, path_of};
-use crate::writers::{FIVES, Sink, stream};
-use claxon_test_support::answers::{head, joined};
+use claxon_test_doubles::sinks::Sink;
+use claxon_test_support::answers::{FIVES, head, joined, two_frames};
 use claxon_write::{command, words};
 use linked_list_allocator::LocalHeap;
 use std::alloc::Global;
@@ -58,14 +58,14 @@ fn check(rt: &impl Abort, outcome: &Outcome, status: u8, output: &[u8], errors: 
 
 #[test]
 fn files_of_samples(rt: HostRuntime) -> Result<(), Fail> {
-    let clean = outcome_of_file(&rt, "raw_whole", &stream(0x58), false)?;
+    let clean = outcome_of_file(&rt, "raw_whole", &two_frames(0x58), false)?;
     check(&rt, &clean, 0, &FIVES, b"");
     Ok(())
 }
 
 #[test]
 fn damaged_files(rt: HostRuntime) -> Result<(), Fail> {
-    let damaged = outcome_of_file(&rt, "raw_damaged", &stream(0x59), false)?;
+    let damaged = outcome_of_file(&rt, "raw_damaged", &two_frames(0x59), false)?;
     let text = "Ill-formed FLAC stream: frame CRC mismatch\n";
     check(&rt, &damaged, 1, &FIVES[..4], text.as_bytes());
     Ok(())

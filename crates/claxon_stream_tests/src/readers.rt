@@ -1,15 +1,14 @@
 //! Readers that give little, cut and fail.
 use claxon::FlacReader;
 use claxon::frame::FrameReader;
-use claxon::input::{BufferedReader, ReadBytes};
+use claxon::input::BufferedReader;
 use claxon_test_doubles::sources::{FailsOnce, OneByte};
 use claxon_test_support::answers::{
-    FRAME, Fault, Run, Step, after_error, clean, format, head, joined, mono, next_step, one_sample,
-    run_of,
+    FRAME, Fault, Run, Step, after_error, answers_each, clean, format, gives_each, head, joined,
+    mono, run_of,
 };
 use std::alloc::Global;
 use std::io::Read;
-use std::process::Abort;
 use std::test::Fail;
 
 // What a stream gives that fails or is cut after so many samples of 5.
@@ -25,7 +24,7 @@ fn cut_after(count: usize) -> Result<Run, Fault> {
     })
 }
 
-// Whether a stream is refused for want of bytes, where no count is given, or fails or is cut after so many samples of 5.
+// Whether a stream is refused for want of bytes, where no count is given, else fails after so many samples of 5.
 fn is_cut(run: Result<Run, Fault>, count: Option<usize>) -> bool {
     match count {
         Some(count) => run == cut_after(count),
@@ -75,17 +74,6 @@ fn one_error(rt: HostRuntime) -> Result<(), Fail> {
     Ok(())
 }
 
-/// Each of the calls answers this.
-pub fn check_steps<R: ReadBytes>(
-    rt: &(impl Abort + AllocGlobal),
-    reader: &mut FrameReader<R>,
-    wants: &[Step],
-) {
-    for want in wants {
-        assert!(rt; next_step(rt.alloc(), reader) == *want);
-    }
-}
-
 #[test]
 fn frames_after_a_failed_read(rt: HostRuntime) -> Result<(), Fail> {
     let bytes = joined(rt.alloc(), &[&FRAME, &FRAME])?;
@@ -99,7 +87,7 @@ fn frames_after_a_failed_read(rt: HostRuntime) -> Result<(), Fail> {
         mono(0, 5),
         Step::End,
     ];
-    check_steps(&rt, &mut reader, &wants);
+    assert!(rt; answers_each(rt.alloc(), &mut reader, &wants));
     Ok(())
 }
 
@@ -118,15 +106,6 @@ fn each_read_failed(rt: HostRuntime) -> Result<(), Fail> {
         assert!(rt; is_cut(run, count), "{at}");
     }
     Ok(())
-}
-
-/// Whether the calls for a sample answer these, each call by an iterator of its own.
-pub fn gives_each<R: Read + Drop>(flac: &mut FlacReader<R>, wants: &[Option<i32>]) -> bool {
-    let mut all = true;
-    for want in wants {
-        all = all && one_sample(flac) == Ok(*want);
-    }
-    all
 }
 
 // After the end it is the reader that says whether there is more; after an error nothing more comes.

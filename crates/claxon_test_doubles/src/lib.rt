@@ -1,7 +1,8 @@
-//! What stands in tests for memory and for readers: an allocator that refuses one request, and readers that give little, cut and
-//! fail.
+//! What stands in tests for memory, readers and writers: an allocator that refuses one request, readers that give little, cut
+//! and fail, and a writer with little room that fails.
 #![tactic(auto)]
 
+pub mod sinks;
 pub mod sources;
 
 use std::alloc::{AllocError, Allocator};

@@ -23,6 +23,14 @@ pub fn fault_of(error: &Error) -> Fault {
     }
 }
 
+/// What a call that counts ended with, whatever the cause of an `IoError` is.
+pub fn end_of(outcome: claxon::Result<u64>) -> Result<u64, Fault> {
+    match outcome {
+        Ok(count) => Ok(count),
+        Err(error) => Err(fault_of(&error)),
+    }
+}
+
 /// What a block shows: of its buffer the first four samples, with zeros where there are fewer.
 #[derive(PartialEq, Debug, Clone, Copy)]
 pub struct Shown {
@@ -96,6 +104,19 @@ pub fn next_step<R: ReadBytes>(alloc: Global, reader: &mut FrameReader<R>) -> St
     step_of(reader.read_next_or_eof(Vec::new(alloc)))
 }
 
+/// Whether the calls for a block answer these.
+pub fn answers_each<R: ReadBytes>(
+    alloc: Global,
+    reader: &mut FrameReader<R>,
+    wants: &[Step],
+) -> bool {
+    let mut all = true;
+    for want in wants {
+        all = all && next_step(alloc, reader) == *want;
+    }
+    all
+}
+
 /// What a stream gave by its samples: the first four of them, their number, and what ended them.
 #[derive(PartialEq, Debug, Clone, Copy)]
 pub struct Run {
@@ -138,6 +159,15 @@ pub fn one_sample<R: Read + Drop>(flac: &mut FlacReader<R>) -> Result<Option<i32
         Some(Err(error)) => Err(fault_of(&error)),
         None => Ok(None),
     }
+}
+
+/// Whether the calls for a sample answer these, each call by an iterator of its own.
+pub fn gives_each<R: Read + Drop>(flac: &mut FlacReader<R>, wants: &[Option<i32>]) -> bool {
+    let mut all = true;
+    for want in wants {
+        all = all && one_sample(flac) == Ok(*want);
+    }
+    all
 }
 
 /// Whether the next call for a sample fails, and whether each of the two calls after it answers none.
@@ -193,6 +223,25 @@ pub fn head(first: u8) -> [u8; 42] {
 pub const FRAME: [u8; 11] = [
     0xff, 0xf8, 0x69, 0x02, 0x00, 0x00, 0x9a, 0x00, 0x05, 0x34, 0x58,
 ];
+
+/// The smallest head and two frames of one sample, 5. The last byte ends the second one's guard.
+pub fn two_frames(last: u8) -> [u8; 64] {
+    let mut bytes = [0; 64];
+    bytes[..26].copy_from_slice(&[
+        0x66, 0x4c, 0x61, 0x43, 0x80, 0x00, 0x00, 0x22, 0x00, 0x10, 0x00, 0x10, 0x00, 0x00, 0x00,
+        0x00, 0x00, 0x00, 0x0a, 0xc4, 0x40, 0x70, 0x00, 0x00, 0x00, 0x01,
+    ]);
+    let frame = [
+        0xff, 0xf8, 0x69, 0x02, 0x00, 0x00, 0x9a, 0x00, 0x05, 0x34, 0x58,
+    ];
+    bytes[42..53].copy_from_slice(&frame);
+    bytes[53..64].copy_from_slice(&frame);
+    bytes[63] = last;
+    bytes
+}
+
+/// The samples of the two frames as bytes.
+pub const FIVES: [u8; 8] = [5, 0, 0, 0, 5, 0, 0, 0];
 
 /// The content of a comment block: no vendor, an empty entry and `X=Y`.
 pub const COMMENT: [u8; 19] = [

@@ -1,6 +1,6 @@
 //! Frames as the definitions write them give the samples that were written.
 use crate::writer::{Form, Kind, Places, frame_of};
-use claxon::frame::FrameReader;
+use claxon_frame::frame::FrameReader;
 use std::io::Cursor;
 use std::process::Abort;
 use std::test::Fail;

@@ -1,10 +1,10 @@
 //! Readers that fail, pause or are cut, and writers that fail, under frames and whole runs.
-use crate::readers::{check_steps, gives_each};
-use crate::runs::end_of;
 use claxon::FlacReader;
 use claxon::frame::FrameReader;
 use claxon::input::BufferedReader;
-use claxon_test_support::answers::{FRAME, Fault, Step, format, head, joined, mono};
+use claxon_test_support::answers::{
+    FRAME, Fault, Step, answers_each, end_of, format, gives_each, head, joined, mono,
+};
 use claxon_write::run;
 use std::alloc::Global;
 use std::io::{self, Cursor, ErrorKind, Read, Write};
@@ -70,7 +70,7 @@ fn frames_after_a_failure(rt: HostRuntime) -> Result<(), Fail> {
             trouble: Some(Trouble::Failure(kind)),
         };
         let mut reader = FrameReader::new(BufferedReader::new(rt.alloc(), source)?);
-        check_steps(&rt, &mut reader, &wants);
+        assert!(rt; answers_each(rt.alloc(), &mut reader, &wants));
     }
     Ok(())
 }

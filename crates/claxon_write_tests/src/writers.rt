@@ -1,11 +1,9 @@
 //! Runs into writers of all kinds, and of streams that are cut and damaged.
-ghost use Rattle.std.specs.Prelude.{◌≤◌};
-
-use crate::readers::gives_each;
-use crate::runs::{end_of, runs_agree};
+use crate::runs::runs_agree;
 use claxon::FlacReader;
+use claxon_test_doubles::sinks::Sink;
 use claxon_test_doubles::sources::FailsOnce;
-use claxon_test_support::answers::{Fault, head};
+use claxon_test_support::answers::{FIVES, Fault, end_of, gives_each, head, two_frames};
 use claxon_write::{Output, run, write_samples};
 use std::alloc::Global;
 use std::io;
@@ -13,76 +11,7 @@ use std::io::{Cursor, ErrorKind, Read, Write};
 use std::process::Abort;
 use std::test::Fail;
 
-/// A place for a few bytes. It takes so many bytes a call, fails from some write on, and perhaps at each flush.
-#[derive(Drop)]
-pub struct Sink {
-    bytes: [u8; 32],
-    used: usize,
-    most: usize,
-    writes_left: u32,
-    fails_at_flush: bool,
-    flushes: u32,
-    ghost in_bounds: { used ≤ 32 },
-}
-
-impl Sink {
-    pub const fn new(most: usize, writes_left: u32, fails_at_flush: bool) -> Sink {
-        Sink {
-            bytes: [0; 32],
-            used: 0,
-            most,
-            writes_left,
-            fails_at_flush,
-            flushes: 0,
-        }
-    }
-
-    fn written(&self) -> &[u8] {
-        &self.bytes[..self.used]
-    }
-}
-
-impl Write for Sink {
-    fn write(&mut self, buf: &[u8]) -> io::Result<usize> {
-        if self.writes_left == 0 {
-            return Err(io::Error::from(ErrorKind::Other));
-        }
-        self.writes_left -= 1;
-        let count = buf.len().min(self.most).min(32 - self.used);
-        self.bytes[self.used..self.used + count].copy_from_slice(&buf[..count]);
-        self.used += count;
-        Ok(count)
-    }
-
-    fn flush(&mut self) -> io::Result<()> {
-        self.flushes = self.flushes.wrapping_add(1);
-        if self.fails_at_flush {
-            return Err(io::Error::from(ErrorKind::Other));
-        }
-        Ok(())
-    }
-}
-
 const BAD_FOOTER: Result<u64, Fault> = Err(Fault::Format("frame CRC mismatch"));
-
-/// The head and two frames of one sample, 5. The last byte ends the second one's guard.
-pub fn stream(last: u8) -> [u8; 64] {
-    let mut bytes = [0; 64];
-    bytes[..26].copy_from_slice(&[
-        0x66, 0x4c, 0x61, 0x43, 0x80, 0x00, 0x00, 0x22, 0x00, 0x10, 0x00, 0x10, 0x00, 0x00, 0x00,
-        0x00, 0x00, 0x00, 0x0a, 0xc4, 0x40, 0x70, 0x00, 0x00, 0x00, 0x01,
-    ]);
-    let frame = [
-        0xff, 0xf8, 0x69, 0x02, 0x00, 0x00, 0x9a, 0x00, 0x05, 0x34, 0x58,
-    ];
-    bytes[42..53].copy_from_slice(&frame);
-    bytes[53..64].copy_from_slice(&frame);
-    bytes[63] = last;
-    bytes
-}
-
-/// The samples of the two frames as bytes.
-pub const FIVES: [u8; 8] = [5, 0, 0, 0, 5, 0, 0, 0];
 
 // What a run ends with and writes.
 fn written(alloc: Global, bytes: &[u8]) -> (Result<u64, Fault>, Vec<u8>) {
@@ -93,7 +22,7 @@ fn written(alloc: Global, bytes: &[u8]) -> (Result<u64, Fault>, Vec<u8>) {
 
 #[test]
 fn into_a_vector(rt: HostRuntime) {
-    let (end, output) = written(rt.alloc(), &stream(0x58));
+    let (end, output) = written(rt.alloc(), &two_frames(0x58));
     assert!(rt; end == Ok(2) && output.as_slice() == FIVES.as_slice());
 }
 
@@ -253,7 +182,7 @@ fn check(
     written: &[u8],
 ) {
     let (most, writes_left) = (sink.most, sink.writes_left);
-    let end = run_into(rt.alloc(), Cursor::new(stream(last)), sink);
+    let end = run_into(rt.alloc(), Cursor::new(two_frames(last)), sink);
     assert!(rt; end == want, "{most} {writes_left}");
     assert!(rt; sink.written() == written, "{most} {writes_left}");
 }
@@ -262,7 +191,7 @@ fn check(
 fn a_byte_a_write(rt: HostRuntime) {
     let mut sink = Sink::new(1, 8, false);
     check(&rt, 0x58, &mut sink, Ok(2), &FIVES);
-    assert!(rt; sink.flushes > 0);
+    assert!(rt; sink.flushes() > 0);
 }
 
 // A write that takes nothing is a failed one too.
@@ -315,12 +244,12 @@ fn failed_flushes(rt: HostRuntime) {
 fn a_fault_after_samples(rt: HostRuntime) {
     let mut sink = Sink::new(32, 9, false);
     check(&rt, 0x59, &mut sink, BAD_FOOTER, &FIVES[..4]);
-    assert!(rt; sink.flushes > 0);
+    assert!(rt; sink.flushes() > 0);
 }
 
 #[test]
 fn each_read_failed(rt: HostRuntime) {
-    let bytes = stream(0x58);
+    let bytes = two_frames(0x58);
     for left in 0..65 {
         let mut sink = Sink::new(32, 9, false);
         let end = run_into(rt.alloc(), FailsOnce::new(&bytes, left), &mut sink);
@@ -348,7 +277,7 @@ fn write_rest<R: Read + Drop>(
 
 #[test]
 fn the_rest_of_a_stream(rt: HostRuntime) -> Result<(), Fail> {
-    let mut flac = FlacReader::new(rt.alloc(), Cursor::new(stream(0x58)))?;
+    let mut flac = FlacReader::new(rt.alloc(), Cursor::new(two_frames(0x58)))?;
     assert!(rt; gives_each(&mut flac, &[Some(5)]));
     let mut sink = Sink::new(32, 9, false);
     assert!(rt; write_rest(rt.alloc(), &mut flac, &mut sink) == Ok(1));

@@ -1,17 +1,9 @@
 //! Runs of the program's calls.
 use claxon::FlacReader;
-use claxon_test_support::answers::{Fault, fault_of};
+use claxon_test_support::answers::{Fault, end_of, fault_of};
 use claxon_write::{Output, run, write_samples};
 use std::alloc::Global;
 use std::io::Cursor;
-
-/// What a run ended with, whatever the cause of an `IoError` is.
-pub fn end_of(outcome: claxon::Result<u64>) -> Result<u64, Fault> {
-    match outcome {
-        Ok(count) => Ok(count),
-        Err(error) => Err(fault_of(&error)),
-    }
-}
 
 // What opening a stream and writing its samples end with.
 fn opened_and_written(alloc: Global, bytes: &[u8], output: &mut Vec<u8>) -> Result<u64, Fault> {

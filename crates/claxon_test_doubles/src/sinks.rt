@@ -1,0 +1,62 @@
+//! A writer with little room that fails.
+ghost use Rattle.std.specs.Prelude.{◌≤◌};
+
+use std::io;
+use std::io::{ErrorKind, Write};
+
+/// A place for a few bytes. It takes so many bytes a call, fails from some write on, and perhaps at each flush.
+#[derive(Drop)]
+pub struct Sink {
+    bytes: [u8; 32],
+    used: usize,
+    most: usize,
+    writes_left: u32,
+    fails_at_flush: bool,
+    flushes: u32,
+    ghost in_bounds: { used ≤ 32 },
+}
+
+impl Sink {
+    /// Takes so many bytes a call, and so many calls.
+    pub const fn new(most: usize, writes_left: u32, fails_at_flush: bool) -> Sink {
+        Sink {
+            bytes: [0; 32],
+            used: 0,
+            most,
+            writes_left,
+            fails_at_flush,
+            flushes: 0,
+        }
+    }
+
+    /// The bytes that it took.
+    pub fn written(&self) -> &[u8] {
+        &self.bytes[..self.used]
+    }
+
+    /// How often it was flushed.
+    pub fn flushes(&self) -> u32 {
+        self.flushes
+    }
+}
+
+impl Write for Sink {
+    fn write(&mut self, buf: &[u8]) -> io::Result<usize> {
+        if self.writes_left == 0 {
+            return Err(io::Error::from(ErrorKind::Other));
+        }
+        self.writes_left -= 1;
+        let count = buf.len().min(self.most).min(32 - self.used);
+        self.bytes[self.used..self.used + count].copy_from_slice(&buf[..count]);
+        self.used += count;
+        Ok(count)
+    }
+
+    fn flush(&mut self) -> io::Result<()> {
+        self.flushes = self.flushes.wrapping_add(1);
+        if self.fails_at_flush {
+            return Err(io::Error::from(ErrorKind::Other));
+        }
+        Ok(())
+    }
+}
