@@ -1,3 +1,5 @@
 pub mod Chunks
+pub mod Converting
+pub mod Ending
 pub mod Interleaved
 pub mod Widths

@@ -1,3 +1,5 @@
+pub mod Convert
+pub mod Progress
 pub mod Samples
 pub mod WaveFile
 pub mod Writer

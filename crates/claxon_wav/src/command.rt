@@ -1,12 +1,15 @@
 //! What the program does for its arguments.
 ghost use Rattle.std.specs.Prelude.{◌≡◌, false};
 ghost use Rattle.claxon.specs.FlacReader.{flac_metadata_only};
+ghost use Rattle.claxon_wav.specs.Convert.{ConvertsAll, ConvertsNotAll, PutsBlocks, StopsAtBlock};
 
 use crate::error::{Error, Result};
 use crate::header::Layout;
 use crate::progress::Progress;
 use crate::writer::WavWriter;
 use claxon::FlacReader;
+use claxon::frame::FrameReader;
+use claxon::input::ReadBytes;
 use std::alloc::Global;
 use std::fs;
 use std::io::{Read, Seek, Write};
@@ -86,33 +89,37 @@ pub fn convert<R: Read + Drop, W: Write + Seek, E: Write>(
     errors: &mut E,
 ) -> Result<()>
     requires { flac_metadata_only flac.old ≡ false }
+    ensures ok { ConvertsAll W.contents W.stream_position R.remaining flac.old result wav.old wav.new }
+    ensures err { ConvertsNotAll R.remaining flac.old result wav.old }
 {
-    let outcome = put_blocks(alloc, flac, wav, progress, errors);
+    let outcome = put_blocks(alloc, flac.blocks(), wav, progress, errors);
     let finished = wav.finish();
     outcome?;
     finished
 }
 
-fn put_blocks<R: Read + Drop, W: Write + Seek, E: Write>(
+// Puts block after block up to the end. Their number is reached by no file, but each loop needs an end.
+fn put_blocks<R: ReadBytes + Drop, W: Write + Seek, E: Write>(
     alloc: Global,
-    flac: &mut FlacReader<R>,
+    blocks: FrameReader<R>,
     wav: &mut WavWriter<W>,
     progress: &mut Progress,
     errors: &mut E,
 ) -> Result<()>
-    requires { flac_metadata_only flac.old ≡ false }
+    ensures ok { PutsBlocks W.contents R.source blocks result wav.old wav.new }
+    ensures err { StopsAtBlock R.source blocks result wav.old }
 {
-    let mut blocks = flac.blocks();
+    let mut reader = blocks;
     let mut buffer = Vec::new(alloc);
     let mut done = 0u64;
     for _ in 0..u64::MAX {
-        let Some(block) = blocks.read_next_or_eof(buffer)? else {
-            break;
+        let Some(block) = reader.read_next_or_eof(buffer)? else {
+            return Ok(());
         };
         wav.put_block(&block)?;
         done = done.saturating_add(u64::from(block.duration()));
         progress.show(done, errors);
         buffer = block.into_buffer();
     }
-    Ok(())
+    Err(Error::TooLong)
 }

@@ -1,6 +1,6 @@
 //! Why there is no whole WAV file.
 ghost use Rattle.std.specs.Prelude.{◌≡◌};
-ghost use Rattle.claxon_input.specs.declared.error.Error.TheVariants.{OutOfMemory};
+ghost use Rattle.claxon_input.specs.declared.error.Error.TheVariants.{IoError, OutOfMemory};
 ghost use Rattle.claxon_wav.specs.declared.error.Error.TheVariants.{Claxon};
 
 use std::alloc::AllocError;
@@ -41,12 +41,16 @@ impl fmt::Display for Error {
 }
 
 impl From<claxon::Error> for Error {
+    ghost from_gives = { λ cause e. e ≡ Claxon cause };
+
     fn from(cause: claxon::Error) -> Error {
         Error::Claxon(cause)
     }
 }
 
 impl From<io::Error> for Error {
+    ghost from_gives = { λ cause e. e ≡ Claxon (IoError cause) };
+
     fn from(cause: io::Error) -> Error {
         Error::Claxon(claxon::Error::IoError(cause))
     }

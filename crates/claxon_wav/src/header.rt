@@ -1,8 +1,8 @@
 //! What stands before the samples of a WAV file.
 ghost use Rattle.std.specs.Prelude.{◌≡◌, ◌≤◌, ◌*◌, ◌++◌, ◌%◌, ◌==◌, ◌||◌, OnOk, length};
 
-use crate::error::Result;
 use claxon::metadata::StreamInfo;
+use std::alloc::AllocError;
 
 // The bytes of samples that a file can hold: the size of all that stands behind its first eight bytes, up to sixty bytes
 // and a pad byte more, has 32 bits.
@@ -108,7 +108,7 @@ impl Layout {
     }
 
     /// Puts all that stands before so many bytes of samples in place of these bytes.
-    pub fn put_header(&self, size: u32, bytes: &mut Vec<u8>) -> Result<()>
+    pub fn put_header(&self, size: u32, bytes: &mut Vec<u8>) -> Result<(), AllocError>
         requires { size ≤ 4294967234 }
         ensures { OnOk result (IsHeader self.now size bytes.new.items) }
     {
@@ -132,7 +132,7 @@ impl Layout {
         if self.is_long() { 40 } else { 16 }
     }
 
-    fn put_format(&self, bytes: &mut Vec<u8>) -> Result<()>
+    fn put_format(&self, bytes: &mut Vec<u8>) -> Result<(), AllocError>
         ensures { OnOk result (bytes.new.items ≡ bytes.old.items ++ format self.now) }
     {
         if !self.is_long() {
@@ -144,7 +144,7 @@ impl Layout {
         Ok(())
     }
 
-    fn put_short_format(&self, code: u16, bytes: &mut Vec<u8>) -> Result<()>
+    fn put_short_format(&self, code: u16, bytes: &mut Vec<u8>) -> Result<(), AllocError>
         ensures { OnOk result (bytes.new.items ≡ bytes.old.items ++ short_format code self.now) }
     {
         let place_size = self.place_size();
@@ -159,7 +159,7 @@ impl Layout {
     }
 
     // What the long format has more: its size, the bits of a sample, the loudspeakers, the code of the samples.
-    fn put_extension(&self, bytes: &mut Vec<u8>) -> Result<()>
+    fn put_extension(&self, bytes: &mut Vec<u8>) -> Result<(), AllocError>
         ensures { OnOk result (bytes.new.items ≡ bytes.old.items ++ extension self.now) }
     {
         bytes.extend_from_slice(&22u16.to_le_bytes())?;

@@ -1,4 +1,7 @@
 //! How far a conversion is.
+ghost use Rattle.std.specs.Prelude.{◌≡◌, None};
+ghost use Rattle.claxon_wav.specs.Progress.{percent_at};
+
 use std::io::Write;
 
 /// A line that tells how much of so many samples is done, and is written again as that changes.
@@ -11,7 +14,10 @@ pub struct Progress {
 
 impl Progress {
     /// A line that wasn't written so far. Without a total none is.
-    pub fn new(total: Option<u64>) -> Progress {
+    pub fn new(total: Option<u64>) -> Progress
+        ensures total { result.total ≡ total }
+        ensures none_shown { result.percent ≡ None }
+    {
         Progress {
             total,
             percent: None,
@@ -19,7 +25,12 @@ impl Progress {
     }
 
     /// Writes the line where the percentage is another one. A failed write changes nothing.
-    pub fn show<E: Write>(&mut self, done: u64, errors: &mut E) {
+    pub fn show<E: Write>(&mut self, done: u64, errors: &mut E)
+        ensures total { self.new.total ≡ self.old.total }
+        ensures percent { self.new.percent ≡ percent_at self.old.total self.old.percent done }
+        // Nothing is written where no line is wanted, or the percentage is the one that was shown last.
+        ensures quiet { self.new.percent ≡ self.old.percent → errors.new ≡ errors.old }
+    {
         let Some(total) = self.total else {
             return;
         };
@@ -31,7 +42,10 @@ impl Progress {
     }
 
     /// Ends the line, if there is one.
-    pub fn end<E: Write>(&mut self, errors: &mut E) {
+    pub fn end<E: Write>(&mut self, errors: &mut E)
+        // Nothing is written where no line was.
+        ensures quiet { self.old.percent ≡ None → errors.new ≡ errors.old }
+    {
         if self.percent.is_some() {
             let _ = writeln!(errors);
         }

@@ -1,5 +1,9 @@
 //! A WAV file that is being written.
-ghost use Rattle.std.specs.Prelude.{◌≡◌, ◌≤◌};
+ghost use Rattle.std.specs.Prelude.{◌≡◌, ◌≤◌, All, IfErr, OnOk};
+ghost use Rattle.std.specs.Io.KnownBytes.{Appends};
+ghost use Rattle.claxon_format.specs.Bits.{FitsIn};
+ghost use Rattle.claxon_format.specs.Streams.{interleave};
+ghost use Rattle.claxon_wav.specs.WaveFile.{pad};
 
 use crate::error::{Error, Result};
 use crate::header::{Layout, MOST_BYTES};
@@ -25,7 +29,7 @@ pub struct WavWriter<W> {
 }
 
 impl<W: Write + Seek> WavWriter<W> {
-    ghost use Rattle.claxon_wav.specs.Writer.{BeginsWithHeader, PutsBlock};
+    ghost use Rattle.claxon_wav.specs.Writer.{BeginsWithHeader, Finishes, IsOutside, MendsHeader, PutsBlock, RefusesBlock, SameHeader};
 
     /// Writes a header for so many bytes of samples. Others may come: `finish` mends it.
     pub fn start(alloc: Global, output: W, layout: Layout, announced: u32) -> Result<WavWriter<W>>
@@ -52,7 +56,10 @@ impl<W: Write + Seek> WavWriter<W> {
     /// Writes the samples of a block.
     pub fn put_block<A: Allocator>(&mut self, block: &Block<A>) -> Result<()>
         ensures ok { PutsBlock W.contents block.now result self.old self.new }
+        ensures fits { OnOk result (All (FitsIn self.old.layout.width) (interleave block.now.channels)) }
+        ensures err { IfErr result (λ error. RefusesBlock block.now error self.old) }
         ensures layout { self.new.layout ≡ self.old.layout }
+        ensures announced { self.new.announced ≡ self.old.announced }
     {
         if block.channels() != self.layout.channels() {
             return Err(Error::OtherChannels);
@@ -70,21 +77,32 @@ impl<W: Write + Seek> WavWriter<W> {
     }
 
     /// Makes a whole file of what was written so far. Where the header was right no seek is made.
-    pub fn finish(&mut self) -> Result<()> {
+    pub fn finish(&mut self) -> Result<()>
+        ensures ok { Finishes W.contents W.stream_position result self.old self.new }
+        ensures err { IfErr result IsOutside }
+    {
         let padded = self.pad();
         let mended = self.mend_header();
         padded?;
         mended
     }
 
-    fn pad(&mut self) -> Result<()> {
+    // A zero behind an odd number of bytes.
+    fn pad(&mut self) -> Result<()>
+        ensures bytes { OnOk result (Appends (W.contents self.old.output) (W.contents self.new.output) (pad self.old.written)) }
+        ensures same { SameHeader self.old self.new }
+        ensures err { IfErr result IsOutside }
+    {
         if self.written % 2 == 1 {
             self.output.write_all(&[0])?;
         }
         Ok(())
     }
 
-    fn mend_header(&mut self) -> Result<()> {
+    fn mend_header(&mut self) -> Result<()>
+        ensures ok { MendsHeader W.contents W.stream_position result self.old self.new }
+        ensures err { IfErr result IsOutside }
+    {
         if self.written != self.announced {
             self.layout.put_header(self.written, &mut self.header)?;
             self.output.seek(SeekFrom::Start(0))?;

@@ -1,0 +1,10 @@
+use Rattle.std.proofs.Common.{◌≡◌}
+use Rattle.claxon_frame.specs.FrameReader.{frame_bytes, frame_stream}
+use Rattle.claxon_wav.proofs.Converting.{PutSoFar}
+use Rattle.claxon_wav.proofs.command.put_blocks.Given as goal
+
+abbrev pub invariant-loop : goal.invariant-loop
+invariant-loop g l = record {
+  stream : frame_stream l.reader ≡ frame_stream l.fn.blocks;
+  so_far : PutSoFar g.W.Write.contents (frame_stream l.fn.blocks) (frame_bytes g.R.ReadBytes.source l.fn.blocks) (frame_bytes g.R.ReadBytes.source l.reader) l.fn.wav l.wav;
+}
