@@ -180,14 +180,6 @@ pub fn after_error<R: Read + Drop>(flac: &mut FlacReader<R>) -> (bool, bool, boo
     (fails, samples.next().is_none(), samples.next().is_none())
 }
 
-/// What the next call for a block of an open stream answers.
-pub fn one_block<R: Read + Drop>(alloc: Global, flac: &mut FlacReader<R>) -> Step {
-    if flac.is_metadata_only() {
-        return Step::End;
-    }
-    next_step(alloc, &mut flac.blocks())
-}
-
 /// What a stream gives, or the fault that keeps it from being opened.
 pub fn run_of<R: Read + Drop, A: Allocator + Copy>(alloc: A, reader: R) -> Result<Run, Fault> {
     match FlacReader::new(alloc, reader) {

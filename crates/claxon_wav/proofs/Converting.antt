@@ -26,7 +26,7 @@ use Rattle.claxon.proofs.SampleRuns.{behind_loan, samples_add}
 use Rattle.claxon_wav.specs.Convert.{ConvertsAll, HoldsFile, PutsSamples, PutsStream, StandsInWay, StopsAt, packed_blocks}
 use Rattle.claxon_wav.specs.Samples.{bytes_of_sample, packed_block, packed_samples, sample_size}
 use Rattle.claxon_wav.specs.WaveFile.{pad}
-use Rattle.claxon_wav.specs.Writer.{Ends, Finishes, IsOutside, RefusesBlock}
+use Rattle.claxon_wav.specs.Writer.{Ends, Finishes, RefusesBlock}
 use Rattle.claxon_wav.specs.declared.error.Error.{Error}
 use Rattle.claxon_wav.specs.declared.error.Error.TheVariants.{Claxon, OtherChannels, SameFile, TooLong, WideSample}
 use Rattle.claxon_wav.specs.declared.header.Layout.{Layout}
@@ -198,12 +198,3 @@ pub not_converted : {R A : Type 0} (remaining : R → Option (List ℕ)) (flac :
 not_converted remaining flac frames layout e input stream stops told =
     let here = behind_loan remaining flac (frame_input frames) input in
     subst (λ (s : Option StreamShape). StandsInWay s layout (flac_bytes remaining flac).coming e) stream (subst (λ (s : List ℕ). StandsInWay (frame_stream frames) layout s e) here.0 (stops (here.1 ∙ told)))
-
--- none of the stream
-pub not_finished : (stream : Option StreamShape) (layout : Layout) (s : State ℕ) (e : Error) → IsOutside e → StopsAt stream layout s e
-not_finished stream layout s (Claxon e) (inl m) told = inl m
-not_finished stream layout s (Claxon e) (inr i) told = inr (inl i)
-not_finished stream layout s TooLong h told = absurd h
-not_finished stream layout s OtherChannels h told = absurd h
-not_finished stream layout s WideSample h told = absurd h
-not_finished stream layout s SameFile h told = absurd h

@@ -4,7 +4,7 @@ use Rattle.std.specs.Prelude.{IfSome, Result, Ok, Err}
 use Rattle.std.specs.Io.KnownBytes.{Appends}
 use Rattle.std.proofs.KnownBytes.{Appends-kept}
 use Rattle.claxon_wav.specs.WaveFile.{pad}
-use Rattle.claxon_wav.specs.Writer.{Ends, Finishes, IsRight, Mends, MendsHeader, SameHeader}
+use Rattle.claxon_wav.specs.Writer.{Ends, Finishes, HeaderIsRight, Mends, MendsHeader, SameHeader}
 use Rattle.claxon_wav.specs.declared.error.Error.{Error}
 use Rattle.claxon_wav.specs.declared.header.Layout.{Layout}
 use Rattle.claxon_wav.specs.declared.writer.WavWriter.{WavWriter}
@@ -15,7 +15,7 @@ at_start (Some place) new n h = h.1 ∙ ap (λ (k : ℕ). Some k) h.0
 
 -- the pad, and then the header
 ends : {W : Type 0} (contents : W → Option (List ℕ)) (position : W → Option ℕ) (old padded new : WavWriter W) → Appends (contents old.output) (contents padded.output) (pad old.written) → SameHeader old padded
-    → Mends contents position padded.layout padded.announced padded.written padded.output new.output × IsRight padded new → Ends contents position old.layout old.announced old.written old.output new.output × IsRight old new
+    → Mends contents position padded.layout padded.announced padded.written padded.output new.output × HeaderIsRight padded new → Ends contents position old.layout old.announced old.written old.output new.output × HeaderIsRight old new
 ends contents position old padded new p same m =
     let k : Mends contents position old.layout old.announced old.written padded.output new.output =
     subst (λ (l : Layout). Mends contents position l old.announced old.written padded.output new.output) same.layout_is

@@ -17,7 +17,7 @@ use Rattle.claxon.specs.SampleRuns.{samples_of}
 use Rattle.claxon.specs.declared.reader.FlacReader.{FlacReader}
 use Rattle.claxon_wav.specs.Samples.{packed_samples}
 use Rattle.claxon_wav.specs.WaveFile.{wave_file}
-use Rattle.claxon_wav.specs.Writer.{Begins, Ends, IsRight}
+use Rattle.claxon_wav.specs.Writer.{Begins, Ends, HeaderIsRight}
 use Rattle.claxon_wav.specs.declared.error.Error.{Error}
 use Rattle.claxon_wav.specs.declared.error.Error.TheVariants.{Claxon, OtherChannels, SameFile, TooLong, WideSample}
 use Rattle.claxon_wav.specs.declared.header.Layout.{Layout}
@@ -90,7 +90,7 @@ pub record Converts {W : Type 0} (contents : W → Option (List ℕ)) (position 
   pub put : WavWriter W
   pub puts : PutsSamples contents blocks old put
   pub ends : Ends contents position put.layout put.announced put.written put.output new.output
-  pub right : IsRight put new
+  pub right : HeaderIsRight put new
   pub file : HoldsFile contents blocks old new
 
 -- An Ok says that what was to come is all converted.

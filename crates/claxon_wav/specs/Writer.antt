@@ -46,7 +46,7 @@ RefusesBlock block error old = IsOutside error
 -- ---- the end
 
 -- The header names as many bytes of samples as were written, and these are as many as before.
-pub record IsRight {W : Type 0} (old new : WavWriter W) : Type 0 where
+pub record HeaderIsRight {W : Type 0} (old new : WavWriter W) : Type 0 where
   pub announced_is : new.announced ≡ old.written
   pub written_is : new.written ≡ old.written
   pub layout_is : new.layout ≡ old.layout
@@ -72,7 +72,7 @@ pub record Mends {W : Type 0} (contents : W → Option (List ℕ)) (position : W
 
 -- An Ok left the right header, or wrote it.
 abbrev pub MendsHeader : {W : Type 0} → (W → Option (List ℕ)) → (W → Option ℕ) → Result (Unit {0}) Error → WavWriter W → WavWriter W → Type 0
-MendsHeader contents position r old new = OnOk r (Mends contents position old.layout old.announced old.written old.output new.output × IsRight old new)
+MendsHeader contents position r old new = OnOk r (Mends contents position old.layout old.announced old.written old.output new.output × HeaderIsRight old new)
 
 -- The pad was written behind all that was written before. Where the header was right the output holds no more than that;
 -- else a right one was written then.
@@ -82,4 +82,4 @@ pub record Ends {W : Type 0} (contents : W → Option (List ℕ)) (position : W 
 
 -- An Ok wrote the pad behind the samples, and the header is right now.
 abbrev pub Finishes : {W : Type 0} → (W → Option (List ℕ)) → (W → Option ℕ) → Result (Unit {0}) Error → WavWriter W → WavWriter W → Type 0
-Finishes contents position r old new = OnOk r (Ends contents position old.layout old.announced old.written old.output new.output × IsRight old new)
+Finishes contents position r old new = OnOk r (Ends contents position old.layout old.announced old.written old.output new.output × HeaderIsRight old new)

@@ -181,10 +181,9 @@ fn check(
     want: Result<u64, Fault>,
     written: &[u8],
 ) {
-    let (most, writes_left) = (sink.most, sink.writes_left);
     let end = run_into(rt.alloc(), Cursor::new(two_frames(last)), sink);
-    assert!(rt; end == want, "{most} {writes_left}");
-    assert!(rt; sink.written() == written, "{most} {writes_left}");
+    assert!(rt; end == want, "{written:?}");
+    assert!(rt; sink.written() == written, "{written:?}");
 }
 
 #[test]
