@@ -145,6 +145,11 @@ pub moved_is : (before sums : List ℤ) → Wide before → Wide sums → map (t
 moved_is (a ∷ b ∷ c ∷ d ∷ []) (e ∷ f ∷ g ∷ h ∷ []) hb hs = rw (to_z-of_z w64 c hb.each.1.1.0, to_z-of_z w64 d hb.each.1.1.1.0, to_z-of_z w64 e hs.each.0, to_z-of_z w64 f hs.each.1.0) refl
 moved_is before sums hb hs = absurd (omega (arith, hb.four, hs.four))
 
+pub moved_wide : (before sums : List ℤ) → Wide before → Wide sums → Wide (map (to_z w64) (pick_l 0 (map (of_z w64) before ++ map (of_z w64) sums) (2 ∷ 3 ∷ 4 ∷ 5 ∷ [])))
+moved_wide (a ∷ b ∷ c ∷ d ∷ []) (e ∷ f ∷ g ∷ h ∷ []) hb hs =
+    subst Wide (sym (moved_is (a ∷ b ∷ c ∷ d ∷ []) (e ∷ f ∷ g ∷ h ∷ []) hb hs)) (record { four = refl; each = (hb.each.1.1.0, (hb.each.1.1.1.0, (hs.each.0, (hs.each.1.0, tt)))) })
+moved_wide before sums hb hs = absurd (omega (arith, hb.four, hs.four))
+
 pub later_is : (before sums ks x js y m r q : List ℤ) → Wide before → Wide sums → Lanes 32768 ks → Lanes 2147483648 x → Lanes 32768 js → Lanes 2147483648 y → m ≡ drop 2 before ++ take 2 sums
     → r ≡ plus_products m (map (to_z w64) (map (of_z w64) ks)) (map (to_z w64) (map (of_z w64) x))
     → q ≡ plus_products (map (to_z w64) (map (of_z w64) r)) (map (to_z w64) (map (of_z w64) js)) (map (to_z w64) (map (of_z w64) y))

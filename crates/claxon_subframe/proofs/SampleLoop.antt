@@ -1,18 +1,23 @@
--- A loop that brings samples back two at a time, with the newest two in variables.
+-- A loop that brings samples back two at a time, with the newest five in variables.
 use Rattle.std.proofs.Common.{◌≡◌, ℕ, ◌+◌, ◌<◌, ◌≤◌, List, [], ◌∷◌, length, take, reverse, get_or, set, refl, sym, ap, subst, ◌∙◌, arith, ℤ, pos, ◌+ℤ◌, to_z, of_z, w32, w64, FitsSigned}
 use Rattle.std.proofs.lemmas.Int.{to_z-of_z, int_wrap_fits, SFits-int_wrap}
 use Rattle.std.proofs.lemmas.List.{take_more, take_more_set, get_or-set_other, length-set, reverse-append}
 use Rattle.claxon_format.specs.Predict.{wrap, linear, restored}
-use Rattle.claxon_subframe.specs.Sums.{but_newest_two, waiting_at, Waits, IsPutUp, IsSample}
+use Rattle.claxon_subframe.specs.Sums.{but_newest_five, waiting_at, Waits, IsPutUp, IsSample, IsFollowed}
+use Rattle.claxon_subframe.specs.declared.subframe.predictor.Five.{Five}
 use Rattle.claxon_subframe.specs.declared.subframe.predictor.Twelve.{Twelve}
 use Rattle.claxon_subframe.proofs.Predictors.{restored_more, restored_all, abs_32}
 use Rattle.claxon_subframe.proofs.Lanes.{small_fits}
-use Rattle.claxon_subframe.proofs.Sums.{one_is, two_is}
+use Rattle.claxon_subframe.proofs.Sums.{AreLast, five_before, one_is, two_is}
 
--- right before i stand these two, the newest last
-pub record EndsIn (xs : List ℤ) (i : ℕ) (second newest : ℤ) : Type 0 where
+-- right before i stand these five
+pub record EndsIn (xs : List ℤ) (i : ℕ) (five : Five) : Type 0 where
   pub rest : List ℤ
-  pub is : reverse (take i xs) ≡ newest ∷ second ∷ rest
+  pub is : reverse (take i xs) ≡ five_before five rest
+
+-- one more of them
+followed_is : (s b : Five) (m : ℤ) (rest : List ℤ) → IsFollowed s m b → five_before b (s.fifth ∷ rest) ≡ m ∷ five_before s rest
+followed_is s b m rest f = rw (f.newest, f.second, f.third, f.fourth, f.fifth) refl
 
 -- one more sample
 past_more : (xs : List ℤ) (i j : ℕ) (x : ℤ) → j ≡ i + 1 → i < length xs → reverse (take j (set xs i x)) ≡ x ∷ reverse (take i xs)
@@ -46,14 +51,29 @@ pub past_two : (xs : List ℤ) (i j k : ℕ) (x y : ℤ) → j ≡ i + 1 → k �
 past_two xs i j k x y ej ek lt = past_more (set xs i x) j k y ek (omega (arith, length-set xs i x)) ∙ ap (λ (l : List ℤ). y ∷ l) (past_more xs i j x ej (omega arith))
 
 -- the same with these in variables
-pub ends_two : (xs : List ℤ) (i j k : ℕ) (x y second newest : ℤ) → j ≡ i + 1 → k ≡ j + 1 → j < length xs → x ≡ second → y ≡ newest → EndsIn (set (set xs i x) j y) k second newest
-ends_two xs i j k x y second newest ej ek lt ex ey = record {
-  rest = reverse (take i xs);
-  is = past_two xs i j k x y ej ek lt ∙ ap (λ (v : ℤ). v ∷ x ∷ reverse (take i xs)) ey ∙ ap (λ (v : ℤ). newest ∷ v ∷ reverse (take i xs)) ex;
+pub ends_two : (xs : List ℤ) (i j k : ℕ) (x y one two : ℤ) (s b n : Five) → j ≡ i + 1 → k ≡ j + 1 → j < length xs → x ≡ one → y ≡ two → IsFollowed s one b → IsFollowed b two n → EndsIn xs i s → EndsIn (set (set xs i x) j y) k n
+ends_two xs i j k x y one two s b n ej ek lt ex ey fb fn past = record {
+  rest = b.fifth ∷ s.fifth ∷ past.rest;
+  is = past_two xs i j k x y ej ek lt ∙ ap (λ (v : ℤ). v ∷ x ∷ reverse (take i xs)) ey ∙ ap (λ (v : ℤ). two ∷ v ∷ reverse (take i xs)) ex ∙ ap (λ (l : List ℤ). two ∷ one ∷ l) past.is
+      ∙ ap (λ (l : List ℤ). two ∷ l) (sym (followed_is s b one past.rest fb)) ∙ sym (followed_is b n two (s.fifth ∷ past.rest) fn);
 }
 
-pub ends_first : (xs : List ℤ) (second newest : ℤ) → 12 ≤ length xs → second ≡ get_or xs 10 (pos 0) → newest ≡ get_or xs 11 (pos 0) → EndsIn xs 12 second newest
-ends_first xs second newest le es en = rw (es, en) (record { rest = reverse (take 10 xs); is = ends_read xs 10 11 12 refl refl (omega arith) })
+-- the first ones are entries of the buffer
+pub record AreRead (xs : List ℤ) (s : Five) : Type 0 where
+  pub fifth : s.fifth ≡ get_or xs 7 (pos 0)
+  pub fourth : s.fourth ≡ get_or xs 8 (pos 0)
+  pub third : s.third ≡ get_or xs 9 (pos 0)
+  pub second : s.second ≡ get_or xs 10 (pos 0)
+  pub newest : s.newest ≡ get_or xs 11 (pos 0)
+
+pub ends_first : (xs : List ℤ) (s : Five) → 12 ≤ length xs → AreRead xs s → EndsIn xs 12 s
+ends_first xs s le h =
+    let more = λ (l : List ℤ). get_or xs 11 (pos 0) ∷ get_or xs 10 (pos 0) ∷ l in
+    record {
+      rest = reverse (take 7 xs);
+      is = rw (h.fifth, h.fourth, h.third, h.second, h.newest)
+          (ends_read xs 10 11 12 refl refl (omega arith) ∙ ap more (ends_read xs 8 9 10 refl refl (omega arith)) ∙ ap (λ (l : List ℤ). more (get_or xs 9 (pos 0) ∷ get_or xs 8 (pos 0) ∷ l)) (past_read xs 7 8 refl (omega arith)));
+    }
 
 -- a sample as a number of 64 bits
 pub as_wide : (x : ℤ) → FitsSigned w32 x → to_z w64 (of_z w64 x) ≡ x
@@ -72,19 +92,21 @@ narrowed x low f e = ap (λ (v : ℤ). to_z w32 (of_z w32 v)) (e ∙ ap wrap (as
 
 -- ---- a place and the one after it
 
-pub one_place : (ts xs : List ℤ) (i : ℕ) (n s r w e b l x : ℤ) (t : ℕ) (sums : Twelve) → length ts ≡ 12 → EndsIn xs i s n → Waits (but_newest_two ts) (reverse (take i xs)) sums
-    → r ≡ get_or xs i (pos 0) → w ≡ get_or sums.old 3 (pos 0) → b ≡ get_or ts 10 (pos 0) → l ≡ get_or ts 11 (pos 0) → IsPutUp w r t e → IsSample e b s l n t x → x ≡ wrap (linear (reverse ts) t (reverse (take i xs)) +ℤ get_or xs i (pos 0))
-one_place ts xs i n s r w e b l x t sums long past waits er ew eb el up is =
-    let there : get_or sums.old 3 (pos 0) ≡ waiting_at (but_newest_two ts) (reverse (take i xs)) 0 = ap (λ (o : List ℤ). get_or o 3 (pos 0)) waits.old in
-    one_is ts past.rest n s r w e b l x t long eb el (ew ∙ there ∙ ap (λ (p : List ℤ). waiting_at (but_newest_two ts) p 0) past.is) up is
-    ∙ ap (λ (v : ℤ). wrap (linear (reverse ts) t (n ∷ s ∷ past.rest) +ℤ v)) er ∙ ap (λ (p : List ℤ). wrap (linear (reverse ts) t p +ℤ get_or xs i (pos 0))) (sym past.is)
+pub one_place : (ts xs : List ℤ) (i : ℕ) (r w e x : ℤ) (c s : Five) (t : ℕ) (sums : Twelve) → length ts ≡ 12 → AreLast ts c → EndsIn xs i s → Waits (but_newest_five ts) (reverse (take i xs)) sums
+    → r ≡ get_or xs i (pos 0) → w ≡ get_or sums.old 3 (pos 0) → IsPutUp w r t e → IsSample e c s t x → x ≡ wrap (linear (reverse ts) t (reverse (take i xs)) +ℤ get_or xs i (pos 0))
+one_place ts xs i r w e x c s t sums long last past waits er ew up is =
+    let there : get_or sums.old 3 (pos 0) ≡ waiting_at (but_newest_five ts) (reverse (take i xs)) 0 = ap (λ (o : List ℤ). get_or o 3 (pos 0)) waits.old in
+    one_is ts past.rest r w e x c s t long last (ew ∙ there ∙ ap (λ (p : List ℤ). waiting_at (but_newest_five ts) p 0) past.is) up is
+    ∙ ap (λ (v : ℤ). wrap (linear (reverse ts) t (five_before s past.rest) +ℤ v)) er ∙ ap (λ (p : List ℤ). wrap (linear (reverse ts) t p +ℤ get_or xs i (pos 0))) (sym past.is)
 
-pub two_place : (ts xs : List ℤ) (i j : ℕ) (m n s r w e b l x : ℤ) (t : ℕ) (sums : Twelve) → length ts ≡ 12 → EndsIn xs i s n → Waits (but_newest_two ts) (reverse (take i xs)) sums
-    → r ≡ get_or xs j (pos 0) → w ≡ get_or sums.old 2 (pos 0) → b ≡ get_or ts 10 (pos 0) → l ≡ get_or ts 11 (pos 0) → IsPutUp w r t e → IsSample e b n l m t x → x ≡ wrap (linear (reverse ts) t (m ∷ reverse (take i xs)) +ℤ get_or xs j (pos 0))
-two_place ts xs i j m n s r w e b l x t sums long past waits er ew eb el up is =
-    let there : get_or sums.old 2 (pos 0) ≡ waiting_at (but_newest_two ts) (reverse (take i xs)) 1 = ap (λ (o : List ℤ). get_or o 2 (pos 0)) waits.old in
-    two_is ts past.rest m n s r w e b l x t long eb el (ew ∙ there ∙ ap (λ (p : List ℤ). waiting_at (but_newest_two ts) p 1) past.is) up is
-    ∙ ap (λ (v : ℤ). wrap (linear (reverse ts) t (m ∷ n ∷ s ∷ past.rest) +ℤ v)) er ∙ ap (λ (p : List ℤ). wrap (linear (reverse ts) t (m ∷ p) +ℤ get_or xs j (pos 0))) (sym past.is)
+pub two_place : (ts xs : List ℤ) (i j : ℕ) (m r w e x : ℤ) (c s b : Five) (t : ℕ) (sums : Twelve) → length ts ≡ 12 → AreLast ts c → EndsIn xs i s → IsFollowed s m b → Waits (but_newest_five ts) (reverse (take i xs)) sums
+    → r ≡ get_or xs j (pos 0) → w ≡ get_or sums.old 2 (pos 0) → IsPutUp w r t e → IsSample e c b t x → x ≡ wrap (linear (reverse ts) t (m ∷ reverse (take i xs)) +ℤ get_or xs j (pos 0))
+two_place ts xs i j m r w e x c s b t sums long last past f waits er ew up is =
+    let there : get_or sums.old 2 (pos 0) ≡ waiting_at (but_newest_five ts) (reverse (take i xs)) 1 = ap (λ (o : List ℤ). get_or o 2 (pos 0)) waits.old in
+    let same : five_before s past.rest ≡ b.second ∷ b.third ∷ b.fourth ∷ b.fifth ∷ s.fifth ∷ past.rest = rw (f.second, f.third, f.fourth, f.fifth) refl in
+    two_is ts past.rest s.fifth r w e x c b t long last (ew ∙ there ∙ ap (λ (p : List ℤ). waiting_at (but_newest_five ts) p 1) (past.is ∙ same)) up is
+    ∙ ap (λ (l : List ℤ). wrap (linear (reverse ts) t l +ℤ r)) (followed_is s b m past.rest f)
+    ∙ ap (λ (v : ℤ). wrap (linear (reverse ts) t (m ∷ five_before s past.rest) +ℤ v)) er ∙ ap (λ (p : List ℤ). wrap (linear (reverse ts) t (m ∷ p) +ℤ get_or xs j (pos 0))) (sym past.is)
 
 -- a last place alone
 pub last_restored : (p : List ℤ → ℤ) (xs whole : List ℤ) (i m : ℕ) (x : ℤ) → m ≡ i → length xs ≡ i + 1 → x ≡ wrap (p (reverse (take i xs)) +ℤ get_or xs i (pos 0)) → restored p i xs ≡ whole → set xs m x ≡ whole

@@ -1,5 +1,5 @@
 -- Sums that wait for their places, and the sample that comes of one.
-use Rattle.std.proofs.Common.{◌≡◌, ℕ, zero, suc, true, false, ltb, ◌+◌, ◌-◌, ◌*◌, ◌/◌, ◌%◌, ◌^◌, ◌<◌, ◌≤◌, inl, inr, List, [], ◌∷◌, length, take, drop, reverse, replicate, get_or, map, refl, sym, ap, subst, ◌∙◌, arith, ℤ, pos, negsuc, neg_ℤ, ◌+ℤ◌, ◌*ℤ◌, of_z, to_z, w32, w64, FitsSigned, unsigned_abs}
+use Rattle.std.proofs.Common.{◌≡◌, ℕ, zero, suc, true, false, ltb, ◌+◌, ◌-◌, ◌*◌, ◌/◌, ◌%◌, ◌^◌, ◌<◌, ◌≤◌, inl, inr, List, [], ◌∷◌, ◌++◌, length, take, drop, reverse, replicate, get_or, get_or-take, map, refl, sym, ap, subst, ◌∙◌, arith, ℤ, pos, negsuc, neg_ℤ, ◌+ℤ◌, ◌*ℤ◌, of_z, to_z, w32, w64, FitsSigned, unsigned_abs}
 use Rattle.std.specs.Int.{int_wrap}
 use Rattle.std.specs.Int.Signed.{shr_z}
 use borrow.Rule.Simd.Lanes.{act2}
@@ -8,7 +8,6 @@ use mir.Syntax.{wrap_add, shl}
 use lib.Lanes.{zip2}
 use Rattle.std.proofs.Math.IntN.{+ℤ_idl, +ℤ_comm, suc_ℤ-*ℤ, *ℤ_comm, zero-*ℤ, *ℤ-zero, *ℤ-negsuc}
 use Rattle.std.proofs.Math.Nat.{div-div-eq-div-mul, mul-div_cancel, suc-mul, pow-le-pow_right}
-use Rattle.std.proofs.Math.Facts.{sfits_to_z}
 use Rattle.std.proofs.lemmas.Bool.{cases_lt, lt-ltb, le-ltb}
 use Rattle.std.proofs.lemmas.Nat.{pow_pos, pow-add, div-mul-add}
 use Rattle.std.proofs.lemmas.Int.{ints, to_z-of_z, int_wrap_fits, int_wrap-add_left, int_wrap-mul_right, SFits-int_wrap}
@@ -16,7 +15,8 @@ use Rattle.std.proofs.lemmas.List.{drop_all, drop_more, drop-drop, get_or_past}
 use Rattle.claxon_format.specs.Predict.{wrap, dot, floor_shift, linear}
 use Rattle.claxon_input.proofs.Wraps.{Rep, rep_add, rep_mul, rep_fits}
 use Rattle.claxon_subframe.specs.Lanes.{AllWithin, Within, Lanes, Wide, wrap_64, two_on}
-use Rattle.claxon_subframe.specs.Sums.{but_newest_two, waiting_at, four_waiting, four_taps, Waits, AreTaps, SmallTaps, WideTwelve, put_up, IsPutUp, IsSample}
+use Rattle.claxon_subframe.specs.Sums.{but_newest_five, waiting_at, four_waiting, four_taps, Waits, AreTaps, SmallTaps, WideTwelve, put_up, IsPutUp, plus_five, IsSample}
+use Rattle.claxon_subframe.specs.declared.subframe.predictor.Five.{Five}
 use Rattle.claxon_subframe.specs.declared.subframe.predictor.Taps.{Taps}
 use Rattle.claxon_subframe.specs.declared.subframe.predictor.Twelve.{Twelve}
 use Rattle.claxon_subframe.proofs.Predictors.{floor_is, abs_32, shifted_fits}
@@ -54,14 +54,31 @@ four_same : {a b c d e f g h : ℤ} → a ≡ e → b ≡ f → c ≡ g → d �
 four_same {a} {b} {c} {d} {e} {f} {g} {h} p q r s =
     ap (λ (v : ℤ). v ∷ b ∷ c ∷ d ∷ []) p ∙ ap (λ (v : ℤ). e ∷ v ∷ c ∷ d ∷ []) q ∙ ap (λ (v : ℤ). e ∷ f ∷ v ∷ d ∷ []) r ∙ ap (λ (v : ℤ). e ∷ f ∷ g ∷ v ∷ []) s
 
-pub two_on_0 : (ks past : List ℤ) (x y : ℤ) → two_on (four_waiting ks past 4) (four_waiting ks past 0) (four_taps ks 1) (replicate 4 x) (four_taps ks 0) (replicate 4 y) ≡ four_waiting ks (y ∷ x ∷ past) 0
-two_on_0 ks past x y = four_same (waiting_two ks past x y 3 4 5 refl refl) (waiting_two ks past x y 2 3 4 refl refl) (waiting_two ks past x y 1 2 3 refl refl) (waiting_two ks past x y 0 1 2 refl refl)
-
 pub two_on_4 : (ks past : List ℤ) (x y : ℤ) → two_on (four_waiting ks past 8) (four_waiting ks past 4) (four_taps ks 5) (replicate 4 x) (four_taps ks 4) (replicate 4 y) ≡ four_waiting ks (y ∷ x ∷ past) 4
 two_on_4 ks past x y = four_same (waiting_two ks past x y 7 8 9 refl refl) (waiting_two ks past x y 6 7 8 refl refl) (waiting_two ks past x y 5 6 7 refl refl) (waiting_two ks past x y 4 5 6 refl refl)
 
 two_on_8 : (ks past : List ℤ) (x y : ℤ) → two_on (four_waiting ks past 12) (four_waiting ks past 8) (four_taps ks 9) (replicate 4 x) (four_taps ks 8) (replicate 4 y) ≡ four_waiting ks (y ∷ x ∷ past) 8
 two_on_8 ks past x y = four_same (waiting_two ks past x y 11 12 13 refl refl) (waiting_two ks past x y 10 11 12 refl refl) (waiting_two ks past x y 9 10 11 refl refl) (waiting_two ks past x y 8 9 10 refl refl)
+
+-- a sum two places on, where both samples are among the newest five of its place
+skipped : (ks past : List ℤ) (x y : ℤ) (j k m : ℕ) → k ≡ j + 1 → m ≡ j + 2 → get_or ks j (pos 0) ≡ pos 0 → get_or ks k (pos 0) ≡ pos 0 → waiting_at ks past m ≡ waiting_at ks (y ∷ x ∷ past) j
+skipped ks past x y j k m ek em ej none =
+    let next : k + 1 ≡ m = omega arith in
+    let nothing : (v : ℤ) (d : ℤ) → pos 0 *ℤ v +ℤ d ≡ d = λ v d. ap (λ (z : ℤ). z +ℤ d) (zero-*ℤ v) ∙ +ℤ_idl d in
+    let one : dot (drop k ks) (x ∷ past) ≡ dot (drop m ks) past
+    = dot_one ks k x past ∙ ap (λ (z : ℤ). z *ℤ x +ℤ dot (drop (k + 1) ks) past) none ∙ nothing x _ ∙ ap (λ (n : ℕ). dot (drop n ks) past) next in
+    let two : dot (drop j ks) (y ∷ x ∷ past) ≡ dot (drop k ks) (x ∷ past)
+    = dot_one ks j y (x ∷ past) ∙ ap (λ (z : ℤ). z *ℤ y +ℤ dot (drop (j + 1) ks) (x ∷ past)) ej ∙ nothing y _ ∙ ap (λ (n : ℕ). dot (drop n ks) (x ∷ past)) (sym ek) in
+    ap wrap_64 (sym (two ∙ one))
+
+front_zero : (ks : List ℤ) (i : ℕ) → i < 5 → take 5 ks ≡ replicate 5 (pos 0) → get_or ks i (pos 0) ≡ get_or (replicate 5 (pos 0)) i (pos 0)
+front_zero ks i lt e = sym (get_or-take 5 ks i (pos 0) lt) ∙ ap (λ (l : List ℤ). get_or l i (pos 0)) e
+
+pub moved_0 : (ks past : List ℤ) (x y : ℤ) → take 5 ks ≡ replicate 5 (pos 0) → drop 2 (four_waiting ks past 4) ++ take 2 (four_waiting ks past 0) ≡ four_waiting ks (y ∷ x ∷ past) 0
+moved_0 ks past x y e =
+    let z = λ (i : ℕ) (lt : i < 5). front_zero ks i lt e in
+    four_same (skipped ks past x y 3 4 5 refl refl (z 3 (omega arith)) (z 4 (omega arith))) (skipped ks past x y 2 3 4 refl refl (z 2 (omega arith)) (z 3 (omega arith)))
+    (skipped ks past x y 1 2 3 refl refl (z 1 (omega arith)) (z 2 (omega arith))) (skipped ks past x y 0 1 2 refl refl (z 0 (omega arith)) (z 1 (omega arith)))
 
 -- ---- nothing waits
 
@@ -134,11 +151,10 @@ older_on ks past x y r e eb es ek eu ej ev =
     let value : r ≡ four_waiting ks (y ∷ x ∷ past) 4 = e ∙ rw (eb, es, ek, eu, ej, ev) (two_on_4 ks past x y) in
     ap as_lanes value ∙ same_wide (waiting_wide ks (y ∷ x ∷ past) 4)
 
-pub old_on : (ks past : List ℤ) (x y : ℤ) {b s k u j v : List ℤ} (r : List ℤ) → r ≡ two_on b s k u j v → b ≡ four_waiting ks past 4 → s ≡ four_waiting ks past 0 → k ≡ four_taps ks 1 → u ≡ replicate 4 x → j ≡ four_taps ks 0 → v ≡ replicate 4 y
-    → as_lanes r ≡ four_waiting ks (y ∷ x ∷ past) 0
-old_on ks past x y r e eb es ek eu ej ev =
-    let value : r ≡ four_waiting ks (y ∷ x ∷ past) 0 = e ∙ rw (eb, es, ek, eu, ej, ev) (two_on_0 ks past x y) in
-    ap as_lanes value ∙ same_wide (waiting_wide ks (y ∷ x ∷ past) 0)
+-- the nearest four, which are only moved
+pub old_on : (ks past : List ℤ) (x y : ℤ) {b s : List ℤ} (r : List ℤ) → take 5 ks ≡ replicate 5 (pos 0) → r ≡ drop 2 b ++ take 2 s → b ≡ four_waiting ks past 4 → s ≡ four_waiting ks past 0
+    → r ≡ four_waiting ks (y ∷ x ∷ past) 0
+old_on ks past x y r zeros e eb es = e ∙ rw (eb, es) (moved_0 ks past x y zeros)
 
 pub none_on : (ks past : List ℤ) (t : List ℤ) → length ks ≡ 12 → t ≡ four_taps ks 8 → t ≡ replicate 4 (pos 0) → replicate 4 (pos 0) ≡ four_waiting ks past 8
 none_on ks past t long et zeros = eight_leave ks past (no_farthest ks long (sym et ∙ zeros))
@@ -226,70 +242,73 @@ times_up : (b : ℤ) (k : ℕ) (s : ℤ) → (b *ℤ pos k) *ℤ s ≡ (b *ℤ s
 times_up b zero s = ap (λ (v : ℤ). v *ℤ s) (*ℤ-zero b) ∙ zero-*ℤ s ∙ sym (*ℤ-zero (b *ℤ s))
 times_up b (suc k) s = ap (λ (v : ℤ). v *ℤ s) (times_more b k) ∙ plus_times_any (b *ℤ pos k) b s ∙ ap (λ (v : ℤ). v +ℤ b *ℤ s) (times_up b k s) ∙ sym (times_more (b *ℤ s) k)
 
-all_up : (z r p q : ℤ) (k c : ℕ) → ((z *ℤ pos k +ℤ r *ℤ pos c) +ℤ p *ℤ pos k) +ℤ q *ℤ pos k ≡ r *ℤ pos c +ℤ ((z +ℤ p) +ℤ q) *ℤ pos k
-all_up z r p q k c =
-    let regroup : (a b d e : ℤ) → ((a +ℤ b) +ℤ d) +ℤ e ≡ b +ℤ ((a +ℤ d) +ℤ e) = λ a b d e. omega (arith, ints) in
-    regroup (z *ℤ pos k) (r *ℤ pos c) (p *ℤ pos k) (q *ℤ pos k) ∙ ap (λ (v : ℤ). r *ℤ pos c +ℤ (v +ℤ q *ℤ pos k)) (sym (plus_times z p k)) ∙ ap (λ (v : ℤ). r *ℤ pos c +ℤ v) (sym (plus_times (z +ℤ p) q k))
+-- one product more
+product_up : (z r b s : ℤ) (k c : ℕ) → (z *ℤ pos k +ℤ r *ℤ pos c) +ℤ (b *ℤ pos k) *ℤ s ≡ (z +ℤ b *ℤ s) *ℤ pos k +ℤ r *ℤ pos c
+product_up z r b s k c =
+    let regroup : (x y w : ℤ) → (x +ℤ y) +ℤ w ≡ (x +ℤ w) +ℤ y = λ x y w. omega (arith, ints) in
+    ap (λ (v : ℤ). (z *ℤ pos k +ℤ r *ℤ pos c) +ℤ v) (times_up b k s) ∙ regroup (z *ℤ pos k) (r *ℤ pos c) ((b *ℤ s) *ℤ pos k)
+    ∙ ap (λ (v : ℤ). v +ℤ r *ℤ pos c) (sym (plus_times z (b *ℤ s) k))
 
 -- the high half of a sum that was put up is the sample
-put_up_is : (z r b s l n : ℤ) (t : ℕ) → t ≤ 15
-    → wrap (shr_z (wrap_64 (((z *ℤ pos (2 ^ (32 - t)) +ℤ r *ℤ pos 4294967296) +ℤ (b *ℤ pos (2 ^ (32 - t))) *ℤ s) +ℤ (l *ℤ pos (2 ^ (32 - t))) *ℤ n)) 4294967296)
-    ≡ wrap (floor_shift ((z +ℤ b *ℤ s) +ℤ l *ℤ n) t +ℤ r)
-put_up_is z r b s l n t ht =
+put_up_is : (a r : ℤ) (t : ℕ) → t ≤ 15 → wrap (shr_z (wrap_64 (a *ℤ pos (2 ^ (32 - t)) +ℤ r *ℤ pos 4294967296)) 4294967296) ≡ wrap (floor_shift a t +ℤ r)
+put_up_is a r t ht =
     let k : ℕ = 2 ^ (32 - t) in
-    let a : ℤ = (z +ℤ b *ℤ s) +ℤ l *ℤ n in
     let back : 32 - t + t ≡ 32 = omega arith in
     let whole : 2 ^ (32 - t) * 2 ^ t ≡ 4294967296 = sym (pow-add 2 (32 - t) t) ∙ ap (λ (e : ℕ). 2 ^ e) back in
-    let products : ((z *ℤ pos k +ℤ r *ℤ pos 4294967296) +ℤ (b *ℤ pos k) *ℤ s) +ℤ (l *ℤ pos k) *ℤ n ≡ r *ℤ pos 4294967296 +ℤ a *ℤ pos k
-    = ap (λ (v : ℤ). ((z *ℤ pos k +ℤ r *ℤ pos 4294967296) +ℤ v) +ℤ (l *ℤ pos k) *ℤ n) (times_up b k s) ∙ ap (λ (v : ℤ). ((z *ℤ pos k +ℤ r *ℤ pos 4294967296) +ℤ (b *ℤ s) *ℤ pos k) +ℤ v) (times_up l k n) ∙ all_up z r (b *ℤ s) (l *ℤ n) k 4294967296 in
     let down : shr_z (a *ℤ pos k) 4294967296 ≡ floor_shift a t
     = ap (λ (m : ℕ). shr_z (a *ℤ pos k) m) (sym whole) ∙ shr_scaled a k (2 ^ t) (pow_pos (32 - t)) ∙ floor_is a t in
-    let high : shr_z (r *ℤ pos 4294967296 +ℤ a *ℤ pos k) 4294967296 ≡ floor_shift a t +ℤ r
-    = shr_more r (a *ℤ pos k) 4294967296 (omega arith) ∙ ap (λ (v : ℤ). r +ℤ v) down ∙ +ℤ_comm r (floor_shift a t) in
-    ap wrap (high_half (((z *ℤ pos k +ℤ r *ℤ pos 4294967296) +ℤ (b *ℤ pos k) *ℤ s) +ℤ (l *ℤ pos k) *ℤ n)) ∙ int_wrap_fits w32 _ (SFits-int_wrap w32 _)
-    ∙ ap (λ (v : ℤ). wrap (shr_z v 4294967296)) products ∙ ap wrap high
+    let high : shr_z (a *ℤ pos k +ℤ r *ℤ pos 4294967296) 4294967296 ≡ floor_shift a t +ℤ r
+    = ap (λ (v : ℤ). shr_z v 4294967296) (+ℤ_comm (a *ℤ pos k) (r *ℤ pos 4294967296)) ∙ shr_more r (a *ℤ pos k) 4294967296 (omega arith) ∙ ap (λ (v : ℤ). r +ℤ v) down ∙ +ℤ_comm r (floor_shift a t) in
+    ap wrap (high_half (a *ℤ pos k +ℤ r *ℤ pos 4294967296)) ∙ int_wrap_fits w32 _ (SFits-int_wrap w32 _) ∙ ap wrap high
 
 -- ---- a place
 
--- the newest two coefficients, and the others
-turned : (ts : List ℤ) → length ts ≡ 12 → reverse ts ≡ get_or ts 11 (pos 0) ∷ get_or ts 10 (pos 0) ∷ drop 2 (reverse ts)
+-- the newest five coefficients, and the others
+turned : (ts : List ℤ) → length ts ≡ 12
+    → reverse ts ≡ get_or ts 11 (pos 0) ∷ get_or ts 10 (pos 0) ∷ get_or ts 9 (pos 0) ∷ get_or ts 8 (pos 0) ∷ get_or ts 7 (pos 0) ∷ drop 5 (reverse ts)
 turned (a ∷ b ∷ c ∷ d ∷ e ∷ f ∷ g ∷ h ∷ i ∷ j ∷ k ∷ l ∷ []) eq = refl
 turned ts eq = absurd (omega arith)
-
-others_wait : (ds rest : List ℤ) (n s : ℤ) → dot (pos 0 ∷ pos 0 ∷ ds) (n ∷ s ∷ rest) ≡ dot ds rest
-others_wait ds rest n s =
-    ap (λ (v : ℤ). v +ℤ (pos 0 *ℤ s +ℤ dot ds rest)) (zero-*ℤ n) ∙ ap (λ (v : ℤ). pos 0 +ℤ (v +ℤ dot ds rest)) (zero-*ℤ s) ∙ +ℤ_idl (pos 0 +ℤ dot ds rest) ∙ +ℤ_idl (dot ds rest)
 
 one_waits : (ds past : List ℤ) (n : ℤ) → dot (pos 0 ∷ ds) (n ∷ past) ≡ dot ds past
 one_waits ds past n = ap (λ (v : ℤ). v +ℤ dot ds past) (zero-*ℤ n) ∙ +ℤ_idl (dot ds past)
 
--- what is predicted from all samples, by the sum over all but the newest two
-two_last : (ts rest : List ℤ) (n s : ℤ) → length ts ≡ 12
-    → (dot (drop 2 (reverse ts)) rest +ℤ get_or ts 10 (pos 0) *ℤ s) +ℤ get_or ts 11 (pos 0) *ℤ n ≡ dot (reverse ts) (n ∷ s ∷ rest)
-two_last ts rest n s e =
-    let regroup : (a b d : ℤ) → (a +ℤ b) +ℤ d ≡ d +ℤ (b +ℤ a) = λ a b d. omega (arith, ints) in
-    regroup (dot (drop 2 (reverse ts)) rest) (get_or ts 10 (pos 0) *ℤ s) (get_or ts 11 (pos 0) *ℤ n) ∙ ap (λ (l : List ℤ). dot l (n ∷ s ∷ rest)) (sym (turned ts e))
+four_wait : (ds rest : List ℤ) (n s t f : ℤ) → dot (pos 0 ∷ pos 0 ∷ pos 0 ∷ pos 0 ∷ ds) (n ∷ s ∷ t ∷ f ∷ rest) ≡ dot ds rest
+four_wait ds rest n s t f = one_waits (pos 0 ∷ pos 0 ∷ pos 0 ∷ ds) (s ∷ t ∷ f ∷ rest) n ∙ one_waits (pos 0 ∷ pos 0 ∷ ds) (t ∷ f ∷ rest) s ∙ one_waits (pos 0 ∷ ds) (f ∷ rest) t ∙ one_waits ds rest f
 
-pub one_is : (ts rest : List ℤ) (n s r w e b l x : ℤ) (t : ℕ) → length ts ≡ 12 → b ≡ get_or ts 10 (pos 0) → l ≡ get_or ts 11 (pos 0) → w ≡ waiting_at (but_newest_two ts) (n ∷ s ∷ rest) 0
-    → IsPutUp w r t e → IsSample e b s l n t x → x ≡ wrap (linear (reverse ts) t (n ∷ s ∷ rest) +ℤ r)
-one_is ts rest n s r w e b l x t long eb el ew up is =
-    let sum : ℤ = dot (drop 2 (reverse ts)) rest in
-    let all : (sum +ℤ b *ℤ s) +ℤ l *ℤ n ≡ dot (reverse ts) (n ∷ s ∷ rest) = ap (λ (v : ℤ). (sum +ℤ v *ℤ s) +ℤ l *ℤ n) eb ∙ ap (λ (v : ℤ). (sum +ℤ get_or ts 10 (pos 0) *ℤ s) +ℤ v *ℤ n) el ∙ two_last ts rest n s long in
-    is sum r (up sum (ew ∙ ap wrap_64 (others_wait (drop 2 (reverse ts)) rest n s))) ∙ ap (λ (v : ℤ). wrap (floor_shift v t +ℤ r)) all
+-- the coefficients of the newest five samples
+pub record AreLast (ts : List ℤ) (c : Five) : Type 0 where
+  pub fifth : c.fifth ≡ get_or ts 7 (pos 0)
+  pub fourth : c.fourth ≡ get_or ts 8 (pos 0)
+  pub third : c.third ≡ get_or ts 9 (pos 0)
+  pub second : c.second ≡ get_or ts 10 (pos 0)
+  pub newest : c.newest ≡ get_or ts 11 (pos 0)
+
+-- five samples, the newest first, and what stands before them
+abbrev pub five_before : Five → List ℤ → List ℤ
+five_before s rest = s.newest ∷ s.second ∷ s.third ∷ s.fourth ∷ s.fifth ∷ rest
+
+-- what is predicted from all samples, by the sum over all but the newest five
+five_last : (ts rest : List ℤ) (c s : Five) → length ts ≡ 12 → AreLast ts c → plus_five (dot (drop 5 (reverse ts)) rest) c s ≡ dot (reverse ts) (five_before s rest)
+five_last ts rest c s long h =
+    let regroup : (a b d e f g : ℤ) → ((((a +ℤ b) +ℤ d) +ℤ e) +ℤ f) +ℤ g ≡ g +ℤ (f +ℤ (e +ℤ (d +ℤ (b +ℤ a)))) = λ a b d e f g. omega (arith, ints) in
+    regroup (dot (drop 5 (reverse ts)) rest) (c.fifth *ℤ s.fifth) (c.fourth *ℤ s.fourth) (c.third *ℤ s.third) (c.second *ℤ s.second) (c.newest *ℤ s.newest)
+    ∙ rw (h.fifth, h.fourth, h.third, h.second, h.newest) (ap (λ (l : List ℤ). dot l (five_before s rest)) (sym (turned ts long)))
+
+pub one_is : (ts rest : List ℤ) (r w e x : ℤ) (c s : Five) (t : ℕ) → length ts ≡ 12 → AreLast ts c → w ≡ waiting_at (but_newest_five ts) (five_before s rest) 0
+    → IsPutUp w r t e → IsSample e c s t x → x ≡ wrap (linear (reverse ts) t (five_before s rest) +ℤ r)
+one_is ts rest r w e x c s t long last ew up is =
+    let sum : ℤ = dot (drop 5 (reverse ts)) rest in
+    let none : dot (but_newest_five ts) (five_before s rest) ≡ sum
+    = four_wait (pos 0 ∷ drop 5 (reverse ts)) (s.fifth ∷ rest) s.newest s.second s.third s.fourth ∙ one_waits (drop 5 (reverse ts)) rest s.fifth in
+    is sum r (up sum (ew ∙ ap wrap_64 none)) ∙ ap (λ (v : ℤ). wrap (floor_shift v t +ℤ r)) (five_last ts rest c s long last)
 
 -- the place after it
-pub two_is : (ts rest : List ℤ) (m n s r w e b l x : ℤ) (t : ℕ) → length ts ≡ 12 → b ≡ get_or ts 10 (pos 0) → l ≡ get_or ts 11 (pos 0) → w ≡ waiting_at (but_newest_two ts) (n ∷ s ∷ rest) 1
-    → IsPutUp w r t e → IsSample e b n l m t x → x ≡ wrap (linear (reverse ts) t (m ∷ n ∷ s ∷ rest) +ℤ r)
-two_is ts rest m n s r w e b l x t long eb el ew up is =
-    let sum : ℤ = dot (drop 2 (reverse ts)) (s ∷ rest) in
-    let all : (sum +ℤ b *ℤ n) +ℤ l *ℤ m ≡ dot (reverse ts) (m ∷ n ∷ s ∷ rest) = ap (λ (v : ℤ). (sum +ℤ v *ℤ n) +ℤ l *ℤ m) eb ∙ ap (λ (v : ℤ). (sum +ℤ get_or ts 10 (pos 0) *ℤ n) +ℤ v *ℤ m) el ∙ two_last ts (s ∷ rest) m n long in
-    is sum r (up sum (ew ∙ ap wrap_64 (one_waits (drop 2 (reverse ts)) (s ∷ rest) n))) ∙ ap (λ (v : ℤ). wrap (floor_shift v t +ℤ r)) all
-
--- what the code computes of a sum that was put up, in 64 bits
-abbrev pub in_64 : ℤ → ℤ → ℤ → ℤ → ℤ → ℕ → ℕ
-in_64 e b s l n t =
-    ((of_z w64 e + ((of_z w64 b * 2 ^ (32 - t) % 18446744073709551616) * of_z w64 s) % 18446744073709551616) % 18446744073709551616
-    + ((of_z w64 l * 2 ^ (32 - t) % 18446744073709551616) * of_z w64 n) % 18446744073709551616) % 18446744073709551616
+pub two_is : (ts rest : List ℤ) (v r w e x : ℤ) (c s : Five) (t : ℕ) → length ts ≡ 12 → AreLast ts c → w ≡ waiting_at (but_newest_five ts) (s.second ∷ s.third ∷ s.fourth ∷ s.fifth ∷ v ∷ rest) 1
+    → IsPutUp w r t e → IsSample e c s t x → x ≡ wrap (linear (reverse ts) t (five_before s (v ∷ rest)) +ℤ r)
+two_is ts rest v r w e x c s t long last ew up is =
+    let sum : ℤ = dot (drop 5 (reverse ts)) (v ∷ rest) in
+    let none = four_wait (drop 5 (reverse ts)) (v ∷ rest) s.second s.third s.fourth s.fifth in
+    is sum r (up sum (ew ∙ ap wrap_64 none)) ∙ ap (λ (d : ℤ). wrap (floor_shift d t +ℤ r)) (five_last ts (v ∷ rest) c s long last)
 
 power_fits : (t : ℕ) → FitsSigned w64 (pos (2 ^ (32 - t)))
 power_fits t =
@@ -297,21 +316,32 @@ power_fits t =
     let power : 2 ^ (32 - t) ≤ 2 ^ 32 = pow-le-pow_right (omega arith) below in
     record { sfits = omega arith }
 
-pub sample_is : (e b s l n z r : ℤ) (t : ℕ) → FitsSigned w64 e → FitsSigned w64 b → FitsSigned w64 s → FitsSigned w64 l → FitsSigned w64 n → t ≤ 15 → e ≡ put_up z r t
-    → to_z w64 (of_z w64 (shr_z (to_z w64 (in_64 e b s l n t)) 4294967296)) ≡ wrap (floor_shift ((z +ℤ b *ℤ s) +ℤ l *ℤ n) t +ℤ r)
-sample_is e b s l n z r t fe fb fs fl fn ht ee =
-    let d : ℤ = ((z *ℤ pos (2 ^ (32 - t)) +ℤ r *ℤ pos 4294967296) +ℤ (b *ℤ pos (2 ^ (32 - t))) *ℤ s) +ℤ (l *ℤ pos (2 ^ (32 - t))) *ℤ n in
+pub product_is : (e b s z r : ℤ) (t : ℕ) → FitsSigned w64 e → FitsSigned w64 b → FitsSigned w64 s → e ≡ put_up z r t
+    → to_z w64 ((of_z w64 e + ((of_z w64 b * 2 ^ (32 - t)) % 18446744073709551616 * of_z w64 s) % 18446744073709551616) % 18446744073709551616) ≡ put_up (z +ℤ b *ℤ s) r t
+product_is e b s z r t fe fb fs ee =
     let rep_k = rep_fits (pos (2 ^ (32 - t))) (power_fits t) in
     let rep_e : Rep w64 (of_z w64 e) (z *ℤ pos (2 ^ (32 - t)) +ℤ r *ℤ pos 4294967296) = record { below = (rep_fits e fe).below; value = to_z-of_z w64 e fe ∙ ee } in
-    let all = rep_add (rep_add rep_e (rep_mul (rep_mul (rep_fits b fb) rep_k) (rep_fits s fs))) (rep_mul (rep_mul (rep_fits l fl) rep_k) (rep_fits n fn)) in
-    let fits : FitsSigned w32 (shr_z (wrap_64 d) 4294967296) = high_fits (wrap_64 d) (SFits-int_wrap w64 d) in
-    let wide : FitsSigned w64 (shr_z (wrap_64 d) 4294967296) = shifted_fits (wrap_64 d) 32 (SFits-int_wrap w64 d) in
-    ap (λ (v : ℤ). to_z w64 (of_z w64 (shr_z v 4294967296))) all.value ∙ to_z-of_z w64 _ wide ∙ sym (int_wrap_fits w32 _ fits) ∙ put_up_is z r b s l n t ht
+    let all = rep_add rep_e (rep_mul (rep_mul (rep_fits b fb) rep_k) (rep_fits s fs)) in
+    all.value ∙ ap wrap_64 (product_up z r b s (2 ^ (32 - t)) 4294967296)
 
-pub sample_fits : (n : ℕ) → n < 18446744073709551616 → FitsSigned w32 (to_z w64 (of_z w64 (shr_z (to_z w64 n) 4294967296)))
-sample_fits n below =
-    let f : FitsSigned w64 (to_z w64 n) = sfits_to_z (record { fits = below }) in
-    subst (FitsSigned w32) (sym (to_z-of_z w64 (shr_z (to_z w64 n) 4294967296) (shifted_fits (to_z w64 n) 32 f))) (high_fits (to_z w64 n) f)
+-- what was put up, as a call gets it
+pub passed : (e z r : ℤ) (t : ℕ) → e ≡ put_up z r t → to_z w64 (of_z w64 e) ≡ put_up z r t
+passed e z r t h = ap (λ (v : ℤ). to_z w64 (of_z w64 v)) h ∙ to_z-of_z w64 _ (SFits-int_wrap w64 _)
+
+-- the same of a product
+pub one_more : {e : ℤ} (b s z r : ℤ) (t : ℕ) → FitsSigned w64 b → FitsSigned w64 s → e ≡ put_up (z +ℤ to_z w64 (of_z w64 b) *ℤ to_z w64 (of_z w64 s)) r t → e ≡ put_up (z +ℤ b *ℤ s) r t
+one_more b s z r t fb fs h = h ∙ rw (to_z-of_z w64 b fb, to_z-of_z w64 s fs) refl
+
+pub sample_is : (e z r : ℤ) (t : ℕ) → t ≤ 15 → e ≡ put_up z r t → to_z w64 (of_z w64 (shr_z (to_z w64 (of_z w64 e)) 4294967296)) ≡ wrap (floor_shift z t +ℤ r)
+sample_is e z r t ht ee =
+    let fits : FitsSigned w64 e = subst (FitsSigned w64) (sym ee) (SFits-int_wrap w64 _) in
+    let d : ℤ = z *ℤ pos (2 ^ (32 - t)) +ℤ r *ℤ pos 4294967296 in
+    let narrow : FitsSigned w32 (shr_z (wrap_64 d) 4294967296) = high_fits (wrap_64 d) (SFits-int_wrap w64 d) in
+    let wide : FitsSigned w64 (shr_z (wrap_64 d) 4294967296) = shifted_fits (wrap_64 d) 32 (SFits-int_wrap w64 d) in
+    ap (λ (v : ℤ). to_z w64 (of_z w64 (shr_z v 4294967296))) (to_z-of_z w64 e fits ∙ ee) ∙ to_z-of_z w64 _ wide ∙ sym (int_wrap_fits w32 _ narrow) ∙ put_up_is z r t ht
+
+pub sample_fits : (e : ℤ) → FitsSigned w64 e → FitsSigned w32 (to_z w64 (of_z w64 (shr_z e 4294967296)))
+sample_fits e f = subst (FitsSigned w32) (sym (to_z-of_z w64 (shr_z e 4294967296) (shifted_fits e 32 f))) (high_fits e f)
 
 -- a lane that is put up
 pub lane_up : (x u r z : ℤ) (t : ℕ) → FitsSigned w64 x → FitsSigned w32 r → t ≤ 15 → u ≡ pos (32 - t) → x ≡ wrap_64 z
@@ -342,13 +372,13 @@ farther_up xs u farther nearest z t h fits ht eu ex = absurd (omega (arith, h.fo
 
 -- ---- the coefficients, as the code makes them of twelve numbers
 
-abbrev pub entry : List ℤ → ℕ → ℤ
+abbrev entry : List ℤ → ℕ → ℤ
 entry ts j = to_z w64 (of_z w64 (get_or ts j (pos 0)))
 
 abbrev as_taps : List ℤ → Taps
 as_taps ts = record {
-  second = record { oldest = pos 0 ∷ entry ts 0 ∷ entry ts 1 ∷ entry ts 2 ∷ []; older = entry ts 3 ∷ entry ts 4 ∷ entry ts 5 ∷ entry ts 6 ∷ []; old = entry ts 7 ∷ entry ts 8 ∷ entry ts 9 ∷ pos 0 ∷ [] };
-  newest = record { oldest = entry ts 0 ∷ entry ts 1 ∷ entry ts 2 ∷ entry ts 3 ∷ []; older = entry ts 4 ∷ entry ts 5 ∷ entry ts 6 ∷ entry ts 7 ∷ []; old = entry ts 8 ∷ entry ts 9 ∷ pos 0 ∷ pos 0 ∷ [] };
+  second = record { oldest = pos 0 ∷ entry ts 0 ∷ entry ts 1 ∷ entry ts 2 ∷ []; older = entry ts 3 ∷ entry ts 4 ∷ entry ts 5 ∷ entry ts 6 ∷ [] };
+  newest = record { oldest = entry ts 0 ∷ entry ts 1 ∷ entry ts 2 ∷ entry ts 3 ∷ []; older = entry ts 4 ∷ entry ts 5 ∷ entry ts 6 ∷ pos 0 ∷ [] };
 }
 
 within_at : (m : ℕ) (xs : List ℤ) (i : ℕ) → AllWithin m xs → unsigned_abs (get_or xs i (pos 0)) ≤ m
@@ -356,28 +386,30 @@ within_at m [] i h = omega arith
 within_at m (x ∷ xs) zero h = h.0
 within_at m (x ∷ xs) (suc i) h = within_at m xs i h.1
 
-pub entry_is : (ts : List ℤ) (j : ℕ) → Within 32768 ts → entry ts j ≡ get_or ts j (pos 0)
+entry_is : (ts : List ℤ) (j : ℕ) → Within 32768 ts → entry ts j ≡ get_or ts j (pos 0)
 entry_is ts j h = to_z-of_z w64 (get_or ts j (pos 0)) (small_fits 32768 (get_or ts j (pos 0)) (omega arith) (within_at 32768 ts j h.each))
+
+pub are_last : (ts : List ℤ) → Within 32768 ts → AreLast ts (record { fifth = entry ts 7; fourth = entry ts 8; third = entry ts 9; second = entry ts 10; newest = entry ts 11 })
+are_last ts h = record { fifth = entry_is ts 7 h; fourth = entry_is ts 8 h; third = entry_is ts 9 h; second = entry_is ts 10 h; newest = entry_is ts 11 h }
 
 entry_small : (ts : List ℤ) (j : ℕ) → Within 32768 ts → unsigned_abs (entry ts j) ≤ 32768
 entry_small ts j h = subst (λ (v : ℤ). unsigned_abs v ≤ 32768) (sym (entry_is ts j h)) (within_at 32768 ts j h.each)
 
-but_newest : (ts : List ℤ) → length ts ≡ 12 → but_newest_two ts ≡ pos 0 ∷ pos 0 ∷ get_or ts 9 (pos 0) ∷ get_or ts 8 (pos 0) ∷ get_or ts 7 (pos 0) ∷ get_or ts 6 (pos 0) ∷ get_or ts 5 (pos 0) ∷ get_or ts 4 (pos 0) ∷ get_or ts 3 (pos 0) ∷ get_or ts 2 (pos 0) ∷ get_or ts 1 (pos 0) ∷ get_or ts 0 (pos 0) ∷ []
+but_newest : (ts : List ℤ) → length ts ≡ 12 → but_newest_five ts ≡ pos 0 ∷ pos 0 ∷ pos 0 ∷ pos 0 ∷ pos 0 ∷ get_or ts 6 (pos 0) ∷ get_or ts 5 (pos 0) ∷ get_or ts 4 (pos 0) ∷ get_or ts 3 (pos 0) ∷ get_or ts 2 (pos 0) ∷ get_or ts 1 (pos 0) ∷ get_or ts 0 (pos 0) ∷ []
 but_newest (a ∷ b ∷ c ∷ d ∷ e ∷ f ∷ g ∷ h ∷ i ∷ j ∷ k ∷ l ∷ []) eq = refl
 but_newest ts eq = absurd (omega arith)
 
-pub taps_value : (ts : List ℤ) → length ts ≡ 12 → Within 32768 ts → AreTaps (but_newest_two ts) (as_taps ts)
+pub taps_value : (ts : List ℤ) → length ts ≡ 12 → Within 32768 ts → AreTaps (but_newest_five ts) (as_taps ts)
 taps_value ts long h =
     let e = λ (j : ℕ). entry_is ts j h in
     rw (but_newest ts long)
     (record {
       twelve = refl;
+      nearest = refl;
       second_oldest = four_same refl (e 0) (e 1) (e 2);
       second_older = four_same (e 3) (e 4) (e 5) (e 6);
-      second_old = four_same (e 7) (e 8) (e 9) refl;
       newest_oldest = four_same (e 0) (e 1) (e 2) (e 3);
-      newest_older = four_same (e 4) (e 5) (e 6) (e 7);
-      newest_old = four_same (e 8) (e 9) refl refl;
+      newest_older = four_same (e 4) (e 5) (e 6) refl;
     })
 
 four_lanes : {a b c d : ℤ} → unsigned_abs a ≤ 32768 → unsigned_abs b ≤ 32768 → unsigned_abs c ≤ 32768 → unsigned_abs d ≤ 32768 → Lanes 32768 (a ∷ b ∷ c ∷ d ∷ [])
@@ -390,13 +422,11 @@ taps_small ts h =
     record {
       second_oldest = four_lanes none (e 0) (e 1) (e 2);
       second_older = four_lanes (e 3) (e 4) (e 5) (e 6);
-      second_old = four_lanes (e 7) (e 8) (e 9) none;
       newest_oldest = four_lanes (e 0) (e 1) (e 2) (e 3);
-      newest_older = four_lanes (e 4) (e 5) (e 6) (e 7);
-      newest_old = four_lanes (e 8) (e 9) none none;
+      newest_older = four_lanes (e 4) (e 5) (e 6) none;
     }
 
 -- at most eight coefficients add nothing to the farthest four places
-pub no_farthest_taps : (ts t : List ℤ) → length ts ≡ 12 → t ≡ four_taps (but_newest_two ts) 8 → take 4 ts ≡ replicate 4 (pos 0) → t ≡ replicate 4 (pos 0)
+pub no_farthest_taps : (ts t : List ℤ) → length ts ≡ 12 → t ≡ four_taps (but_newest_five ts) 8 → take 4 ts ≡ replicate 4 (pos 0) → t ≡ replicate 4 (pos 0)
 no_farthest_taps (a ∷ b ∷ c ∷ d ∷ e ∷ f ∷ g ∷ h ∷ i ∷ j ∷ k ∷ l ∷ []) t eq et zeros = et ∙ zeros
 no_farthest_taps ts t eq et zeros = absurd (omega arith)

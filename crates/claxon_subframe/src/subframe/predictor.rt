@@ -4,7 +4,7 @@ ghost use Rattle.std.specs.Int.{w32};
 ghost use Rattle.claxon_format.specs.Predict.{wrap, dot, fixed, linear, restored};
 ghost use Rattle.claxon_subframe.specs.Predictor.{SamplesCameBack};
 ghost use Rattle.claxon_subframe.specs.Lanes.{Within, Lanes, Wide, plus_products, two_on};
-ghost use Rattle.claxon_subframe.specs.Sums.{but_newest_two, AreTaps, SmallTaps, WideTwelve, WaitsTwoOn, WaitsAfter, IsPutUp, IsSample};
+ghost use Rattle.claxon_subframe.specs.Sums.{but_newest_five, AreTaps, SmallTaps, WideTwelve, WaitsTwoOn, WaitsAfter, IsPutUp, AddsProduct, IsSample, IsFollowed};
 
 use std::simd::prelude::*;
 
@@ -253,30 +253,35 @@ struct Twelve {
     old: i64x4,
 }
 
-// By which coefficients the newer of two samples adds to the sums of the next twelve places, the farthest first, and by
-// which the one before it does. They are 0 where a sample is one of the newest two of a place.
+// By which coefficients a sample adds to the sums of eight places, the farthest first.
+#[derive(Clone, Copy)]
+struct Eight {
+    oldest: i64x4,
+    older: i64x4,
+}
+
+// The coefficients of the newer of two samples for the next twelve places, and those of the one before it. They are 0 where a
+// sample is one of the newest five of a place, so neither adds to the nearest four.
 #[derive(Clone, Copy)]
 struct Taps {
-    second: Twelve,
-    newest: Twelve,
+    second: Eight,
+    newest: Eight,
 }
 
 #[inline(always)]
 fn taps_of(twelve: &[i64; 12]) -> Taps
     requires { Within (2 ^ 15) twelve.now }
-    ensures value { AreTaps (but_newest_two twelve.now) result }
+    ensures value { AreTaps (but_newest_five twelve.now) result }
     ensures small { SmallTaps result }
 {
     Taps {
-        second: Twelve {
+        second: Eight {
             oldest: i64x4::from_array([0, twelve[0], twelve[1], twelve[2]]),
             older: i64x4::from_array([twelve[3], twelve[4], twelve[5], twelve[6]]),
-            old: i64x4::from_array([twelve[7], twelve[8], twelve[9], 0]),
         },
-        newest: Twelve {
+        newest: Eight {
             oldest: i64x4::from_array([twelve[0], twelve[1], twelve[2], twelve[3]]),
-            older: i64x4::from_array([twelve[4], twelve[5], twelve[6], twelve[7]]),
-            old: i64x4::from_array([twelve[8], twelve[9], 0, 0]),
+            older: i64x4::from_array([twelve[4], twelve[5], twelve[6], 0]),
         },
     }
 }
@@ -316,14 +321,7 @@ fn sums_two_on<const ALL: bool>(sums: Twelve, taps: Taps, second: i64, newest: i
             taps.newest.older,
             newest,
         ),
-        old: later_sums(
-            sums.older,
-            sums.old,
-            taps.second.old,
-            second,
-            taps.newest.old,
-            newest,
-        ),
+        old: sums.older.shuffle(sums.old, [2, 3, 4, 5]),
     }
 }
 
@@ -364,26 +362,62 @@ fn put_up(sums: i64x4, nearest: i32, farther: i32, shift: u32) -> (i64, i64)
     (first, second)
 }
 
-// A sample from what was put up for its place and the products of the newest two samples. It is kept in 64 bits, in which it
-// is multiplied next.
+// Five samples, or their coefficients.
+#[derive(Clone, Copy)]
+struct Five {
+    fifth: i64,
+    fourth: i64,
+    third: i64,
+    second: i64,
+    newest: i64,
+}
+
+impl Five {
+    // The newest five with one more.
+    #[inline(always)]
+    fn followed_by(self, sample: i64) -> Five
+        ensures { IsFollowed self sample result }
+    {
+        Five {
+            fifth: self.fourth,
+            fourth: self.third,
+            third: self.second,
+            second: self.newest,
+            newest: sample,
+        }
+    }
+}
+
+// What was put up, and one more product, which is put up too.
 #[inline(always)]
-fn sample_of(early: i64, before: i64, second: i64, last: i64, newest: i64, shift: u32) -> i64
+fn add_product(early: i64, coefficient: i64, sample: i64, shift: u32) -> i64
     requires { shift ≤ 15 }
-    ensures value { IsSample early before second last newest shift result }
+    ensures { AddsProduct early coefficient sample shift result }
+{
+    early.wrapping_add((coefficient << (32 - shift)).wrapping_mul(sample))
+}
+
+// A sample from what was put up for its place and the products of the newest five. It is kept in 64 bits, in which it is
+// multiplied next.
+#[inline(always)]
+fn sample_of(early: i64, coefficients: Five, samples: Five, shift: u32) -> i64
+    requires { shift ≤ 15 }
+    ensures value { IsSample early coefficients samples shift result }
     ensures fits { FitsSigned w32 result }
 {
-    let up = 32 - shift;
-    let sum = early
-        .wrapping_add((before << up).wrapping_mul(second))
-        .wrapping_add((last << up).wrapping_mul(newest));
-    sum >> 32
+    let five = add_product(early, coefficients.fifth, samples.fifth, shift);
+    let four = add_product(five, coefficients.fourth, samples.fourth, shift);
+    let three = add_product(four, coefficients.third, samples.third, shift);
+    let two = add_product(three, coefficients.second, samples.second, shift);
+    add_product(two, coefficients.newest, samples.newest, shift) >> 32
 }
 
 // Places from 12 on, each by its twelve newest samples. Where `ALL` is false the oldest four coefficients are zeros.
 //
 // A sample's products go at once to the sums of later places, two samples at a time, so that sums move by whole halves of
-// a vector. A place waits for the samples before it, so the products of its newest two come last, one by one. The
-// coefficients come by reference and this isn't inlined, so that `narrow` keeps its shifts.
+// a vector. A place waits for the samples before it, so the products of its newest five come last, one by one: those of its
+// newest alone have to be waited for, and no sum that was just made is. The coefficients come by reference and this isn't
+// inlined, so that `narrow` keeps its shifts.
 #[inline(never)]
 fn predict_by_sums<const ALL: bool>(twelve: &[i64; 12], shift: u32, buffer: &mut [i32])
     requires shift { shift ≤ 15 }
@@ -394,27 +428,37 @@ fn predict_by_sums<const ALL: bool>(twelve: &[i64; 12], shift: u32, buffer: &mut
     if buffer.len() <= 12 {
         return;
     }
-    let before = twelve[10];
-    let last = twelve[11];
+    let last = Five {
+        fifth: twelve[7],
+        fourth: twelve[8],
+        third: twelve[9],
+        second: twelve[10],
+        newest: twelve[11],
+    };
     let taps = taps_of(twelve);
     let mut sums = first_sums::<ALL>(taps, &buffer[..12]);
-    let mut second = i64::from(buffer[10]);
-    let mut newest = i64::from(buffer[11]);
+    let mut newest = Five {
+        fifth: i64::from(buffer[7]),
+        fourth: i64::from(buffer[8]),
+        third: i64::from(buffer[9]),
+        second: i64::from(buffer[10]),
+        newest: i64::from(buffer[11]),
+    };
     for pair in 6..buffer.len() / 2 {
         let i = 2 * pair;
         let (nearest, farther) = put_up(sums.old, buffer[i], buffer[i + 1], shift);
-        let one = sample_of(nearest, before, second, last, newest, shift);
-        let two = sample_of(farther, before, newest, last, one, shift);
+        let one = sample_of(nearest, last, newest, shift);
+        let before = newest.followed_by(one);
+        let two = sample_of(farther, last, before, shift);
         buffer[i] = low_bits(one);
         buffer[i + 1] = low_bits(two);
         sums = sums_two_on::<ALL>(sums, taps, one, two);
-        second = one;
-        newest = two;
+        newest = before.followed_by(two);
     }
     // A last place alone.
     if buffer.len() % 2 == 1 {
         let i = buffer.len() - 1;
         let (nearest, _) = put_up(sums.old, buffer[i], 0, shift);
-        buffer[i] = low_bits(sample_of(nearest, before, second, last, newest, shift));
+        buffer[i] = low_bits(sample_of(nearest, last, newest, shift));
     }
 }

@@ -1,6 +1,6 @@
 use Rattle.std.proofs.Common.{◌≡◌, ◌*◌, length, take, reverse}
 use Rattle.claxon_format.specs.Predict.{restored, linear}
-use Rattle.claxon_subframe.specs.Sums.{but_newest_two, Waits}
+use Rattle.claxon_subframe.specs.Sums.{but_newest_five, Waits}
 use Rattle.claxon_subframe.proofs.SampleLoop.{EndsIn}
 use Rattle.claxon_subframe.proofs.subframe.predictor.predict_by_sums.Given as goal
 
@@ -8,6 +8,6 @@ abbrev pub invariant-loop-pair : goal.invariant-loop-pair
 invariant-loop-pair g l = record {
   kept : length l.buffer ≡ length l.fn.buffer;
   same : restored (linear (reverse l.twelve) l.shift) (2 * l.pair) l.buffer ≡ restored (linear (reverse l.twelve) l.shift) 12 l.fn.buffer;
-  past : EndsIn l.buffer (2 * l.pair) l.second l.newest;
-  sums : Waits (but_newest_two l.twelve) (reverse (take (2 * l.pair) l.buffer)) l.sums;
+  past : EndsIn l.buffer (2 * l.pair) l.newest;
+  sums : Waits (but_newest_five l.twelve) (reverse (take (2 * l.pair) l.buffer)) l.sums;
 }

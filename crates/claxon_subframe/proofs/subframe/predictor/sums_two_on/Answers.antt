@@ -1,5 +1,5 @@
 use Rattle.std.proofs.Common.{◌≡◌, refl, arith}
-use Rattle.claxon_subframe.proofs.Lanes.{kept_lanes, kept_wide}
+use Rattle.claxon_subframe.proofs.Lanes.{kept_lanes, kept_wide, moved_is, moved_wide}
 use Rattle.claxon_subframe.proofs.Sums.{oldest_on, older_on, old_on, none_on, zeros_wide, wide_is, sample_lanes, taps_are}
 use Rattle.claxon_subframe.proofs.subframe.predictor.sums_two_on.Goals as goal
 use Rattle.claxon_subframe.proofs.subframe.predictor.sums_two_on.Goals.{then-this-ne0, else-this-ne0}
@@ -25,18 +25,6 @@ later_sums-requires-2-clause-for_second g c = kept_lanes (omega arith) c.require
 pub later_sums-requires-2-clause-for_newest : goal.later_sums-requires-2-clause-for_newest
 later_sums-requires-2-clause-for_newest g c = kept_lanes (omega arith) c.requires.taps.newest_older
 
-pub later_sums-requires-3-clause-before : goal.later_sums-requires-3-clause-before
-later_sums-requires-3-clause-before g c = kept_wide c.requires.sums.older
-
-pub later_sums-requires-3-clause-sums : goal.later_sums-requires-3-clause-sums
-later_sums-requires-3-clause-sums g c = kept_wide c.requires.sums.old
-
-pub later_sums-requires-3-clause-for_second : goal.later_sums-requires-3-clause-for_second
-later_sums-requires-3-clause-for_second g c = kept_lanes (omega arith) c.requires.taps.second_old
-
-pub later_sums-requires-3-clause-for_newest : goal.later_sums-requires-3-clause-for_newest
-later_sums-requires-3-clause-for_newest g c = kept_lanes (omega arith) c.requires.taps.newest_old
-
 pub returns-clause-value : goal.returns-clause-value
 returns-clause-value g c = λ ks past taps waits.
     let second = sample_lanes c.args.second c.spread-second.result c.ranges.second c.spread-second.ensures.lanes c.spread-second.ensures.value in
@@ -52,13 +40,12 @@ returns-clause-value g c = λ ks past taps waits.
       ];
       older = older_on ks past c.args.second c.args.newest c.later_sums-2.result c.later_sums-2.ensures.value (wide_is c.requires.sums.oldest waits.oldest) (wide_is c.requires.sums.older waits.older)
           (taps_are c.requires.taps.second_older taps.second_older) second (taps_are c.requires.taps.newest_older taps.newest_older) newest;
-      old = old_on ks past c.args.second c.args.newest c.later_sums-3.result c.later_sums-3.ensures.value (wide_is c.requires.sums.older waits.older) (wide_is c.requires.sums.old waits.old)
-          (taps_are c.requires.taps.second_old taps.second_old) second (taps_are c.requires.taps.newest_old taps.newest_old) newest;
+      old = old_on ks past c.args.second c.args.newest _ taps.nearest (moved_is c.args.sums.older c.args.sums.old c.requires.sums.older c.requires.sums.old) waits.older waits.old;
     }
 
 pub returns-clause-wide : goal.returns-clause-wide
 returns-clause-wide g c = record {
   oldest = elim c.if-this-ne0.branch [ then-this-ne0 w ↦ rw w.result-is (kept_wide w.later_sums.ensures.wide) | else-this-ne0 w ↦ rw w.result-is zeros_wide ];
   older = kept_wide c.later_sums-2.ensures.wide;
-  old = kept_wide c.later_sums-3.ensures.wide;
+  old = moved_wide c.args.sums.older c.args.sums.old c.requires.sums.older c.requires.sums.old;
 }
