@@ -11,7 +11,7 @@ pub mod WastedBits
 pub mod RestoreLoop
 pub mod Predictors
 pub mod Lanes
-pub mod TwelveCoefficients
+pub mod LastCoefficients
 pub mod Sums
 pub mod SampleLoop
 pub mod ScaledSamples

@@ -5,7 +5,7 @@ use Rattle.std.proofs.lemmas.List.{take_more, take_more_set, get_or-set_other, l
 use Rattle.claxon_format.specs.Predict.{wrap, linear, restored}
 use Rattle.claxon_subframe.specs.Sums.{but_newest_five, waiting_at, Waits, IsPutUp, IsSample, IsFollowed}
 use Rattle.claxon_subframe.specs.declared.subframe.predictor.Five.{Five}
-use Rattle.claxon_subframe.specs.declared.subframe.predictor.Twelve.{Twelve}
+use Rattle.claxon_subframe.specs.declared.subframe.predictor.Sums.{Sums}
 use Rattle.claxon_subframe.proofs.Predictors.{restored_more, restored_all, abs_32}
 use Rattle.claxon_subframe.proofs.Lanes.{small_fits}
 use Rattle.claxon_subframe.proofs.Sums.{AreLast, five_before, one_is, two_is}
@@ -30,7 +30,7 @@ past_read xs i j e lt = ap (λ (n : ℕ). reverse (take n xs)) e ∙ ap reverse 
 pub ends_read : (xs : List ℤ) (i j k : ℕ) → j ≡ i + 1 → k ≡ j + 1 → j < length xs → reverse (take k xs) ≡ get_or xs j (pos 0) ∷ get_or xs i (pos 0) ∷ reverse (take i xs)
 ends_read xs i j k ej ek lt = past_read xs j k ek lt ∙ ap (λ (l : List ℤ). get_or xs j (pos 0) ∷ l) (past_read xs i j ej (omega arith))
 
-pub waits_read : (ks xs : List ℤ) (i j k : ℕ) (x y : ℤ) (sums : Twelve) → x ≡ get_or xs i (pos 0) → y ≡ get_or xs j (pos 0) → j ≡ i + 1 → k ≡ j + 1 → j < length xs
+pub waits_read : (ks xs : List ℤ) (i j k : ℕ) (x y : ℤ) (sums : Sums) → x ≡ get_or xs i (pos 0) → y ≡ get_or xs j (pos 0) → j ≡ i + 1 → k ≡ j + 1 → j < length xs
     → Waits ks (y ∷ x ∷ reverse (take i xs)) sums → Waits ks (reverse (take k xs)) sums
 waits_read ks xs i j k x y sums ex ey ej ek lt w =
     subst (λ (l : List ℤ). Waits ks l sums) (ap (λ (v : ℤ). v ∷ x ∷ reverse (take i xs)) ey ∙ ap (λ (v : ℤ). get_or xs j (pos 0) ∷ v ∷ reverse (take i xs)) ex ∙ sym (ends_read xs i j k ej ek lt)) w
@@ -60,19 +60,19 @@ ends_two xs i j k x y one two s b n ej ek lt ex ey fb fn past = record {
 
 -- the first ones are entries of the buffer
 pub record AreRead (xs : List ℤ) (s : Five) : Type 0 where
-  pub fifth : s.fifth ≡ get_or xs 7 (pos 0)
-  pub fourth : s.fourth ≡ get_or xs 8 (pos 0)
-  pub third : s.third ≡ get_or xs 9 (pos 0)
-  pub second : s.second ≡ get_or xs 10 (pos 0)
-  pub newest : s.newest ≡ get_or xs 11 (pos 0)
+  pub fifth : s.fifth ≡ get_or xs 27 (pos 0)
+  pub fourth : s.fourth ≡ get_or xs 28 (pos 0)
+  pub third : s.third ≡ get_or xs 29 (pos 0)
+  pub second : s.second ≡ get_or xs 30 (pos 0)
+  pub newest : s.newest ≡ get_or xs 31 (pos 0)
 
-pub ends_first : (xs : List ℤ) (s : Five) → 12 ≤ length xs → AreRead xs s → EndsIn xs 12 s
+pub ends_first : (xs : List ℤ) (s : Five) → 32 ≤ length xs → AreRead xs s → EndsIn xs 32 s
 ends_first xs s le h =
-    let more = λ (l : List ℤ). get_or xs 11 (pos 0) ∷ get_or xs 10 (pos 0) ∷ l in
+    let more = λ (l : List ℤ). get_or xs 31 (pos 0) ∷ get_or xs 30 (pos 0) ∷ l in
     record {
-      rest = reverse (take 7 xs);
+      rest = reverse (take 27 xs);
       is = rw (h.fifth, h.fourth, h.third, h.second, h.newest)
-          (ends_read xs 10 11 12 refl refl (omega arith) ∙ ap more (ends_read xs 8 9 10 refl refl (omega arith)) ∙ ap (λ (l : List ℤ). more (get_or xs 9 (pos 0) ∷ get_or xs 8 (pos 0) ∷ l)) (past_read xs 7 8 refl (omega arith)));
+          (ends_read xs 30 31 32 refl refl (omega arith) ∙ ap more (ends_read xs 28 29 30 refl refl (omega arith)) ∙ ap (λ (l : List ℤ). more (get_or xs 29 (pos 0) ∷ get_or xs 28 (pos 0) ∷ l)) (past_read xs 27 28 refl (omega arith)));
     }
 
 -- a sample as a number of 64 bits
@@ -92,17 +92,17 @@ narrowed x low f e = ap (λ (v : ℤ). to_z w32 (of_z w32 v)) (e ∙ ap wrap (as
 
 -- ---- a place and the one after it
 
-pub one_place : (ts xs : List ℤ) (i : ℕ) (r w e x : ℤ) (c s : Five) (t : ℕ) (sums : Twelve) → length ts ≡ 12 → AreLast ts c → EndsIn xs i s → Waits (but_newest_five ts) (reverse (take i xs)) sums
-    → r ≡ get_or xs i (pos 0) → w ≡ get_or sums.old 3 (pos 0) → IsPutUp w r t e → IsSample e c s t x → x ≡ wrap (linear (reverse ts) t (reverse (take i xs)) +ℤ get_or xs i (pos 0))
+pub one_place : (ts xs : List ℤ) (i : ℕ) (r w e x : ℤ) (c s : Five) (t : ℕ) (sums : Sums) → length ts ≡ 32 → AreLast ts c → EndsIn xs i s → Waits (but_newest_five ts) (reverse (take i xs)) sums
+    → r ≡ get_or xs i (pos 0) → w ≡ get_or sums.at_0 3 (pos 0) → IsPutUp w r t e → IsSample e c s t x → x ≡ wrap (linear (reverse ts) t (reverse (take i xs)) +ℤ get_or xs i (pos 0))
 one_place ts xs i r w e x c s t sums long last past waits er ew up is =
-    let there : get_or sums.old 3 (pos 0) ≡ waiting_at (but_newest_five ts) (reverse (take i xs)) 0 = ap (λ (o : List ℤ). get_or o 3 (pos 0)) waits.old in
+    let there : get_or sums.at_0 3 (pos 0) ≡ waiting_at (but_newest_five ts) (reverse (take i xs)) 0 = ap (λ (o : List ℤ). get_or o 3 (pos 0)) waits.at_0 in
     one_is ts past.rest r w e x c s t long last (ew ∙ there ∙ ap (λ (p : List ℤ). waiting_at (but_newest_five ts) p 0) past.is) up is
     ∙ ap (λ (v : ℤ). wrap (linear (reverse ts) t (five_before s past.rest) +ℤ v)) er ∙ ap (λ (p : List ℤ). wrap (linear (reverse ts) t p +ℤ get_or xs i (pos 0))) (sym past.is)
 
-pub two_place : (ts xs : List ℤ) (i j : ℕ) (m r w e x : ℤ) (c s b : Five) (t : ℕ) (sums : Twelve) → length ts ≡ 12 → AreLast ts c → EndsIn xs i s → IsFollowed s m b → Waits (but_newest_five ts) (reverse (take i xs)) sums
-    → r ≡ get_or xs j (pos 0) → w ≡ get_or sums.old 2 (pos 0) → IsPutUp w r t e → IsSample e c b t x → x ≡ wrap (linear (reverse ts) t (m ∷ reverse (take i xs)) +ℤ get_or xs j (pos 0))
+pub two_place : (ts xs : List ℤ) (i j : ℕ) (m r w e x : ℤ) (c s b : Five) (t : ℕ) (sums : Sums) → length ts ≡ 32 → AreLast ts c → EndsIn xs i s → IsFollowed s m b → Waits (but_newest_five ts) (reverse (take i xs)) sums
+    → r ≡ get_or xs j (pos 0) → w ≡ get_or sums.at_0 2 (pos 0) → IsPutUp w r t e → IsSample e c b t x → x ≡ wrap (linear (reverse ts) t (m ∷ reverse (take i xs)) +ℤ get_or xs j (pos 0))
 two_place ts xs i j m r w e x c s b t sums long last past f waits er ew up is =
-    let there : get_or sums.old 2 (pos 0) ≡ waiting_at (but_newest_five ts) (reverse (take i xs)) 1 = ap (λ (o : List ℤ). get_or o 2 (pos 0)) waits.old in
+    let there : get_or sums.at_0 2 (pos 0) ≡ waiting_at (but_newest_five ts) (reverse (take i xs)) 1 = ap (λ (o : List ℤ). get_or o 2 (pos 0)) waits.at_0 in
     let same : five_before s past.rest ≡ b.second ∷ b.third ∷ b.fourth ∷ b.fifth ∷ s.fifth ∷ past.rest = rw (f.second, f.third, f.fourth, f.fifth) refl in
     two_is ts past.rest s.fifth r w e x c b t long last (ew ∙ there ∙ ap (λ (p : List ℤ). waiting_at (but_newest_five ts) p 1) (past.is ∙ same)) up is
     ∙ ap (λ (l : List ℤ). wrap (linear (reverse ts) t l +ℤ r)) (followed_is s b m past.rest f)
@@ -113,5 +113,5 @@ pub last_restored : (p : List ℤ → ℤ) (xs whole : List ℤ) (i m : ℕ) (x 
 last_restored p xs whole i m x em long ex same =
     ap (λ (n : ℕ). set xs n x) em ∙ sym (restored_all p (set xs i x) (i + 1) (omega (arith, length-set xs i x))) ∙ restored_more p xs i x (omega arith) ex ∙ same
 
-pub waits_past : (ks xs : List ℤ) (i j k : ℕ) (x y second newest : ℤ) (sums : Twelve) → j ≡ i + 1 → k ≡ j + 1 → j < length xs → x ≡ second → y ≡ newest → Waits ks (newest ∷ second ∷ reverse (take i xs)) sums → Waits ks (reverse (take k (set (set xs i x) j y))) sums
+pub waits_past : (ks xs : List ℤ) (i j k : ℕ) (x y second newest : ℤ) (sums : Sums) → j ≡ i + 1 → k ≡ j + 1 → j < length xs → x ≡ second → y ≡ newest → Waits ks (newest ∷ second ∷ reverse (take i xs)) sums → Waits ks (reverse (take k (set (set xs i x) j y))) sums
 waits_past ks xs i j k x y second newest sums ej ek lt ex ey w = subst (λ (l : List ℤ). Waits ks l sums) (sym (past_two xs i j k x y ej ek lt ∙ ap (λ (v : ℤ). v ∷ x ∷ reverse (take i xs)) ey ∙ ap (λ (v : ℤ). newest ∷ v ∷ reverse (take i xs)) ex)) w

@@ -1,5 +1,5 @@
 -- Sums that wait for their places, and the sample that comes of one.
-use Rattle.std.proofs.Common.{◌≡◌, ℕ, zero, suc, true, false, ltb, ◌+◌, ◌-◌, ◌*◌, ◌/◌, ◌%◌, ◌^◌, ◌<◌, ◌≤◌, inl, inr, List, [], ◌∷◌, ◌++◌, length, take, drop, reverse, replicate, get_or, get_or-take, map, refl, sym, ap, subst, ◌∙◌, arith, ℤ, pos, negsuc, neg_ℤ, ◌+ℤ◌, ◌*ℤ◌, of_z, to_z, w32, w64, FitsSigned, unsigned_abs}
+use Rattle.std.proofs.Common.{◌≡◌, ℕ, zero, suc, Bool, true, false, ltb, ◌+◌, ◌-◌, ◌*◌, ◌/◌, ◌%◌, ◌^◌, ◌<◌, ◌≤◌, inl, inr, List, [], ◌∷◌, ◌++◌, length, take, drop, reverse, replicate, get_or, get_or-take, map, refl, sym, ap, subst, ◌∙◌, arith, ℤ, pos, negsuc, neg_ℤ, ◌+ℤ◌, ◌*ℤ◌, of_z, to_z, w32, w64, FitsSigned, unsigned_abs}
 use Rattle.std.specs.Int.{int_wrap}
 use Rattle.std.specs.Int.Signed.{shr_z}
 use borrow.Rule.Simd.Lanes.{act2}
@@ -11,14 +11,17 @@ use Rattle.std.proofs.Math.Nat.{div-div-eq-div-mul, mul-div_cancel, suc-mul, pow
 use Rattle.std.proofs.lemmas.Bool.{cases_lt, lt-ltb, le-ltb}
 use Rattle.std.proofs.lemmas.Nat.{pow_pos, pow-add, div-mul-add}
 use Rattle.std.proofs.lemmas.Int.{ints, to_z-of_z, int_wrap_fits, int_wrap-add_left, int_wrap-mul_right, SFits-int_wrap}
-use Rattle.std.proofs.lemmas.List.{drop_all, drop_more, drop-drop, get_or_past}
+use Rattle.std.proofs.lemmas.List.{drop_all, drop_more, drop-drop, drop-replicate, get_or-drop, get_or-reverse, get_or_past, length-drop, length-reverse, reverse-append, take-append-drop}
+use Rattle.std.proofs.Math.Seq.{drop-append_seam}
+use Rattle.claxon_subframe.proofs.LastCoefficients.{reverse_zeros}
 use Rattle.claxon_format.specs.Predict.{wrap, dot, floor_shift, linear}
 use Rattle.claxon_input.proofs.Wraps.{Rep, rep_add, rep_mul, rep_fits}
 use Rattle.claxon_subframe.specs.Lanes.{AllWithin, Within, Lanes, Wide, wrap_64, two_on}
-use Rattle.claxon_subframe.specs.Sums.{but_newest_five, waiting_at, four_waiting, four_taps, Waits, AreTaps, SmallTaps, WideTwelve, put_up, IsPutUp, plus_five, IsSample}
+use Rattle.claxon_subframe.specs.Sums.{but_newest_five, waiting_at, four_waiting, four_taps, Waits, AreTaps, SmallTaps, SmallLater, AreLaterTaps, FitVectors, WideSums, put_up, IsPutUp, plus_five, IsSample}
 use Rattle.claxon_subframe.specs.declared.subframe.predictor.Five.{Five}
 use Rattle.claxon_subframe.specs.declared.subframe.predictor.Taps.{Taps}
-use Rattle.claxon_subframe.specs.declared.subframe.predictor.Twelve.{Twelve}
+use Rattle.claxon_subframe.specs.declared.subframe.predictor.Later.{Later}
+use Rattle.claxon_subframe.specs.declared.subframe.predictor.Sums.{Sums}
 use Rattle.claxon_subframe.proofs.Predictors.{floor_is, abs_32, shifted_fits}
 use Rattle.claxon_subframe.proofs.Lanes.{shr_more, small_fits, dot_behind, same_lanes, same_wide}
 
@@ -54,11 +57,12 @@ four_same : {a b c d e f g h : ℤ} → a ≡ e → b ≡ f → c ≡ g → d �
 four_same {a} {b} {c} {d} {e} {f} {g} {h} p q r s =
     ap (λ (v : ℤ). v ∷ b ∷ c ∷ d ∷ []) p ∙ ap (λ (v : ℤ). e ∷ v ∷ c ∷ d ∷ []) q ∙ ap (λ (v : ℤ). e ∷ f ∷ v ∷ d ∷ []) r ∙ ap (λ (v : ℤ). e ∷ f ∷ g ∷ v ∷ []) s
 
-pub two_on_4 : (ks past : List ℤ) (x y : ℤ) → two_on (four_waiting ks past 8) (four_waiting ks past 4) (four_taps ks 5) (replicate 4 x) (four_taps ks 4) (replicate 4 y) ≡ four_waiting ks (y ∷ x ∷ past) 4
-two_on_4 ks past x y = four_same (waiting_two ks past x y 7 8 9 refl refl) (waiting_two ks past x y 6 7 8 refl refl) (waiting_two ks past x y 5 6 7 refl refl) (waiting_two ks past x y 4 5 6 refl refl)
-
-two_on_8 : (ks past : List ℤ) (x y : ℤ) → two_on (four_waiting ks past 12) (four_waiting ks past 8) (four_taps ks 9) (replicate 4 x) (four_taps ks 8) (replicate 4 y) ≡ four_waiting ks (y ∷ x ∷ past) 8
-two_on_8 ks past x y = four_same (waiting_two ks past x y 11 12 13 refl refl) (waiting_two ks past x y 10 11 12 refl refl) (waiting_two ks past x y 9 10 11 refl refl) (waiting_two ks past x y 8 9 10 refl refl)
+two_on_at : (ks past : List ℤ) (x y : ℤ) (j k m n : ℕ) → m ≡ j + 4 → k ≡ j + 1 → n ≡ j
+    → two_on (four_waiting ks past m) (four_waiting ks past j) (four_taps ks k) (replicate 4 x) (four_taps ks n) (replicate 4 y) ≡ four_waiting ks (y ∷ x ∷ past) j
+two_on_at ks past x y j k m n em ek en =
+    rw (em, ek, en)
+    (four_same (waiting_two ks past x y (j + 3) (j + 1 + 3) (j + 4 + 1) (omega arith) (omega arith)) (waiting_two ks past x y (j + 2) (j + 1 + 2) (j + 4) (omega arith) (omega arith))
+    (waiting_two ks past x y (j + 1) (j + 1 + 1) (j + 3) (omega arith) (omega arith)) (waiting_two ks past x y j (j + 1) (j + 2) (omega arith) (omega arith)))
 
 -- a sum two places on, where both samples are among the newest five of its place
 skipped : (ks past : List ℤ) (x y : ℤ) (j k m : ℕ) → k ≡ j + 1 → m ≡ j + 2 → get_or ks j (pos 0) ≡ pos 0 → get_or ks k (pos 0) ≡ pos 0 → waiting_at ks past m ≡ waiting_at ks (y ∷ x ∷ past) j
@@ -88,13 +92,8 @@ zero_64 = int_wrap_fits w64 (pos 0) (record { sfits = omega arith })
 waits_none : (ks past : List ℤ) (j : ℕ) → length ks ≤ j → waiting_at ks past j ≡ pos 0
 waits_none ks past j le = ap (λ (l : List ℤ). wrap_64 (dot l past)) (drop_all j ks le) ∙ zero_64
 
-none_past : (ks past : List ℤ) → length ks ≡ 12 → four_waiting ks past 12 ≡ replicate 4 (pos 0)
-none_past ks past e = four_same (waits_none ks past 15 (omega arith)) (waits_none ks past 14 (omega arith)) (waits_none ks past 13 (omega arith)) (waits_none ks past 12 (omega arith))
-
--- the farthest four sums, with none behind them
-pub two_on_last : (ks past : List ℤ) (x y : ℤ) → length ks ≡ 12 → two_on (replicate 4 (pos 0)) (four_waiting ks past 8) (four_taps ks 9) (replicate 4 x) (four_taps ks 8) (replicate 4 y) ≡ four_waiting ks (y ∷ x ∷ past) 8
-two_on_last ks past x y e =
-    subst (λ (l : List ℤ). two_on l (four_waiting ks past 8) (four_taps ks 9) (replicate 4 x) (four_taps ks 8) (replicate 4 y) ≡ four_waiting ks (y ∷ x ∷ past) 8) (none_past ks past e) (two_on_8 ks past x y)
+pub none_past : (ks past : List ℤ) → length ks ≡ 32 → replicate 4 (pos 0) ≡ four_waiting ks past 32
+none_past ks past e = sym (four_same (waits_none ks past 35 (omega arith)) (waits_none ks past 34 (omega arith)) (waits_none ks past 33 (omega arith)) (waits_none ks past 32 (omega arith)))
 
 dot_nothing : (ks : List ℤ) → dot ks [] ≡ pos 0
 dot_nothing [] = refl
@@ -110,11 +109,17 @@ nothing_yet ks j = sym (four_same (waits_nothing ks (j + 3)) (waits_nothing ks (
 zeros_wait : (ks past : List ℤ) (n j : ℕ) → drop j ks ≡ replicate n (pos 0) → waiting_at ks past j ≡ pos 0
 zeros_wait ks past n j e = ap (λ (l : List ℤ). wrap_64 (dot l past)) e ∙ ap wrap_64 (dot_behind n [] past) ∙ zero_64
 
--- without coefficients nothing waits for the farthest four places
-eight_leave : (ks past : List ℤ) → drop 8 ks ≡ replicate 4 (pos 0) → replicate 4 (pos 0) ≡ four_waiting ks past 8
-eight_leave ks past zeros =
-    let more = λ (i : ℕ). sym (drop-drop i 8 ks) in
-    sym (four_same (zeros_wait ks past 1 11 (more 3 ∙ ap (drop 3) zeros)) (zeros_wait ks past 2 10 (more 2 ∙ ap (drop 2) zeros)) (zeros_wait ks past 3 9 (more 1 ∙ ap (drop 1) zeros)) (zeros_wait ks past 4 8 zeros))
+-- nothing waits for places that no vector has coefficients for
+zero_behind : (ks past : List ℤ) (v i : ℕ) → 4 * v + 4 ≤ i → FitVectors v ks → waiting_at ks past i ≡ pos 0
+zero_behind ks past v i le fit =
+    let d : ℕ = i - (4 * v + 4) in
+    let there : 4 * v + 4 + d ≡ i = omega arith in
+    zeros_wait ks past (28 - 4 * v - d) i
+    (sym (drop-drop d (4 * v + 4) ks ∙ ap (λ (n : ℕ). drop n ks) there) ∙ ap (drop d) fit ∙ drop-replicate d (28 - 4 * v) (pos 0))
+
+four_behind : (ks past : List ℤ) (v j : ℕ) → 4 * v + 4 ≤ j → FitVectors v ks → replicate 4 (pos 0) ≡ four_waiting ks past j
+four_behind ks past v j le fit =
+    sym (four_same (zero_behind ks past v (j + 3) (omega arith) fit) (zero_behind ks past v (j + 2) (omega arith) fit) (zero_behind ks past v (j + 1) (omega arith) fit) (zero_behind ks past v j le fit))
 
 -- ---- the coefficients
 
@@ -124,40 +129,45 @@ waiting_wide ks past j = record { four = refl; each = (SFits-int_wrap w64 _, (SF
 pub zeros_wide : Wide (replicate 4 (pos 0))
 zeros_wide = record { four = refl; each = (record { sfits = omega arith }, (record { sfits = omega arith }, (record { sfits = omega arith }, (record { sfits = omega arith }, tt)))) }
 
-pub waits_wide : {ks past : List ℤ} {sums : Twelve} → Waits ks past sums → WideTwelve sums
+pub waits_wide : {ks past : List ℤ} {sums : Sums} → Waits ks past sums → WideSums sums
 waits_wide {ks} {past} {sums} w = record {
-  oldest = subst Wide (sym w.oldest) (waiting_wide ks past 8);
-  older = subst Wide (sym w.older) (waiting_wide ks past 4);
-  old = subst Wide (sym w.old) (waiting_wide ks past 0);
+  at_0 = subst Wide (sym w.at_0) (waiting_wide ks past 0);
+  later = record {
+    at_4 = subst Wide (sym w.later.at_4) (waiting_wide ks past 4);
+    at_8 = subst Wide (sym w.later.at_8) (waiting_wide ks past 8);
+    at_12 = subst Wide (sym w.later.at_12) (waiting_wide ks past 12);
+    at_16 = subst Wide (sym w.later.at_16) (waiting_wide ks past 16);
+    at_20 = subst Wide (sym w.later.at_20) (waiting_wide ks past 20);
+    at_24 = subst Wide (sym w.later.at_24) (waiting_wide ks past 24);
+    at_28 = subst Wide (sym w.later.at_28) (waiting_wide ks past 28);
+  };
 }
-
-no_farthest : (ks : List ℤ) → length ks ≡ 12 → four_taps ks 8 ≡ replicate 4 (pos 0) → drop 8 ks ≡ replicate 4 (pos 0)
-no_farthest (a ∷ b ∷ c ∷ d ∷ e ∷ f ∷ g ∷ h ∷ i ∷ j ∷ k ∷ l ∷ []) eq zeros = ap reverse zeros
-no_farthest ks eq zeros = absurd (omega arith)
 
 abbrev as_lanes : List ℤ → List ℤ
 as_lanes xs = map (to_z w64) (map (of_z w64) xs)
 
--- a vector of sums, as a call makes it of the one before it and of itself
-pub oldest_on : (ks past : List ℤ) (x y : ℤ) {b s k u j v : List ℤ} (r : List ℤ) → length ks ≡ 12 → r ≡ two_on b s k u j v → b ≡ replicate 4 (pos 0) → s ≡ four_waiting ks past 8 → k ≡ four_taps ks 9 → u ≡ replicate 4 x → j ≡ four_taps ks 8 → v ≡ replicate 4 y
-    → as_lanes r ≡ four_waiting ks (y ∷ x ∷ past) 8
-oldest_on ks past x y r long e eb es ek eu ej ev =
-    let value : r ≡ four_waiting ks (y ∷ x ∷ past) 8 = e ∙ rw (eb, es, ek, eu, ej, ev) (two_on_last ks past x y long) in
-    ap as_lanes value ∙ same_wide (waiting_wide ks (y ∷ x ∷ past) 8)
+pub few_vectors : (k v j : ℕ) → 4 * k + 4 ≤ j → ltb k v ≡ false → 4 * v + 4 ≤ j
+few_vectors k v j le h =
+    elim (cases_lt k v) [
+      | inl more ↦ (let b : ltb k v ≡ true = lt-ltb k v more in absurd cc)
+      | inr few ↦ omega arith
+    ]
 
-pub older_on : (ks past : List ℤ) (x y : ℤ) {b s k u j v : List ℤ} (r : List ℤ) → r ≡ two_on b s k u j v → b ≡ four_waiting ks past 8 → s ≡ four_waiting ks past 4 → k ≡ four_taps ks 5 → u ≡ replicate 4 x → j ≡ four_taps ks 4 → v ≡ replicate 4 y
-    → as_lanes r ≡ four_waiting ks (y ∷ x ∷ past) 4
-older_on ks past x y r e eb es ek eu ej ev =
-    let value : r ≡ four_waiting ks (y ∷ x ∷ past) 4 = e ∙ rw (eb, es, ek, eu, ej, ev) (two_on_4 ks past x y) in
-    ap as_lanes value ∙ same_wide (waiting_wide ks (y ∷ x ∷ past) 4)
+-- a vector of sums, as a call makes it of the one before it and of itself
+pub later_on : (ks past : List ℤ) (x y : ℤ) (j n m v : ℕ) (has : Bool) {b s k u t w : List ℤ} (r : List ℤ) → m ≡ j + 4 → n ≡ j + 1 → FitVectors v ks → (has ≡ false → 4 * v + 4 ≤ j)
+    → (has ≡ true → r ≡ two_on b s k u t w) → (has ≡ false → r ≡ replicate 4 (pos 0)) → b ≡ four_waiting ks past m → s ≡ four_waiting ks past j → k ≡ four_taps ks n → u ≡ replicate 4 x → t ≡ four_taps ks j → w ≡ replicate 4 y
+    → as_lanes r ≡ four_waiting ks (y ∷ x ∷ past) j
+later_on ks past x y j n m v true r em en fit few e none eb es ek eu et ew =
+    let value : r ≡ four_waiting ks (y ∷ x ∷ past) j = e refl ∙ rw (eb, es, ek, eu, et, ew) (two_on_at ks past x y j n m j em en refl) in
+    ap as_lanes value ∙ same_wide (waiting_wide ks (y ∷ x ∷ past) j)
+later_on ks past x y j n m v false r em en fit few e none eb es ek eu et ew =
+    let value : r ≡ four_waiting ks (y ∷ x ∷ past) j = none refl ∙ four_behind ks (y ∷ x ∷ past) v j (few refl) fit in
+    ap as_lanes value ∙ same_wide (waiting_wide ks (y ∷ x ∷ past) j)
 
 -- the nearest four, which are only moved
 pub old_on : (ks past : List ℤ) (x y : ℤ) {b s : List ℤ} (r : List ℤ) → take 5 ks ≡ replicate 5 (pos 0) → r ≡ drop 2 b ++ take 2 s → b ≡ four_waiting ks past 4 → s ≡ four_waiting ks past 0
     → r ≡ four_waiting ks (y ∷ x ∷ past) 0
 old_on ks past x y r zeros e eb es = e ∙ rw (eb, es) (moved_0 ks past x y zeros)
-
-pub none_on : (ks past : List ℤ) (t : List ℤ) → length ks ≡ 12 → t ≡ four_taps ks 8 → t ≡ replicate 4 (pos 0) → replicate 4 (pos 0) ≡ four_waiting ks past 8
-none_on ks past t long et zeros = eight_leave ks past (no_farthest ks long (sym et ∙ zeros))
 
 -- the same numbers, as a vector has them
 pub wide_is : {xs ys : List ℤ} → Wide xs → xs ≡ ys → as_lanes xs ≡ ys
@@ -264,10 +274,18 @@ put_up_is a r t ht =
 -- ---- a place
 
 -- the newest five coefficients, and the others
-turned : (ts : List ℤ) → length ts ≡ 12
-    → reverse ts ≡ get_or ts 11 (pos 0) ∷ get_or ts 10 (pos 0) ∷ get_or ts 9 (pos 0) ∷ get_or ts 8 (pos 0) ∷ get_or ts 7 (pos 0) ∷ drop 5 (reverse ts)
-turned (a ∷ b ∷ c ∷ d ∷ e ∷ f ∷ g ∷ h ∷ i ∷ j ∷ k ∷ l ∷ []) eq = refl
-turned ts eq = absurd (omega arith)
+five_first : (l : List ℤ) → 5 ≤ length l → l ≡ get_or l 0 (pos 0) ∷ get_or l 1 (pos 0) ∷ get_or l 2 (pos 0) ∷ get_or l 3 (pos 0) ∷ get_or l 4 (pos 0) ∷ drop 5 l
+five_first (a ∷ b ∷ c ∷ d ∷ e ∷ l) le = refl
+five_first l le = absurd (omega arith)
+
+from_last : (ts : List ℤ) (i k : ℕ) → length ts ≡ 32 → i + k ≡ 31 → get_or (reverse ts) i (pos 0) ≡ get_or ts k (pos 0)
+from_last ts i k long e = get_or-reverse ts i (pos 0) (omega arith) ∙ ap (λ (n : ℕ). get_or ts n (pos 0)) (omega arith)
+
+turned : (ts : List ℤ) → length ts ≡ 32
+    → reverse ts ≡ get_or ts 31 (pos 0) ∷ get_or ts 30 (pos 0) ∷ get_or ts 29 (pos 0) ∷ get_or ts 28 (pos 0) ∷ get_or ts 27 (pos 0) ∷ drop 5 (reverse ts)
+turned ts long =
+    five_first (reverse ts) (omega (arith, length-reverse ts))
+    ∙ rw (from_last ts 0 31 long refl, from_last ts 1 30 long refl, from_last ts 2 29 long refl, from_last ts 3 28 long refl, from_last ts 4 27 long refl) refl
 
 one_waits : (ds past : List ℤ) (n : ℤ) → dot (pos 0 ∷ ds) (n ∷ past) ≡ dot ds past
 one_waits ds past n = ap (λ (v : ℤ). v +ℤ dot ds past) (zero-*ℤ n) ∙ +ℤ_idl (dot ds past)
@@ -277,24 +295,24 @@ four_wait ds rest n s t f = one_waits (pos 0 ∷ pos 0 ∷ pos 0 ∷ ds) (s ∷ 
 
 -- the coefficients of the newest five samples
 pub record AreLast (ts : List ℤ) (c : Five) : Type 0 where
-  pub fifth : c.fifth ≡ get_or ts 7 (pos 0)
-  pub fourth : c.fourth ≡ get_or ts 8 (pos 0)
-  pub third : c.third ≡ get_or ts 9 (pos 0)
-  pub second : c.second ≡ get_or ts 10 (pos 0)
-  pub newest : c.newest ≡ get_or ts 11 (pos 0)
+  pub fifth : c.fifth ≡ get_or ts 27 (pos 0)
+  pub fourth : c.fourth ≡ get_or ts 28 (pos 0)
+  pub third : c.third ≡ get_or ts 29 (pos 0)
+  pub second : c.second ≡ get_or ts 30 (pos 0)
+  pub newest : c.newest ≡ get_or ts 31 (pos 0)
 
 -- five samples, the newest first, and what stands before them
 abbrev pub five_before : Five → List ℤ → List ℤ
 five_before s rest = s.newest ∷ s.second ∷ s.third ∷ s.fourth ∷ s.fifth ∷ rest
 
 -- what is predicted from all samples, by the sum over all but the newest five
-five_last : (ts rest : List ℤ) (c s : Five) → length ts ≡ 12 → AreLast ts c → plus_five (dot (drop 5 (reverse ts)) rest) c s ≡ dot (reverse ts) (five_before s rest)
+five_last : (ts rest : List ℤ) (c s : Five) → length ts ≡ 32 → AreLast ts c → plus_five (dot (drop 5 (reverse ts)) rest) c s ≡ dot (reverse ts) (five_before s rest)
 five_last ts rest c s long h =
     let regroup : (a b d e f g : ℤ) → ((((a +ℤ b) +ℤ d) +ℤ e) +ℤ f) +ℤ g ≡ g +ℤ (f +ℤ (e +ℤ (d +ℤ (b +ℤ a)))) = λ a b d e f g. omega (arith, ints) in
     regroup (dot (drop 5 (reverse ts)) rest) (c.fifth *ℤ s.fifth) (c.fourth *ℤ s.fourth) (c.third *ℤ s.third) (c.second *ℤ s.second) (c.newest *ℤ s.newest)
     ∙ rw (h.fifth, h.fourth, h.third, h.second, h.newest) (ap (λ (l : List ℤ). dot l (five_before s rest)) (sym (turned ts long)))
 
-pub one_is : (ts rest : List ℤ) (r w e x : ℤ) (c s : Five) (t : ℕ) → length ts ≡ 12 → AreLast ts c → w ≡ waiting_at (but_newest_five ts) (five_before s rest) 0
+pub one_is : (ts rest : List ℤ) (r w e x : ℤ) (c s : Five) (t : ℕ) → length ts ≡ 32 → AreLast ts c → w ≡ waiting_at (but_newest_five ts) (five_before s rest) 0
     → IsPutUp w r t e → IsSample e c s t x → x ≡ wrap (linear (reverse ts) t (five_before s rest) +ℤ r)
 one_is ts rest r w e x c s t long last ew up is =
     let sum : ℤ = dot (drop 5 (reverse ts)) rest in
@@ -303,7 +321,7 @@ one_is ts rest r w e x c s t long last ew up is =
     is sum r (up sum (ew ∙ ap wrap_64 none)) ∙ ap (λ (v : ℤ). wrap (floor_shift v t +ℤ r)) (five_last ts rest c s long last)
 
 -- the place after it
-pub two_is : (ts rest : List ℤ) (v r w e x : ℤ) (c s : Five) (t : ℕ) → length ts ≡ 12 → AreLast ts c → w ≡ waiting_at (but_newest_five ts) (s.second ∷ s.third ∷ s.fourth ∷ s.fifth ∷ v ∷ rest) 1
+pub two_is : (ts rest : List ℤ) (v r w e x : ℤ) (c s : Five) (t : ℕ) → length ts ≡ 32 → AreLast ts c → w ≡ waiting_at (but_newest_five ts) (s.second ∷ s.third ∷ s.fourth ∷ s.fifth ∷ v ∷ rest) 1
     → IsPutUp w r t e → IsSample e c s t x → x ≡ wrap (linear (reverse ts) t (five_before s (v ∷ rest)) +ℤ r)
 two_is ts rest v r w e x c s t long last ew up is =
     let sum : ℤ = dot (drop 5 (reverse ts)) (v ∷ rest) in
@@ -370,16 +388,19 @@ pub farther_up : (xs : List ℤ) (u farther nearest z : ℤ) (t : ℕ) → Wide 
 farther_up (a ∷ b ∷ c ∷ d ∷ []) u farther nearest z t h fits ht eu ex = lane_up c u farther z t h.each.1.1.0 fits ht eu ex
 farther_up xs u farther nearest z t h fits ht eu ex = absurd (omega (arith, h.four))
 
--- ---- the coefficients, as the code makes them of twelve numbers
+-- ---- the coefficients, as the code makes them of thirty-two numbers
 
 abbrev entry : List ℤ → ℕ → ℤ
 entry ts j = to_z w64 (of_z w64 (get_or ts j (pos 0)))
 
+abbrev second_taps : List ℤ → Later
+second_taps ts = record { at_4 = entry ts 23 ∷ entry ts 24 ∷ entry ts 25 ∷ entry ts 26 ∷ []; at_8 = entry ts 19 ∷ entry ts 20 ∷ entry ts 21 ∷ entry ts 22 ∷ []; at_12 = entry ts 15 ∷ entry ts 16 ∷ entry ts 17 ∷ entry ts 18 ∷ []; at_16 = entry ts 11 ∷ entry ts 12 ∷ entry ts 13 ∷ entry ts 14 ∷ []; at_20 = entry ts 7 ∷ entry ts 8 ∷ entry ts 9 ∷ entry ts 10 ∷ []; at_24 = entry ts 3 ∷ entry ts 4 ∷ entry ts 5 ∷ entry ts 6 ∷ []; at_28 = pos 0 ∷ entry ts 0 ∷ entry ts 1 ∷ entry ts 2 ∷ [] }
+
+abbrev newest_taps : List ℤ → Later
+newest_taps ts = record { at_4 = entry ts 24 ∷ entry ts 25 ∷ entry ts 26 ∷ pos 0 ∷ []; at_8 = entry ts 20 ∷ entry ts 21 ∷ entry ts 22 ∷ entry ts 23 ∷ []; at_12 = entry ts 16 ∷ entry ts 17 ∷ entry ts 18 ∷ entry ts 19 ∷ []; at_16 = entry ts 12 ∷ entry ts 13 ∷ entry ts 14 ∷ entry ts 15 ∷ []; at_20 = entry ts 8 ∷ entry ts 9 ∷ entry ts 10 ∷ entry ts 11 ∷ []; at_24 = entry ts 4 ∷ entry ts 5 ∷ entry ts 6 ∷ entry ts 7 ∷ []; at_28 = entry ts 0 ∷ entry ts 1 ∷ entry ts 2 ∷ entry ts 3 ∷ [] }
+
 abbrev as_taps : List ℤ → Taps
-as_taps ts = record {
-  second = record { oldest = pos 0 ∷ entry ts 0 ∷ entry ts 1 ∷ entry ts 2 ∷ []; older = entry ts 3 ∷ entry ts 4 ∷ entry ts 5 ∷ entry ts 6 ∷ [] };
-  newest = record { oldest = entry ts 0 ∷ entry ts 1 ∷ entry ts 2 ∷ entry ts 3 ∷ []; older = entry ts 4 ∷ entry ts 5 ∷ entry ts 6 ∷ pos 0 ∷ [] };
-}
+as_taps ts = record { second = second_taps ts; newest = newest_taps ts }
 
 within_at : (m : ℕ) (xs : List ℤ) (i : ℕ) → AllWithin m xs → unsigned_abs (get_or xs i (pos 0)) ≤ m
 within_at m [] i h = omega arith
@@ -389,44 +410,73 @@ within_at m (x ∷ xs) (suc i) h = within_at m xs i h.1
 entry_is : (ts : List ℤ) (j : ℕ) → Within 32768 ts → entry ts j ≡ get_or ts j (pos 0)
 entry_is ts j h = to_z-of_z w64 (get_or ts j (pos 0)) (small_fits 32768 (get_or ts j (pos 0)) (omega arith) (within_at 32768 ts j h.each))
 
-pub are_last : (ts : List ℤ) → Within 32768 ts → AreLast ts (record { fifth = entry ts 7; fourth = entry ts 8; third = entry ts 9; second = entry ts 10; newest = entry ts 11 })
-are_last ts h = record { fifth = entry_is ts 7 h; fourth = entry_is ts 8 h; third = entry_is ts 9 h; second = entry_is ts 10 h; newest = entry_is ts 11 h }
+pub are_last : (ts : List ℤ) → Within 32768 ts → AreLast ts (record { fifth = entry ts 27; fourth = entry ts 28; third = entry ts 29; second = entry ts 30; newest = entry ts 31 })
+are_last ts h = record { fifth = entry_is ts 27 h; fourth = entry_is ts 28 h; third = entry_is ts 29 h; second = entry_is ts 30 h; newest = entry_is ts 31 h }
 
 entry_small : (ts : List ℤ) (j : ℕ) → Within 32768 ts → unsigned_abs (entry ts j) ≤ 32768
 entry_small ts j h = subst (λ (v : ℤ). unsigned_abs v ≤ 32768) (sym (entry_is ts j h)) (within_at 32768 ts j h.each)
 
-but_newest : (ts : List ℤ) → length ts ≡ 12 → but_newest_five ts ≡ pos 0 ∷ pos 0 ∷ pos 0 ∷ pos 0 ∷ pos 0 ∷ get_or ts 6 (pos 0) ∷ get_or ts 5 (pos 0) ∷ get_or ts 4 (pos 0) ∷ get_or ts 3 (pos 0) ∷ get_or ts 2 (pos 0) ∷ get_or ts 1 (pos 0) ∷ get_or ts 0 (pos 0) ∷ []
-but_newest (a ∷ b ∷ c ∷ d ∷ e ∷ f ∷ g ∷ h ∷ i ∷ j ∷ k ∷ l ∷ []) eq = refl
-but_newest ts eq = absurd (omega arith)
+kept : (ts : List ℤ) (i k : ℕ) → length ts ≡ 32 → i + k ≡ 26 → get_or (drop 5 (reverse ts)) i (pos 0) ≡ get_or ts k (pos 0)
+kept ts i k long e = get_or-drop 5 (reverse ts) i (pos 0) ∙ from_last ts (5 + i) k long (omega arith)
 
-pub taps_value : (ts : List ℤ) → length ts ≡ 12 → Within 32768 ts → AreTaps (but_newest_five ts) (as_taps ts)
-taps_value ts long h =
-    let e = λ (j : ℕ). entry_is ts j h in
-    rw (but_newest ts long)
-    (record {
-      twelve = refl;
-      nearest = refl;
-      second_oldest = four_same refl (e 0) (e 1) (e 2);
-      second_older = four_same (e 3) (e 4) (e 5) (e 6);
-      newest_oldest = four_same (e 0) (e 1) (e 2) (e 3);
-      newest_older = four_same (e 4) (e 5) (e 6) refl;
-    })
+taps_length : (ts : List ℤ) → length ts ≡ 32 → length (but_newest_five ts) ≡ 32
+taps_length ts long = omega (arith, length-drop 5 (reverse ts), length-reverse ts)
+
+second_value : (ts : List ℤ) → length ts ≡ 32 → Within 32768 ts → AreLaterTaps (but_newest_five ts) 1 (second_taps ts)
+second_value ts long h =
+    let z : (i k : ℕ) → i + k ≡ 26 → entry ts k ≡ get_or (drop 5 (reverse ts)) i (pos 0) = λ i k e. entry_is ts k h ∙ sym (kept ts i k long e) in
+    let past : pos 0 ≡ get_or (drop 5 (reverse ts)) 27 (pos 0) = sym (get_or_past (drop 5 (reverse ts)) 27 (pos 0) (omega (arith, length-drop 5 (reverse ts), length-reverse ts))) in
+    record {
+      at_4 = four_same (z 3 23 refl) (z 2 24 refl) (z 1 25 refl) (z 0 26 refl);
+      at_8 = four_same (z 7 19 refl) (z 6 20 refl) (z 5 21 refl) (z 4 22 refl);
+      at_12 = four_same (z 11 15 refl) (z 10 16 refl) (z 9 17 refl) (z 8 18 refl);
+      at_16 = four_same (z 15 11 refl) (z 14 12 refl) (z 13 13 refl) (z 12 14 refl);
+      at_20 = four_same (z 19 7 refl) (z 18 8 refl) (z 17 9 refl) (z 16 10 refl);
+      at_24 = four_same (z 23 3 refl) (z 22 4 refl) (z 21 5 refl) (z 20 6 refl);
+      at_28 = four_same past (z 26 0 refl) (z 25 1 refl) (z 24 2 refl);
+    }
+
+newest_value : (ts : List ℤ) → length ts ≡ 32 → Within 32768 ts → AreLaterTaps (but_newest_five ts) 0 (newest_taps ts)
+newest_value ts long h =
+    let z : (i k : ℕ) → i + k ≡ 26 → entry ts k ≡ get_or (drop 5 (reverse ts)) i (pos 0) = λ i k e. entry_is ts k h ∙ sym (kept ts i k long e) in
+    record {
+      at_4 = four_same (z 2 24 refl) (z 1 25 refl) (z 0 26 refl) refl;
+      at_8 = four_same (z 6 20 refl) (z 5 21 refl) (z 4 22 refl) (z 3 23 refl);
+      at_12 = four_same (z 10 16 refl) (z 9 17 refl) (z 8 18 refl) (z 7 19 refl);
+      at_16 = four_same (z 14 12 refl) (z 13 13 refl) (z 12 14 refl) (z 11 15 refl);
+      at_20 = four_same (z 18 8 refl) (z 17 9 refl) (z 16 10 refl) (z 15 11 refl);
+      at_24 = four_same (z 22 4 refl) (z 21 5 refl) (z 20 6 refl) (z 19 7 refl);
+      at_28 = four_same (z 26 0 refl) (z 25 1 refl) (z 24 2 refl) (z 23 3 refl);
+    }
+
+pub taps_value : (ts : List ℤ) → length ts ≡ 32 → Within 32768 ts → AreTaps (but_newest_five ts) (as_taps ts)
+taps_value ts long h = record { long = taps_length ts long; nearest = refl; second = second_value ts long h; newest = newest_value ts long h }
 
 four_lanes : {a b c d : ℤ} → unsigned_abs a ≤ 32768 → unsigned_abs b ≤ 32768 → unsigned_abs c ≤ 32768 → unsigned_abs d ≤ 32768 → Lanes 32768 (a ∷ b ∷ c ∷ d ∷ [])
 four_lanes ha hb hc hd = record { four = refl; each = (ha, (hb, (hc, (hd, tt)))) }
 
-pub taps_small : (ts : List ℤ) → Within 32768 ts → SmallTaps (as_taps ts)
-taps_small ts h =
+second_small : (ts : List ℤ) → Within 32768 ts → SmallLater (second_taps ts)
+second_small ts h =
     let e = λ (j : ℕ). entry_small ts j h in
     let none : unsigned_abs (pos 0) ≤ 32768 = omega arith in
-    record {
-      second_oldest = four_lanes none (e 0) (e 1) (e 2);
-      second_older = four_lanes (e 3) (e 4) (e 5) (e 6);
-      newest_oldest = four_lanes (e 0) (e 1) (e 2) (e 3);
-      newest_older = four_lanes (e 4) (e 5) (e 6) none;
-    }
+    record { at_4 = four_lanes (e 23) (e 24) (e 25) (e 26); at_8 = four_lanes (e 19) (e 20) (e 21) (e 22); at_12 = four_lanes (e 15) (e 16) (e 17) (e 18); at_16 = four_lanes (e 11) (e 12) (e 13) (e 14); at_20 = four_lanes (e 7) (e 8) (e 9) (e 10); at_24 = four_lanes (e 3) (e 4) (e 5) (e 6); at_28 = four_lanes none (e 0) (e 1) (e 2) }
 
--- at most eight coefficients add nothing to the farthest four places
-pub no_farthest_taps : (ts t : List ℤ) → length ts ≡ 12 → t ≡ four_taps (but_newest_five ts) 8 → take 4 ts ≡ replicate 4 (pos 0) → t ≡ replicate 4 (pos 0)
-no_farthest_taps (a ∷ b ∷ c ∷ d ∷ e ∷ f ∷ g ∷ h ∷ i ∷ j ∷ k ∷ l ∷ []) t eq et zeros = et ∙ zeros
-no_farthest_taps ts t eq et zeros = absurd (omega arith)
+newest_small : (ts : List ℤ) → Within 32768 ts → SmallLater (newest_taps ts)
+newest_small ts h =
+    let e = λ (j : ℕ). entry_small ts j h in
+    let none : unsigned_abs (pos 0) ≤ 32768 = omega arith in
+    record { at_4 = four_lanes (e 24) (e 25) (e 26) none; at_8 = four_lanes (e 20) (e 21) (e 22) (e 23); at_12 = four_lanes (e 16) (e 17) (e 18) (e 19); at_16 = four_lanes (e 12) (e 13) (e 14) (e 15); at_20 = four_lanes (e 8) (e 9) (e 10) (e 11); at_24 = four_lanes (e 4) (e 5) (e 6) (e 7); at_28 = four_lanes (e 0) (e 1) (e 2) (e 3) }
+
+pub taps_small : (ts : List ℤ) → Within 32768 ts → SmallTaps (as_taps ts)
+taps_small ts h = record { second = second_small ts h; newest = newest_small ts h }
+
+-- zeros before the coefficients leave the farthest places without any
+pub fit_vectors : (ts : List ℤ) (v : ℕ) → length ts ≡ 32 → 1 ≤ v → v ≤ 7 → take (28 - 4 * v) ts ≡ replicate (28 - 4 * v) (pos 0) → FitVectors v (but_newest_five ts)
+fit_vectors ts v long some most zeros =
+    let n : ℕ = 28 - 4 * v in
+    let there : 5 + (4 * v - 1) ≡ 4 * v + 4 = omega arith in
+    let halves : reverse ts ≡ reverse (drop n ts) ++ reverse (take n ts) = ap reverse (sym (take-append-drop n ts)) ∙ reverse-append (take n ts) (drop n ts) in
+    let far : length (reverse (drop n ts)) ≡ 4 * v + 4 = omega (arith, length-reverse (drop n ts), length-drop n ts) in
+    let behind : drop (4 * v + 4) (reverse ts) ≡ reverse (take n ts) = ap (λ (m : ℕ). drop m (reverse ts)) (sym far) ∙ ap (drop (length (reverse (drop n ts)))) halves ∙ drop-append_seam (reverse (drop n ts)) (reverse (take n ts)) in
+    ap (λ (m : ℕ). drop m (but_newest_five ts)) (sym there) ∙ sym (drop-drop (4 * v - 1) 5 (but_newest_five ts)) ∙ drop-drop (4 * v - 1) 5 (reverse ts) ∙ ap (λ (m : ℕ). drop m (reverse ts)) there ∙ behind
+    ∙ ap reverse zeros ∙ reverse_zeros n

@@ -1,10 +1,10 @@
 //! Predictors: samples from their first ones and a residual, in place. All sums are modulo 2^32 in the end.
-ghost use Rattle.std.specs.Prelude.{◌≡◌, ◌+◌, ◌-◌, ◌*◌, ◌^◌, ◌<◌, ◌≤◌, false, ◌++◌, length, take, reverse, replicate, get_or, pos, FitsSigned};
+ghost use Rattle.std.specs.Prelude.{◌≡◌, ◌+◌, ◌-◌, ◌*◌, ◌^◌, ◌<◌, ◌≤◌, true, false, ◌++◌, length, take, reverse, replicate, get_or, pos, FitsSigned};
 ghost use Rattle.std.specs.Int.{w32};
 ghost use Rattle.claxon_format.specs.Predict.{wrap, dot, fixed, linear, restored};
 ghost use Rattle.claxon_subframe.specs.Predictor.{SamplesCameBack};
 ghost use Rattle.claxon_subframe.specs.Lanes.{Within, Lanes, Wide, plus_products, two_on};
-ghost use Rattle.claxon_subframe.specs.Sums.{but_newest_five, AreTaps, SmallTaps, WideTwelve, WaitsTwoOn, WaitsAfter, IsPutUp, AddsProduct, IsSample, IsFollowed};
+ghost use Rattle.claxon_subframe.specs.Sums.{but_newest_five, AreTaps, SmallTaps, WideSums, WaitsTwoOn, WaitsAfterNone, WaitsAfter, IsPutUp, AddsProduct, IsSample, IsFollowed};
 
 use std::simd::prelude::*;
 
@@ -152,12 +152,19 @@ pub fn predict_lpc(coefficients: &mut [i16], shift: u32, buffer: &mut [i32])
 /// The samples of a linear predictor of more than 12 coefficients, from as many samples as it has coefficients, the
 /// oldest first, and the residual after them. (RFC 9639, section 9.2.6.)
 pub fn predict_lpc_high_order(coefficients: &[i16], shift: u32, buffer: &mut [i32])
+    requires many { 13 ≤ length coefficients.now }
     requires few { length coefficients.now ≤ 32 }
     requires warm { length coefficients.now ≤ length buffer.old }
     requires shift { shift ≤ 15 }
     ensures { SamplesCameBack coefficients.now shift buffer.old buffer.new }
 {
-    predict_plain(coefficients, shift, buffer);
+    match coefficients.len() {
+        ..=16 => predict_from_first::<3>(coefficients, shift, buffer),
+        17..=20 => predict_from_first::<4>(coefficients, shift, buffer),
+        21..=24 => predict_from_first::<5>(coefficients, shift, buffer),
+        25..=28 => predict_from_first::<6>(coefficients, shift, buffer),
+        _ => predict_from_first::<7>(coefficients, shift, buffer),
+    }
 }
 
 /// The same of a predictor of at most 12 coefficients.
@@ -167,29 +174,41 @@ pub fn predict_lpc_low_order(coefficients: &[i16], shift: u32, buffer: &mut [i32
     requires shift { shift ≤ 15 }
     ensures { SamplesCameBack coefficients.now shift buffer.old buffer.new }
 {
-    let front = buffer.len().min(12);
-    predict_plain(coefficients, shift, &mut buffer[..front]);
-    let twelve = last_of_twelve(coefficients);
     if coefficients.len() <= 8 {
-        predict_by_sums::<false>(&twelve, shift, buffer);
+        predict_from_first::<1>(coefficients, shift, buffer);
     } else {
-        predict_by_sums::<true>(&twelve, shift, buffer);
+        predict_from_first::<2>(coefficients, shift, buffer);
     }
 }
 
-// The coefficients as the last of twelve numbers, zeros before them.
+// The first 32 places by the plain sum, the others by running sums in `VECTORS` vectors.
 #[inline(always)]
-fn last_of_twelve(coefficients: &[i16]) -> [i64; 12]
-    requires { length coefficients.now ≤ 12 }
-    ensures value { result ≡ replicate (12 - length coefficients.now) (pos 0) ++ coefficients.now }
+fn predict_from_first<const VECTORS: usize>(coefficients: &[i16], shift: u32, buffer: &mut [i32])
+    requires vectors { VECTORS ≤ 7 }
+    requires some { 1 ≤ VECTORS }
+    requires few { length coefficients.now ≤ 4 * VECTORS + 4 }
+    requires warm { length coefficients.now ≤ length buffer.old }
+    requires shift { shift ≤ 15 }
+    ensures { SamplesCameBack coefficients.now shift buffer.old buffer.new }
+{
+    let front = buffer.len().min(32);
+    predict_plain(coefficients, shift, &mut buffer[..front]);
+    predict_by_sums::<VECTORS>(&last_of_many(coefficients), shift, buffer);
+}
+
+// The coefficients as the last of thirty-two numbers, zeros before them.
+#[inline(always)]
+fn last_of_many(coefficients: &[i16]) -> [i64; 32]
+    requires { length coefficients.now ≤ 32 }
+    ensures value { result ≡ replicate (32 - length coefficients.now) (pos 0) ++ coefficients.now }
     ensures small { Within (2 ^ 15) result }
 {
-    let mut twelve = [0i64; 12];
-    let start = 12 - coefficients.len();
+    let mut many = [0i64; 32];
+    let start = 32 - coefficients.len();
     for i in 0..coefficients.len() {
-        twelve[start + i] = i64::from(coefficients[i]);
+        many[start + i] = i64::from(coefficients[i]);
     }
-    twelve
+    many
 }
 
 // The same lanes. That they have 32 bits is seen by the compiler from the shifts, so that it multiplies 32 bits by 32.
@@ -222,9 +241,11 @@ fn add_products(sums: i64x4, coefficients: i64x4, samples: i64x4) -> i64x4
     sums + narrow(coefficients) * samples
 }
 
-// The sums of four places, two places on: the last two lanes before `sums` and its first two, and what two samples add.
+// The sums of four places, two places on: the last two lanes before `sums` and its first two, and what two samples add. Where
+// no coefficient is left for these places, all of that is zeros.
 #[inline(always)]
 fn later_sums(
+    has_taps: bool,
     before: i64x4,
     sums: i64x4,
     for_second: i64x4,
@@ -238,111 +259,189 @@ fn later_sums(
     requires second { Lanes (2 ^ 31) second }
     requires for_newest { Lanes (2 ^ 15) for_newest }
     requires newest { Lanes (2 ^ 31) newest }
-    ensures value { result ≡ two_on before sums for_second second for_newest newest }
+    ensures value { has_taps ≡ true → result ≡ two_on before sums for_second second for_newest newest }
+    ensures zeros { has_taps ≡ false → result ≡ replicate 4 (pos 0) }
     ensures wide { Wide result }
 {
+    if !has_taps {
+        return i64x4::splat(0);
+    }
     let moved = before.shuffle(sums, [2, 3, 4, 5]);
     add_products(add_products(moved, for_second, second), for_newest, newest)
 }
 
-// Twelve numbers in three vectors of four lanes.
+// Four numbers for each four places from the fifth on, the farthest of the four first.
 #[derive(Clone, Copy)]
-struct Twelve {
-    oldest: i64x4,
-    older: i64x4,
-    old: i64x4,
+struct Later {
+    at_4: i64x4,
+    at_8: i64x4,
+    at_12: i64x4,
+    at_16: i64x4,
+    at_20: i64x4,
+    at_24: i64x4,
+    at_28: i64x4,
 }
 
-// By which coefficients a sample adds to the sums of eight places, the farthest first.
+// The sums that wait for the next 32 places.
 #[derive(Clone, Copy)]
-struct Eight {
-    oldest: i64x4,
-    older: i64x4,
+struct Sums {
+    at_0: i64x4,
+    later: Later,
 }
 
-// The coefficients of the newer of two samples for the next twelve places, and those of the one before it. They are 0 where a
-// sample is one of the newest five of a place, so neither adds to the nearest four.
+// The coefficients of the newer of two samples for these places, and those of the one before it. They are 0 where a sample
+// is one of the newest five of a place, so neither adds to the nearest four.
 #[derive(Clone, Copy)]
 struct Taps {
-    second: Eight,
-    newest: Eight,
+    second: Later,
+    newest: Later,
 }
 
 #[inline(always)]
-fn taps_of(twelve: &[i64; 12]) -> Taps
-    requires { Within (2 ^ 15) twelve.now }
-    ensures value { AreTaps (but_newest_five twelve.now) result }
+fn taps_of(many: &[i64; 32]) -> Taps
+    requires { Within (2 ^ 15) many.now }
+    ensures value { AreTaps (but_newest_five many.now) result }
     ensures small { SmallTaps result }
 {
     Taps {
-        second: Eight {
-            oldest: i64x4::from_array([0, twelve[0], twelve[1], twelve[2]]),
-            older: i64x4::from_array([twelve[3], twelve[4], twelve[5], twelve[6]]),
+        second: Later {
+            at_4: i64x4::from_array([many[23], many[24], many[25], many[26]]),
+            at_8: i64x4::from_array([many[19], many[20], many[21], many[22]]),
+            at_12: i64x4::from_array([many[15], many[16], many[17], many[18]]),
+            at_16: i64x4::from_array([many[11], many[12], many[13], many[14]]),
+            at_20: i64x4::from_array([many[7], many[8], many[9], many[10]]),
+            at_24: i64x4::from_array([many[3], many[4], many[5], many[6]]),
+            at_28: i64x4::from_array([0, many[0], many[1], many[2]]),
         },
-        newest: Eight {
-            oldest: i64x4::from_array([twelve[0], twelve[1], twelve[2], twelve[3]]),
-            older: i64x4::from_array([twelve[4], twelve[5], twelve[6], 0]),
+        newest: Later {
+            at_4: i64x4::from_array([many[24], many[25], many[26], 0]),
+            at_8: i64x4::from_array([many[20], many[21], many[22], many[23]]),
+            at_12: i64x4::from_array([many[16], many[17], many[18], many[19]]),
+            at_16: i64x4::from_array([many[12], many[13], many[14], many[15]]),
+            at_20: i64x4::from_array([many[8], many[9], many[10], many[11]]),
+            at_24: i64x4::from_array([many[4], many[5], many[6], many[7]]),
+            at_28: i64x4::from_array([many[0], many[1], many[2], many[3]]),
         },
     }
 }
 
-// The sums that wait for the next twelve places, two places on.
+// No sum waits.
 #[inline(always)]
-fn sums_two_on<const ALL: bool>(sums: Twelve, taps: Taps, second: i64, newest: i64) -> Twelve
-    requires sums { WideTwelve sums }
+fn no_sums() -> Sums
+    ensures { WaitsAfterNone result }
+{
+    let zeros = i64x4::splat(0);
+    Sums {
+        at_0: zeros,
+        later: Later {
+            at_4: zeros,
+            at_8: zeros,
+            at_12: zeros,
+            at_16: zeros,
+            at_20: zeros,
+            at_24: zeros,
+            at_28: zeros,
+        },
+    }
+}
+
+// The sums that wait for the next places, two places on. Where `VECTORS` is less than 7 the farthest places have no coefficients.
+#[inline(always)]
+fn sums_two_on<const VECTORS: usize>(sums: Sums, taps: Taps, second: i64, newest: i64) -> Sums
+    requires sums { WideSums sums }
     requires taps { SmallTaps taps }
     requires second { FitsSigned w32 second }
     requires newest { FitsSigned w32 newest }
-    requires zeros { ALL ≡ false → taps.newest.oldest ≡ replicate 4 (pos 0) }
-    ensures value { WaitsTwoOn taps sums second newest result }
-    ensures wide { WideTwelve result }
+    requires some { 1 ≤ VECTORS }
+    ensures value { WaitsTwoOn VECTORS taps sums second newest result }
+    ensures wide { WideSums result }
 {
     let second = spread(second);
     let newest = spread(newest);
     let zeros = i64x4::splat(0);
-    Twelve {
-        oldest: if ALL {
-            later_sums(
-                zeros,
-                sums.oldest,
-                taps.second.oldest,
+    Sums {
+        at_0: sums.later.at_4.shuffle(sums.at_0, [2, 3, 4, 5]),
+        later: Later {
+            at_4: later_sums(
+                true,
+                sums.later.at_8,
+                sums.later.at_4,
+                taps.second.at_4,
                 second,
-                taps.newest.oldest,
+                taps.newest.at_4,
                 newest,
-            )
-        } else {
-            zeros
+            ),
+            at_8: later_sums(
+                VECTORS > 1,
+                sums.later.at_12,
+                sums.later.at_8,
+                taps.second.at_8,
+                second,
+                taps.newest.at_8,
+                newest,
+            ),
+            at_12: later_sums(
+                VECTORS > 2,
+                sums.later.at_16,
+                sums.later.at_12,
+                taps.second.at_12,
+                second,
+                taps.newest.at_12,
+                newest,
+            ),
+            at_16: later_sums(
+                VECTORS > 3,
+                sums.later.at_20,
+                sums.later.at_16,
+                taps.second.at_16,
+                second,
+                taps.newest.at_16,
+                newest,
+            ),
+            at_20: later_sums(
+                VECTORS > 4,
+                sums.later.at_24,
+                sums.later.at_20,
+                taps.second.at_20,
+                second,
+                taps.newest.at_20,
+                newest,
+            ),
+            at_24: later_sums(
+                VECTORS > 5,
+                sums.later.at_28,
+                sums.later.at_24,
+                taps.second.at_24,
+                second,
+                taps.newest.at_24,
+                newest,
+            ),
+            at_28: later_sums(
+                VECTORS > 6,
+                zeros,
+                sums.later.at_28,
+                taps.second.at_28,
+                second,
+                taps.newest.at_28,
+                newest,
+            ),
         },
-        older: later_sums(
-            sums.oldest,
-            sums.older,
-            taps.second.older,
-            second,
-            taps.newest.older,
-            newest,
-        ),
-        old: sums.older.shuffle(sums.old, [2, 3, 4, 5]),
     }
 }
 
-// The sums that wait for the twelve places behind these samples.
+// The sums that wait for the places behind these samples.
 #[inline(always)]
-fn first_sums<const ALL: bool>(taps: Taps, samples: &[i32]) -> Twelve
-    requires samples { length samples.now ≡ 12 }
+fn first_sums<const VECTORS: usize>(taps: Taps, samples: &[i32]) -> Sums
+    requires samples { length samples.now ≡ 32 }
     requires taps { SmallTaps taps }
-    requires zeros { ALL ≡ false → taps.newest.oldest ≡ replicate 4 (pos 0) }
-    ensures { WaitsAfter taps samples.now result }
+    requires some { 1 ≤ VECTORS }
+    ensures { WaitsAfter VECTORS taps samples.now result }
 {
-    let zeros = i64x4::splat(0);
-    let mut sums = Twelve {
-        oldest: zeros,
-        older: zeros,
-        old: zeros,
-    };
-    for pair in 0..6 {
+    let mut sums = no_sums();
+    for pair in 0..16 {
         let second = i64::from(samples[2 * pair]);
         let newest = i64::from(samples[2 * pair + 1]);
-        sums = sums_two_on::<ALL>(sums, taps, second, newest);
+        sums = sums_two_on::<VECTORS>(sums, taps, second, newest);
     }
     sums
 }
@@ -412,53 +511,56 @@ fn sample_of(early: i64, coefficients: Five, samples: Five, shift: u32) -> i64
     add_product(two, coefficients.newest, samples.newest, shift) >> 32
 }
 
-// Places from 12 on, each by its twelve newest samples. Where `ALL` is false the oldest four coefficients are zeros.
+// Places from 32 on, each by its newest samples, as many as there are coefficients. Where `VECTORS` is less than 7 the oldest
+// coefficients are zeros.
 //
 // A sample's products go at once to the sums of later places, two samples at a time, so that sums move by whole halves of
 // a vector. A place waits for the samples before it, so the products of its newest five come last, one by one: those of its
 // newest alone have to be waited for, and no sum that was just made is. The coefficients come by reference and this isn't
 // inlined, so that `narrow` keeps its shifts.
 #[inline(never)]
-fn predict_by_sums<const ALL: bool>(twelve: &[i64; 12], shift: u32, buffer: &mut [i32])
+fn predict_by_sums<const VECTORS: usize>(many: &[i64; 32], shift: u32, buffer: &mut [i32])
     requires shift { shift ≤ 15 }
-    requires small { Within (2 ^ 15) twelve.now }
-    requires zeros { ALL ≡ false → take 4 twelve.now ≡ replicate 4 (pos 0) }
-    ensures { buffer.new ≡ restored (linear (reverse twelve.now) shift) 12 buffer.old }
+    requires small { Within (2 ^ 15) many.now }
+    requires vectors { VECTORS ≤ 7 }
+    requires some { 1 ≤ VECTORS }
+    requires zeros { take (28 - 4 * VECTORS) many.now ≡ replicate (28 - 4 * VECTORS) (pos 0) }
+    ensures { buffer.new ≡ restored (linear (reverse many.now) shift) 32 buffer.old }
 {
-    if buffer.len() <= 12 {
+    if buffer.len() <= 32 {
         return;
     }
     let last = Five {
-        fifth: twelve[7],
-        fourth: twelve[8],
-        third: twelve[9],
-        second: twelve[10],
-        newest: twelve[11],
+        fifth: many[27],
+        fourth: many[28],
+        third: many[29],
+        second: many[30],
+        newest: many[31],
     };
-    let taps = taps_of(twelve);
-    let mut sums = first_sums::<ALL>(taps, &buffer[..12]);
+    let taps = taps_of(many);
+    let mut sums = first_sums::<VECTORS>(taps, &buffer[..32]);
     let mut newest = Five {
-        fifth: i64::from(buffer[7]),
-        fourth: i64::from(buffer[8]),
-        third: i64::from(buffer[9]),
-        second: i64::from(buffer[10]),
-        newest: i64::from(buffer[11]),
+        fifth: i64::from(buffer[27]),
+        fourth: i64::from(buffer[28]),
+        third: i64::from(buffer[29]),
+        second: i64::from(buffer[30]),
+        newest: i64::from(buffer[31]),
     };
-    for pair in 6..buffer.len() / 2 {
+    for pair in 16..buffer.len() / 2 {
         let i = 2 * pair;
-        let (nearest, farther) = put_up(sums.old, buffer[i], buffer[i + 1], shift);
+        let (nearest, farther) = put_up(sums.at_0, buffer[i], buffer[i + 1], shift);
         let one = sample_of(nearest, last, newest, shift);
         let before = newest.followed_by(one);
         let two = sample_of(farther, last, before, shift);
         buffer[i] = low_bits(one);
         buffer[i + 1] = low_bits(two);
-        sums = sums_two_on::<ALL>(sums, taps, one, two);
+        sums = sums_two_on::<VECTORS>(sums, taps, one, two);
         newest = before.followed_by(two);
     }
     // A last place alone.
     if buffer.len() % 2 == 1 {
         let i = buffer.len() - 1;
-        let (nearest, _) = put_up(sums.old, buffer[i], 0, shift);
+        let (nearest, _) = put_up(sums.at_0, buffer[i], 0, shift);
         buffer[i] = low_bits(sample_of(nearest, last, newest, shift));
     }
 }

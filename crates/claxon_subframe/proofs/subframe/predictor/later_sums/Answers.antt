@@ -15,7 +15,7 @@ pub add_products-requires-2-clause-samples : goal.add_products-requires-2-clause
 add_products-requires-2-clause-samples c = kept_lanes (omega arith) c.requires.newest
 
 pub returns-clause-value : goal.returns-clause-value
-returns-clause-value c =
+returns-clause-value c = λ h.
     let later = later_is c.args.before c.args.sums c.args.for_second c.args.second c.args.for_newest c.args.newest _ c.add_products.result c.add_products-2.result c.requires.before c.requires.sums c.requires.for_second c.requires.second c.requires.for_newest c.requires.newest
     (moved_is c.args.before c.args.sums c.requires.before c.requires.sums) c.add_products.ensures c.add_products-2.ensures in
     later.0

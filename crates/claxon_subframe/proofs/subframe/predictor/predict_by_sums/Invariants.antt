@@ -7,7 +7,7 @@ use Rattle.claxon_subframe.proofs.subframe.predictor.predict_by_sums.Given as go
 abbrev pub invariant-loop-pair : goal.invariant-loop-pair
 invariant-loop-pair g l = record {
   kept : length l.buffer ≡ length l.fn.buffer;
-  same : restored (linear (reverse l.twelve) l.shift) (2 * l.pair) l.buffer ≡ restored (linear (reverse l.twelve) l.shift) 12 l.fn.buffer;
+  same : restored (linear (reverse l.many) l.shift) (2 * l.pair) l.buffer ≡ restored (linear (reverse l.many) l.shift) 32 l.fn.buffer;
   past : EndsIn l.buffer (2 * l.pair) l.newest;
-  sums : Waits (but_newest_five l.twelve) (reverse (take (2 * l.pair) l.buffer)) l.sums;
+  sums : Waits (but_newest_five l.many) (reverse (take (2 * l.pair) l.buffer)) l.sums;
 }

@@ -1,9 +1,9 @@
 use Rattle.std.proofs.Common.{◌-◌, length, get_or, pos, rules, FitsSigned, w16, arith}
-use Rattle.claxon_subframe.proofs.TwelveCoefficients.{filled_none, filled_more, filled_all}
-use Rattle.claxon_subframe.proofs.subframe.predictor.last_of_twelve.Goals as goal
+use Rattle.claxon_subframe.proofs.LastCoefficients.{filled_none, filled_more, filled_all}
+use Rattle.claxon_subframe.proofs.subframe.predictor.last_of_many.Goals as goal
 
 pub loop-i-init : goal.loop-i-init
-loop-i-init c = filled_none (12 - length c.args.coefficients.now) c.args.coefficients.now (omega arith)
+loop-i-init c = filled_none (32 - length c.args.coefficients.now) c.args.coefficients.now (omega arith)
 
 pub loop-i-preserved : goal.loop-i-preserved
 loop-i-preserved c =

@@ -1,5 +1,5 @@
--- Twelve coefficients, zeros before them, and the first twelve samples.
-use Rattle.std.proofs.Common.{◌≡◌, ℕ, zero, suc, ◌+◌, ◌-◌, ◌^◌, ◌<◌, ◌≤◌, min, inl, inr, List, [], ◌∷◌, ◌++◌, length, take, drop, reverse, replicate, get_or, set, append_assoc, refl, sym, ap, add-zero, subst, ◌∙◌, arith, ℤ, pos, ◌+ℤ◌, of_z, to_z, w16, w64, FitsSigned, unsigned_abs}
+-- Coefficients as the last of thirty-two numbers, zeros before them, and the first thirty-two samples.
+use Rattle.std.proofs.Common.{◌≡◌, ℕ, zero, suc, ◌+◌, ◌-◌, ◌*◌, ◌^◌, ◌<◌, ◌≤◌, min, inl, inr, List, [], ◌∷◌, ◌++◌, length, take, drop, reverse, replicate, get_or, set, append_assoc, refl, sym, ap, add-zero, subst, ◌∙◌, arith, ℤ, pos, ◌+ℤ◌, of_z, to_z, w16, w64, FitsSigned, unsigned_abs}
 use Rattle.std.proofs.lemmas.List.{take_more_set, take_more, take_all, append-nil, take-replicate, length-set, length-take, length-drop, drop_all, take-take, take-append-drop, drop-append-le, reverse-append, length-append, length-replicate, replicate-append-replicate, take-append-le}
 use Rattle.std.proofs.Math.Seq.{take-append_seam, drop-append_seam}
 use Rattle.std.proofs.lemmas.Bool.{cases_lt}
@@ -22,18 +22,18 @@ within_set m (y ∷ ys) (suc i) x h k = (k.0, within_set m ys i x h k.1)
 
 -- k zeros and i of the coefficients stand there
 pub record Filled (k i : ℕ) (cs xs : List ℤ) : Type 0 where
-  pub long : length xs ≡ 12
+  pub long : length xs ≡ 32
   pub front : take (k + i) xs ≡ replicate k (pos 0) ++ take i cs
   pub small : Within (2 ^ 15) xs
 
-pub filled_none : (k : ℕ) (cs : List ℤ) → k ≤ 12 → Filled k 0 cs (replicate 12 (pos 0))
+pub filled_none : (k : ℕ) (cs : List ℤ) → k ≤ 32 → Filled k 0 cs (replicate 32 (pos 0))
 filled_none k cs le = record {
   long = refl;
-  front = ap (λ (n : ℕ). take n (replicate 12 (pos 0))) (add-zero k) ∙ take-replicate k 12 (pos 0) le ∙ sym (append-nil (replicate k (pos 0)));
-  small = record { each = within_zeros (2 ^ 15) 12 };
+  front = ap (λ (n : ℕ). take n (replicate 32 (pos 0))) (add-zero k) ∙ take-replicate k 32 (pos 0) le ∙ sym (append-nil (replicate k (pos 0)));
+  small = record { each = within_zeros (2 ^ 15) 32 };
 }
 
-pub filled_more : {k i : ℕ} {cs xs : List ℤ} (x : ℤ) → i < length cs → k + i < 12 → FitsSigned w16 (get_or cs i (pos 0)) → x ≡ to_z w16 (of_z w16 (get_or cs i (pos 0))) → Filled k i cs xs
+pub filled_more : {k i : ℕ} {cs xs : List ℤ} (x : ℤ) → i < length cs → k + i < 32 → FitsSigned w16 (get_or cs i (pos 0)) → x ≡ to_z w16 (of_z w16 (get_or cs i (pos 0))) → Filled k i cs xs
     → Filled k (i + 1) cs (set xs (k + i) (to_z w64 (of_z w64 x)))
 filled_more {k} {i} {cs} {xs} x lt room f e h =
     let value : to_z w64 (of_z w64 x) ≡ get_or cs i (pos 0) = ap (λ (y : ℤ). to_z w64 (of_z w64 y)) e ∙ value_16 (get_or cs i (pos 0)) f in
@@ -46,7 +46,7 @@ filled_more {k} {i} {cs} {xs} x lt room f e h =
       small = record { each = within_set (2 ^ 15) xs (k + i) (to_z w64 (of_z w64 x)) (subst (λ (y : ℤ). unsigned_abs y ≤ 32768) (sym value) (abs_16 (get_or cs i (pos 0)) f)) h.small.each };
     }
 
-pub filled_all : {k i : ℕ} {cs xs : List ℤ} → length cs ≤ i → 12 ≤ k + i → Filled k i cs xs → xs ≡ replicate k (pos 0) ++ cs
+pub filled_all : {k i : ℕ} {cs xs : List ℤ} → length cs ≤ i → 32 ≤ k + i → Filled k i cs xs → xs ≡ replicate k (pos 0) ++ cs
 filled_all {k} {i} {cs} {xs} all full h = sym (take_all (k + i) xs (omega (arith, h.long))) ∙ h.front ∙ ap (λ (t : List ℤ). replicate k (pos 0) ++ t) (take_all i cs all)
 
 -- ---- the first samples by themselves, and then the others
@@ -87,7 +87,7 @@ restored_front p q n k xs le lt h =
     one ∙ append_assoc warm (restore q (reverse warm) cold) (restore q (reverse front) (drop k xs)) ∙ ap (λ (t : List ℤ). warm ++ t) back
     ∙ ap (λ (t : List ℤ). t ++ restore q (reverse t) (cold ++ drop k xs)) same_warm ∙ ap (λ (t : List ℤ). take n xs ++ restore q (reverse (take n xs)) t) same_cold
 
-reverse_zeros : (k : ℕ) → reverse (replicate k (pos 0)) ≡ replicate k (pos 0)
+pub reverse_zeros : (k : ℕ) → reverse (replicate k (pos 0)) ≡ replicate k (pos 0)
 reverse_zeros zero = refl
 reverse_zeros (suc k) =
     let more : k + 1 ≡ suc k = omega arith in
@@ -98,24 +98,24 @@ linear_behind k cs t l =
     let turned : reverse (replicate k (pos 0) ++ cs) ≡ reverse cs ++ replicate k (pos 0) = reverse-append (replicate k (pos 0)) cs ∙ ap (λ (z : List ℤ). reverse cs ++ z) (reverse_zeros k) in
     ap (λ (z : List ℤ). floor_shift (dot z l) t) turned ∙ ap (λ (y : ℤ). floor_shift y t) (dot_behind k (reverse cs) l)
 
-pub low_order_is : (cs xs twelve front all : List ℤ) (t f : ℕ) → length cs ≤ 12 → length cs ≤ length xs → f ≡ min (length xs) 12 → twelve ≡ replicate (12 - length cs) (pos 0) ++ cs
-    → front ≡ restored (linear (reverse cs) t) (length cs) (take f xs) → all ≡ restored (linear (reverse twelve) t) 12 (front ++ drop f xs) → all ≡ restored (linear (reverse cs) t) (length cs) xs
-low_order_is cs xs twelve front all t f few warm ef et er ea =
-    let same = λ (l : List ℤ). ap (λ (z : List ℤ). linear (reverse z) t l) et ∙ linear_behind (12 - length cs) cs t l in
-    elim (cases_lt (length xs) 12) [
+pub rest_is : (cs xs many front all : List ℤ) (t f : ℕ) → length cs ≤ 32 → length cs ≤ length xs → f ≡ min (length xs) 32 → many ≡ replicate (32 - length cs) (pos 0) ++ cs
+    → front ≡ restored (linear (reverse cs) t) (length cs) (take f xs) → all ≡ restored (linear (reverse many) t) 32 (front ++ drop f xs) → all ≡ restored (linear (reverse cs) t) (length cs) xs
+rest_is cs xs many front all t f few warm ef et er ea =
+    let same = λ (l : List ℤ). ap (λ (z : List ℤ). linear (reverse z) t l) et ∙ linear_behind (32 - length cs) cs t l in
+    elim (cases_lt (length xs) 32) [
       | inl short ↦
           (let whole : front ≡ restored (linear (reverse cs) t) (length cs) xs = er ∙ ap (restored (linear (reverse cs) t) (length cs)) (take_all f xs (omega arith)) in
           let long : length front ≡ length xs = ap length whole ∙ length-restored (linear (reverse cs) t) (length cs) xs warm in
-          ea ∙ ap (λ (z : List ℤ). restored (linear (reverse twelve) t) 12 (front ++ z)) (drop_all f xs (omega arith))
-          ∙ ap (restored (linear (reverse twelve) t) 12) (append-nil front) ∙ restored_all (linear (reverse twelve) t) front 12 (omega arith) ∙ whole)
+          ea ∙ ap (λ (z : List ℤ). restored (linear (reverse many) t) 32 (front ++ z)) (drop_all f xs (omega arith))
+          ∙ ap (restored (linear (reverse many) t) 32) (append-nil front) ∙ restored_all (linear (reverse many) t) front 32 (omega arith) ∙ whole)
       | inr long ↦
-          (let twelve_first : f ≡ 12 = omega arith in
-          ea ∙ ap (λ (z : List ℤ). restored (linear (reverse twelve) t) 12 (z ++ drop f xs)) er
-          ∙ ap (λ (n : ℕ). restored (linear (reverse twelve) t) 12 (restored (linear (reverse cs) t) (length cs) (take n xs) ++ drop n xs)) twelve_first
-          ∙ restored_front (linear (reverse twelve) t) (linear (reverse cs) t) (length cs) 12 xs few long same)
+          (let all_first : f ≡ 32 = omega arith in
+          ea ∙ ap (λ (z : List ℤ). restored (linear (reverse many) t) 32 (z ++ drop f xs)) er
+          ∙ ap (λ (n : ℕ). restored (linear (reverse many) t) 32 (restored (linear (reverse cs) t) (length cs) (take n xs) ++ drop n xs)) all_first
+          ∙ restored_front (linear (reverse many) t) (linear (reverse cs) t) (length cs) 32 xs few long same)
     ]
 
--- at most eight coefficients leave the oldest four at zero
-pub no_oldest : (cs twelve : List ℤ) → length cs ≤ 8 → twelve ≡ replicate (12 - length cs) (pos 0) ++ cs → take 4 twelve ≡ replicate 4 (pos 0)
-no_oldest cs twelve few e =
-    ap (take 4) e ∙ take-append-le 4 (replicate (12 - length cs) (pos 0)) cs (omega (arith, length-replicate (12 - length cs) (pos 0))) ∙ take-replicate 4 (12 - length cs) (pos 0) (omega arith)
+-- zeros stand before so few coefficients
+pub zeros_before : (cs many : List ℤ) (v : ℕ) → v ≤ 7 → length cs ≤ 4 * v + 4 → many ≡ replicate (32 - length cs) (pos 0) ++ cs → take (28 - 4 * v) many ≡ replicate (28 - 4 * v) (pos 0)
+zeros_before cs many v most few e =
+    ap (take (28 - 4 * v)) e ∙ take-append-le (28 - 4 * v) (replicate (32 - length cs) (pos 0)) cs (omega (arith, length-replicate (32 - length cs) (pos 0))) ∙ take-replicate (28 - 4 * v) (32 - length cs) (pos 0) (omega arith)
