@@ -1,14 +1,14 @@
 -- A loop that brings samples back two at a time, with the newest five in variables.
-use Rattle.std.proofs.Common.{◌≡◌, ℕ, ◌+◌, ◌<◌, ◌≤◌, List, [], ◌∷◌, length, take, reverse, get_or, set, refl, sym, ap, subst, ◌∙◌, arith, ℤ, pos, ◌+ℤ◌, to_z, of_z, w32, w64, FitsSigned}
+use Rattle.std.proofs.Common.{◌≡◌, ℕ, ◌+◌, ◌-◌, ◌*◌, ◌<◌, ◌≤◌, List, [], ◌∷◌, ◌++◌, length, take, drop, reverse, get_or, set, refl, sym, ap, subst, ◌∙◌, arith, ℤ, pos, ◌+ℤ◌, to_z, of_z, w32, w64, FitsSigned}
 use Rattle.std.proofs.lemmas.Int.{to_z-of_z, int_wrap_fits, SFits-int_wrap}
-use Rattle.std.proofs.lemmas.List.{take_more, take_more_set, get_or-set_other, length-set, reverse-append}
+use Rattle.std.proofs.lemmas.List.{take_more, take_more_set, get_or-set_other, length-set, length-take, length-drop, length-reverse, take-append-drop, take-take, drop-take, reverse-append}
 use Rattle.claxon_format.specs.Predict.{wrap, linear, restored}
-use Rattle.claxon_subframe.specs.Sums.{but_newest_five, waiting_at, Waits, IsPutUp, IsSample, IsFollowed}
+use Rattle.claxon_subframe.specs.Sums.{but_newest_five, waiting_at, FitVectors, Waits, IsPutUp, IsSample, IsFollowed}
 use Rattle.claxon_subframe.specs.declared.subframe.predictor.Five.{Five}
 use Rattle.claxon_subframe.specs.declared.subframe.predictor.Sums.{Sums}
 use Rattle.claxon_subframe.proofs.Predictors.{restored_more, restored_all, abs_32}
 use Rattle.claxon_subframe.proofs.Lanes.{small_fits}
-use Rattle.claxon_subframe.proofs.Sums.{AreLast, five_before, one_is, two_is}
+use Rattle.claxon_subframe.proofs.Sums.{AreLast, five_before, waits_enough, one_is, two_is}
 
 -- right before i stand these five
 pub record EndsIn (xs : List ℤ) (i : ℕ) (five : Five) : Type 0 where
@@ -107,6 +107,17 @@ two_place ts xs i j m r w e x c s b t sums long last past f waits er ew up is =
     two_is ts past.rest s.fifth r w e x c b t long last (ew ∙ there ∙ ap (λ (p : List ℤ). waiting_at (but_newest_five ts) p 1) (past.is ∙ same)) up is
     ∙ ap (λ (l : List ℤ). wrap (linear (reverse ts) t l +ℤ r)) (followed_is s b m past.rest f)
     ∙ ap (λ (v : ℤ). wrap (linear (reverse ts) t (m ∷ five_before s past.rest) +ℤ v)) er ∙ ap (λ (p : List ℤ). wrap (linear (reverse ts) t (m ∷ p) +ℤ get_or xs j (pos 0))) (sym past.is)
+
+-- the sums of the last of the first samples are those of all
+pub first_waits : (ks xs : List ℤ) (v : ℕ) (sums : Sums) → 1 ≤ v → v ≤ 7 → 32 ≤ length xs → FitVectors v ks → Waits ks (reverse (take (32 - (28 - 4 * v)) (drop (28 - 4 * v) xs))) sums → Waits ks (reverse (take 32 xs)) sums
+first_waits ks xs v sums some most long fit w =
+    let n : ℕ = 28 - 4 * v in
+    let m : ℕ = 32 - n in
+    let there : n + m ≡ 32 = omega arith in
+    let split : take 32 xs ≡ take n xs ++ take m (drop n xs)
+    = sym (take-append-drop n (take 32 xs)) ∙ ap (λ (l : List ℤ). l ++ drop n (take 32 xs)) (take-take n 32 xs (omega arith)) ∙ ap (λ (l : List ℤ). take n xs ++ l) (ap (λ (k : ℕ). drop n (take k xs)) (sym there) ∙ drop-take n m xs) in
+    let enough : 4 * v + 4 ≤ length (reverse (take m (drop n xs))) = omega (arith, length-reverse (take m (drop n xs)), length-take m (drop n xs), length-drop n xs) in
+    subst (λ (l : List ℤ). Waits ks l sums) (sym (ap reverse split ∙ reverse-append (take n xs) (take m (drop n xs)))) (waits_enough ks (reverse (take m (drop n xs))) (reverse (take n xs)) v sums fit enough w)
 
 -- a last place alone
 pub last_restored : (p : List ℤ → ℤ) (xs whole : List ℤ) (i m : ℕ) (x : ℤ) → m ≡ i → length xs ≡ i + 1 → x ≡ wrap (p (reverse (take i xs)) +ℤ get_or xs i (pos 0)) → restored p i xs ≡ whole → set xs m x ≡ whole

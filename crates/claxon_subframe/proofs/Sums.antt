@@ -146,6 +146,31 @@ waits_wide {ks} {past} {sums} w = record {
 abbrev as_lanes : List ℤ → List ℤ
 as_lanes xs = map (to_z w64) (map (of_z w64) xs)
 
+-- as many samples as there are coefficients are all that matters
+dot_enough : (l past rest : List ℤ) (n k : ℕ) → drop n l ≡ replicate k (pos 0) → n ≤ length past → dot l (past ++ rest) ≡ dot l past
+dot_enough l past rest zero k e le =
+    ap (λ (z : List ℤ). dot z (past ++ rest)) e ∙ dot_behind k [] (past ++ rest) ∙ sym (ap (λ (z : List ℤ). dot z past) e ∙ dot_behind k [] past)
+dot_enough [] past rest (suc n) k e le = refl
+dot_enough (c ∷ l) [] rest (suc n) k e le = absurd (omega arith)
+dot_enough (c ∷ l) (x ∷ past) rest (suc n) k e le = ap (λ (z : ℤ). c *ℤ x +ℤ z) (dot_enough l past rest n k e (omega arith))
+
+waiting_enough : (ks past rest : List ℤ) (v j : ℕ) → FitVectors v ks → 4 * v + 4 ≤ length past → waiting_at ks past j ≡ waiting_at ks (past ++ rest) j
+waiting_enough ks past rest v j fit le =
+    let turn : j + (4 * v + 4) ≡ 4 * v + 4 + j = omega arith in
+    let none : drop (4 * v + 4) (drop j ks) ≡ replicate (28 - 4 * v - j) (pos 0)
+    = drop-drop (4 * v + 4) j ks ∙ ap (λ (n : ℕ). drop n ks) turn ∙ sym (drop-drop j (4 * v + 4) ks) ∙ ap (drop j) fit ∙ drop-replicate j (28 - 4 * v) (pos 0) in
+    ap wrap_64 (sym (dot_enough (drop j ks) past rest (4 * v + 4) (28 - 4 * v - j) none le))
+
+four_enough : (ks past rest : List ℤ) (v j : ℕ) → FitVectors v ks → 4 * v + 4 ≤ length past → four_waiting ks past j ≡ four_waiting ks (past ++ rest) j
+four_enough ks past rest v j fit le =
+    four_same (waiting_enough ks past rest v (j + 3) fit le) (waiting_enough ks past rest v (j + 2) fit le) (waiting_enough ks past rest v (j + 1) fit le) (waiting_enough ks past rest v j fit le)
+
+pub waits_enough : (ks past rest : List ℤ) (v : ℕ) (sums : Sums) → FitVectors v ks → 4 * v + 4 ≤ length past → Waits ks past sums → Waits ks (past ++ rest) sums
+waits_enough ks past rest v sums fit le w = record {
+  at_0 = w.at_0 ∙ four_enough ks past rest v 0 fit le;
+  later = record { at_4 = w.later.at_4 ∙ four_enough ks past rest v 4 fit le; at_8 = w.later.at_8 ∙ four_enough ks past rest v 8 fit le; at_12 = w.later.at_12 ∙ four_enough ks past rest v 12 fit le; at_16 = w.later.at_16 ∙ four_enough ks past rest v 16 fit le; at_20 = w.later.at_20 ∙ four_enough ks past rest v 20 fit le; at_24 = w.later.at_24 ∙ four_enough ks past rest v 24 fit le; at_28 = w.later.at_28 ∙ four_enough ks past rest v 28 fit le };
+}
+
 pub few_vectors : (k v j : ℕ) → 4 * k + 4 ≤ j → ltb k v ≡ false → 4 * v + 4 ≤ j
 few_vectors k v j le h =
     elim (cases_lt k v) [

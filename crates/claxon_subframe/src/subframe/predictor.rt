@@ -152,7 +152,6 @@ pub fn predict_lpc(coefficients: &mut [i16], shift: u32, buffer: &mut [i32])
 /// The samples of a linear predictor of more than 12 coefficients, from as many samples as it has coefficients, the
 /// oldest first, and the residual after them. (RFC 9639, section 9.2.6.)
 pub fn predict_lpc_high_order(coefficients: &[i16], shift: u32, buffer: &mut [i32])
-    requires many { 13 ≤ length coefficients.now }
     requires few { length coefficients.now ≤ 32 }
     requires warm { length coefficients.now ≤ length buffer.old }
     requires shift { shift ≤ 15 }
@@ -429,16 +428,17 @@ fn sums_two_on<const VECTORS: usize>(sums: Sums, taps: Taps, second: i64, newest
     }
 }
 
-// The sums that wait for the places behind these samples.
+// The sums that wait for the places behind these samples, which are as many as there are coefficients.
 #[inline(always)]
 fn first_sums<const VECTORS: usize>(taps: Taps, samples: &[i32]) -> Sums
-    requires samples { length samples.now ≡ 32 }
+    requires samples { length samples.now ≡ 4 * VECTORS + 4 }
     requires taps { SmallTaps taps }
     requires some { 1 ≤ VECTORS }
+    requires vectors { VECTORS ≤ 7 }
     ensures { WaitsAfter VECTORS taps samples.now result }
 {
     let mut sums = no_sums();
-    for pair in 0..16 {
+    for pair in 0..2 * VECTORS + 2 {
         let second = i64::from(samples[2 * pair]);
         let newest = i64::from(samples[2 * pair + 1]);
         sums = sums_two_on::<VECTORS>(sums, taps, second, newest);
@@ -538,7 +538,7 @@ fn predict_by_sums<const VECTORS: usize>(many: &[i64; 32], shift: u32, buffer: &
         newest: many[31],
     };
     let taps = taps_of(many);
-    let mut sums = first_sums::<VECTORS>(taps, &buffer[..32]);
+    let mut sums = first_sums::<VECTORS>(taps, &buffer[28 - 4 * VECTORS..32]);
     let mut newest = Five {
         fifth: i64::from(buffer[27]),
         fourth: i64::from(buffer[28]),

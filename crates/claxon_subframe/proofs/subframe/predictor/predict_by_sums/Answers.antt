@@ -1,12 +1,12 @@
-use Rattle.std.proofs.Common.{◌≡◌, ◌+◌, ◌-◌, ◌*◌, ◌∙◌, ◌+ℤ◌, ◌∷◌, List, ℤ, length, get_or, take, reverse, pos, refl, sym, ap, rules, arith, to_z, of_z, FitsSigned, w32, ℕ}
+use Rattle.std.proofs.Common.{◌≡◌, ◌+◌, ◌-◌, ◌*◌, ◌∙◌, ◌+ℤ◌, ◌∷◌, List, ℤ, length, get_or, take, drop, reverse, pos, refl, sym, ap, rules, arith, to_z, of_z, FitsSigned, w32, ℕ}
 use Rattle.std.proofs.lemmas.Int.{to_z-of_z}
-use Rattle.std.proofs.lemmas.List.{length-set, length-take}
+use Rattle.std.proofs.lemmas.List.{length-set, length-take, length-drop}
 use Rattle.claxon_format.specs.Predict.{wrap, linear}
 use Rattle.claxon_subframe.specs.Sums.{but_newest_five}
 use Rattle.claxon_subframe.proofs.Predictors.{restored_all}
 use Rattle.claxon_subframe.proofs.Lanes.{kept_wide, same_wide}
 use Rattle.claxon_subframe.proofs.Sums.{waits_wide, are_last, fit_vectors}
-use Rattle.claxon_subframe.proofs.SampleLoop.{ends_first, ends_two, widened, as_wide, narrowed, passed_up, one_place, two_place, two_restored, last_restored, waits_past}
+use Rattle.claxon_subframe.proofs.SampleLoop.{first_waits, ends_first, ends_two, widened, as_wide, narrowed, passed_up, one_place, two_place, two_restored, last_restored, waits_past}
 use Rattle.claxon_subframe.proofs.subframe.predictor.predict_by_sums.Goals as goal
 
 pub returns-then-buffer-le32 : goal.returns-then-buffer-le32
@@ -39,7 +39,8 @@ loop-pair-init g c =
             second = widened _ _ second c.from-4.ensures;
             newest = widened _ _ newest c.from-5.ensures;
           });
-      sums = c.first_sums-sums.ensures (but_newest_five c.args.many.now) c.taps_of-taps.ensures.value (fit_vectors c.args.many.now g.row.VECTORS c.told-many c.requires.some c.requires.vectors c.requires.zeros);
+      sums = first_waits (but_newest_five c.args.many.now) c.args.buffer.now g.row.VECTORS c.first_sums-sums.result c.requires.some c.requires.vectors (omega arith) (fit_vectors c.args.many.now g.row.VECTORS c.told-many c.requires.some c.requires.vectors c.requires.zeros)
+          (c.first_sums-sums.ensures (but_newest_five c.args.many.now) c.taps_of-taps.ensures.value (fit_vectors c.args.many.now g.row.VECTORS c.told-many c.requires.some c.requires.vectors c.requires.zeros));
     }
 
 pub loop-pair-preserved : goal.loop-pair-preserved
@@ -80,11 +81,9 @@ returns-then-buffer-eq1 g c =
     (to_z-of_z w32 _ residual ∙ ap (λ (n : ℕ). get_or c.loop-pair.buffer n (pos 0)) at) (ap (λ (l : List ℤ). get_or l 3 (pos 0)) (same_wide wide.at_0)) (passed_up _ (to_z w32 (of_z w32 (get_or c.loop-pair.buffer (length c.loop-pair.buffer - 1) (pos 0)))) _ c.args.shift c.put_up-nearest-then-buffer-eq1.ensures.nearest) c.sample_of.ensures.value in
     last_restored (linear (reverse c.args.many.now) c.args.shift) c.loop-pair.buffer _ (2 * c.loop-pair.pair) (length c.loop-pair.buffer - 1) _ at (omega arith) is c.loop-pair.invariant.same
 
-pub slice_bounds-first_sums-end-2 : goal.slice_bounds-first_sums-end-2
-slice_bounds-first_sums-end-2 g c = omega (arith, length-take 32 c.args.buffer.now)
-
 pub first_sums-sums-requires-clause-samples : goal.first_sums-sums-requires-clause-samples
-first_sums-sums-requires-clause-samples g c = omega (arith, length-take 32 c.args.buffer.now)
+first_sums-sums-requires-clause-samples g c =
+    omega (arith, length-take (32 - (28 - 4 * g.row.VECTORS)) (drop (28 - 4 * g.row.VECTORS) c.args.buffer.now), length-drop (28 - 4 * g.row.VECTORS) c.args.buffer.now)
 
 pub returns-else-buffer-eq1 : goal.returns-else-buffer-eq1
 returns-else-buffer-eq1 g c =
