@@ -126,9 +126,6 @@ four_behind ks past v j le fit =
 pub waiting_wide : (ks past : List ℤ) (j : ℕ) → Wide (four_waiting ks past j)
 waiting_wide ks past j = record { four = refl; each = (SFits-int_wrap w64 _, (SFits-int_wrap w64 _, (SFits-int_wrap w64 _, (SFits-int_wrap w64 _, tt)))) }
 
-pub zeros_wide : Wide (replicate 4 (pos 0))
-zeros_wide = record { four = refl; each = (record { sfits = omega arith }, (record { sfits = omega arith }, (record { sfits = omega arith }, (record { sfits = omega arith }, tt)))) }
-
 pub waits_wide : {ks past : List ℤ} {sums : Sums} → Waits ks past sums → WideSums sums
 waits_wide {ks} {past} {sums} w = record {
   at_0 = subst Wide (sym w.at_0) (waiting_wide ks past 0);

@@ -344,87 +344,81 @@ fn no_sums() -> Sums
     }
 }
 
-// The sums that wait for the next places, two places on. Where `VECTORS` is less than 7 the farthest places have no coefficients.
+// The sums that wait for the next places, two samples on. Where `VECTORS` is less than 7 the farthest places have no coefficients.
 #[inline(always)]
-fn sums_two_on<const VECTORS: usize>(sums: Sums, taps: Taps, second: i64, newest: i64) -> Sums
+fn sums_two_on<const VECTORS: usize>(sums: Sums, taps: Taps, one: i64, two: i64) -> Sums
     requires sums { WideSums sums }
     requires taps { SmallTaps taps }
-    requires second { FitsSigned w32 second }
-    requires newest { FitsSigned w32 newest }
+    requires one { FitsSigned w32 one }
+    requires two { FitsSigned w32 two }
     requires some { 1 ≤ VECTORS }
-    ensures value { WaitsTwoOn VECTORS taps sums second newest result }
+    ensures value { WaitsTwoOn VECTORS taps sums one two result }
     ensures wide { WideSums result }
 {
-    let second = spread(second);
-    let newest = spread(newest);
+    let (one, two) = (spread(one), spread(two));
     let zeros = i64x4::splat(0);
+    let old = sums.later;
+    let (second, newest) = (taps.second, taps.newest);
+    let later = Later {
+        at_4: later_sums(true, old.at_8, old.at_4, second.at_4, one, newest.at_4, two),
+        at_8: later_sums(
+            VECTORS > 1,
+            old.at_12,
+            old.at_8,
+            second.at_8,
+            one,
+            newest.at_8,
+            two,
+        ),
+        at_12: later_sums(
+            VECTORS > 2,
+            old.at_16,
+            old.at_12,
+            second.at_12,
+            one,
+            newest.at_12,
+            two,
+        ),
+        at_16: later_sums(
+            VECTORS > 3,
+            old.at_20,
+            old.at_16,
+            second.at_16,
+            one,
+            newest.at_16,
+            two,
+        ),
+        at_20: later_sums(
+            VECTORS > 4,
+            old.at_24,
+            old.at_20,
+            second.at_20,
+            one,
+            newest.at_20,
+            two,
+        ),
+        at_24: later_sums(
+            VECTORS > 5,
+            old.at_28,
+            old.at_24,
+            second.at_24,
+            one,
+            newest.at_24,
+            two,
+        ),
+        at_28: later_sums(
+            VECTORS > 6,
+            zeros,
+            old.at_28,
+            second.at_28,
+            one,
+            newest.at_28,
+            two,
+        ),
+    };
     Sums {
-        at_0: sums.later.at_4.shuffle(sums.at_0, [2, 3, 4, 5]),
-        later: Later {
-            at_4: later_sums(
-                true,
-                sums.later.at_8,
-                sums.later.at_4,
-                taps.second.at_4,
-                second,
-                taps.newest.at_4,
-                newest,
-            ),
-            at_8: later_sums(
-                VECTORS > 1,
-                sums.later.at_12,
-                sums.later.at_8,
-                taps.second.at_8,
-                second,
-                taps.newest.at_8,
-                newest,
-            ),
-            at_12: later_sums(
-                VECTORS > 2,
-                sums.later.at_16,
-                sums.later.at_12,
-                taps.second.at_12,
-                second,
-                taps.newest.at_12,
-                newest,
-            ),
-            at_16: later_sums(
-                VECTORS > 3,
-                sums.later.at_20,
-                sums.later.at_16,
-                taps.second.at_16,
-                second,
-                taps.newest.at_16,
-                newest,
-            ),
-            at_20: later_sums(
-                VECTORS > 4,
-                sums.later.at_24,
-                sums.later.at_20,
-                taps.second.at_20,
-                second,
-                taps.newest.at_20,
-                newest,
-            ),
-            at_24: later_sums(
-                VECTORS > 5,
-                sums.later.at_28,
-                sums.later.at_24,
-                taps.second.at_24,
-                second,
-                taps.newest.at_24,
-                newest,
-            ),
-            at_28: later_sums(
-                VECTORS > 6,
-                zeros,
-                sums.later.at_28,
-                taps.second.at_28,
-                second,
-                taps.newest.at_28,
-                newest,
-            ),
-        },
+        at_0: old.at_4.shuffle(sums.at_0, [2, 3, 4, 5]),
+        later,
     }
 }
 
