@@ -97,7 +97,7 @@ one_front r m rest xs x h = rw h refl
 pub times_push : {X A : Type 0} (r : List X → Reading X A) (i : ℕ) (s m rest : List X) (xs : List A) (x : A) → times_at i r s ≡ Done xs m → r m ≡ Done x rest → times_at (i + 1) r s ≡ Done (xs ++ x ∷ []) rest
 times_push r i s m rest xs x e h = times_add r i 1 s m xs e ∙ one_front r m rest xs x h
 
-front_both : {X A : Type 0} (xs ys : List A) (x : Reading X (List A)) → with_front xs (with_front ys x) ≡ with_front (xs ++ ys) x
+pub front_both : {X A : Type 0} (xs ys : List A) (x : Reading X (List A)) → with_front xs (with_front ys x) ≡ with_front (xs ++ ys) x
 front_both xs ys (Done zs rest) = ap (λ (t : List _). Done t rest) (sym (append_assoc xs ys zs))
 front_both xs ys (Faulty f rest) = refl
 front_both xs ys Short = refl

@@ -5,7 +5,10 @@ pub mod WordWindows
 pub mod WordsAhead
 pub mod FieldsAhead
 pub mod SignExtension
+pub mod SkippedAhead
+pub mod Joined
 pub mod PartitionLoop
+pub mod PartitionsAhead
 pub mod KindNumbers
 pub mod WastedBits
 pub mod RestoreLoop

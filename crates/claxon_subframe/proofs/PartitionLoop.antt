@@ -1,36 +1,29 @@
 -- Partitions read one after another into one slice.
-use Rattle.std.proofs.Common.{◌≡◌, ℕ, zero, suc, ◌+◌, ◌-◌, ◌<◌, ◌≤◌, Bool, List, ◌∷◌, ◌++◌, length, take, drop, replicate, refl, sym, ap, subst, ◌∙◌, append_assoc, arith, ℤ}
-use Rattle.std.specs.List.{flat_map}
-use Rattle.std.proofs.lemmas.List.{append-nil, take_all, length-take, length-drop}
+use Rattle.std.proofs.Common.{◌≡◌, ℕ, zero, suc, ◌+◌, ◌-◌, ◌*◌, ◌<◌, ◌≤◌, Bool, List, ◌++◌, length, take, drop, replicate, refl, sym, ap, subst, ◌∙◌, take-add, arith, ℤ}
+use Rattle.std.proofs.lemmas.List.{append-nil, take_all, take_at, drop_at, length-take, length-take-le, length-drop}
 use Rattle.std.proofs.lemmas.Slice.{take-put_mid}
 use borrow.Rule.Slice.PartMut.{put_mid, same_len_mid}
 use Rattle.claxon_format.specs.Bits.{Bits}
-use Rattle.claxon_format.specs.Reading.{Reading, Done, Faulty, Short, bind, done, each_at}
+use Rattle.claxon_format.specs.Reading.{Reading, Done, each_at}
 use Rattle.claxon_input.specs.declared.error.Error.{Error}
 use Rattle.claxon_input.specs.State.{State}
 use Rattle.claxon_input.specs.Gives.{Went, Stops}
-use Rattle.claxon_input.proofs.FieldLoops.{with_front}
+use Rattle.claxon_input.proofs.FieldLoops.{with_front, front_both}
 use Rattle.claxon_input.proofs.CallsInTurn.{went_both, went_map, stops_after, StopsWith}
 use Rattle.claxon_format.specs.read.Residual.{joined_at}
 use Rattle.claxon_subframe.specs.Partitions.{lengths, total}
+use Rattle.claxon_subframe.proofs.Joined.{joined_first, joined_add}
 
 left_next : (n each : ℕ) → lengths n each each ≡ replicate n each
 left_next zero each = refl
 left_next (suc n) each = refl
 
-regroup : (front es : List ℤ) (x : Reading Bool (List (List ℤ))) → with_front front (bind (bind x (λ others rest. Done (es ∷ others) rest)) (λ parts. done (flat_map (λ x. x) parts)))
-    ≡ with_front (front ++ es) (bind x (λ parts. done (flat_map (λ x. x) parts)))
-regroup front es (Done others rest) = ap (λ (t : List ℤ). Done t rest) (sym (append_assoc front es (flat_map (λ x. x) others)))
-regroup front es (Faulty f rest) = refl
-regroup front es Short = refl
-
 parts_more : (r : ℕ → Bits → Reading Bool (List ℤ)) (front es : List ℤ) (parts i len each : ℕ) (s m : Bits) (whole : Reading Bool (List ℤ)) → i < parts → r len s ≡ Done es m
     → with_front front (joined_at r (lengths (parts - i) len each) s) ≡ whole → with_front (front ++ es) (joined_at r (lengths (parts - (i + 1)) each each) m) ≡ whole
-unfolding each_at
 parts_more r front es parts i len each s m whole lt e so_far =
     let k : parts - i ≡ suc (parts - (i + 1)) = omega arith in
     let one : with_front front (joined_at r (lengths (parts - i) len each) s) ≡ with_front (front ++ es) (joined_at r (replicate (parts - (i + 1)) each) m)
-    = rw (k, e) (regroup front es (each_at r (replicate (parts - (i + 1)) each) m)) in
+    = rw k (ap (with_front front) (joined_first r len (replicate (parts - (i + 1)) each) s m es e) ∙ front_both front es (joined_at r (replicate (parts - (i + 1)) each) m)) in
     rw left_next (sym one ∙ so_far)
 
 parts_done : (r : ℕ → Bits → Reading Bool (List ℤ)) (xs : List ℤ) (parts i start len each : ℕ) (s : Bits) (whole : Reading Bool (List ℤ)) → parts ≤ i → start + total (lengths (parts - i) len each) ≡ length xs
@@ -94,3 +87,41 @@ parts_err {read = read} {parts = parts} {i = i} {start = start} {len = len} {eac
 pub parts_end : {read : ℕ → Bits → Reading Bool (List ℤ)} {all : List ℕ} {parts i start len each : ℕ} {xs : List ℤ} {a b : State Bool} → parts ≤ i → PartsSoFar read all parts i start len each xs a b → Went a b (λ s m. joined_at read all s ≡ Done xs m)
 parts_end {read = read} {all = all} {parts = parts} {i = i} {start = start} {len = len} {each = each} {xs = xs} {a = a} le h =
     went_map _ h.so_far (λ p. parts_done read xs parts i start len each _ (joined_at read all a.coming) le h.rest (sym p))
+
+-- ---- several partitions at once, behind the first
+
+total_is : (n each : ℕ) → total (replicate n each) ≡ n * each
+total_is zero each = omega arith
+total_is (suc n) each = grind (arith, total_is n each)
+
+parts_left : {read : ℕ → Bits → Reading Bool (List ℤ)} {all : List ℕ} {parts i start each : ℕ} {xs : List ℤ} {a b : State Bool} → PartsSoFar read all parts i start each each xs a b → start + (parts - i) * each ≡ length xs
+parts_left {parts = parts} {i = i} {start = start} {each = each} {xs = xs} h =
+    let e : start + total (replicate (parts - i) each) ≡ length xs = subst (λ (l : List ℕ). start + total l ≡ length xs) (left_next (parts - i) each) h.rest in
+    omega (arith, total_is (parts - i) each)
+
+pub rest_room : {read : ℕ → Bits → Reading Bool (List ℤ)} {all : List ℕ} {parts i start each : ℕ} {xs : List ℤ} {a b : State Bool} → PartsSoFar read all parts i start each each xs a b
+    → (parts - i) * each ≤ length (take (length xs - start) (drop start xs))
+rest_room {start = start} {xs = xs} h = omega (arith, parts_left h, length-take (length xs - start) (drop start xs), length-drop start xs)
+
+pub parts_several : {read : ℕ → Bits → Reading Bool (List ℤ)} {all : List ℕ} {parts i start each : ℕ} {xs : List ℤ} (more : ℕ) (ys : List ℤ) {a b c : State Bool} → i + more ≤ parts → PartsSoFar read all parts i start each each xs a b
+    → length ys ≡ length (take (length xs - start) (drop start xs)) → Went b c (λ s m. joined_at read (replicate more each) s ≡ Done (take (more * each) ys) m)
+    → PartsSoFar read all parts (i + more) (start + more * each) each each (put_mid start (length xs - start) xs ys) a c
+parts_several {read = read} {all = all} {parts = parts} {i = i} {start = start} {each = each} {xs = xs} more ys {a = a} {b = b} {c = c} le h same k =
+    let n = parts - (i + more) in
+    let left : parts - i ≡ more + n = omega arith in
+    let room = parts_left h in
+    let here : start ≤ length xs = omega (arith, room) in
+    let whole : length (put_mid start (length xs - start) xs ys) ≡ length xs = same_len_mid start (length xs - start) xs ys same in
+    let rest : length ys ≡ length xs - start = same ∙ omega (arith, length-take (length xs - start) (drop start xs), length-drop start xs) in
+    let full : put_mid start (length xs - start) xs ys ≡ take start xs ++ ys = sym (take_all (start + (length xs - start)) (put_mid start (length xs - start) xs ys) (omega arith)) ∙ take-put_mid start (length xs - start) xs ys (start + (length xs - start)) (omega arith) (omega arith) in
+    let front : length (take start xs) ≡ start = length-take-le start xs here in
+    let part : take (start + more * each) (put_mid start (length xs - start) xs ys) ≡ take start xs ++ take (more * each) ys
+    = ap (take (start + more * each)) full ∙ take-add start (more * each) (take start xs ++ ys) ∙ (rw (take_at (take start xs) ys start front, drop_at (take start xs) ys start front) refl) in
+    let times : (parts - i) * each ≡ more * each + n * each = grind (arith, left) in
+    record {
+      so_far = went_both _ h.so_far k (λ p q.
+          p ∙ ap (λ (l : List ℕ). with_front (take start xs) (joined_at read l b.coming)) (left_next (parts - i) each ∙ ap (λ (j : ℕ). replicate j each) left) ∙ ap (with_front (take start xs)) (joined_add read each more n b.coming c.coming (take (more * each) ys) q)
+          ∙ front_both (take start xs) (take (more * each) ys) (joined_at read (replicate n each) c.coming) ∙ ap (λ (l : List ℤ). with_front l (joined_at read (replicate n each) c.coming)) (sym part)
+          ∙ ap (λ (l : List ℕ). with_front (take (start + more * each) (put_mid start (length xs - start) xs ys)) (joined_at read l c.coming)) (sym (left_next n each)));
+      rest = ap (λ (l : List ℕ). start + more * each + total l) (left_next n each) ∙ omega (arith, total_is n each, times, room, whole);
+    }

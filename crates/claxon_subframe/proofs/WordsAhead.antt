@@ -1,20 +1,16 @@
 -- Words that are read from the bits at hand.
-use Rattle.std.proofs.Common.{◌≡◌, ℕ, ◌+◌, ◌-◌, ◌<◌, ◌≤◌, Bool, List, [], ◌++◌, length, take, drop, set, refl, sym, ap, subst, ◌∙◌, arith, ℤ, length-append, take-add}
+use Rattle.std.proofs.Common.{◌≡◌, ℕ, ◌+◌, ◌-◌, ◌<◌, ◌≤◌, Bool, List, [], ◌++◌, length, take, drop, set, refl, sym, ap, subst, ◌∙◌, arith, ℤ, take-add}
 use Rattle.std.proofs.lemmas.List.{take_more_set, take_at, drop_at, take_all, length-take, length-take-le, length-drop}
 use Rattle.std.proofs.lemmas.Slice.{take-put_mid}
 use borrow.Rule.Slice.PartMut.{put_mid, same_len_mid}
-use Rattle.claxon_format.proofs.Residuals.{Reads-times}
-use Rattle.claxon_format.proofs.Words.{Reads-word}
 use Rattle.claxon_format.specs.Bits.{Bits}
-use Rattle.claxon_format.specs.Reading.{Reading, Done, Short, times_at, each_at}
+use Rattle.claxon_format.specs.Reading.{Reading, Done, times_at, each_at}
 use Rattle.claxon_format.specs.read.Bits.{word_at}
-use Rattle.claxon_input.specs.Ahead.{bits_ahead, GivesAhead, IsAhead, passed_at}
+use Rattle.claxon_input.specs.Ahead.{bits_ahead, GivesAhead}
 use Rattle.claxon_input.specs.declared.bits.ahead.Ahead.{Ahead}
 use Rattle.claxon_input.specs.State.{State}
-use Rattle.claxon_input.specs.Gives.{Went, Stuck}
-use Rattle.claxon_input.proofs.BitsAtHand.{passed_is, not_passed}
+use Rattle.claxon_input.specs.Gives.{Went}
 use Rattle.claxon_input.proofs.FieldLoops.{TimesSoFar, with_front, times_add, times_push, times_several}
-use Rattle.claxon_input.proofs.CallsInTurn.{went_told, stuck_told}
 
 -- so many words were read and put at the front of xs
 pub record WordsSoFar (k : ℕ) (xs : List ℤ) (words : ℕ) (old new : Ahead) : Type 0 where
@@ -59,38 +55,6 @@ pub words_end : (k : ℕ) (xs : List ℤ) (words more : ℕ) (a c : Ahead) → m
 words_end k xs words more a c none h =
     let e : words + more ≡ words = omega arith in
     subst (λ (n : ℕ). GivesAhead a c (times_at n (word_at k)) (take n xs)) e h.so_far
-
--- ---- bits at hand that are skipped once they were read
-
-pub record WordsTaken (words k bits left : ℕ) (xs : List ℤ) (a b : Ahead) (rest : Bits) : Type 0 where
-  pub fewer : left ≤ bits
-  pub skipped : drop (bits - left) (bits_ahead a ++ rest) ≡ bits_ahead b ++ rest
-
-pub words_taken : (words k bits left : ℕ) (xs : List ℤ) (a b : Ahead) (rest : Bits) → k ≤ 30 → bits ≡ length (bits_ahead a) → left ≡ length (bits_ahead b)
-    → times_at words (word_at k) (bits_ahead a ++ rest) ≡ Done xs (bits_ahead b ++ rest) → WordsTaken words k bits left xs a b rest
-words_taken words k bits left xs a b rest le p q e =
-    let t = (Reads-times words (Reads-word k (omega arith))).takes (bits_ahead a ++ rest) xs (bits_ahead b ++ rest) e in
-    let len : length (bits_ahead a) + length rest ≡ length t.0 + (length (bits_ahead b) + length rest)
-    = sym (length-append (bits_ahead a) rest) ∙ ap length t.2 ∙ length-append t.0 (bits_ahead b ++ rest) ∙ ap (λ (n : ℕ). length t.0 + n) (length-append (bits_ahead b) rest) in
-    record { fewer = omega arith; skipped = ap (drop (bits - left)) t.2 ∙ drop_at t.0 (bits_ahead b ++ rest) (bits - left) (omega arith) }
-
-pub words_went : (words k bits left : ℕ) (xs : List ℤ) (a b : Ahead) {old new : State Bool} → k ≤ 30 → bits ≡ length (bits_ahead a) → left ≡ length (bits_ahead b)
-    → ((rest : Bits) → times_at words (word_at k) (bits_ahead a ++ rest) ≡ Done xs (bits_ahead b ++ rest)) → IsAhead a old → Went old new (λ s m. passed_at (bits - left) s ≡ Done tt m)
-    → Went old new (λ s m. times_at words (word_at k) s ≡ Done xs m)
-words_went words k bits left xs a b {new = new} le p q e here h =
-    went_told _ h (λ t skip.
-    let r = here t in
-    let m : new.coming ≡ bits_ahead b ++ r.0 = passed_is (bits - left) _ new.coming skip ∙ ap (drop (bits - left)) r.1 ∙ (words_taken words k bits left xs a b r.0 le p q (e r.0)).skipped in
-    ap (times_at words (word_at k)) r.1 ∙ e r.0 ∙ ap (λ (z : Bits). Done xs z) (sym m))
-
--- what is at hand can be skipped
-pub words_stuck : (bits left : ℕ) (a : Ahead) {old new : State Bool} → bits ≡ length (bits_ahead a) → IsAhead a old → Stuck old new (λ s. passed_at (bits - left) s ≡ Short) → Stuck old new (λ s. ⊥)
-words_stuck bits left a {old = old} p here h =
-    stuck_told _ h (λ t short.
-    let r = here t in
-    let few = not_passed (bits - left) old.coming short in
-    let len : length old.coming ≡ length (bits_ahead a) + length r.0 = ap length r.1 ∙ length-append (bits_ahead a) r.0 in
-    absurd (omega arith))
 
 -- ---- words that were put into the rest of a slice
 

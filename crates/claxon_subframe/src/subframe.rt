@@ -13,12 +13,14 @@ ghost use Rattle.claxon_subframe.specs.Decode.{EachSubframeFaultIsNamed, EachSub
 ghost use Rattle.claxon_subframe.specs.SubframeFields.{fixed_order, lpc_order, type_number, subframe_view, parameters_of, method_of};
 ghost use Rattle.claxon_subframe.specs.Partitions.{lengths, total};
 
+mod partitions;
 mod predictor;
 mod verbatim;
 mod words;
 
 use claxon_input::error::{Error, Result};
 use claxon_input::input::{Bitstream, ReadBytes};
+use partitions::read_partitions_at_hand;
 use predictor::{predict_fixed, predict_lpc};
 use verbatim::decode_verbatim;
 use words::read_words;
@@ -333,6 +335,17 @@ enum RicePartitionType {
     Rice2,
 }
 
+impl RicePartitionType {
+    fn parameter_bits(self) -> u32
+        ensures { result ≡ 4 + method_of self }
+    {
+        match self {
+            RicePartitionType::Rice => 4,
+            RicePartitionType::Rice2 => 5,
+        }
+    }
+}
+
 #[tactic(auto, unfolding(claxon_format::specs::read::Residual::method_at, claxon_format::specs::Fault::fault_text))]
 fn read_partition_type<R: ReadBytes>(input: &mut Bitstream<R>) -> Result<RicePartitionType>
     ensures { Gives method_of result method_at (bits_in R.source input.old) (bits_in R.source input.new) }
@@ -387,11 +400,19 @@ fn decode_partitions<R: ReadBytes>(
     ensures { Gives (λ x. buffer.new) result (joined_at (partition_at (method_of partition_type)) (lengths n_partitions first each)) (bits_in R.source input.old) (bits_in R.source input.new) }
 {
     let mut start = 0;
-    let mut len = first as usize;
-    for _ in 0..n_partitions {
-        decode_partition(input, partition_type, &mut buffer[start..start + len])?;
-        start += len;
-        len = each as usize;
+    let mut len = first;
+    let mut read = 0;
+    while read < n_partitions {
+        let end = start + len as usize;
+        decode_partition(input, partition_type, &mut buffer[start..end])?;
+        start = end;
+        len = each;
+        read += 1;
+        let most = n_partitions - read;
+        let rest = &mut buffer[start..];
+        let whole = read_partitions_at_hand(input, partition_type, each, most, rest)?;
+        start += whole as usize * each as usize;
+        read += whole;
     }
     Ok(())
 }

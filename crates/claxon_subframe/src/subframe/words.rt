@@ -54,8 +54,9 @@ fn read_words_at_hand<R: ReadBytes>(
     Ok(words)
 }
 
+/// As many words as stand whole in the bits at hand, one after another, and how many those are.
 #[inline(never)]
-fn words_ahead(ahead: &mut Ahead, parameter: u32, buffer: &mut [i32]) -> usize
+pub fn words_ahead(ahead: &mut Ahead, parameter: u32, buffer: &mut [i32]) -> usize
     requires { parameter ≤ 30 }
     ensures few { result ≤ length buffer.new }
     ensures words { (rest : Bits) → times_at result (word_at parameter) (bits_ahead ahead.old ++ rest) ≡ Done (take result buffer.new) (bits_ahead ahead.new ++ rest) }

@@ -1,3 +1,4 @@
+use Rattle.std.proofs.Common.{◌-◌}
 use Rattle.claxon_format.specs.read.Residual.{partition_at}
 use Rattle.claxon_input.specs.State.{bits_in}
 use Rattle.claxon_subframe.specs.SubframeFields.{method_of}
@@ -5,7 +6,10 @@ use Rattle.claxon_subframe.specs.Partitions.{lengths}
 use Rattle.claxon_subframe.proofs.PartitionLoop.{PartsSoFar}
 use Rattle.claxon_subframe.proofs.subframe.decode_partitions.Given as goal
 
-abbrev pub invariant-loop : goal.invariant-loop
-invariant-loop g l =
-    PartsSoFar (partition_at (method_of l.partition_type)) (lengths l.n_partitions l.first l.each) l.n_partitions l.counter l.start l.len l.each l.buffer
+abbrev pub invariant-loop-read : goal.invariant-loop-read
+invariant-loop-read g l =
+    PartsSoFar (partition_at (method_of l.partition_type)) (lengths l.n_partitions l.first l.each) l.n_partitions l.read l.start l.len l.each l.buffer
     (bits_in g.R.ReadBytes.source l.fn.input) (bits_in g.R.ReadBytes.source l.input)
+
+abbrev pub decreases-loop-read : goal.decreases-loop-read
+decreases-loop-read g l = l.initial.n_partitions - l.read

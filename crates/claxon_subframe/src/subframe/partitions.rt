@@ -1,0 +1,84 @@
+//! Partitions that stand whole in the bits at hand, which are skipped at once behind the last of them. Short ones cost little so.
+ghost use Rattle.std.specs.Prelude.{◌≡◌, ◌+◌, ◌*◌, ◌≤◌, ◌<◌, IfOk, IfErr, OnErr, length, take, replicate};
+ghost use Rattle.std.specs.Bool.{MatchBool};
+ghost use Rattle.claxon_format.specs.Reading.{Done};
+ghost use Rattle.claxon_format.specs.read.Residual.{joined_at, partition_at};
+ghost use Rattle.claxon_input.specs.Ahead.{bits_ahead, GivesAhead};
+ghost use Rattle.claxon_input.specs.State.{bits_in};
+ghost use Rattle.claxon_input.specs.Gives.{Went, Stuck};
+ghost use Rattle.claxon_input.specs.Error.{IsIo};
+ghost use Rattle.claxon_subframe.specs.SubframeFields.{method_of};
+
+use super::RicePartitionType;
+use super::words::words_ahead;
+use claxon_input::error::Result;
+use claxon_input::input::{Ahead, Bitstream, ReadBytes};
+
+/// Reads as many partitions as stand whole in the bits at hand, each of `each` entries, and says how many. Only the source can
+/// fail.
+pub fn read_partitions_at_hand<R: ReadBytes>(
+    input: &mut Bitstream<R>,
+    partition_type: RicePartitionType,
+    each: u16,
+    most: u32,
+    buffer: &mut [i32],
+) -> Result<u32>
+    requires room { most * each ≤ length buffer.old }
+    ensures few { IfOk result (λ whole. whole ≤ most) }
+    ensures ok { IfOk result (λ whole. Went (bits_in R.source input.old) (bits_in R.source input.new) (λ s m. joined_at (partition_at (method_of partition_type)) (replicate whole each) s ≡ Done (take (whole * each) buffer.new) m)) }
+    ensures io { IfErr result IsIo }
+    ensures err { OnErr result (Stuck (bits_in R.source input.old) (bits_in R.source input.new) (λ s. ⊥)) }
+{
+    let mut ahead = input.ahead();
+    let bits = ahead.len();
+    let whole = partitions_ahead(&mut ahead, partition_type, each, most, buffer);
+    let passed = bits - ahead.len();
+    input.skip_bits(passed)?;
+    Ok(whole)
+}
+
+fn partitions_ahead(
+    ahead: &mut Ahead,
+    partition_type: RicePartitionType,
+    each: u16,
+    most: u32,
+    buffer: &mut [i32],
+) -> u32
+    requires room { most * each ≤ length buffer.old }
+    ensures few { result ≤ most }
+    ensures read { GivesAhead ahead.old ahead.new (joined_at (partition_at (method_of partition_type)) (replicate result each)) (take (result * each) buffer.new) }
+{
+    let each = each as usize;
+    let mut whole = 0;
+    let mut start = 0;
+    while whole < most {
+        if !partition_ahead(ahead, partition_type, &mut buffer[start..start + each]) {
+            break;
+        }
+        whole += 1;
+        start += each;
+    }
+    whole
+}
+
+// A partition of words, where it stands whole in the bits at hand. Otherwise what is in the buffer is of no use.
+fn partition_ahead(ahead: &mut Ahead, partition_type: RicePartitionType, buffer: &mut [i32]) -> bool
+    requires { length buffer.now < 65536 }
+    ensures { MatchBool result (GivesAhead ahead.old ahead.new (partition_at (method_of partition_type) (length buffer.new)) buffer.new) (bits_ahead ahead.new ≡ bits_ahead ahead.old) }
+{
+    let bits = partition_type.parameter_bits();
+    let escape = (1 << bits) - 1;
+    let mut next = *ahead;
+    let Some(parameter) = next.number(bits) else {
+        return false;
+    };
+    // A word has a bit more than the parameter, or many more: where so many aren't at hand none is read in vain.
+    if parameter == escape || next.len() < buffer.len() as u32 * (parameter + 1) {
+        return false;
+    }
+    if words_ahead(&mut next, parameter, buffer) < buffer.len() {
+        return false;
+    }
+    *ahead = next;
+    true
+}
