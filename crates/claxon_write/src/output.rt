@@ -294,22 +294,39 @@ fn interleave<A: Allocator>(block: &Block<A>, from: usize, to: usize, room: &mut
     ensures { room.new ≡ bytes_between block.now.channels from to }
 {
     match block.channels() {
+        // An empty block has no place, so there is no room either.
+        0 => {}
         1 => put_mono(&block.channel(0)[from..to], room),
         2 => put_stereo(
             &block.channel(0)[from..to],
             &block.channel(1)[from..to],
             room,
         ),
-        channels => {
-            for ch in 0..channels {
-                put_channel(
-                    &block.channel(ch)[from..to],
-                    ch as usize,
-                    channels as usize,
-                    room,
-                );
-            }
-        }
+        3 => put_channels::<3, A>(block, from, to, room),
+        4 => put_channels::<4, A>(block, from, to, room),
+        5 => put_channels::<5, A>(block, from, to, room),
+        6 => put_channels::<6, A>(block, from, to, room),
+        7 => put_channels::<7, A>(block, from, to, room),
+        _ => put_channels::<8, A>(block, from, to, room),
+    }
+}
+
+// The same for a block of `CHANNELS` channels, channel by channel.
+fn put_channels<const CHANNELS: usize, A: Allocator>(
+    block: &Block<A>,
+    from: usize,
+    to: usize,
+    room: &mut [u8],
+)
+    requires channels { length block.now.channels ≡ CHANNELS }
+    requires few { CHANNELS ≤ 8 }
+    requires order { from ≤ to }
+    requires in_block { to ≤ duration_of block.now.channels }
+    requires room { length room.old ≡ (to - from) * (4 * length block.now.channels) }
+    ensures { room.new ≡ bytes_between block.now.channels from to }
+{
+    for ch in 0..CHANNELS {
+        put_channel::<CHANNELS>(&block.channel(ch as u32)[from..to], ch, room);
     }
 }
 
@@ -349,16 +366,17 @@ fn put_stereo(left: &[i32], right: &[i32], room: &mut [u8])
     }
 }
 
-// The samples of one of several channels, each behind those of the channels before it.
+// The samples of one of several channels, each behind those of the channels before it. Their count is a constant, so that
+// the compiler knows how far apart the samples stand.
 #[inline(never)]
-fn put_channel(samples: &[i32], ch: usize, channels: usize, room: &mut [u8])
-    requires here { ch < channels }
-    requires few { channels ≤ 8 }
-    requires room { length room.old ≡ length samples.now * (4 * channels) }
-    ensures { PutsChannel samples.now ch channels room.old room.new }
+fn put_channel<const CHANNELS: usize>(samples: &[i32], ch: usize, room: &mut [u8])
+    requires here { ch < CHANNELS }
+    requires few { CHANNELS ≤ 8 }
+    requires room { length room.old ≡ length samples.now * (4 * CHANNELS) }
+    ensures { PutsChannel samples.now ch CHANNELS room.old room.new }
 {
     for i in 0..samples.len() {
-        let at = i * (4 * channels) + 4 * ch;
+        let at = i * (4 * CHANNELS) + 4 * ch;
         room[at..at + 4].copy_from_slice(&little_endian(samples[i]));
     }
 }

@@ -1,6 +1,0 @@
-use Rattle.std.proofs.Common.{◌*◌, ◌-◌}
-use Rattle.claxon_write.proofs.Places.{PlacesSoFar}
-use Rattle.claxon_write.proofs.output.interleave.Given as goal
-
-abbrev pub invariant-loop-ch : goal.invariant-loop-ch
-invariant-loop-ch g l = PlacesSoFar l.block.channels (4 * l.channels) l.from (l.to - l.from) l.ch l.room
