@@ -3,7 +3,6 @@ use Rattle.std.proofs.Common.{◌≡◌, ◌≢◌, ℕ, ◌+◌, ◌-◌, ◌*�
 use Rattle.std.specs.List.{flat_map}
 use Rattle.std.proofs.lemmas.List.{take_all}
 use Rattle.std.proofs.lemmas.Bool.Decides.{nat_tests}
-use Rattle.std.proofs.lemmas.Slice.{take-put_mid_below}
 use borrow.Rule.Slice.PartMut.{put_mid}
 use Rattle.claxon_format.proofs.Laws.{Reads-each, Reads-map, Reads-same}
 use Rattle.claxon_format.proofs.Numbers.{Reads-number}
@@ -49,15 +48,6 @@ partitions_next method each whole start xs ys a b c is room same len h e =
       so_far = λ rest. joined_push (partition_at method) each whole (bits_ahead a ++ rest) (bits_ahead b ++ rest) (bits_ahead c ++ rest) (take (whole * each) xs) ys (h.so_far rest) (ap (λ (n : ℕ). partition_at method n (bits_ahead b ++ rest)) (sym len) ∙ e rest)
           ∙ ap (λ (l : List ℤ). Done l (bits_ahead c ++ rest)) part;
     }
-
--- where no more is whole, what is behind them is of no use
-pub partitions_end : (method each whole start : ℕ) (xs ys : List ℤ) (a b c : Ahead) → start ≡ whole * each → start + each ≤ length xs → bits_ahead c ≡ bits_ahead b → PartitionsSoFar method each whole xs a b
-    → GivesAhead a c (joined_at (partition_at method) (replicate whole each)) (take (whole * each) (put_mid start (start + each - start) xs ys))
-partitions_end method each whole start xs ys a b c is room same h rest =
-    let below : whole * each ≤ start = omega (arith, is) in
-    let new = put_mid start (start + each - start) xs ys in
-    h.so_far rest ∙ ap (λ (l : List ℤ). Done l (bits_ahead b ++ rest)) (sym (take-put_mid_below start (start + each - start) xs ys (whole * each) below (omega arith)))
-    ∙ ap (λ (z : Bits). Done (take (whole * each) new) (z ++ rest)) (sym same)
 
 pub partitions_room : (each whole most start len : ℕ) → start ≡ whole * each → whole < most → most * each ≤ len → start + each ≤ len
 partitions_room each whole most start len is lt le = grind arith

@@ -3,15 +3,21 @@ use Rattle.std.specs.Prelude.{◌≡◌, ℕ, ◌-◌, ◌<◌, ◌≤◌, List,
 use Rattle.claxon_format.specs.Bits.{Bits, bits}
 use Rattle.claxon_format.specs.Reading.{Done, times_at}
 use Rattle.claxon_format.specs.read.Bits.{word_at}
+use Rattle.claxon_input.specs.Ahead.{GivesAhead}
 use Rattle.claxon_input.specs.Gives.{Gives}
 use Rattle.claxon_input.specs.Source.{Source}
 use Rattle.claxon_input.specs.State.{bits_in}
 use Rattle.claxon_input.specs.declared.bits.Bitstream.{Bitstream}
+use Rattle.claxon_input.specs.declared.bits.ahead.Ahead.{Ahead}
 use Rattle.claxon_input.specs.declared.error.Error.{Error}
 
 -- The buffer now holds the entries of words under this parameter, as many as it is long, which were taken.
 abbrev pub WordsAreRead : {R A : Type 0} {g : _} → (R → Source ℕ) → ℕ → Bitstream R g → Result A Error → Bitstream R g → List ℤ → List ℤ → Type 0
 WordsAreRead source parameter old result new was is = Gives (λ x. is) result (times_at (length was) (word_at parameter)) (bits_in source old) (bits_in source new)
+
+-- So many words stand at the front of the buffer, which were read from the bits at hand.
+abbrev pub WordsStandAhead : ℕ → Ahead → ℕ → Ahead → List ℤ → Type 0
+WordsStandAhead parameter old words new buffer = GivesAhead old new (times_at words (word_at parameter)) (take words buffer)
 
 -- The first n of the window's 64 bits begin with a word of x in so many bits, and what is left of them comes first in `turned`.
 pub record IsFirstWord (parameter window : ℕ) (x : ℤ) (many turned : ℕ) : Type 0 where

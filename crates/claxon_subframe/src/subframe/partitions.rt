@@ -1,12 +1,12 @@
 //! Partitions that stand whole in the bits at hand, which are skipped at once behind the last of them. Short ones cost little so.
 ghost use Rattle.std.specs.Prelude.{◌≡◌, ◌+◌, ◌*◌, ◌≤◌, ◌<◌, IfOk, IfErr, OnErr, length, take, replicate};
 ghost use Rattle.std.specs.Bool.{MatchBool};
-ghost use Rattle.claxon_format.specs.Reading.{Done};
 ghost use Rattle.claxon_format.specs.read.Residual.{joined_at, partition_at};
 ghost use Rattle.claxon_input.specs.Ahead.{bits_ahead, GivesAhead};
 ghost use Rattle.claxon_input.specs.State.{bits_in};
-ghost use Rattle.claxon_input.specs.Gives.{Went, Stuck};
+ghost use Rattle.claxon_input.specs.Gives.{Stuck};
 ghost use Rattle.claxon_input.specs.Error.{IsIo};
+ghost use Rattle.claxon_subframe.specs.Partitions.{PartitionsAreRead};
 ghost use Rattle.claxon_subframe.specs.SubframeFields.{method_of};
 
 use super::RicePartitionType;
@@ -25,7 +25,7 @@ pub fn read_partitions_at_hand<R: ReadBytes>(
 ) -> Result<u32>
     requires room { most * each ≤ length buffer.old }
     ensures few { IfOk result (λ whole. whole ≤ most) }
-    ensures ok { IfOk result (λ whole. Went (bits_in R.source input.old) (bits_in R.source input.new) (λ s m. joined_at (partition_at (method_of partition_type)) (replicate whole each) s ≡ Done (take (whole * each) buffer.new) m)) }
+    ensures ok { PartitionsAreRead R.source (method_of partition_type) each input.old result input.new buffer.new }
     ensures io { IfErr result IsIo }
     ensures err { OnErr result (Stuck (bits_in R.source input.old) (bits_in R.source input.new) (λ s. ⊥)) }
 {
@@ -37,6 +37,7 @@ pub fn read_partitions_at_hand<R: ReadBytes>(
     Ok(whole)
 }
 
+// The same without an input: how many of so many partitions stand whole in the bits at hand.
 fn partitions_ahead(
     ahead: &mut Ahead,
     partition_type: RicePartitionType,

@@ -9,7 +9,7 @@ ghost use Rattle.claxon_input.specs.Ahead.{bits_ahead, GivesAhead};
 ghost use Rattle.claxon_input.specs.State.{bits_in};
 ghost use Rattle.claxon_input.specs.Gives.{Gives, Went, Stuck};
 ghost use Rattle.claxon_input.specs.Error.{IsIo};
-ghost use Rattle.claxon_subframe.specs.Words.{WordsAreRead, IsFirstWord};
+ghost use Rattle.claxon_subframe.specs.Words.{WordsAreRead, WordsStandAhead, IsFirstWord};
 
 use claxon_input::error::Result;
 use claxon_input::input::{Ahead, Bitstream, ReadBytes};
@@ -59,7 +59,7 @@ fn read_words_at_hand<R: ReadBytes>(
 pub fn words_ahead(ahead: &mut Ahead, parameter: u32, buffer: &mut [i32]) -> usize
     requires { parameter ≤ 30 }
     ensures few { result ≤ length buffer.new }
-    ensures words { (rest : Bits) → times_at result (word_at parameter) (bits_ahead ahead.old ++ rest) ≡ Done (take result buffer.new) (bits_ahead ahead.new ++ rest) }
+    ensures words { WordsStandAhead parameter ahead.old result ahead.new buffer.new }
 {
     // What a reference leads to might lie in the buffer, so it would be read again after each word: a copy stays in registers.
     let mut next = *ahead;
