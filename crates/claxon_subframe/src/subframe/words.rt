@@ -1,6 +1,6 @@
 //! The words of a partition: most of a stream, and so most of its time. They are read from the bits at hand, where no call
 //! can fail, and then these bits are skipped at once.
-ghost use Rattle.std.specs.Prelude.{◌≡◌, ◌<◌, ◌≤◌, ◌++◌, IfOk, IfErr, OnErr, MatchOption, length, take};
+ghost use Rattle.std.specs.Prelude.{◌≡◌, ◌<◌, ◌≤◌, IfOk, IfErr, OnErr, MatchOption, length, take};
 ghost use Rattle.std.specs.Bool.{MatchBool};
 ghost use Rattle.claxon_format.specs.Bits.{Bits, unfold_at};
 ghost use Rattle.claxon_format.specs.Reading.{Done, times_at};
