@@ -1,10 +1,11 @@
 -- Words that are read from a window of 64 bits, which is turned past each.
-use Rattle.std.proofs.Common.{bit_or, ◌≡◌, ℕ, zero, suc, ◌+◌, ◌-◌, ◌*◌, ◌/◌, ◌%◌, ◌^◌, ◌<◌, ◌≤◌, true, false, List, [], ◌∷◌, ◌++◌, length, length-take, take, drop, set, replicate, refl, sym, ap, ap₂, subst, ◌∙◌, append_assoc, arith, ℤ, take-add, to_z, of_z, w32}
-use Rattle.std.specs.Int.{leading_zeros, rotate_left, w64}
+use Rattle.std.proofs.Common.{bit_or, bit_xor, inl, inr, ◌≡◌, ℕ, zero, suc, ◌+◌, ◌-◌, ◌*◌, ◌/◌, ◌%◌, ◌^◌, ◌<◌, ◌≤◌, true, false, List, [], ◌∷◌, ◌++◌, length, length-take, take, drop, set, replicate, refl, sym, ap, ap₂, subst, ◌∙◌, append_assoc, arith, ℤ, take-add, to_z, of_z, w32}
+use Rattle.std.specs.Int.{leading_zeros, rotate_left, rotate_right, w64}
 use Rattle.std.specs.Int.Count.{leading_of_zero}
-use Rattle.std.specs.Int.Bits.{or_zero_r}
+use Rattle.std.specs.Int.Bits.{or_zero_r, xor_add_and}
 use Rattle.std.proofs.lemmas.List.{take-take, drop-take, take-append-le, drop-append-le, length-drop, take-append-drop, drop-drop, take_more_set, take_all}
-use Rattle.std.proofs.lemmas.Nat.{pow_pos, shl-shr, shr_below, or_shifted, or_shr, mod-pow-add, mod-mul-add, mod_below}
+use Rattle.std.proofs.lemmas.Nat.{pow_pos, shl-shr, shl_below, shr_below, shr_split, or_shifted, or_shr, or_comm, le_or_l, le_or_r, and_mask, mod-pow-add, mod-mul-add, mod_below}
+use Rattle.std.proofs.Math.Nat.{eq-zero-or-pos, mod-eq_of_lt, mul-pos}
 use Rattle.std.proofs.Math.Seq.{drop-append-add}
 use Rattle.claxon_format.specs.Bits.{Bits, bits, unfold_at}
 use Rattle.claxon_format.specs.Reading.{Done, times_at, each_at}
@@ -50,7 +51,54 @@ last_bits x z k h lt =
     ∙ drop-append-add (drop (z + 1 + k) (bits 64 x)) (take (z + 1 + k) (bits 64 x)) (z + 1)
     ∙ drop-take (z + 1) k (bits 64 x)
 
+-- a turn to the right by what a turn to the left leaves of 64
+turned_right : (x n back : ℕ) → 0 < n → n < 64 → back % 64 ≡ 64 - n → rotate_right w64 x back ≡ rotate_left w64 x n
+turned_right x n back some h e =
+    let by : n % 64 ≡ n = omega arith in
+    let other : (64 - (64 - n)) % 64 ≡ n = omega arith in
+    let rest : (64 - n) % 64 ≡ 64 - n = omega arith in
+    rw (e, other, by, rest) (or_comm (x / 2 ^ (64 - n)) (x * 2 ^ n % 18446744073709551616))
+
+-- a one stays, wherever it is turned to
+pub turned_some : (x back : ℕ) → 0 < x → x < 18446744073709551616 → 0 < rotate_right w64 x back
+turned_some x back some lt =
+    let j : ℕ = back % 64 in
+    let high : ℕ = x / 2 ^ j in
+    let low : ℕ = x * 2 ^ ((64 - j) % 64) % 18446744073709551616 in
+    elim (eq-zero-or-pos high) [
+      | inl none ↦
+          (let below : x < 2 ^ j = omega (arith, shr_split x j, mod_below x (2 ^ j) (pow_pos j), ap (λ (m : ℕ). m * 2 ^ j) none) in
+          let turn : 0 < j = zero_turn j below in
+          let by : (64 - j) % 64 ≡ 64 - j = omega arith in
+          let e : j + (64 - j) ≡ 64 = omega arith in
+          let fits : x * 2 ^ (64 - j) < 18446744073709551616 = subst (λ (m : ℕ). x * 2 ^ (64 - j) < 2 ^ m) e (shl_below x j (64 - j) below) in
+          let is : low ≡ x * 2 ^ (64 - j) = ap (λ (m : ℕ). x * 2 ^ m % 18446744073709551616) by ∙ mod-eq_of_lt fits in
+          let pos : 0 < x * 2 ^ (64 - j) = mul-pos some (pow_pos (64 - j)) in
+          omega (arith, is, pos, le_or_r high low))
+      | inr pos ↦ omega (arith, pos, le_or_l high low)
+    ]
+  where
+    zero_turn : (j : ℕ) → x < 2 ^ j → 0 < j
+    zero_turn zero below = absurd (omega arith)
+    zero_turn (suc j) below = omega arith
+
 -- ---- the first word
+
+mirrored : (z : ℕ) → z < 64 → bit_xor z 63 ≡ 63 - z
+mirrored z lt = omega (arith, xor_add_and z 63, and_mask z 6)
+
+pub mirrored_twice : (z : ℕ) → z < 64 → bit_xor (bit_xor z 63) 63 ≡ z
+mirrored_twice z lt = ap (λ (m : ℕ). bit_xor m 63) (mirrored z lt) ∙ mirrored (63 - z) (omega arith) ∙ omega arith
+
+-- how far the window is turned to the right, modulo 2^32
+abbrev pub back_by : ℕ → ℕ → ℕ
+back_by z k = (bit_xor z 63 + (4294967296 - k)) % 4294967296
+
+pub word_bits : (z k : ℕ) → z < 64 → k ≤ 30 → (64 + (4294967296 - back_by z k)) % 4294967296 ≡ z + 1 + k
+word_bits z k lt le = rw (mirrored z lt) (omega arith)
+
+back_right : (x z k : ℕ) → z + 1 + k < 64 → rotate_right w64 x (back_by z k) ≡ rotate_left w64 x (z + 1 + k)
+back_right x z k lt = turned_right x (z + 1 + k) (back_by z k) (omega arith) lt (rw (mirrored z (omega arith)) (omega arith))
 
 -- fewer than 63 zeros and a one
 first_one : (x : ℕ) → x < 18446744073709551616 → leading_zeros w64 x < 63 → take (leading_zeros w64 x + 1) (bits 64 x) ≡ replicate (leading_zeros w64 x) false ++ true ∷ []
@@ -65,25 +113,26 @@ split_word W P z k n first h le =
     ∙ append_assoc P (take k (drop (z + 1) W)) (drop (z + 1 + k) (take n W))
 
 pub first_is : (k x : ℕ) (e v : ℤ) → k ≤ 30 → x < 18446744073709551616
-    → e ≡ unfold_at (bit_or (leading_zeros w64 x * 2 ^ k % 4294967296) (rotate_left w64 x (leading_zeros w64 x + 1 + k) % 2 ^ k)) → v ≡ to_z w32 (of_z w32 e)
-    → IsFirstWord k x v (leading_zeros w64 x + 1 + k) (rotate_left w64 x (leading_zeros w64 x + 1 + k))
+    → e ≡ unfold_at (bit_or (leading_zeros w64 x * 2 ^ k % 4294967296) (rotate_right w64 x (back_by (leading_zeros w64 x) k) % 2 ^ k)) → v ≡ to_z w32 (of_z w32 e)
+    → IsFirstWord k x v (leading_zeros w64 x + 1 + k) (rotate_right w64 x (back_by (leading_zeros w64 x) k))
 first_is k x e v le lt e-is v-is = record {
   word = λ n rest small h room.
       let z : ℕ = leading_zeros w64 x in
-      let r : ℕ = rotate_left w64 x (leading_zeros w64 x + 1 + k) % 2 ^ k in
+      let turned : ℕ = rotate_right w64 x (back_by z k) in
+      let r : ℕ = turned % 2 ^ k in
       let P : Bits = replicate z false ++ true ∷ [] in
       let left : Bits = drop (leading_zeros w64 x + 1 + k) (take n (bits 64 x)) in
       let split : take n (bits 64 x) ++ rest ≡ P ++ (bits k r ++ (left ++ rest))
-      = ap (λ (t : Bits). t ++ rest) (split_word (bits 64 x) P z k n (first_one x lt (omega arith)) h (rw (length-bits 64 x) room) ∙ ap (λ (t : Bits). P ++ (t ++ left)) (sym (last_bits x z k small lt)))
+      = ap (λ (t : Bits). t ++ rest) (split_word (bits 64 x) P z k n (first_one x lt (omega arith)) h (rw (length-bits 64 x) room) ∙ ap (λ (t : Bits). P ++ (t ++ left)) (sym (ap (λ (t : ℕ). bits k (t % 2 ^ k)) (back_right x z k small) ∙ last_bits x z k small lt)))
       ∙ append_assoc P (bits k r ++ left) rest ∙ ap (λ (t : Bits). P ++ t) (append_assoc (bits k r) left rest) in
       let first : unary_at (take n (bits 64 x) ++ rest) ≡ Done z (bits k r ++ (left ++ rest)) = ap unary_at split ∙ Reads-unary.again z P (bits k r ++ (left ++ rest)) (omega arith, refl) in
-      let second : number_at k (bits k r ++ (left ++ rest)) ≡ Done r (left ++ rest) = (Reads-number k).again r (bits k r) (left ++ rest) (mod_below (rotate_left w64 x (z + 1 + k)) (2 ^ k) (pow_pos k), refl) in
+      let second : number_at k (bits k r ++ (left ++ rest)) ≡ Done r (left ++ rest) = (Reads-number k).again r (bits k r) (left ++ rest) (mod_below turned (2 ^ k) (pow_pos k), refl) in
       word_from k z r e v (take n (bits 64 x) ++ rest) (bits k r ++ (left ++ rest)) (left ++ rest) le first second e-is v-is;
   others = λ n small h room.
       let m : ℕ = leading_zeros w64 x + 1 + k in
       let len : length (drop m (bits 64 x)) ≡ 64 - m = length-drop m (bits 64 x) ∙ ap (λ (j : ℕ). j - m) (length-bits 64 x) in
       let f : n ≡ m + (n - m) = omega arith in
-      ap (take (n - m)) (turned_bits x m (omega arith) small lt) ∙ take-append-le (n - m) (drop m (bits 64 x)) (take m (bits 64 x)) (omega arith)
+      ap (take (n - m)) (ap (bits 64) (back_right x (leading_zeros w64 x) k small) ∙ turned_bits x m (omega arith) small lt) ∙ take-append-le (n - m) (drop m (bits 64 x)) (take m (bits 64 x)) (omega arith)
       ∙ sym (ap (λ (j : ℕ). drop m (take j (bits 64 x))) f ∙ drop-take m (n - m) (bits 64 x));
 }
 
@@ -94,8 +143,10 @@ abbrev but_last : ℕ → Bits
 but_last w = take 63 (bits 64 w)
 
 -- So many words of the window w are at the front of xs, if they fit: then those are its first bits, and the others but the last come first in `window`.
+-- The bit that was set stays in it.
 pub record GroupSoFar (k w : ℕ) (xs : List ℤ) (words used window : ℕ) : Type 0 where
   pub few : used ≤ 95 * words
+  pub some : 0 < window
   pub so_far : used ≤ 56 → (rest : Bits) → times_at words (word_at k) (but_last w ++ rest) ≡ Done (take words xs) (drop used (but_last w) ++ rest)
   pub others : used ≤ 56 → take (63 - used) (bits 64 window) ≡ drop used (but_last w)
 
@@ -106,12 +157,13 @@ last_set w =
 
 pub group_begins : (k w : ℕ) (xs : List ℤ) → GroupSoFar k w xs 0 0 (bit_or w 1)
 unfolding times_at each_at
-group_begins k w xs = record { few = omega arith; so_far = λ _ rest. refl; others = λ _. last_set w }
+group_begins k w xs = record { few = omega arith; some = omega (arith, le_or_r w 1); so_far = λ _ rest. refl; others = λ _. last_set w }
 
-pub group_next : (k w : ℕ) (xs : List ℤ) (words used window : ℕ) (x : ℤ) (many turned : ℕ) → words < length xs → GroupSoFar k w xs words used window → many ≤ 95 → IsFirstWord k window x many turned
+pub group_next : (k w : ℕ) (xs : List ℤ) (words used window : ℕ) (x : ℤ) (many turned : ℕ) → words < length xs → GroupSoFar k w xs words used window → many ≤ 95 → 0 < turned → IsFirstWord k window x many turned
     → GroupSoFar k w (set xs words x) (words + 1) (used + many) turned
-group_next k w xs words used window x many turned lt h le is = record {
+group_next k w xs words used window x many turned lt h le some is = record {
   few = (let f = h.few in omega arith);
+  some = some;
   so_far = λ fits rest.
       let T = h.others (omega arith) in
       let e : word_at k (drop used (but_last w) ++ rest) ≡ Done x (drop (used + many) (but_last w) ++ rest)

@@ -138,17 +138,23 @@ fn group_ahead(ahead: &mut Ahead, parameter: u32, group: &mut [i32]) -> bool
 }
 
 // The word that a window of 64 bits begins with, how many bits it has, and the window turned past them. Where it has 64 bits
-// or more nothing is known of it.
+// or more nothing is known of it, but that the turned window isn't zero either.
 #[inline(always)]
 fn first_word(window: u64, parameter: u32) -> (i32, u32, u64)
-    requires { parameter ≤ 30 }
+    requires parameter { parameter ≤ 30 }
+    requires some { 0 < window }
     ensures few { result.1 ≤ 95 }
     ensures word { IsFirstWord parameter window result.0 result.1 result.2 }
+    ensures some { 0 < result.2 }
 {
-    let zeros = window.leading_zeros();
-    let bits = zeros + 1 + parameter;
-    let turned = window.rotate_left(bits);
+    // Where the first one stands, from the low end: the turn to the right by it waits for fewer operations than one to the
+    // left by the zeros.
+    let first = window.leading_zeros() ^ 63;
+    let back = first.wrapping_sub(parameter);
+    let bits = 64u32.wrapping_sub(back);
+    let turned = window.rotate_right(back);
     let low = (turned & ((1 << parameter) - 1)) as u32;
+    let zeros = first ^ 63;
     (rice_to_signed((zeros << parameter) | low), bits, turned)
 }
 

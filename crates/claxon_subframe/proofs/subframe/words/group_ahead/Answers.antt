@@ -13,7 +13,7 @@ loop-entry-preserved c =
     let f : FitsSigned w32 word = search rules in
     let lt : l.entry-index < length l.group = omega arith in
     rw (to_z-of_z w32 word f)
-    (group_next c.args.parameter c.in-Some.first l.group l.entry-index l.used l.window word c.first_word-word.result.1 c.first_word-word.result.2 lt l.invariant c.first_word-word.ensures.few c.first_word-word.ensures.word)
+    (group_next c.args.parameter c.in-Some.first l.group l.entry-index l.used l.window word c.first_word-word.result.1 c.first_word-word.result.2 lt l.invariant c.first_word-word.ensures.few c.first_word-word.ensures.some c.first_word-word.ensures.word)
 
 pub returns : goal.returns
 returns c =
