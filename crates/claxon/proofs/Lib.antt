@@ -1,3 +1,4 @@
+pub use Rattle.claxon_format.proofs.Formats
 pub use Rattle.claxon_input.proofs.InMemory
 pub mod HeadMemory
 pub mod HeadParts

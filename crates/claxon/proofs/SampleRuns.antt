@@ -8,10 +8,12 @@ use Rattle.claxon_format.specs.Fault.{Fault}
 use Rattle.claxon_format.specs.Frame.{StreamShape, Block, Frame, FrameBytesFault, Frames, IsComplete, IsWidth, known_width}
 use Rattle.claxon_format.specs.Guards.{crc16}
 use Rattle.claxon_format.specs.Heads.{HeadCode}
+use Rattle.claxon_format.specs.Reading.{Faulty, Short}
+use Rattle.claxon_format.specs.read.Frame.{frame_bytes_at}
 use Rattle.claxon_format.specs.Streams.{interleave, stream_of, with_samples}
 use Rattle.claxon_format.proofs.Bytes.{length-bits_of}
 use Rattle.claxon_format.proofs.Formats.{frames_told}
-use Rattle.claxon_format.proofs.FrameBytes.{one_block}
+use Rattle.claxon_format.proofs.FrameBytes.{Reads-frame_bytes, one_block}
 use Rattle.claxon_format.proofs.Numbers.{length-bits}
 use Rattle.claxon_input.specs.declared.error.Error.{Error}
 use Rattle.claxon_input.specs.declared.input.BufferedReader.{BufferedReader}
@@ -23,6 +25,7 @@ use Rattle.claxon_input.specs.Promises.{Comes, IsExcused, Took}
 use Rattle.claxon_input.proofs.CallsInTurn.{went_none, went_both, went_told}
 use Rattle.claxon_frame.specs.Block.{BlockValue}
 use Rattle.claxon_frame.specs.FrameReader.{ReadsFrame, block_view}
+use Rattle.claxon_frame.proofs.FramePromises.{short_frame}
 use Rattle.claxon.specs.FlacReader.{flac_head, flac_input, samples_input}
 use Rattle.claxon.specs.FlacSamples.{BlockAnswer, NextSample, SamplesStep, have_failed, samples_bytes, samples_left, samples_stream}
 use Rattle.claxon.specs.Opening.{flac_bytes}
@@ -167,6 +170,10 @@ short_complete stream r short b t u c e =
     let f = frame_long stream b t c in
     omega arith
 
+-- nor with a fault
+pub short_right : (stream : Option StreamShape) → IsWidth (known_width stream) → (r : List ℕ) → length r < 2 → (f : Fault) (t u : List ℕ) → FrameBytesFault stream f t → r ≡ t ++ u → ⊥
+short_right stream width r short f t u bad e = let q : Faulty f u ≡ Short = sym ((Reads-frame_bytes stream width).bad_again f t u bad) ∙ ap (frame_bytes_at stream) (sym e) ∙ short_frame stream r short in cc
+
 -- where the frames end fewer than two bytes are left
 few_left : {stream : Option StreamShape} {blocks : List Block} {a b : State ℕ} (h : ReadsFrames stream blocks (Ok None) a b) → a.told ≡ true → length h.between.coming < 2
 few_left h told = (h.last.promises.at_end refl (h.blocks_are.went.known told).told).0
@@ -191,15 +198,26 @@ module _ (stream : Option StreamShape) (width : IsWidth (known_width stream)) wh
   pub fault_complete : (f : Fault) (s t rest : List ℕ) → FrameBytesFault stream f t → s ≡ t ++ rest → IsComplete stream s
   fault_complete f s t rest bad e block u v c p = (frames_told stream width).no_fault block f u t v rest c bad (sym p ∙ e)
 
-  -- frames that were read are the first ones of those that stand there
-  pub frames_left : (s m rest : List ℕ) (done blocks : List Block) → Frames stream s done m → Frames stream s blocks rest → IsComplete stream rest → (others : List Block) × (blocks ≡ done ++ others) × Frames stream m others rest
-  frames_left s m rest [] blocks d f c = (blocks, refl, subst (λ (z : List ℕ). Frames stream z blocks rest) d f)
-  frames_left s m rest (x ∷ done) [] d f c = absurd (c x d.0 d.1 d.2 (sym f ∙ d.3))
-  frames_left s m rest (x ∷ done) (y ∷ blocks) d f c =
+  -- of two runs of frames one goes on where the other ends
+  pub frames_either : (s m n : List ℕ) (done blocks : List Block) → Frames stream s done m → Frames stream s blocks n
+      → ((others : List Block) × (blocks ≡ done ++ others) × Frames stream m others n) ⊎ ((others : List Block) × (done ≡ blocks ++ others) × Frames stream n others m)
+  frames_either s m n [] blocks d f = inl (blocks, refl, subst (λ (z : List ℕ). Frames stream z blocks n) d f)
+  frames_either s m n (x ∷ done) [] d f = inr (x ∷ done, refl, subst (λ (z : List ℕ). Frames stream z (x ∷ done) m) f d)
+  frames_either s m n (x ∷ done) (y ∷ blocks) d f =
       let p = one_block stream width x y d.0 f.0 d.1 f.1 d.2 f.2 (sym d.3 ∙ f.3) in
       let l : d.1 ≡ f.1 = append_cancel_left d.0 d.1 f.1 (sym d.3 ∙ f.3 ∙ ap (λ (z : List ℕ). z ++ f.1) (sym p.1)) in
-      let q = frames_left f.1 m rest done blocks (subst (λ (z : List ℕ). Frames stream z done m) l d.4) f.4 c in
-      (q.0, ap₂ (λ (z : Block) (zs : List Block). z ∷ zs) (sym p.0) q.1, q.2)
+      elim (frames_either f.1 m n done blocks (subst (λ (z : List ℕ). Frames stream z done m) l d.4) f.4) [
+        | inl q ↦ inl (q.0, ap₂ (λ (z : Block) (zs : List Block). z ∷ zs) (sym p.0) q.1, q.2)
+        | inr q ↦ inr (q.0, ap₂ (λ (z : Block) (zs : List Block). z ∷ zs) p.0 q.1, q.2)
+      ]
+
+  -- frames that were read are the first ones of those that stand there
+  pub frames_left : (s m rest : List ℕ) (done blocks : List Block) → Frames stream s done m → Frames stream s blocks rest → IsComplete stream rest → (others : List Block) × (blocks ≡ done ++ others) × Frames stream m others rest
+  frames_left s m rest done blocks d f c = elim (frames_either s m rest done blocks d f) [ inl q ↦ q | inr q ↦ go q.0 q.1 q.2 ]
+    where
+      go : (more : List Block) → done ≡ blocks ++ more → Frames stream rest more m → (others : List Block) × (blocks ≡ done ++ others) × Frames stream m others rest
+      go [] e g = ([], sym (append-nil done ∙ e ∙ append-nil blocks), sym g)
+      go (x ∷ more) e g = absurd (c x g.0 g.1 g.2 g.3)
 
   -- All of them were read and the last answer is of what follows, or it is excused.
   pub behind : (end : Option Error) (done blocks : List Block) (m : List ℕ) {a b : State ℕ} (h : ReadsFrames stream done (end_found end) a b) → a.told ≡ true → Frames stream a.coming blocks m → IsComplete stream m

@@ -34,7 +34,7 @@ abbrev pub NoReadFailed : {R A : Type 0} → (R → Option (List ℕ)) → OpenA
 NoReadFailed remaining result = IfOk result (λ flac. ((flac_bytes remaining flac).errors ≡ 0) × ((flac_bytes remaining flac).empties ≡ 0))
 
 -- Memory was refused, or the source failed; the reader was dropped with what it says of that.
-abbrev pub IsDropped : {R A : Type 0} → OpenAnswer R A → Type 0
+abbrev pub IsDropped : {X : Type 0} → Result X Error → Type 0
 IsDropped result = IsStarved result ⊎ IsErrAnd result IsIo
 
 -- `reader` is the one that was handed in.

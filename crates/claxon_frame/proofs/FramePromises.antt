@@ -25,6 +25,10 @@ unfolding start_at guarded_at fields_at sync_at big_at bytes_at
 short_start stream s h =
     let b : ltb (length s) 2 ≡ true = lt-ltb _ _ h in rw b refl
 
+-- nor a frame
+pub short_frame : (stream : Option StreamShape) (s : List ℕ) → length s < 2 → frame_bytes_at stream s ≡ Short
+short_frame stream s h = (start_stops stream).short s (short_start stream s h)
+
 alone : (stream : Option StreamShape) (room : ℕ) (a b : State ℕ) → NoRoom stream room a b → Took a b (HeaderAlone stream room)
 alone stream room a b h told =
     let t = (Reads-start stream).takes a.coming h.start b.coming (h.header.known told).is in
@@ -45,11 +49,8 @@ memory_is stream room r a b h e = alone stream room a b (where_starved r h e)
 -- ---- all of it
 
 module _ {A : Type 0} (view : A → Block) (stream : Option StreamShape) (width : IsWidth (known_width stream)) (r : Result (Option A) Error) (a b : State ℕ) (g : GivesOrEndsOrStarves 2 view r (frame_bytes_at stream) a b) where
-  short : (s : List ℕ) → length s < 2 → frame_bytes_at stream s ≡ Short
-  short s h = (start_stops stream).short s (short_start stream s h)
-
   pub frame_promises : EndPromises 2 view r (Frame stream) (FrameBytesFault stream) a b
-  frame_promises = end_promises (Reads-frame_bytes stream width) 2 short view r a b g
+  frame_promises = end_promises (Reads-frame_bytes stream width) 2 (short_frame stream) view r a b g
 
   -- memory is never wanted at the end
   pub ended_is : (room : ℕ) → IfStarved r (NoRoom stream room a b) → (xs : List ℕ) → Comes a xs → length xs < 2 → ((r ≡ Ok None) × Comes b []) ⊎ HasFailed r a b

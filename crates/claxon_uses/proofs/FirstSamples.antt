@@ -1,118 +1,223 @@
--- The first samples of a stream that was opened.
+-- The first samples of a stream, and its first fault.
 use Rattle.std.specs.Borrow.{MutBor}
-use Rattle.std.proofs.Common.{◌≡◌, ◌⊎◌, inl, inr, ℕ, suc, zero, ℤ, ◌+◌, ◌<◌, ◌≤◌, true, List, ◌++◌, arith, length, length-append, take, refl, sym, ap, subst, ◌∙◌}
-use Rattle.std.specs.Prelude.{Option, None, Some}
+use Rattle.std.proofs.Common.{◌≡◌, ◌⊎◌, inl, inr, ℕ, suc, zero, ℤ, ◌+◌, ◌<◌, ◌≤◌, true, List, [], ◌∷◌, ◌++◌, arith, length, length-append, take, refl, sym, ap, subst, ◌∙◌}
+use Rattle.std.specs.Prelude.{Option, None, Some, Result, Ok, Err, Vec}
 use Rattle.std.proofs.Math.Seq.{take-append_seam}
-use Rattle.std.proofs.lemmas.List.{take_all}
+use Rattle.std.proofs.lemmas.Grind.{flat_map-append}
+use Rattle.std.proofs.lemmas.List.{append-nil, take-append-le, take_all}
 use Rattle.claxon.specs.Fault.{Fault}
-use Rattle.claxon.specs.Frame.{Block, FrameBytesFault, Frames, IsWidth, StreamShape}
-use Rattle.claxon.specs.Heads.{HeadCode, HeadFault}
-use Rattle.claxon.specs.Streams.{stream_of, with_samples}
+use Rattle.claxon.specs.Frame.{Block, FrameBytesFault, Frames, IsComplete, IsWidth, StreamShape, known_width}
+use Rattle.claxon.specs.Heads.{Head}
+use Rattle.claxon.specs.Streams.{IsStream, interleave, stream_of, with_samples}
 use Rattle.claxon.specs.BufferedReader.{buffered_source}
 use Rattle.claxon.specs.Error.{IsFault, IsIo}
 use Rattle.claxon.specs.Promises.{Took}
+use Rattle.claxon.specs.Source.{Source}
 use Rattle.claxon.specs.State.{State}
 use Rattle.claxon.specs.Errors.{Error}
 use Rattle.claxon.specs.Errors.TheVariants.{OutOfMemory}
 use Rattle.claxon.specs.BufferedReaders.{BufferedReader}
-use Rattle.claxon.specs.FlacReader.{flac_head, samples_input}
+use Rattle.claxon.specs.FlacReader.{flac_head}
 use Rattle.claxon.specs.FlacSamples.{SamplesStep, samples_bytes, samples_left, samples_stream}
-use Rattle.claxon.specs.Opening.{flac_bytes}
-use Rattle.claxon.specs.SampleRuns.{BeginsAt, GaveAll, GaveSamples, TakesFrames, lent, samples_of}
+use Rattle.claxon.specs.Opening.{EachFaultIsNamedOnOpening, EachHeadIsOpened, HeadFaultIsThere, OpenAnswer, flac_bytes, unread}
+use Rattle.claxon.specs.SampleRuns.{GaveAll, GaveSamples, end_found, lent, samples_of}
 use Rattle.claxon.specs.declared.reader.FlacReader.{FlacReader}
 use Rattle.claxon.specs.declared.samples.FlacSamples.{FlacSamples}
-use Rattle.claxon.proofs.SampleRuns.{behind_loan, fault_complete, gave_all}
-use Rattle.claxon_uses.specs.FirstSamples.{BeginsWithSamples}
+use Rattle.claxon.proofs.SampleRuns.{behind, fault_complete, frames_either, frames_left, gave_all, short_complete, short_right}
+use Rattle.claxon_uses.specs.FirstSamples.{BeginsWithSamples, FirstFaultIsNamed, FirstFaultIsThere, FirstSamplesAreAnswered, FirstSamplesAreThere, HasFirst, HasFirstFault}
 use Rattle.claxon_uses.specs.Fronts.{BeginsWith}
-use Rattle.claxon_uses.specs.StreamsInMemory.{HasStreamFault}
+use Rattle.claxon_uses.proofs.Dropped.{as_dropped, dropped_excused}
+use Rattle.claxon_uses.proofs.Opened.{IsOpened, after_told, behind_any, head_fault_named, no_head, no_head_fault, shown}
 
--- an error that names the fault of a head names that of the stream
-pub head_fault : (s : State ℕ) (e : Error) → (e ≡ OutOfMemory) ⊎ (IsIo e ⊎ (s.told ≡ true → (f : Fault) × IsFault f e × BeginsWith (HeadFault (with_samples true) f) s.coming))
-    → (e ≡ OutOfMemory) ⊎ (IsIo e ⊎ (s.told ≡ true → (f : Fault) × IsFault f e × HasStreamFault s.coming f))
-head_fault s e h = elim h [ inl m ↦ inl m | inr (inl i) ↦ inr (inl i) | inr (inr k) ↦ inr (inr (λ told. let f = k told in (f.0, f.1, inl f.2))) ]
+-- ---- bytes have one list of first samples, or a fault before so many
 
-module _ {R A : Type 0} (remaining : R → Option (List ℕ)) (s : State ℕ) (flac : FlacReader R A) (old : FlacSamples (MutBor (BufferedReader R A)) A) (head : Took s (flac_bytes remaining flac) (HeadCode (with_samples true) (flac_head flac))) (begins : BeginsAt flac old) where
-  -- the frames that were taken are those behind the head
-  frames_are : (blocks : List Block) (b : State ℕ) → TakesFrames (samples_stream old) blocks (samples_bytes (lent (buffered_source remaining)) old) b → s.told ≡ true
-      → (b.told ≡ true) × Frames (Some (stream_of (flac_head flac).info)) (flac_bytes remaining flac).coming blocks b.coming
-  frames_are blocks b h told =
-      let here = behind_loan remaining flac (samples_input old) begins.input in
-      let k = h.went.known (here.1 ∙ (head told).0) in
-      (k.told, subst (λ (z : Option StreamShape). Frames z (flac_bytes remaining flac).coming blocks b.coming) begins.stream (subst (λ (z : List ℕ). Frames (samples_stream old) z blocks b.coming) here.0 k.is))
+-- what follows the frames changes nothing
+grown : (stream : Option StreamShape) (count : ℕ) (blocks others : List Block) (m n : List ℕ) → (count ≤ length (samples_of blocks)) ⊎ (length m < 2) → Frames stream m others n → take count (samples_of blocks) ≡ take count (samples_of (blocks ++ others))
+grown stream count blocks [] m n enough f = ap (λ (z : List Block). take count (samples_of z)) (sym (append-nil blocks))
+grown stream count blocks (o ∷ others) m n (inr few) f = absurd (short_complete stream m few o f.0 f.1 f.2 f.3)
+grown stream count blocks (o ∷ others) m n (inl many) f =
+    sym (ap (λ (z : List ℤ). take count z) (flat_map-append (λ (b : Block). interleave b.channels) blocks (o ∷ others)) ∙ take-append-le count (samples_of blocks) (samples_of (o ∷ others)) many)
 
-  -- so many were given
-  gave_first : (count : ℕ) (xs : List ℤ) (new : FlacSamples (MutBor (BufferedReader R A)) A) → GaveSamples (lent (buffered_source remaining)) old xs new → length xs ≡ count → s.told ≡ true → BeginsWithSamples count s.coming xs
-  gave_first count xs new h many told =
-      let k = (head told).1 in
-      let f = frames_are h.blocks (samples_bytes (lent (buffered_source remaining)) new) h.frames told in
-      let all : samples_of h.blocks ≡ xs ++ samples_left new = ap (λ (z : List ℤ). z ++ samples_of h.blocks) (sym begins.none_left) ∙ h.samples in
-      let front : take (length xs) (xs ++ samples_left new) ≡ xs = take-append_seam xs (samples_left new) in
+module _ (count : ℕ) (stream : Option StreamShape) (width : IsWidth (known_width stream)) (s : List ℕ) where
+  one_first : (xs ys : List ℤ) → HasFirst count stream s xs → HasFirst count stream s ys → xs ≡ ys
+  one_first xs ys a b = elim (frames_either stream width s a.rest b.rest a.blocks b.blocks a.frames b.frames) [
+    | inl q ↦ a.first ∙ grown stream count a.blocks q.0 a.rest b.rest a.enough q.2 ∙ ap (λ (z : List Block). take count (samples_of z)) (sym q.1) ∙ sym b.first
+    | inr q ↦ sym (b.first ∙ grown stream count b.blocks q.0 b.rest a.rest b.enough q.2 ∙ ap (λ (z : List Block). take count (samples_of z)) (sym q.1) ∙ sym a.first)
+  ]
+
+  not_both : (xs : List ℤ) (blocks : List Block) (rest : List ℕ) (f : Fault) → HasFirst count stream s xs → Frames stream s blocks rest → length (samples_of blocks) < count → BeginsWith (FrameBytesFault stream f) rest → ⊥
+  not_both xs blocks rest f a d less begins = go q.0 q.1 q.2 a.enough
+    where
+      q : (others : List Block) × (blocks ≡ a.blocks ++ others) × Frames stream a.rest others rest
+      q = frames_left stream width s a.rest rest a.blocks blocks a.frames d (fault_complete stream width f rest begins.0 begins.1 begins.2 begins.3)
+
+      go : (others : List Block) → blocks ≡ a.blocks ++ others → Frames stream a.rest others rest → (count ≤ length (samples_of a.blocks)) ⊎ (length a.rest < 2) → ⊥
+      go others e g (inl many) =
+          let long : length (samples_of blocks) ≡ length (samples_of a.blocks) + length (samples_of others) =
+              ap (λ (z : List Block). length (samples_of z)) e ∙ ap length (flat_map-append (λ (b : Block). interleave b.channels) a.blocks others) ∙ length-append (samples_of a.blocks) (samples_of others) in
+          omega (arith, long, less, many)
+      go [] e g (inr few) = short_right stream width a.rest few f begins.0 begins.1 begins.2 (g ∙ begins.3)
+      go (o ∷ others) e g (inr few) = short_complete stream a.rest few o g.0 g.1 g.2 g.3
+
+-- ---- all that is promised
+
+pub record StartAnswer {R A : Type 0} (count : ℕ) (remaining : R → Option (List ℕ)) (reader : R) (r : Result (Vec ℤ A) Error) : Type 0 where
+  pub sound : FirstSamplesAreThere count remaining reader r
+  pub complete : FirstSamplesAreAnswered count remaining reader r
+  pub fault : FirstFaultIsThere count remaining reader r
+  pub named : FirstFaultIsNamed count remaining reader r
+
+module _ {R A : Type 0} (count : ℕ) (remaining : R → Option (List ℕ)) (reader : R) where
+  -- no head was read
+  pub not_opened : (e : Error) → EachHeadIsOpened remaining (with_samples true) reader (let r : OpenAnswer R A = Err e in r) → HeadFaultIsThere remaining (with_samples true) reader (let r : OpenAnswer R A = Err e in r)
+      → EachFaultIsNamedOnOpening remaining (with_samples true) reader (let r : OpenAnswer R A = Err e in r) → StartAnswer {A = A} count remaining reader (Err e)
+  not_opened e complete fault named = record {
+    sound = tt;
+    complete = λ xs told b. inr (no_head remaining reader e complete b.head b.front b.frames b.code told b.joined);
+    fault = elim fault [ inl m ↦ inl m | inr (inl i) ↦ inr (inl i) | inr (inr k) ↦ inr (inr (λ told. let f = k told in (f.0, f.1, inl f.2))) ];
+    named = λ f told bad. elim bad [ inl b ↦ head_fault_named remaining reader e named f told b | inr st ↦ inr (no_head remaining reader e complete st.0 st.3.front st.3.frames st.3.head told st.3.joined) ];
+  }
+
+-- ---- a head was read, and samples behind it
+
+module _ {R A : Type 0} (count : ℕ) (remaining : R → Option (List ℕ)) (reader : R) (flac : FlacReader R A) (old : FlacSamples (MutBor (BufferedReader R A)) A)
+    (o : IsOpened remaining reader flac (samples_bytes (lent (buffered_source remaining)) old) (samples_stream old)) (none_left : samples_left old ≡ []) where
+  abbrev source : MutBor (BufferedReader R A) → Source ℕ
+  source = lent (buffered_source remaining)
+
+  abbrev s : State ℕ
+  s = unread (remaining reader)
+
+  abbrev stream : Option StreamShape
+  stream = samples_stream old
+
+  abbrev coming : List ℕ
+  coming = (samples_bytes source old).coming
+
+  any_first : (ys : List ℤ) → s.told ≡ true → BeginsWithSamples count s.coming ys → HasFirst count stream coming ys
+  any_first ys told b = behind_any remaining reader flac o told (λ z l. HasFirst count z l ys) b.head b.front b.frames b.code b.joined b.has_first
+
+  -- a first fault is that of a frame behind others
+  fault_behind : (f : Fault) → s.told ≡ true → HasFirstFault count s.coming f → (blocks : List Block) × (rest : List ℕ) × Frames stream coming blocks rest × IsComplete stream rest × (length (samples_of blocks) < count) × BeginsWith (FrameBytesFault stream f) rest
+  fault_behind f told bad = elim bad [
+    | inl b ↦ absurd (no_head_fault remaining reader flac o told f b)
+    | inr st ↦ (
+        let blocks = st.1 in
+        let rest = st.2 in
+        let p = behind_any remaining reader flac o told (λ z l. Frames z l blocks rest × IsComplete z rest × BeginsWith (FrameBytesFault z f) rest) st.0 st.3.front st.3.frames st.3.head st.3.joined (st.3.blocks_are, st.3.complete, st.5) in
+        (blocks, rest, p.0, p.1, st.4, p.2)
+        )
+  ]
+
+  samples_are : (blocks : List Block) (xs : List ℤ) → samples_left old ++ samples_of blocks ≡ xs → samples_of blocks ≡ xs
+  samples_are blocks xs e = ap (λ (z : List ℤ). z ++ samples_of blocks) (sym none_left) ∙ e
+
+  -- ---- no error was given
+
+  gave_first : (xs : List ℤ) (new : FlacSamples (MutBor (BufferedReader R A)) A) → GaveSamples source old xs new → length xs ≡ count → s.told ≡ true → HasFirst count stream coming xs
+  gave_first xs new h many told =
+      let all : samples_of h.blocks ≡ xs ++ samples_left new = samples_are h.blocks _ h.samples in
       record {
-        head = flac_head flac;
-        front = k.0;
-        frames = (flac_bytes remaining flac).coming;
         blocks = h.blocks;
-        rest = (samples_bytes (lent (buffered_source remaining)) new).coming;
-        code = k.1;
-        joined = k.2;
-        blocks_are = f.1;
-        first = sym (ap (λ (z : List ℤ). take count z) all ∙ ap (λ (n : ℕ). take n (xs ++ samples_left new)) (sym many) ∙ front);
+        rest = (samples_bytes source new).coming;
+        frames = (h.frames.went.known (after_told remaining reader flac o told)).is;
+        first = sym (ap (λ (z : List ℤ). take count z) all ∙ ap (λ (n : ℕ). take n (xs ++ samples_left new)) (sym many) ∙ take-append_seam xs (samples_left new));
         enough = inl (omega (arith, many, ap length all, length-append xs (samples_left new)));
       }
 
-  -- all were given
-  gave_whole : (count : ℕ) (xs : List ℤ) (new : FlacSamples (MutBor (BufferedReader R A)) A) → GaveAll (lent (buffered_source remaining)) old xs None new → length xs ≤ count → s.told ≡ true → BeginsWithSamples count s.coming xs
-  gave_whole count xs new h few told =
-      let k = (head told).1 in
-      let f = frames_are h.blocks h.ends.between h.ends.blocks_are told in
-      let all : samples_of h.blocks ≡ xs = ap (λ (z : List ℤ). z ++ samples_of h.blocks) (sym begins.none_left) ∙ h.samples in
+  gave_whole : (xs : List ℤ) (new : FlacSamples (MutBor (BufferedReader R A)) A) → GaveAll source old xs None new → length xs ≤ count → s.told ≡ true → HasFirst count stream coming xs
+  gave_whole xs new h few told =
+      let w = h.ends.blocks_are.went.known (after_told remaining reader flac o told) in
       record {
-        head = flac_head flac;
-        front = k.0;
-        frames = (flac_bytes remaining flac).coming;
         blocks = h.blocks;
         rest = h.ends.between.coming;
-        code = k.1;
-        joined = k.2;
-        blocks_are = f.1;
-        first = sym (ap (λ (z : List ℤ). take count z) all ∙ take_all count xs few);
-        enough = inr (h.ends.last.promises.at_end refl f.0).0;
+        frames = w.is;
+        first = sym (ap (λ (z : List ℤ). take count z) (samples_are h.blocks xs h.samples) ∙ take_all count xs few);
+        enough = inr (h.ends.last.promises.at_end refl w.told).0;
       }
 
   -- so many were given, or the next call gave none
-  pub given : (count : ℕ) (xs : List ℤ) (left : ℕ) (mid new : FlacSamples (MutBor (BufferedReader R A)) A) → GaveSamples (lent (buffered_source remaining)) old xs mid → length xs + left ≡ count
-      → (0 < left → SamplesStep (lent (buffered_source remaining)) mid None new) → s.told ≡ true → BeginsWithSamples count s.coming xs
-  given count xs zero mid new h e step told = gave_first count xs mid h (omega (arith, e)) told
-  given count xs (suc left) mid new h e step told = gave_whole count xs new (gave_all (lent (buffered_source remaining)) h None new (step (omega arith))) (omega (arith, e)) told
+  given : (xs : List ℤ) (left : ℕ) (mid new : FlacSamples (MutBor (BufferedReader R A)) A) → GaveSamples source old xs mid → length xs + left ≡ count → (0 < left → SamplesStep source mid None new) → s.told ≡ true → HasFirst count stream coming xs
+  given xs zero mid new h e step told = gave_first xs mid h (omega (arith, e)) told
+  given xs (suc left) mid new h e step told = gave_whole xs new (gave_all source h None new (step (omega arith))) (omega (arith, e)) told
 
-  -- an error was given
-  pub gave_error : (width : IsWidth (Some (stream_of (flac_head flac).info).width)) (e : Error) (xs : List ℤ) (new : FlacSamples (MutBor (BufferedReader R A)) A) → GaveAll (lent (buffered_source remaining)) old xs (Some e) new
-      → (e ≡ OutOfMemory) ⊎ (IsIo e ⊎ (s.told ≡ true → (f : Fault) × IsFault f e × HasStreamFault s.coming f))
-  gave_error width e xs new h = elim h.ends.last.promises.fault [
-    | inl m ↦ inl m
-    | inr (inl i) ↦ inr (inl i)
-    | inr (inr bad) ↦ inr (inr (λ told.
-        let k = (head told).1 in
-        let here = frames_are h.blocks h.ends.between h.ends.blocks_are told in
-        let f = bad here.0 in
-        let t = (f.2 here.0).1 in
-        let stream = Some (stream_of (flac_head flac).info) in
-        let stands = subst (λ (z : Option StreamShape). BeginsWith (λ x. FrameBytesFault z f.0 x) h.ends.between.coming) begins.stream (t.0, (samples_bytes (lent (buffered_source remaining)) new).coming, t.1, t.2) in (
-          f.0,
-          f.1,
-          inr (
+  pub answered : (first : Vec ℤ A) (left : ℕ) (mid new : FlacSamples (MutBor (BufferedReader R A)) A) → GaveSamples source old first.items mid → length first.items + left ≡ count → (0 < left → SamplesStep source mid None new)
+      → StartAnswer count remaining reader (Ok first)
+  answered first left mid new h e step = record {
+    sound = λ told. record {
+      head = flac_head flac;
+      front = (o.head told).1.0;
+      frames = (flac_bytes remaining flac).coming;
+      code = (o.head told).1.1;
+      joined = (o.head told).1.2;
+      has_first = shown remaining reader flac o told (λ z l. HasFirst count z l first.items) (has told);
+    };
+    complete = λ ys told b. inl (one_first count stream o.width coming first.items ys (has told) (any_first ys told b));
+    fault = tt;
+    named = λ f told bad. let b = fault_behind f told bad in absurd (not_both count stream o.width coming first.items b.0 b.1 f (has told) b.2 b.4 b.5);
+  }
+    where
+      has : s.told ≡ true → HasFirst count stream coming first.items
+      has told = given first.items left mid new h e step told
+
+  -- ---- an error was given behind too few samples
+
+  pub failed : (e : Error) (xs : List ℤ) (new : FlacSamples (MutBor (BufferedReader R A)) A) → GaveAll source old xs (Some e) new → length xs < count → StartAnswer {A = A} count remaining reader (Err e)
+  failed e xs new h less = record {
+    sound = tt;
+    complete = λ ys told b. inr (elim h.ends.last.promises.fault [
+      | inl m ↦ inl (ap (λ (z : Error). Err z) m)
+      | inr (inl i) ↦ inr i
+      | inr (inr bad) ↦ (
+          let f = stands told bad in
+          absurd (not_both count stream o.width coming ys h.blocks h.ends.between.coming f.0 (any_first ys told b) (frames told) fewer f.2)
+          )
+    ]);
+    fault = elim h.ends.last.promises.fault [
+      | inl m ↦ inl m
+      | inr (inl i) ↦ inr (inl i)
+      | inr (inr bad) ↦ inr (inr (λ told. let f = stands told bad in (f.0, f.1, inr (first_fault told f.0 f.2))))
+    ];
+    named = λ f told bad.
+        let b = fault_behind f told bad in
+        elim (behind stream o.width (Some e) h.blocks b.0 b.1 h.ends (after_told remaining reader flac o told) b.2 b.3) [
+          | inr x ↦ inr (as_dropped e (dropped_excused (end_found (Some e)) (samples_bytes source old) (samples_bytes source new) x))
+          | inl p ↦ elim (h.ends.last.promises.named f b.5.0 b.5.1 b.5.2 (record { told = p.1.told; are = p.1.are ∙ b.5.3 })) [
+            | inl q ↦ inl q.0
+            | inr x ↦ inr (as_dropped e (dropped_excused (end_found (Some e)) h.ends.between (samples_bytes source new) x))
+          ]
+        ];
+  }
+    where
+      frames : s.told ≡ true → Frames stream coming h.blocks h.ends.between.coming
+      frames told = (h.ends.blocks_are.went.known (after_told remaining reader flac o told)).is
+
+      fewer : length (samples_of h.blocks) < count
+      fewer = let l = ap length (samples_are h.blocks xs h.samples) in omega (arith, l, less)
+
+      -- the fault that the last answer names stands behind the frames
+      stands : s.told ≡ true → (h.ends.between.told ≡ true → (f : Fault) × IsFault f e × Took h.ends.between (samples_bytes source new) (FrameBytesFault stream f)) → (f : Fault) × IsFault f e × BeginsWith (FrameBytesFault stream f) h.ends.between.coming
+      stands told bad =
+          let t = (h.ends.blocks_are.went.known (after_told remaining reader flac o told)).told in
+          let f = bad t in
+          let p = (f.2 t).1 in
+          (f.0, f.1, (p.0, (samples_bytes source new).coming, p.1, p.2))
+
+      first_fault : s.told ≡ true → (f : Fault) → BeginsWith (FrameBytesFault stream f) h.ends.between.coming → (g : Head) × (blocks : List Block) × (rest : List ℕ) × IsStream true s.coming g blocks rest × (length (samples_of blocks) < count) × BeginsWith (FrameBytesFault (Some (stream_of g.info)) f) rest
+      first_fault told f b =
+          let rest = h.ends.between.coming in
+          let p = shown remaining reader flac o told (λ z l. Frames z l h.blocks rest × IsComplete z rest × BeginsWith (FrameBytesFault z f) rest) (frames told, fault_complete stream o.width f rest b.0 b.1 b.2 b.3, b) in (
             flac_head flac,
             h.blocks,
-            h.ends.between.coming,
+            rest,
             record {
-              front = k.0;
+              front = (o.head told).1.0;
               frames = (flac_bytes remaining flac).coming;
-              head = k.1;
-              joined = k.2;
-              blocks_are = here.1;
-              complete = fault_complete stream width f.0 h.ends.between.coming stands.0 stands.1 stands.2 stands.3;
+              head = (o.head told).1.1;
+              joined = (o.head told).1.2;
+              blocks_are = p.0;
+              complete = p.1;
             },
-            stands,
-          ),
-        )))
-  ]
+            fewer,
+            p.2,
+          )

@@ -20,14 +20,9 @@ use Rattle.claxon.proofs.SampleRuns.{behind, excused_after, fault_complete, shor
 use Rattle.claxon_uses.specs.Collecting.{Collects, LacksRoom, StopsCollecting}
 use Rattle.claxon_uses.specs.Fronts.{BeginsWith}
 use Rattle.claxon_uses.specs.StreamsInMemory.{EachStreamFaultIsTold, EachStreamIsDecoded, HasSamples, StarvesForStream, StreamFaultIsThere, StreamIsThere}
+use Rattle.claxon_uses.proofs.Dropped.{as_starved, not_starved}
 use Rattle.claxon_uses.proofs.FramesInMemory.{took_front}
 use Rattle.claxon.proofs.InMemory.{cursor_just_starved}
-
-not_starved : {A : Type 0} (x : A) → (let q : Result A Error = Ok x in q) ≡ Err OutOfMemory → ⊥
-not_starved x p = cc
-
-as_starved : {A B : Type 0} (e : Error) → (let q : Result A Error = Err e in q) ≡ Err OutOfMemory → (let q : Result B Error = Err e in q) ≡ Err OutOfMemory
-as_starved e p = let k : e ≡ OutOfMemory = cc in ap (λ (z : Error). Err z) k
 
 -- ---- a cursor over a slice
 

@@ -1,30 +1,36 @@
 -- Frames and faults that are counted, one behind another.
 use Rattle.std.specs.Borrow.{MutBor}
-use Rattle.std.proofs.Common.{◌≡◌, ◌<◌, ◌+◌, ℕ, true, false, List, [], ◌∷◌, ◌++◌, length, inl, inr, refl, sym, ap, subst, ◌∙◌}
+use Rattle.std.proofs.Common.{◌≡◌, ◌⊎◌, ◌<◌, ◌≤◌, ◌+◌, ◌^◌, ℕ, true, false, List, [], ◌∷◌, ◌++◌, length, inl, inr, refl, sym, ap, ap₂, arith, subst, ◌∙◌}
 use Rattle.std.specs.Option.{unwrap_or}
-use Rattle.std.specs.Prelude.{Option, None, Some, Ok, Err}
-use Rattle.std.proofs.lemmas.List.Sums.{sum_by_push}
-use Rattle.claxon.specs.Frame.{Frame, FrameBytesFault, StreamShape}
-use Rattle.claxon.specs.Heads.{HeadCode}
-use Rattle.claxon.specs.Streams.{with_samples}
-use Rattle.claxon.specs.BufferedReader.{buffered_source}
+use Rattle.std.specs.Prelude.{Bool, IsTrue, Option, None, Some, Result, Ok, Err, ◌↔◌}
+use Rattle.std.specs.List.{sum_by}
+use Rattle.std.proofs.lemmas.Bool.{false≢true}
+use Rattle.std.proofs.lemmas.List.{append-nil, append_cancel_left}
+use Rattle.std.proofs.lemmas.List.Sums.{sum_by-append, sum_by_push}
+use Rattle.claxon.specs.Fault.{Fault}
+use Rattle.claxon.specs.Frame.{Block, Frame, FrameBytesFault, IsWidth, StreamShape, known_width}
+use Rattle.claxon.specs.Heads.{Head}
 use Rattle.claxon.specs.Error.{is_memory}
 use Rattle.claxon.specs.Promises.{NoneIsEnd, TakesFault, TakesFound, Took}
 use Rattle.claxon.specs.State.{State}
 use Rattle.claxon.specs.Errors.{Error}
-use Rattle.claxon.specs.BufferedReaders.{BufferedReader}
 use Rattle.claxon.specs.Block.{BlockValue, duration_of}
-use Rattle.claxon.specs.FrameReader.{FrameAnswer, block_view, frame_input, frame_stream, stream_with}
+use Rattle.claxon.specs.BufferedReader.{buffered_source}
+use Rattle.claxon.specs.BufferedReaders.{BufferedReader}
+use Rattle.claxon.specs.FrameReader.{FrameAnswer, block_view, frame_bytes, frame_stream}
 use Rattle.claxon.specs.FrameReaders.{FrameReader}
-use Rattle.claxon.specs.FlacReader.{flac_head, flac_input, flac_streaminfo}
+use Rattle.claxon.specs.FlacReader.{flac_head}
 use Rattle.claxon.specs.MetadataBlock.{or_zero}
-use Rattle.claxon.specs.Opening.{flac_bytes}
+use Rattle.claxon.specs.Opening.{EachFaultIsNamedOnOpening, EachHeadIsOpened, HeadFaultIsThere, OpenAnswer, flac_bytes, unread}
 use Rattle.claxon.specs.SampleRuns.{lent}
+use Rattle.claxon.specs.Streams.{with_samples}
 use Rattle.claxon.specs.declared.reader.FlacReader.{FlacReader}
-use Rattle.claxon.proofs.SampleRuns.{behind_loan}
+use Rattle.claxon.proofs.Formats.{frames_told}
+use Rattle.claxon.proofs.SampleRuns.{short_complete, short_right}
 use Rattle.claxon.proofs.SamplesInTurn.{same_duration}
-use Rattle.claxon_uses.specs.Verified.{AreCounted, CountsPart, CountsParts, IsRight, IsVerified, NamesPart, Part, PartBytes, Parts, TakesParts, part_faults, part_frames, part_samples}
+use Rattle.claxon_uses.specs.Verified.{AreCounted, AreTooMany, CanBeCounted, CannotBeVerified, CountsPart, CountsParts, EachHeadFaultIsNamed, EachStreamIsVerified, HasTooMany, IsRight, IsTooMany, IsVerified, NamesPart, Part, PartBytes, Parts, PassesCount, StopsCounting, StreamIsVerified, TakesParts, part_faults, part_frames, part_samples}
 use Rattle.claxon_uses.specs.declared.damaged.Found.{Found}
+use Rattle.claxon_uses.proofs.Opened.{IsOpened, after_told, behind_any, head_fault_named, no_head, no_head_fault, same_head, shown}
 
 -- one part more
 parts_push : (stream : Option StreamShape) (parts : List Part) (part : Part) (s m t r : List ℕ) → Parts stream s parts m → PartBytes stream part t → m ≡ t ++ r → Parts stream s (parts ++ part ∷ []) r
@@ -37,16 +43,22 @@ module _ {stream : Option StreamShape} where
   takes_none a found frames faults samples = record { taken = λ told. (told, ([], refl, record { frames = frames; faults = faults; samples = samples })) }
 
   module _ {a b : State ℕ} (c : State ℕ) {found : Found} (so_far : TakesParts stream a b found) where
+    with_part : (part : Part) → Took b c (PartBytes stream part) → a.told ≡ true → (c.told ≡ true) × ((parts : List Part) × Parts stream a.coming (parts ++ part ∷ []) c.coming × AreCounted parts found)
+    with_part part took told =
+        let k = so_far.taken told in
+        let w = took k.0 in
+        let p = k.1 in
+        (w.0, (p.0, parts_push stream p.0 part a.coming b.coming w.1.0 c.coming p.1 w.1.1 w.1.2, p.2))
+
     takes_part : {more : Found} (part : Part) → Took b c (PartBytes stream part) → CountsPart (part_frames part) (part_faults part) (part_samples part) found more → TakesParts stream a c more
     takes_part part took n = record {
       taken = λ told.
-          let k = so_far.taken told in
-          let w = took k.0 in
+          let k = with_part part took told in
           let p = k.1 in (
-            w.0,
+            k.0,
             (
               p.0 ++ part ∷ [],
-              parts_push stream p.0 part a.coming b.coming w.1.0 c.coming p.1 w.1.1 w.1.2,
+              p.1,
               record {
                 frames = n.frames_are ∙ ap (λ (z : ℕ). z + part_frames part) p.2.frames ∙ sym (sum_by_push part_frames p.0 part);
                 faults = n.faults_are ∙ ap (λ (z : ℕ). z + part_faults part) p.2.faults ∙ sym (sum_by_push part_faults p.0 part);
@@ -56,19 +68,48 @@ module _ {stream : Option StreamShape} where
           );
     }
 
+    -- one part more is too much
+    passes_part : (part : Part) → Took b c (PartBytes stream part) → (e : Error) → PassesCount (part_frames part) (part_faults part) (part_samples part) found e → a.told ≡ true → (parts : List Part) × (rest : List ℕ) × Parts stream a.coming parts rest × AreTooMany parts
+    passes_part part took e n told =
+        let p = (with_part part took told).1 in
+        let frames = sum_by_push part_frames p.0 part in
+        let faults = sum_by_push part_faults p.0 part in
+        let samples = sum_by_push part_samples p.0 part in
+        let k = p.2 in (
+          p.0 ++ part ∷ [],
+          c.coming,
+          p.1,
+          elim n.1 [
+            | inl m ↦ inr (omega (arith, m, k.frames, frames))
+            | inr (inl m) ↦ inr (omega (arith, m, k.faults, faults))
+            | inr (inr m) ↦ inl (omega (arith, m, k.samples, samples))
+          ],
+        )
+
     -- the frame of a block
     pub takes_frame : {more : Found} (block : BlockValue) (n : ℕ) → Took b c (Frame stream (block_view block)) → n ≡ duration_of block.channels → CountsPart 1 0 n found more → TakesParts stream a c more
     takes_frame {more} block n took is counts = takes_part (Ok (block_view block)) took (subst (λ (z : ℕ). CountsPart 1 0 z found more) (is ∙ sym (same_duration block.channels)) counts)
 
+    pub passes_frame : (block : BlockValue) (n : ℕ) → Took b c (Frame stream (block_view block)) → n ≡ duration_of block.channels → (e : Error) → PassesCount 1 0 n found e → a.told ≡ true → (parts : List Part) × (rest : List ℕ) × Parts stream a.coming parts rest × AreTooMany parts
+    passes_frame block n took is e counts = passes_part (Ok (block_view block)) took e (subst (λ (z : ℕ). PassesCount 1 0 z found e) (is ∙ sym (same_duration block.channels)) counts)
+
     -- a fault
+    fault_part : (error : Error) → TakesFault (let r : FrameAnswer = Err error in r) (FrameBytesFault stream) b c → NamesPart error → a.told ≡ true → (f : Fault) × Took b c (FrameBytesFault stream f)
+    fault_part error bad names told = elim bad [
+      | inl m ↦ absurd (let z : true ≡ false = subst (λ (q : Error). is_memory q ≡ false) m names.0 in cc)
+      | inr (inl i) ↦ absurd (let z : true ≡ false = sym i ∙ names.1 in cc)
+      | inr (inr k) ↦ (let f = k (so_far.taken told).0 in (f.0, f.2))
+    ]
+
     pub takes_fault : {more : Found} (error : Error) → TakesFault (let r : FrameAnswer = Err error in r) (FrameBytesFault stream) b c → NamesPart error → CountsPart 0 1 0 found more → TakesParts stream a c more
-    takes_fault error bad names counts = record {
-      taken = λ told. elim bad [
-        | inl m ↦ absurd (let z : true ≡ false = subst (λ (q : Error). is_memory q ≡ false) m names.0 in cc)
-        | inr (inl i) ↦ absurd (let z : true ≡ false = sym i ∙ names.1 in cc)
-        | inr (inr k) ↦ (let f = k (so_far.taken told).0 in (takes_part (Err f.0) f.2 counts).taken told)
-      ];
-    }
+    takes_fault error bad names counts = record { taken = λ told. let f = fault_part error bad names told in (takes_part (Err f.0) f.1 counts).taken told }
+
+    pub passes_fault : (error : Error) → TakesFault (let r : FrameAnswer = Err error in r) (FrameBytesFault stream) b c → NamesPart error → (e : Error) → PassesCount 0 1 0 found e → a.told ≡ true → (parts : List Part) × (rest : List ℕ) × Parts stream a.coming parts rest × AreTooMany parts
+    passes_fault error bad names e counts told = let f = fault_part error bad names told in passes_part (Err f.0) f.1 e counts told
+
+    -- so many frames and faults
+    pub too_many : 2 ^ 64 ≤ found.frames + found.faults + 1 → a.told ≡ true → (parts : List Part) × (rest : List ℕ) × Parts stream a.coming parts rest × AreTooMany parts
+    too_many m told = let p = (so_far.taken told).1 in let k = p.2 in (p.0, b.coming, p.1, inr (omega (arith, m, k.frames, k.faults)))
 
     -- the end
     pub counts_all : NoneIsEnd 2 (let r : FrameAnswer = Ok None in r) b c → a.told ≡ true → (parts : List Part) × (rest : List ℕ) × Parts stream a.coming parts rest × AreCounted parts found × (length rest < 2)
@@ -85,29 +126,151 @@ module _ {known stream : Option StreamShape} (e : known ≡ stream) {r : FrameAn
 pub end_met : {r : FrameAnswer} (a b : State ℕ) → r ≡ Ok None → NoneIsEnd 2 r a b → NoneIsEnd 2 (let q : FrameAnswer = Ok None in q) a b
 end_met a b is h = subst (λ (q : FrameAnswer). NoneIsEnd 2 q a b) is h
 
--- a stream that was opened and counted up to its end
-module _ {R A : Type 0} (remaining : R → Option (List ℕ)) where
-  pub verified : (s : State ℕ) (flac : FlacReader R A) (blocks : FrameReader (MutBor (BufferedReader R A))) (counted found : Found) → Took s (flac_bytes remaining flac) (HeadCode (with_samples true) (flac_head flac))
-      → (frame_input blocks).now ≡ flac_input flac → frame_stream blocks ≡ Some (stream_with (flac_streaminfo flac)) → CountsParts (lent (buffered_source remaining)) blocks counted → found.frames ≡ counted.frames → found.faults ≡ counted.faults → found.samples ≡ counted.samples → IsRight (flac_head flac) found
-      → s.told ≡ true → IsVerified s.coming found
-  verified s flac blocks counted found head input stream counts frames faults samples right told =
-      let k = head told in
-      let here = behind_loan remaining flac (frame_input blocks) input in
-      let p = counts (here.1 ∙ k.0) in
-      let q = p.3 in
-      record {
-        head = flac_head flac;
-        front = k.1.0;
-        frames = (flac_bytes remaining flac).coming;
-        parts = p.0;
-        rest = p.1;
-        code = k.1.1;
-        joined = k.1.2;
-        parts_are = subst (λ (z : Option StreamShape). Parts z (flac_bytes remaining flac).coming p.0 p.1) stream (subst (λ (z : List ℕ). Parts (frame_stream blocks) z p.0 p.1) here.0 p.2);
-        few = p.4;
-        counted = record { frames = frames ∙ q.frames; faults = faults ∙ q.faults; samples = samples ∙ q.samples };
-        right = right;
-      }
+-- ---- bytes are one list of parts
+
+module _ (stream : Option StreamShape) (width : IsWidth (known_width stream)) where
+  one_part : (p q : Part) (t u x y : List ℕ) → PartBytes stream p t → PartBytes stream q u → t ++ x ≡ u ++ y → (p ≡ q) × (t ≡ u)
+  one_part (Ok a) (Ok b) t u x y c d e = let k = (frames_told stream width).one_code a b t u x y c d e in (ap (λ (z : Block). Ok z) k.0, k.1)
+  one_part (Ok a) (Err g) t u x y c d e = absurd ((frames_told stream width).no_fault a g t u x y c d e)
+  one_part (Err f) (Ok b) t u x y c d e = absurd ((frames_told stream width).no_fault b f u t y x d c (sym e))
+  one_part (Err f) (Err g) t u x y c d e = let k = (frames_told stream width).one_fault f g t u x y c d e in (ap (λ (z : Fault). Err z) k.0, k.1)
+
+  -- none stands in fewer than two bytes
+  no_part : (m : List ℕ) → length m < 2 → (part : Part) (t u : List ℕ) → PartBytes stream part t → m ≡ t ++ u → ⊥
+  no_part m few (Ok block) t u c e = short_complete stream m few block t u c e
+  no_part m few (Err f) t u c e = short_right stream width m few f t u c e
+
+  -- parts that stand there are the first ones of all of them
+  pub parts_left : (s m n : List ℕ) (parts all : List Part) → Parts stream s parts m → Parts stream s all n → length n < 2 → (others : List Part) × (all ≡ parts ++ others) × Parts stream m others n
+  parts_left s m n [] all d f few = (all, refl, subst (λ (z : List ℕ). Parts stream z all n) d f)
+  parts_left s m n (x ∷ parts) [] d f few = absurd (no_part n few x d.0 d.1 d.2 (sym f ∙ d.3))
+  parts_left s m n (x ∷ parts) (y ∷ all) d f few =
+      let p = one_part x y d.0 f.0 d.1 f.1 d.2 f.2 (sym d.3 ∙ f.3) in
+      let l : d.1 ≡ f.1 = append_cancel_left d.0 d.1 f.1 (sym d.3 ∙ f.3 ∙ ap (λ (z : List ℕ). z ++ f.1) (sym p.1)) in
+      let q = parts_left f.1 m n parts all (subst (λ (z : List ℕ). Parts stream z parts m) l d.4) f.4 few in
+      (q.0, ap₂ (λ (z : Part) (zs : List Part). z ∷ zs) (sym p.0) q.1, q.2)
+
+  pub all_parts : (s m n : List ℕ) (parts all : List Part) → Parts stream s parts m → length m < 2 → Parts stream s all n → length n < 2 → all ≡ parts
+  all_parts s m n parts all d small f few = let q = parts_left s m n parts all d f few in go q.0 q.1 q.2
+    where
+      go : (others : List Part) → all ≡ parts ++ others → Parts stream m others n → all ≡ parts
+      go [] e g = e ∙ append-nil parts
+      go (x ∷ others) e g = absurd (no_part m small x g.0 g.1 g.2 g.3)
+
+  -- parts that can be counted begin with none that can't
+  pub not_too_many : (s m n : List ℕ) (parts all : List Part) (found : Found) → Parts stream s parts m → AreTooMany parts → Parts stream s all n → length n < 2 → AreCounted all found → CanBeCounted found → ⊥
+  not_too_many s m n parts all found d many f few k can =
+      let q = parts_left s m n parts all d f few in
+      let frames = ap (sum_by part_frames) q.1 ∙ sum_by-append part_frames parts q.0 in
+      let faults = ap (sum_by part_faults) q.1 ∙ sum_by-append part_faults parts q.0 in
+      let samples = ap (sum_by part_samples) q.1 ∙ sum_by-append part_samples parts q.0 in
+      elim many [
+        | inl m ↦ omega (arith, m, k.samples, samples, can.0)
+        | inr m ↦ omega (arith, m, k.frames, k.faults, frames, faults, can.1)
+      ]
+
+-- what is right alike is one answer
+same_answer : {P : Type 0} (b c : Bool) → (IsTrue b ↔ P) → (IsTrue c ↔ P) → b ≡ c
+same_answer true true p q = refl
+same_answer false false p q = refl
+same_answer true false p q = absurd (false≢true (q.1 (p.0 refl)))
+same_answer false true p q = absurd (false≢true (p.1 (q.0 refl)))
+
+same_found : (a b : Found) → a.frames ≡ b.frames → a.faults ≡ b.faults → a.samples ≡ b.samples → a.is_right ≡ b.is_right → a ≡ b
+same_found a b frames faults samples right = rw (frames, faults, samples, right) refl
+
+-- ---- all that is promised
+
+pub record VerifyAnswer {R : Type 0} (remaining : R → Option (List ℕ)) (reader : R) (r : Result Found Error) : Type 0 where
+  pub sound : StreamIsVerified remaining reader r
+  pub complete : EachStreamIsVerified remaining reader r
+  pub err : CannotBeVerified remaining reader r
+  pub named : EachHeadFaultIsNamed remaining reader r
+
+module _ {R A : Type 0} (remaining : R → Option (List ℕ)) (reader : R) where
+  -- no head was read
+  pub not_opened : (e : Error) → EachHeadIsOpened remaining (with_samples true) reader (let r : OpenAnswer R A = Err e in r) → HeadFaultIsThere remaining (with_samples true) reader (let r : OpenAnswer R A = Err e in r)
+      → EachFaultIsNamedOnOpening remaining (with_samples true) reader (let r : OpenAnswer R A = Err e in r) → VerifyAnswer remaining reader (Err e)
+  not_opened e complete fault named = record {
+    sound = tt;
+    complete = λ found told v can. inr (no_head remaining reader e complete v.head v.front v.frames v.code told v.joined);
+    err = elim fault [ inl m ↦ inl m | inr (inl i) ↦ inr (inl i) | inr (inr k) ↦ inr (inr (λ told. inr (k told))) ];
+    named = λ f told b. head_fault_named remaining reader e named f told b;
+  }
+
+  module _ (flac : FlacReader R A) (blocks : FrameReader (MutBor (BufferedReader R A))) (o : IsOpened remaining reader flac (frame_bytes (lent (buffered_source remaining)) blocks) (frame_stream blocks)) where
+    abbrev s : State ℕ
+    s = unread (remaining reader)
+
+    abbrev coming : List ℕ
+    coming = (frame_bytes (lent (buffered_source remaining)) blocks).coming
+
+    any_parts : (found : Found) (told : s.told ≡ true) (v : IsVerified s.coming found) → Parts (frame_stream blocks) coming v.parts v.rest
+    any_parts found told v = behind_any remaining reader flac o told (λ z l. Parts z l v.parts v.rest) v.head v.front v.frames v.code v.joined v.parts_are
+
+    -- all parts were counted
+    pub verified : (counted found : Found) → CountsParts (lent (buffered_source remaining)) blocks counted → found.frames ≡ counted.frames → found.faults ≡ counted.faults → found.samples ≡ counted.samples → IsRight (flac_head flac) found
+        → VerifyAnswer remaining reader (Ok found)
+    verified counted found counts frames faults samples right = record {
+      sound = λ told.
+          let p = counts (after_told remaining reader flac o told) in
+          record {
+            head = flac_head flac;
+            front = (o.head told).1.0;
+            frames = (flac_bytes remaining flac).coming;
+            parts = p.0;
+            rest = p.1;
+            code = (o.head told).1.1;
+            joined = (o.head told).1.2;
+            parts_are = shown remaining reader flac o told (λ z l. Parts z l p.0 p.1) p.2;
+            few = p.4;
+            counted = record { frames = frames ∙ p.3.frames; faults = faults ∙ p.3.faults; samples = samples ∙ p.3.samples };
+            right = right;
+          };
+      complete = λ other told v can.
+          let p = counts (after_told remaining reader flac o told) in
+          let same = all_parts (frame_stream blocks) o.width coming v.rest p.1 v.parts p.0 (any_parts other told v) v.few p.2 p.4 in
+          let frames_are = frames ∙ p.3.frames ∙ ap (sum_by part_frames) same ∙ sym v.counted.frames in
+          let faults_are = faults ∙ p.3.faults ∙ ap (sum_by part_faults) same ∙ sym v.counted.faults in
+          let samples_are = samples ∙ p.3.samples ∙ ap (sum_by part_samples) same ∙ sym v.counted.samples in
+          let head = (same_head remaining reader flac o told v.head v.front v.frames v.code v.joined).0 in
+          let of_head = subst (λ (h : Head). IsRight h other) (sym head) v.right in
+          let of_faults = subst (λ (n : ℕ). IsTrue other.is_right ↔ ((n ≡ 0) × (((flac_head flac).info.samples ≡ 0) ⊎ ((flac_head flac).info.samples ≡ other.samples)))) (sym faults_are) of_head in
+          let right' = subst (λ (n : ℕ). IsTrue other.is_right ↔ ((found.faults ≡ 0) × (((flac_head flac).info.samples ≡ 0) ⊎ ((flac_head flac).info.samples ≡ n)))) (sym samples_are) of_faults in
+          inl (same_found found other frames_are faults_are samples_are (same_answer found.is_right other.is_right right right'));
+      err = tt;
+      named = λ f told b. absurd (no_head_fault remaining reader flac o told f b);
+    }
+
+    -- they were not
+    pub not_verified : (e : Error) → StopsCounting (lent (buffered_source remaining)) blocks e → VerifyAnswer remaining reader (Err e)
+    not_verified e stops = record {
+      sound = tt;
+      complete = λ found told v can. inr (elim stops [
+        | inl m ↦ inl (ap (λ (z : Error). Err z) m)
+        | inr (inl i) ↦ inr i
+        | inr (inr k) ↦ (let p = k.1 (after_told remaining reader flac o told) in absurd (not_too_many (frame_stream blocks) o.width coming p.1 v.rest p.0 v.parts found p.2 p.3 (any_parts found told v) v.few v.counted can))
+      ]);
+      err = elim stops [
+        | inl m ↦ inl m
+        | inr (inl i) ↦ inr (inl i)
+        | inr (inr k) ↦ inr (inr (λ told. let p = k.1 (after_told remaining reader flac o told) in inl (k.0, too_many_behind p.0 p.1 told p.2 p.3)))
+      ];
+      named = λ f told b. absurd (no_head_fault remaining reader flac o told f b);
+    }
+      where
+        too_many_behind : (parts : List Part) (rest : List ℕ) → s.told ≡ true → Parts (frame_stream blocks) coming parts rest → AreTooMany parts → HasTooMany s.coming
+        too_many_behind parts rest told p many = record {
+          head = flac_head flac;
+          front = (o.head told).1.0;
+          frames = (flac_bytes remaining flac).coming;
+          parts = parts;
+          rest = rest;
+          code = (o.head told).1.1;
+          joined = (o.head told).1.2;
+          parts_are = shown remaining reader flac o told (λ z l. Parts z l parts rest) p;
+          too_many = many;
+        }
 
 -- what the streaminfo says, where it says so, or 0
 pub samples_told : (samples : Option ℕ) (n : ℕ) → n ≡ unwrap_or samples 0 → or_zero samples ≡ n

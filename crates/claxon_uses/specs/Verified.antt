@@ -1,12 +1,12 @@
 -- What is found in a stream that may be damaged: frames and faults, one behind another.
-use Rattle.std.specs.Prelude.{◌≡◌, ◌⊎◌, ◌↔◌, ◌<◌, ◌+◌, ℕ, false, true, List, [], ◌∷◌, ◌++◌, codes, length, Option, Some, IfErr, IfOk, IsTrue, Ok, Err, Result}
+use Rattle.std.specs.Prelude.{◌≡◌, ◌⊎◌, ◌↔◌, ◌<◌, ◌≤◌, ◌+◌, ◌^◌, ℕ, false, true, List, [], ◌∷◌, ◌++◌, codes, length, Option, Some, IfErr, IfOk, IsErrAnd, IsOkAnd, IsTrue, Ok, Err, Result}
 use Rattle.std.specs.List.{sum_by}
 use Rattle.claxon.specs.Error.{IsFault, IsIo, is_io, is_memory}
 use Rattle.claxon.specs.Fault.{Fault}
 use Rattle.claxon.specs.Frame.{Block, Frame, FrameBytesFault, StreamShape}
 use Rattle.claxon.specs.FrameReader.{frame_bytes, frame_stream}
 use Rattle.claxon.specs.Heads.{Head, HeadCode, HeadFault}
-use Rattle.claxon.specs.Opening.{unread}
+use Rattle.claxon.specs.Opening.{IsDropped, unread}
 use Rattle.claxon.specs.Source.{Source}
 use Rattle.claxon.specs.State.{State}
 use Rattle.claxon.specs.Streams.{duration, stream_of, with_samples}
@@ -51,6 +51,14 @@ pub record AreCounted (parts : List Part) (found : Found) : Type 0 where
   pub faults : found.faults ≡ sum_by part_faults parts
   pub samples : found.samples ≡ sum_by part_samples parts
 
+-- They are too many to be counted: they have 2^64 samples, or they are 2^64 - 1 themselves.
+abbrev pub AreTooMany : List Part → Type 0
+AreTooMany parts = (2 ^ 64 ≤ sum_by part_samples parts) ⊎ (2 ^ 64 ≤ sum_by part_frames parts + sum_by part_faults parts + 1)
+
+-- Such numbers can be counted.
+abbrev pub CanBeCounted : Found → Type 0
+CanBeCounted found = (found.samples < 2 ^ 64) × (found.frames + found.faults + 1 < 2 ^ 64)
+
 -- One part more is counted.
 pub record CountsPart (frames faults samples : ℕ) (old new : Found) : Type 0 where
   pub frames_are : new.frames ≡ old.frames + frames
@@ -87,24 +95,61 @@ pub record IsVerified (s : List ℕ) (found : Found) : Type 0 where
   pub counted : AreCounted parts found
   pub right : IsRight head found
 
+-- ---- what can't be counted
+
 -- it is too much to be counted
 abbrev pub IsTooMany : Error → Type 0
 IsTooMany (Unsupported text) = text.now ≡ codes "more than 18446744073709551615 frames, faults or samples"
 IsTooMany _ = ⊥
 
--- an error that no part of a stream has
-abbrev pub IsUncounted : Error → Type 0
-IsUncounted e = (e ≡ OutOfMemory) ⊎ (IsIo e ⊎ IsTooMany e)
+-- The error says that one part more is too much, and it is.
+abbrev pub PassesCount : ℕ → ℕ → ℕ → Found → Error → Type 0
+PassesCount frames faults samples found e = IsTooMany e × ((2 ^ 64 ≤ found.frames + frames) ⊎ ((2 ^ 64 ≤ found.faults + faults) ⊎ (2 ^ 64 ≤ found.samples + samples)))
 
--- an error of another kind than these
+-- an error of another kind than want of memory and `IoError`
 abbrev pub NamesPart : Error → Type 0
 NamesPart e = (is_memory e ≡ false) × (is_io e ≡ false)
+
+-- The error is want of memory or an `IoError`, or one fault more is too much.
+abbrev pub CannotCountFault : Error → Found → Error → Type 0
+CannotCountFault fault found e = (e ≡ OutOfMemory) ⊎ (IsIo e ⊎ (NamesPart fault × PassesCount 0 1 0 found e))
+
+-- The error is want of memory or an `IoError`, or says of more parts than can be counted that they are to come.
+abbrev pub StopsCounting : {R : Type 0} → (R → Source ℕ) → FrameReader R → Error → Type 0
+StopsCounting source blocks e =
+    (e ≡ OutOfMemory) ⊎ (IsIo e ⊎ (IsTooMany e × ((frame_bytes source blocks).told ≡ true → (parts : List Part) × (rest : List ℕ) × Parts (frame_stream blocks) (frame_bytes source blocks).coming parts rest × AreTooMany parts)))
+
+-- ---- what the call promises
+
+-- s begins with a head and parts that are too many.
+pub record HasTooMany (s : List ℕ) : Type 0 where
+  pub head : Head
+  pub front : List ℕ
+  pub frames : List ℕ
+  pub parts : List Part
+  pub rest : List ℕ
+  pub code : HeadCode (with_samples true) head front
+  pub joined : s ≡ front ++ frames
+  pub parts_are : Parts (Some (stream_of head.info)) frames parts rest
+  pub too_many : AreTooMany parts
 
 module _ {R : Type 0} (remaining : R → Option (List ℕ)) (reader : R) (result : Result Found Error) where
   -- What is to come was counted up to its end.
   abbrev pub StreamIsVerified : Type 0
   StreamIsVerified = IfOk result (λ found. (unread (remaining reader)).told ≡ true → IsVerified (unread (remaining reader)).coming found)
 
-  -- An Err is the name of the fault of a head that stands there, or no fault of the stream.
+  -- Any such stream that can be counted is answered so, or memory, the source or the writer failed.
+  abbrev pub EachStreamIsVerified : Type 0
+  EachStreamIsVerified =
+      (found : Found) → (unread (remaining reader)).told ≡ true → IsVerified (unread (remaining reader)).coming found → CanBeCounted found → IsOkAnd result (λ counted. counted ≡ found) ⊎ IsDropped result
+
+  -- An Err is want of memory, an `IoError`, or says of more parts than can be counted that they are; or it names the fault of a head that stands there.
   abbrev pub CannotBeVerified : Type 0
-  CannotBeVerified = IfErr result (λ e. IsUncounted e ⊎ ((unread (remaining reader)).told ≡ true → (f : Fault) × IsFault f e × BeginsWith (HeadFault (with_samples true) f) (unread (remaining reader)).coming))
+  CannotBeVerified =
+      IfErr result (λ e. (e ≡ OutOfMemory) ⊎ (IsIo e ⊎ ((unread (remaining reader)).told ≡ true
+          → (IsTooMany e × HasTooMany (unread (remaining reader)).coming) ⊎ ((f : Fault) × IsFault f e × BeginsWith (HeadFault (with_samples true) f) (unread (remaining reader)).coming))))
+
+  -- The fault of a head that stands there is named, or memory or the source failed.
+  abbrev pub EachHeadFaultIsNamed : Type 0
+  EachHeadFaultIsNamed =
+      (f : Fault) → (unread (remaining reader)).told ≡ true → BeginsWith (HeadFault (with_samples true) f) (unread (remaining reader)).coming → IsErrAnd result (IsFault f) ⊎ IsDropped result

@@ -1,6 +1,6 @@
 //! Streams that may be damaged.
-ghost use Rattle.std.specs.Prelude.{◌≡◌, ◌⊎◌, ◌↔◌, ◌+◌, IfErr, IfOk, IsTrue};
-ghost use Rattle.claxon_uses.specs.Verified.{CannotBeVerified, CountsPart, CountsParts, IsTooMany, IsUncounted, NamesPart, StreamIsVerified};
+ghost use Rattle.std.specs.Prelude.{◌≡◌, ◌⊎◌, ◌↔◌, ◌≤◌, ◌+◌, ◌^◌, IfErr, IfOk, IsTrue};
+ghost use Rattle.claxon_uses.specs.Verified.{CannotBeVerified, CannotCountFault, CountsPart, CountsParts, EachHeadFaultIsNamed, EachStreamIsVerified, IsTooMany, NamesPart, PassesCount, StopsCounting, StreamIsVerified};
 
 use claxon::frame::FrameReader;
 use claxon::input::ReadBytes;
@@ -23,14 +23,17 @@ pub struct Found {
 
 /// Decodes all frames of a stream, and goes on behind each fault, of which a line is written.
 ///
-/// An error is the fault of the head, or an `IoError`, where the bytes end within a frame or the writer failed.
+/// An error is the fault of the head, or an `IoError`, where the bytes end within a frame or the writer failed; or it says that
+/// there are 2^64 samples or more, or 2^64 - 1 frames and faults or more.
 pub fn verify<R: Read + Drop, A: Allocator + Copy, W: Write>(
     alloc: A,
     reader: R,
     lines: &mut W,
 ) -> Result<Found>
     ensures sound { StreamIsVerified R.remaining reader result }
+    ensures complete { EachStreamIsVerified R.remaining reader result }
     ensures err { CannotBeVerified R.remaining reader result }
+    ensures named { EachHeadFaultIsNamed R.remaining reader result }
 {
     let mut flac = FlacReader::new(alloc, reader)?;
     let samples = flac.streaminfo().samples.unwrap_or(0);
@@ -53,7 +56,7 @@ fn count_parts<R: ReadBytes + Drop, A: Allocator + Copy, W: Write>(
     lines: &mut W,
 ) -> Result<Found>
     ensures ok { IfOk result (CountsParts R.source blocks) }
-    ensures err { IfErr result IsUncounted }
+    ensures err { IfErr result (StopsCounting R.source blocks) }
 {
     let mut reader = blocks;
     let mut found = Found {
@@ -82,7 +85,7 @@ fn count_parts<R: ReadBytes + Drop, A: Allocator + Copy, W: Write>(
 // One frame more.
 fn with_frame(found: Found, duration: u32) -> Result<Found>
     ensures ok { IfOk result (CountsPart 1 0 duration found) }
-    ensures err { IfErr result IsTooMany }
+    ensures err { IfErr result (PassesCount 1 0 duration found) }
 {
     Ok(Found {
         frames: sum(found.frames, 1)?,
@@ -94,7 +97,7 @@ fn with_frame(found: Found, duration: u32) -> Result<Found>
 // One fault more, unless the error is none of the stream.
 fn with_fault<W: Write>(found: Found, error: Error, lines: &mut W) -> Result<Found>
     ensures ok { IfOk result (λ more. NamesPart error × CountsPart 0 1 0 found more) }
-    ensures err { IfErr result IsUncounted }
+    ensures err { IfErr result (CannotCountFault error found) }
 {
     if matches!(&error, Error::IoError(_) | Error::OutOfMemory) {
         return Err(error);
@@ -108,7 +111,7 @@ fn with_fault<W: Write>(found: Found, error: Error, lines: &mut W) -> Result<Fou
 
 fn sum(a: u64, b: u64) -> Result<u64>
     ensures ok { IfOk result (λ all. all ≡ a + b) }
-    ensures err { IfErr result IsTooMany }
+    ensures err { IfErr result (λ e. IsTooMany e × (2 ^ 64 ≤ a + b)) }
 {
     match a.checked_add(b) {
         Some(all) => Ok(all),

@@ -1,5 +1,5 @@
 //! The samples of a stream, one by one.
-ghost use Rattle.claxon_uses.specs.FirstSamples.{FirstFaultIsThere, FirstSamplesAreThere};
+ghost use Rattle.claxon_uses.specs.FirstSamples.{FirstFaultIsNamed, FirstFaultIsThere, FirstSamplesAreAnswered, FirstSamplesAreThere};
 
 use claxon::{FlacReader, Result};
 use std::alloc::Allocator;
@@ -14,7 +14,9 @@ pub fn first_samples<R: Read + Drop, A: Allocator + Copy>(
     count: usize,
 ) -> Result<Vec<i32, A>>
     ensures sound { FirstSamplesAreThere count R.remaining reader result }
+    ensures complete { FirstSamplesAreAnswered count R.remaining reader result }
     ensures fault { FirstFaultIsThere count R.remaining reader result }
+    ensures named { FirstFaultIsNamed count R.remaining reader result }
 {
     let mut flac = FlacReader::new(alloc, reader)?;
     let mut first = Vec::new(alloc);

@@ -36,6 +36,22 @@ use Rattle.claxon_wav.specs.declared.writer.WavWriter.{WavWriter}
 packed_more : (width : ℕ) (blocks : List Block) (block : BlockValue) → packed_blocks width blocks ++ packed_block width block ≡ packed_blocks width (blocks ++ block_view block ∷ [])
 packed_more width blocks block = sym (ap (packed_samples width) (samples_add blocks (block_view block)) ∙ flat_map-append (bytes_of_sample (sample_size width) width) (samples_of blocks) (interleave block.channels))
 
+-- samples take a byte or more
+samples_take : (width : ℕ) → 1 ≤ width → (xs : List ℤ) → 1 ≤ length xs → 1 ≤ length (packed_samples width xs)
+unfolding bytes_of_sample
+samples_take width some [] h = absurd (omega (arith, h))
+samples_take width some (x ∷ xs) h =
+    let four = to_le_bytes w32 (raised (8 * sample_size width - width) (silence (sample_size width)) x) in
+    let first = length-take (sample_size width) four in
+    omega (arith, length-append (take (sample_size width) four) (packed_samples width xs), first, some)
+
+-- and so does a block
+pub block_takes : (width : ℕ) (block : BlockValue) → 1 ≤ width → 1 ≤ length block.channels → 1 ≤ duration_of block.channels → 1 ≤ length (packed_block width block)
+block_takes width block some channels long =
+    let d = same_duration block.channels in
+    let n : 1 ≤ length (interleave block.channels) = rw (length-interleave block.channels, d) (grind (arith, channels, long)) in
+    samples_take width some (interleave block.channels) n
+
 -- one frame more
 frames_push : (stream : Option StreamShape) (blocks : List Block) (b : Block) (s m t r : List ℕ) → Frames stream s blocks m → Frame stream b t → m ≡ t ++ r → Frames stream s (blocks ++ b ∷ []) r
 frames_push stream [] b s m t r f c e = (t, r, c, f ∙ e, refl)
@@ -104,7 +120,7 @@ behind_of P xs ys h = subst (All P) (drop_at xs ys (length xs) refl) (All-drop P
 
 module _ {W : Type 0} {contents : W → Option (List ℕ)} {stream : Option StreamShape} {a b : State ℕ} (c : State ℕ) {x y : WavWriter W} (h : PutSoFar contents stream a b x y) where
   -- the decoder's error
-  pub stops_at_fault : (e : Cause) → TakesFault (let r : FrameAnswer = Err e in r) (FrameBytesFault stream) b c → StopsAt stream x.layout a (Claxon e)
+  pub stops_at_fault : (e : Cause) → TakesFault (let r : FrameAnswer = Err e in r) (FrameBytesFault stream) b c → StopsAt stream x a (Claxon e)
   stops_at_fault e bad told = elim bad [
     | inl m ↦ inl m
     | inr (inl i) ↦ inr (inl i)
@@ -122,10 +138,14 @@ module _ {W : Type 0} {contents : W → Option (List ℕ)} {stream : Option Stre
     all_frames told = let k = h.taken told in let t = (took k.0).1 in frames_push stream h.blocks (block_view block) a.coming b.coming t.0 c.coming k.1 t.1 t.2
 
     -- the writer's
-    pub stops_at_block : (e : Error) → RefusesBlock block e y → StopsAt stream x.layout a e
+    pub stops_at_block : (e : Error) → RefusesBlock block e y → StopsAt stream x a e
     stops_at_block (Claxon e) (inl m) told = inl m
     stops_at_block (Claxon e) (inr i) told = inr (inl i)
-    stops_at_block TooLong r told = tt
+    stops_at_block TooLong r told =
+        let all = packed_more x.layout.width h.blocks block in
+        let more = subst (λ (l : Layout). 4294967234 < y.written + length (packed_block l.width block)) h.puts.layout_is r in
+        let both = length-append (packed_blocks x.layout.width h.blocks) (packed_block x.layout.width block) in
+        (h.blocks ++ block_view block ∷ [], c.coming, all_frames told, omega (arith, more, h.puts.written_is, both, ap length all))
     stops_at_block SameFile r told = r
     stops_at_block OtherChannels r told = (
       h.blocks ++ block_view block ∷ [],
@@ -192,9 +212,9 @@ converted contents position remaining flac frames (Ok done) old put new input st
     }
 
 -- the same of the errors
-pub not_converted : {R A : Type 0} (remaining : R → Option (List ℕ)) (flac : FlacReader R A) (frames : FrameReader (MutBor (BufferedReader R A))) (layout : Layout) (e : Error)
-    → (frame_input frames).now ≡ flac_input flac → frame_stream frames ≡ Some (stream_with (flac_streaminfo flac)) → StopsAt (frame_stream frames) layout (frame_bytes (lent (buffered_source remaining)) frames) e
-    → StopsAt (Some (stream_with (flac_streaminfo flac))) layout (flac_bytes remaining flac) e
-not_converted remaining flac frames layout e input stream stops told =
+pub not_converted : {R A W : Type 0} (remaining : R → Option (List ℕ)) (flac : FlacReader R A) (frames : FrameReader (MutBor (BufferedReader R A))) (old : WavWriter W) (e : Error)
+    → (frame_input frames).now ≡ flac_input flac → frame_stream frames ≡ Some (stream_with (flac_streaminfo flac)) → StopsAt (frame_stream frames) old (frame_bytes (lent (buffered_source remaining)) frames) e
+    → StopsAt (Some (stream_with (flac_streaminfo flac))) old (flac_bytes remaining flac) e
+not_converted remaining flac frames old e input stream stops told =
     let here = behind_loan remaining flac (frame_input frames) input in
-    subst (λ (s : Option StreamShape). StandsInWay s layout (flac_bytes remaining flac).coming e) stream (subst (λ (s : List ℕ). StandsInWay (frame_stream frames) layout s e) here.0 (stops (here.1 ∙ told)))
+    subst (λ (s : Option StreamShape). StandsInWay s old (flac_bytes remaining flac).coming e) stream (subst (λ (s : List ℕ). StandsInWay (frame_stream frames) old s e) here.0 (stops (here.1 ∙ told)))

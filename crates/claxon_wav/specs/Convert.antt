@@ -1,5 +1,5 @@
 -- What is put of a stream, and what a whole conversion promises.
-use Rattle.std.specs.Prelude.{All, ⊤, ◌≡◌, ◌⊎◌, ℕ, ◌+◌, ◌<◌, true, List, ◌++◌, length, Option, Some, Result, IfErr, OnOk}
+use Rattle.std.specs.Prelude.{All, ◌≡◌, ◌⊎◌, ℕ, ◌+◌, ◌<◌, true, List, ◌++◌, length, Option, Some, Result, IfErr, OnOk}
 use Rattle.std.specs.Io.KnownBytes.{Appends}
 use Rattle.claxon_format.specs.Bits.{FitsIn}
 use Rattle.claxon_format.specs.Fault.{Fault}
@@ -20,7 +20,6 @@ use Rattle.claxon_wav.specs.WaveFile.{wave_file}
 use Rattle.claxon_wav.specs.Writer.{Begins, Ends, HeaderIsRight}
 use Rattle.claxon_wav.specs.declared.error.Error.{Error}
 use Rattle.claxon_wav.specs.declared.error.Error.TheVariants.{Claxon, OtherChannels, SameFile, TooLong, WideSample}
-use Rattle.claxon_wav.specs.declared.header.Layout.{Layout}
 use Rattle.claxon_wav.specs.declared.writer.WavWriter.{WavWriter}
 
 -- the bytes of the samples of blocks, one block after another
@@ -60,21 +59,22 @@ abbrev pub FaultStands : Option StreamShape → List ℕ → Cause → Type 0
 FaultStands stream s error = (f : Fault) × IsFault f error × ((blocks : List Block) × (t : List ℕ) × (rest : List ℕ) × Frames stream s blocks (t ++ rest) × FrameBytesFault stream f t)
 
 -- An error that is neither want of memory nor an `IoError` names a fault that stands in s, or says that of blocks that stand there
--- not all have the channels of the layout, or not all samples so few bits. Of `TooLong` nothing is said.
-abbrev pub StandsInWay : Option StreamShape → Layout → List ℕ → Error → Type 0
-StandsInWay stream layout s (Claxon error) = (error ≡ OutOfMemory) ⊎ (IsIo error ⊎ FaultStands stream s error)
-StandsInWay stream layout s OtherChannels = BlocksStand stream s (λ blocks. All (λ b. length b.channels ≡ layout.channels) blocks → ⊥)
-StandsInWay stream layout s WideSample = BlocksStand stream s (λ blocks. All (FitsIn layout.width) (samples_of blocks) → ⊥)
-StandsInWay stream layout s TooLong = ⊤
-StandsInWay stream layout s SameFile = ⊥
+-- not all have the channels of the layout, or not all samples so few bits, or that the bytes of their samples, behind those that
+-- were written before, are more than the file has room for.
+abbrev pub StandsInWay : {W : Type 0} → Option StreamShape → WavWriter W → List ℕ → Error → Type 0
+StandsInWay stream old s (Claxon error) = (error ≡ OutOfMemory) ⊎ (IsIo error ⊎ FaultStands stream s error)
+StandsInWay stream old s OtherChannels = BlocksStand stream s (λ blocks. All (λ b. length b.channels ≡ old.layout.channels) blocks → ⊥)
+StandsInWay stream old s WideSample = BlocksStand stream s (λ blocks. All (FitsIn old.layout.width) (samples_of blocks) → ⊥)
+StandsInWay stream old s TooLong = BlocksStand stream s (λ blocks. 4294967234 < old.written + length (packed_blocks old.layout.width blocks))
+StandsInWay stream old s SameFile = ⊥
 
 -- The same of what is to come, where that is told.
-abbrev pub StopsAt : Option StreamShape → Layout → State ℕ → Error → Type 0
-StopsAt stream layout s error = s.told ≡ true → StandsInWay stream layout s.coming error
+abbrev pub StopsAt : {W : Type 0} → Option StreamShape → WavWriter W → State ℕ → Error → Type 0
+StopsAt stream old s error = s.told ≡ true → StandsInWay stream old s.coming error
 
 -- An Err says what stands in the way of all blocks.
 abbrev pub StopsAtBlock : {R W : Type 0} → (R → Source ℕ) → FrameReader R → Result (Unit {0}) Error → WavWriter W → Type 0
-StopsAtBlock source blocks r old = IfErr r (StopsAt (frame_stream blocks) old.layout (frame_bytes source blocks))
+StopsAtBlock source blocks r old = IfErr r (StopsAt (frame_stream blocks) old (frame_bytes source blocks))
 
 -- Behind what the output held when the writer was started over it stands a whole WAV file of these samples, where that header
 -- announced as many bytes as there are.
@@ -99,4 +99,4 @@ ConvertsAll contents position remaining flac r old new = OnOk r (Converts conten
 
 -- An Err says what stands in the way of that.
 abbrev pub ConvertsNotAll : {R A W : Type 0} → (R → Option (List ℕ)) → FlacReader R A → Result (Unit {0}) Error → WavWriter W → Type 0
-ConvertsNotAll remaining flac r old = IfErr r (StopsAt (Some (stream_with (flac_streaminfo flac))) old.layout (flac_bytes remaining flac))
+ConvertsNotAll remaining flac r old = IfErr r (StopsAt (Some (stream_with (flac_streaminfo flac))) old (flac_bytes remaining flac))

@@ -98,7 +98,7 @@ pub fn convert<R: Read + Drop, W: Write + Seek, E: Write>(
     finished
 }
 
-// Puts block after block up to the end. Their number is reached by no file, but each loop needs an end.
+// Puts block after block up to the end. Each has samples, so the file has room for no more than so many blocks.
 fn put_blocks<R: ReadBytes + Drop, W: Write + Seek, E: Write>(
     alloc: Global,
     blocks: FrameReader<R>,
@@ -112,14 +112,11 @@ fn put_blocks<R: ReadBytes + Drop, W: Write + Seek, E: Write>(
     let mut reader = blocks;
     let mut buffer = Vec::new(alloc);
     let mut done = 0u64;
-    for _ in 0..u64::MAX {
-        let Some(block) = reader.read_next_or_eof(buffer)? else {
-            return Ok(());
-        };
+    while let Some(block) = reader.read_next_or_eof(buffer)? {
         wav.put_block(&block)?;
         done = done.saturating_add(u64::from(block.duration()));
         progress.show(done, errors);
         buffer = block.into_buffer();
     }
-    Err(Error::TooLong)
+    Ok(())
 }

@@ -8,4 +8,4 @@ returns-clause-ok g c = converted g.W.Write.contents g.W.Seek.stream_position g.
 pub returns-in_err-outcome-clause-err : goal.returns-in_err-outcome-clause-err
 returns-in_err-outcome-clause-err g c =
     let p = err_from_is_err_and c.from_residual.result c.from_residual.ensures.1 in
-    rw (p.1, p.2) (not_converted g.R.Read.remaining c.args.flac.now c.blocks-2.result c.args.wav.now.layout c.in_err-outcome.field-0.0 c.blocks-2.ensures.input c.blocks-2.ensures.stream c.in_err-outcome.ensures.err)
+    rw (p.1, p.2) (not_converted g.R.Read.remaining c.args.flac.now c.blocks-2.result c.args.wav.now c.in_err-outcome.field-0.0 c.blocks-2.ensures.input c.blocks-2.ensures.stream c.in_err-outcome.ensures.err)

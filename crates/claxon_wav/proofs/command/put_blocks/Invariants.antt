@@ -1,4 +1,4 @@
-use Rattle.std.proofs.Common.{◌≡◌}
+use Rattle.std.proofs.Common.{◌≡◌, ◌-◌}
 use Rattle.claxon_frame.specs.FrameReader.{frame_bytes, frame_stream}
 use Rattle.claxon_wav.proofs.Converting.{PutSoFar}
 use Rattle.claxon_wav.proofs.command.put_blocks.Given as goal
@@ -8,3 +8,6 @@ invariant-loop g l = record {
   stream : frame_stream l.reader ≡ frame_stream l.fn.blocks;
   so_far : PutSoFar g.W.Write.contents (frame_stream l.fn.blocks) (frame_bytes g.R.ReadBytes.source l.fn.blocks) (frame_bytes g.R.ReadBytes.source l.reader) l.fn.wav l.wav;
 }
+
+abbrev pub decreases-loop : goal.decreases-loop
+decreases-loop g l = 4294967235 - l.wav.written
