@@ -1,16 +1,17 @@
 -- Blocks that are put one after another, and the file that they make.
 use Rattle.std.specs.Borrow.{MutBor}
-use Rattle.std.proofs.Common.{◌≡◌, inl, inr, ℕ, ◌+◌, true, List, [], ◌∷◌, ◌++◌, length, Option, None, Some, refl, sym, ap, subst, ◌∙◌, arith, length-append}
+use Rattle.std.proofs.Common.{◌≡◌, inl, inr, ℕ, ◌+◌, ◌-◌, ◌*◌, ◌<◌, ◌≤◌, ℤ, w32, take, true, List, [], ◌∷◌, ◌++◌, length, Option, None, Some, refl, sym, ap, subst, ◌∙◌, arith, length-append}
 use Rattle.std.specs.Prelude.{All, Result, Ok, Err}
 use Rattle.std.specs.Io.KnownBytes.{Appends}
 use Rattle.std.proofs.KnownBytes.{Appends-nil, Appends-trans}
 use Rattle.std.proofs.lemmas.Grind.{flat_map-append}
 use Rattle.std.proofs.lemmas.List.Elements.{All-append, All-drop, All-nil, All-push}
-use Rattle.std.proofs.lemmas.List.{drop_at, get_or_push}
+use Rattle.std.proofs.lemmas.List.{drop_at, get_or_push, length-take}
+use Rattle.std.specs.Int.{to_le_bytes}
 use Rattle.claxon_format.specs.Bits.{FitsIn}
 use Rattle.claxon_format.specs.Frame.{Block, Frame, FrameBytesFault, Frames, StreamShape}
 use Rattle.claxon_format.specs.Streams.{interleave}
-use Rattle.claxon_frame.specs.Block.{BlockValue}
+use Rattle.claxon_frame.specs.Block.{BlockValue, duration_of}
 use Rattle.claxon_frame.specs.FrameReader.{FrameAnswer, block_view, frame_bytes, frame_input, frame_stream, stream_with}
 use Rattle.claxon_frame.specs.declared.frame.FrameReader.{FrameReader}
 use Rattle.claxon_input.specs.BufferedReader.{buffered_source}
@@ -23,8 +24,10 @@ use Rattle.claxon.specs.Opening.{flac_bytes}
 use Rattle.claxon.specs.SampleRuns.{lent, samples_of}
 use Rattle.claxon.specs.declared.reader.FlacReader.{FlacReader}
 use Rattle.claxon.proofs.SampleRuns.{behind_loan, samples_add}
+use Rattle.claxon.proofs.SamplesInTurn.{same_duration}
+use Rattle.claxon_format.proofs.Streams.{length-interleave}
 use Rattle.claxon_wav.specs.Convert.{ConvertsAll, HoldsFile, PutsSamples, PutsStream, StandsInWay, StopsAt, packed_blocks}
-use Rattle.claxon_wav.specs.Samples.{bytes_of_sample, packed_block, packed_samples, sample_size}
+use Rattle.claxon_wav.specs.Samples.{bytes_of_sample, packed_block, packed_samples, raised, sample_size, silence}
 use Rattle.claxon_wav.specs.WaveFile.{pad}
 use Rattle.claxon_wav.specs.Writer.{Ends, Finishes, RefusesBlock}
 use Rattle.claxon_wav.specs.declared.error.Error.{Error}

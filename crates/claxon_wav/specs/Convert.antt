@@ -20,6 +20,7 @@ use Rattle.claxon_wav.specs.WaveFile.{wave_file}
 use Rattle.claxon_wav.specs.Writer.{Begins, Ends, HeaderIsRight}
 use Rattle.claxon_wav.specs.declared.error.Error.{Error}
 use Rattle.claxon_wav.specs.declared.error.Error.TheVariants.{Claxon, OtherChannels, SameFile, TooLong, WideSample}
+use Rattle.claxon_wav.specs.declared.header.Layout.{Layout}
 use Rattle.claxon_wav.specs.declared.writer.WavWriter.{WavWriter}
 
 -- the bytes of the samples of blocks, one block after another
