@@ -1,6 +1,6 @@
 -- The reader of a head, read as the code reads it.
-use Rattle.std.proofs.Common.{◌≡◌, ℕ, zero, suc, ◌-◌, ◌<◌, Bool, true, false, cond, List, [], ◌++◌, Option, None, Some, refl, sym, ap, ◌∙◌, append_assoc, arith}
-use Rattle.std.specs.Prelude.{Result, Err, ◌&&◌, ◌||◌}
+use Rattle.std.proofs.Common.{◌≡◌, ℕ, zero, suc, ◌-◌, ◌<◌, Bool, true, false, cond, List, Option, None, Some, refl, ap, ◌∙◌, arith}
+use Rattle.std.specs.Prelude.{◌&&◌, ◌||◌}
 use Rattle.claxon_format.specs.MetadataBlocks.{Info, MetadataBlock as Block}
 use Rattle.claxon_format.specs.read.MetadataBlocks.{block_at}
 use Rattle.claxon_format.specs.Comments.{Comment}
@@ -10,10 +10,10 @@ use Rattle.claxon_format.specs.read.Heads.{marker_at, others_at, after_first, he
 use Rattle.claxon_format.specs.Reading.{Reading, Done, Faulty, Short, bind, test, pick, done}
 use Rattle.claxon_format.specs.Streaminfo.{Streaminfo}
 use Rattle.std.specs.Option as Options
-use Rattle.claxon_input.specs.State.{State, bytes_in}
-use Rattle.claxon_input.specs.Gives.{Went, IsRest}
+use Rattle.claxon_input.specs.State.{State}
+use Rattle.claxon_input.specs.Gives.{Went}
 use Rattle.claxon_input.proofs.CallsInTurn.{went_both, went_map, StopsAs}
-use Rattle.claxon_metadata.specs.MetadataBlock.{MayStarve, flagged_view, content_view, info_view}
+use Rattle.claxon_metadata.specs.MetadataBlock.{flagged_view, content_view, info_view}
 use Rattle.claxon.specs.ReadHead.{PassesBlocks, found_view, other_at}
 use Rattle.claxon.proofs.HeadMemory.{passes_both, passes_other}
 use Rattle.claxon_metadata.specs.declared.metadata.StreamInfo.{StreamInfo}

@@ -1,14 +1,13 @@
 -- What a call that reads a frame, or meets the end, promises to callers.
-use Rattle.std.proofs.Common.{◌≡◌, ◌⊎◌, inl, inr, ℕ, ◌*◌, ◌<◌, true, ltb, List, [], length, Option, None, refl, sym, subst, ◌∙◌, arith}
+use Rattle.std.proofs.Common.{◌≡◌, ◌⊎◌, inl, inr, ℕ, ◌*◌, ◌<◌, true, ltb, List, [], length, Option, None, refl, sym, subst, ◌∙◌}
 use Rattle.std.specs.Prelude.{Result, Ok}
 use Rattle.std.proofs.lemmas.Bool.{lt-ltb}
-use Rattle.claxon_format.specs.Bits.{bits_of}
-use Rattle.claxon_format.specs.Frame.{Block, FilledUp, Frame, FrameBytesFault, InBytes, IsWidth, StreamShape, known_width}
-use Rattle.claxon_format.specs.read.Frame.{frame_bytes_at, Start, start_of, start_at}
+use Rattle.claxon_format.specs.Frame.{Block, Frame, FrameBytesFault, IsWidth, StreamShape, known_width}
+use Rattle.claxon_format.specs.read.Frame.{frame_bytes_at, Start, start_at}
 use Rattle.claxon_format.specs.FrameWriter.{count_of}
 use Rattle.claxon_format.specs.read.Header.{sync_at, fields_at, guarded_at}
 use Rattle.claxon_format.specs.read.Bytes.{bytes_at, big_at}
-use Rattle.claxon_format.specs.Reading.{Reads, Done, Short}
+use Rattle.claxon_format.specs.Reading.{Done, Short}
 use Rattle.claxon_format.proofs.FrameBytes.{Reads-frame_bytes, Reads-start}
 use Rattle.claxon_input.specs.declared.error.Error.{Error}
 use Rattle.claxon_input.specs.State.{State}
@@ -17,7 +16,6 @@ use Rattle.claxon_input.specs.Gives.{GivesOrEndsOrStarves}
 use Rattle.claxon_frame.specs.FrameReader.{NoRoom, HeaderAlone}
 use Rattle.claxon_frame.proofs.FrameParts.{start_stops}
 use Rattle.claxon_input.proofs.FieldOrEndPromises.{end_promises}
-use Rattle.claxon_format.proofs.WholeHeaders.{Whole-header}
 
 -- of fewer than two bytes no header is read
 short_start : (stream : Option StreamShape) (s : List ℕ) → length s < 2 → start_at stream s ≡ Short

@@ -1,10 +1,9 @@
 -- What the code keeps of a frame's header, in the readers' words (RFC 9639, section 9.1).
-use Rattle.std.specs.Prelude.{ℕ, List, Option, Some, None, Result}
-use Rattle.claxon_format.specs.Frame.{StreamShape, known_width, time_of}
-use Rattle.claxon_format.specs.Header.{Fields, Header, header_with}
-use Rattle.claxon_format.specs.Reading.{Reading}
+use Rattle.std.specs.Prelude.{ℕ, Option, Some, None, Result}
+use Rattle.claxon_format.specs.Frame.{StreamShape}
+use Rattle.claxon_format.specs.Header.{Fields}
 use Rattle.claxon_format.specs.read.Frame.{Start, start_at}
-use Rattle.claxon_format.specs.read.Header.{SizeSpelling, ByCode, InByte, InTwoBytes, guarded_at, with_width}
+use Rattle.claxon_format.specs.read.Header.{SizeSpelling, ByCode, InByte, InTwoBytes}
 use Rattle.claxon_input.specs.Gives.{GivesOrEnds}
 use Rattle.claxon_input.specs.Source.{Source}
 use Rattle.claxon_input.specs.State.{bytes_in}

@@ -1,6 +1,6 @@
 -- The first samples of a stream, and its first fault.
 use Rattle.std.specs.Borrow.{MutBor}
-use Rattle.std.proofs.Common.{◌≡◌, ◌⊎◌, inl, inr, ℕ, suc, zero, ℤ, ◌+◌, ◌<◌, ◌≤◌, true, List, [], ◌∷◌, ◌++◌, arith, length, length-append, take, refl, sym, ap, subst, ◌∙◌}
+use Rattle.std.proofs.Common.{◌≡◌, ◌⊎◌, inl, inr, ℕ, suc, zero, ℤ, ◌+◌, ◌<◌, ◌≤◌, true, List, [], ◌∷◌, ◌++◌, arith, length, length-append, take, refl, sym, ap, ◌∙◌}
 use Rattle.std.specs.Prelude.{Option, None, Some, Result, Ok, Err, Vec}
 use Rattle.std.proofs.Math.Seq.{take-append_seam}
 use Rattle.std.proofs.lemmas.Grind.{flat_map-append}
@@ -10,12 +10,11 @@ use Rattle.claxon.specs.Frame.{Block, FrameBytesFault, Frames, IsComplete, IsWid
 use Rattle.claxon.specs.Heads.{Head}
 use Rattle.claxon.specs.Streams.{IsStream, interleave, stream_of, with_samples}
 use Rattle.claxon.specs.BufferedReader.{buffered_source}
-use Rattle.claxon.specs.Error.{IsFault, IsIo}
+use Rattle.claxon.specs.Error.{IsFault}
 use Rattle.claxon.specs.Promises.{Took}
 use Rattle.claxon.specs.Source.{Source}
 use Rattle.claxon.specs.State.{State}
 use Rattle.claxon.specs.Errors.{Error}
-use Rattle.claxon.specs.Errors.TheVariants.{OutOfMemory}
 use Rattle.claxon.specs.BufferedReaders.{BufferedReader}
 use Rattle.claxon.specs.FlacReader.{flac_head}
 use Rattle.claxon.specs.FlacSamples.{SamplesStep, samples_bytes, samples_left, samples_stream}
@@ -54,7 +53,7 @@ module _ (count : ℕ) (stream : Option StreamShape) (width : IsWidth (known_wid
       go : (others : List Block) → blocks ≡ a.blocks ++ others → Frames stream a.rest others rest → (count ≤ length (samples_of a.blocks)) ⊎ (length a.rest < 2) → ⊥
       go others e g (inl many) =
           let long : length (samples_of blocks) ≡ length (samples_of a.blocks) + length (samples_of others) =
-              ap (λ (z : List Block). length (samples_of z)) e ∙ ap length (flat_map-append (λ (b : Block). interleave b.channels) a.blocks others) ∙ length-append (samples_of a.blocks) (samples_of others) in
+          ap (λ (z : List Block). length (samples_of z)) e ∙ ap length (flat_map-append (λ (b : Block). interleave b.channels) a.blocks others) ∙ length-append (samples_of a.blocks) (samples_of others) in
           omega (arith, long, less, many)
       go [] e g (inr few) = short_right stream width a.rest few f begins.0 begins.1 begins.2 (g ∙ begins.3)
       go (o ∷ others) e g (inr few) = short_complete stream a.rest few o g.0 g.1 g.2 g.3

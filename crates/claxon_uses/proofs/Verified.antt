@@ -28,7 +28,7 @@ use Rattle.claxon.specs.declared.reader.FlacReader.{FlacReader}
 use Rattle.claxon.proofs.Formats.{frames_told}
 use Rattle.claxon.proofs.SampleRuns.{short_complete, short_right}
 use Rattle.claxon.proofs.SamplesInTurn.{same_duration}
-use Rattle.claxon_uses.specs.Verified.{AreCounted, AreTooMany, CanBeCounted, CannotBeVerified, CountsPart, CountsParts, EachHeadFaultIsNamed, EachStreamIsVerified, HasTooMany, IsRight, IsTooMany, IsVerified, NamesPart, Part, PartBytes, Parts, PassesCount, StopsCounting, StreamIsVerified, TakesParts, part_faults, part_frames, part_samples}
+use Rattle.claxon_uses.specs.Verified.{AreCounted, AreTooMany, CanBeCounted, CannotBeVerified, CountsPart, CountsParts, EachHeadFaultIsNamed, EachStreamIsVerified, HasTooMany, IsRight, IsVerified, NamesPart, Part, PartBytes, Parts, PassesCount, StopsCounting, StreamIsVerified, TakesParts, part_faults, part_frames, part_samples}
 use Rattle.claxon_uses.specs.declared.damaged.Found.{Found}
 use Rattle.claxon_uses.proofs.Opened.{IsOpened, after_told, behind_any, head_fault_named, no_head, no_head_fault, same_head, shown}
 

@@ -147,7 +147,7 @@ module _ {R : Type 0} (remaining : R → Option (List ℕ)) (reader : R) (result
   abbrev pub CannotBeVerified : Type 0
   CannotBeVerified =
       IfErr result (λ e. (e ≡ OutOfMemory) ⊎ (IsIo e ⊎ ((unread (remaining reader)).told ≡ true
-          → (IsTooMany e × HasTooMany (unread (remaining reader)).coming) ⊎ ((f : Fault) × IsFault f e × BeginsWith (HeadFault (with_samples true) f) (unread (remaining reader)).coming))))
+      → (IsTooMany e × HasTooMany (unread (remaining reader)).coming) ⊎ ((f : Fault) × IsFault f e × BeginsWith (HeadFault (with_samples true) f) (unread (remaining reader)).coming))))
 
   -- The fault of a head that stands there is named, or memory or the source failed.
   abbrev pub EachHeadFaultIsNamed : Type 0

@@ -2,7 +2,7 @@ use Rattle.std.proofs.Common.{◌∙◌, ap, arith, inr, Ok, Option}
 use Rattle.std.proofs.lemmas.Result.{err_from_is_err_and}
 use Rattle.claxon.specs.Block.{BlockValue}
 use Rattle.claxon.specs.FrameReader.{frame_bytes}
-use Rattle.claxon_uses.proofs.Verified.{counts_all, end_met, fault_taken, frame_taken, passes_fault, passes_frame, takes_fault, takes_frame, too_many}
+use Rattle.claxon_uses.proofs.Verified.{counts_all, end_met, fault_taken, frame_taken, passes_frame, takes_fault, takes_frame, too_many}
 use Rattle.claxon_uses.proofs.damaged.count_parts.Goals.{in-Ok-Some+in_ok-found-in-Ok-Some, in-Err+in_ok-found-in-Err}
 use Rattle.claxon_uses.proofs.damaged.count_parts.Goals as goal
 
