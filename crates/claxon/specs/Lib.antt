@@ -11,6 +11,7 @@ pub use Rattle.claxon_input.specs.declared.input.BufferedReader as BufferedReade
 pub use Rattle.claxon_input.specs.State
 pub use Rattle.claxon_input.specs.Gives
 pub use Rattle.claxon_input.specs.Promises
+pub use Rattle.claxon_metadata.specs.declared.metadata.StreamInfo as StreamInfos
 pub use Rattle.claxon_metadata.specs.VorbisComment
 pub use Rattle.claxon_metadata.specs.Tags
 pub use Rattle.claxon_metadata.specs.MetadataBlock

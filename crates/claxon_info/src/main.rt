@@ -1,14 +1,12 @@
 //! Prints what a FLAC file is: a line for each fact that its head tells, and one for each tag.
 #![tactic(auto)]
 
-mod facts;
 #[cfg(test)]
 mod tests;
-mod text;
 
 use claxon::{FlacReader, FlacReaderOptions, Result};
+use claxon_uses::write_facts;
 use claxon_write::words;
-use facts::write_facts;
 use std::fs;
 use std::io::{Read, Write};
 use std::process::ExitCode;

@@ -2,64 +2,142 @@
 use crate::guarded::read_guarded_pair;
 use claxon_input::crc::{Crc8Reader, Crc16Reader};
 use claxon_input::input::{Bitstream, BufferedReader, ReadBytes};
+use std::io;
 use std::io::Cursor;
 use std::test::Fail;
 
-#[test]
-fn zeros_before_ones(rt: HostRuntime) -> Result<(), Fail> {
-    let mut bits = Bitstream::new(Cursor::new([0xa4u8, 0x80, 0x20, 0x00, 0x0a]));
-    for want in [0, 1, 2, 2, 9, 17] {
-        assert_eq!(rt; bits.read_unary()?, want);
+// A call for bits, of so many where that is told.
+#[derive(Clone, Copy)]
+enum Call {
+    Zeros,
+    Bit,
+    UpTo8(u32),
+    UpTo16(u32),
+    From9To16(u32),
+    UpTo32(u32),
+}
+
+// What it answers, or None where it fails.
+fn answer<R: ReadBytes>(bits: &mut Bitstream<R>, call: Call) -> Option<u32> {
+    let answer = match call {
+        Call::Zeros => bits.read_unary(),
+        Call::Bit => widened(bits.read_bit()),
+        Call::UpTo8(count) => widened(bits.read_leq_u8(count.min(8))),
+        Call::UpTo16(count) => widened(bits.read_leq_u16(count.min(16))),
+        Call::From9To16(count) => widened(bits.read_gt_u8_leq_u16(count.clamp(9, 16))),
+        Call::UpTo32(count) => bits.read_leq_u32(count.min(32)),
+    };
+    match answer {
+        Ok(number) => Some(number),
+        Err(_cause) => None,
     }
-    assert_eq!(rt; bits.read_leq_u8(3)?, 0b010);
-    assert!(rt; bits.read_bit().is_err());
-    Ok(())
 }
 
-#[test]
-fn numbers_of_some_bits(rt: HostRuntime) -> Result<(), Fail> {
-    let mut bits = Bitstream::new(Cursor::new([0xa5u8, 0xe1, 0xd2, 0x55, 0xf0]));
-    assert_eq!(rt; bits.read_gt_u8_leq_u16(10)?, 0b10_1001_0111);
-    assert_eq!(rt; bits.read_gt_u8_leq_u16(10)?, 0b10_0001_1101);
-    assert_eq!(rt; bits.read_leq_u8(3)?, 0b001);
-    assert_eq!(rt; bits.read_leq_u16(10)?, 0b00_1010_1011);
-    assert_eq!(rt; bits.read_leq_u8(7)?, 0b111_0000);
-    assert!(rt; bits.read_leq_u16(10).is_err());
-    Ok(())
+fn widened<N: Into<u32>>(number: io::Result<N>) -> io::Result<u32> {
+    match number {
+        Ok(number) => Ok(number.into()),
+        Err(cause) => Err(cause),
+    }
 }
 
+// Whether calls for bits of these bytes answer so, one after another, and take so many bytes.
+fn answers_each(bytes: &[u8], calls: &[(Call, Option<u32>)], taken: u64) -> bool {
+    let mut cursor = Cursor::new(bytes);
+    let mut all = true;
+    {
+        let mut bits = Bitstream::new(&mut cursor);
+        for (call, want) in calls {
+            all = all && answer(&mut bits, *call) == *want;
+        }
+    }
+    all && cursor.position() == taken
+}
+
+const FIVE: [u8; 5] = [0xa5, 0xe1, 0xd2, 0x55, 0xf0];
+
+#[rattlefmt::skip]
 #[test]
-fn numbers_of_many_bits(rt: HostRuntime) -> Result<(), Fail> {
-    let mut bits = Bitstream::new(Cursor::new([0xa5u8, 0xe1, 0xd2, 0x55]));
-    assert_eq!(rt; bits.read_leq_u32(1)?, 1);
-    assert_eq!(rt; bits.read_leq_u32(17)?, 0b0_1001_0111_1000_0111);
-    assert_eq!(rt; bits.read_leq_u32(14)?, 0b01_0010_0101_0101);
-    Ok(())
+fn calls_in_turn(rt: HostRuntime) {
+    let rows: [(&[u8], &[(Call, Option<u32>)], u64); 6] = [
+        (
+            &[0xa4, 0x80, 0x20, 0x00, 0x0a],
+            &[
+                (Call::Zeros, Some(0)), (Call::Zeros, Some(1)), (Call::Zeros, Some(2)), (Call::Zeros, Some(2)),
+                (Call::Zeros, Some(9)), (Call::Zeros, Some(17)), (Call::UpTo8(3), Some(0b010)), (Call::Bit, None),
+            ],
+            5,
+        ),
+        (
+            &FIVE,
+            &[
+                (Call::From9To16(10), Some(0b10_1001_0111)), (Call::From9To16(10), Some(0b10_0001_1101)),
+                (Call::UpTo8(3), Some(0b001)), (Call::UpTo16(10), Some(0b00_1010_1011)),
+                (Call::UpTo8(7), Some(0b111_0000)), (Call::UpTo16(10), None),
+            ],
+            5,
+        ),
+        (
+            &FIVE,
+            &[
+                (Call::UpTo32(1), Some(1)), (Call::UpTo32(17), Some(0b0_1001_0111_1000_0111)),
+                (Call::UpTo32(14), Some(0b01_0010_0101_0101)),
+            ],
+            4,
+        ),
+        (
+            &[0x00, 0x80],
+            &[(Call::Zeros, Some(8)), (Call::UpTo8(7), Some(0)), (Call::UpTo8(0), Some(0)), (Call::Bit, None)],
+            2,
+        ),
+        // No byte is taken early.
+        (&[0xff, 0x80, 0x55], &[(Call::Bit, Some(1)), (Call::From9To16(9), Some(510))], 2),
+        // Too few bits take all.
+        (&[0xa5, 0xe1], &[(Call::UpTo32(20), None), (Call::Bit, None)], 2),
+    ];
+    for (row, (bytes, calls, taken)) in rows.iter().enumerate() {
+        assert!(rt; answers_each(*bytes, *calls, *taken), "{row}");
+    }
+}
+
+// All bits of the cache are read, and a number of no bits takes none.
+#[test]
+fn all_of_the_cache(rt: HostRuntime) {
+    let calls = [
+        (Call::UpTo32(32), Some(0xa5e1_d255)),
+        (Call::UpTo8(0), Some(0)),
+        (Call::Zeros, Some(0)),
+        (Call::UpTo32(20), None),
+    ];
+    for (count, taken) in [0, 4, 4, 5, 5].iter().enumerate() {
+        assert!(rt;
+            answers_each(&FIVE, &calls[..count.min(4)], *taken),
+            "{count}"
+        );
+    }
 }
 
 // However 32 bits are split in two, they are the same number, also with numbers of no bits between the two.
 #[test]
-fn splits(rt: HostRuntime) -> Result<(), Fail> {
+fn splits(rt: HostRuntime) {
     for first in 0..33 {
-        let mut bits = Bitstream::new(Cursor::new([0xa5u8, 0xe1, 0xd2, 0x55]));
-        let high = u64::from(bits.read_leq_u32(first)?);
-        assert_eq!(rt; bits.read_leq_u8(0)?, 0);
-        let low = u64::from(bits.read_leq_u32(32 - first)?);
+        let mut bits = Bitstream::new(Cursor::new(FIVE.as_slice()));
+        let high = u64::from(answer(&mut bits, Call::UpTo32(first)).unwrap_or(0));
+        assert_eq!(rt; answer(&mut bits, Call::UpTo8(0)), Some(0));
+        let low = u64::from(answer(&mut bits, Call::UpTo32(32 - first)).unwrap_or(0));
         assert_eq!(rt; high << (32 - first) | low, 0xa5e1_d255, "{first}");
     }
-    Ok(())
 }
 
 // A number of no bits takes no byte, wherever it is read.
 #[test]
-fn no_bits(rt: HostRuntime) -> Result<(), Fail> {
+fn no_bits(rt: HostRuntime) {
     for before in 0..33u32 {
-        let mut cursor = Cursor::new([0xa5u8, 0xe1, 0xd2, 0x55, 0xf0]);
+        let mut cursor = Cursor::new(FIVE.as_slice());
         {
             let mut bits = Bitstream::new(&mut cursor);
-            bits.read_leq_u32(before)?;
-            assert_eq!(rt; bits.read_leq_u8(0)?, 0);
-            assert_eq!(rt; bits.read_leq_u16(0)?, 0);
+            assert!(rt; answer(&mut bits, Call::UpTo32(before)).is_some());
+            assert_eq!(rt; answer(&mut bits, Call::UpTo8(0)), Some(0));
+            assert_eq!(rt; answer(&mut bits, Call::UpTo16(0)), Some(0));
         }
         assert_eq!(rt;
             cursor.position(),
@@ -67,7 +145,6 @@ fn no_bits(rt: HostRuntime) -> Result<(), Fail> {
             "{before}"
         );
     }
-    Ok(())
 }
 
 #[test]
@@ -109,15 +186,16 @@ fn remainders(rt: HostRuntime) -> Result<(), Fail> {
 // A byte is passed over, and two are read.
 #[test]
 fn remainders_of_parts(rt: HostRuntime) -> Result<(), Fail> {
+    let bytes: &[u8] = &[0x61, 0x62, 0x63];
     let mut two = [0; 2];
-    let mut narrow = Crc8Reader::new(Cursor::new([0x61, 0x62, 0x63]));
+    let mut narrow = Crc8Reader::new(Cursor::new(bytes));
     narrow.skip(1)?;
     narrow.read_into(&mut two)?;
-    assert_eq!(rt; (two, narrow.crc()), ([0x62, 0x63], 0x5f));
-    let mut wide = Crc16Reader::new(Cursor::new([0x61, 0x62, 0x63]));
+    assert_eq!(rt; narrow.crc(), 0x5f);
+    let mut wide = Crc16Reader::new(Cursor::new(bytes));
     wide.skip(1)?;
     wide.read_into(&mut two)?;
-    assert_eq!(rt; (two, wide.crc()), ([0x62, 0x63], 0xcadb));
+    assert_eq!(rt; wide.crc(), 0xcadb);
     Ok(())
 }
 

@@ -3,6 +3,7 @@
 
 mod blocks;
 mod damaged;
+mod facts;
 mod frames;
 mod samples;
 mod streams;
@@ -10,6 +11,7 @@ mod tags;
 
 pub use blocks::peak;
 pub use damaged::{Found, verify};
+pub use facts::write_facts;
 pub use frames::{decode_one, decode_packet};
 pub use samples::first_samples;
 pub use streams::decode_all;

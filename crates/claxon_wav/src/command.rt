@@ -1,18 +1,10 @@
 //! What the program does for its arguments.
-ghost use Rattle.std.specs.Prelude.{◌≡◌, false};
-ghost use Rattle.claxon.specs.FlacReader.{flac_metadata_only};
-ghost use Rattle.claxon_wav.specs.Convert.{ConvertsAll, ConvertsNotAll, PutsBlocks, StopsAtBlock};
-
-use crate::error::{Error, Result};
-use crate::header::Layout;
-use crate::progress::Progress;
-use crate::writer::WavWriter;
 use claxon::FlacReader;
-use claxon::frame::FrameReader;
-use claxon::input::ReadBytes;
-use std::alloc::Global;
+use claxon_convert::{Error, Result, WavWriter, convert};
+use claxon_text::progress::Progress;
+use claxon_wave::Layout;
 use std::fs;
-use std::io::{Read, Seek, Write};
+use std::io::{Read, Write};
 use std::os::unix::fs::MetadataExt;
 use std::rt::Files;
 
@@ -47,7 +39,12 @@ fn convert_file<Q: Files + AllocGlobal, E: Write>(
 ) -> Result<()> {
     let mut flac = FlacReader::new(rt.alloc(), fs::open(rt, from)?)?;
     let info = flac.streaminfo();
-    let layout = Layout::new(&info, speakers(&flac));
+    let layout = Layout::new(
+        info.channels,
+        info.bits_per_sample,
+        info.sample_rate,
+        speakers(&flac),
+    );
     let Some(announced) = layout.data_size(info.samples.unwrap_or(0)) else {
         return Err(Error::TooLong);
     };
@@ -78,45 +75,4 @@ fn is_same_file<Q: Files>(rt: &Q, from: &str, to: &str) -> bool {
         (Ok(from), Ok(to)) => from.ino() != 0 && from.ino() == to.ino() && from.dev() == to.dev(),
         _ => false,
     }
-}
-
-/// Writes all samples of the stream. After a fault those before it make a whole file too.
-pub fn convert<R: Read + Drop, W: Write + Seek, E: Write>(
-    alloc: Global,
-    flac: &mut FlacReader<R>,
-    wav: &mut WavWriter<W>,
-    progress: &mut Progress,
-    errors: &mut E,
-) -> Result<()>
-    requires { flac_metadata_only flac.old ≡ false }
-    ensures ok { ConvertsAll W.contents W.stream_position R.remaining flac.old result wav.old wav.new }
-    ensures err { ConvertsNotAll R.remaining flac.old result wav.old }
-{
-    let outcome = put_blocks(alloc, flac.blocks(), wav, progress, errors);
-    let finished = wav.finish();
-    outcome?;
-    finished
-}
-
-// Puts block after block up to the end. Each has samples, so the file has room for no more than so many blocks.
-fn put_blocks<R: ReadBytes + Drop, W: Write + Seek, E: Write>(
-    alloc: Global,
-    blocks: FrameReader<R>,
-    wav: &mut WavWriter<W>,
-    progress: &mut Progress,
-    errors: &mut E,
-) -> Result<()>
-    ensures ok { PutsBlocks W.contents R.source blocks result wav.old wav.new }
-    ensures err { StopsAtBlock R.source blocks result wav.old }
-{
-    let mut reader = blocks;
-    let mut buffer = Vec::new(alloc);
-    let mut done = 0u64;
-    while let Some(block) = reader.read_next_or_eof(buffer)? {
-        wav.put_block(&block)?;
-        done = done.saturating_add(u64::from(block.duration()));
-        progress.show(done, errors);
-        buffer = block.into_buffer();
-    }
-    Ok(())
 }

@@ -2,13 +2,8 @@
 #![tactic(auto)]
 
 mod command;
-mod error;
-mod header;
-mod progress;
-mod samples;
 #[cfg(test)]
 mod tests;
-mod writer;
 
 use claxon_write::words;
 use command::command;

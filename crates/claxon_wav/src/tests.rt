@@ -1,77 +1,13 @@
-//! Headers and whole files, as another decoder writes them.
-ghost use Rattle.std.specs.Prelude.{◌≡◌};
-
-use crate::command::{command, convert};
-use crate::error::Result;
-use crate::header::Layout;
-use crate::progress::Progress;
-use crate::writer::WavWriter;
+//! Whole files, as another decoder writes them.
+use crate::command::command;
 use claxon::FlacReader;
-use claxon::metadata::StreamInfo;
+use claxon_convert::{Result, WavWriter, convert};
+use claxon_text::progress::Progress;
+use claxon_wave::Layout;
 use std::alloc::Global;
 use std::io::Cursor;
 use std::test::Fail;
 use std::{env, fs, process, result};
-
-struct Header {
-    channels: u32,
-    width: u32,
-    speakers: Option<u32>,
-    size: u32,
-    bytes: &'static [u8],
-}
-
-// What stands before the samples in files of 44,100 places a second that `flac -d` wrote.
-#[rattlefmt::skip]
-const HEADERS: [Header; 4] = [
-    Header {
-        channels: 2, width: 16, speakers: None, size: 20004,
-        bytes: b"RIFF\x48\x4e\x00\x00WAVEfmt \x10\x00\x00\x00\x01\x00\x02\x00\x44\xac\x00\x00\x10\xb1\x02\x00\x04\x00\x10\x00data\x24\x4e\x00\x00",
-    },
-    Header {
-        channels: 1, width: 8, speakers: Some(4), size: 5001,
-        bytes: b"RIFF\xae\x13\x00\x00WAVEfmt \x10\x00\x00\x00\x01\x00\x01\x00\x44\xac\x00\x00\x44\xac\x00\x00\x01\x00\x08\x00data\x89\x13\x00\x00",
-    },
-    Header {
-        channels: 1, width: 12, speakers: None, size: 10002,
-        bytes: b"RIFF\x4e\x27\x00\x00WAVEfmt \x28\x00\x00\x00\xfe\xff\x01\x00\x44\xac\x00\x00\x88\x58\x01\x00\x02\x00\x10\x00\x16\x00\x0c\x00\x04\x00\x00\x00\
-\x01\x00\x00\x00\x00\x00\x10\x00\x80\x00\x00\xaa\x00\x38\x9b\x71data\x12\x27\x00\x00",
-    },
-    Header {
-        channels: 6, width: 24, speakers: Some(0x3f), size: 90018,
-        bytes: b"RIFF\xde\x5f\x01\x00WAVEfmt \x28\x00\x00\x00\xfe\xff\x06\x00\x44\xac\x00\x00\xc8\x1c\x0c\x00\x12\x00\x18\x00\x16\x00\x18\x00\x3f\x00\x00\x00\
-\x01\x00\x00\x00\x00\x00\x10\x00\x80\x00\x00\xaa\x00\x38\x9b\x71data\xa2\x5f\x01\x00",
-    },
-];
-
-fn info_of(channels: u32, width: u32) -> StreamInfo
-    ensures channels { result.channels ≡ channels }
-    ensures width { result.bits_per_sample ≡ width }
-{
-    StreamInfo {
-        min_block_size: 16,
-        max_block_size: 16,
-        min_frame_size: None,
-        max_frame_size: None,
-        sample_rate: 44100,
-        channels,
-        bits_per_sample: width,
-        samples: None,
-        md5sum: [0; 16],
-    }
-}
-
-#[test]
-fn headers(rt: HostRuntime) -> result::Result<(), Fail> {
-    let mut bytes = Vec::new(rt.alloc());
-    for row in &HEADERS {
-        let info = info_of(row.channels.clamp(1, 8), row.width.clamp(1, 32));
-        let layout = Layout::new(&info, row.speakers);
-        layout.put_header(row.size.min(100_000), &mut bytes)?;
-        assert_eq!(rt; bytes.as_slice(), row.bytes, "{}", row.width);
-    }
-    Ok(())
-}
 
 // One channel of 8 bits, of which the streaminfo says that one sample comes, and two blocks, with three samples and with two.
 const STREAM: [u8; 67] = [
@@ -99,7 +35,8 @@ fn is_converted(
     if flac.is_metadata_only() {
         return Ok(false);
     }
-    let layout = Layout::new(&flac.streaminfo(), None);
+    let info = flac.streaminfo();
+    let layout = Layout::new(info.channels, info.bits_per_sample, info.sample_rate, None);
     let mut wav = WavWriter::start(alloc, Cursor::new(bytes), layout, 1)?;
     let mut progress = Progress::new(Some(5));
     let outcome = convert(alloc, &mut flac, &mut wav, &mut progress, errors);

@@ -1,0 +1,4 @@
+pub mod Converting
+pub mod Ending
+pub mod Interleaved
+pub mod Widths

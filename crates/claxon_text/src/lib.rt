@@ -1,0 +1,7 @@
+//! What programs tell people: values as text, each on one line, and how far a long task is.
+#![tactic(auto)]
+
+pub mod progress;
+#[cfg(test)]
+mod tests;
+pub mod text;

@@ -1,5 +1,0 @@
-pub mod Chunks
-pub mod Converting
-pub mod Ending
-pub mod Interleaved
-pub mod Widths
