@@ -28,11 +28,11 @@ use Rattle.claxon.proofs.SamplesInTurn.{same_duration}
 use Rattle.claxon_format.proofs.Streams.{length-interleave}
 use Rattle.claxon_convert.specs.Convert.{ConvertsAll, HoldsFile, PutsSamples, PutsStream, StandsInWay, StopsAt, packed_blocks}
 use Rattle.claxon_convert.specs.Samples.{bytes_of_sample, packed_block, packed_samples, raised, silence}
-use Rattle.claxon_wave.specs.WaveFile.{pad, sample_size}
+use Rattle.claxon_wav_header.specs.WaveFile.{pad, sample_size}
 use Rattle.claxon_convert.specs.Writer.{Ends, Finishes, RefusesBlock}
 use Rattle.claxon_convert.specs.declared.error.Error.{Error}
 use Rattle.claxon_convert.specs.declared.error.Error.TheVariants.{Claxon, OtherChannels, SameFile, TooLong, WideSample}
-use Rattle.claxon_wave.specs.declared.header.Layout.{Layout}
+use Rattle.claxon_wav_header.specs.declared.header.Layout.{Layout}
 use Rattle.claxon_convert.specs.declared.writer.WavWriter.{WavWriter}
 
 -- the bytes of one block more

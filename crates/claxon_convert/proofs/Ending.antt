@@ -3,10 +3,10 @@ use Rattle.std.proofs.Common.{◌≡◌, ℕ, List, Option, None, Some, ap, subs
 use Rattle.std.specs.Prelude.{IfSome, Result, Ok, Err}
 use Rattle.std.specs.Io.KnownBytes.{Appends}
 use Rattle.std.proofs.KnownBytes.{Appends-kept}
-use Rattle.claxon_wave.specs.WaveFile.{pad}
+use Rattle.claxon_wav_header.specs.WaveFile.{pad}
 use Rattle.claxon_convert.specs.Writer.{Ends, Finishes, HeaderIsRight, Mends, MendsHeader, SameHeader}
 use Rattle.claxon_convert.specs.declared.error.Error.{Error}
-use Rattle.claxon_wave.specs.declared.header.Layout.{Layout}
+use Rattle.claxon_wav_header.specs.declared.header.Layout.{Layout}
 use Rattle.claxon_convert.specs.declared.writer.WavWriter.{WavWriter}
 
 pub at_start : (old new : Option ℕ) (n : ℕ) → IfSome old (λ _. (n ≡ 0) × (new ≡ Some n)) → IfSome old (λ _. new ≡ Some 0)

@@ -16,11 +16,11 @@ use Rattle.claxon.specs.Opening.{flac_bytes}
 use Rattle.claxon.specs.SampleRuns.{samples_of}
 use Rattle.claxon.specs.declared.reader.FlacReader.{FlacReader}
 use Rattle.claxon_convert.specs.Samples.{packed_samples}
-use Rattle.claxon_wave.specs.WaveFile.{wave_file}
+use Rattle.claxon_wav_header.specs.WaveFile.{wave_file}
 use Rattle.claxon_convert.specs.Writer.{Begins, Ends, HeaderIsRight}
 use Rattle.claxon_convert.specs.declared.error.Error.{Error}
 use Rattle.claxon_convert.specs.declared.error.Error.TheVariants.{Claxon, OtherChannels, SameFile, TooLong, WideSample}
-use Rattle.claxon_wave.specs.declared.header.Layout.{Layout}
+use Rattle.claxon_wav_header.specs.declared.header.Layout.{Layout}
 use Rattle.claxon_convert.specs.declared.writer.WavWriter.{WavWriter}
 
 -- the bytes of the samples of blocks, one block after another

@@ -6,7 +6,7 @@ use Rattle.claxon_format.specs.Bits.{FitsIn}
 use Rattle.claxon_format.specs.Streams.{interleave}
 use Rattle.claxon_frame.specs.Block.{BlockValue}
 use Rattle.claxon_input.specs.declared.error.Error.TheVariants.{OutOfMemory}
-use Rattle.claxon_wave.specs.WaveFile.{sample_size}
+use Rattle.claxon_wav_header.specs.WaveFile.{sample_size}
 use Rattle.claxon_convert.specs.declared.error.Error.{Error}
 use Rattle.claxon_convert.specs.declared.error.Error.TheVariants.{Claxon, WideSample}
 

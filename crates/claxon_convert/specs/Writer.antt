@@ -7,10 +7,10 @@ use Rattle.claxon_frame.specs.Block.{BlockValue}
 use Rattle.claxon_input.specs.Error.{IsIo}
 use Rattle.claxon_input.specs.declared.error.Error.TheVariants.{OutOfMemory}
 use Rattle.claxon_convert.specs.Samples.{packed_block}
-use Rattle.claxon_wave.specs.WaveFile.{IsHeader, pad}
+use Rattle.claxon_wav_header.specs.WaveFile.{IsHeader, pad}
 use Rattle.claxon_convert.specs.declared.error.Error.{Error}
 use Rattle.claxon_convert.specs.declared.error.Error.TheVariants.{Claxon, OtherChannels, TooLong, WideSample}
-use Rattle.claxon_wave.specs.declared.header.Layout.{Layout}
+use Rattle.claxon_wav_header.specs.declared.header.Layout.{Layout}
 use Rattle.claxon_convert.specs.declared.writer.WavWriter.{WavWriter}
 
 -- A header for so many bytes of samples was written, which the writer remembers, and none of them.

@@ -3,12 +3,12 @@ ghost use Rattle.std.specs.Prelude.{◌≡◌, ◌≤◌, All, IfErr, OnOk};
 ghost use Rattle.std.specs.Io.KnownBytes.{Appends};
 ghost use Rattle.claxon_format.specs.Bits.{FitsIn};
 ghost use Rattle.claxon_format.specs.Streams.{interleave};
-ghost use Rattle.claxon_wave.specs.WaveFile.{pad};
+ghost use Rattle.claxon_wav_header.specs.WaveFile.{pad};
 
 use crate::error::{Error, Result};
 use crate::samples::pack;
 use claxon::Block;
-use claxon_wave::{Layout, MOST_BYTES};
+use claxon_wav_header::{Layout, MOST_BYTES};
 use std::alloc::{Allocator, Global};
 use std::io::{Seek, SeekFrom, Write};
 

@@ -26,7 +26,7 @@ use verbatim::decode_verbatim;
 use words::read_words;
 
 /// How the samples of a subframe are written.
-#[derive(Clone, Copy, Debug)]
+#[derive(Clone, Copy)]
 enum SubframeType {
     Constant,
     Verbatim,
@@ -36,7 +36,7 @@ enum SubframeType {
     Lpc(u32),
 }
 
-#[derive(Clone, Copy, Debug)]
+#[derive(Clone, Copy)]
 struct SubframeHeader {
     sf_type: SubframeType,
     wasted_bits_per_sample: u32,
@@ -244,7 +244,7 @@ fn decode_fixed<R: ReadBytes>(
 }
 
 /// The precision of a linear predictor's coefficients, 1 to 15 bits, and its shift, 0 to 15.
-#[derive(Clone, Copy, Debug)]
+#[derive(Clone, Copy)]
 struct LpcParameters {
     precision: u32,
     shift: u32,
@@ -329,7 +329,7 @@ fn decode_lpc<R: ReadBytes>(
 }
 
 /// How many bits the parameter of a partition has: 4 or 5.
-#[derive(Clone, Copy, Debug)]
+#[derive(Clone, Copy)]
 enum RicePartitionType {
     Rice,
     Rice2,

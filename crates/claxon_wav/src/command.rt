@@ -2,7 +2,7 @@
 use claxon::FlacReader;
 use claxon_convert::{Error, Result, WavWriter, convert};
 use claxon_text::progress::Progress;
-use claxon_wave::Layout;
+use claxon_wav_header::Layout;
 use std::fs;
 use std::io::{Read, Write};
 use std::os::unix::fs::MetadataExt;

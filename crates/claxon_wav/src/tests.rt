@@ -3,7 +3,7 @@ use crate::command::command;
 use claxon::FlacReader;
 use claxon_convert::{Result, WavWriter, convert};
 use claxon_text::progress::Progress;
-use claxon_wave::Layout;
+use claxon_wav_header::Layout;
 use std::alloc::Global;
 use std::io::Cursor;
 use std::test::Fail;

@@ -4,7 +4,7 @@ ghost use Rattle.std.specs.Option.{ForSome};
 ghost use Rattle.claxon_frame.specs.FrameHeader.{HasCode, IsCodedWidth, channels_of, widest};
 
 /// What is known of the stream before its frames.
-#[derive(Clone, Copy, Debug)]
+#[derive(Clone, Copy)]
 pub struct KnownStream {
     /// The width of the samples where a header names none, 1 to 32 bits.
     pub bits_per_sample: u32,
@@ -17,21 +17,21 @@ pub struct KnownStream {
 }
 
 /// Whether all blocks but the last have one size.
-#[derive(Clone, Copy, Debug)]
+#[derive(Clone, Copy)]
 pub enum BlockingStrategy {
     Fixed,
     Variable,
 }
 
 /// The coded number of a header: of the frame in fixed blocking, of its first sample in variable blocking.
-#[derive(Clone, Copy, Debug)]
+#[derive(Clone, Copy)]
 pub enum BlockTime {
     FrameNumber(u32),
     SampleNumber(u64),
 }
 
 /// How the channels are coded: as they are, or one of two as the difference of left and right.
-#[derive(Clone, Copy, Debug)]
+#[derive(Clone, Copy)]
 pub enum ChannelAssignment {
     Independent(u8),
     LeftSideStereo,
@@ -40,7 +40,7 @@ pub enum ChannelAssignment {
 }
 
 /// The number of samples, or how many bits of it follow the coded number, less one.
-#[derive(Clone, Copy, Debug)]
+#[derive(Clone, Copy)]
 pub enum BlockSize {
     Known(u16),
     Read8,
@@ -48,7 +48,7 @@ pub enum BlockSize {
 }
 
 /// How many bits of the sample rate follow the size. The rate isn't shown anywhere.
-#[derive(Clone, Copy, Debug)]
+#[derive(Clone, Copy)]
 pub enum SampleRate {
     Known,
     Read8,
@@ -56,7 +56,7 @@ pub enum SampleRate {
 }
 
 /// A frame's header.
-#[derive(Clone, Copy, Debug)]
+#[derive(Clone, Copy)]
 pub struct FrameHeader {
     /// The number of samples of each channel before this frame.
     pub time: u64,
@@ -72,7 +72,7 @@ pub struct FrameHeader {
 }
 
 /// The fields of a header before its guard.
-#[derive(Clone, Copy, Debug)]
+#[derive(Clone, Copy)]
 pub struct HeaderFields {
     pub block_time: BlockTime,
     pub block_size: u16,

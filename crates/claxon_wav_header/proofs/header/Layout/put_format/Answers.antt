@@ -1,7 +1,7 @@
 use Rattle.std.proofs.Common.{◌++◌, List, ℕ, sym, ap, ◌∙◌, append_assoc}
-use Rattle.claxon_wave.specs.WaveFile.{extension, short_format}
-use Rattle.claxon_wave.proofs.Chunks.{long_format, plain_format}
-use Rattle.claxon_wave.proofs.header.Layout.put_format.Goals as goal
+use Rattle.claxon_wav_header.specs.WaveFile.{extension, short_format}
+use Rattle.claxon_wav_header.proofs.Chunks.{long_format, plain_format}
+use Rattle.claxon_wav_header.proofs.header.Layout.put_format.Goals as goal
 
 pub returns-then-not-is_long : goal.returns-then-not-is_long
 returns-then-not-is_long c = c.in_ok-put_short_format.ensures ∙ ap (λ (z : List ℕ). c.args.bytes.now.items ++ z) (sym (plain_format c.args.self.now (sym c.is_long.ensures ∙ c.if-not-is_long.true)))

@@ -1,9 +1,9 @@
 use Rattle.std.proofs.Common.{rules, ◌≡◌, ◌+◌, ◌%◌, ◌++◌, [], length, refl, sym, ap, ◌∙◌, w32, List, ℕ}
 use Rattle.std.specs.Prelude.{codes}
 use Rattle.std.specs.Int.{to_le_bytes}
-use Rattle.claxon_wave.specs.WaveFile.{format, pad}
-use Rattle.claxon_wave.proofs.Chunks.{by, more, before, whole}
-use Rattle.claxon_wave.proofs.header.Layout.put_header.Goals as goal
+use Rattle.claxon_wav_header.specs.WaveFile.{format, pad}
+use Rattle.claxon_wav_header.proofs.Chunks.{by, more, before, whole}
+use Rattle.claxon_wav_header.proofs.header.Layout.put_header.Goals as goal
 
 pub returns : goal.returns
 returns c =

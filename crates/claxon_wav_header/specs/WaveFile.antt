@@ -1,7 +1,7 @@
 -- WAV files.
 use Rattle.std.specs.Prelude.{IfSome, nat_lt, ◌≡◌, ◌==◌, ◌||◌, not, ℕ, ◌*◌, ◌<◌, ◌%◌, ◌^◌, List, [], ◌∷◌, ◌++◌, Bool, cond, codes, length, replicate, ◌≤◌, Option, None, Some}
 use Rattle.std.specs.Int.{div_ceil, to_le_bytes, w16, w32}
-use Rattle.claxon_wave.specs.declared.header.Layout.{Layout}
+use Rattle.claxon_wav_header.specs.declared.header.Layout.{Layout}
 
 -- a zero behind an odd number of bytes
 abbrev pub pad : ℕ → List ℕ

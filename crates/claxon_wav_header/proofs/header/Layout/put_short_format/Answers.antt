@@ -1,9 +1,9 @@
 use Rattle.std.proofs.Common.{rules, ◌≡◌, ◌*◌, ◌%◌, ◌^◌, [], sym, w32}
 use Rattle.std.specs.Int.{to_le_bytes, w16}
 use Rattle.std.proofs.lemmas.List.{append-nil}
-use Rattle.claxon_wave.specs.WaveFile.{place_size, sample_size}
-use Rattle.claxon_wave.proofs.Chunks.{by, more}
-use Rattle.claxon_wave.proofs.header.Layout.put_short_format.Goals as goal
+use Rattle.claxon_wav_header.specs.WaveFile.{place_size, sample_size}
+use Rattle.claxon_wav_header.proofs.Chunks.{by, more}
+use Rattle.claxon_wav_header.proofs.header.Layout.put_short_format.Goals as goal
 
 pub returns : goal.returns
 returns c =

@@ -24,7 +24,7 @@ pub struct Layout {
 }
 
 impl Layout {
-    ghost use Rattle.claxon_wave.specs.WaveFile.{IsHeader, IsLayoutOf, IsSizeOf, extension, format, is_long, place_size, sample_size, short_format};
+    ghost use Rattle.claxon_wav_header.specs.WaveFile.{IsHeader, IsLayoutOf, IsSizeOf, extension, format, is_long, place_size, sample_size, short_format};
 
     /// The layout of samples of so many channels and bits, and so many places a second. The channels belong to these
     /// loudspeakers, a bit each; where none are named, to the usual ones of a FLAC stream.

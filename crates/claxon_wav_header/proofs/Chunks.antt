@@ -3,8 +3,8 @@ use Rattle.std.proofs.Common.{◌≡◌, ℕ, ◌+◌, ◌%◌, List, [], ◌++�
 use Rattle.std.specs.Prelude.{Bool, true, false, cond, codes, replicate}
 use Rattle.std.specs.Int.{to_le_bytes, w32}
 use Rattle.std.proofs.lemmas.List.{append-nil, length-replicate}
-use Rattle.claxon_wave.specs.WaveFile.{chunk, extension, format, is_long, pad, short_format}
-use Rattle.claxon_wave.specs.declared.header.Layout.{Layout}
+use Rattle.claxon_wav_header.specs.WaveFile.{chunk, extension, format, is_long, pad, short_format}
+use Rattle.claxon_wav_header.specs.declared.header.Layout.{Layout}
 
 -- a has grown to b by xs
 pub record Grown (a b xs : List ℕ) : Type 0 where
