@@ -71,14 +71,30 @@ fn path_of(rt: &HostRuntime, name: &str) -> result::Result<String, Fail> {
     Ok(format!(in rt.alloc(); "{folder}/claxon_wav_{id}_{name}")?)
 }
 
-fn status_of(
-    rt: &HostRuntime,
-    from: &str,
-    to: &str,
-    errors: &mut Vec<u8>,
-) -> result::Result<u8, Fail> {
+// Puts bytes into such a file.
+fn put(rt: &HostRuntime, name: &str, bytes: &[u8]) -> result::Result<(), Fail> {
+    let path = path_of(rt, name)?;
+    fs::write(rt, path.as_str(), bytes)?;
+    Ok(())
+}
+
+fn holds(rt: &HostRuntime, name: &str, bytes: &[u8]) -> result::Result<bool, Fail> {
+    let path = path_of(rt, name)?;
+    let found = fs::read(rt, path.as_str())?;
+    Ok(found.as_slice() == bytes)
+}
+
+fn remove(rt: &HostRuntime, name: &str) -> result::Result<(), Fail> {
+    let path = path_of(rt, name)?;
+    fs::remove_file(rt, path.as_str())?;
+    Ok(())
+}
+
+// The status of converting one of them into another.
+fn status_of(rt: &HostRuntime, from: &str, to: &str) -> result::Result<u8, Fail> {
     let words = [path_of(rt, from)?, path_of(rt, to)?];
-    Ok(command(rt, &words, false, errors))
+    let mut errors = Vec::new(rt.alloc());
+    Ok(command(rt, &words, false, &mut errors))
 }
 
 // The status, and what stands in the output afterwards. The long stream has 2^36 - 1 samples by its streaminfo.
@@ -86,11 +102,9 @@ fn status_of(
 fn with_files(rt: HostRuntime) -> result::Result<(), Fail> {
     let mut long_stream = STREAM;
     long_stream[21..26].copy_from_slice(&[0x7f, 0xff, 0xff, 0xff, 0xff]);
-    let (input, long) = (path_of(&rt, "in.flac")?, path_of(&rt, "long.flac")?);
-    let output = path_of(&rt, "out.wav")?;
-    fs::write(&rt, input.as_str(), STREAM.as_slice())?;
-    fs::write(&rt, long.as_str(), long_stream.as_slice())?;
-    fs::write(&rt, output.as_str(), b"old".as_slice())?;
+    put(&rt, "in.flac", &STREAM)?;
+    put(&rt, "long.flac", &long_stream)?;
+    put(&rt, "out.wav", b"old")?;
     let rows: [(&str, &str, u8, &[u8]); 5] = [
         ("in.flac", "in.flac", 1, b"old"),
         ("none.flac", "out.wav", 1, b"old"),
@@ -98,22 +112,16 @@ fn with_files(rt: HostRuntime) -> result::Result<(), Fail> {
         ("in.flac", "out.wav", 0, WHOLE),
         ("in.flac", "none/out.wav", 1, WHOLE),
     ];
-    let mut errors = Vec::new(rt.alloc());
     for (from, to, want_status, want) in rows {
-        let status = status_of(&rt, from, to, &mut errors)?;
+        let status = status_of(&rt, from, to)?;
         assert_eq!(rt; status, want_status, "{from} {to}");
-        assert_eq!(rt;
-            fs::read(&rt, output.as_str())?.as_slice(),
-            want,
-            "{from} {to}"
-        );
+        let is_left = holds(&rt, "out.wav", want)?;
+        assert!(rt; is_left, "{from} {to}");
     }
-    assert_eq!(rt;
-        fs::read(&rt, input.as_str())?.as_slice(),
-        STREAM.as_slice()
-    );
-    for path in [input.as_str(), long.as_str(), output.as_str()] {
-        fs::remove_file(&rt, path)?;
+    let is_left = holds(&rt, "in.flac", &STREAM)?;
+    assert!(rt; is_left);
+    for name in ["in.flac", "long.flac", "out.wav"] {
+        remove(&rt, name)?;
     }
     Ok(())
 }
