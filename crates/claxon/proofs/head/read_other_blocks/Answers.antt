@@ -1,4 +1,4 @@
-use Rattle.std.proofs.Common.{Bool, Err, refl, sym, ap, ◌∙◌, arith}
+use Rattle.std.proofs.Common.{Bool, Err, refl, sym, ap, ◌∙◌, arith, rules}
 use Rattle.std.specs.Prelude.{◌&&◌, ◌||◌}
 use Rattle.std.proofs.lemmas.Result.{err_from_is_err_and}
 use Rattle.claxon_format.specs.Fault.{fault_text, TooManyBlocks}
@@ -35,3 +35,6 @@ loop-most-preserved g c =
 pub returns-clause-gives : goal.returns-clause-gives
 unfolding fault_text
 returns-clause-gives g c = stops_fault TooManyBlocks refl refl (refl, refl) (others_too_many (omega (arith, c.loop-most-test.false)) c.loop-most.invariant.read)
+
+pub loop-most-init : goal.loop-most-init
+loop-most-init g c = search rules

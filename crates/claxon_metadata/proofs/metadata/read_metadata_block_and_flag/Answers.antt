@@ -1,10 +1,11 @@
-use Rattle.std.proofs.Common.{◌≡◌, Err, sym, ap, ◌∙◌, arith}
+use Rattle.std.proofs.Common.{◌≡◌, Err, sym, ap, ◌∙◌, arith, rules}
 use Rattle.std.proofs.lemmas.Result.{err_from_is_err_and}
 use Rattle.claxon_format.proofs.Metadata.{Reads-block_header}
 use Rattle.claxon_input.specs.declared.error.Error.{Error}
 use Rattle.claxon_input.specs.declared.error.Error.TheVariants.{OutOfMemory}
 use Rattle.claxon_metadata.specs.MetadataBlock.{header_view}
 use Rattle.claxon_metadata.proofs.ContentByType.{header_is}
+use Rattle.claxon_format.specs.read.MetadataBlocks.{block_at}
 use Rattle.claxon_metadata.proofs.metadata.read_metadata_block_and_flag.Goals as goal
 
 pub returns-in_err-block-clause-memory : goal.returns-in_err-block-clause-memory
@@ -30,3 +31,10 @@ pub returns-clause-within : goal.returns-clause-within
 returns-clause-within g c h x rest code comes =
     let same = header_is _ h x rest code comes.are (c.in_ok-header.ensures.gives.known comes.told).is in
     omega (arith, same, c.in_ok-header.ensures.within, c.in_ok-block.ensures.within)
+
+pub returns-clause-memory : goal.returns-clause-memory
+returns-clause-memory g c = search rules
+
+pub returns-clause-gives : goal.returns-clause-gives
+unfolding block_at
+returns-clause-gives g c = search rules

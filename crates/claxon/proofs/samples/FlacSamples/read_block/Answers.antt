@@ -1,4 +1,4 @@
-use Rattle.std.proofs.Common.{Ok, Err, Option, sym, ap, ◌∙◌}
+use Rattle.std.proofs.Common.{Ok, Err, Option, sym, ap, ◌∙◌, rules}
 use Rattle.std.proofs.lemmas.Result.{err_from_is_err_and}
 use Rattle.claxon_input.specs.declared.error.Error.{Error}
 use Rattle.claxon_frame.specs.Block.{BlockValue}
@@ -20,3 +20,6 @@ pub returns-in-None-clause-reads : goal.returns-in-None-clause-reads
 returns-in-None-clause-reads g c =
     let e = c.read_next_or_eof.ensures in
     reads_as (c.in_ok-block.was ∙ ap (λ (z : Option BlockValue). Ok z) c.in-None.is) (reads_frame _ e.sound e.complete e.at_end e.ended e.no_failure e.fault e.named e.io e.front e.memory e.gives)
+
+pub returns-in-None-clause-none_left : goal.returns-in-None-clause-none_left
+returns-in-None-clause-none_left g c = search rules

@@ -1,4 +1,5 @@
 use Rattle.std.proofs.Common.{rules, arith, refl, subst, ℕ, ◌+◌, ◌<◌, length, set, w32, FitsSigned}
+use Rattle.std.proofs.lemmas.Grind.{common_steps}
 use Rattle.std.proofs.lemmas.Int.{to_z-of_z}
 use Rattle.claxon_format.specs.read.Bits.{signed_at}
 use Rattle.claxon_subframe.proofs.FieldsAhead.{FieldsSoFar, fields_begin, fields_next}
@@ -16,3 +17,9 @@ loop-place-preserved c =
       omega (arith, l.invariant.0),
       rw (to_z-of_z w32 c.in-Some.sample f) (subst (λ (i : ℕ). FieldsSoFar (signed_at c.args.bps) (set l.buffer i c.in-Some.sample) (l.samples + 1) c.args.ahead.now c.sample_ahead.new.ahead) l.invariant.0 next),
     )
+
+pub returns-after-loop-place-clause-samples : goal.returns-after-loop-place-clause-samples
+returns-after-loop-place-clause-samples c = search rules
+
+pub returns-in_default-clause-samples : goal.returns-in_default-clause-samples
+returns-in_default-clause-samples c = grind (arith, common_steps)

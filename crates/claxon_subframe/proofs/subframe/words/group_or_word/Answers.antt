@@ -1,4 +1,5 @@
 use Rattle.std.proofs.Common.{rules, arith, ap, ◌≡◌, ◌∙◌, ◌<◌, length, w32, FitsSigned}
+use Rattle.std.proofs.lemmas.Grind.{common_steps}
 use Rattle.std.proofs.lemmas.Int.{to_z-of_z}
 use Rattle.claxon_input.specs.Ahead.{bits_ahead}
 use Rattle.claxon_subframe.proofs.WordsAhead.{one_word, no_word}
@@ -25,3 +26,6 @@ returns-clause-words c =
     ] in
     let some : 0 < length xs = omega (arith, c.else-group-buffer.auto.buffer) in
     rw (to_z-of_z w32 c.in-Some.word f) (one_word c.args.parameter xs c.in-Some.word c.args.ahead.now c.else-group-buffer.ahead c.word_ahead.new.ahead some same c.in-Some.ensures)
+
+pub returns-then-group_ahead-clause-words : goal.returns-then-group_ahead-clause-words
+returns-then-group_ahead-clause-words c = grind (arith, common_steps)

@@ -1,0 +1,5 @@
+use Rattle.std.proofs.Common.{rules}
+use Rattle.claxon.proofs.reader.FlacReader.input.Goals as goal
+
+pub returns : goal.returns
+returns g c = search rules

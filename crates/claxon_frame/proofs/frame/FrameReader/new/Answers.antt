@@ -1,0 +1,5 @@
+use Rattle.std.proofs.Common.{rules}
+use Rattle.claxon_frame.proofs.frame.FrameReader.new.Goals as goal
+
+pub returns-clause-stream : goal.returns-clause-stream
+returns-clause-stream g c = search rules

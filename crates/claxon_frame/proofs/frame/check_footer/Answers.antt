@@ -1,0 +1,12 @@
+use Rattle.std.proofs.Common.{rules}
+use Rattle.claxon_format.specs.read.Bytes.{expected_at}
+use Rattle.claxon_format.specs.Fault.{fault_text}
+use Rattle.claxon_frame.proofs.frame.check_footer.Goals as goal
+
+pub returns-clause-gives : goal.returns-clause-gives
+unfolding expected_at fault_text
+returns-clause-gives g c = search rules
+
+pub returns-then-branch-computed-clause-gives : goal.returns-then-branch-computed-clause-gives
+unfolding expected_at fault_text
+returns-then-branch-computed-clause-gives g c = search rules

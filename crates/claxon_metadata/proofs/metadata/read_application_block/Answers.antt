@@ -1,0 +1,16 @@
+use Rattle.std.proofs.Common.{rules}
+use Rattle.claxon_format.specs.read.MetadataBlocks.{application_at}
+use Rattle.claxon_format.specs.Fault.{fault_text}
+use Rattle.claxon_metadata.proofs.metadata.read_application_block.Goals as goal
+
+pub returns-in_err-id-clause-gives : goal.returns-in_err-id-clause-gives
+unfolding application_at fault_text
+returns-in_err-id-clause-gives g c = search rules
+
+pub returns-in_err-bytes-clause-gives : goal.returns-in_err-bytes-clause-gives
+unfolding application_at fault_text
+returns-in_err-bytes-clause-gives g c = search rules
+
+pub returns-clause-gives : goal.returns-clause-gives
+unfolding application_at fault_text
+returns-clause-gives g c = search rules

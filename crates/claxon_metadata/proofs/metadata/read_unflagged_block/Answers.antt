@@ -1,0 +1,11 @@
+use Rattle.std.proofs.Common.{rules}
+use Rattle.claxon_metadata.specs.MetadataBlock.{content_at}
+use Rattle.claxon_metadata.proofs.metadata.read_unflagged_block.Goals as goal
+
+pub returns-in_err-block-clause-gives : goal.returns-in_err-block-clause-gives
+unfolding content_at
+returns-in_err-block-clause-gives g c = search rules
+
+pub returns-clause-gives : goal.returns-clause-gives
+unfolding content_at
+returns-clause-gives g c = search rules
