@@ -122,10 +122,18 @@ fn splits(rt: HostRuntime) {
     for first in 0..33 {
         let mut bits = Bitstream::new(Cursor::new(FIVE.as_slice()));
         let high = u64::from(answer(&mut bits, Call::UpTo32(first)).unwrap_or(0));
-        assert_eq!(rt; answer(&mut bits, Call::UpTo8(0)), Some(0));
+        assert!(rt; answer(&mut bits, Call::UpTo8(0)) == Some(0));
         let low = u64::from(answer(&mut bits, Call::UpTo32(32 - first)).unwrap_or(0));
-        assert_eq!(rt; high << (32 - first) | low, 0xa5e1_d255, "{first}");
+        assert!(rt; high << (32 - first) | low == 0xa5e1_d255, "{first}");
     }
+}
+
+// Whether numbers of no bits are given behind so many bits.
+fn gives_no_bits<R: ReadBytes>(input: &mut R, before: u32) -> bool {
+    let mut bits = Bitstream::new(input);
+    answer(&mut bits, Call::UpTo32(before)).is_some()
+        && answer(&mut bits, Call::UpTo8(0)) == Some(0)
+        && answer(&mut bits, Call::UpTo16(0)) == Some(0)
 }
 
 // A number of no bits takes no byte, wherever it is read.
@@ -133,15 +141,9 @@ fn splits(rt: HostRuntime) {
 fn no_bits(rt: HostRuntime) {
     for before in 0..33u32 {
         let mut cursor = Cursor::new(FIVE.as_slice());
-        {
-            let mut bits = Bitstream::new(&mut cursor);
-            assert!(rt; answer(&mut bits, Call::UpTo32(before)).is_some());
-            assert_eq!(rt; answer(&mut bits, Call::UpTo8(0)), Some(0));
-            assert_eq!(rt; answer(&mut bits, Call::UpTo16(0)), Some(0));
-        }
-        assert_eq!(rt;
-            cursor.position(),
-            u64::from(before.div_ceil(8)),
+        assert!(rt; gives_no_bits(&mut cursor, before), "{before}");
+        assert!(rt;
+            cursor.position() == u64::from(before.div_ceil(8)),
             "{before}"
         );
     }
@@ -153,14 +155,29 @@ fn buffered_bytes(rt: HostRuntime) -> Result<(), Fail> {
     let mut reader = BufferedReader::new(rt.alloc(), Cursor::new(bytes))?;
     let mut three = [0; 3];
     reader.read_into(&mut three)?;
-    assert_eq!(rt; three, [2, 3, 5]);
+    assert!(rt; three == [2, 3, 5]);
     let mut five = [0; 5];
     reader.read_into(&mut five)?;
-    assert_eq!(rt; five, [7, 11, 13, 17, 19]);
+    assert!(rt; five == [7, 11, 13, 17, 19]);
     assert!(rt; reader.read_into(&mut [0; 2]).is_err());
     // What is left was taken.
-    assert_eq!(rt; reader.read_u8_or_eof()?, None);
+    assert!(rt; reader.read_u8_or_eof()?.is_none());
     Ok(())
+}
+
+// What is left of so many bytes that are passed over, and of those that are read then.
+fn narrow_of<R: ReadBytes>(input: &mut R, count: u32, buffer: &mut [u8]) -> io::Result<u8> {
+    let mut reader = Crc8Reader::new(input);
+    reader.skip(count)?;
+    reader.read_into(buffer)?;
+    Ok(reader.crc())
+}
+
+fn wide_of<R: ReadBytes>(input: &mut R, count: u32, buffer: &mut [u8]) -> io::Result<u16> {
+    let mut reader = Crc16Reader::new(input);
+    reader.skip(count)?;
+    reader.read_into(buffer)?;
+    Ok(reader.crc())
 }
 
 #[test]
@@ -173,12 +190,9 @@ fn remainders(rt: HostRuntime) -> Result<(), Fail> {
         (b"123456789", 0xf4, 0xfee8),
     ];
     for (bytes, narrow, wide) in rows {
-        let mut reader = Crc8Reader::new(Cursor::new(bytes));
-        reader.skip(bytes.len() as u32)?;
-        assert_eq!(rt; reader.crc(), narrow);
-        let mut reader = Crc16Reader::new(Cursor::new(bytes));
-        reader.skip(bytes.len() as u32)?;
-        assert_eq!(rt; reader.crc(), wide);
+        let count = bytes.len() as u32;
+        assert!(rt; narrow_of(&mut Cursor::new(bytes), count, &mut [])? == narrow);
+        assert!(rt; wide_of(&mut Cursor::new(bytes), count, &mut [])? == wide);
     }
     Ok(())
 }
@@ -187,22 +201,15 @@ fn remainders(rt: HostRuntime) -> Result<(), Fail> {
 #[test]
 fn remainders_of_parts(rt: HostRuntime) -> Result<(), Fail> {
     let bytes: &[u8] = &[0x61, 0x62, 0x63];
-    let mut two = [0; 2];
-    let mut narrow = Crc8Reader::new(Cursor::new(bytes));
-    narrow.skip(1)?;
-    narrow.read_into(&mut two)?;
-    assert_eq!(rt; narrow.crc(), 0x5f);
-    let mut wide = Crc16Reader::new(Cursor::new(bytes));
-    wide.skip(1)?;
-    wide.read_into(&mut two)?;
-    assert_eq!(rt; wide.crc(), 0xcadb);
+    assert!(rt; narrow_of(&mut Cursor::new(bytes), 1, &mut [0; 2])? == 0x5f);
+    assert!(rt; wide_of(&mut Cursor::new(bytes), 1, &mut [0; 2])? == 0xcadb);
     Ok(())
 }
 
 #[test]
 fn a_guarded_pair(rt: HostRuntime) -> Result<(), Fail> {
     let mut reader = Cursor::new([0xacu8, 0x04, 0x68, 0x11, 0xac, 0x04, 0x68, 0x10]);
-    assert_eq!(rt; read_guarded_pair(&mut reader).ok(), Some((21, 257)));
-    assert_eq!(rt; read_guarded_pair(&mut reader).ok(), None);
+    assert!(rt; read_guarded_pair(&mut reader).ok() == Some((21, 257)));
+    assert!(rt; read_guarded_pair(&mut reader).is_err());
     Ok(())
 }
