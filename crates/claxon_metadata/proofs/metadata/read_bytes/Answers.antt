@@ -17,3 +17,16 @@ returns-clause-gives g c =
     let n : length c.read_whole.new.buffer ≡ c.resize.new.self.len = c.read_whole.auto.buffer ∙ c.deref_mut.ensures.len in
     let rest = drop (length c.read_whole.new.buffer) c.resize.new.self.items in
     went_map _ (rw e at c.in_ok-read_whole.ensures.gives) (λ p. rw (take_at c.read_whole.new.buffer rest c.resize.new.self.len n) p)
+
+pub returns-in_err-resize-clause-gives : goal.returns-in_err-resize-clause-gives
+returns-in_err-resize-clause-gives g c = search rules
+
+pub returns-in_err-read_whole-clause-within : goal.returns-in_err-read_whole-clause-within
+returns-in_err-read_whole-clause-within g c =
+    let e : length c.deref_mut.result.now ≡ c.args.count = search rules in
+    rw e at c.in_err-read_whole.ensures.within
+
+pub returns-clause-within : goal.returns-clause-within
+returns-clause-within g c =
+    let e : length c.deref_mut.result.now ≡ c.args.count = search rules in
+    rw e at c.in_ok-read_whole.ensures.within

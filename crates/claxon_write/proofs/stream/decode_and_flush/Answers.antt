@@ -1,6 +1,7 @@
-use Rattle.std.proofs.Common.{inl, inr, refl, ◌∙◌}
+use Rattle.std.proofs.Common.{◌≡◌, inl, inr, refl, ◌∙◌, rules}
 use Rattle.std.proofs.lemmas.Result.{err_from_is_err_and}
 use Rattle.claxon_input.specs.BufferedReader.{buffered_source}
+use Rattle.claxon_write.specs.Written.{output_failures}
 use Rattle.claxon_write.proofs.Unlent.{decodes_flushed, fails_shown, flush_fails_shown}
 use Rattle.claxon_write.proofs.stream.decode_and_flush.Goals as goal
 
@@ -11,7 +12,8 @@ pub returns-clause-ok : goal.returns-clause-ok
 returns-clause-ok g c =
     let k = c.in_ok-end.ensures.ok in
     let f = c.flush_writer-flushed.ensures in
-    (decodes_flushed (buffered_source g.R.Read.remaining) c.streaminfo-info.ensures.value c.input.ensures.input c.write_blocks.new.input c.in_default.is k.0 f.kept f.waiting, c.in_ok-flushed.ensures.told ∙ k.1)
+    let none_failed : output_failures c.flush_writer-flushed.new.self ≡ output_failures c.write_blocks.new.output = search rules in
+    (decodes_flushed (buffered_source g.R.Read.remaining) c.streaminfo-info.ensures.value c.input.ensures.input c.write_blocks.new.input c.in_default.is k.0 f.kept f.waiting, none_failed ∙ k.1)
 
 pub returns-in-Some-clause-err : goal.returns-in-Some-clause-err
 returns-in-Some-clause-err g c =
