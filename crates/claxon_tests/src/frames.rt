@@ -1,9 +1,10 @@
 //! What a block shows, and frames into used buffers and from a reader that gives little.
 use claxon::Block;
 use claxon::frame::FrameReader;
-use claxon::input::BufferedReader;
+use claxon::input::{BufferedReader, ReadBytes};
 use claxon_test_doubles::sources::OneByte;
 use claxon_test_support::answers::{Shown, Step, mono, next_step, pair, step_of};
+use std::alloc::{AllocError, Global};
 use std::io::Cursor;
 use std::process::Abort;
 use std::test::Fail;
@@ -55,32 +56,34 @@ const FOUR: Step = Step::Block(Shown {
     samples: [10, 11, 11, 9],
 });
 
+// Whether a block of two channels has 3 and -2 at each of its two places.
+fn has_its_places(block: &Block) -> bool {
+    if block.channels() != 2 || block.duration() != 2 {
+        return false;
+    }
+    let mut pairs = block.stereo_samples();
+    block.len() == 4
+        && block.channel(1) == [-2, -2].as_slice()
+        && block.sample(0, 1) == 3
+        && pairs.next() == Some((3, -2))
+        && pairs.next() == Some((3, -2))
+        && pairs.next() == None
+}
+
 #[test]
 fn places_of_a_block(rt: HostRuntime) -> Result<(), Fail> {
     let mut reader = FrameReader::new(Cursor::new(AS_THEY_ARE));
     let Ok(Some(block)) = reader.read_next_or_eof(Vec::new(rt.alloc())) else {
         return Err(Fail::new("no block"));
     };
-    if block.channels() != 2 || block.duration() != 2 {
-        return Err(Fail::new("other channels"));
-    }
-    assert_eq!(rt; block.len(), 4);
-    assert_eq!(rt; block.channel(1), [-2, -2].as_slice());
-    assert_eq!(rt; block.sample(0, 1), 3);
-    let mut pairs = block.stereo_samples();
-    assert_eq!(rt; pairs.next(), Some((3, -2)));
-    assert_eq!(rt; pairs.next(), Some((3, -2)));
-    assert_eq!(rt; pairs.next(), None);
+    assert!(rt; has_its_places(&block));
     Ok(())
 }
 
 #[test]
 fn an_empty_block(rt: HostRuntime) {
     let block = Block::empty(rt.alloc());
-    assert_eq!(rt;
-        (block.time(), block.channels(), block.duration()),
-        (0, 0, 0)
-    );
+    assert!(rt; block.time() == 0 && block.channels() == 0 && block.duration() == 0);
     assert!(rt; block.into_buffer().is_empty());
 }
 
@@ -96,8 +99,7 @@ fn check_buffer(
     let Some(block) = reader.read_next_or_eof(buffer)? else {
         return Err(Fail::new("no block"));
     };
-    assert_eq!(rt; block.len() as usize, count);
-    assert_eq!(rt; step_of(Ok(Some(block))), want);
+    assert!(rt; block.len() as usize == count && step_of(Ok(Some(block))) == want);
     Ok(())
 }
 
@@ -134,6 +136,17 @@ fn old_buffers(rt: HostRuntime) -> Result<(), Fail> {
     Ok(())
 }
 
+// What the next call answers, into a buffer of so many samples.
+fn step_into<R: ReadBytes>(
+    alloc: Global,
+    reader: &mut FrameReader<R>,
+    len: usize,
+) -> Result<Step, AllocError> {
+    let mut buffer = Vec::new(alloc);
+    buffer.resize(len, 13)?;
+    Ok(step_of(reader.read_next_or_eof(buffer)))
+}
+
 #[test]
 fn a_byte_a_read(rt: HostRuntime) -> Result<(), Fail> {
     let mut twice = [0; 28];
@@ -141,16 +154,15 @@ fn a_byte_a_read(rt: HostRuntime) -> Result<(), Fail> {
     twice[14..].copy_from_slice(&MID_SIDE);
     for len in [0, 1, 16384] {
         let mut reader = FrameReader::new(BufferedReader::new(rt.alloc(), OneByte::new(&twice))?);
-        for _ in 0..2 {
-            let mut buffer = Vec::new(rt.alloc());
-            buffer.resize(len, 13)?;
-            assert_eq!(rt;
-                step_of(reader.read_next_or_eof(buffer)),
-                pair(3, -2),
-                "{len}"
-            );
-        }
-        assert_eq!(rt; next_step(rt.alloc(), &mut reader), Step::End);
+        assert!(rt;
+            step_into(rt.alloc(), &mut reader, len)? == pair(3, -2),
+            "{len}"
+        );
+        assert!(rt;
+            step_into(rt.alloc(), &mut reader, len)? == pair(3, -2),
+            "{len}"
+        );
+        assert!(rt; next_step(rt.alloc(), &mut reader) == Step::End, "{len}");
     }
     Ok(())
 }

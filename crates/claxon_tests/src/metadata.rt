@@ -1,9 +1,11 @@
 //! Metadata blocks with their headers, alone and one after another.
 use claxon::Error;
+use claxon::input::ReadBytes;
 use claxon::metadata::{
     MetadataBlock, MetadataBlockReader, VorbisComment, read_metadata_block_with_header,
 };
 use claxon_test_support::answers::{COMMENT, Fault, fault_of, joined};
+use std::alloc::Global;
 use std::io::Cursor;
 use std::test::Fail;
 
@@ -15,6 +17,27 @@ fn is_worked(comment: &VorbisComment) -> bool {
     }
 }
 
+// Whether it is an application block of this number and these bytes.
+fn is_application(block: &MetadataBlock, number: u32, content: &[u8]) -> bool {
+    match block {
+        MetadataBlock::Application { id, bytes } => *id == number && bytes.as_slice() == content,
+        _ => false,
+    }
+}
+
+// The fault that keeps a block from being read, if one does.
+fn fault_of_block(alloc: Global, input: &mut Cursor<&[u8]>) -> Option<Fault> {
+    match read_metadata_block_with_header(alloc, input) {
+        Ok(_) => None,
+        Err(error) => Some(fault_of(&error)),
+    }
+}
+
+// Whether there is no block any more, and a reader says so.
+fn is_at_the_end<R: ReadBytes + Drop>(blocks: &mut MetadataBlockReader<R>) -> bool {
+    blocks.next().is_none() && blocks.size_hint() == (0, Some(0))
+}
+
 #[test]
 fn blocks_one_after_another(rt: HostRuntime) -> Result<(), Fail> {
     let header = [0x04, 0x00, 0x00, 0x13];
@@ -24,14 +47,11 @@ fn blocks_one_after_another(rt: HostRuntime) -> Result<(), Fail> {
     let Some(Ok(MetadataBlock::VorbisComment(comment))) = blocks.next() else {
         return Err(Fail::new("no comment block"));
     };
-    assert!(rt; is_worked(&comment));
-    assert_eq!(rt; blocks.size_hint(), (1, None));
-    let Some(Ok(MetadataBlock::Padding { length })) = blocks.next() else {
+    assert!(rt; is_worked(&comment) && blocks.size_hint() == (1, None));
+    let Some(Ok(MetadataBlock::Padding { length: 0 })) = blocks.next() else {
         return Err(Fail::new("no padding"));
     };
-    assert_eq!(rt; length, 0);
-    assert!(rt; blocks.next().is_none());
-    assert_eq!(rt; blocks.size_hint(), (0, Some(0)));
+    assert!(rt; is_at_the_end(&mut blocks));
     Ok(())
 }
 
@@ -39,8 +59,7 @@ fn blocks_one_after_another(rt: HostRuntime) -> Result<(), Fail> {
 fn no_block_after_a_failure(rt: HostRuntime) {
     let mut blocks = MetadataBlockReader::new(rt.alloc(), Cursor::new([0x7f].as_slice()));
     assert!(rt; matches!(blocks.next(), Some(Err(Error::IoError(_)))));
-    assert!(rt; blocks.next().is_none());
-    assert_eq!(rt; blocks.size_hint(), (0, Some(0)));
+    assert!(rt; is_at_the_end(&mut blocks));
 }
 
 // A type of no block, an application block, and one that is too large.
@@ -49,20 +68,15 @@ fn blocks_with_headers(rt: HostRuntime) -> Result<(), Fail> {
     let mut input = Cursor::new([
         0x7f, 0, 0, 0, 2, 0, 0, 5, 0, 0, 0, 7, 9, 2, 0xa0, 0, 1,
     ].as_slice());
-    let block = read_metadata_block_with_header(rt.alloc(), &mut input);
-    assert!(rt; block.err() == Some(Error::FormatError("invalid metadata block type")));
-    assert_eq!(rt; input.position(), 4);
-    match read_metadata_block_with_header(rt.alloc(), &mut input)? {
-        MetadataBlock::Application { id, bytes } => {
-            assert_eq!(rt; id, 7);
-            assert!(rt; bytes.as_slice() == [9].as_slice());
-        }
-        _ => return Err(Fail::new("not an application block")),
-    }
-    let large = Error::Unsupported("application blocks larger than 10 MiB are not supported");
-    let block = read_metadata_block_with_header(rt.alloc(), &mut input);
-    assert!(rt; block.err() == Some(large));
-    assert_eq!(rt; input.position(), 17);
+    let fault = fault_of_block(rt.alloc(), &mut input);
+    assert!(rt; fault == Some(Fault::Format("invalid metadata block type")));
+    assert!(rt; input.position() == 4);
+    let block = read_metadata_block_with_header(rt.alloc(), &mut input)?;
+    assert!(rt; is_application(&block, 7, &[9]));
+    let large = "application blocks larger than 10 MiB are not supported";
+    let fault = fault_of_block(rt.alloc(), &mut input);
+    assert!(rt; fault == Some(Fault::Unsupported(large)));
+    assert!(rt; input.position() == 17);
     Ok(())
 }
 
@@ -81,10 +95,8 @@ fn lying_headers(rt: HostRuntime) {
     ];
     for (bytes, fault) in rows {
         let mut input = Cursor::new(bytes);
-        match read_metadata_block_with_header(rt.alloc(), &mut input) {
-            Ok(_) => assert!(rt; false, "{bytes:?}"),
-            Err(error) => assert_eq!(rt; fault_of(&error), fault, "{bytes:?}"),
-        }
+        let found = fault_of_block(rt.alloc(), &mut input);
+        assert!(rt; found == Some(fault), "{bytes:?}");
         assert!(rt; fault == Fault::Io || input.position() == 4, "{bytes:?}");
     }
 }

@@ -24,8 +24,8 @@ fn check(
 ) -> Result<(), Fail> {
     let (first, zeros, last) = bytes;
     let mut input = BufferedReader::new(rt.alloc(), ZerosBetween::new(first, zeros, last))?;
-    assert_eq!(rt; decode(&mut input), want, "{zeros}");
-    assert_eq!(rt; decode(&mut input), Err(Fault::Format(then)), "{zeros}");
+    assert!(rt; decode(&mut input) == want, "{zeros}");
+    assert!(rt; decode(&mut input) == Err(Fault::Format(then)), "{zeros}");
     Ok(())
 }
 
