@@ -26,13 +26,27 @@ impl Tally {
     }
 }
 
-// Counts the samples up to the end or the first fault.
-fn decode<R: Read + Drop>(alloc: Global, input: R, tally: &mut Tally) -> Result<()> {
-    let mut flac = FlacReader::new(alloc, input)?;
+fn tally_of(samples: &[i32]) -> Tally {
+    let mut tally = Tally::new();
+    for sample in samples {
+        tally.add(*sample);
+    }
+    tally
+}
+
+/// Gathers the samples up to the end or the first fault; none of a stream that was opened for its metadata alone.
+pub fn gather<R: Read + Drop>(flac: &mut FlacReader<R>, samples: &mut Vec<i32>) -> Result<()> {
+    if flac.is_metadata_only() {
+        return Ok(());
+    }
     for sample in flac.samples().take(usize::MAX) {
-        tally.add(sample?);
+        samples.push(sample?)?;
     }
     Ok(())
+}
+
+fn decode<R: Read + Drop>(alloc: Global, input: R, samples: &mut Vec<i32>) -> Result<()> {
+    gather(&mut FlacReader::new(alloc, input)?, samples)
 }
 
 /// Prints how many samples a file gives, a hash of their bytes, and how it ends.
@@ -42,8 +56,9 @@ pub fn print_tally<R: Read + Drop, W: Write>(
     input: R,
     output: &mut W,
 ) -> Result<()> {
-    let mut tally = Tally::new();
-    let outcome = decode(alloc, input, &mut tally);
+    let mut samples = Vec::new(alloc);
+    let outcome = decode(alloc, input, &mut samples);
+    let tally = tally_of(&samples);
     write!(output, "{name} {} {:016x} ", tally.count, tally.hash)?;
     match outcome {
         Ok(()) => writeln!(output, "ok")?,

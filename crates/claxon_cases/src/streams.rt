@@ -1,6 +1,7 @@
 //! Streams: what their heads show, their samples and blocks, and whether the other calls say the same.
 use crate::blocks::print_streaminfo;
 use crate::replay::Case;
+use crate::samples::gather;
 use claxon::input::BufferedReader;
 use claxon::metadata::{StreamInfo, Tags};
 use claxon::{Block, Error, FlacReader, FlacReaderOptions, Result, read_head};
@@ -75,7 +76,7 @@ fn print_fault(error: &Error, answer: &mut Vec<u8>) -> Result<()> {
 fn print_contents(alloc: Global, case: &Case, answer: &mut Vec<u8>) -> Result<()> {
     let most = case.length as usize;
     let mut samples = Vec::new(alloc);
-    let end = end_of(alloc, gather(open(alloc, case), &mut samples))?;
+    let end = end_of(alloc, samples_of(open(alloc, case), &mut samples))?;
     write!(answer, "; {} samples", samples.len())?;
     print_numbers(&samples, most, answer)?;
     let end_of_blocks = end_of(alloc, print_blocks(alloc, open(alloc, case), most, answer))?;
@@ -88,14 +89,8 @@ fn print_contents(alloc: Global, case: &Case, answer: &mut Vec<u8>) -> Result<()
     Ok(())
 }
 
-fn gather(opened: Opened<'_>, samples: &mut Vec<i32>) -> Result<()> {
-    let mut flac = opened?;
-    if !flac.is_metadata_only() {
-        for sample in flac.samples().take(usize::MAX) {
-            samples.push(sample?)?;
-        }
-    }
-    Ok(())
+fn samples_of(opened: Opened<'_>, samples: &mut Vec<i32>) -> Result<()> {
+    gather(&mut opened?, samples)
 }
 
 fn print_numbers(numbers: &[i32], most: usize, answer: &mut Vec<u8>) -> Result<()> {
@@ -147,28 +142,51 @@ fn end_of(alloc: Global, outcome: Result<()>) -> Result<Vec<u8>> {
     Ok(text)
 }
 
+// What another call shows under these options, where it isn't the same.
+fn print_other(
+    one: &[u8],
+    other: &[u8],
+    call: &str,
+    number: u32,
+    answer: &mut Vec<u8>,
+) -> Result<()> {
+    if one != other {
+        write!(answer, "; {call} shows otherwise under {number}: ")?;
+        answer.write_all(other)?;
+    }
+    Ok(())
+}
+
+fn shown(alloc: Global, opened: Opened<'_>) -> Result<Vec<u8>> {
+    let mut text = Vec::new(alloc);
+    print_opened(opened, &mut text)?;
+    Ok(text)
+}
+
 // Under each choice of options a reader shows what the head alone does, and without any what it does by default.
 fn print_other_heads(alloc: Global, bytes: &[u8], answer: &mut Vec<u8>) -> Result<()> {
-    let mut by_default = Vec::new(alloc);
-    print_opened(FlacReader::new(alloc, Cursor::new(bytes)), &mut by_default)?;
     for number in 0..4 {
-        let (mut one, mut other) = (Vec::new(alloc), Vec::new(alloc));
-        let options = options_of(number);
-        print_opened(
-            FlacReader::new_ext(alloc, Cursor::new(bytes), options),
-            &mut one,
-        )?;
-        print_head_read(alloc, bytes, options, &mut other)?;
-        if one.as_slice() != other.as_slice() {
-            write!(answer, "; read_head shows otherwise under {number}: ")?;
-            answer.write_all(&other)?;
-        }
-        if number == 2 && one.as_slice() != by_default.as_slice() {
-            write!(answer, "; new shows otherwise: ")?;
-            answer.write_all(&by_default)?;
+        let (input, options) = (Cursor::new(bytes), options_of(number));
+        let one = shown(alloc, FlacReader::new_ext(alloc, input, options))?;
+        print_head_alone(alloc, bytes, number, &one, answer)?;
+        if number == 2 {
+            let other = shown(alloc, FlacReader::new(alloc, Cursor::new(bytes)))?;
+            print_other(&one, &other, "new", number, answer)?;
         }
     }
     Ok(())
+}
+
+fn print_head_alone(
+    alloc: Global,
+    bytes: &[u8],
+    number: u32,
+    want: &[u8],
+    answer: &mut Vec<u8>,
+) -> Result<()> {
+    let mut text = Vec::new(alloc);
+    print_head_read(alloc, bytes, options_of(number), &mut text)?;
+    print_other(want, &text, "read_head", number, answer)
 }
 
 fn print_head_read(
