@@ -2,6 +2,4 @@
 #![tactic(auto)]
 
 pub mod progress;
-#[cfg(test)]
-mod tests;
 pub mod text;

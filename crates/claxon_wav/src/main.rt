@@ -1,12 +1,8 @@
 //! Converts a FLAC file into a WAV file.
 #![tactic(auto)]
 
-mod command;
-#[cfg(test)]
-mod tests;
-
+use claxon_commands::wav::command;
 use claxon_write::words;
-use command::command;
 use std::io::{IsTerminal, Write};
 use std::process::ExitCode;
 

@@ -2,7 +2,5 @@
 #![tactic(auto)]
 
 mod header;
-#[cfg(test)]
-mod tests;
 
 pub use header::{Layout, MOST_BYTES};

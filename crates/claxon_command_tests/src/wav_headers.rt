@@ -1,5 +1,5 @@
 //! Headers as another decoder writes them.
-use crate::header::Layout;
+use claxon_wav_header::Layout;
 use std::test::Fail;
 
 struct Header {

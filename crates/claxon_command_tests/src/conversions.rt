@@ -1,6 +1,6 @@
 //! Whole files, as another decoder writes them.
-use crate::command::command;
 use claxon::FlacReader;
+use claxon_commands::wav::command;
 use claxon_convert::{Result, WavWriter, convert};
 use claxon_text::progress::Progress;
 use claxon_wav_header::Layout;

@@ -1,5 +1,5 @@
-//! What command lines give.
-use crate::command;
+//! What command lines of `claxon_info` give.
+use claxon_commands::info::command;
 use std::env;
 use std::test::Fail;
 

@@ -1,4 +1,4 @@
-//! What the program does for its arguments.
+//! A FLAC file as a WAV file.
 use claxon::FlacReader;
 use claxon_convert::{Error, Result, WavWriter, convert};
 use claxon_text::progress::Progress;
