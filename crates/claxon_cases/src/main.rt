@@ -22,7 +22,7 @@ fn kind_of(name: &str) -> Option<Kind> {
     match name {
         "subframes.txt" => Some(Kind::Subframe),
         "blocks.txt" => Some(Kind::Block),
-        "frames.txt" => Some(Kind::Frame),
+        "frames.txt" | "written_frames.txt" => Some(Kind::Frame),
         "streams.txt" => Some(Kind::Stream),
         _ => None,
     }
