@@ -1,83 +1,81 @@
 //! Metadata blocks: the bytes that are taken, and what the block holds.
+use crate::answer::Answer;
 use crate::replay::Case;
-use claxon::metadata::{MetadataBlock, StreamInfo, read_metadata_block};
+use claxon::metadata::{MetadataBlock, StreamInfo, VorbisComment, read_metadata_block};
 use claxon::{Error, Result};
 use std::alloc::Global;
-use std::fmt;
-use std::io::{Cursor, Write};
+use std::io::Cursor;
 
-/// Writes `ok BYTES block`, `BYTES text` or `IO`.
-pub fn answer_of_block(alloc: Global, case: &Case, answer: &mut Vec<u8>) -> Result<()> {
+/// Adds `ok BYTES block`, `BYTES text` or `IO`.
+pub fn answer_of_block(alloc: Global, case: &Case, answer: &mut Answer) {
     let Ok(block_type) = u8::try_from(case.number) else {
-        write!(answer, "no case")?;
-        return Ok(());
+        answer.text("no case");
+        return;
     };
     let mut input = Cursor::new(case.bytes.as_slice());
     let outcome = read_metadata_block(alloc, &mut input, block_type, case.length);
-    let taken = input.position();
+    add_outcome(&outcome, input.position(), answer);
+}
+
+fn add_outcome(outcome: &Result<MetadataBlock>, taken: u64, answer: &mut Answer) {
     match outcome {
         Ok(block) => {
-            write!(answer, "ok {taken} ")?;
-            print_block(&block, answer)?;
+            answer.counts(&[("ok ", taken)]);
+            answer.text(" ");
+            add_block(block, answer);
         }
-        Err(Error::IoError(_)) => write!(answer, "IO")?,
-        Err(error) => write!(answer, "{taken} {error}")?,
+        Err(Error::IoError(_)) => answer.text("IO"),
+        Err(error) => {
+            answer.value(&taken);
+            answer.text(" ");
+            answer.fault(error);
+        }
     }
-    Ok(())
 }
 
-fn print_block(block: &MetadataBlock, answer: &mut Vec<u8>) -> Result<()> {
+fn add_block(block: &MetadataBlock, answer: &mut Answer) {
     match block {
-        MetadataBlock::StreamInfo(info) => print_streaminfo(info, answer)?,
-        MetadataBlock::Padding { length } => write!(answer, "padding {length}")?,
+        MetadataBlock::StreamInfo(info) => add_streaminfo(info, answer),
+        MetadataBlock::Padding { length } => answer.counts(&[("padding ", u64::from(*length))]),
         MetadataBlock::Application { id, bytes } => {
-            write!(answer, "application {id}")?;
+            answer.counts(&[("application ", u64::from(*id))]);
             if !bytes.is_empty() {
-                write!(answer, " ")?;
+                answer.text(" ");
             }
-            print_hexadecimal(bytes, answer)?;
+            answer.hexadecimal(bytes);
         }
-        MetadataBlock::VorbisComment(comment) => write!(
-            answer,
-            "comment {:?} {:?}",
-            comment.vendor, comment.comments
-        )?,
-        MetadataBlock::SeekTable(_) => write!(answer, "seek table")?,
-        MetadataBlock::CueSheet => write!(answer, "cue sheet")?,
-        MetadataBlock::Picture => write!(answer, "picture")?,
-        MetadataBlock::Reserved => write!(answer, "reserved")?,
-    }
-    Ok(())
-}
-
-fn print_hexadecimal(bytes: &[u8], answer: &mut Vec<u8>) -> Result<()> {
-    for byte in bytes {
-        write!(answer, "{byte:02x}")?;
-    }
-    Ok(())
-}
-
-/// A number, or `none`.
-#[derive(Drop)]
-struct OrNone<T>(Option<T>);
-
-impl<T: fmt::Display> fmt::Display for OrNone<T> {
-    fn fmt<W: fmt::Write>(&self, f: &mut fmt::Formatter<W>) -> fmt::Result {
-        match &self.0 {
-            Some(number) => write!(f, "{number}"),
-            None => write!(f, "none"),
-        }
+        MetadataBlock::VorbisComment(comment) => add_comment(comment, answer),
+        MetadataBlock::SeekTable(_) => answer.text("seek table"),
+        MetadataBlock::CueSheet => answer.text("cue sheet"),
+        MetadataBlock::Picture => answer.text("picture"),
+        MetadataBlock::Reserved => answer.text("reserved"),
     }
 }
 
-/// What a streaminfo says.
-pub fn print_streaminfo(info: &StreamInfo, answer: &mut Vec<u8>) -> Result<()> {
-    let (least, greatest) = (info.min_block_size, info.max_block_size);
-    write!(answer, "streaminfo blocks {least}-{greatest}")?;
-    let (least, greatest) = (OrNone(info.min_frame_size), OrNone(info.max_frame_size));
-    write!(answer, " frames {least}-{greatest}")?;
-    let (rate, channels, width) = (info.sample_rate, info.channels, info.bits_per_sample);
-    write!(answer, " rate {rate} channels {channels} width {width}")?;
-    write!(answer, " samples {} md5 ", OrNone(info.samples))?;
-    print_hexadecimal(&info.md5sum, answer)
+fn add_comment(comment: &VorbisComment, answer: &mut Answer) {
+    answer.text("comment ");
+    answer.quoted(&comment.vendor);
+    answer.text(" ");
+    answer.quoted(&comment.comments);
+}
+
+/// Adds what a streaminfo says.
+pub fn add_streaminfo(info: &StreamInfo, answer: &mut Answer) {
+    answer.counts(&[
+        ("streaminfo blocks ", u64::from(info.min_block_size)),
+        ("-", u64::from(info.max_block_size)),
+    ]);
+    answer.text(" frames ");
+    answer.value_or_none(&info.min_frame_size);
+    answer.text("-");
+    answer.value_or_none(&info.max_frame_size);
+    answer.counts(&[
+        (" rate ", u64::from(info.sample_rate)),
+        (" channels ", u64::from(info.channels)),
+        (" width ", u64::from(info.bits_per_sample)),
+    ]);
+    answer.text(" samples ");
+    answer.value_or_none(&info.samples);
+    answer.text(" md5 ");
+    answer.hexadecimal(&info.md5sum);
 }

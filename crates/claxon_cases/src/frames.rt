@@ -1,35 +1,29 @@
 //! Frames: the bytes that are taken, and the blocks.
 ghost use Rattle.std.specs.Prelude.{◌≡◌};
 
+use crate::answer::Answer;
 use crate::replay::Case;
-use crate::subframes::print_samples;
+use claxon::Block;
 use claxon::frame::{FrameReader, FrameResult};
 use claxon::metadata::StreamInfo;
-use claxon::{Error, Result};
 use std::alloc::Global;
-use std::io::{Cursor, Write};
+use std::io::Cursor;
 
-/// Writes what each of so many calls answers, with ` | ` between them: `BYTES block TIME CHANNELS DURATION samples..`,
+/// Adds what each of so many calls answers, with ` | ` between them: `BYTES block TIME CHANNELS DURATION samples..`,
 /// `BYTES end`, `BYTES text`, or `IO`, which has taken all bytes.
-pub fn answer_of_frames(
-    alloc: Global,
-    case: &Case,
-    calls: usize,
-    answer: &mut Vec<u8>,
-) -> Result<()> {
+pub fn answer_of_frames(alloc: Global, case: &Case, calls: usize, answer: &mut Answer) {
     let (all, mut taken) = (case.bytes.len() as u64, 0);
     for call in 0..calls {
         if call > 0 {
-            write!(answer, " | ")?;
+            answer.text(" | ");
         }
         let Some((outcome, position)) = next_block(alloc, case, taken) else {
-            write!(answer, "no case")?;
-            return Ok(());
+            answer.text("no case");
+            return;
         };
         taken = position;
-        print_outcome(outcome, taken, all, answer)?;
+        add_outcome(outcome, taken, all, answer);
     }
-    Ok(())
 }
 
 // What a call answers that begins behind so many bytes, and where it ends; none where no stream has such samples or
@@ -49,18 +43,27 @@ fn next_block(alloc: Global, case: &Case, start: u64) -> Option<(FrameResult, u6
     Some((outcome, reader.into_inner().position()))
 }
 
-fn print_outcome(outcome: FrameResult, taken: u64, all: u64, answer: &mut Vec<u8>) -> Result<()> {
+fn add_outcome(outcome: FrameResult, taken: u64, all: u64, answer: &mut Answer) {
     match outcome {
         Ok(Some(block)) => {
-            let (time, channels, duration) = (block.time(), block.channels(), block.duration());
-            write!(answer, "{taken} block {time} {channels} {duration}")?;
-            print_samples(&block.into_buffer(), answer)?;
+            answer.value(&taken);
+            add_block(block, answer);
         }
-        Ok(None) => write!(answer, "{taken} end")?,
-        Err(Error::IoError(_)) if taken == all => write!(answer, "IO")?,
-        Err(error) => write!(answer, "{taken} {error}")?,
+        Ok(None) => {
+            answer.value(&taken);
+            answer.text(" end");
+        }
+        Err(error) => answer.fault_behind(taken, all, &error),
     }
-    Ok(())
+}
+
+fn add_block(block: Block, answer: &mut Answer) {
+    answer.counts(&[
+        (" block ", block.time()),
+        (" ", u64::from(block.channels())),
+        (" ", u64::from(block.duration())),
+    ]);
+    answer.samples(&block.into_buffer());
 }
 
 // A stream of samples of so many bits, in blocks of 16 to so many.

@@ -1,6 +1,7 @@
 //! Decodes files, and replays lines of subframes, metadata blocks, frames and streams, whose answers others gave.
 #![tactic(auto)]
 
+mod answer;
 mod blocks;
 mod frames;
 mod replay;
@@ -21,7 +22,7 @@ fn kind_of(name: &str) -> Option<Kind> {
     match name {
         "subframes.txt" => Some(Kind::Subframe),
         "blocks.txt" => Some(Kind::Block),
-        "frames.txt" => Some(Kind::Frame),
+        "frames.txt" | "written_frames.txt" => Some(Kind::Frame),
         "streams.txt" => Some(Kind::Stream),
         _ => None,
     }

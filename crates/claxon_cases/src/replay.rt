@@ -1,5 +1,6 @@
 //! Lines `number length bytes: answer`, in which the number is a width, a type or a choice of options and the bytes are
 //! hexadecimal.
+use crate::answer::Answer;
 use crate::blocks::answer_of_block;
 use crate::frames::answer_of_frames;
 use crate::streams::answer_of_stream;
@@ -38,61 +39,74 @@ pub fn replay<W: Write>(
     lines: &str,
     output: &mut W,
 ) -> Result<()> {
-    let mut agreeing = 0u32;
-    for line in lines.lines() {
-        let Some((text, want)) = line.split_once(": ") else {
-            writeln!(output, "{name}: no answer: {line}")?;
-            continue;
-        };
-        let answer = answer_of(alloc, kind, text, want)?;
-        if answer.as_slice() == want.as_bytes() {
-            agreeing = agreeing.wrapping_add(1);
-        } else {
-            write!(output, "{name}: {text}: ")?;
-            output.write_all(&answer)?;
-            writeln!(output, ", and not {want}")?;
-        }
-    }
+    let mut report = Answer::new(alloc);
+    let agreeing = compare_lines(alloc, kind, name, lines, &mut report);
+    output.write_all(report.as_bytes())?;
     writeln!(output, "{name} {agreeing} lines agree")?;
     Ok(())
 }
 
-// What the decoder answers, as a line has it.
-fn answer_of(alloc: Global, kind: Kind, text: &str, want: &str) -> Result<Vec<u8>> {
-    let mut answer = Vec::new(alloc);
-    match read_case(alloc, text)? {
-        None => write!(&mut answer, "no case")?,
-        Some(case) => match kind {
-            Kind::Subframe => answer_of_subframe(alloc, &case, &mut answer)?,
-            Kind::Block => answer_of_block(alloc, &case, &mut answer)?,
-            Kind::Frame => {
-                let calls = want.split('|').count();
-                answer_of_frames(alloc, &case, calls, &mut answer)?;
-            }
-            Kind::Stream => answer_of_stream(alloc, &case, &mut answer)?,
-        },
+// Reports each line that is answered otherwise, and returns how many aren't.
+fn compare_lines(alloc: Global, kind: Kind, name: &str, lines: &str, report: &mut Answer) -> u32 {
+    let mut agreeing = 0u32;
+    for line in lines.lines() {
+        if is_answered(alloc, kind, name, line, report) {
+            agreeing = agreeing.wrapping_add(1);
+        }
     }
-    Ok(answer)
+    agreeing
 }
 
-fn read_case(alloc: Global, text: &str) -> Result<Option<Case>> {
-    let mut words = text.split(' ');
-    let (Some(number), Some(length), Some(digits)) = (words.next(), words.next(), words.next())
-    else {
-        return Ok(None);
+fn is_answered(alloc: Global, kind: Kind, name: &str, line: &str, report: &mut Answer) -> bool {
+    let Some((text, want)) = line.split_once(": ") else {
+        report.parts(&[name, ": no answer: ", line, "\n"]);
+        return false;
     };
-    let (Ok(number), Ok(length)) = (number.parse::<u32>(), length.parse::<u32>()) else {
-        return Ok(None);
-    };
-    let mut bytes = Vec::new(alloc);
-    for pair in digits.as_bytes().chunks_exact(2) {
-        bytes.push(value_of(pair[0]) << 4 | value_of(pair[1]))?;
+    let answer = answer_of(alloc, kind, text, want);
+    let agrees = answer.as_bytes() == want.as_bytes();
+    if !agrees {
+        report.parts(&[name, ": ", text, ": "]);
+        report.bytes(answer.as_bytes());
+        report.parts(&[", and not ", want, "\n"]);
     }
-    Ok(Some(Case {
+    agrees
+}
+
+// What the decoder answers, as a line has it.
+fn answer_of(alloc: Global, kind: Kind, text: &str, want: &str) -> Answer {
+    let mut answer = Answer::new(alloc);
+    let Some(case) = read_case(alloc, text) else {
+        answer.text("no case");
+        return answer;
+    };
+    match kind {
+        Kind::Subframe => answer_of_subframe(alloc, &case, &mut answer),
+        Kind::Block => answer_of_block(alloc, &case, &mut answer),
+        Kind::Frame => answer_of_frames(alloc, &case, want.split('|').count(), &mut answer),
+        Kind::Stream => answer_of_stream(alloc, &case, &mut answer),
+    }
+    answer
+}
+
+// None also where memory is refused.
+fn read_case(alloc: Global, text: &str) -> Option<Case> {
+    let mut words = text.split(' ');
+    let number = words.next()?.parse::<u32>().ok()?;
+    let length = words.next()?.parse::<u32>().ok()?;
+    let bytes = read_bytes(alloc, words.next()?)?;
+    Some(Case {
         number,
         length,
         bytes,
-    }))
+    })
+}
+
+fn read_bytes(alloc: Global, digits: &str) -> Option<Vec<u8>> {
+    let mut bytes = Vec::new(alloc);
+    for pair in digits.as_bytes().chunks_exact(2) {
+        bytes.push(value_of(pair[0]) << 4 | value_of(pair[1])).ok()?;
+    }
+    Some(bytes)
 }
 
 // The value of a hexadecimal digit.

@@ -1,5 +1,6 @@
 //! Files by the samples that they give.
-use claxon::{Error, FlacReader, Result};
+use crate::answer::Answer;
+use claxon::{FlacReader, Result};
 use std::alloc::Global;
 use std::io::{Read, Write};
 
@@ -59,11 +60,17 @@ pub fn print_tally<R: Read + Drop, W: Write>(
     let mut samples = Vec::new(alloc);
     let outcome = decode(alloc, input, &mut samples);
     let tally = tally_of(&samples);
+    let mut line = Answer::new(alloc);
+    add_outcome(&outcome, &mut line);
     write!(output, "{name} {} {:016x} ", tally.count, tally.hash)?;
-    match outcome {
-        Ok(()) => writeln!(output, "ok")?,
-        Err(Error::IoError(_)) => writeln!(output, "IO")?,
-        Err(error) => writeln!(output, "{error}")?,
-    }
+    output.write_all(line.as_bytes())?;
     Ok(())
+}
+
+fn add_outcome(outcome: &Result<()>, line: &mut Answer) {
+    match outcome {
+        Ok(()) => line.text("ok"),
+        Err(error) => line.fault(error),
+    }
+    line.text("\n");
 }

@@ -1,31 +1,30 @@
 //! Streams: what their heads show, their samples and blocks, and whether the other calls say the same.
-use crate::blocks::print_streaminfo;
+use crate::answer::Answer;
+use crate::blocks::add_streaminfo;
 use crate::replay::Case;
 use crate::samples::gather;
 use claxon::input::BufferedReader;
 use claxon::metadata::{StreamInfo, Tags};
-use claxon::{Block, Error, FlacReader, FlacReaderOptions, Result, read_head};
+use claxon::{Block, FlacReader, FlacReaderOptions, Result, read_head};
 use claxon_write::{Output, run, write_samples};
 use std::alloc::Global;
-use std::io::{Cursor, Read, Write};
+use std::io::{Cursor, Read};
 
 type Opened<'a> = Result<FlacReader<Cursor<&'a [u8]>>>;
 
-/// Writes what opening the stream shows, and unless it was opened for its metadata alone its samples, its blocks and
-/// how they end; behind that the calls that disagree, if any do.
-pub fn answer_of_stream(alloc: Global, case: &Case, answer: &mut Vec<u8>) -> Result<()> {
+/// Adds what opening the stream shows, and unless it was opened for its metadata alone its samples, its blocks and how
+/// they end; behind that the calls that disagree, if any do.
+pub fn answer_of_stream(alloc: Global, case: &Case, answer: &mut Answer) {
     if case.number > 3 {
-        write!(answer, "no case")?;
-        return Ok(());
+        answer.text("no case");
+        return;
     }
-    print_opened(open(alloc, case), answer)?;
-    if let Ok(flac) = open(alloc, case) {
-        if !flac.is_metadata_only() {
-            print_contents(alloc, case, answer)?;
-        }
+    add_opened(&open(alloc, case), answer);
+    if has_contents(&open(alloc, case)) {
+        add_contents(alloc, case, answer);
     }
-    print_other_heads(alloc, &case.bytes, answer)?;
-    print_other_runs(alloc, &case.bytes, answer)
+    add_other_heads(alloc, &case.bytes, answer);
+    add_other_runs(alloc, &case.bytes, answer);
 }
 
 const fn options_of(number: u32) -> FlacReaderOptions {
@@ -40,80 +39,64 @@ fn open<'a>(alloc: Global, case: &'a Case) -> Opened<'a> {
     FlacReader::new_ext(alloc, input, options_of(case.number))
 }
 
-fn print_opened(opened: Opened<'_>, answer: &mut Vec<u8>) -> Result<()> {
+fn has_contents(opened: &Opened<'_>) -> bool {
     match opened {
-        Ok(flac) => print_head(flac.streaminfo(), flac.vendor(), flac.tags(), answer),
-        Err(error) => print_fault(&error, answer),
+        Ok(flac) => !flac.is_metadata_only(),
+        Err(_) => false,
+    }
+}
+
+fn add_opened(opened: &Opened<'_>, answer: &mut Answer) {
+    match opened {
+        Ok(flac) => add_head(&flac.streaminfo(), flac.vendor(), flac.tags(), answer),
+        Err(error) => answer.fault(error),
     }
 }
 
 // The vendor, or `-` where none is shown, the tags, and the streaminfo.
-fn print_head(
-    info: StreamInfo,
-    vendor: Option<&str>,
-    tags: Tags<'_>,
-    answer: &mut Vec<u8>,
-) -> Result<()> {
+fn add_head(info: &StreamInfo, vendor: Option<&str>, tags: Tags<'_>, answer: &mut Answer) {
     match vendor {
-        Some(vendor) => write!(answer, "<{vendor}> ")?,
-        None => write!(answer, "- ")?,
+        Some(vendor) => answer.parts(&["<", vendor, "> "]),
+        None => answer.text("- "),
     }
     for (name, value) in tags {
-        write!(answer, "{name}={value} ")?;
+        answer.parts(&[name, "=", value, " "]);
     }
-    print_streaminfo(&info, answer)
-}
-
-fn print_fault(error: &Error, answer: &mut Vec<u8>) -> Result<()> {
-    match error {
-        Error::IoError(_) => write!(answer, "IO")?,
-        _ => write!(answer, "{error}")?,
-    }
-    Ok(())
+    add_streaminfo(info, answer);
 }
 
 // How many samples there are, the first of them, the first blocks, and how both end.
-fn print_contents(alloc: Global, case: &Case, answer: &mut Vec<u8>) -> Result<()> {
+fn add_contents(alloc: Global, case: &Case, answer: &mut Answer) {
     let most = case.length as usize;
     let mut samples = Vec::new(alloc);
-    let end = end_of(alloc, samples_of(open(alloc, case), &mut samples))?;
-    write!(answer, "; {} samples", samples.len())?;
-    print_numbers(&samples, most, answer)?;
-    let end_of_blocks = end_of(alloc, print_blocks(alloc, open(alloc, case), most, answer))?;
-    write!(answer, "; ")?;
-    answer.write_all(&end)?;
-    if end_of_blocks.as_slice() != end.as_slice() {
-        write!(answer, "; the blocks end otherwise: ")?;
-        answer.write_all(&end_of_blocks)?;
-    }
-    Ok(())
+    let (mut end, mut end_of_blocks) = (Answer::new(alloc), Answer::new(alloc));
+    end.end(&samples_of(open(alloc, case), &mut samples));
+    answer.counts(&[("; ", samples.len() as u64)]);
+    answer.text(" samples");
+    add_first(&samples, most, answer);
+    end_of_blocks.end(&add_blocks(alloc, open(alloc, case), most, answer));
+    answer.text("; ");
+    answer.bytes(end.as_bytes());
+    add_other(&end, &end_of_blocks, "; the blocks end otherwise: ", answer);
 }
 
 fn samples_of(opened: Opened<'_>, samples: &mut Vec<i32>) -> Result<()> {
     gather(&mut opened?, samples)
 }
 
-fn print_numbers(numbers: &[i32], most: usize, answer: &mut Vec<u8>) -> Result<()> {
-    for number in numbers.iter().take(most) {
-        write!(answer, " {number}")?;
-    }
-    Ok(())
+fn add_first(samples: &[i32], most: usize, answer: &mut Answer) {
+    answer.samples(samples.get(..most).unwrap_or(samples));
 }
 
 // Asks for each block anew.
-fn print_blocks(
-    alloc: Global,
-    opened: Opened<'_>,
-    most: usize,
-    answer: &mut Vec<u8>,
-) -> Result<()> {
+fn add_blocks(alloc: Global, opened: Opened<'_>, most: usize, answer: &mut Answer) -> Result<()> {
     let mut flac = opened?;
     for count in 0..usize::MAX {
         let Some(block) = next_block(alloc, &mut flac)? else {
             break;
         };
         if count < most {
-            print_block(block, most, answer)?;
+            add_block(block, most, answer);
         }
     }
     Ok(())
@@ -127,107 +110,88 @@ fn next_block<R: Read + Drop>(alloc: Global, flac: &mut FlacReader<R>) -> Result
 }
 
 // The time, the channels, the duration, and the first samples, channel after channel.
-fn print_block(block: Block, most: usize, answer: &mut Vec<u8>) -> Result<()> {
-    let (time, channels, duration) = (block.time(), block.channels(), block.duration());
-    write!(answer, "; block {time} {channels}x{duration}")?;
-    print_numbers(&block.into_buffer(), most, answer)
+fn add_block(block: Block, most: usize, answer: &mut Answer) {
+    answer.counts(&[
+        ("; block ", block.time()),
+        (" ", u64::from(block.channels())),
+        ("x", u64::from(block.duration())),
+    ]);
+    add_first(&block.into_buffer(), most, answer);
 }
 
-fn end_of(alloc: Global, outcome: Result<()>) -> Result<Vec<u8>> {
-    let mut text = Vec::new(alloc);
-    match outcome {
-        Ok(()) => write!(&mut text, "end")?,
-        Err(error) => print_fault(&error, &mut text)?,
+// What another call shows, where it isn't the same.
+fn add_other(one: &Answer, other: &Answer, heading: &str, answer: &mut Answer) {
+    if one.as_bytes() != other.as_bytes() {
+        answer.text(heading);
+        answer.bytes(other.as_bytes());
     }
-    Ok(text)
-}
-
-// What another call shows under these options, where it isn't the same.
-fn print_other(
-    one: &[u8],
-    other: &[u8],
-    call: &str,
-    number: u32,
-    answer: &mut Vec<u8>,
-) -> Result<()> {
-    if one != other {
-        write!(answer, "; {call} shows otherwise under {number}: ")?;
-        answer.write_all(other)?;
-    }
-    Ok(())
-}
-
-fn shown(alloc: Global, opened: Opened<'_>) -> Result<Vec<u8>> {
-    let mut text = Vec::new(alloc);
-    print_opened(opened, &mut text)?;
-    Ok(text)
 }
 
 // Under each choice of options a reader shows what the head alone does, and without any what it does by default.
-fn print_other_heads(alloc: Global, bytes: &[u8], answer: &mut Vec<u8>) -> Result<()> {
+fn add_other_heads(alloc: Global, bytes: &[u8], answer: &mut Answer) {
     for number in 0..4 {
-        let (input, options) = (Cursor::new(bytes), options_of(number));
-        let one = shown(alloc, FlacReader::new_ext(alloc, input, options))?;
-        print_head_alone(alloc, bytes, number, &one, answer)?;
-        if number == 2 {
-            let other = shown(alloc, FlacReader::new(alloc, Cursor::new(bytes)))?;
-            print_other(&one, &other, "new", number, answer)?;
-        }
+        let one = shown(alloc, bytes, options_of(number));
+        let alone = shown_alone(alloc, bytes, options_of(number));
+        add_other(&one, &alone, "; read_head shows otherwise: ", answer);
     }
-    Ok(())
+    let one = shown(alloc, bytes, options_of(2));
+    let mut other = Answer::new(alloc);
+    add_opened(&FlacReader::new(alloc, Cursor::new(bytes)), &mut other);
+    add_other(&one, &other, "; new shows otherwise: ", answer);
 }
 
-fn print_head_alone(
-    alloc: Global,
-    bytes: &[u8],
-    number: u32,
-    want: &[u8],
-    answer: &mut Vec<u8>,
-) -> Result<()> {
-    let mut text = Vec::new(alloc);
-    print_head_read(alloc, bytes, options_of(number), &mut text)?;
-    print_other(want, &text, "read_head", number, answer)
+fn shown(alloc: Global, bytes: &[u8], options: FlacReaderOptions) -> Answer {
+    let mut text = Answer::new(alloc);
+    add_opened(
+        &FlacReader::new_ext(alloc, Cursor::new(bytes), options),
+        &mut text,
+    );
+    text
 }
 
-fn print_head_read(
+fn shown_alone(alloc: Global, bytes: &[u8], options: FlacReaderOptions) -> Answer {
+    let mut text = Answer::new(alloc);
+    if let Err(error) = add_head_alone(alloc, bytes, options, &mut text) {
+        text.fault(&error);
+    }
+    text
+}
+
+fn add_head_alone(
     alloc: Global,
     bytes: &[u8],
     options: FlacReaderOptions,
-    answer: &mut Vec<u8>,
+    answer: &mut Answer,
 ) -> Result<()> {
     let mut input = BufferedReader::new(alloc, Cursor::new(bytes))?;
-    match read_head(alloc, &mut input, options) {
-        Ok((info, Some(comment))) => {
+    match read_head(alloc, &mut input, options)? {
+        (info, Some(comment)) => {
             let tags = Tags::new(comment.comments.as_slice());
-            print_head(info, Some(comment.vendor.as_str()), tags, answer)
+            add_head(&info, Some(comment.vendor.as_str()), tags, answer);
         }
-        Ok((info, None)) => print_head(info, None, Tags::new(&[]), answer),
-        Err(error) => print_fault(&error, answer),
+        (info, None) => add_head(&info, None, Tags::new(&[]), answer),
     }
-}
-
-fn count_of(alloc: Global, outcome: Result<u64>) -> Result<Vec<u8>> {
-    let mut text = Vec::new(alloc);
-    match outcome {
-        Ok(count) => write!(&mut text, "{count}")?,
-        Err(error) => print_fault(&error, &mut text)?,
-    }
-    Ok(text)
+    Ok(())
 }
 
 // A run ends with and writes what opening the stream and writing its samples do.
-fn print_other_runs(alloc: Global, bytes: &[u8], answer: &mut Vec<u8>) -> Result<()> {
+fn add_other_runs(alloc: Global, bytes: &[u8], answer: &mut Answer) {
     let (mut one, mut other) = (Vec::new(alloc), Vec::new(alloc));
-    let end = count_of(alloc, run(alloc, Cursor::new(bytes), &mut one))?;
-    let want = count_of(alloc, open_and_write(alloc, bytes, &mut other))?;
-    if end.as_slice() != want.as_slice() {
-        write!(answer, "; run ends otherwise: ")?;
-        answer.write_all(&end)?;
-    }
+    let end = count_of(alloc, &run(alloc, Cursor::new(bytes), &mut one));
+    let want = count_of(alloc, &open_and_write(alloc, bytes, &mut other));
+    add_other(&want, &end, "; run ends otherwise: ", answer);
     if one.as_slice() != other.as_slice() {
-        write!(answer, "; run writes otherwise")?;
+        answer.text("; run writes otherwise");
     }
-    Ok(())
+}
+
+fn count_of(alloc: Global, outcome: &Result<u64>) -> Answer {
+    let mut text = Answer::new(alloc);
+    match outcome {
+        Ok(count) => text.value(count),
+        Err(error) => text.fault(error),
+    }
+    text
 }
 
 fn open_and_write(alloc: Global, bytes: &[u8], output: &mut Vec<u8>) -> Result<u64> {

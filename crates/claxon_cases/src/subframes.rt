@@ -1,40 +1,34 @@
 //! Subframes: the bits that are taken, and the samples.
+use crate::answer::Answer;
 use crate::replay::Case;
 use claxon::input::{Bitstream, ReadBytes};
 use claxon::{Error, Result, subframe};
 use std::alloc::Global;
-use std::io::{Cursor, Write};
+use std::io::Cursor;
 
-/// Writes `ok BITS samples..`, `BITS text`, or `IO`, which has taken all bits.
-pub fn answer_of_subframe(alloc: Global, case: &Case, answer: &mut Vec<u8>) -> Result<()> {
+/// Adds `ok BITS samples..`, `BITS text`, or `IO`, which has taken all bits.
+pub fn answer_of_subframe(alloc: Global, case: &Case, answer: &mut Answer) {
     let (width, length) = (case.number, case.length as usize);
-    if width > 32 || length > 65535 {
-        write!(answer, "no case")?;
-        return Ok(());
-    }
     let mut buffer = Vec::new(alloc);
-    buffer.resize(length, 13)?;
+    if width > 32 || length > 65535 || buffer.resize(length, 13).is_err() {
+        answer.text("no case");
+        return;
+    }
     let mut bits = Bitstream::new(Cursor::new(case.bytes.as_slice()));
     let outcome = subframe::decode(&mut bits, width, buffer.as_mut_slice());
     let all = (case.bytes.len() as u64).saturating_mul(8);
     let taken = all.saturating_sub(bits_left(&mut bits));
-    match outcome {
-        Ok(()) => {
-            write!(answer, "ok {taken}")?;
-            print_samples(&buffer, answer)?;
-        }
-        Err(Error::IoError(_)) if taken == all => write!(answer, "IO")?,
-        Err(error) => write!(answer, "{taken} {error}")?,
-    }
-    Ok(())
+    add_outcome(&outcome, &buffer, taken, all, answer);
 }
 
-/// Writes each of the samples, behind a space.
-pub fn print_samples(samples: &[i32], answer: &mut Vec<u8>) -> Result<()> {
-    for sample in samples {
-        write!(answer, " {sample}")?;
+fn add_outcome(outcome: &Result<()>, samples: &[i32], taken: u64, all: u64, answer: &mut Answer) {
+    match outcome {
+        Ok(()) => {
+            answer.counts(&[("ok ", taken)]);
+            answer.samples(samples);
+        }
+        Err(error) => answer.fault_behind(taken, all, error),
     }
-    Ok(())
 }
 
 // Takes what is left.

@@ -1,0 +1,126 @@
+//! What an answer says, gathered in memory.
+use claxon::Error;
+use std::alloc::Global;
+use std::fmt;
+use std::io::Write;
+
+/// A text that grows. Where memory is refused it is lost, so that those who add to it need not stop.
+#[derive(Drop)]
+pub struct Answer {
+    text: Vec<u8>,
+    is_lost: bool,
+}
+
+impl Answer {
+    pub fn new(alloc: Global) -> Answer {
+        Answer {
+            text: Vec::new(alloc),
+            is_lost: false,
+        }
+    }
+
+    /// What was added, or a text that no answer has.
+    pub fn as_bytes(&self) -> &[u8] {
+        if self.is_lost {
+            b"no memory for the answer"
+        } else {
+            self.text.as_slice()
+        }
+    }
+
+    /// Adds these bytes.
+    pub fn bytes(&mut self, bytes: &[u8]) {
+        if self.text.extend_from_slice(bytes).is_err() {
+            self.is_lost = true;
+        }
+    }
+
+    /// Adds this text.
+    pub fn text(&mut self, text: &str) {
+        self.bytes(text.as_bytes());
+    }
+
+    /// Adds these texts.
+    pub fn parts(&mut self, parts: &[&str]) {
+        for part in parts {
+            self.text(part);
+        }
+    }
+
+    /// Adds a value as its text.
+    pub fn value<T: fmt::Display>(&mut self, value: &T) {
+        if write!(&mut self.text, "{value}").is_err() {
+            self.is_lost = true;
+        }
+    }
+
+    /// Adds a value as its text, or `none`.
+    pub fn value_or_none<T: fmt::Display>(&mut self, value: &Option<T>) {
+        match value {
+            Some(value) => self.value(value),
+            None => self.text("none"),
+        }
+    }
+
+    /// Adds a value as it stands in a program, texts in quotes.
+    pub fn quoted<T: fmt::Debug>(&mut self, value: &T) {
+        if write!(&mut self.text, "{value:?}").is_err() {
+            self.is_lost = true;
+        }
+    }
+
+    /// Adds texts with a number behind each.
+    pub fn counts(&mut self, counts: &[(&str, u64)]) {
+        for (text, count) in counts {
+            self.text(text);
+            self.value(count);
+        }
+    }
+
+    /// Adds each of the samples, behind a space.
+    pub fn samples(&mut self, samples: &[i32]) {
+        for sample in samples {
+            self.text(" ");
+            self.value(sample);
+        }
+    }
+
+    /// Adds bytes as hexadecimal digits.
+    pub fn hexadecimal(&mut self, bytes: &[u8]) {
+        const DIGITS: &[u8; 16] = b"0123456789abcdef";
+        for byte in bytes {
+            self.bytes(&[
+                DIGITS[usize::from(byte >> 4)],
+                DIGITS[usize::from(byte & 0b1111)],
+            ]);
+        }
+    }
+
+    /// Adds the text of a fault, or `IO`.
+    pub fn fault(&mut self, error: &Error) {
+        match error {
+            Error::IoError(_) => self.text("IO"),
+            _ => self.value(error),
+        }
+    }
+
+    /// Adds how much was taken and the text of a fault behind it, or `IO` where that is all.
+    pub fn fault_behind(&mut self, taken: u64, all: u64, error: &Error) {
+        match error {
+            Error::IoError(_) if taken == all => self.text("IO"),
+            _ => {
+                self.value(&taken);
+                self.text(" ");
+                self.value(error);
+            }
+        }
+    }
+
+    /// Adds `end` or the fault.
+    pub fn end(&mut self, outcome: &Result<(), Error>) {
+        match outcome {
+            Ok(()) => self.text("end"),
+            Err(error) => self.fault(error),
+        }
+    }
+}
