@@ -25,7 +25,7 @@ pub fn first_samples<R: Read + Drop, A: Allocator + Copy>(
     first_of(alloc, flac.samples(), count)
 }
 
-// The first that the calls give, one by one.
+// For any source of bytes, since a loop over a reader that is lent is dear to prove.
 fn first_of<R: ReadBytes + Drop, A: Allocator + Copy>(
     alloc: A,
     samples: FlacSamples<R, A>,
