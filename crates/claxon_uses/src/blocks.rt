@@ -1,8 +1,5 @@
 //! The blocks of a file.
-use claxon::frame::FrameReader;
-use claxon::input::ReadBytes;
 use claxon::{FlacReader, Result};
-use std::alloc::Allocator;
 use std::fs::File;
 use std::rt::Files;
 
@@ -10,12 +7,8 @@ use std::rt::Files;
 pub fn peak<Q: Files<File = File> + AllocGlobal>(rt: &Q, name: &str) -> Result<u32> {
     // It shows `flac.streaminfo()`, `flac.tags()` and `flac.get_tag("artist")` too.
     let mut flac = FlacReader::open(rt, name)?;
-    peak_of(rt.alloc(), flac.blocks())
-}
-
-fn peak_of<R: ReadBytes + Drop, A: Allocator>(alloc: A, blocks: FrameReader<R>) -> Result<u32> {
-    let mut blocks = blocks;
-    let mut buffer = Vec::new(alloc);
+    let mut blocks = flac.blocks();
+    let mut buffer = Vec::new(rt.alloc());
     let mut peak = 0;
     // Each loop is proved to end, hence the count, which no file reaches.
     for _ in 0..u64::MAX {
