@@ -1,7 +1,7 @@
 -- The first samples of a stream, and its first fault.
 use Rattle.std.specs.Borrow.{MutBor}
 use Rattle.std.proofs.Common.{◌≡◌, ◌⊎◌, inl, inr, ℕ, suc, zero, ℤ, ◌+◌, ◌<◌, ◌≤◌, true, List, [], ◌∷◌, ◌++◌, arith, length, length-append, take, refl, sym, ap, ◌∙◌}
-use Rattle.std.specs.Prelude.{Option, None, Some, Result, Ok, Err, Vec}
+use Rattle.std.specs.Prelude.{IfErr, IfOk, Option, None, Some, Result, Ok, Err, Vec}
 use Rattle.std.proofs.Math.Seq.{take-append_seam}
 use Rattle.std.proofs.lemmas.Grind.{flat_map-append}
 use Rattle.std.proofs.lemmas.List.{append-nil, take-append-le, take_all}
@@ -15,6 +15,7 @@ use Rattle.claxon.specs.Promises.{Took}
 use Rattle.claxon.specs.Source.{Source}
 use Rattle.claxon.specs.State.{State}
 use Rattle.claxon.specs.Errors.{Error}
+use Rattle.claxon.specs.Errors.TheVariants.{OutOfMemory}
 use Rattle.claxon.specs.BufferedReaders.{BufferedReader}
 use Rattle.claxon.specs.FlacReader.{flac_head}
 use Rattle.claxon.specs.FlacSamples.{SamplesStep, samples_bytes, samples_left, samples_stream}
@@ -23,7 +24,7 @@ use Rattle.claxon.specs.SampleRuns.{GaveAll, GaveSamples, end_found, lent, sampl
 use Rattle.claxon.specs.declared.reader.FlacReader.{FlacReader}
 use Rattle.claxon.specs.declared.samples.FlacSamples.{FlacSamples}
 use Rattle.claxon.proofs.SampleRuns.{behind, fault_complete, frames_either, frames_left, gave_all, short_complete, short_right}
-use Rattle.claxon_uses.specs.FirstSamples.{BeginsWithSamples, FirstFaultIsNamed, FirstFaultIsThere, FirstSamplesAreAnswered, FirstSamplesAreThere, HasFirst, HasFirstFault}
+use Rattle.claxon_uses.specs.FirstSamples.{BeginsWithSamples, FirstFaultIsNamed, FirstFaultIsThere, FirstSamplesAreAnswered, FirstSamplesAreThere, GivesFirst, HasFirst, HasFirstFault, StopsEarly}
 use Rattle.claxon_uses.specs.Fronts.{BeginsWith}
 use Rattle.claxon_uses.proofs.Dropped.{as_dropped, dropped_excused}
 use Rattle.claxon_uses.proofs.Opened.{IsOpened, after_told, behind_any, head_fault_named, no_head, no_head_fault, shown}
@@ -76,6 +77,22 @@ module _ {R A : Type 0} (count : ℕ) (remaining : R → Option (List ℕ)) (rea
     fault = elim fault [ inl m ↦ inl m | inr (inl i) ↦ inr (inl i) | inr (inr k) ↦ inr (inr (λ told. let f = k told in (f.0, f.1, inl f.2))) ];
     named = λ f told bad. elim bad [ inl b ↦ head_fault_named remaining reader e named f told b | inr st ↦ inr (no_head remaining reader e complete st.0 st.3.front st.3.frames st.3.head told st.3.joined) ];
   }
+
+  no_memory : (e : Error) → e ≡ OutOfMemory → StartAnswer {A = A} count remaining reader (Err e)
+  no_memory e m = record {
+    sound = tt;
+    complete = λ xs told b. inr (inl (ap (λ (z : Error). Err z) m));
+    fault = inl m;
+    named = λ f told bad. inr (inl (ap (λ (z : Error). Err z) m));
+  }
+
+-- ---- the calls for samples
+
+-- so many were given, or the next call gave none
+pub given_first : {R A : Type 0} (source : R → Source ℕ) (count : ℕ) (old : FlacSamples R A) (xs : List ℤ) (left : ℕ) (mid new : FlacSamples R A)
+    → GaveSamples source old xs mid → length xs + left ≡ count → (0 < left → SamplesStep source mid None new) → GivesFirst source count old xs
+given_first source count old xs zero mid new h e step = inl (mid, h, omega (arith, e))
+given_first source count old xs (suc left) mid new h e step = inr (new, gave_all source h None new (step (omega arith)), omega (arith, e))
 
 -- ---- a head was read, and samples behind it
 
@@ -135,14 +152,12 @@ module _ {R A : Type 0} (count : ℕ) (remaining : R → Option (List ℕ)) (rea
         enough = inr (h.ends.last.promises.at_end refl w.told).0;
       }
 
-  -- so many were given, or the next call gave none
-  given : (xs : List ℤ) (left : ℕ) (mid new : FlacSamples (MutBor (BufferedReader R A)) A) → GaveSamples source old xs mid → length xs + left ≡ count → (0 < left → SamplesStep source mid None new) → s.told ≡ true → HasFirst count stream coming xs
-  given xs zero mid new h e step told = gave_first xs mid h (omega (arith, e)) told
-  given xs (suc left) mid new h e step told = gave_whole xs new (gave_all source h None new (step (omega arith))) (omega (arith, e)) told
+  given : (xs : List ℤ) → GivesFirst source count old xs → s.told ≡ true → HasFirst count stream coming xs
+  given xs (inl h) told = gave_first xs h.0 h.1 h.2 told
+  given xs (inr h) told = gave_whole xs h.0 h.1 h.2 told
 
-  pub answered : (first : Vec ℤ A) (left : ℕ) (mid new : FlacSamples (MutBor (BufferedReader R A)) A) → GaveSamples source old first.items mid → length first.items + left ≡ count → (0 < left → SamplesStep source mid None new)
-      → StartAnswer count remaining reader (Ok first)
-  answered first left mid new h e step = record {
+  answered : (first : Vec ℤ A) → GivesFirst source count old first.items → StartAnswer count remaining reader (Ok first)
+  answered first h = record {
     sound = λ told. record {
       head = flac_head flac;
       front = (o.head told).1.0;
@@ -157,11 +172,11 @@ module _ {R A : Type 0} (count : ℕ) (remaining : R → Option (List ℕ)) (rea
   }
     where
       has : s.told ≡ true → HasFirst count stream coming first.items
-      has told = given first.items left mid new h e step told
+      has told = given first.items h told
 
   -- ---- an error was given behind too few samples
 
-  pub failed : (e : Error) (xs : List ℤ) (new : FlacSamples (MutBor (BufferedReader R A)) A) → GaveAll source old xs (Some e) new → length xs < count → StartAnswer {A = A} count remaining reader (Err e)
+  failed : (e : Error) (xs : List ℤ) (new : FlacSamples (MutBor (BufferedReader R A)) A) → GaveAll source old xs (Some e) new → length xs < count → StartAnswer {A = A} count remaining reader (Err e)
   failed e xs new h less = record {
     sound = tt;
     complete = λ ys told b. inr (elim h.ends.last.promises.fault [
@@ -220,3 +235,10 @@ module _ {R A : Type 0} (count : ℕ) (remaining : R → Option (List ℕ)) (rea
             fewer,
             p.2,
           )
+
+  -- ---- either
+
+  pub first_answer : (r : Result (Vec ℤ A) Error) → IfOk r (λ first. GivesFirst source count old first.items) → IfErr r (StopsEarly source count old) → StartAnswer count remaining reader r
+  first_answer (Ok first) ok err = answered first ok
+  first_answer (Err e) ok (inl k) = failed e k.0 k.1 k.2 k.3
+  first_answer (Err e) ok (inr m) = no_memory count remaining reader e m

@@ -1,14 +1,16 @@
 -- The first samples of a stream that a reader gives.
-use Rattle.std.specs.Prelude.{◌≡◌, ◌⊎◌, ◌<◌, ◌≤◌, ℕ, ℤ, true, List, ◌++◌, length, take, Option, Some, IfOk, IfErr, IsOkAnd, IsErrAnd, Result, Vec}
+use Rattle.std.specs.Prelude.{◌≡◌, ◌⊎◌, ◌<◌, ◌≤◌, ℕ, ℤ, true, List, ◌++◌, length, take, Option, None, Some, IfOk, IfErr, IsOkAnd, IsErrAnd, Result, Vec}
 use Rattle.claxon.specs.Error.{IsFault, IsIo}
 use Rattle.claxon.specs.Fault.{Fault}
 use Rattle.claxon.specs.Frame.{Block, FrameBytesFault, Frames, StreamShape}
 use Rattle.claxon.specs.Heads.{Head, HeadCode, HeadFault}
 use Rattle.claxon.specs.Opening.{IsDropped, unread}
-use Rattle.claxon.specs.SampleRuns.{samples_of}
+use Rattle.claxon.specs.SampleRuns.{GaveAll, GaveSamples, samples_of}
+use Rattle.claxon.specs.Source.{Source}
 use Rattle.claxon.specs.Streams.{IsStream, stream_of, with_samples}
 use Rattle.claxon.specs.Errors.{Error}
 use Rattle.claxon.specs.Errors.TheVariants.{OutOfMemory}
+use Rattle.claxon.specs.declared.samples.FlacSamples.{FlacSamples}
 use Rattle.claxon_uses.specs.Fronts.{BeginsWith}
 
 -- s begins with the frames of blocks, and these are their first samples, so many; or all, and then fewer than two bytes follow.
@@ -52,3 +54,16 @@ module _ {R A : Type 0} (count : ℕ) (remaining : R → Option (List ℕ)) (rea
   -- Where there is such a fault it is named, or memory or the source failed.
   abbrev pub FirstFaultIsNamed : Type 0
   FirstFaultIsNamed = (f : Fault) → (unread (remaining reader)).told ≡ true → HasFirstFault count (unread (remaining reader)).coming f → IsErrAnd result (IsFault f) ⊎ IsDropped result
+
+-- ---- what calls give, one after another
+
+module _ {R A : Type 0} (source : R → Source ℕ) (count : ℕ) (samples : FlacSamples R A) where
+  -- So many calls gave these samples; or they are all, and behind them stood no frame.
+  abbrev pub GivesFirst : List ℤ → Type 0
+  GivesFirst xs =
+      ((new : FlacSamples R A) × GaveSamples source samples xs new × (length xs ≡ count))
+      ⊎ ((new : FlacSamples R A) × GaveAll source samples xs None new × (length xs ≤ count))
+
+  -- After fewer samples this error was given, or there was no memory for one.
+  abbrev pub StopsEarly : Error → Type 0
+  StopsEarly error = ((xs : List ℤ) × (new : FlacSamples R A) × GaveAll source samples xs (Some error) new × (length xs < count)) ⊎ (error ≡ OutOfMemory)

@@ -1,7 +1,10 @@
 //! The samples of a stream, one by one.
-ghost use Rattle.claxon_uses.specs.FirstSamples.{FirstFaultIsNamed, FirstFaultIsThere, FirstSamplesAreAnswered, FirstSamplesAreThere};
+ghost use Rattle.std.specs.Prelude.{◌≡◌, false, IfErr, IfOk};
+ghost use Rattle.claxon.specs.FlacSamples.{have_failed};
+ghost use Rattle.claxon_uses.specs.FirstSamples.{FirstFaultIsNamed, FirstFaultIsThere, FirstSamplesAreAnswered, FirstSamplesAreThere, GivesFirst, StopsEarly};
 
-use claxon::{FlacReader, Result};
+use claxon::input::ReadBytes;
+use claxon::{FlacReader, FlacSamples, Result};
 use std::alloc::Allocator;
 use std::io::Read;
 
@@ -19,8 +22,21 @@ pub fn first_samples<R: Read + Drop, A: Allocator + Copy>(
     ensures named { FirstFaultIsNamed count R.remaining reader result }
 {
     let mut flac = FlacReader::new(alloc, reader)?;
+    first_of(alloc, flac.samples(), count)
+}
+
+// For any source of bytes, since a loop over a reader that is lent is dear to prove.
+fn first_of<R: ReadBytes + Drop, A: Allocator + Copy>(
+    alloc: A,
+    samples: FlacSamples<R, A>,
+    count: usize,
+) -> Result<Vec<i32, A>>
+    requires { have_failed samples ≡ false }
+    ensures ok { IfOk result (λ first. GivesFirst R.source count samples first.items) }
+    ensures err { IfErr result (StopsEarly R.source count samples) }
+{
     let mut first = Vec::new(alloc);
-    for sample in flac.samples().take(count) {
+    for sample in samples.take(count) {
         first.push(sample?)?;
     }
     Ok(first)

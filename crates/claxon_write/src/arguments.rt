@@ -4,8 +4,9 @@ ghost use Rattle.claxon_input.specs.declared.error.Error.TheVariants.{OutOfMemor
 
 use crate::output::Output;
 use crate::stream::run;
+use claxon::metadata::Tags;
 use claxon::{Error, FlacReader, FlacReaderOptions, Result};
-use std::alloc::Alloc;
+use std::alloc::{Alloc, Allocator};
 use std::io::{ErrorKind, Read, Write};
 use std::rt::{Env, Files};
 use std::{env, fs};
@@ -62,7 +63,6 @@ where
     Ok(())
 }
 
-// A line `NAME=value` for each tag.
 fn print_tags<Q: Files + AllocGlobal, W: Write>(rt: &Q, name: &str, output: &mut W) -> Result<()>
 where
     Q::File: Read,
@@ -72,12 +72,21 @@ where
         read_vorbis_comment: true,
     };
     let flac = FlacReader::new_ext(rt.alloc(), fs::open(rt, name)?, options)?;
+    put_tags(flac.tags(), output)
+}
+
+// A line `NAME=value` for each tag.
+fn put_tags<A: Allocator, W: Write>(tags: Tags<'_, A>, output: &mut W) -> Result<()> {
     let mut output = Output::new(output);
-    for (name, value) in flac.tags() {
-        output.put(name.as_bytes())?;
-        output.put(b"=")?;
-        output.put(value.as_bytes())?;
-        output.put(b"\n")?;
+    for (name, value) in tags {
+        put_tag(&mut output, name, value)?;
     }
     output.flush()
+}
+
+fn put_tag<W: Write>(output: &mut Output<'_, W>, name: &str, value: &str) -> Result<()> {
+    output.put(name.as_bytes())?;
+    output.put(b"=")?;
+    output.put(value.as_bytes())?;
+    output.put(b"\n")
 }
