@@ -1,12 +1,12 @@
 //! What calls answered, in forms that can be compared, and bytes that serve in many places.
 use claxon::frame::{FrameReader, FrameResult};
 use claxon::input::ReadBytes;
-use claxon::{Block, Error, FlacReader};
+use claxon::{Block, Error, FlacReader, FlacSamples};
 use std::alloc::{AllocError, AllocFailed, Allocator, Global};
 use std::io::Read;
 
 /// A fault, whatever the cause of an `IoError` is.
-#[derive(PartialEq, Debug, Clone, Copy)]
+#[derive(PartialEq, Clone, Copy)]
 pub enum Fault {
     Io,
     Format(&'static str),
@@ -32,7 +32,7 @@ pub fn end_of(outcome: claxon::Result<u64>) -> Result<u64, Fault> {
 }
 
 /// What a block shows: of its buffer the first four samples, with zeros where there are fewer.
-#[derive(PartialEq, Debug, Clone, Copy)]
+#[derive(PartialEq, Clone, Copy)]
 pub struct Shown {
     pub time: u64,
     pub channels: u32,
@@ -41,7 +41,7 @@ pub struct Shown {
 }
 
 /// What one call for a block answered.
-#[derive(PartialEq, Debug, Clone, Copy)]
+#[derive(PartialEq, Clone, Copy)]
 pub enum Step {
     Block(Shown),
     End,
@@ -118,11 +118,22 @@ pub fn answers_each<R: ReadBytes>(
 }
 
 /// What a stream gave by its samples: the first four of them, their number, and what ended them.
-#[derive(PartialEq, Debug, Clone, Copy)]
+#[derive(PartialEq, Clone, Copy)]
 pub struct Run {
     pub samples: [i32; 4],
     pub count: usize,
     pub fault: Option<Fault>,
+}
+
+// What the next call for a sample answers: in one place, since each function that holds the call is dear to prove.
+fn next_of<R: ReadBytes + Drop, A: Allocator + Copy>(
+    samples: &mut FlacSamples<R, A>,
+) -> Result<Option<i32>, Fault> {
+    match samples.next() {
+        Some(Ok(sample)) => Ok(Some(sample)),
+        Some(Err(error)) => Err(fault_of(&error)),
+        None => Ok(None),
+    }
 }
 
 /// What the samples of an open stream give, from here on.
@@ -135,15 +146,17 @@ pub fn rest_of<R: Read + Drop, A: Allocator + Copy>(flac: &mut FlacReader<R, A>)
     if flac.is_metadata_only() {
         return run;
     }
-    for answer in flac.samples().take(100) {
-        match answer {
-            Ok(sample) => {
+    let mut samples = flac.samples();
+    for _ in 0..100 {
+        match next_of(&mut samples) {
+            Ok(Some(sample)) => {
                 if run.count < 4 {
                     run.samples[run.count] = sample;
                 }
                 run.count = run.count.saturating_add(1);
             }
-            Err(error) => run.fault = Some(fault_of(&error)),
+            Ok(None) => break,
+            Err(fault) => run.fault = Some(fault),
         }
     }
     run
@@ -154,11 +167,7 @@ pub fn one_sample<R: Read + Drop>(flac: &mut FlacReader<R>) -> Result<Option<i32
     if flac.is_metadata_only() {
         return Ok(None);
     }
-    match flac.samples().next() {
-        Some(Ok(sample)) => Ok(Some(sample)),
-        Some(Err(error)) => Err(fault_of(&error)),
-        None => Ok(None),
-    }
+    next_of(&mut flac.samples())
 }
 
 /// Whether the calls for a sample answer these, each call by an iterator of its own.
@@ -176,8 +185,10 @@ pub fn after_error<R: Read + Drop>(flac: &mut FlacReader<R>) -> (bool, bool, boo
         return (false, false, false);
     }
     let mut samples = flac.samples();
-    let fails = matches!(samples.next(), Some(Err(_)));
-    (fails, samples.next().is_none(), samples.next().is_none())
+    let first = next_of(&mut samples);
+    let second = next_of(&mut samples);
+    let third = next_of(&mut samples);
+    (first.is_err(), second == Ok(None), third == Ok(None))
 }
 
 /// What a stream gives, or the fault that keeps it from being opened.
