@@ -1,9 +1,10 @@
 //! Prints what each call of the decoder answers for a file, going on after faults.
 #![tactic(auto)]
 
+mod line;
 mod trace;
 
-use claxon::Result;
+use claxon::{Error, Result};
 use claxon_write::words;
 use std::fs;
 use std::io::{BufWriter, Read, Write};
@@ -52,31 +53,37 @@ fn command<Q: Files + AllocGlobal, W: Write + Drop, E: Write>(
 where
     Q::File: Read,
 {
-    let Some((most, name)) = request(words) else {
-        let _ = writeln!(errors, "usage: claxon_trace [--faults N] FILE");
-        return 2;
-    };
-    match trace_file(rt, most, name, output) {
+    match request(words) {
+        Some((most, name)) => status(trace_file(rt, most, name, output), most, errors),
+        None => {
+            let _ = writeln!(errors, "usage: claxon_trace [--faults N] FILE");
+            2
+        }
+    }
+}
+
+fn status<E: Write>(outcome: Result<Ending>, most: u64, errors: &mut E) -> u8 {
+    match outcome {
         Ok(Ending::Clean) => 0,
         Ok(Ending::Faulty) => 1,
         Ok(Ending::Stopped) => {
             let _ = writeln!(errors, "claxon_trace: stopped after {most} faults");
             1
         }
-        Err(error) => {
-            let _ = writeln!(errors, "{error}");
-            1
-        }
+        Err(error) => tell(&error, errors),
     }
+}
+
+// Says why nothing was told, as the status does.
+fn tell<E: Write>(error: &Error, errors: &mut E) -> u8 {
+    let _ = writeln!(errors, "{error}");
+    1
 }
 
 fn main(rt: HostRuntime) -> ExitCode {
     let mut errors = rt.stderr();
-    match words(&rt) {
-        Ok(words) => ExitCode::from(command(&rt, &words, rt.stdout(), &mut errors)),
-        Err(error) => {
-            let _ = writeln!(&mut errors, "{error}");
-            ExitCode::from(1)
-        }
-    }
+    ExitCode::from(match words(&rt) {
+        Ok(words) => command(&rt, &words, rt.stdout(), &mut errors),
+        Err(error) => tell(&error, &mut errors),
+    })
 }

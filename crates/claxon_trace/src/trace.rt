@@ -1,10 +1,12 @@
 //! One line for each answer.
+ghost use Rattle.std.specs.Prelude.{◌≤◌};
+
+use crate::line::Line;
 use claxon::frame::FrameReader;
 use claxon::input::ReadBytes;
 use claxon::metadata::StreamInfo;
 use claxon::{Block, Error, FlacReader, Result};
 use std::alloc::{Allocator, Global};
-use std::fmt;
 use std::io::{Read, Write};
 
 /// How a trace ended.
@@ -26,39 +28,58 @@ pub fn trace<R: Read + Drop, W: Write>(
     most: u64,
     output: &mut W,
 ) -> Result<Ending> {
-    let mut flac = match FlacReader::new(alloc, input) {
-        Ok(flac) => flac,
+    match FlacReader::new(alloc, input) {
+        Ok(flac) => trace_stream(alloc, flac, most, output),
         Err(error) => {
-            print_fault(output, &error)?;
-            return Ok(Ending::Faulty);
+            fault_line(alloc, &error).write_to(output)?;
+            Ok(Ending::Faulty)
         }
-    };
+    }
+}
+
+fn trace_stream<R: Read + Drop, W: Write>(
+    alloc: Global,
+    flac: FlacReader<R>,
+    most: u64,
+    output: &mut W,
+) -> Result<Ending> {
+    let mut flac = flac;
     let info = flac.streaminfo();
-    print_head(output, &info)?;
-    let mut frames = FrameReader::with_streaminfo(flac.input(), info);
-    trace_frames(alloc, &mut frames, most, output)
+    head_line(alloc, &info).write_to(output)?;
+    trace_frames(alloc, flac.input(), info, most, output)
+}
+
+// What a call that reads a block answered.
+#[derive(Clone, Copy)]
+enum Step {
+    Block,
+    End,
+    Fault,
+    // A fault that no call comes behind.
+    LastFault,
 }
 
 fn trace_frames<R: ReadBytes, W: Write>(
     alloc: Global,
-    frames: &mut FrameReader<R>,
+    input: &mut R,
+    info: StreamInfo,
     most: u64,
     output: &mut W,
-) -> Result<Ending> {
+) -> Result<Ending>
+    requires some { 1 ≤ info.bits_per_sample }
+    requires widest { info.bits_per_sample ≤ 32 }
+{
+    let mut frames = FrameReader::with_streaminfo(input, info);
     let mut faults = 0u64;
     for _ in 0..u64::MAX {
-        match frames.read_next_or_eof(Vec::new(alloc)) {
-            Ok(Some(block)) => print_block(output, &block)?,
-            Ok(None) => {
-                writeln!(output, "end")?;
-                break;
-            }
-            Err(error) => {
+        let (step, line) = next_step(alloc, &mut frames);
+        line.write_to(output)?;
+        match step {
+            Step::Block => {}
+            Step::End => break,
+            Step::LastFault => return Ok(Ending::Faulty),
+            Step::Fault => {
                 faults = faults.saturating_add(1);
-                print_fault(output, &error)?;
-                if let Error::IoError(_) = error {
-                    break;
-                }
                 if faults == most {
                     return Ok(Ending::Stopped);
                 }
@@ -72,64 +93,64 @@ fn trace_frames<R: ReadBytes, W: Write>(
     })
 }
 
-fn print_fault<W: Write>(output: &mut W, error: &Error) -> Result<()> {
-    match error {
-        Error::IoError(_) => writeln!(output, "fault IO")?,
-        _ => writeln!(output, "fault {error}")?,
-    }
-    Ok(())
-}
-
-/// A number, or `none`.
-#[derive(Drop)]
-struct OrNone<T>(Option<T>);
-
-impl<T: fmt::Display> fmt::Display for OrNone<T> {
-    fn fmt<W: fmt::Write>(&self, f: &mut fmt::Formatter<W>) -> fmt::Result {
-        match &self.0 {
-            Some(number) => write!(f, "{number}"),
-            None => write!(f, "none"),
+// What the next call answers, and its line.
+fn next_step<R: ReadBytes>(alloc: Global, frames: &mut FrameReader<R>) -> (Step, Line) {
+    match frames.read_next_or_eof(Vec::new(alloc)) {
+        Ok(Some(block)) => (Step::Block, block_line(alloc, &block)),
+        Ok(None) => (Step::End, end_line(alloc)),
+        Err(error) => {
+            let step = match error {
+                Error::IoError(_) => Step::LastFault,
+                _ => Step::Fault,
+            };
+            (step, fault_line(alloc, &error))
         }
     }
 }
 
-fn print_head<W: Write>(output: &mut W, info: &StreamInfo) -> Result<()> {
-    write!(
-        output,
-        "head blocks {}-{}",
-        info.min_block_size, info.max_block_size
-    )?;
-    let least = OrNone(info.min_frame_size);
-    let greatest = OrNone(info.max_frame_size);
-    write!(
-        output,
-        " frames {least}-{greatest} rate {}",
-        info.sample_rate
-    )?;
-    write!(
-        output,
-        " channels {} width {}",
-        info.channels, info.bits_per_sample
-    )?;
-    write!(output, " samples {} md5 ", OrNone(info.samples))?;
-    for byte in &info.md5sum {
-        write!(output, "{byte:02x}")?;
-    }
-    writeln!(output)?;
-    Ok(())
+fn end_line(alloc: Global) -> Line {
+    let mut line = Line::new(alloc);
+    line.text("end\n");
+    line
 }
 
-fn print_block<W: Write, A: Allocator>(output: &mut W, block: &Block<A>) -> Result<()> {
+fn fault_line(alloc: Global, error: &Error) -> Line {
+    let mut line = Line::new(alloc);
+    line.text("fault ");
+    line.fault(error);
+    line.text("\n");
+    line
+}
+
+fn head_line(alloc: Global, info: &StreamInfo) -> Line {
+    let mut line = Line::new(alloc);
+    line.number("head blocks ", u64::from(info.min_block_size));
+    line.number("-", u64::from(info.max_block_size));
+    line.number_or_none(" frames ", info.min_frame_size.map(u64::from));
+    line.number_or_none("-", info.max_frame_size.map(u64::from));
+    line.number(" rate ", u64::from(info.sample_rate));
+    line.number(" channels ", u64::from(info.channels));
+    line.number(" width ", u64::from(info.bits_per_sample));
+    line.number_or_none(" samples ", info.samples);
+    line.text(" md5 ");
+    line.hexadecimal(&info.md5sum);
+    line.text("\n");
+    line
+}
+
+fn block_line<A: Allocator>(alloc: Global, block: &Block<A>) -> Line {
     let mut hash = 0xcbf2_9ce4_8422_2325u64;
     for ch in 0..block.channels() {
         hash = hash_on(hash, block.channel(ch));
     }
-    let (time, channels, duration) = (block.time(), block.channels(), block.duration());
-    writeln!(
-        output,
-        "block time {time} channels {channels} duration {duration} fnv {hash:016x}"
-    )?;
-    Ok(())
+    let mut line = Line::new(alloc);
+    line.number("block time ", block.time());
+    line.number(" channels ", u64::from(block.channels()));
+    line.number(" duration ", u64::from(block.duration()));
+    line.text(" fnv ");
+    line.hexadecimal(&hash.to_be_bytes());
+    line.text("\n");
+    line
 }
 
 // The FNV-1a hash, after the little-endian bytes of more samples.
