@@ -74,7 +74,7 @@ fn status<E: Write>(outcome: Result<Ending>, most: u64, errors: &mut E) -> u8 {
     }
 }
 
-// Says why nothing was told, as the status does.
+// Says the fault, and answers the status for it.
 fn tell<E: Write>(error: &Error, errors: &mut E) -> u8 {
     let _ = writeln!(errors, "{error}");
     1
