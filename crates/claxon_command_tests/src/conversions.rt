@@ -44,22 +44,31 @@ fn is_converted(
     Ok(outcome.is_ok())
 }
 
+// Whether a stream is converted whole, or not, into these bytes, while this is shown.
+fn gives(
+    alloc: Global,
+    stream: &[u8],
+    is_whole: bool,
+    want: &[u8],
+    shown: &[u8],
+) -> Result<bool> {
+    let (mut bytes, mut errors) = (Vec::new(alloc), Vec::new(alloc));
+    let outcome = is_converted(alloc, stream, &mut bytes, &mut errors)?;
+    Ok(outcome == is_whole && bytes.as_slice() == want && errors.as_slice() == shown)
+}
+
 // The whole stream, one whose last byte is turned, and one that is cut within the second block.
 #[test]
 fn in_memory(rt: HostRuntime) -> result::Result<(), Fail> {
     let mut stream = STREAM;
-    for (len, last, is_whole) in [(67, 0xe5, true), (67, 0xe4, false), (60, 0xe5, false)] {
+    let rows: [(usize, u8, bool, &[u8], &[u8]); 3] = [
+        (67, 0xe5, true, WHOLE, b"\r60 %\r100 %\n"),
+        (67, 0xe4, false, FIRST_BLOCK, b"\r60 %\n"),
+        (60, 0xe5, false, FIRST_BLOCK, b"\r60 %\n"),
+    ];
+    for (len, last, is_whole, want, shown) in rows {
         stream[66] = last;
-        let (mut bytes, mut errors) = (Vec::new(rt.alloc()), Vec::new(rt.alloc()));
-        let outcome = is_converted(rt.alloc(), &stream[..len], &mut bytes, &mut errors)?;
-        assert_eq!(rt; outcome, is_whole, "{len} {last}");
-        let (want, shown): (&[u8], &[u8]) = if is_whole {
-            (WHOLE, b"\r60 %\r100 %\n")
-        } else {
-            (FIRST_BLOCK, b"\r60 %\n")
-        };
-        assert_eq!(rt; bytes.as_slice(), want, "{len} {last}");
-        assert_eq!(rt; errors.as_slice(), shown, "{len} {last}");
+        assert!(rt; gives(rt.alloc(), &stream[..len], is_whole, want, shown)?, "{len} {last}");
     }
     Ok(())
 }
@@ -97,7 +106,18 @@ fn status_of(rt: &HostRuntime, from: &str, to: &str) -> result::Result<u8, Fail>
     Ok(command(rt, &words, false, &mut errors))
 }
 
-// The status, and what stands in the output afterwards. The long stream has 2^36 - 1 samples by its streaminfo.
+// Whether that status is this one, and these bytes are what stands in the output afterwards.
+fn leaves(
+    rt: &HostRuntime,
+    from: &str,
+    to: &str,
+    status: u8,
+    want: &[u8],
+) -> result::Result<bool, Fail> {
+    Ok(status_of(rt, from, to)? == status && holds(rt, "out.wav", want)?)
+}
+
+// The long stream has 2^36 - 1 samples by its streaminfo.
 #[test]
 fn with_files(rt: HostRuntime) -> result::Result<(), Fail> {
     let mut long_stream = STREAM;
@@ -112,24 +132,24 @@ fn with_files(rt: HostRuntime) -> result::Result<(), Fail> {
         ("in.flac", "out.wav", 0, WHOLE),
         ("in.flac", "none/out.wav", 1, WHOLE),
     ];
-    for (from, to, want_status, want) in rows {
-        let status = status_of(&rt, from, to)?;
-        assert_eq!(rt; status, want_status, "{from} {to}");
-        let is_left = holds(&rt, "out.wav", want)?;
-        assert!(rt; is_left, "{from} {to}");
+    for (from, to, status, want) in rows {
+        assert!(rt; leaves(&rt, from, to, status, want)?, "{from} {to}");
     }
-    let is_left = holds(&rt, "in.flac", &STREAM)?;
-    assert!(rt; is_left);
+    assert!(rt; holds(&rt, "in.flac", &STREAM)?);
     for name in ["in.flac", "long.flac", "out.wav"] {
         remove(&rt, name)?;
     }
     Ok(())
 }
 
+// What is said, and the status, where there are no words.
+fn refuses_no_words(rt: &HostRuntime) -> bool {
+    let mut errors = Vec::new(rt.alloc());
+    let status = command(rt, &[], false, &mut errors);
+    status == 2 && errors.as_slice() == b"usage: claxon_wav FILE OUT.wav\n".as_slice()
+}
+
 #[test]
 fn without_arguments(rt: HostRuntime) {
-    let mut errors = Vec::new(rt.alloc());
-    assert_eq!(rt; command(&rt, &[], false, &mut errors), 2);
-    let usage = b"usage: claxon_wav FILE OUT.wav\n";
-    assert_eq!(rt; errors.as_slice(), usage.as_slice());
+    assert!(rt; refuses_no_words(&rt));
 }

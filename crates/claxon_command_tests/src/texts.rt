@@ -1,6 +1,11 @@
 //! Values as text.
 use claxon_text::text::{escaped_text, length_text, md5_text, number_text};
+use std::alloc::AllocError;
 use std::test::Fail;
+
+fn is_text(text: Result<String, AllocError>, want: &str) -> Result<bool, AllocError> {
+    Ok(text?.as_str() == want)
+}
 
 #[rattlefmt::skip]
 const LENGTHS: [(u64, u32, &str); 13] = [
@@ -22,25 +27,18 @@ const LENGTHS: [(u64, u32, &str); 13] = [
 #[test]
 fn lengths(rt: HostRuntime) -> Result<(), Fail> {
     for (samples, rate, want) in LENGTHS {
-        assert_eq!(rt;
-            length_text(rt.alloc(), Some(samples), rate)?.as_str(),
-            want
-        );
+        let text = length_text(rt.alloc(), Some(samples), rate);
+        assert!(rt; is_text(text, want)?, "{want}");
     }
     Ok(())
 }
 
 #[test]
 fn values_that_are_not_known(rt: HostRuntime) -> Result<(), Fail> {
-    let texts = [
-        length_text(rt.alloc(), None, 44100)?,
-        length_text(rt.alloc(), Some(44100), 0)?,
-        md5_text(rt.alloc(), &[0; 16])?,
-        number_text(rt.alloc(), None)?,
-    ];
-    for text in &texts {
-        assert_eq!(rt; text.as_str(), "unknown");
-    }
+    assert!(rt; is_text(length_text(rt.alloc(), None, 44100), "unknown")?);
+    assert!(rt; is_text(length_text(rt.alloc(), Some(44100), 0), "unknown")?);
+    assert!(rt; is_text(md5_text(rt.alloc(), &[0; 16]), "unknown")?);
+    assert!(rt; is_text(number_text(rt.alloc(), None), "unknown")?);
     Ok(())
 }
 
@@ -50,13 +48,11 @@ fn sums(rt: HostRuntime) -> Result<(), Fail> {
         0x00, 0x01, 0x09, 0x0a, 0x0f, 0x10, 0x19, 0x9a, 0xa0, 0xaf, 0xb7, 0xcd, 0xee, 0xf0, 0xfe,
         0xff,
     ];
-    let text = md5_text(rt.alloc(), &sum)?;
-    assert_eq!(rt; text.as_str(), "0001090a0f10199aa0afb7cdeef0feff");
-    let last = md5_text(
-        rt.alloc(),
-        &[0, 0, 0, 0, 0, 0, 0, 0, 0, 0, 0, 0, 0, 0, 0, 1],
-    )?;
-    assert_eq!(rt; last.as_str(), "00000000000000000000000000000001");
+    let want = "0001090a0f10199aa0afb7cdeef0feff";
+    assert!(rt; is_text(md5_text(rt.alloc(), &sum), want)?);
+    let last = [0, 0, 0, 0, 0, 0, 0, 0, 0, 0, 0, 0, 0, 0, 0, 1];
+    let want = "00000000000000000000000000000001";
+    assert!(rt; is_text(md5_text(rt.alloc(), &last), want)?);
     Ok(())
 }
 
@@ -76,7 +72,7 @@ const ESCAPES: [(&str, &str); 9] = [
 #[test]
 fn escapes(rt: HostRuntime) -> Result<(), Fail> {
     for (text, want) in ESCAPES {
-        assert_eq!(rt; escaped_text(rt.alloc(), text)?.as_str(), want);
+        assert!(rt; is_text(escaped_text(rt.alloc(), text), want)?, "{want}");
     }
     Ok(())
 }

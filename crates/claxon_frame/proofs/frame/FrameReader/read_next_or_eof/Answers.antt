@@ -1,3 +1,4 @@
+use Rattle.std.proofs.Common.{rules}
 use Rattle.claxon_format.proofs.Formats.{frames_lossless, frames_told}
 use Rattle.claxon_frame.specs.FrameReader.{block_view, frame_stream}
 use Rattle.claxon_frame.proofs.FrameSteps.{shape_width}
@@ -25,7 +26,9 @@ pub returns-clause-ended : goal.returns-clause-ended
 returns-clause-ended g c = ended_is block_view _ (shape_width c.args.self.now.stream) c.read_next.result _ _ c.read_next.ensures.gives _ c.read_next.ensures.no_room
 
 pub returns-clause-no_failure : goal.returns-clause-no_failure
-returns-clause-no_failure g c = (frame_promises block_view _ (shape_width c.args.self.now.stream) c.read_next.result _ _ c.read_next.ensures.gives).no_failure
+returns-clause-no_failure g c =
+    let e = (frame_promises block_view _ (shape_width c.args.self.now.stream) c.read_next.result _ _ c.read_next.ensures.gives).no_failure in
+    search rules
 
 pub returns-clause-fault : goal.returns-clause-fault
 returns-clause-fault g c = (frame_promises block_view _ (shape_width c.args.self.now.stream) c.read_next.result _ _ c.read_next.ensures.gives).fault
@@ -34,7 +37,9 @@ pub returns-clause-named : goal.returns-clause-named
 returns-clause-named g c = (frame_promises block_view _ (shape_width c.args.self.now.stream) c.read_next.result _ _ c.read_next.ensures.gives).named
 
 pub returns-clause-io : goal.returns-clause-io
-returns-clause-io g c = (frame_promises block_view _ (shape_width c.args.self.now.stream) c.read_next.result _ _ c.read_next.ensures.gives).io
+returns-clause-io g c =
+    let e = (frame_promises block_view _ (shape_width c.args.self.now.stream) c.read_next.result _ _ c.read_next.ensures.gives).io in
+    search rules
 
 pub returns-clause-front : goal.returns-clause-front
 returns-clause-front g c = (frame_promises block_view _ (shape_width c.args.self.now.stream) c.read_next.result _ _ c.read_next.ensures.gives).front
@@ -43,4 +48,6 @@ pub returns-clause-memory : goal.returns-clause-memory
 returns-clause-memory g c = memory_is _ _ c.read_next.result _ _ c.read_next.ensures.no_room
 
 pub returns-clause-room : goal.returns-clause-room
-returns-clause-room g c = where_starved c.read_next.result c.read_next.ensures.room
+returns-clause-room g c =
+    let e = where_starved c.read_next.result c.read_next.ensures.room in
+    search rules
