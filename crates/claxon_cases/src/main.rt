@@ -34,18 +34,22 @@ where
     Q::File: Read,
 {
     for name in env::args(rt)?.skip(1) {
-        match kind_of(name.as_str()) {
-            Some(kind) => {
-                let lines = fs::read_to_string(rt, name.as_str())?;
-                replay(rt.alloc(), kind, name.as_str(), lines.as_str(), output)?;
-            }
-            None => {
-                let input = fs::open(rt, name.as_str())?;
-                print_tally(rt.alloc(), name.as_str(), input, output)?;
-            }
-        }
+        print_lines(rt, name.as_str(), output)?;
     }
     Ok(())
+}
+
+fn print_lines<Q: Files + AllocGlobal, W: Write>(rt: &Q, name: &str, output: &mut W) -> Result<()>
+where
+    Q::File: Read,
+{
+    match kind_of(name) {
+        Some(kind) => {
+            let lines = fs::read_to_string(rt, name)?;
+            replay(rt.alloc(), kind, name, lines.as_str(), output)
+        }
+        None => print_tally(rt.alloc(), name, fs::open(rt, name)?, output),
+    }
 }
 
 fn main(rt: HostRuntime) -> ExitCode {

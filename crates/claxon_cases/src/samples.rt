@@ -1,6 +1,7 @@
 //! Files by the samples that they give.
 use crate::answer::Answer;
-use claxon::{FlacReader, Result};
+use claxon::input::ReadBytes;
+use claxon::{FlacReader, FlacSamples, Result};
 use std::alloc::Global;
 use std::io::{Read, Write};
 
@@ -40,7 +41,12 @@ pub fn gather<R: Read + Drop>(flac: &mut FlacReader<R>, samples: &mut Vec<i32>) 
     if flac.is_metadata_only() {
         return Ok(());
     }
-    for sample in flac.samples().take(usize::MAX) {
+    gather_all(flac.samples(), samples)
+}
+
+// For any source of bytes, since a loop over a reader that is lent is dear to prove.
+fn gather_all<R: ReadBytes + Drop>(given: FlacSamples<R>, samples: &mut Vec<i32>) -> Result<()> {
+    for sample in given.take(usize::MAX) {
         samples.push(sample?)?;
     }
     Ok(())

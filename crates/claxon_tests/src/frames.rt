@@ -3,7 +3,7 @@ use claxon::Block;
 use claxon::frame::FrameReader;
 use claxon::input::{BufferedReader, ReadBytes};
 use claxon_test_doubles::sources::OneByte;
-use claxon_test_support::answers::{Shown, Step, mono, next_step, pair, step_of};
+use crate::answers::{Shown, Step, mono, next_step, pair, step_of};
 use std::alloc::{AllocError, Global};
 use std::io::Cursor;
 use std::process::Abort;

@@ -1,14 +1,31 @@
-//! Tests of metadata blocks, frames, what callers find, and want of memory. Rows of bytes with their answer are lines of
-//! `claxon_cases`.
+//! Tests that cross crates: metadata blocks, frames and what callers find; whole streams, from files and over readers that
+//! cut, pause and fail; runs into writers of all kinds; what `claxon_raw` does for its words; and want of memory. Rows of
+//! bytes with their answer are lines of `claxon_cases`.
 #![tactic(auto)]
 
 #[cfg(test)]
+mod answers;
+#[cfg(test)]
 mod callers;
+#[cfg(test)]
+mod commands;
+#[cfg(test)]
+mod failing;
+#[cfg(test)]
+mod files;
 #[cfg(test)]
 mod frames;
 #[cfg(test)]
 mod memory;
 #[cfg(test)]
 mod metadata;
+#[cfg(test)]
+mod readers;
+#[cfg(test)]
+mod runs;
+#[cfg(test)]
+mod streams;
+#[cfg(test)]
+mod writers;
 #[cfg(test)]
 mod zeros;

@@ -5,7 +5,7 @@ use claxon::FlacReader;
 use claxon::frame::FrameReader;
 use claxon::metadata::{MetadataBlock, VorbisComment, read_metadata_block_with_header};
 use claxon_test_doubles::RefusesOne;
-use claxon_test_support::answers::{
+use crate::answers::{
     COMMENT, FRAME, Fault, Step, clean, fault_of, format, head, joined, mono, run_of, step_of,
 };
 use claxon_write::run;

@@ -4,7 +4,7 @@ use claxon::input::ReadBytes;
 use claxon::metadata::{
     MetadataBlock, MetadataBlockReader, VorbisComment, read_metadata_block_with_header,
 };
-use claxon_test_support::answers::{COMMENT, Fault, fault_of, joined};
+use crate::answers::{COMMENT, Fault, fault_of, joined};
 use std::alloc::Global;
 use std::io::Cursor;
 use std::test::Fail;

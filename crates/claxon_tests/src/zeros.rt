@@ -2,7 +2,7 @@
 use claxon::input::{Bitstream, BufferedReader, ReadBytes};
 use claxon::subframe;
 use claxon_test_doubles::sources::ZerosBetween;
-use claxon_test_support::answers::{Fault, fault_of};
+use crate::answers::{Fault, fault_of};
 use std::process::Abort;
 use std::test::Fail;
 

@@ -3,7 +3,9 @@ use Rattle.claxon_convert.proofs.Converting.{converted, not_converted}
 use Rattle.claxon_convert.proofs.blocks.convert.Goals as goal
 
 pub returns-clause-ok : goal.returns-clause-ok
-returns-clause-ok g c = converted g.W.Write.contents g.W.Seek.stream_position g.R.Read.remaining c.args.flac.now c.blocks-2.result c.finish-finished.result c.args.wav.now c.put_blocks-outcome.new.wav c.finish-finished.new.self c.blocks-2.ensures.input c.blocks-2.ensures.stream c.in_ok-outcome.ensures.ok c.finish-finished.ensures.ok
+returns-clause-ok g c =
+    let e = converted g.W.Write.contents g.W.Seek.stream_position g.R.Read.remaining c.args.flac.now c.blocks-2.result c.finish-finished.result c.args.wav.now c.put_blocks-outcome.new.wav c.finish-finished.new.self c.blocks-2.ensures.input c.blocks-2.ensures.stream c.in_ok-outcome.ensures.ok c.finish-finished.ensures.ok in
+    search depth 1
 
 pub returns-in_err-outcome-clause-err : goal.returns-in_err-outcome-clause-err
 returns-in_err-outcome-clause-err g c =

@@ -1,4 +1,3 @@
-use Rattle.std.proofs.Common.{rules}
 use Rattle.claxon_format.proofs.Formats.{frames_lossless, frames_told}
 use Rattle.claxon_frame.specs.FrameReader.{block_view, frame_stream}
 use Rattle.claxon_frame.proofs.FrameSteps.{shape_width}
@@ -28,7 +27,7 @@ returns-clause-ended g c = ended_is block_view _ (shape_width c.args.self.now.st
 pub returns-clause-no_failure : goal.returns-clause-no_failure
 returns-clause-no_failure g c =
     let e = (frame_promises block_view _ (shape_width c.args.self.now.stream) c.read_next.result _ _ c.read_next.ensures.gives).no_failure in
-    search rules
+    search depth 1
 
 pub returns-clause-fault : goal.returns-clause-fault
 returns-clause-fault g c = (frame_promises block_view _ (shape_width c.args.self.now.stream) c.read_next.result _ _ c.read_next.ensures.gives).fault
@@ -39,7 +38,7 @@ returns-clause-named g c = (frame_promises block_view _ (shape_width c.args.self
 pub returns-clause-io : goal.returns-clause-io
 returns-clause-io g c =
     let e = (frame_promises block_view _ (shape_width c.args.self.now.stream) c.read_next.result _ _ c.read_next.ensures.gives).io in
-    search rules
+    search depth 1
 
 pub returns-clause-front : goal.returns-clause-front
 returns-clause-front g c = (frame_promises block_view _ (shape_width c.args.self.now.stream) c.read_next.result _ _ c.read_next.ensures.gives).front
@@ -50,4 +49,4 @@ returns-clause-memory g c = memory_is _ _ c.read_next.result _ _ c.read_next.ens
 pub returns-clause-room : goal.returns-clause-room
 returns-clause-room g c =
     let e = where_starved c.read_next.result c.read_next.ensures.room in
-    search rules
+    search depth 1

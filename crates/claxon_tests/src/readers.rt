@@ -3,7 +3,7 @@ use claxon::FlacReader;
 use claxon::frame::FrameReader;
 use claxon::input::BufferedReader;
 use claxon_test_doubles::sources::{FailsOnce, OneByte};
-use claxon_test_support::answers::{
+use crate::answers::{
     FRAME, Fault, Run, Step, after_error, answers_each, clean, format, gives_each, head, joined,
     mono, run_of,
 };

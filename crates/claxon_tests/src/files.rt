@@ -2,7 +2,7 @@
 use claxon::input::{BufferedReader, ReadBytes};
 use claxon::metadata::StreamInfo;
 use claxon::{Error, FlacReader, FlacReaderOptions, read_head};
-use claxon_test_support::answers::{FRAME, fault_of, head, joined, rest_of};
+use crate::answers::{FRAME, fault_of, head, joined, rest_of};
 use std::io::{Cursor, Read};
 use std::test::Fail;
 use std::{env, fs, process};

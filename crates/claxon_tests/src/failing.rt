@@ -2,7 +2,7 @@
 use claxon::FlacReader;
 use claxon::frame::FrameReader;
 use claxon::input::BufferedReader;
-use claxon_test_support::answers::{
+use crate::answers::{
     FRAME, Fault, Step, answers_each, end_of, format, gives_each, head, joined, mono,
 };
 use claxon_write::run;

@@ -3,7 +3,7 @@ use crate::runs::runs_agree;
 use claxon::FlacReader;
 use claxon_test_doubles::sinks::Sink;
 use claxon_test_doubles::sources::FailsOnce;
-use claxon_test_support::answers::{FIVES, Fault, end_of, gives_each, head, two_frames};
+use crate::answers::{FIVES, Fault, end_of, gives_each, head, two_frames};
 use claxon_write::{Output, run, write_samples};
 use std::alloc::Global;
 use std::io;
