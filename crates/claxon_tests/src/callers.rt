@@ -1,6 +1,6 @@
 //! What callers find in worked streams, in memory and in a file.
-use claxon::FlacReader;
 use crate::answers::{COMMENT, FRAME, head, joined};
+use claxon::FlacReader;
 use claxon_uses::{first_samples, list_tags, peak, tag_lines, verify};
 use std::alloc::Global;
 use std::io::Cursor;

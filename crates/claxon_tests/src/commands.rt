@@ -1,7 +1,7 @@
 //! What the program does for its words: samples and tags of files, and the words themselves.
+use crate::answers::{FIVES, head, joined, two_frames};
 use crate::files::{file_of, path_of};
 use claxon_test_doubles::sinks::Sink;
-use crate::answers::{FIVES, head, joined, two_frames};
 use claxon_write::{command, words};
 use linked_list_allocator::LocalHeap;
 use std::alloc::Global;

@@ -1,10 +1,10 @@
 //! Readers that fail, pause or are cut, and writers that fail, under frames and whole runs.
-use claxon::FlacReader;
-use claxon::frame::FrameReader;
-use claxon::input::BufferedReader;
 use crate::answers::{
     FRAME, Fault, Step, answers_each, end_of, format, gives_each, head, joined, mono,
 };
+use claxon::FlacReader;
+use claxon::frame::FrameReader;
+use claxon::input::BufferedReader;
 use claxon_write::run;
 use std::alloc::Global;
 use std::io::{self, Cursor, ErrorKind, Read, Write};

@@ -1,8 +1,8 @@
 //! Streams in files, and heads that are read alone.
+use crate::answers::{FRAME, fault_of, head, joined, rest_of};
 use claxon::input::{BufferedReader, ReadBytes};
 use claxon::metadata::StreamInfo;
 use claxon::{Error, FlacReader, FlacReaderOptions, read_head};
-use crate::answers::{FRAME, fault_of, head, joined, rest_of};
 use std::io::{Cursor, Read};
 use std::test::Fail;
 use std::{env, fs, process};

@@ -1,9 +1,9 @@
 //! What a block shows, and frames into used buffers and from a reader that gives little.
+use crate::answers::{Shown, Step, mono, next_step, pair, step_of};
 use claxon::Block;
 use claxon::frame::FrameReader;
 use claxon::input::{BufferedReader, ReadBytes};
 use claxon_test_doubles::sources::OneByte;
-use crate::answers::{Shown, Step, mono, next_step, pair, step_of};
 use std::alloc::{AllocError, Global};
 use std::io::Cursor;
 use std::process::Abort;
@@ -166,7 +166,10 @@ fn a_byte_a_read(rt: HostRuntime) -> Result<(), Fail> {
     twice[14..].copy_from_slice(&MID_SIDE);
     for len in [0, 1, 16384] {
         let mut reader = FrameReader::new(BufferedReader::new(rt.alloc(), OneByte::new(&twice))?);
-        assert!(rt; answers_twice(rt.alloc(), &mut reader, len, pair(3, -2))?, "{len}");
+        assert!(rt;
+            answers_twice(rt.alloc(), &mut reader, len, pair(3, -2))?,
+            "{len}"
+        );
     }
     Ok(())
 }

@@ -1,13 +1,13 @@
 //! Memory that is refused, each request in turn.
 ghost use Rattle.std.specs.Prelude.{◌≤◌};
 
+use crate::answers::{
+    COMMENT, FRAME, Fault, Step, clean, fault_of, format, head, joined, mono, run_of, step_of,
+};
 use claxon::FlacReader;
 use claxon::frame::FrameReader;
 use claxon::metadata::{MetadataBlock, VorbisComment, read_metadata_block_with_header};
 use claxon_test_doubles::RefusesOne;
-use crate::answers::{
-    COMMENT, FRAME, Fault, Step, clean, fault_of, format, head, joined, mono, run_of, step_of,
-};
 use claxon_write::run;
 use linked_list_allocator::LocalHeap;
 use std::alloc::{Allocator, Global};

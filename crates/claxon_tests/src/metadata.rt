@@ -1,10 +1,10 @@
 //! Metadata blocks with their headers, alone and one after another.
+use crate::answers::{COMMENT, Fault, fault_of, joined};
 use claxon::Error;
 use claxon::input::ReadBytes;
 use claxon::metadata::{
     MetadataBlock, MetadataBlockReader, VorbisComment, read_metadata_block_with_header,
 };
-use crate::answers::{COMMENT, Fault, fault_of, joined};
 use std::alloc::Global;
 use std::io::Cursor;
 use std::test::Fail;
@@ -49,7 +49,10 @@ fn is_comment_next<R: ReadBytes + Drop>(blocks: &mut MetadataBlockReader<R>) -> 
 }
 
 fn is_padding_next<R: ReadBytes + Drop>(blocks: &mut MetadataBlockReader<R>) -> bool {
-    matches!(blocks.next(), Some(Ok(MetadataBlock::Padding { length: 0 })))
+    matches!(
+        blocks.next(),
+        Some(Ok(MetadataBlock::Padding { length: 0 }))
+    )
 }
 
 #[test]

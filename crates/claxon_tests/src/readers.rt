@@ -1,12 +1,12 @@
 //! Readers that give little, cut and fail.
-use claxon::FlacReader;
-use claxon::frame::FrameReader;
-use claxon::input::BufferedReader;
-use claxon_test_doubles::sources::{FailsOnce, OneByte};
 use crate::answers::{
     FRAME, Fault, Run, Step, after_error, answers_each, clean, format, gives_each, head, joined,
     mono, run_of,
 };
+use claxon::FlacReader;
+use claxon::frame::FrameReader;
+use claxon::input::BufferedReader;
+use claxon_test_doubles::sources::{FailsOnce, OneByte};
 use std::alloc::Global;
 use std::io::Read;
 use std::test::Fail;

@@ -1,6 +1,6 @@
 //! Runs of the program's calls.
-use claxon::FlacReader;
 use crate::answers::{Fault, end_of, fault_of};
+use claxon::FlacReader;
 use claxon_write::{Output, run, write_samples};
 use std::alloc::Global;
 use std::io::Cursor;

@@ -1,8 +1,6 @@
 //! Streams whose calls are made again, whose tags are asked for by name, and that have many metadata blocks.
+use crate::answers::{COMMENT, FRAME, Fault, clean, fault_of, head, joined, one_sample, rest_of};
 use claxon::{FlacReader, FlacReaderOptions};
-use crate::answers::{
-    COMMENT, FRAME, Fault, clean, fault_of, head, joined, one_sample, rest_of,
-};
 use std::alloc::Global;
 use std::io::Cursor;
 use std::test::Fail;

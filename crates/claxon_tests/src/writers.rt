@@ -1,9 +1,9 @@
 //! Runs into writers of all kinds, and of streams that are cut and damaged.
+use crate::answers::{FIVES, Fault, end_of, gives_each, head, two_frames};
 use crate::runs::runs_agree;
 use claxon::FlacReader;
 use claxon_test_doubles::sinks::Sink;
 use claxon_test_doubles::sources::FailsOnce;
-use crate::answers::{FIVES, Fault, end_of, gives_each, head, two_frames};
 use claxon_write::{Output, run, write_samples};
 use std::alloc::Global;
 use std::io;

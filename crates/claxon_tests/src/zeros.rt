@@ -1,8 +1,8 @@
 //! Runs of some 2^32 zeros in subframes.
+use crate::answers::{Fault, fault_of};
 use claxon::input::{Bitstream, BufferedReader, ReadBytes};
 use claxon::subframe;
 use claxon_test_doubles::sources::ZerosBetween;
-use crate::answers::{Fault, fault_of};
 use std::process::Abort;
 use std::test::Fail;
 

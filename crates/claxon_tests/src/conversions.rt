@@ -45,13 +45,7 @@ fn is_converted(
 }
 
 // Whether a stream is converted whole, or not, into these bytes, while this is shown.
-fn gives(
-    alloc: Global,
-    stream: &[u8],
-    is_whole: bool,
-    want: &[u8],
-    shown: &[u8],
-) -> Result<bool> {
+fn gives(alloc: Global, stream: &[u8], is_whole: bool, want: &[u8], shown: &[u8]) -> Result<bool> {
     let (mut bytes, mut errors) = (Vec::new(alloc), Vec::new(alloc));
     let outcome = is_converted(alloc, stream, &mut bytes, &mut errors)?;
     Ok(outcome == is_whole && bytes.as_slice() == want && errors.as_slice() == shown)
@@ -68,7 +62,10 @@ fn in_memory(rt: HostRuntime) -> result::Result<(), Fail> {
     ];
     for (len, last, is_whole, want, shown) in rows {
         stream[66] = last;
-        assert!(rt; gives(rt.alloc(), &stream[..len], is_whole, want, shown)?, "{len} {last}");
+        assert!(rt;
+            gives(rt.alloc(), &stream[..len], is_whole, want, shown)?,
+            "{len} {last}"
+        );
     }
     Ok(())
 }
