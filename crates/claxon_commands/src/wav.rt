@@ -1,8 +1,8 @@
 //! A FLAC file as a WAV file.
 use claxon::FlacReader;
-use claxon_convert::{Error, Result, WavWriter, convert};
 use claxon_text::progress::Progress;
 use claxon_wav_header::Layout;
+use claxon_write::wav::{Error, Result, WavWriter, convert};
 use std::fs;
 use std::io::{Read, Write};
 use std::os::unix::fs::MetadataExt;

@@ -77,13 +77,15 @@ impl ZerosBetween {
 
 impl Read for ZerosBetween {
     fn read(&mut self, buf: &mut [u8]) -> io::Result<usize> {
-        for slot in buf.iter_mut() {
-            *slot = if self.zeros > 0 { 0 } else { self.last };
-            match self.first.take() {
-                Some(first) => *slot = first,
-                None => self.zeros = self.zeros.saturating_sub(1),
-            }
+        if let (Some(first), Some(slot)) = (self.first, buf.first_mut()) {
+            *slot = first;
+            self.first = None;
+            return Ok(1);
         }
+        let zeros = buf.len().min(self.zeros as usize);
+        buf[..zeros].fill(0);
+        buf[zeros..].fill(self.last);
+        self.zeros -= zeros as u32;
         Ok(buf.len())
     }
 }

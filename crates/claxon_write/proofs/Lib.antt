@@ -5,3 +5,7 @@ pub mod Places
 pub mod Gathering
 pub mod Unlent
 pub mod WholeRuns
+pub mod Converting
+pub mod Ending
+pub mod Interleaved
+pub mod Widths

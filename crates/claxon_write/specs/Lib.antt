@@ -6,3 +6,6 @@ pub mod Output
 pub mod WriteBlocks
 pub mod WriteSamples
 pub mod Run
+pub mod Convert
+pub mod Samples
+pub mod Writer

@@ -1,4 +1,0 @@
-pub mod Converting
-pub mod Ending
-pub mod Interleaved
-pub mod Widths
