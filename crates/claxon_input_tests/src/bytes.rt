@@ -1,17 +1,10 @@
 //! Bytes, bits and remainders from readers that fail, end and tell nothing.
-ghost use Rattle.std.specs.Prelude.{◌==◌, length};
-ghost use Rattle.claxon_format.specs.Fault.{MethodReserved};
-ghost use Rattle.claxon_format.specs.Reading.{and_then, test, done, times_at};
-ghost use Rattle.claxon_format.specs.read.Bits.{number_at, unary_at};
-ghost use Rattle.claxon_input.specs.State.{bits_in};
-ghost use Rattle.claxon_input.specs.Gives.{Gives};
-
+use claxon_input::Error;
 use claxon_input::crc::Crc16Reader;
 use claxon_input::input::{Bitstream, BufferedReader, ReadBytes};
-use claxon_input::{Error, Result as InputResult};
-use claxon_test_doubles::sources::{FailsOnce, OneByte, ZerosBetween};
+use claxon_test_doubles::sources::{FailsOnce, ZerosBetween};
 use std::io;
-use std::io::{Cursor, Read};
+use std::io::Cursor;
 use std::test::Fail;
 
 #[test]
@@ -25,43 +18,6 @@ fn cursor_far_out(rt: HostRuntime) -> Result<(), Fail> {
     let mut none = [0u8; 0];
     assert!(rt; cursor.read_into(&mut none).is_ok());
     assert!(rt; cursor.position() == u64::MAX);
-    Ok(())
-}
-
-// Reads a byte, passes over one, and reads what comes then.
-fn third_of<R: ReadBytes>(reader: &mut R) -> io::Result<Option<u8>> {
-    reader.read_into(&mut [0; 1])?;
-    reader.skip(1)?;
-    reader.read_u8_or_eof()
-}
-
-fn third_and_remainder<R: ReadBytes>(input: &mut R) -> io::Result<(Option<u8>, u16)> {
-    let mut crc = Crc16Reader::new(input);
-    let third = third_of(&mut crc)?;
-    Ok((third, crc.crc()))
-}
-
-#[test]
-fn wide_crc_of_three_bytes(rt: HostRuntime) -> Result<(), Fail> {
-    let (third, remainder) = third_and_remainder(&mut Cursor::new([0x61u8, 0x62, 0x63]))?;
-    assert!(rt; third == Some(0x63));
-    assert!(rt; remainder == 0xCADB);
-    Ok(())
-}
-
-#[test]
-fn little_end_first(rt: HostRuntime) -> Result<(), Fail> {
-    let mut cursor = Cursor::new([4u8, 3, 2, 1]);
-    assert!(rt; cursor.at_hand().len() == 4);
-    assert!(rt; cursor.read_le_u32()? == 0x0102_0304);
-    Ok(())
-}
-
-#[test]
-fn buffered_number(rt: HostRuntime) -> Result<(), Fail> {
-    let mut reader = BufferedReader::new(rt.alloc(), Cursor::new([1u8, 2, 3, 4, 5]))?;
-    assert!(rt; reader.read_be_u32()? == 0x0102_0304);
-    assert!(rt; reader.read_be_u16_or_eof()?.is_none());
     Ok(())
 }
 
@@ -121,15 +77,6 @@ fn a_failure_is_no_end(rt: HostRuntime) -> Result<(), Fail> {
     let mut reader = BufferedReader::new(rt.alloc(), FailsOnce::new(&[7; 3], 1))?;
     assert!(rt; reader.read_be_u16_or_eof().is_err());
     assert!(rt; reader.read_be_u16_or_eof()? == Some(0x0707));
-    Ok(())
-}
-
-#[test]
-fn an_end_within_a_number(rt: HostRuntime) -> Result<(), Fail> {
-    let mut reader = BufferedReader::new(rt.alloc(), OneByte::new(&[7; 3]))?;
-    assert!(rt; reader.read_be_u32().is_err());
-    assert!(rt; reader.read_u8_or_eof()?.is_none());
-    assert!(rt; reader.into_inner().read(&mut [0; 1])? == 0);
     Ok(())
 }
 
@@ -193,39 +140,5 @@ fn zeros_give_zero(rt: HostRuntime) -> Result<(), Fail> {
     let (number, remainder) = number_and_remainder(&mut Zeros)?;
     assert!(rt; number == 0);
     assert!(rt; remainder == 0);
-    Ok(())
-}
-
-// Two fields, the first of which may have a fault: as the code above is written and told.
-#[tactic(auto, unfolding(claxon_format::specs::Fault::fault_text))]
-fn two_fields<R: ReadBytes>(input: &mut Bitstream<R>) -> InputResult<u32>
-    ensures { Gives (λ x. x) result (and_then (number_at 4) (λ method. test (method == 15) MethodReserved (and_then unary_at (λ q. done q)))) (bits_in R.source input.old) (bits_in R.source input.new) }
-{
-    let method = input.read_leq_u8(4)?;
-    if method == 15 {
-        return Err(Error::FormatError("invalid residual, encountered reserved value"));
-    }
-    let quotient = input.read_unary()?;
-    Ok(quotient)
-}
-
-// As many numbers of three bits as the buffer has room for.
-fn read_threes<R: ReadBytes>(input: &mut Bitstream<R>, buffer: &mut [u8]) -> InputResult<()>
-    ensures { Gives (λ x. buffer.new) result (times_at (length buffer.old) (number_at 3)) (bits_in R.source input.old) (bits_in R.source input.new) }
-{
-    for slot in buffer.iter_mut() {
-        *slot = input.read_leq_u8(3)?;
-    }
-    Ok(())
-}
-
-#[test]
-fn fields_and_their_fault(rt: HostRuntime) -> Result<(), Fail> {
-    let mut bits = Bitstream::new(Cursor::new([0x12u8, 0xF0]));
-    assert!(rt; two_fields(&mut bits)? == 2);
-    assert!(rt; !bits.read_bit()?);
-    assert!(rt; two_fields(&mut bits).is_err());
-    let mut threes = [0u8; 2];
-    assert!(rt; read_threes(&mut bits, &mut threes).is_err());
     Ok(())
 }

@@ -4,7 +4,7 @@ ghost use Rattle.std.specs.Prelude.{◌≤◌};
 use std::io;
 use std::io::{ErrorKind, Write};
 
-/// A place for a few bytes. It takes so many bytes a call, fails from some write on, and perhaps at each flush.
+/// A place for a few bytes. It takes so many bytes a call, fails from some write on, and perhaps at each flush, in one way.
 #[derive(Drop)]
 pub struct Sink {
     bytes: [u8; 32],
@@ -12,19 +12,21 @@ pub struct Sink {
     most: usize,
     writes_left: u32,
     fails_at_flush: bool,
+    kind: ErrorKind,
     flushes: u32,
     ghost in_bounds: { used ≤ 32 },
 }
 
 impl Sink {
-    /// Takes so many bytes a call, and so many calls.
-    pub const fn new(most: usize, writes_left: u32, fails_at_flush: bool) -> Sink {
+    /// Takes so many bytes a call, and so many calls. It fails with this kind.
+    pub const fn new(most: usize, writes_left: u32, fails_at_flush: bool, kind: ErrorKind) -> Sink {
         Sink {
             bytes: [0; 32],
             used: 0,
             most,
             writes_left,
             fails_at_flush,
+            kind,
             flushes: 0,
         }
     }
@@ -43,7 +45,7 @@ impl Sink {
 impl Write for Sink {
     fn write(&mut self, buf: &[u8]) -> io::Result<usize> {
         if self.writes_left == 0 {
-            return Err(io::Error::from(ErrorKind::Other));
+            return Err(io::Error::from(self.kind));
         }
         self.writes_left -= 1;
         let count = buf.len().min(self.most).min(32 - self.used);
@@ -55,7 +57,7 @@ impl Write for Sink {
     fn flush(&mut self) -> io::Result<()> {
         self.flushes = self.flushes.wrapping_add(1);
         if self.fails_at_flush {
-            return Err(io::Error::from(ErrorKind::Other));
+            return Err(io::Error::from(self.kind));
         }
         Ok(())
     }

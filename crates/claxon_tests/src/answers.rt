@@ -99,8 +99,8 @@ pub fn step_of<A: Allocator>(answer: FrameResult<A>) -> Step {
     }
 }
 
-/// What the next call answers, into an empty buffer.
-pub fn next_step<R: ReadBytes>(alloc: Global, reader: &mut FrameReader<R>) -> Step {
+// What the next call answers, into an empty buffer.
+fn next_step<R: ReadBytes>(alloc: Global, reader: &mut FrameReader<R>) -> Step {
     step_of(reader.read_next_or_eof(Vec::new(alloc)))
 }
 
@@ -117,11 +117,12 @@ pub fn answers_each<R: ReadBytes>(
     all
 }
 
-/// What a stream gave by its samples: the first four of them, their number, and what ended them.
+/// What a stream gave by its samples: the first four of them and their number, how many faults, and the last of these.
 #[derive(PartialEq, Clone, Copy)]
 pub struct Run {
     pub samples: [i32; 4],
     pub count: usize,
+    pub faults: usize,
     pub fault: Option<Fault>,
 }
 
@@ -136,11 +137,12 @@ fn next_of<R: ReadBytes + Drop, A: Allocator + Copy>(
     }
 }
 
-/// What the samples of an open stream give, from here on.
+/// What a hundred calls for samples of an open stream give, from here on.
 pub fn rest_of<R: Read + Drop, A: Allocator + Copy>(flac: &mut FlacReader<R, A>) -> Run {
     let mut run = Run {
         samples: [0; 4],
         count: 0,
+        faults: 0,
         fault: None,
     };
     if flac.is_metadata_only() {
@@ -155,8 +157,11 @@ pub fn rest_of<R: Read + Drop, A: Allocator + Copy>(flac: &mut FlacReader<R, A>)
                 }
                 run.count = run.count.saturating_add(1);
             }
-            Ok(None) => break,
-            Err(fault) => run.fault = Some(fault),
+            Ok(None) => {}
+            Err(fault) => {
+                run.faults = run.faults.saturating_add(1);
+                run.fault = Some(fault);
+            }
         }
     }
     run
@@ -179,18 +184,6 @@ pub fn gives_each<R: Read + Drop>(flac: &mut FlacReader<R>, wants: &[Option<i32>
     all
 }
 
-/// Whether the next call for a sample fails, and whether each of the two calls after it answers none.
-pub fn after_error<R: Read + Drop>(flac: &mut FlacReader<R>) -> (bool, bool, bool) {
-    if flac.is_metadata_only() {
-        return (false, false, false);
-    }
-    let mut samples = flac.samples();
-    let first = next_of(&mut samples);
-    let second = next_of(&mut samples);
-    let third = next_of(&mut samples);
-    (first.is_err(), second == Ok(None), third == Ok(None))
-}
-
 /// What a stream gives, or the fault that keeps it from being opened.
 pub fn run_of<R: Read + Drop, A: Allocator + Copy>(alloc: A, reader: R) -> Result<Run, Fault> {
     match FlacReader::new(alloc, reader) {
@@ -207,6 +200,7 @@ pub fn clean(samples: &[i32]) -> Result<Run, Fault> {
     Ok(Run {
         samples: first_four(samples),
         count: samples.len(),
+        faults: 0,
         fault: None,
     })
 }

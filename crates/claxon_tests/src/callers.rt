@@ -1,11 +1,12 @@
 //! What callers find in worked streams, in memory and in a file.
 use crate::answers::{COMMENT, FRAME, head, joined};
+use crate::files::file_of;
 use claxon::FlacReader;
 use claxon_uses::{first_samples, list_tags, peak, tag_lines, verify};
 use std::alloc::Global;
+use std::fs;
 use std::io::Cursor;
 use std::test::Fail;
-use std::{env, fs, process};
 
 const COMMENT_HEADER: [u8; 4] = [0x84, 0x00, 0x00, 0x13];
 
@@ -80,10 +81,7 @@ fn found_in_file(
     rt: &HostRuntime,
     bytes: &[u8],
 ) -> Result<(claxon::Result<Vec<String>>, claxon::Result<u32>), Fail> {
-    let (folder, id) = (env::temp_dir(rt)?, process::id(rt.process()));
-    let folder = folder.as_str();
-    let path = format!(in rt.alloc(); "{folder}/claxon_callers_{id}")?;
-    fs::write(rt, path.as_str(), bytes)?;
+    let path = file_of(rt, "callers", bytes)?;
     let found = (list_tags(rt, path.as_str()), peak(rt, path.as_str()));
     fs::remove_file(rt, path.as_str())?;
     Ok(found)

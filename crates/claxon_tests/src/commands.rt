@@ -4,9 +4,10 @@ use crate::files::{file_of, path_of};
 use claxon_test_doubles::sinks::Sink;
 use claxon_write::{command, words};
 use linked_list_allocator::LocalHeap;
-use std::alloc::Global;
+use std::alloc::{AllocError, Global};
 use std::env::FillError;
 use std::fs;
+use std::io::ErrorKind;
 use std::rt::Env;
 use std::test::Fail;
 
@@ -18,11 +19,17 @@ struct Outcome {
     errors: Vec<u8>,
 }
 
-fn outcome_of(rt: &HostRuntime, words: &[&str]) -> claxon::Result<Outcome> {
-    let mut owned = Vec::new(rt.alloc());
+/// The words of a command line.
+pub fn owned(alloc: Global, words: &[&str]) -> Result<Vec<String>, AllocError> {
+    let mut owned = Vec::new(alloc);
     for word in words {
-        owned.push(String::from_str(rt.alloc(), *word)?)?;
+        owned.push(String::from_str(alloc, *word)?)?;
     }
+    Ok(owned)
+}
+
+fn outcome_of(rt: &HostRuntime, words: &[&str]) -> claxon::Result<Outcome> {
+    let owned = owned(rt.alloc(), words)?;
     let (mut output, mut errors) = (Vec::new(rt.alloc()), Vec::new(rt.alloc()));
     let status = command(rt, &owned, &mut output, &mut errors);
     Ok(Outcome {
@@ -125,8 +132,9 @@ fn other_words(rt: HostRuntime) -> Result<(), Fail> {
 #[test]
 fn a_usage_line_that_is_lost(rt: HostRuntime) {
     let words = Vec::new(rt.alloc());
-    let mut errors = Sink::new(1, 0, false);
-    let status = command(&rt, &words, &mut Sink::new(1, 0, false), &mut errors);
+    let mut errors = Sink::new(1, 0, false, ErrorKind::Other);
+    let mut output = Sink::new(1, 0, false, ErrorKind::Other);
+    let status = command(&rt, &words, &mut output, &mut errors);
     assert_eq!(rt; status, 2);
 }
 

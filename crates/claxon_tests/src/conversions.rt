@@ -1,4 +1,5 @@
 //! Whole files, as another decoder writes them.
+use crate::files::path_of;
 use claxon::FlacReader;
 use claxon_commands::wav::command;
 use claxon_text::progress::Progress;
@@ -7,7 +8,7 @@ use claxon_write::wav::{Result, WavWriter, convert};
 use std::alloc::Global;
 use std::io::Cursor;
 use std::test::Fail;
-use std::{env, fs, process, result};
+use std::{fs, result};
 
 // One channel of 8 bits, of which the streaminfo says that one sample comes, and two blocks, with three samples and with two.
 const STREAM: [u8; 67] = [
@@ -70,14 +71,7 @@ fn in_memory(rt: HostRuntime) -> result::Result<(), Fail> {
     Ok(())
 }
 
-// A name of this process's own in the folder for files that don't last.
-fn path_of(rt: &HostRuntime, name: &str) -> result::Result<String, Fail> {
-    let (folder, id) = (env::temp_dir(rt)?, process::id(rt.process()));
-    let folder = folder.as_str();
-    Ok(format!(in rt.alloc(); "{folder}/claxon_wav_{id}_{name}")?)
-}
-
-// Puts bytes into such a file.
+// Puts bytes into a file of this process's own.
 fn put(rt: &HostRuntime, name: &str, bytes: &[u8]) -> result::Result<(), Fail> {
     let path = path_of(rt, name)?;
     fs::write(rt, path.as_str(), bytes)?;

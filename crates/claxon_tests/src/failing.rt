@@ -1,4 +1,4 @@
-//! Readers that fail, pause or are cut, and writers that fail, under frames and whole runs.
+//! Readers that fail, pause or are cut, under frames and whole runs.
 use crate::answers::{
     FRAME, Fault, Step, answers_each, end_of, format, gives_each, head, joined, mono,
 };
@@ -7,7 +7,7 @@ use claxon::frame::FrameReader;
 use claxon::input::BufferedReader;
 use claxon_write::run;
 use std::alloc::Global;
-use std::io::{self, Cursor, ErrorKind, Read, Write};
+use std::io::{self, ErrorKind, Read};
 use std::test::Fail;
 
 // Gives so many bytes a read. After so many reads one gives none: it fails, or is empty.
@@ -144,58 +144,5 @@ fn samples_after_an_empty_read(rt: HostRuntime) -> Result<(), Fail> {
     };
     let mut flac = FlacReader::new(rt.alloc(), source)?;
     assert!(rt; gives_each(&mut flac, &[Some(5), None, Some(5), None]));
-    Ok(())
-}
-
-// A writer whose writes, flushes or both fail.
-#[derive(Drop)]
-struct Refuses {
-    writes: Option<ErrorKind>,
-    flushes: Option<ErrorKind>,
-}
-
-fn failing(kind: Option<ErrorKind>) -> io::Result<()> {
-    match kind {
-        Some(kind) => Err(io::Error::from(kind)),
-        None => Ok(()),
-    }
-}
-
-impl Write for Refuses {
-    fn write(&mut self, buf: &[u8]) -> io::Result<usize> {
-        failing(self.writes)?;
-        Ok(buf.len())
-    }
-
-    fn flush(&mut self) -> io::Result<()> {
-        failing(self.flushes)
-    }
-}
-
-// What a run of a frame into the writer ends with. The last byte is that of the frame's guard.
-fn run_refused(alloc: Global, last: u8, mut output: Refuses) -> Result<Result<u64, Fault>, Fail> {
-    let bytes = joined(alloc, &[&head(0x80), &FRAME[..10], &[last]])?;
-    Ok(end_of(run(alloc, Cursor::new(bytes.as_slice()), &mut output)))
-}
-
-// After a decoder's fault nothing that the writer does shows.
-#[test]
-fn runs_into_failing_writers(rt: HostRuntime) -> Result<(), Fail> {
-    let bad = Fault::Format("frame CRC mismatch");
-    let (other, again) = (Some(ErrorKind::Other), Some(ErrorKind::Interrupted));
-    let rows = [
-        (0x58, None, None, Ok(1)),
-        (0x58, other, None, Err(Fault::Io)),
-        (0x58, again, None, Err(Fault::Io)),
-        (0x58, None, other, Err(Fault::Io)),
-        (0x58, None, again, Err(Fault::Io)),
-        (0x59, None, None, Err(bad)),
-        (0x59, None, other, Err(bad)),
-        (0x59, other, other, Err(bad)),
-    ];
-    for (row, (last, writes, flushes, want)) in rows.into_iter().enumerate() {
-        let answer = run_refused(rt.alloc(), last, Refuses { writes, flushes })?;
-        assert!(rt; answer == want, "{row}");
-    }
     Ok(())
 }

@@ -1,8 +1,7 @@
-//! Streams in files, and heads that are read alone.
-use crate::answers::{FRAME, fault_of, head, joined, rest_of};
-use claxon::input::{BufferedReader, ReadBytes};
+//! Streams in files.
+use crate::answers::{fault_of, head, joined, rest_of};
 use claxon::metadata::StreamInfo;
-use claxon::{Error, FlacReader, FlacReaderOptions, read_head};
+use claxon::{Error, FlacReader, FlacReaderOptions};
 use std::io::{Cursor, Read};
 use std::test::Fail;
 use std::{env, fs, process};
@@ -132,23 +131,5 @@ fn files_give_what_their_bytes_do(rt: HostRuntime) -> Result<(), Fail> {
 fn a_file_that_is_not_there(rt: HostRuntime) -> Result<(), Fail> {
     let path = path_of(&rt, "none")?;
     assert!(rt; matches!(FlacReader::open(&rt, path.as_str()), Err(Error::IoError(_))));
-    Ok(())
-}
-
-// After the head comes the first frame, and what was read ahead is lost.
-#[test]
-fn reads_a_head(rt: HostRuntime) -> Result<(), Fail> {
-    let bytes = joined(rt.alloc(), &[&head(0x80), &FRAME])?;
-    let mut input = BufferedReader::new(rt.alloc(), Cursor::new(bytes.as_slice()))?;
-    read_head(rt.alloc(), &mut input, FlacReaderOptions::default())?;
-    let next = input.read_be_u32()?;
-    assert!(rt; next == 0xfff8_6902 && input.into_inner().position() == 53);
-    Ok(())
-}
-
-#[test]
-fn gives_the_reader_back(rt: HostRuntime) -> Result<(), Fail> {
-    let flac = FlacReader::new(rt.alloc(), Cursor::new(head(0x80)))?;
-    assert_eq!(rt; flac.into_inner().position(), 42);
     Ok(())
 }

@@ -1,10 +1,7 @@
-//! What a block shows, and frames into used buffers and from a reader that gives little.
-use crate::answers::{Shown, Step, mono, next_step, pair, step_of};
+//! What a block shows, and frames into used buffers.
+use crate::answers::{Shown, Step, mono, pair, step_of};
 use claxon::Block;
 use claxon::frame::FrameReader;
-use claxon::input::{BufferedReader, ReadBytes};
-use claxon_test_doubles::sources::OneByte;
-use std::alloc::{AllocError, Global};
 use std::io::Cursor;
 use std::process::Abort;
 use std::test::Fail;
@@ -80,13 +77,6 @@ fn places_of_a_block(rt: HostRuntime) -> Result<(), Fail> {
     Ok(())
 }
 
-#[test]
-fn an_empty_block(rt: HostRuntime) {
-    let block = Block::empty(rt.alloc());
-    assert!(rt; block.time() == 0 && block.channels() == 0 && block.duration() == 0);
-    assert!(rt; block.into_buffer().is_empty());
-}
-
 // The samples of a buffer that is handed in don't show, and none of it is left over.
 fn check_buffer(
     rt: &(impl Abort + AllocGlobal),
@@ -132,44 +122,6 @@ fn old_buffers(rt: HostRuntime) -> Result<(), Fail> {
     ];
     for (bytes, want, count) in rows {
         check_buffers(&rt, bytes, want, count)?;
-    }
-    Ok(())
-}
-
-// What the next call answers, into a buffer of so many samples.
-fn step_into<R: ReadBytes>(
-    alloc: Global,
-    reader: &mut FrameReader<R>,
-    len: usize,
-) -> Result<Step, AllocError> {
-    let mut buffer = Vec::new(alloc);
-    buffer.resize(len, 13)?;
-    Ok(step_of(reader.read_next_or_eof(buffer)))
-}
-
-// Whether two calls answer this, each into a buffer of so many samples, and a third meets the end.
-fn answers_twice<R: ReadBytes>(
-    alloc: Global,
-    reader: &mut FrameReader<R>,
-    len: usize,
-    want: Step,
-) -> Result<bool, AllocError> {
-    let first = step_into(alloc, reader, len)?;
-    let second = step_into(alloc, reader, len)?;
-    Ok(first == want && second == want && next_step(alloc, reader) == Step::End)
-}
-
-#[test]
-fn a_byte_a_read(rt: HostRuntime) -> Result<(), Fail> {
-    let mut twice = [0; 28];
-    twice[..14].copy_from_slice(&MID_SIDE);
-    twice[14..].copy_from_slice(&MID_SIDE);
-    for len in [0, 1, 16384] {
-        let mut reader = FrameReader::new(BufferedReader::new(rt.alloc(), OneByte::new(&twice))?);
-        assert!(rt;
-            answers_twice(rt.alloc(), &mut reader, len, pair(3, -2))?,
-            "{len}"
-        );
     }
     Ok(())
 }

@@ -1,15 +1,8 @@
 //! What command lines of `claxon_info` give.
+use crate::commands::owned;
 use claxon_commands::info::command;
 use std::env;
 use std::test::Fail;
-
-fn owned(rt: &HostRuntime, words: &[&str]) -> Result<Vec<String>, Fail> {
-    let mut owned = Vec::new(rt.alloc());
-    for word in words {
-        owned.push(String::from_str(rt.alloc(), *word)?)?;
-    }
-    Ok(owned)
-}
 
 // Whether these words give this status and nothing but a word of it, which may be known.
 fn are_refused(rt: &HostRuntime, words: &[String], want: u8, said: Option<&str>) -> bool {
@@ -32,7 +25,7 @@ fn command_lines_without_a_stream(rt: HostRuntime) -> Result<(), Fail> {
         (&[folder.as_str()], 1, None),
     ];
     for (words, status, said) in rows {
-        let owned = owned(&rt, words)?;
+        let owned = owned(rt.alloc(), words)?;
         assert!(rt; are_refused(&rt, &owned, status, said), "{status}");
     }
     Ok(())

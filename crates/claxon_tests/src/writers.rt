@@ -3,11 +3,9 @@ use crate::answers::{FIVES, Fault, end_of, gives_each, head, two_frames};
 use crate::runs::runs_agree;
 use claxon::FlacReader;
 use claxon_test_doubles::sinks::Sink;
-use claxon_test_doubles::sources::FailsOnce;
 use claxon_write::{Output, run, write_samples};
 use std::alloc::Global;
-use std::io;
-use std::io::{Cursor, ErrorKind, Read, Write};
+use std::io::{Cursor, ErrorKind, Read};
 use std::process::Abort;
 use std::test::Fail;
 
@@ -168,11 +166,6 @@ fn runs_of_damaged_streams(rt: HostRuntime) -> Result<(), Fail> {
     Ok(())
 }
 
-// What a run of the two frames into the sink ends with.
-fn run_into<R: Read + Drop>(alloc: Global, input: R, sink: &mut Sink) -> Result<u64, Fault> {
-    end_of(run(alloc, input, sink))
-}
-
 // A run into the sink ends with this and writes these bytes. What is written before a fault is a front of the samples.
 fn check(
     rt: &(impl Abort + AllocGlobal),
@@ -181,84 +174,40 @@ fn check(
     want: Result<u64, Fault>,
     written: &[u8],
 ) {
-    let end = run_into(rt.alloc(), Cursor::new(two_frames(last)), sink);
-    assert!(rt; end == want, "{written:?}");
-    assert!(rt; sink.written() == written, "{written:?}");
+    let end = end_of(run(rt.alloc(), Cursor::new(two_frames(last)), sink));
+    assert!(rt; end == want && sink.written() == written, "{written:?}");
 }
 
+// The last byte, how much a write takes, how many are taken and whether flushes fail; what a run ends with, how much is
+// written, and how often it is flushed. A write that takes nothing is a failed one too, after which nothing is flushed. After
+// a decoder's fault a flush that fails changes nothing.
 #[test]
-fn a_byte_a_write(rt: HostRuntime) {
-    let mut sink = Sink::new(1, 8, false);
-    check(&rt, 0x58, &mut sink, Ok(2), &FIVES);
-    assert!(rt; sink.flushes() > 0);
-}
-
-// A write that takes nothing is a failed one too.
-#[test]
-fn failed_writes(rt: HostRuntime) {
-    for (most, writes_left, count) in [(8, 0, 0), (0, 9, 0), (1, 3, 3), (4, 1, 4)] {
-        let mut sink = Sink::new(most, writes_left, false);
-        check(&rt, 0x58, &mut sink, Err(Fault::Io), &FIVES[..count]);
+fn runs_into_sinks(rt: HostRuntime) {
+    let rows = [
+        (0x58, 8, 0, false, Err(Fault::Io), 0, 0),
+        (0x58, 0, 9, false, Err(Fault::Io), 0, 0),
+        (0x58, 4, 1, false, Err(Fault::Io), 4, 0),
+        (0x58, 1, 8, false, Ok(2), 8, 1),
+        (0x58, 1, 9, false, Ok(2), 8, 1),
+        (0x58, 8, 9, true, Err(Fault::Io), 8, 1),
+        (0x59, 8, 9, true, BAD_FOOTER, 4, 1),
+        (0x59, 32, 9, false, BAD_FOOTER, 4, 1),
+    ];
+    for (last, most, writes_left, fails, want, count, flushes) in rows {
+        for kind in [ErrorKind::Other, ErrorKind::Interrupted] {
+            let mut sink = Sink::new(most, writes_left, fails, kind);
+            check(&rt, last, &mut sink, want, &FIVES[..count]);
+            assert!(rt; sink.flushes() == flushes, "{last} {most} {writes_left}");
+        }
     }
 }
 
 #[test]
 fn each_write_failed(rt: HostRuntime) {
     for writes_left in 0..8u32 {
-        let mut sink = Sink::new(1, writes_left, false);
+        let mut sink = Sink::new(1, writes_left, false, ErrorKind::Other);
         let front = &FIVES[..writes_left as usize];
         check(&rt, 0x58, &mut sink, Err(Fault::Io), front);
-    }
-    for writes_left in 8..10 {
-        check(
-            &rt,
-            0x58,
-            &mut Sink::new(1, writes_left, false),
-            Ok(2),
-            &FIVES,
-        );
-    }
-}
-
-#[test]
-fn failed_flushes(rt: HostRuntime) {
-    check(
-        &rt,
-        0x58,
-        &mut Sink::new(8, 9, true),
-        Err(Fault::Io),
-        &FIVES,
-    );
-    // The decoder's fault stands.
-    check(
-        &rt,
-        0x59,
-        &mut Sink::new(8, 9, true),
-        BAD_FOOTER,
-        &FIVES[..4],
-    );
-}
-
-#[test]
-fn a_fault_after_samples(rt: HostRuntime) {
-    let mut sink = Sink::new(32, 9, false);
-    check(&rt, 0x59, &mut sink, BAD_FOOTER, &FIVES[..4]);
-    assert!(rt; sink.flushes() > 0);
-}
-
-#[test]
-fn each_read_failed(rt: HostRuntime) {
-    let bytes = two_frames(0x58);
-    for left in 0..65 {
-        let mut sink = Sink::new(32, 9, false);
-        let end = run_into(rt.alloc(), FailsOnce::new(&bytes, left), &mut sink);
-        let want = match left {
-            0..53 => 0,
-            53..64 => 4,
-            _ => 8,
-        };
-        assert!(rt; end == Err(Fault::Io), "{left}");
-        assert!(rt; sink.written() == &FIVES[..want], "{left}");
     }
 }
 
@@ -278,7 +227,7 @@ fn write_rest<R: Read + Drop>(
 fn the_rest_of_a_stream(rt: HostRuntime) -> Result<(), Fail> {
     let mut flac = FlacReader::new(rt.alloc(), Cursor::new(two_frames(0x58)))?;
     assert!(rt; gives_each(&mut flac, &[Some(5)]));
-    let mut sink = Sink::new(32, 9, false);
+    let mut sink = Sink::new(32, 9, false, ErrorKind::Other);
     assert!(rt; write_rest(rt.alloc(), &mut flac, &mut sink) == Ok(1));
     assert!(rt; sink.written() == &FIVES[..4]);
     Ok(())
