@@ -8,7 +8,7 @@ use Rattle.claxon_format.specs.Bits.{residue}
 use Rattle.claxon_format.specs.Predict.{wrap, floor_shift}
 use Rattle.claxon_format.specs.Stereo.{parity, left_of, right_of, zipped, unmixed}
 use Rattle.claxon_frame.specs.Block.{chunks}
-use Rattle.claxon_input.proofs.Wraps.{Rep, rep_fits, rep_add, rep_sub, rep_mul, rep_num}
+use Rattle.claxon_format.proofs.Wraps.{Rep, rep_fits, rep_add, rep_sub, rep_mul, rep_num}
 
 -- ---- one place
 

@@ -11,10 +11,5 @@ pub mod PartitionLoop
 pub mod PartitionsAhead
 pub mod KindNumbers
 pub mod WastedBits
-pub mod RestoreLoop
-pub mod Predictors
-pub mod Lanes
-pub mod LastCoefficients
-pub mod Sums
-pub mod SampleLoop
 pub mod ScaledSamples
+pub mod OrderZero

@@ -2,7 +2,7 @@ use Rattle.std.proofs.Common.{◌≡◌, ◌-◌, length, arith}
 use Rattle.claxon_format.specs.read.Subframe.{fixed_at}
 use Rattle.claxon_format.specs.read.Residual.{residual_at}
 use Rattle.claxon_input.proofs.CallsInTurn.{went_none, gives_after}
-use Rattle.claxon_subframe.proofs.RestoreLoop.{fixed_0_at}
+use Rattle.claxon_subframe.proofs.OrderZero.{fixed_0_at}
 use Rattle.claxon_subframe.proofs.subframe.decode_fixed.Goals as goal
 
 pub returns-then-order-eq0 : goal.returns-then-order-eq0

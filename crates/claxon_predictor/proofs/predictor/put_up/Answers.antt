@@ -1,0 +1,8 @@
+use Rattle.claxon_predictor.proofs.Sums.{nearest_up, farther_up}
+use Rattle.claxon_predictor.proofs.predictor.put_up.Goals as goal
+
+pub returns-clause-nearest : goal.returns-clause-nearest
+returns-clause-nearest c = λ sum e. nearest_up c.args.sums c.from-up.result c.args.farther c.args.nearest sum c.args.shift c.requires.sums c.ranges.nearest c.requires.shift c.from-up.ensures e
+
+pub returns-clause-farther : goal.returns-clause-farther
+returns-clause-farther c = λ sum e. farther_up c.args.sums c.from-up.result c.args.farther c.args.nearest sum c.args.shift c.requires.sums c.ranges.farther c.requires.shift c.from-up.ensures e
