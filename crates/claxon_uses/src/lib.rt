@@ -5,6 +5,7 @@ mod blocks;
 mod damaged;
 mod facts;
 mod frames;
+pub mod info;
 mod samples;
 mod streams;
 mod tags;
