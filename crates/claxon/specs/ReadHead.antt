@@ -16,7 +16,8 @@ use Rattle.claxon_input.specs.Promises.{IsStarved, TakesCode, AnswersCode, Takes
 use Rattle.claxon_input.specs.Source.{Source}
 use Rattle.claxon_input.specs.State.{State, bytes_in}
 use Rattle.claxon_metadata.specs.MetadataBlock.{HasBounds, MayStarve, info_view}
-use Rattle.claxon_metadata.specs.VorbisComment.{HavePlaces, comment_view}
+use Rattle.claxon_metadata.specs.VorbisComment.{comment_view}
+use Rattle.claxon_tags.specs.TagEntries.{HavePlaces}
 use Rattle.claxon.specs.declared.head.FlacReaderOptions.{FlacReaderOptions}
 use Rattle.claxon_metadata.specs.declared.metadata.StreamInfo.{StreamInfo}
 use Rattle.claxon_metadata.specs.declared.metadata.VorbisComment.{VorbisComment}

@@ -7,7 +7,7 @@ use Rattle.claxon_format.specs.Streams.{stream_of, with_samples}
 use Rattle.claxon_input.specs.declared.error.Error.{Error}
 use Rattle.claxon_input.specs.declared.error.Error.TheVariants.{OutOfMemory}
 use Rattle.claxon_metadata.specs.MetadataBlock.{HasBounds, info_view}
-use Rattle.claxon_metadata.specs.VorbisComment.{entry_view}
+use Rattle.claxon_tags.specs.TagEntries.{entry_view}
 use Rattle.claxon_metadata.specs.declared.metadata.StreamInfo.{StreamInfo}
 use Rattle.claxon_metadata.specs.declared.metadata.VorbisComment.{VorbisComment}
 use Rattle.claxon.specs.ReadHead.{found_view, head_view}

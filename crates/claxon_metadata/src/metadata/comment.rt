@@ -11,7 +11,8 @@ ghost use Rattle.claxon_input.specs.State.{bytes_in};
 ghost use Rattle.claxon_input.specs.Gives.{Gives, GivesOrStarves};
 ghost use Rattle.claxon_input.specs.Error.{IsFault};
 ghost use Rattle.claxon_metadata.specs.ReadMetadataBlock.{CommentIsRead};
-ghost use Rattle.claxon_metadata.specs.VorbisComment.{HavePlaces, IsPlace, StarvesBehindVendorLength, entry_view, entries_view, kept_view};
+ghost use Rattle.claxon_metadata.specs.VorbisComment.{StarvesBehindVendorLength, kept_view};
+ghost use Rattle.claxon_tags.specs.TagEntries.{HavePlaces, IsPlace, entry_view, entries_view};
 
 use super::{MAX_BLOCK_LENGTH, VorbisComment, read_bytes};
 use claxon_input::error::{Error, Result};

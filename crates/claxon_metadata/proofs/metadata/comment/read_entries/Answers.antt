@@ -4,7 +4,7 @@ use Rattle.claxon_format.specs.Fault.{fault_text, ExcessData, EntriesMissing}
 use Rattle.claxon_metadata.specs.VorbisComment.{kept_view}
 use Rattle.claxon_metadata.proofs.CommentEntries.{entries_next, kept_more, kept_same, length_err, text_err, excess, few, entries_end}
 use Rattle.claxon_input.proofs.Faults.{stops_fault}
-use Rattle.claxon_metadata.proofs.TagPlaces.{places_push}
+use Rattle.claxon_tags.proofs.TagPlaces.{places_push}
 use Rattle.claxon_input.proofs.Memory.{fed_exit, starved_exit}
 use Rattle.claxon_metadata.proofs.metadata.comment.read_entries.Goals as goal
 use Rattle.claxon_metadata.proofs.metadata.comment.read_entries.Goals.{in-Some+in_ok-push, in_default, then-loop-missing-test+else-bytes_left-ge4, else-loop-missing-test}

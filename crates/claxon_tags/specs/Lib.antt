@@ -1,0 +1,2 @@
+pub mod TagEntries
+pub mod Tags
