@@ -53,7 +53,6 @@ fn push_format<A: Allocator + Copy>(
 ) -> Result<(), AllocError>
     ensures { Adds (format_text info.now) result text.old text.new }
 {
-    let length = length_text(alloc, info.samples, info.sample_rate)?;
     push_number(
         alloc,
         text,
@@ -68,7 +67,11 @@ fn push_format<A: Allocator + Copy>(
         Some(u64::from(info.bits_per_sample)),
     )?;
     push_number(alloc, text, "samples", info.samples)?;
-    push_line(text, "length", length.as_str())
+    push_line(
+        text,
+        "length",
+        length_text(alloc, info.samples, info.sample_rate)?.as_str(),
+    )
 }
 
 // The sizes of blocks and frames, and the sum of the samples.
@@ -79,7 +82,6 @@ fn push_sizes<A: Allocator + Copy>(
 ) -> Result<(), AllocError>
     ensures { Adds (sizes_text info.now) result text.old text.new }
 {
-    let md5sum = md5_text(alloc, &info.md5sum)?;
     push_number(
         alloc,
         text,
@@ -94,7 +96,7 @@ fn push_sizes<A: Allocator + Copy>(
     )?;
     push_number(alloc, text, "min_frame_size", widened(info.min_frame_size))?;
     push_number(alloc, text, "max_frame_size", widened(info.max_frame_size))?;
-    push_line(text, "md5sum", md5sum.as_str())
+    push_line(text, "md5sum", md5_text(alloc, &info.md5sum)?.as_str())
 }
 
 fn push_vendor<A: Allocator + Copy>(

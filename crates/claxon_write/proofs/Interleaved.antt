@@ -12,8 +12,8 @@ use Rattle.claxon_format.specs.Streams.{interleave, samples_at}
 use Rattle.claxon_frame.specs.Block.{duration_of}
 use Rattle.claxon.proofs.SamplesInTurn.{same_duration}
 use Rattle.claxon_write.specs.Samples.{bytes_of_sample, raised, silence}
-use Rattle.claxon_write.specs.SampleBytes.{places}
-use Rattle.claxon_write.proofs.Puts.{places_all, places_more, places_none}
+use Rattle.claxon_sample_bytes.specs.SampleBytes.{places}
+use Rattle.claxon_sample_bytes.proofs.SampleBytes.{places_all, places_more, places_none}
 
 one_place : (channels : List (List ℤ)) (i : ℕ) → places channels i 1 ≡ samples_at channels i
 unfolding places

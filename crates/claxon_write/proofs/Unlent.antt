@@ -25,7 +25,7 @@ use Rattle.claxon.specs.Opening.{flac_bytes}
 use Rattle.claxon.specs.declared.reader.FlacReader.{FlacReader}
 use Rattle.claxon_write.specs.Decoded.{Ran, EndsAfter, Gathers, Decodes, FailsToWrite, TooMany}
 use Rattle.claxon_write.specs.Run.{DecoderStops, FrameStops, StopsBehindFrames, StopsEarly}
-use Rattle.claxon_write.specs.SampleBytes.{bytes_of_samples}
+use Rattle.claxon_sample_bytes.specs.SampleBytes.{bytes_of_samples}
 use Rattle.claxon_write.specs.Written.{AppendsFront, FailsToPut, Puts, held, held_and_waiting, output_failures, waiting}
 use Rattle.claxon_write.specs.declared.output.Output.{Output}
 use Rattle.claxon_write.proofs.Puts.{puts_both, puts_as, fails_after, fails_as, held_alone, appends_keeps, front_all}

@@ -1,5 +1,4 @@
 pub mod Lent
-pub mod SampleBytes
 pub mod Written
 pub mod Decoded
 pub mod Output

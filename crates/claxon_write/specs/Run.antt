@@ -11,7 +11,7 @@ use Rattle.claxon_input.specs.declared.error.Error.{Error}
 use Rattle.claxon_input.specs.declared.error.Error.TheVariants.{OutOfMemory}
 use Rattle.claxon.specs.SampleRuns.{samples_of}
 use Rattle.claxon_write.specs.Decoded.{IsLimit, Ran}
-use Rattle.claxon_write.specs.SampleBytes.{bytes_of_samples}
+use Rattle.claxon_sample_bytes.specs.SampleBytes.{bytes_of_samples}
 
 -- An Ok says that a head, the frames of blocks and a rest of fewer than two bytes were to come, and that just the samples of these blocks, so many, were written.
 abbrev pub RunsToTheEnd : {W : Type 0} → (W → Option (List ℕ)) → Result ℕ Error → State ℕ → W → W → Type 0

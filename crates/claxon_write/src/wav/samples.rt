@@ -7,7 +7,7 @@ ghost use Rattle.claxon_format.specs.Streams.{interleave, samples_at};
 ghost use Rattle.claxon_frame.specs.Block.{duration_of};
 ghost use Rattle.claxon_write.specs.Samples.{IsTooWide, packed_block, bytes_of_sample, raised, silence};
 ghost use Rattle.claxon_wav_header.specs.WaveFile.{sample_size};
-ghost use Rattle.claxon_write.specs.SampleBytes.{places};
+ghost use Rattle.claxon_sample_bytes.specs.SampleBytes.{places};
 
 use crate::wav::error::{Error, Result};
 use claxon::Block;

@@ -7,5 +7,5 @@ returns g c =
     let greatest = simp c.from-2.ensures at c.in_ok-push_number-2.ensures in
     let shortest = simp c.widened.ensures at c.in_ok-push_number-3.ensures in
     let longest = simp c.widened-2.ensures at c.in_ok-push_number-4.ensures in
-    let sum = simp (c.as_str.ensures.value, c.in_ok-md5sum.ensures) at c.push_line.ensures in
+    let sum = simp (c.as_str.ensures.value, c.in_ok-md5_text.ensures) at c.push_line.ensures in
     simp (← append_assoc) (rw (← least, ← greatest, ← shortest, ← longest) sum)

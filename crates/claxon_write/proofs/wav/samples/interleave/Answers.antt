@@ -1,6 +1,6 @@
 use Rattle.std.proofs.Common.{◌≡◌, ◌*◌, ◌∙◌, ℕ, sym, ap, take, arith}
 use Rattle.claxon_frame.specs.Block.{duration_of}
-use Rattle.claxon_write.proofs.Puts.{places_none}
+use Rattle.claxon_sample_bytes.proofs.SampleBytes.{places_none}
 use Rattle.claxon_write.proofs.Interleaved.{all_places, before_place, mono, places_next, stereo}
 use Rattle.claxon_write.proofs.wav.samples.interleave.Goals as goal
 

@@ -1,5 +1,5 @@
 use Rattle.std.proofs.Common.{◌≡◌, ◌*◌, take}
-use Rattle.claxon_write.specs.SampleBytes.{places}
+use Rattle.claxon_sample_bytes.specs.SampleBytes.{places}
 use Rattle.claxon_write.proofs.wav.samples.interleave.Given as goal
 
 abbrev pub invariant-loop-place : goal.invariant-loop-place

@@ -1,7 +1,7 @@
 use Rattle.std.proofs.Common.{◌+◌, ◌*◌, ◌∷◌, [], get_or, pos, refl, sym, arith, rules, w32}
 use mir.Val.{SFits}
 use Rattle.std.proofs.lemmas.Int.{to_z-of_z}
-use Rattle.claxon_write.proofs.Puts.{places_none}
+use Rattle.claxon_sample_bytes.proofs.SampleBytes.{places_none}
 use Rattle.claxon_write.proofs.Interleaved.{pair_more}
 use Rattle.claxon_write.proofs.wav.samples.pair.Goals as goal
 

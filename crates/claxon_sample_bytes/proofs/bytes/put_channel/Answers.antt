@@ -1,9 +1,9 @@
 use Rattle.std.proofs.Common.{◌≡◌, ◌*◌, length, get_or, pos, arith, rules}
 use Rattle.std.specs.Int.{w32}
 use mir.Val.{SFits}
-use Rattle.claxon_write.specs.SampleBytes.{sample_bytes}
-use Rattle.claxon_write.proofs.Places.{sample_bytes_as, channel_none, channel_more, room_for_place}
-use Rattle.claxon_write.proofs.output.put_channel.Goals as goal
+use Rattle.claxon_sample_bytes.specs.SampleBytes.{sample_bytes}
+use Rattle.claxon_sample_bytes.proofs.Places.{sample_bytes_as, channel_none, channel_more, room_for_place}
+use Rattle.claxon_sample_bytes.proofs.bytes.put_channel.Goals as goal
 
 pub loop-i-init : goal.loop-i-init
 loop-i-init g c = channel_none (4 * g.row.CHANNELS) (4 * c.args.ch) c.args.samples.now c.args.room.now

@@ -9,8 +9,8 @@ use Rattle.std.proofs.lemmas.List.Edits.{get_or-between}
 use Rattle.std.proofs.lemmas.Option.{get_or_from_slice_get, slice_get_within}
 use borrow.Rule.Slice.PartMut.{put_mid}
 use Rattle.claxon_format.specs.Streams.{samples_at}
-use Rattle.claxon_write.specs.SampleBytes.{PutBehind, place_bytes, bytes_of_samples, places, sample_bytes}
-use Rattle.claxon_write.proofs.Puts.{bytes_append, bytes_more, places_more}
+use Rattle.claxon_sample_bytes.specs.SampleBytes.{PutBehind, place_bytes, bytes_of_samples, places, sample_bytes}
+use Rattle.claxon_sample_bytes.proofs.SampleBytes.{bytes_append, bytes_more, places_more}
 
 pub length-sample_bytes : (x : ℤ) → length (sample_bytes x) ≡ 4
 unfolding sample_bytes

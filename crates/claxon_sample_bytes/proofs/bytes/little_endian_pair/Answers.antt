@@ -2,9 +2,9 @@ use Rattle.std.proofs.Common.{◌≡◌, ◌∙◌, ◌++◌, ◌*◌, ◌+◌, 
 use Rattle.std.specs.Int.{to_le_bytes, w32, w64}
 use Rattle.std.proofs.lemmas.Int.{to_z-of_z}
 use mir.Val.{of_z}
-use Rattle.claxon_write.specs.SampleBytes.{sample_bytes}
-use Rattle.claxon_write.proofs.Places.{pair_bytes}
-use Rattle.claxon_write.proofs.output.little_endian_pair.Goals as goal
+use Rattle.claxon_sample_bytes.specs.SampleBytes.{sample_bytes}
+use Rattle.claxon_sample_bytes.proofs.Places.{pair_bytes}
+use Rattle.claxon_sample_bytes.proofs.bytes.little_endian_pair.Goals as goal
 
 pub returns : goal.returns
 unfolding sample_bytes

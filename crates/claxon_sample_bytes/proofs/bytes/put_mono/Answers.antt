@@ -1,10 +1,10 @@
 use Rattle.std.proofs.Common.{◌≡◌, ◌+◌, ◌*◌, ◌-◌, ◌∷◌, [], length, get_or, pos, refl, sym, arith, rules}
 use Rattle.std.specs.Int.{w32}
 use mir.Val.{SFits}
-use Rattle.claxon_write.specs.SampleBytes.{sample_bytes}
-use Rattle.claxon_write.proofs.Places.{sample_bytes_as, mono_more, all_written}
-use Rattle.claxon_write.proofs.Puts.{bytes_none}
-use Rattle.claxon_write.proofs.output.put_mono.Goals as goal
+use Rattle.claxon_sample_bytes.specs.SampleBytes.{sample_bytes}
+use Rattle.claxon_sample_bytes.proofs.Places.{sample_bytes_as, mono_more, all_written}
+use Rattle.claxon_sample_bytes.proofs.SampleBytes.{bytes_none}
+use Rattle.claxon_sample_bytes.proofs.bytes.put_mono.Goals as goal
 
 pub loop-i-init : goal.loop-i-init
 loop-i-init c = sym (bytes_none (c.args.samples.now ∷ []))

@@ -1,0 +1,2 @@
+pub mod SampleBytes
+pub mod Places
