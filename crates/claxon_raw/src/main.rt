@@ -1,7 +1,8 @@
 //! Writes the samples of a FLAC file as bytes, or prints its tags.
 #![tactic(auto)]
 
-use claxon_write::{command, words};
+use claxon_commands::raw::command;
+use claxon_write::words;
 use std::io::Write;
 use std::process::ExitCode;
 

@@ -1,9 +1,10 @@
 //! Whole files, as another decoder writes them.
 use crate::files::path_of;
 use claxon::FlacReader;
+use claxon_commands::wav::command;
 use claxon_text::progress::Progress;
 use claxon_wav_header::Layout;
-use claxon_write::wav::{Result, WavWriter, command, convert};
+use claxon_write::wav::{Result, WavWriter, convert};
 use std::alloc::Global;
 use std::io::Cursor;
 use std::test::Fail;

@@ -5,7 +5,6 @@ mod blocks;
 mod damaged;
 mod facts;
 mod frames;
-pub mod info;
 mod samples;
 mod streams;
 mod tags;

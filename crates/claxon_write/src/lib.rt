@@ -1,4 +1,4 @@
-//! The samples of a stream written as bytes or as a WAV file, and what `claxon_raw` does for its arguments.
+//! The samples of a stream written as bytes or as a WAV file, and the arguments of programs.
 #![tactic(auto)]
 
 mod arguments;
@@ -6,6 +6,6 @@ mod output;
 mod stream;
 pub mod wav;
 
-pub use arguments::{command, words};
+pub use arguments::words;
 pub use output::Output;
 pub use stream::{run, write_samples};

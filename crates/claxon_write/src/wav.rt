@@ -1,11 +1,9 @@
 //! The samples of a FLAC stream as a WAV file.
-mod arguments;
 mod blocks;
 mod error;
 mod samples;
 mod writer;
 
-pub use arguments::command;
 pub use blocks::convert;
 pub use error::{Error, Result};
 pub use writer::WavWriter;

@@ -1,6 +1,6 @@
-//! What `claxon_info` does for its arguments.
-use crate::facts::write_facts;
+//! The facts that the head of a FLAC file tells.
 use claxon::{FlacReader, FlacReaderOptions, Result};
+use claxon_uses::write_facts;
 use std::fs;
 use std::io::{Read, Write};
 use std::rt::Files;

@@ -1,10 +1,8 @@
-//! What `claxon_wav` does for its arguments.
-use crate::wav::blocks::convert;
-use crate::wav::error::{Error, Result};
-use crate::wav::writer::WavWriter;
+//! A FLAC file as a WAV file.
 use claxon::FlacReader;
 use claxon_text::progress::Progress;
 use claxon_wav_header::Layout;
+use claxon_write::wav::{Error, Result, WavWriter, convert};
 use std::fs;
 use std::io::{Read, Write};
 use std::os::unix::fs::MetadataExt;
