@@ -11,7 +11,7 @@ ghost use Rattle.claxon_input.specs.State.{bytes_in};
 ghost use Rattle.claxon_input.specs.Gives.{Gives, GivesOrStarves};
 ghost use Rattle.claxon_input.specs.Error.{IsFault};
 ghost use Rattle.claxon_metadata.specs.ReadMetadataBlock.{CommentIsRead};
-ghost use Rattle.claxon_metadata.specs.VorbisComment.{StarvesBehindVendorLength, kept_view};
+ghost use Rattle.claxon_metadata.specs.VorbisComment.{EndIsTested, StarvesBehindVendorLength, kept_view};
 ghost use Rattle.claxon_tags.specs.TagEntries.{HavePlaces, IsPlace, entry_view, entries_view};
 
 use super::{MAX_BLOCK_LENGTH, VorbisComment, read_bytes};
@@ -118,13 +118,22 @@ fn read_entries<R: ReadBytes, A: Allocator + Copy>(
         missing -= 1;
         bytes_left -= 4 + entry_length;
     }
+    check_end(missing, bytes_left)?;
+    Ok(comments)
+}
+
+// Whether all entries were read, and all bytes.
+#[tactic(auto, unfolding(claxon_format::specs::Fault::fault_text))]
+fn check_end(missing: u32, bytes_left: u32) -> Result<()>
+    ensures { EndIsTested missing bytes_left result }
+{
     if bytes_left > 0 {
         return Err(Error::FormatError("Vorbis comment block has excess data"));
     }
     if missing > 0 {
         return Err(Error::FormatError("Vorbis comment block contains wrong number of entries"));
     }
-    Ok(comments)
+    Ok(())
 }
 
 #[tactic(auto, unfolding(claxon_format::specs::read::Comments::entry_length_at, claxon_format::specs::Fault::fault_text))]
