@@ -1,6 +1,7 @@
 use Rattle.std.proofs.Common.{arith}
 use Rattle.std.proofs.lemmas.Grind.{common_steps}
 use Rattle.claxon_metadata.proofs.ContentByType.{vendor_stands}
+use Rattle.claxon_metadata.proofs.CommentParts.{comment_whole}
 use Rattle.claxon_metadata.proofs.metadata.comment.read_vorbis_comment_block.Goals as goal
 
 pub returns-in_err-vendor-clause-vendor : goal.returns-in_err-vendor-clause-vendor
@@ -29,3 +30,7 @@ returns-in_err-comments-clause-within g c = grind (arith, common_steps)
 
 pub returns-clause-within : goal.returns-clause-within
 returns-clause-within g c = grind (arith, common_steps)
+
+pub returns-clause-gives : goal.returns-clause-gives
+returns-clause-gives g c =
+    comment_whole c.args.length (omega arith) (omega arith) c.in_ok-vendor_length.ensures.gives c.in_ok-vendor.ensures.gives c.in_ok-count.ensures.gives c.in_ok-comments.ensures.gives
