@@ -1,7 +1,8 @@
 //! Reads Vorbis comments.
 ghost use Rattle.std.specs.Prelude.{◌≡◌, ◌≤◌, ◌-◌, ◌/◌, true, false, not, string_bytes, IfOk, IfSome, MatchResult};
 ghost use Rattle.std.specs.List.{list_all, position};
-ghost use Rattle.claxon_format.specs.Comments.{is_separator, is_name_byte, not_utf8};
+ghost use Rattle.claxon_format.specs.Comments as comments;
+ghost use Rattle.claxon_format.specs.Comments.{is_separator, not_utf8};
 ghost use Rattle.claxon_format.specs.read.Comments.{entry_at, kept_at, entry_length_at, entries_at, vendor_length_at, vendor_at, count_at, comment_at};
 ghost use Rattle.claxon_format.specs.Fault.{EntryNotUtf8};
 ghost use Rattle.claxon_format.specs.Metadata.{most_bytes};
@@ -195,7 +196,13 @@ fn first_separator(bytes: &[u8]) -> Option<usize>
 
 // Whether these are bytes that a name may have.
 fn is_name(bytes: &[u8]) -> bool
-    ensures { result ≡ list_all is_name_byte bytes.now }
+    ensures { result ≡ list_all comments.is_name_byte bytes.now }
 {
-    bytes.iter().all(|byte| (0x20..=0x7d).contains(byte))
+    bytes.iter().all(|byte| is_name_byte(*byte))
+}
+
+fn is_name_byte(byte: u8) -> bool
+    ensures { result ≡ comments.is_name_byte byte }
+{
+    (0x20..=0x7d).contains(&byte)
 }
