@@ -8,7 +8,41 @@ use Rattle.claxon_format.specs.Reading.{Done}
 use Rattle.claxon_format.specs.read.Comments.{comment_at, count_at, entries_at, vendor_at, vendor_length_at}
 use Rattle.claxon_input.specs.Gives.{Went}
 use Rattle.claxon_input.specs.State.{State}
-use Rattle.claxon_input.proofs.CallsInTurn.{went_both}
+use Rattle.claxon_input.proofs.CallsInTurn.{went_both, StopsAs}
+
+-- where one of them stops, so does the whole
+module _ {n : ℕ} (s : List ℕ) (long : 8 ≤ n) (small : n ≤ most_bytes) where
+  not_short : ltb n 8 ≡ false
+  not_short = le-ltb _ _ long
+
+  not_large : ltb most_bytes n ≡ false
+  not_large = le-ltb _ _ small
+
+  pub length_stops : StopsAs (vendor_length_at (n - 8) s) (comment_at n s)
+  unfolding comment_at
+  length_stops = record { fault = λ f rest e. rw (not_short, not_large, e) refl; short = λ e. rw (not_short, not_large, e) refl }
+
+  pub vendor_stops : (v : ℕ) (m : List ℕ) → vendor_length_at (n - 8) s ≡ Done v m → StopsAs (vendor_at v m) (comment_at n s)
+  unfolding comment_at
+  vendor_stops v m p = record { fault = λ f rest e. rw (not_short, not_large, p, e) refl; short = λ e. rw (not_short, not_large, p, e) refl }
+
+  pub count_stops : (v : ℕ) (vendor m k : List ℕ) → vendor_length_at (n - 8) s ≡ Done v m → vendor_at v m ≡ Done vendor k → StopsAs (count_at (n / 4) k) (comment_at n s)
+  unfolding comment_at
+  count_stops v vendor m k p q = record { fault = λ f rest e. rw (not_short, not_large, p, q, e) refl; short = λ e. rw (not_short, not_large, p, q, e) refl }
+
+  entries_stop : (v count : ℕ) (vendor m k j : List ℕ) → vendor_length_at (n - 8) s ≡ Done v m → vendor_at v m ≡ Done vendor k → count_at (n / 4) k ≡ Done count j
+      → StopsAs (entries_at count (n - 8 - v) j) (comment_at n s)
+  unfolding comment_at
+  entries_stop v count vendor m k j p q r = record { fault = λ f rest e. rw (not_short, not_large, p, q, r, e) refl; short = λ e. rw (not_short, not_large, p, q, r, e) refl }
+
+pub entries_err : {n v count : ℕ} {vendor : List ℕ} {a b c d : State ℕ} → 8 ≤ n → n ≤ most_bytes
+    → Went a b (λ s m. vendor_length_at (n - 8) s ≡ Done v m) → Went b c (λ s m. vendor_at v s ≡ Done vendor m) → Went c d (λ s m. count_at (n / 4) s ≡ Done count m)
+    → Went a d (λ s m. StopsAs (entries_at count (n - 8 - v) m) (comment_at n s))
+entries_err {n = n} {v = v} {count = count} {vendor = vendor} {a = a} {b = b} {c = c} {d = d} long small f g h =
+    went_both _ f
+    (went_both (λ m j. vendor_length_at (n - 8) a.coming ≡ Done v m → StopsAs (entries_at count (n - 8 - v) j) (comment_at n a.coming)) g h
+    (λ q r p. entries_stop a.coming long small v count vendor b.coming c.coming d.coming p q r))
+    (λ p k. k p)
 
 comment_read : (n v count : ℕ) (vendor : List ℕ) (entries : List Entry) (s m k j rest : List ℕ) → 8 ≤ n → n ≤ most_bytes
     → vendor_length_at (n - 8) s ≡ Done v m → vendor_at v m ≡ Done vendor k → count_at (n / 4) k ≡ Done count j → entries_at count (n - 8 - v) j ≡ Done entries rest
