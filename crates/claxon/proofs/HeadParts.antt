@@ -76,9 +76,6 @@ not_second found CueSheet h = (refl, refl)
 not_second found Picture h = (refl, refl)
 not_second found ReservedBlock h = (refl, refl)
 
-pub comments_info : (found : Option Comment) (c : Content) (s : List ℕ) → is_info c ≡ true → comments_at found c s ≡ Faulty SecondStreaminfo s
-comments_info found c s i = rw i refl
-
 pub comments_second : (found : Option Comment) (c : Content) (s : List ℕ) → is_info c ≡ false → is_second found c ≡ true → comments_at found c s ≡ Faulty SecondComment s
 comments_second found c s i k = rw (i, k) refl
 

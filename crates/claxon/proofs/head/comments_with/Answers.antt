@@ -1,16 +1,16 @@
-use Rattle.std.proofs.Common.{refl, sym, ◌∙◌}
-use Rattle.claxon_format.specs.Fault.{fault_text, SecondComment, SecondStreaminfo}
+use Rattle.std.proofs.Common.{refl, rules, sym, ◌∙◌}
+use Rattle.claxon_format.specs.Fault.{fault_text, SecondComment}
 use Rattle.claxon_input.proofs.CallsInTurn.{went_none}
 use Rattle.claxon_input.proofs.Faults.{stops_fault}
 use Rattle.claxon_format.specs.MetadataBlocks.{Comments}
 use Rattle.claxon_metadata.specs.VorbisComment.{comment_view}
 use Rattle.claxon.specs.ReadHead.{found_view}
-use Rattle.claxon.proofs.HeadParts.{comments_done, comments_info, comments_kept, comments_second, is_found}
+use Rattle.claxon.proofs.HeadParts.{comments_done, comments_kept, comments_second, is_found}
 use Rattle.claxon.proofs.head.comments_with.Goals as goal
 
 pub returns-in-StreamInfo-clause-gives : goal.returns-in-StreamInfo-clause-gives
 unfolding fault_text
-returns-in-StreamInfo-clause-gives g c here = stops_fault SecondStreaminfo refl refl (refl, refl) (went_none _ _ (comments_info (found_view c.args.found) _ _ (let h = c.in-StreamInfo.is in rw h refl)))
+returns-in-StreamInfo-clause-gives g c = search rules
 
 pub returns-then-is_some-clause-gives : goal.returns-then-is_some-clause-gives
 unfolding fault_text
