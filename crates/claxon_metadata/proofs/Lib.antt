@@ -1,4 +1,3 @@
 pub mod CommentTexts
 pub mod CommentEntries
 pub mod ContentByType
-pub mod CommentParts
