@@ -13,7 +13,9 @@ use Rattle.claxon_format.proofs.Heads.{Reads-marker}
 use Rattle.claxon_format.proofs.MetadataBlocks.{Reads-block}
 use Rattle.claxon_input.specs.declared.error.Error.{Error}
 use Rattle.claxon_input.specs.declared.error.Error.TheVariants.{OutOfMemory}
-use Rattle.claxon_input.specs.Gives.{Went}
+use Rattle.claxon_input.specs.Gives.{Stops, Went}
+use Rattle.claxon_input.specs.Promises.{IsStarved}
+use Rattle.claxon_input.proofs.Memory.{stops_no_memory}
 use Rattle.claxon_input.specs.State.{State}
 use Rattle.claxon_metadata.specs.MetadataBlock.{MayStarve}
 use Rattle.claxon.specs.ReadHead.{BlockWantsMemory, PassesBlocks, StarvesBehind, StarvesBehindBlocks, other_at}
@@ -70,6 +72,13 @@ here s h = (s, passes_none s, h.0, h.1, h.2, h.3, h.4, h.5)
 
 later : {s m : List ℕ} → PassesBlocks s m → BlockWantsMemory m → BlockWantsMemory s
 later h k = (k.0, passes_both h k.1, k.2, k.3, k.4, k.5, k.6, k.7)
+
+-- a call that takes no memory is refused none
+pub never_starved : {A X Y : Type 0} {r : Result A Error} {e : Error} {read : List X → Reading X Y} {a b : State X} → (y : Error) × (r ≡ Err y) × (y ≡ e) → Stops e read a b → IsStarved r → ⊥
+never_starved {r = r} {e = e} {read = read} {a = a} {b = b} p h starved =
+    let refused : e ≡ OutOfMemory = is_refused r e p starved in
+    let no : true ≡ false = rw refused at (stops_no_memory e read a b h) in
+    absurd cc
 
 -- behind the header of the next block
 pub starved_here : {A : Type 0} (a : State ℕ) {r : Result A Error} {e : Error} → (y : Error) × (r ≡ Err y) × (y ≡ e) → (e ≡ OutOfMemory → a.told ≡ true → HeaderInFront a.coming) → StarvesBehindBlocks r a

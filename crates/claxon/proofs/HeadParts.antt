@@ -1,10 +1,10 @@
 -- The reader of a head, read as the code reads it.
 use Rattle.std.proofs.Common.{◌≡◌, ℕ, zero, suc, ◌-◌, ◌<◌, Bool, true, false, cond, List, Option, None, Some, refl, ap, ◌∙◌, arith}
 use Rattle.std.specs.Prelude.{◌&&◌, ◌||◌}
-use Rattle.claxon_format.specs.MetadataBlocks.{Info, MetadataBlock as Block}
+use Rattle.claxon_format.specs.MetadataBlocks.{Content, Info, MetadataBlock as Block}
 use Rattle.claxon_format.specs.read.MetadataBlocks.{block_at}
 use Rattle.claxon_format.specs.Comments.{Comment}
-use Rattle.claxon_format.specs.Fault.{SecondComment, SecondStreaminfo, StreaminfoMissing, TooManyBlocks}
+use Rattle.claxon_format.specs.Fault.{Fault, SecondComment, SecondStreaminfo, StreaminfoMissing, TooManyBlocks}
 use Rattle.claxon_format.specs.Heads.{Options, Head, is_info, is_some, is_second, is_done, is_short, found_with, stream_marker}
 use Rattle.claxon_format.specs.read.Heads.{marker_at, others_at, after_first, head_at}
 use Rattle.claxon_format.specs.Reading.{Reading, Done, Faulty, Short, bind, test, pick, done}
@@ -14,7 +14,7 @@ use Rattle.claxon_input.specs.State.{State}
 use Rattle.claxon_input.specs.Gives.{Went}
 use Rattle.claxon_input.proofs.CallsInTurn.{went_both, went_map, StopsAs}
 use Rattle.claxon_metadata.specs.MetadataBlock.{flagged_view, content_view, info_view}
-use Rattle.claxon.specs.ReadHead.{PassesBlocks, found_view, other_at}
+use Rattle.claxon.specs.ReadHead.{PassesBlocks, comments_at, found_view, other_at}
 use Rattle.claxon.proofs.HeadMemory.{passes_both, passes_other}
 use Rattle.claxon_metadata.specs.declared.metadata.StreamInfo.{StreamInfo}
 use Rattle.claxon_metadata.specs.declared.metadata.VorbisComment.{VorbisComment}
@@ -28,17 +28,24 @@ pub other_stops : (found : Option Comment) (s : List ℕ) → StopsAs (block_at 
 unfolding other_at
 other_stops found s = stops_with _ refl
 
-pub other_info : (found : Option Comment) (b : Block) (s m : List ℕ) → block_at s ≡ Done b m → is_info b.content ≡ true → other_at found s ≡ Faulty SecondStreaminfo m
-unfolding other_at
-other_info found b s m e i = rw (e, i) refl
+found_stops : (p q : Bool) (f g : Fault) (y : Option Comment) (z : Bool × Option Comment) (m : List ℕ) → StopsAs (cond p (Faulty f m) (cond q (Faulty g m) (Done y m))) (cond p (Faulty f m) (cond q (Faulty g m) (Done z m)))
+found_stops true q f g y z m = record { fault = λ h rest e. cc; short = λ e. absurd cc }
+found_stops false true f g y z m = record { fault = λ h rest e. cc; short = λ e. absurd cc }
+found_stops false false f g y z m = record { fault = λ h rest e. absurd cc; short = λ e. absurd cc }
 
-pub other_second : (found : Option Comment) (b : Block) (s m : List ℕ) → block_at s ≡ Done b m → is_info b.content ≡ false → is_second found b.content ≡ true → other_at found s ≡ Faulty SecondComment m
-unfolding other_at
-other_second found b s m e i c = rw (e, i, c) refl
+found_done : (p q : Bool) (f g : Fault) (is_last : Bool) (y z : Option Comment) (m rest : List ℕ) → cond p (Faulty f m) (cond q (Faulty g m) (Done y m)) ≡ Done z rest → cond {A = Reading ℕ (Bool × Option Comment)} p (Faulty f m) (cond q (Faulty g m) (Done (is_last, y) m)) ≡ Done (is_last, z) rest
+found_done true q f g is_last y z m rest e = absurd cc
+found_done false true f g is_last y z m rest e = absurd cc
+found_done false false f g is_last y z m rest e = cc
 
-pub other_done : (found : Option Comment) (b : Block) (s m : List ℕ) → block_at s ≡ Done b m → is_info b.content ≡ false → is_second found b.content ≡ false → other_at found s ≡ Done (b.is_last, found_with found b.content) m
+-- behind the block
+pub other_tested : (found : Option Comment) (b : Block) (s m : List ℕ) → block_at s ≡ Done b m → StopsAs (comments_at found b.content m) (other_at found s)
 unfolding other_at
-other_done found b s m e i c = rw (e, i, c) refl
+other_tested found b s m e = rw e (found_stops (is_info b.content) (is_second found b.content) SecondStreaminfo SecondComment (found_with found b.content) (b.is_last, found_with found b.content) m)
+
+pub other_done : (found known : Option Comment) (b : Block) (s m rest : List ℕ) → block_at s ≡ Done b m → comments_at found b.content m ≡ Done known rest → other_at found s ≡ Done (b.is_last, known) rest
+unfolding other_at
+other_done found known b s m rest e k = rw e (found_done (is_info b.content) (is_second found b.content) SecondStreaminfo SecondComment b.is_last (found_with found b.content) known m rest k)
 
 -- ---- what the code keeps of blocks
 
@@ -69,11 +76,16 @@ not_second found CueSheet h = (refl, refl)
 not_second found Picture h = (refl, refl)
 not_second found ReservedBlock h = (refl, refl)
 
-pub other_kept : {A : Type 0} (found : Option Comment) (is_last : Bool) (block : MetadataBlock A) (s m : List ℕ) → NoInfo block → ((comment : VorbisComment A) → block ≡ CommentBlock comment → ⊥) → block_at s ≡ Done (flagged_view is_last block) m
-    → other_at found s ≡ Done (is_last, found) m
-other_kept found is_last block s m h k e =
+pub comments_second : (found : Option Comment) (c : Content) (s : List ℕ) → is_info c ≡ false → is_second found c ≡ true → comments_at found c s ≡ Faulty SecondComment s
+comments_second found c s i k = rw (i, k) refl
+
+pub comments_done : (found : Option Comment) (c : Content) (s : List ℕ) → is_info c ≡ false → is_second found c ≡ false → comments_at found c s ≡ Done (found_with found c) s
+comments_done found c s i k = rw (i, k) refl
+
+pub comments_kept : {A : Type 0} (found : Option Comment) (block : MetadataBlock A) (s : List ℕ) → NoInfo block → ((comment : VorbisComment A) → block ≡ CommentBlock comment → ⊥) → comments_at found (content_view block) s ≡ Done found s
+comments_kept found block s h k =
     let n = not_second found block k in
-    other_done found (flagged_view is_last block) s m e (not_info block h) n.0 ∙ ap (λ (z : Option Comment). Done (is_last, z) m) n.1
+    comments_done found (content_view block) s (not_info block h) n.0 ∙ ap (λ (z : Option Comment). Done z s) n.1
 
 -- ---- all blocks after the streaminfo
 

@@ -6,19 +6,20 @@ use Rattle.claxon_format.specs.Fault.{SecondComment, SecondStreaminfo}
 use Rattle.claxon_format.specs.Heads.{Options, Head, HeadCode, HeadFault, Marker, is_info, is_second, found_with, stream_marker}
 use Rattle.claxon_format.specs.read.Heads.{head_at}
 use Rattle.claxon_format.specs.Metadata.{BlockHeader, BlockHeaderCode}
-use Rattle.claxon_format.specs.MetadataBlocks.{MetadataBlock, BlockCode}
+use Rattle.claxon_format.specs.MetadataBlocks.{MetadataBlock as Block, BlockCode, Content}
 use Rattle.claxon_format.specs.Reading.{Each, Reading, and_then, done, test}
 use Rattle.claxon_input.specs.declared.error.Error.{Error}
 use Rattle.claxon_input.specs.declared.input.BufferedReader.{BufferedReader}
 use Rattle.claxon_input.specs.BufferedReader.{buffered_source}
-use Rattle.claxon_input.specs.Gives.{GivesOrStarves}
+use Rattle.claxon_input.specs.Gives.{Gives, GivesOrStarves}
 use Rattle.claxon_input.specs.Promises.{IsStarved, TakesCode, AnswersCode, TakesFault, NamesFault, EndsElse, LeavesRest}
 use Rattle.claxon_input.specs.Source.{Source}
 use Rattle.claxon_input.specs.State.{State, bytes_in}
-use Rattle.claxon_metadata.specs.MetadataBlock.{HasBounds, MayStarve, info_view}
+use Rattle.claxon_metadata.specs.MetadataBlock.{HasBounds, MayStarve, content_view, info_view}
 use Rattle.claxon_metadata.specs.VorbisComment.{comment_view}
 use Rattle.claxon_tags.specs.TagEntries.{HavePlaces}
 use Rattle.claxon.specs.declared.head.FlacReaderOptions.{FlacReaderOptions}
+use Rattle.claxon_metadata.specs.declared.metadata.MetadataBlock.{MetadataBlock}
 use Rattle.claxon_metadata.specs.declared.metadata.StreamInfo.{StreamInfo}
 use Rattle.claxon_metadata.specs.declared.metadata.VorbisComment.{VorbisComment}
 
@@ -44,9 +45,17 @@ unfoldable pub other_at : Option Comment → List ℕ → Reading ℕ (Bool × O
 other_at found =
     and_then block_at (λ b. test (is_info b.content) SecondStreaminfo (test (is_second found b.content) SecondComment (done (b.is_last, found_with found b.content))))
 
+-- what a block's content adds to these comments
+abbrev pub comments_at : Option Comment → Content → List ℕ → Reading ℕ (Option Comment)
+comments_at found c = test (is_info c) SecondStreaminfo (test (is_second found c) SecondComment (done (found_with found c)))
+
+-- What was answered of a block is what the format's reader gives behind it, and nothing is taken.
+abbrev pub CommentsAreFound : {A : Type 0} → Option (VorbisComment A) → MetadataBlock A → Result (Option (VorbisComment A)) Error → Type 0
+CommentsAreFound found block result = (here : State ℕ) → Gives found_view result (comments_at (found_view found) (content_view block)) here here
+
 -- s is whole blocks, one after another, and m
 abbrev pub PassesBlocks : List ℕ → List ℕ → Type 0
-PassesBlocks s m = (blocks : List MetadataBlock) × (t : List ℕ) × Each BlockCode blocks t × (s ≡ t ++ m)
+PassesBlocks s m = (blocks : List Block) × (t : List ℕ) × Each BlockCode blocks t × (s ≡ t ++ m)
 
 -- behind whole blocks stands the header of a block of an application or of comments, whose length is one that it can have,
 -- and behind that of comments the length of a vendor that fits

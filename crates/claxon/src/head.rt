@@ -5,8 +5,9 @@ ghost use Rattle.claxon_format.specs.read.Heads.{head_at, marker_at, others_at};
 ghost use Rattle.claxon_format.specs.Heads.{is_short, stream_marker};
 ghost use Rattle.claxon_input.specs.State.{bytes_in};
 ghost use Rattle.claxon_input.specs.Gives.{Gives, GivesOrStarves};
+ghost use Rattle.claxon_metadata.specs.MetadataBlock.{IsSound};
 ghost use Rattle.claxon_tags.specs.TagEntries.{HavePlaces};
-ghost use Rattle.claxon.specs.ReadHead.{CommentHasPlaces, EachHeadFaultIsNamed, EachHeadIsAnswered, HeadFaultWasTaken, HeadIsRead, HeadLeavesRest, HeadMayStarve, HeadWasTaken, InfoHasBounds, NoHeadIsIoError, StarvesBehind, StarvesBehindBlocks, found_view, head_view, other_at, other_view, wishes};
+ghost use Rattle.claxon.specs.ReadHead.{CommentHasPlaces, CommentsAreFound, EachHeadFaultIsNamed, EachHeadIsAnswered, HeadFaultWasTaken, HeadIsRead, HeadLeavesRest, HeadMayStarve, HeadWasTaken, InfoHasBounds, NoHeadIsIoError, StarvesBehind, StarvesBehindBlocks, found_view, head_view, other_at, other_view, wishes};
 
 use crate::error::{Error, Result};
 use crate::input::ReadBytes;
@@ -172,6 +173,19 @@ fn read_other_block<R: ReadBytes, A: Allocator + Copy>(
     ensures gives { GivesOrStarves other_view result (other_at (found_view found)) (bytes_in R.source input.old) (bytes_in R.source input.new) }
 {
     let (is_last, block) = read_metadata_block_and_flag(alloc, input)?;
+    Ok((is_last, comments_with(block, found)?))
+}
+
+// The comments that were found up to this block.
+fn comments_with<A: Allocator>(
+    block: MetadataBlock<A>,
+    found: Option<VorbisComment<A>>,
+) -> Result<Option<VorbisComment<A>>>
+    requires block { IsSound block }
+    requires found { IfSome found (λ comment. HavePlaces comment.comments.items) }
+    ensures places { IfOk result (λ known. IfSome known (λ comment. HavePlaces comment.comments.items)) }
+    ensures gives { CommentsAreFound found block result }
+{
     match block {
         MetadataBlock::StreamInfo(_) => {
             Err(Error::FormatError("encountered second streaminfo block"))
@@ -180,8 +194,8 @@ fn read_other_block<R: ReadBytes, A: Allocator + Copy>(
             if found.is_some() {
                 return Err(Error::FormatError("encountered second Vorbis comment block"));
             }
-            Ok((is_last, Some(comment)))
+            Ok(Some(comment))
         }
-        _ => Ok((is_last, found)),
+        _ => Ok(found),
     }
 }

@@ -116,6 +116,14 @@ impl Answer {
         }
     }
 
+    /// Adds what another call answers, where it isn't the same as what one does.
+    pub fn difference(&mut self, one: &Answer, other: &Answer, heading: &str) {
+        if one.as_bytes() != other.as_bytes() {
+            self.text(heading);
+            self.bytes(other.as_bytes());
+        }
+    }
+
     /// Adds `end` or the fault.
     pub fn end(&mut self, outcome: &Result<(), Error>) {
         match outcome {

@@ -9,26 +9,45 @@ use claxon::metadata::StreamInfo;
 use std::alloc::Global;
 use std::io::Cursor;
 
+// What stands in a used buffer.
+const OLD_SAMPLE: i32 = 19_088_743;
+
 /// Adds what each of so many calls answers, with ` | ` between them: `BYTES block TIME CHANNELS DURATION samples..`,
-/// `BYTES end`, `BYTES text`, or `IO`, which has taken all bytes.
+/// `BYTES end`, `BYTES text`, or `IO`, which has taken all bytes. Behind that stands what they answer otherwise into
+/// buffers with old samples, one and more than a block has.
 pub fn answer_of_frames(alloc: Global, case: &Case, calls: usize, answer: &mut Answer) {
+    let one = answers_into(alloc, case, calls, 0);
+    answer.bytes(one.as_bytes());
+    for old in [1, 16384] {
+        let other = answers_into(alloc, case, calls, old);
+        answer.difference(&one, &other, "; into a used buffer: ");
+    }
+}
+
+// What the calls answer, each into a buffer of so many old samples.
+fn answers_into(alloc: Global, case: &Case, calls: usize, old: usize) -> Answer {
+    let mut answer = Answer::new(alloc);
     let (all, mut taken) = (case.bytes.len() as u64, 0);
     for call in 0..calls {
         if call > 0 {
             answer.text(" | ");
         }
-        let Some((outcome, position)) = next_block(alloc, case, taken) else {
+        let Some((outcome, position)) = next_block(alloc, case, taken, old) else {
             answer.text("no case");
-            return;
+            break;
         };
         taken = position;
-        add_outcome(outcome, taken, all, answer);
+        add_outcome(outcome, taken, all, &mut answer);
     }
+    answer
 }
 
 // What a call answers that begins behind so many bytes, and where it ends; none where no stream has such samples or
-// blocks. A reader holds its input and what is known of the stream, so that each call may have one of its own.
-fn next_block(alloc: Global, case: &Case, start: u64) -> Option<(FrameResult, u64)> {
+// blocks, or memory is refused. A reader holds its input and what is known of the stream, so that each call may have one
+// of its own.
+fn next_block(alloc: Global, case: &Case, start: u64, old: usize) -> Option<(FrameResult, u64)> {
+    let mut buffer = Vec::new(alloc);
+    buffer.resize(old, OLD_SAMPLE).ok()?;
     let mut input = Cursor::new(case.bytes.as_slice());
     input.set_position(start);
     let mut reader = match (case.number, u16::try_from(case.length)) {
@@ -39,7 +58,7 @@ fn next_block(alloc: Global, case: &Case, start: u64) -> Option<(FrameResult, u6
         ),
         _ => return None,
     };
-    let outcome = reader.read_next_or_eof(Vec::new(alloc));
+    let outcome = reader.read_next_or_eof(buffer);
     Some((outcome, reader.into_inner().position()))
 }
 

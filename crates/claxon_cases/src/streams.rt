@@ -77,7 +77,7 @@ fn add_contents(alloc: Global, case: &Case, answer: &mut Answer) {
     end_of_blocks.end(&add_blocks(alloc, open(alloc, case), most, answer));
     answer.text("; ");
     answer.bytes(end.as_bytes());
-    add_other(&end, &end_of_blocks, "; the blocks end otherwise: ", answer);
+    answer.difference(&end, &end_of_blocks, "; the blocks end otherwise: ");
 }
 
 fn samples_of(opened: Opened<'_>, samples: &mut Vec<i32>) -> Result<()> {
@@ -119,25 +119,17 @@ fn add_block(block: Block, most: usize, answer: &mut Answer) {
     add_first(&block.into_buffer(), most, answer);
 }
 
-// What another call shows, where it isn't the same.
-fn add_other(one: &Answer, other: &Answer, heading: &str, answer: &mut Answer) {
-    if one.as_bytes() != other.as_bytes() {
-        answer.text(heading);
-        answer.bytes(other.as_bytes());
-    }
-}
-
 // Under each choice of options a reader shows what the head alone does, and without any what it does by default.
 fn add_other_heads(alloc: Global, bytes: &[u8], answer: &mut Answer) {
     for number in 0..4 {
         let one = shown(alloc, bytes, options_of(number));
         let alone = shown_alone(alloc, bytes, options_of(number));
-        add_other(&one, &alone, "; read_head shows otherwise: ", answer);
+        answer.difference(&one, &alone, "; read_head shows otherwise: ");
     }
     let one = shown(alloc, bytes, options_of(2));
     let mut other = Answer::new(alloc);
     add_opened(&FlacReader::new(alloc, Cursor::new(bytes)), &mut other);
-    add_other(&one, &other, "; new shows otherwise: ", answer);
+    answer.difference(&one, &other, "; new shows otherwise: ");
 }
 
 fn shown(alloc: Global, bytes: &[u8], options: FlacReaderOptions) -> Answer {
@@ -179,7 +171,7 @@ fn add_other_runs(alloc: Global, bytes: &[u8], answer: &mut Answer) {
     let (mut one, mut other) = (Vec::new(alloc), Vec::new(alloc));
     let end = count_of(alloc, &run(alloc, Cursor::new(bytes), &mut one));
     let want = count_of(alloc, &open_and_write(alloc, bytes, &mut other));
-    add_other(&want, &end, "; run ends otherwise: ", answer);
+    answer.difference(&want, &end, "; run ends otherwise: ");
     if one.as_slice() != other.as_slice() {
         answer.text("; run writes otherwise");
     }

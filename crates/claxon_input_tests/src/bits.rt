@@ -58,7 +58,7 @@ const FIVE: [u8; 5] = [0xa5, 0xe1, 0xd2, 0x55, 0xf0];
 #[rattlefmt::skip]
 #[test]
 fn calls_in_turn(rt: HostRuntime) {
-    let rows: [(&[u8], &[(Call, Option<u32>)], u64); 6] = [
+    let rows: [(&[u8], &[(Call, Option<u32>)], u64); 7] = [
         (
             &[0xa4, 0x80, 0x20, 0x00, 0x0a],
             &[
@@ -84,6 +84,15 @@ fn calls_in_turn(rt: HostRuntime) {
             ],
             4,
         ),
+        // All of the cache, and no bits behind it.
+        (
+            &FIVE,
+            &[
+                (Call::UpTo32(32), Some(0xa5e1_d255)), (Call::UpTo8(0), Some(0)), (Call::Zeros, Some(0)),
+                (Call::UpTo32(20), None),
+            ],
+            5,
+        ),
         (
             &[0x00, 0x80],
             &[(Call::Zeros, Some(8)), (Call::UpTo8(7), Some(0)), (Call::UpTo8(0), Some(0)), (Call::Bit, None)],
@@ -96,56 +105,6 @@ fn calls_in_turn(rt: HostRuntime) {
     ];
     for (row, (bytes, calls, taken)) in rows.iter().enumerate() {
         assert!(rt; answers_each(*bytes, *calls, *taken), "{row}");
-    }
-}
-
-// All bits of the cache are read, and a number of no bits takes none.
-#[test]
-fn all_of_the_cache(rt: HostRuntime) {
-    let calls = [
-        (Call::UpTo32(32), Some(0xa5e1_d255)),
-        (Call::UpTo8(0), Some(0)),
-        (Call::Zeros, Some(0)),
-        (Call::UpTo32(20), None),
-    ];
-    for (count, taken) in [0, 4, 4, 5, 5].iter().enumerate() {
-        assert!(rt;
-            answers_each(&FIVE, &calls[..count.min(4)], *taken),
-            "{count}"
-        );
-    }
-}
-
-// However 32 bits are split in two, they are the same number, also with numbers of no bits between the two.
-#[test]
-fn splits(rt: HostRuntime) {
-    for first in 0..33 {
-        let mut bits = Bitstream::new(Cursor::new(FIVE.as_slice()));
-        let high = u64::from(answer(&mut bits, Call::UpTo32(first)).unwrap_or(0));
-        assert!(rt; answer(&mut bits, Call::UpTo8(0)) == Some(0));
-        let low = u64::from(answer(&mut bits, Call::UpTo32(32 - first)).unwrap_or(0));
-        assert!(rt; high << (32 - first) | low == 0xa5e1_d255, "{first}");
-    }
-}
-
-// Whether numbers of no bits are given behind so many bits.
-fn gives_no_bits<R: ReadBytes>(input: &mut R, before: u32) -> bool {
-    let mut bits = Bitstream::new(input);
-    answer(&mut bits, Call::UpTo32(before)).is_some()
-        && answer(&mut bits, Call::UpTo8(0)) == Some(0)
-        && answer(&mut bits, Call::UpTo16(0)) == Some(0)
-}
-
-// A number of no bits takes no byte, wherever it is read.
-#[test]
-fn no_bits(rt: HostRuntime) {
-    for before in 0..33u32 {
-        let mut cursor = Cursor::new(FIVE.as_slice());
-        assert!(rt; gives_no_bits(&mut cursor, before), "{before}");
-        assert!(rt;
-            cursor.position() == u64::from(before.div_ceil(8)),
-            "{before}"
-        );
     }
 }
 
@@ -165,18 +124,16 @@ fn buffered_bytes(rt: HostRuntime) -> Result<(), Fail> {
     Ok(())
 }
 
-// What is left of so many bytes that are passed over, and of those that are read then.
-fn narrow_of<R: ReadBytes>(input: &mut R, count: u32, buffer: &mut [u8]) -> io::Result<u8> {
+// What is left of so many bytes.
+fn narrow_of<R: ReadBytes>(input: &mut R, count: u32) -> io::Result<u8> {
     let mut reader = Crc8Reader::new(input);
     reader.skip(count)?;
-    reader.read_into(buffer)?;
     Ok(reader.crc())
 }
 
-fn wide_of<R: ReadBytes>(input: &mut R, count: u32, buffer: &mut [u8]) -> io::Result<u16> {
+fn wide_of<R: ReadBytes>(input: &mut R, count: u32) -> io::Result<u16> {
     let mut reader = Crc16Reader::new(input);
     reader.skip(count)?;
-    reader.read_into(buffer)?;
     Ok(reader.crc())
 }
 
@@ -191,18 +148,9 @@ fn remainders(rt: HostRuntime) -> Result<(), Fail> {
     ];
     for (bytes, narrow, wide) in rows {
         let count = bytes.len() as u32;
-        assert!(rt; narrow_of(&mut Cursor::new(bytes), count, &mut [])? == narrow);
-        assert!(rt; wide_of(&mut Cursor::new(bytes), count, &mut [])? == wide);
+        assert!(rt; narrow_of(&mut Cursor::new(bytes), count)? == narrow);
+        assert!(rt; wide_of(&mut Cursor::new(bytes), count)? == wide);
     }
-    Ok(())
-}
-
-// A byte is passed over, and two are read.
-#[test]
-fn remainders_of_parts(rt: HostRuntime) -> Result<(), Fail> {
-    let bytes: &[u8] = &[0x61, 0x62, 0x63];
-    assert!(rt; narrow_of(&mut Cursor::new(bytes), 1, &mut [0; 2])? == 0x5f);
-    assert!(rt; wide_of(&mut Cursor::new(bytes), 1, &mut [0; 2])? == 0xcadb);
     Ok(())
 }
 

@@ -1,10 +1,9 @@
-//! Bytes, bits and remainders from readers that fail, end and tell nothing.
+//! Bytes, bits and remainders from readers that end and tell nothing, and errors.
 use claxon_input::Error;
 use claxon_input::crc::Crc16Reader;
 use claxon_input::input::{Bitstream, BufferedReader, ReadBytes};
-use claxon_test_doubles::sources::{FailsOnce, ZerosBetween};
 use std::io;
-use std::io::Cursor;
+use std::io::{Cursor, Read};
 use std::test::Fail;
 
 #[test]
@@ -51,52 +50,8 @@ fn errors_and_their_texts(rt: HostRuntime) -> Result<(), Fail> {
     Ok(())
 }
 
-// How many of five calls for a byte fail.
-fn failures<R: ReadBytes>(reader: &mut R) -> u32 {
-    let mut errors = 0u32;
-    for _ in 0..5 {
-        if reader.read_u8_or_eof().is_err() {
-            errors = errors.wrapping_add(1);
-        }
-    }
-    errors
-}
-
-#[test]
-fn a_failed_read_is_one_error(rt: HostRuntime) -> Result<(), Fail> {
-    for reads in 0..4 {
-        let mut reader = BufferedReader::new(rt.alloc(), FailsOnce::new(&[7; 4], reads))?;
-        assert!(rt; failures(&mut reader) == 1);
-        assert!(rt; reader.read_u8_or_eof()?.is_none());
-    }
-    Ok(())
-}
-
-#[test]
-fn a_failure_is_no_end(rt: HostRuntime) -> Result<(), Fail> {
-    let mut reader = BufferedReader::new(rt.alloc(), FailsOnce::new(&[7; 3], 1))?;
-    assert!(rt; reader.read_be_u16_or_eof().is_err());
-    assert!(rt; reader.read_be_u16_or_eof()? == Some(0x0707));
-    Ok(())
-}
-
-// Whether a run of zeros is refused of which some are at hand, and count, and a one behind it is read.
-fn refuses_run<R: ReadBytes>(input: &mut R) -> io::Result<bool> {
-    let mut bits = Bitstream::new(input);
-    let first = bits.read_leq_u8(8)?;
-    let has_failed = has_failed(bits.read_unary(), io::ErrorKind::InvalidData);
-    Ok(first == 0 && has_failed && bits.read_unary()? == 0)
-}
-
-#[test]
-fn a_run_of_zeros_too_long(rt: HostRuntime) -> Result<(), Fail> {
-    let source = ZerosBetween::new(0, 536_870_912, 0x80);
-    let mut reader = BufferedReader::new(rt.alloc(), source)?;
-    assert!(rt; refuses_run(&mut reader)?);
-    Ok(())
-}
-
-// Zeros without end: a reader with the four calls that are asked for, which tells nothing of its bytes.
+// Zeros without end: a reader with the four calls that are asked for, which tells nothing of its bytes, and one that is
+// buffered.
 #[derive(Drop)]
 struct Zeros;
 
@@ -119,6 +74,24 @@ impl ReadBytes for Zeros {
     fn skip(&mut self, _amount: u32) -> io::Result<()> {
         Ok(())
     }
+}
+
+impl Read for Zeros {
+    fn read(&mut self, buf: &mut [u8]) -> io::Result<usize> {
+        buf.fill(0);
+        Ok(buf.len())
+    }
+}
+
+fn run_of_zeros<R: ReadBytes>(input: &mut R) -> io::Result<u32> {
+    Bitstream::new(input).read_unary()
+}
+
+#[test]
+fn a_run_of_zeros_too_long(rt: HostRuntime) -> Result<(), Fail> {
+    let mut reader = BufferedReader::new(rt.alloc(), Zeros)?;
+    assert!(rt; has_failed(run_of_zeros(&mut reader), io::ErrorKind::InvalidData));
+    Ok(())
 }
 
 // A number of 13 bits behind three bytes.

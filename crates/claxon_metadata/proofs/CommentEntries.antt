@@ -4,7 +4,6 @@ use Rattle.std.proofs.lemmas.Bool.{lt-ltb, le-ltb}
 use Rattle.std.proofs.lemmas.List.{append-nil, map-append}
 use Rattle.claxon_format.specs.Comments.{Entry}
 use Rattle.claxon_format.specs.read.Comments.{entry_length_at, kept_at, end_at, entries_at}
-use Rattle.claxon_format.specs.Fault.{ExcessData, EntriesMissing}
 use Rattle.claxon_format.specs.Reading.{Reading, Done, Faulty, Short, bind}
 use Rattle.claxon_input.specs.State.{State}
 use Rattle.claxon_input.specs.Gives.{Went}
@@ -82,22 +81,11 @@ ends (suc missing) left s h =
     let b : ltb left 4 ≡ true = lt-ltb _ _ (h (omega arith)) in
     rw b refl
 
-pub excess : {count length missing left : ℕ} {kept : List Entry} {a b : State ℕ} → (0 < missing → left < 4) → 0 < left → EntriesSoFar count length missing left kept a b
-    → Went a b (λ s m. entries_at count length s ≡ Faulty ExcessData m)
-excess {missing = missing} {left = left} {b = b} last some h =
-    let e : ltb 0 left ≡ true = lt-ltb _ _ some in
-    went_map _ h.so_far (λ p. p ∙ rw (ends missing left b.coming last, e) refl)
+pub end_err : {count length missing left : ℕ} {kept : List Entry} {a b : State ℕ} → (0 < missing → left < 4) → EntriesSoFar count length missing left kept a b
+    → Went a b (λ s m. StopsAs (end_at missing left m) (entries_at count length s))
+end_err {missing = missing} {left = left} {kept = kept} {b = b} last h = went_map _ h.so_far (λ p. rw (p, ends missing left b.coming last) (record { fault = λ f rest e. rw e refl; short = λ e. rw e refl }))
 
-pub few : {count length missing left : ℕ} {kept : List Entry} {a b : State ℕ} → left ≡ 0 → 0 < missing → EntriesSoFar count length missing left kept a b
-    → Went a b (λ s m. entries_at count length s ≡ Faulty EntriesMissing m)
-few {missing = missing} {left = left} {b = b} none some h =
-    let e : ltb 0 missing ≡ true = lt-ltb _ _ some in
-    let n : ltb 0 left ≡ false = le-ltb _ _ (omega arith) in
-    went_map _ h.so_far (λ p. p ∙ rw (ends missing left b.coming (λ k. omega arith), n, e) refl)
-
-pub entries_end : {count length missing left : ℕ} {kept : List Entry} {a b : State ℕ} → left ≡ 0 → missing ≡ 0 → EntriesSoFar count length missing left kept a b
-    → Went a b (λ s m. entries_at count length s ≡ Done kept m)
-entries_end {missing = missing} {left = left} {kept = kept} {b = b} none all h =
-    let e : ltb 0 missing ≡ false = le-ltb _ _ (omega arith) in
-    let n : ltb 0 left ≡ false = le-ltb _ _ (omega arith) in
-    went_map _ h.so_far (λ p. p ∙ rw (ends missing left b.coming (λ k. omega arith), n, e) (ap (λ (z : List Entry). Done z b.coming) (append-nil kept)))
+pub entries_end : {count length missing left : ℕ} {kept : List Entry} {a b : State ℕ} → (0 < missing → left < 4) → EntriesSoFar count length missing left kept a b
+    → Went b b (λ s m. end_at missing left s ≡ Done [] m) → Went a b (λ s m. entries_at count length s ≡ Done kept m)
+entries_end {missing = missing} {left = left} {kept = kept} {b = b} last h k =
+    went_both _ h.so_far k (λ p q. p ∙ rw (ends missing left b.coming last, q) (ap (λ (z : List Entry). Done z b.coming) (append-nil kept)))

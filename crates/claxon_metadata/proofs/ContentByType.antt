@@ -1,25 +1,35 @@
 -- The reader of a metadata block's content, by the block's type.
-use Rattle.std.proofs.Common.{◌≡◌, ◌≢◌, ℕ, false, eqb, List, ◌++◌, refl, sym, ap, ◌∙◌}
-use Rattle.std.proofs.lemmas.Bool.{ne_eqb}
-use Rattle.claxon_format.specs.Metadata.{BlockHeader, BlockHeaderCode}
+use Rattle.std.proofs.Common.{◌≡◌, ◌≢◌, ◌≤◌, ◌-◌, ℕ, false, eqb, ltb, List, ◌++◌, refl, sym, ap, ◌∙◌}
+use Rattle.std.proofs.lemmas.Bool.{le-ltb, ne_eqb}
+use Rattle.claxon_format.specs.Metadata.{BlockHeader, BlockHeaderCode, most_bytes}
 use Rattle.claxon_format.specs.MetadataBlocks.{Content, Info, Comments, skipped, BlockFault}
 use Rattle.claxon_format.specs.read.Metadata.{block_header_at}
 use Rattle.claxon_format.specs.read.MetadataBlocks.{info_body_at, application_at, body_at}
 use Rattle.claxon_format.specs.read.Comments.{comment_at, vendor_length_at}
 use Rattle.claxon_format.specs.Fault.{BlockType}
-use Rattle.claxon_format.specs.read.Bytes.{bytes_at, skipped_at}
+use Rattle.claxon_format.specs.read.Bytes.{big_at, bytes_at, skipped_at}
 use Rattle.claxon_format.specs.Reading.{Reads, Reading, Done, Faulty, Short, bind, done}
 use Rattle.claxon_format.proofs.Comments.{Reads-vendor_length}
 use Rattle.claxon_format.proofs.Metadata.{Reads-block_header}
 use Rattle.claxon_format.proofs.MetadataBlocks.{Reads-block}
 use Rattle.claxon_format.proofs.Laws.{Reads-map}
-use Rattle.claxon_input.proofs.CallsInTurn.{StopsAs}
+use Rattle.claxon_input.specs.Gives.{Went}
+use Rattle.claxon_input.specs.State.{State}
+use Rattle.claxon_input.proofs.CallsInTurn.{went_map, StopsAs}
 use Rattle.claxon_metadata.specs.VorbisComment.{HasVendorLength}
 use Rattle.claxon_metadata.specs.MetadataBlock.{ContentCode, content_at}
 
 -- where the first field stops, so does the whole
 pub stops_with : {X Y Z : Type 0} {x : Reading X Y} {whole : Reading X Z} (f : Y → List X → Reading X Z) → whole ≡ bind x f → StopsAs x whole
 stops_with f e = record { fault = λ g rest q. e ∙ rw q refl; short = λ q. e ∙ rw q refl }
+
+-- where the data of an application stop, so does the whole
+pub application_stops : {n id : ℕ} {a b : State ℕ} → 4 ≤ n → n ≤ most_bytes → Went a b (λ s m. big_at 4 s ≡ Done id m) → Went a b (λ s m. StopsAs (bytes_at (n - 4) m) (application_at n s))
+unfolding application_at
+application_stops {n = n} some small h =
+    let enough : ltb n 4 ≡ false = le-ltb _ _ some in
+    let fits : ltb most_bytes n ≡ false = le-ltb _ _ small in
+    went_map _ h (λ p. record { fault = λ f rest q. rw (enough, fits, p, q) refl; short = λ q. rw (enough, fits, p, q) refl })
 
 pub body_info : (type n : ℕ) (s : List ℕ) → type ≡ 0 → body_at type n s ≡ bind (info_body_at n s) (λ i. done (Info i))
 unfolding body_at

@@ -1,3 +1,4 @@
 pub mod CommentTexts
 pub mod CommentEntries
 pub mod ContentByType
+pub mod CommentParts

@@ -2,6 +2,8 @@
 use Rattle.std.specs.Prelude.{◌≡◌, ℕ, true, Option, None, Some, Result, List, [], ◌∷◌, ◌++◌, string_bytes}
 use Rattle.std.specs.declared.string.String.{String}
 use Rattle.claxon_format.specs.Comments.{Entry, Comment, VendorLength}
+use Rattle.claxon_format.specs.read.Comments.{end_at}
+use Rattle.claxon_input.specs.Gives.{Gives}
 use Rattle.claxon_input.specs.Promises.{IsStarved}
 use Rattle.claxon_input.specs.State.{State}
 use Rattle.claxon_input.specs.declared.error.Error.{Error}
@@ -23,3 +25,7 @@ HasVendorLength most s = (v : ℕ) × (x : List ℕ) × (rest : List ℕ) × Ven
 -- Memory is wanted only where the bytes begin with such a length.
 abbrev pub StarvesBehindVendorLength : {A : Type 0} → ℕ → Result A Error → State ℕ → Type 0
 StarvesBehindVendorLength most r old = IsStarved r → old.told ≡ true → HasVendorLength most old.coming
+
+-- What was answered behind the last text is what the format's reader gives there, and nothing is taken.
+abbrev pub EndIsTested : {A : Type 0} → ℕ → ℕ → Result A Error → Type 0
+EndIsTested missing left r = (here : State ℕ) → Gives (λ x. []) r (end_at missing left) here here

@@ -13,3 +13,5 @@ pub mod KindNumbers
 pub mod WastedBits
 pub mod ScaledSamples
 pub mod OrderZero
+pub mod FieldsInTurn
+pub mod Predicted

@@ -215,7 +215,6 @@ fn decode_constant<R: ReadBytes>(
     Ok(())
 }
 
-#[tactic(auto, unfolding(claxon_format::specs::read::Subframe::fixed_at, claxon_format::specs::Fault::fault_text))]
 fn decode_fixed<R: ReadBytes>(
     input: &mut Bitstream<R>,
     bps: u32,
@@ -299,7 +298,6 @@ fn read_coefficient<R: ReadBytes>(input: &mut Bitstream<R>, precision: u32) -> R
     Ok(extend_sign_u16(number, precision))
 }
 
-#[tactic(auto, unfolding(claxon_format::specs::read::Subframe::linear_at, claxon_format::specs::Fault::fault_text))]
 fn decode_lpc<R: ReadBytes>(
     input: &mut Bitstream<R>,
     bps: u32,

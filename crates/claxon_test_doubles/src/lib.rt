@@ -1,9 +1,7 @@
-//! What stands in tests for memory, readers and writers: an allocator that refuses one request, readers that give little, cut
-//! and fail, and a writer with little room that fails.
+//! What stands in tests for memory and writers: an allocator that refuses one request, and a writer with little room that fails.
 #![tactic(auto)]
 
 pub mod sinks;
-pub mod sources;
 
 use std::alloc::{AllocError, Allocator};
 use std::cell::Cell;

@@ -1,7 +1,7 @@
 //! What calls answered, in forms that can be compared, and bytes that serve in many places.
 use claxon::frame::{FrameReader, FrameResult};
 use claxon::input::ReadBytes;
-use claxon::{Block, Error, FlacReader, FlacSamples};
+use claxon::{Error, FlacReader, FlacSamples};
 use std::alloc::{AllocError, AllocFailed, Allocator, Global};
 use std::io::Read;
 
@@ -31,80 +31,18 @@ pub fn end_of(outcome: claxon::Result<u64>) -> Result<u64, Fault> {
     }
 }
 
-/// What a block shows: of its buffer the first four samples, with zeros where there are fewer.
-#[derive(PartialEq, Clone, Copy)]
-pub struct Shown {
-    pub time: u64,
-    pub channels: u32,
-    pub duration: u32,
-    pub samples: [i32; 4],
-}
-
-/// What one call for a block answered.
-#[derive(PartialEq, Clone, Copy)]
-pub enum Step {
-    Block(Shown),
-    End,
-    Fault(Fault),
-}
-
-/// A block of one sample.
-pub fn mono(time: u64, sample: i32) -> Step {
-    Step::Block(Shown {
-        time,
-        channels: 1,
-        duration: 1,
-        samples: [sample, 0, 0, 0],
-    })
-}
-
-/// A block at time 0 of one stereo pair.
-pub fn pair(left: i32, right: i32) -> Step {
-    Step::Block(Shown {
-        time: 0,
-        channels: 2,
-        duration: 1,
-        samples: [left, right, 0, 0],
-    })
-}
-
-pub fn format(text: &'static str) -> Step {
-    Step::Fault(Fault::Format(text))
-}
-
-/// The first four of the samples.
-pub fn first_four(samples: &[i32]) -> [i32; 4] {
-    let mut four = [0; 4];
-    for (place, sample) in four.iter_mut().zip(samples) {
-        *place = *sample;
-    }
-    four
-}
-
-fn show<A: Allocator>(block: Block<A>) -> Shown {
-    let (time, channels, duration) = (block.time(), block.channels(), block.duration());
-    Shown {
-        time,
-        channels,
-        duration,
-        samples: first_four(block.into_buffer().as_slice()),
-    }
-}
+/// What one call for a block or a sample answered: of a block its first sample, and None at the end.
+pub type Step = Result<Option<i32>, Fault>;
 
 pub fn step_of<A: Allocator>(answer: FrameResult<A>) -> Step {
     match answer {
-        Ok(Some(block)) => Step::Block(show(block)),
-        Ok(None) => Step::End,
-        Err(error) => Step::Fault(fault_of(&error)),
+        Ok(Some(block)) => Ok(block.into_buffer().first().copied()),
+        Ok(None) => Ok(None),
+        Err(error) => Err(fault_of(&error)),
     }
 }
 
-// What the next call answers, into an empty buffer.
-fn next_step<R: ReadBytes>(alloc: Global, reader: &mut FrameReader<R>) -> Step {
-    step_of(reader.read_next_or_eof(Vec::new(alloc)))
-}
-
-/// Whether the calls for a block answer these.
+/// Whether the calls for a block, each into an empty buffer, answer these.
 pub fn answers_each<R: ReadBytes>(
     alloc: Global,
     reader: &mut FrameReader<R>,
@@ -112,7 +50,7 @@ pub fn answers_each<R: ReadBytes>(
 ) -> bool {
     let mut all = true;
     for want in wants {
-        all = all && next_step(alloc, reader) == *want;
+        all = all && step_of(reader.read_next_or_eof(Vec::new(alloc))) == *want;
     }
     all
 }
@@ -127,9 +65,7 @@ pub struct Run {
 }
 
 // What the next call for a sample answers: in one place, since each function that holds the call is dear to prove.
-fn next_of<R: ReadBytes + Drop, A: Allocator + Copy>(
-    samples: &mut FlacSamples<R, A>,
-) -> Result<Option<i32>, Fault> {
+fn next_of<R: ReadBytes + Drop, A: Allocator + Copy>(samples: &mut FlacSamples<R, A>) -> Step {
     match samples.next() {
         Some(Ok(sample)) => Ok(Some(sample)),
         Some(Err(error)) => Err(fault_of(&error)),
@@ -167,19 +103,15 @@ pub fn rest_of<R: Read + Drop, A: Allocator + Copy>(flac: &mut FlacReader<R, A>)
     run
 }
 
-/// What the next call for a sample of an open stream answers. The rest of its block is lost.
-pub fn one_sample<R: Read + Drop>(flac: &mut FlacReader<R>) -> Result<Option<i32>, Fault> {
-    if flac.is_metadata_only() {
-        return Ok(None);
-    }
-    next_of(&mut flac.samples())
-}
-
-/// Whether the calls for a sample answer these, each call by an iterator of its own.
+/// Whether the calls for a sample answer these.
 pub fn gives_each<R: Read + Drop>(flac: &mut FlacReader<R>, wants: &[Option<i32>]) -> bool {
+    if flac.is_metadata_only() {
+        return false;
+    }
+    let mut samples = flac.samples();
     let mut all = true;
     for want in wants {
-        all = all && one_sample(flac) == Ok(*want);
+        all = all && next_of(&mut samples) == Ok(*want);
     }
     all
 }
@@ -193,16 +125,6 @@ pub fn run_of<R: Read + Drop, A: Allocator + Copy>(alloc: A, reader: R) -> Resul
         }
         Err(error) => Err(fault_of(&error)),
     }
-}
-
-/// What a stream gives whose samples are few and end without a fault.
-pub fn clean(samples: &[i32]) -> Result<Run, Fault> {
-    Ok(Run {
-        samples: first_four(samples),
-        count: samples.len(),
-        faults: 0,
-        fault: None,
-    })
 }
 
 /// The marker and a streaminfo of blocks of 16 samples, 44,100 Hz, one channel of 8 bits, and one sample. The first byte

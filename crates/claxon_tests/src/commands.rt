@@ -139,15 +139,28 @@ fn a_usage_line_that_is_lost(rt: HostRuntime) {
     assert_eq!(rt; status, 2);
 }
 
-// A command line of these words, the program's name among them.
+// Command lines, the program's name in front, and their words: none where one isn't UTF-8.
+#[rattlefmt::skip]
+const COMMAND_LINES: [(&[&[u8]], &[&[u8]]); 5] = [
+    (&[], &[]),
+    (&[b"claxon_raw"], &[]),
+    (&[b"claxon_raw", b"--tags", b"a.flac"], &[b"--tags", b"a.flac"]),
+    (&[b"claxon_raw", b"", b"\xc3\xa9.flac", &[b'a'; 300]], &[b"", b"\xc3\xa9.flac", &[b'a'; 300]]),
+    (&[b"claxon_raw", b"a.flac", b"\xff.flac"], &[]),
+];
+
+// One of the command lines.
 #[derive(Drop)]
 struct Given {
-    words: &'static [&'static [u8]],
+    line: usize,
 }
 
 impl Env for Given {
     fn arg(&self, i: usize, buf: &mut [u8]) -> Result<usize, FillError> {
-        let Some(word) = self.words.get(i) else {
+        let Some((words, _)) = COMMAND_LINES.get(self.line) else {
+            return Err(FillError::NotPresent);
+        };
+        let Some(word) = words.get(i) else {
             return Err(FillError::NotPresent);
         };
         if word.len() > buf.len() {
@@ -166,18 +179,8 @@ impl Env for Given {
     }
 }
 
-// Command lines, and their words: none where one isn't UTF-8.
-#[rattlefmt::skip]
-const COMMAND_LINES: [(&[&[u8]], &[&[u8]]); 5] = [
-    (&[], &[]),
-    (&[b"claxon_raw"], &[]),
-    (&[b"claxon_raw", b"--tags", b"a.flac"], &[b"--tags", b"a.flac"]),
-    (&[b"claxon_raw", b"", b"\xc3\xa9.flac", &[b'a'; 300]], &[b"", b"\xc3\xa9.flac", &[b'a'; 300]]),
-    (&[b"claxon_raw", b"a.flac", b"\xff.flac"], &[]),
-];
-
-fn words_given(alloc: Global, given: &'static [&'static [u8]]) -> Result<Vec<String>, Fail> {
-    Ok(words(&(Given { words: given }, alloc))?)
+fn words_given(alloc: Global, line: usize) -> Result<Vec<String>, Fail> {
+    Ok(words(&(Given { line }, alloc))?)
 }
 
 fn are_same(words: &[String], want: &[&[u8]]) -> bool {
@@ -190,37 +193,15 @@ fn are_same(words: &[String], want: &[&[u8]]) -> bool {
 
 #[test]
 fn words_of_command_lines(rt: HostRuntime) -> Result<(), Fail> {
-    for (given, want) in COMMAND_LINES {
-        assert!(rt; are_same(&words_given(rt.alloc(), given)?, want));
+    for (line, (_, want)) in COMMAND_LINES.iter().enumerate() {
+        assert!(rt; are_same(&words_given(rt.alloc(), line)?, *want), "{line}");
     }
     Ok(())
 }
 
-// A command line of two words behind the program's name.
-#[derive(Drop)]
-struct TwoWords;
-
-const TWO_WORDS: Given = Given {
-    words: &[b"claxon_raw", b"--tags", b"music.flac"],
-};
-
-impl Env for TwoWords {
-    fn arg(&self, i: usize, buf: &mut [u8]) -> Result<usize, FillError> {
-        TWO_WORDS.arg(i, buf)
-    }
-
-    fn var(&self, name: &str, buf: &mut [u8]) -> Result<usize, FillError> {
-        TWO_WORDS.var(name, buf)
-    }
-
-    fn var_at(&self, i: usize, buf: &mut [u8]) -> Result<usize, FillError> {
-        TWO_WORDS.var_at(i, buf)
-    }
-}
-
-// How many words it has in this memory.
+// How many words the third command line has in this memory.
 fn count_in<'a>(heap: &'a LocalHeap) -> Option<usize> {
-    let given = (TwoWords, heap);
+    let given = (Given { line: 2 }, heap);
     match words(&given) {
         Ok(words) => Some(words.len()),
         Err(_) => None,

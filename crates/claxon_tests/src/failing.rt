@@ -1,6 +1,6 @@
-//! Readers that fail, pause or are cut, under frames and whole runs.
+//! Readers that give little, fail or pause, under frames, samples and whole runs.
 use crate::answers::{
-    FRAME, Fault, Step, answers_each, end_of, format, gives_each, head, joined, mono,
+    FIVES, FRAME, Fault, Run, answers_each, end_of, gives_each, joined, run_of, two_frames,
 };
 use claxon::FlacReader;
 use claxon::frame::FrameReader;
@@ -53,14 +53,14 @@ const FAILURES: [ErrorKind; 3] = [
 #[test]
 fn frames_after_a_failure(rt: HostRuntime) -> Result<(), Fail> {
     let bytes = joined(rt.alloc(), &[&FRAME, &FRAME])?;
-    let no_sync = format("frame sync code missing");
+    let no_sync = Err(Fault::Format("frame sync code missing"));
     let wants = [
-        Step::Fault(Fault::Io),
+        Err(Fault::Io),
         no_sync,
         no_sync,
         no_sync,
-        mono(0, 5),
-        Step::End,
+        Ok(Some(5)),
+        Ok(None),
     ];
     for kind in FAILURES {
         let source = Interrupts {
@@ -75,13 +75,45 @@ fn frames_after_a_failure(rt: HostRuntime) -> Result<(), Fail> {
     Ok(())
 }
 
-// What a run of the smallest head and two frames answers and writes, a byte a read, after so many of which one gives none.
-fn troubled_run(
+// Whether a stream is refused for want of bytes, where no count is given, else gives so many samples and one fault.
+fn is_cut(run: Result<Run, Fault>, count: Option<usize>) -> bool {
+    match run {
+        Ok(run) => Some(run.count) == count && run.faults == 1 && run.fault == Some(Fault::Io),
+        Err(fault) => count.is_none() && fault == Fault::Io,
+    }
+}
+
+// A byte a read: how many samples come before the read fails, one once the first frame was read.
+#[test]
+fn samples_with_a_failed_read(rt: HostRuntime) {
+    let bytes = two_frames(0x58);
+    for reads in 0..65 {
+        let source = Interrupts {
+            bytes: &bytes,
+            piece: 1,
+            reads_left: reads,
+            trouble: Some(Trouble::Failure(ErrorKind::Other)),
+        };
+        let count = match reads {
+            0..42 => None,
+            42..53 => Some(0),
+            53..64 => Some(1),
+            _ => Some(2),
+        };
+        assert!(rt; is_cut(run_of(rt.alloc(), source), count), "{reads}");
+    }
+}
+
+// Whether a run of the smallest head and two frames ends so and writes so many bytes of their samples, a byte a read, after
+// so many of which one gives none.
+fn ends_with(
     alloc: Global,
     reads: u32,
     trouble: Trouble,
-) -> Result<(Result<u64, Fault>, usize), Fail> {
-    let bytes = joined(alloc, &[&head(0x80), &FRAME, &FRAME])?;
+    want: Result<u64, Fault>,
+    written: usize,
+) -> bool {
+    let bytes = two_frames(0x58);
     let source = Interrupts {
         bytes: &bytes,
         piece: 1,
@@ -89,17 +121,13 @@ fn troubled_run(
         trouble: Some(trouble),
     };
     let mut output = Vec::new(alloc);
-    let answer = end_of(run(alloc, source, &mut output));
-    if [5, 0, 0, 0, 5, 0, 0, 0].starts_with(output.as_slice()) {
-        Ok((answer, output.len()))
-    } else {
-        Err(Fail::new("other samples"))
-    }
+    let end = end_of(run(alloc, source, &mut output));
+    end == want && output.as_slice() == &FIVES[..written.min(8)]
 }
 
 // The samples before the failure were written.
 #[test]
-fn runs_with_a_failed_read(rt: HostRuntime) -> Result<(), Fail> {
+fn runs_with_a_failed_read(rt: HostRuntime) {
     for reads in 0..65 {
         let written = match reads {
             0..53 => 0,
@@ -107,18 +135,20 @@ fn runs_with_a_failed_read(rt: HostRuntime) -> Result<(), Fail> {
             _ => 8,
         };
         for kind in FAILURES {
-            let answer = troubled_run(rt.alloc(), reads, Trouble::Failure(kind))?;
-            assert!(rt; answer == (Err(Fault::Io), written), "{reads}");
+            let trouble = Trouble::Failure(kind);
+            assert!(rt;
+                ends_with(rt.alloc(), reads, trouble, Err(Fault::Io), written),
+                "{reads}"
+            );
         }
     }
-    Ok(())
 }
 
 // A read that gives nothing is the end, which cuts heads and frames, and comes in due order between frames.
 #[test]
-fn runs_with_an_empty_read(rt: HostRuntime) -> Result<(), Fail> {
+fn runs_with_an_empty_read(rt: HostRuntime) {
     for reads in 0..65 {
-        let want = match reads {
+        let (want, written) = match reads {
             0..42 => (Err(Fault::Io), 0),
             42..44 => (Ok(0), 0),
             44..53 => (Err(Fault::Io), 0),
@@ -126,16 +156,17 @@ fn runs_with_an_empty_read(rt: HostRuntime) -> Result<(), Fail> {
             55..64 => (Err(Fault::Io), 4),
             _ => (Ok(2), 8),
         };
-        let answer = troubled_run(rt.alloc(), reads, Trouble::Empty)?;
-        assert!(rt; answer == want, "{reads}");
+        assert!(rt;
+            ends_with(rt.alloc(), reads, Trouble::Empty, want, written),
+            "{reads}"
+        );
     }
-    Ok(())
 }
 
 // After an empty read between two frames the reader is asked again.
 #[test]
 fn samples_after_an_empty_read(rt: HostRuntime) -> Result<(), Fail> {
-    let bytes = joined(rt.alloc(), &[&head(0x80), &FRAME, &FRAME])?;
+    let bytes = two_frames(0x58);
     let source = Interrupts {
         bytes: &bytes,
         piece: 53,

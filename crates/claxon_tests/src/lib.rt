@@ -1,6 +1,6 @@
-//! Tests that cross crates: metadata blocks, frames and what callers find; whole streams, from files and over readers that
-//! cut, pause and fail; runs into writers of all kinds; what the programs do for their words; values as text and headers of
-//! WAV files; and want of memory. Rows of bytes with their answer are lines of `claxon_cases`.
+//! Tests that cross crates: metadata blocks one after another and what callers find; frames and whole streams, from files and
+//! over readers that pause and fail; runs into writers of all kinds; what the programs do for their words; values as text and
+//! headers of WAV files; and want of memory. Rows of bytes with their answer are lines of `claxon_cases`.
 #![tactic(auto)]
 
 #[cfg(test)]
@@ -16,24 +16,16 @@ mod failing;
 #[cfg(test)]
 mod files;
 #[cfg(test)]
-mod frames;
-#[cfg(test)]
 mod info;
 #[cfg(test)]
 mod memory;
 #[cfg(test)]
 mod metadata;
 #[cfg(test)]
-mod readers;
-#[cfg(test)]
 mod runs;
-#[cfg(test)]
-mod streams;
 #[cfg(test)]
 mod texts;
 #[cfg(test)]
 mod wav_headers;
 #[cfg(test)]
 mod writers;
-#[cfg(test)]
-mod zeros;

@@ -1,9 +1,9 @@
 //! Bytes on their way to a writer.
-ghost use Rattle.std.specs.Prelude.{◌≡◌, ◌≤◌, ◌<◌, ◌+◌, ◌*◌, ◌-◌, ◌%◌, ◌^◌, ◌∷◌, ◌++◌, IfErr, OnOk, OnErr, [], length, take};
+ghost use Rattle.std.specs.Prelude.{◌≡◌, ◌≤◌, ◌<◌, ◌+◌, ◌*◌, ◌-◌, ◌%◌, ◌^◌, ◌++◌, IfErr, OnOk, OnErr, [], length, take};
 ghost use Rattle.std.specs.Io.KnownBytes.{Appends, Keeps};
 ghost use Rattle.claxon_input.specs.Error.{IsIo};
 ghost use Rattle.claxon_frame.specs.Block.{duration_of};
-ghost use Rattle.claxon_sample_bytes.specs.SampleBytes.{bytes_between, bytes_of_samples, places};
+ghost use Rattle.claxon_sample_bytes.specs.SampleBytes.{bytes_between};
 
 use claxon::{Block, Error, Result};
 use claxon_sample_bytes::{put_channel, put_mono, put_stereo};

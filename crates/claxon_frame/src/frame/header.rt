@@ -132,7 +132,6 @@ fn read_fields_or_eof<R: ReadBytes>(input: &mut R) -> Result<Option<HeaderFields
     Ok(Some(read_fields(input, blocking)?))
 }
 
-#[tactic(auto, unfolding(claxon_format::specs::read::Header::fields_after))]
 fn read_fields<R: ReadBytes>(input: &mut R, blocking: BlockingStrategy) -> Result<HeaderFields>
     ensures { Gives fields_view result (fields_after big_at (is_variable blocking)) (bytes_in R.source input.old) (bytes_in R.source input.new) }
 {

@@ -1,7 +1,8 @@
 //! Reads Vorbis comments.
 ghost use Rattle.std.specs.Prelude.{◌≡◌, ◌≤◌, ◌-◌, ◌/◌, true, false, not, string_bytes, IfOk, IfSome, MatchResult};
 ghost use Rattle.std.specs.List.{list_all, position};
-ghost use Rattle.claxon_format.specs.Comments.{is_separator, is_name_byte, not_utf8};
+ghost use Rattle.claxon_format.specs.Comments as comments;
+ghost use Rattle.claxon_format.specs.Comments.{is_separator, not_utf8};
 ghost use Rattle.claxon_format.specs.read.Comments.{entry_at, kept_at, entry_length_at, entries_at, vendor_length_at, vendor_at, count_at, comment_at};
 ghost use Rattle.claxon_format.specs.Fault.{EntryNotUtf8};
 ghost use Rattle.claxon_format.specs.Metadata.{most_bytes};
@@ -11,7 +12,7 @@ ghost use Rattle.claxon_input.specs.State.{bytes_in};
 ghost use Rattle.claxon_input.specs.Gives.{Gives, GivesOrStarves};
 ghost use Rattle.claxon_input.specs.Error.{IsFault};
 ghost use Rattle.claxon_metadata.specs.ReadMetadataBlock.{CommentIsRead};
-ghost use Rattle.claxon_metadata.specs.VorbisComment.{StarvesBehindVendorLength, kept_view};
+ghost use Rattle.claxon_metadata.specs.VorbisComment.{EndIsTested, StarvesBehindVendorLength, kept_view};
 ghost use Rattle.claxon_tags.specs.TagEntries.{HavePlaces, IsPlace, entry_view, entries_view};
 
 use super::{MAX_BLOCK_LENGTH, VorbisComment, read_bytes};
@@ -118,13 +119,22 @@ fn read_entries<R: ReadBytes, A: Allocator + Copy>(
         missing -= 1;
         bytes_left -= 4 + entry_length;
     }
+    check_end(missing, bytes_left)?;
+    Ok(comments)
+}
+
+// Whether all entries were read, and all bytes.
+#[tactic(auto, unfolding(claxon_format::specs::Fault::fault_text))]
+fn check_end(missing: u32, bytes_left: u32) -> Result<()>
+    ensures { EndIsTested missing bytes_left result }
+{
     if bytes_left > 0 {
         return Err(Error::FormatError("Vorbis comment block has excess data"));
     }
     if missing > 0 {
         return Err(Error::FormatError("Vorbis comment block contains wrong number of entries"));
     }
-    Ok(comments)
+    Ok(())
 }
 
 #[tactic(auto, unfolding(claxon_format::specs::read::Comments::entry_length_at, claxon_format::specs::Fault::fault_text))]
@@ -186,7 +196,13 @@ fn first_separator(bytes: &[u8]) -> Option<usize>
 
 // Whether these are bytes that a name may have.
 fn is_name(bytes: &[u8]) -> bool
-    ensures { result ≡ list_all is_name_byte bytes.now }
+    ensures { result ≡ list_all comments.is_name_byte bytes.now }
 {
-    bytes.iter().all(|byte| (0x20..=0x7d).contains(byte))
+    bytes.iter().all(|byte| is_name_byte(*byte))
+}
+
+fn is_name_byte(byte: u8) -> bool
+    ensures { result ≡ comments.is_name_byte byte }
+{
+    (0x20..=0x7d).contains(&byte)
 }

@@ -8,7 +8,7 @@ use Rattle.claxon_metadata.specs.MetadataBlock.{flagged_view}
 use Rattle.claxon.specs.ReadHead.{found_view, head_view, wishes}
 use Rattle.claxon_metadata.specs.declared.metadata.MetadataBlock.{MetadataBlock}
 use Rattle.claxon_input.proofs.Faults.{stops_fault}
-use Rattle.claxon.proofs.HeadMemory.{starved_first, starved_after_first}
+use Rattle.claxon.proofs.HeadMemory.{never_starved, starved_first, starved_after_first}
 use Rattle.claxon.proofs.HeadParts.{marker_stops, first_stops, no_streaminfo, head_begun, begun_short, begun_stops, begun_with, begun_without}
 use Rattle.claxon_input.proofs.Memory.{fed_exit, starved_exit}
 use Rattle.claxon.proofs.head.read_shown.Goals as goal
@@ -16,6 +16,10 @@ use Rattle.claxon.proofs.head.read_shown.Goals as goal
 pub returns-in_err-read_stream_header-clause-gives : goal.returns-in_err-read_stream_header-clause-gives
 returns-in_err-read_stream_header-clause-gives g c =
     fed_exit (head_view {A = g.row.A.Denot}) (err_from_is_err_and c.from_residual.result c.from_residual.ensures.1) (went_none _ _ (marker_stops (wishes c.args.options) _)) c.in_err-read_stream_header.ensures
+
+pub returns-in_err-read_stream_header-clause-memory : goal.returns-in_err-read_stream_header-clause-memory
+returns-in_err-read_stream_header-clause-memory g c starved told =
+    absurd (never_starved (err_from_is_err_and c.from_residual.result c.from_residual.ensures.1) c.in_err-read_stream_header.ensures starved)
 
 pub returns-in_err-is_last-clause-memory : goal.returns-in_err-is_last-clause-memory
 returns-in_err-is_last-clause-memory g c =

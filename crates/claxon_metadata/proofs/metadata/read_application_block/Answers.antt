@@ -1,7 +1,11 @@
-use Rattle.std.proofs.Common.{rules}
+use Rattle.std.proofs.Common.{ℕ, Vec, arith, rules}
+use Rattle.std.proofs.lemmas.Result.{err_from_is_err_and}
 use Rattle.claxon_format.specs.read.MetadataBlocks.{application_at}
 use Rattle.claxon_format.specs.Fault.{fault_text}
 use Rattle.claxon_input.proofs.CallsInTurn.{went_both}
+use Rattle.claxon_input.proofs.Memory.{starved_exit}
+use Rattle.claxon_metadata.specs.MetadataBlock.{content_view}
+use Rattle.claxon_metadata.proofs.ContentByType.{application_stops}
 use Rattle.claxon_metadata.proofs.metadata.read_application_block.Goals as goal
 
 pub returns-in_err-id-clause-gives : goal.returns-in_err-id-clause-gives
@@ -9,8 +13,9 @@ unfolding application_at fault_text
 returns-in_err-id-clause-gives g c = search rules
 
 pub returns-in_err-bytes-clause-gives : goal.returns-in_err-bytes-clause-gives
-unfolding application_at fault_text
-returns-in_err-bytes-clause-gives g c = search rules
+returns-in_err-bytes-clause-gives g c =
+    starved_exit (content_view {A = g.row.A.Denot}) (λ (bytes : Vec ℕ g.row.A.Denot). bytes.items) _ (err_from_is_err_and c.from_residual-in_err-bytes.result c.from_residual-in_err-bytes.ensures.1)
+    (application_stops (omega arith) (omega arith) c.in_ok-id.ensures.gives) c.in_err-bytes.ensures.gives
 
 pub returns-clause-gives : goal.returns-clause-gives
 unfolding application_at fault_text

@@ -23,3 +23,9 @@ returns-in-None-clause-reads g c =
 
 pub returns-in-None-clause-none_left : goal.returns-in-None-clause-none_left
 returns-in-None-clause-none_left g c = search rules
+
+pub returns-in-Some-clause-more : goal.returns-in-Some-clause-more
+returns-in-Some-clause-more g c = search rules
+
+pub returns-in-Some-clause-left : goal.returns-in-Some-clause-left
+returns-in-Some-clause-left g c = search rules

@@ -1,9 +1,7 @@
 use Rattle.std.proofs.Common.{◌≡◌, ◌<◌, ℕ, [], ◌∷◌, ◌++◌, Vec, String, refl, ap, ◌∙◌, arith}
 use Rattle.std.proofs.lemmas.Result.{err_from_is_err_and}
-use Rattle.claxon_format.specs.Fault.{fault_text, ExcessData, EntriesMissing}
 use Rattle.claxon_metadata.specs.VorbisComment.{kept_view}
-use Rattle.claxon_metadata.proofs.CommentEntries.{entries_next, kept_more, kept_same, length_err, text_err, excess, few, entries_end}
-use Rattle.claxon_input.proofs.Faults.{stops_fault}
+use Rattle.claxon_metadata.proofs.CommentEntries.{entries_next, kept_more, kept_same, length_err, text_err, end_err, entries_end}
 use Rattle.claxon_tags.proofs.TagPlaces.{places_push}
 use Rattle.claxon_input.proofs.Memory.{fed_exit, starved_exit}
 use Rattle.claxon_metadata.proofs.metadata.comment.read_entries.Goals as goal
@@ -39,16 +37,14 @@ loop-missing-preserved g c =
           })
     ]
 
-pub returns-then-bytes_left-gt0-clause-gives : goal.returns-then-bytes_left-gt0-clause-gives
-unfolding fault_text
-returns-then-bytes_left-gt0-clause-gives g c =
+pub returns-in_err-check_end-clause-gives : goal.returns-in_err-check_end-clause-gives
+returns-in_err-check_end-clause-gives g c =
     let last : 0 < c.loop-missing.missing → c.loop-missing.bytes_left < 4
     = λ k. elim c.loop-missing-test.branch [ then-loop-missing-test+else-bytes_left-ge4 w ↦ omega arith | else-loop-missing-test w ↦ omega arith ] in
-    stops_fault ExcessData refl refl (refl, refl) (excess last (omega arith) c.loop-missing.invariant.read)
-
-pub returns-then-missing-gt0-clause-gives : goal.returns-then-missing-gt0-clause-gives
-unfolding fault_text
-returns-then-missing-gt0-clause-gives g c = stops_fault EntriesMissing refl refl (refl, refl) (few (omega arith) (omega arith) c.loop-missing.invariant.read)
+    fed_exit _ (err_from_is_err_and c.from_residual-in_err-check_end.result c.from_residual-in_err-check_end.ensures.1) (end_err last c.loop-missing.invariant.read) (c.in_err-check_end.ensures _)
 
 pub returns-clause-gives : goal.returns-clause-gives
-returns-clause-gives g c = entries_end (omega arith) (omega arith) c.loop-missing.invariant.read
+returns-clause-gives g c =
+    let last : 0 < c.loop-missing.missing → c.loop-missing.bytes_left < 4
+    = λ k. elim c.loop-missing-test.branch [ then-loop-missing-test+else-bytes_left-ge4 w ↦ omega arith | else-loop-missing-test w ↦ omega arith ] in
+    entries_end last c.loop-missing.invariant.read (c.in_ok-check_end.ensures _)

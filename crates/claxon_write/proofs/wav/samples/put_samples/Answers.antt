@@ -26,3 +26,12 @@ loop-i-preserved g c =
 
 pub returns : goal.returns
 returns g c = all_packed (bytes_of_sample g.row.N c.args.width) c.args.samples.now c.loop-i.i g.row.N c.loop-i.room (omega arith) (c.loop-i.auto.room ∙ c.requires.room) c.loop-i.invariant
+
+pub overflow_mul-i : goal.overflow_mul-i
+overflow_mul-i g c = let here = room_for c.loop-i.i (length c.args.samples.now) g.row.N (length c.loop-i.room) c.loop-i-test.true (c.loop-i.auto.room ∙ c.requires.room) in omega (arith, here)
+
+pub overflow_mul-i-in-loop-i : goal.overflow_mul-i-in-loop-i
+overflow_mul-i-in-loop-i g c = let here = room_for c.loop-i.i (length c.args.samples.now) g.row.N (length c.loop-i.room) c.loop-i-test.true (c.loop-i.auto.room ∙ c.requires.room) in omega (arith, here)
+
+pub overflow_add-i : goal.overflow_add-i
+overflow_add-i g c = let here = room_for c.loop-i.i (length c.args.samples.now) g.row.N (length c.loop-i.room) c.loop-i-test.true (c.loop-i.auto.room ∙ c.requires.room) in omega (arith, here)
