@@ -43,8 +43,8 @@ pub fn step_of<A: Allocator>(answer: FrameResult<A>) -> Step {
 }
 
 /// Whether the calls for a block, each into an empty buffer, answer these.
-pub fn answers_each<R: ReadBytes>(
-    alloc: Global,
+pub fn answers_each<R: ReadBytes, A: Allocator + Copy>(
+    alloc: A,
     reader: &mut FrameReader<R>,
     wants: &[Step],
 ) -> bool {
@@ -55,11 +55,13 @@ pub fn answers_each<R: ReadBytes>(
     all
 }
 
-/// What a stream gave by its samples: the first four of them and their number, how many faults, and the last of these.
-#[derive(PartialEq, Clone, Copy)]
+/// What a stream gave by its samples: the last of them, their number, and how many came behind an end; how many faults,
+/// and the last of these.
+#[derive(Clone, Copy)]
 pub struct Run {
-    pub samples: [i32; 4],
+    pub last: i32,
     pub count: usize,
+    pub behind_an_end: usize,
     pub faults: usize,
     pub fault: Option<Fault>,
 }
@@ -76,24 +78,25 @@ fn next_of<R: ReadBytes + Drop, A: Allocator + Copy>(samples: &mut FlacSamples<R
 /// What a hundred calls for samples of an open stream give, from here on.
 pub fn rest_of<R: Read + Drop, A: Allocator + Copy>(flac: &mut FlacReader<R, A>) -> Run {
     let mut run = Run {
-        samples: [0; 4],
+        last: 0,
         count: 0,
+        behind_an_end: 0,
         faults: 0,
         fault: None,
     };
     if flac.is_metadata_only() {
         return run;
     }
+    let mut has_ended = false;
     let mut samples = flac.samples();
     for _ in 0..100 {
         match next_of(&mut samples) {
             Ok(Some(sample)) => {
-                if run.count < 4 {
-                    run.samples[run.count] = sample;
-                }
+                run.last = sample;
                 run.count = run.count.saturating_add(1);
+                run.behind_an_end = run.behind_an_end.saturating_add(usize::from(has_ended));
             }
-            Ok(None) => {}
+            Ok(None) => has_ended = true,
             Err(fault) => {
                 run.faults = run.faults.saturating_add(1);
                 run.fault = Some(fault);
@@ -101,19 +104,6 @@ pub fn rest_of<R: Read + Drop, A: Allocator + Copy>(flac: &mut FlacReader<R, A>)
         }
     }
     run
-}
-
-/// Whether the calls for a sample answer these.
-pub fn gives_each<R: Read + Drop>(flac: &mut FlacReader<R>, wants: &[Option<i32>]) -> bool {
-    if flac.is_metadata_only() {
-        return false;
-    }
-    let mut samples = flac.samples();
-    let mut all = true;
-    for want in wants {
-        all = all && next_of(&mut samples) == Ok(*want);
-    }
-    all
 }
 
 /// What a stream gives, or the fault that keeps it from being opened.

@@ -1,4 +1,7 @@
 //! Whole files, as another decoder writes them.
+ghost use Rattle.std.specs.Prelude.{◌≡◌, false};
+ghost use Rattle.claxon.specs.FlacReader.{flac_metadata_only};
+
 use crate::files::path_of;
 use claxon::FlacReader;
 use claxon_commands::wav::command;
@@ -6,7 +9,7 @@ use claxon_text::progress::Progress;
 use claxon_wav_header::Layout;
 use claxon_write::wav::{Result, WavWriter, convert};
 use std::alloc::Global;
-use std::io::Cursor;
+use std::io::{Cursor, Read, Seek, Write};
 use std::test::Fail;
 use std::{fs, result};
 
@@ -25,6 +28,21 @@ const WHOLE: &[u8] =
 const FIRST_BLOCK: &[u8] =
     b"RIFF\x28\x00\x00\x00WAVEfmt \x10\x00\x00\x00\x01\x00\x01\x00\x44\xac\x00\x00\x44\xac\x00\x00\x01\x00\x08\x00data\x03\x00\x00\x00\x81\x7e\x83\x00";
 
+// Whether all blocks of an open stream were put.
+fn fills<R: Read + Drop, W: Write + Seek>(
+    alloc: Global,
+    flac: &mut FlacReader<R>,
+    wav: &mut WavWriter<W>,
+    errors: &mut Vec<u8>,
+) -> bool
+    requires { flac_metadata_only flac.old ≡ false }
+{
+    let mut progress = Progress::new(Some(5));
+    let outcome = convert(alloc, flac, wav, &mut progress, errors);
+    progress.end(errors);
+    outcome.is_ok()
+}
+
 // Whether all of a stream was converted into these bytes.
 fn is_converted(
     alloc: Global,
@@ -39,10 +57,7 @@ fn is_converted(
     let info = flac.streaminfo();
     let layout = Layout::new(info.channels, info.bits_per_sample, info.sample_rate, None);
     let mut wav = WavWriter::start(alloc, Cursor::new(bytes), layout, 1)?;
-    let mut progress = Progress::new(Some(5));
-    let outcome = convert(alloc, &mut flac, &mut wav, &mut progress, errors);
-    progress.end(errors);
-    Ok(outcome.is_ok())
+    Ok(fills(alloc, &mut flac, &mut wav, errors))
 }
 
 // Whether a stream is converted whole, or not, into these bytes, while this is shown.

@@ -1,8 +1,5 @@
 //! Readers that give little, fail or pause, under frames, samples and whole runs.
-use crate::answers::{
-    FIVES, FRAME, Fault, Run, answers_each, end_of, gives_each, joined, run_of, two_frames,
-};
-use claxon::FlacReader;
+use crate::answers::{FIVES, FRAME, Fault, Run, answers_each, end_of, joined, run_of, two_frames};
 use claxon::frame::FrameReader;
 use claxon::input::BufferedReader;
 use claxon_write::run;
@@ -163,9 +160,17 @@ fn runs_with_an_empty_read(rt: HostRuntime) {
     }
 }
 
+// Whether two samples came, the second one behind an end.
+fn goes_on_behind_an_end(run: Result<Run, Fault>) -> bool {
+    match run {
+        Ok(run) => run.count == 2 && run.behind_an_end == 1 && run.last == 5 && run.faults == 0,
+        Err(_) => false,
+    }
+}
+
 // After an empty read between two frames the reader is asked again.
 #[test]
-fn samples_after_an_empty_read(rt: HostRuntime) -> Result<(), Fail> {
+fn samples_after_an_empty_read(rt: HostRuntime) {
     let bytes = two_frames(0x58);
     let source = Interrupts {
         bytes: &bytes,
@@ -173,7 +178,5 @@ fn samples_after_an_empty_read(rt: HostRuntime) -> Result<(), Fail> {
         reads_left: 1,
         trouble: Some(Trouble::Empty),
     };
-    let mut flac = FlacReader::new(rt.alloc(), source)?;
-    assert!(rt; gives_each(&mut flac, &[Some(5), None, Some(5), None]));
-    Ok(())
+    assert!(rt; goes_on_behind_an_end(run_of(rt.alloc(), source)));
 }

@@ -1,6 +1,6 @@
 //! Memory that is refused, each request in turn.
 use crate::answers::{
-    COMMENT, FIVES, FRAME, Fault, Step, fault_of, head, joined, run_of, step_of, two_frames,
+    COMMENT, FIVES, FRAME, Fault, Step, answers_each, fault_of, head, joined, run_of, two_frames,
 };
 use claxon::FlacReader;
 use claxon::frame::FrameReader;
@@ -49,7 +49,7 @@ fn sampled<A: Allocator + Copy>(heap: A, bytes: &[u8]) -> Result<(), Fault> {
     let run = run_of(heap, Cursor::new(bytes))?;
     match run.fault {
         Some(fault) => Err(fault),
-        None if run.count == 1 && run.samples[0] == 5 => Ok(()),
+        None if run.count == 1 && run.last == 5 => Ok(()),
         None => OTHER,
     }
 }
@@ -176,12 +176,8 @@ fn metadata_blocks(rt: HostRuntime) -> Result<(), Fail> {
 fn check_calls(rt: &(impl Abort + AllocGlobal), wants: &[Step], taken: u64) {
     let heap = RefusesOne::new(rt.alloc(), 0);
     let mut reader = FrameReader::new(Cursor::new(FRAME.as_slice()));
-    for want in wants {
-        let answer = step_of(reader.read_next_or_eof(Vec::new(&heap)));
-        assert!(rt; answer == *want);
-    }
-    assert_eq!(rt; reader.into_inner().position(), taken);
-    assert_eq!(rt; heap.left(), u64::MAX);
+    assert!(rt; answers_each(&heap, &mut reader, wants));
+    assert!(rt; reader.into_inner().position() == taken && heap.left() == u64::MAX);
 }
 
 // The header is taken, so the next call reads the two bytes that follow it.

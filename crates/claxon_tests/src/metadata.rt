@@ -6,10 +6,10 @@ use std::io::Cursor;
 use std::test::Fail;
 
 // How many tags the next block holds, if it is one of comments.
-fn tags_next<R: ReadBytes + Drop>(blocks: &mut MetadataBlockReader<R>) -> Option<usize> {
-    match blocks.next() {
-        Some(Ok(MetadataBlock::VorbisComment(comment))) => Some(comment.comments.len()),
-        _ => None,
+fn tags_next<R: ReadBytes + Drop>(blocks: &mut MetadataBlockReader<R>) -> Option<Option<usize>> {
+    match blocks.next()? {
+        Ok(MetadataBlock::VorbisComment(comment)) => Some(Some(comment.comments.len())),
+        _ => Some(None),
     }
 }
 
@@ -23,8 +23,8 @@ fn blocks_one_after_another(rt: HostRuntime) -> Result<(), Fail> {
         &[&first, &COMMENT, &last, &COMMENT, &first, &COMMENT],
     )?;
     let mut blocks = MetadataBlockReader::new(rt.alloc(), Cursor::new(bytes.as_slice()));
-    assert!(rt; tags_next(&mut blocks) == Some(1));
-    assert!(rt; tags_next(&mut blocks) == Some(1));
-    assert!(rt; blocks.next().is_none());
+    for want in [Some(Some(1)), Some(Some(1)), None] {
+        assert!(rt; tags_next(&mut blocks) == want);
+    }
     Ok(())
 }
