@@ -1,5 +1,6 @@
-use Rattle.std.proofs.Common.{Bool, Err, refl, sym, ap, ◌∙◌}
+use Rattle.std.proofs.Common.{Bool, Err, refl, sym, ap, ◌∙◌, arith}
 use Rattle.std.proofs.lemmas.Result.{err_from_is_err_and}
+use Rattle.std.proofs.lemmas.Grind.{common_steps}
 use Rattle.claxon_format.specs.Fault.{fault_text, StreaminfoMissing}
 use Rattle.claxon_format.specs.Heads.{stream_marker}
 use Rattle.claxon_input.specs.declared.error.Error.{Error}
@@ -60,3 +61,39 @@ pub returns-else-options-clause-gives : goal.returns-else-options-clause-gives
 returns-else-options-clause-gives g c =
     begun_without (wishes c.args.options) (found_view c.in_ok-comment.comment) (sym c.ends_with_streaminfo.ensures ∙ c.if-ends_with_streaminfo.false) c.if-options.false
     (head_begun c.in-StreamInfo.info c.in-StreamInfo.is c.in_ok-read_stream_header.ensures c.in_ok-is_last.ensures.gives) c.in_ok-comment.ensures.gives
+
+pub returns-in_default-clause-bounds : goal.returns-in_default-clause-bounds
+returns-in_default-clause-bounds g c = grind (arith, common_steps)
+
+pub returns-in_default-clause-places : goal.returns-in_default-clause-places
+returns-in_default-clause-places g c = grind (arith, common_steps)
+
+pub returns-in_default-clause-memory : goal.returns-in_default-clause-memory
+returns-in_default-clause-memory g c = grind (arith, common_steps)
+
+pub returns-then-ends_with_streaminfo-clause-bounds : goal.returns-then-ends_with_streaminfo-clause-bounds
+returns-then-ends_with_streaminfo-clause-bounds g c = grind (arith, common_steps)
+
+pub returns-then-ends_with_streaminfo-clause-places : goal.returns-then-ends_with_streaminfo-clause-places
+returns-then-ends_with_streaminfo-clause-places g c = grind (arith, common_steps)
+
+pub returns-then-ends_with_streaminfo-clause-memory : goal.returns-then-ends_with_streaminfo-clause-memory
+returns-then-ends_with_streaminfo-clause-memory g c = grind (arith, common_steps)
+
+pub returns-then-options-clause-bounds : goal.returns-then-options-clause-bounds
+returns-then-options-clause-bounds g c = grind (arith, common_steps)
+
+pub returns-then-options-clause-places : goal.returns-then-options-clause-places
+returns-then-options-clause-places g c = grind (arith, common_steps)
+
+pub returns-then-options-clause-memory : goal.returns-then-options-clause-memory
+returns-then-options-clause-memory g c = grind (arith, common_steps)
+
+pub returns-else-options-clause-bounds : goal.returns-else-options-clause-bounds
+returns-else-options-clause-bounds g c = grind (arith, common_steps)
+
+pub returns-else-options-clause-places : goal.returns-else-options-clause-places
+returns-else-options-clause-places g c = grind (arith, common_steps)
+
+pub returns-else-options-clause-memory : goal.returns-else-options-clause-memory
+returns-else-options-clause-memory g c = grind (arith, common_steps)

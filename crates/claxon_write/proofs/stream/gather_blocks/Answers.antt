@@ -1,4 +1,4 @@
-use Rattle.std.proofs.Common.{◌≡◌, ◌≤◌, ◌+◌, ◌^◌, Ok, Option, refl, ap, ◌∙◌, arith}
+use Rattle.std.proofs.Common.{◌≡◌, ◌≤◌, ◌+◌, ◌^◌, Ok, Option, refl, ap, ◌∙◌, arith, rules}
 use Rattle.std.proofs.lemmas.Result.{err_from_is_err_and}
 use Rattle.claxon_frame.specs.Block.{BlockValue}
 use Rattle.claxon_frame.specs.FrameReader.{frame_bytes}
@@ -33,6 +33,9 @@ returns-in-Err-clause-ok g c =
     let e = c.read_next_or_eof.ensures in
     let v = c.loop-block.invariant in
     gathered_fault v.so_far (reads_with v.stream c.in-Err.is (reads_frame _ e.sound e.complete e.at_end e.ended e.no_failure e.fault e.named e.io e.front e.memory e.gives))
+
+pub returns-in-Err-clause-err : goal.returns-in-Err-clause-err
+returns-in-Err-clause-err g c = search rules
 
 pub returns-in_default-clause-ok : goal.returns-in_default-clause-ok
 returns-in_default-clause-ok g c =

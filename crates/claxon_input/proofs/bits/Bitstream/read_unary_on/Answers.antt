@@ -1,3 +1,4 @@
+use Rattle.std.proofs.lemmas.Grind.{common_steps}
 use Rattle.std.proofs.Common.{arith, ◌-◌}
 use Rattle.claxon_input.proofs.BitSteps.{none_in_reach, one_at, one_taken}
 use Rattle.claxon_input.proofs.bits.Bitstream.read_unary_on.Goals as goal
@@ -13,3 +14,6 @@ pub returns-clause-ok : goal.returns-clause-ok
 returns-clause-ok g c o t =
     one_taken (g.R.ReadBytes.source c.skip_zeros.new.reader) c.in_ok-zeros.cache c.in_ok-zeros.count c.highest_one-left.result c.in_ok-zeros.zeros
     c.highest_one-left.ensures.here c.highest_one-left.ensures.above c.highest_one-left.ensures.below (omega (arith, c.in_ok-zeros.ensures.few)) (c.in_ok-zeros.ensures.ok o t)
+
+pub invariant_of-self-2 : goal.invariant_of-self-2
+invariant_of-self-2 g c = grind (arith, common_steps)

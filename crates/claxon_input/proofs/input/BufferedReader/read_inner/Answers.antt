@@ -10,3 +10,6 @@ returns-in-Ok-eq0-clause-none g c = search rules
 
 pub returns-in-Err-clause-err : goal.returns-in-Err-clause-err
 returns-in-Err-clause-err g c = grind (arith, common_steps)
+
+pub returns-in-Ok-clause-some : goal.returns-in-Ok-clause-some
+returns-in-Ok-clause-some g c = grind (arith, common_steps)

@@ -1,4 +1,5 @@
 use Rattle.std.proofs.Common.{length, ◌∙◌, arith}
+use Rattle.std.proofs.lemmas.Grind.{common_steps}
 use Rattle.claxon_subframe.specs.SubframeFields.{method_of}
 use Rattle.claxon_subframe.proofs.PartitionLoop.{part_length}
 use Rattle.claxon_subframe.proofs.PartitionsAhead.{partitions_begin, partitions_next, partitions_room}
@@ -17,3 +18,6 @@ loop-whole-preserved c =
       partitions_next (method_of c.args.partition_type) c.args.each l.whole l.start l.buffer ys c.args.ahead.now l.ahead c.partition_ahead.new.ahead l.invariant.0 room c.partition_ahead.auto.buffer
           (c.partition_ahead.auto.buffer ∙ part_length l.start c.args.each l.buffer room) l.invariant.2 c.if-not-partition_ahead.ensures,
     )
+
+pub returns-then-not-partition_ahead-clause-read : goal.returns-then-not-partition_ahead-clause-read
+returns-then-not-partition_ahead-clause-read c = grind (arith, common_steps)

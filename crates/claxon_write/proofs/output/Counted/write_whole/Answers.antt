@@ -1,6 +1,7 @@
 use Rattle.std.proofs.Common.{arith, ◌∙◌, ◌-◌, sym, List, ℕ, length, length-drop, length-take, subst, drop}
 use Rattle.std.proofs.lemmas.Result.{err_from_is_err_and}
 use Rattle.std.specs.Io.KnownBytes.{Appends}
+use Rattle.std.proofs.lemmas.Grind.{common_steps}
 use Rattle.claxon_write.proofs.Appended.{appends_more, take_piece}
 use Rattle.claxon_write.proofs.Puts.{front_kept}
 use Rattle.claxon_write.proofs.output.Counted.write_whole.Goals as goal
@@ -23,3 +24,6 @@ pub returns-in_err-at-clause-front : goal.returns-in_err-at-clause-front
 returns-in_err-at-clause-front g c =
     let p = err_from_is_err_and c.from_residual.result c.from_residual.ensures.1 in
     rw p.1 (front_kept _ _ _ c.loop-at.at _ c.loop-at.invariant.1 c.in_err-at.ensures.kept)
+
+pub returns-clause-ok : goal.returns-clause-ok
+returns-clause-ok g c = grind (arith, common_steps)

@@ -1,6 +1,7 @@
 use Rattle.std.proofs.Common.{◌≡◌, ◌+◌, ◌-◌, ◌++◌, List, ℕ, refl, sym, ap, ◌∙◌, arith}
 use Rattle.std.proofs.lemmas.List.{append-nil}
 use Rattle.std.proofs.lemmas.Result.{err_from_is_err_and}
+use Rattle.std.proofs.lemmas.Grind.{common_steps}
 use Rattle.claxon_sample_bytes.specs.SampleBytes.{bytes_of_samples, places}
 use Rattle.claxon_write.proofs.Puts.{puts_none, puts_both, puts_as, puts_waiting, fails_after, fails_more, fails_as, bytes_all}
 use Rattle.claxon_sample_bytes.proofs.SampleBytes.{bytes_more, bytes_none}
@@ -36,3 +37,6 @@ returns-in_err-make_room-clause-err g c =
     let first = bytes_of_samples (places channels 0 from) in
     let all = ap (λ (z : List ℕ). z ++ bytes_of_samples (places channels from (d - from))) (append-nil first) ∙ bytes_more channels from (d - from) d (omega (arith, c.loop-from.invariant.inside)) ∙ bytes_all channels d c.duration-duration.ensures.value in
     rw (p.1, p.2) (fails_as all (fails_more (bytes_of_samples (places channels from (d - from))) (fails_after c.loop-from.invariant.puts c.in_err-make_room.ensures.err)))
+
+pub make_room-requires : goal.make_room-requires
+make_room-requires g c = grind (arith, common_steps)

@@ -1,3 +1,4 @@
+use Rattle.std.proofs.lemmas.Grind.{common_steps, widths}
 use Rattle.std.proofs.Common.{arith, refl, ◌-◌, ◌^◌, ◌/◌, drop, bit_or, ◌∙◌}
 use Rattle.claxon_format.specs.Bits.{bits_of}
 use Rattle.claxon_input.proofs.CacheBits.{window_next, window_kept, window_fits}
@@ -21,3 +22,6 @@ returns-clause-some c =
       behind = drop (64 - a.count) (bits_of (drop a.at a.bytes.now));
       next = returns-clause-same c ∙ window_next a.cache a.count c.eight_bytes.result a.at a.bytes.now a.few a.fits c.eight_bytes.type_inv (omega arith) c.eight_bytes.ensures;
     }
+
+pub overflow_sub-self-6 : goal.overflow_sub-self-6
+overflow_sub-self-6 c = grind (arith, common_steps, widths)
