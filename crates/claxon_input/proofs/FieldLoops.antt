@@ -5,8 +5,8 @@ use Rattle.claxon_format.specs.Reading.{Reading, Done, Faulty, Short, bind, time
 use Rattle.claxon_format.proofs.Laws.{bind_done}
 use Rattle.claxon_input.specs.declared.error.Error.{Error}
 use Rattle.claxon_input.specs.State.{State}
-use Rattle.claxon_input.specs.Gives.{Went, Stuck, Stops}
-use Rattle.claxon_input.proofs.CallsInTurn.{went_both, went_map, went_none, stops_after, stuck_after, StopsWith}
+use Rattle.claxon_input.specs.Gives.{Went, Stops}
+use Rattle.claxon_input.proofs.CallsInTurn.{went_both, went_map, went_none, stops_after, StopsWith}
 
 -- what was read before, and what is still read
 abbrev pub with_front : {X A : Type 0} → List A → Reading X (List A) → Reading X (List A)
@@ -59,10 +59,6 @@ times_stop read xs i lt =
 
 pub times_err : {X A : Type 0} {read : List X → Reading X A} {n : ℕ} {xs : List A} {i : ℕ} {e : Error} {a b c : State X} → i < length xs → TimesSoFar read n xs i a b → Stops e read b c → Stops e (times_at n read) a c
 times_err {read = read} {xs = xs} {i = i} lt h k = stops_after h.so_far (times_stop read xs i lt) k
-
--- the same where the field is read by a call that knows no faults
-pub times_stuck : {X A : Type 0} {read : List X → Reading X A} {n : ℕ} {xs : List A} {i : ℕ} {a b c : State X} → i < length xs → TimesSoFar read n xs i a b → Stuck b c (λ s. read s ≡ Short) → Stuck a c (λ s. times_at n read s ≡ Short)
-times_stuck {read = read} {xs = xs} {i = i} {b = b} lt h k = stuck_after _ h.so_far k (λ p q. p ∙ (times_stop read xs i lt).short b.coming q)
 
 -- ---- several at once
 
