@@ -1,5 +1,5 @@
 -- What a clause reads of a `BufferedReader`.
-use Rattle.std.specs.Prelude.{◌≡◌, ℕ, List, [], slice_range, IfOk, Result}
+use Rattle.std.specs.Prelude.{◌≡◌, ℕ, List, [], slice_range, IfOk, OnErr, Result}
 use Rattle.std.specs.Io.KnownBytes.{prepend_known}
 use Rattle.std.specs.declared.option.Option.{Option}
 use Rattle.claxon_input.specs.declared.error.Error.{Error}
@@ -28,3 +28,7 @@ buffered_inner r = r.inner
 abbrev pub NothingWasRead : {R A : Type 0} → (R → Option (List ℕ)) → R → Result (BufferedReader R A) Error → Type 0
 NothingWasRead remaining inner result =
     IfOk result (λ r. buffered_source remaining r ≡ record { to_come = prepend_known [] (remaining inner); errors = 0; empties = 0; loans = []; checks = λ _. [] })
+
+-- After an Err nothing is buffered, so that the next call asks the inner reader again.
+abbrev pub IsEmptyAfterErr : {T E R A : Type 0} → Result T E → BufferedReader R A → Type 0
+IsEmptyAfterErr result new = OnErr result (read_ahead new ≡ [])
