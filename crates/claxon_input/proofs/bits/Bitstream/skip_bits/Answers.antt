@@ -1,4 +1,4 @@
-use Rattle.std.proofs.Common.{arith, ◌-◌, ◌/◌, ◌%◌, ◌^◌}
+use Rattle.std.proofs.Common.{arith, rules, ◌-◌, ◌/◌, ◌%◌, ◌^◌}
 use Rattle.claxon_format.proofs.Numbers.{length-bits}
 use Rattle.claxon_input.specs.Bitstream.{bit_state}
 use Rattle.claxon_input.specs.State.{bits_in}
@@ -37,11 +37,11 @@ returns-clause-gives g c =
     last_passed (bit_state g.R.ReadBytes.source b) (g.R.ReadBytes.source c.skip.new.self) (g.R.ReadBytes.source c.read_u8.new.self) few c.args.amount c.in_ok-last.field-0 left (omega (arith, length-bits b.count b.cache)) (omega arith) c.in_ok-skip.ensures.ok c.in_ok-last.ensures.ok
 
 pub returns-in_err-skip-clause-err : goal.returns-in_err-skip-clause-err
-returns-in_err-skip-clause-err g c = on_err c.from_residual.result (record { rest = c.in_err-skip.ensures.err.rest; emptied = empty_bits 0 })
+returns-in_err-skip-clause-err g c = on_err c.from_residual.result (record { rest = c.in_err-skip.ensures.err.rest; emptied = search (rules, empty_bits) })
 
 pub returns-in_err-last-clause-err : goal.returns-in_err-last-clause-err
 returns-in_err-last-clause-err g c =
-    on_err c.from_residual-in_err-last.result (record { rest = rest_after _ _ _ _ c.in_ok-skip.ensures.ok.2 c.in_err-last.ensures.err.rest; emptied = empty_bits 0 })
+    on_err c.from_residual-in_err-last.result (record { rest = rest_after _ _ _ _ c.in_ok-skip.ensures.ok.2 c.in_err-last.ensures.err.rest; emptied = search (rules, empty_bits) })
 
 pub returns-then-amount-self-clause-few : goal.returns-then-amount-self-clause-few
 returns-then-amount-self-clause-few g c = grind (arith, few_bits)
