@@ -26,6 +26,10 @@ module _ {R : Type 0} (source : R → Source ℕ) {a b : R} where
   unfolding bytes_in big_at
   went_big k n small h = went_map _ (went_taken k (length-be_bytes k n) h) (λ p. rw (p, big_endian-bytes k n small) refl)
 
+  -- the number may be said in another way
+  pub went_big_as : {m : ℕ} (k n : ℕ) → m ≡ n → n < 2 ^ (8 * k) → Takes (source a) (source b) (be_bytes k n) → Went (bytes_in source a) (bytes_in source b) (λ s r. big_at k s ≡ Done m r)
+  went_big_as k n e small h = rw e (went_big k n small h)
+
   pub went_byte : (n : ℕ) → n < 256 → Takes (source a) (source b) (n ∷ []) → Went (bytes_in source a) (bytes_in source b) (λ s m. big_at 1 s ≡ Done n m)
   went_byte n small h = went_big 1 n small (rw (be_1 n small) h)
 
@@ -66,6 +70,3 @@ module _ {R : Type 0} (source : R → Source ℕ) {a b : R} where
   pub most_taken : {xs : List ℕ} (n : ℕ) → length xs ≤ n → Takes (source a) (source b) xs → TakesAtMost n (bytes_in source a) (bytes_in source b)
   unfolding bytes_in
   most_taken {xs = xs} n l h = most_known (source a).to_come (source b).to_come n (most_front (source a).to_come (source b).to_come xs n h.lost.front l)
-
-  pub most_skipped : (n : ℕ) → Skips (source a) (source b) n → TakesAtMost n (bytes_in source a) (bytes_in source b)
-  most_skipped n (xs, l, h) = most_taken n (omega arith) h

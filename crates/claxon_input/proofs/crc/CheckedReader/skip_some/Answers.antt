@@ -1,5 +1,5 @@
-use Rattle.std.proofs.Common.{rules, ap, ◌∙◌, ◌++◌, sym}
-use Rattle.claxon_input.proofs.Sources.{takes_checked, same_front, refuses_more, refuses_checked, on_err}
+use Rattle.std.proofs.Common.{rules, arith, ap, ◌∙◌, ◌++◌, sym}
+use Rattle.claxon_input.proofs.Sources.{takes_checked, same_front_as, refuses_more, refuses_checked, on_err}
 use Rattle.claxon_input.proofs.crc.CheckedReader.skip_some.Goals as goal
 
 pub returns-clause-ok : goal.returns-clause-ok
@@ -11,7 +11,7 @@ returns-clause-ok g c =
       l,
       takes_checked (g.S.Remainder.check c.args.self.now.state) (g.S.Remainder.check c.after-state.result) t
           (λ told ys. c.after-state.ensures ys
-          ∙ ap (λ bytes. g.S.Remainder.check c.args.self.now.state (bytes ++ ys)) (sym (same_front old.to_come new.to_come c.at_hand-bytes.result.now xs c.min-count.result c.at_hand-bytes.ensures t.lost.front l (search rules) told))),
+          ∙ ap (λ bytes. g.S.Remainder.check c.args.self.now.state (bytes ++ ys)) (sym (same_front_as old.to_come new.to_come c.at_hand-bytes.result.now xs c.min-count.result (omega arith) c.at_hand-bytes.ensures t.lost.front l (search rules) told))),
     )
 
 pub returns-in_err-skip-clause-err : goal.returns-in_err-skip-clause-err
