@@ -1,5 +1,5 @@
 -- The calls of a reader of bytes give what the readers of fields give.
-use Rattle.std.proofs.Common.{◌≡◌, ℕ, ◌+◌, ◌*◌, ◌^◌, ◌<◌, ◌≤◌, List, [], ◌∷◌, length, Option, None, Some, refl, ◌∙◌, arith}
+use Rattle.std.proofs.Common.{◌≡◌, ℕ, ◌+◌, ◌*◌, ◌^◌, ◌<◌, ◌≤◌, List, [], ◌∷◌, length, bit_or, ◌%◌, Option, None, Some, refl, ◌∙◌, arith}
 use Rattle.claxon_format.specs.read.Bytes.{bytes_at, big_at, little_at, skipped_at}
 use Rattle.claxon_format.specs.Reading.{Reading, Done, Short}
 use Rattle.claxon_input.specs.Bytes.{be_bytes, le_bytes}
@@ -7,7 +7,7 @@ use Rattle.claxon_input.specs.Promises.{TakesAtMost}
 use Rattle.claxon_input.specs.Source.{Source, LosesAtMost, Takes, Refuses, Skips}
 use Rattle.claxon_input.specs.State.{State, bytes_in, known}
 use Rattle.claxon_input.specs.Gives.{Went, Stuck}
-use Rattle.claxon_input.proofs.BigEndian.{be_1, length-be_bytes, length-le_bytes, big_endian-bytes, little_endian-bytes}
+use Rattle.claxon_input.proofs.BigEndian.{be_1, be_2, length-be_bytes, length-le_bytes, big_endian-bytes, little_endian-bytes}
 use Rattle.claxon_input.proofs.Sources.{most_front}
 use Rattle.claxon_input.proofs.States.{went_taken, stuck_bytes}
 use Rattle.claxon_input.proofs.CallsInTurn.{went_map, went_none, stuck_after}
@@ -20,6 +20,10 @@ most_known : (p q : Option (List ℕ)) (n : ℕ) → LosesAtMost p q n → lengt
 most_known None q n h = omega arith
 most_known (Some all) None n h = absurd h
 most_known (Some all) (Some left) n h = h
+
+-- two bytes were taken, so a number of them was; the lower one may be said in another way
+pub takes_be_2 : {a b : Source ℕ} {k : ℕ} (x y : ℕ) → k ≡ y → x < 256 → y < 256 → Takes a b (x ∷ y ∷ []) → Takes a b (be_bytes 2 (bit_or (x * 256 % 65536) k))
+takes_be_2 x y e h l t = rw (e, be_2 x y h l) t
 
 module _ {R : Type 0} (source : R → Source ℕ) {a b : R} where
   pub went_big : (k n : ℕ) → n < 2 ^ (8 * k) → Takes (source a) (source b) (be_bytes k n) → Went (bytes_in source a) (bytes_in source b) (λ s m. big_at k s ≡ Done n m)

@@ -304,3 +304,20 @@ moved_bits cache count h k =
 
 pub moved_fits : (cache count : ℕ) → cache < 2 ^ count → count < 64 → cache * 2 ^ (63 - count) % 18446744073709551616 * 2 % 18446744073709551616 % 2 ^ (64 - count) ≡ 0
 moved_fits cache count h k = ap (λ (x : ℕ). x % 2 ^ (64 - count)) (moved_up cache count h k) ∙ whole_mod cache (64 - count)
+
+-- ---- where a count, or what is moved, may be said in another way
+
+pub taken_off_as : {k : ℕ} (x count n : ℕ) (m : Bits) → k ≡ n → n ≤ count → count ≤ 64 → take (count - n) (bits 64 (x * 2 ^ k % 18446744073709551616)) ++ m ≡ drop n (take count (bits 64 x) ++ m)
+taken_off_as x count n m e h l = rw e (taken_off x count n m h l)
+
+pub taken_fits_as : {k : ℕ} (x count n : ℕ) → k ≡ n → n ≤ count → count ≤ 64 → x % 2 ^ (64 - count) ≡ 0 → x * 2 ^ k % 18446744073709551616 % 2 ^ (64 - (count - n)) ≡ 0
+taken_fits_as x count n e h l d = rw e (taken_fits x count n h l d)
+
+pub moved_bits_as : {x : ℕ} (cache count : ℕ) → x ≡ cache → cache < 2 ^ count → count < 64 → take count (bits 64 (x * 2 ^ (63 - count) % 18446744073709551616 * 2 % 18446744073709551616)) ≡ bits count cache
+moved_bits_as cache count e h l = rw e (moved_bits cache count h l)
+
+pub moved_fits_as : {x : ℕ} (cache count : ℕ) → x ≡ cache → cache < 2 ^ count → count < 64 → x * 2 ^ (63 - count) % 18446744073709551616 * 2 % 18446744073709551616 % 2 ^ (64 - count) ≡ 0
+moved_fits_as cache count e h l = rw e (moved_fits cache count h l)
+
+pub done_as : {X A : Type 0} {x y : A} {s t : List X} → x ≡ y → s ≡ t → Done x s ≡ Done y t
+done_as e f = rw (e, f) refl

@@ -1,8 +1,8 @@
-use Rattle.std.proofs.Common.{rules, arith, drop, ap, ◌-◌, ◌/◌, ◌^◌, ◌++◌, ◌∙◌, sym}
+use Rattle.std.proofs.Common.{rules, arith, ℕ, drop, ap, ◌-◌, ◌/◌, ◌^◌, ◌++◌, ◌∙◌, sym}
 use Rattle.claxon_format.specs.Bits.{Bits, bits_of}
 use Rattle.claxon_format.specs.Reading.{Done}
 use Rattle.claxon_format.specs.read.Bits.{number_at}
-use Rattle.claxon_input.proofs.CacheBits.{number_on_top, number_fits}
+use Rattle.claxon_input.proofs.CacheBits.{done_as, number_on_top, number_fits}
 use Rattle.claxon_input.proofs.bits.ahead.Ahead.number.Goals as goal
 
 pub overflow_cast-result : goal.overflow_cast-result
@@ -14,4 +14,4 @@ returns c rest =
     let a = c.fill.new.self in
     ap (λ (s : Bits). number_at c.args.bits (s ++ rest)) (sym c.fill.ensures)
     ∙ number_on_top a.cache a.count c.args.bits (bits_of (drop a.at a.bytes.now)) rest c.requires (omega arith) (omega arith) (omega arith)
-    ∙ ap (λ (s : Bits). Done (a.cache / 2 / 2 ^ (63 - c.args.bits)) (s ++ rest)) (sym c.pass.ensures)
+    ∙ done_as (ap (λ (k : ℕ). a.cache / 2 / 2 ^ k) (omega arith)) (ap (λ (s : Bits). s ++ rest) (sym c.pass.ensures))

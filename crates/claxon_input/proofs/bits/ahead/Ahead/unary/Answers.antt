@@ -3,7 +3,7 @@ use Rattle.std.specs.Int.{leading_zeros, w64}
 use Rattle.claxon_format.specs.Bits.{Bits, bits_of}
 use Rattle.claxon_format.specs.Reading.{Done}
 use Rattle.claxon_format.specs.read.Bits.{unary_at}
-use Rattle.claxon_input.proofs.CacheBits.{unary_on_top, one_in_cache}
+use Rattle.claxon_input.proofs.CacheBits.{done_as, unary_on_top, one_in_cache}
 use Rattle.claxon_input.proofs.bits.ahead.Ahead.unary.Goals as goal
 
 pub pass-requires : goal.pass-requires
@@ -16,4 +16,4 @@ returns c rest =
     let a = c.fill.new.self in
     ap (λ (s : Bits). unary_at (s ++ rest)) (sym c.fill.ensures)
     ∙ unary_on_top a.cache a.count (bits_of (drop a.at a.bytes.now)) rest (omega arith) (omega arith) (omega arith) a.fits
-    ∙ ap (λ (s : Bits). Done (leading_zeros w64 a.cache) (s ++ rest)) (sym c.pass.ensures)
+    ∙ done_as (omega arith) (ap (λ (s : Bits). s ++ rest) (sym c.pass.ensures))
