@@ -1,5 +1,5 @@
 -- The calls of a reader of bytes give what the readers of fields give.
-use Rattle.std.proofs.Common.{◌≡◌, ℕ, ◌+◌, ◌*◌, ◌^◌, ◌<◌, ◌≤◌, List, [], ◌∷◌, length, bit_or, ◌%◌, Option, None, Some, refl, ◌∙◌, arith}
+use Rattle.std.proofs.Common.{◌≡◌, ℕ, ◌+◌, ◌*◌, ◌^◌, ◌<◌, ◌≤◌, List, [], ◌∷◌, length, bit_or, ◌%◌, Option, None, Some, refl, arith}
 use Rattle.claxon_format.specs.read.Bytes.{bytes_at, big_at, little_at, skipped_at}
 use Rattle.claxon_format.specs.Reading.{Reading, Done, Short}
 use Rattle.claxon_input.specs.Bytes.{be_bytes, le_bytes}

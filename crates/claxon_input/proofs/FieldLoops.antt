@@ -6,7 +6,7 @@ use Rattle.claxon_format.proofs.Laws.{bind_done}
 use Rattle.claxon_input.specs.declared.error.Error.{Error}
 use Rattle.claxon_input.specs.State.{State}
 use Rattle.claxon_input.specs.Gives.{Went, Stops}
-use Rattle.claxon_input.proofs.CallsInTurn.{went_both, went_map, went_none, stops_after, StopsWith}
+use Rattle.claxon_input.proofs.CallsInTurn.{went_both, went_map, stops_after, StopsWith}
 
 -- what was read before, and what is still read
 abbrev pub with_front : {X A : Type 0} → List A → Reading X (List A) → Reading X (List A)

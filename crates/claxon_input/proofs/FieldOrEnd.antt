@@ -9,14 +9,12 @@ use Rattle.claxon_input.specs.Bytes.{be_bytes}
 use Rattle.claxon_input.specs.Source.{Source, Takes, MeetsEnd, Breaks}
 use Rattle.claxon_input.specs.State.{State, bytes_in}
 use Rattle.claxon_input.specs.Gives.{Went, Stuck, Stops, Starved, Ended, or_end, GivesOrEnds, GivesOrEndsOrStarves}
-use Rattle.claxon_input.specs.Error.{IsFault, is_io, is_named}
 use Rattle.std.specs.declared.io.Error as io
 use Rattle.claxon_input.specs.declared.error.Error.{Error}
 use Rattle.claxon_input.specs.declared.error.Error.TheVariants.{IoError, FormatError, Unsupported, OutOfMemory}
 use Rattle.claxon_input.proofs.States.{ended_bytes, stuck_broken}
 use Rattle.claxon_input.proofs.CallsInTurn.{went_both, went_map, went_none, stops_after, StopsWith}
 use Rattle.claxon_input.proofs.ByteFields.{went_big}
-use Rattle.claxon_input.proofs.Faults.{stops_fault}
 
 -- ---- the calls of a reader of bytes
 

@@ -1,11 +1,11 @@
 -- What a call that gives what reading gives, or wants memory, promises to callers.
-use Rattle.std.proofs.Common.{◌≡◌, ◌⊎◌, inl, inr, Bool, true, false, ◌++◌, List, [], refl, sym, ap, subst, ◌∙◌}
-use Rattle.std.specs.Prelude.{not, ◌&&◌, ◌==◌, Result, Ok, Err}
-use Rattle.claxon_format.specs.Fault.{Fault, faults, fault_text, is_unsupported}
+use Rattle.std.proofs.Common.{◌≡◌, inl, inr, Bool, true, false, ◌++◌, List, [], refl, sym, ap, subst, ◌∙◌}
+use Rattle.std.specs.Prelude.{Result, Ok, Err}
+use Rattle.claxon_format.specs.Fault.{Fault}
 use Rattle.claxon_format.specs.Reading.{Reading, Reads, Done, Faulty, Short}
 use Rattle.claxon_input.specs.declared.error.Error.{Error}
 use Rattle.claxon_input.specs.declared.error.Error.TheVariants.{IoError, FormatError, Unsupported, OutOfMemory}
-use Rattle.claxon_input.specs.Error.{IsFault, IsIo, is_io, is_named}
+use Rattle.claxon_input.specs.Error.{IsFault, is_io}
 use Rattle.claxon_input.specs.Gives.{FailedIn, GivesOrStarves, IsFaultOf, IsRest, Stops, Stuck, Went}
 use Rattle.claxon_input.specs.Promises.{AnswersCode, Comes, EndsElse, LeavesRest, NamesFault, Promises, TakesCode, TakesFault, Took}
 use Rattle.claxon_input.specs.State.{State}

@@ -15,7 +15,7 @@ use Rattle.claxon_format.proofs.Numbers.{Reads-number}
 use Rattle.claxon_format.proofs.Words.{Reads-unary, zeros_no_fault}
 use Rattle.claxon_input.specs.Source.{Source, LosesFront, IsKnown, Takes, Refuses, Breaks, Failed, LosesSome, HasMore, MeetsEnd}
 use Rattle.claxon_input.specs.Bitstream.{BitState, bits_to_come, TakesBits, TakesNumber, RefusesBits, HasNoOne, RefusesOne}
-use Rattle.claxon_input.specs.State.{State, state_of, bytes_in, bits_after, past, is_told, known}
+use Rattle.claxon_input.specs.State.{State, state_of, bits_after, past, is_told, known}
 use Rattle.claxon_input.specs.Gives.{IsRest, Went, Stuck, FailedIn, Yields, Ended}
 
 -- functions that agree are one

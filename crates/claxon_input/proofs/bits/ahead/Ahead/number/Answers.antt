@@ -1,6 +1,5 @@
-use Rattle.std.proofs.Common.{rules, arith, ℕ, drop, ap, ◌-◌, ◌/◌, ◌^◌, ◌++◌, ◌∙◌, sym}
+use Rattle.std.proofs.Common.{rules, arith, ℕ, drop, ap, ◌/◌, ◌^◌, ◌++◌, ◌∙◌, sym}
 use Rattle.claxon_format.specs.Bits.{Bits, bits_of}
-use Rattle.claxon_format.specs.Reading.{Done}
 use Rattle.claxon_format.specs.read.Bits.{number_at}
 use Rattle.claxon_input.proofs.CacheBits.{done_as, number_on_top, number_fits}
 use Rattle.claxon_input.proofs.bits.ahead.Ahead.number.Goals as goal

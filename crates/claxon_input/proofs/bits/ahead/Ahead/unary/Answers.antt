@@ -1,7 +1,5 @@
 use Rattle.std.proofs.Common.{arith, drop, ap, ◌++◌, ◌∙◌, sym}
-use Rattle.std.specs.Int.{leading_zeros, w64}
 use Rattle.claxon_format.specs.Bits.{Bits, bits_of}
-use Rattle.claxon_format.specs.Reading.{Done}
 use Rattle.claxon_format.specs.read.Bits.{unary_at}
 use Rattle.claxon_input.proofs.CacheBits.{done_as, unary_on_top, one_in_cache}
 use Rattle.claxon_input.proofs.bits.ahead.Ahead.unary.Goals as goal
