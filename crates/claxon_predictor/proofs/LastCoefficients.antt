@@ -1,5 +1,5 @@
--- Coefficients as the last of thirty-two numbers, zeros before them, and the first thirty-two samples.
-use Rattle.std.proofs.Common.{◌≡◌, ℕ, zero, suc, ◌+◌, ◌-◌, ◌*◌, ◌^◌, ◌<◌, ◌≤◌, min, inl, inr, List, [], ◌∷◌, ◌++◌, length, take, drop, reverse, replicate, get_or, set, append_assoc, refl, sym, ap, add-zero, subst, ◌∙◌, arith, ℤ, pos, ◌+ℤ◌, of_z, to_z, w16, w64, FitsSigned, unsigned_abs}
+-- Coefficients as the last of n numbers, zeros before them, and the first n samples.
+use Rattle.std.proofs.Common.{◌≡◌, ℕ, zero, suc, ◌+◌, ◌-◌, ◌^◌, ◌<◌, ◌≤◌, min, inl, inr, List, [], ◌∷◌, ◌++◌, length, take, drop, reverse, replicate, get_or, set, append_assoc, refl, sym, ap, add-zero, subst, ◌∙◌, arith, ℤ, pos, ◌+ℤ◌, of_z, to_z, w16, w64, FitsSigned, unsigned_abs}
 use Rattle.std.proofs.lemmas.List.{take_more_set, take_more, take_all, append-nil, take-replicate, length-set, length-take, length-drop, drop_all, take-take, take-append-drop, drop-append-le, reverse-append, length-append, length-replicate, replicate-append-replicate, take-append-le}
 use Rattle.std.proofs.Math.Seq.{take-append_seam, drop-append_seam}
 use Rattle.std.proofs.lemmas.Bool.{cases_lt}
@@ -20,25 +20,25 @@ within_set m [] i x h k = tt
 within_set m (y ∷ ys) zero x h k = (h, k.1)
 within_set m (y ∷ ys) (suc i) x h k = (k.0, within_set m ys i x h k.1)
 
--- k zeros and i of the coefficients stand there
-pub record Filled (k i : ℕ) (cs xs : List ℤ) : Type 0 where
-  pub long : length xs ≡ 32
+-- k zeros and i of the coefficients stand there, of n numbers
+pub record Filled (n k i : ℕ) (cs xs : List ℤ) : Type 0 where
+  pub long : length xs ≡ n
   pub front : take (k + i) xs ≡ replicate k (pos 0) ++ take i cs
   pub small : Within (2 ^ 15) xs
 
-pub filled_none : (k : ℕ) (cs : List ℤ) → k ≤ 32 → Filled k 0 cs (replicate 32 (pos 0))
-filled_none k cs le = record {
-  long = refl;
-  front = ap (λ (n : ℕ). take n (replicate 32 (pos 0))) (add-zero k) ∙ take-replicate k 32 (pos 0) le ∙ sym (append-nil (replicate k (pos 0)));
-  small = record { each = within_zeros (2 ^ 15) 32 };
+pub filled_none : (n k : ℕ) (cs : List ℤ) → k ≤ n → Filled n k 0 cs (replicate n (pos 0))
+filled_none n k cs le = record {
+  long = length-replicate n (pos 0);
+  front = ap (λ (m : ℕ). take m (replicate n (pos 0))) (add-zero k) ∙ take-replicate k n (pos 0) le ∙ sym (append-nil (replicate k (pos 0)));
+  small = record { each = within_zeros (2 ^ 15) n };
 }
 
-pub filled_more : {k i : ℕ} {cs xs : List ℤ} (x : ℤ) → i < length cs → k + i < 32 → FitsSigned w16 (get_or cs i (pos 0)) → x ≡ to_z w16 (of_z w16 (get_or cs i (pos 0))) → Filled k i cs xs
-    → Filled k (i + 1) cs (set xs (k + i) (to_z w64 (of_z w64 x)))
-filled_more {k} {i} {cs} {xs} x lt room f e h =
+pub filled_more : {n k i : ℕ} {cs xs : List ℤ} (x : ℤ) → i < length cs → k + i < n → FitsSigned w16 (get_or cs i (pos 0)) → x ≡ to_z w16 (of_z w16 (get_or cs i (pos 0))) → Filled n k i cs xs
+    → Filled n k (i + 1) cs (set xs (k + i) (to_z w64 (of_z w64 x)))
+filled_more {n} {k} {i} {cs} {xs} x lt room f e h =
     let value : to_z w64 (of_z w64 x) ≡ get_or cs i (pos 0) = ap (λ (y : ℤ). to_z w64 (of_z w64 y)) e ∙ value_16 (get_or cs i (pos 0)) f in
     let next : take (k + (i + 1)) (set xs (k + i) (to_z w64 (of_z w64 x))) ≡ take (k + i) xs ++ to_z w64 (of_z w64 x) ∷ []
-    = ap (λ (n : ℕ). take n (set xs (k + i) (to_z w64 (of_z w64 x)))) (omega arith) ∙ take_more_set xs (k + i) (to_z w64 (of_z w64 x)) (omega (arith, h.long)) in
+    = ap (λ (m : ℕ). take m (set xs (k + i) (to_z w64 (of_z w64 x)))) (omega arith) ∙ take_more_set xs (k + i) (to_z w64 (of_z w64 x)) (omega (arith, h.long)) in
     record {
       long = length-set xs (k + i) (to_z w64 (of_z w64 x)) ∙ h.long;
       front = next ∙ ap (λ (t : List ℤ). t ++ to_z w64 (of_z w64 x) ∷ []) h.front ∙ append_assoc (replicate k (pos 0)) (take i cs) (to_z w64 (of_z w64 x) ∷ [])
@@ -46,8 +46,8 @@ filled_more {k} {i} {cs} {xs} x lt room f e h =
       small = record { each = within_set (2 ^ 15) xs (k + i) (to_z w64 (of_z w64 x)) (subst (λ (y : ℤ). unsigned_abs y ≤ 32768) (sym value) (abs_16 (get_or cs i (pos 0)) f)) h.small.each };
     }
 
-pub filled_all : {k i : ℕ} {cs xs : List ℤ} → length cs ≤ i → 32 ≤ k + i → Filled k i cs xs → xs ≡ replicate k (pos 0) ++ cs
-filled_all {k} {i} {cs} {xs} all full h = sym (take_all (k + i) xs (omega (arith, h.long))) ∙ h.front ∙ ap (λ (t : List ℤ). replicate k (pos 0) ++ t) (take_all i cs all)
+pub filled_all : {n k i : ℕ} {cs xs : List ℤ} → length cs ≤ i → n ≤ k + i → Filled n k i cs xs → xs ≡ replicate k (pos 0) ++ cs
+filled_all {n} {k} {i} {cs} {xs} all full h = sym (take_all (k + i) xs (omega (arith, h.long))) ∙ h.front ∙ ap (λ (t : List ℤ). replicate k (pos 0) ++ t) (take_all i cs all)
 
 -- ---- the first samples by themselves, and then the others
 
@@ -98,24 +98,24 @@ linear_behind k cs t l =
     let turned : reverse (replicate k (pos 0) ++ cs) ≡ reverse cs ++ replicate k (pos 0) = reverse-append (replicate k (pos 0)) cs ∙ ap (λ (z : List ℤ). reverse cs ++ z) (reverse_zeros k) in
     ap (λ (z : List ℤ). floor_shift (dot z l) t) turned ∙ ap (λ (y : ℤ). floor_shift y t) (dot_behind k (reverse cs) l)
 
-pub rest_is : (cs xs many front all : List ℤ) (t f : ℕ) → length cs ≤ 32 → length cs ≤ length xs → f ≡ min (length xs) 32 → many ≡ replicate (32 - length cs) (pos 0) ++ cs
-    → front ≡ restored (linear (reverse cs) t) (length cs) (take f xs) → all ≡ restored (linear (reverse many) t) 32 (front ++ drop f xs) → all ≡ restored (linear (reverse cs) t) (length cs) xs
-rest_is cs xs many front all t f few warm ef et er ea =
-    let same = λ (l : List ℤ). ap (λ (z : List ℤ). linear (reverse z) t l) et ∙ linear_behind (32 - length cs) cs t l in
-    elim (cases_lt (length xs) 32) [
+pub rest_is : (n : ℕ) (cs xs many front all : List ℤ) (t f : ℕ) → length cs ≤ n → length cs ≤ length xs → f ≡ min (length xs) n → many ≡ replicate (n - length cs) (pos 0) ++ cs
+    → front ≡ restored (linear (reverse cs) t) (length cs) (take f xs) → all ≡ restored (linear (reverse many) t) n (front ++ drop f xs) → all ≡ restored (linear (reverse cs) t) (length cs) xs
+rest_is n cs xs many front all t f few warm ef et er ea =
+    let same = λ (l : List ℤ). ap (λ (z : List ℤ). linear (reverse z) t l) et ∙ linear_behind (n - length cs) cs t l in
+    elim (cases_lt (length xs) n) [
       | inl short ↦
           (let whole : front ≡ restored (linear (reverse cs) t) (length cs) xs = er ∙ ap (restored (linear (reverse cs) t) (length cs)) (take_all f xs (omega arith)) in
           let long : length front ≡ length xs = ap length whole ∙ length-restored (linear (reverse cs) t) (length cs) xs warm in
-          ea ∙ ap (λ (z : List ℤ). restored (linear (reverse many) t) 32 (front ++ z)) (drop_all f xs (omega arith))
-          ∙ ap (restored (linear (reverse many) t) 32) (append-nil front) ∙ restored_all (linear (reverse many) t) front 32 (omega arith) ∙ whole)
+          ea ∙ ap (λ (z : List ℤ). restored (linear (reverse many) t) n (front ++ z)) (drop_all f xs (omega arith))
+          ∙ ap (restored (linear (reverse many) t) n) (append-nil front) ∙ restored_all (linear (reverse many) t) front n (omega arith) ∙ whole)
       | inr long ↦
-          (let all_first : f ≡ 32 = omega arith in
-          ea ∙ ap (λ (z : List ℤ). restored (linear (reverse many) t) 32 (z ++ drop f xs)) er
-          ∙ ap (λ (n : ℕ). restored (linear (reverse many) t) 32 (restored (linear (reverse cs) t) (length cs) (take n xs) ++ drop n xs)) all_first
-          ∙ restored_front (linear (reverse many) t) (linear (reverse cs) t) (length cs) 32 xs few long same)
+          (let all_first : f ≡ n = omega arith in
+          ea ∙ ap (λ (z : List ℤ). restored (linear (reverse many) t) n (z ++ drop f xs)) er
+          ∙ ap (λ (m : ℕ). restored (linear (reverse many) t) n (restored (linear (reverse cs) t) (length cs) (take m xs) ++ drop m xs)) all_first
+          ∙ restored_front (linear (reverse many) t) (linear (reverse cs) t) (length cs) n xs few long same)
     ]
 
--- zeros stand before so few coefficients
-pub zeros_before : (cs many : List ℤ) (v : ℕ) → v ≤ 7 → length cs ≤ 4 * v + 4 → many ≡ replicate (32 - length cs) (pos 0) ++ cs → take (28 - 4 * v) many ≡ replicate (28 - 4 * v) (pos 0)
-zeros_before cs many v most few e =
-    ap (take (28 - 4 * v)) e ∙ take-append-le (28 - 4 * v) (replicate (32 - length cs) (pos 0)) cs (omega (arith, length-replicate (32 - length cs) (pos 0))) ∙ take-replicate (28 - 4 * v) (32 - length cs) (pos 0) (omega arith)
+-- k zeros stand before so few coefficients
+pub zeros_before : (n k : ℕ) (cs many : List ℤ) → length cs + k ≤ n → many ≡ replicate (n - length cs) (pos 0) ++ cs → take k many ≡ replicate k (pos 0)
+zeros_before n k cs many few e =
+    ap (take k) e ∙ take-append-le k (replicate (n - length cs) (pos 0)) cs (omega (arith, length-replicate (n - length cs) (pos 0))) ∙ take-replicate k (n - length cs) (pos 0) (omega arith)

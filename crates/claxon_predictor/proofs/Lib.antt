@@ -4,3 +4,4 @@ pub mod Lanes
 pub mod LastCoefficients
 pub mod Sums
 pub mod SampleLoop
+pub mod Twelve

@@ -17,7 +17,7 @@ use Rattle.claxon_predictor.proofs.LastCoefficients.{reverse_zeros}
 use Rattle.claxon_format.specs.Predict.{wrap, dot, floor_shift, linear}
 use Rattle.claxon_format.proofs.Wraps.{Rep, rep_add, rep_mul, rep_fits}
 use Rattle.claxon_predictor.specs.Lanes.{AllWithin, Within, Lanes, Wide, wrap_64, two_on}
-use Rattle.claxon_predictor.specs.Sums.{but_newest_five, waiting_at, four_waiting, four_taps, Waits, AreTaps, SmallTaps, SmallLater, AreLaterTaps, FitVectors, WideSums, put_up, IsPutUp, plus_five, IsSample}
+use Rattle.claxon_predictor.specs.Sums.{but_newest_five, waiting_at, four_waiting, four_taps, Waits, AreTaps, SmallTaps, SmallLater, AreLaterTaps, FitVectors, WideSums, put_up, IsPutUp, plus_five, IsSample, IsFollowed, five_before, AreNewest}
 use Rattle.claxon_predictor.specs.declared.predictor.Five.{Five}
 use Rattle.claxon_predictor.specs.declared.predictor.Taps.{Taps}
 use Rattle.claxon_predictor.specs.declared.predictor.Later.{Later}
@@ -53,7 +53,7 @@ waiting_two ks past x y j k m ek em =
     ap (λ (v : ℤ). wrap_64 (v +ℤ get_or ks j (pos 0) *ℤ y)) first ∙ int_wrap-add_left w64 (dot (drop k ks) (x ∷ past)) (get_or ks j (pos 0) *ℤ y)
     ∙ ap wrap_64 (+ℤ_comm (dot (drop k ks) (x ∷ past)) (get_or ks j (pos 0) *ℤ y) ∙ sym two)
 
-four_same : {a b c d e f g h : ℤ} → a ≡ e → b ≡ f → c ≡ g → d ≡ h → a ∷ b ∷ c ∷ d ∷ [] ≡ e ∷ f ∷ g ∷ h ∷ []
+pub four_same : {a b c d e f g h : ℤ} → a ≡ e → b ≡ f → c ≡ g → d ≡ h → a ∷ b ∷ c ∷ d ∷ [] ≡ e ∷ f ∷ g ∷ h ∷ []
 four_same {a} {b} {c} {d} {e} {f} {g} {h} p q r s =
     ap (λ (v : ℤ). v ∷ b ∷ c ∷ d ∷ []) p ∙ ap (λ (v : ℤ). e ∷ v ∷ c ∷ d ∷ []) q ∙ ap (λ (v : ℤ). e ∷ f ∷ v ∷ d ∷ []) r ∙ ap (λ (v : ℤ). e ∷ f ∷ g ∷ v ∷ []) s
 
@@ -92,8 +92,8 @@ zero_64 = int_wrap_fits w64 (pos 0) (record { sfits = omega arith })
 waits_none : (ks past : List ℤ) (j : ℕ) → length ks ≤ j → waiting_at ks past j ≡ pos 0
 waits_none ks past j le = ap (λ (l : List ℤ). wrap_64 (dot l past)) (drop_all j ks le) ∙ zero_64
 
-pub none_past : (ks past : List ℤ) → length ks ≡ 32 → replicate 4 (pos 0) ≡ four_waiting ks past 32
-none_past ks past e = sym (four_same (waits_none ks past 35 (omega arith)) (waits_none ks past 34 (omega arith)) (waits_none ks past 33 (omega arith)) (waits_none ks past 32 (omega arith)))
+pub none_past : (ks past : List ℤ) (n : ℕ) → length ks ≡ n → replicate 4 (pos 0) ≡ four_waiting ks past n
+none_past ks past n e = sym (four_same (waits_none ks past (n + 3) (omega arith)) (waits_none ks past (n + 2) (omega arith)) (waits_none ks past (n + 1) (omega arith)) (waits_none ks past n (omega arith)))
 
 dot_nothing : (ks : List ℤ) → dot ks [] ≡ pos 0
 dot_nothing [] = refl
@@ -114,8 +114,8 @@ zero_behind : (ks past : List ℤ) (v i : ℕ) → 4 * v + 4 ≤ i → FitVector
 zero_behind ks past v i le fit =
     let d : ℕ = i - (4 * v + 4) in
     let there : 4 * v + 4 + d ≡ i = omega arith in
-    zeros_wait ks past (28 - 4 * v - d) i
-    (sym (drop-drop d (4 * v + 4) ks ∙ ap (λ (n : ℕ). drop n ks) there) ∙ ap (drop d) fit ∙ drop-replicate d (28 - 4 * v) (pos 0))
+    zeros_wait ks past (length ks - (4 * v + 4) - d) i
+    (sym (drop-drop d (4 * v + 4) ks ∙ ap (λ (n : ℕ). drop n ks) there) ∙ ap (drop d) fit ∙ drop-replicate d (length ks - (4 * v + 4)) (pos 0))
 
 four_behind : (ks past : List ℤ) (v j : ℕ) → 4 * v + 4 ≤ j → FitVectors v ks → replicate 4 (pos 0) ≡ four_waiting ks past j
 four_behind ks past v j le fit =
@@ -154,11 +154,11 @@ dot_enough (c ∷ l) (x ∷ past) rest (suc n) k e le = ap (λ (z : ℤ). c *ℤ
 waiting_enough : (ks past rest : List ℤ) (v j : ℕ) → FitVectors v ks → 4 * v + 4 ≤ length past → waiting_at ks past j ≡ waiting_at ks (past ++ rest) j
 waiting_enough ks past rest v j fit le =
     let turn : j + (4 * v + 4) ≡ 4 * v + 4 + j = omega arith in
-    let none : drop (4 * v + 4) (drop j ks) ≡ replicate (28 - 4 * v - j) (pos 0)
-    = drop-drop (4 * v + 4) j ks ∙ ap (λ (n : ℕ). drop n ks) turn ∙ sym (drop-drop j (4 * v + 4) ks) ∙ ap (drop j) fit ∙ drop-replicate j (28 - 4 * v) (pos 0) in
-    ap wrap_64 (sym (dot_enough (drop j ks) past rest (4 * v + 4) (28 - 4 * v - j) none le))
+    let none : drop (4 * v + 4) (drop j ks) ≡ replicate (length ks - (4 * v + 4) - j) (pos 0)
+    = drop-drop (4 * v + 4) j ks ∙ ap (λ (n : ℕ). drop n ks) turn ∙ sym (drop-drop j (4 * v + 4) ks) ∙ ap (drop j) fit ∙ drop-replicate j (length ks - (4 * v + 4)) (pos 0) in
+    ap wrap_64 (sym (dot_enough (drop j ks) past rest (4 * v + 4) (length ks - (4 * v + 4) - j) none le))
 
-four_enough : (ks past rest : List ℤ) (v j : ℕ) → FitVectors v ks → 4 * v + 4 ≤ length past → four_waiting ks past j ≡ four_waiting ks (past ++ rest) j
+pub four_enough : (ks past rest : List ℤ) (v j : ℕ) → FitVectors v ks → 4 * v + 4 ≤ length past → four_waiting ks past j ≡ four_waiting ks (past ++ rest) j
 four_enough ks past rest v j fit le =
     four_same (waiting_enough ks past rest v (j + 3) fit le) (waiting_enough ks past rest v (j + 2) fit le) (waiting_enough ks past rest v (j + 1) fit le) (waiting_enough ks past rest v j fit le)
 
@@ -295,19 +295,13 @@ put_up_is a r t ht =
 
 -- ---- a place
 
+from_last : (ts : List ℤ) (n i k : ℕ) → length ts ≡ n → i + k + 1 ≡ n → get_or (reverse ts) i (pos 0) ≡ get_or ts k (pos 0)
+from_last ts n i k long e = get_or-reverse ts i (pos 0) (omega arith) ∙ ap (λ (m : ℕ). get_or ts m (pos 0)) (omega arith)
+
 -- the newest five coefficients, and the others
 five_first : (l : List ℤ) → 5 ≤ length l → l ≡ get_or l 0 (pos 0) ∷ get_or l 1 (pos 0) ∷ get_or l 2 (pos 0) ∷ get_or l 3 (pos 0) ∷ get_or l 4 (pos 0) ∷ drop 5 l
 five_first (a ∷ b ∷ c ∷ d ∷ e ∷ l) le = refl
 five_first l le = absurd (omega arith)
-
-from_last : (ts : List ℤ) (i k : ℕ) → length ts ≡ 32 → i + k ≡ 31 → get_or (reverse ts) i (pos 0) ≡ get_or ts k (pos 0)
-from_last ts i k long e = get_or-reverse ts i (pos 0) (omega arith) ∙ ap (λ (n : ℕ). get_or ts n (pos 0)) (omega arith)
-
-turned : (ts : List ℤ) → length ts ≡ 32
-    → reverse ts ≡ get_or ts 31 (pos 0) ∷ get_or ts 30 (pos 0) ∷ get_or ts 29 (pos 0) ∷ get_or ts 28 (pos 0) ∷ get_or ts 27 (pos 0) ∷ drop 5 (reverse ts)
-turned ts long =
-    five_first (reverse ts) (omega (arith, length-reverse ts))
-    ∙ rw (from_last ts 0 31 long refl, from_last ts 1 30 long refl, from_last ts 2 29 long refl, from_last ts 3 28 long refl, from_last ts 4 27 long refl) refl
 
 one_waits : (ds past : List ℤ) (n : ℤ) → dot (pos 0 ∷ ds) (n ∷ past) ≡ dot ds past
 one_waits ds past n = ap (λ (v : ℤ). v +ℤ dot ds past) (zero-*ℤ n) ∙ +ℤ_idl (dot ds past)
@@ -315,40 +309,48 @@ one_waits ds past n = ap (λ (v : ℤ). v +ℤ dot ds past) (zero-*ℤ n) ∙ +�
 four_wait : (ds rest : List ℤ) (n s t f : ℤ) → dot (pos 0 ∷ pos 0 ∷ pos 0 ∷ pos 0 ∷ ds) (n ∷ s ∷ t ∷ f ∷ rest) ≡ dot ds rest
 four_wait ds rest n s t f = one_waits (pos 0 ∷ pos 0 ∷ pos 0 ∷ ds) (s ∷ t ∷ f ∷ rest) n ∙ one_waits (pos 0 ∷ pos 0 ∷ ds) (t ∷ f ∷ rest) s ∙ one_waits (pos 0 ∷ ds) (f ∷ rest) t ∙ one_waits ds rest f
 
--- the coefficients of the newest five samples
-pub record AreLast (ts : List ℤ) (c : Five) : Type 0 where
-  pub fifth : c.fifth ≡ get_or ts 27 (pos 0)
-  pub fourth : c.fourth ≡ get_or ts 28 (pos 0)
-  pub third : c.third ≡ get_or ts 29 (pos 0)
-  pub second : c.second ≡ get_or ts 30 (pos 0)
-  pub newest : c.newest ≡ get_or ts 31 (pos 0)
-
--- five samples, the newest first, and what stands before them
-abbrev pub five_before : Five → List ℤ → List ℤ
-five_before s rest = s.newest ∷ s.second ∷ s.third ∷ s.fourth ∷ s.fifth ∷ rest
-
 -- what is predicted from all samples, by the sum over all but the newest five
-five_last : (ts rest : List ℤ) (c s : Five) → length ts ≡ 32 → AreLast ts c → plus_five (dot (drop 5 (reverse ts)) rest) c s ≡ dot (reverse ts) (five_before s rest)
-five_last ts rest c s long h =
+five_last : (ds rest : List ℤ) (c s : Five) → plus_five (dot ds rest) c s ≡ dot (five_before c ds) (five_before s rest)
+five_last ds rest c s =
     let regroup : (a b d e f g : ℤ) → ((((a +ℤ b) +ℤ d) +ℤ e) +ℤ f) +ℤ g ≡ g +ℤ (f +ℤ (e +ℤ (d +ℤ (b +ℤ a)))) = λ a b d e f g. omega (arith, ints) in
-    regroup (dot (drop 5 (reverse ts)) rest) (c.fifth *ℤ s.fifth) (c.fourth *ℤ s.fourth) (c.third *ℤ s.third) (c.second *ℤ s.second) (c.newest *ℤ s.newest)
-    ∙ rw (h.fifth, h.fourth, h.third, h.second, h.newest) (ap (λ (l : List ℤ). dot l (five_before s rest)) (sym (turned ts long)))
+    regroup (dot ds rest) (c.fifth *ℤ s.fifth) (c.fourth *ℤ s.fourth) (c.third *ℤ s.third) (c.second *ℤ s.second) (c.newest *ℤ s.newest)
 
-pub one_is : (ts rest : List ℤ) (r w e x : ℤ) (c s : Five) (t : ℕ) → length ts ≡ 32 → AreLast ts c → w ≡ waiting_at (but_newest_five ts) (five_before s rest) 0
-    → IsPutUp w r t e → IsSample e c s t x → x ≡ wrap (linear (reverse ts) t (five_before s rest) +ℤ r)
-one_is ts rest r w e x c s t long last ew up is =
-    let sum : ℤ = dot (drop 5 (reverse ts)) rest in
-    let none : dot (but_newest_five ts) (five_before s rest) ≡ sum
-    = four_wait (pos 0 ∷ drop 5 (reverse ts)) (s.fifth ∷ rest) s.newest s.second s.third s.fourth ∙ one_waits (drop 5 (reverse ts)) rest s.fifth in
-    is sum r (up sum (ew ∙ ap wrap_64 none)) ∙ ap (λ (v : ℤ). wrap (floor_shift v t +ℤ r)) (five_last ts rest c s long last)
+-- one more of them
+followed_is : (s b : Five) (m : ℤ) (rest : List ℤ) → IsFollowed s m b → five_before b (s.fifth ∷ rest) ≡ m ∷ five_before s rest
+followed_is s b m rest f = rw (f.newest, f.second, f.third, f.fourth, f.fifth) refl
+
+-- two more
+pub followed_twice : (s b n : Five) (one two : ℤ) (rest : List ℤ) → IsFollowed s one b → IsFollowed b two n → n.newest ∷ n.second ∷ five_before s rest ≡ five_before n (s.fourth ∷ s.fifth ∷ rest)
+followed_twice s b n one two rest f g =
+    let third : n.third ≡ s.newest = g.third ∙ f.second in
+    let fourth : n.fourth ≡ s.second = g.fourth ∙ f.third in
+    let fifth : n.fifth ≡ s.third = g.fifth ∙ f.fourth in
+    rw (third, fourth, fifth) refl
+
+-- the sample of a place that so much waits for
+place_is : (ks ds rest : List ℤ) (r w e x : ℤ) (c s : Five) (t : ℕ) → ks ≡ five_before c ds → w ≡ wrap_64 (dot ds rest) → IsPutUp w r t e → IsSample e c s t x → x ≡ wrap (linear ks t (five_before s rest) +ℤ r)
+place_is ks ds rest r w e x c s t ek ew up is =
+    is (dot ds rest) r (up (dot ds rest) ew) ∙ ap (λ (v : ℤ). wrap (floor_shift v t +ℤ r)) (five_last ds rest c s)
+    ∙ ap (λ (l : List ℤ). wrap (linear l t (five_before s rest) +ℤ r)) (sym ek)
+
+-- the nearest
+pub one_is : (ks rest ws : List ℤ) (r w e x : ℤ) (c s : Five) (t : ℕ) (new : AreNewest ks c) → ws ≡ four_waiting (but_newest_five ks) (five_before s rest) 0 → w ≡ get_or ws 3 (pos 0)
+    → IsPutUp w r t e → IsSample e c s t x → x ≡ wrap (linear ks t (five_before s rest) +ℤ r)
+one_is ks rest ws r w e x c s t new es ew up is =
+    let there : w ≡ waiting_at (but_newest_five ks) (five_before s rest) 0 = ew ∙ ap (λ (l : List ℤ). get_or l 3 (pos 0)) es in
+    let others : waiting_at (but_newest_five ks) (five_before s rest) 0 ≡ waiting_at (but_newest_five (five_before c new.rest)) (five_before s rest) 0 = ap (λ (l : List ℤ). waiting_at (but_newest_five l) (five_before s rest) 0) new.is in
+    let none : dot (but_newest_five (five_before c new.rest)) (five_before s rest) ≡ dot new.rest rest
+    = four_wait (pos 0 ∷ new.rest) (s.fifth ∷ rest) s.newest s.second s.third s.fourth ∙ one_waits new.rest rest s.fifth in
+    place_is ks new.rest rest r w e x c s t new.is (there ∙ others ∙ ap wrap_64 none) up is
 
 -- the place after it
-pub two_is : (ts rest : List ℤ) (v r w e x : ℤ) (c s : Five) (t : ℕ) → length ts ≡ 32 → AreLast ts c → w ≡ waiting_at (but_newest_five ts) (s.second ∷ s.third ∷ s.fourth ∷ s.fifth ∷ v ∷ rest) 1
-    → IsPutUp w r t e → IsSample e c s t x → x ≡ wrap (linear (reverse ts) t (five_before s (v ∷ rest)) +ℤ r)
-two_is ts rest v r w e x c s t long last ew up is =
-    let sum : ℤ = dot (drop 5 (reverse ts)) (v ∷ rest) in
-    let none = four_wait (drop 5 (reverse ts)) (v ∷ rest) s.second s.third s.fourth s.fifth in
-    is sum r (up sum (ew ∙ ap wrap_64 none)) ∙ ap (λ (d : ℤ). wrap (floor_shift d t +ℤ r)) (five_last ts (v ∷ rest) c s long last)
+pub two_is : (ks rest ws : List ℤ) (m r w e x : ℤ) (c s b : Five) (t : ℕ) (new : AreNewest ks c) → IsFollowed s m b → ws ≡ four_waiting (but_newest_five ks) (five_before s rest) 0 → w ≡ get_or ws 2 (pos 0)
+    → IsPutUp w r t e → IsSample e c b t x → x ≡ wrap (linear ks t (m ∷ five_before s rest) +ℤ r)
+two_is ks rest ws m r w e x c s b t new f es ew up is =
+    let there : w ≡ waiting_at (but_newest_five ks) (five_before s rest) 1 = ew ∙ ap (λ (l : List ℤ). get_or l 2 (pos 0)) es in
+    let others : waiting_at (but_newest_five ks) (five_before s rest) 1 ≡ waiting_at (but_newest_five (five_before c new.rest)) (five_before s rest) 1 = ap (λ (l : List ℤ). waiting_at (but_newest_five l) (five_before s rest) 1) new.is in
+    let none : dot (pos 0 ∷ pos 0 ∷ pos 0 ∷ pos 0 ∷ new.rest) (five_before s rest) ≡ dot new.rest (s.fifth ∷ rest) = four_wait new.rest (s.fifth ∷ rest) s.newest s.second s.third s.fourth in
+    place_is ks new.rest (s.fifth ∷ rest) r w e x c b t new.is (there ∙ others ∙ ap wrap_64 none) up is ∙ ap (λ (l : List ℤ). wrap (linear ks t l +ℤ r)) (followed_is s b m rest f)
 
 power_fits : (t : ℕ) → FitsSigned w64 (pos (2 ^ (32 - t)))
 power_fits t =
@@ -412,7 +414,7 @@ farther_up xs u farther nearest z t h fits ht eu ex = absurd (omega (arith, h.fo
 
 -- ---- the coefficients, as the code makes them of thirty-two numbers
 
-abbrev entry : List ℤ → ℕ → ℤ
+abbrev pub entry : List ℤ → ℕ → ℤ
 entry ts j = to_z w64 (of_z w64 (get_or ts j (pos 0)))
 
 abbrev second_taps : List ℤ → Later
@@ -429,22 +431,27 @@ within_at m [] i h = omega arith
 within_at m (x ∷ xs) zero h = h.0
 within_at m (x ∷ xs) (suc i) h = within_at m xs i h.1
 
-entry_is : (ts : List ℤ) (j : ℕ) → Within 32768 ts → entry ts j ≡ get_or ts j (pos 0)
+pub entry_is : (ts : List ℤ) (j : ℕ) → Within 32768 ts → entry ts j ≡ get_or ts j (pos 0)
 entry_is ts j h = to_z-of_z w64 (get_or ts j (pos 0)) (small_fits 32768 (get_or ts j (pos 0)) (omega arith) (within_at 32768 ts j h.each))
 
-pub are_last : (ts : List ℤ) → Within 32768 ts → AreLast ts (record { fifth = entry ts 27; fourth = entry ts 28; third = entry ts 29; second = entry ts 30; newest = entry ts 31 })
-are_last ts h = record { fifth = entry_is ts 27 h; fourth = entry_is ts 28 h; third = entry_is ts 29 h; second = entry_is ts 30 h; newest = entry_is ts 31 h }
+-- the last five of thirty-two are the newest
+pub are_last : (ts : List ℤ) → length ts ≡ 32 → Within 32768 ts → AreNewest (reverse ts) (record { fifth = entry ts 27; fourth = entry ts 28; third = entry ts 29; second = entry ts 30; newest = entry ts 31 })
+are_last ts long h = record {
+  rest = drop 5 (reverse ts);
+  is = five_first (reverse ts) (omega (arith, length-reverse ts))
+      ∙ rw (from_last ts 32 0 31 long refl, from_last ts 32 1 30 long refl, from_last ts 32 2 29 long refl, from_last ts 32 3 28 long refl, from_last ts 32 4 27 long refl, entry_is ts 27 h, entry_is ts 28 h, entry_is ts 29 h, entry_is ts 30 h, entry_is ts 31 h) refl;
+}
 
-entry_small : (ts : List ℤ) (j : ℕ) → Within 32768 ts → unsigned_abs (entry ts j) ≤ 32768
+pub entry_small : (ts : List ℤ) (j : ℕ) → Within 32768 ts → unsigned_abs (entry ts j) ≤ 32768
 entry_small ts j h = subst (λ (v : ℤ). unsigned_abs v ≤ 32768) (sym (entry_is ts j h)) (within_at 32768 ts j h.each)
 
 kept : (ts : List ℤ) (i k : ℕ) → length ts ≡ 32 → i + k ≡ 26 → get_or (drop 5 (reverse ts)) i (pos 0) ≡ get_or ts k (pos 0)
-kept ts i k long e = get_or-drop 5 (reverse ts) i (pos 0) ∙ from_last ts (5 + i) k long (omega arith)
+kept ts i k long e = get_or-drop 5 (reverse ts) i (pos 0) ∙ from_last ts 32 (5 + i) k long (omega arith)
 
-taps_length : (ts : List ℤ) → length ts ≡ 32 → length (but_newest_five ts) ≡ 32
+taps_length : (ts : List ℤ) → length ts ≡ 32 → length (but_newest_five (reverse ts)) ≡ 32
 taps_length ts long = omega (arith, length-drop 5 (reverse ts), length-reverse ts)
 
-second_value : (ts : List ℤ) → length ts ≡ 32 → Within 32768 ts → AreLaterTaps (but_newest_five ts) 1 (second_taps ts)
+second_value : (ts : List ℤ) → length ts ≡ 32 → Within 32768 ts → AreLaterTaps (but_newest_five (reverse ts)) 1 (second_taps ts)
 second_value ts long h =
     let z : (i k : ℕ) → i + k ≡ 26 → entry ts k ≡ get_or (drop 5 (reverse ts)) i (pos 0) = λ i k e. entry_is ts k h ∙ sym (kept ts i k long e) in
     let past : pos 0 ≡ get_or (drop 5 (reverse ts)) 27 (pos 0) = sym (get_or_past (drop 5 (reverse ts)) 27 (pos 0) (omega (arith, length-drop 5 (reverse ts), length-reverse ts))) in
@@ -458,7 +465,7 @@ second_value ts long h =
       at_28 = four_same past (z 26 0 refl) (z 25 1 refl) (z 24 2 refl);
     }
 
-newest_value : (ts : List ℤ) → length ts ≡ 32 → Within 32768 ts → AreLaterTaps (but_newest_five ts) 0 (newest_taps ts)
+newest_value : (ts : List ℤ) → length ts ≡ 32 → Within 32768 ts → AreLaterTaps (but_newest_five (reverse ts)) 0 (newest_taps ts)
 newest_value ts long h =
     let z : (i k : ℕ) → i + k ≡ 26 → entry ts k ≡ get_or (drop 5 (reverse ts)) i (pos 0) = λ i k e. entry_is ts k h ∙ sym (kept ts i k long e) in
     record {
@@ -471,10 +478,10 @@ newest_value ts long h =
       at_28 = four_same (z 26 0 refl) (z 25 1 refl) (z 24 2 refl) (z 23 3 refl);
     }
 
-pub taps_value : (ts : List ℤ) → length ts ≡ 32 → Within 32768 ts → AreTaps (but_newest_five ts) (as_taps ts)
+pub taps_value : (ts : List ℤ) → length ts ≡ 32 → Within 32768 ts → AreTaps (but_newest_five (reverse ts)) (as_taps ts)
 taps_value ts long h = record { long = taps_length ts long; nearest = refl; second = second_value ts long h; newest = newest_value ts long h }
 
-four_lanes : {a b c d : ℤ} → unsigned_abs a ≤ 32768 → unsigned_abs b ≤ 32768 → unsigned_abs c ≤ 32768 → unsigned_abs d ≤ 32768 → Lanes 32768 (a ∷ b ∷ c ∷ d ∷ [])
+pub four_lanes : {a b c d : ℤ} → unsigned_abs a ≤ 32768 → unsigned_abs b ≤ 32768 → unsigned_abs c ≤ 32768 → unsigned_abs d ≤ 32768 → Lanes 32768 (a ∷ b ∷ c ∷ d ∷ [])
 four_lanes ha hb hc hd = record { four = refl; each = (ha, (hb, (hc, (hd, tt)))) }
 
 second_small : (ts : List ℤ) → Within 32768 ts → SmallLater (second_taps ts)
@@ -492,13 +499,13 @@ newest_small ts h =
 pub taps_small : (ts : List ℤ) → Within 32768 ts → SmallTaps (as_taps ts)
 taps_small ts h = record { second = second_small ts h; newest = newest_small ts h }
 
--- zeros before the coefficients leave the farthest places without any
-pub fit_vectors : (ts : List ℤ) (v : ℕ) → length ts ≡ 32 → 1 ≤ v → v ≤ 7 → take (28 - 4 * v) ts ≡ replicate (28 - 4 * v) (pos 0) → FitVectors v (but_newest_five ts)
-fit_vectors ts v long some most zeros =
-    let n : ℕ = 28 - 4 * v in
+-- k zeros before the coefficients leave the farthest places without any
+pub fit_vectors : (ts : List ℤ) (n v k : ℕ) → length ts ≡ n → k + (4 * v + 4) ≡ n → 1 ≤ v → take k ts ≡ replicate k (pos 0) → FitVectors v (but_newest_five (reverse ts))
+fit_vectors ts n v k long whole some zeros =
     let there : 5 + (4 * v - 1) ≡ 4 * v + 4 = omega arith in
-    let halves : reverse ts ≡ reverse (drop n ts) ++ reverse (take n ts) = ap reverse (sym (take-append-drop n ts)) ∙ reverse-append (take n ts) (drop n ts) in
-    let far : length (reverse (drop n ts)) ≡ 4 * v + 4 = omega (arith, length-reverse (drop n ts), length-drop n ts) in
-    let behind : drop (4 * v + 4) (reverse ts) ≡ reverse (take n ts) = ap (λ (m : ℕ). drop m (reverse ts)) (sym far) ∙ ap (drop (length (reverse (drop n ts)))) halves ∙ drop-append_seam (reverse (drop n ts)) (reverse (take n ts)) in
-    ap (λ (m : ℕ). drop m (but_newest_five ts)) (sym there) ∙ sym (drop-drop (4 * v - 1) 5 (but_newest_five ts)) ∙ drop-drop (4 * v - 1) 5 (reverse ts) ∙ ap (λ (m : ℕ). drop m (reverse ts)) there ∙ behind
-    ∙ ap reverse zeros ∙ reverse_zeros n
+    let halves : reverse ts ≡ reverse (drop k ts) ++ reverse (take k ts) = ap reverse (sym (take-append-drop k ts)) ∙ reverse-append (take k ts) (drop k ts) in
+    let far : length (reverse (drop k ts)) ≡ 4 * v + 4 = omega (arith, length-reverse (drop k ts), length-drop k ts) in
+    let behind : drop (4 * v + 4) (reverse ts) ≡ reverse (take k ts) = ap (λ (m : ℕ). drop m (reverse ts)) (sym far) ∙ ap (drop (length (reverse (drop k ts)))) halves ∙ drop-append_seam (reverse (drop k ts)) (reverse (take k ts)) in
+    let left : k ≡ length (but_newest_five (reverse ts)) - (4 * v + 4) = omega (arith, length-drop 5 (reverse ts), length-reverse ts) in
+    ap (λ (m : ℕ). drop m (but_newest_five (reverse ts))) (sym there) ∙ sym (drop-drop (4 * v - 1) 5 (but_newest_five (reverse ts))) ∙ drop-drop (4 * v - 1) 5 (reverse ts) ∙ ap (λ (m : ℕ). drop m (reverse ts)) there ∙ behind
+    ∙ ap reverse zeros ∙ reverse_zeros k ∙ ap (λ (m : ℕ). replicate m (pos 0)) left

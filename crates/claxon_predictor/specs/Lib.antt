@@ -1,3 +1,4 @@
 pub mod Lanes
 pub mod Predictor
 pub mod Sums
+pub mod Twelve

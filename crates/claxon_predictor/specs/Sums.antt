@@ -1,15 +1,15 @@
 -- Sums that wait for their places: what the samples so far add to each place to come.
 use Rattle.std.specs.Prelude.{◌≡◌, ℕ, ◌+◌, ◌-◌, ◌*◌, ◌^◌, ℤ, pos, ◌+ℤ◌, ◌*ℤ◌, List, [], ◌∷◌, take, drop, reverse, replicate, length, get_or}
-use Rattle.claxon_format.specs.Predict.{wrap, dot, floor_shift}
+use Rattle.claxon_format.specs.Predict.{wrap, dot, floor_shift, linear}
 use Rattle.claxon_predictor.specs.Lanes.{Lanes, Wide, wrap_64}
 use Rattle.claxon_predictor.specs.declared.predictor.Five.{Five}
 use Rattle.claxon_predictor.specs.declared.predictor.Taps.{Taps}
 use Rattle.claxon_predictor.specs.declared.predictor.Later.{Later}
 use Rattle.claxon_predictor.specs.declared.predictor.Sums.{Sums}
 
--- The coefficients, the newest sample's first, zeros in place of the newest five. They come with the newest sample's last.
+-- coefficients, the newest sample's first, zeros in place of the newest five
 abbrev pub but_newest_five : List ℤ → List ℤ
-but_newest_five many = pos 0 ∷ pos 0 ∷ pos 0 ∷ pos 0 ∷ pos 0 ∷ drop 5 (reverse many)
+but_newest_five coefficients = pos 0 ∷ pos 0 ∷ pos 0 ∷ pos 0 ∷ pos 0 ∷ drop 5 coefficients
 
 -- what the samples so far, the newest first, add to the place that is j places on, modulo 2 ^ 64
 abbrev pub waiting_at : List ℤ → List ℤ → ℕ → ℤ
@@ -85,7 +85,7 @@ pub record SmallTaps (taps : Taps) : Type 0 where
 
 -- so many vectors have all coefficients but the newest five
 abbrev pub FitVectors : ℕ → List ℤ → Type 0
-FitVectors vectors coefficients = drop (4 * vectors + 4) coefficients ≡ replicate (28 - 4 * vectors) (pos 0)
+FitVectors vectors coefficients = drop (4 * vectors + 4) coefficients ≡ replicate (length coefficients - (4 * vectors + 4)) (pos 0)
 
 -- what waited does so after two more samples
 abbrev pub WaitsTwoOn : ℕ → Taps → Sums → ℤ → ℤ → Sums → Type 0
@@ -130,3 +130,23 @@ pub record IsFollowed (old : Five) (sample : ℤ) (new : Five) : Type 0 where
   pub third : new.third ≡ old.second
   pub second : new.second ≡ old.newest
   pub newest : new.newest ≡ sample
+
+-- five numbers, the newest first, and what stands before them
+abbrev pub five_before : Five → List ℤ → List ℤ
+five_before five rest = five.newest ∷ five.second ∷ five.third ∷ five.fourth ∷ five.fifth ∷ rest
+
+-- these five are the newest of all, which begin with the newest
+pub record AreNewest (all : List ℤ) (five : Five) : Type 0 where
+  pub rest : List ℤ
+  pub is : all ≡ five_before five rest
+
+-- the two samples that come next, and the newest three of those before them
+pub record AreNextTwo (coefficients rest : List ℤ) (old : Five) (nearest farther : ℤ) (shift : ℕ) (new : Five) : Type 0 where
+  pub second : new.second ≡ wrap (linear coefficients shift (five_before old rest) +ℤ nearest)
+  pub newest : new.newest ≡ wrap (linear coefficients shift (new.second ∷ five_before old rest) +ℤ farther)
+  pub past : new.newest ∷ new.second ∷ five_before old rest ≡ five_before new (old.fourth ∷ old.fifth ∷ rest)
+
+-- so where the lanes hold what all other coefficients than these five add
+abbrev pub IsFollowedByTwo : Five → Five → List ℤ → ℤ → ℤ → ℕ → Five → Type 0
+IsFollowedByTwo old five waiting nearest farther shift new =
+    (coefficients rest : List ℤ) → AreNewest coefficients five → waiting ≡ four_waiting (but_newest_five coefficients) (five_before old rest) 0 → AreNextTwo coefficients rest old nearest farther shift new

@@ -4,7 +4,8 @@ ghost use Rattle.std.specs.Int.{w32};
 ghost use Rattle.claxon_format.specs.Predict.{wrap, dot, fixed, linear, restored};
 ghost use Rattle.claxon_predictor.specs.Predictor.{SamplesCameBack};
 ghost use Rattle.claxon_predictor.specs.Lanes.{Within, Lanes, Wide, plus_products, two_on};
-ghost use Rattle.claxon_predictor.specs.Sums.{but_newest_five, AreTaps, SmallTaps, WideSums, WaitsTwoOn, WaitsAfterNone, WaitsAfter, IsPutUp, AddsProduct, IsSample, IsFollowed};
+ghost use Rattle.claxon_predictor.specs.Sums.{but_newest_five, AreTaps, SmallTaps, WideSums, WaitsTwoOn, WaitsAfterNone, WaitsAfter, IsPutUp, AddsProduct, IsSample, IsFollowed, IsFollowedByTwo};
+ghost use Rattle.claxon_predictor.specs.Twelve.{numbers, SmallTwelve, WideTwelve, AreTwelveTaps, SmallTwelveTaps, TwelveWaitsTwoOn, TwelveWaitsAfterNone, TwelveWaitsAfter};
 
 use std::simd::prelude::*;
 
@@ -173,10 +174,14 @@ pub fn predict_lpc_low_order(coefficients: &[i16], shift: u32, buffer: &mut [i32
     requires shift { shift ≤ 15 }
     ensures { SamplesCameBack coefficients.now shift buffer.old buffer.new }
 {
+    // The first twelve places by the plain sum, the others by lanes.
+    let front = buffer.len().min(12);
+    predict_plain(coefficients, shift, &mut buffer[..front]);
+    let twelve = in_lanes(coefficients);
     if coefficients.len() <= 8 {
-        predict_from_first::<1>(coefficients, shift, buffer);
+        predict_by_twelve::<1>(&twelve, shift, buffer);
     } else {
-        predict_from_first::<2>(coefficients, shift, buffer);
+        predict_by_twelve::<2>(&twelve, shift, buffer);
     }
 }
 
@@ -184,7 +189,7 @@ pub fn predict_lpc_low_order(coefficients: &[i16], shift: u32, buffer: &mut [i32
 #[inline(always)]
 fn predict_from_first<const VECTORS: usize>(coefficients: &[i16], shift: u32, buffer: &mut [i32])
     requires vectors { VECTORS ≤ 7 }
-    requires some { 1 ≤ VECTORS }
+    requires some { 3 ≤ VECTORS }
     requires few { length coefficients.now ≤ 4 * VECTORS + 4 }
     requires warm { length coefficients.now ≤ length buffer.old }
     requires shift { shift ≤ 15 }
@@ -192,18 +197,18 @@ fn predict_from_first<const VECTORS: usize>(coefficients: &[i16], shift: u32, bu
 {
     let front = buffer.len().min(32);
     predict_plain(coefficients, shift, &mut buffer[..front]);
-    predict_by_sums::<VECTORS>(&last_of_many(coefficients), shift, buffer);
+    predict_by_sums::<VECTORS>(&last_of_many::<32>(coefficients), shift, buffer);
 }
 
-// The coefficients as the last of thirty-two numbers, zeros before them.
+// The coefficients as the last of so many numbers, zeros before them.
 #[inline(always)]
-fn last_of_many(coefficients: &[i16]) -> [i64; 32]
-    requires { length coefficients.now ≤ 32 }
-    ensures value { result ≡ replicate (32 - length coefficients.now) (pos 0) ++ coefficients.now }
+fn last_of_many<const COUNT: usize>(coefficients: &[i16]) -> [i64; COUNT]
+    requires { length coefficients.now ≤ COUNT }
+    ensures value { result ≡ replicate (COUNT - length coefficients.now) (pos 0) ++ coefficients.now }
     ensures small { Within (2 ^ 15) result }
 {
-    let mut many = [0i64; 32];
-    let start = 32 - coefficients.len();
+    let mut many = [0i64; COUNT];
+    let start = COUNT - coefficients.len();
     for i in 0..coefficients.len() {
         many[start + i] = i64::from(coefficients[i]);
     }
@@ -269,6 +274,272 @@ fn later_sums(
     add_products(add_products(moved, for_second, second), for_newest, newest)
 }
 
+// The sums that wait for the nearest two places, each with the residual of its place. All is put up so far that one shift by
+// 32 drops what `shift` would, and leaves a number of 32 bits.
+#[inline(always)]
+fn put_up(sums: i64x4, nearest: i32, farther: i32, shift: u32) -> (i64, i64)
+    requires sums { Wide sums }
+    requires shift { shift ≤ 15 }
+    ensures nearest { IsPutUp (get_or sums 3 (pos 0)) nearest shift result.0 }
+    ensures farther { IsPutUp (get_or sums 2 (pos 0)) farther shift result.1 }
+{
+    let up = i64x4::splat(i64::from(32 - shift));
+    let residuals = i32x4::from_array([0, 0, farther, nearest]).cast::<i64>();
+    let [_, _, second, first] = ((sums << up) + (residuals << i64x4::splat(32))).to_array();
+    (first, second)
+}
+
+// Five samples, or their coefficients.
+#[derive(Clone, Copy)]
+struct Five {
+    fifth: i64,
+    fourth: i64,
+    third: i64,
+    second: i64,
+    newest: i64,
+}
+
+impl Five {
+    // The newest five with one more.
+    #[inline(always)]
+    fn followed_by(self, sample: i64) -> Five
+        ensures { IsFollowed self sample result }
+    {
+        Five {
+            fifth: self.fourth,
+            fourth: self.third,
+            third: self.second,
+            second: self.newest,
+            newest: sample,
+        }
+    }
+
+    // The newest five with two more, those of the nearest two places. What waits for these are the last two lanes, the nearest
+    // place's last.
+    #[inline(always)]
+    fn followed_by_two(
+        self,
+        coefficients: Five,
+        waiting: i64x4,
+        nearest: i32,
+        farther: i32,
+        shift: u32,
+    ) -> Five
+        requires waiting { Wide waiting }
+        requires shift { shift ≤ 15 }
+        ensures value { IsFollowedByTwo self coefficients waiting nearest farther shift result }
+        ensures second { FitsSigned w32 result.second }
+        ensures newest { FitsSigned w32 result.newest }
+    {
+        let (nearest, farther) = put_up(waiting, nearest, farther, shift);
+        let one = sample_of(nearest, coefficients, self, shift);
+        let before = self.followed_by(one);
+        let two = sample_of(farther, coefficients, before, shift);
+        before.followed_by(two)
+    }
+}
+
+// What was put up, and one more product, which is put up too.
+#[inline(always)]
+fn add_product(early: i64, coefficient: i64, sample: i64, shift: u32) -> i64
+    requires { shift ≤ 15 }
+    ensures { AddsProduct early coefficient sample shift result }
+{
+    early.wrapping_add((coefficient << (32 - shift)).wrapping_mul(sample))
+}
+
+// A sample from what was put up for its place and the products of the newest five. It is kept in 64 bits, in which it is
+// multiplied next.
+#[inline(always)]
+fn sample_of(early: i64, coefficients: Five, samples: Five, shift: u32) -> i64
+    requires { shift ≤ 15 }
+    ensures value { IsSample early coefficients samples shift result }
+    ensures fits { FitsSigned w32 result }
+{
+    let five = add_product(early, coefficients.fifth, samples.fifth, shift);
+    let four = add_product(five, coefficients.fourth, samples.fourth, shift);
+    let three = add_product(four, coefficients.third, samples.third, shift);
+    let two = add_product(three, coefficients.second, samples.second, shift);
+    add_product(two, coefficients.newest, samples.newest, shift) >> 32
+}
+
+// Twelve numbers in three vectors, four for each four places, the farthest first: coefficients, whose places are those after a
+// sample, or the sums that wait for the next twelve places.
+#[derive(Clone, Copy)]
+struct Twelve {
+    at_8: i64x4,
+    at_4: i64x4,
+    at_0: i64x4,
+}
+
+// The same without the nearest four.
+#[derive(Clone, Copy)]
+struct Eight {
+    at_8: i64x4,
+    at_4: i64x4,
+}
+
+// What the newer of two samples is multiplied by for these places, and what the one before it is. It is 0 where a sample is one
+// of the newest five of a place, so neither adds to the nearest four.
+#[derive(Clone, Copy)]
+struct TwelveTaps {
+    second: Eight,
+    newest: Eight,
+}
+
+// The coefficients, the oldest sample's first, as the last of twelve numbers, zeros before them.
+#[inline(always)]
+fn in_lanes(coefficients: &[i16]) -> Twelve
+    requires { length coefficients.now ≤ 12 }
+    ensures value { numbers result ≡ replicate (12 - length coefficients.now) (pos 0) ++ coefficients.now }
+    ensures small { SmallTwelve result }
+{
+    let many = last_of_many::<12>(coefficients);
+    Twelve {
+        at_8: i64x4::from_array([many[0], many[1], many[2], many[3]]),
+        at_4: i64x4::from_array([many[4], many[5], many[6], many[7]]),
+        at_0: i64x4::from_array([many[8], many[9], many[10], many[11]]),
+    }
+}
+
+#[inline(always)]
+fn taps_of_twelve(coefficients: &Twelve) -> TwelveTaps
+    requires { SmallTwelve coefficients.now }
+    ensures value { AreTwelveTaps (but_newest_five (reverse (numbers coefficients.now))) result }
+    ensures small { SmallTwelveTaps result }
+{
+    let [oldest, second, third, fourth] = coefficients.at_8.to_array();
+    let [fifth, sixth, seventh, _] = coefficients.at_4.to_array();
+    TwelveTaps {
+        second: Eight {
+            at_8: i64x4::from_array([0, oldest, second, third]),
+            at_4: i64x4::from_array([fourth, fifth, sixth, seventh]),
+        },
+        newest: Eight {
+            at_8: coefficients.at_8,
+            at_4: i64x4::from_array([fifth, sixth, seventh, 0]),
+        },
+    }
+}
+
+// No sum waits for the next twelve places.
+#[inline(always)]
+fn no_twelve() -> Twelve
+    ensures { TwelveWaitsAfterNone result }
+{
+    let zeros = i64x4::splat(0);
+    Twelve {
+        at_8: zeros,
+        at_4: zeros,
+        at_0: zeros,
+    }
+}
+
+// The sums that wait for the next places, two samples on. Where `VECTORS` is 1 the farthest places have no coefficients.
+#[inline(always)]
+fn twelve_two_on<const VECTORS: usize>(sums: Twelve, taps: TwelveTaps, one: i64, two: i64) -> Twelve
+    requires sums { WideTwelve sums }
+    requires taps { SmallTwelveTaps taps }
+    requires one { FitsSigned w32 one }
+    requires two { FitsSigned w32 two }
+    requires some { 1 ≤ VECTORS }
+    ensures value { TwelveWaitsTwoOn VECTORS taps sums one two result }
+    ensures wide { WideTwelve result }
+{
+    let (one, two) = (spread(one), spread(two));
+    let zeros = i64x4::splat(0);
+    let (second, newest) = (taps.second, taps.newest);
+    Twelve {
+        at_8: later_sums(
+            VECTORS > 1,
+            zeros,
+            sums.at_8,
+            second.at_8,
+            one,
+            newest.at_8,
+            two,
+        ),
+        at_4: later_sums(
+            true,
+            sums.at_8,
+            sums.at_4,
+            second.at_4,
+            one,
+            newest.at_4,
+            two,
+        ),
+        at_0: sums.at_4.shuffle(sums.at_0, [2, 3, 4, 5]),
+    }
+}
+
+// The sums that wait for the places behind these samples, which are as many as there are coefficients.
+#[inline(always)]
+fn first_twelve<const VECTORS: usize>(taps: TwelveTaps, samples: &[i32]) -> Twelve
+    requires samples { length samples.now ≡ 4 * VECTORS + 4 }
+    requires taps { SmallTwelveTaps taps }
+    requires some { 1 ≤ VECTORS }
+    requires vectors { VECTORS ≤ 2 }
+    ensures { TwelveWaitsAfter VECTORS taps samples.now result }
+{
+    let mut sums = no_twelve();
+    for pair in 0..2 * VECTORS + 2 {
+        let second = i64::from(samples[2 * pair]);
+        let newest = i64::from(samples[2 * pair + 1]);
+        sums = twelve_two_on::<VECTORS>(sums, taps, second, newest);
+    }
+    sums
+}
+
+// Places from 12 on, each by its newest samples, as many as there are coefficients: by running sums, as `predict_by_sums`. Where
+// `VECTORS` is 1 the oldest four coefficients are zeros.
+#[inline(never)]
+fn predict_by_twelve<const VECTORS: usize>(coefficients: &Twelve, shift: u32, buffer: &mut [i32])
+    requires shift { shift ≤ 15 }
+    requires small { SmallTwelve coefficients.now }
+    requires vectors { VECTORS ≤ 2 }
+    requires some { 1 ≤ VECTORS }
+    requires zeros { take (8 - 4 * VECTORS) (numbers coefficients.now) ≡ replicate (8 - 4 * VECTORS) (pos 0) }
+    ensures { buffer.new ≡ restored (linear (reverse (numbers coefficients.now)) shift) 12 buffer.old }
+{
+    if buffer.len() <= 12 {
+        return;
+    }
+    let [_, _, _, fifth] = coefficients.at_4.to_array();
+    let [fourth, third, second, first] = coefficients.at_0.to_array();
+    let last = Five {
+        fifth,
+        fourth,
+        third,
+        second,
+        newest: first,
+    };
+    let taps = taps_of_twelve(coefficients);
+    let mut sums = first_twelve::<VECTORS>(taps, &buffer[8 - 4 * VECTORS..12]);
+    let mut newest = Five {
+        fifth: i64::from(buffer[7]),
+        fourth: i64::from(buffer[8]),
+        third: i64::from(buffer[9]),
+        second: i64::from(buffer[10]),
+        newest: i64::from(buffer[11]),
+    };
+    for pair in 6..buffer.len() / 2 {
+        let i = 2 * pair;
+        newest = newest.followed_by_two(last, sums.at_0, buffer[i], buffer[i + 1], shift);
+        buffer[i] = low_bits(newest.second);
+        buffer[i + 1] = low_bits(newest.newest);
+        sums = twelve_two_on::<VECTORS>(sums, taps, newest.second, newest.newest);
+    }
+    // A last place alone.
+    if buffer.len() % 2 == 1 {
+        let i = buffer.len() - 1;
+        buffer[i] = low_bits(
+            newest
+                .followed_by_two(last, sums.at_0, buffer[i], 0, shift)
+                .second,
+        );
+    }
+}
+
 // Four numbers for each four places from the fifth on, the farthest of the four first.
 #[derive(Clone, Copy)]
 struct Later {
@@ -299,7 +570,7 @@ struct Taps {
 #[inline(always)]
 fn taps_of(many: &[i64; 32]) -> Taps
     requires { Within (2 ^ 15) many.now }
-    ensures value { AreTaps (but_newest_five many.now) result }
+    ensures value { AreTaps (but_newest_five (reverse many.now)) result }
     ensures small { SmallTaps result }
 {
     Taps {
@@ -351,7 +622,7 @@ fn sums_two_on<const VECTORS: usize>(sums: Sums, taps: Taps, one: i64, two: i64)
     requires taps { SmallTaps taps }
     requires one { FitsSigned w32 one }
     requires two { FitsSigned w32 two }
-    requires some { 1 ≤ VECTORS }
+    requires some { 3 ≤ VECTORS }
     ensures value { WaitsTwoOn VECTORS taps sums one two result }
     ensures wide { WideSums result }
 {
@@ -362,7 +633,7 @@ fn sums_two_on<const VECTORS: usize>(sums: Sums, taps: Taps, one: i64, two: i64)
     let later = Later {
         at_4: later_sums(true, old.at_8, old.at_4, second.at_4, one, newest.at_4, two),
         at_8: later_sums(
-            VECTORS > 1,
+            true,
             old.at_12,
             old.at_8,
             second.at_8,
@@ -371,7 +642,7 @@ fn sums_two_on<const VECTORS: usize>(sums: Sums, taps: Taps, one: i64, two: i64)
             two,
         ),
         at_12: later_sums(
-            VECTORS > 2,
+            true,
             old.at_16,
             old.at_12,
             second.at_12,
@@ -427,7 +698,7 @@ fn sums_two_on<const VECTORS: usize>(sums: Sums, taps: Taps, one: i64, two: i64)
 fn first_sums<const VECTORS: usize>(taps: Taps, samples: &[i32]) -> Sums
     requires samples { length samples.now ≡ 4 * VECTORS + 4 }
     requires taps { SmallTaps taps }
-    requires some { 1 ≤ VECTORS }
+    requires some { 3 ≤ VECTORS }
     requires vectors { VECTORS ≤ 7 }
     ensures { WaitsAfter VECTORS taps samples.now result }
 {
@@ -438,71 +709,6 @@ fn first_sums<const VECTORS: usize>(taps: Taps, samples: &[i32]) -> Sums
         sums = sums_two_on::<VECTORS>(sums, taps, second, newest);
     }
     sums
-}
-
-// The sums that wait for the nearest two places, each with the residual of its place. All is put up so far that one shift by
-// 32 drops what `shift` would, and leaves a number of 32 bits.
-#[inline(always)]
-fn put_up(sums: i64x4, nearest: i32, farther: i32, shift: u32) -> (i64, i64)
-    requires sums { Wide sums }
-    requires shift { shift ≤ 15 }
-    ensures nearest { IsPutUp (get_or sums 3 (pos 0)) nearest shift result.0 }
-    ensures farther { IsPutUp (get_or sums 2 (pos 0)) farther shift result.1 }
-{
-    let up = i64x4::splat(i64::from(32 - shift));
-    let residuals = i32x4::from_array([0, 0, farther, nearest]).cast::<i64>();
-    let [_, _, second, first] = ((sums << up) + (residuals << i64x4::splat(32))).to_array();
-    (first, second)
-}
-
-// Five samples, or their coefficients.
-#[derive(Clone, Copy)]
-struct Five {
-    fifth: i64,
-    fourth: i64,
-    third: i64,
-    second: i64,
-    newest: i64,
-}
-
-impl Five {
-    // The newest five with one more.
-    #[inline(always)]
-    fn followed_by(self, sample: i64) -> Five
-        ensures { IsFollowed self sample result }
-    {
-        Five {
-            fifth: self.fourth,
-            fourth: self.third,
-            third: self.second,
-            second: self.newest,
-            newest: sample,
-        }
-    }
-}
-
-// What was put up, and one more product, which is put up too.
-#[inline(always)]
-fn add_product(early: i64, coefficient: i64, sample: i64, shift: u32) -> i64
-    requires { shift ≤ 15 }
-    ensures { AddsProduct early coefficient sample shift result }
-{
-    early.wrapping_add((coefficient << (32 - shift)).wrapping_mul(sample))
-}
-
-// A sample from what was put up for its place and the products of the newest five. It is kept in 64 bits, in which it is
-// multiplied next.
-#[inline(always)]
-fn sample_of(early: i64, coefficients: Five, samples: Five, shift: u32) -> i64
-    requires { shift ≤ 15 }
-    ensures value { IsSample early coefficients samples shift result }
-    ensures fits { FitsSigned w32 result }
-{
-    let five = add_product(early, coefficients.fifth, samples.fifth, shift);
-    let four = add_product(five, coefficients.fourth, samples.fourth, shift);
-    let three = add_product(four, coefficients.third, samples.third, shift);
-    let two = add_product(three, coefficients.second, samples.second, shift);
-    add_product(two, coefficients.newest, samples.newest, shift) >> 32
 }
 
 // Places from 32 on, each by its newest samples, as many as there are coefficients. Where `VECTORS` is less than 7 the oldest
@@ -517,7 +723,7 @@ fn predict_by_sums<const VECTORS: usize>(many: &[i64; 32], shift: u32, buffer: &
     requires shift { shift ≤ 15 }
     requires small { Within (2 ^ 15) many.now }
     requires vectors { VECTORS ≤ 7 }
-    requires some { 1 ≤ VECTORS }
+    requires some { 3 ≤ VECTORS }
     requires zeros { take (28 - 4 * VECTORS) many.now ≡ replicate (28 - 4 * VECTORS) (pos 0) }
     ensures { buffer.new ≡ restored (linear (reverse many.now) shift) 32 buffer.old }
 {
@@ -542,19 +748,18 @@ fn predict_by_sums<const VECTORS: usize>(many: &[i64; 32], shift: u32, buffer: &
     };
     for pair in 16..buffer.len() / 2 {
         let i = 2 * pair;
-        let (nearest, farther) = put_up(sums.at_0, buffer[i], buffer[i + 1], shift);
-        let one = sample_of(nearest, last, newest, shift);
-        let before = newest.followed_by(one);
-        let two = sample_of(farther, last, before, shift);
-        buffer[i] = low_bits(one);
-        buffer[i + 1] = low_bits(two);
-        sums = sums_two_on::<VECTORS>(sums, taps, one, two);
-        newest = before.followed_by(two);
+        newest = newest.followed_by_two(last, sums.at_0, buffer[i], buffer[i + 1], shift);
+        buffer[i] = low_bits(newest.second);
+        buffer[i + 1] = low_bits(newest.newest);
+        sums = sums_two_on::<VECTORS>(sums, taps, newest.second, newest.newest);
     }
     // A last place alone.
     if buffer.len() % 2 == 1 {
         let i = buffer.len() - 1;
-        let (nearest, _) = put_up(sums.at_0, buffer[i], 0, shift);
-        buffer[i] = low_bits(sample_of(nearest, last, newest, shift));
+        buffer[i] = low_bits(
+            newest
+                .followed_by_two(last, sums.at_0, buffer[i], 0, shift)
+                .second,
+        );
     }
 }

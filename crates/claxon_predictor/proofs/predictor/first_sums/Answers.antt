@@ -2,7 +2,7 @@ use Rattle.std.proofs.Common.{◌+◌, ◌*◌, get_or, take, reverse, pos, refl
 use Rattle.std.proofs.lemmas.List.{take_all}
 use Rattle.claxon_predictor.specs.Sums.{Waits}
 use Rattle.claxon_predictor.proofs.Sums.{waits_wide}
-use Rattle.claxon_predictor.proofs.SampleLoop.{waits_read, widened}
+use Rattle.claxon_predictor.proofs.SampleLoop.{both_read, widened}
 use Rattle.claxon_predictor.proofs.predictor.first_sums.Goals as goal
 
 pub loop-pair-init : goal.loop-pair-init
@@ -18,7 +18,8 @@ loop-pair-preserved g c =
     record {
       wide = c.sums_two_on-sums.ensures.wide;
       waits = λ ks taps fit.
-          waits_read ks c.args.samples.now (2 * c.loop-pair.pair) (2 * c.loop-pair.pair + 1) (2 * (c.loop-pair.pair + 1)) _ _ c.sums_two_on-sums.result (widened _ _ first c.from-second.ensures) (widened _ _ second c.from-newest.ensures) refl (omega arith) (omega arith)
+          subst (λ (l : List ℤ). Waits ks l c.sums_two_on-sums.result)
+          (both_read c.args.samples.now (2 * c.loop-pair.pair) (2 * c.loop-pair.pair + 1) (2 * (c.loop-pair.pair + 1)) _ _ (widened _ _ first c.from-second.ensures) (widened _ _ second c.from-newest.ensures) refl (omega arith) (omega arith))
           (c.sums_two_on-sums.ensures.value ks (reverse (take (2 * c.loop-pair.pair) c.args.samples.now)) taps fit (c.loop-pair.invariant.waits ks taps fit));
     }
 
