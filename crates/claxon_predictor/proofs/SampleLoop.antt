@@ -38,22 +38,21 @@ two_restored p xs i j k x y ej ek lt ex ey =
 past_two : (xs : List ℤ) (i j k : ℕ) (x y : ℤ) → j ≡ i + 1 → k ≡ j + 1 → j < length xs → reverse (take k (set (set xs i x) j y)) ≡ y ∷ x ∷ reverse (take i xs)
 past_two xs i j k x y ej ek lt = past_more (set xs i x) j k y ek (omega (arith, length-set xs i x)) ∙ ap (λ (l : List ℤ). y ∷ l) (past_more xs i j x ej (omega arith))
 
--- the newest of the first k entries
-pub record AreRead (xs : List ℤ) (k : ℕ) (s : Five) : Type 0 where
-  pub fifth : s.fifth ≡ get_or xs k (pos 0)
-  pub fourth : s.fourth ≡ get_or xs (k + 1) (pos 0)
-  pub third : s.third ≡ get_or xs (k + 2) (pos 0)
-  pub second : s.second ≡ get_or xs (k + 3) (pos 0)
-  pub newest : s.newest ≡ get_or xs (k + 4) (pos 0)
+-- five samples that were read
+pub record AreRead (xs : List ℤ) (s : Five) : Type 0 where
+  pub fifth : s.fifth ≡ get_or xs 0 (pos 0)
+  pub fourth : s.fourth ≡ get_or xs 1 (pos 0)
+  pub third : s.third ≡ get_or xs 2 (pos 0)
+  pub second : s.second ≡ get_or xs 3 (pos 0)
+  pub newest : s.newest ≡ get_or xs 4 (pos 0)
 
-pub newest_read : (xs : List ℤ) (k n : ℕ) (s : Five) → n ≡ k + 5 → n ≤ length xs → AreRead xs k s → AreNewest (reverse (take n xs)) s
-newest_read xs k n s e le h =
-    let more = λ (l : List ℤ). get_or xs (k + 4) (pos 0) ∷ get_or xs (k + 3) (pos 0) ∷ l in
-    record {
-      rest = reverse (take k xs);
-      is = rw (h.fifth, h.fourth, h.third, h.second, h.newest)
-          (past_both xs (k + 3) (k + 4) n (omega arith) (omega arith) (omega arith) ∙ ap more (past_both xs (k + 1) (k + 2) (k + 3) (omega arith) (omega arith) (omega arith)) ∙ ap (λ (l : List ℤ). more (get_or xs (k + 2) (pos 0) ∷ get_or xs (k + 1) (pos 0) ∷ l)) (past_read xs k (k + 1) refl (omega arith)));
-    }
+pub newest_read : (xs : List ℤ) (s : Five) → length xs ≡ 5 → AreRead xs s → AreNewest (reverse xs) s
+newest_read (a ∷ b ∷ c ∷ d ∷ e ∷ []) s long h = record { rest = []; is = rw (h.fifth, h.fourth, h.third, h.second, h.newest) refl }
+newest_read xs s long h = absurd (omega arith)
+
+-- the newest five of some are those of all, where others stand before these
+pub newest_after : (some others all : List ℤ) (s : Five) → some ++ others ≡ all → AreNewest some s → AreNewest all s
+newest_after some others all s e h = record { rest = h.rest ++ others; is = sym e ∙ ap (λ (l : List ℤ). l ++ others) h.is }
 
 -- a sample as a number of 64 bits
 pub as_wide : (x : ℤ) → FitsSigned w32 x → to_z w64 (of_z w64 x) ≡ x

@@ -4,7 +4,7 @@ use Rattle.std.proofs.lemmas.Int.{to_z-of_z}
 use Rattle.std.proofs.lemmas.List.{length-append}
 use Rattle.claxon_predictor.specs.Lanes.{Within, Lanes, Wide}
 use Rattle.claxon_predictor.specs.Sums.{but_newest_five, FitVectors, AreNewest}
-use Rattle.claxon_predictor.specs.Twelve.{numbers, SmallTwelve, WideTwelve, SmallTwelveTaps, AreTwelveTaps, TwelveWait}
+use Rattle.claxon_predictor.specs.Twelve.{numbers, SmallTwelve, WideTwelve, SmallTwelveTaps, AreTwelveTaps, ArePending}
 use Rattle.claxon_predictor.specs.declared.predictor.Five.{Five}
 use Rattle.claxon_predictor.specs.declared.predictor.Twelve.{Twelve}
 use Rattle.claxon_predictor.specs.declared.predictor.TwelveTaps.{TwelveTaps}
@@ -13,14 +13,14 @@ use Rattle.claxon_predictor.proofs.Sums.{waiting_wide, four_enough, four_same, f
 
 -- ---- sums
 
-pub twelve_wide : {ks past : List ℤ} {sums : Twelve} → TwelveWait ks past sums → WideTwelve sums
+pub twelve_wide : {ks past : List ℤ} {sums : Twelve} → ArePending ks past sums → WideTwelve sums
 twelve_wide {ks} {past} {sums} w = record {
   at_8 = subst Wide (sym w.at_8) (waiting_wide ks past 8);
   at_4 = subst Wide (sym w.at_4) (waiting_wide ks past 4);
   at_0 = subst Wide (sym w.at_0) (waiting_wide ks past 0);
 }
 
-pub twelve_enough : (ks past rest : List ℤ) (v : ℕ) (sums : Twelve) → FitVectors v ks → 4 * v + 4 ≤ length past → TwelveWait ks past sums → TwelveWait ks (past ++ rest) sums
+pub twelve_enough : (ks past rest : List ℤ) (v : ℕ) (sums : Twelve) → FitVectors v ks → 4 * v + 4 ≤ length past → ArePending ks past sums → ArePending ks (past ++ rest) sums
 twelve_enough ks past rest v sums fit le w = record {
   at_8 = w.at_8 ∙ four_enough ks past rest v 8 fit le;
   at_4 = w.at_4 ∙ four_enough ks past rest v 4 fit le;

@@ -148,5 +148,5 @@ pub record AreNextTwo (coefficients rest : List ℤ) (old : Five) (nearest farth
 
 -- so where the lanes hold what all other coefficients than these five add
 abbrev pub IsFollowedByTwo : Five → Five → List ℤ → ℤ → ℤ → ℕ → Five → Type 0
-IsFollowedByTwo old five waiting nearest farther shift new =
-    (coefficients rest : List ℤ) → AreNewest coefficients five → waiting ≡ four_waiting (but_newest_five coefficients) (five_before old rest) 0 → AreNextTwo coefficients rest old nearest farther shift new
+IsFollowedByTwo old five pending nearest farther shift new =
+    (coefficients rest : List ℤ) → AreNewest coefficients five → pending ≡ four_waiting (but_newest_five coefficients) (five_before old rest) 0 → AreNextTwo coefficients rest old nearest farther shift new

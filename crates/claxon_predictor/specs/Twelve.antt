@@ -43,20 +43,20 @@ pub record AreTwelveTaps (coefficients : List ℤ) (taps : TwelveTaps) : Type 0 
   pub newest : AreEightTaps coefficients 0 taps.newest
 
 -- the lanes hold what waits for the next twelve places
-pub record TwelveWait (coefficients past : List ℤ) (sums : Twelve) : Type 0 where
+pub record ArePending (coefficients past : List ℤ) (sums : Twelve) : Type 0 where
   pub at_8 : sums.at_8 ≡ four_waiting coefficients past 8
   pub at_4 : sums.at_4 ≡ four_waiting coefficients past 4
   pub at_0 : sums.at_0 ≡ four_waiting coefficients past 0
 
 -- what waited does so after two more samples
-abbrev pub TwelveWaitsTwoOn : ℕ → TwelveTaps → Twelve → ℤ → ℤ → Twelve → Type 0
-TwelveWaitsTwoOn vectors taps old second newest new =
-    (coefficients past : List ℤ) → AreTwelveTaps coefficients taps → FitVectors vectors coefficients → TwelveWait coefficients past old → TwelveWait coefficients (newest ∷ second ∷ past) new
+abbrev pub ArePendingTwoOn : ℕ → TwelveTaps → Twelve → ℤ → ℤ → Twelve → Type 0
+ArePendingTwoOn vectors taps old second newest new =
+    (coefficients past : List ℤ) → AreTwelveTaps coefficients taps → FitVectors vectors coefficients → ArePending coefficients past old → ArePending coefficients (newest ∷ second ∷ past) new
 
 -- before any sample nothing waits
-abbrev pub TwelveWaitsAfterNone : Twelve → Type 0
-TwelveWaitsAfterNone sums = (coefficients : List ℤ) → TwelveWait coefficients [] sums
+abbrev pub ArePendingAfterNone : Twelve → Type 0
+ArePendingAfterNone sums = (coefficients : List ℤ) → ArePending coefficients [] sums
 
 -- what these samples add waits
-abbrev pub TwelveWaitsAfter : ℕ → TwelveTaps → List ℤ → Twelve → Type 0
-TwelveWaitsAfter vectors taps samples sums = (coefficients : List ℤ) → AreTwelveTaps coefficients taps → FitVectors vectors coefficients → TwelveWait coefficients (reverse samples) sums
+abbrev pub ArePendingAfter : ℕ → TwelveTaps → List ℤ → Twelve → Type 0
+ArePendingAfter vectors taps samples sums = (coefficients : List ℤ) → AreTwelveTaps coefficients taps → FitVectors vectors coefficients → ArePending coefficients (reverse samples) sums

@@ -4,8 +4,8 @@ ghost use Rattle.std.specs.Int.{w32};
 ghost use Rattle.claxon_format.specs.Predict.{wrap, dot, fixed, linear, restored};
 ghost use Rattle.claxon_predictor.specs.Predictor.{SamplesCameBack};
 ghost use Rattle.claxon_predictor.specs.Lanes.{Within, Lanes, Wide, plus_products, two_on};
-ghost use Rattle.claxon_predictor.specs.Sums.{but_newest_five, AreTaps, SmallTaps, WideSums, WaitsTwoOn, WaitsAfterNone, WaitsAfter, IsPutUp, AddsProduct, IsSample, IsFollowed, IsFollowedByTwo};
-ghost use Rattle.claxon_predictor.specs.Twelve.{numbers, SmallTwelve, WideTwelve, AreTwelveTaps, SmallTwelveTaps, TwelveWaitsTwoOn, TwelveWaitsAfterNone, TwelveWaitsAfter};
+ghost use Rattle.claxon_predictor.specs.Sums.{but_newest_five, AreTaps, SmallTaps, WideSums, WaitsTwoOn, WaitsAfterNone, WaitsAfter, IsPutUp, AddsProduct, IsSample, IsFollowed, AreNewest, IsFollowedByTwo};
+ghost use Rattle.claxon_predictor.specs.Twelve.{numbers, SmallTwelve, WideTwelve, AreTwelveTaps, SmallTwelveTaps, ArePendingTwoOn, ArePendingAfterNone, ArePendingAfter};
 
 use std::simd::prelude::*;
 
@@ -177,7 +177,7 @@ pub fn predict_lpc_low_order(coefficients: &[i16], shift: u32, buffer: &mut [i32
     // The first twelve places by the plain sum, the others by lanes.
     let front = buffer.len().min(12);
     predict_plain(coefficients, shift, &mut buffer[..front]);
-    let twelve = in_lanes(coefficients);
+    let twelve = padded_coefficients(coefficients);
     if coefficients.len() <= 8 {
         predict_by_twelve::<1>(&twelve, shift, buffer);
     } else {
@@ -300,6 +300,21 @@ struct Five {
 }
 
 impl Five {
+    // Five samples, the newest last.
+    #[inline(always)]
+    fn of(samples: &[i32]) -> Five
+        requires { length samples.now ≡ 5 }
+        ensures { AreNewest (reverse samples.now) result }
+    {
+        Five {
+            fifth: i64::from(samples[0]),
+            fourth: i64::from(samples[1]),
+            third: i64::from(samples[2]),
+            second: i64::from(samples[3]),
+            newest: i64::from(samples[4]),
+        }
+    }
+
     // The newest five with one more.
     #[inline(always)]
     fn followed_by(self, sample: i64) -> Five
@@ -314,24 +329,23 @@ impl Five {
         }
     }
 
-    // The newest five with two more, those of the nearest two places. What waits for these are the last two lanes, the nearest
-    // place's last.
+    // The newest five with the two of the nearest places, whose pending sums are the last two lanes, the nearest place's last.
     #[inline(always)]
     fn followed_by_two(
         self,
         coefficients: Five,
-        waiting: i64x4,
+        pending: i64x4,
         nearest: i32,
         farther: i32,
         shift: u32,
     ) -> Five
-        requires waiting { Wide waiting }
+        requires pending { Wide pending }
         requires shift { shift ≤ 15 }
-        ensures value { IsFollowedByTwo self coefficients waiting nearest farther shift result }
+        ensures value { IsFollowedByTwo self coefficients pending nearest farther shift result }
         ensures second { FitsSigned w32 result.second }
         ensures newest { FitsSigned w32 result.newest }
     {
-        let (nearest, farther) = put_up(waiting, nearest, farther, shift);
+        let (nearest, farther) = put_up(pending, nearest, farther, shift);
         let one = sample_of(nearest, coefficients, self, shift);
         let before = self.followed_by(one);
         let two = sample_of(farther, coefficients, before, shift);
@@ -363,8 +377,8 @@ fn sample_of(early: i64, coefficients: Five, samples: Five, shift: u32) -> i64
     add_product(two, coefficients.newest, samples.newest, shift) >> 32
 }
 
-// Twelve numbers in three vectors, four for each four places, the farthest first: coefficients, whose places are those after a
-// sample, or the sums that wait for the next twelve places.
+// Twelve numbers in three vectors, the farthest first: coefficients, the oldest sample's first, or the pending sums of the next
+// twelve places.
 #[derive(Clone, Copy)]
 struct Twelve {
     at_8: i64x4,
@@ -379,8 +393,8 @@ struct Eight {
     at_4: i64x4,
 }
 
-// What the newer of two samples is multiplied by for these places, and what the one before it is. It is 0 where a sample is one
-// of the newest five of a place, so neither adds to the nearest four.
+// The coefficients of the newer of two samples for the next twelve places, and those of the one before it. They are 0 where a
+// sample is one of the newest five of a place, so neither adds to the nearest four.
 #[derive(Clone, Copy)]
 struct TwelveTaps {
     second: Eight,
@@ -389,7 +403,7 @@ struct TwelveTaps {
 
 // The coefficients, the oldest sample's first, as the last of twelve numbers, zeros before them.
 #[inline(always)]
-fn in_lanes(coefficients: &[i16]) -> Twelve
+fn padded_coefficients(coefficients: &[i16]) -> Twelve
     requires { length coefficients.now ≤ 12 }
     ensures value { numbers result ≡ replicate (12 - length coefficients.now) (pos 0) ++ coefficients.now }
     ensures small { SmallTwelve result }
@@ -422,10 +436,10 @@ fn taps_of_twelve(coefficients: &Twelve) -> TwelveTaps
     }
 }
 
-// No sum waits for the next twelve places.
+// No sum is pending.
 #[inline(always)]
-fn no_twelve() -> Twelve
-    ensures { TwelveWaitsAfterNone result }
+fn no_pending() -> Twelve
+    ensures { ArePendingAfterNone result }
 {
     let zeros = i64x4::splat(0);
     Twelve {
@@ -435,15 +449,20 @@ fn no_twelve() -> Twelve
     }
 }
 
-// The sums that wait for the next places, two samples on. Where `VECTORS` is 1 the farthest places have no coefficients.
+// The pending sums, two samples on. Where `VECTORS` is 1 the farthest four places have no coefficients.
 #[inline(always)]
-fn twelve_two_on<const VECTORS: usize>(sums: Twelve, taps: TwelveTaps, one: i64, two: i64) -> Twelve
+fn pending_two_on<const VECTORS: usize>(
+    sums: Twelve,
+    taps: TwelveTaps,
+    one: i64,
+    two: i64,
+) -> Twelve
     requires sums { WideTwelve sums }
     requires taps { SmallTwelveTaps taps }
     requires one { FitsSigned w32 one }
     requires two { FitsSigned w32 two }
     requires some { 1 ≤ VECTORS }
-    ensures value { TwelveWaitsTwoOn VECTORS taps sums one two result }
+    ensures value { ArePendingTwoOn VECTORS taps sums one two result }
     ensures wide { WideTwelve result }
 {
     let (one, two) = (spread(one), spread(two));
@@ -472,26 +491,30 @@ fn twelve_two_on<const VECTORS: usize>(sums: Twelve, taps: TwelveTaps, one: i64,
     }
 }
 
-// The sums that wait for the places behind these samples, which are as many as there are coefficients.
+// The pending sums of the places after these samples, which are as many as there are coefficients.
 #[inline(always)]
-fn first_twelve<const VECTORS: usize>(taps: TwelveTaps, samples: &[i32]) -> Twelve
+fn first_pending<const VECTORS: usize>(taps: TwelveTaps, samples: &[i32]) -> Twelve
     requires samples { length samples.now ≡ 4 * VECTORS + 4 }
     requires taps { SmallTwelveTaps taps }
     requires some { 1 ≤ VECTORS }
     requires vectors { VECTORS ≤ 2 }
-    ensures { TwelveWaitsAfter VECTORS taps samples.now result }
+    ensures { ArePendingAfter VECTORS taps samples.now result }
 {
-    let mut sums = no_twelve();
+    let mut sums = no_pending();
     for pair in 0..2 * VECTORS + 2 {
         let second = i64::from(samples[2 * pair]);
         let newest = i64::from(samples[2 * pair + 1]);
-        sums = twelve_two_on::<VECTORS>(sums, taps, second, newest);
+        sums = pending_two_on::<VECTORS>(sums, taps, second, newest);
     }
     sums
 }
 
-// Places from 12 on, each by its newest samples, as many as there are coefficients: by running sums, as `predict_by_sums`. Where
-// `VECTORS` is 1 the oldest four coefficients are zeros.
+// Places from 12 on, each by its newest twelve samples. Where `VECTORS` is 1 the oldest four coefficients are zeros.
+//
+// A sample's products go at once to the sums of later places, two samples at a time, so that sums move by whole halves of
+// a vector. A place waits for the samples before it, so the products of its newest five come last, one by one: those of its
+// newest alone have to be waited for, and no sum that was just made is. The coefficients come by reference and this isn't
+// inlined, so that `narrow` keeps its shifts.
 #[inline(never)]
 fn predict_by_twelve<const VECTORS: usize>(coefficients: &Twelve, shift: u32, buffer: &mut [i32])
     requires shift { shift ≤ 15 }
@@ -514,20 +537,14 @@ fn predict_by_twelve<const VECTORS: usize>(coefficients: &Twelve, shift: u32, bu
         newest: first,
     };
     let taps = taps_of_twelve(coefficients);
-    let mut sums = first_twelve::<VECTORS>(taps, &buffer[8 - 4 * VECTORS..12]);
-    let mut newest = Five {
-        fifth: i64::from(buffer[7]),
-        fourth: i64::from(buffer[8]),
-        third: i64::from(buffer[9]),
-        second: i64::from(buffer[10]),
-        newest: i64::from(buffer[11]),
-    };
+    let mut sums = first_pending::<VECTORS>(taps, &buffer[8 - 4 * VECTORS..12]);
+    let mut newest = Five::of(&buffer[7..12]);
     for pair in 6..buffer.len() / 2 {
         let i = 2 * pair;
         newest = newest.followed_by_two(last, sums.at_0, buffer[i], buffer[i + 1], shift);
         buffer[i] = low_bits(newest.second);
         buffer[i + 1] = low_bits(newest.newest);
-        sums = twelve_two_on::<VECTORS>(sums, taps, newest.second, newest.newest);
+        sums = pending_two_on::<VECTORS>(sums, taps, newest.second, newest.newest);
     }
     // A last place alone.
     if buffer.len() % 2 == 1 {
@@ -711,13 +728,8 @@ fn first_sums<const VECTORS: usize>(taps: Taps, samples: &[i32]) -> Sums
     sums
 }
 
-// Places from 32 on, each by its newest samples, as many as there are coefficients. Where `VECTORS` is less than 7 the oldest
-// coefficients are zeros.
-//
-// A sample's products go at once to the sums of later places, two samples at a time, so that sums move by whole halves of
-// a vector. A place waits for the samples before it, so the products of its newest five come last, one by one: those of its
-// newest alone have to be waited for, and no sum that was just made is. The coefficients come by reference and this isn't
-// inlined, so that `narrow` keeps its shifts.
+// Places from 32 on, each by its newest samples, as many as there are coefficients, as `predict_by_twelve` does. Where `VECTORS`
+// is less than 7 the oldest coefficients are zeros.
 #[inline(never)]
 fn predict_by_sums<const VECTORS: usize>(many: &[i64; 32], shift: u32, buffer: &mut [i32])
     requires shift { shift ≤ 15 }
@@ -739,13 +751,7 @@ fn predict_by_sums<const VECTORS: usize>(many: &[i64; 32], shift: u32, buffer: &
     };
     let taps = taps_of(many);
     let mut sums = first_sums::<VECTORS>(taps, &buffer[28 - 4 * VECTORS..32]);
-    let mut newest = Five {
-        fifth: i64::from(buffer[27]),
-        fourth: i64::from(buffer[28]),
-        third: i64::from(buffer[29]),
-        second: i64::from(buffer[30]),
-        newest: i64::from(buffer[31]),
-    };
+    let mut newest = Five::of(&buffer[27..32]);
     for pair in 16..buffer.len() / 2 {
         let i = 2 * pair;
         newest = newest.followed_by_two(last, sums.at_0, buffer[i], buffer[i + 1], shift);

@@ -6,7 +6,7 @@ use Rattle.claxon_predictor.specs.Sums.{but_newest_five, Waits}
 use Rattle.claxon_predictor.proofs.Predictors.{restored_all}
 use Rattle.claxon_predictor.proofs.Lanes.{kept_wide, same_wide}
 use Rattle.claxon_predictor.proofs.Sums.{waits_wide, waits_enough, are_last, fit_vectors}
-use Rattle.claxon_predictor.proofs.SampleLoop.{newest_read, widened, as_wide, narrowed, past_split, two_made, one_made, made_restored, made_past, made_newest, last_restored}
+use Rattle.claxon_predictor.proofs.SampleLoop.{newest_after, as_wide, narrowed, past_split, two_made, one_made, made_restored, made_past, made_newest, last_restored}
 use Rattle.claxon_predictor.proofs.predictor.predict_by_sums.Goals as goal
 
 pub returns-then-buffer-le32 : goal.returns-then-buffer-le32
@@ -15,19 +15,14 @@ returns-then-buffer-le32 g c = sym (restored_all (linear (reverse c.args.many.no
 pub sums_two_on-sums-requires-clause-sums : goal.sums_two_on-sums-requires-clause-sums
 sums_two_on-sums-requires-clause-sums g c = waits_wide c.loop-pair.invariant.sums
 
-pub followed_by_two-newest-requires-clause-waiting : goal.followed_by_two-newest-requires-clause-waiting
-followed_by_two-newest-requires-clause-waiting g c = kept_wide (waits_wide c.loop-pair.invariant.sums).at_0
+pub followed_by_two-newest-requires-clause-pending : goal.followed_by_two-newest-requires-clause-pending
+followed_by_two-newest-requires-clause-pending g c = kept_wide (waits_wide c.loop-pair.invariant.sums).at_0
 
-pub followed_by_two-requires-clause-waiting : goal.followed_by_two-requires-clause-waiting
-followed_by_two-requires-clause-waiting g c = kept_wide (waits_wide c.loop-pair.invariant.sums).at_0
+pub followed_by_two-requires-clause-pending : goal.followed_by_two-requires-clause-pending
+followed_by_two-requires-clause-pending g c = kept_wide (waits_wide c.loop-pair.invariant.sums).at_0
 
 pub loop-pair-init : goal.loop-pair-init
 loop-pair-init g c =
-    let fifth : FitsSigned w32 (get_or c.args.buffer.now 27 (pos 0)) = search rules in
-    let fourth : FitsSigned w32 (get_or c.args.buffer.now 28 (pos 0)) = search rules in
-    let third : FitsSigned w32 (get_or c.args.buffer.now 29 (pos 0)) = search rules in
-    let second : FitsSigned w32 (get_or c.args.buffer.now 30 (pos 0)) = search rules in
-    let newest : FitsSigned w32 (get_or c.args.buffer.now 31 (pos 0)) = search rules in
     let ks = but_newest_five (reverse c.args.many.now) in
     let n = 28 - 4 * g.row.VECTORS in
     let near = reverse (take (32 - n) (drop n c.args.buffer.now)) in
@@ -35,14 +30,7 @@ loop-pair-init g c =
     record {
       kept = refl;
       same = refl;
-      past = newest_read c.args.buffer.now 27 32 _ refl (omega arith)
-          (record {
-            fifth = widened _ _ fifth c.from.ensures;
-            fourth = widened _ _ fourth c.from-2.ensures;
-            third = widened _ _ third c.from-3.ensures;
-            second = widened _ _ second c.from-4.ensures;
-            newest = widened _ _ newest c.from-5.ensures;
-          });
+      past = newest_after _ _ _ _ (past_split c.args.buffer.now 27 5 32 refl) c.of-newest.ensures;
       sums = subst (λ (l : List ℤ). Waits ks l c.first_sums-sums.result) (past_split c.args.buffer.now n (32 - n) 32 (omega arith))
           (waits_enough ks near (reverse (take n c.args.buffer.now)) g.row.VECTORS c.first_sums-sums.result fit (omega (arith, length-reverse (take (32 - n) (drop n c.args.buffer.now)), length-take (32 - n) (drop n c.args.buffer.now), length-drop n c.args.buffer.now))
           (c.first_sums-sums.ensures ks c.taps_of-taps.ensures.value fit));

@@ -3,37 +3,32 @@ use Rattle.std.proofs.lemmas.Int.{to_z-of_z}
 use Rattle.std.proofs.lemmas.List.{length-set, length-take, length-drop, length-reverse}
 use Rattle.claxon_format.specs.Predict.{linear}
 use Rattle.claxon_predictor.specs.Sums.{but_newest_five}
-use Rattle.claxon_predictor.specs.Twelve.{numbers, TwelveWait}
+use Rattle.claxon_predictor.specs.Twelve.{numbers, ArePending}
 use Rattle.claxon_predictor.proofs.Predictors.{restored_all}
 use Rattle.claxon_predictor.proofs.Lanes.{kept_wide, same_wide}
 use Rattle.claxon_predictor.proofs.Sums.{fit_vectors}
 use Rattle.claxon_predictor.proofs.Twelve.{twelve_wide, twelve_enough, twelve_last, twelve_long}
-use Rattle.claxon_predictor.proofs.SampleLoop.{newest_read, widened, as_wide, narrowed, past_split, two_made, one_made, made_restored, made_past, made_newest, last_restored}
+use Rattle.claxon_predictor.proofs.SampleLoop.{newest_after, as_wide, narrowed, past_split, two_made, one_made, made_restored, made_past, made_newest, last_restored}
 use Rattle.claxon_predictor.proofs.predictor.predict_by_twelve.Goals as goal
 
 pub returns-then-buffer-le12 : goal.returns-then-buffer-le12
 returns-then-buffer-le12 g c = sym (restored_all (linear (reverse (numbers c.args.coefficients.now)) c.args.shift) c.args.buffer.now 12 c.if-buffer-le12.true)
 
-pub first_twelve-sums-requires-clause-samples : goal.first_twelve-sums-requires-clause-samples
-first_twelve-sums-requires-clause-samples g c =
+pub first_pending-sums-requires-clause-samples : goal.first_pending-sums-requires-clause-samples
+first_pending-sums-requires-clause-samples g c =
     omega (arith, length-take (12 - (8 - 4 * g.row.VECTORS)) (drop (8 - 4 * g.row.VECTORS) c.args.buffer.now), length-drop (8 - 4 * g.row.VECTORS) c.args.buffer.now)
 
-pub twelve_two_on-sums-requires-clause-sums : goal.twelve_two_on-sums-requires-clause-sums
-twelve_two_on-sums-requires-clause-sums g c = twelve_wide c.loop-pair.invariant.sums
+pub pending_two_on-sums-requires-clause-sums : goal.pending_two_on-sums-requires-clause-sums
+pending_two_on-sums-requires-clause-sums g c = twelve_wide c.loop-pair.invariant.sums
 
-pub followed_by_two-newest-requires-clause-waiting : goal.followed_by_two-newest-requires-clause-waiting
-followed_by_two-newest-requires-clause-waiting g c = kept_wide (twelve_wide c.loop-pair.invariant.sums).at_0
+pub followed_by_two-newest-requires-clause-pending : goal.followed_by_two-newest-requires-clause-pending
+followed_by_two-newest-requires-clause-pending g c = kept_wide (twelve_wide c.loop-pair.invariant.sums).at_0
 
-pub followed_by_two-requires-clause-waiting : goal.followed_by_two-requires-clause-waiting
-followed_by_two-requires-clause-waiting g c = kept_wide (twelve_wide c.loop-pair.invariant.sums).at_0
+pub followed_by_two-requires-clause-pending : goal.followed_by_two-requires-clause-pending
+followed_by_two-requires-clause-pending g c = kept_wide (twelve_wide c.loop-pair.invariant.sums).at_0
 
 pub loop-pair-init : goal.loop-pair-init
 loop-pair-init g c =
-    let fifth : FitsSigned w32 (get_or c.args.buffer.now 7 (pos 0)) = search rules in
-    let fourth : FitsSigned w32 (get_or c.args.buffer.now 8 (pos 0)) = search rules in
-    let third : FitsSigned w32 (get_or c.args.buffer.now 9 (pos 0)) = search rules in
-    let second : FitsSigned w32 (get_or c.args.buffer.now 10 (pos 0)) = search rules in
-    let newest : FitsSigned w32 (get_or c.args.buffer.now 11 (pos 0)) = search rules in
     let ks = but_newest_five (reverse (numbers c.args.coefficients.now)) in
     let n = 8 - 4 * g.row.VECTORS in
     let near = reverse (take (12 - n) (drop n c.args.buffer.now)) in
@@ -41,17 +36,10 @@ loop-pair-init g c =
     record {
       kept = refl;
       same = refl;
-      past = newest_read c.args.buffer.now 7 12 _ refl (omega arith)
-          (record {
-            fifth = widened _ _ fifth c.from.ensures;
-            fourth = widened _ _ fourth c.from-2.ensures;
-            third = widened _ _ third c.from-3.ensures;
-            second = widened _ _ second c.from-4.ensures;
-            newest = widened _ _ newest c.from-5.ensures;
-          });
-      sums = subst (λ (l : List ℤ). TwelveWait ks l c.first_twelve-sums.result) (past_split c.args.buffer.now n (12 - n) 12 (omega arith))
-          (twelve_enough ks near (reverse (take n c.args.buffer.now)) g.row.VECTORS c.first_twelve-sums.result fit (omega (arith, length-reverse (take (12 - n) (drop n c.args.buffer.now)), length-take (12 - n) (drop n c.args.buffer.now), length-drop n c.args.buffer.now))
-          (c.first_twelve-sums.ensures ks c.taps_of_twelve-taps.ensures.value fit));
+      past = newest_after _ _ _ _ (past_split c.args.buffer.now 7 5 12 refl) c.of-newest.ensures;
+      sums = subst (λ (l : List ℤ). ArePending ks l c.first_pending-sums.result) (past_split c.args.buffer.now n (12 - n) 12 (omega arith))
+          (twelve_enough ks near (reverse (take n c.args.buffer.now)) g.row.VECTORS c.first_pending-sums.result fit (omega (arith, length-reverse (take (12 - n) (drop n c.args.buffer.now)), length-take (12 - n) (drop n c.args.buffer.now), length-drop n c.args.buffer.now))
+          (c.first_pending-sums.ensures ks c.taps_of_twelve-taps.ensures.value fit));
     }
 
 pub loop-pair-preserved : goal.loop-pair-preserved
@@ -72,9 +60,9 @@ loop-pair-preserved g c =
       kept = length-set _ _ _ ∙ length-set c.loop-pair.buffer _ _ ∙ c.loop-pair.invariant.kept;
       same = made_restored ks c.loop-pair.buffer c.loop-pair.invariant.past.rest c.args.shift i j k _ _ c.loop-pair.newest new refl (omega arith) (omega arith) one two made ∙ c.loop-pair.invariant.same;
       past = made_newest ks c.loop-pair.buffer c.args.shift i j k _ _ c.loop-pair.newest new c.loop-pair.invariant.past refl (omega arith) (omega arith) one two made;
-      sums = subst (λ (l : List ℤ). TwelveWait (but_newest_five ks) l c.twelve_two_on-sums.result)
+      sums = subst (λ (l : List ℤ). ArePending (but_newest_five ks) l c.pending_two_on-sums.result)
           (made_past c.loop-pair.buffer i j k _ _ _ _ refl (omega arith) (omega arith) (one ∙ sym (as_wide new.second c.followed_by_two-newest.ensures.second)) (two ∙ sym (as_wide new.newest c.followed_by_two-newest.ensures.newest)))
-          (c.twelve_two_on-sums.ensures.value (but_newest_five ks) (reverse (take i c.loop-pair.buffer)) c.taps_of_twelve-taps.ensures.value fit c.loop-pair.invariant.sums);
+          (c.pending_two_on-sums.ensures.value (but_newest_five ks) (reverse (take i c.loop-pair.buffer)) c.taps_of_twelve-taps.ensures.value fit c.loop-pair.invariant.sums);
     }
 
 pub returns-then-buffer-eq1 : goal.returns-then-buffer-eq1

@@ -1,7 +1,7 @@
 use Rattle.std.proofs.Common.{◌≡◌, ◌*◌, length, take, reverse}
 use Rattle.claxon_format.specs.Predict.{restored, linear}
 use Rattle.claxon_predictor.specs.Sums.{but_newest_five, AreNewest}
-use Rattle.claxon_predictor.specs.Twelve.{numbers, TwelveWait}
+use Rattle.claxon_predictor.specs.Twelve.{numbers, ArePending}
 use Rattle.claxon_predictor.proofs.predictor.predict_by_twelve.Given as goal
 
 abbrev pub invariant-loop-pair : goal.invariant-loop-pair
@@ -9,5 +9,5 @@ invariant-loop-pair g l = record {
   kept : length l.buffer ≡ length l.fn.buffer;
   same : restored (linear (reverse (numbers l.coefficients)) l.shift) (2 * l.pair) l.buffer ≡ restored (linear (reverse (numbers l.coefficients)) l.shift) 12 l.fn.buffer;
   past : AreNewest (reverse (take (2 * l.pair) l.buffer)) l.newest;
-  sums : TwelveWait (but_newest_five (reverse (numbers l.coefficients))) (reverse (take (2 * l.pair) l.buffer)) l.sums;
+  sums : ArePending (but_newest_five (reverse (numbers l.coefficients))) (reverse (take (2 * l.pair) l.buffer)) l.sums;
 }

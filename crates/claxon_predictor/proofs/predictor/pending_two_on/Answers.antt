@@ -1,7 +1,7 @@
 use Rattle.std.proofs.Common.{refl, arith}
 use Rattle.claxon_predictor.proofs.Lanes.{kept_lanes, kept_wide, moved_is, moved_wide}
 use Rattle.claxon_predictor.proofs.Sums.{few_vectors, later_on, none_past, old_on, wide_is, sample_lanes, taps_are}
-use Rattle.claxon_predictor.proofs.predictor.twelve_two_on.Goals as goal
+use Rattle.claxon_predictor.proofs.predictor.pending_two_on.Goals as goal
 
 pub later_sums-requires-clause-sums : goal.later_sums-requires-clause-sums
 later_sums-requires-clause-sums g c = kept_wide c.requires.sums.at_8

@@ -1,7 +1,7 @@
 use Rattle.std.proofs.Common.{◌≡◌, ◌-◌, ◌∙◌, length, replicate, pos, ap, arith}
 use Rattle.std.proofs.lemmas.List.{length-append, length-replicate}
 use Rattle.claxon_predictor.proofs.Twelve.{twelve_numbers, as_twelve_small}
-use Rattle.claxon_predictor.proofs.predictor.in_lanes.Goals as goal
+use Rattle.claxon_predictor.proofs.predictor.padded_coefficients.Goals as goal
 
 pub returns-clause-value : goal.returns-clause-value
 returns-clause-value c =
