@@ -155,15 +155,20 @@ floor_is (negsuc n) s = refl
 pub shifted_fits : (z : ℤ) (s : ℕ) → FitsSigned w64 z → FitsSigned w64 (shr_z z (2 ^ s))
 shifted_fits z s h = record { sfits = omega (arith, h.sfits, mag_shr z (2 ^ s)) }
 
-pub linear_step : (cs xs : List ℤ) (i s : ℕ) (l r d : ℤ) → length cs ≤ i → i ≤ length xs → FitsSigned w64 r → FitsSigned w32 d
-    → r ≡ dot cs (take (i - (i - length cs)) (drop (i - length cs) xs)) → l ≡ wrap (to_z w64 (of_z w64 (shr_z (to_z w64 (of_z w64 r)) (2 ^ s))))
-    → to_z w32 ((of_z w32 l + of_z w32 d) % 4294967296) ≡ wrap (linear (reverse cs) s (reverse (take i xs)) +ℤ d)
-linear_step cs xs i s l r d le lt fr fd er el =
+-- the low bits of what is predicted
+pub linear_value : (cs xs : List ℤ) (i s : ℕ) (l r : ℤ) → length cs ≤ i → i ≤ length xs → FitsSigned w64 r → r ≡ dot cs (take (i - (i - length cs)) (drop (i - length cs) xs)) → l ≡ wrap (to_z w64 (of_z w64 (shr_z (to_z w64 (of_z w64 r)) (2 ^ s))))
+    → l ≡ wrap (linear (reverse cs) s (reverse (take i xs)))
+linear_value cs xs i s l r le lt fr er el =
     let part : take (i - (i - length cs)) (drop (i - length cs) xs) ≡ drop (i - length cs) (take i xs)
     = sym (drop-take (i - length cs) (i - (i - length cs)) xs) ∙ ap (λ (n : ℕ). drop (i - length cs) (take n xs)) (omega arith) in
     let r-is : r ≡ dot (reverse cs) (reverse (take i xs)) = er ∙ ap (dot cs) part ∙ dot_window cs xs i le lt in
     let shr : to_z w64 (of_z w64 (shr_z (to_z w64 (of_z w64 r)) (2 ^ s))) ≡ linear (reverse cs) s (reverse (take i xs))
     = ap (λ (y : ℤ). to_z w64 (of_z w64 (shr_z y (2 ^ s)))) (to_z-of_z w64 r fr) ∙ to_z-of_z w64 (shr_z r (2 ^ s)) (shifted_fits r s fr) ∙ floor_is r s ∙ ap (λ (y : ℤ). floor_shift y s) r-is in
-    let l-is : l ≡ wrap (linear (reverse cs) s (reverse (take i xs))) = el ∙ ap wrap shr in
-    let fl : FitsSigned w32 l = subst (λ (y : ℤ). FitsSigned w32 y) (sym l-is) (SFits-int_wrap w32 (linear (reverse cs) s (reverse (take i xs)))) in
-    wrapping_add_is w32 l d fl fd ∙ ap (λ (y : ℤ). wrap (y +ℤ d)) l-is ∙ int_wrap-add_left w32 (linear (reverse cs) s (reverse (take i xs))) d
+    el ∙ ap wrap shr
+
+-- that and a residual
+pub linear_sum : (x l v d : ℤ) → l ≡ wrap v → x ≡ wrap (l +ℤ d) → x ≡ wrap (v +ℤ d)
+linear_sum x l v d e h = h ∙ ap (λ (y : ℤ). wrap (y +ℤ d)) e ∙ int_wrap-add_left w32 v d
+
+pub wrap_fits : (l v : ℤ) → l ≡ wrap v → FitsSigned w32 l
+wrap_fits l v e = subst (λ (y : ℤ). FitsSigned w32 y) (sym e) (SFits-int_wrap w32 v)

@@ -168,13 +168,6 @@ waits_enough ks past rest v sums fit le w = record {
   later = record { at_4 = w.later.at_4 ∙ four_enough ks past rest v 4 fit le; at_8 = w.later.at_8 ∙ four_enough ks past rest v 8 fit le; at_12 = w.later.at_12 ∙ four_enough ks past rest v 12 fit le; at_16 = w.later.at_16 ∙ four_enough ks past rest v 16 fit le; at_20 = w.later.at_20 ∙ four_enough ks past rest v 20 fit le; at_24 = w.later.at_24 ∙ four_enough ks past rest v 24 fit le; at_28 = w.later.at_28 ∙ four_enough ks past rest v 28 fit le };
 }
 
-pub few_vectors : (k v j : ℕ) → 4 * k + 4 ≤ j → ltb k v ≡ false → 4 * v + 4 ≤ j
-few_vectors k v j le h =
-    elim (cases_lt k v) [
-      | inl more ↦ (let b : ltb k v ≡ true = lt-ltb k v more in absurd cc)
-      | inr few ↦ omega arith
-    ]
-
 -- a vector of sums, as a call makes it of the one before it and of itself
 pub later_on : (ks past : List ℤ) (x y : ℤ) (j n m v : ℕ) (has : Bool) {b s k u t w : List ℤ} (r : List ℤ) → m ≡ j + 4 → n ≡ j + 1 → FitVectors v ks → (has ≡ false → 4 * v + 4 ≤ j)
     → (has ≡ true → r ≡ two_on b s k u t w) → (has ≡ false → r ≡ replicate 4 (pos 0)) → b ≡ four_waiting ks past m → s ≡ four_waiting ks past j → k ≡ four_taps ks n → u ≡ replicate 4 x → t ≡ four_taps ks j → w ≡ replicate 4 y
@@ -386,31 +379,31 @@ pub sample_fits : (e : ℤ) → FitsSigned w64 e → FitsSigned w32 (to_z w64 (o
 sample_fits e f = subst (FitsSigned w32) (sym (to_z-of_z w64 (shr_z e 4294967296) (shifted_fits e 32 f))) (high_fits e f)
 
 -- a lane that is put up
-pub lane_up : (x u r z : ℤ) (t : ℕ) → FitsSigned w64 x → FitsSigned w32 r → t ≤ 15 → u ≡ pos (32 - t) → x ≡ wrap_64 z
-    → to_z w64 (of_z w64 (to_z w64 (act2 wrap_add (s_int w64) (s_int w64) (s_int w64) (act2 shl (s_int w64) (s_int w64) (s_int w64) (of_z w64 x) (of_z w64 u)) (of_z w64 (to_z w32 (of_z w32 r)) * 4294967296 % 18446744073709551616)))) ≡ put_up z r t
-lane_up x u r z t fx fr ht eu ex =
+lane_up : (x u y r z : ℤ) (t : ℕ) → FitsSigned w64 x → FitsSigned w32 r → t ≤ 15 → u ≡ pos (32 - t) → x ≡ wrap_64 z → y ≡ r
+    → to_z w64 (of_z w64 (to_z w64 (act2 wrap_add (s_int w64) (s_int w64) (s_int w64) (act2 shl (s_int w64) (s_int w64) (s_int w64) (of_z w64 x) (of_z w64 u)) (of_z w64 y * 4294967296 % 18446744073709551616)))) ≡ put_up z r t
+lane_up x u y r z t fx fr ht eu ex ey =
     let fc : FitsSigned w64 (pos 4294967296) = record { sfits = omega arith } in
     let fr64 : FitsSigned w64 r = small_fits 2147483648 r (omega arith) (abs_32 r fr) in
     let rep_x : Rep w64 (of_z w64 x) z = record { below = (rep_fits x fx).below; value = to_z-of_z w64 x fx ∙ ex } in
     let all = rep_add (rep_mul rep_x (rep_fits (pos (2 ^ (32 - t))) (power_fits t))) (rep_mul (rep_fits r fr64) (rep_fits (pos 4294967296) fc)) in
-    rw (eu, to_z-of_z w32 r fr) (ap (λ (v : ℤ). to_z w64 (of_z w64 v)) all.value ∙ to_z-of_z w64 (put_up z r t) (SFits-int_wrap w64 _))
+    rw (eu, ey) (ap (λ (v : ℤ). to_z w64 (of_z w64 v)) all.value ∙ to_z-of_z w64 (put_up z r t) (SFits-int_wrap w64 _))
 
--- four lanes that are put up, two residuals in the last two
-abbrev pub lanes_up : List ℤ → ℤ → ℤ → ℤ → List ℤ
-lanes_up xs u farther nearest =
+-- four lanes that are put up, with the residuals of their places
+abbrev pub lanes_up : List ℤ → ℤ → List ℤ → List ℤ
+lanes_up xs u rs =
     map (to_z w64) (zip2 (act2 wrap_add (s_int w64) (s_int w64) (s_int w64))
     (zip2 (act2 shl (s_int w64) (s_int w64) (s_int w64)) (map (of_z w64) xs) (of_z w64 u ∷ of_z w64 u ∷ of_z w64 u ∷ of_z w64 u ∷ []))
-    (0 ∷ 0 ∷ of_z w64 (to_z w32 (of_z w32 farther)) * 4294967296 % 18446744073709551616 ∷ of_z w64 (to_z w32 (of_z w32 nearest)) * 4294967296 % 18446744073709551616 ∷ []))
+    (zip2 (act2 shl (s_int w64) (s_int w64) (s_int w64)) (map (of_z w64) rs) (32 ∷ 32 ∷ 32 ∷ 32 ∷ [])))
 
-pub nearest_up : (xs : List ℤ) (u farther nearest z : ℤ) (t : ℕ) → Wide xs → FitsSigned w32 nearest → t ≤ 15 → u ≡ pos (32 - t) → get_or xs 3 (pos 0) ≡ wrap_64 z
-    → to_z w64 (of_z w64 (get_or (lanes_up xs u farther nearest) 3 (pos 0))) ≡ put_up z nearest t
-nearest_up (a ∷ b ∷ c ∷ d ∷ []) u farther nearest z t h fits ht eu ex = lane_up d u nearest z t h.each.1.1.1.0 fits ht eu ex
-nearest_up xs u farther nearest z t h fits ht eu ex = absurd (omega (arith, h.four))
+pub nearest_up : (xs rs : List ℤ) (u nearest z : ℤ) (t : ℕ) → Wide xs → Wide rs → FitsSigned w32 nearest → t ≤ 15 → u ≡ pos (32 - t) → get_or xs 3 (pos 0) ≡ wrap_64 z → get_or rs 3 (pos 0) ≡ nearest
+    → to_z w64 (of_z w64 (get_or (lanes_up xs u rs) 3 (pos 0))) ≡ put_up z nearest t
+nearest_up (a ∷ b ∷ c ∷ d ∷ []) (e ∷ f ∷ g ∷ h ∷ []) u nearest z t wx wr fits ht eu ex er = lane_up d u h nearest z t wx.each.1.1.1.0 fits ht eu ex er
+nearest_up xs rs u nearest z t wx wr fits ht eu ex er = absurd (omega (arith, wx.four, wr.four))
 
-pub farther_up : (xs : List ℤ) (u farther nearest z : ℤ) (t : ℕ) → Wide xs → FitsSigned w32 farther → t ≤ 15 → u ≡ pos (32 - t) → get_or xs 2 (pos 0) ≡ wrap_64 z
-    → to_z w64 (of_z w64 (get_or (lanes_up xs u farther nearest) 2 (pos 0))) ≡ put_up z farther t
-farther_up (a ∷ b ∷ c ∷ d ∷ []) u farther nearest z t h fits ht eu ex = lane_up c u farther z t h.each.1.1.0 fits ht eu ex
-farther_up xs u farther nearest z t h fits ht eu ex = absurd (omega (arith, h.four))
+pub farther_up : (xs rs : List ℤ) (u farther z : ℤ) (t : ℕ) → Wide xs → Wide rs → FitsSigned w32 farther → t ≤ 15 → u ≡ pos (32 - t) → get_or xs 2 (pos 0) ≡ wrap_64 z → get_or rs 2 (pos 0) ≡ farther
+    → to_z w64 (of_z w64 (get_or (lanes_up xs u rs) 2 (pos 0))) ≡ put_up z farther t
+farther_up (a ∷ b ∷ c ∷ d ∷ []) (e ∷ f ∷ g ∷ h ∷ []) u farther z t wx wr fits ht eu ex er = lane_up c u g farther z t wx.each.1.1.0 fits ht eu ex er
+farther_up xs rs u farther z t wx wr fits ht eu ex er = absurd (omega (arith, wx.four, wr.four))
 
 -- ---- the coefficients, as the code makes them of thirty-two numbers
 

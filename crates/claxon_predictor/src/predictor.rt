@@ -274,6 +274,16 @@ fn later_sums(
     add_products(add_products(moved, for_second, second), for_newest, newest)
 }
 
+// The residuals of the nearest two places as the last two lanes, the nearest place's last.
+#[inline(always)]
+fn residual_lanes(nearest: i32, farther: i32) -> i64x4
+    ensures nearest { get_or result 3 (pos 0) ≡ nearest }
+    ensures farther { get_or result 2 (pos 0) ≡ farther }
+    ensures wide { Wide result }
+{
+    i32x4::from_array([0, 0, farther, nearest]).cast::<i64>()
+}
+
 // The sums that wait for the nearest two places, each with the residual of its place. All is put up so far that one shift by
 // 32 drops what `shift` would, and leaves a number of 32 bits.
 #[inline(always)]
@@ -284,7 +294,7 @@ fn put_up(sums: i64x4, nearest: i32, farther: i32, shift: u32) -> (i64, i64)
     ensures farther { IsPutUp (get_or sums 2 (pos 0)) farther shift result.1 }
 {
     let up = i64x4::splat(i64::from(32 - shift));
-    let residuals = i32x4::from_array([0, 0, farther, nearest]).cast::<i64>();
+    let residuals = residual_lanes(nearest, farther);
     let [_, _, second, first] = ((sums << up) + (residuals << i64x4::splat(32))).to_array();
     (first, second)
 }

@@ -1,6 +1,7 @@
 use Rattle.std.proofs.Common.{refl, arith}
+use Rattle.std.proofs.lemmas.Bool.{ltb-false}
 use Rattle.claxon_predictor.proofs.Lanes.{kept_lanes, kept_wide, moved_is, moved_wide}
-use Rattle.claxon_predictor.proofs.Sums.{few_vectors, later_on, none_past, old_on, wide_is, sample_lanes, taps_are}
+use Rattle.claxon_predictor.proofs.Sums.{later_on, none_past, old_on, wide_is, sample_lanes, taps_are}
 use Rattle.claxon_predictor.proofs.predictor.pending_two_on.Goals as goal
 
 pub later_sums-requires-clause-sums : goal.later_sums-requires-clause-sums
@@ -29,7 +30,7 @@ returns-clause-value g c = λ ks past taps fit waits.
     let second = sample_lanes c.args.one c.spread-one.result c.ranges.one c.spread-one.ensures.lanes c.spread-one.ensures.value in
     let newest = sample_lanes c.args.two c.spread-two.result c.ranges.two c.spread-two.ensures.lanes c.spread-two.ensures.value in
     record {
-      at_8 = later_on ks past c.args.one c.args.two 8 9 12 g.row.VECTORS _ c.later_sums.result refl refl fit (few_vectors 1 g.row.VECTORS 8 (omega arith)) c.later_sums.ensures.value c.later_sums.ensures.zeros (none_past ks past 12 taps.long) (wide_is c.requires.sums.at_8 waits.at_8)
+      at_8 = later_on ks past c.args.one c.args.two 8 9 12 g.row.VECTORS _ c.later_sums.result refl refl fit (λ h. omega (arith, ltb-false)) c.later_sums.ensures.value c.later_sums.ensures.zeros (none_past ks past 12 taps.long) (wide_is c.requires.sums.at_8 waits.at_8)
           (taps_are c.requires.taps.second.at_8 taps.second.at_8) second (taps_are c.requires.taps.newest.at_8 taps.newest.at_8) newest;
       at_4 = later_on ks past c.args.one c.args.two 4 5 8 g.row.VECTORS _ c.later_sums-2.result refl refl fit (λ h. absurd cc) c.later_sums-2.ensures.value c.later_sums-2.ensures.zeros (wide_is c.requires.sums.at_8 waits.at_8) (wide_is c.requires.sums.at_4 waits.at_4)
           (taps_are c.requires.taps.second.at_4 taps.second.at_4) second (taps_are c.requires.taps.newest.at_4 taps.newest.at_4) newest;

@@ -1,6 +1,7 @@
 use Rattle.std.proofs.Common.{refl, arith}
+use Rattle.std.proofs.lemmas.Bool.{ltb-false}
 use Rattle.claxon_predictor.proofs.Lanes.{kept_lanes, kept_wide, moved_is, moved_wide}
-use Rattle.claxon_predictor.proofs.Sums.{few_vectors, later_on, none_past, old_on, wide_is, sample_lanes, taps_are}
+use Rattle.claxon_predictor.proofs.Sums.{later_on, none_past, old_on, wide_is, sample_lanes, taps_are}
 use Rattle.claxon_predictor.proofs.predictor.sums_two_on.Goals as goal
 
 pub later_sums-requires-clause-before : goal.later_sums-requires-clause-before
@@ -97,13 +98,13 @@ returns-clause-value g c = λ ks past taps fit waits.
             (taps_are c.requires.taps.second.at_8 taps.second.at_8) second (taps_are c.requires.taps.newest.at_8 taps.newest.at_8) newest;
         at_12 = later_on ks past c.args.one c.args.two 12 13 16 g.row.VECTORS _ c.later_sums-3.result refl refl fit (λ h. absurd cc) c.later_sums-3.ensures.value c.later_sums-3.ensures.zeros (wide_is c.requires.sums.later.at_16 waits.later.at_16) (wide_is c.requires.sums.later.at_12 waits.later.at_12)
             (taps_are c.requires.taps.second.at_12 taps.second.at_12) second (taps_are c.requires.taps.newest.at_12 taps.newest.at_12) newest;
-        at_16 = later_on ks past c.args.one c.args.two 16 17 20 g.row.VECTORS _ c.later_sums-4.result refl refl fit (few_vectors 3 g.row.VECTORS 16 (omega arith)) c.later_sums-4.ensures.value c.later_sums-4.ensures.zeros (wide_is c.requires.sums.later.at_20 waits.later.at_20) (wide_is c.requires.sums.later.at_16 waits.later.at_16)
+        at_16 = later_on ks past c.args.one c.args.two 16 17 20 g.row.VECTORS _ c.later_sums-4.result refl refl fit (λ h. omega (arith, ltb-false)) c.later_sums-4.ensures.value c.later_sums-4.ensures.zeros (wide_is c.requires.sums.later.at_20 waits.later.at_20) (wide_is c.requires.sums.later.at_16 waits.later.at_16)
             (taps_are c.requires.taps.second.at_16 taps.second.at_16) second (taps_are c.requires.taps.newest.at_16 taps.newest.at_16) newest;
-        at_20 = later_on ks past c.args.one c.args.two 20 21 24 g.row.VECTORS _ c.later_sums-5.result refl refl fit (few_vectors 4 g.row.VECTORS 20 (omega arith)) c.later_sums-5.ensures.value c.later_sums-5.ensures.zeros (wide_is c.requires.sums.later.at_24 waits.later.at_24) (wide_is c.requires.sums.later.at_20 waits.later.at_20)
+        at_20 = later_on ks past c.args.one c.args.two 20 21 24 g.row.VECTORS _ c.later_sums-5.result refl refl fit (λ h. omega (arith, ltb-false)) c.later_sums-5.ensures.value c.later_sums-5.ensures.zeros (wide_is c.requires.sums.later.at_24 waits.later.at_24) (wide_is c.requires.sums.later.at_20 waits.later.at_20)
             (taps_are c.requires.taps.second.at_20 taps.second.at_20) second (taps_are c.requires.taps.newest.at_20 taps.newest.at_20) newest;
-        at_24 = later_on ks past c.args.one c.args.two 24 25 28 g.row.VECTORS _ c.later_sums-6.result refl refl fit (few_vectors 5 g.row.VECTORS 24 (omega arith)) c.later_sums-6.ensures.value c.later_sums-6.ensures.zeros (wide_is c.requires.sums.later.at_28 waits.later.at_28) (wide_is c.requires.sums.later.at_24 waits.later.at_24)
+        at_24 = later_on ks past c.args.one c.args.two 24 25 28 g.row.VECTORS _ c.later_sums-6.result refl refl fit (λ h. omega (arith, ltb-false)) c.later_sums-6.ensures.value c.later_sums-6.ensures.zeros (wide_is c.requires.sums.later.at_28 waits.later.at_28) (wide_is c.requires.sums.later.at_24 waits.later.at_24)
             (taps_are c.requires.taps.second.at_24 taps.second.at_24) second (taps_are c.requires.taps.newest.at_24 taps.newest.at_24) newest;
-        at_28 = later_on ks past c.args.one c.args.two 28 29 32 g.row.VECTORS _ c.later_sums-7.result refl refl fit (few_vectors 6 g.row.VECTORS 28 (omega arith)) c.later_sums-7.ensures.value c.later_sums-7.ensures.zeros (none_past ks past 32 taps.long) (wide_is c.requires.sums.later.at_28 waits.later.at_28)
+        at_28 = later_on ks past c.args.one c.args.two 28 29 32 g.row.VECTORS _ c.later_sums-7.result refl refl fit (λ h. omega (arith, ltb-false)) c.later_sums-7.ensures.value c.later_sums-7.ensures.zeros (none_past ks past 32 taps.long) (wide_is c.requires.sums.later.at_28 waits.later.at_28)
             (taps_are c.requires.taps.second.at_28 taps.second.at_28) second (taps_are c.requires.taps.newest.at_28 taps.newest.at_28) newest;
       };
     }
