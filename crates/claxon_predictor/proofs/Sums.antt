@@ -17,7 +17,7 @@ use Rattle.claxon_predictor.proofs.LastCoefficients.{reverse_zeros}
 use Rattle.claxon_format.specs.Predict.{wrap, dot, floor_shift, linear}
 use Rattle.claxon_format.proofs.Wraps.{Rep, rep_add, rep_mul, rep_fits}
 use Rattle.claxon_predictor.specs.Lanes.{AllWithin, Within, Lanes, Wide, wrap_64, two_on}
-use Rattle.claxon_predictor.specs.Sums.{but_newest_five, waiting_at, four_waiting, four_taps, Waits, AreTaps, SmallTaps, SmallLater, AreLaterTaps, FitVectors, WideSums, put_up, IsPutUp, plus_five, IsSample, IsFollowed, five_before, AreNewest}
+use Rattle.claxon_predictor.specs.Sums.{but_newest_five, waiting_at, four_waiting, four_taps, Waits, AreTaps, SmallTaps, SmallLater, AreLaterTaps, FitVectors, WideSums, put_up, IsPutUp, AddsProduct, plus_five, IsSample, IsFollowed, five_before, AreNewest}
 use Rattle.claxon_predictor.specs.declared.predictor.Five.{Five}
 use Rattle.claxon_predictor.specs.declared.predictor.Taps.{Taps}
 use Rattle.claxon_predictor.specs.declared.predictor.Later.{Later}
@@ -359,21 +359,24 @@ product_is e b s z r t fe fb fs ee =
     let all = rep_add rep_e (rep_mul (rep_mul (rep_fits b fb) rep_k) (rep_fits s fs)) in
     all.value ∙ ap wrap_64 (product_up z r b s (2 ^ (32 - t)) 4294967296)
 
--- what was put up, as a call gets it
-pub passed : (e z r : ℤ) (t : ℕ) → e ≡ put_up z r t → to_z w64 (of_z w64 e) ≡ put_up z r t
-passed e z r t h = ap (λ (v : ℤ). to_z w64 (of_z w64 v)) h ∙ to_z-of_z w64 _ (SFits-int_wrap w64 _)
+-- a sum and a residual that were put up
+pub record IsUp (e sum residual : ℤ) (t : ℕ) : Type 0 where
+  pub is : e ≡ put_up sum residual t
 
--- the same of a product
-pub one_more : {e : ℤ} (b s z r : ℤ) (t : ℕ) → FitsSigned w64 b → FitsSigned w64 s → e ≡ put_up (z +ℤ to_z w64 (of_z w64 b) *ℤ to_z w64 (of_z w64 s)) r t → e ≡ put_up (z +ℤ b *ℤ s) r t
-one_more b s z r t fb fs h = h ∙ rw (to_z-of_z w64 b fb, to_z-of_z w64 s fs) refl
+-- one product more, as a call adds it
+pub up_more : {e b s m z r : ℤ} {t : ℕ} → AddsProduct (to_z w64 (of_z w64 e)) b s t m → IsUp e z r t → IsUp m (z +ℤ b *ℤ s) r t
+up_more {e} {b} {s} {m} {z} {r} {t} h u = record { is = h.adds z r (ap (λ (v : ℤ). to_z w64 (of_z w64 v)) u.is ∙ to_z-of_z w64 _ (SFits-int_wrap w64 _)) }
 
-pub sample_is : (e z r : ℤ) (t : ℕ) → t ≤ 15 → e ≡ put_up z r t → to_z w64 (of_z w64 (shr_z (to_z w64 (of_z w64 e)) 4294967296)) ≡ wrap (floor_shift z t +ℤ r)
+sample_is : (e z r : ℤ) (t : ℕ) → t ≤ 15 → e ≡ put_up z r t → to_z w64 (of_z w64 (shr_z (to_z w64 (of_z w64 e)) 4294967296)) ≡ wrap (floor_shift z t +ℤ r)
 sample_is e z r t ht ee =
     let fits : FitsSigned w64 e = subst (FitsSigned w64) (sym ee) (SFits-int_wrap w64 _) in
     let d : ℤ = z *ℤ pos (2 ^ (32 - t)) +ℤ r *ℤ pos 4294967296 in
     let narrow : FitsSigned w32 (shr_z (wrap_64 d) 4294967296) = high_fits (wrap_64 d) (SFits-int_wrap w64 d) in
     let wide : FitsSigned w64 (shr_z (wrap_64 d) 4294967296) = shifted_fits (wrap_64 d) 32 (SFits-int_wrap w64 d) in
     ap (λ (v : ℤ). to_z w64 (of_z w64 (shr_z v 4294967296))) (to_z-of_z w64 e fits ∙ ee) ∙ to_z-of_z w64 _ wide ∙ sym (int_wrap_fits w32 _ narrow) ∙ put_up_is z r t ht
+
+pub up_sample : {e z r : ℤ} {t : ℕ} (w : ℤ) → t ≤ 15 → IsUp e z r t → z ≡ w → to_z w64 (of_z w64 (shr_z (to_z w64 (of_z w64 e)) 4294967296)) ≡ wrap (floor_shift w t +ℤ r)
+up_sample {e} {z} {r} {t} w ht u same = sample_is e z r t ht u.is ∙ ap (λ (v : ℤ). wrap (floor_shift v t +ℤ r)) same
 
 pub sample_fits : (e : ℤ) → FitsSigned w64 e → FitsSigned w32 (to_z w64 (of_z w64 (shr_z e 4294967296)))
 sample_fits e f = subst (FitsSigned w32) (sym (to_z-of_z w64 (shr_z e 4294967296) (shifted_fits e 32 f))) (high_fits e f)

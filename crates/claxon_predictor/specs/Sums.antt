@@ -109,9 +109,8 @@ abbrev pub IsPutUp : ℤ → ℤ → ℕ → ℤ → Type 0
 IsPutUp waiting residual shift early = (sum : ℤ) → waiting ≡ wrap_64 sum → early ≡ put_up sum residual shift
 
 -- so with one more product
-abbrev pub AddsProduct : ℤ → ℤ → ℤ → ℕ → ℤ → Type 0
-AddsProduct early coefficient sample shift more =
-    (sum residual : ℤ) → early ≡ put_up sum residual shift → more ≡ put_up (sum +ℤ coefficient *ℤ sample) residual shift
+pub record AddsProduct (early coefficient sample : ℤ) (shift : ℕ) (more : ℤ) : Type 0 where
+  pub adds : (sum residual : ℤ) → early ≡ put_up sum residual shift → more ≡ put_up (sum +ℤ coefficient *ℤ sample) residual shift
 
 -- a sum and the products of five samples
 abbrev pub plus_five : ℤ → Five → Five → ℤ
