@@ -141,14 +141,33 @@ products_wide zs cs xs four hc hx =
 
 -- ---- lanes moved by two
 
-pub moved_is : (before sums : List ℤ) → Wide before → Wide sums → map (to_z w64) (pick_l 0 (map (of_z w64) before ++ map (of_z w64) sums) (2 ∷ 3 ∷ 4 ∷ 5 ∷ [])) ≡ drop 2 before ++ take 2 sums
-moved_is (a ∷ b ∷ c ∷ d ∷ []) (e ∷ f ∷ g ∷ h ∷ []) hb hs = rw (to_z-of_z w64 c hb.each.1.1.0, to_z-of_z w64 d hb.each.1.1.1.0, to_z-of_z w64 e hs.each.0, to_z-of_z w64 f hs.each.1.0) refl
-moved_is before sums hb hs = absurd (omega (arith, hb.four, hs.four))
+-- the four numbers of a vector, each as an operation gets it
+pub record Four (xs : List ℤ) : Type 0 where
+  pub a : ℤ
+  pub b : ℤ
+  pub c : ℤ
+  pub d : ℤ
+  pub is : xs ≡ a ∷ b ∷ c ∷ d ∷ []
+  pub a_is : to_z w64 (of_z w64 a) ≡ a
+  pub b_is : to_z w64 (of_z w64 b) ≡ b
+  pub c_is : to_z w64 (of_z w64 c) ≡ c
+  pub d_is : to_z w64 (of_z w64 d) ≡ d
 
-pub moved_wide : (before sums : List ℤ) → Wide before → Wide sums → Wide (map (to_z w64) (pick_l 0 (map (of_z w64) before ++ map (of_z w64) sums) (2 ∷ 3 ∷ 4 ∷ 5 ∷ [])))
-moved_wide (a ∷ b ∷ c ∷ d ∷ []) (e ∷ f ∷ g ∷ h ∷ []) hb hs =
-    subst Wide (sym (moved_is (a ∷ b ∷ c ∷ d ∷ []) (e ∷ f ∷ g ∷ h ∷ []) hb hs)) (record { four = refl; each = (hb.each.1.1.0, (hb.each.1.1.1.0, (hs.each.0, (hs.each.1.0, tt)))) })
+pub four_of : (xs : List ℤ) → Wide xs → Four xs
+four_of (a ∷ b ∷ c ∷ d ∷ []) h = record { a = a; b = b; c = c; d = d; is = refl; a_is = to_z-of_z w64 a h.each.0; b_is = to_z-of_z w64 b h.each.1.0; c_is = to_z-of_z w64 c h.each.1.1.0; d_is = to_z-of_z w64 d h.each.1.1.1.0 }
+four_of xs h = absurd (omega (arith, h.four))
+
+moved_wide : (before sums : List ℤ) → Wide before → Wide sums → Wide (drop 2 before ++ take 2 sums)
+moved_wide (a ∷ b ∷ c ∷ d ∷ []) (e ∷ f ∷ g ∷ h ∷ []) hb hs = record { four = refl; each = (hb.each.1.1.0, (hb.each.1.1.1.0, (hs.each.0, (hs.each.1.0, tt)))) }
 moved_wide before sums hb hs = absurd (omega (arith, hb.four, hs.four))
+
+pub wide_moved : {before sums xs : List ℤ} → Wide before → Wide sums → xs ≡ drop 2 before ++ take 2 sums → Wide xs
+wide_moved {before} {sums} {xs} hb hs e = subst Wide (sym e) (moved_wide before sums hb hs)
+
+-- the same of a call, which gets and gives vectors
+pub moved_by : {before sums m : List ℤ} → Wide before → Wide sums → Wide m → m ≡ drop 2 (map (to_z w64) (map (of_z w64) before)) ++ take 2 (map (to_z w64) (map (of_z w64) sums))
+    → map (to_z w64) (map (of_z w64) m) ≡ drop 2 before ++ take 2 sums
+moved_by {before} {sums} {m} hb hs hm e = same_wide hm ∙ e ∙ rw (same_wide hb, same_wide hs) refl
 
 pub later_is : (before sums ks x js y m r q : List ℤ) → Wide before → Wide sums → Lanes 32768 ks → Lanes 2147483648 x → Lanes 32768 js → Lanes 2147483648 y → m ≡ drop 2 before ++ take 2 sums
     → r ≡ plus_products m (map (to_z w64) (map (of_z w64) ks)) (map (to_z w64) (map (of_z w64) x))

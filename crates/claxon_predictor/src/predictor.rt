@@ -1,5 +1,5 @@
 //! Predictors: samples from their first ones and a residual, in place. All sums are modulo 2^32 in the end.
-ghost use Rattle.std.specs.Prelude.{◌≡◌, ◌+◌, ◌-◌, ◌*◌, ◌^◌, ◌<◌, ◌≤◌, true, false, ◌++◌, length, take, reverse, replicate, get_or, pos, FitsSigned};
+ghost use Rattle.std.specs.Prelude.{◌≡◌, ◌+◌, ◌-◌, ◌*◌, ◌^◌, ◌<◌, ◌≤◌, true, false, ◌++◌, length, take, drop, reverse, replicate, get_or, pos, FitsSigned};
 ghost use Rattle.std.specs.Int.{w32};
 ghost use Rattle.claxon_format.specs.Predict.{wrap, dot, fixed, linear, restored};
 ghost use Rattle.claxon_predictor.specs.Predictor.{SamplesCameBack};
@@ -245,6 +245,17 @@ fn add_products(sums: i64x4, coefficients: i64x4, samples: i64x4) -> i64x4
     sums + narrow(coefficients) * samples
 }
 
+// Lanes two places on: the last two before some and the first two of these.
+#[inline(always)]
+fn two_lanes_on(before: i64x4, lanes: i64x4) -> i64x4
+    requires before { Wide before }
+    requires lanes { Wide lanes }
+    ensures value { result ≡ drop 2 before ++ take 2 lanes }
+    ensures wide { Wide result }
+{
+    before.shuffle(lanes, [2, 3, 4, 5])
+}
+
 // The sums of four places, two places on: the last two lanes before `sums` and its first two, and what two samples add. Where
 // no coefficient is left for these places, all of that is zeros.
 #[inline(always)]
@@ -270,7 +281,7 @@ fn later_sums(
     if !has_taps {
         return i64x4::splat(0);
     }
-    let moved = before.shuffle(sums, [2, 3, 4, 5]);
+    let moved = two_lanes_on(before, sums);
     add_products(add_products(moved, for_second, second), for_newest, newest)
 }
 
@@ -497,7 +508,7 @@ fn pending_two_on<const VECTORS: usize>(
             newest.at_4,
             two,
         ),
-        at_0: sums.at_4.shuffle(sums.at_0, [2, 3, 4, 5]),
+        at_0: two_lanes_on(sums.at_4, sums.at_0),
     }
 }
 
@@ -715,7 +726,7 @@ fn sums_two_on<const VECTORS: usize>(sums: Sums, taps: Taps, one: i64, two: i64)
         ),
     };
     Sums {
-        at_0: old.at_4.shuffle(sums.at_0, [2, 3, 4, 5]),
+        at_0: two_lanes_on(old.at_4, sums.at_0),
         later,
     }
 }

@@ -1,6 +1,6 @@
 use Rattle.std.proofs.Common.{refl, arith}
 use Rattle.std.proofs.lemmas.Bool.{ltb-false}
-use Rattle.claxon_predictor.proofs.Lanes.{kept_lanes, kept_wide, moved_is, moved_wide}
+use Rattle.claxon_predictor.proofs.Lanes.{kept_lanes, kept_wide, moved_by}
 use Rattle.claxon_predictor.proofs.Sums.{later_on, none_past, old_on, wide_is, sample_lanes, taps_are}
 use Rattle.claxon_predictor.proofs.predictor.sums_two_on.Goals as goal
 
@@ -85,12 +85,18 @@ later_sums-requires-7-clause-for_second g c = kept_lanes (omega arith) c.require
 pub later_sums-requires-7-clause-for_newest : goal.later_sums-requires-7-clause-for_newest
 later_sums-requires-7-clause-for_newest g c = kept_lanes (omega arith) c.requires.taps.newest.at_28
 
+pub two_lanes_on-requires-clause-before : goal.two_lanes_on-requires-clause-before
+two_lanes_on-requires-clause-before g c = kept_wide c.requires.sums.later.at_4
+
+pub two_lanes_on-requires-clause-lanes : goal.two_lanes_on-requires-clause-lanes
+two_lanes_on-requires-clause-lanes g c = kept_wide c.requires.sums.at_0
+
 pub returns-clause-value : goal.returns-clause-value
 returns-clause-value g c = λ ks past taps fit waits.
     let second = sample_lanes c.args.one c.spread-one.result c.ranges.one c.spread-one.ensures.lanes c.spread-one.ensures.value in
     let newest = sample_lanes c.args.two c.spread-two.result c.ranges.two c.spread-two.ensures.lanes c.spread-two.ensures.value in
     record {
-      at_0 = old_on ks past c.args.one c.args.two _ taps.nearest (moved_is c.args.sums.later.at_4 c.args.sums.at_0 c.requires.sums.later.at_4 c.requires.sums.at_0) waits.later.at_4 waits.at_0;
+      at_0 = old_on ks past c.args.one c.args.two _ taps.nearest (moved_by c.requires.sums.later.at_4 c.requires.sums.at_0 c.two_lanes_on.ensures.wide c.two_lanes_on.ensures.value) waits.later.at_4 waits.at_0;
       later = record {
         at_4 = later_on ks past c.args.one c.args.two 4 5 8 g.row.VECTORS _ c.later_sums.result refl refl fit (λ h. absurd cc) c.later_sums.ensures.value c.later_sums.ensures.zeros (wide_is c.requires.sums.later.at_8 waits.later.at_8) (wide_is c.requires.sums.later.at_4 waits.later.at_4)
             (taps_are c.requires.taps.second.at_4 taps.second.at_4) second (taps_are c.requires.taps.newest.at_4 taps.newest.at_4) newest;
@@ -111,6 +117,6 @@ returns-clause-value g c = λ ks past taps fit waits.
 
 pub returns-clause-wide : goal.returns-clause-wide
 returns-clause-wide g c = record {
-  at_0 = moved_wide c.args.sums.later.at_4 c.args.sums.at_0 c.requires.sums.later.at_4 c.requires.sums.at_0;
+  at_0 = kept_wide c.two_lanes_on.ensures.wide;
   later = record { at_4 = kept_wide c.later_sums.ensures.wide; at_8 = kept_wide c.later_sums-2.ensures.wide; at_12 = kept_wide c.later_sums-3.ensures.wide; at_16 = kept_wide c.later_sums-4.ensures.wide; at_20 = kept_wide c.later_sums-5.ensures.wide; at_24 = kept_wide c.later_sums-6.ensures.wide; at_28 = kept_wide c.later_sums-7.ensures.wide };
 }
