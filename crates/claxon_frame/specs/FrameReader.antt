@@ -1,9 +1,9 @@
 -- What clauses read of blocks and of a `FrameReader`.
-use Rattle.std.specs.Prelude.{◌≡◌, ◌⊎◌, ℕ, ℤ, ◌*◌, ◌<◌, ◌≤◌, List, [], ◌++◌, length, Option, None, IfOk, IfSome, IsOkAnd, IsSomeAnd, Result, Ok}
+use Rattle.std.specs.Prelude.{◌≡◌, ◌⊎◌, ℕ, ℤ, ◌*◌, ◌<◌, ◌≤◌, List, [], length, Option, None, IfOk, IfSome, Result, Ok}
 use Rattle.claxon_format.specs.Bits.{bits_of}
 use Rattle.claxon_format.specs.Frame.{StreamShape, Block, Frame, FrameBytesFault, known_width}
 use Rattle.claxon_format.specs.read.Frame.{frame_bytes_at, Start, start_at}
-use Rattle.claxon_format.specs.FrameWriter.{HeaderPlan, SuitsEach, SuitsFrame, count_of, mixed, planned_widths, write_bytes, written_block}
+use Rattle.claxon_format.specs.FrameWriter.{HeaderPlan, SuitsEach, SuitsEachShape, SuitsFrame, count_of, mixed, planned_widths, plans_with_quotients, write_bytes, written_block}
 use Rattle.claxon_format.specs.Header.{Fields, Header, HeaderCode}
 use Rattle.claxon_format.specs.Laws.{IsTold}
 use Rattle.claxon_format.specs.Reading.{Done}
@@ -11,7 +11,7 @@ use Rattle.claxon_format.specs.Writer.{SubframePlan}
 use Rattle.claxon_input.specs.declared.error.Error.{Error}
 use Rattle.claxon_input.specs.Source.{Source}
 use Rattle.claxon_input.specs.State.{State, bytes_in}
-use Rattle.claxon_input.specs.Promises.{AnswersFound, Comes, EndPromises, EndsElseFrom, HasFailed, IsExcused, IsStarved, LeavesRest, NamesFault, NoneIsEnd, TakesFault, TakesFound, Took}
+use Rattle.claxon_input.specs.Promises.{AnswersFound, Comes, EndPromises, EndsElseFrom, HasFailed, IsStarved, LeavesRest, NamesFault, NoneIsEnd, TakesFault, TakesFound, Took}
 use Rattle.claxon_input.specs.Gives.{Went, GivesOrEndsOrStarves}
 use Rattle.claxon_frame.specs.Block.{BlockValue, duration_of}
 use Rattle.claxon_frame.specs.FrameStart.{shape_view}
@@ -71,14 +71,6 @@ module _ {R : Type 0} (source : R → Source ℕ) (old : FrameReader R) (result 
   abbrev pub EachFrameIsAnswered : Type 0
   EachFrameIsAnswered = AnswersFound block_view result (Frame (frame_stream old)) (frame_bytes source old) (frame_bytes source new)
 
-  -- What a writer writes under any plan that suits, whatever follows, comes back, and it alone is taken.
-  abbrev pub EachPlanIsAnswered : Type 0
-  EachPlanIsAnswered = (f : Fields) (header : HeaderPlan) (plans : List SubframePlan) (channels : List (List ℤ)) (rest : List ℕ)
-      → SuitsFrame (frame_stream old) f header channels → SuitsEach f.size (planned_widths (frame_stream old) f) plans (mixed f.channels channels)
-      → Comes (frame_bytes source old) (write_bytes (frame_stream old) f header plans channels ++ rest)
-      → (IsOkAnd result (λ found. IsSomeAnd found (λ x. block_view x ≡ written_block (frame_stream old) f channels)) × Comes (frame_bytes source new) rest)
-      ⊎ IsExcused result (frame_bytes source old) (frame_bytes source new)
-
   -- None says that fewer than two bytes were left, which were taken.
   abbrev pub NoneIsTheEnd : Type 0
   NoneIsTheEnd = NoneIsEnd 2 result (frame_bytes source old) (frame_bytes source new)
@@ -127,3 +119,15 @@ BlockHasSamples result = IfOk result (λ found. IfSome found (λ block. (1 ≤ l
 -- No bytes begin with frames of two blocks or of two lengths, with a frame and a fault, or with two faults.
 abbrev pub FrameIsTold : Option StreamShape → Type 0
 FrameIsTold stream = IsTold (Frame stream) (FrameBytesFault stream)
+
+-- What a writer writes under any plan that suits is a frame of the block with just these channels.
+abbrev pub PlansWriteFrames : Option StreamShape → Type 0
+PlansWriteFrames stream = (f : Fields) (header : HeaderPlan) (plans : List SubframePlan) (channels : List (List ℤ))
+    → SuitsFrame stream f header channels → SuitsEach f.size (planned_widths stream f) plans (mixed f.channels channels)
+    → Frame stream (written_block stream f channels) (write_bytes stream f header plans channels)
+
+-- Every plan of subframe types, orders, coefficients, shifts and Rice parameters that suits has such bytes.
+abbrev pub PlansHaveBytes : Option StreamShape → Type 0
+PlansHaveBytes stream = (f : Fields) (header : HeaderPlan) (plans : List SubframePlan) (channels : List (List ℤ))
+    → SuitsFrame stream f header channels → SuitsEachShape f.size (planned_widths stream f) plans (mixed f.channels channels)
+    → Frame stream (written_block stream f channels) (write_bytes stream f header (plans_with_quotients f.size plans (mixed f.channels channels)) channels)

@@ -43,7 +43,7 @@ pub struct FrameReader<R> {
 pub type FrameResult<A = Global> = Result<Option<Block<A>>>;
 
 impl<R: ReadBytes> FrameReader<R> {
-    ghost use Rattle.claxon_frame.specs.FrameReader.{BlockHasSamples, EachFrameFaultIsNamed, EachFrameIsAnswered, EachPlanIsAnswered, FailureIsErr, FrameFaultWasTaken, FrameIsRead, FrameIsTold, FrameLeavesRest, FrameWasTaken, NoFrameIsIoError, NoneIsTheEnd, StarvesBehindHeader, StarvesForRoom, TheEndIsNone, frame_input, frame_stream, stream_with};
+    ghost use Rattle.claxon_frame.specs.FrameReader.{BlockHasSamples, EachFrameFaultIsNamed, EachFrameIsAnswered, FailureIsErr, FrameFaultWasTaken, FrameIsRead, FrameIsTold, FrameLeavesRest, FrameWasTaken, NoFrameIsIoError, NoneIsTheEnd, PlansHaveBytes, PlansWriteFrames, StarvesBehindHeader, StarvesForRoom, TheEndIsNone, frame_input, frame_stream, stream_with};
 
     /// A reader that knows nothing of the stream: a header has to name the width of its samples.
     pub fn new(input: R) -> FrameReader<R>
@@ -98,7 +98,8 @@ impl<R: ReadBytes> FrameReader<R> {
         ensures sound { FrameWasTaken R.source self.old result self.new }
         ensures complete { EachFrameIsAnswered R.source self.old result self.new }
         ensures one_reading { FrameIsTold (frame_stream self.old) }
-        ensures lossless { EachPlanIsAnswered R.source self.old result self.new }
+        ensures lossless { PlansWriteFrames (frame_stream self.old) }
+        ensures bytes_exist { PlansHaveBytes (frame_stream self.old) }
         ensures at_end { NoneIsTheEnd R.source self.old result self.new }
         ensures ended { TheEndIsNone R.source self.old result self.new }
         ensures no_failure { FailureIsErr R.source self.old result self.new }

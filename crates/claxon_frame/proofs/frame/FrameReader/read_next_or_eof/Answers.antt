@@ -1,4 +1,5 @@
-use Rattle.claxon_format.proofs.Formats.{frames_lossless, frames_told}
+use Rattle.std.proofs.Common.{[]}
+use Rattle.claxon_format.proofs.Formats.{frames_lossless, frames_told, plans_written}
 use Rattle.claxon_frame.specs.FrameReader.{block_view, frame_stream}
 use Rattle.claxon_frame.proofs.FrameSteps.{shape_width}
 use Rattle.claxon_frame.proofs.FramePromises.{frame_promises, ended_is, memory_is, where_starved}
@@ -14,9 +15,12 @@ pub returns-clause-one_reading : goal.returns-clause-one_reading
 returns-clause-one_reading g c = frames_told _ (shape_width c.args.self.now.stream)
 
 pub returns-clause-lossless : goal.returns-clause-lossless
-returns-clause-lossless g c f header plans channels rest fits suits o =
-    let code = frames_lossless (frame_stream c.args.self.now) f header plans channels rest (shape_width c.args.self.now.stream) fits suits in
-    (frame_promises block_view _ (shape_width c.args.self.now.stream) c.read_next.result _ _ c.read_next.ensures.gives).complete _ _ rest code.0 o
+returns-clause-lossless g c f header plans channels fits suits =
+    (frames_lossless (frame_stream c.args.self.now) f header plans channels [] (shape_width c.args.self.now.stream) fits suits).0
+
+pub returns-clause-bytes_exist : goal.returns-clause-bytes_exist
+returns-clause-bytes_exist g c f header plans channels fits suits =
+    plans_written (frame_stream c.args.self.now) f header plans channels (shape_width c.args.self.now.stream) fits suits
 
 pub returns-clause-at_end : goal.returns-clause-at_end
 returns-clause-at_end g c = (frame_promises block_view _ (shape_width c.args.self.now.stream) c.read_next.result _ _ c.read_next.ensures.gives).at_end
