@@ -102,21 +102,23 @@ one_byte b n lt e z =
     record { good = flipped (bad_first b) t.0; count = eqb-true _ _ u.0; value = eqb-true _ _ u.1 }
 
 -- it begins no number
-pub bad_byte : (b n : ℕ) → b < 256 → n ≡ leading_ones w8 b → (n ≡ 1) ⊎ (n ≡ 8) → bad_first b ≡ true
+bad_byte : (b n : ℕ) → b < 256 → n ≡ leading_ones w8 b → (n ≡ 1) ⊎ (n ≡ 8) → bad_first b ≡ true
 unfolding first_test
 bad_byte b n lt e (inl z) = rw z at (tested b n lt e)
 bad_byte b n lt e (inr z) = rw z at (tested b n lt e)
 
 -- as many bytes stand there as it has ones
-pub more_bytes : (b n : ℕ) → b < 256 → n ≡ leading_ones w8 b → n ≢ 0 → n ≢ 1 → n ≢ 8 → FirstByte b (n - 1) (bit_and b (127 / 2 ^ n)) × ((bit_and b (127 / 2 ^ n) < 64) × (n < 8))
+pub more_bytes : (b n : ℕ) → b < 256 → n ≡ leading_ones w8 b → n ≢ 0 → bad_first b ≡ false → FirstByte b (n - 1) (bit_and b (127 / 2 ^ n)) × ((bit_and b (127 / 2 ^ n) < 64) × (n < 8))
 unfolding first_test
-more_bytes b n lt e some one all =
+more_bytes b n lt e some good =
+    let one : n ≢ 1 = λ z. (let k = bad_byte b n lt e (inl z) in cc) in
+    let all : n ≢ 8 = λ z. (let k = bad_byte b n lt e (inr z) in cc) in
     let t = both (not (bad_first b)) _ (rw (ne_eqb n 0 some, ne_eqb n 1 one, ne_eqb n 8 all) at (tested b n lt e)) in
     let u = both (eqb (further b) (n - 1)) _ t.1 in
     let v = both (eqb (lead b) (bit_and b (127 / 2 ^ n))) _ u.1 in
     let w = both (ltb (lead b) 64) _ v.1 in
     let value = eqb-true _ _ v.0 in
-    (record { good = flipped (bad_first b) t.0; count = eqb-true _ _ u.0; value = value }, (rw value at (ltb-true _ _ w.0), ltb-true _ _ w.1))
+    (record { good = good; count = eqb-true _ _ u.0; value = value }, (rw value at (ltb-true _ _ w.0), ltb-true _ _ w.1))
 
 -- what is read behind it
 pub coded_good : {b n x : ℕ} (s m : List ℕ) → FirstByte b n x → big_at 1 s ≡ Done b m → coded_number_at big_at s ≡ followers_at big_at n x m

@@ -1,10 +1,12 @@
 //! The header of a frame (RFC 9639, section 9.1).
 ghost use Rattle.std.specs.Prelude.{◌≡◌, ℕ, ◌+◌, ◌*◌, ◌<◌, ◌≤◌, IfOk, IfErr, false};
 ghost use Rattle.std.specs.Option.{ForSome};
-ghost use Rattle.claxon_format.specs.Fault.{HeaderGuard};
+ghost use Rattle.claxon_format.specs.Coded.{bad_first};
+ghost use Rattle.claxon_format.specs.Fault.{HeaderGuard, WidthReserved};
 ghost use Rattle.claxon_format.specs.Frame.{block_step, known_width, time_of};
 ghost use Rattle.claxon_format.specs.read.Bytes.{expected_at, big_at};
-ghost use Rattle.claxon_format.specs.Header.{header_of, rate_bytes};
+ghost use Rattle.claxon_format.specs.Header.{header_of, rate_bytes, width_reserved};
+ghost use Rattle.claxon_format.specs.Reading.{done, test};
 ghost use Rattle.claxon_input.specs.CheckedReader.{checked_source, checked_state};
 ghost use Rattle.claxon_input.specs.Remainders.{check8};
 ghost use Rattle.claxon_input.specs.State.{State, bytes_in};
@@ -232,19 +234,29 @@ fn read_channels_and_width<R: ReadBytes>(input: &mut R) -> Result<(ChannelAssign
         10 => ChannelAssignment::MidSideStereo,
         _ => return Err(Error::FormatError("invalid frame header, encountered reserved value")),
     };
-    let bits_per_sample = match (codes >> 1) & 0b111 {
-        0 => None,
-        1 => Some(8),
-        2 => Some(12),
-        4 => Some(16),
-        5 => Some(20),
-        6 => Some(24),
-        _ => return Err(Error::FormatError("invalid frame header, encountered reserved value")),
-    };
+    let bits_per_sample = width_named((codes >> 1) & 0b111)?;
     if codes & 1 == 1 {
         return Err(Error::FormatError("invalid frame header, encountered reserved value"));
     }
     Ok((channel_assignment, bits_per_sample))
+}
+
+// The width that a code names, None where it is that of the stream: whether that is known is asked behind the header's CRC.
+#[tactic(auto, unfolding(claxon_format::specs::Fault::fault_text))]
+fn width_named(code: u8) -> Result<Option<u32>>
+    requires { code < 8 }
+    ensures named { IfOk result (λ width. ForSome width HasCode) }
+    ensures gives { (here : State ℕ) → Gives width_code result (test (width_reserved code) WidthReserved (done code)) here here }
+{
+    match code {
+        0 => Ok(None),
+        1 => Ok(Some(8)),
+        2 => Ok(Some(12)),
+        4 => Ok(Some(16)),
+        5 => Ok(Some(20)),
+        6 => Ok(Some(24)),
+        _ => Err(Error::FormatError("invalid frame header, encountered reserved value")),
+    }
 }
 
 #[tactic(auto, unfolding(claxon_format::specs::read::Header::number_in, claxon_format::specs::Fault::fault_text))]
@@ -274,11 +286,17 @@ fn read_var_length_int<R: ReadBytes>(input: &mut R) -> Result<u64>
     if ones == 0 {
         return Ok(u64::from(first));
     }
-    // A byte 10xxxxxx follows a first one, and 11111111 begins no number.
-    if ones == 1 || ones == 8 {
+    if begins_no_number(first) {
         return Err(Error::FormatError("invalid variable-length integer"));
     }
     read_followers(input, ones - 1, u64::from(first & (0x7f >> ones)))
+}
+
+// A byte 10xxxxxx follows a first one, and 11111111 begins no number.
+fn begins_no_number(first: u8) -> bool
+    ensures { result ≡ bad_first first }
+{
+    matches!(first, 0x80..=0xbf | 0xff)
 }
 
 // So many bytes more of a number, six bits each.

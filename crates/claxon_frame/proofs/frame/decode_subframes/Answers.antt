@@ -1,4 +1,4 @@
-use Rattle.std.proofs.Common.{arith}
+use Rattle.std.proofs.Common.{rules}
 use Rattle.claxon_format.specs.read.Frame.{subframes_at}
 use Rattle.claxon_input.proofs.ByteBorders.{gives_through, name_through}
 use Rattle.claxon_frame.proofs.frame.decode_subframes.Goals as goal
@@ -8,4 +8,4 @@ unfolding subframes_at
 returns g c =
     let e = name_through g.R.ReadBytes.source c.args.input.now _ c.new-bits.result c.decode_channels.new.input _ c.decode_channels.result _ c.new-bits.ensures c.decode_channels.ensures in
     let k = gives_through g.R.ReadBytes.source c.args.input.now _ c.new-bits.result c.decode_channels.new.input _ c.decode_channels.result _ c.new-bits.ensures c.decode_channels.ensures in
-    grind (arith, e, k)
+    search (rules, e, k)

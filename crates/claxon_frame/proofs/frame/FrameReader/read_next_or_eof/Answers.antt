@@ -6,10 +6,14 @@ use Rattle.claxon_frame.proofs.FramePromises.{frame_promises, ended_is, memory_i
 use Rattle.claxon_frame.proofs.frame.FrameReader.read_next_or_eof.Goals as goal
 
 pub returns-clause-sound : goal.returns-clause-sound
-returns-clause-sound g c = (frame_promises block_view _ (shape_width c.args.self.now.stream) c.read_next.result _ _ c.read_next.ensures.gives).sound
+returns-clause-sound g c =
+    let e = (frame_promises block_view _ (shape_width c.args.self.now.stream) c.read_next.result _ _ c.read_next.ensures.gives).sound in
+    search depth 1
 
 pub returns-clause-complete : goal.returns-clause-complete
-returns-clause-complete g c = (frame_promises block_view _ (shape_width c.args.self.now.stream) c.read_next.result _ _ c.read_next.ensures.gives).complete
+returns-clause-complete g c =
+    let e = (frame_promises block_view _ (shape_width c.args.self.now.stream) c.read_next.result _ _ c.read_next.ensures.gives).complete in
+    search depth 1
 
 pub returns-clause-one_reading : goal.returns-clause-one_reading
 returns-clause-one_reading g c = frames_told _ (shape_width c.args.self.now.stream)
@@ -23,7 +27,9 @@ returns-clause-bytes_exist g c f header plans channels fits suits =
     plans_written (frame_stream c.args.self.now) f header plans channels (shape_width c.args.self.now.stream) fits suits
 
 pub returns-clause-at_end : goal.returns-clause-at_end
-returns-clause-at_end g c = (frame_promises block_view _ (shape_width c.args.self.now.stream) c.read_next.result _ _ c.read_next.ensures.gives).at_end
+returns-clause-at_end g c =
+    let e = (frame_promises block_view _ (shape_width c.args.self.now.stream) c.read_next.result _ _ c.read_next.ensures.gives).at_end in
+    search depth 1
 
 pub returns-clause-ended : goal.returns-clause-ended
 returns-clause-ended g c = ended_is block_view _ (shape_width c.args.self.now.stream) c.read_next.result _ _ c.read_next.ensures.gives _ c.read_next.ensures.no_room
@@ -34,7 +40,9 @@ returns-clause-no_failure g c =
     search depth 1
 
 pub returns-clause-fault : goal.returns-clause-fault
-returns-clause-fault g c = (frame_promises block_view _ (shape_width c.args.self.now.stream) c.read_next.result _ _ c.read_next.ensures.gives).fault
+returns-clause-fault g c =
+    let e = (frame_promises block_view _ (shape_width c.args.self.now.stream) c.read_next.result _ _ c.read_next.ensures.gives).fault in
+    search depth 1
 
 pub returns-clause-named : goal.returns-clause-named
 returns-clause-named g c = (frame_promises block_view _ (shape_width c.args.self.now.stream) c.read_next.result _ _ c.read_next.ensures.gives).named
@@ -45,12 +53,21 @@ returns-clause-io g c =
     search depth 1
 
 pub returns-clause-front : goal.returns-clause-front
-returns-clause-front g c = (frame_promises block_view _ (shape_width c.args.self.now.stream) c.read_next.result _ _ c.read_next.ensures.gives).front
+returns-clause-front g c =
+    let e = (frame_promises block_view _ (shape_width c.args.self.now.stream) c.read_next.result _ _ c.read_next.ensures.gives).front in
+    search depth 1
 
 pub returns-clause-memory : goal.returns-clause-memory
-returns-clause-memory g c = memory_is _ _ c.read_next.result _ _ c.read_next.ensures.no_room
+returns-clause-memory g c =
+    let e = memory_is _ _ c.read_next.result _ _ c.read_next.ensures.no_room in
+    search depth 1
 
 pub returns-clause-room : goal.returns-clause-room
 returns-clause-room g c =
     let e = where_starved c.read_next.result c.read_next.ensures.room in
+    search depth 1
+
+pub returns-clause-gives : goal.returns-clause-gives
+returns-clause-gives g c =
+    let e = c.read_next.ensures.gives in
     search depth 1

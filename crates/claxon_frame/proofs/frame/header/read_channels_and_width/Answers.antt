@@ -1,21 +1,21 @@
-use Rattle.std.proofs.Common.{◌≡◌, ◌∙◌, ℕ, ◌/◌, ◌%◌, true, false, eqb, ltb, refl, sym, arith, bit_and}
+use Rattle.std.proofs.Common.{◌≡◌, ◌∙◌, ℕ, ◌/◌, ◌%◌, Bool, true, false, eqb, ltb, refl, sym, arith, bit_and}
 use Rattle.std.proofs.lemmas.Bool.{lt-ltb, le-ltb}
 use Rattle.std.proofs.lemmas.Bool.Decides.{nat_tests}
 use Rattle.std.proofs.lemmas.Nat.{and_mask}
 use Rattle.std.proofs.lemmas.Result.{err_from_is_err_and}
 use Rattle.claxon_format.specs.Fault.{ChannelsReserved, WidthReserved, ReservedEnd, fault_text}
 use Rattle.claxon_format.specs.Header.{width_reserved}
-use Rattle.claxon_format.specs.Reading.{Done, done, test}
+use Rattle.claxon_format.specs.Reading.{Done, bind, done, test}
 use Rattle.claxon_format.specs.read.Bytes.{big_at}
 use Rattle.claxon_format.specs.read.Header.{channels_at}
 use Rattle.claxon_input.specs.State.{State}
 use Rattle.claxon_input.specs.Gives.{Went}
 use Rattle.claxon_input.proofs.CallsInTurn.{exit, went_none, went_map}
 use Rattle.claxon_input.proofs.Faults.{stops_fault}
-use Rattle.claxon_frame.specs.FrameHeader.{channel_code, width_code}
+use Rattle.claxon_frame.specs.FrameHeader.{channel_code}
 use Rattle.claxon_subframe.proofs.FieldsInTurn.{then_went, then_stops}
 use Rattle.claxon_frame.proofs.frame.header.read_channels_and_width.Goals as goal
-use Rattle.claxon_frame.proofs.frame.header.read_channels_and_width.Goals.{then-n-lt8, else-n-lt8+in-8, else-n-lt8+in-9, else-n-lt8+in-10, in-0, in-1, in-2, in-4, in-5, in-6}
+use Rattle.claxon_frame.proofs.frame.header.read_channels_and_width.Goals.{then-n-lt8, else-n-lt8+in-8, else-n-lt8+in-9, else-n-lt8+in-10}
 
 -- what is asked of the byte that holds the codes
 asked : (c : ℕ) {a b : State ℕ} → Went a b (λ s m. big_at 1 s ≡ Done c m)
@@ -33,9 +33,17 @@ returns-in_default-2-clause-gives g c =
     let reserved : ltb 10 (c.in_ok-codes.codes / 16) ≡ true = lt-ltb _ _ (omega arith) in
     stops_fault ChannelsReserved refl refl (refl, refl) (went_map _ (asked c.in_ok-codes.codes c.in_ok-codes.ensures.gives) (λ p. rw (p, reserved) refl))
 
-pub returns-in_default-3-clause-gives : goal.returns-in_default-3-clause-gives
-unfolding fault_text
-returns-in_default-3-clause-gives g c =
+-- behind the channels' code stands that of the width
+width_next : (c code : ℕ) {a b : State ℕ} → code ≡ c / 2 % 8 → ltb 10 (c / 16) ≡ false → Went a b (λ s m. big_at 1 s ≡ Done c m)
+    → Went a b (λ s m. channels_at big_at s ≡ bind (test (width_reserved code) WidthReserved (done code) m) (λ w. test {A = ℕ × ℕ} (eqb (c % 2) 1) ReservedEnd (done (c / 16, w))))
+width_next c code {b = b} low spelled h = went_map _ (asked c h) (λ p. rw (p, spelled, ← low) (split (width_reserved code)))
+  where
+    split : (r : Bool) → test r WidthReserved (test {A = ℕ × ℕ} (eqb (c % 2) 1) ReservedEnd (done (c / 16, code))) b.coming ≡ bind (test r WidthReserved (done code) b.coming) (λ w. test {A = ℕ × ℕ} (eqb (c % 2) 1) ReservedEnd (done (c / 16, w)))
+    split true = refl
+    split false = refl
+
+pub returns-in_err-bits_per_sample-clause-gives : goal.returns-in_err-bits_per_sample-clause-gives
+returns-in_err-bits_per_sample-clause-gives g c =
     let spelled : ltb 10 (c.in_ok-codes.codes / 16) ≡ false = elim c.if-n-lt8.branch [
       | then-n-lt8 w ↦ le-ltb _ _ (omega arith)
       | else-n-lt8+in-8 w ↦ le-ltb _ _ (omega arith)
@@ -43,8 +51,8 @@ returns-in_default-3-clause-gives g c =
       | else-n-lt8+in-10 w ↦ le-ltb _ _ (omega arith)
     ] in
     let low : bit_and (c.in_ok-codes.codes / 2) 7 ≡ c.in_ok-codes.codes / 2 % 8 = and_mask (c.in_ok-codes.codes / 2) 3 in
-    let reserved : width_reserved (c.in_ok-codes.codes / 2 % 8) ≡ true = grind (arith, nat_tests) in
-    stops_fault WidthReserved refl refl (refl, refl) (went_map _ (asked c.in_ok-codes.codes c.in_ok-codes.ensures.gives) (λ p. rw (p, spelled, reserved) refl))
+    exit _ (err_from_is_err_and c.from_residual-in_err-bits_per_sample.result c.from_residual-in_err-bits_per_sample.ensures.1)
+    (then_stops _ (width_next c.in_ok-codes.codes _ low spelled c.in_ok-codes.ensures.gives) (c.in_err-bits_per_sample.ensures.gives _))
 
 pub returns-then-codes-eq1-clause-gives : goal.returns-then-codes-eq1-clause-gives
 unfolding fault_text
@@ -56,16 +64,8 @@ returns-then-codes-eq1-clause-gives g c =
       | else-n-lt8+in-10 w ↦ le-ltb _ _ (omega arith)
     ] in
     let low : bit_and (c.in_ok-codes.codes / 2) 7 ≡ c.in_ok-codes.codes / 2 % 8 = and_mask (c.in_ok-codes.codes / 2) 3 in
-    let known : width_reserved (c.in_ok-codes.codes / 2 % 8) ≡ false = elim c.match-codes-and7.branch [
-      | in-0 w ↦ rw (← low, w.in-0.is) refl
-      | in-1 w ↦ rw (← low, w.in-1.is) refl
-      | in-2 w ↦ rw (← low, w.in-2.is) refl
-      | in-4 w ↦ rw (← low, w.in-4.is) refl
-      | in-5 w ↦ rw (← low, w.in-5.is) refl
-      | in-6 w ↦ rw (← low, w.in-6.is) refl
-    ] in
     let odd : c.in_ok-codes.codes % 2 ≡ 1 = sym (and_mask c.in_ok-codes.codes 1) ∙ c.if-codes-eq1.true in
-    stops_fault ReservedEnd refl refl (refl, refl) (went_map _ (asked c.in_ok-codes.codes c.in_ok-codes.ensures.gives) (λ p. rw (p, spelled, known, odd) refl))
+    stops_fault ReservedEnd refl refl (refl, refl) (went_map _ (then_went _ (width_next c.in_ok-codes.codes _ low spelled c.in_ok-codes.ensures.gives) (c.in_ok-bits_per_sample.ensures.gives _)) (λ p. rw (p, odd) refl))
 
 pub returns-clause-gives : goal.returns-clause-gives
 returns-clause-gives g c =
@@ -76,13 +76,5 @@ returns-clause-gives g c =
       | else-n-lt8+in-10 w ↦ (le-ltb _ _ (omega arith), rw w.channel_assignment-is (omega arith))
     ] in
     let low : bit_and (c.in_ok-codes.codes / 2) 7 ≡ c.in_ok-codes.codes / 2 % 8 = and_mask (c.in_ok-codes.codes / 2) 3 in
-    let width : (width_reserved (c.in_ok-codes.codes / 2 % 8) ≡ false) × (c.in_ok-codes.codes / 2 % 8 ≡ width_code c.match-codes-and7.bits_per_sample) = elim c.match-codes-and7.branch [
-      | in-0 w ↦ (rw (← low, w.in-0.is) refl, rw (← low, w.in-0.is, w.bits_per_sample-is) refl)
-      | in-1 w ↦ (rw (← low, w.in-1.is) refl, rw (← low, w.in-1.is, w.bits_per_sample-is) refl)
-      | in-2 w ↦ (rw (← low, w.in-2.is) refl, rw (← low, w.in-2.is, w.bits_per_sample-is) refl)
-      | in-4 w ↦ (rw (← low, w.in-4.is) refl, rw (← low, w.in-4.is, w.bits_per_sample-is) refl)
-      | in-5 w ↦ (rw (← low, w.in-5.is) refl, rw (← low, w.in-5.is, w.bits_per_sample-is) refl)
-      | in-6 w ↦ (rw (← low, w.in-6.is) refl, rw (← low, w.in-6.is, w.bits_per_sample-is) refl)
-    ] in
     let even : eqb (c.in_ok-codes.codes % 2) 1 ≡ false = (let k : bit_and c.in_ok-codes.codes 1 ≡ c.in_ok-codes.codes % 2 = and_mask c.in_ok-codes.codes 1 in grind (arith, nat_tests)) in
-    went_map _ (asked c.in_ok-codes.codes c.in_ok-codes.ensures.gives) (λ p. rw (p, channels.0, width.0, even, channels.1, width.1) refl)
+    went_map _ (then_went _ (width_next c.in_ok-codes.codes _ low channels.0 c.in_ok-codes.ensures.gives) (c.in_ok-bits_per_sample.ensures.gives _)) (λ p. rw (p, even, channels.1) refl)
