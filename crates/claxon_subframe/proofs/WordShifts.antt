@@ -24,14 +24,20 @@ or_folded k q r le small =
     mod_whole q k = ap (λ (m : ℕ). m % 2 ^ k) (omega arith) ∙ mod-mul-add q (2 ^ k) 0 (pow_pos k)
 
 -- the value of the call and the bits that it leaves
-pub word_from : (k q r : ℕ) (e v : ℤ) (s m left : Bits) → k ≤ 30 → unary_at s ≡ Done q m → number_at k m ≡ Done r left → e ≡ unfold_at (bit_or (q * 2 ^ k % 4294967296) r) → v ≡ to_z w32 (of_z w32 e)
-    → word_at k s ≡ Done v left
+pub word_is : (k q r : ℕ) (e : ℤ) (s m left : Bits) → k ≤ 30 → unary_at s ≡ Done q m → number_at k m ≡ Done r left → e ≡ unfold_at (bit_or (q * 2 ^ k % 4294967296) r) → (word_at k s ≡ Done e left) × FitsSigned w32 e
 unfolding word_at
-word_from k q r e v s m left le first second e-is v-is =
+word_is k q r e s m left le first second e-is =
     let small : r < 2 ^ k = ((Reads-number k).takes m r left second).1.0 in
     let whole : e ≡ unfold_at (folded k q r) = e-is ∙ ap unfold_at (or_folded k q r (omega arith) small) in
     let fits : FitsSigned w32 e = rw whole (unfold-fits (folded k q r) (mod_below (q * 2 ^ k + r) 4294967296 (omega arith))) in
-    rw (first, second) (ap (λ (y : ℤ). done y left) (sym whole ∙ sym (to_z-of_z w32 e fits) ∙ sym v-is))
+    (rw (first, second) (ap (λ (y : ℤ). done y left) (sym whole)), fits)
+
+-- as it is kept in 32 bits
+pub word_from : (k q r : ℕ) (e v : ℤ) (s m left : Bits) → k ≤ 30 → unary_at s ≡ Done q m → number_at k m ≡ Done r left → e ≡ unfold_at (bit_or (q * 2 ^ k % 4294967296) r) → v ≡ to_z w32 (of_z w32 e)
+    → word_at k s ≡ Done v left
+word_from k q r e v s m left le first second e-is v-is =
+    let w = word_is k q r e s m left le first second e-is in
+    rw (v-is ∙ to_z-of_z w32 e w.1) w.0
 
 -- ---- a folded number
 

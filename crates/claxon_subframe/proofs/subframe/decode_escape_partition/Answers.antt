@@ -15,4 +15,5 @@ pub returns : goal.returns
 unfolding escaped_at
 returns g c =
     let some : c.in_ok-read_leq_u8.field-0 ≢ 0 = (λ e. absurd (omega arith)) in
-    gives_after _ c.decode_verbatim.result _ (went_map _ c.in_ok-read_leq_u8.ensures.gives (λ p. rw (p, raw_some _ some) refl)) (rw c.from-width.ensures at c.decode_verbatim.ensures)
+    let same : c.from-width.result ≡ c.in_ok-read_leq_u8.field-0 = omega arith in
+    gives_after _ c.decode_verbatim.result _ (went_map _ c.in_ok-read_leq_u8.ensures.gives (λ p. rw (p, raw_some _ some) refl)) (rw same at c.decode_verbatim.ensures)
