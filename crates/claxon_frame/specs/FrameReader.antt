@@ -126,7 +126,8 @@ PlansWriteFrames stream = (f : Fields) (header : HeaderPlan) (plans : List Subfr
     → SuitsFrame stream f header channels → SuitsEach f.size (planned_widths stream f) plans (mixed f.channels channels)
     → Frame stream (written_block stream f channels) (write_bytes stream f header plans channels)
 
--- Every plan of subframe types, orders, coefficients, shifts and Rice parameters that suits has such bytes.
+-- Whatever types, orders, coefficients, shifts and parameters suit, such bytes exist: under the quotients that are rounded
+-- down, any padding, and the CRCs that the definition computes.
 abbrev pub PlansHaveBytes : Option StreamShape → Type 0
 PlansHaveBytes stream = (f : Fields) (header : HeaderPlan) (plans : List SubframePlan) (channels : List (List ℤ))
     → SuitsFrame stream f header channels → SuitsEachShape f.size (planned_widths stream f) plans (mixed f.channels channels)

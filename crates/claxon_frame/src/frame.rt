@@ -249,7 +249,8 @@ fn check_footer<R: ReadBytes>(input: &mut Crc16Reader<R>) -> Result<()>
     ensures gives { Gives (λ x. tt) result (expected_at 2 (checked_state input.old) FrameGuard) (bytes_in (checked_source R.source check16) input.old) (bytes_in (checked_source R.source check16) input.new) }
 {
     let computed = input.crc();
-    if read_big_u16(input)? != computed {
+    let stored = read_big_u16(input)?;
+    if stored != computed {
         return Err(Error::FormatError("frame CRC mismatch"));
     }
     Ok(())

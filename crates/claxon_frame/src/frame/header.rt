@@ -119,7 +119,8 @@ fn read_checked_fields<R: ReadBytes>(input: &mut Crc8Reader<R>) -> Result<Option
 fn check_guard<R: ReadBytes>(input: &mut R, computed: u8) -> Result<()>
     ensures { Gives (λ x. tt) result (expected_at 1 computed HeaderGuard) (bytes_in R.source input.old) (bytes_in R.source input.new) }
 {
-    if read_byte(input)? != computed {
+    let stored = read_byte(input)?;
+    if stored != computed {
         return Err(Error::FormatError("frame header CRC mismatch"));
     }
     Ok(())
@@ -267,7 +268,8 @@ fn read_block_time<R: ReadBytes>(input: &mut R, blocking: BlockingStrategy) -> R
     match blocking {
         BlockingStrategy::Variable => Ok(BlockTime::SampleNumber(number)),
         BlockingStrategy::Fixed => {
-            if number > 0x7fff_ffff {
+            let largest = 0x7fff_ffff;
+            if number > largest {
                 return Err(Error::FormatError("invalid frame header, frame number too large"));
             }
             Ok(BlockTime::FrameNumber(number as u32))

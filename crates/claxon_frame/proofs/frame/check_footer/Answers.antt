@@ -7,6 +7,6 @@ pub returns-clause-gives : goal.returns-clause-gives
 unfolding expected_at fault_text
 returns-clause-gives g c = search rules
 
-pub returns-then-branch-computed-clause-gives : goal.returns-then-branch-computed-clause-gives
+pub returns-then-stored-computed-clause-gives : goal.returns-then-stored-computed-clause-gives
 unfolding expected_at fault_text
-returns-then-branch-computed-clause-gives g c = search rules
+returns-then-stored-computed-clause-gives g c = search rules

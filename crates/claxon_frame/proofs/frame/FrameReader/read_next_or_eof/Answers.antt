@@ -68,6 +68,4 @@ returns-clause-room g c =
     search depth 1
 
 pub returns-clause-gives : goal.returns-clause-gives
-returns-clause-gives g c =
-    let e = c.read_next.ensures.gives in
-    search depth 1
+returns-clause-gives g c = c.read_next.ensures.gives

@@ -7,6 +7,6 @@ pub returns : goal.returns
 unfolding expected_at fault_text
 returns g c = search rules
 
-pub returns-then-branch-computed : goal.returns-then-branch-computed
+pub returns-then-stored-computed : goal.returns-then-stored-computed
 unfolding expected_at fault_text
-returns-then-branch-computed g c = search rules
+returns-then-stored-computed g c = search rules
