@@ -112,6 +112,10 @@ StarvesBehindHeader source room old result new = IsStarved result → Took (fram
 abbrev pub StarvesForRoom : ℕ → FrameAnswer → Type 0
 StarvesForRoom room result = IsStarved result → room < 8 * 65535
 
+-- A block that is answered has capacity for its samples, and for no fewer than the buffer had.
+abbrev pub BlockKeepsCapacity : ℕ → FrameAnswer → Type 0
+BlockKeepsCapacity capacity result = IfOk result (λ found. IfSome found (λ block. (length block.channels * duration_of block.channels ≤ block.capacity) × (capacity ≤ block.capacity)))
+
 -- A block that is answered has channels, and these have samples.
 abbrev pub BlockHasSamples : FrameAnswer → Type 0
 BlockHasSamples result = IfOk result (λ found. IfSome found (λ block. (1 ≤ length block.channels) × (1 ≤ duration_of block.channels)))

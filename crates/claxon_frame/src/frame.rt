@@ -12,7 +12,7 @@ ghost use Rattle.claxon_input.specs.State.{bytes_in, bits_in};
 ghost use Rattle.claxon_input.specs.Gives.{Gives, GivesOrStarves, Went, GivesOrEndsOrStarves};
 ghost use Rattle.claxon_input.specs.Promises.{IfStarved};
 ghost use Rattle.claxon_frame.specs.FrameStart.{shape_view, start_view};
-ghost use Rattle.claxon_frame.specs.FrameReader.{BlockHasSamples, NoRoom, block_view};
+ghost use Rattle.claxon_frame.specs.FrameReader.{BlockHasSamples, BlockKeepsCapacity, NoRoom, block_view};
 
 mod block;
 mod header;
@@ -43,7 +43,7 @@ pub struct FrameReader<R> {
 pub type FrameResult<A = Global> = Result<Option<Block<A>>>;
 
 impl<R: ReadBytes> FrameReader<R> {
-    ghost use Rattle.claxon_frame.specs.FrameReader.{BlockHasSamples, EachFrameFaultIsNamed, EachFrameIsAnswered, FailureIsErr, FrameFaultWasTaken, FrameIsRead, FrameIsTold, FrameLeavesRest, FrameWasTaken, NoFrameIsIoError, NoneIsTheEnd, PlansHaveBytes, PlansWriteFrames, StarvesBehindHeader, StarvesForRoom, TheEndIsNone, frame_input, frame_stream, stream_with};
+    ghost use Rattle.claxon_frame.specs.FrameReader.{BlockHasSamples, BlockKeepsCapacity, EachFrameFaultIsNamed, EachFrameIsAnswered, FailureIsErr, FrameFaultWasTaken, FrameIsRead, FrameIsTold, FrameLeavesRest, FrameWasTaken, NoFrameIsIoError, NoneIsTheEnd, PlansHaveBytes, PlansWriteFrames, StarvesBehindHeader, StarvesForRoom, TheEndIsNone, frame_input, frame_stream, stream_with};
 
     /// A reader that knows nothing of the stream: a header has to name the width of its samples.
     pub fn new(input: R) -> FrameReader<R>
@@ -109,6 +109,7 @@ impl<R: ReadBytes> FrameReader<R> {
         ensures front { FrameLeavesRest R.source self.old result self.new }
         ensures memory { StarvesBehindHeader R.source (vec_capacity buffer) self.old result self.new }
         ensures room { StarvesForRoom (vec_capacity buffer) result }
+        ensures kept_capacity { BlockKeepsCapacity (vec_capacity buffer) result }
         ensures gives { FrameIsRead R.source self.old result self.new }
     {
         read_next(&mut self.input, self.stream, buffer)
@@ -132,6 +133,7 @@ fn read_next<R: ReadBytes, A: Allocator>(
 ) -> FrameResult<A>
     ensures gives { GivesOrEndsOrStarves 2 block_view result (frame_bytes_at (shape_view stream)) (bytes_in R.source input.old) (bytes_in R.source input.new) }
     ensures some { BlockHasSamples result }
+    ensures kept_capacity { BlockKeepsCapacity (vec_capacity buffer) result }
     ensures no_room { IfStarved result (NoRoom (shape_view stream) (vec_capacity buffer) (bytes_in R.source input.old) (bytes_in R.source input.new)) }
     ensures room { IfStarved result (vec_capacity buffer < 8 * 65535) }
 {
@@ -148,6 +150,7 @@ fn read_frame_or_eof<R: ReadBytes, A: Allocator>(
     requires { checked_state input.old ≡ 0 }
     ensures gives { GivesOrEndsOrStarves 2 block_view result (frame_bytes_at (shape_view stream)) (bytes_in (checked_source R.source check16) input.old) (bytes_in (checked_source R.source check16) input.new) }
     ensures some { BlockHasSamples result }
+    ensures kept_capacity { BlockKeepsCapacity (vec_capacity buffer) result }
     ensures no_room { IfStarved result (NoRoom (shape_view stream) (vec_capacity buffer) (bytes_in (checked_source R.source check16) input.old) (bytes_in (checked_source R.source check16) input.new)) }
     ensures room { IfStarved result (vec_capacity buffer < 8 * 65535) }
 {
@@ -166,6 +169,7 @@ fn read_channels<R: ReadBytes, A: Allocator>(
     buffer: Vec<i32, A>,
 ) -> Result<Vec<i32, A>>
     ensures len { IfOk result (λ filled. vec_len filled ≡ channels_of header.now.channel_assignment * header.now.block_size) }
+    ensures kept_capacity { IfOk result (λ filled. vec_capacity buffer ≤ vec_capacity filled) }
     ensures gives { GivesOrStarves (λ filled. chunks (channels_of header.now.channel_assignment) header.now.block_size filled.items) result
         (subframes_at header.now.block_size (coded_widths header.now.channel_assignment header.now.bits_per_sample)) (bytes_in R.source input.old) (bytes_in R.source input.new) }
     ensures no_room { IfStarved result (vec_capacity buffer < channels_of header.now.channel_assignment * header.now.block_size) }
@@ -183,6 +187,8 @@ fn read_channels<R: ReadBytes, A: Allocator>(
 fn to_block<A: Allocator>(header: FrameHeader, buffer: Vec<i32, A>) -> Block<A>
     requires { vec_len buffer ≡ channels_of header.channel_assignment * header.block_size }
     ensures some { (1 ≤ length result.channels) × (1 ≤ duration_of result.channels) }
+    ensures fits { length result.channels * duration_of result.channels ≤ result.capacity }
+    ensures kept_capacity { result.capacity ≡ vec_capacity buffer }
     ensures value { block_view result ≡ block_from (start_view header) (chunks (channels_of header.channel_assignment) header.block_size buffer.items) }
 {
     let mut buffer = buffer;
@@ -194,6 +200,7 @@ fn to_block<A: Allocator>(header: FrameHeader, buffer: Vec<i32, A>) -> Block<A>
 // The buffer with so many samples of any value. It grows only where its capacity is below that.
 fn ensure_buffer_len<A: Allocator>(buffer: Vec<i32, A>, new_len: usize) -> Result<Vec<i32, A>>
     ensures len { IfOk result (λ filled. vec_len filled ≡ new_len) }
+    ensures kept_capacity { IfOk result (λ filled. vec_capacity buffer ≤ vec_capacity filled) }
     ensures refused { IfErr result (λ error. is_memory error ≡ true) }
     ensures small { IfErr result (λ error. vec_capacity buffer < new_len) }
 {

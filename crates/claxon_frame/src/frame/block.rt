@@ -1,5 +1,5 @@
 //! Blocks: the samples of a frame.
-ghost use Rattle.std.specs.Prelude.{Option, Some, ◌≡◌, ◌<◌, ◌≤◌, ◌+◌, ◌*◌, [], length, slice_get, IfSome};
+ghost use Rattle.std.specs.Prelude.{Option, Some, ◌≡◌, ◌<◌, ◌≤◌, ◌+◌, ◌*◌, [], length, slice_get, vec_capacity, IfSome};
 ghost use Rattle.std.specs.Iterator.{YieldsFirst, item_count};
 ghost use Rattle.claxon_frame.specs.Block.{AreOfLength, BlockValue, chunks, duration_of, joined};
 ghost use Rattle.claxon_frame.specs.Unmixing.{pairs_left};
@@ -17,12 +17,12 @@ pub struct Block<A: Allocator = Global> {
 }
 
 impl<A: Allocator> Model for Block<A> {
-    ghost use Rattle.std.specs.Prelude.{◌≡◌, ◌<◌, ◌≤◌, ◌*◌, length};
+    ghost use Rattle.std.specs.Prelude.{◌≡◌, ◌<◌, ◌≤◌, ◌*◌, length, vec_capacity};
     ghost use Rattle.claxon_frame.specs.Block.{BlockValue, chunks};
 
     ghost Value = { BlockValue };
 
-    ghost view = { λ b. record { time = b.time; channels = chunks b.channels b.duration b.buffer.items } };
+    ghost view = { λ b. record { time = b.time; channels = chunks b.channels b.duration b.buffer.items; capacity = vec_capacity b.buffer } };
 
     ghost invariant = { λ b. (length b.buffer.items ≡ b.channels * b.duration) × (b.channels ≤ 8) × (b.duration < 65536) × (b.channels ≡ 0 → b.duration ≡ 0) };
 }
@@ -36,7 +36,8 @@ impl<A: Allocator> Block<A> {
         requires short { duration < 65536 }
         ensures channels { length result.channels ≡ channels }
         ensures duration { duration_of result.channels ≡ duration }
-        ensures value { result ≡ record { time = time; channels = chunks channels duration buffer.items } }
+        ensures fits { channels * duration ≤ result.capacity }
+        ensures value { result ≡ record { time = time; channels = chunks channels duration buffer.items; capacity = vec_capacity buffer } }
     {
         Block {
             time,
@@ -48,7 +49,7 @@ impl<A: Allocator> Block<A> {
 
     /// A block at time 0 with no channel and no sample.
     pub fn empty(alloc: A) -> Block<A>
-        ensures { result ≡ record { time = 0; channels = [] } }
+        ensures { result ≡ record { time = 0; channels = []; capacity = 0 } }
     {
         Block {
             time: 0,
@@ -111,7 +112,8 @@ impl<A: Allocator> Block<A> {
 
     /// The samples of all channels, one channel after another.
     pub fn into_buffer(self) -> Vec<i32, A>
-        ensures { result.items ≡ joined self.channels }
+        ensures items { result.items ≡ joined self.channels }
+        ensures capacity { vec_capacity result ≡ self.capacity }
     {
         let Block {
             time: _,

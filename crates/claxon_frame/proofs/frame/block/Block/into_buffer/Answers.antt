@@ -2,5 +2,5 @@ use Rattle.std.proofs.Common.{sym}
 use Rattle.claxon_frame.proofs.Chunks.{joined-chunks}
 use Rattle.claxon_frame.proofs.frame.block.Block.into_buffer.Goals as goal
 
-pub returns : goal.returns
-returns g c = rw (← c.self.view_is) (sym (joined-chunks _ _ _ c.self.invariant.0))
+pub returns-clause-items : goal.returns-clause-items
+returns-clause-items g c = rw (← c.self.view_is) (sym (joined-chunks _ _ _ c.self.invariant.0))
