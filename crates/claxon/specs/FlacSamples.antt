@@ -3,11 +3,12 @@ use Rattle.std.specs.Prelude.{◌≡◌, ℕ, ◌+◌, ◌*◌, ℤ, Bool, true,
 use Rattle.claxon_format.specs.Frame.{StreamShape}
 use Rattle.claxon_format.specs.Streams.{interleave}
 use Rattle.claxon_input.specs.declared.error.Error.{Error}
+use Rattle.claxon_input.specs.Promises.{IsStarved, Took}
 use Rattle.claxon_input.specs.Source.{Source}
 use Rattle.claxon_input.specs.State.{State, bytes_in}
 use Rattle.claxon_frame.specs.Block.{BlockValue}
 use Rattle.claxon.specs.FlacReader.{samples_input}
-use Rattle.claxon_frame.specs.FrameReader.{ReadsFrame, frame_stream}
+use Rattle.claxon_frame.specs.FrameReader.{BlockKeepsCapacity, HeaderAlone, ReadsFrame, StarvesForRoom, frame_stream}
 use Rattle.claxon.specs.declared.samples.FlacSamples.{FlacSamples}
 
 -- the samples of the block at hand that weren't given yet
@@ -21,6 +22,10 @@ have_failed s = s.has_failed
 -- what is known of the stream
 abbrev pub samples_stream : {R A : Type 0} → FlacSamples R A → Option StreamShape
 samples_stream s = frame_stream s.frame_reader
+
+-- how many samples the buffer of the last block has capacity for
+abbrev pub samples_capacity : {R A : Type 0} → FlacSamples R A → ℕ
+samples_capacity s = s.block.capacity
 
 -- the bytes behind the block at hand
 abbrev pub samples_bytes : {R A : Type 0} → (R → Source ℕ) → FlacSamples R A → State ℕ
@@ -42,22 +47,29 @@ pub record GivesSample {R A : Type 0} (x : ℤ) (left : List ℤ) (result : Opti
   pub left_are : samples_left new ≡ left
   pub goes_on : have_failed new ≡ false
 
--- what is answered for a block that was read: its first sample; for the end, nothing, and for an Err, that
+-- what is answered for a block that was read: its first sample, and its buffer is kept; for the end, nothing, and for an Err, that
 abbrev pub BlockAnswer : {R A : Type 0} → Result (Option BlockValue) Error → Option (Result ℤ Error) → FlacSamples R A → Type 0
-BlockAnswer (Ok (Some block)) result new = (x : ℤ) × (left : List ℤ) × (interleave block.channels ≡ x ∷ left) × GivesSample x left result new
+BlockAnswer (Ok (Some block)) result new = (x : ℤ) × (left : List ℤ) × (interleave block.channels ≡ x ∷ left) × GivesSample x left result new × (samples_capacity new ≡ block.capacity)
 BlockAnswer (Ok None) result new = (result ≡ None) × (samples_left new ≡ []) × (have_failed new ≡ false)
 BlockAnswer (Err error) result new = (result ≡ Some (Err error)) × (have_failed new ≡ true)
 
--- the next block was asked for
+-- Memory is wanted only behind a header, which alone was taken, whose block has more samples than the last buffer has capacity for.
+abbrev pub OutOfMemoryForLargerBlock : {R A : Type 0} → (R → Source ℕ) → FlacSamples R A → Result (Option BlockValue) Error → FlacSamples R A → Type 0
+OutOfMemoryForLargerBlock source old found new = IsStarved found → Took (samples_bytes source old) (samples_bytes source new) (HeaderAlone (samples_stream old) (samples_capacity old))
+
+-- the next block was asked for, which is read into the buffer of the last one where that has capacity for it
 pub record NextBlock {R A : Type 0} (source : R → Source ℕ) (old : FlacSamples R A) (result : Option (Result ℤ Error)) (new : FlacSamples R A) : Type 0 where
   pub found : Result (Option BlockValue) Error
   pub reads : ReadsFrame (samples_stream old) found (samples_bytes source old) (samples_bytes source new)
   pub answer : BlockAnswer found result new
+  pub memory : OutOfMemoryForLargerBlock source old found new
+  pub enough : StarvesForRoom (samples_capacity old) found
+  pub capacity : BlockKeepsCapacity (samples_capacity old) found
 
 -- The samples of the block at hand come first, and take nothing; then the next block is read.
 pub record NextSample {R A : Type 0} (source : R → Source ℕ) (old : FlacSamples R A) (result : Option (Result ℤ Error)) (new : FlacSamples R A) : Type 0 where
   pub stream : samples_stream new ≡ samples_stream old
-  pub at_hand : (x : ℤ) (left : List ℤ) → samples_left old ≡ x ∷ left → GivesSample x left result new × (samples_bytes source new ≡ samples_bytes source old)
+  pub at_hand : (x : ℤ) (left : List ℤ) → samples_left old ≡ x ∷ left → GivesSample x left result new × (samples_bytes source new ≡ samples_bytes source old) × (samples_capacity new ≡ samples_capacity old)
   pub behind : samples_left old ≡ [] → NextBlock source old result new
 
 -- one call of `next`: after an Err it gives None for good and changes nothing

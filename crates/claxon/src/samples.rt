@@ -11,7 +11,8 @@ use std::mem;
 
 /// An iterator over samples: for each place of a block the sample of each channel, then the next block.
 ///
-/// After an error it answers None for good. After None it asks the reader again.
+/// After an error it answers None for good. After None it asks the reader again. A block is read into the buffer of the one
+/// before it, where that has capacity for it.
 #[derive(Drop)]
 pub struct FlacSamples<R, A: Allocator = Global> {
     frame_reader: FrameReader<R>,
@@ -30,8 +31,8 @@ impl<R: ReadBytes, A: Allocator + Copy> FlacSamples<R, A> {
     ghost use Rattle.std.specs.Prelude.{[]};
     ghost use Rattle.claxon_format.specs.Streams.{interleave};
     ghost use Rattle.claxon.specs.FlacReader.{samples_input};
-    ghost use Rattle.claxon_frame.specs.FrameReader.{stream_with};
-    ghost use Rattle.claxon.specs.FlacSamples.{NextBlock, NextSample, BlockIsAsked, have_failed, samples_left, samples_stream};
+    ghost use Rattle.claxon_frame.specs.FrameReader.{BlockKeepsCapacity, StarvesForRoom, stream_with};
+    ghost use Rattle.claxon.specs.FlacSamples.{NextBlock, NextSample, BlockIsAsked, OutOfMemoryForLargerBlock, block_answer, have_failed, samples_left, samples_capacity, samples_stream};
 
     /// The samples of the frames of the stream with this streaminfo, whose width is 1 to 32 bits.
     pub fn new(alloc: A, input: R, info: StreamInfo) -> FlacSamples<R, A>
@@ -58,6 +59,9 @@ impl<R: ReadBytes, A: Allocator + Copy> FlacSamples<R, A> {
         ensures stream { samples_stream self.new ≡ samples_stream self.old }
         ensures has_failed { have_failed self.new ≡ have_failed self.old }
         ensures reads { BlockIsAsked R.source self.old result self.new }
+        ensures memory { OutOfMemoryForLargerBlock R.source self.old (block_answer result self.new) self.new }
+        ensures enough { StarvesForRoom (samples_capacity self.old) (block_answer result self.new) }
+        ensures capacity { BlockKeepsCapacity (samples_capacity self.old) (block_answer result self.new) }
         ensures none_left { IfOk result (λ more. more ≡ false → samples_left self.new ≡ []) }
         ensures left { IfOk result (λ more. more ≡ true → samples_left self.new ≡ interleave self.new.block.channels) }
     {
@@ -103,6 +107,7 @@ impl<R: ReadBytes, A: Allocator + Copy> FlacSamples<R, A> {
     fn give(&mut self) -> i32
         requires { self.old.sample < duration_of self.old.block.channels }
         ensures stream { self.new.frame_reader ≡ self.old.frame_reader }
+        ensures capacity { samples_capacity self.new ≡ samples_capacity self.old }
         ensures has_failed { have_failed self.new ≡ have_failed self.old }
         ensures sample { samples_left self.old ≡ result ∷ samples_left self.new }
     {

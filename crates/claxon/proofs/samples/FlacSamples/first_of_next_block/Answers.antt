@@ -1,4 +1,4 @@
-use Rattle.std.proofs.Common.{Ok, Err, Some, None, refl, sym, subst, ◌∙◌, w32}
+use Rattle.std.proofs.Common.{Ok, Err, Some, None, refl, sym, subst, ◌∙◌, rules, w32}
 use Rattle.std.proofs.lemmas.Int.{to_z-of_z}
 use Rattle.claxon_input.specs.State.{bytes_in}
 use Rattle.claxon_frame.specs.FrameReader.{frame_input, ReadsFrame}
@@ -9,23 +9,31 @@ use Rattle.claxon.proofs.samples.FlacSamples.first_of_next_block.Goals as goal
 pub returns-then-more-clause-step : goal.returns-then-more-clause-step
 returns-then-more-clause-step g c =
     let mid = c.read_block.new.self in
-    let r = c.in-Ok.ensures.reads in
-    let read = rw c.if-more.true at r in
+    let read = rw c.if-more.true at c.in-Ok.ensures.reads in
+    let capacity = rw c.if-more.true at c.in-Ok.ensures.capacity in
     let same = to_z-of_z w32 c.give.result (record { sfits = c.give.type_inv }) in
     rw same (record {
       found = Ok (Some mid.block);
       reads =
           subst (λ (f : FrameReader g.row.R.Denot). ReadsFrame (samples_stream c.args.self.now) (Ok (Some mid.block)) (samples_bytes g.R.ReadBytes.source c.args.self.now) (bytes_in g.R.ReadBytes.source (frame_input f)))
           (sym c.give.ensures.stream) read;
+      memory = λ starved. absurd cc;
+      enough = λ starved. absurd cc;
+      capacity = capacity;
       answer =
-          (c.give.result, samples_left c.give.new.self, sym (c.in-Ok.ensures.left c.if-more.true) ∙ c.give.ensures.sample, record { is = refl; left_are = refl; goes_on = c.give.ensures.has_failed ∙ c.in-Ok.ensures.has_failed ∙ c.requires });
+          (c.give.result, samples_left c.give.new.self, sym (c.in-Ok.ensures.left c.if-more.true) ∙ c.give.ensures.sample, record { is = refl; left_are = refl; goes_on = c.give.ensures.has_failed ∙ c.in-Ok.ensures.has_failed ∙ c.requires }, c.give.ensures.capacity);
     })
 
 pub returns-else-more-clause-step : goal.returns-else-more-clause-step
 returns-else-more-clause-step g c =
-    let r = c.in-Ok.ensures.reads in
-    let read = rw c.if-more.false at r in
-    record { found = Ok None; reads = read; answer = (refl, c.in-Ok.ensures.none_left c.if-more.false, c.in-Ok.ensures.has_failed ∙ c.requires) }
+    record {
+      found = Ok None;
+      reads = rw c.if-more.false at c.in-Ok.ensures.reads;
+      answer = (refl, c.in-Ok.ensures.none_left c.if-more.false, search rules);
+      memory = λ starved. absurd cc;
+      enough = λ starved. absurd cc;
+      capacity = rw c.if-more.false at c.in-Ok.ensures.capacity;
+    }
 
 pub returns-in-Err-clause-step : goal.returns-in-Err-clause-step
-returns-in-Err-clause-step g c = record { found = Err c.in-Err.error; reads = c.in-Err.ensures.reads; answer = (refl, refl) }
+returns-in-Err-clause-step g c = record { found = Err c.in-Err.error; reads = c.in-Err.ensures.reads; answer = (refl, refl); memory = c.in-Err.ensures.memory; enough = c.in-Err.ensures.enough; capacity = tt }

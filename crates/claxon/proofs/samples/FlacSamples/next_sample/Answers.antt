@@ -13,7 +13,7 @@ returns-then-self-duration g c =
       stream = ap (λ (f : FrameReader g.row.R.Denot). frame_stream f) c.give.ensures.stream;
       at_hand = λ x left e.
           let both = first_same (sym c.give.ensures.sample ∙ e) in
-          (record { is = ap (λ (z : ℤ). Some (Ok z)) both.0; left_are = both.1; goes_on = c.give.ensures.has_failed ∙ c.requires }, ap (λ (f : FrameReader g.row.R.Denot). bytes_in g.R.ReadBytes.source (frame_input f)) c.give.ensures.stream);
+          (record { is = ap (λ (z : ℤ). Some (Ok z)) both.0; left_are = both.1; goes_on = c.give.ensures.has_failed ∙ c.requires }, ap (λ (f : FrameReader g.row.R.Denot). bytes_in g.R.ReadBytes.source (frame_input f)) c.give.ensures.stream, c.give.ensures.capacity);
       behind = λ e. absurd (none_some (sym e ∙ c.give.ensures.sample));
     })
 

@@ -29,3 +29,12 @@ returns-in-Some-clause-more g c = search rules
 
 pub returns-in-Some-clause-left : goal.returns-in-Some-clause-left
 returns-in-Some-clause-left g c = search rules
+
+pub returns-in_err-block-clause-memory : goal.returns-in_err-block-clause-memory
+returns-in_err-block-clause-memory g c = search rules
+
+pub returns-in_err-block-clause-enough : goal.returns-in_err-block-clause-enough
+returns-in_err-block-clause-enough g c = search rules
+
+pub returns-in-Some-clause-capacity : goal.returns-in-Some-clause-capacity
+returns-in-Some-clause-capacity g c = search rules
