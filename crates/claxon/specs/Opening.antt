@@ -1,5 +1,6 @@
 -- What opening a stream did to the reader that was handed in, which is kept, or dropped after an Err.
-use Rattle.std.specs.Prelude.{◌≡◌, ℕ, Bool, true, ◌⊎◌, List, [], ◌++◌, Option, IfOk, IfErr, IsOkAnd, IsErrAnd, Result}
+use Rattle.std.specs.Prelude.{◌≡◌, ℕ, Bool, true, false, ◌⊎◌, List, [], ◌++◌, Option, None, IfOk, IfErr, IsOkAnd, IsErrAnd, Result}
+use Rattle.std.specs.declared.fs.File.{File}
 use Rattle.claxon_format.specs.Fault.{Fault}
 use Rattle.claxon_input.specs.declared.error.Error.{Error}
 use Rattle.claxon_input.specs.declared.error.Error.TheVariants.{OutOfMemory}
@@ -28,6 +29,18 @@ OpenAnswer R A = Result (FlacReader R A) Error
 -- The reader says so of `metadata_only`.
 abbrev pub ShowsMetadataOnly : {R A : Type 0} → Bool → OpenAnswer R A → Type 0
 ShowsMetadataOnly metadata_only result = IfOk result (λ flac. flac_metadata_only flac ≡ metadata_only)
+
+-- Comments are shown only where `read_vorbis_comment` is true.
+abbrev pub ShowsCommentIfRead : {R A : Type 0} → Bool → OpenAnswer R A → Type 0
+ShowsCommentIfRead read result = IfOk result (λ flac. read ≡ false → (flac_head flac).comment ≡ None)
+
+-- An Err is want of memory, an `IoError`, or names a fault with its text.
+abbrev pub ErrNamesFault : {X : Type 0} → Result X Error → Type 0
+ErrNamesFault result = IfErr result (λ error. (error ≡ OutOfMemory) ⊎ (IsIo error ⊎ ((f : Fault) × IsFault f error)))
+
+-- a `File` doesn't tell what is to come
+abbrev pub file_remaining : File → Option (List ℕ)
+file_remaining file = None
 
 -- No read failed of a reader that is answered.
 abbrev pub NoReadFailed : {R A : Type 0} → (R → Option (List ℕ)) → OpenAnswer R A → Type 0

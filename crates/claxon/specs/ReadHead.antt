@@ -1,5 +1,5 @@
 -- The head of a stream (RFC 9639, sections 6 and 8) as the code shows it, and the reader of it cut where the code is cut.
-use Rattle.std.specs.Prelude.{◌≡◌, ◌++◌, ℕ, Bool, true, List, Option, Some, None, Result, IfOk, IfSome}
+use Rattle.std.specs.Prelude.{◌≡◌, ◌++◌, ℕ, Bool, true, false, List, Option, Some, None, Result, IfOk, IfSome}
 use Rattle.claxon_format.specs.read.MetadataBlocks.{block_at}
 use Rattle.claxon_format.specs.Comments.{Comment}
 use Rattle.claxon_format.specs.Fault.{SecondComment, SecondStreaminfo}
@@ -91,6 +91,10 @@ InfoHasBounds result = IfOk result (λ shown. HasBounds shown.0)
 -- The entries of the comments are split at places within them.
 abbrev pub CommentHasPlaces : {A : Type 0} → HeadAnswer A → Type 0
 CommentHasPlaces result = IfOk result (λ shown. IfSome shown.1 (λ comment. HavePlaces comment.comments.items))
+
+-- Comments are shown only where `read_vorbis_comment` is true.
+abbrev pub HeadHasCommentIfRead : {A : Type 0} → Bool → HeadAnswer A → Type 0
+HeadHasCommentIfRead read result = IfOk result (λ shown. read ≡ false → shown.1 ≡ None)
 
 -- Memory is wanted only behind the marker, whole blocks and the header of a block of an application or of comments, whose
 -- length was tested, and for comments only behind the length of a vendor that fits.

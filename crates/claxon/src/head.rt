@@ -7,7 +7,7 @@ ghost use Rattle.claxon_input.specs.State.{bytes_in};
 ghost use Rattle.claxon_input.specs.Gives.{Gives, GivesOrStarves};
 ghost use Rattle.claxon_metadata.specs.MetadataBlock.{IsSound};
 ghost use Rattle.claxon_tags.specs.TagEntries.{HavePlaces};
-ghost use Rattle.claxon.specs.ReadHead.{CommentHasPlaces, CommentsAreFound, EachHeadFaultIsNamed, EachHeadIsAnswered, HeadFaultWasTaken, HeadIsRead, HeadLeavesRest, HeadMayStarve, HeadWasTaken, InfoHasBounds, NoHeadIsIoError, StarvesBehind, StarvesBehindBlocks, found_view, head_view, other_at, other_view, wishes};
+ghost use Rattle.claxon.specs.ReadHead.{CommentHasPlaces, CommentsAreFound, EachHeadFaultIsNamed, EachHeadIsAnswered, HeadFaultWasTaken, HeadHasCommentIfRead, HeadIsRead, HeadLeavesRest, HeadMayStarve, HeadWasTaken, InfoHasBounds, NoHeadIsIoError, StarvesBehind, StarvesBehindBlocks, found_view, head_view, other_at, other_view, wishes};
 
 use crate::error::{Error, Result};
 use crate::input::ReadBytes;
@@ -74,6 +74,7 @@ pub fn read_head<R: ReadBytes, A: Allocator + Copy>(
 ) -> Result<(StreamInfo, Option<VorbisComment<A>>)>
     ensures bounds { InfoHasBounds result }
     ensures places { CommentHasPlaces result }
+    ensures comment { HeadHasCommentIfRead options.read_vorbis_comment result }
     ensures memory { HeadMayStarve R.source input.old result }
     ensures sound { HeadWasTaken R.source options input.old result input.new }
     ensures complete { EachHeadIsAnswered R.source options input.old result input.new }
@@ -94,6 +95,7 @@ fn read_shown<R: ReadBytes, A: Allocator + Copy>(
 ) -> Result<(StreamInfo, Option<VorbisComment<A>>)>
     ensures bounds { InfoHasBounds result }
     ensures places { CommentHasPlaces result }
+    ensures comment { HeadHasCommentIfRead options.read_vorbis_comment result }
     ensures memory { StarvesBehind result (bytes_in R.source input.old) }
     ensures gives { GivesOrStarves head_view result (head_at (wishes options)) (bytes_in R.source input.old) (bytes_in R.source input.new) }
 {

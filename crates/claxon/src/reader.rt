@@ -1,7 +1,9 @@
 //! Streams from their head to their last block.
 ghost use Rattle.std.specs.Prelude.{Option, Some, ◌≡◌, ◌≤◌, true, false, []};
 ghost use Rattle.std.specs.Option.{ForSome, option_map};
+ghost use Rattle.std.proofs.Props.{props};
 ghost use Rattle.claxon_format.specs.Pairs.{values};
+ghost use Rattle.claxon_metadata.specs.MetadataBlock.{HasBounds};
 ghost use Rattle.claxon_tags.specs.TagEntries.{HavePlaces};
 
 use crate::error::Result;
@@ -21,10 +23,7 @@ use std::rt::Files;
 struct Head<A: Allocator = Global> {
     streaminfo: StreamInfo,
     vorbis_comment: Option<VorbisComment<A>>,
-    ghost some: { 1 ≤ streaminfo.bits_per_sample },
-    ghost most: { streaminfo.bits_per_sample ≤ 32 },
-    ghost some_channels: { 1 ≤ streaminfo.channels },
-    ghost few_channels: { streaminfo.channels ≤ 8 },
+    ghost bounds: { HasBounds streaminfo } by { Prim.hlevel props },
     ghost places: { ForSome vorbis_comment (λ comment. HavePlaces comment.comments.items) },
 }
 
@@ -52,7 +51,7 @@ impl<R: Read, A: Allocator + Copy> FlacReader<R, A> {
     ghost use Rattle.std.specs.Borrow.{sem};
     ghost use Rattle.claxon_format.specs.Streams.{with_samples};
     ghost use Rattle.claxon.specs.ReadHead.{wishes};
-    ghost use Rattle.claxon.specs.Opening.{EachFaultIsNamedOnOpening, EachHeadIsOpened, HeadFaultIsThere, HeadIsShown, NoHeadIsNotOpened, NoReadFailed, ShowsMetadataOnly};
+    ghost use Rattle.claxon.specs.Opening.{EachFaultIsNamedOnOpening, EachHeadIsOpened, ErrNamesFault, HeadFaultIsThere, HeadIsShown, NoHeadIsNotOpened, NoReadFailed, ShowsCommentIfRead, ShowsMetadataOnly};
     ghost use Rattle.claxon_frame.specs.FrameReader.{frame_input, frame_stream, stream_with};
     ghost use Rattle.claxon_input.specs.BufferedReader.{buffered_inner};
     ghost use Rattle.claxon.specs.FlacSamples.{have_failed, samples_left, samples_stream};
@@ -78,6 +77,7 @@ impl<R: Read, A: Allocator + Copy> FlacReader<R, A> {
         R: Drop,
         // Its blocks and samples can be asked for.
         ensures full { ShowsMetadataOnly false result }
+        ensures text { ErrNamesFault result }
         ensures no_failure { NoReadFailed R.remaining result }
         ensures sound { HeadIsShown R.remaining (with_samples true) reader result }
         ensures complete { EachHeadIsOpened R.remaining (with_samples true) reader result }
@@ -97,6 +97,8 @@ impl<R: Read, A: Allocator + Copy> FlacReader<R, A> {
     where
         R: Drop,
         ensures metadata_only { ShowsMetadataOnly options.metadata_only result }
+        ensures comment { ShowsCommentIfRead options.read_vorbis_comment result }
+        ensures text { ErrNamesFault result }
         ensures no_failure { NoReadFailed R.remaining result }
         ensures sound { HeadIsShown R.remaining (wishes options) reader result }
         ensures complete { EachHeadIsOpened R.remaining (wishes options) reader result }
@@ -122,6 +124,7 @@ impl<R: Read, A: Allocator + Copy> FlacReader<R, A> {
     /// Frames aren't compared with it, and the sum isn't computed.
     pub fn streaminfo(&self) -> StreamInfo
         ensures value { result ≡ flac_streaminfo self.now }
+        ensures bounds { HasBounds result }
         ensures channels { (1 ≤ result.channels) × (result.channels ≤ 8) }
         ensures width { (1 ≤ result.bits_per_sample) × (result.bits_per_sample ≤ 32) }
     {
@@ -239,7 +242,7 @@ impl<R: Read, A: Allocator + Copy> FlacReader<R, A> {
 }
 
 impl FlacReader<File> {
-    ghost use Rattle.claxon.specs.Opening.{ShowsMetadataOnly};
+    ghost use Rattle.claxon.specs.Opening.{ErrNamesFault, NoReadFailed, ShowsCommentIfRead, ShowsMetadataOnly, file_remaining};
 
     /// Opens a file and reads its head, with the default options. The file needs no `BufReader`.
     ///
@@ -256,6 +259,8 @@ impl FlacReader<File> {
     ) -> Result<FlacReader<File>>
         // Its blocks and samples can be asked for.
         ensures full { ShowsMetadataOnly false result }
+        ensures text { ErrNamesFault result }
+        ensures no_failure { NoReadFailed file_remaining result }
     {
         FlacReader::open_ext(rt, filename, FlacReaderOptions::default())
     }
@@ -271,6 +276,9 @@ impl FlacReader<File> {
         options: FlacReaderOptions,
     ) -> Result<FlacReader<File>>
         ensures metadata_only { ShowsMetadataOnly options.metadata_only result }
+        ensures comment { ShowsCommentIfRead options.read_vorbis_comment result }
+        ensures text { ErrNamesFault result }
+        ensures no_failure { NoReadFailed file_remaining result }
     {
         let file = File::open(rt, filename)?;
         FlacReader::new_ext(rt.alloc(), file, options)

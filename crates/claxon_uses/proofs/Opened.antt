@@ -54,7 +54,7 @@ module _ {R A : Type 0} (remaining : R → Option (List ℕ)) (reader : R) (flac
     head = head;
     complete = complete;
     named = named;
-    width = subst (λ (z : Option StreamShape). IsWidth (known_width z)) (sym stream_is) (flac.head.some, flac.head.most);
+    width = subst (λ (z : Option StreamShape). IsWidth (known_width z)) (sym stream_is) (flac.head.bounds.some_bits, flac.head.bounds.bits);
     stream_is = stream_is;
     coming = (behind_loan remaining flac input input_is).0;
     told = (behind_loan remaining flac input input_is).1;

@@ -1,4 +1,4 @@
-use Rattle.std.proofs.Common.{Bool, Err, refl, sym, ap, ◌∙◌, arith}
+use Rattle.std.proofs.Common.{Bool, Err, refl, sym, ap, ◌∙◌, arith, rules}
 use Rattle.std.proofs.lemmas.Result.{err_from_is_err_and}
 use Rattle.std.proofs.lemmas.Grind.{common_steps}
 use Rattle.claxon_format.specs.Fault.{fault_text, StreaminfoMissing}
@@ -97,3 +97,6 @@ returns-else-options-clause-places g c = grind (arith, common_steps)
 
 pub returns-else-options-clause-memory : goal.returns-else-options-clause-memory
 returns-else-options-clause-memory g c = grind (arith, common_steps)
+
+pub returns-else-options-clause-comment : goal.returns-else-options-clause-comment
+returns-else-options-clause-comment g c = search rules

@@ -5,6 +5,7 @@ use Rattle.claxon_input.specs.State.{State, bytes_in}
 use Rattle.claxon_format.specs.Heads.{HeadCode}
 use Rattle.claxon_input.specs.Promises.{Took}
 use Rattle.claxon.specs.ReadHead.{head_view, wishes}
+use Rattle.claxon.proofs.ErrorTexts.{err_names_fault}
 use Rattle.claxon.proofs.Opening.{is_fault, is_io_error, is_named, is_opened, still_unread}
 use Rattle.claxon.proofs.reader.FlacReader.new_ext.Goals as goal
 
@@ -58,3 +59,8 @@ returns-in_err-streaminfo-clause-io g c =
     let e = still_unread (buffered_source g.R.Read.remaining) c.in_ok-input.input (g.R.Read.remaining c.args.reader) c.in_ok-input.ensures.ok in
     let p = err_from_is_err_and c.from_residual-in_err-streaminfo.result c.from_residual-in_err-streaminfo.ensures.1 in
     rw p.1 (is_io_error g.R.Read.remaining (wishes c.args.options) c.args.reader (head_view {A = g.row.A.Denot}) _ (bytes_in (buffered_source g.R.Read.remaining) c.read_head.new.input) e (Err _) (Err p.0) p.2 c.in_err-streaminfo.ensures.io)
+
+pub returns-in_err-streaminfo-clause-text : goal.returns-in_err-streaminfo-clause-text
+returns-in_err-streaminfo-clause-text g c =
+    let p = err_from_is_err_and c.from_residual-in_err-streaminfo.result c.from_residual-in_err-streaminfo.ensures.1 in
+    rw (p.1, p.2) (err_names_fault (head_view {A = g.row.A.Denot}) (Err _) _ _ _ c.in_err-streaminfo.ensures.gives)
