@@ -77,11 +77,15 @@ fn read_vendor<R: ReadBytes, A: Allocator>(
 }
 
 // The bytes as a text.
+#[tactic(auto, unfolding(claxon_format::specs::Fault::fault_text))]
 fn text_of<A: Allocator>(bytes: Vec<u8, A>) -> Result<String<A>>
     ensures { MatchResult result (λ text. (string_bytes text ≡ bytes.items) × (not_utf8 bytes.items ≡ false))
         (λ error. IsFault EntryNotUtf8 error × (not_utf8 bytes.items ≡ true)) }
 {
-    Ok(String::from_utf8(bytes)?)
+    let Ok(text) = String::from_utf8(bytes) else {
+        return Err(Error::FormatError("Vorbis comment or vendor string is not valid UTF-8"));
+    };
+    Ok(text)
 }
 
 // How many entries follow. Each takes four bytes at least, so a greater count can't be right.

@@ -1,14 +1,11 @@
-use Rattle.std.proofs.Common.{refl, rules}
-use Rattle.std.proofs.lemmas.Result.{err_from_is_err_and}
-use Rattle.claxon_format.specs.Fault.{fault_text, EntryNotUtf8}
-use Rattle.claxon_metadata.proofs.CommentTexts.{text_utf8, text_refused, names_fault}
+use Rattle.std.proofs.Common.{rules}
+use Rattle.claxon_format.specs.Fault.{fault_text}
+use Rattle.claxon_metadata.proofs.CommentTexts.{text_utf8, text_refused}
 use Rattle.claxon_metadata.proofs.metadata.comment.text_of.Goals as goal
 
-pub returns-in_err-from_utf8 : goal.returns-in_err-from_utf8
+pub returns-in_default : goal.returns-in_default
 unfolding fault_text
-returns-in_err-from_utf8 g c =
-    let p = err_from_is_err_and c.from_residual.result c.from_residual.ensures.1 in
-    rw p.1 (names_fault EntryNotUtf8 p.0 _ refl refl p.2, text_refused c.args.bytes.items (λ u. (let k = c.in_err-from_utf8.ensures.succeeds u in absurd cc)))
+returns-in_default g c = (search rules, text_refused c.args.bytes.items (λ u. (let k = c.in_default.ensures.succeeds u in absurd cc)))
 
 pub returns : goal.returns
-returns g c = (search rules, text_utf8 c.in_ok-from_utf8.field-0 c.args.bytes.items (search rules))
+returns g c = (search rules, text_utf8 c.in-Ok.text c.args.bytes.items (search rules))
