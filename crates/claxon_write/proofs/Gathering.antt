@@ -18,7 +18,7 @@ use Rattle.claxon.proofs.SamplesInTurn.{reads_as, same_duration}
 use Rattle.claxon.proofs.SampleRuns.{samples_add, takes_none, takes_more}
 use Rattle.claxon_write.specs.Decoded.{IsLimit, Gathers, FailsToWrite}
 use Rattle.claxon_sample_bytes.specs.SampleBytes.{bytes_of_samples}
-use Rattle.claxon_write.specs.Written.{FailsToPut, Puts}
+use Rattle.claxon_write.specs.Written.{FailsToPut, IsUnflushed, Puts}
 use Rattle.claxon_write.specs.declared.output.Output.{Output}
 use Rattle.claxon_write.proofs.Puts.{puts_none, puts_both, puts_as, fails_after, fails_as}
 use Rattle.claxon_sample_bytes.proofs.SampleBytes.{bytes_append}
@@ -89,8 +89,7 @@ module _ {W : Type 0} {contents : W → Option (List ℕ)} {stream : Option Stre
   }
 
   pub gathered_fails : {n : ℕ} {error : Error} (block : BlockValue) {a b c : State ℕ} {x y z : Output W} → GatheredSoFar contents stream n a b x y → ReadsFrame stream (Ok (Some block)) b c
-      → FailsToPut contents (bytes_of_samples (interleave block.channels)) error y z → FailsToWrite contents stream error a x z
-  gathered_fails block {a = a} {c = c} h k f =
-      let w = takes_more block h.frames k in
+      → FailsToPut contents (bytes_of_samples (interleave block.channels)) error y z → IsUnflushed x z → FailsToWrite contents stream error a c x z
+  gathered_fails block {a = a} {c = c} h k f u =
       let p = fails_as (more_bytes h.blocks block) (fails_after h.puts f) in
-      record { is_io = p.is_io; failures = p.failures; blocks = h.blocks ++ block_view block ∷ []; frames = λ told. (c.coming, (w.went.known told).is); front = p.front; none_wait = p.none_wait }
+      record { is_io = p.is_io; failed = p.failed; unflushed = u; blocks = h.blocks ++ block_view block ∷ []; takes = inl (takes_more block h.frames k); front = p.front; none_wait = p.none_wait }

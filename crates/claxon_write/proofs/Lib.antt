@@ -4,6 +4,8 @@ pub mod Puts
 pub mod Gathering
 pub mod Unlent
 pub mod WholeRuns
+pub mod Runs
+pub mod Rests
 pub mod Converting
 pub mod Ending
 pub mod Interleaved

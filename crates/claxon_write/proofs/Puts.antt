@@ -1,5 +1,5 @@
 -- Bytes that are written or wait.
-use Rattle.std.proofs.Common.{◌≡◌, ℕ, ◌+◌, ◌%◌, ◌^◌, List, [], ◌++◌, length, take, drop, Option, None, Some, refl, sym, ap, subst, ◌∙◌, append_assoc, arith, ℤ}
+use Rattle.std.proofs.Common.{◌≡◌, inr, ℕ, ◌+◌, ◌%◌, ◌^◌, List, [], ◌++◌, length, take, drop, Option, None, Some, refl, sym, ap, subst, ◌∙◌, append_assoc, arith, ℤ}
 use Rattle.std.specs.Prelude.{IfErr, OnOk, OnErr, Result, Ok, Err}
 use Rattle.std.specs.Io.KnownBytes.{Appends, Keeps, append_known}
 use Rattle.std.proofs.Math.Seq.{take-add}
@@ -9,7 +9,8 @@ use Rattle.claxon_input.specs.Error.{IsIo}
 use Rattle.claxon_input.specs.declared.error.Error.{Error}
 use Rattle.claxon_sample_bytes.specs.SampleBytes.{bytes_of_samples, places}
 use Rattle.claxon_sample_bytes.proofs.SampleBytes.{places_all}
-use Rattle.claxon_write.specs.Written.{AppendsFront, FailsToPut, Puts, held, held_and_waiting, output_failures, waiting}
+use Rattle.claxon_write.specs.Output.{FlushFails, FlushesAll}
+use Rattle.claxon_write.specs.Written.{AppendsFront, FailsToPut, FlushFailed, IsFlushed, IsUnflushed, NothingFailed, Puts, WriteFailed, failed_flushes_of, failed_writes_of, held, held_and_waiting, waiting}
 use Rattle.claxon_frame.specs.Block.{duration_of}
 use Rattle.claxon.proofs.SamplesInTurn.{same_duration}
 use Rattle.claxon_write.specs.declared.output.Counted.{Counted}
@@ -85,17 +86,35 @@ appends_both (Some x) (Some y) (Some z) xs ys h k = k ∙ (ap (λ t. t ++ ys) h 
 take_parts : (k : ℕ) (s : List ℕ) → s ≡ take k s ++ drop k s
 take_parts k s = sym (take-append-drop k s)
 
+-- ---- what failed, and flushes
+
+module _ {W : Type 0} where
+  pub none_failed : (a : Output W) → NothingFailed a a
+  none_failed a = record { writes = refl; flushes = refl }
+
+  pub none_failed_both : {a b c : Output W} → NothingFailed a b → NothingFailed b c → NothingFailed a c
+  none_failed_both h k = record { writes = k.writes ∙ h.writes; flushes = k.flushes ∙ h.flushes }
+
+  pub write_failed_after : {a b c : Output W} → NothingFailed a b → WriteFailed b c → WriteFailed a c
+  write_failed_after h k = record { writes = k.writes ∙ ap (λ (n : ℕ). (n + 1) % 2 ^ 64) h.writes; flushes = k.flushes ∙ h.flushes }
+
+  pub flush_failed_after : {a b c : Output W} → NothingFailed a b → FlushFailed b c → FlushFailed a c
+  flush_failed_after h k = record { writes = k.writes ∙ h.writes; flushes = k.flushes ∙ ap (λ (n : ℕ). (n + 1) % 2 ^ 64) h.flushes }
+
+  pub flushed_after : {a b c : Output W} → IsUnflushed a b → IsFlushed b c → IsFlushed a c
+  flushed_after h k = record { once = k.once ∙ ap (λ (n : ℕ). (n + 1) % 2 ^ 64) h; last = k.last }
+
 -- ---- one after another
 
 module _ {W : Type 0} {contents : W → Option (List ℕ)} where
   pub puts_none : (a : Output W) → Puts contents [] a a
-  puts_none a = record { front = front_none (held contents a) (waiting a ++ []); bytes_are = appends_nothing (held_and_waiting contents a); failures = refl }
+  puts_none a = record { front = front_none (held contents a) (waiting a ++ []); bytes_are = appends_nothing (held_and_waiting contents a); nothing_failed = none_failed a }
 
   pub puts_both : {xs ys : List ℕ} {a b c : Output W} → Puts contents xs a b → Puts contents ys b c → Puts contents (xs ++ ys) a c
   puts_both {xs = xs} {ys = ys} {a = a} {b = b} {c = c} h k = record {
     front = front_both (held contents a) (held contents b) (held contents c) (waiting a) (waiting b) xs ys h.front h.bytes_are k.front;
     bytes_are = appends_both (held_and_waiting contents a) (held_and_waiting contents b) (held_and_waiting contents c) xs ys h.bytes_are k.bytes_are;
-    failures = k.failures ∙ h.failures;
+    nothing_failed = none_failed_both h.nothing_failed k.nothing_failed;
   }
 
   pub puts_as : {xs ys : List ℕ} {a b : Output W} → xs ≡ ys → Puts contents xs a b → Puts contents ys a b
@@ -104,7 +123,7 @@ module _ {W : Type 0} {contents : W → Option (List ℕ)} where
   pub fails_after : {xs ys : List ℕ} {error : Error} {a b c : Output W} → Puts contents xs a b → FailsToPut contents ys error b c → FailsToPut contents (xs ++ ys) error a c
   fails_after {xs = xs} {ys = ys} {a = a} {b = b} {c = c} h k = record {
     is_io = k.is_io;
-    failures = k.failures ∙ ap (λ (n : ℕ). (n + 1) % 2 ^ 64) h.failures;
+    failed = write_failed_after h.nothing_failed k.failed;
     front = front_both (held contents a) (held contents b) (held contents c) (waiting a) (waiting b) xs ys h.front h.bytes_are k.front;
     none_wait = k.none_wait;
   }
@@ -116,7 +135,7 @@ module _ {W : Type 0} {contents : W → Option (List ℕ)} where
   pub fails_more : {xs : List ℕ} (ys : List ℕ) {error : Error} {a b : Output W} → FailsToPut contents xs error a b → FailsToPut contents (xs ++ ys) error a b
   fails_more {xs = xs} ys {a = a} {b = b} h = record {
     is_io = h.is_io;
-    failures = h.failures;
+    failed = h.failed;
     front = longer (held contents a) (held contents b) (waiting a) xs ys h.front;
     none_wait = h.none_wait;
   }
@@ -139,38 +158,55 @@ still_waits (Some x) (Some y) w k = ap (λ (z : List ℕ). z ++ w) k ∙ sym (ap
 -- ---- what the calls of the writer did
 
 module _ {W : Type 0} (contents : W → Option (List ℕ)) where
-  pub gathered_ok : (r : Result (Unit {0}) Error) (a b : Output W) (bytes : List ℕ) → bytes ≡ waiting a → waiting b ≡ [] → OnOk r (Appends (held contents a) (held contents b) bytes) → OnOk r (output_failures b ≡ output_failures a) → OnOk r (Puts contents [] a b)
-  gathered_ok (Err e) a b bytes same none h k = tt
-  gathered_ok (Ok x) a b bytes same none h k =
+  pub gathered_ok : (r : Result (Unit {0}) Error) (a b : Output W) (bytes : List ℕ) → bytes ≡ waiting a → waiting b ≡ [] → OnOk r (Appends (held contents a) (held contents b) bytes) → OnOk r (failed_writes_of b ≡ failed_writes_of a)
+      → failed_flushes_of b ≡ failed_flushes_of a → OnOk r (Puts contents [] a b)
+  gathered_ok (Err e) a b bytes same none h k l = tt
+  gathered_ok (Ok x) a b bytes same none h k l =
       let w : Appends (held contents a) (held contents b) (waiting a) = subst (λ (z : List ℕ). Appends (held contents a) (held contents b) z) same h in
       record {
         front = subst (λ (z : List ℕ). AppendsFront (held contents a) (held contents b) z) (sym (append-nil (waiting a))) (front_all (held contents a) (held contents b) (waiting a) w);
         bytes_are = subst (λ (z : List ℕ). Appends (held_and_waiting contents a) (append_known (held contents b) z) []) (sym none) (none_waits (held contents a) (held contents b) (waiting a) w);
-        failures = k;
+        nothing_failed = record { writes = k; flushes = l };
       }
 
   pub gathered_err : (r : Result (Unit {0}) Error) (a b : Output W) (bytes : List ℕ) → bytes ≡ waiting a → waiting b ≡ [] → IfErr r (λ e. IsIo e) → OnErr r (AppendsFront (held contents a) (held contents b) bytes)
-      → OnErr r (output_failures b ≡ (output_failures a + 1) % 2 ^ 64) → IfErr r (λ e. FailsToPut contents [] e a b)
-  gathered_err (Ok x) a b bytes same none i h k = tt
-  gathered_err (Err e) a b bytes same none i h k = record {
+      → OnErr r (failed_writes_of b ≡ (failed_writes_of a + 1) % 2 ^ 64) → failed_flushes_of b ≡ failed_flushes_of a → IfErr r (λ e. FailsToPut contents [] e a b)
+  gathered_err (Ok x) a b bytes same none i h k l = tt
+  gathered_err (Err e) a b bytes same none i h k l = record {
     is_io = i;
-    failures = k;
+    failed = record { writes = k; flushes = l };
     front = subst (λ (z : List ℕ). AppendsFront (held contents a) (held contents b) z) (same ∙ sym (append-nil (waiting a))) h;
     none_wait = none;
   }
 
-  pub flushed_ok : (r : Result (Unit {0}) Error) (a b c : Output W) → Puts contents [] a b → waiting c ≡ waiting b → Keeps (held contents b) (held contents c) → OnOk r (output_failures c ≡ output_failures b) → OnOk r (Puts contents [] a c)
-  flushed_ok (Err e) a b c h w k t = tt
-  flushed_ok (Ok x) a b c h w k t = puts_both h (record {
-    front = front_held (held contents b) (held contents c) (waiting b ++ []) k;
-    bytes_are = subst (λ (z : List ℕ). Appends (held_and_waiting contents b) (append_known (held contents c) z) []) (sym w) (still_waits (held contents b) (held contents c) (waiting b) k);
-    failures = t;
-  })
+  -- all that waited was written, and then the writer was flushed
+  module _ (r : Result (Unit {0}) Error) (a b c : Output W) (h : Puts contents [] a b) (u : IsUnflushed a b) (k : Keeps (held contents b) (held contents c)) (writes : failed_writes_of c ≡ failed_writes_of b) (f : IsFlushed b c) where
+    pub flushed_ok : waiting c ≡ waiting b → OnOk r (failed_flushes_of c ≡ failed_flushes_of b) → FlushesAll contents r a c
+    flushed_ok w t = go r t
+      where
+        go : (r : Result (Unit {0}) Error) → OnOk r (failed_flushes_of c ≡ failed_flushes_of b) → FlushesAll contents r a c
+        go (Err e) t = tt
+        go (Ok x) t = (
+          puts_both h (record {
+            front = front_held (held contents b) (held contents c) (waiting b ++ []) k;
+            bytes_are = subst (λ (z : List ℕ). Appends (held_and_waiting contents b) (append_known (held contents c) z) []) (sym w) (still_waits (held contents b) (held contents c) (waiting b) k);
+            nothing_failed = record { writes = writes; flushes = t };
+          }),
+          flushed_after u f,
+        )
 
-  pub flushed_err : (r : Result (Unit {0}) Error) (a b c : Output W) → Puts contents [] a b → waiting c ≡ [] → Keeps (held contents b) (held contents c) → IfErr r (λ e. IsIo e) → OnErr r (output_failures c ≡ (output_failures b + 1) % 2 ^ 64)
-      → IfErr r (λ e. FailsToPut contents [] e a c)
-  flushed_err (Ok x) a b c h w k i t = tt
-  flushed_err (Err e) a b c h w k i t = fails_after h (record { is_io = i; failures = t; front = front_held (held contents b) (held contents c) (waiting b ++ []) k; none_wait = w })
+    pub flushed_err : waiting b ≡ [] → waiting c ≡ [] → IfErr r (λ e. IsIo e) → OnErr r (failed_flushes_of c ≡ (failed_flushes_of b + 1) % 2 ^ 64) → FlushFails contents r a c
+    flushed_err none w i t = go r i t
+      where
+        go : (r : Result (Unit {0}) Error) → IfErr r (λ e. IsIo e) → OnErr r (failed_flushes_of c ≡ (failed_flushes_of b + 1) % 2 ^ 64) → FlushFails contents r a c
+        go (Ok x) i t = tt
+        go (Err e) i t = inr (record {
+          is_io = i;
+          failed = flush_failed_after h.nothing_failed (record { writes = writes; flushes = t });
+          flushed = flushed_after u f;
+          written = appends_keeps (held_and_waiting contents a) (held contents b) (held contents c) [] (held_alone (held_and_waiting contents a) (held contents b) (waiting b) [] none h.bytes_are) k;
+          none_wait = w;
+        })
 
   -- more bytes wait, and the writer was left alone
   pub puts_waiting : (a b : Output W) (bytes : List ℕ) → b.writer ≡ a.writer → waiting b ≡ waiting a ++ bytes → Puts contents bytes a b
@@ -179,7 +215,7 @@ module _ {W : Type 0} (contents : W → Option (List ℕ)) where
       record {
         front = subst (λ (o : Option (List ℕ)). AppendsFront (held contents a) o (waiting a ++ bytes)) (sym h) (front_none (held contents a) (waiting a ++ bytes));
         bytes_are = rw (h, more) (more_waits (held contents a) (waiting a) bytes);
-        failures = ap (λ (w : Counted W). w.failures) same;
+        nothing_failed = record { writes = ap (λ (w : Counted W). w.failed_writes) same; flushes = ap (λ (w : Counted W). w.failed_flushes) same };
       }
 
 -- ---- samples as bytes

@@ -12,8 +12,8 @@ use Rattle.claxon_input.specs.Promises.{Comes, IsExcused}
 use Rattle.claxon_input.specs.State.{State}
 use Rattle.claxon.specs.SampleRuns.{samples_of}
 use Rattle.claxon.proofs.SampleRuns.{behind, excused_after, fault_complete, frames_left, short_complete}
-use Rattle.claxon_write.specs.Decoded.{Decodes, EndsAfter, FailsToWrite, TooMany, WriterHasFailed}
-use Rattle.claxon_write.specs.Written.{output_failures}
+use Rattle.claxon_write.specs.Decoded.{Decodes, EndsAfter, FailsToFlushAll, FailsToWrite, StopsDecoding, TooMany, WriteHasFailed, WriterHasFailed}
+use Rattle.claxon_write.specs.Written.{IsFlushed, NothingFailed}
 use Rattle.claxon_write.specs.declared.output.Output.{Output}
 
 -- ---- excuses
@@ -44,18 +44,19 @@ module _ (stream : Option StreamShape) (width : IsWidth (known_width stream)) wh
 
   module _ {W : Type 0} (contents : W → Option (List ℕ)) (a b : State ℕ) (x y : Output W) (blocks : List Block) (m : List ℕ) (told : a.told ≡ true) (f : Frames stream a.coming blocks m) (few : length (samples_of blocks) < 2 ^ 64) where
     -- a stream that ends there is written to its end
-    pub written_whole : (r : Result ℕ Error) → IfOk r (λ n. Decodes contents stream None n a b x y × (output_failures y ≡ output_failures x))
-        → IfErr r (λ e. ((n : ℕ) × Decodes contents stream (Some e) n a b x y) ⊎ FailsToWrite contents stream e a x y) → length m < 2 → (r ≡ Ok (length (samples_of blocks))) ⊎ (IsExcused r a b ⊎ WriterHasFailed r x y)
+    pub written_whole : (r : Result ℕ Error) → IfOk r (λ n. Decodes contents stream None n a b x y × NothingFailed x y × IsFlushed x y)
+        → IfErr r (λ e. StopsDecoding contents stream e a b x y ⊎ (FailsToWrite contents stream e a b x y ⊎ FailsToFlushAll contents stream e a b x y)) → length m < 2 → (r ≡ Ok (length (samples_of blocks))) ⊎ (IsExcused r a b ⊎ WriterHasFailed r x y)
     written_whole (Ok n) h k short = elim (behind stream width None h.0.blocks blocks m h.0.ends told f (short_complete stream m short)) [
       | inl p ↦ inl (ap (λ (z : ℕ). Ok z) (h.0.count ∙ ap (λ (z : List Block). length (samples_of z)) (sym p.0)))
       | inr e ↦ absurd (ok_unexcused a b None e)
     ]
-    written_whole (Err e) h (inr k) short = inr (inr (k.is_io, k.failures))
-    written_whole (Err e) h (inl k) short = go k.1.ends
+    written_whole (Err e) h (inr (inl k)) short = inr (inr (k.is_io, inl k.failed))
+    written_whole (Err e) h (inr (inr k)) short = inr (inr (k.is_io, inr k.failed))
+    written_whole (Err e) h (inl k) short = go k.decoded.ends
       where
-        go : EndsAfter stream k.1.blocks (Some e) a b → ((let q : Result ℕ Error = Err e in q) ≡ Ok (length (samples_of blocks))) ⊎ (IsExcused (let q : Result ℕ Error = Err e in q) a b ⊎ WriterHasFailed (let q : Result ℕ Error = Err e in q) x y)
-        go (inr limit) = absurd (under_limit k.1.blocks blocks m limit told f (short_complete stream m short) few)
-        go (inl reads) = elim (behind stream width (Some e) k.1.blocks blocks m reads told f (short_complete stream m short)) [
+        go : EndsAfter stream k.decoded.blocks (Some e) a b → ((let q : Result ℕ Error = Err e in q) ≡ Ok (length (samples_of blocks))) ⊎ (IsExcused (let q : Result ℕ Error = Err e in q) a b ⊎ WriterHasFailed (let q : Result ℕ Error = Err e in q) x y)
+        go (inr limit) = absurd (under_limit k.decoded.blocks blocks m limit told f (short_complete stream m short) few)
+        go (inl reads) = elim (behind stream width (Some e) k.decoded.blocks blocks m reads told f (short_complete stream m short)) [
           | inr z ↦ inr (inl (excused_as a b e z))
           | inl p ↦ elim (reads.last.promises.ended m p.1 short) [
             | inl z ↦ absurd (let w = z.0 in cc)
@@ -64,9 +65,9 @@ module _ (stream : Option StreamShape) (width : IsWidth (known_width stream)) wh
         ]
 
     -- a fault that stands there is named
-    pub named_behind : (r : Result ℕ Error) → IfOk r (λ n. Decodes contents stream None n a b x y × (output_failures y ≡ output_failures x))
-        → IfErr r (λ e. ((n : ℕ) × Decodes contents stream (Some e) n a b x y) ⊎ FailsToWrite contents stream e a x y) → (fault : Fault) (t rest : List ℕ) → FrameBytesFault stream fault t → m ≡ t ++ rest
-        → IsErrAnd r (IsFault fault) ⊎ (IsExcused r a b ⊎ WriterHasFailed r x y)
+    pub named_behind : (r : Result ℕ Error) → IfOk r (λ n. Decodes contents stream None n a b x y × NothingFailed x y × IsFlushed x y)
+        → IfErr r (λ e. StopsDecoding contents stream e a b x y ⊎ (FailsToWrite contents stream e a b x y ⊎ FailsToFlushAll contents stream e a b x y)) → (fault : Fault) (t rest : List ℕ) → FrameBytesFault stream fault t → m ≡ t ++ rest
+        → IsErrAnd r (IsFault fault) ⊎ (IsExcused r a b ⊎ WriteHasFailed r x y)
     named_behind r h k fault t rest bad e = go r h k
       where
         none : IsComplete stream m
@@ -75,16 +76,21 @@ module _ (stream : Option StreamShape) (width : IsWidth (known_width stream)) wh
         there : {s : State ℕ} → Comes s m → Comes s (t ++ rest)
         there {s = s} c = subst (λ (z : List ℕ). Comes s z) e c
 
-        go : (r : Result ℕ Error) → IfOk r (λ n. Decodes contents stream None n a b x y × (output_failures y ≡ output_failures x))
-            → IfErr r (λ e. ((n : ℕ) × Decodes contents stream (Some e) n a b x y) ⊎ FailsToWrite contents stream e a x y) → IsErrAnd r (IsFault fault) ⊎ (IsExcused r a b ⊎ WriterHasFailed r x y)
-        go (Ok n) h k = elim (behind stream width None h.0.blocks blocks m h.0.ends told f none) [
-          | inr z ↦ absurd (ok_unexcused a b None z)
-          | inl p ↦ elim (h.0.ends.last.promises.named fault t rest bad (there p.1)) [ inl z ↦ absurd z.0 | inr z ↦ absurd (ok_unexcused h.0.ends.between b None z) ]
+        -- the end doesn't stand there
+        no_end : {n : ℕ} → Decodes contents stream None n a b x y → ⊥
+        no_end h = elim (behind stream width None h.blocks blocks m h.ends told f none) [
+          | inr z ↦ ok_unexcused a b None z
+          | inl p ↦ elim (h.ends.last.promises.named fault t rest bad (there p.1)) [ inl z ↦ z.0 | inr z ↦ ok_unexcused h.ends.between b None z ]
         ]
-        go (Err error) h (inr k) = inr (inr (k.is_io, k.failures))
-        go (Err error) h (inl k) = elim k.1.ends [
-          | inr limit ↦ absurd (under_limit k.1.blocks blocks m limit told f none few)
-          | inl reads ↦ elim (behind stream width (Some error) k.1.blocks blocks m reads told f none) [
+
+        go : (r : Result ℕ Error) → IfOk r (λ n. Decodes contents stream None n a b x y × NothingFailed x y × IsFlushed x y)
+            → IfErr r (λ e. StopsDecoding contents stream e a b x y ⊎ (FailsToWrite contents stream e a b x y ⊎ FailsToFlushAll contents stream e a b x y)) → IsErrAnd r (IsFault fault) ⊎ (IsExcused r a b ⊎ WriteHasFailed r x y)
+        go (Ok n) h k = absurd (no_end h.0)
+        go (Err error) h (inr (inl k)) = inr (inr (k.is_io, k.failed))
+        go (Err error) h (inr (inr k)) = absurd (no_end k.decoded)
+        go (Err error) h (inl k) = elim k.decoded.ends [
+          | inr limit ↦ absurd (under_limit k.decoded.blocks blocks m limit told f none few)
+          | inl reads ↦ elim (behind stream width (Some error) k.decoded.blocks blocks m reads told f none) [
             | inr z ↦ inr (inl (excused_as a b error z))
             | inl p ↦ elim (reads.last.promises.named fault t rest bad (there p.1)) [
               | inl z ↦ inl z.0

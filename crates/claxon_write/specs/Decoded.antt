@@ -1,16 +1,14 @@
 -- Streams that are decoded into an `Output`.
-use Rattle.std.specs.Prelude.{◌≡◌, ◌<◌, ◌≤◌, ◌⊎◌, ℕ, ◌+◌, ◌%◌, ◌^◌, true, List, [], ◌∷◌, ◌++◌, length, codes, Option, None, Some, IsErrAnd, Result, Ok, Err}
+use Rattle.std.specs.Prelude.{◌≡◌, ◌≤◌, ◌⊎◌, ℕ, ◌^◌, List, [], ◌∷◌, ◌++◌, length, codes, Option, None, Some, IsErrAnd, Result, Ok, Err}
 use Rattle.std.specs.Io.KnownBytes.{Appends}
-use Rattle.claxon_format.specs.Frame.{StreamShape, Block, Frames}
-use Rattle.claxon_format.specs.Heads.{Head, HeadCode}
-use Rattle.claxon_format.specs.Streams.{stream_of, with_samples}
+use Rattle.claxon_format.specs.Frame.{StreamShape, Block}
 use Rattle.claxon_input.specs.Error.{IsIo}
 use Rattle.claxon_input.specs.State.{State}
 use Rattle.claxon_input.specs.declared.error.Error.{Error}
 use Rattle.claxon_input.specs.declared.error.Error.TheVariants.{Unsupported}
 use Rattle.claxon.specs.SampleRuns.{ReadsFrames, TakesFrames, samples_of}
 use Rattle.claxon_sample_bytes.specs.SampleBytes.{bytes_of_samples}
-use Rattle.claxon_write.specs.Written.{AppendsFront, Puts, held, held_and_waiting, output_failures, waiting}
+use Rattle.claxon_write.specs.Written.{AppendsFront, FlushFailed, IsFlushed, IsUnflushed, NothingFailed, Puts, WriteFailed, held, held_and_waiting, waiting}
 use Rattle.claxon_write.specs.declared.output.Output.{Output}
 
 -- the limit on the number of samples
@@ -45,22 +43,39 @@ pub record Decodes {W : Type 0} (contents : W → Option (List ℕ)) (stream : O
   pub written : Appends (held_and_waiting contents before) (held contents after) (bytes_of_samples (samples_of blocks))
   pub none_wait : waiting after ≡ []
 
--- The writer failed, which was counted: a front of what waited and of the samples of blocks whose frames stand there was written, and none wait any more.
-pub record FailsToWrite {W : Type 0} (contents : W → Option (List ℕ)) (stream : Option StreamShape) (error : Error) (old : State ℕ) (before after : Output W) : Type 0 where
+-- just the frames of these blocks were taken, or also the end or the fault behind them
+abbrev pub TakesBlocks : Option StreamShape → List Block → State ℕ → State ℕ → Type 0
+TakesBlocks stream blocks old new = TakesFrames stream blocks old new ⊎ ((end : Option Error) × EndsAfter stream blocks end old new)
+
+-- A write failed, which was counted, and no flush was asked for: a front of what waited and of the samples of these blocks, whose frames were taken, was written, and none wait any more.
+pub record FailsToWrite {W : Type 0} (contents : W → Option (List ℕ)) (stream : Option StreamShape) (error : Error) (old new : State ℕ) (before after : Output W) : Type 0 where
   pub is_io : IsIo error
-  pub failures : output_failures after ≡ (output_failures before + 1) % 2 ^ 64
+  pub failed : WriteFailed before after
+  pub unflushed : IsUnflushed before after
   pub blocks : List Block
-  pub frames : old.told ≡ true → (rest : List ℕ) × Frames stream old.coming blocks rest
+  pub takes : TakesBlocks stream blocks old new
   pub front : AppendsFront (held contents before) (held contents after) (waiting before ++ bytes_of_samples (samples_of blocks))
   pub none_wait : waiting after ≡ []
 
--- The answer is an `IoError`, and a write or flush failed, which was counted.
-abbrev pub WriterHasFailed : {A W : Type 0} → Result A Error → Output W → Output W → Type 0
-WriterHasFailed r before after = IsErrAnd r IsIo × (output_failures after ≡ (output_failures before + 1) % 2 ^ 64)
+-- The stream ended and all its samples were written, and then the one flush that was asked for failed, which was counted.
+pub record FailsToFlushAll {W : Type 0} (contents : W → Option (List ℕ)) (stream : Option StreamShape) (error : Error) (old new : State ℕ) (before after : Output W) : Type 0 where
+  pub is_io : IsIo error
+  pub failed : FlushFailed before after
+  pub flushed : IsFlushed before after
+  pub count : ℕ
+  pub decoded : Decodes contents stream None count old new before after
 
--- What is to come is a head, the frames of some blocks and a rest of fewer than two bytes, and just the samples of these blocks, n in number, were written.
-pub record Ran (n : ℕ) (s : State ℕ) (old new : Option (List ℕ)) : Type 0 where
-  pub blocks : List Block
-  pub count : n ≡ length (samples_of blocks)
-  pub written : Appends old new (bytes_of_samples (samples_of blocks))
-  pub stands : s.told ≡ true → (h : Head) × (t : List ℕ) × (frames : List ℕ) × (rest : List ℕ) × HeadCode (with_samples true) h t × Frames (Some (stream_of h.info)) frames blocks rest × (length rest < 2) × (s.coming ≡ t ++ frames)
+-- The decoder stopped when all samples before were written: no write failed, and one flush was asked for, last; whether it failed is counted alone.
+pub record StopsDecoding {W : Type 0} (contents : W → Option (List ℕ)) (stream : Option StreamShape) (error : Error) (old new : State ℕ) (before after : Output W) : Type 0 where
+  pub count : ℕ
+  pub decoded : Decodes contents stream (Some error) count old new before after
+  pub flushed : IsFlushed before after
+  pub failed : NothingFailed before after ⊎ FlushFailed before after
+
+-- The answer is an `IoError`, and a write failed, which was counted.
+abbrev pub WriteHasFailed : {A W : Type 0} → Result A Error → Output W → Output W → Type 0
+WriteHasFailed r before after = IsErrAnd r IsIo × WriteFailed before after
+
+-- The answer is an `IoError`, and a write or a flush failed, which was counted.
+abbrev pub WriterHasFailed : {A W : Type 0} → Result A Error → Output W → Output W → Type 0
+WriterHasFailed r before after = IsErrAnd r IsIo × (WriteFailed before after ⊎ FlushFailed before after)

@@ -5,3 +5,7 @@ use Rattle.claxon_write.specs.declared.output.Output.{Output}
 -- which reference to the writer it holds
 abbrev pub output_name : {W : Type 0} → Output W → GName
 output_name s = s.writer.inner.ghost_name
+
+-- the writer
+abbrev pub output_writer : {W : Type 0} → Output W → W
+output_writer s = s.writer.inner.now

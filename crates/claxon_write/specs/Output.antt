@@ -1,11 +1,11 @@
 -- What calls of an `Output` promise.
-use Rattle.std.specs.Prelude.{ℕ, ◌<◌, ◌≤◌, List, length, take, Option, Result, IfErr, IfOk, OnErr, OnOk}
+use Rattle.std.specs.Prelude.{ℕ, ◌<◌, ◌≤◌, ◌⊎◌, List, [], length, take, Option, Result, IfErr, IfOk, OnErr, OnOk}
 use Rattle.std.specs.Io.KnownBytes.{Appends}
 use Rattle.claxon_format.specs.Streams.{interleave}
 use Rattle.claxon_frame.specs.Block.{BlockValue}
 use Rattle.claxon_input.specs.declared.error.Error.{Error}
 use Rattle.claxon_sample_bytes.specs.SampleBytes.{bytes_of_samples}
-use Rattle.claxon_write.specs.Written.{AppendsFront, FailsToPut, Puts}
+use Rattle.claxon_write.specs.Written.{AppendsFront, FailsToFlush, FailsToPut, IsFlushed, IsUnflushed, Puts}
 use Rattle.claxon_write.specs.declared.output.Counted.{Counted}
 use Rattle.claxon_write.specs.declared.output.Output.{Output}
 
@@ -24,6 +24,14 @@ PutsAll contents bytes r old new = OnOk r (Puts contents bytes old new)
 -- An Err says that the writer failed, and that a front of what waited and of these bytes was written.
 abbrev pub PutsFront : {W : Type 0} → (W → Option (List ℕ)) → List ℕ → Result (Unit {0}) Error → Output W → Output W → Type 0
 PutsFront contents bytes r old new = IfErr r (λ error. FailsToPut contents bytes error old new)
+
+-- An Ok wrote all that waited, and then flushed.
+abbrev pub FlushesAll : {W : Type 0} → (W → Option (List ℕ)) → Result (Unit {0}) Error → Output W → Output W → Type 0
+FlushesAll contents r old new = OnOk r (Puts contents [] old new × IsFlushed old new)
+
+-- An Err says that a write failed, and then no flush was asked for; or that all was written, and the flush failed.
+abbrev pub FlushFails : {W : Type 0} → (W → Option (List ℕ)) → Result (Unit {0}) Error → Output W → Output W → Type 0
+FlushFails contents r old new = IfErr r (λ error. (FailsToPut contents [] error old new × IsUnflushed old new) ⊎ FailsToFlush contents error old new)
 
 -- the bytes of a block's samples, place by place
 abbrev pub block_bytes : BlockValue → List ℕ

@@ -1,21 +1,43 @@
 -- What `run` promises, from what was to come and what the writer held to what it holds.
-use Rattle.std.specs.Prelude.{◌≡◌, ◌⊎◌, ℕ, true, List, ◌++◌, Option, Some, Result, IfErr, IfOk}
+use Rattle.std.specs.Prelude.{◌≡◌, ◌⊎◌, ◌<◌, ◌≤◌, ℕ, ◌^◌, true, List, [], ◌∷◌, ◌++◌, length, Option, Some, Result, Ok, IfErr, IfOk, IsErrAnd}
 use Rattle.std.specs.Io.KnownBytes.{Appends}
 use Rattle.claxon_format.specs.Fault.{Fault}
-use Rattle.claxon_format.specs.Frame.{Block, FrameBytesFault, Frames}
+use Rattle.claxon_format.specs.Frame.{Block, Frame, FrameBytesFault, Frames}
 use Rattle.claxon_format.specs.Heads.{Head, HeadCode, HeadFault}
 use Rattle.claxon_format.specs.Streams.{stream_of, with_samples}
 use Rattle.claxon_input.specs.State.{State}
 use Rattle.claxon_input.specs.Error.{IsFault, IsIo}
+use Rattle.claxon_input.specs.Promises.{Comes}
 use Rattle.claxon_input.specs.declared.error.Error.{Error}
 use Rattle.claxon_input.specs.declared.error.Error.TheVariants.{OutOfMemory}
+use Rattle.claxon.specs.Opening.{IsDropped}
 use Rattle.claxon.specs.SampleRuns.{samples_of}
-use Rattle.claxon_write.specs.Decoded.{IsLimit, Ran}
+use Rattle.claxon_write.specs.Decoded.{IsLimit}
+use Rattle.claxon_write.specs.Written.{AppendsFront}
 use Rattle.claxon_sample_bytes.specs.SampleBytes.{bytes_of_samples}
+
+-- s is a head, the frames of these blocks, and this rest.
+pub record IsHeadAndFrames (s : List ℕ) (head : Head) (blocks : List Block) (rest : List ℕ) : Type 0 where
+  pub front : List ℕ
+  pub frames : List ℕ
+  pub code : HeadCode (with_samples true) head front
+  pub joined : s ≡ front ++ frames
+  pub blocks_are : Frames (Some (stream_of head.info)) frames blocks rest
+
+-- ---- an Ok
+
+-- What is to come is a head, the frames of some blocks and a rest of fewer than two bytes, and just the samples of these blocks, n in number, were written.
+pub record Ran (n : ℕ) (s : State ℕ) (old new : Option (List ℕ)) : Type 0 where
+  pub blocks : List Block
+  pub count : n ≡ length (samples_of blocks)
+  pub written : Appends old new (bytes_of_samples (samples_of blocks))
+  pub stands : s.told ≡ true → (head : Head) × (rest : List ℕ) × IsHeadAndFrames s.coming head blocks rest × (length rest < 2)
 
 -- An Ok says that a head, the frames of blocks and a rest of fewer than two bytes were to come, and that just the samples of these blocks, so many, were written.
 abbrev pub RunsToTheEnd : {W : Type 0} → (W → Option (List ℕ)) → Result ℕ Error → State ℕ → W → W → Type 0
 RunsToTheEnd contents r s old new = IfOk r (λ n. Ran n s (contents old) (contents new))
+
+-- ---- an Err
 
 -- What is to come begins with the fault of a head that the error names, and nothing was written.
 pub record StopsAtHead (error : Error) (s : State ℕ) (old new : Option (List ℕ)) : Type 0 where
@@ -27,21 +49,32 @@ pub record StopsAtHead (error : Error) (s : State ℕ) (old new : Option (List �
   pub joined : s.coming ≡ front ++ rest
   pub kept : new ≡ old
 
--- the fault of a frame that the error names stands at the front of s, or the error is the limit of samples
-abbrev pub FrameStops : Head → Error → List ℕ → Type 0
-FrameStops head error s = IsLimit error ⊎ ((f : Fault) × IsFault f error × ((t : List ℕ) × (rest : List ℕ) × FrameBytesFault (Some (stream_of head.info)) f t × (s ≡ t ++ rest)))
+-- The error is the limit of samples, and s begins with a frame with whose block there are 2^64 samples or more.
+pub record LimitStands (head : Head) (blocks : List Block) (error : Error) (s : List ℕ) : Type 0 where
+  pub is_limit : IsLimit error
+  pub last : Block
+  pub front : List ℕ
+  pub rest : List ℕ
+  pub frame : Frame (Some (stream_of head.info)) last front
+  pub joined : s ≡ front ++ rest
+  pub many : 2 ^ 64 ≤ length (samples_of (blocks ++ last ∷ []))
 
--- What is to come is a head and the frames of blocks, behind which such a fault stands; just the samples of these were written.
+-- The error names the fault of a frame that s begins with.
+pub record FrameFaultStands (head : Head) (error : Error) (s : List ℕ) : Type 0 where
+  pub fault : Fault
+  pub named : IsFault fault error
+  pub front : List ℕ
+  pub rest : List ℕ
+  pub bad : FrameBytesFault (Some (stream_of head.info)) fault front
+  pub joined : s ≡ front ++ rest
+
+-- What is to come is a head and the frames of blocks, behind which such a fault or the limit stands; just the samples of these blocks were written.
 pub record StopsBehindFrames (error : Error) (s : State ℕ) (old new : Option (List ℕ)) : Type 0 where
   pub blocks : List Block
   pub head : Head
-  pub front : List ℕ
-  pub frames : List ℕ
   pub rest : List ℕ
-  pub code : HeadCode (with_samples true) head front
-  pub joined : s.coming ≡ front ++ frames
-  pub blocks_are : Frames (Some (stream_of head.info)) frames blocks rest
-  pub stops : FrameStops head error rest
+  pub stands : IsHeadAndFrames s.coming head blocks rest
+  pub stops : LimitStands head blocks error rest ⊎ FrameFaultStands head error rest
   pub written : Appends old new (bytes_of_samples (samples_of blocks))
 
 -- the error is the decoder's, and all samples before the fault were written
@@ -52,6 +85,33 @@ DecoderStops error s old new = s.told ≡ true → StopsAtHead error s old new �
 pub record StopsEarly (error : Error) (s : State ℕ) (old new : Option (List ℕ)) : Type 0 where
   pub why : (error ≡ OutOfMemory) ⊎ (IsIo error ⊎ DecoderStops error s old new)
 
--- An Err that is neither want of memory nor an `IoError` is the decoder's: a fault stands there, and just the samples before it were written.
+-- An Err that is neither want of memory nor an `IoError` is the decoder's: a fault or the limit of samples stands there, and just the samples before it were written.
 abbrev pub RunStops : {W : Type 0} → (W → Option (List ℕ)) → Result ℕ Error → State ℕ → W → W → Type 0
 RunStops contents r s old new = IfErr r (λ error. StopsEarly error s (contents old) (contents new))
+
+-- What is to come is a head, the frames of these blocks and a rest, and a front of the bytes of the samples of just these blocks was written; all of them, where the error is want of memory.
+pub record WritesFrontOfSamples (error : Error) (s : State ℕ) (old new : Option (List ℕ)) : Type 0 where
+  pub blocks : List Block
+  pub head : Head
+  pub rest : List ℕ
+  pub stands : IsHeadAndFrames s.coming head blocks rest
+  pub front : AppendsFront old new (bytes_of_samples (samples_of blocks))
+  pub all : error ≡ OutOfMemory → Appends old new (bytes_of_samples (samples_of blocks))
+
+-- Whatever an Err says, nothing was written, or a front of the samples of blocks whose frames stand behind a head.
+abbrev pub RunWritesFront : {W : Type 0} → (W → Option (List ℕ)) → Result ℕ Error → State ℕ → W → W → Type 0
+RunWritesFront contents r s old new = IfErr r (λ error. s.told ≡ true → (contents new ≡ contents old) ⊎ WritesFrontOfSamples error s (contents old) (contents new))
+
+-- ---- each stream
+
+-- Where a head, the frames of blocks of fewer than 2^64 samples in all, and then fewer than two bytes are to come, the answer is their number, or want of memory, or an `IoError`.
+abbrev pub RunIsComplete : Result ℕ Error → State ℕ → Type 0
+RunIsComplete r s =
+    (head : Head) (blocks : List Block) (xs rest : List ℕ) → Comes s xs → IsHeadAndFrames xs head blocks rest → length rest < 2 → length (samples_of blocks) < 2 ^ 64
+    → (r ≡ Ok (length (samples_of blocks))) ⊎ IsDropped r
+
+-- Where a fault stands in the head, or behind the frames of such blocks, it is named; or it is want of memory, or an `IoError`.
+pub record RunFaultIsComplete (r : Result ℕ Error) (s : State ℕ) : Type 0 where
+  pub in_head : (f : Fault) (t rest : List ℕ) → HeadFault (with_samples true) f t → Comes s (t ++ rest) → IsErrAnd r (IsFault f) ⊎ IsDropped r
+  pub behind : (head : Head) (blocks : List Block) (xs t rest : List ℕ) (f : Fault) → Comes s xs → IsHeadAndFrames xs head blocks (t ++ rest) → FrameBytesFault (Some (stream_of head.info)) f t → length (samples_of blocks) < 2 ^ 64
+      → IsErrAnd r (IsFault f) ⊎ IsDropped r

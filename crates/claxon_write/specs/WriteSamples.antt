@@ -1,29 +1,41 @@
 -- What `write_samples` promises, from what is to come and what the writer held to both after it.
-use Rattle.std.specs.Prelude.{◌≡◌, ◌⊎◌, ℕ, ◌<◌, ◌^◌, List, ◌++◌, length, Option, None, Some, Result, Ok, IfOk, IfErr, IsErrAnd}
+use Rattle.std.specs.Prelude.{◌≡◌, ◌⊎◌, ℕ, ◌<◌, ◌^◌, true, List, ◌++◌, length, Option, None, Some, Result, Ok, IfOk, IfErr, IsErrAnd}
 use Rattle.claxon_format.specs.Fault.{Fault}
 use Rattle.claxon_format.specs.Frame.{Block, FrameBytesFault, Frames}
 use Rattle.claxon_frame.specs.FrameReader.{stream_with}
 use Rattle.claxon_input.specs.declared.error.Error.{Error}
 use Rattle.claxon_input.specs.Error.{IsFault}
+use Rattle.claxon_input.specs.Gives.{IsRest}
 use Rattle.claxon_input.specs.Promises.{Comes, IsExcused}
-use Rattle.claxon.specs.FlacReader.{flac_streaminfo}
+use Rattle.claxon.specs.FlacReader.{flac_head, flac_metadata_only, flac_streaminfo}
 use Rattle.claxon.specs.Opening.{flac_bytes}
 use Rattle.claxon.specs.SampleRuns.{samples_of}
 use Rattle.claxon.specs.declared.reader.FlacReader.{FlacReader}
-use Rattle.claxon_write.specs.Decoded.{Decodes, FailsToWrite, WriterHasFailed}
-use Rattle.claxon_write.specs.Written.{output_failures}
+use Rattle.claxon_write.specs.Decoded.{Decodes, FailsToFlushAll, FailsToWrite, StopsDecoding, WriteHasFailed, WriterHasFailed}
+use Rattle.claxon_write.specs.Written.{IsFlushed, NothingFailed}
 use Rattle.claxon_write.specs.declared.output.Output.{Output}
 
--- An Ok says that the stream ended, that all its samples were written, so many and just these, and that nothing failed.
+-- What is shown of the stream stays, and so does whether it is metadata alone.
+pub record ShowsTheSame {R A : Type 0} (old new : FlacReader R A) : Type 0 where
+  pub metadata_only : flac_metadata_only new ≡ flac_metadata_only old
+  pub streaminfo : flac_streaminfo new ≡ flac_streaminfo old
+  pub head : flac_head new ≡ flac_head old
+
+-- The bytes to come are a rest of those before, where these are told.
+abbrev pub LeavesRestOfStream : {R A : Type 0} → (R → Option (List ℕ)) → FlacReader R A → FlacReader R A → Type 0
+LeavesRestOfStream remaining old new = (flac_bytes remaining old).told ≡ true → ((flac_bytes remaining new).told ≡ true) × IsRest (flac_bytes remaining old).coming (flac_bytes remaining new).coming
+
+-- An Ok says that the stream ended, that all its samples were written, so many and just these, and then flushed, and that nothing failed.
 abbrev pub WritesAll : {R A W : Type 0} → (W → Option (List ℕ)) → (R → Option (List ℕ)) → Result ℕ Error → FlacReader R A → FlacReader R A → Output W → Output W → Type 0
 WritesAll contents remaining r old new before after =
-    IfOk r (λ n. Decodes contents (Some (stream_with (flac_streaminfo old))) None n (flac_bytes remaining old) (flac_bytes remaining new) before after × (output_failures after ≡ output_failures before))
+    IfOk r (λ n. Decodes contents (Some (stream_with (flac_streaminfo old))) None n (flac_bytes remaining old) (flac_bytes remaining new) before after × NothingFailed before after × IsFlushed before after)
 
--- An Err is the decoder's, and all samples before it were written; or the writer's, and a front of them was.
+-- An Err is the decoder's, and all samples before it were written; or the writer's: a write failed, or the flush at the end of the stream.
 abbrev pub WritesUpTo : {R A W : Type 0} → (W → Option (List ℕ)) → (R → Option (List ℕ)) → Result ℕ Error → FlacReader R A → FlacReader R A → Output W → Output W → Type 0
 WritesUpTo contents remaining r old new before after =
-    IfErr r (λ error. ((n : ℕ) × Decodes contents (Some (stream_with (flac_streaminfo old))) (Some error) n (flac_bytes remaining old) (flac_bytes remaining new) before after)
-    ⊎ FailsToWrite contents (Some (stream_with (flac_streaminfo old))) error (flac_bytes remaining old) before after)
+    IfErr r (λ error. StopsDecoding contents (Some (stream_with (flac_streaminfo old))) error (flac_bytes remaining old) (flac_bytes remaining new) before after
+    ⊎ (FailsToWrite contents (Some (stream_with (flac_streaminfo old))) error (flac_bytes remaining old) (flac_bytes remaining new) before after
+    ⊎ FailsToFlushAll contents (Some (stream_with (flac_streaminfo old))) error (flac_bytes remaining old) (flac_bytes remaining new) before after))
 
 -- Where the frames of blocks of fewer than 2^64 samples in all, and then fewer than two bytes, are to come, just these samples are
 -- counted; or memory, the source or the writer failed.
@@ -32,8 +44,8 @@ EachStreamIsWritten remaining r old new before after =
     (blocks : List Block) (s rest : List ℕ) → Comes (flac_bytes remaining old) s → Frames (Some (stream_with (flac_streaminfo old))) s blocks rest → length rest < 2 → length (samples_of blocks) < 2 ^ 64
     → (r ≡ Ok (length (samples_of blocks))) ⊎ (IsExcused r (flac_bytes remaining old) (flac_bytes remaining new) ⊎ WriterHasFailed r before after)
 
--- Where behind the frames of such blocks a fault stands, it is named; or memory, the source or the writer failed.
+-- Where behind the frames of such blocks a fault stands, it is named; or memory, the source or a write failed.
 abbrev pub EachStreamFaultIsNamed : {R A W : Type 0} → (R → Option (List ℕ)) → Result ℕ Error → FlacReader R A → FlacReader R A → Output W → Output W → Type 0
 EachStreamFaultIsNamed remaining r old new before after =
     (blocks : List Block) (s t rest : List ℕ) (f : Fault) → Comes (flac_bytes remaining old) s → Frames (Some (stream_with (flac_streaminfo old))) s blocks (t ++ rest) → FrameBytesFault (Some (stream_with (flac_streaminfo old))) f t
-    → length (samples_of blocks) < 2 ^ 64 → IsErrAnd r (IsFault f) ⊎ (IsExcused r (flac_bytes remaining old) (flac_bytes remaining new) ⊎ WriterHasFailed r before after)
+    → length (samples_of blocks) < 2 ^ 64 → IsErrAnd r (IsFault f) ⊎ (IsExcused r (flac_bytes remaining old) (flac_bytes remaining new) ⊎ WriteHasFailed r before after)

@@ -1,5 +1,5 @@
 //! Bytes on their way to a writer.
-ghost use Rattle.std.specs.Prelude.{◌≡◌, ◌≤◌, ◌<◌, ◌+◌, ◌*◌, ◌-◌, ◌%◌, ◌^◌, ◌++◌, IfErr, OnOk, OnErr, [], length, take};
+ghost use Rattle.std.specs.Prelude.{◌≡◌, ◌≤◌, ◌<◌, ◌+◌, ◌*◌, ◌-◌, ◌%◌, ◌^◌, ◌++◌, IfErr, OnOk, OnErr, [], false, length, take, true};
 ghost use Rattle.std.specs.Io.KnownBytes.{Appends, Keeps};
 ghost use Rattle.claxon_input.specs.Error.{IsIo};
 ghost use Rattle.claxon_frame.specs.Block.{duration_of};
@@ -16,10 +16,14 @@ const CAPACITY: usize = 16384;
 // So many places of at most eight channels fill the bytes that are gathered.
 const MOST_PLACES: usize = 512;
 
-/// A writer, and how many of its writes and flushes failed. The count wraps.
+/// A writer, and what came of the calls of it. The counts wrap.
 struct Counted<'w, W> {
     inner: &'w mut W,
-    failures: u64,
+    failed_writes: u64,
+    failed_flushes: u64,
+    // How many flushes were asked for, and whether the last call was one.
+    flushes: u64,
+    is_flushed: bool,
 }
 
 impl<'w, W> Drop for Counted<'w, W> {
@@ -28,7 +32,10 @@ impl<'w, W> Drop for Counted<'w, W> {
     {
         let Counted {
             inner: _,
-            failures: _,
+            failed_writes: _,
+            failed_flushes: _,
+            flushes: _,
+            is_flushed: _,
         } = self;
     }
 }
@@ -40,27 +47,38 @@ impl<'w, W: Write> Counted<'w, W> {
         ensures same_reference { result.ghost_name ≡ self.entry.inner.ghost_name }
         ensures writer { result.now ≡ self.entry.inner.now }
     {
-        let Counted { inner, failures: _ } = self;
+        let Counted {
+            inner,
+            failed_writes: _,
+            failed_flushes: _,
+            flushes: _,
+            is_flushed: _,
+        } = self;
         inner
     }
 
-    // The one call of the writer's `write`. It wrote some of the bytes, or it failed.
+    // The one call of the writer's `write`, for bytes of which there are some. It wrote some of them, or it failed.
     fn write_some(&mut self, bytes: &[u8]) -> Result<usize>
+        requires some { 0 < length bytes.now }
         ensures same_reference { self.new.inner.ghost_name ≡ self.old.inner.ghost_name }
         ensures ok { WritesSome W.contents bytes.now result self.old self.new }
         ensures kept { OnErr result (Keeps (W.contents self.old.inner.now) (W.contents self.new.inner.now)) }
         ensures io { IfErr result (λ error. IsIo error) }
-        ensures told { OnOk result (self.new.failures ≡ self.old.failures) }
-        ensures failed { OnErr result (self.new.failures ≡ (self.old.failures + 1) % 2 ^ 64) }
+        ensures told { OnOk result (self.new.failed_writes ≡ self.old.failed_writes) }
+        ensures failed { OnErr result (self.new.failed_writes ≡ (self.old.failed_writes + 1) % 2 ^ 64) }
+        ensures failed_flushes { self.new.failed_flushes ≡ self.old.failed_flushes }
+        ensures flushes { self.new.flushes ≡ self.old.flushes }
+        ensures not_flushed { self.new.is_flushed ≡ false }
     {
+        self.is_flushed = false;
         match self.inner.write(bytes) {
             Ok(0) => {
-                self.failures = self.failures.wrapping_add(1);
+                self.failed_writes = self.failed_writes.wrapping_add(1);
                 Err(Error::IoError(io::Error::from(ErrorKind::WriteZero)))
             }
             Ok(count) => Ok(count),
             Err(error) => {
-                self.failures = self.failures.wrapping_add(1);
+                self.failed_writes = self.failed_writes.wrapping_add(1);
                 Err(Error::IoError(error))
             }
         }
@@ -72,8 +90,10 @@ impl<'w, W: Write> Counted<'w, W> {
         ensures ok { OnOk result (Appends (W.contents self.old.inner.now) (W.contents self.new.inner.now) bytes.now) }
         ensures front { WritesFront W.contents bytes.now result self.old self.new }
         ensures io { IfErr result (λ error. IsIo error) }
-        ensures told { OnOk result (self.new.failures ≡ self.old.failures) }
-        ensures failed { OnErr result (self.new.failures ≡ (self.old.failures + 1) % 2 ^ 64) }
+        ensures told { OnOk result (self.new.failed_writes ≡ self.old.failed_writes) }
+        ensures failed { OnErr result (self.new.failed_writes ≡ (self.old.failed_writes + 1) % 2 ^ 64) }
+        ensures failed_flushes { self.new.failed_flushes ≡ self.old.failed_flushes }
+        ensures flushes { self.new.flushes ≡ self.old.flushes }
     {
         let mut at = 0;
         while at < bytes.len() {
@@ -82,17 +102,23 @@ impl<'w, W: Write> Counted<'w, W> {
         Ok(())
     }
 
+    // The one call of the writer's `flush`.
     fn flush(&mut self) -> Result<()>
         ensures same_reference { self.new.inner.ghost_name ≡ self.old.inner.ghost_name }
         ensures kept { Keeps (W.contents self.old.inner.now) (W.contents self.new.inner.now) }
         ensures io { IfErr result (λ error. IsIo error) }
-        ensures told { OnOk result (self.new.failures ≡ self.old.failures) }
-        ensures failed { OnErr result (self.new.failures ≡ (self.old.failures + 1) % 2 ^ 64) }
+        ensures failed_writes { self.new.failed_writes ≡ self.old.failed_writes }
+        ensures told { OnOk result (self.new.failed_flushes ≡ self.old.failed_flushes) }
+        ensures failed { OnErr result (self.new.failed_flushes ≡ (self.old.failed_flushes + 1) % 2 ^ 64) }
+        ensures flushes { self.new.flushes ≡ (self.old.flushes + 1) % 2 ^ 64 }
+        ensures flushed { self.new.is_flushed ≡ true }
     {
+        self.flushes = self.flushes.wrapping_add(1);
+        self.is_flushed = true;
         match self.inner.flush() {
             Ok(()) => Ok(()),
             Err(error) => {
-                self.failures = self.failures.wrapping_add(1);
+                self.failed_flushes = self.failed_flushes.wrapping_add(1);
                 Err(Error::IoError(error))
             }
         }
@@ -153,19 +179,27 @@ pub struct Output<'w, W> {
 }
 
 impl<'w, W: Write> Output<'w, W> {
-    ghost use Rattle.claxon_write.specs.Lent.{output_name};
-    ghost use Rattle.claxon_write.specs.Output.{PutsAll, PutsFront, block_bytes};
-    ghost use Rattle.claxon_write.specs.Written.{held, output_failures, waiting};
+    ghost use Rattle.claxon_write.specs.Lent.{output_name, output_writer};
+    ghost use Rattle.claxon_write.specs.Output.{FlushFails, FlushesAll, PutsAll, PutsFront, block_bytes};
+    ghost use Rattle.claxon_write.specs.Written.{IsFlushed, IsUnflushed, failed_flushes_of, failed_writes_of, flushes_of, held, waiting, waiting_count};
 
-    /// Lends the writer. Nothing was gathered and nothing failed so far.
+    /// Lends the writer. Nothing was gathered, no write and no flush failed, and no flush was asked for so far.
     pub fn new(inner: &'w mut W) -> Output<'w, W>
         ensures same_reference { output_name result ≡ inner.entry.ghost_name }
         ensures held { held W.contents result ≡ W.contents inner.old }
         ensures none_wait { waiting result ≡ [] }
-        ensures failures { output_failures result ≡ 0 }
+        ensures failed_writes { failed_writes_of result ≡ 0 }
+        ensures failed_flushes { failed_flushes_of result ≡ 0 }
+        ensures flushes { flushes_of result ≡ 0 }
     {
         Output {
-            writer: Counted { inner, failures: 0 },
+            writer: Counted {
+                inner,
+                failed_writes: 0,
+                failed_flushes: 0,
+                flushes: 0,
+                is_flushed: false,
+            },
             gathered: Gathered {
                 bytes: [0; 16384],
                 used: 0,
@@ -176,7 +210,7 @@ impl<'w, W: Write> Output<'w, W> {
     /// Gives the writer back. What was gathered and not written is lost.
     pub fn into_inner(self) -> &'w mut W
         ensures same_reference { result.ghost_name ≡ output_name self.entry }
-        ensures writer { result.now ≡ self.entry.writer.inner.now }
+        ensures writer { result.now ≡ output_writer self.entry }
     {
         let Output {
             writer,
@@ -194,7 +228,9 @@ impl<'w, W: Write> Output<'w, W> {
     pub fn write_gathered(&mut self) -> Result<()>
         ensures same_reference { output_name self.new ≡ output_name self.old }
         ensures none_wait { waiting self.new ≡ [] }
-        ensures none { self.new.gathered.used ≡ 0 }
+        ensures none { waiting_count self.new ≡ 0 }
+        // No flush is asked for.
+        ensures unflushed { IsUnflushed self.old self.new }
         ensures ok { PutsAll W.contents [] result self.old self.new }
         ensures err { PutsFront W.contents [] result self.old self.new }
     {
@@ -209,8 +245,10 @@ impl<'w, W: Write> Output<'w, W> {
         ensures waiting { waiting self.new ≡ waiting self.old }
         ensures kept { Keeps (held W.contents self.old) (held W.contents self.new) }
         ensures io { IfErr result (λ error. IsIo error) }
-        ensures told { OnOk result (output_failures self.new ≡ output_failures self.old) }
-        ensures failed { OnErr result (output_failures self.new ≡ (output_failures self.old + 1) % 2 ^ 64) }
+        ensures failed_writes { failed_writes_of self.new ≡ failed_writes_of self.old }
+        ensures told { OnOk result (failed_flushes_of self.new ≡ failed_flushes_of self.old) }
+        ensures failed { OnErr result (failed_flushes_of self.new ≡ (failed_flushes_of self.old + 1) % 2 ^ 64) }
+        ensures flushed { IsFlushed self.old self.new }
     {
         self.writer.flush()
     }
@@ -219,12 +257,12 @@ impl<'w, W: Write> Output<'w, W> {
     ///
     /// # Errors
     ///
-    /// Those of `write_gathered`, and an `IoError` where the flush fails.
+    /// Those of `write_gathered`, and then nothing is flushed; and an `IoError` where the flush fails, when all was written.
     pub fn flush(&mut self) -> Result<()>
         ensures same_reference { output_name self.new ≡ output_name self.old }
         ensures none_wait { waiting self.new ≡ [] }
-        ensures ok { PutsAll W.contents [] result self.old self.new }
-        ensures err { PutsFront W.contents [] result self.old self.new }
+        ensures ok { FlushesAll W.contents result self.old self.new }
+        ensures err { FlushFails W.contents result self.old self.new }
     {
         self.write_gathered()?;
         self.flush_writer()
@@ -235,6 +273,7 @@ impl<'w, W: Write> Output<'w, W> {
         requires { size ≤ 16384 }
         ensures same_reference { output_name self.new ≡ output_name self.old }
         ensures room { OnOk result (self.new.gathered.used + size ≤ 16384) }
+        ensures unflushed { IsUnflushed self.old self.new }
         ensures ok { PutsAll W.contents [] result self.old self.new }
         ensures err { PutsFront W.contents [] result self.old self.new }
     {
@@ -251,6 +290,7 @@ impl<'w, W: Write> Output<'w, W> {
     /// Those of `write_gathered`.
     pub fn put(&mut self, bytes: &[u8]) -> Result<()>
         ensures same_reference { output_name self.new ≡ output_name self.old }
+        ensures unflushed { IsUnflushed self.old self.new }
         ensures ok { PutsAll W.contents bytes.now result self.old self.new }
         ensures err { PutsFront W.contents bytes.now result self.old self.new }
     {
@@ -270,6 +310,7 @@ impl<'w, W: Write> Output<'w, W> {
     #[tactic(auto, using(crate::proofs::MostPlaces::bytes_of_places))]
     pub fn put_block<A: Allocator>(&mut self, block: &Block<A>) -> Result<()>
         ensures same_reference { output_name self.new ≡ output_name self.old }
+        ensures unflushed { IsUnflushed self.old self.new }
         ensures ok { PutsAll W.contents (block_bytes block.now) result self.old self.new }
         ensures err { PutsFront W.contents (block_bytes block.now) result self.old self.new }
     {

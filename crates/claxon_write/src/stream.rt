@@ -1,13 +1,14 @@
 //! The samples of a stream, written as bytes.
 ghost use Rattle.std.specs.Prelude.{◌≡◌, ◌≤◌, false, Some};
 ghost use Rattle.claxon_format.specs.Frame.{IsWidth};
-ghost use Rattle.claxon.specs.FlacReader.{flac_head, flac_metadata_only, flac_streaminfo};
+ghost use Rattle.claxon.specs.FlacReader.{flac_metadata_only, flac_streaminfo};
 ghost use Rattle.claxon_frame.specs.FrameReader.{frame_bytes};
 ghost use Rattle.claxon.specs.Opening.{unread};
 ghost use Rattle.claxon_write.specs.Lent.{output_name};
-ghost use Rattle.claxon_write.specs.Run.{RunStops, RunsToTheEnd};
+ghost use Rattle.claxon_write.specs.Run.{RunFaultIsComplete, RunIsComplete, RunStops, RunWritesFront, RunsToTheEnd};
 ghost use Rattle.claxon_write.specs.WriteBlocks.{FailsToGatherBlocks, FailsToWriteBlocks, GathersBlocks, WritesBlocks};
-ghost use Rattle.claxon_write.specs.WriteSamples.{EachStreamFaultIsNamed, EachStreamIsWritten, WritesAll, WritesUpTo};
+ghost use Rattle.claxon_write.specs.WriteSamples.{EachStreamFaultIsNamed, EachStreamIsWritten, LeavesRestOfStream, ShowsTheSame, WritesAll, WritesUpTo};
+ghost use Rattle.claxon_write.specs.Written.{IsUnflushed};
 
 use crate::output::Output;
 use claxon::frame::FrameReader;
@@ -17,13 +18,16 @@ use claxon::{Error, FlacReader, Result};
 use std::alloc::Allocator;
 use std::io::{Read, Write};
 
+const TOO_MANY: &str = "more than 18446744073709551615 samples are not supported";
+
 /// Writes each sample of the input as four little-endian bytes, and answers how many there are.
 ///
 /// How often the writer failed is not told: for that use `write_samples`.
 ///
 /// # Errors
 ///
-/// The fault of the head, as `FlacReader::new` names it, and then nothing was written; else those of `write_samples`.
+/// The fault of the head, as `FlacReader::new` names it, and then nothing was written; else those of `write_samples`. Whatever
+/// the error, nothing but a front of the samples of blocks that stand behind the head was written.
 pub fn run<R: Read + Drop, W: Write, A: Allocator + Copy>(
     alloc: A,
     input: R,
@@ -33,6 +37,10 @@ pub fn run<R: Read + Drop, W: Write, A: Allocator + Copy>(
     ensures ok { RunsToTheEnd W.contents result (unread (R.remaining input)) output.old output.new }
     // A fault stands in the input, and just the samples before it were written; else it is an `IoError` or want of memory.
     ensures err { RunStops W.contents result (unread (R.remaining input)) output.old output.new }
+    // After an `IoError` or want of memory too.
+    ensures front { RunWritesFront W.contents result (unread (R.remaining input)) output.old output.new }
+    ensures complete { RunIsComplete result (unread (R.remaining input)) }
+    ensures named { RunFaultIsComplete result (unread (R.remaining input)) }
 {
     let mut flac = FlacReader::new(alloc, input)?;
     let mut output = Output::new(output);
@@ -47,7 +55,10 @@ pub fn run<R: Read + Drop, W: Write, A: Allocator + Copy>(
 ///
 /// The first fault of the decoder, or of the writer, an `IoError`. After a decoder's fault all samples before it were
 /// written, and the output was flushed; a flush that fails then changes nothing. After a failed write a front of the samples
-/// so far was written. `Unsupported` where the samples are 2^64 or more.
+/// so far was written, and nothing is flushed. `Unsupported` where the samples are 2^64 or more.
+///
+/// Just the frames of the blocks whose samples were handed on were taken, or also the end or the fault behind them, so the
+/// reader can be asked for what follows.
 pub fn write_samples<R: Read + Drop, W: Write, A: Allocator + Copy>(
     alloc: A,
     flac: &mut FlacReader<R, A>,
@@ -56,10 +67,11 @@ pub fn write_samples<R: Read + Drop, W: Write, A: Allocator + Copy>(
     requires { flac_metadata_only flac.old ≡ false }
     ensures same_reference { output_name output.new ≡ output_name output.old }
     // What is shown of the head stays.
-    ensures head { flac_head flac.new ≡ flac_head flac.old }
-    // All samples up to the end of the stream were written, and just these.
+    ensures head { ShowsTheSame flac.old flac.new }
+    ensures rest { LeavesRestOfStream R.remaining flac.old flac.new }
+    // All samples up to the end of the stream were written, and just these, and then flushed.
     ensures ok { WritesAll W.contents R.remaining result flac.old flac.new output.old output.new }
-    // All samples before a decoder's fault were written, or the writer failed.
+    // All samples before a decoder's fault were written, and then flushed, or the writer failed.
     ensures err { WritesUpTo W.contents R.remaining result flac.old flac.new output.old output.new }
     ensures complete { EachStreamIsWritten R.remaining result flac.old flac.new output.old output.new }
     ensures named { EachStreamFaultIsNamed R.remaining result flac.old flac.new output.old output.new }
@@ -76,7 +88,7 @@ fn decode_and_flush<R: Read + Drop, W: Write, A: Allocator + Copy>(
 ) -> Result<u64>
     requires { flac_metadata_only flac.old ≡ false }
     ensures same_reference { output_name output.new ≡ output_name output.old }
-    ensures head { flac_head flac.new ≡ flac_head flac.old }
+    ensures head { ShowsTheSame flac.old flac.new }
     ensures width { IsWidth (Some (flac_streaminfo flac.old).bits_per_sample) }
     ensures ok { WritesAll W.contents R.remaining result flac.old flac.new output.old output.new }
     ensures err { WritesUpTo W.contents R.remaining result flac.old flac.new output.old output.new }
@@ -113,7 +125,8 @@ fn write_blocks<R: ReadBytes, W: Write, A: Allocator + Copy>(
     requires most { info.bits_per_sample ≤ 32 }
     ensures same_reference { output_name output.new ≡ output_name output.old }
     ensures ok { WritesBlocks W.contents R.source info result input.old input.new output.old output.new }
-    ensures err { FailsToWriteBlocks W.contents R.source info result input.old output.old output.new }
+    ensures unflushed { IsUnflushed output.old output.new }
+    ensures err { FailsToWriteBlocks W.contents R.source info result input.old input.new output.old output.new }
 {
     let mut frames = FrameReader::with_streaminfo(input, info);
     let end = gather_blocks(alloc, &mut frames, output)?;
@@ -130,7 +143,8 @@ fn gather_blocks<R: ReadBytes, W: Write, A: Allocator + Copy>(
     ensures same_reference { output_name output.new ≡ output_name output.old }
     ensures loans { (frame_bytes R.source frames.new).loans ≡ (frame_bytes R.source frames.old).loans }
     ensures ok { GathersBlocks W.contents R.source result frames.old frames.new output.old output.new }
-    ensures err { FailsToGatherBlocks W.contents R.source result frames.old output.old output.new }
+    ensures unflushed { IsUnflushed output.old output.new }
+    ensures err { FailsToGatherBlocks W.contents R.source result frames.old frames.new output.old output.new }
 {
     let mut count = 0u64;
     let mut buffer = Vec::new(alloc);
@@ -139,19 +153,13 @@ fn gather_blocks<R: ReadBytes, W: Write, A: Allocator + Copy>(
             Ok(Some(block)) => block,
             Ok(None) => return Ok(End { count, fault: None }),
             Err(fault) => {
-                return Ok(End {
-                    count,
-                    fault: Some(fault),
-                });
+                let fault = Some(fault);
+                return Ok(End { count, fault });
             }
         };
         let Some(more) = count.checked_add(u64::from(block.len())) else {
-            return Ok(End {
-                count,
-                fault: Some(Error::Unsupported(
-                    "more than 18446744073709551615 samples are not supported",
-                )),
-            });
+            let fault = Some(Error::Unsupported(TOO_MANY));
+            return Ok(End { count, fault });
         };
         output.put_block(&block)?;
         count = more;

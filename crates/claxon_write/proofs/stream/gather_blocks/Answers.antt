@@ -7,7 +7,7 @@ use Rattle.claxon_write.proofs.Gathering.{reads_with, reads_loans, gathered_none
 use Rattle.claxon_write.proofs.stream.gather_blocks.Goals as goal
 
 pub loop-block-init : goal.loop-block-init
-loop-block-init g c = record { reference = refl; stream = refl; loans = refl; so_far = gathered_none (frame_bytes g.R.ReadBytes.source c.args.frames.now) c.args.output.now }
+loop-block-init g c = record { reference = refl; unflushed = refl; stream = refl; loans = refl; so_far = gathered_none (frame_bytes g.R.ReadBytes.source c.args.frames.now) c.args.output.now }
 
 pub loop-block-preserved : goal.loop-block-preserved
 loop-block-preserved g c =
@@ -17,6 +17,7 @@ loop-block-preserved g c =
     let more : c.loop-block.count + c.len.result ≡ c.in-Some.more = omega (arith, c.from.ensures, c.in-Some.ensures) in
     record {
       reference = c.in_ok-put_block.ensures.same_reference ∙ v.reference;
+      unflushed = c.in_ok-put_block.ensures.unflushed ∙ v.unflushed;
       stream = e.stream ∙ v.stream;
       loans = reads_loans reads ∙ v.loans;
       so_far = gathered_as more (gathered_more c.in-Ok-Some.block c.len.ensures v.so_far reads c.in_ok-put_block.ensures.ok);
@@ -32,7 +33,8 @@ pub returns-in-Err-clause-ok : goal.returns-in-Err-clause-ok
 returns-in-Err-clause-ok g c =
     let e = c.read_next_or_eof.ensures in
     let v = c.loop-block.invariant in
-    gathered_fault v.so_far (reads_with v.stream c.in-Err.is (reads_frame _ e.sound e.complete e.at_end e.ended e.no_failure e.fault e.named e.io e.front e.memory e.gives))
+    let k = gathered_fault v.so_far (reads_with v.stream c.in-Err.is (reads_frame _ e.sound e.complete e.at_end e.ended e.no_failure e.fault e.named e.io e.front e.memory e.gives)) in
+    search rules
 
 pub returns-in-Err-clause-err : goal.returns-in-Err-clause-err
 returns-in-Err-clause-err g c = search rules
@@ -51,7 +53,7 @@ returns-in_err-put_block-clause-err g c =
     let v = c.loop-block.invariant in
     let reads = reads_with v.stream (c.in-Ok-Some.is ∙ ap (λ (z : Option BlockValue). Ok z) c.in-Ok-Some.field-0-is) (reads_frame _ e.sound e.complete e.at_end e.ended e.no_failure e.fault e.named e.io e.front e.memory e.gives) in
     let p = err_from_is_err_and c.from_residual.result c.from_residual.ensures.1 in
-    rw (p.1, p.2) (gathered_fails c.in-Ok-Some.block v.so_far reads c.in_err-put_block.ensures.err)
+    rw (p.1, p.2) (gathered_fails c.in-Ok-Some.block v.so_far reads c.in_err-put_block.ensures.err (c.in_err-put_block.ensures.unflushed ∙ v.unflushed))
 
 pub returns-in-Ok-None-clause-loans : goal.returns-in-Ok-None-clause-loans
 returns-in-Ok-None-clause-loans g c =

@@ -1,4 +1,4 @@
-use Rattle.std.proofs.Common.{rules, sym}
+use Rattle.std.proofs.Common.{rules, sym, ◌∙◌}
 use Rattle.std.proofs.lemmas.Result.{err_from_is_err_and}
 use Rattle.claxon_frame.specs.FrameReader.{frame_input}
 use Rattle.claxon_write.proofs.Unlent.{same_name, decoded_through, fails_behind_through, fails_through}
@@ -16,12 +16,19 @@ returns-clause-ok g c =
 pub returns-in_err-end-clause-err : goal.returns-in_err-end-clause-err
 returns-in_err-end-clause-err g c =
     let p = err_from_is_err_and c.from_residual.result c.from_residual.ensures.1 in
+    let at = c.with_streaminfo-frames.ensures.input in
+    let q = frame_input c.gather_blocks.new.frames in
     let s = frame_input c.with_streaminfo-frames.result in
-    rw (p.1, p.2) (fails_through g.R.ReadBytes.source _ s s c.with_streaminfo-frames.ensures.input c.with_streaminfo-frames.ensures.stream c.in_err-end.ensures.err)
+    let e = sym (same_name g.R.ReadBytes.source _ s q at c.in_err-end.ensures.loans) in
+    let k = fails_through g.R.ReadBytes.source _ s q at c.with_streaminfo-frames.ensures.stream c.in_err-end.ensures.err in
+    rw (p.1, p.2) (search rules)
 
 pub returns-in_err-write_gathered-clause-err : goal.returns-in_err-write_gathered-clause-err
 returns-in_err-write_gathered-clause-err g c =
     let p = err_from_is_err_and c.from_residual-in_err-write_gathered.result c.from_residual-in_err-write_gathered.ensures.1 in
+    let at = c.with_streaminfo-frames.ensures.input in
     let q = frame_input c.gather_blocks.new.frames in
     let s = frame_input c.with_streaminfo-frames.result in
-    rw (p.1, p.2) (fails_behind_through g.R.ReadBytes.source _ s q c.with_streaminfo-frames.ensures.input c.with_streaminfo-frames.ensures.stream c.in_ok-end.end.fault c.in_ok-end.ensures.ok c.in_err-write_gathered.ensures.err)
+    let e = sym (same_name g.R.ReadBytes.source _ s q at c.in_ok-end.ensures.loans) in
+    let k = fails_behind_through g.R.ReadBytes.source _ s q at c.with_streaminfo-frames.ensures.stream c.in_ok-end.end.fault c.in_ok-end.ensures.ok c.in_err-write_gathered.ensures.err (c.write_gathered.ensures.unflushed ∙ c.gather_blocks.ensures.unflushed) in
+    rw (p.1, p.2) (search rules)

@@ -3,6 +3,9 @@ use Rattle.std.specs.Prelude.{List, ℕ, Some, ◌++◌}
 use Rattle.claxon.specs.FlacReader.{flac_streaminfo}
 use Rattle.claxon_frame.specs.FrameReader.{stream_with}
 use Rattle.claxon_format.specs.Frame.{Frames}
+use Rattle.claxon_input.specs.State.{bytes_in}
+use Rattle.claxon.specs.Opening.{flac_bytes}
+use Rattle.claxon_write.proofs.Rests.{answer_leaves}
 use Rattle.claxon_write.proofs.WholeRuns.{named_behind, written_whole}
 use Rattle.claxon_write.proofs.stream.write_samples.Goals as goal
 
@@ -15,3 +18,10 @@ pub returns-clause-named : goal.returns-clause-named
 returns-clause-named g c blocks s t rest f comes frames bad few =
     let e = c.decode_and_flush.ensures in
     named_behind _ e.width _ _ _ _ _ blocks _ comes.told (subst (λ (z : List ℕ). Frames (Some (stream_with (flac_streaminfo c.args.flac.now))) z blocks (t ++ rest)) (sym comes.are) frames) few c.decode_and_flush.result e.ok e.err f t rest bad refl
+
+pub returns-clause-rest : goal.returns-clause-rest
+unfolding bytes_in
+returns-clause-rest g c =
+    let e = c.decode_and_flush.ensures in
+    answer_leaves g.W.Write.contents (Some (stream_with (flac_streaminfo c.args.flac.now))) c.decode_and_flush.result (flac_bytes g.R.Read.remaining c.args.flac.now) (flac_bytes g.R.Read.remaining c.decode_and_flush.new.flac) c.args.output.now
+    c.decode_and_flush.new.output e.ok e.err

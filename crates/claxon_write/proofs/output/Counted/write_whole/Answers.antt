@@ -18,6 +18,8 @@ loop-at-preserved g c =
       subst P (sym (take_piece at n l inv.0)) (appends_more _ _ _ _ _ inv.1 w.2),
       c.in_ok-at.ensures.same_reference ∙ inv.2,
       c.in_ok-at.ensures.told ∙ inv.3,
+      c.in_ok-at.ensures.failed_flushes ∙ inv.4,
+      c.in_ok-at.ensures.flushes ∙ inv.5,
     )
 
 pub returns-in_err-at-clause-front : goal.returns-in_err-at-clause-front

@@ -6,7 +6,7 @@ use Rattle.claxon_write.proofs.Puts.{puts_none, puts_both, puts_as, puts_waiting
 use Rattle.claxon_write.proofs.output.Output.put.Goals as goal
 
 pub loop-from-init : goal.loop-from-init
-loop-from-init g c = record { inside = omega arith; reference = refl; puts = puts_none c.args.self.now }
+loop-from-init g c = record { inside = omega arith; reference = refl; unflushed = refl; puts = puts_none c.args.self.now }
 
 pub loop-from-preserved : goal.loop-from-preserved
 loop-from-preserved g c =
@@ -18,6 +18,7 @@ loop-from-preserved g c =
     record {
       inside = omega (arith, c.add_front-from.ensures.most, v.inside, length-take (length bytes - from) (drop from bytes), length-drop from bytes);
       reference = c.in_ok-make_room.ensures.same_reference ∙ v.reference;
+      unflushed = c.in_ok-make_room.ensures.unflushed ∙ v.unflushed;
       puts = puts_as (ap (λ (z : List ℕ). z ++ take n rest) (append-nil (take from bytes)) ∙ sym (take_piece from n bytes v.inside))
           (puts_both (puts_both v.puts c.in_ok-make_room.ensures.ok) (puts_waiting g.W.Write.contents c.make_room.new.self _ (take n rest) refl c.add_front-from.ensures.added));
     }

@@ -8,7 +8,7 @@ use Rattle.claxon_sample_bytes.proofs.SampleBytes.{bytes_more, bytes_none}
 use Rattle.claxon_write.proofs.output.Output.put_block.Goals as goal
 
 pub loop-from-init : goal.loop-from-init
-loop-from-init g c = record { inside = omega arith; reference = refl; puts = puts_as (sym (bytes_none c.args.block.now.channels)) (puts_none c.args.self.now) }
+loop-from-init g c = record { inside = omega arith; reference = refl; unflushed = refl; puts = puts_as (sym (bytes_none c.args.block.now.channels)) (puts_none c.args.self.now) }
 
 pub loop-from-preserved : goal.loop-from-preserved
 loop-from-preserved g c =
@@ -21,6 +21,7 @@ loop-from-preserved g c =
     record {
       inside = omega (arith, c.min-count.ensures, c.loop-from.invariant.inside);
       reference = c.in_ok-make_room.ensures.same_reference ∙ c.loop-from.invariant.reference;
+      unflushed = c.in_ok-make_room.ensures.unflushed ∙ c.loop-from.invariant.unflushed;
       puts = puts_as (bytes_more channels from n (from + n) refl) (puts_both (puts_as (append-nil first) (puts_both c.loop-from.invariant.puts c.in_ok-make_room.ensures.ok)) (puts_waiting g.W.Write.contents c.make_room.new.self _ (bytes_of_samples (places channels from n)) refl added));
     }
 

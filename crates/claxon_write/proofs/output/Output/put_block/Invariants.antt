@@ -1,13 +1,14 @@
 use Rattle.std.proofs.Common.{◌-◌, ◌≡◌, ◌≤◌}
 use Rattle.claxon_write.specs.Lent.{output_name}
 use Rattle.claxon_sample_bytes.specs.SampleBytes.{bytes_of_samples, places}
-use Rattle.claxon_write.specs.Written.{Puts}
+use Rattle.claxon_write.specs.Written.{IsUnflushed, Puts}
 use Rattle.claxon_write.proofs.output.Output.put_block.Given as goal
 
 abbrev pub invariant-loop-from : goal.invariant-loop-from
 invariant-loop-from g l = record {
   inside : l.from ≤ l.duration;
   reference : output_name l.self ≡ output_name l.initial.self;
+  unflushed : IsUnflushed l.initial.self l.self;
   puts : Puts g.W.Write.contents (bytes_of_samples (places l.block.channels 0 l.from)) l.initial.self l.self;
 }
 
