@@ -37,12 +37,15 @@ returns-clause-front g c =
 
 pub returns-clause-complete : goal.returns-clause-complete
 returns-clause-complete g c =
-    opened_complete g.R.Read.remaining c.args.input c.in_ok-flac.flac c.write_samples-outcome.new.flac c.write_samples-outcome.result c.new-output.result c.write_samples-outcome.new.output c.in_ok-flac.ensures.complete c.write_samples-outcome.ensures.complete
+    let k = opened_complete g.R.Read.remaining c.args.input c.in_ok-flac.flac c.write_samples-outcome.new.flac c.write_samples-outcome.result c.new-output.result c.write_samples-outcome.new.output c.in_ok-flac.ensures.complete
+    c.write_samples-outcome.ensures.complete in
+    search rules
 
 pub returns-clause-named : goal.returns-clause-named
 returns-clause-named g c =
-    opened_named g.R.Read.remaining c.args.input c.in_ok-flac.flac c.write_samples-outcome.new.flac c.write_samples-outcome.result c.new-output.result c.write_samples-outcome.new.output c.in_ok-flac.ensures.complete c.write_samples-outcome.ensures.named
-    c.in_ok-flac.ensures.named
+    let k = opened_named g.R.Read.remaining c.args.input c.in_ok-flac.flac c.write_samples-outcome.new.flac c.write_samples-outcome.result c.new-output.result c.write_samples-outcome.new.output c.in_ok-flac.ensures.complete
+    c.write_samples-outcome.ensures.named c.in_ok-flac.ensures.named in
+    search rules
 
 pub returns-in_err-flac-clause-err : goal.returns-in_err-flac-clause-err
 returns-in_err-flac-clause-err g c =

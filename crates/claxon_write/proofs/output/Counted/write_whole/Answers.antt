@@ -29,3 +29,6 @@ returns-in_err-at-clause-front g c =
 
 pub returns-clause-ok : goal.returns-clause-ok
 returns-clause-ok g c = grind (arith, common_steps)
+
+pub write_some-requires : goal.write_some-requires
+write_some-requires g c = grind (arith, common_steps)
