@@ -130,7 +130,8 @@ fn write_blocks<R: ReadBytes, W: Write, A: Allocator + Copy>(
 {
     let mut frames = FrameReader::with_streaminfo(input, info);
     let end = gather_blocks(alloc, &mut frames, output)?;
-    output.write_gathered()?;
+    let written = output.write_gathered();
+    written?;
     Ok(end)
 }
 
