@@ -19,7 +19,7 @@ use Rattle.claxon.specs.SampleRuns.{samples_of}
 use Rattle.claxon.specs.declared.reader.FlacReader.{FlacReader}
 use Rattle.claxon_sample_bytes.specs.SampleBytes.{bytes_of_samples}
 use Rattle.claxon_write.specs.Decoded.{Decodes, EndsAfter, FailsToFlushAll, FailsToWrite, StopsDecoding, TakesBlocks, TooMany}
-use Rattle.claxon_write.specs.Run.{DecoderStops, FrameFaultStands, IsHeadAndFrames, LimitStands, Ran, RunFaultIsComplete, RunIsComplete, StopsBehindFrames, StopsEarly, WritesFrontOfSamples}
+use Rattle.claxon_write.specs.Run.{DecoderStops, FrameFaultStands, IsHeadAndFrames, LimitStands, Ran, RunFaultIsComplete, RunIsComplete, StopsBehindFrames, StopsEarly, WritesFrontOfSamples, WritesNoMore}
 use Rattle.claxon_write.specs.WriteSamples.{EachStreamFaultIsNamed, EachStreamIsWritten}
 use Rattle.claxon_write.specs.Written.{AppendsFront, IsFlushed, NothingFailed, held, waiting}
 use Rattle.claxon_write.specs.declared.output.Output.{Output}
@@ -126,11 +126,11 @@ module _ {W : Type 0} (contents : W → Option (List ℕ)) (h : Head) (s a b : S
         all = λ m. absurd (io_not_memory e k.is_io m);
       }
 
-  pub fronts : (r : Result ℕ Error) → IfErr r (λ e. Stopped e) → IfErr r (λ e. s.told ≡ true → (held contents y ≡ o) ⊎ WritesFrontOfSamples e s o (held contents y))
+  pub fronts : (r : Result ℕ Error) → IfErr r (λ e. Stopped e) → IfErr r (λ e. WritesNoMore e s o (held contents y))
   fronts (Ok n) k = tt
-  fronts (Err e) (inl k) = λ told. inr (front_whole e k.decoded told)
-  fronts (Err e) (inr (inl k)) = λ told. inr (front_part e k told)
-  fronts (Err e) (inr (inr k)) = λ told. inr (front_whole e k.decoded told)
+  fronts (Err e) (inl k) = record { written = λ told. inr (front_whole e k.decoded told) }
+  fronts (Err e) (inr (inl k)) = record { written = λ told. inr (front_part e k told) }
+  fronts (Err e) (inr (inr k)) = record { written = λ told. inr (front_whole e k.decoded told) }
 
 -- a head's fault
 pub refused : (s : State ℕ) (o : Option (List ℕ)) (e : Error) → (e ≡ OutOfMemory) ⊎ (IsIo e ⊎ (s.told ≡ true → (f : Fault) × IsFault f e × ((t : List ℕ) × (rest : List ℕ) × HeadFault (with_samples true) f t × (s.coming ≡ t ++ rest))))

@@ -2,7 +2,8 @@
 use Rattle.std.specs.Borrow.{GName, MutBor}
 use Rattle.claxon_input.specs.Source.{Source, through_loan}
 use Rattle.std.proofs.Common.{◌≡◌, inl, inr, ℕ, ◌+◌, ◌%◌, ◌^◌, List, [], ◌∷◌, Option, None, Some, ap, subst, ◌∙◌, append-nil}
-use Rattle.std.specs.Prelude.{OnErr, OnOk, ◌⊎◌, Result, Ok, Err}
+use Rattle.std.specs.Prelude.{IfErr, IfOk, OnErr, OnOk, ◌⊎◌, Result, Ok, Err}
+use Rattle.std.specs.Result.{result_and}
 use Rattle.std.specs.Io.KnownBytes.{Keeps}
 use Rattle.claxon_format.specs.Frame.{StreamShape, Block}
 use Rattle.claxon_format.specs.read.Frame.{frame_bytes_at}
@@ -21,6 +22,7 @@ use Rattle.claxon_write.specs.Decoded.{EndsAfter, Gathers, Decodes, FailsToFlush
 use Rattle.claxon_sample_bytes.specs.SampleBytes.{bytes_of_samples}
 use Rattle.claxon_write.specs.Written.{FailsToPut, FlushFailed, IsFlushed, IsUnflushed, NothingFailed, Puts, failed_flushes_of, failed_writes_of, held, held_and_waiting, waiting}
 use Rattle.claxon_write.specs.declared.output.Output.{Output}
+use Rattle.claxon_write.specs.declared.stream.End.{End}
 use Rattle.claxon_write.proofs.Puts.{puts_both, puts_as, fails_after, fails_as, flush_failed_after, flushed_after, held_alone, none_failed_both, appends_keeps}
 
 rest_of : List GName → List GName
@@ -135,15 +137,14 @@ same_name source r s q e h =
     n ∙ ap (λ (x : MutBor _). x.ghost_name) e
 
 module _ {R W : Type 0} (source : R → Source ℕ) {contents : W → Option (List ℕ)} {stream known : Option StreamShape} (r s q : MutBor R) (at : s ≡ r) (same : stream ≡ known) where
-  pub decoded_through : {n : ℕ} (end : Option Error) {x y z : Output W} → Gathers contents stream end n (bytes_in (lent source) s) (bytes_in (lent source) q) x y → Puts contents [] y z → waiting z ≡ []
-      → Decodes contents known end n (bytes_in source r.now) (bytes_in source q.now) x z × NothingFailed x z
+  -- what was gathered is written, and then the end is answered
+  pub written_through : (end : End) (o : Result (Unit {0}) Error) (x y z : Output W) → Gathers contents stream end.fault end.count (bytes_in (lent source) s) (bytes_in (lent source) q) x y → OnOk o (Puts contents [] y z) → IfErr o (λ e. FailsToPut contents [] e y z)
+      → waiting z ≡ [] → IsUnflushed x z
+      → IfOk (result_and o (Ok end)) (λ end. Decodes contents known end.fault end.count (bytes_in source r.now) (bytes_in source q.now) x z × NothingFailed x z)
+      × IfErr (result_and o (Ok end)) (λ e. FailsToWrite contents known e (bytes_in source r.now) (bytes_in source q.now) x z)
   unfolding unlent bytes_in rest_of
-  decoded_through end h k none = rw (← at, ← same) (decoded end h k none)
-
-  pub fails_behind_through : {n : ℕ} (end : Option Error) {error : Error} {x y z : Output W} → Gathers contents stream end n (bytes_in (lent source) s) (bytes_in (lent source) q) x y → FailsToPut contents [] error y z → IsUnflushed x z
-      → FailsToWrite contents known error (bytes_in source r.now) (bytes_in source q.now) x z
-  unfolding unlent bytes_in rest_of
-  fails_behind_through end h k u = rw (← at, ← same) (fails_behind end h k u)
+  written_through end (Ok done) x y z h k f none u = (rw (← at, ← same) (decoded end.fault h k none), tt)
+  written_through end (Err e) x y z h k f none u = (tt, rw (← at, ← same) (fails_behind end.fault h f u))
 
   pub fails_through : {error : Error} {x y : Output W} → FailsToWrite contents stream error (bytes_in (lent source) s) (bytes_in (lent source) q) x y → FailsToWrite contents known error (bytes_in source r.now) (bytes_in source q.now) x y
   unfolding unlent bytes_in rest_of
@@ -176,11 +177,17 @@ module _ {W : Type 0} {contents : W → Option (List ℕ)} where
     stops_flushed {n = n} q r e h none unflushed k l writes told failed flushed =
         record { count = n; decoded = decodes_flushed q e h k l; flushed = flushed_after unflushed flushed; failed = either_failed r none writes told failed }
 
-    pub flush_fails_shown : {end : Option Error} {n : ℕ} {error : Error} (q : R) {x z w : Output W} → end ≡ None → Decodes contents (Some (stream_with info)) end n (bytes_in source u) (bytes_in source q) x z → NothingFailed x z → IsUnflushed x z
-        → Keeps (held contents z) (held contents w) → waiting w ≡ waiting z → failed_writes_of w ≡ failed_writes_of z → IsIo error → failed_flushes_of w ≡ (failed_flushes_of z + 1) % 2 ^ 64 → IsFlushed z w
-        → FailsToFlushAll contents (Some (stream_with shown)) error (bytes_in source v) (bytes_in source q) x w
-    flush_fails_shown {n = n} q e h none unflushed k l writes io failed flushed =
-        record { is_io = io; failed = flush_failed_after none (record { writes = writes; flushes = failed }); flushed = flushed_after unflushed flushed; count = n; decoded = decodes_flushed q e h k l }
+    -- the stream ended, and all was written and flushed, or the flush failed
+    pub all_flushed : {end : Option Error} (n : ℕ) (q : R) (r : Result (Unit {0}) Error) {x z w : Output W} → end ≡ None → Decodes contents (Some (stream_with info)) end n (bytes_in source u) (bytes_in source q) x z → NothingFailed x z → IsUnflushed x z
+        → Keeps (held contents z) (held contents w) → waiting w ≡ waiting z → failed_writes_of w ≡ failed_writes_of z → OnOk r (failed_flushes_of w ≡ failed_flushes_of z) → OnErr r (failed_flushes_of w ≡ (failed_flushes_of z + 1) % 2 ^ 64) → IsFlushed z w → IfErr r (λ e. IsIo e)
+        → IfOk (result_and r (Ok n)) (λ n. Decodes contents (Some (stream_with shown)) None n (bytes_in source v) (bytes_in source q) x w × NothingFailed x w × IsFlushed x w)
+        × IfErr (result_and r (Ok n)) (λ error. StopsDecoding contents (Some (stream_with shown)) error (bytes_in source v) (bytes_in source q) x w
+        ⊎ (FailsToWrite contents (Some (stream_with shown)) error (bytes_in source v) (bytes_in source q) x w ⊎ FailsToFlushAll contents (Some (stream_with shown)) error (bytes_in source v) (bytes_in source q) x w))
+    all_flushed n q (Ok done) e h none unflushed k l writes told failed flushed io = ((decodes_flushed q e h k l, none_failed_both none (record { writes = writes; flushes = told }), flushed_after unflushed flushed), tt)
+    all_flushed n q (Err error) e h none unflushed k l writes told failed flushed io = (
+      tt,
+      inr (inr (record { is_io = io; failed = flush_failed_after none (record { writes = writes; flushes = failed }); flushed = flushed_after unflushed flushed; count = n; decoded = decodes_flushed q e h k l })),
+    )
 
     pub fails_shown : {error : Error} (q : R) {x y : Output W} → FailsToWrite contents (Some (stream_with info)) error (bytes_in source u) (bytes_in source q) x y → FailsToWrite contents (Some (stream_with shown)) error (bytes_in source v) (bytes_in source q) x y
     fails_shown {error = error} q {x = x} {y = y} h =

@@ -98,9 +98,13 @@ pub record WritesFrontOfSamples (error : Error) (s : State ℕ) (old new : Optio
   pub front : AppendsFront old new (bytes_of_samples (samples_of blocks))
   pub all : error ≡ OutOfMemory → Appends old new (bytes_of_samples (samples_of blocks))
 
--- Whatever an Err says, nothing was written, or a front of the samples of blocks whose frames stand behind a head.
+-- Where the input is told, nothing was written, or a front of the samples of blocks whose frames stand behind a head.
+pub record WritesNoMore (error : Error) (s : State ℕ) (old new : Option (List ℕ)) : Type 0 where
+  pub written : s.told ≡ true → (new ≡ old) ⊎ WritesFrontOfSamples error s old new
+
+-- Whatever an Err says, nothing was written but a front of the samples of blocks whose frames stand behind a head.
 abbrev pub RunWritesFront : {W : Type 0} → (W → Option (List ℕ)) → Result ℕ Error → State ℕ → W → W → Type 0
-RunWritesFront contents r s old new = IfErr r (λ error. s.told ≡ true → (contents new ≡ contents old) ⊎ WritesFrontOfSamples error s (contents old) (contents new))
+RunWritesFront contents r s old new = IfErr r (λ error. WritesNoMore error s (contents old) (contents new))
 
 -- ---- each stream
 

@@ -99,8 +99,7 @@ fn decode_and_flush<R: Read + Drop, W: Write, A: Allocator + Copy>(
     if let Some(fault) = end.fault {
         return Err(fault);
     }
-    flushed?;
-    Ok(end.count)
+    flushed.and(Ok(end.count))
 }
 
 /// How many samples were written, and the decoder's fault that ended them.
@@ -131,8 +130,7 @@ fn write_blocks<R: ReadBytes, W: Write, A: Allocator + Copy>(
     let mut frames = FrameReader::with_streaminfo(input, info);
     let end = gather_blocks(alloc, &mut frames, output)?;
     let written = output.write_gathered();
-    written?;
-    Ok(end)
+    written.and(Ok(end))
 }
 
 // Gathers block after block. An error is the writer's.

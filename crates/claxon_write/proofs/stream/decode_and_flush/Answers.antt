@@ -1,20 +1,26 @@
-use Rattle.std.proofs.Common.{◌≡◌, inl, inr, rules}
+use Rattle.std.proofs.Common.{inl, inr, rules}
 use Rattle.std.proofs.lemmas.Result.{err_from_is_err_and}
 use Rattle.claxon_input.specs.BufferedReader.{buffered_source}
-use Rattle.claxon_write.specs.Written.{failed_flushes_of}
-use Rattle.claxon_write.proofs.Puts.{flushed_after, none_failed_both}
-use Rattle.claxon_write.proofs.Unlent.{decodes_flushed, fails_shown, flush_fails_shown, stops_flushed}
+use Rattle.claxon_write.proofs.Unlent.{all_flushed, fails_shown, stops_flushed}
 use Rattle.claxon_write.proofs.stream.decode_and_flush.Goals as goal
 
 pub returns-clause-ok : goal.returns-clause-ok
 returns-clause-ok g c =
     let k = c.in_ok-end.ensures.ok in
     let f = c.flush_writer-flushed.ensures in
-    let none_failed : failed_flushes_of c.flush_writer-flushed.new.self ≡ failed_flushes_of c.write_blocks.new.output = search rules in (
-      decodes_flushed (buffered_source g.R.Read.remaining) c.streaminfo-info.ensures.value c.input.ensures.input c.write_blocks.new.input c.in_default.is k.0 f.kept f.waiting,
-      none_failed_both k.1 (record { writes = f.failed_writes; flushes = none_failed }),
-      flushed_after c.in_ok-end.ensures.unflushed f.flushed,
-    )
+    let all = all_flushed (buffered_source g.R.Read.remaining) c.streaminfo-info.ensures.value c.input.ensures.input c.in_ok-end.end.count c.write_blocks.new.input c.flush_writer-flushed.result c.in_default.is k.0 k.1 c.in_ok-end.ensures.unflushed f.kept f.waiting f.failed_writes f.told
+    f.failed f.flushed f.io in
+    let j = all.0 in
+    rw c.and.ensures (search rules)
+
+pub returns-clause-err : goal.returns-clause-err
+returns-clause-err g c =
+    let k = c.in_ok-end.ensures.ok in
+    let f = c.flush_writer-flushed.ensures in
+    let all = all_flushed (buffered_source g.R.Read.remaining) c.streaminfo-info.ensures.value c.input.ensures.input c.in_ok-end.end.count c.write_blocks.new.input c.flush_writer-flushed.result c.in_default.is k.0 k.1 c.in_ok-end.ensures.unflushed f.kept f.waiting f.failed_writes f.told
+    f.failed f.flushed f.io in
+    let j = all.1 in
+    rw c.and.ensures (search rules)
 
 pub returns-in-Some-clause-err : goal.returns-in-Some-clause-err
 returns-in-Some-clause-err g c =
@@ -26,10 +32,3 @@ pub returns-in_err-end-clause-err : goal.returns-in_err-end-clause-err
 returns-in_err-end-clause-err g c =
     let p = err_from_is_err_and c.from_residual.result c.from_residual.ensures.1 in
     rw (p.1, p.2) (inr (inl (fails_shown (buffered_source g.R.Read.remaining) c.streaminfo-info.ensures.value c.input.ensures.input c.write_blocks.new.input c.in_err-end.ensures.err)))
-
-pub returns-in_err-flushed-clause-err : goal.returns-in_err-flushed-clause-err
-returns-in_err-flushed-clause-err g c =
-    let p = err_from_is_err_and c.from_residual-in_err-flushed.result c.from_residual-in_err-flushed.ensures.1 in
-    let k = c.in_ok-end.ensures.ok in
-    let f = c.flush_writer-flushed.ensures in
-    rw (p.1, p.2) (inr (inr (flush_fails_shown (buffered_source g.R.Read.remaining) c.streaminfo-info.ensures.value c.input.ensures.input c.write_blocks.new.input c.in_default.is k.0 k.1 c.in_ok-end.ensures.unflushed f.kept f.waiting f.failed_writes c.in_err-flushed.ensures.io c.in_err-flushed.ensures.failed f.flushed)))

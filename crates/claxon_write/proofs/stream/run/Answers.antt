@@ -55,7 +55,7 @@ returns-in_err-flac-clause-err g c =
 pub returns-in_err-flac-clause-front : goal.returns-in_err-flac-clause-front
 returns-in_err-flac-clause-front g c =
     let p = err_from_is_err_and c.from_residual.result c.from_residual.ensures.1 in
-    rw (p.1, p.2) (λ told. inl refl)
+    rw (p.1, p.2) (record { written = λ told. inl refl })
 
 pub returns-in_err-flac-clause-complete : goal.returns-in_err-flac-clause-complete
 returns-in_err-flac-clause-complete g c =

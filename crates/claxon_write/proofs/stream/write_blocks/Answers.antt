@@ -1,8 +1,7 @@
-use Rattle.std.proofs.Common.{[], rules, sym, ◌∙◌}
+use Rattle.std.proofs.Common.{rules, sym, ◌∙◌}
 use Rattle.std.proofs.lemmas.Result.{err_from_is_err_and}
 use Rattle.claxon_frame.specs.FrameReader.{frame_input}
-use Rattle.claxon_write.specs.Written.{Puts}
-use Rattle.claxon_write.proofs.Unlent.{same_name, decoded_through, fails_behind_through, fails_through}
+use Rattle.claxon_write.proofs.Unlent.{same_name, fails_through, written_through}
 use Rattle.claxon_write.proofs.stream.write_blocks.Goals as goal
 
 pub returns-clause-ok : goal.returns-clause-ok
@@ -11,9 +10,21 @@ returns-clause-ok g c =
     let q = frame_input c.gather_blocks.new.frames in
     let s = frame_input c.with_streaminfo-frames.result in
     let e = sym (same_name g.R.ReadBytes.source _ s q at c.in_ok-end.ensures.loans) in
-    let puts : Puts g.W.Write.contents [] c.gather_blocks.new.output c.write_gathered-written.new.self = search rules in
-    let k = decoded_through g.R.ReadBytes.source _ s q at c.with_streaminfo-frames.ensures.stream c.in_ok-end.end.fault c.in_ok-end.ensures.ok puts c.write_gathered-written.ensures.none_wait in
-    search rules
+    let w = c.write_gathered-written.ensures in
+    let k = written_through g.R.ReadBytes.source _ s q at c.with_streaminfo-frames.ensures.stream c.in_ok-end.end c.write_gathered-written.result c.args.output.now c.gather_blocks.new.output c.write_gathered-written.new.self c.in_ok-end.ensures.ok w.ok w.err w.none_wait (w.unflushed ∙ c.in_ok-end.ensures.unflushed) in
+    let j = k.0 in
+    rw c.and.ensures (search rules)
+
+pub returns-clause-err : goal.returns-clause-err
+returns-clause-err g c =
+    let at = c.with_streaminfo-frames.ensures.input in
+    let q = frame_input c.gather_blocks.new.frames in
+    let s = frame_input c.with_streaminfo-frames.result in
+    let e = sym (same_name g.R.ReadBytes.source _ s q at c.in_ok-end.ensures.loans) in
+    let w = c.write_gathered-written.ensures in
+    let k = written_through g.R.ReadBytes.source _ s q at c.with_streaminfo-frames.ensures.stream c.in_ok-end.end c.write_gathered-written.result c.args.output.now c.gather_blocks.new.output c.write_gathered-written.new.self c.in_ok-end.ensures.ok w.ok w.err w.none_wait (w.unflushed ∙ c.in_ok-end.ensures.unflushed) in
+    let j = k.1 in
+    rw c.and.ensures (search rules)
 
 pub returns-in_err-end-clause-err : goal.returns-in_err-end-clause-err
 returns-in_err-end-clause-err g c =
@@ -23,14 +34,4 @@ returns-in_err-end-clause-err g c =
     let s = frame_input c.with_streaminfo-frames.result in
     let e = sym (same_name g.R.ReadBytes.source _ s q at c.in_err-end.ensures.loans) in
     let k = fails_through g.R.ReadBytes.source _ s q at c.with_streaminfo-frames.ensures.stream c.in_err-end.ensures.err in
-    rw (p.1, p.2) (search rules)
-
-pub returns-in_err-written-clause-err : goal.returns-in_err-written-clause-err
-returns-in_err-written-clause-err g c =
-    let p = err_from_is_err_and c.from_residual-in_err-written.result c.from_residual-in_err-written.ensures.1 in
-    let at = c.with_streaminfo-frames.ensures.input in
-    let q = frame_input c.gather_blocks.new.frames in
-    let s = frame_input c.with_streaminfo-frames.result in
-    let e = sym (same_name g.R.ReadBytes.source _ s q at c.in_ok-end.ensures.loans) in
-    let k = fails_behind_through g.R.ReadBytes.source _ s q at c.with_streaminfo-frames.ensures.stream c.in_ok-end.end.fault c.in_ok-end.ensures.ok c.in_err-written.ensures.err (c.write_gathered-written.ensures.unflushed ∙ c.gather_blocks.ensures.unflushed) in
     rw (p.1, p.2) (search rules)
