@@ -103,8 +103,8 @@ pub record WritesNoMore (error : Error) (s : State ℕ) (old new : Option (List 
   pub written : s.told ≡ true → (new ≡ old) ⊎ WritesFrontOfSamples error s old new
 
 -- Whatever an Err says, nothing was written but a front of the samples of blocks whose frames stand behind a head.
-abbrev pub RunWritesFront : {W : Type 0} → (W → Option (List ℕ)) → Result ℕ Error → State ℕ → W → W → Type 0
-RunWritesFront contents r s old new = IfErr r (λ error. WritesNoMore error s (contents old) (contents new))
+abbrev pub RunPutsFront : {W : Type 0} → (W → Option (List ℕ)) → Result ℕ Error → State ℕ → W → W → Type 0
+RunPutsFront contents r s old new = IfErr r (λ error. WritesNoMore error s (contents old) (contents new))
 
 -- ---- each stream
 

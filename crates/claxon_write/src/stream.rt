@@ -5,7 +5,7 @@ ghost use Rattle.claxon.specs.FlacReader.{flac_metadata_only, flac_streaminfo};
 ghost use Rattle.claxon_frame.specs.FrameReader.{frame_bytes};
 ghost use Rattle.claxon.specs.Opening.{unread};
 ghost use Rattle.claxon_write.specs.Lent.{output_name};
-ghost use Rattle.claxon_write.specs.Run.{RunFaultIsComplete, RunIsComplete, RunStops, RunWritesFront, RunsToTheEnd};
+ghost use Rattle.claxon_write.specs.Run.{RunFaultIsComplete, RunIsComplete, RunStops, RunPutsFront, RunsToTheEnd};
 ghost use Rattle.claxon_write.specs.WriteBlocks.{FailsToGatherBlocks, FailsToWriteBlocks, GathersBlocks, WritesBlocks};
 ghost use Rattle.claxon_write.specs.WriteSamples.{EachStreamFaultIsNamed, EachStreamIsWritten, LeavesRestOfStream, ShowsTheSame, WritesAll, WritesUpTo};
 ghost use Rattle.claxon_write.specs.Written.{IsUnflushed};
@@ -38,7 +38,7 @@ pub fn run<R: Read + Drop, W: Write, A: Allocator + Copy>(
     // A fault stands in the input, and just the samples before it were written; else it is an `IoError` or want of memory.
     ensures err { RunStops W.contents result (unread (R.remaining input)) output.old output.new }
     // After an `IoError` or want of memory too.
-    ensures front { RunWritesFront W.contents result (unread (R.remaining input)) output.old output.new }
+    ensures front { RunPutsFront W.contents result (unread (R.remaining input)) output.old output.new }
     ensures complete { RunIsComplete result (unread (R.remaining input)) }
     ensures named { RunFaultIsComplete result (unread (R.remaining input)) }
 {

@@ -14,13 +14,12 @@ loop-block-preserved g c =
     let e = c.read_next_or_eof.ensures in
     let v = c.loop-block.invariant in
     let reads = reads_with v.stream (c.in-Ok-Some.is ∙ ap (λ (z : Option BlockValue). Ok z) c.in-Ok-Some.field-0-is) (reads_frame _ e.sound e.complete e.at_end e.ended e.no_failure e.fault e.named e.io e.front e.memory e.gives) in
-    let more : c.loop-block.count + c.len.result ≡ c.in-Some.more = omega (arith, c.from.ensures, c.in-Some.ensures) in
     record {
       reference = c.in_ok-put_block.ensures.same_reference ∙ v.reference;
       unflushed = c.in_ok-put_block.ensures.unflushed ∙ v.unflushed;
       stream = e.stream ∙ v.stream;
       loans = reads_loans reads ∙ v.loans;
-      so_far = gathered_as more (gathered_more c.in-Ok-Some.block c.len.ensures v.so_far reads c.in_ok-put_block.ensures.ok);
+      so_far = gathered_as {n = c.loop-block.count + c.len.result} (omega (arith, c.from.ensures, c.in-Some.ensures)) (gathered_more c.in-Ok-Some.block c.len.ensures v.so_far reads c.in_ok-put_block.ensures.ok);
     }
 
 pub returns-in-Ok-None-clause-ok : goal.returns-in-Ok-None-clause-ok
