@@ -1,7 +1,7 @@
 //! Predictors: samples from their first ones and a residual, in place. All sums are modulo 2^32 in the end.
 ghost use Rattle.std.specs.Prelude.{◌≡◌, ◌+◌, ◌-◌, ◌*◌, ◌^◌, ◌<◌, ◌≤◌, true, false, ◌++◌, length, take, drop, reverse, replicate, get_or, pos, FitsSigned};
 ghost use Rattle.std.specs.Int.{w32};
-ghost use Rattle.claxon_format.specs.Predict.{wrap, dot, fixed, linear, restored};
+ghost use Rattle.claxon_format.specs.Predict.{wrap, dot, fixed, floor_shift, linear, restored};
 ghost use Rattle.claxon_predictor.specs.Predictor.{SamplesCameBack};
 ghost use Rattle.claxon_predictor.specs.Lanes.{Within, Lanes, Wide, plus_products, two_on};
 ghost use Rattle.claxon_predictor.specs.Sums.{but_newest_five, AreTaps, SmallTaps, WideSums, WaitsTwoOn, WaitsAfterNone, WaitsAfter, IsPutUp, AddsProduct, IsSample, IsFollowed, AreNewest, IsFollowedByTwo};
@@ -118,6 +118,15 @@ fn inner_product(coefficients: &[i16], samples: &[i32]) -> i64
     sum
 }
 
+// The sum by 2^shift, rounded down.
+#[inline(always)]
+fn shifted_down(sum: i64, shift: u32) -> i64
+    requires { shift ≤ 15 }
+    ensures { result ≡ floor_shift sum shift }
+{
+    sum >> shift
+}
+
 // By the plain sum, at any order.
 #[inline(never)]
 fn predict_plain(coefficients: &[i16], shift: u32, buffer: &mut [i32])
@@ -128,7 +137,8 @@ fn predict_plain(coefficients: &[i16], shift: u32, buffer: &mut [i32])
 {
     let order = coefficients.len();
     for i in order..buffer.len() {
-        let prediction = inner_product(coefficients, &buffer[i - order..i]) >> shift;
+        let sum = inner_product(coefficients, &buffer[i - order..i]);
+        let prediction = shifted_down(sum, shift);
         buffer[i] = low_bits(prediction).wrapping_add(buffer[i]);
     }
 }
