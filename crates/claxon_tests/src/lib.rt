@@ -12,6 +12,8 @@ mod commands;
 #[cfg(test)]
 mod conversions;
 #[cfg(test)]
+mod errors;
+#[cfg(test)]
 mod failing;
 #[cfg(test)]
 mod files;

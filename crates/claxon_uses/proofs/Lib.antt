@@ -4,5 +4,7 @@ pub mod FirstSamples
 pub mod FramesInMemory
 pub mod Opened
 pub mod Packets
+pub mod Peaks
+pub mod StreamTags
 pub mod StreamsInMemory
 pub mod Verified

@@ -4,6 +4,7 @@ pub mod FirstSamples
 pub mod Fronts
 pub mod FramesInMemory
 pub mod Packets
+pub mod Peak
 pub mod StreamsInMemory
 pub mod TagLines
 pub mod Verified

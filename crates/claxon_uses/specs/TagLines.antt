@@ -1,12 +1,46 @@
 -- Tags as text.
-use Rattle.std.specs.Prelude.{◌≡◌, ℕ, List, ◌∷◌, ◌++◌, String, Vec, map, string_bytes}
-use Rattle.claxon.specs.FlacReader.{tags_of}
+use Rattle.std.specs.Prelude.{◌≡◌, ◌⊎◌, ℕ, true, List, ◌∷◌, ◌++◌, Option, String, Vec, map, string_bytes, IfOk, IfErr, IsOkAnd, IsErrAnd, Result}
+use Rattle.claxon.specs.Error.{IsFault, IsIo}
+use Rattle.claxon.specs.Errors.{Error}
+use Rattle.claxon.specs.Errors.TheVariants.{OutOfMemory}
+use Rattle.claxon.specs.Fault.{Fault}
+use Rattle.claxon.specs.FlacReader.{comment_tags, flac_head}
+use Rattle.claxon.specs.Heads.{Head, HeadCode, HeadFault, Options}
+use Rattle.claxon.specs.Opening.{IsDropped, unread}
 use Rattle.claxon.specs.declared.reader.FlacReader.{FlacReader}
+use Rattle.claxon_uses.specs.Fronts.{BeginsWith}
 
 -- NAME=value; 0x3d is `=`
 abbrev pub tag_line : List ℕ × List ℕ → List ℕ
 tag_line tag = tag.0 ++ 0x3d ∷ tag.1
 
+-- These are the tags of the head, in order.
+abbrev pub AreTagsOf : {A : Type 0} → Head → Vec (String A) A → Type 0
+AreTagsOf head lines = map (λ line. string_bytes line) lines.items ≡ map tag_line (comment_tags head.comment)
+
 -- These are the tags that the reader shows, in order.
 abbrev pub AreTags : {R A : Type 0} → FlacReader R A → Vec (String A) A → Type 0
-AreTags flac lines = map (λ line. string_bytes line) lines.items ≡ map tag_line (tags_of flac)
+AreTags flac lines = AreTagsOf (flac_head flac) lines
+
+-- the head and its comments are read, and nothing behind them
+abbrev pub metadata_alone : Options
+metadata_alone = record { metadata_only = true; wants_comment = true }
+
+module _ {R A : Type 0} (remaining : R → Option (List ℕ)) (reader : R) (result : Result (Vec (String A) A) Error) where
+  -- What is answered are the tags of a head that the bytes begin with.
+  abbrev pub TagLinesAreSound : Type 0
+  TagLinesAreSound = IfOk result (λ lines. (unread (remaining reader)).told ≡ true → (h : Head) × BeginsWith (HeadCode metadata_alone h) (unread (remaining reader)).coming × AreTagsOf h lines)
+
+  -- The tags of any head that they begin with are answered, or memory or the source failed.
+  abbrev pub TagLinesAreComplete : Type 0
+  TagLinesAreComplete = (h : Head) → (unread (remaining reader)).told ≡ true → BeginsWith (HeadCode metadata_alone h) (unread (remaining reader)).coming
+      → IsOkAnd result (AreTagsOf h) ⊎ IsDropped result
+
+  -- An Err that is neither want of memory nor an `IoError` names a fault of a head that they begin with.
+  abbrev pub TagFaultIsSound : Type 0
+  TagFaultIsSound = IfErr result (λ e. (e ≡ OutOfMemory) ⊎ (IsIo e ⊎ ((unread (remaining reader)).told ≡ true → (f : Fault) × IsFault f e × BeginsWith (HeadFault metadata_alone f) (unread (remaining reader)).coming)))
+
+  -- Any fault of a head that they begin with is named, or memory or the source failed.
+  abbrev pub TagFaultIsComplete : Type 0
+  TagFaultIsComplete = (f : Fault) → (unread (remaining reader)).told ≡ true → BeginsWith (HeadFault metadata_alone f) (unread (remaining reader)).coming
+      → IsErrAnd result (IsFault f) ⊎ IsDropped result

@@ -1,5 +1,9 @@
 //! The blocks of a file.
-use claxon::{FlacReader, Result};
+ghost use Rattle.std.specs.Prelude.{◌≡◌};
+ghost use Rattle.claxon_uses.specs.Peak.{greatest, peak_of};
+
+use claxon::{Block, FlacReader, Result};
+use std::alloc::Allocator;
 use std::fs::File;
 use std::rt::Files;
 
@@ -15,13 +19,32 @@ pub fn peak<Q: Files<File = File> + AllocGlobal>(rt: &Q, name: &str) -> Result<u
         let Some(block) = blocks.read_next_or_eof(buffer)? else {
             break;
         };
-        // Of two channels `block.stereo_samples()` gives the pairs.
-        for ch in 0..block.channels() {
-            let greatest = block.channel(ch).iter().map(|x| x.unsigned_abs()).max();
-            peak = peak.max(greatest.unwrap_or(0));
-        }
+        peak = peak.max(block_peak(&block));
         // The next block is read into the memory of this one.
         buffer = block.into_buffer();
     }
     Ok(peak)
+}
+
+/// The greatest magnitude of a sample of a block.
+pub fn block_peak<A: Allocator>(block: &Block<A>) -> u32
+    ensures { result ≡ peak_of block.now.channels }
+{
+    let mut peak = 0;
+    // Of two channels `block.stereo_samples()` gives the pairs.
+    for ch in 0..block.channels() {
+        peak = peak.max(greatest(block.channel(ch)));
+    }
+    peak
+}
+
+// The greatest magnitude of these samples.
+fn greatest(samples: &[i32]) -> u32
+    ensures { result ≡ greatest samples.now }
+{
+    let mut greatest = 0;
+    for i in 0..samples.len() {
+        greatest = greatest.max(samples[i].unsigned_abs());
+    }
+    greatest
 }

@@ -9,10 +9,10 @@ mod samples;
 mod streams;
 mod tags;
 
-pub use blocks::peak;
+pub use blocks::{block_peak, peak};
 pub use damaged::{Found, verify};
 pub use facts::write_facts;
 pub use frames::{decode_one, decode_packet};
 pub use samples::first_samples;
 pub use streams::decode_all;
-pub use tags::{list_tags, tag_lines};
+pub use tags::{list_tags, stream_tags, tag_lines};

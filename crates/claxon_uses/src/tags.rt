@@ -1,6 +1,6 @@
 //! Tags as text.
-ghost use Rattle.std.specs.Prelude.{◌≡◌, IfErr, IfOk};
-ghost use Rattle.claxon_uses.specs.TagLines.{AreTags};
+ghost use Rattle.std.specs.Prelude.{◌≡◌, true, IfErr, IfOk};
+ghost use Rattle.claxon_uses.specs.TagLines.{AreTags, TagFaultIsComplete, TagFaultIsSound, TagLinesAreComplete, TagLinesAreSound};
 
 use claxon::{Error, FlacReader, FlacReaderOptions, Result};
 use std::alloc::Allocator;
@@ -10,12 +10,35 @@ use std::rt::Files;
 
 /// The tags of a file, in order, each as NAME=value. No frame is read.
 pub fn list_tags<Q: Files<File = File> + AllocGlobal>(rt: &Q, name: &str) -> Result<Vec<String>> {
-    let options = FlacReaderOptions {
+    let flac = FlacReader::open_ext(rt, name, head_options())?;
+    tag_lines(rt.alloc(), &flac)
+}
+
+/// The tags of a stream, in order, each as NAME=value. No frame is read.
+///
+/// An error names the fault of the head; it is an `IoError` where its bytes end.
+pub fn stream_tags<R: Read + Drop, A: Allocator + Copy>(
+    alloc: A,
+    reader: R,
+) -> Result<Vec<String<A>, A>>
+    ensures sound { TagLinesAreSound R.remaining reader result }
+    ensures complete { TagLinesAreComplete R.remaining reader result }
+    ensures fault { TagFaultIsSound R.remaining reader result }
+    ensures named { TagFaultIsComplete R.remaining reader result }
+{
+    let flac = FlacReader::new_ext(alloc, reader, head_options())?;
+    tag_lines(alloc, &flac)
+}
+
+// Those of a head with its comments, behind which nothing is read.
+fn head_options() -> FlacReaderOptions
+    ensures only { result.metadata_only ≡ true }
+    ensures comment { result.read_vorbis_comment ≡ true }
+{
+    FlacReaderOptions {
         metadata_only: true,
         read_vorbis_comment: true,
-    };
-    let flac = FlacReader::open_ext(rt, name, options)?;
-    tag_lines(rt.alloc(), &flac)
+    }
 }
 
 /// The tags that a reader shows, in order, each as NAME=value.

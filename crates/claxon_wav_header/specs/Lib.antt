@@ -1,1 +1,2 @@
+pub mod ChannelMask
 pub mod WaveFile

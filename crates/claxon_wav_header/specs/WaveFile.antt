@@ -1,6 +1,7 @@
 -- WAV files.
-use Rattle.std.specs.Prelude.{IfSome, nat_lt, ◌≡◌, ◌==◌, ◌||◌, not, ℕ, ◌*◌, ◌<◌, ◌%◌, ◌^◌, List, [], ◌∷◌, ◌++◌, Bool, cond, codes, length, replicate, ◌≤◌, Option, None, Some}
+use Rattle.std.specs.Prelude.{nat_lt, ◌≡◌, ◌==◌, ◌||◌, not, ℕ, ◌*◌, ◌<◌, ◌%◌, ◌^◌, List, [], ◌∷◌, ◌++◌, Bool, cond, codes, length, replicate, ◌≤◌, Option, None, Some}
 use Rattle.std.specs.Int.{div_ceil, to_le_bytes, w16, w32}
+use Rattle.claxon_wav_header.specs.ChannelMask.{channel_mask_of}
 use Rattle.claxon_wav_header.specs.declared.header.Layout.{Layout}
 
 -- a zero behind an odd number of bytes
@@ -51,9 +52,9 @@ abbrev pub IsSizeOf : Layout → ℕ → Option ℕ → Type 0
 IsSizeOf l places None = 4294967234 < places * place_size l
 IsSizeOf l places (Some size) = (size ≡ places * place_size l) × (size ≤ 4294967234)
 
--- It has these channels, bits and places a second. The loudspeakers are those that are named.
+-- It has these channels, bits and places a second. The loudspeakers are those that are named, or the usual ones of FLAC.
 pub record IsLayoutOf (channels width sample_rate : ℕ) (speakers : Option ℕ) (l : Layout) : Type 0 where
   pub channels_are : l.channels ≡ channels
   pub width_is : l.width ≡ width
   pub rate_is : l.sample_rate ≡ sample_rate
-  pub loudspeakers : IfSome speakers (λ s. l.speakers ≡ s)
+  pub loudspeakers : l.speakers ≡ channel_mask_of channels speakers

@@ -1,5 +1,6 @@
 //! What stands before the samples of a WAV file.
 ghost use Rattle.std.specs.Prelude.{◌≡◌, ◌≤◌, ◌*◌, ◌++◌, ◌%◌, ◌==◌, ◌||◌, OnOk, length};
+ghost use Rattle.claxon_wav_header.specs.ChannelMask.{default_channel_mask};
 
 use std::alloc::AllocError;
 
@@ -39,7 +40,7 @@ impl Layout {
             channels,
             width,
             sample_rate,
-            speakers: speakers.unwrap_or(usual_speakers(channels)),
+            speakers: speakers.unwrap_or(default_channel_mask(channels)),
         }
     }
 
@@ -168,8 +169,12 @@ impl Layout {
     }
 }
 
-// The loudspeakers that so many channels of a FLAC stream belong to where nothing else is said.
-fn usual_speakers(channels: u32) -> u32 {
+// The channel mask of so many channels, as FLAC assigns them.
+fn default_channel_mask(channels: u32) -> u32
+    requires some_channels { 1 ≤ channels }
+    requires few_channels { channels ≤ 8 }
+    ensures { result ≡ default_channel_mask channels }
+{
     match channels {
         1 => 0x004,
         2 => 0x003,

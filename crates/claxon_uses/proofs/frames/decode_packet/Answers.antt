@@ -1,4 +1,4 @@
-use Rattle.std.proofs.Common.{Some, Ok, refl}
+use Rattle.std.proofs.Common.{Some, Ok, arith, refl}
 use Rattle.std.proofs.lemmas.Result.{err_from_is_err_and}
 use Rattle.claxon.specs.FrameReader.{stream_with}
 use Rattle.claxon.proofs.SamplesInTurn.{reads_frame}
@@ -38,7 +38,7 @@ returns-then-position-slice g c =
     let e = c.in_ok-block.ensures in
     let reads = known_as {a = slice_bytes old} {b = slice_bytes new} c.with_streaminfo-frames.ensures.stream (rw c.in-Some.is at (reads_frame _ e.sound e.complete e.at_end e.ended e.no_failure e.fault e.named e.io e.front e.memory e.gives)) in
     let m = frame_in_memory (Some (stream_with c.args.info)) c.args.packet.now (slice_bytes old) (slice_bytes new) comes (slice_never_fails old new) _ reads (rw c.in-Some.is at e.ended) in
-    let k = packet_of_more (Some (stream_with c.args.info)) c.args.packet.now c.in-Some.block _ c.position.result (slice_bytes old) (slice_bytes new) comes left reads m c.if-position-slice.true _ refl in
+    let k = packet_of_more (Some (stream_with c.args.info)) c.args.packet.now c.in-Some.block _ c.position.result (slice_bytes old) (slice_bytes new) comes left reads m (omega (arith, c.if-position-slice.true)) _ refl in
     record { sound = k.sound; complete = k.complete; refused = k.refused; named = k.named; memory = k.memory }
 
 pub returns : goal.returns
@@ -50,5 +50,5 @@ returns g c =
     let e = c.in_ok-block.ensures in
     let reads = known_as {a = slice_bytes old} {b = slice_bytes new} c.with_streaminfo-frames.ensures.stream (rw c.in-Some.is at (reads_frame _ e.sound e.complete e.at_end e.ended e.no_failure e.fault e.named e.io e.front e.memory e.gives)) in
     let m = frame_in_memory (Some (stream_with c.args.info)) c.args.packet.now (slice_bytes old) (slice_bytes new) comes (slice_never_fails old new) _ reads (rw c.in-Some.is at e.ended) in
-    let k = packet_whole (Some (stream_with c.args.info)) c.args.packet.now c.in-Some.block _ c.position.result (slice_bytes old) (slice_bytes new) comes left reads m c.if-position-slice.false in
+    let k = packet_whole (Some (stream_with c.args.info)) c.args.packet.now c.in-Some.block _ c.position.result (slice_bytes old) (slice_bytes new) comes left reads m (omega (arith, c.if-position-slice.false)) in
     record { sound = k.sound; complete = k.complete; refused = k.refused; named = k.named; memory = k.memory }

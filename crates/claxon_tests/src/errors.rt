@@ -1,0 +1,78 @@
+//! What errors say of themselves.
+use claxon::Error;
+use claxon_write::wav;
+use std::alloc::{AllocError, Global};
+use std::fmt::Display;
+use std::io::{self, ErrorKind};
+use std::test::Fail;
+
+fn says<T: Display>(alloc: Global, value: &T, want: &str) -> Result<bool, AllocError> {
+    Ok(format!(in alloc; "{value}")?.as_str() == want)
+}
+
+#[rattlefmt::skip]
+const ERRORS: [(Error, &str); 6] = [
+    (Error::FormatError("frame CRC mismatch"), "Ill-formed FLAC stream: frame CRC mismatch"),
+    (Error::FormatError(""), "Ill-formed FLAC stream: "),
+    (
+        Error::Unsupported("side channels of 33 bits are not supported"),
+        "A currently unsupported feature of the FLAC format was encountered: side channels of 33 bits are not supported",
+    ),
+    (
+        Error::Unsupported("more than 18446744073709551615 samples are not supported"),
+        "A currently unsupported feature of the FLAC format was encountered: more than 18446744073709551615 samples are not supported",
+    ),
+    (
+        Error::Unsupported("more than 65536 metadata blocks are not supported"),
+        "A currently unsupported feature of the FLAC format was encountered: more than 65536 metadata blocks are not supported",
+    ),
+    (Error::OutOfMemory, "out of memory"),
+];
+
+#[test]
+fn of_the_decoder(rt: HostRuntime) -> Result<(), Fail> {
+    for (error, want) in &ERRORS {
+        assert!(rt; says(rt.alloc(), error, *want)?, "{want}");
+    }
+    Ok(())
+}
+
+#[rattlefmt::skip]
+const WAV_ERRORS: [(wav::Error, &str); 7] = [
+    (wav::Error::Claxon(Error::FormatError("invalid residual")), "Ill-formed FLAC stream: invalid residual"),
+    (
+        wav::Error::Claxon(Error::Unsupported("application blocks larger than 10 MiB are not supported")),
+        "A currently unsupported feature of the FLAC format was encountered: application blocks larger than 10 MiB are not supported",
+    ),
+    (wav::Error::Claxon(Error::OutOfMemory), "out of memory"),
+    (wav::Error::TooLong, "the samples are more than a WAV file holds, 4 GiB"),
+    (wav::Error::OtherChannels, "the number of channels changes within the stream"),
+    (wav::Error::WideSample, "a sample has more bits than the streaminfo says"),
+    (wav::Error::SameFile, "the output is the input"),
+];
+
+#[test]
+fn of_the_converter(rt: HostRuntime) -> Result<(), Fail> {
+    for (error, want) in &WAV_ERRORS {
+        assert!(rt; says(rt.alloc(), error, *want)?, "{want}");
+    }
+    Ok(())
+}
+
+// An `IoError` prints its cause.
+#[test]
+fn of_the_source(rt: HostRuntime) -> Result<(), Fail> {
+    for kind in [
+        ErrorKind::UnexpectedEof,
+        ErrorKind::InvalidData,
+        ErrorKind::NotFound,
+    ] {
+        let cause = io::Error::from(kind);
+        let text = format!(in rt.alloc(); "{cause}")?;
+        let error = Error::IoError(cause);
+        assert!(rt; says(rt.alloc(), &error, text.as_str())?, "{text}");
+        let error = wav::Error::Claxon(error);
+        assert!(rt; says(rt.alloc(), &error, text.as_str())?, "{text}");
+    }
+    Ok(())
+}

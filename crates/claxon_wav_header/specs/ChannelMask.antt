@@ -1,0 +1,53 @@
+-- The channels of a WAV file, as the mask of WAVEFORMATEXTENSIBLE names them.
+use Rattle.std.specs.Prelude.{ℕ, ◌+◌, ◌-◌, List, [], ◌∷◌, get_or, Option, None, Some}
+
+-- the bit of each channel
+abbrev pub front_left : ℕ
+front_left = 0x1
+
+abbrev pub front_right : ℕ
+front_right = 0x2
+
+abbrev pub front_center : ℕ
+front_center = 0x4
+
+abbrev pub low_frequency : ℕ
+low_frequency = 0x8
+
+abbrev pub back_left : ℕ
+back_left = 0x10
+
+abbrev pub back_right : ℕ
+back_right = 0x20
+
+abbrev pub back_center : ℕ
+back_center = 0x100
+
+abbrev pub side_left : ℕ
+side_left = 0x200
+
+abbrev pub side_right : ℕ
+side_right = 0x400
+
+-- The masks of one to eight channels, as FLAC assigns them: RFC 9639, section 9.1.3. Of five and of six the surround channels
+-- are those of the sides.
+abbrev pub default_channel_masks : List ℕ
+default_channel_masks =
+    front_center
+    ∷ (front_left + front_right)
+    ∷ (front_left + front_right + front_center)
+    ∷ (front_left + front_right + back_left + back_right)
+    ∷ (front_left + front_right + front_center + side_left + side_right)
+    ∷ (front_left + front_right + front_center + low_frequency + side_left + side_right)
+    ∷ (front_left + front_right + front_center + low_frequency + back_center + side_left + side_right)
+    ∷ (front_left + front_right + front_center + low_frequency + back_left + back_right + side_left + side_right)
+    ∷ []
+
+-- the mask of so many channels, where nothing else is said
+abbrev pub default_channel_mask : ℕ → ℕ
+default_channel_mask channels = get_or default_channel_masks (channels - 1) 0
+
+-- the mask that is named, or the default one of so many channels
+abbrev pub channel_mask_of : ℕ → Option ℕ → ℕ
+channel_mask_of channels None = default_channel_mask channels
+channel_mask_of channels (Some named) = named
