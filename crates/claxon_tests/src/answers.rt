@@ -75,6 +75,22 @@ fn next_of<R: ReadBytes + Drop, A: Allocator + Copy>(samples: &mut FlacSamples<R
     }
 }
 
+/// Whether the calls for samples of an open stream, by an iterator of their own, answer these.
+pub fn gives_each<R: Read + Drop, A: Allocator + Copy>(
+    flac: &mut FlacReader<R, A>,
+    wants: &[Step],
+) -> bool {
+    if flac.is_metadata_only() {
+        return false;
+    }
+    let mut samples = flac.samples();
+    let mut all = true;
+    for want in wants {
+        all = all && next_of(&mut samples) == *want;
+    }
+    all
+}
+
 /// What a hundred calls for samples of an open stream give, from here on.
 pub fn rest_of<R: Read + Drop, A: Allocator + Copy>(flac: &mut FlacReader<R, A>) -> Run {
     let mut run = Run {
@@ -131,6 +147,11 @@ pub fn head(first: u8) -> [u8; 42] {
 /// The number of the first frame, and one sample, 5.
 pub const FRAME: [u8; 11] = [
     0xff, 0xf8, 0x69, 0x02, 0x00, 0x00, 0x9a, 0x00, 0x05, 0x34, 0x58,
+];
+
+/// Two samples of two channels as they are: 3 and -2, twice.
+pub const PAIRS: [u8; 13] = [
+    0xff, 0xf8, 0x69, 0x12, 0x00, 0x01, 0x3f, 0x00, 0x03, 0x00, 0xfe, 0x71, 0x51,
 ];
 
 /// The smallest head and two frames of one sample, 5. The last byte ends the second one's guard.

@@ -1,9 +1,10 @@
-//! What errors say of themselves.
-use claxon::Error;
+//! What errors and values say of themselves.
+use crate::answers::two_frames;
+use claxon::{Error, FlacReader, FlacReaderOptions};
 use claxon_write::wav;
 use std::alloc::{AllocError, Global};
-use std::fmt::Display;
-use std::io::{self, ErrorKind};
+use std::fmt::{Debug, Display};
+use std::io::{self, Cursor, ErrorKind};
 use std::test::Fail;
 
 fn says<T: Display>(alloc: Global, value: &T, want: &str) -> Result<bool, AllocError> {
@@ -74,5 +75,44 @@ fn of_the_source(rt: HostRuntime) -> Result<(), Fail> {
         let error = wav::Error::Claxon(error);
         assert!(rt; says(rt.alloc(), &error, text.as_str())?, "{text}");
     }
+    Ok(())
+}
+
+fn is_written_as<T: Debug>(alloc: Global, value: &T, want: &str) -> Result<bool, AllocError> {
+    Ok(format!(in alloc; "{value:?}")?.as_str() == want)
+}
+
+#[rattlefmt::skip]
+const FORMS: [(Error, &str); 3] = [
+    (Error::FormatError("frame CRC mismatch"), "FormatError(\"frame CRC mismatch\")"),
+    (Error::Unsupported("header without bits per sample info"), "Unsupported(\"header without bits per sample info\")"),
+    (Error::OutOfMemory, "OutOfMemory"),
+];
+
+#[test]
+fn errors_in_programs(rt: HostRuntime) -> Result<(), Fail> {
+    for (error, want) in &FORMS {
+        assert!(rt; is_written_as(rt.alloc(), error, *want)?, "{want}");
+    }
+    let cause = io::Error::from(ErrorKind::UnexpectedEof);
+    let text = format!(in rt.alloc(); "IoError({cause:?})")?;
+    assert!(rt;
+        is_written_as(rt.alloc(), &Error::IoError(cause), text.as_str())?,
+        "{text}"
+    );
+    Ok(())
+}
+
+const STREAMINFO: &str =
+    "StreamInfo { min_block_size: 16, max_block_size: 16, min_frame_size: None, max_frame_size: None, \
+sample_rate: 44100, channels: 1, bits_per_sample: 8, samples: Some(1), md5sum: [0, 0, 0, 0, 0, 0, 0, 0, 0, 0, 0, 0, 0, 0, 0, 0] }";
+
+#[test]
+fn values_in_programs(rt: HostRuntime) -> Result<(), Fail> {
+    let flac = FlacReader::new(rt.alloc(), Cursor::new(two_frames(0x58)))?;
+    assert!(rt; is_written_as(rt.alloc(), &flac.streaminfo(), STREAMINFO)?);
+    let options = FlacReaderOptions::default();
+    let want = "FlacReaderOptions { metadata_only: false, read_vorbis_comment: true }";
+    assert!(rt; is_written_as(rt.alloc(), &options, want)?);
     Ok(())
 }

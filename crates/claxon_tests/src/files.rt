@@ -1,6 +1,8 @@
 //! Streams in files.
 use crate::answers::{Fault, fault_of, head, joined, rest_of};
 use claxon::{Error, FlacReader, FlacReaderOptions};
+use std::alloc::{AllocError, Global};
+use std::io::{Cursor, Read};
 use std::test::Fail;
 use std::{env, fs, process};
 
@@ -73,6 +75,86 @@ fn is_given(rt: &HostRuntime, front: usize, rest: &[u8], wants: [Found; 4]) -> R
     let all = gives(rt, path.as_str(), wants);
     fs::remove_file(rt, path.as_str())?;
     Ok(all)
+}
+
+// All that an open stream shows of its head.
+fn head_text<R: Read>(alloc: Global, flac: &FlacReader<R>) -> Result<String, AllocError> {
+    let (info, vendor) = (flac.streaminfo(), flac.vendor());
+    let mut text = format!(in alloc; "{info:?} {vendor:?}")?;
+    for (name, value) in flac.tags() {
+        write!(&mut text, " {name}={value}")?;
+    }
+    Ok(text)
+}
+
+// The same, or the text of the fault.
+fn answer_of<R: Read + Drop>(
+    alloc: Global,
+    opened: claxon::Result<FlacReader<R>>,
+) -> Result<String, AllocError> {
+    match opened {
+        Ok(flac) => head_text(alloc, &flac),
+        Err(error) => format!(in alloc; "{error}"),
+    }
+}
+
+// What a file answers by these options, or by default, and what its bytes in memory do.
+fn answers_of(
+    rt: &HostRuntime,
+    path: &str,
+    bytes: &[u8],
+    options: Option<FlacReaderOptions>,
+) -> Result<(String, String), Fail> {
+    let (alloc, bytes) = (rt.alloc(), Cursor::new(bytes));
+    let (file, memory) = match options {
+        Some(options) => (
+            answer_of(alloc, FlacReader::open_ext(rt, path, options))?,
+            answer_of(alloc, FlacReader::new_ext(alloc, bytes, options))?,
+        ),
+        None => (
+            answer_of(alloc, FlacReader::open(rt, path))?,
+            answer_of(alloc, FlacReader::new(alloc, bytes))?,
+        ),
+    };
+    Ok((file, memory))
+}
+
+// Whether a file of these bytes answers what they do in memory, by each choice of options.
+fn answers_as_in_memory(rt: &HostRuntime, bytes: &[u8]) -> Result<bool, Fail> {
+    let path = file_of(rt, "shown", bytes)?;
+    let (file, memory) = answers_of(rt, path.as_str(), bytes, None)?;
+    let mut all = file.as_str() == memory.as_str();
+    for options in OPTIONS {
+        let (file, memory) = answers_of(rt, path.as_str(), bytes, Some(options))?;
+        all = all && file.as_str() == memory.as_str();
+    }
+    fs::remove_file(rt, path.as_str())?;
+    Ok(all)
+}
+
+// A stream of comments that are written in upper and lower case and beyond ASCII, and a streaminfo that leaves nothing open.
+const TAGGED: &[u8] =
+    b"fLaC\x00\x00\x00\x22\x10\x00\x12\x00\x00\x00\x0e\x00\x124\x0a\xc4B\xf1#Eg\x89\x00\x01\x02\x03\x04\x05\x06\x07\x08\x09\x0a\x0b\x0c\x0d\x0e\x0f\
+\x84\x00\x00C \x00\x00\x00reference libFLAC 1.4.2 20221022\
+\x02\x00\x00\x00\x09\x00\x00\x00TITLE=A=b\x0a\x00\x00\x00artist=Z\xc3\xbc";
+
+const TAGGED_HEAD: &str =
+    "StreamInfo { min_block_size: 4096, max_block_size: 4608, min_frame_size: Some(14), max_frame_size: Some(4660), \
+sample_rate: 44100, channels: 2, bits_per_sample: 16, samples: Some(4886718345), md5sum: [0, 1, 2, 3, 4, 5, 6, 7, 8, 9, 10, 11, 12, 13, 14, 15] } \
+Some(\"reference libFLAC 1.4.2 20221022\") TITLE=A=b artist=Z\u{fc}";
+
+const STREAMS: [&[u8]; 4] = [TAGGED, b"fLaC\x80\x00\x00\x22\x10\x00", b"ID3\x04", b""];
+
+#[test]
+fn heads_of_files(rt: HostRuntime) -> Result<(), Fail> {
+    let path = file_of(&rt, "head", TAGGED)?;
+    let text = answer_of(rt.alloc(), FlacReader::open(&rt, path.as_str()))?;
+    fs::remove_file(&rt, path.as_str())?;
+    assert_eq!(rt; text.as_str(), TAGGED_HEAD);
+    for bytes in STREAMS {
+        assert!(rt; answers_as_in_memory(&rt, bytes)?, "{}", bytes.len());
+    }
+    Ok(())
 }
 
 const NO_STREAM: Found = Err(Fault::Format("invalid stream header"));

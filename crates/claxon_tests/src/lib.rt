@@ -6,6 +6,8 @@
 #[cfg(test)]
 mod answers;
 #[cfg(test)]
+mod blocks;
+#[cfg(test)]
 mod callers;
 #[cfg(test)]
 mod commands;
@@ -17,6 +19,8 @@ mod errors;
 mod failing;
 #[cfg(test)]
 mod files;
+#[cfg(test)]
+mod in_turn;
 #[cfg(test)]
 mod info;
 #[cfg(test)]

@@ -1,5 +1,5 @@
 //! Runs into writers of all kinds, and of streams that are cut and damaged.
-use crate::answers::{FIVES, Fault, end_of, head, two_frames};
+use crate::answers::{FIVES, FRAME, Fault, end_of, head, joined, two_frames};
 use crate::runs::runs_agree;
 use claxon_test_doubles::sinks::Sink;
 use claxon_write::run;
@@ -110,16 +110,41 @@ fn runs_of_damaged_streams(rt: HostRuntime) -> Result<(), Fail> {
     Ok(())
 }
 
-// A run into the sink ends with this and writes these bytes. What is written before a fault is a front of the samples.
+// A run of the stream into the sink ends with this and writes these bytes. What is written before a fault is a front of the
+// samples.
 fn check(
     rt: &(impl Abort + AllocGlobal),
-    last: u8,
+    bytes: &[u8],
     sink: &mut Sink,
     want: Result<u64, Fault>,
     written: &[u8],
 ) {
-    let end = end_of(run(rt.alloc(), Cursor::new(two_frames(last)), sink));
+    let end = end_of(run(rt.alloc(), Cursor::new(bytes), sink));
     assert!(rt; end == want && sink.written() == written, "{written:?}");
+}
+
+// The same rows of the smallest stream, and where its last byte is turned: writers that fail at the first write, at the flush,
+// at both, and not at all.
+#[test]
+fn one_frame_into_sinks(rt: HostRuntime) -> Result<(), Fail> {
+    let rows = [
+        (0x58, 0, false, Err(Fault::Io), 0, 0),
+        (0x58, 0, true, Err(Fault::Io), 0, 0),
+        (0x58, 9, true, Err(Fault::Io), 4, 1),
+        (0x58, 9, false, Ok(1), 4, 1),
+        (0x59, 9, true, BAD_FOOTER, 0, 1),
+        (0x59, 0, true, BAD_FOOTER, 0, 1),
+        (0x59, 0, false, BAD_FOOTER, 0, 1),
+    ];
+    for (last, writes_left, fails, want, count, flushes) in rows {
+        let bytes = joined(rt.alloc(), &[&head(0x80), &FRAME[..10], &[last]])?;
+        for kind in [ErrorKind::Other, ErrorKind::Interrupted] {
+            let mut sink = Sink::new(8, writes_left, fails, kind);
+            check(&rt, &bytes, &mut sink, want, &FIVES[..count]);
+            assert!(rt; sink.flushes() == flushes, "{last} {writes_left}");
+        }
+    }
+    Ok(())
 }
 
 // The last byte, how much a write takes, how many are taken and whether flushes fail; what a run ends with, how much is
@@ -140,7 +165,7 @@ fn runs_into_sinks(rt: HostRuntime) {
     for (last, most, writes_left, fails, want, count, flushes) in rows {
         for kind in [ErrorKind::Other, ErrorKind::Interrupted] {
             let mut sink = Sink::new(most, writes_left, fails, kind);
-            check(&rt, last, &mut sink, want, &FIVES[..count]);
+            check(&rt, &two_frames(last), &mut sink, want, &FIVES[..count]);
             assert!(rt; sink.flushes() == flushes, "{last} {most} {writes_left}");
         }
     }
@@ -151,6 +176,6 @@ fn each_write_failed(rt: HostRuntime) {
     for writes_left in 0..8u32 {
         let mut sink = Sink::new(1, writes_left, false, ErrorKind::Other);
         let front = &FIVES[..writes_left as usize];
-        check(&rt, 0x58, &mut sink, Err(Fault::Io), front);
+        check(&rt, &two_frames(0x58), &mut sink, Err(Fault::Io), front);
     }
 }
