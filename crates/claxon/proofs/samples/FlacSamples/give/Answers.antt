@@ -9,7 +9,7 @@ returns-then-self-channels-clause-sample g c =
     let s = c.args.self.now in
     let is : IfSome (slice_get s.block.channels s.channel) (λ samples. slice_get samples s.sample ≡ Some c.sample-sample.result) = search (rules, c.sample-sample.ensures) in
     let same = to_z-of_z w32 c.sample-sample.result (record { sfits = c.sample-sample.type_inv }) in
-    rw same (next_sample s.block.channels s.sample s.channel (s.sample * length s.block.channels + (s.channel + 1)) c.sample-sample.result c.requires (s.in_place c.requires) (omega arith) is)
+    rw same (next_sample s.block.channels s.sample s.channel _ c.sample-sample.result c.requires (s.in_place c.requires) (omega arith) is)
 
 pub returns-else-self-channels-clause-sample : goal.returns-else-self-channels-clause-sample
 returns-else-self-channels-clause-sample g c =
@@ -18,4 +18,4 @@ returns-else-self-channels-clause-sample g c =
     let last : length s.block.channels ≡ s.channel + 1 = omega (arith, small, c.if-self-channels.false, c.channels-channels.ensures.value) in
     let is : IfSome (slice_get s.block.channels s.channel) (λ samples. slice_get samples s.sample ≡ Some c.sample-sample.result) = search (rules, c.sample-sample.ensures) in
     let same = to_z-of_z w32 c.sample-sample.result (record { sfits = c.sample-sample.type_inv }) in
-    rw same (next_sample s.block.channels s.sample s.channel ((s.sample + 1) * length s.block.channels + 0) c.sample-sample.result c.requires small (omega (arith, last)) is)
+    rw same (next_sample s.block.channels s.sample s.channel _ c.sample-sample.result c.requires small (omega (arith, last)) is)
