@@ -10,7 +10,7 @@ use Rattle.std.proofs.lemmas.Int.{ints, to_z-of_z, int_wrap_fits, fits_signed_fr
 use borrow.Rule.Simd.Lanes.{act2}
 use borrow.Table.Row.{s_int}
 use mir.Syntax.{wrap_add, wrap_mul, shl, shr, signed}
-use lib.Lanes.{zip2, pick_l}
+use lib.Lanes.{zip2}
 use Rattle.claxon_format.specs.Predict.{dot}
 use Rattle.claxon_predictor.specs.Lanes.{AllWithin, Lanes, AllFit64, Wide, wrap_64, plus_products, two_on}
 use Rattle.claxon_format.proofs.Wraps.{rep_add, rep_mul, rep_fits}

@@ -1,6 +1,6 @@
-use Rattle.std.proofs.Common.{rules, arith, ℤ, to_z, of_z, FitsSigned, w64, ◌≡◌}
+use Rattle.std.proofs.Common.{rules, arith, to_z, of_z, w64, ◌≡◌}
 use Rattle.std.proofs.Math.Facts.{sfits_to_z, Fits-of_z}
-use Rattle.std.proofs.lemmas.Int.{ints, to_z-of_z}
+use Rattle.std.proofs.lemmas.Int.{ints}
 use Rattle.claxon_predictor.specs.Sums.{plus_five}
 use Rattle.claxon_predictor.proofs.Sums.{IsUp, up_more, up_sample, sample_fits}
 use Rattle.claxon_predictor.proofs.predictor.sample_of.Goals as goal

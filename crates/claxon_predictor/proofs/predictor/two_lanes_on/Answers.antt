@@ -1,4 +1,4 @@
-use Rattle.std.proofs.Common.{◌≡◌, ◌∷◌, [], rules, to_z, of_z, w64}
+use Rattle.std.proofs.Common.{◌≡◌, ◌∷◌, [], rules}
 use Rattle.claxon_predictor.proofs.Lanes.{four_of, wide_moved}
 use Rattle.claxon_predictor.proofs.predictor.two_lanes_on.Goals as goal
 

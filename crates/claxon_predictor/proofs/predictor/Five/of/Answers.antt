@@ -1,6 +1,4 @@
-use Rattle.std.proofs.Common.{◌∙◌, List, ℤ, FitsSigned, get_or, take, reverse, pos, refl, ap, subst, rules, arith, w32}
-use Rattle.std.proofs.lemmas.List.{take_all}
-use Rattle.claxon_predictor.specs.Sums.{AreNewest}
+use Rattle.std.proofs.Common.{FitsSigned, get_or, pos, rules, arith, w32}
 use Rattle.claxon_predictor.proofs.SampleLoop.{newest_read, widened}
 use Rattle.claxon_predictor.proofs.predictor.Five.of.Goals as goal
 
