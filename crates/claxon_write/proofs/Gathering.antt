@@ -16,11 +16,11 @@ use Rattle.claxon_frame.specs.FrameReader.{ReadsFrame, block_view}
 use Rattle.claxon.specs.SampleRuns.{TakesFrames, samples_of}
 use Rattle.claxon.proofs.SamplesInTurn.{reads_as, same_duration}
 use Rattle.claxon.proofs.SampleRuns.{samples_add, takes_none, takes_more}
-use Rattle.claxon_write.specs.Decoded.{IsLimit, Gathers, FailsToWrite}
+use Rattle.claxon_write.specs.Decoded.{IsLimit, Gathers, FailsToWrite, last_bytes}
 use Rattle.claxon_sample_bytes.specs.SampleBytes.{bytes_of_samples}
-use Rattle.claxon_write.specs.Written.{FailsToPut, IsUnflushed, Puts}
+use Rattle.claxon_write.specs.Written.{AppendsAllBut, FailsToPut, IsUnflushed, Puts, capacity, held, waiting}
 use Rattle.claxon_write.specs.declared.output.Output.{Output}
-use Rattle.claxon_write.proofs.Puts.{puts_none, puts_both, puts_as, fails_after, fails_as}
+use Rattle.claxon_write.proofs.Puts.{puts_none, puts_both, puts_as, fails_after, fails_close}
 use Rattle.claxon_sample_bytes.proofs.SampleBytes.{bytes_append}
 
 pub record GatheredSoFar {W : Type 0} (contents : W → Option (List ℕ)) (stream : Option StreamShape) (n : ℕ) (old new : State ℕ) (before after : Output W) : Type 0 where
@@ -47,6 +47,11 @@ reads_loans {stream = stream} {r = r} {a = a} {b = b} h = loans_stay 2 block_vie
 
 more_bytes : (blocks : List Block) (block : BlockValue) → bytes_of_samples (samples_of blocks) ++ bytes_of_samples (interleave block.channels) ≡ bytes_of_samples (samples_of (blocks ++ block_view block ∷ []))
 more_bytes blocks block = sym (ap bytes_of_samples (samples_add blocks (block_view block)) ∙ bytes_append (samples_of blocks) (interleave block.channels))
+
+last_more : (blocks : List Block) (b : Block) → last_bytes (blocks ++ b ∷ []) ≡ length (bytes_of_samples (interleave b.channels))
+last_more [] b = refl
+last_more (x ∷ []) b = refl
+last_more (x ∷ y ∷ blocks) b = last_more (y ∷ blocks) b
 
 more_count : (blocks : List Block) (block : BlockValue) (n len : ℕ) → n ≡ length (samples_of blocks) → len ≡ length block.channels * duration_of block.channels → n + len ≡ length (samples_of (blocks ++ block_view block ∷ []))
 more_count blocks block n len e f =
@@ -90,6 +95,17 @@ module _ {W : Type 0} {contents : W → Option (List ℕ)} {stream : Option Stre
 
   pub gathered_fails : {n : ℕ} {error : Error} (block : BlockValue) {a b c : State ℕ} {x y z : Output W} → GatheredSoFar contents stream n a b x y → ReadsFrame stream (Ok (Some block)) b c
       → FailsToPut contents (bytes_of_samples (interleave block.channels)) error y z → IsUnflushed x z → FailsToWrite contents stream error a c x z
-  gathered_fails block {a = a} {c = c} h k f u =
-      let p = fails_as (more_bytes h.blocks block) (fails_after h.puts f) in
-      record { is_io = p.is_io; failed = p.failed; unflushed = u; blocks = h.blocks ++ block_view block ∷ []; takes = inl (takes_more block h.frames k); front = p.front; none_wait = p.none_wait }
+  gathered_fails block {a = a} {c = c} {x = x} {z = z} h k f u =
+      let p = fails_after h.puts f in
+      let m : ℕ = length (bytes_of_samples (interleave block.channels)) in
+      let close = fails_close h.puts f in
+      record {
+        is_io = p.is_io;
+        failed = p.failed;
+        unflushed = u;
+        blocks = h.blocks ++ block_view block ∷ [];
+        takes = inl (takes_more block h.frames k);
+        front = subst (λ (j : ℕ). AppendsAllBut (capacity + j) (held contents x) (held contents z) (waiting x ++ bytes_of_samples (samples_of (h.blocks ++ block_view block ∷ [])))) (sym (last_more h.blocks (block_view block)))
+            (subst (λ (l : List ℕ). AppendsAllBut (capacity + m) (held contents x) (held contents z) (waiting x ++ l)) (more_bytes h.blocks block) close);
+        none_wait = p.none_wait;
+      }

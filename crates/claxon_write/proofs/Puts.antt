@@ -1,16 +1,16 @@
 -- Bytes that are written or wait.
-use Rattle.std.proofs.Common.{◌≡◌, inr, ℕ, ◌+◌, ◌%◌, ◌^◌, List, [], ◌++◌, length, take, drop, Option, None, Some, refl, sym, ap, subst, ◌∙◌, append_assoc, arith, ℤ}
+use Rattle.std.proofs.Common.{◌≡◌, inr, ℕ, ◌+◌, ◌%◌, ◌^◌, List, [], ◌++◌, length, take, drop, Option, None, Some, refl, sym, ap, subst, ◌∙◌, append_assoc, arith, length-append, ℤ, ◌≤◌}
 use Rattle.std.specs.Prelude.{IfErr, OnOk, OnErr, Result, Ok, Err}
 use Rattle.std.specs.Io.KnownBytes.{Appends, Keeps, append_known}
 use Rattle.std.proofs.Math.Seq.{take-add}
-use Rattle.std.proofs.lemmas.List.{append-nil, append_cancel_left, take_at, drop_at, take_all, take-append-drop}
+use Rattle.std.proofs.lemmas.List.{append-nil, append_cancel_left, take_at, drop_at, length-take, take_all, take-append-drop}
 use Rattle.claxon_format.specs.Streams.{interleave}
 use Rattle.claxon_input.specs.Error.{IsIo}
 use Rattle.claxon_input.specs.declared.error.Error.{Error}
 use Rattle.claxon_sample_bytes.specs.SampleBytes.{bytes_of_samples, places}
 use Rattle.claxon_sample_bytes.proofs.SampleBytes.{places_all}
 use Rattle.claxon_write.specs.Output.{FlushFails, FlushesAll}
-use Rattle.claxon_write.specs.Written.{AppendsFront, FailsToPut, FlushFailed, IsFlushed, IsUnflushed, NothingFailed, Puts, WriteFailed, failed_flushes_of, failed_writes_of, held, held_and_waiting, waiting}
+use Rattle.claxon_write.specs.Written.{AppendsAllBut, AppendsFront, FailsToPut, FlushFailed, IsFlushed, IsUnflushed, NothingFailed, Puts, WriteFailed, capacity, failed_flushes_of, failed_writes_of, held, held_and_waiting, waiting}
 use Rattle.claxon_frame.specs.Block.{duration_of}
 use Rattle.claxon.proofs.SamplesInTurn.{same_duration}
 use Rattle.claxon_write.specs.declared.output.Counted.{Counted}
@@ -61,14 +61,33 @@ held_alone None b w bytes e h = tt
 held_alone (Some x) None w bytes e h = absurd h
 held_alone (Some x) (Some y) w bytes e h = (let k = rw e at h in sym (append-nil y) ∙ k)
 
-fronts : (x y z wa wb xs ys : List ℕ) (j k : ℕ) → y ≡ x ++ take j (wa ++ xs) → y ++ wb ≡ (x ++ wa) ++ xs → z ≡ y ++ take k (wb ++ ys) → z ≡ x ++ take (length (take j (wa ++ xs)) + k) (wa ++ (xs ++ ys))
-fronts x y z wa wb xs ys j k f e g =
+-- what waited and was put is what was written and waits
+whole : (x y wa wb xs ys : List ℕ) (j : ℕ) → y ≡ x ++ take j (wa ++ xs) → y ++ wb ≡ (x ++ wa) ++ xs → wa ++ (xs ++ ys) ≡ take j (wa ++ xs) ++ (wb ++ ys)
+whole x y wa wb xs ys j f e =
     let p = take j (wa ++ xs) in
     let both : x ++ (p ++ wb) ≡ x ++ (wa ++ xs) = sym (append_assoc x p wb) ∙ ap (λ (t : List ℕ). t ++ wb) (sym f) ∙ e ∙ append_assoc x wa xs in
     let same : p ++ wb ≡ wa ++ xs = append_cancel_left x (p ++ wb) (wa ++ xs) both in
-    let whole : wa ++ (xs ++ ys) ≡ p ++ (wb ++ ys) = sym (append_assoc wa xs ys) ∙ ap (λ (t : List ℕ). t ++ ys) (sym same) ∙ append_assoc p wb ys in
+    sym (append_assoc wa xs ys) ∙ ap (λ (t : List ℕ). t ++ ys) (sym same) ∙ append_assoc p wb ys
+
+fronts : (x y z wa wb xs ys : List ℕ) (j k : ℕ) → y ≡ x ++ take j (wa ++ xs) → y ++ wb ≡ (x ++ wa) ++ xs → z ≡ y ++ take k (wb ++ ys) → z ≡ x ++ take (length (take j (wa ++ xs)) + k) (wa ++ (xs ++ ys))
+fronts x y z wa wb xs ys j k f e g =
+    let p = take j (wa ++ xs) in
     let cut : take (length p + k) (p ++ (wb ++ ys)) ≡ p ++ take k (wb ++ ys) = take-add (length p) k (p ++ (wb ++ ys)) ∙ (rw (take_at p (wb ++ ys) (length p) refl, drop_at p (wb ++ ys) (length p) refl) refl) in
-    g ∙ ap (λ (t : List ℕ). t ++ take k (wb ++ ys)) f ∙ append_assoc x p (take k (wb ++ ys)) ∙ ap (λ (t : List ℕ). x ++ t) (sym cut ∙ ap (take (length p + k)) (sym whole))
+    g ∙ ap (λ (t : List ℕ). t ++ take k (wb ++ ys)) f ∙ append_assoc x p (take k (wb ++ ys)) ∙ ap (λ (t : List ℕ). x ++ t) (sym cut ∙ ap (take (length p + k)) (sym (whole x y wa wb xs ys j f e)))
+
+few_missing : (s p t : List ℕ) (k m : ℕ) → s ≡ p ++ t → length t ≤ k + m → length s ≤ length p + k + m
+few_missing s p t k m e le = let l : length s ≡ length p + length t = ap length e ∙ length-append p t in omega arith
+
+-- no more are missing than of what waited and was put last
+front_close : (a b c : Option (List ℕ)) (wa wb xs ys : List ℕ) (m : ℕ) → AppendsFront a b (wa ++ xs) → Appends (append_known a wa) (append_known b wb) xs → AppendsAllBut m b c (wb ++ ys) → AppendsAllBut m a c (wa ++ (xs ++ ys))
+front_close None b c wa wb xs ys m f e g = (length (wa ++ (xs ++ ys)), tt, omega arith)
+front_close (Some x) None c wa wb xs ys m f e g = absurd e
+front_close (Some x) (Some y) None wa wb xs ys m f e g = absurd g.1
+front_close (Some x) (Some y) (Some z) wa wb xs ys m f e g =
+    (length (take f.0 (wa ++ xs)) + g.0, fronts x y z wa wb xs ys f.0 g.0 f.1 e g.1, few_missing (wa ++ (xs ++ ys)) (take f.0 (wa ++ xs)) (wb ++ ys) g.0 m (whole x y wa wb xs ys f.0 f.1 e) g.2)
+
+pub fewer : (m n : ℕ) (a b : Option (List ℕ)) (bytes : List ℕ) → m ≤ n → AppendsAllBut m a b bytes → AppendsAllBut n a b bytes
+fewer m n a b bytes le h = let l : length bytes ≤ h.0 + m = h.2 in (h.0, h.1, omega arith)
 
 pub front_both : (a b c : Option (List ℕ)) (wa wb xs ys : List ℕ) → AppendsFront a b (wa ++ xs) → Appends (append_known a wa) (append_known b wb) xs → AppendsFront b c (wb ++ ys) → AppendsFront a c (wa ++ (xs ++ ys))
 front_both None b c wa wb xs ys f e g = (0, tt)
@@ -120,11 +139,15 @@ module _ {W : Type 0} {contents : W → Option (List ℕ)} where
   pub puts_as : {xs ys : List ℕ} {a b : Output W} → xs ≡ ys → Puts contents xs a b → Puts contents ys a b
   puts_as {a = a} {b = b} e h = subst (λ (z : List ℕ). Puts contents z a b) e h
 
+  -- after such bytes were put no more are missing than wait at most and those that were put last
+  pub fails_close : {xs ys : List ℕ} {error : Error} {a b c : Output W} → Puts contents xs a b → FailsToPut contents ys error b c → AppendsAllBut (capacity + length ys) (held contents a) (held contents c) (waiting a ++ (xs ++ ys))
+  fails_close {xs = xs} {ys = ys} {a = a} {b = b} {c = c} h k = front_close (held contents a) (held contents b) (held contents c) (waiting a) (waiting b) xs ys (capacity + length ys) h.front h.bytes_are k.front
+
   pub fails_after : {xs ys : List ℕ} {error : Error} {a b c : Output W} → Puts contents xs a b → FailsToPut contents ys error b c → FailsToPut contents (xs ++ ys) error a c
   fails_after {xs = xs} {ys = ys} {a = a} {b = b} {c = c} h k = record {
     is_io = k.is_io;
     failed = write_failed_after h.nothing_failed k.failed;
-    front = front_both (held contents a) (held contents b) (held contents c) (waiting a) (waiting b) xs ys h.front h.bytes_are k.front;
+    front = fewer (capacity + length ys) (capacity + length (xs ++ ys)) (held contents a) (held contents c) (waiting a ++ (xs ++ ys)) (omega (arith, length-append xs ys)) (fails_close h k);
     none_wait = k.none_wait;
   }
 
@@ -136,15 +159,19 @@ module _ {W : Type 0} {contents : W → Option (List ℕ)} where
   fails_more {xs = xs} ys {a = a} {b = b} h = record {
     is_io = h.is_io;
     failed = h.failed;
-    front = longer (held contents a) (held contents b) (waiting a) xs ys h.front;
+    front = fewer (capacity + length xs + length ys) (capacity + length (xs ++ ys)) (held contents a) (held contents b) (waiting a ++ (xs ++ ys)) (omega (arith, length-append xs ys)) (longer (held contents a) (held contents b) (waiting a) xs ys (capacity + length xs) h.front);
     none_wait = h.none_wait;
   }
     where
-      longer : (p q : Option (List ℕ)) (w xs ys : List ℕ) → AppendsFront p q (w ++ xs) → AppendsFront p q (w ++ (xs ++ ys))
-      longer p q w xs ys f =
+      longer : (p q : Option (List ℕ)) (w xs ys : List ℕ) (m : ℕ) → AppendsAllBut m p q (w ++ xs) → AppendsAllBut (m + length ys) p q (w ++ (xs ++ ys))
+      longer p q w xs ys m f =
           let front : List ℕ = take f.0 (w ++ xs) in
-          (length front, subst (λ (z : List ℕ). Appends p q z) (cut (w ++ xs) ys f.0 ∙ ap (take (length front)) (append_assoc w xs ys)) f.1)
+          let l : length (w ++ xs) ≤ f.0 + m = f.2 in
+          (length front, subst (λ (z : List ℕ). Appends p q z) (cut (w ++ xs) ys f.0 ∙ ap (take (length front)) (append_assoc w xs ys)) f.1, missing (w ++ xs) ys (w ++ (xs ++ ys)) f.0 m (append_assoc w xs ys) l)
         where
+          missing : (s t u : List ℕ) (k m : ℕ) → s ++ t ≡ u → length s ≤ k + m → length u ≤ length (take k s) + (m + length t)
+          missing s t u k m e le = let l : length u ≡ length s + length t = sym (ap length e) ∙ length-append s t in omega (arith, length-take k s)
+
           cut : (s t : List ℕ) (k : ℕ) → take k s ≡ take (length (take k s)) (s ++ t)
           cut s t k =
               let p : List ℕ = take k s in
@@ -170,12 +197,12 @@ module _ {W : Type 0} (contents : W → Option (List ℕ)) where
       }
 
   pub gathered_err : (r : Result (Unit {0}) Error) (a b : Output W) (bytes : List ℕ) → bytes ≡ waiting a → waiting b ≡ [] → IfErr r (λ e. IsIo e) → OnErr r (AppendsFront (held contents a) (held contents b) bytes)
-      → OnErr r (failed_writes_of b ≡ (failed_writes_of a + 1) % 2 ^ 64) → failed_flushes_of b ≡ failed_flushes_of a → IfErr r (λ e. FailsToPut contents [] e a b)
-  gathered_err (Ok x) a b bytes same none i h k l = tt
-  gathered_err (Err e) a b bytes same none i h k l = record {
+      → OnErr r (failed_writes_of b ≡ (failed_writes_of a + 1) % 2 ^ 64) → failed_flushes_of b ≡ failed_flushes_of a → length bytes ≤ capacity → IfErr r (λ e. FailsToPut contents [] e a b)
+  gathered_err (Ok x) a b bytes same none i h k l few = tt
+  gathered_err (Err e) a b bytes same none i h k l few = record {
     is_io = i;
     failed = record { writes = k; flushes = l };
-    front = subst (λ (z : List ℕ). AppendsFront (held contents a) (held contents b) z) (same ∙ sym (append-nil (waiting a))) h;
+    front = subst (λ (z : List ℕ). AppendsAllBut (capacity + 0) (held contents a) (held contents b) z) (same ∙ sym (append-nil (waiting a))) (h.0, h.1, omega arith);
     none_wait = none;
   }
 

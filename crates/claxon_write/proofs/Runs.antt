@@ -122,7 +122,7 @@ module _ {W : Type 0} (contents : W → Option (List ℕ)) (h : Head) (s a b : S
         head = h;
         rest = f.0;
         stands = stands k.blocks f.0 told f.1;
-        front = subst (λ (z : Option (List ℕ)). AppendsFront z (held contents y) bytes) is (subst (λ (z : List ℕ). AppendsFront (held contents x) (held contents y) (z ++ bytes)) none k.front);
+        front = subst (λ (z : Option (List ℕ)). AppendsFront z (held contents y) bytes) is (subst (λ (z : List ℕ). AppendsFront (held contents x) (held contents y) (z ++ bytes)) none (k.front.0, k.front.1));
         all = λ m. absurd (io_not_memory e k.is_io m);
       }
 

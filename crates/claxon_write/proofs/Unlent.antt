@@ -1,7 +1,7 @@
 -- What was read through a loan was read from what it reaches.
 use Rattle.std.specs.Borrow.{GName, MutBor}
 use Rattle.claxon_input.specs.Source.{Source, through_loan}
-use Rattle.std.proofs.Common.{◌≡◌, inl, inr, ℕ, ◌+◌, ◌%◌, ◌^◌, List, [], ◌∷◌, Option, None, Some, ap, subst, ◌∙◌, append-nil}
+use Rattle.std.proofs.Common.{◌≡◌, inl, inr, ℕ, ◌+◌, ◌%◌, ◌^◌, List, [], ◌∷◌, ◌++◌, Option, None, Some, ap, subst, ◌∙◌, append-nil, arith}
 use Rattle.std.specs.Prelude.{IfErr, IfOk, OnErr, OnOk, ◌⊎◌, Result, Ok, Err}
 use Rattle.std.specs.Result.{result_and}
 use Rattle.std.specs.Io.KnownBytes.{Keeps}
@@ -18,12 +18,12 @@ use Rattle.claxon_frame.specs.Block.{BlockValue}
 use Rattle.claxon_frame.specs.FrameReader.{ReadsFrame, block_view, stream_with}
 use Rattle.claxon_metadata.specs.declared.metadata.StreamInfo.{StreamInfo}
 use Rattle.claxon.specs.SampleRuns.{TakesFrames, ReadsFrames, samples_of}
-use Rattle.claxon_write.specs.Decoded.{EndsAfter, Gathers, Decodes, FailsToFlushAll, FailsToWrite, StopsDecoding, TakesBlocks}
+use Rattle.claxon_write.specs.Decoded.{EndsAfter, Gathers, Decodes, FailsToFlushAll, FailsToWrite, StopsDecoding, TakesBlocks, last_bytes}
 use Rattle.claxon_sample_bytes.specs.SampleBytes.{bytes_of_samples}
-use Rattle.claxon_write.specs.Written.{FailsToPut, FlushFailed, IsFlushed, IsUnflushed, NothingFailed, Puts, failed_flushes_of, failed_writes_of, held, held_and_waiting, waiting}
+use Rattle.claxon_write.specs.Written.{AppendsAllBut, FailsToPut, FlushFailed, IsFlushed, IsUnflushed, NothingFailed, Puts, capacity, failed_flushes_of, failed_writes_of, held, held_and_waiting, waiting}
 use Rattle.claxon_write.specs.declared.output.Output.{Output}
 use Rattle.claxon_write.specs.declared.stream.End.{End}
-use Rattle.claxon_write.proofs.Puts.{puts_both, puts_as, fails_after, fails_as, flush_failed_after, flushed_after, held_alone, none_failed_both, appends_keeps}
+use Rattle.claxon_write.proofs.Puts.{puts_both, puts_as, fails_after, fails_close, fewer, flush_failed_after, flushed_after, held_alone, none_failed_both, appends_keeps}
 
 rest_of : List GName → List GName
 rest_of [] = []
@@ -117,9 +117,11 @@ module _ {W : Type 0} {contents : W → Option (List ℕ)} {stream : Option Stre
       (record { blocks = h.blocks; ends = ends_unlent stream h.blocks end a b h.ends; count = h.count; written = held_alone (held_and_waiting contents x) (held contents z) (waiting z) (bytes_of_samples (samples_of h.blocks)) none p.bytes_are; none_wait = none }, p.nothing_failed)
 
   pub fails_behind : {n : ℕ} (end : Option Error) {error : Error} {a b : State ℕ} {x y z : Output W} → Gathers contents stream end n a b x y → FailsToPut contents [] error y z → IsUnflushed x z → FailsToWrite contents stream error (unlent a) (unlent b) x z
-  fails_behind end {a = a} {b = b} h k u =
-      let p = fails_as (append-nil (bytes_of_samples (samples_of h.blocks))) (fails_after h.puts k) in
-      record { is_io = p.is_io; failed = p.failed; unflushed = u; blocks = h.blocks; takes = inr (end, ends_unlent stream h.blocks end a b h.ends); front = p.front; none_wait = p.none_wait }
+  fails_behind end {a = a} {b = b} {x = x} {z = z} h k u =
+      let p = fails_after h.puts k in
+      let n : ℕ = capacity + last_bytes h.blocks in
+      let close : AppendsAllBut n (held contents x) (held contents z) (waiting x ++ (bytes_of_samples (samples_of h.blocks) ++ [])) = fewer capacity n (held contents x) (held contents z) (waiting x ++ (bytes_of_samples (samples_of h.blocks) ++ [])) (omega arith) (fails_close h.puts k) in
+      record { is_io = p.is_io; failed = p.failed; unflushed = u; blocks = h.blocks; takes = inr (end, ends_unlent stream h.blocks end a b h.ends); front = subst (λ (l : List ℕ). AppendsAllBut n (held contents x) (held contents z) (waiting x ++ l)) (append-nil (bytes_of_samples (samples_of h.blocks))) close; none_wait = p.none_wait }
 
   pub fails_unlent_too : {error : Error} {a b : State ℕ} {x y : Output W} → FailsToWrite contents stream error a b x y → FailsToWrite contents stream error (unlent a) (unlent b) x y
   fails_unlent_too {a = a} {b = b} h = record { is_io = h.is_io; failed = h.failed; unflushed = h.unflushed; blocks = h.blocks; takes = blocks_unlent stream h.blocks a b h.takes; front = h.front; none_wait = h.none_wait }

@@ -1,14 +1,15 @@
 -- Streams that are decoded into an `Output`.
-use Rattle.std.specs.Prelude.{◌≡◌, ◌≤◌, ◌⊎◌, ℕ, ◌^◌, List, [], ◌∷◌, ◌++◌, length, codes, Option, None, Some, IsErrAnd, Result, Ok, Err}
+use Rattle.std.specs.Prelude.{◌≡◌, ◌≤◌, ◌⊎◌, ℕ, ◌+◌, ◌^◌, List, [], ◌∷◌, ◌++◌, length, codes, Option, None, Some, IsErrAnd, Result, Ok, Err}
 use Rattle.std.specs.Io.KnownBytes.{Appends}
 use Rattle.claxon_format.specs.Frame.{StreamShape, Block}
+use Rattle.claxon_format.specs.Streams.{interleave}
 use Rattle.claxon_input.specs.Error.{IsIo}
 use Rattle.claxon_input.specs.State.{State}
 use Rattle.claxon_input.specs.declared.error.Error.{Error}
 use Rattle.claxon_input.specs.declared.error.Error.TheVariants.{Unsupported}
 use Rattle.claxon.specs.SampleRuns.{ReadsFrames, TakesFrames, samples_of}
 use Rattle.claxon_sample_bytes.specs.SampleBytes.{bytes_of_samples}
-use Rattle.claxon_write.specs.Written.{AppendsFront, FlushFailed, IsFlushed, IsUnflushed, NothingFailed, Puts, WriteFailed, held, held_and_waiting, waiting}
+use Rattle.claxon_write.specs.Written.{AppendsAllBut, FlushFailed, IsFlushed, IsUnflushed, NothingFailed, Puts, WriteFailed, capacity, held, held_and_waiting, waiting}
 use Rattle.claxon_write.specs.declared.output.Output.{Output}
 
 -- the limit on the number of samples
@@ -47,14 +48,21 @@ pub record Decodes {W : Type 0} (contents : W → Option (List ℕ)) (stream : O
 abbrev pub TakesBlocks : Option StreamShape → List Block → State ℕ → State ℕ → Type 0
 TakesBlocks stream blocks old new = TakesFrames stream blocks old new ⊎ ((end : Option Error) × EndsAfter stream blocks end old new)
 
+-- how many bytes the samples of the last of these blocks have
+abbrev pub last_bytes : List Block → ℕ
+last_bytes [] = 0
+last_bytes (b ∷ []) = length (bytes_of_samples (interleave b.channels))
+last_bytes (b ∷ c ∷ blocks) = last_bytes (c ∷ blocks)
+
 -- A write failed, which was counted, and no flush was asked for: a front of what waited and of the samples of these blocks, whose frames were taken, was written, and none wait any more.
+-- No more are missing than wait at most and those of the last block: the reader is no further ahead than that.
 pub record FailsToWrite {W : Type 0} (contents : W → Option (List ℕ)) (stream : Option StreamShape) (error : Error) (old new : State ℕ) (before after : Output W) : Type 0 where
   pub is_io : IsIo error
   pub failed : WriteFailed before after
   pub unflushed : IsUnflushed before after
   pub blocks : List Block
   pub takes : TakesBlocks stream blocks old new
-  pub front : AppendsFront (held contents before) (held contents after) (waiting before ++ bytes_of_samples (samples_of blocks))
+  pub front : AppendsAllBut (capacity + last_bytes blocks) (held contents before) (held contents after) (waiting before ++ bytes_of_samples (samples_of blocks))
   pub none_wait : waiting after ≡ []
 
 -- The stream ended and all its samples were written, and then the one flush that was asked for failed, which was counted.

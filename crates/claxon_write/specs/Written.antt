@@ -1,5 +1,5 @@
 -- What an `Output` wrote, and what waits in it.
-use Rattle.std.specs.Prelude.{◌≡◌, ℕ, ◌+◌, ◌%◌, ◌^◌, Bool, true, List, [], ◌++◌, take, Option}
+use Rattle.std.specs.Prelude.{◌≡◌, ◌≤◌, ℕ, ◌+◌, ◌%◌, ◌^◌, Bool, true, List, [], ◌++◌, length, take, Option}
 use Rattle.std.specs.Io.KnownBytes.{Appends, append_known}
 use Rattle.claxon_input.specs.Error.{IsIo}
 use Rattle.claxon_input.specs.declared.error.Error.{Error}
@@ -69,17 +69,26 @@ held_and_waiting contents o = append_known (held contents o) (waiting o)
 abbrev pub AppendsFront : Option (List ℕ) → Option (List ℕ) → List ℕ → Type 0
 AppendsFront old new bytes = (k : ℕ) × Appends old new (take k bytes)
 
+-- A front of these bytes was added, and no more than so many are missing.
+abbrev pub AppendsAllBut : ℕ → Option (List ℕ) → Option (List ℕ) → List ℕ → Type 0
+AppendsAllBut n old new bytes = (k : ℕ) × Appends old new (take k bytes) × (length bytes ≤ k + n)
+
+-- so many bytes wait at most
+abbrev pub capacity : ℕ
+capacity = 16384
+
 -- These bytes were written behind those that waited, or wait behind them, and nothing failed.
 pub record Puts {W : Type 0} (contents : W → Option (List ℕ)) (bytes : List ℕ) (old new : Output W) : Type 0 where
   pub front : AppendsFront (held contents old) (held contents new) (waiting old ++ bytes)
   pub bytes_are : Appends (held_and_waiting contents old) (held_and_waiting contents new) bytes
   pub nothing_failed : NothingFailed old new
 
--- A write failed, which was counted: a front of the bytes that waited and of these was written, and none wait any more.
+-- A write failed, which was counted: a front of the bytes that waited and of these was written, and none wait any more. No
+-- more are missing than wait at most and these.
 pub record FailsToPut {W : Type 0} (contents : W → Option (List ℕ)) (bytes : List ℕ) (error : Error) (old new : Output W) : Type 0 where
   pub is_io : IsIo error
   pub failed : WriteFailed old new
-  pub front : AppendsFront (held contents old) (held contents new) (waiting old ++ bytes)
+  pub front : AppendsAllBut (capacity + length bytes) (held contents old) (held contents new) (waiting old ++ bytes)
   pub none_wait : waiting new ≡ []
 
 -- The flush failed, which was counted, when all that waited was written.

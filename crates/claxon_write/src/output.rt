@@ -138,7 +138,8 @@ impl Gathered {
     ghost use Rattle.claxon_write.specs.Written.{waiting_in};
 
     fn waiting(&self) -> &[u8]
-        ensures { result.now ≡ waiting_in self.now }
+        ensures value { result.now ≡ waiting_in self.now }
+        ensures few { length result.now ≤ 16384 }
     {
         &self.bytes[..self.used]
     }
