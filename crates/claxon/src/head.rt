@@ -61,8 +61,8 @@ const MOST_BLOCKS: u32 = 65536;
 
 /// Takes the head of a stream, and answers its streaminfo and, where wished and there, its Vorbis comments.
 ///
-/// Which blocks are taken the options say; the input then stands at the first frame, if all were. Over a `Cursor` its
-/// position says how long the head is. (RFC 9639, sections 6 and 8.)
+/// Which blocks are taken the options say; the input then stands at the first frame, if all were. Over a `Cursor` the
+/// position is then that of the bytes behind the head, where some follow. (RFC 9639, sections 6 and 8.)
 ///
 /// # Errors
 ///
