@@ -1,4 +1,6 @@
-use Rattle.std.proofs.Common.{◌≡◌, List, None, refl, rules, subst, ℕ}
+use Rattle.std.proofs.Common.{◌≡◌, List, None, arith, refl, subst, ℕ}
+use Rattle.std.proofs.lemmas.Grind.{common_steps}
+use Rattle.std.proofs.lemmas.List.{take_all}
 use Rattle.std.specs.Io.Cursor.{cursor_inner}
 use Rattle.claxon.specs.Promises.{Comes}
 use Rattle.claxon.proofs.SamplesInTurn.{reads_frame}
@@ -11,7 +13,7 @@ returns g c =
     let old = c.new-frames.result in
     let new = c.read_next_or_eof.new.self in
     let slice = cursor_inner c.new.result in
-    let whole : slice.now ≡ c.args.bytes.now = search rules in
+    let whole : slice.now ≡ c.args.bytes.now = grind (arith, common_steps, take_all) in
     let comes = subst (λ (z : List ℕ). Comes (slice_bytes old) z) whole (slice_comes old c.new.result slice c.new-frames.ensures.input c.new.ensures.position refl) in
     let reads = known_as {a = slice_bytes old} {b = slice_bytes new} c.new-frames.ensures.stream (reads_frame _ e.sound e.complete e.at_end e.ended e.no_failure e.fault e.named e.io e.front e.memory e.gives) in
     let m = frame_in_memory None c.args.bytes.now (slice_bytes old) (slice_bytes new) comes (slice_never_fails old new) c.read_next_or_eof.result reads e.ended in
