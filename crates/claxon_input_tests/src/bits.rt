@@ -58,7 +58,7 @@ const FIVE: [u8; 5] = [0xa5, 0xe1, 0xd2, 0x55, 0xf0];
 #[rattlefmt::skip]
 #[test]
 fn calls_in_turn(rt: HostRuntime) {
-    let rows: [(&[u8], &[(Call, Option<u32>)], u64); 7] = [
+    let rows: [(&[u8], &[(Call, Option<u32>)], u64); 6] = [
         (
             &[0xa4, 0x80, 0x20, 0x00, 0x0a],
             &[
@@ -84,15 +84,6 @@ fn calls_in_turn(rt: HostRuntime) {
             ],
             4,
         ),
-        // All of the cache, and no bits behind it.
-        (
-            &FIVE,
-            &[
-                (Call::UpTo32(32), Some(0xa5e1_d255)), (Call::UpTo8(0), Some(0)), (Call::Zeros, Some(0)),
-                (Call::UpTo32(20), None),
-            ],
-            5,
-        ),
         (
             &[0x00, 0x80],
             &[(Call::Zeros, Some(8)), (Call::UpTo8(7), Some(0)), (Call::UpTo8(0), Some(0)), (Call::Bit, None)],
@@ -106,6 +97,53 @@ fn calls_in_turn(rt: HostRuntime) {
     for (row, (bytes, calls, taken)) in rows.iter().enumerate() {
         assert!(rt; answers_each(*bytes, *calls, *taken), "{row}");
     }
+}
+
+// All bits of the cache are read, a number of no bits takes no byte, and too few bits take all: where the calls stand one
+// after another.
+#[test]
+fn all_of_the_cache(rt: HostRuntime) {
+    let calls = [
+        (Call::UpTo32(32), Some(0xa5e1_d255)),
+        (Call::UpTo8(0), Some(0)),
+        (Call::Zeros, Some(0)),
+        (Call::UpTo32(20), None),
+    ];
+    for (count, taken) in [0, 4, 4, 5, 5].iter().enumerate() {
+        assert!(rt;
+            answers_each(&FIVE, &calls[..count.min(4)], *taken),
+            "{count}"
+        );
+    }
+    let too_few = [(Call::UpTo32(20), None), (Call::Bit, None)];
+    for (count, taken) in [0, 2, 2].iter().enumerate() {
+        assert!(rt;
+            answers_each(&[0xa5, 0xe1], &too_few[..count.min(2)], *taken),
+            "{count}"
+        );
+    }
+}
+
+// However 32 bits are split in two, they are the same number, and four bytes are taken.
+#[test]
+fn splits(rt: HostRuntime) {
+    for first in 0..33u32 {
+        let mut cursor = Cursor::new([0xa5u8, 0xe1, 0xd2, 0x55]);
+        assert!(rt;
+            number_in_two(&mut cursor, first) == Some(0xa5e1_d255),
+            "{first}"
+        );
+        assert!(rt; cursor.position() == 4, "{first}");
+    }
+}
+
+// The number of 32 bits whose first so many are read by a call of their own.
+fn number_in_two<R: ReadBytes>(input: &mut R, first: u32) -> Option<u64> {
+    let mut bits = Bitstream::new(input);
+    let first = first.min(32);
+    let high = answer(&mut bits, Call::UpTo32(first))?;
+    let low = answer(&mut bits, Call::UpTo32(32 - first))?;
+    Some(u64::from(high) << (32 - first) | u64::from(low))
 }
 
 #[test]
@@ -124,32 +162,45 @@ fn buffered_bytes(rt: HostRuntime) -> Result<(), Fail> {
     Ok(())
 }
 
-// What is left of so many bytes.
-fn narrow_of<R: ReadBytes>(input: &mut R, count: u32) -> io::Result<u8> {
+// What is left of so many bytes that are passed over, and of those that are read then.
+fn narrow_of<R: ReadBytes>(input: &mut R, count: u32, buffer: &mut [u8]) -> io::Result<u8> {
     let mut reader = Crc8Reader::new(input);
     reader.skip(count)?;
+    reader.read_into(buffer)?;
     Ok(reader.crc())
 }
 
-fn wide_of<R: ReadBytes>(input: &mut R, count: u32) -> io::Result<u16> {
+fn wide_of<R: ReadBytes>(input: &mut R, count: u32, buffer: &mut [u8]) -> io::Result<u16> {
     let mut reader = Crc16Reader::new(input);
     reader.skip(count)?;
+    reader.read_into(buffer)?;
     Ok(reader.crc())
 }
 
+// Each of the bytes is passed over or read: all or none by a skip, and in three bytes the first alone.
 #[test]
 fn remainders(rt: HostRuntime) -> Result<(), Fail> {
-    let rows: [(&[u8], u8, u16); 4] = [
-        (&[0x1f], 0x5d, 0x8041),
-        (&[0x04, 0x01], 0x53, 0x1806),
-        (&[0x61, 0x62, 0x63], 0x5f, 0xcadb),
+    let rows: [(&[u8], u32, u8, u16); 7] = [
+        (&[0x1f], 1, 0x5d, 0x8041),
+        (&[0x04, 0x01], 2, 0x53, 0x1806),
+        (&[0x61, 0x62, 0x63], 3, 0x5f, 0xcadb),
+        (&[0x61, 0x62, 0x63], 1, 0x5f, 0xcadb),
+        (&[0x61, 0x62, 0x63], 0, 0x5f, 0xcadb),
         // The check values of both polynomials in the usual catalogues.
-        (b"123456789", 0xf4, 0xfee8),
+        (b"123456789", 9, 0xf4, 0xfee8),
+        (b"123456789", 4, 0xf4, 0xfee8),
     ];
-    for (bytes, narrow, wide) in rows {
-        let count = bytes.len() as u32;
-        assert!(rt; narrow_of(&mut Cursor::new(bytes), count)? == narrow);
-        assert!(rt; wide_of(&mut Cursor::new(bytes), count)? == wide);
+    for (bytes, skipped, narrow, wide) in rows {
+        let mut buffer = [0; 9];
+        let rest = &mut buffer[..(bytes.len() as u32).saturating_sub(skipped).min(9) as usize];
+        assert!(rt;
+            narrow_of(&mut Cursor::new(bytes), skipped, rest)? == narrow,
+            "{skipped}"
+        );
+        assert!(rt;
+            wide_of(&mut Cursor::new(bytes), skipped, rest)? == wide,
+            "{skipped}"
+        );
     }
     Ok(())
 }

@@ -6,17 +6,16 @@ use std::io;
 use std::io::{Cursor, Read};
 use std::test::Fail;
 
+// The position stays where it is in each call.
 #[test]
 fn cursor_far_out(rt: HostRuntime) -> Result<(), Fail> {
     let mut cursor = Cursor::new([1u8, 2, 3]);
     cursor.set_position(u64::MAX);
-    assert!(rt; cursor.read_u8().is_err());
-    assert!(rt; cursor.read_u8_or_eof()?.is_none());
-    assert!(rt; cursor.skip(0).is_ok());
-    assert!(rt; cursor.skip(1).is_err());
-    let mut none = [0u8; 0];
-    assert!(rt; cursor.read_into(&mut none).is_ok());
-    assert!(rt; cursor.position() == u64::MAX);
+    assert!(rt; cursor.read_u8().is_err() && cursor.position() == u64::MAX);
+    assert!(rt; cursor.read_u8_or_eof()?.is_none() && cursor.position() == u64::MAX);
+    assert!(rt; cursor.skip(0).is_ok() && cursor.position() == u64::MAX);
+    assert!(rt; cursor.skip(1).is_err() && cursor.position() == u64::MAX);
+    assert!(rt; cursor.read_into(&mut []).is_ok() && cursor.position() == u64::MAX);
     Ok(())
 }
 
@@ -28,12 +27,61 @@ fn has_failed<T: Drop>(outcome: io::Result<T>, kind: io::ErrorKind) -> bool {
     }
 }
 
+// Calls that meet the end of the input.
+#[derive(Clone, Copy)]
+enum Call {
+    Byte,
+    Two,
+    Three,
+    Four,
+    Into,
+    Skip,
+}
+
+const CALLS: [Call; 6] = [
+    Call::Byte,
+    Call::Two,
+    Call::Three,
+    Call::Four,
+    Call::Into,
+    Call::Skip,
+];
+
+// Whether the end of the input, where there are too few bytes, is told as such.
+fn is_told_as_the_end<R: ReadBytes>(input: &mut R, call: Call) -> bool {
+    let kind = io::ErrorKind::UnexpectedEof;
+    match call {
+        Call::Byte => has_failed(input.read_u8(), kind),
+        Call::Two => has_failed(input.read_be_u16(), kind),
+        Call::Three => has_failed(input.read_be_u24(), kind),
+        Call::Four => has_failed(input.read_be_u32(), kind)
+            && has_failed(input.read_le_u32(), kind),
+        Call::Into => has_failed(input.read_into(&mut [0; 2]), kind),
+        Call::Skip => has_failed(input.skip(2), kind),
+    }
+}
+
+// Of a buffered reader and of a cursor, behind the last byte and before it where a call asks for more.
 #[test]
 fn an_end_has_its_kind(rt: HostRuntime) -> Result<(), Fail> {
+    for call in CALLS {
+        let bytes: &[u8] = if matches!(call, Call::Byte) {
+            &[]
+        } else {
+            &[1]
+        };
+        let mut buffered = BufferedReader::new(rt.alloc(), Cursor::new(bytes))?;
+        assert!(rt; is_told_as_the_end(&mut buffered, call));
+        assert!(rt; is_told_as_the_end(&mut Cursor::new(bytes), call));
+    }
+    Ok(())
+}
+
+// A cursor with too few bytes takes none of them.
+#[test]
+fn an_end_takes_nothing(rt: HostRuntime) -> Result<(), Fail> {
     let mut cursor = Cursor::new([1u8, 2]);
-    assert!(rt; has_failed(cursor.read_be_u24(), io::ErrorKind::UnexpectedEof));
-    cursor.set_position(0);
-    assert!(rt; has_failed(cursor.skip(3), io::ErrorKind::UnexpectedEof));
+    assert!(rt; cursor.skip(3).is_err() && cursor.read_into(&mut [0; 3]).is_err());
     assert!(rt; cursor.read_be_u16()? == 0x0102);
     Ok(())
 }
@@ -50,47 +98,100 @@ fn errors_and_their_texts(rt: HostRuntime) -> Result<(), Fail> {
     Ok(())
 }
 
-// Zeros without end: a reader with the four calls that are asked for, which tells nothing of its bytes, and one that is
-// buffered.
+// So many zero bytes, and bytes of one value behind them. None of them is kept, and how many were taken is counted. A reader
+// with the four calls that are asked for, which tells nothing of its bytes, and one that is buffered.
 #[derive(Drop)]
-struct Zeros;
+struct Zeros {
+    left: u64,
+    then: u8,
+    taken: u64,
+}
+
+const fn zeros_before(left: u64, then: u8) -> Zeros {
+    Zeros {
+        left,
+        then,
+        taken: 0,
+    }
+}
+
+impl Zeros {
+    fn take(&mut self) -> u8 {
+        self.taken = self.taken.wrapping_add(1);
+        if self.left == 0 {
+            return self.then;
+        }
+        self.left -= 1;
+        0
+    }
+}
 
 impl ReadBytes for Zeros {
     fn read_u8(&mut self) -> io::Result<u8> {
-        Ok(0)
+        Ok(self.take())
     }
 
     fn read_u8_or_eof(&mut self) -> io::Result<Option<u8>> {
-        Ok(Some(0))
+        Ok(Some(self.take()))
     }
 
     fn read_into(&mut self, buffer: &mut [u8]) -> io::Result<()> {
         for slot in buffer.iter_mut() {
-            *slot = 0;
+            *slot = self.take();
         }
         Ok(())
     }
 
-    fn skip(&mut self, _amount: u32) -> io::Result<()> {
+    fn skip(&mut self, amount: u32) -> io::Result<()> {
+        for _ in 0..amount {
+            self.take();
+        }
         Ok(())
     }
 }
 
 impl Read for Zeros {
     fn read(&mut self, buf: &mut [u8]) -> io::Result<usize> {
-        buf.fill(0);
+        let count = buf.len().min(self.left.min(2048) as usize);
+        buf[..count].fill(0);
+        buf[count..].fill(self.then);
+        self.left = self.left.saturating_sub(count as u64);
         Ok(buf.len())
     }
 }
 
-fn run_of_zeros<R: ReadBytes>(input: &mut R) -> io::Result<u32> {
-    Bitstream::new(input).read_unary()
+// Whether a count of zeros is this one, or none where there are too many, and the count behind it is this one.
+fn counts<R: ReadBytes>(input: &mut R, first: Option<u32>, second: u32) -> bool {
+    let mut bits = Bitstream::new(input);
+    let is_first = match bits.read_unary() {
+        Ok(count) => first == Some(count),
+        Err(cause) => first.is_none() && cause.kind() == io::ErrorKind::InvalidData,
+    };
+    is_first && bits.read_unary().is_ok_and(|count| count == second)
+}
+
+// 2^32 - 1 zeros and a one.
+#[test]
+fn the_longest_run_of_zeros(rt: HostRuntime) {
+    let mut input = zeros_before(536_870_911, 0x01);
+    assert!(rt; counts(&mut input, Some(4_294_967_295), 7));
+    assert!(rt; input.taken == 536_870_913);
+}
+
+// 2^32 zeros: all of them are taken, and what comes then is read from its first bit on.
+#[test]
+fn a_run_of_zeros_too_long(rt: HostRuntime) {
+    let mut input = zeros_before(536_870_912, 0x80);
+    assert!(rt; counts(&mut input, None, 0));
+    assert!(rt; input.taken == 536_870_913);
 }
 
 #[test]
-fn a_run_of_zeros_too_long(rt: HostRuntime) -> Result<(), Fail> {
-    let mut reader = BufferedReader::new(rt.alloc(), Zeros)?;
-    assert!(rt; has_failed(run_of_zeros(&mut reader), io::ErrorKind::InvalidData));
+fn buffered_runs_of_zeros(rt: HostRuntime) -> Result<(), Fail> {
+    let mut reader = BufferedReader::new(rt.alloc(), zeros_before(536_870_911, 0x01))?;
+    assert!(rt; counts(&mut reader, Some(4_294_967_295), 7));
+    let mut reader = BufferedReader::new(rt.alloc(), zeros_before(536_870_912, 0x80))?;
+    assert!(rt; counts(&mut reader, None, 0));
     Ok(())
 }
 
@@ -109,9 +210,9 @@ fn number_and_remainder<R: ReadBytes>(input: &mut R) -> io::Result<(u16, u16)> {
 
 #[test]
 fn zeros_give_zero(rt: HostRuntime) -> Result<(), Fail> {
-    assert!(rt; Zeros.at_hand().is_empty());
-    let (number, remainder) = number_and_remainder(&mut Zeros)?;
-    assert!(rt; number == 0);
-    assert!(rt; remainder == 0);
+    let mut input = zeros_before(6, 0xff);
+    assert!(rt; input.at_hand().is_empty());
+    let (number, remainder) = number_and_remainder(&mut input)?;
+    assert!(rt; number == 0 && remainder == 0 && input.taken == 5);
     Ok(())
 }
