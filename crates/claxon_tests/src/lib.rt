@@ -1,12 +1,17 @@
 //! Tests that cross crates: metadata blocks one after another and what callers find; frames and whole streams, from files and
-//! over readers that pause and fail; runs into writers of all kinds; what the programs do for their words; values as text and
-//! headers of WAV files; and want of memory. Rows of bytes with their answer are lines of `claxon_cases`.
+//! over readers that give little, pause and fail; runs of some 2^32 zeros; runs into writers of all kinds; what the programs do
+//! for their words; values as text and headers of WAV files; want of memory; and vectors of the original's tests. Rows of bytes
+//! with their answer are lines of `claxon_cases`.
 #![tactic(auto)]
 
 #[cfg(test)]
 mod answers;
 #[cfg(test)]
 mod blocks;
+#[cfg(test)]
+mod block_headers;
+#[cfg(test)]
+mod buffers;
 #[cfg(test)]
 mod callers;
 #[cfg(test)]
@@ -15,6 +20,8 @@ mod commands;
 mod conversions;
 #[cfg(test)]
 mod errors;
+#[cfg(test)]
+mod cuts;
 #[cfg(test)]
 mod failing;
 #[cfg(test)]
@@ -28,10 +35,18 @@ mod memory;
 #[cfg(test)]
 mod metadata;
 #[cfg(test)]
+mod most_blocks;
+#[cfg(test)]
 mod runs;
 #[cfg(test)]
+mod sources;
+#[cfg(test)]
 mod texts;
+#[cfg(test)]
+mod vectors;
 #[cfg(test)]
 mod wav_headers;
 #[cfg(test)]
 mod writers;
+#[cfg(test)]
+mod zeros;

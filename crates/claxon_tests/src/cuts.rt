@@ -1,0 +1,59 @@
+//! A stream that is cut at each place, a byte a read.
+use crate::answers::{FRAME, Fault, Step, fault_of, head, joined};
+use crate::sources::OneByte;
+use claxon::input::ReadBytes;
+use claxon::{FlacReader, FlacSamples};
+use std::alloc::Global;
+use std::io::Read;
+use std::test::Fail;
+
+// What the next call for a sample answers.
+fn next_of<R: ReadBytes + Drop>(samples: &mut FlacSamples<R>) -> Step {
+    match samples.next() {
+        Some(Ok(sample)) => Ok(Some(sample)),
+        Some(Err(error)) => Err(fault_of(&error)),
+        None => Ok(None),
+    }
+}
+
+// Whether the first call for a sample answers this, and all further ones None.
+fn gives_once<R: Read + Drop>(flac: &mut FlacReader<R>, first: Step) -> bool {
+    if flac.is_metadata_only() {
+        return false;
+    }
+    let mut samples = flac.samples();
+    let mut all = next_of(&mut samples) == first;
+    for _ in 0..20 {
+        all = all && next_of(&mut samples) == Ok(None);
+    }
+    all
+}
+
+// Whether these bytes are refused for want of more, where no answer is given, else are opened and give this.
+fn is_answered(alloc: Global, bytes: &[u8], first: Option<Step>) -> bool {
+    match (FlacReader::new(alloc, OneByte::new(bytes)), first) {
+        (Ok(flac), Some(first)) => {
+            let mut flac = flac;
+            gives_once(&mut flac, first)
+        }
+        (Err(error), None) => fault_of(&error) == Fault::Io,
+        _ => false,
+    }
+}
+
+// One byte of a frame is no frame.
+#[test]
+fn cut_streams(rt: HostRuntime) -> Result<(), Fail> {
+    let bytes = joined(rt.alloc(), &[&head(0x80), &FRAME])?;
+    for len in 0..54 {
+        let first = match len {
+            0..42 => None,
+            42..44 => Some(Ok(None)),
+            44..53 => Some(Err(Fault::Io)),
+            _ => Some(Ok(Some(5))),
+        };
+        let front = &bytes[..len.min(bytes.len())];
+        assert!(rt; is_answered(rt.alloc(), front, first), "{len}");
+    }
+    Ok(())
+}

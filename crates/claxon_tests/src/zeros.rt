@@ -1,0 +1,50 @@
+//! Runs of some 2^32 zeros in subframes.
+use crate::answers::{Fault, fault_of};
+use crate::sources::ZerosBetween;
+use claxon::input::{Bitstream, BufferedReader, ReadBytes};
+use claxon::subframe;
+use std::process::Abort;
+use std::test::Fail;
+
+// The sample of a subframe of one sample of 8 bits.
+fn decode<R: ReadBytes>(input: &mut R) -> Result<i32, Fault> {
+    let mut buffer = [13];
+    match subframe::decode(&mut Bitstream::new(input), 8, &mut buffer) {
+        Ok(()) => Ok(buffer[0]),
+        Err(error) => Err(fault_of(&error)),
+    }
+}
+
+// What a byte, so many zero bytes and another byte are, which from then on comes again and again.
+fn check(
+    rt: &(impl Abort + AllocGlobal),
+    bytes: (u8, u32, u8),
+    want: Result<i32, Fault>,
+    then: &'static str,
+) -> Result<(), Fail> {
+    let (first, zeros, last) = bytes;
+    let mut input = BufferedReader::new(rt.alloc(), ZerosBetween::new(first, zeros, last))?;
+    assert!(rt; decode(&mut input) == want, "{zeros}");
+    assert!(rt; decode(&mut input) == Err(Fault::Format(then)), "{zeros}");
+    Ok(())
+}
+
+// The count of wasted bits. After 2^32 zeros the next call begins at the byte behind the last of them.
+#[test]
+fn wasted_bits(rt: HostRuntime) -> Result<(), Fail> {
+    let wasted = Err(Fault::Format("wasted bits per sample must not exceed 31"));
+    let no_width = "subframe has no non-wasted bits";
+    check(&rt, (0x01, 536_870_911, 0x01), wasted, no_width)?;
+    let invalid = "invalid subframe header";
+    check(&rt, (0x01, 536_870_912, 0x80), Err(Fault::Io), invalid)
+}
+
+// The quotient of a Rice code, which begins with the third bit of the third byte. The greatest is 2^32 - 1.
+#[test]
+fn quotients(rt: HostRuntime) -> Result<(), Fail> {
+    let least = Ok(-2_147_483_648);
+    let order = "invalid LPC subframe, lpc order is larger than block size";
+    check(&rt, (0x10, 536_870_913, 0x44), least, order)?;
+    let invalid = "invalid subframe header";
+    check(&rt, (0x10, 536_870_914, 0x80), Err(Fault::Io), invalid)
+}
