@@ -31,6 +31,8 @@ mod in_turn;
 #[cfg(test)]
 mod info;
 #[cfg(test)]
+mod lost_output;
+#[cfg(test)]
 mod memory;
 #[cfg(test)]
 mod metadata;
