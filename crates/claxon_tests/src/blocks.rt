@@ -5,16 +5,16 @@ use std::alloc::{AllocError, Allocator, Global};
 use std::io::Cursor;
 use std::test::Fail;
 
-/// A frame, and what its block shows; the samples are channel after channel.
-pub struct Row {
-    pub bytes: &'static [u8],
-    pub time: u64,
-    pub channels: u32,
-    pub samples: &'static [i32],
+// A frame, and what its block shows; the samples are channel after channel.
+struct Row {
+    bytes: &'static [u8],
+    time: u64,
+    channels: u32,
+    samples: &'static [i32],
 }
 
-/// A frame of mid and side, left 3 and right -2.
-pub const MID_SIDE: Row = Row {
+// A frame of mid and side, left 3 and right -2.
+const MID_SIDE: Row = Row {
     bytes: &[
         0xff, 0xf8, 0x69, 0xa2, 0x00, 0x00, 0xd2, 0x00, 0x00, 0x00, 0x02, 0x80, 0x24, 0xd1,
     ],
@@ -54,8 +54,8 @@ const ROWS: [Row; 7] = [
     },
 ];
 
-/// Whether a call answered the block of this row.
-pub fn is_block<A: Allocator>(answer: FrameResult<A>, row: &Row) -> bool {
+// Whether a call answered the block of this row.
+fn is_block<A: Allocator>(answer: FrameResult<A>, row: &Row) -> bool {
     match answer {
         Ok(Some(block)) => {
             block.time() == row.time
@@ -67,8 +67,8 @@ pub fn is_block<A: Allocator>(answer: FrameResult<A>, row: &Row) -> bool {
     }
 }
 
-/// A buffer of so many numbers, each the same.
-pub fn filled(alloc: Global, filler: i32, len: usize) -> Result<Vec<i32>, AllocError> {
+// A buffer of so many numbers, each the same.
+fn filled(alloc: Global, filler: i32, len: usize) -> Result<Vec<i32>, AllocError> {
     let mut buffer = Vec::new(alloc);
     buffer.resize(len, filler)?;
     Ok(buffer)

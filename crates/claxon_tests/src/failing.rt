@@ -1,6 +1,5 @@
 //! Readers that give little, fail or pause, under frames, samples and whole runs.
 use crate::answers::{FIVES, FRAME, Fault, Run, answers_each, end_of, joined, run_of, two_frames};
-use crate::blocks::{MID_SIDE, filled, is_block};
 use claxon::frame::FrameReader;
 use claxon::input::BufferedReader;
 use claxon_write::run;
@@ -79,58 +78,6 @@ fn is_cut(run: Result<Run, Fault>, count: Option<usize>) -> bool {
         Ok(run) => Some(run.count) == count && run.faults == 1 && run.fault == Some(Fault::Io),
         Err(fault) => count.is_none() && fault == Fault::Io,
     }
-}
-
-// Whether the rest of a stream that gives a byte a read ends without a fault.
-fn has_ended(run: Result<Run, Fault>) -> bool {
-    match run {
-        Ok(run) => run.count == 0 && run.faults == 0,
-        Err(_) => false,
-    }
-}
-
-// The smallest stream, cut at each place, a byte a read. One byte of a frame is no frame.
-#[test]
-fn cut_streams(rt: HostRuntime) {
-    let bytes = two_frames(0x58);
-    for len in 0..53 {
-        let source = Interrupts {
-            bytes: &bytes[..len],
-            piece: 1,
-            reads_left: 0,
-            trouble: None,
-        };
-        let run = run_of(rt.alloc(), source);
-        let is_right = match len {
-            0..42 => is_cut(run, None),
-            42..44 => has_ended(run),
-            _ => is_cut(run, Some(0)),
-        };
-        assert!(rt; is_right, "{len}");
-    }
-}
-
-// Whether a frame that stands twice is read by one reader of a byte a read, into such buffers.
-fn is_read_twice(alloc: Global, len: usize) -> Result<bool, Fail> {
-    let bytes = joined(alloc, &[MID_SIDE.bytes, MID_SIDE.bytes])?;
-    let source = Interrupts {
-        bytes: &bytes,
-        piece: 1,
-        reads_left: 0,
-        trouble: None,
-    };
-    let mut reader = FrameReader::new(BufferedReader::new(alloc, source)?);
-    let first = is_block(reader.read_next_or_eof(filled(alloc, 13, len)?), &MID_SIDE);
-    let second = is_block(reader.read_next_or_eof(filled(alloc, 13, len)?), &MID_SIDE);
-    Ok(first && second)
-}
-
-#[test]
-fn a_frame_twice(rt: HostRuntime) -> Result<(), Fail> {
-    for len in [0, 1, 16384] {
-        assert!(rt; is_read_twice(rt.alloc(), len)?, "{len}");
-    }
-    Ok(())
 }
 
 // A byte a read: how many samples come before the read fails, one once the first frame was read.

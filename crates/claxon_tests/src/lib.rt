@@ -7,9 +7,9 @@
 #[cfg(test)]
 mod answers;
 #[cfg(test)]
-mod blocks;
-#[cfg(test)]
 mod block_headers;
+#[cfg(test)]
+mod blocks;
 #[cfg(test)]
 mod buffers;
 #[cfg(test)]
@@ -19,9 +19,9 @@ mod commands;
 #[cfg(test)]
 mod conversions;
 #[cfg(test)]
-mod errors;
-#[cfg(test)]
 mod cuts;
+#[cfg(test)]
+mod errors;
 #[cfg(test)]
 mod failing;
 #[cfg(test)]
@@ -34,8 +34,6 @@ mod info;
 mod lost_output;
 #[cfg(test)]
 mod memory;
-#[cfg(test)]
-mod metadata;
 #[cfg(test)]
 mod most_blocks;
 #[cfg(test)]
