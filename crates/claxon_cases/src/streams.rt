@@ -23,8 +23,13 @@ pub fn answer_of_stream(alloc: Global, case: &Case, answer: &mut Answer) {
     if has_contents(&open(alloc, case)) {
         add_contents(alloc, case, answer);
     }
-    add_other_heads(alloc, &case.bytes, answer);
-    add_other_runs(alloc, &case.bytes, answer);
+    add_calls_that_disagree(alloc, &case.bytes, answer);
+}
+
+/// Adds the calls over a stream that show, end with or write otherwise than they should among themselves.
+pub fn add_calls_that_disagree(alloc: Global, bytes: &[u8], answer: &mut Answer) {
+    add_other_heads(alloc, bytes, answer);
+    add_other_runs(alloc, bytes, answer);
 }
 
 const fn options_of(number: u32) -> FlacReaderOptions {

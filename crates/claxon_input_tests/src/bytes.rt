@@ -48,7 +48,7 @@ const CALLS: [Call; 6] = [
 ];
 
 // Whether the end of the input, where there are too few bytes, is told as such.
-fn is_told_as_the_end<R: ReadBytes>(input: &mut R, call: Call) -> bool {
+fn has_kind_of_eof<R: ReadBytes>(input: &mut R, call: Call) -> bool {
     let kind = io::ErrorKind::UnexpectedEof;
     match call {
         Call::Byte => has_failed(input.read_u8(), kind),
@@ -63,7 +63,7 @@ fn is_told_as_the_end<R: ReadBytes>(input: &mut R, call: Call) -> bool {
 
 // Of a buffered reader and of a cursor, behind the last byte and before it where a call asks for more.
 #[test]
-fn an_end_has_its_kind(rt: HostRuntime) -> Result<(), Fail> {
+fn eof_has_its_kind(rt: HostRuntime) -> Result<(), Fail> {
     for call in CALLS {
         let bytes: &[u8] = if matches!(call, Call::Byte) {
             &[]
@@ -71,15 +71,15 @@ fn an_end_has_its_kind(rt: HostRuntime) -> Result<(), Fail> {
             &[1]
         };
         let mut buffered = BufferedReader::new(rt.alloc(), Cursor::new(bytes))?;
-        assert!(rt; is_told_as_the_end(&mut buffered, call));
-        assert!(rt; is_told_as_the_end(&mut Cursor::new(bytes), call));
+        assert!(rt; has_kind_of_eof(&mut buffered, call));
+        assert!(rt; has_kind_of_eof(&mut Cursor::new(bytes), call));
     }
     Ok(())
 }
 
 // A cursor with too few bytes takes none of them.
 #[test]
-fn an_end_takes_nothing(rt: HostRuntime) -> Result<(), Fail> {
+fn eof_takes_nothing(rt: HostRuntime) -> Result<(), Fail> {
     let mut cursor = Cursor::new([1u8, 2]);
     assert!(rt; cursor.skip(3).is_err() && cursor.read_into(&mut [0; 3]).is_err());
     assert!(rt; cursor.read_be_u16()? == 0x0102);
