@@ -9,8 +9,6 @@ mod answers;
 #[cfg(test)]
 mod block_headers;
 #[cfg(test)]
-mod blocks;
-#[cfg(test)]
 mod buffers;
 #[cfg(test)]
 mod callers;
