@@ -9,6 +9,9 @@ ghost use Rattle.claxon_predictor.specs.Twelve.{numbers, SmallTwelve, WideTwelve
 
 use std::simd::prelude::*;
 
+#[cfg(test)]
+mod tests;
+
 /// The samples of a fixed predictor, from its first `order` samples and the residual after them.
 /// (RFC 9639, section 9.2.5.)
 pub fn predict_fixed(order: u32, buffer: &mut [i32])

@@ -35,8 +35,6 @@ mod memory;
 #[cfg(test)]
 mod most_blocks;
 #[cfg(test)]
-mod runs;
-#[cfg(test)]
 mod sources;
 #[cfg(test)]
 mod texts;

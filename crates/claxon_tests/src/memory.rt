@@ -136,10 +136,11 @@ fn check(
 fn streams(rt: HostRuntime) -> Result<(), Fail> {
     let tagged = joined(
         rt.alloc(),
-        &[&head(0x00), &[0x84, 0x00, 0x00, 0x13], &COMMENT, &FRAME],
+        &[&head(0x00), &[0x84, 0x00, 0x00, 0x13], &COMMENT],
     )?;
     check(&rt, Call::Open, &tagged, 3)?;
-    check(&rt, Call::Samples, &tagged, 4)?;
+    let with_a_frame = joined(rt.alloc(), &[&tagged, &FRAME])?;
+    check(&rt, Call::Samples, &with_a_frame, 4)?;
     check(&rt, Call::Run, &two_frames(0x58), 2)
 }
 

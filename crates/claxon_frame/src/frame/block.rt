@@ -7,6 +7,9 @@ ghost use Rattle.claxon_frame.specs.Unmixing.{pairs_left};
 use std::alloc::{Allocator, Global};
 use std::marker::Model;
 
+#[cfg(test)]
+mod tests;
+
 /// The samples of a frame: channels of equal length, at a time.
 #[derive(Drop)]
 pub struct Block<A: Allocator = Global> {

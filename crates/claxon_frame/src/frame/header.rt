@@ -25,6 +25,10 @@ use claxon_input::error::{Error, Result};
 use claxon_input::fields::{read_big_u16, read_big_u16_or_eof, read_byte};
 use claxon_input::input::ReadBytes;
 use parts::{BlockSize, BlockTime, BlockingStrategy, HeaderFields, SampleRate};
+
+#[cfg(test)]
+mod tests;
+
 pub use parts::{ChannelAssignment, FrameHeader, KnownStream};
 
 /// Reads the header of the next frame, its guard included. None where fewer than two bytes were left, which are taken.

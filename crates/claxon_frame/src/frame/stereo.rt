@@ -5,6 +5,9 @@ ghost use Rattle.claxon_frame.specs.Unmixing.{AreUnmixed, IsUnmixed};
 
 use super::header::ChannelAssignment;
 
+#[cfg(test)]
+mod tests;
+
 /// Turns the coded channels, which stand one after another, into those that they stand for.
 pub fn unmix(channel_assignment: ChannelAssignment, buffer: &mut [i32])
     requires { channels_of channel_assignment ≤ 8 }

@@ -14,6 +14,9 @@ ghost use Rattle.claxon_subframe.specs.Words.{WordsAreRead, WordsStandAhead, IsF
 use claxon_input::error::Result;
 use claxon_input::input::{Ahead, Bitstream, ReadBytes};
 
+#[cfg(test)]
+mod tests;
+
 /// So many words as the buffer is long.
 pub fn read_words<R: ReadBytes>(
     input: &mut Bitstream<R>,
