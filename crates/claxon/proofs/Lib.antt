@@ -6,3 +6,4 @@ pub mod ErrorTexts
 pub mod SamplesInTurn
 pub mod Opening
 pub mod SampleRuns
+pub mod FramesInMemory

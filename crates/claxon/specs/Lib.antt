@@ -13,8 +13,8 @@ pub use Rattle.claxon_input.specs.Gives
 pub use Rattle.claxon_input.specs.Promises
 pub use Rattle.claxon_metadata.specs.declared.metadata.StreamInfo as StreamInfos
 pub use Rattle.claxon_metadata.specs.VorbisComment
-pub use Rattle.claxon_tags.specs.TagEntries
-pub use Rattle.claxon_tags.specs.Tags
+pub use Rattle.claxon_metadata.specs.TagEntries
+pub use Rattle.claxon_metadata.specs.Tags
 pub use Rattle.claxon_metadata.specs.MetadataBlock
 pub use Rattle.claxon_metadata.specs.MetadataBlockReader
 pub use Rattle.claxon_frame.specs.Block
@@ -26,3 +26,5 @@ pub mod FlacReader
 pub mod Opening
 pub mod FlacSamples
 pub mod SampleRuns
+pub mod Fronts
+pub mod FramesInMemory

@@ -17,7 +17,7 @@ use Rattle.claxon_input.specs.Source.{Source}
 use Rattle.claxon_input.specs.State.{State, bytes_in}
 use Rattle.claxon_metadata.specs.MetadataBlock.{HasBounds, MayStarve, content_view, info_view}
 use Rattle.claxon_metadata.specs.VorbisComment.{comment_view}
-use Rattle.claxon_tags.specs.TagEntries.{HavePlaces}
+use Rattle.claxon_metadata.specs.TagEntries.{HavePlaces}
 use Rattle.claxon.specs.declared.head.FlacReaderOptions.{FlacReaderOptions}
 use Rattle.claxon_metadata.specs.declared.metadata.MetadataBlock.{MetadataBlock}
 use Rattle.claxon_metadata.specs.declared.metadata.StreamInfo.{StreamInfo}

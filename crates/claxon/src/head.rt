@@ -6,7 +6,7 @@ ghost use Rattle.claxon_format.specs.Heads.{is_short, stream_marker};
 ghost use Rattle.claxon_input.specs.State.{bytes_in};
 ghost use Rattle.claxon_input.specs.Gives.{Gives, GivesOrStarves};
 ghost use Rattle.claxon_metadata.specs.MetadataBlock.{IsSound};
-ghost use Rattle.claxon_tags.specs.TagEntries.{HavePlaces};
+ghost use Rattle.claxon_metadata.specs.TagEntries.{HavePlaces};
 ghost use Rattle.claxon.specs.ReadHead.{CommentHasPlaces, CommentsAreFound, EachHeadFaultIsNamed, EachHeadIsAnswered, HeadFaultWasTaken, HeadHasCommentIfRead, HeadIsRead, HeadLeavesRest, HeadMayStarve, HeadWasTaken, InfoHasBounds, NoHeadIsIoError, StarvesBehind, StarvesBehindBlocks, found_view, head_view, other_at, other_view, wishes};
 
 use crate::error::{Error, Result};

@@ -4,7 +4,7 @@ ghost use Rattle.std.specs.Option.{ForSome, option_map};
 ghost use Rattle.std.proofs.Props.{props};
 ghost use Rattle.claxon_format.specs.Pairs.{values};
 ghost use Rattle.claxon_metadata.specs.MetadataBlock.{HasBounds};
-ghost use Rattle.claxon_tags.specs.TagEntries.{HavePlaces};
+ghost use Rattle.claxon_metadata.specs.TagEntries.{HavePlaces};
 
 use crate::error::Result;
 use crate::head::{FlacReaderOptions, read_head};
@@ -56,7 +56,7 @@ impl<R: Read, A: Allocator + Copy> FlacReader<R, A> {
     ghost use Rattle.claxon_input.specs.BufferedReader.{buffered_inner};
     ghost use Rattle.claxon.specs.FlacSamples.{have_failed, samples_left, samples_stream};
     ghost use Rattle.claxon.specs.FlacReader.{LendsInput, LendsBlocks, LendsSamples, flac_input, flac_metadata_only, flac_streaminfo, samples_input, tags_of, vendor_of};
-    ghost use Rattle.claxon_tags.specs.Tags.{tags_left, values_left};
+    ghost use Rattle.claxon_metadata.specs.Tags.{tags_left, values_left};
 
     /// Reads the head of a stream, with the default options.
     ///

@@ -17,9 +17,9 @@ use Rattle.claxon_metadata.specs.MetadataBlock.{HasBounds}
 use Rattle.claxon_metadata.specs.declared.metadata.StreamInfo.{StreamInfo}
 use Rattle.claxon_frame.specs.FrameReader.{FrameAnswer, block_view}
 use Rattle.claxon.specs.ReadHead.{StarvesBehind, WantsMemory}
-use Rattle.claxon_uses.proofs.FramesInMemory.{FrameInMemory, took_front}
-use Rattle.claxon_uses.proofs.StreamsInMemory.{slice_state}
-use Rattle.claxon_uses.specs.Fronts.{BeginsWith}
+use Rattle.claxon.proofs.FramesInMemory.{FrameInMemory, took_front}
+use Rattle.claxon.proofs.FramesInMemory.{slice_state}
+use Rattle.claxon.specs.Fronts.{BeginsWith}
 use Rattle.claxon_input.specs.Error.{IsFault, IsIo}
 use Rattle.claxon_input.specs.declared.error.Error.TheVariants.{OutOfMemory}
 use Rattle.claxon_c.specs.AtFront.{FrameAtFront, FrontIs, HeadAtFront}

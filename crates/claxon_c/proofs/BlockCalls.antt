@@ -10,7 +10,7 @@ use Rattle.claxon_input.specs.declared.error.Error.{Error}
 use Rattle.claxon_input.specs.declared.error.Error.TheVariants.{OutOfMemory}
 use Rattle.claxon_frame.specs.Block.{BlockValue}
 use Rattle.claxon_frame.specs.FrameReader.{FrameAnswer, block_view}
-use Rattle.claxon_uses.specs.Fronts.{BeginsWith}
+use Rattle.claxon.specs.Fronts.{BeginsWith}
 use Rattle.claxon_c.specs.declared.next_block.ClaxonBlock.{ClaxonBlock}
 use Rattle.claxon_c.specs.AtFront.{FrameAtFront}
 use Rattle.claxon_c.specs.NextBlock.{BlockIsThere, SaysBlock, EachBlockIsGiven, EachFaultIsTold, FaultIsThere, NoFrameIsEnd, PlaceIsKept, SamplesAreGiven, ShowsBlock, StarvesAtHeader, TooFewIsNoMore}

@@ -7,11 +7,11 @@ use Rattle.claxon_format.specs.Streams.{stream_of, with_samples}
 use Rattle.claxon_input.specs.declared.error.Error.{Error}
 use Rattle.claxon_input.specs.declared.error.Error.TheVariants.{OutOfMemory}
 use Rattle.claxon_metadata.specs.MetadataBlock.{HasBounds, info_view}
-use Rattle.claxon_tags.specs.TagEntries.{entry_view}
+use Rattle.claxon_metadata.specs.TagEntries.{entry_view}
 use Rattle.claxon_metadata.specs.declared.metadata.StreamInfo.{StreamInfo}
 use Rattle.claxon_metadata.specs.declared.metadata.VorbisComment.{VorbisComment}
 use Rattle.claxon.specs.ReadHead.{found_view, head_view}
-use Rattle.claxon_uses.specs.Fronts.{BeginsWith}
+use Rattle.claxon.specs.Fronts.{BeginsWith}
 use Rattle.claxon_c.specs.declared.heads.ClaxonInfo.{ClaxonInfo}
 use Rattle.claxon_c.specs.AtFront.{FrontIs, HeadAtFront}
 use Rattle.claxon_c.specs.HeadCalls.{AnswersText, EachHeadFaultIsTold, HeadFaultIsThere, NoHeadIsEnd, ShowsHead, StarvesAtHead, texts_of}

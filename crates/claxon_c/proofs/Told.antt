@@ -6,7 +6,7 @@ use Rattle.claxon_input.specs.Error.{IsFault, IsIo}
 use Rattle.claxon_input.specs.Promises.{HasNeither, IsStarved}
 use Rattle.claxon_input.specs.declared.error.Error.{Error}
 use Rattle.claxon_input.specs.declared.error.Error.TheVariants.{IoError, FormatError, Unsupported, OutOfMemory}
-use Rattle.claxon_uses.specs.Fronts.{BeginsWith}
+use Rattle.claxon.specs.Fronts.{BeginsWith}
 use Rattle.claxon_c.specs.HeadCalls.{SaysHead}
 use Rattle.claxon_c.specs.Status.{ErrorIsTold, FaultIsTold, SaysFault, TextIsPut, TextIsTold, buffer_short, input_ends, no_more, ok, out_of_memory}
 

@@ -12,8 +12,8 @@ use Rattle.claxon_metadata.specs.declared.metadata.StreamInfo.{StreamInfo}
 use Rattle.claxon_metadata.specs.MetadataBlock.{HasBounds}
 use Rattle.claxon_frame.specs.FrameReader.{FrameAnswer, block_view}
 use Rattle.claxon.specs.ReadHead.{WantsMemory}
-use Rattle.claxon_uses.specs.Fronts.{BeginsWith}
-use Rattle.claxon_uses.specs.FramesInMemory.{EachBlockIsDecoded, EachFaultIsTold, FaultIsThere, NoneIsNoFrame, StarvesAtHeader}
+use Rattle.claxon.specs.Fronts.{BeginsWith}
+use Rattle.claxon.specs.FramesInMemory.{EachBlockIsDecoded, EachFaultIsTold, FaultIsThere, NoneIsNoFrame, StarvesAtHeader}
 
 -- its samples have a width
 abbrev pub HasWidth : StreamInfo → Type 0

@@ -6,7 +6,7 @@ use Rattle.claxon_format.specs.Heads.{Head, HeadCode, HeadFault}
 use Rattle.claxon_format.specs.Streams.{stream_of, with_samples}
 use Rattle.claxon_input.specs.Promises.{HasNeither}
 use Rattle.claxon.specs.ReadHead.{WantsMemory}
-use Rattle.claxon_uses.specs.Fronts.{BeginsWith}
+use Rattle.claxon.specs.Fronts.{BeginsWith}
 use Rattle.claxon_c.specs.declared.heads.ClaxonInfo.{ClaxonInfo}
 use Rattle.claxon_c.specs.AtFront.{FrontIs}
 use Rattle.claxon_c.specs.Info.{known_stream}

@@ -5,7 +5,7 @@ use Rattle.claxon_format.specs.Frame.{StreamShape, Block, Frame, FrameBytesFault
 use Rattle.claxon_format.specs.Streams.{duration, interleave}
 use Rattle.claxon_input.specs.Promises.{HasNeither}
 use Rattle.claxon_frame.specs.FrameReader.{HeaderAlone}
-use Rattle.claxon_uses.specs.Fronts.{BeginsWith}
+use Rattle.claxon.specs.Fronts.{BeginsWith}
 use Rattle.claxon_c.specs.declared.next_block.ClaxonBlock.{ClaxonBlock}
 use Rattle.claxon_c.specs.Status.{FaultIsTold, SaysFault, buffer_short, input_ends, no_more, ok, out_of_memory}
 

@@ -1,7 +1,7 @@
 //! Prints what a FLAC file is: a line for each fact that its head tells, and one for each tag.
 #![tactic(auto)]
 
-use claxon_commands::info::command;
+use claxon_tools::commands::info::command;
 use claxon_write::words;
 use std::io::Write;
 use std::process::ExitCode;

@@ -10,7 +10,7 @@ use Rattle.claxon_input.specs.Gives.{Went}
 use Rattle.claxon_input.proofs.FieldLoops.{with_front}
 use Rattle.claxon_input.proofs.CallsInTurn.{went_both, went_map, StopsAs}
 use Rattle.claxon_metadata.specs.VorbisComment.{kept_view}
-use Rattle.claxon_tags.specs.TagEntries.{entry_view, entries_view}
+use Rattle.claxon_metadata.specs.TagEntries.{entry_view, entries_view}
 
 -- some of count texts were read, and so many are missing in so many bytes
 pub record EntriesSoFar (count length missing left : ℕ) (kept : List Entry) (old new : State ℕ) : Type 0 where

@@ -11,7 +11,7 @@ use Rattle.claxon_format.specs.Fault.{Fault, fault_text, is_unsupported}
 use Rattle.claxon_input.specs.declared.error.Error.{Error}
 use Rattle.claxon_input.specs.declared.error.Error.TheVariants.{IoError, FormatError, Unsupported, OutOfMemory}
 use Rattle.claxon_input.specs.Error.{IsFormatError, IsFault}
-use Rattle.claxon_tags.specs.TagEntries.{IsPlace}
+use Rattle.claxon_metadata.specs.TagEntries.{IsPlace}
 
 -- ---- UTF-8
 

@@ -15,7 +15,7 @@ use Rattle.claxon_metadata.specs.declared.metadata.MetadataBlockHeader.{Metadata
 use Rattle.claxon_metadata.specs.declared.metadata.MetadataBlock.{MetadataBlock}
 use Rattle.claxon_metadata.specs.declared.metadata.MetadataBlock.TheVariants.{StreamInfo as InfoBlock, Padding as PaddingBlock, Application as ApplicationBlock, SeekTable, VorbisComment as CommentBlock, CueSheet, Picture, Reserved as ReservedBlock}
 use Rattle.claxon_metadata.specs.VorbisComment.{HasVendorLength, comment_view}
-use Rattle.claxon_tags.specs.TagEntries.{HavePlaces}
+use Rattle.claxon_metadata.specs.TagEntries.{HavePlaces}
 
 -- a number that isn't known is written as 0
 abbrev pub or_zero : Option ℕ → ℕ

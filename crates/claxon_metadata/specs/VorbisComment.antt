@@ -8,7 +8,7 @@ use Rattle.claxon_input.specs.Promises.{IsStarved}
 use Rattle.claxon_input.specs.State.{State}
 use Rattle.claxon_input.specs.declared.error.Error.{Error}
 use Rattle.claxon_metadata.specs.declared.metadata.VorbisComment.{VorbisComment}
-use Rattle.claxon_tags.specs.TagEntries.{entry_view, entries_view}
+use Rattle.claxon_metadata.specs.TagEntries.{entry_view, entries_view}
 
 abbrev pub comment_view : {A : Type 0} → VorbisComment A → Comment
 comment_view comment = record { vendor = string_bytes comment.vendor; entries = entries_view comment.comments.items }

@@ -15,15 +15,16 @@ ghost use Rattle.claxon_metadata.specs.ReadMetadataBlock.{AtMostBlockIsTaken, Bl
 ghost use Rattle.claxon_metadata.specs.MetadataBlock.{HasBounds, IsSound, StarvesLate, content_at, content_view, format_view, header_view, info_view, or_zero, sizes_view};
 
 mod comment;
+mod tags;
 
 use claxon_input::error::{Error, Result};
 use claxon_input::fields::{
     read_big_u16, read_big_u24, read_big_u32, read_byte, read_whole, skip_bytes,
 };
 use claxon_input::input::ReadBytes;
-pub use claxon_tags::{GetTag, Tags};
 use comment::read_vorbis_comment_block;
 use std::alloc::{Allocator, Global};
+pub use tags::{GetTag, Tags};
 
 /// The length in bytes of the longest block that is read into memory.
 const MAX_BLOCK_LENGTH: u32 = 10 * 1024 * 1024;

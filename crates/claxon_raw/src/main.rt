@@ -1,7 +1,7 @@
 //! Writes the samples of a FLAC file as bytes, or prints its tags.
 #![tactic(auto)]
 
-use claxon_commands::raw::command;
+use claxon_write::command;
 use claxon_write::words;
 use std::io::Write;
 use std::process::ExitCode;

@@ -15,3 +15,10 @@ pub mod ScaledSamples
 pub mod OrderZero
 pub mod FieldsInTurn
 pub mod Predicted
+pub mod RestoreLoop
+pub mod Predictors
+pub mod Lanes
+pub mod LastCoefficients
+pub mod Sums
+pub mod SampleLoop
+pub mod Twelve

@@ -3,3 +3,7 @@ pub mod Partitions
 pub mod Decode
 pub mod Words
 pub mod Samples
+pub mod Lanes
+pub mod Predictor
+pub mod Sums
+pub mod Twelve

@@ -14,13 +14,14 @@ ghost use Rattle.claxon_subframe.specs.SubframeFields.{fixed_order, lpc_order, t
 ghost use Rattle.claxon_subframe.specs.Partitions.{lengths, total};
 
 mod partitions;
+mod predictor;
 mod verbatim;
 mod words;
 
 use claxon_input::error::{Error, Result};
 use claxon_input::input::{Bitstream, ReadBytes};
-use claxon_predictor::{predict_fixed, predict_lpc};
 use partitions::read_partitions_at_hand;
+use predictor::{predict_fixed, predict_lpc};
 use verbatim::decode_verbatim;
 use words::read_words;
 

@@ -1,7 +1,7 @@
 //! What the program does for its words: samples and tags of files, and the words themselves.
 use crate::answers::{FIVES, FRAME, PAIRS, head, joined, two_frames};
 use crate::files::{file_of, path_of};
-use claxon_commands::raw::command;
+use claxon_write::command;
 use claxon_test_doubles::sinks::Sink;
 use claxon_write::words;
 use linked_list_allocator::LocalHeap;

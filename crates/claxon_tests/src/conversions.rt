@@ -4,9 +4,9 @@ ghost use Rattle.claxon.specs.FlacReader.{flac_metadata_only};
 
 use crate::files::path_of;
 use claxon::FlacReader;
-use claxon_commands::wav::command;
-use claxon_text::progress::Progress;
-use claxon_wav_header::Layout;
+use claxon_tools::commands::wav::command;
+use claxon_tools::progress::Progress;
+use claxon_tools::wav::Layout;
 use claxon_write::wav::{Result, WavWriter, convert};
 use std::alloc::Global;
 use std::io::{Cursor, Read, Seek, Write};

@@ -1,6 +1,6 @@
 //! What command lines of `claxon_info` give.
 use crate::commands::owned;
-use claxon_commands::info::command;
+use claxon_tools::commands::info::command;
 use std::env;
 use std::test::Fail;
 

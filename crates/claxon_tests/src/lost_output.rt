@@ -2,7 +2,7 @@
 use crate::answers::{COMMENT, FIVES, head, joined, two_frames};
 use crate::commands::owned;
 use crate::files::file_of;
-use claxon_commands::raw::command;
+use claxon_write::command;
 use claxon_test_doubles::sinks::Sink;
 use std::fs;
 use std::io::{self, ErrorKind};

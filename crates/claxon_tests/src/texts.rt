@@ -1,5 +1,5 @@
 //! Values as text.
-use claxon_text::text::{escaped_text, length_text, md5_text, number_text};
+use claxon_tools::text::{escaped_text, length_text, md5_text, number_text};
 use std::alloc::AllocError;
 use std::test::Fail;
 

@@ -1,5 +1,5 @@
 //! Headers as another decoder writes them.
-use claxon_wav_header::Layout;
+use claxon_tools::wav::Layout;
 use std::test::Fail;
 
 struct Header {

@@ -25,7 +25,7 @@ use Rattle.claxon.specs.declared.reader.FlacReader.{FlacReader}
 use Rattle.claxon.specs.declared.samples.FlacSamples.{FlacSamples}
 use Rattle.claxon.proofs.SampleRuns.{behind, fault_complete, frames_either, frames_left, gave_all, short_complete, short_right}
 use Rattle.claxon_uses.specs.FirstSamples.{BeginsWithSamples, FirstFaultIsNamed, FirstFaultIsThere, FirstSamplesAreAnswered, FirstSamplesAreThere, GivesFirst, HasFirst, HasFirstFault, StopsEarly}
-use Rattle.claxon_uses.specs.Fronts.{BeginsWith}
+use Rattle.claxon.specs.Fronts.{BeginsWith}
 use Rattle.claxon_uses.proofs.Dropped.{as_dropped, dropped_excused}
 use Rattle.claxon_uses.proofs.Opened.{IsOpened, after_told, behind_any, head_fault_named, no_head, no_head_fault, shown}
 

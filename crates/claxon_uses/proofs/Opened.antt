@@ -18,7 +18,7 @@ use Rattle.claxon.specs.State.{State, bytes_in}
 use Rattle.claxon.specs.Streams.{stream_of, with_samples}
 use Rattle.claxon.specs.declared.reader.FlacReader.{FlacReader}
 use Rattle.claxon.proofs.SampleRuns.{behind_loan}
-use Rattle.claxon_uses.specs.Fronts.{BeginsWith}
+use Rattle.claxon.specs.Fronts.{BeginsWith}
 use Rattle.claxon_uses.proofs.Dropped.{as_dropped, not_dropped}
 
 -- ---- no head was read

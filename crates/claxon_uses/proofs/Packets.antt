@@ -10,9 +10,9 @@ use Rattle.claxon.specs.Promises.{Comes}
 use Rattle.claxon.specs.State.{State}
 use Rattle.claxon.specs.Block.{BlockValue}
 use Rattle.claxon.specs.FrameReader.{ReadsFrame, block_view}
-use Rattle.claxon_uses.specs.Fronts.{BeginsWith}
+use Rattle.claxon.specs.Fronts.{BeginsWith}
 use Rattle.claxon_uses.specs.Packets.{EachPacketFaultIsTold, EachPacketIsDecoded, HasMoreThanFrame, PacketIsBlock, PacketIsRefused, PacketStarvesAtHeader}
-use Rattle.claxon_uses.proofs.FramesInMemory.{FrameInMemory}
+use Rattle.claxon.proofs.FramesInMemory.{FrameInMemory}
 
 -- all that is promised of such a call
 pub record PacketAnswer (stream : Option StreamShape) (packet : List ℕ) (r : Result BlockValue Error) : Type 0 where

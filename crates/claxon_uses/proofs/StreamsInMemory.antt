@@ -18,19 +18,13 @@ use Rattle.claxon.specs.ReadHead.{StarvesBehind, WantsMemory}
 use Rattle.claxon.specs.SampleRuns.{end_found, samples_of}
 use Rattle.claxon.proofs.SampleRuns.{behind, excused_after, fault_complete, short_complete}
 use Rattle.claxon_uses.specs.Collecting.{Collects, LacksRoom, StopsCollecting}
-use Rattle.claxon_uses.specs.Fronts.{BeginsWith}
+use Rattle.claxon.specs.Fronts.{BeginsWith}
 use Rattle.claxon_uses.specs.StreamsInMemory.{EachStreamFaultIsTold, EachStreamIsDecoded, HasSamples, StarvesForStream, StreamFaultIsThere, StreamIsThere}
 use Rattle.claxon_uses.proofs.Dropped.{as_starved, not_starved}
-use Rattle.claxon_uses.proofs.FramesInMemory.{took_front}
+use Rattle.claxon.proofs.FramesInMemory.{Slice, slice_state, took_front}
 use Rattle.claxon.proofs.InMemory.{cursor_just_starved}
 
 -- ---- a cursor over a slice
-
-abbrev Slice : Type 0
-Slice = Cursor (Bor (List ℕ))
-
-abbrev pub slice_state : Slice → State ℕ
-slice_state c = bytes_in (cursor_source (λ (s : Bor (List ℕ)). s.now)) c
 
 just_starved : {A : Type 0} (r : Result A Error) (b after : Slice) → IsExcused r (slice_state b) (slice_state after) → IsStarved r
 just_starved r b after x = cursor_just_starved (λ (s : Bor (List ℕ)). s.now) r b after x

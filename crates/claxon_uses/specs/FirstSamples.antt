@@ -11,7 +11,7 @@ use Rattle.claxon.specs.Streams.{IsStream, stream_of, with_samples}
 use Rattle.claxon.specs.Errors.{Error}
 use Rattle.claxon.specs.Errors.TheVariants.{OutOfMemory}
 use Rattle.claxon.specs.declared.samples.FlacSamples.{FlacSamples}
-use Rattle.claxon_uses.specs.Fronts.{BeginsWith}
+use Rattle.claxon.specs.Fronts.{BeginsWith}
 
 -- s begins with the frames of blocks, and these are their first samples, so many; or all, and then fewer than two bytes follow.
 pub record HasFirst (count : ℕ) (stream : Option StreamShape) (s : List ℕ) (xs : List ℤ) : Type 0 where

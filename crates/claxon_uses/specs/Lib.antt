@@ -1,8 +1,5 @@
 pub mod Collecting
-pub mod Facts
 pub mod FirstSamples
-pub mod Fronts
-pub mod FramesInMemory
 pub mod Packets
 pub mod Peak
 pub mod StreamsInMemory

@@ -8,7 +8,7 @@ use Rattle.claxon.specs.FrameReader.{HeaderAlone, block_view}
 use Rattle.claxon.specs.Promises.{IsStarved}
 use Rattle.claxon.specs.Errors.{Error}
 use Rattle.claxon.specs.Errors.TheVariants.{OutOfMemory}
-use Rattle.claxon_uses.specs.Fronts.{BeginsWith}
+use Rattle.claxon.specs.Fronts.{BeginsWith}
 
 -- It is too short for a frame, and the error says so.
 abbrev pub HasNoFrame : List ℕ → Error → Type 0

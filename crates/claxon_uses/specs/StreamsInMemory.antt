@@ -11,7 +11,7 @@ use Rattle.claxon.specs.SampleRuns.{samples_of}
 use Rattle.claxon.specs.Streams.{IsStream, stream_of, with_samples}
 use Rattle.claxon.specs.Errors.{Error}
 use Rattle.claxon.specs.Errors.TheVariants.{OutOfMemory}
-use Rattle.claxon_uses.specs.Fronts.{BeginsWith}
+use Rattle.claxon.specs.Fronts.{BeginsWith}
 
 -- the fault of a head stands at the front, or that of a frame behind a head and all frames that stand there
 abbrev pub HasStreamFault : List ℕ → Fault → Type 0

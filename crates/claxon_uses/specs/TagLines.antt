@@ -8,7 +8,7 @@ use Rattle.claxon.specs.FlacReader.{comment_tags, flac_head}
 use Rattle.claxon.specs.Heads.{Head, HeadCode, HeadFault, Options}
 use Rattle.claxon.specs.Opening.{IsDropped, unread}
 use Rattle.claxon.specs.declared.reader.FlacReader.{FlacReader}
-use Rattle.claxon_uses.specs.Fronts.{BeginsWith}
+use Rattle.claxon.specs.Fronts.{BeginsWith}
 
 -- NAME=value; 0x3d is `=`
 abbrev pub tag_line : List ℕ × List ℕ → List ℕ

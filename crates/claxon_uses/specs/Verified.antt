@@ -13,7 +13,7 @@ use Rattle.claxon.specs.Streams.{duration, stream_of, with_samples}
 use Rattle.claxon.specs.FrameReaders.{FrameReader}
 use Rattle.claxon.specs.Errors.{Error}
 use Rattle.claxon.specs.Errors.TheVariants.{OutOfMemory, Unsupported}
-use Rattle.claxon_uses.specs.Fronts.{BeginsWith}
+use Rattle.claxon.specs.Fronts.{BeginsWith}
 use Rattle.claxon_uses.specs.declared.damaged.Found.{Found}
 
 -- the frame of a block, or a fault

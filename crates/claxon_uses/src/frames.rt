@@ -1,7 +1,7 @@
 //! Frames that stand in memory.
 ghost use Rattle.std.specs.Prelude.{◌≤◌, None, Some};
 ghost use Rattle.claxon.specs.FrameReader.{stream_with};
-ghost use Rattle.claxon_uses.specs.FramesInMemory.{BlockIsThere, EachBlockIsDecoded, EachFaultIsTold, FaultIsThere, NoneIsNoFrame, StarvesAtHeader};
+ghost use Rattle.claxon.specs.FramesInMemory.{BlockIsThere, EachBlockIsDecoded, EachFaultIsTold, FaultIsThere, NoneIsNoFrame, StarvesAtHeader};
 ghost use Rattle.claxon_uses.specs.Packets.{EachPacketFaultIsTold, EachPacketIsDecoded, PacketIsBlock, PacketIsRefused, PacketStarvesAtHeader};
 
 use claxon::frame::{FrameReader, FrameResult};

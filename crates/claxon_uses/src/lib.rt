@@ -3,7 +3,6 @@
 
 mod blocks;
 mod damaged;
-mod facts;
 mod frames;
 mod samples;
 mod streams;
@@ -11,7 +10,6 @@ mod tags;
 
 pub use blocks::{block_peak, peak};
 pub use damaged::{Found, verify};
-pub use facts::write_facts;
 pub use frames::{decode_one, decode_packet};
 pub use samples::first_samples;
 pub use streams::decode_all;

@@ -1,7 +1,7 @@
 //! Converts a FLAC file into a WAV file.
 #![tactic(auto)]
 
-use claxon_commands::wav::command;
+use claxon_tools::commands::wav::command;
 use claxon_write::words;
 use std::io::{IsTerminal, Write};
 use std::process::ExitCode;

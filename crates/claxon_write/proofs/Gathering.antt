@@ -17,11 +17,11 @@ use Rattle.claxon.specs.SampleRuns.{TakesFrames, samples_of}
 use Rattle.claxon.proofs.SamplesInTurn.{reads_as, same_duration}
 use Rattle.claxon.proofs.SampleRuns.{samples_add, takes_none, takes_more}
 use Rattle.claxon_write.specs.Decoded.{IsLimit, Gathers, FailsToWrite, last_bytes}
-use Rattle.claxon_sample_bytes.specs.SampleBytes.{bytes_of_samples}
+use Rattle.claxon_write.specs.SampleBytes.{bytes_of_samples}
 use Rattle.claxon_write.specs.Written.{AppendsAllBut, FailsToPut, IsUnflushed, Puts, capacity, held, waiting}
 use Rattle.claxon_write.specs.declared.output.Output.{Output}
 use Rattle.claxon_write.proofs.Puts.{puts_none, puts_both, puts_as, fails_after, fails_close}
-use Rattle.claxon_sample_bytes.proofs.SampleBytes.{bytes_append}
+use Rattle.claxon_write.proofs.SampleBytes.{bytes_append}
 
 pub record GatheredSoFar {W : Type 0} (contents : W → Option (List ℕ)) (stream : Option StreamShape) (n : ℕ) (old new : State ℕ) (before after : Output W) : Type 0 where
   pub blocks : List Block

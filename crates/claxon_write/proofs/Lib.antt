@@ -6,7 +6,5 @@ pub mod Unlent
 pub mod WholeRuns
 pub mod Runs
 pub mod Rests
-pub mod Converting
-pub mod Ending
-pub mod Interleaved
-pub mod Widths
+pub mod SampleBytes
+pub mod Places

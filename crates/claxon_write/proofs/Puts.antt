@@ -7,8 +7,8 @@ use Rattle.std.proofs.lemmas.List.{append-nil, append_cancel_left, take_at, drop
 use Rattle.claxon_format.specs.Streams.{interleave}
 use Rattle.claxon_input.specs.Error.{IsIo}
 use Rattle.claxon_input.specs.declared.error.Error.{Error}
-use Rattle.claxon_sample_bytes.specs.SampleBytes.{bytes_of_samples, places}
-use Rattle.claxon_sample_bytes.proofs.SampleBytes.{places_all}
+use Rattle.claxon_write.specs.SampleBytes.{bytes_of_samples, places}
+use Rattle.claxon_write.proofs.SampleBytes.{places_all}
 use Rattle.claxon_write.specs.Output.{FlushFails, FlushesAll}
 use Rattle.claxon_write.specs.Written.{AppendsAllBut, AppendsFront, FailsToPut, FlushFailed, IsFlushed, IsUnflushed, NothingFailed, Puts, WriteFailed, capacity, failed_flushes_of, failed_writes_of, held, held_and_waiting, waiting}
 use Rattle.claxon_frame.specs.Block.{duration_of}

@@ -17,7 +17,7 @@ use Rattle.claxon.specs.FlacReader.{flac_head, flac_streaminfo}
 use Rattle.claxon.specs.Opening.{EachFaultIsNamedOnOpening, EachHeadIsOpened, IsDropped, flac_bytes, unread}
 use Rattle.claxon.specs.SampleRuns.{samples_of}
 use Rattle.claxon.specs.declared.reader.FlacReader.{FlacReader}
-use Rattle.claxon_sample_bytes.specs.SampleBytes.{bytes_of_samples}
+use Rattle.claxon_write.specs.SampleBytes.{bytes_of_samples}
 use Rattle.claxon_write.specs.Decoded.{Decodes, EndsAfter, FailsToFlushAll, FailsToWrite, StopsDecoding, TakesBlocks, TooMany}
 use Rattle.claxon_write.specs.Run.{DecoderStops, FrameFaultStands, IsHeadAndFrames, LimitStands, Ran, RunFaultIsComplete, RunIsComplete, StopsBehindFrames, StopsEarly, WritesFrontOfSamples, WritesNoMore}
 use Rattle.claxon_write.specs.WriteSamples.{EachStreamFaultIsNamed, EachStreamIsWritten}

@@ -19,7 +19,7 @@ use Rattle.claxon_frame.specs.FrameReader.{ReadsFrame, block_view, stream_with}
 use Rattle.claxon_metadata.specs.declared.metadata.StreamInfo.{StreamInfo}
 use Rattle.claxon.specs.SampleRuns.{TakesFrames, ReadsFrames, samples_of}
 use Rattle.claxon_write.specs.Decoded.{EndsAfter, Gathers, Decodes, FailsToFlushAll, FailsToWrite, StopsDecoding, TakesBlocks, last_bytes}
-use Rattle.claxon_sample_bytes.specs.SampleBytes.{bytes_of_samples}
+use Rattle.claxon_write.specs.SampleBytes.{bytes_of_samples}
 use Rattle.claxon_write.specs.Written.{AppendsAllBut, FailsToPut, FlushFailed, IsFlushed, IsUnflushed, NothingFailed, Puts, capacity, failed_flushes_of, failed_writes_of, held, held_and_waiting, waiting}
 use Rattle.claxon_write.specs.declared.output.Output.{Output}
 use Rattle.claxon_write.specs.declared.stream.End.{End}

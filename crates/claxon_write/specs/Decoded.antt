@@ -8,7 +8,7 @@ use Rattle.claxon_input.specs.State.{State}
 use Rattle.claxon_input.specs.declared.error.Error.{Error}
 use Rattle.claxon_input.specs.declared.error.Error.TheVariants.{Unsupported}
 use Rattle.claxon.specs.SampleRuns.{ReadsFrames, TakesFrames, samples_of}
-use Rattle.claxon_sample_bytes.specs.SampleBytes.{bytes_of_samples}
+use Rattle.claxon_write.specs.SampleBytes.{bytes_of_samples}
 use Rattle.claxon_write.specs.Written.{AppendsAllBut, FlushFailed, IsFlushed, IsUnflushed, NothingFailed, Puts, WriteFailed, capacity, held, held_and_waiting, waiting}
 use Rattle.claxon_write.specs.declared.output.Output.{Output}
 

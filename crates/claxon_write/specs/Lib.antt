@@ -5,6 +5,4 @@ pub mod Output
 pub mod WriteBlocks
 pub mod WriteSamples
 pub mod Run
-pub mod Convert
-pub mod Samples
-pub mod Writer
+pub mod SampleBytes

@@ -4,7 +4,7 @@ use Rattle.std.specs.Io.KnownBytes.{Appends}
 use Rattle.claxon_format.specs.Streams.{interleave}
 use Rattle.claxon_frame.specs.Block.{BlockValue}
 use Rattle.claxon_input.specs.declared.error.Error.{Error}
-use Rattle.claxon_sample_bytes.specs.SampleBytes.{bytes_of_samples}
+use Rattle.claxon_write.specs.SampleBytes.{bytes_of_samples}
 use Rattle.claxon_write.specs.Written.{AppendsFront, FailsToFlush, FailsToPut, IsFlushed, IsUnflushed, Puts}
 use Rattle.claxon_write.specs.declared.output.Counted.{Counted}
 use Rattle.claxon_write.specs.declared.output.Output.{Output}

@@ -14,7 +14,7 @@ use Rattle.claxon.specs.Opening.{IsDropped}
 use Rattle.claxon.specs.SampleRuns.{samples_of}
 use Rattle.claxon_write.specs.Decoded.{IsLimit}
 use Rattle.claxon_write.specs.Written.{AppendsFront}
-use Rattle.claxon_sample_bytes.specs.SampleBytes.{bytes_of_samples}
+use Rattle.claxon_write.specs.SampleBytes.{bytes_of_samples}
 
 -- s is a head, the frames of these blocks, and this rest.
 pub record IsHeadAndFrames (s : List ℕ) (head : Head) (blocks : List Block) (rest : List ℕ) : Type 0 where

@@ -1,11 +1,13 @@
-//! The samples of a stream written as bytes or as a WAV file, and the arguments of programs.
+//! The samples of a stream as bytes on their way to a writer, and what `claxon_raw` does for its arguments.
 #![tactic(auto)]
 
 mod arguments;
+mod bytes;
+mod command;
 mod output;
 mod stream;
-pub mod wav;
 
 pub use arguments::words;
+pub use command::command;
 pub use output::Output;
 pub use stream::{run, write_samples};

@@ -3,10 +3,10 @@ ghost use Rattle.std.specs.Prelude.{◌≡◌, ◌≤◌, ◌<◌, ◌+◌, ◌*
 ghost use Rattle.std.specs.Io.KnownBytes.{Appends, Keeps};
 ghost use Rattle.claxon_input.specs.Error.{IsIo};
 ghost use Rattle.claxon_frame.specs.Block.{duration_of};
-ghost use Rattle.claxon_sample_bytes.specs.SampleBytes.{bytes_between};
+ghost use Rattle.claxon_write.specs.SampleBytes.{bytes_between};
 
+use crate::bytes::{put_channel, put_mono, put_stereo};
 use claxon::{Block, Error, Result};
-use claxon_sample_bytes::{put_channel, put_mono, put_stereo};
 use std::alloc::Allocator;
 use std::io;
 use std::io::{ErrorKind, Write};

@@ -13,7 +13,7 @@ ghost use Rattle.claxon_input.specs.Gives.{Gives, GivesOrStarves};
 ghost use Rattle.claxon_input.specs.Error.{IsFault};
 ghost use Rattle.claxon_metadata.specs.ReadMetadataBlock.{CommentIsRead};
 ghost use Rattle.claxon_metadata.specs.VorbisComment.{EndIsTested, StarvesBehindVendorLength, kept_view};
-ghost use Rattle.claxon_tags.specs.TagEntries.{HavePlaces, IsPlace, entry_view, entries_view};
+ghost use Rattle.claxon_metadata.specs.TagEntries.{HavePlaces, IsPlace, entry_view, entries_view};
 
 use super::{MAX_BLOCK_LENGTH, VorbisComment, read_bytes};
 use claxon_input::error::{Error, Result};

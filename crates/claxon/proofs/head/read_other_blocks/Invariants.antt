@@ -1,6 +1,6 @@
 use Rattle.std.proofs.Common.{IfSome}
 use Rattle.claxon_input.specs.State.{bytes_in}
-use Rattle.claxon_tags.specs.TagEntries.{HavePlaces}
+use Rattle.claxon_metadata.specs.TagEntries.{HavePlaces}
 use Rattle.claxon.specs.ReadHead.{found_view}
 use Rattle.claxon.proofs.HeadParts.{OthersSoFar}
 use Rattle.claxon.proofs.head.read_other_blocks.Given as goal

@@ -4,7 +4,7 @@ use Rattle.std.proofs.lemmas.List.{take_all}
 use Rattle.std.specs.Io.Cursor.{cursor_inner}
 use Rattle.claxon.specs.Promises.{Comes}
 use Rattle.claxon.proofs.SamplesInTurn.{reads_frame}
-use Rattle.claxon_uses.proofs.FramesInMemory.{frame_in_memory, known_as, slice_bytes, slice_comes, slice_never_fails}
+use Rattle.claxon.proofs.FramesInMemory.{frame_in_memory, known_as, slice_bytes, slice_comes, slice_never_fails}
 use Rattle.claxon_uses.proofs.frames.decode_one.Goals as goal
 
 pub returns : goal.returns

@@ -2,7 +2,7 @@ use Rattle.std.proofs.Common.{Some, Ok, arith, refl}
 use Rattle.std.proofs.lemmas.Result.{err_from_is_err_and}
 use Rattle.claxon.specs.FrameReader.{stream_with}
 use Rattle.claxon.proofs.SamplesInTurn.{reads_frame}
-use Rattle.claxon_uses.proofs.FramesInMemory.{frame_in_memory, known_as, slice_bytes, slice_comes, slice_left, slice_never_fails}
+use Rattle.claxon.proofs.FramesInMemory.{frame_in_memory, known_as, slice_bytes, slice_comes, slice_left, slice_never_fails}
 use Rattle.claxon_uses.proofs.Packets.{packet_failed, packet_of_more, packet_whole, packet_without}
 use Rattle.claxon_uses.proofs.frames.decode_packet.Goals as goal
 

@@ -1,8 +1,8 @@
 use Rattle.std.proofs.Common.{◌≡◌, ◌*◌, ◌-◌, ◌∷◌, [], ℕ, length, refl, sym, ap, ◌∙◌, arith}
 use Rattle.std.specs.List.{between}
 use Rattle.std.proofs.lemmas.List.Edits.{length-between}
-use Rattle.claxon_sample_bytes.specs.SampleBytes.{bytes_of_samples, places}
-use Rattle.claxon_sample_bytes.proofs.Places.{before_channels, after_channels, mono_part, stereo_part}
+use Rattle.claxon_write.specs.SampleBytes.{bytes_of_samples, places}
+use Rattle.claxon_write.proofs.Places.{before_channels, after_channels, mono_part, stereo_part}
 use Rattle.claxon_write.proofs.output.interleave.Goals as goal
 
 pub returns-in-0 : goal.returns-in-0

@@ -1,7 +1,7 @@
 use Rattle.std.proofs.Common.{◌*◌, ◌-◌, ℕ, refl, sym, ap, ◌∙◌, arith}
 use Rattle.std.specs.List.{between}
 use Rattle.std.proofs.lemmas.List.Edits.{length-between}
-use Rattle.claxon_sample_bytes.proofs.Places.{before_channels, channel_after, after_channels}
+use Rattle.claxon_write.proofs.Places.{before_channels, channel_after, after_channels}
 use Rattle.claxon_write.proofs.output.put_channels.Goals as goal
 
 pub loop-ch-init : goal.loop-ch-init

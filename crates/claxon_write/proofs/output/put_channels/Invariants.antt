@@ -1,5 +1,5 @@
 use Rattle.std.proofs.Common.{◌*◌, ◌-◌}
-use Rattle.claxon_sample_bytes.proofs.Places.{PlacesSoFar}
+use Rattle.claxon_write.proofs.Places.{PlacesSoFar}
 use Rattle.claxon_write.proofs.output.put_channels.Given as goal
 
 abbrev pub invariant-loop-ch : goal.invariant-loop-ch

@@ -2,7 +2,7 @@ use Rattle.std.proofs.Common.{◌≡◌, ◌<◌, ℕ, [], ◌∷◌, ◌++◌, 
 use Rattle.std.proofs.lemmas.Result.{err_from_is_err_and}
 use Rattle.claxon_metadata.specs.VorbisComment.{kept_view}
 use Rattle.claxon_metadata.proofs.CommentEntries.{entries_next, kept_more, kept_same, length_err, text_err, end_err, entries_end}
-use Rattle.claxon_tags.proofs.TagPlaces.{places_push}
+use Rattle.claxon_metadata.proofs.TagPlaces.{places_push}
 use Rattle.claxon_input.proofs.Memory.{fed_exit, starved_exit}
 use Rattle.claxon_metadata.proofs.metadata.comment.read_entries.Goals as goal
 use Rattle.claxon_metadata.proofs.metadata.comment.read_entries.Goals.{in-Some+in_ok-push, in_default, then-loop-missing-test+else-bytes_left-ge4, else-loop-missing-test}

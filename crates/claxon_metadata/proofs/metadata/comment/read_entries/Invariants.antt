@@ -1,6 +1,6 @@
 use Rattle.std.proofs.Common.{length, ◌+◌, ◌≤◌}
 use Rattle.claxon_input.specs.State.{bytes_in}
-use Rattle.claxon_tags.specs.TagEntries.{HavePlaces, entries_view}
+use Rattle.claxon_metadata.specs.TagEntries.{HavePlaces, entries_view}
 use Rattle.claxon_metadata.proofs.CommentEntries.{EntriesSoFar}
 use Rattle.claxon_metadata.proofs.metadata.comment.read_entries.Given as goal
 

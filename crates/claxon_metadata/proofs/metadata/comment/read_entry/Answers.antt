@@ -1,7 +1,7 @@
 use Rattle.std.proofs.Common.{◌≡◌, ℕ, List, Some, sym, subst}
 use Rattle.std.specs.List.{position}
 use Rattle.claxon_format.specs.Comments.{is_separator}
-use Rattle.claxon_tags.specs.TagEntries.{IsPlace}
+use Rattle.claxon_metadata.specs.TagEntries.{IsPlace}
 use Rattle.claxon_metadata.proofs.CommentTexts.{separator_is_place}
 use Rattle.claxon_metadata.proofs.metadata.comment.read_entry.Goals as goal
 

@@ -4,7 +4,7 @@ use Rattle.std.proofs.lemmas.Result.{err_from_is_err_and}
 use Rattle.claxon_input.proofs.CallsInTurn.{went_both, went_map, went_none}
 use Rattle.claxon_input.proofs.Memory.{fed_exit, starved_exit}
 use Rattle.claxon_metadata.specs.VorbisComment.{comment_view}
-use Rattle.claxon_tags.specs.TagEntries.{entries_view}
+use Rattle.claxon_metadata.specs.TagEntries.{entries_view}
 use Rattle.claxon_metadata.proofs.ContentByType.{vendor_stands}
 use Rattle.claxon_metadata.proofs.CommentParts.{comment_whole, count_stops, entries_err, length_stops, vendor_stops}
 use Rattle.claxon_metadata.proofs.metadata.comment.read_vorbis_comment_block.Goals as goal

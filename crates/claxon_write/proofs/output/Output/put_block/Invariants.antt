@@ -1,6 +1,6 @@
 use Rattle.std.proofs.Common.{◌-◌, ◌≡◌, ◌≤◌}
 use Rattle.claxon_write.specs.Lent.{output_name}
-use Rattle.claxon_sample_bytes.specs.SampleBytes.{bytes_of_samples, places}
+use Rattle.claxon_write.specs.SampleBytes.{bytes_of_samples, places}
 use Rattle.claxon_write.specs.Written.{IsUnflushed, Puts}
 use Rattle.claxon_write.proofs.output.Output.put_block.Given as goal
 

@@ -1,0 +1,14 @@
+-- What a clause reads of the iterators over Vorbis comments.
+use Rattle.std.specs.Prelude.{ℕ, List}
+use Rattle.claxon_metadata.specs.declared.metadata.tags.Tags.{Tags}
+use Rattle.claxon_metadata.specs.declared.metadata.tags.GetTag.{GetTag}
+use Rattle.claxon_format.specs.Pairs.{pairs, values}
+use Rattle.claxon_metadata.specs.TagEntries.{entries_view}
+
+-- the pairs that are left
+abbrev pub tags_left : {A : Type 0} → Tags A → List (List ℕ × List ℕ)
+tags_left t = pairs (entries_view t.comments.now)
+
+-- the values that are left
+abbrev pub values_left : {A : Type 0} → GetTag A → List (List ℕ)
+values_left t = values t.needle.now (tags_left t.tags)

@@ -1,9 +1,0 @@
-use Rattle.std.proofs.Common.{arith}
-use Rattle.claxon_predictor.proofs.Lanes.{kept_lanes, added_is}
-use Rattle.claxon_predictor.proofs.predictor.add_products.Goals as goal
-
-pub narrow-requires : goal.narrow-requires
-narrow-requires c = kept_lanes (omega arith) c.requires.coefficients
-
-pub returns : goal.returns
-returns c = added_is c.args.sums c.args.coefficients c.args.samples c.narrow.result c.requires.sums c.requires.coefficients c.requires.samples c.narrow.ensures

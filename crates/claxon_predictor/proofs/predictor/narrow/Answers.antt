@@ -1,5 +1,0 @@
-use Rattle.claxon_predictor.proofs.Lanes.{narrow_is}
-use Rattle.claxon_predictor.proofs.predictor.narrow.Goals as goal
-
-pub returns : goal.returns
-returns c = narrow_is c.args.lanes c.requires

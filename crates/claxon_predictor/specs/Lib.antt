@@ -1,4 +1,0 @@
-pub mod Lanes
-pub mod Predictor
-pub mod Sums
-pub mod Twelve

@@ -1,2 +1,0 @@
-pub mod SampleBytes
-pub mod Places

@@ -1,6 +1,0 @@
-use Rattle.std.proofs.Common.{◌≡◌, ◌*◌, ◌∷◌, [], take}
-use Rattle.claxon_sample_bytes.specs.SampleBytes.{bytes_of_samples, places}
-use Rattle.claxon_sample_bytes.proofs.bytes.put_stereo.Given as goal
-
-abbrev pub invariant-loop-i : goal.invariant-loop-i
-invariant-loop-i l = take (8 * l.i) l.room ≡ bytes_of_samples (places (l.left ∷ l.right ∷ []) 0 l.i)

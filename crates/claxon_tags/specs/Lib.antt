@@ -1,2 +1,0 @@
-pub mod TagEntries
-pub mod Tags

@@ -1,0 +1,51 @@
+-- Chunks that are put together from pieces.
+use Rattle.std.proofs.Common.{◌≡◌, ℕ, ◌+◌, ◌%◌, List, [], ◌++◌, length, sym, ap, ◌∙◌, append_assoc, length-append, arith}
+use Rattle.std.specs.Prelude.{Bool, true, false, cond, codes, replicate}
+use Rattle.std.specs.Int.{to_le_bytes, w32}
+use Rattle.std.proofs.lemmas.List.{append-nil, length-replicate}
+use Rattle.claxon_tools.specs.WaveFile.{chunk, extension, format, is_long, pad, short_format}
+use Rattle.claxon_tools.specs.declared.wav.header.Layout.{Layout}
+
+-- a has grown to b by xs
+pub record Grown (a b xs : List ℕ) : Type 0 where
+  pub is : b ≡ a ++ xs
+
+pub by : (a xs : List ℕ) {b : List ℕ} → b ≡ a ++ xs → Grown a b xs
+by a xs e = record { is = e }
+
+-- a piece more, by its name
+pub more : {a b c xs ys zs : List ℕ} → Grown a b xs → Grown b c ys → ys ≡ zs → Grown a c (xs ++ zs)
+more {a} {b} {c} {xs} {ys} {zs} g h e = record { is = h.is ∙ ap (λ (z : List ℕ). b ++ z) e ∙ ap (λ (z : List ℕ). z ++ zs) g.is ∙ append_assoc a xs zs }
+
+-- what stands before the samples, where the format has these bytes
+abbrev pub before : List ℕ → ℕ → ℕ → List ℕ
+before f all size = codes "RIFF" ++ to_le_bytes w32 all ++ codes "WAVEfmt " ++ to_le_bytes w32 (length f) ++ f ++ codes "data" ++ to_le_bytes w32 size
+
+pub whole : (f samples : List ℕ) (all : ℕ) → all ≡ 20 + length f + length samples + length samples % 2 → length f % 2 ≡ 0
+    → chunk (codes "RIFF") (codes "WAVE" ++ chunk (codes "fmt ") f ++ chunk (codes "data") samples) ≡ before f all (length samples) ++ samples ++ pad (length samples)
+whole f samples all all-is even =
+    let size = length samples in
+    let ends = codes "data" ++ to_le_bytes w32 size ++ samples ++ pad size in
+    let body = codes "WAVE" ++ codes "fmt " ++ to_le_bytes w32 (length f) ++ f ++ ends in
+    let none : pad (length f) ≡ [] = ap (λ (n : ℕ). replicate n 0) even in
+    let same : codes "WAVE" ++ chunk (codes "fmt ") f ++ chunk (codes "data") samples ≡ body = ap (λ (z : List ℕ). codes "WAVE" ++ codes "fmt " ++ to_le_bytes w32 (length f) ++ (z ++ ends)) (ap (λ (z : List ℕ). f ++ z) none ∙ append-nil f) in
+    let len : length body ≡ all = omega (arith, all-is, length-append f ends, length-append samples (pad size), length-replicate {A = ℕ} (size % 2) 0) in
+    let whole_pairs : all % 2 ≡ 0 = omega (arith, all-is, even) in
+    let short : pad all ≡ [] = ap (λ (n : ℕ). replicate n 0) whole_pairs in
+    ap (chunk (codes "RIFF")) same ∙ ap (λ (n : ℕ). codes "RIFF" ++ to_le_bytes w32 n ++ body ++ pad n) len
+    ∙ ap (λ (z : List ℕ). codes "RIFF" ++ to_le_bytes w32 all ++ body ++ z) short
+    ∙ ap (λ (z : List ℕ). codes "RIFF" ++ to_le_bytes w32 all ++ z) (append-nil body)
+    ∙ ap (λ (z : List ℕ). codes "RIFF" ++ to_le_bytes w32 all ++ codes "WAVEfmt " ++ to_le_bytes w32 (length f) ++ z)
+    (sym (append_assoc f (codes "data" ++ to_le_bytes w32 size) (samples ++ pad size))
+    ∙ ap (λ (z : List ℕ). z ++ (samples ++ pad size)) (sym (append_assoc f (codes "data") (to_le_bytes w32 size)))
+    ∙ sym (append_assoc (f ++ codes "data" ++ to_le_bytes w32 size) samples (pad size)))
+
+-- ---- the two formats
+
+pub long_format : (l : Layout) → is_long l ≡ true → format l ≡ short_format 65534 l ++ extension l
+unfolding format
+long_format l e = ap (λ (b : Bool). cond b (short_format 65534 l ++ extension l) (short_format 1 l)) e
+
+pub plain_format : (l : Layout) → is_long l ≡ false → format l ≡ short_format 1 l
+unfolding format
+plain_format l e = ap (λ (b : Bool). cond b (short_format 65534 l ++ extension l) (short_format 1 l)) e

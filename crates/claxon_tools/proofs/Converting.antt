@@ -1,0 +1,223 @@
+-- Blocks that are put one after another, and the file that they make.
+use Rattle.std.specs.Borrow.{MutBor}
+use Rattle.std.proofs.Common.{◌≡◌, inl, inr, ℕ, ◌+◌, ◌-◌, ◌*◌, ◌<◌, ◌≤◌, ℤ, w32, take, true, List, [], ◌∷◌, ◌++◌, length, Option, None, Some, refl, sym, ap, subst, ◌∙◌, arith, length-append}
+use Rattle.std.specs.Prelude.{All, Result, Ok, Err}
+use Rattle.std.specs.Io.KnownBytes.{Appends}
+use Rattle.std.proofs.KnownBytes.{Appends-nil, Appends-trans}
+use Rattle.std.proofs.lemmas.Grind.{flat_map-append}
+use Rattle.std.proofs.lemmas.List.Elements.{All-append, All-drop, All-nil, All-push}
+use Rattle.std.proofs.lemmas.List.{drop_at, get_or_push, length-take}
+use Rattle.std.specs.Int.{to_le_bytes}
+use Rattle.claxon_format.specs.Bits.{FitsIn}
+use Rattle.claxon_format.specs.Frame.{Block, Frame, FrameBytesFault, Frames, StreamShape}
+use Rattle.claxon_format.specs.Streams.{interleave}
+use Rattle.claxon_frame.specs.Block.{BlockValue, duration_of}
+use Rattle.claxon_frame.specs.FrameReader.{FrameAnswer, block_view, frame_bytes, frame_input, frame_stream, stream_with}
+use Rattle.claxon_frame.specs.declared.frame.FrameReader.{FrameReader}
+use Rattle.claxon_input.specs.BufferedReader.{buffered_source}
+use Rattle.claxon_input.specs.declared.error.Error.{Error as Cause}
+use Rattle.claxon_input.specs.declared.input.BufferedReader.{BufferedReader}
+use Rattle.claxon_input.specs.Promises.{NoneIsEnd, TakesFault, TakesFound, Took}
+use Rattle.claxon_input.specs.State.{State}
+use Rattle.claxon.specs.FlacReader.{flac_input, flac_streaminfo}
+use Rattle.claxon.specs.Opening.{flac_bytes}
+use Rattle.claxon.specs.SampleRuns.{lent, samples_of}
+use Rattle.claxon.specs.declared.reader.FlacReader.{FlacReader}
+use Rattle.claxon.proofs.SampleRuns.{behind_loan, samples_add}
+use Rattle.claxon.proofs.SamplesInTurn.{same_duration}
+use Rattle.claxon_format.proofs.Streams.{length-interleave}
+use Rattle.claxon_tools.specs.Convert.{ConvertsAll, HoldsFile, PutsSamples, PutsStream, StandsInWay, StopsAt, packed_blocks}
+use Rattle.claxon_tools.specs.Samples.{bytes_of_sample, packed_block, packed_samples, raised, silence}
+use Rattle.claxon_tools.specs.WaveFile.{pad, sample_size}
+use Rattle.claxon_tools.specs.Writer.{Ends, Finishes, RefusesBlock}
+use Rattle.claxon_tools.specs.declared.wav.error.Error.{Error}
+use Rattle.claxon_tools.specs.declared.wav.error.Error.TheVariants.{Claxon, OtherChannels, SameFile, TooLong, WideSample}
+use Rattle.claxon_tools.specs.declared.wav.header.Layout.{Layout}
+use Rattle.claxon_tools.specs.declared.wav.writer.WavWriter.{WavWriter}
+
+-- the bytes of one block more
+packed_more : (width : ℕ) (blocks : List Block) (block : BlockValue) → packed_blocks width blocks ++ packed_block width block ≡ packed_blocks width (blocks ++ block_view block ∷ [])
+packed_more width blocks block = sym (ap (packed_samples width) (samples_add blocks (block_view block)) ∙ flat_map-append (bytes_of_sample (sample_size width) width) (samples_of blocks) (interleave block.channels))
+
+-- samples take a byte or more
+samples_take : (width : ℕ) → 1 ≤ width → (xs : List ℤ) → 1 ≤ length xs → 1 ≤ length (packed_samples width xs)
+unfolding bytes_of_sample
+samples_take width some [] h = absurd (omega (arith, h))
+samples_take width some (x ∷ xs) h =
+    let four = to_le_bytes w32 (raised (8 * sample_size width - width) (silence (sample_size width)) x) in
+    let first = length-take (sample_size width) four in
+    omega (arith, length-append (take (sample_size width) four) (packed_samples width xs), first, some)
+
+-- and so does a block
+pub block_takes : (width : ℕ) (block : BlockValue) → 1 ≤ width → 1 ≤ length block.channels → 1 ≤ duration_of block.channels → 1 ≤ length (packed_block width block)
+block_takes width block some channels long =
+    let d = same_duration block.channels in
+    let n : 1 ≤ length (interleave block.channels) = rw (length-interleave block.channels, d) (grind (arith, channels, long)) in
+    samples_take width some (interleave block.channels) n
+
+-- one frame more
+frames_push : (stream : Option StreamShape) (blocks : List Block) (b : Block) (s m t r : List ℕ) → Frames stream s blocks m → Frame stream b t → m ≡ t ++ r → Frames stream s (blocks ++ b ∷ []) r
+frames_push stream [] b s m t r f c e = (t, r, c, f ∙ e, refl)
+frames_push stream (x ∷ blocks) b s m t r f c e = (f.0, f.1, f.2, f.3, frames_push stream blocks b f.1 m t r f.4 c e)
+
+-- So far just the frames of these blocks were taken, and their samples put.
+pub record PutSoFar {W : Type 0} (contents : W → Option (List ℕ)) (stream : Option StreamShape) (a b : State ℕ) (x y : WavWriter W) : Type 0 where
+  pub blocks : List Block
+  pub taken : a.told ≡ true → (b.told ≡ true) × Frames stream a.coming blocks b.coming
+  pub puts : PutsSamples contents blocks x y
+
+module _ {W : Type 0} {contents : W → Option (List ℕ)} where
+  puts_none : (x : WavWriter W) → PutsSamples contents [] x x
+  puts_none x = record {
+    channels = All-nil (λ (b : Block). length b.channels ≡ x.layout.channels);
+    fit = All-nil (FitsIn x.layout.width);
+    bytes_are = Appends-nil (contents x.output);
+    written_is = omega arith;
+    announced_is = refl;
+    layout_is = refl;
+  }
+
+  puts_more : {blocks : List Block} {x y z : WavWriter W} (block : BlockValue) → PutsSamples contents blocks x y
+      → Appends (contents y.output) (contents z.output) (packed_block y.layout.width block) × (length block.channels ≡ y.layout.channels) × (z.written ≡ y.written + length (packed_block y.layout.width block))
+      → All (FitsIn y.layout.width) (interleave block.channels) → z.layout ≡ y.layout → z.announced ≡ y.announced → PutsSamples contents (blocks ++ block_view block ∷ []) x z
+  puts_more {blocks = blocks} {x = x} {y = y} {z = z} block h put fits layout announced =
+      let width : y.layout.width ≡ x.layout.width = ap (λ (l : Layout). l.width) h.layout_is in
+      let all = packed_more x.layout.width blocks block in
+      let more : Appends (contents y.output) (contents z.output) (packed_block x.layout.width block) = subst (λ (n : ℕ). Appends (contents y.output) (contents z.output) (packed_block n block)) width put.0 in
+      let counted : z.written ≡ y.written + length (packed_block x.layout.width block) = subst (λ (n : ℕ). z.written ≡ y.written + length (packed_block n block)) width put.2 in
+      record {
+        channels = All-push (λ (b : Block). length b.channels ≡ x.layout.channels) blocks (block_view block) h.channels (put.1 ∙ ap (λ (l : Layout). l.channels) h.layout_is);
+        fit = subst (All (FitsIn x.layout.width)) (sym (samples_add blocks (block_view block))) (All-append (FitsIn x.layout.width) (samples_of blocks) (interleave block.channels) h.fit (subst (λ (n : ℕ). All (FitsIn n) (interleave block.channels)) width fits));
+        bytes_are = subst (λ (s : List ℕ). Appends (contents x.output) (contents z.output) s) all (Appends-trans (contents x.output) (contents y.output) (contents z.output) (packed_blocks x.layout.width blocks) (packed_block x.layout.width block) h.bytes_are more);
+        written_is = omega (arith, counted, h.written_is, length-append (packed_blocks x.layout.width blocks) (packed_block x.layout.width block)) ∙ ap (λ (s : List ℕ). x.written + length s) all;
+        announced_is = announced ∙ h.announced_is;
+        layout_is = layout ∙ h.layout_is;
+      }
+
+  module _ {stream : Option StreamShape} where
+    pub put_none : (a : State ℕ) (x : WavWriter W) → PutSoFar contents stream a a x x
+    put_none a x = record { blocks = []; taken = λ told. (told, refl); puts = puts_none x }
+
+    pub put_more : {a b : State ℕ} (c : State ℕ) {x y z : WavWriter W} (block : BlockValue) → PutSoFar contents stream a b x y → Took b c (Frame stream (block_view block))
+        → Appends (contents y.output) (contents z.output) (packed_block y.layout.width block) × (length block.channels ≡ y.layout.channels) × (z.written ≡ y.written + length (packed_block y.layout.width block))
+        → All (FitsIn y.layout.width) (interleave block.channels) → z.layout ≡ y.layout → z.announced ≡ y.announced → PutSoFar contents stream a c x z
+    put_more {a = a} {b = b} c block h took put fits layout announced = record {
+      blocks = h.blocks ++ block_view block ∷ [];
+      taken = λ told. let k = h.taken told in let t = took k.0 in (t.0, frames_push stream h.blocks (block_view block) a.coming b.coming t.1.0 c.coming k.1 t.1.1 t.1.2);
+      puts = puts_more block h.puts put fits layout announced;
+    }
+
+    -- the end
+    pub put_all : {a b : State ℕ} (c : State ℕ) {x y : WavWriter W} → PutSoFar contents stream a b x y → NoneIsEnd 2 (let r : FrameAnswer = Ok None in r) b c → PutsStream contents stream a x y
+    put_all {b = b} c h end = record { blocks = h.blocks; all = λ told. (let k = h.taken told in (b.coming, k.1, (end refl k.0).0)); puts = h.puts }
+
+-- ---- what stands in the way
+
+-- the last of all
+last_of : {X : Type 0} (P : X → Type 0) (xs : List X) (x : X) → All P (xs ++ x ∷ []) → P x
+last_of P xs x h = subst P (get_or_push xs x x (length xs) refl) (h (length xs) x (omega (arith, length-append xs (x ∷ []))))
+
+-- those behind others
+behind_of : {X : Type 0} (P : X → Type 0) (xs ys : List X) → All P (xs ++ ys) → All P ys
+behind_of P xs ys h = subst (All P) (drop_at xs ys (length xs) refl) (All-drop P (length xs) (xs ++ ys) h)
+
+module _ {W : Type 0} {contents : W → Option (List ℕ)} {stream : Option StreamShape} {a b : State ℕ} (c : State ℕ) {x y : WavWriter W} (h : PutSoFar contents stream a b x y) where
+  -- the decoder's error
+  pub stops_at_fault : (e : Cause) → TakesFault (let r : FrameAnswer = Err e in r) (FrameBytesFault stream) b c → StopsAt stream x a (Claxon e)
+  stops_at_fault e bad told = elim bad [
+    | inl m ↦ inl m
+    | inr (inl i) ↦ inr (inl i)
+    | inr (inr k) ↦ (
+        let so_far = h.taken told in
+        let f = k so_far.0 in
+        let t = (f.2 so_far.0).1 in
+        inr (inr (f.0, f.1, (h.blocks, t.0, c.coming, subst (λ (s : List ℕ). Frames stream a.coming h.blocks s) t.2 so_far.1, t.1)))
+        )
+  ]
+
+  module _ (block : BlockValue) (took : Took b c (Frame stream (block_view block))) where
+    -- all blocks with this one
+    all_frames : a.told ≡ true → Frames stream a.coming (h.blocks ++ block_view block ∷ []) c.coming
+    all_frames told = let k = h.taken told in let t = (took k.0).1 in frames_push stream h.blocks (block_view block) a.coming b.coming t.0 c.coming k.1 t.1 t.2
+
+    -- the writer's
+    pub stops_at_block : (e : Error) → RefusesBlock block e y → StopsAt stream x a e
+    stops_at_block (Claxon e) (inl m) told = inl m
+    stops_at_block (Claxon e) (inr i) told = inr (inl i)
+    stops_at_block TooLong r told =
+        let all = packed_more x.layout.width h.blocks block in
+        let more = subst (λ (l : Layout). 4294967234 < y.written + length (packed_block l.width block)) h.puts.layout_is r in
+        let both = length-append (packed_blocks x.layout.width h.blocks) (packed_block x.layout.width block) in
+        (h.blocks ++ block_view block ∷ [], c.coming, all_frames told, omega (arith, more, h.puts.written_is, both, ap length all))
+    stops_at_block SameFile r told = r
+    stops_at_block OtherChannels r told = (
+      h.blocks ++ block_view block ∷ [],
+      c.coming,
+      all_frames told,
+      λ all. r (last_of (λ (k : Block). length k.channels ≡ x.layout.channels) h.blocks (block_view block) all ∙ sym (ap (λ (l : Layout). l.channels) h.puts.layout_is)),
+    )
+    stops_at_block WideSample r told = (
+      h.blocks ++ block_view block ∷ [],
+      c.coming,
+      all_frames told,
+      λ all. r (
+          subst (λ (l : Layout). All (FitsIn l.width) (interleave block.channels)) (sym h.puts.layout_is)
+          (behind_of (FitsIn x.layout.width) (samples_of h.blocks) (interleave block.channels) (subst (All (FitsIn x.layout.width)) (samples_add h.blocks (block_view block)) all))
+          ),
+    )
+
+-- what an answer says that is told by another name, of a stream that is
+pub frame_taken : {known stream : Option StreamShape} → known ≡ stream → {r : FrameAnswer} (a b : State ℕ) (block : BlockValue) → r ≡ Ok (Some block) → TakesFound block_view r (Frame known) a b → Took a b (Frame stream (block_view block))
+frame_taken {known} e a b block is h = subst (λ (s : Option StreamShape). Took a b (Frame s (block_view block))) e (subst (λ (q : FrameAnswer). TakesFound block_view q (Frame known) a b) is h)
+
+pub fault_taken : {known stream : Option StreamShape} → known ≡ stream → {r : FrameAnswer} (a b : State ℕ) (e : Cause) → r ≡ Err e → TakesFault r (FrameBytesFault known) a b → TakesFault (let q : FrameAnswer = Err e in q) (FrameBytesFault stream) a b
+fault_taken {known} same a b e is h = subst (λ (s : Option StreamShape). TakesFault (let q : FrameAnswer = Err e in q) (FrameBytesFault s) a b) same (subst (λ (q : FrameAnswer). TakesFault q (FrameBytesFault known) a b) is h)
+
+pub end_met : {r : FrameAnswer} (a b : State ℕ) → r ≡ Ok None → NoneIsEnd 2 r a b → NoneIsEnd 2 (let q : FrameAnswer = Ok None in q) a b
+end_met a b is h = subst (λ (q : FrameAnswer). NoneIsEnd 2 q a b) is h
+
+-- ---- a whole file
+
+module _ {W : Type 0} (contents : W → Option (List ℕ)) (position : W → Option ℕ) where
+  -- the header, the samples and the pad
+  pub file : (blocks : List Block) (old put new : WavWriter W) → PutsSamples contents blocks old put → Ends contents position put.layout put.announced put.written put.output new.output → HoldsFile contents blocks old new
+  file blocks old put new h ends layout announced output begins is =
+      let size = length (packed_blocks layout.width blocks) in
+      let width : old.layout.width ≡ layout.width = ap (λ (l : Layout). l.width) begins.layout_is in
+      let samples = packed_blocks layout.width blocks in
+      let bytes : Appends (contents old.output) (contents put.output) samples = subst (λ (n : ℕ). Appends (contents old.output) (contents put.output) (packed_blocks n blocks)) width h.bytes_are in
+      let counted : put.written ≡ old.written + size = subst (λ (n : ℕ). put.written ≡ old.written + length (packed_blocks n blocks)) width h.written_is in
+      let written : put.written ≡ announced = omega (arith, counted, begins.none_so_far, is) in
+      let right : put.announced ≡ put.written = h.announced_is ∙ begins.announced_is ∙ sym written in
+      let padded : Appends (contents put.output) (contents new.output) (pad announced) = subst (λ (n : ℕ). Appends (contents put.output) (contents new.output) (pad n)) written (ends.right right) in
+      let front = Appends-trans (contents output) (contents old.output) (contents put.output) begins.header samples begins.written bytes in
+      let whole = Appends-trans (contents output) (contents put.output) (contents new.output) (begins.header ++ samples) (pad announced) front padded in
+      subst (λ (s : List ℕ). Appends (contents output) (contents new.output) s) (sym (begins.is_header samples (sym is))) whole
+
+-- all blocks, and then the end
+pub converted : {R A W : Type 0} (contents : W → Option (List ℕ)) (position : W → Option ℕ) (remaining : R → Option (List ℕ)) (flac : FlacReader R A) (frames : FrameReader (MutBor (BufferedReader R A))) (r : Result (Unit {0}) Error) (old put new : WavWriter W)
+    → (frame_input frames).now ≡ flac_input flac → frame_stream frames ≡ Some (stream_with (flac_streaminfo flac)) → PutsStream contents (frame_stream frames) (frame_bytes (lent (buffered_source remaining)) frames) old put → Finishes contents position r put new
+    → ConvertsAll contents position remaining flac r old new
+converted contents position remaining flac frames (Err e) old put new input stream puts finishes = tt
+converted contents position remaining flac frames (Ok done) old put new input stream puts finishes =
+    let here = behind_loan remaining flac (frame_input frames) input in
+    record {
+      blocks = puts.blocks;
+      all = λ told. (
+          let k = puts.all (here.1 ∙ told) in
+          (k.0, subst (λ (s : Option StreamShape). Frames s (flac_bytes remaining flac).coming puts.blocks k.0) stream (subst (λ (s : List ℕ). Frames (frame_stream frames) s puts.blocks k.0) here.0 k.1), k.2)
+          );
+      put = put;
+      puts = puts.puts;
+      ends = finishes.0;
+      right = finishes.1;
+      file = file contents position puts.blocks old put new puts.puts finishes.0;
+    }
+
+-- the same of the errors
+pub not_converted : {R A W : Type 0} (remaining : R → Option (List ℕ)) (flac : FlacReader R A) (frames : FrameReader (MutBor (BufferedReader R A))) (old : WavWriter W) (e : Error)
+    → (frame_input frames).now ≡ flac_input flac → frame_stream frames ≡ Some (stream_with (flac_streaminfo flac)) → StopsAt (frame_stream frames) old (frame_bytes (lent (buffered_source remaining)) frames) e
+    → StopsAt (Some (stream_with (flac_streaminfo flac))) old (flac_bytes remaining flac) e
+not_converted remaining flac frames old e input stream stops told =
+    let here = behind_loan remaining flac (frame_input frames) input in
+    subst (λ (s : Option StreamShape). StandsInWay s old (flac_bytes remaining flac).coming e) stream (subst (λ (s : List ℕ). StandsInWay (frame_stream frames) old s e) here.0 (stops (here.1 ∙ told)))

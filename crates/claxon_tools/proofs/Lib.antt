@@ -1,0 +1,6 @@
+mod Digits
+pub mod Chunks
+pub mod Converting
+pub mod Ending
+pub mod Interleaved
+pub mod Widths

@@ -1,0 +1,58 @@
+-- The lines that are printed of a stream.
+use Rattle.std.specs.Prelude.{ℕ, Option, None, Some, Result, OnOk, List, ◌++◌, flat_map, codes}
+use Rattle.std.specs.declared.alloc.AllocError.{AllocError}
+use Rattle.std.specs.Io.KnownBytes.{Appends}
+use Rattle.std.specs.declared.string.String.{String}
+use Rattle.claxon.specs.FlacReader.{flac_streaminfo, tags_of, vendor_of}
+use Rattle.claxon.specs.declared.reader.FlacReader.{FlacReader}
+use Rattle.claxon.specs.Errors.{Error}
+use Rattle.claxon.specs.StreamInfos.{StreamInfo}
+use Rattle.claxon_tools.specs.Text.{IsText, escaped_text, length_text, md5_text, number_text, unknown_text}
+
+-- `NAME: value`
+unfoldable pub line : List ℕ → List ℕ → List ℕ
+line name value = name ++ codes ": " ++ value ++ codes "\n"
+
+-- what the samples are, how many, and how long they take
+abbrev pub format_text : StreamInfo → List ℕ
+format_text info = line (codes "sample_rate") (number_text (Some info.sample_rate))
+    ++ line (codes "channels") (number_text (Some info.channels))
+    ++ line (codes "bits_per_sample") (number_text (Some info.bits_per_sample))
+    ++ line (codes "samples") (number_text info.samples)
+    ++ line (codes "length") (length_text info.samples info.sample_rate)
+
+-- the sizes of blocks and frames, and the sum of the samples
+abbrev pub sizes_text : StreamInfo → List ℕ
+sizes_text info = line (codes "min_block_size") (number_text (Some info.min_block_size))
+    ++ line (codes "max_block_size") (number_text (Some info.max_block_size))
+    ++ line (codes "min_frame_size") (number_text info.min_frame_size)
+    ++ line (codes "max_frame_size") (number_text info.max_frame_size)
+    ++ line (codes "md5sum") (md5_text info.md5sum)
+
+abbrev pub vendor_text : Option (List ℕ) → List ℕ
+vendor_text None = line (codes "vendor") unknown_text
+vendor_text (Some vendor) = line (codes "vendor") (escaped_text vendor)
+
+-- `tag: NAME=value`
+abbrev pub tag_text : List ℕ × List ℕ → List ℕ
+tag_text tag = line (codes "tag") (escaped_text tag.0 ++ codes "=" ++ escaped_text tag.1)
+
+abbrev pub tags_text : List (List ℕ × List ℕ) → List ℕ
+tags_text tags = flat_map tag_text tags
+
+-- all the lines
+abbrev pub facts_text : StreamInfo → Option (List ℕ) → List (List ℕ × List ℕ) → List ℕ
+facts_text info vendor tags = format_text info ++ sizes_text info ++ vendor_text vendor ++ tags_text tags
+
+-- those of all that is shown of a stream's head
+abbrev pub facts_of : {R A : Type 0} → FlacReader R A → List ℕ
+facts_of flac = facts_text (flac_streaminfo flac) (vendor_of flac) (tags_of flac)
+
+-- An Ok is those lines.
+abbrev pub FactsAreTold : {R A : Type 0} → FlacReader R A → Result (String A) AllocError → Type 0
+FactsAreTold flac r = IsText (facts_of flac) r
+
+-- An Ok wrote just those lines.
+abbrev pub FactsAreWritten : {R W A : Type 0} → (W → Option (List ℕ)) → FlacReader R A
+    → Result (Unit {0}) Error → W → W → Type 0
+FactsAreWritten contents flac r old new = OnOk r (Appends (contents old) (contents new) (facts_of flac))

@@ -1,0 +1,42 @@
+//! The facts that the head of a FLAC file tells.
+use claxon::{FlacReader, FlacReaderOptions, Result};
+use crate::facts::write_facts;
+use std::fs;
+use std::io::{Read, Write};
+use std::rt::Files;
+
+/// Does what the arguments say, and answers the status: 0, 1 for a fault, whose text goes to `errors`, or 2 for arguments
+/// that the usage line doesn't have. A failed write to `errors` changes nothing.
+pub fn command<Q: Files + AllocGlobal, W: Write, E: Write>(
+    rt: &Q,
+    words: &[String],
+    output: &mut W,
+    errors: &mut E,
+) -> u8
+where
+    Q::File: Read,
+{
+    let [name] = words else {
+        let _ = writeln!(errors, "usage: claxon_info FILE");
+        return 2;
+    };
+    match print_facts(rt, name.as_str(), output) {
+        Ok(()) => 0,
+        Err(error) => {
+            let _ = writeln!(errors, "{error}");
+            1
+        }
+    }
+}
+
+fn print_facts<Q: Files + AllocGlobal, W: Write>(rt: &Q, name: &str, output: &mut W) -> Result<()>
+where
+    Q::File: Read,
+{
+    let options = FlacReaderOptions {
+        metadata_only: true,
+        read_vorbis_comment: true,
+    };
+    let flac = FlacReader::new_ext(rt.alloc(), fs::open(rt, name)?, options)?;
+    write_facts(rt.alloc(), &flac, output)
+}

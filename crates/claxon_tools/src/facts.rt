@@ -1,0 +1,167 @@
+//! The lines that are printed of a stream.
+ghost use Rattle.std.specs.Prelude.{◌≡◌};
+ghost use Rattle.std.specs.Option.{option_map};
+ghost use Rattle.claxon.specs.Tags.{tags_left};
+ghost use Rattle.claxon_tools.specs.Facts.{FactsAreTold, FactsAreWritten, format_text, line, sizes_text, tag_text, tags_text, vendor_text};
+ghost use Rattle.claxon_tools.specs.Text.{Adds, number_text};
+
+use claxon::FlacReader;
+use claxon::metadata::{StreamInfo, Tags};
+use crate::text::{escaped_text, length_text, md5_text, number_text};
+use std::alloc::{AllocError, Allocator};
+use std::io::{Read, Write};
+
+/// Writes the lines `NAME: value` of a stream, and flushes: those of its streaminfo, one for the vendor, and one for each
+/// tag, in order. After an error a front of them may have been written.
+///
+/// A value that the head doesn't tell is `unknown`. A vendor or a tag stands on one line, whatever its text holds, as
+/// `escaped_text` says.
+pub fn write_facts<R: Read, W: Write, A: Allocator + Copy>(
+    alloc: A,
+    flac: &FlacReader<R, A>,
+    output: &mut W,
+) -> claxon::Result<()>
+    ensures { FactsAreWritten W.contents flac.now result output.old output.new }
+{
+    let text = facts(alloc, flac)?;
+    output.write_all(text.as_bytes())?;
+    output.flush()?;
+    Ok(())
+}
+
+// The lines.
+fn facts<R: Read, A: Allocator + Copy>(
+    alloc: A,
+    flac: &FlacReader<R, A>,
+) -> Result<String<A>, AllocError>
+    ensures { FactsAreTold flac.now result }
+{
+    let mut text = String::new(alloc);
+    let info = flac.streaminfo();
+    push_format(alloc, &mut text, &info)?;
+    push_sizes(alloc, &mut text, &info)?;
+    push_vendor(alloc, &mut text, flac.vendor())?;
+    push_tags(alloc, &mut text, flac.tags())?;
+    Ok(text)
+}
+
+// What the samples are, how many there are, and how long they take.
+fn push_format<A: Allocator + Copy>(
+    alloc: A,
+    text: &mut String<A>,
+    info: &StreamInfo,
+) -> Result<(), AllocError>
+    ensures { Adds (format_text info.now) result text.old text.new }
+{
+    push_number(
+        alloc,
+        text,
+        "sample_rate",
+        Some(u64::from(info.sample_rate)),
+    )?;
+    push_number(alloc, text, "channels", Some(u64::from(info.channels)))?;
+    push_number(
+        alloc,
+        text,
+        "bits_per_sample",
+        Some(u64::from(info.bits_per_sample)),
+    )?;
+    push_number(alloc, text, "samples", info.samples)?;
+    push_line(
+        text,
+        "length",
+        length_text(alloc, info.samples, info.sample_rate)?.as_str(),
+    )
+}
+
+// The sizes of blocks and frames, and the sum of the samples.
+fn push_sizes<A: Allocator + Copy>(
+    alloc: A,
+    text: &mut String<A>,
+    info: &StreamInfo,
+) -> Result<(), AllocError>
+    ensures { Adds (sizes_text info.now) result text.old text.new }
+{
+    push_number(
+        alloc,
+        text,
+        "min_block_size",
+        Some(u64::from(info.min_block_size)),
+    )?;
+    push_number(
+        alloc,
+        text,
+        "max_block_size",
+        Some(u64::from(info.max_block_size)),
+    )?;
+    push_number(alloc, text, "min_frame_size", widened(info.min_frame_size))?;
+    push_number(alloc, text, "max_frame_size", widened(info.max_frame_size))?;
+    push_line(text, "md5sum", md5_text(alloc, &info.md5sum)?.as_str())
+}
+
+fn push_vendor<A: Allocator + Copy>(
+    alloc: A,
+    text: &mut String<A>,
+    vendor: Option<&str>,
+) -> Result<(), AllocError>
+    ensures { Adds (vendor_text (option_map (λ v. v.now) vendor.entry)) result text.old text.new }
+{
+    match vendor {
+        Some(vendor) => push_line(text, "vendor", escaped_text(alloc, vendor)?.as_str()),
+        None => push_line(text, "vendor", "unknown"),
+    }
+}
+
+fn push_tags<A: Allocator + Copy>(
+    alloc: A,
+    text: &mut String<A>,
+    mut tags: Tags<'_, A>,
+) -> Result<(), AllocError>
+    ensures { Adds (tags_text (tags_left tags.entry)) result text.old text.new }
+{
+    while let Some((name, value)) = tags.next() {
+        push_tag(alloc, text, name, value)?;
+    }
+    Ok(())
+}
+
+fn push_tag<A: Allocator + Copy>(
+    alloc: A,
+    text: &mut String<A>,
+    name: &str,
+    value: &str,
+) -> Result<(), AllocError>
+    ensures { Adds (tag_text (name.now, value.now)) result text.old text.new }
+{
+    let name = escaped_text(alloc, name)?;
+    let value = escaped_text(alloc, value)?;
+    let tag = format!(in alloc; "{name}={value}")?;
+    push_line(text, "tag", tag.as_str())
+}
+
+fn push_number<A: Allocator + Copy>(
+    alloc: A,
+    text: &mut String<A>,
+    name: &str,
+    number: Option<u64>,
+) -> Result<(), AllocError>
+    ensures { Adds (line name.now (number_text number)) result text.old text.new }
+{
+    push_line(text, name, number_text(alloc, number)?.as_str())
+}
+
+#[tactic(auto, unfolding(crate::specs::Facts::line))]
+fn push_line<A: Allocator>(text: &mut String<A>, name: &str, value: &str) -> Result<(), AllocError>
+    ensures { Adds (line name.now value.now) result text.old text.new }
+{
+    writeln!(text, "{name}: {value}")
+}
+
+fn widened(size: Option<u32>) -> Option<u64>
+    ensures { result ≡ size }
+{
+    match size {
+        Some(size) => Some(u64::from(size)),
+        None => None,
+    }
+}

@@ -1,0 +1,11 @@
+//! What the programs beside `claxon_raw` need: WAV files, values as text, the facts of a head, how far a long task is, and
+//! what each program does for its arguments.
+#![tactic(auto)]
+
+pub mod commands;
+mod facts;
+pub mod progress;
+pub mod text;
+pub mod wav;
+
+pub use facts::write_facts;

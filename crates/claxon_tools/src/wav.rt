@@ -1,0 +1,11 @@
+//! The samples of a FLAC stream as a WAV file.
+mod blocks;
+mod error;
+mod header;
+mod samples;
+mod writer;
+
+pub use blocks::convert;
+pub use error::{Error, Result};
+pub use header::{Layout, MOST_BYTES};
+pub use writer::WavWriter;

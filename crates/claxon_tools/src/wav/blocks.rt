@@ -1,0 +1,54 @@
+//! The blocks of a stream, put into a WAV file.
+ghost use Rattle.std.specs.Prelude.{◌≡◌, false};
+ghost use Rattle.claxon.specs.FlacReader.{flac_metadata_only};
+ghost use Rattle.claxon_tools.specs.Convert.{ConvertsAll, ConvertsNotAll, PutsBlocks, StopsAtBlock};
+
+use crate::wav::error::Result;
+use crate::wav::writer::WavWriter;
+use claxon::FlacReader;
+use claxon::frame::FrameReader;
+use claxon::input::ReadBytes;
+use crate::progress::Progress;
+use std::alloc::Global;
+use std::io::{Read, Seek, Write};
+
+/// Writes all samples of the stream. After a fault those before it make a whole file too.
+pub fn convert<R: Read + Drop, W: Write + Seek, E: Write>(
+    alloc: Global,
+    flac: &mut FlacReader<R>,
+    wav: &mut WavWriter<W>,
+    progress: &mut Progress,
+    errors: &mut E,
+) -> Result<()>
+    requires { flac_metadata_only flac.old ≡ false }
+    ensures ok { ConvertsAll W.contents W.stream_position R.remaining flac.old result wav.old wav.new }
+    ensures err { ConvertsNotAll R.remaining flac.old result wav.old }
+{
+    let outcome = put_blocks(alloc, flac.blocks(), wav, progress, errors);
+    let finished = wav.finish();
+    outcome?;
+    finished
+}
+
+// Puts block after block up to the end. Each has samples, so the file has room for no more than so many blocks.
+fn put_blocks<R: ReadBytes + Drop, W: Write + Seek, E: Write>(
+    alloc: Global,
+    blocks: FrameReader<R>,
+    wav: &mut WavWriter<W>,
+    progress: &mut Progress,
+    errors: &mut E,
+) -> Result<()>
+    ensures ok { PutsBlocks W.contents R.source blocks result wav.old wav.new }
+    ensures err { StopsAtBlock R.source blocks result wav.old }
+{
+    let mut reader = blocks;
+    let mut buffer = Vec::new(alloc);
+    let mut done = 0u64;
+    while let Some(block) = reader.read_next_or_eof(buffer)? {
+        wav.put_block(&block)?;
+        done = done.saturating_add(u64::from(block.duration()));
+        progress.show(done, errors);
+        buffer = block.into_buffer();
+    }
+    Ok(())
+}

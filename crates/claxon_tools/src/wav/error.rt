@@ -1,0 +1,65 @@
+//! Why there is no whole WAV file.
+ghost use Rattle.std.specs.Prelude.{◌≡◌};
+ghost use Rattle.claxon_input.specs.declared.error.Error.TheVariants.{IoError, OutOfMemory};
+ghost use Rattle.claxon_tools.specs.declared.wav.error.Error.TheVariants.{Claxon};
+
+use std::alloc::AllocError;
+use std::{fmt, io, result};
+
+/// What ended a conversion.
+#[derive(Debug, Drop)]
+pub enum Error {
+    /// A fault of the stream, of a file or of memory.
+    Claxon(claxon::Error),
+
+    /// The samples are more than a WAV file holds.
+    TooLong,
+
+    /// A block hasn't as many channels as the streaminfo says.
+    OtherChannels,
+
+    /// A sample has more bits than the streaminfo says.
+    WideSample,
+
+    /// To make the output would empty the input.
+    SameFile,
+}
+
+/// A result of a conversion.
+pub type Result<T> = result::Result<T, Error>;
+
+impl fmt::Display for Error {
+    fn fmt<W: fmt::Write>(&self, f: &mut fmt::Formatter<W>) -> fmt::Result {
+        match self {
+            Error::Claxon(error) => write!(f, "{error}"),
+            Error::TooLong => write!(f, "the samples are more than a WAV file holds, 4 GiB"),
+            Error::OtherChannels => write!(f, "the number of channels changes within the stream"),
+            Error::WideSample => write!(f, "a sample has more bits than the streaminfo says"),
+            Error::SameFile => write!(f, "the output is the input"),
+        }
+    }
+}
+
+impl From<claxon::Error> for Error {
+    ghost from_gives = { λ cause e. e ≡ Claxon cause };
+
+    fn from(cause: claxon::Error) -> Error {
+        Error::Claxon(cause)
+    }
+}
+
+impl From<io::Error> for Error {
+    ghost from_gives = { λ cause e. e ≡ Claxon (IoError cause) };
+
+    fn from(cause: io::Error) -> Error {
+        Error::Claxon(claxon::Error::IoError(cause))
+    }
+}
+
+impl From<AllocError> for Error {
+    ghost from_gives = { λ _ e. e ≡ Claxon OutOfMemory };
+
+    fn from(_cause: AllocError) -> Error {
+        Error::Claxon(claxon::Error::OutOfMemory)
+    }
+}

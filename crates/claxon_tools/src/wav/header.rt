@@ -1,0 +1,188 @@
+//! What stands before the samples of a WAV file.
+ghost use Rattle.std.specs.Prelude.{◌≡◌, ◌≤◌, ◌*◌, ◌++◌, ◌%◌, ◌==◌, ◌||◌, OnOk, length};
+ghost use Rattle.claxon_tools.specs.ChannelMask.{default_channel_mask};
+
+use std::alloc::AllocError;
+
+/// The bytes of samples that a file can hold: the size of all that stands behind its first eight bytes, up to sixty bytes
+/// and a pad byte more, has 32 bits.
+pub const MOST_BYTES: u32 = 4_294_967_234;
+
+// The code of plain samples in the long format.
+const PLAIN_SAMPLES: [u8; 16] = [1, 0, 0, 0, 0, 0, 16, 0, 128, 0, 0, 170, 0, 56, 155, 113];
+
+/// How the samples of a WAV file are to be read.
+#[derive(Clone, Copy)]
+pub struct Layout {
+    channels: u32,
+    width: u32,
+    sample_rate: u32,
+    speakers: u32,
+    ghost some_channels: { 1 ≤ channels },
+    ghost few_channels: { channels ≤ 8 },
+    ghost some_bits: { 1 ≤ width },
+    ghost few_bits: { width ≤ 32 },
+}
+
+impl Layout {
+    ghost use Rattle.claxon_tools.specs.WaveFile.{IsHeader, IsLayoutOf, IsSizeOf, extension, format, is_long, place_size, sample_size, short_format};
+
+    /// The layout of samples of so many channels and bits, and so many places a second. The channels belong to these
+    /// loudspeakers, a bit each; where none are named, to the usual ones of a FLAC stream.
+    pub fn new(channels: u32, width: u32, sample_rate: u32, speakers: Option<u32>) -> Layout
+        requires some_channels { 1 ≤ channels }
+        requires few_channels { channels ≤ 8 }
+        requires some_bits { 1 ≤ width }
+        requires few_bits { width ≤ 32 }
+        ensures { IsLayoutOf channels width sample_rate speakers result }
+    {
+        Layout {
+            channels,
+            width,
+            sample_rate,
+            speakers: speakers.unwrap_or(default_channel_mask(channels)),
+        }
+    }
+
+    /// The number of channels.
+    pub fn channels(&self) -> u32
+        ensures { result ≡ self.now.channels }
+    {
+        self.channels
+    }
+
+    /// The bits of a sample, which are the highest ones of its bytes.
+    pub fn width(&self) -> u32
+        ensures value { result ≡ self.now.width }
+        ensures some_bits { 1 ≤ result }
+        ensures few_bits { result ≤ 32 }
+    {
+        self.width
+    }
+
+    // The bytes of a sample.
+    fn sample_size(&self) -> u32
+        ensures value { result ≡ sample_size self.now.width }
+        ensures few { result ≤ 4 }
+    {
+        self.width.div_ceil(8)
+    }
+
+    // The bytes of a sample of each channel.
+    fn place_size(&self) -> u32
+        ensures value { result ≡ place_size self.now }
+        ensures few { result ≤ 32 }
+    {
+        self.channels * self.sample_size()
+    }
+
+    /// The bytes of so many samples of each channel, or None where no WAV file holds them.
+    pub fn data_size(&self, places: u64) -> Option<u32>
+        ensures { IsSizeOf self.now places result }
+    {
+        let size = places.checked_mul(u64::from(self.place_size()))?;
+        if size > u64::from(MOST_BYTES) {
+            return None;
+        }
+        Some(size as u32)
+    }
+
+    fn is_plain(&self) -> bool
+        ensures { result ≡ ((self.now.width == 8) || (self.now.width == 16)) }
+    {
+        self.width == 8 || self.width == 16
+    }
+
+    fn is_usual(&self) -> bool
+        ensures { result ≡ ((self.now.speakers == 3) || (self.now.speakers == 4)) }
+    {
+        self.speakers == 3 || self.speakers == 4
+    }
+
+    // Whether the format has to name its loudspeakers and the bits of a sample.
+    fn is_long(&self) -> bool
+        ensures { result ≡ is_long self.now }
+    {
+        self.channels > 2 || !self.is_plain() || !self.is_usual()
+    }
+
+    /// Puts all that stands before so many bytes of samples in place of these bytes.
+    pub fn put_header(&self, size: u32, bytes: &mut Vec<u8>) -> Result<(), AllocError>
+        requires { size ≤ 4294967234 }
+        ensures { OnOk result (IsHeader self.now size bytes.new.items) }
+    {
+        let format_size = self.format_size();
+        bytes.clear();
+        bytes.extend_from_slice(b"RIFF")?;
+        bytes.extend_from_slice(&(20 + format_size + size + size % 2).to_le_bytes())?;
+        bytes.extend_from_slice(b"WAVEfmt ")?;
+        bytes.extend_from_slice(&format_size.to_le_bytes())?;
+        self.put_format(bytes)?;
+        bytes.extend_from_slice(b"data")?;
+        bytes.extend_from_slice(&size.to_le_bytes())?;
+        Ok(())
+    }
+
+    fn format_size(&self) -> u32
+        ensures size { result ≡ length (format self.now) }
+        ensures few { result ≤ 40 }
+        ensures even { result % 2 ≡ 0 }
+    {
+        if self.is_long() { 40 } else { 16 }
+    }
+
+    fn put_format(&self, bytes: &mut Vec<u8>) -> Result<(), AllocError>
+        ensures { OnOk result (bytes.new.items ≡ bytes.old.items ++ format self.now) }
+    {
+        if !self.is_long() {
+            self.put_short_format(1, bytes)?;
+            return Ok(());
+        }
+        self.put_short_format(0xfffe, bytes)?;
+        self.put_extension(bytes)?;
+        Ok(())
+    }
+
+    fn put_short_format(&self, code: u16, bytes: &mut Vec<u8>) -> Result<(), AllocError>
+        ensures { OnOk result (bytes.new.items ≡ bytes.old.items ++ short_format code self.now) }
+    {
+        let place_size = self.place_size();
+        let bytes_per_second = self.sample_rate.wrapping_mul(place_size);
+        bytes.extend_from_slice(&code.to_le_bytes())?;
+        bytes.extend_from_slice(&(self.channels as u16).to_le_bytes())?;
+        bytes.extend_from_slice(&self.sample_rate.to_le_bytes())?;
+        bytes.extend_from_slice(&bytes_per_second.to_le_bytes())?;
+        bytes.extend_from_slice(&(place_size as u16).to_le_bytes())?;
+        bytes.extend_from_slice(&(8 * self.sample_size() as u16).to_le_bytes())?;
+        Ok(())
+    }
+
+    // What the long format has more: its size, the bits of a sample, the loudspeakers, the code of the samples.
+    fn put_extension(&self, bytes: &mut Vec<u8>) -> Result<(), AllocError>
+        ensures { OnOk result (bytes.new.items ≡ bytes.old.items ++ extension self.now) }
+    {
+        bytes.extend_from_slice(&22u16.to_le_bytes())?;
+        bytes.extend_from_slice(&(self.width as u16).to_le_bytes())?;
+        bytes.extend_from_slice(&self.speakers.to_le_bytes())?;
+        bytes.extend_from_slice(&PLAIN_SAMPLES)?;
+        Ok(())
+    }
+}
+
+// The channel mask of so many channels, as FLAC assigns them.
+fn default_channel_mask(channels: u32) -> u32
+    requires some_channels { 1 ≤ channels }
+    requires few_channels { channels ≤ 8 }
+    ensures { result ≡ default_channel_mask channels }
+{
+    match channels {
+        1 => 0x004,
+        2 => 0x003,
+        3 => 0x007,
+        4 => 0x033,
+        5 => 0x607,
+        6 => 0x60f,
+        7 => 0x70f,
+        _ => 0x63f,
+    }
+}

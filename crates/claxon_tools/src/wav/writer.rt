@@ -1,0 +1,115 @@
+//! A WAV file that is being written.
+ghost use Rattle.std.specs.Prelude.{◌≡◌, ◌≤◌, All, IfErr, OnOk};
+ghost use Rattle.std.specs.Io.KnownBytes.{Appends};
+ghost use Rattle.claxon_format.specs.Bits.{FitsIn};
+ghost use Rattle.claxon_format.specs.Streams.{interleave};
+ghost use Rattle.claxon_tools.specs.WaveFile.{pad};
+
+use crate::wav::error::{Error, Result};
+use crate::wav::samples::pack;
+use claxon::Block;
+use crate::wav::header::{Layout, MOST_BYTES};
+use std::alloc::{Allocator, Global};
+use std::io::{Seek, SeekFrom, Write};
+
+/// A WAV file at the start of its output, and the samples that stand in it so far.
+#[derive(Drop)]
+pub struct WavWriter<W> {
+    output: W,
+    layout: Layout,
+    // The bytes of samples that the header names, and those that were written.
+    announced: u32,
+    written: u32,
+    // The room of what is written is kept from one time to the next.
+    header: Vec<u8>,
+    interleaved: Vec<i32>,
+    bytes: Vec<u8>,
+    ghost announced_fits: { announced ≤ 4294967234 },
+    ghost written_fits: { written ≤ 4294967234 },
+}
+
+impl<W: Write + Seek> WavWriter<W> {
+    ghost use Rattle.claxon_tools.specs.Writer.{BeginsWithHeader, Finishes, IsOutside, MendsHeader, PutsBlock, RefusesBlock, SameHeader};
+
+    /// Writes a header for so many bytes of samples. Others may come: `finish` mends it.
+    pub fn start(alloc: Global, output: W, layout: Layout, announced: u32) -> Result<WavWriter<W>>
+    where
+        W: Drop,
+        requires { announced ≤ 4294967234 }
+        ensures { BeginsWithHeader W.contents layout announced output result }
+    {
+        let mut output = output;
+        let mut header = Vec::new(alloc);
+        layout.put_header(announced, &mut header)?;
+        output.write_all(header.as_slice())?;
+        Ok(WavWriter {
+            output,
+            layout,
+            announced,
+            written: 0,
+            header,
+            interleaved: Vec::new(alloc),
+            bytes: Vec::new(alloc),
+        })
+    }
+
+    /// Writes the samples of a block.
+    pub fn put_block<A: Allocator>(&mut self, block: &Block<A>) -> Result<()>
+        ensures ok { PutsBlock W.contents block.now result self.old self.new }
+        ensures fits { OnOk result (All (FitsIn self.old.layout.width) (interleave block.now.channels)) }
+        ensures err { IfErr result (λ error. RefusesBlock block.now error self.old) }
+        ensures layout { self.new.layout ≡ self.old.layout }
+        ensures announced { self.new.announced ≡ self.old.announced }
+    {
+        if block.channels() != self.layout.channels() {
+            return Err(Error::OtherChannels);
+        }
+        let width = self.layout.width();
+        pack(block, width, &mut self.interleaved, &mut self.bytes)?;
+        let room = (MOST_BYTES - self.written) as usize;
+        let size = self.bytes.len();
+        if size > room {
+            return Err(Error::TooLong);
+        }
+        self.output.write_all(self.bytes.as_slice())?;
+        self.written += size as u32;
+        Ok(())
+    }
+
+    /// Makes a whole file of what was written so far. Where the header was right no seek is made.
+    pub fn finish(&mut self) -> Result<()>
+        ensures ok { Finishes W.contents W.stream_position result self.old self.new }
+        ensures err { IfErr result IsOutside }
+    {
+        let padded = self.pad();
+        let mended = self.mend_header();
+        padded?;
+        mended
+    }
+
+    // A zero behind an odd number of bytes.
+    fn pad(&mut self) -> Result<()>
+        ensures bytes { OnOk result (Appends (W.contents self.old.output) (W.contents self.new.output) (pad self.old.written)) }
+        ensures same { SameHeader self.old self.new }
+        ensures err { IfErr result IsOutside }
+    {
+        if self.written % 2 == 1 {
+            self.output.write_all(&[0])?;
+        }
+        Ok(())
+    }
+
+    fn mend_header(&mut self) -> Result<()>
+        ensures ok { MendsHeader W.contents W.stream_position result self.old self.new }
+        ensures err { IfErr result IsOutside }
+    {
+        if self.written != self.announced {
+            self.layout.put_header(self.written, &mut self.header)?;
+            self.output.seek(SeekFrom::Start(0))?;
+            self.output.write_all(self.header.as_slice())?;
+            self.announced = self.written;
+        }
+        self.output.flush()?;
+        Ok(())
+    }
+}

@@ -1,2 +1,0 @@
-pub mod ChannelMask
-pub mod WaveFile

@@ -1,8 +1,0 @@
-use Rattle.std.proofs.Common.{rules}
-use Rattle.claxon_write.proofs.wav.writer.WavWriter.put_block.Goals as goal
-
-pub returns-clause-ok : goal.returns-clause-ok
-returns-clause-ok g c = search rules
-
-pub returns-then-size-room-clause-err : goal.returns-then-size-room-clause-err
-returns-then-size-room-clause-err g c = search rules

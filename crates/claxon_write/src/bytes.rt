@@ -1,0 +1,56 @@
+//! Samples as bytes, in places that have room for them.
+ghost use Rattle.std.specs.Prelude.{◌≡◌, ◌≤◌, ◌<◌, ◌*◌, ◌∷◌, ◌++◌, [], length};
+ghost use Rattle.claxon_write.specs.SampleBytes.{PutsChannel, bytes_of_samples, places, sample_bytes};
+
+fn little_endian(sample: i32) -> [u8; 4]
+    ensures { result ≡ sample_bytes sample }
+{
+    sample.cast_unsigned().to_le_bytes()
+}
+
+// As one number of 64 bits, so that one store writes both.
+fn little_endian_pair(left: i32, right: i32) -> [u8; 8]
+    ensures { result ≡ sample_bytes left ++ sample_bytes right }
+{
+    let low = u64::from(left.cast_unsigned());
+    let high = u64::from(right.cast_unsigned());
+    ((high << 32) + low).to_le_bytes()
+}
+
+/// Puts the samples of one channel.
+#[inline(never)]
+pub fn put_mono(samples: &[i32], room: &mut [u8])
+    requires { length room.old ≡ 4 * length samples.now }
+    ensures { room.new ≡ bytes_of_samples (places (samples.now ∷ []) 0 (length samples.now)) }
+{
+    for i in 0..samples.len() {
+        room[4 * i..4 * i + 4].copy_from_slice(&little_endian(samples[i]));
+    }
+}
+
+/// Puts the samples of two channels, place by place.
+#[inline(never)]
+pub fn put_stereo(left: &[i32], right: &[i32], room: &mut [u8])
+    requires same { length right.now ≡ length left.now }
+    requires room { length room.old ≡ 8 * length left.now }
+    ensures { room.new ≡ bytes_of_samples (places (left.now ∷ right.now ∷ []) 0 (length left.now)) }
+{
+    for i in 0..left.len() {
+        room[8 * i..8 * i + 8].copy_from_slice(&little_endian_pair(left[i], right[i]));
+    }
+}
+
+/// Puts the samples of one of several channels, each behind those of the channels before it.
+// Their count is a constant, so that the compiler knows how far apart the samples stand.
+#[inline(never)]
+pub fn put_channel<const CHANNELS: usize>(samples: &[i32], ch: usize, room: &mut [u8])
+    requires here { ch < CHANNELS }
+    requires few { CHANNELS ≤ 8 }
+    requires room { length room.old ≡ length samples.now * (4 * CHANNELS) }
+    ensures { PutsChannel samples.now ch CHANNELS room.old room.new }
+{
+    for i in 0..samples.len() {
+        let at = i * (4 * CHANNELS) + 4 * ch;
+        room[at..at + 4].copy_from_slice(&little_endian(samples[i]));
+    }
+}

@@ -1,0 +1,74 @@
+//! The samples of a FLAC file as bytes, or its tags.
+use crate::output::Output;
+use crate::stream::run;
+use claxon::metadata::Tags;
+use claxon::{FlacReader, FlacReaderOptions, Result};
+use std::alloc::Allocator;
+use std::fs;
+use std::io::{Read, Write};
+use std::rt::Files;
+
+/// Does what the arguments say, and answers the status: 0, 1 for a fault, whose text goes to `errors`, or 2 for arguments
+/// that the usage line doesn't have. A failed write to `errors` changes nothing.
+pub fn command<Q: Files + AllocGlobal, W: Write, E: Write>(
+    rt: &Q,
+    words: &[String],
+    output: &mut W,
+    errors: &mut E,
+) -> u8
+where
+    Q::File: Read,
+{
+    let outcome = match words {
+        [option, name] if option.as_str() == "--tags" => print_tags(rt, name.as_str(), output),
+        [name] if name.as_str() != "--tags" => decode(rt, name.as_str(), output),
+        _ => {
+            let _ = writeln!(errors, "usage: claxon_raw [--tags] FILE");
+            return 2;
+        }
+    };
+    match outcome {
+        Ok(()) => 0,
+        Err(error) => {
+            let _ = writeln!(errors, "{error}");
+            1
+        }
+    }
+}
+
+fn decode<Q: Files + AllocGlobal, W: Write>(rt: &Q, name: &str, output: &mut W) -> Result<()>
+where
+    Q::File: Read,
+{
+    let input = fs::open(rt, name)?;
+    run(rt.alloc(), input, output)?;
+    Ok(())
+}
+
+fn print_tags<Q: Files + AllocGlobal, W: Write>(rt: &Q, name: &str, output: &mut W) -> Result<()>
+where
+    Q::File: Read,
+{
+    let options = FlacReaderOptions {
+        metadata_only: true,
+        read_vorbis_comment: true,
+    };
+    let flac = FlacReader::new_ext(rt.alloc(), fs::open(rt, name)?, options)?;
+    put_tags(flac.tags(), output)
+}
+
+// A line `NAME=value` for each tag.
+fn put_tags<A: Allocator, W: Write>(tags: Tags<'_, A>, output: &mut W) -> Result<()> {
+    let mut output = Output::new(output);
+    for (name, value) in tags {
+        put_tag(&mut output, name, value)?;
+    }
+    output.flush()
+}
+
+fn put_tag<W: Write>(output: &mut Output<'_, W>, name: &str, value: &str) -> Result<()> {
+    output.put(name.as_bytes())?;
+    output.put(b"=")?;
+    output.put(value.as_bytes())?;
+    output.put(b"\n")
+}

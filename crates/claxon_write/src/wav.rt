@@ -1,9 +1,0 @@
-//! The samples of a FLAC stream as a WAV file.
-mod blocks;
-mod error;
-mod samples;
-mod writer;
-
-pub use blocks::convert;
-pub use error::{Error, Result};
-pub use writer::WavWriter;
