@@ -1,8 +1,7 @@
 //! Writes the samples of a FLAC file as bytes, or prints its tags.
 #![tactic(auto)]
 
-use claxon_write::command;
-use claxon_write::words;
+use claxon_write::{command, words};
 use std::io::Write;
 use std::process::ExitCode;
 

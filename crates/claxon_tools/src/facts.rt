@@ -5,9 +5,9 @@ ghost use Rattle.claxon.specs.Tags.{tags_left};
 ghost use Rattle.claxon_tools.specs.Facts.{FactsAreTold, FactsAreWritten, format_text, line, sizes_text, tag_text, tags_text, vendor_text};
 ghost use Rattle.claxon_tools.specs.Text.{Adds, number_text};
 
+use crate::text::{escaped_text, length_text, md5_text, number_text};
 use claxon::FlacReader;
 use claxon::metadata::{StreamInfo, Tags};
-use crate::text::{escaped_text, length_text, md5_text, number_text};
 use std::alloc::{AllocError, Allocator};
 use std::io::{Read, Write};
 

@@ -3,11 +3,11 @@
 
 mod arguments;
 mod bytes;
-mod command;
 mod output;
+mod raw;
 mod stream;
 
 pub use arguments::words;
-pub use command::command;
 pub use output::Output;
+pub use raw::command;
 pub use stream::{run, write_samples};

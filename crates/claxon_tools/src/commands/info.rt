@@ -1,6 +1,6 @@
 //! The facts that the head of a FLAC file tells.
-use claxon::{FlacReader, FlacReaderOptions, Result};
 use crate::facts::write_facts;
+use claxon::{FlacReader, FlacReaderOptions, Result};
 use std::fs;
 use std::io::{Read, Write};
 use std::rt::Files;

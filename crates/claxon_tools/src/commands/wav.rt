@@ -1,8 +1,7 @@
 //! A FLAC file as a WAV file.
-use claxon::FlacReader;
 use crate::progress::Progress;
-use crate::wav::Layout;
-use crate::wav::{Error, Result, WavWriter, convert};
+use crate::wav::{Error, Layout, Result, WavWriter, convert};
+use claxon::FlacReader;
 use std::fs;
 use std::io::{Read, Write};
 use std::os::unix::fs::MetadataExt;

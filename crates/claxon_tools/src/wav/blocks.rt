@@ -3,12 +3,12 @@ ghost use Rattle.std.specs.Prelude.{◌≡◌, false};
 ghost use Rattle.claxon.specs.FlacReader.{flac_metadata_only};
 ghost use Rattle.claxon_tools.specs.Convert.{ConvertsAll, ConvertsNotAll, PutsBlocks, StopsAtBlock};
 
+use crate::progress::Progress;
 use crate::wav::error::Result;
 use crate::wav::writer::WavWriter;
 use claxon::FlacReader;
 use claxon::frame::FrameReader;
 use claxon::input::ReadBytes;
-use crate::progress::Progress;
 use std::alloc::Global;
 use std::io::{Read, Seek, Write};
 

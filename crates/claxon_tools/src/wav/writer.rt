@@ -6,9 +6,9 @@ ghost use Rattle.claxon_format.specs.Streams.{interleave};
 ghost use Rattle.claxon_tools.specs.WaveFile.{pad};
 
 use crate::wav::error::{Error, Result};
+use crate::wav::header::{Layout, MOST_BYTES};
 use crate::wav::samples::pack;
 use claxon::Block;
-use crate::wav::header::{Layout, MOST_BYTES};
 use std::alloc::{Allocator, Global};
 use std::io::{Seek, SeekFrom, Write};
 
