@@ -1,9 +1,9 @@
 //! Frames from a reader of a byte a read into used buffers, one after another, and into buffers of just enough room.
 use crate::answers::{FRAME, Fault, fault_of};
+use crate::doubles::RefusesOne;
 use crate::sources::OneByte;
 use claxon::frame::{FrameReader, FrameResult};
 use claxon::input::{BufferedReader, ReadBytes};
-use claxon_test_doubles::RefusesOne;
 use std::alloc::{AllocError, Allocator, Global};
 use std::io::Cursor;
 use std::process::Abort;

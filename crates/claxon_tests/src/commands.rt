@@ -1,9 +1,8 @@
 //! What the program does for its words: samples and tags of files, and the words themselves.
 use crate::answers::{FIVES, FRAME, PAIRS, head, joined, two_frames};
+use crate::doubles::sinks::Sink;
 use crate::files::{file_of, path_of};
-use claxon_write::command;
-use claxon_test_doubles::sinks::Sink;
-use claxon_write::words;
+use claxon_write::{command, words};
 use linked_list_allocator::LocalHeap;
 use std::alloc::{AllocError, Global};
 use std::env::FillError;

@@ -1,7 +1,7 @@
 //! What errors and values say of themselves.
 use crate::answers::two_frames;
 use claxon::{Error, FlacReader, FlacReaderOptions};
-use claxon_write::wav;
+use claxon_tools::wav;
 use std::alloc::{AllocError, Global};
 use std::fmt::{Debug, Display};
 use std::io::{self, Cursor, ErrorKind};

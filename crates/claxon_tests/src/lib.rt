@@ -1,7 +1,7 @@
-//! Tests that cross crates: metadata blocks one after another and what callers find; frames and whole streams, from files and
-//! over readers that give little, pause and fail; runs of some 2^32 zeros; runs into writers of all kinds; what the programs do
-//! for their words; values as text and headers of WAV files; want of memory; and vectors of the original's tests. Rows of bytes
-//! with their answer are lines of `claxon_cases`.
+//! Tests that cross crates: bytes and bits; metadata blocks one after another and what callers find; frames and whole
+//! streams, from files and over readers that give little, pause and fail; runs of some 2^32 zeros; runs into writers of all
+//! kinds; what the programs do for their words; values as text and headers of WAV files; want of memory; and vectors of the
+//! original's tests. Rows of bytes with their answer are lines of `claxon_cases`.
 #![tactic(auto)]
 
 #[cfg(test)]
@@ -18,6 +18,7 @@ mod commands;
 mod conversions;
 #[cfg(test)]
 mod cuts;
+pub mod doubles;
 #[cfg(test)]
 mod errors;
 #[cfg(test)]
@@ -28,6 +29,7 @@ mod files;
 mod in_turn;
 #[cfg(test)]
 mod info;
+pub mod input;
 #[cfg(test)]
 mod lost_output;
 #[cfg(test)]

@@ -1,9 +1,9 @@
 //! The program where what it writes is lost.
 use crate::answers::{COMMENT, FIVES, head, joined, two_frames};
 use crate::commands::owned;
+use crate::doubles::sinks::Sink;
 use crate::files::file_of;
 use claxon_write::command;
-use claxon_test_doubles::sinks::Sink;
 use std::fs;
 use std::io::{self, ErrorKind};
 use std::test::Fail;

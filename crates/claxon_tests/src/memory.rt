@@ -2,11 +2,11 @@
 use crate::answers::{
     COMMENT, FIVES, FRAME, Fault, Step, answers_each, fault_of, head, joined, run_of, two_frames,
 };
+use crate::doubles::RefusesOne;
+use crate::doubles::sinks::Sink;
 use claxon::FlacReader;
 use claxon::frame::FrameReader;
 use claxon::metadata::{MetadataBlock, VorbisComment, read_metadata_block_with_header};
-use claxon_test_doubles::RefusesOne;
-use claxon_test_doubles::sinks::Sink;
 use claxon_write::run;
 use linked_list_allocator::LocalHeap;
 use std::alloc::{Allocator, Global};

@@ -1,6 +1,6 @@
 //! Runs into writers of all kinds.
 use crate::answers::{FIVES, FRAME, Fault, end_of, head, joined, two_frames};
-use claxon_test_doubles::sinks::Sink;
+use crate::doubles::sinks::Sink;
 use claxon_write::run;
 use std::alloc::Global;
 use std::io::{Cursor, ErrorKind};

@@ -1,0 +1,56 @@
+//! A field of bits with padding and a guard, read as a frame is: bits through a remainder, and then the guard in bytes.
+ghost use Rattle.std.specs.Prelude.{◌≡◌};
+ghost use Rattle.claxon_format.specs.Fault.{FrameGuard};
+ghost use Rattle.claxon_format.specs.read.Bytes.{by_bytes, expected_at};
+ghost use Rattle.claxon_input.specs.CheckedReader.{checked_source, checked_state};
+ghost use Rattle.claxon_input.specs.Remainders.{check16};
+ghost use Rattle.claxon_input.specs.State.{bytes_in, bits_in};
+ghost use Rattle.claxon_input.specs.Gives.{Gives};
+ghost use Rattle.claxon_tests.specs.GuardedPair.{PairIsRead, pair_at, guarded_pair_at};
+
+use claxon_input::crc::Crc16Reader;
+use claxon_input::input::{Bitstream, ReadBytes};
+use claxon_input::{Error, Result};
+
+/// Reads two numbers, of 5 and of 9 bits, up to a byte border, and the guard of these bytes.
+pub fn read_guarded_pair<R: ReadBytes>(input: &mut R) -> Result<(u32, u32)>
+    ensures { PairIsRead R.source input.old result input.new }
+{
+    let mut input = Crc16Reader::new(input);
+    read_checked_pair(&mut input)
+}
+
+fn read_checked_pair<R: ReadBytes>(input: &mut Crc16Reader<R>) -> Result<(u32, u32)>
+    requires { checked_state input.old ≡ 0 }
+    ensures { Gives (λ pair. pair) result guarded_pair_at (bytes_in (checked_source R.source check16) input.old) (bytes_in (checked_source R.source check16) input.new) }
+{
+    let pair = read_pair(input)?;
+    let computed = input.crc();
+    check_guard(input, computed)?;
+    Ok(pair)
+}
+
+fn read_pair<R: ReadBytes>(input: &mut R) -> Result<(u32, u32)>
+    ensures { Gives (λ pair. pair) result (by_bytes pair_at) (bytes_in R.source input.old) (bytes_in R.source input.new) }
+{
+    let mut bits = Bitstream::new(input);
+    read_pair_of_bits(&mut bits)
+}
+
+#[tactic(auto, unfolding(crate::specs::GuardedPair::pair_at))]
+fn read_pair_of_bits<R: ReadBytes>(bits: &mut Bitstream<R>) -> Result<(u32, u32)>
+    ensures { Gives (λ pair. pair) result pair_at (bits_in R.source bits.old) (bits_in R.source bits.new) }
+{
+    let first = bits.read_leq_u32(5)?;
+    let second = bits.read_leq_u32(9)?;
+    Ok((first, second))
+}
+
+fn check_guard<R: ReadBytes>(input: &mut R, computed: u16) -> Result<()>
+    ensures { Gives (λ x. tt) result (expected_at 2 computed FrameGuard) (bytes_in R.source input.old) (bytes_in R.source input.new) }
+{
+    if input.read_be_u16()? != computed {
+        return Err(Error::FormatError("frame CRC mismatch"));
+    }
+    Ok(())
+}
