@@ -281,8 +281,11 @@ fn read_block_time<R: ReadBytes>(input: &mut R, blocking: BlockingStrategy) -> R
     }
 }
 
-// A number of at most 36 bits in one to seven bytes, as UTF-8 writes characters. Spellings that are longer than needed
-// are accepted.
+// A coded number: at most 36 bits in one to seven bytes, as UTF-8 writes characters (RFC 9639, section 9.1.5).
+//
+// The ones that the first byte begins with say how many bytes there are: none of them in a number of one byte, 0xxxxxxx, two in
+// 110xxxxx 10xxxxxx, and seven in 11111110 with six bytes behind it. A zero ends them; the bits behind it and the low six
+// bits of each byte that follows are the number, the highest first. Numbers in more bytes than they need are accepted.
 #[tactic(auto, unfolding(claxon_format::specs::read::Coded::coded_number_at, claxon_format::specs::Fault::fault_text))]
 fn read_var_length_int<R: ReadBytes>(input: &mut R) -> Result<u64>
     ensures { Gives (λ x. x) result (coded_number_at big_at) (bytes_in R.source input.old) (bytes_in R.source input.new) }

@@ -21,7 +21,8 @@ pub fn unmix(channel_assignment: ChannelAssignment, buffer: &mut [i32])
     }
 }
 
-// The side is left less right.
+// The side is left less right. Two channels that are much alike have a small side, which takes few bits; the other channel is
+// coded as it is.
 #[inline(never)]
 fn decode_left_side(buffer: &mut [i32])
     ensures { IsUnmixed 8 buffer.old buffer.new }
@@ -33,6 +34,7 @@ fn decode_left_side(buffer: &mut [i32])
     }
 }
 
+// The side comes first here, and right is coded as it is.
 #[inline(never)]
 fn decode_right_side(buffer: &mut [i32])
     ensures { IsUnmixed 9 buffer.old buffer.new }
@@ -44,7 +46,9 @@ fn decode_right_side(buffer: &mut [i32])
     }
 }
 
-// The mid lost its lowest bit when it was halved. It is that of the side.
+// Mid is half of left plus right, rounded down, and side is left less right. The half loses the lowest bit of the sum, but a sum
+// and a difference of the same two numbers are both even or both odd: the bit that is lost is the lowest of side. The sum and
+// the difference together are twice left, and the sum without the difference is twice right.
 #[inline(never)]
 fn decode_mid_side(buffer: &mut [i32])
     ensures { IsUnmixed 10 buffer.old buffer.new }
