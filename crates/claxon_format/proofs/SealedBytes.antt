@@ -11,7 +11,7 @@ use Rattle.claxon_format.specs.Reading.{Reading, Reads, Done, Faulty, Short, bin
 use Rattle.claxon_format.specs.read.Bits.{number_at}
 use Rattle.claxon_format.proofs.Bytes.{bits_of-append, length-bits_of, cut}
 use Rattle.claxon_format.proofs.ByteNumbers.{Whole-number}
-use Rattle.claxon_format.proofs.Sealed.{taken_is}
+use Rattle.claxon_format.proofs.Laws.{taken_is}
 use Rattle.claxon_format.proofs.WholeBytes.{Whole-then, Whole-test, Whole-done, whole_again, leaves_later}
 use Rattle.claxon_format.proofs.Numbers.{Reads-number, bits-number, number-lt}
 

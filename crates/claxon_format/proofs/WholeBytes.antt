@@ -5,7 +5,7 @@ use Rattle.claxon_format.specs.Fault.{Fault}
 use Rattle.claxon_format.specs.read.Bytes.{by_bytes, whole}
 use Rattle.claxon_format.specs.Reading.{Reading, Done, Faulty, Short, bind, and_then, and_with, done, taken, test}
 use Rattle.claxon_format.proofs.Bytes.{bits_of-append, left_again}
-use Rattle.claxon_format.proofs.Sealed.{taken_is}
+use Rattle.claxon_format.proofs.Laws.{taken_is}
 
 -- what is left, in bits
 abbrev pub in_bits : {A : Type 0} → Reading ℕ A → Reading Bool A

@@ -9,7 +9,7 @@ use Rattle.claxon_format.specs.read.Bytes.{expected_at, sealed_bytes_at}
 use Rattle.claxon_format.specs.Reading.{Reading, Done, Short, bind, done, taken}
 use Rattle.claxon_format.proofs.SealedBytes.{sealed_after}
 use Rattle.claxon_format.proofs.Bytes.{bits_of-append}
-use Rattle.claxon_format.proofs.Sealed.{taken_is}
+use Rattle.claxon_format.proofs.Laws.{taken_is}
 use Rattle.claxon_input.specs.Source.{Source, through_loan, with_check}
 use Rattle.claxon_input.specs.Remainders.{check8, check16}
 use Rattle.claxon_input.specs.State.{State, bytes_in, past, is_told, known}
