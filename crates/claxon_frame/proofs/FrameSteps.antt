@@ -15,7 +15,8 @@ use Rattle.claxon_input.specs.Remainders.{check16}
 use Rattle.claxon_input.specs.Source.{Source, with_check}
 use Rattle.claxon_input.specs.State.{State}
 use Rattle.claxon_input.specs.Gives.{Went, Stops, GivesOrStarves, or_end, GivesOrEndsOrStarves}
-use Rattle.claxon_input.proofs.RemainderReaders.{remainder_16}
+use Rattle.claxon_input.proofs.RemainderReaders.{remainder_of_taken}
+use Rattle.claxon_input.proofs.Remainders.{tells_16}
 use Rattle.claxon_input.proofs.States.{bytes_of_source}
 use Rattle.claxon_input.proofs.CallsInTurn.{went_none, went_map, went_both, stops_as, fed, starved_after}
 use Rattle.claxon_input.specs.Error.{is_memory}
@@ -83,7 +84,7 @@ module _ (stream : Option StreamShape) (width : IsWidth (known_width stream)) wh
             let q = some_read 2 (start_at stream) (kept first s).coming start b.coming x.is in
             record {
               told = z.told;
-              is = record { enough = q.0; guarded = footer_is stream start coded guard (kept first s).coming b.coming (kept guard t).coming q.1 y.is (remainder_16 s t guard small (subst (λ (n : ℕ). Went (kept n s) (kept guard t) (λ s m. Unit {0})) zero all) told) };
+              is = record { enough = q.0; guarded = footer_is stream start coded guard (kept first s).coming b.coming (kept guard t).coming q.1 y.is (remainder_of_taken tells_16 s t guard small (subst (λ (n : ℕ). Went (kept n s) (kept guard t) (λ s m. Unit {0})) zero all) told) };
               rest = z.rest;
               checks = z.checks;
             };

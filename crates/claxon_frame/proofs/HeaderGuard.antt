@@ -11,7 +11,8 @@ use Rattle.claxon_input.specs.Remainders.{check8}
 use Rattle.claxon_input.specs.Source.{Source, with_check}
 use Rattle.claxon_input.specs.State.{State}
 use Rattle.claxon_input.specs.Gives.{Went, or_end}
-use Rattle.claxon_input.proofs.RemainderReaders.{remainder_8}
+use Rattle.claxon_input.proofs.RemainderReaders.{remainder_of_taken}
+use Rattle.claxon_input.proofs.Remainders.{tells_8}
 use Rattle.claxon_input.proofs.States.{bytes_of_source}
 use Rattle.claxon_format.specs.read.Header.{fields_at, guarded_at}
 use Rattle.claxon_input.proofs.FieldOrEnd.{enough, found, some_read}
@@ -32,7 +33,7 @@ guard_next u v c d n f zero same small h = record {
       let k = h.known t in
       let r = some_read 2 (fields_at big_at) (checked u c).coming f (checked v d).coming k.is in
       let low : d < 256 = rw (← same) small in
-      let crc : n ≡ crc8 (bits_of (taken (checked u c).coming (checked v d).coming)) = same ∙ remainder_8 u v d low (rw zero at h) t in
+      let crc : n ≡ crc8 (bits_of (taken (checked u c).coming (checked v d).coming)) = same ∙ remainder_of_taken tells_8 u v d low (rw zero at h) t in
       record {
         told = k.told;
         is = enough 2 guarded_at (checked u c).coming r.0 ∙ ap found (sealed_after 1 n crc8 HeaderGuard (fields_at big_at) f (checked u c).coming (checked v d).coming r.1 crc);

@@ -1,6 +1,6 @@
 -- What was read through a remainder: the remainder is that of the bytes taken, and a guard is compared with it.
 use Rattle.std.specs.Borrow.{GName, MutBor}
-use Rattle.std.proofs.Common.{◌≡◌, ℕ, ◌<◌, true, List, [], ◌∷◌, ◌++◌, Option, None, Some, refl, subst, sym, ap, ◌∙◌}
+use Rattle.std.proofs.Common.{◌≡◌, ℕ, ◌<◌, ◌^◌, true, List, [], ◌∷◌, ◌++◌, Option, None, Some, refl, subst, sym, ap, ◌∙◌}
 use Rattle.std.specs.Prelude.{Result, Ok, Err}
 use Rattle.claxon_format.specs.Bits.{Bits, bits_of}
 use Rattle.claxon_format.specs.Fault.{Fault}
@@ -20,7 +20,7 @@ use Rattle.claxon_input.specs.declared.error.Error.{Error}
 use Rattle.claxon_input.specs.declared.error.Error.TheVariants.{IoError, FormatError, Unsupported, OutOfMemory}
 use Rattle.claxon_input.proofs.States.{bytes_of_source, same_function}
 use Rattle.claxon_input.proofs.CallsInTurn.{gives_loans}
-use Rattle.claxon_input.proofs.Remainders.{bits_8, bits_16}
+use Rattle.claxon_input.proofs.Remainders.{TellsTaken}
 
 -- the bytes that are to come, where they are known
 abbrev bytes_of_all : Option (List ℕ) → List ℕ
@@ -31,47 +31,29 @@ bytes_of_all = known (λ all. all)
 unfoldable first_kept : (p q : Option (List ℕ)) (f g : List ℕ → ℕ) (u v : List ℕ → List ℕ) → Type 0
 first_kept p q f g u v = past q (λ xs. g xs ∷ v xs) ≡ past p (λ xs. f xs ∷ u xs)
 
-kept_8 : (p q : Option (List ℕ)) (x : ℕ) (u v : List ℕ → List ℕ) → x < 256 → is_told p ≡ true → is_told q ≡ true → IsRest (bytes_of_all p) (bytes_of_all q) → first_kept p q (check8 0) (check8 x) u v
-    → x ≡ crc8 (bits_of (taken (bytes_of_all p) (bytes_of_all q)))
-unfolding IsRest first_kept
-kept_8 None q x u v small t k r e = absurd cc
-kept_8 (Some all) None x u v small t k r e = absurd cc
-kept_8 (Some all) (Some rest) x u v small t k r e =
-    bits_8 all rest (bits_of r.0) x u v small (ap bits_of r.1 ∙ bits_of-append r.0 rest) e ∙ ap (λ (s : List ℕ). crc8 (bits_of s)) (sym (taken_is all r.0 rest r.1))
-
-kept_16 : (p q : Option (List ℕ)) (x : ℕ) (u v : List ℕ → List ℕ) → x < 65536 → is_told p ≡ true → is_told q ≡ true → IsRest (bytes_of_all p) (bytes_of_all q) → first_kept p q (check16 0) (check16 x) u v
-    → x ≡ crc16 (bits_of (taken (bytes_of_all p) (bytes_of_all q)))
-unfolding IsRest first_kept
-kept_16 None q x u v small t k r e = absurd cc
-kept_16 (Some all) None x u v small t k r e = absurd cc
-kept_16 (Some all) (Some rest) x u v small t k r e =
-    bits_16 all rest (bits_of r.0) x u v small (ap bits_of r.1 ∙ bits_of-append r.0 rest) e ∙ ap (λ (s : List ℕ). crc16 (bits_of s)) (sym (taken_is all r.0 rest r.1))
-
--- the remainder at hand is that of the bytes taken
-module _ (a b : Source ℕ) {P : List ℕ → List ℕ → Type 0} (x : ℕ) where
-  pub remainder_8 : x < 256 → Went (bytes_of_source (with_check (check8 0) a)) (bytes_of_source (with_check (check8 x) b)) P → is_told a.to_come ≡ true → x ≡ crc8 (bits_of (taken (bytes_of_all a.to_come) (bytes_of_all b.to_come)))
+module _ {d : ℕ} {check : ℕ → List ℕ → ℕ} {crc : Bits → ℕ} (remainders : TellsTaken d check crc) where
+  kept : (p q : Option (List ℕ)) (x : ℕ) (u v : List ℕ → List ℕ) → x < 2 ^ d → is_told p ≡ true → is_told q ≡ true → IsRest (bytes_of_all p) (bytes_of_all q) → first_kept p q (check 0) (check x) u v
+      → x ≡ crc (bits_of (taken (bytes_of_all p) (bytes_of_all q)))
   unfolding IsRest first_kept
-  remainder_8 small h t = let k = h.known t in kept_8 a.to_come b.to_come x a.checks b.checks small t k.told (k.rest (bytes_of_all a.to_come) ([], refl)) k.checks
+  kept None q x u v small t k r e = absurd cc
+  kept (Some all) None x u v small t k r e = absurd cc
+  kept (Some all) (Some rest) x u v small t k r e =
+      remainders.tells all rest (bits_of r.0) x u v small (ap bits_of r.1 ∙ bits_of-append r.0 rest) e ∙ ap (λ (s : List ℕ). crc (bits_of s)) (sym (taken_is all r.0 rest r.1))
 
-  pub remainder_16 : x < 65536 → Went (bytes_of_source (with_check (check16 0) a)) (bytes_of_source (with_check (check16 x) b)) P → is_told a.to_come ≡ true → x ≡ crc16 (bits_of (taken (bytes_of_all a.to_come) (bytes_of_all b.to_come)))
+  -- the remainder at hand is that of the bytes taken
+  pub remainder_of_taken : (a b : Source ℕ) {P : List ℕ → List ℕ → Type 0} (x : ℕ) → x < 2 ^ d → Went (bytes_of_source (with_check (check 0) a)) (bytes_of_source (with_check (check x) b)) P → is_told a.to_come ≡ true
+      → x ≡ crc (bits_of (taken (bytes_of_all a.to_come) (bytes_of_all b.to_come)))
   unfolding IsRest first_kept
-  remainder_16 small h t = let k = h.known t in kept_16 a.to_come b.to_come x a.checks b.checks small t k.told (k.rest (bytes_of_all a.to_come) ([], refl)) k.checks
+  remainder_of_taken a b x small h t = let k = h.known t in kept a.to_come b.to_come x a.checks b.checks small t k.told (k.rest (bytes_of_all a.to_come) ([], refl)) k.checks
 
--- what `crc` gives is the remainder of what was taken since the reader was made
-module _ {R : Type 0} (source : R → Source ℕ) (b c : CheckedReader R ℕ) {P : List ℕ → List ℕ → Type 0} (start : checked_state b ≡ 0) where
-  pub crc_8 : checked_state c < 256 → Went (bytes_in (checked_source source check8) b) (bytes_in (checked_source source check8) c) P → (bytes_in (checked_source source check8) b).told ≡ true
-      → checked_state c ≡ crc8 (bits_of (taken (bytes_in (checked_source source check8) b).coming (bytes_in (checked_source source check8) c).coming))
+  -- what `crc` gives is the remainder of what was taken since the reader was made
+  pub crc_of_taken : {R : Type 0} (source : R → Source ℕ) (b c : CheckedReader R ℕ) {P : List ℕ → List ℕ → Type 0} → checked_state b ≡ 0 → checked_state c < 2 ^ d
+      → Went (bytes_in (checked_source source check) b) (bytes_in (checked_source source check) c) P → (bytes_in (checked_source source check) b).told ≡ true
+      → checked_state c ≡ crc (bits_of (taken (bytes_in (checked_source source check) b).coming (bytes_in (checked_source source check) c).coming))
   unfolding bytes_in
-  crc_8 small h t =
-      remainder_8 (source (checked_inner b)) (source (checked_inner c)) (checked_state c) small
-      (subst (λ (x : ℕ). Went (bytes_of_source (with_check (check8 x) (source (checked_inner b)))) (bytes_of_source (with_check (check8 (checked_state c)) (source (checked_inner c)))) P) start h) t
-
-  pub crc_16 : checked_state c < 65536 → Went (bytes_in (checked_source source check16) b) (bytes_in (checked_source source check16) c) P → (bytes_in (checked_source source check16) b).told ≡ true
-      → checked_state c ≡ crc16 (bits_of (taken (bytes_in (checked_source source check16) b).coming (bytes_in (checked_source source check16) c).coming))
-  unfolding bytes_in
-  crc_16 small h t =
-      remainder_16 (source (checked_inner b)) (source (checked_inner c)) (checked_state c) small
-      (subst (λ (x : ℕ). Went (bytes_of_source (with_check (check16 x) (source (checked_inner b)))) (bytes_of_source (with_check (check16 (checked_state c)) (source (checked_inner c)))) P) start h) t
+  crc_of_taken source b c {P = P} start small h t =
+      remainder_of_taken (source (checked_inner b)) (source (checked_inner c)) (checked_state c) small
+      (subst (λ (x : ℕ). Went (bytes_of_source (with_check (check x) (source (checked_inner b)))) (bytes_of_source (with_check (check (checked_state c)) (source (checked_inner c)))) P) start h) t
 
 -- ---- what happened behind a remainder or a loan happened to what it reaches
 

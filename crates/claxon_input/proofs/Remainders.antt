@@ -151,16 +151,22 @@ past_all check left others more = check (left ++ more) ∷ others (left ++ more)
 first_is : (f g : List ℕ → ℕ) (a b : List ℕ) (u v : List ℕ → List ℕ) → past_all g b v ≡ past_all f a u → g (b ++ []) ≡ f (a ++ [])
 first_is f g a b u v e = let k : past_all g b v [] ≡ past_all f a u [] = ap (λ (h : List ℕ → List ℕ). h []) e in cc
 
--- what is known of the remainders past the end, over the bits of what was taken
-pub bits_8 : (all rest : List ℕ) (x : Bits) (c : ℕ) (u v : List ℕ → List ℕ) → c < 256 → bits_of all ≡ x ++ bits_of rest → past_all (check8 c) rest v ≡ past_all (check8 0) all u → c ≡ crc8 x
-unfolding crc8
-bits_8 all rest x c u v h split e =
-    of_bits 8 0x107 (omega arith) (omega arith) (omega arith) all rest x c refl (omega arith) h split (rw (append-nil rest, append-nil all) at (first_is (check8 0) (check8 c) all rest u v e))
+-- what is known of the remainders past the end tells the remainder of d bits of what was taken
+pub record TellsTaken (d : ℕ) (check : ℕ → List ℕ → ℕ) (crc : Bits → ℕ) : Type 0 where
+  pub tells : (all rest : List ℕ) (x : Bits) (c : ℕ) (u v : List ℕ → List ℕ) → c < 2 ^ d → bits_of all ≡ x ++ bits_of rest → past_all (check c) rest v ≡ past_all (check 0) all u → c ≡ crc x
 
-pub bits_16 : (all rest : List ℕ) (x : Bits) (c : ℕ) (u v : List ℕ → List ℕ) → c < 65536 → bits_of all ≡ x ++ bits_of rest → past_all (check16 c) rest v ≡ past_all (check16 0) all u → c ≡ crc16 x
+tells_taken : (d p : ℕ) → 2 ≤ 2 ^ d → 2 ^ d ≤ p → p < 2 * 2 ^ d → p % 2 ≡ 1 → 8 ≤ d → TellsTaken d (check d p) (λ x. divide d p 0 (x ++ replicate d false))
+tells_taken d p some low high odd eight = record {
+  tells = λ all rest x c u v h split e. of_bits d p some low high all rest x c odd eight h split (rw (append-nil rest, append-nil all) at (first_is (check d p 0) (check d p c) all rest u v e));
+}
+
+pub tells_8 : TellsTaken 8 check8 crc8
+unfolding crc8
+tells_8 = tells_taken 8 0x107 (omega arith) (omega arith) (omega arith) refl (omega arith)
+
+pub tells_16 : TellsTaken 16 check16 crc16
 unfolding crc16
-bits_16 all rest x c u v h split e =
-    of_bits 16 0x18005 (omega arith) (omega arith) (omega arith) all rest x c refl (omega arith) h split (rw (append-nil rest, append-nil all) at (first_is (check16 0) (check16 c) all rest u v e))
+tells_16 = tells_taken 16 0x18005 (omega arith) (omega arith) (omega arith) refl (omega arith)
 
 -- ---- tables
 

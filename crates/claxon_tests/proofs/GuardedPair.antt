@@ -13,7 +13,8 @@ use Rattle.claxon_input.specs.Source.{Source}
 use Rattle.claxon_input.specs.State.{bytes_in}
 use Rattle.claxon_input.specs.Gives.{Went}
 use Rattle.claxon_input.specs.declared.crc.CheckedReader.{CheckedReader}
-use Rattle.claxon_input.proofs.RemainderReaders.{crc_16, went_sealed}
+use Rattle.claxon_input.proofs.RemainderReaders.{crc_of_taken, went_sealed}
+use Rattle.claxon_input.proofs.Remainders.{tells_16}
 use Rattle.claxon_input.proofs.CallsInTurn.{went_map}
 use Rattle.claxon_tests.specs.GuardedPair.{pair_at, guarded_pair_at}
 
@@ -26,4 +27,4 @@ pub after_pair : {R : Type 0} (source : R → Source ℕ) (b c : CheckedReader R
     → Went (bytes_in (checked_source source check16) b) (bytes_in (checked_source source check16) c) (λ s m. by_bytes pair_at s ≡ Done p m)
     → Went (bytes_in (checked_source source check16) b) (bytes_in (checked_source source check16) c) (λ s m. guarded_pair_at s ≡ bind (expected_at 2 crc FrameGuard m) (λ u. done p))
 after_pair source b c crc p start same small h =
-    went_map _ (went_sealed 2 crc crc16 FrameGuard (by_bytes pair_at) p _ _ h (λ told. same ∙ crc_16 source b c start (subst (λ (n : ℕ). n < 65536) same small) h told)) (λ e. pair_is _ ∙ e)
+    went_map _ (went_sealed 2 crc crc16 FrameGuard (by_bytes pair_at) p _ _ h (λ told. same ∙ crc_of_taken tells_16 source b c start (subst (λ (n : ℕ). n < 65536) same small) h told)) (λ e. pair_is _ ∙ e)
