@@ -4,14 +4,12 @@ use Rattle.std.proofs.Common.{◌≡◌, ℕ, ◌<◌, ◌^◌, true, List, [], 
 use Rattle.std.specs.Prelude.{Result, Ok, Err}
 use Rattle.claxon_format.specs.Bits.{Bits, bits_of}
 use Rattle.claxon_format.specs.Fault.{Fault}
-use Rattle.claxon_format.specs.Guards.{crc8, crc16}
 use Rattle.claxon_format.specs.read.Bytes.{expected_at, sealed_bytes_at}
 use Rattle.claxon_format.specs.Reading.{Reading, Done, Short, bind, done, taken}
 use Rattle.claxon_format.proofs.SealedBytes.{sealed_after}
 use Rattle.claxon_format.proofs.Bytes.{bits_of-append}
 use Rattle.claxon_format.proofs.Laws.{taken_is}
 use Rattle.claxon_input.specs.Source.{Source, through_loan, with_check}
-use Rattle.claxon_input.specs.Remainders.{check8, check16}
 use Rattle.claxon_input.specs.State.{State, bytes_in, past, is_told, known}
 use Rattle.claxon_input.specs.Gives.{IsRest, Went, Stuck, IsFaultOf, Stops, Gives, GivesOrStarves}
 use Rattle.claxon_input.specs.CheckedReader.{checked_source, checked_state, checked_inner}
