@@ -2,7 +2,7 @@ use Rattle.std.proofs.Common.{arith, rules, ◌-◌, ◌/◌, ◌%◌, ◌^◌}
 use Rattle.claxon_format.proofs.Numbers.{length-bits}
 use Rattle.claxon_input.specs.Bitstream.{bit_state}
 use Rattle.claxon_input.specs.State.{bits_in}
-use Rattle.claxon_input.proofs.BitSteps.{cut_in_cache, empty_bits, few_bits}
+use Rattle.claxon_input.proofs.BitSteps.{cut_in_cache, empty_bits}
 use Rattle.claxon_input.proofs.Sources.{on_err, rest_after}
 use Rattle.claxon_input.proofs.States.{yields_err}
 use Rattle.claxon_input.proofs.BitsAtHand.{went_passed, stuck_skip, stuck_last, last_passed}
@@ -42,15 +42,3 @@ returns-in_err-skip-clause-err g c = on_err c.from_residual.result (record { res
 pub returns-in_err-last-clause-err : goal.returns-in_err-last-clause-err
 returns-in_err-last-clause-err g c =
     on_err c.from_residual-in_err-last.result (record { rest = rest_after _ _ _ _ c.in_ok-skip.ensures.ok.2 c.in_err-last.ensures.err.rest; emptied = search (rules, empty_bits) })
-
-pub returns-then-amount-self-clause-few : goal.returns-then-amount-self-clause-few
-returns-then-amount-self-clause-few g c = grind (arith, few_bits)
-
-pub returns-in_err-skip-clause-few : goal.returns-in_err-skip-clause-few
-returns-in_err-skip-clause-few g c = grind (arith, few_bits)
-
-pub returns-in_err-last-clause-few : goal.returns-in_err-last-clause-few
-returns-in_err-last-clause-few g c = grind (arith, few_bits)
-
-pub returns-clause-few : goal.returns-clause-few
-returns-clause-few g c = grind (arith, few_bits)
