@@ -1,16 +1,12 @@
-use Rattle.std.proofs.Common.{rules, arith, ◌<◌}
+use Rattle.std.proofs.Common.{rules, arith}
 use Rattle.claxon_input.specs.Bitstream.{left_in}
-use Rattle.claxon_input.proofs.BitSteps.{bits_none, bits_both, gathered, joined, joined_lt}
+use Rattle.claxon_input.proofs.BitSteps.{bits_none, gathered}
 use Rattle.claxon_input.proofs.bits.Bitstream.gather_at_hand.Goals as goal
 
 pub loop-count-preserved : goal.loop-count-preserved
 loop-count-preserved g c =
-    let b : c.in-Some.byte < 256 = search rules in
-    rw (joined c.loop-count.cache c.loop-count.count c.in-Some.byte c.loop-count.invariant.fits (omega arith) b) (record {
-      none_early = omega arith;
-      fits = joined_lt c.loop-count.cache c.loop-count.count c.in-Some.byte c.loop-count.invariant.fits b;
-      same = bits_both c.loop-count.invariant.same (gathered c.loop-count.cache c.loop-count.count c.in-Some.byte b c.in-Some.ensures);
-    })
+    let n = gathered c.loop-count.cache c.loop-count.count c.in-Some.byte c.loop-count.invariant.fits (omega arith) (search rules) c.loop-count.invariant.same c.in-Some.ensures in
+    record { none_early = omega arith; fits = n.0; same = n.1 }
 
 pub loop-count-init : goal.loop-count-init
 loop-count-init g c = record {
