@@ -10,6 +10,7 @@ mod streams;
 mod subframes;
 
 use claxon::Result;
+use claxon_write::status;
 use replay::{Kind, replay};
 use samples::print_tally;
 use std::io::{Read, Write};
@@ -53,12 +54,6 @@ where
 }
 
 fn main(rt: HostRuntime) -> ExitCode {
-    let mut output = rt.stdout();
-    match print_all(&rt, &mut output) {
-        Ok(()) => ExitCode::from(0),
-        Err(error) => {
-            let _ = writeln!(&mut rt.stderr(), "{error}");
-            ExitCode::from(1)
-        }
-    }
+    let outcome = print_all(&rt, &mut rt.stdout());
+    ExitCode::from(status(outcome, &mut rt.stderr()))
 }

@@ -2,17 +2,11 @@
 #![tactic(auto)]
 
 use claxon_tools::commands::info::command;
-use claxon_write::words;
-use std::io::Write;
+use claxon_write::run_command;
 use std::process::ExitCode;
 
 fn main(rt: HostRuntime) -> ExitCode {
-    let mut errors = rt.stderr();
-    match words(&rt) {
-        Ok(words) => ExitCode::from(command(&rt, &words, &mut rt.stdout(), &mut errors)),
-        Err(error) => {
-            let _ = writeln!(&mut errors, "{error}");
-            ExitCode::from(1)
-        }
-    }
+    run_command(&rt, &mut rt.stderr(), |words, errors| {
+        command(&rt, words, &mut rt.stdout(), errors)
+    })
 }

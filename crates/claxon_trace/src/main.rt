@@ -4,8 +4,8 @@
 mod line;
 mod trace;
 
-use claxon::{Error, Result};
-use claxon_write::words;
+use claxon::Result;
+use claxon_write::{run_command, status};
 use std::fs;
 use std::io::{BufWriter, Read, Write};
 use std::process::ExitCode;
@@ -54,7 +54,7 @@ where
     Q::File: Read,
 {
     match request(words) {
-        Some((most, name)) => status(trace_file(rt, most, name, output), most, errors),
+        Some((most, name)) => status_of(trace_file(rt, most, name, output), most, errors),
         None => {
             let _ = writeln!(errors, "usage: claxon_trace [--faults N] FILE");
             2
@@ -62,7 +62,7 @@ where
     }
 }
 
-fn status<E: Write>(outcome: Result<Ending>, most: u64, errors: &mut E) -> u8 {
+fn status_of<E: Write>(outcome: Result<Ending>, most: u64, errors: &mut E) -> u8 {
     match outcome {
         Ok(Ending::Clean) => 0,
         Ok(Ending::Faulty) => 1,
@@ -70,20 +70,12 @@ fn status<E: Write>(outcome: Result<Ending>, most: u64, errors: &mut E) -> u8 {
             let _ = writeln!(errors, "claxon_trace: stopped after {most} faults");
             1
         }
-        Err(error) => tell(&error, errors),
+        Err(error) => status(Err(error), errors),
     }
 }
 
-// Says the fault, and answers the status for it.
-fn tell<E: Write>(error: &Error, errors: &mut E) -> u8 {
-    let _ = writeln!(errors, "{error}");
-    1
-}
-
 fn main(rt: HostRuntime) -> ExitCode {
-    let mut errors = rt.stderr();
-    ExitCode::from(match words(&rt) {
-        Ok(words) => command(&rt, &words, rt.stdout(), &mut errors),
-        Err(error) => tell(&error, &mut errors),
+    run_command(&rt, &mut rt.stderr(), |words, errors| {
+        command(&rt, words, rt.stdout(), errors)
     })
 }

@@ -4,10 +4,12 @@
 mod arguments;
 mod bytes;
 mod output;
+mod program;
 mod raw;
 mod stream;
 
 pub use arguments::words;
 pub use output::Output;
+pub use program::{run_command, status};
 pub use raw::command;
 pub use stream::{run, write_samples};

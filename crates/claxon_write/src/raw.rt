@@ -1,5 +1,6 @@
 //! The samples of a FLAC file as bytes, or its tags.
 use crate::output::Output;
+use crate::program::status;
 use crate::stream::run;
 use claxon::metadata::Tags;
 use claxon::{FlacReader, FlacReaderOptions, Result};
@@ -27,13 +28,7 @@ where
             return 2;
         }
     };
-    match outcome {
-        Ok(()) => 0,
-        Err(error) => {
-            let _ = writeln!(errors, "{error}");
-            1
-        }
-    }
+    status(outcome, errors)
 }
 
 fn decode<Q: Files + AllocGlobal, W: Write>(rt: &Q, name: &str, output: &mut W) -> Result<()>

@@ -1,6 +1,7 @@
 //! The facts that the head of a FLAC file tells.
 use crate::facts::write_facts;
 use claxon::{FlacReader, FlacReaderOptions, Result};
+use claxon_write::status;
 use std::fs;
 use std::io::{Read, Write};
 use std::rt::Files;
@@ -20,13 +21,7 @@ where
         let _ = writeln!(errors, "usage: claxon_info FILE");
         return 2;
     };
-    match print_facts(rt, name.as_str(), output) {
-        Ok(()) => 0,
-        Err(error) => {
-            let _ = writeln!(errors, "{error}");
-            1
-        }
-    }
+    status(print_facts(rt, name.as_str(), output), errors)
 }
 
 fn print_facts<Q: Files + AllocGlobal, W: Write>(rt: &Q, name: &str, output: &mut W) -> Result<()>

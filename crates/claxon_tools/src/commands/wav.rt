@@ -2,6 +2,7 @@
 use crate::progress::Progress;
 use crate::wav::{Error, Layout, Result, WavWriter, convert};
 use claxon::FlacReader;
+use claxon_write::status;
 use std::fs;
 use std::io::{Read, Write};
 use std::os::unix::fs::MetadataExt;
@@ -19,13 +20,8 @@ pub fn command<Q: Files + AllocGlobal, E: Write>(
         let _ = writeln!(errors, "usage: claxon_wav FILE OUT.wav");
         return 2;
     };
-    match convert_file(rt, from.as_str(), to.as_str(), shows_progress, errors) {
-        Ok(()) => 0,
-        Err(error) => {
-            let _ = writeln!(errors, "{error}");
-            1
-        }
-    }
+    let outcome = convert_file(rt, from.as_str(), to.as_str(), shows_progress, errors);
+    status(outcome, errors)
 }
 
 // The output is made when the head is read, so that a fault there leaves what stood in its place.
