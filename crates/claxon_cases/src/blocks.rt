@@ -1,8 +1,8 @@
 //! Metadata blocks: the bytes that are taken, and what the block holds.
-use crate::answer::Answer;
 use crate::replay::Case;
 use claxon::metadata::{MetadataBlock, StreamInfo, VorbisComment, read_metadata_block};
 use claxon::{Error, Result};
+use claxon_tools::answer::Answer;
 use std::alloc::Global;
 use std::io::Cursor;
 
@@ -61,21 +61,6 @@ fn add_comment(comment: &VorbisComment, answer: &mut Answer) {
 
 /// Adds what a streaminfo says.
 pub fn add_streaminfo(info: &StreamInfo, answer: &mut Answer) {
-    answer.counts(&[
-        ("streaminfo blocks ", u64::from(info.min_block_size)),
-        ("-", u64::from(info.max_block_size)),
-    ]);
-    answer.text(" frames ");
-    answer.value_or_none(&info.min_frame_size);
-    answer.text("-");
-    answer.value_or_none(&info.max_frame_size);
-    answer.counts(&[
-        (" rate ", u64::from(info.sample_rate)),
-        (" channels ", u64::from(info.channels)),
-        (" width ", u64::from(info.bits_per_sample)),
-    ]);
-    answer.text(" samples ");
-    answer.value_or_none(&info.samples);
-    answer.text(" md5 ");
-    answer.hexadecimal(&info.md5sum);
+    answer.text("streaminfo ");
+    answer.streaminfo(info);
 }

@@ -1,12 +1,12 @@
 //! Frames: the bytes that are taken, and the blocks.
 ghost use Rattle.std.specs.Prelude.{◌≡◌};
 
-use crate::answer::Answer;
 use crate::replay::Case;
 use crate::streams::add_calls_that_disagree;
 use claxon::Block;
 use claxon::frame::{FrameReader, FrameResult};
 use claxon::metadata::StreamInfo;
+use claxon_tools::answer::Answer;
 use std::alloc::Global;
 use std::io::Cursor;
 

@@ -1,7 +1,6 @@
 //! Decodes files, and replays lines of subframes, metadata blocks, frames and streams, whose answers others gave.
 #![tactic(auto)]
 
-mod answer;
 mod blocks;
 mod frames;
 mod replay;

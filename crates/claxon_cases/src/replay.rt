@@ -1,11 +1,11 @@
 //! Lines `number length bytes: answer`, in which the number is a width, a type or a choice of options and the bytes are
 //! hexadecimal.
-use crate::answer::Answer;
 use crate::blocks::answer_of_block;
 use crate::frames::answer_of_frames;
 use crate::streams::answer_of_stream;
 use crate::subframes::answer_of_subframe;
 use claxon::Result;
+use claxon_tools::answer::Answer;
 use std::alloc::Global;
 use std::io::Write;
 

@@ -1,40 +1,10 @@
 //! Files by the samples that they give.
-use crate::answer::Answer;
 use claxon::input::ReadBytes;
 use claxon::{FlacReader, FlacSamples, Result};
+use claxon_tools::answer::Answer;
+use claxon_tools::fnv::{OFFSET_BASIS, hash_on};
 use std::alloc::Global;
 use std::io::{Read, Write};
-
-/// How many samples there were, and the FNV-1a hash of their little-endian bytes.
-#[derive(Clone, Copy)]
-struct Tally {
-    count: u64,
-    hash: u64,
-}
-
-impl Tally {
-    const fn new() -> Tally {
-        Tally {
-            count: 0,
-            hash: 0xcbf2_9ce4_8422_2325,
-        }
-    }
-
-    fn add(&mut self, sample: i32) {
-        self.count = self.count.wrapping_add(1);
-        for byte in sample.cast_unsigned().to_le_bytes() {
-            self.hash = (self.hash ^ u64::from(byte)).wrapping_mul(0x0000_0100_0000_01b3);
-        }
-    }
-}
-
-fn tally_of(samples: &[i32]) -> Tally {
-    let mut tally = Tally::new();
-    for sample in samples {
-        tally.add(*sample);
-    }
-    tally
-}
 
 /// Gathers the samples up to the end or the first fault; none of a stream that was opened for its metadata alone.
 pub fn gather<R: Read + Drop>(flac: &mut FlacReader<R>, samples: &mut Vec<i32>) -> Result<()> {
@@ -65,10 +35,10 @@ pub fn print_tally<R: Read + Drop, W: Write>(
 ) -> Result<()> {
     let mut samples = Vec::new(alloc);
     let outcome = decode(alloc, input, &mut samples);
-    let tally = tally_of(&samples);
+    let hash = hash_on(OFFSET_BASIS, &samples);
     let mut line = Answer::new(alloc);
     add_outcome(&outcome, &mut line);
-    write!(output, "{name} {} {:016x} ", tally.count, tally.hash)?;
+    write!(output, "{name} {} {hash:016x} ", samples.len())?;
     output.write_all(line.as_bytes())?;
     Ok(())
 }

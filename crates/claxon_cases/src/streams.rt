@@ -1,11 +1,11 @@
 //! Streams: what their heads show, their samples and blocks, and whether the other calls say the same.
-use crate::answer::Answer;
 use crate::blocks::add_streaminfo;
 use crate::replay::Case;
 use crate::samples::gather;
 use claxon::input::BufferedReader;
 use claxon::metadata::{StreamInfo, Tags};
 use claxon::{Block, FlacReader, FlacReaderOptions, Result, read_head};
+use claxon_tools::answer::Answer;
 use claxon_write::{Output, run, write_samples};
 use std::alloc::Global;
 use std::io::{Cursor, Read};

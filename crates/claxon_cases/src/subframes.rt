@@ -1,8 +1,8 @@
 //! Subframes: the bits that are taken, and the samples.
-use crate::answer::Answer;
 use crate::replay::Case;
 use claxon::input::{Bitstream, ReadBytes};
 use claxon::{Error, Result, subframe};
+use claxon_tools::answer::Answer;
 use std::alloc::Global;
 use std::io::Cursor;
 

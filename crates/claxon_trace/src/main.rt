@@ -1,7 +1,6 @@
 //! Prints what each call of the decoder answers for a file, going on after faults.
 #![tactic(auto)]
 
-mod line;
 mod trace;
 
 use claxon::Result;

@@ -1,11 +1,12 @@
 //! One line for each answer.
 ghost use Rattle.std.specs.Prelude.{◌≤◌};
 
-use crate::line::Line;
 use claxon::frame::FrameReader;
 use claxon::input::ReadBytes;
 use claxon::metadata::StreamInfo;
 use claxon::{Block, Error, FlacReader, Result};
+use claxon_tools::answer::Answer;
+use claxon_tools::fnv::{OFFSET_BASIS, hash_on};
 use std::alloc::{Allocator, Global};
 use std::io::{Read, Write};
 
@@ -94,7 +95,7 @@ fn trace_frames<R: ReadBytes, W: Write>(
 }
 
 // What the next call answers, and its line.
-fn next_step<R: ReadBytes>(alloc: Global, frames: &mut FrameReader<R>) -> (Step, Line) {
+fn next_step<R: ReadBytes>(alloc: Global, frames: &mut FrameReader<R>) -> (Step, Answer) {
     match frames.read_next_or_eof(Vec::new(alloc)) {
         Ok(Some(block)) => (Step::Block, block_line(alloc, &block)),
         Ok(None) => (Step::End, end_line(alloc)),
@@ -108,58 +109,41 @@ fn next_step<R: ReadBytes>(alloc: Global, frames: &mut FrameReader<R>) -> (Step,
     }
 }
 
-fn end_line(alloc: Global) -> Line {
-    let mut line = Line::new(alloc);
+fn end_line(alloc: Global) -> Answer {
+    let mut line = Answer::new(alloc);
     line.text("end\n");
     line
 }
 
-fn fault_line(alloc: Global, error: &Error) -> Line {
-    let mut line = Line::new(alloc);
+fn fault_line(alloc: Global, error: &Error) -> Answer {
+    let mut line = Answer::new(alloc);
     line.text("fault ");
     line.fault(error);
     line.text("\n");
     line
 }
 
-fn head_line(alloc: Global, info: &StreamInfo) -> Line {
-    let mut line = Line::new(alloc);
-    line.number("head blocks ", u64::from(info.min_block_size));
-    line.number("-", u64::from(info.max_block_size));
-    line.number_or_none(" frames ", info.min_frame_size.map(u64::from));
-    line.number_or_none("-", info.max_frame_size.map(u64::from));
-    line.number(" rate ", u64::from(info.sample_rate));
-    line.number(" channels ", u64::from(info.channels));
-    line.number(" width ", u64::from(info.bits_per_sample));
-    line.number_or_none(" samples ", info.samples);
-    line.text(" md5 ");
-    line.hexadecimal(&info.md5sum);
+fn head_line(alloc: Global, info: &StreamInfo) -> Answer {
+    let mut line = Answer::new(alloc);
+    line.text("head ");
+    line.streaminfo(info);
     line.text("\n");
     line
 }
 
-fn block_line<A: Allocator>(alloc: Global, block: &Block<A>) -> Line {
-    let mut hash = 0xcbf2_9ce4_8422_2325u64;
+fn block_line<A: Allocator>(alloc: Global, block: &Block<A>) -> Answer {
+    let mut hash = OFFSET_BASIS;
     for ch in 0..block.channels() {
         hash = hash_on(hash, block.channel(ch));
     }
-    let mut line = Line::new(alloc);
-    line.number("block time ", block.time());
-    line.number(" channels ", u64::from(block.channels()));
-    line.number(" duration ", u64::from(block.duration()));
+    let mut line = Answer::new(alloc);
+    line.counts(&[
+        ("block time ", block.time()),
+        (" channels ", u64::from(block.channels())),
+        (" duration ", u64::from(block.duration())),
+    ]);
     line.text(" fnv ");
     line.hexadecimal(&hash.to_be_bytes());
     line.text("\n");
     line
-}
-
-// The FNV-1a hash, after the little-endian bytes of more samples.
-fn hash_on(hash: u64, samples: &[i32]) -> u64 {
-    let mut hash = hash;
-    for sample in samples {
-        for byte in (*sample).cast_unsigned().to_le_bytes() {
-            hash = (hash ^ u64::from(byte)).wrapping_mul(0x0000_0100_0000_01b3);
-        }
-    }
-    hash
 }

@@ -1,10 +1,12 @@
-//! What an answer says, gathered in memory.
-use claxon::Error;
+//! What the decoder answered, as text.
+use claxon::metadata::StreamInfo;
+use claxon::{Error, Result};
 use std::alloc::Global;
 use std::fmt;
 use std::io::Write;
 
-/// A text that grows. Where memory is refused it is lost, so that those who add to it need not stop.
+/// The text of what a call answered, gathered in memory and written in one place. Where memory is refused it is lost, so that
+/// those who add to it need not stop.
 #[derive(Drop)]
 pub struct Answer {
     text: Vec<u8>,
@@ -12,6 +14,7 @@ pub struct Answer {
 }
 
 impl Answer {
+    /// A text with nothing in it.
     pub fn new(alloc: Global) -> Answer {
         Answer {
             text: Vec::new(alloc),
@@ -26,6 +29,19 @@ impl Answer {
         } else {
             self.text.as_slice()
         }
+    }
+
+    /// Writes what was added.
+    ///
+    /// # Errors
+    ///
+    /// `OutOfMemory` where it is lost, or the writer's `IoError`.
+    pub fn write_to<W: Write>(&self, output: &mut W) -> Result<()> {
+        if self.is_lost {
+            return Err(Error::OutOfMemory);
+        }
+        output.write_all(self.text.as_slice())?;
+        Ok(())
     }
 
     /// Adds these bytes.
@@ -96,6 +112,27 @@ impl Answer {
         }
     }
 
+    /// Adds what a streaminfo says.
+    pub fn streaminfo(&mut self, info: &StreamInfo) {
+        self.counts(&[
+            ("blocks ", u64::from(info.min_block_size)),
+            ("-", u64::from(info.max_block_size)),
+        ]);
+        self.text(" frames ");
+        self.value_or_none(&info.min_frame_size);
+        self.text("-");
+        self.value_or_none(&info.max_frame_size);
+        self.counts(&[
+            (" rate ", u64::from(info.sample_rate)),
+            (" channels ", u64::from(info.channels)),
+            (" width ", u64::from(info.bits_per_sample)),
+        ]);
+        self.text(" samples ");
+        self.value_or_none(&info.samples);
+        self.text(" md5 ");
+        self.hexadecimal(&info.md5sum);
+    }
+
     /// Adds the text of a fault, or `IO`.
     pub fn fault(&mut self, error: &Error) {
         match error {
@@ -125,7 +162,7 @@ impl Answer {
     }
 
     /// Adds `end` or the fault.
-    pub fn end(&mut self, outcome: &Result<(), Error>) {
+    pub fn end(&mut self, outcome: &Result<()>) {
         match outcome {
             Ok(()) => self.text("end"),
             Err(error) => self.fault(error),
