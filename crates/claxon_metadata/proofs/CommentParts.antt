@@ -2,7 +2,7 @@
 use Rattle.std.proofs.Common.{◌≡◌, ℕ, ◌-◌, ◌≤◌, false, ltb, List, refl}
 use Rattle.std.specs.Prelude.{◌/◌}
 use Rattle.std.proofs.lemmas.Bool.{le-ltb}
-use Rattle.claxon_format.specs.Comments.{Comment, Entry}
+use Rattle.claxon_format.specs.Comments.{Entry}
 use Rattle.claxon_format.specs.Metadata.{most_bytes}
 use Rattle.claxon_format.specs.Reading.{Done}
 use Rattle.claxon_format.specs.read.Comments.{comment_at, count_at, entries_at, vendor_at, vendor_length_at}

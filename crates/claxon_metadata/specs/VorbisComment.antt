@@ -1,11 +1,16 @@
 -- Vorbis comments (RFC 9639, section 8.6) as the code keeps them.
-use Rattle.std.specs.Prelude.{◌≡◌, ℕ, true, Option, None, Some, Result, List, [], ◌∷◌, ◌++◌, string_bytes}
+use Rattle.std.specs.Prelude.{◌≡◌, ℕ, true, nat_lt, Option, None, Some, Result, List, [], ◌∷◌, ◌++◌, string_bytes}
 use Rattle.std.specs.declared.string.String.{String}
 use Rattle.claxon_format.specs.Comments.{Entry, Comment, VendorLength}
+use Rattle.claxon_format.specs.Fault.{Fault}
+use Rattle.claxon_format.specs.Reading.{checked_at}
+use Rattle.claxon_format.specs.read.Bytes.{little_at}
 use Rattle.claxon_format.specs.read.Comments.{end_at}
+use Rattle.claxon_input.specs.Error.{IsFault, is_named}
 use Rattle.claxon_input.specs.Gives.{Gives}
 use Rattle.claxon_input.specs.Promises.{IsStarved}
-use Rattle.claxon_input.specs.State.{State}
+use Rattle.claxon_input.specs.Source.{Source}
+use Rattle.claxon_input.specs.State.{State, bytes_in}
 use Rattle.claxon_input.specs.declared.error.Error.{Error}
 use Rattle.claxon_metadata.specs.declared.metadata.VorbisComment.{VorbisComment}
 use Rattle.claxon_metadata.specs.TagEntries.{entry_view, entries_view}
@@ -25,6 +30,11 @@ HasVendorLength most s = (v : ℕ) × (x : List ℕ) × (rest : List ℕ) × Ven
 -- Memory is wanted only where the bytes begin with such a length.
 abbrev pub StarvesBehindVendorLength : {A : Type 0} → ℕ → Result A Error → State ℕ → Type 0
 StarvesBehindVendorLength most r old = IsStarved r → old.told ≡ true → HasVendorLength most old.coming
+
+-- A length of at most most was read, or a greater one, and that is the fault that this error names.
+abbrev pub LengthIsRead : {R : Type 0} → (R → Source ℕ) → ℕ → Error → R → Result ℕ Error → R → Type 0
+LengthIsRead source most too_long old r new = (f : Fault) → IsFault f too_long → is_named too_long ≡ true
+    → Gives (λ x. x) r (checked_at (nat_lt most) f (little_at 4)) (bytes_in source old) (bytes_in source new)
 
 -- What was answered behind the last text is what the format's reader gives there, and nothing is taken.
 abbrev pub EndIsTested : {A : Type 0} → ℕ → ℕ → Result A Error → Type 0

@@ -3,7 +3,7 @@ ghost use Rattle.std.specs.Prelude.{◌≡◌, ◌≤◌, ◌-◌, ◌/◌, true
 ghost use Rattle.std.specs.List.{list_all, position};
 ghost use Rattle.claxon_format.specs.Comments as comments;
 ghost use Rattle.claxon_format.specs.Comments.{is_separator, not_utf8};
-ghost use Rattle.claxon_format.specs.read.Comments.{entry_at, kept_at, entry_length_at, entries_at, vendor_length_at, vendor_at, count_at, comment_at};
+ghost use Rattle.claxon_format.specs.read.Comments.{entry_at, kept_at, entries_at, vendor_at, count_at, comment_at};
 ghost use Rattle.claxon_format.specs.Fault.{EntryNotUtf8};
 ghost use Rattle.claxon_format.specs.Metadata.{most_bytes};
 ghost use Rattle.claxon_input.specs.Fields.{AtMostIsTaken};
@@ -11,8 +11,9 @@ ghost use Rattle.claxon_input.specs.Promises.{IsStarved};
 ghost use Rattle.claxon_input.specs.State.{bytes_in};
 ghost use Rattle.claxon_input.specs.Gives.{Gives, GivesOrStarves};
 ghost use Rattle.claxon_input.specs.Error.{IsFault};
+ghost use Rattle.claxon_input.specs.declared.error.Error.TheVariants.{FormatError};
 ghost use Rattle.claxon_metadata.specs.ReadMetadataBlock.{CommentIsRead};
-ghost use Rattle.claxon_metadata.specs.VorbisComment.{EndIsTested, StarvesBehindVendorLength, kept_view};
+ghost use Rattle.claxon_metadata.specs.VorbisComment.{EndIsTested, LengthIsRead, StarvesBehindVendorLength, kept_view};
 ghost use Rattle.claxon_metadata.specs.TagEntries.{HavePlaces, IsPlace, entry_view, entries_view};
 
 use super::{MAX_BLOCK_LENGTH, VorbisComment, read_bytes};
@@ -43,22 +44,22 @@ pub fn read_vorbis_comment_block<R: ReadBytes, A: Allocator + Copy>(
             "Vorbis comment blocks larger than 10 MiB are not supported",
         ));
     }
-    let vendor_length = read_vendor_length(input, length - 8)?;
+    let vendor_length = read_length(input, length - 8, "vendor string too long")?;
     let vendor = read_vendor(alloc, input, vendor_length)?;
     let count = read_count(input, length / 4)?;
     let comments = read_entries(alloc, input, count, length - 8 - vendor_length)?;
     Ok(VorbisComment { vendor, comments })
 }
 
-#[tactic(auto, unfolding(claxon_format::specs::read::Comments::vendor_length_at, claxon_format::specs::Fault::fault_text))]
-fn read_vendor_length<R: ReadBytes>(input: &mut R, most: u32) -> Result<u32>
+// A length of at most this, and else the fault of a longer text.
+fn read_length<R: ReadBytes>(input: &mut R, most: u32, too_long: &'static str) -> Result<u32>
     ensures most { IfOk result (λ length. length ≤ most) }
-    ensures gives { Gives (λ x. x) result (vendor_length_at most) (bytes_in R.source input.old) (bytes_in R.source input.new) }
+    ensures gives { LengthIsRead R.source most (FormatError too_long.entry) input.old result input.new }
     ensures within { AtMostIsTaken R.source 4 input.old input.new }
 {
     let length = read_little_u32(input)?;
     if length > most {
-        return Err(Error::FormatError("vendor string too long"));
+        return Err(Error::FormatError(too_long));
     }
     Ok(length)
 }
@@ -116,7 +117,11 @@ fn read_entries<R: ReadBytes, A: Allocator + Copy>(
     let mut missing = count;
     let mut bytes_left = length;
     while missing > 0 && bytes_left >= 4 {
-        let entry_length = read_entry_length(input, bytes_left - 4)?;
+        let entry_length = read_length(
+            input,
+            bytes_left - 4,
+            "Vorbis comment too long for Vorbis comment block",
+        )?;
         if let Some(entry) = read_kept_entry(alloc, input, entry_length)? {
             comments.push(entry)?;
         }
@@ -139,19 +144,6 @@ fn check_end(missing: u32, bytes_left: u32) -> Result<()>
         return Err(Error::FormatError("Vorbis comment block contains wrong number of entries"));
     }
     Ok(())
-}
-
-#[tactic(auto, unfolding(claxon_format::specs::read::Comments::entry_length_at, claxon_format::specs::Fault::fault_text))]
-fn read_entry_length<R: ReadBytes>(input: &mut R, most: u32) -> Result<u32>
-    ensures most { IfOk result (λ length. length ≤ most) }
-    ensures gives { Gives (λ x. x) result (entry_length_at most) (bytes_in R.source input.old) (bytes_in R.source input.new) }
-    ensures within { AtMostIsTaken R.source 4 input.old input.new }
-{
-    let length = read_little_u32(input)?;
-    if length > most {
-        return Err(Error::FormatError("Vorbis comment too long for Vorbis comment block"));
-    }
-    Ok(length)
 }
 
 // An entry of that many bytes, unless it is empty: old encoders write such, which say nothing.
