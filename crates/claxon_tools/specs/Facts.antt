@@ -1,5 +1,6 @@
 -- The lines that are printed of a stream.
 use Rattle.std.specs.Prelude.{ℕ, Option, None, Some, Result, OnOk, List, ◌++◌, flat_map, codes}
+use Rattle.std.specs.Borrow.{Bor}
 use Rattle.std.specs.declared.alloc.AllocError.{AllocError}
 use Rattle.std.specs.Io.KnownBytes.{Appends}
 use Rattle.std.specs.declared.string.String.{String}
@@ -12,6 +13,10 @@ use Rattle.claxon_tools.specs.Text.{IsText, escaped_text, length_text, md5_text,
 -- `NAME: value`
 unfoldable pub line : List ℕ → List ℕ → List ℕ
 line name value = name ++ codes ": " ++ value ++ codes "\n"
+
+-- a line for each name and its number
+abbrev pub numbers_text : List (Bor (List ℕ) × Option ℕ) → List ℕ
+numbers_text numbers = flat_map (λ n. line n.0.now (number_text n.1)) numbers
 
 -- what the samples are, how many, and how long they take
 abbrev pub format_text : StreamInfo → List ℕ

@@ -2,8 +2,8 @@
 ghost use Rattle.std.specs.Prelude.{◌≡◌};
 ghost use Rattle.std.specs.Option.{option_map};
 ghost use Rattle.claxon.specs.Tags.{tags_left};
-ghost use Rattle.claxon_tools.specs.Facts.{FactsAreTold, FactsAreWritten, format_text, line, sizes_text, tag_text, tags_text, vendor_text};
-ghost use Rattle.claxon_tools.specs.Text.{Adds, number_text};
+ghost use Rattle.claxon_tools.specs.Facts.{FactsAreTold, FactsAreWritten, format_text, line, numbers_text, sizes_text, tag_text, tags_text, vendor_text};
+ghost use Rattle.claxon_tools.specs.Text.{Adds};
 
 use crate::text::{escaped_text, length_text, md5_text, number_text};
 use claxon::FlacReader;
@@ -53,25 +53,15 @@ fn push_format<A: Allocator + Copy>(
 ) -> Result<(), AllocError>
     ensures { Adds (format_text info.now) result text.old text.new }
 {
-    push_number(
-        alloc,
-        text,
-        "sample_rate",
-        Some(u64::from(info.sample_rate)),
-    )?;
-    push_number(alloc, text, "channels", Some(u64::from(info.channels)))?;
-    push_number(
-        alloc,
-        text,
-        "bits_per_sample",
-        Some(u64::from(info.bits_per_sample)),
-    )?;
-    push_number(alloc, text, "samples", info.samples)?;
-    push_line(
-        text,
-        "length",
-        length_text(alloc, info.samples, info.sample_rate)?.as_str(),
-    )
+    let numbers = [
+        ("sample_rate", Some(u64::from(info.sample_rate))),
+        ("channels", Some(u64::from(info.channels))),
+        ("bits_per_sample", Some(u64::from(info.bits_per_sample))),
+        ("samples", info.samples),
+    ];
+    push_numbers(alloc, text, &numbers)?;
+    let length = length_text(alloc, info.samples, info.sample_rate)?;
+    push_line(text, "length", length.as_str())
 }
 
 // The sizes of blocks and frames, and the sum of the samples.
@@ -82,20 +72,13 @@ fn push_sizes<A: Allocator + Copy>(
 ) -> Result<(), AllocError>
     ensures { Adds (sizes_text info.now) result text.old text.new }
 {
-    push_number(
-        alloc,
-        text,
-        "min_block_size",
-        Some(u64::from(info.min_block_size)),
-    )?;
-    push_number(
-        alloc,
-        text,
-        "max_block_size",
-        Some(u64::from(info.max_block_size)),
-    )?;
-    push_number(alloc, text, "min_frame_size", widened(info.min_frame_size))?;
-    push_number(alloc, text, "max_frame_size", widened(info.max_frame_size))?;
+    let numbers = [
+        ("min_block_size", Some(u64::from(info.min_block_size))),
+        ("max_block_size", Some(u64::from(info.max_block_size))),
+        ("min_frame_size", widened(info.min_frame_size)),
+        ("max_frame_size", widened(info.max_frame_size)),
+    ];
+    push_numbers(alloc, text, &numbers)?;
     push_line(text, "md5sum", md5_text(alloc, &info.md5sum)?.as_str())
 }
 
@@ -139,15 +122,18 @@ fn push_tag<A: Allocator + Copy>(
     push_line(text, "tag", tag.as_str())
 }
 
-fn push_number<A: Allocator + Copy>(
+// A line for each name and its number.
+fn push_numbers<A: Allocator + Copy>(
     alloc: A,
     text: &mut String<A>,
-    name: &str,
-    number: Option<u64>,
+    numbers: &[(&str, Option<u64>)],
 ) -> Result<(), AllocError>
-    ensures { Adds (line name.now (number_text number)) result text.old text.new }
+    ensures { Adds (numbers_text numbers.now) result text.old text.new }
 {
-    push_line(text, name, number_text(alloc, number)?.as_str())
+    for (name, number) in numbers {
+        push_line(text, *name, number_text(alloc, *number)?.as_str())?;
+    }
+    Ok(())
 }
 
 #[tactic(auto, unfolding(crate::specs::Facts::line))]
