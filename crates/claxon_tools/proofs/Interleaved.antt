@@ -13,6 +13,7 @@ use Rattle.claxon_frame.specs.Block.{duration_of}
 use Rattle.claxon.proofs.SamplesInTurn.{same_duration}
 use Rattle.claxon_tools.specs.Samples.{bytes_of_sample, raised, silence}
 use Rattle.claxon_write.specs.SampleBytes.{places}
+use Rattle.claxon_write.proofs.Places.{alone, both_of}
 use Rattle.claxon_write.proofs.SampleBytes.{places_all, places_more, places_none}
 
 one_place : (channels : List (List ℤ)) (i : ℕ) → places channels i 1 ≡ samples_at channels i
@@ -26,17 +27,6 @@ next_place channels i k e =
     ap (places channels 0) e ∙ places_more channels 0 i 1 ∙ ap (λ (j : ℕ). places channels 0 i ++ places channels j 1) z ∙ ap (λ (s : List ℤ). places channels 0 i ++ s) (one_place channels i)
 
 -- ---- one channel and two
-
-alone : (channels : List (List ℤ)) (c : List ℤ) → length channels ≡ 1 → slice_get channels 0 ≡ Some c → channels ≡ c ∷ []
-alone [] c len found = absurd (omega (arith, len))
-alone (x ∷ []) c len found = ap (λ (z : List ℤ). z ∷ []) (get_or_from_slice_get (x ∷ []) 0 c [] found)
-alone (x ∷ y ∷ zs) c len found = absurd (omega (arith, len))
-
-both_of : (channels : List (List ℤ)) (c d : List ℤ) → length channels ≡ 2 → slice_get channels 0 ≡ Some c → slice_get channels 1 ≡ Some d → channels ≡ c ∷ d ∷ []
-both_of [] c d len found also = absurd (omega (arith, len))
-both_of (x ∷ []) c d len found also = absurd (omega (arith, len))
-both_of (x ∷ y ∷ []) c d len found also = ap (λ (z : List ℤ). z ∷ y ∷ []) (get_or_from_slice_get (x ∷ y ∷ []) 0 c [] found) ∙ ap (λ (z : List ℤ). c ∷ z ∷ []) (get_or_from_slice_get (x ∷ y ∷ []) 1 d [] also)
-both_of (x ∷ y ∷ z ∷ zs) c d len found also = absurd (omega (arith, len))
 
 places_of_one : (c : List ℤ) (n : ℕ) → n ≤ length c → places (c ∷ []) 0 n ≡ take n c
 places_of_one c zero le = places_none (c ∷ []) 0

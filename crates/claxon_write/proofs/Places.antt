@@ -221,12 +221,12 @@ parts_of channels parts from n h = same n 0 from (λ i lt. let e : 0 + i ≡ i =
         let rest = same n (a + 1) (b + 1) (λ i lt. let e : a + 1 + i ≡ a + suc i = omega arith in let f : b + suc i ≡ b + 1 + i = omega arith in ap (samples_at parts) e ∙ h (suc i) (omega arith) ∙ ap (samples_at channels) f) in
         ap (λ (z : List ℤ). z ++ flat_map (samples_at parts) (range_with_len (a + 1) n)) first ∙ ap (λ (z : List ℤ). samples_at channels b ++ z) rest
 
-alone : (channels : List (List ℤ)) (c : List ℤ) → length channels ≡ 1 → slice_get channels 0 ≡ Some c → channels ≡ c ∷ []
+pub alone : (channels : List (List ℤ)) (c : List ℤ) → length channels ≡ 1 → slice_get channels 0 ≡ Some c → channels ≡ c ∷ []
 alone [] c len found = absurd (omega (arith, len))
 alone (x ∷ []) c len found = ap (λ (z : List ℤ). z ∷ []) (get_or_from_slice_get (x ∷ []) 0 c [] found)
 alone (x ∷ y ∷ zs) c len found = absurd (omega (arith, len))
 
-both_of : (channels : List (List ℤ)) (c d : List ℤ) → length channels ≡ 2 → slice_get channels 0 ≡ Some c → slice_get channels 1 ≡ Some d → channels ≡ c ∷ d ∷ []
+pub both_of : (channels : List (List ℤ)) (c d : List ℤ) → length channels ≡ 2 → slice_get channels 0 ≡ Some c → slice_get channels 1 ≡ Some d → channels ≡ c ∷ d ∷ []
 both_of [] c d len found also = absurd (omega (arith, len))
 both_of (x ∷ []) c d len found also = absurd (omega (arith, len))
 both_of (x ∷ y ∷ []) c d len found also = ap (λ (z : List ℤ). z ∷ y ∷ []) (get_or_from_slice_get (x ∷ y ∷ []) 0 c [] found) ∙ ap (λ (z : List ℤ). c ∷ z ∷ []) (get_or_from_slice_get (x ∷ y ∷ []) 1 d [] also)
