@@ -10,6 +10,6 @@ mod stream;
 
 pub use arguments::words;
 pub use output::Output;
-pub use program::{run_command, status};
+pub use program::{open_head, run_command, status};
 pub use raw::command;
 pub use stream::{run, write_samples};

@@ -1,11 +1,13 @@
-//! What every program does with its arguments and with the outcome of its work.
+//! What the programs share: their arguments, the head of a file, and the outcome of their work.
 ghost use Rattle.std.specs.Prelude.{◌≡◌, OnErr, OnOk};
 
 use crate::arguments::words;
+use claxon::{FlacReader, FlacReaderOptions};
 use std::fmt::Display;
-use std::io::Write;
+use std::fs;
+use std::io::{Read, Write};
 use std::process::ExitCode;
-use std::rt::Env;
+use std::rt::{Env, Files};
 
 /// Hands the arguments after the program's name to a command, and answers the status that it answers; where memory for them
 /// is refused, that of this fault.
@@ -20,6 +22,18 @@ pub fn run_command<Q: Env + AllocGlobal, E: Write, C: FnOnce(&[String], &mut E) 
         Ok(words) => command(&words, errors),
         Err(error) => status(Err(error), errors),
     })
+}
+
+/// Opens a file for what its head says alone, its tags among it.
+pub fn open_head<Q: Files + AllocGlobal>(rt: &Q, name: &str) -> claxon::Result<FlacReader<Q::File>>
+where
+    Q::File: Read,
+{
+    let options = FlacReaderOptions {
+        metadata_only: true,
+        read_vorbis_comment: true,
+    };
+    FlacReader::new_ext(rt.alloc(), fs::open(rt, name)?, options)
 }
 
 /// The status for an outcome: 0, or 1 for a fault, whose text goes to `errors`. A failed write to `errors` changes nothing.

@@ -1,9 +1,9 @@
 //! The samples of a FLAC file as bytes, or its tags.
 use crate::output::Output;
-use crate::program::status;
+use crate::program::{open_head, status};
 use crate::stream::run;
+use claxon::Result;
 use claxon::metadata::Tags;
-use claxon::{FlacReader, FlacReaderOptions, Result};
 use std::alloc::Allocator;
 use std::fs;
 use std::io::{Read, Write};
@@ -44,12 +44,7 @@ fn print_tags<Q: Files + AllocGlobal, W: Write>(rt: &Q, name: &str, output: &mut
 where
     Q::File: Read,
 {
-    let options = FlacReaderOptions {
-        metadata_only: true,
-        read_vorbis_comment: true,
-    };
-    let flac = FlacReader::new_ext(rt.alloc(), fs::open(rt, name)?, options)?;
-    put_tags(flac.tags(), output)
+    put_tags(open_head(rt, name)?.tags(), output)
 }
 
 // A line `NAME=value` for each tag.

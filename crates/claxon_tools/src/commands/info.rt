@@ -1,8 +1,7 @@
 //! The facts that the head of a FLAC file tells.
 use crate::facts::write_facts;
-use claxon::{FlacReader, FlacReaderOptions, Result};
-use claxon_write::status;
-use std::fs;
+use claxon::Result;
+use claxon_write::{open_head, status};
 use std::io::{Read, Write};
 use std::rt::Files;
 
@@ -28,10 +27,5 @@ fn print_facts<Q: Files + AllocGlobal, W: Write>(rt: &Q, name: &str, output: &mu
 where
     Q::File: Read,
 {
-    let options = FlacReaderOptions {
-        metadata_only: true,
-        read_vorbis_comment: true,
-    };
-    let flac = FlacReader::new_ext(rt.alloc(), fs::open(rt, name)?, options)?;
-    write_facts(rt.alloc(), &flac, output)
+    write_facts(rt.alloc(), &open_head(rt, name)?, output)
 }
