@@ -8,6 +8,7 @@ pub mod SignExtension
 pub mod SkippedAhead
 pub mod Joined
 pub mod PartitionLoop
+pub mod PartitionParameter
 pub mod PartitionsAhead
 pub mod KindNumbers
 pub mod WastedBits

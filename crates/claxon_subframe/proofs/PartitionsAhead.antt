@@ -1,8 +1,7 @@
 -- Partitions that are read from the bits at hand.
-use Rattle.std.proofs.Common.{◌≡◌, ◌≢◌, ℕ, ◌+◌, ◌-◌, ◌*◌, ◌%◌, ◌^◌, ◌<◌, ◌≤◌, Bool, false, eqb, List, [], ◌++◌, length, take, drop, replicate, sym, ap, subst, ◌∙◌, arith, ℤ}
+use Rattle.std.proofs.Common.{◌≡◌, ◌≢◌, ℕ, ◌+◌, ◌-◌, ◌*◌, ◌%◌, ◌^◌, ◌<◌, ◌≤◌, Bool, false, eqb, List, [], ◌++◌, length, take, drop, replicate, sym, ap, ◌∙◌, arith, ℤ}
 use Rattle.std.specs.List.{flat_map}
 use Rattle.std.proofs.lemmas.List.{take_all}
-use Rattle.std.proofs.lemmas.Bool.Decides.{nat_tests}
 use borrow.Rule.Slice.PartMut.{put_mid}
 use Rattle.claxon_format.proofs.Laws.{Reads-each, Reads-map, Reads-same}
 use Rattle.claxon_format.proofs.Numbers.{Reads-number}
@@ -17,9 +16,9 @@ use Rattle.claxon_input.specs.Ahead.{bits_ahead, GivesAhead}
 use Rattle.claxon_input.specs.declared.bits.ahead.Ahead.{Ahead}
 use Rattle.claxon_subframe.specs.SubframeFields.{method_of}
 use Rattle.claxon_subframe.specs.declared.subframe.RicePartitionType.{RicePartitionType}
-use Rattle.claxon_subframe.specs.declared.subframe.RicePartitionType.TheVariants.{Rice, Rice2}
 use Rattle.claxon_subframe.proofs.Joined.{joined_push}
 use Rattle.claxon_subframe.proofs.PartitionLoop.{put_front}
+use Rattle.claxon_subframe.proofs.PartitionParameter.{IsPlain, plain_of, partition_plain}
 
 -- ---- partitions of one length, one after another
 
@@ -57,21 +56,6 @@ partitions_room each whole most start len is lt le = grind arith
 parameter_below : (n k : ℕ) (a b : Ahead) → GivesAhead a b (number_at n) k → k < 2 ^ n
 parameter_below n k a b e = let t = (Reads-number n).takes (bits_ahead a ++ []) k (bits_ahead b ++ []) (e []) in t.1.0
 
--- a parameter that is no escape
-pub record IsPlain (t : RicePartitionType) (k : ℕ) : Type 0 where
-  pub few : k ≤ 30
-  pub plain : eqb k (escape (method_of t)) ≡ false
-
-plain_of : (t : RicePartitionType) (n k : ℕ) → n ≡ 4 + method_of t → k < 2 ^ n → k ≢ 1 * 2 ^ n % 4294967296 - 1 → IsPlain t k
-plain_of Rice n k is lt not =
-    let p : k < 16 = subst (λ (j : ℕ). k < 2 ^ j) is lt in
-    let q : k ≢ 15 = subst (λ (j : ℕ). k ≢ 1 * 2 ^ j % 4294967296 - 1) is not in
-    record { few = omega arith; plain = grind (arith, nat_tests, q) }
-plain_of Rice2 n k is lt not =
-    let p : k < 32 = subst (λ (j : ℕ). k < 2 ^ j) is lt in
-    let q : k ≢ 31 = subst (λ (j : ℕ). k ≢ 1 * 2 ^ j % 4294967296 - 1) is not in
-    record { few = omega arith; plain = grind (arith, nat_tests, q) }
-
 pub plain_ahead : (t : RicePartitionType) (n k : ℕ) (a b : Ahead) → n ≡ 4 + method_of t → GivesAhead a b (number_at n) k → k ≢ 1 * 2 ^ n % 4294967296 - 1 → IsPlain t k
 plain_ahead t n k a b is e not = plain_of t n k is (parameter_below n k a b e) not
 
@@ -81,13 +65,7 @@ least_bits n k lt le = let p : n * (k + 1) ≤ n * 31 = grind (arith, le) in ome
 -- such a parameter, and as many words as there are entries
 pub words_partition : (method k n words : ℕ) (xs : List ℤ) (a b c : Ahead) → n ≡ 4 + method → eqb k (escape method) ≡ false → length xs ≤ words → words ≤ length xs → GivesAhead a b (number_at n) k
     → ((rest : Bits) → times_at words (word_at k) (bits_ahead b ++ rest) ≡ Done (take words xs) (bits_ahead c ++ rest)) → GivesAhead a c (partition_at method (length xs)) xs
-unfolding partition_at
 words_partition method k n words xs a b c is plain all few number h rest =
     let whole : words ≡ length xs = omega arith in
-    let first : number_at (4 + method) (bits_ahead a ++ rest) ≡ Done k (bits_ahead b ++ rest) = ap (λ (j : ℕ). number_at j (bits_ahead a ++ rest)) (sym is) ∙ number rest in
     let words_are : times_at (length xs) (word_at k) (bits_ahead b ++ rest) ≡ Done xs (bits_ahead c ++ rest) = ap (λ (j : ℕ). times_at j (word_at k) (bits_ahead b ++ rest)) (sym whole) ∙ h rest ∙ ap (λ (l : List ℤ). Done l (bits_ahead c ++ rest)) (take_all words xs all) in
-    rw (first, plain) words_are
-
-pub method_small : (t : RicePartitionType) → method_of t < 2
-method_small Rice = omega arith
-method_small Rice2 = omega arith
+    partition_plain method n (length xs) (bits_ahead a ++ rest) is plain (number rest) ∙ words_are

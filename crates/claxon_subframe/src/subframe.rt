@@ -415,6 +415,7 @@ fn decode_partitions<R: ReadBytes>(
     Ok(())
 }
 
+// A parameter and as many words as the buffer is long. All bits of the parameter set are the escape.
 fn decode_partition<R: ReadBytes>(
     input: &mut Bitstream<R>,
     partition_type: RicePartitionType,
@@ -422,34 +423,13 @@ fn decode_partition<R: ReadBytes>(
 ) -> Result<()>
     ensures { Gives (λ x. buffer.new) result (partition_at (method_of partition_type) (length buffer.old)) (bits_in R.source input.old) (bits_in R.source input.new) }
 {
-    match partition_type {
-        RicePartitionType::Rice => decode_rice_partition(input, buffer),
-        RicePartitionType::Rice2 => decode_rice2_partition(input, buffer),
-    }
-}
-
-// A partition under a parameter of 4 bits, where 15 is the escape.
-#[tactic(auto, unfolding(claxon_format::specs::read::Residual::partition_at, claxon_format::specs::read::Residual::escaped_at))]
-fn decode_rice_partition<R: ReadBytes>(input: &mut Bitstream<R>, buffer: &mut [i32]) -> Result<()>
-    ensures { Gives (λ x. buffer.new) result (partition_at 0 (length buffer.old)) (bits_in R.source input.old) (bits_in R.source input.new) }
-{
-    let rice_param = u32::from(input.read_leq_u8(4)?);
-    if rice_param == 0b1111 {
+    let bits = partition_type.parameter_bits();
+    let escape = (1 << bits) - 1;
+    let parameter = u32::from(input.read_leq_u8(bits)?);
+    if parameter == escape {
         return decode_escape_partition(input, buffer);
     }
-    read_words(input, rice_param, buffer)
-}
-
-// A partition under a parameter of 5 bits, where 31 is the escape.
-#[tactic(auto, unfolding(claxon_format::specs::read::Residual::partition_at, claxon_format::specs::read::Residual::escaped_at))]
-fn decode_rice2_partition<R: ReadBytes>(input: &mut Bitstream<R>, buffer: &mut [i32]) -> Result<()>
-    ensures { Gives (λ x. buffer.new) result (partition_at 1 (length buffer.old)) (bits_in R.source input.old) (bits_in R.source input.new) }
-{
-    let rice_param = u32::from(input.read_leq_u8(5)?);
-    if rice_param == 0b11111 {
-        return decode_escape_partition(input, buffer);
-    }
-    read_words(input, rice_param, buffer)
+    read_words(input, parameter, buffer)
 }
 
 // Entries that are no words: a width of 5 bits, and each entry in that width. In none each is 0.

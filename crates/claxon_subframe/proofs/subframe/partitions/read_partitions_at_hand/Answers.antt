@@ -1,7 +1,8 @@
 use Rattle.std.proofs.Common.{[], take, ◌*◌}
 use Rattle.claxon_input.proofs.Sources.{on_err}
 use Rattle.claxon_subframe.specs.SubframeFields.{method_of}
-use Rattle.claxon_subframe.proofs.PartitionsAhead.{Reads-joined, method_small}
+use Rattle.claxon_subframe.proofs.PartitionParameter.{method_small}
+use Rattle.claxon_subframe.proofs.PartitionsAhead.{Reads-joined}
 use Rattle.claxon_subframe.proofs.SkippedAhead.{read_skipped, read_went, never_short}
 use Rattle.claxon_subframe.proofs.subframe.partitions.read_partitions_at_hand.Goals as goal
 
