@@ -56,8 +56,8 @@ partitions_room each whole most start len is lt le = grind arith
 parameter_below : (n k : ℕ) (a b : Ahead) → GivesAhead a b (number_at n) k → k < 2 ^ n
 parameter_below n k a b e = let t = (Reads-number n).takes (bits_ahead a ++ []) k (bits_ahead b ++ []) (e []) in t.1.0
 
-pub plain_ahead : (t : RicePartitionType) (n k : ℕ) (a b : Ahead) → n ≡ 4 + method_of t → GivesAhead a b (number_at n) k → k ≢ 1 * 2 ^ n % 4294967296 - 1 → IsPlain t k
-plain_ahead t n k a b is e not = plain_of t n k is (parameter_below n k a b e) not
+pub plain_ahead : (t : RicePartitionType) {n k : ℕ} (a b : Ahead) → n ≡ 4 + method_of t → GivesAhead a b (number_at n) k → k ≢ 1 * 2 ^ n % 4294967296 - 1 → IsPlain t k
+plain_ahead t {n} {k} a b is e not = plain_of t n k is (parameter_below n k a b e) not
 
 pub least_bits : (n k : ℕ) → n < 65536 → k ≤ 30 → n * (k + 1) < 4294967296
 least_bits n k lt le = let p : n * (k + 1) ≤ n * 31 = grind (arith, le) in omega arith

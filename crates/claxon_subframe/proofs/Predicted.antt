@@ -14,6 +14,7 @@ use Rattle.claxon_input.specs.State.{State}
 use Rattle.claxon_input.specs.Gives.{Went, Stops}
 use Rattle.claxon_input.specs.declared.error.Error.{Error}
 use Rattle.claxon_input.proofs.CallsInTurn.{went_none}
+use Rattle.claxon_subframe.proofs.FieldsInTurn.{then_went}
 
 -- where there are as many samples as the order
 pub linear_begins : (w n order : ℕ) (a : State Bool) → order ≤ n → Went a a (λ s m. linear_at w n order s ≡ and_then (times_at order (signed_at w)) (λ warm. and_then parameters_at (λ p.
@@ -38,6 +39,14 @@ module _ {j k : ℕ} (same : j ≡ k) {a b : State Bool} where
 
   pub residual_stops : {e : Error} (n : ℕ) → Stops e (residual_at n j) a b → Stops e (residual_at n k) a b
   residual_stops n h = rw same at h
+
+-- the first samples
+pub linear_warm : (w n order j : ℕ) {warm : List ℤ} {a b : State Bool} → order ≤ n → j ≡ order → Went a b (λ s m. times_at j (signed_at w) s ≡ Done warm m) → Went a b (λ s m. linear_at w n order s ≡ and_then parameters_at (λ p.
+    and_then (times_at order (signed_at p.precision)) (λ cs. and_then (residual_at n order) (λ e. done (warm ++ restore (linear cs p.shift) (reverse warm) e)))) m)
+linear_warm w n order j {a = a} le same h = then_went _ (linear_begins w n order a le) (times_went same _ h)
+
+pub fixed_warm : (w n order j : ℕ) {warm : List ℤ} {a b : State Bool} → order ≤ n → j ≡ order → Went a b (λ s m. times_at j (signed_at w) s ≡ Done warm m) → Went a b (λ s m. fixed_at w n order s ≡ and_then (residual_at n order) (λ e. done (warm ++ restore (fixed order) (reverse warm) e)) m)
+fixed_warm w n order j {a = a} le same h = then_went _ (fixed_begins w n order a le) (times_went same _ h)
 
 -- the table of coefficients is as long as the order
 pub table_front : (order : ℕ) → order ≤ 32 → length (take order (replicate 32 (pos 0))) ≡ order

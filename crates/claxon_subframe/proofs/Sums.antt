@@ -169,15 +169,15 @@ waits_enough ks past rest v sums fit le w = record {
 }
 
 -- a vector of sums, as a call makes it of the one before it and of itself
-pub later_on : (ks past : List ℤ) (x y : ℤ) (j n m v : ℕ) (has : Bool) {b s k u t w : List ℤ} (r : List ℤ) → m ≡ j + 4 → n ≡ j + 1 → FitVectors v ks → (has ≡ false → 4 * v + 4 ≤ j)
-    → (has ≡ true → r ≡ two_on b s k u t w) → (has ≡ false → r ≡ replicate 4 (pos 0)) → b ≡ four_waiting ks past m → s ≡ four_waiting ks past j → k ≡ four_taps ks n → u ≡ replicate 4 x → t ≡ four_taps ks j → w ≡ replicate 4 y
-    → as_lanes r ≡ four_waiting ks (y ∷ x ∷ past) j
-later_on ks past x y j n m v true r em en fit few e none eb es ek eu et ew =
-    let value : r ≡ four_waiting ks (y ∷ x ∷ past) j = e refl ∙ rw (eb, es, ek, eu, et, ew) (two_on_at ks past x y j n m j em en refl) in
-    ap as_lanes value ∙ same_wide (waiting_wide ks (y ∷ x ∷ past) j)
-later_on ks past x y j n m v false r em en fit few e none eb es ek eu et ew =
-    let value : r ≡ four_waiting ks (y ∷ x ∷ past) j = none refl ∙ four_behind ks (y ∷ x ∷ past) v j (few refl) fit in
-    ap as_lanes value ∙ same_wide (waiting_wide ks (y ∷ x ∷ past) j)
+module _ (ks past : List ℤ) (x y : ℤ) (v : ℕ) (fit : FitVectors v ks) {u w : List ℤ} (eu : u ≡ replicate 4 x) (ew : w ≡ replicate 4 y) where
+  pub later_on : (j : ℕ) (has : Bool) (b s k t r : List ℤ) → (has ≡ false → 4 * v + 4 ≤ j) → (has ≡ true → r ≡ two_on b s k u t w) → (has ≡ false → r ≡ replicate 4 (pos 0))
+      → b ≡ four_waiting ks past (j + 4) → s ≡ four_waiting ks past j → k ≡ four_taps ks (j + 1) → t ≡ four_taps ks j → as_lanes r ≡ four_waiting ks (y ∷ x ∷ past) j
+  later_on j true b s k t r few e none eb es ek et =
+      let value : r ≡ four_waiting ks (y ∷ x ∷ past) j = e refl ∙ rw (eb, es, ek, eu, et, ew) (two_on_at ks past x y j (j + 1) (j + 4) j refl refl refl) in
+      ap as_lanes value ∙ same_wide (waiting_wide ks (y ∷ x ∷ past) j)
+  later_on j false b s k t r few e none eb es ek et =
+      let value : r ≡ four_waiting ks (y ∷ x ∷ past) j = none refl ∙ four_behind ks (y ∷ x ∷ past) v j (few refl) fit in
+      ap as_lanes value ∙ same_wide (waiting_wide ks (y ∷ x ∷ past) j)
 
 -- the nearest four, which are only moved
 pub old_on : (ks past : List ℤ) (x y : ℤ) {b s : List ℤ} (r : List ℤ) → take 5 ks ≡ replicate 5 (pos 0) → r ≡ drop 2 b ++ take 2 s → b ≡ four_waiting ks past 4 → s ≡ four_waiting ks past 0

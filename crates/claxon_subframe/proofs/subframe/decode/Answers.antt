@@ -16,30 +16,21 @@ use Rattle.claxon_subframe.proofs.subframe.decode.Goals as goal
 promised : {A : Type 0} (view : A → List ℤ) (r : Result A Error) (w n : ℕ) (a b : State Bool) → w ≤ 32 → Gives view r (subframe_at w n) a b → Promises view r (Subframe w n) (SubframeFault w n) a b
 promised view r w n a b few g = promises (Reads-subframe w n few) view r a b (starves_never view r (subframe_at w n) a b g)
 
-pub returns-clause-sound : goal.returns-clause-sound
-returns-clause-sound g c = (promised (λ x. c.decode_channel.new.buffer) c.decode_channel.result c.args.bps (length c.args.buffer.now) _ _ c.requires.width c.decode_channel.ensures).sound
-
-pub returns-clause-complete : goal.returns-clause-complete
-returns-clause-complete g c = (promised (λ x. c.decode_channel.new.buffer) c.decode_channel.result c.args.bps (length c.args.buffer.now) _ _ c.requires.width c.decode_channel.ensures).complete
-
-pub returns-clause-fault : goal.returns-clause-fault
-returns-clause-fault g c = (promised (λ x. c.decode_channel.new.buffer) c.decode_channel.result c.args.bps (length c.args.buffer.now) _ _ c.requires.width c.decode_channel.ensures).fault
-
-pub returns-clause-named : goal.returns-clause-named
-returns-clause-named g c = (promised (λ x. c.decode_channel.new.buffer) c.decode_channel.result c.args.bps (length c.args.buffer.now) _ _ c.requires.width c.decode_channel.ensures).named
-
-pub returns-clause-io : goal.returns-clause-io
-returns-clause-io g c = (promised (λ x. c.decode_channel.new.buffer) c.decode_channel.result c.args.bps (length c.args.buffer.now) _ _ c.requires.width c.decode_channel.ensures).io
-
-pub returns-clause-front : goal.returns-clause-front
-returns-clause-front g c = (promised (λ x. c.decode_channel.new.buffer) c.decode_channel.result c.args.bps (length c.args.buffer.now) _ _ c.requires.width c.decode_channel.ensures).front
-
-pub returns-clause-told : goal.returns-clause-told
-returns-clause-told g c = subframes_told c.args.bps (length c.args.buffer.now) c.requires.width
-
-pub returns-clause-loans : goal.returns-clause-loans
+pub returns : goal.returns
 unfolding bits_in
-returns-clause-loans g c = gives_loans (λ x. c.decode_channel.new.buffer) c.decode_channel.result _ _ _ c.decode_channel.ensures
-
-pub returns-clause-no_memory : goal.returns-clause-no_memory
-returns-clause-no_memory g c = gives_no_memory (λ x. c.decode_channel.new.buffer) c.decode_channel.result _ _ _ c.decode_channel.ensures
+returns g c =
+    let few = c.requires.width in
+    let gives = c.decode_channel.ensures in
+    let p = promised (λ x. c.decode_channel.new.buffer) c.decode_channel.result c.args.bps (length c.args.buffer.now) _ _ few gives in
+    record {
+      sound = p.sound;
+      complete = p.complete;
+      told = subframes_told c.args.bps (length c.args.buffer.now) few;
+      fault = p.fault;
+      named = p.named;
+      io = p.io;
+      front = p.front;
+      gives = gives;
+      no_memory = gives_no_memory (λ x. c.decode_channel.new.buffer) c.decode_channel.result _ _ _ gives;
+      loans = gives_loans (λ x. c.decode_channel.new.buffer) c.decode_channel.result _ _ _ gives;
+    }

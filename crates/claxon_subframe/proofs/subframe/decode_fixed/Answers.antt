@@ -10,7 +10,7 @@ use Rattle.claxon_input.proofs.CallsInTurn.{went_none, gives_after, exit}
 use Rattle.claxon_input.proofs.Faults.{stops_fault}
 use Rattle.claxon_subframe.proofs.FieldsInTurn.{then_went, then_stops, went_as}
 use Rattle.claxon_subframe.proofs.OrderZero.{fixed_0_at}
-use Rattle.claxon_subframe.proofs.Predicted.{fixed_begins, times_went, times_stops, residual_went, residual_stops, in_place}
+use Rattle.claxon_subframe.proofs.Predicted.{fixed_begins, fixed_warm, times_stops, residual_went, residual_stops, in_place}
 use Rattle.claxon_subframe.proofs.subframe.decode_fixed.Goals as goal
 
 pub returns-then-order-eq0 : goal.returns-then-order-eq0
@@ -33,7 +33,7 @@ pub returns-in_err-decode_residual : goal.returns-in_err-decode_residual
 returns-in_err-decode_residual g c =
     let warm = length-take-le c.args.order c.args.buffer.now (omega arith) in
     exit _ (err_from_is_err_and c.from_residual-in_err-decode_residual.result c.from_residual-in_err-decode_residual.ensures.1)
-    (then_stops _ (then_went _ (fixed_begins c.args.bps (length c.args.buffer.now) c.args.order _ (omega arith)) (times_went warm _ c.in_ok-decode_verbatim.ensures))
+    (then_stops _ (fixed_warm c.args.bps (length c.args.buffer.now) c.args.order _ (omega arith) warm c.in_ok-decode_verbatim.ensures)
     (residual_stops (omega arith) _ c.in_err-decode_residual.ensures))
 
 pub returns : goal.returns
@@ -41,5 +41,5 @@ returns g c =
     let warm = length-take-le c.args.order c.args.buffer.now (omega arith) in
     went_as
     (in_place (fixed c.args.order) c.args.order c.decode_verbatim.new.buffer _ c.decode_residual-2.new.buffer c.predict_fixed.new.buffer refl (c.decode_verbatim.auto.buffer ∙ warm) c.decode_residual-2.auto.buffer c.predict_fixed.ensures)
-    (then_went _ (then_went _ (fixed_begins c.args.bps (length c.args.buffer.now) c.args.order _ (omega arith)) (times_went warm _ c.in_ok-decode_verbatim.ensures))
+    (then_went _ (fixed_warm c.args.bps (length c.args.buffer.now) c.args.order _ (omega arith) warm c.in_ok-decode_verbatim.ensures)
     (residual_went (omega arith) _ c.in_ok-decode_residual.ensures))

@@ -8,7 +8,7 @@ use Rattle.claxon_format.specs.read.Subframe.{linear_at}
 use Rattle.claxon_input.proofs.CallsInTurn.{exit, went_none}
 use Rattle.claxon_input.proofs.Faults.{stops_fault}
 use Rattle.claxon_subframe.proofs.FieldsInTurn.{then_went, then_stops, went_as}
-use Rattle.claxon_subframe.proofs.Predicted.{linear_begins, times_went, times_stops, residual_went, residual_stops, table_front, in_place}
+use Rattle.claxon_subframe.proofs.Predicted.{linear_begins, linear_warm, times_went, times_stops, residual_went, residual_stops, table_front, in_place}
 use Rattle.claxon_subframe.proofs.subframe.decode_lpc.Goals as goal
 
 pub returns-then-buffer-order : goal.returns-then-buffer-order
@@ -25,20 +25,20 @@ pub returns-in_err-lpc : goal.returns-in_err-lpc
 returns-in_err-lpc g c =
     let warm = length-take-le c.args.order c.args.buffer.now (omega arith) in
     exit _ (err_from_is_err_and c.from_residual-in_err-lpc.result c.from_residual-in_err-lpc.ensures.1)
-    (then_stops _ (then_went _ (linear_begins c.args.bps (length c.args.buffer.now) c.args.order _ (omega arith)) (times_went warm _ c.in_ok-decode_verbatim.ensures)) c.in_err-lpc.ensures.gives)
+    (then_stops _ (linear_warm c.args.bps (length c.args.buffer.now) c.args.order _ (omega arith) warm c.in_ok-decode_verbatim.ensures) c.in_err-lpc.ensures.gives)
 
 pub returns-in_err-read_coefficients : goal.returns-in_err-read_coefficients
 returns-in_err-read_coefficients g c =
     let warm = length-take-le c.args.order c.args.buffer.now (omega arith) in
     exit _ (err_from_is_err_and c.from_residual-in_err-read_coefficients.result c.from_residual-in_err-read_coefficients.ensures.1)
-    (then_stops _ (then_went _ (then_went _ (linear_begins c.args.bps (length c.args.buffer.now) c.args.order _ (omega arith)) (times_went warm _ c.in_ok-decode_verbatim.ensures)) c.in_ok-lpc.ensures.gives)
+    (then_stops _ (then_went _ (linear_warm c.args.bps (length c.args.buffer.now) c.args.order _ (omega arith) warm c.in_ok-decode_verbatim.ensures) c.in_ok-lpc.ensures.gives)
     (times_stops (table_front c.args.order c.requires.order) _ c.in_err-read_coefficients.ensures))
 
 pub returns-in_err-decode_residual : goal.returns-in_err-decode_residual
 returns-in_err-decode_residual g c =
     let warm = length-take-le c.args.order c.args.buffer.now (omega arith) in
     exit _ (err_from_is_err_and c.from_residual-in_err-decode_residual.result c.from_residual-in_err-decode_residual.ensures.1)
-    (then_stops _ (then_went _ (then_went _ (then_went _ (linear_begins c.args.bps (length c.args.buffer.now) c.args.order _ (omega arith)) (times_went warm _ c.in_ok-decode_verbatim.ensures)) c.in_ok-lpc.ensures.gives)
+    (then_stops _ (then_went _ (then_went _ (linear_warm c.args.bps (length c.args.buffer.now) c.args.order _ (omega arith) warm c.in_ok-decode_verbatim.ensures) c.in_ok-lpc.ensures.gives)
     (times_went (table_front c.args.order c.requires.order) _ c.in_ok-read_coefficients.ensures))
     (residual_stops (omega arith) _ c.in_err-decode_residual.ensures))
 
@@ -48,7 +48,7 @@ returns g c =
     went_as
     (in_place (linear c.read_coefficients.new.coefficients c.in_ok-lpc.lpc.shift) c.args.order c.decode_verbatim.new.buffer _ c.decode_residual.new.buffer c.predict_lpc.new.buffer
     (c.read_coefficients.auto.coefficients ∙ table_front c.args.order c.requires.order) (c.decode_verbatim.auto.buffer ∙ warm) c.decode_residual.auto.buffer c.predict_lpc.ensures)
-    (then_went _ (then_went _ (then_went _ (then_went _ (linear_begins c.args.bps (length c.args.buffer.now) c.args.order _ (omega arith)) (times_went warm _ c.in_ok-decode_verbatim.ensures)) c.in_ok-lpc.ensures.gives)
+    (then_went _ (then_went _ (then_went _ (linear_warm c.args.bps (length c.args.buffer.now) c.args.order _ (omega arith) warm c.in_ok-decode_verbatim.ensures) c.in_ok-lpc.ensures.gives)
     (times_went (table_front c.args.order c.requires.order) _ c.in_ok-read_coefficients.ensures))
     (residual_went (omega arith) _ c.in_ok-decode_residual.ensures))
 

@@ -28,14 +28,8 @@ add_products-requires-2-clause-coefficients c = kept_lanes (omega arith) c.requi
 pub add_products-requires-2-clause-samples : goal.add_products-requires-2-clause-samples
 add_products-requires-2-clause-samples c = kept_lanes (omega arith) c.requires.newest
 
-pub returns-clause-value : goal.returns-clause-value
-returns-clause-value c = λ h.
+pub returns : goal.returns
+returns c =
     let later = later_is c.args.before c.args.sums c.args.for_second c.args.second c.args.for_newest c.args.newest _ c.add_products.result c.add_products-2.result c.requires.before c.requires.sums c.requires.for_second c.requires.second c.requires.for_newest c.requires.newest
     (moved_by c.requires.before c.requires.sums c.two_lanes_on-moved.ensures.wide c.two_lanes_on-moved.ensures.value) c.add_products.ensures c.add_products-2.ensures in
-    later.0
-
-pub returns-clause-wide : goal.returns-clause-wide
-returns-clause-wide c =
-    let later = later_is c.args.before c.args.sums c.args.for_second c.args.second c.args.for_newest c.args.newest _ c.add_products.result c.add_products-2.result c.requires.before c.requires.sums c.requires.for_second c.requires.second c.requires.for_newest c.requires.newest
-    (moved_by c.requires.before c.requires.sums c.two_lanes_on-moved.ensures.wide c.two_lanes_on-moved.ensures.value) c.add_products.ensures c.add_products-2.ensures in
-    later.1
+    record { value = λ h. later.0; zeros = λ h. absurd cc; wide = later.1 }

@@ -35,11 +35,10 @@ pub returns-clause-value : goal.returns-clause-value
 returns-clause-value g c = λ ks past taps fit waits.
     let second = sample_lanes c.args.one c.spread-one.result c.ranges.one c.spread-one.ensures.lanes c.spread-one.ensures.value in
     let newest = sample_lanes c.args.two c.spread-two.result c.ranges.two c.spread-two.ensures.lanes c.spread-two.ensures.value in
+    let on = later_on ks past c.args.one c.args.two g.row.VECTORS fit second newest in
     record {
-      at_8 = later_on ks past c.args.one c.args.two 8 9 12 g.row.VECTORS _ c.later_sums.result refl refl fit (λ h. omega (arith, ltb-false)) c.later_sums.ensures.value c.later_sums.ensures.zeros (none_past ks past 12 taps.long) (wide_is c.requires.sums.at_8 waits.at_8)
-          (taps_are c.requires.taps.second.at_8 taps.second.at_8) second (taps_are c.requires.taps.newest.at_8 taps.newest.at_8) newest;
-      at_4 = later_on ks past c.args.one c.args.two 4 5 8 g.row.VECTORS _ c.later_sums-2.result refl refl fit (λ h. absurd cc) c.later_sums-2.ensures.value c.later_sums-2.ensures.zeros (wide_is c.requires.sums.at_8 waits.at_8) (wide_is c.requires.sums.at_4 waits.at_4)
-          (taps_are c.requires.taps.second.at_4 taps.second.at_4) second (taps_are c.requires.taps.newest.at_4 taps.newest.at_4) newest;
+      at_8 = on 8 _ _ _ _ _ c.later_sums.result (λ h. omega (arith, ltb-false)) c.later_sums.ensures.value c.later_sums.ensures.zeros (none_past ks past 12 taps.long) (wide_is c.requires.sums.at_8 waits.at_8) (taps_are c.requires.taps.second.at_8 taps.second.at_8) (taps_are c.requires.taps.newest.at_8 taps.newest.at_8);
+      at_4 = on 4 _ _ _ _ _ c.later_sums-2.result (λ h. absurd cc) c.later_sums-2.ensures.value c.later_sums-2.ensures.zeros (wide_is c.requires.sums.at_8 waits.at_8) (wide_is c.requires.sums.at_4 waits.at_4) (taps_are c.requires.taps.second.at_4 taps.second.at_4) (taps_are c.requires.taps.newest.at_4 taps.newest.at_4);
       at_0 = old_on ks past c.args.one c.args.two _ taps.nearest (moved_by c.requires.sums.at_4 c.requires.sums.at_0 c.two_lanes_on.ensures.wide c.two_lanes_on.ensures.value) waits.at_4 waits.at_0;
     }
 

@@ -1,4 +1,4 @@
-use Rattle.std.proofs.Common.{refl, arith}
+use Rattle.std.proofs.Common.{arith}
 use Rattle.std.proofs.lemmas.Bool.{ltb-false}
 use Rattle.claxon_subframe.proofs.Lanes.{kept_lanes, kept_wide, moved_by}
 use Rattle.claxon_subframe.proofs.Sums.{later_on, none_past, old_on, wide_is, sample_lanes, taps_are}
@@ -95,23 +95,17 @@ pub returns-clause-value : goal.returns-clause-value
 returns-clause-value g c = λ ks past taps fit waits.
     let second = sample_lanes c.args.one c.spread-one.result c.ranges.one c.spread-one.ensures.lanes c.spread-one.ensures.value in
     let newest = sample_lanes c.args.two c.spread-two.result c.ranges.two c.spread-two.ensures.lanes c.spread-two.ensures.value in
+    let on = later_on ks past c.args.one c.args.two g.row.VECTORS fit second newest in
     record {
       at_0 = old_on ks past c.args.one c.args.two _ taps.nearest (moved_by c.requires.sums.later.at_4 c.requires.sums.at_0 c.two_lanes_on.ensures.wide c.two_lanes_on.ensures.value) waits.later.at_4 waits.at_0;
       later = record {
-        at_4 = later_on ks past c.args.one c.args.two 4 5 8 g.row.VECTORS _ c.later_sums.result refl refl fit (λ h. absurd cc) c.later_sums.ensures.value c.later_sums.ensures.zeros (wide_is c.requires.sums.later.at_8 waits.later.at_8) (wide_is c.requires.sums.later.at_4 waits.later.at_4)
-            (taps_are c.requires.taps.second.at_4 taps.second.at_4) second (taps_are c.requires.taps.newest.at_4 taps.newest.at_4) newest;
-        at_8 = later_on ks past c.args.one c.args.two 8 9 12 g.row.VECTORS _ c.later_sums-2.result refl refl fit (λ h. absurd cc) c.later_sums-2.ensures.value c.later_sums-2.ensures.zeros (wide_is c.requires.sums.later.at_12 waits.later.at_12) (wide_is c.requires.sums.later.at_8 waits.later.at_8)
-            (taps_are c.requires.taps.second.at_8 taps.second.at_8) second (taps_are c.requires.taps.newest.at_8 taps.newest.at_8) newest;
-        at_12 = later_on ks past c.args.one c.args.two 12 13 16 g.row.VECTORS _ c.later_sums-3.result refl refl fit (λ h. absurd cc) c.later_sums-3.ensures.value c.later_sums-3.ensures.zeros (wide_is c.requires.sums.later.at_16 waits.later.at_16) (wide_is c.requires.sums.later.at_12 waits.later.at_12)
-            (taps_are c.requires.taps.second.at_12 taps.second.at_12) second (taps_are c.requires.taps.newest.at_12 taps.newest.at_12) newest;
-        at_16 = later_on ks past c.args.one c.args.two 16 17 20 g.row.VECTORS _ c.later_sums-4.result refl refl fit (λ h. omega (arith, ltb-false)) c.later_sums-4.ensures.value c.later_sums-4.ensures.zeros (wide_is c.requires.sums.later.at_20 waits.later.at_20) (wide_is c.requires.sums.later.at_16 waits.later.at_16)
-            (taps_are c.requires.taps.second.at_16 taps.second.at_16) second (taps_are c.requires.taps.newest.at_16 taps.newest.at_16) newest;
-        at_20 = later_on ks past c.args.one c.args.two 20 21 24 g.row.VECTORS _ c.later_sums-5.result refl refl fit (λ h. omega (arith, ltb-false)) c.later_sums-5.ensures.value c.later_sums-5.ensures.zeros (wide_is c.requires.sums.later.at_24 waits.later.at_24) (wide_is c.requires.sums.later.at_20 waits.later.at_20)
-            (taps_are c.requires.taps.second.at_20 taps.second.at_20) second (taps_are c.requires.taps.newest.at_20 taps.newest.at_20) newest;
-        at_24 = later_on ks past c.args.one c.args.two 24 25 28 g.row.VECTORS _ c.later_sums-6.result refl refl fit (λ h. omega (arith, ltb-false)) c.later_sums-6.ensures.value c.later_sums-6.ensures.zeros (wide_is c.requires.sums.later.at_28 waits.later.at_28) (wide_is c.requires.sums.later.at_24 waits.later.at_24)
-            (taps_are c.requires.taps.second.at_24 taps.second.at_24) second (taps_are c.requires.taps.newest.at_24 taps.newest.at_24) newest;
-        at_28 = later_on ks past c.args.one c.args.two 28 29 32 g.row.VECTORS _ c.later_sums-7.result refl refl fit (λ h. omega (arith, ltb-false)) c.later_sums-7.ensures.value c.later_sums-7.ensures.zeros (none_past ks past 32 taps.long) (wide_is c.requires.sums.later.at_28 waits.later.at_28)
-            (taps_are c.requires.taps.second.at_28 taps.second.at_28) second (taps_are c.requires.taps.newest.at_28 taps.newest.at_28) newest;
+        at_4 = on 4 _ _ _ _ _ c.later_sums.result (λ h. absurd cc) c.later_sums.ensures.value c.later_sums.ensures.zeros (wide_is c.requires.sums.later.at_8 waits.later.at_8) (wide_is c.requires.sums.later.at_4 waits.later.at_4) (taps_are c.requires.taps.second.at_4 taps.second.at_4) (taps_are c.requires.taps.newest.at_4 taps.newest.at_4);
+        at_8 = on 8 _ _ _ _ _ c.later_sums-2.result (λ h. absurd cc) c.later_sums-2.ensures.value c.later_sums-2.ensures.zeros (wide_is c.requires.sums.later.at_12 waits.later.at_12) (wide_is c.requires.sums.later.at_8 waits.later.at_8) (taps_are c.requires.taps.second.at_8 taps.second.at_8) (taps_are c.requires.taps.newest.at_8 taps.newest.at_8);
+        at_12 = on 12 _ _ _ _ _ c.later_sums-3.result (λ h. absurd cc) c.later_sums-3.ensures.value c.later_sums-3.ensures.zeros (wide_is c.requires.sums.later.at_16 waits.later.at_16) (wide_is c.requires.sums.later.at_12 waits.later.at_12) (taps_are c.requires.taps.second.at_12 taps.second.at_12) (taps_are c.requires.taps.newest.at_12 taps.newest.at_12);
+        at_16 = on 16 _ _ _ _ _ c.later_sums-4.result (λ h. omega (arith, ltb-false)) c.later_sums-4.ensures.value c.later_sums-4.ensures.zeros (wide_is c.requires.sums.later.at_20 waits.later.at_20) (wide_is c.requires.sums.later.at_16 waits.later.at_16) (taps_are c.requires.taps.second.at_16 taps.second.at_16) (taps_are c.requires.taps.newest.at_16 taps.newest.at_16);
+        at_20 = on 20 _ _ _ _ _ c.later_sums-5.result (λ h. omega (arith, ltb-false)) c.later_sums-5.ensures.value c.later_sums-5.ensures.zeros (wide_is c.requires.sums.later.at_24 waits.later.at_24) (wide_is c.requires.sums.later.at_20 waits.later.at_20) (taps_are c.requires.taps.second.at_20 taps.second.at_20) (taps_are c.requires.taps.newest.at_20 taps.newest.at_20);
+        at_24 = on 24 _ _ _ _ _ c.later_sums-6.result (λ h. omega (arith, ltb-false)) c.later_sums-6.ensures.value c.later_sums-6.ensures.zeros (wide_is c.requires.sums.later.at_28 waits.later.at_28) (wide_is c.requires.sums.later.at_24 waits.later.at_24) (taps_are c.requires.taps.second.at_24 taps.second.at_24) (taps_are c.requires.taps.newest.at_24 taps.newest.at_24);
+        at_28 = on 28 _ _ _ _ _ c.later_sums-7.result (λ h. omega (arith, ltb-false)) c.later_sums-7.ensures.value c.later_sums-7.ensures.zeros (none_past ks past 32 taps.long) (wide_is c.requires.sums.later.at_28 waits.later.at_28) (taps_are c.requires.taps.second.at_28 taps.second.at_28) (taps_are c.requires.taps.newest.at_28 taps.newest.at_28);
       };
     }
 
