@@ -2,7 +2,6 @@ pub mod PartitionLengths
 pub mod EscapedEntries
 pub mod WordShifts
 pub mod WordWindows
-pub mod WordsAhead
 pub mod FieldsAhead
 pub mod SignExtension
 pub mod SkippedAhead
