@@ -1,3 +1,5 @@
+pub use Rattle.claxon_input.proofs.CallsInTurn
+pub use Rattle.claxon_format.proofs.Streams
 pub use Rattle.claxon_format.proofs.Formats
 pub use Rattle.claxon_input.proofs.InMemory
 pub mod HeadMemory

@@ -1,3 +1,8 @@
+pub use Rattle.claxon_format.specs.Bits
+pub use Rattle.claxon_format.specs.Comments
+pub use Rattle.claxon_format.specs.Reading
+pub use Rattle.claxon_format.specs.read
+pub use Rattle.claxon_metadata.specs.declared.metadata.VorbisComment as VorbisComments
 pub use Rattle.claxon_format.specs.Fault
 pub use Rattle.claxon_format.specs.Frame
 pub use Rattle.claxon_format.specs.Heads

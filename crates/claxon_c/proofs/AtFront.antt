@@ -4,24 +4,24 @@ use Rattle.std.specs.Prelude.{Result, Ok, Err, IfErr, IfOk, IfSome}
 use Rattle.std.specs.declared.io.Cursor.{Cursor}
 use Rattle.std.specs.Io.Cursor.{cursor_position, cursor_inner}
 use Rattle.std.proofs.lemmas.List.{length-drop}
-use Rattle.claxon_format.specs.Fault.{Fault}
-use Rattle.claxon_format.specs.Frame.{StreamShape, Frame}
-use Rattle.claxon_format.specs.Heads.{Head, HeadCode, HeadFault}
-use Rattle.claxon_format.specs.Streams.{with_samples}
-use Rattle.claxon_input.specs.Cursor.{cursor_left}
-use Rattle.claxon_input.specs.Promises.{AnswersCode, Comes, NamesFault, TakesCode, TakesFault, TakesFound, Took}
-use Rattle.claxon_input.specs.State.{State}
-use Rattle.claxon_input.specs.declared.error.Error.{Error}
-use Rattle.claxon_input.proofs.InMemory.{cursor_comes, cursor_just_starved, new_cursor_comes}
-use Rattle.claxon_metadata.specs.MetadataBlock.{HasBounds}
-use Rattle.claxon_metadata.specs.declared.metadata.StreamInfo.{StreamInfo}
-use Rattle.claxon_frame.specs.FrameReader.{FrameAnswer, block_view}
+use Rattle.claxon.specs.Fault.{Fault}
+use Rattle.claxon.specs.Frame.{StreamShape, Frame}
+use Rattle.claxon.specs.Heads.{Head, HeadCode, HeadFault}
+use Rattle.claxon.specs.Streams.{with_samples}
+use Rattle.claxon.specs.Cursor.{cursor_left}
+use Rattle.claxon.specs.Promises.{AnswersCode, Comes, NamesFault, TakesCode, TakesFault, TakesFound, Took}
+use Rattle.claxon.specs.State.{State}
+use Rattle.claxon.specs.Errors.{Error}
+use Rattle.claxon.proofs.InMemory.{cursor_comes, cursor_just_starved, new_cursor_comes}
+use Rattle.claxon.specs.MetadataBlock.{HasBounds}
+use Rattle.claxon.specs.StreamInfos.{StreamInfo}
+use Rattle.claxon.specs.FrameReader.{FrameAnswer, block_view}
 use Rattle.claxon.specs.ReadHead.{StarvesBehind, WantsMemory}
 use Rattle.claxon.proofs.FramesInMemory.{FrameInMemory, took_front}
 use Rattle.claxon.proofs.FramesInMemory.{slice_state}
 use Rattle.claxon.specs.Fronts.{BeginsWith}
-use Rattle.claxon_input.specs.Error.{IsFault, IsIo}
-use Rattle.claxon_input.specs.declared.error.Error.TheVariants.{OutOfMemory}
+use Rattle.claxon.specs.Error.{IsFault, IsIo}
+use Rattle.claxon.specs.Errors.TheVariants.{OutOfMemory}
 use Rattle.claxon_c.specs.AtFront.{FrameAtFront, FrontIs, HeadAtFront}
 
 abbrev Slice : Type 0

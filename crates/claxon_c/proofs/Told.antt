@@ -1,11 +1,11 @@
 -- What the status and the text of an error say.
 use Rattle.std.proofs.Common.{◌≡◌, ◌⊎◌, inl, inr, ℕ, List, refl, ap, subst}
 use Rattle.std.specs.Prelude.{◌≢◌, Result, Err, IsErrAnd}
-use Rattle.claxon_format.specs.Fault.{Fault}
-use Rattle.claxon_input.specs.Error.{IsFault, IsIo}
-use Rattle.claxon_input.specs.Promises.{HasNeither, IsStarved}
-use Rattle.claxon_input.specs.declared.error.Error.{Error}
-use Rattle.claxon_input.specs.declared.error.Error.TheVariants.{IoError, FormatError, Unsupported, OutOfMemory}
+use Rattle.claxon.specs.Fault.{Fault}
+use Rattle.claxon.specs.Error.{IsFault, IsIo}
+use Rattle.claxon.specs.Promises.{HasNeither, IsStarved}
+use Rattle.claxon.specs.Errors.{Error}
+use Rattle.claxon.specs.Errors.TheVariants.{IoError, FormatError, Unsupported, OutOfMemory}
 use Rattle.claxon.specs.Fronts.{BeginsWith}
 use Rattle.claxon_c.specs.HeadCalls.{SaysHead}
 use Rattle.claxon_c.specs.Status.{ErrorIsTold, FaultIsTold, SaysFault, TextIsPut, TextIsTold, buffer_short, input_ends, no_more, ok, out_of_memory}

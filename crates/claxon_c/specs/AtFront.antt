@@ -1,16 +1,16 @@
 -- What private calls answer for what stands at the front of bytes, and how many bytes that has.
 use Rattle.std.specs.Prelude.{◌≡◌, ◌⊎◌, ℕ, ◌≤◌, true, List, ◌++◌, length, Option, Result, IfErr, IfOk, IfSome, IsErrAnd, IsOkAnd}
-use Rattle.claxon_format.specs.Fault.{Fault}
-use Rattle.claxon_format.specs.Frame.{StreamShape, Frame}
-use Rattle.claxon_format.specs.Heads.{Head, HeadCode, HeadFault}
-use Rattle.claxon_format.specs.Streams.{with_samples}
-use Rattle.claxon_input.specs.Error.{IsFault, IsIo}
-use Rattle.claxon_input.specs.Promises.{IsStarved}
-use Rattle.claxon_input.specs.declared.error.Error.{Error}
-use Rattle.claxon_input.specs.declared.error.Error.TheVariants.{OutOfMemory}
-use Rattle.claxon_metadata.specs.declared.metadata.StreamInfo.{StreamInfo}
-use Rattle.claxon_metadata.specs.MetadataBlock.{HasBounds}
-use Rattle.claxon_frame.specs.FrameReader.{FrameAnswer, block_view}
+use Rattle.claxon.specs.Fault.{Fault}
+use Rattle.claxon.specs.Frame.{StreamShape, Frame}
+use Rattle.claxon.specs.Heads.{Head, HeadCode, HeadFault}
+use Rattle.claxon.specs.Streams.{with_samples}
+use Rattle.claxon.specs.Error.{IsFault, IsIo}
+use Rattle.claxon.specs.Promises.{IsStarved}
+use Rattle.claxon.specs.Errors.{Error}
+use Rattle.claxon.specs.Errors.TheVariants.{OutOfMemory}
+use Rattle.claxon.specs.StreamInfos.{StreamInfo}
+use Rattle.claxon.specs.MetadataBlock.{HasBounds}
+use Rattle.claxon.specs.FrameReader.{FrameAnswer, block_view}
 use Rattle.claxon.specs.ReadHead.{WantsMemory}
 use Rattle.claxon.specs.Fronts.{BeginsWith}
 use Rattle.claxon.specs.FramesInMemory.{EachBlockIsDecoded, EachFaultIsTold, FaultIsThere, NoneIsNoFrame, StarvesAtHeader}

@@ -1,10 +1,10 @@
 -- What calls answer that read the head at the front of bytes. Of the excuses of a reader just want of memory is left, since no read of bytes in memory fails.
 use Rattle.std.specs.Prelude.{◌≡◌, ◌≢◌, ◌⊎◌, ℕ, ◌≤◌, ◌<◌, true, List, [], length, map, slice_get, Option, None, Some}
-use Rattle.claxon_format.specs.Comments.{Comment}
-use Rattle.claxon_format.specs.Fault.{Fault}
-use Rattle.claxon_format.specs.Heads.{Head, HeadCode, HeadFault}
-use Rattle.claxon_format.specs.Streams.{stream_of, with_samples}
-use Rattle.claxon_input.specs.Promises.{HasNeither}
+use Rattle.claxon.specs.Comments.{Comment}
+use Rattle.claxon.specs.Fault.{Fault}
+use Rattle.claxon.specs.Heads.{Head, HeadCode, HeadFault}
+use Rattle.claxon.specs.Streams.{stream_of, with_samples}
+use Rattle.claxon.specs.Promises.{HasNeither}
 use Rattle.claxon.specs.ReadHead.{WantsMemory}
 use Rattle.claxon.specs.Fronts.{BeginsWith}
 use Rattle.claxon_c.specs.declared.heads.ClaxonInfo.{ClaxonInfo}

@@ -1,8 +1,8 @@
 -- A `ClaxonInfo` in the words of the format.
 use Rattle.std.specs.Prelude.{◌≡◌, ℕ, nat_le, ◌&&◌, cond, Option, None, Some}
-use Rattle.claxon_format.specs.Frame.{StreamShape}
-use Rattle.claxon_metadata.specs.MetadataBlock.{or_zero}
-use Rattle.claxon_metadata.specs.declared.metadata.StreamInfo.{StreamInfo}
+use Rattle.claxon.specs.Frame.{StreamShape}
+use Rattle.claxon.specs.MetadataBlock.{or_zero}
+use Rattle.claxon.specs.StreamInfos.{StreamInfo}
 use Rattle.claxon_c.specs.declared.heads.ClaxonInfo.{ClaxonInfo}
 
 -- It shows this streaminfo, and these counts of tags and of bytes before the first frame.

@@ -1,10 +1,10 @@
 -- What a call answers for the frame at a place in bytes.
 use Rattle.std.specs.Prelude.{◌≡◌, ◌≢◌, ◌⊎◌, ◌↔◌, ℕ, ℤ, ◌+◌, ◌*◌, ◌<◌, ◌≤◌, List, ◌++◌, length, drop, Option}
-use Rattle.claxon_format.specs.Fault.{Fault}
-use Rattle.claxon_format.specs.Frame.{StreamShape, Block, Frame, FrameBytesFault}
-use Rattle.claxon_format.specs.Streams.{duration, interleave}
-use Rattle.claxon_input.specs.Promises.{HasNeither}
-use Rattle.claxon_frame.specs.FrameReader.{HeaderAlone}
+use Rattle.claxon.specs.Fault.{Fault}
+use Rattle.claxon.specs.Frame.{StreamShape, Block, Frame, FrameBytesFault}
+use Rattle.claxon.specs.Streams.{duration, interleave}
+use Rattle.claxon.specs.Promises.{HasNeither}
+use Rattle.claxon.specs.FrameReader.{HeaderAlone}
 use Rattle.claxon.specs.Fronts.{BeginsWith}
 use Rattle.claxon_c.specs.declared.next_block.ClaxonBlock.{ClaxonBlock}
 use Rattle.claxon_c.specs.Status.{FaultIsTold, SaysFault, buffer_short, input_ends, no_more, ok, out_of_memory}

@@ -1,8 +1,8 @@
 -- What calls answer: a status, and a text that ends with a zero byte.
 use Rattle.std.specs.Prelude.{◌≡◌, ◌⊎◌, ℕ, ◌-◌, ◌<◌, cond, List, [], ◌∷◌, ◌++◌, codes, length, take, drop}
-use Rattle.claxon_format.specs.Fault.{Fault, fault_text, is_unsupported}
-use Rattle.claxon_input.specs.declared.error.Error.{Error}
-use Rattle.claxon_input.specs.declared.error.Error.TheVariants.{IoError, FormatError, Unsupported, OutOfMemory}
+use Rattle.claxon.specs.Fault.{Fault, fault_text, is_unsupported}
+use Rattle.claxon.specs.Errors.{Error}
+use Rattle.claxon.specs.Errors.TheVariants.{IoError, FormatError, Unsupported, OutOfMemory}
 
 abbrev pub ok : ℕ
 ok = 0

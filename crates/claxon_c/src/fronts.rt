@@ -2,9 +2,9 @@
 ghost use Rattle.std.specs.Prelude.{◌≡◌, IfSome};
 ghost use Rattle.std.specs.Option.{option_map};
 ghost use Rattle.std.specs.Io.Cursor.{cursor_inner, cursor_position};
-ghost use Rattle.claxon_input.specs.Cursor.{cursor_left};
+ghost use Rattle.claxon.specs.Cursor.{cursor_left};
 ghost use Rattle.claxon.specs.ReadHead.{head_view};
-ghost use Rattle.claxon_frame.specs.FrameReader.{frame_input, frame_stream, stream_with};
+ghost use Rattle.claxon.specs.FrameReader.{frame_input, frame_stream, stream_with};
 ghost use Rattle.claxon_c.specs.AtFront.{FrameAtFront, HasWidth, HeadAtFront};
 
 use claxon::frame::{FrameReader, FrameResult};

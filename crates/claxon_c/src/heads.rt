@@ -2,7 +2,7 @@
 ghost use Rattle.std.specs.Prelude.{◌≡◌, IfSome, length, slice_get};
 ghost use Rattle.std.specs.Option.{option_map};
 ghost use Rattle.claxon.specs.ReadHead.{found_view};
-ghost use Rattle.claxon_frame.specs.FrameReader.{stream_with};
+ghost use Rattle.claxon.specs.FrameReader.{stream_with};
 ghost use Rattle.claxon_c.specs.AtFront.{HasWidth};
 ghost use Rattle.claxon_c.specs.Info.{InfoShows, known_stream};
 ghost use Rattle.claxon_c.specs.HeadCalls.{AnswersText, EachHeadFaultIsTold, EachHeadIsOpened, EachTagIsGiven, HeadFaultIsThere, HeadIsOpened, InfoIsKept, NoHeadIsEnd, StarvesAtHead, TagIsThere, texts_of};

@@ -1,6 +1,6 @@
 //! Blocks, one after another.
 ghost use Rattle.std.specs.Prelude.{drop};
-ghost use Rattle.claxon_frame.specs.FrameReader.{block_view};
+ghost use Rattle.claxon.specs.FrameReader.{block_view};
 ghost use Rattle.claxon_c.specs.Info.{known_stream};
 ghost use Rattle.claxon_c.specs.NextBlock.{BlockIsThere, EachBlockIsGiven, EachFaultIsTold, FaultIsThere, NoFrameIsEnd, PlaceIsKept, ShowsBlock, StarvesAtHeader, TooFewIsNoMore};
 ghost use Rattle.claxon_c.specs.Status.{TextIsTold};

@@ -1,7 +1,7 @@
 //! Samples place by place.
 ghost use Rattle.std.specs.Prelude.{◌≡◌, ◌≤◌, ◌<◌, ◌*◌, length};
-ghost use Rattle.claxon_format.specs.Streams.{samples_at};
-ghost use Rattle.claxon_frame.specs.Block.{duration_of};
+ghost use Rattle.claxon.specs.Streams.{samples_at};
+ghost use Rattle.claxon.specs.Block.{duration_of};
 ghost use Rattle.claxon_c.specs.NextBlock.{SamplesArePut};
 
 use claxon::Block;

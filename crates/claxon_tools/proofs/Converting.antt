@@ -8,24 +8,24 @@ use Rattle.std.proofs.lemmas.Grind.{flat_map-append}
 use Rattle.std.proofs.lemmas.List.Elements.{All-append, All-drop, All-nil, All-push}
 use Rattle.std.proofs.lemmas.List.{drop_at, get_or_push, length-take}
 use Rattle.std.specs.Int.{to_le_bytes}
-use Rattle.claxon_format.specs.Bits.{FitsIn}
-use Rattle.claxon_format.specs.Frame.{Block, Frame, FrameBytesFault, Frames, StreamShape}
-use Rattle.claxon_format.specs.Streams.{interleave}
-use Rattle.claxon_frame.specs.Block.{BlockValue, duration_of}
-use Rattle.claxon_frame.specs.FrameReader.{FrameAnswer, block_view, frame_bytes, frame_input, frame_stream, stream_with}
-use Rattle.claxon_frame.specs.declared.frame.FrameReader.{FrameReader}
-use Rattle.claxon_input.specs.BufferedReader.{buffered_source}
-use Rattle.claxon_input.specs.declared.error.Error.{Error as Cause}
-use Rattle.claxon_input.specs.declared.input.BufferedReader.{BufferedReader}
-use Rattle.claxon_input.specs.Promises.{NoneIsEnd, TakesFault, TakesFound, Took}
-use Rattle.claxon_input.specs.State.{State}
+use Rattle.claxon.specs.Bits.{FitsIn}
+use Rattle.claxon.specs.Frame.{Block, Frame, FrameBytesFault, Frames, StreamShape}
+use Rattle.claxon.specs.Streams.{interleave}
+use Rattle.claxon.specs.Block.{BlockValue, duration_of}
+use Rattle.claxon.specs.FrameReader.{FrameAnswer, block_view, frame_bytes, frame_input, frame_stream, stream_with}
+use Rattle.claxon.specs.FrameReaders.{FrameReader}
+use Rattle.claxon.specs.BufferedReader.{buffered_source}
+use Rattle.claxon.specs.Errors.{Error as Cause}
+use Rattle.claxon.specs.BufferedReaders.{BufferedReader}
+use Rattle.claxon.specs.Promises.{NoneIsEnd, TakesFault, TakesFound, Took}
+use Rattle.claxon.specs.State.{State}
 use Rattle.claxon.specs.FlacReader.{flac_input, flac_streaminfo}
 use Rattle.claxon.specs.Opening.{flac_bytes}
 use Rattle.claxon.specs.SampleRuns.{lent, samples_of}
 use Rattle.claxon.specs.declared.reader.FlacReader.{FlacReader}
 use Rattle.claxon.proofs.SampleRuns.{behind_loan, samples_add}
 use Rattle.claxon.proofs.SamplesInTurn.{same_duration}
-use Rattle.claxon_format.proofs.Streams.{length-interleave}
+use Rattle.claxon.proofs.Streams.{length-interleave}
 use Rattle.claxon_tools.specs.Convert.{ConvertsAll, HoldsFile, PutsSamples, PutsStream, StandsInWay, StopsAt, packed_blocks}
 use Rattle.claxon_tools.specs.Samples.{bytes_of_sample, packed_block, packed_samples, raised, silence}
 use Rattle.claxon_tools.specs.WaveFile.{pad, sample_size}

@@ -8,8 +8,8 @@ use Rattle.std.proofs.lemmas.Slice.{take-put_mid}
 use Rattle.std.proofs.lemmas.Option.{get_or_from_slice_get, slice_get_within}
 use Rattle.std.proofs.lemmas.Grind.{flat_map-append, take-set_at}
 use borrow.Rule.Slice.PartMut.{put_mid}
-use Rattle.claxon_format.specs.Streams.{interleave, samples_at}
-use Rattle.claxon_frame.specs.Block.{duration_of}
+use Rattle.claxon.specs.Streams.{interleave, samples_at}
+use Rattle.claxon.specs.Block.{duration_of}
 use Rattle.claxon.proofs.SamplesInTurn.{same_duration}
 use Rattle.claxon_tools.specs.Samples.{bytes_of_sample, raised, silence}
 use Rattle.claxon_write.specs.SampleBytes.{places}

@@ -1,16 +1,16 @@
 -- What is put of a stream, and what a whole conversion promises.
 use Rattle.std.specs.Prelude.{All, ◌≡◌, ◌⊎◌, ℕ, ◌+◌, ◌<◌, true, List, ◌++◌, length, Option, Some, Result, IfErr, OnOk}
 use Rattle.std.specs.Io.KnownBytes.{Appends}
-use Rattle.claxon_format.specs.Bits.{FitsIn}
-use Rattle.claxon_format.specs.Fault.{Fault}
-use Rattle.claxon_format.specs.Frame.{Block, FrameBytesFault, Frames, StreamShape}
-use Rattle.claxon_frame.specs.FrameReader.{frame_bytes, frame_stream, stream_with}
-use Rattle.claxon_frame.specs.declared.frame.FrameReader.{FrameReader}
-use Rattle.claxon_input.specs.Error.{IsFault, IsIo}
-use Rattle.claxon_input.specs.Source.{Source}
-use Rattle.claxon_input.specs.State.{State}
-use Rattle.claxon_input.specs.declared.error.Error.{Error as Cause}
-use Rattle.claxon_input.specs.declared.error.Error.TheVariants.{OutOfMemory}
+use Rattle.claxon.specs.Bits.{FitsIn}
+use Rattle.claxon.specs.Fault.{Fault}
+use Rattle.claxon.specs.Frame.{Block, FrameBytesFault, Frames, StreamShape}
+use Rattle.claxon.specs.FrameReader.{frame_bytes, frame_stream, stream_with}
+use Rattle.claxon.specs.FrameReaders.{FrameReader}
+use Rattle.claxon.specs.Error.{IsFault, IsIo}
+use Rattle.claxon.specs.Source.{Source}
+use Rattle.claxon.specs.State.{State}
+use Rattle.claxon.specs.Errors.{Error as Cause}
+use Rattle.claxon.specs.Errors.TheVariants.{OutOfMemory}
 use Rattle.claxon.specs.FlacReader.{flac_streaminfo}
 use Rattle.claxon.specs.Opening.{flac_bytes}
 use Rattle.claxon.specs.SampleRuns.{samples_of}

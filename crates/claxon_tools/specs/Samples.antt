@@ -2,10 +2,10 @@
 use Rattle.std.specs.Prelude.{All, ◌≡◌, ◌==◌, ℕ, ◌+◌, ◌-◌, ◌*◌, ◌^◌, ◌%◌, ℤ, List, cond, take}
 use Rattle.std.specs.Int.{cast_unsigned, to_le_bytes, w32}
 use Rattle.std.specs.List.{flat_map}
-use Rattle.claxon_format.specs.Bits.{FitsIn}
-use Rattle.claxon_format.specs.Streams.{interleave}
-use Rattle.claxon_frame.specs.Block.{BlockValue}
-use Rattle.claxon_input.specs.declared.error.Error.TheVariants.{OutOfMemory}
+use Rattle.claxon.specs.Bits.{FitsIn}
+use Rattle.claxon.specs.Streams.{interleave}
+use Rattle.claxon.specs.Block.{BlockValue}
+use Rattle.claxon.specs.Errors.TheVariants.{OutOfMemory}
 use Rattle.claxon_tools.specs.WaveFile.{sample_size}
 use Rattle.claxon_tools.specs.declared.wav.error.Error.{Error}
 use Rattle.claxon_tools.specs.declared.wav.error.Error.TheVariants.{Claxon, WideSample}

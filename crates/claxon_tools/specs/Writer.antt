@@ -1,11 +1,11 @@
 -- What calls of a `WavWriter` promise.
 use Rattle.std.specs.Prelude.{All, ◌≡◌, ◌⊎◌, ◌<◌, ℕ, ◌+◌, List, length, Option, Some, Result, IfOk, IfSome, OnOk}
 use Rattle.std.specs.Io.KnownBytes.{Appends, Keeps}
-use Rattle.claxon_format.specs.Bits.{FitsIn}
-use Rattle.claxon_format.specs.Streams.{interleave}
-use Rattle.claxon_frame.specs.Block.{BlockValue}
-use Rattle.claxon_input.specs.Error.{IsIo}
-use Rattle.claxon_input.specs.declared.error.Error.TheVariants.{OutOfMemory}
+use Rattle.claxon.specs.Bits.{FitsIn}
+use Rattle.claxon.specs.Streams.{interleave}
+use Rattle.claxon.specs.Block.{BlockValue}
+use Rattle.claxon.specs.Error.{IsIo}
+use Rattle.claxon.specs.Errors.TheVariants.{OutOfMemory}
 use Rattle.claxon_tools.specs.Samples.{packed_block}
 use Rattle.claxon_tools.specs.WaveFile.{IsHeader, pad}
 use Rattle.claxon_tools.specs.declared.wav.error.Error.{Error}

@@ -1,18 +1,18 @@
 -- Blocks that are read and gathered one after another.
 use Rattle.std.proofs.Common.{◌≡◌, inl, inr, ℕ, ◌+◌, ◌*◌, ◌≤◌, ◌^◌, true, false, List, [], ◌∷◌, ◌++◌, length, Option, None, Some, refl, sym, ap, subst, ◌∙◌, arith, length-append}
 use Rattle.std.specs.Prelude.{Result, Ok, Err}
-use Rattle.claxon_format.specs.Frame.{StreamShape, Block}
-use Rattle.claxon_format.specs.read.Frame.{frame_bytes_at}
-use Rattle.claxon_format.specs.Reading.{Reading}
-use Rattle.claxon_format.specs.Streams.{interleave}
-use Rattle.claxon_format.proofs.Streams.{length-interleave}
-use Rattle.claxon_input.specs.State.{State}
-use Rattle.claxon_input.specs.declared.error.Error.{Error}
-use Rattle.claxon_input.specs.declared.error.Error.TheVariants.{IoError, FormatError, Unsupported, OutOfMemory}
-use Rattle.claxon_input.proofs.CallsInTurn.{stops_loans}
-use Rattle.claxon_input.specs.Gives.{GivesOrEndsOrStarves, or_end}
-use Rattle.claxon_frame.specs.Block.{BlockValue, duration_of}
-use Rattle.claxon_frame.specs.FrameReader.{ReadsFrame, block_view}
+use Rattle.claxon.specs.Frame.{StreamShape, Block}
+use Rattle.claxon.specs.read.Frame.{frame_bytes_at}
+use Rattle.claxon.specs.Reading.{Reading}
+use Rattle.claxon.specs.Streams.{interleave}
+use Rattle.claxon.proofs.Streams.{length-interleave}
+use Rattle.claxon.specs.State.{State}
+use Rattle.claxon.specs.Errors.{Error}
+use Rattle.claxon.specs.Errors.TheVariants.{IoError, FormatError, Unsupported, OutOfMemory}
+use Rattle.claxon.proofs.CallsInTurn.{stops_loans}
+use Rattle.claxon.specs.Gives.{GivesOrEndsOrStarves, or_end}
+use Rattle.claxon.specs.Block.{BlockValue, duration_of}
+use Rattle.claxon.specs.FrameReader.{ReadsFrame, block_view}
 use Rattle.claxon.specs.SampleRuns.{TakesFrames, samples_of}
 use Rattle.claxon.proofs.SamplesInTurn.{reads_as, same_duration}
 use Rattle.claxon.proofs.SampleRuns.{samples_add, takes_none, takes_more}

@@ -8,7 +8,7 @@ use Rattle.std.proofs.lemmas.Slice.{take-put_mid, take-put_mid_below, drop-put_m
 use Rattle.std.proofs.lemmas.List.Edits.{get_or-between}
 use Rattle.std.proofs.lemmas.Option.{get_or_from_slice_get, slice_get_within}
 use borrow.Rule.Slice.PartMut.{put_mid}
-use Rattle.claxon_format.specs.Streams.{samples_at}
+use Rattle.claxon.specs.Streams.{samples_at}
 use Rattle.claxon_write.specs.SampleBytes.{PutBehind, place_bytes, bytes_of_samples, places, sample_bytes}
 use Rattle.claxon_write.proofs.SampleBytes.{bytes_append, bytes_more, places_more}
 

@@ -4,14 +4,14 @@ use Rattle.std.specs.Prelude.{IfErr, OnOk, OnErr, Result, Ok, Err}
 use Rattle.std.specs.Io.KnownBytes.{Appends, Keeps, append_known}
 use Rattle.std.proofs.Math.Seq.{take-add}
 use Rattle.std.proofs.lemmas.List.{append-nil, append_cancel_left, take_at, drop_at, length-take, take_all, take-append-drop}
-use Rattle.claxon_format.specs.Streams.{interleave}
-use Rattle.claxon_input.specs.Error.{IsIo}
-use Rattle.claxon_input.specs.declared.error.Error.{Error}
+use Rattle.claxon.specs.Streams.{interleave}
+use Rattle.claxon.specs.Error.{IsIo}
+use Rattle.claxon.specs.Errors.{Error}
 use Rattle.claxon_write.specs.SampleBytes.{bytes_of_samples, places}
 use Rattle.claxon_write.proofs.SampleBytes.{places_all}
 use Rattle.claxon_write.specs.Output.{FlushFails, FlushesAll}
 use Rattle.claxon_write.specs.Written.{AppendsAllBut, AppendsFront, FailsToPut, FlushFailed, IsFlushed, IsUnflushed, NothingFailed, Puts, WriteFailed, capacity, failed_flushes_of, failed_writes_of, held, held_and_waiting, waiting}
-use Rattle.claxon_frame.specs.Block.{duration_of}
+use Rattle.claxon.specs.Block.{duration_of}
 use Rattle.claxon.proofs.SamplesInTurn.{same_duration}
 use Rattle.claxon_write.specs.declared.output.Counted.{Counted}
 use Rattle.claxon_write.specs.declared.output.Output.{Output}

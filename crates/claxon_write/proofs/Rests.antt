@@ -1,12 +1,12 @@
 -- What was left to come is a rest of what was to come.
 use Rattle.std.proofs.Common.{◌≡◌, ◌⊎◌, inl, inr, ℕ, true, List, [], ◌++◌, Option, None, Some, refl, sym, ap, ◌∙◌, append_assoc}
 use Rattle.std.specs.Prelude.{IfErr, IfOk, Result, Ok, Err}
-use Rattle.claxon_format.specs.Frame.{StreamShape, Block}
-use Rattle.claxon_frame.specs.Block.{BlockValue}
-use Rattle.claxon_frame.specs.FrameReader.{ReadsFrame}
-use Rattle.claxon_input.specs.declared.error.Error.{Error}
-use Rattle.claxon_input.specs.Gives.{IsRest, Went}
-use Rattle.claxon_input.specs.State.{State}
+use Rattle.claxon.specs.Frame.{StreamShape, Block}
+use Rattle.claxon.specs.Block.{BlockValue}
+use Rattle.claxon.specs.FrameReader.{ReadsFrame}
+use Rattle.claxon.specs.Errors.{Error}
+use Rattle.claxon.specs.Gives.{IsRest, Went}
+use Rattle.claxon.specs.State.{State}
 use Rattle.claxon.specs.SampleRuns.{ReadsFrames}
 use Rattle.claxon_write.specs.Decoded.{Decodes, EndsAfter, FailsToFlushAll, FailsToWrite, StopsDecoding, TakesBlocks}
 use Rattle.claxon_write.specs.Written.{IsFlushed, NothingFailed}

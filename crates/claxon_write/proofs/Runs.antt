@@ -2,17 +2,17 @@
 use Rattle.std.proofs.Common.{◌≡◌, ◌⊎◌, inl, inr, ℕ, true, List, [], ◌∷◌, ◌++◌, Option, None, Some, refl, sym, ap, subst, ◌∙◌, append-nil}
 use Rattle.std.specs.Prelude.{IfErr, IfOk, Result, Ok, Err}
 use Rattle.std.specs.Io.KnownBytes.{Appends, append_known}
-use Rattle.claxon_format.specs.Fault.{Fault}
-use Rattle.claxon_format.specs.Frame.{StreamShape, Block, Frame, FrameBytesFault, Frames}
-use Rattle.claxon_format.specs.Heads.{Head, HeadCode, HeadFault}
-use Rattle.claxon_format.specs.Streams.{stream_of, with_samples}
-use Rattle.claxon_frame.specs.FrameReader.{stream_with}
-use Rattle.claxon_input.specs.declared.error.Error.{Error}
-use Rattle.claxon_input.specs.declared.error.Error.TheVariants.{OutOfMemory}
-use Rattle.claxon_input.specs.Error.{IsFault, IsIo, is_io}
-use Rattle.claxon_input.specs.Gives.{Went}
-use Rattle.claxon_input.specs.Promises.{Comes, IsExcused, Took}
-use Rattle.claxon_input.specs.State.{State}
+use Rattle.claxon.specs.Fault.{Fault}
+use Rattle.claxon.specs.Frame.{StreamShape, Block, Frame, FrameBytesFault, Frames}
+use Rattle.claxon.specs.Heads.{Head, HeadCode, HeadFault}
+use Rattle.claxon.specs.Streams.{stream_of, with_samples}
+use Rattle.claxon.specs.FrameReader.{stream_with}
+use Rattle.claxon.specs.Errors.{Error}
+use Rattle.claxon.specs.Errors.TheVariants.{OutOfMemory}
+use Rattle.claxon.specs.Error.{IsFault, IsIo, is_io}
+use Rattle.claxon.specs.Gives.{Went}
+use Rattle.claxon.specs.Promises.{Comes, IsExcused, Took}
+use Rattle.claxon.specs.State.{State}
 use Rattle.claxon.specs.FlacReader.{flac_head, flac_streaminfo}
 use Rattle.claxon.specs.Opening.{EachFaultIsNamedOnOpening, EachHeadIsOpened, IsDropped, flac_bytes, unread}
 use Rattle.claxon.specs.SampleRuns.{samples_of}

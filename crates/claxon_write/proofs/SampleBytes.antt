@@ -1,7 +1,7 @@
 -- The bytes of places that stand one after another.
 use Rattle.std.proofs.Common.{◌≡◌, ℕ, zero, suc, ◌+◌, List, [], ◌∷◌, ◌++◌, refl, sym, ap, ◌∙◌, append_assoc, arith, ℤ}
 use Rattle.std.specs.List.{flat_map, range_with_len}
-use Rattle.claxon_format.specs.Streams.{duration, interleave, samples_at}
+use Rattle.claxon.specs.Streams.{duration, interleave, samples_at}
 use Rattle.claxon_write.specs.SampleBytes.{bytes_of_samples, places, sample_bytes}
 
 pub bytes_append : (xs ys : List ℤ) → bytes_of_samples (xs ++ ys) ≡ bytes_of_samples xs ++ bytes_of_samples ys

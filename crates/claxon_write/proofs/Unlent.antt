@@ -1,22 +1,22 @@
 -- What was read through a loan was read from what it reaches.
 use Rattle.std.specs.Borrow.{GName, MutBor}
-use Rattle.claxon_input.specs.Source.{Source, through_loan}
+use Rattle.claxon.specs.Source.{Source, through_loan}
 use Rattle.std.proofs.Common.{◌≡◌, inl, inr, ℕ, ◌+◌, ◌%◌, ◌^◌, List, [], ◌∷◌, ◌++◌, Option, None, Some, ap, subst, ◌∙◌, append-nil, arith}
 use Rattle.std.specs.Prelude.{IfErr, IfOk, OnErr, OnOk, ◌⊎◌, Result, Ok, Err}
 use Rattle.std.specs.Result.{result_and}
 use Rattle.std.specs.Io.KnownBytes.{Keeps}
-use Rattle.claxon_format.specs.Frame.{StreamShape, Block}
-use Rattle.claxon_format.specs.read.Frame.{frame_bytes_at}
-use Rattle.claxon_format.specs.Reading.{Reading}
-use Rattle.claxon_input.specs.declared.error.Error.{Error}
-use Rattle.claxon_input.specs.declared.error.Error.TheVariants.{IoError, FormatError, Unsupported, OutOfMemory}
-use Rattle.claxon_input.specs.Gives.{Fails, Stops, Stuck, Went, Ended, GivesOrEndsOrStarves}
-use Rattle.claxon_input.specs.Error.{IsIo}
-use Rattle.claxon_input.specs.State.{State, bytes_in}
-use Rattle.claxon_input.specs.Promises.{Comes, NoneIsEnd}
-use Rattle.claxon_frame.specs.Block.{BlockValue}
-use Rattle.claxon_frame.specs.FrameReader.{ReadsFrame, block_view, stream_with}
-use Rattle.claxon_metadata.specs.declared.metadata.StreamInfo.{StreamInfo}
+use Rattle.claxon.specs.Frame.{StreamShape, Block}
+use Rattle.claxon.specs.read.Frame.{frame_bytes_at}
+use Rattle.claxon.specs.Reading.{Reading}
+use Rattle.claxon.specs.Errors.{Error}
+use Rattle.claxon.specs.Errors.TheVariants.{IoError, FormatError, Unsupported, OutOfMemory}
+use Rattle.claxon.specs.Gives.{Fails, Stops, Stuck, Went, Ended, GivesOrEndsOrStarves}
+use Rattle.claxon.specs.Error.{IsIo}
+use Rattle.claxon.specs.State.{State, bytes_in}
+use Rattle.claxon.specs.Promises.{Comes, NoneIsEnd}
+use Rattle.claxon.specs.Block.{BlockValue}
+use Rattle.claxon.specs.FrameReader.{ReadsFrame, block_view, stream_with}
+use Rattle.claxon.specs.StreamInfos.{StreamInfo}
 use Rattle.claxon.specs.SampleRuns.{TakesFrames, ReadsFrames, samples_of}
 use Rattle.claxon_write.specs.Decoded.{EndsAfter, Gathers, Decodes, FailsToFlushAll, FailsToWrite, StopsDecoding, TakesBlocks, last_bytes}
 use Rattle.claxon_write.specs.SampleBytes.{bytes_of_samples}

@@ -2,14 +2,14 @@
 use Rattle.std.proofs.Common.{◌≡◌, ◌⊎◌, inl, inr, ℕ, ◌+◌, ◌<◌, ◌≤◌, ◌^◌, true, List, [], ◌∷◌, ◌++◌, length, Option, None, Some, sym, ap, subst, ◌∙◌, arith, length-append}
 use Rattle.std.proofs.lemmas.Grind.{flat_map-append}
 use Rattle.std.specs.Prelude.{IfErr, IfOk, IsErrAnd, Result, Ok, Err}
-use Rattle.claxon_format.specs.Fault.{Fault}
-use Rattle.claxon_format.specs.Frame.{Block, FrameBytesFault, Frames, IsComplete, IsWidth, StreamShape, known_width}
-use Rattle.claxon_format.specs.Streams.{interleave}
-use Rattle.claxon_input.specs.declared.error.Error.{Error}
-use Rattle.claxon_input.specs.declared.error.Error.TheVariants.{OutOfMemory}
-use Rattle.claxon_input.specs.Error.{IsFault}
-use Rattle.claxon_input.specs.Promises.{Comes, IsExcused}
-use Rattle.claxon_input.specs.State.{State}
+use Rattle.claxon.specs.Fault.{Fault}
+use Rattle.claxon.specs.Frame.{Block, FrameBytesFault, Frames, IsComplete, IsWidth, StreamShape, known_width}
+use Rattle.claxon.specs.Streams.{interleave}
+use Rattle.claxon.specs.Errors.{Error}
+use Rattle.claxon.specs.Errors.TheVariants.{OutOfMemory}
+use Rattle.claxon.specs.Error.{IsFault}
+use Rattle.claxon.specs.Promises.{Comes, IsExcused}
+use Rattle.claxon.specs.State.{State}
 use Rattle.claxon.specs.SampleRuns.{samples_of}
 use Rattle.claxon.proofs.SampleRuns.{behind, excused_after, fault_complete, frames_left, short_complete}
 use Rattle.claxon_write.specs.Decoded.{Decodes, EndsAfter, FailsToFlushAll, FailsToWrite, StopsDecoding, TooMany, WriteHasFailed, WriterHasFailed}

@@ -1,12 +1,12 @@
 -- Streams that are decoded into an `Output`.
 use Rattle.std.specs.Prelude.{◌≡◌, ◌≤◌, ◌⊎◌, ℕ, ◌+◌, ◌^◌, List, [], ◌∷◌, ◌++◌, length, codes, Option, None, Some, IsErrAnd, Result, Ok, Err}
 use Rattle.std.specs.Io.KnownBytes.{Appends}
-use Rattle.claxon_format.specs.Frame.{StreamShape, Block}
-use Rattle.claxon_format.specs.Streams.{interleave}
-use Rattle.claxon_input.specs.Error.{IsIo}
-use Rattle.claxon_input.specs.State.{State}
-use Rattle.claxon_input.specs.declared.error.Error.{Error}
-use Rattle.claxon_input.specs.declared.error.Error.TheVariants.{Unsupported}
+use Rattle.claxon.specs.Frame.{StreamShape, Block}
+use Rattle.claxon.specs.Streams.{interleave}
+use Rattle.claxon.specs.Error.{IsIo}
+use Rattle.claxon.specs.State.{State}
+use Rattle.claxon.specs.Errors.{Error}
+use Rattle.claxon.specs.Errors.TheVariants.{Unsupported}
 use Rattle.claxon.specs.SampleRuns.{ReadsFrames, TakesFrames, samples_of}
 use Rattle.claxon_write.specs.SampleBytes.{bytes_of_samples}
 use Rattle.claxon_write.specs.Written.{AppendsAllBut, FlushFailed, IsFlushed, IsUnflushed, NothingFailed, Puts, WriteFailed, capacity, held, held_and_waiting, waiting}

@@ -1,9 +1,9 @@
 -- What calls of an `Output` promise.
 use Rattle.std.specs.Prelude.{ℕ, ◌<◌, ◌≤◌, ◌⊎◌, List, [], length, take, Option, Result, IfErr, IfOk, OnErr, OnOk}
 use Rattle.std.specs.Io.KnownBytes.{Appends}
-use Rattle.claxon_format.specs.Streams.{interleave}
-use Rattle.claxon_frame.specs.Block.{BlockValue}
-use Rattle.claxon_input.specs.declared.error.Error.{Error}
+use Rattle.claxon.specs.Streams.{interleave}
+use Rattle.claxon.specs.Block.{BlockValue}
+use Rattle.claxon.specs.Errors.{Error}
 use Rattle.claxon_write.specs.SampleBytes.{bytes_of_samples}
 use Rattle.claxon_write.specs.Written.{AppendsFront, FailsToFlush, FailsToPut, IsFlushed, IsUnflushed, Puts}
 use Rattle.claxon_write.specs.declared.output.Counted.{Counted}

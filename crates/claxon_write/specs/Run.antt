@@ -1,15 +1,15 @@
 -- What `run` promises, from what was to come and what the writer held to what it holds.
 use Rattle.std.specs.Prelude.{◌≡◌, ◌⊎◌, ◌<◌, ◌≤◌, ℕ, ◌^◌, true, List, [], ◌∷◌, ◌++◌, length, Option, Some, Result, Ok, IfErr, IfOk, IsErrAnd}
 use Rattle.std.specs.Io.KnownBytes.{Appends}
-use Rattle.claxon_format.specs.Fault.{Fault}
-use Rattle.claxon_format.specs.Frame.{Block, Frame, FrameBytesFault, Frames}
-use Rattle.claxon_format.specs.Heads.{Head, HeadCode, HeadFault}
-use Rattle.claxon_format.specs.Streams.{stream_of, with_samples}
-use Rattle.claxon_input.specs.State.{State}
-use Rattle.claxon_input.specs.Error.{IsFault, IsIo}
-use Rattle.claxon_input.specs.Promises.{Comes}
-use Rattle.claxon_input.specs.declared.error.Error.{Error}
-use Rattle.claxon_input.specs.declared.error.Error.TheVariants.{OutOfMemory}
+use Rattle.claxon.specs.Fault.{Fault}
+use Rattle.claxon.specs.Frame.{Block, Frame, FrameBytesFault, Frames}
+use Rattle.claxon.specs.Heads.{Head, HeadCode, HeadFault}
+use Rattle.claxon.specs.Streams.{stream_of, with_samples}
+use Rattle.claxon.specs.State.{State}
+use Rattle.claxon.specs.Error.{IsFault, IsIo}
+use Rattle.claxon.specs.Promises.{Comes}
+use Rattle.claxon.specs.Errors.{Error}
+use Rattle.claxon.specs.Errors.TheVariants.{OutOfMemory}
 use Rattle.claxon.specs.Opening.{IsDropped}
 use Rattle.claxon.specs.SampleRuns.{samples_of}
 use Rattle.claxon_write.specs.Decoded.{IsLimit}

@@ -2,7 +2,7 @@
 use Rattle.std.specs.Prelude.{◌≡◌, ℕ, ◌+◌, ◌-◌, ◌*◌, ◌<◌, ℤ, pos, List, ◌++◌, length, take, drop, get_or}
 use Rattle.std.specs.Int.{cast_unsigned, to_le_bytes, w32}
 use Rattle.std.specs.List.{flat_map, range_with_len}
-use Rattle.claxon_format.specs.Streams.{samples_at}
+use Rattle.claxon.specs.Streams.{samples_at}
 
 -- a sample in two's complement, in four bytes, the least significant first
 unfoldable pub sample_bytes : ℤ → List ℕ

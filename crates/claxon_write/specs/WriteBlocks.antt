@@ -1,11 +1,11 @@
 -- What the calls below `write_samples` promise, by the streaminfo or the reader of frames.
 use Rattle.std.specs.Prelude.{ℕ, List, Option, Some, Result, IfOk, IfErr}
-use Rattle.claxon_frame.specs.FrameReader.{frame_bytes, frame_stream, stream_with}
-use Rattle.claxon_frame.specs.declared.frame.FrameReader.{FrameReader}
-use Rattle.claxon_input.specs.Source.{Source}
-use Rattle.claxon_input.specs.State.{bytes_in}
-use Rattle.claxon_input.specs.declared.error.Error.{Error}
-use Rattle.claxon_metadata.specs.declared.metadata.StreamInfo.{StreamInfo}
+use Rattle.claxon.specs.FrameReader.{frame_bytes, frame_stream, stream_with}
+use Rattle.claxon.specs.FrameReaders.{FrameReader}
+use Rattle.claxon.specs.Source.{Source}
+use Rattle.claxon.specs.State.{bytes_in}
+use Rattle.claxon.specs.Errors.{Error}
+use Rattle.claxon.specs.StreamInfos.{StreamInfo}
 use Rattle.claxon_write.specs.Decoded.{Decodes, FailsToWrite, Gathers}
 use Rattle.claxon_write.specs.Written.{NothingFailed}
 use Rattle.claxon_write.specs.declared.output.Output.{Output}

@@ -1,12 +1,12 @@
 -- What `write_samples` promises, from what is to come and what the writer held to both after it.
 use Rattle.std.specs.Prelude.{◌≡◌, ◌⊎◌, ℕ, ◌<◌, ◌^◌, true, List, ◌++◌, length, Option, None, Some, Result, Ok, IfOk, IfErr, IsErrAnd}
-use Rattle.claxon_format.specs.Fault.{Fault}
-use Rattle.claxon_format.specs.Frame.{Block, FrameBytesFault, Frames}
-use Rattle.claxon_frame.specs.FrameReader.{stream_with}
-use Rattle.claxon_input.specs.declared.error.Error.{Error}
-use Rattle.claxon_input.specs.Error.{IsFault}
-use Rattle.claxon_input.specs.Gives.{IsRest}
-use Rattle.claxon_input.specs.Promises.{Comes, IsExcused}
+use Rattle.claxon.specs.Fault.{Fault}
+use Rattle.claxon.specs.Frame.{Block, FrameBytesFault, Frames}
+use Rattle.claxon.specs.FrameReader.{stream_with}
+use Rattle.claxon.specs.Errors.{Error}
+use Rattle.claxon.specs.Error.{IsFault}
+use Rattle.claxon.specs.Gives.{IsRest}
+use Rattle.claxon.specs.Promises.{Comes, IsExcused}
 use Rattle.claxon.specs.FlacReader.{flac_head, flac_metadata_only, flac_streaminfo}
 use Rattle.claxon.specs.Opening.{flac_bytes}
 use Rattle.claxon.specs.SampleRuns.{samples_of}

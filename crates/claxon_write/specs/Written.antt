@@ -1,8 +1,8 @@
 -- What an `Output` wrote, and what waits in it.
 use Rattle.std.specs.Prelude.{◌≡◌, ◌≤◌, ℕ, ◌+◌, ◌%◌, ◌^◌, Bool, true, List, [], ◌++◌, length, take, Option}
 use Rattle.std.specs.Io.KnownBytes.{Appends, append_known}
-use Rattle.claxon_input.specs.Error.{IsIo}
-use Rattle.claxon_input.specs.declared.error.Error.{Error}
+use Rattle.claxon.specs.Error.{IsIo}
+use Rattle.claxon.specs.Errors.{Error}
 use Rattle.claxon_write.specs.declared.output.Gathered.{Gathered}
 use Rattle.claxon_write.specs.declared.output.Output.{Output}
 

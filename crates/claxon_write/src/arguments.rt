@@ -1,6 +1,6 @@
 //! The arguments of a program.
 ghost use Rattle.std.specs.Prelude.{◌≡◌, IfErr};
-ghost use Rattle.claxon_input.specs.declared.error.Error.TheVariants.{OutOfMemory};
+ghost use Rattle.claxon.specs.Errors.TheVariants.{OutOfMemory};
 
 use claxon::{Error, Result};
 use std::alloc::Alloc;

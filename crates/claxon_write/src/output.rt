@@ -1,8 +1,8 @@
 //! Bytes on their way to a writer.
 ghost use Rattle.std.specs.Prelude.{◌≡◌, ◌≤◌, ◌<◌, ◌+◌, ◌*◌, ◌-◌, ◌%◌, ◌^◌, ◌++◌, IfErr, OnOk, OnErr, [], false, length, take, true};
 ghost use Rattle.std.specs.Io.KnownBytes.{Appends, Keeps};
-ghost use Rattle.claxon_input.specs.Error.{IsIo};
-ghost use Rattle.claxon_frame.specs.Block.{duration_of};
+ghost use Rattle.claxon.specs.Error.{IsIo};
+ghost use Rattle.claxon.specs.Block.{duration_of};
 ghost use Rattle.claxon_write.specs.SampleBytes.{bytes_between};
 
 use crate::bytes::{put_channel, put_mono, put_stereo};

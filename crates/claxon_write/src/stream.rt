@@ -1,8 +1,8 @@
 //! The samples of a stream, written as bytes.
 ghost use Rattle.std.specs.Prelude.{◌≡◌, ◌≤◌, false, Some};
-ghost use Rattle.claxon_format.specs.Frame.{IsWidth};
+ghost use Rattle.claxon.specs.Frame.{IsWidth};
 ghost use Rattle.claxon.specs.FlacReader.{flac_metadata_only, flac_streaminfo};
-ghost use Rattle.claxon_frame.specs.FrameReader.{frame_bytes};
+ghost use Rattle.claxon.specs.FrameReader.{frame_bytes};
 ghost use Rattle.claxon.specs.Opening.{unread};
 ghost use Rattle.claxon_write.specs.Lent.{output_name};
 ghost use Rattle.claxon_write.specs.Run.{RunFaultIsComplete, RunIsComplete, RunStops, RunPutsFront, RunsToTheEnd};

@@ -1,6 +1,6 @@
 //! Why there is no whole WAV file.
 ghost use Rattle.std.specs.Prelude.{◌≡◌};
-ghost use Rattle.claxon_input.specs.declared.error.Error.TheVariants.{IoError, OutOfMemory};
+ghost use Rattle.claxon.specs.Errors.TheVariants.{IoError, OutOfMemory};
 ghost use Rattle.claxon_tools.specs.declared.wav.error.Error.TheVariants.{Claxon};
 
 use std::alloc::AllocError;

@@ -1,8 +1,8 @@
 //! A WAV file that is being written.
 ghost use Rattle.std.specs.Prelude.{◌≡◌, ◌≤◌, All, IfErr, OnOk};
 ghost use Rattle.std.specs.Io.KnownBytes.{Appends};
-ghost use Rattle.claxon_format.specs.Bits.{FitsIn};
-ghost use Rattle.claxon_format.specs.Streams.{interleave};
+ghost use Rattle.claxon.specs.Bits.{FitsIn};
+ghost use Rattle.claxon.specs.Streams.{interleave};
 ghost use Rattle.claxon_tools.specs.WaveFile.{pad};
 
 use crate::wav::error::{Error, Result};

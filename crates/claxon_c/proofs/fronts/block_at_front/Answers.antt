@@ -1,6 +1,6 @@
 use Rattle.std.proofs.Common.{refl, rules}
 use Rattle.std.specs.Option.{option_map}
-use Rattle.claxon_frame.specs.FrameReader.{frame_input, stream_with}
+use Rattle.claxon.specs.FrameReader.{frame_input, stream_with}
 use Rattle.claxon.proofs.SamplesInTurn.{reads_frame}
 use Rattle.claxon.proofs.FramesInMemory.{frame_in_memory, known_as, slice_bytes, slice_comes, slice_never_fails}
 use Rattle.claxon_c.proofs.AtFront.{frame_at_front}

@@ -1,8 +1,8 @@
 use Rattle.std.proofs.Common.{inl, inr, refl, Global, subst, rules, ◌≡◌}
 use Rattle.std.specs.Prelude.{Option}
-use Rattle.claxon_format.specs.Heads.{Head}
-use Rattle.claxon_metadata.specs.declared.metadata.StreamInfo.{StreamInfo}
-use Rattle.claxon_metadata.specs.declared.metadata.VorbisComment.{VorbisComment}
+use Rattle.claxon.specs.Heads.{Head}
+use Rattle.claxon.specs.StreamInfos.{StreamInfo}
+use Rattle.claxon.specs.VorbisComments.{VorbisComment}
 use Rattle.claxon.specs.ReadHead.{head_view}
 use Rattle.claxon_c.specs.HeadCalls.{ShowsHead}
 use Rattle.claxon_c.proofs.HeadCalls.{head_at_first_frame, head_fault, head_io, head_is_there, head_memory, head_named, head_starves, no_head_fault, same_head, shows_head}

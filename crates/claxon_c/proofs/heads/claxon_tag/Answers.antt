@@ -1,8 +1,8 @@
 use Rattle.std.proofs.Common.{inl, inr, Global, rules, subst}
 use Rattle.std.specs.Prelude.{Option, slice_get}
-use Rattle.claxon_metadata.specs.declared.metadata.StreamInfo.{StreamInfo}
-use Rattle.claxon_metadata.specs.declared.metadata.VorbisComment.{VorbisComment}
-use Rattle.claxon_format.specs.Heads.{Head}
+use Rattle.claxon.specs.StreamInfos.{StreamInfo}
+use Rattle.claxon.specs.VorbisComments.{VorbisComment}
+use Rattle.claxon.specs.Heads.{Head}
 use Rattle.claxon.specs.ReadHead.{head_view}
 use Rattle.claxon_c.specs.HeadCalls.{AnswersText, texts_of}
 use Rattle.claxon_c.proofs.HeadCalls.{head_begins, head_fault, head_io, head_is_there, head_memory, head_named, head_starves, no_head_fault, same_head, text_no_error}

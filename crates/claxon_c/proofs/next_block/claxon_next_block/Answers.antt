@@ -1,8 +1,8 @@
 use Rattle.std.proofs.Common.{◌≡◌, ◌<◌, ◌≤◌, ◌*◌, ◌-◌, take, drop, inl, refl, length, min, rules, None, Some, subst}
 use Rattle.std.specs.Prelude.{Ok}
 use Rattle.std.specs.Option.{option_map}
-use Rattle.claxon_format.specs.Streams.{duration}
-use Rattle.claxon_frame.specs.FrameReader.{FrameAnswer, stream_with}
+use Rattle.claxon.specs.Streams.{duration}
+use Rattle.claxon.specs.FrameReader.{FrameAnswer, stream_with}
 use Rattle.claxon_c.specs.AtFront.{FrameAtFront}
 use Rattle.claxon_c.specs.Info.{known_stream}
 use Rattle.claxon_c.proofs.BlockCalls.{at_place, next_block, next_error, next_none, next_short}

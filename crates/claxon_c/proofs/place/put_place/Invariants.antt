@@ -1,5 +1,5 @@
 use Rattle.std.proofs.Common.{◌≡◌, take}
-use Rattle.claxon_format.specs.Streams.{samples_at}
+use Rattle.claxon.specs.Streams.{samples_at}
 use Rattle.claxon_c.proofs.place.put_place.Given as goal
 
 abbrev pub invariant-loop-ch : goal.invariant-loop-ch

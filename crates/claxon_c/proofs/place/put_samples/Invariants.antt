@@ -1,6 +1,6 @@
 use Rattle.std.proofs.Common.{◌≡◌, ◌*◌, ◌++◌, drop}
 use Rattle.std.specs.List.{flat_map, range_with_len}
-use Rattle.claxon_format.specs.Streams.{samples_at}
+use Rattle.claxon.specs.Streams.{samples_at}
 use Rattle.claxon_c.proofs.place.put_samples.Given as goal
 
 abbrev pub invariant-loop-place : goal.invariant-loop-place

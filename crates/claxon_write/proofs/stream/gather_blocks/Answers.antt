@@ -1,7 +1,7 @@
 use Rattle.std.proofs.Common.{◌≤◌, ◌+◌, ◌^◌, Ok, Option, refl, ap, ◌∙◌, arith, rules}
 use Rattle.std.proofs.lemmas.Result.{err_from_is_err_and}
-use Rattle.claxon_frame.specs.Block.{BlockValue}
-use Rattle.claxon_frame.specs.FrameReader.{frame_bytes}
+use Rattle.claxon.specs.Block.{BlockValue}
+use Rattle.claxon.specs.FrameReader.{frame_bytes}
 use Rattle.claxon.proofs.SamplesInTurn.{reads_frame}
 use Rattle.claxon_write.proofs.Gathering.{reads_with, reads_loans, gathered_none, gathered_as, gathered_more, gathered_end, gathered_fault, gathered_limit, gathered_fails}
 use Rattle.claxon_write.proofs.stream.gather_blocks.Goals as goal

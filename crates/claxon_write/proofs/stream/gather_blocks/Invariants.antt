@@ -1,5 +1,5 @@
 use Rattle.std.proofs.Common.{◌≡◌, ◌-◌, ◌^◌}
-use Rattle.claxon_frame.specs.FrameReader.{frame_bytes, frame_stream}
+use Rattle.claxon.specs.FrameReader.{frame_bytes, frame_stream}
 use Rattle.claxon_write.specs.Lent.{output_name}
 use Rattle.claxon_write.specs.Written.{IsUnflushed}
 use Rattle.claxon_write.proofs.Gathering.{GatheredSoFar}

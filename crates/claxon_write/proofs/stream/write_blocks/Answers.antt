@@ -1,6 +1,6 @@
 use Rattle.std.proofs.Common.{rules, sym, ◌∙◌}
 use Rattle.std.proofs.lemmas.Result.{err_from_is_err_and}
-use Rattle.claxon_frame.specs.FrameReader.{frame_input}
+use Rattle.claxon.specs.FrameReader.{frame_input}
 use Rattle.claxon_write.proofs.Unlent.{same_name, fails_through, written_through}
 use Rattle.claxon_write.proofs.stream.write_blocks.Goals as goal
 

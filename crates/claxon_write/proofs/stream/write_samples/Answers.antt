@@ -1,9 +1,9 @@
 use Rattle.std.proofs.Common.{refl, subst, sym}
 use Rattle.std.specs.Prelude.{List, ℕ, Some, ◌++◌}
 use Rattle.claxon.specs.FlacReader.{flac_streaminfo}
-use Rattle.claxon_frame.specs.FrameReader.{stream_with}
-use Rattle.claxon_format.specs.Frame.{Frames}
-use Rattle.claxon_input.specs.State.{bytes_in}
+use Rattle.claxon.specs.FrameReader.{stream_with}
+use Rattle.claxon.specs.Frame.{Frames}
+use Rattle.claxon.specs.State.{bytes_in}
 use Rattle.claxon.specs.Opening.{flac_bytes}
 use Rattle.claxon_write.proofs.Rests.{answer_leaves}
 use Rattle.claxon_write.proofs.WholeRuns.{named_behind, written_whole}

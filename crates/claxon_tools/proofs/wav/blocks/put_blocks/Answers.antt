@@ -1,7 +1,7 @@
 use Rattle.std.proofs.Common.{◌∙◌, Ok, Option, ap, arith, refl, subst}
 use Rattle.std.proofs.lemmas.Result.{err_from_is_err_and}
-use Rattle.claxon_frame.specs.Block.{BlockValue}
-use Rattle.claxon_frame.specs.FrameReader.{BlockHasSamples, FrameAnswer, frame_bytes}
+use Rattle.claxon.specs.Block.{BlockValue}
+use Rattle.claxon.specs.FrameReader.{BlockHasSamples, FrameAnswer, frame_bytes}
 use Rattle.claxon_tools.proofs.Converting.{block_takes, end_met, fault_taken, frame_taken, put_all, put_more, put_none, stops_at_block, stops_at_fault}
 use Rattle.claxon_tools.proofs.wav.blocks.put_blocks.Goals as goal
 

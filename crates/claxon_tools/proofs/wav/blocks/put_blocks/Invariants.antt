@@ -1,5 +1,5 @@
 use Rattle.std.proofs.Common.{◌≡◌, ◌-◌}
-use Rattle.claxon_frame.specs.FrameReader.{frame_bytes, frame_stream}
+use Rattle.claxon.specs.FrameReader.{frame_bytes, frame_stream}
 use Rattle.claxon_tools.proofs.Converting.{PutSoFar}
 use Rattle.claxon_tools.proofs.wav.blocks.put_blocks.Given as goal
 

@@ -3,7 +3,7 @@ use Rattle.std.specs.Prelude.{All}
 use Rattle.std.proofs.lemmas.Int.{to_z-of_z}
 use Rattle.std.proofs.lemmas.List.{take_all}
 use mir.Val.{SFits}
-use Rattle.claxon_format.specs.Bits.{FitsIn}
+use Rattle.claxon.specs.Bits.{FitsIn}
 use Rattle.claxon_tools.proofs.Widths.{next_fits, next_misfits}
 use Rattle.claxon_tools.proofs.wav.samples.have_width.Goals as goal
 

@@ -1,6 +1,6 @@
 use Rattle.std.proofs.Common.{◌≡◌, take, true, false}
 use Rattle.std.specs.Prelude.{All}
-use Rattle.claxon_format.specs.Bits.{FitsIn}
+use Rattle.claxon.specs.Bits.{FitsIn}
 use Rattle.claxon_tools.proofs.wav.samples.have_width.Given as goal
 
 abbrev pub invariant-loop-i : goal.invariant-loop-i

@@ -1,5 +1,5 @@
 use Rattle.std.proofs.Common.{◌≡◌, ◌*◌, ◌∙◌, ℕ, sym, ap, take, arith}
-use Rattle.claxon_frame.specs.Block.{duration_of}
+use Rattle.claxon.specs.Block.{duration_of}
 use Rattle.claxon_write.proofs.SampleBytes.{places_none}
 use Rattle.claxon_tools.proofs.Interleaved.{all_places, before_place, mono, places_next, stereo}
 use Rattle.claxon_tools.proofs.wav.samples.interleave.Goals as goal

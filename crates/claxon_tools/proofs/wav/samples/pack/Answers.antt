@@ -3,8 +3,8 @@ use Rattle.std.specs.Prelude.{All}
 use Rattle.std.proofs.lemmas.Grind.{common_steps}
 use Rattle.std.proofs.lemmas.List.{take_at}
 use Rattle.std.proofs.lemmas.Result.{err_from_is_err_and}
-use Rattle.claxon_format.specs.Bits.{FitsIn}
-use Rattle.claxon_format.specs.Streams.{interleave}
+use Rattle.claxon.specs.Bits.{FitsIn}
+use Rattle.claxon.specs.Streams.{interleave}
 use Rattle.claxon_tools.proofs.wav.samples.pack.Goals as goal
 
 pub returns-in_err-resize-clause-wide : goal.returns-in_err-resize-clause-wide
