@@ -84,11 +84,11 @@ pub fn read_head<R: ReadBytes, A: Allocator + Copy>(
     ensures front { HeadLeavesRest R.source input.old result input.new }
     ensures gives { HeadIsRead R.source options input.old result input.new }
 {
-    read_shown(alloc, input, options)
+    read_head_exact(alloc, input, options)
 }
 
 // A head, and what is shown of it.
-fn read_shown<R: ReadBytes, A: Allocator + Copy>(
+fn read_head_exact<R: ReadBytes, A: Allocator + Copy>(
     alloc: A,
     input: &mut R,
     options: FlacReaderOptions,

@@ -112,7 +112,7 @@ impl<R: ReadBytes> FrameReader<R> {
         ensures kept_capacity { BlockKeepsCapacity (vec_capacity buffer) result }
         ensures gives { FrameIsRead R.source self.old result self.new }
     {
-        read_next(&mut self.input, self.stream, buffer)
+        read_next_or_eof_exact(&mut self.input, self.stream, buffer)
     }
 
     /// The wrapped reader.
@@ -126,7 +126,7 @@ impl<R: ReadBytes> FrameReader<R> {
 
 // Reads a frame, or meets the end. The remainder is made here and read through by `read_frame_or_eof`, over a reference: where
 // two wrappers are made in one function the prover loses the shape of the inner one.
-fn read_next<R: ReadBytes, A: Allocator>(
+fn read_next_or_eof_exact<R: ReadBytes, A: Allocator>(
     input: &mut R,
     stream: Option<KnownStream>,
     buffer: Vec<i32, A>,

@@ -149,7 +149,7 @@ pub fn read_metadata_block_and_flag<R: ReadBytes, A: Allocator + Copy>(
     ensures within { AtMostBlockIsTaken R.source input.old input.new }
 {
     let header = read_metadata_block_header(input)?;
-    let block = read_content(alloc, input, header.block_type, header.length)?;
+    let block = read_metadata_block_exact(alloc, input, header.block_type, header.length)?;
     Ok((header.is_last, block))
 }
 
@@ -176,12 +176,12 @@ pub fn read_metadata_block_with_header<R: ReadBytes, A: Allocator + Copy>(
     ensures gives { BlockIsRead R.source input.old result input.new }
     ensures within { AtMostBlockIsTaken R.source input.old input.new }
 {
-    read_unflagged_block(alloc, input)
+    read_metadata_block_with_header_exact(alloc, input)
 }
 
 // A block without its last flag.
 #[tactic(auto, unfolding(crate::specs::MetadataBlock::content_at))]
-fn read_unflagged_block<R: ReadBytes, A: Allocator + Copy>(
+fn read_metadata_block_with_header_exact<R: ReadBytes, A: Allocator + Copy>(
     alloc: A,
     input: &mut R,
 ) -> Result<MetadataBlock<A>>
@@ -221,11 +221,11 @@ pub fn read_metadata_block<R: ReadBytes, A: Allocator + Copy>(
     ensures gives { ContentIsRead R.source block_type length input.old result input.new }
     ensures within { AtMostIsTaken R.source length input.old input.new }
 {
-    read_content(alloc, input, block_type, length)
+    read_metadata_block_exact(alloc, input, block_type, length)
 }
 
 // What a block of this type and length holds.
-fn read_content<R: ReadBytes, A: Allocator + Copy>(
+fn read_metadata_block_exact<R: ReadBytes, A: Allocator + Copy>(
     alloc: A,
     input: &mut R,
     block_type: u8,

@@ -135,15 +135,11 @@ pub fn decode<R: ReadBytes>(input: &mut Bitstream<R>, bps: u32, buffer: &mut [i3
     ensures no_memory { WantsNoMemory result }
     ensures loans { IsReachedAsBefore R.source input.old input.new }
 {
-    decode_channel(input, bps, buffer)
+    decode_exact(input, bps, buffer)
 }
 
 #[tactic(auto, unfolding(claxon_format::specs::read::Subframe::subframe_at, claxon_format::specs::Fault::fault_text))]
-fn decode_channel<R: ReadBytes>(
-    input: &mut Bitstream<R>,
-    bps: u32,
-    buffer: &mut [i32],
-) -> Result<()>
+fn decode_exact<R: ReadBytes>(input: &mut Bitstream<R>, bps: u32, buffer: &mut [i32]) -> Result<()>
     requires width { bps ≤ 32 }
     requires block { length buffer.old < 65536 }
     ensures { Gives (λ x. buffer.new) result (subframe_at bps (length buffer.old)) (bits_in R.source input.old) (bits_in R.source input.new) }

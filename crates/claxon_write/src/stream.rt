@@ -76,12 +76,12 @@ pub fn write_samples<R: Read + Drop, W: Write, A: Allocator + Copy>(
     ensures complete { EachStreamIsWritten R.remaining result flac.old flac.new output.old output.new }
     ensures named { EachStreamFaultIsNamed R.remaining result flac.old flac.new output.old output.new }
 {
-    decode_and_flush(alloc, flac, output)
+    write_samples_exact(alloc, flac, output)
 }
 
 // Writes all samples, and then flushes, after a decoder's fault too, so that what stands before it isn't held back. That fault came
 // first, so a flush that fails then changes nothing.
-fn decode_and_flush<R: Read + Drop, W: Write, A: Allocator + Copy>(
+fn write_samples_exact<R: Read + Drop, W: Write, A: Allocator + Copy>(
     alloc: A,
     flac: &mut FlacReader<R, A>,
     output: &mut Output<'_, W>,

@@ -4,19 +4,19 @@ use Rattle.claxon_metadata.specs.MetadataBlock.{content_view}
 use Rattle.claxon_metadata.proofs.metadata.read_metadata_block.Goals as goal
 
 pub returns-clause-sound : goal.returns-clause-sound
-returns-clause-sound g c = (promises (Reads-body c.args.block_type c.args.length) content_view c.read_content.result _ _ c.read_content.ensures.gives).sound
+returns-clause-sound g c = (promises (Reads-body c.args.block_type c.args.length) content_view c.read_metadata_block_exact.result _ _ c.read_metadata_block_exact.ensures.gives).sound
 
 pub returns-clause-complete : goal.returns-clause-complete
-returns-clause-complete g c = (promises (Reads-body c.args.block_type c.args.length) content_view c.read_content.result _ _ c.read_content.ensures.gives).complete
+returns-clause-complete g c = (promises (Reads-body c.args.block_type c.args.length) content_view c.read_metadata_block_exact.result _ _ c.read_metadata_block_exact.ensures.gives).complete
 
 pub returns-clause-fault : goal.returns-clause-fault
-returns-clause-fault g c = (promises (Reads-body c.args.block_type c.args.length) content_view c.read_content.result _ _ c.read_content.ensures.gives).fault
+returns-clause-fault g c = (promises (Reads-body c.args.block_type c.args.length) content_view c.read_metadata_block_exact.result _ _ c.read_metadata_block_exact.ensures.gives).fault
 
 pub returns-clause-named : goal.returns-clause-named
-returns-clause-named g c = (promises (Reads-body c.args.block_type c.args.length) content_view c.read_content.result _ _ c.read_content.ensures.gives).named
+returns-clause-named g c = (promises (Reads-body c.args.block_type c.args.length) content_view c.read_metadata_block_exact.result _ _ c.read_metadata_block_exact.ensures.gives).named
 
 pub returns-clause-io : goal.returns-clause-io
-returns-clause-io g c = (promises (Reads-body c.args.block_type c.args.length) content_view c.read_content.result _ _ c.read_content.ensures.gives).io
+returns-clause-io g c = (promises (Reads-body c.args.block_type c.args.length) content_view c.read_metadata_block_exact.result _ _ c.read_metadata_block_exact.ensures.gives).io
 
 pub returns-clause-front : goal.returns-clause-front
-returns-clause-front g c = (promises (Reads-body c.args.block_type c.args.length) content_view c.read_content.result _ _ c.read_content.ensures.gives).front
+returns-clause-front g c = (promises (Reads-body c.args.block_type c.args.length) content_view c.read_metadata_block_exact.result _ _ c.read_metadata_block_exact.ensures.gives).front

@@ -20,8 +20,8 @@ pub returns : goal.returns
 unfolding bits_in
 returns g c =
     let few = c.requires.width in
-    let gives = c.decode_channel.ensures in
-    let p = promised (λ x. c.decode_channel.new.buffer) c.decode_channel.result c.args.bps (length c.args.buffer.now) _ _ few gives in
+    let gives = c.decode_exact.ensures in
+    let p = promised (λ x. c.decode_exact.new.buffer) c.decode_exact.result c.args.bps (length c.args.buffer.now) _ _ few gives in
     record {
       sound = p.sound;
       complete = p.complete;
@@ -31,6 +31,6 @@ returns g c =
       io = p.io;
       front = p.front;
       gives = gives;
-      no_memory = gives_no_memory (λ x. c.decode_channel.new.buffer) c.decode_channel.result _ _ _ gives;
-      loans = gives_loans (λ x. c.decode_channel.new.buffer) c.decode_channel.result _ _ _ gives;
+      no_memory = gives_no_memory (λ x. c.decode_exact.new.buffer) c.decode_exact.result _ _ _ gives;
+      loans = gives_loans (λ x. c.decode_exact.new.buffer) c.decode_exact.result _ _ _ gives;
     }

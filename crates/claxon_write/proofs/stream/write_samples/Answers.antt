@@ -11,17 +11,17 @@ use Rattle.claxon_write.proofs.stream.write_samples.Goals as goal
 
 pub returns-clause-complete : goal.returns-clause-complete
 returns-clause-complete g c blocks s rest comes frames short few =
-    let e = c.decode_and_flush.ensures in
-    written_whole _ e.width _ _ _ _ _ blocks rest comes.told (subst (λ (z : List ℕ). Frames (Some (stream_with (flac_streaminfo c.args.flac.now))) z blocks rest) (sym comes.are) frames) few c.decode_and_flush.result e.ok e.err short
+    let e = c.write_samples_exact.ensures in
+    written_whole _ e.width _ _ _ _ _ blocks rest comes.told (subst (λ (z : List ℕ). Frames (Some (stream_with (flac_streaminfo c.args.flac.now))) z blocks rest) (sym comes.are) frames) few c.write_samples_exact.result e.ok e.err short
 
 pub returns-clause-named : goal.returns-clause-named
 returns-clause-named g c blocks s t rest f comes frames bad few =
-    let e = c.decode_and_flush.ensures in
-    named_behind _ e.width _ _ _ _ _ blocks _ comes.told (subst (λ (z : List ℕ). Frames (Some (stream_with (flac_streaminfo c.args.flac.now))) z blocks (t ++ rest)) (sym comes.are) frames) few c.decode_and_flush.result e.ok e.err f t rest bad refl
+    let e = c.write_samples_exact.ensures in
+    named_behind _ e.width _ _ _ _ _ blocks _ comes.told (subst (λ (z : List ℕ). Frames (Some (stream_with (flac_streaminfo c.args.flac.now))) z blocks (t ++ rest)) (sym comes.are) frames) few c.write_samples_exact.result e.ok e.err f t rest bad refl
 
 pub returns-clause-rest : goal.returns-clause-rest
 unfolding bytes_in
 returns-clause-rest g c =
-    let e = c.decode_and_flush.ensures in
-    answer_leaves g.W.Write.contents (Some (stream_with (flac_streaminfo c.args.flac.now))) c.decode_and_flush.result (flac_bytes g.R.Read.remaining c.args.flac.now) (flac_bytes g.R.Read.remaining c.decode_and_flush.new.flac) c.args.output.now
-    c.decode_and_flush.new.output e.ok e.err
+    let e = c.write_samples_exact.ensures in
+    answer_leaves g.W.Write.contents (Some (stream_with (flac_streaminfo c.args.flac.now))) c.write_samples_exact.result (flac_bytes g.R.Read.remaining c.args.flac.now) (flac_bytes g.R.Read.remaining c.write_samples_exact.new.flac) c.args.output.now
+    c.write_samples_exact.new.output e.ok e.err

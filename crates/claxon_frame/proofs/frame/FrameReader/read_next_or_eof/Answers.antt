@@ -7,12 +7,12 @@ use Rattle.claxon_frame.proofs.frame.FrameReader.read_next_or_eof.Goals as goal
 
 pub returns-clause-sound : goal.returns-clause-sound
 returns-clause-sound g c =
-    let e = (frame_promises block_view _ (shape_width c.args.self.now.stream) c.read_next.result _ _ c.read_next.ensures.gives).sound in
+    let e = (frame_promises block_view _ (shape_width c.args.self.now.stream) c.read_next_or_eof_exact.result _ _ c.read_next_or_eof_exact.ensures.gives).sound in
     search depth 1
 
 pub returns-clause-complete : goal.returns-clause-complete
 returns-clause-complete g c =
-    let e = (frame_promises block_view _ (shape_width c.args.self.now.stream) c.read_next.result _ _ c.read_next.ensures.gives).complete in
+    let e = (frame_promises block_view _ (shape_width c.args.self.now.stream) c.read_next_or_eof_exact.result _ _ c.read_next_or_eof_exact.ensures.gives).complete in
     search depth 1
 
 pub returns-clause-one_reading : goal.returns-clause-one_reading
@@ -28,44 +28,44 @@ returns-clause-bytes_exist g c f header plans channels fits suits =
 
 pub returns-clause-at_end : goal.returns-clause-at_end
 returns-clause-at_end g c =
-    let e = (frame_promises block_view _ (shape_width c.args.self.now.stream) c.read_next.result _ _ c.read_next.ensures.gives).at_end in
+    let e = (frame_promises block_view _ (shape_width c.args.self.now.stream) c.read_next_or_eof_exact.result _ _ c.read_next_or_eof_exact.ensures.gives).at_end in
     search depth 1
 
 pub returns-clause-ended : goal.returns-clause-ended
-returns-clause-ended g c = ended_is block_view _ (shape_width c.args.self.now.stream) c.read_next.result _ _ c.read_next.ensures.gives _ c.read_next.ensures.no_room
+returns-clause-ended g c = ended_is block_view _ (shape_width c.args.self.now.stream) c.read_next_or_eof_exact.result _ _ c.read_next_or_eof_exact.ensures.gives _ c.read_next_or_eof_exact.ensures.no_room
 
 pub returns-clause-no_failure : goal.returns-clause-no_failure
 returns-clause-no_failure g c =
-    let e = (frame_promises block_view _ (shape_width c.args.self.now.stream) c.read_next.result _ _ c.read_next.ensures.gives).no_failure in
+    let e = (frame_promises block_view _ (shape_width c.args.self.now.stream) c.read_next_or_eof_exact.result _ _ c.read_next_or_eof_exact.ensures.gives).no_failure in
     search depth 1
 
 pub returns-clause-fault : goal.returns-clause-fault
 returns-clause-fault g c =
-    let e = (frame_promises block_view _ (shape_width c.args.self.now.stream) c.read_next.result _ _ c.read_next.ensures.gives).fault in
+    let e = (frame_promises block_view _ (shape_width c.args.self.now.stream) c.read_next_or_eof_exact.result _ _ c.read_next_or_eof_exact.ensures.gives).fault in
     search depth 1
 
 pub returns-clause-named : goal.returns-clause-named
-returns-clause-named g c = (frame_promises block_view _ (shape_width c.args.self.now.stream) c.read_next.result _ _ c.read_next.ensures.gives).named
+returns-clause-named g c = (frame_promises block_view _ (shape_width c.args.self.now.stream) c.read_next_or_eof_exact.result _ _ c.read_next_or_eof_exact.ensures.gives).named
 
 pub returns-clause-io : goal.returns-clause-io
 returns-clause-io g c =
-    let e = (frame_promises block_view _ (shape_width c.args.self.now.stream) c.read_next.result _ _ c.read_next.ensures.gives).io in
+    let e = (frame_promises block_view _ (shape_width c.args.self.now.stream) c.read_next_or_eof_exact.result _ _ c.read_next_or_eof_exact.ensures.gives).io in
     search depth 1
 
 pub returns-clause-front : goal.returns-clause-front
 returns-clause-front g c =
-    let e = (frame_promises block_view _ (shape_width c.args.self.now.stream) c.read_next.result _ _ c.read_next.ensures.gives).front in
+    let e = (frame_promises block_view _ (shape_width c.args.self.now.stream) c.read_next_or_eof_exact.result _ _ c.read_next_or_eof_exact.ensures.gives).front in
     search depth 1
 
 pub returns-clause-memory : goal.returns-clause-memory
 returns-clause-memory g c =
-    let e = memory_is _ _ c.read_next.result _ _ c.read_next.ensures.no_room in
+    let e = memory_is _ _ c.read_next_or_eof_exact.result _ _ c.read_next_or_eof_exact.ensures.no_room in
     search depth 1
 
 pub returns-clause-room : goal.returns-clause-room
 returns-clause-room g c =
-    let e = where_starved c.read_next.result c.read_next.ensures.room in
+    let e = where_starved c.read_next_or_eof_exact.result c.read_next_or_eof_exact.ensures.room in
     search depth 1
 
 pub returns-clause-gives : goal.returns-clause-gives
-returns-clause-gives g c = c.read_next.ensures.gives
+returns-clause-gives g c = c.read_next_or_eof_exact.ensures.gives

@@ -12,7 +12,7 @@ use Rattle.claxon_input.proofs.Faults.{stops_fault}
 use Rattle.claxon.proofs.HeadMemory.{never_starved, starved_first, starved_after_first}
 use Rattle.claxon.proofs.HeadParts.{marker_stops, first_stops, no_streaminfo, head_begun, begun_short, begun_stops, begun_with, begun_without}
 use Rattle.claxon_input.proofs.Memory.{fed_exit, starved_exit}
-use Rattle.claxon.proofs.head.read_shown.Goals as goal
+use Rattle.claxon.proofs.head.read_head_exact.Goals as goal
 
 pub returns-in_err-read_stream_header-clause-gives : goal.returns-in_err-read_stream_header-clause-gives
 returns-in_err-read_stream_header-clause-gives g c =

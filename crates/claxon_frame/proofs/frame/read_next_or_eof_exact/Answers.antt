@@ -1,7 +1,7 @@
 use Rattle.std.proofs.Common.{rules}
 use Rattle.claxon_input.specs.Remainders.{check16}
 use Rattle.claxon_frame.proofs.FrameBehindReference.{fed_through, fed_same, refused_through}
-use Rattle.claxon_frame.proofs.frame.read_next.Goals as goal
+use Rattle.claxon_frame.proofs.frame.read_next_or_eof_exact.Goals as goal
 
 pub returns-clause-gives : goal.returns-clause-gives
 returns-clause-gives g c =

@@ -1,6 +1,6 @@
 use Rattle.std.proofs.Common.{rules}
 use Rattle.claxon_metadata.specs.MetadataBlock.{content_at}
-use Rattle.claxon_metadata.proofs.metadata.read_unflagged_block.Goals as goal
+use Rattle.claxon_metadata.proofs.metadata.read_metadata_block_with_header_exact.Goals as goal
 
 pub returns-in_err-block-clause-gives : goal.returns-in_err-block-clause-gives
 unfolding content_at

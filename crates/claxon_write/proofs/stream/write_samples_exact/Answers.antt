@@ -2,7 +2,7 @@ use Rattle.std.proofs.Common.{inl, inr, rules}
 use Rattle.std.proofs.lemmas.Result.{err_from_is_err_and}
 use Rattle.claxon.specs.BufferedReader.{buffered_source}
 use Rattle.claxon_write.proofs.Unlent.{all_flushed, fails_shown, stops_flushed}
-use Rattle.claxon_write.proofs.stream.decode_and_flush.Goals as goal
+use Rattle.claxon_write.proofs.stream.write_samples_exact.Goals as goal
 
 pub returns-clause-ok : goal.returns-clause-ok
 returns-clause-ok g c =

@@ -2,8 +2,8 @@ use Rattle.std.proofs.Common.{◌≡◌, ◌∙◌, ℕ, length, map, sym, ap, a
 use Rattle.claxon_format.specs.Subframe.{scaled}
 use Rattle.claxon_subframe.specs.SubframeFields.{subframe_view}
 use Rattle.claxon_subframe.proofs.ScaledSamples.{channel_went, scaled_none}
-use Rattle.claxon_subframe.proofs.subframe.decode_channel.Goals as goal
-use Rattle.claxon_subframe.proofs.subframe.decode_channel.Goals.{then-wasted-gt0, else-wasted-gt0}
+use Rattle.claxon_subframe.proofs.subframe.decode_exact.Goals as goal
+use Rattle.claxon_subframe.proofs.subframe.decode_exact.Goals.{then-wasted-gt0, else-wasted-gt0}
 
 pub returns : goal.returns
 returns g c =

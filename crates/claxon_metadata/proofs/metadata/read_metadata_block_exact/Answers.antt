@@ -8,7 +8,7 @@ use Rattle.claxon_metadata.specs.VorbisComment.{comment_view}
 use Rattle.claxon_input.proofs.Faults.{stops_fault}
 use Rattle.claxon_metadata.proofs.ContentByType.{stops_with, body_info, body_application, body_comment, body_invalid, IsSkipped, body_skipped}
 use Rattle.claxon_input.proofs.Memory.{fed_exit, starved_exit}
-use Rattle.claxon_metadata.proofs.metadata.read_content.Goals as goal
+use Rattle.claxon_metadata.proofs.metadata.read_metadata_block_exact.Goals as goal
 
 pub returns-in_ok-read_streaminfo_block-in-0-clause-gives : goal.returns-in_ok-read_streaminfo_block-in-0-clause-gives
 returns-in_ok-read_streaminfo_block-in-0-clause-gives g c =
