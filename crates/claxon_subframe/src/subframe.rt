@@ -351,7 +351,11 @@ fn read_partition_type<R: ReadBytes>(input: &mut Bitstream<R>) -> Result<RicePar
     }
 }
 
-// A residual of as many entries as the buffer is long, which are the last of the block's.
+// The residual of a predicted subframe: for each sample after the warm-up samples, what has to be added to its prediction.
+//
+// Two bits say how many bits a Rice parameter has, and four bits the partition order. The block is cut into two to the power
+// of that order partitions of equal length, each with a parameter of its own; the first one has no residual for the warm-up
+// samples, and so as many entries less. (RFC 9639, section 9.2.7.)
 fn decode_residual<R: ReadBytes>(
     input: &mut Bitstream<R>,
     block_size: u16,
@@ -411,7 +415,8 @@ fn decode_partitions<R: ReadBytes>(
     Ok(())
 }
 
-// A parameter and as many words as the buffer is long. All bits of the parameter set are the escape.
+// A Rice parameter and as many Rice codes as the buffer is long. A parameter whose bits are all ones says that the partition
+// is escaped. (RFC 9639, section 9.2.7.1.)
 fn decode_partition<R: ReadBytes>(
     input: &mut Bitstream<R>,
     partition_type: RicePartitionType,

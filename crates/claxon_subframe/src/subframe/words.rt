@@ -174,7 +174,8 @@ fn word_ahead(ahead: &mut Ahead, parameter: u32) -> Option<i32>
     Some(rice_to_signed((quotient << parameter) | low))
 }
 
-// A quotient in as many zeros, a one, and `parameter` low bits. The number is taken modulo 2^32.
+// A Rice code: the quotient by 2^parameter in as many zeros, a one, and the remainder in `parameter` bits. It is taken modulo
+// 2^32.
 #[inline(always)]
 #[tactic(auto, unfolding(claxon_format::specs::read::Bits::word_at))]
 fn read_word<R: ReadBytes>(input: &mut Bitstream<R>, parameter: u32) -> Result<i32>
@@ -186,7 +187,8 @@ fn read_word<R: ReadBytes>(input: &mut Bitstream<R>, parameter: u32) -> Result<i
     Ok(rice_to_signed((quotient << parameter) | low))
 }
 
-// The entry that a folded number stands for: 0, -1, 1, -2, 2, ..
+// The signed number that a Rice code's number stands for: 0, 1, 2, 3, 4 are 0, -1, 1, -2, 2, so that small numbers of either sign
+// have short codes.
 #[inline(always)]
 fn rice_to_signed(val: u32) -> i32
     ensures { result ≡ unfold_at val }
