@@ -21,7 +21,6 @@ mod stereo;
 pub use block::{Block, StereoSamples};
 use claxon_input::crc::Crc16Reader;
 use claxon_input::error::{Error, Result};
-use claxon_input::fields::read_big_u16;
 use claxon_input::input::{Bitstream, ReadBytes};
 use claxon_metadata::metadata::StreamInfo;
 use claxon_subframe::subframe;
@@ -250,13 +249,13 @@ fn decode_channels<R: ReadBytes>(
 }
 
 // The guard of all bytes of the frame.
-#[tactic(auto, unfolding(claxon_format::specs::read::Bytes::expected_at, claxon_format::specs::Fault::fault_text))]
+#[tactic(auto, using(claxon_input::proofs::ByteFields::first_number), unfolding(claxon_format::specs::read::Bytes::expected_at, claxon_format::specs::Fault::fault_text))]
 fn check_footer<R: ReadBytes>(input: &mut Crc16Reader<R>) -> Result<()>
     ensures fits { checked_state input.old < 65536 }
     ensures gives { Gives (λ x. tt) result (expected_at 2 (checked_state input.old) FrameGuard) (bytes_in (checked_source R.source check16) input.old) (bytes_in (checked_source R.source check16) input.new) }
 {
     let computed = input.crc();
-    let stored = read_big_u16(input)?;
+    let stored = input.read_be_u16()?;
     if stored != computed {
         return Err(Error::FormatError("frame CRC mismatch"));
     }

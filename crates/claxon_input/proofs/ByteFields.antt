@@ -1,16 +1,22 @@
 -- The calls of a reader of bytes give what the readers of fields give.
 use Rattle.std.proofs.Common.{◌≡◌, ℕ, ◌+◌, ◌*◌, ◌^◌, ◌<◌, ◌≤◌, List, [], ◌∷◌, length, bit_or, ◌%◌, Option, None, Some, refl, arith}
+use Rattle.std.specs.Prelude.{Result, IsErrAnd}
+use Rattle.std.specs.declared.io.Error as io
+use Rattle.std.proofs.lemmas.Grind.{common_steps}
+use Rattle.std.proofs.lemmas.Result.{err_from_is_err_and}
 use Rattle.claxon_format.specs.read.Bytes.{bytes_at, big_at, little_at, skipped_at}
-use Rattle.claxon_format.specs.Reading.{Reading, Done, Short}
+use Rattle.claxon_format.specs.Reading.{Reading, Done, Short, and_then}
 use Rattle.claxon_input.specs.Bytes.{be_bytes, le_bytes}
+use Rattle.claxon_input.specs.declared.error.Error.{Error}
+use Rattle.claxon_input.specs.declared.error.Error.TheVariants.{IoError}
 use Rattle.claxon_input.specs.Promises.{TakesAtMost}
 use Rattle.claxon_input.specs.Source.{Source, LosesAtMost, Takes, Refuses, Skips}
 use Rattle.claxon_input.specs.State.{State, bytes_in, known}
-use Rattle.claxon_input.specs.Gives.{Went, Stuck}
+use Rattle.claxon_input.specs.Gives.{Went, Stuck, Gives}
 use Rattle.claxon_input.proofs.BigEndian.{be_1, be_2, length-be_bytes, length-le_bytes, big_endian-bytes, little_endian-bytes}
 use Rattle.claxon_input.proofs.Sources.{most_front}
 use Rattle.claxon_input.proofs.States.{went_taken, stuck_bytes}
-use Rattle.claxon_input.proofs.CallsInTurn.{went_map, went_none, stuck_after}
+use Rattle.claxon_input.proofs.CallsInTurn.{went_map, went_none, stuck_after, stuck_told, io_exit}
 
 -- what is made of the bytes doesn't matter to an end
 short_after : {X Y : Type 0} {a b : State X} {read : List X → Reading X Y} {Z : Type 0} (whole : List X → Reading X Z) → ((s : List X) → read s ≡ Short → whole s ≡ Short) → Stuck a b (λ s. read s ≡ Short) → Stuck a b (λ s. whole s ≡ Short)
@@ -40,6 +46,10 @@ module _ {R : Type 0} (source : R → Source ℕ) {a b : R} where
   pub stuck_big : (k : ℕ) → Refuses (source a) (source b) k → Stuck (bytes_in source a) (bytes_in source b) (λ s. big_at k s ≡ Short)
   unfolding bytes_in big_at
   stuck_big k h = short_after (big_at k) (λ s p. rw p refl) (stuck_bytes k h)
+
+  -- by a `?` on a call that reads the first number of several
+  pub exit_big : {A Y : Type 0} (view : A → Y) (r : Result A Error) (k : ℕ) (next : ℕ → List ℕ → Reading ℕ Y) (cause : io.Error) → IsErrAnd r (λ y. y ≡ IoError cause) → Refuses (source a) (source b) k → Gives view r (and_then (big_at k) next) (bytes_in source a) (bytes_in source b)
+  exit_big view r k next cause p h = io_exit view (err_from_is_err_and r p) (stuck_told _ (stuck_big k h) (λ t q. rw q refl))
 
   pub went_little : (n : ℕ) → n < 2 ^ 32 → Takes (source a) (source b) (le_bytes 4 n) → Went (bytes_in source a) (bytes_in source b) (λ s m. little_at 4 s ≡ Done n m)
   unfolding bytes_in little_at
@@ -74,3 +84,6 @@ module _ {R : Type 0} (source : R → Source ℕ) {a b : R} where
   pub most_taken : {xs : List ℕ} (n : ℕ) → length xs ≤ n → Takes (source a) (source b) xs → TakesAtMost n (bytes_in source a) (bytes_in source b)
   unfolding bytes_in
   most_taken {xs = xs} n l h = most_known (source a).to_come (source b).to_come n (most_front (source a).to_come (source b).to_come xs n h.lost.front l)
+
+-- for a function that reads a number first, to be named in its `using`
+pub ruleset first_number = (common_steps, went_byte, went_big, exit_big)

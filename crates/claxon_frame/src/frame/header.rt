@@ -22,7 +22,6 @@ mod parts;
 
 use claxon_input::crc::Crc8Reader;
 use claxon_input::error::{Error, Result};
-use claxon_input::fields::{read_big_u16, read_big_u16_or_eof, read_byte};
 use claxon_input::input::ReadBytes;
 use parts::{BlockSize, BlockTime, BlockingStrategy, HeaderFields, SampleRate};
 
@@ -119,11 +118,11 @@ fn read_checked_fields<R: ReadBytes>(input: &mut Crc8Reader<R>) -> Result<Option
     Ok(Some(fields))
 }
 
-#[tactic(auto, unfolding(claxon_format::specs::read::Bytes::expected_at, claxon_format::specs::Fault::fault_text))]
+#[tactic(auto, using(claxon_input::proofs::ByteFields::first_number), unfolding(claxon_format::specs::read::Bytes::expected_at, claxon_format::specs::Fault::fault_text))]
 fn check_guard<R: ReadBytes>(input: &mut R, computed: u8) -> Result<()>
     ensures { Gives (λ x. tt) result (expected_at 1 computed HeaderGuard) (bytes_in R.source input.old) (bytes_in R.source input.new) }
 {
-    let stored = read_byte(input)?;
+    let stored = input.read_u8()?;
     if stored != computed {
         return Err(Error::FormatError("frame header CRC mismatch"));
     }
@@ -155,10 +154,11 @@ fn read_fields<R: ReadBytes>(input: &mut R, blocking: BlockingStrategy) -> Resul
     })
 }
 
+#[tactic(auto, using(claxon_input::proofs::FieldOrEnd::ended))]
 fn read_sync_or_eof<R: ReadBytes>(input: &mut R) -> Result<Option<BlockingStrategy>>
     ensures { GivesOrEnds 2 is_variable result (sync_at big_at) (bytes_in R.source input.old) (bytes_in R.source input.new) }
 {
-    let Some(sync) = read_big_u16_or_eof(input)? else {
+    let Some(sync) = input.read_be_u16_or_eof()? else {
         return Ok(None);
     };
     Ok(Some(blocking_strategy(sync)?))
@@ -182,12 +182,12 @@ fn blocking_strategy(sync: u16) -> Result<BlockingStrategy>
     }
 }
 
-#[tactic(auto, unfolding(claxon_format::specs::read::Header::codes_at, claxon_format::specs::Fault::fault_text))]
+#[tactic(auto, using(claxon_input::proofs::ByteFields::first_number), unfolding(claxon_format::specs::read::Header::codes_at, claxon_format::specs::Fault::fault_text))]
 fn read_size_and_rate<R: ReadBytes>(input: &mut R) -> Result<(BlockSize, SampleRate)>
     ensures value { IfOk result (λ codes. 1 ≤ least_size codes.0) }
     ensures gives { Gives (λ codes. (size_view codes.0, rate_view codes.1)) result (codes_at big_at) (bytes_in R.source input.old) (bytes_in R.source input.new) }
 {
-    let codes = read_byte(input)?;
+    let codes = input.read_u8()?;
     if codes >> 4 == 0 {
         return Err(Error::FormatError("invalid frame header, encountered reserved value"));
     }
@@ -224,14 +224,14 @@ fn sample_rate_of(code: u8) -> SampleRate
 }
 
 // The width is None where it is that of the stream.
-#[tactic(auto, unfolding(claxon_format::specs::read::Header::channels_at, claxon_format::specs::Fault::fault_text))]
+#[tactic(auto, using(claxon_input::proofs::ByteFields::first_number), unfolding(claxon_format::specs::read::Header::channels_at, claxon_format::specs::Fault::fault_text))]
 fn read_channels_and_width<R: ReadBytes>(input: &mut R) -> Result<(ChannelAssignment, Option<u32>)>
     ensures some { IfOk result (λ codes. 1 ≤ channels_of codes.0) }
     ensures few { IfOk result (λ codes. channels_of codes.0 ≤ 8) }
     ensures named { IfOk result (λ codes. ForSome codes.1 HasCode) }
     ensures gives { Gives (λ codes. (channel_code codes.0, width_code codes.1)) result (channels_at big_at) (bytes_in R.source input.old) (bytes_in R.source input.new) }
 {
-    let codes = read_byte(input)?;
+    let codes = input.read_u8()?;
     let channel_assignment = match codes >> 4 {
         n if n < 8 => ChannelAssignment::Independent(n + 1),
         8 => ChannelAssignment::LeftSideStereo,
@@ -286,11 +286,11 @@ fn read_block_time<R: ReadBytes>(input: &mut R, blocking: BlockingStrategy) -> R
 // The ones that the first byte begins with say how many bytes there are: none of them in a number of one byte, 0xxxxxxx, two in
 // 110xxxxx 10xxxxxx, and seven in 11111110 with six bytes behind it. A zero ends them; the bits behind it and the low six
 // bits of each byte that follows are the number, the highest first. Numbers in more bytes than they need are accepted.
-#[tactic(auto, unfolding(claxon_format::specs::read::Coded::coded_number_at, claxon_format::specs::Fault::fault_text))]
+#[tactic(auto, using(claxon_input::proofs::ByteFields::first_number), unfolding(claxon_format::specs::read::Coded::coded_number_at, claxon_format::specs::Fault::fault_text))]
 fn read_var_length_int<R: ReadBytes>(input: &mut R) -> Result<u64>
     ensures { Gives (λ x. x) result (coded_number_at big_at) (bytes_in R.source input.old) (bytes_in R.source input.new) }
 {
-    let first = read_byte(input)?;
+    let first = input.read_u8()?;
     let ones = first.leading_ones();
     if ones == 0 {
         return Ok(u64::from(first));
@@ -323,19 +323,19 @@ fn read_followers<R: ReadBytes>(input: &mut R, count: u32, number: u64) -> Resul
 
 // Six bits of a number.
 #[inline(always)]
-#[tactic(auto, unfolding(claxon_format::specs::read::Coded::follower_at, claxon_format::specs::Fault::fault_text))]
+#[tactic(auto, using(claxon_input::proofs::ByteFields::first_number), unfolding(claxon_format::specs::read::Coded::follower_at, claxon_format::specs::Fault::fault_text))]
 fn read_follower<R: ReadBytes>(input: &mut R) -> Result<u8>
     ensures fits { IfOk result (λ bits. bits < 64) }
     ensures gives { Gives (λ x. x) result (follower_at big_at) (bytes_in R.source input.old) (bytes_in R.source input.new) }
 {
-    let byte = read_byte(input)?;
+    let byte = input.read_u8()?;
     if byte >> 6 != 0b10 {
         return Err(Error::FormatError("invalid variable-length integer"));
     }
     Ok(byte & 0b0011_1111)
 }
 
-#[tactic(auto, unfolding(claxon_format::specs::read::Header::size_at, claxon_format::specs::Fault::fault_text))]
+#[tactic(auto, using(claxon_input::proofs::ByteFields::first_number), unfolding(claxon_format::specs::read::Header::size_at, claxon_format::specs::Fault::fault_text))]
 fn read_block_size<R: ReadBytes>(input: &mut R, size: BlockSize) -> Result<u16>
     requires { 1 ≤ least_size size }
     ensures value { IfOk result (λ n. 1 ≤ n) }
@@ -343,9 +343,9 @@ fn read_block_size<R: ReadBytes>(input: &mut R, size: BlockSize) -> Result<u16>
 {
     match size {
         BlockSize::Known(n) => Ok(n),
-        BlockSize::Read8 => Ok(u16::from(read_byte(input)?) + 1),
+        BlockSize::Read8 => Ok(u16::from(input.read_u8()?) + 1),
         BlockSize::Read16 => {
-            let less_one = read_big_u16(input)?;
+            let less_one = input.read_be_u16()?;
             if less_one == 0xffff {
                 return Err(Error::FormatError("invalid block size, exceeds 65535"));
             }
@@ -354,17 +354,17 @@ fn read_block_size<R: ReadBytes>(input: &mut R, size: BlockSize) -> Result<u16>
     }
 }
 
-#[tactic(auto, unfolding(claxon_format::specs::read::Header::rate_at))]
+#[tactic(auto, using(claxon_input::proofs::ByteFields::first_number), unfolding(claxon_format::specs::read::Header::rate_at))]
 fn skip_rate<R: ReadBytes>(input: &mut R, rate: SampleRate) -> Result<()>
     ensures { Gives (λ x. tt) result (rate_at big_at (rate_view rate)) (bytes_in R.source input.old) (bytes_in R.source input.new) }
 {
     match rate {
         SampleRate::Known => {}
         SampleRate::Read8 => {
-            read_byte(input)?;
+            input.read_u8()?;
         }
         SampleRate::Read16 => {
-            read_big_u16(input)?;
+            input.read_be_u16()?;
         }
     }
     Ok(())

@@ -1,4 +1,4 @@
-use Rattle.std.proofs.Common.{◌≡◌, ◌∙◌, ℕ, ◌/◌, ◌%◌, Bool, true, false, eqb, ltb, refl, sym, arith, bit_and}
+use Rattle.std.proofs.Common.{◌≡◌, ◌∙◌, ℕ, ◌/◌, ◌%◌, Bool, true, false, eqb, ltb, refl, sym, arith, bit_and, rules}
 use Rattle.std.proofs.lemmas.Bool.{lt-ltb, le-ltb}
 use Rattle.std.proofs.lemmas.Bool.Decides.{nat_tests}
 use Rattle.std.proofs.lemmas.Nat.{and_mask}
@@ -10,6 +10,7 @@ use Rattle.claxon_format.specs.read.Bytes.{big_at}
 use Rattle.claxon_format.specs.read.Header.{channels_at}
 use Rattle.claxon_input.specs.State.{State}
 use Rattle.claxon_input.specs.Gives.{Went}
+use Rattle.claxon_input.proofs.ByteFields.{went_byte, exit_big}
 use Rattle.claxon_input.proofs.CallsInTurn.{exit, went_none, went_map}
 use Rattle.claxon_input.proofs.Faults.{stops_fault}
 use Rattle.claxon_frame.specs.FrameHeader.{channel_code}
@@ -25,13 +26,13 @@ asked c {a = a} h = then_went _ (went_none a _ refl) h
 
 pub returns-in_err-codes-clause-gives : goal.returns-in_err-codes-clause-gives
 unfolding channels_at
-returns-in_err-codes-clause-gives g c = exit _ (err_from_is_err_and c.from_residual.result c.from_residual.ensures.1) (then_stops _ (went_none _ _ refl) c.in_err-codes.ensures.gives)
+returns-in_err-codes-clause-gives g c = exit_big g.R.ReadBytes.source _ _ _ _ _ c.from_residual.ensures.1 c.in_err-codes.ensures.err
 
 pub returns-in_default-2-clause-gives : goal.returns-in_default-2-clause-gives
 unfolding fault_text
 returns-in_default-2-clause-gives g c =
     let reserved : ltb 10 (c.in_ok-codes.codes / 16) ≡ true = lt-ltb _ _ (omega arith) in
-    stops_fault ChannelsReserved refl refl (refl, refl) (went_map _ (asked c.in_ok-codes.codes c.in_ok-codes.ensures.gives) (λ p. rw (p, reserved) refl))
+    stops_fault ChannelsReserved refl refl (refl, refl) (went_map _ (asked c.in_ok-codes.codes (went_byte g.R.ReadBytes.source c.in_ok-codes.codes (search rules) c.in_ok-codes.ensures.ok)) (λ p. rw (p, reserved) refl))
 
 -- behind the channels' code stands that of the width
 width_next : (c code : ℕ) {a b : State ℕ} → code ≡ c / 2 % 8 → ltb 10 (c / 16) ≡ false → Went a b (λ s m. big_at 1 s ≡ Done c m)
@@ -52,7 +53,7 @@ returns-in_err-bits_per_sample-clause-gives g c =
     ] in
     let low : bit_and (c.in_ok-codes.codes / 2) 7 ≡ c.in_ok-codes.codes / 2 % 8 = and_mask (c.in_ok-codes.codes / 2) 3 in
     exit _ (err_from_is_err_and c.from_residual-in_err-bits_per_sample.result c.from_residual-in_err-bits_per_sample.ensures.1)
-    (then_stops _ (width_next c.in_ok-codes.codes _ low spelled c.in_ok-codes.ensures.gives) (c.in_err-bits_per_sample.ensures.gives _))
+    (then_stops _ (width_next c.in_ok-codes.codes _ low spelled (went_byte g.R.ReadBytes.source c.in_ok-codes.codes (search rules) c.in_ok-codes.ensures.ok)) (c.in_err-bits_per_sample.ensures.gives _))
 
 pub returns-then-codes-eq1-clause-gives : goal.returns-then-codes-eq1-clause-gives
 unfolding fault_text
@@ -65,7 +66,7 @@ returns-then-codes-eq1-clause-gives g c =
     ] in
     let low : bit_and (c.in_ok-codes.codes / 2) 7 ≡ c.in_ok-codes.codes / 2 % 8 = and_mask (c.in_ok-codes.codes / 2) 3 in
     let odd : c.in_ok-codes.codes % 2 ≡ 1 = sym (and_mask c.in_ok-codes.codes 1) ∙ c.if-codes-eq1.true in
-    stops_fault ReservedEnd refl refl (refl, refl) (went_map _ (then_went _ (width_next c.in_ok-codes.codes _ low spelled c.in_ok-codes.ensures.gives) (c.in_ok-bits_per_sample.ensures.gives _)) (λ p. rw (p, odd) refl))
+    stops_fault ReservedEnd refl refl (refl, refl) (went_map _ (then_went _ (width_next c.in_ok-codes.codes _ low spelled (went_byte g.R.ReadBytes.source c.in_ok-codes.codes (search rules) c.in_ok-codes.ensures.ok)) (c.in_ok-bits_per_sample.ensures.gives _)) (λ p. rw (p, odd) refl))
 
 pub returns-clause-gives : goal.returns-clause-gives
 returns-clause-gives g c =
@@ -77,4 +78,4 @@ returns-clause-gives g c =
     ] in
     let low : bit_and (c.in_ok-codes.codes / 2) 7 ≡ c.in_ok-codes.codes / 2 % 8 = and_mask (c.in_ok-codes.codes / 2) 3 in
     let even : eqb (c.in_ok-codes.codes % 2) 1 ≡ false = (let k : bit_and c.in_ok-codes.codes 1 ≡ c.in_ok-codes.codes % 2 = and_mask c.in_ok-codes.codes 1 in grind (arith, nat_tests)) in
-    went_map _ (then_went _ (width_next c.in_ok-codes.codes _ low channels.0 c.in_ok-codes.ensures.gives) (c.in_ok-bits_per_sample.ensures.gives _)) (λ p. rw (p, even, channels.1) refl)
+    went_map _ (then_went _ (width_next c.in_ok-codes.codes _ low channels.0 (went_byte g.R.ReadBytes.source c.in_ok-codes.codes (search rules) c.in_ok-codes.ensures.ok)) (c.in_ok-bits_per_sample.ensures.gives _)) (λ p. rw (p, even, channels.1) refl)

@@ -1,11 +1,12 @@
-use Rattle.std.proofs.Common.{◌≡◌, ℕ, false, ltb, List, length, refl, arith}
+use Rattle.std.proofs.Common.{◌≡◌, ℕ, false, ltb, List, length, refl, arith, rules}
 use Rattle.std.proofs.lemmas.Bool.{le-ltb}
 use Rattle.claxon_format.specs.read.Bytes.{bytes_at, big_at}
 use Rattle.claxon_format.specs.Reading.{Done}
 use Rattle.claxon_format.specs.read.Header.{rate_at}
+use Rattle.claxon_input.proofs.ByteFields.{went_byte, went_big}
 use Rattle.claxon_input.proofs.CallsInTurn.{went_map, went_none}
 use Rattle.claxon_frame.proofs.frame.header.skip_rate.Goals as goal
-use Rattle.claxon_frame.proofs.frame.header.skip_rate.Goals.{in-Known, in-Read8+in_ok-read_byte-in-Read8, in-Read16+in_ok-read_big_u16-in-Read16}
+use Rattle.claxon_frame.proofs.frame.header.skip_rate.Goals.{in-Known, in-Read8+in_ok-read_u8-in-Read8, in-Read16+in_ok-read_be_u16-in-Read16}
 
 no_rate : (s : List ℕ) → rate_at big_at 0 s ≡ Done tt s
 unfolding rate_at big_at bytes_at
@@ -16,6 +17,6 @@ unfolding rate_at
 returns g c =
     elim c.match-rate.branch [
       | in-Known w ↦ rw w.input-is (went_none _ _ (rw w.in-Known.is (no_rate _)))
-      | in-Read8+in_ok-read_byte-in-Read8 w ↦ rw w.input-is (went_map _ w.in_ok-read_byte-in-Read8.ensures.gives (λ p. rw (w.in-Read8.is, p) refl))
-      | in-Read16+in_ok-read_big_u16-in-Read16 w ↦ rw w.input-is (went_map _ w.in_ok-read_big_u16-in-Read16.ensures.gives (λ p. rw (w.in-Read16.is, p) refl))
+      | in-Read8+in_ok-read_u8-in-Read8 w ↦ rw w.input-is (went_map _ (went_byte g.R.ReadBytes.source w.in_ok-read_u8-in-Read8.field-0 (search rules) w.in_ok-read_u8-in-Read8.ensures.ok) (λ p. rw (w.in-Read8.is, p) refl))
+      | in-Read16+in_ok-read_be_u16-in-Read16 w ↦ rw w.input-is (went_map _ (went_big g.R.ReadBytes.source 2 w.in_ok-read_be_u16-in-Read16.field-0 (search rules) w.in_ok-read_be_u16-in-Read16.ensures.ok) (λ p. rw (w.in-Read16.is, p) refl))
     ]

@@ -1,8 +1,0 @@
-use Rattle.std.proofs.Common.{rules}
-use Rattle.claxon_format.specs.read.Header.{size_at}
-use Rattle.claxon_format.specs.Fault.{fault_text}
-use Rattle.claxon_frame.proofs.frame.header.read_block_size.Goals as goal
-
-pub returns-then-less_one-clause-gives : goal.returns-then-less_one-clause-gives
-unfolding size_at fault_text
-returns-then-less_one-clause-gives g c = search rules
