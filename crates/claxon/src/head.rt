@@ -11,7 +11,6 @@ ghost use Rattle.claxon.specs.ReadHead.{CommentHasPlaces, CommentsAreFound, Each
 
 use crate::error::{Error, Result};
 use crate::input::ReadBytes;
-use claxon_input::fields::read_big_u32;
 use claxon_metadata::metadata::{
     MetadataBlock, StreamInfo, VorbisComment, read_metadata_block_and_flag,
 };
@@ -115,11 +114,11 @@ fn read_head_exact<R: ReadBytes, A: Allocator + Copy>(
     }
 }
 
-#[tactic(auto, unfolding(claxon_format::specs::read::Heads::marker_at, claxon_format::specs::Fault::fault_text))]
+#[tactic(auto, using(claxon_input::proofs::ByteFields::first_number), unfolding(claxon_format::specs::read::Heads::marker_at, claxon_format::specs::Fault::fault_text))]
 fn read_stream_header<R: ReadBytes>(input: &mut R) -> Result<()>
     ensures { Gives (λ x. stream_marker) result marker_at (bytes_in R.source input.old) (bytes_in R.source input.new) }
 {
-    let marker = read_big_u32(input)?;
+    let marker = input.read_be_u32()?;
     if marker == 0x664c_6143 {
         return Ok(());
     }
