@@ -18,9 +18,6 @@ mod comment;
 mod tags;
 
 use claxon_input::error::{Error, Result};
-use claxon_input::fields::{
-    read_big_u16, read_big_u24, read_big_u32, read_byte, read_whole, skip_bytes,
-};
 use claxon_input::input::ReadBytes;
 use comment::read_vorbis_comment_block;
 use std::alloc::{Allocator, Global};
@@ -123,13 +120,13 @@ pub enum MetadataBlock<A: Allocator = Global> {
 pub type MetadataBlockResult<A = Global> = Result<MetadataBlock<A>>;
 
 // The last flag, the type and the length of a block.
-#[tactic(auto, unfolding(claxon_format::specs::read::Metadata::block_header_at))]
+#[tactic(auto, using(claxon_input::proofs::ByteFields::numbers), unfolding(claxon_format::specs::read::Metadata::block_header_at))]
 fn read_metadata_block_header<R: ReadBytes>(input: &mut R) -> Result<MetadataBlockHeader>
     ensures gives { Gives header_view result block_header_at (bytes_in R.source input.old) (bytes_in R.source input.new) }
     ensures within { AtMostIsTaken R.source 4 input.old input.new }
 {
-    let first = read_byte(input)?;
-    let length = read_big_u24(input)?;
+    let first = input.read_u8()?;
+    let length = input.read_be_u24()?;
     Ok(MetadataBlockHeader {
         is_last: first >= 128,
         block_type: first % 128,
@@ -225,6 +222,7 @@ pub fn read_metadata_block<R: ReadBytes, A: Allocator + Copy>(
 }
 
 // What a block of this type and length holds.
+#[tactic(auto, using(claxon_input::proofs::ByteFields::most_refused))]
 fn read_metadata_block_exact<R: ReadBytes, A: Allocator + Copy>(
     alloc: A,
     input: &mut R,
@@ -245,7 +243,7 @@ fn read_metadata_block_exact<R: ReadBytes, A: Allocator + Copy>(
         }
         127 => Err(Error::FormatError("invalid metadata block type")),
         _ => {
-            skip_bytes(input, length)?;
+            input.skip(length)?;
             Ok(skipped_block(block_type, length))
         }
     }
@@ -271,15 +269,15 @@ struct SizeBounds {
     max_frame_size: u32,
 }
 
-#[tactic(auto, unfolding(claxon_format::specs::read::Streaminfo::sizes_at, claxon_format::specs::Reading::each_at))]
+#[tactic(auto, using(claxon_input::proofs::ByteFields::numbers), unfolding(claxon_format::specs::read::Streaminfo::sizes_at, claxon_format::specs::Reading::each_at))]
 fn read_size_bounds<R: ReadBytes>(input: &mut R) -> Result<SizeBounds>
     ensures gives { Gives sizes_view result sizes_at (bytes_in R.source input.old) (bytes_in R.source input.new) }
     ensures within { AtMostIsTaken R.source 10 input.old input.new }
 {
-    let min_block_size = read_big_u16(input)?;
-    let max_block_size = read_big_u16(input)?;
-    let min_frame_size = read_big_u24(input)?;
-    let max_frame_size = read_big_u24(input)?;
+    let min_block_size = input.read_be_u16()?;
+    let max_block_size = input.read_be_u16()?;
+    let min_frame_size = input.read_be_u24()?;
+    let max_frame_size = input.read_be_u24()?;
     Ok(SizeBounds {
         min_block_size,
         max_block_size,
@@ -298,15 +296,15 @@ struct SampleFormat {
 }
 
 // 20 bits of the rate, 3 of the channels less one, 5 of the width less one, 36 of the number.
-#[tactic(auto, unfolding(claxon_format::specs::read::Streaminfo::format_at))]
+#[tactic(auto, using(claxon_input::proofs::ByteFields::numbers), unfolding(claxon_format::specs::read::Streaminfo::format_at))]
 fn read_sample_format<R: ReadBytes>(input: &mut R) -> Result<SampleFormat>
     ensures channels { IfOk result (λ format. (1 ≤ format.channels) × (format.channels ≤ 8)) }
     ensures width { IfOk result (λ format. (1 ≤ format.bits_per_sample) × (format.bits_per_sample ≤ 32)) }
     ensures gives { Gives format_view result format_at (bytes_in R.source input.old) (bytes_in R.source input.new) }
     ensures within { AtMostIsTaken R.source 8 input.old input.new }
 {
-    let high = read_big_u32(input)?;
-    let low = read_big_u32(input)?;
+    let high = input.read_be_u32()?;
+    let low = input.read_be_u32()?;
     Ok(SampleFormat {
         sample_rate: high >> 12,
         channels: (high >> 9 & 7) + 1,
@@ -316,7 +314,7 @@ fn read_sample_format<R: ReadBytes>(input: &mut R) -> Result<SampleFormat>
 }
 
 // What a streaminfo block says, whether it can be or not.
-#[tactic(auto, unfolding(claxon_format::specs::read::Streaminfo::info_fields_at, claxon_format::specs::read::Streaminfo::md5_at))]
+#[tactic(auto, using(claxon_input::proofs::ByteFields::buffers), unfolding(claxon_format::specs::read::Streaminfo::info_fields_at, claxon_format::specs::read::Streaminfo::md5_at))]
 fn read_streaminfo_fields<R: ReadBytes>(input: &mut R) -> Result<StreamInfo>
     ensures bounds { IfOk result (λ info. HasBounds info) }
     ensures gives { Gives info_view result info_fields_at (bytes_in R.source input.old) (bytes_in R.source input.new) }
@@ -325,7 +323,7 @@ fn read_streaminfo_fields<R: ReadBytes>(input: &mut R) -> Result<StreamInfo>
     let sizes = read_size_bounds(input)?;
     let format = read_sample_format(input)?;
     let mut md5sum = [0; 16];
-    read_whole(input, &mut md5sum)?;
+    input.read_into(&mut md5sum)?;
     Ok(stream_info(sizes, format, &md5sum))
 }
 
@@ -406,7 +404,7 @@ fn are_frame_sizes_crossed(info: &StreamInfo) -> bool
 }
 
 // The application's number and its data.
-#[tactic(auto, unfolding(claxon_format::specs::read::MetadataBlocks::application_at, claxon_format::specs::Fault::fault_text))]
+#[tactic(auto, using(claxon_input::proofs::ByteFields::numbers), unfolding(claxon_format::specs::read::MetadataBlocks::application_at, claxon_format::specs::Fault::fault_text))]
 fn read_application_block<R: ReadBytes, A: Allocator>(
     alloc: A,
     input: &mut R,
@@ -423,7 +421,7 @@ fn read_application_block<R: ReadBytes, A: Allocator>(
     if length > MAX_BLOCK_LENGTH {
         return Err(Error::Unsupported("application blocks larger than 10 MiB are not supported"));
     }
-    let id = read_big_u32(input)?;
+    let id = input.read_be_u32()?;
     let bytes = read_bytes(alloc, input, length - 4)?;
     Ok(MetadataBlock::Application { id, bytes })
 }
@@ -436,7 +434,7 @@ fn read_bytes<R: ReadBytes, A: Allocator>(alloc: A, input: &mut R, count: u32) -
 {
     let mut bytes = Vec::new(alloc);
     bytes.resize(count as usize, 0)?;
-    read_whole(input, &mut bytes)?;
+    input.read_into(&mut bytes)?;
     Ok(bytes)
 }
 

@@ -2,7 +2,8 @@ use Rattle.std.proofs.Common.{◌≡◌, arith, ◌∙◌, refl}
 use Rattle.std.proofs.lemmas.Result.{err_from_is_err_and}
 use Rattle.claxon_format.specs.read.MetadataBlocks.{body_at, application_at}
 use Rattle.claxon_format.specs.Fault.{fault_text, BlockType}
-use Rattle.claxon_input.proofs.CallsInTurn.{went_none, went_map, starves_after}
+use Rattle.claxon_input.proofs.ByteFields.{went_skipped, stuck_skipped, most_taken}
+use Rattle.claxon_input.proofs.CallsInTurn.{went_none, went_map, io_exit, starves_after, starves_never, stuck_told}
 use Rattle.claxon_metadata.specs.MetadataBlock.{content_view}
 use Rattle.claxon_metadata.specs.VorbisComment.{comment_view}
 use Rattle.claxon_input.proofs.Faults.{stops_fault}
@@ -23,16 +24,19 @@ pub returns-in-127-clause-gives : goal.returns-in-127-clause-gives
 unfolding fault_text
 returns-in-127-clause-gives g c = stops_fault BlockType refl refl (refl, refl) (went_none _ _ (body_invalid c.args.block_type c.args.length _ c.in-127.is))
 
-pub returns-in_ok-skip_bytes-in_default-clause-gives : goal.returns-in_ok-skip_bytes-in_default-clause-gives
-returns-in_ok-skip_bytes-in_default-clause-gives g c =
+pub returns-in_ok-skip-in_default-clause-gives : goal.returns-in_ok-skip-in_default-clause-gives
+returns-in_ok-skip-in_default-clause-gives g c =
     let other : IsSkipped c.args.block_type = record { not_info = omega arith; not_application = omega arith; not_comment = omega arith; not_invalid = omega arith } in
-    went_map _ c.in_ok-skip_bytes-in_default.ensures.gives (λ p. body_skipped c.args.block_type c.args.length _ other ∙ rw (p, c.skipped_block.ensures.value) refl)
+    went_map _ (went_skipped g.R.ReadBytes.source c.args.length c.in_ok-skip-in_default.ensures.ok) (λ p. body_skipped c.args.block_type c.args.length _ other ∙ rw (p, c.skipped_block.ensures.value) refl)
 
-pub returns-in_err-skip_bytes-in_default-clause-gives : goal.returns-in_err-skip_bytes-in_default-clause-gives
-returns-in_err-skip_bytes-in_default-clause-gives g c =
+pub returns-in_ok-skip-in_default-clause-within : goal.returns-in_ok-skip-in_default-clause-within
+returns-in_ok-skip-in_default-clause-within g c = most_taken g.R.ReadBytes.source c.args.length (omega (arith, c.in_ok-skip-in_default.ensures.ok.1)) c.in_ok-skip-in_default.ensures.ok.2
+
+pub returns-in_err-skip-in_default-clause-gives : goal.returns-in_err-skip-in_default-clause-gives
+returns-in_err-skip-in_default-clause-gives g c =
     let other : IsSkipped c.args.block_type = record { not_info = omega arith; not_application = omega arith; not_comment = omega arith; not_invalid = omega arith } in
-    fed_exit content_view (err_from_is_err_and c.from_residual-in_err-skip_bytes-in_default.result c.from_residual-in_err-skip_bytes-in_default.ensures.1)
-    (went_none _ _ (stops_with _ (body_skipped c.args.block_type c.args.length _ other))) c.in_err-skip_bytes-in_default.ensures.gives
+    starves_never _ _ _ _ _ (io_exit _ (err_from_is_err_and c.from_residual-in_err-skip-in_default.result c.from_residual-in_err-skip-in_default.ensures.1)
+    (stuck_told _ (stuck_skipped g.R.ReadBytes.source c.args.length c.in_err-skip-in_default.ensures.err) (λ t q. body_skipped c.args.block_type c.args.length _ other ∙ rw q refl)))
 
 pub returns-in-2-clause-gives : goal.returns-in-2-clause-gives
 returns-in-2-clause-gives g c =
