@@ -18,7 +18,6 @@ ghost use Rattle.claxon_metadata.specs.TagEntries.{HavePlaces, IsPlace, entry_vi
 
 use super::{MAX_BLOCK_LENGTH, VorbisComment, read_bytes};
 use claxon_input::error::{Error, Result};
-use claxon_input::fields::read_little_u32;
 use claxon_input::input::ReadBytes;
 use std::alloc::Allocator;
 
@@ -52,12 +51,13 @@ pub fn read_vorbis_comment_block<R: ReadBytes, A: Allocator + Copy>(
 }
 
 // A length of at most this, and else the fault of a longer text.
+#[tactic(auto, using(claxon_input::proofs::ByteFields::little_numbers))]
 fn read_length<R: ReadBytes>(input: &mut R, most: u32, too_long: &'static str) -> Result<u32>
     ensures most { IfOk result (λ length. length ≤ most) }
     ensures gives { LengthIsRead R.source most (FormatError too_long.entry) input.old result input.new }
     ensures within { AtMostIsTaken R.source 4 input.old input.new }
 {
-    let length = read_little_u32(input)?;
+    let length = input.read_le_u32()?;
     if length > most {
         return Err(Error::FormatError(too_long));
     }
@@ -90,12 +90,12 @@ fn text_of<A: Allocator>(bytes: Vec<u8, A>) -> Result<String<A>>
 }
 
 // How many entries follow. Each takes four bytes at least, so a greater count can't be right.
-#[tactic(auto, unfolding(claxon_format::specs::read::Comments::count_at, claxon_format::specs::Fault::fault_text))]
+#[tactic(auto, using(claxon_input::proofs::ByteFields::little_numbers), unfolding(claxon_format::specs::read::Comments::count_at, claxon_format::specs::Fault::fault_text))]
 fn read_count<R: ReadBytes>(input: &mut R, limit: u32) -> Result<u32>
     ensures gives { Gives (λ x. x) result (count_at limit) (bytes_in R.source input.old) (bytes_in R.source input.new) }
     ensures within { AtMostIsTaken R.source 4 input.old input.new }
 {
-    let count = read_little_u32(input)?;
+    let count = input.read_le_u32()?;
     if count >= limit {
         return Err(Error::FormatError("too many entries for Vorbis comment block"));
     }

@@ -1,16 +1,15 @@
-use Rattle.std.proofs.Common.{◌≡◌, refl, true, ltb}
+use Rattle.std.proofs.Common.{◌≡◌, refl, true, ltb, rules}
 use Rattle.std.proofs.lemmas.Bool.{lt-ltb}
-use Rattle.std.proofs.lemmas.Result.{err_from_is_err_and}
-use Rattle.claxon_input.proofs.CallsInTurn.{exit, stops_as, went_map, went_none}
+use Rattle.claxon_input.proofs.ByteFields.{exit_little, went_little}
+use Rattle.claxon_input.proofs.CallsInTurn.{went_map}
 use Rattle.claxon_input.proofs.Faults.{stops_fault}
 use Rattle.claxon_metadata.proofs.metadata.comment.read_length.Goals as goal
 
 pub returns-then-length-most-clause-gives : goal.returns-then-length-most-clause-gives
 returns-then-length-most-clause-gives g c f is named =
     let long : ltb c.args.most c.in_ok-length.length ≡ true = lt-ltb _ _ c.if-length-most.true in
-    stops_fault f refl named is (went_map _ c.in_ok-length.ensures.gives (λ p. rw (p, long) refl))
+    stops_fault f refl named is (went_map _ (went_little g.R.ReadBytes.source c.in_ok-length.length (search rules) c.in_ok-length.ensures.ok) (λ p. rw (p, long) refl))
 
 pub returns-in_err-length-clause-gives : goal.returns-in_err-length-clause-gives
 returns-in_err-length-clause-gives g c f is named =
-    let stops = stops_as (went_none _ _ (record { fault = λ h rest e. rw e refl; short = λ e. rw e refl })) c.in_err-length.ensures.gives in
-    exit (λ x. x) (err_from_is_err_and c.from_residual.result c.from_residual.ensures.1) stops
+    exit_little g.R.ReadBytes.source _ _ _ _ _ c.from_residual.ensures.1 c.in_err-length.ensures.err
