@@ -5,9 +5,8 @@ use Rattle.claxon_format.specs.read.Comments.{comment_at}
 use Rattle.claxon_format.specs.Metadata.{BlockHeader, BlockHeaderCode}
 use Rattle.claxon_format.specs.MetadataBlocks.{BlockFault, Body, BodyFault}
 use Rattle.claxon_format.specs.read.MetadataBlocks.{block_at, body_at}
-use Rattle.claxon_input.specs.Fields.{AtMostIsTaken}
 use Rattle.claxon_input.specs.Gives.{GivesOrStarves}
-use Rattle.claxon_input.specs.Promises.{AnswersCode, Comes, EndsElse, IsStarved, LeavesRest, NamesFault, TakesCode, TakesFault}
+use Rattle.claxon_input.specs.Promises.{AnswersCode, Comes, EndsElse, IsStarved, LeavesRest, NamesFault, TakesAtMost, TakesCode, TakesFault}
 use Rattle.claxon_input.specs.Source.{Source}
 use Rattle.claxon_input.specs.State.{bytes_in}
 use Rattle.claxon_input.specs.declared.error.Error.{Error}
@@ -27,6 +26,10 @@ BlockIsSound result = IfOk result (λ block. IsSound block)
 -- An Err leaves a rest of the bytes that were to come.
 abbrev pub RestIsLeft : {R A : Type 0} → (R → Source ℕ) → R → MetadataAnswer A → R → Type 0
 RestIsLeft source old result new = LeavesRest result (bytes_in source old) (bytes_in source new)
+
+-- Whatever was answered, at most n bytes were taken.
+abbrev pub AtMostIsTaken : {R : Type 0} → (R → Source ℕ) → ℕ → R → R → Type 0
+AtMostIsTaken source n old new = TakesAtMost n (bytes_in source old) (bytes_in source new)
 
 -- ---- the content of a block of this type and length
 

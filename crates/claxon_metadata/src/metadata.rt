@@ -7,11 +7,10 @@ ghost use Rattle.claxon_format.specs.Metadata.{most_bytes};
 ghost use Rattle.claxon_format.specs.read.Metadata.{block_header_at};
 ghost use Rattle.claxon_format.specs.Streaminfo.{info_of, frames_crossed};
 ghost use Rattle.claxon_format.specs.read.Streaminfo.{sizes_at, format_at, info_fields_at, streaminfo_at};
-ghost use Rattle.claxon_input.specs.Fields.{AtMostIsTaken};
 ghost use Rattle.claxon_input.specs.Promises.{IsStarved};
 ghost use Rattle.claxon_input.specs.State.{bytes_in};
 ghost use Rattle.claxon_input.specs.Gives.{Gives, GivesOrStarves};
-ghost use Rattle.claxon_metadata.specs.ReadMetadataBlock.{AtMostBlockIsTaken, BlockFaultWasTaken, BlockIsRead, BlockIsSound, BlockMayStarve, BlockWasTaken, ContentFaultWasTaken, ContentIsRead, ContentMayStarve, ContentWasTaken, EachBlockFaultIsNamed, EachBlockIsAnswered, EachContentFaultIsNamed, EachContentIsAnswered, FlaggedBlockIsRead, NoBlockIsIoError, NoContentIsIoError, RestIsLeft};
+ghost use Rattle.claxon_metadata.specs.ReadMetadataBlock.{AtMostIsTaken, AtMostBlockIsTaken, BlockFaultWasTaken, BlockIsRead, BlockIsSound, BlockMayStarve, BlockWasTaken, ContentFaultWasTaken, ContentIsRead, ContentMayStarve, ContentWasTaken, EachBlockFaultIsNamed, EachBlockIsAnswered, EachContentFaultIsNamed, EachContentIsAnswered, FlaggedBlockIsRead, NoBlockIsIoError, NoContentIsIoError, RestIsLeft};
 ghost use Rattle.claxon_metadata.specs.MetadataBlock.{HasBounds, IsSound, StarvesLate, content_at, content_view, format_view, header_view, info_view, or_zero, sizes_view};
 
 mod comment;

@@ -6,13 +6,12 @@ ghost use Rattle.claxon_format.specs.Comments.{is_separator, not_utf8};
 ghost use Rattle.claxon_format.specs.read.Comments.{entry_at, kept_at, entries_at, vendor_at, count_at, comment_at};
 ghost use Rattle.claxon_format.specs.Fault.{EntryNotUtf8};
 ghost use Rattle.claxon_format.specs.Metadata.{most_bytes};
-ghost use Rattle.claxon_input.specs.Fields.{AtMostIsTaken};
 ghost use Rattle.claxon_input.specs.Promises.{IsStarved};
 ghost use Rattle.claxon_input.specs.State.{bytes_in};
 ghost use Rattle.claxon_input.specs.Gives.{Gives, GivesOrStarves};
 ghost use Rattle.claxon_input.specs.Error.{IsFault};
 ghost use Rattle.claxon_input.specs.declared.error.Error.TheVariants.{FormatError};
-ghost use Rattle.claxon_metadata.specs.ReadMetadataBlock.{CommentIsRead};
+ghost use Rattle.claxon_metadata.specs.ReadMetadataBlock.{AtMostIsTaken, CommentIsRead};
 ghost use Rattle.claxon_metadata.specs.VorbisComment.{EndIsTested, LengthIsRead, StarvesBehindVendorLength, kept_view};
 ghost use Rattle.claxon_metadata.specs.TagEntries.{HavePlaces, IsPlace, entry_view, entries_view};
 
