@@ -1,6 +1,6 @@
 -- An Err that names a fault, told by its text alone.
 use Rattle.std.proofs.Common.{◌≡◌, Bool, true, false, inl, inr, List, refl, sym}
-use Rattle.std.specs.Prelude.{ℕ, Result, Ok, Err, codes, not, ◌==◌, ◌&&◌}
+use Rattle.std.specs.Prelude.{Result, Ok, Err, not, ◌==◌, ◌&&◌}
 use Rattle.std.specs.Cmp.Lexicographic.{pointwise, same_text}
 use Rattle.std.proofs.lemmas.Bool.{not-true}
 use Rattle.std.proofs.lemmas.List.Folds.{Any-from_list_any}

@@ -16,7 +16,7 @@ use Rattle.claxon_input.specs.Gives.{Went, Stuck, Gives}
 use Rattle.claxon_input.proofs.BigEndian.{be_1, be_2, length-be_bytes, length-le_bytes, big_endian-bytes, little_endian-bytes}
 use Rattle.claxon_input.proofs.Sources.{most_front}
 use Rattle.claxon_input.proofs.States.{went_taken, stuck_bytes}
-use Rattle.claxon_input.proofs.CallsInTurn.{went_both, went_map, went_none, gives_after, stuck_after, stuck_told, io_exit}
+use Rattle.claxon_input.proofs.CallsInTurn.{went_map, went_none, gives_after, stuck_after, stuck_told, io_exit}
 
 -- what is made of the bytes doesn't matter to an end
 short_after : {X Y : Type 0} {a b : State X} {read : List X → Reading X Y} {Z : Type 0} (whole : List X → Reading X Z) → ((s : List X) → read s ≡ Short → whole s ≡ Short) → Stuck a b (λ s. read s ≡ Short) → Stuck a b (λ s. whole s ≡ Short)
@@ -91,15 +91,7 @@ pub ruleset first_number = (common_steps, went_byte, went_big, exit_big)
 -- ---- numbers one after another
 
 module _ {R : Type 0} (source : R → Source ℕ) {a b : R} where
-  -- a number, and then what is read behind it
-  pub went_then : {Y : Type 0} {c : State ℕ} {y : Y} (k n : ℕ) (next : ℕ → List ℕ → Reading ℕ Y) → Takes (source a) (source b) (be_bytes k n) → n < 2 ^ (8 * k) → Went (bytes_in source b) c (λ s m. next n s ≡ Done y m)
-      → Went (bytes_in source a) c (λ s m. and_then (big_at k) next s ≡ Done y m)
-  went_then k n next h small w = went_both _ (went_big source k n small h) w (λ p q. rw p q)
-
-  pub byte_then : {Y : Type 0} {c : State ℕ} {y : Y} (n : ℕ) (next : ℕ → List ℕ → Reading ℕ Y) → Takes (source a) (source b) (n ∷ []) → n < 256 → Went (bytes_in source b) c (λ s m. next n s ≡ Done y m)
-      → Went (bytes_in source a) c (λ s m. and_then (big_at 1) next s ≡ Done y m)
-  byte_then n next h small w = went_then 1 n next (rw (be_1 n small) h) small w
-
+  -- a number, and then what is read after it
   pub gives_then : {A Y : Type 0} (view : A → Y) (r : Result A Error) (c : State ℕ) (k n : ℕ) (next : ℕ → List ℕ → Reading ℕ Y) → Takes (source a) (source b) (be_bytes k n) → n < 2 ^ (8 * k) → Gives view r (next n) (bytes_in source b) c
       → Gives view r (and_then (big_at k) next) (bytes_in source a) c
   gives_then view r c k n next h small w = gives_after view r c (went_map _ (went_big source k n small h) (λ p. rw p refl)) w
@@ -114,7 +106,7 @@ module _ {R : Type 0} (source : R → Source ℕ) {a b : R} where
   pub most_byte : (n : ℕ) → Takes (source a) (source b) (n ∷ []) → TakesAtMost 1 (bytes_in source a) (bytes_in source b)
   most_byte n h = most_taken source 1 (omega arith) h
 
-  -- the same of a number in little endian, and of a buffer
+  -- numbers in little endian, and buffers
   pub exit_little : {A Y : Type 0} (view : A → Y) (r : Result A Error) (k : ℕ) (next : ℕ → List ℕ → Reading ℕ Y) (cause : io.Error) → IsErrAnd r (λ y. y ≡ IoError cause) → Refuses (source a) (source b) k → Gives view r (and_then (little_at k) next) (bytes_in source a) (bytes_in source b)
   exit_little view r k next cause p h = io_exit view (err_from_is_err_and r p) (stuck_told _ (stuck_little source k h) (λ t q. rw q refl))
 
@@ -124,7 +116,8 @@ module _ {R : Type 0} (source : R → Source ℕ) {a b : R} where
   pub most_whole : (xs : List ℕ) → Takes (source a) (source b) xs → TakesAtMost (length xs) (bytes_in source a) (bytes_in source b)
   most_whole xs h = most_taken source (length xs) (omega arith) h
 
-pub ruleset numbers = (common_steps, went_then, byte_then, gives_then, byte_gives_then, exit_big, most_refused, most_big, most_byte)
+-- for a function that reads numbers, or fills a buffer, to be named in its `using`
+pub ruleset numbers = (common_steps, gives_then, byte_gives_then, exit_big, most_refused, most_big, most_byte)
 
 pub ruleset little_numbers = (common_steps, went_little, exit_little, most_refused, most_little)
 

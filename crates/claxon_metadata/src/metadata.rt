@@ -426,6 +426,7 @@ fn read_application_block<R: ReadBytes, A: Allocator>(
 }
 
 // That many bytes. A caller bounds the count, since the memory is taken before the bytes are read.
+#[tactic(auto, using(claxon_input::proofs::ByteFields::buffers))]
 fn read_bytes<R: ReadBytes, A: Allocator>(alloc: A, input: &mut R, count: u32) -> Result<Vec<u8, A>>
     ensures length { IfOk result (λ bytes. vec_len bytes ≡ count) }
     ensures gives { GivesOrStarves (λ bytes. bytes.items) result (bytes_at count) (bytes_in R.source input.old) (bytes_in R.source input.new) }

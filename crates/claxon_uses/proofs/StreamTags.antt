@@ -1,5 +1,5 @@
 -- The tags of a stream whose head was read, or refused.
-use Rattle.std.proofs.Common.{◌≡◌, ◌∙◌, Bool, ℕ, List, ap, inl, inr, subst, sym, true}
+use Rattle.std.proofs.Common.{◌≡◌, ◌∙◌, Bool, ℕ, List, ap, inl, inr, subst, true}
 use Rattle.std.specs.Prelude.{IfErr, IfOk, Option, Result, String, Vec, Ok, Err}
 use Rattle.claxon.specs.Errors.{Error}
 use Rattle.claxon.specs.Errors.TheVariants.{OutOfMemory}

@@ -1,7 +1,6 @@
 -- What a call answers that reads a whole stream of bytes in memory.
 use Rattle.std.proofs.Common.{◌≡◌, ◌⊎◌, inl, inr, ℕ, ℤ, ◌<◌, true, List, [], ◌∷◌, ◌++◌, length, Option, None, Some, refl, sym, ap, subst, ◌∙◌, Bor}
 use Rattle.std.specs.Prelude.{IfErr, IfOk, IsErrAnd, Result, Ok, Err}
-use Rattle.std.specs.declared.io.Cursor.{Cursor}
 use Rattle.claxon.specs.Fault.{Fault}
 use Rattle.claxon.specs.Frame.{Block, Frame, FrameBytesFault, Frames, IsComplete, IsWidth, StreamShape}
 use Rattle.claxon.specs.Heads.{Head, HeadCode, HeadFault}
@@ -10,7 +9,7 @@ use Rattle.claxon.specs.Cursor.{cursor_source}
 use Rattle.claxon.specs.Error.{IsFault}
 use Rattle.claxon.specs.Gives.{Went}
 use Rattle.claxon.specs.Promises.{AnswersCode, Comes, IsExcused, IsStarved, NamesFault, TakesFault, Took}
-use Rattle.claxon.specs.State.{State, bytes_in}
+use Rattle.claxon.specs.State.{State}
 use Rattle.claxon.specs.Errors.{Error}
 use Rattle.claxon.specs.Errors.TheVariants.{OutOfMemory}
 use Rattle.claxon.specs.FrameReader.{HeaderAlone}

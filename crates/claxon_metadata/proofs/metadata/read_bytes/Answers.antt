@@ -1,7 +1,7 @@
-use Rattle.std.proofs.Common.{◌≡◌, length, drop, arith, rules, ◌∙◌}
+use Rattle.std.proofs.Common.{◌≡◌, length, drop, rules, ◌∙◌}
 use Rattle.std.proofs.lemmas.List.{take_at}
 use Rattle.std.proofs.lemmas.Result.{err_from_is_err_and}
-use Rattle.claxon_input.proofs.ByteFields.{went_whole, stuck_whole, most_refused, most_taken}
+use Rattle.claxon_input.proofs.ByteFields.{went_whole, stuck_whole}
 use Rattle.claxon_input.proofs.CallsInTurn.{starves_never, io_exit, went_map}
 use Rattle.claxon_metadata.proofs.metadata.read_bytes.Goals as goal
 
@@ -18,11 +18,3 @@ returns-clause-gives g c =
 
 pub returns-in_err-resize-clause-gives : goal.returns-in_err-resize-clause-gives
 returns-in_err-resize-clause-gives g c = search rules
-
-pub returns-in_err-read_into-clause-within : goal.returns-in_err-read_into-clause-within
-returns-in_err-read_into-clause-within g c =
-    let e : length c.deref_mut.result.now ≡ c.args.count = search rules in
-    most_refused g.R.ReadBytes.source c.args.count (rw e at c.in_err-read_into.ensures.err)
-
-pub returns-clause-within : goal.returns-clause-within
-returns-clause-within g c = most_taken g.R.ReadBytes.source c.args.count (search rules) c.in_ok-read_into.ensures.ok

@@ -1,5 +1,5 @@
 use Rattle.std.proofs.Common.{◌∙◌, ap, max, sym, take, ℕ}
-use Rattle.claxon_uses.specs.Peak.{greatest, peak_of}
+use Rattle.claxon_uses.specs.Peak.{peak_of}
 use Rattle.claxon_uses.proofs.Peaks.{max_is, peak_more, peak_none}
 use Rattle.claxon_uses.proofs.blocks.block_peak.Goals as goal
 

@@ -1,4 +1,4 @@
-use Rattle.std.proofs.Common.{◌≡◌, ◌∙◌, ap, get_or, max, pos, rules, sym, take, unsigned_abs, w32, ℕ, ℤ}
+use Rattle.std.proofs.Common.{◌≡◌, ◌∙◌, ap, get_or, max, pos, rules, sym, take, unsigned_abs, w32, ℕ}
 use mir.Val.{SFits}
 use Rattle.std.proofs.lemmas.Int.{to_z-of_z}
 use Rattle.claxon_uses.specs.Peak.{greatest}

@@ -1,4 +1,4 @@
-use Rattle.std.proofs.Common.{◌≡◌, ◌+◌, ◌*◌, length, arith, rules, w32}
+use Rattle.std.proofs.Common.{◌≡◌, ◌+◌, length, arith, rules, w32}
 use Rattle.std.specs.Prelude.{IfSome, Some, slice_get}
 use Rattle.std.proofs.lemmas.Int.{to_z-of_z}
 use Rattle.claxon.proofs.SamplesInTurn.{next_sample}

@@ -13,3 +13,6 @@ returns-then-length-most-clause-gives g c f is named =
 pub returns-in_err-length-clause-gives : goal.returns-in_err-length-clause-gives
 returns-in_err-length-clause-gives g c f is named =
     exit_little g.R.ReadBytes.source _ _ _ _ _ c.from_residual.ensures.1 c.in_err-length.ensures.err
+
+pub returns-clause-gives : goal.returns-clause-gives
+returns-clause-gives g c f is named = search (rules, went_little g.R.ReadBytes.source c.in_ok-length.length (search rules) c.in_ok-length.ensures.ok)

@@ -1,4 +1,4 @@
-use Rattle.std.proofs.Common.{refl, arith}
+use Rattle.std.proofs.Common.{arith}
 use Rattle.std.proofs.lemmas.Bool.{ltb-false}
 use Rattle.claxon_subframe.proofs.Lanes.{kept_lanes, kept_wide, moved_by}
 use Rattle.claxon_subframe.proofs.Sums.{later_on, none_past, old_on, wide_is, sample_lanes, taps_are}
