@@ -10,4 +10,5 @@ pub mod progress;
 pub mod text;
 pub mod wav;
 
+pub use claxon_write::{run_command, status};
 pub use facts::write_facts;

@@ -4,7 +4,7 @@
 mod trace;
 
 use claxon::Result;
-use claxon_write::{run_command, status};
+use claxon_tools::{run_command, status};
 use std::fs;
 use std::io::{BufWriter, Read, Write};
 use std::process::ExitCode;

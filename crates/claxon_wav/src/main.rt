@@ -2,7 +2,7 @@
 #![tactic(auto)]
 
 use claxon_tools::commands::wav::command;
-use claxon_write::run_command;
+use claxon_tools::run_command;
 use std::io::IsTerminal;
 use std::process::ExitCode;
 
