@@ -9,7 +9,7 @@ use Rattle.claxon_format.specs.Reading.{Reading}
 use Rattle.claxon_input.specs.declared.error.Error.{Error}
 use Rattle.claxon_input.specs.declared.error.Error.TheVariants.{IoError, FormatError, Unsupported, OutOfMemory}
 use Rattle.claxon_input.specs.Error.{IsFault, is_io, is_named}
-use Rattle.claxon_input.specs.Gives.{GivesOrStarves}
+use Rattle.claxon_input.specs.Gives.{GivesOrOutOfMemory}
 use Rattle.claxon_input.specs.State.{State}
 use Rattle.claxon.specs.Opening.{ErrNamesFault}
 
@@ -30,7 +30,7 @@ named_fault (Unsupported text) io named =
     (k.1, (same_text text.now (fault_text k.1) (sym b.1), b.0))
 named_fault OutOfMemory io named = absurd cc
 
-pub err_names_fault : {X A Y : Type 0} (view : A → Y) (r : Result A Error) (read : List X → Reading X Y) (a b : State X) → GivesOrStarves view r read a b → ErrNamesFault r
+pub err_names_fault : {X A Y : Type 0} (view : A → Y) (r : Result A Error) (read : List X → Reading X Y) (a b : State X) → GivesOrOutOfMemory view r read a b → ErrNamesFault r
 err_names_fault view (Ok x) read a b h = tt
 err_names_fault view (Err (IoError cause)) read a b h = inr (inl refl)
 err_names_fault view (Err (FormatError text)) read a b h = inr (inr (named_fault (FormatError text) refl h.named))

@@ -5,17 +5,17 @@ use Rattle.claxon_format.specs.MetadataBlocks.{Content, Info, MetadataBlock as B
 use Rattle.claxon_format.specs.read.MetadataBlocks.{block_at}
 use Rattle.claxon_format.specs.Comments.{Comment}
 use Rattle.claxon_format.specs.Fault.{Fault, SecondComment, SecondStreaminfo, StreaminfoMissing, TooManyBlocks}
-use Rattle.claxon_format.specs.Heads.{Options, Head, is_info, is_some, is_second, is_done, is_short, found_with, stream_marker}
+use Rattle.claxon_format.specs.Heads.{Options, Head, is_info, is_some, is_second, is_done, streaminfo_ends_head, found_with, stream_marker}
 use Rattle.claxon_format.specs.read.Heads.{marker_at, others_at, after_first, head_at}
-use Rattle.claxon_format.specs.Reading.{Reading, Done, Faulty, Short, bind, test, pick, done}
+use Rattle.claxon_format.specs.Reading.{Reading, Done, Faulty, Incomplete, bind, test, pick, done}
 use Rattle.claxon_format.specs.Streaminfo.{Streaminfo}
 use Rattle.std.specs.Option as Options
 use Rattle.claxon_input.specs.State.{State}
-use Rattle.claxon_input.specs.Gives.{Went}
-use Rattle.claxon_input.proofs.CallsInTurn.{went_both, went_map, StopsAs}
-use Rattle.claxon_metadata.specs.MetadataBlock.{flagged_view, content_view, info_view}
-use Rattle.claxon.specs.ReadHead.{PassesBlocks, comments_at, found_view, other_at}
-use Rattle.claxon.proofs.HeadMemory.{passes_both, passes_other}
+use Rattle.claxon_input.specs.Gives.{Consumes}
+use Rattle.claxon_input.proofs.CallsInTurn.{consumes_then, consumes_map, StopsAs}
+use Rattle.claxon_metadata.specs.MetadataBlock.{metadata_block_view, content_view, info_view}
+use Rattle.claxon.specs.ReadHead.{ConsumesBlocks, comments_at, found_view, other_at}
+use Rattle.claxon.proofs.HeadMemory.{consumes_blocks_both, consumes_other_block}
 use Rattle.claxon_metadata.specs.declared.metadata.StreamInfo.{StreamInfo}
 use Rattle.claxon_metadata.specs.declared.metadata.VorbisComment.{VorbisComment}
 use Rattle.claxon_metadata.specs.declared.metadata.MetadataBlock.{MetadataBlock}
@@ -120,7 +120,7 @@ other_then suffices (suc k) found next is_last s m some e =
         ≡ pick (is_last || (suffices && is_some next)) (done next) (others_at suffices k next) m
     go (Done b rest) h = tested suffices k found next is_last b rest m (is_info b.content) (is_second found b.content) h
     go (Faulty f rest) h = absurd cc
-    go Short h = absurd cc
+    go Incomplete h = absurd cc
 
 tested_stops : (suffices : Bool) (k : ℕ) (found : Option Comment) (b : Block) (rest : List ℕ) (p q : Bool) (x : Reading ℕ (Option Comment))
     → StopsAs (cond p (Faulty SecondStreaminfo rest) (cond q (Faulty SecondComment rest) (Done (other_of found b) rest))) (cond p (Faulty SecondStreaminfo rest) (cond q (Faulty SecondComment rest) x))
@@ -138,36 +138,36 @@ others_stops suffices (suc k) found s some = go (block_at s)
         (bind x (λ b. test (is_info b.content) SecondStreaminfo (test (is_second found b.content) SecondComment (pick (is_done suffices found b) (done (found_with found b.content)) (others_at suffices k (found_with found b.content))))))
     go (Done b rest) = tested_stops suffices k found b rest (is_info b.content) (is_second found b.content) _
     go (Faulty f rest) = record { fault = λ g r e. cc; short = λ e. absurd cc }
-    go Short = record { fault = λ g r e. absurd cc; short = λ e. refl }
+    go Incomplete = record { fault = λ g r e. absurd cc; short = λ e. refl }
 
 -- so many blocks may still come, and these comments were found
 pub record OthersSoFar (suffices : Bool) (most : ℕ) (found : Option Comment) (old new : State ℕ) : Type 0 where
-  pub so_far : Went old new (λ s m. others_at suffices 65535 None s ≡ others_at suffices most found m)
-  pub passed : Went old new PassesBlocks
+  pub so_far : Consumes old new (λ s m. others_at suffices 65535 None s ≡ others_at suffices most found m)
+  pub consumed_blocks : Consumes old new ConsumesBlocks
 
 pub others_next : {suffices : Bool} {most : ℕ} {found : Option Comment} (is_last : Bool) (next : Option Comment) {a b c : State ℕ} → 0 < most → (is_last || (suffices && is_some next)) ≡ false → OthersSoFar suffices most found a b
-    → Went b c (λ s m. other_at found s ≡ Done (is_last, next) m) → OthersSoFar suffices (most - 1) next a c
+    → Consumes b c (λ s m. other_at found s ≡ Done (is_last, next) m) → OthersSoFar suffices (most - 1) next a c
 others_next {suffices = suffices} {most = most} {found = found} is_last next some going h k =
     record {
-      so_far = went_both _ h.so_far k (λ p q. p ∙ other_then suffices most found next is_last _ _ some q ∙ rw going refl);
-      passed = went_both _ h.passed k (λ p q. passes_both p (passes_other found (is_last, next) _ _ q));
+      so_far = consumes_then _ h.so_far k (λ p q. p ∙ other_then suffices most found next is_last _ _ some q ∙ rw going refl);
+      consumed_blocks = consumes_then _ h.consumed_blocks k (λ p q. consumes_blocks_both p (consumes_other_block found (is_last, next) _ _ q));
     }
 
 pub others_done : {suffices : Bool} {most : ℕ} {found : Option Comment} (is_last : Bool) (next : Option Comment) {a b c : State ℕ} → 0 < most → (is_last || (suffices && is_some next)) ≡ true → OthersSoFar suffices most found a b
-    → Went b c (λ s m. other_at found s ≡ Done (is_last, next) m) → Went a c (λ s m. others_at suffices 65535 None s ≡ Done next m)
+    → Consumes b c (λ s m. other_at found s ≡ Done (is_last, next) m) → Consumes a c (λ s m. others_at suffices 65535 None s ≡ Done next m)
 others_done {suffices = suffices} {most = most} {found = found} is_last next some ends h k =
-    went_both _ h.so_far k (λ p q. p ∙ other_then suffices most found next is_last _ _ some q ∙ rw ends refl)
+    consumes_then _ h.so_far k (λ p q. p ∙ other_then suffices most found next is_last _ _ some q ∙ rw ends refl)
 
-pub others_stop : {suffices : Bool} {most : ℕ} {found : Option Comment} {a b : State ℕ} → 0 < most → OthersSoFar suffices most found a b → Went a b (λ s m. StopsAs (other_at found m) (others_at suffices 65535 None s))
-others_stop {suffices = suffices} {most = most} {found = found} {b = b} some h = went_map _ h.so_far (λ p. rw p (others_stops suffices most found b.coming some))
+pub others_stop : {suffices : Bool} {most : ℕ} {found : Option Comment} {a b : State ℕ} → 0 < most → OthersSoFar suffices most found a b → Consumes a b (λ s m. StopsAs (other_at found m) (others_at suffices 65535 None s))
+others_stop {suffices = suffices} {most = most} {found = found} {b = b} some h = consumes_map _ h.so_far (λ p. rw p (others_stops suffices most found b.remaining some))
 
 others_end : (suffices : Bool) (k : ℕ) (found : Option Comment) (s : List ℕ) → k ≡ 0 → others_at suffices k found s ≡ Faulty TooManyBlocks s
 unfolding others_at
 others_end suffices zero found s e = refl
 others_end suffices (suc k) found s e = absurd (omega arith)
 
-pub others_too_many : {suffices : Bool} {most : ℕ} {found : Option Comment} {a b : State ℕ} → most ≡ 0 → OthersSoFar suffices most found a b → Went a b (λ s m. others_at suffices 65535 None s ≡ Faulty TooManyBlocks m)
-others_too_many {suffices = suffices} {most = most} {found = found} {b = b} none h = went_map _ h.so_far (λ p. p ∙ others_end suffices most found b.coming none)
+pub others_too_many : {suffices : Bool} {most : ℕ} {found : Option Comment} {a b : State ℕ} → most ≡ 0 → OthersSoFar suffices most found a b → Consumes a b (λ s m. others_at suffices 65535 None s ≡ Faulty TooManyBlocks m)
+others_too_many {suffices = suffices} {most = most} {found = found} {b = b} none h = consumes_map _ h.so_far (λ p. p ∙ others_end suffices most found b.remaining none)
 
 -- ---- the whole head
 
@@ -194,30 +194,30 @@ first_missing o is_last CueSheet n h = refl
 first_missing o is_last Picture n h = refl
 first_missing o is_last ReservedBlock n h = refl
 
-pub no_streaminfo : {A : Type 0} (o : Options) (k : ℕ) (is_last : Bool) (block : MetadataBlock A) (s m n : List ℕ) → NoInfo block → marker_at s ≡ Done k m → block_at m ≡ Done (flagged_view is_last block) n → head_at o s ≡ Faulty StreaminfoMissing n
-no_streaminfo o k is_last block s m n h e f = after_block o k (flagged_view is_last block) s m n e f ∙ first_missing o is_last block n h
+pub no_streaminfo : {A : Type 0} (o : Options) (k : ℕ) (is_last : Bool) (block : MetadataBlock A) (s m n : List ℕ) → NoInfo block → marker_at s ≡ Done k m → block_at m ≡ Done (metadata_block_view is_last block) n → head_at o s ≡ Faulty StreaminfoMissing n
+no_streaminfo o k is_last block s m n h e f = after_block o k (metadata_block_view is_last block) s m n e f ∙ first_missing o is_last block n h
 
 -- the streaminfo, and then what is shown of the blocks behind it
 abbrev pub head_with : Options → Streaminfo → Option Comment → Head
 head_with o info found = record { info = info; comment = cond o.wants_comment found None }
 
-pub head_short : (o : Options) (k : ℕ) (is_last : Bool) (info : Streaminfo) (s m n : List ℕ) → is_short o is_last ≡ true → marker_at s ≡ Done k m → block_at m ≡ Done (record { is_last = is_last; content = Info info }) n
+pub streaminfo_only : (o : Options) (k : ℕ) (is_last : Bool) (info : Streaminfo) (s m n : List ℕ) → streaminfo_ends_head o is_last ≡ true → marker_at s ≡ Done k m → block_at m ≡ Done (record { is_last = is_last; content = Info info }) n
     → head_at o s ≡ Done (head_with o info None) n
 unfolding after_first
-head_short o k is_last info s m n short e f = after_block o k (record { is_last = is_last; content = Info info }) s m n e f ∙ rw short refl
+streaminfo_only o k is_last info s m n short e f = after_block o k (record { is_last = is_last; content = Info info }) s m n e f ∙ rw short refl
 
-head_long : (o : Options) (k : ℕ) (is_last : Bool) (info : Streaminfo) (s m n : List ℕ) → is_short o is_last ≡ false → marker_at s ≡ Done k m → block_at m ≡ Done (record { is_last = is_last; content = Info info }) n
+head_with_blocks : (o : Options) (k : ℕ) (is_last : Bool) (info : Streaminfo) (s m n : List ℕ) → streaminfo_ends_head o is_last ≡ false → marker_at s ≡ Done k m → block_at m ≡ Done (record { is_last = is_last; content = Info info }) n
     → head_at o s ≡ bind (others_at o.metadata_only 65535 None n) (λ found. done (head_with o info found))
 unfolding after_first
-head_long o k is_last info s m n long e f = after_block o k (record { is_last = is_last; content = Info info }) s m n e f ∙ rw long refl
+head_with_blocks o k is_last info s m n long e f = after_block o k (record { is_last = is_last; content = Info info }) s m n e f ∙ rw long refl
 
-pub later_stops : (o : Options) (k : ℕ) (is_last : Bool) (info : Streaminfo) (s m n : List ℕ) → is_short o is_last ≡ false → marker_at s ≡ Done k m → block_at m ≡ Done (record { is_last = is_last; content = Info info }) n
+pub later_stops : (o : Options) (k : ℕ) (is_last : Bool) (info : Streaminfo) (s m n : List ℕ) → streaminfo_ends_head o is_last ≡ false → marker_at s ≡ Done k m → block_at m ≡ Done (record { is_last = is_last; content = Info info }) n
     → StopsAs (others_at o.metadata_only 65535 None n) (head_at o s)
-later_stops o k is_last info s m n long e f = stops_with (λ found. done (head_with o info found)) (head_long o k is_last info s m n long e f)
+later_stops o k is_last info s m n long e f = stops_with (λ found. done (head_with o info found)) (head_with_blocks o k is_last info s m n long e f)
 
-pub head_whole : (o : Options) (k : ℕ) (is_last : Bool) (info : Streaminfo) (found : Option Comment) (s m n rest : List ℕ) → is_short o is_last ≡ false → marker_at s ≡ Done k m → block_at m ≡ Done (record { is_last = is_last; content = Info info }) n
+pub head_whole : (o : Options) (k : ℕ) (is_last : Bool) (info : Streaminfo) (found : Option Comment) (s m n rest : List ℕ) → streaminfo_ends_head o is_last ≡ false → marker_at s ≡ Done k m → block_at m ≡ Done (record { is_last = is_last; content = Info info }) n
     → others_at o.metadata_only 65535 None n ≡ Done found rest → head_at o s ≡ Done (head_with o info found) rest
-head_whole o k is_last info found s m n rest long e f q = head_long o k is_last info s m n long e f ∙ rw q refl
+head_whole o k is_last info found s m n rest long e f q = head_with_blocks o k is_last info s m n long e f ∙ rw q refl
 
 -- ---- the marker and the streaminfo, and what follows
 
@@ -225,36 +225,36 @@ Begun : Bool → Streaminfo → List ℕ → List ℕ → Type 0
 Begun is_last info s n = (m : List ℕ) × (marker_at s ≡ Done stream_marker m) × (block_at m ≡ Done (record { is_last = is_last; content = Info info }) n)
 
 pub record HeadBegun (is_last : Bool) (info : Streaminfo) (old new : State ℕ) : Type 0 where
-  begun : Went old new (Begun is_last info)
+  begun : Consumes old new (Begun is_last info)
 
-pub head_begun : {A : Type 0} {is_last : Bool} {block : MetadataBlock A} (info : StreamInfo) {a b c : State ℕ} → block ≡ InfoBlock info → Went a b (λ s m. marker_at s ≡ Done stream_marker m)
-    → Went b c (λ s m. block_at s ≡ Done (flagged_view is_last block) m) → HeadBegun is_last (info_view info) a c
+pub head_begun : {A : Type 0} {is_last : Bool} {block : MetadataBlock A} (info : StreamInfo) {a b c : State ℕ} → block ≡ InfoBlock info → Consumes a b (λ s m. marker_at s ≡ Done stream_marker m)
+    → Consumes b c (λ s m. block_at s ≡ Done (metadata_block_view is_last block) m) → HeadBegun is_last (info_view info) a c
 unfolding Begun
-head_begun info {b = b} e h k = record { begun = went_both _ h k (λ p q. (b.coming, p, rw e at q)) }
+head_begun info {b = b} e h k = record { begun = consumes_then _ h k (λ p q. (b.remaining, p, rw e at q)) }
 
 shown_none : (wants : Bool) → cond wants None None ≡ (let none : Option Comment = None in none)
 shown_none true = refl
 shown_none false = refl
 
-pub begun_short : (o : Options) {is_last : Bool} {info : Streaminfo} {a b : State ℕ} → is_short o is_last ≡ true → HeadBegun is_last info a b → Went a b (λ s m. head_at o s ≡ Done (record { info = info; comment = None }) m)
+pub begun_short : (o : Options) {is_last : Bool} {info : Streaminfo} {a b : State ℕ} → streaminfo_ends_head o is_last ≡ true → HeadBegun is_last info a b → Consumes a b (λ s m. head_at o s ≡ Done (record { info = info; comment = None }) m)
 unfolding Begun
 begun_short o {is_last = is_last} {info = info} {b = b} short h =
-    went_map _ h.begun (λ p. head_short o stream_marker is_last info _ p.0 b.coming short p.1 p.2 ∙ ap (λ (z : Option Comment). Done (record { info = info; comment = z }) b.coming) (shown_none o.wants_comment))
+    consumes_map _ h.begun (λ p. streaminfo_only o stream_marker is_last info _ p.0 b.remaining short p.1 p.2 ∙ ap (λ (z : Option Comment). Done (record { info = info; comment = z }) b.remaining) (shown_none o.wants_comment))
 
-pub begun_stops : (o : Options) {is_last : Bool} {info : Streaminfo} {a b : State ℕ} → is_short o is_last ≡ false → HeadBegun is_last info a b → Went a b (λ s m. StopsAs (others_at o.metadata_only 65535 None m) (head_at o s))
+pub begun_stops : (o : Options) {is_last : Bool} {info : Streaminfo} {a b : State ℕ} → streaminfo_ends_head o is_last ≡ false → HeadBegun is_last info a b → Consumes a b (λ s m. StopsAs (others_at o.metadata_only 65535 None m) (head_at o s))
 unfolding Begun
-begun_stops o {is_last = is_last} {info = info} {b = b} long h = went_map _ h.begun (λ p. later_stops o stream_marker is_last info _ p.0 b.coming long p.1 p.2)
+begun_stops o {is_last = is_last} {info = info} {b = b} long h = consumes_map _ h.begun (λ p. later_stops o stream_marker is_last info _ p.0 b.remaining long p.1 p.2)
 
-begun_whole : (o : Options) {is_last : Bool} {info : Streaminfo} {a b c : State ℕ} (found shown : Option Comment) → is_short o is_last ≡ false → cond o.wants_comment found None ≡ shown → HeadBegun is_last info a b
-    → Went b c (λ s m. others_at o.metadata_only 65535 None s ≡ Done found m) → Went a c (λ s m. head_at o s ≡ Done (record { info = info; comment = shown }) m)
+begun_whole : (o : Options) {is_last : Bool} {info : Streaminfo} {a b c : State ℕ} (found shown : Option Comment) → streaminfo_ends_head o is_last ≡ false → cond o.wants_comment found None ≡ shown → HeadBegun is_last info a b
+    → Consumes b c (λ s m. others_at o.metadata_only 65535 None s ≡ Done found m) → Consumes a c (λ s m. head_at o s ≡ Done (record { info = info; comment = shown }) m)
 unfolding Begun
 begun_whole o {is_last = is_last} {info = info} {b = b} {c = c} found shown long e h k =
-    went_both _ h.begun k (λ p q. head_whole o stream_marker is_last info found _ p.0 b.coming c.coming long p.1 p.2 q ∙ ap (λ (z : Option Comment). Done (record { info = info; comment = z }) c.coming) e)
+    consumes_then _ h.begun k (λ p q. head_whole o stream_marker is_last info found _ p.0 b.remaining c.remaining long p.1 p.2 q ∙ ap (λ (z : Option Comment). Done (record { info = info; comment = z }) c.remaining) e)
 
-pub begun_with : (o : Options) {is_last : Bool} {info : Streaminfo} {a b c : State ℕ} (found : Option Comment) → is_short o is_last ≡ false → o.wants_comment ≡ true → HeadBegun is_last info a b
-    → Went b c (λ s m. others_at o.metadata_only 65535 None s ≡ Done found m) → Went a c (λ s m. head_at o s ≡ Done (record { info = info; comment = found }) m)
-begun_with o found long wished h k = begun_whole o found found long (rw wished refl) h k
+pub begun_with : (o : Options) {is_last : Bool} {info : Streaminfo} {a b c : State ℕ} (found : Option Comment) → streaminfo_ends_head o is_last ≡ false → o.wants_comment ≡ true → HeadBegun is_last info a b
+    → Consumes b c (λ s m. others_at o.metadata_only 65535 None s ≡ Done found m) → Consumes a c (λ s m. head_at o s ≡ Done (record { info = info; comment = found }) m)
+begun_with o found long requested h k = begun_whole o found found long (rw requested refl) h k
 
-pub begun_without : (o : Options) {is_last : Bool} {info : Streaminfo} {a b c : State ℕ} (found : Option Comment) → is_short o is_last ≡ false → o.wants_comment ≡ false → HeadBegun is_last info a b
-    → Went b c (λ s m. others_at o.metadata_only 65535 None s ≡ Done found m) → Went a c (λ s m. head_at o s ≡ Done (record { info = info; comment = None }) m)
-begun_without o found long wished h k = begun_whole o found None long (rw wished refl) h k
+pub begun_without : (o : Options) {is_last : Bool} {info : Streaminfo} {a b c : State ℕ} (found : Option Comment) → streaminfo_ends_head o is_last ≡ false → o.wants_comment ≡ false → HeadBegun is_last info a b
+    → Consumes b c (λ s m. others_at o.metadata_only 65535 None s ≡ Done found m) → Consumes a c (λ s m. head_at o s ≡ Done (record { info = info; comment = None }) m)
+begun_without o found long requested h k = begun_whole o found None long (rw requested refl) h k

@@ -1,6 +1,6 @@
 pub use Rattle.claxon_input.proofs.CallsInTurn
 pub use Rattle.claxon_format.proofs.Streams
-pub use Rattle.claxon_format.proofs.Formats
+pub use Rattle.claxon_format.proofs.FormatLaws
 pub use Rattle.claxon_input.proofs.InMemory
 pub mod HeadMemory
 pub mod HeadParts

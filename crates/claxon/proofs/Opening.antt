@@ -5,21 +5,21 @@ use Rattle.std.specs.Io.KnownBytes.{prepend_known}
 use Rattle.claxon_format.specs.Heads.{Head, HeadCode, HeadFault, Options}
 use Rattle.claxon_input.specs.declared.error.Error.{Error}
 use Rattle.claxon_input.specs.declared.error.Error.TheVariants.{OutOfMemory}
-use Rattle.claxon_input.specs.Promises.{AnswersCode, Comes, EndsElse, HasNeither, IsExcused, NamesFault, TakesFault}
+use Rattle.claxon_input.specs.Promises.{CodeIsComplete, Remains, ElseIoError, HasNeither, IsExcused, FaultIsComplete, FaultIsSound}
 use Rattle.claxon_input.specs.Source.{Source}
 use Rattle.claxon_input.specs.State.{State, bytes_in, state_of}
 use Rattle.claxon.specs.FlacReader.{flac_head}
-use Rattle.claxon.specs.Opening.{OpenAnswer, EachFaultIsNamedOnOpening, EachHeadIsOpened, HeadFaultIsThere, IsDropped, NoHeadIsNotOpened, flac_bytes, unread}
+use Rattle.claxon.specs.Opening.{OpenAnswer, OpenFaultIsComplete, OpenIsComplete, OpenFaultIsSound, IsMemoryOrIoError, OpenElseIoError, flac_bytes, unread}
 
 with_none : (known : Option (List ℕ)) → prepend_known [] known ≡ known
 with_none None = refl
 with_none (Some all) = refl
 
 abbrev whole : Option (List ℕ) → Source ℕ
-whole known = record { to_come = known; errors = 0; empties = 0; loans = []; checks = λ _. [] }
+whole known = record { remaining = known; errors = 0; empty_reads = 0; loans = []; crcs = λ _. [] }
 
 -- nothing was read so far
-pub still_unread : {R : Type 0} (source : R → Source ℕ) (r : R) (known : Option (List ℕ)) → source r ≡ record { to_come = prepend_known [] known; errors = 0; empties = 0; loans = []; checks = λ _. [] } → bytes_in source r ≡ unread known
+pub still_unread : {R : Type 0} (source : R → Source ℕ) (r : R) (known : Option (List ℕ)) → source r ≡ record { remaining = prepend_known [] known; errors = 0; empty_reads = 0; loans = []; crcs = λ _. [] } → bytes_in source r ≡ unread known
 unfolding bytes_in
 still_unread source r known e = ap (state_of (λ all. all)) (e ∙ ap whole (with_none known))
 
@@ -31,14 +31,14 @@ never a b x (inl m) = cc
 never a b x (inr f) = f.0
 
 module _ {R : Type 0} (remaining : R → Option (List ℕ)) (reader : R) (a : State ℕ) (same : a ≡ unread (remaining reader)) where
-  comes_in : {xs : List ℕ} → Comes (unread (remaining reader)) xs → Comes a xs
-  comes_in {xs = xs} c = subst (λ (s : State ℕ). Comes s xs) (sym same) c
+  remains_in : {xs : List ℕ} → Remains (unread (remaining reader)) xs → Remains a xs
+  remains_in {xs = xs} c = subst (λ (s : State ℕ). Remains s xs) (sym same) c
 
-  told_in : (unread (remaining reader)).told ≡ true → a.told ≡ true
-  told_in t = ap (λ (s : State ℕ). s.told) same ∙ t
+  known_in : (unread (remaining reader)).known ≡ true → a.known ≡ true
+  known_in t = ap (λ (s : State ℕ). s.known) same ∙ t
 
-  coming_is : a.coming ≡ (unread (remaining reader)).coming
-  coming_is = ap (λ (s : State ℕ). s.coming) same
+  remaining_is : a.remaining ≡ (unread (remaining reader)).remaining
+  remaining_is = ap (λ (s : State ℕ). s.remaining) same
 
 module _ {R A X : Type 0} (remaining : R → Option (List ℕ)) (o : Options) (reader : R) (view : X → Head) (a b : State ℕ) (same : a ≡ unread (remaining reader)) where
   -- the whole call answers what `read_head` did
@@ -47,33 +47,33 @@ module _ {R A X : Type 0} (remaining : R → Option (List ℕ)) (o : Options) (r
   OpensAs (Err e) (Err y) = y ≡ e
   OpensAs _ _ = ⊥
 
-  dropped : (e y : Error) → y ≡ e → IsExcused (let q : Result X Error = Err e in q) a b → IsDropped (let r : OpenAnswer R A = Err y in r)
+  dropped : (e y : Error) → y ≡ e → IsExcused (let q : Result X Error = Err e in q) a b → IsMemoryOrIoError (let r : OpenAnswer R A = Err y in r)
   dropped e y s (inl m) = let n : e ≡ OutOfMemory = cc in inl (ap (λ (z : Error). Err z) (s ∙ n))
   dropped e y s (inr f) = inr (rw s f.0)
 
-  pub is_opened : (q : Result X Error) (r : OpenAnswer R A) → OpensAs q r → AnswersCode view q (HeadCode o) a b → EachHeadIsOpened remaining o reader r
-  is_opened (Ok x) (Ok flac) s k h t rest c comes = elim (k h t rest c (comes_in remaining reader a same comes)) [ inl g ↦ inl (sym s.0 ∙ g.0, subst (λ (z : State ℕ). Comes z rest) s.1 g.1) | inr f ↦ absurd (never a b x f) ]
-  is_opened (Err e) (Err y) s k h t rest c comes = elim (k h t rest c (comes_in remaining reader a same comes)) [ inl g ↦ absurd g.0 | inr f ↦ inr (dropped e y s f) ]
+  pub is_opened : (q : Result X Error) (r : OpenAnswer R A) → OpensAs q r → CodeIsComplete view q (HeadCode o) a b → OpenIsComplete remaining o reader r
+  is_opened (Ok x) (Ok flac) s k h t rest c comes = elim (k h t rest c (remains_in remaining reader a same comes)) [ inl g ↦ inl (sym s.0 ∙ g.0, subst (λ (z : State ℕ). Remains z rest) s.1 g.1) | inr f ↦ absurd (never a b x f) ]
+  is_opened (Err e) (Err y) s k h t rest c comes = elim (k h t rest c (remains_in remaining reader a same comes)) [ inl g ↦ absurd g.0 | inr f ↦ inr (dropped e y s f) ]
   is_opened (Ok x) (Err y) s k h t rest c comes = absurd s
   is_opened (Err e) (Ok flac) s k h t rest c comes = absurd s
 
-  pub is_fault : (q : Result X Error) (r : OpenAnswer R A) → OpensAs q r → TakesFault q (HeadFault o) a b → HeadFaultIsThere remaining o reader r
+  pub is_fault : (q : Result X Error) (r : OpenAnswer R A) → OpensAs q r → FaultIsSound q (HeadFault o) a b → OpenFaultIsSound remaining o reader r
   is_fault (Ok x) (Ok flac) s k = tt
   is_fault (Err e) (Err y) s k = rw s (elim k [
     | inl m ↦ inl m
-    | inr n ↦ inr (elim n [ inl i ↦ inl i | inr f ↦ inr (λ t. let g = f (told_in remaining reader a same t) in let w = (g.2 (told_in remaining reader a same t)).1 in (g.0, g.1, (w.0, b.coming, w.1, sym (coming_is remaining reader a same) ∙ w.2))) ])
+    | inr n ↦ inr (elim n [ inl i ↦ inl i | inr f ↦ inr (λ t. let g = f (known_in remaining reader a same t) in let w = (g.2 (known_in remaining reader a same t)).1 in (g.0, g.1, (w.0, b.remaining, w.1, sym (remaining_is remaining reader a same) ∙ w.2))) ])
   ])
   is_fault (Ok x) (Err y) s k = absurd s
   is_fault (Err e) (Ok flac) s k = tt
 
-  pub is_named : (q : Result X Error) (r : OpenAnswer R A) → OpensAs q r → NamesFault q (HeadFault o) a b → EachFaultIsNamedOnOpening remaining o reader r
-  is_named (Ok x) (Ok flac) s k f t rest c comes = elim (k f t rest c (comes_in remaining reader a same comes)) [ inl g ↦ absurd g.0 | inr z ↦ absurd (never a b x z) ]
-  is_named (Err e) (Err y) s k f t rest c comes = elim (k f t rest c (comes_in remaining reader a same comes)) [ inl g ↦ inl (rw s g.0) | inr z ↦ inr (dropped e y s z) ]
+  pub is_named : (q : Result X Error) (r : OpenAnswer R A) → OpensAs q r → FaultIsComplete q (HeadFault o) a b → OpenFaultIsComplete remaining o reader r
+  is_named (Ok x) (Ok flac) s k f t rest c comes = elim (k f t rest c (remains_in remaining reader a same comes)) [ inl g ↦ absurd g.0 | inr z ↦ absurd (never a b x z) ]
+  is_named (Err e) (Err y) s k f t rest c comes = elim (k f t rest c (remains_in remaining reader a same comes)) [ inl g ↦ inl (rw s g.0) | inr z ↦ inr (dropped e y s z) ]
   is_named (Ok x) (Err y) s k f t rest c comes = absurd s
   is_named (Err e) (Ok flac) s k f t rest c comes = absurd s
 
-  pub is_io_error : (q : Result X Error) (r : OpenAnswer R A) → OpensAs q r → EndsElse q (HeadCode o) (HeadFault o) a b → NoHeadIsNotOpened remaining o reader r
-  is_io_error (Ok x) (Ok flac) s k t n = elim (k (told_in remaining reader a same t) (subst (λ (z : List ℕ). HasNeither (HeadCode o) (HeadFault o) z) (sym (coming_is remaining reader a same)) n)) [ inl m ↦ absurd cc | inr i ↦ absurd i ]
-  is_io_error (Err e) (Err y) s k t n = elim (k (told_in remaining reader a same t) (subst (λ (z : List ℕ). HasNeither (HeadCode o) (HeadFault o) z) (sym (coming_is remaining reader a same)) n)) [ inl m ↦ (let u : e ≡ OutOfMemory = cc in inl (ap (λ (z : Error). Err z) (s ∙ u))) | inr i ↦ inr (rw s i) ]
+  pub is_io_error : (q : Result X Error) (r : OpenAnswer R A) → OpensAs q r → ElseIoError q (HeadCode o) (HeadFault o) a b → OpenElseIoError remaining o reader r
+  is_io_error (Ok x) (Ok flac) s k t n = elim (k (known_in remaining reader a same t) (subst (λ (z : List ℕ). HasNeither (HeadCode o) (HeadFault o) z) (sym (remaining_is remaining reader a same)) n)) [ inl m ↦ absurd cc | inr i ↦ absurd i ]
+  is_io_error (Err e) (Err y) s k t n = elim (k (known_in remaining reader a same t) (subst (λ (z : List ℕ). HasNeither (HeadCode o) (HeadFault o) z) (sym (remaining_is remaining reader a same)) n)) [ inl m ↦ (let u : e ≡ OutOfMemory = cc in inl (ap (λ (z : Error). Err z) (s ∙ u))) | inr i ↦ inr (rw s i) ]
   is_io_error (Ok x) (Err y) s k t n = absurd s
   is_io_error (Err e) (Ok flac) s k t n = absurd s

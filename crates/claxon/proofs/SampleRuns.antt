@@ -5,14 +5,14 @@ use Rattle.std.specs.Prelude.{Bool, IsOkAnd, IsSomeAnd, MatchBool, Option, None,
 use Rattle.std.proofs.lemmas.List.{append-nil, append_cancel_left, length-append}
 use Rattle.claxon_format.specs.Bits.{bits, bits_of}
 use Rattle.claxon_format.specs.Fault.{Fault}
-use Rattle.claxon_format.specs.Frame.{StreamShape, Block, Frame, FrameBytesFault, Frames, IsComplete, IsWidth, known_width}
-use Rattle.claxon_format.specs.Guards.{crc16}
+use Rattle.claxon_format.specs.Frame.{StreamFormat, Block, Frame, FrameBytesFault, Frames, NoFrameLeft, IsWidth, known_width}
+use Rattle.claxon_format.specs.Crc.{crc16}
 use Rattle.claxon_format.specs.Heads.{HeadCode}
-use Rattle.claxon_format.specs.Reading.{Faulty, Short}
+use Rattle.claxon_format.specs.Reading.{Faulty, Incomplete}
 use Rattle.claxon_format.specs.read.Frame.{frame_bytes_at}
 use Rattle.claxon_format.specs.Streams.{interleave, stream_of, with_samples}
 use Rattle.claxon_format.proofs.Bytes.{length-bits_of}
-use Rattle.claxon_format.proofs.Formats.{frames_told}
+use Rattle.claxon_format.proofs.FormatLaws.{frames_unambiguous}
 use Rattle.claxon_format.proofs.FrameBytes.{Reads-frame_bytes, one_block}
 use Rattle.claxon_format.proofs.Numbers.{length-bits}
 use Rattle.claxon_input.specs.declared.error.Error.{Error}
@@ -20,21 +20,21 @@ use Rattle.claxon_input.specs.declared.input.BufferedReader.{BufferedReader}
 use Rattle.claxon_input.specs.BufferedReader.{buffered_source}
 use Rattle.claxon_input.specs.Source.{Source}
 use Rattle.claxon_input.specs.State.{State, bytes_in}
-use Rattle.claxon_input.specs.Gives.{FailedIn, Went}
-use Rattle.claxon_input.specs.Promises.{Comes, IsExcused, Took}
-use Rattle.claxon_input.proofs.CallsInTurn.{went_none, went_both, went_told}
+use Rattle.claxon_input.specs.Gives.{FailedIn, Consumes}
+use Rattle.claxon_input.specs.Promises.{Remains, IsExcused, Consumed}
+use Rattle.claxon_input.proofs.CallsInTurn.{consumes_none, consumes_then, consumes_known}
 use Rattle.claxon_frame.specs.Block.{BlockValue}
 use Rattle.claxon_frame.specs.FrameReader.{ReadsFrame, block_view}
-use Rattle.claxon_frame.proofs.FramePromises.{short_frame}
+use Rattle.claxon_frame.proofs.FramePromises.{incomplete_frame}
 use Rattle.claxon.specs.FlacReader.{flac_head, flac_input, samples_input}
 use Rattle.claxon.specs.FlacSamples.{BlockAnswer, NextSample, SamplesStep, have_failed, samples_bytes, samples_left, samples_stream}
 use Rattle.claxon.specs.Opening.{flac_bytes}
-use Rattle.claxon.specs.SampleRuns.{BeginsAt, Calls, GaveAll, GaveSamples, ReadsFrames, StreamOf, TakesFrames, end_answer, end_found, lent, samples_of}
+use Rattle.claxon.specs.SampleRuns.{BeginsAt, Calls, GaveAll, GaveSamples, ReadsFrames, StreamOf, ConsumesFrames, end_answer, end_found, lent, samples_of}
 use Rattle.claxon.specs.declared.reader.FlacReader.{FlacReader}
 use Rattle.claxon.specs.declared.samples.FlacSamples.{FlacSamples}
 
 -- one frame more
-frames_add : (stream : Option StreamShape) (blocks : List Block) (b : Block) (s m r t : List ℕ) → Frames stream s blocks m → Frame stream b t → m ≡ t ++ r → Frames stream s (blocks ++ b ∷ []) r
+frames_add : (stream : Option StreamFormat) (blocks : List Block) (b : Block) (s m r t : List ℕ) → Frames stream s blocks m → Frame stream b t → m ≡ t ++ r → Frames stream s (blocks ++ b ∷ []) r
 frames_add stream [] b s m r t c f e = (t, r, f, c ∙ e, refl)
 frames_add stream (x ∷ blocks) b s m r t c f e = (c.0, c.1, c.2, c.3, frames_add stream blocks b c.1 m r t c.4 f e)
 
@@ -42,13 +42,13 @@ pub samples_add : (blocks : List Block) (b : Block) → samples_of (blocks ++ b 
 samples_add [] b = append-nil (interleave b.channels)
 samples_add (x ∷ blocks) b = ap (λ (z : List ℤ). interleave x.channels ++ z) (samples_add blocks b) ∙ sym (append_assoc (interleave x.channels) (samples_of blocks) (interleave b.channels))
 
-pub takes_none : (stream : Option StreamShape) (a : State ℕ) → TakesFrames stream [] a a
-takes_none stream a = record { went = went_none a _ refl }
+pub takes_none : (stream : Option StreamFormat) (a : State ℕ) → ConsumesFrames stream [] a a
+takes_none stream a = record { consumed = consumes_none a _ refl }
 
-pub takes_more : {stream : Option StreamShape} {blocks : List Block} (block : BlockValue) {a b c : State ℕ} → TakesFrames stream blocks a b → ReadsFrame stream (Ok (Some block)) b c → TakesFrames stream (blocks ++ block_view block ∷ []) a c
+pub takes_more : {stream : Option StreamFormat} {blocks : List Block} (block : BlockValue) {a b c : State ℕ} → ConsumesFrames stream blocks a b → ReadsFrame stream (Ok (Some block)) b c → ConsumesFrames stream (blocks ++ block_view block ∷ []) a c
 takes_more {stream = stream} {blocks = blocks} block h k =
-    let w = went_told (λ s m. (t : List ℕ) × Frame stream (block_view block) t × (s ≡ t ++ m)) k.gives (λ told p. (k.promises.sound told).1) in
-    record { went = went_both _ h.went w (λ p q. frames_add stream blocks (block_view block) _ _ _ q.0 p q.1 q.2) }
+    let w = consumes_known (λ s m. (t : List ℕ) × Frame stream (block_view block) t × (s ≡ t ++ m)) k.gives (λ known p. (k.promises.sound known).1) in
+    record { consumed = consumes_then _ h.consumed w (λ p q. frames_add stream blocks (block_view block) _ _ _ q.0 p q.1 q.2) }
 
 -- ---- calls for samples
 
@@ -66,21 +66,21 @@ module _ {R A : Type 0} (source : R → Source ℕ) where
 
   module _ {old mid : FlacSamples R A} {xs : List ℤ} (h : GaveSamples source old xs mid) where
     -- the next one is a sample of the block at hand
-    gave_at_hand : (x y : ℤ) (left : List ℤ) (new : FlacSamples R A) → NextSample source mid (Some (Ok x)) new → samples_left mid ≡ y ∷ left → GaveSamples source old (xs ++ x ∷ []) new
-    gave_at_hand x y left new n e =
-        let g = n.at_hand y left e in
+    gave_from_block : (x y : ℤ) (left : List ℤ) (new : FlacSamples R A) → NextSample source mid (Some (Ok x)) new → samples_left mid ≡ y ∷ left → GaveSamples source old (xs ++ x ∷ []) new
+    gave_from_block x y left new n e =
+        let g = n.from_block y left e in
         let s : x ≡ y = same_sample g.0.is in
         record {
           blocks = h.blocks;
-          frames = subst (λ (b : State ℕ). TakesFrames (samples_stream old) h.blocks (samples_bytes source old) b) (sym g.1) h.frames;
+          frames = subst (λ (b : State ℕ). ConsumesFrames (samples_stream old) h.blocks (samples_bytes source old) b) (sym g.1) h.frames;
           samples = h.samples ∙ ap (λ (z : List ℤ). xs ++ z) (e ∙ ap (λ (z : ℤ). z ∷ left) (sym s) ∙ ap (λ (z : List ℤ). x ∷ z) (sym g.0.left_are)) ∙ sym (append_assoc xs (x ∷ []) (samples_left new));
           stream = n.stream ∙ h.stream;
           goes_on = g.0.goes_on;
         }
 
     -- or the first one of the next block
-    gave_behind : (x : ℤ) (new : FlacSamples R A) → NextSample source mid (Some (Ok x)) new → samples_left mid ≡ [] → GaveSamples source old (xs ++ x ∷ []) new
-    gave_behind x new n e = let b = n.behind e in go b.found b.reads b.answer
+    gave_from_next_block : (x : ℤ) (new : FlacSamples R A) → NextSample source mid (Some (Ok x)) new → samples_left mid ≡ [] → GaveSamples source old (xs ++ x ∷ []) new
+    gave_from_next_block x new n e = let b = n.behind e in go b.found b.reads b.answer
       where
         go : (found : Result (Option BlockValue) Error) → ReadsFrame (samples_stream mid) found (samples_bytes source mid) (samples_bytes source new) → BlockAnswer found (Some (Ok x)) new → GaveSamples source old (xs ++ x ∷ []) new
         go (Ok None) reads answer = let z = answer.0 in absurd cc
@@ -88,7 +88,7 @@ module _ {R A : Type 0} (source : R → Source ℕ) where
         go (Ok (Some block)) reads answer =
             let g = answer.3 in
             let s : x ≡ answer.0 = same_sample g.is in
-            let r = subst (λ (k : Option StreamShape). ReadsFrame k (Ok (Some block)) (samples_bytes source mid) (samples_bytes source new)) h.stream reads in
+            let r = subst (λ (k : Option StreamFormat). ReadsFrame k (Ok (Some block)) (samples_bytes source mid) (samples_bytes source new)) h.stream reads in
             let first : interleave block.channels ≡ x ∷ samples_left new = answer.2 ∙ ap (λ (z : ℤ). z ∷ answer.1) (sym s) ∙ ap (λ (z : List ℤ). x ∷ z) (sym g.left_are) in
             record {
               blocks = h.blocks ++ block_view block ∷ [];
@@ -109,13 +109,13 @@ module _ {R A : Type 0} (source : R → Source ℕ) where
         n = goes_on source mid (Some (Ok x)) new h.goes_on step
 
         go : (left : List ℤ) → samples_left mid ≡ left → GaveSamples source old (xs ++ x ∷ []) new
-        go [] e = gave_behind x new n e
-        go (y ∷ left) e = gave_at_hand x y left new n e
+        go [] e = gave_from_next_block x new n e
+        go (y ∷ left) e = gave_from_block x y left new n e
 
     -- no sample is at hand where none is answered
-    none_at_hand : (end : Option Error) (y : ℤ) (left : List ℤ) (new : FlacSamples R A) → NextSample source mid (end_answer end) new → samples_left mid ≡ y ∷ left → ⊥
-    none_at_hand None y left new n e = let z = (n.at_hand y left e).0.is in cc
-    none_at_hand (Some error) y left new n e = let z = (n.at_hand y left e).0.is in cc
+    none_from_block : (end : Option Error) (y : ℤ) (left : List ℤ) (new : FlacSamples R A) → NextSample source mid (end_answer end) new → samples_left mid ≡ y ∷ left → ⊥
+    none_from_block None y left new n e = let z = (n.from_block y left e).0.is in cc
+    none_from_block (Some error) y left new n e = let z = (n.from_block y left e).0.is in cc
 
     found_is : (end : Option Error) (found : Result (Option BlockValue) Error) (new : FlacSamples R A) → BlockAnswer found (end_answer end) new → found ≡ end_found end
     found_is None (Ok None) new answer = refl
@@ -133,11 +133,11 @@ module _ {R A : Type 0} (source : R → Source ℕ) where
         n = goes_on source mid (end_answer end) new h.goes_on step
 
         go : (left : List ℤ) → samples_left mid ≡ left → GaveAll source old xs end new
-        go (y ∷ left) e = absurd (none_at_hand end y left new n e)
+        go (y ∷ left) e = absurd (none_from_block end y left new n e)
         go [] e =
             let b = n.behind e in
             let f : b.found ≡ end_found end = found_is end b.found new b.answer in
-            let r = subst (λ (k : Option StreamShape). ReadsFrame k b.found (samples_bytes source mid) (samples_bytes source new)) h.stream b.reads in
+            let r = subst (λ (k : Option StreamFormat). ReadsFrame k b.found (samples_bytes source mid) (samples_bytes source new)) h.stream b.reads in
             record {
               blocks = h.blocks;
               ends = record { between = samples_bytes source mid; blocks_are = h.frames; last = subst (λ (q : Result (Option BlockValue) Error). ReadsFrame (samples_stream old) q (samples_bytes source mid) (samples_bytes source new)) f r };
@@ -158,34 +158,34 @@ module _ {R A : Type 0} (source : R → Source ℕ) where
 -- ---- the end of the frames
 
 -- a frame has two bytes or more
-frame_long : (stream : Option StreamShape) (b : Block) (t : List ℕ) → Frame stream b t → 2 ≤ length t
+frame_long : (stream : Option StreamFormat) (b : Block) (t : List ℕ) → Frame stream b t → 2 ≤ length t
 frame_long stream b t c =
     let l : length (bits_of t) ≡ length c.0 + 16 = ap length c.2 ∙ length-append c.0 (bits 16 (crc16 c.0)) ∙ ap (λ (n : ℕ). length c.0 + n) (length-bits 16 (crc16 c.0)) in
     omega (arith, l, length-bits_of t)
 
 -- so fewer begin with none
-pub short_complete : (stream : Option StreamShape) (r : List ℕ) → length r < 2 → IsComplete stream r
-short_complete stream r short b t u c e =
+pub short_no_frame : (stream : Option StreamFormat) (r : List ℕ) → length r < 2 → NoFrameLeft stream r
+short_no_frame stream r short b t u c e =
     let l : length r ≡ length t + length u = ap length e ∙ length-append t u in
     let f = frame_long stream b t c in
     omega arith
 
 -- nor with a fault
-pub short_right : (stream : Option StreamShape) → IsWidth (known_width stream) → (r : List ℕ) → length r < 2 → (f : Fault) (t u : List ℕ) → FrameBytesFault stream f t → r ≡ t ++ u → ⊥
-short_right stream width r short f t u bad e = let q : Faulty f u ≡ Short = sym ((Reads-frame_bytes stream width).bad_again f t u bad) ∙ ap (frame_bytes_at stream) (sym e) ∙ short_frame stream r short in cc
+pub short_no_fault : (stream : Option StreamFormat) → IsWidth (known_width stream) → (r : List ℕ) → length r < 2 → (f : Fault) (t u : List ℕ) → FrameBytesFault stream f t → r ≡ t ++ u → ⊥
+short_no_fault stream width r short f t u bad e = let q : Faulty f u ≡ Incomplete = sym ((Reads-frame_bytes stream width).bad_again f t u bad) ∙ ap (frame_bytes_at stream) (sym e) ∙ incomplete_frame stream r short in cc
 
 -- where the frames end fewer than two bytes are left
-few_left : {stream : Option StreamShape} {blocks : List Block} {a b : State ℕ} (h : ReadsFrames stream blocks (Ok None) a b) → a.told ≡ true → length h.between.coming < 2
-few_left h told = (h.last.promises.at_end refl (h.blocks_are.went.known told).told).0
+few_left : {stream : Option StreamFormat} {blocks : List Block} {a b : State ℕ} (h : ReadsFrames stream blocks (Ok None) a b) → a.known ≡ true → length h.between.remaining < 2
+few_left h known = (h.last.promises.at_end refl (h.blocks_are.consumed.known known).known).0
 
 -- ---- where the frames of blocks are to come, and then no frame
 
 -- what failed after something was done failed
-failed_after : {X : Type 0} {P : List X → List X → Type 0} {a b : State X} (c : State X) → Went a b P → FailedIn b c → FailedIn a c
+failed_after : {X : Type 0} {P : List X → List X → Type 0} {a b : State X} (c : State X) → Consumes a b P → FailedIn b c → FailedIn a c
 failed_after c w (inl f) = inl (λ p. f (p ∙ sym w.errors))
-failed_after c w (inr f) = inr ((λ p. f.0 (p ∙ sym w.empties)), f.1)
+failed_after c w (inr f) = inr ((λ p. f.0 (p ∙ sym w.empty_reads)), f.1)
 
-pub excused_after : {X A : Type 0} {P : List X → List X → Type 0} {a b : State X} (c : State X) (r : Result A Error) → Went a b P → IsExcused r b c → IsExcused r a c
+pub excused_after : {X A : Type 0} {P : List X → List X → Type 0} {a b : State X} (c : State X) (r : Result A Error) → Consumes a b P → IsExcused r b c → IsExcused r a c
 excused_after c r w (inl e) = inl e
 excused_after c r w (inr f) = inr (f.0, failed_after c w f.1)
 
@@ -193,10 +193,10 @@ not_found : (P : BlockValue → Type 0) (end : Option Error) → IsOkAnd (end_fo
 not_found P None h = h
 not_found P (Some e) h = h
 
-module _ (stream : Option StreamShape) (width : IsWidth (known_width stream)) where
+module _ (stream : Option StreamFormat) (width : IsWidth (known_width stream)) where
   -- where a fault stands no frame does
-  pub fault_complete : (f : Fault) (s t rest : List ℕ) → FrameBytesFault stream f t → s ≡ t ++ rest → IsComplete stream s
-  fault_complete f s t rest bad e block u v c p = (frames_told stream width).no_fault block f u t v rest c bad (sym p ∙ e)
+  pub fault_no_frame : (f : Fault) (s t rest : List ℕ) → FrameBytesFault stream f t → s ≡ t ++ rest → NoFrameLeft stream s
+  fault_no_frame f s t rest bad e block u v c p = (frames_unambiguous stream width).no_fault block f u t v rest c bad (sym p ∙ e)
 
   -- of two runs of frames one goes on where the other ends
   pub frames_either : (s m n : List ℕ) (done blocks : List Block) → Frames stream s done m → Frames stream s blocks n
@@ -212,7 +212,7 @@ module _ (stream : Option StreamShape) (width : IsWidth (known_width stream)) wh
       ]
 
   -- frames that were read are the first ones of those that stand there
-  pub frames_left : (s m rest : List ℕ) (done blocks : List Block) → Frames stream s done m → Frames stream s blocks rest → IsComplete stream rest → (others : List Block) × (blocks ≡ done ++ others) × Frames stream m others rest
+  pub frames_left : (s m rest : List ℕ) (done blocks : List Block) → Frames stream s done m → Frames stream s blocks rest → NoFrameLeft stream rest → (others : List Block) × (blocks ≡ done ++ others) × Frames stream m others rest
   frames_left s m rest done blocks d f c = elim (frames_either s m rest done blocks d f) [ inl q ↦ q | inr q ↦ go q.0 q.1 q.2 ]
     where
       go : (more : List Block) → done ≡ blocks ++ more → Frames stream rest more m → (others : List Block) × (blocks ≡ done ++ others) × Frames stream m others rest
@@ -220,48 +220,48 @@ module _ (stream : Option StreamShape) (width : IsWidth (known_width stream)) wh
       go (x ∷ more) e g = absurd (c x g.0 g.1 g.2 g.3)
 
   -- All of them were read and the last answer is of what follows, or it is excused.
-  pub behind : (end : Option Error) (done blocks : List Block) (m : List ℕ) {a b : State ℕ} (h : ReadsFrames stream done (end_found end) a b) → a.told ≡ true → Frames stream a.coming blocks m → IsComplete stream m
-      → ((blocks ≡ done) × Comes h.between m) ⊎ IsExcused (end_found end) a b
-  behind end done blocks m {a = a} {b = b} h told f c =
-      let w = h.blocks_are.went.known told in
-      let q = frames_left a.coming h.between.coming m done blocks w.is f c in
+  pub behind : (end : Option Error) (done blocks : List Block) (m : List ℕ) {a b : State ℕ} (h : ReadsFrames stream done (end_found end) a b) → a.known ≡ true → Frames stream a.remaining blocks m → NoFrameLeft stream m
+      → ((blocks ≡ done) × Remains h.between m) ⊎ IsExcused (end_found end) a b
+  behind end done blocks m {a = a} {b = b} h known f c =
+      let w = h.blocks_are.consumed.known known in
+      let q = frames_left a.remaining h.between.remaining m done blocks w.is f c in
       go q.0 q.1 q.2
     where
-      go : (others : List Block) → blocks ≡ done ++ others → Frames stream h.between.coming others m → ((blocks ≡ done) × Comes h.between m) ⊎ IsExcused (end_found end) a b
-      go [] e g = inl (e ∙ append-nil done, record { told = (h.blocks_are.went.known told).told; are = g })
-      go (o ∷ others) e g = elim (h.last.promises.complete o g.0 g.1 g.2 (record { told = (h.blocks_are.went.known told).told; are = g.3 })) [
+      go : (others : List Block) → blocks ≡ done ++ others → Frames stream h.between.remaining others m → ((blocks ≡ done) × Remains h.between m) ⊎ IsExcused (end_found end) a b
+      go [] e g = inl (e ∙ append-nil done, record { known = (h.blocks_are.consumed.known known).known; are = g })
+      go (o ∷ others) e g = elim (h.last.promises.complete o g.0 g.1 g.2 (record { known = (h.blocks_are.consumed.known known).known; are = g.3 })) [
         | inl p ↦ absurd (not_found _ end p.0)
-        | inr x ↦ inr (excused_after b (end_found end) h.blocks_are.went x)
+        | inr x ↦ inr (excused_after b (end_found end) h.blocks_are.consumed x)
       ]
 
 -- ---- streams that were opened
 
 module _ {R A : Type 0} (remaining : R → Option (List ℕ)) where
   -- what comes behind the loan of a reader's byte buffer is what comes
-  pub behind_loan : (flac : FlacReader R A) (input : MutBor (BufferedReader R A)) → input.now ≡ flac_input flac
-      → ((bytes_in (lent (buffered_source remaining)) input).coming ≡ (flac_bytes remaining flac).coming) × ((bytes_in (lent (buffered_source remaining)) input).told ≡ (flac_bytes remaining flac).told)
+  pub after_loan : (flac : FlacReader R A) (input : MutBor (BufferedReader R A)) → input.now ≡ flac_input flac
+      → ((bytes_in (lent (buffered_source remaining)) input).remaining ≡ (flac_bytes remaining flac).remaining) × ((bytes_in (lent (buffered_source remaining)) input).known ≡ (flac_bytes remaining flac).known)
   unfolding bytes_in
-  behind_loan flac input is = (rw is refl, rw is refl)
+  after_loan flac input is = (rw is refl, rw is refl)
 
-  pub whole_streams : (wants : Bool) (s : State ℕ) (flac : FlacReader R A) (old new : FlacSamples (MutBor (BufferedReader R A)) A) (xs : List ℤ) → Took s (flac_bytes remaining flac) (HeadCode (with_samples wants) (flac_head flac))
-      → BeginsAt flac old → GaveAll (lent (buffered_source remaining)) old xs None new → s.told ≡ true → StreamOf wants s.coming flac xs
-  whole_streams wants s flac old new xs head begins gave told =
-      let k = (head told).1 in
-      let here = behind_loan flac (samples_input old) begins.input in
-      let t : (samples_bytes (lent (buffered_source remaining)) old).told ≡ true = here.1 ∙ (head told).0 in
+  pub whole_streams : (wants : Bool) (s : State ℕ) (flac : FlacReader R A) (old new : FlacSamples (MutBor (BufferedReader R A)) A) (xs : List ℤ) → Consumed s (flac_bytes remaining flac) (HeadCode (with_samples wants) (flac_head flac))
+      → BeginsAt flac old → GaveAll (lent (buffered_source remaining)) old xs None new → s.known ≡ true → StreamOf wants s.remaining flac xs
+  whole_streams wants s flac old new xs head begins gave known =
+      let k = (head known).1 in
+      let here = after_loan flac (samples_input old) begins.input in
+      let t : (samples_bytes (lent (buffered_source remaining)) old).known ≡ true = here.1 ∙ (head known).0 in
       let ends = gave.ends in
-      let frames = (ends.blocks_are.went.known t).is in
+      let frames = (ends.blocks_are.consumed.known t).is in
       let few = few_left ends t in
-      let f : Frames (samples_stream old) (flac_bytes remaining flac).coming gave.blocks ends.between.coming = subst (λ (z : List ℕ). Frames (samples_stream old) z gave.blocks ends.between.coming) here.0 frames in (
+      let f : Frames (samples_stream old) (flac_bytes remaining flac).remaining gave.blocks ends.between.remaining = subst (λ (z : List ℕ). Frames (samples_stream old) z gave.blocks ends.between.remaining) here.0 frames in (
         gave.blocks,
-        ends.between.coming,
+        ends.between.remaining,
         record {
           front = k.0;
-          frames = (flac_bytes remaining flac).coming;
+          frames = (flac_bytes remaining flac).remaining;
           head = k.1;
           joined = k.2;
-          blocks_are = subst (λ (z : Option StreamShape). Frames z (flac_bytes remaining flac).coming gave.blocks ends.between.coming) begins.stream f;
-          complete = short_complete (Some (stream_of (flac_head flac).info)) ends.between.coming few;
+          blocks_are = subst (λ (z : Option StreamFormat). Frames z (flac_bytes remaining flac).remaining gave.blocks ends.between.remaining) begins.stream f;
+          complete = short_no_frame (Some (stream_of (flac_head flac).info)) ends.between.remaining few;
         },
         ap (λ (z : List ℤ). z ++ samples_of gave.blocks) (sym begins.none_left) ∙ gave.samples,
       )

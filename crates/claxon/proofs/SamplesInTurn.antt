@@ -3,29 +3,29 @@ use Rattle.std.proofs.Common.{◌≡◌, ◌⊎◌, inl, inr, ℕ, ◌+◌, ◌*
 use Rattle.std.specs.Prelude.{IfOk, IfSome, Option, Some, None, Result, Ok, slice_get}
 use Rattle.std.proofs.lemmas.List.{drop_more, drop_all}
 use Rattle.std.proofs.lemmas.Option.{get_or_from_slice_get, slice_get-get_or}
-use Rattle.claxon_format.specs.Frame.{StreamShape, Frame, FrameBytesFault}
+use Rattle.claxon_format.specs.Frame.{StreamFormat, Frame, FrameBytesFault}
 use Rattle.claxon_format.specs.read.Frame.{frame_bytes_at}
 use Rattle.claxon_format.specs.Streams.{duration, interleave}
 use Rattle.claxon_format.proofs.Streams.{interleaved, length-interleave}
 use Rattle.claxon_input.specs.declared.error.Error.{Error}
 use Rattle.claxon_input.specs.State.{State}
-use Rattle.claxon_input.specs.Promises.{AnswersFound, Comes, EndsElseFrom, HasFailed, IsStarved, LeavesRest, NamesFault, NoneIsEnd, TakesFault, TakesFound, Took}
+use Rattle.claxon_input.specs.Promises.{FoundIsComplete, Remains, ElseIoErrorFrom, HasFailed, IsOutOfMemory, LeavesRest, FaultIsComplete, NoneIsEof, FaultIsSound, FoundIsSound, Consumed}
 use Rattle.claxon_frame.specs.Block.{BlockValue, duration_of}
-use Rattle.claxon_input.specs.Gives.{GivesOrEndsOrStarves}
-use Rattle.claxon_frame.specs.FrameReader.{FrameAnswer, HeaderAlone, ReadsFrame, block_view}
+use Rattle.claxon_input.specs.Gives.{GivesOrEofOrOutOfMemory}
+use Rattle.claxon_frame.specs.FrameReader.{FrameAnswer, HeaderOfMoreSamples, ReadsFrame, block_view}
 
 -- ---- what a call promises that reads the next frame
 
-any_room : {A : Type 0} (stream : Option StreamShape) (room : ℕ) (r : Result A Error) (a b : State ℕ) → (IsStarved r → Took a b (HeaderAlone stream room)) → IsStarved r → Took a b (HeaderAlone stream 0)
-any_room stream room r a b h starved told =
-    let k = h starved told in
+any_capacity : {A : Type 0} (stream : Option StreamFormat) (room : ℕ) (r : Result A Error) (a b : State ℕ) → (IsOutOfMemory r → Consumed a b (HeaderOfMoreSamples stream room)) → IsOutOfMemory r → Consumed a b (HeaderOfMoreSamples stream 0)
+any_capacity stream room r a b h out_of_memory known =
+    let k = h out_of_memory known in
     let t = k.1 in
     let more = t.1.2 in
     (k.0, (t.0, (t.1.0, t.1.1, omega arith), t.2))
 
-pub reads_frame : {stream : Option StreamShape} {r : FrameAnswer} {a b : State ℕ} (room : ℕ) → TakesFound block_view r (Frame stream) a b → AnswersFound block_view r (Frame stream) a b → NoneIsEnd 2 r a b
-    → ((xs : List ℕ) → Comes a xs → length xs < 2 → ((r ≡ Ok None) × Comes b []) ⊎ HasFailed r a b) → IfOk r (λ found. b.errors ≡ a.errors) → TakesFault r (FrameBytesFault stream) a b → NamesFault r (FrameBytesFault stream) a b
-    → EndsElseFrom 2 r (Frame stream) (FrameBytesFault stream) a b → LeavesRest r a b → (IsStarved r → Took a b (HeaderAlone stream room)) → GivesOrEndsOrStarves 2 block_view r (frame_bytes_at stream) a b → ReadsFrame stream r a b
+pub reads_frame : {stream : Option StreamFormat} {r : FrameAnswer} {a b : State ℕ} (room : ℕ) → FoundIsSound block_view r (Frame stream) a b → FoundIsComplete block_view r (Frame stream) a b → NoneIsEof 2 r a b
+    → ((xs : List ℕ) → Remains a xs → length xs < 2 → ((r ≡ Ok None) × Remains b []) ⊎ HasFailed r a b) → IfOk r (λ found. b.errors ≡ a.errors) → FaultIsSound r (FrameBytesFault stream) a b → FaultIsComplete r (FrameBytesFault stream) a b
+    → ElseIoErrorFrom 2 r (Frame stream) (FrameBytesFault stream) a b → LeavesRest r a b → (IsOutOfMemory r → Consumed a b (HeaderOfMoreSamples stream room)) → GivesOrEofOrOutOfMemory 2 block_view r (frame_bytes_at stream) a b → ReadsFrame stream r a b
 reads_frame {stream = stream} {r = r} {a = a} {b = b} room sound complete at_end ended no_failure fault named io front memory gives = record {
   promises = record {
     sound = sound;
@@ -38,12 +38,12 @@ reads_frame {stream = stream} {r = r} {a = a} {b = b} room sound complete at_end
     io = io;
     front = front;
   };
-  memory = any_room stream room r a b memory;
+  memory = any_capacity stream room r a b memory;
   gives = gives;
 }
 
 -- the same of the answer by another name
-pub reads_as : {stream : Option StreamShape} {r q : Result (Option BlockValue) Error} {a b : State ℕ} → r ≡ q → ReadsFrame stream r a b → ReadsFrame stream q a b
+pub reads_as : {stream : Option StreamFormat} {r q : Result (Option BlockValue) Error} {a b : State ℕ} → r ≡ q → ReadsFrame stream r a b → ReadsFrame stream q a b
 reads_as {stream = stream} {a = a} {b = b} e h = subst (λ (z : Result (Option BlockValue) Error). ReadsFrame stream z a b) e h
 
 -- ---- where a sample stands
@@ -52,8 +52,8 @@ pub same_duration : (channels : List (List ℤ)) → duration channels ≡ durat
 same_duration [] = refl
 same_duration (c ∷ channels) = refl
 
-place_inside : (i k d n : ℕ) → i < d → k < n → i * n + k < d * n
-place_inside i k d n lt small = grind arith
+index_inside : (i k d n : ℕ) → i < d → k < n → i * n + k < d * n
+index_inside i k d n lt small = grind arith
 
 -- the next sample, and those behind it
 pub next_sample : (channels : List (List ℤ)) (i k n : ℕ) (x : ℤ) → i < duration_of channels → k < length channels → n ≡ i * length channels + k + 1
@@ -62,7 +62,7 @@ next_sample channels i k n x lt small n-is h =
     let l = length-interleave channels in
     let d = same_duration channels in
     let in_time : i < duration channels = omega arith in
-    let inside : i * length channels + k < length (interleave channels) = rw l (place_inside i k (duration channels) (length channels) in_time small) in
+    let inside : i * length channels + k < length (interleave channels) = rw l (index_inside i k (duration channels) (length channels) in_time small) in
     let g : slice_get channels k ≡ Some (get_or channels k []) = slice_get-get_or channels k [] small in
     let s : slice_get (get_or channels k []) i ≡ Some x = rw g at h in
     let v : get_or (interleave channels) (i * length channels + k) (pos 0) ≡ x = interleaved channels i k in_time small ∙ get_or_from_slice_get (get_or channels k []) i x (pos 0) s in

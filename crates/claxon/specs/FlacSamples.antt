@@ -1,14 +1,14 @@
 -- What a clause reads of a `FlacSamples`, and what one call of its `next` does.
 use Rattle.std.specs.Prelude.{◌≡◌, ℕ, ◌+◌, ◌*◌, ℤ, Bool, true, false, List, [], ◌∷◌, length, drop, Option, None, Some, Result, Ok, Err, MatchBool}
-use Rattle.claxon_format.specs.Frame.{StreamShape}
+use Rattle.claxon_format.specs.Frame.{StreamFormat}
 use Rattle.claxon_format.specs.Streams.{interleave}
 use Rattle.claxon_input.specs.declared.error.Error.{Error}
-use Rattle.claxon_input.specs.Promises.{IsStarved, Took}
+use Rattle.claxon_input.specs.Promises.{IsOutOfMemory, Consumed}
 use Rattle.claxon_input.specs.Source.{Source}
 use Rattle.claxon_input.specs.State.{State, bytes_in}
 use Rattle.claxon_frame.specs.Block.{BlockValue}
 use Rattle.claxon.specs.FlacReader.{samples_input}
-use Rattle.claxon_frame.specs.FrameReader.{BlockKeepsCapacity, HeaderAlone, ReadsFrame, StarvesForRoom, frame_stream}
+use Rattle.claxon_frame.specs.FrameReader.{BlockKeepsCapacity, HeaderOfMoreSamples, ReadsFrame, MaxCapacityIsEnough, frame_stream}
 use Rattle.claxon.specs.declared.samples.FlacSamples.{FlacSamples}
 
 -- the samples of the block at hand that weren't given yet
@@ -20,7 +20,7 @@ abbrev pub have_failed : {R A : Type 0} → FlacSamples R A → Bool
 have_failed s = s.has_failed
 
 -- what is known of the stream
-abbrev pub samples_stream : {R A : Type 0} → FlacSamples R A → Option StreamShape
+abbrev pub samples_stream : {R A : Type 0} → FlacSamples R A → Option StreamFormat
 samples_stream s = frame_stream s.frame_reader
 
 -- how many samples the buffer of the last block has capacity for
@@ -38,8 +38,8 @@ block_answer (Ok false) new = Ok None
 block_answer (Err error) new = Err error
 
 -- the next frame was read, into the block at hand where there was one
-abbrev pub BlockIsAsked : {R A : Type 0} → (R → Source ℕ) → FlacSamples R A → Result Bool Error → FlacSamples R A → Type 0
-BlockIsAsked source old r new = ReadsFrame (samples_stream old) (block_answer r new) (samples_bytes source old) (samples_bytes source new)
+abbrev pub NextBlockIsRead : {R A : Type 0} → (R → Source ℕ) → FlacSamples R A → Result Bool Error → FlacSamples R A → Type 0
+NextBlockIsRead source old r new = ReadsFrame (samples_stream old) (block_answer r new) (samples_bytes source old) (samples_bytes source new)
 
 -- a sample is answered, and these are left
 pub record GivesSample {R A : Type 0} (x : ℤ) (left : List ℤ) (result : Option (Result ℤ Error)) (new : FlacSamples R A) : Type 0 where
@@ -55,7 +55,7 @@ BlockAnswer (Err error) result new = (result ≡ Some (Err error)) × (have_fail
 
 -- Memory is wanted only behind a header, which alone was taken, whose block has more samples than the last buffer has capacity for.
 abbrev pub OutOfMemoryForLargerBlock : {R A : Type 0} → (R → Source ℕ) → FlacSamples R A → Result (Option BlockValue) Error → FlacSamples R A → Type 0
-OutOfMemoryForLargerBlock source old found new = IsStarved found → Took (samples_bytes source old) (samples_bytes source new) (HeaderAlone (samples_stream old) (samples_capacity old))
+OutOfMemoryForLargerBlock source old found new = IsOutOfMemory found → Consumed (samples_bytes source old) (samples_bytes source new) (HeaderOfMoreSamples (samples_stream old) (samples_capacity old))
 
 -- the next block was asked for, which is read into the buffer of the last one where that has capacity for it
 pub record NextBlock {R A : Type 0} (source : R → Source ℕ) (old : FlacSamples R A) (result : Option (Result ℤ Error)) (new : FlacSamples R A) : Type 0 where
@@ -63,13 +63,13 @@ pub record NextBlock {R A : Type 0} (source : R → Source ℕ) (old : FlacSampl
   pub reads : ReadsFrame (samples_stream old) found (samples_bytes source old) (samples_bytes source new)
   pub answer : BlockAnswer found result new
   pub memory : OutOfMemoryForLargerBlock source old found new
-  pub enough : StarvesForRoom (samples_capacity old) found
+  pub enough : MaxCapacityIsEnough (samples_capacity old) found
   pub capacity : BlockKeepsCapacity (samples_capacity old) found
 
 -- The samples of the block at hand come first, and take nothing; then the next block is read.
 pub record NextSample {R A : Type 0} (source : R → Source ℕ) (old : FlacSamples R A) (result : Option (Result ℤ Error)) (new : FlacSamples R A) : Type 0 where
   pub stream : samples_stream new ≡ samples_stream old
-  pub at_hand : (x : ℤ) (left : List ℤ) → samples_left old ≡ x ∷ left → GivesSample x left result new × (samples_bytes source new ≡ samples_bytes source old) × (samples_capacity new ≡ samples_capacity old)
+  pub from_block : (x : ℤ) (left : List ℤ) → samples_left old ≡ x ∷ left → GivesSample x left result new × (samples_bytes source new ≡ samples_bytes source old) × (samples_capacity new ≡ samples_capacity old)
   pub behind : samples_left old ≡ [] → NextBlock source old result new
 
 -- one call of `next`: after an Err it gives None for good and changes nothing

@@ -25,11 +25,11 @@ pub use Rattle.claxon_metadata.specs.MetadataBlockReader
 pub use Rattle.claxon_frame.specs.Block
 pub use Rattle.claxon_frame.specs.FrameReader
 pub use Rattle.claxon_frame.specs.declared.frame.FrameReader as FrameReaders
-pub use Rattle.claxon_frame.specs.Unmixing
+pub use Rattle.claxon_frame.specs.Decorrelation
 pub mod ReadHead
 pub mod FlacReader
 pub mod Opening
 pub mod FlacSamples
 pub mod SampleRuns
-pub mod Fronts
+pub mod Prefix
 pub mod FramesInMemory

@@ -11,21 +11,21 @@ use Rattle.claxon_format.specs.Reading.{Each, Reading, and_then, done, test}
 use Rattle.claxon_input.specs.declared.error.Error.{Error}
 use Rattle.claxon_input.specs.declared.input.BufferedReader.{BufferedReader}
 use Rattle.claxon_input.specs.BufferedReader.{buffered_source}
-use Rattle.claxon_input.specs.Gives.{Gives, GivesOrStarves}
-use Rattle.claxon_input.specs.Promises.{IsStarved, TakesCode, AnswersCode, TakesFault, NamesFault, EndsElse, LeavesRest}
+use Rattle.claxon_input.specs.Gives.{Gives, GivesOrOutOfMemory}
+use Rattle.claxon_input.specs.Promises.{IsOutOfMemory, CodeIsSound, CodeIsComplete, FaultIsSound, FaultIsComplete, ElseIoError, LeavesRest}
 use Rattle.claxon_input.specs.Source.{Source}
 use Rattle.claxon_input.specs.State.{State, bytes_in}
-use Rattle.claxon_metadata.specs.MetadataBlock.{HasBounds, MayStarve, content_view, info_view}
+use Rattle.claxon_metadata.specs.MetadataBlock.{HasBounds, MayRunOutOfMemory, content_view, info_view}
 use Rattle.claxon_metadata.specs.VorbisComment.{comment_view}
-use Rattle.claxon_metadata.specs.TagEntries.{HavePlaces}
+use Rattle.claxon_metadata.specs.TagEntries.{HaveSeparatorIndices}
 use Rattle.claxon.specs.declared.head.FlacReaderOptions.{FlacReaderOptions}
 use Rattle.claxon_metadata.specs.declared.metadata.MetadataBlock.{MetadataBlock}
 use Rattle.claxon_metadata.specs.declared.metadata.StreamInfo.{StreamInfo}
 use Rattle.claxon_metadata.specs.declared.metadata.VorbisComment.{VorbisComment}
 
 -- what the options wish
-abbrev pub wishes : FlacReaderOptions → Options
-wishes options = record { metadata_only = options.metadata_only; wants_comment = options.read_vorbis_comment }
+abbrev pub options_view : FlacReaderOptions → Options
+options_view options = record { metadata_only = options.metadata_only; wants_comment = options.read_vorbis_comment }
 
 -- comments, where there are some
 abbrev pub found_view : {A : Type 0} → Option (VorbisComment A) → Option Comment
@@ -54,25 +54,25 @@ abbrev pub CommentsAreFound : {A : Type 0} → Option (VorbisComment A) → Meta
 CommentsAreFound found block result = (here : State ℕ) → Gives found_view result (comments_at (found_view found) (content_view block)) here here
 
 -- s is whole blocks, one after another, and m
-abbrev pub PassesBlocks : List ℕ → List ℕ → Type 0
-PassesBlocks s m = (blocks : List Block) × (t : List ℕ) × Each BlockCode blocks t × (s ≡ t ++ m)
+abbrev pub ConsumesBlocks : List ℕ → List ℕ → Type 0
+ConsumesBlocks s m = (blocks : List Block) × (t : List ℕ) × Each BlockCode blocks t × (s ≡ t ++ m)
 
 -- behind whole blocks stands the header of a block of an application or of comments, whose length is one that it can have,
 -- and behind that of comments the length of a vendor that fits
-abbrev pub BlockWantsMemory : List ℕ → Type 0
-BlockWantsMemory s = (m : List ℕ) × PassesBlocks s m × (h : BlockHeader) × (x : List ℕ) × (rest : List ℕ) × BlockHeaderCode h x × MayStarve h.type h.length rest × (m ≡ x ++ rest)
+abbrev pub BlocksMayRunOutOfMemory : List ℕ → Type 0
+BlocksMayRunOutOfMemory s = (m : List ℕ) × ConsumesBlocks s m × (h : BlockHeader) × (x : List ℕ) × (rest : List ℕ) × BlockHeaderCode h x × MayRunOutOfMemory h.type h.length rest × (m ≡ x ++ rest)
 
 -- it stands behind the marker of a stream
-abbrev pub WantsMemory : List ℕ → Type 0
-WantsMemory s = (t : List ℕ) × (m : List ℕ) × Marker stream_marker t × BlockWantsMemory m × (s ≡ t ++ m)
+abbrev pub HeadMayRunOutOfMemory : List ℕ → Type 0
+HeadMayRunOutOfMemory s = (t : List ℕ) × (m : List ℕ) × Marker stream_marker t × BlocksMayRunOutOfMemory m × (s ≡ t ++ m)
 
 -- Memory is wanted only behind whole blocks and such a header.
-abbrev pub StarvesBehindBlocks : {A : Type 0} → Result A Error → State ℕ → Type 0
-StarvesBehindBlocks r old = IsStarved r → old.told ≡ true → BlockWantsMemory old.coming
+abbrev pub OutOfMemoryAfterBlocks : {A : Type 0} → Result A Error → State ℕ → Type 0
+OutOfMemoryAfterBlocks r old = IsOutOfMemory r → old.known ≡ true → BlocksMayRunOutOfMemory old.remaining
 
 -- Memory is wanted only behind the marker, whole blocks and such a header.
-abbrev pub StarvesBehind : {A : Type 0} → Result A Error → State ℕ → Type 0
-StarvesBehind r old = IsStarved r → old.told ≡ true → WantsMemory old.coming
+abbrev pub OutOfMemoryAfterMarker : {A : Type 0} → Result A Error → State ℕ → Type 0
+OutOfMemoryAfterMarker r old = IsOutOfMemory r → old.known ≡ true → HeadMayRunOutOfMemory old.remaining
 
 -- ---- what `read_head` promises
 
@@ -89,8 +89,8 @@ abbrev pub InfoHasBounds : {A : Type 0} → HeadAnswer A → Type 0
 InfoHasBounds result = IfOk result (λ shown. HasBounds shown.0)
 
 -- The entries of the comments are split at places within them.
-abbrev pub CommentHasPlaces : {A : Type 0} → HeadAnswer A → Type 0
-CommentHasPlaces result = IfOk result (λ shown. IfSome shown.1 (λ comment. HavePlaces comment.comments.items))
+abbrev pub CommentHasSeparatorIndices : {A : Type 0} → HeadAnswer A → Type 0
+CommentHasSeparatorIndices result = IfOk result (λ shown. IfSome shown.1 (λ comment. HaveSeparatorIndices comment.comments.items))
 
 -- Comments are shown only where `read_vorbis_comment` is true.
 abbrev pub HeadHasCommentIfRead : {A : Type 0} → Bool → HeadAnswer A → Type 0
@@ -98,8 +98,8 @@ HeadHasCommentIfRead read result = IfOk result (λ shown. read ≡ false → sho
 
 -- Memory is wanted only behind the marker, whole blocks and the header of a block of an application or of comments, whose
 -- length was tested, and for comments only behind the length of a vendor that fits.
-abbrev pub HeadMayStarve : {R Z : Type 0} → (R → Source ℕ) → R → HeadAnswer Z → Type 0
-HeadMayStarve source old result = StarvesBehind result (bytes_in source old)
+abbrev pub HeadOutOfMemoryAfterHeader : {R Z : Type 0} → (R → Source ℕ) → R → HeadAnswer Z → Type 0
+HeadOutOfMemoryAfterHeader source old result = OutOfMemoryAfterMarker result (bytes_in source old)
 
 -- An Err leaves a rest of the bytes that were to come.
 abbrev pub HeadLeavesRest : {R Z : Type 0} → (R → Source ℕ) → R → HeadAnswer Z → R → Type 0
@@ -108,25 +108,25 @@ HeadLeavesRest source old result new = LeavesRest result (bytes_in source old) (
 -- `old` and `new` are the reader before and after the call.
 module _ {R Z : Type 0} (source : R → Source ℕ) (options : FlacReaderOptions) (old : R) (result : HeadAnswer Z) (new : R) where
   -- What was taken is a head under these options, and it is shown.
-  abbrev pub HeadWasTaken : Type 0
-  HeadWasTaken = TakesCode head_view result (HeadCode (wishes options)) (bytes_in source old) (bytes_in source new)
+  abbrev pub HeadIsSound : Type 0
+  HeadIsSound = CodeIsSound head_view result (HeadCode (options_view options)) (bytes_in source old) (bytes_in source new)
 
   -- Where any head stands, whatever follows, it is shown and alone taken, or memory or the source failed.
-  abbrev pub EachHeadIsAnswered : Type 0
-  EachHeadIsAnswered = AnswersCode head_view result (HeadCode (wishes options)) (bytes_in source old) (bytes_in source new)
+  abbrev pub HeadIsComplete : Type 0
+  HeadIsComplete = CodeIsComplete head_view result (HeadCode (options_view options)) (bytes_in source old) (bytes_in source new)
 
   -- An Err that is neither want of memory nor an `IoError` names a fault that the bytes taken have.
-  abbrev pub HeadFaultWasTaken : Type 0
-  HeadFaultWasTaken = TakesFault result (HeadFault (wishes options)) (bytes_in source old) (bytes_in source new)
+  abbrev pub HeadFaultIsSound : Type 0
+  HeadFaultIsSound = FaultIsSound result (HeadFault (options_view options)) (bytes_in source old) (bytes_in source new)
 
   -- Where the bytes have a fault it is named, and they alone are taken, or memory or the source failed.
-  abbrev pub EachHeadFaultIsNamed : Type 0
-  EachHeadFaultIsNamed = NamesFault result (HeadFault (wishes options)) (bytes_in source old) (bytes_in source new)
+  abbrev pub HeadFaultIsComplete : Type 0
+  HeadFaultIsComplete = FaultIsComplete result (HeadFault (options_view options)) (bytes_in source old) (bytes_in source new)
 
   -- Where neither stands the bytes end, which is an `IoError`, or memory is refused.
-  abbrev pub NoHeadIsIoError : Type 0
-  NoHeadIsIoError = EndsElse result (HeadCode (wishes options)) (HeadFault (wishes options)) (bytes_in source old) (bytes_in source new)
+  abbrev pub HeadElseIoError : Type 0
+  HeadElseIoError = ElseIoError result (HeadCode (options_view options)) (HeadFault (options_view options)) (bytes_in source old) (bytes_in source new)
 
   -- What was answered and taken is what the format's reader gives.
   abbrev pub HeadIsRead : Type 0
-  HeadIsRead = GivesOrStarves head_view result (head_at (wishes options)) (bytes_in source old) (bytes_in source new)
+  HeadIsRead = GivesOrOutOfMemory head_view result (head_at (options_view options)) (bytes_in source old) (bytes_in source new)

@@ -3,7 +3,7 @@
 use Rattle.std.specs.Borrow.{MutBor, RattleType}
 use Rattle.std.specs.Prelude.{◌≡◌, ℕ, ℤ, Bool, true, false, List, [], ◌∷◌, ◌++◌, Option, None, Some, Result, Ok, Err}
 use Rattle.std.specs.List.{flat_map}
-use Rattle.claxon_format.specs.Frame.{StreamShape, Block, Frames}
+use Rattle.claxon_format.specs.Frame.{StreamFormat, Block, Frames}
 use Rattle.claxon_format.specs.Heads.{HeadCode}
 use Rattle.claxon_format.specs.Streams.{IsStream, interleave, with_samples}
 use Rattle.claxon_input.specs.declared.error.Error.{Error}
@@ -11,8 +11,8 @@ use Rattle.claxon_input.specs.declared.input.BufferedReader.{BufferedReader}
 use Rattle.claxon_input.specs.BufferedReader.{buffered_source}
 use Rattle.claxon_input.specs.Source.{Source, through_loan}
 use Rattle.claxon_input.specs.State.{State}
-use Rattle.claxon_input.specs.Gives.{Went}
-use Rattle.claxon_input.specs.Promises.{Took}
+use Rattle.claxon_input.specs.Gives.{Consumes}
+use Rattle.claxon_input.specs.Promises.{Consumed}
 use Rattle.claxon_frame.specs.Block.{BlockValue}
 use Rattle.claxon_frame.specs.FrameReader.{ReadsFrame, stream_with}
 use Rattle.claxon.specs.FlacReader.{flac_head, flac_input, flac_streaminfo, samples_input}
@@ -26,13 +26,13 @@ abbrev pub samples_of : List Block → List ℤ
 samples_of blocks = flat_map (λ b. interleave b.channels) blocks
 
 -- Just the frames of these blocks were taken, one after another, and no read failed.
-pub record TakesFrames (stream : Option StreamShape) (blocks : List Block) (old new : State ℕ) : Type 0 where
-  pub went : Went old new (λ s m. Frames stream s blocks m)
+pub record ConsumesFrames (stream : Option StreamFormat) (blocks : List Block) (old new : State ℕ) : Type 0 where
+  pub consumed : Consumes old new (λ s m. Frames stream s blocks m)
 
 -- After these blocks the answer was r.
-pub record ReadsFrames (stream : Option StreamShape) (blocks : List Block) (r : Result (Option BlockValue) Error) (old new : State ℕ) : Type 0 where
+pub record ReadsFrames (stream : Option StreamFormat) (blocks : List Block) (r : Result (Option BlockValue) Error) (old new : State ℕ) : Type 0 where
   pub between : State ℕ
-  pub blocks_are : TakesFrames stream blocks old between
+  pub blocks_are : ConsumesFrames stream blocks old between
   pub last : ReadsFrame stream r between new
 
 -- ---- calls of `next`, one after another
@@ -45,7 +45,7 @@ Calls {R} {A} source old (x ∷ xs) new = (mid : FlacSamples R A) × SamplesStep
 -- what such calls gave: the samples of blocks whose frames stand one after another, behind those that were at hand
 pub record GaveSamples {R A : Type 0} (source : R → Source ℕ) (old : FlacSamples R A) (xs : List ℤ) (new : FlacSamples R A) : Type 0 where
   pub blocks : List Block
-  pub frames : TakesFrames (samples_stream old) blocks (samples_bytes source old) (samples_bytes source new)
+  pub frames : ConsumesFrames (samples_stream old) blocks (samples_bytes source old) (samples_bytes source new)
   pub samples : samples_left old ++ samples_of blocks ≡ xs ++ samples_left new
   pub stream : samples_stream new ≡ samples_stream old
   pub goes_on : have_failed new ≡ false
@@ -98,5 +98,5 @@ StreamOf wants s flac xs = (blocks : List Block) × (r : List ℕ) × IsStream w
 abbrev pub WholeStreams : (R A : RattleType) → (R.Denot → Option (List ℕ)) → Type 0
 WholeStreams R A remaining =
     (wants : Bool) (s : State ℕ) (flac : FlacReader R.Denot A.Denot) (old new : FlacSamples (MutBor (BufferedReader R.Denot A.Denot)) A.Denot) (xs : List ℤ)
-    → Took s (flac_bytes remaining flac) (HeadCode (with_samples wants) (flac_head flac)) → BeginsAt flac old → GaveAll (lent (buffered_source remaining)) old xs None new
-    → s.told ≡ true → StreamOf wants s.coming flac xs
+    → Consumed s (flac_bytes remaining flac) (HeadCode (with_samples wants) (flac_head flac)) → BeginsAt flac old → GaveAll (lent (buffered_source remaining)) old xs None new
+    → s.known ≡ true → StreamOf wants s.remaining flac xs

@@ -2,12 +2,12 @@
 ghost use Rattle.std.specs.Prelude.{◌≡◌, IfOk, IfSome, true, false, None, ◌&&◌, ◌||◌};
 ghost use Rattle.std.specs.Option.{is_some};
 ghost use Rattle.claxon_format.specs.read.Heads.{head_at, marker_at, others_at};
-ghost use Rattle.claxon_format.specs.Heads.{is_short, stream_marker};
+ghost use Rattle.claxon_format.specs.Heads.{streaminfo_ends_head, stream_marker};
 ghost use Rattle.claxon_input.specs.State.{bytes_in};
-ghost use Rattle.claxon_input.specs.Gives.{Gives, GivesOrStarves};
-ghost use Rattle.claxon_metadata.specs.MetadataBlock.{IsSound};
-ghost use Rattle.claxon_metadata.specs.TagEntries.{HavePlaces};
-ghost use Rattle.claxon.specs.ReadHead.{CommentHasPlaces, CommentsAreFound, EachHeadFaultIsNamed, EachHeadIsAnswered, HeadFaultWasTaken, HeadHasCommentIfRead, HeadIsRead, HeadLeavesRest, HeadMayStarve, HeadWasTaken, InfoHasBounds, NoHeadIsIoError, StarvesBehind, StarvesBehindBlocks, found_view, head_view, other_at, other_view, wishes};
+ghost use Rattle.claxon_input.specs.Gives.{Gives, GivesOrOutOfMemory};
+ghost use Rattle.claxon_metadata.specs.MetadataBlock.{BlockHasBounds};
+ghost use Rattle.claxon_metadata.specs.TagEntries.{HaveSeparatorIndices};
+ghost use Rattle.claxon.specs.ReadHead.{CommentHasSeparatorIndices, CommentsAreFound, HeadFaultIsComplete, HeadIsComplete, HeadFaultIsSound, HeadHasCommentIfRead, HeadIsRead, HeadLeavesRest, HeadOutOfMemoryAfterHeader, HeadIsSound, InfoHasBounds, HeadElseIoError, OutOfMemoryAfterMarker, OutOfMemoryAfterBlocks, found_view, head_view, other_at, other_view, options_view};
 
 use crate::error::{Error, Result};
 use crate::input::ReadBytes;
@@ -49,14 +49,14 @@ impl Default for FlacReaderOptions {
 impl FlacReaderOptions {
     // Whether no more than the streaminfo is wished, or it is the last block.
     fn ends_with_streaminfo(self, is_last: bool) -> bool
-        ensures { result ≡ is_short (wishes self) is_last }
+        ensures { result ≡ streaminfo_ends_head (options_view self) is_last }
     {
         is_last || (self.metadata_only && !self.read_vorbis_comment)
     }
 }
 
 // A stream has at most so many metadata blocks, the streaminfo included. The format sets no limit.
-const MOST_BLOCKS: u32 = 65536;
+const MAX_BLOCKS: u32 = 65536;
 
 /// Takes the head of a stream, and answers its streaminfo and, where wished and there, its Vorbis comments.
 ///
@@ -72,14 +72,14 @@ pub fn read_head<R: ReadBytes, A: Allocator + Copy>(
     options: FlacReaderOptions,
 ) -> Result<(StreamInfo, Option<VorbisComment<A>>)>
     ensures bounds { InfoHasBounds result }
-    ensures places { CommentHasPlaces result }
+    ensures places { CommentHasSeparatorIndices result }
     ensures comment { HeadHasCommentIfRead options.read_vorbis_comment result }
-    ensures memory { HeadMayStarve R.source input.old result }
-    ensures sound { HeadWasTaken R.source options input.old result input.new }
-    ensures complete { EachHeadIsAnswered R.source options input.old result input.new }
-    ensures fault { HeadFaultWasTaken R.source options input.old result input.new }
-    ensures named { EachHeadFaultIsNamed R.source options input.old result input.new }
-    ensures io { NoHeadIsIoError R.source options input.old result input.new }
+    ensures memory { HeadOutOfMemoryAfterHeader R.source input.old result }
+    ensures sound { HeadIsSound R.source options input.old result input.new }
+    ensures complete { HeadIsComplete R.source options input.old result input.new }
+    ensures fault { HeadFaultIsSound R.source options input.old result input.new }
+    ensures named { HeadFaultIsComplete R.source options input.old result input.new }
+    ensures io { HeadElseIoError R.source options input.old result input.new }
     ensures front { HeadLeavesRest R.source input.old result input.new }
     ensures gives { HeadIsRead R.source options input.old result input.new }
 {
@@ -93,10 +93,10 @@ fn read_head_exact<R: ReadBytes, A: Allocator + Copy>(
     options: FlacReaderOptions,
 ) -> Result<(StreamInfo, Option<VorbisComment<A>>)>
     ensures bounds { InfoHasBounds result }
-    ensures places { CommentHasPlaces result }
+    ensures places { CommentHasSeparatorIndices result }
     ensures comment { HeadHasCommentIfRead options.read_vorbis_comment result }
-    ensures memory { StarvesBehind result (bytes_in R.source input.old) }
-    ensures gives { GivesOrStarves head_view result (head_at (wishes options)) (bytes_in R.source input.old) (bytes_in R.source input.new) }
+    ensures memory { OutOfMemoryAfterMarker result (bytes_in R.source input.old) }
+    ensures gives { GivesOrOutOfMemory head_view result (head_at (options_view options)) (bytes_in R.source input.old) (bytes_in R.source input.new) }
 {
     read_stream_header(input)?;
     let (is_last, first) = read_metadata_block_and_flag(alloc, input)?;
@@ -134,12 +134,12 @@ fn read_other_blocks<R: ReadBytes, A: Allocator + Copy>(
     input: &mut R,
     comments_suffice: bool,
 ) -> Result<Option<VorbisComment<A>>>
-    ensures places { IfOk result (λ found. IfSome found (λ comment. HavePlaces comment.comments.items)) }
-    ensures memory { StarvesBehindBlocks result (bytes_in R.source input.old) }
-    ensures gives { GivesOrStarves found_view result (others_at comments_suffice 65535 None) (bytes_in R.source input.old) (bytes_in R.source input.new) }
+    ensures places { IfOk result (λ found. IfSome found (λ comment. HaveSeparatorIndices comment.comments.items)) }
+    ensures memory { OutOfMemoryAfterBlocks result (bytes_in R.source input.old) }
+    ensures gives { GivesOrOutOfMemory found_view result (others_at comments_suffice 65535 None) (bytes_in R.source input.old) (bytes_in R.source input.new) }
 {
     let mut found = None;
-    let mut most = MOST_BLOCKS - 1;
+    let mut most = MAX_BLOCKS - 1;
     while most > 0 {
         let (is_last, with_block) = read_other_block(alloc, input, found)?;
         found = with_block;
@@ -168,10 +168,10 @@ fn read_other_block<R: ReadBytes, A: Allocator + Copy>(
     input: &mut R,
     found: Option<VorbisComment<A>>,
 ) -> Result<(bool, Option<VorbisComment<A>>)>
-    requires { IfSome found (λ comment. HavePlaces comment.comments.items) }
-    ensures places { IfOk result (λ other. IfSome other.1 (λ comment. HavePlaces comment.comments.items)) }
-    ensures memory { StarvesBehindBlocks result (bytes_in R.source input.old) }
-    ensures gives { GivesOrStarves other_view result (other_at (found_view found)) (bytes_in R.source input.old) (bytes_in R.source input.new) }
+    requires { IfSome found (λ comment. HaveSeparatorIndices comment.comments.items) }
+    ensures places { IfOk result (λ other. IfSome other.1 (λ comment. HaveSeparatorIndices comment.comments.items)) }
+    ensures memory { OutOfMemoryAfterBlocks result (bytes_in R.source input.old) }
+    ensures gives { GivesOrOutOfMemory other_view result (other_at (found_view found)) (bytes_in R.source input.old) (bytes_in R.source input.new) }
 {
     let (is_last, block) = read_metadata_block_and_flag(alloc, input)?;
     Ok((is_last, comments_with(block, found)?))
@@ -182,9 +182,9 @@ fn comments_with<A: Allocator>(
     block: MetadataBlock<A>,
     found: Option<VorbisComment<A>>,
 ) -> Result<Option<VorbisComment<A>>>
-    requires block { IsSound block }
-    requires found { IfSome found (λ comment. HavePlaces comment.comments.items) }
-    ensures places { IfOk result (λ known. IfSome known (λ comment. HavePlaces comment.comments.items)) }
+    requires block { BlockHasBounds block }
+    requires found { IfSome found (λ comment. HaveSeparatorIndices comment.comments.items) }
+    ensures places { IfOk result (λ known. IfSome known (λ comment. HaveSeparatorIndices comment.comments.items)) }
     ensures gives { CommentsAreFound found block result }
 {
     match block {

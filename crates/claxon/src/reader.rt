@@ -4,7 +4,7 @@ ghost use Rattle.std.specs.Option.{ForSome, option_map};
 ghost use Rattle.std.proofs.Props.{props};
 ghost use Rattle.claxon_format.specs.Pairs.{values};
 ghost use Rattle.claxon_metadata.specs.MetadataBlock.{HasBounds};
-ghost use Rattle.claxon_metadata.specs.TagEntries.{HavePlaces};
+ghost use Rattle.claxon_metadata.specs.TagEntries.{HaveSeparatorIndices};
 
 use crate::error::Result;
 use crate::head::{FlacReaderOptions, read_head};
@@ -24,7 +24,7 @@ struct Head<A: Allocator = Global> {
     streaminfo: StreamInfo,
     vorbis_comment: Option<VorbisComment<A>>,
     ghost bounds: { HasBounds streaminfo } by { Prim.hlevel props },
-    ghost places: { ForSome vorbis_comment (λ comment. HavePlaces comment.comments.items) },
+    ghost places: { ForSome vorbis_comment (λ comment. HaveSeparatorIndices comment.comments.items) },
 }
 
 /// A FLAC stream whose head was read.
@@ -50,13 +50,13 @@ pub struct FlacReader<R, A: Allocator = Global> {
 impl<R: Read, A: Allocator + Copy> FlacReader<R, A> {
     ghost use Rattle.std.specs.Borrow.{sem};
     ghost use Rattle.claxon_format.specs.Streams.{with_samples};
-    ghost use Rattle.claxon.specs.ReadHead.{wishes};
-    ghost use Rattle.claxon.specs.Opening.{EachFaultIsNamedOnOpening, EachHeadIsOpened, ErrNamesFault, HeadFaultIsThere, HeadIsShown, NoHeadIsNotOpened, NoReadFailed, ShowsCommentIfRead, ShowsMetadataOnly};
+    ghost use Rattle.claxon.specs.ReadHead.{options_view};
+    ghost use Rattle.claxon.specs.Opening.{OpenFaultIsComplete, OpenIsComplete, ErrNamesFault, OpenFaultIsSound, OpenIsSound, OpenElseIoError, NoReadFailed, ShowsCommentIfRead, ShowsMetadataOnly};
     ghost use Rattle.claxon_frame.specs.FrameReader.{frame_input, frame_stream, stream_with};
     ghost use Rattle.claxon_input.specs.BufferedReader.{buffered_inner};
     ghost use Rattle.claxon.specs.FlacSamples.{have_failed, samples_left, samples_stream};
     ghost use Rattle.claxon.specs.FlacReader.{LendsInput, LendsBlocks, LendsSamples, flac_input, flac_metadata_only, flac_streaminfo, samples_input, tags_of, vendor_of};
-    ghost use Rattle.claxon_metadata.specs.Tags.{tags_left, values_left};
+    ghost use Rattle.claxon_metadata.specs.Tags.{remaining_tags, remaining_values};
 
     /// Reads the head of a stream, with the default options.
     ///
@@ -79,11 +79,11 @@ impl<R: Read, A: Allocator + Copy> FlacReader<R, A> {
         ensures full { ShowsMetadataOnly false result }
         ensures text { ErrNamesFault result }
         ensures no_failure { NoReadFailed R.remaining result }
-        ensures sound { HeadIsShown R.remaining (with_samples true) reader result }
-        ensures complete { EachHeadIsOpened R.remaining (with_samples true) reader result }
-        ensures fault { HeadFaultIsThere R.remaining (with_samples true) reader result }
-        ensures named { EachFaultIsNamedOnOpening R.remaining (with_samples true) reader result }
-        ensures io { NoHeadIsNotOpened R.remaining (with_samples true) reader result }
+        ensures sound { OpenIsSound R.remaining (with_samples true) reader result }
+        ensures complete { OpenIsComplete R.remaining (with_samples true) reader result }
+        ensures fault { OpenFaultIsSound R.remaining (with_samples true) reader result }
+        ensures named { OpenFaultIsComplete R.remaining (with_samples true) reader result }
+        ensures io { OpenElseIoError R.remaining (with_samples true) reader result }
     {
         FlacReader::new_ext(alloc, reader, FlacReaderOptions::default())
     }
@@ -100,11 +100,11 @@ impl<R: Read, A: Allocator + Copy> FlacReader<R, A> {
         ensures comment { ShowsCommentIfRead options.read_vorbis_comment result }
         ensures text { ErrNamesFault result }
         ensures no_failure { NoReadFailed R.remaining result }
-        ensures sound { HeadIsShown R.remaining (wishes options) reader result }
-        ensures complete { EachHeadIsOpened R.remaining (wishes options) reader result }
-        ensures fault { HeadFaultIsThere R.remaining (wishes options) reader result }
-        ensures named { EachFaultIsNamedOnOpening R.remaining (wishes options) reader result }
-        ensures io { NoHeadIsNotOpened R.remaining (wishes options) reader result }
+        ensures sound { OpenIsSound R.remaining (options_view options) reader result }
+        ensures complete { OpenIsComplete R.remaining (options_view options) reader result }
+        ensures fault { OpenFaultIsSound R.remaining (options_view options) reader result }
+        ensures named { OpenFaultIsComplete R.remaining (options_view options) reader result }
+        ensures io { OpenElseIoError R.remaining (options_view options) reader result }
     {
         let mut input = BufferedReader::new(alloc, reader)?;
         let (streaminfo, vorbis_comment) = read_head(alloc, &mut input, options)?;
@@ -146,7 +146,7 @@ impl<R: Read, A: Allocator + Copy> FlacReader<R, A> {
     /// A name may occur more than once, as `ARTIST` does where several play. Its bytes are from 0x20 to 0x7D, in the case
     /// that the stream has; a value is any text.
     pub fn tags<'a>(&'a self) -> Tags<'a, A>
-        ensures { tags_left result ≡ tags_of self.now }
+        ensures { remaining_tags result ≡ tags_of self.now }
     {
         match &self.head.vorbis_comment {
             Some(comment) => Tags::new(comment.comments.as_slice()),
@@ -157,7 +157,7 @@ impl<R: Read, A: Allocator + Copy> FlacReader<R, A> {
     /// The values of the tags of this name, in order. Upper and lower case of the letters A to Z aren't told apart, other
     /// letters are: no tag has a name that holds one of those.
     pub fn get_tag<'a>(&'a self, tag_name: &'a str) -> GetTag<'a, A>
-        ensures { values_left result ≡ values tag_name.now (tags_of self.now) }
+        ensures { remaining_values result ≡ values tag_name.now (tags_of self.now) }
     {
         match &self.head.vorbis_comment {
             Some(comment) => GetTag::new(comment.comments.as_slice(), tag_name),

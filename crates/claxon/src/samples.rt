@@ -31,8 +31,8 @@ impl<R: ReadBytes, A: Allocator + Copy> FlacSamples<R, A> {
     ghost use Rattle.std.specs.Prelude.{[]};
     ghost use Rattle.claxon_format.specs.Streams.{interleave};
     ghost use Rattle.claxon.specs.FlacReader.{samples_input};
-    ghost use Rattle.claxon_frame.specs.FrameReader.{BlockKeepsCapacity, StarvesForRoom, stream_with};
-    ghost use Rattle.claxon.specs.FlacSamples.{NextBlock, NextSample, BlockIsAsked, OutOfMemoryForLargerBlock, block_answer, have_failed, samples_left, samples_capacity, samples_stream};
+    ghost use Rattle.claxon_frame.specs.FrameReader.{BlockKeepsCapacity, MaxCapacityIsEnough, stream_with};
+    ghost use Rattle.claxon.specs.FlacSamples.{NextBlock, NextSample, NextBlockIsRead, OutOfMemoryForLargerBlock, block_answer, have_failed, samples_left, samples_capacity, samples_stream};
 
     /// The samples of the frames of the stream with this streaminfo, whose width is 1 to 32 bits.
     pub fn new(alloc: A, input: R, info: StreamInfo) -> FlacSamples<R, A>
@@ -58,9 +58,9 @@ impl<R: ReadBytes, A: Allocator + Copy> FlacSamples<R, A> {
         ensures more { IfOk result (λ more. IsTrue more → self.new.sample < duration_of self.new.block.channels) }
         ensures stream { samples_stream self.new ≡ samples_stream self.old }
         ensures has_failed { have_failed self.new ≡ have_failed self.old }
-        ensures reads { BlockIsAsked R.source self.old result self.new }
+        ensures reads { NextBlockIsRead R.source self.old result self.new }
         ensures memory { OutOfMemoryForLargerBlock R.source self.old (block_answer result self.new) self.new }
-        ensures enough { StarvesForRoom (samples_capacity self.old) (block_answer result self.new) }
+        ensures enough { MaxCapacityIsEnough (samples_capacity self.old) (block_answer result self.new) }
         ensures capacity { BlockKeepsCapacity (samples_capacity self.old) (block_answer result self.new) }
         ensures none_left { IfOk result (λ more. more ≡ false → samples_left self.new ≡ []) }
         ensures left { IfOk result (λ more. more ≡ true → samples_left self.new ≡ interleave self.new.block.channels) }

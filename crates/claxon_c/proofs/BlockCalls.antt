@@ -4,30 +4,30 @@ use Rattle.std.specs.Prelude.{Result, Ok, Err, ◌≢◌}
 use Rattle.std.proofs.lemmas.List.{drop_all, length-drop, take_all}
 use Rattle.std.proofs.lemmas.Bool.{cases_lt}
 use Rattle.claxon.specs.Fault.{Fault}
-use Rattle.claxon.specs.Frame.{StreamShape, Block, Frame, FrameBytesFault}
+use Rattle.claxon.specs.Frame.{StreamFormat, Block, Frame, FrameBytesFault}
 use Rattle.claxon.specs.Streams.{duration}
 use Rattle.claxon.specs.Errors.{Error}
 use Rattle.claxon.specs.Errors.TheVariants.{OutOfMemory}
 use Rattle.claxon.specs.Block.{BlockValue}
 use Rattle.claxon.specs.FrameReader.{FrameAnswer, block_view}
-use Rattle.claxon.specs.Fronts.{BeginsWith}
+use Rattle.claxon.specs.Prefix.{BeginsWith}
 use Rattle.claxon_c.specs.declared.next_block.ClaxonBlock.{ClaxonBlock}
-use Rattle.claxon_c.specs.AtFront.{FrameAtFront}
-use Rattle.claxon_c.specs.NextBlock.{BlockIsThere, SaysBlock, EachBlockIsGiven, EachFaultIsTold, FaultIsThere, NoFrameIsEnd, PlaceIsKept, SamplesAreGiven, ShowsBlock, StarvesAtHeader, TooFewIsNoMore}
-use Rattle.claxon_c.specs.Status.{ErrorIsTold, TextIsTold, buffer_short, no_more, ok}
-use Rattle.claxon_c.proofs.Told.{each_told, end_told, fault_told, just_error, memory_told, starved_told, text_told}
+use Rattle.claxon_c.specs.AtStart.{FrameAtStart}
+use Rattle.claxon_c.specs.NextBlock.{CBlockIsSound, IsBlockStatus, CBlockIsComplete, CBlockFaultIsComplete, CBlockFaultIsSound, CBlockElseIoError, PositionIsKept, SamplesAreGiven, ShowsBlock, CBlockOutOfMemoryAfterHeader, CBlockNoMoreIffEof}
+use Rattle.claxon_c.specs.Status.{ErrorIsReported, TextIsReported, buffer_short, no_more, ok}
+use Rattle.claxon_c.proofs.Told.{each_fault_reported, io_error_reported, fault_reported, just_error, error_out_of_memory, out_of_memory_reported, text_reported}
 
 -- all that is promised of it
-pub record NextAnswer (stream : Option StreamShape) (bytes : List ℕ) (status from to : ℕ) (old new : List ℤ) (shown : ClaxonBlock) (before after : List ℕ) : Type 0 where
-  pub sound : BlockIsThere stream bytes status from to old new shown
-  pub complete : EachBlockIsGiven stream bytes status from to old new shown
-  pub fault : FaultIsThere stream (drop from bytes) status before after
-  pub named : EachFaultIsTold stream (drop from bytes) status before after
-  pub end : TooFewIsNoMore (drop from bytes) status
-  pub io : NoFrameIsEnd stream (drop from bytes) status
-  pub memory : StarvesAtHeader stream (drop from bytes) status
-  pub text : TextIsTold status before after
-  pub kept : PlaceIsKept status from to old new
+pub record CBlockPromises (stream : Option StreamFormat) (bytes : List ℕ) (status from to : ℕ) (old new : List ℤ) (shown : ClaxonBlock) (before after : List ℕ) : Type 0 where
+  pub sound : CBlockIsSound stream bytes status from to old new shown
+  pub complete : CBlockIsComplete stream bytes status from to old new shown
+  pub fault : CBlockFaultIsSound stream (drop from bytes) status before after
+  pub named : CBlockFaultIsComplete stream (drop from bytes) status before after
+  pub end : CBlockNoMoreIffEof (drop from bytes) status
+  pub io : CBlockElseIoError stream (drop from bytes) status
+  pub memory : CBlockOutOfMemoryAfterHeader stream (drop from bytes) status
+  pub text : TextIsReported status before after
+  pub kept : PositionIsKept status from to old new
 
 -- a place past the end is as good as the end
 same_rest : (from start : ℕ) (bytes : List ℕ) → start ≡ min (length bytes) from → drop start bytes ≡ drop from bytes
@@ -37,41 +37,41 @@ same_rest from start bytes e = elim (cases_lt (length bytes) from) [
 ]
 
 -- of the bytes from the place on
-pub at_place : (known stream : Option StreamShape) (bytes : List ℕ) (from start : ℕ) (r : FrameAnswer) (taken : ℕ) → known ≡ stream → start ≡ min (length bytes) from → FrameAtFront known (take (length bytes - start) (drop start bytes)) r taken
-    → FrameAtFront stream (drop from bytes) r taken
-at_place known stream bytes from start r taken e s h =
+pub at_position : (known stream : Option StreamFormat) (bytes : List ℕ) (from start : ℕ) (r : FrameAnswer) (taken : ℕ) → known ≡ stream → start ≡ min (length bytes) from → FrameAtStart known (take (length bytes - start) (drop start bytes)) r taken
+    → FrameAtStart stream (drop from bytes) r taken
+at_position known stream bytes from start r taken e s h =
     let rest : take (length bytes - start) (drop start bytes) ≡ drop from bytes = take_all (length bytes - start) (drop start bytes) (omega (arith, length-drop start bytes)) ∙ same_rest from start bytes s in
-    subst (λ (z : List ℕ). FrameAtFront stream z r taken) rest (subst (λ (z : Option StreamShape). FrameAtFront z (take (length bytes - start) (drop start bytes)) r taken) e h)
+    subst (λ (z : List ℕ). FrameAtStart stream z r taken) rest (subst (λ (z : Option StreamFormat). FrameAtStart z (take (length bytes - start) (drop start bytes)) r taken) e h)
 
-not_starved : {A : Type 0} (x : A) → (let q : Result A Error = Ok x in q) ≡ Err OutOfMemory → ⊥
-not_starved x p = cc
+not_out_of_memory : {A : Type 0} (x : A) → (let q : Result A Error = Ok x in q) ≡ Err OutOfMemory → ⊥
+not_out_of_memory x p = cc
 
-module _ (stream : Option StreamShape) (bytes : List ℕ) (from taken : ℕ) (old new : List ℤ) (shown : ClaxonBlock) (before after : List ℕ) where
+module _ (stream : Option StreamFormat) (bytes : List ℕ) (from taken : ℕ) (old new : List ℤ) (shown : ClaxonBlock) (before after : List ℕ) where
   -- no frame was read
-  pub next_error : (e : Error) (status : ℕ) → FrameAtFront stream (drop from bytes) (Err e) taken → ErrorIsTold e status before after → NextAnswer stream bytes status from from old old shown before after
-  next_error e status h told =
+  pub next_error : (e : Error) (status : ℕ) → FrameAtStart stream (drop from bytes) (Err e) taken → ErrorIsReported e status before after → CBlockPromises stream bytes status from from old old shown before after
+  next_error e status h known =
       let Bad : Fault → List ℕ → Type 0 = λ f. FrameBytesFault stream f in
-      let no = just_error status before after e told in
+      let no = just_error status before after e known in
       let rest = drop from bytes in
       record {
         sound = λ says. absurd (elim says [ inl p ↦ no.0 p | inr p ↦ no.1.1 p ]);
-        complete = λ b begins. inr (elim (h.complete b begins) [ inl p ↦ absurd p | inr s ↦ starved_told status before after rest Bad e told s ]);
-        fault = fault_told status before after rest Bad e told h.fault;
-        named = λ f begins. each_told status before after rest Bad e told {A = Option BlockValue} f (h.named f begins);
+        complete = λ b begins. inr (elim (h.complete b begins) [ inl p ↦ absurd p | inr s ↦ out_of_memory_reported status before after rest Bad e known s ]);
+        fault = fault_reported status before after rest Bad e known h.fault;
+        named = λ f begins. each_fault_reported status before after rest Bad e known {A = Option BlockValue} f (h.named f begins);
         end = (λ p. absurd (no.1.0 p), λ few. absurd (let q = h.end.1 few in cc));
-        io = λ some n. end_told status before after rest Bad e told h.fault n;
-        memory = λ is. h.memory (memory_told status before after rest Bad e told is);
-        text = text_told status before after e told;
+        io = λ some n. io_error_reported status before after rest Bad e known h.fault n;
+        memory = λ is. h.memory (error_out_of_memory status before after rest Bad e known is);
+        text = text_reported status before after e known;
         kept = λ p. (refl, refl);
       }
 
   -- there are too few bytes for one
-  pub next_none : FrameAtFront stream (drop from bytes) (Ok None) taken → NextAnswer stream bytes no_more from from old old shown before before
+  pub next_none : FrameAtStart stream (drop from bytes) (Ok None) taken → CBlockPromises stream bytes no_more from from old old shown before before
   next_none h = record {
     sound = λ says. absurd (elim says [ inl p ↦ absurd cc | inr p ↦ absurd cc ]);
-    complete = λ b begins. absurd (elim (h.complete b begins) [ inl p ↦ p | inr s ↦ not_starved None s ]);
+    complete = λ b begins. absurd (elim (h.complete b begins) [ inl p ↦ p | inr s ↦ not_out_of_memory None s ]);
     fault = λ says. absurd (elim says [ inl p ↦ absurd cc | inr p ↦ absurd cc ]);
-    named = λ f begins. absurd (elim (h.named f begins) [ inl p ↦ p | inr s ↦ not_starved None s ]);
+    named = λ f begins. absurd (elim (h.named f begins) [ inl p ↦ p | inr s ↦ not_out_of_memory None s ]);
     end = (λ p. h.end.0 refl, λ few. refl);
     io = λ some n. absurd (omega (arith, some, h.end.0 refl));
     memory = λ is. absurd cc;
@@ -80,9 +80,9 @@ module _ (stream : Option StreamShape) (bytes : List ℕ) (from taken : ℕ) (ol
   }
 
   -- one was read
-  module _ (found : BlockValue) (start : ℕ) (s : start ≡ min (length bytes) from) (h : FrameAtFront stream (drop from bytes) (Ok (Some found)) taken) (shows : ShowsBlock (block_view found) shown) where
+  module _ (found : BlockValue) (start : ℕ) (s : start ≡ min (length bytes) from) (h : FrameAtStart stream (drop from bytes) (Ok (Some found)) taken) (shows : ShowsBlock (block_view found) shown) where
     same_block : (b : Block) → BeginsWith (Frame stream b) (drop from bytes) → block_view found ≡ b
-    same_block b begins = elim (h.complete b begins) [ inl p ↦ p | inr q ↦ absurd (not_starved (Some found) q) ]
+    same_block b begins = elim (h.complete b begins) [ inl p ↦ p | inr q ↦ absurd (not_out_of_memory (Some found) q) ]
 
     enough : length (drop from bytes) < 2 → ⊥
     enough few = let q = h.end.1 few in cc
@@ -93,12 +93,12 @@ module _ (stream : Option StreamShape) (bytes : List ℕ) (from taken : ℕ) (ol
       | inl lt ↦ absurd (enough lt)
     ]
 
-    given : (status to : ℕ) → (status ≡ ok → to ≡ start + taken) → SaysBlock status → SamplesAreGiven (block_view found) status old new → (status ≢ ok → (to ≡ from) × (new ≡ old)) → NextAnswer stream bytes status from to old new shown before before
+    given : (status to : ℕ) → (status ≡ ok → to ≡ start + taken) → IsBlockStatus status → SamplesAreGiven (block_view found) status old new → (status ≢ ok → (to ≡ from) × (new ≡ old)) → CBlockPromises stream bytes status from to old new shown before before
     given status to moved says put kept = record {
       sound = λ q. (block_view found, record { front = h.sound.0; rest = h.sound.1; frame = h.sound.2; joined = h.sound.3; place = λ p. moved p ∙ behind }, shows, put);
       complete = λ b begins. inl (subst (λ (z : Block). ShowsBlock z shown × SamplesAreGiven z status old new) (same_block b begins) (shows, put));
       fault = λ q. absurd (elim q [ inl p ↦ elim says [ inl a ↦ absurd cc | inr a ↦ absurd cc ] | inr p ↦ elim says [ inl a ↦ absurd cc | inr a ↦ absurd cc ] ]);
-      named = λ f begins. absurd (elim (h.named f begins) [ inl p ↦ p | inr q ↦ not_starved (Some found) q ]);
+      named = λ f begins. absurd (elim (h.named f begins) [ inl p ↦ p | inr q ↦ not_out_of_memory (Some found) q ]);
       end = (λ p. absurd (elim says [ inl a ↦ absurd cc | inr a ↦ absurd cc ]), λ few. absurd (enough few));
       io = λ some n. absurd (n.no_code (block_view found) h.sound.0 h.sound.1 h.sound.2 h.sound.3);
       memory = λ p. absurd (elim says [ inl a ↦ absurd cc | inr a ↦ absurd cc ]);
@@ -106,12 +106,12 @@ module _ (stream : Option StreamShape) (bytes : List ℕ) (from taken : ℕ) (ol
       kept = kept;
     }
 
-  pub next_block : (found : BlockValue) (start : ℕ) → start ≡ min (length bytes) from → FrameAtFront stream (drop from bytes) (Ok (Some found)) taken → ShowsBlock (block_view found) shown → SamplesAreGiven (block_view found) ok old new
-      → NextAnswer stream bytes ok from (start + taken) old new shown before before
+  pub next_block : (found : BlockValue) (start : ℕ) → start ≡ min (length bytes) from → FrameAtStart stream (drop from bytes) (Ok (Some found)) taken → ShowsBlock (block_view found) shown → SamplesAreGiven (block_view found) ok old new
+      → CBlockPromises stream bytes ok from (start + taken) old new shown before before
   next_block found start s h shows put = given found start s h shows ok (start + taken) (λ p. refl) (inl refl) put (λ no. absurd (no refl))
 
 -- there is no room for its samples
-pub next_short : (stream : Option StreamShape) (bytes : List ℕ) (from taken : ℕ) (old : List ℤ) (shown : ClaxonBlock) (before : List ℕ) (found : BlockValue) (start : ℕ) → start ≡ min (length bytes) from → FrameAtFront stream (drop from bytes) (Ok (Some found)) taken
-    → ShowsBlock (block_view found) shown → length old < length found.channels * duration found.channels → NextAnswer stream bytes buffer_short from from old old shown before before
-next_short stream bytes from taken old shown before found start s h shows short =
+pub next_buffer_short : (stream : Option StreamFormat) (bytes : List ℕ) (from taken : ℕ) (old : List ℤ) (shown : ClaxonBlock) (before : List ℕ) (found : BlockValue) (start : ℕ) → start ≡ min (length bytes) from → FrameAtStart stream (drop from bytes) (Ok (Some found)) taken
+    → ShowsBlock (block_view found) shown → length old < length found.channels * duration found.channels → CBlockPromises stream bytes buffer_short from from old old shown before before
+next_buffer_short stream bytes from taken old shown before found start s h shows short =
     given stream bytes from taken old old shown before before found start s h shows buffer_short from (λ p. absurd cc) (inr refl) (inr (refl, short)) (λ no. (refl, refl))

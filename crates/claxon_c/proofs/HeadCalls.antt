@@ -11,48 +11,48 @@ use Rattle.claxon.specs.TagEntries.{entry_view}
 use Rattle.claxon.specs.StreamInfos.{StreamInfo}
 use Rattle.claxon.specs.VorbisComments.{VorbisComment}
 use Rattle.claxon.specs.ReadHead.{found_view, head_view}
-use Rattle.claxon.specs.Fronts.{BeginsWith}
+use Rattle.claxon.specs.Prefix.{BeginsWith}
 use Rattle.claxon_c.specs.declared.heads.ClaxonInfo.{ClaxonInfo}
-use Rattle.claxon_c.specs.AtFront.{FrontIs, HeadAtFront}
-use Rattle.claxon_c.specs.HeadCalls.{AnswersText, EachHeadFaultIsTold, HeadFaultIsThere, NoHeadIsEnd, ShowsHead, StarvesAtHead, texts_of}
+use Rattle.claxon_c.specs.AtStart.{BeginsWithLength, HeadAtStart}
+use Rattle.claxon_c.specs.HeadCalls.{AnswersText, CHeadFaultIsComplete, CHeadFaultIsSound, CHeadElseIoError, ShowsHead, CHeadOutOfMemoryAfterHeader, texts_of}
 use Rattle.claxon_c.specs.Info.{InfoShows, known_stream}
-use Rattle.claxon_c.specs.Status.{ErrorIsTold, SaysFault, out_of_memory, input_ends}
-use Rattle.claxon_c.proofs.Told.{each_told, end_told, fault_told, memory_told, starved_told}
+use Rattle.claxon_c.specs.Status.{ErrorIsReported, IsFaultStatus, out_of_memory, input_ends}
+use Rattle.claxon_c.proofs.Told.{each_fault_reported, io_error_reported, fault_reported, error_out_of_memory, out_of_memory_reported}
 
 module _ {A : Type 0} (view : StreamInfo × Option A → Head) (bytes : List ℕ) (taken status : ℕ) (old new : List ℕ) where
   -- there is none
-  module _ (e : Error) (h : HeadAtFront view bytes (Err e) taken) (told : ErrorIsTold e status old new) where
-    pub head_fault : HeadFaultIsThere bytes status old new
-    head_fault = fault_told status old new bytes (λ f. HeadFault (with_samples true) f) e told h.fault
+  module _ (e : Error) (h : HeadAtStart view bytes (Err e) taken) (known : ErrorIsReported e status old new) where
+    pub head_fault : CHeadFaultIsSound bytes status old new
+    head_fault = fault_reported status old new bytes (λ f. HeadFault (with_samples true) f) e known h.fault
 
-    pub head_named : EachHeadFaultIsTold bytes status old new
-    head_named f begins = each_told status old new bytes (λ f. HeadFault (with_samples true) f) e told {A = StreamInfo × Option A} f (h.named f begins)
+    pub head_named : CHeadFaultIsComplete bytes status old new
+    head_named f begins = each_fault_reported status old new bytes (λ f. HeadFault (with_samples true) f) e known {A = StreamInfo × Option A} f (h.named f begins)
 
-    pub head_io : NoHeadIsEnd bytes status
-    head_io n = end_told status old new bytes (λ f. HeadFault (with_samples true) f) e told h.fault n
+    pub head_io : CHeadElseIoError bytes status
+    head_io n = io_error_reported status old new bytes (λ f. HeadFault (with_samples true) f) e known h.fault n
 
-    pub head_memory : StarvesAtHead bytes status
-    head_memory is = h.memory (memory_told status old new bytes (λ f. HeadFault (with_samples true) f) e told is)
+    pub head_memory : CHeadOutOfMemoryAfterHeader bytes status
+    head_memory is = h.memory (error_out_of_memory status old new bytes (λ f. HeadFault (with_samples true) f) e known is)
 
-    pub head_starves : (head : Head) → BeginsWith (HeadCode (with_samples true) head) bytes → status ≡ out_of_memory
-    head_starves head begins = elim (h.complete head begins) [ inl p ↦ absurd p | inr s ↦ starved_told status old new bytes (λ f. HeadFault (with_samples true) f) e told s ]
+    pub head_out_of_memory : (head : Head) → BeginsWith (HeadCode (with_samples true) head) bytes → status ≡ out_of_memory
+    head_out_of_memory head begins = elim (h.complete head begins) [ inl p ↦ absurd p | inr s ↦ out_of_memory_reported status old new bytes (λ f. HeadFault (with_samples true) f) e known s ]
 
   -- this one stands there
-  module _ (z : StreamInfo × Option A) (h : HeadAtFront view bytes (Ok z) taken) where
-    not_starved : (let q : Result (StreamInfo × Option A) Error = Ok z in q) ≡ Err OutOfMemory → ⊥
-    not_starved p = cc
+  module _ (z : StreamInfo × Option A) (h : HeadAtStart view bytes (Ok z) taken) where
+    not_out_of_memory : (let q : Result (StreamInfo × Option A) Error = Ok z in q) ≡ Err OutOfMemory → ⊥
+    not_out_of_memory p = cc
 
     pub head_begins : BeginsWith (HeadCode (with_samples true) (view z)) bytes
     head_begins = (h.sound.0, h.sound.1, h.sound.2, h.sound.3)
 
     pub same_head : (head : Head) → BeginsWith (HeadCode (with_samples true) head) bytes → view z ≡ head
-    same_head head begins = elim (h.complete head begins) [ inl p ↦ p | inr s ↦ absurd (not_starved s) ]
+    same_head head begins = elim (h.complete head begins) [ inl p ↦ p | inr s ↦ absurd (not_out_of_memory s) ]
 
-    pub no_head_fault : EachHeadFaultIsTold bytes status old new
-    no_head_fault f begins = absurd (elim (h.named f begins) [ inl p ↦ p | inr s ↦ not_starved s ])
+    pub no_head_fault : CHeadFaultIsComplete bytes status old new
+    no_head_fault f begins = absurd (elim (h.named f begins) [ inl p ↦ p | inr s ↦ not_out_of_memory s ])
 
-    pub head_is_there : NoHeadIsEnd bytes status
-    head_is_there n = absurd (n.no_code (view z) h.sound.0 h.sound.1 h.sound.2 h.sound.3)
+    pub head_io_ok : CHeadElseIoError bytes status
+    head_io_ok n = absurd (n.no_code (view z) h.sound.0 h.sound.1 h.sound.2 h.sound.3)
 
 -- ---- what is shown of it
 
@@ -60,7 +60,7 @@ known : (found : StreamInfo) (info : ClaxonInfo) (tags taken : ℕ) → InfoShow
 known found info tags taken shows bounds =
     let some : nat_le 1 found.bits_per_sample ≡ true = search (rules, bounds.some_bits) in
     let most : nat_le found.bits_per_sample 32 ≡ true = search (rules, bounds.bits) in
-    rw (shows.width, shows.least_block, shows.greatest_block, some, most) refl
+    rw (shows.width, shows.min_block_size, shows.max_block_size, some, most) refl
 
 pub shows_head : (found : StreamInfo) (comment : Option (VorbisComment Global)) (info : ClaxonInfo) (tags taken : ℕ) → InfoShows found tags taken info → tags ≡ length (texts_of (found_view comment)) → HasBounds found
     → ShowsHead (head_view (found, comment)) info.first_frame info
@@ -71,8 +71,8 @@ shows_head found comment info tags taken shows count bounds = record {
   rate = shows.rate;
   channels = shows.channels;
   width = shows.width;
-  least_block = shows.least_block;
-  greatest_block = shows.greatest_block;
+  min_block_size = shows.min_block_size;
+  max_block_size = shows.max_block_size;
   stream = known found info tags taken shows bounds;
 }
 
@@ -84,7 +84,7 @@ text_of_entry (x ∷ xs) zero pair e = let same : x ≡ pair = cc in ap (λ (z :
 text_of_entry (x ∷ xs) (suc index) pair e = text_of_entry xs index pair e
 
 -- a tag is no error
-pub text_no_error : (text : Option (List ℕ)) (status : ℕ) (old new : List ℕ) (count : ℕ) → AnswersText text status old new count → (SaysFault status → ⊥) × ((status ≢ out_of_memory) × (status ≢ input_ends))
+pub text_no_error : (text : Option (List ℕ)) (status : ℕ) (old new : List ℕ) (count : ℕ) → AnswersText text status old new count → (IsFaultStatus status → ⊥) × ((status ≢ out_of_memory) × (status ≢ input_ends))
 text_no_error None status old new count h = (λ says. elim says [ inl p ↦ absurd cc | inr p ↦ absurd cc ], (λ p. absurd cc, λ p. absurd cc))
 text_no_error (Some text) status old new count (len, inl h) = (λ says. elim says [ inl p ↦ absurd cc | inr p ↦ absurd cc ], (λ p. absurd cc, λ p. absurd cc))
 text_no_error (Some text) status old new count (len, inr h) = (λ says. elim says [ inl p ↦ absurd cc | inr p ↦ absurd cc ], (λ p. absurd cc, λ p. absurd cc))
@@ -97,6 +97,6 @@ gives_text found comment index pair status old new count is at h =
     subst (λ (x : Option (List ℕ)). AnswersText x status old new count) (sym e) h
 
 -- the head is what stands before the first frame
-pub head_at_first_frame : (found : StreamInfo) (comment : Option (VorbisComment Global)) (bytes : List ℕ) (info : ClaxonInfo) (taken : ℕ) → HeadAtFront (head_view {A = Global}) bytes (Ok (found, comment)) taken → info.first_frame ≡ taken
-    → FrontIs (HeadCode (with_samples true) (head_view {A = Global} (found, comment))) bytes info.first_frame
+pub head_at_first_frame : (found : StreamInfo) (comment : Option (VorbisComment Global)) (bytes : List ℕ) (info : ClaxonInfo) (taken : ℕ) → HeadAtStart (head_view {A = Global}) bytes (Ok (found, comment)) taken → info.first_frame ≡ taken
+    → BeginsWithLength (HeadCode (with_samples true) (head_view {A = Global} (found, comment))) bytes info.first_frame
 head_at_first_frame found comment bytes info taken h first = (h.sound.0, h.sound.1, h.sound.2, h.sound.3, first ∙ h.sound.4)

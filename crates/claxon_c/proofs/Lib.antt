@@ -1,5 +1,5 @@
-pub mod AtFront
+pub mod AtStart
 pub mod BlockCalls
 pub mod HeadCalls
-pub mod PutPlaces
+pub mod InterleavedSamples
 pub mod Told

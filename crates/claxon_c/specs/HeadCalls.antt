@@ -5,12 +5,12 @@ use Rattle.claxon.specs.Fault.{Fault}
 use Rattle.claxon.specs.Heads.{Head, HeadCode, HeadFault}
 use Rattle.claxon.specs.Streams.{stream_of, with_samples}
 use Rattle.claxon.specs.Promises.{HasNeither}
-use Rattle.claxon.specs.ReadHead.{WantsMemory}
-use Rattle.claxon.specs.Fronts.{BeginsWith}
+use Rattle.claxon.specs.ReadHead.{HeadMayRunOutOfMemory}
+use Rattle.claxon.specs.Prefix.{BeginsWith}
 use Rattle.claxon_c.specs.declared.heads.ClaxonInfo.{ClaxonInfo}
-use Rattle.claxon_c.specs.AtFront.{FrontIs}
+use Rattle.claxon_c.specs.AtStart.{BeginsWithLength}
 use Rattle.claxon_c.specs.Info.{known_stream}
-use Rattle.claxon_c.specs.Status.{FaultIsTold, SaysFault, TextIsPut, buffer_short, input_ends, no_more, ok, out_of_memory}
+use Rattle.claxon_c.specs.Status.{FaultIsReported, IsFaultStatus, TextIsPut, buffer_short, input_ends, no_more, ok, out_of_memory}
 
 -- the texts of tags
 abbrev pub texts_of : Option Comment → List (List ℕ)
@@ -25,8 +25,8 @@ pub record ShowsHead (h : Head) (count : ℕ) (info : ClaxonInfo) : Type 0 where
   pub rate : info.sample_rate ≡ h.info.rate
   pub channels : info.channels ≡ h.info.channels
   pub width : info.bits_per_sample ≡ h.info.width
-  pub least_block : info.min_block_size ≡ h.info.least_block
-  pub greatest_block : info.max_block_size ≡ h.info.greatest_block
+  pub min_block_size : info.min_block_size ≡ h.info.min_block_size
+  pub max_block_size : info.max_block_size ≡ h.info.max_block_size
   pub stream : known_stream info ≡ Some (stream_of h.info)
 
 -- The answer for a place among texts: the text and its length, its length alone where there is no room for it, or that there is none.
@@ -36,8 +36,8 @@ AnswersText (Some text) status old new count =
     (count ≡ length text) × (((status ≡ ok) × (length text < length old) × TextIsPut text old new) ⊎ ((status ≡ buffer_short) × (length old ≤ length text)))
 
 -- the status says that a head stands there
-abbrev pub SaysHead : ℕ → Type 0
-SaysHead status = (status ≡ ok) ⊎ ((status ≡ no_more) ⊎ (status ≡ buffer_short))
+abbrev pub IsHeadStatus : ℕ → Type 0
+IsHeadStatus status = (status ≡ ok) ⊎ ((status ≡ no_more) ⊎ (status ≡ buffer_short))
 
 -- Nothing is shown but a head.
 abbrev pub InfoIsKept : ℕ → ClaxonInfo → ClaxonInfo → Type 0
@@ -45,33 +45,33 @@ InfoIsKept status old new = status ≢ ok → new ≡ old
 
 module _ (bytes : List ℕ) (status : ℕ) where
   -- `ok` says that the head that is shown stands at the front.
-  abbrev pub HeadIsOpened : ClaxonInfo → Type 0
-  HeadIsOpened info = status ≡ ok → (h : Head) × FrontIs (HeadCode (with_samples true) h) bytes info.first_frame × ShowsHead h info.first_frame info
+  abbrev pub COpenIsSound : ClaxonInfo → Type 0
+  COpenIsSound info = status ≡ ok → (h : Head) × BeginsWithLength (HeadCode (with_samples true) h) bytes info.first_frame × ShowsHead h info.first_frame info
 
   -- Any head that stands there is shown, if memory is found.
-  abbrev pub EachHeadIsOpened : ClaxonInfo → Type 0
-  EachHeadIsOpened info = (h : Head) → BeginsWith (HeadCode (with_samples true) h) bytes → ((status ≡ ok) × ShowsHead h info.first_frame info) ⊎ (status ≡ out_of_memory)
+  abbrev pub COpenIsComplete : ClaxonInfo → Type 0
+  COpenIsComplete info = (h : Head) → BeginsWith (HeadCode (with_samples true) h) bytes → ((status ≡ ok) × ShowsHead h info.first_frame info) ⊎ (status ≡ out_of_memory)
 
   -- A tag, or that there is none, or that there is no room for it, is answered of the head that stands there.
-  abbrev pub TagIsThere : ℕ → List ℕ → List ℕ → ℕ → Type 0
-  TagIsThere index old new count = SaysHead status → (h : Head) × BeginsWith (HeadCode (with_samples true) h) bytes × AnswersText (slice_get (texts_of h.comment) index) status old new count
+  abbrev pub CTagIsSound : ℕ → List ℕ → List ℕ → ℕ → Type 0
+  CTagIsSound index old new count = IsHeadStatus status → (h : Head) × BeginsWith (HeadCode (with_samples true) h) bytes × AnswersText (slice_get (texts_of h.comment) index) status old new count
 
   -- That of any head that stands there is, if memory is found.
-  abbrev pub EachTagIsGiven : ℕ → List ℕ → List ℕ → ℕ → Type 0
-  EachTagIsGiven index old new count = (h : Head) → BeginsWith (HeadCode (with_samples true) h) bytes → AnswersText (slice_get (texts_of h.comment) index) status old new count ⊎ (status ≡ out_of_memory)
+  abbrev pub CTagIsComplete : ℕ → List ℕ → List ℕ → ℕ → Type 0
+  CTagIsComplete index old new count = (h : Head) → BeginsWith (HeadCode (with_samples true) h) bytes → AnswersText (slice_get (texts_of h.comment) index) status old new count ⊎ (status ≡ out_of_memory)
 
   -- A status of a fault tells one that stands there; the text is put into `new`.
-  abbrev pub HeadFaultIsThere : List ℕ → List ℕ → Type 0
-  HeadFaultIsThere old new = SaysFault status → (f : Fault) × BeginsWith (HeadFault (with_samples true) f) bytes × FaultIsTold f status old new
+  abbrev pub CHeadFaultIsSound : List ℕ → List ℕ → Type 0
+  CHeadFaultIsSound old new = IsFaultStatus status → (f : Fault) × BeginsWith (HeadFault (with_samples true) f) bytes × FaultIsReported f status old new
 
   -- Any fault that stands there is told, if memory is found.
-  abbrev pub EachHeadFaultIsTold : List ℕ → List ℕ → Type 0
-  EachHeadFaultIsTold old new = (f : Fault) → BeginsWith (HeadFault (with_samples true) f) bytes → FaultIsTold f status old new ⊎ (status ≡ out_of_memory)
+  abbrev pub CHeadFaultIsComplete : List ℕ → List ℕ → Type 0
+  CHeadFaultIsComplete old new = (f : Fault) → BeginsWith (HeadFault (with_samples true) f) bytes → FaultIsReported f status old new ⊎ (status ≡ out_of_memory)
 
   -- Where neither stands the bytes end, if memory is found.
-  abbrev pub NoHeadIsEnd : Type 0
-  NoHeadIsEnd = HasNeither (HeadCode (with_samples true)) (HeadFault (with_samples true)) bytes → (status ≡ input_ends) ⊎ (status ≡ out_of_memory)
+  abbrev pub CHeadElseIoError : Type 0
+  CHeadElseIoError = HasNeither (HeadCode (with_samples true)) (HeadFault (with_samples true)) bytes → (status ≡ input_ends) ⊎ (status ≡ out_of_memory)
 
   -- Memory is wanted only for a block of an application or of comments.
-  abbrev pub StarvesAtHead : Type 0
-  StarvesAtHead = status ≡ out_of_memory → WantsMemory bytes
+  abbrev pub CHeadOutOfMemoryAfterHeader : Type 0
+  CHeadOutOfMemoryAfterHeader = status ≡ out_of_memory → HeadMayRunOutOfMemory bytes

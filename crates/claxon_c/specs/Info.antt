@@ -1,6 +1,6 @@
 -- A `ClaxonInfo` in the words of the format.
 use Rattle.std.specs.Prelude.{◌≡◌, ℕ, nat_le, ◌&&◌, cond, Option, None, Some}
-use Rattle.claxon.specs.Frame.{StreamShape}
+use Rattle.claxon.specs.Frame.{StreamFormat}
 use Rattle.claxon.specs.MetadataBlock.{or_zero}
 use Rattle.claxon.specs.StreamInfos.{StreamInfo}
 use Rattle.claxon_c.specs.declared.heads.ClaxonInfo.{ClaxonInfo}
@@ -13,12 +13,12 @@ pub record InfoShows (found : StreamInfo) (tags first_frame : ℕ) (info : Claxo
   pub rate : info.sample_rate ≡ found.sample_rate
   pub channels : info.channels ≡ found.channels
   pub width : info.bits_per_sample ≡ found.bits_per_sample
-  pub least_block : info.min_block_size ≡ found.min_block_size
-  pub greatest_block : info.max_block_size ≡ found.max_block_size
+  pub min_block_size : info.min_block_size ≡ found.min_block_size
+  pub max_block_size : info.max_block_size ≡ found.max_block_size
 
 -- What it says of the stream: nothing, where no sample has its width.
-abbrev pub known_stream : ClaxonInfo → Option StreamShape
+abbrev pub known_stream : ClaxonInfo → Option StreamFormat
 known_stream info =
     cond (nat_le 1 info.bits_per_sample && nat_le info.bits_per_sample 32)
-    (Some (record { width = info.bits_per_sample; least_block = info.min_block_size; greatest_block = info.max_block_size }))
+    (Some (record { width = info.bits_per_sample; min_block_size = info.min_block_size; max_block_size = info.max_block_size }))
     None

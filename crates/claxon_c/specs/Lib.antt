@@ -1,5 +1,5 @@
 pub mod Status
-pub mod AtFront
+pub mod AtStart
 pub mod Info
 pub mod HeadCalls
 pub mod NextBlock

@@ -1,13 +1,13 @@
 -- What a call answers for the frame at a place in bytes.
 use Rattle.std.specs.Prelude.{◌≡◌, ◌≢◌, ◌⊎◌, ◌↔◌, ℕ, ℤ, ◌+◌, ◌*◌, ◌<◌, ◌≤◌, List, ◌++◌, length, drop, Option}
 use Rattle.claxon.specs.Fault.{Fault}
-use Rattle.claxon.specs.Frame.{StreamShape, Block, Frame, FrameBytesFault}
+use Rattle.claxon.specs.Frame.{StreamFormat, Block, Frame, FrameBytesFault}
 use Rattle.claxon.specs.Streams.{duration, interleave}
 use Rattle.claxon.specs.Promises.{HasNeither}
-use Rattle.claxon.specs.FrameReader.{HeaderAlone}
-use Rattle.claxon.specs.Fronts.{BeginsWith}
+use Rattle.claxon.specs.FrameReader.{HeaderOfMoreSamples}
+use Rattle.claxon.specs.Prefix.{BeginsWith}
 use Rattle.claxon_c.specs.declared.next_block.ClaxonBlock.{ClaxonBlock}
-use Rattle.claxon_c.specs.Status.{FaultIsTold, SaysFault, buffer_short, input_ends, no_more, ok, out_of_memory}
+use Rattle.claxon_c.specs.Status.{FaultIsReported, IsFaultStatus, buffer_short, input_ends, no_more, ok, out_of_memory}
 
 -- The samples of each place stand in front now, and what was behind them stays.
 abbrev pub SamplesArePut : List (List ℤ) → List ℤ → List ℤ → Type 0
@@ -26,48 +26,48 @@ SamplesAreGiven b status old new =
     ⊎ ((status ≡ buffer_short) × (length old < length b.channels * duration b.channels))
 
 -- the status says that a frame stands there
-abbrev pub SaysBlock : ℕ → Type 0
-SaysBlock status = (status ≡ ok) ⊎ (status ≡ buffer_short)
+abbrev pub IsBlockStatus : ℕ → Type 0
+IsBlockStatus status = (status ≡ ok) ⊎ (status ≡ buffer_short)
 
 -- A frame of the block stands at the place, and with `ok` the place is behind it now.
-pub record StandsAt (stream : Option StreamShape) (bytes : List ℕ) (b : Block) (status from to : ℕ) : Type 0 where
+pub record FrameIsAt (stream : Option StreamFormat) (bytes : List ℕ) (b : Block) (status from to : ℕ) : Type 0 where
   pub front : List ℕ
   pub rest : List ℕ
   pub frame : Frame stream b front
   pub joined : drop from bytes ≡ front ++ rest
   pub place : status ≡ ok → to ≡ from + length front
 
-module _ (stream : Option StreamShape) (bytes : List ℕ) (status from to : ℕ) (old new : List ℤ) (shown : ClaxonBlock) where
+module _ (stream : Option StreamFormat) (bytes : List ℕ) (status from to : ℕ) (old new : List ℤ) (shown : ClaxonBlock) where
   -- The block is shown whose frame stands at the place, its samples are put, and the place is behind it.
-  abbrev pub BlockIsThere : Type 0
-  BlockIsThere = SaysBlock status → (b : Block) × StandsAt stream bytes b status from to × ShowsBlock b shown × SamplesAreGiven b status old new
+  abbrev pub CBlockIsSound : Type 0
+  CBlockIsSound = IsBlockStatus status → (b : Block) × FrameIsAt stream bytes b status from to × ShowsBlock b shown × SamplesAreGiven b status old new
 
   -- The block of any frame that stands there is, if memory is found.
-  abbrev pub EachBlockIsGiven : Type 0
-  EachBlockIsGiven = (b : Block) → BeginsWith (Frame stream b) (drop from bytes) → (ShowsBlock b shown × SamplesAreGiven b status old new) ⊎ (status ≡ out_of_memory)
+  abbrev pub CBlockIsComplete : Type 0
+  CBlockIsComplete = (b : Block) → BeginsWith (Frame stream b) (drop from bytes) → (ShowsBlock b shown × SamplesAreGiven b status old new) ⊎ (status ≡ out_of_memory)
 
 -- Nothing else moves the place or puts samples.
-abbrev pub PlaceIsKept : ℕ → ℕ → ℕ → List ℤ → List ℤ → Type 0
-PlaceIsKept status from to old new = status ≢ ok → (to ≡ from) × (new ≡ old)
+abbrev pub PositionIsKept : ℕ → ℕ → ℕ → List ℤ → List ℤ → Type 0
+PositionIsKept status from to old new = status ≢ ok → (to ≡ from) × (new ≡ old)
 
 -- `bytes` are those from the place on.
-module _ (stream : Option StreamShape) (bytes : List ℕ) (status : ℕ) where
+module _ (stream : Option StreamFormat) (bytes : List ℕ) (status : ℕ) where
   -- A status of a fault tells one that stands there; the text is put into `new`.
-  abbrev pub FaultIsThere : List ℕ → List ℕ → Type 0
-  FaultIsThere old new = SaysFault status → (f : Fault) × BeginsWith (FrameBytesFault stream f) bytes × FaultIsTold f status old new
+  abbrev pub CBlockFaultIsSound : List ℕ → List ℕ → Type 0
+  CBlockFaultIsSound old new = IsFaultStatus status → (f : Fault) × BeginsWith (FrameBytesFault stream f) bytes × FaultIsReported f status old new
 
   -- Any fault that stands there is told, if memory is found.
-  abbrev pub EachFaultIsTold : List ℕ → List ℕ → Type 0
-  EachFaultIsTold old new = (f : Fault) → BeginsWith (FrameBytesFault stream f) bytes → FaultIsTold f status old new ⊎ (status ≡ out_of_memory)
+  abbrev pub CBlockFaultIsComplete : List ℕ → List ℕ → Type 0
+  CBlockFaultIsComplete old new = (f : Fault) → BeginsWith (FrameBytesFault stream f) bytes → FaultIsReported f status old new ⊎ (status ≡ out_of_memory)
 
   -- Where two bytes or more are left and neither stands the bytes end, if memory is found.
-  abbrev pub NoFrameIsEnd : Type 0
-  NoFrameIsEnd = 2 ≤ length bytes → HasNeither (Frame stream) (FrameBytesFault stream) bytes → (status ≡ input_ends) ⊎ (status ≡ out_of_memory)
+  abbrev pub CBlockElseIoError : Type 0
+  CBlockElseIoError = 2 ≤ length bytes → HasNeither (Frame stream) (FrameBytesFault stream) bytes → (status ≡ input_ends) ⊎ (status ≡ out_of_memory)
 
   -- Memory is wanted only where they begin with the header of a frame that has samples.
-  abbrev pub StarvesAtHeader : Type 0
-  StarvesAtHeader = status ≡ out_of_memory → BeginsWith (HeaderAlone stream 0) bytes
+  abbrev pub CBlockOutOfMemoryAfterHeader : Type 0
+  CBlockOutOfMemoryAfterHeader = status ≡ out_of_memory → BeginsWith (HeaderOfMoreSamples stream 0) bytes
 
 -- `no_more` is answered exactly where fewer than two bytes are left.
-abbrev pub TooFewIsNoMore : List ℕ → ℕ → Type 0
-TooFewIsNoMore bytes status = (status ≡ no_more) ↔ (length bytes < 2)
+abbrev pub CBlockNoMoreIffEof : List ℕ → ℕ → Type 0
+CBlockNoMoreIffEof bytes status = (status ≡ no_more) ↔ (length bytes < 2)

@@ -34,20 +34,20 @@ abbrev pub TextIsPut : List ℕ → List ℕ → List ℕ → Type 0
 TextIsPut text old new = 0 < length old → new ≡ ended text (length old) ++ drop (length (ended text (length old))) old
 
 -- The status is that of the error, and its text is put.
-abbrev pub ErrorIsTold : Error → ℕ → List ℕ → List ℕ → Type 0
-ErrorIsTold (FormatError reason) status old new = (status ≡ format_error) × TextIsPut reason.now old new
-ErrorIsTold (Unsupported feature) status old new = (status ≡ unsupported) × TextIsPut feature.now old new
-ErrorIsTold (IoError cause) status old new = (status ≡ input_ends) × TextIsPut (codes "the bytes end") old new
-ErrorIsTold OutOfMemory status old new = (status ≡ out_of_memory) × TextIsPut (codes "out of memory") old new
+abbrev pub ErrorIsReported : Error → ℕ → List ℕ → List ℕ → Type 0
+ErrorIsReported (FormatError reason) status old new = (status ≡ format_error) × TextIsPut reason.now old new
+ErrorIsReported (Unsupported feature) status old new = (status ≡ unsupported) × TextIsPut feature.now old new
+ErrorIsReported (IoError cause) status old new = (status ≡ input_ends) × TextIsPut (codes "the bytes end") old new
+ErrorIsReported OutOfMemory status old new = (status ≡ out_of_memory) × TextIsPut (codes "out of memory") old new
 
 -- The text of an error that names no fault is put.
-abbrev pub TextIsTold : ℕ → List ℕ → List ℕ → Type 0
-TextIsTold status old new = (status ≡ input_ends → TextIsPut (codes "the bytes end") old new) × (status ≡ out_of_memory → TextIsPut (codes "out of memory") old new)
+abbrev pub TextIsReported : ℕ → List ℕ → List ℕ → Type 0
+TextIsReported status old new = (status ≡ input_ends → TextIsPut (codes "the bytes end") old new) × (status ≡ out_of_memory → TextIsPut (codes "out of memory") old new)
 
 -- The status is that of the fault's kind, and the fault's text is put.
-abbrev pub FaultIsTold : Fault → ℕ → List ℕ → List ℕ → Type 0
-FaultIsTold f status old new = (status ≡ cond (is_unsupported f) unsupported format_error) × TextIsPut (fault_text f) old new
+abbrev pub FaultIsReported : Fault → ℕ → List ℕ → List ℕ → Type 0
+FaultIsReported f status old new = (status ≡ cond (is_unsupported f) unsupported format_error) × TextIsPut (fault_text f) old new
 
 -- the status says that there is a fault
-abbrev pub SaysFault : ℕ → Type 0
-SaysFault status = (status ≡ format_error) ⊎ (status ≡ unsupported)
+abbrev pub IsFaultStatus : ℕ → Type 0
+IsFaultStatus status = (status ≡ format_error) ⊎ (status ≡ unsupported)

@@ -5,7 +5,7 @@ ghost use Rattle.std.specs.Io.Cursor.{cursor_inner, cursor_position};
 ghost use Rattle.claxon.specs.Cursor.{cursor_left};
 ghost use Rattle.claxon.specs.ReadHead.{head_view};
 ghost use Rattle.claxon.specs.FrameReader.{frame_input, frame_stream, stream_with};
-ghost use Rattle.claxon_c.specs.AtFront.{FrameAtFront, HasWidth, HeadAtFront};
+ghost use Rattle.claxon_c.specs.AtStart.{FrameAtStart, HasBitDepth, HeadAtStart};
 
 use claxon::frame::{FrameReader, FrameResult};
 use claxon::metadata::{StreamInfo, VorbisComment};
@@ -14,12 +14,12 @@ use std::alloc::Global;
 use std::io::Cursor;
 
 // The head at the front, and how many bytes it has.
-pub(crate) fn head_at_front(
+pub(crate) fn head_at_start(
     alloc: Global,
     bytes: &[u8],
     taken: &mut usize,
 ) -> Result<(StreamInfo, Option<VorbisComment>)>
-    ensures { HeadAtFront head_view bytes.now result taken.new }
+    ensures { HeadAtStart head_view bytes.now result taken.new }
 {
     let options = FlacReaderOptions {
         metadata_only: false,
@@ -32,14 +32,14 @@ pub(crate) fn head_at_front(
 }
 
 // The block of the frame at the front, and how many bytes it has.
-pub(crate) fn block_at_front(
+pub(crate) fn block_at_start(
     alloc: Global,
     bytes: &[u8],
     known: Option<StreamInfo>,
     taken: &mut usize,
 ) -> FrameResult
-    requires { IfSome known (λ info. HasWidth info) }
-    ensures { FrameAtFront (option_map stream_with known) bytes.now result taken.new }
+    requires { IfSome known (λ info. HasBitDepth info) }
+    ensures { FrameAtStart (option_map stream_with known) bytes.now result taken.new }
 {
     let mut frames = frames_of(bytes, known);
     let found = frames.read_next_or_eof(Vec::new(alloc));
@@ -49,7 +49,7 @@ pub(crate) fn block_at_front(
 
 // A reader of the frames in the bytes.
 fn frames_of(bytes: &[u8], known: Option<StreamInfo>) -> FrameReader<Cursor<&[u8]>>
-    requires { IfSome known (λ info. HasWidth info) }
+    requires { IfSome known (λ info. HasBitDepth info) }
     ensures position { cursor_position (frame_input result) ≡ 0 }
     ensures inner { cursor_inner (frame_input result) ≡ bytes.entry }
     ensures stream { frame_stream result ≡ option_map stream_with known }

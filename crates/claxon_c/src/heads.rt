@@ -3,13 +3,13 @@ ghost use Rattle.std.specs.Prelude.{◌≡◌, IfSome, length, slice_get};
 ghost use Rattle.std.specs.Option.{option_map};
 ghost use Rattle.claxon.specs.ReadHead.{found_view};
 ghost use Rattle.claxon.specs.FrameReader.{stream_with};
-ghost use Rattle.claxon_c.specs.AtFront.{HasWidth};
+ghost use Rattle.claxon_c.specs.AtStart.{HasBitDepth};
 ghost use Rattle.claxon_c.specs.Info.{InfoShows, known_stream};
-ghost use Rattle.claxon_c.specs.HeadCalls.{AnswersText, EachHeadFaultIsTold, EachHeadIsOpened, EachTagIsGiven, HeadFaultIsThere, HeadIsOpened, InfoIsKept, NoHeadIsEnd, StarvesAtHead, TagIsThere, texts_of};
-ghost use Rattle.claxon_c.specs.Status.{TextIsTold};
+ghost use Rattle.claxon_c.specs.HeadCalls.{AnswersText, CHeadFaultIsComplete, COpenIsComplete, CTagIsComplete, CHeadFaultIsSound, COpenIsSound, InfoIsKept, CHeadElseIoError, CHeadOutOfMemoryAfterHeader, CTagIsSound, texts_of};
+ghost use Rattle.claxon_c.specs.Status.{TextIsReported};
 
-use crate::fronts::head_at_front;
-use crate::status::{BUFFER_SHORT, NO_MORE, OK, put_text, tell};
+use crate::fronts::head_at_start;
+use crate::status::{BUFFER_SHORT, NO_MORE, OK, put_text, report};
 use claxon::metadata::{StreamInfo, VorbisComment};
 use std::alloc::Global;
 
@@ -53,7 +53,7 @@ impl ClaxonInfo {
 
     // What frames need of it. A width that no sample has says that nothing is known of the stream.
     pub(crate) fn known_stream(&self) -> Option<StreamInfo>
-        ensures width { IfSome result (λ info. HasWidth info) }
+        ensures width { IfSome result (λ info. HasBitDepth info) }
         ensures stream { option_map stream_with result ≡ known_stream self.now }
     {
         if self.bits_per_sample < 1 || self.bits_per_sample > 32 {
@@ -90,22 +90,22 @@ pub extern "C" fn claxon_open(
     info: &mut ClaxonInfo,
     error: &mut [u8],
 ) -> u32
-    ensures sound { HeadIsOpened bytes.now result info.new }
-    ensures complete { EachHeadIsOpened bytes.now result info.new }
-    ensures fault { HeadFaultIsThere bytes.now result error.old error.new }
-    ensures named { EachHeadFaultIsTold bytes.now result error.old error.new }
-    ensures io { NoHeadIsEnd bytes.now result }
-    ensures memory { StarvesAtHead bytes.now result }
-    ensures text { TextIsTold result error.old error.new }
+    ensures sound { COpenIsSound bytes.now result info.new }
+    ensures complete { COpenIsComplete bytes.now result info.new }
+    ensures fault { CHeadFaultIsSound bytes.now result error.old error.new }
+    ensures named { CHeadFaultIsComplete bytes.now result error.old error.new }
+    ensures io { CHeadElseIoError bytes.now result }
+    ensures memory { CHeadOutOfMemoryAfterHeader bytes.now result }
+    ensures text { TextIsReported result error.old error.new }
     ensures kept { InfoIsKept result info.old info.new }
 {
     let mut taken = 0;
-    match head_at_front(alloc, bytes, &mut taken) {
+    match head_at_start(alloc, bytes, &mut taken) {
         Ok((found, comment)) => {
             *info = ClaxonInfo::new(&found, count_tags(&comment), taken);
             OK
         }
-        Err(fault) => tell(&fault, error),
+        Err(fault) => report(&fault, error),
     }
 }
 
@@ -118,18 +118,18 @@ pub extern "C" fn claxon_tag(
     text: &mut [u8],
     text_length: &mut usize,
 ) -> u32
-    ensures sound { TagIsThere bytes.now result index text.old text.new text_length.new }
-    ensures complete { EachTagIsGiven bytes.now result index text.old text.new text_length.new }
-    ensures fault { HeadFaultIsThere bytes.now result text.old text.new }
-    ensures named { EachHeadFaultIsTold bytes.now result text.old text.new }
-    ensures io { NoHeadIsEnd bytes.now result }
-    ensures memory { StarvesAtHead bytes.now result }
-    ensures text { TextIsTold result text.old text.new }
+    ensures sound { CTagIsSound bytes.now result index text.old text.new text_length.new }
+    ensures complete { CTagIsComplete bytes.now result index text.old text.new text_length.new }
+    ensures fault { CHeadFaultIsSound bytes.now result text.old text.new }
+    ensures named { CHeadFaultIsComplete bytes.now result text.old text.new }
+    ensures io { CHeadElseIoError bytes.now result }
+    ensures memory { CHeadOutOfMemoryAfterHeader bytes.now result }
+    ensures text { TextIsReported result text.old text.new }
 {
     let mut taken = 0;
-    match head_at_front(alloc, bytes, &mut taken) {
+    match head_at_start(alloc, bytes, &mut taken) {
         Ok((_, comment)) => give_tag(&comment, index, text, text_length),
-        Err(fault) => tell(&fault, text),
+        Err(fault) => report(&fault, text),
     }
 }
 

@@ -2,13 +2,13 @@
 ghost use Rattle.std.specs.Prelude.{drop};
 ghost use Rattle.claxon.specs.FrameReader.{block_view};
 ghost use Rattle.claxon_c.specs.Info.{known_stream};
-ghost use Rattle.claxon_c.specs.NextBlock.{BlockIsThere, EachBlockIsGiven, EachFaultIsTold, FaultIsThere, NoFrameIsEnd, PlaceIsKept, ShowsBlock, StarvesAtHeader, TooFewIsNoMore};
-ghost use Rattle.claxon_c.specs.Status.{TextIsTold};
+ghost use Rattle.claxon_c.specs.NextBlock.{CBlockIsSound, CBlockIsComplete, CBlockFaultIsComplete, CBlockFaultIsSound, CBlockElseIoError, PositionIsKept, ShowsBlock, CBlockOutOfMemoryAfterHeader, CBlockNoMoreIffEof};
+ghost use Rattle.claxon_c.specs.Status.{TextIsReported};
 
-use crate::fronts::block_at_front;
+use crate::fronts::block_at_start;
 use crate::heads::ClaxonInfo;
 use crate::place::put_samples;
-use crate::status::{BUFFER_SHORT, NO_MORE, OK, tell};
+use crate::status::{BUFFER_SHORT, NO_MORE, OK, report};
 use claxon::Block;
 use std::alloc::Global;
 
@@ -47,19 +47,19 @@ pub extern "C" fn claxon_next_block(
     block: &mut ClaxonBlock,
     error: &mut [u8],
 ) -> u32
-    ensures sound { BlockIsThere (known_stream info.now) bytes.now result at.old at.new samples.old samples.new block.new }
-    ensures complete { EachBlockIsGiven (known_stream info.now) bytes.now result at.old at.new samples.old samples.new block.new }
-    ensures fault { FaultIsThere (known_stream info.now) (drop at.old bytes.now) result error.old error.new }
-    ensures named { EachFaultIsTold (known_stream info.now) (drop at.old bytes.now) result error.old error.new }
-    ensures end { TooFewIsNoMore (drop at.old bytes.now) result }
-    ensures io { NoFrameIsEnd (known_stream info.now) (drop at.old bytes.now) result }
-    ensures memory { StarvesAtHeader (known_stream info.now) (drop at.old bytes.now) result }
-    ensures text { TextIsTold result error.old error.new }
-    ensures kept { PlaceIsKept result at.old at.new samples.old samples.new }
+    ensures sound { CBlockIsSound (known_stream info.now) bytes.now result at.old at.new samples.old samples.new block.new }
+    ensures complete { CBlockIsComplete (known_stream info.now) bytes.now result at.old at.new samples.old samples.new block.new }
+    ensures fault { CBlockFaultIsSound (known_stream info.now) (drop at.old bytes.now) result error.old error.new }
+    ensures named { CBlockFaultIsComplete (known_stream info.now) (drop at.old bytes.now) result error.old error.new }
+    ensures end { CBlockNoMoreIffEof (drop at.old bytes.now) result }
+    ensures io { CBlockElseIoError (known_stream info.now) (drop at.old bytes.now) result }
+    ensures memory { CBlockOutOfMemoryAfterHeader (known_stream info.now) (drop at.old bytes.now) result }
+    ensures text { TextIsReported result error.old error.new }
+    ensures kept { PositionIsKept result at.old at.new samples.old samples.new }
 {
     let start = bytes.len().min(*at);
     let mut taken = 0;
-    match block_at_front(alloc, &bytes[start..], info.known_stream(), &mut taken) {
+    match block_at_start(alloc, &bytes[start..], info.known_stream(), &mut taken) {
         Ok(Some(found)) => {
             *block = ClaxonBlock::new(&found);
             if samples.len() < found.len() as usize {
@@ -70,6 +70,6 @@ pub extern "C" fn claxon_next_block(
             OK
         }
         Ok(None) => NO_MORE,
-        Err(fault) => tell(&fault, error),
+        Err(fault) => report(&fault, error),
     }
 }

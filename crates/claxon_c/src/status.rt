@@ -1,5 +1,5 @@
 //! What calls answer: a status, and a text for an error.
-ghost use Rattle.claxon_c.specs.Status.{ErrorIsTold, TextIsPut};
+ghost use Rattle.claxon_c.specs.Status.{ErrorIsReported, TextIsPut};
 
 use claxon::Error;
 
@@ -31,8 +31,8 @@ pub(crate) fn put_text(text: &str, output: &mut [u8])
 }
 
 // The status of the error, whose text is put.
-pub(crate) fn tell(error: &Error, output: &mut [u8]) -> u32
-    ensures { ErrorIsTold error.now result output.old output.new }
+pub(crate) fn report(error: &Error, output: &mut [u8]) -> u32
+    ensures { ErrorIsReported error.now result output.old output.new }
 {
     match error {
         Error::FormatError(reason) => {

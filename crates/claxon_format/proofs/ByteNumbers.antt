@@ -8,7 +8,7 @@ use Rattle.claxon_format.specs.Bits.{Bits, bits, bits_of, number}
 use Rattle.claxon_format.specs.read.Bits.{number_at}
 use Rattle.claxon_format.specs.read.Bytes.{bytes_at, big_at, by_bytes, big_endian}
 use Rattle.claxon_format.proofs.Numbers.{number-bits}
-use Rattle.claxon_format.specs.Reading.{Done, Short, bind, done}
+use Rattle.claxon_format.specs.Reading.{Done, Incomplete, bind, done}
 use Rattle.claxon_format.proofs.Bytes.{bits_of-append, length-bits_of}
 use Rattle.claxon_format.proofs.WholeBytes.{Leaves, Whole, in_bits, whole_is}
 
@@ -57,7 +57,7 @@ Whole-number k = record { same = λ s. go s (ltb (length s) k) refl; rest = λ s
         let back : drop (8 * k) (bits_of s) ≡ bits_of (drop k s) = ap (drop (8 * k)) parts ∙ drop_at (bits_of (take k s)) (bits_of (drop k s)) (8 * k) len in
         rw (f, e, front, back, number-bits_of (take k s)) refl
 
-    left : (s : List ℕ) (b : Bool) → Leaves s (bind (cond b Short (Done (take k s) (drop k s))) (λ xs. done (big_endian xs)))
+    left : (s : List ℕ) (b : Bool) → Leaves s (bind (cond b Incomplete (Done (take k s) (drop k s))) (λ xs. done (big_endian xs)))
     left s true = tt
     left s false = (take k s, sym (take-append-drop k s))
 

@@ -9,9 +9,9 @@ use Rattle.std.proofs.lemmas.List.{take_at, length-append, append-nil}
 use Rattle.std.proofs.lemmas.Str.{IsUtf8-from_is_utf8, is_utf8-from_IsUtf8}
 use Rattle.claxon_format.specs.Fault.{CommentShort, CommentLarge, VendorLong, VendorNotUtf8, TooManyEntries, EntryLong, SeparatorMissing, NameByte, EntryNotUtf8, ExcessData, EntriesMissing}
 use Rattle.claxon_format.specs.Reading.{Reads, Then, Is, Each, Mapped, choose}
-use Rattle.claxon_format.specs.Metadata.{Bytes, Little, most_bytes}
-use Rattle.claxon_format.specs.Comments.{Entry, is_separator, IsEntry, Counted, Mean, entry_of, has_separator, has_name, not_utf8, EntryFault, EntryCode, Kept, KeptFault, EntryLength, EntryLengthFault, EndFault, EntriesFault, VendorLength, VendorLengthFault, Vendor, VendorFault, Count, CountFault, Comment, CommentCode, CommentFault}
-use Rattle.claxon_format.specs.read.Comments.{entry_at, kept_at, entry_length_at, end_at, entries_at, vendor_length_at, vendor_at, count_at, comment_at}
+use Rattle.claxon_format.specs.Metadata.{Bytes, Little, max_content_bytes}
+use Rattle.claxon_format.specs.Comments.{Entry, is_separator, IsEntry, LengthPrefixed, EntriesOf, entry_of, has_separator, has_name, not_utf8, EntryFault, EntryCode, EntryOrEmpty, EntryOrEmptyFault, EntryLength, EntryLengthFault, EntriesEndFault, EntriesFault, VendorLength, VendorLengthFault, Vendor, VendorFault, Count, CountFault, Comment, CommentCode, CommentFault}
+use Rattle.claxon_format.specs.read.Comments.{entry_at, entry_or_empty_at, entry_length_at, entries_end_at, entries_at, vendor_length_at, vendor_at, count_at, comment_at}
 use Rattle.claxon_format.proofs.Laws.{Reads-then, Reads-same, Reads-test, Reads-done, Reads-map, Reads-pick, Reads-checked}
 use Rattle.claxon_format.proofs.Metadata.{Reads-bytes, Reads-little, little_length}
 
@@ -36,7 +36,7 @@ position_is (y ∷ name) value none =
     rw (e.0, position_is name value e.1) (omega arith)
 
 -- a text that has a '='
-pub record Cut (text : List ℕ) (name value : List ℕ) : Type 0 where
+pub record AtSeparator (text : List ℕ) (name value : List ℕ) : Type 0 where
   pub joined : text ≡ name ++ (0x3d ∷ value)
   pub place : position_or_len is_separator text ≡ length name
   pub none : list_any is_separator name ≡ false
@@ -44,35 +44,35 @@ pub record Cut (text : List ℕ) (name value : List ℕ) : Type 0 where
 separator_is : (y : ℕ) → is_separator y ≡ true → y ≡ 0x3d
 separator_is y e = eqb-true y 0x3d e
 
-cut_cons : (y : ℕ) (text name value : List ℕ) → is_separator y ≡ false → Cut text name value → Cut (y ∷ text) (y ∷ name) value
-cut_cons y text name value e c = record { joined = ap (λ (z : List ℕ). y ∷ z) c.joined; place = rw (e, c.place) (omega arith); none = rw e c.none }
+split_cons : (y : ℕ) (text name value : List ℕ) → is_separator y ≡ false → AtSeparator text name value → AtSeparator (y ∷ text) (y ∷ name) value
+split_cons y text name value e c = record { joined = ap (λ (z : List ℕ). y ∷ z) c.joined; place = rw (e, c.place) (omega arith); none = rw e c.none }
 
-Parted : List ℕ → Type 0
-Parted text = (name : List ℕ) × (value : List ℕ) × Cut text name value
+HasSeparator : List ℕ → Type 0
+HasSeparator text = (name : List ℕ) × (value : List ℕ) × AtSeparator text name value
 
-cut_step : (y : ℕ) (text : List ℕ) (b : Bool) → is_separator y ≡ b → cond (not b) (1 + position_or_len is_separator text) 0 < suc (length text) → (position_or_len is_separator text < length text → Parted text) → Parted (y ∷ text)
-unfolding Parted
-cut_step y text true e lt rest = ([], text, record { joined = ap (λ (z : ℕ). z ∷ text) (separator_is y e); place = rw e refl; none = refl })
-cut_step y text false e lt rest = let c = rest (omega arith) in (y ∷ c.0, c.1, cut_cons y text c.0 c.1 e c.2)
+split_step : (y : ℕ) (text : List ℕ) (b : Bool) → is_separator y ≡ b → cond (not b) (1 + position_or_len is_separator text) 0 < suc (length text) → (position_or_len is_separator text < length text → HasSeparator text) → HasSeparator (y ∷ text)
+unfolding HasSeparator
+split_step y text true e lt rest = ([], text, record { joined = ap (λ (z : ℕ). z ∷ text) (separator_is y e); place = rw e refl; none = refl })
+split_step y text false e lt rest = let c = rest (omega arith) in (y ∷ c.0, c.1, split_cons y text c.0 c.1 e c.2)
 
-cut_text : (text : List ℕ) → position_or_len is_separator text < length text → Parted text
-cut_text [] lt = absurd (omega arith)
-cut_text (y ∷ text) lt = cut_step y text (is_separator y) refl lt (cut_text text)
+split_text : (text : List ℕ) → position_or_len is_separator text < length text → HasSeparator text
+split_text [] lt = absurd (omega arith)
+split_text (y ∷ text) lt = split_step y text (is_separator y) refl lt (split_text text)
 
-before_is : (text name value : List ℕ) → Cut text name value → before_first is_separator text ≡ name
+before_is : (text name value : List ℕ) → AtSeparator text name value → before_first is_separator text ≡ name
 before_is text name value c = ap (λ (n : ℕ). take n text) c.place ∙ ap (take (length name)) c.joined ∙ take_at name (0x3d ∷ value) (length name) refl
 
 -- ---- an entry
 
-entry_is : (text name value : List ℕ) → Cut text name value → has_name text ≡ true → is_utf8 text ≡ true → IsEntry (entry_of text)
+entry_is : (text name value : List ℕ) → AtSeparator text name value → has_name text ≡ true → is_utf8 text ≡ true → IsEntry (entry_of text)
 entry_is text name value c named utf8 =
     (name, value, c.joined, c.place, c.none, rw (before_is text name value c) at named, IsUtf8-from_is_utf8 text utf8)
 
-cut_of : (text name value : List ℕ) → text ≡ name ++ (0x3d ∷ value) → list_any is_separator name ≡ false → Cut text name value
-cut_of text name value joined none = record { joined = joined; place = ap (position_or_len is_separator) joined ∙ position_is name value none; none = none }
+split_of : (text name value : List ℕ) → text ≡ name ++ (0x3d ∷ value) → list_any is_separator name ≡ false → AtSeparator text name value
+split_of text name value joined none = record { joined = joined; place = ap (position_or_len is_separator) joined ∙ position_is name value none; none = none }
 
-cut_within : (text name value : List ℕ) → Cut text name value → has_separator text ≡ true
-cut_within text name value c =
+split_has_separator : (text name value : List ℕ) → AtSeparator text name value → has_separator text ≡ true
+split_has_separator text name value c =
     let len : length text ≡ length name + length (0x3d ∷ value) = ap length c.joined ∙ length-append name (0x3d ∷ value) in
     let p = c.place in
     lt-ltb _ _ (omega arith)
@@ -81,18 +81,18 @@ EntryTested : ℕ → Entry → List ℕ → Type 0
 EntryTested n = Then (Bytes n) (λ text e t. (not (has_separator text) ≡ false) × ((not (has_name text) ≡ false) × ((not_utf8 text ≡ false) × Is (entry_of text) e t)))
 
 entry_to : (n : ℕ) (e : Entry) (t : List ℕ) → EntryTested n e t → EntryCode n e t
-unfolding EntryTested Parted
+unfolding EntryTested HasSeparator
 entry_to n e t (text, x, u, (len, x-is), (a, (b, (c, (e-is, u-is)))), t-is) =
-    let k = cut_text text (ltb-true _ _ (not_true _ a)) in
+    let k = split_text text (ltb-true _ _ (not_true _ a)) in
     let text-is : t ≡ text = t-is ∙ rw (x-is, u-is) (append-nil text) in
     (ap length text-is ∙ len, ap (λ (z : Entry). z.text) e-is ∙ sym text-is, subst IsEntry (sym e-is) (entry_is text k.0 k.1 k.2 (not_true _ b) (not_true _ c)))
 
 entry_from : (n : ℕ) (e : Entry) (t : List ℕ) → EntryCode n e t → EntryTested n e t
 unfolding EntryTested
 entry_from n e t (len, text-is, (name, value, joined, place, none, allowed, utf8)) =
-    let k = cut_of e.text name value joined none in
+    let k = split_of e.text name value joined none in
     let named : has_name e.text ≡ true = rw (before_is e.text name value k) allowed in
-    (e.text, e.text, [], (ap length text-is ∙ len, refl), (not_false _ (cut_within e.text name value k), (not_false _ named, (not_false _ (is_utf8-from_IsUtf8 e.text utf8), (ap (λ (p : ℕ). record { text = e.text; place = p }) (place ∙ sym k.place), refl)))), sym text-is ∙ sym (append-nil e.text))
+    (e.text, e.text, [], (ap length text-is ∙ len, refl), (not_false _ (split_has_separator e.text name value k), (not_false _ named, (not_false _ (is_utf8-from_IsUtf8 e.text utf8), (ap (λ (p : ℕ). record { text = e.text; place = p }) (place ∙ sym k.place), refl)))), sym text-is ∙ sym (append-nil e.text))
 
 pub Reads-entry : (n : ℕ) → Reads ℕ Entry (entry_at n) (EntryCode n) (EntryFault n)
 unfolding entry_at EntryTested
@@ -100,78 +100,78 @@ Reads-entry n =
     Reads-same (Reads-then (Reads-bytes n) (λ text t c. Reads-test (not (has_separator text)) SeparatorMissing (λ a. Reads-test (not (has_name text)) NameByte (λ b. Reads-test (not_utf8 text) EntryNotUtf8 (λ d. Reads-done Entry (entry_of text))))))
     (entry_to n) (entry_from n) (λ f t c. c) (λ f t c. c)
 
-pub Reads-kept : (n : ℕ) → Reads ℕ (List Entry) (kept_at n) (Kept n) (KeptFault n)
-unfolding kept_at
-Reads-kept n = Reads-pick (eqb n 0) (λ e. Reads-done (List Entry) []) (λ e. Reads-map (λ e. e ∷ []) (Reads-entry n))
+pub Reads-entry_or_empty : (n : ℕ) → Reads ℕ (List Entry) (entry_or_empty_at n) (EntryOrEmpty n) (EntryOrEmptyFault n)
+unfolding entry_or_empty_at
+Reads-entry_or_empty n = Reads-pick (eqb n 0) (λ e. Reads-done (List Entry) []) (λ e. Reads-map (λ e. e ∷ []) (Reads-entry n))
 
 -- ---- entries
 
-kept_length : (n : ℕ) (es : List Entry) (t : List ℕ) → Kept n es t → length t ≡ n
-kept_length n es t c = go (eqb n 0) refl c
+entry_or_empty_length : (n : ℕ) (es : List Entry) (t : List ℕ) → EntryOrEmpty n es t → length t ≡ n
+entry_or_empty_length n es t c = go (eqb n 0) refl c
   where
     go : (b : Bool) → eqb n 0 ≡ b → choose b (Is []) (Mapped (λ e. e ∷ []) (EntryCode n)) es t → length t ≡ n
     go true e c = ap length c.1 ∙ sym (eqb-true n 0 e)
     go false e c = c.1.0
 
-mean_filled : (text : List ℕ) (texts : List (List ℕ)) (e : Entry) (others : List Entry) → (length text ≡ 0 → ⊥) → e.text ≡ text → IsEntry e → Mean texts others → Mean (text ∷ texts) (e ∷ others)
-mean_filled [] texts e others filled is entry rest = absurd (filled refl)
-mean_filled (y ∷ ys) texts e others filled is entry rest = (is, entry, rest)
+entries_of_nonempty : (text : List ℕ) (texts : List (List ℕ)) (e : Entry) (others : List Entry) → (length text ≡ 0 → ⊥) → e.text ≡ text → IsEntry e → EntriesOf texts others → EntriesOf (text ∷ texts) (e ∷ others)
+entries_of_nonempty [] texts e others filled is entry rest = absurd (filled refl)
+entries_of_nonempty (y ∷ ys) texts e others filled is entry rest = (is, entry, rest)
 
-mean_cons : (n : ℕ) (es others : List Entry) (t : List ℕ) (texts : List (List ℕ)) → Kept n es t → Mean texts others → Mean (t ∷ texts) (es ++ others)
-mean_cons n es others t texts c rest = go (eqb n 0) refl c
+entries_of_cons : (n : ℕ) (es others : List Entry) (t : List ℕ) (texts : List (List ℕ)) → EntryOrEmpty n es t → EntriesOf texts others → EntriesOf (t ∷ texts) (es ++ others)
+entries_of_cons n es others t texts c rest = go (eqb n 0) refl c
   where
-    go : (b : Bool) → eqb n 0 ≡ b → choose b (Is []) (Mapped (λ e. e ∷ []) (EntryCode n)) es t → Mean (t ∷ texts) (es ++ others)
+    go : (b : Bool) → eqb n 0 ≡ b → choose b (Is []) (Mapped (λ e. e ∷ []) (EntryCode n)) es t → EntriesOf (t ∷ texts) (es ++ others)
     go true e c = rw (c.0, c.1) rest
     go false e c =
         let len = c.1.0 in
         let some : length t ≡ 0 → ⊥ = λ z. (let k : eqb n 0 ≡ true = eq-eqb n 0 (sym len ∙ z) in cc) in
-        rw c.2 (mean_filled t texts c.0 others some c.1.1 c.1.2 rest)
+        rw c.2 (entries_of_nonempty t texts c.0 others some c.1.1 c.1.2 rest)
 
 record Parts (text : List ℕ) (texts : List (List ℕ)) (es : List Entry) : Type 0 where
   first : List Entry
   others : List Entry
-  kept : Kept (length text) first text
-  rest : Mean texts others
+  kept : EntryOrEmpty (length text) first text
+  rest : EntriesOf texts others
   joined : es ≡ first ++ others
 
-kept_filled : (y : ℕ) (ys : List ℕ) (e : Entry) → e.text ≡ y ∷ ys → IsEntry e → Kept (length (y ∷ ys)) (e ∷ []) (y ∷ ys)
-kept_filled y ys e is entry = rw (eqb-suc-zero (length ys)) (e, (refl, is, entry), refl)
+entry_or_empty_filled : (y : ℕ) (ys : List ℕ) (e : Entry) → e.text ≡ y ∷ ys → IsEntry e → EntryOrEmpty (length (y ∷ ys)) (e ∷ []) (y ∷ ys)
+entry_or_empty_filled y ys e is entry = rw (eqb-suc-zero (length ys)) (e, (refl, is, entry), refl)
 
-mean_parts : (text : List ℕ) (texts : List (List ℕ)) (es : List Entry) → Mean (text ∷ texts) es → Parts text texts es
-mean_parts [] texts es m = record { first = []; others = es; kept = (refl, refl); rest = m; joined = refl }
-mean_parts (y ∷ ys) texts [] m = absurd m
-mean_parts (y ∷ ys) texts (e ∷ es) m = record { first = e ∷ []; others = es; kept = kept_filled y ys e m.0 m.1; rest = m.2; joined = refl }
+entries_of_parts : (text : List ℕ) (texts : List (List ℕ)) (es : List Entry) → EntriesOf (text ∷ texts) es → Parts text texts es
+entries_of_parts [] texts es m = record { first = []; others = es; kept = (refl, refl); rest = m; joined = refl }
+entries_of_parts (y ∷ ys) texts [] m = absurd m
+entries_of_parts (y ∷ ys) texts (e ∷ es) m = record { first = e ∷ []; others = es; kept = entry_or_empty_filled y ys e m.0 m.1; rest = m.2; joined = refl }
 
-EndTested : ℕ → ℕ → List Entry → List ℕ → Type 0
-EndTested missing left es t = (ltb 0 left ≡ false) × ((ltb 0 missing ≡ false) × Is [] es t)
+EntriesEndTested : ℕ → ℕ → List Entry → List ℕ → Type 0
+EntriesEndTested missing left es t = (ltb 0 left ≡ false) × ((ltb 0 missing ≡ false) × Is [] es t)
 
 NextTested : (ℕ → List Entry → List ℕ → Type 0) → ℕ → List Entry → List ℕ → Type 0
-NextTested rest left = Then (EntryLength (left - 4)) (λ n. Then (Kept n) (λ es. Mapped (λ others. es ++ others) (rest (left - 4 - n))))
+NextTested rest left = Then (EntryLength (left - 4)) (λ n. Then (EntryOrEmpty n) (λ es. Mapped (λ others. es ++ others) (rest (left - 4 - n))))
 
 EntriesTested : ℕ → ℕ → List Entry → List ℕ → Type 0
-EntriesTested zero left = EndTested zero left
-EntriesTested (suc missing) left = choose (ltb left 4) (EndTested (suc missing) left) (NextTested (EntriesTested missing) left)
+EntriesTested zero left = EntriesEndTested zero left
+EntriesTested (suc missing) left = choose (ltb left 4) (EntriesEndTested (suc missing) left) (NextTested (EntriesTested missing) left)
 
 -- so many texts in so many bytes
 record Entries (count left : ℕ) (es : List Entry) (t : List ℕ) : Type 0 where
   texts : List (List ℕ)
   count_is : length texts ≡ count
-  each : Each Counted texts t
-  meant : Mean texts es
+  each : Each LengthPrefixed texts t
+  entries_are : EntriesOf texts es
   fills : length t ≡ left
 
-end_to : (count left : ℕ) (es : List Entry) (t : List ℕ) → count ≡ 0 → EndTested count left es t → Entries count left es t
-unfolding EndTested
-end_to count left es t zero-is (empty, (none, (es-is, t-is))) =
+entries_end_to : (count left : ℕ) (es : List Entry) (t : List ℕ) → count ≡ 0 → EntriesEndTested count left es t → Entries count left es t
+unfolding EntriesEndTested
+entries_end_to count left es t zero-is (empty, (none, (es-is, t-is))) =
     let k = ltb-false _ _ empty in
-    record { texts = []; count_is = sym zero-is; each = t-is; meant = rw es-is tt; fills = ap length t-is ∙ omega arith }
+    record { texts = []; count_is = sym zero-is; each = t-is; entries_are = rw es-is tt; fills = ap length t-is ∙ omega arith }
 
 next_to : (count left : ℕ) (es : List Entry) (t : List ℕ) → 4 ≤ left → ((l : ℕ) (es : List Entry) (t : List ℕ) → EntriesTested count l es t → Entries count l es t) → NextTested (EntriesTested count) left es t → Entries (suc count) left es t
 unfolding NextTested
 next_to count left es t enough rest (n, x, u, (small, code), (ks, y, z, kept, (others, tested, es-is), u-is), t-is) =
     let len = little_length 4 n x code in
     let r = rest (left - 4 - n) others z tested in
-    let l : length y ≡ n = kept_length n ks y kept in
+    let l : length y ≡ n = entry_or_empty_length n ks y kept in
     let le : n ≤ left - 4 = ltb-false _ _ small in
     let lt : length t ≡ length x + (length y + length z) = ap length (t-is ∙ ap (λ (q : List ℕ). x ++ q) u-is) ∙ length-append x (y ++ z) ∙ ap (λ (m : ℕ). length x + m) (length-append y z) in
     let f = r.fills in
@@ -179,34 +179,34 @@ next_to count left es t enough rest (n, x, u, (small, code), (ks, y, z, kept, (o
       texts = y ∷ r.texts;
       count_is = ap suc r.count_is;
       each = (x ++ y, z, (x, subst (λ (k : ℕ). Little 4 k x) (sym l) code, refl), r.each, t-is ∙ ap (λ (q : List ℕ). x ++ q) u-is ∙ sym (append_assoc x y z));
-      meant = rw es-is (mean_cons n ks others y r.texts kept r.meant);
+      entries_are = rw es-is (entries_of_cons n ks others y r.texts kept r.entries_are);
       fills = omega arith;
     }
 
-no_end : (count left : ℕ) (es : List Entry) (t : List ℕ) → EndTested (suc count) left es t → ⊥
-unfolding EndTested
-no_end count left es t c = let k = ltb-false _ _ c.1.0 in omega arith
+no_entries_end : (count left : ℕ) (es : List Entry) (t : List ℕ) → EntriesEndTested (suc count) left es t → ⊥
+unfolding EntriesEndTested
+no_entries_end count left es t c = let k = ltb-false _ _ c.1.0 in omega arith
 
 entries_to : (count left : ℕ) (es : List Entry) (t : List ℕ) → EntriesTested count left es t → Entries count left es t
-unfolding EntriesTested EndTested
-entries_to zero left es t c = end_to zero left es t refl c
+unfolding EntriesTested EntriesEndTested
+entries_to zero left es t c = entries_end_to zero left es t refl c
 entries_to (suc count) left es t c = choose_to (ltb left 4) refl c (entries_to count)
   where
-    choose_to : (b : Bool) → ltb left 4 ≡ b → choose b (EndTested (suc count) left) (NextTested (EntriesTested count) left) es t → ((l : ℕ) (es : List Entry) (t : List ℕ) → EntriesTested count l es t → Entries count l es t) → Entries (suc count) left es t
-    choose_to true e c rest = absurd (no_end count left es t c)
+    choose_to : (b : Bool) → ltb left 4 ≡ b → choose b (EntriesEndTested (suc count) left) (NextTested (EntriesTested count) left) es t → ((l : ℕ) (es : List Entry) (t : List ℕ) → EntriesTested count l es t → Entries count l es t) → Entries (suc count) left es t
+    choose_to true e c rest = absurd (no_entries_end count left es t c)
     choose_to false e c rest = next_to count left es t (ltb-false _ _ e) rest c
 
 -- each text has its length in four bytes
-each_least : (texts : List (List ℕ)) (t : List ℕ) → Each Counted texts t → 4 * length texts ≤ length t
-each_least [] t c = omega arith
-each_least (x ∷ texts) t (p, q, (h, code, p-is), rest, t-is) =
+at_least_4_bytes_each : (texts : List (List ℕ)) (t : List ℕ) → Each LengthPrefixed texts t → 4 * length texts ≤ length t
+at_least_4_bytes_each [] t c = omega arith
+at_least_4_bytes_each (x ∷ texts) t (p, q, (h, code, p-is), rest, t-is) =
     let len = little_length 4 (length x) h code in
-    let k = each_least texts q rest in
+    let k = at_least_4_bytes_each texts q rest in
     let e : length t ≡ (length h + length x) + length q = ap length (t-is ∙ ap (λ (z : List ℕ). z ++ q) p-is) ∙ length-append (h ++ x) q ∙ ap (λ (m : ℕ). m + length q) (length-append h x) in
     omega arith
 
-entries_from : (texts : List (List ℕ)) (count left : ℕ) (es : List Entry) (t : List ℕ) → length texts ≡ count → Each Counted texts t → Mean texts es → length t ≡ left → EntriesTested count left es t
-unfolding EntriesTested EndTested NextTested
+entries_from : (texts : List (List ℕ)) (count left : ℕ) (es : List Entry) (t : List ℕ) → length texts ≡ count → Each LengthPrefixed texts t → EntriesOf texts es → length t ≡ left → EntriesTested count left es t
+unfolding EntriesTested EntriesEndTested NextTested
 entries_from [] zero left [] t n c m len =
     let e : length t ≡ 0 = ap length c in
     (le-ltb _ _ (omega arith), (refl, (refl, c)))
@@ -215,7 +215,7 @@ entries_from [] (suc count) left es t n c m len = absurd (let k : 0 ≡ suc coun
 entries_from (x ∷ texts) zero left es t n c m len = absurd (let k : suc (length texts) ≡ 0 = n in omega arith)
 entries_from (x ∷ texts) (suc count) left es t n (p, q, (h, code, p-is), rest, t-is) m len =
     let hlen = little_length 4 (length x) h code in
-    let parts = mean_parts x texts es m in
+    let parts = entries_of_parts x texts es m in
     let e : length t ≡ (length h + length x) + length q = ap length (t-is ∙ ap (λ (z : List ℕ). z ++ q) p-is) ∙ length-append (h ++ x) q ∙ ap (λ (m : ℕ). m + length q) (length-append h x) in
     let k : suc (length texts) ≡ suc count = n in
     let after : length q ≡ left - 4 - length x = omega arith in
@@ -228,22 +228,22 @@ pub Reads-entry_length : (most : ℕ) → Reads ℕ ℕ (entry_length_at most) (
 unfolding entry_length_at
 Reads-entry_length most = Reads-checked (ltb most) EntryLong (Reads-little 4)
 
-Reads-end : (missing left : ℕ) → Reads ℕ (List Entry) (end_at missing left) (EndTested missing left) (EndFault missing left)
-unfolding EndTested
-Reads-end missing left = Reads-test (ltb 0 left) ExcessData (λ e. Reads-test (ltb 0 missing) EntriesMissing (λ k. Reads-done (List Entry) []))
+Reads-entries_end : (missing left : ℕ) → Reads ℕ (List Entry) (entries_end_at missing left) (EntriesEndTested missing left) (EntriesEndFault missing left)
+unfolding EntriesEndTested
+Reads-entries_end missing left = Reads-test (ltb 0 left) ExcessData (λ e. Reads-test (ltb 0 missing) EntriesMissing (λ k. Reads-done (List Entry) []))
 
 Reads-entries : (missing left : ℕ) → Reads ℕ (List Entry) (entries_at missing left) (EntriesTested missing left) (EntriesFault missing left)
 unfolding entries_at EntriesTested NextTested
-Reads-entries zero left = Reads-end zero left
+Reads-entries zero left = Reads-entries_end zero left
 Reads-entries (suc missing) left =
-    Reads-pick (ltb left 4) (λ e. Reads-end (suc missing) left)
-    (λ e. Reads-then (Reads-entry_length (left - 4)) (λ n t c. Reads-then (Reads-kept n) (λ es u d. Reads-map (λ others. es ++ others) (Reads-entries missing (left - 4 - n)))))
+    Reads-pick (ltb left 4) (λ e. Reads-entries_end (suc missing) left)
+    (λ e. Reads-then (Reads-entry_length (left - 4)) (λ n t c. Reads-then (Reads-entry_or_empty n) (λ es u d. Reads-map (λ others. es ++ others) (Reads-entries missing (left - 4 - n)))))
 
 -- ---- the whole
 
 CommentTested : ℕ → Comment → List ℕ → Type 0
 CommentTested n c t =
-    (ltb n 8 ≡ false) × ((ltb most_bytes n ≡ false) × Then (VendorLength (n - 8)) (λ v. Then (Vendor v) (λ vendor. Then (Count (n / 4)) (λ count. Mapped (λ entries. record { vendor = vendor; entries = entries }) (EntriesTested count (n - 8 - v))))) c t)
+    (ltb n 8 ≡ false) × ((ltb max_content_bytes n ≡ false) × Then (VendorLength (n - 8)) (λ v. Then (Vendor v) (λ vendor. Then (Count (n / 4)) (λ count. Mapped (λ entries. record { vendor = vendor; entries = entries }) (EntriesTested count (n - 8 - v))))) c t)
 
 comment_to : (n : ℕ) (c : Comment) (t : List ℕ) → CommentTested n c t → CommentCode n c t
 unfolding CommentTested
@@ -268,18 +268,18 @@ comment_to n c t (short, (large, (v, x, u, (vendor_small, x-code), (vendor, y, w
       IsUtf8-from_is_utf8 vendor (not_true _ utf8),
       subst (λ (k : ℕ). Little 4 k z) (sym e.count_is) z-code,
       e.each,
-      e.meant,
+      e.entries_are,
       joined,
     )
 
 comment_from : (n : ℕ) (c : Comment) (t : List ℕ) → CommentCode n c t → CommentTested n c t
 unfolding CommentTested
-comment_from n c t (texts, x, y, z, most, len, (h, h-code, x-is), utf8, y-code, each, meant, t-is) =
+comment_from n c t (texts, x, y, z, most, len, (h, h-code, x-is), utf8, y-code, each, entries_are, t-is) =
     let h-len = little_length 4 (length c.vendor) h h-code in
     let y-len = little_length 4 (length texts) y y-code in
     let joined : t ≡ h ++ (c.vendor ++ (y ++ z)) = t-is ∙ ap (λ (r : List ℕ). r ++ (y ++ z)) x-is ∙ append_assoc h c.vendor (y ++ z) in
     let lens : length t ≡ length h + (length c.vendor + (length y + length z)) = ap length joined ∙ length-append h (c.vendor ++ (y ++ z)) ∙ ap (λ (m : ℕ). length h + m) (length-append c.vendor (y ++ z) ∙ ap (λ (m : ℕ). length c.vendor + m) (length-append y z)) in
-    let least = each_least texts z each in
+    let least = at_least_4_bytes_each texts z each in
     let after : length z ≡ n - 8 - length c.vendor = omega arith in (
       le-ltb _ _ (omega arith),
       (
@@ -294,7 +294,7 @@ comment_from n c t (texts, x, y, z, most, len, (h, h-code, x-is), utf8, y-code, 
             c.vendor,
             y ++ z,
             (not_false _ (is_utf8-from_IsUtf8 c.vendor utf8), (refl, refl)),
-            (length texts, y, z, (lt-leb _ _ (omega arith), y-code), (c.entries, entries_from texts (length texts) (n - 8 - length c.vendor) c.entries z refl each meant after, refl), refl),
+            (length texts, y, z, (lt-leb _ _ (omega arith), y-code), (c.entries, entries_from texts (length texts) (n - 8 - length c.vendor) c.entries z refl each entries_are after, refl), refl),
             refl,
           ),
           joined,
@@ -317,7 +317,7 @@ Reads-count limit = Reads-checked (leb limit) TooManyEntries (Reads-little 4)
 pub Reads-comment : (n : ℕ) → Reads ℕ Comment (comment_at n) (CommentCode n) (CommentFault n)
 unfolding comment_at CommentTested
 Reads-comment n =
-    Reads-same (Reads-test (ltb n 8) CommentShort (λ p. Reads-test (ltb most_bytes n) CommentLarge (λ q.
+    Reads-same (Reads-test (ltb n 8) CommentShort (λ p. Reads-test (ltb max_content_bytes n) CommentLarge (λ q.
     Reads-then (Reads-vendor_length (n - 8)) (λ v t c. Reads-then (Reads-vendor v) (λ vendor u d.
     Reads-then (Reads-count (n / 4)) (λ count w e. Reads-map (λ entries. record { vendor = vendor; entries = entries }) (Reads-entries count (n - 8 - v))))))))
     (comment_to n) (comment_from n) (λ f t c. c) (λ f t c. c)

@@ -1,21 +1,21 @@
 -- The reader of a frame, from bytes.
 use Rattle.claxon_format.proofs.Bytes.{Reads-by_bytes, bits_of-bytes_of, by_bytes_then, bind_same, length-bits_of}
-use Rattle.claxon_format.proofs.Frames.{Reads-coded, Reads-body, block_of, frame_body_at, frame_at, Reads-frame, fills}
+use Rattle.claxon_format.proofs.Frames.{Reads-subframes, Reads-body, block_of, frame_body_at, frame_at, Reads-frame, fills}
 use Rattle.claxon_format.proofs.Headers.{Reads-header}
 use Rattle.claxon_format.proofs.Laws.{Reads-is, Reads-map, one_reading}
-use Rattle.claxon_format.proofs.SealedBytes.{sealed_in_bytes}
+use Rattle.claxon_format.proofs.CrcBytes.{with_crc_in_bytes}
 use Rattle.claxon_format.proofs.WholeBytes.{Whole, whole_is, Whole-then, Whole-done, in_bits}
-use Rattle.claxon_format.proofs.WholeHeaders.{Whole-header}
+use Rattle.claxon_format.proofs.HeaderBytes.{Whole-header}
 use Rattle.claxon_format.specs.Bits.{Bits, bits_of}
-use Rattle.claxon_format.specs.Fault.{Fault, FrameGuard}
-use Rattle.claxon_format.specs.Frame.{Block, FilledUp, Frame, FrameBytesFault, InBytes, IsWidth, StreamShape, known_width, Frames, IsComplete}
-use Rattle.claxon_format.specs.read.Frame.{frame_bytes_at, coded_channels_at, subframes_at, block_from, unsealed_at, Start, start_of, start_at}
-use Rattle.claxon_format.specs.read.Header.{header_at, guarded_at, with_width, width_at}
+use Rattle.claxon_format.specs.Fault.{Fault, FrameCrc}
+use Rattle.claxon_format.specs.Frame.{Block, ByteAlignedFault, Frame, FrameBytesFault, InBytes, IsWidth, StreamFormat, known_width, Frames, NoFrameLeft}
+use Rattle.claxon_format.specs.read.Frame.{frame_bytes_at, coded_channels_at, subframes_at, block_from, frame_without_crc_at, Start, start_of, start_at}
+use Rattle.claxon_format.specs.read.Header.{header_at, fields_with_crc_at, with_width, width_at}
 use Rattle.claxon_format.specs.read.Bytes.{by_bytes, whole, big_at}
 use Rattle.claxon_format.specs.FrameWriter.{bytes_of}
-use Rattle.claxon_format.specs.Guards.{crc16, gap}
+use Rattle.claxon_format.specs.Crc.{crc16, padding_length}
 use Rattle.claxon_format.specs.Header.{Fields, Header, header_with, HeaderCode, HeaderFault}
-use Rattle.claxon_format.specs.Reading.{Reading, Reads, Done, Faulty, Short, bind, and_then, done, taken, test, Mapped}
+use Rattle.claxon_format.specs.Reading.{Reading, Reads, Done, Faulty, Incomplete, bind, and_then, done, taken, test, Mapped}
 use Rattle.claxon_format.specs.Stereo.{widths}
 use Rattle.std.proofs.Common.{◌≡◌, ℕ, ◌+◌, ◌%◌, Bool, false, not, eqb, List, [], ◌∷◌, ◌++◌, length, replicate, refl, sym, ap, ap₂, subst, ◌∙◌, arith}
 use Rattle.std.proofs.lemmas.List.{append_cancel_left, length-append, length-replicate}
@@ -26,16 +26,16 @@ use Rattle.std.specs.Prelude.{Option}
 bits_left : {A : Type 0} (x : Reading ℕ A) (a : A) (rest : Bits) → Done a rest ≡ in_bits x → length rest % 8 ≡ 0
 bits_left (Done b m) a rest e = let k : rest ≡ bits_of m = cc in omega (arith, ap length k, length-bits_of m)
 bits_left (Faulty f m) a rest e = absurd cc
-bits_left Short a rest e = absurd cc
+bits_left Incomplete a rest e = absurd cc
 
 pub fills_bytes : {A : Type 0} {r : Bits → Reading Bool A} {q : List ℕ → Reading ℕ A} {C : A → Bits → Type 0} {F : Fault → Bits → Type 0} → Reads Bool A r C F → Whole A r q → (a : A) (t : Bits) → C a t → length t % 8 ≡ 0
 fills_bytes {r = r} {q = q} law h a t c =
-    let pad = replicate (gap t) false in
-    let len : length (t ++ replicate (gap t) false) ≡ length t + gap t = length-append t (replicate (gap t) false) ∙ ap (λ n. length t + n) (length-replicate (gap t) false) in
-    let back : bits_of (bytes_of (t ++ replicate (gap t) false)) ≡ t ++ replicate (gap t) false = bits_of-bytes_of (t ++ replicate (gap t) false) (omega arith) in
-    let e : Done a (replicate (gap t) false) ≡ in_bits (q (bytes_of (t ++ replicate (gap t) false))) = sym (law.again a t (replicate (gap t) false) c) ∙ ap r (sym back) ∙ h.same (bytes_of (t ++ replicate (gap t) false)) in
-    let m = bits_left (q (bytes_of (t ++ replicate (gap t) false))) a (replicate (gap t) false) e in
-    omega (arith, length-replicate (gap t) false)
+    let pad = replicate (padding_length t) false in
+    let len : length (t ++ replicate (padding_length t) false) ≡ length t + padding_length t = length-append t (replicate (padding_length t) false) ∙ ap (λ n. length t + n) (length-replicate (padding_length t) false) in
+    let back : bits_of (bytes_of (t ++ replicate (padding_length t) false)) ≡ t ++ replicate (padding_length t) false = bits_of-bytes_of (t ++ replicate (padding_length t) false) (omega arith) in
+    let e : Done a (replicate (padding_length t) false) ≡ in_bits (q (bytes_of (t ++ replicate (padding_length t) false))) = sym (law.again a t (replicate (padding_length t) false) c) ∙ ap r (sym back) ∙ h.same (bytes_of (t ++ replicate (padding_length t) false)) in
+    let m = bits_left (q (bytes_of (t ++ replicate (padding_length t) false))) a (replicate (padding_length t) false) e in
+    omega (arith, length-replicate (padding_length t) false)
 
 -- ---- a function of what is read
 
@@ -45,21 +45,21 @@ map_by_bytes f r s = go (r (bits_of s))
     go : (x : Reading Bool _) → whole s (bind x (λ a. done (f a))) ≡ bind (whole s x) (λ a. done (f a))
     go (Done a m) = refl
     go (Faulty e m) = refl
-    go Short = refl
+    go Incomplete = refl
 
 -- ---- header and subframes
 
-coded_in_bytes : (stream : Option StreamShape) (h : Header) (s : List ℕ)
+subframes_in_bytes : (stream : Option StreamFormat) (h : Header) (s : List ℕ)
     → by_bytes (and_then (coded_channels_at h.size (widths h.channels h.width)) (λ coded. done (block_of stream h coded))) s ≡ and_then (subframes_at h.size (widths h.channels h.width)) (λ coded. done (block_of stream h coded)) s
 unfolding subframes_at
-coded_in_bytes stream h s = map_by_bytes (block_of stream h) (coded_channels_at h.size (widths h.channels h.width)) s
+subframes_in_bytes stream h s = map_by_bytes (block_of stream h) (coded_channels_at h.size (widths h.channels h.width)) s
 
-pub body_in_bytes : (stream : Option StreamShape) {q : List ℕ → Reading ℕ Header} → IsWidth (known_width stream) → Whole Header (header_at (known_width stream)) q → (s : List ℕ)
+pub body_in_bytes : (stream : Option StreamFormat) {q : List ℕ → Reading ℕ Header} → IsWidth (known_width stream) → Whole Header (header_at (known_width stream)) q → (s : List ℕ)
     → by_bytes (frame_body_at stream) s ≡ and_then (by_bytes (header_at (known_width stream))) (λ h. and_then (subframes_at h.size (widths h.channels h.width)) (λ coded. done (block_of stream h coded))) s
 unfolding frame_body_at
 body_in_bytes stream k header s =
-    by_bytes_then (Reads-header (known_width stream)) (fills_bytes (Reads-header (known_width stream)) header) (λ h t c. Reads-map (block_of stream h) (Reads-coded (known_width stream) k h t c)) s
-    ∙ bind_same (by_bytes (header_at (known_width stream)) s) _ _ (coded_in_bytes stream)
+    by_bytes_then (Reads-header (known_width stream)) (fills_bytes (Reads-header (known_width stream)) header) (λ h t c. Reads-map (block_of stream h) (Reads-subframes (known_width stream) k h t c)) s
+    ∙ bind_same (by_bytes (header_at (known_width stream)) s) _ _ (subframes_in_bytes stream)
 
 -- ---- the whole frame
 
@@ -67,7 +67,7 @@ body_in_bytes stream k header s =
 then_map : {X A B C : Type 0} (x : Reading X A) (f : A → B) (g : B → List X → Reading X C) → bind (bind x (λ a. done (f a))) g ≡ bind x (λ a. g (f a))
 then_map (Done a m) f g = refl
 then_map (Faulty e m) f g = refl
-then_map Short f g = refl
+then_map Incomplete f g = refl
 
 -- a function of what is made of a header
 made_then : {A B : Type 0} (fields : List ℕ → Reading ℕ Fields) (known : Option ℕ) (make : Fields → ℕ → A) (f : A → B) (s : List ℕ) → with_width fields known (λ x w. f (make x w)) s ≡ and_then (with_width fields known make) (λ a. done (f a)) s
@@ -76,56 +76,56 @@ made_then fields known make f s = go (fields s)
     width : (x : Fields) (y : Reading ℕ ℕ) → bind y (λ w. done (f (make x w))) ≡ bind (bind y (λ w. done (make x w))) (λ a. done (f a))
     width x (Done w m) = refl
     width x (Faulty e m) = refl
-    width x Short = refl
+    width x Incomplete = refl
 
     go : (x : Reading ℕ Fields) → bind x (λ f'. and_then (width_at known f') (λ w. done (f (make f' w)))) ≡ bind (bind x (λ f'. and_then (width_at known f') (λ w. done (make f' w)))) (λ a. done (f a))
     go (Done x m) = width x (width_at known x m)
     go (Faulty e m) = refl
-    go Short = refl
+    go Incomplete = refl
 
-pub start_is : (stream : Option StreamShape) (s : List ℕ) → start_at stream s ≡ by_bytes (and_then (header_at (known_width stream)) (λ h. done (start_of stream h))) s
+pub start_is : (stream : Option StreamFormat) (s : List ℕ) → start_at stream s ≡ by_bytes (and_then (header_at (known_width stream)) (λ h. done (start_of stream h))) s
 unfolding start_at header_at
 start_is stream s =
-    made_then guarded_at (known_width stream) header_with (start_of stream) s
+    made_then fields_with_crc_at (known_width stream) header_with (start_of stream) s
     ∙ sym (whole_is (Whole-then (Whole-header (known_width stream) header_with) (λ h. Whole-done (start_of stream h))) s)
 
-unsealed_is : (stream : Option StreamShape) → IsWidth (known_width stream) → (s : List ℕ) → by_bytes (frame_body_at stream) s ≡ unsealed_at stream s
-unfolding unsealed_at header_at
-unsealed_is stream k s =
+frame_without_crc_is : (stream : Option StreamFormat) → IsWidth (known_width stream) → (s : List ℕ) → by_bytes (frame_body_at stream) s ≡ frame_without_crc_at stream s
+unfolding frame_without_crc_at header_at
+frame_without_crc_is stream k s =
     body_in_bytes stream k (Whole-header (known_width stream) header_with) s
     ∙ sym (ap (λ x. bind x (λ start. and_then (subframes_at start.size (widths start.channels start.width)) (λ coded. done (block_from start coded)))) (start_is stream s ∙ map_by_bytes (start_of stream) (header_at (known_width stream)) s)
     ∙ then_map (by_bytes (header_at (known_width stream)) s) (start_of stream) (λ start. and_then (subframes_at start.size (widths start.channels start.width)) (λ coded. done (block_from start coded))))
 
-frame_is : (stream : Option StreamShape) → IsWidth (known_width stream) → (s : List ℕ) → by_bytes (frame_at stream) s ≡ frame_bytes_at stream s
+frame_is : (stream : Option StreamFormat) → IsWidth (known_width stream) → (s : List ℕ) → by_bytes (frame_at stream) s ≡ frame_bytes_at stream s
 unfolding frame_at
 frame_is stream k s =
-    sealed_in_bytes 2 crc16 FrameGuard (Reads-body stream k) s
-    ∙ ap (λ x. bind x (λ a m. and_then (big_at 2) (λ n. test (not (eqb n (crc16 (bits_of (taken s m))))) FrameGuard (done a)) m)) (unsealed_is stream k s)
+    with_crc_in_bytes 2 crc16 FrameCrc (Reads-body stream k) s
+    ∙ ap (λ x. bind x (λ a m. and_then (big_at 2) (λ n. test (not (eqb n (crc16 (bits_of (taken s m))))) FrameCrc (done a)) m)) (frame_without_crc_is stream k s)
 
 -- the bytes of a header
-pub Reads-start : (stream : Option StreamShape) → Reads ℕ Start (start_at stream) (InBytes (Mapped (start_of stream) (HeaderCode (known_width stream)))) (FilledUp (HeaderFault (known_width stream)))
+pub Reads-start : (stream : Option StreamFormat) → Reads ℕ Start (start_at stream) (InBytes (Mapped (start_of stream) (HeaderCode (known_width stream)))) (ByteAlignedFault (HeaderFault (known_width stream)))
 unfolding header_at
 Reads-start stream =
     Reads-is (start_is stream) (Reads-by_bytes (Reads-map (start_of stream) (Reads-header (known_width stream))) (λ start t c. fills_bytes (Reads-header (known_width stream)) (Whole-header (known_width stream) header_with) c.0 t c.1))
 
 -- ---- a whole frame
 
-pub Reads-frame_bytes : (stream : Option StreamShape) → IsWidth (known_width stream) → Reads ℕ Block (frame_bytes_at stream) (Frame stream) (FrameBytesFault stream)
+pub Reads-frame_bytes : (stream : Option StreamFormat) → IsWidth (known_width stream) → Reads ℕ Block (frame_bytes_at stream) (Frame stream) (FrameBytesFault stream)
 Reads-frame_bytes stream k = Reads-is (λ s. sym (frame_is stream k s)) (Reads-by_bytes (Reads-frame stream k) (fills stream))
 
 -- ---- what follows of it
 
 -- no bytes begin with codes of two blocks, or of two lengths
-pub one_block : (stream : Option StreamShape) → IsWidth (known_width stream) → (a b : Block) (t u x y : List ℕ) → Frame stream a t → Frame stream b u → t ++ x ≡ u ++ y → (a ≡ b) × (t ≡ u)
+pub one_block : (stream : Option StreamFormat) → IsWidth (known_width stream) → (a b : Block) (t u x y : List ℕ) → Frame stream a t → Frame stream b u → t ++ x ≡ u ++ y → (a ≡ b) × (t ≡ u)
 one_block stream k = one_reading Block (frame_bytes_at stream) (Frame stream) (FrameBytesFault stream) (Reads-frame_bytes stream k)
 
 -- bytes are the codes of one list of blocks
-pub one_run : (stream : Option StreamShape) → IsWidth (known_width stream) → (s r q : List ℕ) (blocks others : List Block) → Frames stream s blocks r → IsComplete stream r → Frames stream s others q → IsComplete stream q → (blocks ≡ others) × (r ≡ q)
-one_run stream k s r q [] [] c e d f = (refl, sym c ∙ d)
-one_run stream k s r q [] (b ∷ others) c e d f = absurd (e b d.0 d.1 d.2 (sym c ∙ d.3))
-one_run stream k s r q (b ∷ blocks) [] c e d f = absurd (f b c.0 c.1 c.2 (sym d ∙ c.3))
-one_run stream k s r q (b ∷ blocks) (o ∷ others) c e d f =
+pub one_block_list : (stream : Option StreamFormat) → IsWidth (known_width stream) → (s r q : List ℕ) (blocks others : List Block) → Frames stream s blocks r → NoFrameLeft stream r → Frames stream s others q → NoFrameLeft stream q → (blocks ≡ others) × (r ≡ q)
+one_block_list stream k s r q [] [] c e d f = (refl, sym c ∙ d)
+one_block_list stream k s r q [] (b ∷ others) c e d f = absurd (e b d.0 d.1 d.2 (sym c ∙ d.3))
+one_block_list stream k s r q (b ∷ blocks) [] c e d f = absurd (f b c.0 c.1 c.2 (sym d ∙ c.3))
+one_block_list stream k s r q (b ∷ blocks) (o ∷ others) c e d f =
     let p = one_block stream k b o c.0 d.0 c.1 d.1 c.2 d.2 (sym c.3 ∙ d.3) in
     let rest : c.1 ≡ d.1 = append_cancel_left c.0 c.1 d.1 (sym c.3 ∙ d.3 ∙ ap (λ (z : List ℕ). z ++ d.1) (sym p.1)) in
-    let more = one_run stream k d.1 r q blocks others (subst (λ (z : List ℕ). Frames stream z blocks r) rest c.4) e d.4 f in
+    let more = one_block_list stream k d.1 r q blocks others (subst (λ (z : List ℕ). Frames stream z blocks r) rest c.4) e d.4 f in
     (ap₂ (λ (x : Block) (xs : List Block). x ∷ xs) p.0 more.0, more.1)

@@ -10,7 +10,7 @@ use Rattle.claxon_format.specs.Metadata.{Big}
 use Rattle.claxon_format.specs.Streaminfo.{Streaminfo}
 use Rattle.claxon_format.specs.Comments.{Comment}
 use Rattle.claxon_format.specs.MetadataBlocks.{Content, Info, Padding, Application, Comments, Reserved, MetadataBlock, BlockCode}
-use Rattle.claxon_format.specs.Heads.{Options, Head, is_info, is_comment, stream_marker, Marker, MarkerFault, is_end, EndsAtLast, comment_of, comments_in, first, IsHead, HeadCode, HeadFault, is_some, found_with, is_second, is_done, OthersFault, is_short, FirstFault}
+use Rattle.claxon_format.specs.Heads.{Options, Head, is_info, is_comment, stream_marker, Marker, MarkerFault, is_end, EndsAtLast, comment_of, comments_in, first, IsHead, HeadCode, HeadFault, is_some, found_with, is_second, is_done, OthersFault, streaminfo_ends_head, FirstFault}
 use Rattle.claxon_format.specs.read.Heads.{marker_at, others_at, after_first, head_at}
 use Rattle.claxon_format.proofs.Laws.{Reads-then, Reads-same, Reads-test, Reads-done, Reads-map, Reads-pick, Reads-fails}
 use Rattle.claxon_format.proofs.Metadata.{Reads-big}
@@ -106,15 +106,15 @@ enough_same false wants found c e none = refl
 enough_same true false found c e none = absurd cc
 enough_same true true found c e none = rw (none refl) (some_found c)
 
-record Wishes (o : Options) (found : Option Comment) : Type 0 where
+record WantsMore (o : Options) (found : Option Comment) : Type 0 where
   more : (o.metadata_only && not o.wants_comment) ≡ false
   none : o.metadata_only ≡ true → found ≡ None
 
-end_same : (o : Options) (found : Option Comment) (b : MetadataBlock) → Wishes o found → is_done o.metadata_only found b ≡ is_end o b
+end_same : (o : Options) (found : Option Comment) (b : MetadataBlock) → WantsMore o found → is_done o.metadata_only found b ≡ is_end o b
 end_same o found b w = ap (λ (q : Bool). b.is_last || q) (enough_same o.metadata_only o.wants_comment found b.content w.more w.none)
 
-wishes_next : (o : Options) (found : Option Comment) (b : MetadataBlock) → Wishes o found → is_done o.metadata_only found b ≡ false → Wishes o (found_with found b.content)
-wishes_next o found b w e = record {
+wants_more_next : (o : Options) (found : Option Comment) (b : MetadataBlock) → WantsMore o found → is_done o.metadata_only found b ≡ false → WantsMore o (found_with found b.content)
+wants_more_next o found b w e = record {
   more = w.more;
   none = λ only. is_none _ (let k = or_false b.is_last (o.metadata_only && is_some (found_with found b.content)) e in let k1 = k.1 in rw only at k1);
 }
@@ -131,7 +131,7 @@ record Others (o : Options) (k : ℕ) (found r : Option Comment) (t : List ℕ) 
   ends : EndsAtLast o next others
   shown : r ≡ first (listed found ++ comments_in (next ∷ others))
 
-later_last : (o : Options) (k : ℕ) (found r : Option Comment) (t x u : List ℕ) (b : MetadataBlock) → Wishes o found → BlockCode b x → is_info b.content ≡ false → is_second found b.content ≡ false → is_done o.metadata_only found b ≡ true
+later_last : (o : Options) (k : ℕ) (found r : Option Comment) (t x u : List ℕ) (b : MetadataBlock) → WantsMore o found → BlockCode b x → is_info b.content ≡ false → is_second found b.content ≡ false → is_done o.metadata_only found b ≡ true
     → r ≡ found_with found b.content → u ≡ [] → t ≡ x ++ u → Others o (suc k) found r t
 later_last o k found r t x u b w code plain single done r-is u-is t-is =
     let l : listed found ++ comments_in (b ∷ []) ≡ listed (found_with found b.content) = ap (λ (z : List Comment). listed found ++ z) (append-nil (comment_of b.content)) ∙ sym (found_listed found b.content single) in
@@ -146,7 +146,7 @@ later_last o k found r t x u b w code plain single done r-is u-is t-is =
       shown = r-is ∙ first_listed (found_with found b.content) ∙ ap first (sym l);
     }
 
-later_more : (o : Options) (k : ℕ) (found r : Option Comment) (t x u : List ℕ) (b : MetadataBlock) → Wishes o found → BlockCode b x → is_info b.content ≡ false → is_second found b.content ≡ false → is_done o.metadata_only found b ≡ false
+later_more : (o : Options) (k : ℕ) (found r : Option Comment) (t x u : List ℕ) (b : MetadataBlock) → WantsMore o found → BlockCode b x → is_info b.content ≡ false → is_second found b.content ≡ false → is_done o.metadata_only found b ≡ false
     → Others o k (found_with found b.content) r u → t ≡ x ++ u → Others o (suc k) found r t
 later_more o k found r t x u b w code plain single going rest t-is =
     let l : listed found ++ comments_in (b ∷ rest.next ∷ rest.others) ≡ listed (found_with found b.content) ++ comments_in (rest.next ∷ rest.others) =
@@ -163,18 +163,18 @@ later_more o k found r t x u b w code plain single going rest t-is =
       shown = rest.shown ∙ ap first (sym l);
     }
 
-others_to : (o : Options) (k : ℕ) (found r : Option Comment) (t : List ℕ) → Wishes o found → OthersTested o.metadata_only k found r t → Others o k found r t
+others_to : (o : Options) (k : ℕ) (found r : Option Comment) (t : List ℕ) → WantsMore o found → OthersTested o.metadata_only k found r t → Others o k found r t
 unfolding OthersTested LaterTested
 others_to o zero found r t w c = absurd c
 others_to o (suc k) found r t w (b, x, u, code, (plain, (single, tail)), t-is) =
     go (is_done o.metadata_only found b) refl tail (λ v. others_to o k (found_with found b.content) r u v)
   where
     go : (q : Bool) → is_done o.metadata_only found b ≡ q → choose q (Is (found_with found b.content)) (OthersTested o.metadata_only k (found_with found b.content)) r u
-        → (Wishes o (found_with found b.content) → OthersTested o.metadata_only k (found_with found b.content) r u → Others o k (found_with found b.content) r u) → Others o (suc k) found r t
+        → (WantsMore o (found_with found b.content) → OthersTested o.metadata_only k (found_with found b.content) r u → Others o k (found_with found b.content) r u) → Others o (suc k) found r t
     go true e c rest = later_last o k found r t x u b w code plain single e c.0 c.1 t-is
-    go false e c rest = later_more o k found r t x u b w code plain single e (rest (wishes_next o found b w e) c) t-is
+    go false e c rest = later_more o k found r t x u b w code plain single e (rest (wants_more_next o found b w e) c) t-is
 
-others_from : (o : Options) (others : List MetadataBlock) (k : ℕ) (b : MetadataBlock) (found r : Option Comment) (t : List ℕ) → Wishes o found → length others < k → Each BlockCode (b ∷ others) t
+others_from : (o : Options) (others : List MetadataBlock) (k : ℕ) (b : MetadataBlock) (found r : Option Comment) (t : List ℕ) → WantsMore o found → length others < k → Each BlockCode (b ∷ others) t
     → list_any (λ b. is_info b.content) (b ∷ others) ≡ false → length (listed found ++ comments_in (b ∷ others)) ≤ 1 → EndsAtLast o b others → r ≡ first (listed found ++ comments_in (b ∷ others)) → OthersTested o.metadata_only k found r t
 unfolding OthersTested LaterTested
 others_from o others zero b found r t w few each plain one ends shown = absurd (omega arith)
@@ -190,20 +190,20 @@ others_from o (c ∷ others) (suc k) b found r t w few (x, u, code, each, t-is) 
     let l : listed found ++ comments_in (b ∷ c ∷ others) ≡ listed (found_with found b.content) ++ comments_in (c ∷ others) =
     sym (append_assoc (listed found) (comment_of b.content) (comments_in (c ∷ others))) ∙ ap (λ (z : List Comment). z ++ comments_in (c ∷ others)) (sym (found_listed found b.content single)) in
     let going : is_done o.metadata_only found b ≡ false = end_same o found b w ∙ ends.0 in
-    let rest = others_from o others k c (found_with found b.content) r u (wishes_next o found b w going) (omega arith) each p.1 (rw (← l) one) ends.1 (shown ∙ ap first l) in
+    let rest = others_from o others k c (found_with found b.content) r u (wants_more_next o found b w going) (omega arith) each p.1 (rw (← l) one) ends.1 (shown ∙ ap first l) in
     (b, x, u, code, (p.0, (single, rw going rest)), t-is)
 
 -- ---- the whole
 
 FirstTested : Options → Bool → Content → Head → List ℕ → Type 0
-FirstTested o is_last (Info i) h t = Mapped (λ found. record { info = i; comment = cond o.wants_comment found None }) (choose (is_short o is_last) (Is None) (OthersTested o.metadata_only 65535 None)) h t
+FirstTested o is_last (Info i) h t = Mapped (λ found. record { info = i; comment = cond o.wants_comment found None }) (choose (streaminfo_ends_head o is_last) (Is None) (OthersTested o.metadata_only 65535 None)) h t
 FirstTested o is_last _ h t = ⊥
 
 Reads-first : (o : Options) (is_last : Bool) (c : Content) → Reads ℕ Head (after_first o is_last c) (FirstTested o is_last c) (FirstFault o is_last c)
 unfolding after_first FirstTested
 Reads-first o is_last (Info i) =
     Reads-map (λ found. record { info = i; comment = cond o.wants_comment found None })
-    (Reads-pick (is_short o is_last) (λ e. Reads-done (Option Comment) None) (λ e. Reads-others o.metadata_only 65535 None))
+    (Reads-pick (streaminfo_ends_head o is_last) (λ e. Reads-done (Option Comment) None) (λ e. Reads-others o.metadata_only 65535 None))
 Reads-first o is_last (Comments c) = Reads-fails Head StreaminfoMissing
 Reads-first o is_last (Padding n) = Reads-fails Head StreaminfoMissing
 Reads-first o is_last (Application id bytes) = Reads-fails Head StreaminfoMissing
@@ -213,21 +213,21 @@ HeadTested : Options → Head → List ℕ → Type 0
 HeadTested o = Then Marker (λ m. Then BlockCode (λ b. FirstTested o b.is_last b.content))
 
 -- a streaminfo is an end where it is marked as the last, or is all that is wished
-short_is : (o : Options) (b : MetadataBlock) (i : Streaminfo) → b.content ≡ Info i → is_end o b ≡ is_short o b.is_last
-short_is o b i e = ap (λ (c : Content). b.is_last || (o.metadata_only && cond o.wants_comment (is_comment c) (is_info c))) e ∙ ap (λ (q : Bool). b.is_last || (o.metadata_only && q)) (wished o.wants_comment)
+streaminfo_ends_head_is : (o : Options) (b : MetadataBlock) (i : Streaminfo) → b.content ≡ Info i → is_end o b ≡ streaminfo_ends_head o b.is_last
+streaminfo_ends_head_is o b i e = ap (λ (c : Content). b.is_last || (o.metadata_only && cond o.wants_comment (is_comment c) (is_info c))) e ∙ ap (λ (q : Bool). b.is_last || (o.metadata_only && q)) (wished o.wants_comment)
   where
     wished : (wants : Bool) → cond wants false true ≡ not wants
     wished true = refl
     wished false = refl
 
-wishes_first : (o : Options) (is_last : Bool) → is_short o is_last ≡ false → Wishes o None
-wishes_first o is_last e = record { more = (or_false is_last (o.metadata_only && not o.wants_comment) e).1; none = λ only. refl }
+wants_more_first : (o : Options) (is_last : Bool) → streaminfo_ends_head o is_last ≡ false → WantsMore o None
+wants_more_first o is_last e = record { more = (or_false is_last (o.metadata_only && not o.wants_comment) e).1; none = λ only. refl }
 
 record FirstIs (o : Options) (b : MetadataBlock) (h : Head) (t : List ℕ) : Type 0 where
   info : b.content ≡ Info h.info
   found : Option Comment
   comment : h.comment ≡ cond o.wants_comment found None
-  rest : choose (is_short o b.is_last) (Is None) (OthersTested o.metadata_only 65535 None) found t
+  rest : choose (streaminfo_ends_head o b.is_last) (Is None) (OthersTested o.metadata_only 65535 None) found t
 
 first_is : (o : Options) (is_last : Bool) (c : Content) (h : Head) (t : List ℕ) → FirstTested o is_last c h t → FirstIs o (record { is_last = is_last; content = c }) h t
 unfolding FirstTested
@@ -237,27 +237,27 @@ first_is o is_last (Padding n) h t c' = absurd c'
 first_is o is_last (Application id bytes) h t c' = absurd c'
 first_is o is_last Reserved h t c' = absurd c'
 
-head_short : (o : Options) (h : Head) (b : MetadataBlock) (found : Option Comment) → is_short o b.is_last ≡ true → b.content ≡ Info h.info → h.comment ≡ cond o.wants_comment found None → found ≡ None → IsHead o h b []
-head_short o h b found e info shown none = record {
+streaminfo_only : (o : Options) (h : Head) (b : MetadataBlock) (found : Option Comment) → streaminfo_ends_head o b.is_last ≡ true → b.content ≡ Info h.info → h.comment ≡ cond o.wants_comment found None → found ≡ None → IsHead o h b []
+streaminfo_only o h b found e info shown none = record {
   info = info;
   no_info = refl;
   one_comment = omega arith;
   few = omega arith;
-  ends = short_is o b h.info info ∙ e;
+  ends = streaminfo_ends_head_is o b h.info info ∙ e;
   comment = shown ∙ ap (λ (z : Option Comment). cond o.wants_comment z None) none;
 }
 
-head_long : (o : Options) (h : Head) (b : MetadataBlock) (found : Option Comment) (t : List ℕ) → is_short o b.is_last ≡ false → b.content ≡ Info h.info → h.comment ≡ cond o.wants_comment found None
+head_with_blocks : (o : Options) (h : Head) (b : MetadataBlock) (found : Option Comment) (t : List ℕ) → streaminfo_ends_head o b.is_last ≡ false → b.content ≡ Info h.info → h.comment ≡ cond o.wants_comment found None
     → (r : Others o 65535 None found t) → IsHead o h b (r.next ∷ r.others)
 unfolding listed
-head_long o h b found t e info shown r =
+head_with_blocks o h b found t e info shown r =
     let f = r.few in
     record {
       info = info;
       no_info = r.no_info;
       one_comment = r.one;
       few = omega arith;
-      ends = (short_is o b h.info info ∙ e, r.ends);
+      ends = (streaminfo_ends_head_is o b h.info info ∙ e, r.ends);
       comment = shown ∙ ap (λ (z : Option Comment). cond o.wants_comment z None) r.shown;
     }
 
@@ -265,20 +265,20 @@ head_to : (o : Options) (h : Head) (t : List ℕ) → HeadTested o h t → HeadC
 unfolding HeadTested
 head_to o h t (m, x, u, (m-is, marker), (b, y, v, code, tested, u-is), t-is) =
     let f = first_is o b.is_last b.content h v tested in
-    go (is_short o b.is_last) refl f.found f.rest f.info f.comment (t-is ∙ ap (λ (z : List ℕ). x ++ z) u-is)
+    go (streaminfo_ends_head o b.is_last) refl f.found f.rest f.info f.comment (t-is ∙ ap (λ (z : List ℕ). x ++ z) u-is)
   where
-    go : (q : Bool) → is_short o b.is_last ≡ q → (found : Option Comment) → choose q (Is None) (OthersTested o.metadata_only 65535 None) found v → b.content ≡ Info h.info → h.comment ≡ cond o.wants_comment found None → t ≡ x ++ (y ++ v) → HeadCode o h t
-    go true e found c info shown joined = (b, [], x, y, v, subst (λ (q : ℕ). Big 4 q x) m-is marker, code, c.1, head_short o h b found e info shown c.0, joined)
+    go : (q : Bool) → streaminfo_ends_head o b.is_last ≡ q → (found : Option Comment) → choose q (Is None) (OthersTested o.metadata_only 65535 None) found v → b.content ≡ Info h.info → h.comment ≡ cond o.wants_comment found None → t ≡ x ++ (y ++ v) → HeadCode o h t
+    go true e found c info shown joined = (b, [], x, y, v, subst (λ (q : ℕ). Big 4 q x) m-is marker, code, c.1, streaminfo_only o h b found e info shown c.0, joined)
     go false e found c info shown joined =
-        let r = others_to o 65535 None found v (wishes_first o b.is_last e) c in
-        (b, r.next ∷ r.others, x, y, v, subst (λ (q : ℕ). Big 4 q x) m-is marker, code, r.each, head_long o h b found v e info shown r, joined)
+        let r = others_to o 65535 None found v (wants_more_first o b.is_last e) c in
+        (b, r.next ∷ r.others, x, y, v, subst (λ (q : ℕ). Big 4 q x) m-is marker, code, r.each, head_with_blocks o h b found v e info shown r, joined)
 
 first_from : (o : Options) (is_last : Bool) (c : Content) (h : Head) (found : Option Comment) (t : List ℕ) → c ≡ Info h.info → h.comment ≡ cond o.wants_comment found None
-    → choose (is_short o is_last) (Is None) (OthersTested o.metadata_only 65535 None) found t → FirstTested o is_last c h t
+    → choose (streaminfo_ends_head o is_last) (Is None) (OthersTested o.metadata_only 65535 None) found t → FirstTested o is_last c h t
 unfolding FirstTested
 first_from o is_last c h found t info shown rest = rw info (found, rest, ap (λ (z : Option Comment). record { info = h.info; comment = z }) shown)
 
-others_none : (o : Options) (others : List MetadataBlock) (b : MetadataBlock) (r : Option Comment) (t : List ℕ) → Wishes o None → length others < 65535 → Each BlockCode (b ∷ others) t
+others_none : (o : Options) (others : List MetadataBlock) (b : MetadataBlock) (r : Option Comment) (t : List ℕ) → WantsMore o None → length others < 65535 → Each BlockCode (b ∷ others) t
     → list_any (λ b. is_info b.content) (b ∷ others) ≡ false → length (comments_in (b ∷ others)) ≤ 1 → EndsAtLast o b others → r ≡ first (comments_in (b ∷ others)) → OthersTested o.metadata_only 65535 None r t
 unfolding listed
 others_none o others b r t = others_from o others 65535 b None r t
@@ -290,13 +290,13 @@ head_from o h t (b, others, x, y, z, marker, code, each, is, t-is) =
   where
     go : (others : List MetadataBlock) → Each BlockCode others z → IsHead o h b others → FirstTested o b.is_last b.content h z
     go [] each is =
-        let e : is_short o b.is_last ≡ true = sym (short_is o b h.info is.info) ∙ is.ends in
+        let e : streaminfo_ends_head o b.is_last ≡ true = sym (streaminfo_ends_head_is o b h.info is.info) ∙ is.ends in
         first_from o b.is_last b.content h None z is.info is.comment (rw e (refl, each))
     go (c ∷ others) each is =
         let ends = is.ends in
-        let e : is_short o b.is_last ≡ false = sym (short_is o b h.info is.info) ∙ ends.0 in
+        let e : streaminfo_ends_head o b.is_last ≡ false = sym (streaminfo_ends_head_is o b h.info is.info) ∙ ends.0 in
         let few = is.few in
-        let rest = others_none o others c (first (comments_in (c ∷ others))) z (wishes_first o b.is_last e) (omega arith) each is.no_info is.one_comment ends.1 refl in
+        let rest = others_none o others c (first (comments_in (c ∷ others))) z (wants_more_first o b.is_last e) (omega arith) each is.no_info is.one_comment ends.1 refl in
         first_from o b.is_last b.content h (first (comments_in (c ∷ others))) z is.info is.comment (rw e rest)
 
 pub Reads-head : (o : Options) → Reads ℕ Head (head_at o) (HeadCode o) (HeadFault o)

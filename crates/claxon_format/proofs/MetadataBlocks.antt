@@ -4,13 +4,13 @@ use Rattle.std.proofs.lemmas.Bool.{ltb-false, le-ltb, eqb-true, eq-eqb}
 use Rattle.std.proofs.lemmas.List.{length-append}
 use Rattle.claxon_format.specs.Fault.{StreaminfoLength, BlockType, ApplicationShort, ApplicationLarge}
 use Rattle.claxon_format.specs.Reading.{Reads, and_then, done, test, Then, MeetsOr, Never, Mapped, choose}
-use Rattle.claxon_format.specs.Metadata.{Bytes, Big, most_bytes, BlockHeaderCode}
+use Rattle.claxon_format.specs.Metadata.{Bytes, Big, max_content_bytes, BlockHeaderCode}
 use Rattle.claxon_format.specs.read.Bytes.{bytes_at}
 use Rattle.claxon_format.specs.Streaminfo.{Streaminfo, StreaminfoCode, StreaminfoFault}
 use Rattle.claxon_format.specs.MetadataBlocks.{Content, Info, Application, Comments, InfoBody, ApplicationBody, skipped, Body, ApplicationFault, BodyFault, MetadataBlock, BlockCode, BlockFault}
 use Rattle.claxon_format.specs.read.MetadataBlocks.{info_body_at, application_at, body_at, block_at}
 use Rattle.claxon_format.proofs.Laws.{Reads-then, Reads-same, Reads-test, Reads-map, Reads-pick}
-use Rattle.claxon_format.proofs.Metadata.{Reads-bytes, Reads-big, big_length, Reads-block_header, no_second}
+use Rattle.claxon_format.proofs.Metadata.{Reads-bytes, Reads-big, big_length, Reads-block_header, no_fault_after}
 use Rattle.claxon_format.proofs.Streaminfos.{Reads-streaminfo}
 use Rattle.claxon_format.proofs.Comments.{Reads-comment, not_true, not_false}
 
@@ -26,7 +26,7 @@ Reads-info n =
     (λ b t c. (c.1.0, (not_false _ (eq-eqb n 34 c.0), c.1.1), c.1.2)) (λ f t c. c) (λ f t c. c)
 
 ApplicationTested : ℕ → Content → List ℕ → Type 0
-ApplicationTested n b t = (ltb n 4 ≡ false) × ((ltb most_bytes n ≡ false) × Then (Big 4) (λ id. Mapped (λ bytes. Application id bytes) (Bytes (n - 4))) b t)
+ApplicationTested n b t = (ltb n 4 ≡ false) × ((ltb max_content_bytes n ≡ false) × Then (Big 4) (λ id. Mapped (λ bytes. Application id bytes) (Bytes (n - 4))) b t)
 
 application_to : (n : ℕ) (b : Content) (t : List ℕ) → ApplicationTested n b t → ApplicationBody n b t
 unfolding ApplicationTested
@@ -47,8 +47,8 @@ application_from n b t (id, x, bytes, most, len, code, b-is, t-is) =
 pub Reads-application : (n : ℕ) → Reads ℕ Content (application_at n) (ApplicationBody n) (ApplicationFault n)
 unfolding application_at ApplicationTested
 Reads-application n =
-    Reads-same (Reads-test (ltb n 4) ApplicationShort (λ p. Reads-test (ltb most_bytes n) ApplicationLarge (λ q.
-    Reads-same (Reads-then (Reads-big 4) (λ id t c. Reads-map (λ bytes. Application id bytes) (Reads-bytes (n - 4)))) (λ b t c. c) (λ b t c. c) (no_second (Big 4)) (λ f t c. absurd c))))
+    Reads-same (Reads-test (ltb n 4) ApplicationShort (λ p. Reads-test (ltb max_content_bytes n) ApplicationLarge (λ q.
+    Reads-same (Reads-then (Reads-big 4) (λ id t c. Reads-map (λ bytes. Application id bytes) (Reads-bytes (n - 4)))) (λ b t c. c) (λ b t c. c) (no_fault_after (Big 4)) (λ f t c. absurd c))))
     (application_to n) (application_from n) (λ f t c. c) (λ f t c. c)
 
 Reads-skipped : (type n : ℕ) → Reads ℕ Content (test (eqb type 127) BlockType (and_then (bytes_at n) (λ bytes. done (skipped type n)))) (choose (eqb type 127) (λ b t. ⊥) (Mapped (λ bytes. skipped type n) (Bytes n))) (MeetsOr (eqb type 127) BlockType Never)

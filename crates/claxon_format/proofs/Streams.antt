@@ -9,13 +9,13 @@ use Rattle.claxon_format.specs.Metadata.{Bytes}
 use Rattle.claxon_format.specs.Streaminfo.{Streaminfo, info_widths, StreaminfoCode}
 use Rattle.claxon_format.specs.Comments.{CommentCode}
 use Rattle.claxon_format.specs.MetadataBlocks.{Content, Info, Padding, Comments, Reserved, ApplicationBody, skipped, is_padding, Body, InfoBody}
-use Rattle.claxon_format.specs.Frame.{Block, IsWidth, Frames, IsComplete}
+use Rattle.claxon_format.specs.Frame.{Block, IsWidth, Frames, NoFrameLeft}
 use Rattle.claxon_format.specs.Heads.{Options, Head, HeadCode, HeadFault}
 use Rattle.claxon_format.specs.read.Heads.{head_at}
 use Rattle.claxon_format.specs.Streams.{duration, samples_at, interleave, stream_of, with_samples, IsStream}
 use Rattle.claxon_format.proofs.Laws.{one_reading}
 use Rattle.claxon_format.proofs.Heads.{Reads-head}
-use Rattle.claxon_format.proofs.FrameBytes.{one_run}
+use Rattle.claxon_format.proofs.FrameBytes.{one_block_list}
 
 -- ---- where a sample stands
 
@@ -106,6 +106,6 @@ one_stream wants s h g blocks others r q a b =
     let rest : a.frames ≡ b.frames = append_cancel_left a.front a.frames b.frames (sym a.joined ∙ b.joined ∙ ap (λ (z : List ℕ). z ++ b.frames) (sym same.1)) in
     let blocks_are : Frames (Some (stream_of h.info)) a.frames others q =
     subst (λ (z : Head). Frames (Some (stream_of z.info)) a.frames others q) (sym same.0) (subst (λ (z : List ℕ). Frames (Some (stream_of g.info)) z others q) (sym rest) b.blocks_are) in
-    let complete : IsComplete (Some (stream_of h.info)) q = subst (λ (z : Head). IsComplete (Some (stream_of z.info)) q) (sym same.0) b.complete in
-    let run = one_run (Some (stream_of h.info)) (head_width (with_samples wants) h a.front a.head) a.frames r q blocks others a.blocks_are a.complete blocks_are complete in
+    let complete : NoFrameLeft (Some (stream_of h.info)) q = subst (λ (z : Head). NoFrameLeft (Some (stream_of z.info)) q) (sym same.0) b.complete in
+    let run = one_block_list (Some (stream_of h.info)) (head_width (with_samples wants) h a.front a.head) a.frames r q blocks others a.blocks_are a.complete blocks_are complete in
     (same.0, run.0, run.1)

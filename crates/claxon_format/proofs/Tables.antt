@@ -4,12 +4,12 @@ use Rattle.std.specs.Prelude.{Some, None}
 use Rattle.claxon_format.specs.Bits.{bits, bits_of}
 use Rattle.claxon_format.specs.Residual.{escape, partition_lengths}
 use Rattle.claxon_format.specs.Subframe.{reserved}
-use Rattle.claxon_format.specs.Coded.{bad_first, further, bad_follower}
-use Rattle.claxon_format.specs.Guards.{gap}
-use Rattle.claxon_format.specs.Header.{size_of, rate_bits, width_of, width_reserved, number_large}
+use Rattle.claxon_format.specs.CodedNumber.{bad_first, continuation_count, bad_continuation}
+use Rattle.claxon_format.specs.Crc.{padding_length}
+use Rattle.claxon_format.specs.Header.{size_of, rate_bits, width_of, bit_depth_reserved, number_large}
 use Rattle.claxon_format.specs.Stereo.{widths}
 use Rattle.claxon_format.specs.Frame.{block_step}
-use Rattle.claxon_format.specs.FrameWriter.{count_of}
+use Rattle.claxon_format.specs.FrameWriter.{channel_count}
 use Rattle.claxon_format.specs.MetadataBlocks.{Padding, Reserved, skipped}
 use Rattle.claxon_format.specs.read.Metadata.{block_header}
 use Rattle.claxon_format.specs.read.Bytes.{big_endian}
@@ -21,13 +21,13 @@ sizes = refl
 rates : map rate_bits (0 ∷ 1 ∷ 2 ∷ 3 ∷ 4 ∷ 5 ∷ 6 ∷ 7 ∷ 8 ∷ 9 ∷ 10 ∷ 11 ∷ 12 ∷ 13 ∷ 14 ∷ []) ≡ 0 ∷ 0 ∷ 0 ∷ 0 ∷ 0 ∷ 0 ∷ 0 ∷ 0 ∷ 0 ∷ 0 ∷ 0 ∷ 0 ∷ 8 ∷ 16 ∷ 16 ∷ []
 rates = refl
 
-sample_widths : map (width_of None) (1 ∷ 2 ∷ 4 ∷ 5 ∷ 6 ∷ []) ≡ 8 ∷ 12 ∷ 16 ∷ 20 ∷ 24 ∷ []
-sample_widths = refl
+bit_depths_by_code : map (width_of None) (1 ∷ 2 ∷ 4 ∷ 5 ∷ 6 ∷ []) ≡ 8 ∷ 12 ∷ 16 ∷ 20 ∷ 24 ∷ []
+bit_depths_by_code = refl
 
-reserved_widths : map width_reserved (0 ∷ 1 ∷ 2 ∷ 3 ∷ 4 ∷ 5 ∷ 6 ∷ 7 ∷ []) ≡ false ∷ false ∷ false ∷ true ∷ false ∷ false ∷ false ∷ true ∷ []
-reserved_widths = refl
+bit_depth_codes_reserved : map bit_depth_reserved (0 ∷ 1 ∷ 2 ∷ 3 ∷ 4 ∷ 5 ∷ 6 ∷ 7 ∷ []) ≡ false ∷ false ∷ false ∷ true ∷ false ∷ false ∷ false ∷ true ∷ []
+bit_depth_codes_reserved = refl
 
-counts : map count_of (0 ∷ 1 ∷ 2 ∷ 3 ∷ 4 ∷ 5 ∷ 6 ∷ 7 ∷ 8 ∷ 9 ∷ 10 ∷ []) ≡ 1 ∷ 2 ∷ 3 ∷ 4 ∷ 5 ∷ 6 ∷ 7 ∷ 8 ∷ 2 ∷ 2 ∷ 2 ∷ []
+counts : map channel_count (0 ∷ 1 ∷ 2 ∷ 3 ∷ 4 ∷ 5 ∷ 6 ∷ 7 ∷ 8 ∷ 9 ∷ 10 ∷ []) ≡ 1 ∷ 2 ∷ 3 ∷ 4 ∷ 5 ∷ 6 ∷ 7 ∷ 8 ∷ 2 ∷ 2 ∷ 2 ∷ []
 counts = refl
 
 eight_channels : widths 7 16 ≡ replicate 8 16
@@ -45,14 +45,14 @@ numbers_variable = refl
 first_bytes : map bad_first (127 ∷ 128 ∷ 191 ∷ 192 ∷ 254 ∷ 255 ∷ []) ≡ false ∷ true ∷ true ∷ false ∷ false ∷ true ∷ []
 first_bytes = refl
 
-further_bytes : map further (127 ∷ 192 ∷ 223 ∷ 224 ∷ 239 ∷ 240 ∷ 247 ∷ 248 ∷ 251 ∷ 252 ∷ 253 ∷ 254 ∷ []) ≡ 0 ∷ 1 ∷ 1 ∷ 2 ∷ 2 ∷ 3 ∷ 3 ∷ 4 ∷ 4 ∷ 5 ∷ 5 ∷ 6 ∷ []
-further_bytes = refl
+continuation_counts : map continuation_count (127 ∷ 192 ∷ 223 ∷ 224 ∷ 239 ∷ 240 ∷ 247 ∷ 248 ∷ 251 ∷ 252 ∷ 253 ∷ 254 ∷ []) ≡ 0 ∷ 1 ∷ 1 ∷ 2 ∷ 2 ∷ 3 ∷ 3 ∷ 4 ∷ 4 ∷ 5 ∷ 5 ∷ 6 ∷ []
+continuation_counts = refl
 
-follower_bytes : map bad_follower (127 ∷ 128 ∷ 191 ∷ 192 ∷ []) ≡ true ∷ false ∷ false ∷ true ∷ []
-follower_bytes = refl
+continuation_byte_range : map bad_continuation (127 ∷ 128 ∷ 191 ∷ 192 ∷ []) ≡ true ∷ false ∷ false ∷ true ∷ []
+continuation_byte_range = refl
 
-kinds_reserved : map reserved (0 ∷ 1 ∷ 2 ∷ 7 ∷ 8 ∷ 12 ∷ 13 ∷ 31 ∷ 32 ∷ 63 ∷ []) ≡ false ∷ false ∷ true ∷ true ∷ false ∷ false ∷ true ∷ true ∷ false ∷ false ∷ []
-kinds_reserved = refl
+subframe_types_reserved : map reserved (0 ∷ 1 ∷ 2 ∷ 7 ∷ 8 ∷ 12 ∷ 13 ∷ 31 ∷ 32 ∷ 63 ∷ []) ≡ false ∷ false ∷ true ∷ true ∷ false ∷ false ∷ true ∷ true ∷ false ∷ false ∷ []
+subframe_types_reserved = refl
 
 escapes : map escape (0 ∷ 1 ∷ []) ≡ 15 ∷ 31 ∷ []
 escapes = refl
@@ -60,8 +60,8 @@ escapes = refl
 partitions : partition_lengths 16 2 2 ≡ 2 ∷ 4 ∷ 4 ∷ 4 ∷ []
 partitions = refl
 
-gaps : map (λ n. gap (replicate n false)) (0 ∷ 1 ∷ 2 ∷ 3 ∷ 4 ∷ 5 ∷ 6 ∷ 7 ∷ 8 ∷ []) ≡ 0 ∷ 7 ∷ 6 ∷ 5 ∷ 4 ∷ 3 ∷ 2 ∷ 1 ∷ 0 ∷ []
-gaps = refl
+padding_lengths : map (λ n. padding_length (replicate n false)) (0 ∷ 1 ∷ 2 ∷ 3 ∷ 4 ∷ 5 ∷ 6 ∷ 7 ∷ 8 ∷ []) ≡ 0 ∷ 7 ∷ 6 ∷ 5 ∷ 4 ∷ 3 ∷ 2 ∷ 1 ∷ 0 ∷ []
+padding_lengths = refl
 
 most_significant_first : bits_of (0xa5 ∷ []) ≡ true ∷ false ∷ true ∷ false ∷ false ∷ true ∷ false ∷ true ∷ []
 unfolding bits bits_of
@@ -74,7 +74,7 @@ header_of_block : block_header (big_endian (0x84 ∷ [])) (big_endian (1 ∷ 2 �
 unfolding big_endian
 header_of_block = refl
 
-steps : map (λ greatest. block_step (Some (record { width = 8; least_block = 16; greatest_block = greatest })) 5) (16 ∷ 17 ∷ []) ≡ 16 ∷ 5 ∷ []
+steps : map (λ greatest. block_step (Some (record { width = 8; min_block_size = 16; max_block_size = greatest })) 5) (16 ∷ 17 ∷ []) ≡ 16 ∷ 5 ∷ []
 steps = refl
 
 letters : map lower (64 ∷ 65 ∷ 90 ∷ 91 ∷ 97 ∷ 193 ∷ []) ≡ 64 ∷ 97 ∷ 122 ∷ 91 ∷ 97 ∷ 193 ∷ []

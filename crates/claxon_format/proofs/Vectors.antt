@@ -2,12 +2,12 @@
 use Rattle.std.proofs.Common.{◌≡◌, ℕ, List, [], ◌∷◌, reverse, drop, refl, ℤ, pos, negsuc}
 use Rattle.std.specs.Int.{int_wrap}
 use Rattle.claxon_format.specs.Fault.{NumberFirst}
-use Rattle.claxon_format.specs.Bits.{bits, bits_of, number, residue, twos, unfold_at}
+use Rattle.claxon_format.specs.Bits.{bits, bits_of, number, residue, twos_complement, zigzag_decode}
 use Rattle.claxon_format.specs.Reading.{Reading, Done, Faulty}
 use Rattle.claxon_format.specs.read.Bits.{number_at}
 use Rattle.claxon_format.specs.Predict.{restored, fixed, linear}
-use Rattle.claxon_format.specs.read.Coded.{follower_at, followers_at, coded_number_at, spelled_at}
-use Rattle.claxon_format.specs.Stereo.{unmixed}
+use Rattle.claxon_format.specs.read.CodedNumber.{continuation_byte_at, continuation_bytes_at, coded_number_at, coded_number_bits_at}
+use Rattle.claxon_format.specs.Stereo.{decoded_pair}
 use Rattle.claxon_format.specs.read.Bytes.{by_bytes}
 
 -- ---- predictors
@@ -45,46 +45,46 @@ right = negsuc 4 ∷ negsuc 32 ∷ negsuc 58 ∷ negsuc 124 ∷ pos 127 ∷ pos 
 side : List ℤ
 side = pos 7 ∷ pos 38 ∷ pos 142 ∷ pos 238 ∷ pos 0 ∷ negsuc 151 ∷ negsuc 51 ∷ negsuc 17 ∷ []
 
-left_and_side : unmixed 8 (left ∷ side ∷ []) ≡ left ∷ right ∷ []
+left_and_side : decoded_pair 8 (left ∷ side ∷ []) ≡ left ∷ right ∷ []
 unfolding int_wrap residue left right side
 left_and_side = refl
 
-side_and_right : unmixed 9 (side ∷ right ∷ []) ≡ left ∷ right ∷ []
+side_and_right : decoded_pair 9 (side ∷ right ∷ []) ≡ left ∷ right ∷ []
 unfolding int_wrap residue left right side
 side_and_right = refl
 
-mid_and_side : unmixed 10 ((negsuc 1 ∷ negsuc 13 ∷ pos 12 ∷ negsuc 5 ∷ pos 127 ∷ pos 13 ∷ negsuc 18 ∷ negsuc 5 ∷ []) ∷ side ∷ []) ≡ left ∷ right ∷ []
+mid_and_side : decoded_pair 10 ((negsuc 1 ∷ negsuc 13 ∷ pos 12 ∷ negsuc 5 ∷ pos 127 ∷ pos 13 ∷ negsuc 18 ∷ negsuc 5 ∷ []) ∷ side ∷ []) ≡ left ∷ right ∷ []
 unfolding int_wrap residue left right side
 mid_and_side = refl
 
 -- ---- numbers
 
-unfolded : unfold_at 0 ∷ unfold_at 1 ∷ unfold_at 2 ∷ unfold_at 3 ∷ unfold_at 4 ∷ [] ≡ pos 0 ∷ negsuc 0 ∷ pos 1 ∷ negsuc 1 ∷ pos 2 ∷ []
-unfolded = refl
+zigzag_decoded : zigzag_decode 0 ∷ zigzag_decode 1 ∷ zigzag_decode 2 ∷ zigzag_decode 3 ∷ zigzag_decode 4 ∷ [] ≡ pos 0 ∷ negsuc 0 ∷ pos 1 ∷ negsuc 1 ∷ pos 2 ∷ []
+zigzag_decoded = refl
 
-signed_4_low : twos 4 5 ≡ pos 5
-unfolding twos
+signed_4_low : twos_complement 4 5 ≡ pos 5
+unfolding twos_complement
 signed_4_low = refl
 
-signed_4 : twos 4 11 ≡ negsuc 4
-unfolding twos
+signed_4 : twos_complement 4 11 ≡ negsuc 4
+unfolding twos_complement
 signed_4 = refl
 
-signed_31 : twos 31 1073741822 ≡ pos 1073741822
-unfolding twos
+signed_31 : twos_complement 31 1073741822 ≡ pos 1073741822
+unfolding twos_complement
 signed_31 = refl
 
-signed_32 : twos 32 4294967295 ≡ negsuc 0
-unfolding twos
+signed_32 : twos_complement 32 4294967295 ≡ negsuc 0
+unfolding twos_complement
 signed_32 = refl
 
-signed_17 : twos 17 124680 ≡ negsuc 6391
-unfolding twos
+signed_17 : twos_complement 17 124680 ≡ negsuc 6391
+unfolding twos_complement
 signed_17 = refl
 
 coded : List ℕ → Reading ℕ ℕ
-unfolding bits bits_of number number_at follower_at followers_at coded_number_at
-coded s = by_bytes spelled_at s
+unfolding bits bits_of number number_at continuation_byte_at continuation_bytes_at coded_number_at
+coded s = by_bytes coded_number_bits_at s
 
 coded_1 : coded (0x24 ∷ 0xc2 ∷ 0xa2 ∷ 0xe2 ∷ 0x82 ∷ 0xac ∷ 0xf0 ∷ 0x90 ∷ 0x8d ∷ 0x88 ∷ 0xc2 ∷ 0x00 ∷ 0x80 ∷ []) ≡ Done 36 (0xc2 ∷ 0xa2 ∷ 0xe2 ∷ 0x82 ∷ 0xac ∷ 0xf0 ∷ 0x90 ∷ 0x8d ∷ 0x88 ∷ 0xc2 ∷ 0x00 ∷ 0x80 ∷ [])
 unfolding coded

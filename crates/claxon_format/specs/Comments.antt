@@ -4,7 +4,7 @@ use Rattle.std.specs.List.{list_all, list_any, position_or_len, before_first}
 use Rattle.std.specs.Str.{is_utf8}
 use Rattle.claxon_format.specs.Fault.{Fault, CommentShort, CommentLarge, VendorLong, VendorNotUtf8, TooManyEntries, EntryLong, SeparatorMissing, NameByte, EntryNotUtf8, ExcessData, EntriesMissing}
 use Rattle.claxon_format.specs.Reading.{Each, ThenFault, MeetsOr, Never, Is, Mapped, choose, Checked, CheckedFault}
-use Rattle.claxon_format.specs.Metadata.{Bytes, Little, most_bytes}
+use Rattle.claxon_format.specs.Metadata.{Bytes, Little, max_content_bytes}
 
 -- an entry: its text, and the place of its first '='
 pub record Entry : Type 0 where
@@ -33,23 +33,23 @@ IsEntry e =
     × (list_any is_separator name ≡ false) × (list_all is_name_byte name ≡ true) × IsUtf8 e.text
 
 -- a length in four bytes, the least significant first, and as many bytes
-abbrev pub Counted : List ℕ → List ℕ → Type 0
-Counted text t = (x : List ℕ) × Little 4 (length text) x × (t ≡ x ++ text)
+abbrev pub LengthPrefixed : List ℕ → List ℕ → Type 0
+LengthPrefixed text t = (x : List ℕ) × Little 4 (length text) x × (t ≡ x ++ text)
 
 -- what texts mean: an empty one nothing, any other an entry
-abbrev pub Mean : List (List ℕ) → List Entry → Type 0
-Mean [] [] = Unit {0}
-Mean [] (e ∷ entries) = ⊥
-Mean ([] ∷ texts) entries = Mean texts entries
-Mean ((y ∷ ys) ∷ texts) [] = ⊥
-Mean ((y ∷ ys) ∷ texts) (e ∷ entries) = (e.text ≡ y ∷ ys) × IsEntry e × Mean texts entries
+abbrev pub EntriesOf : List (List ℕ) → List Entry → Type 0
+EntriesOf [] [] = Unit {0}
+EntriesOf [] (e ∷ entries) = ⊥
+EntriesOf ([] ∷ texts) entries = EntriesOf texts entries
+EntriesOf ((y ∷ ys) ∷ texts) [] = ⊥
+EntriesOf ((y ∷ ys) ∷ texts) (e ∷ entries) = (e.text ≡ y ∷ ys) × IsEntry e × EntriesOf texts entries
 
 -- n bytes: the vendor, how many texts there are, and the texts
 abbrev pub CommentCode : ℕ → Comment → List ℕ → Type 0
 CommentCode n c t =
     (texts : List (List ℕ)) × (x : List ℕ) × (y : List ℕ) × (z : List ℕ)
-    × (n ≤ most_bytes) × (length t ≡ n) × Counted c.vendor x × IsUtf8 c.vendor
-    × Little 4 (length texts) y × Each Counted texts z × Mean texts c.entries × (t ≡ x ++ (y ++ z))
+    × (n ≤ max_content_bytes) × (length t ≡ n) × LengthPrefixed c.vendor x × IsUtf8 c.vendor
+    × Little 4 (length texts) y × Each LengthPrefixed texts z × EntriesOf texts c.entries × (t ≡ x ++ (y ++ z))
 
 -- ---- faults
 
@@ -75,12 +75,12 @@ abbrev pub EntryCode : ℕ → Entry → List ℕ → Type 0
 EntryCode n e t = (length t ≡ n) × (e.text ≡ t) × IsEntry e
 
 -- a text of n bytes, and what it means
-abbrev pub Kept : ℕ → List Entry → List ℕ → Type 0
-Kept n = choose (n == 0) (Is []) (Mapped (λ e. e ∷ []) (EntryCode n))
+abbrev pub EntryOrEmpty : ℕ → List Entry → List ℕ → Type 0
+EntryOrEmpty n = choose (n == 0) (Is []) (Mapped (λ e. e ∷ []) (EntryCode n))
 
 -- an empty text has no fault
-abbrev pub KeptFault : ℕ → Fault → List ℕ → Type 0
-KeptFault n = choose (n == 0) Never (EntryFault n)
+abbrev pub EntryOrEmptyFault : ℕ → Fault → List ℕ → Type 0
+EntryOrEmptyFault n = choose (n == 0) Never (EntryFault n)
 
 -- the length of an entry, which stands in so many bytes at most
 abbrev pub EntryLength : ℕ → ℕ → List ℕ → Type 0
@@ -115,18 +115,18 @@ abbrev pub CountFault : ℕ → Fault → List ℕ → Type 0
 CountFault limit = CheckedFault (nat_le limit) TooManyEntries (Little 4) Never
 
 -- what is wrong after the last text, where so many texts are missing and so many bytes are left
-abbrev pub EndFault : ℕ → ℕ → Fault → List ℕ → Type 0
-EndFault missing left = MeetsOr (nat_lt 0 left) ExcessData (MeetsOr (nat_lt 0 missing) EntriesMissing Never)
+abbrev pub EntriesEndFault : ℕ → ℕ → Fault → List ℕ → Type 0
+EntriesEndFault missing left = MeetsOr (nat_lt 0 left) ExcessData (MeetsOr (nat_lt 0 missing) EntriesMissing Never)
 
 -- of so many texts in so many bytes
 abbrev pub EntriesFault : ℕ → ℕ → Fault → List ℕ → Type 0
-EntriesFault zero left = EndFault zero left
-EntriesFault (suc missing) left = choose (nat_lt left 4) (EndFault (suc missing) left) (
-    ThenFault (EntryLength (left - 4)) (EntryLengthFault (left - 4)) (λ n. ThenFault (Kept n) (KeptFault n) (λ entries. EntriesFault missing (left - 4 - n))))
+EntriesFault zero left = EntriesEndFault zero left
+EntriesFault (suc missing) left = choose (nat_lt left 4) (EntriesEndFault (suc missing) left) (
+    ThenFault (EntryLength (left - 4)) (EntryLengthFault (left - 4)) (λ n. ThenFault (EntryOrEmpty n) (EntryOrEmptyFault n) (λ entries. EntriesFault missing (left - 4 - n))))
 
 -- the fields in order, with the faults that they meet
 abbrev pub CommentFault : ℕ → Fault → List ℕ → Type 0
 CommentFault n =
-    MeetsOr (nat_lt n 8) CommentShort (MeetsOr (nat_lt most_bytes n) CommentLarge (
+    MeetsOr (nat_lt n 8) CommentShort (MeetsOr (nat_lt max_content_bytes n) CommentLarge (
     ThenFault (VendorLength (n - 8)) (VendorLengthFault (n - 8)) (λ v. ThenFault (Vendor v) (VendorFault v) (λ vendor.
     ThenFault (Count (n / 4)) (CountFault (n / 4)) (λ count. EntriesFault count (n - 8 - v))))))

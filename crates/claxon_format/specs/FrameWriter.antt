@@ -1,11 +1,11 @@
 -- What a writer writes for a whole frame under plans (RFC 9639, section 9), and which plans suit the channels.
 use Rattle.std.specs.Prelude.{ℕ, zero, suc, true, false, cond, List, length, take, replicate, nat_lt, ℤ, Option, ◌≡◌, ◌+◌, ◌-◌, ◌*◌, ◌/◌, ◌^◌, ◌<◌, ◌≤◌, ◌∷◌, ◌++◌, ◌==◌, []}
 use Rattle.claxon_format.specs.Bits.{Bits, bits, number}
-use Rattle.claxon_format.specs.Guards.{gap, crc8, crc16, bit}
-use Rattle.claxon_format.specs.Coded.{followers}
-use Rattle.claxon_format.specs.Header.{Fields, header_of, width_of, is_unknown, is_too_wide, size_of, rate_bits, width_reserved, number_large}
-use Rattle.claxon_format.specs.Stereo.{either, widths, zipped, mix_first, mix_second}
-use Rattle.claxon_format.specs.Frame.{StreamShape, Block, known_width, time_of}
+use Rattle.claxon_format.specs.Crc.{padding_length, crc8, crc16, bit}
+use Rattle.claxon_format.specs.CodedNumber.{continuation_bytes}
+use Rattle.claxon_format.specs.Header.{Fields, header_of, width_of, bit_depth_unknown, side_too_wide, size_of, rate_bits, bit_depth_reserved, number_large}
+use Rattle.claxon_format.specs.Stereo.{either, widths, zipped, decorrelate_first, decorrelate_second}
+use Rattle.claxon_format.specs.Frame.{StreamFormat, Block, known_width, time_of}
 use Rattle.claxon_format.specs.Writer.{AllFitIn, SubframePlan, write_subframe, SuitsSubframe, plan_with_quotients, SuitsShape}
 
 -- ---- whole frames
@@ -16,17 +16,17 @@ ChannelsFit n w [] = Unit {0}
 ChannelsFit n w (c ∷ cs) = (length c ≡ n) × AllFitIn w c × ChannelsFit n w cs
 
 -- how many channels a channel code spells
-abbrev pub count_of : ℕ → ℕ
-count_of code = cond (nat_lt code 8) (code + 1) 2
+abbrev pub channel_count : ℕ → ℕ
+channel_count code = cond (nat_lt code 8) (code + 1) 2
 
 -- what is coded for the channels
-abbrev pub mixed_pair : ℕ → List (List ℤ) → List (List ℤ)
-mixed_pair code (l ∷ r ∷ []) = zipped (mix_first code) l r ∷ zipped (mix_second code) l r ∷ []
-mixed_pair code other = other
+abbrev pub decorrelated_pair : ℕ → List (List ℤ) → List (List ℤ)
+decorrelated_pair code (l ∷ r ∷ []) = zipped (decorrelate_first code) l r ∷ zipped (decorrelate_second code) l r ∷ []
+decorrelated_pair code other = other
 
 -- the coded channels: those with codes from 8 on are mixed (section 4.2)
-abbrev pub mixed : ℕ → List (List ℤ) → List (List ℤ)
-mixed code channels = cond (nat_lt code 8) channels (mixed_pair code channels)
+abbrev pub decorrelated : ℕ → List (List ℤ) → List (List ℤ)
+decorrelated code channels = cond (nat_lt code 8) channels (decorrelated_pair code channels)
 
 -- one subframe after another
 abbrev pub write_each : ℕ → List ℕ → List SubframePlan → List (List ℤ) → Bits
@@ -44,17 +44,17 @@ abbrev pub padding_of : ℕ → Bits → Bits
 padding_of n p = take n (p ++ replicate n false)
 
 -- bits, and padding up to a border of 8 (section 9.3)
-abbrev pub padded : Bits → Bits → Bits
-padded p x = x ++ padding_of (gap x) p
+abbrev pub byte_aligned : Bits → Bits → Bits
+byte_aligned p x = x ++ padding_of (padding_length x) p
 
 -- bits and their guard
-abbrev pub sealed : ℕ → (Bits → ℕ) → Bits → Bits
-sealed w guard x = x ++ bits w (guard x)
+abbrev pub append_crc : ℕ → (Bits → ℕ) → Bits → Bits
+append_crc w crc x = x ++ bits w (crc x)
 
 -- the fields of a header, written as x, the channels under plans, and padding of the bits p
 abbrev pub write_frame : Fields → ℕ → Bits → Bits → List SubframePlan → List (List ℤ) → Bits
 write_frame f w x p plans channels =
-    sealed 16 crc16 (padded p (sealed 8 crc8 x ++ write_each f.size (widths f.channels w) plans (mixed f.channels channels)))
+    append_crc 16 crc16 (byte_aligned p (append_crc 8 crc8 x ++ write_each f.size (widths f.channels w) plans (decorrelated f.channels channels)))
 
 -- ---- headers
 
@@ -63,18 +63,18 @@ pub record HeaderPlan : Type 0 where
   pub size_code : ℕ
   pub rate_code : ℕ
   pub rate : Bits
-  pub further : ℕ
+  pub continuation_count : ℕ
   pub padding : Bits
 
 -- a coded number in a byte and so many more (section 9.1.5)
-abbrev pub write_number : ℕ → ℕ → Bits
-write_number zero x = bits 8 x
-write_number (suc j) x = let k = suc j in replicate (k + 1) true ++ (false ∷ (bits (6 - k) (x / 2 ^ (6 * k)) ++ followers k x))
+abbrev pub write_coded_number : ℕ → ℕ → Bits
+write_coded_number zero x = bits 8 x
+write_coded_number (suc j) x = let k = suc j in replicate (k + 1) true ++ (false ∷ (bits (6 - k) (x / 2 ^ (6 * k)) ++ continuation_bytes k x))
 
 -- how great a number so many bytes hold
-abbrev pub number_end : ℕ → ℕ
-number_end zero = 2 ^ 7
-number_end (suc j) = 2 ^ (5 * suc j + 6)
+abbrev pub coded_number_limit : ℕ → ℕ
+coded_number_limit zero = 2 ^ 7
+coded_number_limit (suc j) = 2 ^ (5 * suc j + 6)
 
 -- the size less one, under codes 6 and 7 (section 9.1.6)
 abbrev pub write_size : ℕ → ℕ → Bits
@@ -83,8 +83,8 @@ write_size code n = cond (code == 6) (bits 8 (n - 1)) (cond (code == 7) (bits 16
 -- the fields of a header in order (section 9.1)
 abbrev pub write_fields : Fields → HeaderPlan → Bits
 write_fields f plan =
-    (bits 14 0x3ffe ++ (bits 1 0 ++ bits 1 (bit f.variable))) ++ ((bits 4 plan.size_code ++ bits 4 plan.rate_code) ++ ((bits 4 f.channels ++ (bits 3 f.width_code ++ bits 1 0))
-    ++ (write_number plan.further f.number ++ (write_size plan.size_code f.size ++ plan.rate))))
+    (bits 14 0x3ffe ++ (bits 1 0 ++ bits 1 (bit f.variable))) ++ ((bits 4 plan.size_code ++ bits 4 plan.rate_code) ++ ((bits 4 f.channels ++ (bits 3 f.bit_depth_code ++ bits 1 0))
+    ++ (write_coded_number plan.continuation_count f.number ++ (write_size plan.size_code f.size ++ plan.rate))))
 
 -- a size that this code can spell (section 9.1.1)
 abbrev pub SuitsSize : ℕ → ℕ → Type 0
@@ -93,8 +93,8 @@ SuitsSize code n = either (code == 6) ((1 ≤ n) × (n ≤ 256)) (either (code =
 -- codes that spell these fields
 abbrev pub SuitsHeader : Fields → HeaderPlan → Type 0
 SuitsHeader f plan =
-    (1 ≤ plan.size_code) × (plan.size_code ≤ 15) × (plan.rate_code ≤ 14) × (f.channels ≤ 10) × (f.width_code < 8) × (width_reserved f.width_code ≡ false)
-    × (plan.further ≤ 6) × (f.number < number_end plan.further) × (number_large f.variable f.number ≡ false) × SuitsSize plan.size_code f.size × (length plan.rate ≡ rate_bits plan.rate_code)
+    (1 ≤ plan.size_code) × (plan.size_code ≤ 15) × (plan.rate_code ≤ 14) × (f.channels ≤ 10) × (f.bit_depth_code < 8) × (bit_depth_reserved f.bit_depth_code ≡ false)
+    × (plan.continuation_count ≤ 6) × (f.number < coded_number_limit plan.continuation_count) × (number_large f.variable f.number ≡ false) × SuitsSize plan.size_code f.size × (length plan.rate ≡ rate_bits plan.rate_code)
 
 -- ---- plans without quotients
 
@@ -117,25 +117,25 @@ bytes_of (a ∷ b ∷ c ∷ d ∷ e ∷ f ∷ g ∷ h ∷ t) = number (a ∷ b �
 bytes_of _ = []
 
 -- the width of a frame's samples, and of each coded channel
-abbrev pub frame_width : Option StreamShape → Fields → ℕ
-frame_width stream f = width_of (known_width stream) f.width_code
+abbrev pub frame_width : Option StreamFormat → Fields → ℕ
+frame_width stream f = width_of (known_width stream) f.bit_depth_code
 
 -- a side channel has one bit more
-abbrev pub planned_widths : Option StreamShape → Fields → List ℕ
+abbrev pub planned_widths : Option StreamFormat → Fields → List ℕ
 planned_widths stream f = widths f.channels (frame_width stream f)
 
 -- the block that is written
-abbrev pub written_block : Option StreamShape → Fields → List (List ℤ) → Block
+abbrev pub written_block : Option StreamFormat → Fields → List (List ℤ) → Block
 written_block stream f channels = record { time = time_of stream (header_of (known_width stream) f); channels = channels }
 
 -- the bytes of a frame
-abbrev pub write_bytes : Option StreamShape → Fields → HeaderPlan → List SubframePlan → List (List ℤ) → List ℕ
+abbrev pub write_bytes : Option StreamFormat → Fields → HeaderPlan → List SubframePlan → List (List ℤ) → List ℕ
 write_bytes stream f header plans channels = bytes_of (write_frame f (frame_width stream f) (write_fields f header) header.padding plans channels)
 
 -- the fields and their codes suit one another, and the channels: their width is known and at most 32, at most 31 where a side is coded
-pub record SuitsFrame (stream : Option StreamShape) (f : Fields) (header : HeaderPlan) (channels : List (List ℤ)) : Type 0 where
+pub record SuitsFrame (stream : Option StreamFormat) (f : Fields) (header : HeaderPlan) (channels : List (List ℤ)) : Type 0 where
   pub codes : SuitsHeader f header
-  pub known : is_unknown (known_width stream) f ≡ false
-  pub narrow : is_too_wide (known_width stream) f ≡ false
-  pub count : length channels ≡ count_of f.channels
+  pub known : bit_depth_unknown (known_width stream) f ≡ false
+  pub narrow : side_too_wide (known_width stream) f ≡ false
+  pub count : length channels ≡ channel_count f.channels
   pub fit : ChannelsFit f.size (frame_width stream f) channels

@@ -35,8 +35,8 @@ abbrev pub Marker : ℕ → List ℕ → Type 0
 Marker m t = (m ≡ stream_marker) × Big 4 m t
 
 -- the standard sets no limit
-abbrev pub most_blocks : ℕ
-most_blocks = 65536
+abbrev pub max_blocks : ℕ
+max_blocks = 65536
 
 -- ---- the code
 
@@ -72,7 +72,7 @@ pub record IsHead (o : Options) (h : Head) (b : MetadataBlock) (others : List Me
   pub info : b.content ≡ Info h.info
   pub no_info : list_any (λ b. is_info b.content) others ≡ false
   pub one_comment : length (comments_in others) ≤ 1
-  pub few : length others < most_blocks
+  pub few : length others < max_blocks
   pub ends : EndsAtLast o b others
   pub comment : h.comment ≡ cond o.wants_comment (first (comments_in others)) None
 
@@ -109,12 +109,12 @@ OthersFault suffices (suc k) found =
     choose (is_done suffices found b) Never (OthersFault suffices k (found_with found b.content)))))
 
 -- the streaminfo ends the head
-abbrev pub is_short : Options → Bool → Bool
-is_short o is_last = is_last || (o.metadata_only && not o.wants_comment)
+abbrev pub streaminfo_ends_head : Options → Bool → Bool
+streaminfo_ends_head o is_last = is_last || (o.metadata_only && not o.wants_comment)
 
 -- the first block is a streaminfo, and faults of others come behind it
 abbrev pub FirstFault : Options → Bool → Content → Fault → List ℕ → Type 0
-FirstFault o is_last (Info i) = choose (is_short o is_last) Never (OthersFault o.metadata_only 65535 None)
+FirstFault o is_last (Info i) = choose (streaminfo_ends_head o is_last) Never (OthersFault o.metadata_only 65535 None)
 FirstFault o is_last _ = Met StreaminfoMissing
 
 -- an ID3 tag begins with 49 44 33

@@ -2,7 +2,7 @@
 use Rattle.std.specs.Prelude.{◌≡◌, ℕ, ◌≤◌, Bool, cond, not, ◌==◌, ◌||◌, nat_lt, List, ◌++◌, length}
 use Rattle.claxon_format.specs.Fault.{Fault, StreaminfoLength, BlockType, ApplicationShort, ApplicationLarge}
 use Rattle.claxon_format.specs.Reading.{ThenFault, MeetsOr, Never, Mapped, choose}
-use Rattle.claxon_format.specs.Metadata.{Bytes, Big, most_bytes, BlockHeader, BlockHeaderCode}
+use Rattle.claxon_format.specs.Metadata.{Bytes, Big, max_content_bytes, BlockHeader, BlockHeaderCode}
 use Rattle.claxon_format.specs.Streaminfo.{Streaminfo, StreaminfoCode, StreaminfoFault}
 use Rattle.claxon_format.specs.Comments.{Comment, CommentCode, CommentFault}
 
@@ -22,7 +22,7 @@ InfoBody n b t = (n ≡ 34) × Mapped Info StreaminfoCode b t
 
 -- section 8.4: a registered number, and data of the application's own
 abbrev pub ApplicationBody : ℕ → Content → List ℕ → Type 0
-ApplicationBody n b t = (id : ℕ) × (x : List ℕ) × (bytes : List ℕ) × (n ≤ most_bytes) × (length t ≡ n) × Big 4 id x × (b ≡ Application id bytes) × (t ≡ x ++ bytes)
+ApplicationBody n b t = (id : ℕ) × (x : List ℕ) × (bytes : List ℕ) × (n ≤ max_content_bytes) × (length t ≡ n) × Big 4 id x × (b ≡ Application id bytes) × (t ≡ x ++ bytes)
 
 -- padding (section 8.3), and seek tables, cue sheets and pictures (8.5, 8.7, 8.8), whose content is skipped
 abbrev pub is_padding : ℕ → Bool
@@ -40,7 +40,7 @@ Body type n =
 
 -- the length is asked for first
 abbrev pub ApplicationFault : ℕ → Fault → List ℕ → Type 0
-ApplicationFault n = MeetsOr (nat_lt n 4) ApplicationShort (MeetsOr (nat_lt most_bytes n) ApplicationLarge Never)
+ApplicationFault n = MeetsOr (nat_lt n 4) ApplicationShort (MeetsOr (nat_lt max_content_bytes n) ApplicationLarge Never)
 
 -- what a type and a length have against them, and then the content
 abbrev pub BodyFault : ℕ → ℕ → Fault → List ℕ → Type 0

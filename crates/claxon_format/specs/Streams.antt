@@ -2,7 +2,7 @@
 use Rattle.std.specs.Prelude.{◌≡◌, ℕ, Bool, false, List, [], ◌∷◌, ◌++◌, length, map, get_or, ℤ, pos, Some}
 use Rattle.std.specs.List.{flat_map, range_with_len}
 use Rattle.claxon_format.specs.Streaminfo.{Streaminfo}
-use Rattle.claxon_format.specs.Frame.{StreamShape, Block, Frames, IsComplete}
+use Rattle.claxon_format.specs.Frame.{StreamFormat, Block, Frames, NoFrameLeft}
 use Rattle.claxon_format.specs.Heads.{Options, Head, HeadCode}
 
 -- how many samples each channel has
@@ -19,8 +19,8 @@ abbrev pub interleave : List (List ℤ) → List ℤ
 interleave channels = flat_map (samples_at channels) (range_with_len 0 (duration channels))
 
 -- what frames need to know of their stream
-abbrev pub stream_of : Streaminfo → StreamShape
-stream_of i = record { width = i.width; least_block = i.least_block; greatest_block = i.greatest_block }
+abbrev pub stream_of : Streaminfo → StreamFormat
+stream_of i = record { width = i.width; min_block_size = i.min_block_size; max_block_size = i.max_block_size }
 
 -- all blocks up to the first frame are read
 abbrev pub with_samples : Bool → Options
@@ -33,4 +33,4 @@ pub record IsStream (wants_comment : Bool) (s : List ℕ) (h : Head) (blocks : L
   pub head : HeadCode (with_samples wants_comment) h front
   pub joined : s ≡ front ++ frames
   pub blocks_are : Frames (Some (stream_of h.info)) frames blocks r
-  pub complete : IsComplete (Some (stream_of h.info)) r
+  pub complete : NoFrameLeft (Some (stream_of h.info)) r

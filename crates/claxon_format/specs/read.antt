@@ -1,9 +1,9 @@
 pub mod Bits
 pub mod Bytes
-pub mod Guards
+pub mod Crc
 pub mod Residual
 pub mod Subframe
-pub mod Coded
+pub mod CodedNumber
 pub mod Header
 pub mod Frame
 pub mod Metadata

@@ -2,34 +2,34 @@
 use Rattle.std.proofs.Common.{◌≡◌, ℕ, List, refl, ℤ}
 use Rattle.std.specs.Prelude.{Option}
 use Rattle.claxon_format.specs.Bits.{bits_of}
-use Rattle.claxon_format.specs.Fault.{FrameGuard}
-use Rattle.claxon_format.specs.Frame.{StreamShape}
-use Rattle.claxon_format.specs.read.Bytes.{expected_at}
-use Rattle.claxon_format.specs.read.Frame.{frame_bytes_at, subframes_at, block_from, unsealed_at, Start, start_at}
-use Rattle.claxon_format.specs.Guards.{crc16}
+use Rattle.claxon_format.specs.Fault.{FrameCrc}
+use Rattle.claxon_format.specs.Frame.{StreamFormat}
+use Rattle.claxon_format.specs.read.Bytes.{crc_at}
+use Rattle.claxon_format.specs.read.Frame.{frame_bytes_at, subframes_at, block_from, frame_without_crc_at, Start, start_at}
+use Rattle.claxon_format.specs.Crc.{crc16}
 use Rattle.claxon_format.specs.Reading.{Done, bind, done, taken}
 use Rattle.claxon_format.specs.Stereo.{widths}
-use Rattle.claxon_format.proofs.SealedBytes.{sealed_after}
+use Rattle.claxon_format.proofs.CrcBytes.{with_crc_after}
 use Rattle.claxon_input.proofs.CallsInTurn.{StopsWith, StopsAs}
 
 -- where its parts stop, so does the frame
-pub start_stops : (stream : Option StreamShape) → StopsWith (start_at stream) (frame_bytes_at stream)
-unfolding unsealed_at
+pub start_stops : (stream : Option StreamFormat) → StopsWith (start_at stream) (frame_bytes_at stream)
+unfolding frame_without_crc_at
 start_stops stream = record {
   fault = λ s f rest e. rw e refl;
   short = λ s e. rw e refl;
 }
 
-pub channels_stop : (stream : Option StreamShape) → (start : Start) (s m : List ℕ) → start_at stream s ≡ Done start m → StopsAs (subframes_at start.size (widths start.channels start.width) m) (frame_bytes_at stream s)
-unfolding unsealed_at
+pub channels_stop : (stream : Option StreamFormat) → (start : Start) (s m : List ℕ) → start_at stream s ≡ Done start m → StopsAs (subframes_at start.size (widths start.channels start.width) m) (frame_bytes_at stream s)
+unfolding frame_without_crc_at
 channels_stop stream start s m h = record {
   fault = λ f rest e. rw (h, e) refl;
   short = λ e. rw (h, e) refl;
 }
 
 -- behind the channels stands the guard of the bytes before
-pub footer_is : (stream : Option StreamShape) → (start : Start) (coded : List (List ℤ)) (guard : ℕ) (s m rest : List ℕ) → start_at stream s ≡ Done start m → subframes_at start.size (widths start.channels start.width) m ≡ Done coded rest
-    → guard ≡ crc16 (bits_of (taken s rest)) → frame_bytes_at stream s ≡ bind (expected_at 2 guard FrameGuard rest) (λ u. done (block_from start coded))
-unfolding unsealed_at
+pub footer_is : (stream : Option StreamFormat) → (start : Start) (coded : List (List ℤ)) (guard : ℕ) (s m rest : List ℕ) → start_at stream s ≡ Done start m → subframes_at start.size (widths start.channels start.width) m ≡ Done coded rest
+    → guard ≡ crc16 (bits_of (taken s rest)) → frame_bytes_at stream s ≡ bind (crc_at 2 guard FrameCrc rest) (λ u. done (block_from start coded))
+unfolding frame_without_crc_at
 footer_is stream start coded guard s m rest h e same =
-    sealed_after 2 guard crc16 FrameGuard (unsealed_at stream) (block_from start coded) s rest (rw (h, e) refl) same
+    with_crc_after 2 guard crc16 FrameCrc (frame_without_crc_at stream) (block_from start coded) s rest (rw (h, e) refl) same

@@ -29,18 +29,18 @@ channel_code RightSideStereo = 9
 channel_code MidSideStereo = 10
 
 -- the width of the widest one, where the samples have so many bits: a side channel has one more
-abbrev pub widest : ChannelAssignment → ℕ → ℕ
-widest (Independent n) bits = bits
-widest _ bits = bits + 1
+abbrev pub max_bit_depth : ChannelAssignment → ℕ → ℕ
+max_bit_depth (Independent n) bits = bits
+max_bit_depth _ bits = bits + 1
 
 -- the three bits that spell a width (section 9.1.4), or that it is the stream's
-abbrev pub width_code : Option ℕ → ℕ
-width_code None = 0
-width_code (Some bits) = cond (bits == 8) 1 (cond (bits == 12) 2 (cond (bits == 16) 4 (cond (bits == 20) 5 6)))
+abbrev pub bit_depth_code : Option ℕ → ℕ
+bit_depth_code None = 0
+bit_depth_code (Some bits) = cond (bits == 8) 1 (cond (bits == 12) 2 (cond (bits == 16) 4 (cond (bits == 20) 5 6)))
 
 -- a width that has a code
-abbrev pub HasCode : ℕ → Type 0
-HasCode bits = width_of None (width_code (Some bits)) ≡ bits
+abbrev pub HasBitDepthCode : ℕ → Type 0
+HasBitDepthCode bits = width_of None (bit_depth_code (Some bits)) ≡ bits
 
 -- which blocking a header has, and a number of it
 abbrev pub is_variable : BlockingStrategy → Bool
@@ -48,14 +48,14 @@ is_variable Fixed = false
 is_variable Variable = true
 
 -- of a time: whether blocks vary in size, and the number that is spelled (section 9.1.5)
-abbrev pub time_number : BlockTime → Bool × ℕ
-time_number (FrameNumber n) = (false, n)
-time_number (SampleNumber n) = (true, n)
+abbrev pub block_time_view : BlockTime → Bool × ℕ
+block_time_view (FrameNumber n) = (false, n)
+block_time_view (SampleNumber n) = (true, n)
 
 -- the widths of the coded channels, where the samples have so many bits
-abbrev pub coded_widths : ChannelAssignment → ℕ → List ℕ
-coded_widths assignment bits = widths (channel_code assignment) bits
+abbrev pub subframe_bit_depths : ChannelAssignment → ℕ → List ℕ
+subframe_bit_depths assignment bits = widths (channel_code assignment) bits
 
 -- The width of the coded channel ch, where there is one, is that of the format.
-abbrev pub IsCodedWidth : ChannelAssignment → ℕ → ℕ → ℕ → Type 0
-IsCodedWidth assignment bits ch result = channels_of assignment ≤ 8 → ch < channels_of assignment → result ≡ get_or (coded_widths assignment bits) ch 0
+abbrev pub IsSubframeBitDepth : ChannelAssignment → ℕ → ℕ → ℕ → Type 0
+IsSubframeBitDepth assignment bits ch result = channels_of assignment ≤ 8 → ch < channels_of assignment → result ≡ get_or (subframe_bit_depths assignment bits) ch 0

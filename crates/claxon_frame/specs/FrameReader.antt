@@ -1,20 +1,20 @@
 -- What clauses read of blocks and of a `FrameReader`.
 use Rattle.std.specs.Prelude.{◌≡◌, ◌⊎◌, ℕ, ℤ, ◌*◌, ◌<◌, ◌≤◌, List, [], length, Option, None, IfOk, IfSome, Result, Ok}
 use Rattle.claxon_format.specs.Bits.{bits_of}
-use Rattle.claxon_format.specs.Frame.{StreamShape, Block, Frame, FrameBytesFault, known_width}
+use Rattle.claxon_format.specs.Frame.{StreamFormat, Block, Frame, FrameBytesFault, known_width}
 use Rattle.claxon_format.specs.read.Frame.{frame_bytes_at, Start, start_at}
-use Rattle.claxon_format.specs.FrameWriter.{HeaderPlan, SuitsEach, SuitsEachShape, SuitsFrame, count_of, mixed, planned_widths, plans_with_quotients, write_bytes, written_block}
+use Rattle.claxon_format.specs.FrameWriter.{HeaderPlan, SuitsEach, SuitsEachShape, SuitsFrame, channel_count, decorrelated, planned_widths, plans_with_quotients, write_bytes, written_block}
 use Rattle.claxon_format.specs.Header.{Fields, Header, HeaderCode}
-use Rattle.claxon_format.specs.Laws.{IsTold}
+use Rattle.claxon_format.specs.Laws.{IsUnambiguous}
 use Rattle.claxon_format.specs.Reading.{Done}
 use Rattle.claxon_format.specs.Writer.{SubframePlan}
 use Rattle.claxon_input.specs.declared.error.Error.{Error}
 use Rattle.claxon_input.specs.Source.{Source}
 use Rattle.claxon_input.specs.State.{State, bytes_in}
-use Rattle.claxon_input.specs.Promises.{AnswersFound, Comes, EndPromises, EndsElseFrom, HasFailed, IsStarved, LeavesRest, NamesFault, NoneIsEnd, TakesFault, TakesFound, Took}
-use Rattle.claxon_input.specs.Gives.{Went, GivesOrEndsOrStarves}
+use Rattle.claxon_input.specs.Promises.{FoundIsComplete, Remains, EofPromises, ElseIoErrorFrom, HasFailed, IsOutOfMemory, LeavesRest, FaultIsComplete, NoneIsEof, FaultIsSound, FoundIsSound, Consumed}
+use Rattle.claxon_input.specs.Gives.{Consumes, GivesOrEofOrOutOfMemory}
 use Rattle.claxon_frame.specs.Block.{BlockValue, duration_of}
-use Rattle.claxon_frame.specs.FrameStart.{shape_view}
+use Rattle.claxon_frame.specs.FrameStart.{stream_format_view}
 use Rattle.claxon_frame.specs.declared.frame.FrameReader.{FrameReader}
 use Rattle.claxon_metadata.specs.declared.metadata.StreamInfo.{StreamInfo}
 
@@ -27,26 +27,26 @@ abbrev pub block_view : BlockValue → Block
 block_view b = record { time = b.time; channels = b.channels }
 
 -- a header was taken, and its block has more samples than so many
-pub record NoRoom (stream : Option StreamShape) (room : ℕ) (old new : State ℕ) : Type 0 where
+pub record BufferTooSmall (stream : Option StreamFormat) (room : ℕ) (old new : State ℕ) : Type 0 where
   pub start : Start
-  pub header : Went old new (λ s m. start_at stream s ≡ Done start m)
-  pub small : room < count_of start.channels * start.size
+  pub header : Consumes old new (λ s m. start_at stream s ≡ Done start m)
+  pub small : room < channel_count start.channels * start.size
 
 -- what a reader of frames knows of its stream
-abbrev pub frame_stream : {R : Type 0} → FrameReader R → Option StreamShape
-frame_stream reader = shape_view reader.stream
+abbrev pub frame_stream : {R : Type 0} → FrameReader R → Option StreamFormat
+frame_stream reader = stream_format_view reader.stream
 
 -- what frames need to know of a stream with this streaminfo
-abbrev pub stream_with : StreamInfo → StreamShape
-stream_with info = record { width = info.bits_per_sample; least_block = info.min_block_size; greatest_block = info.max_block_size }
+abbrev pub stream_with : StreamInfo → StreamFormat
+stream_with info = record { width = info.bits_per_sample; min_block_size = info.min_block_size; max_block_size = info.max_block_size }
 
 -- the bytes that it reads
 abbrev pub frame_bytes : {R : Type 0} → (R → Source ℕ) → FrameReader R → State ℕ
 frame_bytes source reader = bytes_in source (frame_input reader)
 
 -- bytes of a header alone, whose block has more samples than so many
-abbrev pub HeaderAlone : Option StreamShape → ℕ → List ℕ → Type 0
-HeaderAlone stream room t = (h : Header) × HeaderCode (known_width stream) h (bits_of t) × (room < count_of h.channels * h.size)
+abbrev pub HeaderOfMoreSamples : Option StreamFormat → ℕ → List ℕ → Type 0
+HeaderOfMoreSamples stream room t = (h : Header) × HeaderCode (known_width stream) h (bits_of t) × (room < channel_count h.channels * h.size)
 
 -- ---- what a call that reads the next frame promises
 
@@ -56,45 +56,45 @@ FrameAnswer = Result (Option BlockValue) Error
 
 -- The answer of a call that reads the next frame: a block whose frame alone was taken, the end where fewer than two bytes were
 -- left, an error that names the fault that stands there, an `IoError`, or want of memory behind a header.
-pub record ReadsFrame (stream : Option StreamShape) (r : FrameAnswer) (old new : State ℕ) : Type 0 where
-  pub promises : EndPromises 2 block_view r (Frame stream) (FrameBytesFault stream) old new
-  pub memory : IsStarved r → Took old new (HeaderAlone stream 0)
-  pub gives : GivesOrEndsOrStarves 2 block_view r (frame_bytes_at stream) old new
+pub record ReadsFrame (stream : Option StreamFormat) (r : FrameAnswer) (old new : State ℕ) : Type 0 where
+  pub promises : EofPromises 2 block_view r (Frame stream) (FrameBytesFault stream) old new
+  pub memory : IsOutOfMemory r → Consumed old new (HeaderOfMoreSamples stream 0)
+  pub gives : GivesOrEofOrOutOfMemory 2 block_view r (frame_bytes_at stream) old new
 
 -- The clauses of `read_next_or_eof`, a word each; `old` and `new` are the reader before and after the call.
 module _ {R : Type 0} (source : R → Source ℕ) (old : FrameReader R) (result : FrameAnswer) (new : FrameReader R) where
   -- What was taken is a frame of the block that is answered.
-  abbrev pub FrameWasTaken : Type 0
-  FrameWasTaken = TakesFound block_view result (Frame (frame_stream old)) (frame_bytes source old) (frame_bytes source new)
+  abbrev pub FrameIsSound : Type 0
+  FrameIsSound = FoundIsSound block_view result (Frame (frame_stream old)) (frame_bytes source old) (frame_bytes source new)
 
   -- Where a frame of any block stands, whatever follows, it is answered and alone taken, or memory or the source failed.
-  abbrev pub EachFrameIsAnswered : Type 0
-  EachFrameIsAnswered = AnswersFound block_view result (Frame (frame_stream old)) (frame_bytes source old) (frame_bytes source new)
+  abbrev pub FrameIsComplete : Type 0
+  FrameIsComplete = FoundIsComplete block_view result (Frame (frame_stream old)) (frame_bytes source old) (frame_bytes source new)
 
   -- None says that fewer than two bytes were left, which were taken.
-  abbrev pub NoneIsTheEnd : Type 0
-  NoneIsTheEnd = NoneIsEnd 2 result (frame_bytes source old) (frame_bytes source new)
+  abbrev pub FrameNoneIsEof : Type 0
+  FrameNoneIsEof = NoneIsEof 2 result (frame_bytes source old) (frame_bytes source new)
 
   -- Where fewer are left None is answered, or the source failed.
-  abbrev pub TheEndIsNone : Type 0
-  TheEndIsNone = (xs : List ℕ) → Comes (frame_bytes source old) xs → length xs < 2
-      → ((result ≡ Ok None) × Comes (frame_bytes source new) []) ⊎ HasFailed result (frame_bytes source old) (frame_bytes source new)
+  abbrev pub FrameEofIsNone : Type 0
+  FrameEofIsNone = (xs : List ℕ) → Remains (frame_bytes source old) xs → length xs < 2
+      → ((result ≡ Ok None) × Remains (frame_bytes source new) []) ⊎ HasFailed result (frame_bytes source old) (frame_bytes source new)
 
   -- An Err of a read is never answered by the end, nor by a block.
   abbrev pub FailureIsErr : Type 0
   FailureIsErr = IfOk result (λ found. (frame_bytes source new).errors ≡ (frame_bytes source old).errors)
 
   -- An Err that is neither want of memory nor an `IoError` names a fault that the bytes taken have.
-  abbrev pub FrameFaultWasTaken : Type 0
-  FrameFaultWasTaken = TakesFault result (FrameBytesFault (frame_stream old)) (frame_bytes source old) (frame_bytes source new)
+  abbrev pub FrameFaultIsSound : Type 0
+  FrameFaultIsSound = FaultIsSound result (FrameBytesFault (frame_stream old)) (frame_bytes source old) (frame_bytes source new)
 
   -- Where the bytes have a fault it is named, and they alone are taken, or memory or the source failed.
-  abbrev pub EachFrameFaultIsNamed : Type 0
-  EachFrameFaultIsNamed = NamesFault result (FrameBytesFault (frame_stream old)) (frame_bytes source old) (frame_bytes source new)
+  abbrev pub FrameFaultIsComplete : Type 0
+  FrameFaultIsComplete = FaultIsComplete result (FrameBytesFault (frame_stream old)) (frame_bytes source old) (frame_bytes source new)
 
   -- Where two bytes or more are left and neither stands, they end or 2^32 zeros run, which is an `IoError`, or memory is refused.
-  abbrev pub NoFrameIsIoError : Type 0
-  NoFrameIsIoError = EndsElseFrom 2 result (Frame (frame_stream old)) (FrameBytesFault (frame_stream old)) (frame_bytes source old) (frame_bytes source new)
+  abbrev pub FrameElseIoError : Type 0
+  FrameElseIoError = ElseIoErrorFrom 2 result (Frame (frame_stream old)) (FrameBytesFault (frame_stream old)) (frame_bytes source old) (frame_bytes source new)
 
   -- An Err leaves a rest of the bytes that were to come.
   abbrev pub FrameLeavesRest : Type 0
@@ -102,15 +102,15 @@ module _ {R : Type 0} (source : R → Source ℕ) (old : FrameReader R) (result 
 
   -- What was answered and taken is what the format's reader gives.
   abbrev pub FrameIsRead : Type 0
-  FrameIsRead = GivesOrEndsOrStarves 2 block_view result (frame_bytes_at (frame_stream old)) (frame_bytes source old) (frame_bytes source new)
+  FrameIsRead = GivesOrEofOrOutOfMemory 2 block_view result (frame_bytes_at (frame_stream old)) (frame_bytes source old) (frame_bytes source new)
 
 -- Memory is wanted only behind a header, which alone was taken, whose block has more samples than there is room for.
-abbrev pub StarvesBehindHeader : {R : Type 0} → (R → Source ℕ) → ℕ → FrameReader R → FrameAnswer → FrameReader R → Type 0
-StarvesBehindHeader source room old result new = IsStarved result → Took (frame_bytes source old) (frame_bytes source new) (HeaderAlone (frame_stream old) room)
+abbrev pub FrameOutOfMemoryAfterHeader : {R : Type 0} → (R → Source ℕ) → ℕ → FrameReader R → FrameAnswer → FrameReader R → Type 0
+FrameOutOfMemoryAfterHeader source room old result new = IsOutOfMemory result → Consumed (frame_bytes source old) (frame_bytes source new) (HeaderOfMoreSamples (frame_stream old) room)
 
 -- Room for eight channels of the longest block is always enough.
-abbrev pub StarvesForRoom : ℕ → FrameAnswer → Type 0
-StarvesForRoom room result = IsStarved result → room < 8 * 65535
+abbrev pub MaxCapacityIsEnough : ℕ → FrameAnswer → Type 0
+MaxCapacityIsEnough room result = IsOutOfMemory result → room < 8 * 65535
 
 -- A block that is answered has capacity for its samples, and for no fewer than the buffer had.
 abbrev pub BlockKeepsCapacity : ℕ → FrameAnswer → Type 0
@@ -121,18 +121,18 @@ abbrev pub BlockHasSamples : FrameAnswer → Type 0
 BlockHasSamples result = IfOk result (λ found. IfSome found (λ block. (1 ≤ length block.channels) × (1 ≤ duration_of block.channels)))
 
 -- No bytes begin with frames of two blocks or of two lengths, with a frame and a fault, or with two faults.
-abbrev pub FrameIsTold : Option StreamShape → Type 0
-FrameIsTold stream = IsTold (Frame stream) (FrameBytesFault stream)
+abbrev pub FrameIsUnambiguous : Option StreamFormat → Type 0
+FrameIsUnambiguous stream = IsUnambiguous (Frame stream) (FrameBytesFault stream)
 
 -- What a writer writes under any plan that suits is a frame of the block with just these channels.
-abbrev pub PlansWriteFrames : Option StreamShape → Type 0
+abbrev pub PlansWriteFrames : Option StreamFormat → Type 0
 PlansWriteFrames stream = (f : Fields) (header : HeaderPlan) (plans : List SubframePlan) (channels : List (List ℤ))
-    → SuitsFrame stream f header channels → SuitsEach f.size (planned_widths stream f) plans (mixed f.channels channels)
+    → SuitsFrame stream f header channels → SuitsEach f.size (planned_widths stream f) plans (decorrelated f.channels channels)
     → Frame stream (written_block stream f channels) (write_bytes stream f header plans channels)
 
 -- Whatever types, orders, coefficients, shifts and parameters suit, such bytes exist: under the quotients that are rounded
 -- down, any padding, and the CRCs that the definition computes.
-abbrev pub PlansHaveBytes : Option StreamShape → Type 0
+abbrev pub PlansHaveBytes : Option StreamFormat → Type 0
 PlansHaveBytes stream = (f : Fields) (header : HeaderPlan) (plans : List SubframePlan) (channels : List (List ℤ))
-    → SuitsFrame stream f header channels → SuitsEachShape f.size (planned_widths stream f) plans (mixed f.channels channels)
-    → Frame stream (written_block stream f channels) (write_bytes stream f header (plans_with_quotients f.size plans (mixed f.channels channels)) channels)
+    → SuitsFrame stream f header channels → SuitsEachShape f.size (planned_widths stream f) plans (decorrelated f.channels channels)
+    → Frame stream (written_block stream f channels) (write_bytes stream f header (plans_with_quotients f.size plans (decorrelated f.channels channels)) channels)

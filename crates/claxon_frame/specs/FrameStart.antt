@@ -1,10 +1,10 @@
 -- What the code keeps of a frame's header, in the readers' words (RFC 9639, section 9.1).
 use Rattle.std.specs.Prelude.{ℕ, Option, Some, None, Result}
-use Rattle.claxon_format.specs.Frame.{StreamShape}
+use Rattle.claxon_format.specs.Frame.{StreamFormat}
 use Rattle.claxon_format.specs.Header.{Fields}
 use Rattle.claxon_format.specs.read.Frame.{Start, start_at}
-use Rattle.claxon_format.specs.read.Header.{SizeSpelling, ByCode, InByte, InTwoBytes}
-use Rattle.claxon_input.specs.Gives.{GivesOrEnds}
+use Rattle.claxon_format.specs.read.Header.{SizeCoding, ByCode, InByte, InTwoBytes}
+use Rattle.claxon_input.specs.Gives.{GivesOrEof}
 use Rattle.claxon_input.specs.Source.{Source}
 use Rattle.claxon_input.specs.State.{bytes_in}
 use Rattle.claxon_input.specs.declared.error.Error.{Error}
@@ -14,11 +14,11 @@ use Rattle.claxon_frame.specs.declared.frame.header.parts.FrameHeader.{FrameHead
 use Rattle.claxon_frame.specs.declared.frame.header.parts.HeaderFields.{HeaderFields}
 use Rattle.claxon_frame.specs.declared.frame.header.parts.SampleRate.{SampleRate}
 use Rattle.claxon_frame.specs.declared.frame.header.parts.SampleRate.TheVariants.{Known as NoRate, Read8 as RateOf8, Read16 as RateOf16}
-use Rattle.claxon_frame.specs.declared.frame.header.parts.KnownStream.{KnownStream}
-use Rattle.claxon_frame.specs.FrameHeader.{channel_code, time_number, width_code}
+use Rattle.claxon_frame.specs.declared.frame.header.parts.KnownStreamFormat.{KnownStreamFormat}
+use Rattle.claxon_frame.specs.FrameHeader.{channel_code, block_time_view, bit_depth_code}
 
 -- how the size is spelled
-abbrev pub size_view : BlockSize → SizeSpelling
+abbrev pub size_view : BlockSize → SizeCoding
 size_view (KnownSize n) = ByCode n
 size_view SizeOf8 = InByte
 size_view SizeOf16 = InTwoBytes
@@ -32,11 +32,11 @@ rate_view RateOf16 = 2
 -- the fields of a header
 abbrev pub fields_view : HeaderFields → Fields
 fields_view h = record {
-  variable = (time_number h.block_time).0;
+  variable = (block_time_view h.block_time).0;
   size = h.block_size;
   channels = channel_code h.channel_assignment;
-  width_code = width_code h.bits_per_sample;
-  number = (time_number h.block_time).1;
+  bit_depth_code = bit_depth_code h.bits_per_sample;
+  number = (block_time_view h.block_time).1;
 }
 
 -- what the body of a frame needs of it
@@ -44,12 +44,12 @@ abbrev pub start_view : FrameHeader → Start
 start_view h = record { time = h.time; size = h.block_size; channels = channel_code h.channel_assignment; width = h.bits_per_sample }
 
 -- what is known of the stream
-abbrev pub shape_view : Option KnownStream → Option StreamShape
-shape_view None = None
-shape_view (Some shape) = Some record { width = shape.bits_per_sample; least_block = shape.min_block_size; greatest_block = shape.max_block_size }
+abbrev pub stream_format_view : Option KnownStreamFormat → Option StreamFormat
+stream_format_view None = None
+stream_format_view (Some format) = Some record { width = format.bits_per_sample; min_block_size = format.min_block_size; max_block_size = format.max_block_size }
 
 -- ---- what the call that reads a header promises
 
 -- What was answered and taken is what the format's reader gives, or the end where fewer than two bytes are left, which are taken.
-abbrev pub HeaderIsRead : {R : Type 0} → (R → Source ℕ) → Option StreamShape → R → Result (Option FrameHeader) Error → R → Type 0
-HeaderIsRead source stream old result new = GivesOrEnds 2 start_view result (start_at stream) (bytes_in source old) (bytes_in source new)
+abbrev pub FrameHeaderIsRead : {R : Type 0} → (R → Source ℕ) → Option StreamFormat → R → Result (Option FrameHeader) Error → R → Type 0
+FrameHeaderIsRead source stream old result new = GivesOrEof 2 start_view result (start_at stream) (bytes_in source old) (bytes_in source new)

@@ -2,4 +2,4 @@ pub mod FrameStart
 pub mod FrameReader
 pub mod FrameHeader
 pub mod Block
-pub mod Unmixing
+pub mod Decorrelation

@@ -1,18 +1,18 @@
 //! Frames: blocks of samples, one after another.
 ghost use Rattle.std.specs.Prelude.{◌≡◌, ◌+◌, ◌*◌, ◌<◌, ◌≤◌, true, IfOk, IfErr, Ok, Some, None, length, vec_len, vec_capacity};
-ghost use Rattle.claxon_frame.specs.FrameHeader.{channels_of, coded_widths};
+ghost use Rattle.claxon_frame.specs.FrameHeader.{channels_of, subframe_bit_depths};
 ghost use Rattle.claxon_format.specs.read.Frame.{block_from, coded_channels_at, subframes_at, frame_bytes_at};
 ghost use Rattle.claxon_frame.specs.Block.{chunks, duration_of};
-ghost use Rattle.claxon_input.specs.Error.{is_memory};
-ghost use Rattle.claxon_format.specs.Fault.{Fault, FrameGuard};
-ghost use Rattle.claxon_format.specs.read.Bytes.{expected_at};
-ghost use Rattle.claxon_input.specs.CheckedReader.{checked_source, checked_state};
-ghost use Rattle.claxon_input.specs.Remainders.{check16};
+ghost use Rattle.claxon_input.specs.Error.{is_out_of_memory};
+ghost use Rattle.claxon_format.specs.Fault.{Fault, FrameCrc};
+ghost use Rattle.claxon_format.specs.read.Bytes.{crc_at};
+ghost use Rattle.claxon_input.specs.CrcReader.{crc_source, crc_state};
+ghost use Rattle.claxon_input.specs.CrcUpdate.{update_crc16};
 ghost use Rattle.claxon_input.specs.State.{bytes_in, bits_in};
-ghost use Rattle.claxon_input.specs.Gives.{Gives, GivesOrStarves, Went, GivesOrEndsOrStarves};
-ghost use Rattle.claxon_input.specs.Promises.{IfStarved};
-ghost use Rattle.claxon_frame.specs.FrameStart.{shape_view, start_view};
-ghost use Rattle.claxon_frame.specs.FrameReader.{BlockHasSamples, BlockKeepsCapacity, NoRoom, block_view};
+ghost use Rattle.claxon_input.specs.Gives.{Gives, GivesOrOutOfMemory, Consumes, GivesOrEofOrOutOfMemory};
+ghost use Rattle.claxon_input.specs.Promises.{IfOutOfMemory};
+ghost use Rattle.claxon_frame.specs.FrameStart.{stream_format_view, start_view};
+ghost use Rattle.claxon_frame.specs.FrameReader.{BlockHasSamples, BlockKeepsCapacity, BufferTooSmall, block_view};
 
 mod block;
 mod header;
@@ -24,9 +24,9 @@ use claxon_input::error::{Error, Result};
 use claxon_input::input::{Bitstream, ReadBytes};
 use claxon_metadata::metadata::StreamInfo;
 use claxon_subframe::subframe;
-use header::{FrameHeader, KnownStream, read_frame_header_or_eof};
+use header::{FrameHeader, KnownStreamFormat, read_frame_header_or_eof};
 use std::alloc::{Allocator, Global};
-use stereo::unmix;
+use stereo::undo_decorrelation;
 
 /// Reads frames one after another.
 ///
@@ -35,14 +35,14 @@ use stereo::unmix;
 #[derive(Drop)]
 pub struct FrameReader<R> {
     input: R,
-    stream: Option<KnownStream>,
+    stream: Option<KnownStreamFormat>,
 }
 
 /// A block, None at the end of the input, or an error.
 pub type FrameResult<A = Global> = Result<Option<Block<A>>>;
 
 impl<R: ReadBytes> FrameReader<R> {
-    ghost use Rattle.claxon_frame.specs.FrameReader.{BlockHasSamples, BlockKeepsCapacity, EachFrameFaultIsNamed, EachFrameIsAnswered, FailureIsErr, FrameFaultWasTaken, FrameIsRead, FrameIsTold, FrameLeavesRest, FrameWasTaken, NoFrameIsIoError, NoneIsTheEnd, PlansHaveBytes, PlansWriteFrames, StarvesBehindHeader, StarvesForRoom, TheEndIsNone, frame_input, frame_stream, stream_with};
+    ghost use Rattle.claxon_frame.specs.FrameReader.{BlockHasSamples, BlockKeepsCapacity, FrameFaultIsComplete, FrameIsComplete, FailureIsErr, FrameFaultIsSound, FrameIsRead, FrameIsUnambiguous, FrameLeavesRest, FrameIsSound, FrameElseIoError, FrameNoneIsEof, PlansHaveBytes, PlansWriteFrames, FrameOutOfMemoryAfterHeader, MaxCapacityIsEnough, FrameEofIsNone, frame_input, frame_stream, stream_with};
 
     /// A reader that knows nothing of the stream: a header has to name the width of its samples.
     pub fn new(input: R) -> FrameReader<R>
@@ -64,7 +64,7 @@ impl<R: ReadBytes> FrameReader<R> {
     {
         FrameReader {
             input,
-            stream: Some(KnownStream {
+            stream: Some(KnownStreamFormat {
                 bits_per_sample: info.bits_per_sample,
                 min_block_size: info.min_block_size,
                 max_block_size: info.max_block_size,
@@ -94,20 +94,20 @@ impl<R: ReadBytes> FrameReader<R> {
     pub fn read_next_or_eof<A: Allocator>(&mut self, buffer: Vec<i32, A>) -> FrameResult<A>
         ensures stream { frame_stream self.new ≡ frame_stream self.old }
         ensures some { BlockHasSamples result }
-        ensures sound { FrameWasTaken R.source self.old result self.new }
-        ensures complete { EachFrameIsAnswered R.source self.old result self.new }
-        ensures one_reading { FrameIsTold (frame_stream self.old) }
+        ensures sound { FrameIsSound R.source self.old result self.new }
+        ensures complete { FrameIsComplete R.source self.old result self.new }
+        ensures one_reading { FrameIsUnambiguous (frame_stream self.old) }
         ensures lossless { PlansWriteFrames (frame_stream self.old) }
         ensures bytes_exist { PlansHaveBytes (frame_stream self.old) }
-        ensures at_end { NoneIsTheEnd R.source self.old result self.new }
-        ensures ended { TheEndIsNone R.source self.old result self.new }
+        ensures at_end { FrameNoneIsEof R.source self.old result self.new }
+        ensures ended { FrameEofIsNone R.source self.old result self.new }
         ensures no_failure { FailureIsErr R.source self.old result self.new }
-        ensures fault { FrameFaultWasTaken R.source self.old result self.new }
-        ensures named { EachFrameFaultIsNamed R.source self.old result self.new }
-        ensures io { NoFrameIsIoError R.source self.old result self.new }
+        ensures fault { FrameFaultIsSound R.source self.old result self.new }
+        ensures named { FrameFaultIsComplete R.source self.old result self.new }
+        ensures io { FrameElseIoError R.source self.old result self.new }
         ensures front { FrameLeavesRest R.source self.old result self.new }
-        ensures memory { StarvesBehindHeader R.source (vec_capacity buffer) self.old result self.new }
-        ensures room { StarvesForRoom (vec_capacity buffer) result }
+        ensures memory { FrameOutOfMemoryAfterHeader R.source (vec_capacity buffer) self.old result self.new }
+        ensures room { MaxCapacityIsEnough (vec_capacity buffer) result }
         ensures kept_capacity { BlockKeepsCapacity (vec_capacity buffer) result }
         ensures gives { FrameIsRead R.source self.old result self.new }
     {
@@ -127,14 +127,14 @@ impl<R: ReadBytes> FrameReader<R> {
 // two wrappers are made in one function the prover loses the shape of the inner one.
 fn read_next_or_eof_exact<R: ReadBytes, A: Allocator>(
     input: &mut R,
-    stream: Option<KnownStream>,
+    stream: Option<KnownStreamFormat>,
     buffer: Vec<i32, A>,
 ) -> FrameResult<A>
-    ensures gives { GivesOrEndsOrStarves 2 block_view result (frame_bytes_at (shape_view stream)) (bytes_in R.source input.old) (bytes_in R.source input.new) }
+    ensures gives { GivesOrEofOrOutOfMemory 2 block_view result (frame_bytes_at (stream_format_view stream)) (bytes_in R.source input.old) (bytes_in R.source input.new) }
     ensures some { BlockHasSamples result }
     ensures kept_capacity { BlockKeepsCapacity (vec_capacity buffer) result }
-    ensures no_room { IfStarved result (NoRoom (shape_view stream) (vec_capacity buffer) (bytes_in R.source input.old) (bytes_in R.source input.new)) }
-    ensures room { IfStarved result (vec_capacity buffer < 8 * 65535) }
+    ensures buffer_too_small { IfOutOfMemory result (BufferTooSmall (stream_format_view stream) (vec_capacity buffer) (bytes_in R.source input.old) (bytes_in R.source input.new)) }
+    ensures room { IfOutOfMemory result (vec_capacity buffer < 8 * 65535) }
 {
     let mut input = Crc16Reader::new(input);
     read_frame_or_eof(&mut input, stream, buffer)
@@ -143,15 +143,15 @@ fn read_next_or_eof_exact<R: ReadBytes, A: Allocator>(
 // Reads a frame through a remainder that begins with it.
 fn read_frame_or_eof<R: ReadBytes, A: Allocator>(
     input: &mut Crc16Reader<R>,
-    stream: Option<KnownStream>,
+    stream: Option<KnownStreamFormat>,
     buffer: Vec<i32, A>,
 ) -> FrameResult<A>
-    requires { checked_state input.old ≡ 0 }
-    ensures gives { GivesOrEndsOrStarves 2 block_view result (frame_bytes_at (shape_view stream)) (bytes_in (checked_source R.source check16) input.old) (bytes_in (checked_source R.source check16) input.new) }
+    requires { crc_state input.old ≡ 0 }
+    ensures gives { GivesOrEofOrOutOfMemory 2 block_view result (frame_bytes_at (stream_format_view stream)) (bytes_in (crc_source R.source update_crc16) input.old) (bytes_in (crc_source R.source update_crc16) input.new) }
     ensures some { BlockHasSamples result }
     ensures kept_capacity { BlockKeepsCapacity (vec_capacity buffer) result }
-    ensures no_room { IfStarved result (NoRoom (shape_view stream) (vec_capacity buffer) (bytes_in (checked_source R.source check16) input.old) (bytes_in (checked_source R.source check16) input.new)) }
-    ensures room { IfStarved result (vec_capacity buffer < 8 * 65535) }
+    ensures buffer_too_small { IfOutOfMemory result (BufferTooSmall (stream_format_view stream) (vec_capacity buffer) (bytes_in (crc_source R.source update_crc16) input.old) (bytes_in (crc_source R.source update_crc16) input.new)) }
+    ensures room { IfOutOfMemory result (vec_capacity buffer < 8 * 65535) }
 {
     let Some(header) = read_frame_header_or_eof(input, stream)? else {
         return Ok(None);
@@ -169,11 +169,11 @@ fn read_channels<R: ReadBytes, A: Allocator>(
 ) -> Result<Vec<i32, A>>
     ensures len { IfOk result (λ filled. vec_len filled ≡ channels_of header.now.channel_assignment * header.now.block_size) }
     ensures kept_capacity { IfOk result (λ filled. vec_capacity buffer ≤ vec_capacity filled) }
-    ensures gives { GivesOrStarves (λ filled. chunks (channels_of header.now.channel_assignment) header.now.block_size filled.items) result
-        (subframes_at header.now.block_size (coded_widths header.now.channel_assignment header.now.bits_per_sample)) (bytes_in R.source input.old) (bytes_in R.source input.new) }
-    ensures no_room { IfStarved result (vec_capacity buffer < channels_of header.now.channel_assignment * header.now.block_size) }
-    ensures room { IfStarved result (vec_capacity buffer < 8 * 65535) }
-    ensures none_taken { IfStarved result (Went (bytes_in R.source input.old) (bytes_in R.source input.new) (λ s m. s ≡ m)) }
+    ensures gives { GivesOrOutOfMemory (λ filled. chunks (channels_of header.now.channel_assignment) header.now.block_size filled.items) result
+        (subframes_at header.now.block_size (subframe_bit_depths header.now.channel_assignment header.now.bits_per_sample)) (bytes_in R.source input.old) (bytes_in R.source input.new) }
+    ensures buffer_too_small { IfOutOfMemory result (vec_capacity buffer < channels_of header.now.channel_assignment * header.now.block_size) }
+    ensures room { IfOutOfMemory result (vec_capacity buffer < 8 * 65535) }
+    ensures none_consumed { IfOutOfMemory result (Consumes (bytes_in R.source input.old) (bytes_in R.source input.new) (λ s m. s ≡ m)) }
 {
     let samples = usize::from(header.channel_assignment.channels())
         * usize::from(header.block_size);
@@ -191,7 +191,7 @@ fn to_block<A: Allocator>(header: FrameHeader, buffer: Vec<i32, A>) -> Block<A>
     ensures value { block_view result ≡ block_from (start_view header) (chunks (channels_of header.channel_assignment) header.block_size buffer.items) }
 {
     let mut buffer = buffer;
-    unmix(header.channel_assignment, buffer.as_mut_slice());
+    undo_decorrelation(header.channel_assignment, buffer.as_mut_slice());
     let channels = u32::from(header.channel_assignment.channels());
     Block::new(header.time, channels, u32::from(header.block_size), buffer)
 }
@@ -200,7 +200,7 @@ fn to_block<A: Allocator>(header: FrameHeader, buffer: Vec<i32, A>) -> Block<A>
 fn ensure_buffer_len<A: Allocator>(buffer: Vec<i32, A>, new_len: usize) -> Result<Vec<i32, A>>
     ensures len { IfOk result (λ filled. vec_len filled ≡ new_len) }
     ensures kept_capacity { IfOk result (λ filled. vec_capacity buffer ≤ vec_capacity filled) }
-    ensures refused { IfErr result (λ error. is_memory error ≡ true) }
+    ensures refused { IfErr result (λ error. is_out_of_memory error ≡ true) }
     ensures small { IfErr result (λ error. vec_capacity buffer < new_len) }
 {
     let mut buffer = buffer;
@@ -220,7 +220,7 @@ fn decode_subframes<R: ReadBytes>(
 ) -> Result<()>
     requires { length buffer.old ≡ channels_of header.now.channel_assignment * header.now.block_size }
     ensures { Gives (λ x. chunks (channels_of header.now.channel_assignment) header.now.block_size buffer.new) result
-        (subframes_at header.now.block_size (coded_widths header.now.channel_assignment header.now.bits_per_sample)) (bytes_in R.source input.old) (bytes_in R.source input.new) }
+        (subframes_at header.now.block_size (subframe_bit_depths header.now.channel_assignment header.now.bits_per_sample)) (bytes_in R.source input.old) (bytes_in R.source input.new) }
 {
     let mut bits = Bitstream::new(input);
     decode_channels(&mut bits, header, buffer)
@@ -235,7 +235,7 @@ fn decode_channels<R: ReadBytes>(
 ) -> Result<()>
     requires { length buffer.old ≡ channels_of header.now.channel_assignment * header.now.block_size }
     ensures { Gives (λ x. chunks (channels_of header.now.channel_assignment) header.now.block_size buffer.new) result
-        (coded_channels_at header.now.block_size (coded_widths header.now.channel_assignment header.now.bits_per_sample)) (bits_in R.source input.old) (bits_in R.source input.new) }
+        (coded_channels_at header.now.block_size (subframe_bit_depths header.now.channel_assignment header.now.bits_per_sample)) (bits_in R.source input.old) (bits_in R.source input.new) }
 {
     let assignment = header.channel_assignment;
     let size = usize::from(header.block_size);
@@ -249,10 +249,10 @@ fn decode_channels<R: ReadBytes>(
 }
 
 // The guard of all bytes of the frame.
-#[tactic(auto, using(claxon_input::proofs::ByteFields::first_number), unfolding(claxon_format::specs::read::Bytes::expected_at, claxon_format::specs::Fault::fault_text))]
+#[tactic(auto, using(claxon_input::proofs::ByteFields::first_number), unfolding(claxon_format::specs::read::Bytes::crc_at, claxon_format::specs::Fault::fault_text))]
 fn check_footer<R: ReadBytes>(input: &mut Crc16Reader<R>) -> Result<()>
-    ensures fits { checked_state input.old < 65536 }
-    ensures gives { Gives (λ x. tt) result (expected_at 2 (checked_state input.old) FrameGuard) (bytes_in (checked_source R.source check16) input.old) (bytes_in (checked_source R.source check16) input.new) }
+    ensures fits { crc_state input.old < 65536 }
+    ensures gives { Gives (λ x. tt) result (crc_at 2 (crc_state input.old) FrameCrc) (bytes_in (crc_source R.source update_crc16) input.old) (bytes_in (crc_source R.source update_crc16) input.new) }
 {
     let computed = input.crc();
     let stored = input.read_be_u16()?;

@@ -5,11 +5,11 @@ use Rattle.std.proofs.lemmas.Nat.{pow_pos, pow-add, shl-shr, shr-shr, shr_split,
 use Rattle.std.specs.Int.{leading_zeros, w64}
 use Rattle.claxon_format.specs.Bits.{Bits, bits, bits_of}
 use Rattle.claxon_format.proofs.Bytes.{bits_of-append, length-bits_of}
-use Rattle.claxon_format.proofs.Coded.{bits-add}
+use Rattle.claxon_format.proofs.CodedNumber.{bits-add}
 use Rattle.claxon_format.specs.Reading.{Done}
 use Rattle.claxon_format.specs.read.Bits.{number_at, unary_at}
 use Rattle.claxon_format.proofs.Numbers.{Reads-number, length-bits, mod_small}
-use Rattle.claxon_format.proofs.Words.{Reads-unary}
+use Rattle.claxon_format.proofs.RiceCodes.{Reads-unary}
 use Rattle.std.proofs.Math.Nat.{pow-le-pow_right}
 use Rattle.std.proofs.lemmas.Bool.{cases_lt}
 use Rattle.claxon_input.proofs.BitLists.{bits-join, bits-low}
@@ -111,9 +111,9 @@ one_in_cache x count h some lt fits =
     (λ (l : 64 - count ≤ j). omega (arith, e))
     (cases_lt j (64 - count))
 
-pub unary_on_top : (x count : ℕ) (m rest : Bits) → count ≤ 64 → 0 < x → x < 18446744073709551616 → x % 2 ^ (64 - count) ≡ 0
+pub unary_in_cache : (x count : ℕ) (m rest : Bits) → count ≤ 64 → 0 < x → x < 18446744073709551616 → x % 2 ^ (64 - count) ≡ 0
     → unary_at ((take count (bits 64 x) ++ m) ++ rest) ≡ Done (leading_zeros w64 x) (drop (leading_zeros w64 x + 1) (take count (bits 64 x) ++ m) ++ rest)
-unary_on_top x count m rest h some lt fits =
+unary_in_cache x count m rest h some lt fits =
     let one = highest x some lt in
     let within : leading_zeros w64 x < 64 = one.within in
     let split : (take count (bits 64 x) ++ m) ++ rest ≡ (replicate (leading_zeros w64 x) false ++ true ∷ []) ++ (drop (leading_zeros w64 x + 1) (take count (bits 64 x) ++ m) ++ rest)
@@ -132,9 +132,9 @@ number_lt x n h lt = let e : 64 ≡ n + (64 - n) = omega arith in rw (half_on x 
 pub number_fits : (x n : ℕ) → n ≤ 32 → x < 18446744073709551616 → x / 2 / 2 ^ (63 - n) < 4294967296
 number_fits x n h lt = small (x / 2 / 2 ^ (63 - n)) n (number_lt x n (omega arith) lt) h
 
-pub number_on_top : (x count n : ℕ) (m rest : Bits) → n ≤ 32 → n ≤ count → count ≤ 64 → x < 18446744073709551616
+pub number_in_cache : (x count n : ℕ) (m rest : Bits) → n ≤ 32 → n ≤ count → count ≤ 64 → x < 18446744073709551616
     → number_at n ((take count (bits 64 x) ++ m) ++ rest) ≡ Done (x / 2 / 2 ^ (63 - n)) (drop n (take count (bits 64 x) ++ m) ++ rest)
-number_on_top x count n m rest few h k lt =
+number_in_cache x count n m rest few h k lt =
     let top : take n (bits 64 x) ≡ bits n (x / 2 / 2 ^ (63 - n)) = top_bits x n (omega arith) ∙ ap (bits n) (sym (half_on x n (omega arith))) in
     let split : (take count (bits 64 x) ++ m) ++ rest ≡ bits n (x / 2 / 2 ^ (63 - n)) ++ (drop n (take count (bits 64 x) ++ m) ++ rest)
     = ap (λ (t : Bits). t ++ rest) (front_taken x count n m h k ∙ ap (λ (t : Bits). t ++ drop n (take count (bits 64 x) ++ m)) top) ∙ append_assoc (bits n (x / 2 / 2 ^ (63 - n))) (drop n (take count (bits 64 x) ++ m)) rest in
@@ -190,8 +190,8 @@ length_bytes j d h = length-bits_of (take j d) ∙ ap (λ (m : ℕ). 8 * m) (len
 bytes_front : (m j : ℕ) (d : List ℕ) → m ≤ 8 * j → j ≤ length d → take m (bits_of (take j d)) ≡ take m (bits_of d)
 bytes_front m j d h k = let len = length_bytes j d k in sym (ap (take m) (bytes_cut j d) ∙ take-append-le m (bits_of (take j d)) (bits_of (drop j d)) (omega arith))
 
-pub bytes_behind : (at m j : ℕ) (bytes : List ℕ) → m ≡ 8 * j → at + j ≤ length bytes → bits_of (drop (at + j) bytes) ≡ drop m (bits_of (drop at bytes))
-bytes_behind at m j bytes e h =
+pub bytes_after : (at m j : ℕ) (bytes : List ℕ) → m ≡ 8 * j → at + j ≤ length bytes → bits_of (drop (at + j) bytes) ≡ drop m (bits_of (drop at bytes))
+bytes_after at m j bytes e h =
     let k : j ≤ length (drop at bytes) = omega (arith, length-drop at bytes) in
     let len : length (bits_of (take j (drop at bytes))) ≡ m = length_bytes j (drop at bytes) k ∙ sym e in
     ap bits_of (sym (drop-drop j at bytes)) ∙ sym (ap (drop m) (bytes_cut j (drop at bytes)) ∙ drop_at (bits_of (take j (drop at bytes))) (bits_of (drop j (drop at bytes))) m len)
@@ -201,10 +201,10 @@ bytes_behind at m j bytes e h =
 one_byte : (bytes : List ℕ) (i n : ℕ) → i < length bytes → take (suc n) (drop i bytes) ≡ get_or bytes i 0 ∷ take n (drop (i + 1) bytes)
 one_byte bytes i n h = ap (take (suc n)) (drop_more bytes i 0 h)
 
-pub four_here : (bytes : List ℕ) (i n : ℕ) → i + 4 ≤ length bytes → ((k : ℕ) → get_or bytes k 0 < 256)
+pub bits_of_four : (bytes : List ℕ) (i n : ℕ) → i + 4 ≤ length bytes → ((k : ℕ) → get_or bytes k 0 < 256)
     → n ≡ ((get_or bytes i 0 * 256 + get_or bytes (i + 1) 0) * 256 + get_or bytes (i + 2) 0) * 256 + get_or bytes (i + 3) 0 → bits 32 n ≡ bits_of (take 4 (drop i bytes))
 unfolding bits_of
-four_here bytes i n h small e =
+bits_of_four bytes i n h small e =
     let p : i + 1 + 1 ≡ i + 2 = omega arith in
     let q : i + 2 + 1 ≡ i + 3 = omega arith in
     let part : take 4 (drop i bytes) ≡ get_or bytes i 0 ∷ get_or bytes (i + 1) 0 ∷ get_or bytes (i + 2) 0 ∷ get_or bytes (i + 3) 0 ∷ []
@@ -219,29 +219,29 @@ four_here bytes i n h small e =
     (simp (append_assoc, append-nil))
 
 -- eight are four and four
-pub eight_here : (bytes : List ℕ) (i n : ℕ) → i + 8 ≤ length bytes → ((k : ℕ) → get_or bytes k 0 < 256)
+pub bits_of_eight : (bytes : List ℕ) (i n : ℕ) → i + 8 ≤ length bytes → ((k : ℕ) → get_or bytes k 0 < 256)
     → n ≡ (((get_or bytes i 0 * 256 + get_or bytes (i + 1) 0) * 256 + get_or bytes (i + 2) 0) * 256 + get_or bytes (i + 3) 0) * 4294967296 + (((get_or bytes (i + 4) 0 * 256 + get_or bytes (i + 5) 0) * 256 + get_or bytes (i + 6) 0) * 256 + get_or bytes (i + 7) 0)
     → bits 64 n ≡ bits_of (take 8 (drop i bytes))
-eight_here bytes i n h small e =
+bits_of_eight bytes i n h small e =
     let p : i + 4 + 1 ≡ i + 5 = omega arith in
     let q : i + 4 + 2 ≡ i + 6 = omega arith in
     let r : i + 4 + 3 ≡ i + 7 = omega arith in
     let a : ℕ = ((get_or bytes i 0 * 256 + get_or bytes (i + 1) 0) * 256 + get_or bytes (i + 2) 0) * 256 + get_or bytes (i + 3) 0 in
     let b : ℕ = ((get_or bytes (i + 4) 0 * 256 + get_or bytes (i + 5) 0) * 256 + get_or bytes (i + 6) 0) * 256 + get_or bytes (i + 7) 0 in
     let lt : ((get_or bytes (i + 4) 0 * 256 + get_or bytes (i + 5) 0) * 256 + get_or bytes (i + 6) 0) * 256 + get_or bytes (i + 7) 0 < 4294967296 = omega (arith, small (i + 4), small (i + 5), small (i + 6), small (i + 7)) in
-    let first : bits 32 a ≡ bits_of (take 4 (drop i bytes)) = four_here bytes i a (omega arith) small refl in
-    let second : bits 32 b ≡ bits_of (take 4 (drop (i + 4) bytes)) = four_here bytes (i + 4) b (omega arith) small (rw (p, q, r) refl) in
+    let first : bits 32 a ≡ bits_of (take 4 (drop i bytes)) = bits_of_four bytes i a (omega arith) small refl in
+    let second : bits 32 b ≡ bits_of (take 4 (drop (i + 4) bytes)) = bits_of_four bytes (i + 4) b (omega arith) small (rw (p, q, r) refl) in
     let parts : take 8 (drop i bytes) ≡ take 4 (drop i bytes) ++ take 4 (drop (i + 4) bytes) = take-add 4 4 (drop i bytes) ∙ ap (λ (t : List ℕ). take 4 (drop i bytes) ++ take 4 t) (drop-drop 4 i bytes) in
     ap (bits 64) e ∙ bits-join a b 32 32 lt ∙ ap₂ (λ (s t : Bits). s ++ t) first second ∙ sym (bits_of-append (take 4 (drop i bytes)) (take 4 (drop (i + 4) bytes))) ∙ ap bits_of (sym parts)
 
 -- the first bits of a number of four bytes, put on top; of one of eight
-pub four_read : (n : ℕ) (d : List ℕ) → n < 4294967296 → 4 ≤ length d → bits 32 n ≡ bits_of (take 4 d) → take 32 (bits 64 (n * 4294967296 % 18446744073709551616)) ≡ take 32 (bits_of d)
-four_read n d lt h e =
+pub top_of_four : (n : ℕ) (d : List ℕ) → n < 4294967296 → 4 ≤ length d → bits 32 n ≡ bits_of (take 4 d) → take 32 (bits 64 (n * 4294967296 % 18446744073709551616)) ≡ take 32 (bits_of d)
+top_of_four n d lt h e =
     let back : n * 4294967296 % 18446744073709551616 / 4294967296 ≡ n = omega arith in
     top_bits (n * 4294967296 % 18446744073709551616) 32 (omega arith) ∙ ap (bits 32) back ∙ sym (take_all 32 (bits 32 n) (omega (arith, length-bits 32 n))) ∙ ap (take 32) e ∙ bytes_front 32 4 d (omega arith) h
 
-pub eight_read : (n m : ℕ) (d : List ℕ) → m ≤ 64 → 8 ≤ length d → bits 64 n ≡ bits_of (take 8 d) → take m (bits 64 n) ≡ take m (bits_of d)
-eight_read n m d k h e = ap (take m) e ∙ bytes_front m 8 d k h
+pub top_of_eight : (n m : ℕ) (d : List ℕ) → m ≤ 64 → 8 ≤ length d → bits 64 n ≡ bits_of (take 8 d) → take m (bits 64 n) ≡ take m (bits_of d)
+top_of_eight n m d k h e = ap (take m) e ∙ bytes_front m 8 d k h
 
 -- ---- a window of 64 bits, the last ones of which aren't kept in the cache
 
@@ -257,20 +257,20 @@ low_zeroed w s h =
     )
 
 -- the cache and eight bytes have the next 64 bits
-pub window_next : (x count y at : ℕ) (bytes : List ℕ) → count < 64 → x % 2 ^ (64 - count) ≡ 0 → y < 18446744073709551616 → at + 8 ≤ length bytes → bits 64 y ≡ bits_of (take 8 (drop at bytes))
+pub peek_next : (x count y at : ℕ) (bytes : List ℕ) → count < 64 → x % 2 ^ (64 - count) ≡ 0 → y < 18446744073709551616 → at + 8 ≤ length bytes → bits 64 y ≡ bits_of (take 8 (drop at bytes))
     → take count (bits 64 x) ++ bits_of (drop at bytes) ≡ bits 64 (bit_or x (y / 2 ^ count)) ++ drop (64 - count) (bits_of (drop at bytes))
-window_next x count y at bytes lt fits small h e =
+peek_next x count y at bytes lt fits small h e =
     let some : 8 ≤ length (drop at bytes) = omega (arith, length-drop at bytes) in
     let all : count + (64 - count) ≡ 64 = omega arith in
     let more = more_in_cache x count (bit_or x (y / 2 ^ count)) (64 - count) (bits 64 y) (bits_of (drop at bytes)) (drop (64 - count) (bits_of (drop at bytes)))
-    (put_below x count y (64 - count) (omega arith) (omega arith) fits small) (eight_read y (64 - count) (drop at bytes) (omega arith) some e) refl in
+    (put_below x count y (64 - count) (omega arith) (omega arith) fits small) (top_of_eight y (64 - count) (drop at bytes) (omega arith) some e) refl in
     sym more ∙ ap (λ (j : ℕ). take j (bits 64 (bit_or x (y / 2 ^ count))) ++ drop (64 - count) (bits_of (drop at bytes))) all
     ∙ ap (λ (t : Bits). t ++ drop (64 - count) (bits_of (drop at bytes))) (take_all 64 (bits 64 (bit_or x (y / 2 ^ count))) (omega (arith, length-bits 64 (bit_or x (y / 2 ^ count)))))
 
 -- whole bytes are kept of it
-pub window_kept : (x count y at w : ℕ) (bytes : List ℕ) → count < 64 → x % 2 ^ (64 - count) ≡ 0 → y < 18446744073709551616 → at + 8 ≤ length bytes → bits 64 y ≡ bits_of (take 8 (drop at bytes)) → w ≡ bit_or x (y / 2 ^ count)
+pub peek_kept : (x count y at w : ℕ) (bytes : List ℕ) → count < 64 → x % 2 ^ (64 - count) ≡ 0 → y < 18446744073709551616 → at + 8 ≤ length bytes → bits 64 y ≡ bits_of (take 8 (drop at bytes)) → w ≡ bit_or x (y / 2 ^ count)
     → take (56 + count % 8) (bits 64 (w - bit_and w (1 * 2 ^ (8 - count % 8) % 18446744073709551616 - 1))) ++ bits_of (drop (at + (56 - (count - count % 8)) / 8) bytes) ≡ take count (bits 64 x) ++ bits_of (drop at bytes)
-window_kept x count y at w bytes lt fits small h e is =
+peek_kept x count y at w bytes lt fits small h e is =
     let some : 8 ≤ length (drop at bytes) = omega (arith, length-drop at bytes) in
     let kept : 64 - (8 - count % 8) ≡ 56 + count % 8 = omega arith in
     let sum : 56 + count % 8 ≡ count + (56 - (count - count % 8)) = omega arith in
@@ -280,11 +280,11 @@ window_kept x count y at w bytes lt fits small h e is =
     ap (λ (t : Bits). t ++ bits_of (drop (at + (56 - (count - count % 8)) / 8) bytes)) one
     ∙ more_in_cache x count (bit_or x (y / 2 ^ count)) (56 - (count - count % 8)) (bits 64 y) (bits_of (drop at bytes)) (bits_of (drop (at + (56 - (count - count % 8)) / 8) bytes))
     (put_below x count y (56 - (count - count % 8)) (omega arith) (omega arith) fits small)
-    (eight_read y (56 - (count - count % 8)) (drop at bytes) (omega arith) some e)
-    (bytes_behind at (56 - (count - count % 8)) ((56 - (count - count % 8)) / 8) bytes (omega arith) (omega arith))
+    (top_of_eight y (56 - (count - count % 8)) (drop at bytes) (omega arith) some e)
+    (bytes_after at (56 - (count - count % 8)) ((56 - (count - count % 8)) / 8) bytes (omega arith) (omega arith))
 
-pub window_fits : (w count : ℕ) → (w - bit_and w (1 * 2 ^ (8 - count % 8) % 18446744073709551616 - 1)) % 2 ^ (64 - (56 + count % 8)) ≡ 0
-window_fits w count =
+pub peek_fits : (w count : ℕ) → (w - bit_and w (1 * 2 ^ (8 - count % 8) % 18446744073709551616 - 1)) % 2 ^ (64 - (56 + count % 8)) ≡ 0
+peek_fits w count =
     let kept : 8 - count % 8 ≡ 64 - (56 + count % 8) = omega arith in
     subst (λ (j : ℕ). (w - bit_and w (1 * 2 ^ (8 - count % 8) % 18446744073709551616 - 1)) % 2 ^ j ≡ 0) kept (low_zeroed w (8 - count % 8) (omega arith)).1
 

@@ -3,75 +3,75 @@ use Rattle.std.proofs.Common.{◌≡◌, ◌⊎◌, inl, inr, Bool, true, false,
 use Rattle.std.specs.Prelude.{Result, Ok, Err}
 use Rattle.std.specs.declared.io.Error as io
 use Rattle.claxon_format.specs.Fault.{Fault}
-use Rattle.claxon_format.specs.Reading.{Reading, Done, Faulty, Short}
+use Rattle.claxon_format.specs.Reading.{Reading, Done, Faulty, Incomplete}
 use Rattle.claxon_input.specs.declared.error.Error.{Error}
 use Rattle.claxon_input.specs.declared.error.Error.TheVariants.{IoError, FormatError, Unsupported, OutOfMemory}
 use Rattle.claxon_input.specs.State.{State}
-use Rattle.claxon_input.specs.Gives.{Went, Stuck, FailedIn, IsFaultOf, Stops, Gives, Starved, GivesOrStarves}
+use Rattle.claxon_input.specs.Gives.{Consumes, FailureOr, FailedIn, IsFaultOf, Stops, Gives, OutOfMemoryLeavesRest, GivesOrOutOfMemory}
 use Rattle.claxon_input.specs.Error.{is_io}
 
 -- nothing was done
-pub went_none : {X : Type 0} (a : State X) (P : List X → List X → Type 0) → P a.coming a.coming → Went a a P
-went_none a P h = record { errors = refl; empties = refl; loans = refl; known = λ t. record { told = t; is = h; rest = λ z k. k; checks = refl } }
+pub consumes_none : {X : Type 0} (a : State X) (P : List X → List X → Type 0) → P a.remaining a.remaining → Consumes a a P
+consumes_none a P h = record { errors = refl; empty_reads = refl; loans = refl; known = λ t. record { known = t; is = h; rest = λ z k. k; crcs = refl } }
 
 -- one after another
-pub went_both : {X : Type 0} {a b c : State X} {P Q : List X → List X → Type 0} (T : List X → List X → Type 0) → Went a b P → Went b c Q → (P a.coming b.coming → Q b.coming c.coming → T a.coming c.coming) → Went a c T
-went_both T h k f = record {
+pub consumes_then : {X : Type 0} {a b c : State X} {P Q : List X → List X → Type 0} (T : List X → List X → Type 0) → Consumes a b P → Consumes b c Q → (P a.remaining b.remaining → Q b.remaining c.remaining → T a.remaining c.remaining) → Consumes a c T
+consumes_then T h k f = record {
   errors = k.errors ∙ h.errors;
-  empties = k.empties ∙ h.empties;
+  empty_reads = k.empty_reads ∙ h.empty_reads;
   loans = k.loans ∙ h.loans;
-  known = λ t. let x = h.known t in let y = k.known x.told in record { told = y.told; is = f x.is y.is; rest = λ z e. y.rest z (x.rest z e); checks = y.checks ∙ x.checks };
+  known = λ t. let x = h.known t in let y = k.known x.known in record { known = y.known; is = f x.is y.is; rest = λ z e. y.rest z (x.rest z e); crcs = y.crcs ∙ x.crcs };
 }
 
-pub went_map : {X : Type 0} {a b : State X} {P : List X → List X → Type 0} (T : List X → List X → Type 0) → Went a b P → (P a.coming b.coming → T a.coming b.coming) → Went a b T
-went_map T h f = record { errors = h.errors; empties = h.empties; loans = h.loans; known = λ t. let x = h.known t in record { told = x.told; is = f x.is; rest = x.rest; checks = x.checks } }
+pub consumes_map : {X : Type 0} {a b : State X} {P : List X → List X → Type 0} (T : List X → List X → Type 0) → Consumes a b P → (P a.remaining b.remaining → T a.remaining b.remaining) → Consumes a b T
+consumes_map T h f = record { errors = h.errors; empty_reads = h.empty_reads; loans = h.loans; known = λ t. let x = h.known t in record { known = x.known; is = f x.is; rest = x.rest; crcs = x.crcs } }
 
 -- the same, where what is to come is known
-pub went_told : {X : Type 0} {a b : State X} {P : List X → List X → Type 0} (T : List X → List X → Type 0) → Went a b P → (a.told ≡ true → P a.coming b.coming → T a.coming b.coming) → Went a b T
-went_told T h f = record { errors = h.errors; empties = h.empties; loans = h.loans; known = λ t. let x = h.known t in record { told = x.told; is = f t x.is; rest = x.rest; checks = x.checks } }
+pub consumes_known : {X : Type 0} {a b : State X} {P : List X → List X → Type 0} (T : List X → List X → Type 0) → Consumes a b P → (a.known ≡ true → P a.remaining b.remaining → T a.remaining b.remaining) → Consumes a b T
+consumes_known T h f = record { errors = h.errors; empty_reads = h.empty_reads; loans = h.loans; known = λ t. let x = h.known t in record { known = x.known; is = f t x.is; rest = x.rest; crcs = x.crcs } }
 
-pub stuck_told : {X : Type 0} {a b : State X} {Q : List X → Type 0} (T : List X → Type 0) → Stuck a b Q → (a.told ≡ true → Q a.coming → T a.coming) → Stuck a b T
-stuck_told T h f = record { loans = h.loans; known = λ t. let x = h.known t in record { told = x.told; why = elim x.why [ inl q ↦ inl (f t q) | inr q ↦ inr q ]; rest = x.rest } }
+pub failure_or_known : {X : Type 0} {a b : State X} {Q : List X → Type 0} (T : List X → Type 0) → FailureOr a b Q → (a.known ≡ true → Q a.remaining → T a.remaining) → FailureOr a b T
+failure_or_known T h f = record { loans = h.loans; known = λ t. let x = h.known t in record { known = x.known; why = elim x.why [ inl q ↦ inl (f t q) | inr q ↦ inr q ]; rest = x.rest } }
 
-failed_later : {X : Type 0} {a b : State X} (c : State X) {P : List X → List X → Type 0} → Went a b P → FailedIn b c → FailedIn a c
+failed_later : {X : Type 0} {a b : State X} (c : State X) {P : List X → List X → Type 0} → Consumes a b P → FailedIn b c → FailedIn a c
 failed_later c h (inl e) = inl (λ p. e (p ∙ sym h.errors))
-failed_later c h (inr e) = inr ((λ p. e.0 (p ∙ sym h.empties)), e.1)
+failed_later c h (inr e) = inr ((λ p. e.0 (p ∙ sym h.empty_reads)), e.1)
 
 -- stuck after something was done
-pub stuck_after : {X : Type 0} {a b c : State X} {P : List X → List X → Type 0} {Q : List X → Type 0} (T : List X → Type 0) → Went a b P → Stuck b c Q → (P a.coming b.coming → Q b.coming → T a.coming) → Stuck a c T
-stuck_after {c = c} T h k f = record {
+pub failure_or_after : {X : Type 0} {a b c : State X} {P : List X → List X → Type 0} {Q : List X → Type 0} (T : List X → Type 0) → Consumes a b P → FailureOr b c Q → (P a.remaining b.remaining → Q b.remaining → T a.remaining) → FailureOr a c T
+failure_or_after {c = c} T h k f = record {
   loans = k.loans ∙ h.loans;
-  known = λ t. let x = h.known t in let y = k.known x.told in record { told = y.told; why = elim y.why [ inl q ↦ inl (f x.is q) | inr q ↦ inr (failed_later c h q) ]; rest = λ z e. y.rest z (x.rest z e) };
+  known = λ t. let x = h.known t in let y = k.known x.known in record { known = y.known; why = elim y.why [ inl q ↦ inl (f x.is q) | inr q ↦ inr (failed_later c h q) ]; rest = λ z e. y.rest z (x.rest z e) };
 }
 
 -- where the first reader stops, so does the second
 pub record StopsWith {X Y Z : Type 0} (first : List X → Reading X Y) (second : List X → Reading X Z) : Type 0 where
   pub fault : (s : List X) (f : Fault) (rest : List X) → first s ≡ Faulty f rest → second s ≡ Faulty f rest
-  pub short : (s : List X) → first s ≡ Short → second s ≡ Short
+  pub short : (s : List X) → first s ≡ Incomplete → second s ≡ Incomplete
 
 fault_of : {X Y Z : Type 0} (e : Error) (x : Reading X Y) (y : Reading X Z) (m : List X) → ((f : Fault) (rest : List X) → x ≡ Faulty f rest → y ≡ Faulty f rest) → IsFaultOf e x m → IsFaultOf e y m
 fault_of e (Faulty f rest) y m g h = rw (g f rest refl) h
 fault_of e (Done x rest) y m g h = absurd h
-fault_of e Short y m g h = absurd h
+fault_of e Incomplete y m g h = absurd h
 
 -- an Err after something was done
-pub stops_after : {X Y Z : Type 0} {e : Error} {a b c : State X} {read : List X → Reading X Y} {next whole : List X → Reading X Z} → Went a b (λ s m. whole s ≡ next m) → StopsWith read next → Stops e read b c → Stops e whole a c
+pub stops_after : {X Y Z : Type 0} {e : Error} {a b c : State X} {read : List X → Reading X Y} {next whole : List X → Reading X Z} → Consumes a b (λ s m. whole s ≡ next m) → StopsWith read next → Stops e read b c → Stops e whole a c
 stops_after {e = e} {b = b} {c = c} {read = read} {next = next} {whole = whole} h w k = record {
-  stuck = λ i. stuck_after (λ s. whole s ≡ Short) h (k.stuck i) (λ p q. p ∙ w.short b.coming q);
-  fault = λ i. went_both (λ s m. IsFaultOf e (whole s) m) h (k.fault i) (λ p q. rw p (fault_of e (read b.coming) (next b.coming) c.coming (w.fault b.coming) q));
+  failure = λ i. failure_or_after (λ s. whole s ≡ Incomplete) h (k.failure i) (λ p q. p ∙ w.short b.remaining q);
+  fault = λ i. consumes_then (λ s m. IsFaultOf e (whole s) m) h (k.fault i) (λ p q. rw p (fault_of e (read b.remaining) (next b.remaining) c.remaining (w.fault b.remaining) q));
   named = k.named;
 }
 
 -- the call that the function ends with
-pub gives_after : {X A Y : Type 0} (view : A → Y) {next whole : List X → Reading X Y} {a b : State X} (r : Result A Error) (c : State X) → Went a b (λ s m. whole s ≡ next m) → Gives view r next b c → Gives view r whole a c
-gives_after view (Ok x) c h k = went_both _ h k (λ p q. p ∙ q)
+pub gives_after : {X A Y : Type 0} (view : A → Y) {next whole : List X → Reading X Y} {a b : State X} (r : Result A Error) (c : State X) → Consumes a b (λ s m. whole s ≡ next m) → Gives view r next b c → Gives view r whole a c
+gives_after view (Ok x) c h k = consumes_then _ h k (λ p q. p ∙ q)
 gives_after view (Err e) c h k = stops_after h (record { fault = λ s f rest q. q; short = λ s q. q }) k
 
 -- ---- exits
 
 -- by a `?` on a call of the stream
-pub io_exit : {X A Y : Type 0} (view : A → Y) {r : Result A Error} {read : List X → Reading X Y} {a c : State X} {cause : io.Error} → (y : Error) × (r ≡ Err y) × (y ≡ IoError cause) → Stuck a c (λ s. read s ≡ Short) → Gives view r read a c
-io_exit view p h = rw (p.1, p.2) (record { stuck = λ i. h; fault = λ i. absurd cc; named = refl })
+pub io_exit : {X A Y : Type 0} (view : A → Y) {r : Result A Error} {read : List X → Reading X Y} {a c : State X} {cause : io.Error} → (y : Error) × (r ≡ Err y) × (y ≡ IoError cause) → FailureOr a c (λ s. read s ≡ Incomplete) → Gives view r read a c
+io_exit view p h = rw (p.1, p.2) (record { failure = λ i. h; fault = λ i. absurd cc; named = refl })
 
 -- by a `?` on a call that gives what reading gives
 pub exit : {X A Y : Type 0} (view : A → Y) {read : List X → Reading X Y} {a c : State X} {r : Result A Error} {e : Error} → (y : Error) × (r ≡ Err y) × (y ≡ e) → Stops e read a c → Gives view r read a c
@@ -79,7 +79,7 @@ exit view p h = rw (p.1, p.2) h
 
 -- the loans on the way are kept
 pub stops_loans : {X Y : Type 0} (e : Error) (read : List X → Reading X Y) (a b : State X) (io : Bool) → is_io e ≡ io → Stops e read a b → b.loans ≡ a.loans
-stops_loans e read a b true i k = (k.stuck i).loans
+stops_loans e read a b true i k = (k.failure i).loans
 stops_loans e read a b false i k = (k.fault i).loans
 
 pub gives_loans : {X A Y : Type 0} (view : A → Y) (r : Result A Error) (read : List X → Reading X Y) (a b : State X) → Gives view r read a b → b.loans ≡ a.loans
@@ -88,48 +88,48 @@ gives_loans view (Err e) read a b g = stops_loans e read a b (is_io e) refl g
 
 -- the same under another reader
 pub gives_same : {X A Y : Type 0} (view : A → Y) (r : Result A Error) (read whole : List X → Reading X Y) (a b : State X) → ((s : List X) → whole s ≡ read s) → Gives view r read a b → Gives view r whole a b
-gives_same view (Ok x) read whole a b h g = went_map _ g (λ p. h _ ∙ p)
-gives_same view (Err e) read whole a b h g = stops_after (went_none a (λ s m. whole s ≡ whole m) refl) (record { fault = λ s f rest p. h s ∙ p; short = λ s p. h s ∙ p }) g
+gives_same view (Ok x) read whole a b h g = consumes_map _ g (λ p. h _ ∙ p)
+gives_same view (Err e) read whole a b h g = stops_after (consumes_none a (λ s m. whole s ≡ whole m) refl) (record { fault = λ s f rest p. h s ∙ p; short = λ s p. h s ∙ p }) g
 
 -- where x stops, so does y
 pub record StopsAs {X Y Z : Type 0} (x : Reading X Y) (y : Reading X Z) : Type 0 where
   pub fault : (f : Fault) (rest : List X) → x ≡ Faulty f rest → y ≡ Faulty f rest
-  pub short : x ≡ Short → y ≡ Short
+  pub short : x ≡ Incomplete → y ≡ Incomplete
 
 -- an Err of the last call is the Err of the whole
-pub stops_as : {X Y Z : Type 0} {e : Error} {read : List X → Reading X Y} {whole : List X → Reading X Z} {a b c : State X} → Went a b (λ s m. StopsAs (read m) (whole s)) → Stops e read b c → Stops e whole a c
+pub stops_as : {X Y Z : Type 0} {e : Error} {read : List X → Reading X Y} {whole : List X → Reading X Z} {a b c : State X} → Consumes a b (λ s m. StopsAs (read m) (whole s)) → Stops e read b c → Stops e whole a c
 stops_as {e = e} {read = read} {whole = whole} {a = a} {b = b} {c = c} h k = record {
-  stuck = λ i. stuck_after (λ s. whole s ≡ Short) h (k.stuck i) (λ p q. p.short q);
-  fault = λ i. went_both (λ s m. IsFaultOf e (whole s) m) h (k.fault i) (λ p q. fault_of e (read b.coming) (whole a.coming) c.coming p.fault q);
+  failure = λ i. failure_or_after (λ s. whole s ≡ Incomplete) h (k.failure i) (λ p q. p.short q);
+  fault = λ i. consumes_then (λ s m. IsFaultOf e (whole s) m) h (k.fault i) (λ p q. fault_of e (read b.remaining) (whole a.remaining) c.remaining p.fault q);
   named = k.named;
 }
 
 -- ---- calls that take memory
 
 -- want of memory after something was done
-pub starved_after : {X : Type 0} {a b c : State X} {P : List X → List X → Type 0} → Went a b P → Starved b c → Starved a c
-starved_after h k = record { went = went_both _ h k.went (λ p q. tt) }
+pub out_of_memory_later : {X : Type 0} {a b c : State X} {P : List X → List X → Type 0} → Consumes a b P → OutOfMemoryLeavesRest b c → OutOfMemoryLeavesRest a c
+out_of_memory_later h k = record { consumed = consumes_then _ h k.consumed (λ p q. tt) }
 
 -- a call that takes no memory is never refused any
-pub starves_never : {X A Y : Type 0} (view : A → Y) (r : Result A Error) (read : List X → Reading X Y) (a b : State X) → Gives view r read a b → GivesOrStarves view r read a b
-starves_never view (Ok x) read a b h = h
-starves_never view (Err (IoError cause)) read a b h = h
-starves_never view (Err (FormatError text)) read a b h = h
-starves_never view (Err (Unsupported text)) read a b h = h
-starves_never view (Err OutOfMemory) read a b h = let k = h.named in absurd cc
+pub gives_never_out_of_memory : {X A Y : Type 0} (view : A → Y) (r : Result A Error) (read : List X → Reading X Y) (a b : State X) → Gives view r read a b → GivesOrOutOfMemory view r read a b
+gives_never_out_of_memory view (Ok x) read a b h = h
+gives_never_out_of_memory view (Err (IoError cause)) read a b h = h
+gives_never_out_of_memory view (Err (FormatError text)) read a b h = h
+gives_never_out_of_memory view (Err (Unsupported text)) read a b h = h
+gives_never_out_of_memory view (Err OutOfMemory) read a b h = let k = h.named in absurd cc
 
 -- want of memory, or what a call gives that takes none
-pub fed : {X A Y : Type 0} (view : A → Y) (r : Result A Error) (read : List X → Reading X Y) (a b : State X) → GivesOrStarves view r read a b → ((r ≡ Err OutOfMemory) × Starved a b) ⊎ Gives view r read a b
-fed view (Ok x) read a b h = inr h
-fed view (Err (IoError cause)) read a b h = inr h
-fed view (Err (FormatError text)) read a b h = inr h
-fed view (Err (Unsupported text)) read a b h = inr h
-fed view (Err OutOfMemory) read a b h = inl (refl, h)
+pub out_of_memory_or_gives : {X A Y : Type 0} (view : A → Y) (r : Result A Error) (read : List X → Reading X Y) (a b : State X) → GivesOrOutOfMemory view r read a b → ((r ≡ Err OutOfMemory) × OutOfMemoryLeavesRest a b) ⊎ Gives view r read a b
+out_of_memory_or_gives view (Ok x) read a b h = inr h
+out_of_memory_or_gives view (Err (IoError cause)) read a b h = inr h
+out_of_memory_or_gives view (Err (FormatError text)) read a b h = inr h
+out_of_memory_or_gives view (Err (Unsupported text)) read a b h = inr h
+out_of_memory_or_gives view (Err OutOfMemory) read a b h = inl (refl, h)
 
 -- the call that such a function ends with
-pub starves_after : {X A Y : Type 0} (view : A → Y) {next whole : List X → Reading X Y} {a b : State X} (r : Result A Error) (c : State X) → Went a b (λ s m. whole s ≡ next m) → GivesOrStarves view r next b c → GivesOrStarves view r whole a c
-starves_after view (Err OutOfMemory) c h k = starved_after h k
-starves_after view (Ok x) c h k = gives_after view (Ok x) c h k
-starves_after view (Err (IoError cause)) c h k = gives_after view (Err (IoError cause)) c h k
-starves_after view (Err (FormatError text)) c h k = gives_after view (Err (FormatError text)) c h k
-starves_after view (Err (Unsupported text)) c h k = gives_after view (Err (Unsupported text)) c h k
+pub gives_or_out_of_memory_after : {X A Y : Type 0} (view : A → Y) {next whole : List X → Reading X Y} {a b : State X} (r : Result A Error) (c : State X) → Consumes a b (λ s m. whole s ≡ next m) → GivesOrOutOfMemory view r next b c → GivesOrOutOfMemory view r whole a c
+gives_or_out_of_memory_after view (Err OutOfMemory) c h k = out_of_memory_later h k
+gives_or_out_of_memory_after view (Ok x) c h k = gives_after view (Ok x) c h k
+gives_or_out_of_memory_after view (Err (IoError cause)) c h k = gives_after view (Err (IoError cause)) c h k
+gives_or_out_of_memory_after view (Err (FormatError text)) c h k = gives_after view (Err (FormatError text)) c h k
+gives_or_out_of_memory_after view (Err (Unsupported text)) c h k = gives_after view (Err (Unsupported text)) c h k

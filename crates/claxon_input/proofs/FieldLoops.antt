@@ -1,28 +1,28 @@
 -- Loops that read fields one after another.
 use Rattle.std.proofs.Common.{◌≡◌, ℕ, zero, suc, ◌+◌, ◌-◌, ◌<◌, ◌≤◌, List, [], ◌∷◌, ◌++◌, length, take, set, refl, sym, ap, ◌∙◌, append_assoc, arith, length-append, take-add}
 use Rattle.std.proofs.lemmas.List.{append-nil, take_more_set, length-set, take_all, take_at, drop_at, length-take-le}
-use Rattle.claxon_format.specs.Reading.{Reading, Done, Faulty, Short, bind, times_at, each_at}
+use Rattle.claxon_format.specs.Reading.{Reading, Done, Faulty, Incomplete, bind, times_at, each_at}
 use Rattle.claxon_format.proofs.Laws.{bind_done}
 use Rattle.claxon_input.specs.declared.error.Error.{Error}
 use Rattle.claxon_input.specs.State.{State}
-use Rattle.claxon_input.specs.Gives.{Went, Stops}
-use Rattle.claxon_input.proofs.CallsInTurn.{went_both, went_map, stops_after, StopsWith}
+use Rattle.claxon_input.specs.Gives.{Consumes, Stops}
+use Rattle.claxon_input.proofs.CallsInTurn.{consumes_then, consumes_map, stops_after, StopsWith}
 
 -- what was read before, and what is still read
 abbrev pub with_front : {X A : Type 0} → List A → Reading X (List A) → Reading X (List A)
 with_front front (Done others rest) = Done (front ++ others) rest
 with_front front (Faulty f rest) = Faulty f rest
-with_front front Short = Short
+with_front front Incomplete = Incomplete
 
 pub front_none : {X A : Type 0} (x : Reading X (List A)) → with_front [] x ≡ x
 front_none (Done xs rest) = refl
 front_none (Faulty f rest) = refl
-front_none Short = refl
+front_none Incomplete = refl
 
 pub regroup : {X A : Type 0} (front : List A) (a : A) (x : Reading X (List A)) → with_front front (bind x (λ others rest. Done (a ∷ others) rest)) ≡ with_front (front ++ a ∷ []) x
 regroup front a (Done others rest) = ap (λ (t : List _). Done t rest) (sym (append_assoc front (a ∷ []) others))
 regroup front a (Faulty f rest) = refl
-regroup front a Short = refl
+regroup front a Incomplete = refl
 
 -- one more is read, and put at i
 times_more : {X A : Type 0} (r : List X → Reading X A) (xs : List A) (i : ℕ) (a : A) (s m : List X) (total : Reading X (List A)) → i < length xs → r s ≡ Done a m
@@ -43,13 +43,13 @@ times_done r xs i s total le so_far =
 
 -- i fields of n were read and put at the front of xs
 pub record TimesSoFar {X A : Type 0} (read : List X → Reading X A) (n : ℕ) (xs : List A) (i : ℕ) (old new : State X) : Type 0 where
-  pub so_far : Went old new (λ s m. times_at n read s ≡ with_front (take i xs) (times_at (length xs - i) read m))
+  pub so_far : Consumes old new (λ s m. times_at n read s ≡ with_front (take i xs) (times_at (length xs - i) read m))
 
-pub times_next : {X A : Type 0} {read : List X → Reading X A} {n : ℕ} {xs : List A} {i : ℕ} (x : A) {a b c : State X} → i < length xs → TimesSoFar read n xs i a b → Went b c (λ s m. read s ≡ Done x m) → TimesSoFar read n (set xs i x) (i + 1) a c
-times_next {read = read} {n = n} {xs = xs} {i = i} x {a = a} lt h k = record { so_far = went_both _ h.so_far k (λ p q. sym (times_more read xs i x _ _ (times_at n read a.coming) lt q (sym p))) }
+pub times_next : {X A : Type 0} {read : List X → Reading X A} {n : ℕ} {xs : List A} {i : ℕ} (x : A) {a b c : State X} → i < length xs → TimesSoFar read n xs i a b → Consumes b c (λ s m. read s ≡ Done x m) → TimesSoFar read n (set xs i x) (i + 1) a c
+times_next {read = read} {n = n} {xs = xs} {i = i} x {a = a} lt h k = record { so_far = consumes_then _ h.so_far k (λ p q. sym (times_more read xs i x _ _ (times_at n read a.remaining) lt q (sym p))) }
 
-pub times_end : {X A : Type 0} {read : List X → Reading X A} {n : ℕ} {xs : List A} {i : ℕ} {a b : State X} → length xs ≤ i → TimesSoFar read n xs i a b → Went a b (λ s m. times_at n read s ≡ Done xs m)
-times_end {read = read} {n = n} {xs = xs} {i = i} {a = a} le h = went_map _ h.so_far (λ p. times_done read xs i _ (times_at n read a.coming) le (sym p))
+pub times_end : {X A : Type 0} {read : List X → Reading X A} {n : ℕ} {xs : List A} {i : ℕ} {a b : State X} → length xs ≤ i → TimesSoFar read n xs i a b → Consumes a b (λ s m. times_at n read s ≡ Done xs m)
+times_end {read = read} {n = n} {xs = xs} {i = i} {a = a} le h = consumes_map _ h.so_far (λ p. times_done read xs i _ (times_at n read a.remaining) le (sym p))
 
 times_stop : {X A : Type 0} (read : List X → Reading X A) (xs : List A) (i : ℕ) → i < length xs → StopsWith read (λ m. with_front (take i xs) (times_at (length xs - i) read m))
 unfolding times_at each_at
@@ -65,7 +65,7 @@ times_err {read = read} {xs = xs} {i = i} lt h k = stops_after h.so_far (times_s
 with_more : {X A : Type 0} (a : A) (others : List A) (x : Reading X (List A)) → bind (with_front others x) (λ o rest. Done (a ∷ o) rest) ≡ with_front (a ∷ others) x
 with_more a others (Done xs rest) = refl
 with_more a others (Faulty f rest) = refl
-with_more a others Short = refl
+with_more a others Incomplete = refl
 
 -- i fields were read, and then n more are
 pub times_add : {X A : Type 0} (r : List X → Reading X A) (i n : ℕ) (s m : List X) (xs : List A) → times_at i r s ≡ Done xs m → times_at (i + n) r s ≡ with_front xs (times_at n r m)
@@ -96,7 +96,7 @@ times_push r i s m rest xs x e h = times_add r i 1 s m xs e ∙ one_front r m re
 pub front_both : {X A : Type 0} (xs ys : List A) (x : Reading X (List A)) → with_front xs (with_front ys x) ≡ with_front (xs ++ ys) x
 front_both xs ys (Done zs rest) = ap (λ (t : List _). Done t rest) (sym (append_assoc xs ys zs))
 front_both xs ys (Faulty f rest) = refl
-front_both xs ys Short = refl
+front_both xs ys Incomplete = refl
 
 several : {X A : Type 0} (r : List X → Reading X A) (xs ys zs : List A) (i j : ℕ) (s m : List X) (total : Reading X (List A)) → zs ≡ take i xs ++ ys → length zs ≡ length xs → i ≤ length xs → j ≤ length ys
     → times_at j r s ≡ Done (take j ys) m → total ≡ with_front (take i xs) (times_at (length xs - i) r s) → total ≡ with_front (take (i + j) zs) (times_at (length zs - (i + j)) r m)
@@ -110,6 +110,6 @@ several r xs ys zs i j s m total is same le few e h =
 
 -- j more are read and put at i, where the rest of xs was ys before
 pub times_several : {X A : Type 0} {read : List X → Reading X A} {n : ℕ} {xs : List A} {i : ℕ} (ys zs : List A) (j : ℕ) {a b c : State X} → zs ≡ take i xs ++ ys → length zs ≡ length xs → i ≤ length xs → j ≤ length ys
-    → TimesSoFar read n xs i a b → Went b c (λ s m. times_at j read s ≡ Done (take j ys) m) → TimesSoFar read n zs (i + j) a c
+    → TimesSoFar read n xs i a b → Consumes b c (λ s m. times_at j read s ≡ Done (take j ys) m) → TimesSoFar read n zs (i + j) a c
 times_several {read = read} {n = n} {xs = xs} {i = i} ys zs j {a = a} is same le few h k =
-    record { so_far = went_both _ h.so_far k (λ p q. several read xs ys zs i j _ _ (times_at n read a.coming) is same le few q p) }
+    record { so_far = consumes_then _ h.so_far k (λ p q. several read xs ys zs i j _ _ (times_at n read a.remaining) is same le few q p) }

@@ -8,7 +8,7 @@ use Rattle.claxon_format.specs.Bits.{bits_of}
 use Rattle.claxon_input.specs.Bitstream.{left_over}
 use Rattle.claxon_input.specs.Cursor.{cursor_source}
 use Rattle.claxon_input.specs.Gives.{FailedIn}
-use Rattle.claxon_input.specs.Promises.{Comes, IsExcused, IsStarved}
+use Rattle.claxon_input.specs.Promises.{Remains, IsExcused, IsOutOfMemory}
 use Rattle.claxon_input.specs.State.{State, bits_in, bytes_in}
 use Rattle.claxon_input.specs.declared.bits.Bitstream.{Bitstream}
 use Rattle.claxon_input.specs.declared.error.Error.{Error}
@@ -16,28 +16,28 @@ use Rattle.claxon_input.specs.declared.error.Error.{Error}
 -- ---- any source whose counts stay
 
 -- Where both counts are as they were the source didn't fail.
-pub never_failed : {X : Type 0} (a b : State X) → b.errors ≡ a.errors → b.empties ≡ a.empties → FailedIn a b → ⊥
+pub never_failed : {X : Type 0} (a b : State X) → b.errors ≡ a.errors → b.empty_reads ≡ a.empty_reads → FailedIn a b → ⊥
 never_failed a b e k (inl h) = h e
 never_failed a b e k (inr h) = h.0 k
 
 -- So an excuse is want of memory.
-pub just_starved : {X A : Type 0} (r : Result A Error) (a b : State X) → b.errors ≡ a.errors → b.empties ≡ a.empties → IsExcused r a b → IsStarved r
-just_starved r a b e k (inl h) = h
-just_starved r a b e k (inr h) = absurd (never_failed a b e k h.1)
+pub just_out_of_memory : {X A : Type 0} (r : Result A Error) (a b : State X) → b.errors ≡ a.errors → b.empty_reads ≡ a.empty_reads → IsExcused r a b → IsOutOfMemory r
+just_out_of_memory r a b e k (inl h) = h
+just_out_of_memory r a b e k (inr h) = absurd (never_failed a b e k h.1)
 
 -- ---- a cursor, where items are the bytes that it is over: of a slice `λ s. s.now`
 
 module _ {T : Type 0} (items : T → List ℕ) where
   -- The bytes from the position on are to come.
-  pub cursor_comes : (c : Cursor T) → Comes (bytes_in (cursor_source items) c) (drop (cursor_position c) (items (cursor_inner c)))
+  pub cursor_remains : (c : Cursor T) → Remains (bytes_in (cursor_source items) c) (drop (cursor_position c) (items (cursor_inner c)))
   unfolding bytes_in
-  cursor_comes c = record { told = refl; are = refl }
+  cursor_remains c = record { known = refl; are = refl }
 
   -- Of a new cursor that is all of them.
-  pub new_cursor_comes : (c : Cursor T) (inner : T) → cursor_position c ≡ 0 → cursor_inner c ≡ inner → Comes (bytes_in (cursor_source items) c) (items inner)
-  new_cursor_comes c inner at is =
-      let h = cursor_comes c in
-      record { told = h.told; are = h.are ∙ ap (λ (n : ℕ). drop n (items (cursor_inner c))) at ∙ ap items is }
+  pub new_cursor_remains : (c : Cursor T) (inner : T) → cursor_position c ≡ 0 → cursor_inner c ≡ inner → Remains (bytes_in (cursor_source items) c) (items inner)
+  new_cursor_remains c inner at is =
+      let h = cursor_remains c in
+      record { known = h.known; are = h.are ∙ ap (λ (n : ℕ). drop n (items (cursor_inner c))) at ∙ ap items is }
 
   -- Whatever calls were made in between, no read failed.
   pub cursor_never_fails : (a b : Cursor T) → FailedIn (bytes_in (cursor_source items) a) (bytes_in (cursor_source items) b) → ⊥
@@ -45,16 +45,16 @@ module _ {T : Type 0} (items : T → List ℕ) where
   cursor_never_fails a b f = never_failed (bytes_in (cursor_source items) a) (bytes_in (cursor_source items) b) refl refl f
 
   -- So of the answers that excuse a call just want of memory is left.
-  pub cursor_just_starved : {A : Type 0} (r : Result A Error) (a b : Cursor T) → IsExcused r (bytes_in (cursor_source items) a) (bytes_in (cursor_source items) b) → IsStarved r
+  pub cursor_just_out_of_memory : {A : Type 0} (r : Result A Error) (a b : Cursor T) → IsExcused r (bytes_in (cursor_source items) a) (bytes_in (cursor_source items) b) → IsOutOfMemory r
   unfolding bytes_in
-  cursor_just_starved r a b h = just_starved r (bytes_in (cursor_source items) a) (bytes_in (cursor_source items) b) refl refl h
+  cursor_just_out_of_memory r a b h = just_out_of_memory r (bytes_in (cursor_source items) a) (bytes_in (cursor_source items) b) refl refl h
 
   -- ---- bits over a cursor
 
   -- The bits left over, and then those of the bytes from the position on, are to come.
-  pub bits_come : {g : _} (b : Bitstream (Cursor T) g) → Comes (bits_in (cursor_source items) b) (left_over b ++ bits_of (drop (cursor_position b.reader) (items (cursor_inner b.reader))))
+  pub bits_remain : {g : _} (b : Bitstream (Cursor T) g) → Remains (bits_in (cursor_source items) b) (left_over b ++ bits_of (drop (cursor_position b.reader) (items (cursor_inner b.reader))))
   unfolding bits_in
-  bits_come b = record { told = refl; are = refl }
+  bits_remain b = record { known = refl; are = refl }
 
   -- No read of them fails.
   pub bits_never_fail : {g h : _} (a : Bitstream (Cursor T) g) (b : Bitstream (Cursor T) h) → FailedIn (bits_in (cursor_source items) a) (bits_in (cursor_source items) b) → ⊥

@@ -7,17 +7,17 @@ use Rattle.claxon_input.specs.Source.{Source}
 use Rattle.claxon_input.specs.declared.input.BufferedReader.{BufferedReader}
 
 -- the bytes that were read ahead and not yet taken
-abbrev pub read_ahead : {R A : Type 0} → BufferedReader R A → List ℕ
-read_ahead r = slice_range r.buf.items r.pos r.num_valid
+abbrev pub bytes_in_buffer : {R A : Type 0} → BufferedReader R A → List ℕ
+bytes_in_buffer r = slice_range r.buf.items r.pos r.num_valid
 
 -- the bytes read ahead, and then those that the inner reader still gives
 abbrev pub buffered_source : {R A : Type 0} → (R → Option (List ℕ)) → BufferedReader R A → Source ℕ
 buffered_source remaining r = record {
-  to_come = prepend_known (read_ahead r) (remaining r.inner);
+  remaining = prepend_known (bytes_in_buffer r) (remaining r.inner);
   errors = r.errors;
-  empties = r.empties;
+  empty_reads = r.empty_reads;
   loans = [];
-  checks = λ _. [];
+  crcs = λ _. [];
 }
 
 -- the wrapped reader
@@ -27,8 +27,8 @@ buffered_inner r = r.inner
 -- Nothing was read of the inner reader, and no read failed.
 abbrev pub NothingWasRead : {R A : Type 0} → (R → Option (List ℕ)) → R → Result (BufferedReader R A) Error → Type 0
 NothingWasRead remaining inner result =
-    IfOk result (λ r. buffered_source remaining r ≡ record { to_come = prepend_known [] (remaining inner); errors = 0; empties = 0; loans = []; checks = λ _. [] })
+    IfOk result (λ r. buffered_source remaining r ≡ record { remaining = prepend_known [] (remaining inner); errors = 0; empty_reads = 0; loans = []; crcs = λ _. [] })
 
 -- After an Err nothing is buffered, so that the next call asks the inner reader again.
 abbrev pub IsEmptyAfterErr : {T E R A : Type 0} → Result T E → BufferedReader R A → Type 0
-IsEmptyAfterErr result new = OnErr result (read_ahead new ≡ [])
+IsEmptyAfterErr result new = OnErr result (bytes_in_buffer new ≡ [])

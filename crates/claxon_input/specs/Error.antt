@@ -26,9 +26,9 @@ IsFormatError (FormatError reason) text = reason.now ≡ text
 IsFormatError _ text = ⊥
 
 -- want of memory
-abbrev pub is_memory : Error → Bool
-is_memory OutOfMemory = true
-is_memory _ = false
+abbrev pub is_out_of_memory : Error → Bool
+is_out_of_memory OutOfMemory = true
+is_out_of_memory _ = false
 
 -- ---- errors that a reader answers
 

@@ -1,9 +1,9 @@
 -- What the calls of a `Bitstream` promise, a word each; `old` and `new` are the stream of bits before and after the call.
 use Rattle.std.specs.Prelude.{ℕ, ◌<◌, Bool, true, false, [], ◌∷◌, ◌++◌, length, replicate, IfOk, OnErr, Result}
 use Rattle.claxon_format.specs.read.Bits.{bit_at, number_at, unary_at}
-use Rattle.claxon_input.specs.Ahead.{passed_at}
-use Rattle.claxon_input.specs.Bitstream.{LosesBits, RefusesBits, RefusesOne, TakesBits, TakesNumber, bit_state, left_over}
-use Rattle.claxon_input.specs.Gives.{Yields}
+use Rattle.claxon_input.specs.BufferedBits.{skipped_bits_at}
+use Rattle.claxon_input.specs.Bitstream.{DropsBits, BitsFailureOrEof, FailureOrNoOneBit, TakesBits, TakesNumber, bit_state, left_over}
+use Rattle.claxon_input.specs.Gives.{GivesIo}
 use Rattle.claxon_input.specs.Source.{Source}
 use Rattle.claxon_input.specs.State.{bits_in}
 use Rattle.claxon_input.specs.declared.bits.Bitstream.{Bitstream}
@@ -16,54 +16,54 @@ FewAreLeft new = length (left_over new) < 8
 
 module _ {R E : Type 0} {g : _} (source : R → Source ℕ) (w : ℕ) (old : Bitstream R g) (result : Result ℕ E) (new : Bitstream R g) where
   -- Just the bits of the number that is answered were taken.
-  abbrev pub NumberWasTaken : Type 0
-  NumberWasTaken = IfOk result (λ n. TakesNumber (bit_state source old) (bit_state source new) w n)
+  abbrev pub NumberIsSound : Type 0
+  NumberIsSound = IfOk result (λ n. TakesNumber (bit_state source old) (bit_state source new) w n)
 
   -- An Err says that fewer bits were to come and all were taken, or that the source failed; none is left over.
-  abbrev pub NumberIsRefused : Type 0
-  NumberIsRefused = OnErr result (RefusesBits (bit_state source old) (bit_state source new) w)
+  abbrev pub NumberFailureOrEof : Type 0
+  NumberFailureOrEof = OnErr result (BitsFailureOrEof (bit_state source old) (bit_state source new) w)
 
   -- What was answered and taken is what the format's reader gives.
   abbrev pub NumberIsRead : Type 0
-  NumberIsRead = Yields (λ x. x) result (number_at w) (bits_in source old) (bits_in source new)
+  NumberIsRead = GivesIo (λ x. x) result (number_at w) (bits_in source old) (bits_in source new)
 
 -- ---- a bit
 
 module _ {R E : Type 0} {g : _} (source : R → Source ℕ) (old : Bitstream R g) (result : Result Bool E) (new : Bitstream R g) where
   -- Just the bit that is answered was taken.
-  abbrev pub BitWasTaken : Type 0
-  BitWasTaken = IfOk result (λ bit. TakesBits (bit_state source old) (bit_state source new) (bit ∷ []))
+  abbrev pub BitIsSound : Type 0
+  BitIsSound = IfOk result (λ bit. TakesBits (bit_state source old) (bit_state source new) (bit ∷ []))
 
   -- An Err says that none was to come, or that the source failed; none is left over.
-  abbrev pub BitIsRefused : Type 0
-  BitIsRefused = OnErr result (RefusesBits (bit_state source old) (bit_state source new) 1)
+  abbrev pub BitFailureOrEof : Type 0
+  BitFailureOrEof = OnErr result (BitsFailureOrEof (bit_state source old) (bit_state source new) 1)
 
   -- What was answered and taken is what the format's reader gives.
   abbrev pub BitIsRead : Type 0
-  BitIsRead = Yields (λ x. x) result bit_at (bits_in source old) (bits_in source new)
+  BitIsRead = GivesIo (λ x. x) result bit_at (bits_in source old) (bits_in source new)
 
 -- ---- zeros up to a one
 
 module _ {R E : Type 0} {g : _} (source : R → Source ℕ) (old : Bitstream R g) (result : Result ℕ E) (new : Bitstream R g) where
   -- Just as many zeros as are answered were taken, and a one.
-  abbrev pub ZerosWereTaken : Type 0
-  ZerosWereTaken = IfOk result (λ q. TakesBits (bit_state source old) (bit_state source new) (replicate q false ++ true ∷ []))
+  abbrev pub UnaryIsSound : Type 0
+  UnaryIsSound = IfOk result (λ q. TakesBits (bit_state source old) (bit_state source new) (replicate q false ++ true ∷ []))
 
   -- An Err says that no one came among 2^32 bits, or that the source failed; none is left over.
-  abbrev pub OneIsRefused : Type 0
-  OneIsRefused = OnErr result (RefusesOne (bit_state source old) (bit_state source new))
+  abbrev pub UnaryFailureOrNoOne : Type 0
+  UnaryFailureOrNoOne = OnErr result (FailureOrNoOneBit (bit_state source old) (bit_state source new))
 
   -- What was answered and taken is what the format's reader gives.
-  abbrev pub ZerosAreRead : Type 0
-  ZerosAreRead = Yields (λ x. x) result unary_at (bits_in source old) (bits_in source new)
+  abbrev pub UnaryIsRead : Type 0
+  UnaryIsRead = GivesIo (λ x. x) result unary_at (bits_in source old) (bits_in source new)
 
 -- ---- bits that are passed over
 
 module _ {R A E : Type 0} {g : _} (source : R → Source ℕ) (n : ℕ) (old : Bitstream R g) (result : Result A E) (new : Bitstream R g) where
   -- So many bits were passed over, or fewer were to come, or the source failed.
-  abbrev pub BitsArePassed : Type 0
-  BitsArePassed = Yields (λ x. tt) result (passed_at n) (bits_in source old) (bits_in source new)
+  abbrev pub BitsAreSkipped : Type 0
+  BitsAreSkipped = GivesIo (λ x. tt) result (skipped_bits_at n) (bits_in source old) (bits_in source new)
 
   -- After an Err no bit is left over, and a front of the bytes to come was taken.
-  abbrev pub SkipLosesBits : Type 0
-  SkipLosesBits = OnErr result (LosesBits (bit_state source old) (bit_state source new))
+  abbrev pub SkipDropsBits : Type 0
+  SkipDropsBits = OnErr result (DropsBits (bit_state source old) (bit_state source new))

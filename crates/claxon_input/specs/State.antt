@@ -9,18 +9,18 @@ use Rattle.claxon_input.specs.declared.bits.Bitstream.{Bitstream}
 -- What a source still gives: whether what is to come is known, this, the bytes of it that are still in the source, the counts
 -- of failures, the loans on the way, and what the remainders are past all that is to come and more.
 pub record State (X : Type 0) : Type 0 where
-  pub told : Bool
-  pub coming : List X
+  pub known : Bool
+  pub remaining : List X
   pub bytes : List ℕ
   pub errors : ℕ
-  pub empties : ℕ
+  pub empty_reads : ℕ
   pub loans : List GName
-  pub checks : List ℕ → List ℕ
+  pub crcs : List ℕ → List ℕ
 
 -- whether what is to come is known
-abbrev pub is_told : Option (List ℕ) → Bool
-is_told None = false
-is_told (Some all) = true
+abbrev pub remaining_known : Option (List ℕ) → Bool
+remaining_known None = false
+remaining_known (Some all) = true
 
 -- what is to come, seen by f; nothing where it isn't known
 abbrev pub known : {X : Type 0} → (List ℕ → List X) → Option (List ℕ) → List X
@@ -29,19 +29,19 @@ known f (Some all) = f all
 
 -- the remainders past what is to come
 abbrev pub past : Option (List ℕ) → (List ℕ → List ℕ) → List ℕ → List ℕ
-past None checks more = []
-past (Some all) checks more = checks (all ++ more)
+past None crcs more = []
+past (Some all) crcs more = crcs (all ++ more)
 
 -- the state of a source, whose bytes are seen by f
 abbrev pub state_of : {X : Type 0} → (List ℕ → List X) → Source ℕ → State X
 state_of f s = record {
-  told = is_told s.to_come;
-  coming = known f s.to_come;
-  bytes = known (λ all. all) s.to_come;
+  known = remaining_known s.remaining;
+  remaining = known f s.remaining;
+  bytes = known (λ all. all) s.remaining;
   errors = s.errors;
-  empties = s.empties;
+  empty_reads = s.empty_reads;
   loans = s.loans;
-  checks = past s.to_come s.checks;
+  crcs = past s.remaining s.crcs;
 }
 
 -- the left-over bits and those of the bytes to come

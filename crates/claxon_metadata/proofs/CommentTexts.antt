@@ -11,7 +11,7 @@ use Rattle.claxon_format.specs.Fault.{Fault, fault_text, is_unsupported}
 use Rattle.claxon_input.specs.declared.error.Error.{Error}
 use Rattle.claxon_input.specs.declared.error.Error.TheVariants.{IoError, FormatError, Unsupported, OutOfMemory}
 use Rattle.claxon_input.specs.Error.{IsFormatError, IsFault}
-use Rattle.claxon_metadata.specs.TagEntries.{IsPlace}
+use Rattle.claxon_metadata.specs.TagEntries.{IsSeparatorIndex}
 
 -- ---- UTF-8
 
@@ -20,8 +20,8 @@ pub text_utf8 : {A : Type 0} (text : String A) (bytes : List ℕ) → string_byt
 text_utf8 text bytes e = ap (λ (b : List ℕ). not_utf8 b) (sym e) ∙ ap (λ (b : Bool). not b) (is_utf8-from_IsUtf8 (string_bytes text) (IsUtf8-string_bytes text))
 
 -- bytes that can't be UTF-8
-pub text_refused : (bytes : List ℕ) → (IsUtf8 bytes → ⊥) → not_utf8 bytes ≡ true
-text_refused bytes h = go (is_utf8 bytes) refl
+pub text_not_utf8 : (bytes : List ℕ) → (IsUtf8 bytes → ⊥) → not_utf8 bytes ≡ true
+text_not_utf8 bytes h = go (is_utf8 bytes) refl
   where
     go : (b : Bool) → is_utf8 bytes ≡ b → not b ≡ true
     go true e = absurd (h (IsUtf8-from_is_utf8 bytes e))
@@ -36,8 +36,8 @@ names_fault f OutOfMemory text t u h = absurd h
 -- ---- the first '='
 
 -- a character of one byte stands there
-pub separator_is_place : (bytes : List ℕ) (place : ℕ) → position is_separator bytes ≡ Some place → IsPlace bytes place
-separator_is_place bytes place e =
+pub separator_is_index : (bytes : List ℕ) (place : ℕ) → position is_separator bytes ≡ Some place → IsSeparatorIndex bytes place
+separator_is_index bytes place e =
     let found = position-Some is_separator bytes place 0 e in
     let is : get_or bytes place 0 ≡ 61 = (Decides-eqb (get_or bytes place 0) 61).0 found.1 in
     record { inside = found.0; short = omega arith }

@@ -1,21 +1,21 @@
 -- The reader of a metadata block's content, by the block's type.
 use Rattle.std.proofs.Common.{◌≡◌, ◌≢◌, ◌≤◌, ◌-◌, ℕ, false, eqb, ltb, List, ◌++◌, refl, sym, ap, ◌∙◌}
 use Rattle.std.proofs.lemmas.Bool.{le-ltb, ne_eqb}
-use Rattle.claxon_format.specs.Metadata.{BlockHeader, BlockHeaderCode, most_bytes}
+use Rattle.claxon_format.specs.Metadata.{BlockHeader, BlockHeaderCode, max_content_bytes}
 use Rattle.claxon_format.specs.MetadataBlocks.{Content, Info, Comments, skipped, BlockFault}
 use Rattle.claxon_format.specs.read.Metadata.{block_header_at}
 use Rattle.claxon_format.specs.read.MetadataBlocks.{info_body_at, application_at, body_at}
 use Rattle.claxon_format.specs.read.Comments.{comment_at, vendor_length_at}
 use Rattle.claxon_format.specs.Fault.{BlockType}
 use Rattle.claxon_format.specs.read.Bytes.{big_at, bytes_at, skipped_at}
-use Rattle.claxon_format.specs.Reading.{Reads, Reading, Done, Faulty, Short, bind, done}
+use Rattle.claxon_format.specs.Reading.{Reads, Reading, Done, Faulty, Incomplete, bind, done}
 use Rattle.claxon_format.proofs.Comments.{Reads-vendor_length}
 use Rattle.claxon_format.proofs.Metadata.{Reads-block_header}
 use Rattle.claxon_format.proofs.MetadataBlocks.{Reads-block}
 use Rattle.claxon_format.proofs.Laws.{Reads-map}
-use Rattle.claxon_input.specs.Gives.{Went}
+use Rattle.claxon_input.specs.Gives.{Consumes}
 use Rattle.claxon_input.specs.State.{State}
-use Rattle.claxon_input.proofs.CallsInTurn.{went_map, StopsAs}
+use Rattle.claxon_input.proofs.CallsInTurn.{consumes_map, StopsAs}
 use Rattle.claxon_metadata.specs.VorbisComment.{HasVendorLength}
 use Rattle.claxon_metadata.specs.MetadataBlock.{ContentCode, content_at}
 
@@ -24,12 +24,12 @@ pub stops_with : {X Y Z : Type 0} {x : Reading X Y} {whole : Reading X Z} (f : Y
 stops_with f e = record { fault = λ g rest q. e ∙ rw q refl; short = λ q. e ∙ rw q refl }
 
 -- where the data of an application stop, so does the whole
-pub application_stops : {n id : ℕ} {a b : State ℕ} → 4 ≤ n → n ≤ most_bytes → Went a b (λ s m. big_at 4 s ≡ Done id m) → Went a b (λ s m. StopsAs (bytes_at (n - 4) m) (application_at n s))
+pub application_stops : {n id : ℕ} {a b : State ℕ} → 4 ≤ n → n ≤ max_content_bytes → Consumes a b (λ s m. big_at 4 s ≡ Done id m) → Consumes a b (λ s m. StopsAs (bytes_at (n - 4) m) (application_at n s))
 unfolding application_at
 application_stops {n = n} some small h =
     let enough : ltb n 4 ≡ false = le-ltb _ _ some in
-    let fits : ltb most_bytes n ≡ false = le-ltb _ _ small in
-    went_map _ h (λ p. record { fault = λ f rest q. rw (enough, fits, p, q) refl; short = λ q. rw (enough, fits, p, q) refl })
+    let fits : ltb max_content_bytes n ≡ false = le-ltb _ _ small in
+    consumes_map _ h (λ p. record { fault = λ f rest q. rw (enough, fits, p, q) refl; short = λ q. rw (enough, fits, p, q) refl })
 
 pub body_info : (type n : ℕ) (s : List ℕ) → type ≡ 0 → body_at type n s ≡ bind (info_body_at n s) (λ i. done (Info i))
 unfolding body_at
@@ -51,7 +51,7 @@ body_invalid type n s e = rw e refl
 regrouped : (x : Reading ℕ (List ℕ)) (content : Content) → bind x (λ bytes. done content) ≡ bind (bind x (λ (bytes : List ℕ). done (tt {0}))) (λ (u : Unit {0}). done content)
 regrouped (Done bytes m) content = refl
 regrouped (Faulty f m) content = refl
-regrouped Short content = refl
+regrouped Incomplete content = refl
 
 pub record IsSkipped (type : ℕ) : Type 0 where
   pub not_info : type ≢ 0
@@ -81,5 +81,5 @@ header_is found h x rest code e read =
     ap (λ (b : BlockHeader). b.length) same
 
 -- a vendor's length that was read stands there
-pub vendor_stands : (most v : ℕ) (s m : List ℕ) → vendor_length_at most s ≡ Done v m → HasVendorLength most s
-vendor_stands most v s m e = let t = (Reads-vendor_length most).takes s v m e in (v, t.0, m, t.1, t.2)
+pub has_vendor_length : (most v : ℕ) (s m : List ℕ) → vendor_length_at most s ≡ Done v m → HasVendorLength most s
+has_vendor_length most v s m e = let t = (Reads-vendor_length most).takes s v m e in (v, t.0, m, t.1, t.2)

@@ -2,4 +2,4 @@ pub mod CommentTexts
 pub mod CommentEntries
 pub mod ContentByType
 pub mod CommentParts
-pub mod TagPlaces
+pub mod TagSeparators

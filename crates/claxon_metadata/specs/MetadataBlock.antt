@@ -2,11 +2,11 @@
 use Rattle.std.specs.Prelude.{◌≡◌, ◌⊎◌, ◌++◌, Bool, true, Result, ℕ, ◌-◌, ◌<◌, ◌≤◌, List, [], ◌∷◌, Option, None, Some, IfSome}
 use Rattle.claxon_format.specs.MetadataBlocks.{Content, Info, Padding, Application, Comments, Reserved, MetadataBlock as Block, BlockCode}
 use Rattle.claxon_format.specs.read.MetadataBlocks.{block_at}
-use Rattle.claxon_format.specs.Metadata.{BlockHeader, BlockHeaderCode, most_bytes}
+use Rattle.claxon_format.specs.Metadata.{BlockHeader, BlockHeaderCode, max_content_bytes}
 use Rattle.claxon_format.specs.Reading.{Reading, Mapped, and_then, done}
 use Rattle.claxon_format.specs.Streaminfo.{Streaminfo}
 use Rattle.claxon_input.specs.declared.error.Error.{Error}
-use Rattle.claxon_input.specs.Promises.{IsStarved}
+use Rattle.claxon_input.specs.Promises.{IsOutOfMemory}
 use Rattle.claxon_input.specs.State.{State}
 use Rattle.claxon_metadata.specs.declared.metadata.StreamInfo.{StreamInfo}
 use Rattle.claxon_metadata.specs.declared.metadata.SizeBounds.{SizeBounds}
@@ -15,7 +15,7 @@ use Rattle.claxon_metadata.specs.declared.metadata.MetadataBlockHeader.{Metadata
 use Rattle.claxon_metadata.specs.declared.metadata.MetadataBlock.{MetadataBlock}
 use Rattle.claxon_metadata.specs.declared.metadata.MetadataBlock.TheVariants.{StreamInfo as InfoBlock, Padding as PaddingBlock, Application as ApplicationBlock, SeekTable, VorbisComment as CommentBlock, CueSheet, Picture, Reserved as ReservedBlock}
 use Rattle.claxon_metadata.specs.VorbisComment.{HasVendorLength, comment_view}
-use Rattle.claxon_metadata.specs.TagEntries.{HavePlaces}
+use Rattle.claxon_metadata.specs.TagEntries.{HaveSeparatorIndices}
 
 -- a number that isn't known is written as 0
 abbrev pub or_zero : Option ℕ → ℕ
@@ -25,10 +25,10 @@ or_zero (Some n) = n
 -- a streaminfo (section 8.2)
 abbrev pub info_view : StreamInfo → Streaminfo
 info_view info = record {
-  least_block = info.min_block_size;
-  greatest_block = info.max_block_size;
-  least_frame = or_zero info.min_frame_size;
-  greatest_frame = or_zero info.max_frame_size;
+  min_block_size = info.min_block_size;
+  max_block_size = info.max_block_size;
+  min_frame_size = or_zero info.min_frame_size;
+  max_frame_size = or_zero info.max_frame_size;
   rate = info.sample_rate;
   channels = info.channels;
   width = info.bits_per_sample;
@@ -60,21 +60,21 @@ content_view CueSheet = Reserved
 content_view Picture = Reserved
 
 -- a block and whether it is marked as the last one
-abbrev pub flagged_view : {A : Type 0} → Bool → MetadataBlock A → Block
-flagged_view is_last block = record { is_last = is_last; content = content_view block }
+abbrev pub metadata_block_view : {A : Type 0} → Bool → MetadataBlock A → Block
+metadata_block_view is_last block = record { is_last = is_last; content = content_view block }
 
 -- Only blocks of applications and comments take memory, where their length is one that they can have.
-abbrev pub TakesMemory : ℕ → ℕ → Type 0
-TakesMemory type length = (((type ≡ 2) × (4 ≤ length)) ⊎ ((type ≡ 4) × (8 ≤ length))) × (length ≤ most_bytes)
+abbrev pub MayAllocate : ℕ → ℕ → Type 0
+MayAllocate type length = (((type ≡ 2) × (4 ≤ length)) ⊎ ((type ≡ 4) × (8 ≤ length))) × (length ≤ max_content_bytes)
 
 -- Those of comments take it only where the length of a vendor that fits stands at the front of their bytes.
-abbrev pub MayStarve : ℕ → ℕ → List ℕ → Type 0
-MayStarve type length s = TakesMemory type length × (type ≡ 4 → HasVendorLength (length - 8) s)
+abbrev pub MayRunOutOfMemory : ℕ → ℕ → List ℕ → Type 0
+MayRunOutOfMemory type length s = MayAllocate type length × (type ≡ 4 → HasVendorLength (length - 8) s)
 
 -- Memory is wanted only where a header of such a block stands, with its content behind it.
-abbrev pub StarvesLate : {A : Type 0} → Result A Error → State ℕ → Type 0
-StarvesLate r old =
-    IsStarved r → old.told ≡ true → (h : BlockHeader) × (x : List ℕ) × (rest : List ℕ) × BlockHeaderCode h x × MayStarve h.type h.length rest × (old.coming ≡ x ++ rest)
+abbrev pub OutOfMemoryAfterBlockHeader : {A : Type 0} → Result A Error → State ℕ → Type 0
+OutOfMemoryAfterBlockHeader r old =
+    IsOutOfMemory r → old.known ≡ true → (h : BlockHeader) × (x : List ℕ) × (rest : List ℕ) × BlockHeaderCode h x × MayRunOutOfMemory h.type h.length rest × (old.remaining ≡ x ++ rest)
 
 -- a block without its last flag
 abbrev pub ContentCode : Content → List ℕ → Type 0
@@ -90,15 +90,15 @@ pub record HasBounds (info : StreamInfo) : Type 0 where
   pub channels : info.channels ≤ 8
   pub some_bits : 1 ≤ info.bits_per_sample
   pub bits : info.bits_per_sample ≤ 32
-  pub least_frame : IfSome info.min_frame_size (λ n. 0 < n)
-  pub greatest_frame : IfSome info.max_frame_size (λ n. 0 < n)
+  pub min_frame_size : IfSome info.min_frame_size (λ n. 0 < n)
+  pub max_frame_size : IfSome info.max_frame_size (λ n. 0 < n)
   pub samples : IfSome info.samples (λ n. 0 < n)
 
 -- a streaminfo has its bounds, and each comment the place that parts it; seek tables, cue sheets and pictures aren't answered
-abbrev pub IsSound : {A : Type 0} → MetadataBlock A → Type 0
-IsSound (InfoBlock info) = HasBounds info
-IsSound (CommentBlock comment) = HavePlaces comment.comments.items
-IsSound (SeekTable table) = ⊥
-IsSound CueSheet = ⊥
-IsSound Picture = ⊥
-IsSound _ = Unit {0}
+abbrev pub BlockHasBounds : {A : Type 0} → MetadataBlock A → Type 0
+BlockHasBounds (InfoBlock info) = HasBounds info
+BlockHasBounds (CommentBlock comment) = HaveSeparatorIndices comment.comments.items
+BlockHasBounds (SeekTable table) = ⊥
+BlockHasBounds CueSheet = ⊥
+BlockHasBounds Picture = ⊥
+BlockHasBounds _ = Unit {0}

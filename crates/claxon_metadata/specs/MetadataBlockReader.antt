@@ -6,11 +6,11 @@ use Rattle.claxon_input.specs.declared.error.Error.{Error}
 use Rattle.claxon_input.specs.Promises.{Promises}
 use Rattle.claxon_input.specs.Source.{Source}
 use Rattle.claxon_input.specs.State.{bytes_in}
-use Rattle.claxon_input.specs.Gives.{GivesOrStarves}
+use Rattle.claxon_input.specs.Gives.{GivesOrOutOfMemory}
 use Rattle.claxon_metadata.specs.declared.metadata.MetadataBlock.{MetadataBlock}
 use Rattle.claxon_metadata.specs.declared.metadata.MetadataBlockReader.{MetadataBlockReader}
-use Rattle.claxon_metadata.specs.ReadMetadataBlock.{AtMostBlockIsTaken}
-use Rattle.claxon_metadata.specs.MetadataBlock.{IsSound, StarvesLate, flagged_view}
+use Rattle.claxon_metadata.specs.ReadMetadataBlock.{AtMostBlockIsConsumed}
+use Rattle.claxon_metadata.specs.MetadataBlock.{BlockHasBounds, OutOfMemoryAfterBlockHeader, metadata_block_view}
 
 -- the wrapped reader
 abbrev pub reader_input : {R A : Type 0} → MetadataBlockReader R A → R
@@ -22,11 +22,11 @@ has_ended r = r.done
 
 -- A block with its header was read, or an Err was answered, which is the end. The block marked last is the end too.
 pub record ReadsBlock {R A : Type 0} (source : R → Source ℕ) (old : MetadataBlockReader R A) (result : Result (MetadataBlock A) Error) (new : MetadataBlockReader R A) : Type 0 where
-  pub bounds : IfOk result (λ block. IsSound block)
-  pub memory : StarvesLate result (bytes_in source (reader_input old))
-  pub within : AtMostBlockIsTaken source (reader_input old) (reader_input new)
-  pub promises : Promises (flagged_view (has_ended new)) result BlockCode BlockFault (bytes_in source (reader_input old)) (bytes_in source (reader_input new))
-  pub gives : GivesOrStarves (flagged_view (has_ended new)) result block_at (bytes_in source (reader_input old)) (bytes_in source (reader_input new))
+  pub bounds : IfOk result (λ block. BlockHasBounds block)
+  pub memory : OutOfMemoryAfterBlockHeader result (bytes_in source (reader_input old))
+  pub within : AtMostBlockIsConsumed source (reader_input old) (reader_input new)
+  pub promises : Promises (metadata_block_view (has_ended new)) result BlockCode BlockFault (bytes_in source (reader_input old)) (bytes_in source (reader_input new))
+  pub gives : GivesOrOutOfMemory (metadata_block_view (has_ended new)) result block_at (bytes_in source (reader_input old)) (bytes_in source (reader_input new))
   pub ended : IfErr result (λ error. has_ended new ≡ true)
 
 -- one call of `next` before the end

@@ -12,13 +12,13 @@ abbrev pub entries_view : {A : Type 0} → List (String A × ℕ) → List Entry
 entries_view comments = map entry_view comments
 
 -- at the place stands a character of one byte
-pub record IsPlace (bytes : List ℕ) (place : ℕ) : Type 0 where
+pub record IsSeparatorIndex (bytes : List ℕ) (place : ℕ) : Type 0 where
   pub inside : place < length bytes
   pub short : slice_index bytes place < 128
 
 -- each place is one
-abbrev pub HavePlaces : {A : Type 0} → List (String A × ℕ) → Type 0
-HavePlaces comments = All (λ pair. IsPlace (string_bytes pair.0) pair.1) comments
+abbrev pub HaveSeparatorIndices : {A : Type 0} → List (String A × ℕ) → Type 0
+HaveSeparatorIndices comments = All (λ pair. IsSeparatorIndex (string_bytes pair.0) pair.1) comments
 
 -- what a pair of references shows
 abbrev pub shown : Bor (List ℕ) × Bor (List ℕ) → List ℕ × List ℕ

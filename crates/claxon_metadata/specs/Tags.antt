@@ -6,9 +6,9 @@ use Rattle.claxon_format.specs.Pairs.{pairs, values}
 use Rattle.claxon_metadata.specs.TagEntries.{entries_view}
 
 -- the pairs that are left
-abbrev pub tags_left : {A : Type 0} → Tags A → List (List ℕ × List ℕ)
-tags_left t = pairs (entries_view t.comments.now)
+abbrev pub remaining_tags : {A : Type 0} → Tags A → List (List ℕ × List ℕ)
+remaining_tags t = pairs (entries_view t.comments.now)
 
 -- the values that are left
-abbrev pub values_left : {A : Type 0} → GetTag A → List (List ℕ)
-values_left t = values t.needle.now (tags_left t.tags)
+abbrev pub remaining_values : {A : Type 0} → GetTag A → List (List ℕ)
+remaining_values t = values t.needle.now (remaining_tags t.tags)

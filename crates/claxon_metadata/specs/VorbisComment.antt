@@ -5,10 +5,10 @@ use Rattle.claxon_format.specs.Comments.{Entry, Comment, VendorLength}
 use Rattle.claxon_format.specs.Fault.{Fault}
 use Rattle.claxon_format.specs.Reading.{checked_at}
 use Rattle.claxon_format.specs.read.Bytes.{little_at}
-use Rattle.claxon_format.specs.read.Comments.{end_at}
+use Rattle.claxon_format.specs.read.Comments.{entries_end_at}
 use Rattle.claxon_input.specs.Error.{IsFault, is_named}
 use Rattle.claxon_input.specs.Gives.{Gives}
-use Rattle.claxon_input.specs.Promises.{IsStarved}
+use Rattle.claxon_input.specs.Promises.{IsOutOfMemory}
 use Rattle.claxon_input.specs.Source.{Source}
 use Rattle.claxon_input.specs.State.{State, bytes_in}
 use Rattle.claxon_input.specs.declared.error.Error.{Error}
@@ -19,17 +19,17 @@ abbrev pub comment_view : {A : Type 0} → VorbisComment A → Comment
 comment_view comment = record { vendor = string_bytes comment.vendor; entries = entries_view comment.comments.items }
 
 -- what a text means: nothing, where it is empty
-abbrev pub kept_view : {A : Type 0} → Option (String A × ℕ) → List Entry
-kept_view None = []
-kept_view (Some pair) = entry_view pair ∷ []
+abbrev pub entry_or_empty_view : {A : Type 0} → Option (String A × ℕ) → List Entry
+entry_or_empty_view None = []
+entry_or_empty_view (Some pair) = entry_view pair ∷ []
 
 -- the bytes begin with the length of a vendor, which is at most most
 abbrev pub HasVendorLength : ℕ → List ℕ → Type 0
 HasVendorLength most s = (v : ℕ) × (x : List ℕ) × (rest : List ℕ) × VendorLength most v x × (s ≡ x ++ rest)
 
 -- Memory is wanted only where the bytes begin with such a length.
-abbrev pub StarvesBehindVendorLength : {A : Type 0} → ℕ → Result A Error → State ℕ → Type 0
-StarvesBehindVendorLength most r old = IsStarved r → old.told ≡ true → HasVendorLength most old.coming
+abbrev pub OutOfMemoryAfterVendorLength : {A : Type 0} → ℕ → Result A Error → State ℕ → Type 0
+OutOfMemoryAfterVendorLength most r old = IsOutOfMemory r → old.known ≡ true → HasVendorLength most old.remaining
 
 -- A length of at most most was read, or a greater one, and that is the fault that this error names.
 abbrev pub LengthIsRead : {R : Type 0} → (R → Source ℕ) → ℕ → Error → R → Result ℕ Error → R → Type 0
@@ -37,5 +37,5 @@ LengthIsRead source most too_long old r new = (f : Fault) → IsFault f too_long
     → Gives (λ x. x) r (checked_at (nat_lt most) f (little_at 4)) (bytes_in source old) (bytes_in source new)
 
 -- What was answered behind the last text is what the format's reader gives there, and nothing is taken.
-abbrev pub EndIsTested : {A : Type 0} → ℕ → ℕ → Result A Error → Type 0
-EndIsTested missing left r = (here : State ℕ) → Gives (λ x. []) r (end_at missing left) here here
+abbrev pub EndIsChecked : {A : Type 0} → ℕ → ℕ → Result A Error → Type 0
+EndIsChecked missing left r = (here : State ℕ) → Gives (λ x. []) r (entries_end_at missing left) here here

@@ -3,15 +3,15 @@ ghost use Rattle.std.specs.Prelude.{◌≡◌, ◌<◌, ◌≤◌, ◌++◌, ◌
 ghost use Rattle.claxon_format.specs.MetadataBlocks.{skipped};
 ghost use Rattle.claxon_format.specs.read.MetadataBlocks.{info_body_at, application_at, block_at};
 ghost use Rattle.claxon_format.specs.read.Bytes.{bytes_at};
-ghost use Rattle.claxon_format.specs.Metadata.{most_bytes};
+ghost use Rattle.claxon_format.specs.Metadata.{max_content_bytes};
 ghost use Rattle.claxon_format.specs.read.Metadata.{block_header_at};
-ghost use Rattle.claxon_format.specs.Streaminfo.{info_of, frames_crossed};
+ghost use Rattle.claxon_format.specs.Streaminfo.{info_of, frame_sizes_inconsistent};
 ghost use Rattle.claxon_format.specs.read.Streaminfo.{sizes_at, format_at, info_fields_at, streaminfo_at};
-ghost use Rattle.claxon_input.specs.Promises.{IsStarved};
+ghost use Rattle.claxon_input.specs.Promises.{IsOutOfMemory};
 ghost use Rattle.claxon_input.specs.State.{bytes_in};
-ghost use Rattle.claxon_input.specs.Gives.{Gives, GivesOrStarves};
-ghost use Rattle.claxon_metadata.specs.ReadMetadataBlock.{AtMostIsTaken, AtMostBlockIsTaken, BlockFaultWasTaken, BlockIsRead, BlockIsSound, BlockMayStarve, BlockWasTaken, ContentFaultWasTaken, ContentIsRead, ContentMayStarve, ContentWasTaken, EachBlockFaultIsNamed, EachBlockIsAnswered, EachContentFaultIsNamed, EachContentIsAnswered, FlaggedBlockIsRead, NoBlockIsIoError, NoContentIsIoError, RestIsLeft};
-ghost use Rattle.claxon_metadata.specs.MetadataBlock.{HasBounds, IsSound, StarvesLate, content_at, content_view, format_view, header_view, info_view, or_zero, sizes_view};
+ghost use Rattle.claxon_input.specs.Gives.{Gives, GivesOrOutOfMemory};
+ghost use Rattle.claxon_metadata.specs.ReadMetadataBlock.{AtMostIsConsumed, AtMostBlockIsConsumed, MetadataBlockFaultIsSound, MetadataBlockIsRead, ResultHasBounds, MetadataBlockOutOfMemoryAfterHeader, MetadataBlockIsSound, ContentFaultIsSound, ContentIsRead, ContentOutOfMemoryAfterLengths, ContentIsSound, MetadataBlockFaultIsComplete, MetadataBlockIsComplete, ContentFaultIsComplete, ContentIsComplete, MetadataBlockAndFlagIsRead, MetadataBlockElseIoError, ContentElseIoError, MetadataBlockLeavesRest};
+ghost use Rattle.claxon_metadata.specs.MetadataBlock.{HasBounds, BlockHasBounds, OutOfMemoryAfterBlockHeader, content_at, content_view, format_view, header_view, info_view, or_zero, sizes_view};
 
 mod comment;
 mod tags;
@@ -122,7 +122,7 @@ pub type MetadataBlockResult<A = Global> = Result<MetadataBlock<A>>;
 #[tactic(auto, using(claxon_input::proofs::ByteFields::numbers), unfolding(claxon_format::specs::read::Metadata::block_header_at))]
 fn read_metadata_block_header<R: ReadBytes>(input: &mut R) -> Result<MetadataBlockHeader>
     ensures gives { Gives header_view result block_header_at (bytes_in R.source input.old) (bytes_in R.source input.new) }
-    ensures within { AtMostIsTaken R.source 4 input.old input.new }
+    ensures within { AtMostIsConsumed R.source 4 input.old input.new }
 {
     let first = input.read_u8()?;
     let length = input.read_be_u24()?;
@@ -139,10 +139,10 @@ pub fn read_metadata_block_and_flag<R: ReadBytes, A: Allocator + Copy>(
     alloc: A,
     input: &mut R,
 ) -> Result<(bool, MetadataBlock<A>)>
-    ensures bounds { IfOk result (λ found. IsSound found.1) }
-    ensures memory { StarvesLate result (bytes_in R.source input.old) }
-    ensures gives { FlaggedBlockIsRead R.source input.old result input.new }
-    ensures within { AtMostBlockIsTaken R.source input.old input.new }
+    ensures bounds { IfOk result (λ found. BlockHasBounds found.1) }
+    ensures memory { OutOfMemoryAfterBlockHeader result (bytes_in R.source input.old) }
+    ensures gives { MetadataBlockAndFlagIsRead R.source input.old result input.new }
+    ensures within { AtMostBlockIsConsumed R.source input.old input.new }
 {
     let header = read_metadata_block_header(input)?;
     let block = read_metadata_block_exact(alloc, input, header.block_type, header.length)?;
@@ -161,16 +161,16 @@ pub fn read_metadata_block_with_header<R: ReadBytes, A: Allocator + Copy>(
     alloc: A,
     input: &mut R,
 ) -> Result<MetadataBlock<A>>
-    ensures bounds { BlockIsSound result }
-    ensures memory { BlockMayStarve R.source input.old result }
-    ensures sound { BlockWasTaken R.source input.old result input.new }
-    ensures complete { EachBlockIsAnswered R.source input.old result input.new }
-    ensures fault { BlockFaultWasTaken R.source input.old result input.new }
-    ensures named { EachBlockFaultIsNamed R.source input.old result input.new }
-    ensures io { NoBlockIsIoError R.source input.old result input.new }
-    ensures front { RestIsLeft R.source input.old result input.new }
-    ensures gives { BlockIsRead R.source input.old result input.new }
-    ensures within { AtMostBlockIsTaken R.source input.old input.new }
+    ensures bounds { ResultHasBounds result }
+    ensures memory { MetadataBlockOutOfMemoryAfterHeader R.source input.old result }
+    ensures sound { MetadataBlockIsSound R.source input.old result input.new }
+    ensures complete { MetadataBlockIsComplete R.source input.old result input.new }
+    ensures fault { MetadataBlockFaultIsSound R.source input.old result input.new }
+    ensures named { MetadataBlockFaultIsComplete R.source input.old result input.new }
+    ensures io { MetadataBlockElseIoError R.source input.old result input.new }
+    ensures front { MetadataBlockLeavesRest R.source input.old result input.new }
+    ensures gives { MetadataBlockIsRead R.source input.old result input.new }
+    ensures within { AtMostBlockIsConsumed R.source input.old input.new }
 {
     read_metadata_block_with_header_exact(alloc, input)
 }
@@ -181,10 +181,10 @@ fn read_metadata_block_with_header_exact<R: ReadBytes, A: Allocator + Copy>(
     alloc: A,
     input: &mut R,
 ) -> Result<MetadataBlock<A>>
-    ensures bounds { BlockIsSound result }
-    ensures memory { BlockMayStarve R.source input.old result }
-    ensures gives { BlockIsRead R.source input.old result input.new }
-    ensures within { AtMostBlockIsTaken R.source input.old input.new }
+    ensures bounds { ResultHasBounds result }
+    ensures memory { MetadataBlockOutOfMemoryAfterHeader R.source input.old result }
+    ensures gives { MetadataBlockIsRead R.source input.old result input.new }
+    ensures within { AtMostBlockIsConsumed R.source input.old input.new }
 {
     let (_, block) = read_metadata_block_and_flag(alloc, input)?;
     Ok(block)
@@ -206,16 +206,16 @@ pub fn read_metadata_block<R: ReadBytes, A: Allocator + Copy>(
     block_type: u8,
     length: u32,
 ) -> Result<MetadataBlock<A>>
-    ensures bounds { BlockIsSound result }
-    ensures memory { ContentMayStarve R.source block_type length input.old result }
-    ensures sound { ContentWasTaken R.source block_type length input.old result input.new }
-    ensures complete { EachContentIsAnswered R.source block_type length input.old result input.new }
-    ensures fault { ContentFaultWasTaken R.source block_type length input.old result input.new }
-    ensures named { EachContentFaultIsNamed R.source block_type length input.old result input.new }
-    ensures io { NoContentIsIoError R.source block_type length input.old result input.new }
-    ensures front { RestIsLeft R.source input.old result input.new }
+    ensures bounds { ResultHasBounds result }
+    ensures memory { ContentOutOfMemoryAfterLengths R.source block_type length input.old result }
+    ensures sound { ContentIsSound R.source block_type length input.old result input.new }
+    ensures complete { ContentIsComplete R.source block_type length input.old result input.new }
+    ensures fault { ContentFaultIsSound R.source block_type length input.old result input.new }
+    ensures named { ContentFaultIsComplete R.source block_type length input.old result input.new }
+    ensures io { ContentElseIoError R.source block_type length input.old result input.new }
+    ensures front { MetadataBlockLeavesRest R.source input.old result input.new }
     ensures gives { ContentIsRead R.source block_type length input.old result input.new }
-    ensures within { AtMostIsTaken R.source length input.old input.new }
+    ensures within { AtMostIsConsumed R.source length input.old input.new }
 {
     read_metadata_block_exact(alloc, input, block_type, length)
 }
@@ -228,10 +228,10 @@ fn read_metadata_block_exact<R: ReadBytes, A: Allocator + Copy>(
     block_type: u8,
     length: u32,
 ) -> Result<MetadataBlock<A>>
-    ensures bounds { BlockIsSound result }
-    ensures memory { ContentMayStarve R.source block_type length input.old result }
+    ensures bounds { ResultHasBounds result }
+    ensures memory { ContentOutOfMemoryAfterLengths R.source block_type length input.old result }
     ensures gives { ContentIsRead R.source block_type length input.old result input.new }
-    ensures within { AtMostIsTaken R.source length input.old input.new }
+    ensures within { AtMostIsConsumed R.source length input.old input.new }
 {
     match block_type {
         0 => Ok(MetadataBlock::StreamInfo(read_streaminfo_block(input, length)?)),
@@ -250,7 +250,7 @@ fn read_metadata_block_exact<R: ReadBytes, A: Allocator + Copy>(
 
 // What a block is answered as whose content isn't read.
 fn skipped_block<A: Allocator>(block_type: u8, length: u32) -> MetadataBlock<A>
-    ensures bounds { IsSound result }
+    ensures bounds { BlockHasBounds result }
     ensures value { content_view result ≡ skipped block_type length }
 {
     match block_type {
@@ -271,7 +271,7 @@ struct SizeBounds {
 #[tactic(auto, using(claxon_input::proofs::ByteFields::numbers), unfolding(claxon_format::specs::read::Streaminfo::sizes_at, claxon_format::specs::Reading::each_at))]
 fn read_size_bounds<R: ReadBytes>(input: &mut R) -> Result<SizeBounds>
     ensures gives { Gives sizes_view result sizes_at (bytes_in R.source input.old) (bytes_in R.source input.new) }
-    ensures within { AtMostIsTaken R.source 10 input.old input.new }
+    ensures within { AtMostIsConsumed R.source 10 input.old input.new }
 {
     let min_block_size = input.read_be_u16()?;
     let max_block_size = input.read_be_u16()?;
@@ -300,7 +300,7 @@ fn read_sample_format<R: ReadBytes>(input: &mut R) -> Result<SampleFormat>
     ensures channels { IfOk result (λ format. (1 ≤ format.channels) × (format.channels ≤ 8)) }
     ensures width { IfOk result (λ format. (1 ≤ format.bits_per_sample) × (format.bits_per_sample ≤ 32)) }
     ensures gives { Gives format_view result format_at (bytes_in R.source input.old) (bytes_in R.source input.new) }
-    ensures within { AtMostIsTaken R.source 8 input.old input.new }
+    ensures within { AtMostIsConsumed R.source 8 input.old input.new }
 {
     let high = input.read_be_u32()?;
     let low = input.read_be_u32()?;
@@ -317,7 +317,7 @@ fn read_sample_format<R: ReadBytes>(input: &mut R) -> Result<SampleFormat>
 fn read_streaminfo_fields<R: ReadBytes>(input: &mut R) -> Result<StreamInfo>
     ensures bounds { IfOk result (λ info. HasBounds info) }
     ensures gives { Gives info_view result info_fields_at (bytes_in R.source input.old) (bytes_in R.source input.new) }
-    ensures within { AtMostIsTaken R.source 34 input.old input.new }
+    ensures within { AtMostIsConsumed R.source 34 input.old input.new }
 {
     let sizes = read_size_bounds(input)?;
     let format = read_sample_format(input)?;
@@ -353,7 +353,7 @@ fn stream_info(sizes: SizeBounds, format: SampleFormat, md5sum: &[u8; 16]) -> St
 fn read_streaminfo_block<R: ReadBytes>(input: &mut R, length: u32) -> Result<StreamInfo>
     ensures bounds { IfOk result (λ info. HasBounds info) }
     ensures gives { Gives info_view result (info_body_at length) (bytes_in R.source input.old) (bytes_in R.source input.new) }
-    ensures within { AtMostIsTaken R.source length input.old input.new }
+    ensures within { AtMostIsConsumed R.source length input.old input.new }
 {
     if length != 34 {
         return Err(Error::FormatError("invalid streaminfo metadata block length"));
@@ -365,7 +365,7 @@ fn read_streaminfo_block<R: ReadBytes>(input: &mut R, length: u32) -> Result<Str
 fn read_streaminfo<R: ReadBytes>(input: &mut R) -> Result<StreamInfo>
     ensures bounds { IfOk result (λ info. HasBounds info) }
     ensures gives { Gives info_view result streaminfo_at (bytes_in R.source input.old) (bytes_in R.source input.new) }
-    ensures within { AtMostIsTaken R.source 34 input.old input.new }
+    ensures within { AtMostIsConsumed R.source 34 input.old input.new }
 {
     let info = read_streaminfo_fields(input)?;
     if info.min_block_size > info.max_block_size {
@@ -374,7 +374,7 @@ fn read_streaminfo<R: ReadBytes>(input: &mut R) -> Result<StreamInfo>
     if info.min_block_size < 16 {
         return Err(Error::FormatError("invalid block size, must be at least 16"));
     }
-    if are_frame_sizes_crossed(&info) {
+    if are_frame_sizes_inconsistent(&info) {
         return Err(Error::FormatError("inconsistent bounds, min frame size > max frame size"));
     }
     if info.sample_rate == 0 || info.sample_rate > 655_350 {
@@ -392,9 +392,9 @@ fn if_known(size: u32) -> Option<u32>
 }
 
 // Whether the least size is above the greatest, where that is known.
-fn are_frame_sizes_crossed(info: &StreamInfo) -> bool
+fn are_frame_sizes_inconsistent(info: &StreamInfo) -> bool
     requires { HasBounds info.now }
-    ensures { result ≡ frames_crossed (info_view info.now) }
+    ensures { result ≡ frame_sizes_inconsistent (info_view info.now) }
 {
     match (info.min_frame_size, info.max_frame_size) {
         (Some(least), Some(greatest)) => least > greatest,
@@ -409,10 +409,10 @@ fn read_application_block<R: ReadBytes, A: Allocator>(
     input: &mut R,
     length: u32,
 ) -> Result<MetadataBlock<A>>
-    ensures bounds { IfOk result (λ block. IsSound block) }
-    ensures memory { IsStarved result → (4 ≤ length) × (length ≤ most_bytes) }
-    ensures gives { GivesOrStarves content_view result (application_at length) (bytes_in R.source input.old) (bytes_in R.source input.new) }
-    ensures within { AtMostIsTaken R.source length input.old input.new }
+    ensures bounds { IfOk result (λ block. BlockHasBounds block) }
+    ensures memory { IsOutOfMemory result → (4 ≤ length) × (length ≤ max_content_bytes) }
+    ensures gives { GivesOrOutOfMemory content_view result (application_at length) (bytes_in R.source input.old) (bytes_in R.source input.new) }
+    ensures within { AtMostIsConsumed R.source length input.old input.new }
 {
     if length < 4 {
         return Err(Error::FormatError("application block length must be at least 4 bytes"));
@@ -429,8 +429,8 @@ fn read_application_block<R: ReadBytes, A: Allocator>(
 #[tactic(auto, using(claxon_input::proofs::ByteFields::buffers))]
 fn read_bytes<R: ReadBytes, A: Allocator>(alloc: A, input: &mut R, count: u32) -> Result<Vec<u8, A>>
     ensures length { IfOk result (λ bytes. vec_len bytes ≡ count) }
-    ensures gives { GivesOrStarves (λ bytes. bytes.items) result (bytes_at count) (bytes_in R.source input.old) (bytes_in R.source input.new) }
-    ensures within { AtMostIsTaken R.source count input.old input.new }
+    ensures gives { GivesOrOutOfMemory (λ bytes. bytes.items) result (bytes_at count) (bytes_in R.source input.old) (bytes_in R.source input.new) }
+    ensures within { AtMostIsConsumed R.source count input.old input.new }
 {
     let mut bytes = Vec::new(alloc);
     bytes.resize(count as usize, 0)?;
@@ -465,7 +465,7 @@ impl<R: ReadBytes, A: Allocator + Copy> MetadataBlockReader<R, A> {
     /// Reads blocks from where the input stands, which is to be a block's header.
     pub fn new(alloc: A, input: R) -> MetadataBlockReader<R, A>
         ensures input { reader_input result ≡ input }
-        ensures going { has_ended result ≡ false }
+        ensures not_reached_eof { has_ended result ≡ false }
     {
         MetadataBlockReader {
             alloc,

@@ -4,7 +4,7 @@ use Rattle.std.specs.List.{flat_map}
 use Rattle.std.proofs.lemmas.List.{append-nil}
 use Rattle.claxon_format.proofs.Laws.{bind_done}
 use Rattle.claxon_format.specs.Bits.{Bits}
-use Rattle.claxon_format.specs.Reading.{Reading, Done, Faulty, Short, bind, done, each_at}
+use Rattle.claxon_format.specs.Reading.{Reading, Done, Faulty, Incomplete, bind, done, each_at}
 use Rattle.claxon_format.specs.read.Residual.{joined_at}
 use Rattle.claxon_input.proofs.FieldLoops.{with_front, front_none, front_both}
 
@@ -12,7 +12,7 @@ regroup : (front es : List ℤ) (x : Reading Bool (List (List ℤ))) → with_fr
     ≡ with_front (front ++ es) (bind x (λ parts. done (flat_map (λ x. x) parts)))
 regroup front es (Done others rest) = ap (λ (t : List ℤ). Done t rest) (sym (append_assoc front es (flat_map (λ x. x) others)))
 regroup front es (Faulty f rest) = refl
-regroup front es Short = refl
+regroup front es Incomplete = refl
 
 -- one, and then the others
 pub joined_first : (r : ℕ → Bits → Reading Bool (List ℤ)) (l : ℕ) (ls : List ℕ) (s m : Bits) (es : List ℤ) → r l s ≡ Done es m → joined_at r (l ∷ ls) s ≡ with_front es (joined_at r ls m)
@@ -22,7 +22,7 @@ joined_first r l ls s m es e = rw e (sym (front_none _) ∙ regroup [] es (each_
 front_done : (front : List ℤ) (x : Reading Bool (List ℤ)) (xs : List ℤ) (m : Bits) → with_front front x ≡ Done xs m → (ys : List ℤ) × (x ≡ Done ys m) × (front ++ ys ≡ xs)
 front_done front (Done ys rest) xs m e = (ys, (let p : rest ≡ m = cc in ap (Done ys) p), cc)
 front_done front (Faulty f rest) xs m e = absurd cc
-front_done front Short xs m e = absurd cc
+front_done front Incomplete xs m e = absurd cc
 
 -- i partitions were read, and then n more are
 pub joined_add : (r : ℕ → Bits → Reading Bool (List ℤ)) (each i n : ℕ) (s m : Bits) (xs : List ℤ) → joined_at r (replicate i each) s ≡ Done xs m → joined_at r (replicate (i + n) each) s ≡ with_front xs (joined_at r (replicate n each) m)

@@ -12,8 +12,8 @@ use borrow.Table.Row.{s_int}
 use mir.Syntax.{wrap_add, wrap_mul, shl, shr, signed}
 use lib.Lanes.{zip2}
 use Rattle.claxon_format.specs.Predict.{dot}
-use Rattle.claxon_subframe.specs.Lanes.{AllWithin, Lanes, AllFit64, Wide, wrap_64, plus_products, two_on}
-use Rattle.claxon_format.proofs.Wraps.{rep_add, rep_mul, rep_fits}
+use Rattle.claxon_subframe.specs.Lanes.{AllWithin, Lanes, AllFit64, LanesFit64, wrap_64, plus_products, advanced_by_two}
+use Rattle.claxon_format.proofs.Wraps.{represents_add, represents_mul, represents_fits}
 
 -- ---- division by a power of two, rounded down
 
@@ -76,11 +76,11 @@ same_lanes {m} {xs} lt h = same_each xs (small_each m xs lt h.each)
 pub kept_lanes : {m : ℕ} {xs : List ℤ} → m < 2 ^ 63 → Lanes m xs → Lanes m (map (to_z w64) (map (of_z w64) xs))
 kept_lanes {m} {xs} lt h = subst (Lanes m) (sym (same_lanes lt h)) h
 
-pub same_wide : {xs : List ℤ} → Wide xs → map (to_z w64) (map (of_z w64) xs) ≡ xs
-same_wide {xs} h = same_each xs h.each
+pub same_fit_64 : {xs : List ℤ} → LanesFit64 xs → map (to_z w64) (map (of_z w64) xs) ≡ xs
+same_fit_64 {xs} h = same_each xs h.each
 
-pub kept_wide : {xs : List ℤ} → Wide xs → Wide (map (to_z w64) (map (of_z w64) xs))
-kept_wide {xs} h = subst Wide (sym (same_wide h)) h
+pub kept_fit_64 : {xs : List ℤ} → LanesFit64 xs → LanesFit64 (map (to_z w64) (map (of_z w64) xs))
+kept_fit_64 {xs} h = subst LanesFit64 (sym (same_fit_64 h)) h
 
 -- ---- lanes of 32 bits
 
@@ -90,22 +90,22 @@ back x =
     let same : x +ℤ pos 0 ≡ x = omega (arith, ints) in
     ap (λ (y : ℤ). shr_z y 4294967296) all ∙ shr_more x (pos 0) 4294967296 (omega arith) ∙ same
 
-one_narrow : (x : ℤ) → unsigned_abs x ≤ 32768 → to_z w64 (act2 (shr signed) (s_int w64) (s_int w64) (s_int w64) (act2 shl (s_int w64) (s_int w64) (s_int w64) (of_z w64 x) 32) 32) ≡ x
-one_narrow x h =
+one_sign_extended : (x : ℤ) → unsigned_abs x ≤ 32768 → to_z w64 (act2 (shr signed) (s_int w64) (s_int w64) (s_int w64) (act2 shl (s_int w64) (s_int w64) (s_int w64) (of_z w64 x) 32) 32) ≡ x
+one_sign_extended x h =
     let fx : FitsSigned w64 x = fits_signed_from_abs w64 x (omega arith) in
     let f32 : FitsSigned w64 (pos 4294967296) = record { sfits = omega arith } in
     let fp : FitsSigned w64 (x *ℤ pos 4294967296) = fits_signed_mul w64 x (pos 4294967296) 32768 4294967296 h (omega arith) (omega arith) in
     let m : to_z w64 (of_z w64 x * 4294967296 % 18446744073709551616) ≡ x *ℤ pos 4294967296 = wrapping_mul_is w64 x (pos 4294967296) fx f32 ∙ int_wrap_fits w64 (x *ℤ pos 4294967296) fp in
     ap (λ (y : ℤ). to_z w64 (of_z w64 (shr_z y 4294967296))) m ∙ ap (λ (y : ℤ). to_z w64 (of_z w64 y)) (back x) ∙ to_z-of_z w64 x fx
 
-pub narrow_is : (xs : List ℤ) → Lanes 32768 xs
+pub sign_extended_is : (xs : List ℤ) → Lanes 32768 xs
     → map (to_z w64) (zip2 (act2 (shr signed) (s_int w64) (s_int w64) (s_int w64)) (zip2 (act2 shl (s_int w64) (s_int w64) (s_int w64)) (map (of_z w64) xs) (32 ∷ 32 ∷ 32 ∷ 32 ∷ [])) (32 ∷ 32 ∷ 32 ∷ 32 ∷ [])) ≡ xs
-narrow_is [] h = refl
-narrow_is (a ∷ []) h = absurd (omega arith)
-narrow_is (a ∷ b ∷ []) h = absurd (omega arith)
-narrow_is (a ∷ b ∷ c ∷ []) h = absurd (omega arith)
-narrow_is (a ∷ b ∷ c ∷ d ∷ []) h = rw (one_narrow a h.each.0, one_narrow b h.each.1.0, one_narrow c h.each.1.1.0, one_narrow d h.each.1.1.1.0) refl
-narrow_is (a ∷ b ∷ c ∷ d ∷ e ∷ xs) h = absurd (omega arith)
+sign_extended_is [] h = refl
+sign_extended_is (a ∷ []) h = absurd (omega arith)
+sign_extended_is (a ∷ b ∷ []) h = absurd (omega arith)
+sign_extended_is (a ∷ b ∷ c ∷ []) h = absurd (omega arith)
+sign_extended_is (a ∷ b ∷ c ∷ d ∷ []) h = rw (one_sign_extended a h.each.0, one_sign_extended b h.each.1.0, one_sign_extended c h.each.1.1.0, one_sign_extended d h.each.1.1.1.0) refl
+sign_extended_is (a ∷ b ∷ c ∷ d ∷ e ∷ xs) h = absurd (omega arith)
 
 -- ---- products added to sums
 
@@ -114,7 +114,7 @@ one_added : (z c x : ℤ) → FitsSigned w64 z → unsigned_abs c ≤ 32768 → 
 one_added z c x fz hc hx =
     let fc : FitsSigned w64 c = fits_signed_from_abs w64 c (omega arith) in
     let fx : FitsSigned w64 x = fits_signed_from_abs w64 x (omega arith) in
-    (rep_add (rep_fits z fz) (rep_mul (rep_fits c fc) (rep_fits x fx))).value
+    (represents_add (represents_fits z fz) (represents_mul (represents_fits c fc) (represents_fits x fx))).value
 
 added : (zs cs xs : List ℤ) → length zs ≡ length cs → length cs ≡ length xs → AllFit64 zs → AllWithin 32768 cs → AllWithin 2147483648 xs
     → map (to_z w64) (zip2 (act2 wrap_add (s_int w64) (s_int w64) (s_int w64)) (map (of_z w64) zs) (zip2 (act2 wrap_mul (s_int w64) (s_int w64) (s_int w64)) (map (of_z w64) cs) (map (of_z w64) xs))) ≡ plus_products zs cs xs
@@ -123,7 +123,7 @@ added (z ∷ zs) [] xs e f hz hc hx = absurd (omega arith)
 added (z ∷ zs) (c ∷ cs) [] e f hz hc hx = absurd (omega arith)
 added (z ∷ zs) (c ∷ cs) (x ∷ xs) e f hz hc hx = rw (one_added z c x hz.0 hc.0 hx.0, added zs cs xs (omega arith) (omega arith) hz.1 hc.1 hx.1) refl
 
-pub added_is : (zs cs xs n : List ℤ) → Wide zs → Lanes 32768 cs → Lanes 2147483648 xs → n ≡ map (to_z w64) (map (of_z w64) cs)
+pub added_is : (zs cs xs n : List ℤ) → LanesFit64 zs → Lanes 32768 cs → Lanes 2147483648 xs → n ≡ map (to_z w64) (map (of_z w64) cs)
     → map (to_z w64) (zip2 (act2 wrap_add (s_int w64) (s_int w64) (s_int w64)) (map (of_z w64) zs) (zip2 (act2 wrap_mul (s_int w64) (s_int w64) (s_int w64)) (map (of_z w64) n) (map (of_z w64) xs))) ≡ plus_products zs cs xs
 added_is zs cs xs n hz hc hx e =
     let same : n ≡ cs = e ∙ same_lanes (omega arith) hc in
@@ -133,8 +133,8 @@ fit_wrapped : (xs : List ℤ) → AllFit64 (map wrap_64 xs)
 fit_wrapped [] = tt
 fit_wrapped (x ∷ xs) = (SFits-int_wrap w64 x, fit_wrapped xs)
 
-pub products_wide : (zs cs xs : List ℤ) → length zs ≡ 4 → Lanes 32768 cs → Lanes 2147483648 xs → Wide (plus_products zs cs xs)
-products_wide zs cs xs four hc hx =
+pub products_fit_64 : (zs cs xs : List ℤ) → length zs ≡ 4 → Lanes 32768 cs → Lanes 2147483648 xs → LanesFit64 (plus_products zs cs xs)
+products_fit_64 zs cs xs four hc hx =
     let products : length (zip2 ◌*ℤ◌ cs xs) ≡ length cs = length-zip2 ◌*ℤ◌ cs xs (omega (arith, hc.four, hx.four)) in
     let sums : length (zip2 ◌+ℤ◌ zs (zip2 ◌*ℤ◌ cs xs)) ≡ length zs = length-zip2 ◌+ℤ◌ zs (zip2 ◌*ℤ◌ cs xs) (omega (arith, hc.four)) in
     record { four = length-map (zip2 ◌+ℤ◌ zs (zip2 ◌*ℤ◌ cs xs)) wrap_64 ∙ sums ∙ four; each = fit_wrapped (zip2 ◌+ℤ◌ zs (zip2 ◌*ℤ◌ cs xs)) }
@@ -153,40 +153,40 @@ pub record Four (xs : List ℤ) : Type 0 where
   pub c_is : to_z w64 (of_z w64 c) ≡ c
   pub d_is : to_z w64 (of_z w64 d) ≡ d
 
-pub four_of : (xs : List ℤ) → Wide xs → Four xs
+pub four_of : (xs : List ℤ) → LanesFit64 xs → Four xs
 four_of (a ∷ b ∷ c ∷ d ∷ []) h = record { a = a; b = b; c = c; d = d; is = refl; a_is = to_z-of_z w64 a h.each.0; b_is = to_z-of_z w64 b h.each.1.0; c_is = to_z-of_z w64 c h.each.1.1.0; d_is = to_z-of_z w64 d h.each.1.1.1.0 }
 four_of xs h = absurd (omega (arith, h.four))
 
-moved_wide : (before sums : List ℤ) → Wide before → Wide sums → Wide (drop 2 before ++ take 2 sums)
-moved_wide (a ∷ b ∷ c ∷ d ∷ []) (e ∷ f ∷ g ∷ h ∷ []) hb hs = record { four = refl; each = (hb.each.1.1.0, (hb.each.1.1.1.0, (hs.each.0, (hs.each.1.0, tt)))) }
-moved_wide before sums hb hs = absurd (omega (arith, hb.four, hs.four))
+moved_fit_64 : (before sums : List ℤ) → LanesFit64 before → LanesFit64 sums → LanesFit64 (drop 2 before ++ take 2 sums)
+moved_fit_64 (a ∷ b ∷ c ∷ d ∷ []) (e ∷ f ∷ g ∷ h ∷ []) hb hs = record { four = refl; each = (hb.each.1.1.0, (hb.each.1.1.1.0, (hs.each.0, (hs.each.1.0, tt)))) }
+moved_fit_64 before sums hb hs = absurd (omega (arith, hb.four, hs.four))
 
-pub wide_moved : {before sums xs : List ℤ} → Wide before → Wide sums → xs ≡ drop 2 before ++ take 2 sums → Wide xs
-wide_moved {before} {sums} {xs} hb hs e = subst Wide (sym e) (moved_wide before sums hb hs)
+pub fit_64_moved : {before sums xs : List ℤ} → LanesFit64 before → LanesFit64 sums → xs ≡ drop 2 before ++ take 2 sums → LanesFit64 xs
+fit_64_moved {before} {sums} {xs} hb hs e = subst LanesFit64 (sym e) (moved_fit_64 before sums hb hs)
 
 -- the same of a call, which gets and gives vectors
-pub moved_by : {before sums m : List ℤ} → Wide before → Wide sums → Wide m → m ≡ drop 2 (map (to_z w64) (map (of_z w64) before)) ++ take 2 (map (to_z w64) (map (of_z w64) sums))
+pub moved_by : {before sums m : List ℤ} → LanesFit64 before → LanesFit64 sums → LanesFit64 m → m ≡ drop 2 (map (to_z w64) (map (of_z w64) before)) ++ take 2 (map (to_z w64) (map (of_z w64) sums))
     → map (to_z w64) (map (of_z w64) m) ≡ drop 2 before ++ take 2 sums
-moved_by {before} {sums} {m} hb hs hm e = same_wide hm ∙ e ∙ rw (same_wide hb, same_wide hs) refl
+moved_by {before} {sums} {m} hb hs hm e = same_fit_64 hm ∙ e ∙ rw (same_fit_64 hb, same_fit_64 hs) refl
 
-pub later_is : (before sums ks x js y m r q : List ℤ) → Wide before → Wide sums → Lanes 32768 ks → Lanes 2147483648 x → Lanes 32768 js → Lanes 2147483648 y → m ≡ drop 2 before ++ take 2 sums
+pub later_is : (before sums ks x js y m r q : List ℤ) → LanesFit64 before → LanesFit64 sums → Lanes 32768 ks → Lanes 2147483648 x → Lanes 32768 js → Lanes 2147483648 y → m ≡ drop 2 before ++ take 2 sums
     → r ≡ plus_products m (map (to_z w64) (map (of_z w64) ks)) (map (to_z w64) (map (of_z w64) x))
     → q ≡ plus_products (map (to_z w64) (map (of_z w64) r)) (map (to_z w64) (map (of_z w64) js)) (map (to_z w64) (map (of_z w64) y))
-    → (map (to_z w64) (map (of_z w64) q) ≡ two_on before sums ks x js y) × Wide (map (to_z w64) (map (of_z w64) q))
+    → (map (to_z w64) (map (of_z w64) q) ≡ advanced_by_two before sums ks x js y) × LanesFit64 (map (to_z w64) (map (of_z w64) q))
 later_is before sums ks x js y m r q hb hs hk hx hj hy em er eq =
     let four : length (drop 2 before ++ take 2 sums) ≡ 4 = omega (arith, length-append (drop 2 before) (take 2 sums), length-drop 2 before, length-take 2 sums, hb.four, hs.four) in
     let first : r ≡ plus_products (drop 2 before ++ take 2 sums) ks x = er ∙ rw (em, same_lanes (omega arith) hk, same_lanes (omega arith) hx) refl in
-    let wide : Wide r = subst Wide (sym first) (products_wide (drop 2 before ++ take 2 sums) ks x four hk hx) in
-    let second : q ≡ plus_products r js y = eq ∙ rw (same_wide wide, same_lanes (omega arith) hj, same_lanes (omega arith) hy) refl in
-    let last : Wide q = subst Wide (sym second) (products_wide r js y wide.four hj hy) in
-    (same_wide last ∙ second ∙ ap (λ (l : List ℤ). plus_products l js y) first, kept_wide last)
+    let wide : LanesFit64 r = subst LanesFit64 (sym first) (products_fit_64 (drop 2 before ++ take 2 sums) ks x four hk hx) in
+    let second : q ≡ plus_products r js y = eq ∙ rw (same_fit_64 wide, same_lanes (omega arith) hj, same_lanes (omega arith) hy) refl in
+    let last : LanesFit64 q = subst LanesFit64 (sym second) (products_fit_64 r js y wide.four hj hy) in
+    (same_fit_64 last ∙ second ∙ ap (λ (l : List ℤ). plus_products l js y) first, kept_fit_64 last)
 
 -- ---- coefficients
 
 -- zeros behind coefficients add nothing
-pub dot_behind : (n : ℕ) (cs xs : List ℤ) → dot (cs ++ replicate n (pos 0)) xs ≡ dot cs xs
-dot_behind zero [] xs = refl
-dot_behind (suc n) [] [] = refl
-dot_behind (suc n) [] (x ∷ xs) = ap (λ (v : ℤ). v +ℤ dot (replicate n (pos 0)) xs) (zero-*ℤ x) ∙ +ℤ_idl (dot (replicate n (pos 0)) xs) ∙ dot_behind n [] xs
-dot_behind n (c ∷ cs) [] = refl
-dot_behind n (c ∷ cs) (x ∷ xs) = ap (λ (v : ℤ). c *ℤ x +ℤ v) (dot_behind n cs xs)
+pub dot_trailing_zeros : (n : ℕ) (cs xs : List ℤ) → dot (cs ++ replicate n (pos 0)) xs ≡ dot cs xs
+dot_trailing_zeros zero [] xs = refl
+dot_trailing_zeros (suc n) [] [] = refl
+dot_trailing_zeros (suc n) [] (x ∷ xs) = ap (λ (v : ℤ). v +ℤ dot (replicate n (pos 0)) xs) (zero-*ℤ x) ∙ +ℤ_idl (dot (replicate n (pos 0)) xs) ∙ dot_trailing_zeros n [] xs
+dot_trailing_zeros n (c ∷ cs) [] = refl
+dot_trailing_zeros n (c ∷ cs) (x ∷ xs) = ap (λ (v : ℤ). c *ℤ x +ℤ v) (dot_trailing_zeros n cs xs)

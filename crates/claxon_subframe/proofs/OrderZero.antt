@@ -3,7 +3,7 @@ use Rattle.std.proofs.Common.{◌≡◌, ℕ, Bool, false, ltb, List, [], ◌∷
 use Rattle.std.proofs.lemmas.Bool.{le-ltb}
 use Rattle.std.proofs.lemmas.Int.{ints, int_wrap_fits}
 use Rattle.claxon_format.specs.Bits.{Bits}
-use Rattle.claxon_format.specs.Reading.{Reading, Done, Faulty, Short, bind, done, times_at, each_at}
+use Rattle.claxon_format.specs.Reading.{Reading, Done, Faulty, Incomplete, bind, done, times_at, each_at}
 use Rattle.claxon_format.specs.read.Residual.{residual_at}
 use Rattle.claxon_format.specs.read.Subframe.{fixed_at}
 use Rattle.claxon_format.specs.Subframe.{AllFit}
@@ -21,7 +21,7 @@ restore_0 past (x ∷ xs) h =
 same_samples : (n : ℕ) (s : Bits) (x : Reading Bool (List ℤ)) → residual_at n 0 s ≡ x → bind x (λ e. done (restore (fixed 0) [] e)) ≡ x
 same_samples n s (Done e m) h = let t = (Reads-residual n 0).takes s e m h in ap (λ (l : List ℤ). Done l m) (restore_0 [] e (residual_fits n 0 e t.0 t.1).0)
 same_samples n s (Faulty f m) h = refl
-same_samples n s Short h = refl
+same_samples n s Incomplete h = refl
 
 -- of order 0 the residual is the samples
 pub fixed_0_at : (w n : ℕ) (s : Bits) → fixed_at w n 0 s ≡ residual_at n 0 s

@@ -8,8 +8,8 @@ use Rattle.std.proofs.Math.Nat.{suc-mul}
 pub mask_is : (n p : ℕ) → p < 16 → bit_and n (1 * 2 ^ p % 4294967296 - 1) ≡ n % 2 ^ p
 mask_is n p lt = let e : 1 * 2 ^ p % 4294967296 ≡ 2 ^ p = one_shl p 32 (omega arith) in rw e (and_mask n p)
 
-some_parts : (p : ℕ) → p < 16 → 1 * 2 ^ p % 4294967296 ≡ suc (2 ^ p - 1)
-some_parts p lt = let k : 0 < 2 ^ p = pow_pos p in one_shl p 32 (omega arith) ∙ omega arith
+some_partitions : (p : ℕ) → p < 16 → 1 * 2 ^ p % 4294967296 ≡ suc (2 ^ p - 1)
+some_partitions p lt = let k : 0 < 2 ^ p = pow_pos p in one_shl p 32 (omega arith) ∙ omega arith
 
 total-replicate : (n l : ℕ) → total (replicate n l) ≡ n * l
 total-replicate zero l = omega arith
@@ -22,8 +22,8 @@ total_is n order p lt whole room =
     let e = suc-mul (2 ^ p - 1) (n / 2 ^ p) in
     let k : suc (2 ^ p - 1) ≡ 2 ^ p = omega arith in
     let f : n / 2 ^ p + (2 ^ p - 1) * (n / 2 ^ p) ≡ n = (let g = ap (λ (z : ℕ). z * (n / 2 ^ p)) k in omega arith) in
-    rw (some_parts p lt, total-replicate (2 ^ p - 1) (n / 2 ^ p)) (omega arith)
+    rw (some_partitions p lt, total-replicate (2 ^ p - 1) (n / 2 ^ p)) (omega arith)
 
 -- how many entries the partitions have
 pub lengths_are : (n order p : ℕ) → p < 16 → lengths (1 * 2 ^ p % 4294967296) (n / 2 ^ p - order) (n / 2 ^ p) ≡ partition_lengths n order p
-lengths_are n order p lt = rw (some_parts p lt) refl
+lengths_are n order p lt = rw (some_partitions p lt) refl

@@ -2,10 +2,10 @@
 use Rattle.std.proofs.Common.{◌≡◌, ◌≢◌, ℕ, ◌+◌, ◌-◌, ◌*◌, ◌%◌, ◌^◌, ◌<◌, ◌≤◌, true, false, eqb, refl, sym, ap, subst, ◌∙◌, arith}
 use Rattle.std.proofs.lemmas.Bool.Decides.{nat_tests}
 use Rattle.claxon_format.specs.Bits.{Bits}
-use Rattle.claxon_format.specs.Reading.{Done, Short, times_at}
+use Rattle.claxon_format.specs.Reading.{Done, Incomplete, times_at}
 use Rattle.claxon_format.specs.Residual.{escape}
-use Rattle.claxon_format.specs.read.Bits.{number_at, word_at}
-use Rattle.claxon_format.specs.read.Residual.{escaped_at, partition_at}
+use Rattle.claxon_format.specs.read.Bits.{number_at, rice_code_at}
+use Rattle.claxon_format.specs.read.Residual.{escaped_partition_at, partition_at}
 use Rattle.claxon_subframe.specs.SubframeFields.{method_of}
 use Rattle.claxon_subframe.specs.declared.subframe.RicePartitionType.{RicePartitionType}
 use Rattle.claxon_subframe.specs.declared.subframe.RicePartitionType.TheVariants.{Rice, Rice2}
@@ -17,16 +17,16 @@ method_small Rice2 = omega arith
 -- ---- the escape, as the code has it
 
 -- a parameter that is no escape
-pub record IsPlain (t : RicePartitionType) (k : ℕ) : Type 0 where
+pub record IsRiceParameter (t : RicePartitionType) (k : ℕ) : Type 0 where
   pub few : k ≤ 30
   pub plain : eqb k (escape (method_of t)) ≡ false
 
-pub plain_of : (t : RicePartitionType) (n k : ℕ) → n ≡ 4 + method_of t → k < 2 ^ n → k ≢ 1 * 2 ^ n % 4294967296 - 1 → IsPlain t k
-plain_of Rice n k is lt not =
+pub rice_parameter_of : (t : RicePartitionType) (n k : ℕ) → n ≡ 4 + method_of t → k < 2 ^ n → k ≢ 1 * 2 ^ n % 4294967296 - 1 → IsRiceParameter t k
+rice_parameter_of Rice n k is lt not =
     let p : k < 16 = subst (λ (j : ℕ). k < 2 ^ j) is lt in
     let q : k ≢ 15 = subst (λ (j : ℕ). k ≢ 1 * 2 ^ j % 4294967296 - 1) is not in
     record { few = omega arith; plain = grind (arith, nat_tests, q) }
-plain_of Rice2 n k is lt not =
+rice_parameter_of Rice2 n k is lt not =
     let p : k < 32 = subst (λ (j : ℕ). k < 2 ^ j) is lt in
     let q : k ≢ 31 = subst (λ (j : ℕ). k ≢ 1 * 2 ^ j % 4294967296 - 1) is not in
     record { few = omega arith; plain = grind (arith, nat_tests, q) }
@@ -38,17 +38,17 @@ escape_of Rice2 n k is e = let q : k ≡ 31 = subst (λ (j : ℕ). k ≡ 1 * 2 ^
 -- ---- what stands behind the parameter
 
 module _ (method n l : ℕ) (s : Bits) (is : n ≡ 4 + method) where
-  pub partition_short : number_at n s ≡ Short → partition_at method l s ≡ Short
+  pub partition_incomplete : number_at n s ≡ Incomplete → partition_at method l s ≡ Incomplete
   unfolding partition_at
-  partition_short number =
-      let first : number_at (4 + method) s ≡ Short = ap (λ (j : ℕ). number_at j s) (sym is) ∙ number in rw first refl
+  partition_incomplete number =
+      let first : number_at (4 + method) s ≡ Incomplete = ap (λ (j : ℕ). number_at j s) (sym is) ∙ number in rw first refl
 
-  pub partition_escaped : {k : ℕ} {m : Bits} → eqb k (escape method) ≡ true → number_at n s ≡ Done k m → partition_at method l s ≡ escaped_at l m
+  pub partition_escaped : {k : ℕ} {m : Bits} → eqb k (escape method) ≡ true → number_at n s ≡ Done k m → partition_at method l s ≡ escaped_partition_at l m
   unfolding partition_at
   partition_escaped {k} {m} all number =
       let first : number_at (4 + method) s ≡ Done k m = ap (λ (j : ℕ). number_at j s) (sym is) ∙ number in rw (first, all) refl
 
-  pub partition_plain : {k : ℕ} {m : Bits} → eqb k (escape method) ≡ false → number_at n s ≡ Done k m → partition_at method l s ≡ times_at l (word_at k) m
+  pub partition_rice : {k : ℕ} {m : Bits} → eqb k (escape method) ≡ false → number_at n s ≡ Done k m → partition_at method l s ≡ times_at l (rice_code_at k) m
   unfolding partition_at
-  partition_plain {k} {m} plain number =
+  partition_rice {k} {m} plain number =
       let first : number_at (4 + method) s ≡ Done k m = ap (λ (j : ℕ). number_at j s) (sym is) ∙ number in rw (first, plain) refl

@@ -5,35 +5,35 @@ use Rattle.std.proofs.lemmas.Int.{ints, int_wrap_fits}
 use Rattle.claxon_format.specs.Bits.{Bits, Signed}
 use Rattle.claxon_format.specs.Predict.{wrap}
 use Rattle.claxon_format.specs.Reading.{Done, Mapped, choose}
-use Rattle.claxon_format.specs.read.Subframe.{kind_at, SubframeFields, subframe_header_at, subframe_at}
+use Rattle.claxon_format.specs.read.Subframe.{subframe_body_at, SubframeFields, subframe_header_at, subframe_at}
 use Rattle.claxon_format.specs.Subframe.{AllFit, Samples, Fixed, Linear, scaled}
 use Rattle.claxon_format.proofs.Laws.{Reads-map, Reads-pick}
 use Rattle.claxon_format.proofs.Predicted.{fit_each, signed_fits, Reads-fixed, Reads-linear}
 use Rattle.claxon_format.proofs.Residuals.{Reads-times}
-use Rattle.claxon_format.proofs.Signeds.{Reads-signed}
+use Rattle.claxon_format.proofs.SignedIntegers.{Reads-signed}
 use Rattle.claxon_input.specs.State.{State}
-use Rattle.claxon_input.specs.Gives.{Went}
-use Rattle.claxon_input.proofs.CallsInTurn.{went_both}
+use Rattle.claxon_input.specs.Gives.{Consumes}
+use Rattle.claxon_input.proofs.CallsInTurn.{consumes_then}
 
 replicate_fits : (n : ℕ) (x : ℤ) → FitsSigned w32 x → AllFit (replicate n x)
 replicate_fits zero x h = tt
 replicate_fits (suc n) x h = (h, replicate_fits n x h)
 
-kind_fits : (w n fixed linear : ℕ) (a b c : Bool) (u : List ℤ) (t : Bits) → 0 < w → w ≤ 32
+type_fits : (w n fixed linear : ℕ) (a b c : Bool) (u : List ℤ) (t : Bits) → 0 < w → w ≤ 32
     → choose a (Mapped (λ x. replicate n x) (Signed w)) (choose b (Samples w n) (choose c (Fixed w n fixed) (Linear w n linear))) u t → AllFit u
-kind_fits w n fixed linear true b c u t some most k = rw k.2 (replicate_fits n k.0 (signed_fits w k.0 t some most k.1))
-kind_fits w n fixed linear false true c u t some most k = fit_each (Signed w) u t (λ e v d. signed_fits w e v some most d) k.1
-kind_fits w n fixed linear false false true u t some most k = k.4
-kind_fits w n fixed linear false false false u t some most k = k.8
+type_fits w n fixed linear true b c u t some most k = rw k.2 (replicate_fits n k.0 (signed_fits w k.0 t some most k.1))
+type_fits w n fixed linear false true c u t some most k = fit_each (Signed w) u t (λ e v d. signed_fits w e v some most d) k.1
+type_fits w n fixed linear false false true u t some most k = k.4
+type_fits w n fixed linear false false false u t some most k = k.8
 
 -- entries that were read fit 32 bits
-entries_fit : (w n type : ℕ) (s m : Bits) (u : List ℤ) → 0 < w → w ≤ 32 → kind_at w n type s ≡ Done u m → AllFit u
-unfolding kind_at
-entries_fit w n type s m u some most e =
+samples_fit : (w n type : ℕ) (s m : Bits) (u : List ℤ) → 0 < w → w ≤ 32 → subframe_body_at w n type s ≡ Done u m → AllFit u
+unfolding subframe_body_at
+samples_fit w n type s m u some most e =
     let law = Reads-pick (eqb type 0) (λ e. Reads-map (λ x. replicate n x) (Reads-signed w some)) (λ f. Reads-pick (eqb type 1) (λ e. Reads-times n (Reads-signed w some)) (λ f. Reads-pick (ltb type 13)
     (λ low. Reads-fixed w n (type - 8) some most (let k : type < 13 = ltb-true _ _ low in omega arith)) (λ high. Reads-linear w n (type - 31) some most))) in
     let t = law.takes s u m e in
-    kind_fits w n (type - 8) (type - 31) (eqb type 0) (eqb type 1) (ltb type 13) u t.0 some most t.1
+    type_fits w n (type - 8) (type - 31) (eqb type 0) (eqb type 1) (ltb type 13) u t.0 some most t.1
 
 same_number : (x : ℤ) → x *ℤ pos 1 ≡ x
 same_number x = omega (arith, ints)
@@ -44,10 +44,10 @@ scaled_none [] h = refl
 scaled_none (x ∷ u) h = ap (λ (y : ℤ). wrap y ∷ map (scaled 0) u) (same_number x) ∙ ap (λ (y : ℤ). y ∷ map (scaled 0) u) (int_wrap_fits w32 x h.0) ∙ ap (λ (l : List ℤ). x ∷ l) (scaled_none u h.1)
 
 -- a header, and then entries that are scaled
-pub channel_went : {a b c : State Bool} (w n : ℕ) (header : SubframeFields) (u v : List ℤ) → header.waste < w → w ≤ 32 → Went a b (λ s m. subframe_header_at s ≡ Done header m)
-    → Went b c (λ s m. kind_at (w - header.waste) n header.type s ≡ Done u m) → (AllFit u → v ≡ map (scaled header.waste) u) → Went a c (λ s m. subframe_at w n s ≡ Done v m)
+pub channel_consumes : {a b c : State Bool} (w n : ℕ) (header : SubframeFields) (u v : List ℤ) → header.wasted_bits < w → w ≤ 32 → Consumes a b (λ s m. subframe_header_at s ≡ Done header m)
+    → Consumes b c (λ s m. subframe_body_at (w - header.wasted_bits) n header.type s ≡ Done u m) → (AllFit u → v ≡ map (scaled header.wasted_bits) u) → Consumes a c (λ s m. subframe_at w n s ≡ Done v m)
 unfolding subframe_at
-channel_went w n header u v lt most first second same =
-    went_both _ first second (λ e f.
-    let fits = entries_fit (w - header.waste) n header.type _ _ u (omega arith) (omega arith) f in
-    rw (e, lt-ltb header.waste w lt, f, same fits) refl)
+channel_consumes w n header u v lt most first second same =
+    consumes_then _ first second (λ e f.
+    let fits = samples_fit (w - header.wasted_bits) n header.type _ _ u (omega arith) (omega arith) f in
+    rw (e, lt-ltb header.wasted_bits w lt, f, same fits) refl)

@@ -5,7 +5,7 @@ use Rattle.std.proofs.lemmas.Bool.{cases_lt, lt-ltb, le-ltb}
 use Rattle.std.proofs.lemmas.Int.{to_z-of_z}
 use Rattle.std.proofs.lemmas.Nat.{pow-add, pow_pos, div-mul-add, mod-mul-add, mod_below}
 use Rattle.std.proofs.Math.Nat.{pow-suc, mul_assoc}
-use Rattle.claxon_format.specs.Bits.{Bits, twos}
+use Rattle.claxon_format.specs.Bits.{Bits, twos_complement}
 use Rattle.claxon_format.specs.Reading.{Done, done}
 use Rattle.claxon_format.specs.read.Bits.{number_at, signed_at}
 use Rattle.claxon_format.proofs.Numbers.{Reads-number, mod_small}
@@ -23,22 +23,22 @@ low half v k p some e lt =
     let back : v * k / k ≡ v = ap (λ (n : ℕ). n / k) (omega arith) ∙ div-mul-add v k 0 some in
     rw (whole, here) (ap pos back)
 
-gap_is : (half v k p d : ℕ) → v + (d + 1) ≡ 2 * p → p * k ≡ half → v * k + (d * k + k) ≡ 2 * half
-gap_is half v k p d e w =
+difference_is : (half v k p d : ℕ) → v + (d + 1) ≡ 2 * p → p * k ≡ half → v * k + (d * k + k) ≡ 2 * half
+difference_is half v k p d e w =
     let x : (v + (d + 1)) * k ≡ 2 * (p * k) = ap (λ (n : ℕ). n * k) e ∙ mul_assoc 2 p k in omega arith
 
 high : (half v k p : ℕ) → 0 < k → p * k ≡ half → p ≤ v → v < 2 * p → shr_z (signed_of half (v * k % (2 * half))) k ≡ negsuc (2 * p - 1 - v)
 high half v k p some e le lt =
     let above : half ≤ v * k = grind arith in
-    let gap : v * k + ((2 * p - 1 - v) * k + k) ≡ 2 * half = gap_is half v k p (2 * p - 1 - v) (omega arith) e in
+    let gap : v * k + ((2 * p - 1 - v) * k + k) ≡ 2 * half = difference_is half v k p (2 * p - 1 - v) (omega arith) e in
     let whole : v * k % (2 * half) ≡ v * k = mod_small (v * k) (2 * half) (omega arith) in
     let here : ltb (v * k) half ≡ false = le-ltb _ _ above in
     let split : 2 * half - suc (v * k) ≡ (2 * p - 1 - v) * k + (k - 1) = omega arith in
     let back : (2 * half - suc (v * k)) / k ≡ 2 * p - 1 - v = ap (λ (n : ℕ). n / k) split ∙ div-mul-add (2 * p - 1 - v) k (k - 1) (omega arith) in
     rw (whole, here) (ap negsuc back)
 
-shifted : (half total bits v : ℕ) → 0 < bits → bits ≤ total → half ≡ 2 ^ (total - 1) → v < 2 ^ bits → shr_z (signed_of half (v * 2 ^ (total - bits) % (2 * half))) (2 ^ (total - bits)) ≡ twos bits v
-unfolding twos
+shifted : (half total bits v : ℕ) → 0 < bits → bits ≤ total → half ≡ 2 ^ (total - 1) → v < 2 ^ bits → shr_z (signed_of half (v * 2 ^ (total - bits) % (2 * half))) (2 ^ (total - bits)) ≡ twos_complement bits v
+unfolding twos_complement
 shifted half total bits v some most h lt =
     let k : bits ≡ suc (bits - 1) = omega arith in
     let double : 2 ^ bits ≡ 2 * 2 ^ (bits - 1) = ap (λ (n : ℕ). 2 ^ n) k ∙ pow-suc 2 (bits - 1) ∙ omega arith in
@@ -64,7 +64,7 @@ shift_fits_16 : (z : ℤ) (n : ℕ) → FitsSigned w16 z → FitsSigned w16 (shr
 shift_fits_16 z n h = record { sfits = omega (arith, h.sfits, mag_shr z (2 ^ n)) }
 
 pub extended_32 : (bits v : ℕ) (z : ℤ) → 0 < bits → bits ≤ 32 → FitsSigned w32 z → z ≡ to_z w32 (v * 2 ^ (32 - bits) % 4294967296)
-    → to_z w32 (of_z w32 (shr_z (to_z w32 (of_z w32 z)) (2 ^ (32 - bits)))) ≡ twos bits (v % 2 ^ bits)
+    → to_z w32 (of_z w32 (shr_z (to_z w32 (of_z w32 z)) (2 ^ (32 - bits)))) ≡ twos_complement bits (v % 2 ^ bits)
 extended_32 bits v z some most fits e =
     let k : to_z w32 (of_z w32 z) ≡ z = to_z-of_z w32 z fits in
     let total : 2 ^ bits * 2 ^ (32 - bits) ≡ 4294967296 = (let q : bits + (32 - bits) ≡ 32 = omega arith in sym (pow-add 2 bits (32 - bits)) ∙ ap (λ (n : ℕ). 2 ^ n) q) in
@@ -75,7 +75,7 @@ extended_32 bits v z some most fits e =
     ∙ shifted 2147483648 32 bits (v % 2 ^ bits) some most refl (mod_below v (2 ^ bits) (pow_pos bits))
 
 pub extended_16 : (bits v : ℕ) (z : ℤ) → 0 < bits → bits ≤ 16 → v < 2 ^ bits → FitsSigned w16 z → z ≡ to_z w16 (v * 2 ^ (16 - bits) % 65536)
-    → to_z w16 (of_z w16 (shr_z (to_z w16 (of_z w16 z)) (2 ^ (16 - bits)))) ≡ twos bits v
+    → to_z w16 (of_z w16 (shr_z (to_z w16 (of_z w16 z)) (2 ^ (16 - bits)))) ≡ twos_complement bits v
 extended_16 bits v z some most lt fits e =
     let k : to_z w16 (of_z w16 z) ≡ z = to_z-of_z w16 z fits in
     to_z-of_z w16 (shr_z (to_z w16 (of_z w16 z)) (2 ^ (16 - bits))) (rw k (shift_fits_16 z (16 - bits) fits))
@@ -83,8 +83,8 @@ extended_16 bits v z some most lt fits e =
     ∙ shifted 32768 16 bits v some most refl lt
 
 -- the sample of a call, and the bits that it leaves
-pub sample_from : (w n : ℕ) (v : ℤ) (s left : Bits) → number_at w s ≡ Done n left → v ≡ twos w (n % 2 ^ w) → signed_at w s ≡ Done v left
+pub sample_from : (w n : ℕ) (v : ℤ) (s left : Bits) → number_at w s ≡ Done n left → v ≡ twos_complement w (n % 2 ^ w) → signed_at w s ≡ Done v left
 unfolding signed_at
 sample_from w n v s left e v-is =
     let small : n < 2 ^ w = ((Reads-number w).takes s n left e).1.0 in
-    rw e (ap (λ (y : ℤ). done y left) (ap (twos w) (sym (mod_small n (2 ^ w) small)) ∙ sym v-is))
+    rw e (ap (λ (y : ℤ). done y left) (ap (twos_complement w) (sym (mod_small n (2 ^ w) small)) ∙ sym v-is))

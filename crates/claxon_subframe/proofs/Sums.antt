@@ -13,17 +13,17 @@ use Rattle.std.proofs.lemmas.Nat.{pow_pos, pow-add, div-mul-add}
 use Rattle.std.proofs.lemmas.Int.{ints, to_z-of_z, int_wrap_fits, int_wrap-add_left, int_wrap-mul_right, SFits-int_wrap}
 use Rattle.std.proofs.lemmas.List.{drop_all, drop_more, drop-drop, drop-replicate, get_or-drop, get_or-reverse, get_or_past, length-drop, length-reverse, reverse-append, take-append-drop}
 use Rattle.std.proofs.Math.Seq.{drop-append_seam}
-use Rattle.claxon_subframe.proofs.LastCoefficients.{reverse_zeros}
+use Rattle.claxon_subframe.proofs.PaddedCoefficients.{reverse_zeros}
 use Rattle.claxon_format.specs.Predict.{wrap, dot, floor_shift, linear}
-use Rattle.claxon_format.proofs.Wraps.{Rep, rep_add, rep_mul, rep_fits}
-use Rattle.claxon_subframe.specs.Lanes.{AllWithin, Within, Lanes, Wide, wrap_64, two_on}
-use Rattle.claxon_subframe.specs.Sums.{but_newest_five, waiting_at, four_waiting, four_taps, Waits, AreTaps, SmallTaps, SmallLater, AreLaterTaps, FitVectors, WideSums, put_up, IsPutUp, AddsProduct, plus_five, IsSample, IsFollowed, five_before, AreNewest}
+use Rattle.claxon_format.proofs.Wraps.{Represents, represents_add, represents_mul, represents_fits}
+use Rattle.claxon_subframe.specs.Lanes.{AllWithin, Within, Lanes, LanesFit64, wrap_64, advanced_by_two}
+use Rattle.claxon_subframe.specs.Sums.{but_newest_five, pending_at, four_pending, four_taps, ArePendingSums, AreTaps, SmallTaps, SmallLater, AreLaterTaps, FitVectors, SumsFit64, scaled_up, IsScaledUp, AddsProduct, plus_five, IsSample, IsFollowed, five_before, AreNewest}
 use Rattle.claxon_subframe.specs.declared.subframe.predictor.Five.{Five}
 use Rattle.claxon_subframe.specs.declared.subframe.predictor.Taps.{Taps}
 use Rattle.claxon_subframe.specs.declared.subframe.predictor.Later.{Later}
 use Rattle.claxon_subframe.specs.declared.subframe.predictor.Sums.{Sums}
 use Rattle.claxon_subframe.proofs.Predictors.{floor_is, abs_32, shifted_fits}
-use Rattle.claxon_subframe.proofs.Lanes.{shr_more, small_fits, dot_behind, same_lanes, same_wide}
+use Rattle.claxon_subframe.proofs.Lanes.{shr_more, small_fits, dot_trailing_zeros, same_lanes, same_fit_64}
 
 -- ---- what two more samples add
 
@@ -40,15 +40,15 @@ dot_one ks j y past =
     ]
 
 -- a sum two places on, and two products
-waiting_two : (ks past : List ℤ) (x y : ℤ) (j k m : ℕ) → k ≡ j + 1 → m ≡ j + 2
-    → wrap_64 (wrap_64 (waiting_at ks past m +ℤ get_or ks k (pos 0) *ℤ x) +ℤ get_or ks j (pos 0) *ℤ y) ≡ waiting_at ks (y ∷ x ∷ past) j
-waiting_two ks past x y j k m ek em =
+pending_two : (ks past : List ℤ) (x y : ℤ) (j k m : ℕ) → k ≡ j + 1 → m ≡ j + 2
+    → wrap_64 (wrap_64 (pending_at ks past m +ℤ get_or ks k (pos 0) *ℤ x) +ℤ get_or ks j (pos 0) *ℤ y) ≡ pending_at ks (y ∷ x ∷ past) j
+pending_two ks past x y j k m ek em =
     let next : k + 1 ≡ m = omega arith in
     let one : dot (drop k ks) (x ∷ past) ≡ get_or ks k (pos 0) *ℤ x +ℤ dot (drop m ks) past
     = subst (λ (n : ℕ). dot (drop k ks) (x ∷ past) ≡ get_or ks k (pos 0) *ℤ x +ℤ dot (drop n ks) past) next (dot_one ks k x past) in
     let two : dot (drop j ks) (y ∷ x ∷ past) ≡ get_or ks j (pos 0) *ℤ y +ℤ dot (drop k ks) (x ∷ past)
     = subst (λ (n : ℕ). dot (drop j ks) (y ∷ x ∷ past) ≡ get_or ks j (pos 0) *ℤ y +ℤ dot (drop n ks) (x ∷ past)) (sym ek) (dot_one ks j y (x ∷ past)) in
-    let first : wrap_64 (waiting_at ks past m +ℤ get_or ks k (pos 0) *ℤ x) ≡ wrap_64 (dot (drop k ks) (x ∷ past))
+    let first : wrap_64 (pending_at ks past m +ℤ get_or ks k (pos 0) *ℤ x) ≡ wrap_64 (dot (drop k ks) (x ∷ past))
     = int_wrap-add_left w64 (dot (drop m ks) past) (get_or ks k (pos 0) *ℤ x) ∙ ap wrap_64 (+ℤ_comm (dot (drop m ks) past) (get_or ks k (pos 0) *ℤ x) ∙ sym one) in
     ap (λ (v : ℤ). wrap_64 (v +ℤ get_or ks j (pos 0) *ℤ y)) first ∙ int_wrap-add_left w64 (dot (drop k ks) (x ∷ past)) (get_or ks j (pos 0) *ℤ y)
     ∙ ap wrap_64 (+ℤ_comm (dot (drop k ks) (x ∷ past)) (get_or ks j (pos 0) *ℤ y) ∙ sym two)
@@ -57,15 +57,15 @@ pub four_same : {a b c d e f g h : ℤ} → a ≡ e → b ≡ f → c ≡ g → 
 four_same {a} {b} {c} {d} {e} {f} {g} {h} p q r s =
     ap (λ (v : ℤ). v ∷ b ∷ c ∷ d ∷ []) p ∙ ap (λ (v : ℤ). e ∷ v ∷ c ∷ d ∷ []) q ∙ ap (λ (v : ℤ). e ∷ f ∷ v ∷ d ∷ []) r ∙ ap (λ (v : ℤ). e ∷ f ∷ g ∷ v ∷ []) s
 
-two_on_at : (ks past : List ℤ) (x y : ℤ) (j k m n : ℕ) → m ≡ j + 4 → k ≡ j + 1 → n ≡ j
-    → two_on (four_waiting ks past m) (four_waiting ks past j) (four_taps ks k) (replicate 4 x) (four_taps ks n) (replicate 4 y) ≡ four_waiting ks (y ∷ x ∷ past) j
-two_on_at ks past x y j k m n em ek en =
+advanced_by_two_at : (ks past : List ℤ) (x y : ℤ) (j k m n : ℕ) → m ≡ j + 4 → k ≡ j + 1 → n ≡ j
+    → advanced_by_two (four_pending ks past m) (four_pending ks past j) (four_taps ks k) (replicate 4 x) (four_taps ks n) (replicate 4 y) ≡ four_pending ks (y ∷ x ∷ past) j
+advanced_by_two_at ks past x y j k m n em ek en =
     rw (em, ek, en)
-    (four_same (waiting_two ks past x y (j + 3) (j + 1 + 3) (j + 4 + 1) (omega arith) (omega arith)) (waiting_two ks past x y (j + 2) (j + 1 + 2) (j + 4) (omega arith) (omega arith))
-    (waiting_two ks past x y (j + 1) (j + 1 + 1) (j + 3) (omega arith) (omega arith)) (waiting_two ks past x y j (j + 1) (j + 2) (omega arith) (omega arith)))
+    (four_same (pending_two ks past x y (j + 3) (j + 1 + 3) (j + 4 + 1) (omega arith) (omega arith)) (pending_two ks past x y (j + 2) (j + 1 + 2) (j + 4) (omega arith) (omega arith))
+    (pending_two ks past x y (j + 1) (j + 1 + 1) (j + 3) (omega arith) (omega arith)) (pending_two ks past x y j (j + 1) (j + 2) (omega arith) (omega arith)))
 
 -- a sum two places on, where both samples are among the newest five of its place
-skipped : (ks past : List ℤ) (x y : ℤ) (j k m : ℕ) → k ≡ j + 1 → m ≡ j + 2 → get_or ks j (pos 0) ≡ pos 0 → get_or ks k (pos 0) ≡ pos 0 → waiting_at ks past m ≡ waiting_at ks (y ∷ x ∷ past) j
+skipped : (ks past : List ℤ) (x y : ℤ) (j k m : ℕ) → k ≡ j + 1 → m ≡ j + 2 → get_or ks j (pos 0) ≡ pos 0 → get_or ks k (pos 0) ≡ pos 0 → pending_at ks past m ≡ pending_at ks (y ∷ x ∷ past) j
 skipped ks past x y j k m ek em ej none =
     let next : k + 1 ≡ m = omega arith in
     let nothing : (v : ℤ) (d : ℤ) → pos 0 *ℤ v +ℤ d ≡ d = λ v d. ap (λ (z : ℤ). z +ℤ d) (zero-*ℤ v) ∙ +ℤ_idl d in
@@ -78,7 +78,7 @@ skipped ks past x y j k m ek em ej none =
 front_zero : (ks : List ℤ) (i : ℕ) → i < 5 → take 5 ks ≡ replicate 5 (pos 0) → get_or ks i (pos 0) ≡ get_or (replicate 5 (pos 0)) i (pos 0)
 front_zero ks i lt e = sym (get_or-take 5 ks i (pos 0) lt) ∙ ap (λ (l : List ℤ). get_or l i (pos 0)) e
 
-pub moved_0 : (ks past : List ℤ) (x y : ℤ) → take 5 ks ≡ replicate 5 (pos 0) → drop 2 (four_waiting ks past 4) ++ take 2 (four_waiting ks past 0) ≡ four_waiting ks (y ∷ x ∷ past) 0
+pub moved_0 : (ks past : List ℤ) (x y : ℤ) → take 5 ks ≡ replicate 5 (pos 0) → drop 2 (four_pending ks past 4) ++ take 2 (four_pending ks past 0) ≡ four_pending ks (y ∷ x ∷ past) 0
 moved_0 ks past x y e =
     let z = λ (i : ℕ) (lt : i < 5). front_zero ks i lt e in
     four_same (skipped ks past x y 3 4 5 refl refl (z 3 (omega arith)) (z 4 (omega arith))) (skipped ks past x y 2 3 4 refl refl (z 2 (omega arith)) (z 3 (omega arith)))
@@ -89,54 +89,54 @@ moved_0 ks past x y e =
 zero_64 : wrap_64 (pos 0) ≡ pos 0
 zero_64 = int_wrap_fits w64 (pos 0) (record { sfits = omega arith })
 
-waits_none : (ks past : List ℤ) (j : ℕ) → length ks ≤ j → waiting_at ks past j ≡ pos 0
-waits_none ks past j le = ap (λ (l : List ℤ). wrap_64 (dot l past)) (drop_all j ks le) ∙ zero_64
+pending_none : (ks past : List ℤ) (j : ℕ) → length ks ≤ j → pending_at ks past j ≡ pos 0
+pending_none ks past j le = ap (λ (l : List ℤ). wrap_64 (dot l past)) (drop_all j ks le) ∙ zero_64
 
-pub none_past : (ks past : List ℤ) (n : ℕ) → length ks ≡ n → replicate 4 (pos 0) ≡ four_waiting ks past n
-none_past ks past n e = sym (four_same (waits_none ks past (n + 3) (omega arith)) (waits_none ks past (n + 2) (omega arith)) (waits_none ks past (n + 1) (omega arith)) (waits_none ks past n (omega arith)))
+pub four_pending_none : (ks past : List ℤ) (n : ℕ) → length ks ≡ n → replicate 4 (pos 0) ≡ four_pending ks past n
+four_pending_none ks past n e = sym (four_same (pending_none ks past (n + 3) (omega arith)) (pending_none ks past (n + 2) (omega arith)) (pending_none ks past (n + 1) (omega arith)) (pending_none ks past n (omega arith)))
 
 dot_nothing : (ks : List ℤ) → dot ks [] ≡ pos 0
 dot_nothing [] = refl
 dot_nothing (k ∷ ks) = refl
 
-waits_nothing : (ks : List ℤ) (j : ℕ) → waiting_at ks [] j ≡ pos 0
-waits_nothing ks j = ap wrap_64 (dot_nothing (drop j ks)) ∙ zero_64
+pending_before_all : (ks : List ℤ) (j : ℕ) → pending_at ks [] j ≡ pos 0
+pending_before_all ks j = ap wrap_64 (dot_nothing (drop j ks)) ∙ zero_64
 
 -- no sample yet
-pub nothing_yet : (ks : List ℤ) (j : ℕ) → replicate 4 (pos 0) ≡ four_waiting ks [] j
-nothing_yet ks j = sym (four_same (waits_nothing ks (j + 3)) (waits_nothing ks (j + 2)) (waits_nothing ks (j + 1)) (waits_nothing ks j))
+pub four_pending_before_all : (ks : List ℤ) (j : ℕ) → replicate 4 (pos 0) ≡ four_pending ks [] j
+four_pending_before_all ks j = sym (four_same (pending_before_all ks (j + 3)) (pending_before_all ks (j + 2)) (pending_before_all ks (j + 1)) (pending_before_all ks j))
 
-zeros_wait : (ks past : List ℤ) (n j : ℕ) → drop j ks ≡ replicate n (pos 0) → waiting_at ks past j ≡ pos 0
-zeros_wait ks past n j e = ap (λ (l : List ℤ). wrap_64 (dot l past)) e ∙ ap wrap_64 (dot_behind n [] past) ∙ zero_64
+pending_zeros : (ks past : List ℤ) (n j : ℕ) → drop j ks ≡ replicate n (pos 0) → pending_at ks past j ≡ pos 0
+pending_zeros ks past n j e = ap (λ (l : List ℤ). wrap_64 (dot l past)) e ∙ ap wrap_64 (dot_trailing_zeros n [] past) ∙ zero_64
 
 -- nothing waits for places that no vector has coefficients for
-zero_behind : (ks past : List ℤ) (v i : ℕ) → 4 * v + 4 ≤ i → FitVectors v ks → waiting_at ks past i ≡ pos 0
-zero_behind ks past v i le fit =
+pending_past_vectors : (ks past : List ℤ) (v i : ℕ) → 4 * v + 4 ≤ i → FitVectors v ks → pending_at ks past i ≡ pos 0
+pending_past_vectors ks past v i le fit =
     let d : ℕ = i - (4 * v + 4) in
     let there : 4 * v + 4 + d ≡ i = omega arith in
-    zeros_wait ks past (length ks - (4 * v + 4) - d) i
+    pending_zeros ks past (length ks - (4 * v + 4) - d) i
     (sym (drop-drop d (4 * v + 4) ks ∙ ap (λ (n : ℕ). drop n ks) there) ∙ ap (drop d) fit ∙ drop-replicate d (length ks - (4 * v + 4)) (pos 0))
 
-four_behind : (ks past : List ℤ) (v j : ℕ) → 4 * v + 4 ≤ j → FitVectors v ks → replicate 4 (pos 0) ≡ four_waiting ks past j
-four_behind ks past v j le fit =
-    sym (four_same (zero_behind ks past v (j + 3) (omega arith) fit) (zero_behind ks past v (j + 2) (omega arith) fit) (zero_behind ks past v (j + 1) (omega arith) fit) (zero_behind ks past v j le fit))
+four_pending_past_vectors : (ks past : List ℤ) (v j : ℕ) → 4 * v + 4 ≤ j → FitVectors v ks → replicate 4 (pos 0) ≡ four_pending ks past j
+four_pending_past_vectors ks past v j le fit =
+    sym (four_same (pending_past_vectors ks past v (j + 3) (omega arith) fit) (pending_past_vectors ks past v (j + 2) (omega arith) fit) (pending_past_vectors ks past v (j + 1) (omega arith) fit) (pending_past_vectors ks past v j le fit))
 
 -- ---- the coefficients
 
-pub waiting_wide : (ks past : List ℤ) (j : ℕ) → Wide (four_waiting ks past j)
-waiting_wide ks past j = record { four = refl; each = (SFits-int_wrap w64 _, (SFits-int_wrap w64 _, (SFits-int_wrap w64 _, (SFits-int_wrap w64 _, tt)))) }
+pub four_pending_fit_64 : (ks past : List ℤ) (j : ℕ) → LanesFit64 (four_pending ks past j)
+four_pending_fit_64 ks past j = record { four = refl; each = (SFits-int_wrap w64 _, (SFits-int_wrap w64 _, (SFits-int_wrap w64 _, (SFits-int_wrap w64 _, tt)))) }
 
-pub waits_wide : {ks past : List ℤ} {sums : Sums} → Waits ks past sums → WideSums sums
-waits_wide {ks} {past} {sums} w = record {
-  at_0 = subst Wide (sym w.at_0) (waiting_wide ks past 0);
+pub pending_sums_fit_64 : {ks past : List ℤ} {sums : Sums} → ArePendingSums ks past sums → SumsFit64 sums
+pending_sums_fit_64 {ks} {past} {sums} w = record {
+  at_0 = subst LanesFit64 (sym w.at_0) (four_pending_fit_64 ks past 0);
   later = record {
-    at_4 = subst Wide (sym w.later.at_4) (waiting_wide ks past 4);
-    at_8 = subst Wide (sym w.later.at_8) (waiting_wide ks past 8);
-    at_12 = subst Wide (sym w.later.at_12) (waiting_wide ks past 12);
-    at_16 = subst Wide (sym w.later.at_16) (waiting_wide ks past 16);
-    at_20 = subst Wide (sym w.later.at_20) (waiting_wide ks past 20);
-    at_24 = subst Wide (sym w.later.at_24) (waiting_wide ks past 24);
-    at_28 = subst Wide (sym w.later.at_28) (waiting_wide ks past 28);
+    at_4 = subst LanesFit64 (sym w.later.at_4) (four_pending_fit_64 ks past 4);
+    at_8 = subst LanesFit64 (sym w.later.at_8) (four_pending_fit_64 ks past 8);
+    at_12 = subst LanesFit64 (sym w.later.at_12) (four_pending_fit_64 ks past 12);
+    at_16 = subst LanesFit64 (sym w.later.at_16) (four_pending_fit_64 ks past 16);
+    at_20 = subst LanesFit64 (sym w.later.at_20) (four_pending_fit_64 ks past 20);
+    at_24 = subst LanesFit64 (sym w.later.at_24) (four_pending_fit_64 ks past 24);
+    at_28 = subst LanesFit64 (sym w.later.at_28) (four_pending_fit_64 ks past 28);
   };
 }
 
@@ -146,47 +146,47 @@ as_lanes xs = map (to_z w64) (map (of_z w64) xs)
 -- as many samples as there are coefficients are all that matters
 dot_enough : (l past rest : List ℤ) (n k : ℕ) → drop n l ≡ replicate k (pos 0) → n ≤ length past → dot l (past ++ rest) ≡ dot l past
 dot_enough l past rest zero k e le =
-    ap (λ (z : List ℤ). dot z (past ++ rest)) e ∙ dot_behind k [] (past ++ rest) ∙ sym (ap (λ (z : List ℤ). dot z past) e ∙ dot_behind k [] past)
+    ap (λ (z : List ℤ). dot z (past ++ rest)) e ∙ dot_trailing_zeros k [] (past ++ rest) ∙ sym (ap (λ (z : List ℤ). dot z past) e ∙ dot_trailing_zeros k [] past)
 dot_enough [] past rest (suc n) k e le = refl
 dot_enough (c ∷ l) [] rest (suc n) k e le = absurd (omega arith)
 dot_enough (c ∷ l) (x ∷ past) rest (suc n) k e le = ap (λ (z : ℤ). c *ℤ x +ℤ z) (dot_enough l past rest n k e (omega arith))
 
-waiting_enough : (ks past rest : List ℤ) (v j : ℕ) → FitVectors v ks → 4 * v + 4 ≤ length past → waiting_at ks past j ≡ waiting_at ks (past ++ rest) j
-waiting_enough ks past rest v j fit le =
+pending_enough : (ks past rest : List ℤ) (v j : ℕ) → FitVectors v ks → 4 * v + 4 ≤ length past → pending_at ks past j ≡ pending_at ks (past ++ rest) j
+pending_enough ks past rest v j fit le =
     let turn : j + (4 * v + 4) ≡ 4 * v + 4 + j = omega arith in
     let none : drop (4 * v + 4) (drop j ks) ≡ replicate (length ks - (4 * v + 4) - j) (pos 0)
     = drop-drop (4 * v + 4) j ks ∙ ap (λ (n : ℕ). drop n ks) turn ∙ sym (drop-drop j (4 * v + 4) ks) ∙ ap (drop j) fit ∙ drop-replicate j (length ks - (4 * v + 4)) (pos 0) in
     ap wrap_64 (sym (dot_enough (drop j ks) past rest (4 * v + 4) (length ks - (4 * v + 4) - j) none le))
 
-pub four_enough : (ks past rest : List ℤ) (v j : ℕ) → FitVectors v ks → 4 * v + 4 ≤ length past → four_waiting ks past j ≡ four_waiting ks (past ++ rest) j
-four_enough ks past rest v j fit le =
-    four_same (waiting_enough ks past rest v (j + 3) fit le) (waiting_enough ks past rest v (j + 2) fit le) (waiting_enough ks past rest v (j + 1) fit le) (waiting_enough ks past rest v j fit le)
+pub four_pending_enough : (ks past rest : List ℤ) (v j : ℕ) → FitVectors v ks → 4 * v + 4 ≤ length past → four_pending ks past j ≡ four_pending ks (past ++ rest) j
+four_pending_enough ks past rest v j fit le =
+    four_same (pending_enough ks past rest v (j + 3) fit le) (pending_enough ks past rest v (j + 2) fit le) (pending_enough ks past rest v (j + 1) fit le) (pending_enough ks past rest v j fit le)
 
-pub waits_enough : (ks past rest : List ℤ) (v : ℕ) (sums : Sums) → FitVectors v ks → 4 * v + 4 ≤ length past → Waits ks past sums → Waits ks (past ++ rest) sums
-waits_enough ks past rest v sums fit le w = record {
-  at_0 = w.at_0 ∙ four_enough ks past rest v 0 fit le;
-  later = record { at_4 = w.later.at_4 ∙ four_enough ks past rest v 4 fit le; at_8 = w.later.at_8 ∙ four_enough ks past rest v 8 fit le; at_12 = w.later.at_12 ∙ four_enough ks past rest v 12 fit le; at_16 = w.later.at_16 ∙ four_enough ks past rest v 16 fit le; at_20 = w.later.at_20 ∙ four_enough ks past rest v 20 fit le; at_24 = w.later.at_24 ∙ four_enough ks past rest v 24 fit le; at_28 = w.later.at_28 ∙ four_enough ks past rest v 28 fit le };
+pub pending_sums_enough : (ks past rest : List ℤ) (v : ℕ) (sums : Sums) → FitVectors v ks → 4 * v + 4 ≤ length past → ArePendingSums ks past sums → ArePendingSums ks (past ++ rest) sums
+pending_sums_enough ks past rest v sums fit le w = record {
+  at_0 = w.at_0 ∙ four_pending_enough ks past rest v 0 fit le;
+  later = record { at_4 = w.later.at_4 ∙ four_pending_enough ks past rest v 4 fit le; at_8 = w.later.at_8 ∙ four_pending_enough ks past rest v 8 fit le; at_12 = w.later.at_12 ∙ four_pending_enough ks past rest v 12 fit le; at_16 = w.later.at_16 ∙ four_pending_enough ks past rest v 16 fit le; at_20 = w.later.at_20 ∙ four_pending_enough ks past rest v 20 fit le; at_24 = w.later.at_24 ∙ four_pending_enough ks past rest v 24 fit le; at_28 = w.later.at_28 ∙ four_pending_enough ks past rest v 28 fit le };
 }
 
 -- a vector of sums, as a call makes it of the one before it and of itself
 module _ (ks past : List ℤ) (x y : ℤ) (v : ℕ) (fit : FitVectors v ks) {u w : List ℤ} (eu : u ≡ replicate 4 x) (ew : w ≡ replicate 4 y) where
-  pub later_on : (j : ℕ) (has : Bool) (b s k t r : List ℤ) → (has ≡ false → 4 * v + 4 ≤ j) → (has ≡ true → r ≡ two_on b s k u t w) → (has ≡ false → r ≡ replicate 4 (pos 0))
-      → b ≡ four_waiting ks past (j + 4) → s ≡ four_waiting ks past j → k ≡ four_taps ks (j + 1) → t ≡ four_taps ks j → as_lanes r ≡ four_waiting ks (y ∷ x ∷ past) j
-  later_on j true b s k t r few e none eb es ek et =
-      let value : r ≡ four_waiting ks (y ∷ x ∷ past) j = e refl ∙ rw (eb, es, ek, eu, et, ew) (two_on_at ks past x y j (j + 1) (j + 4) j refl refl refl) in
-      ap as_lanes value ∙ same_wide (waiting_wide ks (y ∷ x ∷ past) j)
-  later_on j false b s k t r few e none eb es ek et =
-      let value : r ≡ four_waiting ks (y ∷ x ∷ past) j = none refl ∙ four_behind ks (y ∷ x ∷ past) v j (few refl) fit in
-      ap as_lanes value ∙ same_wide (waiting_wide ks (y ∷ x ∷ past) j)
+  pub later_lanes_advanced : (j : ℕ) (has : Bool) (b s k t r : List ℤ) → (has ≡ false → 4 * v + 4 ≤ j) → (has ≡ true → r ≡ advanced_by_two b s k u t w) → (has ≡ false → r ≡ replicate 4 (pos 0))
+      → b ≡ four_pending ks past (j + 4) → s ≡ four_pending ks past j → k ≡ four_taps ks (j + 1) → t ≡ four_taps ks j → as_lanes r ≡ four_pending ks (y ∷ x ∷ past) j
+  later_lanes_advanced j true b s k t r few e none eb es ek et =
+      let value : r ≡ four_pending ks (y ∷ x ∷ past) j = e refl ∙ rw (eb, es, ek, eu, et, ew) (advanced_by_two_at ks past x y j (j + 1) (j + 4) j refl refl refl) in
+      ap as_lanes value ∙ same_fit_64 (four_pending_fit_64 ks (y ∷ x ∷ past) j)
+  later_lanes_advanced j false b s k t r few e none eb es ek et =
+      let value : r ≡ four_pending ks (y ∷ x ∷ past) j = none refl ∙ four_pending_past_vectors ks (y ∷ x ∷ past) v j (few refl) fit in
+      ap as_lanes value ∙ same_fit_64 (four_pending_fit_64 ks (y ∷ x ∷ past) j)
 
 -- the nearest four, which are only moved
-pub old_on : (ks past : List ℤ) (x y : ℤ) {b s : List ℤ} (r : List ℤ) → take 5 ks ≡ replicate 5 (pos 0) → r ≡ drop 2 b ++ take 2 s → b ≡ four_waiting ks past 4 → s ≡ four_waiting ks past 0
-    → r ≡ four_waiting ks (y ∷ x ∷ past) 0
-old_on ks past x y r zeros e eb es = e ∙ rw (eb, es) (moved_0 ks past x y zeros)
+pub nearest_lanes_advanced : (ks past : List ℤ) (x y : ℤ) {b s : List ℤ} (r : List ℤ) → take 5 ks ≡ replicate 5 (pos 0) → r ≡ drop 2 b ++ take 2 s → b ≡ four_pending ks past 4 → s ≡ four_pending ks past 0
+    → r ≡ four_pending ks (y ∷ x ∷ past) 0
+nearest_lanes_advanced ks past x y r zeros e eb es = e ∙ rw (eb, es) (moved_0 ks past x y zeros)
 
 -- the same numbers, as a vector has them
-pub wide_is : {xs ys : List ℤ} → Wide xs → xs ≡ ys → as_lanes xs ≡ ys
-wide_is {xs} {ys} h e = same_wide h ∙ e
+pub lanes_64_are : {xs ys : List ℤ} → LanesFit64 xs → xs ≡ ys → as_lanes xs ≡ ys
+lanes_64_are {xs} {ys} h e = same_fit_64 h ∙ e
 
 pub sample_lanes : (x : ℤ) (xs : List ℤ) → FitsSigned w64 x → Lanes 2147483648 xs → xs ≡ replicate 4 (to_z w64 (of_z w64 x)) → as_lanes xs ≡ replicate 4 x
 sample_lanes x xs f h e = same_lanes (omega arith) h ∙ e ∙ ap (replicate 4) (to_z-of_z w64 x f)
@@ -263,20 +263,20 @@ plus_times_any x y (negsuc n) =
     let apart : (a b : ℤ) → neg_ℤ (a +ℤ b) ≡ neg_ℤ a +ℤ neg_ℤ b = λ a b. omega (arith, ints) in
     *ℤ-negsuc (x +ℤ y) n ∙ ap neg_ℤ (plus_times x y (suc n)) ∙ apart (x *ℤ pos (suc n)) (y *ℤ pos (suc n)) ∙ ap (λ (v : ℤ). v +ℤ neg_ℤ (y *ℤ pos (suc n))) (sym (*ℤ-negsuc x n)) ∙ ap (λ (v : ℤ). x *ℤ negsuc n +ℤ v) (sym (*ℤ-negsuc y n))
 
-times_up : (b : ℤ) (k : ℕ) (s : ℤ) → (b *ℤ pos k) *ℤ s ≡ (b *ℤ s) *ℤ pos k
-times_up b zero s = ap (λ (v : ℤ). v *ℤ s) (*ℤ-zero b) ∙ zero-*ℤ s ∙ sym (*ℤ-zero (b *ℤ s))
-times_up b (suc k) s = ap (λ (v : ℤ). v *ℤ s) (times_more b k) ∙ plus_times_any (b *ℤ pos k) b s ∙ ap (λ (v : ℤ). v +ℤ b *ℤ s) (times_up b k s) ∙ sym (times_more (b *ℤ s) k)
+times_scaled_up : (b : ℤ) (k : ℕ) (s : ℤ) → (b *ℤ pos k) *ℤ s ≡ (b *ℤ s) *ℤ pos k
+times_scaled_up b zero s = ap (λ (v : ℤ). v *ℤ s) (*ℤ-zero b) ∙ zero-*ℤ s ∙ sym (*ℤ-zero (b *ℤ s))
+times_scaled_up b (suc k) s = ap (λ (v : ℤ). v *ℤ s) (times_more b k) ∙ plus_times_any (b *ℤ pos k) b s ∙ ap (λ (v : ℤ). v +ℤ b *ℤ s) (times_scaled_up b k s) ∙ sym (times_more (b *ℤ s) k)
 
 -- one product more
-product_up : (z r b s : ℤ) (k c : ℕ) → (z *ℤ pos k +ℤ r *ℤ pos c) +ℤ (b *ℤ pos k) *ℤ s ≡ (z +ℤ b *ℤ s) *ℤ pos k +ℤ r *ℤ pos c
-product_up z r b s k c =
+product_scaled_up : (z r b s : ℤ) (k c : ℕ) → (z *ℤ pos k +ℤ r *ℤ pos c) +ℤ (b *ℤ pos k) *ℤ s ≡ (z +ℤ b *ℤ s) *ℤ pos k +ℤ r *ℤ pos c
+product_scaled_up z r b s k c =
     let regroup : (x y w : ℤ) → (x +ℤ y) +ℤ w ≡ (x +ℤ w) +ℤ y = λ x y w. omega (arith, ints) in
-    ap (λ (v : ℤ). (z *ℤ pos k +ℤ r *ℤ pos c) +ℤ v) (times_up b k s) ∙ regroup (z *ℤ pos k) (r *ℤ pos c) ((b *ℤ s) *ℤ pos k)
+    ap (λ (v : ℤ). (z *ℤ pos k +ℤ r *ℤ pos c) +ℤ v) (times_scaled_up b k s) ∙ regroup (z *ℤ pos k) (r *ℤ pos c) ((b *ℤ s) *ℤ pos k)
     ∙ ap (λ (v : ℤ). v +ℤ r *ℤ pos c) (sym (plus_times z (b *ℤ s) k))
 
 -- the high half of a sum that was put up is the sample
-put_up_is : (a r : ℤ) (t : ℕ) → t ≤ 15 → wrap (shr_z (wrap_64 (a *ℤ pos (2 ^ (32 - t)) +ℤ r *ℤ pos 4294967296)) 4294967296) ≡ wrap (floor_shift a t +ℤ r)
-put_up_is a r t ht =
+scaled_up_is : (a r : ℤ) (t : ℕ) → t ≤ 15 → wrap (shr_z (wrap_64 (a *ℤ pos (2 ^ (32 - t)) +ℤ r *ℤ pos 4294967296)) 4294967296) ≡ wrap (floor_shift a t +ℤ r)
+scaled_up_is a r t ht =
     let k : ℕ = 2 ^ (32 - t) in
     let back : 32 - t + t ≡ 32 = omega arith in
     let whole : 2 ^ (32 - t) * 2 ^ t ≡ 4294967296 = sym (pow-add 2 (32 - t) t) ∙ ap (λ (e : ℕ). 2 ^ e) back in
@@ -296,11 +296,11 @@ five_first : (l : List ℤ) → 5 ≤ length l → l ≡ get_or l 0 (pos 0) ∷ 
 five_first (a ∷ b ∷ c ∷ d ∷ e ∷ l) le = refl
 five_first l le = absurd (omega arith)
 
-one_waits : (ds past : List ℤ) (n : ℤ) → dot (pos 0 ∷ ds) (n ∷ past) ≡ dot ds past
-one_waits ds past n = ap (λ (v : ℤ). v +ℤ dot ds past) (zero-*ℤ n) ∙ +ℤ_idl (dot ds past)
+dot_zero_tap : (ds past : List ℤ) (n : ℤ) → dot (pos 0 ∷ ds) (n ∷ past) ≡ dot ds past
+dot_zero_tap ds past n = ap (λ (v : ℤ). v +ℤ dot ds past) (zero-*ℤ n) ∙ +ℤ_idl (dot ds past)
 
-four_wait : (ds rest : List ℤ) (n s t f : ℤ) → dot (pos 0 ∷ pos 0 ∷ pos 0 ∷ pos 0 ∷ ds) (n ∷ s ∷ t ∷ f ∷ rest) ≡ dot ds rest
-four_wait ds rest n s t f = one_waits (pos 0 ∷ pos 0 ∷ pos 0 ∷ ds) (s ∷ t ∷ f ∷ rest) n ∙ one_waits (pos 0 ∷ pos 0 ∷ ds) (t ∷ f ∷ rest) s ∙ one_waits (pos 0 ∷ ds) (f ∷ rest) t ∙ one_waits ds rest f
+dot_four_zero_taps : (ds rest : List ℤ) (n s t f : ℤ) → dot (pos 0 ∷ pos 0 ∷ pos 0 ∷ pos 0 ∷ ds) (n ∷ s ∷ t ∷ f ∷ rest) ≡ dot ds rest
+dot_four_zero_taps ds rest n s t f = dot_zero_tap (pos 0 ∷ pos 0 ∷ pos 0 ∷ ds) (s ∷ t ∷ f ∷ rest) n ∙ dot_zero_tap (pos 0 ∷ pos 0 ∷ ds) (t ∷ f ∷ rest) s ∙ dot_zero_tap (pos 0 ∷ ds) (f ∷ rest) t ∙ dot_zero_tap ds rest f
 
 -- what is predicted from all samples, by the sum over all but the newest five
 five_last : (ds rest : List ℤ) (c s : Five) → plus_five (dot ds rest) c s ≡ dot (five_before c ds) (five_before s rest)
@@ -321,28 +321,28 @@ followed_twice s b n one two rest f g =
     rw (third, fourth, fifth) refl
 
 -- the sample of a place that so much waits for
-place_is : (ks ds rest : List ℤ) (r w e x : ℤ) (c s : Five) (t : ℕ) → ks ≡ five_before c ds → w ≡ wrap_64 (dot ds rest) → IsPutUp w r t e → IsSample e c s t x → x ≡ wrap (linear ks t (five_before s rest) +ℤ r)
+place_is : (ks ds rest : List ℤ) (r w e x : ℤ) (c s : Five) (t : ℕ) → ks ≡ five_before c ds → w ≡ wrap_64 (dot ds rest) → IsScaledUp w r t e → IsSample e c s t x → x ≡ wrap (linear ks t (five_before s rest) +ℤ r)
 place_is ks ds rest r w e x c s t ek ew up is =
     is (dot ds rest) r (up (dot ds rest) ew) ∙ ap (λ (v : ℤ). wrap (floor_shift v t +ℤ r)) (five_last ds rest c s)
     ∙ ap (λ (l : List ℤ). wrap (linear l t (five_before s rest) +ℤ r)) (sym ek)
 
 -- the nearest
-pub one_is : (ks rest ws : List ℤ) (r w e x : ℤ) (c s : Five) (t : ℕ) (new : AreNewest ks c) → ws ≡ four_waiting (but_newest_five ks) (five_before s rest) 0 → w ≡ get_or ws 3 (pos 0)
-    → IsPutUp w r t e → IsSample e c s t x → x ≡ wrap (linear ks t (five_before s rest) +ℤ r)
+pub one_is : (ks rest ws : List ℤ) (r w e x : ℤ) (c s : Five) (t : ℕ) (new : AreNewest ks c) → ws ≡ four_pending (but_newest_five ks) (five_before s rest) 0 → w ≡ get_or ws 3 (pos 0)
+    → IsScaledUp w r t e → IsSample e c s t x → x ≡ wrap (linear ks t (five_before s rest) +ℤ r)
 one_is ks rest ws r w e x c s t new es ew up is =
-    let there : w ≡ waiting_at (but_newest_five ks) (five_before s rest) 0 = ew ∙ ap (λ (l : List ℤ). get_or l 3 (pos 0)) es in
-    let others : waiting_at (but_newest_five ks) (five_before s rest) 0 ≡ waiting_at (but_newest_five (five_before c new.rest)) (five_before s rest) 0 = ap (λ (l : List ℤ). waiting_at (but_newest_five l) (five_before s rest) 0) new.is in
+    let there : w ≡ pending_at (but_newest_five ks) (five_before s rest) 0 = ew ∙ ap (λ (l : List ℤ). get_or l 3 (pos 0)) es in
+    let others : pending_at (but_newest_five ks) (five_before s rest) 0 ≡ pending_at (but_newest_five (five_before c new.rest)) (five_before s rest) 0 = ap (λ (l : List ℤ). pending_at (but_newest_five l) (five_before s rest) 0) new.is in
     let none : dot (but_newest_five (five_before c new.rest)) (five_before s rest) ≡ dot new.rest rest
-    = four_wait (pos 0 ∷ new.rest) (s.fifth ∷ rest) s.newest s.second s.third s.fourth ∙ one_waits new.rest rest s.fifth in
+    = dot_four_zero_taps (pos 0 ∷ new.rest) (s.fifth ∷ rest) s.newest s.second s.third s.fourth ∙ dot_zero_tap new.rest rest s.fifth in
     place_is ks new.rest rest r w e x c s t new.is (there ∙ others ∙ ap wrap_64 none) up is
 
 -- the place after it
-pub two_is : (ks rest ws : List ℤ) (m r w e x : ℤ) (c s b : Five) (t : ℕ) (new : AreNewest ks c) → IsFollowed s m b → ws ≡ four_waiting (but_newest_five ks) (five_before s rest) 0 → w ≡ get_or ws 2 (pos 0)
-    → IsPutUp w r t e → IsSample e c b t x → x ≡ wrap (linear ks t (m ∷ five_before s rest) +ℤ r)
+pub two_is : (ks rest ws : List ℤ) (m r w e x : ℤ) (c s b : Five) (t : ℕ) (new : AreNewest ks c) → IsFollowed s m b → ws ≡ four_pending (but_newest_five ks) (five_before s rest) 0 → w ≡ get_or ws 2 (pos 0)
+    → IsScaledUp w r t e → IsSample e c b t x → x ≡ wrap (linear ks t (m ∷ five_before s rest) +ℤ r)
 two_is ks rest ws m r w e x c s b t new f es ew up is =
-    let there : w ≡ waiting_at (but_newest_five ks) (five_before s rest) 1 = ew ∙ ap (λ (l : List ℤ). get_or l 2 (pos 0)) es in
-    let others : waiting_at (but_newest_five ks) (five_before s rest) 1 ≡ waiting_at (but_newest_five (five_before c new.rest)) (five_before s rest) 1 = ap (λ (l : List ℤ). waiting_at (but_newest_five l) (five_before s rest) 1) new.is in
-    let none : dot (pos 0 ∷ pos 0 ∷ pos 0 ∷ pos 0 ∷ new.rest) (five_before s rest) ≡ dot new.rest (s.fifth ∷ rest) = four_wait new.rest (s.fifth ∷ rest) s.newest s.second s.third s.fourth in
+    let there : w ≡ pending_at (but_newest_five ks) (five_before s rest) 1 = ew ∙ ap (λ (l : List ℤ). get_or l 2 (pos 0)) es in
+    let others : pending_at (but_newest_five ks) (five_before s rest) 1 ≡ pending_at (but_newest_five (five_before c new.rest)) (five_before s rest) 1 = ap (λ (l : List ℤ). pending_at (but_newest_five l) (five_before s rest) 1) new.is in
+    let none : dot (pos 0 ∷ pos 0 ∷ pos 0 ∷ pos 0 ∷ new.rest) (five_before s rest) ≡ dot new.rest (s.fifth ∷ rest) = dot_four_zero_taps new.rest (s.fifth ∷ rest) s.newest s.second s.third s.fourth in
     place_is ks new.rest (s.fifth ∷ rest) r w e x c b t new.is (there ∙ others ∙ ap wrap_64 none) up is ∙ ap (λ (l : List ℤ). wrap (linear ks t l +ℤ r)) (followed_is s b m rest f)
 
 power_fits : (t : ℕ) → FitsSigned w64 (pos (2 ^ (32 - t)))
@@ -351,62 +351,62 @@ power_fits t =
     let power : 2 ^ (32 - t) ≤ 2 ^ 32 = pow-le-pow_right (omega arith) below in
     record { sfits = omega arith }
 
-pub product_is : (e b s z r : ℤ) (t : ℕ) → FitsSigned w64 e → FitsSigned w64 b → FitsSigned w64 s → e ≡ put_up z r t
-    → to_z w64 ((of_z w64 e + ((of_z w64 b * 2 ^ (32 - t)) % 18446744073709551616 * of_z w64 s) % 18446744073709551616) % 18446744073709551616) ≡ put_up (z +ℤ b *ℤ s) r t
+pub product_is : (e b s z r : ℤ) (t : ℕ) → FitsSigned w64 e → FitsSigned w64 b → FitsSigned w64 s → e ≡ scaled_up z r t
+    → to_z w64 ((of_z w64 e + ((of_z w64 b * 2 ^ (32 - t)) % 18446744073709551616 * of_z w64 s) % 18446744073709551616) % 18446744073709551616) ≡ scaled_up (z +ℤ b *ℤ s) r t
 product_is e b s z r t fe fb fs ee =
-    let rep_k = rep_fits (pos (2 ^ (32 - t))) (power_fits t) in
-    let rep_e : Rep w64 (of_z w64 e) (z *ℤ pos (2 ^ (32 - t)) +ℤ r *ℤ pos 4294967296) = record { below = (rep_fits e fe).below; value = to_z-of_z w64 e fe ∙ ee } in
-    let all = rep_add rep_e (rep_mul (rep_mul (rep_fits b fb) rep_k) (rep_fits s fs)) in
-    all.value ∙ ap wrap_64 (product_up z r b s (2 ^ (32 - t)) 4294967296)
+    let rep_k = represents_fits (pos (2 ^ (32 - t))) (power_fits t) in
+    let rep_e : Represents w64 (of_z w64 e) (z *ℤ pos (2 ^ (32 - t)) +ℤ r *ℤ pos 4294967296) = record { below = (represents_fits e fe).below; value = to_z-of_z w64 e fe ∙ ee } in
+    let all = represents_add rep_e (represents_mul (represents_mul (represents_fits b fb) rep_k) (represents_fits s fs)) in
+    all.value ∙ ap wrap_64 (product_scaled_up z r b s (2 ^ (32 - t)) 4294967296)
 
 -- a sum and a residual that were put up
-pub record IsUp (e sum residual : ℤ) (t : ℕ) : Type 0 where
-  pub is : e ≡ put_up sum residual t
+pub record IsScaledSum (e sum residual : ℤ) (t : ℕ) : Type 0 where
+  pub is : e ≡ scaled_up sum residual t
 
 -- one product more, as a call adds it
-pub up_more : {e b s m z r : ℤ} {t : ℕ} → AddsProduct (to_z w64 (of_z w64 e)) b s t m → IsUp e z r t → IsUp m (z +ℤ b *ℤ s) r t
-up_more {e} {b} {s} {m} {z} {r} {t} h u = record { is = h.adds z r (ap (λ (v : ℤ). to_z w64 (of_z w64 v)) u.is ∙ to_z-of_z w64 _ (SFits-int_wrap w64 _)) }
+pub scaled_sum_more : {e b s m z r : ℤ} {t : ℕ} → AddsProduct (to_z w64 (of_z w64 e)) b s t m → IsScaledSum e z r t → IsScaledSum m (z +ℤ b *ℤ s) r t
+scaled_sum_more {e} {b} {s} {m} {z} {r} {t} h u = record { is = h.adds z r (ap (λ (v : ℤ). to_z w64 (of_z w64 v)) u.is ∙ to_z-of_z w64 _ (SFits-int_wrap w64 _)) }
 
-sample_is : (e z r : ℤ) (t : ℕ) → t ≤ 15 → e ≡ put_up z r t → to_z w64 (of_z w64 (shr_z (to_z w64 (of_z w64 e)) 4294967296)) ≡ wrap (floor_shift z t +ℤ r)
+sample_is : (e z r : ℤ) (t : ℕ) → t ≤ 15 → e ≡ scaled_up z r t → to_z w64 (of_z w64 (shr_z (to_z w64 (of_z w64 e)) 4294967296)) ≡ wrap (floor_shift z t +ℤ r)
 sample_is e z r t ht ee =
     let fits : FitsSigned w64 e = subst (FitsSigned w64) (sym ee) (SFits-int_wrap w64 _) in
     let d : ℤ = z *ℤ pos (2 ^ (32 - t)) +ℤ r *ℤ pos 4294967296 in
     let narrow : FitsSigned w32 (shr_z (wrap_64 d) 4294967296) = high_fits (wrap_64 d) (SFits-int_wrap w64 d) in
     let wide : FitsSigned w64 (shr_z (wrap_64 d) 4294967296) = shifted_fits (wrap_64 d) 32 (SFits-int_wrap w64 d) in
-    ap (λ (v : ℤ). to_z w64 (of_z w64 (shr_z v 4294967296))) (to_z-of_z w64 e fits ∙ ee) ∙ to_z-of_z w64 _ wide ∙ sym (int_wrap_fits w32 _ narrow) ∙ put_up_is z r t ht
+    ap (λ (v : ℤ). to_z w64 (of_z w64 (shr_z v 4294967296))) (to_z-of_z w64 e fits ∙ ee) ∙ to_z-of_z w64 _ wide ∙ sym (int_wrap_fits w32 _ narrow) ∙ scaled_up_is z r t ht
 
-pub up_sample : {e z r : ℤ} {t : ℕ} (w : ℤ) → t ≤ 15 → IsUp e z r t → z ≡ w → to_z w64 (of_z w64 (shr_z (to_z w64 (of_z w64 e)) 4294967296)) ≡ wrap (floor_shift w t +ℤ r)
-up_sample {e} {z} {r} {t} w ht u same = sample_is e z r t ht u.is ∙ ap (λ (v : ℤ). wrap (floor_shift v t +ℤ r)) same
+pub scaled_sum_sample : {e z r : ℤ} {t : ℕ} (w : ℤ) → t ≤ 15 → IsScaledSum e z r t → z ≡ w → to_z w64 (of_z w64 (shr_z (to_z w64 (of_z w64 e)) 4294967296)) ≡ wrap (floor_shift w t +ℤ r)
+scaled_sum_sample {e} {z} {r} {t} w ht u same = sample_is e z r t ht u.is ∙ ap (λ (v : ℤ). wrap (floor_shift v t +ℤ r)) same
 
 pub sample_fits : (e : ℤ) → FitsSigned w64 e → FitsSigned w32 (to_z w64 (of_z w64 (shr_z e 4294967296)))
 sample_fits e f = subst (FitsSigned w32) (sym (to_z-of_z w64 (shr_z e 4294967296) (shifted_fits e 32 f))) (high_fits e f)
 
 -- a lane that is put up
-lane_up : (x u y r z : ℤ) (t : ℕ) → FitsSigned w64 x → FitsSigned w32 r → t ≤ 15 → u ≡ pos (32 - t) → x ≡ wrap_64 z → y ≡ r
-    → to_z w64 (of_z w64 (to_z w64 (act2 wrap_add (s_int w64) (s_int w64) (s_int w64) (act2 shl (s_int w64) (s_int w64) (s_int w64) (of_z w64 x) (of_z w64 u)) (of_z w64 y * 4294967296 % 18446744073709551616)))) ≡ put_up z r t
-lane_up x u y r z t fx fr ht eu ex ey =
+lane_scaled_up : (x u y r z : ℤ) (t : ℕ) → FitsSigned w64 x → FitsSigned w32 r → t ≤ 15 → u ≡ pos (32 - t) → x ≡ wrap_64 z → y ≡ r
+    → to_z w64 (of_z w64 (to_z w64 (act2 wrap_add (s_int w64) (s_int w64) (s_int w64) (act2 shl (s_int w64) (s_int w64) (s_int w64) (of_z w64 x) (of_z w64 u)) (of_z w64 y * 4294967296 % 18446744073709551616)))) ≡ scaled_up z r t
+lane_scaled_up x u y r z t fx fr ht eu ex ey =
     let fc : FitsSigned w64 (pos 4294967296) = record { sfits = omega arith } in
     let fr64 : FitsSigned w64 r = small_fits 2147483648 r (omega arith) (abs_32 r fr) in
-    let rep_x : Rep w64 (of_z w64 x) z = record { below = (rep_fits x fx).below; value = to_z-of_z w64 x fx ∙ ex } in
-    let all = rep_add (rep_mul rep_x (rep_fits (pos (2 ^ (32 - t))) (power_fits t))) (rep_mul (rep_fits r fr64) (rep_fits (pos 4294967296) fc)) in
-    rw (eu, ey) (ap (λ (v : ℤ). to_z w64 (of_z w64 v)) all.value ∙ to_z-of_z w64 (put_up z r t) (SFits-int_wrap w64 _))
+    let rep_x : Represents w64 (of_z w64 x) z = record { below = (represents_fits x fx).below; value = to_z-of_z w64 x fx ∙ ex } in
+    let all = represents_add (represents_mul rep_x (represents_fits (pos (2 ^ (32 - t))) (power_fits t))) (represents_mul (represents_fits r fr64) (represents_fits (pos 4294967296) fc)) in
+    rw (eu, ey) (ap (λ (v : ℤ). to_z w64 (of_z w64 v)) all.value ∙ to_z-of_z w64 (scaled_up z r t) (SFits-int_wrap w64 _))
 
 -- four lanes that are put up, with the residuals of their places
-abbrev pub lanes_up : List ℤ → ℤ → List ℤ → List ℤ
-lanes_up xs u rs =
+abbrev pub lanes_scaled_up : List ℤ → ℤ → List ℤ → List ℤ
+lanes_scaled_up xs u rs =
     map (to_z w64) (zip2 (act2 wrap_add (s_int w64) (s_int w64) (s_int w64))
     (zip2 (act2 shl (s_int w64) (s_int w64) (s_int w64)) (map (of_z w64) xs) (of_z w64 u ∷ of_z w64 u ∷ of_z w64 u ∷ of_z w64 u ∷ []))
     (zip2 (act2 shl (s_int w64) (s_int w64) (s_int w64)) (map (of_z w64) rs) (32 ∷ 32 ∷ 32 ∷ 32 ∷ [])))
 
-pub nearest_up : (xs rs : List ℤ) (u nearest z : ℤ) (t : ℕ) → Wide xs → Wide rs → FitsSigned w32 nearest → t ≤ 15 → u ≡ pos (32 - t) → get_or xs 3 (pos 0) ≡ wrap_64 z → get_or rs 3 (pos 0) ≡ nearest
-    → to_z w64 (of_z w64 (get_or (lanes_up xs u rs) 3 (pos 0))) ≡ put_up z nearest t
-nearest_up (a ∷ b ∷ c ∷ d ∷ []) (e ∷ f ∷ g ∷ h ∷ []) u nearest z t wx wr fits ht eu ex er = lane_up d u h nearest z t wx.each.1.1.1.0 fits ht eu ex er
-nearest_up xs rs u nearest z t wx wr fits ht eu ex er = absurd (omega (arith, wx.four, wr.four))
+pub nearest_scaled_up : (xs rs : List ℤ) (u nearest z : ℤ) (t : ℕ) → LanesFit64 xs → LanesFit64 rs → FitsSigned w32 nearest → t ≤ 15 → u ≡ pos (32 - t) → get_or xs 3 (pos 0) ≡ wrap_64 z → get_or rs 3 (pos 0) ≡ nearest
+    → to_z w64 (of_z w64 (get_or (lanes_scaled_up xs u rs) 3 (pos 0))) ≡ scaled_up z nearest t
+nearest_scaled_up (a ∷ b ∷ c ∷ d ∷ []) (e ∷ f ∷ g ∷ h ∷ []) u nearest z t wx wr fits ht eu ex er = lane_scaled_up d u h nearest z t wx.each.1.1.1.0 fits ht eu ex er
+nearest_scaled_up xs rs u nearest z t wx wr fits ht eu ex er = absurd (omega (arith, wx.four, wr.four))
 
-pub farther_up : (xs rs : List ℤ) (u farther z : ℤ) (t : ℕ) → Wide xs → Wide rs → FitsSigned w32 farther → t ≤ 15 → u ≡ pos (32 - t) → get_or xs 2 (pos 0) ≡ wrap_64 z → get_or rs 2 (pos 0) ≡ farther
-    → to_z w64 (of_z w64 (get_or (lanes_up xs u rs) 2 (pos 0))) ≡ put_up z farther t
-farther_up (a ∷ b ∷ c ∷ d ∷ []) (e ∷ f ∷ g ∷ h ∷ []) u farther z t wx wr fits ht eu ex er = lane_up c u g farther z t wx.each.1.1.0 fits ht eu ex er
-farther_up xs rs u farther z t wx wr fits ht eu ex er = absurd (omega (arith, wx.four, wr.four))
+pub farther_scaled_up : (xs rs : List ℤ) (u farther z : ℤ) (t : ℕ) → LanesFit64 xs → LanesFit64 rs → FitsSigned w32 farther → t ≤ 15 → u ≡ pos (32 - t) → get_or xs 2 (pos 0) ≡ wrap_64 z → get_or rs 2 (pos 0) ≡ farther
+    → to_z w64 (of_z w64 (get_or (lanes_scaled_up xs u rs) 2 (pos 0))) ≡ scaled_up z farther t
+farther_scaled_up (a ∷ b ∷ c ∷ d ∷ []) (e ∷ f ∷ g ∷ h ∷ []) u farther z t wx wr fits ht eu ex er = lane_scaled_up c u g farther z t wx.each.1.1.0 fits ht eu ex er
+farther_scaled_up xs rs u farther z t wx wr fits ht eu ex er = absurd (omega (arith, wx.four, wr.four))
 
 -- ---- the coefficients, as the code makes them of thirty-two numbers
 
@@ -438,8 +438,8 @@ are_last ts long h = record {
       ∙ rw (from_last ts 32 0 31 long refl, from_last ts 32 1 30 long refl, from_last ts 32 2 29 long refl, from_last ts 32 3 28 long refl, from_last ts 32 4 27 long refl, entry_is ts 27 h, entry_is ts 28 h, entry_is ts 29 h, entry_is ts 30 h, entry_is ts 31 h) refl;
 }
 
-pub entry_small : (ts : List ℤ) (j : ℕ) → Within 32768 ts → unsigned_abs (entry ts j) ≤ 32768
-entry_small ts j h = subst (λ (v : ℤ). unsigned_abs v ≤ 32768) (sym (entry_is ts j h)) (within_at 32768 ts j h.each)
+pub coefficient_small : (ts : List ℤ) (j : ℕ) → Within 32768 ts → unsigned_abs (entry ts j) ≤ 32768
+coefficient_small ts j h = subst (λ (v : ℤ). unsigned_abs v ≤ 32768) (sym (entry_is ts j h)) (within_at 32768 ts j h.each)
 
 kept : (ts : List ℤ) (i k : ℕ) → length ts ≡ 32 → i + k ≡ 26 → get_or (drop 5 (reverse ts)) i (pos 0) ≡ get_or ts k (pos 0)
 kept ts i k long e = get_or-drop 5 (reverse ts) i (pos 0) ∙ from_last ts 32 (5 + i) k long (omega arith)
@@ -482,13 +482,13 @@ four_lanes ha hb hc hd = record { four = refl; each = (ha, (hb, (hc, (hd, tt))))
 
 second_small : (ts : List ℤ) → Within 32768 ts → SmallLater (second_taps ts)
 second_small ts h =
-    let e = λ (j : ℕ). entry_small ts j h in
+    let e = λ (j : ℕ). coefficient_small ts j h in
     let none : unsigned_abs (pos 0) ≤ 32768 = omega arith in
     record { at_4 = four_lanes (e 23) (e 24) (e 25) (e 26); at_8 = four_lanes (e 19) (e 20) (e 21) (e 22); at_12 = four_lanes (e 15) (e 16) (e 17) (e 18); at_16 = four_lanes (e 11) (e 12) (e 13) (e 14); at_20 = four_lanes (e 7) (e 8) (e 9) (e 10); at_24 = four_lanes (e 3) (e 4) (e 5) (e 6); at_28 = four_lanes none (e 0) (e 1) (e 2) }
 
 newest_small : (ts : List ℤ) → Within 32768 ts → SmallLater (newest_taps ts)
 newest_small ts h =
-    let e = λ (j : ℕ). entry_small ts j h in
+    let e = λ (j : ℕ). coefficient_small ts j h in
     let none : unsigned_abs (pos 0) ≤ 32768 = omega arith in
     record { at_4 = four_lanes (e 24) (e 25) (e 26) none; at_8 = four_lanes (e 20) (e 21) (e 22) (e 23); at_12 = four_lanes (e 16) (e 17) (e 18) (e 19); at_16 = four_lanes (e 12) (e 13) (e 14) (e 15); at_20 = four_lanes (e 8) (e 9) (e 10) (e 11); at_24 = four_lanes (e 4) (e 5) (e 6) (e 7); at_28 = four_lanes (e 0) (e 1) (e 2) (e 3) }
 

@@ -28,7 +28,7 @@ AllFit64 [] = Unit {0}
 AllFit64 (x ∷ xs) = FitsSigned w64 x × AllFit64 xs
 
 -- four numbers that fit 64 bits
-pub record Wide (xs : List ℤ) : Type 0 where
+pub record LanesFit64 (xs : List ℤ) : Type 0 where
   pub four : length xs ≡ 4
   pub each : AllFit64 xs
 
@@ -37,5 +37,5 @@ abbrev pub plus_products : List ℤ → List ℤ → List ℤ → List ℤ
 plus_products zs cs xs = map wrap_64 (zip2 ◌+ℤ◌ zs (zip2 ◌*ℤ◌ cs xs))
 
 -- the last two numbers before some and their first two, and two products to each, modulo 2 ^ 64
-abbrev pub two_on : List ℤ → List ℤ → List ℤ → List ℤ → List ℤ → List ℤ → List ℤ
-two_on before zs cs xs ds ys = plus_products (plus_products (drop 2 before ++ take 2 zs) cs xs) ds ys
+abbrev pub advanced_by_two : List ℤ → List ℤ → List ℤ → List ℤ → List ℤ → List ℤ → List ℤ
+advanced_by_two before zs cs xs ds ys = plus_products (plus_products (drop 2 before ++ take 2 zs) cs xs) ds ys

@@ -1,9 +1,9 @@
 pub mod SubframeFields
 pub mod Partitions
 pub mod Decode
-pub mod Words
+pub mod RiceCodes
 pub mod Samples
 pub mod Lanes
 pub mod Predictor
 pub mod Sums
-pub mod Twelve
+pub mod TwelveLanes

@@ -2,7 +2,7 @@
 use Rattle.std.specs.Prelude.{◌≡◌, ℕ, zero, suc, ◌+◌, ◌*◌, List, [], ◌∷◌, ℤ, take, replicate, Result, IfOk}
 use Rattle.claxon_format.specs.Reading.{Done}
 use Rattle.claxon_format.specs.read.Residual.{joined_at, partition_at}
-use Rattle.claxon_input.specs.Gives.{Went}
+use Rattle.claxon_input.specs.Gives.{Consumes}
 use Rattle.claxon_input.specs.Source.{Source}
 use Rattle.claxon_input.specs.State.{bits_in}
 use Rattle.claxon_input.specs.declared.bits.Bitstream.{Bitstream}
@@ -21,4 +21,4 @@ total (l ∷ ls) = l + total ls
 -- As many partitions as the Ok says stand at the front of the buffer, each of as many entries, which were taken.
 abbrev pub PartitionsAreRead : {R : Type 0} {g : _} → (R → Source ℕ) → ℕ → ℕ → Bitstream R g → Result ℕ Error → Bitstream R g → List ℤ → Type 0
 PartitionsAreRead source method each old result new buffer =
-    IfOk result (λ whole. Went (bits_in source old) (bits_in source new) (λ s m. joined_at (partition_at method) (replicate whole each) s ≡ Done (take (whole * each) buffer) m))
+    IfOk result (λ whole. Consumes (bits_in source old) (bits_in source new) (λ s m. joined_at (partition_at method) (replicate whole each) s ≡ Done (take (whole * each) buffer) m))

@@ -25,7 +25,7 @@ type_number (Lpc order) = 31 + order
 
 -- the header of a subframe (section 9.2.1)
 abbrev pub subframe_view : SubframeType → ℕ → SubframeFields
-subframe_view sf_type waste = record { type = type_number sf_type; waste = waste }
+subframe_view sf_type wasted_bits = record { type = type_number sf_type; wasted_bits = wasted_bits }
 
 -- the precision and the shift of a linear predictor (section 9.2.6)
 abbrev pub parameters_of : LpcParameters → Parameters

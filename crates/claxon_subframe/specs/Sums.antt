@@ -1,7 +1,7 @@
 -- Sums that wait for their places: what the samples so far add to each place to come.
 use Rattle.std.specs.Prelude.{◌≡◌, ℕ, ◌+◌, ◌-◌, ◌*◌, ◌^◌, ℤ, pos, ◌+ℤ◌, ◌*ℤ◌, List, [], ◌∷◌, take, drop, reverse, replicate, length, get_or}
 use Rattle.claxon_format.specs.Predict.{wrap, dot, floor_shift, linear}
-use Rattle.claxon_subframe.specs.Lanes.{Lanes, Wide, wrap_64}
+use Rattle.claxon_subframe.specs.Lanes.{Lanes, LanesFit64, wrap_64}
 use Rattle.claxon_subframe.specs.declared.subframe.predictor.Five.{Five}
 use Rattle.claxon_subframe.specs.declared.subframe.predictor.Taps.{Taps}
 use Rattle.claxon_subframe.specs.declared.subframe.predictor.Later.{Later}
@@ -12,27 +12,27 @@ abbrev pub but_newest_five : List ℤ → List ℤ
 but_newest_five coefficients = pos 0 ∷ pos 0 ∷ pos 0 ∷ pos 0 ∷ pos 0 ∷ drop 5 coefficients
 
 -- what the samples so far, the newest first, add to the place that is j places on, modulo 2 ^ 64
-abbrev pub waiting_at : List ℤ → List ℤ → ℕ → ℤ
-waiting_at coefficients past j = wrap_64 (dot (drop j coefficients) past)
+abbrev pub pending_at : List ℤ → List ℤ → ℕ → ℤ
+pending_at coefficients past j = wrap_64 (dot (drop j coefficients) past)
 
 -- the same for four places, the farthest first
-abbrev pub four_waiting : List ℤ → List ℤ → ℕ → List ℤ
-four_waiting coefficients past j = waiting_at coefficients past (j + 3) ∷ waiting_at coefficients past (j + 2) ∷ waiting_at coefficients past (j + 1) ∷ waiting_at coefficients past j ∷ []
+abbrev pub four_pending : List ℤ → List ℤ → ℕ → List ℤ
+four_pending coefficients past j = pending_at coefficients past (j + 3) ∷ pending_at coefficients past (j + 2) ∷ pending_at coefficients past (j + 1) ∷ pending_at coefficients past j ∷ []
 
 -- the lanes hold what waits for the places from the fifth on
-pub record LaterWait (coefficients past : List ℤ) (later : Later) : Type 0 where
-  pub at_4 : later.at_4 ≡ four_waiting coefficients past 4
-  pub at_8 : later.at_8 ≡ four_waiting coefficients past 8
-  pub at_12 : later.at_12 ≡ four_waiting coefficients past 12
-  pub at_16 : later.at_16 ≡ four_waiting coefficients past 16
-  pub at_20 : later.at_20 ≡ four_waiting coefficients past 20
-  pub at_24 : later.at_24 ≡ four_waiting coefficients past 24
-  pub at_28 : later.at_28 ≡ four_waiting coefficients past 28
+pub record LaterArePending (coefficients past : List ℤ) (later : Later) : Type 0 where
+  pub at_4 : later.at_4 ≡ four_pending coefficients past 4
+  pub at_8 : later.at_8 ≡ four_pending coefficients past 8
+  pub at_12 : later.at_12 ≡ four_pending coefficients past 12
+  pub at_16 : later.at_16 ≡ four_pending coefficients past 16
+  pub at_20 : later.at_20 ≡ four_pending coefficients past 20
+  pub at_24 : later.at_24 ≡ four_pending coefficients past 24
+  pub at_28 : later.at_28 ≡ four_pending coefficients past 28
 
 -- and for all 32
-pub record Waits (coefficients past : List ℤ) (sums : Sums) : Type 0 where
-  pub at_0 : sums.at_0 ≡ four_waiting coefficients past 0
-  pub later : LaterWait coefficients past sums.later
+pub record ArePendingSums (coefficients past : List ℤ) (sums : Sums) : Type 0 where
+  pub at_0 : sums.at_0 ≡ four_pending coefficients past 0
+  pub later : LaterArePending coefficients past sums.later
 
 -- four coefficients, the farthest place's first
 abbrev pub four_taps : List ℤ → ℕ → List ℤ
@@ -56,18 +56,18 @@ pub record AreTaps (coefficients : List ℤ) (taps : Taps) : Type 0 where
   pub newest : AreLaterTaps coefficients 0 taps.newest
 
 -- sums as an operation on lanes takes them
-pub record WideLater (later : Later) : Type 0 where
-  pub at_4 : Wide later.at_4
-  pub at_8 : Wide later.at_8
-  pub at_12 : Wide later.at_12
-  pub at_16 : Wide later.at_16
-  pub at_20 : Wide later.at_20
-  pub at_24 : Wide later.at_24
-  pub at_28 : Wide later.at_28
+pub record LaterFit64 (later : Later) : Type 0 where
+  pub at_4 : LanesFit64 later.at_4
+  pub at_8 : LanesFit64 later.at_8
+  pub at_12 : LanesFit64 later.at_12
+  pub at_16 : LanesFit64 later.at_16
+  pub at_20 : LanesFit64 later.at_20
+  pub at_24 : LanesFit64 later.at_24
+  pub at_28 : LanesFit64 later.at_28
 
-pub record WideSums (sums : Sums) : Type 0 where
-  pub at_0 : Wide sums.at_0
-  pub later : WideLater sums.later
+pub record SumsFit64 (sums : Sums) : Type 0 where
+  pub at_0 : LanesFit64 sums.at_0
+  pub later : LaterFit64 sums.later
 
 -- the same of coefficients
 pub record SmallLater (taps : Later) : Type 0 where
@@ -88,29 +88,29 @@ abbrev pub FitVectors : ℕ → List ℤ → Type 0
 FitVectors vectors coefficients = drop (4 * vectors + 4) coefficients ≡ replicate (length coefficients - (4 * vectors + 4)) (pos 0)
 
 -- what waited does so after two more samples
-abbrev pub WaitsTwoOn : ℕ → Taps → Sums → ℤ → ℤ → Sums → Type 0
-WaitsTwoOn vectors taps old second newest new =
-    (coefficients past : List ℤ) → AreTaps coefficients taps → FitVectors vectors coefficients → Waits coefficients past old → Waits coefficients (newest ∷ second ∷ past) new
+abbrev pub ArePendingSumsAfterTwo : ℕ → Taps → Sums → ℤ → ℤ → Sums → Type 0
+ArePendingSumsAfterTwo vectors taps old second newest new =
+    (coefficients past : List ℤ) → AreTaps coefficients taps → FitVectors vectors coefficients → ArePendingSums coefficients past old → ArePendingSums coefficients (newest ∷ second ∷ past) new
 
 -- before any sample nothing waits
-abbrev pub WaitsAfterNone : Sums → Type 0
-WaitsAfterNone sums = (coefficients : List ℤ) → Waits coefficients [] sums
+abbrev pub ArePendingSumsBeforeAll : Sums → Type 0
+ArePendingSumsBeforeAll sums = (coefficients : List ℤ) → ArePendingSums coefficients [] sums
 
 -- what these samples add waits
-abbrev pub WaitsAfter : ℕ → Taps → List ℤ → Sums → Type 0
-WaitsAfter vectors taps samples sums = (coefficients : List ℤ) → AreTaps coefficients taps → FitVectors vectors coefficients → Waits coefficients (reverse samples) sums
+abbrev pub ArePendingSumsAfter : ℕ → Taps → List ℤ → Sums → Type 0
+ArePendingSumsAfter vectors taps samples sums = (coefficients : List ℤ) → AreTaps coefficients taps → FitVectors vectors coefficients → ArePendingSums coefficients (reverse samples) sums
 
 -- a sum and a residual, put up so far that a shift by 32 drops what `shift` would drop of the sum and nothing of the residual
-abbrev pub put_up : ℤ → ℤ → ℕ → ℤ
-put_up sum residual shift = wrap_64 (sum *ℤ pos (2 ^ (32 - shift)) +ℤ residual *ℤ pos (2 ^ 32))
+abbrev pub scaled_up : ℤ → ℤ → ℕ → ℤ
+scaled_up sum residual shift = wrap_64 (sum *ℤ pos (2 ^ (32 - shift)) +ℤ residual *ℤ pos (2 ^ 32))
 
 -- so for a sum that is known modulo 2 ^ 64
-abbrev pub IsPutUp : ℤ → ℤ → ℕ → ℤ → Type 0
-IsPutUp waiting residual shift early = (sum : ℤ) → waiting ≡ wrap_64 sum → early ≡ put_up sum residual shift
+abbrev pub IsScaledUp : ℤ → ℤ → ℕ → ℤ → Type 0
+IsScaledUp waiting residual shift early = (sum : ℤ) → waiting ≡ wrap_64 sum → early ≡ scaled_up sum residual shift
 
 -- so with one more product
 pub record AddsProduct (early coefficient sample : ℤ) (shift : ℕ) (more : ℤ) : Type 0 where
-  pub adds : (sum residual : ℤ) → early ≡ put_up sum residual shift → more ≡ put_up (sum +ℤ coefficient *ℤ sample) residual shift
+  pub adds : (sum residual : ℤ) → early ≡ scaled_up sum residual shift → more ≡ scaled_up (sum +ℤ coefficient *ℤ sample) residual shift
 
 -- a sum and the products of five samples
 abbrev pub plus_five : ℤ → Five → Five → ℤ
@@ -120,7 +120,7 @@ plus_five sum c s =
 -- the sample of what was put up for its place and of the products of the newest five samples
 abbrev pub IsSample : ℤ → Five → Five → ℕ → ℤ → Type 0
 IsSample early coefficients samples shift sample =
-    (sum residual : ℤ) → early ≡ put_up sum residual shift → sample ≡ wrap (floor_shift (plus_five sum coefficients samples) shift +ℤ residual)
+    (sum residual : ℤ) → early ≡ scaled_up sum residual shift → sample ≡ wrap (floor_shift (plus_five sum coefficients samples) shift +ℤ residual)
 
 -- the newest five samples, after one more
 pub record IsFollowed (old : Five) (sample : ℤ) (new : Five) : Type 0 where
@@ -148,4 +148,4 @@ pub record AreNextTwo (coefficients rest : List ℤ) (old : Five) (nearest farth
 -- so where the lanes hold what all other coefficients than these five add
 abbrev pub IsFollowedByTwo : Five → Five → List ℤ → ℤ → ℤ → ℕ → Five → Type 0
 IsFollowedByTwo old five pending nearest farther shift new =
-    (coefficients rest : List ℤ) → AreNewest coefficients five → pending ≡ four_waiting (but_newest_five coefficients) (five_before old rest) 0 → AreNextTwo coefficients rest old nearest farther shift new
+    (coefficients rest : List ℤ) → AreNewest coefficients five → pending ≡ four_pending (but_newest_five coefficients) (five_before old rest) 0 → AreNextTwo coefficients rest old nearest farther shift new

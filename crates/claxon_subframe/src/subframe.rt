@@ -1,15 +1,15 @@
 //! Subframes: one channel of a frame.
 ghost use Rattle.std.specs.Prelude.{◌≡◌, ◌+◌, ◌-◌, ◌*◌, ◌%◌, ◌^◌, ◌<◌, ◌≤◌, IfOk, length, map, replicate};
-ghost use Rattle.claxon_format.specs.Bits.{FitsIn, residue, twos};
+ghost use Rattle.claxon_format.specs.Bits.{FitsIn, residue, twos_complement};
 ghost use Rattle.claxon_format.specs.Fault.{Fault};
 ghost use Rattle.claxon_format.specs.Reading.{and_then, done, times_at};
 ghost use Rattle.claxon_format.specs.read.Bits.{signed_at};
-ghost use Rattle.claxon_format.specs.read.Residual.{partition_at, residual_at, escaped_at, joined_at, method_at};
-ghost use Rattle.claxon_format.specs.read.Subframe.{fixed_at, subframe_at, type_at, few_at, subframe_header_at, parameters_at, linear_at, kind_at};
+ghost use Rattle.claxon_format.specs.read.Residual.{partition_at, residual_at, escaped_partition_at, joined_at, method_at};
+ghost use Rattle.claxon_format.specs.read.Subframe.{fixed_at, subframe_at, type_at, wasted_bits_to_31_at, subframe_header_at, parameters_at, linear_at, subframe_body_at};
 ghost use Rattle.claxon_format.specs.Subframe.{scaled};
 ghost use Rattle.claxon_input.specs.State.{bits_in};
 ghost use Rattle.claxon_input.specs.Gives.{Gives};
-ghost use Rattle.claxon_subframe.specs.Decode.{EachSubframeFaultIsNamed, EachSubframeIsAnswered, IsReachedAsBefore, NoSubframeIsIoError, SubframeFaultWasTaken, SubframeIsRead, SubframeIsTold, SubframeLeavesRest, SubframeWasTaken, WantsNoMemory};
+ghost use Rattle.claxon_subframe.specs.Decode.{SubframeFaultIsComplete, SubframeIsComplete, KeepsReaderLoans, SubframeElseIoError, SubframeFaultIsSound, SubframeIsRead, SubframeIsUnambiguous, SubframeLeavesRest, SubframeIsSound, NeverOutOfMemory};
 ghost use Rattle.claxon_subframe.specs.SubframeFields.{fixed_order, lpc_order, type_number, subframe_view, parameters_of, method_of};
 ghost use Rattle.claxon_subframe.specs.Partitions.{lengths, total};
 
@@ -20,10 +20,10 @@ mod words;
 
 use claxon_input::error::{Error, Result};
 use claxon_input::input::{Bitstream, ReadBytes};
-use partitions::read_partitions_at_hand;
+use partitions::read_buffered_partitions;
 use predictor::{predict_fixed, predict_lpc};
 use verbatim::decode_verbatim;
-use words::read_words;
+use words::read_rice_codes;
 
 /// How the samples of a subframe are written.
 #[derive(Clone, Copy)]
@@ -64,10 +64,10 @@ fn read_subframe_type<R: ReadBytes>(input: &mut Bitstream<R>) -> Result<Subframe
 }
 
 // How many low bits of each sample are zeros that were left out.
-#[tactic(auto, unfolding(claxon_format::specs::read::Subframe::few_at, claxon_format::specs::read::Subframe::waste_at, claxon_format::specs::Fault::fault_text))]
+#[tactic(auto, unfolding(claxon_format::specs::read::Subframe::wasted_bits_to_31_at, claxon_format::specs::read::Subframe::wasted_bits_at, claxon_format::specs::Fault::fault_text))]
 fn read_wasted_bits<R: ReadBytes>(input: &mut Bitstream<R>) -> Result<u32>
     ensures most { IfOk result (λ wasted. wasted ≤ 31) }
-    ensures gives { Gives (λ x. x) result (few_at) (bits_in R.source input.old) (bits_in R.source input.new) }
+    ensures gives { Gives (λ x. x) result (wasted_bits_to_31_at) (bits_in R.source input.old) (bits_in R.source input.new) }
 {
     if !input.read_bit()? {
         return Ok(0);
@@ -96,7 +96,7 @@ fn extend_sign_u16(val: u16, bits: u32) -> i16
     requires some { 0 < bits }
     requires most { bits ≤ 16 }
     requires fits { val < 2 ^ bits }
-    ensures { result ≡ twos bits val }
+    ensures { result ≡ twos_complement bits val }
 {
     (val << (16 - bits)).cast_signed() >> (16 - bits)
 }
@@ -107,7 +107,7 @@ pub fn extend_sign_u32(val: u32, bits: u32) -> i32
     requires most { bits ≤ 32 }
     ensures fits { FitsIn bits result }
     ensures congruent { residue bits result ≡ val % 2 ^ bits }
-    ensures value { result ≡ twos bits (val % 2 ^ bits) }
+    ensures value { result ≡ twos_complement bits (val % 2 ^ bits) }
 {
     (val << (32 - bits)).cast_signed() >> (32 - bits)
 }
@@ -124,16 +124,16 @@ pub fn extend_sign_u32(val: u32, bits: u32) -> i32
 pub fn decode<R: ReadBytes>(input: &mut Bitstream<R>, bps: u32, buffer: &mut [i32]) -> Result<()>
     requires width { bps ≤ 32 }
     requires block { length buffer.old < 65536 }
-    ensures sound { SubframeWasTaken R.source bps (length buffer.old) input.old result input.new buffer.new }
-    ensures complete { EachSubframeIsAnswered R.source bps (length buffer.old) input.old result input.new buffer.new }
-    ensures told { SubframeIsTold bps (length buffer.old) }
-    ensures fault { SubframeFaultWasTaken R.source bps (length buffer.old) input.old result input.new }
-    ensures named { EachSubframeFaultIsNamed R.source bps (length buffer.old) input.old result input.new }
-    ensures io { NoSubframeIsIoError R.source bps (length buffer.old) input.old result input.new }
+    ensures sound { SubframeIsSound R.source bps (length buffer.old) input.old result input.new buffer.new }
+    ensures complete { SubframeIsComplete R.source bps (length buffer.old) input.old result input.new buffer.new }
+    ensures known { SubframeIsUnambiguous bps (length buffer.old) }
+    ensures fault { SubframeFaultIsSound R.source bps (length buffer.old) input.old result input.new }
+    ensures named { SubframeFaultIsComplete R.source bps (length buffer.old) input.old result input.new }
+    ensures io { SubframeElseIoError R.source bps (length buffer.old) input.old result input.new }
     ensures front { SubframeLeavesRest R.source bps (length buffer.old) input.old result input.new }
     ensures gives { SubframeIsRead R.source bps (length buffer.old) input.old result input.new buffer.new }
-    ensures no_memory { WantsNoMemory result }
-    ensures loans { IsReachedAsBefore R.source input.old input.new }
+    ensures no_memory { NeverOutOfMemory result }
+    ensures loans { KeepsReaderLoans R.source input.old input.new }
 {
     decode_exact(input, bps, buffer)
 }
@@ -167,7 +167,7 @@ fn decode_samples<R: ReadBytes>(
     requires some { 0 < bps }
     requires width { bps ≤ 32 }
     requires block { length buffer.old < 65536 }
-    ensures { Gives (λ x. buffer.new) result (kind_at bps (length buffer.old) (type_number sf_type)) (bits_in R.source input.old) (bits_in R.source input.new) }
+    ensures { Gives (λ x. buffer.new) result (subframe_body_at bps (length buffer.old) (type_number sf_type)) (bits_in R.source input.old) (bits_in R.source input.new) }
 {
     match sf_type {
         SubframeType::Constant => decode_constant(input, bps, buffer),
@@ -408,7 +408,7 @@ fn decode_partitions<R: ReadBytes>(
         read += 1;
         let most = n_partitions - read;
         let rest = &mut buffer[start..];
-        let whole = read_partitions_at_hand(input, partition_type, each, most, rest)?;
+        let whole = read_buffered_partitions(input, partition_type, each, most, rest)?;
         start += whole as usize * each as usize;
         read += whole;
     }
@@ -430,13 +430,13 @@ fn decode_partition<R: ReadBytes>(
     if parameter == escape {
         return decode_escape_partition(input, buffer);
     }
-    read_words(input, parameter, buffer)
+    read_rice_codes(input, parameter, buffer)
 }
 
 // Entries that are no words: a width of 5 bits, and each entry in that width. In none each is 0.
-#[tactic(auto, unfolding(claxon_format::specs::read::Residual::escaped_at, claxon_format::specs::read::Residual::raw_at))]
+#[tactic(auto, unfolding(claxon_format::specs::read::Residual::escaped_partition_at, claxon_format::specs::read::Residual::escaped_sample_at))]
 fn decode_escape_partition<R: ReadBytes>(input: &mut Bitstream<R>, buffer: &mut [i32]) -> Result<()>
-    ensures { Gives (λ x. buffer.new) result (escaped_at (length buffer.old)) (bits_in R.source input.old) (bits_in R.source input.new) }
+    ensures { Gives (λ x. buffer.new) result (escaped_partition_at (length buffer.old)) (bits_in R.source input.old) (bits_in R.source input.new) }
 {
     let width = u32::from(input.read_leq_u8(5)?);
     if width == 0 {

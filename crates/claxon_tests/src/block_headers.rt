@@ -59,7 +59,7 @@ fn blocks_with_headers(rt: HostRuntime) {
 
 // Headers that are cut, or say more than there is. What an `IoError` has taken isn't said.
 #[test]
-fn lying_headers(rt: HostRuntime) {
+fn headers_with_wrong_lengths(rt: HostRuntime) {
     let rows: [&[u8]; 6] = [
         &[],
         &[0x7f],
@@ -166,7 +166,7 @@ fn blocks_one_after_another(rt: HostRuntime) -> Result<(), Fail> {
 
 // A block behind the fault isn't read.
 #[test]
-fn no_block_behind_a_fault(rt: HostRuntime) -> Result<(), Fail> {
+fn no_block_after_a_fault(rt: HostRuntime) -> Result<(), Fail> {
     let rows: [(&[u8], Fault, u64); 2] = [
         (
             &[0x7f, 0x00, 0x00, 0x00, 0x81, 0x00, 0x00, 0x00],

@@ -1,6 +1,6 @@
 //! Frames from a reader of a byte a read into used buffers, one after another, and into buffers of just enough room.
 use crate::answers::{FRAME, Fault, fault_of};
-use crate::doubles::RefusesOne;
+use crate::doubles::FailureOrNoOneBit;
 use crate::sources::OneByte;
 use claxon::frame::{FrameReader, FrameResult};
 use claxon::input::{BufferedReader, ReadBytes};
@@ -76,14 +76,14 @@ fn a_byte_a_read(rt: HostRuntime) -> Result<(), Fail> {
 
 // A frame into a buffer of so much room, of whose memory nothing more is granted: the block, with no request, where that is
 // enough, and else want of memory.
-fn check_room(
+fn check_capacity(
     rt: &(impl Abort + AllocGlobal),
     frame: &[u8],
     room: usize,
     channels: u32,
     samples: &[i32],
 ) -> Result<(), Fail> {
-    let heap = RefusesOne::new(rt.alloc(), 1);
+    let heap = FailureOrNoOneBit::new(rt.alloc(), 1);
     let buffer = Vec::with_capacity(&heap, room)?;
     let answer = FrameReader::new(Cursor::new(frame)).read_next_or_eof(buffer);
     if room < samples.len() {
@@ -102,7 +102,7 @@ fn check_room(
 
 #[test]
 fn rooms(rt: HostRuntime) -> Result<(), Fail> {
-    check_room(&rt, &FRAME, 1, 1, &[5])?;
+    check_capacity(&rt, &FRAME, 1, 1, &[5])?;
     for (frame, room, samples) in [
         (MID_SIDE.as_slice(), 2, [3, -2].as_slice()),
         (MID_SIDE.as_slice(), 1, [3, -2].as_slice()),
@@ -110,7 +110,7 @@ fn rooms(rt: HostRuntime) -> Result<(), Fail> {
         (PAIRS.as_slice(), 5, [3, 3, -2, -2].as_slice()),
         (PAIRS.as_slice(), 3, [3, 3, -2, -2].as_slice()),
     ] {
-        check_room(&rt, frame, room, 2, samples)?;
+        check_capacity(&rt, frame, room, 2, samples)?;
     }
     Ok(())
 }

@@ -27,7 +27,7 @@ fn begins_with(alloc: Global, wished: usize, count: usize) -> bool {
 }
 
 #[test]
-fn as_many_samples_as_are_wished(rt: HostRuntime) {
+fn as_many_samples_as_requested(rt: HostRuntime) {
     for (wished, count) in [(0, 0), (1, 1), (2, 2), (3, 2)] {
         assert!(rt; begins_with(rt.alloc(), wished, count), "{wished}");
     }
@@ -56,7 +56,7 @@ fn verifies(
 
 // One sample is told: one frame, a second one, and one that is damaged before another.
 #[test]
-fn goes_on_behind_faults(rt: HostRuntime) {
+fn goes_on_after_faults(rt: HostRuntime) {
     let twice = two_frames(0x58);
     let mut behind = twice;
     behind[52] ^= 0x01;

@@ -158,7 +158,7 @@ fn tags_of_files(rt: HostRuntime) -> Result<(), Fail> {
 }
 
 #[test]
-fn other_words(rt: HostRuntime) -> Result<(), Fail> {
+fn other_arguments(rt: HostRuntime) -> Result<(), Fail> {
     let rows: [&[&str]; 4] = [&[], &["--tags"], &["a", "b"], &["--tags", "a", "b"]];
     for words in rows {
         let usage = outcome_of(&rt, words)?;
@@ -217,7 +217,7 @@ impl Env for Given {
     }
 }
 
-fn words_given(alloc: Global, line: usize) -> Result<Vec<String>, Fail> {
+fn arguments_given(alloc: Global, line: usize) -> Result<Vec<String>, Fail> {
     Ok(words(&(Given { line }, alloc))?)
 }
 
@@ -230,9 +230,9 @@ fn are_same(words: &[String], want: &[&[u8]]) -> bool {
 }
 
 #[test]
-fn words_of_command_lines(rt: HostRuntime) -> Result<(), Fail> {
+fn arguments_of_command_lines(rt: HostRuntime) -> Result<(), Fail> {
     for (line, (_, want)) in COMMAND_LINES.iter().enumerate() {
-        assert!(rt; are_same(&words_given(rt.alloc(), line)?, *want), "{line}");
+        assert!(rt; are_same(&arguments_given(rt.alloc(), line)?, *want), "{line}");
     }
     Ok(())
 }
@@ -247,7 +247,7 @@ fn count_in<'a>(heap: &'a LocalHeap) -> Option<usize> {
 }
 
 // How many words there are in so many bytes, and how many of these are still used behind the call.
-fn words_in(alloc: Global, size: usize) -> Result<(Option<usize>, usize), Fail> {
+fn arguments_in(alloc: Global, size: usize) -> Result<(Option<usize>, usize), Fail> {
     let heap = LocalHeap::new(alloc, size)?;
     let count = count_in(&heap);
     Ok((count, heap.used()))
@@ -255,10 +255,10 @@ fn words_in(alloc: Global, size: usize) -> Result<(Option<usize>, usize), Fail> 
 
 // Where memory is refused there are no words at all, not fewer.
 #[test]
-fn words_in_refused_memory(rt: HostRuntime) -> Result<(), Fail> {
+fn arguments_in_refused_memory(rt: HostRuntime) -> Result<(), Fail> {
     let mut refused = 0u32;
     for size in 0..200 {
-        let (count, used) = words_in(rt.alloc(), 8 * size)?;
+        let (count, used) = arguments_in(rt.alloc(), 8 * size)?;
         assert!(rt;
             used == 0 && (count.is_none() || count == Some(2)),
             "{size}"

@@ -148,7 +148,7 @@ fn with_files(rt: HostRuntime) -> result::Result<(), Fail> {
 }
 
 // What is said, and the status, where there are no words.
-fn refuses_no_words(rt: &HostRuntime) -> bool {
+fn refuses_no_arguments(rt: &HostRuntime) -> bool {
     let mut errors = Vec::new(rt.alloc());
     let status = command(rt, &[], false, &mut errors);
     status == 2 && errors.as_slice() == b"usage: claxon_wav FILE OUT.wav\n".as_slice()
@@ -156,5 +156,5 @@ fn refuses_no_words(rt: &HostRuntime) -> bool {
 
 #[test]
 fn without_arguments(rt: HostRuntime) {
-    assert!(rt; refuses_no_words(&rt));
+    assert!(rt; refuses_no_arguments(&rt));
 }

@@ -6,15 +6,15 @@ use std::cell::Cell;
 
 /// Hands each request on to another allocator, but for one, which it refuses.
 #[derive(Drop)]
-pub struct RefusesOne<B: Allocator> {
+pub struct FailureOrNoOneBit<B: Allocator> {
     inner: B,
     left: Cell<u64>,
 }
 
-impl<B: Allocator> RefusesOne<B> {
-    /// Refuses the request that comes after so many.
-    pub fn new(inner: B, granted: u64) -> RefusesOne<B> {
-        RefusesOne {
+impl<B: Allocator> FailureOrNoOneBit<B> {
+    /// FailureOrEof the request that comes after so many.
+    pub fn new(inner: B, granted: u64) -> FailureOrNoOneBit<B> {
+        FailureOrNoOneBit {
             inner,
             left: Cell::new(granted),
         }
@@ -39,7 +39,7 @@ fn is_granted(left: &Cell<u64>) -> bool {
     count != 0
 }
 
-unsafe impl<B: Allocator> Allocator for RefusesOne<B> {
+unsafe impl<B: Allocator> Allocator for FailureOrNoOneBit<B> {
     // The right to free a block is the inner allocator's.
     ghost dealloc_token = { λ heap ty ptr. B.dealloc_token heap.inner ty ptr };
 

@@ -161,7 +161,7 @@ fn runs_with_an_empty_read(rt: HostRuntime) {
 }
 
 // Whether two samples came, the second one behind an end.
-fn goes_on_behind_an_end(run: Result<Run, Fault>) -> bool {
+fn goes_on_after_eof(run: Result<Run, Fault>) -> bool {
     match run {
         Ok(run) => run.count == 2 && run.behind_an_end == 1 && run.last == 5 && run.faults == 0,
         Err(_) => false,
@@ -178,5 +178,5 @@ fn samples_after_an_empty_read(rt: HostRuntime) {
         reads_left: 1,
         trouble: Some(Trouble::Empty),
     };
-    assert!(rt; goes_on_behind_an_end(run_of(rt.alloc(), source)));
+    assert!(rt; goes_on_after_eof(run_of(rt.alloc(), source)));
 }

@@ -55,7 +55,7 @@ fn samples_in_turn(rt: HostRuntime) -> Result<(), Fail> {
 const CALLS: [(u64, Step); 4] = [(7, BAD_HEADER), (9, NO_SYNC), (11, NO_SYNC), (11, END)];
 
 // Whether the calls by one reader answer so, and where it stands after so many of them.
-fn place_after(alloc: Global, bytes: &[u8], count: usize) -> Option<u64> {
+fn position_after(alloc: Global, bytes: &[u8], count: usize) -> Option<u64> {
     let mut reader = FrameReader::new(Cursor::new(bytes));
     let mut all = true;
     for (_, want) in CALLS.iter().take(count) {
@@ -74,7 +74,7 @@ fn frames_in_turn(rt: HostRuntime) {
     bytes[6] = 0x9b;
     for (row, (place, _)) in CALLS.into_iter().enumerate() {
         assert!(rt;
-            place_after(rt.alloc(), &bytes, row.saturating_add(1)) == Some(place),
+            position_after(rt.alloc(), &bytes, row.saturating_add(1)) == Some(place),
             "{row}"
         );
     }

@@ -35,7 +35,7 @@ mod lost_output;
 #[cfg(test)]
 mod memory;
 #[cfg(test)]
-mod most_blocks;
+mod max_blocks;
 #[cfg(test)]
 mod sources;
 #[cfg(test)]

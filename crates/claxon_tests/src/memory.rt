@@ -2,7 +2,7 @@
 use crate::answers::{
     COMMENT, FIVES, FRAME, Fault, Step, answers_each, fault_of, head, joined, run_of, two_frames,
 };
-use crate::doubles::RefusesOne;
+use crate::doubles::FailureOrNoOneBit;
 use crate::doubles::sinks::Sink;
 use claxon::FlacReader;
 use claxon::frame::FrameReader;
@@ -106,7 +106,7 @@ fn attempt(
     bytes: &[u8],
     granted: u64,
 ) -> Result<(Result<(), Fault>, u64), Fail> {
-    let heap = RefusesOne::new(LocalHeap::new(alloc, 8192)?, granted);
+    let heap = FailureOrNoOneBit::new(LocalHeap::new(alloc, 8192)?, granted);
     let answer = answer_of(&heap, call, bytes);
     if heap.inner().used() > 0 {
         return Err(Fail::new("memory that isn't given back"));
@@ -175,7 +175,7 @@ fn metadata_blocks(rt: HostRuntime) -> Result<(), Fail> {
 
 // What the calls answer, each into an empty buffer, the first of which can't grow, and how many bytes they take.
 fn check_calls(rt: &(impl Abort + AllocGlobal), wants: &[Step], taken: u64) {
-    let heap = RefusesOne::new(rt.alloc(), 0);
+    let heap = FailureOrNoOneBit::new(rt.alloc(), 0);
     let mut reader = FrameReader::new(Cursor::new(FRAME.as_slice()));
     assert!(rt; answers_each(&heap, &mut reader, wants));
     assert!(rt; reader.into_inner().position() == taken && heap.left() == u64::MAX);

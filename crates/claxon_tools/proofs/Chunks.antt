@@ -3,7 +3,7 @@ use Rattle.std.proofs.Common.{◌≡◌, ℕ, ◌+◌, ◌%◌, List, [], ◌++�
 use Rattle.std.specs.Prelude.{Bool, true, false, cond, codes, replicate}
 use Rattle.std.specs.Int.{to_le_bytes, w32}
 use Rattle.std.proofs.lemmas.List.{append-nil, length-replicate}
-use Rattle.claxon_tools.specs.WaveFile.{chunk, extension, format, is_long, pad, short_format}
+use Rattle.claxon_tools.specs.WaveFile.{chunk, extension, format, is_extensible, pad, base_format}
 use Rattle.claxon_tools.specs.declared.wav.header.Layout.{Layout}
 
 -- a has grown to b by xs
@@ -42,10 +42,10 @@ whole f samples all all-is even =
 
 -- ---- the two formats
 
-pub long_format : (l : Layout) → is_long l ≡ true → format l ≡ short_format 65534 l ++ extension l
+pub extensible_format : (l : Layout) → is_extensible l ≡ true → format l ≡ base_format 65534 l ++ extension l
 unfolding format
-long_format l e = ap (λ (b : Bool). cond b (short_format 65534 l ++ extension l) (short_format 1 l)) e
+extensible_format l e = ap (λ (b : Bool). cond b (base_format 65534 l ++ extension l) (base_format 1 l)) e
 
-pub plain_format : (l : Layout) → is_long l ≡ false → format l ≡ short_format 1 l
+pub pcm_format : (l : Layout) → is_extensible l ≡ false → format l ≡ base_format 1 l
 unfolding format
-plain_format l e = ap (λ (b : Bool). cond b (short_format 65534 l ++ extension l) (short_format 1 l)) e
+pcm_format l e = ap (λ (b : Bool). cond b (base_format 65534 l ++ extension l) (base_format 1 l)) e

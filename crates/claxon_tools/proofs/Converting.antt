@@ -9,7 +9,7 @@ use Rattle.std.proofs.lemmas.List.Elements.{All-append, All-drop, All-nil, All-p
 use Rattle.std.proofs.lemmas.List.{drop_at, get_or_push, length-take}
 use Rattle.std.specs.Int.{to_le_bytes}
 use Rattle.claxon.specs.Bits.{FitsIn}
-use Rattle.claxon.specs.Frame.{Block, Frame, FrameBytesFault, Frames, StreamShape}
+use Rattle.claxon.specs.Frame.{Block, Frame, FrameBytesFault, Frames, StreamFormat}
 use Rattle.claxon.specs.Streams.{interleave}
 use Rattle.claxon.specs.Block.{BlockValue, duration_of}
 use Rattle.claxon.specs.FrameReader.{FrameAnswer, block_view, frame_bytes, frame_input, frame_stream, stream_with}
@@ -17,19 +17,19 @@ use Rattle.claxon.specs.FrameReaders.{FrameReader}
 use Rattle.claxon.specs.BufferedReader.{buffered_source}
 use Rattle.claxon.specs.Errors.{Error as Cause}
 use Rattle.claxon.specs.BufferedReaders.{BufferedReader}
-use Rattle.claxon.specs.Promises.{NoneIsEnd, TakesFault, TakesFound, Took}
+use Rattle.claxon.specs.Promises.{NoneIsEof, FaultIsSound, FoundIsSound, Consumed}
 use Rattle.claxon.specs.State.{State}
 use Rattle.claxon.specs.FlacReader.{flac_input, flac_streaminfo}
 use Rattle.claxon.specs.Opening.{flac_bytes}
 use Rattle.claxon.specs.SampleRuns.{lent, samples_of}
 use Rattle.claxon.specs.declared.reader.FlacReader.{FlacReader}
-use Rattle.claxon.proofs.SampleRuns.{behind_loan, samples_add}
+use Rattle.claxon.proofs.SampleRuns.{after_loan, samples_add}
 use Rattle.claxon.proofs.SamplesInTurn.{same_duration}
 use Rattle.claxon.proofs.Streams.{length-interleave}
-use Rattle.claxon_tools.specs.Convert.{ConvertsAll, HoldsFile, PutsSamples, PutsStream, StandsInWay, StopsAt, packed_blocks}
+use Rattle.claxon_tools.specs.Convert.{ConvertIsSound, HoldsFile, PutsSamples, PutsStream, ExplainsError, ExplainsErrorIfKnown, packed_blocks}
 use Rattle.claxon_tools.specs.Samples.{bytes_of_sample, packed_block, packed_samples, raised, silence}
 use Rattle.claxon_tools.specs.WaveFile.{pad, sample_size}
-use Rattle.claxon_tools.specs.Writer.{Ends, Finishes, RefusesBlock}
+use Rattle.claxon_tools.specs.Writer.{Ends, FinishIsSound, PutBlockFaultIsSound}
 use Rattle.claxon_tools.specs.declared.wav.error.Error.{Error}
 use Rattle.claxon_tools.specs.declared.wav.error.Error.TheVariants.{Claxon, OtherChannels, SameFile, TooLong, WideSample}
 use Rattle.claxon_tools.specs.declared.wav.header.Layout.{Layout}
@@ -56,14 +56,14 @@ block_takes width block some channels long =
     samples_take width some (interleave block.channels) n
 
 -- one frame more
-frames_push : (stream : Option StreamShape) (blocks : List Block) (b : Block) (s m t r : List ℕ) → Frames stream s blocks m → Frame stream b t → m ≡ t ++ r → Frames stream s (blocks ++ b ∷ []) r
+frames_push : (stream : Option StreamFormat) (blocks : List Block) (b : Block) (s m t r : List ℕ) → Frames stream s blocks m → Frame stream b t → m ≡ t ++ r → Frames stream s (blocks ++ b ∷ []) r
 frames_push stream [] b s m t r f c e = (t, r, c, f ∙ e, refl)
 frames_push stream (x ∷ blocks) b s m t r f c e = (f.0, f.1, f.2, f.3, frames_push stream blocks b f.1 m t r f.4 c e)
 
 -- So far just the frames of these blocks were taken, and their samples put.
-pub record PutSoFar {W : Type 0} (contents : W → Option (List ℕ)) (stream : Option StreamShape) (a b : State ℕ) (x y : WavWriter W) : Type 0 where
+pub record PutSoFar {W : Type 0} (contents : W → Option (List ℕ)) (stream : Option StreamFormat) (a b : State ℕ) (x y : WavWriter W) : Type 0 where
   pub blocks : List Block
-  pub taken : a.told ≡ true → (b.told ≡ true) × Frames stream a.coming blocks b.coming
+  pub taken : a.known ≡ true → (b.known ≡ true) × Frames stream a.remaining blocks b.remaining
   pub puts : PutsSamples contents blocks x y
 
 module _ {W : Type 0} {contents : W → Option (List ℕ)} where
@@ -94,87 +94,87 @@ module _ {W : Type 0} {contents : W → Option (List ℕ)} where
         layout_is = layout ∙ h.layout_is;
       }
 
-  module _ {stream : Option StreamShape} where
+  module _ {stream : Option StreamFormat} where
     pub put_none : (a : State ℕ) (x : WavWriter W) → PutSoFar contents stream a a x x
-    put_none a x = record { blocks = []; taken = λ told. (told, refl); puts = puts_none x }
+    put_none a x = record { blocks = []; taken = λ known. (known, refl); puts = puts_none x }
 
-    pub put_more : {a b : State ℕ} (c : State ℕ) {x y z : WavWriter W} (block : BlockValue) → PutSoFar contents stream a b x y → Took b c (Frame stream (block_view block))
+    pub put_more : {a b : State ℕ} (c : State ℕ) {x y z : WavWriter W} (block : BlockValue) → PutSoFar contents stream a b x y → Consumed b c (Frame stream (block_view block))
         → Appends (contents y.output) (contents z.output) (packed_block y.layout.width block) × (length block.channels ≡ y.layout.channels) × (z.written ≡ y.written + length (packed_block y.layout.width block))
         → All (FitsIn y.layout.width) (interleave block.channels) → z.layout ≡ y.layout → z.announced ≡ y.announced → PutSoFar contents stream a c x z
     put_more {a = a} {b = b} c block h took put fits layout announced = record {
       blocks = h.blocks ++ block_view block ∷ [];
-      taken = λ told. let k = h.taken told in let t = took k.0 in (t.0, frames_push stream h.blocks (block_view block) a.coming b.coming t.1.0 c.coming k.1 t.1.1 t.1.2);
+      taken = λ known. let k = h.taken known in let t = took k.0 in (t.0, frames_push stream h.blocks (block_view block) a.remaining b.remaining t.1.0 c.remaining k.1 t.1.1 t.1.2);
       puts = puts_more block h.puts put fits layout announced;
     }
 
     -- the end
-    pub put_all : {a b : State ℕ} (c : State ℕ) {x y : WavWriter W} → PutSoFar contents stream a b x y → NoneIsEnd 2 (let r : FrameAnswer = Ok None in r) b c → PutsStream contents stream a x y
-    put_all {b = b} c h end = record { blocks = h.blocks; all = λ told. (let k = h.taken told in (b.coming, k.1, (end refl k.0).0)); puts = h.puts }
+    pub put_all : {a b : State ℕ} (c : State ℕ) {x y : WavWriter W} → PutSoFar contents stream a b x y → NoneIsEof 2 (let r : FrameAnswer = Ok None in r) b c → PutsStream contents stream a x y
+    put_all {b = b} c h end = record { blocks = h.blocks; all = λ known. (let k = h.taken known in (b.remaining, k.1, (end refl k.0).0)); puts = h.puts }
 
 -- ---- what stands in the way
 
 -- the last of all
-last_of : {X : Type 0} (P : X → Type 0) (xs : List X) (x : X) → All P (xs ++ x ∷ []) → P x
-last_of P xs x h = subst P (get_or_push xs x x (length xs) refl) (h (length xs) x (omega (arith, length-append xs (x ∷ []))))
+all_last : {X : Type 0} (P : X → Type 0) (xs : List X) (x : X) → All P (xs ++ x ∷ []) → P x
+all_last P xs x h = subst P (get_or_push xs x x (length xs) refl) (h (length xs) x (omega (arith, length-append xs (x ∷ []))))
 
 -- those behind others
-behind_of : {X : Type 0} (P : X → Type 0) (xs ys : List X) → All P (xs ++ ys) → All P ys
-behind_of P xs ys h = subst (All P) (drop_at xs ys (length xs) refl) (All-drop P (length xs) (xs ++ ys) h)
+all_after : {X : Type 0} (P : X → Type 0) (xs ys : List X) → All P (xs ++ ys) → All P ys
+all_after P xs ys h = subst (All P) (drop_at xs ys (length xs) refl) (All-drop P (length xs) (xs ++ ys) h)
 
-module _ {W : Type 0} {contents : W → Option (List ℕ)} {stream : Option StreamShape} {a b : State ℕ} (c : State ℕ) {x y : WavWriter W} (h : PutSoFar contents stream a b x y) where
+module _ {W : Type 0} {contents : W → Option (List ℕ)} {stream : Option StreamFormat} {a b : State ℕ} (c : State ℕ) {x y : WavWriter W} (h : PutSoFar contents stream a b x y) where
   -- the decoder's error
-  pub stops_at_fault : (e : Cause) → TakesFault (let r : FrameAnswer = Err e in r) (FrameBytesFault stream) b c → StopsAt stream x a (Claxon e)
-  stops_at_fault e bad told = elim bad [
+  pub stops_at_fault : (e : Cause) → FaultIsSound (let r : FrameAnswer = Err e in r) (FrameBytesFault stream) b c → ExplainsErrorIfKnown stream x a (Claxon e)
+  stops_at_fault e bad known = elim bad [
     | inl m ↦ inl m
     | inr (inl i) ↦ inr (inl i)
     | inr (inr k) ↦ (
-        let so_far = h.taken told in
+        let so_far = h.taken known in
         let f = k so_far.0 in
         let t = (f.2 so_far.0).1 in
-        inr (inr (f.0, f.1, (h.blocks, t.0, c.coming, subst (λ (s : List ℕ). Frames stream a.coming h.blocks s) t.2 so_far.1, t.1)))
+        inr (inr (f.0, f.1, (h.blocks, t.0, c.remaining, subst (λ (s : List ℕ). Frames stream a.remaining h.blocks s) t.2 so_far.1, t.1)))
         )
   ]
 
-  module _ (block : BlockValue) (took : Took b c (Frame stream (block_view block))) where
+  module _ (block : BlockValue) (took : Consumed b c (Frame stream (block_view block))) where
     -- all blocks with this one
-    all_frames : a.told ≡ true → Frames stream a.coming (h.blocks ++ block_view block ∷ []) c.coming
-    all_frames told = let k = h.taken told in let t = (took k.0).1 in frames_push stream h.blocks (block_view block) a.coming b.coming t.0 c.coming k.1 t.1 t.2
+    all_frames : a.known ≡ true → Frames stream a.remaining (h.blocks ++ block_view block ∷ []) c.remaining
+    all_frames known = let k = h.taken known in let t = (took k.0).1 in frames_push stream h.blocks (block_view block) a.remaining b.remaining t.0 c.remaining k.1 t.1 t.2
 
     -- the writer's
-    pub stops_at_block : (e : Error) → RefusesBlock block e y → StopsAt stream x a e
-    stops_at_block (Claxon e) (inl m) told = inl m
-    stops_at_block (Claxon e) (inr i) told = inr (inl i)
-    stops_at_block TooLong r told =
+    pub stops_at_block : (e : Error) → PutBlockFaultIsSound block e y → ExplainsErrorIfKnown stream x a e
+    stops_at_block (Claxon e) (inl m) known = inl m
+    stops_at_block (Claxon e) (inr i) known = inr (inl i)
+    stops_at_block TooLong r known =
         let all = packed_more x.layout.width h.blocks block in
         let more = subst (λ (l : Layout). 4294967234 < y.written + length (packed_block l.width block)) h.puts.layout_is r in
         let both = length-append (packed_blocks x.layout.width h.blocks) (packed_block x.layout.width block) in
-        (h.blocks ++ block_view block ∷ [], c.coming, all_frames told, omega (arith, more, h.puts.written_is, both, ap length all))
-    stops_at_block SameFile r told = r
-    stops_at_block OtherChannels r told = (
+        (h.blocks ++ block_view block ∷ [], c.remaining, all_frames known, omega (arith, more, h.puts.written_is, both, ap length all))
+    stops_at_block SameFile r known = r
+    stops_at_block OtherChannels r known = (
       h.blocks ++ block_view block ∷ [],
-      c.coming,
-      all_frames told,
-      λ all. r (last_of (λ (k : Block). length k.channels ≡ x.layout.channels) h.blocks (block_view block) all ∙ sym (ap (λ (l : Layout). l.channels) h.puts.layout_is)),
+      c.remaining,
+      all_frames known,
+      λ all. r (all_last (λ (k : Block). length k.channels ≡ x.layout.channels) h.blocks (block_view block) all ∙ sym (ap (λ (l : Layout). l.channels) h.puts.layout_is)),
     )
-    stops_at_block WideSample r told = (
+    stops_at_block WideSample r known = (
       h.blocks ++ block_view block ∷ [],
-      c.coming,
-      all_frames told,
+      c.remaining,
+      all_frames known,
       λ all. r (
           subst (λ (l : Layout). All (FitsIn l.width) (interleave block.channels)) (sym h.puts.layout_is)
-          (behind_of (FitsIn x.layout.width) (samples_of h.blocks) (interleave block.channels) (subst (All (FitsIn x.layout.width)) (samples_add h.blocks (block_view block)) all))
+          (all_after (FitsIn x.layout.width) (samples_of h.blocks) (interleave block.channels) (subst (All (FitsIn x.layout.width)) (samples_add h.blocks (block_view block)) all))
           ),
     )
 
 -- what an answer says that is told by another name, of a stream that is
-pub frame_taken : {known stream : Option StreamShape} → known ≡ stream → {r : FrameAnswer} (a b : State ℕ) (block : BlockValue) → r ≡ Ok (Some block) → TakesFound block_view r (Frame known) a b → Took a b (Frame stream (block_view block))
-frame_taken {known} e a b block is h = subst (λ (s : Option StreamShape). Took a b (Frame s (block_view block))) e (subst (λ (q : FrameAnswer). TakesFound block_view q (Frame known) a b) is h)
+pub frame_taken : {known stream : Option StreamFormat} → known ≡ stream → {r : FrameAnswer} (a b : State ℕ) (block : BlockValue) → r ≡ Ok (Some block) → FoundIsSound block_view r (Frame known) a b → Consumed a b (Frame stream (block_view block))
+frame_taken {known} e a b block is h = subst (λ (s : Option StreamFormat). Consumed a b (Frame s (block_view block))) e (subst (λ (q : FrameAnswer). FoundIsSound block_view q (Frame known) a b) is h)
 
-pub fault_taken : {known stream : Option StreamShape} → known ≡ stream → {r : FrameAnswer} (a b : State ℕ) (e : Cause) → r ≡ Err e → TakesFault r (FrameBytesFault known) a b → TakesFault (let q : FrameAnswer = Err e in q) (FrameBytesFault stream) a b
-fault_taken {known} same a b e is h = subst (λ (s : Option StreamShape). TakesFault (let q : FrameAnswer = Err e in q) (FrameBytesFault s) a b) same (subst (λ (q : FrameAnswer). TakesFault q (FrameBytesFault known) a b) is h)
+pub fault_taken : {known stream : Option StreamFormat} → known ≡ stream → {r : FrameAnswer} (a b : State ℕ) (e : Cause) → r ≡ Err e → FaultIsSound r (FrameBytesFault known) a b → FaultIsSound (let q : FrameAnswer = Err e in q) (FrameBytesFault stream) a b
+fault_taken {known} same a b e is h = subst (λ (s : Option StreamFormat). FaultIsSound (let q : FrameAnswer = Err e in q) (FrameBytesFault s) a b) same (subst (λ (q : FrameAnswer). FaultIsSound q (FrameBytesFault known) a b) is h)
 
-pub end_met : {r : FrameAnswer} (a b : State ℕ) → r ≡ Ok None → NoneIsEnd 2 r a b → NoneIsEnd 2 (let q : FrameAnswer = Ok None in q) a b
-end_met a b is h = subst (λ (q : FrameAnswer). NoneIsEnd 2 q a b) is h
+pub eof_met : {r : FrameAnswer} (a b : State ℕ) → r ≡ Ok None → NoneIsEof 2 r a b → NoneIsEof 2 (let q : FrameAnswer = Ok None in q) a b
+eof_met a b is h = subst (λ (q : FrameAnswer). NoneIsEof 2 q a b) is h
 
 -- ---- a whole file
 
@@ -196,16 +196,16 @@ module _ {W : Type 0} (contents : W → Option (List ℕ)) (position : W → Opt
 
 -- all blocks, and then the end
 pub converted : {R A W : Type 0} (contents : W → Option (List ℕ)) (position : W → Option ℕ) (remaining : R → Option (List ℕ)) (flac : FlacReader R A) (frames : FrameReader (MutBor (BufferedReader R A))) (r : Result (Unit {0}) Error) (old put new : WavWriter W)
-    → (frame_input frames).now ≡ flac_input flac → frame_stream frames ≡ Some (stream_with (flac_streaminfo flac)) → PutsStream contents (frame_stream frames) (frame_bytes (lent (buffered_source remaining)) frames) old put → Finishes contents position r put new
-    → ConvertsAll contents position remaining flac r old new
+    → (frame_input frames).now ≡ flac_input flac → frame_stream frames ≡ Some (stream_with (flac_streaminfo flac)) → PutsStream contents (frame_stream frames) (frame_bytes (lent (buffered_source remaining)) frames) old put → FinishIsSound contents position r put new
+    → ConvertIsSound contents position remaining flac r old new
 converted contents position remaining flac frames (Err e) old put new input stream puts finishes = tt
 converted contents position remaining flac frames (Ok done) old put new input stream puts finishes =
-    let here = behind_loan remaining flac (frame_input frames) input in
+    let here = after_loan remaining flac (frame_input frames) input in
     record {
       blocks = puts.blocks;
-      all = λ told. (
-          let k = puts.all (here.1 ∙ told) in
-          (k.0, subst (λ (s : Option StreamShape). Frames s (flac_bytes remaining flac).coming puts.blocks k.0) stream (subst (λ (s : List ℕ). Frames (frame_stream frames) s puts.blocks k.0) here.0 k.1), k.2)
+      all = λ known. (
+          let k = puts.all (here.1 ∙ known) in
+          (k.0, subst (λ (s : Option StreamFormat). Frames s (flac_bytes remaining flac).remaining puts.blocks k.0) stream (subst (λ (s : List ℕ). Frames (frame_stream frames) s puts.blocks k.0) here.0 k.1), k.2)
           );
       put = put;
       puts = puts.puts;
@@ -216,8 +216,8 @@ converted contents position remaining flac frames (Ok done) old put new input st
 
 -- the same of the errors
 pub not_converted : {R A W : Type 0} (remaining : R → Option (List ℕ)) (flac : FlacReader R A) (frames : FrameReader (MutBor (BufferedReader R A))) (old : WavWriter W) (e : Error)
-    → (frame_input frames).now ≡ flac_input flac → frame_stream frames ≡ Some (stream_with (flac_streaminfo flac)) → StopsAt (frame_stream frames) old (frame_bytes (lent (buffered_source remaining)) frames) e
-    → StopsAt (Some (stream_with (flac_streaminfo flac))) old (flac_bytes remaining flac) e
-not_converted remaining flac frames old e input stream stops told =
-    let here = behind_loan remaining flac (frame_input frames) input in
-    subst (λ (s : Option StreamShape). StandsInWay s old (flac_bytes remaining flac).coming e) stream (subst (λ (s : List ℕ). StandsInWay (frame_stream frames) old s e) here.0 (stops (here.1 ∙ told)))
+    → (frame_input frames).now ≡ flac_input flac → frame_stream frames ≡ Some (stream_with (flac_streaminfo flac)) → ExplainsErrorIfKnown (frame_stream frames) old (frame_bytes (lent (buffered_source remaining)) frames) e
+    → ExplainsErrorIfKnown (Some (stream_with (flac_streaminfo flac))) old (flac_bytes remaining flac) e
+not_converted remaining flac frames old e input stream stops known =
+    let here = after_loan remaining flac (frame_input frames) input in
+    subst (λ (s : Option StreamFormat). ExplainsError s old (flac_bytes remaining flac).remaining e) stream (subst (λ (s : List ℕ). ExplainsError (frame_stream frames) old s e) here.0 (stops (here.1 ∙ known)))

@@ -4,7 +4,7 @@ use Rattle.std.specs.Prelude.{IfSome, Result, Ok, Err}
 use Rattle.std.specs.Io.KnownBytes.{Appends}
 use Rattle.std.proofs.KnownBytes.{Appends-kept}
 use Rattle.claxon_tools.specs.WaveFile.{pad}
-use Rattle.claxon_tools.specs.Writer.{Ends, Finishes, HeaderIsRight, Mends, MendsHeader, SameHeader}
+use Rattle.claxon_tools.specs.Writer.{Ends, FinishIsSound, HeaderIsRight, UpdatesHeader, UpdateHeaderIsSound, SameHeader}
 use Rattle.claxon_tools.specs.declared.wav.error.Error.{Error}
 use Rattle.claxon_tools.specs.declared.wav.header.Layout.{Layout}
 use Rattle.claxon_tools.specs.declared.wav.writer.WavWriter.{WavWriter}
@@ -15,17 +15,17 @@ at_start (Some place) new n h = h.1 ∙ ap (λ (k : ℕ). Some k) h.0
 
 -- the pad, and then the header
 ends : {W : Type 0} (contents : W → Option (List ℕ)) (position : W → Option ℕ) (old padded new : WavWriter W) → Appends (contents old.output) (contents padded.output) (pad old.written) → SameHeader old padded
-    → Mends contents position padded.layout padded.announced padded.written padded.output new.output × HeaderIsRight padded new → Ends contents position old.layout old.announced old.written old.output new.output × HeaderIsRight old new
+    → UpdatesHeader contents position padded.layout padded.announced padded.written padded.output new.output × HeaderIsRight padded new → Ends contents position old.layout old.announced old.written old.output new.output × HeaderIsRight old new
 ends contents position old padded new p same m =
-    let k : Mends contents position old.layout old.announced old.written padded.output new.output =
-    subst (λ (l : Layout). Mends contents position l old.announced old.written padded.output new.output) same.layout_is
-    (subst (λ (n : ℕ). Mends contents position padded.layout n old.written padded.output new.output) same.announced_is
-    (subst (λ (n : ℕ). Mends contents position padded.layout padded.announced n padded.output new.output) same.written_is m.0)) in (
+    let k : UpdatesHeader contents position old.layout old.announced old.written padded.output new.output =
+    subst (λ (l : Layout). UpdatesHeader contents position l old.announced old.written padded.output new.output) same.layout_is
+    (subst (λ (n : ℕ). UpdatesHeader contents position padded.layout n old.written padded.output new.output) same.announced_is
+    (subst (λ (n : ℕ). UpdatesHeader contents position padded.layout padded.announced n padded.output new.output) same.written_is m.0)) in (
       record { right = λ e. Appends-kept (contents old.output) (contents padded.output) (contents new.output) (pad old.written) p (k.right e); wrong = λ e. (padded.output, p, k.wrong e) },
       record { announced_is = m.1.announced_is ∙ same.written_is; written_is = m.1.written_is ∙ same.written_is; layout_is = m.1.layout_is ∙ same.layout_is },
     )
 
 pub finishes : {W : Type 0} (contents : W → Option (List ℕ)) (position : W → Option ℕ) (r : Result (Unit {0}) Error) (old padded new : WavWriter W) → Appends (contents old.output) (contents padded.output) (pad old.written) → SameHeader old padded
-    → MendsHeader contents position r padded new → Finishes contents position r old new
+    → UpdateHeaderIsSound contents position r padded new → FinishIsSound contents position r old new
 finishes contents position (Ok done) old padded new p same m = ends contents position old padded new p same m
 finishes contents position (Err e) old padded new p same m = tt

@@ -54,10 +54,10 @@ abbrev pub facts_of : {R A : Type 0} → FlacReader R A → List ℕ
 facts_of flac = facts_text (flac_streaminfo flac) (vendor_of flac) (tags_of flac)
 
 -- An Ok is those lines.
-abbrev pub FactsAreTold : {R A : Type 0} → FlacReader R A → Result (String A) AllocError → Type 0
-FactsAreTold flac r = IsText (facts_of flac) r
+abbrev pub FactsIsSound : {R A : Type 0} → FlacReader R A → Result (String A) AllocError → Type 0
+FactsIsSound flac r = IsText (facts_of flac) r
 
 -- An Ok wrote just those lines.
-abbrev pub FactsAreWritten : {R W A : Type 0} → (W → Option (List ℕ)) → FlacReader R A
+abbrev pub WriteFactsIsSound : {R W A : Type 0} → (W → Option (List ℕ)) → FlacReader R A
     → Result (Unit {0}) Error → W → W → Type 0
-FactsAreWritten contents flac r old new = OnOk r (Appends (contents old) (contents new) (facts_of flac))
+WriteFactsIsSound contents flac r old new = OnOk r (Appends (contents old) (contents new) (facts_of flac))

@@ -13,31 +13,31 @@ abbrev pub chunk : List ℕ → List ℕ → List ℕ
 chunk name body = name ++ to_le_bytes w32 (length body) ++ body ++ pad (length body)
 
 -- More than two channels, samples that don't fill one or two bytes, and loudspeakers other than those of mono and stereo ask for the long format.
-abbrev pub is_long : Layout → Bool
-is_long l = nat_lt 2 l.channels || (not ((l.width == 8) || (l.width == 16)) || not ((l.speakers == 3) || (l.speakers == 4)))
+abbrev pub is_extensible : Layout → Bool
+is_extensible l = nat_lt 2 l.channels || (not ((l.width == 8) || (l.width == 16)) || not ((l.speakers == 3) || (l.speakers == 4)))
 
 -- the code of plain samples in the long format
-abbrev pub plain_samples : List ℕ
-plain_samples = 1 ∷ 0 ∷ 0 ∷ 0 ∷ 0 ∷ 0 ∷ 16 ∷ 0 ∷ 128 ∷ 0 ∷ 0 ∷ 170 ∷ 0 ∷ 56 ∷ 155 ∷ 113 ∷ []
+abbrev pub pcm_subformat : List ℕ
+pcm_subformat = 1 ∷ 0 ∷ 0 ∷ 0 ∷ 0 ∷ 0 ∷ 16 ∷ 0 ∷ 128 ∷ 0 ∷ 0 ∷ 170 ∷ 0 ∷ 56 ∷ 155 ∷ 113 ∷ []
 
 -- the bytes of a sample of so many bits
 abbrev pub sample_size : ℕ → ℕ
 sample_size width = div_ceil width 8
 
 -- the bytes of a sample of each channel
-abbrev pub place_size : Layout → ℕ
-place_size l = l.channels * sample_size l.width
+abbrev pub block_align : Layout → ℕ
+block_align l = l.channels * sample_size l.width
 
 -- the code of the format, channels, rate, bytes a second, bytes a place, bits of room a sample
-abbrev pub short_format : ℕ → Layout → List ℕ
-short_format code l = to_le_bytes w16 code ++ to_le_bytes w16 l.channels ++ to_le_bytes w32 l.sample_rate ++ to_le_bytes w32 (l.sample_rate * place_size l % 2 ^ 32) ++ to_le_bytes w16 (place_size l) ++ to_le_bytes w16 (8 * sample_size l.width)
+abbrev pub base_format : ℕ → Layout → List ℕ
+base_format code l = to_le_bytes w16 code ++ to_le_bytes w16 l.channels ++ to_le_bytes w32 l.sample_rate ++ to_le_bytes w32 (l.sample_rate * block_align l % 2 ^ 32) ++ to_le_bytes w16 (block_align l) ++ to_le_bytes w16 (8 * sample_size l.width)
 
 -- what the long format has more: its size, the bits of a sample, the loudspeakers, the code of the samples
 abbrev pub extension : Layout → List ℕ
-extension l = to_le_bytes w16 22 ++ to_le_bytes w16 l.width ++ to_le_bytes w32 l.speakers ++ plain_samples
+extension l = to_le_bytes w16 22 ++ to_le_bytes w16 l.width ++ to_le_bytes w32 l.speakers ++ pcm_subformat
 
 unfoldable pub format : Layout → List ℕ
-format l = cond (is_long l) (short_format 65534 l ++ extension l) (short_format 1 l)
+format l = cond (is_extensible l) (base_format 65534 l ++ extension l) (base_format 1 l)
 
 -- a WAV file with these bytes of samples
 abbrev pub wave_file : Layout → List ℕ → List ℕ
@@ -49,12 +49,12 @@ IsHeader l size header = (samples : List ℕ) → length samples ≡ size → wa
 
 -- the bytes of so many samples of each channel, or none where they and what stands with them are more than a file's size can say
 abbrev pub IsSizeOf : Layout → ℕ → Option ℕ → Type 0
-IsSizeOf l places None = 4294967234 < places * place_size l
-IsSizeOf l places (Some size) = (size ≡ places * place_size l) × (size ≤ 4294967234)
+IsSizeOf l places None = 4294967234 < places * block_align l
+IsSizeOf l places (Some size) = (size ≡ places * block_align l) × (size ≤ 4294967234)
 
 -- It has these channels, bits and places a second. The loudspeakers are those that are named, or the usual ones of FLAC.
 pub record IsLayoutOf (channels width sample_rate : ℕ) (speakers : Option ℕ) (l : Layout) : Type 0 where
   pub channels_are : l.channels ≡ channels
-  pub width_is : l.width ≡ width
+  pub valid_bits_are : l.width ≡ width
   pub rate_is : l.sample_rate ≡ sample_rate
-  pub loudspeakers : l.speakers ≡ channel_mask_of channels speakers
+  pub channel_mask_is : l.speakers ≡ channel_mask_of channels speakers

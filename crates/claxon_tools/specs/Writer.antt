@@ -22,26 +22,26 @@ pub record Begins {W : Type 0} (contents : W → Option (List ℕ)) (layout : La
   pub announced_is : new.announced ≡ announced
   pub none_so_far : new.written ≡ 0
 
-abbrev pub BeginsWithHeader : {W : Type 0} → (W → Option (List ℕ)) → Layout → ℕ → W → Result (WavWriter W) Error → Type 0
-BeginsWithHeader contents layout announced output r = IfOk r (λ new. Begins contents layout announced output new)
+abbrev pub StartIsSound : {W : Type 0} → (W → Option (List ℕ)) → Layout → ℕ → W → Result (WavWriter W) Error → Type 0
+StartIsSound contents layout announced output r = IfOk r (λ new. Begins contents layout announced output new)
 
 -- An Ok wrote the samples of the block behind all that was written before, in as many bytes as are told.
-abbrev pub PutsBlock : {W : Type 0} → (W → Option (List ℕ)) → BlockValue → Result (Unit {0}) Error → WavWriter W → WavWriter W → Type 0
-PutsBlock contents block r old new =
+abbrev pub PutBlockIsSound : {W : Type 0} → (W → Option (List ℕ)) → BlockValue → Result (Unit {0}) Error → WavWriter W → WavWriter W → Type 0
+PutBlockIsSound contents block r old new =
     OnOk r (Appends (contents old.output) (contents new.output) (packed_block old.layout.width block) × (length block.channels ≡ old.layout.channels) × (new.written ≡ old.written + length (packed_block old.layout.width block)))
 
 -- want of memory, or an `IoError`
-abbrev pub IsOutside : Error → Type 0
-IsOutside (Claxon error) = (error ≡ OutOfMemory) ⊎ IsIo error
-IsOutside error = ⊥
+abbrev pub IsOutOfMemoryOrIo : Error → Type 0
+IsOutOfMemoryOrIo (Claxon error) = (error ≡ OutOfMemory) ⊎ IsIo error
+IsOutOfMemoryOrIo error = ⊥
 
 -- An Err says that the block has other channels than the layout, a sample with more bits, or more bytes than the file has room
 -- for; or it is want of memory or an `IoError`.
-abbrev pub RefusesBlock : {W : Type 0} → BlockValue → Error → WavWriter W → Type 0
-RefusesBlock block OtherChannels old = length block.channels ≡ old.layout.channels → ⊥
-RefusesBlock block WideSample old = All (FitsIn old.layout.width) (interleave block.channels) → ⊥
-RefusesBlock block TooLong old = 4294967234 < old.written + length (packed_block old.layout.width block)
-RefusesBlock block error old = IsOutside error
+abbrev pub PutBlockFaultIsSound : {W : Type 0} → BlockValue → Error → WavWriter W → Type 0
+PutBlockFaultIsSound block OtherChannels old = length block.channels ≡ old.layout.channels → ⊥
+PutBlockFaultIsSound block WideSample old = All (FitsIn old.layout.width) (interleave block.channels) → ⊥
+PutBlockFaultIsSound block TooLong old = 4294967234 < old.written + length (packed_block old.layout.width block)
+PutBlockFaultIsSound block error old = IsOutOfMemoryOrIo error
 
 -- ---- the end
 
@@ -66,13 +66,13 @@ pub record WritesHeader {W : Type 0} (contents : W → Option (List ℕ)) (posit
   pub written : Appends (contents start) (contents new) header
 
 -- Where the header was right nothing was written, else the right one was.
-pub record Mends {W : Type 0} (contents : W → Option (List ℕ)) (position : W → Option ℕ) (layout : Layout) (announced written : ℕ) (old new : W) : Type 0 where
+pub record UpdatesHeader {W : Type 0} (contents : W → Option (List ℕ)) (position : W → Option ℕ) (layout : Layout) (announced written : ℕ) (old new : W) : Type 0 where
   pub right : announced ≡ written → Keeps (contents old) (contents new)
   pub wrong : (announced ≡ written → ⊥) → WritesHeader contents position layout written old new
 
 -- An Ok left the right header, or wrote it.
-abbrev pub MendsHeader : {W : Type 0} → (W → Option (List ℕ)) → (W → Option ℕ) → Result (Unit {0}) Error → WavWriter W → WavWriter W → Type 0
-MendsHeader contents position r old new = OnOk r (Mends contents position old.layout old.announced old.written old.output new.output × HeaderIsRight old new)
+abbrev pub UpdateHeaderIsSound : {W : Type 0} → (W → Option (List ℕ)) → (W → Option ℕ) → Result (Unit {0}) Error → WavWriter W → WavWriter W → Type 0
+UpdateHeaderIsSound contents position r old new = OnOk r (UpdatesHeader contents position old.layout old.announced old.written old.output new.output × HeaderIsRight old new)
 
 -- The pad was written behind all that was written before. Where the header was right the output holds no more than that;
 -- else a right one was written then.
@@ -81,5 +81,5 @@ pub record Ends {W : Type 0} (contents : W → Option (List ℕ)) (position : W 
   pub wrong : (announced ≡ written → ⊥) → (padded : W) × Appends (contents old) (contents padded) (pad written) × WritesHeader contents position layout written padded new
 
 -- An Ok wrote the pad behind the samples, and the header is right now.
-abbrev pub Finishes : {W : Type 0} → (W → Option (List ℕ)) → (W → Option ℕ) → Result (Unit {0}) Error → WavWriter W → WavWriter W → Type 0
-Finishes contents position r old new = OnOk r (Ends contents position old.layout old.announced old.written old.output new.output × HeaderIsRight old new)
+abbrev pub FinishIsSound : {W : Type 0} → (W → Option (List ℕ)) → (W → Option ℕ) → Result (Unit {0}) Error → WavWriter W → WavWriter W → Type 0
+FinishIsSound contents position r old new = OnOk r (Ends contents position old.layout old.announced old.written old.output new.output × HeaderIsRight old new)

@@ -1,8 +1,8 @@
 //! The lines that are printed of a stream.
 ghost use Rattle.std.specs.Prelude.{◌≡◌};
 ghost use Rattle.std.specs.Option.{option_map};
-ghost use Rattle.claxon.specs.Tags.{tags_left};
-ghost use Rattle.claxon_tools.specs.Facts.{FactsAreTold, FactsAreWritten, format_text, line, numbers_text, sizes_text, tag_text, tags_text, vendor_text};
+ghost use Rattle.claxon.specs.Tags.{remaining_tags};
+ghost use Rattle.claxon_tools.specs.Facts.{FactsIsSound, WriteFactsIsSound, format_text, line, numbers_text, sizes_text, tag_text, tags_text, vendor_text};
 ghost use Rattle.claxon_tools.specs.Text.{Adds};
 
 use crate::text::{escaped_text, length_text, md5_text, number_text};
@@ -21,7 +21,7 @@ pub fn write_facts<R: Read, W: Write, A: Allocator + Copy>(
     flac: &FlacReader<R, A>,
     output: &mut W,
 ) -> claxon::Result<()>
-    ensures { FactsAreWritten W.contents flac.now result output.old output.new }
+    ensures { WriteFactsIsSound W.contents flac.now result output.old output.new }
 {
     let text = facts(alloc, flac)?;
     output.write_all(text.as_bytes())?;
@@ -34,7 +34,7 @@ fn facts<R: Read, A: Allocator + Copy>(
     alloc: A,
     flac: &FlacReader<R, A>,
 ) -> Result<String<A>, AllocError>
-    ensures { FactsAreTold flac.now result }
+    ensures { FactsIsSound flac.now result }
 {
     let mut text = String::new(alloc);
     let info = flac.streaminfo();
@@ -100,7 +100,7 @@ fn push_tags<A: Allocator + Copy>(
     text: &mut String<A>,
     mut tags: Tags<'_, A>,
 ) -> Result<(), AllocError>
-    ensures { Adds (tags_text (tags_left tags.entry)) result text.old text.new }
+    ensures { Adds (tags_text (remaining_tags tags.entry)) result text.old text.new }
 {
     while let Some((name, value)) = tags.next() {
         push_tag(alloc, text, name, value)?;

@@ -7,5 +7,5 @@ mod writer;
 
 pub use blocks::convert;
 pub use error::{Error, Result};
-pub use header::{Layout, MOST_BYTES};
+pub use header::{Layout, MAX_DATA_SIZE};
 pub use writer::WavWriter;

@@ -68,7 +68,7 @@ fn trace_frames<R: ReadBytes, W: Write>(
     output: &mut W,
 ) -> Result<Ending>
     requires some { 1 ≤ info.bits_per_sample }
-    requires widest { info.bits_per_sample ≤ 32 }
+    requires max_bit_depth { info.bits_per_sample ≤ 32 }
 {
     let mut frames = FrameReader::with_streaminfo(input, info);
     let mut faults = 0u64;

@@ -1,5 +1,5 @@
 pub mod Collecting
-pub mod Dropped
+pub mod MemoryOrIoErrors
 pub mod FirstSamples
 pub mod Opened
 pub mod Packets

@@ -5,22 +5,22 @@ use Rattle.claxon.specs.Errors.{Error}
 use Rattle.claxon.specs.Errors.TheVariants.{OutOfMemory}
 use Rattle.claxon.specs.FlacReader.{flac_head}
 use Rattle.claxon.specs.Heads.{Head, Options}
-use Rattle.claxon.specs.Opening.{EachFaultIsNamedOnOpening, EachHeadIsOpened, HeadFaultIsThere, HeadIsShown, OpenAnswer, flac_bytes}
-use Rattle.claxon.specs.ReadHead.{wishes}
+use Rattle.claxon.specs.Opening.{OpenFaultIsComplete, OpenIsComplete, OpenFaultIsSound, OpenIsSound, OpenAnswer, flac_bytes}
+use Rattle.claxon.specs.ReadHead.{options_view}
 use Rattle.claxon.specs.declared.head.FlacReaderOptions.{FlacReaderOptions}
 use Rattle.claxon.specs.declared.reader.FlacReader.{FlacReader}
 use Rattle.claxon_uses.specs.TagLines.{AreTags, AreTagsOf, TagFaultIsComplete, TagFaultIsSound, TagLinesAreComplete, TagLinesAreSound, metadata_alone}
-use Rattle.claxon_uses.proofs.Dropped.{as_dropped, not_dropped}
+use Rattle.claxon_uses.proofs.MemoryOrIoErrors.{same_memory_or_io_error, not_memory_or_io_error}
 
-pub wishes_alone : (o : FlacReaderOptions) → o.metadata_only ≡ true → o.read_vorbis_comment ≡ true → wishes o ≡ metadata_alone
-wishes_alone o only comment =
+pub options_alone : (o : FlacReaderOptions) → o.metadata_only ≡ true → o.read_vorbis_comment ≡ true → options_view o ≡ metadata_alone
+options_alone o only comment =
     let first : Bool → Options = λ b. record { metadata_only = b; wants_comment = o.read_vorbis_comment } in
     let second : Bool → Options = λ b. record { metadata_only = true; wants_comment = b } in
     ap first only ∙ ap second comment
 
 -- ---- all that is promised
 
-pub record TagAnswer {R A : Type 0} (remaining : R → Option (List ℕ)) (reader : R) (r : Result (Vec (String A) A) Error) : Type 0 where
+pub record TagPromises {R A : Type 0} (remaining : R → Option (List ℕ)) (reader : R) (r : Result (Vec (String A) A) Error) : Type 0 where
   pub sound : TagLinesAreSound remaining reader r
   pub complete : TagLinesAreComplete remaining reader r
   pub fault : TagFaultIsSound remaining reader r
@@ -28,34 +28,34 @@ pub record TagAnswer {R A : Type 0} (remaining : R → Option (List ℕ)) (reade
 
 module _ {R A : Type 0} (remaining : R → Option (List ℕ)) (reader : R) (o : Options) (alone : o ≡ metadata_alone) where
   -- no head was read
-  pub no_tags : (e : Error) → EachHeadIsOpened remaining o reader (let r : OpenAnswer R A = Err e in r) → HeadFaultIsThere remaining o reader (let r : OpenAnswer R A = Err e in r)
-      → EachFaultIsNamedOnOpening remaining o reader (let r : OpenAnswer R A = Err e in r) → TagAnswer {A = A} remaining reader (Err e)
+  pub no_tags : (e : Error) → OpenIsComplete remaining o reader (let r : OpenAnswer R A = Err e in r) → OpenFaultIsSound remaining o reader (let r : OpenAnswer R A = Err e in r)
+      → OpenFaultIsComplete remaining o reader (let r : OpenAnswer R A = Err e in r) → TagPromises {A = A} remaining reader (Err e)
   no_tags e complete fault named =
-      let all = subst (λ (z : Options). EachHeadIsOpened remaining z reader (let r : OpenAnswer R A = Err e in r)) alone complete in
-      let each = subst (λ (z : Options). EachFaultIsNamedOnOpening remaining z reader (let r : OpenAnswer R A = Err e in r)) alone named in
+      let all = subst (λ (z : Options). OpenIsComplete remaining z reader (let r : OpenAnswer R A = Err e in r)) alone complete in
+      let each = subst (λ (z : Options). OpenFaultIsComplete remaining z reader (let r : OpenAnswer R A = Err e in r)) alone named in
       record {
         sound = tt;
-        complete = λ h told b. elim (all h b.0 b.1 b.2 (record { told = told; are = b.3 })) [ inl p ↦ absurd p | inr d ↦ inr (as_dropped e d) ];
-        fault = subst (λ (z : Options). HeadFaultIsThere remaining z reader (let r : OpenAnswer R A = Err e in r)) alone fault;
-        named = λ f told b. elim (each f b.0 b.1 b.2 (record { told = told; are = b.3 })) [ inl p ↦ inl p | inr d ↦ inr (as_dropped e d) ];
+        complete = λ h known b. elim (all h b.0 b.1 b.2 (record { known = known; are = b.3 })) [ inl p ↦ absurd p | inr d ↦ inr (same_memory_or_io_error e d) ];
+        fault = subst (λ (z : Options). OpenFaultIsSound remaining z reader (let r : OpenAnswer R A = Err e in r)) alone fault;
+        named = λ f known b. elim (each f b.0 b.1 b.2 (record { known = known; are = b.3 })) [ inl p ↦ inl p | inr d ↦ inr (same_memory_or_io_error e d) ];
       }
 
   -- a head was read, and its tags are answered or there is no memory for them
-  pub tags_answered : (flac : FlacReader R A) → HeadIsShown remaining o reader (let r : OpenAnswer R A = Ok flac in r) → EachHeadIsOpened remaining o reader (let r : OpenAnswer R A = Ok flac in r)
-      → EachFaultIsNamedOnOpening remaining o reader (let r : OpenAnswer R A = Ok flac in r) → (r : Result (Vec (String A) A) Error) → IfOk r (AreTags flac) → IfErr r (λ e. e ≡ OutOfMemory) → TagAnswer remaining reader r
+  pub tags_answered : (flac : FlacReader R A) → OpenIsSound remaining o reader (let r : OpenAnswer R A = Ok flac in r) → OpenIsComplete remaining o reader (let r : OpenAnswer R A = Ok flac in r)
+      → OpenFaultIsComplete remaining o reader (let r : OpenAnswer R A = Ok flac in r) → (r : Result (Vec (String A) A) Error) → IfOk r (AreTags flac) → IfErr r (λ e. e ≡ OutOfMemory) → TagPromises remaining reader r
   tags_answered flac sound complete named (Ok lines) are memory =
-      let shown = subst (λ (z : Options). HeadIsShown remaining z reader (let r : OpenAnswer R A = Ok flac in r)) alone sound in
-      let all = subst (λ (z : Options). EachHeadIsOpened remaining z reader (let r : OpenAnswer R A = Ok flac in r)) alone complete in
-      let each = subst (λ (z : Options). EachFaultIsNamedOnOpening remaining z reader (let r : OpenAnswer R A = Ok flac in r)) alone named in
+      let shown = subst (λ (z : Options). OpenIsSound remaining z reader (let r : OpenAnswer R A = Ok flac in r)) alone sound in
+      let all = subst (λ (z : Options). OpenIsComplete remaining z reader (let r : OpenAnswer R A = Ok flac in r)) alone complete in
+      let each = subst (λ (z : Options). OpenFaultIsComplete remaining z reader (let r : OpenAnswer R A = Ok flac in r)) alone named in
       record {
-        sound = λ told. (flac_head flac, ((shown told).1.0, (flac_bytes remaining flac).coming, (shown told).1.1, (shown told).1.2), are);
-        complete = λ h told b. elim (all h b.0 b.1 b.2 (record { told = told; are = b.3 })) [ inl p ↦ inl (subst (λ (z : Head). AreTagsOf z lines) p.0 are) | inr d ↦ absurd (not_dropped flac d) ];
+        sound = λ known. (flac_head flac, ((shown known).1.0, (flac_bytes remaining flac).remaining, (shown known).1.1, (shown known).1.2), are);
+        complete = λ h known b. elim (all h b.0 b.1 b.2 (record { known = known; are = b.3 })) [ inl p ↦ inl (subst (λ (z : Head). AreTagsOf z lines) p.0 are) | inr d ↦ absurd (not_memory_or_io_error flac d) ];
         fault = tt;
-        named = λ f told b. elim (each f b.0 b.1 b.2 (record { told = told; are = b.3 })) [ inl p ↦ absurd p | inr d ↦ absurd (not_dropped flac d) ];
+        named = λ f known b. elim (each f b.0 b.1 b.2 (record { known = known; are = b.3 })) [ inl p ↦ absurd p | inr d ↦ absurd (not_memory_or_io_error flac d) ];
       }
   tags_answered flac sound complete named (Err e) are memory = record {
     sound = tt;
-    complete = λ h told b. inr (inl (ap (λ (z : Error). Err z) memory));
+    complete = λ h known b. inr (inl (ap (λ (z : Error). Err z) memory));
     fault = inl memory;
-    named = λ f told b. inr (inl (ap (λ (z : Error). Err z) memory));
+    named = λ f known b. inr (inl (ap (λ (z : Error). Err z) memory));
   }

@@ -8,10 +8,10 @@ use Rattle.std.proofs.lemmas.Bool.{false≢true}
 use Rattle.std.proofs.lemmas.List.{append-nil, append_cancel_left}
 use Rattle.std.proofs.lemmas.List.Sums.{sum_by-append, sum_by_push}
 use Rattle.claxon.specs.Fault.{Fault}
-use Rattle.claxon.specs.Frame.{Block, Frame, FrameBytesFault, IsWidth, StreamShape, known_width}
+use Rattle.claxon.specs.Frame.{Block, Frame, FrameBytesFault, IsWidth, StreamFormat, known_width}
 use Rattle.claxon.specs.Heads.{Head}
-use Rattle.claxon.specs.Error.{is_memory}
-use Rattle.claxon.specs.Promises.{NoneIsEnd, TakesFault, TakesFound, Took}
+use Rattle.claxon.specs.Error.{is_out_of_memory}
+use Rattle.claxon.specs.Promises.{NoneIsEof, FaultIsSound, FoundIsSound, Consumed}
 use Rattle.claxon.specs.State.{State}
 use Rattle.claxon.specs.Errors.{Error}
 use Rattle.claxon.specs.Block.{BlockValue, duration_of}
@@ -21,39 +21,39 @@ use Rattle.claxon.specs.FrameReader.{FrameAnswer, block_view, frame_bytes, frame
 use Rattle.claxon.specs.FrameReaders.{FrameReader}
 use Rattle.claxon.specs.FlacReader.{flac_head}
 use Rattle.claxon.specs.MetadataBlock.{or_zero}
-use Rattle.claxon.specs.Opening.{EachFaultIsNamedOnOpening, EachHeadIsOpened, HeadFaultIsThere, OpenAnswer, flac_bytes, unread}
+use Rattle.claxon.specs.Opening.{OpenFaultIsComplete, OpenIsComplete, OpenFaultIsSound, OpenAnswer, flac_bytes, unread}
 use Rattle.claxon.specs.SampleRuns.{lent}
 use Rattle.claxon.specs.Streams.{with_samples}
 use Rattle.claxon.specs.declared.reader.FlacReader.{FlacReader}
-use Rattle.claxon.proofs.Formats.{frames_told}
-use Rattle.claxon.proofs.SampleRuns.{short_complete, short_right}
+use Rattle.claxon.proofs.FormatLaws.{frames_unambiguous}
+use Rattle.claxon.proofs.SampleRuns.{short_no_frame, short_no_fault}
 use Rattle.claxon.proofs.SamplesInTurn.{same_duration}
-use Rattle.claxon_uses.specs.Verified.{AreCounted, AreTooMany, CanBeCounted, CannotBeVerified, CountsPart, CountsParts, EachHeadFaultIsNamed, EachStreamIsVerified, HasTooMany, IsRight, IsVerified, NamesPart, Part, PartBytes, Parts, PassesCount, StopsCounting, StreamIsVerified, TakesParts, part_faults, part_frames, part_samples}
+use Rattle.claxon_uses.specs.Verified.{AreCounted, AreTooMany, CanBeCounted, VerifyFaultIsSound, CountsPart, CountsParts, VerifyHeadFaultIsComplete, VerifyIsComplete, HasTooMany, IsRight, IsVerified, IsFormatOrUnsupported, Part, PartBytes, Parts, ExceedsCount, StopsCounting, VerifyIsSound, ConsumesParts, part_faults, part_frames, part_samples}
 use Rattle.claxon_uses.specs.declared.damaged.Found.{Found}
-use Rattle.claxon_uses.proofs.Opened.{IsOpened, after_told, behind_any, head_fault_named, no_head, no_head_fault, same_head, shown}
+use Rattle.claxon_uses.proofs.Opened.{IsOpened, after_known, after_any_head, head_fault_named, no_head, no_head_fault, same_head, shown}
 
 -- one part more
-parts_push : (stream : Option StreamShape) (parts : List Part) (part : Part) (s m t r : List ℕ) → Parts stream s parts m → PartBytes stream part t → m ≡ t ++ r → Parts stream s (parts ++ part ∷ []) r
+parts_push : (stream : Option StreamFormat) (parts : List Part) (part : Part) (s m t r : List ℕ) → Parts stream s parts m → PartBytes stream part t → m ≡ t ++ r → Parts stream s (parts ++ part ∷ []) r
 parts_push stream [] part s m t r p c e = (t, r, c, p ∙ e, refl)
 parts_push stream (x ∷ parts) part s m t r p c e = (p.0, p.1, p.2, p.3, parts_push stream parts part p.1 m t r p.4 c e)
 
-module _ {stream : Option StreamShape} where
+module _ {stream : Option StreamFormat} where
   -- before the first one
-  pub takes_none : (a : State ℕ) (found : Found) → found.frames ≡ 0 → found.faults ≡ 0 → found.samples ≡ 0 → TakesParts stream a a found
-  takes_none a found frames faults samples = record { taken = λ told. (told, ([], refl, record { frames = frames; faults = faults; samples = samples })) }
+  pub takes_none : (a : State ℕ) (found : Found) → found.frames ≡ 0 → found.faults ≡ 0 → found.samples ≡ 0 → ConsumesParts stream a a found
+  takes_none a found frames faults samples = record { taken = λ known. (known, ([], refl, record { frames = frames; faults = faults; samples = samples })) }
 
-  module _ {a b : State ℕ} (c : State ℕ) {found : Found} (so_far : TakesParts stream a b found) where
-    with_part : (part : Part) → Took b c (PartBytes stream part) → a.told ≡ true → (c.told ≡ true) × ((parts : List Part) × Parts stream a.coming (parts ++ part ∷ []) c.coming × AreCounted parts found)
-    with_part part took told =
-        let k = so_far.taken told in
-        let w = took k.0 in
+  module _ {a b : State ℕ} (c : State ℕ) {found : Found} (so_far : ConsumesParts stream a b found) where
+    with_part : (part : Part) → Consumed b c (PartBytes stream part) → a.known ≡ true → (c.known ≡ true) × ((parts : List Part) × Parts stream a.remaining (parts ++ part ∷ []) c.remaining × AreCounted parts found)
+    with_part part consumed known =
+        let k = so_far.taken known in
+        let w = consumed k.0 in
         let p = k.1 in
-        (w.0, (p.0, parts_push stream p.0 part a.coming b.coming w.1.0 c.coming p.1 w.1.1 w.1.2, p.2))
+        (w.0, (p.0, parts_push stream p.0 part a.remaining b.remaining w.1.0 c.remaining p.1 w.1.1 w.1.2, p.2))
 
-    takes_part : {more : Found} (part : Part) → Took b c (PartBytes stream part) → CountsPart (part_frames part) (part_faults part) (part_samples part) found more → TakesParts stream a c more
-    takes_part part took n = record {
-      taken = λ told.
-          let k = with_part part took told in
+    takes_part : {more : Found} (part : Part) → Consumed b c (PartBytes stream part) → CountsPart (part_frames part) (part_faults part) (part_samples part) found more → ConsumesParts stream a c more
+    takes_part part consumed n = record {
+      taken = λ known.
+          let k = with_part part consumed known in
           let p = k.1 in (
             k.0,
             (
@@ -69,15 +69,15 @@ module _ {stream : Option StreamShape} where
     }
 
     -- one part more is too much
-    passes_part : (part : Part) → Took b c (PartBytes stream part) → (e : Error) → PassesCount (part_frames part) (part_faults part) (part_samples part) found e → a.told ≡ true → (parts : List Part) × (rest : List ℕ) × Parts stream a.coming parts rest × AreTooMany parts
-    passes_part part took e n told =
-        let p = (with_part part took told).1 in
+    exceeds_part : (part : Part) → Consumed b c (PartBytes stream part) → (e : Error) → ExceedsCount (part_frames part) (part_faults part) (part_samples part) found e → a.known ≡ true → (parts : List Part) × (rest : List ℕ) × Parts stream a.remaining parts rest × AreTooMany parts
+    exceeds_part part consumed e n known =
+        let p = (with_part part consumed known).1 in
         let frames = sum_by_push part_frames p.0 part in
         let faults = sum_by_push part_faults p.0 part in
         let samples = sum_by_push part_samples p.0 part in
         let k = p.2 in (
           p.0 ++ part ∷ [],
-          c.coming,
+          c.remaining,
           p.1,
           elim n.1 [
             | inl m ↦ inr (omega (arith, m, k.frames, frames))
@@ -87,58 +87,58 @@ module _ {stream : Option StreamShape} where
         )
 
     -- the frame of a block
-    pub takes_frame : {more : Found} (block : BlockValue) (n : ℕ) → Took b c (Frame stream (block_view block)) → n ≡ duration_of block.channels → CountsPart 1 0 n found more → TakesParts stream a c more
-    takes_frame {more} block n took is counts = takes_part (Ok (block_view block)) took (subst (λ (z : ℕ). CountsPart 1 0 z found more) (is ∙ sym (same_duration block.channels)) counts)
+    pub takes_frame : {more : Found} (block : BlockValue) (n : ℕ) → Consumed b c (Frame stream (block_view block)) → n ≡ duration_of block.channels → CountsPart 1 0 n found more → ConsumesParts stream a c more
+    takes_frame {more} block n consumed is counts = takes_part (Ok (block_view block)) consumed (subst (λ (z : ℕ). CountsPart 1 0 z found more) (is ∙ sym (same_duration block.channels)) counts)
 
-    pub passes_frame : (block : BlockValue) (n : ℕ) → Took b c (Frame stream (block_view block)) → n ≡ duration_of block.channels → (e : Error) → PassesCount 1 0 n found e → a.told ≡ true → (parts : List Part) × (rest : List ℕ) × Parts stream a.coming parts rest × AreTooMany parts
-    passes_frame block n took is e counts = passes_part (Ok (block_view block)) took e (subst (λ (z : ℕ). PassesCount 1 0 z found e) (is ∙ sym (same_duration block.channels)) counts)
+    pub exceeds_frame : (block : BlockValue) (n : ℕ) → Consumed b c (Frame stream (block_view block)) → n ≡ duration_of block.channels → (e : Error) → ExceedsCount 1 0 n found e → a.known ≡ true → (parts : List Part) × (rest : List ℕ) × Parts stream a.remaining parts rest × AreTooMany parts
+    exceeds_frame block n consumed is e counts = exceeds_part (Ok (block_view block)) consumed e (subst (λ (z : ℕ). ExceedsCount 1 0 z found e) (is ∙ sym (same_duration block.channels)) counts)
 
     -- a fault
-    fault_part : (error : Error) → TakesFault (let r : FrameAnswer = Err error in r) (FrameBytesFault stream) b c → NamesPart error → a.told ≡ true → (f : Fault) × Took b c (FrameBytesFault stream f)
-    fault_part error bad names told = elim bad [
-      | inl m ↦ absurd (let z : true ≡ false = subst (λ (q : Error). is_memory q ≡ false) m names.0 in cc)
+    fault_part : (error : Error) → FaultIsSound (let r : FrameAnswer = Err error in r) (FrameBytesFault stream) b c → IsFormatOrUnsupported error → a.known ≡ true → (f : Fault) × Consumed b c (FrameBytesFault stream f)
+    fault_part error bad names known = elim bad [
+      | inl m ↦ absurd (let z : true ≡ false = subst (λ (q : Error). is_out_of_memory q ≡ false) m names.0 in cc)
       | inr (inl i) ↦ absurd (let z : true ≡ false = sym i ∙ names.1 in cc)
-      | inr (inr k) ↦ (let f = k (so_far.taken told).0 in (f.0, f.2))
+      | inr (inr k) ↦ (let f = k (so_far.taken known).0 in (f.0, f.2))
     ]
 
-    pub takes_fault : {more : Found} (error : Error) → TakesFault (let r : FrameAnswer = Err error in r) (FrameBytesFault stream) b c → NamesPart error → CountsPart 0 1 0 found more → TakesParts stream a c more
-    takes_fault error bad names counts = record { taken = λ told. let f = fault_part error bad names told in (takes_part (Err f.0) f.1 counts).taken told }
+    pub takes_fault : {more : Found} (error : Error) → FaultIsSound (let r : FrameAnswer = Err error in r) (FrameBytesFault stream) b c → IsFormatOrUnsupported error → CountsPart 0 1 0 found more → ConsumesParts stream a c more
+    takes_fault error bad names counts = record { taken = λ known. let f = fault_part error bad names known in (takes_part (Err f.0) f.1 counts).taken known }
 
-    pub passes_fault : (error : Error) → TakesFault (let r : FrameAnswer = Err error in r) (FrameBytesFault stream) b c → NamesPart error → (e : Error) → PassesCount 0 1 0 found e → a.told ≡ true → (parts : List Part) × (rest : List ℕ) × Parts stream a.coming parts rest × AreTooMany parts
-    passes_fault error bad names e counts told = let f = fault_part error bad names told in passes_part (Err f.0) f.1 e counts told
+    pub exceeds_fault : (error : Error) → FaultIsSound (let r : FrameAnswer = Err error in r) (FrameBytesFault stream) b c → IsFormatOrUnsupported error → (e : Error) → ExceedsCount 0 1 0 found e → a.known ≡ true → (parts : List Part) × (rest : List ℕ) × Parts stream a.remaining parts rest × AreTooMany parts
+    exceeds_fault error bad names e counts known = let f = fault_part error bad names known in exceeds_part (Err f.0) f.1 e counts known
 
     -- so many frames and faults
-    pub too_many : 2 ^ 64 ≤ found.frames + found.faults + 1 → a.told ≡ true → (parts : List Part) × (rest : List ℕ) × Parts stream a.coming parts rest × AreTooMany parts
-    too_many m told = let p = (so_far.taken told).1 in let k = p.2 in (p.0, b.coming, p.1, inr (omega (arith, m, k.frames, k.faults)))
+    pub too_many : 2 ^ 64 ≤ found.frames + found.faults + 1 → a.known ≡ true → (parts : List Part) × (rest : List ℕ) × Parts stream a.remaining parts rest × AreTooMany parts
+    too_many m known = let p = (so_far.taken known).1 in let k = p.2 in (p.0, b.remaining, p.1, inr (omega (arith, m, k.frames, k.faults)))
 
     -- the end
-    pub counts_all : NoneIsEnd 2 (let r : FrameAnswer = Ok None in r) b c → a.told ≡ true → (parts : List Part) × (rest : List ℕ) × Parts stream a.coming parts rest × AreCounted parts found × (length rest < 2)
-    counts_all end told = let k = so_far.taken told in let p = k.1 in (p.0, b.coming, p.1, p.2, (end refl k.0).0)
+    pub counts_all : NoneIsEof 2 (let r : FrameAnswer = Ok None in r) b c → a.known ≡ true → (parts : List Part) × (rest : List ℕ) × Parts stream a.remaining parts rest × AreCounted parts found × (length rest < 2)
+    counts_all end known = let k = so_far.taken known in let p = k.1 in (p.0, b.remaining, p.1, p.2, (end refl k.0).0)
 
 -- what an answer says that is told by another name, of a stream that is
-module _ {known stream : Option StreamShape} (e : known ≡ stream) {r : FrameAnswer} (a b : State ℕ) where
-  pub frame_taken : (block : BlockValue) → r ≡ Ok (Some block) → TakesFound block_view r (Frame known) a b → Took a b (Frame stream (block_view block))
-  frame_taken block is h = subst (λ (s : Option StreamShape). Took a b (Frame s (block_view block))) e (subst (λ (q : FrameAnswer). TakesFound block_view q (Frame known) a b) is h)
+module _ {known stream : Option StreamFormat} (e : known ≡ stream) {r : FrameAnswer} (a b : State ℕ) where
+  pub frame_taken : (block : BlockValue) → r ≡ Ok (Some block) → FoundIsSound block_view r (Frame known) a b → Consumed a b (Frame stream (block_view block))
+  frame_taken block is h = subst (λ (s : Option StreamFormat). Consumed a b (Frame s (block_view block))) e (subst (λ (q : FrameAnswer). FoundIsSound block_view q (Frame known) a b) is h)
 
-  pub fault_taken : (error : Error) → r ≡ Err error → TakesFault r (FrameBytesFault known) a b → TakesFault (let q : FrameAnswer = Err error in q) (FrameBytesFault stream) a b
-  fault_taken error is h = subst (λ (s : Option StreamShape). TakesFault (let q : FrameAnswer = Err error in q) (FrameBytesFault s) a b) e (subst (λ (q : FrameAnswer). TakesFault q (FrameBytesFault known) a b) is h)
+  pub fault_taken : (error : Error) → r ≡ Err error → FaultIsSound r (FrameBytesFault known) a b → FaultIsSound (let q : FrameAnswer = Err error in q) (FrameBytesFault stream) a b
+  fault_taken error is h = subst (λ (s : Option StreamFormat). FaultIsSound (let q : FrameAnswer = Err error in q) (FrameBytesFault s) a b) e (subst (λ (q : FrameAnswer). FaultIsSound q (FrameBytesFault known) a b) is h)
 
-pub end_met : {r : FrameAnswer} (a b : State ℕ) → r ≡ Ok None → NoneIsEnd 2 r a b → NoneIsEnd 2 (let q : FrameAnswer = Ok None in q) a b
-end_met a b is h = subst (λ (q : FrameAnswer). NoneIsEnd 2 q a b) is h
+pub eof_reached : {r : FrameAnswer} (a b : State ℕ) → r ≡ Ok None → NoneIsEof 2 r a b → NoneIsEof 2 (let q : FrameAnswer = Ok None in q) a b
+eof_reached a b is h = subst (λ (q : FrameAnswer). NoneIsEof 2 q a b) is h
 
 -- ---- bytes are one list of parts
 
-module _ (stream : Option StreamShape) (width : IsWidth (known_width stream)) where
+module _ (stream : Option StreamFormat) (width : IsWidth (known_width stream)) where
   one_part : (p q : Part) (t u x y : List ℕ) → PartBytes stream p t → PartBytes stream q u → t ++ x ≡ u ++ y → (p ≡ q) × (t ≡ u)
-  one_part (Ok a) (Ok b) t u x y c d e = let k = (frames_told stream width).one_code a b t u x y c d e in (ap (λ (z : Block). Ok z) k.0, k.1)
-  one_part (Ok a) (Err g) t u x y c d e = absurd ((frames_told stream width).no_fault a g t u x y c d e)
-  one_part (Err f) (Ok b) t u x y c d e = absurd ((frames_told stream width).no_fault b f u t y x d c (sym e))
-  one_part (Err f) (Err g) t u x y c d e = let k = (frames_told stream width).one_fault f g t u x y c d e in (ap (λ (z : Fault). Err z) k.0, k.1)
+  one_part (Ok a) (Ok b) t u x y c d e = let k = (frames_unambiguous stream width).one_code a b t u x y c d e in (ap (λ (z : Block). Ok z) k.0, k.1)
+  one_part (Ok a) (Err g) t u x y c d e = absurd ((frames_unambiguous stream width).no_fault a g t u x y c d e)
+  one_part (Err f) (Ok b) t u x y c d e = absurd ((frames_unambiguous stream width).no_fault b f u t y x d c (sym e))
+  one_part (Err f) (Err g) t u x y c d e = let k = (frames_unambiguous stream width).one_fault f g t u x y c d e in (ap (λ (z : Fault). Err z) k.0, k.1)
 
   -- none stands in fewer than two bytes
   no_part : (m : List ℕ) → length m < 2 → (part : Part) (t u : List ℕ) → PartBytes stream part t → m ≡ t ++ u → ⊥
-  no_part m few (Ok block) t u c e = short_complete stream m few block t u c e
-  no_part m few (Err f) t u c e = short_right stream width m few f t u c e
+  no_part m few (Ok block) t u c e = short_no_frame stream m few block t u c e
+  no_part m few (Err f) t u c e = short_no_fault stream width m few f t u c e
 
   -- parts that stand there are the first ones of all of them
   pub parts_left : (s m n : List ℕ) (parts all : List Part) → Parts stream s parts m → Parts stream s all n → length n < 2 → (others : List Part) × (all ≡ parts ++ others) × Parts stream m others n
@@ -181,98 +181,98 @@ same_found a b frames faults samples right = rw (frames, faults, samples, right)
 
 -- ---- all that is promised
 
-pub record VerifyAnswer {R : Type 0} (remaining : R → Option (List ℕ)) (reader : R) (r : Result Found Error) : Type 0 where
-  pub sound : StreamIsVerified remaining reader r
-  pub complete : EachStreamIsVerified remaining reader r
-  pub err : CannotBeVerified remaining reader r
-  pub named : EachHeadFaultIsNamed remaining reader r
+pub record VerifyPromises {R : Type 0} (remaining : R → Option (List ℕ)) (reader : R) (r : Result Found Error) : Type 0 where
+  pub sound : VerifyIsSound remaining reader r
+  pub complete : VerifyIsComplete remaining reader r
+  pub err : VerifyFaultIsSound remaining reader r
+  pub named : VerifyHeadFaultIsComplete remaining reader r
 
 module _ {R A : Type 0} (remaining : R → Option (List ℕ)) (reader : R) where
   -- no head was read
-  pub not_opened : (e : Error) → EachHeadIsOpened remaining (with_samples true) reader (let r : OpenAnswer R A = Err e in r) → HeadFaultIsThere remaining (with_samples true) reader (let r : OpenAnswer R A = Err e in r)
-      → EachFaultIsNamedOnOpening remaining (with_samples true) reader (let r : OpenAnswer R A = Err e in r) → VerifyAnswer remaining reader (Err e)
+  pub not_opened : (e : Error) → OpenIsComplete remaining (with_samples true) reader (let r : OpenAnswer R A = Err e in r) → OpenFaultIsSound remaining (with_samples true) reader (let r : OpenAnswer R A = Err e in r)
+      → OpenFaultIsComplete remaining (with_samples true) reader (let r : OpenAnswer R A = Err e in r) → VerifyPromises remaining reader (Err e)
   not_opened e complete fault named = record {
     sound = tt;
-    complete = λ found told v can. inr (no_head remaining reader e complete v.head v.front v.frames v.code told v.joined);
-    err = elim fault [ inl m ↦ inl m | inr (inl i) ↦ inr (inl i) | inr (inr k) ↦ inr (inr (λ told. inr (k told))) ];
-    named = λ f told b. head_fault_named remaining reader e named f told b;
+    complete = λ found known v can. inr (no_head remaining reader e complete v.head v.front v.frames v.code known v.joined);
+    err = elim fault [ inl m ↦ inl m | inr (inl i) ↦ inr (inl i) | inr (inr k) ↦ inr (inr (λ known. inr (k known))) ];
+    named = λ f known b. head_fault_named remaining reader e named f known b;
   }
 
   module _ (flac : FlacReader R A) (blocks : FrameReader (MutBor (BufferedReader R A))) (o : IsOpened remaining reader flac (frame_bytes (lent (buffered_source remaining)) blocks) (frame_stream blocks)) where
     abbrev s : State ℕ
     s = unread (remaining reader)
 
-    abbrev coming : List ℕ
-    coming = (frame_bytes (lent (buffered_source remaining)) blocks).coming
+    abbrev remaining : List ℕ
+    remaining = (frame_bytes (lent (buffered_source remaining)) blocks).remaining
 
-    any_parts : (found : Found) (told : s.told ≡ true) (v : IsVerified s.coming found) → Parts (frame_stream blocks) coming v.parts v.rest
-    any_parts found told v = behind_any remaining reader flac o told (λ z l. Parts z l v.parts v.rest) v.head v.front v.frames v.code v.joined v.parts_are
+    any_parts : (found : Found) (known : s.known ≡ true) (v : IsVerified s.remaining found) → Parts (frame_stream blocks) remaining v.parts v.rest
+    any_parts found known v = after_any_head remaining reader flac o known (λ z l. Parts z l v.parts v.rest) v.head v.front v.frames v.code v.joined v.parts_are
 
     -- all parts were counted
     pub verified : (counted found : Found) → CountsParts (lent (buffered_source remaining)) blocks counted → found.frames ≡ counted.frames → found.faults ≡ counted.faults → found.samples ≡ counted.samples → IsRight (flac_head flac) found
-        → VerifyAnswer remaining reader (Ok found)
+        → VerifyPromises remaining reader (Ok found)
     verified counted found counts frames faults samples right = record {
-      sound = λ told.
-          let p = counts (after_told remaining reader flac o told) in
+      sound = λ known.
+          let p = counts (after_known remaining reader flac o known) in
           record {
             head = flac_head flac;
-            front = (o.head told).1.0;
-            frames = (flac_bytes remaining flac).coming;
+            front = (o.head known).1.0;
+            frames = (flac_bytes remaining flac).remaining;
             parts = p.0;
             rest = p.1;
-            code = (o.head told).1.1;
-            joined = (o.head told).1.2;
-            parts_are = shown remaining reader flac o told (λ z l. Parts z l p.0 p.1) p.2;
+            code = (o.head known).1.1;
+            joined = (o.head known).1.2;
+            parts_are = shown remaining reader flac o known (λ z l. Parts z l p.0 p.1) p.2;
             few = p.4;
             counted = record { frames = frames ∙ p.3.frames; faults = faults ∙ p.3.faults; samples = samples ∙ p.3.samples };
             right = right;
           };
-      complete = λ other told v can.
-          let p = counts (after_told remaining reader flac o told) in
-          let same = all_parts (frame_stream blocks) o.width coming v.rest p.1 v.parts p.0 (any_parts other told v) v.few p.2 p.4 in
+      complete = λ other known v can.
+          let p = counts (after_known remaining reader flac o known) in
+          let same = all_parts (frame_stream blocks) o.width remaining v.rest p.1 v.parts p.0 (any_parts other known v) v.few p.2 p.4 in
           let frames_are = frames ∙ p.3.frames ∙ ap (sum_by part_frames) same ∙ sym v.counted.frames in
           let faults_are = faults ∙ p.3.faults ∙ ap (sum_by part_faults) same ∙ sym v.counted.faults in
           let samples_are = samples ∙ p.3.samples ∙ ap (sum_by part_samples) same ∙ sym v.counted.samples in
-          let head = (same_head remaining reader flac o told v.head v.front v.frames v.code v.joined).0 in
+          let head = (same_head remaining reader flac o known v.head v.front v.frames v.code v.joined).0 in
           let of_head = subst (λ (h : Head). IsRight h other) (sym head) v.right in
           let of_faults = subst (λ (n : ℕ). IsTrue other.is_right ↔ ((n ≡ 0) × (((flac_head flac).info.samples ≡ 0) ⊎ ((flac_head flac).info.samples ≡ other.samples)))) (sym faults_are) of_head in
           let right' = subst (λ (n : ℕ). IsTrue other.is_right ↔ ((found.faults ≡ 0) × (((flac_head flac).info.samples ≡ 0) ⊎ ((flac_head flac).info.samples ≡ n)))) (sym samples_are) of_faults in
           inl (same_found found other frames_are faults_are samples_are (same_answer found.is_right other.is_right right right'));
       err = tt;
-      named = λ f told b. absurd (no_head_fault remaining reader flac o told f b);
+      named = λ f known b. absurd (no_head_fault remaining reader flac o known f b);
     }
 
     -- they were not
-    pub not_verified : (e : Error) → StopsCounting (lent (buffered_source remaining)) blocks e → VerifyAnswer remaining reader (Err e)
+    pub not_verified : (e : Error) → StopsCounting (lent (buffered_source remaining)) blocks e → VerifyPromises remaining reader (Err e)
     not_verified e stops = record {
       sound = tt;
-      complete = λ found told v can. inr (elim stops [
+      complete = λ found known v can. inr (elim stops [
         | inl m ↦ inl (ap (λ (z : Error). Err z) m)
         | inr (inl i) ↦ inr i
-        | inr (inr k) ↦ (let p = k.1 (after_told remaining reader flac o told) in absurd (not_too_many (frame_stream blocks) o.width coming p.1 v.rest p.0 v.parts found p.2 p.3 (any_parts found told v) v.few v.counted can))
+        | inr (inr k) ↦ (let p = k.1 (after_known remaining reader flac o known) in absurd (not_too_many (frame_stream blocks) o.width remaining p.1 v.rest p.0 v.parts found p.2 p.3 (any_parts found known v) v.few v.counted can))
       ]);
       err = elim stops [
         | inl m ↦ inl m
         | inr (inl i) ↦ inr (inl i)
-        | inr (inr k) ↦ inr (inr (λ told. let p = k.1 (after_told remaining reader flac o told) in inl (k.0, too_many_behind p.0 p.1 told p.2 p.3)))
+        | inr (inr k) ↦ inr (inr (λ known. let p = k.1 (after_known remaining reader flac o known) in inl (k.0, too_many_after_head p.0 p.1 known p.2 p.3)))
       ];
-      named = λ f told b. absurd (no_head_fault remaining reader flac o told f b);
+      named = λ f known b. absurd (no_head_fault remaining reader flac o known f b);
     }
       where
-        too_many_behind : (parts : List Part) (rest : List ℕ) → s.told ≡ true → Parts (frame_stream blocks) coming parts rest → AreTooMany parts → HasTooMany s.coming
-        too_many_behind parts rest told p many = record {
+        too_many_after_head : (parts : List Part) (rest : List ℕ) → s.known ≡ true → Parts (frame_stream blocks) remaining parts rest → AreTooMany parts → HasTooMany s.remaining
+        too_many_after_head parts rest known p many = record {
           head = flac_head flac;
-          front = (o.head told).1.0;
-          frames = (flac_bytes remaining flac).coming;
+          front = (o.head known).1.0;
+          frames = (flac_bytes remaining flac).remaining;
           parts = parts;
           rest = rest;
-          code = (o.head told).1.1;
-          joined = (o.head told).1.2;
-          parts_are = shown remaining reader flac o told (λ z l. Parts z l parts rest) p;
+          code = (o.head known).1.1;
+          joined = (o.head known).1.2;
+          parts_are = shown remaining reader flac o known (λ z l. Parts z l parts rest) p;
           too_many = many;
         }
 
 -- what the streaminfo says, where it says so, or 0
-pub samples_told : (samples : Option ℕ) (n : ℕ) → n ≡ unwrap_or samples 0 → or_zero samples ≡ n
-samples_told None n e = sym e
-samples_told (Some m) n e = sym e
+pub samples_of_streaminfo : (samples : Option ℕ) (n : ℕ) → n ≡ unwrap_or samples 0 → or_zero samples ≡ n
+samples_of_streaminfo None n e = sym e
+samples_of_streaminfo (Some m) n e = sym e

@@ -1,8 +1,8 @@
 -- Samples that are collected from frames, one after another.
 use Rattle.std.specs.Prelude.{◌≡◌, ◌⊎◌, ℕ, ℤ, List, [], ◌∷◌, ◌++◌, Option, None, Some, Ok, Err}
-use Rattle.claxon.specs.Frame.{StreamShape, Block}
+use Rattle.claxon.specs.Frame.{StreamFormat, Block}
 use Rattle.claxon.specs.FlacSamples.{SamplesStep}
-use Rattle.claxon.specs.SampleRuns.{ReadsFrames, TakesFrames, end_found, samples_of}
+use Rattle.claxon.specs.SampleRuns.{ReadsFrames, ConsumesFrames, end_found, samples_of}
 use Rattle.claxon.specs.declared.samples.FlacSamples.{FlacSamples}
 use Rattle.claxon.specs.Source.{Source}
 use Rattle.claxon.specs.State.{bytes_in}
@@ -10,22 +10,22 @@ use Rattle.claxon.specs.Errors.{Error}
 use Rattle.claxon.specs.Errors.TheVariants.{OutOfMemory}
 
 -- These are the samples of blocks behind whose frames stood the end, or what the error says. `after` is the reader then, which was dropped.
-pub record Collects {R : Type 0} (source : R → Source ℕ) (stream : Option StreamShape) (before : R) (end : Option Error) (xs : List ℤ) : Type 0 where
+pub record Collects {R : Type 0} (source : R → Source ℕ) (stream : Option StreamFormat) (before : R) (end : Option Error) (xs : List ℤ) : Type 0 where
   pub after : R
   pub blocks : List Block
   pub ends : ReadsFrames stream blocks (end_found end) (bytes_in source before) (bytes_in source after)
   pub samples : samples_of blocks ≡ xs
 
 -- There was no memory for the samples of frames that stood there.
-pub record LacksRoom {R : Type 0} (source : R → Source ℕ) (stream : Option StreamShape) (before : R) : Type 0 where
+pub record LacksMemory {R : Type 0} (source : R → Source ℕ) (stream : Option StreamFormat) (before : R) : Type 0 where
   pub after : R
   pub first : Block
   pub others : List Block
-  pub frames : TakesFrames stream (first ∷ others) (bytes_in source before) (bytes_in source after)
+  pub frames : ConsumesFrames stream (first ∷ others) (bytes_in source before) (bytes_in source after)
 
 -- the error is what ended the frames, or want of memory for their samples
-abbrev pub StopsCollecting : {R : Type 0} → (R → Source ℕ) → Option StreamShape → R → Error → Type 0
-StopsCollecting source stream before error = ((xs : List ℤ) × Collects source stream before (Some error) xs) ⊎ ((error ≡ OutOfMemory) × LacksRoom source stream before)
+abbrev pub StopsCollecting : {R : Type 0} → (R → Source ℕ) → Option StreamFormat → R → Error → Type 0
+StopsCollecting source stream before error = ((xs : List ℤ) × Collects source stream before (Some error) xs) ⊎ ((error ≡ OutOfMemory) × LacksMemory source stream before)
 
 -- ---- one sample more
 

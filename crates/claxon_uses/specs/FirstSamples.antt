@@ -2,19 +2,19 @@
 use Rattle.std.specs.Prelude.{◌≡◌, ◌⊎◌, ◌<◌, ◌≤◌, ℕ, ℤ, true, List, ◌++◌, length, take, Option, None, Some, IfOk, IfErr, IsOkAnd, IsErrAnd, Result, Vec}
 use Rattle.claxon.specs.Error.{IsFault, IsIo}
 use Rattle.claxon.specs.Fault.{Fault}
-use Rattle.claxon.specs.Frame.{Block, FrameBytesFault, Frames, StreamShape}
+use Rattle.claxon.specs.Frame.{Block, FrameBytesFault, Frames, StreamFormat}
 use Rattle.claxon.specs.Heads.{Head, HeadCode, HeadFault}
-use Rattle.claxon.specs.Opening.{IsDropped, unread}
+use Rattle.claxon.specs.Opening.{IsMemoryOrIoError, unread}
 use Rattle.claxon.specs.SampleRuns.{GaveAll, GaveSamples, samples_of}
 use Rattle.claxon.specs.Source.{Source}
 use Rattle.claxon.specs.Streams.{IsStream, stream_of, with_samples}
 use Rattle.claxon.specs.Errors.{Error}
 use Rattle.claxon.specs.Errors.TheVariants.{OutOfMemory}
 use Rattle.claxon.specs.declared.samples.FlacSamples.{FlacSamples}
-use Rattle.claxon.specs.Fronts.{BeginsWith}
+use Rattle.claxon.specs.Prefix.{BeginsWith}
 
 -- s begins with the frames of blocks, and these are their first samples, so many; or all, and then fewer than two bytes follow.
-pub record HasFirst (count : ℕ) (stream : Option StreamShape) (s : List ℕ) (xs : List ℤ) : Type 0 where
+pub record HasFirstSamples (count : ℕ) (stream : Option StreamFormat) (s : List ℕ) (xs : List ℤ) : Type 0 where
   pub blocks : List Block
   pub rest : List ℕ
   pub frames : Frames stream s blocks rest
@@ -28,7 +28,7 @@ pub record BeginsWithSamples (count : ℕ) (s : List ℕ) (xs : List ℤ) : Type
   pub frames : List ℕ
   pub code : HeadCode (with_samples true) head front
   pub joined : s ≡ front ++ frames
-  pub has_first : HasFirst count (Some (stream_of head.info)) frames xs
+  pub first_samples_are : HasFirstSamples count (Some (stream_of head.info)) frames xs
 
 -- The fault of a head stands at the front of s, or that of a frame behind a head and all frames that stand there, which have fewer samples.
 abbrev pub HasFirstFault : ℕ → List ℕ → Fault → Type 0
@@ -38,32 +38,32 @@ HasFirstFault count s f =
 
 module _ {R A : Type 0} (count : ℕ) (remaining : R → Option (List ℕ)) (reader : R) (result : Result (Vec ℤ A) Error) where
   -- What is answered are the first samples of the stream that is to come.
-  abbrev pub FirstSamplesAreThere : Type 0
-  FirstSamplesAreThere = IfOk result (λ first. (unread (remaining reader)).told ≡ true → BeginsWithSamples count (unread (remaining reader)).coming first.items)
+  abbrev pub FirstSamplesAreSound : Type 0
+  FirstSamplesAreSound = IfOk result (λ first. (unread (remaining reader)).known ≡ true → BeginsWithSamples count (unread (remaining reader)).remaining first.items)
 
   -- Where what is to come has first samples they are answered, or memory or the source failed.
-  abbrev pub FirstSamplesAreAnswered : Type 0
-  FirstSamplesAreAnswered =
-      (xs : List ℤ) → (unread (remaining reader)).told ≡ true → BeginsWithSamples count (unread (remaining reader)).coming xs
-      → IsOkAnd result (λ first. first.items ≡ xs) ⊎ IsDropped result
+  abbrev pub FirstSamplesAreComplete : Type 0
+  FirstSamplesAreComplete =
+      (xs : List ℤ) → (unread (remaining reader)).known ≡ true → BeginsWithSamples count (unread (remaining reader)).remaining xs
+      → IsOkAnd result (λ first. first.items ≡ xs) ⊎ IsMemoryOrIoError result
 
   -- An Err that is neither want of memory nor an `IoError` names the first fault of what is to come, before which there are too few samples.
-  abbrev pub FirstFaultIsThere : Type 0
-  FirstFaultIsThere = IfErr result (λ e. (e ≡ OutOfMemory) ⊎ (IsIo e ⊎ ((unread (remaining reader)).told ≡ true → (f : Fault) × IsFault f e × HasFirstFault count (unread (remaining reader)).coming f)))
+  abbrev pub FirstFaultIsSound : Type 0
+  FirstFaultIsSound = IfErr result (λ e. (e ≡ OutOfMemory) ⊎ (IsIo e ⊎ ((unread (remaining reader)).known ≡ true → (f : Fault) × IsFault f e × HasFirstFault count (unread (remaining reader)).remaining f)))
 
   -- Where there is such a fault it is named, or memory or the source failed.
-  abbrev pub FirstFaultIsNamed : Type 0
-  FirstFaultIsNamed = (f : Fault) → (unread (remaining reader)).told ≡ true → HasFirstFault count (unread (remaining reader)).coming f → IsErrAnd result (IsFault f) ⊎ IsDropped result
+  abbrev pub FirstFaultIsComplete : Type 0
+  FirstFaultIsComplete = (f : Fault) → (unread (remaining reader)).known ≡ true → HasFirstFault count (unread (remaining reader)).remaining f → IsErrAnd result (IsFault f) ⊎ IsMemoryOrIoError result
 
 -- ---- what calls give, one after another
 
 module _ {R A : Type 0} (source : R → Source ℕ) (count : ℕ) (samples : FlacSamples R A) where
   -- So many calls gave these samples; or they are all, and behind them stood no frame.
-  abbrev pub GivesFirst : List ℤ → Type 0
-  GivesFirst xs =
+  abbrev pub GivesFirstSamples : List ℤ → Type 0
+  GivesFirstSamples xs =
       ((new : FlacSamples R A) × GaveSamples source samples xs new × (length xs ≡ count))
       ⊎ ((new : FlacSamples R A) × GaveAll source samples xs None new × (length xs ≤ count))
 
   -- After fewer samples this error was given, or there was no memory for one.
-  abbrev pub StopsEarly : Error → Type 0
-  StopsEarly error = ((xs : List ℤ) × (new : FlacSamples R A) × GaveAll source samples xs (Some error) new × (length xs < count)) ⊎ (error ≡ OutOfMemory)
+  abbrev pub ErrBeforeCount : Error → Type 0
+  ErrBeforeCount error = ((xs : List ℤ) × (new : FlacSamples R A) × GaveAll source samples xs (Some error) new × (length xs < count)) ⊎ (error ≡ OutOfMemory)

@@ -3,15 +3,15 @@ use Rattle.std.specs.Prelude.{◌≡◌, ◌⊎◌, ◌<◌, ℕ, ℤ, true, Lis
 use Rattle.claxon.specs.Error.{IsFault, IsIo}
 use Rattle.claxon.specs.Fault.{Fault}
 use Rattle.claxon.specs.Frame.{Block, Frame, FrameBytesFault}
-use Rattle.claxon.specs.FrameReader.{HeaderAlone}
+use Rattle.claxon.specs.FrameReader.{HeaderOfMoreSamples}
 use Rattle.claxon.specs.Heads.{Head, HeadCode, HeadFault}
-use Rattle.claxon.specs.Promises.{IsStarved}
-use Rattle.claxon.specs.ReadHead.{WantsMemory}
+use Rattle.claxon.specs.Promises.{IsOutOfMemory}
+use Rattle.claxon.specs.ReadHead.{HeadMayRunOutOfMemory}
 use Rattle.claxon.specs.SampleRuns.{samples_of}
 use Rattle.claxon.specs.Streams.{IsStream, stream_of, with_samples}
 use Rattle.claxon.specs.Errors.{Error}
 use Rattle.claxon.specs.Errors.TheVariants.{OutOfMemory}
-use Rattle.claxon.specs.Fronts.{BeginsWith}
+use Rattle.claxon.specs.Prefix.{BeginsWith}
 
 -- the fault of a head stands at the front, or that of a frame behind a head and all frames that stand there
 abbrev pub HasStreamFault : List ℕ → Fault → Type 0
@@ -23,26 +23,26 @@ HasStreamFault bytes f =
 abbrev pub HasSamples : List ℕ → Type 0
 HasSamples bytes =
     (h : Head) × (front : List ℕ) × (frames : List ℕ) × HeadCode (with_samples true) h front × (bytes ≡ front ++ frames)
-    × (BeginsWith (HeaderAlone (Some (stream_of h.info)) 0) frames ⊎ ((block : Block) × BeginsWith (Frame (Some (stream_of h.info)) block) frames))
+    × (BeginsWith (HeaderOfMoreSamples (Some (stream_of h.info)) 0) frames ⊎ ((block : Block) × BeginsWith (Frame (Some (stream_of h.info)) block) frames))
 
 -- `view` shows the samples of what is answered.
 module _ {X : Type 0} (view : X → List ℤ) (bytes : List ℕ) (result : Result X Error) where
   -- The bytes are a stream whose samples, interleaved, are answered, and fewer than two bytes more.
-  abbrev pub StreamIsThere : Type 0
-  StreamIsThere = IfOk result (λ x. (h : Head) × (blocks : List Block) × (rest : List ℕ) × IsStream true bytes h blocks rest × (length rest < 2) × (view x ≡ samples_of blocks))
+  abbrev pub SliceStreamIsSound : Type 0
+  SliceStreamIsSound = IfOk result (λ x. (h : Head) × (blocks : List Block) × (rest : List ℕ) × IsStream true bytes h blocks rest × (length rest < 2) × (view x ≡ samples_of blocks))
 
   -- The samples of any such stream are answered, if memory is found.
-  abbrev pub EachStreamIsDecoded : Type 0
-  EachStreamIsDecoded = (h : Head) (blocks : List Block) (rest : List ℕ) → IsStream true bytes h blocks rest → length rest < 2 → IsOkAnd result (λ x. view x ≡ samples_of blocks) ⊎ IsStarved result
+  abbrev pub SliceStreamIsComplete : Type 0
+  SliceStreamIsComplete = (h : Head) (blocks : List Block) (rest : List ℕ) → IsStream true bytes h blocks rest → length rest < 2 → IsOkAnd result (λ x. view x ≡ samples_of blocks) ⊎ IsOutOfMemory result
 
 -- An Err that is neither want of memory nor an `IoError` names a fault that the bytes have.
-abbrev pub StreamFaultIsThere : {X : Type 0} → List ℕ → Result X Error → Type 0
-StreamFaultIsThere bytes result = IfErr result (λ e. (e ≡ OutOfMemory) ⊎ (IsIo e ⊎ ((f : Fault) × IsFault f e × HasStreamFault bytes f)))
+abbrev pub SliceStreamFaultIsSound : {X : Type 0} → List ℕ → Result X Error → Type 0
+SliceStreamFaultIsSound bytes result = IfErr result (λ e. (e ≡ OutOfMemory) ⊎ (IsIo e ⊎ ((f : Fault) × IsFault f e × HasStreamFault bytes f)))
 
 -- Any fault that they have is named, if memory is found.
-abbrev pub EachStreamFaultIsTold : {X : Type 0} → List ℕ → Result X Error → Type 0
-EachStreamFaultIsTold bytes result = (f : Fault) → HasStreamFault bytes f → IsErrAnd result (IsFault f) ⊎ IsStarved result
+abbrev pub SliceStreamFaultIsComplete : {X : Type 0} → List ℕ → Result X Error → Type 0
+SliceStreamFaultIsComplete bytes result = (f : Fault) → HasStreamFault bytes f → IsErrAnd result (IsFault f) ⊎ IsOutOfMemory result
 
 -- Memory is wanted only for a block of an application or of comments, or for samples.
-abbrev pub StarvesForStream : {X : Type 0} → List ℕ → Result X Error → Type 0
-StarvesForStream bytes result = IsStarved result → WantsMemory bytes ⊎ HasSamples bytes
+abbrev pub SliceStreamOutOfMemoryAfterHeader : {X : Type 0} → List ℕ → Result X Error → Type 0
+SliceStreamOutOfMemoryAfterHeader bytes result = IsOutOfMemory result → HeadMayRunOutOfMemory bytes ⊎ HasSamples bytes

@@ -6,9 +6,9 @@ use Rattle.claxon.specs.Errors.TheVariants.{OutOfMemory}
 use Rattle.claxon.specs.Fault.{Fault}
 use Rattle.claxon.specs.FlacReader.{comment_tags, flac_head}
 use Rattle.claxon.specs.Heads.{Head, HeadCode, HeadFault, Options}
-use Rattle.claxon.specs.Opening.{IsDropped, unread}
+use Rattle.claxon.specs.Opening.{IsMemoryOrIoError, unread}
 use Rattle.claxon.specs.declared.reader.FlacReader.{FlacReader}
-use Rattle.claxon.specs.Fronts.{BeginsWith}
+use Rattle.claxon.specs.Prefix.{BeginsWith}
 
 -- NAME=value; 0x3d is `=`
 abbrev pub tag_line : List ℕ × List ℕ → List ℕ
@@ -29,18 +29,18 @@ metadata_alone = record { metadata_only = true; wants_comment = true }
 module _ {R A : Type 0} (remaining : R → Option (List ℕ)) (reader : R) (result : Result (Vec (String A) A) Error) where
   -- What is answered are the tags of a head that the bytes begin with.
   abbrev pub TagLinesAreSound : Type 0
-  TagLinesAreSound = IfOk result (λ lines. (unread (remaining reader)).told ≡ true → (h : Head) × BeginsWith (HeadCode metadata_alone h) (unread (remaining reader)).coming × AreTagsOf h lines)
+  TagLinesAreSound = IfOk result (λ lines. (unread (remaining reader)).known ≡ true → (h : Head) × BeginsWith (HeadCode metadata_alone h) (unread (remaining reader)).remaining × AreTagsOf h lines)
 
   -- The tags of any head that they begin with are answered, or memory or the source failed.
   abbrev pub TagLinesAreComplete : Type 0
-  TagLinesAreComplete = (h : Head) → (unread (remaining reader)).told ≡ true → BeginsWith (HeadCode metadata_alone h) (unread (remaining reader)).coming
-      → IsOkAnd result (AreTagsOf h) ⊎ IsDropped result
+  TagLinesAreComplete = (h : Head) → (unread (remaining reader)).known ≡ true → BeginsWith (HeadCode metadata_alone h) (unread (remaining reader)).remaining
+      → IsOkAnd result (AreTagsOf h) ⊎ IsMemoryOrIoError result
 
   -- An Err that is neither want of memory nor an `IoError` names a fault of a head that they begin with.
   abbrev pub TagFaultIsSound : Type 0
-  TagFaultIsSound = IfErr result (λ e. (e ≡ OutOfMemory) ⊎ (IsIo e ⊎ ((unread (remaining reader)).told ≡ true → (f : Fault) × IsFault f e × BeginsWith (HeadFault metadata_alone f) (unread (remaining reader)).coming)))
+  TagFaultIsSound = IfErr result (λ e. (e ≡ OutOfMemory) ⊎ (IsIo e ⊎ ((unread (remaining reader)).known ≡ true → (f : Fault) × IsFault f e × BeginsWith (HeadFault metadata_alone f) (unread (remaining reader)).remaining)))
 
   -- Any fault of a head that they begin with is named, or memory or the source failed.
   abbrev pub TagFaultIsComplete : Type 0
-  TagFaultIsComplete = (f : Fault) → (unread (remaining reader)).told ≡ true → BeginsWith (HeadFault metadata_alone f) (unread (remaining reader)).coming
-      → IsErrAnd result (IsFault f) ⊎ IsDropped result
+  TagFaultIsComplete = (f : Fault) → (unread (remaining reader)).known ≡ true → BeginsWith (HeadFault metadata_alone f) (unread (remaining reader)).remaining
+      → IsErrAnd result (IsFault f) ⊎ IsMemoryOrIoError result

@@ -1,19 +1,19 @@
 -- What is found in a stream that may be damaged: frames and faults, one behind another.
 use Rattle.std.specs.Prelude.{◌≡◌, ◌⊎◌, ◌↔◌, ◌<◌, ◌≤◌, ◌+◌, ◌^◌, ℕ, false, true, List, [], ◌∷◌, ◌++◌, codes, length, Option, Some, IfErr, IfOk, IsErrAnd, IsOkAnd, IsTrue, Ok, Err, Result}
 use Rattle.std.specs.List.{sum_by}
-use Rattle.claxon.specs.Error.{IsFault, IsIo, is_io, is_memory}
+use Rattle.claxon.specs.Error.{IsFault, IsIo, is_io, is_out_of_memory}
 use Rattle.claxon.specs.Fault.{Fault}
-use Rattle.claxon.specs.Frame.{Block, Frame, FrameBytesFault, StreamShape}
+use Rattle.claxon.specs.Frame.{Block, Frame, FrameBytesFault, StreamFormat}
 use Rattle.claxon.specs.FrameReader.{frame_bytes, frame_stream}
 use Rattle.claxon.specs.Heads.{Head, HeadCode, HeadFault}
-use Rattle.claxon.specs.Opening.{IsDropped, unread}
+use Rattle.claxon.specs.Opening.{IsMemoryOrIoError, unread}
 use Rattle.claxon.specs.Source.{Source}
 use Rattle.claxon.specs.State.{State}
 use Rattle.claxon.specs.Streams.{duration, stream_of, with_samples}
 use Rattle.claxon.specs.FrameReaders.{FrameReader}
 use Rattle.claxon.specs.Errors.{Error}
 use Rattle.claxon.specs.Errors.TheVariants.{OutOfMemory, Unsupported}
-use Rattle.claxon.specs.Fronts.{BeginsWith}
+use Rattle.claxon.specs.Prefix.{BeginsWith}
 use Rattle.claxon_uses.specs.declared.damaged.Found.{Found}
 
 -- the frame of a block, or a fault
@@ -21,12 +21,12 @@ abbrev pub Part : Type 0
 Part = Result Block Fault
 
 -- its bytes
-abbrev pub PartBytes : Option StreamShape → Part → List ℕ → Type 0
+abbrev pub PartBytes : Option StreamFormat → Part → List ℕ → Type 0
 PartBytes stream (Ok block) t = Frame stream block t
 PartBytes stream (Err f) t = FrameBytesFault stream f t
 
 -- s is these parts, one behind another, and r
-abbrev pub Parts : Option StreamShape → List ℕ → List Part → List ℕ → Type 0
+abbrev pub Parts : Option StreamFormat → List ℕ → List Part → List ℕ → Type 0
 Parts stream s [] r = s ≡ r
 Parts stream s (part ∷ parts) r = (t : List ℕ) × (m : List ℕ) × PartBytes stream part t × (s ≡ t ++ m) × Parts stream m parts r
 
@@ -66,14 +66,14 @@ pub record CountsPart (frames faults samples : ℕ) (old new : Found) : Type 0 w
   pub samples_are : new.samples ≡ old.samples + samples
 
 -- So far just parts were taken, and these were counted.
-pub record TakesParts (stream : Option StreamShape) (old new : State ℕ) (found : Found) : Type 0 where
-  pub taken : old.told ≡ true → (new.told ≡ true) × ((parts : List Part) × Parts stream old.coming parts new.coming × AreCounted parts found)
+pub record ConsumesParts (stream : Option StreamFormat) (old new : State ℕ) (found : Found) : Type 0 where
+  pub taken : old.known ≡ true → (new.known ≡ true) × ((parts : List Part) × Parts stream old.remaining parts new.remaining × AreCounted parts found)
 
 -- The blocks to come are such parts up to their end.
 abbrev pub CountsParts : {R : Type 0} → (R → Source ℕ) → FrameReader R → Found → Type 0
 CountsParts source blocks found =
-    (frame_bytes source blocks).told ≡ true
-    → (parts : List Part) × (rest : List ℕ) × Parts (frame_stream blocks) (frame_bytes source blocks).coming parts rest × AreCounted parts found × (length rest < 2)
+    (frame_bytes source blocks).known ≡ true
+    → (parts : List Part) × (rest : List ℕ) × Parts (frame_stream blocks) (frame_bytes source blocks).remaining parts rest × AreCounted parts found × (length rest < 2)
 
 -- ---- a whole stream
 
@@ -103,21 +103,21 @@ IsTooMany (Unsupported text) = text.now ≡ codes "more than 1844674407370955161
 IsTooMany _ = ⊥
 
 -- The error says that one part more is too much, and it is.
-abbrev pub PassesCount : ℕ → ℕ → ℕ → Found → Error → Type 0
-PassesCount frames faults samples found e = IsTooMany e × ((2 ^ 64 ≤ found.frames + frames) ⊎ ((2 ^ 64 ≤ found.faults + faults) ⊎ (2 ^ 64 ≤ found.samples + samples)))
+abbrev pub ExceedsCount : ℕ → ℕ → ℕ → Found → Error → Type 0
+ExceedsCount frames faults samples found e = IsTooMany e × ((2 ^ 64 ≤ found.frames + frames) ⊎ ((2 ^ 64 ≤ found.faults + faults) ⊎ (2 ^ 64 ≤ found.samples + samples)))
 
 -- an error of another kind than want of memory and `IoError`
-abbrev pub NamesPart : Error → Type 0
-NamesPart e = (is_memory e ≡ false) × (is_io e ≡ false)
+abbrev pub IsFormatOrUnsupported : Error → Type 0
+IsFormatOrUnsupported e = (is_out_of_memory e ≡ false) × (is_io e ≡ false)
 
 -- The error is want of memory or an `IoError`, or one fault more is too much.
 abbrev pub CannotCountFault : Error → Found → Error → Type 0
-CannotCountFault fault found e = (e ≡ OutOfMemory) ⊎ (IsIo e ⊎ (NamesPart fault × PassesCount 0 1 0 found e))
+CannotCountFault fault found e = (e ≡ OutOfMemory) ⊎ (IsIo e ⊎ (IsFormatOrUnsupported fault × ExceedsCount 0 1 0 found e))
 
 -- The error is want of memory or an `IoError`, or says of more parts than can be counted that they are to come.
 abbrev pub StopsCounting : {R : Type 0} → (R → Source ℕ) → FrameReader R → Error → Type 0
 StopsCounting source blocks e =
-    (e ≡ OutOfMemory) ⊎ (IsIo e ⊎ (IsTooMany e × ((frame_bytes source blocks).told ≡ true → (parts : List Part) × (rest : List ℕ) × Parts (frame_stream blocks) (frame_bytes source blocks).coming parts rest × AreTooMany parts)))
+    (e ≡ OutOfMemory) ⊎ (IsIo e ⊎ (IsTooMany e × ((frame_bytes source blocks).known ≡ true → (parts : List Part) × (rest : List ℕ) × Parts (frame_stream blocks) (frame_bytes source blocks).remaining parts rest × AreTooMany parts)))
 
 -- ---- what the call promises
 
@@ -135,21 +135,21 @@ pub record HasTooMany (s : List ℕ) : Type 0 where
 
 module _ {R : Type 0} (remaining : R → Option (List ℕ)) (reader : R) (result : Result Found Error) where
   -- What is to come was counted up to its end.
-  abbrev pub StreamIsVerified : Type 0
-  StreamIsVerified = IfOk result (λ found. (unread (remaining reader)).told ≡ true → IsVerified (unread (remaining reader)).coming found)
+  abbrev pub VerifyIsSound : Type 0
+  VerifyIsSound = IfOk result (λ found. (unread (remaining reader)).known ≡ true → IsVerified (unread (remaining reader)).remaining found)
 
   -- Any such stream that can be counted is answered so, or memory, the source or the writer failed.
-  abbrev pub EachStreamIsVerified : Type 0
-  EachStreamIsVerified =
-      (found : Found) → (unread (remaining reader)).told ≡ true → IsVerified (unread (remaining reader)).coming found → CanBeCounted found → IsOkAnd result (λ counted. counted ≡ found) ⊎ IsDropped result
+  abbrev pub VerifyIsComplete : Type 0
+  VerifyIsComplete =
+      (found : Found) → (unread (remaining reader)).known ≡ true → IsVerified (unread (remaining reader)).remaining found → CanBeCounted found → IsOkAnd result (λ counted. counted ≡ found) ⊎ IsMemoryOrIoError result
 
   -- An Err is want of memory, an `IoError`, or says of more parts than can be counted that they are; or it names the fault of a head that stands there.
-  abbrev pub CannotBeVerified : Type 0
-  CannotBeVerified =
-      IfErr result (λ e. (e ≡ OutOfMemory) ⊎ (IsIo e ⊎ ((unread (remaining reader)).told ≡ true
-      → (IsTooMany e × HasTooMany (unread (remaining reader)).coming) ⊎ ((f : Fault) × IsFault f e × BeginsWith (HeadFault (with_samples true) f) (unread (remaining reader)).coming))))
+  abbrev pub VerifyFaultIsSound : Type 0
+  VerifyFaultIsSound =
+      IfErr result (λ e. (e ≡ OutOfMemory) ⊎ (IsIo e ⊎ ((unread (remaining reader)).known ≡ true
+      → (IsTooMany e × HasTooMany (unread (remaining reader)).remaining) ⊎ ((f : Fault) × IsFault f e × BeginsWith (HeadFault (with_samples true) f) (unread (remaining reader)).remaining))))
 
   -- The fault of a head that stands there is named, or memory or the source failed.
-  abbrev pub EachHeadFaultIsNamed : Type 0
-  EachHeadFaultIsNamed =
-      (f : Fault) → (unread (remaining reader)).told ≡ true → BeginsWith (HeadFault (with_samples true) f) (unread (remaining reader)).coming → IsErrAnd result (IsFault f) ⊎ IsDropped result
+  abbrev pub VerifyHeadFaultIsComplete : Type 0
+  VerifyHeadFaultIsComplete =
+      (f : Fault) → (unread (remaining reader)).known ≡ true → BeginsWith (HeadFault (with_samples true) f) (unread (remaining reader)).remaining → IsErrAnd result (IsFault f) ⊎ IsMemoryOrIoError result

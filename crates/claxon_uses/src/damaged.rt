@@ -1,6 +1,6 @@
 //! Streams that may be damaged.
 ghost use Rattle.std.specs.Prelude.{◌≡◌, ◌⊎◌, ◌↔◌, ◌≤◌, ◌+◌, ◌^◌, IfErr, IfOk, IsTrue};
-ghost use Rattle.claxon_uses.specs.Verified.{CannotBeVerified, CannotCountFault, CountsPart, CountsParts, EachHeadFaultIsNamed, EachStreamIsVerified, IsTooMany, NamesPart, PassesCount, StopsCounting, StreamIsVerified};
+ghost use Rattle.claxon_uses.specs.Verified.{VerifyFaultIsSound, CannotCountFault, CountsPart, CountsParts, VerifyHeadFaultIsComplete, VerifyIsComplete, IsTooMany, IsFormatOrUnsupported, ExceedsCount, StopsCounting, VerifyIsSound};
 
 use claxon::frame::FrameReader;
 use claxon::input::ReadBytes;
@@ -30,23 +30,23 @@ pub fn verify<R: Read + Drop, A: Allocator + Copy, W: Write>(
     reader: R,
     lines: &mut W,
 ) -> Result<Found>
-    ensures sound { StreamIsVerified R.remaining reader result }
-    ensures complete { EachStreamIsVerified R.remaining reader result }
-    ensures err { CannotBeVerified R.remaining reader result }
-    ensures named { EachHeadFaultIsNamed R.remaining reader result }
+    ensures sound { VerifyIsSound R.remaining reader result }
+    ensures complete { VerifyIsComplete R.remaining reader result }
+    ensures err { VerifyFaultIsSound R.remaining reader result }
+    ensures named { VerifyHeadFaultIsComplete R.remaining reader result }
 {
     let mut flac = FlacReader::new(alloc, reader)?;
     let samples = flac.streaminfo().samples.unwrap_or(0);
     let found = count_parts(alloc, flac.blocks(), lines)?;
-    let is_right = is_as_told(&found, samples);
+    let is_right = matches_streaminfo(&found, samples);
     Ok(Found { is_right, ..found })
 }
 
 // Whether there is no fault, and as many samples as are told, where that isn't 0.
-fn is_as_told(found: &Found, told: u64) -> bool
-    ensures { IsTrue result ↔ ((found.now.faults ≡ 0) × ((told ≡ 0) ⊎ (told ≡ found.now.samples))) }
+fn matches_streaminfo(found: &Found, known: u64) -> bool
+    ensures { IsTrue result ↔ ((found.now.faults ≡ 0) × ((known ≡ 0) ⊎ (known ≡ found.now.samples))) }
 {
-    found.faults == 0 && (told == 0 || told == found.samples)
+    found.faults == 0 && (known == 0 || known == found.samples)
 }
 
 // Counts frames and faults up to the end.
@@ -85,7 +85,7 @@ fn count_parts<R: ReadBytes + Drop, A: Allocator + Copy, W: Write>(
 // One frame more.
 fn with_frame(found: Found, duration: u32) -> Result<Found>
     ensures ok { IfOk result (CountsPart 1 0 duration found) }
-    ensures err { IfErr result (PassesCount 1 0 duration found) }
+    ensures err { IfErr result (ExceedsCount 1 0 duration found) }
 {
     Ok(Found {
         frames: sum(found.frames, 1)?,
@@ -96,7 +96,7 @@ fn with_frame(found: Found, duration: u32) -> Result<Found>
 
 // One fault more, unless the error is none of the stream.
 fn with_fault<W: Write>(found: Found, error: Error, lines: &mut W) -> Result<Found>
-    ensures ok { IfOk result (λ more. NamesPart error × CountsPart 0 1 0 found more) }
+    ensures ok { IfOk result (λ more. IsFormatOrUnsupported error × CountsPart 0 1 0 found more) }
     ensures err { IfErr result (CannotCountFault error found) }
 {
     if matches!(&error, Error::IoError(_) | Error::OutOfMemory) {

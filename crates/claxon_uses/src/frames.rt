@@ -1,8 +1,8 @@
 //! Frames that stand in memory.
 ghost use Rattle.std.specs.Prelude.{◌≤◌, None, Some};
 ghost use Rattle.claxon.specs.FrameReader.{stream_with};
-ghost use Rattle.claxon.specs.FramesInMemory.{BlockIsThere, EachBlockIsDecoded, EachFaultIsTold, FaultIsThere, NoneIsNoFrame, StarvesAtHeader};
-ghost use Rattle.claxon_uses.specs.Packets.{EachPacketFaultIsTold, EachPacketIsDecoded, PacketIsBlock, PacketIsRefused, PacketStarvesAtHeader};
+ghost use Rattle.claxon.specs.FramesInMemory.{SliceFrameIsSound, SliceFrameIsComplete, SliceFrameFaultIsComplete, SliceFrameFaultIsSound, SliceFrameNoneIffEof, SliceFrameOutOfMemoryAfterHeader};
+ghost use Rattle.claxon_uses.specs.Packets.{PacketFaultIsComplete, PacketIsComplete, PacketIsSound, PacketFaultIsSound, PacketOutOfMemoryAfterHeader};
 
 use claxon::frame::{FrameReader, FrameResult};
 use claxon::metadata::StreamInfo;
@@ -15,12 +15,12 @@ use std::io::Cursor;
 /// The header has to name the width of the samples, since nothing is known of the stream. What follows the frame is ignored.
 /// An error names the fault that stands there; it is an `IoError` where the bytes end within the frame.
 pub fn decode_one<A: Allocator>(alloc: A, bytes: &[u8]) -> FrameResult<A>
-    ensures sound { BlockIsThere None bytes.now result }
-    ensures complete { EachBlockIsDecoded None bytes.now result }
-    ensures end { NoneIsNoFrame bytes.now result }
-    ensures fault { FaultIsThere None bytes.now result }
-    ensures named { EachFaultIsTold None bytes.now result }
-    ensures memory { StarvesAtHeader None bytes.now result }
+    ensures sound { SliceFrameIsSound None bytes.now result }
+    ensures complete { SliceFrameIsComplete None bytes.now result }
+    ensures end { SliceFrameNoneIffEof bytes.now result }
+    ensures fault { SliceFrameFaultIsSound None bytes.now result }
+    ensures named { SliceFrameFaultIsComplete None bytes.now result }
+    ensures memory { SliceFrameOutOfMemoryAfterHeader None bytes.now result }
 {
     let mut frames = FrameReader::new(Cursor::new(bytes));
     frames.read_next_or_eof(Vec::new(alloc))
@@ -37,11 +37,11 @@ pub fn decode_packet<A: Allocator>(
 ) -> Result<Block<A>>
     requires some { 1 ≤ info.bits_per_sample }
     requires most { info.bits_per_sample ≤ 32 }
-    ensures sound { PacketIsBlock (Some (stream_with info)) packet.now result }
-    ensures complete { EachPacketIsDecoded (Some (stream_with info)) packet.now result }
-    ensures refused { PacketIsRefused (Some (stream_with info)) packet.now result }
-    ensures named { EachPacketFaultIsTold (Some (stream_with info)) packet.now result }
-    ensures memory { PacketStarvesAtHeader (Some (stream_with info)) packet.now result }
+    ensures sound { PacketIsSound (Some (stream_with info)) packet.now result }
+    ensures complete { PacketIsComplete (Some (stream_with info)) packet.now result }
+    ensures refused { PacketFaultIsSound (Some (stream_with info)) packet.now result }
+    ensures named { PacketFaultIsComplete (Some (stream_with info)) packet.now result }
+    ensures memory { PacketOutOfMemoryAfterHeader (Some (stream_with info)) packet.now result }
 {
     let mut frames = FrameReader::with_streaminfo(Cursor::new(packet), info);
     let Some(block) = frames.read_next_or_eof(buffer)? else {

@@ -1,7 +1,7 @@
 //! The samples of a stream, one by one.
 ghost use Rattle.std.specs.Prelude.{◌≡◌, false, IfErr, IfOk};
 ghost use Rattle.claxon.specs.FlacSamples.{have_failed};
-ghost use Rattle.claxon_uses.specs.FirstSamples.{FirstFaultIsNamed, FirstFaultIsThere, FirstSamplesAreAnswered, FirstSamplesAreThere, GivesFirst, StopsEarly};
+ghost use Rattle.claxon_uses.specs.FirstSamples.{FirstFaultIsComplete, FirstFaultIsSound, FirstSamplesAreComplete, FirstSamplesAreSound, GivesFirstSamples, ErrBeforeCount};
 
 use claxon::input::ReadBytes;
 use claxon::{FlacReader, FlacSamples, Result};
@@ -16,10 +16,10 @@ pub fn first_samples<R: Read + Drop, A: Allocator + Copy>(
     reader: R,
     count: usize,
 ) -> Result<Vec<i32, A>>
-    ensures sound { FirstSamplesAreThere count R.remaining reader result }
-    ensures complete { FirstSamplesAreAnswered count R.remaining reader result }
-    ensures fault { FirstFaultIsThere count R.remaining reader result }
-    ensures named { FirstFaultIsNamed count R.remaining reader result }
+    ensures sound { FirstSamplesAreSound count R.remaining reader result }
+    ensures complete { FirstSamplesAreComplete count R.remaining reader result }
+    ensures fault { FirstFaultIsSound count R.remaining reader result }
+    ensures named { FirstFaultIsComplete count R.remaining reader result }
 {
     let mut flac = FlacReader::new(alloc, reader)?;
     first_of(alloc, flac.samples(), count)
@@ -32,8 +32,8 @@ fn first_of<R: ReadBytes + Drop, A: Allocator + Copy>(
     count: usize,
 ) -> Result<Vec<i32, A>>
     requires { have_failed samples ≡ false }
-    ensures ok { IfOk result (λ first. GivesFirst R.source count samples first.items) }
-    ensures err { IfErr result (StopsEarly R.source count samples) }
+    ensures ok { IfOk result (λ first. GivesFirstSamples R.source count samples first.items) }
+    ensures err { IfErr result (ErrBeforeCount R.source count samples) }
 {
     let mut first = Vec::new(alloc);
     for sample in samples.take(count) {

@@ -2,7 +2,7 @@
 ghost use Rattle.std.specs.Prelude.{◌≡◌, ◌≤◌, ◌+◌, IfOk, IfErr, IsTrue, Some, None, false, vec_len};
 ghost use Rattle.claxon.specs.FrameReader.{stream_with};
 ghost use Rattle.claxon_uses.specs.Collecting.{Collects, NoneIsAdded, SampleIsAdded, StopsAdding, StopsCollecting};
-ghost use Rattle.claxon_uses.specs.StreamsInMemory.{EachStreamFaultIsTold, EachStreamIsDecoded, StarvesForStream, StreamFaultIsThere, StreamIsThere};
+ghost use Rattle.claxon_uses.specs.StreamsInMemory.{SliceStreamFaultIsComplete, SliceStreamIsComplete, SliceStreamOutOfMemoryAfterHeader, SliceStreamFaultIsSound, SliceStreamIsSound};
 
 use claxon::input::ReadBytes;
 use claxon::metadata::StreamInfo;
@@ -15,11 +15,11 @@ use std::io::Cursor;
 /// One byte more than the stream is ignored. An error names the fault of the head or of a frame that stands there; it is an
 /// `IoError` where the bytes end within one.
 pub fn decode_all<A: Allocator + Copy>(alloc: A, bytes: &[u8]) -> Result<Vec<i32, A>>
-    ensures sound { StreamIsThere (λ all. all.items) bytes.now result }
-    ensures complete { EachStreamIsDecoded (λ all. all.items) bytes.now result }
-    ensures fault { StreamFaultIsThere bytes.now result }
-    ensures named { EachStreamFaultIsTold bytes.now result }
-    ensures memory { StarvesForStream bytes.now result }
+    ensures sound { SliceStreamIsSound (λ all. all.items) bytes.now result }
+    ensures complete { SliceStreamIsComplete (λ all. all.items) bytes.now result }
+    ensures fault { SliceStreamFaultIsSound bytes.now result }
+    ensures named { SliceStreamFaultIsComplete bytes.now result }
+    ensures memory { SliceStreamOutOfMemoryAfterHeader bytes.now result }
 {
     let options = FlacReaderOptions {
         metadata_only: false,

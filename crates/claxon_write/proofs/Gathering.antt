@@ -1,7 +1,7 @@
 -- Blocks that are read and gathered one after another.
 use Rattle.std.proofs.Common.{◌≡◌, inl, inr, ℕ, ◌+◌, ◌*◌, ◌≤◌, ◌^◌, true, false, List, [], ◌∷◌, ◌++◌, length, Option, None, Some, refl, sym, ap, subst, ◌∙◌, arith, length-append}
 use Rattle.std.specs.Prelude.{Result, Ok, Err}
-use Rattle.claxon.specs.Frame.{StreamShape, Block}
+use Rattle.claxon.specs.Frame.{StreamFormat, Block}
 use Rattle.claxon.specs.read.Frame.{frame_bytes_at}
 use Rattle.claxon.specs.Reading.{Reading}
 use Rattle.claxon.specs.Streams.{interleave}
@@ -10,10 +10,10 @@ use Rattle.claxon.specs.State.{State}
 use Rattle.claxon.specs.Errors.{Error}
 use Rattle.claxon.specs.Errors.TheVariants.{IoError, FormatError, Unsupported, OutOfMemory}
 use Rattle.claxon.proofs.CallsInTurn.{stops_loans}
-use Rattle.claxon.specs.Gives.{GivesOrEndsOrStarves, or_end}
+use Rattle.claxon.specs.Gives.{GivesOrEofOrOutOfMemory, or_eof}
 use Rattle.claxon.specs.Block.{BlockValue, duration_of}
 use Rattle.claxon.specs.FrameReader.{ReadsFrame, block_view}
-use Rattle.claxon.specs.SampleRuns.{TakesFrames, samples_of}
+use Rattle.claxon.specs.SampleRuns.{ConsumesFrames, samples_of}
 use Rattle.claxon.proofs.SamplesInTurn.{reads_as, same_duration}
 use Rattle.claxon.proofs.SampleRuns.{samples_add, takes_none, takes_more}
 use Rattle.claxon_write.specs.Decoded.{IsLimit, Gathers, FailsToWrite, last_bytes}
@@ -23,26 +23,26 @@ use Rattle.claxon_write.specs.declared.output.Output.{Output}
 use Rattle.claxon_write.proofs.Puts.{puts_none, puts_both, puts_as, fails_after, fails_close}
 use Rattle.claxon_write.proofs.SampleBytes.{bytes_append}
 
-pub record GatheredSoFar {W : Type 0} (contents : W → Option (List ℕ)) (stream : Option StreamShape) (n : ℕ) (old new : State ℕ) (before after : Output W) : Type 0 where
+pub record GatheredSoFar {W : Type 0} (contents : W → Option (List ℕ)) (stream : Option StreamFormat) (n : ℕ) (old new : State ℕ) (before after : Output W) : Type 0 where
   pub blocks : List Block
-  pub frames : TakesFrames stream blocks old new
+  pub frames : ConsumesFrames stream blocks old new
   pub count : n ≡ length (samples_of blocks)
   pub puts : Puts contents (bytes_of_samples (samples_of blocks)) before after
 
 -- the same where what is known of the stream and the answer have other names
-pub reads_with : {stream known : Option StreamShape} {r q : Result (Option BlockValue) Error} {a b : State ℕ} → stream ≡ known → r ≡ q → ReadsFrame stream r a b → ReadsFrame known q a b
-reads_with {q = q} {a = a} {b = b} e f h = subst (λ (z : Option StreamShape). ReadsFrame z q a b) e (reads_as f h)
+pub reads_with : {stream known : Option StreamFormat} {r q : Result (Option BlockValue) Error} {a b : State ℕ} → stream ≡ known → r ≡ q → ReadsFrame stream r a b → ReadsFrame known q a b
+reads_with {q = q} {a = a} {b = b} e f h = subst (λ (z : Option StreamFormat). ReadsFrame z q a b) e (reads_as f h)
 
 -- the loans on the way stay
-loans_stay : {A Y : Type 0} (count : ℕ) (view : A → Y) (r : Result (Option A) Error) (read : List ℕ → Reading ℕ Y) (a b : State ℕ) → GivesOrEndsOrStarves count view r read a b → b.loans ≡ a.loans
+loans_stay : {A Y : Type 0} (count : ℕ) (view : A → Y) (r : Result (Option A) Error) (read : List ℕ → Reading ℕ Y) (a b : State ℕ) → GivesOrEofOrOutOfMemory count view r read a b → b.loans ≡ a.loans
 loans_stay count view (Ok (Some x)) read a b g = g.loans
 loans_stay count view (Ok None) read a b g = g.loans
-loans_stay count view (Err OutOfMemory) read a b g = g.went.loans
-loans_stay count view (Err (IoError cause)) read a b g = stops_loans (IoError cause) (or_end count read) a b true refl g
-loans_stay count view (Err (FormatError text)) read a b g = stops_loans (FormatError text) (or_end count read) a b false refl g
-loans_stay count view (Err (Unsupported text)) read a b g = stops_loans (Unsupported text) (or_end count read) a b false refl g
+loans_stay count view (Err OutOfMemory) read a b g = g.consumed.loans
+loans_stay count view (Err (IoError cause)) read a b g = stops_loans (IoError cause) (or_eof count read) a b true refl g
+loans_stay count view (Err (FormatError text)) read a b g = stops_loans (FormatError text) (or_eof count read) a b false refl g
+loans_stay count view (Err (Unsupported text)) read a b g = stops_loans (Unsupported text) (or_eof count read) a b false refl g
 
-pub reads_loans : {stream : Option StreamShape} {r : Result (Option BlockValue) Error} {a b : State ℕ} → ReadsFrame stream r a b → b.loans ≡ a.loans
+pub reads_loans : {stream : Option StreamFormat} {r : Result (Option BlockValue) Error} {a b : State ℕ} → ReadsFrame stream r a b → b.loans ≡ a.loans
 reads_loans {stream = stream} {r = r} {a = a} {b = b} h = loans_stay 2 block_view r (frame_bytes_at stream) a b h.gives
 
 more_bytes : (blocks : List Block) (block : BlockValue) → bytes_of_samples (samples_of blocks) ++ bytes_of_samples (interleave block.channels) ≡ bytes_of_samples (samples_of (blocks ++ block_view block ∷ []))
@@ -61,7 +61,7 @@ more_count blocks block n len e f =
     let k : length (interleave block.channels) ≡ len = l ∙ ap (λ (z : ℕ). z * length block.channels) d ∙ omega (arith, f) in
     omega (arith, e, k) ∙ sym (ap length (samples_add blocks (block_view block)) ∙ m)
 
-module _ {W : Type 0} {contents : W → Option (List ℕ)} {stream : Option StreamShape} where
+module _ {W : Type 0} {contents : W → Option (List ℕ)} {stream : Option StreamFormat} where
   pub gathered_none : (a : State ℕ) (o : Output W) → GatheredSoFar contents stream 0 a a o o
   unfolding bytes_of_samples
   gathered_none a o = record { blocks = []; frames = takes_none stream a; count = refl; puts = puts_none o }
@@ -107,5 +107,5 @@ module _ {W : Type 0} {contents : W → Option (List ℕ)} {stream : Option Stre
         takes = inl (takes_more block h.frames k);
         front = subst (λ (j : ℕ). AppendsAllBut (capacity + j) (held contents x) (held contents z) (waiting x ++ bytes_of_samples (samples_of (h.blocks ++ block_view block ∷ [])))) (sym (last_more h.blocks (block_view block)))
             (subst (λ (l : List ℕ). AppendsAllBut (capacity + m) (held contents x) (held contents z) (waiting x ++ l)) (more_bytes h.blocks block) close);
-        none_wait = p.none_wait;
+        none_pending = p.none_pending;
       }

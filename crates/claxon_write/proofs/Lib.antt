@@ -1,9 +1,9 @@
-pub mod MostPlaces
+pub mod BufferBounds
 pub mod Appended
 pub mod Puts
 pub mod Gathering
-pub mod Unlent
-pub mod WholeRuns
+pub mod Borrowed
+pub mod CompleteStreams
 pub mod Runs
 pub mod Rests
 pub mod SampleBytes

@@ -9,17 +9,17 @@ use Rattle.std.proofs.lemmas.List.Edits.{get_or-between}
 use Rattle.std.proofs.lemmas.Option.{get_or_from_slice_get, slice_get_within}
 use borrow.Rule.Slice.PartMut.{put_mid}
 use Rattle.claxon.specs.Streams.{samples_at}
-use Rattle.claxon_write.specs.SampleBytes.{PutBehind, place_bytes, bytes_of_samples, places, sample_bytes}
-use Rattle.claxon_write.proofs.SampleBytes.{bytes_append, bytes_more, places_more}
+use Rattle.claxon_write.specs.SampleBytes.{PutAfter, nth_chunk, bytes_of_samples, places, sample_bytes}
+use Rattle.claxon_write.proofs.SampleBytes.{bytes_append, bytes_more, range_more}
 
 pub length-sample_bytes : (x : ℤ) → length (sample_bytes x) ≡ 4
 unfolding sample_bytes
 length-sample_bytes x = refl
 
 -- the bytes of one place
-place_alone : (channels : List (List ℤ)) (i : ℕ) → bytes_of_samples (places channels i 1) ≡ bytes_of_samples (samples_at channels i)
+one_index : (channels : List (List ℤ)) (i : ℕ) → bytes_of_samples (places channels i 1) ≡ bytes_of_samples (samples_at channels i)
 unfolding places
-place_alone channels i = ap bytes_of_samples (append-nil (samples_at channels i))
+one_index channels i = ap bytes_of_samples (append-nil (samples_at channels i))
 
 one_sample : (x : ℤ) → bytes_of_samples (x ∷ []) ≡ sample_bytes x
 unfolding bytes_of_samples
@@ -43,7 +43,7 @@ mono_more s i j k room bytes j-is here same so_far =
     let x = get_or s i (pos 0) in
     let n : j ≡ 4 * i + length bytes = omega (arith, j-is, ap length same, length-sample_bytes x) in
     take-put_mid (4 * i) k room bytes j n here ∙ ap (λ (z : List ℕ). z ++ bytes) so_far
-    ∙ ap (λ (z : List ℕ). bytes_of_samples (places (s ∷ []) 0 i) ++ z) (same ∙ sym (place_alone (s ∷ []) i ∙ one_sample x)) ∙ bytes_more (s ∷ []) i 1 (i + 1) refl
+    ∙ ap (λ (z : List ℕ). bytes_of_samples (places (s ∷ []) 0 i) ++ z) (same ∙ sym (one_index (s ∷ []) i ∙ one_sample x)) ∙ bytes_more (s ∷ []) i 1 (i + 1) refl
 
 -- after the places so far, one of two channels
 pub stereo_more : (s t : List ℤ) (i j k : ℕ) (room bytes : List ℕ) → j ≡ 8 * (i + 1) → 8 * i ≤ length room → bytes ≡ sample_bytes (get_or s i (pos 0)) ++ sample_bytes (get_or t i (pos 0)) → take (8 * i) room ≡ bytes_of_samples (places (s ∷ t ∷ []) 0 i)
@@ -53,7 +53,7 @@ stereo_more s t i j k room bytes j-is here same so_far =
     let y = get_or t i (pos 0) in
     let n : j ≡ 8 * i + length bytes = omega (arith, j-is, ap length same, length-append (sample_bytes x) (sample_bytes y), length-sample_bytes x, length-sample_bytes y) in
     take-put_mid (8 * i) k room bytes j n here ∙ ap (λ (z : List ℕ). z ++ bytes) so_far
-    ∙ ap (λ (z : List ℕ). bytes_of_samples (places (s ∷ t ∷ []) 0 i) ++ z) (same ∙ sym (place_alone (s ∷ t ∷ []) i ∙ two_samples x y)) ∙ bytes_more (s ∷ t ∷ []) i 1 (i + 1) refl
+    ∙ ap (λ (z : List ℕ). bytes_of_samples (places (s ∷ t ∷ []) 0 i) ++ z) (same ∙ sym (one_index (s ∷ t ∷ []) i ∙ two_samples x y)) ∙ bytes_more (s ∷ t ∷ []) i 1 (i + 1) refl
 
 -- two numbers of 32 bits as one of 64
 pub pair_bytes : (low high n : ℕ) → low < 2 ^ 32 → high < 2 ^ 32 → n ≡ high * 2 ^ 32 + low → to_le_bytes w64 n ≡ to_le_bytes w32 low ++ to_le_bytes w32 high
@@ -78,23 +78,23 @@ all_written channels size n i room len same so_far = sym (take_all (size * n) ro
 apart : (size k i : ℕ) → k < i → k * size + size ≤ i * size
 apart size k i lt = grind (arith, lt)
 
-pub room_for_place : (size i n len : ℕ) → i < n → len ≡ n * size → (i + 1) * size ≤ len
-room_for_place size i n len lt e = grind (arith, apart size i n lt)
+pub chunk_in_bounds : (size i n len : ℕ) → i < n → len ≡ n * size → (i + 1) * size ≤ len
+chunk_in_bounds size i n len lt e = grind (arith, apart size i n lt)
 
 -- bytes are put into another place
-other_place : (size k i at n : ℕ) (room bytes : List ℕ) → (k < i) ⊎ (i < k) → at + n ≤ size → n ≡ length bytes → i * size + at + n ≤ length room → place_bytes size k (put_mid (i * size + at) n room bytes) ≡ place_bytes size k room
-other_place size k i at n room bytes (inl lt) small len inside =
+other_chunk : (size k i at n : ℕ) (room bytes : List ℕ) → (k < i) ⊎ (i < k) → at + n ≤ size → n ≡ length bytes → i * size + at + n ≤ length room → nth_chunk size k (put_mid (i * size + at) n room bytes) ≡ nth_chunk size k room
+other_chunk size k i at n room bytes (inl lt) small len inside =
     let past : k * size + size ≤ i * size + at = omega (arith, apart size k i lt) in
     let here : i * size + at ≤ length room = omega arith in
     sym (drop-take (k * size) size (put_mid (i * size + at) n room bytes)) ∙ ap (drop (k * size)) (take-put_mid_below (i * size + at) n room bytes (k * size + size) past here) ∙ drop-take (k * size) size room
-other_place size k i at n room bytes (inr lt) small len inside =
+other_chunk size k i at n room bytes (inr lt) small len inside =
     let past : i * size + at + n ≤ k * size = omega (arith, apart size i k lt) in
     let here : i * size + at ≤ length room = omega arith in
     ap (take size) (drop-put_mid (i * size + at) n room bytes (k * size) past here (sym len))
 
 -- bytes are put behind the front of a place
-this_place : (size i at n : ℕ) (room bytes : List ℕ) → at + n ≤ size → n ≡ length bytes → i * size + at + n ≤ length room → PutBehind size at i bytes room (put_mid (i * size + at) n room bytes)
-this_place size i at n room bytes small len inside =
+this_chunk : (size i at n : ℕ) (room bytes : List ℕ) → at + n ≤ size → n ≡ length bytes → i * size + at + n ≤ length room → PutAfter size at i bytes room (put_mid (i * size + at) n room bytes)
+this_chunk size i at n room bytes small len inside =
     let start = i * size in
     let new = put_mid (start + at) n room bytes in
     let all = at + length bytes in
@@ -108,27 +108,27 @@ this_place size i at n room bytes small len inside =
 
 -- In the first i places the samples of one channel were put behind those before, and the other places are as they were.
 pub record ChannelSoFar (size at i : ℕ) (samples : List ℤ) (old new : List ℕ) : Type 0 where
-  pub put : (k : ℕ) → k < i → PutBehind size at k (sample_bytes (get_or samples k (pos 0))) old new
-  pub left : (k : ℕ) → i ≤ k → place_bytes size k new ≡ place_bytes size k old
+  pub put : (k : ℕ) → k < i → PutAfter size at k (sample_bytes (get_or samples k (pos 0))) old new
+  pub left : (k : ℕ) → i ≤ k → nth_chunk size k new ≡ nth_chunk size k old
 
 pub channel_none : (size at : ℕ) (samples : List ℤ) (room : List ℕ) → ChannelSoFar size at 0 samples room room
 channel_none size at samples room = record { put = λ k lt. absurd (omega arith); left = λ k le. refl }
 
-put_same : (size at k : ℕ) (bytes a b c d : List ℕ) → place_bytes size k a ≡ place_bytes size k b → place_bytes size k c ≡ place_bytes size k d → PutBehind size at k bytes a c → PutBehind size at k bytes b d
+put_same : (size at k : ℕ) (bytes a b c d : List ℕ) → nth_chunk size k a ≡ nth_chunk size k b → nth_chunk size k c ≡ nth_chunk size k d → PutAfter size at k bytes a c → PutAfter size at k bytes b d
 put_same size at k bytes a b c d e f h = sym (ap (take (at + length bytes)) f) ∙ h ∙ ap (λ (z : List ℕ). take at z ++ bytes) e
 
 below_or : (k i : ℕ) → k < i + 1 → (k < i) ⊎ (k ≡ i)
 below_or k i lt = grind arith
 
 put_more : (size at i n k : ℕ) (samples : List ℤ) (old room bytes : List ℕ) → (k < i) ⊎ (k ≡ i) → bytes ≡ sample_bytes (get_or samples i (pos 0)) → at + n ≤ size → n ≡ length bytes → i * size + at + n ≤ length room → ChannelSoFar size at i samples old room
-    → PutBehind size at k (sample_bytes (get_or samples k (pos 0))) old (put_mid (i * size + at) n room bytes)
+    → PutAfter size at k (sample_bytes (get_or samples k (pos 0))) old (put_mid (i * size + at) n room bytes)
 put_more size at i n k samples old room bytes (inl lt) same fits len inside h =
-    put_same size at k (sample_bytes (get_or samples k (pos 0))) old old room (put_mid (i * size + at) n room bytes) refl (sym (other_place size k i at n room bytes (inl lt) fits len inside)) (h.put k lt)
+    put_same size at k (sample_bytes (get_or samples k (pos 0))) old old room (put_mid (i * size + at) n room bytes) refl (sym (other_chunk size k i at n room bytes (inl lt) fits len inside)) (h.put k lt)
 put_more size at i n k samples old room bytes (inr e) same fits len inside h =
     let new = put_mid (i * size + at) n room bytes in
-    let here : PutBehind size at i bytes old new = put_same size at i bytes room old new new (h.left i (omega arith)) refl (this_place size i at n room bytes fits len inside) in
-    let named : PutBehind size at i (sample_bytes (get_or samples i (pos 0))) old new = subst (λ (z : List ℕ). PutBehind size at i z old new) same here in
-    subst (λ (j : ℕ). PutBehind size at j (sample_bytes (get_or samples j (pos 0))) old new) (sym e) named
+    let here : PutAfter size at i bytes old new = put_same size at i bytes room old new new (h.left i (omega arith)) refl (this_chunk size i at n room bytes fits len inside) in
+    let named : PutAfter size at i (sample_bytes (get_or samples i (pos 0))) old new = subst (λ (z : List ℕ). PutAfter size at i z old new) same here in
+    subst (λ (j : ℕ). PutAfter size at j (sample_bytes (get_or samples j (pos 0))) old new) (sym e) named
 
 more_put : (size at i n : ℕ) (samples : List ℤ) (old room bytes : List ℕ) → bytes ≡ sample_bytes (get_or samples i (pos 0)) → n ≡ 4 → at + 4 ≤ size → (i + 1) * size ≤ length room → ChannelSoFar size at i samples old room
     → ChannelSoFar size at (i + 1) samples old (put_mid (i * size + at) n room bytes)
@@ -139,7 +139,7 @@ more_put size at i n samples old room bytes same four small inside h =
     let room_for : i * size + at + n ≤ length room = omega arith in
     record {
       put = λ k lt. put_more size at i n k samples old room bytes (below_or k i lt) same fits len room_for h;
-      left = λ k le. other_place size k i at n room bytes (inr (omega arith)) fits len room_for ∙ h.left k (omega arith);
+      left = λ k le. other_chunk size k i at n room bytes (inr (omega arith)) fits len room_for ∙ h.left k (omega arith);
     }
 
 pub channel_more : (size at i : ℕ) {start n : ℕ} (samples : List ℤ) (old room bytes : List ℕ) → bytes ≡ sample_bytes (get_or samples i (pos 0)) → n ≡ 4 → at + 4 ≤ size → (i + 1) * size ≤ length room → ChannelSoFar size at i samples old room → start ≡ i * size + at
@@ -150,16 +150,16 @@ channel_more size at i {start} {n} samples old room bytes same four small inside
 -- ---- the samples of all channels
 
 -- The samples of the first ch channels stand at the front of each place.
-pub record PlacesSoFar (channels : List (List ℤ)) (size from n ch : ℕ) (room : List ℕ) : Type 0 where
-  pub fronts : (i : ℕ) → i < n → take (4 * ch) (place_bytes size i room) ≡ bytes_of_samples (take ch (samples_at channels (from + i)))
+pub record ChannelsPutSoFar (channels : List (List ℤ)) (size from n ch : ℕ) (room : List ℕ) : Type 0 where
+  pub fronts : (i : ℕ) → i < n → take (4 * ch) (nth_chunk size i room) ≡ bytes_of_samples (take ch (samples_at channels (from + i)))
 
-pub before_channels : (channels : List (List ℤ)) (size from n : ℕ) (room : List ℕ) → PlacesSoFar channels size from n 0 room
+pub before_channels : (channels : List (List ℤ)) (size from n : ℕ) (room : List ℕ) → ChannelsPutSoFar channels size from n 0 room
 unfolding bytes_of_samples
 before_channels channels size from n room = record { fronts = λ i lt. refl }
 
 -- one more channel
-pub channel_after : (channels : List (List ℤ)) (size from to n ch : ℕ) (channel s : List ℤ) (old new : List ℕ) → slice_get channels ch ≡ Some channel → s ≡ between from to channel → from + n ≤ to → n ≡ length s → PlacesSoFar channels size from n ch old
-    → ((i : ℕ) → i < length s → PutBehind size (4 * ch) i (sample_bytes (get_or s i (pos 0))) old new) → PlacesSoFar channels size from n (ch + 1) new
+pub channel_after : (channels : List (List ℤ)) (size from to n ch : ℕ) (channel s : List ℤ) (old new : List ℕ) → slice_get channels ch ≡ Some channel → s ≡ between from to channel → from + n ≤ to → n ≡ length s → ChannelsPutSoFar channels size from n ch old
+    → ((i : ℕ) → i < length s → PutAfter size (4 * ch) i (sample_bytes (get_or s i (pos 0))) old new) → ChannelsPutSoFar channels size from n (ch + 1) new
 channel_after channels size from to n ch channel s old new found part in_time len h put = record {
   fronts = λ i lt.
       let x = get_or s i (pos 0) in
@@ -169,37 +169,37 @@ channel_after channels size from to n ch channel s old new found part in_time le
       let front : take (ch + 1) (samples_at channels j) ≡ take ch (samples_at channels j) ++ x ∷ [] =
       take-map (λ c. get_or c j (pos 0)) (ch + 1) channels ∙ map_more (λ c. get_or c j (pos 0)) channels ch [] inside ∙ ap (λ (z : List ℤ). z ++ get_or (get_or channels ch []) j (pos 0) ∷ []) (sym (take-map (λ c. get_or c j (pos 0)) ch channels)) ∙ ap (λ (z : ℤ). take ch (samples_at channels j) ++ z ∷ []) value in
       let size_is : 4 * (ch + 1) ≡ 4 * ch + length (sample_bytes x) = omega (arith, length-sample_bytes x) in
-      ap (λ (k : ℕ). take k (place_bytes size i new)) size_is ∙ put i (omega arith) ∙ ap (λ (z : List ℕ). z ++ sample_bytes x) (h.fronts i lt)
+      ap (λ (k : ℕ). take k (nth_chunk size i new)) size_is ∙ put i (omega arith) ∙ ap (λ (z : List ℕ). z ++ sample_bytes x) (h.fronts i lt)
       ∙ sym (ap bytes_of_samples front ∙ bytes_append (take ch (samples_at channels j)) (x ∷ []) ∙ ap (λ (z : List ℕ). bytes_of_samples (take ch (samples_at channels j)) ++ z) (one_sample x));
 }
 
-no_places : (channels : List (List ℤ)) (from : ℕ) → bytes_of_samples (places channels from 0) ≡ []
+range_empty : (channels : List (List ℤ)) (from : ℕ) → bytes_of_samples (places channels from 0) ≡ []
 unfolding places bytes_of_samples
-no_places channels from = refl
+range_empty channels from = refl
 
 none_of : (xs : List ℕ) → length xs ≡ 0 → xs ≡ []
 none_of [] e = refl
 none_of (x ∷ xs) e = absurd (omega (arith, e))
 
-whole_places : (channels : List (List ℤ)) (size n from : ℕ) (room : List ℕ) → length room ≡ n * size → ((i : ℕ) → i < n → place_bytes size i room ≡ bytes_of_samples (samples_at channels (from + i))) → room ≡ bytes_of_samples (places channels from n)
-whole_places channels size zero from room len h = none_of room (omega (arith, len)) ∙ sym (no_places channels from)
-whole_places channels size (suc n) from room len h =
+whole_chunks : (channels : List (List ℤ)) (size n from : ℕ) (room : List ℕ) → length room ≡ n * size → ((i : ℕ) → i < n → nth_chunk size i room ≡ bytes_of_samples (samples_at channels (from + i))) → room ≡ bytes_of_samples (places channels from n)
+whole_chunks channels size zero from room len h = none_of room (omega (arith, len)) ∙ sym (range_empty channels from)
+whole_chunks channels size (suc n) from room len h =
     let at : ℕ → List ℕ = λ k. bytes_of_samples (samples_at channels k) in
     let many : suc n * size ≡ size + n * size = grind arith in
     let none : 0 ≡ 0 * size = omega arith in
     let here : from + 0 ≡ from = omega arith in
     let first : take size room ≡ at from = ap (λ (k : ℕ). take size (drop k room)) none ∙ h 0 (omega arith) ∙ ap at here in
-    let rest = whole_places channels size n (from + 1) (drop size room) (omega (arith, many, length-drop size room)) (λ i lt.
+    let rest = whole_chunks channels size n (from + 1) (drop size room) (omega (arith, many, length-drop size room)) (λ i lt.
     let past : size + i * size ≡ suc i * size = grind arith in
     let next : from + suc i ≡ from + 1 + i = omega arith in
     ap (take size) (drop-drop (i * size) size room ∙ ap (λ (k : ℕ). drop k room) past) ∙ h (suc i) (omega arith) ∙ ap at next) in
-    let both : places channels from (suc n) ≡ places channels from 1 ++ places channels (from + 1) n = let e : suc n ≡ 1 + n = omega arith in ap (places channels from) e ∙ places_more channels from 1 n in
-    sym (take-append-drop size room) ∙ ap (λ (z : List ℕ). z ++ drop size room) (first ∙ sym (place_alone channels from)) ∙ ap (λ (z : List ℕ). bytes_of_samples (places channels from 1) ++ z) rest
+    let both : places channels from (suc n) ≡ places channels from 1 ++ places channels (from + 1) n = let e : suc n ≡ 1 + n = omega arith in ap (places channels from) e ∙ range_more channels from 1 n in
+    sym (take-append-drop size room) ∙ ap (λ (z : List ℕ). z ++ drop size room) (first ∙ sym (one_index channels from)) ∙ ap (λ (z : List ℕ). bytes_of_samples (places channels from 1) ++ z) rest
     ∙ sym (ap bytes_of_samples both ∙ bytes_append (places channels from 1) (places channels (from + 1) n))
 
-pub after_channels : (channels : List (List ℤ)) (size n from ch : ℕ) (room : List ℕ) → length room ≡ n * size → size ≡ 4 * length channels → length channels ≤ ch → PlacesSoFar channels size from n ch room → room ≡ bytes_of_samples (places channels from n)
-after_channels channels size n from ch room len size-is all h = whole_places channels size n from room len (λ i lt.
-    let place = place_bytes size i room in
+pub after_channels : (channels : List (List ℤ)) (size n from ch : ℕ) (room : List ℕ) → length room ≡ n * size → size ≡ 4 * length channels → length channels ≤ ch → ChannelsPutSoFar channels size from n ch room → room ≡ bytes_of_samples (places channels from n)
+after_channels channels size n from ch room len size-is all h = whole_chunks channels size n from room len (λ i lt.
+    let place = nth_chunk size i room in
     let samples = samples_at channels (from + i) in
     let short : length place ≤ 4 * ch = omega (arith, length-take size (drop (i * size) room)) in
     let few : length samples ≤ ch = omega (arith, length-map channels (λ (c : List ℤ). get_or c (from + i) (pos 0))) in

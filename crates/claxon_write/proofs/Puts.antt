@@ -8,9 +8,9 @@ use Rattle.claxon.specs.Streams.{interleave}
 use Rattle.claxon.specs.Error.{IsIo}
 use Rattle.claxon.specs.Errors.{Error}
 use Rattle.claxon_write.specs.SampleBytes.{bytes_of_samples, places}
-use Rattle.claxon_write.proofs.SampleBytes.{places_all}
-use Rattle.claxon_write.specs.Output.{FlushFails, FlushesAll}
-use Rattle.claxon_write.specs.Written.{AppendsAllBut, AppendsFront, FailsToPut, FlushFailed, IsFlushed, IsUnflushed, NothingFailed, Puts, WriteFailed, capacity, failed_flushes_of, failed_writes_of, held, held_and_waiting, waiting}
+use Rattle.claxon_write.proofs.SampleBytes.{range_all}
+use Rattle.claxon_write.specs.Output.{FlushFaultIsSound, FlushIsSound}
+use Rattle.claxon_write.specs.Written.{AppendsAllBut, AppendsPrefix, FailsToPut, FlushFailed, IsFlushed, IsUnflushed, NothingFailed, Puts, WriteFailed, capacity, failed_flushes_of, failed_writes_of, held, contents_with_pending, waiting}
 use Rattle.claxon.specs.Block.{duration_of}
 use Rattle.claxon.proofs.SamplesInTurn.{same_duration}
 use Rattle.claxon_write.specs.declared.output.Counted.{Counted}
@@ -27,39 +27,39 @@ appends_keeps (Some x) (Some y) None xs h k = absurd k
 appends_keeps (Some x) (Some y) (Some z) xs h k = k ∙ h
 
 -- a front was written before the failure
-pub front_kept : (a b c : Option (List ℕ)) (at : ℕ) (xs : List ℕ) → Appends a b (take at xs) → Keeps b c → AppendsFront a c xs
-front_kept a b c at xs h k = (at, appends_keeps a b c (take at xs) h k)
+pub prefix_kept : (a b c : Option (List ℕ)) (at : ℕ) (xs : List ℕ) → Appends a b (take at xs) → Keeps b c → AppendsPrefix a c xs
+prefix_kept a b c at xs h k = (at, appends_keeps a b c (take at xs) h k)
 
 -- all is a front
-pub front_all : (a b : Option (List ℕ)) (xs : List ℕ) → Appends a b xs → AppendsFront a b xs
-front_all a b xs h = (length xs, subst (λ (z : List ℕ). Appends a b z) (sym (take_all (length xs) xs (omega arith))) h)
+pub prefix_all : (a b : Option (List ℕ)) (xs : List ℕ) → Appends a b xs → AppendsPrefix a b xs
+prefix_all a b xs h = (length xs, subst (λ (z : List ℕ). Appends a b z) (sym (take_all (length xs) xs (omega arith))) h)
 
-pub front_none : (a : Option (List ℕ)) (xs : List ℕ) → AppendsFront a a xs
-front_none a xs = (0, appends_nothing a)
+pub prefix_none : (a : Option (List ℕ)) (xs : List ℕ) → AppendsPrefix a a xs
+prefix_none a xs = (0, appends_nothing a)
 
-pub front_held : (a b : Option (List ℕ)) (xs : List ℕ) → Keeps a b → AppendsFront a b xs
-front_held None b xs k = (0, tt)
-front_held (Some x) None xs k = absurd k
-front_held (Some x) (Some y) xs k = (0, k ∙ sym (append-nil x))
+pub prefix_of_kept : (a b : Option (List ℕ)) (xs : List ℕ) → Keeps a b → AppendsPrefix a b xs
+prefix_of_kept None b xs k = (0, tt)
+prefix_of_kept (Some x) None xs k = absurd k
+prefix_of_kept (Some x) (Some y) xs k = (0, k ∙ sym (append-nil x))
 
 -- ---- what waits
 
 -- more waits
-pub more_waits : (a : Option (List ℕ)) (w bytes : List ℕ) → Appends (append_known a w) (append_known a (w ++ bytes)) bytes
-more_waits None w bytes = tt
-more_waits (Some x) w bytes = sym (append_assoc x w bytes)
+pub more_pending : (a : Option (List ℕ)) (w bytes : List ℕ) → Appends (append_known a w) (append_known a (w ++ bytes)) bytes
+more_pending None w bytes = tt
+more_pending (Some x) w bytes = sym (append_assoc x w bytes)
 
 -- what waited was written
-pub none_waits : (a b : Option (List ℕ)) (w : List ℕ) → Appends a b w → Appends (append_known a w) (append_known b []) []
-none_waits None b w h = tt
-none_waits (Some x) None w h = absurd h
-none_waits (Some x) (Some y) w h = ap (λ (z : List ℕ). z ++ []) h
+pub pending_written : (a b : Option (List ℕ)) (w : List ℕ) → Appends a b w → Appends (append_known a w) (append_known b []) []
+pending_written None b w h = tt
+pending_written (Some x) None w h = absurd h
+pending_written (Some x) (Some y) w h = ap (λ (z : List ℕ). z ++ []) h
 
 -- where none waits, what is held is all
-pub held_alone : (a b : Option (List ℕ)) (w bytes : List ℕ) → w ≡ [] → Appends a (append_known b w) bytes → Appends a b bytes
-held_alone None b w bytes e h = tt
-held_alone (Some x) None w bytes e h = absurd h
-held_alone (Some x) (Some y) w bytes e h = (let k = rw e at h in sym (append-nil y) ∙ k)
+pub contents_alone : (a b : Option (List ℕ)) (w bytes : List ℕ) → w ≡ [] → Appends a (append_known b w) bytes → Appends a b bytes
+contents_alone None b w bytes e h = tt
+contents_alone (Some x) None w bytes e h = absurd h
+contents_alone (Some x) (Some y) w bytes e h = (let k = rw e at h in sym (append-nil y) ∙ k)
 
 -- what waited and was put is what was written and waits
 whole : (x y wa wb xs ys : List ℕ) (j : ℕ) → y ≡ x ++ take j (wa ++ xs) → y ++ wb ≡ (x ++ wa) ++ xs → wa ++ (xs ++ ys) ≡ take j (wa ++ xs) ++ (wb ++ ys)
@@ -79,21 +79,21 @@ few_missing : (s p t : List ℕ) (k m : ℕ) → s ≡ p ++ t → length t ≤ k
 few_missing s p t k m e le = let l : length s ≡ length p + length t = ap length e ∙ length-append p t in omega arith
 
 -- no more are missing than of what waited and was put last
-front_close : (a b c : Option (List ℕ)) (wa wb xs ys : List ℕ) (m : ℕ) → AppendsFront a b (wa ++ xs) → Appends (append_known a wa) (append_known b wb) xs → AppendsAllBut m b c (wb ++ ys) → AppendsAllBut m a c (wa ++ (xs ++ ys))
-front_close None b c wa wb xs ys m f e g = (length (wa ++ (xs ++ ys)), tt, omega arith)
-front_close (Some x) None c wa wb xs ys m f e g = absurd e
-front_close (Some x) (Some y) None wa wb xs ys m f e g = absurd g.1
-front_close (Some x) (Some y) (Some z) wa wb xs ys m f e g =
+prefix_close : (a b c : Option (List ℕ)) (wa wb xs ys : List ℕ) (m : ℕ) → AppendsPrefix a b (wa ++ xs) → Appends (append_known a wa) (append_known b wb) xs → AppendsAllBut m b c (wb ++ ys) → AppendsAllBut m a c (wa ++ (xs ++ ys))
+prefix_close None b c wa wb xs ys m f e g = (length (wa ++ (xs ++ ys)), tt, omega arith)
+prefix_close (Some x) None c wa wb xs ys m f e g = absurd e
+prefix_close (Some x) (Some y) None wa wb xs ys m f e g = absurd g.1
+prefix_close (Some x) (Some y) (Some z) wa wb xs ys m f e g =
     (length (take f.0 (wa ++ xs)) + g.0, fronts x y z wa wb xs ys f.0 g.0 f.1 e g.1, few_missing (wa ++ (xs ++ ys)) (take f.0 (wa ++ xs)) (wb ++ ys) g.0 m (whole x y wa wb xs ys f.0 f.1 e) g.2)
 
 pub fewer : (m n : ℕ) (a b : Option (List ℕ)) (bytes : List ℕ) → m ≤ n → AppendsAllBut m a b bytes → AppendsAllBut n a b bytes
 fewer m n a b bytes le h = let l : length bytes ≤ h.0 + m = h.2 in (h.0, h.1, omega arith)
 
-pub front_both : (a b c : Option (List ℕ)) (wa wb xs ys : List ℕ) → AppendsFront a b (wa ++ xs) → Appends (append_known a wa) (append_known b wb) xs → AppendsFront b c (wb ++ ys) → AppendsFront a c (wa ++ (xs ++ ys))
-front_both None b c wa wb xs ys f e g = (0, tt)
-front_both (Some x) None c wa wb xs ys f e g = absurd e
-front_both (Some x) (Some y) None wa wb xs ys f e g = absurd g.1
-front_both (Some x) (Some y) (Some z) wa wb xs ys f e g = (length (take f.0 (wa ++ xs)) + g.0, fronts x y z wa wb xs ys f.0 g.0 f.1 e g.1)
+pub prefix_both : (a b c : Option (List ℕ)) (wa wb xs ys : List ℕ) → AppendsPrefix a b (wa ++ xs) → Appends (append_known a wa) (append_known b wb) xs → AppendsPrefix b c (wb ++ ys) → AppendsPrefix a c (wa ++ (xs ++ ys))
+prefix_both None b c wa wb xs ys f e g = (0, tt)
+prefix_both (Some x) None c wa wb xs ys f e g = absurd e
+prefix_both (Some x) (Some y) None wa wb xs ys f e g = absurd g.1
+prefix_both (Some x) (Some y) (Some z) wa wb xs ys f e g = (length (take f.0 (wa ++ xs)) + g.0, fronts x y z wa wb xs ys f.0 g.0 f.1 e g.1)
 
 appends_both : (a b c : Option (List ℕ)) (xs ys : List ℕ) → Appends a b xs → Appends b c ys → Appends a c (xs ++ ys)
 appends_both None b c xs ys h k = tt
@@ -127,12 +127,12 @@ module _ {W : Type 0} where
 
 module _ {W : Type 0} {contents : W → Option (List ℕ)} where
   pub puts_none : (a : Output W) → Puts contents [] a a
-  puts_none a = record { front = front_none (held contents a) (waiting a ++ []); bytes_are = appends_nothing (held_and_waiting contents a); nothing_failed = none_failed a }
+  puts_none a = record { front = prefix_none (held contents a) (waiting a ++ []); bytes_are = appends_nothing (contents_with_pending contents a); nothing_failed = none_failed a }
 
   pub puts_both : {xs ys : List ℕ} {a b c : Output W} → Puts contents xs a b → Puts contents ys b c → Puts contents (xs ++ ys) a c
   puts_both {xs = xs} {ys = ys} {a = a} {b = b} {c = c} h k = record {
-    front = front_both (held contents a) (held contents b) (held contents c) (waiting a) (waiting b) xs ys h.front h.bytes_are k.front;
-    bytes_are = appends_both (held_and_waiting contents a) (held_and_waiting contents b) (held_and_waiting contents c) xs ys h.bytes_are k.bytes_are;
+    front = prefix_both (held contents a) (held contents b) (held contents c) (waiting a) (waiting b) xs ys h.front h.bytes_are k.front;
+    bytes_are = appends_both (contents_with_pending contents a) (contents_with_pending contents b) (contents_with_pending contents c) xs ys h.bytes_are k.bytes_are;
     nothing_failed = none_failed_both h.nothing_failed k.nothing_failed;
   }
 
@@ -141,14 +141,14 @@ module _ {W : Type 0} {contents : W → Option (List ℕ)} where
 
   -- after such bytes were put no more are missing than wait at most and those that were put last
   pub fails_close : {xs ys : List ℕ} {error : Error} {a b c : Output W} → Puts contents xs a b → FailsToPut contents ys error b c → AppendsAllBut (capacity + length ys) (held contents a) (held contents c) (waiting a ++ (xs ++ ys))
-  fails_close {xs = xs} {ys = ys} {a = a} {b = b} {c = c} h k = front_close (held contents a) (held contents b) (held contents c) (waiting a) (waiting b) xs ys (capacity + length ys) h.front h.bytes_are k.front
+  fails_close {xs = xs} {ys = ys} {a = a} {b = b} {c = c} h k = prefix_close (held contents a) (held contents b) (held contents c) (waiting a) (waiting b) xs ys (capacity + length ys) h.front h.bytes_are k.front
 
   pub fails_after : {xs ys : List ℕ} {error : Error} {a b c : Output W} → Puts contents xs a b → FailsToPut contents ys error b c → FailsToPut contents (xs ++ ys) error a c
   fails_after {xs = xs} {ys = ys} {a = a} {b = b} {c = c} h k = record {
     is_io = k.is_io;
     failed = write_failed_after h.nothing_failed k.failed;
     front = fewer (capacity + length ys) (capacity + length (xs ++ ys)) (held contents a) (held contents c) (waiting a ++ (xs ++ ys)) (omega (arith, length-append xs ys)) (fails_close h k);
-    none_wait = k.none_wait;
+    none_pending = k.none_pending;
   }
 
   pub fails_as : {xs ys : List ℕ} {error : Error} {a b : Output W} → xs ≡ ys → FailsToPut contents xs error a b → FailsToPut contents ys error a b
@@ -160,7 +160,7 @@ module _ {W : Type 0} {contents : W → Option (List ℕ)} where
     is_io = h.is_io;
     failed = h.failed;
     front = fewer (capacity + length xs + length ys) (capacity + length (xs ++ ys)) (held contents a) (held contents b) (waiting a ++ (xs ++ ys)) (omega (arith, length-append xs ys)) (longer (held contents a) (held contents b) (waiting a) xs ys (capacity + length xs) h.front);
-    none_wait = h.none_wait;
+    none_pending = h.none_pending;
   }
     where
       longer : (p q : Option (List ℕ)) (w xs ys : List ℕ) (m : ℕ) → AppendsAllBut m p q (w ++ xs) → AppendsAllBut (m + length ys) p q (w ++ (xs ++ ys))
@@ -177,10 +177,10 @@ module _ {W : Type 0} {contents : W → Option (List ℕ)} where
               let p : List ℕ = take k s in
               sym (ap (λ (z : List ℕ). take (length p) (z ++ t)) (take_parts k s) ∙ ap (take (length p)) (append_assoc p (drop k s) t) ∙ take_at p (drop k s ++ t) (length p) refl)
 
-still_waits : (p q : Option (List ℕ)) (w : List ℕ) → Keeps p q → Appends (append_known p w) (append_known q w) []
-still_waits None q w k = tt
-still_waits (Some x) None w k = absurd k
-still_waits (Some x) (Some y) w k = ap (λ (z : List ℕ). z ++ w) k ∙ sym (append-nil (x ++ w))
+still_pending : (p q : Option (List ℕ)) (w : List ℕ) → Keeps p q → Appends (append_known p w) (append_known q w) []
+still_pending None q w k = tt
+still_pending (Some x) None w k = absurd k
+still_pending (Some x) (Some y) w k = ap (λ (z : List ℕ). z ++ w) k ∙ sym (append-nil (x ++ w))
 
 -- ---- what the calls of the writer did
 
@@ -191,61 +191,61 @@ module _ {W : Type 0} (contents : W → Option (List ℕ)) where
   gathered_ok (Ok x) a b bytes same none h k l =
       let w : Appends (held contents a) (held contents b) (waiting a) = subst (λ (z : List ℕ). Appends (held contents a) (held contents b) z) same h in
       record {
-        front = subst (λ (z : List ℕ). AppendsFront (held contents a) (held contents b) z) (sym (append-nil (waiting a))) (front_all (held contents a) (held contents b) (waiting a) w);
-        bytes_are = subst (λ (z : List ℕ). Appends (held_and_waiting contents a) (append_known (held contents b) z) []) (sym none) (none_waits (held contents a) (held contents b) (waiting a) w);
+        front = subst (λ (z : List ℕ). AppendsPrefix (held contents a) (held contents b) z) (sym (append-nil (waiting a))) (prefix_all (held contents a) (held contents b) (waiting a) w);
+        bytes_are = subst (λ (z : List ℕ). Appends (contents_with_pending contents a) (append_known (held contents b) z) []) (sym none) (pending_written (held contents a) (held contents b) (waiting a) w);
         nothing_failed = record { writes = k; flushes = l };
       }
 
-  pub gathered_err : (r : Result (Unit {0}) Error) (a b : Output W) (bytes : List ℕ) → bytes ≡ waiting a → waiting b ≡ [] → IfErr r (λ e. IsIo e) → OnErr r (AppendsFront (held contents a) (held contents b) bytes)
+  pub gathered_err : (r : Result (Unit {0}) Error) (a b : Output W) (bytes : List ℕ) → bytes ≡ waiting a → waiting b ≡ [] → IfErr r (λ e. IsIo e) → OnErr r (AppendsPrefix (held contents a) (held contents b) bytes)
       → OnErr r (failed_writes_of b ≡ (failed_writes_of a + 1) % 2 ^ 64) → failed_flushes_of b ≡ failed_flushes_of a → length bytes ≤ capacity → IfErr r (λ e. FailsToPut contents [] e a b)
   gathered_err (Ok x) a b bytes same none i h k l few = tt
   gathered_err (Err e) a b bytes same none i h k l few = record {
     is_io = i;
     failed = record { writes = k; flushes = l };
     front = subst (λ (z : List ℕ). AppendsAllBut (capacity + 0) (held contents a) (held contents b) z) (same ∙ sym (append-nil (waiting a))) (h.0, h.1, omega arith);
-    none_wait = none;
+    none_pending = none;
   }
 
   -- all that waited was written, and then the writer was flushed
   module _ (r : Result (Unit {0}) Error) (a b c : Output W) (h : Puts contents [] a b) (u : IsUnflushed a b) (k : Keeps (held contents b) (held contents c)) (writes : failed_writes_of c ≡ failed_writes_of b) (f : IsFlushed b c) where
-    pub flushed_ok : waiting c ≡ waiting b → OnOk r (failed_flushes_of c ≡ failed_flushes_of b) → FlushesAll contents r a c
+    pub flushed_ok : waiting c ≡ waiting b → OnOk r (failed_flushes_of c ≡ failed_flushes_of b) → FlushIsSound contents r a c
     flushed_ok w t = go r t
       where
-        go : (r : Result (Unit {0}) Error) → OnOk r (failed_flushes_of c ≡ failed_flushes_of b) → FlushesAll contents r a c
+        go : (r : Result (Unit {0}) Error) → OnOk r (failed_flushes_of c ≡ failed_flushes_of b) → FlushIsSound contents r a c
         go (Err e) t = tt
         go (Ok x) t = (
           puts_both h (record {
-            front = front_held (held contents b) (held contents c) (waiting b ++ []) k;
-            bytes_are = subst (λ (z : List ℕ). Appends (held_and_waiting contents b) (append_known (held contents c) z) []) (sym w) (still_waits (held contents b) (held contents c) (waiting b) k);
+            front = prefix_of_kept (held contents b) (held contents c) (waiting b ++ []) k;
+            bytes_are = subst (λ (z : List ℕ). Appends (contents_with_pending contents b) (append_known (held contents c) z) []) (sym w) (still_pending (held contents b) (held contents c) (waiting b) k);
             nothing_failed = record { writes = writes; flushes = t };
           }),
           flushed_after u f,
         )
 
-    pub flushed_err : waiting b ≡ [] → waiting c ≡ [] → IfErr r (λ e. IsIo e) → OnErr r (failed_flushes_of c ≡ (failed_flushes_of b + 1) % 2 ^ 64) → FlushFails contents r a c
+    pub flushed_err : waiting b ≡ [] → waiting c ≡ [] → IfErr r (λ e. IsIo e) → OnErr r (failed_flushes_of c ≡ (failed_flushes_of b + 1) % 2 ^ 64) → FlushFaultIsSound contents r a c
     flushed_err none w i t = go r i t
       where
-        go : (r : Result (Unit {0}) Error) → IfErr r (λ e. IsIo e) → OnErr r (failed_flushes_of c ≡ (failed_flushes_of b + 1) % 2 ^ 64) → FlushFails contents r a c
+        go : (r : Result (Unit {0}) Error) → IfErr r (λ e. IsIo e) → OnErr r (failed_flushes_of c ≡ (failed_flushes_of b + 1) % 2 ^ 64) → FlushFaultIsSound contents r a c
         go (Ok x) i t = tt
         go (Err e) i t = inr (record {
           is_io = i;
           failed = flush_failed_after h.nothing_failed (record { writes = writes; flushes = t });
           flushed = flushed_after u f;
-          written = appends_keeps (held_and_waiting contents a) (held contents b) (held contents c) [] (held_alone (held_and_waiting contents a) (held contents b) (waiting b) [] none h.bytes_are) k;
-          none_wait = w;
+          written = appends_keeps (contents_with_pending contents a) (held contents b) (held contents c) [] (contents_alone (contents_with_pending contents a) (held contents b) (waiting b) [] none h.bytes_are) k;
+          none_pending = w;
         })
 
   -- more bytes wait, and the writer was left alone
-  pub puts_waiting : (a b : Output W) (bytes : List ℕ) → b.writer ≡ a.writer → waiting b ≡ waiting a ++ bytes → Puts contents bytes a b
-  puts_waiting a b bytes same more =
+  pub puts_pending : (a b : Output W) (bytes : List ℕ) → b.writer ≡ a.writer → waiting b ≡ waiting a ++ bytes → Puts contents bytes a b
+  puts_pending a b bytes same more =
       let h : held contents b ≡ held contents a = ap (λ (w : Counted W). contents w.inner.now) same in
       record {
-        front = subst (λ (o : Option (List ℕ)). AppendsFront (held contents a) o (waiting a ++ bytes)) (sym h) (front_none (held contents a) (waiting a ++ bytes));
-        bytes_are = rw (h, more) (more_waits (held contents a) (waiting a) bytes);
+        front = subst (λ (o : Option (List ℕ)). AppendsPrefix (held contents a) o (waiting a ++ bytes)) (sym h) (prefix_none (held contents a) (waiting a ++ bytes));
+        bytes_are = rw (h, more) (more_pending (held contents a) (waiting a) bytes);
         nothing_failed = record { writes = ap (λ (w : Counted W). w.failed_writes) same; flushes = ap (λ (w : Counted W). w.failed_flushes) same };
       }
 
 -- ---- samples as bytes
 
 pub bytes_all : (channels : List (List ℤ)) (n : ℕ) → n ≡ duration_of channels → bytes_of_samples (places channels 0 n) ≡ bytes_of_samples (interleave channels)
-bytes_all channels n e = ap (λ (j : ℕ). bytes_of_samples (places channels 0 j)) (e ∙ sym (same_duration channels)) ∙ ap bytes_of_samples (places_all channels)
+bytes_all channels n e = ap (λ (j : ℕ). bytes_of_samples (places channels 0 j)) (e ∙ sym (same_duration channels)) ∙ ap bytes_of_samples (range_all channels)

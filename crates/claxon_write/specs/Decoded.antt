@@ -1,15 +1,15 @@
 -- Streams that are decoded into an `Output`.
 use Rattle.std.specs.Prelude.{◌≡◌, ◌≤◌, ◌⊎◌, ℕ, ◌+◌, ◌^◌, List, [], ◌∷◌, ◌++◌, length, codes, Option, None, Some, IsErrAnd, Result, Ok, Err}
 use Rattle.std.specs.Io.KnownBytes.{Appends}
-use Rattle.claxon.specs.Frame.{StreamShape, Block}
+use Rattle.claxon.specs.Frame.{StreamFormat, Block}
 use Rattle.claxon.specs.Streams.{interleave}
 use Rattle.claxon.specs.Error.{IsIo}
 use Rattle.claxon.specs.State.{State}
 use Rattle.claxon.specs.Errors.{Error}
 use Rattle.claxon.specs.Errors.TheVariants.{Unsupported}
-use Rattle.claxon.specs.SampleRuns.{ReadsFrames, TakesFrames, samples_of}
+use Rattle.claxon.specs.SampleRuns.{ReadsFrames, ConsumesFrames, samples_of}
 use Rattle.claxon_write.specs.SampleBytes.{bytes_of_samples}
-use Rattle.claxon_write.specs.Written.{AppendsAllBut, FlushFailed, IsFlushed, IsUnflushed, NothingFailed, Puts, WriteFailed, capacity, held, held_and_waiting, waiting}
+use Rattle.claxon_write.specs.Written.{AppendsAllBut, FlushFailed, IsFlushed, IsUnflushed, NothingFailed, Puts, WriteFailed, capacity, held, contents_with_pending, waiting}
 use Rattle.claxon_write.specs.declared.output.Output.{Output}
 
 -- the limit on the number of samples
@@ -18,35 +18,35 @@ IsLimit (Unsupported text) = text.now ≡ codes "more than 18446744073709551615 
 IsLimit _ = ⊥
 
 -- Behind the frames of these blocks stands one with which there are 2^64 samples or more; it was taken.
-pub record TooMany (stream : Option StreamShape) (blocks : List Block) (error : Error) (old new : State ℕ) : Type 0 where
+pub record TooManySamples (stream : Option StreamFormat) (blocks : List Block) (error : Error) (old new : State ℕ) : Type 0 where
   pub is_limit : IsLimit error
   pub last : Block
-  pub frames : TakesFrames stream (blocks ++ last ∷ []) old new
+  pub frames : ConsumesFrames stream (blocks ++ last ∷ []) old new
   pub many : 2 ^ 64 ≤ length (samples_of (blocks ++ last ∷ []))
 
 -- how the blocks ended: None says at the end of the stream
-abbrev pub EndsAfter : Option StreamShape → List Block → Option Error → State ℕ → State ℕ → Type 0
+abbrev pub EndsAfter : Option StreamFormat → List Block → Option Error → State ℕ → State ℕ → Type 0
 EndsAfter stream blocks None old new = ReadsFrames stream blocks (Ok None) old new
-EndsAfter stream blocks (Some error) old new = ReadsFrames stream blocks (Err error) old new ⊎ TooMany stream blocks error old new
+EndsAfter stream blocks (Some error) old new = ReadsFrames stream blocks (Err error) old new ⊎ TooManySamples stream blocks error old new
 
 -- The samples of these blocks, n in number, were written or wait behind what waited, and nothing failed.
-pub record Gathers {W : Type 0} (contents : W → Option (List ℕ)) (stream : Option StreamShape) (end : Option Error) (n : ℕ) (old new : State ℕ) (before after : Output W) : Type 0 where
+pub record Gathers {W : Type 0} (contents : W → Option (List ℕ)) (stream : Option StreamFormat) (end : Option Error) (n : ℕ) (old new : State ℕ) (before after : Output W) : Type 0 where
   pub blocks : List Block
   pub ends : EndsAfter stream blocks end old new
   pub count : n ≡ length (samples_of blocks)
   pub puts : Puts contents (bytes_of_samples (samples_of blocks)) before after
 
 -- Just the samples of these blocks, n in number, were written behind what waited, and none wait any more.
-pub record Decodes {W : Type 0} (contents : W → Option (List ℕ)) (stream : Option StreamShape) (end : Option Error) (n : ℕ) (old new : State ℕ) (before after : Output W) : Type 0 where
+pub record Decodes {W : Type 0} (contents : W → Option (List ℕ)) (stream : Option StreamFormat) (end : Option Error) (n : ℕ) (old new : State ℕ) (before after : Output W) : Type 0 where
   pub blocks : List Block
   pub ends : EndsAfter stream blocks end old new
   pub count : n ≡ length (samples_of blocks)
-  pub written : Appends (held_and_waiting contents before) (held contents after) (bytes_of_samples (samples_of blocks))
-  pub none_wait : waiting after ≡ []
+  pub written : Appends (contents_with_pending contents before) (held contents after) (bytes_of_samples (samples_of blocks))
+  pub none_pending : waiting after ≡ []
 
 -- just the frames of these blocks were taken, or also the end or the fault behind them
-abbrev pub TakesBlocks : Option StreamShape → List Block → State ℕ → State ℕ → Type 0
-TakesBlocks stream blocks old new = TakesFrames stream blocks old new ⊎ ((end : Option Error) × EndsAfter stream blocks end old new)
+abbrev pub TakesBlocks : Option StreamFormat → List Block → State ℕ → State ℕ → Type 0
+TakesBlocks stream blocks old new = ConsumesFrames stream blocks old new ⊎ ((end : Option Error) × EndsAfter stream blocks end old new)
 
 -- how many bytes the samples of the last of these blocks have
 abbrev pub last_bytes : List Block → ℕ
@@ -56,17 +56,17 @@ last_bytes (b ∷ c ∷ blocks) = last_bytes (c ∷ blocks)
 
 -- A write failed, which was counted, and no flush was asked for: a front of what waited and of the samples of these blocks, whose frames were taken, was written, and none wait any more.
 -- No more are missing than wait at most and those of the last block: the reader is no further ahead than that.
-pub record FailsToWrite {W : Type 0} (contents : W → Option (List ℕ)) (stream : Option StreamShape) (error : Error) (old new : State ℕ) (before after : Output W) : Type 0 where
+pub record FailsToWrite {W : Type 0} (contents : W → Option (List ℕ)) (stream : Option StreamFormat) (error : Error) (old new : State ℕ) (before after : Output W) : Type 0 where
   pub is_io : IsIo error
   pub failed : WriteFailed before after
   pub unflushed : IsUnflushed before after
   pub blocks : List Block
   pub takes : TakesBlocks stream blocks old new
   pub front : AppendsAllBut (capacity + last_bytes blocks) (held contents before) (held contents after) (waiting before ++ bytes_of_samples (samples_of blocks))
-  pub none_wait : waiting after ≡ []
+  pub none_pending : waiting after ≡ []
 
 -- The stream ended and all its samples were written, and then the one flush that was asked for failed, which was counted.
-pub record FailsToFlushAll {W : Type 0} (contents : W → Option (List ℕ)) (stream : Option StreamShape) (error : Error) (old new : State ℕ) (before after : Output W) : Type 0 where
+pub record FailsToFlushAll {W : Type 0} (contents : W → Option (List ℕ)) (stream : Option StreamFormat) (error : Error) (old new : State ℕ) (before after : Output W) : Type 0 where
   pub is_io : IsIo error
   pub failed : FlushFailed before after
   pub flushed : IsFlushed before after
@@ -74,7 +74,7 @@ pub record FailsToFlushAll {W : Type 0} (contents : W → Option (List ℕ)) (st
   pub decoded : Decodes contents stream None count old new before after
 
 -- The decoder stopped when all samples before were written: no write failed, and one flush was asked for, last; whether it failed is counted alone.
-pub record StopsDecoding {W : Type 0} (contents : W → Option (List ℕ)) (stream : Option StreamShape) (error : Error) (old new : State ℕ) (before after : Output W) : Type 0 where
+pub record StopsDecoding {W : Type 0} (contents : W → Option (List ℕ)) (stream : Option StreamFormat) (error : Error) (old new : State ℕ) (before after : Output W) : Type 0 where
   pub count : ℕ
   pub decoded : Decodes contents stream (Some error) count old new before after
   pub flushed : IsFlushed before after

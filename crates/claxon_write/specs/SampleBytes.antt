@@ -21,13 +21,13 @@ abbrev pub bytes_between : List (List ℤ) → ℕ → ℕ → List ℕ
 bytes_between channels from to = bytes_of_samples (places channels from (to - from))
 
 -- the bytes of one place, of so many each
-abbrev pub place_bytes : ℕ → ℕ → List ℕ → List ℕ
-place_bytes size i room = take size (drop (i * size) room)
+abbrev pub nth_chunk : ℕ → ℕ → List ℕ → List ℕ
+nth_chunk size i room = take size (drop (i * size) room)
 
 -- Behind the first at bytes of that place, which stay, stand these.
-abbrev pub PutBehind : ℕ → ℕ → ℕ → List ℕ → List ℕ → List ℕ → Type 0
-PutBehind size at i bytes old new = take (at + length bytes) (place_bytes size i new) ≡ take at (place_bytes size i old) ++ bytes
+abbrev pub PutAfter : ℕ → ℕ → ℕ → List ℕ → List ℕ → List ℕ → Type 0
+PutAfter size at i bytes old new = take (at + length bytes) (nth_chunk size i new) ≡ take at (nth_chunk size i old) ++ bytes
 
 -- In each place the sample of the channel of this number, of so many channels, is put behind those of the channels before it.
 abbrev pub PutsChannel : List ℤ → ℕ → ℕ → List ℕ → List ℕ → Type 0
-PutsChannel samples ch channels old new = (i : ℕ) → i < length samples → PutBehind (4 * channels) (4 * ch) i (sample_bytes (get_or samples i (pos 0))) old new
+PutsChannel samples ch channels old new = (i : ℕ) → i < length samples → PutAfter (4 * channels) (4 * ch) i (sample_bytes (get_or samples i (pos 0))) old new

@@ -12,18 +12,18 @@ use Rattle.claxon_write.specs.declared.output.Output.{Output}
 use Rattle.claxon_write.specs.declared.stream.End.{End}
 
 -- An Ok says how the blocks ended, that just their samples, so many, were written, and that nothing failed.
-abbrev pub WritesBlocks : {R W : Type 0} → (W → Option (List ℕ)) → (R → Source ℕ) → StreamInfo → Result End Error → R → R → Output W → Output W → Type 0
-WritesBlocks contents source info r old new before after =
+abbrev pub WriteBlocksIsSound : {R W : Type 0} → (W → Option (List ℕ)) → (R → Source ℕ) → StreamInfo → Result End Error → R → R → Output W → Output W → Type 0
+WriteBlocksIsSound contents source info r old new before after =
     IfOk r (λ end. Decodes contents (Some (stream_with info)) end.fault end.count (bytes_in source old) (bytes_in source new) before after × NothingFailed before after)
 
 -- An Err is the writer's.
-abbrev pub FailsToWriteBlocks : {R W : Type 0} → (W → Option (List ℕ)) → (R → Source ℕ) → StreamInfo → Result End Error → R → R → Output W → Output W → Type 0
-FailsToWriteBlocks contents source info r old new before after = IfErr r (λ error. FailsToWrite contents (Some (stream_with info)) error (bytes_in source old) (bytes_in source new) before after)
+abbrev pub WriteBlocksFaultIsSound : {R W : Type 0} → (W → Option (List ℕ)) → (R → Source ℕ) → StreamInfo → Result End Error → R → R → Output W → Output W → Type 0
+WriteBlocksFaultIsSound contents source info r old new before after = IfErr r (λ error. FailsToWrite contents (Some (stream_with info)) error (bytes_in source old) (bytes_in source new) before after)
 
 -- An Ok says how the blocks ended, and that their samples, so many, were written or wait.
-abbrev pub GathersBlocks : {R W : Type 0} → (W → Option (List ℕ)) → (R → Source ℕ) → Result End Error → FrameReader R → FrameReader R → Output W → Output W → Type 0
-GathersBlocks contents source r old new before after = IfOk r (λ end. Gathers contents (frame_stream old) end.fault end.count (frame_bytes source old) (frame_bytes source new) before after)
+abbrev pub GatherBlocksIsSound : {R W : Type 0} → (W → Option (List ℕ)) → (R → Source ℕ) → Result End Error → FrameReader R → FrameReader R → Output W → Output W → Type 0
+GatherBlocksIsSound contents source r old new before after = IfOk r (λ end. Gathers contents (frame_stream old) end.fault end.count (frame_bytes source old) (frame_bytes source new) before after)
 
 -- An Err is the writer's.
-abbrev pub FailsToGatherBlocks : {R W : Type 0} → (W → Option (List ℕ)) → (R → Source ℕ) → Result End Error → FrameReader R → FrameReader R → Output W → Output W → Type 0
-FailsToGatherBlocks contents source r old new before after = IfErr r (λ error. FailsToWrite contents (frame_stream old) error (frame_bytes source old) (frame_bytes source new) before after)
+abbrev pub GatherBlocksFaultIsSound : {R W : Type 0} → (W → Option (List ℕ)) → (R → Source ℕ) → Result End Error → FrameReader R → FrameReader R → Output W → Output W → Type 0
+GatherBlocksFaultIsSound contents source r old new before after = IfErr r (λ error. FailsToWrite contents (frame_stream old) error (frame_bytes source old) (frame_bytes source new) before after)

@@ -7,15 +7,15 @@ use Rattle.claxon_write.specs.declared.output.Gathered.{Gathered}
 use Rattle.claxon_write.specs.declared.output.Output.{Output}
 
 -- the bytes that wait to be written
-abbrev pub waiting_in : Gathered → List ℕ
-waiting_in g = take g.used g.bytes
+abbrev pub pending_in : Gathered → List ℕ
+pending_in g = take g.used g.bytes
 
 abbrev pub waiting : {W : Type 0} → Output W → List ℕ
-waiting o = waiting_in o.gathered
+waiting o = pending_in o.gathered
 
 -- how many bytes wait
-abbrev pub waiting_count : {W : Type 0} → Output W → ℕ
-waiting_count o = o.gathered.used
+abbrev pub pending_count : {W : Type 0} → Output W → ℕ
+pending_count o = o.gathered.used
 
 -- how many writes failed: the count wraps, as the next two do
 abbrev pub failed_writes_of : {W : Type 0} → Output W → ℕ
@@ -62,12 +62,12 @@ abbrev pub held : {W : Type 0} → (W → Option (List ℕ)) → Output W → Op
 held contents o = contents o.writer.inner.now
 
 -- and then the bytes that wait
-abbrev pub held_and_waiting : {W : Type 0} → (W → Option (List ℕ)) → Output W → Option (List ℕ)
-held_and_waiting contents o = append_known (held contents o) (waiting o)
+abbrev pub contents_with_pending : {W : Type 0} → (W → Option (List ℕ)) → Output W → Option (List ℕ)
+contents_with_pending contents o = append_known (held contents o) (waiting o)
 
 -- A front of these bytes was added.
-abbrev pub AppendsFront : Option (List ℕ) → Option (List ℕ) → List ℕ → Type 0
-AppendsFront old new bytes = (k : ℕ) × Appends old new (take k bytes)
+abbrev pub AppendsPrefix : Option (List ℕ) → Option (List ℕ) → List ℕ → Type 0
+AppendsPrefix old new bytes = (k : ℕ) × Appends old new (take k bytes)
 
 -- A front of these bytes was added, and no more than so many are missing.
 abbrev pub AppendsAllBut : ℕ → Option (List ℕ) → Option (List ℕ) → List ℕ → Type 0
@@ -79,8 +79,8 @@ capacity = 16384
 
 -- These bytes were written behind those that waited, or wait behind them, and nothing failed.
 pub record Puts {W : Type 0} (contents : W → Option (List ℕ)) (bytes : List ℕ) (old new : Output W) : Type 0 where
-  pub front : AppendsFront (held contents old) (held contents new) (waiting old ++ bytes)
-  pub bytes_are : Appends (held_and_waiting contents old) (held_and_waiting contents new) bytes
+  pub front : AppendsPrefix (held contents old) (held contents new) (waiting old ++ bytes)
+  pub bytes_are : Appends (contents_with_pending contents old) (contents_with_pending contents new) bytes
   pub nothing_failed : NothingFailed old new
 
 -- A write failed, which was counted: a front of the bytes that waited and of these was written, and none wait any more. No
@@ -89,12 +89,12 @@ pub record FailsToPut {W : Type 0} (contents : W → Option (List ℕ)) (bytes :
   pub is_io : IsIo error
   pub failed : WriteFailed old new
   pub front : AppendsAllBut (capacity + length bytes) (held contents old) (held contents new) (waiting old ++ bytes)
-  pub none_wait : waiting new ≡ []
+  pub none_pending : waiting new ≡ []
 
 -- The flush failed, which was counted, when all that waited was written.
 pub record FailsToFlush {W : Type 0} (contents : W → Option (List ℕ)) (error : Error) (old new : Output W) : Type 0 where
   pub is_io : IsIo error
   pub failed : FlushFailed old new
   pub flushed : IsFlushed old new
-  pub written : Appends (held_and_waiting contents old) (held contents new) []
-  pub none_wait : waiting new ≡ []
+  pub written : Appends (contents_with_pending contents old) (held contents new) []
+  pub none_pending : waiting new ≡ []

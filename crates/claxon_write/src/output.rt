@@ -14,7 +14,7 @@ use std::io::{ErrorKind, Write};
 const CAPACITY: usize = 16384;
 
 // So many places of at most eight channels fill the bytes that are gathered.
-const MOST_PLACES: usize = 512;
+const MOST_PER_CHANNEL: usize = 512;
 
 /// A writer, and what came of the calls of it. The counts wrap.
 struct Counted<'w, W> {
@@ -41,7 +41,7 @@ impl<'w, W> Drop for Counted<'w, W> {
 }
 
 impl<'w, W: Write> Counted<'w, W> {
-    ghost use Rattle.claxon_write.specs.Output.{WritesFront, WritesSome};
+    ghost use Rattle.claxon_write.specs.Output.{WritesPrefix, WritesSome};
 
     fn into_inner(self) -> &'w mut W
         ensures same_reference { result.ghost_name ≡ self.entry.inner.ghost_name }
@@ -64,7 +64,7 @@ impl<'w, W: Write> Counted<'w, W> {
         ensures ok { WritesSome W.contents bytes.now result self.old self.new }
         ensures kept { OnErr result (Keeps (W.contents self.old.inner.now) (W.contents self.new.inner.now)) }
         ensures io { IfErr result (λ error. IsIo error) }
-        ensures told { OnOk result (self.new.failed_writes ≡ self.old.failed_writes) }
+        ensures known { OnOk result (self.new.failed_writes ≡ self.old.failed_writes) }
         ensures failed { OnErr result (self.new.failed_writes ≡ (self.old.failed_writes + 1) % 2 ^ 64) }
         ensures failed_flushes { self.new.failed_flushes ≡ self.old.failed_flushes }
         ensures flushes { self.new.flushes ≡ self.old.flushes }
@@ -88,9 +88,9 @@ impl<'w, W: Write> Counted<'w, W> {
     fn write_whole(&mut self, bytes: &[u8]) -> Result<()>
         ensures same_reference { self.new.inner.ghost_name ≡ self.old.inner.ghost_name }
         ensures ok { OnOk result (Appends (W.contents self.old.inner.now) (W.contents self.new.inner.now) bytes.now) }
-        ensures front { WritesFront W.contents bytes.now result self.old self.new }
+        ensures front { WritesPrefix W.contents bytes.now result self.old self.new }
         ensures io { IfErr result (λ error. IsIo error) }
-        ensures told { OnOk result (self.new.failed_writes ≡ self.old.failed_writes) }
+        ensures known { OnOk result (self.new.failed_writes ≡ self.old.failed_writes) }
         ensures failed { OnErr result (self.new.failed_writes ≡ (self.old.failed_writes + 1) % 2 ^ 64) }
         ensures failed_flushes { self.new.failed_flushes ≡ self.old.failed_flushes }
         ensures flushes { self.new.flushes ≡ self.old.flushes }
@@ -108,7 +108,7 @@ impl<'w, W: Write> Counted<'w, W> {
         ensures kept { Keeps (W.contents self.old.inner.now) (W.contents self.new.inner.now) }
         ensures io { IfErr result (λ error. IsIo error) }
         ensures failed_writes { self.new.failed_writes ≡ self.old.failed_writes }
-        ensures told { OnOk result (self.new.failed_flushes ≡ self.old.failed_flushes) }
+        ensures known { OnOk result (self.new.failed_flushes ≡ self.old.failed_flushes) }
         ensures failed { OnErr result (self.new.failed_flushes ≡ (self.old.failed_flushes + 1) % 2 ^ 64) }
         ensures flushes { self.new.flushes ≡ (self.old.flushes + 1) % 2 ^ 64 }
         ensures flushed { self.new.is_flushed ≡ true }
@@ -135,22 +135,22 @@ struct Gathered {
 }
 
 impl Gathered {
-    ghost use Rattle.claxon_write.specs.Written.{waiting_in};
+    ghost use Rattle.claxon_write.specs.Written.{pending_in};
 
     fn waiting(&self) -> &[u8]
-        ensures value { result.now ≡ waiting_in self.now }
+        ensures value { result.now ≡ pending_in self.now }
         ensures few { length result.now ≤ 16384 }
     {
         &self.bytes[..self.used]
     }
 
     // Adds as many of the bytes as there is room for, and says how many.
-    fn add_front(&mut self, bytes: &[u8]) -> usize
+    fn add_prefix(&mut self, bytes: &[u8]) -> usize
         requires room { self.old.used < 16384 }
         requires some { 0 < length bytes.now }
         ensures some { 0 < result }
         ensures most { result ≤ length bytes.now }
-        ensures added { waiting_in self.new ≡ waiting_in self.old ++ take result bytes.now }
+        ensures added { pending_in self.new ≡ pending_in self.old ++ take result bytes.now }
     {
         let count = bytes.len().min(CAPACITY - self.used);
         self.bytes[self.used..self.used + count].copy_from_slice(&bytes[..count]);
@@ -159,12 +159,12 @@ impl Gathered {
     }
 
     // Adds the samples of a block between two places, whose bytes are so many.
-    fn add_places<A: Allocator>(&mut self, block: &Block<A>, from: usize, to: usize, size: usize)
+    fn add_samples<A: Allocator>(&mut self, block: &Block<A>, from: usize, to: usize, size: usize)
         requires order { from ≤ to }
         requires in_block { to ≤ duration_of block.now.channels }
         requires size { size ≡ (to - from) * (4 * length block.now.channels) }
         requires room { self.old.used + size ≤ 16384 }
-        ensures added { waiting_in self.new ≡ waiting_in self.old ++ bytes_between block.now.channels from to }
+        ensures added { pending_in self.new ≡ pending_in self.old ++ bytes_between block.now.channels from to }
     {
         let end = self.used + size;
         interleave(block, from, to, &mut self.bytes[self.used..end]);
@@ -181,14 +181,14 @@ pub struct Output<'w, W> {
 
 impl<'w, W: Write> Output<'w, W> {
     ghost use Rattle.claxon_write.specs.Lent.{output_name, output_writer};
-    ghost use Rattle.claxon_write.specs.Output.{FlushFails, FlushesAll, PutsAll, PutsFront, block_bytes};
-    ghost use Rattle.claxon_write.specs.Written.{IsFlushed, IsUnflushed, failed_flushes_of, failed_writes_of, flushes_of, held, waiting, waiting_count};
+    ghost use Rattle.claxon_write.specs.Output.{FlushFaultIsSound, FlushIsSound, PutIsSound, PutFaultIsSound, block_bytes};
+    ghost use Rattle.claxon_write.specs.Written.{IsFlushed, IsUnflushed, failed_flushes_of, failed_writes_of, flushes_of, held, waiting, pending_count};
 
     /// Lends the writer. Nothing was gathered, no write and no flush failed, and no flush was asked for so far.
     pub fn new(inner: &'w mut W) -> Output<'w, W>
         ensures same_reference { output_name result ≡ inner.entry.ghost_name }
         ensures held { held W.contents result ≡ W.contents inner.old }
-        ensures none_wait { waiting result ≡ [] }
+        ensures none_pending { waiting result ≡ [] }
         ensures failed_writes { failed_writes_of result ≡ 0 }
         ensures failed_flushes { failed_flushes_of result ≡ 0 }
         ensures flushes { flushes_of result ≡ 0 }
@@ -228,12 +228,12 @@ impl<'w, W: Write> Output<'w, W> {
     /// is kept.
     pub fn write_gathered(&mut self) -> Result<()>
         ensures same_reference { output_name self.new ≡ output_name self.old }
-        ensures none_wait { waiting self.new ≡ [] }
-        ensures none { waiting_count self.new ≡ 0 }
+        ensures none_pending { waiting self.new ≡ [] }
+        ensures none { pending_count self.new ≡ 0 }
         // No flush is asked for.
         ensures unflushed { IsUnflushed self.old self.new }
-        ensures ok { PutsAll W.contents [] result self.old self.new }
-        ensures err { PutsFront W.contents [] result self.old self.new }
+        ensures ok { PutIsSound W.contents [] result self.old self.new }
+        ensures err { PutFaultIsSound W.contents [] result self.old self.new }
     {
         let outcome = self.writer.write_whole(self.gathered.waiting());
         self.gathered.used = 0;
@@ -247,7 +247,7 @@ impl<'w, W: Write> Output<'w, W> {
         ensures kept { Keeps (held W.contents self.old) (held W.contents self.new) }
         ensures io { IfErr result (λ error. IsIo error) }
         ensures failed_writes { failed_writes_of self.new ≡ failed_writes_of self.old }
-        ensures told { OnOk result (failed_flushes_of self.new ≡ failed_flushes_of self.old) }
+        ensures known { OnOk result (failed_flushes_of self.new ≡ failed_flushes_of self.old) }
         ensures failed { OnErr result (failed_flushes_of self.new ≡ (failed_flushes_of self.old + 1) % 2 ^ 64) }
         ensures flushed { IsFlushed self.old self.new }
     {
@@ -261,22 +261,22 @@ impl<'w, W: Write> Output<'w, W> {
     /// Those of `write_gathered`, and then nothing is flushed; and an `IoError` where the flush fails, when all was written.
     pub fn flush(&mut self) -> Result<()>
         ensures same_reference { output_name self.new ≡ output_name self.old }
-        ensures none_wait { waiting self.new ≡ [] }
-        ensures ok { FlushesAll W.contents result self.old self.new }
-        ensures err { FlushFails W.contents result self.old self.new }
+        ensures none_pending { waiting self.new ≡ [] }
+        ensures ok { FlushIsSound W.contents result self.old self.new }
+        ensures err { FlushFaultIsSound W.contents result self.old self.new }
     {
         self.write_gathered()?;
         self.flush_writer()
     }
 
     // Writes what was gathered where there is no room for so many bytes more.
-    fn make_room(&mut self, size: usize) -> Result<()>
+    fn reserve(&mut self, size: usize) -> Result<()>
         requires { size ≤ 16384 }
         ensures same_reference { output_name self.new ≡ output_name self.old }
         ensures room { OnOk result (self.new.gathered.used + size ≤ 16384) }
         ensures unflushed { IsUnflushed self.old self.new }
-        ensures ok { PutsAll W.contents [] result self.old self.new }
-        ensures err { PutsFront W.contents [] result self.old self.new }
+        ensures ok { PutIsSound W.contents [] result self.old self.new }
+        ensures err { PutFaultIsSound W.contents [] result self.old self.new }
     {
         if CAPACITY - self.gathered.used < size {
             return self.write_gathered();
@@ -292,13 +292,13 @@ impl<'w, W: Write> Output<'w, W> {
     pub fn put(&mut self, bytes: &[u8]) -> Result<()>
         ensures same_reference { output_name self.new ≡ output_name self.old }
         ensures unflushed { IsUnflushed self.old self.new }
-        ensures ok { PutsAll W.contents bytes.now result self.old self.new }
-        ensures err { PutsFront W.contents bytes.now result self.old self.new }
+        ensures ok { PutIsSound W.contents bytes.now result self.old self.new }
+        ensures err { PutFaultIsSound W.contents bytes.now result self.old self.new }
     {
         let mut from = 0;
         while from < bytes.len() {
-            self.make_room(1)?;
-            from += self.gathered.add_front(&bytes[from..]);
+            self.reserve(1)?;
+            from += self.gathered.add_prefix(&bytes[from..]);
         }
         Ok(())
     }
@@ -308,21 +308,21 @@ impl<'w, W: Write> Output<'w, W> {
     /// # Errors
     ///
     /// Those of `write_gathered`.
-    #[tactic(auto, using(crate::proofs::MostPlaces::bytes_of_places))]
+    #[tactic(auto, using(crate::proofs::BufferBounds::bytes_fit))]
     pub fn put_block<A: Allocator>(&mut self, block: &Block<A>) -> Result<()>
         ensures same_reference { output_name self.new ≡ output_name self.old }
         ensures unflushed { IsUnflushed self.old self.new }
-        ensures ok { PutsAll W.contents (block_bytes block.now) result self.old self.new }
-        ensures err { PutsFront W.contents (block_bytes block.now) result self.old self.new }
+        ensures ok { PutIsSound W.contents (block_bytes block.now) result self.old self.new }
+        ensures err { PutFaultIsSound W.contents (block_bytes block.now) result self.old self.new }
     {
         let duration = block.duration() as usize;
         let channels = block.channels() as usize;
         let mut from = 0;
         while from < duration {
-            let count = MOST_PLACES.min(duration - from);
+            let count = MOST_PER_CHANNEL.min(duration - from);
             let size = count * (4 * channels);
-            self.make_room(size)?;
-            self.gathered.add_places(block, from, from + count, size);
+            self.reserve(size)?;
+            self.gathered.add_samples(block, from, from + count, size);
             from += count;
         }
         Ok(())

@@ -5,9 +5,9 @@ ghost use Rattle.claxon.specs.FlacReader.{flac_metadata_only, flac_streaminfo};
 ghost use Rattle.claxon.specs.FrameReader.{frame_bytes};
 ghost use Rattle.claxon.specs.Opening.{unread};
 ghost use Rattle.claxon_write.specs.Lent.{output_name};
-ghost use Rattle.claxon_write.specs.Run.{RunFaultIsComplete, RunIsComplete, RunStops, RunPutsFront, RunsToTheEnd};
-ghost use Rattle.claxon_write.specs.WriteBlocks.{FailsToGatherBlocks, FailsToWriteBlocks, GathersBlocks, WritesBlocks};
-ghost use Rattle.claxon_write.specs.WriteSamples.{EachStreamFaultIsNamed, EachStreamIsWritten, LeavesRestOfStream, ShowsTheSame, WritesAll, WritesUpTo};
+ghost use Rattle.claxon_write.specs.Run.{RunFaultIsComplete, RunIsComplete, RunFaultIsSound, RunWritesPrefix, RunIsSound};
+ghost use Rattle.claxon_write.specs.WriteBlocks.{GatherBlocksFaultIsSound, WriteBlocksFaultIsSound, GatherBlocksIsSound, WriteBlocksIsSound};
+ghost use Rattle.claxon_write.specs.WriteSamples.{StreamFaultIsComplete, StreamIsComplete, StreamLeavesRest, KeepsHead, StreamIsSound, StreamFaultIsSound};
 ghost use Rattle.claxon_write.specs.Written.{IsUnflushed};
 
 use crate::output::Output;
@@ -18,7 +18,7 @@ use claxon::{Error, FlacReader, Result};
 use std::alloc::Allocator;
 use std::io::{Read, Write};
 
-const TOO_MANY: &str = "more than 18446744073709551615 samples are not supported";
+const TOO_MANY_SAMPLES: &str = "more than 18446744073709551615 samples are not supported";
 
 /// Writes each sample of the input as four little-endian bytes, and answers how many there are.
 ///
@@ -34,11 +34,11 @@ pub fn run<R: Read + Drop, W: Write, A: Allocator + Copy>(
     output: &mut W,
 ) -> Result<u64>
     // The input is a head, frames and fewer than two bytes, and just the samples of these frames were written.
-    ensures ok { RunsToTheEnd W.contents result (unread (R.remaining input)) output.old output.new }
+    ensures ok { RunIsSound W.contents result (unread (R.remaining input)) output.old output.new }
     // A fault stands in the input, and just the samples before it were written; else it is an `IoError` or want of memory.
-    ensures err { RunStops W.contents result (unread (R.remaining input)) output.old output.new }
+    ensures err { RunFaultIsSound W.contents result (unread (R.remaining input)) output.old output.new }
     // After an `IoError` or want of memory too.
-    ensures front { RunPutsFront W.contents result (unread (R.remaining input)) output.old output.new }
+    ensures front { RunWritesPrefix W.contents result (unread (R.remaining input)) output.old output.new }
     ensures complete { RunIsComplete result (unread (R.remaining input)) }
     ensures named { RunFaultIsComplete result (unread (R.remaining input)) }
 {
@@ -67,14 +67,14 @@ pub fn write_samples<R: Read + Drop, W: Write, A: Allocator + Copy>(
     requires { flac_metadata_only flac.old ≡ false }
     ensures same_reference { output_name output.new ≡ output_name output.old }
     // What is shown of the head stays.
-    ensures head { ShowsTheSame flac.old flac.new }
-    ensures rest { LeavesRestOfStream R.remaining flac.old flac.new }
+    ensures head { KeepsHead flac.old flac.new }
+    ensures rest { StreamLeavesRest R.remaining flac.old flac.new }
     // All samples up to the end of the stream were written, and just these, and then flushed.
-    ensures ok { WritesAll W.contents R.remaining result flac.old flac.new output.old output.new }
+    ensures ok { StreamIsSound W.contents R.remaining result flac.old flac.new output.old output.new }
     // All samples before a decoder's fault were written, and then flushed, or the writer failed.
-    ensures err { WritesUpTo W.contents R.remaining result flac.old flac.new output.old output.new }
-    ensures complete { EachStreamIsWritten R.remaining result flac.old flac.new output.old output.new }
-    ensures named { EachStreamFaultIsNamed R.remaining result flac.old flac.new output.old output.new }
+    ensures err { StreamFaultIsSound W.contents R.remaining result flac.old flac.new output.old output.new }
+    ensures complete { StreamIsComplete R.remaining result flac.old flac.new output.old output.new }
+    ensures named { StreamFaultIsComplete R.remaining result flac.old flac.new output.old output.new }
 {
     write_samples_exact(alloc, flac, output)
 }
@@ -88,10 +88,10 @@ fn write_samples_exact<R: Read + Drop, W: Write, A: Allocator + Copy>(
 ) -> Result<u64>
     requires { flac_metadata_only flac.old ≡ false }
     ensures same_reference { output_name output.new ≡ output_name output.old }
-    ensures head { ShowsTheSame flac.old flac.new }
+    ensures head { KeepsHead flac.old flac.new }
     ensures width { IsWidth (Some (flac_streaminfo flac.old).bits_per_sample) }
-    ensures ok { WritesAll W.contents R.remaining result flac.old flac.new output.old output.new }
-    ensures err { WritesUpTo W.contents R.remaining result flac.old flac.new output.old output.new }
+    ensures ok { StreamIsSound W.contents R.remaining result flac.old flac.new output.old output.new }
+    ensures err { StreamFaultIsSound W.contents R.remaining result flac.old flac.new output.old output.new }
 {
     let info = flac.streaminfo();
     let end = write_blocks(alloc, flac.input(), info, output)?;
@@ -123,9 +123,9 @@ fn write_blocks<R: ReadBytes, W: Write, A: Allocator + Copy>(
     requires some { 1 ≤ info.bits_per_sample }
     requires most { info.bits_per_sample ≤ 32 }
     ensures same_reference { output_name output.new ≡ output_name output.old }
-    ensures ok { WritesBlocks W.contents R.source info result input.old input.new output.old output.new }
+    ensures ok { WriteBlocksIsSound W.contents R.source info result input.old input.new output.old output.new }
     ensures unflushed { IsUnflushed output.old output.new }
-    ensures err { FailsToWriteBlocks W.contents R.source info result input.old input.new output.old output.new }
+    ensures err { WriteBlocksFaultIsSound W.contents R.source info result input.old input.new output.old output.new }
 {
     let mut frames = FrameReader::with_streaminfo(input, info);
     let end = gather_blocks(alloc, &mut frames, output)?;
@@ -141,9 +141,9 @@ fn gather_blocks<R: ReadBytes, W: Write, A: Allocator + Copy>(
 ) -> Result<End>
     ensures same_reference { output_name output.new ≡ output_name output.old }
     ensures loans { (frame_bytes R.source frames.new).loans ≡ (frame_bytes R.source frames.old).loans }
-    ensures ok { GathersBlocks W.contents R.source result frames.old frames.new output.old output.new }
+    ensures ok { GatherBlocksIsSound W.contents R.source result frames.old frames.new output.old output.new }
     ensures unflushed { IsUnflushed output.old output.new }
-    ensures err { FailsToGatherBlocks W.contents R.source result frames.old frames.new output.old output.new }
+    ensures err { GatherBlocksFaultIsSound W.contents R.source result frames.old frames.new output.old output.new }
 {
     let mut count = 0u64;
     let mut buffer = Vec::new(alloc);
@@ -157,7 +157,7 @@ fn gather_blocks<R: ReadBytes, W: Write, A: Allocator + Copy>(
             }
         };
         let Some(more) = count.checked_add(u64::from(block.len())) else {
-            let fault = Some(Error::Unsupported(TOO_MANY));
+            let fault = Some(Error::Unsupported(TOO_MANY_SAMPLES));
             return Ok(End { count, fault });
         };
         output.put_block(&block)?;

@@ -1,4 +1,4 @@
-use Rattle.claxon_format.proofs.Formats.{frames_lossless as law}
+use Rattle.claxon_format.proofs.FormatLaws.{frames_lossless as law}
 use Rattle.claxon_format.proofs.frames_lossless.Goals as goal
 
 pub returns : goal.returns

@@ -1,4 +1,4 @@
-use Rattle.claxon_format.proofs.Formats.{plans_written as law}
+use Rattle.claxon_format.proofs.FormatLaws.{plans_written as law}
 use Rattle.claxon_format.proofs.plans_written.Goals as goal
 
 pub returns : goal.returns

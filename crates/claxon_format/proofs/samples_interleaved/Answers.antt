@@ -1,4 +1,4 @@
-use Rattle.claxon_format.proofs.Formats.{samples_interleaved as law}
+use Rattle.claxon_format.proofs.FormatLaws.{samples_interleaved as law}
 use Rattle.claxon_format.proofs.samples_interleaved.Goals as goal
 
 pub returns : goal.returns

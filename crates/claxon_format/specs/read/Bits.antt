@@ -1,46 +1,46 @@
 -- Readers of bits and numbers (RFC 9639, section 5), and of the words of a residual (section 9.2.7.2).
 use Rattle.std.specs.Prelude.{ℕ, suc, ◌+◌, ◌*◌, ◌%◌, ◌^◌, Bool, true, false, cond, nat_lt, [], ◌∷◌, length, take, drop, ℤ}
-use Rattle.claxon_format.specs.Bits.{Bits, number, unfold_at, twos}
-use Rattle.claxon_format.specs.Reading.{Reading, Done, Faulty, Short, and_then, done}
+use Rattle.claxon_format.specs.Bits.{Bits, number, zigzag_decode, twos_complement}
+use Rattle.claxon_format.specs.Reading.{Reading, Done, Faulty, Incomplete, and_then, done}
 
 unfoldable pub bit_at : Bits → Reading Bool Bool
-bit_at [] = Short
+bit_at [] = Incomplete
 bit_at (b ∷ s) = Done b s
 
 -- a number of w bits
 unfoldable pub number_at : ℕ → Bits → Reading Bool ℕ
-number_at w s = cond (nat_lt (length s) w) Short (Done (number (take w s)) (drop w s))
+number_at w s = cond (nat_lt (length s) w) Incomplete (Done (number (take w s)) (drop w s))
 
 -- an integer of w bits in two's complement
 unfoldable pub signed_at : ℕ → Bits → Reading Bool ℤ
-signed_at w = and_then (number_at w) (λ n. done (twos w n))
+signed_at w = and_then (number_at w) (λ n. done (twos_complement w n))
 
 -- one zero more
 abbrev pub one_more : Reading Bool ℕ → Reading Bool ℕ
 one_more (Done q s) = Done (suc q) s
 one_more (Faulty f s) = Faulty f s
-one_more Short = Short
+one_more Incomplete = Incomplete
 
 -- how many zeros there are up to a one
 unfoldable pub zeros_at : Bits → Reading Bool ℕ
-zeros_at [] = Short
+zeros_at [] = Incomplete
 zeros_at (true ∷ s) = Done 0 s
 zeros_at (false ∷ s) = one_more (zeros_at s)
 
 -- 2 ^ 32 zeros are read as an end is
-abbrev pub in_32 : Reading Bool ℕ → Reading Bool ℕ
-in_32 (Done q s) = cond (nat_lt q (2 ^ 32)) (Done q s) Short
-in_32 (Faulty f s) = Faulty f s
-in_32 Short = Short
+abbrev pub in_u32 : Reading Bool ℕ → Reading Bool ℕ
+in_u32 (Done q s) = cond (nat_lt q (2 ^ 32)) (Done q s) Incomplete
+in_u32 (Faulty f s) = Faulty f s
+in_u32 Incomplete = Incomplete
 
 -- how many zeros there are, of fewer than 2 ^ 32
 unfoldable pub unary_at : Bits → Reading Bool ℕ
-unary_at s = in_32 (zeros_at s)
+unary_at s = in_u32 (zeros_at s)
 
 -- the folded number of a quotient and k low bits
-abbrev pub folded : ℕ → ℕ → ℕ → ℕ
-folded k q r = (q * 2 ^ k + r) % 2 ^ 32
+abbrev pub zigzag_encoded : ℕ → ℕ → ℕ → ℕ
+zigzag_encoded k q r = (q * 2 ^ k + r) % 2 ^ 32
 
 -- a word under the parameter k
-unfoldable pub word_at : ℕ → Bits → Reading Bool ℤ
-word_at k = and_then unary_at (λ q. and_then (number_at k) (λ r. done (unfold_at (folded k q r))))
+unfoldable pub rice_code_at : ℕ → Bits → Reading Bool ℤ
+rice_code_at k = and_then unary_at (λ q. and_then (number_at k) (λ r. done (zigzag_decode (zigzag_encoded k q r))))

@@ -2,7 +2,7 @@
 use Rattle.std.specs.Prelude.{ℕ, ◌+◌, ◌*◌, ◌%◌, ◌^◌, [], ◌∷◌, ◌-◌, ◌/◌, Bool, cond, not, ◌==◌, nat_lt, List, length, take, drop}
 use Rattle.claxon_format.specs.Bits.{Bits, bits_of}
 use Rattle.claxon_format.specs.Fault.{Fault}
-use Rattle.claxon_format.specs.Reading.{Reading, Done, Faulty, Short, and_then, and_with, done, test}
+use Rattle.claxon_format.specs.Reading.{Reading, Done, Faulty, Incomplete, and_then, and_with, done, test}
 
 -- the number of bytes, the most significant first, and the least significant first; as in `bits_of` a byte counts modulo 256
 unfoldable pub big_endian : List ℕ → ℕ
@@ -15,7 +15,7 @@ little_endian (y ∷ ys) = y % 256 + 256 * little_endian ys
 
 -- n bytes, as they are
 unfoldable pub bytes_at : ℕ → List ℕ → Reading ℕ (List ℕ)
-bytes_at n s = cond (nat_lt (length s) n) Short (Done (take n s) (drop n s))
+bytes_at n s = cond (nat_lt (length s) n) Incomplete (Done (take n s) (drop n s))
 
 -- n bytes of any values, which are passed over (sections 8.3 and 8.5 to 8.8)
 unfoldable pub skipped_at : ℕ → List ℕ → Reading ℕ (Unit {0})
@@ -39,7 +39,7 @@ left_bytes s rest = drop (length s - length rest / 8) s
 abbrev pub whole : {A : Type 0} → List ℕ → Reading Bool A → Reading ℕ A
 whole s (Done a rest) = Done a (left_bytes s rest)
 whole s (Faulty f rest) = Faulty f (left_bytes s rest)
-whole s Short = Short
+whole s Incomplete = Incomplete
 
 -- bits from bytes; a byte that is begun is taken whole
 abbrev pub by_bytes : {A : Type 0} → (Bits → Reading Bool A) → List ℕ → Reading ℕ A
@@ -48,9 +48,9 @@ by_bytes r s = whole s (r (bits_of s))
 -- ---- guards of whole bytes (sections 9.1.8 and 9.3)
 
 -- a number of w bytes that is to be this one
-unfoldable pub expected_at : ℕ → ℕ → Fault → List ℕ → Reading ℕ (Unit {0})
-expected_at w guard f = and_then (big_at w) (λ n. test (not (n == guard)) f (done tt))
+unfoldable pub crc_at : ℕ → ℕ → Fault → List ℕ → Reading ℕ (Unit {0})
+crc_at w crc f = and_then (big_at w) (λ n. test (not (n == crc)) f (done tt))
 
 -- what r reads, and then the guard of its bits
-abbrev pub sealed_bytes_at : {A : Type 0} → ℕ → (Bits → ℕ) → Fault → (List ℕ → Reading ℕ A) → List ℕ → Reading ℕ A
-sealed_bytes_at w guard f r = and_with r (λ a x. and_then (big_at w) (λ n. test (not (n == guard (bits_of x))) f (done a)))
+abbrev pub with_crc_bytes_at : {A : Type 0} → ℕ → (Bits → ℕ) → Fault → (List ℕ → Reading ℕ A) → List ℕ → Reading ℕ A
+with_crc_bytes_at w crc f r = and_with r (λ a x. and_then (big_at w) (λ n. test (not (n == crc (bits_of x))) f (done a)))

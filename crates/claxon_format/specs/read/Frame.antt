@@ -1,14 +1,14 @@
 -- Readers of a frame and of its parts (RFC 9639, section 9).
 use Rattle.std.specs.Prelude.{ℕ, Bool, List, ℤ, Option}
 use Rattle.claxon_format.specs.Bits.{Bits}
-use Rattle.claxon_format.specs.Fault.{FrameGuard}
-use Rattle.claxon_format.specs.Frame.{StreamShape, Block, known_width, time_of}
-use Rattle.claxon_format.specs.Guards.{crc16}
+use Rattle.claxon_format.specs.Fault.{FrameCrc}
+use Rattle.claxon_format.specs.Frame.{StreamFormat, Block, known_width, time_of}
+use Rattle.claxon_format.specs.Crc.{crc16}
 use Rattle.claxon_format.specs.Header.{Header, header_with}
 use Rattle.claxon_format.specs.Reading.{Reading, and_then, done, each_at}
-use Rattle.claxon_format.specs.Stereo.{widths, unmixed_channels}
-use Rattle.claxon_format.specs.read.Bytes.{by_bytes, sealed_bytes_at}
-use Rattle.claxon_format.specs.read.Header.{guarded_at, with_width}
+use Rattle.claxon_format.specs.Stereo.{widths, decoded_channels}
+use Rattle.claxon_format.specs.read.Bytes.{by_bytes, with_crc_bytes_at}
+use Rattle.claxon_format.specs.read.Header.{fields_with_crc_at, with_width}
 use Rattle.claxon_format.specs.read.Subframe.{subframe_at}
 
 -- what a header says to the body of its frame
@@ -18,12 +18,12 @@ pub record Start : Type 0 where
   pub channels : ℕ
   pub width : ℕ
 
-abbrev pub start_of : Option StreamShape → Header → Start
+abbrev pub start_of : Option StreamFormat → Header → Start
 start_of stream h = record { time = time_of stream h; size = h.size; channels = h.channels; width = h.width }
 
 -- a header and its guard
-unfoldable pub start_at : Option StreamShape → List ℕ → Reading ℕ Start
-start_at stream = with_width guarded_at (known_width stream) (λ f w. start_of stream (header_with f w))
+unfoldable pub start_at : Option StreamFormat → List ℕ → Reading ℕ Start
+start_at stream = with_width fields_with_crc_at (known_width stream) (λ f w. start_of stream (header_with f w))
 
 -- channels of so many samples each, of these widths
 unfoldable pub coded_channels_at : ℕ → List ℕ → Bits → Reading Bool (List (List ℤ))
@@ -35,12 +35,12 @@ subframes_at size widths = by_bytes (coded_channels_at size widths)
 
 -- a block of channels that are coded behind a header
 abbrev pub block_from : Start → List (List ℤ) → Block
-block_from start coded = record { time = start.time; channels = unmixed_channels start.channels coded }
+block_from start coded = record { time = start.time; channels = decoded_channels start.channels coded }
 
 -- a header and its channels
-unfoldable pub unsealed_at : Option StreamShape → List ℕ → Reading ℕ Block
-unsealed_at stream = and_then (start_at stream) (λ start. and_then (subframes_at start.size (widths start.channels start.width)) (λ coded. done (block_from start coded)))
+unfoldable pub frame_without_crc_at : Option StreamFormat → List ℕ → Reading ℕ Block
+frame_without_crc_at stream = and_then (start_at stream) (λ start. and_then (subframes_at start.size (widths start.channels start.width)) (λ coded. done (block_from start coded)))
 
 -- and their guard (section 9.3)
-abbrev pub frame_bytes_at : Option StreamShape → List ℕ → Reading ℕ Block
-frame_bytes_at stream = sealed_bytes_at 2 crc16 FrameGuard (unsealed_at stream)
+abbrev pub frame_bytes_at : Option StreamFormat → List ℕ → Reading ℕ Block
+frame_bytes_at stream = with_crc_bytes_at 2 crc16 FrameCrc (frame_without_crc_at stream)

@@ -1,13 +1,13 @@
 -- Readers of a frame's header and of its parts (RFC 9639, section 9.1). These are whole bytes, and are read from bits and from bytes alike.
 use Rattle.std.specs.Prelude.{ℕ, ◌+◌, ◌/◌, ◌%◌, Bool, cond, not, ◌==◌, nat_lt, List, Option}
 use Rattle.claxon_format.specs.Bits.{Bits}
-use Rattle.claxon_format.specs.Fault.{SyncMissing, ReservedBit, SizeReserved, RateInvalid, ChannelsReserved, WidthReserved, ReservedEnd, NumberLarge, SizeLarge, HeaderGuard, WidthUnknown, SideWide}
-use Rattle.claxon_format.specs.read.Bytes.{sealed_bytes_at, big_at}
-use Rattle.claxon_format.specs.Guards.{crc8}
-use Rattle.claxon_format.specs.read.Guards.{sealed_at}
-use Rattle.claxon_format.specs.Header.{Fields, Header, header_with, is_too_wide, is_unknown, number_large, rate_bytes, size_of, width_of, width_reserved}
+use Rattle.claxon_format.specs.Fault.{SyncMissing, ReservedBit, SizeReserved, RateInvalid, ChannelsReserved, BitDepthReserved, SecondReservedBit, NumberLarge, SizeLarge, HeaderCrc, BitDepthUnknown, SideTooWide}
+use Rattle.claxon_format.specs.read.Bytes.{with_crc_bytes_at, big_at}
+use Rattle.claxon_format.specs.Crc.{crc8}
+use Rattle.claxon_format.specs.read.Crc.{with_crc_at}
+use Rattle.claxon_format.specs.Header.{Fields, Header, header_with, side_too_wide, bit_depth_unknown, number_large, rate_bytes, size_of, width_of, bit_depth_reserved}
 use Rattle.claxon_format.specs.Reading.{Reading, and_then, done, test}
-use Rattle.claxon_format.specs.read.Coded.{Numbers, in_bits, coded_number_at}
+use Rattle.claxon_format.specs.read.CodedNumber.{Numbers, in_bits, coded_number_at}
 
 -- the sync code and a reserved bit, and whether blocks vary in size
 unfoldable pub blocking_at : {X : Type 0} → ℕ → List X → Reading X Bool
@@ -17,28 +17,28 @@ unfoldable pub sync_at : {X : Type 0} → Numbers X → List X → Reading X Boo
 sync_at number = and_then (number 2) blocking_at
 
 -- how a size is spelled: by its code, or less one in a byte or two behind the number (sections 9.1.1 and 9.1.6)
-pub data SizeSpelling : Type 0 where
-  ByCode : ℕ → SizeSpelling
-  InByte : SizeSpelling
-  InTwoBytes : SizeSpelling
+pub data SizeCoding : Type 0 where
+  ByCode : ℕ → SizeCoding
+  InByte : SizeCoding
+  InTwoBytes : SizeCoding
 
-abbrev pub size_spelling : ℕ → SizeSpelling
-size_spelling code = cond (code == 6) InByte (cond (code == 7) InTwoBytes (ByCode (size_of code)))
+abbrev pub size_coding : ℕ → SizeCoding
+size_coding code = cond (code == 6) InByte (cond (code == 7) InTwoBytes (ByCode (size_of code)))
 
 -- how the size is spelled, and in how many bytes the rate
-unfoldable pub codes_at : {X : Type 0} → Numbers X → List X → Reading X (SizeSpelling × ℕ)
-codes_at number = and_then (number 1) (λ b. test (b / 16 == 0) SizeReserved (test (b % 16 == 15) RateInvalid (done (size_spelling (b / 16), rate_bytes (b % 16)))))
+unfoldable pub codes_at : {X : Type 0} → Numbers X → List X → Reading X (SizeCoding × ℕ)
+codes_at number = and_then (number 1) (λ b. test (b / 16 == 0) SizeReserved (test (b % 16 == 15) RateInvalid (done (size_coding (b / 16), rate_bytes (b % 16)))))
 
 -- the codes of the channels and of the width (sections 9.1.3 and 9.1.4)
 unfoldable pub channels_at : {X : Type 0} → Numbers X → List X → Reading X (ℕ × ℕ)
-channels_at number = and_then (number 1) (λ c. test (nat_lt 10 (c / 16)) ChannelsReserved (test (width_reserved (c / 2 % 8)) WidthReserved (test (c % 2 == 1) ReservedEnd (done (c / 16, c / 2 % 8)))))
+channels_at number = and_then (number 1) (λ c. test (nat_lt 10 (c / 16)) ChannelsReserved (test (bit_depth_reserved (c / 2 % 8)) BitDepthReserved (test (c % 2 == 1) SecondReservedBit (done (c / 16, c / 2 % 8)))))
 
 -- the coded number, and of which blocking it is
 unfoldable pub number_in : {X : Type 0} → Numbers X → Bool → List X → Reading X (Bool × ℕ)
 number_in number variable = and_then (coded_number_at number) (λ n. test (number_large variable n) NumberLarge (done (variable, n)))
 
 -- the size that is spelled so
-unfoldable pub size_at : {X : Type 0} → Numbers X → SizeSpelling → List X → Reading X ℕ
+unfoldable pub size_at : {X : Type 0} → Numbers X → SizeCoding → List X → Reading X ℕ
 size_at number (ByCode n) = done n
 size_at number InByte = and_then (number 1) (λ n. done (n + 1))
 size_at number InTwoBytes = and_then (number 2) (λ n. test (n == 65535) SizeLarge (done (n + 1)))
@@ -48,7 +48,7 @@ unfoldable pub rate_at : {X : Type 0} → Numbers X → ℕ → List X → Readi
 rate_at number k = and_then (number k) (λ n. done tt)
 
 abbrev pub fields_of : Bool × ℕ → ℕ × ℕ → ℕ → Fields
-fields_of time codes size = record { variable = time.0; size = size; channels = codes.0; width_code = codes.1; number = time.1 }
+fields_of time codes size = record { variable = time.0; size = size; channels = codes.0; bit_depth_code = codes.1; number = time.1 }
 
 -- the fields behind the sync code
 unfoldable pub fields_after : {X : Type 0} → Numbers X → Bool → List X → Reading X Fields
@@ -61,12 +61,12 @@ unfoldable pub fields_at : {X : Type 0} → Numbers X → List X → Reading X F
 fields_at number = and_then (sync_at number) (fields_after number)
 
 -- the fields and their guard, from bytes (section 9.1.8)
-unfoldable pub guarded_at : List ℕ → Reading ℕ Fields
-guarded_at = sealed_bytes_at 1 crc8 HeaderGuard (fields_at big_at)
+unfoldable pub fields_with_crc_at : List ℕ → Reading ℕ Fields
+fields_with_crc_at = with_crc_bytes_at 1 crc8 HeaderCrc (fields_at big_at)
 
 -- the width that the fields name, or that of the stream: it takes nothing
 unfoldable pub width_at : {X : Type 0} → Option ℕ → Fields → List X → Reading X ℕ
-width_at known f = test (is_unknown known f) WidthUnknown (test (is_too_wide known f) SideWide (done (width_of known f.width_code)))
+width_at known f = test (bit_depth_unknown known f) BitDepthUnknown (test (side_too_wide known f) SideTooWide (done (width_of known f.bit_depth_code)))
 
 -- what is made of fields and their width
 abbrev pub with_width : {X A : Type 0} → (List X → Reading X Fields) → Option ℕ → (Fields → ℕ → A) → List X → Reading X A
@@ -74,4 +74,4 @@ with_width fields known make = and_then fields (λ f. and_then (width_at known f
 
 -- a whole header, from bits
 unfoldable pub header_at : Option ℕ → Bits → Reading Bool Header
-header_at known = with_width (sealed_at 8 crc8 HeaderGuard (fields_at in_bits)) known header_with
+header_at known = with_width (with_crc_at 8 crc8 HeaderCrc (fields_at in_bits)) known header_with

@@ -6,7 +6,7 @@ use Rattle.claxon_format.specs.read.Bytes.{big_at}
 use Rattle.claxon_format.specs.Comments.{Comment}
 use Rattle.claxon_format.specs.MetadataBlocks.{Content, Info}
 use Rattle.claxon_format.specs.read.MetadataBlocks.{block_at}
-use Rattle.claxon_format.specs.Heads.{Options, Head, is_info, stream_marker, found_with, is_second, is_done, is_short}
+use Rattle.claxon_format.specs.Heads.{Options, Head, is_info, stream_marker, found_with, is_second, is_done, streaminfo_ends_head}
 
 unfoldable pub marker_at : List ℕ → Reading ℕ ℕ
 marker_at = and_then (big_at 4) (λ m. test (m / 256 == 0x494433) Id3Header (test (not (m == stream_marker)) StreamMarker (done m)))
@@ -21,7 +21,7 @@ others_at suffices (suc k) found =
 -- what is read behind the first block
 unfoldable pub after_first : Options → Bool → Content → List ℕ → Reading ℕ Head
 after_first o is_last (Info i) =
-    and_then (pick (is_short o is_last) (done None) (others_at o.metadata_only 65535 None)) (λ found. done (record { info = i; comment = cond o.wants_comment found None }))
+    and_then (pick (streaminfo_ends_head o is_last) (done None) (others_at o.metadata_only 65535 None)) (λ found. done (record { info = i; comment = cond o.wants_comment found None }))
 after_first o is_last _ = fails StreaminfoMissing
 
 unfoldable pub head_at : Options → List ℕ → Reading ℕ Head

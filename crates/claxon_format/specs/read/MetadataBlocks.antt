@@ -2,7 +2,7 @@
 use Rattle.std.specs.Prelude.{ℕ, ◌-◌, not, ◌==◌, nat_lt, List}
 use Rattle.claxon_format.specs.Fault.{StreaminfoLength, BlockType, ApplicationShort, ApplicationLarge}
 use Rattle.claxon_format.specs.Reading.{Reading, pick, and_then, done, test}
-use Rattle.claxon_format.specs.Metadata.{most_bytes}
+use Rattle.claxon_format.specs.Metadata.{max_content_bytes}
 use Rattle.claxon_format.specs.read.Bytes.{bytes_at, big_at}
 use Rattle.claxon_format.specs.read.Metadata.{block_header_at}
 use Rattle.claxon_format.specs.Streaminfo.{Streaminfo}
@@ -15,7 +15,7 @@ unfoldable pub info_body_at : ℕ → List ℕ → Reading ℕ Streaminfo
 info_body_at n = test (not (n == 34)) StreaminfoLength streaminfo_at
 
 unfoldable pub application_at : ℕ → List ℕ → Reading ℕ Content
-application_at n = test (nat_lt n 4) ApplicationShort (test (nat_lt most_bytes n) ApplicationLarge (
+application_at n = test (nat_lt n 4) ApplicationShort (test (nat_lt max_content_bytes n) ApplicationLarge (
     and_then (big_at 4) (λ id. and_then (bytes_at (n - 4)) (λ bytes. done (Application id bytes)))))
 
 -- the content of a block of this type and length

@@ -5,20 +5,20 @@ use Rattle.claxon_format.specs.Bits.{Bits}
 use Rattle.claxon_format.specs.Fault.{MethodReserved, PartitionOrder, PartitionShort}
 use Rattle.claxon_format.specs.Reading.{Reading, and_then, done, each_at, times_at, test, checked_at, pick}
 use Rattle.claxon_format.specs.Residual.{escape, partition_lengths}
-use Rattle.claxon_format.specs.read.Bits.{number_at, signed_at, word_at}
+use Rattle.claxon_format.specs.read.Bits.{number_at, signed_at, rice_code_at}
 
 -- an entry in b bits; in none it is 0
-unfoldable pub raw_at : ℕ → Bits → Reading Bool ℤ
-raw_at zero = done (pos 0)
-raw_at (suc b) = signed_at (suc b)
+unfoldable pub escaped_sample_at : ℕ → Bits → Reading Bool ℤ
+escaped_sample_at zero = done (pos 0)
+escaped_sample_at (suc b) = signed_at (suc b)
 
 -- behind the escape: a width, and l entries in it
-unfoldable pub escaped_at : ℕ → Bits → Reading Bool (List ℤ)
-escaped_at l = and_then (number_at 5) (λ b. times_at l (raw_at b))
+unfoldable pub escaped_partition_at : ℕ → Bits → Reading Bool (List ℤ)
+escaped_partition_at l = and_then (number_at 5) (λ b. times_at l (escaped_sample_at b))
 
 -- a partition of l entries: a parameter and their words, or the escape
 unfoldable pub partition_at : ℕ → ℕ → Bits → Reading Bool (List ℤ)
-partition_at method l = and_then (number_at (4 + method)) (λ k. pick (k == escape method) (escaped_at l) (times_at l (word_at k)))
+partition_at method l = and_then (number_at (4 + method)) (λ k. pick (k == escape method) (escaped_partition_at l) (times_at l (rice_code_at k)))
 
 -- the entries of partitions one after another
 abbrev pub joined_at : (ℕ → Bits → Reading Bool (List ℤ)) → List ℕ → Bits → Reading Bool (List ℤ)
@@ -29,8 +29,8 @@ unfoldable pub method_at : Bits → Reading Bool ℕ
 method_at = checked_at (nat_lt 1) MethodReserved (number_at 2)
 
 -- the partitions of n entries but the first ones, as many as order
-unfoldable pub parts_at : ℕ → ℕ → ℕ → Bits → Reading Bool (List ℤ)
-parts_at n order method = and_then (number_at 4) (λ p. test (nat_lt 0 (n % 2 ^ p)) PartitionOrder (test (nat_lt (n / 2 ^ p) order) PartitionShort (joined_at (partition_at method) (partition_lengths n order p))))
+unfoldable pub partitions_at : ℕ → ℕ → ℕ → Bits → Reading Bool (List ℤ)
+partitions_at n order method = and_then (number_at 4) (λ p. test (nat_lt 0 (n % 2 ^ p)) PartitionOrder (test (nat_lt (n / 2 ^ p) order) PartitionShort (joined_at (partition_at method) (partition_lengths n order p))))
 
 unfoldable pub residual_at : ℕ → ℕ → Bits → Reading Bool (List ℤ)
-residual_at n order = and_then method_at (parts_at n order)
+residual_at n order = and_then method_at (partitions_at n order)

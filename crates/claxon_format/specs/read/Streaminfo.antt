@@ -3,7 +3,7 @@ use Rattle.std.specs.Prelude.{ℕ, ◌+◌, ◌*◌, ◌/◌, ◌%◌, ◌^◌, 
 use Rattle.claxon_format.specs.Fault.{BlockSizeBounds, BlockSizeSmall, FrameSizeBounds, SampleRate}
 use Rattle.claxon_format.specs.Reading.{Reading, and_then, done, test, each_at}
 use Rattle.claxon_format.specs.read.Bytes.{bytes_at, big_at}
-use Rattle.claxon_format.specs.Streaminfo.{Streaminfo, info_of, blocks_crossed, block_small, frames_crossed, rate_invalid}
+use Rattle.claxon_format.specs.Streaminfo.{Streaminfo, info_of, block_sizes_inconsistent, block_small, frame_sizes_inconsistent, rate_invalid}
 
 -- the rate, the channels and the width less one, and the number of samples, which share eight bytes
 abbrev pub format_of : ℕ → ℕ → List ℕ
@@ -27,7 +27,7 @@ info_fields_at = and_then sizes_at (λ sizes. and_then format_at (λ format. and
 
 -- the tests behind the fields
 abbrev pub tested_at : {X : Type 0} → Streaminfo → List X → Reading X Streaminfo
-tested_at i = test (blocks_crossed i) BlockSizeBounds (test (block_small i) BlockSizeSmall (test (frames_crossed i) FrameSizeBounds (test (rate_invalid i) SampleRate (done i))))
+tested_at i = test (block_sizes_inconsistent i) BlockSizeBounds (test (block_small i) BlockSizeSmall (test (frame_sizes_inconsistent i) FrameSizeBounds (test (rate_invalid i) SampleRate (done i))))
 
 -- the fields, and then the tests
 unfoldable pub streaminfo_at : List ℕ → Reading ℕ Streaminfo

@@ -1,7 +1,7 @@
 -- Readers of a subframe and of its parts (RFC 9639, sections 9.2.1 to 9.2.6).
 use Rattle.std.specs.Prelude.{ℕ, suc, ◌+◌, ◌-◌, Bool, ◌==◌, not, nat_lt, List, ◌++◌, ℤ, replicate, reverse, map}
 use Rattle.claxon_format.specs.Bits.{Bits}
-use Rattle.claxon_format.specs.Fault.{SubframeStart, KindReserved, WasteLarge, WasteWhole, FixedOrder, LinearOrder, PrecisionInvalid, ShiftNegative}
+use Rattle.claxon_format.specs.Fault.{SubframePadding, SubframeTypeReserved, WastedBitsLarge, NoBitsLeft, FixedOrder, LinearOrder, PrecisionInvalid, ShiftNegative}
 use Rattle.claxon_format.specs.Predict.{restore, fixed, linear}
 use Rattle.claxon_format.specs.Reading.{Reading, and_then, done, times_at, test, checked_at, pick}
 use Rattle.claxon_format.specs.Subframe.{reserved, scaled}
@@ -11,26 +11,26 @@ use Rattle.claxon_format.specs.read.Residual.{residual_at}
 -- the number of the kind and how many bits are wasted
 pub record SubframeFields : Type 0 where
   pub type : ℕ
-  pub waste : ℕ
+  pub wasted_bits : ℕ
 
 -- the number of the kind
 unfoldable pub type_at : Bits → Reading Bool ℕ
-type_at = and_then bit_at (λ b. test b SubframeStart (checked_at reserved KindReserved (number_at 6)))
+type_at = and_then bit_at (λ b. test b SubframePadding (checked_at reserved SubframeTypeReserved (number_at 6)))
 
-unfoldable pub waste_at : Bits → Reading Bool ℕ
-waste_at = and_then bit_at (λ b. pick b (and_then unary_at (λ q. done (suc q))) (done 0))
+unfoldable pub wasted_bits_at : Bits → Reading Bool ℕ
+wasted_bits_at = and_then bit_at (λ b. pick b (and_then unary_at (λ q. done (suc q))) (done 0))
 
 -- of wasted bits there are 31 at most
-unfoldable pub few_at : Bits → Reading Bool ℕ
-few_at = checked_at (nat_lt 31) WasteLarge waste_at
+unfoldable pub wasted_bits_to_31_at : Bits → Reading Bool ℕ
+wasted_bits_to_31_at = checked_at (nat_lt 31) WastedBitsLarge wasted_bits_at
 
 -- the kind, and how many bits are wasted (section 9.2.1)
 unfoldable pub subframe_header_at : Bits → Reading Bool SubframeFields
-subframe_header_at = and_then type_at (λ n. and_then few_at (λ z. done record { type = n; waste = z }))
+subframe_header_at = and_then type_at (λ n. and_then wasted_bits_to_31_at (λ z. done record { type = n; wasted_bits = z }))
 
 -- n samples of w bits under a fixed predictor (section 9.2.5)
 unfoldable pub fixed_at : ℕ → ℕ → ℕ → Bits → Reading Bool (List ℤ)
-fixed_at w n order = test (nat_lt n order) FixedOrder (and_then (times_at order (signed_at w)) (λ warm. and_then (residual_at n order) (λ e. done (warm ++ restore (fixed order) (reverse warm) e))))
+fixed_at w n order = test (nat_lt n order) FixedOrder (and_then (times_at order (signed_at w)) (λ warm_up. and_then (residual_at n order) (λ e. done (warm_up ++ restore (fixed order) (reverse warm_up) e))))
 
 -- the precision of coefficients and their shift
 pub record Parameters : Type 0 where
@@ -42,13 +42,13 @@ parameters_at = and_then (checked_at (λ m. m == 15) PrecisionInvalid (number_at
 
 -- n samples of w bits under a linear predictor (section 9.2.6)
 unfoldable pub linear_at : ℕ → ℕ → ℕ → Bits → Reading Bool (List ℤ)
-linear_at w n order = test (nat_lt n order) LinearOrder (and_then (times_at order (signed_at w)) (λ warm. and_then parameters_at (λ p.
-    and_then (times_at order (signed_at p.precision)) (λ cs. and_then (residual_at n order) (λ e. done (warm ++ restore (linear cs p.shift) (reverse warm) e))))))
+linear_at w n order = test (nat_lt n order) LinearOrder (and_then (times_at order (signed_at w)) (λ warm_up. and_then parameters_at (λ p.
+    and_then (times_at order (signed_at p.precision)) (λ cs. and_then (residual_at n order) (λ e. done (warm_up ++ restore (linear cs p.shift) (reverse warm_up) e))))))
 
 -- n samples of w bits, of the kind with this number
-unfoldable pub kind_at : ℕ → ℕ → ℕ → Bits → Reading Bool (List ℤ)
-kind_at w n type = pick (type == 0) (and_then (signed_at w) (λ x. done (replicate n x))) (pick (type == 1) (times_at n (signed_at w)) (pick (nat_lt type 13) (fixed_at w n (type - 8)) (linear_at w n (type - 31))))
+unfoldable pub subframe_body_at : ℕ → ℕ → ℕ → Bits → Reading Bool (List ℤ)
+subframe_body_at w n type = pick (type == 0) (and_then (signed_at w) (λ x. done (replicate n x))) (pick (type == 1) (times_at n (signed_at w)) (pick (nat_lt type 13) (fixed_at w n (type - 8)) (linear_at w n (type - 31))))
 
 -- n samples of w bits
 unfoldable pub subframe_at : ℕ → ℕ → Bits → Reading Bool (List ℤ)
-subframe_at w n = and_then subframe_header_at (λ h. test (not (nat_lt h.waste w)) WasteWhole (and_then (kind_at (w - h.waste) n h.type) (λ u. done (map (scaled h.waste) u))))
+subframe_at w n = and_then subframe_header_at (λ h. test (not (nat_lt h.wasted_bits w)) NoBitsLeft (and_then (subframe_body_at (w - h.wasted_bits) n h.type) (λ u. done (map (scaled h.wasted_bits) u))))

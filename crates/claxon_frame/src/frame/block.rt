@@ -2,7 +2,7 @@
 ghost use Rattle.std.specs.Prelude.{Option, Some, ◌≡◌, ◌<◌, ◌≤◌, ◌+◌, ◌*◌, [], length, slice_get, vec_capacity, IfSome};
 ghost use Rattle.std.specs.Iterator.{YieldsFirst, item_count};
 ghost use Rattle.claxon_frame.specs.Block.{AreOfLength, BlockValue, chunks, duration_of, joined};
-ghost use Rattle.claxon_frame.specs.Unmixing.{pairs_left};
+ghost use Rattle.claxon_frame.specs.Decorrelation.{remaining_pairs};
 
 use std::alloc::{Allocator, Global};
 use std::marker::Model;
@@ -132,7 +132,7 @@ impl<A: Allocator> Block<A> {
         requires { length self.now.channels ≡ 2 }
         ensures left { slice_get self.now.channels 0 ≡ Some result.left.now }
         ensures right { slice_get self.now.channels 1 ≡ Some result.right.now }
-        ensures count { length (pairs_left result) ≡ duration_of self.now.channels }
+        ensures count { length (remaining_pairs result) ≡ duration_of self.now.channels }
     {
         StereoSamples {
             left: self.channel(0),
@@ -151,9 +151,9 @@ pub struct StereoSamples<'a> {
 impl Iterator for StereoSamples<'_> {
     type Item = (i32, i32);
 
-    ghost next_gives = { YieldsFirst pairs_left };
+    ghost next_gives = { YieldsFirst remaining_pairs };
 
-    ghost remaining = { item_count pairs_left };
+    ghost remaining = { item_count remaining_pairs };
 
     fn next(&mut self) -> Option<(i32, i32)> {
         let (left, left_rest) = self.left.split_first()?;

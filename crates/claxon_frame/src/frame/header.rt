@@ -1,21 +1,21 @@
 //! The header of a frame (RFC 9639, section 9.1).
 ghost use Rattle.std.specs.Prelude.{◌≡◌, ℕ, ◌+◌, ◌*◌, ◌<◌, ◌≤◌, IfOk, IfErr, false};
 ghost use Rattle.std.specs.Option.{ForSome};
-ghost use Rattle.claxon_format.specs.Coded.{bad_first};
-ghost use Rattle.claxon_format.specs.Fault.{HeaderGuard, WidthReserved};
+ghost use Rattle.claxon_format.specs.CodedNumber.{bad_first};
+ghost use Rattle.claxon_format.specs.Fault.{HeaderCrc, BitDepthReserved};
 ghost use Rattle.claxon_format.specs.Frame.{block_step, known_width, time_of};
-ghost use Rattle.claxon_format.specs.read.Bytes.{expected_at, big_at};
-ghost use Rattle.claxon_format.specs.Header.{header_of, rate_bytes, width_reserved};
+ghost use Rattle.claxon_format.specs.read.Bytes.{crc_at, big_at};
+ghost use Rattle.claxon_format.specs.Header.{header_of, rate_bytes, bit_depth_reserved};
 ghost use Rattle.claxon_format.specs.Reading.{done, test};
-ghost use Rattle.claxon_input.specs.CheckedReader.{checked_source, checked_state};
-ghost use Rattle.claxon_input.specs.Remainders.{check8};
+ghost use Rattle.claxon_input.specs.CrcReader.{crc_source, crc_state};
+ghost use Rattle.claxon_input.specs.CrcUpdate.{update_crc8};
 ghost use Rattle.claxon_input.specs.State.{State, bytes_in};
-ghost use Rattle.claxon_input.specs.Gives.{Gives, GivesOrEnds};
-ghost use Rattle.claxon_frame.specs.FrameHeader.{HasCode, channel_code, channels_of, is_variable, least_size, time_number, widest, width_code};
-ghost use Rattle.claxon_input.specs.Error.{is_memory};
-ghost use Rattle.claxon_format.specs.read.Header.{fields_at, blocking_at, channels_at, codes_at, fields_after, guarded_at, number_in, rate_at, size_spelling, size_at, sync_at, width_at};
-ghost use Rattle.claxon_format.specs.read.Coded.{coded_number_at, followers_at, follower_at};
-ghost use Rattle.claxon_frame.specs.FrameStart.{HeaderIsRead, fields_view, rate_view, shape_view, size_view};
+ghost use Rattle.claxon_input.specs.Gives.{Gives, GivesOrEof};
+ghost use Rattle.claxon_frame.specs.FrameHeader.{HasBitDepthCode, channel_code, channels_of, is_variable, least_size, block_time_view, max_bit_depth, bit_depth_code};
+ghost use Rattle.claxon_input.specs.Error.{is_out_of_memory};
+ghost use Rattle.claxon_format.specs.read.Header.{fields_at, blocking_at, channels_at, codes_at, fields_after, fields_with_crc_at, number_in, rate_at, size_coding, size_at, sync_at, width_at};
+ghost use Rattle.claxon_format.specs.read.CodedNumber.{coded_number_at, continuation_bytes_at, continuation_byte_at};
+ghost use Rattle.claxon_frame.specs.FrameStart.{FrameHeaderIsRead, fields_view, rate_view, stream_format_view, size_view};
 ghost use Rattle.claxon_input.specs.Source.{KeepsLoans};
 
 mod parts;
@@ -28,21 +28,21 @@ use parts::{BlockSize, BlockTime, BlockingStrategy, HeaderFields, SampleRate};
 #[cfg(test)]
 mod tests;
 
-pub use parts::{ChannelAssignment, FrameHeader, KnownStream};
+pub use parts::{ChannelAssignment, FrameHeader, KnownStreamFormat};
 
 /// Reads the header of the next frame, its guard included. None where fewer than two bytes were left, which are taken.
 pub fn read_frame_header_or_eof<R: ReadBytes>(
     input: &mut R,
-    stream: Option<KnownStream>,
+    stream: Option<KnownStreamFormat>,
 ) -> Result<Option<FrameHeader>>
-    ensures gives { HeaderIsRead R.source (shape_view stream) input.old result input.new }
-    ensures no_memory { IfErr result (λ error. is_memory error ≡ false) }
+    ensures gives { FrameHeaderIsRead R.source (stream_format_view stream) input.old result input.new }
+    ensures no_memory { IfErr result (λ error. is_out_of_memory error ≡ false) }
     ensures loans { KeepsLoans (R.source input.old) (R.source input.new) }
 {
-    let Some(fields) = read_guarded_fields(input)? else {
+    let Some(fields) = read_fields_with_crc(input)? else {
         return Ok(None);
     };
-    let bits_per_sample = resolve_width(&fields, stream)?;
+    let bits_per_sample = resolve_bit_depth(&fields, stream)?;
     Ok(Some(FrameHeader {
         time: time_of_block(&fields, stream),
         block_size: fields.block_size,
@@ -52,25 +52,25 @@ pub fn read_frame_header_or_eof<R: ReadBytes>(
 }
 
 // How many samples of each channel stand before a frame.
-fn time_of_block(fields: &HeaderFields, stream: Option<KnownStream>) -> u64
-    ensures { result ≡ time_of (shape_view stream) (header_of (known_width (shape_view stream)) (fields_view fields.now)) }
+fn time_of_block(fields: &HeaderFields, stream: Option<KnownStreamFormat>) -> u64
+    ensures { result ≡ time_of (stream_format_view stream) (header_of (known_width (stream_format_view stream)) (fields_view fields.now)) }
 {
     match fields.block_time {
         BlockTime::SampleNumber(number) => number,
         BlockTime::FrameNumber(number) => u64::from(number)
-            * u64::from(size_before(fields.block_size, stream)),
+            * u64::from(previous_block_size(fields.block_size, stream)),
     }
 }
 
 // How many samples stand before a frame for each frame before it.
-fn size_before(block_size: u16, stream: Option<KnownStream>) -> u16
-    ensures { result ≡ block_step (shape_view stream) block_size }
+fn previous_block_size(block_size: u16, stream: Option<KnownStreamFormat>) -> u16
+    ensures { result ≡ block_step (stream_format_view stream) block_size }
 {
-    let Some(shape) = stream else {
+    let Some(format) = stream else {
         return block_size;
     };
-    if shape.min_block_size == shape.max_block_size {
-        shape.min_block_size
+    if format.min_block_size == format.max_block_size {
+        format.min_block_size
     } else {
         block_size
     }
@@ -78,17 +78,17 @@ fn size_before(block_size: u16, stream: Option<KnownStream>) -> u16
 
 // The width that the header names, or else that of the stream.
 #[tactic(auto, unfolding(claxon_format::specs::read::Header::width_at, claxon_format::specs::Fault::fault_text))]
-fn resolve_width(fields: &HeaderFields, stream: Option<KnownStream>) -> Result<u32>
-    ensures value { IfOk result (λ bits. widest fields.now.channel_assignment bits ≤ 32) }
-    ensures gives { (here : State ℕ) → Gives (λ x. x) result (width_at (known_width (shape_view stream)) (fields_view fields.now)) here here }
+fn resolve_bit_depth(fields: &HeaderFields, stream: Option<KnownStreamFormat>) -> Result<u32>
+    ensures value { IfOk result (λ bits. max_bit_depth fields.now.channel_assignment bits ≤ 32) }
+    ensures gives { (here : State ℕ) → Gives (λ x. x) result (width_at (known_width (stream_format_view stream)) (fields_view fields.now)) here here }
 {
     if let Some(bits) = fields.bits_per_sample {
         return Ok(bits);
     }
-    let Some(shape) = stream else {
+    let Some(format) = stream else {
         return Err(Error::Unsupported("header without bits per sample info"));
     };
-    let bits = shape.bits_per_sample;
+    let bits = format.bits_per_sample;
     match fields.channel_assignment {
         ChannelAssignment::Independent(_) => Ok(bits),
         _ if bits < 32 => Ok(bits),
@@ -96,31 +96,31 @@ fn resolve_width(fields: &HeaderFields, stream: Option<KnownStream>) -> Result<u
     }
 }
 
-// The remainder is made here and read through by `read_checked_fields`, over a reference: the prover loses the shape of a
+// The remainder is made here and read through by `read_and_check_fields`, over a reference: the prover loses the shape of a
 // wrapper around another that is made in the same function, and here the other one is the frame's remainder of 16 bits.
-fn read_guarded_fields<R: ReadBytes>(input: &mut R) -> Result<Option<HeaderFields>>
-    ensures { GivesOrEnds 2 fields_view result guarded_at (bytes_in R.source input.old) (bytes_in R.source input.new) }
+fn read_fields_with_crc<R: ReadBytes>(input: &mut R) -> Result<Option<HeaderFields>>
+    ensures { GivesOrEof 2 fields_view result fields_with_crc_at (bytes_in R.source input.old) (bytes_in R.source input.new) }
 {
     let mut input = Crc8Reader::new(input);
-    read_checked_fields(&mut input)
+    read_and_check_fields(&mut input)
 }
 
 // Reads the fields through a remainder that begins with them, and then the guard.
-fn read_checked_fields<R: ReadBytes>(input: &mut Crc8Reader<R>) -> Result<Option<HeaderFields>>
-    requires { checked_state input.old ≡ 0 }
-    ensures { GivesOrEnds 2 fields_view result guarded_at (bytes_in (checked_source R.source check8) input.old) (bytes_in (checked_source R.source check8) input.new) }
+fn read_and_check_fields<R: ReadBytes>(input: &mut Crc8Reader<R>) -> Result<Option<HeaderFields>>
+    requires { crc_state input.old ≡ 0 }
+    ensures { GivesOrEof 2 fields_view result fields_with_crc_at (bytes_in (crc_source R.source update_crc8) input.old) (bytes_in (crc_source R.source update_crc8) input.new) }
 {
     let Some(fields) = read_fields_or_eof(input)? else {
         return Ok(None);
     };
     let computed = input.crc();
-    check_guard(input, computed)?;
+    check_header_crc(input, computed)?;
     Ok(Some(fields))
 }
 
-#[tactic(auto, using(claxon_input::proofs::ByteFields::first_number), unfolding(claxon_format::specs::read::Bytes::expected_at, claxon_format::specs::Fault::fault_text))]
-fn check_guard<R: ReadBytes>(input: &mut R, computed: u8) -> Result<()>
-    ensures { Gives (λ x. tt) result (expected_at 1 computed HeaderGuard) (bytes_in R.source input.old) (bytes_in R.source input.new) }
+#[tactic(auto, using(claxon_input::proofs::ByteFields::first_number), unfolding(claxon_format::specs::read::Bytes::crc_at, claxon_format::specs::Fault::fault_text))]
+fn check_header_crc<R: ReadBytes>(input: &mut R, computed: u8) -> Result<()>
+    ensures { Gives (λ x. tt) result (crc_at 1 computed HeaderCrc) (bytes_in R.source input.old) (bytes_in R.source input.new) }
 {
     let stored = input.read_u8()?;
     if stored != computed {
@@ -130,7 +130,7 @@ fn check_guard<R: ReadBytes>(input: &mut R, computed: u8) -> Result<()>
 }
 
 fn read_fields_or_eof<R: ReadBytes>(input: &mut R) -> Result<Option<HeaderFields>>
-    ensures { GivesOrEnds 2 fields_view result (fields_at big_at) (bytes_in R.source input.old) (bytes_in R.source input.new) }
+    ensures { GivesOrEof 2 fields_view result (fields_at big_at) (bytes_in R.source input.old) (bytes_in R.source input.new) }
 {
     let Some(blocking) = read_sync_or_eof(input)? else {
         return Ok(None);
@@ -142,7 +142,7 @@ fn read_fields<R: ReadBytes>(input: &mut R, blocking: BlockingStrategy) -> Resul
     ensures { Gives fields_view result (fields_after big_at (is_variable blocking)) (bytes_in R.source input.old) (bytes_in R.source input.new) }
 {
     let (size, rate) = read_size_and_rate(input)?;
-    let (channel_assignment, bits_per_sample) = read_channels_and_width(input)?;
+    let (channel_assignment, bits_per_sample) = read_channels_and_bit_depth(input)?;
     let block_time = read_block_time(input, blocking)?;
     let block_size = read_block_size(input, size)?;
     skip_rate(input, rate)?;
@@ -154,9 +154,9 @@ fn read_fields<R: ReadBytes>(input: &mut R, blocking: BlockingStrategy) -> Resul
     })
 }
 
-#[tactic(auto, using(claxon_input::proofs::FieldOrEnd::ended))]
+#[tactic(auto, using(claxon_input::proofs::FieldOrEof::ended))]
 fn read_sync_or_eof<R: ReadBytes>(input: &mut R) -> Result<Option<BlockingStrategy>>
-    ensures { GivesOrEnds 2 is_variable result (sync_at big_at) (bytes_in R.source input.old) (bytes_in R.source input.new) }
+    ensures { GivesOrEof 2 is_variable result (sync_at big_at) (bytes_in R.source input.old) (bytes_in R.source input.new) }
 {
     let Some(sync) = input.read_be_u16_or_eof()? else {
         return Ok(None);
@@ -202,7 +202,7 @@ fn block_size_of(code: u8) -> BlockSize
     requires some { 1 ≤ code }
     requires most { code ≤ 15 }
     ensures some { 1 ≤ least_size result }
-    ensures kind { size_view result ≡ size_spelling code }
+    ensures kind { size_view result ≡ size_coding code }
 {
     match code {
         1 => BlockSize::Known(192),
@@ -225,11 +225,11 @@ fn sample_rate_of(code: u8) -> SampleRate
 
 // The width is None where it is that of the stream.
 #[tactic(auto, using(claxon_input::proofs::ByteFields::first_number), unfolding(claxon_format::specs::read::Header::channels_at, claxon_format::specs::Fault::fault_text))]
-fn read_channels_and_width<R: ReadBytes>(input: &mut R) -> Result<(ChannelAssignment, Option<u32>)>
+fn read_channels_and_bit_depth<R: ReadBytes>(input: &mut R) -> Result<(ChannelAssignment, Option<u32>)>
     ensures some { IfOk result (λ codes. 1 ≤ channels_of codes.0) }
     ensures few { IfOk result (λ codes. channels_of codes.0 ≤ 8) }
-    ensures named { IfOk result (λ codes. ForSome codes.1 HasCode) }
-    ensures gives { Gives (λ codes. (channel_code codes.0, width_code codes.1)) result (channels_at big_at) (bytes_in R.source input.old) (bytes_in R.source input.new) }
+    ensures named { IfOk result (λ codes. ForSome codes.1 HasBitDepthCode) }
+    ensures gives { Gives (λ codes. (channel_code codes.0, bit_depth_code codes.1)) result (channels_at big_at) (bytes_in R.source input.old) (bytes_in R.source input.new) }
 {
     let codes = input.read_u8()?;
     let channel_assignment = match codes >> 4 {
@@ -239,7 +239,7 @@ fn read_channels_and_width<R: ReadBytes>(input: &mut R) -> Result<(ChannelAssign
         10 => ChannelAssignment::MidSideStereo,
         _ => return Err(Error::FormatError("invalid frame header, encountered reserved value")),
     };
-    let bits_per_sample = width_named((codes >> 1) & 0b111)?;
+    let bits_per_sample = bit_depth_of((codes >> 1) & 0b111)?;
     if codes & 1 == 1 {
         return Err(Error::FormatError("invalid frame header, encountered reserved value"));
     }
@@ -248,10 +248,10 @@ fn read_channels_and_width<R: ReadBytes>(input: &mut R) -> Result<(ChannelAssign
 
 // The width that a code names, None where it is that of the stream: whether that is known is asked behind the header's CRC.
 #[tactic(auto, unfolding(claxon_format::specs::Fault::fault_text))]
-fn width_named(code: u8) -> Result<Option<u32>>
+fn bit_depth_of(code: u8) -> Result<Option<u32>>
     requires { code < 8 }
-    ensures named { IfOk result (λ width. ForSome width HasCode) }
-    ensures gives { (here : State ℕ) → Gives width_code result (test (width_reserved code) WidthReserved (done code)) here here }
+    ensures named { IfOk result (λ width. ForSome width HasBitDepthCode) }
+    ensures gives { (here : State ℕ) → Gives bit_depth_code result (test (bit_depth_reserved code) BitDepthReserved (done code)) here here }
 {
     match code {
         0 => Ok(None),
@@ -266,7 +266,7 @@ fn width_named(code: u8) -> Result<Option<u32>>
 
 #[tactic(auto, unfolding(claxon_format::specs::read::Header::number_in, claxon_format::specs::Fault::fault_text))]
 fn read_block_time<R: ReadBytes>(input: &mut R, blocking: BlockingStrategy) -> Result<BlockTime>
-    ensures { Gives time_number result (number_in big_at (is_variable blocking)) (bytes_in R.source input.old) (bytes_in R.source input.new) }
+    ensures { Gives block_time_view result (number_in big_at (is_variable blocking)) (bytes_in R.source input.old) (bytes_in R.source input.new) }
 {
     let number = read_var_length_int(input)?;
     match blocking {
@@ -286,7 +286,7 @@ fn read_block_time<R: ReadBytes>(input: &mut R, blocking: BlockingStrategy) -> R
 // The ones that the first byte begins with say how many bytes there are: none of them in a number of one byte, 0xxxxxxx, two in
 // 110xxxxx 10xxxxxx, and seven in 11111110 with six bytes behind it. A zero ends them; the bits behind it and the low six
 // bits of each byte that follows are the number, the highest first. Numbers in more bytes than they need are accepted.
-#[tactic(auto, using(claxon_input::proofs::ByteFields::first_number), unfolding(claxon_format::specs::read::Coded::coded_number_at, claxon_format::specs::Fault::fault_text))]
+#[tactic(auto, using(claxon_input::proofs::ByteFields::first_number), unfolding(claxon_format::specs::read::CodedNumber::coded_number_at, claxon_format::specs::Fault::fault_text))]
 fn read_var_length_int<R: ReadBytes>(input: &mut R) -> Result<u64>
     ensures { Gives (λ x. x) result (coded_number_at big_at) (bytes_in R.source input.old) (bytes_in R.source input.new) }
 {
@@ -295,38 +295,38 @@ fn read_var_length_int<R: ReadBytes>(input: &mut R) -> Result<u64>
     if ones == 0 {
         return Ok(u64::from(first));
     }
-    if begins_no_number(first) {
+    if is_invalid_first_byte(first) {
         return Err(Error::FormatError("invalid variable-length integer"));
     }
-    read_followers(input, ones - 1, u64::from(first & (0x7f >> ones)))
+    read_continuation_bytes(input, ones - 1, u64::from(first & (0x7f >> ones)))
 }
 
 // A byte 10xxxxxx follows a first one, and 11111111 begins no number.
-fn begins_no_number(first: u8) -> bool
+fn is_invalid_first_byte(first: u8) -> bool
     ensures { result ≡ bad_first first }
 {
     matches!(first, 0x80..=0xbf | 0xff)
 }
 
 // So many bytes more of a number, six bits each.
-fn read_followers<R: ReadBytes>(input: &mut R, count: u32, number: u64) -> Result<u64>
+fn read_continuation_bytes<R: ReadBytes>(input: &mut R, count: u32, number: u64) -> Result<u64>
     requires count { count ≤ 6 }
     requires number { number < 64 }
-    ensures { Gives (λ x. x) result (followers_at big_at count number) (bytes_in R.source input.old) (bytes_in R.source input.new) }
+    ensures { Gives (λ x. x) result (continuation_bytes_at big_at count number) (bytes_in R.source input.old) (bytes_in R.source input.new) }
 {
     let mut number = number;
     for _ in 0..count {
-        number = number << 6 | u64::from(read_follower(input)?);
+        number = number << 6 | u64::from(read_continuation_byte(input)?);
     }
     Ok(number)
 }
 
 // Six bits of a number.
 #[inline(always)]
-#[tactic(auto, using(claxon_input::proofs::ByteFields::first_number), unfolding(claxon_format::specs::read::Coded::follower_at, claxon_format::specs::Fault::fault_text))]
-fn read_follower<R: ReadBytes>(input: &mut R) -> Result<u8>
+#[tactic(auto, using(claxon_input::proofs::ByteFields::first_number), unfolding(claxon_format::specs::read::CodedNumber::continuation_byte_at, claxon_format::specs::Fault::fault_text))]
+fn read_continuation_byte<R: ReadBytes>(input: &mut R) -> Result<u8>
     ensures fits { IfOk result (λ bits. bits < 64) }
-    ensures gives { Gives (λ x. x) result (follower_at big_at) (bytes_in R.source input.old) (bytes_in R.source input.new) }
+    ensures gives { Gives (λ x. x) result (continuation_byte_at big_at) (bytes_in R.source input.old) (bytes_in R.source input.new) }
 {
     let byte = input.read_u8()?;
     if byte >> 6 != 0b10 {

@@ -1,7 +1,7 @@
 //! Left and right from two coded channels, in place (RFC 9639, section 4.2). All sums are modulo 2^32.
 ghost use Rattle.std.specs.Prelude.{◌≤◌};
 ghost use Rattle.claxon_frame.specs.FrameHeader.{channels_of};
-ghost use Rattle.claxon_frame.specs.Unmixing.{AreUnmixed, IsUnmixed};
+ghost use Rattle.claxon_frame.specs.Decorrelation.{ChannelsAreDecoded, PairIsDecoded};
 
 use super::header::ChannelAssignment;
 
@@ -9,9 +9,9 @@ use super::header::ChannelAssignment;
 mod tests;
 
 /// Turns the coded channels, which stand one after another, into those that they stand for.
-pub fn unmix(channel_assignment: ChannelAssignment, buffer: &mut [i32])
+pub fn undo_decorrelation(channel_assignment: ChannelAssignment, buffer: &mut [i32])
     requires { channels_of channel_assignment ≤ 8 }
-    ensures { AreUnmixed channel_assignment buffer.old buffer.new }
+    ensures { ChannelsAreDecoded channel_assignment buffer.old buffer.new }
 {
     match channel_assignment {
         ChannelAssignment::Independent(_) => {}
@@ -25,7 +25,7 @@ pub fn unmix(channel_assignment: ChannelAssignment, buffer: &mut [i32])
 // coded as it is.
 #[inline(never)]
 fn decode_left_side(buffer: &mut [i32])
-    ensures { IsUnmixed 8 buffer.old buffer.new }
+    ensures { PairIsDecoded 8 buffer.old buffer.new }
 {
     let half = buffer.len() / 2;
     let (left, side) = buffer.split_at_mut(half);
@@ -37,7 +37,7 @@ fn decode_left_side(buffer: &mut [i32])
 // The side comes first here, and right is coded as it is.
 #[inline(never)]
 fn decode_right_side(buffer: &mut [i32])
-    ensures { IsUnmixed 9 buffer.old buffer.new }
+    ensures { PairIsDecoded 9 buffer.old buffer.new }
 {
     let half = buffer.len() / 2;
     let (side, right) = buffer.split_at_mut(half);
@@ -51,7 +51,7 @@ fn decode_right_side(buffer: &mut [i32])
 // the difference together are twice left, and the sum without the difference is twice right.
 #[inline(never)]
 fn decode_mid_side(buffer: &mut [i32])
-    ensures { IsUnmixed 10 buffer.old buffer.new }
+    ensures { PairIsDecoded 10 buffer.old buffer.new }
 {
     let half = buffer.len() / 2;
     let (mid, side) = buffer.split_at_mut(half);

@@ -3,17 +3,17 @@ ghost use Rattle.std.specs.Prelude.{◌≡◌, ◌≤◌, ◌-◌, ◌/◌, true
 ghost use Rattle.std.specs.List.{list_all, position};
 ghost use Rattle.claxon_format.specs.Comments as comments;
 ghost use Rattle.claxon_format.specs.Comments.{is_separator, not_utf8};
-ghost use Rattle.claxon_format.specs.read.Comments.{entry_at, kept_at, entries_at, vendor_at, count_at, comment_at};
+ghost use Rattle.claxon_format.specs.read.Comments.{entry_at, entry_or_empty_at, entries_at, vendor_at, count_at, comment_at};
 ghost use Rattle.claxon_format.specs.Fault.{EntryNotUtf8};
-ghost use Rattle.claxon_format.specs.Metadata.{most_bytes};
-ghost use Rattle.claxon_input.specs.Promises.{IsStarved};
+ghost use Rattle.claxon_format.specs.Metadata.{max_content_bytes};
+ghost use Rattle.claxon_input.specs.Promises.{IsOutOfMemory};
 ghost use Rattle.claxon_input.specs.State.{bytes_in};
-ghost use Rattle.claxon_input.specs.Gives.{Gives, GivesOrStarves};
+ghost use Rattle.claxon_input.specs.Gives.{Gives, GivesOrOutOfMemory};
 ghost use Rattle.claxon_input.specs.Error.{IsFault};
 ghost use Rattle.claxon_input.specs.declared.error.Error.TheVariants.{FormatError};
-ghost use Rattle.claxon_metadata.specs.ReadMetadataBlock.{AtMostIsTaken, CommentIsRead};
-ghost use Rattle.claxon_metadata.specs.VorbisComment.{EndIsTested, LengthIsRead, StarvesBehindVendorLength, kept_view};
-ghost use Rattle.claxon_metadata.specs.TagEntries.{HavePlaces, IsPlace, entry_view, entries_view};
+ghost use Rattle.claxon_metadata.specs.ReadMetadataBlock.{AtMostIsConsumed, CommentIsRead};
+ghost use Rattle.claxon_metadata.specs.VorbisComment.{EndIsChecked, LengthIsRead, OutOfMemoryAfterVendorLength, entry_or_empty_view};
+ghost use Rattle.claxon_metadata.specs.TagEntries.{HaveSeparatorIndices, IsSeparatorIndex, entry_view, entries_view};
 
 use super::{MAX_BLOCK_LENGTH, VorbisComment, read_bytes};
 use claxon_input::error::{Error, Result};
@@ -27,12 +27,12 @@ pub fn read_vorbis_comment_block<R: ReadBytes, A: Allocator + Copy>(
     input: &mut R,
     length: u32,
 ) -> Result<VorbisComment<A>>
-    ensures places { IfOk result (λ comment. HavePlaces comment.comments.items) }
+    ensures separators { IfOk result (λ comment. HaveSeparatorIndices comment.comments.items) }
     // Memory is asked for only after the lengths of the block and of its vendor were tested.
-    ensures memory { IsStarved result → (8 ≤ length) × (length ≤ most_bytes) }
-    ensures vendor { StarvesBehindVendorLength (length - 8) result (bytes_in R.source input.old) }
+    ensures memory { IsOutOfMemory result → (8 ≤ length) × (length ≤ max_content_bytes) }
+    ensures vendor { OutOfMemoryAfterVendorLength (length - 8) result (bytes_in R.source input.old) }
     ensures gives { CommentIsRead R.source length input.old result input.new }
-    ensures within { AtMostIsTaken R.source length input.old input.new }
+    ensures within { AtMostIsConsumed R.source length input.old input.new }
 {
     if length < 8 {
         return Err(Error::FormatError("Vorbis comment block is too short"));
@@ -54,7 +54,7 @@ pub fn read_vorbis_comment_block<R: ReadBytes, A: Allocator + Copy>(
 fn read_length<R: ReadBytes>(input: &mut R, most: u32, too_long: &'static str) -> Result<u32>
     ensures most { IfOk result (λ length. length ≤ most) }
     ensures gives { LengthIsRead R.source most (FormatError too_long.entry) input.old result input.new }
-    ensures within { AtMostIsTaken R.source 4 input.old input.new }
+    ensures within { AtMostIsConsumed R.source 4 input.old input.new }
 {
     let length = input.read_le_u32()?;
     if length > most {
@@ -69,8 +69,8 @@ fn read_vendor<R: ReadBytes, A: Allocator>(
     input: &mut R,
     length: u32,
 ) -> Result<String<A>>
-    ensures gives { GivesOrStarves string_bytes result (vendor_at length) (bytes_in R.source input.old) (bytes_in R.source input.new) }
-    ensures within { AtMostIsTaken R.source length input.old input.new }
+    ensures gives { GivesOrOutOfMemory string_bytes result (vendor_at length) (bytes_in R.source input.old) (bytes_in R.source input.new) }
+    ensures within { AtMostIsConsumed R.source length input.old input.new }
 {
     let bytes = read_bytes(alloc, input, length)?;
     text_of(bytes)
@@ -92,7 +92,7 @@ fn text_of<A: Allocator>(bytes: Vec<u8, A>) -> Result<String<A>>
 #[tactic(auto, using(claxon_input::proofs::ByteFields::little_numbers), unfolding(claxon_format::specs::read::Comments::count_at, claxon_format::specs::Fault::fault_text))]
 fn read_count<R: ReadBytes>(input: &mut R, limit: u32) -> Result<u32>
     ensures gives { Gives (λ x. x) result (count_at limit) (bytes_in R.source input.old) (bytes_in R.source input.new) }
-    ensures within { AtMostIsTaken R.source 4 input.old input.new }
+    ensures within { AtMostIsConsumed R.source 4 input.old input.new }
 {
     let count = input.read_le_u32()?;
     if count >= limit {
@@ -108,9 +108,9 @@ fn read_entries<R: ReadBytes, A: Allocator + Copy>(
     count: u32,
     length: u32,
 ) -> Result<Vec<(String<A>, usize), A>>
-    ensures places { IfOk result (λ comments. HavePlaces comments.items) }
-    ensures gives { GivesOrStarves (λ comments. entries_view comments.items) result (entries_at count length) (bytes_in R.source input.old) (bytes_in R.source input.new) }
-    ensures within { AtMostIsTaken R.source length input.old input.new }
+    ensures separators { IfOk result (λ comments. HaveSeparatorIndices comments.items) }
+    ensures gives { GivesOrOutOfMemory (λ comments. entries_view comments.items) result (entries_at count length) (bytes_in R.source input.old) (bytes_in R.source input.new) }
+    ensures within { AtMostIsConsumed R.source length input.old input.new }
 {
     let mut comments = Vec::new(alloc);
     let mut missing = count;
@@ -121,7 +121,7 @@ fn read_entries<R: ReadBytes, A: Allocator + Copy>(
             bytes_left - 4,
             "Vorbis comment too long for Vorbis comment block",
         )?;
-        if let Some(entry) = read_kept_entry(alloc, input, entry_length)? {
+        if let Some(entry) = read_entry_or_empty(alloc, input, entry_length)? {
             comments.push(entry)?;
         }
         missing -= 1;
@@ -134,7 +134,7 @@ fn read_entries<R: ReadBytes, A: Allocator + Copy>(
 // Whether all entries were read, and all bytes.
 #[tactic(auto, unfolding(claxon_format::specs::Fault::fault_text))]
 fn check_end(missing: u32, bytes_left: u32) -> Result<()>
-    ensures { EndIsTested missing bytes_left result }
+    ensures { EndIsChecked missing bytes_left result }
 {
     if bytes_left > 0 {
         return Err(Error::FormatError("Vorbis comment block has excess data"));
@@ -146,15 +146,15 @@ fn check_end(missing: u32, bytes_left: u32) -> Result<()>
 }
 
 // An entry of that many bytes, unless it is empty: old encoders write such, which say nothing.
-#[tactic(auto, unfolding(claxon_format::specs::read::Comments::kept_at))]
-fn read_kept_entry<R: ReadBytes, A: Allocator>(
+#[tactic(auto, unfolding(claxon_format::specs::read::Comments::entry_or_empty_at))]
+fn read_entry_or_empty<R: ReadBytes, A: Allocator>(
     alloc: A,
     input: &mut R,
     length: u32,
 ) -> Result<Option<(String<A>, usize)>>
-    ensures place { IfOk result (λ found. IfSome found (λ entry. IsPlace (string_bytes entry.0) entry.1)) }
-    ensures gives { GivesOrStarves kept_view result (kept_at length) (bytes_in R.source input.old) (bytes_in R.source input.new) }
-    ensures within { AtMostIsTaken R.source length input.old input.new }
+    ensures place { IfOk result (λ found. IfSome found (λ entry. IsSeparatorIndex (string_bytes entry.0) entry.1)) }
+    ensures gives { GivesOrOutOfMemory entry_or_empty_view result (entry_or_empty_at length) (bytes_in R.source input.old) (bytes_in R.source input.new) }
+    ensures within { AtMostIsConsumed R.source length input.old input.new }
 {
     if length == 0 {
         return Ok(None);
@@ -169,9 +169,9 @@ fn read_entry<R: ReadBytes, A: Allocator>(
     input: &mut R,
     length: u32,
 ) -> Result<(String<A>, usize)>
-    ensures place { IfOk result (λ entry. IsPlace (string_bytes entry.0) entry.1) }
-    ensures gives { GivesOrStarves entry_view result (entry_at length) (bytes_in R.source input.old) (bytes_in R.source input.new) }
-    ensures within { AtMostIsTaken R.source length input.old input.new }
+    ensures place { IfOk result (λ entry. IsSeparatorIndex (string_bytes entry.0) entry.1) }
+    ensures gives { GivesOrOutOfMemory entry_view result (entry_at length) (bytes_in R.source input.old) (bytes_in R.source input.new) }
+    ensures within { AtMostIsConsumed R.source length input.old input.new }
 {
     let bytes = read_bytes(alloc, input, length)?;
     let Some(place) = first_separator(&bytes) else {

@@ -3,7 +3,7 @@ ghost use Rattle.std.specs.Prelude.{◌≡◌, Some, IfSome, length, string_byte
 ghost use Rattle.std.specs.Iterator.{UpTo, YieldsFirstBy, YieldsFirstRef, item_count};
 ghost use Rattle.std.specs.Iterator.SizeHint.{IsWithinCount};
 ghost use Rattle.claxon_format.specs.Pairs.{pair, pairs, values};
-ghost use Rattle.claxon_metadata.specs.TagEntries.{HavePlaces, IsPlace, entry_view, entries_view, shown};
+ghost use Rattle.claxon_metadata.specs.TagEntries.{HaveSeparatorIndices, IsSeparatorIndex, entry_view, entries_view, shown};
 
 use std::alloc::{Allocator, Global};
 
@@ -11,16 +11,16 @@ use std::alloc::{Allocator, Global};
 #[derive(Drop)]
 pub struct Tags<'a, A: Allocator = Global> {
     comments: &'a [(String<A>, usize)],
-    ghost places: { HavePlaces comments.now },
+    ghost separators: { HaveSeparatorIndices comments.now },
 }
 
 impl<'a, A: Allocator> Tags<'a, A> {
-    ghost use Rattle.claxon_metadata.specs.Tags.{tags_left};
+    ghost use Rattle.claxon_metadata.specs.Tags.{remaining_tags};
 
     /// Goes over texts, each with the place of a character of one byte that parts it.
     pub fn new(comments: &'a [(String<A>, usize)]) -> Tags<'a, A>
-        requires { HavePlaces comments.now }
-        ensures { tags_left result ≡ pairs (entries_view comments.now) }
+        requires { HaveSeparatorIndices comments.now }
+        ensures { remaining_tags result ≡ pairs (entries_view comments.now) }
     {
         Tags { comments }
     }
@@ -28,7 +28,7 @@ impl<'a, A: Allocator> Tags<'a, A> {
 
 // The text before the place and the text after it.
 fn split<A: Allocator>(comment: &(String<A>, usize)) -> (&str, &str)
-    requires { IsPlace (string_bytes comment.now.0) comment.now.1 }
+    requires { IsSeparatorIndex (string_bytes comment.now.0) comment.now.1 }
     ensures { shown result ≡ pair (entry_view comment.now) }
 {
     let text = comment.0.as_str();
@@ -37,13 +37,13 @@ fn split<A: Allocator>(comment: &(String<A>, usize)) -> (&str, &str)
 }
 
 impl<'a, A: Allocator> Iterator for Tags<'a, A> {
-    ghost use Rattle.claxon_metadata.specs.Tags.{tags_left};
+    ghost use Rattle.claxon_metadata.specs.Tags.{remaining_tags};
 
     type Item = (&'a str, &'a str);
 
-    ghost next_gives = { YieldsFirstBy shown tags_left };
+    ghost next_gives = { YieldsFirstBy shown remaining_tags };
 
-    ghost remaining = { item_count tags_left };
+    ghost remaining = { item_count remaining_tags };
 
     fn next(&mut self) -> Option<(&'a str, &'a str)> {
         let (first, rest) = self.comments.split_first()?;
@@ -51,18 +51,18 @@ impl<'a, A: Allocator> Iterator for Tags<'a, A> {
         Some(split(first))
     }
 
-    #[tactic(auto, using(crate::proofs::TagPlaces::hints))]
+    #[tactic(auto, using(crate::proofs::TagSeparators::hints))]
     fn size_hint(&self) -> (usize, Option<usize>)
-        ensures exact { result ≡ (length (tags_left self.now), Some (length (tags_left self.now))) }
-        ensures lower { IsWithinCount result.0 (item_count tags_left self.now) }
-        ensures upper { IfSome result.1 (UpTo (item_count tags_left self.now)) }
+        ensures exact { result ≡ (length (remaining_tags self.now), Some (length (remaining_tags self.now))) }
+        ensures lower { IsWithinCount result.0 (item_count remaining_tags self.now) }
+        ensures upper { IfSome result.1 (UpTo (item_count remaining_tags self.now)) }
     {
         (self.comments.len(), Some(self.comments.len()))
     }
 }
 
 impl<A: Allocator> ExactSizeIterator for Tags<'_, A> {
-    #[tactic(auto, using(crate::proofs::TagPlaces::hints))]
+    #[tactic(auto, using(crate::proofs::TagSeparators::hints))]
     fn len(&self) -> usize {
         self.comments.len()
     }
@@ -78,13 +78,13 @@ pub struct GetTag<'a, A: Allocator = Global> {
 }
 
 impl<'a, A: Allocator> GetTag<'a, A> {
-    ghost use Rattle.claxon_metadata.specs.Tags.{values_left};
+    ghost use Rattle.claxon_metadata.specs.Tags.{remaining_values};
 
     /// Looks for the name among texts, each with the place of a character of one byte that
     /// parts it.
     pub fn new(vorbis_comments: &'a [(String<A>, usize)], needle: &'a str) -> GetTag<'a, A>
-        requires { HavePlaces vorbis_comments.now }
-        ensures { values_left result ≡ values needle.now (pairs (entries_view vorbis_comments.now)) }
+        requires { HaveSeparatorIndices vorbis_comments.now }
+        ensures { remaining_values result ≡ values needle.now (pairs (entries_view vorbis_comments.now)) }
     {
         GetTag {
             tags: Tags::new(vorbis_comments),
@@ -94,13 +94,13 @@ impl<'a, A: Allocator> GetTag<'a, A> {
 }
 
 impl<'a, A: Allocator> Iterator for GetTag<'a, A> {
-    ghost use Rattle.claxon_metadata.specs.Tags.{values_left};
+    ghost use Rattle.claxon_metadata.specs.Tags.{remaining_values};
 
     type Item = &'a str;
 
-    ghost next_gives = { YieldsFirstRef values_left };
+    ghost next_gives = { YieldsFirstRef remaining_values };
 
-    ghost remaining = { item_count values_left };
+    ghost remaining = { item_count remaining_values };
 
     fn next(&mut self) -> Option<&'a str> {
         while let Some((name, value)) = self.tags.next() {

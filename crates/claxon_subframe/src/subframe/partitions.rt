@@ -1,22 +1,22 @@
-//! Partitions that stand whole in the bits at hand, which are skipped at once behind the last of them. Short ones cost little so.
+//! Partitions that stand whole in the bits at hand, which are skipped at once behind the last of them. Incomplete ones cost little so.
 ghost use Rattle.std.specs.Prelude.{◌≡◌, ◌+◌, ◌*◌, ◌≤◌, ◌<◌, IfOk, IfErr, OnErr, length, take, replicate};
 ghost use Rattle.std.specs.Bool.{MatchBool};
 ghost use Rattle.claxon_format.specs.read.Residual.{joined_at, partition_at};
-ghost use Rattle.claxon_input.specs.Ahead.{bits_ahead, GivesAhead};
+ghost use Rattle.claxon_input.specs.BufferedBits.{bits_in_buffer, GivesBuffered};
 ghost use Rattle.claxon_input.specs.State.{bits_in};
-ghost use Rattle.claxon_input.specs.Gives.{Stuck};
+ghost use Rattle.claxon_input.specs.Gives.{FailureOr};
 ghost use Rattle.claxon_input.specs.Error.{IsIo};
 ghost use Rattle.claxon_subframe.specs.Partitions.{PartitionsAreRead};
 ghost use Rattle.claxon_subframe.specs.SubframeFields.{method_of};
 
 use super::RicePartitionType;
-use super::words::words_ahead;
+use super::words::decode_buffered_codes;
 use claxon_input::error::Result;
-use claxon_input::input::{Ahead, Bitstream, ReadBytes};
+use claxon_input::input::{BufferedBits, Bitstream, ReadBytes};
 
 /// Reads as many partitions as stand whole in the bits at hand, each of `each` entries, and says how many. Only the source can
 /// fail.
-pub fn read_partitions_at_hand<R: ReadBytes>(
+pub fn read_buffered_partitions<R: ReadBytes>(
     input: &mut Bitstream<R>,
     partition_type: RicePartitionType,
     each: u16,
@@ -27,19 +27,19 @@ pub fn read_partitions_at_hand<R: ReadBytes>(
     ensures few { IfOk result (λ whole. whole ≤ most) }
     ensures ok { PartitionsAreRead R.source (method_of partition_type) each input.old result input.new buffer.new }
     ensures io { IfErr result IsIo }
-    ensures err { OnErr result (Stuck (bits_in R.source input.old) (bits_in R.source input.new) (λ s. ⊥)) }
+    ensures err { OnErr result (FailureOr (bits_in R.source input.old) (bits_in R.source input.new) (λ s. ⊥)) }
 {
-    let mut ahead = input.ahead();
-    let bits = ahead.len();
-    let whole = partitions_ahead(&mut ahead, partition_type, each, most, buffer);
-    let passed = bits - ahead.len();
+    let mut buffered = input.buffered();
+    let bits = buffered.len();
+    let whole = decode_buffered_partitions(&mut buffered, partition_type, each, most, buffer);
+    let passed = bits - buffered.len();
     input.skip_bits(passed)?;
     Ok(whole)
 }
 
 // The same without an input: how many of so many partitions stand whole in the bits at hand.
-fn partitions_ahead(
-    ahead: &mut Ahead,
+fn decode_buffered_partitions(
+    buffered: &mut BufferedBits,
     partition_type: RicePartitionType,
     each: u16,
     most: u32,
@@ -47,13 +47,13 @@ fn partitions_ahead(
 ) -> u32
     requires room { most * each ≤ length buffer.old }
     ensures few { result ≤ most }
-    ensures read { GivesAhead ahead.old ahead.new (joined_at (partition_at (method_of partition_type)) (replicate result each)) (take (result * each) buffer.new) }
+    ensures read { GivesBuffered buffered.old buffered.new (joined_at (partition_at (method_of partition_type)) (replicate result each)) (take (result * each) buffer.new) }
 {
     let each = each as usize;
     let mut whole = 0;
     let mut start = 0;
     while whole < most {
-        if !partition_ahead(ahead, partition_type, &mut buffer[start..start + each]) {
+        if !decode_buffered_partition(buffered, partition_type, &mut buffer[start..start + each]) {
             break;
         }
         whole += 1;
@@ -63,13 +63,13 @@ fn partitions_ahead(
 }
 
 // A partition of words, where it stands whole in the bits at hand. Otherwise what is in the buffer is of no use.
-fn partition_ahead(ahead: &mut Ahead, partition_type: RicePartitionType, buffer: &mut [i32]) -> bool
+fn decode_buffered_partition(buffered: &mut BufferedBits, partition_type: RicePartitionType, buffer: &mut [i32]) -> bool
     requires { length buffer.now < 65536 }
-    ensures { MatchBool result (GivesAhead ahead.old ahead.new (partition_at (method_of partition_type) (length buffer.new)) buffer.new) (bits_ahead ahead.new ≡ bits_ahead ahead.old) }
+    ensures { MatchBool result (GivesBuffered buffered.old buffered.new (partition_at (method_of partition_type) (length buffer.new)) buffer.new) (bits_in_buffer buffered.new ≡ bits_in_buffer buffered.old) }
 {
     let bits = partition_type.parameter_bits();
     let escape = (1 << bits) - 1;
-    let mut next = *ahead;
+    let mut next = *buffered;
     let Some(parameter) = next.number(bits) else {
         return false;
     };
@@ -77,9 +77,9 @@ fn partition_ahead(ahead: &mut Ahead, partition_type: RicePartitionType, buffer:
     if parameter == escape || next.len() < buffer.len() as u32 * (parameter + 1) {
         return false;
     }
-    if words_ahead(&mut next, parameter, buffer) < buffer.len() {
+    if decode_buffered_codes(&mut next, parameter, buffer) < buffer.len() {
         return false;
     }
-    *ahead = next;
+    *buffered = next;
     true
 }

@@ -2,10 +2,10 @@
 ghost use Rattle.std.specs.Prelude.{◌≡◌, ◌+◌, ◌-◌, ◌*◌, ◌^◌, ◌<◌, ◌≤◌, true, false, ◌++◌, length, take, drop, reverse, replicate, get_or, pos, FitsSigned};
 ghost use Rattle.std.specs.Int.{w32};
 ghost use Rattle.claxon_format.specs.Predict.{wrap, dot, fixed, floor_shift, linear, restored};
-ghost use Rattle.claxon_subframe.specs.Predictor.{SamplesCameBack};
-ghost use Rattle.claxon_subframe.specs.Lanes.{Within, Lanes, Wide, plus_products, two_on};
-ghost use Rattle.claxon_subframe.specs.Sums.{but_newest_five, AreTaps, SmallTaps, WideSums, WaitsTwoOn, WaitsAfterNone, WaitsAfter, IsPutUp, AddsProduct, IsSample, IsFollowed, AreNewest, IsFollowedByTwo};
-ghost use Rattle.claxon_subframe.specs.Twelve.{numbers, SmallTwelve, WideTwelve, AreTwelveTaps, SmallTwelveTaps, ArePendingTwoOn, ArePendingAfterNone, ArePendingAfter};
+ghost use Rattle.claxon_subframe.specs.Predictor.{SamplesAreRestored};
+ghost use Rattle.claxon_subframe.specs.Lanes.{Within, Lanes, LanesFit64, plus_products, advanced_by_two};
+ghost use Rattle.claxon_subframe.specs.Sums.{but_newest_five, AreTaps, SmallTaps, SumsFit64, ArePendingSumsAfterTwo, ArePendingSumsBeforeAll, ArePendingSumsAfter, IsScaledUp, AddsProduct, IsSample, IsFollowed, AreNewest, IsFollowedByTwo};
+ghost use Rattle.claxon_subframe.specs.TwelveLanes.{numbers, SmallTwelve, TwelveFit64, AreTwelveTaps, SmallTwelveTaps, AreTwelvePendingAfterTwo, AreTwelvePendingBeforeAll, AreTwelvePendingAfter};
 
 use std::simd::prelude::*;
 
@@ -17,7 +17,7 @@ mod tests;
 pub fn predict_fixed(order: u32, buffer: &mut [i32])
     requires some { 1 ≤ order }
     requires most { order ≤ 4 }
-    requires warm { order ≤ length buffer.old }
+    requires warm_up { order ≤ length buffer.old }
     ensures { buffer.new ≡ restored (fixed order) order buffer.old }
 {
     match order {
@@ -30,7 +30,7 @@ pub fn predict_fixed(order: u32, buffer: &mut [i32])
 
 #[inline(never)]
 fn predict_fixed_1(buffer: &mut [i32])
-    requires warm { 1 ≤ length buffer.old }
+    requires warm_up { 1 ≤ length buffer.old }
     ensures { buffer.new ≡ restored (fixed 1) 1 buffer.old }
 {
     let mut newest = buffer[0];
@@ -42,7 +42,7 @@ fn predict_fixed_1(buffer: &mut [i32])
 
 #[inline(never)]
 fn predict_fixed_2(buffer: &mut [i32])
-    requires warm { 2 ≤ length buffer.old }
+    requires warm_up { 2 ≤ length buffer.old }
     ensures { buffer.new ≡ restored (fixed 2) 2 buffer.old }
 {
     let mut second = buffer[0];
@@ -58,7 +58,7 @@ fn predict_fixed_2(buffer: &mut [i32])
 
 #[inline(never)]
 fn predict_fixed_3(buffer: &mut [i32])
-    requires warm { 3 ≤ length buffer.old }
+    requires warm_up { 3 ≤ length buffer.old }
     ensures { buffer.new ≡ restored (fixed 3) 3 buffer.old }
 {
     let mut third = buffer[0];
@@ -78,7 +78,7 @@ fn predict_fixed_3(buffer: &mut [i32])
 
 #[inline(never)]
 fn predict_fixed_4(buffer: &mut [i32])
-    requires warm { 4 ≤ length buffer.old }
+    requires warm_up { 4 ≤ length buffer.old }
     ensures { buffer.new ≡ restored (fixed 4) 4 buffer.old }
 {
     let mut fourth = buffer[0];
@@ -134,9 +134,9 @@ fn shifted_down(sum: i64, shift: u32) -> i64
 #[inline(never)]
 fn predict_plain(coefficients: &[i16], shift: u32, buffer: &mut [i32])
     requires few { length coefficients.now ≤ 32 }
-    requires warm { length coefficients.now ≤ length buffer.old }
+    requires warm_up { length coefficients.now ≤ length buffer.old }
     requires shift { shift ≤ 15 }
-    ensures { SamplesCameBack coefficients.now shift buffer.old buffer.new }
+    ensures { SamplesAreRestored coefficients.now shift buffer.old buffer.new }
 {
     let order = coefficients.len();
     for i in order..buffer.len() {
@@ -150,7 +150,7 @@ fn predict_plain(coefficients: &[i16], shift: u32, buffer: &mut [i32])
 /// coefficient belongs to the newest sample; they are turned round. (RFC 9639, section 9.2.6.)
 pub fn predict_lpc(coefficients: &mut [i16], shift: u32, buffer: &mut [i32])
     requires few { length coefficients.old ≤ 32 }
-    requires warm { length coefficients.old ≤ length buffer.old }
+    requires warm_up { length coefficients.old ≤ length buffer.old }
     requires shift { shift ≤ 15 }
     ensures { buffer.new ≡ restored (linear coefficients.old shift) (length coefficients.old) buffer.old }
 {
@@ -167,55 +167,55 @@ pub fn predict_lpc(coefficients: &mut [i16], shift: u32, buffer: &mut [i32])
 /// oldest first, and the residual after them. (RFC 9639, section 9.2.6.)
 pub fn predict_lpc_high_order(coefficients: &[i16], shift: u32, buffer: &mut [i32])
     requires few { length coefficients.now ≤ 32 }
-    requires warm { length coefficients.now ≤ length buffer.old }
+    requires warm_up { length coefficients.now ≤ length buffer.old }
     requires shift { shift ≤ 15 }
-    ensures { SamplesCameBack coefficients.now shift buffer.old buffer.new }
+    ensures { SamplesAreRestored coefficients.now shift buffer.old buffer.new }
 {
     match coefficients.len() {
-        ..=16 => predict_from_first::<3>(coefficients, shift, buffer),
-        17..=20 => predict_from_first::<4>(coefficients, shift, buffer),
-        21..=24 => predict_from_first::<5>(coefficients, shift, buffer),
-        25..=28 => predict_from_first::<6>(coefficients, shift, buffer),
-        _ => predict_from_first::<7>(coefficients, shift, buffer),
+        ..=16 => predict_by_vectors::<3>(coefficients, shift, buffer),
+        17..=20 => predict_by_vectors::<4>(coefficients, shift, buffer),
+        21..=24 => predict_by_vectors::<5>(coefficients, shift, buffer),
+        25..=28 => predict_by_vectors::<6>(coefficients, shift, buffer),
+        _ => predict_by_vectors::<7>(coefficients, shift, buffer),
     }
 }
 
 /// The same of a predictor of at most 12 coefficients.
 pub fn predict_lpc_low_order(coefficients: &[i16], shift: u32, buffer: &mut [i32])
     requires few { length coefficients.now ≤ 12 }
-    requires warm { length coefficients.now ≤ length buffer.old }
+    requires warm_up { length coefficients.now ≤ length buffer.old }
     requires shift { shift ≤ 15 }
-    ensures { SamplesCameBack coefficients.now shift buffer.old buffer.new }
+    ensures { SamplesAreRestored coefficients.now shift buffer.old buffer.new }
 {
     // The first twelve places by the plain sum, the others by lanes.
     let front = buffer.len().min(12);
     predict_plain(coefficients, shift, &mut buffer[..front]);
-    let twelve = padded_coefficients(coefficients);
+    let twelve = padded_to_twelve(coefficients);
     if coefficients.len() <= 8 {
-        predict_by_twelve::<1>(&twelve, shift, buffer);
+        predict_12_taps::<1>(&twelve, shift, buffer);
     } else {
-        predict_by_twelve::<2>(&twelve, shift, buffer);
+        predict_12_taps::<2>(&twelve, shift, buffer);
     }
 }
 
 // The first 32 places by the plain sum, the others by running sums in `VECTORS` vectors.
 #[inline(always)]
-fn predict_from_first<const VECTORS: usize>(coefficients: &[i16], shift: u32, buffer: &mut [i32])
+fn predict_by_vectors<const VECTORS: usize>(coefficients: &[i16], shift: u32, buffer: &mut [i32])
     requires vectors { VECTORS ≤ 7 }
     requires some { 3 ≤ VECTORS }
     requires few { length coefficients.now ≤ 4 * VECTORS + 4 }
-    requires warm { length coefficients.now ≤ length buffer.old }
+    requires warm_up { length coefficients.now ≤ length buffer.old }
     requires shift { shift ≤ 15 }
-    ensures { SamplesCameBack coefficients.now shift buffer.old buffer.new }
+    ensures { SamplesAreRestored coefficients.now shift buffer.old buffer.new }
 {
     let front = buffer.len().min(32);
     predict_plain(coefficients, shift, &mut buffer[..front]);
-    predict_by_sums::<VECTORS>(&last_of_many::<32>(coefficients), shift, buffer);
+    predict_32_taps::<VECTORS>(&padded_coefficients::<32>(coefficients), shift, buffer);
 }
 
 // The coefficients as the last of so many numbers, zeros before them.
 #[inline(always)]
-fn last_of_many<const COUNT: usize>(coefficients: &[i16]) -> [i64; COUNT]
+fn padded_coefficients<const COUNT: usize>(coefficients: &[i16]) -> [i64; COUNT]
     requires { length coefficients.now ≤ COUNT }
     ensures value { result ≡ replicate (COUNT - length coefficients.now) (pos 0) ++ coefficients.now }
     ensures small { Within (2 ^ 15) result }
@@ -250,7 +250,7 @@ fn spread(sample: i64) -> i64x4
 // Each sum and the product of its lane, modulo 2^64.
 #[inline(always)]
 fn add_products(sums: i64x4, coefficients: i64x4, samples: i64x4) -> i64x4
-    requires sums { Wide sums }
+    requires sums { LanesFit64 sums }
     requires coefficients { Lanes (2 ^ 15) coefficients }
     requires samples { Lanes (2 ^ 31) samples }
     ensures { result ≡ plus_products sums coefficients samples }
@@ -260,11 +260,11 @@ fn add_products(sums: i64x4, coefficients: i64x4, samples: i64x4) -> i64x4
 
 // Lanes two places on: the last two before some and the first two of these.
 #[inline(always)]
-fn two_lanes_on(before: i64x4, lanes: i64x4) -> i64x4
-    requires before { Wide before }
-    requires lanes { Wide lanes }
+fn shift_two_lanes(before: i64x4, lanes: i64x4) -> i64x4
+    requires before { LanesFit64 before }
+    requires lanes { LanesFit64 lanes }
     ensures value { result ≡ drop 2 before ++ take 2 lanes }
-    ensures wide { Wide result }
+    ensures wide { LanesFit64 result }
 {
     before.shuffle(lanes, [2, 3, 4, 5])
 }
@@ -272,7 +272,7 @@ fn two_lanes_on(before: i64x4, lanes: i64x4) -> i64x4
 // The sums of four places, two places on: the last two lanes before `sums` and its first two, and what two samples add. Where
 // no coefficient is left for these places, all of that is zeros.
 #[inline(always)]
-fn later_sums(
+fn advance_lanes(
     has_taps: bool,
     before: i64x4,
     sums: i64x4,
@@ -281,29 +281,29 @@ fn later_sums(
     for_newest: i64x4,
     newest: i64x4,
 ) -> i64x4
-    requires before { Wide before }
-    requires sums { Wide sums }
+    requires before { LanesFit64 before }
+    requires sums { LanesFit64 sums }
     requires for_second { Lanes (2 ^ 15) for_second }
     requires second { Lanes (2 ^ 31) second }
     requires for_newest { Lanes (2 ^ 15) for_newest }
     requires newest { Lanes (2 ^ 31) newest }
-    ensures value { has_taps ≡ true → result ≡ two_on before sums for_second second for_newest newest }
+    ensures value { has_taps ≡ true → result ≡ advanced_by_two before sums for_second second for_newest newest }
     ensures zeros { has_taps ≡ false → result ≡ replicate 4 (pos 0) }
-    ensures wide { Wide result }
+    ensures wide { LanesFit64 result }
 {
     if !has_taps {
         return i64x4::splat(0);
     }
-    let moved = two_lanes_on(before, sums);
+    let moved = shift_two_lanes(before, sums);
     add_products(add_products(moved, for_second, second), for_newest, newest)
 }
 
 // The residuals of the nearest two places as the last two lanes, the nearest place's last.
 #[inline(always)]
-fn residual_lanes(nearest: i32, farther: i32) -> i64x4
+fn residuals_in_lanes(nearest: i32, farther: i32) -> i64x4
     ensures nearest { get_or result 3 (pos 0) ≡ nearest }
     ensures farther { get_or result 2 (pos 0) ≡ farther }
-    ensures wide { Wide result }
+    ensures wide { LanesFit64 result }
 {
     i32x4::from_array([0, 0, farther, nearest]).cast::<i64>()
 }
@@ -311,14 +311,14 @@ fn residual_lanes(nearest: i32, farther: i32) -> i64x4
 // The sums that wait for the nearest two places, each with the residual of its place. All is put up so far that one shift by
 // 32 drops what `shift` would, and leaves a number of 32 bits.
 #[inline(always)]
-fn put_up(sums: i64x4, nearest: i32, farther: i32, shift: u32) -> (i64, i64)
-    requires sums { Wide sums }
+fn scaled_up(sums: i64x4, nearest: i32, farther: i32, shift: u32) -> (i64, i64)
+    requires sums { LanesFit64 sums }
     requires shift { shift ≤ 15 }
-    ensures nearest { IsPutUp (get_or sums 3 (pos 0)) nearest shift result.0 }
-    ensures farther { IsPutUp (get_or sums 2 (pos 0)) farther shift result.1 }
+    ensures nearest { IsScaledUp (get_or sums 3 (pos 0)) nearest shift result.0 }
+    ensures farther { IsScaledUp (get_or sums 2 (pos 0)) farther shift result.1 }
 {
     let up = i64x4::splat(i64::from(32 - shift));
-    let residuals = residual_lanes(nearest, farther);
+    let residuals = residuals_in_lanes(nearest, farther);
     let [_, _, second, first] = ((sums << up) + (residuals << i64x4::splat(32))).to_array();
     (first, second)
 }
@@ -373,13 +373,13 @@ impl Five {
         farther: i32,
         shift: u32,
     ) -> Five
-        requires pending { Wide pending }
+        requires pending { LanesFit64 pending }
         requires shift { shift ≤ 15 }
         ensures value { IsFollowedByTwo self coefficients pending nearest farther shift result }
         ensures second { FitsSigned w32 result.second }
         ensures newest { FitsSigned w32 result.newest }
     {
-        let (nearest, farther) = put_up(pending, nearest, farther, shift);
+        let (nearest, farther) = scaled_up(pending, nearest, farther, shift);
         let one = sample_of(nearest, coefficients, self, shift);
         let before = self.followed_by(one);
         let two = sample_of(farther, coefficients, before, shift);
@@ -411,10 +411,10 @@ fn sample_of(early: i64, coefficients: Five, samples: Five, shift: u32) -> i64
     add_product(two, coefficients.newest, samples.newest, shift) >> 32
 }
 
-// Twelve numbers in three vectors, the farthest first: coefficients, the oldest sample's first, or the pending sums of the next
+// TwelveLanes numbers in three vectors, the farthest first: coefficients, the oldest sample's first, or the pending sums of the next
 // twelve places.
 #[derive(Clone, Copy)]
-struct Twelve {
+struct TwelveLanes {
     at_8: i64x4,
     at_4: i64x4,
     at_0: i64x4,
@@ -437,13 +437,13 @@ struct TwelveTaps {
 
 // The coefficients, the oldest sample's first, as the last of twelve numbers, zeros before them.
 #[inline(always)]
-fn padded_coefficients(coefficients: &[i16]) -> Twelve
+fn padded_to_twelve(coefficients: &[i16]) -> TwelveLanes
     requires { length coefficients.now ≤ 12 }
     ensures value { numbers result ≡ replicate (12 - length coefficients.now) (pos 0) ++ coefficients.now }
     ensures small { SmallTwelve result }
 {
-    let many = last_of_many::<12>(coefficients);
-    Twelve {
+    let many = padded_coefficients::<12>(coefficients);
+    TwelveLanes {
         at_8: i64x4::from_array([many[0], many[1], many[2], many[3]]),
         at_4: i64x4::from_array([many[4], many[5], many[6], many[7]]),
         at_0: i64x4::from_array([many[8], many[9], many[10], many[11]]),
@@ -451,7 +451,7 @@ fn padded_coefficients(coefficients: &[i16]) -> Twelve
 }
 
 #[inline(always)]
-fn taps_of_twelve(coefficients: &Twelve) -> TwelveTaps
+fn taps_of_twelve(coefficients: &TwelveLanes) -> TwelveTaps
     requires { SmallTwelve coefficients.now }
     ensures value { AreTwelveTaps (but_newest_five (reverse (numbers coefficients.now))) result }
     ensures small { SmallTwelveTaps result }
@@ -472,11 +472,11 @@ fn taps_of_twelve(coefficients: &Twelve) -> TwelveTaps
 
 // No sum is pending.
 #[inline(always)]
-fn no_pending() -> Twelve
-    ensures { ArePendingAfterNone result }
+fn no_twelve_sums() -> TwelveLanes
+    ensures { AreTwelvePendingBeforeAll result }
 {
     let zeros = i64x4::splat(0);
-    Twelve {
+    TwelveLanes {
         at_8: zeros,
         at_4: zeros,
         at_0: zeros,
@@ -485,25 +485,25 @@ fn no_pending() -> Twelve
 
 // The pending sums, two samples on. Where `VECTORS` is 1 the farthest four places have no coefficients.
 #[inline(always)]
-fn pending_two_on<const VECTORS: usize>(
-    sums: Twelve,
+fn advance_twelve_sums<const VECTORS: usize>(
+    sums: TwelveLanes,
     taps: TwelveTaps,
     one: i64,
     two: i64,
-) -> Twelve
-    requires sums { WideTwelve sums }
+) -> TwelveLanes
+    requires sums { TwelveFit64 sums }
     requires taps { SmallTwelveTaps taps }
     requires one { FitsSigned w32 one }
     requires two { FitsSigned w32 two }
     requires some { 1 ≤ VECTORS }
-    ensures value { ArePendingTwoOn VECTORS taps sums one two result }
-    ensures wide { WideTwelve result }
+    ensures value { AreTwelvePendingAfterTwo VECTORS taps sums one two result }
+    ensures wide { TwelveFit64 result }
 {
     let (one, two) = (spread(one), spread(two));
     let zeros = i64x4::splat(0);
     let (second, newest) = (taps.second, taps.newest);
-    Twelve {
-        at_8: later_sums(
+    TwelveLanes {
+        at_8: advance_lanes(
             VECTORS > 1,
             zeros,
             sums.at_8,
@@ -512,7 +512,7 @@ fn pending_two_on<const VECTORS: usize>(
             newest.at_8,
             two,
         ),
-        at_4: later_sums(
+        at_4: advance_lanes(
             true,
             sums.at_8,
             sums.at_4,
@@ -521,24 +521,24 @@ fn pending_two_on<const VECTORS: usize>(
             newest.at_4,
             two,
         ),
-        at_0: two_lanes_on(sums.at_4, sums.at_0),
+        at_0: shift_two_lanes(sums.at_4, sums.at_0),
     }
 }
 
 // The pending sums of the places after these samples, which are as many as there are coefficients.
 #[inline(always)]
-fn first_pending<const VECTORS: usize>(taps: TwelveTaps, samples: &[i32]) -> Twelve
+fn first_twelve_sums<const VECTORS: usize>(taps: TwelveTaps, samples: &[i32]) -> TwelveLanes
     requires samples { length samples.now ≡ 4 * VECTORS + 4 }
     requires taps { SmallTwelveTaps taps }
     requires some { 1 ≤ VECTORS }
     requires vectors { VECTORS ≤ 2 }
-    ensures { ArePendingAfter VECTORS taps samples.now result }
+    ensures { AreTwelvePendingAfter VECTORS taps samples.now result }
 {
-    let mut sums = no_pending();
+    let mut sums = no_twelve_sums();
     for pair in 0..2 * VECTORS + 2 {
         let second = i64::from(samples[2 * pair]);
         let newest = i64::from(samples[2 * pair + 1]);
-        sums = pending_two_on::<VECTORS>(sums, taps, second, newest);
+        sums = advance_twelve_sums::<VECTORS>(sums, taps, second, newest);
     }
     sums
 }
@@ -550,7 +550,7 @@ fn first_pending<const VECTORS: usize>(taps: TwelveTaps, samples: &[i32]) -> Twe
 // newest alone have to be waited for, and no sum that was just made is. The coefficients come by reference and this isn't
 // inlined, so that `narrow` keeps its shifts.
 #[inline(never)]
-fn predict_by_twelve<const VECTORS: usize>(coefficients: &Twelve, shift: u32, buffer: &mut [i32])
+fn predict_12_taps<const VECTORS: usize>(coefficients: &TwelveLanes, shift: u32, buffer: &mut [i32])
     requires shift { shift ≤ 15 }
     requires small { SmallTwelve coefficients.now }
     requires vectors { VECTORS ≤ 2 }
@@ -571,14 +571,14 @@ fn predict_by_twelve<const VECTORS: usize>(coefficients: &Twelve, shift: u32, bu
         newest: first,
     };
     let taps = taps_of_twelve(coefficients);
-    let mut sums = first_pending::<VECTORS>(taps, &buffer[8 - 4 * VECTORS..12]);
+    let mut sums = first_twelve_sums::<VECTORS>(taps, &buffer[8 - 4 * VECTORS..12]);
     let mut newest = Five::of(&buffer[7..12]);
     for pair in 6..buffer.len() / 2 {
         let i = 2 * pair;
         newest = newest.followed_by_two(last, sums.at_0, buffer[i], buffer[i + 1], shift);
         buffer[i] = low_bits(newest.second);
         buffer[i + 1] = low_bits(newest.newest);
-        sums = pending_two_on::<VECTORS>(sums, taps, newest.second, newest.newest);
+        sums = advance_twelve_sums::<VECTORS>(sums, taps, newest.second, newest.newest);
     }
     // A last place alone.
     if buffer.len() % 2 == 1 {
@@ -649,7 +649,7 @@ fn taps_of(many: &[i64; 32]) -> Taps
 // No sum waits.
 #[inline(always)]
 fn no_sums() -> Sums
-    ensures { WaitsAfterNone result }
+    ensures { ArePendingSumsBeforeAll result }
 {
     let zeros = i64x4::splat(0);
     Sums {
@@ -668,22 +668,22 @@ fn no_sums() -> Sums
 
 // The sums that wait for the next places, two samples on. Where `VECTORS` is less than 7 the farthest places have no coefficients.
 #[inline(always)]
-fn sums_two_on<const VECTORS: usize>(sums: Sums, taps: Taps, one: i64, two: i64) -> Sums
-    requires sums { WideSums sums }
+fn advance_sums<const VECTORS: usize>(sums: Sums, taps: Taps, one: i64, two: i64) -> Sums
+    requires sums { SumsFit64 sums }
     requires taps { SmallTaps taps }
     requires one { FitsSigned w32 one }
     requires two { FitsSigned w32 two }
     requires some { 3 ≤ VECTORS }
-    ensures value { WaitsTwoOn VECTORS taps sums one two result }
-    ensures wide { WideSums result }
+    ensures value { ArePendingSumsAfterTwo VECTORS taps sums one two result }
+    ensures wide { SumsFit64 result }
 {
     let (one, two) = (spread(one), spread(two));
     let zeros = i64x4::splat(0);
     let old = sums.later;
     let (second, newest) = (taps.second, taps.newest);
     let later = Later {
-        at_4: later_sums(true, old.at_8, old.at_4, second.at_4, one, newest.at_4, two),
-        at_8: later_sums(
+        at_4: advance_lanes(true, old.at_8, old.at_4, second.at_4, one, newest.at_4, two),
+        at_8: advance_lanes(
             true,
             old.at_12,
             old.at_8,
@@ -692,7 +692,7 @@ fn sums_two_on<const VECTORS: usize>(sums: Sums, taps: Taps, one: i64, two: i64)
             newest.at_8,
             two,
         ),
-        at_12: later_sums(
+        at_12: advance_lanes(
             true,
             old.at_16,
             old.at_12,
@@ -701,7 +701,7 @@ fn sums_two_on<const VECTORS: usize>(sums: Sums, taps: Taps, one: i64, two: i64)
             newest.at_12,
             two,
         ),
-        at_16: later_sums(
+        at_16: advance_lanes(
             VECTORS > 3,
             old.at_20,
             old.at_16,
@@ -710,7 +710,7 @@ fn sums_two_on<const VECTORS: usize>(sums: Sums, taps: Taps, one: i64, two: i64)
             newest.at_16,
             two,
         ),
-        at_20: later_sums(
+        at_20: advance_lanes(
             VECTORS > 4,
             old.at_24,
             old.at_20,
@@ -719,7 +719,7 @@ fn sums_two_on<const VECTORS: usize>(sums: Sums, taps: Taps, one: i64, two: i64)
             newest.at_20,
             two,
         ),
-        at_24: later_sums(
+        at_24: advance_lanes(
             VECTORS > 5,
             old.at_28,
             old.at_24,
@@ -728,7 +728,7 @@ fn sums_two_on<const VECTORS: usize>(sums: Sums, taps: Taps, one: i64, two: i64)
             newest.at_24,
             two,
         ),
-        at_28: later_sums(
+        at_28: advance_lanes(
             VECTORS > 6,
             zeros,
             old.at_28,
@@ -739,7 +739,7 @@ fn sums_two_on<const VECTORS: usize>(sums: Sums, taps: Taps, one: i64, two: i64)
         ),
     };
     Sums {
-        at_0: two_lanes_on(old.at_4, sums.at_0),
+        at_0: shift_two_lanes(old.at_4, sums.at_0),
         later,
     }
 }
@@ -751,21 +751,21 @@ fn first_sums<const VECTORS: usize>(taps: Taps, samples: &[i32]) -> Sums
     requires taps { SmallTaps taps }
     requires some { 3 ≤ VECTORS }
     requires vectors { VECTORS ≤ 7 }
-    ensures { WaitsAfter VECTORS taps samples.now result }
+    ensures { ArePendingSumsAfter VECTORS taps samples.now result }
 {
     let mut sums = no_sums();
     for pair in 0..2 * VECTORS + 2 {
         let second = i64::from(samples[2 * pair]);
         let newest = i64::from(samples[2 * pair + 1]);
-        sums = sums_two_on::<VECTORS>(sums, taps, second, newest);
+        sums = advance_sums::<VECTORS>(sums, taps, second, newest);
     }
     sums
 }
 
-// Places from 32 on, each by its newest samples, as many as there are coefficients, as `predict_by_twelve` does. Where `VECTORS`
+// Places from 32 on, each by its newest samples, as many as there are coefficients, as `predict_12_taps` does. Where `VECTORS`
 // is less than 7 the oldest coefficients are zeros.
 #[inline(never)]
-fn predict_by_sums<const VECTORS: usize>(many: &[i64; 32], shift: u32, buffer: &mut [i32])
+fn predict_32_taps<const VECTORS: usize>(many: &[i64; 32], shift: u32, buffer: &mut [i32])
     requires shift { shift ≤ 15 }
     requires small { Within (2 ^ 15) many.now }
     requires vectors { VECTORS ≤ 7 }
@@ -791,7 +791,7 @@ fn predict_by_sums<const VECTORS: usize>(many: &[i64; 32], shift: u32, buffer: &
         newest = newest.followed_by_two(last, sums.at_0, buffer[i], buffer[i + 1], shift);
         buffer[i] = low_bits(newest.second);
         buffer[i + 1] = low_bits(newest.newest);
-        sums = sums_two_on::<VECTORS>(sums, taps, newest.second, newest.newest);
+        sums = advance_sums::<VECTORS>(sums, taps, newest.second, newest.newest);
     }
     // A last place alone.
     if buffer.len() % 2 == 1 {

@@ -4,15 +4,15 @@ ghost use Rattle.std.specs.Prelude.{◌≡◌, ◌<◌, ◌≤◌, ◌++◌, IfO
 ghost use Rattle.claxon_format.specs.Bits.{Bits};
 ghost use Rattle.claxon_format.specs.Reading.{Done, times_at};
 ghost use Rattle.claxon_format.specs.read.Bits.{signed_at};
-ghost use Rattle.claxon_input.specs.Ahead.{bits_ahead, GivesAhead};
+ghost use Rattle.claxon_input.specs.BufferedBits.{bits_in_buffer, GivesBuffered};
 ghost use Rattle.claxon_input.specs.State.{bits_in};
-ghost use Rattle.claxon_input.specs.Gives.{Went, Stuck};
+ghost use Rattle.claxon_input.specs.Gives.{Consumes, FailureOr};
 ghost use Rattle.claxon_input.specs.Error.{IsIo};
 ghost use Rattle.claxon_subframe.specs.Samples.{SamplesAreRead};
 
 use super::{extend_sign_u32, read_sample};
 use claxon_input::error::Result;
-use claxon_input::input::{Ahead, Bitstream, ReadBytes};
+use claxon_input::input::{BufferedBits, Bitstream, ReadBytes};
 
 /// So many samples of `bps` bits as the buffer is long.
 pub fn decode_verbatim<R: ReadBytes>(
@@ -26,7 +26,7 @@ pub fn decode_verbatim<R: ReadBytes>(
 {
     let mut start = 0;
     while start < buffer.len() {
-        start += read_samples_at_hand(input, bps, &mut buffer[start..])?;
+        start += read_buffered_samples(input, bps, &mut buffer[start..])?;
         if start < buffer.len() {
             buffer[start] = read_sample(input, bps)?;
             start += 1;
@@ -36,7 +36,7 @@ pub fn decode_verbatim<R: ReadBytes>(
 }
 
 // Reads the samples that stand whole in the bits at hand, and says how many. Only the source can fail.
-fn read_samples_at_hand<R: ReadBytes>(
+fn read_buffered_samples<R: ReadBytes>(
     input: &mut Bitstream<R>,
     bps: u32,
     buffer: &mut [i32],
@@ -44,14 +44,14 @@ fn read_samples_at_hand<R: ReadBytes>(
     requires some { 0 < bps }
     requires width { bps ≤ 32 }
     ensures few { IfOk result (λ samples. samples ≤ length buffer.new) }
-    ensures ok { IfOk result (λ samples. Went (bits_in R.source input.old) (bits_in R.source input.new) (λ s m. times_at samples (signed_at bps) s ≡ Done (take samples buffer.new) m)) }
+    ensures ok { IfOk result (λ samples. Consumes (bits_in R.source input.old) (bits_in R.source input.new) (λ s m. times_at samples (signed_at bps) s ≡ Done (take samples buffer.new) m)) }
     ensures io { IfErr result IsIo }
-    ensures err { OnErr result (Stuck (bits_in R.source input.old) (bits_in R.source input.new) (λ s. ⊥)) }
+    ensures err { OnErr result (FailureOr (bits_in R.source input.old) (bits_in R.source input.new) (λ s. ⊥)) }
 {
-    let mut ahead = input.ahead();
-    let bits = ahead.len();
-    let samples = samples_ahead(&mut ahead, bps, buffer);
-    let passed = bits - ahead.len();
+    let mut buffered = input.buffered();
+    let bits = buffered.len();
+    let samples = decode_buffered_samples(&mut buffered, bps, buffer);
+    let passed = bits - buffered.len();
     input.skip_bits(passed)?;
     Ok(samples)
 }
@@ -59,32 +59,32 @@ fn read_samples_at_hand<R: ReadBytes>(
 // Reads from a copy of the bits at hand. By the reference they would be stored and loaded at each sample, since it isn't known
 // not to reach into the buffer.
 #[inline(never)]
-fn samples_ahead(ahead: &mut Ahead, bps: u32, buffer: &mut [i32]) -> usize
+fn decode_buffered_samples(buffered: &mut BufferedBits, bps: u32, buffer: &mut [i32]) -> usize
     requires some { 0 < bps }
     requires width { bps ≤ 32 }
     ensures few { result ≤ length buffer.new }
-    ensures samples { (rest : Bits) → times_at result (signed_at bps) (bits_ahead ahead.old ++ rest) ≡ Done (take result buffer.new) (bits_ahead ahead.new ++ rest) }
+    ensures samples { (rest : Bits) → times_at result (signed_at bps) (bits_in_buffer buffered.old ++ rest) ≡ Done (take result buffer.new) (bits_in_buffer buffered.new ++ rest) }
 {
-    let mut next = *ahead;
+    let mut next = *buffered;
     let mut samples = 0;
     for place in buffer.iter_mut() {
-        let Some(sample) = sample_ahead(&mut next, bps) else {
+        let Some(sample) = decode_buffered_sample(&mut next, bps) else {
             break;
         };
         *place = sample;
         samples += 1;
     }
-    *ahead = next;
+    *buffered = next;
     samples
 }
 
 // A sample, where it stands whole in the bits at hand.
 #[inline(always)]
-fn sample_ahead(ahead: &mut Ahead, bps: u32) -> Option<i32>
+fn decode_buffered_sample(buffered: &mut BufferedBits, bps: u32) -> Option<i32>
     requires some { 0 < bps }
     requires width { bps ≤ 32 }
-    ensures { MatchOption result (bits_ahead ahead.new ≡ bits_ahead ahead.old) (GivesAhead ahead.old ahead.new (signed_at bps)) }
+    ensures { MatchOption result (bits_in_buffer buffered.new ≡ bits_in_buffer buffered.old) (GivesBuffered buffered.old buffered.new (signed_at bps)) }
 {
-    let sample = ahead.number(bps)?;
+    let sample = buffered.number(bps)?;
     Some(extend_sign_u32(sample, bps))
 }

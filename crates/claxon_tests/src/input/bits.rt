@@ -1,5 +1,5 @@
 //! Bits, bytes and remainders of worked bytes.
-use crate::input::guarded::read_guarded_pair;
+use crate::input::guarded::read_pair_with_crc;
 use claxon_input::crc::{Crc8Reader, Crc16Reader};
 use claxon_input::input::{Bitstream, BufferedReader, ReadBytes};
 use std::io;
@@ -163,14 +163,14 @@ fn buffered_bytes(rt: HostRuntime) -> Result<(), Fail> {
 }
 
 // What is left of so many bytes that are passed over, and of those that are read then.
-fn narrow_of<R: ReadBytes>(input: &mut R, count: u32, buffer: &mut [u8]) -> io::Result<u8> {
+fn crc8_of<R: ReadBytes>(input: &mut R, count: u32, buffer: &mut [u8]) -> io::Result<u8> {
     let mut reader = Crc8Reader::new(input);
     reader.skip(count)?;
     reader.read_into(buffer)?;
     Ok(reader.crc())
 }
 
-fn wide_of<R: ReadBytes>(input: &mut R, count: u32, buffer: &mut [u8]) -> io::Result<u16> {
+fn crc16_of<R: ReadBytes>(input: &mut R, count: u32, buffer: &mut [u8]) -> io::Result<u16> {
     let mut reader = Crc16Reader::new(input);
     reader.skip(count)?;
     reader.read_into(buffer)?;
@@ -194,11 +194,11 @@ fn remainders(rt: HostRuntime) -> Result<(), Fail> {
         let mut buffer = [0; 9];
         let rest = &mut buffer[..(bytes.len() as u32).saturating_sub(skipped).min(9) as usize];
         assert!(rt;
-            narrow_of(&mut Cursor::new(bytes), skipped, rest)? == narrow,
+            crc8_of(&mut Cursor::new(bytes), skipped, rest)? == narrow,
             "{skipped}"
         );
         assert!(rt;
-            wide_of(&mut Cursor::new(bytes), skipped, rest)? == wide,
+            crc16_of(&mut Cursor::new(bytes), skipped, rest)? == wide,
             "{skipped}"
         );
     }
@@ -206,9 +206,9 @@ fn remainders(rt: HostRuntime) -> Result<(), Fail> {
 }
 
 #[test]
-fn a_guarded_pair(rt: HostRuntime) -> Result<(), Fail> {
+fn a_pair_with_crc(rt: HostRuntime) -> Result<(), Fail> {
     let mut reader = Cursor::new([0xacu8, 0x04, 0x68, 0x11, 0xac, 0x04, 0x68, 0x10]);
-    assert!(rt; read_guarded_pair(&mut reader).ok() == Some((21, 257)));
-    assert!(rt; read_guarded_pair(&mut reader).is_err());
+    assert!(rt; read_pair_with_crc(&mut reader).ok() == Some((21, 257)));
+    assert!(rt; read_pair_with_crc(&mut reader).is_err());
     Ok(())
 }

@@ -196,23 +196,23 @@ fn buffered_runs_of_zeros(rt: HostRuntime) -> Result<(), Fail> {
 }
 
 // A number of 13 bits behind three bytes.
-fn number_behind_three<R: ReadBytes>(reader: &mut R) -> io::Result<u16> {
+fn number_after_three<R: ReadBytes>(reader: &mut R) -> io::Result<u16> {
     reader.skip(3)?;
     Bitstream::new(reader).read_leq_u16(13)
 }
 
 // The same, and the remainder.
-fn number_and_remainder<R: ReadBytes>(input: &mut R) -> io::Result<(u16, u16)> {
+fn number_and_crc<R: ReadBytes>(input: &mut R) -> io::Result<(u16, u16)> {
     let mut crc = Crc16Reader::new(input);
-    let number = number_behind_three(&mut crc)?;
+    let number = number_after_three(&mut crc)?;
     Ok((number, crc.crc()))
 }
 
 #[test]
 fn zeros_give_zero(rt: HostRuntime) -> Result<(), Fail> {
     let mut input = zeros_before(6, 0xff);
-    assert!(rt; input.at_hand().is_empty());
-    let (number, remainder) = number_and_remainder(&mut input)?;
+    assert!(rt; input.buffered().is_empty());
+    let (number, remainder) = number_and_crc(&mut input)?;
     assert!(rt; number == 0 && remainder == 0 && input.taken == 5);
     Ok(())
 }

@@ -1,28 +1,28 @@
 //! A field of bits with padding and a guard, read as a frame is: bits through a remainder, and then the guard in bytes.
 ghost use Rattle.std.specs.Prelude.{◌≡◌};
-ghost use Rattle.claxon_format.specs.Fault.{FrameGuard};
-ghost use Rattle.claxon_format.specs.read.Bytes.{by_bytes, expected_at};
-ghost use Rattle.claxon_input.specs.CheckedReader.{checked_source, checked_state};
-ghost use Rattle.claxon_input.specs.Remainders.{check16};
+ghost use Rattle.claxon_format.specs.Fault.{FrameCrc};
+ghost use Rattle.claxon_format.specs.read.Bytes.{by_bytes, crc_at};
+ghost use Rattle.claxon_input.specs.CrcReader.{crc_source, crc_state};
+ghost use Rattle.claxon_input.specs.CrcUpdate.{update_crc16};
 ghost use Rattle.claxon_input.specs.State.{bytes_in, bits_in};
 ghost use Rattle.claxon_input.specs.Gives.{Gives};
-ghost use Rattle.claxon_tests.specs.GuardedPair.{PairIsRead, pair_at, guarded_pair_at};
+ghost use Rattle.claxon_tests.specs.PairWithCrc.{PairIsRead, pair_at, pair_with_crc_at};
 
 use claxon_input::crc::Crc16Reader;
 use claxon_input::input::{Bitstream, ReadBytes};
 use claxon_input::{Error, Result};
 
 /// Reads two numbers, of 5 and of 9 bits, up to a byte border, and the guard of these bytes.
-pub fn read_guarded_pair<R: ReadBytes>(input: &mut R) -> Result<(u32, u32)>
+pub fn read_pair_with_crc<R: ReadBytes>(input: &mut R) -> Result<(u32, u32)>
     ensures { PairIsRead R.source input.old result input.new }
 {
     let mut input = Crc16Reader::new(input);
-    read_checked_pair(&mut input)
+    read_pair_through_crc(&mut input)
 }
 
-fn read_checked_pair<R: ReadBytes>(input: &mut Crc16Reader<R>) -> Result<(u32, u32)>
-    requires { checked_state input.old ≡ 0 }
-    ensures { Gives (λ pair. pair) result guarded_pair_at (bytes_in (checked_source R.source check16) input.old) (bytes_in (checked_source R.source check16) input.new) }
+fn read_pair_through_crc<R: ReadBytes>(input: &mut Crc16Reader<R>) -> Result<(u32, u32)>
+    requires { crc_state input.old ≡ 0 }
+    ensures { Gives (λ pair. pair) result pair_with_crc_at (bytes_in (crc_source R.source update_crc16) input.old) (bytes_in (crc_source R.source update_crc16) input.new) }
 {
     let pair = read_pair(input)?;
     let computed = input.crc();
@@ -37,7 +37,7 @@ fn read_pair<R: ReadBytes>(input: &mut R) -> Result<(u32, u32)>
     read_pair_of_bits(&mut bits)
 }
 
-#[tactic(auto, unfolding(crate::specs::GuardedPair::pair_at))]
+#[tactic(auto, unfolding(crate::specs::PairWithCrc::pair_at))]
 fn read_pair_of_bits<R: ReadBytes>(bits: &mut Bitstream<R>) -> Result<(u32, u32)>
     ensures { Gives (λ pair. pair) result pair_at (bits_in R.source bits.old) (bits_in R.source bits.new) }
 {
@@ -47,7 +47,7 @@ fn read_pair_of_bits<R: ReadBytes>(bits: &mut Bitstream<R>) -> Result<(u32, u32)
 }
 
 fn check_guard<R: ReadBytes>(input: &mut R, computed: u16) -> Result<()>
-    ensures { Gives (λ x. tt) result (expected_at 2 computed FrameGuard) (bytes_in R.source input.old) (bytes_in R.source input.new) }
+    ensures { Gives (λ x. tt) result (crc_at 2 computed FrameCrc) (bytes_in R.source input.old) (bytes_in R.source input.new) }
 {
     if input.read_be_u16()? != computed {
         return Err(Error::FormatError("frame CRC mismatch"));

@@ -1,7 +1,7 @@
 //! The blocks of a stream, put into a WAV file.
 ghost use Rattle.std.specs.Prelude.{◌≡◌, false};
 ghost use Rattle.claxon.specs.FlacReader.{flac_metadata_only};
-ghost use Rattle.claxon_tools.specs.Convert.{ConvertsAll, ConvertsNotAll, PutsBlocks, StopsAtBlock};
+ghost use Rattle.claxon_tools.specs.Convert.{ConvertIsSound, ConvertFaultIsSound, PutBlocksIsSound, PutBlocksFaultIsSound};
 
 use crate::progress::Progress;
 use crate::wav::error::Result;
@@ -21,8 +21,8 @@ pub fn convert<R: Read + Drop, W: Write + Seek, E: Write>(
     errors: &mut E,
 ) -> Result<()>
     requires { flac_metadata_only flac.old ≡ false }
-    ensures ok { ConvertsAll W.contents W.stream_position R.remaining flac.old result wav.old wav.new }
-    ensures err { ConvertsNotAll R.remaining flac.old result wav.old }
+    ensures ok { ConvertIsSound W.contents W.stream_position R.remaining flac.old result wav.old wav.new }
+    ensures err { ConvertFaultIsSound R.remaining flac.old result wav.old }
 {
     let outcome = put_blocks(alloc, flac.blocks(), wav, progress, errors);
     let finished = wav.finish();
@@ -38,8 +38,8 @@ fn put_blocks<R: ReadBytes + Drop, W: Write + Seek, E: Write>(
     progress: &mut Progress,
     errors: &mut E,
 ) -> Result<()>
-    ensures ok { PutsBlocks W.contents R.source blocks result wav.old wav.new }
-    ensures err { StopsAtBlock R.source blocks result wav.old }
+    ensures ok { PutBlocksIsSound W.contents R.source blocks result wav.old wav.new }
+    ensures err { PutBlocksFaultIsSound R.source blocks result wav.old }
 {
     let mut reader = blocks;
     let mut buffer = Vec::new(alloc);

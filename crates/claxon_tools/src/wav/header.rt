@@ -6,10 +6,10 @@ use std::alloc::AllocError;
 
 /// The bytes of samples that a file can hold: the size of all that stands behind its first eight bytes, up to sixty bytes
 /// and a pad byte more, has 32 bits.
-pub const MOST_BYTES: u32 = 4_294_967_234;
+pub const MAX_DATA_SIZE: u32 = 4_294_967_234;
 
 // The code of plain samples in the long format.
-const PLAIN_SAMPLES: [u8; 16] = [1, 0, 0, 0, 0, 0, 16, 0, 128, 0, 0, 170, 0, 56, 155, 113];
+const PCM_SUBFORMAT: [u8; 16] = [1, 0, 0, 0, 0, 0, 16, 0, 128, 0, 0, 170, 0, 56, 155, 113];
 
 /// How the samples of a WAV file are to be read.
 #[derive(Clone, Copy)]
@@ -25,7 +25,7 @@ pub struct Layout {
 }
 
 impl Layout {
-    ghost use Rattle.claxon_tools.specs.WaveFile.{IsHeader, IsLayoutOf, IsSizeOf, extension, format, is_long, place_size, sample_size, short_format};
+    ghost use Rattle.claxon_tools.specs.WaveFile.{IsHeader, IsLayoutOf, IsSizeOf, extension, format, is_extensible, block_align, sample_size, base_format};
 
     /// The layout of samples of so many channels and bits, and so many places a second. The channels belong to these
     /// loudspeakers, a bit each; where none are named, to the usual ones of a FLAC stream.
@@ -69,8 +69,8 @@ impl Layout {
     }
 
     // The bytes of a sample of each channel.
-    fn place_size(&self) -> u32
-        ensures value { result ≡ place_size self.now }
+    fn block_align(&self) -> u32
+        ensures value { result ≡ block_align self.now }
         ensures few { result ≤ 32 }
     {
         self.channels * self.sample_size()
@@ -80,30 +80,30 @@ impl Layout {
     pub fn data_size(&self, places: u64) -> Option<u32>
         ensures { IsSizeOf self.now places result }
     {
-        let size = places.checked_mul(u64::from(self.place_size()))?;
-        if size > u64::from(MOST_BYTES) {
+        let size = places.checked_mul(u64::from(self.block_align()))?;
+        if size > u64::from(MAX_DATA_SIZE) {
             return None;
         }
         Some(size as u32)
     }
 
-    fn is_plain(&self) -> bool
+    fn is_8_or_16_bits(&self) -> bool
         ensures { result ≡ ((self.now.width == 8) || (self.now.width == 16)) }
     {
         self.width == 8 || self.width == 16
     }
 
-    fn is_usual(&self) -> bool
+    fn has_mono_or_stereo_mask(&self) -> bool
         ensures { result ≡ ((self.now.speakers == 3) || (self.now.speakers == 4)) }
     {
         self.speakers == 3 || self.speakers == 4
     }
 
     // Whether the format has to name its loudspeakers and the bits of a sample.
-    fn is_long(&self) -> bool
-        ensures { result ≡ is_long self.now }
+    fn is_extensible(&self) -> bool
+        ensures { result ≡ is_extensible self.now }
     {
-        self.channels > 2 || !self.is_plain() || !self.is_usual()
+        self.channels > 2 || !self.is_8_or_16_bits() || !self.has_mono_or_stereo_mask()
     }
 
     /// Puts all that stands before so many bytes of samples in place of these bytes.
@@ -128,31 +128,31 @@ impl Layout {
         ensures few { result ≤ 40 }
         ensures even { result % 2 ≡ 0 }
     {
-        if self.is_long() { 40 } else { 16 }
+        if self.is_extensible() { 40 } else { 16 }
     }
 
     fn put_format(&self, bytes: &mut Vec<u8>) -> Result<(), AllocError>
         ensures { OnOk result (bytes.new.items ≡ bytes.old.items ++ format self.now) }
     {
-        if !self.is_long() {
-            self.put_short_format(1, bytes)?;
+        if !self.is_extensible() {
+            self.put_base_format(1, bytes)?;
             return Ok(());
         }
-        self.put_short_format(0xfffe, bytes)?;
+        self.put_base_format(0xfffe, bytes)?;
         self.put_extension(bytes)?;
         Ok(())
     }
 
-    fn put_short_format(&self, code: u16, bytes: &mut Vec<u8>) -> Result<(), AllocError>
-        ensures { OnOk result (bytes.new.items ≡ bytes.old.items ++ short_format code self.now) }
+    fn put_base_format(&self, code: u16, bytes: &mut Vec<u8>) -> Result<(), AllocError>
+        ensures { OnOk result (bytes.new.items ≡ bytes.old.items ++ base_format code self.now) }
     {
-        let place_size = self.place_size();
-        let bytes_per_second = self.sample_rate.wrapping_mul(place_size);
+        let block_align = self.block_align();
+        let bytes_per_second = self.sample_rate.wrapping_mul(block_align);
         bytes.extend_from_slice(&code.to_le_bytes())?;
         bytes.extend_from_slice(&(self.channels as u16).to_le_bytes())?;
         bytes.extend_from_slice(&self.sample_rate.to_le_bytes())?;
         bytes.extend_from_slice(&bytes_per_second.to_le_bytes())?;
-        bytes.extend_from_slice(&(place_size as u16).to_le_bytes())?;
+        bytes.extend_from_slice(&(block_align as u16).to_le_bytes())?;
         bytes.extend_from_slice(&(8 * self.sample_size() as u16).to_le_bytes())?;
         Ok(())
     }
@@ -164,7 +164,7 @@ impl Layout {
         bytes.extend_from_slice(&22u16.to_le_bytes())?;
         bytes.extend_from_slice(&(self.width as u16).to_le_bytes())?;
         bytes.extend_from_slice(&self.speakers.to_le_bytes())?;
-        bytes.extend_from_slice(&PLAIN_SAMPLES)?;
+        bytes.extend_from_slice(&PCM_SUBFORMAT)?;
         Ok(())
     }
 }

@@ -29,7 +29,7 @@ pub fn pack<A: Allocator>(
 {
     interleaved.resize(block.len() as usize, 0)?;
     interleave(block, interleaved.as_mut_slice());
-    if !have_width(interleaved.as_slice(), width) {
+    if !all_fit_in(interleaved.as_slice(), width) {
         return Err(Error::WideSample);
     }
     bytes.resize(interleaved.len() * width.div_ceil(8) as usize, 0)?;
@@ -85,7 +85,7 @@ fn put_place<A: Allocator>(block: &Block<A>, place: u32, room: &mut [i32])
 
 // Whether each sample is a number of so many bits in two's complement.
 #[inline(never)]
-fn have_width(samples: &[i32], width: u32) -> bool
+fn all_fit_in(samples: &[i32], width: u32) -> bool
     requires some_bits { 1 ≤ width }
     requires few_bits { width ≤ 32 }
     ensures yes { result ≡ true → All (FitsIn width) samples.now }
@@ -93,12 +93,12 @@ fn have_width(samples: &[i32], width: u32) -> bool
 {
     let mut fit = true;
     for i in 0..samples.len() {
-        fit = fit & has_width(samples[i], width);
+        fit = fit & fits_in(samples[i], width);
     }
     fit
 }
 
-fn has_width(sample: i32, width: u32) -> bool
+fn fits_in(sample: i32, width: u32) -> bool
     requires some_bits { 1 ≤ width }
     requires few_bits { width ≤ 32 }
     ensures yes { result ≡ true → FitsIn width sample }

@@ -6,7 +6,7 @@ ghost use Rattle.claxon.specs.Streams.{interleave};
 ghost use Rattle.claxon_tools.specs.WaveFile.{pad};
 
 use crate::wav::error::{Error, Result};
-use crate::wav::header::{Layout, MOST_BYTES};
+use crate::wav::header::{Layout, MAX_DATA_SIZE};
 use crate::wav::samples::pack;
 use claxon::Block;
 use std::alloc::{Allocator, Global};
@@ -29,14 +29,14 @@ pub struct WavWriter<W> {
 }
 
 impl<W: Write + Seek> WavWriter<W> {
-    ghost use Rattle.claxon_tools.specs.Writer.{BeginsWithHeader, Finishes, IsOutside, MendsHeader, PutsBlock, RefusesBlock, SameHeader};
+    ghost use Rattle.claxon_tools.specs.Writer.{StartIsSound, FinishIsSound, IsOutOfMemoryOrIo, UpdateHeaderIsSound, PutBlockIsSound, PutBlockFaultIsSound, SameHeader};
 
     /// Writes a header for so many bytes of samples. Others may come: `finish` mends it.
     pub fn start(alloc: Global, output: W, layout: Layout, announced: u32) -> Result<WavWriter<W>>
     where
         W: Drop,
         requires { announced ≤ 4294967234 }
-        ensures { BeginsWithHeader W.contents layout announced output result }
+        ensures { StartIsSound W.contents layout announced output result }
     {
         let mut output = output;
         let mut header = Vec::new(alloc);
@@ -55,9 +55,9 @@ impl<W: Write + Seek> WavWriter<W> {
 
     /// Writes the samples of a block.
     pub fn put_block<A: Allocator>(&mut self, block: &Block<A>) -> Result<()>
-        ensures ok { PutsBlock W.contents block.now result self.old self.new }
+        ensures ok { PutBlockIsSound W.contents block.now result self.old self.new }
         ensures fits { OnOk result (All (FitsIn self.old.layout.width) (interleave block.now.channels)) }
-        ensures err { IfErr result (λ error. RefusesBlock block.now error self.old) }
+        ensures err { IfErr result (λ error. PutBlockFaultIsSound block.now error self.old) }
         ensures layout { self.new.layout ≡ self.old.layout }
         ensures announced { self.new.announced ≡ self.old.announced }
     {
@@ -66,7 +66,7 @@ impl<W: Write + Seek> WavWriter<W> {
         }
         let width = self.layout.width();
         pack(block, width, &mut self.interleaved, &mut self.bytes)?;
-        let room = (MOST_BYTES - self.written) as usize;
+        let room = (MAX_DATA_SIZE - self.written) as usize;
         let size = self.bytes.len();
         if size > room {
             return Err(Error::TooLong);
@@ -78,11 +78,11 @@ impl<W: Write + Seek> WavWriter<W> {
 
     /// Makes a whole file of what was written so far. Where the header was right no seek is made.
     pub fn finish(&mut self) -> Result<()>
-        ensures ok { Finishes W.contents W.stream_position result self.old self.new }
-        ensures err { IfErr result IsOutside }
+        ensures ok { FinishIsSound W.contents W.stream_position result self.old self.new }
+        ensures err { IfErr result IsOutOfMemoryOrIo }
     {
         let padded = self.pad();
-        let mended = self.mend_header();
+        let mended = self.update_header();
         padded?;
         mended
     }
@@ -91,7 +91,7 @@ impl<W: Write + Seek> WavWriter<W> {
     fn pad(&mut self) -> Result<()>
         ensures bytes { OnOk result (Appends (W.contents self.old.output) (W.contents self.new.output) (pad self.old.written)) }
         ensures same { SameHeader self.old self.new }
-        ensures err { IfErr result IsOutside }
+        ensures err { IfErr result IsOutOfMemoryOrIo }
     {
         if self.written % 2 == 1 {
             self.output.write_all(&[0])?;
@@ -99,9 +99,9 @@ impl<W: Write + Seek> WavWriter<W> {
         Ok(())
     }
 
-    fn mend_header(&mut self) -> Result<()>
-        ensures ok { MendsHeader W.contents W.stream_position result self.old self.new }
-        ensures err { IfErr result IsOutside }
+    fn update_header(&mut self) -> Result<()>
+        ensures ok { UpdateHeaderIsSound W.contents W.stream_position result self.old self.new }
+        ensures err { IfErr result IsOutOfMemoryOrIo }
     {
         if self.written != self.announced {
             self.layout.put_header(self.written, &mut self.header)?;

@@ -1,6 +1,6 @@
 use Rattle.std.proofs.Common.{refl, rules, sym, ◌∙◌}
 use Rattle.claxon_format.specs.Fault.{fault_text, SecondComment}
-use Rattle.claxon_input.proofs.CallsInTurn.{went_none}
+use Rattle.claxon_input.proofs.CallsInTurn.{consumes_none}
 use Rattle.claxon_input.proofs.Faults.{stops_fault}
 use Rattle.claxon_format.specs.MetadataBlocks.{Comments}
 use Rattle.claxon_metadata.specs.VorbisComment.{comment_view}
@@ -17,16 +17,16 @@ unfolding fault_text
 returns-then-is_some-clause-gives g c here =
     let h = c.in-VorbisComment.is in
     let some = is_found c.args.found ∙ sym c.is_some.ensures ∙ c.if-is_some.true in
-    stops_fault SecondComment refl refl (refl, refl) (went_none _ _ (comments_second (found_view c.args.found) _ _ (rw h refl) (rw h some)))
+    stops_fault SecondComment refl refl (refl, refl) (consumes_none _ _ (comments_second (found_view c.args.found) _ _ (rw h refl) (rw h some)))
 
 pub returns-in-VorbisComment-clause-gives : goal.returns-in-VorbisComment-clause-gives
 returns-in-VorbisComment-clause-gives g c here =
     let h = c.in-VorbisComment.is in
     let none = is_found c.args.found ∙ sym c.is_some.ensures ∙ c.if-is_some.false in
-    went_none _ _ (rw h (comments_done (found_view c.args.found) (Comments (comment_view c.in-VorbisComment.comment)) here.coming refl none))
+    consumes_none _ _ (rw h (comments_done (found_view c.args.found) (Comments (comment_view c.in-VorbisComment.comment)) here.remaining refl none))
 
 pub returns : goal.returns
 returns g c = record {
   places = c.requires.found;
-  gives = λ here. went_none _ _ (comments_kept (found_view c.args.found) c.args.block _ c.in_default.not-StreamInfo c.in_default.not-VorbisComment);
+  gives = λ here. consumes_none _ _ (comments_kept (found_view c.args.found) c.args.block _ c.in_default.not-StreamInfo c.in_default.not-VorbisComment);
 }

@@ -4,62 +4,62 @@ use Rattle.std.proofs.lemmas.Grind.{common_steps}
 use Rattle.claxon_format.specs.Fault.{fault_text, StreaminfoMissing}
 use Rattle.claxon_format.specs.Heads.{stream_marker}
 use Rattle.claxon_input.specs.declared.error.Error.{Error}
-use Rattle.claxon_input.proofs.CallsInTurn.{went_none, went_map, went_both}
-use Rattle.claxon_metadata.specs.MetadataBlock.{flagged_view}
-use Rattle.claxon.specs.ReadHead.{found_view, head_view, wishes}
+use Rattle.claxon_input.proofs.CallsInTurn.{consumes_none, consumes_map, consumes_then}
+use Rattle.claxon_metadata.specs.MetadataBlock.{metadata_block_view}
+use Rattle.claxon.specs.ReadHead.{found_view, head_view, options_view}
 use Rattle.claxon_metadata.specs.declared.metadata.MetadataBlock.{MetadataBlock}
 use Rattle.claxon_input.proofs.Faults.{stops_fault}
-use Rattle.claxon.proofs.HeadMemory.{never_starved, starved_first, starved_after_first}
+use Rattle.claxon.proofs.HeadMemory.{never_out_of_memory_in_front, out_of_memory_after_marker, out_of_memory_after_first}
 use Rattle.claxon.proofs.HeadParts.{marker_stops, first_stops, no_streaminfo, head_begun, begun_short, begun_stops, begun_with, begun_without}
-use Rattle.claxon_input.proofs.Memory.{fed_exit, starved_exit}
+use Rattle.claxon_input.proofs.Memory.{exit_no_memory, exit_with_memory}
 use Rattle.claxon.proofs.head.read_head_exact.Goals as goal
 
 pub returns-in_err-read_stream_header-clause-gives : goal.returns-in_err-read_stream_header-clause-gives
 returns-in_err-read_stream_header-clause-gives g c =
-    fed_exit (head_view {A = g.row.A.Denot}) (err_from_is_err_and c.from_residual.result c.from_residual.ensures.1) (went_none _ _ (marker_stops (wishes c.args.options) _)) c.in_err-read_stream_header.ensures
+    exit_no_memory (head_view {A = g.row.A.Denot}) (err_from_is_err_and c.from_residual.result c.from_residual.ensures.1) (consumes_none _ _ (marker_stops (options_view c.args.options) _)) c.in_err-read_stream_header.ensures
 
 pub returns-in_err-read_stream_header-clause-memory : goal.returns-in_err-read_stream_header-clause-memory
-returns-in_err-read_stream_header-clause-memory g c starved told =
-    absurd (never_starved (err_from_is_err_and c.from_residual.result c.from_residual.ensures.1) c.in_err-read_stream_header.ensures starved)
+returns-in_err-read_stream_header-clause-memory g c out_of_memory known =
+    absurd (never_out_of_memory_in_front (err_from_is_err_and c.from_residual.result c.from_residual.ensures.1) c.in_err-read_stream_header.ensures out_of_memory)
 
 pub returns-in_err-is_last-clause-memory : goal.returns-in_err-is_last-clause-memory
 returns-in_err-is_last-clause-memory g c =
-    starved_first _ _ (err_from_is_err_and c.from_residual-in_err-is_last.result c.from_residual-in_err-is_last.ensures.1) c.in_ok-read_stream_header.ensures (λ q. c.in_err-is_last.ensures.memory (ap (λ (z : Error). Err z) q))
+    out_of_memory_after_marker _ _ (err_from_is_err_and c.from_residual-in_err-is_last.result c.from_residual-in_err-is_last.ensures.1) c.in_ok-read_stream_header.ensures (λ q. c.in_err-is_last.ensures.memory (ap (λ (z : Error). Err z) q))
 
 pub returns-in_err-is_last-clause-gives : goal.returns-in_err-is_last-clause-gives
 returns-in_err-is_last-clause-gives g c =
-    starved_exit (head_view {A = g.row.A.Denot}) (λ (found : Bool × MetadataBlock g.row.A.Denot). flagged_view found.0 found.1) _ (err_from_is_err_and c.from_residual-in_err-is_last.result c.from_residual-in_err-is_last.ensures.1)
-    (went_map _ c.in_ok-read_stream_header.ensures (λ p. first_stops (wishes c.args.options) stream_marker _ _ p)) c.in_err-is_last.ensures.gives
+    exit_with_memory (head_view {A = g.row.A.Denot}) (λ (found : Bool × MetadataBlock g.row.A.Denot). metadata_block_view found.0 found.1) _ (err_from_is_err_and c.from_residual-in_err-is_last.result c.from_residual-in_err-is_last.ensures.1)
+    (consumes_map _ c.in_ok-read_stream_header.ensures (λ p. first_stops (options_view c.args.options) stream_marker _ _ p)) c.in_err-is_last.ensures.gives
 
 pub returns-in_default-clause-gives : goal.returns-in_default-clause-gives
 unfolding fault_text
 returns-in_default-clause-gives g c =
     stops_fault StreaminfoMissing refl refl (refl, refl)
-    (went_both _ c.in_ok-read_stream_header.ensures c.in_ok-is_last.ensures.gives (λ p q. no_streaminfo (wishes c.args.options) stream_marker c.in_ok-is_last.is_last c.in_ok-is_last.first _ _ _ c.in_default.not-StreamInfo p q))
+    (consumes_then _ c.in_ok-read_stream_header.ensures c.in_ok-is_last.ensures.gives (λ p q. no_streaminfo (options_view c.args.options) stream_marker c.in_ok-is_last.is_last c.in_ok-is_last.first _ _ _ c.in_default.not-StreamInfo p q))
 
 pub returns-then-ends_with_streaminfo-clause-gives : goal.returns-then-ends_with_streaminfo-clause-gives
 returns-then-ends_with_streaminfo-clause-gives g c =
-    begun_short (wishes c.args.options) (sym c.ends_with_streaminfo.ensures ∙ c.if-ends_with_streaminfo.true) (head_begun c.in-StreamInfo.info c.in-StreamInfo.is c.in_ok-read_stream_header.ensures c.in_ok-is_last.ensures.gives)
+    begun_short (options_view c.args.options) (sym c.ends_with_streaminfo.ensures ∙ c.if-ends_with_streaminfo.true) (head_begun c.in-StreamInfo.info c.in-StreamInfo.is c.in_ok-read_stream_header.ensures c.in_ok-is_last.ensures.gives)
 
 pub returns-in_err-comment-clause-memory : goal.returns-in_err-comment-clause-memory
 returns-in_err-comment-clause-memory g c =
-    starved_after_first _ _ _ _ (err_from_is_err_and c.from_residual-in_err-comment.result c.from_residual-in_err-comment.ensures.1)
+    out_of_memory_after_first _ _ _ _ (err_from_is_err_and c.from_residual-in_err-comment.result c.from_residual-in_err-comment.ensures.1)
     c.in_ok-read_stream_header.ensures c.in_ok-is_last.ensures.gives (λ q. c.in_err-comment.ensures.memory (ap (λ (z : Error). Err z) q))
 
 pub returns-in_err-comment-clause-gives : goal.returns-in_err-comment-clause-gives
 returns-in_err-comment-clause-gives g c =
-    starved_exit (head_view {A = g.row.A.Denot}) (found_view {A = g.row.A.Denot}) _ (err_from_is_err_and c.from_residual-in_err-comment.result c.from_residual-in_err-comment.ensures.1)
-    (begun_stops (wishes c.args.options) (sym c.ends_with_streaminfo.ensures ∙ c.if-ends_with_streaminfo.false) (head_begun c.in-StreamInfo.info c.in-StreamInfo.is c.in_ok-read_stream_header.ensures c.in_ok-is_last.ensures.gives))
+    exit_with_memory (head_view {A = g.row.A.Denot}) (found_view {A = g.row.A.Denot}) _ (err_from_is_err_and c.from_residual-in_err-comment.result c.from_residual-in_err-comment.ensures.1)
+    (begun_stops (options_view c.args.options) (sym c.ends_with_streaminfo.ensures ∙ c.if-ends_with_streaminfo.false) (head_begun c.in-StreamInfo.info c.in-StreamInfo.is c.in_ok-read_stream_header.ensures c.in_ok-is_last.ensures.gives))
     c.in_err-comment.ensures.gives
 
 pub returns-then-options-clause-gives : goal.returns-then-options-clause-gives
 returns-then-options-clause-gives g c =
-    begun_with (wishes c.args.options) (found_view c.in_ok-comment.comment) (sym c.ends_with_streaminfo.ensures ∙ c.if-ends_with_streaminfo.false) c.if-options.true
+    begun_with (options_view c.args.options) (found_view c.in_ok-comment.comment) (sym c.ends_with_streaminfo.ensures ∙ c.if-ends_with_streaminfo.false) c.if-options.true
     (head_begun c.in-StreamInfo.info c.in-StreamInfo.is c.in_ok-read_stream_header.ensures c.in_ok-is_last.ensures.gives) c.in_ok-comment.ensures.gives
 
 pub returns-else-options-clause-gives : goal.returns-else-options-clause-gives
 returns-else-options-clause-gives g c =
-    begun_without (wishes c.args.options) (found_view c.in_ok-comment.comment) (sym c.ends_with_streaminfo.ensures ∙ c.if-ends_with_streaminfo.false) c.if-options.false
+    begun_without (options_view c.args.options) (found_view c.in_ok-comment.comment) (sym c.ends_with_streaminfo.ensures ∙ c.if-ends_with_streaminfo.false) c.if-options.false
     (head_begun c.in-StreamInfo.info c.in-StreamInfo.is c.in_ok-read_stream_header.ensures c.in_ok-is_last.ensures.gives) c.in_ok-comment.ensures.gives
 
 pub returns-in_default-clause-bounds : goal.returns-in_default-clause-bounds

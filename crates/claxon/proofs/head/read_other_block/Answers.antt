@@ -2,33 +2,33 @@ use Rattle.std.proofs.Common.{Bool, Err, ap}
 use Rattle.std.proofs.lemmas.Result.{err_from_is_err_and}
 use Rattle.claxon_input.specs.declared.error.Error.{Error}
 use Rattle.claxon_input.specs.State.{bytes_in}
-use Rattle.claxon_input.proofs.CallsInTurn.{went_none, went_both, went_map}
-use Rattle.claxon_metadata.specs.MetadataBlock.{flagged_view}
+use Rattle.claxon_input.proofs.CallsInTurn.{consumes_none, consumes_then, consumes_map}
+use Rattle.claxon_metadata.specs.MetadataBlock.{metadata_block_view}
 use Rattle.claxon.specs.ReadHead.{found_view, other_view}
 use Rattle.claxon_metadata.specs.declared.metadata.MetadataBlock.{MetadataBlock}
-use Rattle.claxon.proofs.HeadMemory.{never_starved, starved_here}
+use Rattle.claxon.proofs.HeadMemory.{never_out_of_memory_in_front, out_of_memory_here}
 use Rattle.claxon.proofs.HeadParts.{other_done, other_stops, other_tested}
-use Rattle.claxon_input.proofs.Memory.{fed_exit, starved_exit}
+use Rattle.claxon_input.proofs.Memory.{exit_no_memory, exit_with_memory}
 use Rattle.claxon.proofs.head.read_other_block.Goals as goal
 
 pub returns-in_err-is_last-clause-memory : goal.returns-in_err-is_last-clause-memory
-returns-in_err-is_last-clause-memory g c = starved_here (bytes_in g.R.ReadBytes.source c.args.input.now) (err_from_is_err_and c.from_residual.result c.from_residual.ensures.1) (λ q. c.in_err-is_last.ensures.memory (ap (λ (z : Error). Err z) q))
+returns-in_err-is_last-clause-memory g c = out_of_memory_here (bytes_in g.R.ReadBytes.source c.args.input.now) (err_from_is_err_and c.from_residual.result c.from_residual.ensures.1) (λ q. c.in_err-is_last.ensures.memory (ap (λ (z : Error). Err z) q))
 
 pub returns-in_err-is_last-clause-gives : goal.returns-in_err-is_last-clause-gives
 returns-in_err-is_last-clause-gives g c =
-    starved_exit (other_view {A = g.row.A.Denot}) (λ (found : Bool × MetadataBlock g.row.A.Denot). flagged_view found.0 found.1) _ (err_from_is_err_and c.from_residual.result c.from_residual.ensures.1)
-    (went_none _ _ (other_stops (found_view c.args.found) _)) c.in_err-is_last.ensures.gives
+    exit_with_memory (other_view {A = g.row.A.Denot}) (λ (found : Bool × MetadataBlock g.row.A.Denot). metadata_block_view found.0 found.1) _ (err_from_is_err_and c.from_residual.result c.from_residual.ensures.1)
+    (consumes_none _ _ (other_stops (found_view c.args.found) _)) c.in_err-is_last.ensures.gives
 
 pub returns-in_err-comments_with-clause-memory : goal.returns-in_err-comments_with-clause-memory
-returns-in_err-comments_with-clause-memory g c starved told =
+returns-in_err-comments_with-clause-memory g c out_of_memory known =
     let here = bytes_in g.R.ReadBytes.source c.args.input.now in
-    absurd (never_starved (err_from_is_err_and c.from_residual-in_err-comments_with.result c.from_residual-in_err-comments_with.ensures.1) (c.in_err-comments_with.ensures.gives here) starved)
+    absurd (never_out_of_memory_in_front (err_from_is_err_and c.from_residual-in_err-comments_with.result c.from_residual-in_err-comments_with.ensures.1) (c.in_err-comments_with.ensures.gives here) out_of_memory)
 
 pub returns-in_err-comments_with-clause-gives : goal.returns-in_err-comments_with-clause-gives
 returns-in_err-comments_with-clause-gives g c =
-    fed_exit (other_view {A = g.row.A.Denot}) (err_from_is_err_and c.from_residual-in_err-comments_with.result c.from_residual-in_err-comments_with.ensures.1)
-    (went_map _ c.in_ok-is_last.ensures.gives (λ p. other_tested (found_view c.args.found) _ _ _ p)) (c.in_err-comments_with.ensures.gives _)
+    exit_no_memory (other_view {A = g.row.A.Denot}) (err_from_is_err_and c.from_residual-in_err-comments_with.result c.from_residual-in_err-comments_with.ensures.1)
+    (consumes_map _ c.in_ok-is_last.ensures.gives (λ p. other_tested (found_view c.args.found) _ _ _ p)) (c.in_err-comments_with.ensures.gives _)
 
 pub returns-clause-gives : goal.returns-clause-gives
 returns-clause-gives g c =
-    went_both _ c.in_ok-is_last.ensures.gives (c.in_ok-comments_with.ensures.gives _) (λ p q. other_done (found_view c.args.found) _ _ _ _ _ p q)
+    consumes_then _ c.in_ok-is_last.ensures.gives (c.in_ok-comments_with.ensures.gives _) (λ p q. other_done (found_view c.args.found) _ _ _ _ _ p q)

@@ -5,18 +5,18 @@ use Rattle.claxon_format.specs.Fault.{fault_text, TooManyBlocks}
 use Rattle.claxon_input.specs.declared.error.Error.{Error}
 use Rattle.claxon.specs.ReadHead.{found_view, other_view}
 use Rattle.claxon_input.proofs.Faults.{stops_fault}
-use Rattle.claxon.proofs.HeadMemory.{starved_later}
+use Rattle.claxon.proofs.HeadMemory.{out_of_memory_after_blocks}
 use Rattle.claxon.proofs.HeadParts.{is_found, others_next, others_done, others_stop, others_too_many}
-use Rattle.claxon_input.proofs.Memory.{starved_exit}
+use Rattle.claxon_input.proofs.Memory.{exit_with_memory}
 use Rattle.claxon.proofs.head.read_other_blocks.Goals as goal
 
 pub returns-in_err-is_last-clause-memory : goal.returns-in_err-is_last-clause-memory
 returns-in_err-is_last-clause-memory g c =
-    starved_later _ _ (err_from_is_err_and c.from_residual.result c.from_residual.ensures.1) c.loop-most.invariant.read.passed (λ q. c.in_err-is_last.ensures.memory (ap (λ (z : Error). Err z) q))
+    out_of_memory_after_blocks _ _ (err_from_is_err_and c.from_residual.result c.from_residual.ensures.1) c.loop-most.invariant.read.consumed_blocks (λ q. c.in_err-is_last.ensures.memory (ap (λ (z : Error). Err z) q))
 
 pub returns-in_err-is_last-clause-gives : goal.returns-in_err-is_last-clause-gives
 returns-in_err-is_last-clause-gives g c =
-    starved_exit (found_view {A = g.row.A.Denot}) (other_view {A = g.row.A.Denot}) _ (err_from_is_err_and c.from_residual.result c.from_residual.ensures.1)
+    exit_with_memory (found_view {A = g.row.A.Denot}) (other_view {A = g.row.A.Denot}) _ (err_from_is_err_and c.from_residual.result c.from_residual.ensures.1)
     (others_stop (omega (arith, c.loop-most-test.true)) c.loop-most.invariant.read) c.in_err-is_last.ensures.gives
 
 pub returns-then-are_enough-clause-gives : goal.returns-then-are_enough-clause-gives

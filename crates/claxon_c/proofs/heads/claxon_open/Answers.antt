@@ -5,15 +5,15 @@ use Rattle.claxon.specs.StreamInfos.{StreamInfo}
 use Rattle.claxon.specs.VorbisComments.{VorbisComment}
 use Rattle.claxon.specs.ReadHead.{head_view}
 use Rattle.claxon_c.specs.HeadCalls.{ShowsHead}
-use Rattle.claxon_c.proofs.HeadCalls.{head_at_first_frame, head_fault, head_io, head_is_there, head_memory, head_named, head_starves, no_head_fault, same_head, shows_head}
-use Rattle.claxon_c.proofs.Told.{just_error, text_told}
+use Rattle.claxon_c.proofs.HeadCalls.{head_at_first_frame, head_fault, head_io, head_io_ok, head_memory, head_named, head_out_of_memory, no_head_fault, same_head, shows_head}
+use Rattle.claxon_c.proofs.Told.{just_error, text_reported}
 use Rattle.claxon_c.proofs.heads.claxon_open.Goals as goal
 
 pub returns-in-Ok : goal.returns-in-Ok
 returns-in-Ok c =
     let view = head_view {A = Global} in
     let bytes = c.args.bytes.now in
-    let taken = c.head_at_front.new.taken in
+    let taken = c.head_at_start.new.taken in
     let old = c.args.error.now in
     let z : StreamInfo × Option (VorbisComment Global) = (c.in-Ok.found, c.in-Ok.comment) in
     let h = c.in-Ok.ensures in
@@ -24,7 +24,7 @@ returns-in-Ok c =
       complete = λ head begins. inl (refl, subst (λ (x : Head). ShowsHead x c.new.result.first_frame c.new.result) (same_head view bytes taken 0 old old z h head begins) shows);
       fault = λ says. absurd (elim says [ inl p ↦ absurd cc | inr p ↦ absurd cc ]);
       named = no_head_fault view bytes taken 0 old old z h;
-      io = head_is_there view bytes taken 0 old old z h;
+      io = head_io_ok view bytes taken 0 old old z h;
       memory = λ is. absurd cc;
       text = (λ is. absurd cc, λ is. absurd cc);
       kept = λ no. absurd (no refl);
@@ -34,20 +34,20 @@ pub returns-in-Err : goal.returns-in-Err
 returns-in-Err c =
     let view = head_view {A = Global} in
     let bytes = c.args.bytes.now in
-    let taken = c.head_at_front.new.taken in
-    let status = c.tell.result in
+    let taken = c.head_at_start.new.taken in
+    let status = c.report.result in
     let old = c.args.error.now in
-    let new = c.tell.new.output in
+    let new = c.report.new.output in
     let e = c.in-Err.fault in
     let h = c.in-Err.ensures in
-    let told = c.tell.ensures in
+    let known = c.report.ensures in
     record {
-      sound = λ says. absurd ((just_error status old new e told).0 says);
-      complete = λ head begins. inr (head_starves view bytes taken status old new e h told head begins);
-      fault = head_fault view bytes taken status old new e h told;
-      named = head_named view bytes taken status old new e h told;
-      io = head_io view bytes taken status old new e h told;
-      memory = head_memory view bytes taken status old new e h told;
-      text = text_told status old new e told;
+      sound = λ says. absurd ((just_error status old new e known).0 says);
+      complete = λ head begins. inr (head_out_of_memory view bytes taken status old new e h known head begins);
+      fault = head_fault view bytes taken status old new e h known;
+      named = head_named view bytes taken status old new e h known;
+      io = head_io view bytes taken status old new e h known;
+      memory = head_memory view bytes taken status old new e h known;
+      text = text_reported status old new e known;
       kept = λ no. refl;
     }

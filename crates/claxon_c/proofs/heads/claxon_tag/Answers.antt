@@ -5,15 +5,15 @@ use Rattle.claxon.specs.VorbisComments.{VorbisComment}
 use Rattle.claxon.specs.Heads.{Head}
 use Rattle.claxon.specs.ReadHead.{head_view}
 use Rattle.claxon_c.specs.HeadCalls.{AnswersText, texts_of}
-use Rattle.claxon_c.proofs.HeadCalls.{head_begins, head_fault, head_io, head_is_there, head_memory, head_named, head_starves, no_head_fault, same_head, text_no_error}
-use Rattle.claxon_c.proofs.Told.{no_head, text_told}
+use Rattle.claxon_c.proofs.HeadCalls.{head_begins, head_fault, head_io, head_io_ok, head_memory, head_named, head_out_of_memory, no_head_fault, same_head, text_no_error}
+use Rattle.claxon_c.proofs.Told.{no_head, text_reported}
 use Rattle.claxon_c.proofs.heads.claxon_tag.Goals as goal
 
 pub returns-in-Ok : goal.returns-in-Ok
 returns-in-Ok c =
     let view = head_view {A = Global} in
     let bytes = c.args.bytes.now in
-    let taken = c.head_at_front.new.taken in
+    let taken = c.head_at_start.new.taken in
     let status = c.give_tag.result in
     let old = c.args.text.now in
     let new = c.give_tag.new.text in
@@ -27,7 +27,7 @@ returns-in-Ok c =
       complete = λ head begins. inl (subst (λ (x : Head). AnswersText (slice_get (texts_of x.comment) c.args.index) status old new count) (same_head view bytes taken status old new z h head begins) given);
       fault = λ says. absurd (no.0 says);
       named = no_head_fault view bytes taken status old new z h;
-      io = head_is_there view bytes taken status old new z h;
+      io = head_io_ok view bytes taken status old new z h;
       memory = λ is. absurd (no.1.0 is);
       text = (λ is. absurd (no.1.1 is), λ is. absurd (no.1.0 is));
     }
@@ -36,19 +36,19 @@ pub returns-in-Err : goal.returns-in-Err
 returns-in-Err c =
     let view = head_view {A = Global} in
     let bytes = c.args.bytes.now in
-    let taken = c.head_at_front.new.taken in
-    let status = c.tell.result in
+    let taken = c.head_at_start.new.taken in
+    let status = c.report.result in
     let old = c.args.text.now in
-    let new = c.tell.new.output in
+    let new = c.report.new.output in
     let e = c.in-Err.fault in
     let h = c.in-Err.ensures in
-    let told = c.tell.ensures in
+    let known = c.report.ensures in
     record {
-      sound = λ says. absurd (no_head status old new e told says);
-      complete = λ head begins. inr (head_starves view bytes taken status old new e h told head begins);
-      fault = head_fault view bytes taken status old new e h told;
-      named = head_named view bytes taken status old new e h told;
-      io = head_io view bytes taken status old new e h told;
-      memory = head_memory view bytes taken status old new e h told;
-      text = text_told status old new e told;
+      sound = λ says. absurd (no_head status old new e known says);
+      complete = λ head begins. inr (head_out_of_memory view bytes taken status old new e h known head begins);
+      fault = head_fault view bytes taken status old new e h known;
+      named = head_named view bytes taken status old new e h known;
+      io = head_io view bytes taken status old new e h known;
+      memory = head_memory view bytes taken status old new e h known;
+      text = text_reported status old new e known;
     }

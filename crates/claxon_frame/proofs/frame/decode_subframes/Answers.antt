@@ -1,6 +1,6 @@
 use Rattle.std.proofs.Common.{rules}
 use Rattle.claxon_format.specs.read.Frame.{subframes_at}
-use Rattle.claxon_input.proofs.ByteBorders.{gives_through, name_through}
+use Rattle.claxon_input.proofs.ByteAlignment.{gives_through, name_through}
 use Rattle.claxon_frame.proofs.frame.decode_subframes.Goals as goal
 
 pub returns : goal.returns

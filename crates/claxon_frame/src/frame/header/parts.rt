@@ -1,11 +1,11 @@
 //! What a frame's header says.
 ghost use Rattle.std.specs.Prelude.{◌≡◌, ◌≤◌};
 ghost use Rattle.std.specs.Option.{ForSome};
-ghost use Rattle.claxon_frame.specs.FrameHeader.{HasCode, IsCodedWidth, channels_of, widest};
+ghost use Rattle.claxon_frame.specs.FrameHeader.{HasBitDepthCode, IsSubframeBitDepth, channels_of, max_bit_depth};
 
 /// What is known of the stream before its frames.
 #[derive(Clone, Copy)]
-pub struct KnownStream {
+pub struct KnownStreamFormat {
     /// The width of the samples where a header names none, 1 to 32 bits.
     pub bits_per_sample: u32,
 
@@ -68,7 +68,7 @@ pub struct FrameHeader {
     ghost some_samples: { 1 ≤ block_size },
     ghost some_channels: { 1 ≤ channels_of channel_assignment },
     ghost few_channels: { channels_of channel_assignment ≤ 8 },
-    ghost narrow: { widest channel_assignment bits_per_sample ≤ 32 },
+    ghost narrow: { max_bit_depth channel_assignment bits_per_sample ≤ 32 },
 }
 
 /// The fields of a header before its guard.
@@ -81,7 +81,7 @@ pub struct HeaderFields {
     ghost some_samples: { 1 ≤ block_size },
     ghost some_channels: { 1 ≤ channels_of channel_assignment },
     ghost few_channels: { channels_of channel_assignment ≤ 8 },
-    ghost named: { ForSome bits_per_sample HasCode },
+    ghost named: { ForSome bits_per_sample HasBitDepthCode },
 }
 
 impl ChannelAssignment {
@@ -98,9 +98,9 @@ impl ChannelAssignment {
 
     /// The width of a coded channel: a side channel has one bit more.
     pub fn width(self, bits_per_sample: u32, ch: u8) -> u32
-        requires { widest self bits_per_sample ≤ 32 }
+        requires { max_bit_depth self bits_per_sample ≤ 32 }
         ensures most { result ≤ 32 }
-        ensures value { IsCodedWidth self bits_per_sample ch result }
+        ensures value { IsSubframeBitDepth self bits_per_sample ch result }
     {
         let is_side = match self {
             ChannelAssignment::Independent(_) => false,

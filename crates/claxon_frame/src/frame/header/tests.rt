@@ -1,4 +1,4 @@
-//! Coded numbers.
+//! CodedNumber numbers.
 use super::*;
 use std::io::Cursor;
 

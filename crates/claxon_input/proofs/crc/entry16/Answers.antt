@@ -1,5 +1,5 @@
 use Rattle.std.proofs.Common.{rules}
-use Rattle.claxon_input.proofs.Remainders.{entry_16}
+use Rattle.claxon_input.proofs.CrcUpdate.{entry_16}
 use Rattle.claxon_input.proofs.crc.entry16.Goals as goal
 
 pub returns : goal.returns

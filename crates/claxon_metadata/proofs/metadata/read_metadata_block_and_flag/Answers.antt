@@ -9,27 +9,27 @@ use Rattle.claxon_format.specs.read.MetadataBlocks.{block_at}
 use Rattle.claxon_metadata.proofs.metadata.read_metadata_block_and_flag.Goals as goal
 
 pub returns-in_err-block-clause-memory : goal.returns-in_err-block-clause-memory
-returns-in_err-block-clause-memory g c starved told =
+returns-in_err-block-clause-memory g c starved known =
     let e = err_from_is_err_and c.from_residual-in_err-block.result c.from_residual-in_err-block.ensures.1 in
     let both : Err e.0 ≡ Err OutOfMemory = sym e.1 ∙ starved in
     let same : e.0 ≡ OutOfMemory = cc both in
-    let read = c.in_ok-header.ensures.gives.known told in
+    let read = c.in_ok-header.ensures.gives.known known in
     let again = ap (λ (z : Error). Err z) (sym e.2 ∙ same) in
     let may = c.in_err-block.ensures.memory in
     let t = Reads-block_header.takes _ (header_view c.in_ok-header.header) _ read.is in
-    (header_view c.in_ok-header.header, t.0, _, t.1, (may.0 again, λ four. may.1 four again read.told), t.2)
+    (header_view c.in_ok-header.header, t.0, _, t.1, (may.0 again, λ four. may.1 four again read.known), t.2)
 
 pub returns-in_err-header-clause-within : goal.returns-in_err-header-clause-within
 returns-in_err-header-clause-within g c h x rest code comes = omega (arith, c.in_err-header.ensures.within)
 
 pub returns-in_err-block-clause-within : goal.returns-in_err-block-clause-within
 returns-in_err-block-clause-within g c h x rest code comes =
-    let same = header_is _ h x rest code comes.are (c.in_ok-header.ensures.gives.known comes.told).is in
+    let same = header_is _ h x rest code comes.are (c.in_ok-header.ensures.gives.known comes.known).is in
     omega (arith, same, c.in_ok-header.ensures.within, c.in_err-block.ensures.within)
 
 pub returns-clause-within : goal.returns-clause-within
 returns-clause-within g c h x rest code comes =
-    let same = header_is _ h x rest code comes.are (c.in_ok-header.ensures.gives.known comes.told).is in
+    let same = header_is _ h x rest code comes.are (c.in_ok-header.ensures.gives.known comes.known).is in
     omega (arith, same, c.in_ok-header.ensures.within, c.in_ok-block.ensures.within)
 
 pub returns-clause-memory : goal.returns-clause-memory

@@ -2,32 +2,32 @@ use Rattle.std.proofs.Common.{◌≡◌, arith, ◌∙◌, refl}
 use Rattle.std.proofs.lemmas.Result.{err_from_is_err_and}
 use Rattle.claxon_format.specs.read.MetadataBlocks.{body_at, application_at}
 use Rattle.claxon_format.specs.Fault.{fault_text, BlockType}
-use Rattle.claxon_input.proofs.ByteFields.{went_skipped, stuck_skipped, most_taken}
-use Rattle.claxon_input.proofs.CallsInTurn.{went_none, went_map, io_exit, starves_after, starves_never, stuck_told}
+use Rattle.claxon_input.proofs.ByteFields.{consumes_skipped, failure_or_skipped, most_taken}
+use Rattle.claxon_input.proofs.CallsInTurn.{consumes_none, consumes_map, io_exit, gives_or_out_of_memory_after, gives_never_out_of_memory, failure_or_known}
 use Rattle.claxon_metadata.specs.MetadataBlock.{content_view}
 use Rattle.claxon_metadata.specs.VorbisComment.{comment_view}
 use Rattle.claxon_input.proofs.Faults.{stops_fault}
 use Rattle.claxon_metadata.proofs.ContentByType.{stops_with, body_info, body_application, body_comment, body_invalid, IsSkipped, body_skipped}
-use Rattle.claxon_input.proofs.Memory.{fed_exit, starved_exit}
+use Rattle.claxon_input.proofs.Memory.{exit_no_memory, exit_with_memory}
 use Rattle.claxon_metadata.proofs.metadata.read_metadata_block_exact.Goals as goal
 
 pub returns-in_ok-read_streaminfo_block-in-0-clause-gives : goal.returns-in_ok-read_streaminfo_block-in-0-clause-gives
 returns-in_ok-read_streaminfo_block-in-0-clause-gives g c =
-    went_map _ c.in_ok-read_streaminfo_block-in-0.ensures.gives (λ p. body_info c.args.block_type c.args.length _ c.in-0.is ∙ rw p refl)
+    consumes_map _ c.in_ok-read_streaminfo_block-in-0.ensures.gives (λ p. body_info c.args.block_type c.args.length _ c.in-0.is ∙ rw p refl)
 
 pub returns-in_err-read_streaminfo_block-in-0-clause-gives : goal.returns-in_err-read_streaminfo_block-in-0-clause-gives
 returns-in_err-read_streaminfo_block-in-0-clause-gives g c =
-    fed_exit content_view (err_from_is_err_and c.from_residual.result c.from_residual.ensures.1)
-    (went_none _ _ (stops_with _ (body_info c.args.block_type c.args.length _ c.in-0.is))) c.in_err-read_streaminfo_block-in-0.ensures.gives
+    exit_no_memory content_view (err_from_is_err_and c.from_residual.result c.from_residual.ensures.1)
+    (consumes_none _ _ (stops_with _ (body_info c.args.block_type c.args.length _ c.in-0.is))) c.in_err-read_streaminfo_block-in-0.ensures.gives
 
 pub returns-in-127-clause-gives : goal.returns-in-127-clause-gives
 unfolding fault_text
-returns-in-127-clause-gives g c = stops_fault BlockType refl refl (refl, refl) (went_none _ _ (body_invalid c.args.block_type c.args.length _ c.in-127.is))
+returns-in-127-clause-gives g c = stops_fault BlockType refl refl (refl, refl) (consumes_none _ _ (body_invalid c.args.block_type c.args.length _ c.in-127.is))
 
 pub returns-in_ok-skip-in_default-clause-gives : goal.returns-in_ok-skip-in_default-clause-gives
 returns-in_ok-skip-in_default-clause-gives g c =
     let other : IsSkipped c.args.block_type = record { not_info = omega arith; not_application = omega arith; not_comment = omega arith; not_invalid = omega arith } in
-    went_map _ (went_skipped g.R.ReadBytes.source c.args.length c.in_ok-skip-in_default.ensures.ok) (λ p. body_skipped c.args.block_type c.args.length _ other ∙ rw (p, c.skipped_block.ensures.value) refl)
+    consumes_map _ (consumes_skipped g.R.ReadBytes.source c.args.length c.in_ok-skip-in_default.ensures.ok) (λ p. body_skipped c.args.block_type c.args.length _ other ∙ rw (p, c.skipped_block.ensures.value) refl)
 
 pub returns-in_ok-skip-in_default-clause-within : goal.returns-in_ok-skip-in_default-clause-within
 returns-in_ok-skip-in_default-clause-within g c = most_taken g.R.ReadBytes.source c.args.length (omega (arith, c.in_ok-skip-in_default.ensures.ok.1)) c.in_ok-skip-in_default.ensures.ok.2
@@ -35,19 +35,19 @@ returns-in_ok-skip-in_default-clause-within g c = most_taken g.R.ReadBytes.sourc
 pub returns-in_err-skip-in_default-clause-gives : goal.returns-in_err-skip-in_default-clause-gives
 returns-in_err-skip-in_default-clause-gives g c =
     let other : IsSkipped c.args.block_type = record { not_info = omega arith; not_application = omega arith; not_comment = omega arith; not_invalid = omega arith } in
-    starves_never _ _ _ _ _ (io_exit _ (err_from_is_err_and c.from_residual-in_err-skip-in_default.result c.from_residual-in_err-skip-in_default.ensures.1)
-    (stuck_told _ (stuck_skipped g.R.ReadBytes.source c.args.length c.in_err-skip-in_default.ensures.err) (λ t q. body_skipped c.args.block_type c.args.length _ other ∙ rw q refl)))
+    gives_never_out_of_memory _ _ _ _ _ (io_exit _ (err_from_is_err_and c.from_residual-in_err-skip-in_default.result c.from_residual-in_err-skip-in_default.ensures.1)
+    (failure_or_known _ (failure_or_skipped g.R.ReadBytes.source c.args.length c.in_err-skip-in_default.ensures.err) (λ t q. body_skipped c.args.block_type c.args.length _ other ∙ rw q refl)))
 
 pub returns-in-2-clause-gives : goal.returns-in-2-clause-gives
 returns-in-2-clause-gives g c =
-    starves_after content_view c.read_application_block.result _
-    (went_none _ (λ s m. body_at c.args.block_type c.args.length s ≡ application_at c.args.length m) (body_application c.args.block_type c.args.length _ c.in-2.is)) c.read_application_block.ensures.gives
+    gives_or_out_of_memory_after content_view c.read_application_block.result _
+    (consumes_none _ (λ s m. body_at c.args.block_type c.args.length s ≡ application_at c.args.length m) (body_application c.args.block_type c.args.length _ c.in-2.is)) c.read_application_block.ensures.gives
 
 pub returns-in_err-comment-in-4-clause-gives : goal.returns-in_err-comment-in-4-clause-gives
 returns-in_err-comment-in-4-clause-gives g c =
-    starved_exit content_view (comment_view {A = g.row.A.Denot}) _ (err_from_is_err_and c.from_residual-in_err-comment-in-4.result c.from_residual-in_err-comment-in-4.ensures.1)
-    (went_none _ _ (stops_with _ (body_comment c.args.block_type c.args.length _ c.in-4.is))) c.in_err-comment-in-4.ensures.gives
+    exit_with_memory content_view (comment_view {A = g.row.A.Denot}) _ (err_from_is_err_and c.from_residual-in_err-comment-in-4.result c.from_residual-in_err-comment-in-4.ensures.1)
+    (consumes_none _ _ (stops_with _ (body_comment c.args.block_type c.args.length _ c.in-4.is))) c.in_err-comment-in-4.ensures.gives
 
 pub returns-in_ok-comment-in-4-clause-gives : goal.returns-in_ok-comment-in-4-clause-gives
 returns-in_ok-comment-in-4-clause-gives g c =
-    went_map _ c.in_ok-comment-in-4.ensures.gives (λ p. body_comment c.args.block_type c.args.length _ c.in-4.is ∙ rw p refl)
+    consumes_map _ c.in_ok-comment-in-4.ensures.gives (λ p. body_comment c.args.block_type c.args.length _ c.in-4.is ∙ rw p refl)

@@ -1,9 +1,9 @@
 use Rattle.std.proofs.Common.{rules}
 use Rattle.claxon_format.specs.read.Metadata.{block_header_at}
-use Rattle.claxon_input.proofs.ByteFields.{went_byte, went_big}
+use Rattle.claxon_input.proofs.ByteFields.{consumes_byte, consumes_big}
 use Rattle.claxon_metadata.proofs.metadata.read_metadata_block_header.Goals as goal
 
 pub returns-clause-gives : goal.returns-clause-gives
 unfolding block_header_at
 returns-clause-gives g c =
-    search (rules, went_byte g.R.ReadBytes.source c.in_ok-first.first (search rules) c.in_ok-first.ensures.ok, went_big g.R.ReadBytes.source 3 c.in_ok-length.length (search rules) c.in_ok-length.ensures.ok)
+    search (rules, consumes_byte g.R.ReadBytes.source c.in_ok-first.first (search rules) c.in_ok-first.ensures.ok, consumes_big g.R.ReadBytes.source 3 c.in_ok-length.length (search rules) c.in_ok-length.ensures.ok)

@@ -1,12 +1,12 @@
 use Rattle.std.proofs.Common.{rules, arith}
 use Rattle.std.proofs.lemmas.Grind.{common_steps}
 use Rattle.claxon_format.specs.read.Streaminfo.{format_at}
-use Rattle.claxon_input.proofs.ByteFields.{went_big}
-use Rattle.claxon_input.proofs.CallsInTurn.{went_both}
+use Rattle.claxon_input.proofs.ByteFields.{consumes_big}
+use Rattle.claxon_input.proofs.CallsInTurn.{consumes_then}
 use Rattle.claxon_metadata.proofs.metadata.read_sample_format.Goals as goal
 
 pub returns-clause-gives : goal.returns-clause-gives
 unfolding format_at
 returns-clause-gives g c =
-    went_both _ (went_big g.R.ReadBytes.source 4 c.in_ok-high.high (search rules) c.in_ok-high.ensures.ok) (went_big g.R.ReadBytes.source 4 c.in_ok-low.low (search rules) c.in_ok-low.ensures.ok)
+    consumes_then _ (consumes_big g.R.ReadBytes.source 4 c.in_ok-high.high (search rules) c.in_ok-high.ensures.ok) (consumes_big g.R.ReadBytes.source 4 c.in_ok-low.low (search rules) c.in_ok-low.ensures.ok)
     (λ p q. rw (p, q) (grind (arith, common_steps)))

@@ -1,11 +1,11 @@
 use Rattle.std.proofs.Common.{◌≡◌, refl, arith}
 use Rattle.claxon_format.specs.read.MetadataBlocks.{info_body_at}
 use Rattle.claxon_format.specs.read.Streaminfo.{streaminfo_at}
-use Rattle.claxon_input.proofs.CallsInTurn.{went_none, gives_after}
+use Rattle.claxon_input.proofs.CallsInTurn.{consumes_none, gives_after}
 use Rattle.claxon_metadata.proofs.metadata.read_streaminfo_block.Goals as goal
 
 pub returns-clause-gives : goal.returns-clause-gives
 unfolding info_body_at
 returns-clause-gives g c =
     let whole : c.args.length ≡ 34 = omega arith in
-    gives_after _ c.read_streaminfo.result _ (went_none _ (λ s m. info_body_at c.args.length s ≡ streaminfo_at m) (rw whole refl)) c.read_streaminfo.ensures.gives
+    gives_after _ c.read_streaminfo.result _ (consumes_none _ (λ s m. info_body_at c.args.length s ≡ streaminfo_at m) (rw whole refl)) c.read_streaminfo.ensures.gives

@@ -1,12 +1,12 @@
 use Rattle.std.proofs.Common.{rules}
 use Rattle.claxon_format.specs.read.Streaminfo.{info_fields_at, md5_at}
-use Rattle.claxon_input.proofs.ByteFields.{went_whole, stuck_whole}
+use Rattle.claxon_input.proofs.ByteFields.{consumes_whole, failure_or_whole}
 use Rattle.claxon_metadata.proofs.metadata.read_streaminfo_fields.Goals as goal
 
 pub returns-in_err-read_into-clause-gives : goal.returns-in_err-read_into-clause-gives
 unfolding info_fields_at md5_at
-returns-in_err-read_into-clause-gives g c = search (rules, stuck_whole g.R.ReadBytes.source 16 c.in_err-read_into.ensures.err)
+returns-in_err-read_into-clause-gives g c = search (rules, failure_or_whole g.R.ReadBytes.source 16 c.in_err-read_into.ensures.err)
 
 pub returns-clause-gives : goal.returns-clause-gives
 unfolding info_fields_at md5_at
-returns-clause-gives g c = search (rules, went_whole g.R.ReadBytes.source 16 _ (search rules) c.in_ok-read_into.ensures.ok)
+returns-clause-gives g c = search (rules, consumes_whole g.R.ReadBytes.source 16 _ (search rules) c.in_ok-read_into.ensures.ok)

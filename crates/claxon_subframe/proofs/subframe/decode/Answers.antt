@@ -2,19 +2,19 @@ use Rattle.std.proofs.Common.{ℕ, ◌≤◌, Bool, List, ℤ, length}
 use Rattle.std.specs.Prelude.{Result}
 use Rattle.claxon_format.specs.Subframe.{Subframe, SubframeFault}
 use Rattle.claxon_format.specs.read.Subframe.{subframe_at}
-use Rattle.claxon_format.proofs.Formats.{subframes_told}
+use Rattle.claxon_format.proofs.FormatLaws.{subframes_unambiguous}
 use Rattle.claxon_format.proofs.Subframes.{Reads-subframe}
 use Rattle.claxon_input.specs.declared.error.Error.{Error}
 use Rattle.claxon_input.specs.Gives.{Gives}
 use Rattle.claxon_input.specs.Promises.{Promises}
 use Rattle.claxon_input.specs.State.{State, bits_in}
-use Rattle.claxon_input.proofs.CallsInTurn.{gives_loans, starves_never}
-use Rattle.claxon_input.proofs.Memory.{gives_no_memory}
+use Rattle.claxon_input.proofs.CallsInTurn.{gives_loans, gives_never_out_of_memory}
+use Rattle.claxon_input.proofs.Memory.{gives_not_out_of_memory}
 use Rattle.claxon_input.proofs.Promises.{promises}
 use Rattle.claxon_subframe.proofs.subframe.decode.Goals as goal
 
 promised : {A : Type 0} (view : A → List ℤ) (r : Result A Error) (w n : ℕ) (a b : State Bool) → w ≤ 32 → Gives view r (subframe_at w n) a b → Promises view r (Subframe w n) (SubframeFault w n) a b
-promised view r w n a b few g = promises (Reads-subframe w n few) view r a b (starves_never view r (subframe_at w n) a b g)
+promised view r w n a b few g = promises (Reads-subframe w n few) view r a b (gives_never_out_of_memory view r (subframe_at w n) a b g)
 
 pub returns : goal.returns
 unfolding bits_in
@@ -25,12 +25,12 @@ returns g c =
     record {
       sound = p.sound;
       complete = p.complete;
-      told = subframes_told c.args.bps (length c.args.buffer.now) few;
+      known = subframes_unambiguous c.args.bps (length c.args.buffer.now) few;
       fault = p.fault;
       named = p.named;
       io = p.io;
       front = p.front;
       gives = gives;
-      no_memory = gives_no_memory (λ x. c.decode_exact.new.buffer) c.decode_exact.result _ _ _ gives;
+      no_memory = gives_not_out_of_memory (λ x. c.decode_exact.new.buffer) c.decode_exact.result _ _ _ gives;
       loans = gives_loans (λ x. c.decode_exact.new.buffer) c.decode_exact.result _ _ _ gives;
     }

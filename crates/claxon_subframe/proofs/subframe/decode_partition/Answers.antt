@@ -1,21 +1,21 @@
 use Rattle.std.proofs.Common.{length, arith}
 use Rattle.std.proofs.lemmas.Result.{err_from_is_err_and}
-use Rattle.claxon_input.proofs.CallsInTurn.{gives_after, io_exit, stuck_told, went_map}
+use Rattle.claxon_input.proofs.CallsInTurn.{gives_after, io_exit, failure_or_known, consumes_map}
 use Rattle.claxon_subframe.specs.SubframeFields.{method_of}
-use Rattle.claxon_subframe.proofs.PartitionParameter.{escape_of, plain_of, partition_short, partition_escaped, partition_plain}
+use Rattle.claxon_subframe.proofs.PartitionParameter.{escape_of, rice_parameter_of, partition_incomplete, partition_escaped, partition_rice}
 use Rattle.claxon_subframe.proofs.subframe.decode_partition.Goals as goal
 
 pub returns-in_err-read_leq_u8 : goal.returns-in_err-read_leq_u8
 returns-in_err-read_leq_u8 g c =
     io_exit _ (err_from_is_err_and c.from_residual.result c.from_residual.ensures.1)
-    (stuck_told _ c.in_err-read_leq_u8.ensures.gives (λ t. partition_short (method_of c.args.partition_type) _ (length c.args.buffer.now) _ c.parameter_bits-bits.ensures))
+    (failure_or_known _ c.in_err-read_leq_u8.ensures.gives (λ t. partition_incomplete (method_of c.args.partition_type) _ (length c.args.buffer.now) _ c.parameter_bits-bits.ensures))
 
 pub returns-then-parameter-escape : goal.returns-then-parameter-escape
 returns-then-parameter-escape g c =
     let escaped = escape_of c.args.partition_type c.parameter_bits-bits.result c.in_ok-read_leq_u8.field-0 c.parameter_bits-bits.ensures (omega arith) in
-    gives_after _ c.decode_escape_partition.result _ (went_map _ c.in_ok-read_leq_u8.ensures.gives (partition_escaped (method_of c.args.partition_type) _ (length c.args.buffer.now) _ c.parameter_bits-bits.ensures escaped)) c.decode_escape_partition.ensures
+    gives_after _ c.decode_escape_partition.result _ (consumes_map _ c.in_ok-read_leq_u8.ensures.gives (partition_escaped (method_of c.args.partition_type) _ (length c.args.buffer.now) _ c.parameter_bits-bits.ensures escaped)) c.decode_escape_partition.ensures
 
 pub returns : goal.returns
 returns g c =
-    let plain = (plain_of c.args.partition_type c.parameter_bits-bits.result c.from-parameter.result c.parameter_bits-bits.ensures (omega (arith, c.in_ok-read_leq_u8.ensures.value)) c.if-parameter-escape.false).plain in
-    gives_after _ c.read_words.result _ (went_map _ c.in_ok-read_leq_u8.ensures.gives (λ p. partition_plain (method_of c.args.partition_type) _ (length c.args.buffer.now) _ c.parameter_bits-bits.ensures plain (rw c.from-parameter.ensures p))) c.read_words.ensures
+    let plain = (rice_parameter_of c.args.partition_type c.parameter_bits-bits.result c.from-parameter.result c.parameter_bits-bits.ensures (omega (arith, c.in_ok-read_leq_u8.ensures.value)) c.if-parameter-escape.false).plain in
+    gives_after _ c.read_rice_codes.result _ (consumes_map _ c.in_ok-read_leq_u8.ensures.gives (λ p. partition_rice (method_of c.args.partition_type) _ (length c.args.buffer.now) _ c.parameter_bits-bits.ensures plain (rw c.from-parameter.ensures p))) c.read_rice_codes.ensures

@@ -6,8 +6,8 @@ use Rattle.claxon_format.specs.Reading.{Done}
 use Rattle.claxon_format.specs.Bits.{Bits}
 use Rattle.claxon_format.specs.Residual.{partition_lengths}
 use Rattle.claxon_format.specs.read.Bits.{number_at}
-use Rattle.claxon_format.specs.read.Residual.{partition_at, residual_at, method_at, parts_at, joined_at}
-use Rattle.claxon_input.proofs.CallsInTurn.{went_both, went_none, exit, io_exit, stuck_after, stops_after, gives_after}
+use Rattle.claxon_format.specs.read.Residual.{partition_at, residual_at, method_at, partitions_at, joined_at}
+use Rattle.claxon_input.proofs.CallsInTurn.{consumes_then, consumes_none, exit, io_exit, failure_or_after, stops_after, gives_after}
 use Rattle.claxon_subframe.specs.SubframeFields.{method_of}
 use Rattle.claxon_subframe.specs.Partitions.{lengths}
 use Rattle.claxon_input.proofs.Faults.{stops_fault}
@@ -16,35 +16,35 @@ use Rattle.claxon_subframe.proofs.subframe.decode_residual.Goals as goal
 
 whole_is : (n order : ℕ) (ls : List ℕ) (method p r : ℕ) (s m k : Bits) → method_at s ≡ Done method m → number_at 4 m ≡ Done r k → p ≡ r → ltb 0 (n % 2 ^ p) ≡ false → ltb (n / 2 ^ p) order ≡ false → ls ≡ partition_lengths n order p
     → residual_at n order s ≡ joined_at (partition_at method) ls k
-unfolding residual_at parts_at
+unfolding residual_at partitions_at
 whole_is n order ls method p r s m k a b e none room l = rw (a, b, ← e, none, room, l) refl
 
 pub returns-in_err-partition_type : goal.returns-in_err-partition_type
 unfolding residual_at
 returns-in_err-partition_type g c =
     exit _ (err_from_is_err_and c.from_residual.result c.from_residual.ensures.1)
-    (stops_after {next = residual_at c.args.block_size (c.args.block_size - length c.args.buffer.now)} (went_none _ _ refl) (record {
+    (stops_after {next = residual_at c.args.block_size (c.args.block_size - length c.args.buffer.now)} (consumes_none _ _ refl) (record {
       fault = λ s f rest e. rw e refl;
       short = λ s e. rw e refl;
     }) c.in_err-partition_type.ensures)
 
 pub returns-in_err-read_leq_u8 : goal.returns-in_err-read_leq_u8
-unfolding residual_at parts_at
+unfolding residual_at partitions_at
 returns-in_err-read_leq_u8 g c =
     io_exit _ (err_from_is_err_and c.from_residual-in_err-read_leq_u8.result c.from_residual-in_err-read_leq_u8.ensures.1)
-    (stuck_after _ c.in_ok-partition_type.ensures c.in_err-read_leq_u8.ensures.gives (λ p q. rw (p, q) refl))
+    (failure_or_after _ c.in_ok-partition_type.ensures c.in_err-read_leq_u8.ensures.gives (λ p q. rw (p, q) refl))
 
 pub returns-then-from-n_partitions-ne0 : goal.returns-then-from-n_partitions-ne0
-unfolding residual_at parts_at fault_text
+unfolding residual_at partitions_at fault_text
 returns-then-from-n_partitions-ne0 g c =
     let m = mask_is c.args.block_size c.from-order.result (omega (arith, c.in_ok-read_leq_u8.ensures.value)) in
     let order = c.from-order.ensures in
     let rest : c.args.block_size % 2 ^ c.in_ok-read_leq_u8.field-0 ≢ 0 = grind arith in
     let some : ltb 0 (c.args.block_size % 2 ^ c.in_ok-read_leq_u8.field-0) ≡ true = lt-ltb _ _ (omega arith) in
-    stops_fault PartitionOrder refl refl (refl, refl) (went_both _ c.in_ok-partition_type.ensures c.in_ok-read_leq_u8.ensures.gives (λ p q. rw (p, q, some) refl))
+    stops_fault PartitionOrder refl refl (refl, refl) (consumes_then _ c.in_ok-partition_type.ensures c.in_ok-read_leq_u8.ensures.gives (λ p q. rw (p, q, some) refl))
 
 pub returns-then-n_warm_up-n_samples_per_partition : goal.returns-then-n_warm_up-n_samples_per_partition
-unfolding residual_at parts_at fault_text
+unfolding residual_at partitions_at fault_text
 returns-then-n_warm_up-n_samples_per_partition g c =
     let m = mask_is c.args.block_size c.from-order.result (omega (arith, c.in_ok-read_leq_u8.ensures.value)) in
     let order = c.from-order.ensures in
@@ -52,7 +52,7 @@ returns-then-n_warm_up-n_samples_per_partition g c =
     let none : ltb 0 (c.args.block_size % 2 ^ c.in_ok-read_leq_u8.field-0) ≡ false = le-ltb _ _ (omega arith) in
     let few : c.args.block_size / 2 ^ c.in_ok-read_leq_u8.field-0 < c.args.block_size - length c.args.buffer.now = grind arith in
     let short : ltb (c.args.block_size / 2 ^ c.in_ok-read_leq_u8.field-0) (c.args.block_size - length c.args.buffer.now) ≡ true = lt-ltb _ _ few in
-    stops_fault PartitionShort refl refl (refl, refl) (went_both _ c.in_ok-partition_type.ensures c.in_ok-read_leq_u8.ensures.gives (λ p q. rw (p, q, none, short) refl))
+    stops_fault PartitionShort refl refl (refl, refl) (consumes_then _ c.in_ok-partition_type.ensures c.in_ok-read_leq_u8.ensures.gives (λ p q. rw (p, q, none, short) refl))
 
 pub decode_partitions-requires : goal.decode_partitions-requires
 decode_partitions-requires g c =
@@ -69,6 +69,6 @@ returns g c =
     let room : ltb (c.args.block_size / 2 ^ c.from-order.result) (c.args.block_size - length c.args.buffer.now) ≡ false = le-ltb _ _ (omega arith) in
     let l = lengths_are c.args.block_size (c.args.block_size - length c.args.buffer.now) c.from-order.result small in
     let parts = lengths (1 * 2 ^ c.from-order.result % 4294967296) (c.args.block_size / 2 ^ c.from-order.result - (c.args.block_size - length c.args.buffer.now)) (c.args.block_size / 2 ^ c.from-order.result) in
-    gives_after _ c.decode_partitions.result _ (went_both (λ s m. residual_at c.args.block_size (c.args.block_size - length c.args.buffer.now) s ≡ joined_at (partition_at (method_of c.in_ok-partition_type.partition_type)) parts m)
+    gives_after _ c.decode_partitions.result _ (consumes_then (λ s m. residual_at c.args.block_size (c.args.block_size - length c.args.buffer.now) s ≡ joined_at (partition_at (method_of c.in_ok-partition_type.partition_type)) parts m)
     c.in_ok-partition_type.ensures c.in_ok-read_leq_u8.ensures.gives (λ p q.
     whole_is c.args.block_size (c.args.block_size - length c.args.buffer.now) parts (method_of c.in_ok-partition_type.partition_type) c.from-order.result c.in_ok-read_leq_u8.field-0 _ _ _ p q c.from-order.ensures none room l)) c.decode_partitions.ensures

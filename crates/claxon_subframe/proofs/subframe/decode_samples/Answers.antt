@@ -2,27 +2,27 @@ use Rattle.std.proofs.Common.{◌≡◌, ℕ, ◌≤◌, length, replicate, refl
 use Rattle.claxon_format.specs.Bits.{Bits}
 use Rattle.claxon_format.specs.Reading.{and_then, done, times_at}
 use Rattle.claxon_format.specs.read.Bits.{signed_at}
-use Rattle.claxon_format.specs.read.Subframe.{fixed_at, kind_at, linear_at}
+use Rattle.claxon_format.specs.read.Subframe.{fixed_at, subframe_body_at, linear_at}
 use Rattle.claxon_subframe.specs.SubframeFields.{type_number}
 use Rattle.claxon_subframe.specs.declared.subframe.SubframeType.{SubframeType}
 use Rattle.claxon_subframe.specs.declared.subframe.SubframeType.TheVariants.{Constant, Verbatim, Fixed, Lpc}
-use Rattle.claxon_subframe.proofs.KindNumbers.{fixed_kind, linear_kind}
+use Rattle.claxon_subframe.proofs.SubframeTypeNumbers.{type_is_fixed, type_is_linear}
 use Rattle.claxon_input.proofs.CallsInTurn.{gives_same}
 use Rattle.claxon_subframe.proofs.subframe.decode_samples.Goals as goal
 
-constant_is : (kind : SubframeType) (w n : ℕ) → kind ≡ Constant → (s : Bits) → kind_at w n (type_number kind) s ≡ (and_then (signed_at w) (λ x. done (replicate n x))) s
-unfolding kind_at
+constant_is : (kind : SubframeType) (w n : ℕ) → kind ≡ Constant → (s : Bits) → subframe_body_at w n (type_number kind) s ≡ (and_then (signed_at w) (λ x. done (replicate n x))) s
+unfolding subframe_body_at
 constant_is kind w n e s = rw e refl
 
-verbatim_is : (kind : SubframeType) (w n : ℕ) → kind ≡ Verbatim → (s : Bits) → kind_at w n (type_number kind) s ≡ times_at n (signed_at w) s
-unfolding kind_at
+verbatim_is : (kind : SubframeType) (w n : ℕ) → kind ≡ Verbatim → (s : Bits) → subframe_body_at w n (type_number kind) s ≡ times_at n (signed_at w) s
+unfolding subframe_body_at
 verbatim_is kind w n e s = rw e refl
 
-fixed_is : (kind : SubframeType) (w n order : ℕ) → order ≤ 4 → kind ≡ Fixed order → (s : Bits) → kind_at w n (type_number kind) s ≡ fixed_at w n order s
-fixed_is kind w n order four e s = rw (e, fixed_kind w n order four) refl
+fixed_is : (kind : SubframeType) (w n order : ℕ) → order ≤ 4 → kind ≡ Fixed order → (s : Bits) → subframe_body_at w n (type_number kind) s ≡ fixed_at w n order s
+fixed_is kind w n order four e s = rw (e, type_is_fixed w n order four) refl
 
-lpc_is : (kind : SubframeType) (w n order : ℕ) → kind ≡ Lpc order → (s : Bits) → kind_at w n (type_number kind) s ≡ linear_at w n order s
-lpc_is kind w n order e s = rw (e, linear_kind w n order) refl
+lpc_is : (kind : SubframeType) (w n order : ℕ) → kind ≡ Lpc order → (s : Bits) → subframe_body_at w n (type_number kind) s ≡ linear_at w n order s
+lpc_is kind w n order e s = rw (e, type_is_linear w n order) refl
 
 pub returns-in-Constant : goal.returns-in-Constant
 returns-in-Constant g c =

@@ -1,6 +1,6 @@
 use Rattle.std.proofs.Common.{◌≡◌, ◌^◌, ◌∙◌, ap, arith}
 use Rattle.std.proofs.lemmas.Grind.{common_steps}
-use Rattle.claxon_format.specs.Bits.{twos}
+use Rattle.claxon_format.specs.Bits.{twos_complement}
 use Rattle.claxon_format.specs.read.Bits.{signed_at}
 use Rattle.claxon_format.proofs.Numbers.{mod_small}
 use Rattle.claxon_subframe.proofs.subframe.read_sample.Goals as goal
@@ -8,6 +8,6 @@ use Rattle.claxon_subframe.proofs.subframe.read_sample.Goals as goal
 pub returns : goal.returns
 unfolding signed_at
 returns g c =
-    let k : c.extend_sign_u32.result ≡ twos c.args.bps c.in_ok-sample.sample
-    = c.extend_sign_u32.ensures.value ∙ ap (twos c.args.bps) (mod_small c.in_ok-sample.sample (2 ^ c.args.bps) c.in_ok-sample.ensures.value) in
+    let k : c.extend_sign_u32.result ≡ twos_complement c.args.bps c.in_ok-sample.sample
+    = c.extend_sign_u32.ensures.value ∙ ap (twos_complement c.args.bps) (mod_small c.in_ok-sample.sample (2 ^ c.args.bps) c.in_ok-sample.ensures.value) in
     grind (arith, common_steps)

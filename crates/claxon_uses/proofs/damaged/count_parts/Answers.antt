@@ -2,7 +2,7 @@ use Rattle.std.proofs.Common.{◌∙◌, ap, arith, inr, Ok, Option}
 use Rattle.std.proofs.lemmas.Result.{err_from_is_err_and}
 use Rattle.claxon.specs.Block.{BlockValue}
 use Rattle.claxon.specs.FrameReader.{frame_bytes}
-use Rattle.claxon_uses.proofs.Verified.{counts_all, end_met, fault_taken, frame_taken, passes_frame, takes_fault, takes_frame, too_many}
+use Rattle.claxon_uses.proofs.Verified.{counts_all, eof_reached, fault_taken, frame_taken, exceeds_frame, takes_fault, takes_frame, too_many}
 use Rattle.claxon_uses.proofs.damaged.count_parts.Goals.{in-Ok-Some+in_ok-found-in-Ok-Some, in-Err+in_ok-found-in-Err}
 use Rattle.claxon_uses.proofs.damaged.count_parts.Goals as goal
 
@@ -41,7 +41,7 @@ returns-in_err-found-in-Ok-Some-clause-err g c =
     let is = c.in-Ok-Some.is ∙ ap (λ (z : Option BlockValue). Ok z) c.in-Ok-Some.field-0-is in
     let k = c.in_err-found-in-Ok-Some.ensures.err in
     let p = err_from_is_err_and c.from_residual.result c.from_residual.ensures.1 in
-    rw (p.1, p.2) (inr (inr (k.0, passes_frame b v.so_far block _ (frame_taken v.stream a b block is e.sound) c.duration.ensures.value _ k)))
+    rw (p.1, p.2) (inr (inr (k.0, exceeds_frame b v.so_far block _ (frame_taken v.stream a b block is e.sound) c.duration.ensures.value _ k)))
 
 pub returns-clause-err : goal.returns-clause-err
 returns-clause-err g c =
@@ -53,4 +53,4 @@ returns-in-Ok-None-clause-ok g c =
     let a = frame_bytes g.R.ReadBytes.source c.loop.reader in
     let b = frame_bytes g.R.ReadBytes.source c.read_next_or_eof.new.self in
     let is = c.in-Ok-None.is ∙ ap (λ (z : Option BlockValue). Ok z) c.in-Ok-None.field-0-is in
-    counts_all b c.loop.invariant.so_far (end_met a b is c.read_next_or_eof.ensures.at_end)
+    counts_all b c.loop.invariant.so_far (eof_reached a b is c.read_next_or_eof.ensures.at_end)

@@ -1,7 +1,7 @@
 use Rattle.std.proofs.lemmas.Result.{err_from_is_err_and}
 use Rattle.claxon.specs.FlacReader.{samples_input}
 use Rattle.claxon.specs.FlacSamples.{samples_stream}
-use Rattle.claxon_uses.proofs.FirstSamples.{first_answer, not_opened}
+use Rattle.claxon_uses.proofs.FirstSamples.{first_samples_promises, not_opened}
 use Rattle.claxon_uses.proofs.Opened.{opened}
 use Rattle.claxon_uses.proofs.samples.first_samples.Goals as goal
 
@@ -19,5 +19,5 @@ returns g c =
     let flac = c.in_ok-flac.flac in
     let old = c.samples.result in
     let o = opened g.R.Read.remaining c.args.reader flac (samples_input old) (samples_stream old) e.sound e.complete e.named n.input n.stream in
-    let k = first_answer c.args.count g.R.Read.remaining c.args.reader flac old o n.none_left c.first_of.result c.first_of.ensures.ok c.first_of.ensures.err in
+    let k = first_samples_promises c.args.count g.R.Read.remaining c.args.reader flac old o n.none_left c.first_of.result c.first_of.ensures.ok c.first_of.ensures.err in
     record { sound = k.sound; complete = k.complete; fault = k.fault; named = k.named }

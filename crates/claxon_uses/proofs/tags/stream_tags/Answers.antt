@@ -1,6 +1,6 @@
 use Rattle.std.proofs.lemmas.Result.{err_from_is_err_and}
-use Rattle.claxon.specs.ReadHead.{wishes}
-use Rattle.claxon_uses.proofs.StreamTags.{no_tags, tags_answered, wishes_alone}
+use Rattle.claxon.specs.ReadHead.{options_view}
+use Rattle.claxon_uses.proofs.StreamTags.{no_tags, tags_answered, options_alone}
 use Rattle.claxon_uses.proofs.tags.stream_tags.Goals as goal
 
 pub returns-in_err-flac : goal.returns-in_err-flac
@@ -8,14 +8,14 @@ returns-in_err-flac g c =
     let p = err_from_is_err_and c.from_residual.result c.from_residual.ensures.1 in
     let e = c.in_err-flac.ensures in
     let options = c.head_options.result in
-    let alone = wishes_alone options c.head_options.ensures.only c.head_options.ensures.comment in
-    let k = no_tags {A = g.row.A.Denot} g.R.Read.remaining c.args.reader (wishes options) alone c.in_err-flac.field-0.0 e.complete e.fault e.named in
+    let alone = options_alone options c.head_options.ensures.only c.head_options.ensures.comment in
+    let k = no_tags {A = g.row.A.Denot} g.R.Read.remaining c.args.reader (options_view options) alone c.in_err-flac.field-0.0 e.complete e.fault e.named in
     rw (p.1, p.2) (record { sound = k.sound; complete = k.complete; fault = k.fault; named = k.named })
 
 pub returns : goal.returns
 returns g c =
     let e = c.in_ok-flac.ensures in
     let options = c.head_options.result in
-    let alone = wishes_alone options c.head_options.ensures.only c.head_options.ensures.comment in
-    let k = tags_answered g.R.Read.remaining c.args.reader (wishes options) alone c.in_ok-flac.flac e.sound e.complete e.named c.tag_lines.result c.tag_lines.ensures.lines c.tag_lines.ensures.memory in
+    let alone = options_alone options c.head_options.ensures.only c.head_options.ensures.comment in
+    let k = tags_answered g.R.Read.remaining c.args.reader (options_view options) alone c.in_ok-flac.flac e.sound e.complete e.named c.tag_lines.result c.tag_lines.ensures.lines c.tag_lines.ensures.memory in
     record { sound = k.sound; complete = k.complete; fault = k.fault; named = k.named }

@@ -2,7 +2,7 @@ use Rattle.std.proofs.Common.{rules, refl, inl, sym, ◌∙◌}
 use Rattle.std.proofs.lemmas.Result.{err_from_is_err_and}
 use Rattle.claxon.specs.FlacReader.{flac_head}
 use Rattle.claxon.specs.Opening.{flac_bytes, unread}
-use Rattle.claxon_write.proofs.Runs.{fronts, opened_complete, opened_named, ran, refused, refused_complete, refused_named, stopped}
+use Rattle.claxon_write.proofs.Runs.{fronts, opened_complete, opened_fault_complete, ran, refused, not_opened_complete, not_opened_fault_complete, stopped}
 use Rattle.claxon_write.proofs.stream.run.Goals as goal
 
 pub returns-clause-ok : goal.returns-clause-ok
@@ -10,7 +10,7 @@ returns-clause-ok g c =
     let same = c.into_inner.ensures.same_reference ∙ (c.write_samples-outcome.ensures.same_reference ∙ c.new-output.ensures.same_reference) in
     let e = sym same in
     let k = ran g.W.Write.contents (flac_head c.in_ok-flac.flac) (unread (g.R.Read.remaining c.args.input)) (flac_bytes g.R.Read.remaining c.in_ok-flac.flac) _ (g.W.Write.contents c.args.output.now) c.new-output.result c.write_samples-outcome.new.output
-    c.in_ok-flac.ensures.sound c.new-output.ensures.held c.new-output.ensures.none_wait c.write_samples-outcome.result c.write_samples-outcome.ensures.ok in
+    c.in_ok-flac.ensures.sound c.new-output.ensures.held c.new-output.ensures.none_pending c.write_samples-outcome.result c.write_samples-outcome.ensures.ok in
     let w = c.into_inner.ensures.writer in
     let j = rw (← w) at k in
     search rules
@@ -20,7 +20,7 @@ returns-clause-err g c =
     let same = c.into_inner.ensures.same_reference ∙ (c.write_samples-outcome.ensures.same_reference ∙ c.new-output.ensures.same_reference) in
     let e = sym same in
     let k = stopped g.W.Write.contents (flac_head c.in_ok-flac.flac) (unread (g.R.Read.remaining c.args.input)) (flac_bytes g.R.Read.remaining c.in_ok-flac.flac) _ (g.W.Write.contents c.args.output.now) c.new-output.result c.write_samples-outcome.new.output
-    c.in_ok-flac.ensures.sound c.new-output.ensures.held c.new-output.ensures.none_wait c.write_samples-outcome.result c.write_samples-outcome.ensures.err in
+    c.in_ok-flac.ensures.sound c.new-output.ensures.held c.new-output.ensures.none_pending c.write_samples-outcome.result c.write_samples-outcome.ensures.err in
     let w = c.into_inner.ensures.writer in
     let j = rw (← w) at k in
     search rules
@@ -30,7 +30,7 @@ returns-clause-front g c =
     let same = c.into_inner.ensures.same_reference ∙ (c.write_samples-outcome.ensures.same_reference ∙ c.new-output.ensures.same_reference) in
     let e = sym same in
     let k = fronts g.W.Write.contents (flac_head c.in_ok-flac.flac) (unread (g.R.Read.remaining c.args.input)) (flac_bytes g.R.Read.remaining c.in_ok-flac.flac) _ (g.W.Write.contents c.args.output.now) c.new-output.result c.write_samples-outcome.new.output
-    c.in_ok-flac.ensures.sound c.new-output.ensures.held c.new-output.ensures.none_wait c.write_samples-outcome.result c.write_samples-outcome.ensures.err in
+    c.in_ok-flac.ensures.sound c.new-output.ensures.held c.new-output.ensures.none_pending c.write_samples-outcome.result c.write_samples-outcome.ensures.err in
     let w = c.into_inner.ensures.writer in
     let j = rw (← w) at k in
     search rules
@@ -43,7 +43,7 @@ returns-clause-complete g c =
 
 pub returns-clause-named : goal.returns-clause-named
 returns-clause-named g c =
-    let k = opened_named g.R.Read.remaining c.args.input c.in_ok-flac.flac c.write_samples-outcome.new.flac c.write_samples-outcome.result c.new-output.result c.write_samples-outcome.new.output c.in_ok-flac.ensures.complete
+    let k = opened_fault_complete g.R.Read.remaining c.args.input c.in_ok-flac.flac c.write_samples-outcome.new.flac c.write_samples-outcome.result c.new-output.result c.write_samples-outcome.new.output c.in_ok-flac.ensures.complete
     c.write_samples-outcome.ensures.named c.in_ok-flac.ensures.named in
     search rules
 
@@ -55,14 +55,14 @@ returns-in_err-flac-clause-err g c =
 pub returns-in_err-flac-clause-front : goal.returns-in_err-flac-clause-front
 returns-in_err-flac-clause-front g c =
     let p = err_from_is_err_and c.from_residual.result c.from_residual.ensures.1 in
-    rw (p.1, p.2) (record { written = λ told. inl refl })
+    rw (p.1, p.2) (record { written = λ known. inl refl })
 
 pub returns-in_err-flac-clause-complete : goal.returns-in_err-flac-clause-complete
 returns-in_err-flac-clause-complete g c =
     let p = err_from_is_err_and c.from_residual.result c.from_residual.ensures.1 in
-    rw (p.1, p.2) (refused_complete g.R.Read.remaining c.args.input _ c.in_err-flac.ensures.complete)
+    rw (p.1, p.2) (not_opened_complete g.R.Read.remaining c.args.input _ c.in_err-flac.ensures.complete)
 
 pub returns-in_err-flac-clause-named : goal.returns-in_err-flac-clause-named
 returns-in_err-flac-clause-named g c =
     let p = err_from_is_err_and c.from_residual.result c.from_residual.ensures.1 in
-    rw (p.1, p.2) (refused_named g.R.Read.remaining c.args.input _ c.in_err-flac.ensures.complete c.in_err-flac.ensures.named)
+    rw (p.1, p.2) (not_opened_fault_complete g.R.Read.remaining c.args.input _ c.in_err-flac.ensures.complete c.in_err-flac.ensures.named)

@@ -17,8 +17,8 @@ returns-then-more-clause-step g c =
       reads =
           subst (λ (f : FrameReader g.row.R.Denot). ReadsFrame (samples_stream c.args.self.now) (Ok (Some mid.block)) (samples_bytes g.R.ReadBytes.source c.args.self.now) (bytes_in g.R.ReadBytes.source (frame_input f)))
           (sym c.give.ensures.stream) read;
-      memory = λ starved. absurd cc;
-      enough = λ starved. absurd cc;
+      memory = λ out_of_memory. absurd cc;
+      enough = λ out_of_memory. absurd cc;
       capacity = capacity;
       answer =
           (c.give.result, samples_left c.give.new.self, sym (c.in-Ok.ensures.left c.if-more.true) ∙ c.give.ensures.sample, record { is = refl; left_are = refl; goes_on = c.give.ensures.has_failed ∙ c.in-Ok.ensures.has_failed ∙ c.requires }, c.give.ensures.capacity);
@@ -30,8 +30,8 @@ returns-else-more-clause-step g c =
       found = Ok None;
       reads = rw c.if-more.false at c.in-Ok.ensures.reads;
       answer = (refl, c.in-Ok.ensures.none_left c.if-more.false, search rules);
-      memory = λ starved. absurd cc;
-      enough = λ starved. absurd cc;
+      memory = λ out_of_memory. absurd cc;
+      enough = λ out_of_memory. absurd cc;
       capacity = rw c.if-more.false at c.in-Ok.ensures.capacity;
     }
 

@@ -1,8 +1,8 @@
 use Rattle.std.proofs.Common.{◌≡◌, ℕ, zero, suc, ◌-◌, ◌*◌, ◌%◌, ◌^◌, ◌≤◌, refl, arith}
-use Rattle.claxon_format.specs.read.Header.{size_spelling, ByCode}
+use Rattle.claxon_format.specs.read.Header.{size_coding, ByCode}
 use Rattle.claxon_frame.proofs.frame.header.block_size_of.Goals as goal
 
-small : (code : ℕ) → 2 ≤ code → code ≤ 5 → ByCode (576 * 2 ^ (code - 2) % 65536) ≡ size_spelling code
+small : (code : ℕ) → 2 ≤ code → code ≤ 5 → ByCode (576 * 2 ^ (code - 2) % 65536) ≡ size_coding code
 small (suc (suc zero)) lo hi = refl
 small (suc (suc (suc zero))) lo hi = refl
 small (suc (suc (suc (suc zero)))) lo hi = refl

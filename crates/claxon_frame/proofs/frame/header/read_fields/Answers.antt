@@ -4,16 +4,16 @@ use Rattle.claxon_format.specs.Reading.{and_then, done}
 use Rattle.claxon_format.specs.read.Bytes.{big_at}
 use Rattle.claxon_format.specs.read.Header.{channels_at, codes_at, fields_after, fields_of, number_in, rate_at, size_at}
 use Rattle.claxon_input.specs.State.{State}
-use Rattle.claxon_input.specs.Gives.{Went}
-use Rattle.claxon_input.proofs.CallsInTurn.{exit, went_none}
+use Rattle.claxon_input.specs.Gives.{Consumes}
+use Rattle.claxon_input.proofs.CallsInTurn.{exit, consumes_none}
 use Rattle.claxon_frame.specs.FrameHeader.{is_variable}
-use Rattle.claxon_subframe.proofs.FieldsInTurn.{then_went, then_stops}
+use Rattle.claxon_subframe.proofs.ConsecutiveFields.{then_consumes, then_stops}
 use Rattle.claxon_frame.proofs.frame.header.read_fields.Goals as goal
 
-begins : (variable : Bool) (a : State ℕ) → Went a a (λ s m. fields_after big_at variable s ≡ and_then (codes_at big_at) (λ spelled. and_then (channels_at big_at) (λ codes. and_then (number_in big_at variable) (λ time.
+begins : (variable : Bool) (a : State ℕ) → Consumes a a (λ s m. fields_after big_at variable s ≡ and_then (codes_at big_at) (λ spelled. and_then (channels_at big_at) (λ codes. and_then (number_in big_at variable) (λ time.
     and_then (size_at big_at spelled.0) (λ size. and_then (rate_at big_at spelled.1) (λ rate. done (fields_of time codes size)))))) m)
 unfolding fields_after
-begins variable a = went_none a _ refl
+begins variable a = consumes_none a _ refl
 
 pub returns-in_err-size : goal.returns-in_err-size
 returns-in_err-size g c = exit _ (err_from_is_err_and c.from_residual.result c.from_residual.ensures.1) (then_stops _ (begins (is_variable c.args.blocking) _) c.in_err-size.ensures.gives)
@@ -21,25 +21,25 @@ returns-in_err-size g c = exit _ (err_from_is_err_and c.from_residual.result c.f
 pub returns-in_err-channel_assignment : goal.returns-in_err-channel_assignment
 returns-in_err-channel_assignment g c =
     exit _ (err_from_is_err_and c.from_residual-in_err-channel_assignment.result c.from_residual-in_err-channel_assignment.ensures.1)
-    (then_stops _ (then_went _ (begins (is_variable c.args.blocking) _) c.in_ok-size.ensures.gives) c.in_err-channel_assignment.ensures.gives)
+    (then_stops _ (then_consumes _ (begins (is_variable c.args.blocking) _) c.in_ok-size.ensures.gives) c.in_err-channel_assignment.ensures.gives)
 
 pub returns-in_err-block_time : goal.returns-in_err-block_time
 returns-in_err-block_time g c =
     exit _ (err_from_is_err_and c.from_residual-in_err-block_time.result c.from_residual-in_err-block_time.ensures.1)
-    (then_stops _ (then_went _ (then_went _ (begins (is_variable c.args.blocking) _) c.in_ok-size.ensures.gives) c.in_ok-channel_assignment.ensures.gives) c.in_err-block_time.ensures)
+    (then_stops _ (then_consumes _ (then_consumes _ (begins (is_variable c.args.blocking) _) c.in_ok-size.ensures.gives) c.in_ok-channel_assignment.ensures.gives) c.in_err-block_time.ensures)
 
 pub returns-in_err-block_size : goal.returns-in_err-block_size
 returns-in_err-block_size g c =
     exit _ (err_from_is_err_and c.from_residual-in_err-block_size.result c.from_residual-in_err-block_size.ensures.1)
-    (then_stops _ (then_went _ (then_went _ (then_went _ (begins (is_variable c.args.blocking) _) c.in_ok-size.ensures.gives) c.in_ok-channel_assignment.ensures.gives) c.in_ok-block_time.ensures) c.in_err-block_size.ensures.gives)
+    (then_stops _ (then_consumes _ (then_consumes _ (then_consumes _ (begins (is_variable c.args.blocking) _) c.in_ok-size.ensures.gives) c.in_ok-channel_assignment.ensures.gives) c.in_ok-block_time.ensures) c.in_err-block_size.ensures.gives)
 
 pub returns-in_err-skip_rate : goal.returns-in_err-skip_rate
 returns-in_err-skip_rate g c =
     exit _ (err_from_is_err_and c.from_residual-in_err-skip_rate.result c.from_residual-in_err-skip_rate.ensures.1)
-    (then_stops _ (then_went _ (then_went _ (then_went _ (then_went _ (begins (is_variable c.args.blocking) _) c.in_ok-size.ensures.gives) c.in_ok-channel_assignment.ensures.gives) c.in_ok-block_time.ensures) c.in_ok-block_size.ensures.gives)
+    (then_stops _ (then_consumes _ (then_consumes _ (then_consumes _ (then_consumes _ (begins (is_variable c.args.blocking) _) c.in_ok-size.ensures.gives) c.in_ok-channel_assignment.ensures.gives) c.in_ok-block_time.ensures) c.in_ok-block_size.ensures.gives)
     c.in_err-skip_rate.ensures)
 
 pub returns : goal.returns
 returns g c =
-    then_went _ (then_went _ (then_went _ (then_went _ (then_went _ (begins (is_variable c.args.blocking) _) c.in_ok-size.ensures.gives) c.in_ok-channel_assignment.ensures.gives) c.in_ok-block_time.ensures) c.in_ok-block_size.ensures.gives)
+    then_consumes _ (then_consumes _ (then_consumes _ (then_consumes _ (then_consumes _ (begins (is_variable c.args.blocking) _) c.in_ok-size.ensures.gives) c.in_ok-channel_assignment.ensures.gives) c.in_ok-block_time.ensures) c.in_ok-block_size.ensures.gives)
     c.in_ok-skip_rate.ensures

@@ -5,7 +5,7 @@ use Rattle.claxon_format.specs.Reading.{bind}
 use Rattle.claxon_input.proofs.CallsInTurn.{StopsWith}
 use Rattle.claxon_frame.specs.FrameHeader.{is_variable}
 use Rattle.claxon_format.specs.read.Header.{fields_at, fields_after, sync_at}
-use Rattle.claxon_input.proofs.FieldOrEnd.{exit_or_end, first_stops, after_first, some_ok, some_stops}
+use Rattle.claxon_input.proofs.FieldOrEof.{exit_or_eof, first_stops, after_first, some_ok, some_stops}
 use Rattle.claxon_frame.proofs.frame.header.read_fields_or_eof.Goals as goal
 
 stops_with : StopsWith (sync_at big_at) (fields_at big_at)
@@ -17,12 +17,12 @@ stops_with = record {
 
 pub returns-in_err-blocking : goal.returns-in_err-blocking
 returns-in_err-blocking g c =
-    exit_or_end 2 _ (fields_at big_at) (err_from_is_err_and c.from_residual.result c.from_residual.ensures.1) (first_stops 2 (sync_at big_at) (fields_at big_at) stops_with c.in_err-blocking.ensures)
+    exit_or_eof 2 _ (fields_at big_at) (err_from_is_err_and c.from_residual.result c.from_residual.ensures.1) (first_stops 2 (sync_at big_at) (fields_at big_at) stops_with c.in_err-blocking.ensures)
 
 pub returns-in_err-read_fields : goal.returns-in_err-read_fields
 unfolding fields_at
 returns-in_err-read_fields g c =
-    exit_or_end 2 _ (fields_at big_at) (err_from_is_err_and c.from_residual-in_err-read_fields.result c.from_residual-in_err-read_fields.ensures.1)
+    exit_or_eof 2 _ (fields_at big_at) (err_from_is_err_and c.from_residual-in_err-read_fields.result c.from_residual-in_err-read_fields.ensures.1)
     (some_stops 2 (fields_at big_at) (fields_after big_at (is_variable c.in-Some.blocking)) (after_first 2 (sync_at big_at) (fields_at big_at) (fields_after big_at (is_variable c.in-Some.blocking)) (λ s m e. ap (λ x. bind x (fields_after big_at)) e) (rw c.in-Some.is at c.in_ok-blocking.ensures)) c.in_err-read_fields.ensures)
 
 pub returns : goal.returns

@@ -1,74 +1,74 @@
 use Rattle.std.proofs.Common.{◌≡◌, ℕ, List, Option, refl, ap}
 use Rattle.std.proofs.lemmas.Result.{err_from_is_err_and}
-use Rattle.claxon_format.specs.Frame.{StreamShape, known_width}
+use Rattle.claxon_format.specs.Frame.{StreamFormat, known_width}
 use Rattle.claxon_format.specs.Header.{Fields, header_with}
 use Rattle.claxon_format.specs.Reading.{Done, Reading, and_then, bind, done}
 use Rattle.claxon_input.specs.State.{bytes_in}
-use Rattle.claxon_input.proofs.CallsInTurn.{StopsWith, stops_after, went_map, went_none}
+use Rattle.claxon_input.proofs.CallsInTurn.{StopsWith, stops_after, consumes_map, consumes_none}
 use Rattle.claxon_format.specs.read.Frame.{Start, start_of, start_at}
-use Rattle.claxon_frame.specs.FrameStart.{fields_view, shape_view}
-use Rattle.claxon_format.specs.read.Header.{guarded_at, width_at}
-use Rattle.claxon_frame.proofs.BehindReference.{ends_loans}
-use Rattle.claxon_input.proofs.Memory.{stops_no_memory}
-use Rattle.claxon_input.proofs.FieldOrEnd.{after_first, exit_or_end, first_stops, some_ok, some_stops}
+use Rattle.claxon_frame.specs.FrameStart.{fields_view, stream_format_view}
+use Rattle.claxon_format.specs.read.Header.{fields_with_crc_at, width_at}
+use Rattle.claxon_frame.proofs.CrcOverBorrow.{gives_or_eof_loans}
+use Rattle.claxon_input.proofs.Memory.{stops_not_out_of_memory}
+use Rattle.claxon_input.proofs.FieldOrEof.{after_first, exit_or_eof, first_stops, some_ok, some_stops}
 use Rattle.claxon_frame.proofs.frame.header.read_frame_header_or_eof.Goals as goal
 
 -- what the fields say, read behind them
-said_at : Option StreamShape → Fields → List ℕ → Reading ℕ Start
-said_at stream f = and_then (width_at (known_width stream) f) (λ w. done (start_of stream (header_with f w)))
+start_after : Option StreamFormat → Fields → List ℕ → Reading ℕ Start
+start_after stream f = and_then (width_at (known_width stream) f) (λ w. done (start_of stream (header_with f w)))
 
-behind_guard : (stream : Option StreamShape) (f : Fields) (s m : List ℕ) → guarded_at s ≡ Done f m → start_at stream s ≡ said_at stream f m
-unfolding start_at said_at
-behind_guard stream f s m e = ap (λ x. bind x (said_at stream)) e
+after_crc : (stream : Option StreamFormat) (f : Fields) (s m : List ℕ) → fields_with_crc_at s ≡ Done f m → start_at stream s ≡ start_after stream f m
+unfolding start_at start_after
+after_crc stream f s m e = ap (λ x. bind x (start_after stream)) e
 
-stops_with : (stream : Option StreamShape) → StopsWith guarded_at (start_at stream)
-unfolding start_at said_at
+stops_with : (stream : Option StreamFormat) → StopsWith fields_with_crc_at (start_at stream)
+unfolding start_at start_after
 stops_with stream = record {
-  fault = λ s f rest e. ap (λ x. bind x (said_at stream)) e;
-  short = λ s e. ap (λ x. bind x (said_at stream)) e;
+  fault = λ s f rest e. ap (λ x. bind x (start_after stream)) e;
+  short = λ s e. ap (λ x. bind x (start_after stream)) e;
 }
 
 pub returns-in_err-fields-clause-gives : goal.returns-in_err-fields-clause-gives
 returns-in_err-fields-clause-gives g c =
-    exit_or_end 2 _ (start_at (shape_view c.args.stream)) (err_from_is_err_and c.from_residual.result c.from_residual.ensures.1)
-    (first_stops 2 guarded_at (start_at (shape_view c.args.stream)) (stops_with (shape_view c.args.stream)) c.in_err-fields.ensures)
+    exit_or_eof 2 _ (start_at (stream_format_view c.args.stream)) (err_from_is_err_and c.from_residual.result c.from_residual.ensures.1)
+    (first_stops 2 fields_with_crc_at (start_at (stream_format_view c.args.stream)) (stops_with (stream_format_view c.args.stream)) c.in_err-fields.ensures)
 
 pub returns-in_err-bits_per_sample-clause-gives : goal.returns-in_err-bits_per_sample-clause-gives
-unfolding said_at
+unfolding start_after
 returns-in_err-bits_per_sample-clause-gives g c =
-    let stream = shape_view c.args.stream in
+    let stream = stream_format_view c.args.stream in
     let f = fields_view c.in-Some.fields in
-    exit_or_end 2 _ (start_at stream) (err_from_is_err_and c.from_residual-in_err-bits_per_sample.result c.from_residual-in_err-bits_per_sample.ensures.1)
-    (some_stops 2 (start_at stream) (said_at stream f) (after_first 2 guarded_at (start_at stream) (said_at stream f) (behind_guard stream f) (rw c.in-Some.is at c.in_ok-fields.ensures))
-    (stops_after {next = said_at stream f} (went_none _ _ refl) (record { fault = λ s x rest e. rw e refl; short = λ s e. rw e refl }) (c.in_err-bits_per_sample.ensures.gives _)))
+    exit_or_eof 2 _ (start_at stream) (err_from_is_err_and c.from_residual-in_err-bits_per_sample.result c.from_residual-in_err-bits_per_sample.ensures.1)
+    (some_stops 2 (start_at stream) (start_after stream f) (after_first 2 fields_with_crc_at (start_at stream) (start_after stream f) (after_crc stream f) (rw c.in-Some.is at c.in_ok-fields.ensures))
+    (stops_after {next = start_after stream f} (consumes_none _ _ refl) (record { fault = λ s x rest e. rw e refl; short = λ s e. rw e refl }) (c.in_err-bits_per_sample.ensures.gives _)))
 
 pub returns-clause-gives : goal.returns-clause-gives
-unfolding said_at
+unfolding start_after
 returns-clause-gives g c =
-    let stream = shape_view c.args.stream in
+    let stream = stream_format_view c.args.stream in
     let f = fields_view c.in-Some.fields in
-    some_ok 2 (start_at stream) (said_at stream f) (after_first 2 guarded_at (start_at stream) (said_at stream f) (behind_guard stream f) (rw c.in-Some.is at c.in_ok-fields.ensures))
-    (went_map _ (c.in_ok-bits_per_sample.ensures.gives _) (λ p. rw (p, c.time_of_block.ensures) refl))
+    some_ok 2 (start_at stream) (start_after stream f) (after_first 2 fields_with_crc_at (start_at stream) (start_after stream f) (after_crc stream f) (rw c.in-Some.is at c.in_ok-fields.ensures))
+    (consumes_map _ (c.in_ok-bits_per_sample.ensures.gives _) (λ p. rw (p, c.time_of_block.ensures) refl))
 
 pub returns-in_err-bits_per_sample-clause-no_memory : goal.returns-in_err-bits_per_sample-clause-no_memory
 returns-in_err-bits_per_sample-clause-no_memory g c =
     let p = err_from_is_err_and c.from_residual-in_err-bits_per_sample.result c.from_residual-in_err-bits_per_sample.ensures.1 in
-    rw (p.1, p.2) (stops_no_memory _ _ _ _ (c.in_err-bits_per_sample.ensures.gives (bytes_in g.R.ReadBytes.source c.args.input.now)))
+    rw (p.1, p.2) (stops_not_out_of_memory _ _ _ _ (c.in_err-bits_per_sample.ensures.gives (bytes_in g.R.ReadBytes.source c.args.input.now)))
 
 -- nothing is read behind the guard
 
 pub returns-in_err-fields-clause-loans : goal.returns-in_err-fields-clause-loans
 unfolding bytes_in
-returns-in_err-fields-clause-loans g c = ends_loans 2 fields_view c.read_guarded_fields.result guarded_at _ _ c.read_guarded_fields.ensures
+returns-in_err-fields-clause-loans g c = gives_or_eof_loans 2 fields_view c.read_fields_with_crc.result fields_with_crc_at _ _ c.read_fields_with_crc.ensures
 
 pub returns-in_default-clause-loans : goal.returns-in_default-clause-loans
 unfolding bytes_in
-returns-in_default-clause-loans g c = ends_loans 2 fields_view c.read_guarded_fields.result guarded_at _ _ c.read_guarded_fields.ensures
+returns-in_default-clause-loans g c = gives_or_eof_loans 2 fields_view c.read_fields_with_crc.result fields_with_crc_at _ _ c.read_fields_with_crc.ensures
 
 pub returns-in_err-bits_per_sample-clause-loans : goal.returns-in_err-bits_per_sample-clause-loans
 unfolding bytes_in
-returns-in_err-bits_per_sample-clause-loans g c = ends_loans 2 fields_view c.read_guarded_fields.result guarded_at _ _ c.read_guarded_fields.ensures
+returns-in_err-bits_per_sample-clause-loans g c = gives_or_eof_loans 2 fields_view c.read_fields_with_crc.result fields_with_crc_at _ _ c.read_fields_with_crc.ensures
 
 pub returns-clause-loans : goal.returns-clause-loans
 unfolding bytes_in
-returns-clause-loans g c = ends_loans 2 fields_view c.read_guarded_fields.result guarded_at _ _ c.read_guarded_fields.ensures
+returns-clause-loans g c = gives_or_eof_loans 2 fields_view c.read_fields_with_crc.result fields_with_crc_at _ _ c.read_fields_with_crc.ensures

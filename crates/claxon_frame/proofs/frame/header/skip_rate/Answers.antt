@@ -3,8 +3,8 @@ use Rattle.std.proofs.lemmas.Bool.{le-ltb}
 use Rattle.claxon_format.specs.read.Bytes.{bytes_at, big_at}
 use Rattle.claxon_format.specs.Reading.{Done}
 use Rattle.claxon_format.specs.read.Header.{rate_at}
-use Rattle.claxon_input.proofs.ByteFields.{went_byte, went_big}
-use Rattle.claxon_input.proofs.CallsInTurn.{went_map, went_none}
+use Rattle.claxon_input.proofs.ByteFields.{consumes_byte, consumes_big}
+use Rattle.claxon_input.proofs.CallsInTurn.{consumes_map, consumes_none}
 use Rattle.claxon_frame.proofs.frame.header.skip_rate.Goals as goal
 use Rattle.claxon_frame.proofs.frame.header.skip_rate.Goals.{in-Known, in-Read8+in_ok-read_u8-in-Read8, in-Read16+in_ok-read_be_u16-in-Read16}
 
@@ -16,7 +16,7 @@ pub returns : goal.returns
 unfolding rate_at
 returns g c =
     elim c.match-rate.branch [
-      | in-Known w ↦ rw w.input-is (went_none _ _ (rw w.in-Known.is (no_rate _)))
-      | in-Read8+in_ok-read_u8-in-Read8 w ↦ rw w.input-is (went_map _ (went_byte g.R.ReadBytes.source w.in_ok-read_u8-in-Read8.field-0 (search rules) w.in_ok-read_u8-in-Read8.ensures.ok) (λ p. rw (w.in-Read8.is, p) refl))
-      | in-Read16+in_ok-read_be_u16-in-Read16 w ↦ rw w.input-is (went_map _ (went_big g.R.ReadBytes.source 2 w.in_ok-read_be_u16-in-Read16.field-0 (search rules) w.in_ok-read_be_u16-in-Read16.ensures.ok) (λ p. rw (w.in-Read16.is, p) refl))
+      | in-Known w ↦ rw w.input-is (consumes_none _ _ (rw w.in-Known.is (no_rate _)))
+      | in-Read8+in_ok-read_u8-in-Read8 w ↦ rw w.input-is (consumes_map _ (consumes_byte g.R.ReadBytes.source w.in_ok-read_u8-in-Read8.field-0 (search rules) w.in_ok-read_u8-in-Read8.ensures.ok) (λ p. rw (w.in-Read8.is, p) refl))
+      | in-Read16+in_ok-read_be_u16-in-Read16 w ↦ rw w.input-is (consumes_map _ (consumes_big g.R.ReadBytes.source 2 w.in_ok-read_be_u16-in-Read16.field-0 (search rules) w.in_ok-read_be_u16-in-Read16.ensures.ok) (λ p. rw (w.in-Read16.is, p) refl))
     ]

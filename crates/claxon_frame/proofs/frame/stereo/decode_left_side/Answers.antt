@@ -1,7 +1,7 @@
 use Rattle.std.proofs.Common.{◌≡◌, length, ◌<◌, get_or, pos, rules, arith, sym, ap, ◌∙◌, FitsSigned, w32}
-use Rattle.claxon_format.specs.Stereo.{right_of, unmixed}
+use Rattle.claxon_format.specs.Stereo.{right_of, decoded_pair}
 use Rattle.claxon_frame.specs.Block.{chunks}
-use Rattle.claxon_frame.proofs.Unmixing.{left_side_is, zipped_here, zipped_next, zipped_end, zipped_first, halves_are}
+use Rattle.claxon_frame.proofs.Decorrelation.{left_side_is, zipped_here, zipped_next, zipped_end, zipped_first, halves_are}
 use Rattle.claxon_frame.proofs.frame.stereo.decode_left_side.Goals as goal
 
 pub loop-i-preserved : goal.loop-i-preserved
@@ -21,4 +21,4 @@ returns c n e =
     let side : length c.split_at_mut-left.result.1.now ≡ n = omega (arith, split.back_len) in
     let new : length c.loop-i.side ≡ n = omega (arith, c.loop-i.auto.side) in
     halves_are 8 n _ _ _ _ left side left new (zipped_first _ _ (left ∙ sym side)) (zipped_end (omega arith) (omega arith) (omega arith) c.loop-i.invariant)
-    ∙ ap (λ t. unmixed 8 (chunks 2 n t)) (sym split.value)
+    ∙ ap (λ t. decoded_pair 8 (chunks 2 n t)) (sym split.value)

@@ -1,5 +1,5 @@
 use Rattle.claxon_format.specs.Stereo.{right_of}
-use Rattle.claxon_frame.proofs.Unmixing.{ZippedUpTo}
+use Rattle.claxon_frame.proofs.Decorrelation.{ZippedUpTo}
 use Rattle.claxon_frame.proofs.frame.stereo.decode_left_side.Given as goal
 
 abbrev pub invariant-loop-i : goal.invariant-loop-i

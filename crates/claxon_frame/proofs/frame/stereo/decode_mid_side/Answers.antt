@@ -1,7 +1,7 @@
 use Rattle.std.proofs.Common.{◌≡◌, length, ◌<◌, get_or, pos, rules, arith, sym, ap, ap₂, refl, ◌∙◌, FitsSigned, w32}
-use Rattle.claxon_format.specs.Stereo.{left_of, right_of, unmixed}
+use Rattle.claxon_format.specs.Stereo.{left_of, right_of, decoded_pair}
 use Rattle.claxon_frame.specs.Block.{chunks}
-use Rattle.claxon_frame.proofs.Unmixing.{mid_left_is, mid_right_is, zipped_here, zipped_next, zipped_end, halves_are}
+use Rattle.claxon_frame.proofs.Decorrelation.{mid_left_is, mid_right_is, zipped_here, zipped_next, zipped_end, halves_are}
 use Rattle.claxon_frame.proofs.frame.stereo.decode_mid_side.Goals as goal
 
 pub loop-i-preserved : goal.loop-i-preserved
@@ -28,4 +28,4 @@ returns c n e =
     let new_mid : length c.loop-i.mid ≡ n = omega (arith, c.loop-i.auto.mid) in
     let new_side : length c.loop-i.side ≡ n = omega (arith, c.loop-i.auto.side) in
     halves_are 10 n _ _ _ _ mid side new_mid new_side (zipped_end (omega arith) (omega arith) (omega arith) c.loop-i.invariant.left) (zipped_end (omega arith) (omega arith) (omega arith) c.loop-i.invariant.right)
-    ∙ ap (λ t. unmixed 10 (chunks 2 n t)) (sym split.value)
+    ∙ ap (λ t. decoded_pair 10 (chunks 2 n t)) (sym split.value)

@@ -1,5 +1,5 @@
 use Rattle.claxon_format.specs.Stereo.{left_of, right_of}
-use Rattle.claxon_frame.proofs.Unmixing.{ZippedUpTo}
+use Rattle.claxon_frame.proofs.Decorrelation.{ZippedUpTo}
 use Rattle.claxon_frame.proofs.frame.stereo.decode_mid_side.Given as goal
 
 abbrev pub invariant-loop-i : goal.invariant-loop-i

@@ -1,5 +1,5 @@
 use Rattle.std.proofs.Common.{rules}
 use Rattle.claxon_metadata.proofs.metadata.MetadataBlockReader.new.Goals as goal
 
-pub returns-clause-going : goal.returns-clause-going
-returns-clause-going g c = search rules
+pub returns-clause-not_ended : goal.returns-clause-not_ended
+returns-clause-not_ended g c = search rules

@@ -5,28 +5,28 @@ use Rattle.claxon_input.specs.declared.error.Error.{Error}
 use Rattle.claxon_input.specs.declared.error.Error.TheVariants.{OutOfMemory}
 use Rattle.claxon_input.proofs.Promises.{promises}
 use Rattle.claxon_metadata.specs.declared.metadata.MetadataBlock.{MetadataBlock}
-use Rattle.claxon_metadata.specs.MetadataBlock.{flagged_view}
-use Rattle.claxon_input.proofs.Memory.{starves_seen}
+use Rattle.claxon_metadata.specs.MetadataBlock.{metadata_block_view}
+use Rattle.claxon_input.proofs.Memory.{err_any_view}
 use Rattle.claxon_metadata.proofs.metadata.MetadataBlockReader.read_next.Goals as goal
 
 pub returns-in-Ok : goal.returns-in-Ok
 returns-in-Ok g c = record {
   bounds = c.in-Ok.ensures.bounds;
-  memory = λ starved told. absurd cc;
+  memory = λ starved known. absurd cc;
   within = c.in-Ok.ensures.within;
-  promises = promises Reads-block (flagged_view c.in-Ok.is_last) (Ok c.in-Ok.block) _ _ c.in-Ok.ensures.gives;
+  promises = promises Reads-block (metadata_block_view c.in-Ok.is_last) (Ok c.in-Ok.block) _ _ c.in-Ok.ensures.gives;
   gives = c.in-Ok.ensures.gives;
   ended = tt;
 }
 
 pub returns-in-Err : goal.returns-in-Err
 returns-in-Err g c =
-    let fed = starves_seen (flagged_view {A = g.row.A.Denot} true) (λ (found : Bool × MetadataBlock g.row.A.Denot). flagged_view found.0 found.1) c.in-Err.error block_at _ _ c.in-Err.ensures.gives in
+    let out_of_memory_or_gives = err_any_view (metadata_block_view {A = g.row.A.Denot} true) (λ (found : Bool × MetadataBlock g.row.A.Denot). metadata_block_view found.0 found.1) c.in-Err.error block_at _ _ c.in-Err.ensures.gives in
     record {
       bounds = tt;
       memory = λ starved. c.in-Err.ensures.memory (let same : c.in-Err.error ≡ OutOfMemory = cc starved in ap (λ (z : Error). Err z) same);
       within = c.in-Err.ensures.within;
-      promises = promises Reads-block (flagged_view true) (Err c.in-Err.error) _ _ fed;
-      gives = fed;
+      promises = promises Reads-block (metadata_block_view true) (Err c.in-Err.error) _ _ out_of_memory_or_gives;
+      gives = out_of_memory_or_gives;
       ended = refl;
     }

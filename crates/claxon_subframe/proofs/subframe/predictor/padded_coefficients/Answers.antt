@@ -1,13 +1,14 @@
-use Rattle.std.proofs.Common.{◌≡◌, ◌-◌, ◌∙◌, length, replicate, pos, ap, arith}
-use Rattle.std.proofs.lemmas.List.{length-append, length-replicate}
-use Rattle.claxon_subframe.proofs.Twelve.{twelve_numbers, as_twelve_small}
+use Rattle.std.proofs.Common.{◌-◌, length, get_or, pos, rules, FitsSigned, w16, arith}
+use Rattle.claxon_subframe.proofs.PaddedCoefficients.{filled_none, filled_more, filled_all}
 use Rattle.claxon_subframe.proofs.subframe.predictor.padded_coefficients.Goals as goal
 
-pub returns-clause-value : goal.returns-clause-value
-returns-clause-value c =
-    let zeros = replicate (12 - length c.args.coefficients.now) (pos 0) in
-    let long : length c.last_of_many-many.result ≡ 12 = ap length c.last_of_many-many.ensures.value ∙ omega (arith, length-append zeros c.args.coefficients.now, length-replicate (12 - length c.args.coefficients.now) (pos 0)) in
-    twelve_numbers c.last_of_many-many.result long c.last_of_many-many.ensures.small ∙ c.last_of_many-many.ensures.value
+pub loop-i-init : goal.loop-i-init
+loop-i-init g c = filled_none g.row.COUNT (g.row.COUNT - length c.args.coefficients.now) c.args.coefficients.now (omega arith)
 
-pub returns-clause-small : goal.returns-clause-small
-returns-clause-small c = as_twelve_small c.last_of_many-many.result c.last_of_many-many.ensures.small
+pub loop-i-preserved : goal.loop-i-preserved
+loop-i-preserved g c =
+    let f : FitsSigned w16 (get_or c.args.coefficients.now c.loop-i.i (pos 0)) = search rules in
+    filled_more c.from.result (omega arith) (omega arith) f c.from.ensures c.loop-i.invariant
+
+pub returns-clause-value : goal.returns-clause-value
+returns-clause-value g c = filled_all (omega arith) (omega arith) c.loop-i.invariant

@@ -1,4 +1,4 @@
-use Rattle.claxon_subframe.proofs.Twelve.{twelve_taps, twelve_small}
+use Rattle.claxon_subframe.proofs.TwelveLanes.{twelve_taps, twelve_small}
 use Rattle.claxon_subframe.proofs.subframe.predictor.taps_of_twelve.Goals as goal
 
 pub returns-clause-value : goal.returns-clause-value

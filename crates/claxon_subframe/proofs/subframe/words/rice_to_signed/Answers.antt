@@ -1,4 +1,4 @@
-use Rattle.claxon_subframe.proofs.WordShifts.{rice_is}
+use Rattle.claxon_subframe.proofs.RiceCodeShifts.{rice_is}
 use Rattle.claxon_subframe.proofs.subframe.words.rice_to_signed.Goals as goal
 
 pub returns : goal.returns

@@ -1,5 +1,5 @@
 use Rattle.std.proofs.Common.{rules}
-use Rattle.claxon_input.proofs.ByteBorders.{gives_through, name_through}
+use Rattle.claxon_input.proofs.ByteAlignment.{gives_through, name_through}
 use Rattle.claxon_tests.proofs.input.guarded.read_pair.Goals as goal
 
 pub returns : goal.returns

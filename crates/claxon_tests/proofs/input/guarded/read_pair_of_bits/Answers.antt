@@ -1,21 +1,21 @@
 use Rattle.std.proofs.Common.{refl}
 use Rattle.std.proofs.lemmas.Result.{err_from_is_err_and}
-use Rattle.claxon_input.proofs.CallsInTurn.{io_exit, stuck_after, stuck_told, went_both}
-use Rattle.claxon_tests.specs.GuardedPair.{pair_at}
+use Rattle.claxon_input.proofs.CallsInTurn.{io_exit, failure_or_after, failure_or_known, consumes_then}
+use Rattle.claxon_tests.specs.PairWithCrc.{pair_at}
 use Rattle.claxon_tests.proofs.input.guarded.read_pair_of_bits.Goals as goal
 
 pub returns-in_err-first : goal.returns-in_err-first
 unfolding pair_at
 returns-in_err-first g c =
     io_exit _ (err_from_is_err_and c.from_residual.result c.from_residual.ensures.1)
-    (stuck_told _ c.in_err-first.ensures.gives (λ t q. rw q refl))
+    (failure_or_known _ c.in_err-first.ensures.gives (λ t q. rw q refl))
 
 pub returns-in_err-second : goal.returns-in_err-second
 unfolding pair_at
 returns-in_err-second g c =
     io_exit _ (err_from_is_err_and c.from_residual-in_err-second.result c.from_residual-in_err-second.ensures.1)
-    (stuck_after _ c.in_ok-first.ensures.gives c.in_err-second.ensures.gives (λ p q. rw (p, q) refl))
+    (failure_or_after _ c.in_ok-first.ensures.gives c.in_err-second.ensures.gives (λ p q. rw (p, q) refl))
 
 pub returns : goal.returns
 unfolding pair_at
-returns g c = went_both _ c.in_ok-first.ensures.gives c.in_ok-second.ensures.gives (λ p q. rw (p, q) refl)
+returns g c = consumes_then _ c.in_ok-first.ensures.gives c.in_ok-second.ensures.gives (λ p q. rw (p, q) refl)

@@ -2,7 +2,7 @@ use Rattle.std.proofs.Common.{◌∙◌, Ok, Option, ap, arith, refl, subst}
 use Rattle.std.proofs.lemmas.Result.{err_from_is_err_and}
 use Rattle.claxon.specs.Block.{BlockValue}
 use Rattle.claxon.specs.FrameReader.{BlockHasSamples, FrameAnswer, frame_bytes}
-use Rattle.claxon_tools.proofs.Converting.{block_takes, end_met, fault_taken, frame_taken, put_all, put_more, put_none, stops_at_block, stops_at_fault}
+use Rattle.claxon_tools.proofs.Converting.{block_takes, eof_met, fault_taken, frame_taken, put_all, put_more, put_none, stops_at_block, stops_at_fault}
 use Rattle.claxon_tools.proofs.wav.blocks.put_blocks.Goals as goal
 
 pub loop-reader-init : goal.loop-reader-init
@@ -52,4 +52,4 @@ returns-clause-ok g c =
     let a = frame_bytes g.R.ReadBytes.source c.loop-reader.reader in
     let b = frame_bytes g.R.ReadBytes.source c.read_next_or_eof.new.self in
     let is = c.in_ok-block.was ∙ ap (λ (z : Option BlockValue). Ok z) c.in_default.is in
-    put_all b c.loop-reader.invariant.so_far (end_met a b is e.at_end)
+    put_all b c.loop-reader.invariant.so_far (eof_met a b is e.at_end)

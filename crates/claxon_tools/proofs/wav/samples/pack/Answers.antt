@@ -10,12 +10,12 @@ use Rattle.claxon_tools.proofs.wav.samples.pack.Goals as goal
 pub returns-in_err-resize-clause-wide : goal.returns-in_err-resize-clause-wide
 returns-in_err-resize-clause-wide g c = let p = err_from_is_err_and c.from_residual.result c.from_residual.ensures.1 in rw (p.1, p.2) refl
 
-pub returns-then-not-have_width-clause-wide : goal.returns-then-not-have_width-clause-wide
-returns-then-not-have_width-clause-wide g c =
+pub returns-then-not-all_fit_in-clause-wide : goal.returns-then-not-all_fit_in-clause-wide
+returns-then-not-all_fit_in-clause-wide g c =
     let room = c.interleave.new.room in
     let len : length room ≡ c.resize.new.self.len = omega (arith, c.interleave.auto.room, c.as_mut_slice.ensures.len) in
     let same : interleave c.args.block.now.channels ≡ c.as_slice.result.now = sym c.interleave.ensures ∙ sym (take_at room (drop (length room) c.resize.new.self.items) c.resize.new.self.len len) ∙ sym c.as_slice.ensures.value in
-    λ h. c.have_width.ensures.no c.if-not-have_width.true (subst (λ (z : List ℤ). All (FitsIn c.args.width) z) same h)
+    λ h. c.all_fit_in.ensures.no c.if-not-all_fit_in.true (subst (λ (z : List ℤ). All (FitsIn c.args.width) z) same h)
 
 pub returns-in_err-resize-2-clause-wide : goal.returns-in_err-resize-2-clause-wide
 returns-in_err-resize-2-clause-wide g c = let p = err_from_is_err_and c.from_residual-in_err-resize-2.result c.from_residual-in_err-resize-2.ensures.1 in rw (p.1, p.2) refl
@@ -28,4 +28,4 @@ returns-clause-fits g c =
     let room = c.interleave.new.room in
     let len : length room ≡ c.resize.new.self.len = omega (arith, c.interleave.auto.room, c.as_mut_slice.ensures.len) in
     let same : c.as_slice.result.now ≡ interleave c.args.block.now.channels = c.as_slice.ensures.value ∙ take_at room (drop (length room) c.resize.new.self.items) c.resize.new.self.len len ∙ c.interleave.ensures in
-    subst (λ (z : List ℤ). All (FitsIn c.args.width) z) same (c.have_width.ensures.yes c.if-not-have_width.false)
+    subst (λ (z : List ℤ). All (FitsIn c.args.width) z) same (c.all_fit_in.ensures.yes c.if-not-all_fit_in.false)

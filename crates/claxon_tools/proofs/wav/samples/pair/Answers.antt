@@ -1,12 +1,12 @@
 use Rattle.std.proofs.Common.{◌+◌, ◌*◌, ◌∷◌, [], get_or, pos, refl, sym, arith, rules, w32}
 use mir.Val.{SFits}
 use Rattle.std.proofs.lemmas.Int.{to_z-of_z}
-use Rattle.claxon_write.proofs.SampleBytes.{places_none}
+use Rattle.claxon_write.proofs.SampleBytes.{range_none}
 use Rattle.claxon_tools.proofs.Interleaved.{pair_more}
 use Rattle.claxon_tools.proofs.wav.samples.pair.Goals as goal
 
 pub loop-i-init : goal.loop-i-init
-loop-i-init c = sym (places_none (c.args.left.now ∷ c.args.right.now ∷ []) 0)
+loop-i-init c = sym (range_none (c.args.left.now ∷ c.args.right.now ∷ []) 0)
 
 pub loop-i-preserved : goal.loop-i-preserved
 loop-i-preserved c =

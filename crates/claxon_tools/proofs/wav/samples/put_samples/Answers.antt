@@ -18,8 +18,8 @@ loop-i-preserved g c =
     let f : SFits w32 x = search rules in
     let small : size ≤ 4 = omega (arith, c.requires.size, c.requires.few_bits) in
     let bytes : c.copy_from_slice.new.self ≡ bytes_of_sample size c.args.width x =
-    taken size c.args.width (8 * size - c.args.width) c.silence-silence.result x c.raise-four.result c.copy_from_slice.new.self c.copy_from_slice.ensures.after
-    (c.raise-four.ensures ∙ ap (λ (z : ℤ). to_le_bytes w32 (raised (8 * size - c.args.width) c.silence-silence.result z)) (to_z-of_z w32 x f)) refl c.silence-silence.ensures in
+    taken size c.args.width (8 * size - c.args.width) c.silence-silence.result x c.scale_up-four.result c.copy_from_slice.new.self c.copy_from_slice.ensures.after
+    (c.scale_up-four.ensures ∙ ap (λ (z : ℤ). to_le_bytes w32 (raised (8 * size - c.args.width) c.silence-silence.result z)) (to_z-of_z w32 x f)) refl c.silence-silence.ensures in
     let len : length c.copy_from_slice.new.self ≡ size = ap length bytes ∙ length-bytes_of_sample size c.args.width x small in
     let here = room_for i (length samples) size (length c.loop-i.room) c.loop-i-test.true (c.loop-i.auto.room ∙ c.requires.room) in
     packed_more (bytes_of_sample size c.args.width) samples i size _ c.loop-i.room c.copy_from_slice.new.self c.loop-i-test.true (omega (arith, here)) len bytes c.loop-i.invariant

@@ -4,8 +4,8 @@ use Rattle.claxon_write.proofs.output.Counted.write_some.Goals as goal
 pub returns-in-Ok-eq0-clause-ok : goal.returns-in-Ok-eq0-clause-ok
 returns-in-Ok-eq0-clause-ok g c = search rules
 
-pub returns-in-Ok-eq0-clause-told : goal.returns-in-Ok-eq0-clause-told
-returns-in-Ok-eq0-clause-told g c = search rules
+pub returns-in-Ok-eq0-clause-known : goal.returns-in-Ok-eq0-clause-known
+returns-in-Ok-eq0-clause-known g c = search rules
 
 pub returns-in-Ok-clause-ok : goal.returns-in-Ok-clause-ok
 returns-in-Ok-clause-ok g c = search rules

@@ -1,5 +1,5 @@
 use Rattle.std.proofs.Common.{FitsSigned, get_or, pos, rules, arith, w32}
-use Rattle.claxon_subframe.proofs.SampleLoop.{newest_read, widened}
+use Rattle.claxon_subframe.proofs.RestoreLoopByTwo.{newest_read, widened}
 use Rattle.claxon_subframe.proofs.subframe.predictor.Five.of.Goals as goal
 
 pub returns : goal.returns

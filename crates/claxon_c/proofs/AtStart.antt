@@ -1,0 +1,88 @@
+-- What stands at the front of bytes in memory, and how many bytes that has.
+use Rattle.std.proofs.Common.{◌≡◌, ◌⊎◌, inl, inr, ℕ, ◌-◌, true, subst, List, ◌++◌, length, Option, None, Some, sym, ap, ◌∙◌, arith, length-append, Bor}
+use Rattle.std.specs.Prelude.{Result, Ok, Err, IfErr, IfOk, IfSome}
+use Rattle.std.specs.declared.io.Cursor.{Cursor}
+use Rattle.std.specs.Io.Cursor.{cursor_position, cursor_inner}
+use Rattle.std.proofs.lemmas.List.{length-drop}
+use Rattle.claxon.specs.Fault.{Fault}
+use Rattle.claxon.specs.Frame.{StreamFormat, Frame}
+use Rattle.claxon.specs.Heads.{Head, HeadCode, HeadFault}
+use Rattle.claxon.specs.Streams.{with_samples}
+use Rattle.claxon.specs.Cursor.{cursor_left}
+use Rattle.claxon.specs.Promises.{CodeIsComplete, Remains, FaultIsComplete, CodeIsSound, FaultIsSound, FoundIsSound, Consumed}
+use Rattle.claxon.specs.State.{State}
+use Rattle.claxon.specs.Errors.{Error}
+use Rattle.claxon.proofs.InMemory.{cursor_remains, cursor_just_out_of_memory, new_cursor_remains}
+use Rattle.claxon.specs.MetadataBlock.{HasBounds}
+use Rattle.claxon.specs.StreamInfos.{StreamInfo}
+use Rattle.claxon.specs.FrameReader.{FrameAnswer, block_view}
+use Rattle.claxon.specs.ReadHead.{OutOfMemoryAfterMarker, HeadMayRunOutOfMemory}
+use Rattle.claxon.proofs.FramesInMemory.{SliceFramePromises, begins_with_consumed}
+use Rattle.claxon.proofs.FramesInMemory.{slice_state}
+use Rattle.claxon.specs.Prefix.{BeginsWith}
+use Rattle.claxon.specs.Error.{IsFault, IsIo}
+use Rattle.claxon.specs.Errors.TheVariants.{OutOfMemory}
+use Rattle.claxon_c.specs.AtStart.{FrameAtStart, BeginsWithLength, HeadAtStart}
+
+abbrev Slice : Type 0
+Slice = Cursor (Bor (List ℕ))
+
+abbrev pub shown_bytes : Bor (List ℕ) → List ℕ
+shown_bytes s = s.now
+
+-- how many bytes were taken says what is left
+module _ (bytes : List ℕ) (a : State ℕ) (b : Slice) (taken : ℕ) (comes : Remains a bytes) (count : taken ≡ length bytes - cursor_left shown_bytes b) where
+  pub begins_with_length : {Code : List ℕ → Type 0} → Consumed a (slice_state b) Code → BeginsWithLength Code bytes taken
+  begins_with_length consumed =
+      let k = (consumed comes.known).1 in
+      let left = cursor_remains shown_bytes b in
+      let joined : bytes ≡ k.0 ++ (slice_state b).remaining = sym comes.are ∙ k.2 in
+      let rest : length (slice_state b).remaining ≡ cursor_left shown_bytes b = ap length left.are ∙ length-drop (cursor_position b) (cursor_inner b).now in
+      (k.0, (slice_state b).remaining, k.1, joined, omega (arith, count, rest, ap length joined, length-append k.0 (slice_state b).remaining))
+
+  frame_begins : (stream : Option StreamFormat) (r : FrameAnswer) → FoundIsSound block_view r (Frame stream) a (slice_state b) → IfOk r (λ found. IfSome found (λ block. BeginsWithLength (Frame stream (block_view block)) bytes taken))
+  frame_begins stream (Ok None) h = tt
+  frame_begins stream (Ok (Some block)) h = begins_with_length h
+  frame_begins stream (Err e) h = tt
+
+  pub frame_at_start : (stream : Option StreamFormat) (r : FrameAnswer) → FoundIsSound block_view r (Frame stream) a (slice_state b) → SliceFramePromises stream bytes r → FrameAtStart stream bytes r taken
+  frame_at_start stream r h m = record { sound = frame_begins stream r h; complete = m.complete; end = m.end; fault = m.fault; named = m.named; memory = m.memory }
+
+-- a head, of which nothing was taken before
+module _ {A : Type 0} (view : StreamInfo × Option A → Head) (bytes : Bor (List ℕ)) (a b : Slice) (taken : ℕ) (at : cursor_position a ≡ 0) (inner : cursor_inner a ≡ bytes) (count : taken ≡ length bytes.now - cursor_left shown_bytes b) where
+  comes : Remains (slice_state a) bytes.now
+  comes = new_cursor_remains shown_bytes a bytes at inner
+
+  there : (t rest : List ℕ) → bytes.now ≡ t ++ rest → Remains (slice_state a) (t ++ rest)
+  there t rest e = record { known = comes.known; are = comes.are ∙ e }
+
+  head_begins_with_length : (r : Result (StreamInfo × Option A) Error) → CodeIsSound view r (HeadCode (with_samples true)) (slice_state a) (slice_state b) → IfOk r (λ shown. BeginsWithLength (HeadCode (with_samples true) (view shown)) bytes.now taken)
+  head_begins_with_length (Ok shown) h = begins_with_length bytes.now (slice_state a) b taken comes count h
+  head_begins_with_length (Err e) h = tt
+
+  head_fault_sound : (r : Result (StreamInfo × Option A) Error) → FaultIsSound r (HeadFault (with_samples true)) (slice_state a) (slice_state b)
+      → IfErr r (λ e. (e ≡ OutOfMemory) ⊎ (IsIo e ⊎ ((f : Fault) × IsFault f e × BeginsWith (HeadFault (with_samples true) f) bytes.now)))
+  head_fault_sound (Ok shown) h = tt
+  head_fault_sound (Err e) h = elim h [
+    | inl m ↦ inl m
+    | inr (inl i) ↦ inr (inl i)
+    | inr (inr k) ↦ inr (inr (let f = k comes.known in (f.0, f.1, begins_with_consumed (slice_state a) (slice_state b) bytes.now comes f.2)))
+  ]
+
+  pub head_at_start : (r : Result (StreamInfo × Option A) Error) → IfOk r (λ shown. HasBounds shown.0) → CodeIsSound view r (HeadCode (with_samples true)) (slice_state a) (slice_state b)
+      → CodeIsComplete view r (HeadCode (with_samples true)) (slice_state a) (slice_state b) → FaultIsSound r (HeadFault (with_samples true)) (slice_state a) (slice_state b)
+      → FaultIsComplete r (HeadFault (with_samples true)) (slice_state a) (slice_state b) → OutOfMemoryAfterMarker r (slice_state a) → HeadAtStart view bytes.now r taken
+  head_at_start r bounds sound complete fault named memory = record {
+    bounds = bounds;
+    sound = head_begins_with_length r sound;
+    complete = λ h begins. elim (complete h begins.0 begins.1 begins.2 (there begins.0 begins.1 begins.3)) [
+      | inl p ↦ inl p.0
+      | inr x ↦ inr (cursor_just_out_of_memory shown_bytes r a b x)
+    ];
+    fault = head_fault_sound r fault;
+    named = λ f begins. elim (named f begins.0 begins.1 begins.2 (there begins.0 begins.1 begins.3)) [
+      | inl p ↦ inl p.0
+      | inr x ↦ inr (cursor_just_out_of_memory shown_bytes r a b x)
+    ];
+    memory = λ s. subst HeadMayRunOutOfMemory comes.are (memory s comes.known);
+  }

@@ -1,9 +1,0 @@
-use Rattle.std.proofs.Common.{Global, rules}
-use Rattle.claxon.specs.ReadHead.{head_view}
-use Rattle.claxon_c.proofs.AtFront.{head_at_front}
-use Rattle.claxon_c.proofs.fronts.head_at_front.Goals as goal
-
-pub returns : goal.returns
-returns c =
-    let e = c.read_head-head.ensures in
-    head_at_front (head_view {A = Global}) c.args.bytes c.new-input.result c.read_head-head.new.input c.saturating_sub.result c.new-input.ensures.position c.new-input.ensures.inner (search rules) c.read_head-head.result e.bounds e.sound e.complete e.fault e.named e.memory

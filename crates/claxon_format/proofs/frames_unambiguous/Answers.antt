@@ -1,0 +1,5 @@
+use Rattle.claxon_format.proofs.FormatLaws.{frames_unambiguous as law}
+use Rattle.claxon_format.proofs.frames_unambiguous.Goals as goal
+
+pub returns : goal.returns
+returns c = law

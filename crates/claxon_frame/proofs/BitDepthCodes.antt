@@ -1,0 +1,20 @@
+-- Widths that have a code.
+use Rattle.std.proofs.Common.{◌≡◌, ℕ, ◌≤◌, Bool, true, false, cond, eqb, Option, None, Some, refl, arith}
+use Rattle.claxon_format.specs.Header.{width_of}
+use Rattle.claxon_frame.specs.FrameHeader.{HasBitDepthCode, bit_depth_code}
+
+pub record Named (known : Option ℕ) (code bits : ℕ) : Type 0 where
+  pub some : eqb code 0 ≡ false
+  pub value : width_of known code ≡ bits
+  pub few : bits ≤ 24
+
+named : (known : Option ℕ) (a b c d : Bool) (bits : ℕ) → width_of None (cond a 1 (cond b 2 (cond c 4 (cond d 5 6)))) ≡ bits → Named known (cond a 1 (cond b 2 (cond c 4 (cond d 5 6)))) bits
+named known true b c d bits e = record { some = refl; value = e; few = omega arith }
+named known false true c d bits e = record { some = refl; value = e; few = omega arith }
+named known false false true d bits e = record { some = refl; value = e; few = omega arith }
+named known false false false true bits e = record { some = refl; value = e; few = omega arith }
+named known false false false false bits e = record { some = refl; value = e; few = omega arith }
+
+-- such a width is that of its code, whatever the stream's is
+pub code_names : (known : Option ℕ) (bits : ℕ) → HasBitDepthCode bits → Named known (bit_depth_code (Some bits)) bits
+code_names known bits h = named known (eqb bits 8) (eqb bits 12) (eqb bits 16) (eqb bits 20) bits h

@@ -1,0 +1,55 @@
+use Rattle.std.proofs.Common.{◌≡◌, ℕ, ◌-◌, ◌<◌, ◌≤◌, Bool, true, false, ◌&&◌, List, Option, None, Some, eqb, ltb, refl, arith}
+use Rattle.std.proofs.lemmas.Bool.{lt-ltb}
+use Rattle.claxon_format.specs.Frame.{StreamFormat, known_width}
+use Rattle.claxon_format.specs.Header.{Fields}
+use Rattle.claxon_format.specs.Reading.{Done}
+use Rattle.claxon_input.proofs.CallsInTurn.{consumes_none}
+use Rattle.claxon_frame.specs.FrameHeader.{HasBitDepthCode, max_bit_depth, bit_depth_code}
+use Rattle.claxon_frame.specs.FrameStart.{fields_view, stream_format_view}
+use Rattle.claxon_format.specs.read.Header.{width_at}
+use Rattle.claxon_frame.specs.declared.frame.header.parts.ChannelAssignment.{ChannelAssignment}
+use Rattle.claxon_frame.specs.declared.frame.header.parts.ChannelAssignment.TheVariants.{Independent, LeftSideStereo, RightSideStereo, MidSideStereo}
+use Rattle.claxon_frame.specs.declared.frame.header.parts.HeaderFields.{HeaderFields}
+use Rattle.claxon_frame.specs.declared.frame.header.parts.KnownStreamFormat.{KnownStreamFormat}
+use Rattle.claxon_frame.proofs.BitDepthCodes.{code_names}
+use Rattle.claxon_frame.proofs.frame.header.resolve_bit_depth.Goals as goal
+
+-- the width that is named
+named_read : (stream : Option StreamFormat) (f : Fields) (bits : ℕ) (s : List ℕ) → f.bit_depth_code ≡ bit_depth_code (Some bits) → HasBitDepthCode bits → width_at (known_width stream) f s ≡ Done bits s
+unfolding width_at
+named_read stream f bits s e h = let n = code_names (known_width stream) bits h in rw (e, n.some, n.value) refl
+
+-- a side channel has one bit more at most
+wide : (a : ChannelAssignment) (bits : ℕ) → bits ≤ 24 → max_bit_depth a bits ≤ 32
+wide (Independent n) bits few = omega arith
+wide LeftSideStereo bits few = omega arith
+wide RightSideStereo bits few = omega arith
+wide MidSideStereo bits few = omega arith
+
+pub returns-in-Some-clause-value : goal.returns-in-Some-clause-value
+returns-in-Some-clause-value c =
+    wide c.args.fields.now.channel_assignment c.in-Some.bits (code_names None c.in-Some.bits (c.args.fields.now.named c.in-Some.bits c.in-Some.is)).few
+
+pub returns-in-Some-clause-gives : goal.returns-in-Some-clause-gives
+returns-in-Some-clause-gives c here =
+    consumes_none here _ (named_read (stream_format_view c.args.stream) (fields_view c.args.fields.now) c.in-Some.bits here.remaining (rw c.in-Some.is refl) (c.args.fields.now.named c.in-Some.bits c.in-Some.is))
+
+-- the width of the stream, where no channel is a difference
+and_false : (b : Bool) → (b && false) ≡ false
+and_false true = refl
+and_false false = refl
+
+stream_read : (width : ℕ) (f : Fields) (s : List ℕ) → f.bit_depth_code ≡ 0 → f.channels < 8 → width_at (Some width) f s ≡ Done width s
+unfolding width_at
+stream_read width f s e lt = let k : ltb f.channels 8 ≡ true = lt-ltb _ _ lt in rw (e, k, and_false (eqb width 32)) refl
+
+independent_read : (stream : Option KnownStreamFormat) (fields : HeaderFields) (format : KnownStreamFormat) (n : ℕ) (s : List ℕ) → stream ≡ Some format → fields.bits_per_sample ≡ None → fields.channel_assignment ≡ Independent n → n ≤ 8
+    → width_at (known_width (stream_format_view stream)) (fields_view fields) s ≡ Done format.bits_per_sample s
+independent_read stream fields format n s e w a few =
+    let low : n - 1 < 8 = omega arith in
+    rw e (stream_read _ (fields_view fields) s (rw w refl) (rw a low))
+
+pub returns-in-Independent-clause-gives : goal.returns-in-Independent-clause-gives
+returns-in-Independent-clause-gives c here =
+    let few = rw c.in-Independent.is at c.args.fields.now.few_channels in
+    consumes_none here _ (independent_read c.args.stream c.args.fields.now c.in-Some-stream.format c.in-Independent.field-0 here.remaining c.in-Some-stream.is c.in_default.is c.in-Independent.is few)

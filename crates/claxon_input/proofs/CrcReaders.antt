@@ -1,0 +1,131 @@
+-- What was read through a remainder: the remainder is that of the bytes taken, and a guard is compared with it.
+use Rattle.std.specs.Borrow.{GName, MutBor}
+use Rattle.std.proofs.Common.{◌≡◌, ℕ, ◌<◌, ◌^◌, true, List, [], ◌∷◌, ◌++◌, Option, None, Some, refl, subst, sym, ap, ◌∙◌}
+use Rattle.std.specs.Prelude.{Result, Ok, Err}
+use Rattle.claxon_format.specs.Bits.{Bits, bits_of}
+use Rattle.claxon_format.specs.Fault.{Fault}
+use Rattle.claxon_format.specs.read.Bytes.{crc_at, with_crc_bytes_at}
+use Rattle.claxon_format.specs.Reading.{Reading, Done, Incomplete, bind, done, taken}
+use Rattle.claxon_format.proofs.CrcBytes.{with_crc_after}
+use Rattle.claxon_format.proofs.Bytes.{bits_of-append}
+use Rattle.claxon_format.proofs.Laws.{taken_is}
+use Rattle.claxon_input.specs.Source.{Source, through_loan, with_crc}
+use Rattle.claxon_input.specs.State.{State, bytes_in, past, remaining_known, known}
+use Rattle.claxon_input.specs.Gives.{IsRest, Consumes, FailureOr, IsFaultOf, Stops, Gives, GivesOrOutOfMemory}
+use Rattle.claxon_input.specs.CrcReader.{crc_source, crc_state, crc_inner}
+use Rattle.claxon_input.specs.declared.crc.CrcReader.{CrcReader}
+use Rattle.claxon_input.specs.declared.error.Error.{Error}
+use Rattle.claxon_input.specs.declared.error.Error.TheVariants.{IoError, FormatError, Unsupported, OutOfMemory}
+use Rattle.claxon_input.proofs.States.{bytes_of_source, same_function}
+use Rattle.claxon_input.proofs.CallsInTurn.{gives_loans}
+use Rattle.claxon_input.proofs.CrcUpdate.{DeterminesCrc}
+
+-- the bytes that are to come, where they are known
+abbrev bytes_of_all : Option (List ℕ) → List ℕ
+bytes_of_all = known (λ all. all)
+
+-- ---- a reader that keeps a remainder
+
+unfoldable same_first_crc : (p q : Option (List ℕ)) (f g : List ℕ → ℕ) (u v : List ℕ → List ℕ) → Type 0
+same_first_crc p q f g u v = past q (λ xs. g xs ∷ v xs) ≡ past p (λ xs. f xs ∷ u xs)
+
+module _ {d : ℕ} {update_crc : ℕ → List ℕ → ℕ} {crc : Bits → ℕ} (remainders : DeterminesCrc d update_crc crc) where
+  kept : (p q : Option (List ℕ)) (x : ℕ) (u v : List ℕ → List ℕ) → x < 2 ^ d → remaining_known p ≡ true → remaining_known q ≡ true → IsRest (bytes_of_all p) (bytes_of_all q) → same_first_crc p q (update_crc 0) (update_crc x) u v
+      → x ≡ crc (bits_of (taken (bytes_of_all p) (bytes_of_all q)))
+  unfolding IsRest same_first_crc
+  kept None q x u v small t k r e = absurd cc
+  kept (Some all) None x u v small t k r e = absurd cc
+  kept (Some all) (Some rest) x u v small t k r e =
+      remainders.tells all rest (bits_of r.0) x u v small (ap bits_of r.1 ∙ bits_of-append r.0 rest) e ∙ ap (λ (s : List ℕ). crc (bits_of s)) (sym (taken_is all r.0 rest r.1))
+
+  -- the remainder at hand is that of the bytes taken
+  pub source_crc_of_taken : (a b : Source ℕ) {P : List ℕ → List ℕ → Type 0} (x : ℕ) → x < 2 ^ d → Consumes (bytes_of_source (with_crc (update_crc 0) a)) (bytes_of_source (with_crc (update_crc x) b)) P → remaining_known a.remaining ≡ true
+      → x ≡ crc (bits_of (taken (bytes_of_all a.remaining) (bytes_of_all b.remaining)))
+  unfolding IsRest same_first_crc
+  source_crc_of_taken a b x small h t = let k = h.known t in kept a.remaining b.remaining x a.crcs b.crcs small t k.known (k.rest (bytes_of_all a.remaining) ([], refl)) k.crcs
+
+  -- what `crc` gives is the remainder of what was taken since the reader was made
+  pub crc_of_taken : {R : Type 0} (source : R → Source ℕ) (b c : CrcReader R ℕ) {P : List ℕ → List ℕ → Type 0} → crc_state b ≡ 0 → crc_state c < 2 ^ d
+      → Consumes (bytes_in (crc_source source update_crc) b) (bytes_in (crc_source source update_crc) c) P → (bytes_in (crc_source source update_crc) b).known ≡ true
+      → crc_state c ≡ crc (bits_of (taken (bytes_in (crc_source source update_crc) b).remaining (bytes_in (crc_source source update_crc) c).remaining))
+  unfolding bytes_in
+  crc_of_taken source b c {P = P} start small h t =
+      source_crc_of_taken (source (crc_inner b)) (source (crc_inner c)) (crc_state c) small
+      (subst (λ (x : ℕ). Consumes (bytes_of_source (with_crc (update_crc x) (source (crc_inner b)))) (bytes_of_source (with_crc (update_crc (crc_state c)) (source (crc_inner c)))) P) start h) t
+
+-- ---- what happened behind a remainder or a loan happened to what it reaches
+
+-- other loans and remainders on the way
+abbrev pub under : {X : Type 0} → List GName → (List ℕ → List ℕ) → State X → State X
+under loans crcs s = record s { loans = loans; crcs = crcs }
+
+module _ {X : Type 0} (a b : State X) (l m : List GName) (f g : List ℕ → List ℕ) (loans : m ≡ l → b.loans ≡ a.loans) (crcs : a.known ≡ true → b.known ≡ true → g ≡ f → b.crcs ≡ a.crcs) where
+  pub consumes_below : (P : List X → List X → Type 0) → Consumes (under l f a) (under m g b) P → Consumes a b P
+  consumes_below P h = record { errors = h.errors; empty_reads = h.empty_reads; loans = loans h.loans; known = λ t. let x = h.known t in record { known = x.known; is = x.is; rest = x.rest; crcs = crcs t x.known x.crcs } }
+
+  pub failure_or_below : (P : List X → Type 0) → FailureOr (under l f a) (under m g b) P → FailureOr a b P
+  failure_or_below P h = record { loans = loans h.loans; known = λ t. let x = h.known t in record { known = x.known; why = x.why; rest = x.rest } }
+
+  pub stops_below : {Y : Type 0} (e : Error) (read : List X → Reading X Y) → Stops e read (under l f a) (under m g b) → Stops e read a b
+  stops_below e read h = record { failure = λ i. failure_or_below (λ s. read s ≡ Incomplete) (h.failure i); fault = λ i. consumes_below (λ s m. IsFaultOf e (read s) m) (h.fault i); named = h.named }
+
+  pub gives_below : {A Y : Type 0} (view : A → Y) (r : Result A Error) (read : List X → Reading X Y) → Gives view r read (under l f a) (under m g b) → Gives view r read a b
+  gives_below view (Ok x) read h = consumes_below (λ s m. read s ≡ Done (view x) m) h
+  gives_below view (Err e) read h = stops_below e read h
+
+  pub gives_or_out_of_memory_below : {A Y : Type 0} (view : A → Y) (r : Result A Error) (read : List X → Reading X Y) → GivesOrOutOfMemory view r read (under l f a) (under m g b) → GivesOrOutOfMemory view r read a b
+  gives_or_out_of_memory_below view (Ok x) read h = consumes_below (λ s m. read s ≡ Done (view x) m) h
+  gives_or_out_of_memory_below view (Err OutOfMemory) read h = record { consumed = consumes_below (λ s m. Unit {0}) h.consumed }
+  gives_or_out_of_memory_below view (Err (IoError e)) read h = stops_below (IoError e) read h
+  gives_or_out_of_memory_below view (Err (FormatError e)) read h = stops_below (FormatError e) read h
+  gives_or_out_of_memory_below view (Err (Unsupported e)) read h = stops_below (Unsupported e) read h
+
+-- a loan
+pub same_loans_below : (m n : GName) (xs ys : List GName) → n ∷ ys ≡ m ∷ xs → ys ≡ xs
+same_loans_below m n xs ys e = cc
+
+pub name_below : (m n : GName) (xs ys : List GName) → n ∷ ys ≡ m ∷ xs → m ≡ n
+name_below m n xs ys e = cc
+
+-- a remainder, and those below it
+pub same_crcs_below : (p q : Option (List ℕ)) (f g : List ℕ → ℕ) (u v : List ℕ → List ℕ) → remaining_known p ≡ true → remaining_known q ≡ true → past q (λ xs. g xs ∷ v xs) ≡ past p (λ xs. f xs ∷ u xs) → past q v ≡ past p u
+same_crcs_below None q f g u v t k e = absurd cc
+same_crcs_below (Some all) None f g u v t k e = absurd cc
+same_crcs_below (Some all) (Some rest) f g u v t k e =
+    same_function (λ more. let o : g (rest ++ more) ∷ v (rest ++ more) ≡ f (all ++ more) ∷ u (all ++ more) = ap (λ (h : List ℕ → List ℕ). h more) e in cc)
+
+-- ---- a guard after what it guards
+
+consumes_known : {X : Type 0} {a b : State X} {P : List X → List X → Type 0} (T : List X → List X → Type 0) → Consumes a b P → (a.known ≡ true → P a.remaining b.remaining → T a.remaining b.remaining) → Consumes a b T
+consumes_known T h f = record { errors = h.errors; empty_reads = h.empty_reads; loans = h.loans; known = λ t. let x = h.known t in record { known = x.known; is = f t x.is; rest = x.rest; crcs = x.crcs } }
+
+-- what was read is sealed by c, where this is its guard: a number that is to be c is still to be read
+pub consumes_with_crc : {A : Type 0} (w c : ℕ) (guard : Bits → ℕ) (f : Fault) (r : List ℕ → Reading ℕ A) (y : A) (a m : State ℕ) → Consumes a m (λ s k. r s ≡ Done y k) → (a.known ≡ true → c ≡ guard (bits_of (taken a.remaining m.remaining)))
+    → Consumes a m (λ s k. with_crc_bytes_at w guard f r s ≡ bind (crc_at w c f k) (λ u. done y))
+consumes_with_crc w c guard f r y a m h k = consumes_known _ h (λ t p. with_crc_after w c guard f r y a.remaining m.remaining p (k t))
+
+-- ---- a reader of remainders over a reference
+
+-- the source behind a reference
+abbrev pub behind : {R : Type 0} → (R → Source ℕ) → MutBor R → Source ℕ
+behind source r = through_loan r.ghost_name (source r.now)
+
+module _ {R S A Y : Type 0} (source : R → Source ℕ) (update_crc : S → List ℕ → ℕ) (x : R) (j : GName) (f : List ℕ → ℕ) (b c : CrcReader (MutBor R) S) (view : A → Y) (r : Result A Error) (read : List ℕ → Reading ℕ Y)
+    (made : crc_source (behind source) update_crc b ≡ with_crc f (through_loan j (source x))) where
+  -- what it gave is given by what the reference reaches
+  pub gives_with_crc : Gives view r read (bytes_in (crc_source (behind source) update_crc) b) (bytes_in (crc_source (behind source) update_crc) c) → Gives view r read (bytes_in source x) (bytes_in source (crc_inner c).now)
+  unfolding bytes_in
+  gives_with_crc h =
+      let y = source (crc_inner c).now in
+      gives_below (bytes_of_source (source x)) (bytes_of_source y) (j ∷ (source x).loans) ((crc_inner c).ghost_name ∷ y.loans)
+      (past (source x).remaining (λ xs. f xs ∷ (source x).crcs xs)) (past y.remaining (λ xs. update_crc (crc_state c) xs ∷ y.crcs xs)) (same_loans_below j (crc_inner c).ghost_name (source x).loans y.loans)
+      (λ t u. same_crcs_below (source x).remaining y.remaining f (update_crc (crc_state c)) (source x).crcs y.crcs t u) view r read
+      (subst (λ (z : Source ℕ). Gives view r read (bytes_of_source z) (bytes_of_source (with_crc (update_crc (crc_state c)) (through_loan (crc_inner c).ghost_name y)))) made h)
+
+  -- and the reference is still the same
+  pub name_with_crc : Gives view r read (bytes_in (crc_source (behind source) update_crc) b) (bytes_in (crc_source (behind source) update_crc) c) → j ≡ (crc_inner c).ghost_name
+  unfolding bytes_in
+  name_with_crc h =
+      let y = source (crc_inner c).now in
+      name_below j (crc_inner c).ghost_name (source x).loans y.loans
+      (gives_loans view r read _ _ (subst (λ (z : Source ℕ). Gives view r read (bytes_of_source z) (bytes_of_source (with_crc (update_crc (crc_state c)) (through_loan (crc_inner c).ghost_name y)))) made h))

@@ -1,6 +1,0 @@
-use Rattle.std.proofs.Common.{arith}
-use Rattle.claxon_input.proofs.CacheBits.{four_here}
-use Rattle.claxon_input.proofs.bits.ahead.four_bytes.Goals as goal
-
-pub returns : goal.returns
-returns c = four_here c.args.bytes.now c.args.at c.from_be_bytes.result c.requires (λ k. (c.type_inv.bytes k).fits) (omega (arith, c.from_be_bytes.ensures))

@@ -1,0 +1,9 @@
+use Rattle.std.proofs.Common.{rules}
+use Rattle.claxon_input.proofs.Sources.{failure_or_eof_with_crc, on_err}
+use Rattle.claxon_input.proofs.crc.CrcReaderReadBytes.read_into.Goals as goal
+
+pub returns-in_err-read_into-clause-err : goal.returns-in_err-read_into-clause-err
+returns-in_err-read_into-clause-err g c = on_err c.from_residual.result (failure_or_eof_with_crc (g.S.RunningCrc.update_crc c.args.self.now.state) c.in_err-read_into.ensures.err)
+
+pub returns-clause-ok : goal.returns-clause-ok
+returns-clause-ok g c = search rules

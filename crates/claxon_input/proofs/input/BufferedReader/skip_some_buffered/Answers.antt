@@ -1,0 +1,15 @@
+use Rattle.std.proofs.Common.{arith, refl, take, drop}
+use Rattle.std.proofs.lemmas.Grind.{common_steps}
+use Rattle.claxon_input.proofs.BufferedBytes.{advances, length-part}
+use Rattle.claxon_input.proofs.input.BufferedReader.skip_some_buffered.Goals as goal
+
+pub returns-clause-bytes : goal.returns-clause-bytes
+returns-clause-bytes g c = (
+  take c.min-count.result (drop c.args.self.now.pos c.args.self.now.buf.items),
+  length-part c.args.self.now.buf.items c.args.self.now.pos c.min-count.result (grind (arith, common_steps)),
+  record {
+    lost = record { front = advances (g.R.Read.remaining c.args.self.now.inner) c.args.self.now.buf.items c.args.self.now.pos c.min-count.result c.args.self.now.num_valid _ refl (grind (arith, common_steps)); loans = refl; crcs = λ _ _. refl };
+    errors = refl;
+    empty_reads = refl;
+  },
+)

@@ -1,5 +1,0 @@
-use Rattle.std.proofs.Common.{rules}
-use Rattle.claxon_input.proofs.input.RefMutReadBytes.next_at_hand.Goals as goal
-
-pub returns : goal.returns
-returns g c = search rules

@@ -1,0 +1,183 @@
+//! Bits at hand: those that a `Bitstream` can give without asking its source, read without being taken.
+ghost use Rattle.std.specs.Prelude.{◌≡◌, ◌+◌, ◌*◌, ◌-◌, ◌%◌, ◌^◌, ◌<◌, ◌≤◌, IfSome, length, take, drop};
+ghost use Rattle.claxon_format.specs.Bits.{bits, bits_of};
+ghost use Rattle.claxon_format.specs.read.Bits.{number_at, unary_at};
+
+use super::Bitstream;
+use crate::input::ReadBytes;
+use std::io;
+
+/// Bits at hand, the first ones in the cache and the others in whole bytes.
+///
+/// Whoever has read some of them tells the `Bitstream` how many, by `skip_bits`. No call can fail, so words of a few bits are
+/// read at low cost.
+#[derive(Clone, Copy)]
+pub struct BufferedBits<'a> {
+    bytes: &'a [u8],
+
+    /// The index of the first byte that isn't in the cache.
+    at: usize,
+
+    /// The bits before it, in the high places, and zeros below.
+    cache: u64,
+
+    /// How many those are.
+    count: u32,
+    ghost within: { at ≤ length bytes.now },
+    ghost few_bytes: { length bytes.now ≤ 65536 },
+    ghost few: { count < 64 },
+    ghost fits: { cache % 2 ^ (64 - count) ≡ 0 },
+}
+
+impl BufferedBits<'_> {
+    ghost use Rattle.claxon_input.specs.BufferedBits.{GivesBufferedOrNone, PeeksBits, bits_in_buffer, in_cache};
+
+    /// How many bits are left.
+    pub fn len(&self) -> u32
+        ensures value { result ≡ length (bits_in_buffer self.now) }
+    {
+        self.count + (self.bytes.len() - self.at) as u32 * 8
+    }
+
+    // Puts four more bytes into the cache, where it has too few bits and so many are left.
+    #[inline(always)]
+    fn fill(&mut self, bits: u32)
+        requires { bits ≤ 32 }
+        ensures { bits_in_buffer self.new ≡ bits_in_buffer self.old }
+    {
+        if self.count >= bits || self.bytes.len() - self.at < 4 {
+            return;
+        }
+        let bytes = (four_bytes(self.bytes, self.at) as u64) << 32;
+        self.cache |= bytes >> self.count;
+        self.count += 32;
+        self.at += 4;
+    }
+
+    /// The number of zeros before the next one, where this is at hand and in reach of the cache. It is taken too.
+    #[inline(always)]
+    pub fn unary(&mut self) -> Option<u32>
+        ensures { GivesBufferedOrNone unary_at self.old result self.new }
+    {
+        self.fill(32);
+        if self.cache == 0 {
+            return None;
+        }
+        let zeros = self.cache.leading_zeros();
+        self.consume(zeros + 1);
+        Some(zeros)
+    }
+
+    /// A number of at most 32 bits, where they are at hand.
+    #[inline(always)]
+    pub fn number(&mut self, bits: u32) -> Option<u32>
+        requires { bits ≤ 32 }
+        ensures { GivesBufferedOrNone (number_at bits) self.old result self.new }
+    {
+        self.fill(bits);
+        if self.count < bits {
+            return None;
+        }
+        let number = (self.cache >> 1) >> (63 - bits);
+        self.consume(bits);
+        Some(number as u32)
+    }
+
+    /// The next 64 bits, where the cache and eight bytes behind it have them. None of them is taken: `consume` takes the first ones,
+    /// up to 56.
+    #[inline(always)]
+    pub fn peek(&mut self) -> Option<u64>
+        ensures same { bits_in_buffer self.new ≡ bits_in_buffer self.old }
+        ensures some { IfSome result (λ peek. PeeksBits peek self.new) }
+    {
+        if self.bytes.len() - self.at < 8 {
+            return None;
+        }
+        let peek = self.cache | eight_bytes(self.bytes, self.at) >> self.count;
+        let kept = self.count % 8;
+        self.at += ((56 - (self.count - kept)) / 8) as usize;
+        self.cache = peek - (peek & ((1 << (8 - kept)) - 1));
+        self.count = 56 + kept;
+        Some(peek)
+    }
+
+    /// Takes so many bits, which stand in the cache.
+    #[inline(always)]
+    pub fn consume(&mut self, bits: u32)
+        requires { bits ≤ in_cache self.now }
+        ensures { bits_in_buffer self.new ≡ drop bits (bits_in_buffer self.old) }
+    {
+        self.cache <<= bits;
+        self.count -= bits;
+    }
+}
+
+// Four bytes as a number, the highest first.
+#[inline(always)]
+fn four_bytes(bytes: &[u8], at: usize) -> u32
+    requires { at + 4 ≤ length bytes.now }
+    ensures { bits 32 result ≡ bits_of (take 4 (drop at bytes.now)) }
+{
+    u32::from_be_bytes([bytes[at], bytes[at + 1], bytes[at + 2], bytes[at + 3]])
+}
+
+// Eight bytes as a number.
+#[inline(always)]
+fn eight_bytes(bytes: &[u8], at: usize) -> u64
+    requires { at + 8 ≤ length bytes.now }
+    ensures { bits 64 result ≡ bits_of (take 8 (drop at bytes.now)) }
+{
+    u64::from_be_bytes([
+        bytes[at],
+        bytes[at + 1],
+        bytes[at + 2],
+        bytes[at + 3],
+        bytes[at + 4],
+        bytes[at + 5],
+        bytes[at + 6],
+        bytes[at + 7],
+    ])
+}
+
+impl<R: ReadBytes> Bitstream<R> {
+    ghost use Rattle.claxon_input.specs.BufferedBits.{IsBufferOf};
+    ghost use Rattle.claxon_input.specs.ReadBits.{BitsAreSkipped, FewAreLeft, SkipDropsBits};
+    ghost use Rattle.claxon_input.specs.State.{bits_in};
+
+    /// The bits at hand. None of them is taken.
+    pub fn buffered(&self) -> BufferedBits<'_>
+        ensures { IsBufferOf result (bits_in R.source self.now) }
+    {
+        let bytes = self.reader.buffered();
+        let most = bytes.len().min(65536);
+        BufferedBits {
+            bytes: &bytes[..most],
+            at: 0,
+            cache: (self.cache << (63 - self.count)) << 1,
+            count: self.count,
+        }
+    }
+
+    /// Skips over so many bits. After an error none is left over.
+    #[tactic(auto, using(crate::proofs::BitSteps::few_bits))]
+    pub fn skip_bits(&mut self, amount: u32) -> io::Result<()>
+        ensures gives { BitsAreSkipped R.source amount self.old result self.new }
+        ensures err { SkipDropsBits R.source amount self.old result self.new }
+        ensures few { FewAreLeft self.new }
+    {
+        if amount <= self.count {
+            self.count -= amount;
+            self.cache &= (1 << self.count) - 1;
+            return Ok(());
+        }
+        let past_first = amount - self.count - 1;
+        self.cache = 0;
+        self.count = 0;
+        self.reader.skip(past_first / 8)?;
+        let last = self.reader.read_u8()? as u64;
+        let left = 7 - past_first % 8;
+        self.cache = last & ((1 << left) - 1);
+        self.count = left;
+        Ok(())
+    }
+}

@@ -1,0 +1,10 @@
+use Rattle.std.proofs.Common.{rules}
+use Rattle.claxon_input.specs.CrcUpdate.{update_crc16}
+use Rattle.claxon_input.proofs.CrcReaders.{gives_with_crc, name_with_crc}
+use Rattle.claxon_tests.proofs.input.guarded.read_pair_with_crc.Goals as goal
+
+pub returns : goal.returns
+returns g c =
+    let e = name_with_crc g.R.ReadBytes.source update_crc16 c.args.input.now _ _ c.new-input.result c.read_pair_through_crc.new.input _ c.read_pair_through_crc.result _ c.new-input.ensures.source c.read_pair_through_crc.ensures in
+    let k = gives_with_crc g.R.ReadBytes.source update_crc16 c.args.input.now _ _ c.new-input.result c.read_pair_through_crc.new.input _ c.read_pair_through_crc.result _ c.new-input.ensures.source c.read_pair_through_crc.ensures in
+    search rules

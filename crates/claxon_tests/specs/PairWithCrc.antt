@@ -1,0 +1,25 @@
+-- Two numbers of 5 and of 9 bits, padding and a guard: a code as small as one of a frame's kind can be.
+use Rattle.std.specs.Prelude.{ℕ, Bool, List, Result}
+use Rattle.claxon_format.specs.Bits.{Bits}
+use Rattle.claxon_format.specs.Fault.{FrameCrc}
+use Rattle.claxon_format.specs.read.Bytes.{by_bytes}
+use Rattle.claxon_format.specs.read.Crc.{byte_aligned_at, with_crc_at}
+use Rattle.claxon_format.specs.Crc.{crc16}
+use Rattle.claxon_format.specs.Reading.{Reading, and_then, done}
+use Rattle.claxon_format.specs.read.Bits.{number_at}
+use Rattle.claxon_input.specs.Gives.{Gives}
+use Rattle.claxon_input.specs.Source.{Source}
+use Rattle.claxon_input.specs.State.{bytes_in}
+use Rattle.claxon_input.specs.declared.error.Error.{Error}
+
+-- two numbers, of 5 and of 9 bits
+unfoldable pub pair_at : Bits → Reading Bool (ℕ × ℕ)
+pair_at = and_then (number_at 5) (λ a. and_then (number_at 9) (λ b. done (a, b)))
+
+-- in bytes, with padding and guard
+unfoldable pub pair_with_crc_at : List ℕ → Reading ℕ (ℕ × ℕ)
+pair_with_crc_at = by_bytes (with_crc_at 16 crc16 FrameCrc (byte_aligned_at pair_at))
+
+-- What was answered and taken is what the reader of guarded pairs gives.
+abbrev pub PairIsRead : {R : Type 0} → (R → Source ℕ) → R → Result (ℕ × ℕ) Error → R → Type 0
+PairIsRead source old result new = Gives (λ pair. pair) result pair_with_crc_at (bytes_in source old) (bytes_in source new)

@@ -1,0 +1,197 @@
+-- What was read through a loan was read from what it reaches.
+use Rattle.std.specs.Borrow.{GName, MutBor}
+use Rattle.claxon.specs.Source.{Source, through_loan}
+use Rattle.std.proofs.Common.{◌≡◌, inl, inr, ℕ, ◌+◌, ◌%◌, ◌^◌, List, [], ◌∷◌, ◌++◌, Option, None, Some, ap, subst, ◌∙◌, append-nil, arith}
+use Rattle.std.specs.Prelude.{IfErr, IfOk, OnErr, OnOk, ◌⊎◌, Result, Ok, Err}
+use Rattle.std.specs.Result.{result_and}
+use Rattle.std.specs.Io.KnownBytes.{Keeps}
+use Rattle.claxon.specs.Frame.{StreamFormat, Block}
+use Rattle.claxon.specs.read.Frame.{frame_bytes_at}
+use Rattle.claxon.specs.Reading.{Reading}
+use Rattle.claxon.specs.Errors.{Error}
+use Rattle.claxon.specs.Errors.TheVariants.{IoError, FormatError, Unsupported, OutOfMemory}
+use Rattle.claxon.specs.Gives.{FailedOr, Stops, FailureOr, Consumes, ReachedEof, GivesOrEofOrOutOfMemory}
+use Rattle.claxon.specs.Error.{IsIo}
+use Rattle.claxon.specs.State.{State, bytes_in}
+use Rattle.claxon.specs.Promises.{Remains, NoneIsEof}
+use Rattle.claxon.specs.Block.{BlockValue}
+use Rattle.claxon.specs.FrameReader.{ReadsFrame, block_view, stream_with}
+use Rattle.claxon.specs.StreamInfos.{StreamInfo}
+use Rattle.claxon.specs.SampleRuns.{ConsumesFrames, ReadsFrames, samples_of}
+use Rattle.claxon_write.specs.Decoded.{EndsAfter, Gathers, Decodes, FailsToFlushAll, FailsToWrite, StopsDecoding, TakesBlocks, last_bytes}
+use Rattle.claxon_write.specs.SampleBytes.{bytes_of_samples}
+use Rattle.claxon_write.specs.Written.{AppendsAllBut, FailsToPut, FlushFailed, IsFlushed, IsUnflushed, NothingFailed, Puts, capacity, failed_flushes_of, failed_writes_of, held, contents_with_pending, waiting}
+use Rattle.claxon_write.specs.declared.output.Output.{Output}
+use Rattle.claxon_write.specs.declared.stream.End.{End}
+use Rattle.claxon_write.proofs.Puts.{puts_both, puts_as, fails_after, fails_close, fewer, flush_failed_after, flushed_after, contents_alone, none_failed_both, appends_keeps}
+
+rest_of : List GName → List GName
+rest_of [] = []
+rest_of (n ∷ names) = names
+
+-- without the outermost loan
+pub unborrowed : {X : Type 0} → State X → State X
+unborrowed s = record s { loans = rest_of s.loans }
+
+module _ {X : Type 0} {a b : State X} where
+  consumes_unborrowed : {P : List X → List X → Type 0} → Consumes a b P → Consumes (unborrowed a) (unborrowed b) P
+  unfolding unborrowed
+  consumes_unborrowed h = record { errors = h.errors; empty_reads = h.empty_reads; loans = ap rest_of h.loans; known = λ t. let x = h.known t in record { known = x.known; is = x.is; rest = x.rest; crcs = x.crcs } }
+
+  failed_or_unborrowed : {P : Type 0} → FailedOr a b P → FailedOr (unborrowed a) (unborrowed b) P
+  unfolding unborrowed
+  failed_or_unborrowed h = record { known = h.known; why = h.why; rest = h.rest }
+
+  failure_or_unborrowed : {P : List X → Type 0} → FailureOr a b P → FailureOr (unborrowed a) (unborrowed b) P
+  unfolding unborrowed
+  failure_or_unborrowed h = record { loans = ap rest_of h.loans; known = λ t. failed_or_unborrowed (h.known t) }
+
+  stops_unborrowed : {Y : Type 0} {e : Error} {read : List X → Reading X Y} → Stops e read a b → Stops e read (unborrowed a) (unborrowed b)
+  stops_unborrowed h = record { failure = λ i. failure_or_unborrowed (h.failure i); fault = λ i. consumes_unborrowed (h.fault i); named = h.named }
+
+  eof_unborrowed : {k : ℕ} → ReachedEof k a b → ReachedEof k (unborrowed a) (unborrowed b)
+  unfolding unborrowed
+  eof_unborrowed h = record { errors = h.errors; loans = ap rest_of h.loans; known = λ t. let x = h.known t in record { known = x.known; is = x.is; rest = x.rest; crcs = x.crcs } }
+
+module _ {X : Type 0} {a : State X} where
+  remains_unborrowed : {xs : List X} → Remains a xs → Remains (unborrowed a) xs
+  unfolding unborrowed
+  remains_unborrowed c = record { known = c.known; are = c.are }
+
+  remains_borrowed : {xs : List X} → Remains (unborrowed a) xs → Remains a xs
+  unfolding unborrowed
+  remains_borrowed c = record { known = c.known; are = c.are }
+
+gives_unborrowed : {X A Y : Type 0} (k : ℕ) (view : A → Y) (r : Result (Option A) Error) (read : List X → Reading X Y) (a b : State X) → GivesOrEofOrOutOfMemory k view r read a b → GivesOrEofOrOutOfMemory k view r read (unborrowed a) (unborrowed b)
+gives_unborrowed k view (Ok (Some x)) read a b g = consumes_unborrowed g
+gives_unborrowed k view (Ok None) read a b g = eof_unborrowed g
+gives_unborrowed k view (Err OutOfMemory) read a b g = record { consumed = consumes_unborrowed g.consumed }
+gives_unborrowed k view (Err (IoError cause)) read a b g = stops_unborrowed g
+gives_unborrowed k view (Err (FormatError text)) read a b g = stops_unborrowed g
+gives_unborrowed k view (Err (Unsupported text)) read a b g = stops_unborrowed g
+
+at_eof_unborrowed : (a b : State ℕ) (r : Result (Option BlockValue) Error) → NoneIsEof 2 r a b → NoneIsEof 2 r (unborrowed a) (unborrowed b)
+unfolding unborrowed
+at_eof_unborrowed a b (Ok found) h = λ e known. let p = h e known in (p.0, remains_unborrowed p.1)
+at_eof_unborrowed a b (Err e) h = tt
+
+reads_unborrowed : {stream : Option StreamFormat} {r : Result (Option BlockValue) Error} {a b : State ℕ} → ReadsFrame stream r a b → ReadsFrame stream r (unborrowed a) (unborrowed b)
+unfolding unborrowed
+reads_unborrowed {stream = stream} {r = r} {a = a} {b = b} h = let p = h.promises in record {
+  promises = record {
+    sound = p.sound;
+    complete = λ y t rest c o. elim (p.complete y t rest c (remains_borrowed o)) [ inl q ↦ inl (q.0, remains_unborrowed q.1) | inr q ↦ inr q ];
+    at_end = at_eof_unborrowed a b r p.at_end;
+    ended = λ xs o few. elim (p.ended xs (remains_borrowed o) few) [ inl q ↦ inl (q.0, remains_unborrowed q.1) | inr q ↦ inr q ];
+    no_failure = p.no_failure;
+    fault = p.fault;
+    named = λ f t rest c o. elim (p.named f t rest c (remains_borrowed o)) [ inl q ↦ inl (q.0, remains_unborrowed q.1) | inr q ↦ inr q ];
+    io = p.io;
+    front = p.front;
+  };
+  memory = h.memory;
+  gives = gives_unborrowed 2 block_view r (frame_bytes_at stream) a b h.gives;
+}
+
+takes_unborrowed : {stream : Option StreamFormat} {blocks : List Block} {a b : State ℕ} → ConsumesFrames stream blocks a b → ConsumesFrames stream blocks (unborrowed a) (unborrowed b)
+takes_unborrowed h = record { consumed = consumes_unborrowed h.consumed }
+
+runs_unborrowed : {stream : Option StreamFormat} {blocks : List Block} {r : Result (Option BlockValue) Error} {a b : State ℕ} → ReadsFrames stream blocks r a b → ReadsFrames stream blocks r (unborrowed a) (unborrowed b)
+runs_unborrowed h = record { between = unborrowed h.between; blocks_are = takes_unborrowed h.blocks_are; last = reads_unborrowed h.last }
+
+ends_unborrowed : (stream : Option StreamFormat) (blocks : List Block) (end : Option Error) (a b : State ℕ) → EndsAfter stream blocks end a b → EndsAfter stream blocks end (unborrowed a) (unborrowed b)
+ends_unborrowed stream blocks None a b h = runs_unborrowed h
+ends_unborrowed stream blocks (Some e) a b (inl h) = inl (runs_unborrowed h)
+ends_unborrowed stream blocks (Some e) a b (inr h) = inr (record { is_limit = h.is_limit; last = h.last; frames = takes_unborrowed h.frames; many = h.many })
+
+blocks_unborrowed : (stream : Option StreamFormat) (blocks : List Block) (a b : State ℕ) → TakesBlocks stream blocks a b → TakesBlocks stream blocks (unborrowed a) (unborrowed b)
+blocks_unborrowed stream blocks a b (inl h) = inl (takes_unborrowed h)
+blocks_unborrowed stream blocks a b (inr h) = inr (h.0, ends_unborrowed stream blocks h.0 a b h.1)
+
+-- ---- all that was gathered was written
+
+module _ {W : Type 0} {contents : W → Option (List ℕ)} {stream : Option StreamFormat} where
+  pub decoded : {n : ℕ} (end : Option Error) {a b : State ℕ} {x y z : Output W} → Gathers contents stream end n a b x y → Puts contents [] y z → waiting z ≡ [] → Decodes contents stream end n (unborrowed a) (unborrowed b) x z × NothingFailed x z
+  decoded end {a = a} {b = b} {x = x} {z = z} h k none =
+      let p = puts_as (append-nil (bytes_of_samples (samples_of h.blocks))) (puts_both h.puts k) in
+      (record { blocks = h.blocks; ends = ends_unborrowed stream h.blocks end a b h.ends; count = h.count; written = contents_alone (contents_with_pending contents x) (held contents z) (waiting z) (bytes_of_samples (samples_of h.blocks)) none p.bytes_are; none_pending = none }, p.nothing_failed)
+
+  pub fails_after_gathering : {n : ℕ} (end : Option Error) {error : Error} {a b : State ℕ} {x y z : Output W} → Gathers contents stream end n a b x y → FailsToPut contents [] error y z → IsUnflushed x z → FailsToWrite contents stream error (unborrowed a) (unborrowed b) x z
+  fails_after_gathering end {a = a} {b = b} {x = x} {z = z} h k u =
+      let p = fails_after h.puts k in
+      let n : ℕ = capacity + last_bytes h.blocks in
+      let close : AppendsAllBut n (held contents x) (held contents z) (waiting x ++ (bytes_of_samples (samples_of h.blocks) ++ [])) = fewer capacity n (held contents x) (held contents z) (waiting x ++ (bytes_of_samples (samples_of h.blocks) ++ [])) (omega arith) (fails_close h.puts k) in
+      record { is_io = p.is_io; failed = p.failed; unflushed = u; blocks = h.blocks; takes = inr (end, ends_unborrowed stream h.blocks end a b h.ends); front = subst (λ (l : List ℕ). AppendsAllBut n (held contents x) (held contents z) (waiting x ++ l)) (append-nil (bytes_of_samples (samples_of h.blocks))) close; none_pending = p.none_pending }
+
+  pub fails_unborrowed_too : {error : Error} {a b : State ℕ} {x y : Output W} → FailsToWrite contents stream error a b x y → FailsToWrite contents stream error (unborrowed a) (unborrowed b) x y
+  fails_unborrowed_too {a = a} {b = b} h = record { is_io = h.is_io; failed = h.failed; unflushed = h.unflushed; blocks = h.blocks; takes = blocks_unborrowed stream h.blocks a b h.takes; front = h.front; none_pending = h.none_pending }
+
+-- the source of a loan
+abbrev pub lent : {R : Type 0} → (R → Source ℕ) → MutBor R → Source ℕ
+lent source r = through_loan r.ghost_name (source r.now)
+
+-- the loan stayed
+pub same_name : {R : Type 0} (source : R → Source ℕ) (r s q : MutBor R) → s ≡ r → (bytes_in (lent source) q).loans ≡ (bytes_in (lent source) s).loans → q.ghost_name ≡ r.ghost_name
+unfolding bytes_in
+same_name source r s q e h =
+    let k : q.ghost_name ∷ (source q.now).loans ≡ s.ghost_name ∷ (source s.now).loans = h in
+    let n : q.ghost_name ≡ s.ghost_name = cc in
+    n ∙ ap (λ (x : MutBor _). x.ghost_name) e
+
+module _ {R W : Type 0} (source : R → Source ℕ) {contents : W → Option (List ℕ)} {stream known : Option StreamFormat} (r s q : MutBor R) (at : s ≡ r) (same : stream ≡ known) where
+  -- what was gathered is written, and then the end is answered
+  pub written_through : (end : End) (o : Result (Unit {0}) Error) (x y z : Output W) → Gathers contents stream end.fault end.count (bytes_in (lent source) s) (bytes_in (lent source) q) x y → OnOk o (Puts contents [] y z) → IfErr o (λ e. FailsToPut contents [] e y z)
+      → waiting z ≡ [] → IsUnflushed x z
+      → IfOk (result_and o (Ok end)) (λ end. Decodes contents known end.fault end.count (bytes_in source r.now) (bytes_in source q.now) x z × NothingFailed x z)
+      × IfErr (result_and o (Ok end)) (λ e. FailsToWrite contents known e (bytes_in source r.now) (bytes_in source q.now) x z)
+  unfolding unborrowed bytes_in rest_of
+  written_through end (Ok done) x y z h k f none u = (rw (← at, ← same) (decoded end.fault h k none), tt)
+  written_through end (Err e) x y z h k f none u = (tt, rw (← at, ← same) (fails_after_gathering end.fault h f u))
+
+  pub fails_through : {error : Error} {x y : Output W} → FailsToWrite contents stream error (bytes_in (lent source) s) (bytes_in (lent source) q) x y → FailsToWrite contents known error (bytes_in source r.now) (bytes_in source q.now) x y
+  unfolding unborrowed bytes_in rest_of
+  fails_through h = rw (← at, ← same) (fails_unborrowed_too h)
+
+-- ---- the flush at the end
+
+either_failed : {W : Type 0} (r : Result (Unit {0}) Error) {x z w : Output W} → NothingFailed x z → failed_writes_of w ≡ failed_writes_of z → OnOk r (failed_flushes_of w ≡ failed_flushes_of z) → OnErr r (failed_flushes_of w ≡ (failed_flushes_of z + 1) % 2 ^ 64)
+    → NothingFailed x w ⊎ FlushFailed x w
+either_failed (Ok u) h k l f = inl (none_failed_both h (record { writes = k; flushes = l }))
+either_failed (Err e) h k l f = inr (flush_failed_after h (record { writes = k; flushes = f }))
+
+module _ {W : Type 0} {contents : W → Option (List ℕ)} where
+  flushed : {stream : Option StreamFormat} {end : Option Error} {n : ℕ} {a b : State ℕ} {x z w : Output W} → Decodes contents stream end n a b x z → Keeps (held contents z) (held contents w) → waiting w ≡ waiting z → Decodes contents stream end n a b x w
+  flushed {x = x} {z = z} {w = w} h k e =
+      record { blocks = h.blocks; ends = h.ends; count = h.count; written = appends_keeps (contents_with_pending contents x) (held contents z) (held contents w) (bytes_of_samples (samples_of h.blocks)) h.written k; none_pending = e ∙ h.none_pending }
+
+  -- under other names
+  module _ {R : Type 0} (source : R → Source ℕ) {info shown : StreamInfo} {u v : R} (head : info ≡ shown) (at : u ≡ v) where
+    pub decodes_flushed : {end fault : Option Error} {n : ℕ} (q : R) {x z w : Output W} → end ≡ fault → Decodes contents (Some (stream_with info)) end n (bytes_in source u) (bytes_in source q) x z → Keeps (held contents z) (held contents w)
+        → waiting w ≡ waiting z → Decodes contents (Some (stream_with shown)) fault n (bytes_in source v) (bytes_in source q) x w
+    decodes_flushed {fault = fault} {n = n} q {x = x} {w = w} e h k l =
+        subst (λ (i : StreamInfo). Decodes contents (Some (stream_with i)) fault n (bytes_in source v) (bytes_in source q) x w) head
+        (subst (λ (r : R). Decodes contents (Some (stream_with info)) fault n (bytes_in source r) (bytes_in source q) x w) at
+        (subst (λ (f : Option Error). Decodes contents (Some (stream_with info)) f n (bytes_in source u) (bytes_in source q) x w) e (flushed h k l)))
+
+    pub stops_flushed : {end : Option Error} {error : Error} {n : ℕ} (q : R) (r : Result (Unit {0}) Error) {x z w : Output W} → end ≡ Some error → Decodes contents (Some (stream_with info)) end n (bytes_in source u) (bytes_in source q) x z → NothingFailed x z → IsUnflushed x z
+        → Keeps (held contents z) (held contents w) → waiting w ≡ waiting z → failed_writes_of w ≡ failed_writes_of z → OnOk r (failed_flushes_of w ≡ failed_flushes_of z) → OnErr r (failed_flushes_of w ≡ (failed_flushes_of z + 1) % 2 ^ 64) → IsFlushed z w
+        → StopsDecoding contents (Some (stream_with shown)) error (bytes_in source v) (bytes_in source q) x w
+    stops_flushed {n = n} q r e h none unflushed k l writes known failed flushed =
+        record { count = n; decoded = decodes_flushed q e h k l; flushed = flushed_after unflushed flushed; failed = either_failed r none writes known failed }
+
+    -- the stream ended, and all was written and flushed, or the flush failed
+    pub all_flushed : {end : Option Error} (n : ℕ) (q : R) (r : Result (Unit {0}) Error) {x z w : Output W} → end ≡ None → Decodes contents (Some (stream_with info)) end n (bytes_in source u) (bytes_in source q) x z → NothingFailed x z → IsUnflushed x z
+        → Keeps (held contents z) (held contents w) → waiting w ≡ waiting z → failed_writes_of w ≡ failed_writes_of z → OnOk r (failed_flushes_of w ≡ failed_flushes_of z) → OnErr r (failed_flushes_of w ≡ (failed_flushes_of z + 1) % 2 ^ 64) → IsFlushed z w → IfErr r (λ e. IsIo e)
+        → IfOk (result_and r (Ok n)) (λ n. Decodes contents (Some (stream_with shown)) None n (bytes_in source v) (bytes_in source q) x w × NothingFailed x w × IsFlushed x w)
+        × IfErr (result_and r (Ok n)) (λ error. StopsDecoding contents (Some (stream_with shown)) error (bytes_in source v) (bytes_in source q) x w
+        ⊎ (FailsToWrite contents (Some (stream_with shown)) error (bytes_in source v) (bytes_in source q) x w ⊎ FailsToFlushAll contents (Some (stream_with shown)) error (bytes_in source v) (bytes_in source q) x w))
+    all_flushed n q (Ok done) e h none unflushed k l writes known failed flushed io = ((decodes_flushed q e h k l, none_failed_both none (record { writes = writes; flushes = known }), flushed_after unflushed flushed), tt)
+    all_flushed n q (Err error) e h none unflushed k l writes known failed flushed io = (
+      tt,
+      inr (inr (record { is_io = io; failed = flush_failed_after none (record { writes = writes; flushes = failed }); flushed = flushed_after unflushed flushed; count = n; decoded = decodes_flushed q e h k l })),
+    )
+
+    pub fails_shown : {error : Error} (q : R) {x y : Output W} → FailsToWrite contents (Some (stream_with info)) error (bytes_in source u) (bytes_in source q) x y → FailsToWrite contents (Some (stream_with shown)) error (bytes_in source v) (bytes_in source q) x y
+    fails_shown {error = error} q {x = x} {y = y} h =
+        subst (λ (i : StreamInfo). FailsToWrite contents (Some (stream_with i)) error (bytes_in source v) (bytes_in source q) x y) head
+        (subst (λ (r : R). FailsToWrite contents (Some (stream_with info)) error (bytes_in source r) (bytes_in source q) x y) at h)

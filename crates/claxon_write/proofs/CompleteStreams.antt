@@ -1,0 +1,100 @@
+-- Where the frames of blocks are to come, and then no frame: what was written is known from them.
+use Rattle.std.proofs.Common.{◌≡◌, ◌⊎◌, inl, inr, ℕ, ◌+◌, ◌<◌, ◌≤◌, ◌^◌, true, List, [], ◌∷◌, ◌++◌, length, Option, None, Some, sym, ap, subst, ◌∙◌, arith, length-append}
+use Rattle.std.proofs.lemmas.Grind.{flat_map-append}
+use Rattle.std.specs.Prelude.{IfErr, IfOk, IsErrAnd, Result, Ok, Err}
+use Rattle.claxon.specs.Fault.{Fault}
+use Rattle.claxon.specs.Frame.{Block, FrameBytesFault, Frames, NoFrameLeft, IsWidth, StreamFormat, known_width}
+use Rattle.claxon.specs.Streams.{interleave}
+use Rattle.claxon.specs.Errors.{Error}
+use Rattle.claxon.specs.Errors.TheVariants.{OutOfMemory}
+use Rattle.claxon.specs.Error.{IsFault}
+use Rattle.claxon.specs.Promises.{Remains, IsExcused}
+use Rattle.claxon.specs.State.{State}
+use Rattle.claxon.specs.SampleRuns.{samples_of}
+use Rattle.claxon.proofs.SampleRuns.{behind, excused_after, fault_no_frame, frames_left, short_no_frame}
+use Rattle.claxon_write.specs.Decoded.{Decodes, EndsAfter, FailsToFlushAll, FailsToWrite, StopsDecoding, TooManySamples, WriteHasFailed, WriterHasFailed}
+use Rattle.claxon_write.specs.Written.{IsFlushed, NothingFailed}
+use Rattle.claxon_write.specs.declared.output.Output.{Output}
+
+-- ---- excuses
+
+-- an Err excuses whatever an Ok would be
+excused_as : {A B : Type 0} (a b : State ℕ) (e : Error) → IsExcused (let q : Result A Error = Err e in q) a b → IsExcused (let q : Result B Error = Err e in q) a b
+excused_as a b e (inl m) = inl (let k : e ≡ OutOfMemory = cc in ap (λ (z : Error). Err z) k)
+excused_as a b e (inr f) = inr f
+
+ok_unexcused : {A : Type 0} (a b : State ℕ) (x : A) → IsExcused (let q : Result A Error = Ok x in q) a b → ⊥
+ok_unexcused a b x (inl m) = cc
+ok_unexcused a b x (inr f) = f.0
+
+-- ---- one run of frames
+
+module _ (stream : Option StreamFormat) (width : IsWidth (known_width stream)) where
+  -- the limit isn't met by fewer samples
+  fewer : (limit p q n : ℕ) → limit ≤ p → n ≡ p + q → n < limit → ⊥
+  fewer limit p q n h e l = omega arith
+
+  under_limit : (done blocks : List Block) (m : List ℕ) {error : Error} {a b : State ℕ} → TooManySamples stream done error a b → a.known ≡ true → Frames stream a.remaining blocks m → NoFrameLeft stream m → length (samples_of blocks) < 2 ^ 64 → ⊥
+  under_limit done blocks m {a = a} {b = b} h known f c few =
+      let all = done ++ h.last ∷ [] in
+      let q = frames_left stream width a.remaining b.remaining m all blocks (h.frames.consumed.known known).is f c in
+      let e : length (samples_of blocks) ≡ length (samples_of all) + length (samples_of q.0) =
+      ap (λ (z : List Block). length (samples_of z)) q.1 ∙ ap length (flat_map-append (λ (b : Block). interleave b.channels) all q.0) ∙ length-append (samples_of all) (samples_of q.0) in
+      fewer (2 ^ 64) (length (samples_of all)) (length (samples_of q.0)) (length (samples_of blocks)) h.many e few
+
+  module _ {W : Type 0} (contents : W → Option (List ℕ)) (a b : State ℕ) (x y : Output W) (blocks : List Block) (m : List ℕ) (known : a.known ≡ true) (f : Frames stream a.remaining blocks m) (few : length (samples_of blocks) < 2 ^ 64) where
+    -- a stream that ends there is written to its end
+    pub written_whole : (r : Result ℕ Error) → IfOk r (λ n. Decodes contents stream None n a b x y × NothingFailed x y × IsFlushed x y)
+        → IfErr r (λ e. StopsDecoding contents stream e a b x y ⊎ (FailsToWrite contents stream e a b x y ⊎ FailsToFlushAll contents stream e a b x y)) → length m < 2 → (r ≡ Ok (length (samples_of blocks))) ⊎ (IsExcused r a b ⊎ WriterHasFailed r x y)
+    written_whole (Ok n) h k short = elim (behind stream width None h.0.blocks blocks m h.0.ends known f (short_no_frame stream m short)) [
+      | inl p ↦ inl (ap (λ (z : ℕ). Ok z) (h.0.count ∙ ap (λ (z : List Block). length (samples_of z)) (sym p.0)))
+      | inr e ↦ absurd (ok_unexcused a b None e)
+    ]
+    written_whole (Err e) h (inr (inl k)) short = inr (inr (k.is_io, inl k.failed))
+    written_whole (Err e) h (inr (inr k)) short = inr (inr (k.is_io, inr k.failed))
+    written_whole (Err e) h (inl k) short = go k.decoded.ends
+      where
+        go : EndsAfter stream k.decoded.blocks (Some e) a b → ((let q : Result ℕ Error = Err e in q) ≡ Ok (length (samples_of blocks))) ⊎ (IsExcused (let q : Result ℕ Error = Err e in q) a b ⊎ WriterHasFailed (let q : Result ℕ Error = Err e in q) x y)
+        go (inr limit) = absurd (under_limit k.decoded.blocks blocks m limit known f (short_no_frame stream m short) few)
+        go (inl reads) = elim (behind stream width (Some e) k.decoded.blocks blocks m reads known f (short_no_frame stream m short)) [
+          | inr z ↦ inr (inl (excused_as a b e z))
+          | inl p ↦ elim (reads.last.promises.ended m p.1 short) [
+            | inl z ↦ absurd (let w = z.0 in cc)
+            | inr z ↦ inr (inl (excused_as a b e (excused_after b (Err e) reads.blocks_are.consumed z)))
+          ]
+        ]
+
+    -- a fault that stands there is named
+    pub fault_after_frames : (r : Result ℕ Error) → IfOk r (λ n. Decodes contents stream None n a b x y × NothingFailed x y × IsFlushed x y)
+        → IfErr r (λ e. StopsDecoding contents stream e a b x y ⊎ (FailsToWrite contents stream e a b x y ⊎ FailsToFlushAll contents stream e a b x y)) → (fault : Fault) (t rest : List ℕ) → FrameBytesFault stream fault t → m ≡ t ++ rest
+        → IsErrAnd r (IsFault fault) ⊎ (IsExcused r a b ⊎ WriteHasFailed r x y)
+    fault_after_frames r h k fault t rest bad e = go r h k
+      where
+        none : NoFrameLeft stream m
+        none = fault_no_frame stream width fault m t rest bad e
+
+        there : {s : State ℕ} → Remains s m → Remains s (t ++ rest)
+        there {s = s} c = subst (λ (z : List ℕ). Remains s z) e c
+
+        -- the end doesn't stand there
+        no_entries_end : {n : ℕ} → Decodes contents stream None n a b x y → ⊥
+        no_entries_end h = elim (behind stream width None h.blocks blocks m h.ends known f none) [
+          | inr z ↦ ok_unexcused a b None z
+          | inl p ↦ elim (h.ends.last.promises.named fault t rest bad (there p.1)) [ inl z ↦ z.0 | inr z ↦ ok_unexcused h.ends.between b None z ]
+        ]
+
+        go : (r : Result ℕ Error) → IfOk r (λ n. Decodes contents stream None n a b x y × NothingFailed x y × IsFlushed x y)
+            → IfErr r (λ e. StopsDecoding contents stream e a b x y ⊎ (FailsToWrite contents stream e a b x y ⊎ FailsToFlushAll contents stream e a b x y)) → IsErrAnd r (IsFault fault) ⊎ (IsExcused r a b ⊎ WriteHasFailed r x y)
+        go (Ok n) h k = absurd (no_entries_end h.0)
+        go (Err error) h (inr (inl k)) = inr (inr (k.is_io, k.failed))
+        go (Err error) h (inr (inr k)) = absurd (no_entries_end k.decoded)
+        go (Err error) h (inl k) = elim k.decoded.ends [
+          | inr limit ↦ absurd (under_limit k.decoded.blocks blocks m limit known f none few)
+          | inl reads ↦ elim (behind stream width (Some error) k.decoded.blocks blocks m reads known f none) [
+            | inr z ↦ inr (inl (excused_as a b error z))
+            | inl p ↦ elim (reads.last.promises.named fault t rest bad (there p.1)) [
+              | inl z ↦ inl z.0
+              | inr z ↦ inr (inl (excused_as a b error (excused_after b (Err error) reads.blocks_are.consumed z)))
+            ]
+          ]
+        ]

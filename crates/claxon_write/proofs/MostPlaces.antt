@@ -1,6 +1,0 @@
--- Bounds on places and their bytes.
-use Rattle.std.proofs.Common.{ℕ, ◌*◌, ◌≤◌, arith}
-
--- at most 512 places of at most eight channels
-pub bytes_of_places : (count channels : ℕ) → count ≤ 512 → channels ≤ 8 → count * (4 * channels) ≤ 16384
-bytes_of_places count channels few small = grind arith
