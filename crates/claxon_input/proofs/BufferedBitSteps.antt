@@ -1,4 +1,4 @@
--- Bits at hand, and bits that are skipped.
+-- Buffered bits, and bits that are skipped.
 use Rattle.std.proofs.Common.{bit_and, ◌≡◌, ℕ, ◌+◌, ◌-◌, ◌*◌, ◌/◌, ◌%◌, ◌^◌, ◌<◌, ◌≤◌, ◌⊎◌, inl, inr, Bool, true, false, ltb, cond, List, [], ◌∷◌, ◌++◌, length, take, drop, Option, None, Some, refl, sym, ap, subst, ◌∙◌, append_assoc, arith, length-append}
 use Rattle.std.specs.Prelude.{IfSome}
 use Rattle.std.specs.Option.{option_map}
@@ -11,14 +11,14 @@ use Rattle.claxon_format.proofs.Numbers.{length-bits}
 use Rattle.claxon_input.specs.Bitstream.{BitState, left_in, TakesBits, BitsFailureOrEof}
 use Rattle.claxon_input.specs.BufferedBits.{skipped_bits_at}
 use Rattle.claxon_input.specs.Source.{Source, IsFront, Skips, Takes, FailureOrEof, Failed}
-use Rattle.claxon_input.specs.State.{remaining_known, known, bits_after}
+use Rattle.claxon_input.specs.State.{remaining_known, remaining_as, bits_after}
 use Rattle.claxon_input.specs.Gives.{Consumes, FailureOr}
-use Rattle.claxon_input.proofs.BitSteps.{bits_both, fetched, cut_in_cache, refused}
+use Rattle.claxon_input.proofs.BitSteps.{bits_both, fetched, cut_in_cache, bits_failure_or_eof}
 use Rattle.claxon_input.proofs.States.{state_of_bits, consumed, failure}
 
--- ---- those at hand come first
+-- ---- the buffered bits come first
 
-pub is_buffer_of : (left : Bits) (o : Option (List ℕ)) (bytes part : List ℕ) (most : ℕ) → IsFront bytes o → part ≡ take most bytes → remaining_known o ≡ true → (rest : Bits) × (known (bits_after left) o ≡ (left ++ bits_of (drop 0 part)) ++ rest)
+pub is_buffer_of : (left : Bits) (o : Option (List ℕ)) (bytes part : List ℕ) (most : ℕ) → IsFront bytes o → part ≡ take most bytes → remaining_known o ≡ true → (rest : Bits) × (remaining_as (bits_after left) o ≡ (left ++ bits_of (drop 0 part)) ++ rest)
 is_buffer_of left None bytes part most h p t = absurd cc
 is_buffer_of left (Some all) bytes part most h p t =
     let whole : all ≡ take most bytes ++ (drop most bytes ++ h.0) = h.1 ∙ ap (λ (x : List ℕ). x ++ h.0) (sym (take-append-drop most bytes)) ∙ append_assoc (take most bytes) (drop most bytes) h.0 in (
@@ -29,9 +29,9 @@ is_buffer_of left (Some all) bytes part most h p t =
 
 -- ---- bits that are skipped
 
-pub passed : (n : ℕ) (t m : Bits) → length t ≡ n → skipped_bits_at n (t ++ m) ≡ Done tt m
+pub skipped_bits_done : (n : ℕ) (t m : Bits) → length t ≡ n → skipped_bits_at n (t ++ m) ≡ Done tt m
 unfolding skipped_bits_at
-passed n t m e =
+skipped_bits_done n t m e =
     let k : ltb (length (t ++ m)) n ≡ false = le-ltb _ _ (omega (arith, length-append t m)) in
     rw (k, drop_at t m n e) refl
 
@@ -56,19 +56,19 @@ not_skipped_bits n s e = go (ltb (length s) n) refl e
     go false h k = absurd cc
 
 pub consumes_skipped_bits : {a b : BitState} {t : Bits} (n : ℕ) → TakesBits a b t → length t ≡ n → Consumes (state_of_bits a) (state_of_bits b) (λ s m. skipped_bits_at n s ≡ Done tt m)
-consumes_skipped_bits {t = t} n h e = consumed (λ s m. skipped_bits_at n s ≡ Done tt m) h (λ m. passed n t m e)
+consumes_skipped_bits {t = t} n h e = consumed (λ s m. skipped_bits_at n s ≡ Done tt m) h (λ m. skipped_bits_done n t m e)
 
 incomplete_cause : (left : Bits) (o : Option (List ℕ)) (few n : ℕ) (F : Type 0) → length left + 8 * few ≤ n → IfSome o (λ all. (length all < few) ⊎ F) → IfSome (option_map (λ xs. left ++ bits_of xs) o) (λ all. (length all < n) ⊎ F)
 incomplete_cause left None few n F e h = tt
 incomplete_cause left (Some all) few n F e (inl h) = inl (omega (arith, length-append left (bits_of all), length-bits_of all))
 incomplete_cause left (Some all) few n F e (inr h) = inr h
 
--- the bytes of the skipped bits didn't come
+-- too few bytes remained for the skipped bits
 pub failure_or_skip : (a : BitState) (s : Source ℕ) (few n : ℕ) → length a.left + 8 * few ≤ n → FailureOrEof a.source s few → FailureOr (state_of_bits a) (state_of_bits (left_in 0 0 s)) (λ x. skipped_bits_at n x ≡ Incomplete)
 unfolding bits
 failure_or_skip a s few n e h = failure a (left_in 0 0 s) (λ x. skipped_bits_at n x ≡ Incomplete) (λ x. length x < n) h.rest (incomplete_cause a.left a.source.remaining few n (Failed a.source s) e h.cause) (too_few n)
 
--- the left-over bits and whole bytes were taken
+-- the left-over bits and whole bytes were consumed
 pub bytes_skipped : (a : BitState) (s : Source ℕ) (few : ℕ) → Skips a.source s few → (t : Bits) × (length t ≡ length a.left + 8 * few) × TakesBits a (left_in 0 0 s) t
 unfolding bits
 bytes_skipped a s few h =
@@ -82,7 +82,7 @@ pub failure_or_last : (a : BitState) (m s : Source ℕ) (few n : ℕ) → length
 unfolding bits
 failure_or_last a m s few n e h k =
     let p = bytes_skipped a m few h in
-    let r : BitsFailureOrEof a (left_in 0 0 s) n = refused n p.2 (omega (arith, p.1)) k in
+    let r : BitsFailureOrEof a (left_in 0 0 s) n = bits_failure_or_eof n p.2 (omega (arith, p.1)) k in
     failure a (left_in 0 0 s) (λ x. skipped_bits_at n x ≡ Incomplete) (λ x. (length x < n) × (s.remaining ≡ Some [])) r.rest r.cause (λ x q. too_few n x q.0)
 
 -- and then the upper bits of one more byte

@@ -1,4 +1,4 @@
--- The bytes that a reader has read ahead.
+-- The buffered bytes of a reader.
 use Rattle.std.proofs.Common.{take-add, ◌≡◌, ℕ, ◌+◌, ◌-◌, ◌<◌, ◌≤◌, List, [], ◌∷◌, ◌++◌, length, get_or, take, drop, Option, None, Some, refl, sym, ap, ◌∙◌, append_assoc, arith}
 use Rattle.std.specs.Prelude.{slice_range}
 use Rattle.std.specs.Io.KnownBytes.{prepend_known}
@@ -16,7 +16,7 @@ prepended : (o : Option (List ℕ)) (xs ys zs : List ℕ) → xs ≡ zs ++ ys �
 prepended None xs ys zs e = tt
 prepended (Some left) xs ys zs e = ap (λ l. l ++ left) e ∙ append_assoc zs ys left
 
--- n of the bytes from i up to j are taken
+-- n of the bytes from i up to j are consumed
 pub advances : (o : Option (List ℕ)) (buf : List ℕ) (i n j : ℕ) (zs : List ℕ) → zs ≡ take n (drop i buf) → i + n ≤ j
     → TakesFront (prepend_known (slice_range buf i j) o) (prepend_known (slice_range buf (i + n) j) o) zs
 advances o buf i n j zs e h = prepended o (slice_range buf i j) (slice_range buf (i + n) j) zs (cut buf i n j h ∙ ap (λ l. l ++ take (j - (i + n)) (drop (i + n) buf)) (sym e))

@@ -1,4 +1,4 @@
--- From bits to whole bytes: what is left over of the last byte taken is padding.
+-- From bits to whole bytes: what is left over of the last byte read is padding.
 use Rattle.std.proofs.Common.{◌≡◌, ℕ, ◌+◌, ◌-◌, ◌/◌, ◌<◌, Bool, true, List, [], ◌∷◌, ◌++◌, length, drop, refl, ap, subst, ◌∙◌, arith, inl, inr}
 use Rattle.std.specs.Prelude.{Result, Ok, Err, Option, None, Some}
 use Rattle.std.specs.Borrow.{MutBor, GName}
@@ -11,7 +11,7 @@ use Rattle.claxon_format.proofs.Bytes.{length-bits_of}
 use Rattle.claxon_format.proofs.Numbers.{length-bits}
 use Rattle.claxon_input.specs.Source.{Source, through_loan}
 use Rattle.claxon_input.specs.Gives.{Consumes, FailureOr, Gives, IsRest}
-use Rattle.claxon_input.specs.State.{bits_in, bytes_in, state_of, bits_after, known, remaining_known}
+use Rattle.claxon_input.specs.State.{bits_in, bytes_in, state_of, bits_after, remaining_as, remaining_known}
 use Rattle.claxon_input.specs.Bitstream.{bit_state}
 use Rattle.claxon_input.specs.declared.bits.Bitstream.{Bitstream}
 use Rattle.claxon_input.specs.declared.error.Error.{Error}
@@ -44,14 +44,14 @@ aligned_fault_is read f z m left few h e = rw e (ap (Faulty f) (left_is z m left
 aligned_incomplete_is : {A : Type 0} (read : Bits → Reading Bool A) (z : List ℕ) → read (bits_of z) ≡ Incomplete → by_bytes read z ≡ Incomplete
 aligned_incomplete_is read z e = rw e refl
 
--- ---- what was done
+-- ---- what was consumed
 
-came : (P : Bits → Bits → Type 0) (Q : List ℕ → List ℕ → Type 0) (left : Bits) (p q : Option (List ℕ)) → ((z m : List ℕ) → IsRest z m → P (bits_of z) (left ++ bits_of m) → Q z m) → remaining_known p ≡ true → remaining_known q ≡ true
-    → ((z : List ℕ) → IsRest z (known (λ all. all) p) → IsRest z (known (λ all. all) q)) → P (known (bits_after []) p) (known (bits_after left) q) → Q (known (λ all. all) p) (known (λ all. all) q)
+both_known : (P : Bits → Bits → Type 0) (Q : List ℕ → List ℕ → Type 0) (left : Bits) (p q : Option (List ℕ)) → ((z m : List ℕ) → IsRest z m → P (bits_of z) (left ++ bits_of m) → Q z m) → remaining_known p ≡ true → remaining_known q ≡ true
+    → ((z : List ℕ) → IsRest z (remaining_as (λ all. all) p) → IsRest z (remaining_as (λ all. all) q)) → P (remaining_as (bits_after []) p) (remaining_as (bits_after left) q) → Q (remaining_as (λ all. all) p) (remaining_as (λ all. all) q)
 unfolding IsRest
-came P Q left None q f t u rest k = absurd cc
-came P Q left (Some z) None f t u rest k = absurd cc
-came P Q left (Some z) (Some m) f t u rest k = f z m (rest z ([], refl)) k
+both_known P Q left None q f t u rest k = absurd cc
+both_known P Q left (Some z) None f t u rest k = absurd cc
+both_known P Q left (Some z) (Some m) f t u rest k = f z m (rest z ([], refl)) k
 
 module _ (s t : Source ℕ) (j k : GName) (left : Bits) (few : length left < 8) where
   consumes_aligned : (P : Bits → Bits → Type 0) (Q : List ℕ → List ℕ → Type 0) → ((z m : List ℕ) → IsRest z m → P (bits_of z) (left ++ bits_of m) → Q z m)
@@ -60,17 +60,17 @@ module _ (s t : Source ℕ) (j k : GName) (left : Bits) (few : length left < 8) 
     errors = h.errors;
     empty_reads = h.empty_reads;
     loans = (let e : k ∷ t.loans ≡ j ∷ s.loans = h.loans in cc);
-    known = λ known. let x = h.known known in record { known = x.known; is = came P Q left s.remaining t.remaining f known x.known x.rest x.is; rest = x.rest; crcs = x.crcs };
+    known = λ e. let x = h.known e in record { known = x.known; is = both_known P Q left s.remaining t.remaining f e x.known x.rest x.is; rest = x.rest; crcs = x.crcs };
   }
 
   failure_or_aligned : (P : Bits → Type 0) (Q : List ℕ → Type 0) → ((z : List ℕ) → P (bits_of z) → Q z)
       → FailureOr (state_of (bits_after []) (through_loan j s)) (state_of (bits_after left) (through_loan k t)) P → FailureOr (state_of (λ all. all) s) (state_of (λ all. all) t) Q
   failure_or_aligned P Q f h = record {
     loans = (let e : k ∷ t.loans ≡ j ∷ s.loans = h.loans in cc);
-    known = λ known. let x = h.known known in record { known = x.known; why = elim x.why [ inl p ↦ inl (came (λ a b. P a) (λ a b. Q a) left s.remaining t.remaining (λ z m r. f z) known x.known x.rest p) | inr p ↦ inr p ]; rest = x.rest };
+    known = λ e. let x = h.known e in record { known = x.known; why = elim x.why [ inl p ↦ inl (both_known (λ a b. P a) (λ a b. Q a) left s.remaining t.remaining (λ z m r. f z) e x.known x.rest p) | inr p ↦ inr p ]; rest = x.rest };
   }
 
-  -- reading bits up to a border gives what reading their bytes does
+  -- reading bits up to a byte boundary gives what reading their bytes does
   gives_aligned : {A Y : Type 0} (view : A → Y) (r : Result A Error) (read : Bits → Reading Bool Y)
       → Gives view r read (state_of (bits_after []) (through_loan j s)) (state_of (bits_after left) (through_loan k t)) → Gives view r (by_bytes read) (state_of (λ all. all) s) (state_of (λ all. all) t)
   gives_aligned view (Ok x) read h = consumes_aligned _ _ (λ z m r. aligned_is read (view x) z m left few r) h
@@ -85,7 +85,7 @@ module _ (s t : Source ℕ) (j k : GName) (left : Bits) (few : length left < 8) 
       → Gives view r read (state_of (bits_after []) (through_loan j s)) (state_of (bits_after left) (through_loan k t)) → j ≡ k
   aligned_name view r read h = let e : k ∷ t.loans ≡ j ∷ s.loans = gives_loans view r read _ _ h in cc
 
--- what was read by a `Bitstream` that began at a border, of the reader behind its reference
+-- what a `Bitstream` that began at a byte boundary read, of the reader that it borrows
 pub gives_through : {R A Y : Type 0} {g : _} (source : R → Source ℕ) (x : R) (j : GName) (b c : Bitstream (MutBor R) g) (view : A → Y) (r : Result A Error) (read : Bits → Reading Bool Y) → bit_state (behind source) b ≡ record { left = []; source = through_loan j (source x) }
     → Gives view r read (bits_in (behind source) b) (bits_in (behind source) c) → Gives view r (by_bytes read) (bytes_in source x) (bytes_in source c.reader.now)
 unfolding bits_in bytes_in

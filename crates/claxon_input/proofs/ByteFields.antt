@@ -11,23 +11,23 @@ use Rattle.claxon_input.specs.declared.error.Error.{Error}
 use Rattle.claxon_input.specs.declared.error.Error.TheVariants.{IoError}
 use Rattle.claxon_input.specs.Promises.{ConsumesAtMost}
 use Rattle.claxon_input.specs.Source.{Source, MovesAtMost, Takes, FailureOrEof, Skips}
-use Rattle.claxon_input.specs.State.{State, bytes_in, known}
+use Rattle.claxon_input.specs.State.{State, bytes_in, remaining_as}
 use Rattle.claxon_input.specs.Gives.{Consumes, FailureOr, Gives}
 use Rattle.claxon_input.proofs.BigEndian.{be_1, be_2, length-be_bytes, length-le_bytes, big_endian-bytes, little_endian-bytes}
 use Rattle.claxon_input.proofs.Sources.{most_front}
 use Rattle.claxon_input.proofs.States.{consumes_taken, failure_or_bytes}
 use Rattle.claxon_input.proofs.CallsInTurn.{consumes_map, consumes_none, gives_after, failure_or_after, failure_or_known, io_exit}
 
--- what is made of the bytes doesn't matter to an end
+-- what is made of the bytes doesn't matter where the input ends
 incomplete_after : {X Y : Type 0} {a b : State X} {read : List X → Reading X Y} {Z : Type 0} (whole : List X → Reading X Z) → ((s : List X) → read s ≡ Incomplete → whole s ≡ Incomplete) → FailureOr a b (λ s. read s ≡ Incomplete) → FailureOr a b (λ s. whole s ≡ Incomplete)
 incomplete_after {a = a} whole f k = failure_or_after (λ s. whole s ≡ Incomplete) (consumes_none a (λ s m. s ≡ m) refl) k (λ p q. f a.remaining q)
 
-most_known : (p q : Option (List ℕ)) (n : ℕ) → MovesAtMost p q n → length (known (λ all. all) p) ≤ n + length (known (λ all. all) q)
+most_known : (p q : Option (List ℕ)) (n : ℕ) → MovesAtMost p q n → length (remaining_as (λ all. all) p) ≤ n + length (remaining_as (λ all. all) q)
 most_known None q n h = omega arith
 most_known (Some all) None n h = absurd h
 most_known (Some all) (Some left) n h = h
 
--- two bytes were taken, so a number of them was; the lower one may be said in another way
+-- two bytes were consumed, so a number of them was; the lower one may be another term of the same value
 pub takes_be_2 : {a b : Source ℕ} {k : ℕ} (x y : ℕ) → k ≡ y → x < 256 → y < 256 → Takes a b (x ∷ y ∷ []) → Takes a b (be_bytes 2 (bit_or (x * 256 % 65536) k))
 takes_be_2 x y e h l t = rw (e, be_2 x y h l) t
 
@@ -36,7 +36,7 @@ module _ {R : Type 0} (source : R → Source ℕ) {a b : R} where
   unfolding bytes_in big_at
   consumes_big k n small h = consumes_map _ (consumes_taken k (length-be_bytes k n) h) (λ p. rw (p, big_endian-bytes k n small) refl)
 
-  -- the number may be said in another way
+  -- the number may be another term of the same value
   pub consumes_big_as : {m : ℕ} (k n : ℕ) → m ≡ n → n < 2 ^ (8 * k) → Takes (source a) (source b) (be_bytes k n) → Consumes (bytes_in source a) (bytes_in source b) (λ s r. big_at k s ≡ Done m r)
   consumes_big_as k n e small h = rw e (consumes_big k n small h)
 
@@ -75,7 +75,7 @@ module _ {R : Type 0} (source : R → Source ℕ) {a b : R} where
   unfolding bytes_in skipped_at
   failure_or_skipped k h = incomplete_after (skipped_at k) (λ s p. rw p refl) (failure_or_bytes k h)
 
-  -- ---- how many bytes were taken
+  -- ---- how many bytes were consumed
 
   pub most_refused : (n : ℕ) → FailureOrEof (source a) (source b) n → ConsumesAtMost n (bytes_in source a) (bytes_in source b)
   unfolding bytes_in
@@ -106,7 +106,7 @@ module _ {R : Type 0} (source : R → Source ℕ) {a b : R} where
   pub most_byte : (n : ℕ) → Takes (source a) (source b) (n ∷ []) → ConsumesAtMost 1 (bytes_in source a) (bytes_in source b)
   most_byte n h = most_taken source 1 (omega arith) h
 
-  -- numbers in little endian, and buffers
+  -- little-endian numbers, and buffers
   pub exit_little : {A Y : Type 0} (view : A → Y) (r : Result A Error) (k : ℕ) (next : ℕ → List ℕ → Reading ℕ Y) (cause : io.Error) → IsErrAnd r (λ y. y ≡ IoError cause) → FailureOrEof (source a) (source b) k → Gives view r (and_then (little_at k) next) (bytes_in source a) (bytes_in source b)
   exit_little view r k next cause p h = io_exit view (err_from_is_err_and r p) (failure_or_known _ (failure_or_little source k h) (λ t q. rw q refl))
 

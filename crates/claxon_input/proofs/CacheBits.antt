@@ -1,4 +1,4 @@
--- Bits in the high places of a cache of 64, and bytes that are put below them.
+-- Bits in the high places of a cache of 64 bits, and bytes that are put below them.
 use Rattle.std.proofs.Common.{⊎_elim, bit_or, bit_and, ◌≡◌, ℕ, suc, ◌+◌, ◌-◌, ◌*◌, ◌/◌, ◌%◌, ◌^◌, ◌<◌, ◌≤◌, false, true, List, [], ◌∷◌, ◌++◌, length, take, drop, get_or, replicate, refl, sym, ap, subst, ◌∙◌, append_assoc, arith, length-append, take-add, ap₂, mul_assoc, add-mul}
 use Rattle.std.proofs.lemmas.List.{take_at, drop_at, take-take, drop-take, take-append-le, drop-append-le, length-take-le, take-append-drop, length-replicate, drop-drop, drop_more, length-drop, append-nil, take_all}
 use Rattle.std.proofs.lemmas.Nat.{pow_pos, pow-add, shl-shr, shr-shr, shr_split, shr_below, or_shifted, mod-pow-add, mod-mul-add, shl_below, leading_top}
@@ -45,7 +45,7 @@ times_pow c i j = mul_assoc c (2 ^ i) (2 ^ j) ∙ ap (λ (m : ℕ). c * m) (sym 
 whole : (x p : ℕ) → x % 2 ^ p ≡ 0 → x ≡ x / 2 ^ p * 2 ^ p
 whole x p h = sym (shr_split x p) ∙ ap (λ (m : ℕ). x / 2 ^ p * 2 ^ p + m) h ∙ omega arith
 
--- ---- bits that are taken
+-- ---- bits that are consumed
 
 shifted : (x n : ℕ) → n ≤ 64 → take (64 - n) (bits 64 (x * 2 ^ n % 18446744073709551616)) ≡ drop n (bits 64 x)
 shifted x n h =
@@ -121,7 +121,7 @@ unary_in_cache x count m rest h some lt fits =
     ∙ append_assoc (replicate (leading_zeros w64 x) false ++ true ∷ []) (drop (leading_zeros w64 x + 1) (take count (bits 64 x) ++ m)) rest in
     ap unary_at split ∙ Reads-unary.again (leading_zeros w64 x) (replicate (leading_zeros w64 x) false ++ true ∷ []) (drop (leading_zeros w64 x + 1) (take count (bits 64 x) ++ m) ++ rest) (omega arith, refl)
 
--- ---- a number on top
+-- ---- a number in the high places
 
 half_on : (x n : ℕ) → n ≤ 63 → x / 2 / 2 ^ (63 - n) ≡ x / 2 ^ (64 - n)
 half_on x n h = let e : 1 + (63 - n) ≡ 64 - n = omega arith in shr-shr x 1 (63 - n) ∙ ap (λ (j : ℕ). x / 2 ^ j) e
@@ -174,11 +174,11 @@ put_fits x count y m h k z lt low =
     let sum : bit_or x (y / 2 ^ count) ≡ (x / 2 ^ (64 - count) * 2 ^ m + y / 2 ^ (64 - m)) * 2 ^ (64 - (count + m)) = put_sum x count y k z lt ∙ ap₂ (λ (s t : ℕ). s + t) c d ∙ sym (add-mul (x / 2 ^ (64 - count) * 2 ^ m) (y / 2 ^ (64 - m)) (2 ^ (64 - (count + m)))) in
     ap (λ (t : ℕ). t % 2 ^ (64 - (count + m))) sum ∙ whole_mod (x / 2 ^ (64 - count) * 2 ^ m + y / 2 ^ (64 - m)) (64 - (count + m))
 
--- a cache that has m more bits of those behind it
-pub more_in_cache : (x count w m : ℕ) (read behind left : Bits) → take (count + m) (bits 64 w) ≡ take count (bits 64 x) ++ take m read → take m read ≡ take m behind → left ≡ drop m behind
-    → take (count + m) (bits 64 w) ++ left ≡ take count (bits 64 x) ++ behind
-more_in_cache x count w m read behind left e f g =
-    rw (e, f, g) (append_assoc (take count (bits 64 x)) (take m behind) (drop m behind) ∙ ap (λ (t : Bits). take count (bits 64 x) ++ t) (take-append-drop m behind))
+-- a cache that has m more of the bits after it
+pub more_in_cache : (x count w m : ℕ) (read after left : Bits) → take (count + m) (bits 64 w) ≡ take count (bits 64 x) ++ take m read → take m read ≡ take m after → left ≡ drop m after
+    → take (count + m) (bits 64 w) ++ left ≡ take count (bits 64 x) ++ after
+more_in_cache x count w m read after left e f g =
+    rw (e, f, g) (append_assoc (take count (bits 64 x)) (take m after) (drop m after) ∙ ap (λ (t : Bits). take count (bits 64 x) ++ t) (take-append-drop m after))
 
 bytes_cut : (j : ℕ) (d : List ℕ) → bits_of d ≡ bits_of (take j d) ++ bits_of (drop j d)
 bytes_cut j d = ap bits_of (sym (take-append-drop j d)) ∙ bits_of-append (take j d) (drop j d)
@@ -234,7 +234,7 @@ bits_of_eight bytes i n h small e =
     let parts : take 8 (drop i bytes) ≡ take 4 (drop i bytes) ++ take 4 (drop (i + 4) bytes) = take-add 4 4 (drop i bytes) ∙ ap (λ (t : List ℕ). take 4 (drop i bytes) ++ take 4 t) (drop-drop 4 i bytes) in
     ap (bits 64) e ∙ bits-join a b 32 32 lt ∙ ap₂ (λ (s t : Bits). s ++ t) first second ∙ sym (bits_of-append (take 4 (drop i bytes)) (take 4 (drop (i + 4) bytes))) ∙ ap bits_of (sym parts)
 
--- the first bits of a number of four bytes, put on top; of one of eight
+-- the first bits of a number of four bytes, in the high places; of one of eight
 pub top_of_four : (n : ℕ) (d : List ℕ) → n < 4294967296 → 4 ≤ length d → bits 32 n ≡ bits_of (take 4 d) → take 32 (bits 64 (n * 4294967296 % 18446744073709551616)) ≡ take 32 (bits_of d)
 top_of_four n d lt h e =
     let back : n * 4294967296 % 18446744073709551616 / 4294967296 ≡ n = omega arith in
@@ -243,7 +243,7 @@ top_of_four n d lt h e =
 pub top_of_eight : (n m : ℕ) (d : List ℕ) → m ≤ 64 → 8 ≤ length d → bits 64 n ≡ bits_of (take 8 d) → take m (bits 64 n) ≡ take m (bits_of d)
 top_of_eight n m d k h e = ap (take m) e ∙ bytes_front m 8 d k h
 
--- ---- a window of 64 bits, the last ones of which aren't kept in the cache
+-- ---- a peek at 64 bits, the last ones of which aren't kept in the cache
 
 low_zeroed : (w s : ℕ) → s < 64 → (take (64 - s) (bits 64 (w - bit_and w (1 * 2 ^ s % 18446744073709551616 - 1))) ≡ take (64 - s) (bits 64 w)) × ((w - bit_and w (1 * 2 ^ s % 18446744073709551616 - 1)) % 2 ^ s ≡ 0)
 low_zeroed w s h =
@@ -305,7 +305,7 @@ moved_bits cache count h k =
 pub moved_fits : (cache count : ℕ) → cache < 2 ^ count → count < 64 → cache * 2 ^ (63 - count) % 18446744073709551616 * 2 % 18446744073709551616 % 2 ^ (64 - count) ≡ 0
 moved_fits cache count h k = ap (λ (x : ℕ). x % 2 ^ (64 - count)) (moved_up cache count h k) ∙ whole_mod cache (64 - count)
 
--- ---- where a count, or what is moved, may be said in another way
+-- ---- where a count, or what is shifted, is another term of the same value
 
 pub taken_off_as : {k : ℕ} (x count n : ℕ) (m : Bits) → k ≡ n → n ≤ count → count ≤ 64 → take (count - n) (bits 64 (x * 2 ^ k % 18446744073709551616)) ++ m ≡ drop n (take count (bits 64 x) ++ m)
 taken_off_as x count n m e h l = rw e (taken_off x count n m h l)

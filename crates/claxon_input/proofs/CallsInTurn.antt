@@ -10,7 +10,7 @@ use Rattle.claxon_input.specs.State.{State}
 use Rattle.claxon_input.specs.Gives.{Consumes, FailureOr, FailedIn, IsFaultOf, Stops, Gives, OutOfMemoryLeavesRest, GivesOrOutOfMemory}
 use Rattle.claxon_input.specs.Error.{is_io}
 
--- nothing was done
+-- nothing was consumed
 pub consumes_none : {X : Type 0} (a : State X) (P : List X → List X → Type 0) → P a.remaining a.remaining → Consumes a a P
 consumes_none a P h = record { errors = refl; empty_reads = refl; loans = refl; known = λ t. record { known = t; is = h; rest = λ z k. k; crcs = refl } }
 
@@ -26,7 +26,7 @@ consumes_then T h k f = record {
 pub consumes_map : {X : Type 0} {a b : State X} {P : List X → List X → Type 0} (T : List X → List X → Type 0) → Consumes a b P → (P a.remaining b.remaining → T a.remaining b.remaining) → Consumes a b T
 consumes_map T h f = record { errors = h.errors; empty_reads = h.empty_reads; loans = h.loans; known = λ t. let x = h.known t in record { known = x.known; is = f x.is; rest = x.rest; crcs = x.crcs } }
 
--- the same, where what is to come is known
+-- the same, where it is known what remains
 pub consumes_known : {X : Type 0} {a b : State X} {P : List X → List X → Type 0} (T : List X → List X → Type 0) → Consumes a b P → (a.known ≡ true → P a.remaining b.remaining → T a.remaining b.remaining) → Consumes a b T
 consumes_known T h f = record { errors = h.errors; empty_reads = h.empty_reads; loans = h.loans; known = λ t. let x = h.known t in record { known = x.known; is = f t x.is; rest = x.rest; crcs = x.crcs } }
 
@@ -37,7 +37,7 @@ failed_later : {X : Type 0} {a b : State X} (c : State X) {P : List X → List X
 failed_later c h (inl e) = inl (λ p. e (p ∙ sym h.errors))
 failed_later c h (inr e) = inr ((λ p. e.0 (p ∙ sym h.empty_reads)), e.1)
 
--- stuck after something was done
+-- a failure after something was consumed
 pub failure_or_after : {X : Type 0} {a b c : State X} {P : List X → List X → Type 0} {Q : List X → Type 0} (T : List X → Type 0) → Consumes a b P → FailureOr b c Q → (P a.remaining b.remaining → Q b.remaining → T a.remaining) → FailureOr a c T
 failure_or_after {c = c} T h k f = record {
   loans = k.loans ∙ h.loans;
@@ -54,7 +54,7 @@ fault_of e (Faulty f rest) y m g h = rw (g f rest refl) h
 fault_of e (Done x rest) y m g h = absurd h
 fault_of e Incomplete y m g h = absurd h
 
--- an Err after something was done
+-- an Err after something was consumed
 pub stops_after : {X Y Z : Type 0} {e : Error} {a b c : State X} {read : List X → Reading X Y} {next whole : List X → Reading X Z} → Consumes a b (λ s m. whole s ≡ next m) → StopsWith read next → Stops e read b c → Stops e whole a c
 stops_after {e = e} {b = b} {c = c} {read = read} {next = next} {whole = whole} h w k = record {
   failure = λ i. failure_or_after (λ s. whole s ≡ Incomplete) h (k.failure i) (λ p q. p ∙ w.short b.remaining q);
@@ -77,7 +77,7 @@ io_exit view p h = rw (p.1, p.2) (record { failure = λ i. h; fault = λ i. absu
 pub exit : {X A Y : Type 0} (view : A → Y) {read : List X → Reading X Y} {a c : State X} {r : Result A Error} {e : Error} → (y : Error) × (r ≡ Err y) × (y ≡ e) → Stops e read a c → Gives view r read a c
 exit view p h = rw (p.1, p.2) h
 
--- the loans on the way are kept
+-- the loans stay the same
 pub stops_loans : {X Y : Type 0} (e : Error) (read : List X → Reading X Y) (a b : State X) (io : Bool) → is_io e ≡ io → Stops e read a b → b.loans ≡ a.loans
 stops_loans e read a b true i k = (k.failure i).loans
 stops_loans e read a b false i k = (k.fault i).loans
@@ -104,13 +104,13 @@ stops_as {e = e} {read = read} {whole = whole} {a = a} {b = b} {c = c} h k = rec
   named = k.named;
 }
 
--- ---- calls that take memory
+-- ---- calls that allocate memory
 
--- want of memory after something was done
+-- out of memory after something was consumed
 pub out_of_memory_later : {X : Type 0} {a b c : State X} {P : List X → List X → Type 0} → Consumes a b P → OutOfMemoryLeavesRest b c → OutOfMemoryLeavesRest a c
 out_of_memory_later h k = record { consumed = consumes_then _ h k.consumed (λ p q. tt) }
 
--- a call that takes no memory is never refused any
+-- a call that allocates no memory is never out of memory
 pub gives_never_out_of_memory : {X A Y : Type 0} (view : A → Y) (r : Result A Error) (read : List X → Reading X Y) (a b : State X) → Gives view r read a b → GivesOrOutOfMemory view r read a b
 gives_never_out_of_memory view (Ok x) read a b h = h
 gives_never_out_of_memory view (Err (IoError cause)) read a b h = h
@@ -118,7 +118,7 @@ gives_never_out_of_memory view (Err (FormatError text)) read a b h = h
 gives_never_out_of_memory view (Err (Unsupported text)) read a b h = h
 gives_never_out_of_memory view (Err OutOfMemory) read a b h = let k = h.named in absurd cc
 
--- want of memory, or what a call gives that takes none
+-- out of memory, or what a call gives that allocates none
 pub out_of_memory_or_gives : {X A Y : Type 0} (view : A → Y) (r : Result A Error) (read : List X → Reading X Y) (a b : State X) → GivesOrOutOfMemory view r read a b → ((r ≡ Err OutOfMemory) × OutOfMemoryLeavesRest a b) ⊎ Gives view r read a b
 out_of_memory_or_gives view (Ok x) read a b h = inr h
 out_of_memory_or_gives view (Err (IoError cause)) read a b h = inr h

@@ -1,4 +1,4 @@
--- What was read through a remainder: the remainder is that of the bytes taken, and a guard is compared with it.
+-- What was read through a CRC reader: its CRC is that of the bytes consumed, and a CRC of the stream is compared with it.
 use Rattle.std.specs.Borrow.{GName, MutBor}
 use Rattle.std.proofs.Common.{◌≡◌, ℕ, ◌<◌, ◌^◌, true, List, [], ◌∷◌, ◌++◌, Option, None, Some, refl, subst, sym, ap, ◌∙◌}
 use Rattle.std.specs.Prelude.{Result, Ok, Err}
@@ -10,7 +10,7 @@ use Rattle.claxon_format.proofs.CrcBytes.{with_crc_after}
 use Rattle.claxon_format.proofs.Bytes.{bits_of-append}
 use Rattle.claxon_format.proofs.Laws.{taken_is}
 use Rattle.claxon_input.specs.Source.{Source, through_loan, with_crc}
-use Rattle.claxon_input.specs.State.{State, bytes_in, past, remaining_known, known}
+use Rattle.claxon_input.specs.State.{State, bytes_in, past, remaining_known, remaining_as}
 use Rattle.claxon_input.specs.Gives.{IsRest, Consumes, FailureOr, IsFaultOf, Stops, Gives, GivesOrOutOfMemory}
 use Rattle.claxon_input.specs.CrcReader.{crc_source, crc_state, crc_inner}
 use Rattle.claxon_input.specs.declared.crc.CrcReader.{CrcReader}
@@ -20,31 +20,31 @@ use Rattle.claxon_input.proofs.States.{bytes_of_source, same_function}
 use Rattle.claxon_input.proofs.CallsInTurn.{gives_loans}
 use Rattle.claxon_input.proofs.CrcUpdate.{DeterminesCrc}
 
--- the bytes that are to come, where they are known
+-- the bytes that remain, where they are known
 abbrev bytes_of_all : Option (List ℕ) → List ℕ
-bytes_of_all = known (λ all. all)
+bytes_of_all = remaining_as (λ all. all)
 
--- ---- a reader that keeps a remainder
+-- ---- a reader that computes a CRC
 
 unfoldable same_first_crc : (p q : Option (List ℕ)) (f g : List ℕ → ℕ) (u v : List ℕ → List ℕ) → Type 0
 same_first_crc p q f g u v = past q (λ xs. g xs ∷ v xs) ≡ past p (λ xs. f xs ∷ u xs)
 
-module _ {d : ℕ} {update_crc : ℕ → List ℕ → ℕ} {crc : Bits → ℕ} (remainders : DeterminesCrc d update_crc crc) where
-  kept : (p q : Option (List ℕ)) (x : ℕ) (u v : List ℕ → List ℕ) → x < 2 ^ d → remaining_known p ≡ true → remaining_known q ≡ true → IsRest (bytes_of_all p) (bytes_of_all q) → same_first_crc p q (update_crc 0) (update_crc x) u v
+module _ {d : ℕ} {update_crc : ℕ → List ℕ → ℕ} {crc : Bits → ℕ} (law : DeterminesCrc d update_crc crc) where
+  crc_is_of_taken : (p q : Option (List ℕ)) (x : ℕ) (u v : List ℕ → List ℕ) → x < 2 ^ d → remaining_known p ≡ true → remaining_known q ≡ true → IsRest (bytes_of_all p) (bytes_of_all q) → same_first_crc p q (update_crc 0) (update_crc x) u v
       → x ≡ crc (bits_of (taken (bytes_of_all p) (bytes_of_all q)))
   unfolding IsRest same_first_crc
-  kept None q x u v small t k r e = absurd cc
-  kept (Some all) None x u v small t k r e = absurd cc
-  kept (Some all) (Some rest) x u v small t k r e =
-      remainders.tells all rest (bits_of r.0) x u v small (ap bits_of r.1 ∙ bits_of-append r.0 rest) e ∙ ap (λ (s : List ℕ). crc (bits_of s)) (sym (taken_is all r.0 rest r.1))
+  crc_is_of_taken None q x u v small t k r e = absurd cc
+  crc_is_of_taken (Some all) None x u v small t k r e = absurd cc
+  crc_is_of_taken (Some all) (Some rest) x u v small t k r e =
+      law.determines all rest (bits_of r.0) x u v small (ap bits_of r.1 ∙ bits_of-append r.0 rest) e ∙ ap (λ (s : List ℕ). crc (bits_of s)) (sym (taken_is all r.0 rest r.1))
 
-  -- the remainder at hand is that of the bytes taken
+  -- the CRC is that of the bytes consumed
   pub source_crc_of_taken : (a b : Source ℕ) {P : List ℕ → List ℕ → Type 0} (x : ℕ) → x < 2 ^ d → Consumes (bytes_of_source (with_crc (update_crc 0) a)) (bytes_of_source (with_crc (update_crc x) b)) P → remaining_known a.remaining ≡ true
       → x ≡ crc (bits_of (taken (bytes_of_all a.remaining) (bytes_of_all b.remaining)))
   unfolding IsRest same_first_crc
-  source_crc_of_taken a b x small h t = let k = h.known t in kept a.remaining b.remaining x a.crcs b.crcs small t k.known (k.rest (bytes_of_all a.remaining) ([], refl)) k.crcs
+  source_crc_of_taken a b x small h t = let k = h.known t in crc_is_of_taken a.remaining b.remaining x a.crcs b.crcs small t k.known (k.rest (bytes_of_all a.remaining) ([], refl)) k.crcs
 
-  -- what `crc` gives is the remainder of what was taken since the reader was made
+  -- what `crc` returns is the CRC of what was consumed since the reader was made
   pub crc_of_taken : {R : Type 0} (source : R → Source ℕ) (b c : CrcReader R ℕ) {P : List ℕ → List ℕ → Type 0} → crc_state b ≡ 0 → crc_state c < 2 ^ d
       → Consumes (bytes_in (crc_source source update_crc) b) (bytes_in (crc_source source update_crc) c) P → (bytes_in (crc_source source update_crc) b).known ≡ true
       → crc_state c ≡ crc (bits_of (taken (bytes_in (crc_source source update_crc) b).remaining (bytes_in (crc_source source update_crc) c).remaining))
@@ -53,9 +53,9 @@ module _ {d : ℕ} {update_crc : ℕ → List ℕ → ℕ} {crc : Bits → ℕ} 
       source_crc_of_taken (source (crc_inner b)) (source (crc_inner c)) (crc_state c) small
       (subst (λ (x : ℕ). Consumes (bytes_of_source (with_crc (update_crc x) (source (crc_inner b)))) (bytes_of_source (with_crc (update_crc (crc_state c)) (source (crc_inner c)))) P) start h) t
 
--- ---- what happened behind a remainder or a loan happened to what it reaches
+-- ---- what was done through a CRC reader or a loan was done to what it reaches
 
--- other loans and remainders on the way
+-- other loans and CRCs
 abbrev pub under : {X : Type 0} → List GName → (List ℕ → List ℕ) → State X → State X
 under loans crcs s = record s { loans = loans; crcs = crcs }
 
@@ -87,26 +87,26 @@ same_loans_below m n xs ys e = cc
 pub name_below : (m n : GName) (xs ys : List GName) → n ∷ ys ≡ m ∷ xs → m ≡ n
 name_below m n xs ys e = cc
 
--- a remainder, and those below it
+-- a CRC, and those below it
 pub same_crcs_below : (p q : Option (List ℕ)) (f g : List ℕ → ℕ) (u v : List ℕ → List ℕ) → remaining_known p ≡ true → remaining_known q ≡ true → past q (λ xs. g xs ∷ v xs) ≡ past p (λ xs. f xs ∷ u xs) → past q v ≡ past p u
 same_crcs_below None q f g u v t k e = absurd cc
 same_crcs_below (Some all) None f g u v t k e = absurd cc
 same_crcs_below (Some all) (Some rest) f g u v t k e =
     same_function (λ more. let o : g (rest ++ more) ∷ v (rest ++ more) ≡ f (all ++ more) ∷ u (all ++ more) = ap (λ (h : List ℕ → List ℕ). h more) e in cc)
 
--- ---- a guard after what it guards
+-- ---- a CRC after what it covers
 
 consumes_known : {X : Type 0} {a b : State X} {P : List X → List X → Type 0} (T : List X → List X → Type 0) → Consumes a b P → (a.known ≡ true → P a.remaining b.remaining → T a.remaining b.remaining) → Consumes a b T
 consumes_known T h f = record { errors = h.errors; empty_reads = h.empty_reads; loans = h.loans; known = λ t. let x = h.known t in record { known = x.known; is = f t x.is; rest = x.rest; crcs = x.crcs } }
 
--- what was read is sealed by c, where this is its guard: a number that is to be c is still to be read
-pub consumes_with_crc : {A : Type 0} (w c : ℕ) (guard : Bits → ℕ) (f : Fault) (r : List ℕ → Reading ℕ A) (y : A) (a m : State ℕ) → Consumes a m (λ s k. r s ≡ Done y k) → (a.known ≡ true → c ≡ guard (bits_of (taken a.remaining m.remaining)))
-    → Consumes a m (λ s k. with_crc_bytes_at w guard f r s ≡ bind (crc_at w c f k) (λ u. done y))
-consumes_with_crc w c guard f r y a m h k = consumes_known _ h (λ t p. with_crc_after w c guard f r y a.remaining m.remaining p (k t))
+-- what was read has the CRC c: a number that has to be c is still to be read
+pub consumes_with_crc : {A : Type 0} (w c : ℕ) (crc : Bits → ℕ) (f : Fault) (r : List ℕ → Reading ℕ A) (y : A) (a m : State ℕ) → Consumes a m (λ s k. r s ≡ Done y k) → (a.known ≡ true → c ≡ crc (bits_of (taken a.remaining m.remaining)))
+    → Consumes a m (λ s k. with_crc_bytes_at w crc f r s ≡ bind (crc_at w c f k) (λ u. done y))
+consumes_with_crc w c crc f r y a m h k = consumes_known _ h (λ t p. with_crc_after w c crc f r y a.remaining m.remaining p (k t))
 
--- ---- a reader of remainders over a reference
+-- ---- a CRC reader over a reference
 
--- the source behind a reference
+-- the source that a reference reaches
 abbrev pub behind : {R : Type 0} → (R → Source ℕ) → MutBor R → Source ℕ
 behind source r = through_loan r.ghost_name (source r.now)
 

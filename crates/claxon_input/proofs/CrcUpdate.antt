@@ -1,4 +1,4 @@
--- The laws of remainders that go on from byte to byte.
+-- The laws of CRCs that are updated byte by byte.
 use Rattle.std.proofs.Common.{◌≡◌, ℕ, zero, suc, ◌+◌, ◌-◌, ◌*◌, ◌/◌, ◌%◌, ◌^◌, ◌<◌, ◌≤◌, Bool, true, false, ◌&&◌, bit_xor, List, [], ◌∷◌, ◌++◌, length, get_or, take, drop, replicate, refl, sym, ap, ap₂, ◌∙◌, arith, add-zero}
 use Rattle.std.specs.Prelude.{◌==◌}
 use Rattle.std.specs.Simd.{first_chunks}
@@ -18,7 +18,7 @@ use Rattle.claxon_input.specs.declared.crc.TheConstants.{CRC8_TABLE, CRC16_TABLE
 use Rattle.claxon_input.proofs.BitLists.{bits-low}
 use Rattle.claxon_input.proofs.BitSteps.{bits_of-one, bits_of-none}
 
--- ---- from byte to byte
+-- ---- byte by byte
 
 pub update_crc-cons : (d p c y : ℕ) (ys : List ℕ) → update_crc d p (update_crc d p c (y ∷ [])) ys ≡ update_crc d p c (y ∷ ys)
 unfolding update_crc
@@ -40,18 +40,18 @@ update_crc-at d p c e bs i h k = ap (λ s. update_crc d p s (drop (i + 1) bs)) k
 pub update_crc-end : (d p c : ℕ) (bs : List ℕ) (i : ℕ) → length bs ≤ i → update_crc d p c (drop i bs) ≡ c
 update_crc-end d p c bs i h = ap (update_crc d p c) (drop_of_length-le bs h) ∙ update_crc-none d p c
 
--- ---- what goes on is the remainder of the whole
+-- ---- what is updated is the CRC of the whole
 
 divide_none : (d p r : ℕ) → divide d p r [] ≡ r
 unfolding divide
 divide_none d p r = refl
 
 module _ (d p : ℕ) (some : 2 ≤ 2 ^ d) (low : 2 ^ d ≤ p) (high : p < 2 * 2 ^ d) where
-  -- the remainder of the bytes, with d zeros behind them
+  -- the remainder of the bytes, with d zeros after them
   abbrev pub whole : List ℕ → ℕ
   whole s = divide d p 0 (bits_of s ++ replicate d false)
 
-  -- a byte more, where d zeros stand behind
+  -- one more byte, where d zeros follow
   byte_more : (k r y : ℕ) → k + 8 ≡ d → r < 2 ^ d → y < 256 → zeros d p d (divide d p r (bits 8 y)) ≡ zeros d p 8 (bit_xor (zeros d p d r) (y * 2 ^ k))
   byte_more k r y e h b =
       let bound : 2 ^ d ≡ 2 ^ k * 256 = ap (λ z. 2 ^ z) (sym e) ∙ pow-add 2 k 8 in
@@ -84,7 +84,7 @@ module _ (d p : ℕ) (some : 2 ≤ 2 ^ d) (low : 2 ^ d ≤ p) (high : p < 2 * 2 
   update_crc_lt [] c e h = h
   update_crc_lt (y ∷ ys) c e h = update_crc_lt ys _ e (divide_lt d p some low high (replicate 8 false) (bit_xor c (y % 256 * 2 ^ (d - 8))) (xor_byte_lt c y e h))
 
-  -- remainders that the same bytes make one were one before
+  -- CRCs that the same bytes make equal were equal before
   update_crc-injective : (xs : List ℕ) (a c : ℕ) → p % 2 ≡ 1 → 8 ≤ d → a < 2 ^ d → c < 2 ^ d → update_crc d p a xs ≡ update_crc d p c xs → a ≡ c
   unfolding update_crc
   update_crc-injective [] a c odd e h l k = k
@@ -98,14 +98,14 @@ module _ (d p : ℕ) (some : 2 ≤ 2 ^ d) (low : 2 ^ d ≤ p) (high : p < 2 * 2 
       xor_back : (a b : ℕ) → bit_xor (bit_xor a b) b ≡ a
       xor_back a b = xor_assoc a b b ∙ ap (bit_xor a) (xor_self b) ∙ xor_zero_r a
 
-  -- what a remainder is after bytes of which the end is known
+  -- what a CRC is after bytes, where the CRC at the end is known
   pub update_crc-taken : (taken left : List ℕ) (a c : ℕ) → p % 2 ≡ 1 → 8 ≤ d → a < 2 ^ d → c < 2 ^ d → update_crc d p c left ≡ update_crc d p a (taken ++ left) → c ≡ update_crc d p a taken
   update_crc-taken taken left a c odd e h l k = update_crc-injective left c (update_crc d p a taken) odd e l (update_crc_lt taken a e h) (k ∙ sym (update_crc-append d p taken left a))
 
   zero_stays : (n : ℕ) → zeros d p n 0 ≡ 0
   zero_stays n = zeros-small d p some low high n 0 (omega arith) ∙ omega arith
 
-  -- what goes on from a remainder with d zeros behind it
+  -- an update of a remainder with d zeros after it
   from_raw : (ys : List ℕ) (r : ℕ) → 8 ≤ d → r < 2 ^ d → update_crc d p (zeros d p d r) ys ≡ zeros d p d (divide d p r (bits_of ys))
   unfolding update_crc
   from_raw [] r e h = ap (zeros d p d) (sym (ap (divide d p r) bits_of-none ∙ divide_none d p r))
@@ -115,15 +115,15 @@ module _ (d p : ℕ) (some : 2 ≤ 2 ^ d) (low : 2 ^ d ≤ p) (high : p < 2 * 2 
       ∙ from_raw ys (divide d p r b) e (divide_lt d p some low high b r h)
       ∙ ap (zeros d p d) (sym (divide-append d p r b (bits_of ys)) ∙ ap (λ z. divide d p r (z ++ bits_of ys)) (bits-low 8 y) ∙ sym (ap (divide d p r) (bits_of-one y ys)))
 
-  pub goes_on : (xs s : List ℕ) → 8 ≤ d → update_crc d p (whole s) xs ≡ whole (s ++ xs)
-  goes_on xs s e =
+  pub continues : (xs s : List ℕ) → 8 ≤ d → update_crc d p (whole s) xs ≡ whole (s ++ xs)
+  continues xs s e =
       let r = divide d p 0 (bits_of s) in
       ap (λ c. update_crc d p c xs) (at s)
       ∙ from_raw xs r e (divide_lt d p some low high (bits_of s) 0 (omega arith))
       ∙ ap (zeros d p d) (sym (divide-append d p 0 (bits_of s) (bits_of xs)) ∙ ap (divide d p 0) (sym (bits_of-append s xs)))
       ∙ sym (at (s ++ xs))
 
-  -- the remainder that goes on to the end as that of the whole does is that of what stands before
+  -- the CRC that the rest updates to that of the whole is the CRC of what stands before the rest
   pub of_bits : (all rest : List ℕ) (x : Bits) (c : ℕ) → p % 2 ≡ 1 → 8 ≤ d → c < 2 ^ d → bits_of all ≡ x ++ bits_of rest → update_crc d p c rest ≡ update_crc d p 0 all → c ≡ divide d p 0 (x ++ replicate d false)
   of_bits all rest x c odd e h split k =
       let r = divide d p 0 x in
@@ -136,28 +136,28 @@ module _ (d p : ℕ) (some : 2 ≤ 2 ^ d) (low : 2 ^ d ≤ p) (high : p < 2 * 2 
 
 pub continues_8 : Crc8Continues
 unfolding crc8
-continues_8 s xs = goes_on 8 0x107 (omega arith) (omega arith) (omega arith) xs s (omega arith)
+continues_8 s xs = continues 8 0x107 (omega arith) (omega arith) (omega arith) xs s (omega arith)
 
 pub continues_16 : Crc16Continues
 unfolding crc16
-continues_16 s xs = goes_on 16 0x18005 (omega arith) (omega arith) (omega arith) xs s (omega arith)
+continues_16 s xs = continues 16 0x18005 (omega arith) (omega arith) (omega arith) xs s (omega arith)
 
--- ---- what is kept past all that is to come tells what was taken
+-- ---- the CRC after all that remains determines that of what was consumed
 
--- the remainders past what is to come, where the outermost is c
+-- the CRCs after all that remains, where the outermost is c
 abbrev pub crcs_past_all : (List ℕ → ℕ) → List ℕ → (List ℕ → List ℕ) → List ℕ → List ℕ
 crcs_past_all update_crc left others more = update_crc (left ++ more) ∷ others (left ++ more)
 
 first_is : (f g : List ℕ → ℕ) (a b : List ℕ) (u v : List ℕ → List ℕ) → crcs_past_all g b v ≡ crcs_past_all f a u → g (b ++ []) ≡ f (a ++ [])
 first_is f g a b u v e = let k : crcs_past_all g b v [] ≡ crcs_past_all f a u [] = ap (λ (h : List ℕ → List ℕ). h []) e in cc
 
--- what is known of the remainders past the end tells the remainder of d bits of what was taken
+-- the CRCs after all that remains determine the CRC of d bits of what was consumed
 pub record DeterminesCrc (d : ℕ) (update_crc : ℕ → List ℕ → ℕ) (crc : Bits → ℕ) : Type 0 where
-  pub tells : (all rest : List ℕ) (x : Bits) (c : ℕ) (u v : List ℕ → List ℕ) → c < 2 ^ d → bits_of all ≡ x ++ bits_of rest → crcs_past_all (update_crc c) rest v ≡ crcs_past_all (update_crc 0) all u → c ≡ crc x
+  pub determines : (all rest : List ℕ) (x : Bits) (c : ℕ) (u v : List ℕ → List ℕ) → c < 2 ^ d → bits_of all ≡ x ++ bits_of rest → crcs_past_all (update_crc c) rest v ≡ crcs_past_all (update_crc 0) all u → c ≡ crc x
 
 determines_crc : (d p : ℕ) → 2 ≤ 2 ^ d → 2 ^ d ≤ p → p < 2 * 2 ^ d → p % 2 ≡ 1 → 8 ≤ d → DeterminesCrc d (update_crc d p) (λ x. divide d p 0 (x ++ replicate d false))
 determines_crc d p some low high odd eight = record {
-  tells = λ all rest x c u v h split e. of_bits d p some low high all rest x c odd eight h split (rw (append-nil rest, append-nil all) at (first_is (update_crc d p 0) (update_crc d p c) all rest u v e));
+  determines = λ all rest x c u v h split e. of_bits d p some low high all rest x c odd eight h split (rw (append-nil rest, append-nil all) at (first_is (update_crc d p 0) (update_crc d p c) all rest u v e));
 }
 
 pub determines_crc8 : DeterminesCrc 8 update_crc8 crc8
@@ -170,12 +170,12 @@ determines_crc16 = determines_crc 16 0x18005 (omega arith) (omega arith) (omega 
 
 -- ---- tables
 
--- so many bytes from j on, each put into the highest bits
+-- n bytes from j on, each put into the highest bits
 unfoldable highest : ℕ → ℕ → ℕ → List ℕ
 highest d zero j = []
 highest d (suc n) j = j * 2 ^ (d - 8) ∷ highest d n (j + 1)
 
--- each remainder of a table is that in the same place of the other one, after one more byte of zeros
+-- each CRC of a table is that at the same index of the other one, after one more byte of zeros
 unfoldable follows : ℕ → ℕ → List ℕ → List ℕ → Bool
 follows d p [] [] = true
 follows d p [] (t ∷ ts) = false
@@ -257,7 +257,7 @@ update8_byte_is c y e h l k =
     let m : y ≡ y % 256 * 2 ^ (8 - 8) = omega arith in
     k ∙ entry_8 (bit_xor c y) (xor_lt 8 c y h l) ∙ ap (λ z. zeros 8 0x107 8 (bit_xor c z)) m
 
--- division by the wider polynomial
+-- division by the polynomial of degree 16
 zeros16-xor : (n a c : ℕ) → a < 65536 → c < 65536 → zeros 16 0x18005 n (bit_xor a c) ≡ bit_xor (zeros 16 0x18005 n a) (zeros 16 0x18005 n c)
 zeros16-xor n a c h l = zeros-xor 16 0x18005 (omega arith) (omega arith) (omega arith) n a c h l
 
@@ -272,17 +272,17 @@ byte-xor a b =
     let e : bit_xor (a * 256 + 0) (b * 256 + 0) ≡ bit_xor a b * 256 + 0 = xor_block 8 a b 0 0 (omega arith) (omega arith) in
     rw (add-zero (a * 256), add-zero (b * 256), add-zero (bit_xor a b * 256)) at e
 
--- a byte meets the upper half of a remainder, and the lower half moves up
+-- a byte is XORed into the upper half of a CRC, and the lower half moves up
 step16 : (c y : ℕ) → c < 65536 → y < 256 → zeros 16 0x18005 8 (bit_xor c (y * 256)) ≡ bit_xor (zeros 16 0x18005 8 (bit_xor (c / 256) y * 256)) (c % 256 * 256)
 step16 c y h l =
     let hi = c / 256 in
     let lo = c % 256 in
     let i : bit_xor hi y < 256 = xor_lt 8 hi y (omega arith) l in
     let parts : hi * 256 + lo ≡ c = omega arith in
-    let mixed : bit_xor c (y * 256) ≡ bit_xor (bit_xor hi y * 256) lo =
+    let xored : bit_xor c (y * 256) ≡ bit_xor (bit_xor hi y * 256) lo =
     ap (λ z. bit_xor z (y * 256)) (sym parts) ∙ ap (bit_xor (hi * 256 + lo)) (sym (add-zero (y * 256)))
     ∙ xor_block 8 hi y lo 0 (omega arith) (omega arith) ∙ ap (λ z. bit_xor hi y * 256 + z) (xor_zero_r lo) ∙ sym (xor_shifted (bit_xor hi y) 8 lo (omega arith)) in
-    ap (zeros 16 0x18005 8) mixed
+    ap (zeros 16 0x18005 8) xored
     ∙ zeros16-xor 8 (bit_xor hi y * 256) lo (omega arith) (omega arith)
     ∙ ap (bit_xor (zeros 16 0x18005 8 (bit_xor hi y * 256))) (zeros16-small 8 lo (omega arith))
 
@@ -295,7 +295,7 @@ update16_byte_is c y e h l k =
 
 -- ---- eight bytes at once
 
--- what each byte adds to the remainder after so many bytes of zeros more, whatever the others are
+-- what each byte adds to the CRC after n more bytes of zeros, whatever the others are
 unfoldable shares : ℕ → List ℕ → ℕ
 shares n [] = 0
 shares n (y ∷ ys) = bit_xor (after_zeros (n + suc (length ys)) (y % 256 * 256)) (shares n ys)
@@ -312,7 +312,7 @@ apart n (y ∷ ys) c h =
     ∙ ap (λ z. bit_xor z (shares n ys)) (sym (zeros-add 16 0x18005 8 (8 * (n + length ys)) x) ∙ ap (λ z. zeros 16 0x18005 z x) k ∙ zeros16-xor m c (y % 256 * 256) h b)
     ∙ xor_assoc (zeros 16 0x18005 m c) (zeros 16 0x18005 m (y % 256 * 256)) (shares n ys)
 
--- a remainder goes into the two bytes that come next
+-- a CRC is XORed into the next two bytes
 absorbed : (c y0 y1 : ℕ) (ys : List ℕ) → c < 65536 → y0 < 256 → y1 < 256 → update_crc16 c (y0 ∷ y1 ∷ ys) ≡ update_crc16 0 (bit_xor (c / 256) y0 ∷ bit_xor (c % 256) y1 ∷ ys)
 unfolding update_crc
 absorbed c y0 y1 ys h a b =
@@ -391,7 +391,7 @@ eight_alone c e i bs xs q p =
     let ys = take 8 (drop i bs) in
     p ∙ none_more (update_crc16 c (take 8 xs)) ∙ ap (λ z. update_crc16 c (take 8 z)) q ∙ ap (update_crc16 c) (take_all 8 ys (omega (arith, length-take 8 (drop i bs))))
 
--- the shares of the last eight bytes, and what the first eight leave after eight bytes of zeros
+-- what the last eight bytes add, and the CRC of the first eight after eight bytes of zeros
 pub update16_16_bytes_is : (c e f : ℕ) (bs : List ℕ) → c < 65536 → length bs ≡ 16 → e ≡ after_zeros 0 (update_crc16 0 (take 8 (drop 8 bs))) → f ≡ after_zeros 8 (update_crc16 c (take 8 (drop 0 bs))) → bit_xor e f ≡ update_crc16 c bs
 update16_16_bytes_is c e f bs h l p q =
     let xs = take 8 bs in

@@ -1,4 +1,4 @@
--- Calls that read a field or meet the end.
+-- Calls that read a field or reach the end of input.
 use Rattle.std.proofs.Common.{◌≡◌, ℕ, ◌*◌, ◌^◌, ◌<◌, ◌⊎◌, inl, inr, Bool, true, false, ltb, List, [], length, Option, None, Some, refl, ap, ◌∙◌}
 use Rattle.std.specs.Prelude.{Result, Ok, Err, MatchOption}
 use Rattle.std.specs.Option.{ForSome}
@@ -56,13 +56,13 @@ gives_big_or_eof source a b k (Some n) small h = consumes_big_or_eof source k n 
 pub io_exit_or_eof : {X A Y : Type 0} (k : ℕ) (view : A → Y) {r : Result (Option A) Error} (read : List X → Reading X Y) {a c : State X} {cause : io.Error} → (y : Error) × (r ≡ Err y) × (y ≡ IoError cause) → FailureOr a c (λ s. or_eof k read s ≡ Incomplete) → GivesOrEof k view r read a c
 io_exit_or_eof k view read p h = rw (p.1, p.2) (record { failure = λ i. h; fault = λ i. absurd cc; named = refl })
 
--- by a `?` on a call that may meet the end, or gives what a reader gives
+-- by a `?` on a call that may reach the end of input, or gives what a reader gives
 pub exit_or_eof : {X A Y : Type 0} (k : ℕ) (view : A → Y) (read : List X → Reading X Y) {a c : State X} {r : Result (Option A) Error} {e : Error} → (y : Error) × (r ≡ Err y) × (y ≡ e) → Stops e (or_eof k read) a c → GivesOrEof k view r read a c
 exit_or_eof k view read p h = rw (p.1, p.2) h
 
 -- ---- after the first field
 
--- a reading, where it is not the end
+-- a reading, where it is not the end of input
 abbrev pub found : {X A : Type 0} → Reading X A → Reading X (Option A)
 found x = bind x (λ a. done (Some a))
 
@@ -81,7 +81,7 @@ found_incomplete (Done y rest) e = absurd cc
 found_incomplete (Faulty g rest) e = absurd cc
 found_incomplete Incomplete e = refl
 
--- what no end can be was read where enough was left
+-- what isn't the end of input was read where enough was left
 not_eof : {X A : Type 0} (k : ℕ) (read : List X → Reading X A) (s : List X) (x : Reading X (Option A)) → (Done None [] ≡ x → ⊥) → or_eof k read s ≡ x → (ltb (length s) k ≡ false) × (found (read s) ≡ x)
 not_eof k read s x n e = go (ltb (length s) k) refl
   where
@@ -118,9 +118,9 @@ first_stops k first whole {a = a} w h = stops_after (consumes_none a (λ s m. or
   short = λ s q. let p = incomplete_read k first s q in enough k whole s p.0 ∙ ap found (w.short s p.1);
 }) h
 
--- ---- calls that take memory
+-- ---- calls that allocate memory
 
--- want of memory, or what a call gives that takes none
+-- out of memory, or what a call gives that allocates none
 pub out_of_memory_or_gives_or_eof : {X A Y : Type 0} (k : ℕ) (view : A → Y) (r : Result (Option A) Error) (read : List X → Reading X Y) (a b : State X) → GivesOrEofOrOutOfMemory k view r read a b → ((r ≡ Err OutOfMemory) × OutOfMemoryLeavesRest a b) ⊎ GivesOrEof k view r read a b
 out_of_memory_or_gives_or_eof k view (Ok (Some x)) read a b h = inr h
 out_of_memory_or_gives_or_eof k view (Ok None) read a b h = inr h
@@ -129,7 +129,7 @@ out_of_memory_or_gives_or_eof k view (Err (FormatError text)) read a b h = inr h
 out_of_memory_or_gives_or_eof k view (Err (Unsupported text)) read a b h = inr h
 out_of_memory_or_gives_or_eof k view (Err OutOfMemory) read a b h = inl (refl, h)
 
--- a call that takes no memory is never refused any
+-- a call that allocates no memory is never out of memory
 pub never_out_of_memory_or_eof : {X A Y : Type 0} (k : ℕ) (view : A → Y) (r : Result (Option A) Error) (read : List X → Reading X Y) (a b : State X) → GivesOrEof k view r read a b → GivesOrEofOrOutOfMemory k view r read a b
 never_out_of_memory_or_eof k view (Ok (Some x)) read a b h = h
 never_out_of_memory_or_eof k view (Ok None) read a b h = h
@@ -138,10 +138,10 @@ never_out_of_memory_or_eof k view (Err (FormatError text)) read a b h = h
 never_out_of_memory_or_eof k view (Err (Unsupported text)) read a b h = h
 never_out_of_memory_or_eof k view (Err OutOfMemory) read a b h = let n = h.named in absurd cc
 
--- an exit with any error but that
+-- an exit with any error but `OutOfMemory`
 pub exit_no_memory_or_eof : {X A Y : Type 0} (k : ℕ) (view : A → Y) (read : List X → Reading X Y) {a c : State X} {r : Result (Option A) Error} {e : Error} → (y : Error) × (r ≡ Err y) × (y ≡ e) → Stops e (or_eof k read) a c → GivesOrEofOrOutOfMemory k view r read a c
 exit_no_memory_or_eof k view read {a = a} {c = c} {r = r} p h = never_out_of_memory_or_eof k view r read a c (exit_or_eof k view read p h)
 
--- and with that
+-- and with that one
 pub exit_out_of_memory_or_eof : {X A Y : Type 0} (k : ℕ) (view : A → Y) (read : List X → Reading X Y) {a c : State X} {r : Result (Option A) Error} → (y : Error) × (r ≡ Err y) × (y ≡ OutOfMemory) → OutOfMemoryLeavesRest a c → GivesOrEofOrOutOfMemory k view r read a c
 exit_out_of_memory_or_eof k view read p h = rw (p.1, p.2) h

@@ -1,4 +1,4 @@
--- What a call that gives what reading gives, or meets the end, or wants memory, promises to callers.
+-- What a call promises to callers that gives what reading gives, or reaches the end of input, or is out of memory.
 use Rattle.std.proofs.Common.{◌≡◌, ◌⊎◌, inl, inr, ℕ, ◌<◌, Bool, true, false, ltb, List, length, Option, None, Some, refl, sym, ap, ◌∙◌, arith}
 use Rattle.std.specs.Prelude.{IfOk, IfErr, IsOkAnd, IsErrAnd, IsSomeAnd, Result, Ok, Err}
 use Rattle.std.proofs.lemmas.Bool.{lt-ltb, ltb-true}
@@ -14,7 +14,7 @@ use Rattle.claxon_input.proofs.Promises.{fault_is, leaves_rest, promises}
 use Rattle.claxon_input.proofs.CallsInTurn.{consumes_map, consumes_none, failure_or_after}
 use Rattle.claxon_input.proofs.FieldOrEof.{some_read, fault_read, incomplete_read}
 
--- ---- as a call that meets no end
+-- ---- as a call that doesn't reach the end of input
 
 enough_fault : {X Y : Type 0} (e : Error) (k : ℕ) (read : List X → Reading X Y) (s m : List X) → IsFaultOf e (or_eof k read s) m → (ltb (length s) k ≡ false) × IsFaultOf e (read s) m
 enough_fault e k read s m h =
@@ -29,12 +29,12 @@ stops_enough e k read a b h = record {
   named = h.named;
 }
 
--- the answer of a call that met no end
+-- the result of a call that didn't reach the end of input
 some_of : {A : Type 0} → Result A Error → Result (Option A) Error
 some_of (Ok x) = Ok (Some x)
 some_of (Err e) = Err e
 
--- the end, or what a call gives that meets none
+-- the end of input, or what a call gives that doesn't reach it
 eof_or : {X A Y : Type 0} (k : ℕ) (view : A → Y) (r : Result (Option A) Error) (read : List X → Reading X Y) (a b : State X) → GivesOrEofOrOutOfMemory k view r read a b
     → ((r ≡ Ok None) × ReachedEof k a b) ⊎ ((q : Result A Error) × (r ≡ some_of q) × GivesOrOutOfMemory view q read a b)
 unfolding some_of
@@ -45,7 +45,7 @@ eof_or k view (Err (IoError i)) read a b h = inr (Err (IoError i), refl, stops_e
 eof_or k view (Err (FormatError i)) read a b h = inr (Err (FormatError i), refl, stops_enough (FormatError i) k read a b h)
 eof_or k view (Err (Unsupported i)) read a b h = inr (Err (Unsupported i), refl, stops_enough (Unsupported i) k read a b h)
 
--- ---- answers by another name
+-- ---- results by another name
 
 some_err : {A : Type 0} (P : Error → Type 0) (q : Result A Error) → IfErr q P → IfErr (some_of q) P
 unfolding some_of
@@ -67,15 +67,15 @@ unfolding some_of
 some_excused a b q (inl e) = inl (ap some_of e)
 some_excused a b q (inr h) = inr (some_err_and IsIo q h.0, h.1)
 
--- ---- the end
+-- ---- the end of input
 
--- None is answered only where fewer are left, which are taken
+-- None is returned only where fewer are left, which are consumed
 none_is_eof : {X A Y : Type 0} (k : ℕ) (view : A → Y) (r : Result (Option A) Error) (read : List X → Reading X Y) (a b : State X) → GivesOrEofOrOutOfMemory k view r read a b → NoneIsEof k r a b
 none_is_eof k view (Ok None) read a b h = λ e t. let w = h.known t in (ltb-true _ _ w.is.0, record { known = w.known; are = w.is.1 })
 none_is_eof k view (Ok (Some x)) read a b h = λ e t. absurd cc
 none_is_eof k view (Err e) read a b h = tt
 
--- the counts of Errs stay where the answer is none
+-- after an Ok the count of Errs is the same
 no_failure : {X A Y : Type 0} (k : ℕ) (view : A → Y) (r : Result (Option A) Error) (read : List X → Reading X Y) (a b : State X) → GivesOrEofOrOutOfMemory k view r read a b → IfOk r (λ found. b.errors ≡ a.errors)
 no_failure k view (Ok None) read a b h = h.errors
 no_failure k view (Ok (Some x)) read a b h = h.errors
@@ -87,7 +87,7 @@ stops_at_eof e false k read a b xs i h o l =
     let q = (enough_fault e k read a.remaining b.remaining ((h.fault i).known o.known).is).0 in
     let t : ltb (length a.remaining) k ≡ true = lt-ltb _ _ (rw o.are l) in absurd (cc (t, q))
 
--- where fewer are left the answer is the end, and they are taken
+-- where fewer are left None is returned, and they are consumed
 eof_gives_none : {X A Y : Type 0} (k : ℕ) (view : A → Y) (r : Result (Option A) Error) (read : List X → Reading X Y) (a b : State X) → GivesOrEofOrOutOfMemory k view r read a b → EofIsNone k r a b
 eof_gives_none k view (Ok None) read a b h xs o l = let w = h.known o.known in inl (refl, record { known = w.known; are = w.is.1 })
 eof_gives_none k view (Ok (Some x)) read a b h xs o l =
@@ -98,7 +98,7 @@ eof_gives_none k view (Err (IoError i)) read a b h xs o l = inr (inr (refl, (sto
 eof_gives_none k view (Err (FormatError i)) read a b h xs o l = let p = (stops_at_eof (FormatError i) false k read a b xs refl h o l).0 in absurd cc
 eof_gives_none k view (Err (Unsupported i)) read a b h xs o l = let p = (stops_at_eof (Unsupported i) false k read a b xs refl h o l).0 in absurd cc
 
--- ---- codes and faults, of a reader that reads nothing from fewer
+-- ---- codes and faults, of a reader that is incomplete on fewer
 
 module _ {X Y : Type 0} {read : List X → Reading X Y} {C : Y → List X → Type 0} {F : Fault → List X → Type 0} (law : Reads X Y read C F) (k : ℕ) (short : (s : List X) → length s < k → read s ≡ Incomplete) where
   found_is_sound : {A : Type 0} (view : A → Y) (r : Result (Option A) Error) (a b : State X) → GivesOrEofOrOutOfMemory k view r read a b → FoundIsSound view r C a b
@@ -106,7 +106,7 @@ module _ {X Y : Type 0} {read : List X → Reading X Y} {C : Y → List X → Ty
   found_is_sound view (Ok (Some x)) a b g = λ t. let w = g.known t in (w.known, law.takes a.remaining (view x) b.remaining (some_read k read a.remaining (view x) b.remaining w.is).1)
   found_is_sound view (Err e) a b g = tt
 
-  -- what is read from more is no end
+  -- where something is read the end of input wasn't reached
   not_reached_eof : (a b : State X) (x : Reading X Y) → a.known ≡ true → read a.remaining ≡ x → (x ≡ Incomplete → ⊥) → ReachedEof k a b → ⊥
   not_reached_eof a b x t e n h = n (sym e ∙ short a.remaining (ltb-true _ _ (h.known t).is.0))
 
@@ -119,8 +119,8 @@ module _ {X Y : Type 0} {read : List X → Reading X Y} {C : Y → List X → Ty
     ]
   ]
 
-  found_fault : {A : Type 0} (view : A → Y) (r : Result (Option A) Error) (a b : State X) → GivesOrEofOrOutOfMemory k view r read a b → FaultIsSound r F a b
-  found_fault view r a b g = elim (eof_or k view r read a b g) [ inl p ↦ rw p.0 tt | inr p ↦ rw p.1 (some_err _ p.0 ((promises law view p.0 a b p.2).fault)) ]
+  found_fault_is_sound : {A : Type 0} (view : A → Y) (r : Result (Option A) Error) (a b : State X) → GivesOrEofOrOutOfMemory k view r read a b → FaultIsSound r F a b
+  found_fault_is_sound view r a b g = elim (eof_or k view r read a b g) [ inl p ↦ rw p.0 tt | inr p ↦ rw p.1 (some_err _ p.0 ((promises law view p.0 a b p.2).fault)) ]
 
   found_fault_is_complete : {A : Type 0} (view : A → Y) (r : Result (Option A) Error) (a b : State X) → GivesOrEofOrOutOfMemory k view r read a b → FaultIsComplete r F a b
   found_fault_is_complete view r a b g f t rest c o = elim (eof_or k view r read a b g) [
@@ -151,7 +151,7 @@ module _ {X Y : Type 0} {read : List X → Reading X Y} {C : Y → List X → Ty
     at_end = none_is_eof k view r read a b g;
     ended = eof_gives_none k view r read a b g;
     no_failure = no_failure k view r read a b g;
-    fault = found_fault view r a b g;
+    fault = found_fault_is_sound view r a b g;
     named = found_fault_is_complete view r a b g;
     io = found_else_io_error view r a b g;
     front = found_rest view r a b g;

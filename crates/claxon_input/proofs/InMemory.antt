@@ -1,5 +1,5 @@
--- Bytes in memory, behind a `Cursor`: what is to come is told, and no read of them fails. So of the two answers that excuse a call
--- just want of memory is left.
+-- Bytes in memory, read by a `Cursor`: it is known what remains, and no read of them fails. So of the two results that excuse a
+-- call just `OutOfMemory` is left.
 use Rattle.std.proofs.Common.{◌≡◌, inl, inr, ℕ, List, ◌++◌, drop, refl, ap, ◌∙◌}
 use Rattle.std.specs.Prelude.{Result}
 use Rattle.std.specs.declared.io.Cursor.{Cursor}
@@ -13,22 +13,22 @@ use Rattle.claxon_input.specs.State.{State, bits_in, bytes_in}
 use Rattle.claxon_input.specs.declared.bits.Bitstream.{Bitstream}
 use Rattle.claxon_input.specs.declared.error.Error.{Error}
 
--- ---- any source whose counts stay
+-- ---- any source whose counts of failed reads stay the same
 
--- Where both counts are as they were the source didn't fail.
+-- Where both counts are the same the source didn't fail.
 pub never_failed : {X : Type 0} (a b : State X) → b.errors ≡ a.errors → b.empty_reads ≡ a.empty_reads → FailedIn a b → ⊥
 never_failed a b e k (inl h) = h e
 never_failed a b e k (inr h) = h.0 k
 
--- So an excuse is want of memory.
+-- So just `OutOfMemory` excuses the call.
 pub just_out_of_memory : {X A : Type 0} (r : Result A Error) (a b : State X) → b.errors ≡ a.errors → b.empty_reads ≡ a.empty_reads → IsExcused r a b → IsOutOfMemory r
 just_out_of_memory r a b e k (inl h) = h
 just_out_of_memory r a b e k (inr h) = absurd (never_failed a b e k h.1)
 
--- ---- a cursor, where items are the bytes that it is over: of a slice `λ s. s.now`
+-- ---- a cursor, where items are its bytes: of a slice `λ s. s.now`
 
 module _ {T : Type 0} (items : T → List ℕ) where
-  -- The bytes from the position on are to come.
+  -- The bytes from the position on remain.
   pub cursor_remains : (c : Cursor T) → Remains (bytes_in (cursor_source items) c) (drop (cursor_position c) (items (cursor_inner c)))
   unfolding bytes_in
   cursor_remains c = record { known = refl; are = refl }
@@ -44,14 +44,14 @@ module _ {T : Type 0} (items : T → List ℕ) where
   unfolding bytes_in
   cursor_never_fails a b f = never_failed (bytes_in (cursor_source items) a) (bytes_in (cursor_source items) b) refl refl f
 
-  -- So of the answers that excuse a call just want of memory is left.
+  -- So just `OutOfMemory` excuses the calls.
   pub cursor_just_out_of_memory : {A : Type 0} (r : Result A Error) (a b : Cursor T) → IsExcused r (bytes_in (cursor_source items) a) (bytes_in (cursor_source items) b) → IsOutOfMemory r
   unfolding bytes_in
   cursor_just_out_of_memory r a b h = just_out_of_memory r (bytes_in (cursor_source items) a) (bytes_in (cursor_source items) b) refl refl h
 
   -- ---- bits over a cursor
 
-  -- The bits left over, and then those of the bytes from the position on, are to come.
+  -- The bits left over, and then those of the bytes from the position on, remain.
   pub bits_remain : {g : _} (b : Bitstream (Cursor T) g) → Remains (bits_in (cursor_source items) b) (left_over b ++ bits_of (drop (cursor_position b.reader) (items (cursor_inner b.reader))))
   unfolding bits_in
   bits_remain b = record { known = refl; are = refl }

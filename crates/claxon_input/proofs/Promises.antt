@@ -1,4 +1,4 @@
--- What a call that gives what reading gives, or wants memory, promises to callers.
+-- What a call promises to callers that gives what reading gives, or is out of memory.
 use Rattle.std.proofs.Common.{◌≡◌, inl, inr, Bool, true, false, ◌++◌, List, [], refl, sym, ap, subst, ◌∙◌}
 use Rattle.std.specs.Prelude.{Result, Ok, Err}
 use Rattle.claxon_format.specs.Fault.{Fault}
@@ -27,7 +27,7 @@ fault_at e (Done z k) m f rest h q = absurd h
 fault_at e (Faulty g k) m f rest h q = let s : g ≡ f = cc in let t : k ≡ rest = cc in (subst (λ (z : Fault). IsFault z e) s h.0, sym h.1 ∙ t)
 fault_at e Incomplete m f rest h q = absurd h
 
--- ---- a rest is left
+-- ---- a suffix is left
 
 whole_rest : {X : Type 0} (s : List X) → IsRest s s
 unfolding IsRest
@@ -46,7 +46,7 @@ leaves_rest view (Err OutOfMemory) read a b g = λ t. let w = g.consumed.known t
 
 -- ---- by the laws of a reader
 
--- an `IoError` where what is to come is not short says that the source failed
+-- an `IoError` where what remains is not incomplete says that the source failed
 failed : {X : Type 0} {P : List X → Type 0} {a b : State X} → FailureOr a b P → a.known ≡ true → (P a.remaining → ⊥) → FailedIn a b
 failed k t n = elim (k.known t).why [ inl p ↦ absurd (n p) | inr f ↦ f ]
 

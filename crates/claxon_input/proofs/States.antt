@@ -15,7 +15,7 @@ use Rattle.claxon_format.proofs.Numbers.{Reads-number}
 use Rattle.claxon_format.proofs.RiceCodes.{Reads-unary, zeros_no_fault}
 use Rattle.claxon_input.specs.Source.{Source, TakesFront, IsKnown, Takes, FailureOrEof, SourceFailure, Failed, MovesPastSome, HasMore, MeetsEof}
 use Rattle.claxon_input.specs.Bitstream.{BitState, remaining_bits, TakesBits, TakesNumber, BitsFailureOrEof, HasNoOneBit, FailureOrNoOneBit}
-use Rattle.claxon_input.specs.State.{State, state_of, bits_after, past, remaining_known, known}
+use Rattle.claxon_input.specs.State.{State, state_of, bits_after, past, remaining_known, remaining_as}
 use Rattle.claxon_input.specs.Gives.{IsRest, Consumes, FailureOr, FailedIn, GivesIo, ReachedEof}
 
 -- functions that agree are one
@@ -26,27 +26,27 @@ rest_after : {X : Type 0} (z s t m : List X) → s ≡ t ++ m → IsRest z s →
 unfolding IsRest
 rest_after z s t m e h = (h.0 ++ t, h.1 ∙ ap (λ (l : List _). h.0 ++ l) e ∙ sym (append_assoc h.0 t m))
 
--- ---- what was taken
+-- ---- what was consumed
 
--- taking the bytes from the source takes xs from what is to come, seen by f before and by g after
+-- consuming the bytes consumes xs of what remains, as f gives it before and g after
 abbrev SplitsOff : {X : Type 0} → (List ℕ → List X) → (List ℕ → List X) → List ℕ → List X → Type 0
 SplitsOff f g bytes xs = (rest : List ℕ) → f (bytes ++ rest) ≡ xs ++ g rest
 
 record KnownAfter {X : Type 0} (f g : List ℕ → List X) (a b : Source ℕ) (p q : Option (List ℕ)) (P : List X → List X → Type 0) : Type 0 where
   known : remaining_known q ≡ true
-  is : P (known f p) (known g q)
-  rest : (z : List ℕ) → IsRest z (known (λ all. all) p) → IsRest z (known (λ all. all) q)
+  is : P (remaining_as f p) (remaining_as g q)
+  rest : (z : List ℕ) → IsRest z (remaining_as (λ all. all) p) → IsRest z (remaining_as (λ all. all) q)
   crcs : past q b.crcs ≡ past p a.crcs
 
--- the remainders past what is to come are as before
+-- the CRCs after all that remains are the same
 past_same : (a b : Source ℕ) (bytes all rest : List ℕ) → all ≡ bytes ++ rest → ((more : List ℕ) → b.crcs more ≡ a.crcs (bytes ++ more)) → past (Some rest) b.crcs ≡ past (Some all) a.crcs
 past_same a b bytes all rest l c = same_function (λ more. c (rest ++ more) ∙ ap a.crcs (sym (append_assoc bytes rest more) ∙ ap (λ (x : List ℕ). x ++ more) (sym l)))
 
-knows : {X : Type 0} (f g : List ℕ → List X) (a b : Source ℕ) (p q : Option (List ℕ)) (bytes : List ℕ) (xs : List X) (P : List X → List X → Type 0) → TakesFront p q bytes → SplitsOff f g bytes xs
+is_known_after : {X : Type 0} (f g : List ℕ → List X) (a b : Source ℕ) (p q : Option (List ℕ)) (bytes : List ℕ) (xs : List X) (P : List X → List X → Type 0) → TakesFront p q bytes → SplitsOff f g bytes xs
     → (IsKnown p → (more : List ℕ) → b.crcs more ≡ a.crcs (bytes ++ more)) → ((m : List X) → P (xs ++ m) m) → remaining_known p ≡ true → KnownAfter f g a b p q P
-knows f g a b None q bytes xs P l e c h t = absurd cc
-knows f g a b (Some all) None bytes xs P l e c h t = absurd l
-knows f g a b (Some all) (Some rest) bytes xs P l e c h t =
+is_known_after f g a b None q bytes xs P l e c h t = absurd cc
+is_known_after f g a b (Some all) None bytes xs P l e c h t = absurd l
+is_known_after f g a b (Some all) (Some rest) bytes xs P l e c h t =
     let k : f all ≡ xs ++ g rest = ap f l ∙ e rest in
     record {
       known = refl;
@@ -60,7 +60,7 @@ consumes_by f g {a = a} {b = b} {bytes = bytes} xs P h e k = record {
   errors = h.errors;
   empty_reads = h.empty_reads;
   loans = h.lost.loans;
-  known = λ t. let w = knows f g a b a.remaining b.remaining bytes xs P h.lost.front e h.lost.crcs k t in record { known = w.known; is = w.is; rest = w.rest; crcs = w.crcs };
+  known = λ t. let w = is_known_after f g a b a.remaining b.remaining bytes xs P h.lost.front e h.lost.crcs k t in record { known = w.known; is = w.is; rest = w.rest; crcs = w.crcs };
 }
 
 splits_off_bits : (old new : Bits) (bytes : List ℕ) (bs : Bits) → old ++ bits_of bytes ≡ bs ++ new → SplitsOff (bits_after old) (bits_after new) bytes bs
@@ -74,15 +74,15 @@ state_of_bits s = state_of (bits_after s.left) s.source
 abbrev pub bytes_of_source : Source ℕ → State ℕ
 bytes_of_source s = state_of (λ all. all) s
 
--- bits were taken, and P holds of what begins with them
+-- bits were consumed, and P holds of what begins with them
 pub consumed : {a b : BitState} {bs : Bits} (P : Bits → Bits → Type 0) → TakesBits a b bs → ((m : Bits) → P (bs ++ m) m) → Consumes (state_of_bits a) (state_of_bits b) P
 consumed {a} {b} {bs} P h k = consumes_by (bits_after a.left) (bits_after b.left) bs P h.taken (splits_off_bits a.left b.left h.bytes bs h.split) k
 
--- bytes were taken
+-- bytes were consumed
 pub consumes_bytes : {a b : Source ℕ} {xs : List ℕ} (P : List ℕ → List ℕ → Type 0) → Takes a b xs → ((m : List ℕ) → P (xs ++ m) m) → Consumes (bytes_of_source a) (bytes_of_source b) P
 consumes_bytes {xs = xs} P h k = consumes_by (λ all. all) (λ all. all) xs P h (λ rest. refl) k
 
--- ---- the end
+-- ---- the end of input
 
 all_taken : (a b : Source ℕ) (p q : Option (List ℕ)) (lost : List ℕ) (k : ℕ) → TakesFront p q lost → (IsKnown p → (more : List ℕ) → b.crcs more ≡ a.crcs (lost ++ more))
     → IfSome p (λ all. (length all < k) × (q ≡ Some [])) → remaining_known p ≡ true → KnownAfter (λ all. all) (λ all. all) a b p q (λ s m. (ltb (length s) k ≡ true) × (m ≡ []))
@@ -90,12 +90,12 @@ all_taken a b None q lost k l c h t = absurd cc
 all_taken a b (Some all) None lost k l c h t = absurd l
 all_taken a b (Some all) (Some left) lost k l c h t = record {
   known = refl;
-  is = (lt-ltb _ _ h.0, ap (known (λ all. all)) h.1);
+  is = (lt-ltb _ _ h.0, ap (remaining_as (λ all. all)) h.1);
   rest = λ z. rest_after z all lost left l;
   crcs = past_same a b lost all left l (c tt);
 }
 
--- fewer than k were to come, and all were taken
+-- fewer than k remained, and all were consumed
 pub reached_eof_bytes : {a b : Source ℕ} (k : ℕ) → MeetsEof a b k → ReachedEof k (bytes_of_source a) (bytes_of_source b)
 reached_eof_bytes {a} {b} k h = record {
   errors = h.errors;
@@ -107,18 +107,18 @@ reached_eof_bytes {a} {b} k h = record {
 
 record Failing {X : Type 0} (f g : List ℕ → List X) (a b : Source ℕ) (p q : Option (List ℕ)) (P : List X → Type 0) : Type 0 where
   known : remaining_known q ≡ true
-  why : P (known f p) ⊎ FailedIn (state_of f a) (state_of g b)
-  rest : (z : List ℕ) → IsRest z (known (λ all. all) p) → IsRest z (known (λ all. all) q)
+  why : P (remaining_as f p) ⊎ FailedIn (state_of f a) (state_of g b)
+  rest : (z : List ℕ) → IsRest z (remaining_as (λ all. all) p) → IsRest z (remaining_as (λ all. all) q)
 
 failed_in : {X : Type 0} (f g : List ℕ → List X) (a b : Source ℕ) (left : List ℕ) → b.remaining ≡ Some left → Failed a b → FailedIn (state_of f a) (state_of g b)
 failed_in f g a b left e (inl h) = inl h
 failed_in f g a b left e (inr h) = inr (h.0, rw e (subst (λ (o : Option (List ℕ)). HasMore o) e h.1))
 
-fails : {X : Type 0} (f g : List ℕ → List X) (a b : Source ℕ) (p q : Option (List ℕ)) (lost : List ℕ) (P Q : List X → Type 0) → b.remaining ≡ q → TakesFront p q lost
+is_failing : {X : Type 0} (f g : List ℕ → List X) (a b : Source ℕ) (p q : Option (List ℕ)) (lost : List ℕ) (P Q : List X → Type 0) → b.remaining ≡ q → TakesFront p q lost
     → IfSome (option_map f p) (λ all. Q all ⊎ Failed a b) → ((s : List X) → Q s → P s) → remaining_known p ≡ true → Failing f g a b p q P
-fails f g a b None q lost P Q e l c h t = absurd cc
-fails f g a b (Some all) None lost P Q e l c h t = absurd l
-fails f g a b (Some all) (Some left) lost P Q e l c h t = record {
+is_failing f g a b None q lost P Q e l c h t = absurd cc
+is_failing f g a b (Some all) None lost P Q e l c h t = absurd l
+is_failing f g a b (Some all) (Some left) lost P Q e l c h t = record {
   known = refl;
   why = elim c [ inl q ↦ inl (h (f all) q) | inr q ↦ inr (failed_in f g a b left e q) ];
   rest = λ z. rest_after z all lost left l;
@@ -128,7 +128,7 @@ failure_or_by : {X : Type 0} (f g : List ℕ → List X) {a b : Source ℕ} (P Q
     → IfSome (option_map f a.remaining) (λ all. Q all ⊎ Failed a b) → ((s : List X) → Q s → P s) → FailureOr (state_of f a) (state_of g b) P
 failure_or_by f g {a = a} {b = b} P Q r c h = record {
   loans = r.loans;
-  known = λ t. let w = fails f g a b a.remaining b.remaining r.lost P Q refl r.front c h t in record { known = w.known; why = w.why; rest = w.rest };
+  known = λ t. let w = is_failing f g a b a.remaining b.remaining r.lost P Q refl r.front c h t in record { known = w.known; why = w.why; rest = w.rest };
 }
 
 pub failure : (a b : BitState) (P Q : Bits → Type 0) → MovesPastSome a.source b.source → IfSome (remaining_bits a) (λ all. Q all ⊎ Failed a.source b.source) → ((s : Bits) → Q s → P s)
@@ -148,7 +148,7 @@ only_failed : (p : Option (List ℕ)) (F : Type 0) → IfSome p (λ _. F) → If
 only_failed None F h = tt
 only_failed (Some all) F h = inr h
 
--- where the source failed, any reader is stuck
+-- where the source failed, any reader may say so
 pub failure_or_any : {a b : Source ℕ} {n : ℕ} (P : List ℕ → Type 0) → SourceFailure a b n → FailureOr (bytes_of_source a) (bytes_of_source b) P
 failure_or_any {a} {b} P h = failure_or_in_bytes a b P (λ s. ⊥) h.rest (only_failed a.remaining (Failed a b) h.cause) (λ s q. absurd q)
 
@@ -191,7 +191,7 @@ incomplete_bytes n s h = let k : ltb (length s) n ≡ true = lt-ltb _ _ h in rw 
 pub failure_or_bytes : {a b : Source ℕ} (n : ℕ) → FailureOrEof a b n → FailureOr (bytes_of_source a) (bytes_of_source b) (λ s. bytes_at n s ≡ Incomplete)
 failure_or_bytes {a} {b} n h = failure_or_in_bytes a b (λ s. bytes_at n s ≡ Incomplete) (λ s. length s < n) h.rest h.cause (incomplete_bytes n)
 
--- ---- zeros up to a one
+-- ---- unary numbers: zeros up to a one
 
 pub consumes_unary : {a b : BitState} (q : ℕ) → q < 2 ^ 32 → TakesBits a b (replicate q false ++ true ∷ []) → Consumes (state_of_bits a) (state_of_bits b) (λ s m. unary_at s ≡ Done q m)
 consumes_unary q small h = consumed (λ s m. unary_at s ≡ Done q m) h (λ m. Reads-unary.again q (replicate q false ++ true ∷ []) m (small, refl))
@@ -239,7 +239,7 @@ pub gives_io_err : {X A Y E : Type 0} (view : A → Y) (r : Result A E) (read : 
 gives_io_err view (Ok x) read a b h k = absurd cc
 gives_io_err view (Err e) read a b h k = k
 
--- ---- a call that answers what another one did
+-- ---- a call that returns what another one did
 
 pub gives_io_number : {E : Type 0} (a b : BitState) (w : ℕ) (r : Result ℕ E) → IfOk r (λ n. n < 2 ^ w) → IfOk r (λ n. TakesNumber a b w n) → OnErr r (BitsFailureOrEof a b w)
     → GivesIo (λ (n : ℕ). n) r (number_at w) (state_of_bits a) (state_of_bits b)

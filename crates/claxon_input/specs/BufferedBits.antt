@@ -1,4 +1,4 @@
--- The bits at hand.
+-- Buffered bits.
 use Rattle.std.specs.Prelude.{◌≡◌, ℕ, ◌≤◌, Bool, true, ◌++◌, length, take, drop, cond, nat_lt, Option, MatchOption}
 use Rattle.claxon_format.specs.Bits.{Bits, bits, bits_of}
 use Rattle.claxon_format.specs.Reading.{Reading, Done, Incomplete}
@@ -13,11 +13,13 @@ bits_in_buffer a = take a.count (bits 64 a.cache) ++ bits_of (drop a.at a.bytes.
 abbrev pub in_cache : BufferedBits → ℕ
 in_cache a = a.count
 
--- x is read from the bits at hand, whatever stands behind them, and just its bits are taken
-abbrev pub GivesBuffered : {A : Type 0} → BufferedBits → BufferedBits → (Bits → Reading Bool A) → A → Type 0
-GivesBuffered old new read x = (rest : Bits) → read (bits_in_buffer old ++ rest) ≡ Done x (bits_in_buffer new ++ rest)
+-- x is read from the buffered bits, whatever follows them, and just its bits are consumed
+abbrev pub GivesBuffered : {A : Type 0} → BufferedBits → BufferedBits → (Bits → Reading Bool A) → A
+    → Type 0
+GivesBuffered old new read x =
+    (rest : Bits) → read (bits_in_buffer old ++ rest) ≡ Done x (bits_in_buffer new ++ rest)
 
--- the bits to come begin with those at hand, where they are known
+-- the remaining bits begin with the buffered ones, where they are known
 abbrev pub IsBufferOf : BufferedBits → State Bool → Type 0
 IsBufferOf a s = s.known ≡ true → (rest : Bits) × (s.remaining ≡ bits_in_buffer a ++ rest)
 
@@ -27,11 +29,13 @@ skipped_bits_at n s = cond (nat_lt (length s) n) Incomplete (Done tt (drop n s))
 
 -- ---- what the calls of `BufferedBits` promise
 
--- What was read stands there, whatever follows; None takes nothing.
-abbrev pub GivesBufferedOrNone : {A : Type 0} → (Bits → Reading Bool A) → BufferedBits → Option A → BufferedBits → Type 0
-GivesBufferedOrNone read old result new = MatchOption result (bits_in_buffer new ≡ bits_in_buffer old) (GivesBuffered old new read)
+-- A value was read from the buffered bits, whatever follows. None consumed nothing.
+abbrev pub GivesBufferedOrNone : {A : Type 0} → (Bits → Reading Bool A) → BufferedBits → Option A
+    → BufferedBits → Type 0
+GivesBufferedOrNone read old result new =
+    MatchOption result (bits_in_buffer new ≡ bits_in_buffer old) (GivesBuffered old new read)
 
--- The window is the next 64 bits, and of these 56 or more are in the cache.
+-- These are the next 64 bits, and 56 or more of them are in the cache.
 pub record PeeksBits (peek : ℕ) (a : BufferedBits) : Type 0 where
   pub within : 56 ≤ in_cache a
   pub behind : Bits

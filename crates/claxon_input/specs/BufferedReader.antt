@@ -1,4 +1,4 @@
--- What a clause reads of a `BufferedReader`.
+-- What clauses say of a `BufferedReader`.
 use Rattle.std.specs.Prelude.{◌≡◌, ℕ, List, [], slice_range, IfOk, OnErr, Result}
 use Rattle.std.specs.Io.KnownBytes.{prepend_known}
 use Rattle.std.specs.declared.option.Option.{Option}
@@ -6,11 +6,11 @@ use Rattle.claxon_input.specs.declared.error.Error.{Error}
 use Rattle.claxon_input.specs.Source.{Source}
 use Rattle.claxon_input.specs.declared.input.BufferedReader.{BufferedReader}
 
--- the bytes that were read ahead and not yet taken
+-- the buffered bytes that were not consumed yet
 abbrev pub bytes_in_buffer : {R A : Type 0} → BufferedReader R A → List ℕ
 bytes_in_buffer r = slice_range r.buf.items r.pos r.num_valid
 
--- the bytes read ahead, and then those that the inner reader still gives
+-- the buffered bytes, and then those that remain of the inner reader
 abbrev pub buffered_source : {R A : Type 0} → (R → Option (List ℕ)) → BufferedReader R A → Source ℕ
 buffered_source remaining r = record {
   remaining = prepend_known (bytes_in_buffer r) (remaining r.inner);
@@ -24,10 +24,17 @@ buffered_source remaining r = record {
 abbrev pub buffered_inner : {R A : Type 0} → BufferedReader R A → R
 buffered_inner r = r.inner
 
--- Nothing was read of the inner reader, and no read failed.
-abbrev pub NothingWasRead : {R A : Type 0} → (R → Option (List ℕ)) → R → Result (BufferedReader R A) Error → Type 0
+-- Nothing was read from the inner reader, and no read failed.
+abbrev pub NothingWasRead : {R A : Type 0} → (R → Option (List ℕ)) → R
+    → Result (BufferedReader R A) Error → Type 0
 NothingWasRead remaining inner result =
-    IfOk result (λ r. buffered_source remaining r ≡ record { remaining = prepend_known [] (remaining inner); errors = 0; empty_reads = 0; loans = []; crcs = λ _. [] })
+    IfOk result (λ r. buffered_source remaining r ≡ record {
+      remaining = prepend_known [] (remaining inner);
+      errors = 0;
+      empty_reads = 0;
+      loans = [];
+      crcs = λ _. [];
+    })
 
 -- After an Err nothing is buffered, so that the next call asks the inner reader again.
 abbrev pub IsEmptyAfterErr : {T E R A : Type 0} → Result T E → BufferedReader R A → Type 0

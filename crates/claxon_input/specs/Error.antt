@@ -25,12 +25,12 @@ abbrev pub IsFormatError : Error → List ℕ → Type 0
 IsFormatError (FormatError reason) text = reason.now ≡ text
 IsFormatError _ text = ⊥
 
--- want of memory
+-- out of memory
 abbrev pub is_out_of_memory : Error → Bool
 is_out_of_memory OutOfMemory = true
 is_out_of_memory _ = false
 
--- ---- errors that a reader answers
+-- ---- errors that a reader returns
 
 -- an error that names the fault
 abbrev pub IsFault : Fault → Error → Type 0
@@ -46,8 +46,10 @@ is_io _ = false
 -- an `IoError`, or an error of a fault's kind with its text
 abbrev pub is_named : Error → Bool
 is_named (IoError cause) = true
-is_named (FormatError text) = list_any (λ f. not (is_unsupported f) && pointwise ◌==◌ text.now (fault_text f)) faults
-is_named (Unsupported text) = list_any (λ f. is_unsupported f && pointwise ◌==◌ text.now (fault_text f)) faults
+is_named (FormatError text) =
+    list_any (λ f. not (is_unsupported f) && pointwise ◌==◌ text.now (fault_text f)) faults
+is_named (Unsupported text) =
+    list_any (λ f. is_unsupported f && pointwise ◌==◌ text.now (fault_text f)) faults
 is_named OutOfMemory = false
 
 abbrev pub IsIo : Error → Type 0

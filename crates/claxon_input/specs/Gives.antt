@@ -1,5 +1,5 @@
--- What a call that reads a field answered and took, told by a reader on lists. These are the clauses by which calls one after
--- another are proved; what callers see of them stands in `Promises`.
+-- What a call that reads a field returned and consumed, by a reader on lists. Proofs about calls one after another use these
+-- clauses; what callers see of them stands in `Promises`.
 use Rattle.std.specs.Prelude.{◌≡◌, ◌≢◌, ℕ, Option, None, Some, ◌⊎◌, true, false, cond, nat_lt, List, [], ◌++◌, length, Result, Ok, Err}
 use Rattle.claxon_format.specs.Reading.{Reading, Done, Faulty, Incomplete, and_then, done}
 use Rattle.claxon_input.specs.Error.{IsFault, is_io, is_named}
@@ -7,38 +7,39 @@ use Rattle.claxon_input.specs.State.{State}
 use Rattle.claxon_input.specs.declared.error.Error.{Error}
 use Rattle.claxon_input.specs.declared.error.Error.TheVariants.{OutOfMemory}
 
--- ---- what was taken
+-- ---- what was consumed
 
--- m is a rest of s
+-- m is a suffix of s
 unfoldable pub IsRest : {X : Type 0} → List X → List X → Type 0
 IsRest {X} s m = (t : List X) × (s ≡ t ++ m)
 
--- What is to come is still known, and P holds; the bytes in the source are a rest of those before, and the remainders at the
--- end are as before.
+-- It is still known what remains, and P holds. The bytes in the source are a suffix of those before, and the CRCs at the end of
+-- input are the same.
 pub record KnownAnd {X : Type 0} (old new : State X) (P : Type 0) : Type 0 where
   pub known : new.known ≡ true
   pub is : P
   pub rest : (z : List ℕ) → IsRest z old.bytes → IsRest z new.bytes
   pub crcs : new.crcs ≡ old.crcs
 
--- No read of the source failed, and P holds of what was to come before and after.
+-- No read of the source failed, and P holds of what remained before and remains after.
 pub record Consumes {X : Type 0} (old new : State X) (P : List X → List X → Type 0) : Type 0 where
   pub errors : new.errors ≡ old.errors
   pub empty_reads : new.empty_reads ≡ old.empty_reads
   pub loans : new.loans ≡ old.loans
   pub known : old.known ≡ true → KnownAnd old new (P old.remaining new.remaining)
 
--- a read of the source answered an Err, or nothing before the end
+-- a read of the source returned an Err, or no bytes before the end of input
 abbrev pub FailedIn : {X : Type 0} → State X → State X → Type 0
-FailedIn old new = (new.errors ≢ old.errors) ⊎ ((new.empty_reads ≢ old.empty_reads) × (new.bytes ≢ []))
+FailedIn old new =
+    (new.errors ≢ old.errors) ⊎ ((new.empty_reads ≢ old.empty_reads) × (new.bytes ≢ []))
 
--- What is to come is still known, P holds or the source failed, and a front was taken.
+-- It is still known what remains, P holds or the source failed, and a prefix was consumed.
 pub record FailedOr {X : Type 0} (old new : State X) (P : Type 0) : Type 0 where
   pub known : new.known ≡ true
   pub why : P ⊎ FailedIn old new
   pub rest : (z : List ℕ) → IsRest z old.bytes → IsRest z new.bytes
 
--- The source failed, or P holds of what was to come.
+-- The source failed, or P holds of what remained.
 pub record FailureOr {X : Type 0} (old new : State X) (P : List X → Type 0) : Type 0 where
   pub loans : new.loans ≡ old.loans
   pub known : old.known ≡ true → FailedOr old new (P old.remaining)
@@ -50,56 +51,68 @@ abbrev pub IsFaultOf : {X Y : Type 0} → Error → Reading X Y → List X → T
 IsFaultOf e (Faulty f rest) m = IsFault f e × (rest ≡ m)
 IsFaultOf e _ m = ⊥
 
--- An `IoError` says that the source failed or what was to come ended, and any other Err the fault that was read. Nothing else is answered, whether what was to come is known or not.
-pub record Stops {X Y : Type 0} (e : Error) (read : List X → Reading X Y) (old new : State X) : Type 0 where
+-- An `IoError` says that the source failed or that the input ended, and any other Err names the fault that was read. No other Err
+-- is returned, whether it is known what remains or not.
+pub record Stops {X Y : Type 0} (e : Error) (read : List X → Reading X Y)
+    (old new : State X) : Type 0 where
   pub failure : is_io e ≡ true → FailureOr old new (λ s. read s ≡ Incomplete)
   pub fault : is_io e ≡ false → Consumes old new (λ s m. IsFaultOf e (read s) m)
   pub named : is_named e ≡ true
 
--- Want of memory leaves a rest of what was to come.
+-- Out of memory: a suffix of what remained is left.
 pub record OutOfMemoryLeavesRest {X : Type 0} (old new : State X) : Type 0 where
   pub consumed : Consumes old new (λ s m. Unit {0})
 
 -- ---- what a call gives
 
--- What the call answered, seen by view, is what reading gives, and just what was read was taken; or the source failed, or what was to come ended.
-abbrev pub Gives : {X A Y : Type 0} → (A → Y) → Result A Error → (List X → Reading X Y) → State X → State X → Type 0
+-- What the call returned, as view shows it, is what reading gives, and just what was read was consumed; or the source failed, or
+-- the input ended.
+abbrev pub Gives : {X A Y : Type 0} → (A → Y) → Result A Error → (List X → Reading X Y) → State X
+    → State X → Type 0
 Gives view (Ok x) read old new = Consumes old new (λ s m. read s ≡ Done (view x) m)
 Gives view (Err e) read old new = Stops e read old new
 
--- The same of a call that takes memory.
-abbrev pub GivesOrOutOfMemory : {X A Y : Type 0} → (A → Y) → Result A Error → (List X → Reading X Y) → State X → State X → Type 0
+-- The same of a call that allocates memory.
+abbrev pub GivesOrOutOfMemory : {X A Y : Type 0} → (A → Y) → Result A Error → (List X → Reading X Y)
+    → State X → State X → Type 0
 GivesOrOutOfMemory view (Ok x) read old new = Consumes old new (λ s m. read s ≡ Done (view x) m)
 GivesOrOutOfMemory view (Err OutOfMemory) read old new = OutOfMemoryLeavesRest old new
 GivesOrOutOfMemory view (Err e) read old new = Stops e read old new
 
--- The same of a call that knows no faults.
-abbrev pub GivesIo : {X A Y E : Type 0} → (A → Y) → Result A E → (List X → Reading X Y) → State X → State X → Type 0
+-- The same of a call that has no faults.
+abbrev pub GivesIo : {X A Y E : Type 0} → (A → Y) → Result A E → (List X → Reading X Y) → State X
+    → State X → Type 0
 GivesIo view (Ok x) read old new = Consumes old new (λ s m. read s ≡ Done (view x) m)
 GivesIo view (Err e) read old new = FailureOr old new (λ s. read s ≡ Incomplete)
 
--- ---- a field, or the end
+-- ---- a field, or the end of input
 
--- the field, or the end where fewer than count are left
+-- the field, or None where fewer than count are left
 abbrev pub or_eof : {X A : Type 0} → ℕ → (List X → Reading X A) → List X → Reading X (Option A)
-or_eof count read s = cond (nat_lt (length s) count) (Done None []) (and_then read (λ a. done (Some a)) s)
+or_eof count read s =
+    cond (nat_lt (length s) count) (Done None []) (and_then read (λ a. done (Some a)) s)
 
--- fewer than count were left, and all were taken
+-- fewer than count were left, and all were consumed
 pub record ReachedEof {X : Type 0} (count : ℕ) (old new : State X) : Type 0 where
   pub errors : new.errors ≡ old.errors
   pub loans : new.loans ≡ old.loans
-  pub known : old.known ≡ true → KnownAnd old new ((nat_lt (length old.remaining) count ≡ true) × (new.remaining ≡ []))
+  pub known : old.known ≡ true → KnownAnd old new
+      ((nat_lt (length old.remaining) count ≡ true) × (new.remaining ≡ []))
 
--- What the call answered, seen by view, is what reading gives, or the end where fewer than count are left; and just that was
--- taken, or the source failed.
-abbrev pub GivesOrEof : {X A Y : Type 0} → ℕ → (A → Y) → Result (Option A) Error → (List X → Reading X Y) → State X → State X → Type 0
-GivesOrEof count view (Ok (Some x)) read old new = Consumes old new (λ s m. or_eof count read s ≡ Done (Some (view x)) m)
+-- What the call returned, as view shows it, is what reading gives, or None where fewer than count are left; and just that was
+-- consumed, or the source failed.
+abbrev pub GivesOrEof : {X A Y : Type 0} → ℕ → (A → Y) → Result (Option A) Error
+    → (List X → Reading X Y) → State X → State X → Type 0
+GivesOrEof count view (Ok (Some x)) read old new =
+    Consumes old new (λ s m. or_eof count read s ≡ Done (Some (view x)) m)
 GivesOrEof count view (Ok None) read old new = ReachedEof count old new
 GivesOrEof count view (Err e) read old new = Stops e (or_eof count read) old new
 
--- The same of a call that takes memory.
-abbrev pub GivesOrEofOrOutOfMemory : {X A Y : Type 0} → ℕ → (A → Y) → Result (Option A) Error → (List X → Reading X Y) → State X → State X → Type 0
-GivesOrEofOrOutOfMemory count view (Ok (Some x)) read old new = Consumes old new (λ s m. or_eof count read s ≡ Done (Some (view x)) m)
+-- The same of a call that allocates memory.
+abbrev pub GivesOrEofOrOutOfMemory : {X A Y : Type 0} → ℕ → (A → Y) → Result (Option A) Error
+    → (List X → Reading X Y) → State X → State X → Type 0
+GivesOrEofOrOutOfMemory count view (Ok (Some x)) read old new =
+    Consumes old new (λ s m. or_eof count read s ≡ Done (Some (view x)) m)
 GivesOrEofOrOutOfMemory count view (Ok None) read old new = ReachedEof count old new
 GivesOrEofOrOutOfMemory count view (Err OutOfMemory) read old new = OutOfMemoryLeavesRest old new
 GivesOrEofOrOutOfMemory count view (Err e) read old new = Stops e (or_eof count read) old new

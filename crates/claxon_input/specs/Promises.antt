@@ -1,4 +1,4 @@
--- What callers see of a call that reads a field, and may take memory: its answer by the codes of the field and their faults.
+-- What callers see of a call that reads a field, and may allocate memory: its result by the codes of the field and their faults.
 use Rattle.std.specs.Prelude.{◌≡◌, ℕ, ◌+◌, ◌<◌, ◌≤◌, ◌⊎◌, true, List, [], ◌++◌, length, Option, None, Result, Ok, Err, IfOk, IfErr, IfSome, IsOkAnd, IsErrAnd, IsSomeAnd}
 use Rattle.claxon_format.specs.Fault.{Fault}
 use Rattle.claxon_input.specs.Error.{IsFault, IsIo, is_out_of_memory}
@@ -7,22 +7,24 @@ use Rattle.claxon_input.specs.State.{State}
 use Rattle.claxon_input.specs.declared.error.Error.{Error}
 use Rattle.claxon_input.specs.declared.error.Error.TheVariants.{OutOfMemory}
 
--- ---- what is to come, and what was taken
+-- ---- what remains, and what was consumed
 
--- What is to come is known, and is xs.
+-- It is known what remains: xs.
 pub record Remains {X : Type 0} (s : State X) (xs : List X) : Type 0 where
   pub known : s.known ≡ true
   pub are : s.remaining ≡ xs
 
--- Where what is to come is known, what was taken is as C says, and what is to come is known still.
+-- Where it is known what remains, C holds of what was consumed, and it is still known what remains.
 abbrev pub Consumed : {X : Type 0} → State X → State X → (List X → Type 0) → Type 0
-Consumed {X} old new C = old.known ≡ true → (new.known ≡ true) × ((t : List X) × C t × (old.remaining ≡ t ++ new.remaining))
+Consumed {X} old new C =
+    old.known ≡ true → (new.known ≡ true)
+    × ((t : List X) × C t × (old.remaining ≡ t ++ new.remaining))
 
--- At most so many were taken, where what is to come is known.
+-- At most n were consumed, where it is known what remains.
 abbrev pub ConsumesAtMost : {X : Type 0} → ℕ → State X → State X → Type 0
 ConsumesAtMost n old new = length old.remaining ≤ n + length new.remaining
 
--- ---- the answers that say nothing of what is to come
+-- ---- the results that say nothing of what remains
 
 -- memory was refused
 abbrev pub IsOutOfMemory : {A : Type 0} → Result A Error → Type 0
@@ -32,7 +34,7 @@ IsOutOfMemory r = r ≡ Err OutOfMemory
 abbrev pub IfOutOfMemory : {A : Type 0} → Result A Error → Type 0 → Type 0
 IfOutOfMemory r P = IfErr r (λ e. is_out_of_memory e ≡ true → P)
 
--- The answer is an `IoError`, and the source failed in the call: a read of it answered an Err, or nothing before its end.
+-- The result is an `IoError`, and the source failed in the call: a read of it returned an Err, or no bytes before its end.
 abbrev pub HasFailed : {X A : Type 0} → Result A Error → State X → State X → Type 0
 HasFailed r old new = IsErrAnd r IsIo × FailedIn old new
 
@@ -42,43 +44,56 @@ IsExcused r old new = IsOutOfMemory r ⊎ HasFailed r old new
 
 -- ---- codes
 
--- An Ok took just a code of what it answers.
-abbrev pub CodeIsSound : {X A Y : Type 0} → (A → Y) → Result A Error → (Y → List X → Type 0) → State X → State X → Type 0
+-- An Ok consumed just a code of what it returned.
+abbrev pub CodeIsSound : {X A Y : Type 0} → (A → Y) → Result A Error → (Y → List X → Type 0)
+    → State X → State X → Type 0
 CodeIsSound view r Code old new = IfOk r (λ x. Consumed old new (Code (view x)))
 
--- Where a code stands, whatever follows, it is answered and alone taken, or the answer is excused.
-abbrev pub CodeIsComplete : {X A Y : Type 0} → (A → Y) → Result A Error → (Y → List X → Type 0) → State X → State X → Type 0
+-- Where a code stands, whatever follows, it is returned and alone consumed, or the result is excused.
+abbrev pub CodeIsComplete : {X A Y : Type 0} → (A → Y) → Result A Error → (Y → List X → Type 0)
+    → State X → State X → Type 0
 CodeIsComplete {X} {A} {Y} view r Code old new =
-    (y : Y) (t rest : List X) → Code y t → Remains old (t ++ rest) → (IsOkAnd r (λ x. view x ≡ y) × Remains new rest) ⊎ IsExcused r old new
+    (y : Y) (t rest : List X) → Code y t → Remains old (t ++ rest)
+    → (IsOkAnd r (λ x. view x ≡ y) × Remains new rest) ⊎ IsExcused r old new
 
 -- ---- faults
 
--- An Err is want of memory, an `IoError`, or the name of a fault that what was taken has.
-abbrev pub FaultIsSound : {X A : Type 0} → Result A Error → (Fault → List X → Type 0) → State X → State X → Type 0
-FaultIsSound {X} r Bad old new = IfErr r (λ e. (e ≡ OutOfMemory) ⊎ (IsIo e ⊎ (old.known ≡ true → (f : Fault) × IsFault f e × Consumed old new (Bad f))))
+-- An Err is `OutOfMemory`, an `IoError`, or names a fault, and what was consumed has that fault.
+abbrev pub FaultIsSound : {X A : Type 0} → Result A Error → (Fault → List X → Type 0) → State X
+    → State X → Type 0
+FaultIsSound {X} r Bad old new =
+    IfErr r (λ e. (e ≡ OutOfMemory)
+    ⊎ (IsIo e ⊎ (old.known ≡ true → (f : Fault) × IsFault f e × Consumed old new (Bad f))))
 
--- Where a fault stands it is named and alone taken, or the answer is excused.
-abbrev pub FaultIsComplete : {X A : Type 0} → Result A Error → (Fault → List X → Type 0) → State X → State X → Type 0
+-- Where a fault stands it is named and alone consumed, or the result is excused.
+abbrev pub FaultIsComplete : {X A : Type 0} → Result A Error → (Fault → List X → Type 0) → State X
+    → State X → Type 0
 FaultIsComplete {X} r Bad old new =
-    (f : Fault) (t rest : List X) → Bad f t → Remains old (t ++ rest) → (IsErrAnd r (IsFault f) × Remains new rest) ⊎ IsExcused r old new
+    (f : Fault) (t rest : List X) → Bad f t → Remains old (t ++ rest)
+    → (IsErrAnd r (IsFault f) × Remains new rest) ⊎ IsExcused r old new
 
 -- ---- neither
 
--- no code and no fault stands at the front of s
-pub record HasNeither {X Y : Type 0} (Code : Y → List X → Type 0) (Bad : Fault → List X → Type 0) (s : List X) : Type 0 where
+-- neither a code nor a fault stands at the front of s
+pub record HasNeither {X Y : Type 0} (Code : Y → List X → Type 0) (Bad : Fault → List X → Type 0)
+    (s : List X) : Type 0 where
   pub no_code : (y : Y) (t rest : List X) → Code y t → s ≡ t ++ rest → ⊥
   pub no_fault : (f : Fault) (t rest : List X) → Bad f t → s ≡ t ++ rest → ⊥
 
--- Where neither stands the answer is an `IoError`, or want of memory.
-abbrev pub ElseIoError : {X A Y : Type 0} → Result A Error → (Y → List X → Type 0) → (Fault → List X → Type 0) → State X → State X → Type 0
-ElseIoError {X} {A} {Y} r Code Bad old new = old.known ≡ true → HasNeither Code Bad old.remaining → IsOutOfMemory r ⊎ IsErrAnd r IsIo
+-- Where neither stands the result is an `IoError` or `OutOfMemory`.
+abbrev pub ElseIoError : {X A Y : Type 0} → Result A Error → (Y → List X → Type 0)
+    → (Fault → List X → Type 0) → State X → State X → Type 0
+ElseIoError {X} {A} {Y} r Code Bad old new =
+    old.known ≡ true → HasNeither Code Bad old.remaining → IsOutOfMemory r ⊎ IsErrAnd r IsIo
 
--- An Err leaves a rest of the bytes that were to come.
+-- An Err leaves a suffix of the bytes that remained.
 abbrev pub LeavesRest : {X A : Type 0} → Result A Error → State X → State X → Type 0
-LeavesRest r old new = IfErr r (λ e. old.known ≡ true → (new.known ≡ true) × IsRest old.bytes new.bytes)
+LeavesRest r old new =
+    IfErr r (λ e. old.known ≡ true → (new.known ≡ true) × IsRest old.bytes new.bytes)
 
 -- all of it
-pub record Promises {X A Y : Type 0} (view : A → Y) (r : Result A Error) (Code : Y → List X → Type 0) (Bad : Fault → List X → Type 0) (old new : State X) : Type 0 where
+pub record Promises {X A Y : Type 0} (view : A → Y) (r : Result A Error)
+    (Code : Y → List X → Type 0) (Bad : Fault → List X → Type 0) (old new : State X) : Type 0 where
   pub sound : CodeIsSound view r Code old new
   pub complete : CodeIsComplete view r Code old new
   pub fault : FaultIsSound r Bad old new
@@ -86,31 +101,43 @@ pub record Promises {X A Y : Type 0} (view : A → Y) (r : Result A Error) (Code
   pub io : ElseIoError r Code Bad old new
   pub front : LeavesRest r old new
 
--- ---- a field, or the end, where fewer than count are left
+-- ---- a field, or the end of input, where fewer than count are left
 
--- A value that is answered: just a code of it was taken.
-abbrev pub FoundIsSound : {X A Y : Type 0} → (A → Y) → Result (Option A) Error → (Y → List X → Type 0) → State X → State X → Type 0
-FoundIsSound view r Code old new = IfOk r (λ found. IfSome found (λ x. Consumed old new (Code (view x))))
+-- A value that is returned: just a code of it was consumed.
+abbrev pub FoundIsSound : {X A Y : Type 0} → (A → Y) → Result (Option A) Error
+    → (Y → List X → Type 0) → State X → State X → Type 0
+FoundIsSound view r Code old new =
+    IfOk r (λ found. IfSome found (λ x. Consumed old new (Code (view x))))
 
--- Where a code stands, whatever follows, it is answered and alone taken, or the answer is excused.
-abbrev pub FoundIsComplete : {X A Y : Type 0} → (A → Y) → Result (Option A) Error → (Y → List X → Type 0) → State X → State X → Type 0
+-- Where a code stands, whatever follows, it is returned and alone consumed, or the result is excused.
+abbrev pub FoundIsComplete : {X A Y : Type 0} → (A → Y) → Result (Option A) Error
+    → (Y → List X → Type 0) → State X → State X → Type 0
 FoundIsComplete {X} {A} {Y} view r Code old new =
-    (y : Y) (t rest : List X) → Code y t → Remains old (t ++ rest) → (IsOkAnd r (λ found. IsSomeAnd found (λ x. view x ≡ y)) × Remains new rest) ⊎ IsExcused r old new
+    (y : Y) (t rest : List X) → Code y t → Remains old (t ++ rest)
+    → (IsOkAnd r (λ found. IsSomeAnd found (λ x. view x ≡ y)) × Remains new rest)
+    ⊎ IsExcused r old new
 
--- None says that fewer than count were to come, which were taken.
+-- None says that fewer than count remained, which were consumed.
 abbrev pub NoneIsEof : {X A : Type 0} → ℕ → Result (Option A) Error → State X → State X → Type 0
-NoneIsEof count r old new = IfOk r (λ found. found ≡ None → old.known ≡ true → (length old.remaining < count) × Remains new [])
+NoneIsEof count r old new =
+    IfOk r (λ found. found ≡ None → old.known ≡ true → (length old.remaining < count)
+    × Remains new [])
 
--- Where fewer than count are to come they are taken, and None is answered, or the answer is excused.
+-- Where fewer than count remain they are consumed and None is returned, or the result is excused.
 abbrev pub EofIsNone : {X A : Type 0} → ℕ → Result (Option A) Error → State X → State X → Type 0
-EofIsNone {X} count r old new = (xs : List X) → Remains old xs → length xs < count → ((r ≡ Ok None) × Remains new []) ⊎ IsExcused r old new
+EofIsNone {X} count r old new =
+    (xs : List X) → Remains old xs → length xs < count → ((r ≡ Ok None) × Remains new [])
+    ⊎ IsExcused r old new
 
--- Where count or more are to come and neither a code nor a fault stands, the answer is an `IoError`, or want of memory.
-abbrev pub ElseIoErrorFrom : {X A Y : Type 0} → ℕ → Result A Error → (Y → List X → Type 0) → (Fault → List X → Type 0) → State X → State X → Type 0
-ElseIoErrorFrom count r Code Bad old new = count ≤ length old.remaining → ElseIoError r Code Bad old new
+-- Where count or more remain and neither a code nor a fault stands, the result is an `IoError` or `OutOfMemory`.
+abbrev pub ElseIoErrorFrom : {X A Y : Type 0} → ℕ → Result A Error → (Y → List X → Type 0)
+    → (Fault → List X → Type 0) → State X → State X → Type 0
+ElseIoErrorFrom count r Code Bad old new =
+    count ≤ length old.remaining → ElseIoError r Code Bad old new
 
 -- all of it
-pub record EofPromises {X A Y : Type 0} (count : ℕ) (view : A → Y) (r : Result (Option A) Error) (Code : Y → List X → Type 0) (Bad : Fault → List X → Type 0) (old new : State X) : Type 0 where
+pub record EofPromises {X A Y : Type 0} (count : ℕ) (view : A → Y) (r : Result (Option A) Error)
+    (Code : Y → List X → Type 0) (Bad : Fault → List X → Type 0) (old new : State X) : Type 0 where
   pub sound : FoundIsSound view r Code old new
   pub complete : FoundIsComplete view r Code old new
   pub at_end : NoneIsEof count r old new

@@ -1,4 +1,4 @@
--- What the calls of a `Bitstream` promise, a word each; `old` and `new` are the stream of bits before and after the call.
+-- What the calls of a `Bitstream` promise, one word each; `old` and `new` are the stream of bits before and after the call.
 use Rattle.std.specs.Prelude.{ℕ, ◌<◌, Bool, true, false, [], ◌∷◌, ◌++◌, length, replicate, IfOk, OnErr, Result}
 use Rattle.claxon_format.specs.read.Bits.{bit_at, number_at, unary_at}
 use Rattle.claxon_input.specs.BufferedBits.{skipped_bits_at}
@@ -14,56 +14,66 @@ FewAreLeft new = length (left_over new) < 8
 
 -- ---- a number of w bits
 
-module _ {R E : Type 0} {g : _} (source : R → Source ℕ) (w : ℕ) (old : Bitstream R g) (result : Result ℕ E) (new : Bitstream R g) where
-  -- Just the bits of the number that is answered were taken.
+module _ {R E : Type 0} {g : _} (source : R → Source ℕ) (w : ℕ) (old : Bitstream R g)
+    (result : Result ℕ E) (new : Bitstream R g) where
+  -- Just the bits of the returned number were consumed.
   abbrev pub NumberIsSound : Type 0
   NumberIsSound = IfOk result (λ n. TakesNumber (bit_state source old) (bit_state source new) w n)
 
-  -- An Err says that fewer bits were to come and all were taken, or that the source failed; none is left over.
+  -- An Err says that fewer bits remained and all were consumed, or that the source failed; none is left over.
   abbrev pub NumberFailureOrEof : Type 0
-  NumberFailureOrEof = OnErr result (BitsFailureOrEof (bit_state source old) (bit_state source new) w)
+  NumberFailureOrEof =
+      OnErr result (BitsFailureOrEof (bit_state source old) (bit_state source new) w)
 
-  -- What was answered and taken is what the format's reader gives.
+  -- What was returned and consumed is what the format's reader gives.
   abbrev pub NumberIsRead : Type 0
   NumberIsRead = GivesIo (λ x. x) result (number_at w) (bits_in source old) (bits_in source new)
 
 -- ---- a bit
 
-module _ {R E : Type 0} {g : _} (source : R → Source ℕ) (old : Bitstream R g) (result : Result Bool E) (new : Bitstream R g) where
-  -- Just the bit that is answered was taken.
+module _ {R E : Type 0} {g : _} (source : R → Source ℕ) (old : Bitstream R g)
+    (result : Result Bool E) (new : Bitstream R g) where
+  -- Just the returned bit was consumed.
   abbrev pub BitIsSound : Type 0
-  BitIsSound = IfOk result (λ bit. TakesBits (bit_state source old) (bit_state source new) (bit ∷ []))
+  BitIsSound =
+      IfOk result (λ bit. TakesBits (bit_state source old) (bit_state source new) (bit ∷ []))
 
-  -- An Err says that none was to come, or that the source failed; none is left over.
+  -- An Err says that no bit remained, or that the source failed; none is left over.
   abbrev pub BitFailureOrEof : Type 0
   BitFailureOrEof = OnErr result (BitsFailureOrEof (bit_state source old) (bit_state source new) 1)
 
-  -- What was answered and taken is what the format's reader gives.
+  -- What was returned and consumed is what the format's reader gives.
   abbrev pub BitIsRead : Type 0
   BitIsRead = GivesIo (λ x. x) result bit_at (bits_in source old) (bits_in source new)
 
--- ---- zeros up to a one
+-- ---- a unary number: zeros up to a one
 
-module _ {R E : Type 0} {g : _} (source : R → Source ℕ) (old : Bitstream R g) (result : Result ℕ E) (new : Bitstream R g) where
-  -- Just as many zeros as are answered were taken, and a one.
+module _ {R E : Type 0} {g : _} (source : R → Source ℕ) (old : Bitstream R g) (result : Result ℕ E)
+    (new : Bitstream R g) where
+  -- Just the returned number of zeros was consumed, and the one after them.
   abbrev pub UnaryIsSound : Type 0
-  UnaryIsSound = IfOk result (λ q. TakesBits (bit_state source old) (bit_state source new) (replicate q false ++ true ∷ []))
+  UnaryIsSound =
+      IfOk result (λ q. TakesBits (bit_state source old) (bit_state source new)
+      (replicate q false ++ true ∷ []))
 
-  -- An Err says that no one came among 2^32 bits, or that the source failed; none is left over.
+  -- An Err says that no one stands among the next 2^32 bits, or that the source failed; none is left over.
   abbrev pub UnaryFailureOrNoOne : Type 0
-  UnaryFailureOrNoOne = OnErr result (FailureOrNoOneBit (bit_state source old) (bit_state source new))
+  UnaryFailureOrNoOne =
+      OnErr result (FailureOrNoOneBit (bit_state source old) (bit_state source new))
 
-  -- What was answered and taken is what the format's reader gives.
+  -- What was returned and consumed is what the format's reader gives.
   abbrev pub UnaryIsRead : Type 0
   UnaryIsRead = GivesIo (λ x. x) result unary_at (bits_in source old) (bits_in source new)
 
--- ---- bits that are passed over
+-- ---- bits that are skipped
 
-module _ {R A E : Type 0} {g : _} (source : R → Source ℕ) (n : ℕ) (old : Bitstream R g) (result : Result A E) (new : Bitstream R g) where
-  -- So many bits were passed over, or fewer were to come, or the source failed.
+module _ {R A E : Type 0} {g : _} (source : R → Source ℕ) (n : ℕ) (old : Bitstream R g)
+    (result : Result A E) (new : Bitstream R g) where
+  -- n bits were skipped, or fewer remained, or the source failed.
   abbrev pub BitsAreSkipped : Type 0
-  BitsAreSkipped = GivesIo (λ x. tt) result (skipped_bits_at n) (bits_in source old) (bits_in source new)
+  BitsAreSkipped =
+      GivesIo (λ x. tt) result (skipped_bits_at n) (bits_in source old) (bits_in source new)
 
-  -- After an Err no bit is left over, and a front of the bytes to come was taken.
+  -- After an Err no bit is left over, and a prefix of the remaining bytes was consumed.
   abbrev pub SkipDropsBits : Type 0
   SkipDropsBits = OnErr result (DropsBits (bit_state source old) (bit_state source new))

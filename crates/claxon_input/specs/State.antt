@@ -1,4 +1,4 @@
--- The state of a reader: what its source still gives, seen as bits, where X is Bool, or as bytes, where it is ℕ.
+-- The state of a reader: what remains of its source, as bits where X is Bool, or as bytes where it is ℕ.
 use Rattle.std.specs.Borrow.{GName}
 use Rattle.std.specs.Prelude.{ℕ, Option, None, Some, Bool, true, false, List, [], ◌++◌}
 use Rattle.claxon_format.specs.Bits.{bits_of}
@@ -6,8 +6,8 @@ use Rattle.claxon_input.specs.Source.{Source}
 use Rattle.claxon_input.specs.Bitstream.{bit_state}
 use Rattle.claxon_input.specs.declared.bits.Bitstream.{Bitstream}
 
--- What a source still gives: whether what is to come is known, this, the bytes of it that are still in the source, the counts
--- of failures, the loans on the way, and what the remainders are past all that is to come and more.
+-- Whether it is known what remains; what remains; the bytes of it that are still in the source; the counts of failed reads; the
+-- loans; and the CRCs after all that remains and more.
 pub record State (X : Type 0) : Type 0 where
   pub known : Bool
   pub remaining : List X
@@ -17,34 +17,34 @@ pub record State (X : Type 0) : Type 0 where
   pub loans : List GName
   pub crcs : List ℕ → List ℕ
 
--- whether what is to come is known
+-- whether it is known what remains
 abbrev pub remaining_known : Option (List ℕ) → Bool
 remaining_known None = false
 remaining_known (Some all) = true
 
--- what is to come, seen by f; nothing where it isn't known
-abbrev pub known : {X : Type 0} → (List ℕ → List X) → Option (List ℕ) → List X
-known f None = []
-known f (Some all) = f all
+-- f of the bytes that remain; nothing where these aren't known
+abbrev pub remaining_as : {X : Type 0} → (List ℕ → List X) → Option (List ℕ) → List X
+remaining_as f None = []
+remaining_as f (Some all) = f all
 
--- the remainders past what is to come
+-- the CRCs after all that remains and more
 abbrev pub past : Option (List ℕ) → (List ℕ → List ℕ) → List ℕ → List ℕ
 past None crcs more = []
 past (Some all) crcs more = crcs (all ++ more)
 
--- the state of a source, whose bytes are seen by f
+-- the state of a source, where f of its bytes remains
 abbrev pub state_of : {X : Type 0} → (List ℕ → List X) → Source ℕ → State X
 state_of f s = record {
   known = remaining_known s.remaining;
-  remaining = known f s.remaining;
-  bytes = known (λ all. all) s.remaining;
+  remaining = remaining_as f s.remaining;
+  bytes = remaining_as (λ all. all) s.remaining;
   errors = s.errors;
   empty_reads = s.empty_reads;
   loans = s.loans;
   crcs = past s.remaining s.crcs;
 }
 
--- the left-over bits and those of the bytes to come
+-- the left-over bits, and then those of the remaining bytes
 abbrev pub bits_after : List Bool → List ℕ → List Bool
 bits_after left all = left ++ bits_of all
 

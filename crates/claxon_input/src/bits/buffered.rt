@@ -1,4 +1,4 @@
-//! Bits at hand: those that a `Bitstream` can give without asking its source, read without being taken.
+//! Buffered bits: those that a `Bitstream` has without asking its source, which are read without being consumed.
 ghost use Rattle.std.specs.Prelude.{◌≡◌, ◌+◌, ◌*◌, ◌-◌, ◌%◌, ◌^◌, ◌<◌, ◌≤◌, IfSome, length, take, drop};
 ghost use Rattle.claxon_format.specs.Bits.{bits, bits_of};
 ghost use Rattle.claxon_format.specs.read.Bits.{number_at, unary_at};
@@ -7,10 +7,10 @@ use super::Bitstream;
 use crate::input::ReadBytes;
 use std::io;
 
-/// Bits at hand, the first ones in the cache and the others in whole bytes.
+/// Buffered bits, the first ones in the cache and the others in whole bytes.
 ///
-/// Whoever has read some of them tells the `Bitstream` how many, by `skip_bits`. No call can fail, so words of a few bits are
-/// read at low cost.
+/// Whoever has read some of them tells the `Bitstream` how many, by `skip_bits`. No call can fail, so Rice codes of a few bits
+/// are read at low cost.
 #[derive(Clone, Copy)]
 pub struct BufferedBits<'a> {
     bytes: &'a [u8],
@@ -39,7 +39,7 @@ impl BufferedBits<'_> {
         self.count + (self.bytes.len() - self.at) as u32 * 8
     }
 
-    // Puts four more bytes into the cache, where it has too few bits and so many are left.
+    // Puts four more bytes into the cache, where it has fewer bits than these and four bytes are left.
     #[inline(always)]
     fn fill(&mut self, bits: u32)
         requires { bits ≤ 32 }
@@ -54,7 +54,7 @@ impl BufferedBits<'_> {
         self.at += 4;
     }
 
-    /// The number of zeros before the next one, where this is at hand and in reach of the cache. It is taken too.
+    /// The number of zeros before the next one bit, where the cache has it once it is refilled. That bit is consumed too.
     #[inline(always)]
     pub fn unary(&mut self) -> Option<u32>
         ensures { GivesBufferedOrNone unary_at self.old result self.new }
@@ -68,7 +68,7 @@ impl BufferedBits<'_> {
         Some(zeros)
     }
 
-    /// A number of at most 32 bits, where they are at hand.
+    /// A number of at most 32 bits, where they are buffered.
     #[inline(always)]
     pub fn number(&mut self, bits: u32) -> Option<u32>
         requires { bits ≤ 32 }
@@ -83,8 +83,8 @@ impl BufferedBits<'_> {
         Some(number as u32)
     }
 
-    /// The next 64 bits, where the cache and eight bytes behind it have them. None of them is taken: `consume` takes the first ones,
-    /// up to 56.
+    /// The next 64 bits, where the cache and the eight bytes after it have them. None of them is consumed: `consume` consumes the
+    /// first ones, up to 56.
     #[inline(always)]
     pub fn peek(&mut self) -> Option<u64>
         ensures same { bits_in_buffer self.new ≡ bits_in_buffer self.old }
@@ -101,7 +101,7 @@ impl BufferedBits<'_> {
         Some(peek)
     }
 
-    /// Takes so many bits, which stand in the cache.
+    /// Consumes this many bits, which the cache has.
     #[inline(always)]
     pub fn consume(&mut self, bits: u32)
         requires { bits ≤ in_cache self.now }
@@ -112,7 +112,7 @@ impl BufferedBits<'_> {
     }
 }
 
-// Four bytes as a number, the highest first.
+// Four bytes as a big-endian number.
 #[inline(always)]
 fn four_bytes(bytes: &[u8], at: usize) -> u32
     requires { at + 4 ≤ length bytes.now }
@@ -121,7 +121,7 @@ fn four_bytes(bytes: &[u8], at: usize) -> u32
     u32::from_be_bytes([bytes[at], bytes[at + 1], bytes[at + 2], bytes[at + 3]])
 }
 
-// Eight bytes as a number.
+// Eight bytes as a big-endian number.
 #[inline(always)]
 fn eight_bytes(bytes: &[u8], at: usize) -> u64
     requires { at + 8 ≤ length bytes.now }
@@ -144,7 +144,7 @@ impl<R: ReadBytes> Bitstream<R> {
     ghost use Rattle.claxon_input.specs.ReadBits.{BitsAreSkipped, FewAreLeft, SkipDropsBits};
     ghost use Rattle.claxon_input.specs.State.{bits_in};
 
-    /// The bits at hand. None of them is taken.
+    /// The buffered bits. None of them is consumed.
     pub fn buffered(&self) -> BufferedBits<'_>
         ensures { IsBufferOf result (bits_in R.source self.now) }
     {
@@ -158,7 +158,7 @@ impl<R: ReadBytes> Bitstream<R> {
         }
     }
 
-    /// Skips over so many bits. After an error none is left over.
+    /// Skips this many bits. After an error none is left over.
     #[tactic(auto, using(crate::proofs::BitSteps::few_bits))]
     pub fn skip_bits(&mut self, amount: u32) -> io::Result<()>
         ensures gives { BitsAreSkipped R.source amount self.old result self.new }
