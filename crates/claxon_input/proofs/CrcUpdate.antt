@@ -148,8 +148,8 @@ continues_16 s xs = continues 16 0x18005 (omega arith) (omega arith) (omega arit
 abbrev pub crcs_past_all : (List ℕ → ℕ) → List ℕ → (List ℕ → List ℕ) → List ℕ → List ℕ
 crcs_past_all update_crc left others more = update_crc (left ++ more) ∷ others (left ++ more)
 
-first_is : (f g : List ℕ → ℕ) (a b : List ℕ) (u v : List ℕ → List ℕ) → crcs_past_all g b v ≡ crcs_past_all f a u → g (b ++ []) ≡ f (a ++ [])
-first_is f g a b u v e = let k : crcs_past_all g b v [] ≡ crcs_past_all f a u [] = ap (λ (h : List ℕ → List ℕ). h []) e in cc
+outermost_is : (f g : List ℕ → ℕ) (a b : List ℕ) (u v : List ℕ → List ℕ) → crcs_past_all g b v ≡ crcs_past_all f a u → g (b ++ []) ≡ f (a ++ [])
+outermost_is f g a b u v e = let k : crcs_past_all g b v [] ≡ crcs_past_all f a u [] = ap (λ (h : List ℕ → List ℕ). h []) e in cc
 
 -- the CRCs after all that remains determine the CRC of d bits of what was consumed
 pub record DeterminesCrc (d : ℕ) (update_crc : ℕ → List ℕ → ℕ) (crc : Bits → ℕ) : Type 0 where
@@ -157,7 +157,7 @@ pub record DeterminesCrc (d : ℕ) (update_crc : ℕ → List ℕ → ℕ) (crc 
 
 determines_crc : (d p : ℕ) → 2 ≤ 2 ^ d → 2 ^ d ≤ p → p < 2 * 2 ^ d → p % 2 ≡ 1 → 8 ≤ d → DeterminesCrc d (update_crc d p) (λ x. divide d p 0 (x ++ replicate d false))
 determines_crc d p some low high odd eight = record {
-  determines = λ all rest x c u v h split e. of_bits d p some low high all rest x c odd eight h split (rw (append-nil rest, append-nil all) at (first_is (update_crc d p 0) (update_crc d p c) all rest u v e));
+  determines = λ all rest x c u v h split e. of_bits d p some low high all rest x c odd eight h split (rw (append-nil rest, append-nil all) at (outermost_is (update_crc d p 0) (update_crc d p c) all rest u v e));
 }
 
 pub determines_crc8 : DeterminesCrc 8 update_crc8 crc8
@@ -171,9 +171,9 @@ determines_crc16 = determines_crc 16 0x18005 (omega arith) (omega arith) (omega 
 -- ---- tables
 
 -- n bytes from j on, each put into the highest bits
-unfoldable highest : ℕ → ℕ → ℕ → List ℕ
-highest d zero j = []
-highest d (suc n) j = j * 2 ^ (d - 8) ∷ highest d n (j + 1)
+unfoldable high_bytes : ℕ → ℕ → ℕ → List ℕ
+high_bytes d zero j = []
+high_bytes d (suc n) j = j * 2 ^ (d - 8) ∷ high_bytes d n (j + 1)
 
 -- each CRC of a table is that at the same index of the other one, after one more byte of zeros
 unfoldable follows : ℕ → ℕ → List ℕ → List ℕ → Bool
@@ -187,30 +187,30 @@ unfoldable in_turn : ℕ → ℕ → List ℕ → List (List ℕ) → Bool
 in_turn d p ss [] = true
 in_turn d p ss (ts ∷ tables) = follows d p ss ts && in_turn d p ts tables
 
-table8 : follows 8 0x107 (highest 8 256 0) CRC8_TABLE ≡ true
-unfolding highest follows divide divide_step
+table8 : follows 8 0x107 (high_bytes 8 256 0) CRC8_TABLE ≡ true
+unfolding high_bytes follows divide divide_step
 table8 = refl
 
-tables16 : in_turn 16 0x18005 (highest 16 256 0) CRC16_TABLES ≡ true
-unfolding highest follows in_turn divide divide_step
+tables16 : in_turn 16 0x18005 (high_bytes 16 256 0) CRC16_TABLES ≡ true
+unfolding high_bytes follows in_turn divide divide_step
 tables16 = refl
 
 both : (a b : Bool) → (a && b) ≡ true → (a ≡ true) × (b ≡ true)
 both true b e = (refl, e)
 both false b e = absurd (false≢true e)
 
-length-highest : (d n j : ℕ) → length (highest d n j) ≡ n
-unfolding highest
-length-highest d zero j = refl
-length-highest d (suc n) j = ap suc (length-highest d n (j + 1))
+length-high_bytes : (d n j : ℕ) → length (high_bytes d n j) ≡ n
+unfolding high_bytes
+length-high_bytes d zero j = refl
+length-high_bytes d (suc n) j = ap suc (length-high_bytes d n (j + 1))
 
-highest_at : (d n j i : ℕ) → i < n → get_or (highest d n j) i 0 ≡ (j + i) * 2 ^ (d - 8)
-unfolding highest
-highest_at d zero j i h = absurd (omega arith)
-highest_at d (suc n) j zero h = ap (λ m. m * 2 ^ (d - 8)) (sym (add-zero j))
-highest_at d (suc n) j (suc i) h =
+high_bytes_at : (d n j i : ℕ) → i < n → get_or (high_bytes d n j) i 0 ≡ (j + i) * 2 ^ (d - 8)
+unfolding high_bytes
+high_bytes_at d zero j i h = absurd (omega arith)
+high_bytes_at d (suc n) j zero h = ap (λ m. m * 2 ^ (d - 8)) (sym (add-zero j))
+high_bytes_at d (suc n) j (suc i) h =
     let k : j + 1 + i ≡ j + suc i = omega arith in
-    highest_at d n (j + 1) i (omega arith) ∙ ap (λ m. m * 2 ^ (d - 8)) k
+    high_bytes_at d n (j + 1) i (omega arith) ∙ ap (λ m. m * 2 ^ (d - 8)) k
 
 follows-length : (d p : ℕ) (ss ts : List ℕ) → follows d p ss ts ≡ true → length ts ≡ length ss
 unfolding follows
@@ -242,12 +242,12 @@ table_at d p ss (ts ∷ tables) (suc n) i e l h =
 entry_8 : (i : ℕ) → i < 256 → get_or CRC8_TABLE i 0 ≡ zeros 8 0x107 8 i
 entry_8 i h =
     let m : (0 + i) * 2 ^ (8 - 8) ≡ i = omega arith in
-    follows_at 8 0x107 (highest 8 256 0) CRC8_TABLE i table8 (omega (arith, length-highest 8 256 0)) ∙ ap (zeros 8 0x107 8) (highest_at 8 256 0 i h ∙ m)
+    follows_at 8 0x107 (high_bytes 8 256 0) CRC8_TABLE i table8 (omega (arith, length-high_bytes 8 256 0)) ∙ ap (zeros 8 0x107 8) (high_bytes_at 8 256 0 i h ∙ m)
 
 pub entry_16 : (zeros i : ℕ) → zeros < 16 → i < 256 → get_or (get_or CRC16_TABLES zeros []) i 0 ≡ after_zeros (zeros + 1) (i * 256)
 entry_16 n i l h =
     let m : (0 + i) * 2 ^ (16 - 8) ≡ i * 256 = omega arith in
-    table_at 16 0x18005 (highest 16 256 0) CRC16_TABLES n i tables16 (omega arith) (omega (arith, length-highest 16 256 0)) ∙ ap (after_zeros (n + 1)) (highest_at 16 256 0 i h ∙ m)
+    table_at 16 0x18005 (high_bytes 16 256 0) CRC16_TABLES n i tables16 (omega arith) (omega (arith, length-high_bytes 16 256 0)) ∙ ap (after_zeros (n + 1)) (high_bytes_at 16 256 0 i h ∙ m)
 
 -- ---- the code's steps are those of the definition
 

@@ -22,9 +22,9 @@ use Rattle.claxon_input.specs.Gives.{IsRest, Consumes, FailureOr, FailedIn, Give
 pub same_function : {A B : Type 0} {f g : A → B} → ((x : A) → f x ≡ g x) → f ≡ g
 same_function h i x = h x i
 
-rest_after : {X : Type 0} (z s t m : List X) → s ≡ t ++ m → IsRest z s → IsRest z m
+is_rest_after : {X : Type 0} (z s t m : List X) → s ≡ t ++ m → IsRest z s → IsRest z m
 unfolding IsRest
-rest_after z s t m e h = (h.0 ++ t, h.1 ∙ ap (λ (l : List _). h.0 ++ l) e ∙ sym (append_assoc h.0 t m))
+is_rest_after z s t m e h = (h.0 ++ t, h.1 ∙ ap (λ (l : List _). h.0 ++ l) e ∙ sym (append_assoc h.0 t m))
 
 -- ---- what was consumed
 
@@ -51,7 +51,7 @@ is_known_after f g a b (Some all) (Some rest) bytes xs P l e c h t =
     record {
       known = refl;
       is = subst (λ (s : List _). P s (g rest)) (sym k) (h (g rest));
-      rest = λ z. rest_after z all bytes rest l;
+      rest = λ z. is_rest_after z all bytes rest l;
       crcs = past_same a b bytes all rest l (c tt);
     }
 
@@ -91,7 +91,7 @@ all_taken a b (Some all) None lost k l c h t = absurd l
 all_taken a b (Some all) (Some left) lost k l c h t = record {
   known = refl;
   is = (lt-ltb _ _ h.0, ap (remaining_as (λ all. all)) h.1);
-  rest = λ z. rest_after z all lost left l;
+  rest = λ z. is_rest_after z all lost left l;
   crcs = past_same a b lost all left l (c tt);
 }
 
@@ -121,7 +121,7 @@ is_failing f g a b (Some all) None lost P Q e l c h t = absurd l
 is_failing f g a b (Some all) (Some left) lost P Q e l c h t = record {
   known = refl;
   why = elim c [ inl q ↦ inl (h (f all) q) | inr q ↦ inr (failed_in f g a b left e q) ];
-  rest = λ z. rest_after z all lost left l;
+  rest = λ z. is_rest_after z all lost left l;
 }
 
 failure_or_by : {X : Type 0} (f g : List ℕ → List X) {a b : Source ℕ} (P Q : List X → Type 0) → MovesPastSome a b

@@ -3,7 +3,7 @@ use Rattle.claxon_format.proofs.Numbers.{length-bits}
 use Rattle.claxon_input.specs.Bitstream.{bit_state}
 use Rattle.claxon_input.specs.State.{bits_in}
 use Rattle.claxon_input.proofs.BitSteps.{cut_in_cache, empty_bits}
-use Rattle.claxon_input.proofs.Sources.{on_err, rest_after}
+use Rattle.claxon_input.proofs.Sources.{on_err, moves_past_some_after}
 use Rattle.claxon_input.proofs.States.{gives_io_err}
 use Rattle.claxon_input.proofs.BufferedBitSteps.{consumes_skipped_bits, failure_or_skip, failure_or_last, last_skipped}
 use Rattle.claxon_input.proofs.bits.Bitstream.skip_bits.Goals as goal
@@ -41,4 +41,4 @@ returns-in_err-skip-clause-err g c = on_err c.from_residual.result (record { res
 
 pub returns-in_err-last-clause-err : goal.returns-in_err-last-clause-err
 returns-in_err-last-clause-err g c =
-    on_err c.from_residual-in_err-last.result (record { rest = rest_after _ _ _ _ c.in_ok-skip.ensures.ok.2 c.in_err-last.ensures.err.rest; emptied = search (rules, empty_bits) })
+    on_err c.from_residual-in_err-last.result (record { rest = moves_past_some_after _ _ _ _ c.in_ok-skip.ensures.ok.2 c.in_err-last.ensures.err.rest; emptied = search (rules, empty_bits) })
