@@ -1,4 +1,4 @@
--- Fields of one kind, one after another, that are read from the bits at hand.
+-- Consecutive fields of one type, decoded from the buffered bits.
 use Rattle.std.proofs.Common.{◌≡◌, Bool, ℕ, ◌+◌, ◌-◌, ◌<◌, ◌≤◌, List, [], ◌++◌, length, take, drop, set, refl, sym, ap, subst, ◌∙◌, arith, ℤ, take-add, of_z, to_z, w32, FitsSigned}
 use Rattle.std.proofs.lemmas.Int.{to_z-of_z}
 use Rattle.std.proofs.lemmas.List.{take_more_set, take_at, drop_at, take_all, length-set, length-take, length-take-le, length-drop}
@@ -12,7 +12,7 @@ use Rattle.claxon_input.specs.State.{State}
 use Rattle.claxon_input.specs.Gives.{Consumes}
 use Rattle.claxon_input.proofs.FieldLoops.{TimesSoFar, with_front, times_add, times_next, times_push, times_several}
 
--- so many fields were read and put at the front of xs
+-- `count` fields were decoded to the front of xs
 pub record FieldsSoFar {A : Type 0} (read : Bits → Reading Bool A) (xs : List A) (count : ℕ) (old new : BufferedBits) : Type 0 where
   pub so_far : (rest : Bits) → times_at count read (bits_in_buffer old ++ rest) ≡ Done (take count xs) (bits_in_buffer new ++ rest)
 
@@ -26,7 +26,7 @@ fields_next {read = read} {xs = xs} {count = count} x {a = a} {b = b} {c = c} lt
       ∙ ap (λ (t : List _). Done t (bits_in_buffer c ++ rest)) (sym (take_more_set xs count x lt));
 }
 
--- one, or none, of which the bits at hand were those of a before
+-- one field, or none, where the buffered bits are those of a
 pub one_field : (read : Bits → Reading Bool ℤ) (xs : List ℤ) (x : ℤ) (a b c : BufferedBits) → 0 < length xs → bits_in_buffer b ≡ bits_in_buffer a → GivesBuffered b c read x → GivesBuffered a c (times_at 1 read) (take 1 (set xs 0 x))
 one_field read xs x a b c lt same e rest = ap (λ (t : Bits). times_at 1 read (t ++ rest)) (sym same) ∙ (fields_next {read = read} {xs = xs} {count = 0} x {a = b} {b = b} {c = c} lt (fields_begin read xs b) e).so_far rest
 
@@ -34,13 +34,13 @@ pub no_field : (read : Bits → Reading Bool ℤ) (a c : BufferedBits) → bits_
 unfolding times_at each_at
 no_field read a c same rest = ap (λ (t : Bits). Done [] (t ++ rest)) (sym same)
 
--- several more, which were put into the rest of xs
+-- more fields, decoded to the rest of xs
 pub fields_more : (read : Bits → Reading Bool ℤ) (xs ys : List ℤ) (count more : ℕ) (a b c : BufferedBits) → count ≤ length xs → more ≤ length ys → length ys ≡ length (take (length xs - count) (drop count xs)) → FieldsSoFar read xs count a b
     → GivesBuffered b c (times_at more read) (take more ys) → FieldsSoFar read (put_mid count (length xs - count) xs ys) (count + more) a c
 fields_more read xs ys count more a b c le few same h e =
     let front : length (take count xs) ≡ count = length-take-le count xs le in
     let whole : length (put_mid count (length xs - count) xs ys) ≡ length xs = same_len_mid count (length xs - count) xs ys same in
-    let room : length ys ≡ length xs - count = same ∙ omega (arith, length-take (length xs - count) (drop count xs), length-drop count xs) in
+    let capacity : length ys ≡ length xs - count = same ∙ omega (arith, length-take (length xs - count) (drop count xs), length-drop count xs) in
     let full : put_mid count (length xs - count) xs ys ≡ take count xs ++ ys
     = sym (take_all (count + (length xs - count)) (put_mid count (length xs - count) xs ys) (omega arith)) ∙ take-put_mid count (length xs - count) xs ys (count + (length xs - count)) (omega arith) (omega arith) in
     let part : take (count + more) (put_mid count (length xs - count) xs ys) ≡ take count xs ++ take more ys
@@ -56,23 +56,23 @@ fields_end read xs count more a c none h =
     let e : count + more ≡ count = omega arith in
     subst (λ (n : ℕ). GivesBuffered a c (times_at n read) (take n xs)) e h.so_far
 
--- ---- fields that were put into the rest of a slice
+-- ---- fields read into the rest of a slice
 
 pub fields_put : {read : Bits → Reading Bool ℤ} {n start : ℕ} {xs : List ℤ} (count : ℕ) (ys : List ℤ) {a b c : State Bool} → start ≤ length xs → count ≤ length ys → length ys ≡ length (take (length xs - start) (drop start xs)) → TimesSoFar read n xs start a b
     → Consumes b c (λ s m. times_at count read s ≡ Done (take count ys) m) → TimesSoFar read n (put_mid start (length xs - start) xs ys) (start + count) a c
 fields_put {start = start} {xs = xs} count ys le few same h e =
-    let room : length ys ≡ length xs - start = same ∙ omega (arith, length-take (length xs - start) (drop start xs), length-drop start xs) in
+    let capacity : length ys ≡ length xs - start = same ∙ omega (arith, length-take (length xs - start) (drop start xs), length-drop start xs) in
     let whole : length (put_mid start (length xs - start) xs ys) ≡ length xs = same_len_mid start (length xs - start) xs ys same in
     let full : take (start + (length xs - start)) (put_mid start (length xs - start) xs ys) ≡ take start xs ++ ys = take-put_mid start (length xs - start) xs ys (start + (length xs - start)) (omega arith) (omega arith) in
     times_several ys (put_mid start (length xs - start) xs ys) count (sym (take_all (start + (length xs - start)) (put_mid start (length xs - start) xs ys) (omega arith)) ∙ full) whole le few h e
 
 pub fields_fit : (start count : ℕ) (xs ys : List ℤ) → start ≤ length xs → count ≤ length ys → length ys ≡ length (take (length xs - start) (drop start xs)) → start + count ≤ length (put_mid start (length xs - start) xs ys)
 fields_fit start count xs ys le few same =
-    let room : length ys ≡ length xs - start = same ∙ omega (arith, length-take (length xs - start) (drop start xs), length-drop start xs) in
+    let capacity : length ys ≡ length xs - start = same ∙ omega (arith, length-take (length xs - start) (drop start xs), length-drop start xs) in
     let whole : length (put_mid start (length xs - start) xs ys) ≡ length xs = same_len_mid start (length xs - start) xs ys same in
     omega arith
 
--- and one more, by itself
+-- one more field
 pub filled_one : {read : Bits → Reading Bool ℤ} {n i : ℕ} {xs : List ℤ} (x : ℤ) {a b c : State Bool} → FitsSigned w32 x → i < length xs → TimesSoFar read n xs i a b → Consumes b c (λ s m. read s ≡ Done x m)
     → (i + 1 ≤ length (set xs i (to_z w32 (of_z w32 x)))) × TimesSoFar read n (set xs i (to_z w32 (of_z w32 x))) (i + 1) a c
 filled_one {i = i} {xs = xs} x f lt h k = rw (to_z-of_z w32 x f) (omega (arith, length-set xs i x), times_next x lt h k)

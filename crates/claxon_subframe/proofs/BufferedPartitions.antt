@@ -1,4 +1,4 @@
--- Partitions that are read from the bits at hand.
+-- Partitions decoded from the buffered bits.
 use Rattle.std.proofs.Common.{◌≡◌, ◌≢◌, ℕ, ◌+◌, ◌-◌, ◌*◌, ◌%◌, ◌^◌, ◌<◌, ◌≤◌, Bool, false, eqb, List, [], ◌++◌, length, take, drop, replicate, sym, ap, ◌∙◌, arith, ℤ}
 use Rattle.std.specs.List.{flat_map}
 use Rattle.std.proofs.lemmas.List.{take_all}
@@ -16,20 +16,20 @@ use Rattle.claxon_input.specs.BufferedBits.{bits_in_buffer, GivesBuffered}
 use Rattle.claxon_input.specs.declared.bits.buffered.BufferedBits.{BufferedBits}
 use Rattle.claxon_subframe.specs.SubframeFields.{method_of}
 use Rattle.claxon_subframe.specs.declared.subframe.RicePartitionType.{RicePartitionType}
-use Rattle.claxon_subframe.proofs.Joined.{joined_push}
+use Rattle.claxon_subframe.proofs.JoinedPartitions.{joined_push}
 use Rattle.claxon_subframe.proofs.PartitionLoop.{front_replaced}
 use Rattle.claxon_subframe.proofs.PartitionParameter.{IsRiceParameter, rice_parameter_of, partition_rice}
 
--- ---- partitions of one length, one after another
+-- ---- consecutive partitions of one length
 
 pub Reads-joined : (method n each : ℕ) → method < 2 → Reads Bool (List ℤ) (joined_at (partition_at method) (replicate n each)) (Mapped (flat_map (λ x. x)) (EachWith (Partition method) (replicate n each))) Never
 Reads-joined method n each lt =
     Reads-map (flat_map (λ x. x)) (Reads-same (Reads-each (replicate n each) (λ l. Reads-partition method l lt)) (λ a t c. c) (λ a t c. c)
     (λ f t c. absurd ((some_never (Partition method) (replicate n each) (λ l. never)).none f t c)) (λ f t c. absurd c))
 
--- ---- what a loop did
+-- ---- the loop
 
--- so many partitions were read and put at the front of xs
+-- `whole` partitions were decoded to the front of xs
 pub record BufferedPartitionsSoFar (method each whole : ℕ) (xs : List ℤ) (old new : BufferedBits) : Type 0 where
   pub so_far : GivesBuffered old new (joined_at (partition_at method) (replicate whole each)) (take (whole * each) xs)
 
@@ -39,10 +39,10 @@ buffered_partitions_begin method each xs a = let none : 0 ≡ 0 * each = omega a
 
 pub buffered_partitions_next : (method each whole start : ℕ) (xs ys : List ℤ) (a b c : BufferedBits) → start ≡ whole * each → start + each ≤ length xs → length ys ≡ length (take (start + each - start) (drop start xs)) → length ys ≡ each → BufferedPartitionsSoFar method each whole xs a b
     → GivesBuffered b c (partition_at method (length ys)) ys → BufferedPartitionsSoFar method each (whole + 1) (put_mid start (start + each - start) xs ys) a c
-buffered_partitions_next method each whole start xs ys a b c is room same len h e =
+buffered_partitions_next method each whole start xs ys a b c is capacity same len h e =
     let k : (whole + 1) * each ≡ start + each = grind (arith, is) in
     let new = put_mid start (start + each - start) xs ys in
-    let part : take (whole * each) xs ++ ys ≡ take ((whole + 1) * each) new = ap (λ (n : ℕ). take n xs ++ ys) (sym is) ∙ sym (front_replaced start each xs ys room same) ∙ ap (λ (n : ℕ). take n new) (sym k) in
+    let part : take (whole * each) xs ++ ys ≡ take ((whole + 1) * each) new = ap (λ (n : ℕ). take n xs ++ ys) (sym is) ∙ sym (front_replaced start each xs ys capacity same) ∙ ap (λ (n : ℕ). take n new) (sym k) in
     record {
       so_far = λ rest. joined_push (partition_at method) each whole (bits_in_buffer a ++ rest) (bits_in_buffer b ++ rest) (bits_in_buffer c ++ rest) (take (whole * each) xs) ys (h.so_far rest) (ap (λ (n : ℕ). partition_at method n (bits_in_buffer b ++ rest)) (sym len) ∙ e rest)
           ∙ ap (λ (l : List ℤ). Done l (bits_in_buffer c ++ rest)) part;
@@ -62,10 +62,10 @@ buffered_rice_parameter t {n} {k} a b is e not = rice_parameter_of t n k is (par
 pub least_bits : (n k : ℕ) → n < 65536 → k ≤ 30 → n * (k + 1) < 4294967296
 least_bits n k lt le = let p : n * (k + 1) ≤ n * 31 = grind (arith, le) in omega arith
 
--- such a parameter, and as many words as there are entries
-pub rice_codes_partition : (method k n words : ℕ) (xs : List ℤ) (a b c : BufferedBits) → n ≡ 4 + method → eqb k (escape method) ≡ false → length xs ≤ words → words ≤ length xs → GivesBuffered a b (number_at n) k
-    → ((rest : Bits) → times_at words (rice_code_at k) (bits_in_buffer b ++ rest) ≡ Done (take words xs) (bits_in_buffer c ++ rest)) → GivesBuffered a c (partition_at method (length xs)) xs
-rice_codes_partition method k n words xs a b c is plain all few number h rest =
-    let whole : words ≡ length xs = omega arith in
-    let words_are : times_at (length xs) (rice_code_at k) (bits_in_buffer b ++ rest) ≡ Done xs (bits_in_buffer c ++ rest) = ap (λ (j : ℕ). times_at j (rice_code_at k) (bits_in_buffer b ++ rest)) (sym whole) ∙ h rest ∙ ap (λ (l : List ℤ). Done l (bits_in_buffer c ++ rest)) (take_all words xs all) in
-    partition_rice method n (length xs) (bits_in_buffer a ++ rest) is plain (number rest) ∙ words_are
+-- a Rice parameter, and as many Rice codes as there are residual samples
+pub rice_codes_partition : (method k n codes : ℕ) (xs : List ℤ) (a b c : BufferedBits) → n ≡ 4 + method → eqb k (escape method) ≡ false → length xs ≤ codes → codes ≤ length xs → GivesBuffered a b (number_at n) k
+    → ((rest : Bits) → times_at codes (rice_code_at k) (bits_in_buffer b ++ rest) ≡ Done (take codes xs) (bits_in_buffer c ++ rest)) → GivesBuffered a c (partition_at method (length xs)) xs
+rice_codes_partition method k n codes xs a b c is not_escape all few number h rest =
+    let whole : codes ≡ length xs = omega arith in
+    let codes_are : times_at (length xs) (rice_code_at k) (bits_in_buffer b ++ rest) ≡ Done xs (bits_in_buffer c ++ rest) = ap (λ (j : ℕ). times_at j (rice_code_at k) (bits_in_buffer b ++ rest)) (sym whole) ∙ h rest ∙ ap (λ (l : List ℤ). Done l (bits_in_buffer c ++ rest)) (take_all codes xs all) in
+    partition_rice method n (length xs) (bits_in_buffer a ++ rest) is not_escape (number rest) ∙ codes_are

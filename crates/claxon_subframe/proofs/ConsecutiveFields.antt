@@ -1,4 +1,4 @@
--- A field of several, whose calls stand one after another: where a call went the rest of the field is left, and where it stops the field does.
+-- A field of consecutive fields, read by one call each: after a call the other fields are left, and where a call fails the whole fails.
 use Rattle.std.proofs.Common.{◌≡◌, List, ap, ◌∙◌}
 use Rattle.claxon_format.specs.Reading.{Reading, Done, bind}
 use Rattle.claxon_input.specs.declared.error.Error.{Error}
@@ -13,6 +13,6 @@ module _ {X Y Z : Type 0} {whole : List X → Reading X Z} {first : List X → R
   pub then_stops : {e : Error} {c : State X} → Stops e first b c → Stops e whole a c
   then_stops h = stops_after so_far (record { fault = λ s f rest p. ap (λ r. bind r next) p; short = λ s p. ap (λ r. bind r next) p }) h
 
--- what was read, in other words
+-- the same with an equal value
 pub consumes_as : {X Y : Type 0} {read : List X → Reading X Y} {x y : Y} {a b : State X} → x ≡ y → Consumes a b (λ s m. read s ≡ Done x m) → Consumes a b (λ s m. read s ≡ Done y m)
 consumes_as {b = b} e h = consumes_map _ h (λ p. p ∙ ap (λ z. Done z b.remaining) e)

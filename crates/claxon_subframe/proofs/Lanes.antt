@@ -139,7 +139,7 @@ products_fit_64 zs cs xs four hc hx =
     let sums : length (zip2 ◌+ℤ◌ zs (zip2 ◌*ℤ◌ cs xs)) ≡ length zs = length-zip2 ◌+ℤ◌ zs (zip2 ◌*ℤ◌ cs xs) (omega (arith, hc.four)) in
     record { four = length-map (zip2 ◌+ℤ◌ zs (zip2 ◌*ℤ◌ cs xs)) wrap_64 ∙ sums ∙ four; each = fit_wrapped (zip2 ◌+ℤ◌ zs (zip2 ◌*ℤ◌ cs xs)) }
 
--- ---- lanes moved by two
+-- ---- lanes shifted by two
 
 -- the four numbers of a vector, each as an operation gets it
 pub record Four (xs : List ℤ) : Type 0 where
@@ -164,7 +164,7 @@ moved_fit_64 before sums hb hs = absurd (omega (arith, hb.four, hs.four))
 pub fit_64_moved : {before sums xs : List ℤ} → LanesFit64 before → LanesFit64 sums → xs ≡ drop 2 before ++ take 2 sums → LanesFit64 xs
 fit_64_moved {before} {sums} {xs} hb hs e = subst LanesFit64 (sym e) (moved_fit_64 before sums hb hs)
 
--- the same of a call, which gets and gives vectors
+-- the same for a call, whose arguments and result are vectors
 pub moved_by : {before sums m : List ℤ} → LanesFit64 before → LanesFit64 sums → LanesFit64 m → m ≡ drop 2 (map (to_z w64) (map (of_z w64) before)) ++ take 2 (map (to_z w64) (map (of_z w64) sums))
     → map (to_z w64) (map (of_z w64) m) ≡ drop 2 before ++ take 2 sums
 moved_by {before} {sums} {m} hb hs hm e = same_fit_64 hm ∙ e ∙ rw (same_fit_64 hb, same_fit_64 hs) refl
@@ -176,14 +176,14 @@ pub later_is : (before sums ks x js y m r q : List ℤ) → LanesFit64 before �
 later_is before sums ks x js y m r q hb hs hk hx hj hy em er eq =
     let four : length (drop 2 before ++ take 2 sums) ≡ 4 = omega (arith, length-append (drop 2 before) (take 2 sums), length-drop 2 before, length-take 2 sums, hb.four, hs.four) in
     let first : r ≡ plus_products (drop 2 before ++ take 2 sums) ks x = er ∙ rw (em, same_lanes (omega arith) hk, same_lanes (omega arith) hx) refl in
-    let wide : LanesFit64 r = subst LanesFit64 (sym first) (products_fit_64 (drop 2 before ++ take 2 sums) ks x four hk hx) in
-    let second : q ≡ plus_products r js y = eq ∙ rw (same_fit_64 wide, same_lanes (omega arith) hj, same_lanes (omega arith) hy) refl in
-    let last : LanesFit64 q = subst LanesFit64 (sym second) (products_fit_64 r js y wide.four hj hy) in
+    let fits : LanesFit64 r = subst LanesFit64 (sym first) (products_fit_64 (drop 2 before ++ take 2 sums) ks x four hk hx) in
+    let second : q ≡ plus_products r js y = eq ∙ rw (same_fit_64 fits, same_lanes (omega arith) hj, same_lanes (omega arith) hy) refl in
+    let last : LanesFit64 q = subst LanesFit64 (sym second) (products_fit_64 r js y fits.four hj hy) in
     (same_fit_64 last ∙ second ∙ ap (λ (l : List ℤ). plus_products l js y) first, kept_fit_64 last)
 
 -- ---- coefficients
 
--- zeros behind coefficients add nothing
+-- zeros after the coefficients add nothing
 pub dot_trailing_zeros : (n : ℕ) (cs xs : List ℤ) → dot (cs ++ replicate n (pos 0)) xs ≡ dot cs xs
 dot_trailing_zeros zero [] xs = refl
 dot_trailing_zeros (suc n) [] [] = refl

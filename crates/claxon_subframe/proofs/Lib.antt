@@ -5,7 +5,7 @@ pub mod RiceCodeGroups
 pub mod BufferedFields
 pub mod SignExtension
 pub mod SkippedBits
-pub mod Joined
+pub mod JoinedPartitions
 pub mod PartitionLoop
 pub mod PartitionParameter
 pub mod BufferedPartitions
@@ -14,11 +14,11 @@ pub mod WastedBits
 pub mod ScaledSamples
 pub mod OrderZero
 pub mod ConsecutiveFields
-pub mod Predicted
+pub mod PredictedSubframes
 pub mod RestoreLoop
 pub mod Predictors
 pub mod Lanes
 pub mod PaddedCoefficients
-pub mod Sums
+pub mod PendingSums
 pub mod RestoreLoopByTwo
 pub mod TwelveLanes

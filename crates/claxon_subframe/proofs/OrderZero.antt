@@ -1,4 +1,4 @@
--- A fixed predictor of order 0, whose residual is the samples.
+-- A fixed predictor of order 0: the residual samples are the samples.
 use Rattle.std.proofs.Common.{◌≡◌, ℕ, Bool, false, ltb, List, [], ◌∷◌, refl, ap, ◌∙◌, arith, ℤ, pos, ◌+ℤ◌, w32}
 use Rattle.std.proofs.lemmas.Bool.{le-ltb}
 use Rattle.std.proofs.lemmas.Int.{ints, int_wrap_fits}
@@ -23,7 +23,6 @@ same_samples n s (Done e m) h = let t = (Reads-residual n 0).takes s e m h in ap
 same_samples n s (Faulty f m) h = refl
 same_samples n s Incomplete h = refl
 
--- of order 0 the residual is the samples
 pub fixed_0_at : (w n : ℕ) (s : Bits) → fixed_at w n 0 s ≡ residual_at n 0 s
 unfolding fixed_at times_at each_at
 fixed_0_at w n s = let b : ltb n 0 ≡ false = le-ltb n 0 (omega arith) in rw b (same_samples n s (residual_at n 0 s) refl)

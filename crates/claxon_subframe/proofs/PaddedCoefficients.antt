@@ -1,4 +1,4 @@
--- Coefficients as the last of n numbers, zeros before them, and the first n samples.
+-- Coefficients padded to n numbers with zeros before them, and the first n samples.
 use Rattle.std.proofs.Common.{◌≡◌, ℕ, zero, suc, ◌+◌, ◌-◌, ◌^◌, ◌<◌, ◌≤◌, min, inl, inr, List, [], ◌∷◌, ◌++◌, length, take, drop, reverse, replicate, get_or, set, append_assoc, refl, sym, ap, add-zero, subst, ◌∙◌, arith, ℤ, pos, ◌+ℤ◌, of_z, to_z, w16, w64, FitsSigned, unsigned_abs}
 use Rattle.std.proofs.lemmas.List.{take_more_set, take_more, take_all, append-nil, take-replicate, length-set, length-take, length-drop, drop_all, take-take, take-append-drop, drop-append-le, reverse-append, length-append, length-replicate, replicate-append-replicate, take-append-le}
 use Rattle.std.proofs.Math.Seq.{take-append_seam, drop-append_seam}
@@ -9,7 +9,7 @@ use Rattle.claxon_subframe.proofs.Predictors.{restored_all, abs_16, value_16}
 use Rattle.claxon_subframe.specs.Lanes.{AllWithin, Within}
 use Rattle.claxon_subframe.proofs.Lanes.{dot_trailing_zeros}
 
--- ---- zeros and coefficients behind them
+-- ---- zeros and coefficients after them
 
 within_zeros : (m n : ℕ) → AllWithin m (replicate n (pos 0))
 within_zeros m zero = tt
@@ -20,7 +20,7 @@ within_set m [] i x h k = tt
 within_set m (y ∷ ys) zero x h k = (h, k.1)
 within_set m (y ∷ ys) (suc i) x h k = (k.0, within_set m ys i x h k.1)
 
--- k zeros and i of the coefficients stand there, of n numbers
+-- of n numbers, the first are k zeros and i of the coefficients
 pub record Filled (n k i : ℕ) (cs xs : List ℤ) : Type 0 where
   pub long : length xs ≡ n
   pub front : take (k + i) xs ≡ replicate k (pos 0) ++ take i cs
@@ -35,7 +35,7 @@ filled_none n k cs le = record {
 
 pub filled_more : {n k i : ℕ} {cs xs : List ℤ} (x : ℤ) → i < length cs → k + i < n → FitsSigned w16 (get_or cs i (pos 0)) → x ≡ to_z w16 (of_z w16 (get_or cs i (pos 0))) → Filled n k i cs xs
     → Filled n k (i + 1) cs (set xs (k + i) (to_z w64 (of_z w64 x)))
-filled_more {n} {k} {i} {cs} {xs} x lt room f e h =
+filled_more {n} {k} {i} {cs} {xs} x lt capacity f e h =
     let value : to_z w64 (of_z w64 x) ≡ get_or cs i (pos 0) = ap (λ (y : ℤ). to_z w64 (of_z w64 y)) e ∙ value_16 (get_or cs i (pos 0)) f in
     let next : take (k + (i + 1)) (set xs (k + i) (to_z w64 (of_z w64 x))) ≡ take (k + i) xs ++ to_z w64 (of_z w64 x) ∷ []
     = ap (λ (m : ℕ). take m (set xs (k + i) (to_z w64 (of_z w64 x)))) (omega arith) ∙ take_more_set xs (k + i) (to_z w64 (of_z w64 x)) (omega (arith, h.long)) in
@@ -49,7 +49,7 @@ filled_more {n} {k} {i} {cs} {xs} x lt room f e h =
 pub filled_all : {n k i : ℕ} {cs xs : List ℤ} → length cs ≤ i → n ≤ k + i → Filled n k i cs xs → xs ≡ replicate k (pos 0) ++ cs
 filled_all {n} {k} {i} {cs} {xs} all full h = sym (take_all (k + i) xs (omega (arith, h.long))) ∙ h.front ∙ ap (λ (t : List ℤ). replicate k (pos 0) ++ t) (take_all i cs all)
 
--- ---- the first samples by themselves, and then the others
+-- ---- the first samples, then the others
 
 restore_same : (p q : List ℤ → ℤ) (past xs : List ℤ) → ((l : List ℤ) → p l ≡ q l) → restore p past xs ≡ restore q past xs
 restore_same p q past [] h = refl
@@ -68,7 +68,7 @@ length-restored : (p : List ℤ → ℤ) (n : ℕ) (xs : List ℤ) → n ≤ len
 length-restored p n xs le =
     omega (arith, length-append (take n xs) (restore p (reverse (take n xs)) (drop n xs)), length-restore p (reverse (take n xs)) (drop n xs), length-take n xs, length-drop n xs)
 
--- n of the first k samples are given
+-- n of the first k samples are warm-up samples
 restored_front : (p q : List ℤ → ℤ) (n k : ℕ) (xs : List ℤ) → n ≤ k → k ≤ length xs → ((l : List ℤ) → p l ≡ q l) → restored p k (restored q n (take k xs) ++ drop k xs) ≡ restored q n xs
 restored_front p q n k xs le lt h =
     let front : List ℤ = restored q n (take k xs) in
@@ -95,27 +95,27 @@ reverse_zeros (suc k) =
 
 linear_leading_zeros : (k : ℕ) (cs : List ℤ) (t : ℕ) (l : List ℤ) → linear (reverse (replicate k (pos 0) ++ cs)) t l ≡ linear (reverse cs) t l
 linear_leading_zeros k cs t l =
-    let turned : reverse (replicate k (pos 0) ++ cs) ≡ reverse cs ++ replicate k (pos 0) = reverse-append (replicate k (pos 0)) cs ∙ ap (λ (z : List ℤ). reverse cs ++ z) (reverse_zeros k) in
-    ap (λ (z : List ℤ). floor_shift (dot z l) t) turned ∙ ap (λ (y : ℤ). floor_shift y t) (dot_trailing_zeros k (reverse cs) l)
+    let rotated : reverse (replicate k (pos 0) ++ cs) ≡ reverse cs ++ replicate k (pos 0) = reverse-append (replicate k (pos 0)) cs ∙ ap (λ (z : List ℤ). reverse cs ++ z) (reverse_zeros k) in
+    ap (λ (z : List ℤ). floor_shift (dot z l) t) rotated ∙ ap (λ (y : ℤ). floor_shift y t) (dot_trailing_zeros k (reverse cs) l)
 
-pub rest_is : (n : ℕ) (cs xs many front all : List ℤ) (t f : ℕ) → length cs ≤ n → length cs ≤ length xs → f ≡ min (length xs) n → many ≡ replicate (n - length cs) (pos 0) ++ cs
-    → front ≡ restored (linear (reverse cs) t) (length cs) (take f xs) → all ≡ restored (linear (reverse many) t) n (front ++ drop f xs) → all ≡ restored (linear (reverse cs) t) (length cs) xs
-rest_is n cs xs many front all t f few warm_up ef et er ea =
+pub rest_is : (n : ℕ) (cs xs padded front all : List ℤ) (t f : ℕ) → length cs ≤ n → length cs ≤ length xs → f ≡ min (length xs) n → padded ≡ replicate (n - length cs) (pos 0) ++ cs
+    → front ≡ restored (linear (reverse cs) t) (length cs) (take f xs) → all ≡ restored (linear (reverse padded) t) n (front ++ drop f xs) → all ≡ restored (linear (reverse cs) t) (length cs) xs
+rest_is n cs xs padded front all t f few warm_up ef et er ea =
     let same = λ (l : List ℤ). ap (λ (z : List ℤ). linear (reverse z) t l) et ∙ linear_leading_zeros (n - length cs) cs t l in
     elim (cases_lt (length xs) n) [
       | inl short ↦
           (let whole : front ≡ restored (linear (reverse cs) t) (length cs) xs = er ∙ ap (restored (linear (reverse cs) t) (length cs)) (take_all f xs (omega arith)) in
           let long : length front ≡ length xs = ap length whole ∙ length-restored (linear (reverse cs) t) (length cs) xs warm_up in
-          ea ∙ ap (λ (z : List ℤ). restored (linear (reverse many) t) n (front ++ z)) (drop_all f xs (omega arith))
-          ∙ ap (restored (linear (reverse many) t) n) (append-nil front) ∙ restored_all (linear (reverse many) t) front n (omega arith) ∙ whole)
+          ea ∙ ap (λ (z : List ℤ). restored (linear (reverse padded) t) n (front ++ z)) (drop_all f xs (omega arith))
+          ∙ ap (restored (linear (reverse padded) t) n) (append-nil front) ∙ restored_all (linear (reverse padded) t) front n (omega arith) ∙ whole)
       | inr long ↦
           (let all_first : f ≡ n = omega arith in
-          ea ∙ ap (λ (z : List ℤ). restored (linear (reverse many) t) n (z ++ drop f xs)) er
-          ∙ ap (λ (m : ℕ). restored (linear (reverse many) t) n (restored (linear (reverse cs) t) (length cs) (take m xs) ++ drop m xs)) all_first
-          ∙ restored_front (linear (reverse many) t) (linear (reverse cs) t) (length cs) n xs few long same)
+          ea ∙ ap (λ (z : List ℤ). restored (linear (reverse padded) t) n (z ++ drop f xs)) er
+          ∙ ap (λ (m : ℕ). restored (linear (reverse padded) t) n (restored (linear (reverse cs) t) (length cs) (take m xs) ++ drop m xs)) all_first
+          ∙ restored_front (linear (reverse padded) t) (linear (reverse cs) t) (length cs) n xs few long same)
     ]
 
--- k zeros stand before so few coefficients
-pub zeros_before : (n k : ℕ) (cs many : List ℤ) → length cs + k ≤ n → many ≡ replicate (n - length cs) (pos 0) ++ cs → take k many ≡ replicate k (pos 0)
-zeros_before n k cs many few e =
+-- padding to n numbers begins with k zeros
+pub zeros_before : (n k : ℕ) (cs padded : List ℤ) → length cs + k ≤ n → padded ≡ replicate (n - length cs) (pos 0) ++ cs → take k padded ≡ replicate k (pos 0)
+zeros_before n k cs padded few e =
     ap (take k) e ∙ take-append-le k (replicate (n - length cs) (pos 0)) cs (omega (arith, length-replicate (n - length cs) (pos 0))) ∙ take-replicate k (n - length cs) (pos 0) (omega arith)

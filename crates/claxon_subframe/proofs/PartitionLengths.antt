@@ -16,7 +16,7 @@ total-replicate zero l = omega arith
 total-replicate (suc n) l = let e = suc-mul n l in rw (total-replicate n l) (omega arith)
 
 pub total_is : (n order p : ℕ) → p < 16 → n % 2 ^ p ≡ 0 → order ≤ n / 2 ^ p → total (lengths (1 * 2 ^ p % 4294967296) (n / 2 ^ p - order) (n / 2 ^ p)) ≡ n - order
-total_is n order p lt whole room =
+total_is n order p lt whole capacity =
     let some : 0 < 2 ^ p = pow_pos p in
     let split : 2 ^ p * (n / 2 ^ p) + n % 2 ^ p ≡ n = omega arith in
     let e = suc-mul (2 ^ p - 1) (n / 2 ^ p) in
@@ -24,6 +24,6 @@ total_is n order p lt whole room =
     let f : n / 2 ^ p + (2 ^ p - 1) * (n / 2 ^ p) ≡ n = (let g = ap (λ (z : ℕ). z * (n / 2 ^ p)) k in omega arith) in
     rw (some_partitions p lt, total-replicate (2 ^ p - 1) (n / 2 ^ p)) (omega arith)
 
--- how many entries the partitions have
+-- the lengths of the partitions
 pub lengths_are : (n order p : ℕ) → p < 16 → lengths (1 * 2 ^ p % 4294967296) (n / 2 ^ p - order) (n / 2 ^ p) ≡ partition_lengths n order p
 lengths_are n order p lt = rw (some_partitions p lt) refl

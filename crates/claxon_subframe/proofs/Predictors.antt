@@ -13,7 +13,7 @@ use Rattle.claxon_format.specs.Predict.{linear, floor_shift, dot, wrap, restore,
 reverse_push : (xs : List ℤ) (x : ℤ) → reverse (xs ++ x ∷ []) ≡ x ∷ reverse xs
 reverse_push xs x = reverse-append xs (x ∷ [])
 
--- the entry at i is replaced by what comes back there
+-- the residual sample at i is replaced by its sample
 pub restored_more : (p : List ℤ → ℤ) (xs : List ℤ) (i : ℕ) (x : ℤ) → i < length xs → x ≡ wrap (p (reverse (take i xs)) +ℤ get_or xs i (pos 0)) → restored p (i + 1) (set xs i x) ≡ restored p i xs
 restored_more p xs i x h e =
     let front : take (i + 1) (set xs i x) ≡ take i xs ++ x ∷ [] = take_more_set xs i x h in
@@ -36,7 +36,7 @@ pub step_2 : (a b d : ℤ) → FitsSigned w32 a → FitsSigned w32 b → FitsSig
     → to_z w32 (((2 * of_z w32 a % 4294967296 + (4294967296 - of_z w32 b)) % 4294967296 + of_z w32 d) % 4294967296) ≡ wrap ((pos 2 *ℤ a -ℤ b) +ℤ d)
 step_2 a b d f g h = search (rules, wraps, f, g, h)
 
--- the low bits of a number of 64 bits
+-- the low 32 bits of a number of 64 bits
 low_of : (z : ℤ) → FitsSigned w64 z → of_z w64 z % 4294967296 ≡ unsigned_abs (int_rem_euclid z (pos 4294967296))
 low_of (pos n) h = refl
 low_of (negsuc n) h = omega arith
@@ -60,7 +60,7 @@ pub abs_32 : (c : ℤ) → FitsSigned w32 c → unsigned_abs c ≤ 2 ^ 31
 abs_32 (pos n) h = omega arith
 abs_32 (negsuc n) h = omega arith
 
--- a number of 16 or 32 bits in 64
+-- a number of 16 or 32 bits, widened to 64
 pub value_16 : (c : ℤ) → FitsSigned w16 c → to_z w64 (of_z w64 (to_z w16 (of_z w16 c))) ≡ c
 value_16 c h =
     let f : FitsSigned w64 c = record { sfits = omega arith } in
@@ -131,13 +131,13 @@ dot-reverse (d ∷ cs) (y ∷ ys) e =
     ap (λ (t : List ℤ). dot t (reverse (y ∷ ys))) (reverse-append (d ∷ []) cs) ∙ ap (λ (t : List ℤ). dot (reverse cs ++ d ∷ []) t) (reverse-append (y ∷ []) ys)
     ∙ dot_push (reverse cs) (reverse ys) d y (omega (arith, length-reverse cs, length-reverse ys)) ∙ ap (λ (z : ℤ). z +ℤ d *ℤ y) (dot-reverse cs ys (omega arith)) ∙ +ℤ_comm (dot cs ys) (d *ℤ y)
 
--- what lies past the coefficients doesn't count
+-- samples past the last coefficient don't count
 pub dot-append : (cs xs ys : List ℤ) → length cs ≤ length xs → dot cs (xs ++ ys) ≡ dot cs xs
 dot-append [] xs ys e = refl
 dot-append (c ∷ cs) [] ys e = absurd (omega arith)
 dot-append (c ∷ cs) (x ∷ xs) ys e = ap (λ (z : ℤ). c *ℤ x +ℤ z) (dot-append cs xs ys (omega arith))
 
--- the samples right before i, under coefficients with the newest last
+-- the samples right before i, with the newest sample's coefficient last
 pub dot_window : (cs xs : List ℤ) (i : ℕ) → length cs ≤ i → i ≤ length xs → dot cs (drop (i - length cs) (take i xs)) ≡ dot (reverse cs) (reverse (take i xs))
 dot_window cs xs i le lt =
     let w : List ℤ = drop (i - length cs) (take i xs) in
@@ -159,7 +159,7 @@ pub shift_is : (r : ℤ) (s t : ℕ) → t ≡ s → FitsSigned w64 r → to_z w
 shift_is r s t e fr =
     ap (λ (y : ℤ). to_z w64 (of_z w64 (shr_z y (2 ^ t)))) (to_z-of_z w64 r fr) ∙ to_z-of_z w64 (shr_z r (2 ^ t)) (shifted_fits r t fr) ∙ floor_is r t ∙ ap (λ (n : ℕ). floor_shift r n) e
 
--- the low bits of what is predicted
+-- the low 32 bits of the prediction
 pub linear_value : (cs xs : List ℤ) (i s : ℕ) (l p r : ℤ) → length cs ≤ i → i ≤ length xs → FitsSigned w64 r → FitsSigned w64 p
     → r ≡ dot cs (take (i - (i - length cs)) (drop (i - length cs) xs)) → p ≡ floor_shift (to_z w64 (of_z w64 r)) s → l ≡ wrap (to_z w64 (of_z w64 p))
     → l ≡ wrap (linear (reverse cs) s (reverse (take i xs)))
@@ -169,7 +169,7 @@ linear_value cs xs i s l p r le lt fr fp er ep el =
     let r-is : r ≡ dot (reverse cs) (reverse (take i xs)) = er ∙ ap (dot cs) part ∙ dot_window cs xs i le lt in
     el ∙ ap wrap (to_z-of_z w64 p fp ∙ ep ∙ ap (λ (y : ℤ). floor_shift y s) (to_z-of_z w64 r fr ∙ r-is))
 
--- that and a residual
+-- that plus a residual sample
 pub linear_sum : (x l v d : ℤ) → l ≡ wrap v → x ≡ wrap (l +ℤ d) → x ≡ wrap (v +ℤ d)
 linear_sum x l v d e h = h ∙ ap (λ (y : ℤ). wrap (y +ℤ d)) e ∙ int_wrap-add_left w32 v d
 

@@ -1,11 +1,11 @@
--- A loop that brings samples back in place, with the newest ones in variables.
+-- A loop that restores samples in place, with the newest ones in variables.
 use Rattle.std.proofs.Common.{◌≡◌, ℕ, ◌+◌, ◌-◌, ◌<◌, ◌≤◌, List, [], ◌∷◌, ◌++◌, length, take, drop, reverse, get_or, set, refl, sym, ap, ◌∙◌, append_assoc, arith, ℤ, pos, ◌+ℤ◌, w32, FitsSigned, to_z, of_z}
 use Rattle.std.proofs.lemmas.List.{take_more_set, drop_more, drop-set-lt, reverse-append, drop_all, take_all, append-nil, length-drop}
 use Rattle.std.proofs.lemmas.Int.{to_z-of_z}
 use borrow.Rule.Slice.PartMut.{put_mid}
 use Rattle.claxon_format.specs.Predict.{wrap, restore, restored}
 
--- i of the items were brought back, whole is what comes back in all, and the newest numbers are at hand
+-- i of the items were restored; whole are all restored samples, and newest those in variables
 pub record Restoring (p : List ℤ → ℤ) (start whole items : List ℤ) (i : ℕ) (newest : List ℤ) : Type 0 where
   pub so_far : take i items ++ restore p (reverse (take i items) ++ start) (drop i items) ≡ whole
   pub older : List ℤ
@@ -37,30 +37,30 @@ pub restoring_end : {p : List ℤ → ℤ} {start whole items : List ℤ} {i : �
 restoring_end {p} {start} {whole} {items} {i} le h =
     sym (ap (λ (t : List ℤ). take i items ++ restore p (reverse (take i items) ++ start) t) (drop_all i items le) ∙ append-nil (take i items) ∙ take_all i items le) ∙ h.so_far
 
--- ---- the first samples
+-- ---- the warm-up samples
 
--- the entry at k fits
+-- the sample at k fits 32 bits
 abbrev Fit : List ℤ → ℕ → Type 0
 Fit xs k = FitsSigned w32 (get_or xs k (pos 0))
 
--- the entry at k, as a variable gets it
-abbrev entry : List ℤ → ℕ → ℤ
-entry xs k = to_z w32 (of_z w32 (get_or xs k (pos 0)))
+-- the sample at k, as a variable holds it
+abbrev sample_at : List ℤ → ℕ → ℤ
+sample_at xs k = to_z w32 (of_z w32 (get_or xs k (pos 0)))
 
-pub front_3 : (xs : List ℤ) → Fit xs 0 → Fit xs 1 → Fit xs 2 → 3 ≤ length xs → reverse (take 3 xs) ≡ entry xs 2 ∷ entry xs 1 ∷ entry xs 0 ∷ []
+pub front_3 : (xs : List ℤ) → Fit xs 0 → Fit xs 1 → Fit xs 2 → 3 ≤ length xs → reverse (take 3 xs) ≡ sample_at xs 2 ∷ sample_at xs 1 ∷ sample_at xs 0 ∷ []
 front_3 [] f g k h = absurd (omega arith)
 front_3 (a ∷ []) f g k h = absurd (omega arith)
 front_3 (a ∷ b ∷ []) f g k h = absurd (omega arith)
 front_3 (a ∷ b ∷ d ∷ xs) f g k h = rw (to_z-of_z w32 a f, to_z-of_z w32 b g, to_z-of_z w32 d k) refl
 
-pub front_4 : (xs : List ℤ) → Fit xs 0 → Fit xs 1 → Fit xs 2 → Fit xs 3 → 4 ≤ length xs → reverse (take 4 xs) ≡ entry xs 3 ∷ entry xs 2 ∷ entry xs 1 ∷ entry xs 0 ∷ []
+pub front_4 : (xs : List ℤ) → Fit xs 0 → Fit xs 1 → Fit xs 2 → Fit xs 3 → 4 ≤ length xs → reverse (take 4 xs) ≡ sample_at xs 3 ∷ sample_at xs 2 ∷ sample_at xs 1 ∷ sample_at xs 0 ∷ []
 front_4 [] f g k l h = absurd (omega arith)
 front_4 (a ∷ []) f g k l h = absurd (omega arith)
 front_4 (a ∷ b ∷ []) f g k l h = absurd (omega arith)
 front_4 (a ∷ b ∷ d ∷ []) f g k l h = absurd (omega arith)
 front_4 (a ∷ b ∷ d ∷ e ∷ xs) f g k l h = rw (to_z-of_z w32 a f, to_z-of_z w32 b g, to_z-of_z w32 d k, to_z-of_z w32 e l) refl
 
--- all entries after the first ones
+-- all items after the warm-up samples
 after_first : (order : ℕ) (xs : List ℤ) → take (length xs - order) (drop order xs) ≡ drop order xs
 after_first order xs = take_all (length xs - order) (drop order xs) (omega (arith, length-drop order xs))
 

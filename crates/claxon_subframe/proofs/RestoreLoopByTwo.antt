@@ -1,10 +1,10 @@
--- A loop that brings samples back two at a time, with the newest five in variables.
+-- A loop that restores samples two at a time, with the newest five in variables.
 use Rattle.std.proofs.Common.{◌≡◌, ℕ, ◌+◌, ◌<◌, List, [], ◌∷◌, ◌++◌, length, take, drop, reverse, get_or, set, refl, sym, ap, ◌∙◌, arith, ℤ, pos, ◌+ℤ◌, to_z, of_z, w32, w64, FitsSigned}
 use Rattle.std.proofs.lemmas.Int.{to_z-of_z, int_wrap_fits, SFits-int_wrap}
 use Rattle.std.proofs.lemmas.List.{take_more, take_more_set, get_or-set_other, length-set, take-append-drop, take-take, drop-take, reverse-append}
 use Rattle.claxon_format.specs.Predict.{wrap, linear, restored}
-use Rattle.claxon_subframe.specs.Sums.{but_newest_five, four_pending, five_before, AreNewest, IsScaledUp, IsFollowedByTwo}
-use Rattle.claxon_subframe.specs.declared.subframe.predictor.Five.{Five}
+use Rattle.claxon_subframe.specs.PendingSums.{but_newest_five, four_pending, five_before, AreNewest, IsScaledUp, IsFollowedByTwo}
+use Rattle.claxon_subframe.specs.declared.subframe.predictor.NewestFive.{NewestFive}
 use Rattle.claxon_subframe.proofs.Predictors.{restored_more, restored_all, abs_32}
 use Rattle.claxon_subframe.proofs.Lanes.{small_fits}
 
@@ -15,7 +15,7 @@ past_more xs i j x e lt = ap (λ (n : ℕ). reverse (take n (set xs i x))) e ∙
 past_read : (xs : List ℤ) (i j : ℕ) → j ≡ i + 1 → i < length xs → reverse (take j xs) ≡ get_or xs i (pos 0) ∷ reverse (take i xs)
 past_read xs i j e lt = ap (λ (n : ℕ). reverse (take n xs)) e ∙ ap reverse (take_more xs i (pos 0) lt) ∙ reverse-append (take i xs) (get_or xs i (pos 0) ∷ [])
 
--- two entries that were read
+-- two samples that were read
 past_both : (xs : List ℤ) (i j k : ℕ) → j ≡ i + 1 → k ≡ j + 1 → j < length xs → reverse (take k xs) ≡ get_or xs j (pos 0) ∷ get_or xs i (pos 0) ∷ reverse (take i xs)
 past_both xs i j k ej ek lt = past_read xs j k ek lt ∙ ap (λ (l : List ℤ). get_or xs j (pos 0) ∷ l) (past_read xs i j ej (omega arith))
 
@@ -23,7 +23,7 @@ pub both_read : (xs : List ℤ) (i j k : ℕ) (x y : ℤ) → x ≡ get_or xs i 
 both_read xs i j k x y ex ey ej ek lt =
     ap (λ (v : ℤ). v ∷ x ∷ reverse (take i xs)) ey ∙ ap (λ (v : ℤ). get_or xs j (pos 0) ∷ v ∷ reverse (take i xs)) ex ∙ sym (past_both xs i j k ej ek lt)
 
--- the entries at i and after it are replaced by what comes back there
+-- the residual samples at i and i + 1 are replaced by their samples
 two_restored : (p : List ℤ → ℤ) (xs : List ℤ) (i j k : ℕ) (x y : ℤ) → j ≡ i + 1 → k ≡ j + 1 → j < length xs
     → x ≡ wrap (p (reverse (take i xs)) +ℤ get_or xs i (pos 0)) → y ≡ wrap (p (x ∷ reverse (take i xs)) +ℤ get_or xs j (pos 0))
     → restored p k (set (set xs i x) j y) ≡ restored p i xs
@@ -39,19 +39,19 @@ past_two : (xs : List ℤ) (i j k : ℕ) (x y : ℤ) → j ≡ i + 1 → k ≡ j
 past_two xs i j k x y ej ek lt = past_more (set xs i x) j k y ek (omega (arith, length-set xs i x)) ∙ ap (λ (l : List ℤ). y ∷ l) (past_more xs i j x ej (omega arith))
 
 -- five samples that were read
-pub record AreRead (xs : List ℤ) (s : Five) : Type 0 where
+pub record AreRead (xs : List ℤ) (s : NewestFive) : Type 0 where
   pub fifth : s.fifth ≡ get_or xs 0 (pos 0)
   pub fourth : s.fourth ≡ get_or xs 1 (pos 0)
   pub third : s.third ≡ get_or xs 2 (pos 0)
   pub second : s.second ≡ get_or xs 3 (pos 0)
   pub newest : s.newest ≡ get_or xs 4 (pos 0)
 
-pub newest_read : (xs : List ℤ) (s : Five) → length xs ≡ 5 → AreRead xs s → AreNewest (reverse xs) s
+pub newest_read : (xs : List ℤ) (s : NewestFive) → length xs ≡ 5 → AreRead xs s → AreNewest (reverse xs) s
 newest_read (a ∷ b ∷ c ∷ d ∷ e ∷ []) s long h = record { rest = []; is = rw (h.fifth, h.fourth, h.third, h.second, h.newest) refl }
 newest_read xs s long h = absurd (omega arith)
 
--- the newest five of some are those of all, where others stand before these
-pub newest_after : (some others all : List ℤ) (s : Five) → some ++ others ≡ all → AreNewest some s → AreNewest all s
+-- the newest five of some samples are those of all, where the others are older
+pub newest_after : (some others all : List ℤ) (s : NewestFive) → some ++ others ≡ all → AreNewest some s → AreNewest all s
 newest_after some others all s e h = record { rest = h.rest ++ others; is = sym e ∙ ap (λ (l : List ℤ). l ++ others) h.is }
 
 -- a sample as a number of 64 bits
@@ -61,7 +61,7 @@ as_i64 x f = to_z-of_z w64 x (small_fits 2147483648 x (omega arith) (abs_32 x f)
 pub widened : (x y : ℤ) → FitsSigned w32 x → y ≡ to_z w32 (of_z w32 x) → to_z w64 (of_z w64 y) ≡ x
 widened x y f e = ap (λ (v : ℤ). to_z w64 (of_z w64 v)) (e ∙ to_z-of_z w32 x f) ∙ as_i64 x f
 
--- what was put up, as a call gets it
+-- a scaled up number, passed to a call
 pub passed_scaled_up : (w r e : ℤ) (t : ℕ) → IsScaledUp w r t e → IsScaledUp w r t (to_z w64 (of_z w64 e))
 passed_scaled_up w r e t up = λ sum h. ap (λ (v : ℤ). to_z w64 (of_z w64 v)) (up sum h) ∙ to_z-of_z w64 _ (SFits-int_wrap w64 _)
 
@@ -69,54 +69,54 @@ passed_scaled_up w r e t up = λ sum h. ap (λ (v : ℤ). to_z w64 (of_z w64 v))
 pub narrowed : (x low : ℤ) → FitsSigned w32 x → low ≡ wrap (to_z w64 (of_z w64 x)) → to_z w32 (of_z w32 low) ≡ x
 narrowed x low f e = ap (λ (v : ℤ). to_z w32 (of_z w32 v)) (e ∙ ap wrap (as_i64 x f) ∙ int_wrap_fits w32 x f) ∙ to_z-of_z w32 x f
 
--- the newest m of the first n entries, and those before them
+-- the newest m of the first n samples, and those before them
 pub past_split : (xs : List ℤ) (k m n : ℕ) → k + m ≡ n → reverse (take m (drop k xs)) ++ reverse (take k xs) ≡ reverse (take n xs)
 past_split xs k m n there =
     let split : take n xs ≡ take k xs ++ take m (drop k xs)
     = sym (take-append-drop k (take n xs)) ∙ ap (λ (l : List ℤ). l ++ drop k (take n xs)) (take-take k n xs (omega arith)) ∙ ap (λ (l : List ℤ). take k xs ++ l) (ap (λ (i : ℕ). drop k (take i xs)) (sym there) ∙ drop-take k m xs) in
     sym (ap reverse split ∙ reverse-append (take k xs) (take m (drop k xs)))
 
--- a last place alone
+-- one sample is left
 pub last_restored : (p : List ℤ → ℤ) (xs whole : List ℤ) (i m : ℕ) (x : ℤ) → m ≡ i → length xs ≡ i + 1 → x ≡ wrap (p (reverse (take i xs)) +ℤ get_or xs i (pos 0)) → restored p i xs ≡ whole → set xs m x ≡ whole
 last_restored p xs whole i m x em long ex same =
     ap (λ (n : ℕ). set xs n x) em ∙ sym (restored_all p (set xs i x) (i + 1) (omega (arith, length-set xs i x))) ∙ restored_more p xs i x (omega arith) ex ∙ same
 
--- ---- a place and the one after it
+-- ---- the sample at i and the one after it
 
--- the two samples that were made of these entries, and what they are put before
-pub record TwoMade (ks : List ℤ) (t : ℕ) (xs rest : List ℤ) (i j : ℕ) (s n : Five) : Type 0 where
+-- the two samples of the residual samples at i and j, and the five newest after them
+pub record TwoMade (ks : List ℤ) (t : ℕ) (xs rest : List ℤ) (i j : ℕ) (s n : NewestFive) : Type 0 where
   pub second : n.second ≡ wrap (linear ks t (reverse (take i xs)) +ℤ get_or xs i (pos 0))
   pub newest : n.newest ≡ wrap (linear ks t (n.second ∷ reverse (take i xs)) +ℤ get_or xs j (pos 0))
   pub past : n.newest ∷ n.second ∷ five_before s rest ≡ five_before n (s.fourth ∷ s.fifth ∷ rest)
 
-pub two_made : (ks xs waiting ws : List ℤ) (i j : ℕ) (x y : ℤ) (last s n : Five) (t : ℕ) → AreNewest ks last → (past : AreNewest (reverse (take i xs)) s) → waiting ≡ four_pending (but_newest_five ks) (reverse (take i xs)) 0
-    → ws ≡ waiting → x ≡ get_or xs i (pos 0) → y ≡ get_or xs j (pos 0) → IsFollowedByTwo s last ws x y t n → TwoMade ks t xs past.rest i j s n
-two_made ks xs waiting ws i j x y last s n t new past wait ew ex ey two =
-    let next = two ks past.rest new (ew ∙ wait ∙ ap (λ (l : List ℤ). four_pending (but_newest_five ks) l 0) past.is) in
+pub two_made : (ks xs pending ws : List ℤ) (i j : ℕ) (x y : ℤ) (last s n : NewestFive) (t : ℕ) → AreNewest ks last → (past : AreNewest (reverse (take i xs)) s) → pending ≡ four_pending (but_newest_five ks) (reverse (take i xs)) 0
+    → ws ≡ pending → x ≡ get_or xs i (pos 0) → y ≡ get_or xs j (pos 0) → IsFollowedByTwo s last ws x y t n → TwoMade ks t xs past.rest i j s n
+two_made ks xs pending ws i j x y last s n t new past pending_is ew ex ey two =
+    let next = two ks past.rest new (ew ∙ pending_is ∙ ap (λ (l : List ℤ). four_pending (but_newest_five ks) l 0) past.is) in
     record {
       second = next.second ∙ ap (λ (l : List ℤ). wrap (linear ks t l +ℤ x)) (sym past.is) ∙ ap (λ (v : ℤ). wrap (linear ks t (reverse (take i xs)) +ℤ v)) ex;
       newest = next.newest ∙ ap (λ (l : List ℤ). wrap (linear ks t (n.second ∷ l) +ℤ y)) (sym past.is) ∙ ap (λ (v : ℤ). wrap (linear ks t (n.second ∷ reverse (take i xs)) +ℤ v)) ey;
       past = next.past;
     }
 
--- the one alone
-pub one_made : (ks xs waiting ws : List ℤ) (i : ℕ) (x y : ℤ) (last s n : Five) (t : ℕ) → AreNewest ks last → AreNewest (reverse (take i xs)) s → waiting ≡ four_pending (but_newest_five ks) (reverse (take i xs)) 0
-    → ws ≡ waiting → x ≡ get_or xs i (pos 0) → IsFollowedByTwo s last ws x y t n → n.second ≡ wrap (linear ks t (reverse (take i xs)) +ℤ get_or xs i (pos 0))
-one_made ks xs waiting ws i x y last s n t new past wait ew ex two =
-    let next = two ks past.rest new (ew ∙ wait ∙ ap (λ (l : List ℤ). four_pending (but_newest_five ks) l 0) past.is) in
+-- one sample
+pub one_made : (ks xs pending ws : List ℤ) (i : ℕ) (x y : ℤ) (last s n : NewestFive) (t : ℕ) → AreNewest ks last → AreNewest (reverse (take i xs)) s → pending ≡ four_pending (but_newest_five ks) (reverse (take i xs)) 0
+    → ws ≡ pending → x ≡ get_or xs i (pos 0) → IsFollowedByTwo s last ws x y t n → n.second ≡ wrap (linear ks t (reverse (take i xs)) +ℤ get_or xs i (pos 0))
+one_made ks xs pending ws i x y last s n t new past pending_is ew ex two =
+    let next = two ks past.rest new (ew ∙ pending_is ∙ ap (λ (l : List ℤ). four_pending (but_newest_five ks) l 0) past.is) in
     next.second ∙ ap (λ (l : List ℤ). wrap (linear ks t l +ℤ x)) (sym past.is) ∙ ap (λ (v : ℤ). wrap (linear ks t (reverse (take i xs)) +ℤ v)) ex
 
--- the buffer with both in their places
-pub made_restored : (ks xs rest : List ℤ) (t i j k : ℕ) (x y : ℤ) (s n : Five) → j ≡ i + 1 → k ≡ j + 1 → j < length xs → x ≡ n.second → y ≡ n.newest → TwoMade ks t xs rest i j s n → restored (linear ks t) k (set (set xs i x) j y) ≡ restored (linear ks t) i xs
+-- the buffer with both samples
+pub made_restored : (ks xs rest : List ℤ) (t i j k : ℕ) (x y : ℤ) (s n : NewestFive) → j ≡ i + 1 → k ≡ j + 1 → j < length xs → x ≡ n.second → y ≡ n.newest → TwoMade ks t xs rest i j s n → restored (linear ks t) k (set (set xs i x) j y) ≡ restored (linear ks t) i xs
 made_restored ks xs rest t i j k x y s n ej ek lt ex ey made =
     two_restored (linear ks t) xs i j k x y ej ek lt (ex ∙ made.second) (ey ∙ made.newest ∙ ap (λ (v : ℤ). wrap (linear ks t (v ∷ reverse (take i xs)) +ℤ get_or xs j (pos 0))) (sym ex))
 
--- what stands before the places after them
+-- the samples before the next one
 pub made_past : (xs : List ℤ) (i j k : ℕ) (x y second newest : ℤ) → j ≡ i + 1 → k ≡ j + 1 → j < length xs → x ≡ second → y ≡ newest → newest ∷ second ∷ reverse (take i xs) ≡ reverse (take k (set (set xs i x) j y))
 made_past xs i j k x y second newest ej ek lt ex ey =
     sym (past_two xs i j k x y ej ek lt ∙ ap (λ (v : ℤ). v ∷ x ∷ reverse (take i xs)) ey ∙ ap (λ (v : ℤ). newest ∷ v ∷ reverse (take i xs)) ex)
 
-pub made_newest : (ks xs : List ℤ) (t i j k : ℕ) (x y : ℤ) (s n : Five) (past : AreNewest (reverse (take i xs)) s) → j ≡ i + 1 → k ≡ j + 1 → j < length xs → x ≡ n.second → y ≡ n.newest → TwoMade ks t xs past.rest i j s n → AreNewest (reverse (take k (set (set xs i x) j y))) n
+pub made_newest : (ks xs : List ℤ) (t i j k : ℕ) (x y : ℤ) (s n : NewestFive) (past : AreNewest (reverse (take i xs)) s) → j ≡ i + 1 → k ≡ j + 1 → j < length xs → x ≡ n.second → y ≡ n.newest → TwoMade ks t xs past.rest i j s n → AreNewest (reverse (take k (set (set xs i x) j y))) n
 made_newest ks xs t i j k x y s n past ej ek lt ex ey made = record {
   rest = s.fourth ∷ s.fifth ∷ past.rest;
   is = sym (made_past xs i j k x y n.second n.newest ej ek lt ex ey) ∙ ap (λ (l : List ℤ). n.newest ∷ n.second ∷ l) past.is ∙ made.past;

@@ -1,4 +1,4 @@
--- RiceCodes that are read from a window of 64 bits, which is turned past each.
+-- Rice codes decoded from 64 bits that are rotated past each code.
 use Rattle.std.proofs.Common.{bit_or, bit_xor, inl, inr, ◌≡◌, ℕ, zero, suc, ◌+◌, ◌-◌, ◌*◌, ◌/◌, ◌%◌, ◌^◌, ◌<◌, ◌≤◌, true, false, List, [], ◌∷◌, ◌++◌, length, length-take, take, drop, set, replicate, refl, sym, ap, ap₂, subst, ◌∙◌, append_assoc, arith, ℤ, take-add, to_z, of_z, w32}
 use Rattle.std.specs.Int.{leading_zeros, rotate_left, rotate_right, w64}
 use Rattle.std.specs.Int.Count.{leading_of_zero}
@@ -20,7 +20,7 @@ use Rattle.claxon_input.proofs.FieldLoops.{times_push}
 use Rattle.claxon_subframe.specs.RiceCodes.{IsFirstRiceCode}
 use Rattle.claxon_subframe.proofs.RiceCodeShifts.{rice_code_from}
 
--- ---- a window that is turned
+-- ---- rotation
 
 rotated_bits : (x n : ℕ) → 0 < n → n < 64 → x < 18446744073709551616 → bits 64 (rotate_left w64 x n) ≡ drop n (bits 64 x) ++ take n (bits 64 x)
 rotated_bits x n some h lt =
@@ -38,7 +38,7 @@ rotated_bits x n some h lt =
     ∙ subst (λ (w : ℕ). bits w (x % 2 ^ (64 - n) * 2 ^ n + x / 2 ^ (64 - n)) ≡ bits (64 - n) (x % 2 ^ (64 - n)) ++ bits n (x / 2 ^ (64 - n))) e (bits-join (x % 2 ^ (64 - n)) (x / 2 ^ (64 - n)) (64 - n) n l)
     ∙ ap₂ (λ (s t : Bits). s ++ t) (bits-low (64 - n) x ∙ sym (low_bits x n (omega arith))) (sym (top_bits x n (omega arith)))
 
--- the bits that come last once z + 1 + k were turned past
+-- the last k bits after a rotation by z + 1 + k
 last_bits : (x z k : ℕ) → z + 1 + k < 64 → x < 18446744073709551616 → bits k (rotate_left w64 x (z + 1 + k) % 2 ^ k) ≡ take k (drop (z + 1) (bits 64 x))
 last_bits x z k h lt =
     let len : length (drop (z + 1 + k) (bits 64 x)) ≡ 64 - (z + 1 + k) = length-drop (z + 1 + k) (bits 64 x) ∙ ap (λ (m : ℕ). m - (z + 1 + k)) (length-bits 64 x) in
@@ -51,7 +51,7 @@ last_bits x z k h lt =
     ∙ drop-append-add (drop (z + 1 + k) (bits 64 x)) (take (z + 1 + k) (bits 64 x)) (z + 1)
     ∙ drop-take (z + 1) k (bits 64 x)
 
--- a turn to the right by what a turn to the left leaves of 64
+-- rotating right by 64 - n is rotating left by n
 rotated_right : (x n back : ℕ) → 0 < n → n < 64 → back % 64 ≡ 64 - n → rotate_right w64 x back ≡ rotate_left w64 x n
 rotated_right x n back some h e =
     let by : n % 64 ≡ n = omega arith in
@@ -59,7 +59,7 @@ rotated_right x n back some h e =
     let rest : (64 - n) % 64 ≡ 64 - n = omega arith in
     rw (e, other, by, rest) (or_comm (x / 2 ^ (64 - n)) (x * 2 ^ n % 18446744073709551616))
 
--- a one stays, wherever it is turned to
+-- a rotation of a number other than 0 isn't 0
 pub rotated_nonzero : (x back : ℕ) → 0 < x → x < 18446744073709551616 → 0 < rotate_right w64 x back
 rotated_nonzero x back some lt =
     let j : ℕ = back % 64 in
@@ -68,7 +68,7 @@ rotated_nonzero x back some lt =
     elim (eq-zero-or-pos high) [
       | inl none ↦
           (let below : x < 2 ^ j = omega (arith, shr_split x j, mod_below x (2 ^ j) (pow_pos j), ap (λ (m : ℕ). m * 2 ^ j) none) in
-          let turn : 0 < j = zero_rotation j below in
+          let positive : 0 < j = zero_rotation j below in
           let by : (64 - j) % 64 ≡ 64 - j = omega arith in
           let e : j + (64 - j) ≡ 64 = omega arith in
           let fits : x * 2 ^ (64 - j) < 18446744073709551616 = subst (λ (m : ℕ). x * 2 ^ (64 - j) < 2 ^ m) e (shl_below x j (64 - j) below) in
@@ -82,7 +82,7 @@ rotated_nonzero x back some lt =
     zero_rotation zero below = absurd (omega arith)
     zero_rotation (suc j) below = omega arith
 
--- ---- the first word
+-- ---- the first Rice code
 
 mirrored : (z : ℕ) → z < 64 → bit_xor z 63 ≡ 63 - z
 mirrored z lt = omega (arith, xor_add_and z 63, and_mask z 6)
@@ -90,7 +90,7 @@ mirrored z lt = omega (arith, xor_add_and z 63, and_mask z 6)
 pub mirrored_twice : (z : ℕ) → z < 64 → bit_xor (bit_xor z 63) 63 ≡ z
 mirrored_twice z lt = ap (λ (m : ℕ). bit_xor m 63) (mirrored z lt) ∙ mirrored (63 - z) (omega arith) ∙ omega arith
 
--- how far the window is turned to the right, modulo 2^32
+-- the number of bits that the code rotates by to the right, modulo 2^32
 abbrev pub rotation_by : ℕ → ℕ → ℕ
 rotation_by z k = (bit_xor z 63 + (4294967296 - k)) % 4294967296
 
@@ -100,12 +100,12 @@ rice_code_bits z k lt le = rw (mirrored z lt) (omega arith)
 back_right : (x z k : ℕ) → z + 1 + k < 64 → rotate_right w64 x (rotation_by z k) ≡ rotate_left w64 x (z + 1 + k)
 back_right x z k lt = rotated_right x (z + 1 + k) (rotation_by z k) (omega arith) lt (rw (mirrored z (omega arith)) (omega arith))
 
--- fewer than 63 zeros and a one
+-- the first bits, with fewer than 63 leading zeros
 first_one : (x : ℕ) → x < 18446744073709551616 → leading_zeros w64 x < 63 → take (leading_zeros w64 x + 1) (bits 64 x) ≡ replicate (leading_zeros w64 x) false ++ true ∷ []
 first_one zero lt h = absurd (omega (arith, leading_of_zero 64))
 first_one (suc y) lt h = (highest (suc y) (omega arith) lt).front
 
--- the first n of the bits are the zeros, the one, k bits, and the others
+-- the first n bits are the zeros, the one, k bits, and the others
 split_rice_code : (W P : Bits) (z k n : ℕ) → take (z + 1) W ≡ P → z + 1 + k ≤ n → n ≤ length W → take n W ≡ P ++ (take k (drop (z + 1) W) ++ drop (z + 1 + k) (take n W))
 split_rice_code W P z k n first h le =
     let one : take (z + 1 + k) (take n W) ≡ take (z + 1) W ++ take k (drop (z + 1) W) = take-take (z + 1 + k) n W h ∙ take-add (z + 1) k W in
@@ -116,19 +116,19 @@ pub first_is : (k x : ℕ) (e v : ℤ) → k ≤ 30 → x < 18446744073709551616
     → e ≡ zigzag_decode (bit_or (leading_zeros w64 x * 2 ^ k % 4294967296) (rotate_right w64 x (rotation_by (leading_zeros w64 x) k) % 2 ^ k)) → v ≡ to_z w32 (of_z w32 e)
     → IsFirstRiceCode k x v (leading_zeros w64 x + 1 + k) (rotate_right w64 x (rotation_by (leading_zeros w64 x) k))
 first_is k x e v le lt e-is v-is = record {
-  word = λ n rest small h room.
+  code = λ n rest small h capacity.
       let z : ℕ = leading_zeros w64 x in
-      let turned : ℕ = rotate_right w64 x (rotation_by z k) in
-      let r : ℕ = turned % 2 ^ k in
+      let rotated : ℕ = rotate_right w64 x (rotation_by z k) in
+      let r : ℕ = rotated % 2 ^ k in
       let P : Bits = replicate z false ++ true ∷ [] in
       let left : Bits = drop (leading_zeros w64 x + 1 + k) (take n (bits 64 x)) in
       let split : take n (bits 64 x) ++ rest ≡ P ++ (bits k r ++ (left ++ rest))
-      = ap (λ (t : Bits). t ++ rest) (split_rice_code (bits 64 x) P z k n (first_one x lt (omega arith)) h (rw (length-bits 64 x) room) ∙ ap (λ (t : Bits). P ++ (t ++ left)) (sym (ap (λ (t : ℕ). bits k (t % 2 ^ k)) (back_right x z k small) ∙ last_bits x z k small lt)))
+      = ap (λ (t : Bits). t ++ rest) (split_rice_code (bits 64 x) P z k n (first_one x lt (omega arith)) h (rw (length-bits 64 x) capacity) ∙ ap (λ (t : Bits). P ++ (t ++ left)) (sym (ap (λ (t : ℕ). bits k (t % 2 ^ k)) (back_right x z k small) ∙ last_bits x z k small lt)))
       ∙ append_assoc P (bits k r ++ left) rest ∙ ap (λ (t : Bits). P ++ t) (append_assoc (bits k r) left rest) in
       let first : unary_at (take n (bits 64 x) ++ rest) ≡ Done z (bits k r ++ (left ++ rest)) = ap unary_at split ∙ Reads-unary.again z P (bits k r ++ (left ++ rest)) (omega arith, refl) in
-      let second : number_at k (bits k r ++ (left ++ rest)) ≡ Done r (left ++ rest) = (Reads-number k).again r (bits k r) (left ++ rest) (mod_below turned (2 ^ k) (pow_pos k), refl) in
+      let second : number_at k (bits k r ++ (left ++ rest)) ≡ Done r (left ++ rest) = (Reads-number k).again r (bits k r) (left ++ rest) (mod_below rotated (2 ^ k) (pow_pos k), refl) in
       rice_code_from k z r e v (take n (bits 64 x) ++ rest) (bits k r ++ (left ++ rest)) (left ++ rest) le first second e-is v-is;
-  others = λ n small h room.
+  others = λ n small h capacity.
       let m : ℕ = leading_zeros w64 x + 1 + k in
       let len : length (drop m (bits 64 x)) ≡ 64 - m = length-drop m (bits 64 x) ∙ ap (λ (j : ℕ). j - m) (length-bits 64 x) in
       let f : n ≡ m + (n - m) = omega arith in
@@ -136,19 +136,19 @@ first_is k x e v le lt e-is v-is = record {
       ∙ sym (ap (λ (j : ℕ). drop m (take j (bits 64 x))) f ∙ drop-take m (n - m) (bits 64 x));
 }
 
--- ---- a group of words
+-- ---- a group of codes
 
--- all bits of the window w but the last
+-- the first 63 of the 64 bits w
 abbrev but_last : ℕ → Bits
 but_last w = take 63 (bits 64 w)
 
--- So many words of the window w are at the front of xs, if they fit: then those are its first bits, and the others but the last come first in `peek`.
--- The bit that was set stays in it.
-pub record GroupSoFar (k w : ℕ) (xs : List ℤ) (words used peek : ℕ) : Type 0 where
-  pub few : used ≤ 95 * words
-  pub some : 0 < peek
-  pub so_far : used ≤ 56 → (rest : Bits) → times_at words (rice_code_at k) (but_last w ++ rest) ≡ Done (take words xs) (drop used (but_last w) ++ rest)
-  pub others : used ≤ 56 → take (63 - used) (bits 64 peek) ≡ drop used (but_last w)
+-- `codes` codes of the 64 bits w were decoded to the front of xs, from `used` bits. If these are at most 56, `peeked` begins with the other bits of w but the last.
+-- `peeked` isn't 0.
+pub record GroupSoFar (k w : ℕ) (xs : List ℤ) (codes used peeked : ℕ) : Type 0 where
+  pub few : used ≤ 95 * codes
+  pub some : 0 < peeked
+  pub so_far : used ≤ 56 → (rest : Bits) → times_at codes (rice_code_at k) (but_last w ++ rest) ≡ Done (take codes xs) (drop used (but_last w) ++ rest)
+  pub others : used ≤ 56 → take (63 - used) (bits 64 peeked) ≡ drop used (but_last w)
 
 last_set : (w : ℕ) → but_last (bit_or w 1) ≡ but_last w
 last_set w =
@@ -159,35 +159,35 @@ pub group_begins : (k w : ℕ) (xs : List ℤ) → GroupSoFar k w xs 0 0 (bit_or
 unfolding times_at each_at
 group_begins k w xs = record { few = omega arith; some = omega (arith, le_or_r w 1); so_far = λ _ rest. refl; others = λ _. last_set w }
 
-pub group_next : (k w : ℕ) (xs : List ℤ) (words used peek : ℕ) (x : ℤ) (many turned : ℕ) → words < length xs → GroupSoFar k w xs words used peek → many ≤ 95 → 0 < turned → IsFirstRiceCode k peek x many turned
-    → GroupSoFar k w (set xs words x) (words + 1) (used + many) turned
-group_next k w xs words used peek x many turned lt h le some is = record {
+pub group_next : (k w : ℕ) (xs : List ℤ) (codes used peeked : ℕ) (x : ℤ) (n_bits rotated : ℕ) → codes < length xs → GroupSoFar k w xs codes used peeked → n_bits ≤ 95 → 0 < rotated → IsFirstRiceCode k peeked x n_bits rotated
+    → GroupSoFar k w (set xs codes x) (codes + 1) (used + n_bits) rotated
+group_next k w xs codes used peeked x n_bits rotated lt h le some is = record {
   few = (let f = h.few in omega arith);
   some = some;
   so_far = λ fits rest.
       let T = h.others (omega arith) in
-      let e : rice_code_at k (drop used (but_last w) ++ rest) ≡ Done x (drop (used + many) (but_last w) ++ rest)
-      = subst (λ (t : Bits). rice_code_at k (t ++ rest) ≡ Done x (drop many t ++ rest)) T (is.word (63 - used) rest (omega arith) (omega arith) (omega arith)) ∙ ap (λ (t : Bits). Done x (t ++ rest)) (drop-drop many used (but_last w)) in
-      times_push (rice_code_at k) words (but_last w ++ rest) (drop used (but_last w) ++ rest) (drop (used + many) (but_last w) ++ rest) (take words xs) x (h.so_far (omega arith) rest) e
-      ∙ ap (λ (t : List ℤ). Done t (drop (used + many) (but_last w) ++ rest)) (sym (take_more_set xs words x lt));
+      let e : rice_code_at k (drop used (but_last w) ++ rest) ≡ Done x (drop (used + n_bits) (but_last w) ++ rest)
+      = subst (λ (t : Bits). rice_code_at k (t ++ rest) ≡ Done x (drop n_bits t ++ rest)) T (is.code (63 - used) rest (omega arith) (omega arith) (omega arith)) ∙ ap (λ (t : Bits). Done x (t ++ rest)) (drop-drop n_bits used (but_last w)) in
+      times_push (rice_code_at k) codes (but_last w ++ rest) (drop used (but_last w) ++ rest) (drop (used + n_bits) (but_last w) ++ rest) (take codes xs) x (h.so_far (omega arith) rest) e
+      ∙ ap (λ (t : List ℤ). Done t (drop (used + n_bits) (but_last w) ++ rest)) (sym (take_more_set xs codes x lt));
   others = λ fits.
-      let n : 63 - (used + many) ≡ 63 - used - many = omega arith in
-      ap (λ (j : ℕ). take j (bits 64 turned)) n ∙ is.others (63 - used) (omega arith) (omega arith) (omega arith) ∙ ap (drop many) (h.others (omega arith)) ∙ drop-drop many used (but_last w);
+      let n : 63 - (used + n_bits) ≡ 63 - used - n_bits = omega arith in
+      ap (λ (j : ℕ). take j (bits 64 rotated)) n ∙ is.others (63 - used) (omega arith) (omega arith) (omega arith) ∙ ap (drop n_bits) (h.others (omega arith)) ∙ drop-drop n_bits used (but_last w);
 }
 
--- the last bit stands behind what was read
+-- the last bit is after the bits used
 after_last : (w used : ℕ) (m : Bits) → used ≤ 56 → drop used (bits 64 w) ++ m ≡ drop used (but_last w) ++ (drop 63 (bits 64 w) ++ m)
 after_last w used m le =
     let long : used ≤ length (but_last w) = omega (arith, length-take 63 (bits 64 w), length-bits 64 w) in
     ap (λ (t : Bits). t ++ m) (ap (drop used) (sym (take-append-drop 63 (bits 64 w))) ∙ drop-append-le used (but_last w) (drop 63 (bits 64 w)) long)
     ∙ append_assoc (drop used (but_last w)) (drop 63 (bits 64 w)) m
 
-pub group_read : (k w : ℕ) (xs : List ℤ) (words used peek : ℕ) (a b c : BufferedBits) → words ≡ length xs → used ≤ 56 → GroupSoFar k w xs words used peek → bits_in_buffer b ≡ bits_in_buffer a → PeeksBits w b → bits_in_buffer c ≡ drop used (bits_in_buffer b)
+pub group_read : (k w : ℕ) (xs : List ℤ) (codes used peeked : ℕ) (a b c : BufferedBits) → codes ≡ length xs → used ≤ 56 → GroupSoFar k w xs codes used peeked → bits_in_buffer b ≡ bits_in_buffer a → PeeksBits w b → bits_in_buffer c ≡ drop used (bits_in_buffer b)
     → GivesBuffered a c (times_at (length xs) (rice_code_at k)) xs
-group_read k w xs words used peek a b c e fits h same shows passed rest =
+group_read k w xs codes used peeked a b c e fits h same shows consumed rest =
     let m : Bits = shows.behind in
     let last : Bits = drop 63 (bits 64 w) in
     let old : bits_in_buffer a ++ rest ≡ but_last w ++ (last ++ (m ++ rest)) = ap (λ (t : Bits). t ++ rest) (sym same ∙ shows.next) ∙ append_assoc (bits 64 w) m rest ∙ after_last w 0 (m ++ rest) (omega arith) in
     let new : bits_in_buffer c ++ rest ≡ drop used (but_last w) ++ (last ++ (m ++ rest))
-    = ap (λ (t : Bits). t ++ rest) (passed ∙ ap (drop used) shows.next ∙ drop-append-le used (bits 64 w) m (omega (arith, length-bits 64 w))) ∙ append_assoc (drop used (bits 64 w)) m rest ∙ after_last w used (m ++ rest) fits in
-    ap₂ (λ (n : ℕ) (s : Bits). times_at n (rice_code_at k) s) (sym e) old ∙ h.so_far fits (last ++ (m ++ rest)) ∙ ap₂ (λ (t : List ℤ) (s : Bits). Done t s) (take_all words xs (omega arith)) (sym new)
+    = ap (λ (t : Bits). t ++ rest) (consumed ∙ ap (drop used) shows.next ∙ drop-append-le used (bits 64 w) m (omega (arith, length-bits 64 w))) ∙ append_assoc (drop used (bits 64 w)) m rest ∙ after_last w used (m ++ rest) fits in
+    ap₂ (λ (n : ℕ) (s : Bits). times_at n (rice_code_at k) s) (sym e) old ∙ h.so_far fits (last ++ (m ++ rest)) ∙ ap₂ (λ (t : List ℤ) (s : Bits). Done t s) (take_all codes xs (omega arith)) (sym new)

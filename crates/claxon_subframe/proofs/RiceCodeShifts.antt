@@ -1,4 +1,4 @@
--- A word by shifts and an or, and the number that a folded one stands for.
+-- A Rice code's number by shifts and an or, and zigzag decoding.
 use Rattle.std.proofs.Common.{◌≡◌, ℕ, ◌+◌, ◌-◌, ◌*◌, ◌/◌, ◌%◌, ◌^◌, ◌<◌, ◌≤◌, ltb, false, refl, sym, ap, ◌∙◌, arith, inl, inr, ◌⊎◌, ℤ, pos, negsuc, to_z, of_z, w32, FitsSigned, bit_or, bit_xor}
 use Rattle.std.proofs.lemmas.Bool.{le-ltb}
 use Rattle.std.proofs.lemmas.Nat.{and_mask, div-mul-add, mod-mul-add, mod_below, pow_pos, shl-shr, or_shifted}
@@ -11,7 +11,7 @@ use Rattle.claxon_format.specs.read.Bits.{zigzag_encoded, number_at, unary_at, r
 use Rattle.claxon_format.proofs.Numbers.{Reads-number}
 use Rattle.claxon_format.proofs.RiceCodes.{parts, zigzag_decode-fits}
 
--- the quotient shifted, with the low bits put in
+-- the quotient shifted, or the low bits
 pub or_folded : (k q r : ℕ) → k ≤ 32 → r < 2 ^ k → bit_or (q * 2 ^ k % 4294967296) r ≡ zigzag_encoded k q r
 or_folded k q r le small =
     let one : q * 2 ^ k % 2 ^ 32 ≡ (q % 2 ^ (32 - k)) * 2 ^ k
@@ -23,7 +23,7 @@ or_folded k q r le small =
     mod_whole : (q k : ℕ) → q * 2 ^ k % 2 ^ k ≡ 0
     mod_whole q k = ap (λ (m : ℕ). m % 2 ^ k) (omega arith) ∙ mod-mul-add q (2 ^ k) 0 (pow_pos k)
 
--- the value of the call and the bits that it leaves
+-- the value of the call and the remaining bits
 pub rice_code_is : (k q r : ℕ) (e : ℤ) (s m left : Bits) → k ≤ 30 → unary_at s ≡ Done q m → number_at k m ≡ Done r left → e ≡ zigzag_decode (bit_or (q * 2 ^ k % 4294967296) r) → (rice_code_at k s ≡ Done e left) × FitsSigned w32 e
 unfolding rice_code_at
 rice_code_is k q r e s m left le first second e-is =
@@ -39,7 +39,7 @@ rice_code_from k q r e v s m left le first second e-is v-is =
     let w = rice_code_is k q r e s m left le first second e-is in
     rw (v-is ∙ to_z-of_z w32 e w.1) w.0
 
--- ---- a folded number
+-- ---- zigzag decoding
 
 xor_ones : (h : ℕ) → h < 2 ^ 31 → bit_xor h 4294967295 + h + 1 ≡ 4294967296
 xor_ones h lt = omega (arith, xor_add_and h 4294967295, and_mask h 32)

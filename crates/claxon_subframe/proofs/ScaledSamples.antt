@@ -1,4 +1,4 @@
--- A channel from the entries of its subframe.
+-- A channel from the samples of its subframe, before wasted bits are appended.
 use Rattle.std.proofs.Common.{◌≡◌, ℕ, zero, suc, ◌-◌, ◌<◌, ◌≤◌, Bool, true, false, eqb, ltb, List, [], ◌∷◌, map, replicate, refl, ap, ◌∙◌, arith, ℤ, pos, ◌*ℤ◌, w32, FitsSigned}
 use Rattle.std.proofs.lemmas.Bool.{ltb-true, lt-ltb}
 use Rattle.std.proofs.lemmas.Int.{ints, int_wrap_fits}
@@ -26,7 +26,7 @@ type_fits w n fixed linear false true c u t some most k = fit_each (Signed w) u 
 type_fits w n fixed linear false false true u t some most k = k.4
 type_fits w n fixed linear false false false u t some most k = k.8
 
--- entries that were read fit 32 bits
+-- samples that were read fit 32 bits
 samples_fit : (w n type : ℕ) (s m : Bits) (u : List ℤ) → 0 < w → w ≤ 32 → subframe_body_at w n type s ≡ Done u m → AllFit u
 unfolding subframe_body_at
 samples_fit w n type s m u some most e =
@@ -38,12 +38,12 @@ samples_fit w n type s m u some most e =
 same_number : (x : ℤ) → x *ℤ pos 1 ≡ x
 same_number x = omega (arith, ints)
 
--- with no bits wasted the entries are the samples
+-- with no wasted bits the samples stay the same
 pub scaled_none : (u : List ℤ) → AllFit u → map (scaled 0) u ≡ u
 scaled_none [] h = refl
 scaled_none (x ∷ u) h = ap (λ (y : ℤ). wrap y ∷ map (scaled 0) u) (same_number x) ∙ ap (λ (y : ℤ). y ∷ map (scaled 0) u) (int_wrap_fits w32 x h.0) ∙ ap (λ (l : List ℤ). x ∷ l) (scaled_none u h.1)
 
--- a header, and then entries that are scaled
+-- a header, then samples that are scaled
 pub channel_consumes : {a b c : State Bool} (w n : ℕ) (header : SubframeFields) (u v : List ℤ) → header.wasted_bits < w → w ≤ 32 → Consumes a b (λ s m. subframe_header_at s ≡ Done header m)
     → Consumes b c (λ s m. subframe_body_at (w - header.wasted_bits) n header.type s ≡ Done u m) → (AllFit u → v ≡ map (scaled header.wasted_bits) u) → Consumes a c (λ s m. subframe_at w n s ≡ Done v m)
 unfolding subframe_at

@@ -1,4 +1,4 @@
--- A number's sign extended by shifts.
+-- Sign extension by shifts.
 use Rattle.std.proofs.Common.{◌≡◌, ℕ, suc, ◌+◌, ◌-◌, ◌*◌, ◌/◌, ◌%◌, ◌^◌, ◌<◌, ◌≤◌, cond, inl, inr, true, false, ltb, refl, sym, ap, subst, ◌∙◌, arith, ℤ, pos, negsuc, to_z, of_z, w16, w32, FitsSigned}
 use Rattle.std.specs.Int.Signed.{shr_z, mag_shr}
 use Rattle.std.proofs.lemmas.Bool.{cases_lt, lt-ltb, le-ltb}
@@ -10,7 +10,7 @@ use Rattle.claxon_format.specs.Reading.{Done, done}
 use Rattle.claxon_format.specs.read.Bits.{number_at, signed_at}
 use Rattle.claxon_format.proofs.Numbers.{Reads-number, mod_small}
 
--- what n stands for in two's complement of twice half
+-- the value of n in two's complement, modulo twice half
 abbrev signed_of : ℕ → ℕ → ℤ
 signed_of half n = cond (ltb n half) (pos n) (negsuc (2 * half - suc n))
 
@@ -30,7 +30,7 @@ difference_is half v k p d e w =
 high : (half v k p : ℕ) → 0 < k → p * k ≡ half → p ≤ v → v < 2 * p → shr_z (signed_of half (v * k % (2 * half))) k ≡ negsuc (2 * p - 1 - v)
 high half v k p some e le lt =
     let above : half ≤ v * k = grind arith in
-    let gap : v * k + ((2 * p - 1 - v) * k + k) ≡ 2 * half = difference_is half v k p (2 * p - 1 - v) (omega arith) e in
+    let difference : v * k + ((2 * p - 1 - v) * k + k) ≡ 2 * half = difference_is half v k p (2 * p - 1 - v) (omega arith) e in
     let whole : v * k % (2 * half) ≡ v * k = mod_small (v * k) (2 * half) (omega arith) in
     let here : ltb (v * k) half ≡ false = le-ltb _ _ above in
     let split : 2 * half - suc (v * k) ≡ (2 * p - 1 - v) * k + (k - 1) = omega arith in
@@ -54,8 +54,8 @@ low_bits_count v m k some some_k =
     let below : v % m < m = mod_below v m some in
     let small : (v % m) * k < m * k = grind arith in
     let split : v ≡ (v / m) * m + v % m = omega arith in
-    let spread : v * k ≡ (v / m) * (m * k) + (v % m) * k = ap (λ (n : ℕ). n * k) split ∙ grind (arith, mul_assoc) in
-    ap (λ (n : ℕ). n % (m * k)) spread ∙ mod-mul-add (v / m) (m * k) ((v % m) * k) small ∙ sym (mod_small ((v % m) * k) (m * k) small)
+    let distributed : v * k ≡ (v / m) * (m * k) + (v % m) * k = ap (λ (n : ℕ). n * k) split ∙ grind (arith, mul_assoc) in
+    ap (λ (n : ℕ). n % (m * k)) distributed ∙ mod-mul-add (v / m) (m * k) ((v % m) * k) small ∙ sym (mod_small ((v % m) * k) (m * k) small)
 
 shift_fits_32 : (z : ℤ) (n : ℕ) → FitsSigned w32 z → FitsSigned w32 (shr_z z (2 ^ n))
 shift_fits_32 z n h = record { sfits = omega (arith, h.sfits, mag_shr z (2 ^ n)) }
@@ -82,7 +82,7 @@ extended_16 bits v z some most lt fits e =
     ∙ ap (λ (y : ℤ). shr_z y (2 ^ (16 - bits))) (k ∙ e)
     ∙ shifted 32768 16 bits v some most refl lt
 
--- the sample of a call, and the bits that it leaves
+-- the sample of a call, and the remaining bits
 pub sample_from : (w n : ℕ) (v : ℤ) (s left : Bits) → number_at w s ≡ Done n left → v ≡ twos_complement w (n % 2 ^ w) → signed_at w s ≡ Done v left
 unfolding signed_at
 sample_from w n v s left e v-is =

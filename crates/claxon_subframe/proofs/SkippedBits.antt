@@ -1,4 +1,4 @@
--- Bits at hand that are skipped once they were read.
+-- Buffered bits that are decoded first and then skipped.
 use Rattle.std.proofs.Common.{◌≡◌, Bool, ℕ, ◌+◌, ◌-◌, ◌≤◌, ◌++◌, length, drop, sym, ap, ◌∙◌, arith, length-append}
 use Rattle.std.proofs.lemmas.List.{drop_at}
 use Rattle.claxon_format.specs.Bits.{Bits}
@@ -10,7 +10,7 @@ use Rattle.claxon_input.specs.Gives.{Consumes, FailureOr}
 use Rattle.claxon_input.proofs.BufferedBitSteps.{skipped_bits_is, not_skipped_bits}
 use Rattle.claxon_input.proofs.CallsInTurn.{consumes_known, failure_or_known}
 
--- from one reader of bits at hand to another: so many of the bits are skipped
+-- b is a after `bits - left` bits were skipped
 pub record Skipped (bits left : ℕ) (a b : BufferedBits) (rest : Bits) : Type 0 where
   pub fewer : left ≤ bits
   pub skipped : drop (bits - left) (bits_in_buffer a ++ rest) ≡ bits_in_buffer b ++ rest
@@ -32,11 +32,11 @@ read_consumes {read = read} exact bits left x a b {new = new} p q e here h =
     let m : new.remaining ≡ bits_in_buffer b ++ r.0 = skipped_bits_is (bits - left) _ new.remaining skip ∙ ap (drop (bits - left)) r.1 ∙ (read_skipped exact bits left x a b r.0 p q (e r.0)).skipped in
     ap read r.1 ∙ e r.0 ∙ ap (λ (z : Bits). Done x z) (sym m))
 
--- what is at hand can be skipped
+-- buffered bits can be skipped
 pub never_incomplete : (bits left : ℕ) (a : BufferedBits) {old new : State Bool} → bits ≡ length (bits_in_buffer a) → IsBufferOf a old → FailureOr old new (λ s. skipped_bits_at (bits - left) s ≡ Incomplete) → FailureOr old new (λ s. ⊥)
 never_incomplete bits left a {old = old} p here h =
-    failure_or_known _ h (λ t short.
+    failure_or_known _ h (λ t incomplete.
     let r = here t in
-    let few = not_skipped_bits (bits - left) old.remaining short in
+    let few = not_skipped_bits (bits - left) old.remaining incomplete in
     let len : length old.remaining ≡ length (bits_in_buffer a) + length r.0 = ap length r.1 ∙ length-append (bits_in_buffer a) r.0 in
     absurd (omega arith))

@@ -1,17 +1,17 @@
--- TwelveLanes numbers in three vectors.
+-- Twelve numbers in three vectors.
 use Rattle.std.proofs.Common.{◌≡◌, ℕ, ◌+◌, ◌*◌, ◌≤◌, List, [], ◌∷◌, ◌++◌, length, reverse, get_or, map, refl, sym, ap, subst, ◌∙◌, arith, ℤ, pos, of_z, to_z, w64, unsigned_abs}
 use Rattle.std.proofs.lemmas.Int.{to_z-of_z}
 use Rattle.std.proofs.lemmas.List.{length-append}
 use Rattle.claxon_subframe.specs.Lanes.{Within, Lanes, LanesFit64}
-use Rattle.claxon_subframe.specs.Sums.{but_newest_five, FitVectors, AreNewest}
+use Rattle.claxon_subframe.specs.PendingSums.{but_newest_five, FitVectors, AreNewest}
 use Rattle.claxon_subframe.specs.TwelveLanes.{numbers, SmallTwelve, TwelveFit64, SmallTwelveTaps, AreTwelveTaps, AreTwelvePending}
-use Rattle.claxon_subframe.specs.declared.subframe.predictor.Five.{Five}
+use Rattle.claxon_subframe.specs.declared.subframe.predictor.NewestFive.{NewestFive}
 use Rattle.claxon_subframe.specs.declared.subframe.predictor.TwelveLanes.{TwelveLanes}
 use Rattle.claxon_subframe.specs.declared.subframe.predictor.TwelveTaps.{TwelveTaps}
 use Rattle.claxon_subframe.proofs.Lanes.{small_fits, same_lanes, kept_lanes}
-use Rattle.claxon_subframe.proofs.Sums.{four_pending_fit_64, four_pending_enough, four_same, four_lanes, entry, entry_is, coefficient_small}
+use Rattle.claxon_subframe.proofs.PendingSums.{four_pending_fit_64, four_pending_enough, four_same, four_lanes, coefficient_at, coefficient_at_is, coefficient_small}
 
--- ---- sums
+-- ---- pending sums
 
 pub twelve_fit_64 : {ks past : List ℤ} {sums : TwelveLanes} → AreTwelvePending ks past sums → TwelveFit64 sums
 twelve_fit_64 {ks} {past} {sums} w = record {
@@ -29,7 +29,7 @@ twelve_enough ks past rest v sums fit le w = record {
 
 -- ---- coefficients
 
--- an entry of a vector, as the code has it
+-- a lane, as the code has it
 abbrev lane : List ℤ → ℕ → ℤ
 lane xs i = to_z w64 (of_z w64 (get_or (map (to_z w64) (map (of_z w64) xs)) i (pos 0)))
 
@@ -41,8 +41,8 @@ twice_in_64 x h =
 abbrev pub as_twelve_taps : TwelveLanes → TwelveTaps
 as_twelve_taps t = record { second = record { at_8 = pos 0 ∷ lane t.at_8 0 ∷ lane t.at_8 1 ∷ lane t.at_8 2 ∷ []; at_4 = lane t.at_8 3 ∷ lane t.at_4 0 ∷ lane t.at_4 1 ∷ lane t.at_4 2 ∷ [] }; newest = record { at_8 = map (to_z w64) (map (of_z w64) t.at_8); at_4 = lane t.at_4 0 ∷ lane t.at_4 1 ∷ lane t.at_4 2 ∷ pos 0 ∷ [] } }
 
--- the newest five, as the code has them
-abbrev pub as_last : TwelveLanes → Five
+-- the newest five coefficients, as the code has them
+abbrev pub as_last : TwelveLanes → NewestFive
 as_last t = record { fifth = lane t.at_4 3; fourth = lane t.at_0 0; third = lane t.at_0 1; second = lane t.at_0 2; newest = lane t.at_0 3 }
 
 taps_are_lanes : (xs ys zs : List ℤ) → Lanes 32768 xs → Lanes 32768 ys → Lanes 32768 zs → AreTwelveTaps (but_newest_five (reverse (xs ++ (ys ++ zs)))) (as_twelve_taps (record { at_8 = xs; at_4 = ys; at_0 = zs }))
@@ -98,11 +98,10 @@ twelve_last t h = last_are_lanes t.at_8 t.at_4 t.at_0 h.at_8 h.at_4 h.at_0
 pub twelve_long : (t : TwelveLanes) → SmallTwelve t → length (numbers t) ≡ 12
 twelve_long t h = omega (arith, length-append t.at_8 (t.at_4 ++ t.at_0), length-append t.at_4 t.at_0, h.at_8.four, h.at_4.four, h.at_0.four)
 
--- ---- twelve numbers that are put into vectors
+-- ---- vectors made of twelve numbers
 
--- the vectors, as the code makes them of twelve numbers
 abbrev pub as_twelve : List ℤ → TwelveLanes
-as_twelve xs = record { at_8 = entry xs 0 ∷ entry xs 1 ∷ entry xs 2 ∷ entry xs 3 ∷ []; at_4 = entry xs 4 ∷ entry xs 5 ∷ entry xs 6 ∷ entry xs 7 ∷ []; at_0 = entry xs 8 ∷ entry xs 9 ∷ entry xs 10 ∷ entry xs 11 ∷ [] }
+as_twelve xs = record { at_8 = coefficient_at xs 0 ∷ coefficient_at xs 1 ∷ coefficient_at xs 2 ∷ coefficient_at xs 3 ∷ []; at_4 = coefficient_at xs 4 ∷ coefficient_at xs 5 ∷ coefficient_at xs 6 ∷ coefficient_at xs 7 ∷ []; at_0 = coefficient_at xs 8 ∷ coefficient_at xs 9 ∷ coefficient_at xs 10 ∷ coefficient_at xs 11 ∷ [] }
 
 all_twelve : (xs : List ℤ) → length xs ≡ 12 → xs ≡ get_or xs 0 (pos 0) ∷ get_or xs 1 (pos 0) ∷ get_or xs 2 (pos 0) ∷ get_or xs 3 (pos 0) ∷ get_or xs 4 (pos 0) ∷ get_or xs 5 (pos 0) ∷ get_or xs 6 (pos 0) ∷ get_or xs 7 (pos 0) ∷ get_or xs 8 (pos 0) ∷ get_or xs 9 (pos 0) ∷ get_or xs 10 (pos 0) ∷ get_or xs 11 (pos 0) ∷ []
 all_twelve (a ∷ b ∷ c ∷ d ∷ e ∷ f ∷ g ∷ h ∷ i ∷ j ∷ k ∷ l ∷ []) long = refl
@@ -110,7 +109,7 @@ all_twelve xs long = absurd (omega arith)
 
 pub twelve_numbers : (xs : List ℤ) → length xs ≡ 12 → Within 32768 xs → numbers (as_twelve xs) ≡ xs
 twelve_numbers xs long h =
-    let z = λ (i : ℕ). entry_is xs i h in
+    let z = λ (i : ℕ). coefficient_at_is xs i h in
     rw (z 0, z 1, z 2, z 3, z 4, z 5, z 6, z 7, z 8, z 9, z 10, z 11) (sym (all_twelve xs long))
 
 pub as_twelve_small : (xs : List ℤ) → Within 32768 xs → SmallTwelve (as_twelve xs)

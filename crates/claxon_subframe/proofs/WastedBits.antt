@@ -1,4 +1,4 @@
--- Low zeros put back by a shift.
+-- Wasted bits appended by a shift.
 use Rattle.std.proofs.Common.{◌≡◌, ℕ, ◌+◌, ◌*◌, ◌%◌, ◌^◌, ◌<◌, ◌≤◌, List, [], ◌∷◌, ◌++◌, length, take, drop, map, get_or, set, sym, ap, ◌∙◌, arith, ℤ, pos, negsuc, ◌*ℤ◌, to_z, of_z, w32, FitsSigned}
 use Rattle.std.specs.Int.{int_wrap}
 use Rattle.std.proofs.lemmas.Int.{to_z-of_z, wrapping_mul-bits, int_wrap-mul_right}
@@ -23,7 +23,7 @@ scaled_is x wasted fits most =
     ∙ ap (λ (y : ℤ). int_wrap w32 (x *ℤ y)) (wrap_small (2 ^ wasted) small)
     ∙ int_wrap-mul_right w32 x (pos (2 ^ wasted))
 
--- one more entry is replaced by its image
+-- one more element is mapped
 pub mapped_more : (f : ℤ → ℤ) (all xs : List ℤ) (i : ℕ) (x : ℤ) → i < length xs → length xs ≡ length all → take i xs ≡ map f (take i all) → drop i xs ≡ drop i all → x ≡ f (get_or xs i (pos 0))
     → (take (i + 1) (set xs i x) ≡ map f (take (i + 1) all)) × (drop (i + 1) (set xs i x) ≡ drop (i + 1) all)
 mapped_more f all xs i x lt same front rest e =

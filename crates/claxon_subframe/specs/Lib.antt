@@ -5,5 +5,5 @@ pub mod RiceCodes
 pub mod Samples
 pub mod Lanes
 pub mod Predictor
-pub mod Sums
+pub mod PendingSums
 pub mod TwelveLanes

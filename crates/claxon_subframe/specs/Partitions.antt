@@ -8,17 +8,17 @@ use Rattle.claxon_input.specs.State.{bits_in}
 use Rattle.claxon_input.specs.declared.bits.Bitstream.{Bitstream}
 use Rattle.claxon_input.specs.declared.error.Error.{Error}
 
--- how many entries each has: of so many partitions the first has others than each of those after it
+-- the lengths of n partitions: that of the first, and that of each after it
 abbrev pub lengths : ℕ → ℕ → ℕ → List ℕ
 lengths zero first each = []
 lengths (suc n) first each = first ∷ replicate n each
 
--- how many entries they have in all
+-- how many residual samples they have in all
 abbrev pub total : List ℕ → ℕ
 total [] = 0
 total (l ∷ ls) = l + total ls
 
--- As many partitions as the Ok says stand at the front of the buffer, each of as many entries, which were taken.
+-- The buffer begins with as many partitions as the Ok says, each of `each` residual samples, whose bits were consumed.
 abbrev pub PartitionsAreRead : {R : Type 0} {g : _} → (R → Source ℕ) → ℕ → ℕ → Bitstream R g → Result ℕ Error → Bitstream R g → List ℤ → Type 0
 PartitionsAreRead source method each old result new buffer =
     IfOk result (λ whole. Consumes (bits_in source old) (bits_in source new) (λ s m. joined_at (partition_at method) (replicate whole each) s ≡ Done (take (whole * each) buffer) m))

@@ -1,4 +1,4 @@
--- The kinds and fields of a subframe as the code keeps them (RFC 9639, section 9.2).
+-- The subframe types and header fields as the code keeps them (RFC 9639, section 9.2).
 use Rattle.std.specs.Prelude.{ℕ, ◌+◌}
 use Rattle.claxon_format.specs.read.Subframe.{SubframeFields, Parameters}
 use Rattle.claxon_subframe.specs.declared.subframe.LpcParameters.{LpcParameters}
@@ -7,7 +7,7 @@ use Rattle.claxon_subframe.specs.declared.subframe.RicePartitionType.TheVariants
 use Rattle.claxon_subframe.specs.declared.subframe.SubframeType.{SubframeType}
 use Rattle.claxon_subframe.specs.declared.subframe.SubframeType.TheVariants.{Constant, Verbatim, Fixed, Lpc}
 
--- the order of a fixed predictor, and that of a linear one
+-- the order of a fixed predictor, and of a linear one
 abbrev pub fixed_order : SubframeType → ℕ
 fixed_order (Fixed order) = order
 fixed_order _ = 0
@@ -16,7 +16,7 @@ abbrev pub lpc_order : SubframeType → ℕ
 lpc_order (Lpc order) = order
 lpc_order _ = 0
 
--- the six bits that spell a kind
+-- the six bits of a subframe type
 abbrev pub type_number : SubframeType → ℕ
 type_number Constant = 0
 type_number Verbatim = 1
@@ -31,7 +31,7 @@ subframe_view sf_type wasted_bits = record { type = type_number sf_type; wasted_
 abbrev pub parameters_of : LpcParameters → Parameters
 parameters_of lpc = record { precision = lpc.precision; shift = lpc.shift }
 
--- the two bits that spell a method
+-- the two bits of a residual coding method
 abbrev pub method_of : RicePartitionType → ℕ
 method_of Rice = 0
 method_of Rice2 = 1

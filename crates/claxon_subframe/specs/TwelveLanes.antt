@@ -1,22 +1,22 @@
--- TwelveLanes numbers in three vectors: coefficients, and sums that wait for the next twelve places.
+-- Twelve numbers in three vectors: coefficients, and the pending sums of the next twelve samples.
 use Rattle.std.specs.Prelude.{◌≡◌, ℕ, ◌+◌, ◌^◌, ℤ, pos, List, [], ◌∷◌, ◌++◌, length, take, replicate, reverse}
 use Rattle.claxon_subframe.specs.Lanes.{Lanes, LanesFit64}
-use Rattle.claxon_subframe.specs.Sums.{four_pending, four_taps, FitVectors}
+use Rattle.claxon_subframe.specs.PendingSums.{four_pending, four_taps, FitVectors}
 use Rattle.claxon_subframe.specs.declared.subframe.predictor.TwelveLanes.{TwelveLanes}
-use Rattle.claxon_subframe.specs.declared.subframe.predictor.Eight.{Eight}
+use Rattle.claxon_subframe.specs.declared.subframe.predictor.EightLanes.{EightLanes}
 use Rattle.claxon_subframe.specs.declared.subframe.predictor.TwelveTaps.{TwelveTaps}
 
--- the twelve numbers, those of the farthest places first
+-- the twelve numbers, those of the latest samples first
 abbrev pub numbers : TwelveLanes → List ℤ
 numbers twelve = twelve.at_8 ++ (twelve.at_4 ++ twelve.at_0)
 
--- coefficients as an operation on lanes takes them
+-- coefficients of at most 2 ^ 15 in size
 pub record SmallTwelve (twelve : TwelveLanes) : Type 0 where
   pub at_8 : Lanes (2 ^ 15) twelve.at_8
   pub at_4 : Lanes (2 ^ 15) twelve.at_4
   pub at_0 : Lanes (2 ^ 15) twelve.at_0
 
-pub record SmallEight (eight : Eight) : Type 0 where
+pub record SmallEight (eight : EightLanes) : Type 0 where
   pub at_8 : Lanes (2 ^ 15) eight.at_8
   pub at_4 : Lanes (2 ^ 15) eight.at_4
 
@@ -24,39 +24,39 @@ pub record SmallTwelveTaps (taps : TwelveTaps) : Type 0 where
   pub second : SmallEight taps.second
   pub newest : SmallEight taps.newest
 
--- the same of sums
+-- sums that fit 64 bits
 pub record TwelveFit64 (twelve : TwelveLanes) : Type 0 where
   pub at_8 : LanesFit64 twelve.at_8
   pub at_4 : LanesFit64 twelve.at_4
   pub at_0 : LanesFit64 twelve.at_0
 
--- what a sample adds that is so many places before the nearest
-pub record AreEightTaps (coefficients : List ℤ) (back : ℕ) (taps : Eight) : Type 0 where
+-- the coefficients of a sample with `back` samples between it and the next one
+pub record AreEightTaps (coefficients : List ℤ) (back : ℕ) (taps : EightLanes) : Type 0 where
   pub at_8 : taps.at_8 ≡ four_taps coefficients (back + 8)
   pub at_4 : taps.at_4 ≡ four_taps coefficients (back + 4)
 
--- what two samples add: the newer one's coefficients, and those of the one before it, nothing to the nearest four places
+-- the coefficients of the newest sample and of the one before it, which are zero for the next four samples
 pub record AreTwelveTaps (coefficients : List ℤ) (taps : TwelveTaps) : Type 0 where
   pub long : length coefficients ≡ 12
   pub nearest : take 5 coefficients ≡ replicate 5 (pos 0)
   pub second : AreEightTaps coefficients 1 taps.second
   pub newest : AreEightTaps coefficients 0 taps.newest
 
--- the lanes hold what waits for the next twelve places
+-- the lanes hold the pending sums of the next twelve samples
 pub record AreTwelvePending (coefficients past : List ℤ) (sums : TwelveLanes) : Type 0 where
   pub at_8 : sums.at_8 ≡ four_pending coefficients past 8
   pub at_4 : sums.at_4 ≡ four_pending coefficients past 4
   pub at_0 : sums.at_0 ≡ four_pending coefficients past 0
 
--- what waited does so after two more samples
+-- pending sums become those after two more samples
 abbrev pub AreTwelvePendingAfterTwo : ℕ → TwelveTaps → TwelveLanes → ℤ → ℤ → TwelveLanes → Type 0
 AreTwelvePendingAfterTwo vectors taps old second newest new =
     (coefficients past : List ℤ) → AreTwelveTaps coefficients taps → FitVectors vectors coefficients → AreTwelvePending coefficients past old → AreTwelvePending coefficients (newest ∷ second ∷ past) new
 
--- before any sample nothing waits
+-- the pending sums before the first sample
 abbrev pub AreTwelvePendingBeforeAll : TwelveLanes → Type 0
 AreTwelvePendingBeforeAll sums = (coefficients : List ℤ) → AreTwelvePending coefficients [] sums
 
--- what these samples add waits
+-- the pending sums after these samples
 abbrev pub AreTwelvePendingAfter : ℕ → TwelveTaps → List ℤ → TwelveLanes → Type 0
 AreTwelvePendingAfter vectors taps samples sums = (coefficients : List ℤ) → AreTwelveTaps coefficients taps → FitVectors vectors coefficients → AreTwelvePending coefficients (reverse samples) sums

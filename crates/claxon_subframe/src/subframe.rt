@@ -15,17 +15,17 @@ ghost use Rattle.claxon_subframe.specs.Partitions.{lengths, total};
 
 mod partitions;
 mod predictor;
+mod rice;
 mod verbatim;
-mod words;
 
 use claxon_input::error::{Error, Result};
 use claxon_input::input::{Bitstream, ReadBytes};
 use partitions::read_buffered_partitions;
 use predictor::{predict_fixed, predict_lpc};
+use rice::read_rice_codes;
 use verbatim::decode_verbatim;
-use words::read_rice_codes;
 
-/// How the samples of a subframe are written.
+/// How the samples of a subframe are coded.
 #[derive(Clone, Copy)]
 enum SubframeType {
     Constant,
@@ -49,7 +49,8 @@ struct SubframeHeader {
 fn read_subframe_type<R: ReadBytes>(input: &mut Bitstream<R>) -> Result<SubframeType>
     ensures fixed { IfOk result (λ sf_type. fixed_order sf_type ≤ 4) }
     ensures lpc { IfOk result (λ sf_type. lpc_order sf_type ≤ 32) }
-    ensures gives { Gives (type_number) result (type_at) (bits_in R.source input.old) (bits_in R.source input.new) }
+    ensures gives { Gives (type_number) result (type_at)
+        (bits_in R.source input.old) (bits_in R.source input.new) }
 {
     if input.read_bit()? {
         return Err(Error::FormatError("invalid subframe header"));
@@ -63,11 +64,12 @@ fn read_subframe_type<R: ReadBytes>(input: &mut Bitstream<R>) -> Result<Subframe
     }
 }
 
-// How many low bits of each sample are zeros that were left out.
+// The number of wasted bits per sample: low bits that are zero in all samples and aren't coded.
 #[tactic(auto, unfolding(claxon_format::specs::read::Subframe::wasted_bits_to_31_at, claxon_format::specs::read::Subframe::wasted_bits_at, claxon_format::specs::Fault::fault_text))]
 fn read_wasted_bits<R: ReadBytes>(input: &mut Bitstream<R>) -> Result<u32>
     ensures most { IfOk result (λ wasted. wasted ≤ 31) }
-    ensures gives { Gives (λ x. x) result (wasted_bits_to_31_at) (bits_in R.source input.old) (bits_in R.source input.new) }
+    ensures gives { Gives (λ x. x) result (wasted_bits_to_31_at)
+        (bits_in R.source input.old) (bits_in R.source input.new) }
 {
     if !input.read_bit()? {
         return Ok(0);
@@ -81,7 +83,9 @@ fn read_wasted_bits<R: ReadBytes>(input: &mut Bitstream<R>) -> Result<u32>
 
 #[tactic(auto, unfolding(claxon_format::specs::read::Subframe::subframe_header_at))]
 fn read_subframe_header<R: ReadBytes>(input: &mut Bitstream<R>) -> Result<SubframeHeader>
-    ensures { Gives (λ header. subframe_view header.sf_type header.wasted_bits_per_sample) result subframe_header_at (bits_in R.source input.old) (bits_in R.source input.new) }
+    ensures { Gives (λ header. subframe_view header.sf_type header.wasted_bits_per_sample) result
+        subframe_header_at
+        (bits_in R.source input.old) (bits_in R.source input.new) }
 {
     let sf_type = read_subframe_type(input)?;
     let wasted_bits_per_sample = read_wasted_bits(input)?;
@@ -91,7 +95,7 @@ fn read_subframe_header<R: ReadBytes>(input: &mut Bitstream<R>) -> Result<Subfra
     })
 }
 
-// The two's complement value of the low `bits` bits of a coefficient.
+// The two's complement value of a coefficient of `bits` bits.
 fn extend_sign_u16(val: u16, bits: u32) -> i16
     requires some { 0 < bits }
     requires most { bits ≤ 16 }
@@ -112,26 +116,31 @@ pub fn extend_sign_u32(val: u32, bits: u32) -> i32
     (val << (32 - bits)).cast_signed() >> (32 - bits)
 }
 
-/// Decodes one channel of as many samples as the buffer is long, each of `bps` bits.
+/// Decodes a subframe: one channel, with as many samples as the buffer is long, each of `bps` bits.
 ///
-/// Whatever the buffer held is written over. No memory is taken. (RFC 9639, section 9.2.)
+/// Whatever the buffer held is overwritten. No memory is allocated. (RFC 9639, section 9.2.)
 ///
 /// # Errors
 ///
-/// `FormatError` where the bits aren't a subframe of this width and length; a width of 0 is refused too, since no bit of it
-/// can be left. `Unsupported` where a predictor's shift is negative. `IoError` where the bits end or the source fails. The
-/// buffer's samples are open then.
+/// `FormatError` where the bits aren't a subframe of this bit depth and length, or where `bps` is 0. `Unsupported` where the
+/// shift of a linear predictor is negative. `IoError` where the input ends or the source fails. The samples in the buffer are
+/// then unspecified.
 pub fn decode<R: ReadBytes>(input: &mut Bitstream<R>, bps: u32, buffer: &mut [i32]) -> Result<()>
     requires width { bps ≤ 32 }
     requires block { length buffer.old < 65536 }
-    ensures sound { SubframeIsSound R.source bps (length buffer.old) input.old result input.new buffer.new }
-    ensures complete { SubframeIsComplete R.source bps (length buffer.old) input.old result input.new buffer.new }
-    ensures known { SubframeIsUnambiguous bps (length buffer.old) }
-    ensures fault { SubframeFaultIsSound R.source bps (length buffer.old) input.old result input.new }
-    ensures named { SubframeFaultIsComplete R.source bps (length buffer.old) input.old result input.new }
+    ensures sound { SubframeIsSound R.source bps (length buffer.old)
+        input.old result input.new buffer.new }
+    ensures complete { SubframeIsComplete R.source bps (length buffer.old)
+        input.old result input.new buffer.new }
+    ensures unambiguous { SubframeIsUnambiguous bps (length buffer.old) }
+    ensures fault { SubframeFaultIsSound R.source bps (length buffer.old)
+        input.old result input.new }
+    ensures named { SubframeFaultIsComplete R.source bps (length buffer.old)
+        input.old result input.new }
     ensures io { SubframeElseIoError R.source bps (length buffer.old) input.old result input.new }
     ensures front { SubframeLeavesRest R.source bps (length buffer.old) input.old result input.new }
-    ensures gives { SubframeIsRead R.source bps (length buffer.old) input.old result input.new buffer.new }
+    ensures gives { SubframeIsRead R.source bps (length buffer.old)
+        input.old result input.new buffer.new }
     ensures no_memory { NeverOutOfMemory result }
     ensures loans { KeepsReaderLoans R.source input.old input.new }
 {
@@ -142,7 +151,8 @@ pub fn decode<R: ReadBytes>(input: &mut Bitstream<R>, bps: u32, buffer: &mut [i3
 fn decode_exact<R: ReadBytes>(input: &mut Bitstream<R>, bps: u32, buffer: &mut [i32]) -> Result<()>
     requires width { bps ≤ 32 }
     requires block { length buffer.old < 65536 }
-    ensures { Gives (λ x. buffer.new) result (subframe_at bps (length buffer.old)) (bits_in R.source input.old) (bits_in R.source input.new) }
+    ensures { Gives (λ x. buffer.new) result (subframe_at bps (length buffer.old))
+        (bits_in R.source input.old) (bits_in R.source input.new) }
 {
     let header = read_subframe_header(input)?;
     let wasted = header.wasted_bits_per_sample;
@@ -167,7 +177,9 @@ fn decode_samples<R: ReadBytes>(
     requires some { 0 < bps }
     requires width { bps ≤ 32 }
     requires block { length buffer.old < 65536 }
-    ensures { Gives (λ x. buffer.new) result (subframe_body_at bps (length buffer.old) (type_number sf_type)) (bits_in R.source input.old) (bits_in R.source input.new) }
+    ensures { Gives (λ x. buffer.new) result
+        (subframe_body_at bps (length buffer.old) (type_number sf_type))
+        (bits_in R.source input.old) (bits_in R.source input.new) }
 {
     match sf_type {
         SubframeType::Constant => decode_constant(input, bps, buffer),
@@ -177,7 +189,7 @@ fn decode_samples<R: ReadBytes>(
     }
 }
 
-// Puts back the low zeros, modulo 2^32.
+// Appends the wasted bits to each sample, as zeros, modulo 2^32.
 fn restore_wasted_bits(wasted: u32, buffer: &mut [i32])
     requires { wasted ≤ 31 }
     ensures { buffer.new ≡ map (scaled wasted) buffer.old }
@@ -192,7 +204,8 @@ fn restore_wasted_bits(wasted: u32, buffer: &mut [i32])
 fn read_sample<R: ReadBytes>(input: &mut Bitstream<R>, bps: u32) -> Result<i32>
     requires some { 0 < bps }
     requires width { bps ≤ 32 }
-    ensures { Gives (λ x. x) result (signed_at bps) (bits_in R.source input.old) (bits_in R.source input.new) }
+    ensures { Gives (λ x. x) result (signed_at bps)
+        (bits_in R.source input.old) (bits_in R.source input.new) }
 {
     let sample = input.read_leq_u32(bps)?;
     Ok(extend_sign_u32(sample, bps))
@@ -205,7 +218,9 @@ fn decode_constant<R: ReadBytes>(
 ) -> Result<()>
     requires some { 0 < bps }
     requires width { bps ≤ 32 }
-    ensures { Gives (λ x. buffer.new) result (and_then (signed_at bps) (λ x. done (replicate (length buffer.old) x))) (bits_in R.source input.old) (bits_in R.source input.new) }
+    ensures { Gives (λ x. buffer.new) result
+        (and_then (signed_at bps) (λ x. done (replicate (length buffer.old) x)))
+        (bits_in R.source input.old) (bits_in R.source input.new) }
 {
     let sample = read_sample(input, bps)?;
     buffer.fill(sample);
@@ -222,13 +237,14 @@ fn decode_fixed<R: ReadBytes>(
     requires width { bps ≤ 32 }
     requires order { order ≤ 4 }
     requires block { length buffer.old < 65536 }
-    ensures { Gives (λ x. buffer.new) result (fixed_at bps (length buffer.old) order) (bits_in R.source input.old) (bits_in R.source input.new) }
+    ensures { Gives (λ x. buffer.new) result (fixed_at bps (length buffer.old) order)
+        (bits_in R.source input.old) (bits_in R.source input.new) }
 {
     if buffer.len() < order as usize {
         return Err(Error::FormatError("invalid fixed subframe, order is larger than block size"));
     }
     let block_size = buffer.len() as u16;
-    // Of order 0 the residual is the samples.
+    // With order 0 the residual samples are the samples.
     if order == 0 {
         return decode_residual(input, block_size, buffer);
     }
@@ -250,13 +266,14 @@ fn read_lpc_parameters<R: ReadBytes>(input: &mut Bitstream<R>) -> Result<LpcPara
     ensures some { IfOk result (λ lpc. 0 < lpc.precision) }
     ensures most { IfOk result (λ lpc. lpc.precision ≤ 15) }
     ensures shift { IfOk result (λ lpc. lpc.shift ≤ 15) }
-    ensures gives { Gives (parameters_of) result (parameters_at) (bits_in R.source input.old) (bits_in R.source input.new) }
+    ensures gives { Gives (parameters_of) result (parameters_at)
+        (bits_in R.source input.old) (bits_in R.source input.new) }
 {
     let precision_less_one = u32::from(input.read_leq_u8(4)?);
     if precision_less_one == 0b1111 {
         return Err(Error::FormatError("invalid subframe, qlp precision value invalid"));
     }
-    // The shift is signed: from 16 on it stands for a negative one.
+    // The shift is a signed number of 5 bits: from 16 on it is negative.
     let shift = u32::from(input.read_leq_u8(5)?);
     if shift > 15 {
         return Err(Error::Unsupported(
@@ -276,7 +293,9 @@ fn read_coefficients<R: ReadBytes>(
 ) -> Result<()>
     requires some { 0 < precision }
     requires most { precision ≤ 16 }
-    ensures { Gives (λ x. coefficients.new) result (times_at (length coefficients.old) (signed_at precision)) (bits_in R.source input.old) (bits_in R.source input.new) }
+    ensures { Gives (λ x. coefficients.new) result
+        (times_at (length coefficients.old) (signed_at precision))
+        (bits_in R.source input.old) (bits_in R.source input.new) }
 {
     for coefficient in coefficients.iter_mut() {
         *coefficient = read_coefficient(input, precision)?;
@@ -289,7 +308,8 @@ fn read_coefficients<R: ReadBytes>(
 fn read_coefficient<R: ReadBytes>(input: &mut Bitstream<R>, precision: u32) -> Result<i16>
     requires some { 0 < precision }
     requires most { precision ≤ 16 }
-    ensures { Gives (λ x. x) result (signed_at precision) (bits_in R.source input.old) (bits_in R.source input.new) }
+    ensures { Gives (λ x. x) result (signed_at precision)
+        (bits_in R.source input.old) (bits_in R.source input.new) }
 {
     let number = input.read_leq_u16(precision)?;
     Ok(extend_sign_u16(number, precision))
@@ -305,7 +325,8 @@ fn decode_lpc<R: ReadBytes>(
     requires width { bps ≤ 32 }
     requires order { order ≤ 32 }
     requires block { length buffer.old < 65536 }
-    ensures { Gives (λ x. buffer.new) result (linear_at bps (length buffer.old) order) (bits_in R.source input.old) (bits_in R.source input.new) }
+    ensures { Gives (λ x. buffer.new) result (linear_at bps (length buffer.old) order)
+        (bits_in R.source input.old) (bits_in R.source input.new) }
 {
     if buffer.len() < order as usize {
         return Err(Error::FormatError("invalid LPC subframe, lpc order is larger than block size"));
@@ -322,7 +343,7 @@ fn decode_lpc<R: ReadBytes>(
     Ok(())
 }
 
-/// How many bits the parameter of a partition has: 4 or 5.
+/// The coding method: Rice parameters of 4 or of 5 bits.
 #[derive(Clone, Copy)]
 enum RicePartitionType {
     Rice,
@@ -342,7 +363,8 @@ impl RicePartitionType {
 
 #[tactic(auto, unfolding(claxon_format::specs::read::Residual::method_at, claxon_format::specs::Fault::fault_text))]
 fn read_partition_type<R: ReadBytes>(input: &mut Bitstream<R>) -> Result<RicePartitionType>
-    ensures { Gives method_of result method_at (bits_in R.source input.old) (bits_in R.source input.new) }
+    ensures { Gives method_of result method_at
+        (bits_in R.source input.old) (bits_in R.source input.new) }
 {
     match input.read_leq_u8(2)? {
         0b00 => Ok(RicePartitionType::Rice),
@@ -351,18 +373,20 @@ fn read_partition_type<R: ReadBytes>(input: &mut Bitstream<R>) -> Result<RicePar
     }
 }
 
-// The residual of a predicted subframe: for each sample after the warm-up samples, what has to be added to its prediction.
+// The coded residual of a predicted subframe: the difference between each sample after the warm-up samples and its prediction.
 //
-// Two bits say how many bits a Rice parameter has, and four bits the partition order. The block is cut into two to the power
-// of that order partitions of equal length, each with a parameter of its own; the first one has no residual for the warm-up
-// samples, and so as many entries less. (RFC 9639, section 9.2.7.)
+// Two bits give the coding method and four bits the partition order. The block is divided into 2^order partitions of equal
+// length, each with its own Rice parameter. The first partition is shorter by the number of warm-up samples. (RFC 9639,
+// section 9.2.7.)
 fn decode_residual<R: ReadBytes>(
     input: &mut Bitstream<R>,
     block_size: u16,
     buffer: &mut [i32],
 ) -> Result<()>
     requires { length buffer.old ≤ block_size }
-    ensures { Gives (λ x. buffer.new) result (residual_at block_size (block_size - length buffer.old)) (bits_in R.source input.old) (bits_in R.source input.new) }
+    ensures { Gives (λ x. buffer.new) result
+        (residual_at block_size (block_size - length buffer.old))
+        (bits_in R.source input.old) (bits_in R.source input.new) }
 {
     let partition_type = read_partition_type(input)?;
     let order = u32::from(input.read_leq_u8(4)?);
@@ -385,7 +409,7 @@ fn decode_residual<R: ReadBytes>(
     )
 }
 
-// So many partitions, the first of `first` entries and the others of `each`.
+// Partitions: the first of `first` residual samples, the others of `each`.
 fn decode_partitions<R: ReadBytes>(
     input: &mut Bitstream<R>,
     partition_type: RicePartitionType,
@@ -395,7 +419,9 @@ fn decode_partitions<R: ReadBytes>(
     buffer: &mut [i32],
 ) -> Result<()>
     requires { total (lengths n_partitions first each) ≡ length buffer.old }
-    ensures { Gives (λ x. buffer.new) result (joined_at (partition_at (method_of partition_type)) (lengths n_partitions first each)) (bits_in R.source input.old) (bits_in R.source input.new) }
+    ensures { Gives (λ x. buffer.new) result
+        (joined_at (partition_at (method_of partition_type)) (lengths n_partitions first each))
+        (bits_in R.source input.old) (bits_in R.source input.new) }
 {
     let mut start = 0;
     let mut len = first;
@@ -415,14 +441,16 @@ fn decode_partitions<R: ReadBytes>(
     Ok(())
 }
 
-// A Rice parameter and as many Rice codes as the buffer is long. A parameter whose bits are all ones says that the partition
-// is escaped. (RFC 9639, section 9.2.7.1.)
+// A Rice parameter, and as many Rice codes as the buffer is long. A parameter of all ones is the escape code. (RFC 9639,
+// section 9.2.7.1.)
 fn decode_partition<R: ReadBytes>(
     input: &mut Bitstream<R>,
     partition_type: RicePartitionType,
     buffer: &mut [i32],
 ) -> Result<()>
-    ensures { Gives (λ x. buffer.new) result (partition_at (method_of partition_type) (length buffer.old)) (bits_in R.source input.old) (bits_in R.source input.new) }
+    ensures { Gives (λ x. buffer.new) result
+        (partition_at (method_of partition_type) (length buffer.old))
+        (bits_in R.source input.old) (bits_in R.source input.new) }
 {
     let bits = partition_type.parameter_bits();
     let escape = (1 << bits) - 1;
@@ -433,10 +461,12 @@ fn decode_partition<R: ReadBytes>(
     read_rice_codes(input, parameter, buffer)
 }
 
-// Entries that are no words: a width of 5 bits, and each entry in that width. In none each is 0.
+// An escaped partition: 5 bits give the bits per residual sample, then each residual sample follows unencoded. With 0 bits
+// all are 0.
 #[tactic(auto, unfolding(claxon_format::specs::read::Residual::escaped_partition_at, claxon_format::specs::read::Residual::escaped_sample_at))]
 fn decode_escape_partition<R: ReadBytes>(input: &mut Bitstream<R>, buffer: &mut [i32]) -> Result<()>
-    ensures { Gives (λ x. buffer.new) result (escaped_partition_at (length buffer.old)) (bits_in R.source input.old) (bits_in R.source input.new) }
+    ensures { Gives (λ x. buffer.new) result (escaped_partition_at (length buffer.old))
+        (bits_in R.source input.old) (bits_in R.source input.new) }
 {
     let width = u32::from(input.read_leq_u8(5)?);
     if width == 0 {

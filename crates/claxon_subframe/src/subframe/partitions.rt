@@ -1,4 +1,4 @@
-//! Partitions that stand whole in the bits at hand, which are skipped at once behind the last of them. Incomplete ones cost little so.
+//! Partitions that are completely buffered. Their bits are skipped in one call, so that short partitions cost little.
 ghost use Rattle.std.specs.Prelude.{◌≡◌, ◌+◌, ◌*◌, ◌≤◌, ◌<◌, IfOk, IfErr, OnErr, length, take, replicate};
 ghost use Rattle.std.specs.Bool.{MatchBool};
 ghost use Rattle.claxon_format.specs.read.Residual.{joined_at, partition_at};
@@ -10,12 +10,12 @@ ghost use Rattle.claxon_subframe.specs.Partitions.{PartitionsAreRead};
 ghost use Rattle.claxon_subframe.specs.SubframeFields.{method_of};
 
 use super::RicePartitionType;
-use super::words::decode_buffered_codes;
+use super::rice::decode_buffered_codes;
 use claxon_input::error::Result;
-use claxon_input::input::{BufferedBits, Bitstream, ReadBytes};
+use claxon_input::input::{Bitstream, BufferedBits, ReadBytes};
 
-/// Reads as many partitions as stand whole in the bits at hand, each of `each` entries, and says how many. Only the source can
-/// fail.
+/// Reads the partitions that are completely buffered, at most `most`, each of `each` residual samples, and returns their number.
+/// Only the source can fail.
 pub fn read_buffered_partitions<R: ReadBytes>(
     input: &mut Bitstream<R>,
     partition_type: RicePartitionType,
@@ -23,21 +23,23 @@ pub fn read_buffered_partitions<R: ReadBytes>(
     most: u32,
     buffer: &mut [i32],
 ) -> Result<u32>
-    requires room { most * each ≤ length buffer.old }
+    requires capacity { most * each ≤ length buffer.old }
     ensures few { IfOk result (λ whole. whole ≤ most) }
-    ensures ok { PartitionsAreRead R.source (method_of partition_type) each input.old result input.new buffer.new }
+    ensures ok { PartitionsAreRead R.source (method_of partition_type) each
+        input.old result input.new buffer.new }
     ensures io { IfErr result IsIo }
-    ensures err { OnErr result (FailureOr (bits_in R.source input.old) (bits_in R.source input.new) (λ s. ⊥)) }
+    ensures err { OnErr result
+        (FailureOr (bits_in R.source input.old) (bits_in R.source input.new) (λ s. ⊥)) }
 {
     let mut buffered = input.buffered();
     let bits = buffered.len();
     let whole = decode_buffered_partitions(&mut buffered, partition_type, each, most, buffer);
-    let passed = bits - buffered.len();
-    input.skip_bits(passed)?;
+    let consumed = bits - buffered.len();
+    input.skip_bits(consumed)?;
     Ok(whole)
 }
 
-// The same without an input: how many of so many partitions stand whole in the bits at hand.
+// Decodes these partitions from the buffered bits.
 fn decode_buffered_partitions(
     buffered: &mut BufferedBits,
     partition_type: RicePartitionType,
@@ -45,9 +47,11 @@ fn decode_buffered_partitions(
     most: u32,
     buffer: &mut [i32],
 ) -> u32
-    requires room { most * each ≤ length buffer.old }
+    requires capacity { most * each ≤ length buffer.old }
     ensures few { result ≤ most }
-    ensures read { GivesBuffered buffered.old buffered.new (joined_at (partition_at (method_of partition_type)) (replicate result each)) (take (result * each) buffer.new) }
+    ensures read { GivesBuffered buffered.old buffered.new
+        (joined_at (partition_at (method_of partition_type)) (replicate result each))
+        (take (result * each) buffer.new) }
 {
     let each = each as usize;
     let mut whole = 0;
@@ -62,10 +66,17 @@ fn decode_buffered_partitions(
     whole
 }
 
-// A partition of words, where it stands whole in the bits at hand. Otherwise what is in the buffer is of no use.
-fn decode_buffered_partition(buffered: &mut BufferedBits, partition_type: RicePartitionType, buffer: &mut [i32]) -> bool
+// A partition of Rice codes, where it is completely buffered. Otherwise the contents of the buffer are unspecified.
+fn decode_buffered_partition(
+    buffered: &mut BufferedBits,
+    partition_type: RicePartitionType,
+    buffer: &mut [i32],
+) -> bool
     requires { length buffer.now < 65536 }
-    ensures { MatchBool result (GivesBuffered buffered.old buffered.new (partition_at (method_of partition_type) (length buffer.new)) buffer.new) (bits_in_buffer buffered.new ≡ bits_in_buffer buffered.old) }
+    ensures { MatchBool result
+        (GivesBuffered buffered.old buffered.new
+        (partition_at (method_of partition_type) (length buffer.new)) buffer.new)
+        (bits_in_buffer buffered.new ≡ bits_in_buffer buffered.old) }
 {
     let bits = partition_type.parameter_bits();
     let escape = (1 << bits) - 1;
@@ -73,7 +84,7 @@ fn decode_buffered_partition(buffered: &mut BufferedBits, partition_type: RicePa
     let Some(parameter) = next.number(bits) else {
         return false;
     };
-    // A word has a bit more than the parameter, or many more: where so many aren't at hand none is read in vain.
+    // A Rice code has at least `parameter + 1` bits: with fewer bits buffered the partition can't be complete.
     if parameter == escape || next.len() < buffer.len() as u32 * (parameter + 1) {
         return false;
     }

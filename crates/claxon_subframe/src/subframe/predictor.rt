@@ -1,10 +1,10 @@
-//! Predictors: samples from their first ones and a residual, in place. All sums are modulo 2^32 in the end.
+//! Predictors: samples from the warm-up samples and the residual, in place. Samples are modulo 2^32.
 ghost use Rattle.std.specs.Prelude.{◌≡◌, ◌+◌, ◌-◌, ◌*◌, ◌^◌, ◌<◌, ◌≤◌, true, false, ◌++◌, length, take, drop, reverse, replicate, get_or, pos, FitsSigned};
 ghost use Rattle.std.specs.Int.{w32};
 ghost use Rattle.claxon_format.specs.Predict.{wrap, dot, fixed, floor_shift, linear, restored};
 ghost use Rattle.claxon_subframe.specs.Predictor.{SamplesAreRestored};
 ghost use Rattle.claxon_subframe.specs.Lanes.{Within, Lanes, LanesFit64, plus_products, advanced_by_two};
-ghost use Rattle.claxon_subframe.specs.Sums.{but_newest_five, AreTaps, SmallTaps, SumsFit64, ArePendingSumsAfterTwo, ArePendingSumsBeforeAll, ArePendingSumsAfter, IsScaledUp, AddsProduct, IsSample, IsFollowed, AreNewest, IsFollowedByTwo};
+ghost use Rattle.claxon_subframe.specs.PendingSums.{but_newest_five, AreTaps, SmallTaps, SumsFit64, ArePendingSumsAfterTwo, ArePendingSumsBeforeAll, ArePendingSumsAfter, IsScaledUp, AddsProduct, IsSample, IsFollowed, AreNewest, IsFollowedByTwo};
 ghost use Rattle.claxon_subframe.specs.TwelveLanes.{numbers, SmallTwelve, TwelveFit64, AreTwelveTaps, SmallTwelveTaps, AreTwelvePendingAfterTwo, AreTwelvePendingBeforeAll, AreTwelvePendingAfter};
 
 use std::simd::prelude::*;
@@ -12,7 +12,7 @@ use std::simd::prelude::*;
 #[cfg(test)]
 mod tests;
 
-/// The samples of a fixed predictor, from its first `order` samples and the residual after them.
+/// The samples of a fixed predictor, from its `order` warm-up samples and the residual after them.
 /// (RFC 9639, section 9.2.5.)
 pub fn predict_fixed(order: u32, buffer: &mut [i32])
     requires some { 1 ≤ order }
@@ -48,8 +48,8 @@ fn predict_fixed_2(buffer: &mut [i32])
     let mut second = buffer[0];
     let mut newest = buffer[1];
     for place in &mut buffer[2..] {
-        let early = (*place).wrapping_sub(second);
-        let sample = early.wrapping_add(newest.wrapping_mul(2));
+        let partial = (*place).wrapping_sub(second);
+        let sample = partial.wrapping_add(newest.wrapping_mul(2));
         second = newest;
         newest = sample;
         *place = sample;
@@ -65,10 +65,10 @@ fn predict_fixed_3(buffer: &mut [i32])
     let mut second = buffer[1];
     let mut newest = buffer[2];
     for place in &mut buffer[3..] {
-        let early = (*place)
+        let partial = (*place)
             .wrapping_add(third)
             .wrapping_sub(second.wrapping_mul(3));
-        let sample = early.wrapping_add(newest.wrapping_mul(3));
+        let sample = partial.wrapping_add(newest.wrapping_mul(3));
         third = second;
         second = newest;
         newest = sample;
@@ -86,11 +86,11 @@ fn predict_fixed_4(buffer: &mut [i32])
     let mut second = buffer[2];
     let mut newest = buffer[3];
     for place in &mut buffer[4..] {
-        let early = (*place)
+        let partial = (*place)
             .wrapping_sub(fourth)
             .wrapping_add(third.wrapping_mul(4))
             .wrapping_sub(second.wrapping_mul(6));
-        let sample = early.wrapping_add(newest.wrapping_mul(4));
+        let sample = partial.wrapping_add(newest.wrapping_mul(4));
         fourth = third;
         third = second;
         second = newest;
@@ -107,7 +107,7 @@ fn low_bits(value: i64) -> i32
     ((value.cast_unsigned() & 0xffff_ffff) as u32).cast_signed()
 }
 
-// The sum of the products of coefficients and samples. With 32 products of at most 2^14 * 2^31 it stays below 2^51.
+// The sum of the products of coefficients and samples. With 32 products of at most 2^15 * 2^31 it is at most 2^51 in size.
 #[inline(always)]
 fn inner_product(coefficients: &[i16], samples: &[i32]) -> i64
     requires same { length coefficients.now ≡ length samples.now }
@@ -121,7 +121,7 @@ fn inner_product(coefficients: &[i16], samples: &[i32]) -> i64
     sum
 }
 
-// The sum by 2^shift, rounded down.
+// The sum divided by 2^shift, rounded down.
 #[inline(always)]
 fn shifted_down(sum: i64, shift: u32) -> i64
     requires { shift ≤ 15 }
@@ -130,7 +130,7 @@ fn shifted_down(sum: i64, shift: u32) -> i64
     sum >> shift
 }
 
-// By the plain sum, at any order.
+// By the sum of products of each sample, at any order.
 #[inline(never)]
 fn predict_plain(coefficients: &[i16], shift: u32, buffer: &mut [i32])
     requires few { length coefficients.now ≤ 32 }
@@ -146,15 +146,16 @@ fn predict_plain(coefficients: &[i16], shift: u32, buffer: &mut [i32])
     }
 }
 
-/// The samples of a linear predictor, from as many samples as it has coefficients and the residual after them. The first
-/// coefficient belongs to the newest sample; they are turned round. (RFC 9639, section 9.2.6.)
+/// The samples of a linear predictor, from its warm-up samples, as many as it has coefficients, and the residual after them.
+/// The first coefficient is that of the newest sample; the call reverses them. (RFC 9639, section 9.2.6.)
 pub fn predict_lpc(coefficients: &mut [i16], shift: u32, buffer: &mut [i32])
     requires few { length coefficients.old ≤ 32 }
     requires warm_up { length coefficients.old ≤ length buffer.old }
     requires shift { shift ≤ 15 }
-    ensures { buffer.new ≡ restored (linear coefficients.old shift) (length coefficients.old) buffer.old }
+    ensures { buffer.new
+        ≡ restored (linear coefficients.old shift) (length coefficients.old) buffer.old }
 {
-    // The predictors take the oldest sample's first.
+    // From here on the oldest sample's coefficient is first.
     coefficients.reverse();
     if coefficients.len() <= 12 {
         predict_lpc_low_order(coefficients, shift, buffer);
@@ -163,8 +164,8 @@ pub fn predict_lpc(coefficients: &mut [i16], shift: u32, buffer: &mut [i32])
     }
 }
 
-/// The samples of a linear predictor of more than 12 coefficients, from as many samples as it has coefficients, the
-/// oldest first, and the residual after them. (RFC 9639, section 9.2.6.)
+/// The samples of a linear predictor of more than 12 coefficients, the oldest sample's first, from its warm-up samples and the
+/// residual after them. (RFC 9639, section 9.2.6.)
 pub fn predict_lpc_high_order(coefficients: &[i16], shift: u32, buffer: &mut [i32])
     requires few { length coefficients.now ≤ 32 }
     requires warm_up { length coefficients.now ≤ length buffer.old }
@@ -180,14 +181,14 @@ pub fn predict_lpc_high_order(coefficients: &[i16], shift: u32, buffer: &mut [i3
     }
 }
 
-/// The same of a predictor of at most 12 coefficients.
+/// The same for a predictor of at most 12 coefficients.
 pub fn predict_lpc_low_order(coefficients: &[i16], shift: u32, buffer: &mut [i32])
     requires few { length coefficients.now ≤ 12 }
     requires warm_up { length coefficients.now ≤ length buffer.old }
     requires shift { shift ≤ 15 }
     ensures { SamplesAreRestored coefficients.now shift buffer.old buffer.new }
 {
-    // The first twelve places by the plain sum, the others by lanes.
+    // The first twelve samples by their sums of products, the others in vectors.
     let front = buffer.len().min(12);
     predict_plain(coefficients, shift, &mut buffer[..front]);
     let twelve = padded_to_twelve(coefficients);
@@ -198,7 +199,7 @@ pub fn predict_lpc_low_order(coefficients: &[i16], shift: u32, buffer: &mut [i32
     }
 }
 
-// The first 32 places by the plain sum, the others by running sums in `VECTORS` vectors.
+// The first 32 samples by their sums of products, the others by pending sums in `VECTORS` vectors.
 #[inline(always)]
 fn predict_by_vectors<const VECTORS: usize>(coefficients: &[i16], shift: u32, buffer: &mut [i32])
     requires vectors { VECTORS ≤ 7 }
@@ -213,33 +214,34 @@ fn predict_by_vectors<const VECTORS: usize>(coefficients: &[i16], shift: u32, bu
     predict_32_taps::<VECTORS>(&padded_coefficients::<32>(coefficients), shift, buffer);
 }
 
-// The coefficients as the last of so many numbers, zeros before them.
+// The coefficients, padded to `COUNT` numbers with zeros before them.
 #[inline(always)]
 fn padded_coefficients<const COUNT: usize>(coefficients: &[i16]) -> [i64; COUNT]
     requires { length coefficients.now ≤ COUNT }
-    ensures value { result ≡ replicate (COUNT - length coefficients.now) (pos 0) ++ coefficients.now }
+    ensures value { result
+        ≡ replicate (COUNT - length coefficients.now) (pos 0) ++ coefficients.now }
     ensures small { Within (2 ^ 15) result }
 {
-    let mut many = [0i64; COUNT];
+    let mut padded = [0i64; COUNT];
     let start = COUNT - coefficients.len();
     for i in 0..coefficients.len() {
-        many[start + i] = i64::from(coefficients[i]);
+        padded[start + i] = i64::from(coefficients[i]);
     }
-    many
+    padded
 }
 
-// The same lanes. That they have 32 bits is seen by the compiler from the shifts, so that it multiplies 32 bits by 32.
+// The same lanes. The shifts tell the compiler that they are sign-extended from 32 bits, so that it multiplies 32 bits by 32.
 #[inline(always)]
-fn narrow(lanes: i64x4) -> i64x4
+fn sign_extended(lanes: i64x4) -> i64x4
     requires { Lanes (2 ^ 15) lanes }
     ensures { result ≡ lanes }
 {
     (lanes << i64x4::splat(32)) >> i64x4::splat(32)
 }
 
-// A sample in each lane, each of which is known to have 32 bits by the shifts.
+// A sample in each lane, sign-extended from 32 bits by shifts, as in `sign_extended`.
 #[inline(always)]
-fn spread(sample: i64) -> i64x4
+fn broadcast(sample: i64) -> i64x4
     requires { FitsSigned w32 sample }
     ensures value { result ≡ replicate 4 sample }
     ensures lanes { Lanes (2 ^ 31) result }
@@ -247,7 +249,7 @@ fn spread(sample: i64) -> i64x4
     (i64x4::splat(sample) << i64x4::splat(32)) >> i64x4::splat(32)
 }
 
-// Each sum and the product of its lane, modulo 2^64.
+// Adds to each sum the product of its lane, modulo 2^64.
 #[inline(always)]
 fn add_products(sums: i64x4, coefficients: i64x4, samples: i64x4) -> i64x4
     requires sums { LanesFit64 sums }
@@ -255,22 +257,22 @@ fn add_products(sums: i64x4, coefficients: i64x4, samples: i64x4) -> i64x4
     requires samples { Lanes (2 ^ 31) samples }
     ensures { result ≡ plus_products sums coefficients samples }
 {
-    sums + narrow(coefficients) * samples
+    sums + sign_extended(coefficients) * samples
 }
 
-// Lanes two places on: the last two before some and the first two of these.
+// Shifts the lanes by two: the last two lanes of `before`, then the first two of `lanes`.
 #[inline(always)]
 fn shift_two_lanes(before: i64x4, lanes: i64x4) -> i64x4
     requires before { LanesFit64 before }
     requires lanes { LanesFit64 lanes }
     ensures value { result ≡ drop 2 before ++ take 2 lanes }
-    ensures wide { LanesFit64 result }
+    ensures fits { LanesFit64 result }
 {
     before.shuffle(lanes, [2, 3, 4, 5])
 }
 
-// The sums of four places, two places on: the last two lanes before `sums` and its first two, and what two samples add. Where
-// no coefficient is left for these places, all of that is zeros.
+// The pending sums of four samples, after two more samples: the lanes shifted by two, and the products of the two samples. Where
+// no coefficient reaches these four, all is zero.
 #[inline(always)]
 fn advance_lanes(
     has_taps: bool,
@@ -287,9 +289,10 @@ fn advance_lanes(
     requires second { Lanes (2 ^ 31) second }
     requires for_newest { Lanes (2 ^ 15) for_newest }
     requires newest { Lanes (2 ^ 31) newest }
-    ensures value { has_taps ≡ true → result ≡ advanced_by_two before sums for_second second for_newest newest }
+    ensures value { has_taps ≡ true
+        → result ≡ advanced_by_two before sums for_second second for_newest newest }
     ensures zeros { has_taps ≡ false → result ≡ replicate 4 (pos 0) }
-    ensures wide { LanesFit64 result }
+    ensures fits { LanesFit64 result }
 {
     if !has_taps {
         return i64x4::splat(0);
@@ -298,18 +301,18 @@ fn advance_lanes(
     add_products(add_products(moved, for_second, second), for_newest, newest)
 }
 
-// The residuals of the nearest two places as the last two lanes, the nearest place's last.
+// The residual samples of the next two samples in the last two lanes, the next one's last.
 #[inline(always)]
 fn residuals_in_lanes(nearest: i32, farther: i32) -> i64x4
     ensures nearest { get_or result 3 (pos 0) ≡ nearest }
     ensures farther { get_or result 2 (pos 0) ≡ farther }
-    ensures wide { LanesFit64 result }
+    ensures fits { LanesFit64 result }
 {
     i32x4::from_array([0, 0, farther, nearest]).cast::<i64>()
 }
 
-// The sums that wait for the nearest two places, each with the residual of its place. All is put up so far that one shift by
-// 32 drops what `shift` would, and leaves a number of 32 bits.
+// The pending sums of the next two samples, each with its residual sample. All is scaled up so that one shift by 32 drops the
+// bits that `shift` would drop, and leaves a number of 32 bits.
 #[inline(always)]
 fn scaled_up(sums: i64x4, nearest: i32, farther: i32, shift: u32) -> (i64, i64)
     requires sums { LanesFit64 sums }
@@ -325,7 +328,7 @@ fn scaled_up(sums: i64x4, nearest: i32, farther: i32, shift: u32) -> (i64, i64)
 
 // Five samples, or their coefficients.
 #[derive(Clone, Copy)]
-struct Five {
+struct NewestFive {
     fifth: i64,
     fourth: i64,
     third: i64,
@@ -333,14 +336,14 @@ struct Five {
     newest: i64,
 }
 
-impl Five {
-    // Five samples, the newest last.
+impl NewestFive {
+    // From five samples, the newest last.
     #[inline(always)]
-    fn of(samples: &[i32]) -> Five
+    fn of(samples: &[i32]) -> NewestFive
         requires { length samples.now ≡ 5 }
         ensures { AreNewest (reverse samples.now) result }
     {
-        Five {
+        NewestFive {
             fifth: i64::from(samples[0]),
             fourth: i64::from(samples[1]),
             third: i64::from(samples[2]),
@@ -349,12 +352,12 @@ impl Five {
         }
     }
 
-    // The newest five with one more.
+    // The newest five after one more sample.
     #[inline(always)]
-    fn followed_by(self, sample: i64) -> Five
+    fn followed_by(self, sample: i64) -> NewestFive
         ensures { IsFollowed self sample result }
     {
-        Five {
+        NewestFive {
             fifth: self.fourth,
             fourth: self.third,
             third: self.second,
@@ -363,16 +366,16 @@ impl Five {
         }
     }
 
-    // The newest five with the two of the nearest places, whose pending sums are the last two lanes, the nearest place's last.
+    // The newest five after the next two samples, whose pending sums are the last two lanes of `pending`, the next one's last.
     #[inline(always)]
     fn followed_by_two(
         self,
-        coefficients: Five,
+        coefficients: NewestFive,
         pending: i64x4,
         nearest: i32,
         farther: i32,
         shift: u32,
-    ) -> Five
+    ) -> NewestFive
         requires pending { LanesFit64 pending }
         requires shift { shift ≤ 15 }
         ensures value { IsFollowedByTwo self coefficients pending nearest farther shift result }
@@ -387,32 +390,32 @@ impl Five {
     }
 }
 
-// What was put up, and one more product, which is put up too.
+// Adds a product, scaled up, to a sum that is scaled up.
 #[inline(always)]
-fn add_product(early: i64, coefficient: i64, sample: i64, shift: u32) -> i64
+fn add_product(scaled: i64, coefficient: i64, sample: i64, shift: u32) -> i64
     requires { shift ≤ 15 }
-    ensures { AddsProduct early coefficient sample shift result }
+    ensures { AddsProduct scaled coefficient sample shift result }
 {
-    early.wrapping_add((coefficient << (32 - shift)).wrapping_mul(sample))
+    scaled.wrapping_add((coefficient << (32 - shift)).wrapping_mul(sample))
 }
 
-// A sample from what was put up for its place and the products of the newest five. It is kept in 64 bits, in which it is
+// A sample, from its scaled up pending sum and the products of the newest five samples. It is kept in 64 bits, in which it is
 // multiplied next.
 #[inline(always)]
-fn sample_of(early: i64, coefficients: Five, samples: Five, shift: u32) -> i64
+fn sample_of(scaled: i64, coefficients: NewestFive, samples: NewestFive, shift: u32) -> i64
     requires { shift ≤ 15 }
-    ensures value { IsSample early coefficients samples shift result }
+    ensures value { IsSample scaled coefficients samples shift result }
     ensures fits { FitsSigned w32 result }
 {
-    let five = add_product(early, coefficients.fifth, samples.fifth, shift);
+    let five = add_product(scaled, coefficients.fifth, samples.fifth, shift);
     let four = add_product(five, coefficients.fourth, samples.fourth, shift);
     let three = add_product(four, coefficients.third, samples.third, shift);
     let two = add_product(three, coefficients.second, samples.second, shift);
     add_product(two, coefficients.newest, samples.newest, shift) >> 32
 }
 
-// TwelveLanes numbers in three vectors, the farthest first: coefficients, the oldest sample's first, or the pending sums of the next
-// twelve places.
+// Twelve numbers in three vectors: coefficients, the oldest sample's first, or the pending sums of the next twelve samples, the
+// latest first.
 #[derive(Clone, Copy)]
 struct TwelveLanes {
     at_8: i64x4,
@@ -420,33 +423,34 @@ struct TwelveLanes {
     at_0: i64x4,
 }
 
-// The same without the nearest four.
+// The same without the last vector.
 #[derive(Clone, Copy)]
-struct Eight {
+struct EightLanes {
     at_8: i64x4,
     at_4: i64x4,
 }
 
-// The coefficients of the newer of two samples for the next twelve places, and those of the one before it. They are 0 where a
-// sample is one of the newest five of a place, so neither adds to the nearest four.
+// The coefficients of the newer of two samples for the next twelve samples, and those of the one before it. They are 0 for the
+// five samples directly after each, so neither adds to the next four.
 #[derive(Clone, Copy)]
 struct TwelveTaps {
-    second: Eight,
-    newest: Eight,
+    second: EightLanes,
+    newest: EightLanes,
 }
 
-// The coefficients, the oldest sample's first, as the last of twelve numbers, zeros before them.
+// The coefficients, the oldest sample's first, padded to twelve with zeros before them.
 #[inline(always)]
 fn padded_to_twelve(coefficients: &[i16]) -> TwelveLanes
     requires { length coefficients.now ≤ 12 }
-    ensures value { numbers result ≡ replicate (12 - length coefficients.now) (pos 0) ++ coefficients.now }
+    ensures value { numbers result
+        ≡ replicate (12 - length coefficients.now) (pos 0) ++ coefficients.now }
     ensures small { SmallTwelve result }
 {
-    let many = padded_coefficients::<12>(coefficients);
+    let padded = padded_coefficients::<12>(coefficients);
     TwelveLanes {
-        at_8: i64x4::from_array([many[0], many[1], many[2], many[3]]),
-        at_4: i64x4::from_array([many[4], many[5], many[6], many[7]]),
-        at_0: i64x4::from_array([many[8], many[9], many[10], many[11]]),
+        at_8: i64x4::from_array([padded[0], padded[1], padded[2], padded[3]]),
+        at_4: i64x4::from_array([padded[4], padded[5], padded[6], padded[7]]),
+        at_0: i64x4::from_array([padded[8], padded[9], padded[10], padded[11]]),
     }
 }
 
@@ -459,18 +463,18 @@ fn taps_of_twelve(coefficients: &TwelveLanes) -> TwelveTaps
     let [oldest, second, third, fourth] = coefficients.at_8.to_array();
     let [fifth, sixth, seventh, _] = coefficients.at_4.to_array();
     TwelveTaps {
-        second: Eight {
+        second: EightLanes {
             at_8: i64x4::from_array([0, oldest, second, third]),
             at_4: i64x4::from_array([fourth, fifth, sixth, seventh]),
         },
-        newest: Eight {
+        newest: EightLanes {
             at_8: coefficients.at_8,
             at_4: i64x4::from_array([fifth, sixth, seventh, 0]),
         },
     }
 }
 
-// No sum is pending.
+// The pending sums before the first sample.
 #[inline(always)]
 fn no_twelve_sums() -> TwelveLanes
     ensures { AreTwelvePendingBeforeAll result }
@@ -483,7 +487,7 @@ fn no_twelve_sums() -> TwelveLanes
     }
 }
 
-// The pending sums, two samples on. Where `VECTORS` is 1 the farthest four places have no coefficients.
+// The pending sums after two more samples. Where `VECTORS` is 1 no coefficient reaches the latest four.
 #[inline(always)]
 fn advance_twelve_sums<const VECTORS: usize>(
     sums: TwelveLanes,
@@ -497,9 +501,9 @@ fn advance_twelve_sums<const VECTORS: usize>(
     requires two { FitsSigned w32 two }
     requires some { 1 ≤ VECTORS }
     ensures value { AreTwelvePendingAfterTwo VECTORS taps sums one two result }
-    ensures wide { TwelveFit64 result }
+    ensures fits { TwelveFit64 result }
 {
-    let (one, two) = (spread(one), spread(two));
+    let (one, two) = (broadcast(one), broadcast(two));
     let zeros = i64x4::splat(0);
     let (second, newest) = (taps.second, taps.newest);
     TwelveLanes {
@@ -525,7 +529,7 @@ fn advance_twelve_sums<const VECTORS: usize>(
     }
 }
 
-// The pending sums of the places after these samples, which are as many as there are coefficients.
+// The pending sums after these samples, which are as many as there are coefficients.
 #[inline(always)]
 fn first_twelve_sums<const VECTORS: usize>(taps: TwelveTaps, samples: &[i32]) -> TwelveLanes
     requires samples { length samples.now ≡ 4 * VECTORS + 4 }
@@ -543,27 +547,30 @@ fn first_twelve_sums<const VECTORS: usize>(taps: TwelveTaps, samples: &[i32]) ->
     sums
 }
 
-// Places from 12 on, each by its newest twelve samples. Where `VECTORS` is 1 the oldest four coefficients are zeros.
+// The samples from index 12 on, each from the twelve samples before it. Where `VECTORS` is 1 the oldest four coefficients are
+// zeros.
 //
-// A sample's products go at once to the sums of later places, two samples at a time, so that sums move by whole halves of
-// a vector. A place waits for the samples before it, so the products of its newest five come last, one by one: those of its
-// newest alone have to be waited for, and no sum that was just made is. The coefficients come by reference and this isn't
-// inlined, so that `narrow` keeps its shifts.
+// A sample's products are added to the pending sums of later samples as soon as it is known, two samples at a time, so that the
+// lanes shift by half a vector. The products of the newest five samples are added last, one by one, so that a sample depends on
+// the one just before it only by one product, and on no pending sum that was just computed. The coefficients are passed by
+// reference and this isn't inlined, so that the compiler keeps the shifts of `sign_extended`.
 #[inline(never)]
 fn predict_12_taps<const VECTORS: usize>(coefficients: &TwelveLanes, shift: u32, buffer: &mut [i32])
     requires shift { shift ≤ 15 }
     requires small { SmallTwelve coefficients.now }
     requires vectors { VECTORS ≤ 2 }
     requires some { 1 ≤ VECTORS }
-    requires zeros { take (8 - 4 * VECTORS) (numbers coefficients.now) ≡ replicate (8 - 4 * VECTORS) (pos 0) }
-    ensures { buffer.new ≡ restored (linear (reverse (numbers coefficients.now)) shift) 12 buffer.old }
+    requires zeros { take (8 - 4 * VECTORS) (numbers coefficients.now)
+        ≡ replicate (8 - 4 * VECTORS) (pos 0) }
+    ensures { buffer.new
+        ≡ restored (linear (reverse (numbers coefficients.now)) shift) 12 buffer.old }
 {
     if buffer.len() <= 12 {
         return;
     }
     let [_, _, _, fifth] = coefficients.at_4.to_array();
     let [fourth, third, second, first] = coefficients.at_0.to_array();
-    let last = Five {
+    let last = NewestFive {
         fifth,
         fourth,
         third,
@@ -572,7 +579,7 @@ fn predict_12_taps<const VECTORS: usize>(coefficients: &TwelveLanes, shift: u32,
     };
     let taps = taps_of_twelve(coefficients);
     let mut sums = first_twelve_sums::<VECTORS>(taps, &buffer[8 - 4 * VECTORS..12]);
-    let mut newest = Five::of(&buffer[7..12]);
+    let mut newest = NewestFive::of(&buffer[7..12]);
     for pair in 6..buffer.len() / 2 {
         let i = 2 * pair;
         newest = newest.followed_by_two(last, sums.at_0, buffer[i], buffer[i + 1], shift);
@@ -580,7 +587,7 @@ fn predict_12_taps<const VECTORS: usize>(coefficients: &TwelveLanes, shift: u32,
         buffer[i + 1] = low_bits(newest.newest);
         sums = advance_twelve_sums::<VECTORS>(sums, taps, newest.second, newest.newest);
     }
-    // A last place alone.
+    // With an odd length one sample is left.
     if buffer.len() % 2 == 1 {
         let i = buffer.len() - 1;
         buffer[i] = low_bits(
@@ -591,9 +598,9 @@ fn predict_12_taps<const VECTORS: usize>(coefficients: &TwelveLanes, shift: u32,
     }
 }
 
-// Four numbers for each four places from the fifth on, the farthest of the four first.
+// Lanes for the samples that follow, from the fifth on: seven vectors, in each the latest sample's lane first.
 #[derive(Clone, Copy)]
-struct Later {
+struct LaterLanes {
     at_4: i64x4,
     at_8: i64x4,
     at_12: i64x4,
@@ -603,58 +610,58 @@ struct Later {
     at_28: i64x4,
 }
 
-// The sums that wait for the next 32 places.
+// The pending sums of the next 32 samples.
 #[derive(Clone, Copy)]
-struct Sums {
+struct PendingSums {
     at_0: i64x4,
-    later: Later,
+    later: LaterLanes,
 }
 
-// The coefficients of the newer of two samples for these places, and those of the one before it. They are 0 where a sample
-// is one of the newest five of a place, so neither adds to the nearest four.
+// The coefficients of the newer of two samples for these samples, and those of the one before it. They are 0 for the five
+// samples directly after each, so neither adds to the next four.
 #[derive(Clone, Copy)]
 struct Taps {
-    second: Later,
-    newest: Later,
+    second: LaterLanes,
+    newest: LaterLanes,
 }
 
 #[inline(always)]
-fn taps_of(many: &[i64; 32]) -> Taps
-    requires { Within (2 ^ 15) many.now }
-    ensures value { AreTaps (but_newest_five (reverse many.now)) result }
+fn taps_of(padded: &[i64; 32]) -> Taps
+    requires { Within (2 ^ 15) padded.now }
+    ensures value { AreTaps (but_newest_five (reverse padded.now)) result }
     ensures small { SmallTaps result }
 {
     Taps {
-        second: Later {
-            at_4: i64x4::from_array([many[23], many[24], many[25], many[26]]),
-            at_8: i64x4::from_array([many[19], many[20], many[21], many[22]]),
-            at_12: i64x4::from_array([many[15], many[16], many[17], many[18]]),
-            at_16: i64x4::from_array([many[11], many[12], many[13], many[14]]),
-            at_20: i64x4::from_array([many[7], many[8], many[9], many[10]]),
-            at_24: i64x4::from_array([many[3], many[4], many[5], many[6]]),
-            at_28: i64x4::from_array([0, many[0], many[1], many[2]]),
+        second: LaterLanes {
+            at_4: i64x4::from_array([padded[23], padded[24], padded[25], padded[26]]),
+            at_8: i64x4::from_array([padded[19], padded[20], padded[21], padded[22]]),
+            at_12: i64x4::from_array([padded[15], padded[16], padded[17], padded[18]]),
+            at_16: i64x4::from_array([padded[11], padded[12], padded[13], padded[14]]),
+            at_20: i64x4::from_array([padded[7], padded[8], padded[9], padded[10]]),
+            at_24: i64x4::from_array([padded[3], padded[4], padded[5], padded[6]]),
+            at_28: i64x4::from_array([0, padded[0], padded[1], padded[2]]),
         },
-        newest: Later {
-            at_4: i64x4::from_array([many[24], many[25], many[26], 0]),
-            at_8: i64x4::from_array([many[20], many[21], many[22], many[23]]),
-            at_12: i64x4::from_array([many[16], many[17], many[18], many[19]]),
-            at_16: i64x4::from_array([many[12], many[13], many[14], many[15]]),
-            at_20: i64x4::from_array([many[8], many[9], many[10], many[11]]),
-            at_24: i64x4::from_array([many[4], many[5], many[6], many[7]]),
-            at_28: i64x4::from_array([many[0], many[1], many[2], many[3]]),
+        newest: LaterLanes {
+            at_4: i64x4::from_array([padded[24], padded[25], padded[26], 0]),
+            at_8: i64x4::from_array([padded[20], padded[21], padded[22], padded[23]]),
+            at_12: i64x4::from_array([padded[16], padded[17], padded[18], padded[19]]),
+            at_16: i64x4::from_array([padded[12], padded[13], padded[14], padded[15]]),
+            at_20: i64x4::from_array([padded[8], padded[9], padded[10], padded[11]]),
+            at_24: i64x4::from_array([padded[4], padded[5], padded[6], padded[7]]),
+            at_28: i64x4::from_array([padded[0], padded[1], padded[2], padded[3]]),
         },
     }
 }
 
-// No sum waits.
+// The pending sums before the first sample.
 #[inline(always)]
-fn no_sums() -> Sums
+fn no_sums() -> PendingSums
     ensures { ArePendingSumsBeforeAll result }
 {
     let zeros = i64x4::splat(0);
-    Sums {
+    PendingSums {
         at_0: zeros,
-        later: Later {
+        later: LaterLanes {
             at_4: zeros,
             at_8: zeros,
             at_12: zeros,
@@ -666,22 +673,27 @@ fn no_sums() -> Sums
     }
 }
 
-// The sums that wait for the next places, two samples on. Where `VECTORS` is less than 7 the farthest places have no coefficients.
+// The pending sums after two more samples. Where `VECTORS` is less than 7 no coefficient reaches the latest ones.
 #[inline(always)]
-fn advance_sums<const VECTORS: usize>(sums: Sums, taps: Taps, one: i64, two: i64) -> Sums
+fn advance_sums<const VECTORS: usize>(
+    sums: PendingSums,
+    taps: Taps,
+    one: i64,
+    two: i64,
+) -> PendingSums
     requires sums { SumsFit64 sums }
     requires taps { SmallTaps taps }
     requires one { FitsSigned w32 one }
     requires two { FitsSigned w32 two }
     requires some { 3 ≤ VECTORS }
     ensures value { ArePendingSumsAfterTwo VECTORS taps sums one two result }
-    ensures wide { SumsFit64 result }
+    ensures fits { SumsFit64 result }
 {
-    let (one, two) = (spread(one), spread(two));
+    let (one, two) = (broadcast(one), broadcast(two));
     let zeros = i64x4::splat(0);
     let old = sums.later;
     let (second, newest) = (taps.second, taps.newest);
-    let later = Later {
+    let later = LaterLanes {
         at_4: advance_lanes(true, old.at_8, old.at_4, second.at_4, one, newest.at_4, two),
         at_8: advance_lanes(
             true,
@@ -738,15 +750,15 @@ fn advance_sums<const VECTORS: usize>(sums: Sums, taps: Taps, one: i64, two: i64
             two,
         ),
     };
-    Sums {
+    PendingSums {
         at_0: shift_two_lanes(old.at_4, sums.at_0),
         later,
     }
 }
 
-// The sums that wait for the places behind these samples, which are as many as there are coefficients.
+// The pending sums after these samples, which are as many as there are coefficients.
 #[inline(always)]
-fn first_sums<const VECTORS: usize>(taps: Taps, samples: &[i32]) -> Sums
+fn first_sums<const VECTORS: usize>(taps: Taps, samples: &[i32]) -> PendingSums
     requires samples { length samples.now ≡ 4 * VECTORS + 4 }
     requires taps { SmallTaps taps }
     requires some { 3 ≤ VECTORS }
@@ -762,30 +774,30 @@ fn first_sums<const VECTORS: usize>(taps: Taps, samples: &[i32]) -> Sums
     sums
 }
 
-// Places from 32 on, each by its newest samples, as many as there are coefficients, as `predict_12_taps` does. Where `VECTORS`
-// is less than 7 the oldest coefficients are zeros.
+// The samples from index 32 on, each from the 32 samples before it, as in `predict_12_taps`. Where `VECTORS` is less than 7 the
+// oldest coefficients are zeros.
 #[inline(never)]
-fn predict_32_taps<const VECTORS: usize>(many: &[i64; 32], shift: u32, buffer: &mut [i32])
+fn predict_32_taps<const VECTORS: usize>(padded: &[i64; 32], shift: u32, buffer: &mut [i32])
     requires shift { shift ≤ 15 }
-    requires small { Within (2 ^ 15) many.now }
+    requires small { Within (2 ^ 15) padded.now }
     requires vectors { VECTORS ≤ 7 }
     requires some { 3 ≤ VECTORS }
-    requires zeros { take (28 - 4 * VECTORS) many.now ≡ replicate (28 - 4 * VECTORS) (pos 0) }
-    ensures { buffer.new ≡ restored (linear (reverse many.now) shift) 32 buffer.old }
+    requires zeros { take (28 - 4 * VECTORS) padded.now ≡ replicate (28 - 4 * VECTORS) (pos 0) }
+    ensures { buffer.new ≡ restored (linear (reverse padded.now) shift) 32 buffer.old }
 {
     if buffer.len() <= 32 {
         return;
     }
-    let last = Five {
-        fifth: many[27],
-        fourth: many[28],
-        third: many[29],
-        second: many[30],
-        newest: many[31],
+    let last = NewestFive {
+        fifth: padded[27],
+        fourth: padded[28],
+        third: padded[29],
+        second: padded[30],
+        newest: padded[31],
     };
-    let taps = taps_of(many);
+    let taps = taps_of(padded);
     let mut sums = first_sums::<VECTORS>(taps, &buffer[28 - 4 * VECTORS..32]);
-    let mut newest = Five::of(&buffer[27..32]);
+    let mut newest = NewestFive::of(&buffer[27..32]);
     for pair in 16..buffer.len() / 2 {
         let i = 2 * pair;
         newest = newest.followed_by_two(last, sums.at_0, buffer[i], buffer[i + 1], shift);
@@ -793,7 +805,7 @@ fn predict_32_taps<const VECTORS: usize>(many: &[i64; 32], shift: u32, buffer: &
         buffer[i + 1] = low_bits(newest.newest);
         sums = advance_sums::<VECTORS>(sums, taps, newest.second, newest.newest);
     }
-    // A last place alone.
+    // With an odd length one sample is left.
     if buffer.len() % 2 == 1 {
         let i = buffer.len() - 1;
         buffer[i] = low_bits(

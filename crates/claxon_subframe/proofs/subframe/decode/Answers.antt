@@ -25,7 +25,7 @@ returns g c =
     record {
       sound = p.sound;
       complete = p.complete;
-      known = subframes_unambiguous c.args.bps (length c.args.buffer.now) few;
+      unambiguous = subframes_unambiguous c.args.bps (length c.args.buffer.now) few;
       fault = p.fault;
       named = p.named;
       io = p.io;

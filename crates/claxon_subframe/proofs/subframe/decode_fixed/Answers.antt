@@ -10,7 +10,7 @@ use Rattle.claxon_input.proofs.CallsInTurn.{consumes_none, gives_after, exit}
 use Rattle.claxon_input.proofs.Faults.{stops_fault}
 use Rattle.claxon_subframe.proofs.ConsecutiveFields.{then_consumes, then_stops, consumes_as}
 use Rattle.claxon_subframe.proofs.OrderZero.{fixed_0_at}
-use Rattle.claxon_subframe.proofs.Predicted.{fixed_begins, fixed_warm_up, times_stops, residual_consumes, residual_stops, in_place}
+use Rattle.claxon_subframe.proofs.PredictedSubframes.{fixed_begins, fixed_warm_up, times_stops, residual_consumes, residual_stops, in_place}
 use Rattle.claxon_subframe.proofs.subframe.decode_fixed.Goals as goal
 
 pub returns-then-order-eq0 : goal.returns-then-order-eq0

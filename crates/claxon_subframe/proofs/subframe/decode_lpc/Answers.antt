@@ -8,7 +8,7 @@ use Rattle.claxon_format.specs.read.Subframe.{linear_at}
 use Rattle.claxon_input.proofs.CallsInTurn.{exit, consumes_none}
 use Rattle.claxon_input.proofs.Faults.{stops_fault}
 use Rattle.claxon_subframe.proofs.ConsecutiveFields.{then_consumes, then_stops, consumes_as}
-use Rattle.claxon_subframe.proofs.Predicted.{linear_begins, linear_warm_up, times_consumes, times_stops, residual_consumes, residual_stops, table_front, in_place}
+use Rattle.claxon_subframe.proofs.PredictedSubframes.{linear_begins, linear_warm_up, times_consumes, times_stops, residual_consumes, residual_stops, table_front, in_place}
 use Rattle.claxon_subframe.proofs.subframe.decode_lpc.Goals as goal
 
 pub returns-then-buffer-order : goal.returns-then-buffer-order

@@ -17,5 +17,5 @@ returns-then-parameter-escape g c =
 
 pub returns : goal.returns
 returns g c =
-    let plain = (rice_parameter_of c.args.partition_type c.parameter_bits-bits.result c.from-parameter.result c.parameter_bits-bits.ensures (omega (arith, c.in_ok-read_leq_u8.ensures.value)) c.if-parameter-escape.false).plain in
-    gives_after _ c.read_rice_codes.result _ (consumes_map _ c.in_ok-read_leq_u8.ensures.gives (λ p. partition_rice (method_of c.args.partition_type) _ (length c.args.buffer.now) _ c.parameter_bits-bits.ensures plain (rw c.from-parameter.ensures p))) c.read_rice_codes.ensures
+    let not_escape = (rice_parameter_of c.args.partition_type c.parameter_bits-bits.result c.from-parameter.result c.parameter_bits-bits.ensures (omega (arith, c.in_ok-read_leq_u8.ensures.value)) c.if-parameter-escape.false).not_escape in
+    gives_after _ c.read_rice_codes.result _ (consumes_map _ c.in_ok-read_leq_u8.ensures.gives (λ p. partition_rice (method_of c.args.partition_type) _ (length c.args.buffer.now) _ c.parameter_bits-bits.ensures not_escape (rw c.from-parameter.ensures p))) c.read_rice_codes.ensures

@@ -11,7 +11,7 @@ returns-in_err-decode_partition g c =
 pub read_buffered_partitions-requires : goal.read_buffered_partitions-requires
 read_buffered_partitions-requires g c =
     let one = partitions_next c.decode_partition.new.buffer (omega arith) c.loop-read.invariant c.decode_partition.auto.buffer c.in_ok-decode_partition.ensures in
-    record { room = rest_fits one }
+    record { capacity = rest_fits one }
 
 pub loop-read-smaller : goal.loop-read-smaller
 loop-read-smaller g c = let few = c.in_ok-whole.ensures.few in omega arith

@@ -17,7 +17,7 @@ use Rattle.claxon_subframe.proofs.subframe.decode_residual.Goals as goal
 whole_is : (n order : ℕ) (ls : List ℕ) (method p r : ℕ) (s m k : Bits) → method_at s ≡ Done method m → number_at 4 m ≡ Done r k → p ≡ r → ltb 0 (n % 2 ^ p) ≡ false → ltb (n / 2 ^ p) order ≡ false → ls ≡ partition_lengths n order p
     → residual_at n order s ≡ joined_at (partition_at method) ls k
 unfolding residual_at partitions_at
-whole_is n order ls method p r s m k a b e none room l = rw (a, b, ← e, none, room, l) refl
+whole_is n order ls method p r s m k a b e none fits l = rw (a, b, ← e, none, fits, l) refl
 
 pub returns-in_err-partition_type : goal.returns-in_err-partition_type
 unfolding residual_at
@@ -66,9 +66,9 @@ returns g c =
     let m = mask_is c.args.block_size c.from-order.result small in
     let whole : c.args.block_size % 2 ^ c.from-order.result ≡ 0 = grind arith in
     let none : ltb 0 (c.args.block_size % 2 ^ c.from-order.result) ≡ false = le-ltb _ _ (omega arith) in
-    let room : ltb (c.args.block_size / 2 ^ c.from-order.result) (c.args.block_size - length c.args.buffer.now) ≡ false = le-ltb _ _ (omega arith) in
+    let fits : ltb (c.args.block_size / 2 ^ c.from-order.result) (c.args.block_size - length c.args.buffer.now) ≡ false = le-ltb _ _ (omega arith) in
     let l = lengths_are c.args.block_size (c.args.block_size - length c.args.buffer.now) c.from-order.result small in
-    let parts = lengths (1 * 2 ^ c.from-order.result % 4294967296) (c.args.block_size / 2 ^ c.from-order.result - (c.args.block_size - length c.args.buffer.now)) (c.args.block_size / 2 ^ c.from-order.result) in
-    gives_after _ c.decode_partitions.result _ (consumes_then (λ s m. residual_at c.args.block_size (c.args.block_size - length c.args.buffer.now) s ≡ joined_at (partition_at (method_of c.in_ok-partition_type.partition_type)) parts m)
+    let partitions = lengths (1 * 2 ^ c.from-order.result % 4294967296) (c.args.block_size / 2 ^ c.from-order.result - (c.args.block_size - length c.args.buffer.now)) (c.args.block_size / 2 ^ c.from-order.result) in
+    gives_after _ c.decode_partitions.result _ (consumes_then (λ s m. residual_at c.args.block_size (c.args.block_size - length c.args.buffer.now) s ≡ joined_at (partition_at (method_of c.in_ok-partition_type.partition_type)) partitions m)
     c.in_ok-partition_type.ensures c.in_ok-read_leq_u8.ensures.gives (λ p q.
-    whole_is c.args.block_size (c.args.block_size - length c.args.buffer.now) parts (method_of c.in_ok-partition_type.partition_type) c.from-order.result c.in_ok-read_leq_u8.field-0 _ _ _ p q c.from-order.ensures none room l)) c.decode_partitions.ensures
+    whole_is c.args.block_size (c.args.block_size - length c.args.buffer.now) partitions (method_of c.in_ok-partition_type.partition_type) c.from-order.result c.in_ok-read_leq_u8.field-0 _ _ _ p q c.from-order.ensures none fits l)) c.decode_partitions.ensures

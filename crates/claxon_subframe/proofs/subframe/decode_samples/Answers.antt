@@ -10,19 +10,19 @@ use Rattle.claxon_subframe.proofs.SubframeTypeNumbers.{type_is_fixed, type_is_li
 use Rattle.claxon_input.proofs.CallsInTurn.{gives_same}
 use Rattle.claxon_subframe.proofs.subframe.decode_samples.Goals as goal
 
-constant_is : (kind : SubframeType) (w n : ℕ) → kind ≡ Constant → (s : Bits) → subframe_body_at w n (type_number kind) s ≡ (and_then (signed_at w) (λ x. done (replicate n x))) s
+constant_is : (subframe_type : SubframeType) (w n : ℕ) → subframe_type ≡ Constant → (s : Bits) → subframe_body_at w n (type_number subframe_type) s ≡ (and_then (signed_at w) (λ x. done (replicate n x))) s
 unfolding subframe_body_at
-constant_is kind w n e s = rw e refl
+constant_is subframe_type w n e s = rw e refl
 
-verbatim_is : (kind : SubframeType) (w n : ℕ) → kind ≡ Verbatim → (s : Bits) → subframe_body_at w n (type_number kind) s ≡ times_at n (signed_at w) s
+verbatim_is : (subframe_type : SubframeType) (w n : ℕ) → subframe_type ≡ Verbatim → (s : Bits) → subframe_body_at w n (type_number subframe_type) s ≡ times_at n (signed_at w) s
 unfolding subframe_body_at
-verbatim_is kind w n e s = rw e refl
+verbatim_is subframe_type w n e s = rw e refl
 
-fixed_is : (kind : SubframeType) (w n order : ℕ) → order ≤ 4 → kind ≡ Fixed order → (s : Bits) → subframe_body_at w n (type_number kind) s ≡ fixed_at w n order s
-fixed_is kind w n order four e s = rw (e, type_is_fixed w n order four) refl
+fixed_is : (subframe_type : SubframeType) (w n order : ℕ) → order ≤ 4 → subframe_type ≡ Fixed order → (s : Bits) → subframe_body_at w n (type_number subframe_type) s ≡ fixed_at w n order s
+fixed_is subframe_type w n order four e s = rw (e, type_is_fixed w n order four) refl
 
-lpc_is : (kind : SubframeType) (w n order : ℕ) → kind ≡ Lpc order → (s : Bits) → subframe_body_at w n (type_number kind) s ≡ linear_at w n order s
-lpc_is kind w n order e s = rw (e, type_is_linear w n order) refl
+lpc_is : (subframe_type : SubframeType) (w n order : ℕ) → subframe_type ≡ Lpc order → (s : Bits) → subframe_body_at w n (type_number subframe_type) s ≡ linear_at w n order s
+lpc_is subframe_type w n order e s = rw (e, type_is_linear w n order) refl
 
 pub returns-in-Constant : goal.returns-in-Constant
 returns-in-Constant g c =

@@ -1,4 +1,4 @@
-//! Predictors: worked samples, and the vectors of the original's tests.
+//! Predictors: worked samples, and the vectors of upstream's tests.
 use super::*;
 
 #[test]
@@ -20,7 +20,7 @@ fn second_order(rt: HostRuntime) {
     assert!(rt; buffer == [21877, 27482, 26574]);
 }
 
-// At each length, so that the places before the twelfth and those from there on are met in all ways.
+// At each length, as the first twelve samples are predicted in another way than those after them.
 #[test]
 fn seven_coefficients(rt: HostRuntime) {
     let coefficients = [-75, 166, 121, -269, -75, -399, 1042];

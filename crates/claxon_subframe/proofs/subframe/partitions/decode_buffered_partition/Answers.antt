@@ -20,5 +20,5 @@ decode_buffered_codes-requires c =
 pub returns : goal.returns
 returns c =
     let p = buffered_rice_parameter c.args.partition_type c.args.buffered.now c.number.new.self c.parameter_bits-bits.ensures c.in-Some.ensures c.if-parameter-escape.false in
-    rice_codes_partition (method_of c.args.partition_type) c.in-Some.parameter c.parameter_bits-bits.result c.decode_buffered_codes.result c.decode_buffered_codes.new.buffer c.args.buffered.now c.number.new.self c.decode_buffered_codes.new.buffered c.parameter_bits-bits.ensures p.plain (omega arith)
-    c.decode_buffered_codes.ensures.few c.in-Some.ensures c.decode_buffered_codes.ensures.words
+    rice_codes_partition (method_of c.args.partition_type) c.in-Some.parameter c.parameter_bits-bits.result c.decode_buffered_codes.result c.decode_buffered_codes.new.buffer c.args.buffered.now c.number.new.self c.decode_buffered_codes.new.buffered c.parameter_bits-bits.ensures p.not_escape (omega arith)
+    c.decode_buffered_codes.ensures.few c.in-Some.ensures c.decode_buffered_codes.ensures.codes

@@ -12,11 +12,11 @@ pub loop-whole-preserved : goal.loop-whole-preserved
 loop-whole-preserved c =
     let l = c.loop-whole in
     let ys = c.decode_buffered_partition.new.buffer in
-    let room = buffered_partition_fits c.args.each l.whole c.args.most l.start (length l.buffer) l.invariant.0 c.loop-whole-test.true (omega (arith, c.requires.room, l.auto.buffer)) in (
+    let capacity = buffered_partition_fits c.args.each l.whole c.args.most l.start (length l.buffer) l.invariant.0 c.loop-whole-test.true (omega (arith, c.requires.capacity, l.auto.buffer)) in (
       grind (arith, l.invariant.0),
       omega arith,
-      buffered_partitions_next (method_of c.args.partition_type) c.args.each l.whole l.start l.buffer ys c.args.buffered.now l.buffered c.decode_buffered_partition.new.buffered l.invariant.0 room c.decode_buffered_partition.auto.buffer
-          (c.decode_buffered_partition.auto.buffer ∙ part_length l.start c.args.each l.buffer room) l.invariant.2 c.if-not-decode_buffered_partition.ensures,
+      buffered_partitions_next (method_of c.args.partition_type) c.args.each l.whole l.start l.buffer ys c.args.buffered.now l.buffered c.decode_buffered_partition.new.buffered l.invariant.0 capacity c.decode_buffered_partition.auto.buffer
+          (c.decode_buffered_partition.auto.buffer ∙ part_length l.start c.args.each l.buffer capacity) l.invariant.2 c.if-not-decode_buffered_partition.ensures,
     )
 
 pub returns-then-not-decode_buffered_partition-clause-read : goal.returns-then-not-decode_buffered_partition-clause-read

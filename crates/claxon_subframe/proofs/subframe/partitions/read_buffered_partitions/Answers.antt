@@ -6,8 +6,8 @@ use Rattle.claxon_subframe.proofs.BufferedPartitions.{Reads-joined}
 use Rattle.claxon_subframe.proofs.SkippedBits.{read_skipped, read_consumes, never_incomplete}
 use Rattle.claxon_subframe.proofs.subframe.partitions.read_buffered_partitions.Goals as goal
 
-pub overflow_sub-passed : goal.overflow_sub-passed
-overflow_sub-passed g c =
+pub overflow_sub-consumed : goal.overflow_sub-consumed
+overflow_sub-consumed g c =
     (read_skipped (Reads-joined (method_of c.args.partition_type) c.decode_buffered_partitions-whole.result c.args.each (method_small c.args.partition_type)) c.len-bits.result c.len.result (take (c.decode_buffered_partitions-whole.result * c.args.each) c.decode_buffered_partitions-whole.new.buffer) c.buffered-buffered.result c.decode_buffered_partitions-whole.new.buffered []
     c.len-bits.ensures.value c.len.ensures.value (c.decode_buffered_partitions-whole.ensures.read [])).fewer
 

@@ -10,11 +10,11 @@ pub shift_two_lanes-moved-requires-clause-lanes : goal.shift_two_lanes-moved-req
 shift_two_lanes-moved-requires-clause-lanes c = kept_fit_64 c.requires.sums
 
 pub add_products-requires-clause-sums : goal.add_products-requires-clause-sums
-add_products-requires-clause-sums c = kept_fit_64 c.shift_two_lanes-moved.ensures.wide
+add_products-requires-clause-sums c = kept_fit_64 c.shift_two_lanes-moved.ensures.fits
 
 pub add_products-requires-2-clause-sums : goal.add_products-requires-2-clause-sums
 add_products-requires-2-clause-sums c =
-    kept_fit_64 (subst LanesFit64 (sym c.add_products.ensures) (products_fit_64 _ _ _ (kept_fit_64 c.shift_two_lanes-moved.ensures.wide).four (kept_lanes (omega arith) c.requires.for_second) (kept_lanes (omega arith) c.requires.second)))
+    kept_fit_64 (subst LanesFit64 (sym c.add_products.ensures) (products_fit_64 _ _ _ (kept_fit_64 c.shift_two_lanes-moved.ensures.fits).four (kept_lanes (omega arith) c.requires.for_second) (kept_lanes (omega arith) c.requires.second)))
 
 pub add_products-requires-clause-coefficients : goal.add_products-requires-clause-coefficients
 add_products-requires-clause-coefficients c = kept_lanes (omega arith) c.requires.for_second
@@ -31,5 +31,5 @@ add_products-requires-2-clause-samples c = kept_lanes (omega arith) c.requires.n
 pub returns : goal.returns
 returns c =
     let later = later_is c.args.before c.args.sums c.args.for_second c.args.second c.args.for_newest c.args.newest _ c.add_products.result c.add_products-2.result c.requires.before c.requires.sums c.requires.for_second c.requires.second c.requires.for_newest c.requires.newest
-    (moved_by c.requires.before c.requires.sums c.shift_two_lanes-moved.ensures.wide c.shift_two_lanes-moved.ensures.value) c.add_products.ensures c.add_products-2.ensures in
-    record { value = λ h. later.0; zeros = λ h. absurd cc; wide = later.1 }
+    (moved_by c.requires.before c.requires.sums c.shift_two_lanes-moved.ensures.fits c.shift_two_lanes-moved.ensures.value) c.add_products.ensures c.add_products-2.ensures in
+    record { value = λ h. later.0; zeros = λ h. absurd cc; fits = later.1 }

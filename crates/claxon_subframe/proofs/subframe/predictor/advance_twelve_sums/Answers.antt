@@ -1,7 +1,7 @@
 use Rattle.std.proofs.Common.{arith}
 use Rattle.std.proofs.lemmas.Bool.{ltb-false}
 use Rattle.claxon_subframe.proofs.Lanes.{kept_lanes, kept_fit_64, moved_by}
-use Rattle.claxon_subframe.proofs.Sums.{later_lanes_advanced, four_pending_none, nearest_lanes_advanced, lanes_64_are, sample_lanes, taps_are}
+use Rattle.claxon_subframe.proofs.PendingSums.{later_lanes_advanced, four_pending_none, nearest_lanes_advanced, lanes_64_are, sample_lanes, taps_are}
 use Rattle.claxon_subframe.proofs.subframe.predictor.advance_twelve_sums.Goals as goal
 
 pub advance_lanes-requires-clause-sums : goal.advance_lanes-requires-clause-sums
@@ -32,19 +32,19 @@ pub shift_two_lanes-requires-clause-lanes : goal.shift_two_lanes-requires-clause
 shift_two_lanes-requires-clause-lanes g c = kept_fit_64 c.requires.sums.at_0
 
 pub returns-clause-value : goal.returns-clause-value
-returns-clause-value g c = λ ks past taps fit waits.
-    let second = sample_lanes c.args.one c.spread-one.result c.ranges.one c.spread-one.ensures.lanes c.spread-one.ensures.value in
-    let newest = sample_lanes c.args.two c.spread-two.result c.ranges.two c.spread-two.ensures.lanes c.spread-two.ensures.value in
+returns-clause-value g c = λ ks past taps fit pending.
+    let second = sample_lanes c.args.one c.broadcast-one.result c.ranges.one c.broadcast-one.ensures.lanes c.broadcast-one.ensures.value in
+    let newest = sample_lanes c.args.two c.broadcast-two.result c.ranges.two c.broadcast-two.ensures.lanes c.broadcast-two.ensures.value in
     let on = later_lanes_advanced ks past c.args.one c.args.two g.row.VECTORS fit second newest in
     record {
-      at_8 = on 8 _ _ _ _ _ c.advance_lanes.result (λ h. omega (arith, ltb-false)) c.advance_lanes.ensures.value c.advance_lanes.ensures.zeros (four_pending_none ks past 12 taps.long) (lanes_64_are c.requires.sums.at_8 waits.at_8) (taps_are c.requires.taps.second.at_8 taps.second.at_8) (taps_are c.requires.taps.newest.at_8 taps.newest.at_8);
-      at_4 = on 4 _ _ _ _ _ c.advance_lanes-2.result (λ h. absurd cc) c.advance_lanes-2.ensures.value c.advance_lanes-2.ensures.zeros (lanes_64_are c.requires.sums.at_8 waits.at_8) (lanes_64_are c.requires.sums.at_4 waits.at_4) (taps_are c.requires.taps.second.at_4 taps.second.at_4) (taps_are c.requires.taps.newest.at_4 taps.newest.at_4);
-      at_0 = nearest_lanes_advanced ks past c.args.one c.args.two _ taps.nearest (moved_by c.requires.sums.at_4 c.requires.sums.at_0 c.shift_two_lanes.ensures.wide c.shift_two_lanes.ensures.value) waits.at_4 waits.at_0;
+      at_8 = on 8 _ _ _ _ _ c.advance_lanes.result (λ h. omega (arith, ltb-false)) c.advance_lanes.ensures.value c.advance_lanes.ensures.zeros (four_pending_none ks past 12 taps.long) (lanes_64_are c.requires.sums.at_8 pending.at_8) (taps_are c.requires.taps.second.at_8 taps.second.at_8) (taps_are c.requires.taps.newest.at_8 taps.newest.at_8);
+      at_4 = on 4 _ _ _ _ _ c.advance_lanes-2.result (λ h. absurd cc) c.advance_lanes-2.ensures.value c.advance_lanes-2.ensures.zeros (lanes_64_are c.requires.sums.at_8 pending.at_8) (lanes_64_are c.requires.sums.at_4 pending.at_4) (taps_are c.requires.taps.second.at_4 taps.second.at_4) (taps_are c.requires.taps.newest.at_4 taps.newest.at_4);
+      at_0 = nearest_lanes_advanced ks past c.args.one c.args.two _ taps.nearest (moved_by c.requires.sums.at_4 c.requires.sums.at_0 c.shift_two_lanes.ensures.fits c.shift_two_lanes.ensures.value) pending.at_4 pending.at_0;
     }
 
-pub returns-clause-wide : goal.returns-clause-wide
-returns-clause-wide g c = record {
-  at_8 = kept_fit_64 c.advance_lanes.ensures.wide;
-  at_4 = kept_fit_64 c.advance_lanes-2.ensures.wide;
-  at_0 = kept_fit_64 c.shift_two_lanes.ensures.wide;
+pub returns-clause-fits : goal.returns-clause-fits
+returns-clause-fits g c = record {
+  at_8 = kept_fit_64 c.advance_lanes.ensures.fits;
+  at_4 = kept_fit_64 c.advance_lanes-2.ensures.fits;
+  at_0 = kept_fit_64 c.shift_two_lanes.ensures.fits;
 }

@@ -7,8 +7,8 @@ use Rattle.claxon_subframe.proofs.subframe.predictor.first_twelve_sums.Goals as 
 
 pub loop-pair-init : goal.loop-pair-init
 loop-pair-init g c = record {
-  wide = twelve_fit_64 (c.no_twelve_sums-sums.ensures []);
-  waits = λ ks taps fit. c.no_twelve_sums-sums.ensures ks;
+  fits = twelve_fit_64 (c.no_twelve_sums-sums.ensures []);
+  pending = λ ks taps fit. c.no_twelve_sums-sums.ensures ks;
 }
 
 pub loop-pair-preserved : goal.loop-pair-preserved
@@ -16,12 +16,12 @@ loop-pair-preserved g c =
     let first : FitsSigned w32 (get_or c.args.samples.now (2 * c.loop-pair.pair) (pos 0)) = search rules in
     let second : FitsSigned w32 (get_or c.args.samples.now (2 * c.loop-pair.pair + 1) (pos 0)) = search rules in
     record {
-      wide = c.advance_twelve_sums-sums.ensures.wide;
-      waits = λ ks taps fit.
+      fits = c.advance_twelve_sums-sums.ensures.fits;
+      pending = λ ks taps fit.
           subst (λ (l : List ℤ). AreTwelvePending ks l c.advance_twelve_sums-sums.result)
           (both_read c.args.samples.now (2 * c.loop-pair.pair) (2 * c.loop-pair.pair + 1) (2 * (c.loop-pair.pair + 1)) _ _ (widened _ _ first c.from-second.ensures) (widened _ _ second c.from-newest.ensures) refl (omega arith) (omega arith))
-          (c.advance_twelve_sums-sums.ensures.value ks (reverse (take (2 * c.loop-pair.pair) c.args.samples.now)) taps fit (c.loop-pair.invariant.waits ks taps fit));
+          (c.advance_twelve_sums-sums.ensures.value ks (reverse (take (2 * c.loop-pair.pair) c.args.samples.now)) taps fit (c.loop-pair.invariant.pending ks taps fit));
     }
 
 pub returns : goal.returns
-returns g c = λ ks taps fit. subst (λ (l : List ℤ). AreTwelvePending ks (reverse l) c.loop-pair.sums) (take_all (2 * c.loop-pair.pair) c.args.samples.now (omega arith)) (c.loop-pair.invariant.waits ks taps fit)
+returns g c = λ ks taps fit. subst (λ (l : List ℤ). AreTwelvePending ks (reverse l) c.loop-pair.sums) (take_all (2 * c.loop-pair.pair) c.args.samples.now (omega arith)) (c.loop-pair.invariant.pending ks taps fit)

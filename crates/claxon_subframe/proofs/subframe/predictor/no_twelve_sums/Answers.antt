@@ -1,4 +1,4 @@
-use Rattle.claxon_subframe.proofs.Sums.{four_pending_before_all}
+use Rattle.claxon_subframe.proofs.PendingSums.{four_pending_before_all}
 use Rattle.claxon_subframe.proofs.subframe.predictor.no_twelve_sums.Goals as goal
 
 pub returns : goal.returns

@@ -6,8 +6,8 @@ use Rattle.claxon_subframe.proofs.subframe.predictor.padded_to_twelve.Goals as g
 pub returns-clause-value : goal.returns-clause-value
 returns-clause-value c =
     let zeros = replicate (12 - length c.args.coefficients.now) (pos 0) in
-    let long : length c.padded_coefficients-many.result ≡ 12 = ap length c.padded_coefficients-many.ensures.value ∙ omega (arith, length-append zeros c.args.coefficients.now, length-replicate (12 - length c.args.coefficients.now) (pos 0)) in
-    twelve_numbers c.padded_coefficients-many.result long c.padded_coefficients-many.ensures.small ∙ c.padded_coefficients-many.ensures.value
+    let long : length c.padded_coefficients-padded.result ≡ 12 = ap length c.padded_coefficients-padded.ensures.value ∙ omega (arith, length-append zeros c.args.coefficients.now, length-replicate (12 - length c.args.coefficients.now) (pos 0)) in
+    twelve_numbers c.padded_coefficients-padded.result long c.padded_coefficients-padded.ensures.small ∙ c.padded_coefficients-padded.ensures.value
 
 pub returns-clause-small : goal.returns-clause-small
-returns-clause-small c = as_twelve_small c.padded_coefficients-many.result c.padded_coefficients-many.ensures.small
+returns-clause-small c = as_twelve_small c.padded_coefficients-padded.result c.padded_coefficients-padded.ensures.small

@@ -2,11 +2,11 @@ use Rattle.std.proofs.Common.{◌≡◌, ℕ, ◌+◌, ◌-◌, ◌*◌, ◌∙�
 use Rattle.std.proofs.lemmas.Int.{to_z-of_z}
 use Rattle.std.proofs.lemmas.List.{length-set, length-take, length-drop, length-reverse}
 use Rattle.claxon_format.specs.Predict.{linear}
-use Rattle.claxon_subframe.specs.Sums.{but_newest_five}
+use Rattle.claxon_subframe.specs.PendingSums.{but_newest_five}
 use Rattle.claxon_subframe.specs.TwelveLanes.{numbers, AreTwelvePending}
 use Rattle.claxon_subframe.proofs.Predictors.{restored_all}
 use Rattle.claxon_subframe.proofs.Lanes.{kept_fit_64, same_fit_64}
-use Rattle.claxon_subframe.proofs.Sums.{fit_vectors}
+use Rattle.claxon_subframe.proofs.PendingSums.{fit_vectors}
 use Rattle.claxon_subframe.proofs.TwelveLanes.{twelve_fit_64, twelve_enough, twelve_last, twelve_long}
 use Rattle.claxon_subframe.proofs.RestoreLoopByTwo.{newest_after, as_i64, narrowed, past_split, two_made, one_made, made_restored, made_past, made_newest, last_restored}
 use Rattle.claxon_subframe.proofs.subframe.predictor.predict_12_taps.Goals as goal

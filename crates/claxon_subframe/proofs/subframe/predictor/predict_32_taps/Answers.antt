@@ -2,15 +2,15 @@ use Rattle.std.proofs.Common.{◌≡◌, ℕ, ◌+◌, ◌-◌, ◌*◌, ◌∙�
 use Rattle.std.proofs.lemmas.Int.{to_z-of_z}
 use Rattle.std.proofs.lemmas.List.{length-set, length-take, length-drop, length-reverse}
 use Rattle.claxon_format.specs.Predict.{linear}
-use Rattle.claxon_subframe.specs.Sums.{but_newest_five, ArePendingSums}
+use Rattle.claxon_subframe.specs.PendingSums.{but_newest_five, ArePendingSums}
 use Rattle.claxon_subframe.proofs.Predictors.{restored_all}
 use Rattle.claxon_subframe.proofs.Lanes.{kept_fit_64, same_fit_64}
-use Rattle.claxon_subframe.proofs.Sums.{pending_sums_fit_64, pending_sums_enough, are_last, fit_vectors}
+use Rattle.claxon_subframe.proofs.PendingSums.{pending_sums_fit_64, pending_sums_enough, are_last, fit_vectors}
 use Rattle.claxon_subframe.proofs.RestoreLoopByTwo.{newest_after, as_i64, narrowed, past_split, two_made, one_made, made_restored, made_past, made_newest, last_restored}
 use Rattle.claxon_subframe.proofs.subframe.predictor.predict_32_taps.Goals as goal
 
 pub returns-then-buffer-le32 : goal.returns-then-buffer-le32
-returns-then-buffer-le32 g c = sym (restored_all (linear (reverse c.args.many.now) c.args.shift) c.args.buffer.now 32 c.if-buffer-le32.true)
+returns-then-buffer-le32 g c = sym (restored_all (linear (reverse c.args.padded.now) c.args.shift) c.args.buffer.now 32 c.if-buffer-le32.true)
 
 pub advance_sums-sums-requires-clause-sums : goal.advance_sums-sums-requires-clause-sums
 advance_sums-sums-requires-clause-sums g c = pending_sums_fit_64 c.loop-pair.invariant.sums
@@ -23,10 +23,10 @@ followed_by_two-requires-clause-pending g c = kept_fit_64 (pending_sums_fit_64 c
 
 pub loop-pair-init : goal.loop-pair-init
 loop-pair-init g c =
-    let ks = but_newest_five (reverse c.args.many.now) in
+    let ks = but_newest_five (reverse c.args.padded.now) in
     let n = 28 - 4 * g.row.VECTORS in
     let near = reverse (take (32 - n) (drop n c.args.buffer.now)) in
-    let fit = fit_vectors c.args.many.now 32 g.row.VECTORS n c.told-many (omega arith) (omega arith) c.requires.zeros in
+    let fit = fit_vectors c.args.padded.now 32 g.row.VECTORS n c.told-padded (omega arith) (omega arith) c.requires.zeros in
     record {
       kept = refl;
       same = refl;
@@ -40,16 +40,16 @@ pub loop-pair-preserved : goal.loop-pair-preserved
 loop-pair-preserved g c =
     let first : FitsSigned w32 (get_or c.loop-pair.buffer (2 * c.loop-pair.pair) (pos 0)) = search rules in
     let after : FitsSigned w32 (get_or c.loop-pair.buffer (2 * c.loop-pair.pair + 1) (pos 0)) = search rules in
-    let ks = reverse c.args.many.now in
+    let ks = reverse c.args.padded.now in
     let i = 2 * c.loop-pair.pair in
     let j = 2 * c.loop-pair.pair + 1 in
     let k = 2 * (c.loop-pair.pair + 1) in
     let new = c.followed_by_two-newest.result in
     let one = narrowed new.second c.low_bits.result c.followed_by_two-newest.ensures.second c.low_bits.ensures in
     let two = narrowed new.newest c.low_bits-in-loop-pair.result c.followed_by_two-newest.ensures.newest c.low_bits-in-loop-pair.ensures in
-    let made = two_made ks c.loop-pair.buffer c.loop-pair.sums.at_0 _ i j _ _ _ c.loop-pair.newest new c.args.shift (are_last c.args.many.now c.told-many c.requires.small) c.loop-pair.invariant.past c.loop-pair.invariant.sums.at_0
+    let made = two_made ks c.loop-pair.buffer c.loop-pair.sums.at_0 _ i j _ _ _ c.loop-pair.newest new c.args.shift (are_last c.args.padded.now c.told-padded c.requires.small) c.loop-pair.invariant.past c.loop-pair.invariant.sums.at_0
     (same_fit_64 (pending_sums_fit_64 c.loop-pair.invariant.sums).at_0) (to_z-of_z w32 _ first) (to_z-of_z w32 _ after) c.followed_by_two-newest.ensures.value in
-    let fit = fit_vectors c.args.many.now 32 g.row.VECTORS (28 - 4 * g.row.VECTORS) c.told-many (omega arith) (omega arith) c.requires.zeros in
+    let fit = fit_vectors c.args.padded.now 32 g.row.VECTORS (28 - 4 * g.row.VECTORS) c.told-padded (omega arith) (omega arith) c.requires.zeros in
     record {
       kept = length-set _ _ _ ∙ length-set c.loop-pair.buffer _ _ ∙ c.loop-pair.invariant.kept;
       same = made_restored ks c.loop-pair.buffer c.loop-pair.invariant.past.rest c.args.shift i j k _ _ c.loop-pair.newest new refl (omega arith) (omega arith) one two made ∙ c.loop-pair.invariant.same;
@@ -63,10 +63,10 @@ pub returns-then-buffer-eq1 : goal.returns-then-buffer-eq1
 returns-then-buffer-eq1 g c =
     let at : length c.loop-pair.buffer - 1 ≡ 2 * c.loop-pair.pair = omega arith in
     let residual : FitsSigned w32 (get_or c.loop-pair.buffer (length c.loop-pair.buffer - 1) (pos 0)) = search rules in
-    let ks = reverse c.args.many.now in
+    let ks = reverse c.args.padded.now in
     let new = c.followed_by_two.result in
     let one = narrowed new.second c.low_bits-then-buffer-eq1.result c.followed_by_two.ensures.second c.low_bits-then-buffer-eq1.ensures in
-    let made = one_made ks c.loop-pair.buffer c.loop-pair.sums.at_0 _ (2 * c.loop-pair.pair) _ _ _ c.loop-pair.newest new c.args.shift (are_last c.args.many.now c.told-many c.requires.small) c.loop-pair.invariant.past c.loop-pair.invariant.sums.at_0
+    let made = one_made ks c.loop-pair.buffer c.loop-pair.sums.at_0 _ (2 * c.loop-pair.pair) _ _ _ c.loop-pair.newest new c.args.shift (are_last c.args.padded.now c.told-padded c.requires.small) c.loop-pair.invariant.past c.loop-pair.invariant.sums.at_0
     (same_fit_64 (pending_sums_fit_64 c.loop-pair.invariant.sums).at_0) (to_z-of_z w32 _ residual ∙ ap (λ (n : ℕ). get_or c.loop-pair.buffer n (pos 0)) at) c.followed_by_two.ensures.value in
     last_restored (linear ks c.args.shift) c.loop-pair.buffer _ (2 * c.loop-pair.pair) (length c.loop-pair.buffer - 1) _ at (omega arith) (one ∙ made) c.loop-pair.invariant.same
 
@@ -76,4 +76,4 @@ first_sums-sums-requires-clause-samples g c =
 
 pub returns-else-buffer-eq1 : goal.returns-else-buffer-eq1
 returns-else-buffer-eq1 g c =
-    sym (restored_all (linear (reverse c.args.many.now) c.args.shift) c.loop-pair.buffer (2 * c.loop-pair.pair) (omega arith)) ∙ c.loop-pair.invariant.same
+    sym (restored_all (linear (reverse c.args.padded.now) c.args.shift) c.loop-pair.buffer (2 * c.loop-pair.pair) (omega arith)) ∙ c.loop-pair.invariant.same

@@ -1,12 +1,12 @@
 use Rattle.std.proofs.Common.{◌≡◌, ◌*◌, length, take, reverse}
 use Rattle.claxon_format.specs.Predict.{restored, linear}
-use Rattle.claxon_subframe.specs.Sums.{but_newest_five, ArePendingSums, AreNewest}
+use Rattle.claxon_subframe.specs.PendingSums.{but_newest_five, ArePendingSums, AreNewest}
 use Rattle.claxon_subframe.proofs.subframe.predictor.predict_32_taps.Given as goal
 
 abbrev pub invariant-loop-pair : goal.invariant-loop-pair
 invariant-loop-pair g l = record {
   kept : length l.buffer ≡ length l.fn.buffer;
-  same : restored (linear (reverse l.many) l.shift) (2 * l.pair) l.buffer ≡ restored (linear (reverse l.many) l.shift) 32 l.fn.buffer;
+  same : restored (linear (reverse l.padded) l.shift) (2 * l.pair) l.buffer ≡ restored (linear (reverse l.padded) l.shift) 32 l.fn.buffer;
   past : AreNewest (reverse (take (2 * l.pair) l.buffer)) l.newest;
-  sums : ArePendingSums (but_newest_five (reverse l.many)) (reverse (take (2 * l.pair) l.buffer)) l.sums;
+  sums : ArePendingSums (but_newest_five (reverse l.padded)) (reverse (take (2 * l.pair) l.buffer)) l.sums;
 }

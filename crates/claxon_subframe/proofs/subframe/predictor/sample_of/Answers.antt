@@ -1,8 +1,8 @@
 use Rattle.std.proofs.Common.{rules, arith, to_z, of_z, w64, ◌≡◌}
 use Rattle.std.proofs.Math.Facts.{sfits_to_z, Fits-of_z}
 use Rattle.std.proofs.lemmas.Int.{ints}
-use Rattle.claxon_subframe.specs.Sums.{plus_five}
-use Rattle.claxon_subframe.proofs.Sums.{IsScaledSum, scaled_sum_more, scaled_sum_sample, sample_fits}
+use Rattle.claxon_subframe.specs.PendingSums.{plus_five}
+use Rattle.claxon_subframe.proofs.PendingSums.{IsScaledSum, scaled_sum_more, scaled_sum_sample, sample_fits}
 use Rattle.claxon_subframe.proofs.subframe.predictor.sample_of.Goals as goal
 
 pub returns-clause-value : goal.returns-clause-value
@@ -19,7 +19,7 @@ returns-clause-value c = λ sum residual e.
     let j : to_z w64 (of_z w64 c.args.samples.third) ≡ c.args.samples.third = search rules in
     let k : to_z w64 (of_z w64 c.args.samples.second) ≡ c.args.samples.second = search rules in
     let l : to_z w64 (of_z w64 c.args.samples.newest) ≡ c.args.samples.newest = search rules in
-    let start : IsScaledSum c.args.early sum residual c.args.shift = record { is = e } in
+    let start : IsScaledSum c.args.scaled sum residual c.args.shift = record { is = e } in
     let up = scaled_sum_more c.add_product.ensures (scaled_sum_more c.add_product-two.ensures (scaled_sum_more c.add_product-three.ensures (scaled_sum_more c.add_product-four.ensures (scaled_sum_more c.add_product-five.ensures start)))) in
     scaled_sum_sample (plus_five sum ks xs) c.requires up (simp (a, b, d, f, g, h, i, j, k, l) (omega (arith, ints)))
 

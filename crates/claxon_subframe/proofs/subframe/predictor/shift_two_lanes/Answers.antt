@@ -13,5 +13,5 @@ moved c =
 pub returns-clause-value : goal.returns-clause-value
 returns-clause-value c = moved c
 
-pub returns-clause-wide : goal.returns-clause-wide
-returns-clause-wide c = fit_64_moved c.requires.before c.requires.lanes (moved c)
+pub returns-clause-fits : goal.returns-clause-fits
+returns-clause-fits c = fit_64_moved c.requires.before c.requires.lanes (moved c)

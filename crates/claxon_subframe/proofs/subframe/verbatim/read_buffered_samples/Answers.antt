@@ -5,8 +5,8 @@ use Rattle.claxon_input.proofs.Sources.{on_err}
 use Rattle.claxon_subframe.proofs.SkippedBits.{read_skipped, read_consumes, never_incomplete}
 use Rattle.claxon_subframe.proofs.subframe.verbatim.read_buffered_samples.Goals as goal
 
-pub overflow_sub-passed : goal.overflow_sub-passed
-overflow_sub-passed g c =
+pub overflow_sub-consumed : goal.overflow_sub-consumed
+overflow_sub-consumed g c =
     (read_skipped (Reads-times c.decode_buffered_samples-samples.result (Reads-signed c.args.bps c.requires.some)) c.len-bits.result c.len.result (take c.decode_buffered_samples-samples.result c.decode_buffered_samples-samples.new.buffer) c.buffered-buffered.result c.decode_buffered_samples-samples.new.buffered []
     c.len-bits.ensures.value c.len.ensures.value (c.decode_buffered_samples-samples.ensures.samples [])).fewer
 

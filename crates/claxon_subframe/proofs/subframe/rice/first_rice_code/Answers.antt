@@ -1,0 +1,27 @@
+use Rattle.std.proofs.Common.{arith, refl, ap, ap₂, bit_or, ◌*◌, ◌%◌, ◌^◌, ◌<◌, ◌∙◌, ℕ}
+use Rattle.std.specs.Int.{leading_zeros, w64}
+use Rattle.claxon_format.specs.Bits.{zigzag_decode}
+use Rattle.claxon_input.proofs.BitSteps.{mask}
+use Rattle.claxon_input.proofs.CacheBits.{highest}
+use Rattle.claxon_subframe.proofs.RiceCodeGroups.{rotation_by, first_is, mirrored_twice, rotated_nonzero, rice_code_bits}
+use Rattle.claxon_subframe.proofs.subframe.rice.first_rice_code.Goals as goal
+
+pub returns-clause-few : goal.returns-clause-few
+returns-clause-few c =
+    let z : ℕ = leading_zeros w64 c.args.peeked in
+    let within : z < 64 = (highest c.args.peeked c.requires.some (omega arith)).within in
+    rw (rice_code_bits z c.args.parameter within c.requires.parameter) (omega arith)
+
+pub returns-clause-code : goal.returns-clause-code
+returns-clause-code c =
+    let k = c.args.parameter in
+    let z : ℕ = leading_zeros w64 c.args.peeked in
+    let within : z < 64 = (highest c.args.peeked c.requires.some (omega arith)).within in
+    let rotated = c.rotate_right-rotated.ensures in
+    let low = mask c.rotate_right-rotated.result k (omega arith) ∙ ap (λ (t : ℕ). t % 2 ^ k) rotated in
+    let code = c.rice_to_signed.ensures ∙ ap₂ (λ (q r : ℕ). zigzag_decode (bit_or (q * 2 ^ k % 4294967296) r)) (mirrored_twice z within) low in
+    rw (rice_code_bits z k within c.requires.parameter, rotated)
+    (first_is k c.args.peeked c.rice_to_signed.result _ c.requires.parameter (omega arith) code refl)
+
+pub returns-clause-some : goal.returns-clause-some
+returns-clause-some c = rw c.rotate_right-rotated.ensures (rotated_nonzero c.args.peeked (rotation_by (leading_zeros w64 c.args.peeked) c.args.parameter) c.requires.some (omega arith))

@@ -1,0 +1,217 @@
+//! The Rice codes of a partition: most of a stream's bits, and of the time to decode it. They are decoded from the buffered bits,
+//! where no call can fail; then these bits are skipped in one call.
+ghost use Rattle.std.specs.Prelude.{◌≡◌, ◌<◌, ◌≤◌, IfOk, IfErr, OnErr, length};
+ghost use Rattle.std.specs.Bool.{MatchBool};
+ghost use Rattle.claxon_format.specs.Bits.{Bits, zigzag_decode};
+ghost use Rattle.claxon_format.specs.Reading.{times_at};
+ghost use Rattle.claxon_format.specs.read.Bits.{rice_code_at};
+ghost use Rattle.claxon_input.specs.BufferedBits.{bits_in_buffer, GivesBuffered, GivesBufferedOrNone};
+ghost use Rattle.claxon_input.specs.State.{bits_in};
+ghost use Rattle.claxon_input.specs.Gives.{Gives, FailureOr};
+ghost use Rattle.claxon_input.specs.Error.{IsIo};
+ghost use Rattle.claxon_subframe.specs.RiceCodes.{RiceCodesAreRead, FirstRiceCodesAreRead, BufferedCodesAreRead, IsFirstRiceCode};
+
+use claxon_input::error::Result;
+use claxon_input::input::{Bitstream, BufferedBits, ReadBytes};
+
+#[cfg(test)]
+mod tests;
+
+/// Reads as many Rice codes as the buffer is long.
+pub fn read_rice_codes<R: ReadBytes>(
+    input: &mut Bitstream<R>,
+    parameter: u32,
+    buffer: &mut [i32],
+) -> Result<()>
+    requires { parameter ≤ 30 }
+    ensures { RiceCodesAreRead R.source parameter input.old result input.new buffer.old buffer.new }
+{
+    let mut start = 0;
+    while start < buffer.len() {
+        start += read_buffered_rice_codes(input, parameter, &mut buffer[start..])?;
+        if start < buffer.len() {
+            buffer[start] = read_rice_code(input, parameter)?;
+            start += 1;
+        }
+    }
+    Ok(())
+}
+
+// Reads the Rice codes that are completely buffered, and returns their number. Only the source can fail.
+fn read_buffered_rice_codes<R: ReadBytes>(
+    input: &mut Bitstream<R>,
+    parameter: u32,
+    buffer: &mut [i32],
+) -> Result<usize>
+    requires { parameter ≤ 30 }
+    ensures few { IfOk result (λ codes. codes ≤ length buffer.new) }
+    ensures ok { FirstRiceCodesAreRead R.source parameter input.old result input.new buffer.new }
+    ensures io { IfErr result IsIo }
+    ensures err { OnErr result
+        (FailureOr (bits_in R.source input.old) (bits_in R.source input.new) (λ s. ⊥)) }
+{
+    let mut buffered = input.buffered();
+    let bits = buffered.len();
+    let codes = decode_buffered_codes(&mut buffered, parameter, buffer);
+    let consumed = bits - buffered.len();
+    input.skip_bits(consumed)?;
+    Ok(codes)
+}
+
+/// Decodes the Rice codes that are completely buffered, and returns their number.
+#[inline(never)]
+pub fn decode_buffered_codes(
+    buffered: &mut BufferedBits,
+    parameter: u32,
+    buffer: &mut [i32],
+) -> usize
+    requires { parameter ≤ 30 }
+    ensures few { result ≤ length buffer.new }
+    ensures codes { BufferedCodesAreRead parameter buffered.old result buffered.new buffer.new }
+{
+    // A copy stays in registers: the reference might alias the buffer, and would be loaded again after each code.
+    let mut next = *buffered;
+    let codes = match parameter {
+        0..=4 => decode_by_groups(6, &mut next, parameter, buffer),
+        5..=9 => decode_by_groups(4, &mut next, parameter, buffer),
+        10..=14 => decode_by_groups(3, &mut next, parameter, buffer),
+        _ => decode_by_groups(2, &mut next, parameter, buffer),
+    };
+    *buffered = next;
+    codes
+}
+
+// The same, in groups of `group` codes where these fit into 64 bits.
+#[inline(always)]
+fn decode_by_groups(
+    group: usize,
+    buffered: &mut BufferedBits,
+    parameter: u32,
+    buffer: &mut [i32],
+) -> usize
+    requires parameter { parameter ≤ 30 }
+    requires group { group ≤ 6 }
+    ensures few { result ≤ length buffer.new }
+    ensures codes { BufferedCodesAreRead parameter buffered.old result buffered.new buffer.new }
+{
+    let mut codes = 0;
+    while codes < buffer.len() {
+        let more = decode_group_or_code(group, buffered, parameter, &mut buffer[codes..]);
+        if more == 0 {
+            break;
+        }
+        codes += more;
+    }
+    codes
+}
+
+// Decodes a group of codes, or one code, or none, and returns their number.
+#[inline(always)]
+fn decode_group_or_code(
+    group: usize,
+    buffered: &mut BufferedBits,
+    parameter: u32,
+    buffer: &mut [i32],
+) -> usize
+    requires parameter { parameter ≤ 30 }
+    requires group { group ≤ 6 }
+    requires capacity { 0 < length buffer.now }
+    ensures few { result ≤ length buffer.new }
+    ensures codes { BufferedCodesAreRead parameter buffered.old result buffered.new buffer.new }
+{
+    if group <= buffer.len() && decode_group(buffered, parameter, &mut buffer[..group]) {
+        return group;
+    }
+    let Some(code) = decode_code(buffered, parameter) else {
+        return 0;
+    };
+    buffer[0] = code;
+    1
+}
+
+// Decodes a group of codes, where these fit into the next 64 bits. Otherwise the contents of the group are unspecified.
+#[inline(always)]
+fn decode_group(buffered: &mut BufferedBits, parameter: u32, group: &mut [i32]) -> bool
+    requires parameter { parameter ≤ 30 }
+    requires few { length group.now ≤ 6 }
+    ensures { MatchBool result
+        (GivesBuffered buffered.old buffered.new
+        (times_at (length group.new) (rice_code_at parameter)) group.new)
+        (bits_in_buffer buffered.new ≡ bits_in_buffer buffered.old) }
+{
+    let Some(first) = buffered.peek() else {
+        return false;
+    };
+    // The last bit is set so that the 64 bits are never zero; a code that reaches this bit isn't used.
+    let mut peeked = first | 1;
+    let mut used = 0;
+    for residual in group.iter_mut() {
+        let (code, bits, rotated) = first_rice_code(peeked, parameter);
+        *residual = code;
+        used += bits;
+        peeked = rotated;
+    }
+    if used > 56 {
+        return false;
+    }
+    buffered.consume(used);
+    true
+}
+
+// The residual sample of the first Rice code in 64 bits, the length of the code in bits, and the 64 bits rotated past it. Where
+// the length is 64 or more the sample is unspecified.
+#[inline(always)]
+fn first_rice_code(peeked: u64, parameter: u32) -> (i32, u32, u64)
+    requires parameter { parameter ≤ 30 }
+    requires some { 0 < peeked }
+    ensures few { result.1 ≤ 95 }
+    ensures code { IsFirstRiceCode parameter peeked result.0 result.1 result.2 }
+    ensures some { 0 < result.2 }
+{
+    // The index of the first one from the low end: rotating right by it depends on fewer operations than rotating left by the
+    // number of zeros.
+    let first = peeked.leading_zeros() ^ 63;
+    let back = first.wrapping_sub(parameter);
+    let bits = 64u32.wrapping_sub(back);
+    let rotated = peeked.rotate_right(back);
+    let low = (rotated & ((1 << parameter) - 1)) as u32;
+    let zeros = first ^ 63;
+    (rice_to_signed((zeros << parameter) | low), bits, rotated)
+}
+
+// A Rice code, or `None` where it isn't completely buffered.
+#[inline(always)]
+fn decode_code(buffered: &mut BufferedBits, parameter: u32) -> Option<i32>
+    requires { parameter ≤ 30 }
+    ensures { GivesBufferedOrNone (rice_code_at parameter) buffered.old result buffered.new }
+{
+    let mut next = *buffered;
+    let quotient = next.unary()?;
+    let low = next.number(parameter)?;
+    *buffered = next;
+    Some(rice_to_signed((quotient << parameter) | low))
+}
+
+// A Rice code: the quotient by 2^parameter in unary, as zeros and a one, then the remainder in `parameter` bits. The number is
+// taken modulo 2^32.
+#[inline(always)]
+#[tactic(auto, unfolding(claxon_format::specs::read::Bits::rice_code_at))]
+fn read_rice_code<R: ReadBytes>(input: &mut Bitstream<R>, parameter: u32) -> Result<i32>
+    requires { parameter ≤ 30 }
+    ensures { Gives (λ x. x) result (rice_code_at parameter)
+        (bits_in R.source input.old) (bits_in R.source input.new) }
+{
+    let quotient = input.read_unary()?;
+    let low = input.read_leq_u32(parameter)?;
+    Ok(rice_to_signed((quotient << parameter) | low))
+}
+
+// Zigzag decoding: 0, 1, 2, 3, 4 are 0, -1, 1, -2, 2, so that small numbers of either sign have short codes.
+#[inline(always)]
+fn rice_to_signed(val: u32) -> i32
+    ensures { result ≡ zigzag_decode val }
+{
+    let half = (val >> 1) as i32;
+    let extended_bit_0 = (val << 31).cast_signed() >> 31;
+    half ^ extended_bit_0
+}
