@@ -1,4 +1,4 @@
--- The loop that reads the entries of a comment block.
+-- The loop that reads the entries of a Vorbis comment block.
 use Rattle.std.proofs.Common.{◌≡◌, ℕ, zero, suc, ◌+◌, ◌-◌, ◌<◌, ◌≤◌, true, false, ltb, List, [], ◌∷◌, ◌++◌, Some, None, Option, refl, sym, ap, ◌∙◌, append_assoc, arith, String}
 use Rattle.std.proofs.lemmas.Bool.{lt-ltb, le-ltb}
 use Rattle.std.proofs.lemmas.List.{append-nil, map-append}
@@ -12,7 +12,7 @@ use Rattle.claxon_input.proofs.CallsInTurn.{consumes_then, consumes_map, StopsAs
 use Rattle.claxon_metadata.specs.VorbisComment.{entry_or_empty_view}
 use Rattle.claxon_metadata.specs.TagEntries.{entry_view, entries_view}
 
--- some of count texts were read, and so many are missing in so many bytes
+-- some of `count` entries were read; `missing` more are to follow in `left` bytes
 pub record EntriesSoFar (count length missing left : ℕ) (kept : List Entry) (old new : State ℕ) : Type 0 where
   pub so_far : Consumes old new (λ s m. entries_at count length s ≡ with_front kept (entries_at missing left m))
 
@@ -21,71 +21,71 @@ regroup kept es (Done others m) = ap (λ (z : List Entry). Done z m) (sym (appen
 regroup kept es (Faulty f m) = refl
 regroup kept es Incomplete = refl
 
--- one text more
+-- one more entry
 entry_next : (missing left n : ℕ) (es : List Entry) (s m k : List ℕ) → 0 < missing → 4 ≤ left → entry_length_at (left - 4) s ≡ Done n m → entry_or_empty_at n m ≡ Done es k
     → entries_at missing left s ≡ bind (entries_at (missing - 1) (left - (4 + n)) k) (λ others j. Done (es ++ others) j)
 unfolding entries_at
-entry_next zero left n es s m k some room p q = absurd (omega arith)
-entry_next (suc missing) left n es s m k some room p q =
-    let b : ltb left 4 ≡ false = le-ltb _ _ room in
+entry_next zero left n es s m k some fits p q = absurd (omega arith)
+entry_next (suc missing) left n es s m k some fits p q =
+    let b : ltb left 4 ≡ false = le-ltb _ _ fits in
     let l : left - (4 + n) ≡ left - 4 - n = omega arith in
     let o : suc missing - 1 ≡ missing = omega arith in
     rw (b, p, q, l, o) refl
 
 pub entries_next : {count length missing left n : ℕ} {kept es all : List Entry} {a b c d : State ℕ} → 0 < missing → 4 ≤ left → kept ++ es ≡ all → EntriesSoFar count length missing left kept a b
     → Consumes b c (λ s m. entry_length_at (left - 4) s ≡ Done n m) → Consumes c d (λ s m. entry_or_empty_at n s ≡ Done es m) → EntriesSoFar count length (missing - 1) (left - (4 + n)) all a d
-entries_next {missing = missing} {left = left} {n = n} {kept = kept} {es = es} {b = b} {c = c} {d = d} some room e h p q = record {
+entries_next {missing = missing} {left = left} {n = n} {kept = kept} {es = es} {b = b} {c = c} {d = d} some fits e h p q = record {
   so_far =
-      consumes_then _ h.so_far (consumes_then (λ s m. entries_at missing left s ≡ bind (entries_at (missing - 1) (left - (4 + n)) m) (λ others j. Done (es ++ others) j)) p q (λ x y. entry_next missing left n es _ _ _ some room x y))
+      consumes_then _ h.so_far (consumes_then (λ s m. entries_at missing left s ≡ bind (entries_at (missing - 1) (left - (4 + n)) m) (λ others j. Done (es ++ others) j)) p q (λ x y. entry_next missing left n es _ _ _ some fits x y))
       (λ x y. x ∙ ap (with_front kept) y ∙ regroup kept es _ ∙ ap (λ (z : List Entry). with_front z (entries_at (missing - 1) (left - (4 + n)) d.remaining)) e);
 }
 
--- what is kept of a text that is an entry, and of an empty one
+-- an entry that isn't empty is added to the entries, and an empty one is not
 pub entries_view_more : {A : Type 0} (comments all : List (String A × ℕ)) (entry : String A × ℕ) (found : Option (String A × ℕ)) → found ≡ Some entry → all ≡ comments ++ entry ∷ [] → entries_view comments ++ entry_or_empty_view found ≡ entries_view all
 entries_view_more comments all entry found f e = rw (f, e) (sym (map-append entry_view comments (entry ∷ [])))
 
 pub entries_view_same : {A : Type 0} (comments all : List (String A × ℕ)) (found : Option (String A × ℕ)) → found ≡ None → all ≡ comments → entries_view comments ++ entry_or_empty_view found ≡ entries_view all
 entries_view_same comments all found f e = rw (f, e) (append-nil (entries_view comments))
 
--- ---- exits
+-- ---- errors
 
--- the length of the next text stops the whole
+-- if the length of the next entry is invalid or incomplete, so are the entries
 length_stops : (missing left : ℕ) (kept : List Entry) (s : List ℕ) → 0 < missing → 4 ≤ left → StopsAs (entry_length_at (left - 4) s) (with_front kept (entries_at missing left s))
 unfolding entries_at
-length_stops zero left kept s some room = absurd (omega arith)
-length_stops (suc missing) left kept s some room =
-    let b : ltb left 4 ≡ false = le-ltb _ _ room in
+length_stops zero left kept s some fits = absurd (omega arith)
+length_stops (suc missing) left kept s some fits =
+    let b : ltb left 4 ≡ false = le-ltb _ _ fits in
     record { fault = λ f rest e. rw (b, e) refl; short = λ e. rw (b, e) refl }
 
 entry_stops : (missing left n : ℕ) (kept : List Entry) (s m : List ℕ) → 0 < missing → 4 ≤ left → entry_length_at (left - 4) s ≡ Done n m → StopsAs (entry_or_empty_at n m) (with_front kept (entries_at missing left s))
 unfolding entries_at
-entry_stops zero left n kept s m some room p = absurd (omega arith)
-entry_stops (suc missing) left n kept s m some room p =
-    let b : ltb left 4 ≡ false = le-ltb _ _ room in
+entry_stops zero left n kept s m some fits p = absurd (omega arith)
+entry_stops (suc missing) left n kept s m some fits p =
+    let b : ltb left 4 ≡ false = le-ltb _ _ fits in
     record { fault = λ f rest e. rw (b, p, e) refl; short = λ e. rw (b, p, e) refl }
 
 pub length_err : {count length missing left : ℕ} {kept : List Entry} {a b : State ℕ} → 0 < missing → 4 ≤ left → EntriesSoFar count length missing left kept a b
     → Consumes a b (λ s m. StopsAs (entry_length_at (left - 4) m) (entries_at count length s))
-length_err {missing = missing} {left = left} {kept = kept} {b = b} some room h = consumes_map _ h.so_far (λ p. rw p (length_stops missing left kept b.remaining some room))
+length_err {missing = missing} {left = left} {kept = kept} {b = b} some fits h = consumes_map _ h.so_far (λ p. rw p (length_stops missing left kept b.remaining some fits))
 
 pub entry_err : {count length missing left n : ℕ} {kept : List Entry} {a b c : State ℕ} → 0 < missing → 4 ≤ left → EntriesSoFar count length missing left kept a b
     → Consumes b c (λ s m. entry_length_at (left - 4) s ≡ Done n m) → Consumes a c (λ s m. StopsAs (entry_or_empty_at n m) (entries_at count length s))
-entry_err {missing = missing} {left = left} {n = n} {kept = kept} {b = b} {c = c} some room h p = consumes_then _ h.so_far p (λ x y. rw x (entry_stops missing left n kept b.remaining c.remaining some room y))
+entry_err {missing = missing} {left = left} {n = n} {kept = kept} {b = b} {c = c} some fits h p = consumes_then _ h.so_far p (λ x y. rw x (entry_stops missing left n kept b.remaining c.remaining some fits y))
 
--- ---- the end
+-- ---- after the last entry
 
-ends : (missing left : ℕ) (s : List ℕ) → (0 < missing → left < 4) → entries_at missing left s ≡ entries_end_at missing left s
+no_more_entries : (missing left : ℕ) (s : List ℕ) → (0 < missing → left < 4) → entries_at missing left s ≡ entries_end_at missing left s
 unfolding entries_at
-ends zero left s h = refl
-ends (suc missing) left s h =
+no_more_entries zero left s h = refl
+no_more_entries (suc missing) left s h =
     let b : ltb left 4 ≡ true = lt-ltb _ _ (h (omega arith)) in
     rw b refl
 
 pub end_err : {count length missing left : ℕ} {kept : List Entry} {a b : State ℕ} → (0 < missing → left < 4) → EntriesSoFar count length missing left kept a b
     → Consumes a b (λ s m. StopsAs (entries_end_at missing left m) (entries_at count length s))
-end_err {missing = missing} {left = left} {kept = kept} {b = b} last h = consumes_map _ h.so_far (λ p. rw (p, ends missing left b.remaining last) (record { fault = λ f rest e. rw e refl; short = λ e. rw e refl }))
+end_err {missing = missing} {left = left} {kept = kept} {b = b} last h = consumes_map _ h.so_far (λ p. rw (p, no_more_entries missing left b.remaining last) (record { fault = λ f rest e. rw e refl; short = λ e. rw e refl }))
 
 pub entries_end : {count length missing left : ℕ} {kept : List Entry} {a b : State ℕ} → (0 < missing → left < 4) → EntriesSoFar count length missing left kept a b
     → Consumes b b (λ s m. entries_end_at missing left s ≡ Done [] m) → Consumes a b (λ s m. entries_at count length s ≡ Done kept m)
 entries_end {missing = missing} {left = left} {kept = kept} {b = b} last h k =
-    consumes_then _ h.so_far k (λ p q. p ∙ rw (ends missing left b.remaining last, q) (ap (λ (z : List Entry). Done z b.remaining) (append-nil kept)))
+    consumes_then _ h.so_far k (λ p q. p ∙ rw (no_more_entries missing left b.remaining last, q) (ap (λ (z : List Entry). Done z b.remaining) (append-nil kept)))

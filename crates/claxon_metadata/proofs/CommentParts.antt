@@ -1,4 +1,4 @@
--- The parts of a comment block, one after another.
+-- The parts of a Vorbis comment block, one after another.
 use Rattle.std.proofs.Common.{◌≡◌, ℕ, ◌-◌, ◌≤◌, false, ltb, List, refl}
 use Rattle.std.specs.Prelude.{◌/◌}
 use Rattle.std.proofs.lemmas.Bool.{le-ltb}
@@ -10,7 +10,7 @@ use Rattle.claxon_input.specs.Gives.{Consumes}
 use Rattle.claxon_input.specs.State.{State}
 use Rattle.claxon_input.proofs.CallsInTurn.{consumes_then, StopsAs}
 
--- where one of them stops, so does the whole
+-- if one of them is invalid or incomplete, so is the block
 module _ {n : ℕ} (s : List ℕ) (long : 8 ≤ n) (small : n ≤ max_content_bytes) where
   not_short : ltb n 8 ≡ false
   not_short = le-ltb _ _ long

@@ -1,4 +1,4 @@
--- Entries of Vorbis comments: texts in UTF-8, and the place of the first '='.
+-- Entries of Vorbis comments: texts in UTF-8, and the index of the first '='.
 use Rattle.std.proofs.Common.{◌≡◌, ℕ, Some, Bool, true, false, List, get_or, refl, sym, ap, ◌∙◌, arith, String, string_bytes}
 use Rattle.std.specs.Prelude.{not, IsUtf8}
 use Rattle.std.specs.List.{position}
@@ -19,7 +19,7 @@ use Rattle.claxon_metadata.specs.TagEntries.{IsSeparatorIndex}
 pub text_utf8 : {A : Type 0} (text : String A) (bytes : List ℕ) → string_bytes text ≡ bytes → not_utf8 bytes ≡ false
 text_utf8 text bytes e = ap (λ (b : List ℕ). not_utf8 b) (sym e) ∙ ap (λ (b : Bool). not b) (is_utf8-from_IsUtf8 (string_bytes text) (IsUtf8-string_bytes text))
 
--- bytes that can't be UTF-8
+-- bytes that aren't UTF-8
 pub text_not_utf8 : (bytes : List ℕ) → (IsUtf8 bytes → ⊥) → not_utf8 bytes ≡ true
 text_not_utf8 bytes h = go (is_utf8 bytes) refl
   where
@@ -35,9 +35,9 @@ names_fault f OutOfMemory text t u h = absurd h
 
 -- ---- the first '='
 
--- a character of one byte stands there
+-- it is an ASCII character
 pub separator_is_index : (bytes : List ℕ) (place : ℕ) → position is_separator bytes ≡ Some place → IsSeparatorIndex bytes place
 separator_is_index bytes place e =
     let found = position-Some is_separator bytes place 0 e in
     let is : get_or bytes place 0 ≡ 61 = (Decides-eqb (get_or bytes place 0) 61).0 found.1 in
-    record { inside = found.0; short = omega arith }
+    record { inside = found.0; ascii = omega arith }

@@ -19,11 +19,11 @@ use Rattle.claxon_input.proofs.CallsInTurn.{consumes_map, StopsAs}
 use Rattle.claxon_metadata.specs.VorbisComment.{HasVendorLength}
 use Rattle.claxon_metadata.specs.MetadataBlock.{ContentCode, content_at}
 
--- where the first field stops, so does the whole
+-- if the first field is invalid or incomplete, so is the whole
 pub stops_with : {X Y Z : Type 0} {x : Reading X Y} {whole : Reading X Z} (f : Y → List X → Reading X Z) → whole ≡ bind x f → StopsAs x whole
 stops_with f e = record { fault = λ g rest q. e ∙ rw q refl; short = λ q. e ∙ rw q refl }
 
--- where the data of an application stop, so does the whole
+-- if the application data is incomplete, so is the block
 pub application_stops : {n id : ℕ} {a b : State ℕ} → 4 ≤ n → n ≤ max_content_bytes → Consumes a b (λ s m. big_at 4 s ≡ Done id m) → Consumes a b (λ s m. StopsAs (bytes_at (n - 4) m) (application_at n s))
 unfolding application_at
 application_stops {n = n} some small h =
@@ -47,7 +47,7 @@ pub body_invalid : (type n : ℕ) (s : List ℕ) → type ≡ 127 → body_at ty
 unfolding body_at
 body_invalid type n s e = rw e refl
 
--- bytes that are passed over mean the same
+-- the value of skipped bytes doesn't matter
 regrouped : (x : Reading ℕ (List ℕ)) (content : Content) → bind x (λ bytes. done content) ≡ bind (bind x (λ (bytes : List ℕ). done (tt {0}))) (λ (u : Unit {0}). done content)
 regrouped (Done bytes m) content = refl
 regrouped (Faulty f m) content = refl
@@ -68,18 +68,18 @@ body_skipped type n s h =
     let d : eqb type 127 ≡ false = ne_eqb _ _ h.not_invalid in
     rw (a, b, c, d) (regrouped (bytes_at n s) (skipped type n))
 
--- without the last flag
+-- a block without its last-block flag
 pub Reads-content : Reads ℕ Content content_at ContentCode BlockFault
 unfolding content_at
 Reads-content = Reads-map (λ block. block.content) Reads-block
 
--- the header that was read is the one that stands there
+-- the header that was read has the length of the header that the bytes begin with
 pub header_is : (found h : BlockHeader) (x rest : List ℕ) {s m : List ℕ} → BlockHeaderCode h x → s ≡ x ++ rest → block_header_at s ≡ Done found m → found.length ≡ h.length
 header_is found h x rest code e read =
     let both : Done found _ ≡ Done h rest = sym (rw e at read) ∙ Reads-block_header.again h x rest code in
     let same : found ≡ h = cc both in
     ap (λ (b : BlockHeader). b.length) same
 
--- a vendor's length that was read stands there
+-- the bytes begin with the vendor length that was read from them
 pub has_vendor_length : (most v : ℕ) (s m : List ℕ) → vendor_length_at most s ≡ Done v m → HasVendorLength most s
 has_vendor_length most v s m e = let t = (Reads-vendor_length most).takes s v m e in (v, t.0, m, t.1, t.2)

@@ -1,4 +1,4 @@
--- What metadata blocks of the code say, in the words of the format, and what holds of every one that was read (RFC 9639, section 8).
+-- The metadata blocks of the code as values of the format, and what holds of each one that was read (RFC 9639, section 8).
 use Rattle.std.specs.Prelude.{◌≡◌, ◌⊎◌, ◌++◌, Bool, true, Result, ℕ, ◌-◌, ◌<◌, ◌≤◌, List, [], ◌∷◌, Option, None, Some, IfSome}
 use Rattle.claxon_format.specs.MetadataBlocks.{Content, Info, Padding, Application, Comments, Reserved, MetadataBlock as Block, BlockCode}
 use Rattle.claxon_format.specs.read.MetadataBlocks.{block_at}
@@ -17,7 +17,7 @@ use Rattle.claxon_metadata.specs.declared.metadata.MetadataBlock.TheVariants.{St
 use Rattle.claxon_metadata.specs.VorbisComment.{HasVendorLength, comment_view}
 use Rattle.claxon_metadata.specs.TagEntries.{HaveSeparatorIndices}
 
--- a number that isn't known is written as 0
+-- an unknown number is written as 0
 abbrev pub or_zero : Option ℕ → ℕ
 or_zero None = 0
 or_zero (Some n) = n
@@ -38,17 +38,20 @@ info_view info = record {
 
 -- the header of a block (section 8.1)
 abbrev pub header_view : MetadataBlockHeader → BlockHeader
-header_view header = record { is_last = header.is_last; type = header.block_type; length = header.length }
+header_view header =
+    record { is_last = header.is_last; type = header.block_type; length = header.length }
 
--- the bounds on sizes, as they are written one after another
+-- the bounds of the block and frame sizes, in the order in which they are written
 abbrev pub sizes_view : SizeBounds → List ℕ
-sizes_view sizes = sizes.min_block_size ∷ sizes.max_block_size ∷ sizes.min_frame_size ∷ sizes.max_frame_size ∷ []
+sizes_view sizes =
+    sizes.min_block_size ∷ sizes.max_block_size ∷ sizes.min_frame_size ∷ sizes.max_frame_size ∷ []
 
--- the channels and the width are written less one
+-- the number of channels and the bits per sample are written minus one
 abbrev pub format_view : SampleFormat → List ℕ
-format_view format = format.sample_rate ∷ (format.channels - 1) ∷ (format.bits_per_sample - 1) ∷ format.samples ∷ []
+format_view format =
+    format.sample_rate ∷ (format.channels - 1) ∷ (format.bits_per_sample - 1) ∷ format.samples ∷ []
 
--- of a block that is answered; the last three never are
+-- the content of a block that is returned; the last three never are
 abbrev pub content_view : {A : Type 0} → MetadataBlock A → Content
 content_view (InfoBlock info) = Info (info_view info)
 content_view (PaddingBlock length) = Padding length
@@ -59,24 +62,27 @@ content_view (SeekTable table) = Reserved
 content_view CueSheet = Reserved
 content_view Picture = Reserved
 
--- a block and whether it is marked as the last one
+-- a block with its last-block flag
 abbrev pub metadata_block_view : {A : Type 0} → Bool → MetadataBlock A → Block
 metadata_block_view is_last block = record { is_last = is_last; content = content_view block }
 
--- Only blocks of applications and comments take memory, where their length is one that they can have.
+-- Only application and Vorbis comment blocks allocate memory, and only if their length is valid.
 abbrev pub MayAllocate : ℕ → ℕ → Type 0
-MayAllocate type length = (((type ≡ 2) × (4 ≤ length)) ⊎ ((type ≡ 4) × (8 ≤ length))) × (length ≤ max_content_bytes)
+MayAllocate type length =
+    (((type ≡ 2) × (4 ≤ length)) ⊎ ((type ≡ 4) × (8 ≤ length))) × (length ≤ max_content_bytes)
 
--- Those of comments take it only where the length of a vendor that fits stands at the front of their bytes.
+-- A Vorbis comment block allocates only if its bytes begin with a vendor length that fits.
 abbrev pub MayRunOutOfMemory : ℕ → ℕ → List ℕ → Type 0
-MayRunOutOfMemory type length s = MayAllocate type length × (type ≡ 4 → HasVendorLength (length - 8) s)
+MayRunOutOfMemory type length s =
+    MayAllocate type length × (type ≡ 4 → HasVendorLength (length - 8) s)
 
--- Memory is wanted only where a header of such a block stands, with its content behind it.
+-- `OutOfMemory` is returned only after the header of such a block, with its content following.
 abbrev pub OutOfMemoryAfterBlockHeader : {A : Type 0} → Result A Error → State ℕ → Type 0
 OutOfMemoryAfterBlockHeader r old =
-    IsOutOfMemory r → old.known ≡ true → (h : BlockHeader) × (x : List ℕ) × (rest : List ℕ) × BlockHeaderCode h x × MayRunOutOfMemory h.type h.length rest × (old.remaining ≡ x ++ rest)
+    IsOutOfMemory r → old.known ≡ true → (h : BlockHeader) × (x : List ℕ) × (rest : List ℕ)
+    × BlockHeaderCode h x × MayRunOutOfMemory h.type h.length rest × (old.remaining ≡ x ++ rest)
 
--- a block without its last flag
+-- a block, of which only the content matters: not its last-block flag
 abbrev pub ContentCode : Content → List ℕ → Type 0
 ContentCode = Mapped (λ block. block.content) BlockCode
 
@@ -84,7 +90,7 @@ ContentCode = Mapped (λ block. block.content) BlockCode
 unfoldable pub content_at : List ℕ → Reading ℕ Content
 content_at = and_then block_at (λ block. done block.content)
 
--- one to eight channels, of samples of 1 to 32 bits, and no 0 for what isn't known (RFC 9639, section 8.2)
+-- 1 to 8 channels, 1 to 32 bits per sample, and no 0 in place of None (RFC 9639, section 8.2)
 pub record HasBounds (info : StreamInfo) : Type 0 where
   pub some_channels : 1 ≤ info.channels
   pub channels : info.channels ≤ 8
@@ -94,7 +100,8 @@ pub record HasBounds (info : StreamInfo) : Type 0 where
   pub max_frame_size : IfSome info.max_frame_size (λ n. 0 < n)
   pub samples : IfSome info.samples (λ n. 0 < n)
 
--- a streaminfo has its bounds, and each comment the place that parts it; seek tables, cue sheets and pictures aren't answered
+-- a streaminfo is in its bounds, and each comment entry has its separator; a seek table, a cue sheet or a picture is never
+-- returned
 abbrev pub BlockHasBounds : {A : Type 0} → MetadataBlock A → Type 0
 BlockHasBounds (InfoBlock info) = HasBounds info
 BlockHasBounds (CommentBlock comment) = HaveSeparatorIndices comment.comments.items

@@ -1,4 +1,4 @@
--- What a clause reads of a `MetadataBlockReader`, and what one call of its `next` does.
+-- What clauses know of a `MetadataBlockReader`, and what one call of its `next` does.
 use Rattle.std.specs.Prelude.{ℕ, Option, None, Some, Result, Bool, true, IfOk, IfErr, ◌≡◌, MatchBool}
 use Rattle.claxon_format.specs.MetadataBlocks.{BlockCode, BlockFault}
 use Rattle.claxon_format.specs.read.MetadataBlocks.{block_at}
@@ -16,24 +16,29 @@ use Rattle.claxon_metadata.specs.MetadataBlock.{BlockHasBounds, OutOfMemoryAfter
 abbrev pub reader_input : {R A : Type 0} → MetadataBlockReader R A → R
 reader_input r = r.input
 
--- the last block was read, or an Err was answered
+-- the last block was read, or an Err was returned
 abbrev pub has_ended : {R A : Type 0} → MetadataBlockReader R A → Bool
 has_ended r = r.done
 
--- A block with its header was read, or an Err was answered, which is the end. The block marked last is the end too.
+-- A block with its header was read, or an Err was returned. Nothing follows an Err, nor a block with the last-block flag.
 pub record ReadsBlock {R A : Type 0} (source : R → Source ℕ) (old : MetadataBlockReader R A) (result : Result (MetadataBlock A) Error) (new : MetadataBlockReader R A) : Type 0 where
   pub bounds : IfOk result (λ block. BlockHasBounds block)
   pub memory : OutOfMemoryAfterBlockHeader result (bytes_in source (reader_input old))
   pub within : AtMostBlockIsConsumed source (reader_input old) (reader_input new)
-  pub promises : Promises (metadata_block_view (has_ended new)) result BlockCode BlockFault (bytes_in source (reader_input old)) (bytes_in source (reader_input new))
-  pub gives : GivesOrOutOfMemory (metadata_block_view (has_ended new)) result block_at (bytes_in source (reader_input old)) (bytes_in source (reader_input new))
+  pub promises : Promises (metadata_block_view (has_ended new)) result BlockCode BlockFault
+      (bytes_in source (reader_input old)) (bytes_in source (reader_input new))
+  pub gives : GivesOrOutOfMemory (metadata_block_view (has_ended new)) result block_at
+      (bytes_in source (reader_input old)) (bytes_in source (reader_input new))
   pub ended : IfErr result (λ error. has_ended new ≡ true)
 
 -- one call of `next` before the end
-abbrev pub BlockStep : {R A : Type 0} → (R → Source ℕ) → MetadataBlockReader R A → Option (Result (MetadataBlock A) Error) → MetadataBlockReader R A → Type 0
+abbrev pub BlockStep : {R A : Type 0} → (R → Source ℕ) → MetadataBlockReader R A
+    → Option (Result (MetadataBlock A) Error) → MetadataBlockReader R A → Type 0
 BlockStep source old None new = ⊥
 BlockStep source old (Some result) new = ReadsBlock source old result new
 
--- one call of `next`: after the end it gives None and changes nothing
-abbrev pub ReaderStep : {R A : Type 0} → (R → Source ℕ) → MetadataBlockReader R A → Option (Result (MetadataBlock A) Error) → MetadataBlockReader R A → Type 0
-ReaderStep source old result new = MatchBool (has_ended old) ((result ≡ None) × (new ≡ old)) (BlockStep source old result new)
+-- one call of `next`: after the end it returns None and changes nothing
+abbrev pub ReaderStep : {R A : Type 0} → (R → Source ℕ) → MetadataBlockReader R A
+    → Option (Result (MetadataBlock A) Error) → MetadataBlockReader R A → Type 0
+ReaderStep source old result new =
+    MatchBool (has_ended old) ((result ≡ None) × (new ≡ old)) (BlockStep source old result new)

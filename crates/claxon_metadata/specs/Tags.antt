@@ -1,14 +1,14 @@
--- What a clause reads of the iterators over Vorbis comments.
+-- What the iterators over Vorbis comments have still to give.
 use Rattle.std.specs.Prelude.{ℕ, List}
 use Rattle.claxon_metadata.specs.declared.metadata.tags.Tags.{Tags}
 use Rattle.claxon_metadata.specs.declared.metadata.tags.GetTag.{GetTag}
 use Rattle.claxon_format.specs.Pairs.{pairs, values}
 use Rattle.claxon_metadata.specs.TagEntries.{entries_view}
 
--- the pairs that are left
+-- the remaining pairs of a name and a value
 abbrev pub remaining_tags : {A : Type 0} → Tags A → List (List ℕ × List ℕ)
 remaining_tags t = pairs (entries_view t.comments.now)
 
--- the values that are left
+-- the remaining values of the name that is looked for
 abbrev pub remaining_values : {A : Type 0} → GetTag A → List (List ℕ)
 remaining_values t = values t.needle.now (remaining_tags t.tags)

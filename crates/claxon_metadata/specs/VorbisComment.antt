@@ -1,4 +1,4 @@
--- Vorbis comments (RFC 9639, section 8.6) as the code keeps them.
+-- Vorbis comments (RFC 9639, section 8.6) in the code.
 use Rattle.std.specs.Prelude.{◌≡◌, ℕ, true, nat_lt, Option, None, Some, Result, List, [], ◌∷◌, ◌++◌, string_bytes}
 use Rattle.std.specs.declared.string.String.{String}
 use Rattle.claxon_format.specs.Comments.{Entry, Comment, VendorLength}
@@ -16,26 +16,33 @@ use Rattle.claxon_metadata.specs.declared.metadata.VorbisComment.{VorbisComment}
 use Rattle.claxon_metadata.specs.TagEntries.{entry_view, entries_view}
 
 abbrev pub comment_view : {A : Type 0} → VorbisComment A → Comment
-comment_view comment = record { vendor = string_bytes comment.vendor; entries = entries_view comment.comments.items }
+comment_view comment =
+    record { vendor = string_bytes comment.vendor; entries = entries_view comment.comments.items }
 
--- what a text means: nothing, where it is empty
+-- an entry, or none for an empty text
 abbrev pub entry_or_empty_view : {A : Type 0} → Option (String A × ℕ) → List Entry
 entry_or_empty_view None = []
 entry_or_empty_view (Some pair) = entry_view pair ∷ []
 
--- the bytes begin with the length of a vendor, which is at most most
+-- the bytes begin with a vendor length, which is at most `most`
 abbrev pub HasVendorLength : ℕ → List ℕ → Type 0
-HasVendorLength most s = (v : ℕ) × (x : List ℕ) × (rest : List ℕ) × VendorLength most v x × (s ≡ x ++ rest)
+HasVendorLength most s =
+    (v : ℕ) × (x : List ℕ) × (rest : List ℕ) × VendorLength most v x × (s ≡ x ++ rest)
 
--- Memory is wanted only where the bytes begin with such a length.
+-- `OutOfMemory` is returned only if the bytes begin with such a length.
 abbrev pub OutOfMemoryAfterVendorLength : {A : Type 0} → ℕ → Result A Error → State ℕ → Type 0
-OutOfMemoryAfterVendorLength most r old = IsOutOfMemory r → old.known ≡ true → HasVendorLength most old.remaining
+OutOfMemoryAfterVendorLength most r old =
+    IsOutOfMemory r → old.known ≡ true → HasVendorLength most old.remaining
 
--- A length of at most most was read, or a greater one, and that is the fault that this error names.
-abbrev pub LengthIsRead : {R : Type 0} → (R → Source ℕ) → ℕ → Error → R → Result ℕ Error → R → Type 0
-LengthIsRead source most too_long old r new = (f : Fault) → IsFault f too_long → is_named too_long ≡ true
-    → Gives (λ x. x) r (checked_at (nat_lt most) f (little_at 4)) (bytes_in source old) (bytes_in source new)
+-- A length of at most `most` was read; a greater one is the fault of this error.
+abbrev pub LengthIsRead : {R : Type 0} → (R → Source ℕ) → ℕ → Error → R → Result ℕ Error → R
+    → Type 0
+LengthIsRead source most too_long old r new =
+    (f : Fault) → IsFault f too_long → is_named too_long ≡ true
+    → Gives (λ x. x) r (checked_at (nat_lt most) f (little_at 4))
+    (bytes_in source old) (bytes_in source new)
 
--- What was answered behind the last text is what the format's reader gives there, and nothing is taken.
+-- After the last entry the result is that of the format's reader, and nothing is consumed.
 abbrev pub EndIsChecked : {A : Type 0} → ℕ → ℕ → Result A Error → Type 0
-EndIsChecked missing left r = (here : State ℕ) → Gives (λ x. []) r (entries_end_at missing left) here here
+EndIsChecked missing left r =
+    (here : State ℕ) → Gives (λ x. []) r (entries_end_at missing left) here here

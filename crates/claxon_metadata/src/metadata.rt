@@ -35,19 +35,19 @@ struct MetadataBlockHeader {
 /// The streaminfo metadata block, with important information about the stream.
 #[derive(Clone, Copy, Debug)]
 pub struct StreamInfo {
-    /// The least number of samples of a channel in a block, the last block aside.
+    /// The minimum number of samples per channel in a block, the last block aside.
     pub min_block_size: u16,
-    /// The greatest number of samples of a channel in a block.
+    /// The maximum number of samples per channel in a block.
     pub max_block_size: u16,
-    /// The least number of bytes of a frame, if it is known.
+    /// The minimum number of bytes of a frame, if it is known.
     pub min_frame_size: Option<u32>,
-    /// The greatest number of bytes of a frame, if it is known.
+    /// The maximum number of bytes of a frame, if it is known.
     pub max_frame_size: Option<u32>,
     /// The sample rate in Hz.
     pub sample_rate: u32,
     /// The number of channels.
     pub channels: u32,
-    /// The width of a sample in bits.
+    /// The number of bits per sample.
     pub bits_per_sample: u32,
     /// The number of samples of each channel of the stream, if it is known.
     pub samples: Option<u64>,
@@ -60,13 +60,13 @@ pub struct StreamInfo {
 pub struct SeekPoint {
     /// The number of the first sample of the frame, or 2^64 - 1 for a placeholder.
     pub sample: u64,
-    /// The bytes from the first frame's header to this frame's.
+    /// The number of bytes from the first frame's header to this frame's.
     pub offset: u64,
-    /// The number of samples of a channel in the frame.
+    /// The number of samples per channel in the frame.
     pub samples: u16,
 }
 
-/// A seek table. None is read yet: its block is answered as padding.
+/// A seek table. None is read yet: its block is returned as padding.
 #[derive(Drop)]
 pub struct SeekTable<A: Allocator = Global> {
     #[allow(dead_code)]
@@ -76,13 +76,12 @@ pub struct SeekTable<A: Allocator = Global> {
 /// Vorbis comments, also known as FLAC tags: artist, title and so on.
 #[derive(Drop)]
 pub struct VorbisComment<A: Allocator = Global> {
-    /// What the encoder's vendor says of itself.
+    /// The vendor string, which names the program that wrote the stream.
     pub vendor: String<A>,
-    /// Each entry as the text `NAME=value` and the place of its first `=`.
+    /// Each entry as the text `NAME=value` and the index of its first `=`.
     ///
-    /// In what was read from a stream a name has only bytes from 0x20 to 0x7d. Upper and lower
-    /// case of a name are to be treated alike, and a name may occur more than once: `GetTag`
-    /// looks one up.
+    /// In an entry that was read from a stream the name has only bytes from 0x20 to 0x7d. Names
+    /// are case-insensitive, and a name may occur more than once: `GetTag` looks one up.
     pub comments: Vec<(String<A>, usize), A>,
 }
 
@@ -91,37 +90,38 @@ pub struct VorbisComment<A: Allocator = Global> {
 pub enum MetadataBlock<A: Allocator = Global> {
     /// A streaminfo block.
     StreamInfo(StreamInfo),
-    /// A block whose bytes have no meaning here.
+    /// A block whose bytes are skipped: padding, a seek table, a cue sheet or a picture.
     Padding {
         /// The number of bytes.
         length: u32,
     },
-    /// A block of an application's own.
+    /// An application block.
     Application {
-        /// The registered number of the application.
+        /// The registered application ID.
         id: u32,
-        /// What the block holds after it.
+        /// The application data.
         bytes: Vec<u8, A>,
     },
-    /// A seek table. It is never answered.
+    /// A seek table. It is never returned.
     SeekTable(SeekTable<A>),
     /// A Vorbis comment block, also known as FLAC tags.
     VorbisComment(VorbisComment<A>),
-    /// A cue sheet. It is never answered.
+    /// A cue sheet. It is never returned.
     CueSheet,
-    /// A picture. It is never answered.
+    /// A picture. It is never returned.
     Picture,
-    /// A block of a type that has no meaning yet.
+    /// A block of a reserved type.
     Reserved,
 }
 
 /// Either a `MetadataBlock` or an `Error`.
 pub type MetadataBlockResult<A = Global> = Result<MetadataBlock<A>>;
 
-// The last flag, the type and the length of a block.
+// The header of a block: its last-block flag, its type and its length.
 #[tactic(auto, using(claxon_input::proofs::ByteFields::numbers), unfolding(claxon_format::specs::read::Metadata::block_header_at))]
 fn read_metadata_block_header<R: ReadBytes>(input: &mut R) -> Result<MetadataBlockHeader>
-    ensures gives { Gives header_view result block_header_at (bytes_in R.source input.old) (bytes_in R.source input.new) }
+    ensures gives { Gives header_view result block_header_at
+        (bytes_in R.source input.old) (bytes_in R.source input.new) }
     ensures within { AtMostIsConsumed R.source 4 input.old input.new }
 {
     let first = input.read_u8()?;
@@ -133,7 +133,7 @@ fn read_metadata_block_header<R: ReadBytes>(input: &mut R) -> Result<MetadataBlo
     })
 }
 
-// A block, and whether it is marked as the last one.
+// A block, and its last-block flag.
 #[tactic(auto, unfolding(claxon_format::specs::read::MetadataBlocks::block_at))]
 pub fn read_metadata_block_and_flag<R: ReadBytes, A: Allocator + Copy>(
     alloc: A,
@@ -151,8 +151,8 @@ pub fn read_metadata_block_and_flag<R: ReadBytes, A: Allocator + Copy>(
 
 /// Reads a metadata block with its header, as Ogg embeds them.
 ///
-/// An Ok takes just the block from the input. An Err may have taken some of its bytes, but no more than the block has by its
-/// header.
+/// An Ok consumes just the block. An Err may have consumed some of its bytes, but no more than the header and the length that
+/// it gives.
 ///
 /// # Errors
 ///
@@ -175,7 +175,6 @@ pub fn read_metadata_block_with_header<R: ReadBytes, A: Allocator + Copy>(
     read_metadata_block_with_header_exact(alloc, input)
 }
 
-// A block without its last flag.
 #[tactic(auto, unfolding(crate::specs::MetadataBlock::content_at))]
 fn read_metadata_block_with_header_exact<R: ReadBytes, A: Allocator + Copy>(
     alloc: A,
@@ -192,14 +191,14 @@ fn read_metadata_block_with_header_exact<R: ReadBytes, A: Allocator + Copy>(
 
 /// Reads the content of a metadata block of this type and length (in bytes), as MP4 embeds them.
 ///
-/// The input stands after the block's header. An Ok takes just the content. Seek tables, cue
-/// sheets and pictures are skipped and answered as padding.
+/// The input is to begin after the block's header. An Ok consumes just the content. Seek tables,
+/// cue sheets and pictures are skipped and returned as padding.
 ///
 /// # Errors
 ///
-/// `FormatError` and `Unsupported` where the block is ill-formed or too large, `IoError` where
-/// the input ends or fails, `OutOfMemory` where memory for texts or application data is refused.
-/// An Err may have taken some of the block's bytes, `length` at most.
+/// `FormatError` if the block is invalid, `Unsupported` if it is too large, `IoError` if the
+/// input ends or fails, `OutOfMemory` if memory for texts or application data is refused. An Err
+/// may have consumed some of the block's bytes, `length` at most.
 pub fn read_metadata_block<R: ReadBytes, A: Allocator + Copy>(
     alloc: A,
     input: &mut R,
@@ -220,7 +219,6 @@ pub fn read_metadata_block<R: ReadBytes, A: Allocator + Copy>(
     read_metadata_block_exact(alloc, input, block_type, length)
 }
 
-// What a block of this type and length holds.
 #[tactic(auto, using(claxon_input::proofs::ByteFields::most_refused))]
 fn read_metadata_block_exact<R: ReadBytes, A: Allocator + Copy>(
     alloc: A,
@@ -248,7 +246,7 @@ fn read_metadata_block_exact<R: ReadBytes, A: Allocator + Copy>(
     }
 }
 
-// What a block is answered as whose content isn't read.
+// What is returned for a block whose content is skipped.
 fn skipped_block<A: Allocator>(block_type: u8, length: u32) -> MetadataBlock<A>
     ensures bounds { BlockHasBounds result }
     ensures value { content_view result ≡ skipped block_type length }
@@ -259,7 +257,7 @@ fn skipped_block<A: Allocator>(block_type: u8, length: u32) -> MetadataBlock<A>
     }
 }
 
-// The bounds on the sizes of blocks and frames, as a streaminfo block has them.
+// The block and frame sizes of a streaminfo block, as they are written: an unknown frame size is 0.
 #[derive(Clone, Copy)]
 struct SizeBounds {
     min_block_size: u16,
@@ -270,7 +268,8 @@ struct SizeBounds {
 
 #[tactic(auto, using(claxon_input::proofs::ByteFields::numbers), unfolding(claxon_format::specs::read::Streaminfo::sizes_at, claxon_format::specs::Reading::each_at))]
 fn read_size_bounds<R: ReadBytes>(input: &mut R) -> Result<SizeBounds>
-    ensures gives { Gives sizes_view result sizes_at (bytes_in R.source input.old) (bytes_in R.source input.new) }
+    ensures gives { Gives sizes_view result sizes_at
+        (bytes_in R.source input.old) (bytes_in R.source input.new) }
     ensures within { AtMostIsConsumed R.source 10 input.old input.new }
 {
     let min_block_size = input.read_be_u16()?;
@@ -285,7 +284,7 @@ fn read_size_bounds<R: ReadBytes>(input: &mut R) -> Result<SizeBounds>
     })
 }
 
-// What a streaminfo block says of the samples.
+// The sample format of a streaminfo block, and the number of samples, which is 0 if it is unknown.
 #[derive(Clone, Copy)]
 struct SampleFormat {
     sample_rate: u32,
@@ -294,12 +293,14 @@ struct SampleFormat {
     samples: u64,
 }
 
-// 20 bits of the rate, 3 of the channels less one, 5 of the width less one, 36 of the number.
+// 20 bits of the sample rate, 3 of the channels minus one, 5 of the bits per sample minus one, 36 of the number of samples.
 #[tactic(auto, using(claxon_input::proofs::ByteFields::numbers), unfolding(claxon_format::specs::read::Streaminfo::format_at))]
 fn read_sample_format<R: ReadBytes>(input: &mut R) -> Result<SampleFormat>
     ensures channels { IfOk result (λ format. (1 ≤ format.channels) × (format.channels ≤ 8)) }
-    ensures width { IfOk result (λ format. (1 ≤ format.bits_per_sample) × (format.bits_per_sample ≤ 32)) }
-    ensures gives { Gives format_view result format_at (bytes_in R.source input.old) (bytes_in R.source input.new) }
+    ensures width { IfOk result
+        (λ format. (1 ≤ format.bits_per_sample) × (format.bits_per_sample ≤ 32)) }
+    ensures gives { Gives format_view result format_at
+        (bytes_in R.source input.old) (bytes_in R.source input.new) }
     ensures within { AtMostIsConsumed R.source 8 input.old input.new }
 {
     let high = input.read_be_u32()?;
@@ -312,11 +313,12 @@ fn read_sample_format<R: ReadBytes>(input: &mut R) -> Result<SampleFormat>
     })
 }
 
-// What a streaminfo block says, whether it can be or not.
+// The fields of a streaminfo block, not yet validated.
 #[tactic(auto, using(claxon_input::proofs::ByteFields::buffers), unfolding(claxon_format::specs::read::Streaminfo::info_fields_at, claxon_format::specs::read::Streaminfo::md5_at))]
 fn read_streaminfo_fields<R: ReadBytes>(input: &mut R) -> Result<StreamInfo>
     ensures bounds { IfOk result (λ info. HasBounds info) }
-    ensures gives { Gives info_view result info_fields_at (bytes_in R.source input.old) (bytes_in R.source input.new) }
+    ensures gives { Gives info_view result info_fields_at
+        (bytes_in R.source input.old) (bytes_in R.source input.new) }
     ensures within { AtMostIsConsumed R.source 34 input.old input.new }
 {
     let sizes = read_size_bounds(input)?;
@@ -330,7 +332,8 @@ fn stream_info(sizes: SizeBounds, format: SampleFormat, md5sum: &[u8; 16]) -> St
     requires channels { (1 ≤ format.channels) × (format.channels ≤ 8) }
     requires width { (1 ≤ format.bits_per_sample) × (format.bits_per_sample ≤ 32) }
     ensures bounds { HasBounds result }
-    ensures value { info_view result ≡ info_of (sizes_view sizes ++ format_view format) (map (λ byte. byte % 256) md5sum.now) }
+    ensures value { info_view result ≡ info_of (sizes_view sizes ++ format_view format)
+        (map (λ byte. byte % 256) md5sum.now) }
 {
     StreamInfo {
         min_block_size: sizes.min_block_size,
@@ -352,7 +355,8 @@ fn stream_info(sizes: SizeBounds, format: SampleFormat, md5sum: &[u8; 16]) -> St
 #[tactic(auto, unfolding(claxon_format::specs::read::MetadataBlocks::info_body_at, claxon_format::specs::Fault::fault_text))]
 fn read_streaminfo_block<R: ReadBytes>(input: &mut R, length: u32) -> Result<StreamInfo>
     ensures bounds { IfOk result (λ info. HasBounds info) }
-    ensures gives { Gives info_view result (info_body_at length) (bytes_in R.source input.old) (bytes_in R.source input.new) }
+    ensures gives { Gives info_view result (info_body_at length)
+        (bytes_in R.source input.old) (bytes_in R.source input.new) }
     ensures within { AtMostIsConsumed R.source length input.old input.new }
 {
     if length != 34 {
@@ -364,7 +368,8 @@ fn read_streaminfo_block<R: ReadBytes>(input: &mut R, length: u32) -> Result<Str
 #[tactic(auto, unfolding(claxon_format::specs::read::Streaminfo::streaminfo_at, claxon_format::specs::Fault::fault_text))]
 fn read_streaminfo<R: ReadBytes>(input: &mut R) -> Result<StreamInfo>
     ensures bounds { IfOk result (λ info. HasBounds info) }
-    ensures gives { Gives info_view result streaminfo_at (bytes_in R.source input.old) (bytes_in R.source input.new) }
+    ensures gives { Gives info_view result streaminfo_at
+        (bytes_in R.source input.old) (bytes_in R.source input.new) }
     ensures within { AtMostIsConsumed R.source 34 input.old input.new }
 {
     let info = read_streaminfo_fields(input)?;
@@ -383,7 +388,7 @@ fn read_streaminfo<R: ReadBytes>(input: &mut R) -> Result<StreamInfo>
     Ok(info)
 }
 
-// A frame size of 0 stands for one that isn't known.
+// A frame size of 0 is an unknown one.
 fn if_known(size: u32) -> Option<u32>
     ensures value { or_zero result ≡ size }
     ensures some { IfSome result (λ n. 0 < n) }
@@ -391,7 +396,7 @@ fn if_known(size: u32) -> Option<u32>
     if size == 0 { None } else { Some(size) }
 }
 
-// Whether the least size is above the greatest, where that is known.
+// Whether both frame sizes are known, and the minimum is above the maximum.
 fn are_frame_sizes_inconsistent(info: &StreamInfo) -> bool
     requires { HasBounds info.now }
     ensures { result ≡ frame_sizes_inconsistent (info_view info.now) }
@@ -402,7 +407,7 @@ fn are_frame_sizes_inconsistent(info: &StreamInfo) -> bool
     }
 }
 
-// The application's number and its data.
+// The application ID and the application data.
 #[tactic(auto, using(claxon_input::proofs::ByteFields::numbers), unfolding(claxon_format::specs::read::MetadataBlocks::application_at, claxon_format::specs::Fault::fault_text))]
 fn read_application_block<R: ReadBytes, A: Allocator>(
     alloc: A,
@@ -411,7 +416,8 @@ fn read_application_block<R: ReadBytes, A: Allocator>(
 ) -> Result<MetadataBlock<A>>
     ensures bounds { IfOk result (λ block. BlockHasBounds block) }
     ensures memory { IsOutOfMemory result → (4 ≤ length) × (length ≤ max_content_bytes) }
-    ensures gives { GivesOrOutOfMemory content_view result (application_at length) (bytes_in R.source input.old) (bytes_in R.source input.new) }
+    ensures gives { GivesOrOutOfMemory content_view result (application_at length)
+        (bytes_in R.source input.old) (bytes_in R.source input.new) }
     ensures within { AtMostIsConsumed R.source length input.old input.new }
 {
     if length < 4 {
@@ -425,11 +431,12 @@ fn read_application_block<R: ReadBytes, A: Allocator>(
     Ok(MetadataBlock::Application { id, bytes })
 }
 
-// That many bytes. A caller bounds the count, since the memory is taken before the bytes are read.
+// Allocates the memory before the bytes are read, so callers have to limit the count.
 #[tactic(auto, using(claxon_input::proofs::ByteFields::buffers))]
 fn read_bytes<R: ReadBytes, A: Allocator>(alloc: A, input: &mut R, count: u32) -> Result<Vec<u8, A>>
     ensures length { IfOk result (λ bytes. vec_len bytes ≡ count) }
-    ensures gives { GivesOrOutOfMemory (λ bytes. bytes.items) result (bytes_at count) (bytes_in R.source input.old) (bytes_in R.source input.new) }
+    ensures gives { GivesOrOutOfMemory (λ bytes. bytes.items) result (bytes_at count)
+        (bytes_in R.source input.old) (bytes_in R.source input.new) }
     ensures within { AtMostIsConsumed R.source count input.old input.new }
 {
     let mut bytes = Vec::new(alloc);
@@ -438,10 +445,10 @@ fn read_bytes<R: ReadBytes, A: Allocator>(alloc: A, input: &mut R, count: u32) -
     Ok(bytes)
 }
 
-/// Reads metadata blocks one after another, up to the one that is marked as the last.
+/// Reads metadata blocks one after another, up to the one with the last-block flag.
 ///
-/// After an Err and after the last block it answers None, and takes nothing from the input.
-/// It has no limit on the number of blocks.
+/// After an Err and after the last block it returns None and reads nothing. The number of blocks
+/// isn't limited.
 ///
 /// ```
 /// for block in MetadataBlockReader::new(alloc, &mut input).take(1000) {
@@ -462,10 +469,10 @@ pub struct MetadataBlockReader<R: ReadBytes, A: Allocator = Global> {
 impl<R: ReadBytes, A: Allocator + Copy> MetadataBlockReader<R, A> {
     ghost use Rattle.claxon_metadata.specs.MetadataBlockReader.{ReadsBlock, reader_input, has_ended};
 
-    /// Reads blocks from where the input stands, which is to be a block's header.
+    /// Reads blocks from the current position of the input, where a block's header is to be.
     pub fn new(alloc: A, input: R) -> MetadataBlockReader<R, A>
         ensures input { reader_input result ≡ input }
-        ensures not_reached_eof { has_ended result ≡ false }
+        ensures not_ended { has_ended result ≡ false }
     {
         MetadataBlockReader {
             alloc,

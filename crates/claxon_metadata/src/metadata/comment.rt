@@ -28,9 +28,10 @@ pub fn read_vorbis_comment_block<R: ReadBytes, A: Allocator + Copy>(
     length: u32,
 ) -> Result<VorbisComment<A>>
     ensures separators { IfOk result (λ comment. HaveSeparatorIndices comment.comments.items) }
-    // Memory is asked for only after the lengths of the block and of its vendor were tested.
+    // Memory is allocated only after the lengths of the block and of its vendor string were checked.
     ensures memory { IsOutOfMemory result → (8 ≤ length) × (length ≤ max_content_bytes) }
-    ensures vendor { OutOfMemoryAfterVendorLength (length - 8) result (bytes_in R.source input.old) }
+    ensures vendor { OutOfMemoryAfterVendorLength (length - 8) result
+        (bytes_in R.source input.old) }
     ensures gives { CommentIsRead R.source length input.old result input.new }
     ensures within { AtMostIsConsumed R.source length input.old input.new }
 {
@@ -49,11 +50,12 @@ pub fn read_vorbis_comment_block<R: ReadBytes, A: Allocator + Copy>(
     Ok(VorbisComment { vendor, comments })
 }
 
-// A length of at most this, and else the fault of a longer text.
+// A length of at most `most`. A greater one is a `FormatError` with the text `too_long`.
 #[tactic(auto, using(claxon_input::proofs::ByteFields::little_numbers))]
 fn read_length<R: ReadBytes>(input: &mut R, most: u32, too_long: &'static str) -> Result<u32>
     ensures most { IfOk result (λ length. length ≤ most) }
-    ensures gives { LengthIsRead R.source most (FormatError too_long.entry) input.old result input.new }
+    ensures gives { LengthIsRead R.source most (FormatError too_long.entry)
+        input.old result input.new }
     ensures within { AtMostIsConsumed R.source 4 input.old input.new }
 {
     let length = input.read_le_u32()?;
@@ -69,17 +71,18 @@ fn read_vendor<R: ReadBytes, A: Allocator>(
     input: &mut R,
     length: u32,
 ) -> Result<String<A>>
-    ensures gives { GivesOrOutOfMemory string_bytes result (vendor_at length) (bytes_in R.source input.old) (bytes_in R.source input.new) }
+    ensures gives { GivesOrOutOfMemory string_bytes result (vendor_at length)
+        (bytes_in R.source input.old) (bytes_in R.source input.new) }
     ensures within { AtMostIsConsumed R.source length input.old input.new }
 {
     let bytes = read_bytes(alloc, input, length)?;
     text_of(bytes)
 }
 
-// The bytes as a text.
 #[tactic(auto, unfolding(claxon_format::specs::Fault::fault_text))]
 fn text_of<A: Allocator>(bytes: Vec<u8, A>) -> Result<String<A>>
-    ensures { MatchResult result (λ text. (string_bytes text ≡ bytes.items) × (not_utf8 bytes.items ≡ false))
+    ensures { MatchResult result
+        (λ text. (string_bytes text ≡ bytes.items) × (not_utf8 bytes.items ≡ false))
         (λ error. IsFault EntryNotUtf8 error × (not_utf8 bytes.items ≡ true)) }
 {
     let Ok(text) = String::from_utf8(bytes) else {
@@ -88,10 +91,11 @@ fn text_of<A: Allocator>(bytes: Vec<u8, A>) -> Result<String<A>>
     Ok(text)
 }
 
-// How many entries follow. Each takes four bytes at least, so a greater count can't be right.
+// The number of entries. An entry has at least the four bytes of its length, so a larger count is invalid.
 #[tactic(auto, using(claxon_input::proofs::ByteFields::little_numbers), unfolding(claxon_format::specs::read::Comments::count_at, claxon_format::specs::Fault::fault_text))]
 fn read_count<R: ReadBytes>(input: &mut R, limit: u32) -> Result<u32>
-    ensures gives { Gives (λ x. x) result (count_at limit) (bytes_in R.source input.old) (bytes_in R.source input.new) }
+    ensures gives { Gives (λ x. x) result (count_at limit)
+        (bytes_in R.source input.old) (bytes_in R.source input.new) }
     ensures within { AtMostIsConsumed R.source 4 input.old input.new }
 {
     let count = input.read_le_u32()?;
@@ -101,7 +105,7 @@ fn read_count<R: ReadBytes>(input: &mut R, limit: u32) -> Result<u32>
     Ok(count)
 }
 
-// The entries of a block, which fill just that many bytes.
+// The entries of a block, which have to fill exactly `length` bytes.
 fn read_entries<R: ReadBytes, A: Allocator + Copy>(
     alloc: A,
     input: &mut R,
@@ -109,7 +113,8 @@ fn read_entries<R: ReadBytes, A: Allocator + Copy>(
     length: u32,
 ) -> Result<Vec<(String<A>, usize), A>>
     ensures separators { IfOk result (λ comments. HaveSeparatorIndices comments.items) }
-    ensures gives { GivesOrOutOfMemory (λ comments. entries_view comments.items) result (entries_at count length) (bytes_in R.source input.old) (bytes_in R.source input.new) }
+    ensures gives { GivesOrOutOfMemory (λ comments. entries_view comments.items) result
+        (entries_at count length) (bytes_in R.source input.old) (bytes_in R.source input.new) }
     ensures within { AtMostIsConsumed R.source length input.old input.new }
 {
     let mut comments = Vec::new(alloc);
@@ -131,7 +136,7 @@ fn read_entries<R: ReadBytes, A: Allocator + Copy>(
     Ok(comments)
 }
 
-// Whether all entries were read, and all bytes.
+// Checks that neither bytes nor entries are left.
 #[tactic(auto, unfolding(claxon_format::specs::Fault::fault_text))]
 fn check_end(missing: u32, bytes_left: u32) -> Result<()>
     ensures { EndIsChecked missing bytes_left result }
@@ -145,15 +150,17 @@ fn check_end(missing: u32, bytes_left: u32) -> Result<()>
     Ok(())
 }
 
-// An entry of that many bytes, unless it is empty: old encoders write such, which say nothing.
+// An entry of `length` bytes. An empty one, as old encoders write them, is None.
 #[tactic(auto, unfolding(claxon_format::specs::read::Comments::entry_or_empty_at))]
 fn read_entry_or_empty<R: ReadBytes, A: Allocator>(
     alloc: A,
     input: &mut R,
     length: u32,
 ) -> Result<Option<(String<A>, usize)>>
-    ensures place { IfOk result (λ found. IfSome found (λ entry. IsSeparatorIndex (string_bytes entry.0) entry.1)) }
-    ensures gives { GivesOrOutOfMemory entry_or_empty_view result (entry_or_empty_at length) (bytes_in R.source input.old) (bytes_in R.source input.new) }
+    ensures place { IfOk result
+        (λ found. IfSome found (λ entry. IsSeparatorIndex (string_bytes entry.0) entry.1)) }
+    ensures gives { GivesOrOutOfMemory entry_or_empty_view result (entry_or_empty_at length)
+        (bytes_in R.source input.old) (bytes_in R.source input.new) }
     ensures within { AtMostIsConsumed R.source length input.old input.new }
 {
     if length == 0 {
@@ -162,7 +169,7 @@ fn read_entry_or_empty<R: ReadBytes, A: Allocator>(
     Ok(Some(read_entry(alloc, input, length)?))
 }
 
-// An entry of that many bytes, and the place of its first `=`.
+// An entry of `length` bytes, and the index of its first `=`.
 #[tactic(auto, unfolding(claxon_format::specs::read::Comments::entry_at, claxon_format::specs::Fault::fault_text))]
 fn read_entry<R: ReadBytes, A: Allocator>(
     alloc: A,
@@ -170,7 +177,8 @@ fn read_entry<R: ReadBytes, A: Allocator>(
     length: u32,
 ) -> Result<(String<A>, usize)>
     ensures place { IfOk result (λ entry. IsSeparatorIndex (string_bytes entry.0) entry.1) }
-    ensures gives { GivesOrOutOfMemory entry_view result (entry_at length) (bytes_in R.source input.old) (bytes_in R.source input.new) }
+    ensures gives { GivesOrOutOfMemory entry_view result (entry_at length)
+        (bytes_in R.source input.old) (bytes_in R.source input.new) }
     ensures within { AtMostIsConsumed R.source length input.old input.new }
 {
     let bytes = read_bytes(alloc, input, length)?;
@@ -189,7 +197,7 @@ fn first_separator(bytes: &[u8]) -> Option<usize>
     bytes.iter().position(|byte| *byte == b'=')
 }
 
-// Whether these are bytes that a name may have.
+// Whether all bytes are valid in a field name.
 fn is_name(bytes: &[u8]) -> bool
     ensures { result ≡ list_all comments.is_name_byte bytes.now }
 {

@@ -1,9 +1,9 @@
-//! Goes over Vorbis comments as pairs of a name and a value.
+//! Iterators over Vorbis comments, as pairs of a name and a value.
 ghost use Rattle.std.specs.Prelude.{◌≡◌, Some, IfSome, length, string_bytes};
 ghost use Rattle.std.specs.Iterator.{UpTo, YieldsFirstBy, YieldsFirstRef, item_count};
 ghost use Rattle.std.specs.Iterator.SizeHint.{IsWithinCount};
 ghost use Rattle.claxon_format.specs.Pairs.{pair, pairs, values};
-ghost use Rattle.claxon_metadata.specs.TagEntries.{HaveSeparatorIndices, IsSeparatorIndex, entry_view, entries_view, shown};
+ghost use Rattle.claxon_metadata.specs.TagEntries.{HaveSeparatorIndices, IsSeparatorIndex, entry_view, entries_view, pair_view};
 
 use std::alloc::{Allocator, Global};
 
@@ -17,7 +17,8 @@ pub struct Tags<'a, A: Allocator = Global> {
 impl<'a, A: Allocator> Tags<'a, A> {
     ghost use Rattle.claxon_metadata.specs.Tags.{remaining_tags};
 
-    /// Goes over texts, each with the place of a character of one byte that parts it.
+    /// Iterates over texts, each with the index of the ASCII character that separates its name from
+    /// its value.
     pub fn new(comments: &'a [(String<A>, usize)]) -> Tags<'a, A>
         requires { HaveSeparatorIndices comments.now }
         ensures { remaining_tags result ≡ pairs (entries_view comments.now) }
@@ -26,10 +27,10 @@ impl<'a, A: Allocator> Tags<'a, A> {
     }
 }
 
-// The text before the place and the text after it.
+// The name before the separator and the value after it.
 fn split<A: Allocator>(comment: &(String<A>, usize)) -> (&str, &str)
     requires { IsSeparatorIndex (string_bytes comment.now.0) comment.now.1 }
-    ensures { shown result ≡ pair (entry_view comment.now) }
+    ensures { pair_view result ≡ pair (entry_view comment.now) }
 {
     let text = comment.0.as_str();
     let place = comment.1;
@@ -41,7 +42,7 @@ impl<'a, A: Allocator> Iterator for Tags<'a, A> {
 
     type Item = (&'a str, &'a str);
 
-    ghost next_gives = { YieldsFirstBy shown remaining_tags };
+    ghost next_gives = { YieldsFirstBy pair_view remaining_tags };
 
     ghost remaining = { item_count remaining_tags };
 
@@ -53,7 +54,8 @@ impl<'a, A: Allocator> Iterator for Tags<'a, A> {
 
     #[tactic(auto, using(crate::proofs::TagSeparators::hints))]
     fn size_hint(&self) -> (usize, Option<usize>)
-        ensures exact { result ≡ (length (remaining_tags self.now), Some (length (remaining_tags self.now))) }
+        ensures exact { result
+            ≡ (length (remaining_tags self.now), Some (length (remaining_tags self.now))) }
         ensures lower { IsWithinCount result.0 (item_count remaining_tags self.now) }
         ensures upper { IfSome result.1 (UpTo (item_count remaining_tags self.now)) }
     {
@@ -70,7 +72,7 @@ impl<A: Allocator> ExactSizeIterator for Tags<'_, A> {
 
 /// Iterates over the values of the Vorbis comments with a given name.
 ///
-/// Upper and lower case of the letters A to Z aren't told apart in a name.
+/// Names are compared without regard to the case of the letters A to Z.
 #[derive(Drop)]
 pub struct GetTag<'a, A: Allocator = Global> {
     tags: Tags<'a, A>,
@@ -80,11 +82,12 @@ pub struct GetTag<'a, A: Allocator = Global> {
 impl<'a, A: Allocator> GetTag<'a, A> {
     ghost use Rattle.claxon_metadata.specs.Tags.{remaining_values};
 
-    /// Looks for the name among texts, each with the place of a character of one byte that
-    /// parts it.
+    /// Looks for the name among texts, each with the index of the ASCII character that separates its
+    /// name from its value.
     pub fn new(vorbis_comments: &'a [(String<A>, usize)], needle: &'a str) -> GetTag<'a, A>
         requires { HaveSeparatorIndices vorbis_comments.now }
-        ensures { remaining_values result ≡ values needle.now (pairs (entries_view vorbis_comments.now)) }
+        ensures { remaining_values result ≡ values needle.now
+            (pairs (entries_view vorbis_comments.now)) }
     {
         GetTag {
             tags: Tags::new(vorbis_comments),

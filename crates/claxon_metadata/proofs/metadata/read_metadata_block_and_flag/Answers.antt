@@ -9,9 +9,9 @@ use Rattle.claxon_format.specs.read.MetadataBlocks.{block_at}
 use Rattle.claxon_metadata.proofs.metadata.read_metadata_block_and_flag.Goals as goal
 
 pub returns-in_err-block-clause-memory : goal.returns-in_err-block-clause-memory
-returns-in_err-block-clause-memory g c starved known =
+returns-in_err-block-clause-memory g c out_of_memory known =
     let e = err_from_is_err_and c.from_residual-in_err-block.result c.from_residual-in_err-block.ensures.1 in
-    let both : Err e.0 ≡ Err OutOfMemory = sym e.1 ∙ starved in
+    let both : Err e.0 ≡ Err OutOfMemory = sym e.1 ∙ out_of_memory in
     let same : e.0 ≡ OutOfMemory = cc both in
     let read = c.in_ok-header.ensures.gives.known known in
     let again = ap (λ (z : Error). Err z) (sym e.2 ∙ same) in

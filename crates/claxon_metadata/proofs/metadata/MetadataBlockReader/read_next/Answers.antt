@@ -12,7 +12,7 @@ use Rattle.claxon_metadata.proofs.metadata.MetadataBlockReader.read_next.Goals a
 pub returns-in-Ok : goal.returns-in-Ok
 returns-in-Ok g c = record {
   bounds = c.in-Ok.ensures.bounds;
-  memory = λ starved known. absurd cc;
+  memory = λ out_of_memory known. absurd cc;
   within = c.in-Ok.ensures.within;
   promises = promises Reads-block (metadata_block_view c.in-Ok.is_last) (Ok c.in-Ok.block) _ _ c.in-Ok.ensures.gives;
   gives = c.in-Ok.ensures.gives;
@@ -24,7 +24,7 @@ returns-in-Err g c =
     let out_of_memory_or_gives = err_any_view (metadata_block_view {A = g.row.A.Denot} true) (λ (found : Bool × MetadataBlock g.row.A.Denot). metadata_block_view found.0 found.1) c.in-Err.error block_at _ _ c.in-Err.ensures.gives in
     record {
       bounds = tt;
-      memory = λ starved. c.in-Err.ensures.memory (let same : c.in-Err.error ≡ OutOfMemory = cc starved in ap (λ (z : Error). Err z) same);
+      memory = λ out_of_memory. c.in-Err.ensures.memory (let same : c.in-Err.error ≡ OutOfMemory = cc out_of_memory in ap (λ (z : Error). Err z) same);
       within = c.in-Err.ensures.within;
       promises = promises Reads-block (metadata_block_view true) (Err c.in-Err.error) _ _ out_of_memory_or_gives;
       gives = out_of_memory_or_gives;

@@ -36,11 +36,11 @@ returns-in_err-comments-clause-gives g c =
 
 pub returns-in_err-vendor-clause-vendor : goal.returns-in_err-vendor-clause-vendor
 unfolding vendor_length_at fault_text
-returns-in_err-vendor-clause-vendor g c starved known = has_vendor_length _ _ _ _ ((c.in_ok-vendor_length.ensures.gives VendorLong (refl, refl) refl).known known).is
+returns-in_err-vendor-clause-vendor g c out_of_memory known = has_vendor_length _ _ _ _ ((c.in_ok-vendor_length.ensures.gives VendorLong (refl, refl) refl).known known).is
 
 pub returns-in_err-comments-clause-vendor : goal.returns-in_err-comments-clause-vendor
 unfolding vendor_length_at fault_text
-returns-in_err-comments-clause-vendor g c starved known = has_vendor_length _ _ _ _ ((c.in_ok-vendor_length.ensures.gives VendorLong (refl, refl) refl).known known).is
+returns-in_err-comments-clause-vendor g c out_of_memory known = has_vendor_length _ _ _ _ ((c.in_ok-vendor_length.ensures.gives VendorLong (refl, refl) refl).known known).is
 
 pub returns-then-length-lt8-clause-within : goal.returns-then-length-lt8-clause-within
 returns-then-length-lt8-clause-within g c = grind (arith, common_steps)
