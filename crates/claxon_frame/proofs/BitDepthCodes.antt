@@ -1,4 +1,4 @@
--- Widths that have a code.
+-- Bit depths that have a code.
 use Rattle.std.proofs.Common.{◌≡◌, ℕ, ◌≤◌, Bool, true, false, cond, eqb, Option, None, Some, refl, arith}
 use Rattle.claxon_format.specs.Header.{width_of}
 use Rattle.claxon_frame.specs.FrameHeader.{HasBitDepthCode, bit_depth_code}
@@ -15,6 +15,6 @@ named known false false true d bits e = record { some = refl; value = e; few = o
 named known false false false true bits e = record { some = refl; value = e; few = omega arith }
 named known false false false false bits e = record { some = refl; value = e; few = omega arith }
 
--- such a width is that of its code, whatever the stream's is
+-- such a bit depth is that of its code, whatever the stream's is
 pub code_names : (known : Option ℕ) (bits : ℕ) → HasBitDepthCode bits → Named known (bit_depth_code (Some bits)) bits
 code_names known bits h = named known (eqb bits 8) (eqb bits 12) (eqb bits 16) (eqb bits 20) bits h

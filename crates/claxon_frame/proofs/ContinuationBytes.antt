@@ -1,4 +1,4 @@
--- A loop that reads the bytes behind the first one of a coded number.
+-- The loop that reads the continuation bytes of a coded number.
 use Rattle.std.proofs.Common.{◌≡◌, ◌≢◌, ℕ, zero, suc, ◌+◌, ◌-◌, ◌*◌, ◌/◌, ◌%◌, ◌^◌, ◌<◌, ◌≤◌, ◌⊎◌, inl, inr, Bool, true, false, not, cond, ◌&&◌, ◌||◌, eqb, ltb, bit_and, bit_or, List, refl, ap, ◌∙◌, arith}
 use Rattle.std.specs.Int.{w8, leading_ones}
 use lib.Count.{count_leading_zeros}
@@ -53,7 +53,7 @@ continuation_err {count} {x} {i} {y} lt h k = stops_after h.so_far (record {
 
 -- ---- the first byte
 
--- what leading ones say of a byte, asked of each
+-- what the leading ones say of a first byte, tested for each byte
 first_test : ℕ → ℕ → Bool
 first_test b n =
     cond (eqb n 0) (not (bad_first b) && (eqb (continuation_count b) 0 && eqb (lead b) b))
@@ -87,13 +87,13 @@ below f (suc k) b e lt = let p = both (f k) (all_below f k) e in go (eqb b k) re
 tested : (b n : ℕ) → b < 256 → n ≡ leading_ones w8 b → first_test b n ≡ true
 tested b n lt e = rw e (below (λ b. first_test b (leading_ones w8 b)) 256 b each_tested lt)
 
--- so many bytes follow a first byte, which has x of the number
+-- n continuation bytes follow a first byte, whose bits of the number are x
 pub record FirstByte (b n x : ℕ) : Type 0 where
   pub good : bad_first b ≡ false
   pub count : continuation_count b ≡ n
   pub value : lead b ≡ x
 
--- it is the number
+-- a single byte is the number
 pub one_byte : (b n : ℕ) → b < 256 → n ≡ leading_ones w8 b → n ≡ 0 → FirstByte b 0 b
 unfolding first_test
 one_byte b n lt e z =
@@ -101,13 +101,13 @@ one_byte b n lt e z =
     let u = both (eqb (continuation_count b) 0) _ t.1 in
     record { good = flipped (bad_first b) t.0; count = eqb-true _ _ u.0; value = eqb-true _ _ u.1 }
 
--- it begins no number
+-- an invalid first byte
 bad_byte : (b n : ℕ) → b < 256 → n ≡ leading_ones w8 b → (n ≡ 1) ⊎ (n ≡ 8) → bad_first b ≡ true
 unfolding first_test
 bad_byte b n lt e (inl z) = rw z at (tested b n lt e)
 bad_byte b n lt e (inr z) = rw z at (tested b n lt e)
 
--- as many bytes stand there as it has ones
+-- the leading ones are the number of bytes
 pub more_bytes : (b n : ℕ) → b < 256 → n ≡ leading_ones w8 b → n ≢ 0 → bad_first b ≡ false → FirstByte b (n - 1) (bit_and b (127 / 2 ^ n)) × ((bit_and b (127 / 2 ^ n) < 64) × (n < 8))
 unfolding first_test
 more_bytes b n lt e some good =
@@ -120,7 +120,7 @@ more_bytes b n lt e some good =
     let value = eqb-true _ _ v.0 in
     (record { good = good; count = eqb-true _ _ u.0; value = value }, (rw value at (ltb-true _ _ w.0), ltb-true _ _ w.1))
 
--- what is read behind it
+-- what is read after the first byte
 pub coded_good : {b n x : ℕ} (s m : List ℕ) → FirstByte b n x → big_at 1 s ≡ Done b m → coded_number_at big_at s ≡ continuation_bytes_at big_at n x m
 unfolding coded_number_at
 coded_good s m h e = rw (e, h.good, h.value, h.count) refl
@@ -133,7 +133,7 @@ pub coded_bad : (b : ℕ) (s m : List ℕ) → bad_first b ≡ true → big_at 1
 unfolding coded_number_at
 coded_bad b s m h e = rw (e, h) refl
 
--- ---- six bits behind a number
+-- ---- six more bits of a number
 
 pub six_more : (count i y c : ℕ) → count ≤ 6 → i < count → y < 2 ^ (6 + 6 * i) → c < 64 → bit_or (y * 64 % 2 ^ 64) c ≡ y * 64 + c
 six_more count i y c six lt fits small =

@@ -1,4 +1,4 @@
--- What was read by a reader that keeps a remainder, of the reader behind its reference.
+-- What was read through a CRC reader over a mutable reference, in terms of the borrowed reader.
 use Rattle.std.proofs.Common.{◌≡◌, ℕ, Option, None, Some, List, ◌∷◌, true, refl, subst}
 use Rattle.std.specs.Borrow.{GName, MutBor}
 use Rattle.std.specs.Prelude.{Result, Ok, Err}
@@ -19,13 +19,13 @@ module _ {X : Type 0} (a b : State X) (l m : List GName) (f g : List ℕ → Lis
   eof_below : (count : ℕ) → ReachedEof count (under l f a) (under m g b) → ReachedEof count a b
   eof_below count h = record { errors = h.errors; loans = loans h.loans; known = λ t. let x = h.known t in record { known = x.known; is = x.is; rest = x.rest; crcs = crcs t x.known x.crcs } }
 
-  -- what happened behind a remainder or a loan happened to what it reaches
+  -- what was read through a CRC and a loan was read from the source under them
   pub gives_or_eof_below : {A Y : Type 0} (count : ℕ) (view : A → Y) (r : Result (Option A) Error) (read : List X → Reading X Y) → GivesOrEof count view r read (under l f a) (under m g b) → GivesOrEof count view r read a b
   gives_or_eof_below count view (Ok (Some x)) read h = consumes_below a b l m f g loans crcs (λ s k. or_eof count read s ≡ Done (Some (view x)) k) h
   gives_or_eof_below count view (Ok None) read h = eof_below count h
   gives_or_eof_below count view (Err e) read h = stops_below a b l m f g loans crcs e (or_eof count read) h
 
--- the loans on the way are kept
+-- the loans stay the same
 pub gives_or_eof_loans : {X A Y : Type 0} (count : ℕ) (view : A → Y) (r : Result (Option A) Error) (read : List X → Reading X Y) (a b : State X) → GivesOrEof count view r read a b → b.loans ≡ a.loans
 gives_or_eof_loans count view (Ok (Some x)) read a b g = g.loans
 gives_or_eof_loans count view (Ok None) read a b g = g.loans

@@ -1,4 +1,4 @@
--- Left and right come back in place.
+-- Decorrelation is undone in place.
 use Rattle.std.proofs.Common.{◌≡◌, ℕ, ◌+◌, ◌-◌, ◌*◌, ◌%◌, ◌^◌, ◌<◌, ◌≤◌, List, [], ◌∷◌, ◌++◌, length, take, drop, get_or, set, zero, suc, refl, sym, ap, ap₂, subst, ◌∙◌, arith, ℤ, pos, negsuc, ◌+ℤ◌, ◌*ℤ◌, to_z, of_z, w32, FitsSigned, bit_or, bit_and}
 use Rattle.std.specs.Int.Signed.{shr_z, mag_shr}
 use Rattle.std.proofs.lemmas.Int.{to_z-of_z, ints}
@@ -10,7 +10,7 @@ use Rattle.claxon_format.specs.Stereo.{parity, left_of, right_of, zipped, decode
 use Rattle.claxon_frame.specs.Block.{chunks}
 use Rattle.claxon_format.proofs.Wraps.{Represents, represents_fits, represents_add, represents_sub, represents_mul, represents_num}
 
--- ---- one place
+-- ---- one pair of samples
 
 pub left_side_is : (a b : ℤ) → FitsSigned w32 a → FitsSigned w32 b → to_z w32 ((of_z w32 a + (4294967296 - of_z w32 b)) % 4294967296) ≡ right_of 8 a b
 left_side_is a b fa fb = (represents_sub (represents_fits a fa) (represents_fits b fb)).value
@@ -27,7 +27,7 @@ parity_is (negsuc n) f = ap pos (omega (arith, f.sfits))
 rep_parity : (b : ℤ) → FitsSigned w32 b → Represents w32 (of_z w32 b % 2) (parity b)
 rep_parity b f = subst (λ (z : ℤ). Represents w32 (of_z w32 b % 2) z) (parity_is b f) (represents_num (of_z w32 b % 2) (omega arith))
 
--- twice the mid, with the lowest bit of the side put in
+-- twice mid, with the lowest bit of side
 summed : (m n : ℕ) → bit_or (m * 2 % 4294967296) (bit_and n 1) ≡ (m * 2 % 4294967296 + n % 2) % 4294967296
 summed m n =
     let low : bit_and n 1 ≡ n % 2 = and_mask n 1 in
@@ -58,7 +58,7 @@ pub mid_right_is : (a b y : ℤ) → FitsSigned w32 a → FitsSigned w32 b → F
     → to_z w32 (of_z w32 (shr_z y 2)) ≡ right_of 10 a b
 mid_right_is a b y fa fb fy e = half_is _ y _ (represents_sub (rep_sum a b fa fb) (represents_fits b fb)) e fy
 
--- ---- all places up to one
+-- ---- all pairs before an index
 
 zipped_suc : (f : ℤ → ℤ → ℤ) (xs ys : List ℤ) (i : ℕ) → i < length xs → i < length ys → zipped f (take (suc i) xs) (take (suc i) ys) ≡ zipped f (take i xs) (take i ys) ++ f (get_or xs i (pos 0)) (get_or ys i (pos 0)) ∷ []
 zipped_suc f [] ys i lx ly = absurd (omega arith)
@@ -69,12 +69,12 @@ zipped_suc f (a ∷ xs) (b ∷ ys) (suc i) lx ly = ap (λ (t : List ℤ). f a b 
 zipped_more : (f : ℤ → ℤ → ℤ) (xs ys : List ℤ) (i : ℕ) → i < length xs → i < length ys → zipped f (take (i + 1) xs) (take (i + 1) ys) ≡ zipped f (take i xs) (take i ys) ++ f (get_or xs i (pos 0)) (get_or ys i (pos 0)) ∷ []
 zipped_more f xs ys i lx ly = let e : i + 1 ≡ suc i = omega arith in ap (λ (n : ℕ). zipped f (take n xs) (take n ys)) e ∙ zipped_suc f xs ys i lx ly
 
--- up to i the entries of zs are what f makes of those of xs and ys, and from i on they are as they were
+-- the first i samples of zs are f of those of xs and ys, and the others are unchanged
 pub record ZippedUpTo (f : ℤ → ℤ → ℤ) (xs ys were zs : List ℤ) (i : ℕ) : Type 0 where
   pub done : take i zs ≡ zipped f (take i xs) (take i ys)
   pub rest : drop i zs ≡ drop i were
 
--- the entry at i is as it was
+-- the sample at i is unchanged
 pub zipped_here : {f : ℤ → ℤ → ℤ} {xs ys were zs : List ℤ} {i : ℕ} → i < length zs → i < length were → ZippedUpTo f xs ys were zs i → get_or zs i (pos 0) ≡ get_or were i (pos 0)
 zipped_here {were = were} {zs = zs} {i = i} lz lw h =
     let both : get_or zs i (pos 0) ∷ drop (i + 1) zs ≡ get_or were i (pos 0) ∷ drop (i + 1) were = sym (drop_more zs i (pos 0) lz) ∙ h.rest ∙ drop_more were i (pos 0) lw in cc both
@@ -101,7 +101,7 @@ pub halves_are : (code n : ℕ) (xs ys ls rs : List ℤ) → length xs ≡ n →
     → chunks 2 n (ls ++ rs) ≡ decoded_pair code (chunks 2 n (xs ++ ys))
 halves_are code n xs ys ls rs ex ey el er l r = two_chunks n ls rs el er ∙ ap₂ (λ (a b : List ℤ). a ∷ b ∷ []) l r ∙ sym (ap (decoded_pair code) (two_chunks n xs ys ex ey))
 
--- one of the two is as it was
+-- one of the two channels is unchanged
 pub zipped_first : (xs ys : List ℤ) → length xs ≡ length ys → xs ≡ zipped (λ a b. a) xs ys
 zipped_first [] ys e = refl
 zipped_first (a ∷ xs) [] e = absurd (omega (arith, e))

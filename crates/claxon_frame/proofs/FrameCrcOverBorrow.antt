@@ -1,4 +1,4 @@
--- What a frame's reader that keeps a remainder did, of the reader behind its reference.
+-- What a frame's CRC reader over a mutable reference did, in terms of the borrowed reader.
 use Rattle.std.proofs.Common.{◌≡◌, ℕ, Option, List, ◌∷◌, inl, inr, subst}
 use Rattle.std.specs.Borrow.{GName, MutBor}
 use Rattle.std.specs.Prelude.{Result, Ok, Err, IfErr, true}
@@ -38,33 +38,33 @@ module _ (s t : Source ℕ) (j k : GName) (f g : List ℕ → ℕ) where
     | inr q ↦ gives_or_eof_borrow_name s t j k f g count view r read q
   ]
 
-  too_small_borrowed : (stream : Option StreamFormat) (room : ℕ) → BufferTooSmall stream room (bytes_of_source (with_crc f (through_loan j s))) (bytes_of_source (with_crc g (through_loan k t))) → BufferTooSmall stream room (bytes_of_source s) (bytes_of_source t)
-  too_small_borrowed stream room h = record { start = h.start; header = consumes_borrowed (λ s m. start_at stream s ≡ Done h.start m) h.header; small = h.small }
+  too_small_borrowed : (stream : Option StreamFormat) (capacity : ℕ) → BufferTooSmall stream capacity (bytes_of_source (with_crc f (through_loan j s))) (bytes_of_source (with_crc g (through_loan k t))) → BufferTooSmall stream capacity (bytes_of_source s) (bytes_of_source t)
+  too_small_borrowed stream capacity h = record { start = h.start; header = consumes_borrowed (λ s m. start_at stream s ≡ Done h.start m) h.header; small = h.small }
 
--- what was read through a remainder that was made for a reference
-module _ {R S : Type 0} (source : R → Source ℕ) (check : S → List ℕ → ℕ) (x : R) (j : GName) (f : List ℕ → ℕ) (b c : CrcReader (MutBor R) S) (made : crc_source (behind source) check b ≡ with_crc f (through_loan j (source x))) where
+-- what was read through a CRC reader that was made over a reference
+module _ {R S : Type 0} (source : R → Source ℕ) (update : S → List ℕ → ℕ) (x : R) (j : GName) (f : List ℕ → ℕ) (b c : CrcReader (MutBor R) S) (made : crc_source (behind source) update b ≡ with_crc f (through_loan j (source x))) where
   pub frame_through : {A Y : Type 0} (count : ℕ) (view : A → Y) (r : Result (Option A) Error) (read : List ℕ → Reading ℕ Y)
-      → GivesOrEofOrOutOfMemory count view r read (bytes_in (crc_source (behind source) check) b) (bytes_in (crc_source (behind source) check) c) → GivesOrEofOrOutOfMemory count view r read (bytes_in source x) (bytes_in source (crc_inner c).now)
+      → GivesOrEofOrOutOfMemory count view r read (bytes_in (crc_source (behind source) update) b) (bytes_in (crc_source (behind source) update) c) → GivesOrEofOrOutOfMemory count view r read (bytes_in source x) (bytes_in source (crc_inner c).now)
   unfolding bytes_in
   frame_through count view r read h =
-      frame_borrowed (source x) (source (crc_inner c).now) j (crc_inner c).ghost_name f (check (crc_state c)) count view r read
-      (subst (λ z. GivesOrEofOrOutOfMemory count view r read (bytes_of_source z) (bytes_of_source (crc_source (behind source) check c))) made h)
+      frame_borrowed (source x) (source (crc_inner c).now) j (crc_inner c).ghost_name f (update (crc_state c)) count view r read
+      (subst (λ z. GivesOrEofOrOutOfMemory count view r read (bytes_of_source z) (bytes_of_source (crc_source (behind source) update c))) made h)
 
   -- and the reference is still the same
   pub frame_same_borrow : {A Y : Type 0} (count : ℕ) (view : A → Y) (r : Result (Option A) Error) (read : List ℕ → Reading ℕ Y)
-      → GivesOrEofOrOutOfMemory count view r read (bytes_in (crc_source (behind source) check) b) (bytes_in (crc_source (behind source) check) c) → j ≡ (crc_inner c).ghost_name
+      → GivesOrEofOrOutOfMemory count view r read (bytes_in (crc_source (behind source) update) b) (bytes_in (crc_source (behind source) update) c) → j ≡ (crc_inner c).ghost_name
   unfolding bytes_in
   frame_same_borrow count view r read h =
-      frame_borrow_name (source x) (source (crc_inner c).now) j (crc_inner c).ghost_name f (check (crc_state c)) count view r read
-      (subst (λ z. GivesOrEofOrOutOfMemory count view r read (bytes_of_source z) (bytes_of_source (crc_source (behind source) check c))) made h)
+      frame_borrow_name (source x) (source (crc_inner c).now) j (crc_inner c).ghost_name f (update (crc_state c)) count view r read
+      (subst (λ z. GivesOrEofOrOutOfMemory count view r read (bytes_of_source z) (bytes_of_source (crc_source (behind source) update c))) made h)
 
-  too_small_through : (stream : Option StreamFormat) (room : ℕ) → BufferTooSmall stream room (bytes_in (crc_source (behind source) check) b) (bytes_in (crc_source (behind source) check) c) → BufferTooSmall stream room (bytes_in source x) (bytes_in source (crc_inner c).now)
+  too_small_through : (stream : Option StreamFormat) (capacity : ℕ) → BufferTooSmall stream capacity (bytes_in (crc_source (behind source) update) b) (bytes_in (crc_source (behind source) update) c) → BufferTooSmall stream capacity (bytes_in source x) (bytes_in source (crc_inner c).now)
   unfolding bytes_in
-  too_small_through stream room h =
-      too_small_borrowed (source x) (source (crc_inner c).now) j (crc_inner c).ghost_name f (check (crc_state c)) stream room
-      (subst (λ z. BufferTooSmall stream room (bytes_of_source z) (bytes_of_source (crc_source (behind source) check c))) made h)
+  too_small_through stream capacity h =
+      too_small_borrowed (source x) (source (crc_inner c).now) j (crc_inner c).ghost_name f (update (crc_state c)) stream capacity
+      (subst (λ z. BufferTooSmall stream capacity (bytes_of_source z) (bytes_of_source (crc_source (behind source) update c))) made h)
 
-  pub out_of_memory_through : {B : Type 0} (stream : Option StreamFormat) (room : ℕ) (r : Result B Error) → IfErr r (λ error. is_out_of_memory error ≡ true → BufferTooSmall stream room (bytes_in (crc_source (behind source) check) b) (bytes_in (crc_source (behind source) check) c))
-      → IfErr r (λ error. is_out_of_memory error ≡ true → BufferTooSmall stream room (bytes_in source x) (bytes_in source (crc_inner c).now))
-  out_of_memory_through stream room (Ok y) h = tt
-  out_of_memory_through stream room (Err e) h = λ m. too_small_through stream room (h m)
+  pub out_of_memory_through : {B : Type 0} (stream : Option StreamFormat) (capacity : ℕ) (r : Result B Error) → IfErr r (λ error. is_out_of_memory error ≡ true → BufferTooSmall stream capacity (bytes_in (crc_source (behind source) update) b) (bytes_in (crc_source (behind source) update) c))
+      → IfErr r (λ error. is_out_of_memory error ≡ true → BufferTooSmall stream capacity (bytes_in source x) (bytes_in source (crc_inner c).now))
+  out_of_memory_through stream capacity (Ok y) h = tt
+  out_of_memory_through stream capacity (Err e) h = λ m. too_small_through stream capacity (h m)

@@ -12,7 +12,7 @@ use Rattle.claxon_format.specs.Stereo.{widths}
 use Rattle.claxon_format.proofs.CrcBytes.{with_crc_after}
 use Rattle.claxon_input.proofs.CallsInTurn.{StopsWith, StopsAs}
 
--- where its parts stop, so does the frame
+-- if a part is invalid or incomplete, so is the frame
 pub start_stops : (stream : Option StreamFormat) → StopsWith (start_at stream) (frame_bytes_at stream)
 unfolding frame_without_crc_at
 start_stops stream = record {
@@ -27,9 +27,9 @@ channels_stop stream start s m h = record {
   short = λ e. rw (h, e) refl;
 }
 
--- behind the channels stands the guard of the bytes before
-pub footer_is : (stream : Option StreamFormat) → (start : Start) (coded : List (List ℤ)) (guard : ℕ) (s m rest : List ℕ) → start_at stream s ≡ Done start m → subframes_at start.size (widths start.channels start.width) m ≡ Done coded rest
-    → guard ≡ crc16 (bits_of (taken s rest)) → frame_bytes_at stream s ≡ bind (crc_at 2 guard FrameCrc rest) (λ u. done (block_from start coded))
+-- after the subframes comes the CRC of the bytes before it
+pub footer_is : (stream : Option StreamFormat) → (start : Start) (channels : List (List ℤ)) (crc : ℕ) (s m rest : List ℕ) → start_at stream s ≡ Done start m → subframes_at start.size (widths start.channels start.width) m ≡ Done channels rest
+    → crc ≡ crc16 (bits_of (taken s rest)) → frame_bytes_at stream s ≡ bind (crc_at 2 crc FrameCrc rest) (λ u. done (block_from start channels))
 unfolding frame_without_crc_at
-footer_is stream start coded guard s m rest h e same =
-    with_crc_after 2 guard crc16 FrameCrc (frame_without_crc_at stream) (block_from start coded) s rest (rw (h, e) refl) same
+footer_is stream start channels crc s m rest h e same =
+    with_crc_after 2 crc crc16 FrameCrc (frame_without_crc_at stream) (block_from start channels) s rest (rw (h, e) refl) same

@@ -1,4 +1,4 @@
--- What the calls one after another that read a frame did.
+-- The calls that read a frame, one after another.
 use Rattle.std.proofs.lemmas.Bool.{lt-ltb}
 use Rattle.std.proofs.Common.{◌≡◌, ℕ, ◌-◌, ◌*◌, ◌≤◌, arith, ◌<◌, inl, inr, true, false, ltb, List, [], length, refl, subst, ◌∙◌, ℤ}
 use Rattle.std.specs.Prelude.{Result, Err, Option, None, Some}
@@ -29,7 +29,7 @@ use Rattle.claxon_frame.specs.declared.frame.header.parts.KnownStreamFormat.{Kno
 use Rattle.claxon_frame.proofs.FrameParts.{start_stops, channels_stop, footer_is}
 use Rattle.claxon_input.proofs.FieldOrEof.{found, first_stops, some_read, exit_no_memory_or_eof, exit_out_of_memory_or_eof}
 
--- want of memory before anything was done
+-- out of memory before anything was read
 pub out_of_memory_at_once : {X A Y : Type 0} (view : A → Y) {r : Result A Error} (read : List X → Reading X Y) (a : State X) {e : Error} → (y : Error) × (r ≡ Err y) × (y ≡ e) → is_out_of_memory e ≡ true → GivesOrOutOfMemory view r read a a
 out_of_memory_at_once view read a {e} p m = rw (p.1, p.2) (go e m)
   where
@@ -39,21 +39,21 @@ out_of_memory_at_once view read a {e} p m = rw (p.1, p.2) (go e m)
     go (FormatError text) m = absurd cc
     go (Unsupported text) m = absurd cc
 
--- ---- a frame through a remainder that begins with it
+-- ---- a frame through a CRC-16 reader, whose CRC starts with the frame
 
--- the bytes of a source that keeps a remainder
+-- the bytes of a source with a CRC-16
 abbrev pub bytes_with_crc16 : ℕ → Source ℕ → State ℕ
-bytes_with_crc16 guard s = bytes_of_source (with_crc (update_crc16 guard) s)
+bytes_with_crc16 crc s = bytes_of_source (with_crc (update_crc16 crc) s)
 
 or_found : {X A : Type 0} (k : ℕ) (read : List X → Reading X A) (s : List X) (x : Reading X A) → ltb (length s) k ≡ false → read s ≡ x → or_eof k read s ≡ found x
 or_found k read s x t e = rw (t, e) refl
 
 module _ (stream : Option StreamFormat) (width : IsWidth (known_width stream)) where
-  -- the header stops
+  -- the header is invalid or incomplete
   pub header_stops : {e : Error} {a b : State ℕ} → Stops e (or_eof 2 (start_at stream)) a b → Stops e (or_eof 2 (frame_bytes_at stream)) a b
   header_stops h = first_stops 2 (start_at stream) (frame_bytes_at stream) (start_stops stream) h
 
-  -- or its channels do
+  -- or the subframes are
   pub channels_stopped : {e : Error} {start : Start} {a b c : State ℕ} → Consumes a b (λ s m. or_eof 2 (start_at stream) s ≡ Done (Some start) m) → Stops e (subframes_at start.size (widths start.channels start.width)) b c
       → Stops e (or_eof 2 (frame_bytes_at stream)) a c
   channels_stopped {start = start} {a = a} {b = b} h k = stops_as (consumes_map _ h (λ p.
@@ -64,14 +64,14 @@ module _ (stream : Option StreamFormat) (width : IsWidth (known_width stream)) w
         short = λ e. or_found 2 (frame_bytes_at stream) a.remaining Incomplete q.0 (w.short e);
       })) k
 
-  -- what stands before the guard, and the remainder of it
-  record BeforeCrc (start : Start) (coded : List (List ℤ)) (guard : ℕ) (s rest : List ℕ) : Type 0 where
+  -- the bytes before the CRC, and the CRC of them
+  record BeforeCrc (start : Start) (channels : List (List ℤ)) (crc : ℕ) (s rest : List ℕ) : Type 0 where
     enough : ltb (length s) 2 ≡ false
-    frame_is : frame_bytes_at stream s ≡ bind (crc_at 2 guard FrameCrc rest) (λ u. done (block_from start coded))
+    frame_is : frame_bytes_at stream s ≡ bind (crc_at 2 crc FrameCrc rest) (λ u. done (block_from start channels))
 
-  before_crc : (start : Start) (coded : List (List ℤ)) (first guard : ℕ) (s t : Source ℕ) {b : State ℕ} → first ≡ 0 → guard < 65536 → Consumes (bytes_with_crc16 first s) b (λ s m. or_eof 2 (start_at stream) s ≡ Done (Some start) m)
-      → Consumes b (bytes_with_crc16 guard t) (λ s m. subframes_at start.size (widths start.channels start.width) s ≡ Done coded m) → Consumes (bytes_with_crc16 first s) (bytes_with_crc16 guard t) (BeforeCrc start coded guard)
-  before_crc start coded first guard s t {b = b} zero small h k =
+  before_crc : (start : Start) (channels : List (List ℤ)) (first crc : ℕ) (s t : Source ℕ) {b : State ℕ} → first ≡ 0 → crc < 65536 → Consumes (bytes_with_crc16 first s) b (λ s m. or_eof 2 (start_at stream) s ≡ Done (Some start) m)
+      → Consumes b (bytes_with_crc16 crc t) (λ s m. subframes_at start.size (widths start.channels start.width) s ≡ Done channels m) → Consumes (bytes_with_crc16 first s) (bytes_with_crc16 crc t) (BeforeCrc start channels crc)
+  before_crc start channels first crc s t {b = b} zero small h k =
       let all = consumes_then (λ s m. Unit {0}) h k (λ p q. tt) in
       record {
         errors = all.errors;
@@ -84,35 +84,35 @@ module _ (stream : Option StreamFormat) (width : IsWidth (known_width stream)) w
             let q = some_read 2 (start_at stream) (bytes_with_crc16 first s).remaining start b.remaining x.is in
             record {
               known = z.known;
-              is = record { enough = q.0; frame_is = footer_is stream start coded guard (bytes_with_crc16 first s).remaining b.remaining (bytes_with_crc16 guard t).remaining q.1 y.is (source_crc_of_taken determines_crc16 s t guard small (subst (λ (n : ℕ). Consumes (bytes_with_crc16 n s) (bytes_with_crc16 guard t) (λ s m. Unit {0})) zero all) known) };
+              is = record { enough = q.0; frame_is = footer_is stream start channels crc (bytes_with_crc16 first s).remaining b.remaining (bytes_with_crc16 crc t).remaining q.1 y.is (source_crc_of_taken determines_crc16 s t crc small (subst (λ (n : ℕ). Consumes (bytes_with_crc16 n s) (bytes_with_crc16 crc t) (λ s m. Unit {0})) zero all) known) };
               rest = z.rest;
               crcs = z.crcs;
             };
       }
 
-  -- the guard isn't right, or doesn't come
-  pub footer_stops : {e : Error} (start : Start) (coded : List (List ℤ)) (first guard : ℕ) (s t : Source ℕ) {b c : State ℕ} → first ≡ 0 → guard < 65536 → Consumes (bytes_with_crc16 first s) b (λ s m. or_eof 2 (start_at stream) s ≡ Done (Some start) m)
-      → Consumes b (bytes_with_crc16 guard t) (λ s m. subframes_at start.size (widths start.channels start.width) s ≡ Done coded m) → Stops e (crc_at 2 guard FrameCrc) (bytes_with_crc16 guard t) c → Stops e (or_eof 2 (frame_bytes_at stream)) (bytes_with_crc16 first s) c
-  footer_stops start coded first guard s t zero small h k e = stops_as (consumes_map _ (before_crc start coded first guard s t zero small h k) (λ p. record {
+  -- the CRC is wrong or incomplete
+  pub footer_stops : {e : Error} (start : Start) (channels : List (List ℤ)) (first crc : ℕ) (s t : Source ℕ) {b c : State ℕ} → first ≡ 0 → crc < 65536 → Consumes (bytes_with_crc16 first s) b (λ s m. or_eof 2 (start_at stream) s ≡ Done (Some start) m)
+      → Consumes b (bytes_with_crc16 crc t) (λ s m. subframes_at start.size (widths start.channels start.width) s ≡ Done channels m) → Stops e (crc_at 2 crc FrameCrc) (bytes_with_crc16 crc t) c → Stops e (or_eof 2 (frame_bytes_at stream)) (bytes_with_crc16 first s) c
+  footer_stops start channels first crc s t zero small h k e = stops_as (consumes_map _ (before_crc start channels first crc s t zero small h k) (λ p. record {
     fault = λ f rest q. or_found 2 (frame_bytes_at stream) (bytes_with_crc16 first s).remaining (Faulty f rest) p.enough (p.frame_is ∙ rw q refl);
     short = λ q. or_found 2 (frame_bytes_at stream) (bytes_with_crc16 first s).remaining Incomplete p.enough (p.frame_is ∙ rw q refl);
   })) e
 
-  pub frame_consumes : (start : Start) (coded : List (List ℤ)) (first guard : ℕ) (s t : Source ℕ) {b c : State ℕ} → first ≡ 0 → guard < 65536 → Consumes (bytes_with_crc16 first s) b (λ s m. or_eof 2 (start_at stream) s ≡ Done (Some start) m)
-      → Consumes b (bytes_with_crc16 guard t) (λ s m. subframes_at start.size (widths start.channels start.width) s ≡ Done coded m) → Consumes (bytes_with_crc16 guard t) c (λ s m. crc_at 2 guard FrameCrc s ≡ Done tt m)
-      → Consumes (bytes_with_crc16 first s) c (λ s m. or_eof 2 (frame_bytes_at stream) s ≡ Done (Some (block_from start coded)) m)
-  frame_consumes start coded first guard s t {c = c} zero small h k f =
-      consumes_then _ (before_crc start coded first guard s t zero small h k) f (λ p q. or_found 2 (frame_bytes_at stream) (bytes_with_crc16 first s).remaining (Done (block_from start coded) c.remaining) p.enough (p.frame_is ∙ rw q refl))
+  pub frame_consumes : (start : Start) (channels : List (List ℤ)) (first crc : ℕ) (s t : Source ℕ) {b c : State ℕ} → first ≡ 0 → crc < 65536 → Consumes (bytes_with_crc16 first s) b (λ s m. or_eof 2 (start_at stream) s ≡ Done (Some start) m)
+      → Consumes b (bytes_with_crc16 crc t) (λ s m. subframes_at start.size (widths start.channels start.width) s ≡ Done channels m) → Consumes (bytes_with_crc16 crc t) c (λ s m. crc_at 2 crc FrameCrc s ≡ Done tt m)
+      → Consumes (bytes_with_crc16 first s) c (λ s m. or_eof 2 (frame_bytes_at stream) s ≡ Done (Some (block_from start channels)) m)
+  frame_consumes start channels first crc s t {c = c} zero small h k f =
+      consumes_then _ (before_crc start channels first crc s t zero small h k) f (λ p q. or_found 2 (frame_bytes_at stream) (bytes_with_crc16 first s).remaining (Done (block_from start channels) c.remaining) p.enough (p.frame_is ∙ rw q refl))
 
--- ---- the width of a stream
+-- ---- the bit depth of a stream
 
 pub stream_is_width : (format : Option KnownStreamFormat) → IsWidth (known_width (stream_format_view format))
 stream_is_width None = tt
 stream_is_width (Some format) = (format.some, format.most)
 
--- ---- want of memory
+-- ---- out of memory
 
--- there are as many channels as their code says
+-- the number of channels of a channel code
 pub channel_count_is : (assignment : ChannelAssignment) → 1 ≤ channels_of assignment → channels_of assignment ≤ 8 → channel_count (channel_code assignment) ≡ channels_of assignment
 channel_count_is (Independent n) some few =
     let b : ltb (n - 1) 8 ≡ true = lt-ltb _ _ (omega arith) in
@@ -128,7 +128,7 @@ abbrev pub nothing : Unit {0} → List (List ℤ)
 nothing u = []
 
 module _ (stream : Option StreamFormat) (width : IsWidth (known_width stream)) where
-  -- the channels stop, or there is no memory for them
+  -- the subframes are invalid or incomplete, or there is no memory for the samples
   pub channels_failed : {A : Type 0} (view : A → Block) {r : Result (Option A) Error} {e : Error} {start : Start} {a b : State ℕ} (c : State ℕ) → (y : Error) × (r ≡ Err y) × (y ≡ e)
       → Consumes a b (λ s m. or_eof 2 (start_at stream) s ≡ Done (Some start) m) → GivesOrOutOfMemory nothing (Err e) (subframes_at start.size (widths start.channels start.width)) b c → GivesOrEofOrOutOfMemory 2 view r (frame_bytes_at stream) a c
   channels_failed view {e = e} {start = start} {b = b} c p h k = elim (out_of_memory_or_gives nothing (Err e) (subframes_at start.size (widths start.channels start.width)) b c k) [
@@ -136,9 +136,9 @@ module _ (stream : Option StreamFormat) (width : IsWidth (known_width stream)) w
     | inr q ↦ exit_no_memory_or_eof 2 view (frame_bytes_at stream) p (channels_stopped stream width h q)
   ]
 
-  -- and then nothing was taken but the header
-  pub buffer_too_small : {start : Start} {a b c : State ℕ} (room n : ℕ) → Consumes a b (λ s m. or_eof 2 (start_at stream) s ≡ Done (Some start) m) → Consumes b c (λ s m. s ≡ m) → n ≡ channel_count start.channels → room < n * start.size → BufferTooSmall stream room a c
-  buffer_too_small {start = start} {a = a} {b = b} {c = c} room n h k e small = record {
+  -- and then just the header was consumed
+  pub buffer_too_small : {start : Start} {a b c : State ℕ} (capacity n : ℕ) → Consumes a b (λ s m. or_eof 2 (start_at stream) s ≡ Done (Some start) m) → Consumes b c (λ s m. s ≡ m) → n ≡ channel_count start.channels → capacity < n * start.size → BufferTooSmall stream capacity a c
+  buffer_too_small {start = start} {a = a} {b = b} {c = c} capacity n h k e small = record {
     start = start;
     header = consumes_then _ h k (λ p q. subst (λ z. start_at stream a.remaining ≡ Done start z) q (some_read 2 (start_at stream) a.remaining start b.remaining p).1);
     small = rw (← e) small;

@@ -1,4 +1,4 @@
--- The guard behind the fields of a header.
+-- The CRC-8 after the fields of a frame header.
 use Rattle.std.proofs.Common.{◌≡◌, ℕ, ◌<◌, Some, ap, ◌∙◌}
 use Rattle.claxon_format.specs.Bits.{bits_of}
 use Rattle.claxon_format.specs.Fault.{HeaderCrc}
@@ -17,11 +17,11 @@ use Rattle.claxon_input.proofs.States.{bytes_of_source}
 use Rattle.claxon_format.specs.read.Header.{fields_at, fields_with_crc_at}
 use Rattle.claxon_input.proofs.FieldOrEof.{enough, found, some_read}
 
--- a reader with this remainder
+-- the bytes of a source with this CRC-8
 abbrev pub bytes_with_crc8 : Source ℕ → ℕ → State ℕ
 bytes_with_crc8 source c = bytes_of_source (with_crc (update_crc8 c) source)
 
--- it is the remainder at hand
+-- it is compared with the CRC of the fields
 pub header_crc_next : (u v : Source ℕ) (c d n : ℕ) (f : Fields) → c ≡ 0 → n ≡ d → n < 256 → Consumes (bytes_with_crc8 u c) (bytes_with_crc8 v d) (λ s m. or_eof 2 (fields_at big_at) s ≡ Done (Some f) m)
     → Consumes (bytes_with_crc8 u c) (bytes_with_crc8 v d) (λ s m. or_eof 2 fields_with_crc_at s ≡ found (and_then (crc_at 1 n HeaderCrc) (λ u. done f) m))
 unfolding fields_with_crc_at

@@ -1,4 +1,4 @@
--- Channels read one after another into one slice.
+-- Subframes read one after another into one slice.
 use Rattle.std.proofs.Common.{◌≡◌, ℕ, zero, suc, ◌+◌, ◌-◌, ◌*◌, ◌<◌, ◌≤◌, Bool, true, ltb, List, [], ◌∷◌, ◌++◌, length, take, drop, get_or, refl, sym, ap, subst, ◌∙◌, arith, ℤ}
 use Rattle.std.proofs.lemmas.Bool.{lt-ltb}
 use Rattle.std.proofs.lemmas.List.{append-nil, take_all, length-append, length-take-le, length-drop, length-replicate, drop_all, drop_more, take-append-drop, take-append-le, drop-append-le}
@@ -19,7 +19,7 @@ use Rattle.claxon_frame.specs.declared.frame.header.parts.ChannelAssignment.TheV
 use Rattle.claxon_frame.proofs.Chunks.{chunk_ends}
 use Rattle.claxon_subframe.proofs.PartitionLoop.{part_length, front_replaced}
 
--- there is a width for each channel
+-- there is a bit depth for each channel
 pub length-subframe_bit_depths : (assignment : ChannelAssignment) (bits : ℕ) → 1 ≤ channels_of assignment → channels_of assignment ≤ 8 → length (subframe_bit_depths assignment bits) ≡ channels_of assignment
 length-subframe_bit_depths (Independent n) bits some few =
     let b : ltb (n - 1) 8 ≡ true = lt-ltb _ _ (omega arith) in
@@ -28,7 +28,7 @@ length-subframe_bit_depths LeftSideStereo bits some few = refl
 length-subframe_bit_depths RightSideStereo bits some few = refl
 length-subframe_bit_depths MidSideStereo bits some few = refl
 
--- ---- chunks of a front
+-- ---- chunks of a prefix
 
 chunks_front : (k n : ℕ) (xs ys : List ℤ) → k * n ≤ length xs → chunks k n (xs ++ ys) ≡ chunks k n xs
 chunks_front zero n xs ys h = refl
@@ -37,7 +37,7 @@ chunks_front (suc k) n xs ys h =
     let more = chunks_front k n (drop n xs) ys (omega (arith, h, length-drop n xs)) in
     rw (take-append-le n xs ys le, drop-append-le n xs ys le, more) refl
 
--- one chunk more
+-- one more chunk
 chunks_more : (k n : ℕ) (xs ys : List ℤ) → length xs ≡ k * n → length ys ≡ n → chunks (suc k) n (xs ++ ys) ≡ chunks k n xs ++ ys ∷ []
 chunks_more zero n [] ys h e = ap (λ (t : List ℤ). t ∷ []) (take_all n ys (omega arith))
 chunks_more zero n (x ∷ xs) ys h e = absurd (omega (arith, h))
@@ -46,10 +46,10 @@ chunks_more (suc k) n xs ys h e =
     let more = chunks_more k n (drop n xs) ys (omega (arith, h, length-drop n xs)) e in
     rw (take-append-le n xs ys le, drop-append-le n xs ys le) (ap (λ (t : List (List ℤ)). take n xs ∷ t) more)
 
--- where the slice from start on has size entries, they are put behind the chunks before them
+-- n samples that are put in from `start` on are the next chunk
 put_chunk : (k n start : ℕ) (xs ys : List ℤ) → start ≡ k * n → start + n ≤ length xs → length ys ≡ n → chunks (k + 1) n (put_mid start (start + n - start) xs ys) ≡ chunks k n xs ++ ys ∷ []
-put_chunk k n start xs ys place room e =
-    let here = front_replaced start n xs ys room (e ∙ sym (part_length start n xs room)) in
+put_chunk k n start xs ys place fits e =
+    let here = front_replaced start n xs ys fits (e ∙ sym (part_length start n xs fits)) in
     let front : length (take start xs) ≡ k * n = length-take-le start xs (omega arith) ∙ place in
     let new = put_mid start (start + n - start) xs ys in
     let one : k + 1 ≡ suc k = omega arith in
@@ -59,9 +59,9 @@ put_chunk k n start xs ys place room e =
     ap (λ (m : ℕ). chunks m n new) one ∙ ap (chunks (suc k) n) (sym (take-append-drop (start + n) new)) ∙ split ∙ ap (chunks (suc k) n) here
     ∙ chunks_more k n (take start xs) ys front e ∙ ap (λ (t : List (List ℤ)). t ++ ys ∷ []) (sym whole ∙ ap (chunks k n) (take-append-drop start xs))
 
--- ---- what a loop did
+-- ---- the loop over the channels
 
--- i of the channels were read and put into xs up to start
+-- i of the channels were read and put into xs, up to `start`
 pub record ChannelsSoFar (ws : List ℕ) (size i start : ℕ) (xs : List ℤ) (old new : State Bool) : Type 0 where
   pub place : start ≡ i * size
   pub whole : length xs ≡ length ws * size
@@ -70,7 +70,7 @@ pub record ChannelsSoFar (ws : List ℕ) (size i start : ℕ) (xs : List ℤ) (o
 pub channels_begin : (ws : List ℕ) (size : ℕ) (xs : List ℤ) (a : State Bool) → length xs ≡ length ws * size → ChannelsSoFar ws size 0 0 xs a a
 channels_begin ws size xs a e = record { place = omega arith; whole = e; so_far = consumes_none a _ (sym (front_none (coded_channels_at size ws a.remaining))) }
 
--- there is room for the next channel
+-- the next channel fits into the buffer
 chunk_in_buffer : (i n size start len : ℕ) → i < n → start ≡ i * size → len ≡ n * size → start + size ≤ len
 chunk_in_buffer i n size start len lt place whole = let e = chunk_ends n size i lt in omega arith
 
@@ -89,14 +89,14 @@ pub channels_next : {ws : List ℕ} {size i start : ℕ} {xs : List ℤ} (w : �
     → length ys ≡ length (take (start + size - start) (drop start xs)) → Consumes b c (λ s m. subframe_at w (length (take (start + size - start) (drop start xs))) s ≡ Done ys m)
     → ChannelsSoFar ws size (i + 1) (start + size) (put_mid start (start + size - start) xs ys) a c
 channels_next {ws = ws} {size = size} {i = i} {start = start} {xs = xs} w ys {a = a} {b = b} {c = c} lt here h e k =
-    let room = channels_fit lt h in
-    let n = part_length start size xs room in
+    let fits = channels_fit lt h in
+    let n = part_length start size xs fits in
     let q : Consumes b c (λ s m. subframe_at w size s ≡ Done ys m) = subst (λ (z : ℕ). Consumes b c (λ s m. subframe_at w z s ≡ Done ys m)) n k in
     let p = h.place in
     record {
       place = omega arith;
       whole = same_len_mid start (start + size - start) xs ys e ∙ h.whole;
-      so_far = consumes_then _ h.so_far q (λ x y. rw (put_chunk i size start xs ys h.place room (e ∙ n)) (sym (subframes_more ws size i w (chunks i size xs) ys _ _ (coded_channels_at size ws a.remaining) lt here y (sym x))));
+      so_far = consumes_then _ h.so_far q (λ x y. rw (put_chunk i size start xs ys h.place fits (e ∙ n)) (sym (subframes_more ws size i w (chunks i size xs) ys _ _ (coded_channels_at size ws a.remaining) lt here y (sym x))));
     }
 
 channels_stop : (ws : List ℕ) (size i w : ℕ) (front : List (List ℤ)) → i < length ws → get_or ws i 0 ≡ w → StopsWith (subframe_at w size) (λ m. with_front front (coded_channels_at size (drop i ws) m))

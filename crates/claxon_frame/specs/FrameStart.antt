@@ -1,4 +1,4 @@
--- What the code keeps of a frame's header, in the readers' words (RFC 9639, section 9.1).
+-- The frame header of the code as values of the format (RFC 9639, section 9.1).
 use Rattle.std.specs.Prelude.{ℕ, Option, Some, None, Result}
 use Rattle.claxon_format.specs.Frame.{StreamFormat}
 use Rattle.claxon_format.specs.Header.{Fields}
@@ -17,13 +17,13 @@ use Rattle.claxon_frame.specs.declared.frame.header.parts.SampleRate.TheVariants
 use Rattle.claxon_frame.specs.declared.frame.header.parts.KnownStreamFormat.{KnownStreamFormat}
 use Rattle.claxon_frame.specs.FrameHeader.{channel_code, block_time_view, bit_depth_code}
 
--- how the size is spelled
+-- how the block size is coded
 abbrev pub size_view : BlockSize → SizeCoding
 size_view (KnownSize n) = ByCode n
 size_view SizeOf8 = InByte
 size_view SizeOf16 = InTwoBytes
 
--- in how many bytes the rate is spelled
+-- the number of bytes of an uncommon sample rate
 abbrev pub rate_view : SampleRate → ℕ
 rate_view NoRate = 0
 rate_view RateOf8 = 1
@@ -39,17 +39,28 @@ fields_view h = record {
   number = (block_time_view h.block_time).1;
 }
 
--- what the body of a frame needs of it
+-- what the subframes need of it
 abbrev pub start_view : FrameHeader → Start
-start_view h = record { time = h.time; size = h.block_size; channels = channel_code h.channel_assignment; width = h.bits_per_sample }
+start_view h = record {
+  time = h.time;
+  size = h.block_size;
+  channels = channel_code h.channel_assignment;
+  width = h.bits_per_sample;
+}
 
 -- what is known of the stream
 abbrev pub stream_format_view : Option KnownStreamFormat → Option StreamFormat
 stream_format_view None = None
-stream_format_view (Some format) = Some record { width = format.bits_per_sample; min_block_size = format.min_block_size; max_block_size = format.max_block_size }
+stream_format_view (Some format) = Some record {
+  width = format.bits_per_sample;
+  min_block_size = format.min_block_size;
+  max_block_size = format.max_block_size;
+}
 
 -- ---- what the call that reads a header promises
 
--- What was answered and taken is what the format's reader gives, or the end where fewer than two bytes are left, which are taken.
-abbrev pub FrameHeaderIsRead : {R : Type 0} → (R → Source ℕ) → Option StreamFormat → R → Result (Option FrameHeader) Error → R → Type 0
-FrameHeaderIsRead source stream old result new = GivesOrEof 2 start_view result (start_at stream) (bytes_in source old) (bytes_in source new)
+-- The result and the consumed bytes are those of the format's reader, or fewer than two bytes were left, which are consumed.
+abbrev pub FrameHeaderIsRead : {R : Type 0} → (R → Source ℕ) → Option StreamFormat → R
+    → Result (Option FrameHeader) Error → R → Type 0
+FrameHeaderIsRead source stream old result new =
+    GivesOrEof 2 start_view result (start_at stream) (bytes_in source old) (bytes_in source new)

@@ -30,8 +30,8 @@ use stereo::undo_decorrelation;
 
 /// Reads frames one after another.
 ///
-/// Each call starts at a frame's header, where the input stands: no sync code is searched for. A container that holds
-/// frames apart, as Ogg and MP4 do, has a reader over each packet.
+/// Each call starts at the current position of the input, where a frame header is to be: no sync code is searched for. A
+/// container with a packet for each frame, such as Ogg or MP4, has a reader over each packet.
 #[derive(Drop)]
 pub struct FrameReader<R> {
     input: R,
@@ -44,7 +44,7 @@ pub type FrameResult<A = Global> = Result<Option<Block<A>>>;
 impl<R: ReadBytes> FrameReader<R> {
     ghost use Rattle.claxon_frame.specs.FrameReader.{BlockHasSamples, BlockKeepsCapacity, FrameFaultIsComplete, FrameIsComplete, FailureIsErr, FrameFaultIsSound, FrameIsRead, FrameIsUnambiguous, FrameLeavesRest, FrameIsSound, FrameElseIoError, FrameNoneIsEof, PlansHaveBytes, PlansWriteFrames, FrameOutOfMemoryAfterHeader, MaxCapacityIsEnough, FrameEofIsNone, frame_input, frame_stream, stream_with};
 
-    /// A reader that knows nothing of the stream: a header has to name the width of its samples.
+    /// A reader that knows nothing of the stream: each frame header has to give the bit depth.
     pub fn new(input: R) -> FrameReader<R>
         ensures input { frame_input result ≡ input }
         ensures stream { frame_stream result ≡ None }
@@ -55,7 +55,7 @@ impl<R: ReadBytes> FrameReader<R> {
         }
     }
 
-    /// A reader of frames of the stream with this streaminfo, whose width is 1 to 32 bits.
+    /// A reader of the frames of the stream with this streaminfo, which has 1 to 32 bits per sample.
     pub fn with_streaminfo(input: R, info: StreamInfo) -> FrameReader<R>
         requires some { 1 ≤ info.bits_per_sample }
         requires most { info.bits_per_sample ≤ 32 }
@@ -72,10 +72,10 @@ impl<R: ReadBytes> FrameReader<R> {
         }
     }
 
-    /// Reads the next block, into the buffer's memory where it suffices.
+    /// Reads the next block, into the buffer's memory if it is large enough.
     ///
-    /// None where fewer than two bytes are left, which are taken. What the buffer held, its length and its capacity don't
-    /// show in the block. Where its capacity is channels times block size or more no memory is taken. (RFC 9639, section 9.)
+    /// None if fewer than two bytes are left, which are consumed. The samples don't depend on the buffer's contents, length and
+    /// capacity. Nothing is allocated if the capacity is at least channels times block size. (RFC 9639, section 9.)
     ///
     /// ```
     /// while let Some(block) = frames.read_next_or_eof(buffer)? {
@@ -86,17 +86,16 @@ impl<R: ReadBytes> FrameReader<R> {
     ///
     /// # Errors
     ///
-    /// `FormatError` where the bytes aren't a frame, be it that a guard doesn't fit; `Unsupported` where they are one that
-    /// isn't decoded: a width that neither header nor streaminfo gives, a side channel of 33 bits, a negative shift.
-    /// `IoError` where the source fails or the bytes end inside the frame. `OutOfMemory`, after the header was taken, where
-    /// the buffer is too small and memory for another is refused. After an error the next call starts at the first byte not
-    /// taken.
+    /// `FormatError` if the bytes aren't a frame, also if a CRC is wrong; `Unsupported` for a frame that isn't decoded: a bit
+    /// depth that neither header nor streaminfo gives, a side channel of 33 bits, a negative shift. `IoError` if the source
+    /// fails or ends inside the frame. `OutOfMemory`, after the header was consumed, if the buffer is too small and memory for
+    /// a larger one is refused. After an error the next call starts at the first byte that wasn't consumed.
     pub fn read_next_or_eof<A: Allocator>(&mut self, buffer: Vec<i32, A>) -> FrameResult<A>
         ensures stream { frame_stream self.new ≡ frame_stream self.old }
         ensures some { BlockHasSamples result }
         ensures sound { FrameIsSound R.source self.old result self.new }
         ensures complete { FrameIsComplete R.source self.old result self.new }
-        ensures one_reading { FrameIsUnambiguous (frame_stream self.old) }
+        ensures unambiguous { FrameIsUnambiguous (frame_stream self.old) }
         ensures lossless { PlansWriteFrames (frame_stream self.old) }
         ensures bytes_exist { PlansHaveBytes (frame_stream self.old) }
         ensures at_end { FrameNoneIsEof R.source self.old result self.new }
@@ -106,8 +105,9 @@ impl<R: ReadBytes> FrameReader<R> {
         ensures named { FrameFaultIsComplete R.source self.old result self.new }
         ensures io { FrameElseIoError R.source self.old result self.new }
         ensures front { FrameLeavesRest R.source self.old result self.new }
-        ensures memory { FrameOutOfMemoryAfterHeader R.source (vec_capacity buffer) self.old result self.new }
-        ensures room { MaxCapacityIsEnough (vec_capacity buffer) result }
+        ensures memory { FrameOutOfMemoryAfterHeader R.source (vec_capacity buffer)
+            self.old result self.new }
+        ensures max_capacity { MaxCapacityIsEnough (vec_capacity buffer) result }
         ensures kept_capacity { BlockKeepsCapacity (vec_capacity buffer) result }
         ensures gives { FrameIsRead R.source self.old result self.new }
     {
@@ -123,35 +123,45 @@ impl<R: ReadBytes> FrameReader<R> {
     }
 }
 
-// Reads a frame, or meets the end. The remainder is made here and read through by `read_frame_or_eof`, over a reference: where
-// two wrappers are made in one function the prover loses the shape of the inner one.
+// The CRC-16 reader is made here, and `read_frame_or_eof` reads through a reference to it: if two wrappers are made in one
+// function the prover loses the shape of the inner one.
 fn read_next_or_eof_exact<R: ReadBytes, A: Allocator>(
     input: &mut R,
     stream: Option<KnownStreamFormat>,
     buffer: Vec<i32, A>,
 ) -> FrameResult<A>
-    ensures gives { GivesOrEofOrOutOfMemory 2 block_view result (frame_bytes_at (stream_format_view stream)) (bytes_in R.source input.old) (bytes_in R.source input.new) }
+    ensures gives { GivesOrEofOrOutOfMemory 2 block_view result
+        (frame_bytes_at (stream_format_view stream))
+        (bytes_in R.source input.old) (bytes_in R.source input.new) }
     ensures some { BlockHasSamples result }
     ensures kept_capacity { BlockKeepsCapacity (vec_capacity buffer) result }
-    ensures buffer_too_small { IfOutOfMemory result (BufferTooSmall (stream_format_view stream) (vec_capacity buffer) (bytes_in R.source input.old) (bytes_in R.source input.new)) }
-    ensures room { IfOutOfMemory result (vec_capacity buffer < 8 * 65535) }
+    ensures buffer_too_small { IfOutOfMemory result
+        (BufferTooSmall (stream_format_view stream) (vec_capacity buffer)
+        (bytes_in R.source input.old) (bytes_in R.source input.new)) }
+    ensures max_capacity { IfOutOfMemory result (vec_capacity buffer < 8 * 65535) }
 {
     let mut input = Crc16Reader::new(input);
     read_frame_or_eof(&mut input, stream, buffer)
 }
 
-// Reads a frame through a remainder that begins with it.
+// Reads a frame through a CRC-16 reader, whose CRC starts with the frame.
 fn read_frame_or_eof<R: ReadBytes, A: Allocator>(
     input: &mut Crc16Reader<R>,
     stream: Option<KnownStreamFormat>,
     buffer: Vec<i32, A>,
 ) -> FrameResult<A>
     requires { crc_state input.old ≡ 0 }
-    ensures gives { GivesOrEofOrOutOfMemory 2 block_view result (frame_bytes_at (stream_format_view stream)) (bytes_in (crc_source R.source update_crc16) input.old) (bytes_in (crc_source R.source update_crc16) input.new) }
+    ensures gives { GivesOrEofOrOutOfMemory 2 block_view result
+        (frame_bytes_at (stream_format_view stream))
+        (bytes_in (crc_source R.source update_crc16) input.old)
+        (bytes_in (crc_source R.source update_crc16) input.new) }
     ensures some { BlockHasSamples result }
     ensures kept_capacity { BlockKeepsCapacity (vec_capacity buffer) result }
-    ensures buffer_too_small { IfOutOfMemory result (BufferTooSmall (stream_format_view stream) (vec_capacity buffer) (bytes_in (crc_source R.source update_crc16) input.old) (bytes_in (crc_source R.source update_crc16) input.new)) }
-    ensures room { IfOutOfMemory result (vec_capacity buffer < 8 * 65535) }
+    ensures buffer_too_small { IfOutOfMemory result
+        (BufferTooSmall (stream_format_view stream) (vec_capacity buffer)
+        (bytes_in (crc_source R.source update_crc16) input.old)
+        (bytes_in (crc_source R.source update_crc16) input.new)) }
+    ensures max_capacity { IfOutOfMemory result (vec_capacity buffer < 8 * 65535) }
 {
     let Some(header) = read_frame_header_or_eof(input, stream)? else {
         return Ok(None);
@@ -161,19 +171,26 @@ fn read_frame_or_eof<R: ReadBytes, A: Allocator>(
     Ok(Some(to_block(header, buffer)))
 }
 
-// The coded channels, in the buffer's memory where it suffices.
+// The subframes of all channels, in the buffer's memory if it is large enough.
 fn read_channels<R: ReadBytes, A: Allocator>(
     input: &mut R,
     header: &FrameHeader,
     buffer: Vec<i32, A>,
 ) -> Result<Vec<i32, A>>
-    ensures len { IfOk result (λ filled. vec_len filled ≡ channels_of header.now.channel_assignment * header.now.block_size) }
+    ensures len { IfOk result (λ filled. vec_len filled
+        ≡ channels_of header.now.channel_assignment * header.now.block_size) }
     ensures kept_capacity { IfOk result (λ filled. vec_capacity buffer ≤ vec_capacity filled) }
-    ensures gives { GivesOrOutOfMemory (λ filled. chunks (channels_of header.now.channel_assignment) header.now.block_size filled.items) result
-        (subframes_at header.now.block_size (subframe_bit_depths header.now.channel_assignment header.now.bits_per_sample)) (bytes_in R.source input.old) (bytes_in R.source input.new) }
-    ensures buffer_too_small { IfOutOfMemory result (vec_capacity buffer < channels_of header.now.channel_assignment * header.now.block_size) }
-    ensures room { IfOutOfMemory result (vec_capacity buffer < 8 * 65535) }
-    ensures none_consumed { IfOutOfMemory result (Consumes (bytes_in R.source input.old) (bytes_in R.source input.new) (λ s m. s ≡ m)) }
+    ensures gives { GivesOrOutOfMemory
+        (λ filled. chunks (channels_of header.now.channel_assignment) header.now.block_size
+        filled.items) result
+        (subframes_at header.now.block_size
+        (subframe_bit_depths header.now.channel_assignment header.now.bits_per_sample))
+        (bytes_in R.source input.old) (bytes_in R.source input.new) }
+    ensures buffer_too_small { IfOutOfMemory result (vec_capacity buffer
+        < channels_of header.now.channel_assignment * header.now.block_size) }
+    ensures max_capacity { IfOutOfMemory result (vec_capacity buffer < 8 * 65535) }
+    ensures none_consumed { IfOutOfMemory result
+        (Consumes (bytes_in R.source input.old) (bytes_in R.source input.new) (λ s m. s ≡ m)) }
 {
     let samples = usize::from(header.channel_assignment.channels())
         * usize::from(header.block_size);
@@ -182,13 +199,14 @@ fn read_channels<R: ReadBytes, A: Allocator>(
     Ok(buffer)
 }
 
-// The block of coded channels that stand in the buffer one after another.
+// The block of the decoded subframes in the buffer: decorrelation is still to be undone.
 fn to_block<A: Allocator>(header: FrameHeader, buffer: Vec<i32, A>) -> Block<A>
     requires { vec_len buffer ≡ channels_of header.channel_assignment * header.block_size }
     ensures some { (1 ≤ length result.channels) × (1 ≤ duration_of result.channels) }
     ensures fits { length result.channels * duration_of result.channels ≤ result.capacity }
     ensures kept_capacity { result.capacity ≡ vec_capacity buffer }
-    ensures value { block_view result ≡ block_from (start_view header) (chunks (channels_of header.channel_assignment) header.block_size buffer.items) }
+    ensures value { block_view result ≡ block_from (start_view header)
+        (chunks (channels_of header.channel_assignment) header.block_size buffer.items) }
 {
     let mut buffer = buffer;
     undo_decorrelation(header.channel_assignment, buffer.as_mut_slice());
@@ -196,7 +214,7 @@ fn to_block<A: Allocator>(header: FrameHeader, buffer: Vec<i32, A>) -> Block<A>
     Block::new(header.time, channels, u32::from(header.block_size), buffer)
 }
 
-// The buffer with so many samples of any value. It grows only where its capacity is below that.
+// The buffer with `new_len` samples of any value. It grows only if its capacity is smaller.
 fn ensure_buffer_len<A: Allocator>(buffer: Vec<i32, A>, new_len: usize) -> Result<Vec<i32, A>>
     ensures len { IfOk result (λ filled. vec_len filled ≡ new_len) }
     ensures kept_capacity { IfOk result (λ filled. vec_capacity buffer ≤ vec_capacity filled) }
@@ -212,47 +230,59 @@ fn ensure_buffer_len<A: Allocator>(buffer: Vec<i32, A>, new_len: usize) -> Resul
     Ok(buffer)
 }
 
-// The subframes of all coded channels, and with them the padding bits up to a byte border, which may have any value.
+// The subframes of all channels, and the padding up to the next byte boundary, whose bits may have any value.
 fn decode_subframes<R: ReadBytes>(
     input: &mut R,
     header: &FrameHeader,
     buffer: &mut [i32],
 ) -> Result<()>
-    requires { length buffer.old ≡ channels_of header.now.channel_assignment * header.now.block_size }
-    ensures { Gives (λ x. chunks (channels_of header.now.channel_assignment) header.now.block_size buffer.new) result
-        (subframes_at header.now.block_size (subframe_bit_depths header.now.channel_assignment header.now.bits_per_sample)) (bytes_in R.source input.old) (bytes_in R.source input.new) }
+    requires { length buffer.old
+        ≡ channels_of header.now.channel_assignment * header.now.block_size }
+    ensures { Gives
+        (λ x. chunks (channels_of header.now.channel_assignment) header.now.block_size buffer.new)
+        result
+        (subframes_at header.now.block_size
+        (subframe_bit_depths header.now.channel_assignment header.now.bits_per_sample))
+        (bytes_in R.source input.old) (bytes_in R.source input.new) }
 {
     let mut bits = Bitstream::new(input);
     decode_channels(&mut bits, header, buffer)
 }
 
-// The subframes of all coded channels, which are put one after another.
+// The subframes of all channels, decoded into the buffer one after another.
 #[tactic(auto, using(crate::proofs::Chunks::chunk_ends))]
 fn decode_channels<R: ReadBytes>(
     input: &mut Bitstream<R>,
     header: &FrameHeader,
     buffer: &mut [i32],
 ) -> Result<()>
-    requires { length buffer.old ≡ channels_of header.now.channel_assignment * header.now.block_size }
-    ensures { Gives (λ x. chunks (channels_of header.now.channel_assignment) header.now.block_size buffer.new) result
-        (coded_channels_at header.now.block_size (subframe_bit_depths header.now.channel_assignment header.now.bits_per_sample)) (bits_in R.source input.old) (bits_in R.source input.new) }
+    requires { length buffer.old
+        ≡ channels_of header.now.channel_assignment * header.now.block_size }
+    ensures { Gives
+        (λ x. chunks (channels_of header.now.channel_assignment) header.now.block_size buffer.new)
+        result
+        (coded_channels_at header.now.block_size
+        (subframe_bit_depths header.now.channel_assignment header.now.bits_per_sample))
+        (bits_in R.source input.old) (bits_in R.source input.new) }
 {
     let assignment = header.channel_assignment;
     let size = usize::from(header.block_size);
     let mut start = 0;
     for ch in 0..assignment.channels() {
-        let width = assignment.width(header.bits_per_sample, ch);
-        subframe::decode(input, width, &mut buffer[start..start + size])?;
+        let bit_depth = assignment.bit_depth(header.bits_per_sample, ch);
+        subframe::decode(input, bit_depth, &mut buffer[start..start + size])?;
         start += size;
     }
     Ok(())
 }
 
-// The guard of all bytes of the frame.
+// The frame footer: the CRC-16 of all bytes of the frame before it.
 #[tactic(auto, using(claxon_input::proofs::ByteFields::first_number), unfolding(claxon_format::specs::read::Bytes::crc_at, claxon_format::specs::Fault::fault_text))]
 fn check_footer<R: ReadBytes>(input: &mut Crc16Reader<R>) -> Result<()>
     ensures fits { crc_state input.old < 65536 }
-    ensures gives { Gives (λ x. tt) result (crc_at 2 (crc_state input.old) FrameCrc) (bytes_in (crc_source R.source update_crc16) input.old) (bytes_in (crc_source R.source update_crc16) input.new) }
+    ensures gives { Gives (λ x. tt) result (crc_at 2 (crc_state input.old) FrameCrc)
+        (bytes_in (crc_source R.source update_crc16) input.old)
+        (bytes_in (crc_source R.source update_crc16) input.new) }
 {
     let computed = input.crc();
     let stored = input.read_be_u16()?;

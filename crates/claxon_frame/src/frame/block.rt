@@ -10,7 +10,7 @@ use std::marker::Model;
 #[cfg(test)]
 mod tests;
 
-/// The samples of a frame: channels of equal length, at a time.
+/// The samples of a frame: channels of equal length, and their time in the stream.
 #[derive(Drop)]
 pub struct Block<A: Allocator = Global> {
     time: u64,
@@ -25,13 +25,18 @@ impl<A: Allocator> Model for Block<A> {
 
     ghost Value = { BlockValue };
 
-    ghost view = { λ b. record { time = b.time; channels = chunks b.channels b.duration b.buffer.items; capacity = vec_capacity b.buffer } };
+    ghost view = { λ b. record {
+      time = b.time;
+      channels = chunks b.channels b.duration b.buffer.items;
+      capacity = vec_capacity b.buffer;
+    } };
 
-    ghost invariant = { λ b. (length b.buffer.items ≡ b.channels * b.duration) × (b.channels ≤ 8) × (b.duration < 65536) × (b.channels ≡ 0 → b.duration ≡ 0) };
+    ghost invariant = { λ b. (length b.buffer.items ≡ b.channels * b.duration) × (b.channels ≤ 8)
+        × (b.duration < 65536) × (b.channels ≡ 0 → b.duration ≡ 0) };
 }
 
 impl<A: Allocator> Block<A> {
-    // The channels stand in the buffer one after another.
+    // The buffer holds the channels one after another.
     pub(super) fn new(time: u64, channels: u32, duration: u32, buffer: Vec<i32, A>) -> Block<A>
         requires whole { length buffer.items ≡ channels * duration }
         requires some { 1 ≤ channels }
@@ -40,7 +45,11 @@ impl<A: Allocator> Block<A> {
         ensures channels { length result.channels ≡ channels }
         ensures duration { duration_of result.channels ≡ duration }
         ensures fits { channels * duration ≤ result.capacity }
-        ensures value { result ≡ record { time = time; channels = chunks channels duration buffer.items; capacity = vec_capacity buffer } }
+        ensures value { result ≡ record {
+          time = time;
+          channels = chunks channels duration buffer.items;
+          capacity = vec_capacity buffer;
+        } }
     {
         Block {
             time,
@@ -62,7 +71,7 @@ impl<A: Allocator> Block<A> {
         }
     }
 
-    /// The number of samples of each channel before this block. In seconds: this by the streaminfo's sample rate.
+    /// The number of samples of each channel before this block. Divided by the sample rate it is a time in seconds.
     pub fn time(&self) -> u64
         ensures { result ≡ self.now.time }
     {
@@ -76,7 +85,7 @@ impl<A: Allocator> Block<A> {
         self.channels * self.duration
     }
 
-    /// The number of samples of each channel. In seconds: this by the streaminfo's sample rate.
+    /// The number of samples of each channel. Divided by the sample rate it is a duration in seconds.
     pub fn duration(&self) -> u32
         ensures value { result ≡ duration_of self.now.channels }
         ensures each { AreOfLength result self.now.channels }
@@ -104,11 +113,12 @@ impl<A: Allocator> Block<A> {
         &self.buffer[start..end]
     }
 
-    /// The sample of a channel at a place. The first channel and the first place are 0.
+    /// A sample of a channel. Channels and samples are counted from 0.
     pub fn sample(&self, ch: u32, sample: u32) -> i32
         requires channel { ch < length self.now.channels }
         requires place { sample < duration_of self.now.channels }
-        ensures { IfSome (slice_get self.now.channels ch) (λ samples. slice_get samples sample ≡ Some result) }
+        ensures { IfSome (slice_get self.now.channels ch)
+            (λ samples. slice_get samples sample ≡ Some result) }
     {
         self.channel(ch)[sample as usize]
     }
@@ -127,7 +137,7 @@ impl<A: Allocator> Block<A> {
         buffer
     }
 
-    /// The pairs of samples of the first and the second channel, place by place: `duration()` many.
+    /// The pairs of samples of the first and the second channel: `duration()` many.
     pub fn stereo_samples(&self) -> StereoSamples<'_>
         requires { length self.now.channels ≡ 2 }
         ensures left { slice_get self.now.channels 0 ≡ Some result.left.now }

@@ -30,12 +30,13 @@ mod tests;
 
 pub use parts::{ChannelAssignment, FrameHeader, KnownStreamFormat};
 
-/// Reads the header of the next frame, its guard included. None where fewer than two bytes were left, which are taken.
+/// Reads the header of the next frame with its CRC-8. None if fewer than two bytes were left, which are consumed.
 pub fn read_frame_header_or_eof<R: ReadBytes>(
     input: &mut R,
     stream: Option<KnownStreamFormat>,
 ) -> Result<Option<FrameHeader>>
-    ensures gives { FrameHeaderIsRead R.source (stream_format_view stream) input.old result input.new }
+    ensures gives { FrameHeaderIsRead R.source (stream_format_view stream)
+        input.old result input.new }
     ensures no_memory { IfErr result (λ error. is_out_of_memory error ≡ false) }
     ensures loans { KeepsLoans (R.source input.old) (R.source input.new) }
 {
@@ -51,9 +52,10 @@ pub fn read_frame_header_or_eof<R: ReadBytes>(
     }))
 }
 
-// How many samples of each channel stand before a frame.
+// The number of samples of each channel before a frame.
 fn time_of_block(fields: &HeaderFields, stream: Option<KnownStreamFormat>) -> u64
-    ensures { result ≡ time_of (stream_format_view stream) (header_of (known_width (stream_format_view stream)) (fields_view fields.now)) }
+    ensures { result ≡ time_of (stream_format_view stream)
+        (header_of (known_width (stream_format_view stream)) (fields_view fields.now)) }
 {
     match fields.block_time {
         BlockTime::SampleNumber(number) => number,
@@ -62,7 +64,7 @@ fn time_of_block(fields: &HeaderFields, stream: Option<KnownStreamFormat>) -> u6
     }
 }
 
-// How many samples stand before a frame for each frame before it.
+// The block size by which a frame number is multiplied: the fixed one of the stream, or else the frame's own.
 fn previous_block_size(block_size: u16, stream: Option<KnownStreamFormat>) -> u16
     ensures { result ≡ block_step (stream_format_view stream) block_size }
 {
@@ -76,11 +78,12 @@ fn previous_block_size(block_size: u16, stream: Option<KnownStreamFormat>) -> u1
     }
 }
 
-// The width that the header names, or else that of the stream.
+// The bit depth of the header, or that of the stream if the header gives none.
 #[tactic(auto, unfolding(claxon_format::specs::read::Header::width_at, claxon_format::specs::Fault::fault_text))]
 fn resolve_bit_depth(fields: &HeaderFields, stream: Option<KnownStreamFormat>) -> Result<u32>
     ensures value { IfOk result (λ bits. max_bit_depth fields.now.channel_assignment bits ≤ 32) }
-    ensures gives { (here : State ℕ) → Gives (λ x. x) result (width_at (known_width (stream_format_view stream)) (fields_view fields.now)) here here }
+    ensures gives { (here : State ℕ) → Gives (λ x. x) result
+        (width_at (known_width (stream_format_view stream)) (fields_view fields.now)) here here }
 {
     if let Some(bits) = fields.bits_per_sample {
         return Ok(bits);
@@ -96,19 +99,22 @@ fn resolve_bit_depth(fields: &HeaderFields, stream: Option<KnownStreamFormat>) -
     }
 }
 
-// The remainder is made here and read through by `read_and_check_fields`, over a reference: the prover loses the shape of a
-// wrapper around another that is made in the same function, and here the other one is the frame's remainder of 16 bits.
+// The CRC-8 reader is made here, and `read_and_check_fields` reads through a reference to it: the prover loses the shape of a
+// wrapper around another one that is made in the same function, and here the other one is the frame's CRC-16 reader.
 fn read_fields_with_crc<R: ReadBytes>(input: &mut R) -> Result<Option<HeaderFields>>
-    ensures { GivesOrEof 2 fields_view result fields_with_crc_at (bytes_in R.source input.old) (bytes_in R.source input.new) }
+    ensures { GivesOrEof 2 fields_view result fields_with_crc_at
+        (bytes_in R.source input.old) (bytes_in R.source input.new) }
 {
     let mut input = Crc8Reader::new(input);
     read_and_check_fields(&mut input)
 }
 
-// Reads the fields through a remainder that begins with them, and then the guard.
+// Reads the fields through a CRC-8 reader, whose CRC starts with them, and then checks the CRC.
 fn read_and_check_fields<R: ReadBytes>(input: &mut Crc8Reader<R>) -> Result<Option<HeaderFields>>
     requires { crc_state input.old ≡ 0 }
-    ensures { GivesOrEof 2 fields_view result fields_with_crc_at (bytes_in (crc_source R.source update_crc8) input.old) (bytes_in (crc_source R.source update_crc8) input.new) }
+    ensures { GivesOrEof 2 fields_view result fields_with_crc_at
+        (bytes_in (crc_source R.source update_crc8) input.old)
+        (bytes_in (crc_source R.source update_crc8) input.new) }
 {
     let Some(fields) = read_fields_or_eof(input)? else {
         return Ok(None);
@@ -120,7 +126,8 @@ fn read_and_check_fields<R: ReadBytes>(input: &mut Crc8Reader<R>) -> Result<Opti
 
 #[tactic(auto, using(claxon_input::proofs::ByteFields::first_number), unfolding(claxon_format::specs::read::Bytes::crc_at, claxon_format::specs::Fault::fault_text))]
 fn check_header_crc<R: ReadBytes>(input: &mut R, computed: u8) -> Result<()>
-    ensures { Gives (λ x. tt) result (crc_at 1 computed HeaderCrc) (bytes_in R.source input.old) (bytes_in R.source input.new) }
+    ensures { Gives (λ x. tt) result (crc_at 1 computed HeaderCrc)
+        (bytes_in R.source input.old) (bytes_in R.source input.new) }
 {
     let stored = input.read_u8()?;
     if stored != computed {
@@ -130,7 +137,8 @@ fn check_header_crc<R: ReadBytes>(input: &mut R, computed: u8) -> Result<()>
 }
 
 fn read_fields_or_eof<R: ReadBytes>(input: &mut R) -> Result<Option<HeaderFields>>
-    ensures { GivesOrEof 2 fields_view result (fields_at big_at) (bytes_in R.source input.old) (bytes_in R.source input.new) }
+    ensures { GivesOrEof 2 fields_view result (fields_at big_at)
+        (bytes_in R.source input.old) (bytes_in R.source input.new) }
 {
     let Some(blocking) = read_sync_or_eof(input)? else {
         return Ok(None);
@@ -139,7 +147,8 @@ fn read_fields_or_eof<R: ReadBytes>(input: &mut R) -> Result<Option<HeaderFields
 }
 
 fn read_fields<R: ReadBytes>(input: &mut R, blocking: BlockingStrategy) -> Result<HeaderFields>
-    ensures { Gives fields_view result (fields_after big_at (is_variable blocking)) (bytes_in R.source input.old) (bytes_in R.source input.new) }
+    ensures { Gives fields_view result (fields_after big_at (is_variable blocking))
+        (bytes_in R.source input.old) (bytes_in R.source input.new) }
 {
     let (size, rate) = read_size_and_rate(input)?;
     let (channel_assignment, bits_per_sample) = read_channels_and_bit_depth(input)?;
@@ -156,7 +165,8 @@ fn read_fields<R: ReadBytes>(input: &mut R, blocking: BlockingStrategy) -> Resul
 
 #[tactic(auto, using(claxon_input::proofs::FieldOrEof::ended))]
 fn read_sync_or_eof<R: ReadBytes>(input: &mut R) -> Result<Option<BlockingStrategy>>
-    ensures { GivesOrEof 2 is_variable result (sync_at big_at) (bytes_in R.source input.old) (bytes_in R.source input.new) }
+    ensures { GivesOrEof 2 is_variable result (sync_at big_at)
+        (bytes_in R.source input.old) (bytes_in R.source input.new) }
 {
     let Some(sync) = input.read_be_u16_or_eof()? else {
         return Ok(None);
@@ -185,7 +195,8 @@ fn blocking_strategy(sync: u16) -> Result<BlockingStrategy>
 #[tactic(auto, using(claxon_input::proofs::ByteFields::first_number), unfolding(claxon_format::specs::read::Header::codes_at, claxon_format::specs::Fault::fault_text))]
 fn read_size_and_rate<R: ReadBytes>(input: &mut R) -> Result<(BlockSize, SampleRate)>
     ensures value { IfOk result (λ codes. 1 ≤ least_size codes.0) }
-    ensures gives { Gives (λ codes. (size_view codes.0, rate_view codes.1)) result (codes_at big_at) (bytes_in R.source input.old) (bytes_in R.source input.new) }
+    ensures gives { Gives (λ codes. (size_view codes.0, rate_view codes.1)) result (codes_at big_at)
+        (bytes_in R.source input.old) (bytes_in R.source input.new) }
 {
     let codes = input.read_u8()?;
     if codes >> 4 == 0 {
@@ -197,12 +208,12 @@ fn read_size_and_rate<R: ReadBytes>(input: &mut R) -> Result<(BlockSize, SampleR
     Ok((block_size_of(codes >> 4), sample_rate_of(codes & 0b1111)))
 }
 
-// The size that a code from 1 to 15 spells.
+// The block size of a code from 1 to 15 (RFC 9639, section 9.1.1).
 fn block_size_of(code: u8) -> BlockSize
     requires some { 1 ≤ code }
     requires most { code ≤ 15 }
     ensures some { 1 ≤ least_size result }
-    ensures kind { size_view result ≡ size_coding code }
+    ensures coding { size_view result ≡ size_coding code }
 {
     match code {
         1 => BlockSize::Known(192),
@@ -223,13 +234,16 @@ fn sample_rate_of(code: u8) -> SampleRate
     }
 }
 
-// The width is None where it is that of the stream.
+// The bit depth is None if it is that of the stream.
 #[tactic(auto, using(claxon_input::proofs::ByteFields::first_number), unfolding(claxon_format::specs::read::Header::channels_at, claxon_format::specs::Fault::fault_text))]
-fn read_channels_and_bit_depth<R: ReadBytes>(input: &mut R) -> Result<(ChannelAssignment, Option<u32>)>
+fn read_channels_and_bit_depth<R: ReadBytes>(
+    input: &mut R,
+) -> Result<(ChannelAssignment, Option<u32>)>
     ensures some { IfOk result (λ codes. 1 ≤ channels_of codes.0) }
     ensures few { IfOk result (λ codes. channels_of codes.0 ≤ 8) }
     ensures named { IfOk result (λ codes. ForSome codes.1 HasBitDepthCode) }
-    ensures gives { Gives (λ codes. (channel_code codes.0, bit_depth_code codes.1)) result (channels_at big_at) (bytes_in R.source input.old) (bytes_in R.source input.new) }
+    ensures gives { Gives (λ codes. (channel_code codes.0, bit_depth_code codes.1)) result
+        (channels_at big_at) (bytes_in R.source input.old) (bytes_in R.source input.new) }
 {
     let codes = input.read_u8()?;
     let channel_assignment = match codes >> 4 {
@@ -246,12 +260,13 @@ fn read_channels_and_bit_depth<R: ReadBytes>(input: &mut R) -> Result<(ChannelAs
     Ok((channel_assignment, bits_per_sample))
 }
 
-// The width that a code names, None where it is that of the stream: whether that is known is asked behind the header's CRC.
+// The bit depth of a code, None for that of the stream. Whether the stream's is known is checked only after the header's CRC.
 #[tactic(auto, unfolding(claxon_format::specs::Fault::fault_text))]
 fn bit_depth_of(code: u8) -> Result<Option<u32>>
     requires { code < 8 }
     ensures named { IfOk result (λ width. ForSome width HasBitDepthCode) }
-    ensures gives { (here : State ℕ) → Gives bit_depth_code result (test (bit_depth_reserved code) BitDepthReserved (done code)) here here }
+    ensures gives { (here : State ℕ) → Gives bit_depth_code result
+        (test (bit_depth_reserved code) BitDepthReserved (done code)) here here }
 {
     match code {
         0 => Ok(None),
@@ -266,7 +281,8 @@ fn bit_depth_of(code: u8) -> Result<Option<u32>>
 
 #[tactic(auto, unfolding(claxon_format::specs::read::Header::number_in, claxon_format::specs::Fault::fault_text))]
 fn read_block_time<R: ReadBytes>(input: &mut R, blocking: BlockingStrategy) -> Result<BlockTime>
-    ensures { Gives block_time_view result (number_in big_at (is_variable blocking)) (bytes_in R.source input.old) (bytes_in R.source input.new) }
+    ensures { Gives block_time_view result (number_in big_at (is_variable blocking))
+        (bytes_in R.source input.old) (bytes_in R.source input.new) }
 {
     let number = read_var_length_int(input)?;
     match blocking {
@@ -283,12 +299,13 @@ fn read_block_time<R: ReadBytes>(input: &mut R, blocking: BlockingStrategy) -> R
 
 // A coded number: at most 36 bits in one to seven bytes, as UTF-8 writes characters (RFC 9639, section 9.1.5).
 //
-// The ones that the first byte begins with say how many bytes there are: none of them in a number of one byte, 0xxxxxxx, two in
-// 110xxxxx 10xxxxxx, and seven in 11111110 with six bytes behind it. A zero ends them; the bits behind it and the low six
-// bits of each byte that follows are the number, the highest first. Numbers in more bytes than they need are accepted.
+// The leading ones of the first byte give the number of bytes: none in a single byte 0xxxxxxx, two in 110xxxxx 10xxxxxx, and
+// seven in 11111110 with six continuation bytes. The bits after the first zero and the low six bits of each continuation byte
+// are the number, most significant first. Overlong numbers are accepted.
 #[tactic(auto, using(claxon_input::proofs::ByteFields::first_number), unfolding(claxon_format::specs::read::CodedNumber::coded_number_at, claxon_format::specs::Fault::fault_text))]
 fn read_var_length_int<R: ReadBytes>(input: &mut R) -> Result<u64>
-    ensures { Gives (λ x. x) result (coded_number_at big_at) (bytes_in R.source input.old) (bytes_in R.source input.new) }
+    ensures { Gives (λ x. x) result (coded_number_at big_at)
+        (bytes_in R.source input.old) (bytes_in R.source input.new) }
 {
     let first = input.read_u8()?;
     let ones = first.leading_ones();
@@ -301,18 +318,19 @@ fn read_var_length_int<R: ReadBytes>(input: &mut R) -> Result<u64>
     read_continuation_bytes(input, ones - 1, u64::from(first & (0x7f >> ones)))
 }
 
-// A byte 10xxxxxx follows a first one, and 11111111 begins no number.
+// A byte 10xxxxxx is a continuation byte, and 11111111 is in no number.
 fn is_invalid_first_byte(first: u8) -> bool
     ensures { result ≡ bad_first first }
 {
     matches!(first, 0x80..=0xbf | 0xff)
 }
 
-// So many bytes more of a number, six bits each.
+// `count` continuation bytes of a number, six bits each.
 fn read_continuation_bytes<R: ReadBytes>(input: &mut R, count: u32, number: u64) -> Result<u64>
     requires count { count ≤ 6 }
     requires number { number < 64 }
-    ensures { Gives (λ x. x) result (continuation_bytes_at big_at count number) (bytes_in R.source input.old) (bytes_in R.source input.new) }
+    ensures { Gives (λ x. x) result (continuation_bytes_at big_at count number)
+        (bytes_in R.source input.old) (bytes_in R.source input.new) }
 {
     let mut number = number;
     for _ in 0..count {
@@ -321,12 +339,13 @@ fn read_continuation_bytes<R: ReadBytes>(input: &mut R, count: u32, number: u64)
     Ok(number)
 }
 
-// Six bits of a number.
+// The six bits of a continuation byte.
 #[inline(always)]
 #[tactic(auto, using(claxon_input::proofs::ByteFields::first_number), unfolding(claxon_format::specs::read::CodedNumber::continuation_byte_at, claxon_format::specs::Fault::fault_text))]
 fn read_continuation_byte<R: ReadBytes>(input: &mut R) -> Result<u8>
     ensures fits { IfOk result (λ bits. bits < 64) }
-    ensures gives { Gives (λ x. x) result (continuation_byte_at big_at) (bytes_in R.source input.old) (bytes_in R.source input.new) }
+    ensures gives { Gives (λ x. x) result (continuation_byte_at big_at)
+        (bytes_in R.source input.old) (bytes_in R.source input.new) }
 {
     let byte = input.read_u8()?;
     if byte >> 6 != 0b10 {
@@ -339,7 +358,8 @@ fn read_continuation_byte<R: ReadBytes>(input: &mut R) -> Result<u8>
 fn read_block_size<R: ReadBytes>(input: &mut R, size: BlockSize) -> Result<u16>
     requires { 1 ≤ least_size size }
     ensures value { IfOk result (λ n. 1 ≤ n) }
-    ensures gives { Gives (λ x. x) result (size_at big_at (size_view size)) (bytes_in R.source input.old) (bytes_in R.source input.new) }
+    ensures gives { Gives (λ x. x) result (size_at big_at (size_view size))
+        (bytes_in R.source input.old) (bytes_in R.source input.new) }
 {
     match size {
         BlockSize::Known(n) => Ok(n),
@@ -356,7 +376,8 @@ fn read_block_size<R: ReadBytes>(input: &mut R, size: BlockSize) -> Result<u16>
 
 #[tactic(auto, using(claxon_input::proofs::ByteFields::first_number), unfolding(claxon_format::specs::read::Header::rate_at))]
 fn skip_rate<R: ReadBytes>(input: &mut R, rate: SampleRate) -> Result<()>
-    ensures { Gives (λ x. tt) result (rate_at big_at (rate_view rate)) (bytes_in R.source input.old) (bytes_in R.source input.new) }
+    ensures { Gives (λ x. tt) result (rate_at big_at (rate_view rate))
+        (bytes_in R.source input.old) (bytes_in R.source input.new) }
 {
     match rate {
         SampleRate::Known => {}

@@ -1,4 +1,4 @@
-//! Left and right from two coded channels, in place (RFC 9639, section 4.2). All sums are modulo 2^32.
+//! Undoes stereo decorrelation in place (RFC 9639, section 4.2). All sums are modulo 2^32.
 ghost use Rattle.std.specs.Prelude.{◌≤◌};
 ghost use Rattle.claxon_frame.specs.FrameHeader.{channels_of};
 ghost use Rattle.claxon_frame.specs.Decorrelation.{ChannelsAreDecoded, PairIsDecoded};
@@ -8,7 +8,8 @@ use super::header::ChannelAssignment;
 #[cfg(test)]
 mod tests;
 
-/// Turns the coded channels, which stand one after another, into those that they stand for.
+/// Turns left/side, side/right or mid/side channels, one after the other in the buffer, into left and right. Independent
+/// channels stay as they are.
 pub fn undo_decorrelation(channel_assignment: ChannelAssignment, buffer: &mut [i32])
     requires { channels_of channel_assignment ≤ 8 }
     ensures { ChannelsAreDecoded channel_assignment buffer.old buffer.new }
@@ -21,8 +22,7 @@ pub fn undo_decorrelation(channel_assignment: ChannelAssignment, buffer: &mut [i
     }
 }
 
-// The side is left less right. Two channels that are much alike have a small side, which takes few bits; the other channel is
-// coded as it is.
+// Side is left minus right. If both channels are alike it is small, and takes few bits.
 #[inline(never)]
 fn decode_left_side(buffer: &mut [i32])
     ensures { PairIsDecoded 8 buffer.old buffer.new }
@@ -34,7 +34,7 @@ fn decode_left_side(buffer: &mut [i32])
     }
 }
 
-// The side comes first here, and right is coded as it is.
+// The side channel comes first here.
 #[inline(never)]
 fn decode_right_side(buffer: &mut [i32])
     ensures { PairIsDecoded 9 buffer.old buffer.new }
@@ -46,9 +46,9 @@ fn decode_right_side(buffer: &mut [i32])
     }
 }
 
-// Mid is half of left plus right, rounded down, and side is left less right. The half loses the lowest bit of the sum, but a sum
-// and a difference of the same two numbers are both even or both odd: the bit that is lost is the lowest of side. The sum and
-// the difference together are twice left, and the sum without the difference is twice right.
+// Mid is half of left plus right, rounded down, and side is left minus right. Halving drops the lowest bit of the sum, but the
+// sum and the difference of two numbers are both even or both odd, so it is the lowest bit of side. Sum plus difference is
+// twice left, and sum minus difference is twice right.
 #[inline(never)]
 fn decode_mid_side(buffer: &mut [i32])
     ensures { PairIsDecoded 10 buffer.old buffer.new }

@@ -1,4 +1,4 @@
-//! Samples at their places.
+//! Samples by channel and number.
 use super::*;
 use std::test::Fail;
 

@@ -1,36 +1,36 @@
-//! What a frame's header says.
+//! The parts of a frame header.
 ghost use Rattle.std.specs.Prelude.{◌≡◌, ◌≤◌};
 ghost use Rattle.std.specs.Option.{ForSome};
 ghost use Rattle.claxon_frame.specs.FrameHeader.{HasBitDepthCode, IsSubframeBitDepth, channels_of, max_bit_depth};
 
-/// What is known of the stream before its frames.
+/// What is known of the frames from the streaminfo.
 #[derive(Clone, Copy)]
 pub struct KnownStreamFormat {
-    /// The width of the samples where a header names none, 1 to 32 bits.
+    /// The bit depth where a frame header gives none, 1 to 32.
     pub bits_per_sample: u32,
 
-    /// The least and the greatest size of a block. Where they are one all blocks but the last have it.
+    /// The minimum and the maximum block size. If they are equal all blocks but the last have this size.
     pub min_block_size: u16,
     pub max_block_size: u16,
     ghost some: { 1 ≤ bits_per_sample },
     ghost most: { bits_per_sample ≤ 32 },
 }
 
-/// Whether all blocks but the last have one size.
+/// Whether all blocks but the last have the same size.
 #[derive(Clone, Copy)]
 pub enum BlockingStrategy {
     Fixed,
     Variable,
 }
 
-/// The coded number of a header: of the frame in fixed blocking, of its first sample in variable blocking.
+/// The coded number of a header: that of the frame if the block size is fixed, that of its first sample if it is variable.
 #[derive(Clone, Copy)]
 pub enum BlockTime {
     FrameNumber(u32),
     SampleNumber(u64),
 }
 
-/// How the channels are coded: as they are, or one of two as the difference of left and right.
+/// The channel assignment: independent channels, or left/side, side/right or mid/side stereo.
 #[derive(Clone, Copy)]
 pub enum ChannelAssignment {
     Independent(u8),
@@ -39,7 +39,7 @@ pub enum ChannelAssignment {
     MidSideStereo,
 }
 
-/// The number of samples, or how many bits of it follow the coded number, less one.
+/// The block size, or the number of bits after the coded number that give it, minus one.
 #[derive(Clone, Copy)]
 pub enum BlockSize {
     Known(u16),
@@ -47,7 +47,7 @@ pub enum BlockSize {
     Read16,
 }
 
-/// How many bits of the sample rate follow the size. The rate isn't shown anywhere.
+/// The number of bits after the block size that give the sample rate. The rate isn't returned.
 #[derive(Clone, Copy)]
 pub enum SampleRate {
     Known,
@@ -55,7 +55,7 @@ pub enum SampleRate {
     Read16,
 }
 
-/// A frame's header.
+/// A frame header.
 #[derive(Clone, Copy)]
 pub struct FrameHeader {
     /// The number of samples of each channel before this frame.
@@ -68,10 +68,10 @@ pub struct FrameHeader {
     ghost some_samples: { 1 ≤ block_size },
     ghost some_channels: { 1 ≤ channels_of channel_assignment },
     ghost few_channels: { channels_of channel_assignment ≤ 8 },
-    ghost narrow: { max_bit_depth channel_assignment bits_per_sample ≤ 32 },
+    ghost max_bits: { max_bit_depth channel_assignment bits_per_sample ≤ 32 },
 }
 
-/// The fields of a header before its guard.
+/// The fields of a header before its CRC.
 #[derive(Clone, Copy)]
 pub struct HeaderFields {
     pub block_time: BlockTime,
@@ -96,8 +96,8 @@ impl ChannelAssignment {
         }
     }
 
-    /// The width of a coded channel: a side channel has one bit more.
-    pub fn width(self, bits_per_sample: u32, ch: u8) -> u32
+    /// The bit depth of a subframe: that of a side channel has one bit more.
+    pub fn bit_depth(self, bits_per_sample: u32, ch: u8) -> u32
         requires { max_bit_depth self bits_per_sample ≤ 32 }
         ensures most { result ≤ 32 }
         ensures value { IsSubframeBitDepth self bits_per_sample ch result }

@@ -1,8 +1,8 @@
-//! CodedNumber numbers.
+//! Coded numbers.
 use super::*;
 use std::io::Cursor;
 
-// One to four bytes; a byte after which none goes on; a byte that begins no number.
+// Numbers of one to four bytes; a first byte without its continuation byte; an invalid first byte.
 #[test]
 fn coded_numbers(rt: HostRuntime) {
     let bytes = [
@@ -12,9 +12,9 @@ fn coded_numbers(rt: HostRuntime) {
     for want in [0x24, 0xa2, 0x20ac, 0x10348] {
         assert!(rt; read_var_length_int(&mut input).ok() == Some(want));
     }
-    for taken in [12, 13] {
+    for consumed in [12, 13] {
         let fault = read_var_length_int(&mut input).err();
         assert!(rt; fault == Some(Error::FormatError("invalid variable-length integer")));
-        assert!(rt; input.position() == taken);
+        assert!(rt; input.position() == consumed);
     }
 }

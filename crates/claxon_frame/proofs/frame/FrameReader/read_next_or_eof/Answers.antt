@@ -15,8 +15,8 @@ returns-clause-complete g c =
     let e = (frame_promises block_view _ (stream_is_width c.args.self.now.stream) c.read_next_or_eof_exact.result _ _ c.read_next_or_eof_exact.ensures.gives).complete in
     search depth 1
 
-pub returns-clause-one_reading : goal.returns-clause-one_reading
-returns-clause-one_reading g c = frames_unambiguous _ (stream_is_width c.args.self.now.stream)
+pub returns-clause-unambiguous : goal.returns-clause-unambiguous
+returns-clause-unambiguous g c = frames_unambiguous _ (stream_is_width c.args.self.now.stream)
 
 pub returns-clause-lossless : goal.returns-clause-lossless
 returns-clause-lossless g c f header plans channels fits suits =
@@ -62,9 +62,9 @@ returns-clause-memory g c =
     let e = memory_is _ _ c.read_next_or_eof_exact.result _ _ c.read_next_or_eof_exact.ensures.buffer_too_small in
     search depth 1
 
-pub returns-clause-room : goal.returns-clause-room
-returns-clause-room g c =
-    let e = when_out_of_memory c.read_next_or_eof_exact.result c.read_next_or_eof_exact.ensures.room in
+pub returns-clause-max_capacity : goal.returns-clause-max_capacity
+returns-clause-max_capacity g c =
+    let e = when_out_of_memory c.read_next_or_eof_exact.result c.read_next_or_eof_exact.ensures.max_capacity in
     search depth 1
 
 pub returns-clause-gives : goal.returns-clause-gives

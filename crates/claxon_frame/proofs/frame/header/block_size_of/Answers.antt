@@ -10,5 +10,5 @@ small (suc (suc (suc (suc (suc zero))))) lo hi = refl
 small (suc (suc (suc (suc (suc (suc n)))))) lo hi = absurd (omega arith)
 small _ lo hi = absurd (omega arith)
 
-pub returns-in_default-clause-kind : goal.returns-in_default-clause-kind
-returns-in_default-clause-kind c = small c.args.code (omega arith) (omega arith)
+pub returns-in_default-clause-coding : goal.returns-in_default-clause-coding
+returns-in_default-clause-coding c = small c.args.code (omega arith) (omega arith)

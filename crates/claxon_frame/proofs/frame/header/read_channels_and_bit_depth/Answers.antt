@@ -18,11 +18,11 @@ use Rattle.claxon_subframe.proofs.ConsecutiveFields.{then_consumes, then_stops}
 use Rattle.claxon_frame.proofs.frame.header.read_channels_and_bit_depth.Goals as goal
 use Rattle.claxon_frame.proofs.frame.header.read_channels_and_bit_depth.Goals.{then-n-lt8, else-n-lt8+in-8, else-n-lt8+in-9, else-n-lt8+in-10}
 
--- what is asked of the byte that holds the codes
-asked : (c : ℕ) {a b : State ℕ} → Consumes a b (λ s m. big_at 1 s ≡ Done c m)
+-- the checks of the byte that holds both codes
+checked_codes : (c : ℕ) {a b : State ℕ} → Consumes a b (λ s m. big_at 1 s ≡ Done c m)
     → Consumes a b (λ s m. channels_at big_at s ≡ test (ltb 10 (c / 16)) ChannelsReserved (test (bit_depth_reserved (c / 2 % 8)) BitDepthReserved (test (eqb (c % 2) 1) SecondReservedBit (done (c / 16, c / 2 % 8)))) m)
 unfolding channels_at
-asked c {a = a} h = then_consumes _ (consumes_none a _ refl) h
+checked_codes c {a = a} h = then_consumes _ (consumes_none a _ refl) h
 
 pub returns-in_err-codes-clause-gives : goal.returns-in_err-codes-clause-gives
 unfolding channels_at
@@ -32,12 +32,12 @@ pub returns-in_default-2-clause-gives : goal.returns-in_default-2-clause-gives
 unfolding fault_text
 returns-in_default-2-clause-gives g c =
     let reserved : ltb 10 (c.in_ok-codes.codes / 16) ≡ true = lt-ltb _ _ (omega arith) in
-    stops_fault ChannelsReserved refl refl (refl, refl) (consumes_map _ (asked c.in_ok-codes.codes (consumes_byte g.R.ReadBytes.source c.in_ok-codes.codes (search rules) c.in_ok-codes.ensures.ok)) (λ p. rw (p, reserved) refl))
+    stops_fault ChannelsReserved refl refl (refl, refl) (consumes_map _ (checked_codes c.in_ok-codes.codes (consumes_byte g.R.ReadBytes.source c.in_ok-codes.codes (search rules) c.in_ok-codes.ensures.ok)) (λ p. rw (p, reserved) refl))
 
--- behind the channels' code stands that of the width
+-- the bit depth code follows the channel code
 bit_depth_next : (c code : ℕ) {a b : State ℕ} → code ≡ c / 2 % 8 → ltb 10 (c / 16) ≡ false → Consumes a b (λ s m. big_at 1 s ≡ Done c m)
     → Consumes a b (λ s m. channels_at big_at s ≡ bind (test (bit_depth_reserved code) BitDepthReserved (done code) m) (λ w. test {A = ℕ × ℕ} (eqb (c % 2) 1) SecondReservedBit (done (c / 16, w))))
-bit_depth_next c code {b = b} low spelled h = consumes_map _ (asked c h) (λ p. rw (p, spelled, ← low) (split (bit_depth_reserved code)))
+bit_depth_next c code {b = b} low not_reserved h = consumes_map _ (checked_codes c h) (λ p. rw (p, not_reserved, ← low) (split (bit_depth_reserved code)))
   where
     split : (r : Bool) → test r BitDepthReserved (test {A = ℕ × ℕ} (eqb (c % 2) 1) SecondReservedBit (done (c / 16, code))) b.remaining ≡ bind (test r BitDepthReserved (done code) b.remaining) (λ w. test {A = ℕ × ℕ} (eqb (c % 2) 1) SecondReservedBit (done (c / 16, w)))
     split true = refl
@@ -45,7 +45,7 @@ bit_depth_next c code {b = b} low spelled h = consumes_map _ (asked c h) (λ p. 
 
 pub returns-in_err-bits_per_sample-clause-gives : goal.returns-in_err-bits_per_sample-clause-gives
 returns-in_err-bits_per_sample-clause-gives g c =
-    let spelled : ltb 10 (c.in_ok-codes.codes / 16) ≡ false = elim c.if-n-lt8.branch [
+    let not_reserved : ltb 10 (c.in_ok-codes.codes / 16) ≡ false = elim c.if-n-lt8.branch [
       | then-n-lt8 w ↦ le-ltb _ _ (omega arith)
       | else-n-lt8+in-8 w ↦ le-ltb _ _ (omega arith)
       | else-n-lt8+in-9 w ↦ le-ltb _ _ (omega arith)
@@ -53,12 +53,12 @@ returns-in_err-bits_per_sample-clause-gives g c =
     ] in
     let low : bit_and (c.in_ok-codes.codes / 2) 7 ≡ c.in_ok-codes.codes / 2 % 8 = and_mask (c.in_ok-codes.codes / 2) 3 in
     exit _ (err_from_is_err_and c.from_residual-in_err-bits_per_sample.result c.from_residual-in_err-bits_per_sample.ensures.1)
-    (then_stops _ (bit_depth_next c.in_ok-codes.codes _ low spelled (consumes_byte g.R.ReadBytes.source c.in_ok-codes.codes (search rules) c.in_ok-codes.ensures.ok)) (c.in_err-bits_per_sample.ensures.gives _))
+    (then_stops _ (bit_depth_next c.in_ok-codes.codes _ low not_reserved (consumes_byte g.R.ReadBytes.source c.in_ok-codes.codes (search rules) c.in_ok-codes.ensures.ok)) (c.in_err-bits_per_sample.ensures.gives _))
 
 pub returns-then-codes-eq1-clause-gives : goal.returns-then-codes-eq1-clause-gives
 unfolding fault_text
 returns-then-codes-eq1-clause-gives g c =
-    let spelled : ltb 10 (c.in_ok-codes.codes / 16) ≡ false = elim c.if-n-lt8.branch [
+    let not_reserved : ltb 10 (c.in_ok-codes.codes / 16) ≡ false = elim c.if-n-lt8.branch [
       | then-n-lt8 w ↦ le-ltb _ _ (omega arith)
       | else-n-lt8+in-8 w ↦ le-ltb _ _ (omega arith)
       | else-n-lt8+in-9 w ↦ le-ltb _ _ (omega arith)
@@ -66,7 +66,7 @@ returns-then-codes-eq1-clause-gives g c =
     ] in
     let low : bit_and (c.in_ok-codes.codes / 2) 7 ≡ c.in_ok-codes.codes / 2 % 8 = and_mask (c.in_ok-codes.codes / 2) 3 in
     let odd : c.in_ok-codes.codes % 2 ≡ 1 = sym (and_mask c.in_ok-codes.codes 1) ∙ c.if-codes-eq1.true in
-    stops_fault SecondReservedBit refl refl (refl, refl) (consumes_map _ (then_consumes _ (bit_depth_next c.in_ok-codes.codes _ low spelled (consumes_byte g.R.ReadBytes.source c.in_ok-codes.codes (search rules) c.in_ok-codes.ensures.ok)) (c.in_ok-bits_per_sample.ensures.gives _)) (λ p. rw (p, odd) refl))
+    stops_fault SecondReservedBit refl refl (refl, refl) (consumes_map _ (then_consumes _ (bit_depth_next c.in_ok-codes.codes _ low not_reserved (consumes_byte g.R.ReadBytes.source c.in_ok-codes.codes (search rules) c.in_ok-codes.ensures.ok)) (c.in_ok-bits_per_sample.ensures.gives _)) (λ p. rw (p, odd) refl))
 
 pub returns-clause-gives : goal.returns-clause-gives
 returns-clause-gives g c =

@@ -10,8 +10,8 @@ use Rattle.claxon_frame.specs.FrameHeader.{is_variable}
 use Rattle.claxon_subframe.proofs.ConsecutiveFields.{then_consumes, then_stops}
 use Rattle.claxon_frame.proofs.frame.header.read_fields.Goals as goal
 
-begins : (variable : Bool) (a : State ℕ) → Consumes a a (λ s m. fields_after big_at variable s ≡ and_then (codes_at big_at) (λ spelled. and_then (channels_at big_at) (λ codes. and_then (number_in big_at variable) (λ time.
-    and_then (size_at big_at spelled.0) (λ size. and_then (rate_at big_at spelled.1) (λ rate. done (fields_of time codes size)))))) m)
+begins : (variable : Bool) (a : State ℕ) → Consumes a a (λ s m. fields_after big_at variable s ≡ and_then (codes_at big_at) (λ codings. and_then (channels_at big_at) (λ codes. and_then (number_in big_at variable) (λ time.
+    and_then (size_at big_at codings.0) (λ size. and_then (rate_at big_at codings.1) (λ rate. done (fields_of time codes size)))))) m)
 unfolding fields_after
 begins variable a = consumes_none a _ refl
 

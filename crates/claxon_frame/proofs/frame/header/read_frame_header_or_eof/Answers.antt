@@ -13,7 +13,7 @@ use Rattle.claxon_input.proofs.Memory.{stops_not_out_of_memory}
 use Rattle.claxon_input.proofs.FieldOrEof.{after_first, exit_or_eof, first_stops, some_ok, some_stops}
 use Rattle.claxon_frame.proofs.frame.header.read_frame_header_or_eof.Goals as goal
 
--- what the fields say, read behind them
+-- what is still to be read, or checked, after the fields and the CRC
 start_after : Option StreamFormat → Fields → List ℕ → Reading ℕ Start
 start_after stream f = and_then (width_at (known_width stream) f) (λ w. done (start_of stream (header_with f w)))
 
@@ -55,7 +55,7 @@ returns-in_err-bits_per_sample-clause-no_memory g c =
     let p = err_from_is_err_and c.from_residual-in_err-bits_per_sample.result c.from_residual-in_err-bits_per_sample.ensures.1 in
     rw (p.1, p.2) (stops_not_out_of_memory _ _ _ _ (c.in_err-bits_per_sample.ensures.gives (bytes_in g.R.ReadBytes.source c.args.input.now)))
 
--- nothing is read behind the guard
+-- nothing is read after the CRC
 
 pub returns-in_err-fields-clause-loans : goal.returns-in_err-fields-clause-loans
 unfolding bytes_in

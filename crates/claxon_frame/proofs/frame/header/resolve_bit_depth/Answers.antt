@@ -14,27 +14,27 @@ use Rattle.claxon_frame.specs.declared.frame.header.parts.KnownStreamFormat.{Kno
 use Rattle.claxon_frame.proofs.BitDepthCodes.{code_names}
 use Rattle.claxon_frame.proofs.frame.header.resolve_bit_depth.Goals as goal
 
--- the width that is named
+-- the bit depth that the header gives
 named_read : (stream : Option StreamFormat) (f : Fields) (bits : ℕ) (s : List ℕ) → f.bit_depth_code ≡ bit_depth_code (Some bits) → HasBitDepthCode bits → width_at (known_width stream) f s ≡ Done bits s
 unfolding width_at
 named_read stream f bits s e h = let n = code_names (known_width stream) bits h in rw (e, n.some, n.value) refl
 
 -- a side channel has one bit more at most
-wide : (a : ChannelAssignment) (bits : ℕ) → bits ≤ 24 → max_bit_depth a bits ≤ 32
-wide (Independent n) bits few = omega arith
-wide LeftSideStereo bits few = omega arith
-wide RightSideStereo bits few = omega arith
-wide MidSideStereo bits few = omega arith
+side_fits : (a : ChannelAssignment) (bits : ℕ) → bits ≤ 24 → max_bit_depth a bits ≤ 32
+side_fits (Independent n) bits few = omega arith
+side_fits LeftSideStereo bits few = omega arith
+side_fits RightSideStereo bits few = omega arith
+side_fits MidSideStereo bits few = omega arith
 
 pub returns-in-Some-clause-value : goal.returns-in-Some-clause-value
 returns-in-Some-clause-value c =
-    wide c.args.fields.now.channel_assignment c.in-Some.bits (code_names None c.in-Some.bits (c.args.fields.now.named c.in-Some.bits c.in-Some.is)).few
+    side_fits c.args.fields.now.channel_assignment c.in-Some.bits (code_names None c.in-Some.bits (c.args.fields.now.named c.in-Some.bits c.in-Some.is)).few
 
 pub returns-in-Some-clause-gives : goal.returns-in-Some-clause-gives
 returns-in-Some-clause-gives c here =
     consumes_none here _ (named_read (stream_format_view c.args.stream) (fields_view c.args.fields.now) c.in-Some.bits here.remaining (rw c.in-Some.is refl) (c.args.fields.now.named c.in-Some.bits c.in-Some.is))
 
--- the width of the stream, where no channel is a difference
+-- the bit depth of the stream, if there is no side channel
 and_false : (b : Bool) → (b && false) ≡ false
 and_false true = refl
 and_false false = refl

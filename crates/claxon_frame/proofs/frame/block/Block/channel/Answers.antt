@@ -23,7 +23,7 @@ pub returns-clause-len : goal.returns-clause-len
 returns-clause-len g c =
     let n : length c.args.self.now.channels ≡ c.self.inside.channels = rw (← c.self.view_is) (length-chunks _ _ _) in
     let few : c.args.ch < c.self.inside.channels = omega (arith, c.requires) in
-    let room = chunk_ends c.self.inside.channels c.self.inside.duration c.args.ch few in
+    let fits = chunk_ends c.self.inside.channels c.self.inside.duration c.args.ch few in
     let d = duration-chunks c.self.inside.channels c.self.inside.duration c.self.inside.buffer.items c.self.invariant.0 c.self.invariant.3 in
     let same : c.args.ch * c.self.inside.duration + c.self.inside.duration - c.args.ch * c.self.inside.duration ≡ c.self.inside.duration = omega arith in
     let whole : length c.deref.result.now ≡ c.self.inside.channels * c.self.inside.duration = ap length c.deref.ensures.value ∙ c.self.invariant.0 in

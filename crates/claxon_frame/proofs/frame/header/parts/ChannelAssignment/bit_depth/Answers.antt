@@ -1,6 +1,6 @@
 use Rattle.std.proofs.Common.{arith}
 use Rattle.std.proofs.lemmas.Grind.{common_steps}
-use Rattle.claxon_frame.proofs.frame.header.parts.ChannelAssignment.width.Goals as goal
+use Rattle.claxon_frame.proofs.frame.header.parts.ChannelAssignment.bit_depth.Goals as goal
 
 pub returns-clause-value : goal.returns-clause-value
 returns-clause-value c = grind (arith, common_steps)
