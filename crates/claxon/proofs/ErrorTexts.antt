@@ -1,4 +1,4 @@
--- An Err that names a fault, told by its text alone.
+-- The fault that an Err names, by its text.
 use Rattle.std.proofs.Common.{◌≡◌, Bool, true, false, inl, inr, List, refl, sym}
 use Rattle.std.specs.Prelude.{Result, Ok, Err, not, ◌==◌, ◌&&◌}
 use Rattle.std.specs.Cmp.Lexicographic.{pointwise, same_text}
@@ -17,7 +17,7 @@ both_true : (p q : Bool) → (p && q) ≡ true → (p ≡ true) × (q ≡ true)
 both_true true q e = (refl, e)
 both_true false q e = absurd cc
 
--- an error of a fault's kind with its text names it
+-- an error of a fault's variant with its text names it
 named_fault : (e : Error) → is_io e ≡ false → is_named e ≡ true → (f : Fault) × IsFault f e
 named_fault (IoError cause) io named = absurd cc
 named_fault (FormatError text) io named =

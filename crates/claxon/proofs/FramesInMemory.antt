@@ -1,4 +1,4 @@
--- What a call answers that reads a frame of bytes in memory.
+-- The answer of a call that reads a frame of bytes in memory.
 use Rattle.std.proofs.Common.{◌≡◌, ◌⊎◌, inl, inr, ℕ, ◌<◌, true, List, [], ◌++◌, length, drop, Option, None, Some, sym, ap, subst, ◌∙◌, refl, Bor}
 use Rattle.std.specs.Prelude.{Ok, Err}
 use Rattle.std.specs.declared.io.Cursor.{Cursor}
@@ -14,26 +14,26 @@ use Rattle.claxon.specs.Prefix.{BeginsWith}
 use Rattle.claxon.specs.FramesInMemory.{SliceFrameIsSound, SliceFrameIsComplete, SliceFrameFaultIsComplete, SliceFrameFaultIsSound, SliceFrameNoneIffEof, SliceFrameOutOfMemoryAfterHeader}
 use Rattle.claxon.proofs.InMemory.{cursor_remains, cursor_never_fails, new_cursor_remains}
 
--- all that is promised of such a call
+-- all clauses of such a call
 pub record SliceFramePromises (stream : Option StreamFormat) (bytes : List ℕ) (r : FrameAnswer) : Type 0 where
   pub sound : SliceFrameIsSound stream bytes r
   pub complete : SliceFrameIsComplete stream bytes r
-  pub end : SliceFrameNoneIffEof bytes r
+  pub eof : SliceFrameNoneIffEof bytes r
   pub fault : SliceFrameFaultIsSound stream bytes r
   pub named : SliceFrameFaultIsComplete stream bytes r
   pub memory : SliceFrameOutOfMemoryAfterHeader stream bytes r
 
--- what was taken from known bytes stands at their front
+-- the known bytes begin with what was consumed of them
 pub begins_with_consumed : {C : List ℕ → Type 0} (a b : State ℕ) (bytes : List ℕ) → Remains a bytes → Consumed a b C → BeginsWith C bytes
 begins_with_consumed a b bytes c h = let k = (h c.known).1 in (k.0, b.remaining, k.1, sym c.are ∙ k.2)
 
-module _ (stream : Option StreamFormat) (bytes : List ℕ) (a b : State ℕ) (comes : Remains a bytes) (never : FailedIn a b → ⊥) where
+module _ (stream : Option StreamFormat) (bytes : List ℕ) (a b : State ℕ) (remains : Remains a bytes) (never : FailedIn a b → ⊥) where
   there : (t rest : List ℕ) → bytes ≡ t ++ rest → Remains a (t ++ rest)
-  there t rest e = record { known = comes.known; are = comes.are ∙ e }
+  there t rest e = record { known = remains.known; are = remains.are ∙ e }
 
   slice_frame_sound : (r : FrameAnswer) → FoundIsSound block_view r (Frame stream) a b → SliceFrameIsSound stream bytes r
   slice_frame_sound (Ok None) h = tt
-  slice_frame_sound (Ok (Some block)) h = begins_with_consumed a b bytes comes h
+  slice_frame_sound (Ok (Some block)) h = begins_with_consumed a b bytes remains h
   slice_frame_sound (Err e) h = tt
 
   slice_frame_complete : (r : FrameAnswer) → FoundIsComplete block_view r (Frame stream) a b → SliceFrameIsComplete stream bytes r
@@ -48,7 +48,7 @@ module _ (stream : Option StreamFormat) (bytes : List ℕ) (a b : State ℕ) (co
   slice_fault_sound (Err e) h = elim h [
     | inl m ↦ inl m
     | inr (inl i) ↦ inr (inl i)
-    | inr (inr k) ↦ inr (inr (let f = k comes.known in (f.0, f.1, begins_with_consumed a b bytes comes f.2)))
+    | inr (inr k) ↦ inr (inr (let f = k remains.known in (f.0, f.1, begins_with_consumed a b bytes remains f.2)))
   ]
 
   slice_fault_complete : (r : FrameAnswer) → FaultIsComplete r (FrameBytesFault stream) a b → SliceFrameFaultIsComplete stream bytes r
@@ -59,19 +59,19 @@ module _ (stream : Option StreamFormat) (bytes : List ℕ) (a b : State ℕ) (co
   ]
 
   slice_none_iff_eof : (r : FrameAnswer) → NoneIsEof 2 r a b → ((xs : List ℕ) → Remains a xs → length xs < 2 → ((r ≡ Ok None) × Remains b []) ⊎ HasFailed r a b) → SliceFrameNoneIffEof bytes r
-  slice_none_iff_eof r h k = (λ e. only_few r h e, λ few. elim (k bytes comes few) [ inl p ↦ p.0 | inr f ↦ absurd (never f.1) ])
+  slice_none_iff_eof r h k = (λ e. only_few r h e, λ few. elim (k bytes remains few) [ inl p ↦ p.0 | inr f ↦ absurd (never f.1) ])
     where
       only_few : (r : FrameAnswer) → NoneIsEof 2 r a b → r ≡ Ok None → length bytes < 2
-      only_few r h e = let n : None ≡ None → a.known ≡ true → (length a.remaining < 2) × Remains b [] = rw e at h in subst (λ (s : List ℕ). length s < 2) comes.are (n refl comes.known).0
+      only_few r h e = let n : None ≡ None → a.known ≡ true → (length a.remaining < 2) × Remains b [] = rw e at h in subst (λ (s : List ℕ). length s < 2) remains.are (n refl remains.known).0
 
   pub slice_frame_promises : (r : FrameAnswer) → ReadsFrame stream r a b → ((xs : List ℕ) → Remains a xs → length xs < 2 → ((r ≡ Ok None) × Remains b []) ⊎ HasFailed r a b) → SliceFramePromises stream bytes r
   slice_frame_promises r h ended = record {
     sound = slice_frame_sound r h.promises.sound;
     complete = slice_frame_complete r h.promises.complete;
-    end = slice_none_iff_eof r h.promises.at_end ended;
+    eof = slice_none_iff_eof r h.promises.at_end ended;
     fault = slice_fault_sound r h.promises.fault;
     named = slice_fault_complete r h.promises.named;
-    memory = λ s. begins_with_consumed a b bytes comes (h.memory s);
+    memory = λ s. begins_with_consumed a b bytes remains (h.memory s);
   }
 
 -- ---- a cursor over a slice
@@ -90,19 +90,19 @@ SliceFrames = FrameReader (Cursor (Bor (List ℕ)))
 abbrev pub slice_bytes : SliceFrames → State ℕ
 slice_bytes = frame_bytes (cursor_source (λ (s : Bor (List ℕ)). s.now))
 
--- a new one has the slice to come
+-- a new one has the whole slice remaining
 pub slice_remains : (reader : SliceFrames) (c : Cursor (Bor (List ℕ))) (slice : Bor (List ℕ)) → frame_input reader ≡ c → cursor_position c ≡ 0 → cursor_inner c ≡ slice → Remains (slice_bytes reader) slice.now
 slice_remains reader c slice e at is =
     new_cursor_remains (λ (s : Bor (List ℕ)). s.now) (frame_input reader) slice (ap (λ (z : Cursor (Bor (List ℕ))). cursor_position z) e ∙ at) (ap (λ (z : Cursor (Bor (List ℕ))). cursor_inner z) e ∙ is)
 
--- and never fails
+-- and no read of it fails
 pub slice_never_fails : (old new : SliceFrames) → FailedIn (slice_bytes old) (slice_bytes new) → ⊥
 slice_never_fails old new = cursor_never_fails (λ (s : Bor (List ℕ)). s.now) (frame_input old) (frame_input new)
 
--- what the cursor that it gives back didn't take is left
+-- the bytes that its cursor didn't consume remain
 pub slice_left : (reader : SliceFrames) (c : Cursor (Bor (List ℕ))) (slice : Bor (List ℕ)) (n : ℕ) → c ≡ frame_input reader → slice ≡ cursor_inner c → n ≡ cursor_position c → Remains (slice_bytes reader) (drop n slice.now)
 slice_left reader c slice n e is at = subst (λ (z : Cursor (Bor (List ℕ))). Remains (bytes_in (cursor_source (λ (s : Bor (List ℕ)). s.now)) z) (drop n slice.now)) e (rw (is, at) (cursor_remains (λ (s : Bor (List ℕ)). s.now) c))
 
--- of a stream by another name
+-- the same of an equal stream
 pub known_as : {known stream : Option StreamFormat} {r : FrameAnswer} {a b : State ℕ} → known ≡ stream → ReadsFrame known r a b → ReadsFrame stream r a b
 known_as {r = r} {a = a} {b = b} e h = subst (λ (s : Option StreamFormat). ReadsFrame s r a b) e h

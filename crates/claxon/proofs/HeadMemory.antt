@@ -1,4 +1,4 @@
--- Where the reader of a head wants memory: what was taken before it is the marker and whole blocks.
+-- Where the reader of a head can run out of memory: before it, the marker and whole blocks were consumed.
 use Rattle.std.proofs.Common.{◌≡◌, Bool, true, false, cond, List, [], ◌∷◌, ◌++◌, Option, refl, sym, ap, subst, ◌∙◌, append-nil, append_assoc}
 use Rattle.std.specs.Prelude.{Result, Err, ℕ}
 use Rattle.claxon_format.specs.Comments.{Comment}
@@ -55,15 +55,15 @@ consumes_other_block found y s m e = go (block_at s) refl e
     go (Faulty f rest) q e = absurd cc
     go Incomplete q e = absurd cc
 
--- ---- want of memory
+-- ---- out of memory
 
-is_refused : {A : Type 0} (r : Result A Error) (e : Error) → (y : Error) × (r ≡ Err y) × (y ≡ e) → r ≡ Err OutOfMemory → e ≡ OutOfMemory
-is_refused r e p h =
+error_is_out_of_memory : {A : Type 0} (r : Result A Error) (e : Error) → (y : Error) × (r ≡ Err y) × (y ≡ e) → r ≡ Err OutOfMemory → e ≡ OutOfMemory
+error_is_out_of_memory r e p h =
     let both : Err p.0 ≡ Err OutOfMemory = sym p.1 ∙ h in
     let same : p.0 ≡ OutOfMemory = cc both in
     sym p.2 ∙ same
 
--- the header of a block that may want memory stands in front
+-- s begins with the header of a block that may run out of memory
 abbrev HeaderMayRunOutOfMemory : List ℕ → Type 0
 HeaderMayRunOutOfMemory s = (h : BlockHeader) × (x : List ℕ) × (rest : List ℕ) × BlockHeaderCode h x × MayRunOutOfMemory h.type h.length rest × (s ≡ x ++ rest)
 
@@ -73,33 +73,33 @@ here s h = (s, consumes_no_blocks s, h.0, h.1, h.2, h.3, h.4, h.5)
 later : {s m : List ℕ} → ConsumesBlocks s m → BlocksMayRunOutOfMemory m → BlocksMayRunOutOfMemory s
 later h k = (k.0, consumes_blocks_both h k.1, k.2, k.3, k.4, k.5, k.6, k.7)
 
--- a call that takes no memory is refused none
+-- a call that allocates nothing isn't out of memory
 pub never_out_of_memory_in_front : {A X Y : Type 0} {r : Result A Error} {e : Error} {read : List X → Reading X Y} {a b : State X} → (y : Error) × (r ≡ Err y) × (y ≡ e) → Stops e read a b → IsOutOfMemory r → ⊥
 never_out_of_memory_in_front {r = r} {e = e} {read = read} {a = a} {b = b} p h out_of_memory =
-    let refused : e ≡ OutOfMemory = is_refused r e p out_of_memory in
+    let refused : e ≡ OutOfMemory = error_is_out_of_memory r e p out_of_memory in
     let no : true ≡ false = rw refused at (stops_not_out_of_memory e read a b h) in
     absurd cc
 
--- behind the header of the next block
+-- at the next block
 pub out_of_memory_here : {A : Type 0} (a : State ℕ) {r : Result A Error} {e : Error} → (y : Error) × (r ≡ Err y) × (y ≡ e) → (e ≡ OutOfMemory → a.known ≡ true → HeaderMayRunOutOfMemory a.remaining) → OutOfMemoryAfterBlocks r a
-out_of_memory_here a {r = r} {e = e} p h out_of_memory known = here a.remaining (h (is_refused r e p out_of_memory) known)
+out_of_memory_here a {r = r} {e = e} p h out_of_memory is_known = here a.remaining (h (error_is_out_of_memory r e p out_of_memory) is_known)
 
--- after blocks that were passed
+-- after blocks that were consumed
 pub out_of_memory_after_blocks : {A : Type 0} (a b : State ℕ) {r : Result A Error} {e : Error} → (y : Error) × (r ≡ Err y) × (y ≡ e) → Consumes a b ConsumesBlocks → (e ≡ OutOfMemory → b.known ≡ true → BlocksMayRunOutOfMemory b.remaining) → OutOfMemoryAfterBlocks r a
-out_of_memory_after_blocks a b {r = r} {e = e} p w h out_of_memory known = let x = w.known known in later x.is (h (is_refused r e p out_of_memory) x.known)
+out_of_memory_after_blocks a b {r = r} {e = e} p w h out_of_memory is_known = let x = w.known is_known in later x.is (h (error_is_out_of_memory r e p out_of_memory) x.known)
 
--- behind the marker
+-- after the marker
 pub out_of_memory_after_marker : {A : Type 0} (a b : State ℕ) {r : Result A Error} {e : Error} → (y : Error) × (r ≡ Err y) × (y ≡ e) → Consumes a b (λ s m. marker_at s ≡ Done stream_marker m) → (e ≡ OutOfMemory → b.known ≡ true → HeaderMayRunOutOfMemory b.remaining) → OutOfMemoryAfterMarker r a
-out_of_memory_after_marker a b {r = r} {e = e} p w h out_of_memory known =
-    let x = w.known known in
+out_of_memory_after_marker a b {r = r} {e = e} p w h out_of_memory is_known =
+    let x = w.known is_known in
     let k = Reads-marker.takes a.remaining stream_marker b.remaining x.is in
-    (k.0, b.remaining, k.1, here b.remaining (h (is_refused r e p out_of_memory) x.known), k.2)
+    (k.0, b.remaining, k.1, here b.remaining (h (error_is_out_of_memory r e p out_of_memory) x.known), k.2)
 
--- behind the marker and a block
+-- after the marker and a block
 pub out_of_memory_after_first : {A : Type 0} (block : MetadataBlock) (a b c : State ℕ) {r : Result A Error} {e : Error} → (y : Error) × (r ≡ Err y) × (y ≡ e) → Consumes a b (λ s m. marker_at s ≡ Done stream_marker m)
     → Consumes b c (λ s m. block_at s ≡ Done block m) → (e ≡ OutOfMemory → c.known ≡ true → BlocksMayRunOutOfMemory c.remaining) → OutOfMemoryAfterMarker r a
-out_of_memory_after_first block a b c {r = r} {e = e} p w v h out_of_memory known =
-    let x = w.known known in
+out_of_memory_after_first block a b c {r = r} {e = e} p w v h out_of_memory is_known =
+    let x = w.known is_known in
     let y = v.known x.known in
     let k = Reads-marker.takes a.remaining stream_marker b.remaining x.is in
-    (k.0, b.remaining, k.1, later (consumes_block block b.remaining c.remaining y.is) (h (is_refused r e p out_of_memory) y.known), k.2)
+    (k.0, b.remaining, k.1, later (consumes_block block b.remaining c.remaining y.is) (h (error_is_out_of_memory r e p out_of_memory) y.known), k.2)

@@ -1,4 +1,4 @@
--- The reader of a head, read as the code reads it.
+-- The reader of a head, in the steps of the code.
 use Rattle.std.proofs.Common.{◌≡◌, ℕ, zero, suc, ◌-◌, ◌<◌, Bool, true, false, cond, List, Option, None, Some, refl, ap, ◌∙◌, arith}
 use Rattle.std.specs.Prelude.{◌&&◌, ◌||◌}
 use Rattle.claxon_format.specs.MetadataBlocks.{Content, Info, MetadataBlock as Block}
@@ -38,7 +38,7 @@ found_done true q f g is_last y z m rest e = absurd cc
 found_done false true f g is_last y z m rest e = absurd cc
 found_done false false f g is_last y z m rest e = cc
 
--- behind the block
+-- after the block
 pub other_tested : (found : Option Comment) (b : Block) (s m : List ℕ) → block_at s ≡ Done b m → StopsAs (comments_at found b.content m) (other_at found s)
 unfolding other_at
 other_tested found b s m e = rw e (found_stops (is_info b.content) (is_second found b.content) SecondStreaminfo SecondComment (found_with found b.content) (b.is_last, found_with found b.content) m)
@@ -93,7 +93,7 @@ comments_kept found block s h k =
 abbrev other_of : Option Comment → Block → Bool × Option Comment
 other_of found b = (b.is_last, found_with found b.content)
 
--- where a block was read that is no end, the others are
+-- where a block was read that doesn't end the head, the others are read
 tested : (suffices : Bool) (k : ℕ) (found next : Option Comment) (is_last : Bool) (b : Block) (rest m : List ℕ) (p q : Bool)
     → cond p (Faulty SecondStreaminfo rest) (cond q (Faulty SecondComment rest) (Done (other_of found b) rest)) ≡ Done (is_last, next) m
     → cond p (Faulty SecondStreaminfo rest) (cond q (Faulty SecondComment rest) (pick (is_done suffices found b) (done (found_with found b.content)) (others_at suffices k (found_with found b.content)) rest))
@@ -140,7 +140,7 @@ others_stops suffices (suc k) found s some = go (block_at s)
     go (Faulty f rest) = record { fault = λ g r e. cc; short = λ e. absurd cc }
     go Incomplete = record { fault = λ g r e. absurd cc; short = λ e. refl }
 
--- so many blocks may still come, and these comments were found
+-- this many blocks are still allowed, and these comments were found
 pub record OthersSoFar (suffices : Bool) (most : ℕ) (found : Option Comment) (old new : State ℕ) : Type 0 where
   pub so_far : Consumes old new (λ s m. others_at suffices 65535 None s ≡ others_at suffices most found m)
   pub consumed_blocks : Consumes old new ConsumesBlocks
@@ -197,7 +197,7 @@ first_missing o is_last ReservedBlock n h = refl
 pub no_streaminfo : {A : Type 0} (o : Options) (k : ℕ) (is_last : Bool) (block : MetadataBlock A) (s m n : List ℕ) → NoInfo block → marker_at s ≡ Done k m → block_at m ≡ Done (metadata_block_view is_last block) n → head_at o s ≡ Faulty StreaminfoMissing n
 no_streaminfo o k is_last block s m n h e f = after_block o k (metadata_block_view is_last block) s m n e f ∙ first_missing o is_last block n h
 
--- the streaminfo, and then what is shown of the blocks behind it
+-- the streaminfo, and what is shown of the blocks after it
 abbrev pub head_with : Options → Streaminfo → Option Comment → Head
 head_with o info found = record { info = info; comment = cond o.wants_comment found None }
 
@@ -219,7 +219,7 @@ pub head_whole : (o : Options) (k : ℕ) (is_last : Bool) (info : Streaminfo) (f
     → others_at o.metadata_only 65535 None n ≡ Done found rest → head_at o s ≡ Done (head_with o info found) rest
 head_whole o k is_last info found s m n rest long e f q = head_with_blocks o k is_last info s m n long e f ∙ rw q refl
 
--- ---- the marker and the streaminfo, and what follows
+-- ---- after the marker and the streaminfo
 
 Begun : Bool → Streaminfo → List ℕ → List ℕ → Type 0
 Begun is_last info s n = (m : List ℕ) × (marker_at s ≡ Done stream_marker m) × (block_at m ≡ Done (record { is_last = is_last; content = Info info }) n)

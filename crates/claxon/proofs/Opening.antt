@@ -23,9 +23,9 @@ pub still_unread : {R : Type 0} (source : R → Source ℕ) (r : R) (known : Opt
 unfolding bytes_in
 still_unread source r known e = ap (state_of (λ all. all)) (e ∙ ap whole (with_none known))
 
--- ---- what `read_head` promised of the byte buffer holds of the reader that was handed in
+-- ---- the contract of `read_head` over the byte buffer, for the reader that was passed in
 
--- an Ok is no excuse
+-- an Ok isn't excused
 never : {X : Type 0} (a b : State ℕ) (x : X) → IsExcused (let q : Result X Error = Ok x in q) a b → ⊥
 never a b x (inl m) = cc
 never a b x (inr f) = f.0
@@ -41,7 +41,7 @@ module _ {R : Type 0} (remaining : R → Option (List ℕ)) (reader : R) (a : St
   remaining_is = ap (λ (s : State ℕ). s.remaining) same
 
 module _ {R A X : Type 0} (remaining : R → Option (List ℕ)) (o : Options) (reader : R) (view : X → Head) (a b : State ℕ) (same : a ≡ unread (remaining reader)) where
-  -- the whole call answers what `read_head` did
+  -- the whole call returns what `read_head` did
   abbrev pub OpensAs : Result X Error → OpenAnswer R A → Type 0
   OpensAs (Ok x) (Ok flac) = (view x ≡ flac_head flac) × (b ≡ flac_bytes remaining flac)
   OpensAs (Err e) (Err y) = y ≡ e
@@ -52,10 +52,10 @@ module _ {R A X : Type 0} (remaining : R → Option (List ℕ)) (o : Options) (r
   dropped e y s (inr f) = inr (rw s f.0)
 
   pub is_opened : (q : Result X Error) (r : OpenAnswer R A) → OpensAs q r → CodeIsComplete view q (HeadCode o) a b → OpenIsComplete remaining o reader r
-  is_opened (Ok x) (Ok flac) s k h t rest c comes = elim (k h t rest c (remains_in remaining reader a same comes)) [ inl g ↦ inl (sym s.0 ∙ g.0, subst (λ (z : State ℕ). Remains z rest) s.1 g.1) | inr f ↦ absurd (never a b x f) ]
-  is_opened (Err e) (Err y) s k h t rest c comes = elim (k h t rest c (remains_in remaining reader a same comes)) [ inl g ↦ absurd g.0 | inr f ↦ inr (dropped e y s f) ]
-  is_opened (Ok x) (Err y) s k h t rest c comes = absurd s
-  is_opened (Err e) (Ok flac) s k h t rest c comes = absurd s
+  is_opened (Ok x) (Ok flac) s k h t rest c remains = elim (k h t rest c (remains_in remaining reader a same remains)) [ inl g ↦ inl (sym s.0 ∙ g.0, subst (λ (z : State ℕ). Remains z rest) s.1 g.1) | inr f ↦ absurd (never a b x f) ]
+  is_opened (Err e) (Err y) s k h t rest c remains = elim (k h t rest c (remains_in remaining reader a same remains)) [ inl g ↦ absurd g.0 | inr f ↦ inr (dropped e y s f) ]
+  is_opened (Ok x) (Err y) s k h t rest c remains = absurd s
+  is_opened (Err e) (Ok flac) s k h t rest c remains = absurd s
 
   pub is_fault : (q : Result X Error) (r : OpenAnswer R A) → OpensAs q r → FaultIsSound q (HeadFault o) a b → OpenFaultIsSound remaining o reader r
   is_fault (Ok x) (Ok flac) s k = tt
@@ -67,10 +67,10 @@ module _ {R A X : Type 0} (remaining : R → Option (List ℕ)) (o : Options) (r
   is_fault (Err e) (Ok flac) s k = tt
 
   pub is_named : (q : Result X Error) (r : OpenAnswer R A) → OpensAs q r → FaultIsComplete q (HeadFault o) a b → OpenFaultIsComplete remaining o reader r
-  is_named (Ok x) (Ok flac) s k f t rest c comes = elim (k f t rest c (remains_in remaining reader a same comes)) [ inl g ↦ absurd g.0 | inr z ↦ absurd (never a b x z) ]
-  is_named (Err e) (Err y) s k f t rest c comes = elim (k f t rest c (remains_in remaining reader a same comes)) [ inl g ↦ inl (rw s g.0) | inr z ↦ inr (dropped e y s z) ]
-  is_named (Ok x) (Err y) s k f t rest c comes = absurd s
-  is_named (Err e) (Ok flac) s k f t rest c comes = absurd s
+  is_named (Ok x) (Ok flac) s k f t rest c remains = elim (k f t rest c (remains_in remaining reader a same remains)) [ inl g ↦ absurd g.0 | inr z ↦ absurd (never a b x z) ]
+  is_named (Err e) (Err y) s k f t rest c remains = elim (k f t rest c (remains_in remaining reader a same remains)) [ inl g ↦ inl (rw s g.0) | inr z ↦ inr (dropped e y s z) ]
+  is_named (Ok x) (Err y) s k f t rest c remains = absurd s
+  is_named (Err e) (Ok flac) s k f t rest c remains = absurd s
 
   pub is_io_error : (q : Result X Error) (r : OpenAnswer R A) → OpensAs q r → ElseIoError q (HeadCode o) (HeadFault o) a b → OpenElseIoError remaining o reader r
   is_io_error (Ok x) (Ok flac) s k t n = elim (k (known_in remaining reader a same t) (subst (λ (z : List ℕ). HasNeither (HeadCode o) (HeadFault o) z) (sym (remaining_is remaining reader a same)) n)) [ inl m ↦ absurd cc | inr i ↦ absurd i ]

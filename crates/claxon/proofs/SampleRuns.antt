@@ -47,12 +47,12 @@ takes_none stream a = record { consumed = consumes_none a _ refl }
 
 pub takes_more : {stream : Option StreamFormat} {blocks : List Block} (block : BlockValue) {a b c : State ℕ} → ConsumesFrames stream blocks a b → ReadsFrame stream (Ok (Some block)) b c → ConsumesFrames stream (blocks ++ block_view block ∷ []) a c
 takes_more {stream = stream} {blocks = blocks} block h k =
-    let w = consumes_known (λ s m. (t : List ℕ) × Frame stream (block_view block) t × (s ≡ t ++ m)) k.gives (λ known p. (k.promises.sound known).1) in
+    let w = consumes_known (λ s m. (t : List ℕ) × Frame stream (block_view block) t × (s ≡ t ++ m)) k.gives (λ is_known p. (k.promises.sound is_known).1) in
     record { consumed = consumes_then _ h.consumed w (λ p q. frames_add stream blocks (block_view block) _ _ _ q.0 p q.1 q.2) }
 
 -- ---- calls for samples
 
--- a call that was made before an Err
+-- a call before an Err
 goes_on : {R A : Type 0} (source : R → Source ℕ) (s : FlacSamples R A) (r : Option (Result ℤ Error)) (new : FlacSamples R A) → have_failed s ≡ false → SamplesStep source s r new → NextSample source s r new
 goes_on source s r new e h = subst (λ (b : Bool). MatchBool b ((r ≡ None) × (new ≡ s)) (NextSample source s r new)) e h
 
@@ -65,7 +65,7 @@ module _ {R A : Type 0} (source : R → Source ℕ) where
   gave_none s e = record { blocks = []; frames = takes_none (samples_stream s) (samples_bytes source s); samples = append-nil (samples_left s); stream = refl; goes_on = e }
 
   module _ {old mid : FlacSamples R A} {xs : List ℤ} (h : GaveSamples source old xs mid) where
-    -- the next one is a sample of the block at hand
+    -- the next sample is one of the current block
     gave_from_block : (x y : ℤ) (left : List ℤ) (new : FlacSamples R A) → NextSample source mid (Some (Ok x)) new → samples_left mid ≡ y ∷ left → GaveSamples source old (xs ++ x ∷ []) new
     gave_from_block x y left new n e =
         let g = n.from_block y left e in
@@ -80,7 +80,7 @@ module _ {R A : Type 0} (source : R → Source ℕ) where
 
     -- or the first one of the next block
     gave_from_next_block : (x : ℤ) (new : FlacSamples R A) → NextSample source mid (Some (Ok x)) new → samples_left mid ≡ [] → GaveSamples source old (xs ++ x ∷ []) new
-    gave_from_next_block x new n e = let b = n.behind e in go b.found b.reads b.answer
+    gave_from_next_block x new n e = let b = n.from_next_block e in go b.found b.reads b.answer
       where
         go : (found : Result (Option BlockValue) Error) → ReadsFrame (samples_stream mid) found (samples_bytes source mid) (samples_bytes source new) → BlockAnswer found (Some (Ok x)) new → GaveSamples source old (xs ++ x ∷ []) new
         go (Ok None) reads answer = let z = answer.0 in absurd cc
@@ -112,7 +112,7 @@ module _ {R A : Type 0} (source : R → Source ℕ) where
         go [] e = gave_from_next_block x new n e
         go (y ∷ left) e = gave_from_block x y left new n e
 
-    -- no sample is at hand where none is answered
+    -- where no sample is returned the current block has none left
     none_from_block : (end : Option Error) (y : ℤ) (left : List ℤ) (new : FlacSamples R A) → NextSample source mid (end_answer end) new → samples_left mid ≡ y ∷ left → ⊥
     none_from_block None y left new n e = let z = (n.from_block y left e).0.is in cc
     none_from_block (Some error) y left new n e = let z = (n.from_block y left e).0.is in cc
@@ -125,7 +125,7 @@ module _ {R A : Type 0} (source : R → Source ℕ) where
     found_is (Some e) (Ok (Some block)) new answer = let z = answer.3.is in absurd cc
     found_is (Some e) (Err error) new answer = let z = answer.0 in let s : e ≡ error = cc in ap (λ (y : Error). Err y) (sym s)
 
-    -- the call that answers no sample
+    -- the call that returns no sample
     pub gave_all : (end : Option Error) (new : FlacSamples R A) → SamplesStep source mid (end_answer end) new → GaveAll source old xs end new
     gave_all end new step = go (samples_left mid) refl
       where
@@ -135,7 +135,7 @@ module _ {R A : Type 0} (source : R → Source ℕ) where
         go : (left : List ℤ) → samples_left mid ≡ left → GaveAll source old xs end new
         go (y ∷ left) e = absurd (none_from_block end y left new n e)
         go [] e =
-            let b = n.behind e in
+            let b = n.from_next_block e in
             let f : b.found ≡ end_found end = found_is end b.found new b.answer in
             let r = subst (λ (k : Option StreamFormat). ReadsFrame k b.found (samples_bytes source mid) (samples_bytes source new)) h.stream b.reads in
             record {
@@ -163,7 +163,7 @@ frame_long stream b t c =
     let l : length (bits_of t) ≡ length c.0 + 16 = ap length c.2 ∙ length-append c.0 (bits 16 (crc16 c.0)) ∙ ap (λ (n : ℕ). length c.0 + n) (length-bits 16 (crc16 c.0)) in
     omega (arith, l, length-bits_of t)
 
--- so fewer begin with none
+-- so fewer than two begin with none
 pub short_no_frame : (stream : Option StreamFormat) (r : List ℕ) → length r < 2 → NoFrameLeft stream r
 short_no_frame stream r short b t u c e =
     let l : length r ≡ length t + length u = ap length e ∙ length-append t u in
@@ -174,13 +174,13 @@ short_no_frame stream r short b t u c e =
 pub short_no_fault : (stream : Option StreamFormat) → IsWidth (known_width stream) → (r : List ℕ) → length r < 2 → (f : Fault) (t u : List ℕ) → FrameBytesFault stream f t → r ≡ t ++ u → ⊥
 short_no_fault stream width r short f t u bad e = let q : Faulty f u ≡ Incomplete = sym ((Reads-frame_bytes stream width).bad_again f t u bad) ∙ ap (frame_bytes_at stream) (sym e) ∙ incomplete_frame stream r short in cc
 
--- where the frames end fewer than two bytes are left
+-- after the last frame fewer than two bytes remain
 few_left : {stream : Option StreamFormat} {blocks : List Block} {a b : State ℕ} (h : ReadsFrames stream blocks (Ok None) a b) → a.known ≡ true → length h.between.remaining < 2
-few_left h known = (h.last.promises.at_end refl (h.blocks_are.consumed.known known).known).0
+few_left h is_known = (h.last.promises.at_end refl (h.blocks_are.consumed.known is_known).known).0
 
--- ---- where the frames of blocks are to come, and then no frame
+-- ---- where the frames of blocks remain, and then no frame
 
--- what failed after something was done failed
+-- where a source failed after consuming something, it failed
 failed_after : {X : Type 0} {P : List X → List X → Type 0} {a b : State X} (c : State X) → Consumes a b P → FailedIn b c → FailedIn a c
 failed_after c w (inl f) = inl (λ p. f (p ∙ sym w.errors))
 failed_after c w (inr f) = inr ((λ p. f.0 (p ∙ sym w.empty_reads)), f.1)
@@ -194,11 +194,11 @@ not_found P None h = h
 not_found P (Some e) h = h
 
 module _ (stream : Option StreamFormat) (width : IsWidth (known_width stream)) where
-  -- where a fault stands no frame does
+  -- where the bytes begin with a fault they begin with no frame
   pub fault_no_frame : (f : Fault) (s t rest : List ℕ) → FrameBytesFault stream f t → s ≡ t ++ rest → NoFrameLeft stream s
   fault_no_frame f s t rest bad e block u v c p = (frames_unambiguous stream width).no_fault block f u t v rest c bad (sym p ∙ e)
 
-  -- of two runs of frames one goes on where the other ends
+  -- of two runs of frames one continues where the other ends
   pub frames_either : (s m n : List ℕ) (done blocks : List Block) → Frames stream s done m → Frames stream s blocks n
       → ((others : List Block) × (blocks ≡ done ++ others) × Frames stream m others n) ⊎ ((others : List Block) × (done ≡ blocks ++ others) × Frames stream n others m)
   frames_either s m n [] blocks d f = inl (blocks, refl, subst (λ (z : List ℕ). Frames stream z blocks n) d f)
@@ -211,7 +211,7 @@ module _ (stream : Option StreamFormat) (width : IsWidth (known_width stream)) w
         | inr q ↦ inr (q.0, ap₂ (λ (z : Block) (zs : List Block). z ∷ zs) p.0 q.1, q.2)
       ]
 
-  -- frames that were read are the first ones of those that stand there
+  -- frames that were read are the first of those that remain
   pub frames_left : (s m rest : List ℕ) (done blocks : List Block) → Frames stream s done m → Frames stream s blocks rest → NoFrameLeft stream rest → (others : List Block) × (blocks ≡ done ++ others) × Frames stream m others rest
   frames_left s m rest done blocks d f c = elim (frames_either s m rest done blocks d f) [ inl q ↦ q | inr q ↦ go q.0 q.1 q.2 ]
     where
@@ -219,17 +219,17 @@ module _ (stream : Option StreamFormat) (width : IsWidth (known_width stream)) w
       go [] e g = ([], sym (append-nil done ∙ e ∙ append-nil blocks), sym g)
       go (x ∷ more) e g = absurd (c x g.0 g.1 g.2 g.3)
 
-  -- All of them were read and the last answer is of what follows, or it is excused.
+  -- All of them were read and the last answer is that for what follows, or it is excused.
   pub behind : (end : Option Error) (done blocks : List Block) (m : List ℕ) {a b : State ℕ} (h : ReadsFrames stream done (end_found end) a b) → a.known ≡ true → Frames stream a.remaining blocks m → NoFrameLeft stream m
       → ((blocks ≡ done) × Remains h.between m) ⊎ IsExcused (end_found end) a b
-  behind end done blocks m {a = a} {b = b} h known f c =
-      let w = h.blocks_are.consumed.known known in
+  behind end done blocks m {a = a} {b = b} h is_known f c =
+      let w = h.blocks_are.consumed.known is_known in
       let q = frames_left a.remaining h.between.remaining m done blocks w.is f c in
       go q.0 q.1 q.2
     where
       go : (others : List Block) → blocks ≡ done ++ others → Frames stream h.between.remaining others m → ((blocks ≡ done) × Remains h.between m) ⊎ IsExcused (end_found end) a b
-      go [] e g = inl (e ∙ append-nil done, record { known = (h.blocks_are.consumed.known known).known; are = g })
-      go (o ∷ others) e g = elim (h.last.promises.complete o g.0 g.1 g.2 (record { known = (h.blocks_are.consumed.known known).known; are = g.3 })) [
+      go [] e g = inl (e ∙ append-nil done, record { known = (h.blocks_are.consumed.known is_known).known; are = g })
+      go (o ∷ others) e g = elim (h.last.promises.complete o g.0 g.1 g.2 (record { known = (h.blocks_are.consumed.known is_known).known; are = g.3 })) [
         | inl p ↦ absurd (not_found _ end p.0)
         | inr x ↦ inr (excused_after b (end_found end) h.blocks_are.consumed x)
       ]
@@ -237,7 +237,7 @@ module _ (stream : Option StreamFormat) (width : IsWidth (known_width stream)) w
 -- ---- streams that were opened
 
 module _ {R A : Type 0} (remaining : R → Option (List ℕ)) where
-  -- what comes behind the loan of a reader's byte buffer is what comes
+  -- the bytes of a borrowed byte buffer are those of the reader
   pub after_loan : (flac : FlacReader R A) (input : MutBor (BufferedReader R A)) → input.now ≡ flac_input flac
       → ((bytes_in (lent (buffered_source remaining)) input).remaining ≡ (flac_bytes remaining flac).remaining) × ((bytes_in (lent (buffered_source remaining)) input).known ≡ (flac_bytes remaining flac).known)
   unfolding bytes_in
@@ -245,10 +245,10 @@ module _ {R A : Type 0} (remaining : R → Option (List ℕ)) where
 
   pub whole_streams : (wants : Bool) (s : State ℕ) (flac : FlacReader R A) (old new : FlacSamples (MutBor (BufferedReader R A)) A) (xs : List ℤ) → Consumed s (flac_bytes remaining flac) (HeadCode (with_samples wants) (flac_head flac))
       → BeginsAt flac old → GaveAll (lent (buffered_source remaining)) old xs None new → s.known ≡ true → StreamOf wants s.remaining flac xs
-  whole_streams wants s flac old new xs head begins gave known =
-      let k = (head known).1 in
+  whole_streams wants s flac old new xs head begins gave is_known =
+      let k = (head is_known).1 in
       let here = after_loan flac (samples_input old) begins.input in
-      let t : (samples_bytes (lent (buffered_source remaining)) old).known ≡ true = here.1 ∙ (head known).0 in
+      let t : (samples_bytes (lent (buffered_source remaining)) old).known ≡ true = here.1 ∙ (head is_known).0 in
       let ends = gave.ends in
       let frames = (ends.blocks_are.consumed.known t).is in
       let few = few_left ends t in

@@ -14,19 +14,19 @@ use Rattle.claxon_frame.specs.Block.{BlockValue, duration_of}
 use Rattle.claxon_input.specs.Gives.{GivesOrEofOrOutOfMemory}
 use Rattle.claxon_frame.specs.FrameReader.{FrameAnswer, HeaderOfMoreSamples, ReadsFrame, block_view}
 
--- ---- what a call promises that reads the next frame
+-- ---- the clauses of a call that reads the next frame
 
-any_capacity : {A : Type 0} (stream : Option StreamFormat) (room : ℕ) (r : Result A Error) (a b : State ℕ) → (IsOutOfMemory r → Consumed a b (HeaderOfMoreSamples stream room)) → IsOutOfMemory r → Consumed a b (HeaderOfMoreSamples stream 0)
-any_capacity stream room r a b h out_of_memory known =
-    let k = h out_of_memory known in
+any_capacity : {A : Type 0} (stream : Option StreamFormat) (capacity : ℕ) (r : Result A Error) (a b : State ℕ) → (IsOutOfMemory r → Consumed a b (HeaderOfMoreSamples stream capacity)) → IsOutOfMemory r → Consumed a b (HeaderOfMoreSamples stream 0)
+any_capacity stream capacity r a b h out_of_memory is_known =
+    let k = h out_of_memory is_known in
     let t = k.1 in
     let more = t.1.2 in
     (k.0, (t.0, (t.1.0, t.1.1, omega arith), t.2))
 
-pub reads_frame : {stream : Option StreamFormat} {r : FrameAnswer} {a b : State ℕ} (room : ℕ) → FoundIsSound block_view r (Frame stream) a b → FoundIsComplete block_view r (Frame stream) a b → NoneIsEof 2 r a b
+pub reads_frame : {stream : Option StreamFormat} {r : FrameAnswer} {a b : State ℕ} (capacity : ℕ) → FoundIsSound block_view r (Frame stream) a b → FoundIsComplete block_view r (Frame stream) a b → NoneIsEof 2 r a b
     → ((xs : List ℕ) → Remains a xs → length xs < 2 → ((r ≡ Ok None) × Remains b []) ⊎ HasFailed r a b) → IfOk r (λ found. b.errors ≡ a.errors) → FaultIsSound r (FrameBytesFault stream) a b → FaultIsComplete r (FrameBytesFault stream) a b
-    → ElseIoErrorFrom 2 r (Frame stream) (FrameBytesFault stream) a b → LeavesRest r a b → (IsOutOfMemory r → Consumed a b (HeaderOfMoreSamples stream room)) → GivesOrEofOrOutOfMemory 2 block_view r (frame_bytes_at stream) a b → ReadsFrame stream r a b
-reads_frame {stream = stream} {r = r} {a = a} {b = b} room sound complete at_end ended no_failure fault named io front memory gives = record {
+    → ElseIoErrorFrom 2 r (Frame stream) (FrameBytesFault stream) a b → LeavesRest r a b → (IsOutOfMemory r → Consumed a b (HeaderOfMoreSamples stream capacity)) → GivesOrEofOrOutOfMemory 2 block_view r (frame_bytes_at stream) a b → ReadsFrame stream r a b
+reads_frame {stream = stream} {r = r} {a = a} {b = b} capacity sound complete at_end ended no_failure fault named io front memory gives = record {
   promises = record {
     sound = sound;
     complete = complete;
@@ -38,15 +38,15 @@ reads_frame {stream = stream} {r = r} {a = a} {b = b} room sound complete at_end
     io = io;
     front = front;
   };
-  memory = any_capacity stream room r a b memory;
+  memory = any_capacity stream capacity r a b memory;
   gives = gives;
 }
 
--- the same of the answer by another name
+-- the same of an equal answer
 pub reads_as : {stream : Option StreamFormat} {r q : Result (Option BlockValue) Error} {a b : State ℕ} → r ≡ q → ReadsFrame stream r a b → ReadsFrame stream q a b
 reads_as {stream = stream} {a = a} {b = b} e h = subst (λ (z : Result (Option BlockValue) Error). ReadsFrame stream z a b) e h
 
--- ---- where a sample stands
+-- ---- the index of a sample
 
 pub same_duration : (channels : List (List ℤ)) → duration channels ≡ duration_of channels
 same_duration [] = refl
@@ -55,7 +55,7 @@ same_duration (c ∷ channels) = refl
 index_inside : (i k d n : ℕ) → i < d → k < n → i * n + k < d * n
 index_inside i k d n lt small = grind arith
 
--- the next sample, and those behind it
+-- the next sample, and those after it
 pub next_sample : (channels : List (List ℤ)) (i k n : ℕ) (x : ℤ) → i < duration_of channels → k < length channels → n ≡ i * length channels + k + 1
     → IfSome (slice_get channels k) (λ samples. slice_get samples i ≡ Some x) → drop (i * length channels + k) (interleave channels) ≡ x ∷ drop n (interleave channels)
 next_sample channels i k n x lt small n-is h =
@@ -69,7 +69,7 @@ next_sample channels i k n x lt small n-is h =
     drop_more (interleave channels) (i * length channels + k) (pos 0) inside ∙ ap (λ (z : ℤ). z ∷ drop (i * length channels + k + 1) (interleave channels)) v
     ∙ ap (λ (z : ℕ). x ∷ drop z (interleave channels)) (sym n-is)
 
--- past the last place none is left
+-- after the last index none is left
 pub none_left : (channels : List (List ℤ)) (i k : ℕ) → duration_of channels ≤ i → drop (i * length channels + k) (interleave channels) ≡ []
 none_left channels i k le =
     let l = length-interleave channels in

@@ -1,4 +1,4 @@
--- What clauses read of a `FlacReader` and of what it lends.
+-- Views of a `FlacReader` for contracts, and what it lends.
 use Rattle.std.specs.Prelude.{Bool, ℕ, Option, None, Some, List, []}
 use Rattle.std.specs.declared.alloc.Allocator.{Ghosts}
 use Rattle.std.specs.Borrow.{Lends, MutBor, Fml, RattleType}
@@ -23,11 +23,11 @@ flac_metadata_only s = s.metadata_only
 abbrev pub flac_streaminfo : {R A : Type 0} → FlacReader R A → StreamInfo
 flac_streaminfo s = s.head.streaminfo
 
--- what it shows of the head of its stream
+-- the head of the stream, as far as it is shown
 abbrev pub flac_head : {R A : Type 0} → FlacReader R A → Head
 flac_head s = head_view (s.head.streaminfo, s.head.vorbis_comment)
 
--- of comments, where there are some: the vendor, and names and values
+-- of comments, if any: the vendor string; the names and values of the tags
 abbrev pub comment_vendor : Option Comment → Option (List ℕ)
 comment_vendor None = None
 comment_vendor (Some comment) = Some comment.vendor
@@ -36,11 +36,11 @@ abbrev pub comment_tags : Option Comment → List (List ℕ × List ℕ)
 comment_tags None = []
 comment_tags (Some comment) = pairs comment.entries
 
--- the vendor that is shown
+-- the vendor string that is shown
 abbrev pub vendor_of : {R A : Type 0} → FlacReader R A → Option (List ℕ)
 vendor_of s = comment_vendor (flac_head s).comment
 
--- the names and values that are shown
+-- the names and values of the tags that are shown
 abbrev pub tags_of : {R A : Type 0} → FlacReader R A → List (List ℕ × List ℕ)
 tags_of s = comment_tags (flac_head s).comment
 
@@ -52,18 +52,23 @@ flac_input s = s.input
 abbrev pub with_input : {R A : Type 0} → FlacReader R A → BufferedReader R A → FlacReader R A
 with_input s w = record s { input = w }
 
--- where the samples come from
+-- the input of the samples
 abbrev pub samples_input : {R A : Type 0} → FlacSamples R A → R
 samples_input s = frame_input s.frame_reader
 
--- the reader ends with what is left behind the reference
-abbrev pub LendsInput : (R Z : RattleType) (z : Ghosts Z.Denot) → MutBor (FlacReader R.Denot Z.Denot) → MutBor (BufferedReader R.Denot Z.Denot) → Fml
+-- When the borrow ends, the reader has the byte buffer that the reference left.
+abbrev pub LendsInput : (R Z : RattleType) (z : Ghosts Z.Denot)
+    → MutBor (FlacReader R.Denot Z.Denot) → MutBor (BufferedReader R.Denot Z.Denot) → Fml
 LendsInput R Z z s r = Lends (the_row R Z z) (buffered-row R Z z) s r (with_input s.now)
 
--- the reader ends with what the frame reader leaves behind its reference
-abbrev pub LendsBlocks : (R Z : RattleType) (z : Ghosts Z.Denot) → MutBor (FlacReader R.Denot Z.Denot) → FrameReader (MutBor (BufferedReader R.Denot Z.Denot)) → Fml
+-- When the borrow ends, the reader has the byte buffer that the frame reader left.
+abbrev pub LendsBlocks : (R Z : RattleType) (z : Ghosts Z.Denot)
+    → MutBor (FlacReader R.Denot Z.Denot) → FrameReader (MutBor (BufferedReader R.Denot Z.Denot))
+    → Fml
 LendsBlocks R Z z s r = LendsInput R Z z s (frame_input r)
 
--- the reader ends with what the samples leave behind their reference
-abbrev pub LendsSamples : (R Z : RattleType) (z : Ghosts Z.Denot) → MutBor (FlacReader R.Denot Z.Denot) → FlacSamples (MutBor (BufferedReader R.Denot Z.Denot)) Z.Denot → Fml
+-- When the borrow ends, the reader has the byte buffer that the samples left.
+abbrev pub LendsSamples : (R Z : RattleType) (z : Ghosts Z.Denot)
+    → MutBor (FlacReader R.Denot Z.Denot)
+    → FlacSamples (MutBor (BufferedReader R.Denot Z.Denot)) Z.Denot → Fml
 LendsSamples R Z z s r = LendsInput R Z z s (samples_input r)

@@ -1,4 +1,4 @@
--- The head of a stream (RFC 9639, sections 6 and 8) as the code shows it, and the reader of it cut where the code is cut.
+-- The head of a stream (RFC 9639, sections 6 and 8) as the code returns it, and its reader split as the code is split.
 use Rattle.std.specs.Prelude.{◌≡◌, ◌++◌, ℕ, Bool, true, false, List, Option, Some, None, Result, IfOk, IfSome}
 use Rattle.claxon_format.specs.read.MetadataBlocks.{block_at}
 use Rattle.claxon_format.specs.Comments.{Comment}
@@ -23,64 +23,75 @@ use Rattle.claxon_metadata.specs.declared.metadata.MetadataBlock.{MetadataBlock}
 use Rattle.claxon_metadata.specs.declared.metadata.StreamInfo.{StreamInfo}
 use Rattle.claxon_metadata.specs.declared.metadata.VorbisComment.{VorbisComment}
 
--- what the options wish
+-- the options, as the format has them
 abbrev pub options_view : FlacReaderOptions → Options
-options_view options = record { metadata_only = options.metadata_only; wants_comment = options.read_vorbis_comment }
+options_view options =
+    record { metadata_only = options.metadata_only; wants_comment = options.read_vorbis_comment }
 
--- comments, where there are some
+-- comments, if any
 abbrev pub found_view : {A : Type 0} → Option (VorbisComment A) → Option Comment
 found_view None = None
 found_view (Some comment) = Some (comment_view comment)
 
--- what is shown of a head
+-- the head that is returned
 abbrev pub head_view : {A : Type 0} → StreamInfo × Option (VorbisComment A) → Head
 head_view shown = record { info = info_view shown.0; comment = found_view shown.1 }
 
--- of a block after the streaminfo: whether it is marked as the last, and the comments that were found with it
+-- of a block after the streaminfo: whether it is marked as last, and the comments found so far
 abbrev pub other_view : {A : Type 0} → Bool × Option (VorbisComment A) → Bool × Option Comment
 other_view other = (other.0, found_view other.1)
 
--- a block behind the streaminfo, after these comments
+-- a block after the streaminfo, where these comments were found before it
 unfoldable pub other_at : Option Comment → List ℕ → Reading ℕ (Bool × Option Comment)
 other_at found =
     and_then block_at (λ b. test (is_info b.content) SecondStreaminfo (test (is_second found b.content) SecondComment (done (b.is_last, found_with found b.content))))
 
--- what a block's content adds to these comments
+-- the comments found so far, with those of this content
 abbrev pub comments_at : Option Comment → Content → List ℕ → Reading ℕ (Option Comment)
-comments_at found c = test (is_info c) SecondStreaminfo (test (is_second found c) SecondComment (done (found_with found c)))
+comments_at found c =
+    test (is_info c) SecondStreaminfo
+    (test (is_second found c) SecondComment (done (found_with found c)))
 
--- What was answered of a block is what the format's reader gives behind it, and nothing is taken.
-abbrev pub CommentsAreFound : {A : Type 0} → Option (VorbisComment A) → MetadataBlock A → Result (Option (VorbisComment A)) Error → Type 0
-CommentsAreFound found block result = (here : State ℕ) → Gives found_view result (comments_at (found_view found) (content_view block)) here here
+-- What is returned for a block is what the format's reader gives for its content, and nothing is consumed.
+abbrev pub CommentsAreFound : {A : Type 0} → Option (VorbisComment A) → MetadataBlock A
+    → Result (Option (VorbisComment A)) Error → Type 0
+CommentsAreFound found block result =
+    (here : State ℕ)
+    → Gives found_view result (comments_at (found_view found) (content_view block)) here here
 
--- s is whole blocks, one after another, and m
+-- s is whole blocks, one after another, and then m
 abbrev pub ConsumesBlocks : List ℕ → List ℕ → Type 0
 ConsumesBlocks s m = (blocks : List Block) × (t : List ℕ) × Each BlockCode blocks t × (s ≡ t ++ m)
 
--- behind whole blocks stands the header of a block of an application or of comments, whose length is one that it can have,
--- and behind that of comments the length of a vendor that fits
+-- s is whole blocks, and then the header of an application or comment block whose length is allowed, and in comments the
+-- length of a vendor string that fits
 abbrev pub BlocksMayRunOutOfMemory : List ℕ → Type 0
-BlocksMayRunOutOfMemory s = (m : List ℕ) × ConsumesBlocks s m × (h : BlockHeader) × (x : List ℕ) × (rest : List ℕ) × BlockHeaderCode h x × MayRunOutOfMemory h.type h.length rest × (m ≡ x ++ rest)
+BlocksMayRunOutOfMemory s =
+    (m : List ℕ) × ConsumesBlocks s m × (h : BlockHeader) × (x : List ℕ) × (rest : List ℕ)
+    × BlockHeaderCode h x × MayRunOutOfMemory h.type h.length rest × (m ≡ x ++ rest)
 
--- it stands behind the marker of a stream
+-- s is the marker of a stream, and then such blocks
 abbrev pub HeadMayRunOutOfMemory : List ℕ → Type 0
-HeadMayRunOutOfMemory s = (t : List ℕ) × (m : List ℕ) × Marker stream_marker t × BlocksMayRunOutOfMemory m × (s ≡ t ++ m)
+HeadMayRunOutOfMemory s =
+    (t : List ℕ) × (m : List ℕ) × Marker stream_marker t × BlocksMayRunOutOfMemory m × (s ≡ t ++ m)
 
--- Memory is wanted only behind whole blocks and such a header.
+-- `OutOfMemory` only after whole blocks and such a header.
 abbrev pub OutOfMemoryAfterBlocks : {A : Type 0} → Result A Error → State ℕ → Type 0
-OutOfMemoryAfterBlocks r old = IsOutOfMemory r → old.known ≡ true → BlocksMayRunOutOfMemory old.remaining
+OutOfMemoryAfterBlocks r old =
+    IsOutOfMemory r → old.known ≡ true → BlocksMayRunOutOfMemory old.remaining
 
--- Memory is wanted only behind the marker, whole blocks and such a header.
+-- `OutOfMemory` only after the marker, whole blocks and such a header.
 abbrev pub OutOfMemoryAfterMarker : {A : Type 0} → Result A Error → State ℕ → Type 0
-OutOfMemoryAfterMarker r old = IsOutOfMemory r → old.known ≡ true → HeadMayRunOutOfMemory old.remaining
+OutOfMemoryAfterMarker r old =
+    IsOutOfMemory r → old.known ≡ true → HeadMayRunOutOfMemory old.remaining
 
--- ---- what `read_head` promises
+-- ---- the contract of `read_head`
 
--- what it answers: a streaminfo, and comments where they are wished and there
+-- what it returns: a streaminfo, and comments where they are requested and present
 abbrev pub HeadAnswer : Type 0 → Type 0
 HeadAnswer A = Result (StreamInfo × Option (VorbisComment A)) Error
 
--- the bytes that a byte buffer still gives
+-- the remaining bytes of a byte buffer
 abbrev pub buffered_bytes : {R A : Type 0} → (R → Option (List ℕ)) → BufferedReader R A → State ℕ
 buffered_bytes remaining input = bytes_in (buffered_source remaining) input
 
@@ -88,45 +99,58 @@ buffered_bytes remaining input = bytes_in (buffered_source remaining) input
 abbrev pub InfoHasBounds : {A : Type 0} → HeadAnswer A → Type 0
 InfoHasBounds result = IfOk result (λ shown. HasBounds shown.0)
 
--- The entries of the comments are split at places within them.
+-- Each entry of the comments is split at its separator.
 abbrev pub CommentHasSeparatorIndices : {A : Type 0} → HeadAnswer A → Type 0
-CommentHasSeparatorIndices result = IfOk result (λ shown. IfSome shown.1 (λ comment. HaveSeparatorIndices comment.comments.items))
+CommentHasSeparatorIndices result =
+    IfOk result (λ shown. IfSome shown.1 (λ comment. HaveSeparatorIndices comment.comments.items))
 
 -- Comments are shown only where `read_vorbis_comment` is true.
 abbrev pub HeadHasCommentIfRead : {A : Type 0} → Bool → HeadAnswer A → Type 0
 HeadHasCommentIfRead read result = IfOk result (λ shown. read ≡ false → shown.1 ≡ None)
 
--- Memory is wanted only behind the marker, whole blocks and the header of a block of an application or of comments, whose
--- length was tested, and for comments only behind the length of a vendor that fits.
+-- `OutOfMemory` only after the marker, whole blocks and the header of an application or comment block, whose length was
+-- checked, and in comments only after the length of a vendor string that fits.
 abbrev pub HeadOutOfMemoryAfterHeader : {R Z : Type 0} → (R → Source ℕ) → R → HeadAnswer Z → Type 0
 HeadOutOfMemoryAfterHeader source old result = OutOfMemoryAfterMarker result (bytes_in source old)
 
--- An Err leaves a rest of the bytes that were to come.
+-- After an Err the remaining bytes are a suffix of those before.
 abbrev pub HeadLeavesRest : {R Z : Type 0} → (R → Source ℕ) → R → HeadAnswer Z → R → Type 0
 HeadLeavesRest source old result new = LeavesRest result (bytes_in source old) (bytes_in source new)
 
 -- `old` and `new` are the reader before and after the call.
 module _ {R Z : Type 0} (source : R → Source ℕ) (options : FlacReaderOptions) (old : R) (result : HeadAnswer Z) (new : R) where
-  -- What was taken is a head under these options, and it is shown.
+  -- What was consumed is a head under these options, and it is returned.
   abbrev pub HeadIsSound : Type 0
-  HeadIsSound = CodeIsSound head_view result (HeadCode (options_view options)) (bytes_in source old) (bytes_in source new)
+  HeadIsSound =
+      CodeIsSound head_view result (HeadCode (options_view options)) (bytes_in source old)
+      (bytes_in source new)
 
-  -- Where any head stands, whatever follows, it is shown and alone taken, or memory or the source failed.
+  -- Where the bytes begin with a head, whatever follows, it is returned and alone consumed, or memory or the source failed.
   abbrev pub HeadIsComplete : Type 0
-  HeadIsComplete = CodeIsComplete head_view result (HeadCode (options_view options)) (bytes_in source old) (bytes_in source new)
+  HeadIsComplete =
+      CodeIsComplete head_view result (HeadCode (options_view options)) (bytes_in source old)
+      (bytes_in source new)
 
-  -- An Err that is neither want of memory nor an `IoError` names a fault that the bytes taken have.
+  -- An Err is `OutOfMemory`, an `IoError`, or the name of a fault that the consumed bytes have.
   abbrev pub HeadFaultIsSound : Type 0
-  HeadFaultIsSound = FaultIsSound result (HeadFault (options_view options)) (bytes_in source old) (bytes_in source new)
+  HeadFaultIsSound =
+      FaultIsSound result (HeadFault (options_view options)) (bytes_in source old)
+      (bytes_in source new)
 
-  -- Where the bytes have a fault it is named, and they alone are taken, or memory or the source failed.
+  -- Where the bytes begin with a fault it is named and alone consumed, or memory or the source failed.
   abbrev pub HeadFaultIsComplete : Type 0
-  HeadFaultIsComplete = FaultIsComplete result (HeadFault (options_view options)) (bytes_in source old) (bytes_in source new)
+  HeadFaultIsComplete =
+      FaultIsComplete result (HeadFault (options_view options)) (bytes_in source old)
+      (bytes_in source new)
 
-  -- Where neither stands the bytes end, which is an `IoError`, or memory is refused.
+  -- Where they begin with neither the answer is an `IoError` or `OutOfMemory`.
   abbrev pub HeadElseIoError : Type 0
-  HeadElseIoError = ElseIoError result (HeadCode (options_view options)) (HeadFault (options_view options)) (bytes_in source old) (bytes_in source new)
+  HeadElseIoError =
+      ElseIoError result (HeadCode (options_view options)) (HeadFault (options_view options))
+      (bytes_in source old) (bytes_in source new)
 
-  -- What was answered and taken is what the format's reader gives.
+  -- What was returned and consumed is what the format's reader gives.
   abbrev pub HeadIsRead : Type 0
-  HeadIsRead = GivesOrOutOfMemory head_view result (head_at (options_view options)) (bytes_in source old) (bytes_in source new)
+  HeadIsRead =
+      GivesOrOutOfMemory head_view result (head_at (options_view options)) (bytes_in source old)
+      (bytes_in source new)

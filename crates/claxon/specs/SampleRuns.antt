@@ -1,5 +1,5 @@
--- Blocks that are read one after another (RFC 9639, section 6), up to an answer that is none; and what calls for samples, one
--- after another, gave of them.
+-- Blocks that are read one after another (RFC 9639, section 6), up to an answer without a block; and the samples that
+-- consecutive calls gave of them.
 use Rattle.std.specs.Borrow.{MutBor, RattleType}
 use Rattle.std.specs.Prelude.{◌≡◌, ℕ, ℤ, Bool, true, false, List, [], ◌∷◌, ◌++◌, Option, None, Some, Result, Ok, Err}
 use Rattle.std.specs.List.{flat_map}
@@ -25,7 +25,7 @@ use Rattle.claxon.specs.declared.samples.FlacSamples.{FlacSamples}
 abbrev pub samples_of : List Block → List ℤ
 samples_of blocks = flat_map (λ b. interleave b.channels) blocks
 
--- Just the frames of these blocks were taken, one after another, and no read failed.
+-- Exactly the frames of these blocks were consumed, and no read failed.
 pub record ConsumesFrames (stream : Option StreamFormat) (blocks : List Block) (old new : State ℕ) : Type 0 where
   pub consumed : Consumes old new (λ s m. Frames stream s blocks m)
 
@@ -35,14 +35,16 @@ pub record ReadsFrames (stream : Option StreamFormat) (blocks : List Block) (r :
   pub blocks_are : ConsumesFrames stream blocks old between
   pub last : ReadsFrame stream r between new
 
--- ---- calls of `next`, one after another
+-- ---- consecutive calls of `next`
 
--- So many calls answered these samples, and nothing else.
-abbrev pub Calls : {R A : Type 0} → (R → Source ℕ) → FlacSamples R A → List ℤ → FlacSamples R A → Type 0
+-- Consecutive calls returned these samples, and nothing else.
+abbrev pub Calls : {R A : Type 0} → (R → Source ℕ) → FlacSamples R A → List ℤ → FlacSamples R A
+    → Type 0
 Calls source old [] new = old ≡ new
-Calls {R} {A} source old (x ∷ xs) new = (mid : FlacSamples R A) × SamplesStep source old (Some (Ok x)) mid × Calls source mid xs new
+Calls {R} {A} source old (x ∷ xs) new =
+    (mid : FlacSamples R A) × SamplesStep source old (Some (Ok x)) mid × Calls source mid xs new
 
--- what such calls gave: the samples of blocks whose frames stand one after another, behind those that were at hand
+-- Such calls gave what was left of a block, and samples of the blocks after it, whose frames follow one another.
 pub record GaveSamples {R A : Type 0} (source : R → Source ℕ) (old : FlacSamples R A) (xs : List ℤ) (new : FlacSamples R A) : Type 0 where
   pub blocks : List Block
   pub frames : ConsumesFrames (samples_stream old) blocks (samples_bytes source old) (samples_bytes source new)
@@ -50,17 +52,17 @@ pub record GaveSamples {R A : Type 0} (source : R → Source ℕ) (old : FlacSam
   pub stream : samples_stream new ≡ samples_stream old
   pub goes_on : have_failed new ≡ false
 
--- the answer that is no sample: None at the end of the frames, or an Err
+-- the answer without a sample: None at the end of the frames, or an Err
 abbrev pub end_answer : Option Error → Option (Result ℤ Error)
 end_answer None = None
 end_answer (Some error) = Some (Err error)
 
--- and what was found for it in place of a block
+-- the frame reader's answer in that case
 abbrev pub end_found : Option Error → Result (Option BlockValue) Error
 end_found None = Ok None
 end_found (Some error) = Err error
 
--- all samples of these blocks were given, and behind their frames stood the end, or what the error says
+-- All samples of these blocks were given, and after their frames is the end, or what the error says.
 pub record GaveAll {R A : Type 0} (source : R → Source ℕ) (old : FlacSamples R A) (xs : List ℤ) (end : Option Error) (new : FlacSamples R A) : Type 0 where
   pub blocks : List Block
   pub ends : ReadsFrames (samples_stream old) blocks (end_found end) (samples_bytes source old) (samples_bytes source new)
@@ -68,35 +70,39 @@ pub record GaveAll {R A : Type 0} (source : R → Source ℕ) (old : FlacSamples
 
 -- ---- laws
 
--- Samples that are given are those of blocks whose frames stand one after another.
+-- The samples given are those of blocks whose frames follow one another.
 abbrev pub SamplesInTurn : (R A : RattleType) → (R.Denot → Source ℕ) → Type 0
 SamplesInTurn R A source =
     (old : FlacSamples R.Denot A.Denot) (xs : List ℤ) (new : FlacSamples R.Denot A.Denot)
     → have_failed old ≡ false → Calls source old xs new → GaveSamples source old xs new
 
--- Where then no sample is given, all samples of these blocks were.
+-- Where the next call gives no sample, all samples of these blocks were given.
 abbrev pub SamplesToTheEnd : (R A : RattleType) → (R.Denot → Source ℕ) → Type 0
 SamplesToTheEnd R A source =
     (old : FlacSamples R.Denot A.Denot) (xs : List ℤ) (mid : FlacSamples R.Denot A.Denot) (end : Option Error) (new : FlacSamples R.Denot A.Denot)
-    → have_failed old ≡ false → Calls source old xs mid → SamplesStep source mid (end_answer end) new → GaveAll source old xs end new
+    → have_failed old ≡ false → Calls source old xs mid
+    → SamplesStep source mid (end_answer end) new → GaveAll source old xs end new
 
--- what `samples()` answers of a stream that was opened
+-- what `samples()` returns of a stream that was opened
 pub record BeginsAt {R A : Type 0} (flac : FlacReader R A) (samples : FlacSamples (MutBor (BufferedReader R A)) A) : Type 0 where
   pub input : (samples_input samples).now ≡ flac_input flac
   pub stream : samples_stream samples ≡ Some (stream_with (flac_streaminfo flac))
   pub none_left : samples_left samples ≡ []
 
--- the bytes that come behind a loan
+-- the source of a borrowed reader
 abbrev pub lent : {R : Type 0} → (R → Source ℕ) → MutBor R → Source ℕ
 lent source r = through_loan r.ghost_name (source r.now)
 
--- What is to come, s, is a stream whose blocks have just these samples: a head, their frames, and a rest that begins with no frame.
+-- s is a stream whose blocks have exactly these samples: a head, their frames, and a rest that begins with no frame.
 abbrev pub StreamOf : {R A : Type 0} → Bool → List ℕ → FlacReader R A → List ℤ → Type 0
-StreamOf wants s flac xs = (blocks : List Block) × (r : List ℕ) × IsStream wants s (flac_head flac) blocks r × (samples_of blocks ≡ xs)
+StreamOf wants s flac xs =
+    (blocks : List Block) × (r : List ℕ) × IsStream wants s (flac_head flac) blocks r
+    × (samples_of blocks ≡ xs)
 
 -- A stream that was opened and gave its samples up to None was read whole.
 abbrev pub WholeStreams : (R A : RattleType) → (R.Denot → Option (List ℕ)) → Type 0
 WholeStreams R A remaining =
     (wants : Bool) (s : State ℕ) (flac : FlacReader R.Denot A.Denot) (old new : FlacSamples (MutBor (BufferedReader R.Denot A.Denot)) A.Denot) (xs : List ℤ)
-    → Consumed s (flac_bytes remaining flac) (HeadCode (with_samples wants) (flac_head flac)) → BeginsAt flac old → GaveAll (lent (buffered_source remaining)) old xs None new
+    → Consumed s (flac_bytes remaining flac) (HeadCode (with_samples wants) (flac_head flac))
+    → BeginsAt flac old → GaveAll (lent (buffered_source remaining)) old xs None new
     → s.known ≡ true → StreamOf wants s.remaining flac xs

@@ -24,12 +24,12 @@ use std::alloc::Allocator;
 /// A reader made with `metadata_only` can't give samples.
 #[derive(Copy, Clone, Debug, Eq, PartialEq)]
 pub struct FlacReaderOptions {
-    /// Whether to stop as soon as the wished metadata was read. It saves reads where no samples are wished.
+    /// Whether to stop once the requested metadata was read. It saves reads where no samples are needed.
     ///
     /// Defaults to false.
     pub metadata_only: bool,
 
-    /// Whether the tags and the vendor are wished. If not, none are shown, also where the stream has them.
+    /// Whether to keep the tags and the vendor string. If not, none are shown, even where the stream has them.
     ///
     /// Defaults to true.
     pub read_vorbis_comment: bool,
@@ -47,7 +47,7 @@ impl Default for FlacReaderOptions {
 }
 
 impl FlacReaderOptions {
-    // Whether no more than the streaminfo is wished, or it is the last block.
+    // Whether only the streaminfo is requested, or it is the last block.
     fn ends_with_streaminfo(self, is_last: bool) -> bool
         ensures { result ≡ streaminfo_ends_head (options_view self) is_last }
     {
@@ -55,17 +55,17 @@ impl FlacReaderOptions {
     }
 }
 
-// A stream has at most so many metadata blocks, the streaminfo included. The format sets no limit.
+// The greatest number of metadata blocks of a stream, the streaminfo included. The format sets no limit.
 const MAX_BLOCKS: u32 = 65536;
 
-/// Takes the head of a stream, and answers its streaminfo and, where wished and there, its Vorbis comments.
+/// Reads the head of a stream, and returns its streaminfo and, where requested and present, its Vorbis comments.
 ///
-/// Which blocks are taken the options say; the input then stands at the first frame, if all were. Over a `Cursor` the
-/// position is then that of the bytes behind the head, where some follow. (RFC 9639, sections 6 and 8.)
+/// The options say which blocks are read; the input is then at the first frame, if all were. Over a `Cursor` the
+/// position is then that of the bytes after the head, where some follow. (RFC 9639, sections 6 and 8.)
 ///
 /// # Errors
 ///
-/// Those of `FlacReader::new`. An error has taken a front of the bytes to come.
+/// Those of `FlacReader::new`. After an error a prefix of the remaining bytes is consumed.
 pub fn read_head<R: ReadBytes, A: Allocator + Copy>(
     alloc: A,
     input: &mut R,
@@ -86,7 +86,7 @@ pub fn read_head<R: ReadBytes, A: Allocator + Copy>(
     read_head_exact(alloc, input, options)
 }
 
-// A head, and what is shown of it.
+// `read_head`, with its exact clause.
 fn read_head_exact<R: ReadBytes, A: Allocator + Copy>(
     alloc: A,
     input: &mut R,
@@ -96,7 +96,8 @@ fn read_head_exact<R: ReadBytes, A: Allocator + Copy>(
     ensures places { CommentHasSeparatorIndices result }
     ensures comment { HeadHasCommentIfRead options.read_vorbis_comment result }
     ensures memory { OutOfMemoryAfterMarker result (bytes_in R.source input.old) }
-    ensures gives { GivesOrOutOfMemory head_view result (head_at (options_view options)) (bytes_in R.source input.old) (bytes_in R.source input.new) }
+    ensures gives { GivesOrOutOfMemory head_view result (head_at (options_view options))
+        (bytes_in R.source input.old) (bytes_in R.source input.new) }
 {
     read_stream_header(input)?;
     let (is_last, first) = read_metadata_block_and_flag(alloc, input)?;
@@ -116,7 +117,8 @@ fn read_head_exact<R: ReadBytes, A: Allocator + Copy>(
 
 #[tactic(auto, using(claxon_input::proofs::ByteFields::first_number), unfolding(claxon_format::specs::read::Heads::marker_at, claxon_format::specs::Fault::fault_text))]
 fn read_stream_header<R: ReadBytes>(input: &mut R) -> Result<()>
-    ensures { Gives (λ x. stream_marker) result marker_at (bytes_in R.source input.old) (bytes_in R.source input.new) }
+    ensures { Gives (λ x. stream_marker) result marker_at
+        (bytes_in R.source input.old) (bytes_in R.source input.new) }
 {
     let marker = input.read_be_u32()?;
     if marker == 0x664c_6143 {
@@ -128,15 +130,17 @@ fn read_stream_header<R: ReadBytes>(input: &mut R) -> Result<()>
     Err(Error::FormatError("invalid stream header"))
 }
 
-// The blocks after the streaminfo, up to the one that is marked as last, or up to the comments if these are enough.
+// The blocks after the streaminfo, up to the one marked as last, or up to the comments if these suffice.
 fn read_other_blocks<R: ReadBytes, A: Allocator + Copy>(
     alloc: A,
     input: &mut R,
     comments_suffice: bool,
 ) -> Result<Option<VorbisComment<A>>>
-    ensures places { IfOk result (λ found. IfSome found (λ comment. HaveSeparatorIndices comment.comments.items)) }
+    ensures places { IfOk result (λ found.
+        IfSome found (λ comment. HaveSeparatorIndices comment.comments.items)) }
     ensures memory { OutOfMemoryAfterBlocks result (bytes_in R.source input.old) }
-    ensures gives { GivesOrOutOfMemory found_view result (others_at comments_suffice 65535 None) (bytes_in R.source input.old) (bytes_in R.source input.new) }
+    ensures gives { GivesOrOutOfMemory found_view result (others_at comments_suffice 65535 None)
+        (bytes_in R.source input.old) (bytes_in R.source input.new) }
 {
     let mut found = None;
     let mut most = MAX_BLOCKS - 1;
@@ -151,7 +155,7 @@ fn read_other_blocks<R: ReadBytes, A: Allocator + Copy>(
     Err(Error::Unsupported("more than 65536 metadata blocks are not supported"))
 }
 
-// Whether no further block is wished.
+// Whether no further block is needed.
 fn are_enough<A: Allocator>(
     is_last: bool,
     comments_suffice: bool,
@@ -162,29 +166,32 @@ fn are_enough<A: Allocator>(
     is_last || (comments_suffice && found.is_some())
 }
 
-// One of them: whether it is marked as last, and the comments that were found up to it.
+// One of these blocks: whether it is marked as last, and the comments found so far.
 fn read_other_block<R: ReadBytes, A: Allocator + Copy>(
     alloc: A,
     input: &mut R,
     found: Option<VorbisComment<A>>,
 ) -> Result<(bool, Option<VorbisComment<A>>)>
     requires { IfSome found (λ comment. HaveSeparatorIndices comment.comments.items) }
-    ensures places { IfOk result (λ other. IfSome other.1 (λ comment. HaveSeparatorIndices comment.comments.items)) }
+    ensures places { IfOk result (λ other.
+        IfSome other.1 (λ comment. HaveSeparatorIndices comment.comments.items)) }
     ensures memory { OutOfMemoryAfterBlocks result (bytes_in R.source input.old) }
-    ensures gives { GivesOrOutOfMemory other_view result (other_at (found_view found)) (bytes_in R.source input.old) (bytes_in R.source input.new) }
+    ensures gives { GivesOrOutOfMemory other_view result (other_at (found_view found))
+        (bytes_in R.source input.old) (bytes_in R.source input.new) }
 {
     let (is_last, block) = read_metadata_block_and_flag(alloc, input)?;
     Ok((is_last, comments_with(block, found)?))
 }
 
-// The comments that were found up to this block.
+// The comments found so far, with those of this block.
 fn comments_with<A: Allocator>(
     block: MetadataBlock<A>,
     found: Option<VorbisComment<A>>,
 ) -> Result<Option<VorbisComment<A>>>
     requires block { BlockHasBounds block }
     requires found { IfSome found (λ comment. HaveSeparatorIndices comment.comments.items) }
-    ensures places { IfOk result (λ known. IfSome known (λ comment. HaveSeparatorIndices comment.comments.items)) }
+    ensures places { IfOk result (λ known.
+        IfSome known (λ comment. HaveSeparatorIndices comment.comments.items)) }
     ensures gives { CommentsAreFound found block result }
 {
     match block {

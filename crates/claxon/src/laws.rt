@@ -1,16 +1,16 @@
-//! What calls for samples gave, one after another: laws, each the contract of a function without a body.
+//! Laws on consecutive calls for samples, each the contract of a function without a body.
 ghost use Rattle.claxon.specs.SampleRuns.{SamplesInTurn, SamplesToTheEnd, WholeStreams};
 
 use crate::input::ReadBytes;
 use std::alloc::Allocator;
 use std::io::Read;
 
-/// Samples that are given are those of blocks whose frames stand one after another.
+/// The samples given are those of blocks whose frames follow one another.
 pub fn samples_in_turn<R: ReadBytes, A: Allocator>()
     ensures { SamplesInTurn R.row A.row R.source }
 {}
 
-/// Where then no sample is given, all samples of these blocks were.
+/// Where the next call gives no sample, all samples of these blocks were given.
 pub fn samples_to_the_end<R: ReadBytes, A: Allocator>()
     ensures { SamplesToTheEnd R.row A.row R.source }
 {}

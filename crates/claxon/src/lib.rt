@@ -1,7 +1,7 @@
 //! An exact FLAC decoder.
 //!
 //! `FlacReader` opens a stream and gives its blocks or its samples. `frame`, `subframe` and `metadata` read the same
-//! parts where they stand in other containers.
+//! parts from other containers.
 //!
 //! # Example
 //!
@@ -28,10 +28,10 @@
 //!
 //! # Damaged streams
 //!
-//! A frame has a guard of 8 bits for its header and one of 16 for all of it, so one damaged bit is mostly one lost frame:
-//! an `Err`, after which `read_next_or_eof` may be called again and goes on at the first byte that wasn't taken. Where that
-//! is no frame, the calls that follow are refused too, two bytes at a time, until the bytes are at a frame again: a long
-//! stretch of damage is thousands of faults. No call searches for the next frame.
+//! A frame has a CRC-8 of its header and a CRC-16 of the whole frame, so one damaged bit mostly costs one frame: an
+//! `Err`, after which `read_next_or_eof` may be called again and continues at the first byte that wasn't consumed.
+//! Where no frame begins there, the next calls fail too, two bytes at a time, until the bytes begin with a frame again:
+//! a long stretch of damage is thousands of faults. No call searches for the next frame.
 #![tactic(auto)]
 
 mod head;

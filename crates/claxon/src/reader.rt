@@ -75,7 +75,7 @@ impl<R: Read, A: Allocator + Copy> FlacReader<R, A> {
     pub fn new(alloc: A, reader: R) -> Result<FlacReader<R, A>>
     where
         R: Drop,
-        // Its blocks and samples can be asked for.
+        // Its blocks and samples can be read.
         ensures full { ShowsMetadataOnly false result }
         ensures text { ErrNamesFault result }
         ensures no_failure { NoReadFailed R.remaining result }
@@ -119,7 +119,8 @@ impl<R: Read, A: Allocator + Copy> FlacReader<R, A> {
         })
     }
 
-    /// The streaminfo: the samples' rate, channels, width and number, the sizes of blocks and frames, and the MD5 sum.
+    /// The streaminfo: sample rate, channels, bits per sample, number of samples, sizes of blocks and frames, and MD5
+    /// sum.
     ///
     /// Frames aren't compared with it, and the sum isn't computed.
     pub fn streaminfo(&self) -> StreamInfo
@@ -154,8 +155,8 @@ impl<R: Read, A: Allocator + Copy> FlacReader<R, A> {
         }
     }
 
-    /// The values of the tags of this name, in order. Upper and lower case of the letters A to Z aren't told apart, other
-    /// letters are: no tag has a name that holds one of those.
+    /// The values of the tags of this name, in order. The letters A to Z match in upper and lower case, other letters
+    /// don't: no tag has a name that holds one of those.
     pub fn get_tag<'a>(&'a self, tag_name: &'a str) -> GetTag<'a, A>
         ensures { remaining_values result ≡ values tag_name.now (tags_of self.now) }
     {
@@ -172,7 +173,7 @@ impl<R: Read, A: Allocator + Copy> FlacReader<R, A> {
         self.metadata_only
     }
 
-    /// The byte buffer, which stands at the next byte that wasn't taken.
+    /// The byte buffer, at the next byte that wasn't consumed.
     pub fn input(&mut self) -> &mut BufferedReader<R, A>
         ensures* writes_back { sem 𝓛 (LendsInput R.row A.row A.Allocator self.entry result) }
         ensures input { result.now ≡ flac_input self.old }
@@ -180,11 +181,11 @@ impl<R: Read, A: Allocator + Copy> FlacReader<R, A> {
         &mut self.input
     }
 
-    /// A reader of the blocks from here on. What it hasn't taken when it is dropped a later one takes.
+    /// A reader of the blocks from here on. What it hasn't consumed when it is dropped is left for a later one.
     ///
-    /// This is the fast way: a block's samples stand in memory, channel after channel. A buffer whose capacity is the
-    /// streaminfo's `max_block_size` times `channels` holds each block of a stream that keeps to its streaminfo, and no
-    /// memory is taken then.
+    /// This is the fast way: a block's samples are in memory channel by channel. A buffer whose capacity is the
+    /// streaminfo's `max_block_size` times `channels` holds each block of a stream that keeps to its streaminfo, and
+    /// then no memory is allocated.
     ///
     /// ```
     /// let mut blocks = flac.blocks();
@@ -196,7 +197,7 @@ impl<R: Read, A: Allocator + Copy> FlacReader<R, A> {
     pub fn blocks(&mut self) -> FrameReader<&mut BufferedReader<R, A>>
         requires { flac_metadata_only self.old ≡ false }
         ensures* writes_back { sem 𝓛 (LendsBlocks R.row A.row A.Allocator self.entry result) }
-        // It goes on at the next byte that wasn't taken.
+        // It continues at the next byte that wasn't consumed.
         ensures input { (frame_input result).now ≡ flac_input self.old }
         ensures stream { frame_stream result ≡ Some (stream_with (flac_streaminfo self.old)) }
     {
@@ -204,8 +205,8 @@ impl<R: Read, A: Allocator + Copy> FlacReader<R, A> {
         FrameReader::with_streaminfo(&mut self.input, info)
     }
 
-    /// An iterator over the samples from here on, the channels interleaved. A block of which a sample was given is taken
-    /// whole, so what is left of it is lost when the iterator is dropped.
+    /// An iterator over the samples from here on, the channels interleaved. A block of which a sample was given is
+    /// consumed whole, so its other samples are lost when the iterator is dropped.
     ///
     /// Each sample is a `Result`, which costs more than the sample: where speed counts, take `blocks`.
     ///
@@ -217,7 +218,7 @@ impl<R: Read, A: Allocator + Copy> FlacReader<R, A> {
     pub fn samples(&mut self) -> FlacSamples<&mut BufferedReader<R, A>, A>
         requires { flac_metadata_only self.old ≡ false }
         ensures* writes_back { sem 𝓛 (LendsSamples R.row A.row A.Allocator self.entry result) }
-        // It goes on at the next byte that wasn't taken.
+        // It continues at the next byte that wasn't consumed.
         ensures input { (samples_input result).now ≡ flac_input self.old }
         ensures stream { samples_stream result ≡ Some (stream_with (flac_streaminfo self.old)) }
         ensures none_left { samples_left result ≡ [] }
@@ -227,7 +228,7 @@ impl<R: Read, A: Allocator + Copy> FlacReader<R, A> {
         FlacSamples::new(alloc, &mut self.input, info)
     }
 
-    /// The wrapped reader. What was read ahead of it is lost.
+    /// The wrapped reader. Buffered bytes are lost.
     pub fn into_inner(self) -> R
         ensures { result ≡ buffered_inner (flac_input self) }
     {
@@ -257,7 +258,7 @@ impl FlacReader<File> {
         rt: &Q,
         filename: P,
     ) -> Result<FlacReader<File>>
-        // Its blocks and samples can be asked for.
+        // Its blocks and samples can be read.
         ensures full { ShowsMetadataOnly false result }
         ensures text { ErrNamesFault result }
         ensures no_failure { NoReadFailed file_remaining result }

@@ -9,16 +9,17 @@ use claxon_metadata::metadata::StreamInfo;
 use std::alloc::{Allocator, Global};
 use std::mem;
 
-/// An iterator over samples: for each place of a block the sample of each channel, then the next block.
+/// An iterator over interleaved samples: for each sample index of a block the sample of each channel, then the next
+/// block.
 ///
-/// After an error it answers None for good. After None it asks the reader again. A block is read into the buffer of the one
-/// before it, where that has capacity for it.
+/// After an error it returns None for good. After None it asks the reader again. A block is read into the buffer of the
+/// one before it, where that has capacity for it.
 #[derive(Drop)]
 pub struct FlacSamples<R, A: Allocator = Global> {
     frame_reader: FrameReader<R>,
     block: Block<A>,
 
-    // The place and the channel of the next sample.
+    // The index, and the channel, of the next sample.
     sample: u32,
     channel: u32,
     has_failed: bool,
@@ -34,7 +35,7 @@ impl<R: ReadBytes, A: Allocator + Copy> FlacSamples<R, A> {
     ghost use Rattle.claxon_frame.specs.FrameReader.{BlockKeepsCapacity, MaxCapacityIsEnough, stream_with};
     ghost use Rattle.claxon.specs.FlacSamples.{NextBlock, NextSample, NextBlockIsRead, OutOfMemoryForLargerBlock, block_answer, have_failed, samples_left, samples_capacity, samples_stream};
 
-    /// The samples of the frames of the stream with this streaminfo, whose width is 1 to 32 bits.
+    /// The samples of the frames of the stream with this streaminfo, whose bits per sample are 1 to 32.
     pub fn new(alloc: A, input: R, info: StreamInfo) -> FlacSamples<R, A>
         requires some { 1 ≤ info.bits_per_sample }
         requires most { info.bits_per_sample ≤ 32 }
@@ -53,17 +54,22 @@ impl<R: ReadBytes, A: Allocator + Copy> FlacSamples<R, A> {
         }
     }
 
-    // Reads the next block into the memory of the last one. Says whether there was one.
+    // Reads the next block into the buffer of the last one. Returns whether there was one.
     fn read_block(&mut self) -> Result<bool>
-        ensures more { IfOk result (λ more. IsTrue more → self.new.sample < duration_of self.new.block.channels) }
+        ensures more { IfOk result
+            (λ more. IsTrue more → self.new.sample < duration_of self.new.block.channels) }
         ensures stream { samples_stream self.new ≡ samples_stream self.old }
         ensures has_failed { have_failed self.new ≡ have_failed self.old }
         ensures reads { NextBlockIsRead R.source self.old result self.new }
-        ensures memory { OutOfMemoryForLargerBlock R.source self.old (block_answer result self.new) self.new }
-        ensures enough { MaxCapacityIsEnough (samples_capacity self.old) (block_answer result self.new) }
-        ensures capacity { BlockKeepsCapacity (samples_capacity self.old) (block_answer result self.new) }
+        ensures memory { OutOfMemoryForLargerBlock R.source self.old
+            (block_answer result self.new) self.new }
+        ensures enough { MaxCapacityIsEnough (samples_capacity self.old)
+            (block_answer result self.new) }
+        ensures capacity { BlockKeepsCapacity (samples_capacity self.old)
+            (block_answer result self.new) }
         ensures none_left { IfOk result (λ more. more ≡ false → samples_left self.new ≡ []) }
-        ensures left { IfOk result (λ more. more ≡ true → samples_left self.new ≡ interleave self.new.block.channels) }
+        ensures left { IfOk result
+            (λ more. more ≡ true → samples_left self.new ≡ interleave self.new.block.channels) }
     {
         self.sample = 0;
         self.channel = 0;
@@ -77,7 +83,7 @@ impl<R: ReadBytes, A: Allocator + Copy> FlacSamples<R, A> {
         }
     }
 
-    // The next sample of the block at hand, or else the first one of the next block.
+    // The next sample of the current block, or else the first one of the next block.
     fn next_sample(&mut self) -> Option<Result<i32>>
         requires { have_failed self.old ≡ false }
         ensures { NextSample R.source self.old result self.new }
@@ -103,7 +109,7 @@ impl<R: ReadBytes, A: Allocator + Copy> FlacSamples<R, A> {
         }
     }
 
-    // Gives the next sample of the block at hand.
+    // Gives the next sample of the current block.
     fn give(&mut self) -> i32
         requires { self.old.sample < duration_of self.old.block.channels }
         ensures stream { self.new.frame_reader ≡ self.old.frame_reader }

@@ -19,7 +19,7 @@ returns-in_err-read_stream_header-clause-gives g c =
     exit_no_memory (head_view {A = g.row.A.Denot}) (err_from_is_err_and c.from_residual.result c.from_residual.ensures.1) (consumes_none _ _ (marker_stops (options_view c.args.options) _)) c.in_err-read_stream_header.ensures
 
 pub returns-in_err-read_stream_header-clause-memory : goal.returns-in_err-read_stream_header-clause-memory
-returns-in_err-read_stream_header-clause-memory g c out_of_memory known =
+returns-in_err-read_stream_header-clause-memory g c out_of_memory is_known =
     absurd (never_out_of_memory_in_front (err_from_is_err_and c.from_residual.result c.from_residual.ensures.1) c.in_err-read_stream_header.ensures out_of_memory)
 
 pub returns-in_err-is_last-clause-memory : goal.returns-in_err-is_last-clause-memory

@@ -20,7 +20,7 @@ returns-in_err-is_last-clause-gives g c =
     (consumes_none _ _ (other_stops (found_view c.args.found) _)) c.in_err-is_last.ensures.gives
 
 pub returns-in_err-comments_with-clause-memory : goal.returns-in_err-comments_with-clause-memory
-returns-in_err-comments_with-clause-memory g c out_of_memory known =
+returns-in_err-comments_with-clause-memory g c out_of_memory is_known =
     let here = bytes_in g.R.ReadBytes.source c.args.input.now in
     absurd (never_out_of_memory_in_front (err_from_is_err_and c.from_residual-in_err-comments_with.result c.from_residual-in_err-comments_with.ensures.1) (c.in_err-comments_with.ensures.gives here) out_of_memory)
 

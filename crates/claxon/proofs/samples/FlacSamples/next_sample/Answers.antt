@@ -14,7 +14,7 @@ returns-then-self-duration g c =
       from_block = λ x left e.
           let both = first_same (sym c.give.ensures.sample ∙ e) in
           (record { is = ap (λ (z : ℤ). Some (Ok z)) both.0; left_are = both.1; goes_on = c.give.ensures.has_failed ∙ c.requires }, ap (λ (f : FrameReader g.row.R.Denot). bytes_in g.R.ReadBytes.source (frame_input f)) c.give.ensures.stream, c.give.ensures.capacity);
-      behind = λ e. absurd (none_some (sym e ∙ c.give.ensures.sample));
+      from_next_block = λ e. absurd (none_some (sym e ∙ c.give.ensures.sample));
     })
 
 pub returns : goal.returns
@@ -23,5 +23,5 @@ returns g c =
     record {
       stream = c.first_of_next_block.ensures.stream;
       from_block = λ x left e. absurd (none_some (sym (none_left s.block.channels s.sample s.channel (omega (arith, c.if-self-duration.false, c.duration.ensures.value))) ∙ e));
-      behind = λ e. c.first_of_next_block.ensures.step;
+      from_next_block = λ e. c.first_of_next_block.ensures.step;
     }
