@@ -12,15 +12,15 @@
 extern "C" {
 #endif
 
-/* What a call answers. */
+/* What a call returns. */
 enum claxon_status {
     CLAXON_OK = 0,
     CLAXON_FORMAT_ERROR = 1,  /* the stream is ill-formed: `error` says how */
     CLAXON_UNSUPPORTED = 2,   /* the stream has something that isn't supported: `error` says what */
-    CLAXON_INPUT_ENDS = 3,    /* the bytes end too early: hand in the same ones, and more */
+    CLAXON_INPUT_ENDS = 3,    /* the bytes end too early: pass the same ones, and more */
     CLAXON_OUT_OF_MEMORY = 4, /* malloc refused */
     CLAXON_NO_MORE = 5,       /* no further block, or no such tag */
-    CLAXON_BUFFER_SHORT = 6   /* there is no room for the samples or the text */
+    CLAXON_BUFFER_SHORT = 6   /* the samples or the text don't fit */
 };
 
 /* The most samples that a block has, of all channels. */
@@ -28,13 +28,13 @@ enum claxon_status {
 
 /* What the head of a stream says. All zeros stand for a stream of which nothing is known. */
 struct claxon_info {
-    size_t first_frame;       /* the number of bytes of the head: where the first frame stands */
+    size_t first_frame;       /* the number of bytes of the head: where the first frame begins */
     size_t tags;              /* the number of tags */
     uint64_t samples;         /* the samples of each channel, or 0 where that isn't known */
     uint32_t sample_rate;     /* in Hz */
     uint32_t channels;        /* 1 to 8 */
     uint32_t bits_per_sample; /* 1 to 32 */
-    uint16_t min_block_size;  /* of each channel, the last block aside */
+    uint16_t min_block_size;  /* of each channel, except the last block */
     uint16_t max_block_size;
 };
 
@@ -46,20 +46,20 @@ struct claxon_block {
 };
 
 /* Reads the head that the bytes begin with. CLAXON_OK fills `info`.
- * Else: FORMAT_ERROR, UNSUPPORTED, INPUT_ENDS, OUT_OF_MEMORY; `error` gets a text that ends with 0, cut where it has no room. */
+ * Else: FORMAT_ERROR, UNSUPPORTED, INPUT_ENDS, OUT_OF_MEMORY; `error` gets a text that ends with 0, cut where it doesn't fit. */
 uint32_t claxon_open(const uint8_t *bytes, size_t length, struct claxon_info *info, char *error, size_t error_size);
 
-/* Puts `NAME=value` of a tag of the head that the bytes begin with, in UTF-8, and a 0 behind it. The first tag has index 0.
- * CLAXON_OK and BUFFER_SHORT tell its length, without the 0. NO_MORE: index is not below info.tags.
+/* Writes `NAME=value` of a tag of the head that the bytes begin with, in UTF-8, and a 0 after it. The first tag has index 0.
+ * CLAXON_OK and BUFFER_SHORT set its length, without the 0. NO_MORE: index is not below info.tags.
  * Else as claxon_open, with the error's text in `text`. */
 uint32_t claxon_tag(const uint8_t *bytes, size_t length, size_t index, char *text, size_t text_size, size_t *text_length);
 
-/* Decodes the frame at *at. CLAXON_OK fills `block`, puts channels * duration samples, those of one place after another, and
- * moves *at behind the frame. All else leaves *at and the samples as they are:
- * NO_MORE: fewer than two bytes are left. INPUT_ENDS: the bytes end within the frame. BUFFER_SHORT: `block` is filled, and there
- * is no room for so many samples. FORMAT_ERROR, UNSUPPORTED, OUT_OF_MEMORY, INPUT_ENDS: `error` gets a text. */
+/* Decodes the frame at *at. CLAXON_OK fills `block`, writes channels * duration samples, interleaved, and moves *at after the
+ * frame. All else leaves *at and the samples as they are:
+ * NO_MORE: fewer than two bytes are left. INPUT_ENDS: the bytes end within the frame. BUFFER_SHORT: `block` is filled, and its
+ * samples don't fit. FORMAT_ERROR, UNSUPPORTED, OUT_OF_MEMORY, INPUT_ENDS: `error` gets a text. */
 uint32_t claxon_next_block(const uint8_t *bytes, size_t length, size_t *at, const struct claxon_info *info, int32_t *samples,
-                           size_t room, struct claxon_block *block, char *error, size_t error_size);
+                           size_t capacity, struct claxon_block *block, char *error, size_t error_size);
 
 #ifdef __cplusplus
 }

@@ -19,26 +19,26 @@ struct input {
     FILE *file;
     uint8_t *bytes;
     size_t length;
-    size_t room;
+    size_t capacity;
     size_t step;
 };
 
 static int32_t samples[CLAXON_MOST_SAMPLES];
 static unsigned char out[4 * CLAXON_MOST_SAMPLES];
 
-/* Drops the bytes before *at, and reads more behind the others. Returns 0 where the file has no more. */
+/* Drops the bytes before *at, and reads more after the others. Returns 0 where the file has no more. */
 static int refill(struct input *input, size_t *at) {
     memmove(input->bytes, input->bytes + *at, input->length - *at);
     input->length -= *at;
     *at = 0;
-    if (input->room - input->length < input->step) {
-        size_t room = 2 * (input->room + input->step);
-        uint8_t *bytes = realloc(input->bytes, room);
+    if (input->capacity - input->length < input->step) {
+        size_t capacity = 2 * (input->capacity + input->step);
+        uint8_t *bytes = realloc(input->bytes, capacity);
         if (!bytes) {
             return 0;
         }
         input->bytes = bytes;
-        input->room = room;
+        input->capacity = capacity;
     }
     size_t count = fread(input->bytes + input->length, 1, input->step, input->file);
     input->length += count;
@@ -106,24 +106,24 @@ static uint32_t play(struct input *input, int only_tags, char *error, size_t err
 int main(int argc, char **argv) {
     struct input input = {NULL, malloc(1), 0, 1, 65536};
     int only_tags = 0;
-    int word = 1;
+    int arg = 1;
     char error[128] = "";
-    for (; word < argc - 1; word++) {
-        if (strcmp(argv[word], "--tags") == 0) {
+    for (; arg < argc - 1; arg++) {
+        if (strcmp(argv[arg], "--tags") == 0) {
             only_tags = 1;
-        } else if (strcmp(argv[word], "--step") == 0 && word < argc - 2) {
-            input.step = strtoul(argv[++word], NULL, 10);
+        } else if (strcmp(argv[arg], "--step") == 0 && arg < argc - 2) {
+            input.step = strtoul(argv[++arg], NULL, 10);
         } else {
             break;
         }
     }
-    if (word != argc - 1 || input.step == 0 || !input.bytes) {
+    if (arg != argc - 1 || input.step == 0 || !input.bytes) {
         fprintf(stderr, "usage: play [--tags] [--step BYTES] FILE\n");
         return 2;
     }
-    input.file = fopen(argv[word], "rb");
+    input.file = fopen(argv[arg], "rb");
     if (!input.file) {
-        perror(argv[word]);
+        perror(argv[arg]);
         return 1;
     }
     uint32_t status = play(&input, only_tags, error, sizeof error);

@@ -37,7 +37,7 @@ extern "C" {
         at: &mut usize,
         info: &Info,
         samples: *mut i32,
-        room: usize,
+        capacity: usize,
         block: &mut Block,
         error: *mut u8,
         error_size: usize,

@@ -35,34 +35,34 @@ static void add_samples(struct tally *tally, size_t count) {
     tally->count += count;
 }
 
-/* The same call with room for one sample less leaves all as it is, and tells what room is needed. */
+/* The same call with a capacity of one sample less leaves all as it is, and shows the block whose samples don't fit. */
 static void try_short(const char *name, const uint8_t *bytes, size_t length, size_t at, const struct claxon_info *info, const struct claxon_block *block) {
-    struct claxon_block told;
+    struct claxon_block shown;
     char error[1];
     size_t same = at;
     size_t count = (size_t)block->channels * block->duration;
     memset(samples, UNTOUCHED, sizeof samples);
-    uint32_t status = claxon_next_block(bytes, length, &same, info, samples, count - 1, &told, error, 0);
+    uint32_t status = claxon_next_block(bytes, length, &same, info, samples, count - 1, &shown, error, 0);
     expect(status == CLAXON_BUFFER_SHORT && same == at, name, "a short buffer");
-    expect(told.channels == block->channels && told.duration == block->duration && told.time == block->time, name, "the block of a short buffer");
+    expect(shown.channels == block->channels && shown.duration == block->duration && shown.time == block->time, name, "the block of a short buffer");
     expect(samples[0] == samples[CLAXON_MOST_SAMPLES], name, "samples in a short buffer");
-    status = claxon_next_block(bytes, length, &same, info, samples, count, &told, error, 0);
+    status = claxon_next_block(bytes, length, &same, info, samples, count, &shown, error, 0);
     expect(status == CLAXON_OK && samples[count] == samples[CLAXON_MOST_SAMPLES], name, "a buffer of just that size");
 }
 
-/* The text of an error in so little room: a front of it, a 0, and nothing behind that room. */
+/* The text of an error in a small buffer: a prefix of it, a 0, and nothing after the buffer. */
 static void try_cut_text(const char *name, const uint8_t *bytes, size_t length, const char *text) {
     struct claxon_info info;
-    for (size_t room = 0; room < 8; room++) {
+    for (size_t capacity = 0; capacity < 8; capacity++) {
         char cut[9];
         memset(cut, UNTOUCHED, sizeof cut);
-        claxon_open(bytes, length, &info, cut, room);
-        expect(room == 0 || (strlen(cut) == room - 1 && strncmp(cut, text, room - 1) == 0), name, "a cut text");
-        expect(cut[room] == UNTOUCHED, name, "behind a cut text");
+        claxon_open(bytes, length, &info, cut, capacity);
+        expect(capacity == 0 || (strlen(cut) == capacity - 1 && strncmp(cut, text, capacity - 1) == 0), name, "a cut text");
+        expect(cut[capacity] == UNTOUCHED, name, "after a cut text");
     }
 }
 
-/* Hands the file in by pieces of so many bytes, and answers the last status. */
+/* Passes the file in pieces of this many bytes, and returns the last status. */
 static uint32_t decode(const char *name, const uint8_t *bytes, size_t length, size_t piece, struct tally *tally, char *error, size_t error_size) {
     struct claxon_info info;
     struct claxon_block block;
@@ -81,7 +81,7 @@ static uint32_t decode(const char *name, const uint8_t *bytes, size_t length, si
     start = info.first_frame;
     for (;;) {
         size_t before = at;
-        /* The bytes before `start` aren't handed in any more. */
+        /* The bytes before `start` aren't passed any more. */
         status = claxon_next_block(bytes + start, end - start, &at, &info, samples, CLAXON_MOST_SAMPLES, &block, error, error_size);
         if (status == CLAXON_OK) {
             add_samples(tally, (size_t)block.channels * block.duration);
@@ -90,7 +90,7 @@ static uint32_t decode(const char *name, const uint8_t *bytes, size_t length, si
             }
             continue;
         }
-        expect(at == before, name, "the place after no block");
+        expect(at == before, name, "the position after no block");
         if ((status != CLAXON_INPUT_ENDS && status != CLAXON_NO_MORE) || end == length) {
             return status;
         }
@@ -111,14 +111,14 @@ static void try_file(const char *name, const uint8_t *bytes, size_t length, uint
     for (size_t i = 0; i < 4; i++) {
         struct tally tally = {0, UINT64_C(0xcbf29ce484222325)};
         char error[128] = "";
-        char told[256];
+        char reported[256];
         if (pieces[i] == 1 && length > 4096) {
             continue;
         }
         uint32_t status = decode(name, bytes, length, pieces[i], &tally, error, sizeof error);
-        snprintf(told, sizeof told, "%s%s", kind_of(status), status == CLAXON_NO_MORE ? "ok" : status == CLAXON_INPUT_ENDS ? "IO" : error);
-        if (tally.count != count || tally.hash != hash || strcmp(told, answer) != 0) {
-            printf("%s by %zu: %" PRIu64 " %016" PRIx64 " %s\n", name, pieces[i], tally.count, tally.hash, told);
+        snprintf(reported, sizeof reported, "%s%s", kind_of(status), status == CLAXON_NO_MORE ? "ok" : status == CLAXON_INPUT_ENDS ? "IO" : error);
+        if (tally.count != count || tally.hash != hash || strcmp(reported, answer) != 0) {
+            printf("%s by %zu: %" PRIu64 " %016" PRIx64 " %s\n", name, pieces[i], tally.count, tally.hash, reported);
             failures++;
         }
     }

@@ -1,4 +1,4 @@
--- What stands at the front of bytes in memory, and how many bytes that has.
+-- What bytes in memory begin with, and how many bytes it has.
 use Rattle.std.proofs.Common.{◌≡◌, ◌⊎◌, inl, inr, ℕ, ◌-◌, true, subst, List, ◌++◌, length, Option, None, Some, sym, ap, ◌∙◌, arith, length-append, Bor}
 use Rattle.std.specs.Prelude.{Result, Ok, Err, IfErr, IfOk, IfSome}
 use Rattle.std.specs.declared.io.Cursor.{Cursor}
@@ -30,13 +30,13 @@ Slice = Cursor (Bor (List ℕ))
 abbrev pub shown_bytes : Bor (List ℕ) → List ℕ
 shown_bytes s = s.now
 
--- how many bytes were taken says what is left
-module _ (bytes : List ℕ) (a : State ℕ) (b : Slice) (taken : ℕ) (comes : Remains a bytes) (count : taken ≡ length bytes - cursor_left shown_bytes b) where
+-- the number of consumed bytes says what is left
+module _ (bytes : List ℕ) (a : State ℕ) (b : Slice) (taken : ℕ) (remains : Remains a bytes) (count : taken ≡ length bytes - cursor_left shown_bytes b) where
   pub begins_with_length : {Code : List ℕ → Type 0} → Consumed a (slice_state b) Code → BeginsWithLength Code bytes taken
   begins_with_length consumed =
-      let k = (consumed comes.known).1 in
+      let k = (consumed remains.known).1 in
       let left = cursor_remains shown_bytes b in
-      let joined : bytes ≡ k.0 ++ (slice_state b).remaining = sym comes.are ∙ k.2 in
+      let joined : bytes ≡ k.0 ++ (slice_state b).remaining = sym remains.are ∙ k.2 in
       let rest : length (slice_state b).remaining ≡ cursor_left shown_bytes b = ap length left.are ∙ length-drop (cursor_position b) (cursor_inner b).now in
       (k.0, (slice_state b).remaining, k.1, joined, omega (arith, count, rest, ap length joined, length-append k.0 (slice_state b).remaining))
 
@@ -46,18 +46,18 @@ module _ (bytes : List ℕ) (a : State ℕ) (b : Slice) (taken : ℕ) (comes : R
   frame_begins stream (Err e) h = tt
 
   pub frame_at_start : (stream : Option StreamFormat) (r : FrameAnswer) → FoundIsSound block_view r (Frame stream) a (slice_state b) → SliceFramePromises stream bytes r → FrameAtStart stream bytes r taken
-  frame_at_start stream r h m = record { sound = frame_begins stream r h; complete = m.complete; end = m.end; fault = m.fault; named = m.named; memory = m.memory }
+  frame_at_start stream r h m = record { sound = frame_begins stream r h; complete = m.complete; eof = m.eof; fault = m.fault; named = m.named; memory = m.memory }
 
--- a head, of which nothing was taken before
+-- a head, before which nothing was consumed
 module _ {A : Type 0} (view : StreamInfo × Option A → Head) (bytes : Bor (List ℕ)) (a b : Slice) (taken : ℕ) (at : cursor_position a ≡ 0) (inner : cursor_inner a ≡ bytes) (count : taken ≡ length bytes.now - cursor_left shown_bytes b) where
-  comes : Remains (slice_state a) bytes.now
-  comes = new_cursor_remains shown_bytes a bytes at inner
+  remains : Remains (slice_state a) bytes.now
+  remains = new_cursor_remains shown_bytes a bytes at inner
 
   there : (t rest : List ℕ) → bytes.now ≡ t ++ rest → Remains (slice_state a) (t ++ rest)
-  there t rest e = record { known = comes.known; are = comes.are ∙ e }
+  there t rest e = record { known = remains.known; are = remains.are ∙ e }
 
   head_begins_with_length : (r : Result (StreamInfo × Option A) Error) → CodeIsSound view r (HeadCode (with_samples true)) (slice_state a) (slice_state b) → IfOk r (λ shown. BeginsWithLength (HeadCode (with_samples true) (view shown)) bytes.now taken)
-  head_begins_with_length (Ok shown) h = begins_with_length bytes.now (slice_state a) b taken comes count h
+  head_begins_with_length (Ok shown) h = begins_with_length bytes.now (slice_state a) b taken remains count h
   head_begins_with_length (Err e) h = tt
 
   head_fault_sound : (r : Result (StreamInfo × Option A) Error) → FaultIsSound r (HeadFault (with_samples true)) (slice_state a) (slice_state b)
@@ -66,7 +66,7 @@ module _ {A : Type 0} (view : StreamInfo × Option A → Head) (bytes : Bor (Lis
   head_fault_sound (Err e) h = elim h [
     | inl m ↦ inl m
     | inr (inl i) ↦ inr (inl i)
-    | inr (inr k) ↦ inr (inr (let f = k comes.known in (f.0, f.1, begins_with_consumed (slice_state a) (slice_state b) bytes.now comes f.2)))
+    | inr (inr k) ↦ inr (inr (let f = k remains.known in (f.0, f.1, begins_with_consumed (slice_state a) (slice_state b) bytes.now remains f.2)))
   ]
 
   pub head_at_start : (r : Result (StreamInfo × Option A) Error) → IfOk r (λ shown. HasBounds shown.0) → CodeIsSound view r (HeadCode (with_samples true)) (slice_state a) (slice_state b)
@@ -84,5 +84,5 @@ module _ {A : Type 0} (view : StreamInfo × Option A → Head) (bytes : Bor (Lis
       | inl p ↦ inl p.0
       | inr x ↦ inr (cursor_just_out_of_memory shown_bytes r a b x)
     ];
-    memory = λ s. subst HeadMayRunOutOfMemory comes.are (memory s comes.known);
+    memory = λ s. subst HeadMayRunOutOfMemory remains.are (memory s remains.known);
   }

@@ -1,4 +1,4 @@
--- What a call answers for the frame at a place.
+-- What a call returns for the frame at a position.
 use Rattle.std.proofs.Common.{◌≡◌, inl, inr, ℕ, ℤ, ◌+◌, ◌-◌, ◌*◌, ◌<◌, List, length, take, drop, min, Option, None, Some, refl, sym, ap, subst, ◌∙◌, arith}
 use Rattle.std.specs.Prelude.{Result, Ok, Err, ◌≢◌}
 use Rattle.std.proofs.lemmas.List.{drop_all, length-drop, take_all}
@@ -15,28 +15,28 @@ use Rattle.claxon_c.specs.declared.next_block.ClaxonBlock.{ClaxonBlock}
 use Rattle.claxon_c.specs.AtStart.{FrameAtStart}
 use Rattle.claxon_c.specs.NextBlock.{CBlockIsSound, IsBlockStatus, CBlockIsComplete, CBlockFaultIsComplete, CBlockFaultIsSound, CBlockElseIoError, PositionIsKept, SamplesAreGiven, ShowsBlock, CBlockOutOfMemoryAfterHeader, CBlockNoMoreIffEof}
 use Rattle.claxon_c.specs.Status.{ErrorIsReported, TextIsReported, buffer_short, no_more, ok}
-use Rattle.claxon_c.proofs.Told.{each_fault_reported, io_error_reported, fault_reported, just_error, error_out_of_memory, out_of_memory_reported, text_reported}
+use Rattle.claxon_c.proofs.Reports.{each_fault_reported, io_error_reported, fault_reported, just_error, error_out_of_memory, out_of_memory_reported, text_reported}
 
--- all that is promised of it
+-- all clauses of it
 pub record CBlockPromises (stream : Option StreamFormat) (bytes : List ℕ) (status from to : ℕ) (old new : List ℤ) (shown : ClaxonBlock) (before after : List ℕ) : Type 0 where
   pub sound : CBlockIsSound stream bytes status from to old new shown
   pub complete : CBlockIsComplete stream bytes status from to old new shown
   pub fault : CBlockFaultIsSound stream (drop from bytes) status before after
   pub named : CBlockFaultIsComplete stream (drop from bytes) status before after
-  pub end : CBlockNoMoreIffEof (drop from bytes) status
+  pub eof : CBlockNoMoreIffEof (drop from bytes) status
   pub io : CBlockElseIoError stream (drop from bytes) status
   pub memory : CBlockOutOfMemoryAfterHeader stream (drop from bytes) status
   pub text : TextIsReported status before after
   pub kept : PositionIsKept status from to old new
 
--- a place past the end is as good as the end
+-- a position past the end is as good as the end
 same_rest : (from start : ℕ) (bytes : List ℕ) → start ≡ min (length bytes) from → drop start bytes ≡ drop from bytes
 same_rest from start bytes e = elim (cases_lt (length bytes) from) [
   | inr le ↦ (let s : start ≡ from = omega arith in ap (λ (n : ℕ). drop n bytes) s)
   | inl lt ↦ drop_all start bytes (omega arith) ∙ sym (drop_all from bytes (omega arith))
 ]
 
--- of the bytes from the place on
+-- of the bytes from the position on
 pub at_position : (known stream : Option StreamFormat) (bytes : List ℕ) (from start : ℕ) (r : FrameAnswer) (taken : ℕ) → known ≡ stream → start ≡ min (length bytes) from → FrameAtStart known (take (length bytes - start) (drop start bytes)) r taken
     → FrameAtStart stream (drop from bytes) r taken
 at_position known stream bytes from start r taken e s h =
@@ -49,19 +49,19 @@ not_out_of_memory x p = cc
 module _ (stream : Option StreamFormat) (bytes : List ℕ) (from taken : ℕ) (old new : List ℤ) (shown : ClaxonBlock) (before after : List ℕ) where
   -- no frame was read
   pub next_error : (e : Error) (status : ℕ) → FrameAtStart stream (drop from bytes) (Err e) taken → ErrorIsReported e status before after → CBlockPromises stream bytes status from from old old shown before after
-  next_error e status h known =
+  next_error e status h reported =
       let Bad : Fault → List ℕ → Type 0 = λ f. FrameBytesFault stream f in
-      let no = just_error status before after e known in
+      let no = just_error status before after e reported in
       let rest = drop from bytes in
       record {
         sound = λ says. absurd (elim says [ inl p ↦ no.0 p | inr p ↦ no.1.1 p ]);
-        complete = λ b begins. inr (elim (h.complete b begins) [ inl p ↦ absurd p | inr s ↦ out_of_memory_reported status before after rest Bad e known s ]);
-        fault = fault_reported status before after rest Bad e known h.fault;
-        named = λ f begins. each_fault_reported status before after rest Bad e known {A = Option BlockValue} f (h.named f begins);
-        end = (λ p. absurd (no.1.0 p), λ few. absurd (let q = h.end.1 few in cc));
-        io = λ some n. io_error_reported status before after rest Bad e known h.fault n;
-        memory = λ is. h.memory (error_out_of_memory status before after rest Bad e known is);
-        text = text_reported status before after e known;
+        complete = λ b begins. inr (elim (h.complete b begins) [ inl p ↦ absurd p | inr s ↦ out_of_memory_reported status before after rest Bad e reported s ]);
+        fault = fault_reported status before after rest Bad e reported h.fault;
+        named = λ f begins. each_fault_reported status before after rest Bad e reported {A = Option BlockValue} f (h.named f begins);
+        eof = (λ p. absurd (no.1.0 p), λ few. absurd (let q = h.eof.1 few in cc));
+        io = λ some n. io_error_reported status before after rest Bad e reported h.fault n;
+        memory = λ is. h.memory (error_out_of_memory status before after rest Bad e reported is);
+        text = text_reported status before after e reported;
         kept = λ p. (refl, refl);
       }
 
@@ -72,8 +72,8 @@ module _ (stream : Option StreamFormat) (bytes : List ℕ) (from taken : ℕ) (o
     complete = λ b begins. absurd (elim (h.complete b begins) [ inl p ↦ p | inr s ↦ not_out_of_memory None s ]);
     fault = λ says. absurd (elim says [ inl p ↦ absurd cc | inr p ↦ absurd cc ]);
     named = λ f begins. absurd (elim (h.named f begins) [ inl p ↦ p | inr s ↦ not_out_of_memory None s ]);
-    end = (λ p. h.end.0 refl, λ few. refl);
-    io = λ some n. absurd (omega (arith, some, h.end.0 refl));
+    eof = (λ p. h.eof.0 refl, λ few. refl);
+    io = λ some n. absurd (omega (arith, some, h.eof.0 refl));
     memory = λ is. absurd cc;
     text = (λ p. absurd cc, λ p. absurd cc);
     kept = λ p. (refl, refl);
@@ -85,21 +85,21 @@ module _ (stream : Option StreamFormat) (bytes : List ℕ) (from taken : ℕ) (o
     same_block b begins = elim (h.complete b begins) [ inl p ↦ p | inr q ↦ absurd (not_out_of_memory (Some found) q) ]
 
     enough : length (drop from bytes) < 2 → ⊥
-    enough few = let q = h.end.1 few in cc
+    enough few = let q = h.eof.1 few in cc
 
-    behind : start + taken ≡ from + length h.sound.0
-    behind = elim (cases_lt (length (drop from bytes)) 2) [
+    after_frame : start + taken ≡ from + length h.sound.0
+    after_frame = elim (cases_lt (length (drop from bytes)) 2) [
       | inr le ↦ omega (arith, s, le, length-drop from bytes, h.sound.4)
       | inl lt ↦ absurd (enough lt)
     ]
 
     given : (status to : ℕ) → (status ≡ ok → to ≡ start + taken) → IsBlockStatus status → SamplesAreGiven (block_view found) status old new → (status ≢ ok → (to ≡ from) × (new ≡ old)) → CBlockPromises stream bytes status from to old new shown before before
     given status to moved says put kept = record {
-      sound = λ q. (block_view found, record { front = h.sound.0; rest = h.sound.1; frame = h.sound.2; joined = h.sound.3; place = λ p. moved p ∙ behind }, shows, put);
+      sound = λ q. (block_view found, record { front = h.sound.0; rest = h.sound.1; frame = h.sound.2; joined = h.sound.3; position = λ p. moved p ∙ after_frame }, shows, put);
       complete = λ b begins. inl (subst (λ (z : Block). ShowsBlock z shown × SamplesAreGiven z status old new) (same_block b begins) (shows, put));
       fault = λ q. absurd (elim q [ inl p ↦ elim says [ inl a ↦ absurd cc | inr a ↦ absurd cc ] | inr p ↦ elim says [ inl a ↦ absurd cc | inr a ↦ absurd cc ] ]);
       named = λ f begins. absurd (elim (h.named f begins) [ inl p ↦ p | inr q ↦ not_out_of_memory (Some found) q ]);
-      end = (λ p. absurd (elim says [ inl a ↦ absurd cc | inr a ↦ absurd cc ]), λ few. absurd (enough few));
+      eof = (λ p. absurd (elim says [ inl a ↦ absurd cc | inr a ↦ absurd cc ]), λ few. absurd (enough few));
       io = λ some n. absurd (n.no_code (block_view found) h.sound.0 h.sound.1 h.sound.2 h.sound.3);
       memory = λ p. absurd (elim says [ inl a ↦ absurd cc | inr a ↦ absurd cc ]);
       text = (λ p. absurd (elim says [ inl a ↦ absurd cc | inr a ↦ absurd cc ]), λ p. absurd (elim says [ inl a ↦ absurd cc | inr a ↦ absurd cc ]));
@@ -110,7 +110,7 @@ module _ (stream : Option StreamFormat) (bytes : List ℕ) (from taken : ℕ) (o
       → CBlockPromises stream bytes ok from (start + taken) old new shown before before
   next_block found start s h shows put = given found start s h shows ok (start + taken) (λ p. refl) (inl refl) put (λ no. absurd (no refl))
 
--- there is no room for its samples
+-- its samples don't fit
 pub next_buffer_short : (stream : Option StreamFormat) (bytes : List ℕ) (from taken : ℕ) (old : List ℤ) (shown : ClaxonBlock) (before : List ℕ) (found : BlockValue) (start : ℕ) → start ≡ min (length bytes) from → FrameAtStart stream (drop from bytes) (Ok (Some found)) taken
     → ShowsBlock (block_view found) shown → length old < length found.channels * duration found.channels → CBlockPromises stream bytes buffer_short from from old old shown before before
 next_buffer_short stream bytes from taken old shown before found start s h shows short =

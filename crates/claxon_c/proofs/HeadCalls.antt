@@ -1,4 +1,4 @@
--- What calls answer for the head at the front of bytes.
+-- What calls return for the head at the start of bytes.
 use Rattle.std.proofs.Common.{◌≡◌, inl, inr, ℕ, zero, suc, true, List, [], ◌∷◌, length, nat_le, Option, None, Some, refl, sym, ap, subst, ◌∙◌, rules, Global}
 use Rattle.std.specs.Prelude.{Result, Ok, Err, map, slice_get, ◌≢◌, string_bytes}
 use Rattle.std.specs.declared.string.String.{String}
@@ -17,27 +17,27 @@ use Rattle.claxon_c.specs.AtStart.{BeginsWithLength, HeadAtStart}
 use Rattle.claxon_c.specs.HeadCalls.{AnswersText, CHeadFaultIsComplete, CHeadFaultIsSound, CHeadElseIoError, ShowsHead, CHeadOutOfMemoryAfterHeader, texts_of}
 use Rattle.claxon_c.specs.Info.{InfoShows, known_stream}
 use Rattle.claxon_c.specs.Status.{ErrorIsReported, IsFaultStatus, out_of_memory, input_ends}
-use Rattle.claxon_c.proofs.Told.{each_fault_reported, io_error_reported, fault_reported, error_out_of_memory, out_of_memory_reported}
+use Rattle.claxon_c.proofs.Reports.{each_fault_reported, io_error_reported, fault_reported, error_out_of_memory, out_of_memory_reported}
 
 module _ {A : Type 0} (view : StreamInfo × Option A → Head) (bytes : List ℕ) (taken status : ℕ) (old new : List ℕ) where
   -- there is none
-  module _ (e : Error) (h : HeadAtStart view bytes (Err e) taken) (known : ErrorIsReported e status old new) where
+  module _ (e : Error) (h : HeadAtStart view bytes (Err e) taken) (reported : ErrorIsReported e status old new) where
     pub head_fault : CHeadFaultIsSound bytes status old new
-    head_fault = fault_reported status old new bytes (λ f. HeadFault (with_samples true) f) e known h.fault
+    head_fault = fault_reported status old new bytes (λ f. HeadFault (with_samples true) f) e reported h.fault
 
     pub head_named : CHeadFaultIsComplete bytes status old new
-    head_named f begins = each_fault_reported status old new bytes (λ f. HeadFault (with_samples true) f) e known {A = StreamInfo × Option A} f (h.named f begins)
+    head_named f begins = each_fault_reported status old new bytes (λ f. HeadFault (with_samples true) f) e reported {A = StreamInfo × Option A} f (h.named f begins)
 
     pub head_io : CHeadElseIoError bytes status
-    head_io n = io_error_reported status old new bytes (λ f. HeadFault (with_samples true) f) e known h.fault n
+    head_io n = io_error_reported status old new bytes (λ f. HeadFault (with_samples true) f) e reported h.fault n
 
     pub head_memory : CHeadOutOfMemoryAfterHeader bytes status
-    head_memory is = h.memory (error_out_of_memory status old new bytes (λ f. HeadFault (with_samples true) f) e known is)
+    head_memory is = h.memory (error_out_of_memory status old new bytes (λ f. HeadFault (with_samples true) f) e reported is)
 
     pub head_out_of_memory : (head : Head) → BeginsWith (HeadCode (with_samples true) head) bytes → status ≡ out_of_memory
-    head_out_of_memory head begins = elim (h.complete head begins) [ inl p ↦ absurd p | inr s ↦ out_of_memory_reported status old new bytes (λ f. HeadFault (with_samples true) f) e known s ]
+    head_out_of_memory head begins = elim (h.complete head begins) [ inl p ↦ absurd p | inr s ↦ out_of_memory_reported status old new bytes (λ f. HeadFault (with_samples true) f) e reported s ]
 
-  -- this one stands there
+  -- there is this one
   module _ (z : StreamInfo × Option A) (h : HeadAtStart view bytes (Ok z) taken) where
     not_out_of_memory : (let q : Result (StreamInfo × Option A) Error = Ok z in q) ≡ Err OutOfMemory → ⊥
     not_out_of_memory p = cc
@@ -96,7 +96,7 @@ gives_text found comment index pair status old new count is at h =
     let e : slice_get (texts_of (found_view found)) index ≡ Some (string_bytes pair.0) = ap (λ (x : Option (VorbisComment Global)). slice_get (texts_of (found_view x)) index) is ∙ text_of_entry comment.comments.items index pair at in
     subst (λ (x : Option (List ℕ)). AnswersText x status old new count) (sym e) h
 
--- the head is what stands before the first frame
+-- the head is the bytes before the first frame
 pub head_at_first_frame : (found : StreamInfo) (comment : Option (VorbisComment Global)) (bytes : List ℕ) (info : ClaxonInfo) (taken : ℕ) → HeadAtStart (head_view {A = Global}) bytes (Ok (found, comment)) taken → info.first_frame ≡ taken
     → BeginsWithLength (HeadCode (with_samples true) (head_view {A = Global} (found, comment))) bytes info.first_frame
 head_at_first_frame found comment bytes info taken h first = (h.sound.0, h.sound.1, h.sound.2, h.sound.3, first ∙ h.sound.4)

@@ -2,4 +2,4 @@ pub mod AtStart
 pub mod BlockCalls
 pub mod HeadCalls
 pub mod InterleavedSamples
-pub mod Told
+pub mod Reports

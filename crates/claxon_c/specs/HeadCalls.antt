@@ -1,4 +1,4 @@
--- What calls answer that read the head at the front of bytes. Of the excuses of a reader just want of memory is left, since no read of bytes in memory fails.
+-- What calls return that read the head at the start of bytes. No read of bytes in memory fails, so the only excuse is `out_of_memory`.
 use Rattle.std.specs.Prelude.{◌≡◌, ◌≢◌, ◌⊎◌, ℕ, ◌≤◌, ◌<◌, true, List, [], length, map, slice_get, Option, None, Some}
 use Rattle.claxon.specs.Comments.{Comment}
 use Rattle.claxon.specs.Fault.{Fault}
@@ -12,12 +12,12 @@ use Rattle.claxon_c.specs.AtStart.{BeginsWithLength}
 use Rattle.claxon_c.specs.Info.{known_stream}
 use Rattle.claxon_c.specs.Status.{FaultIsReported, IsFaultStatus, TextIsPut, buffer_short, input_ends, no_more, ok, out_of_memory}
 
--- the texts of tags
+-- the texts of the tags
 abbrev pub texts_of : Option Comment → List (List ℕ)
 texts_of None = []
 texts_of (Some comment) = map (λ entry. entry.text) comment.entries
 
--- It shows this head of so many bytes, and says what its frames need to know.
+-- It shows this head of so many bytes, and what its frames need to know.
 pub record ShowsHead (h : Head) (count : ℕ) (info : ClaxonInfo) : Type 0 where
   pub first_frame : info.first_frame ≡ count
   pub tags : info.tags ≡ length (texts_of h.comment)
@@ -29,49 +29,67 @@ pub record ShowsHead (h : Head) (count : ℕ) (info : ClaxonInfo) : Type 0 where
   pub max_block_size : info.max_block_size ≡ h.info.max_block_size
   pub stream : known_stream info ≡ Some (stream_of h.info)
 
--- The answer for a place among texts: the text and its length, its length alone where there is no room for it, or that there is none.
+-- The answer for an index of a text: the text and its length, its length alone where it doesn't fit, or that there is none.
 abbrev pub AnswersText : Option (List ℕ) → ℕ → List ℕ → List ℕ → ℕ → Type 0
 AnswersText None status old new count = status ≡ no_more
 AnswersText (Some text) status old new count =
     (count ≡ length text) × (((status ≡ ok) × (length text < length old) × TextIsPut text old new) ⊎ ((status ≡ buffer_short) × (length old ≤ length text)))
 
--- the status says that a head stands there
+-- the status says that the bytes begin with a head
 abbrev pub IsHeadStatus : ℕ → Type 0
 IsHeadStatus status = (status ≡ ok) ⊎ ((status ≡ no_more) ⊎ (status ≡ buffer_short))
 
--- Nothing is shown but a head.
+-- The info is changed by `ok` alone.
 abbrev pub InfoIsKept : ℕ → ClaxonInfo → ClaxonInfo → Type 0
 InfoIsKept status old new = status ≢ ok → new ≡ old
 
 module _ (bytes : List ℕ) (status : ℕ) where
-  -- `ok` says that the head that is shown stands at the front.
+  -- With `ok` the bytes begin with the head that is shown.
   abbrev pub COpenIsSound : ClaxonInfo → Type 0
-  COpenIsSound info = status ≡ ok → (h : Head) × BeginsWithLength (HeadCode (with_samples true) h) bytes info.first_frame × ShowsHead h info.first_frame info
+  COpenIsSound info =
+      status ≡ ok
+      → (h : Head) × BeginsWithLength (HeadCode (with_samples true) h) bytes info.first_frame
+      × ShowsHead h info.first_frame info
 
-  -- Any head that stands there is shown, if memory is found.
+  -- A head that the bytes begin with is shown, or the status is `out_of_memory`.
   abbrev pub COpenIsComplete : ClaxonInfo → Type 0
-  COpenIsComplete info = (h : Head) → BeginsWith (HeadCode (with_samples true) h) bytes → ((status ≡ ok) × ShowsHead h info.first_frame info) ⊎ (status ≡ out_of_memory)
+  COpenIsComplete info =
+      (h : Head) → BeginsWith (HeadCode (with_samples true) h) bytes
+      → ((status ≡ ok) × ShowsHead h info.first_frame info) ⊎ (status ≡ out_of_memory)
 
-  -- A tag, or that there is none, or that there is no room for it, is answered of the head that stands there.
+  -- Of the head that the bytes begin with, the tag is returned, or that there is none, or that it doesn't fit.
   abbrev pub CTagIsSound : ℕ → List ℕ → List ℕ → ℕ → Type 0
-  CTagIsSound index old new count = IsHeadStatus status → (h : Head) × BeginsWith (HeadCode (with_samples true) h) bytes × AnswersText (slice_get (texts_of h.comment) index) status old new count
+  CTagIsSound index old new count =
+      IsHeadStatus status
+      → (h : Head) × BeginsWith (HeadCode (with_samples true) h) bytes
+      × AnswersText (slice_get (texts_of h.comment) index) status old new count
 
-  -- That of any head that stands there is, if memory is found.
+  -- So it is for each head that the bytes begin with, or the status is `out_of_memory`.
   abbrev pub CTagIsComplete : ℕ → List ℕ → List ℕ → ℕ → Type 0
-  CTagIsComplete index old new count = (h : Head) → BeginsWith (HeadCode (with_samples true) h) bytes → AnswersText (slice_get (texts_of h.comment) index) status old new count ⊎ (status ≡ out_of_memory)
+  CTagIsComplete index old new count =
+      (h : Head) → BeginsWith (HeadCode (with_samples true) h) bytes
+      → AnswersText (slice_get (texts_of h.comment) index) status old new count
+      ⊎ (status ≡ out_of_memory)
 
-  -- A status of a fault tells one that stands there; the text is put into `new`.
+  -- The status of a fault reports one that the bytes begin with; its text is written to `new`.
   abbrev pub CHeadFaultIsSound : List ℕ → List ℕ → Type 0
-  CHeadFaultIsSound old new = IsFaultStatus status → (f : Fault) × BeginsWith (HeadFault (with_samples true) f) bytes × FaultIsReported f status old new
+  CHeadFaultIsSound old new =
+      IsFaultStatus status
+      → (f : Fault) × BeginsWith (HeadFault (with_samples true) f) bytes
+      × FaultIsReported f status old new
 
-  -- Any fault that stands there is told, if memory is found.
+  -- A fault that the bytes begin with is reported, or the status is `out_of_memory`.
   abbrev pub CHeadFaultIsComplete : List ℕ → List ℕ → Type 0
-  CHeadFaultIsComplete old new = (f : Fault) → BeginsWith (HeadFault (with_samples true) f) bytes → FaultIsReported f status old new ⊎ (status ≡ out_of_memory)
+  CHeadFaultIsComplete old new =
+      (f : Fault) → BeginsWith (HeadFault (with_samples true) f) bytes
+      → FaultIsReported f status old new ⊎ (status ≡ out_of_memory)
 
-  -- Where neither stands the bytes end, if memory is found.
+  -- Where they begin with neither the status is `input_ends` or `out_of_memory`.
   abbrev pub CHeadElseIoError : Type 0
-  CHeadElseIoError = HasNeither (HeadCode (with_samples true)) (HeadFault (with_samples true)) bytes → (status ≡ input_ends) ⊎ (status ≡ out_of_memory)
+  CHeadElseIoError =
+      HasNeither (HeadCode (with_samples true)) (HeadFault (with_samples true)) bytes
+      → (status ≡ input_ends) ⊎ (status ≡ out_of_memory)
 
-  -- Memory is wanted only for a block of an application or of comments.
+  -- `out_of_memory` only for an application or comment block.
   abbrev pub CHeadOutOfMemoryAfterHeader : Type 0
   CHeadOutOfMemoryAfterHeader = status ≡ out_of_memory → HeadMayRunOutOfMemory bytes

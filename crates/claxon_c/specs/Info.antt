@@ -1,4 +1,4 @@
--- A `ClaxonInfo` in the words of the format.
+-- A `ClaxonInfo` as the format has it.
 use Rattle.std.specs.Prelude.{◌≡◌, ℕ, nat_le, ◌&&◌, cond, Option, None, Some}
 use Rattle.claxon.specs.Frame.{StreamFormat}
 use Rattle.claxon.specs.MetadataBlock.{or_zero}
@@ -16,7 +16,7 @@ pub record InfoShows (found : StreamInfo) (tags first_frame : ℕ) (info : Claxo
   pub min_block_size : info.min_block_size ≡ found.min_block_size
   pub max_block_size : info.max_block_size ≡ found.max_block_size
 
--- What it says of the stream: nothing, where no sample has its width.
+-- What it says of the stream: nothing, where the bit depth is out of range.
 abbrev pub known_stream : ClaxonInfo → Option StreamFormat
 known_stream info =
     cond (nat_le 1 info.bits_per_sample && nat_le info.bits_per_sample 32)

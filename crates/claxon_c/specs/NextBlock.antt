@@ -1,4 +1,4 @@
--- What a call answers for the frame at a place in bytes.
+-- What a call returns for the frame at a position in bytes.
 use Rattle.std.specs.Prelude.{◌≡◌, ◌≢◌, ◌⊎◌, ◌↔◌, ℕ, ℤ, ◌+◌, ◌*◌, ◌<◌, ◌≤◌, List, ◌++◌, length, drop, Option}
 use Rattle.claxon.specs.Fault.{Fault}
 use Rattle.claxon.specs.Frame.{StreamFormat, Block, Frame, FrameBytesFault}
@@ -9,9 +9,10 @@ use Rattle.claxon.specs.Prefix.{BeginsWith}
 use Rattle.claxon_c.specs.declared.next_block.ClaxonBlock.{ClaxonBlock}
 use Rattle.claxon_c.specs.Status.{FaultIsReported, IsFaultStatus, buffer_short, input_ends, no_more, ok, out_of_memory}
 
--- The samples of each place stand in front now, and what was behind them stays.
+-- The output begins with the interleaved samples, and its rest is unchanged.
 abbrev pub SamplesArePut : List (List ℤ) → List ℤ → List ℤ → Type 0
-SamplesArePut channels old new = new ≡ interleave channels ++ drop (length channels * duration channels) old
+SamplesArePut channels old new =
+    new ≡ interleave channels ++ drop (length channels * duration channels) old
 
 -- It shows this block.
 pub record ShowsBlock (b : Block) (shown : ClaxonBlock) : Type 0 where
@@ -19,55 +20,67 @@ pub record ShowsBlock (b : Block) (shown : ClaxonBlock) : Type 0 where
   pub channels : shown.channels ≡ length b.channels
   pub duration_is : shown.duration ≡ duration b.channels
 
--- The samples of the block are put where there is room, and else it is said that there is none.
+-- The samples of the block are written where they fit, else the status is `buffer_short`.
 abbrev pub SamplesAreGiven : Block → ℕ → List ℤ → List ℤ → Type 0
 SamplesAreGiven b status old new =
     ((status ≡ ok) × (length b.channels * duration b.channels ≤ length old) × SamplesArePut b.channels old new)
     ⊎ ((status ≡ buffer_short) × (length old < length b.channels * duration b.channels))
 
--- the status says that a frame stands there
+-- the status says that there is a frame
 abbrev pub IsBlockStatus : ℕ → Type 0
 IsBlockStatus status = (status ≡ ok) ⊎ (status ≡ buffer_short)
 
--- A frame of the block stands at the place, and with `ok` the place is behind it now.
+-- A frame of the block begins at the position, and with `ok` the position is after it now.
 pub record FrameIsAt (stream : Option StreamFormat) (bytes : List ℕ) (b : Block) (status from to : ℕ) : Type 0 where
   pub front : List ℕ
   pub rest : List ℕ
   pub frame : Frame stream b front
   pub joined : drop from bytes ≡ front ++ rest
-  pub place : status ≡ ok → to ≡ from + length front
+  pub position : status ≡ ok → to ≡ from + length front
 
 module _ (stream : Option StreamFormat) (bytes : List ℕ) (status from to : ℕ) (old new : List ℤ) (shown : ClaxonBlock) where
-  -- The block is shown whose frame stands at the place, its samples are put, and the place is behind it.
+  -- A frame begins at the position; its block is shown, its samples are written, and the position is after it.
   abbrev pub CBlockIsSound : Type 0
-  CBlockIsSound = IsBlockStatus status → (b : Block) × FrameIsAt stream bytes b status from to × ShowsBlock b shown × SamplesAreGiven b status old new
+  CBlockIsSound =
+      IsBlockStatus status
+      → (b : Block) × FrameIsAt stream bytes b status from to × ShowsBlock b shown
+      × SamplesAreGiven b status old new
 
-  -- The block of any frame that stands there is, if memory is found.
+  -- So it is for each frame that begins there, or the status is `out_of_memory`.
   abbrev pub CBlockIsComplete : Type 0
-  CBlockIsComplete = (b : Block) → BeginsWith (Frame stream b) (drop from bytes) → (ShowsBlock b shown × SamplesAreGiven b status old new) ⊎ (status ≡ out_of_memory)
+  CBlockIsComplete =
+      (b : Block) → BeginsWith (Frame stream b) (drop from bytes)
+      → (ShowsBlock b shown × SamplesAreGiven b status old new) ⊎ (status ≡ out_of_memory)
 
--- Nothing else moves the place or puts samples.
+-- The position and the samples are changed by `ok` alone.
 abbrev pub PositionIsKept : ℕ → ℕ → ℕ → List ℤ → List ℤ → Type 0
 PositionIsKept status from to old new = status ≢ ok → (to ≡ from) × (new ≡ old)
 
--- `bytes` are those from the place on.
+-- `bytes` are those from the position on.
 module _ (stream : Option StreamFormat) (bytes : List ℕ) (status : ℕ) where
-  -- A status of a fault tells one that stands there; the text is put into `new`.
+  -- The status of a fault reports one that the bytes begin with; its text is written to `new`.
   abbrev pub CBlockFaultIsSound : List ℕ → List ℕ → Type 0
-  CBlockFaultIsSound old new = IsFaultStatus status → (f : Fault) × BeginsWith (FrameBytesFault stream f) bytes × FaultIsReported f status old new
+  CBlockFaultIsSound old new =
+      IsFaultStatus status
+      → (f : Fault) × BeginsWith (FrameBytesFault stream f) bytes × FaultIsReported f status old new
 
-  -- Any fault that stands there is told, if memory is found.
+  -- A fault that the bytes begin with is reported, or the status is `out_of_memory`.
   abbrev pub CBlockFaultIsComplete : List ℕ → List ℕ → Type 0
-  CBlockFaultIsComplete old new = (f : Fault) → BeginsWith (FrameBytesFault stream f) bytes → FaultIsReported f status old new ⊎ (status ≡ out_of_memory)
+  CBlockFaultIsComplete old new =
+      (f : Fault) → BeginsWith (FrameBytesFault stream f) bytes
+      → FaultIsReported f status old new ⊎ (status ≡ out_of_memory)
 
-  -- Where two bytes or more are left and neither stands the bytes end, if memory is found.
+  -- Where two bytes or more are left and they begin with neither, the status is `input_ends` or `out_of_memory`.
   abbrev pub CBlockElseIoError : Type 0
-  CBlockElseIoError = 2 ≤ length bytes → HasNeither (Frame stream) (FrameBytesFault stream) bytes → (status ≡ input_ends) ⊎ (status ≡ out_of_memory)
+  CBlockElseIoError =
+      2 ≤ length bytes → HasNeither (Frame stream) (FrameBytesFault stream) bytes
+      → (status ≡ input_ends) ⊎ (status ≡ out_of_memory)
 
-  -- Memory is wanted only where they begin with the header of a frame that has samples.
+  -- `out_of_memory` only where they begin with the header of a frame that has samples.
   abbrev pub CBlockOutOfMemoryAfterHeader : Type 0
-  CBlockOutOfMemoryAfterHeader = status ≡ out_of_memory → BeginsWith (HeaderOfMoreSamples stream 0) bytes
+  CBlockOutOfMemoryAfterHeader =
+      status ≡ out_of_memory → BeginsWith (HeaderOfMoreSamples stream 0) bytes
 
--- `no_more` is answered exactly where fewer than two bytes are left.
+-- `no_more` is returned exactly where fewer than two bytes are left.
 abbrev pub CBlockNoMoreIffEof : List ℕ → ℕ → Type 0
 CBlockNoMoreIffEof bytes status = (status ≡ no_more) ↔ (length bytes < 2)

@@ -1,4 +1,4 @@
--- What calls answer: a status, and a text that ends with a zero byte.
+-- What calls return: a status, and a text that ends with a zero byte.
 use Rattle.std.specs.Prelude.{◌≡◌, ◌⊎◌, ℕ, ◌-◌, ◌<◌, cond, List, [], ◌∷◌, ◌++◌, codes, length, take, drop}
 use Rattle.claxon.specs.Fault.{Fault, fault_text, is_unsupported}
 use Rattle.claxon.specs.Errors.{Error}
@@ -25,28 +25,38 @@ no_more = 5
 abbrev pub buffer_short : ℕ
 buffer_short = 6
 
--- as much of a text as so much room takes, and a zero byte
-abbrev pub ended : List ℕ → ℕ → List ℕ
-ended text room = take (room - 1) text ++ 0 ∷ []
+-- as much of a text as the capacity allows, and a zero byte
+abbrev pub zero_terminated : List ℕ → ℕ → List ℕ
+zero_terminated text capacity = take (capacity - 1) text ++ 0 ∷ []
 
--- That stands in front now, if there is any room, and what was behind it stays.
+-- The buffer begins with that, if it isn't empty, and its rest is unchanged.
 abbrev pub TextIsPut : List ℕ → List ℕ → List ℕ → Type 0
-TextIsPut text old new = 0 < length old → new ≡ ended text (length old) ++ drop (length (ended text (length old))) old
+TextIsPut text old new =
+    0 < length old
+    → new ≡ zero_terminated text (length old) ++ drop (length (zero_terminated text (length old)))
+    old
 
--- The status is that of the error, and its text is put.
+-- The status is that of the error, and its text is written.
 abbrev pub ErrorIsReported : Error → ℕ → List ℕ → List ℕ → Type 0
-ErrorIsReported (FormatError reason) status old new = (status ≡ format_error) × TextIsPut reason.now old new
-ErrorIsReported (Unsupported feature) status old new = (status ≡ unsupported) × TextIsPut feature.now old new
-ErrorIsReported (IoError cause) status old new = (status ≡ input_ends) × TextIsPut (codes "the bytes end") old new
-ErrorIsReported OutOfMemory status old new = (status ≡ out_of_memory) × TextIsPut (codes "out of memory") old new
+ErrorIsReported (FormatError reason) status old new =
+    (status ≡ format_error) × TextIsPut reason.now old new
+ErrorIsReported (Unsupported feature) status old new =
+    (status ≡ unsupported) × TextIsPut feature.now old new
+ErrorIsReported (IoError cause) status old new =
+    (status ≡ input_ends) × TextIsPut (codes "the bytes end") old new
+ErrorIsReported OutOfMemory status old new =
+    (status ≡ out_of_memory) × TextIsPut (codes "out of memory") old new
 
--- The text of an error that names no fault is put.
+-- The text of an error that names no fault is written.
 abbrev pub TextIsReported : ℕ → List ℕ → List ℕ → Type 0
-TextIsReported status old new = (status ≡ input_ends → TextIsPut (codes "the bytes end") old new) × (status ≡ out_of_memory → TextIsPut (codes "out of memory") old new)
+TextIsReported status old new =
+    (status ≡ input_ends → TextIsPut (codes "the bytes end") old new)
+    × (status ≡ out_of_memory → TextIsPut (codes "out of memory") old new)
 
--- The status is that of the fault's kind, and the fault's text is put.
+-- The status is that of the fault, and the fault's text is written.
 abbrev pub FaultIsReported : Fault → ℕ → List ℕ → List ℕ → Type 0
-FaultIsReported f status old new = (status ≡ cond (is_unsupported f) unsupported format_error) × TextIsPut (fault_text f) old new
+FaultIsReported f status old new =
+    (status ≡ cond (is_unsupported f) unsupported format_error) × TextIsPut (fault_text f) old new
 
 -- the status says that there is a fault
 abbrev pub IsFaultStatus : ℕ → Type 0

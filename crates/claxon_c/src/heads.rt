@@ -8,12 +8,12 @@ ghost use Rattle.claxon_c.specs.Info.{InfoShows, known_stream};
 ghost use Rattle.claxon_c.specs.HeadCalls.{AnswersText, CHeadFaultIsComplete, COpenIsComplete, CTagIsComplete, CHeadFaultIsSound, COpenIsSound, InfoIsKept, CHeadElseIoError, CHeadOutOfMemoryAfterHeader, CTagIsSound, texts_of};
 ghost use Rattle.claxon_c.specs.Status.{TextIsReported};
 
-use crate::fronts::head_at_start;
+use crate::at_start::head_at_start;
 use crate::status::{BUFFER_SHORT, NO_MORE, OK, put_text, report};
 use claxon::metadata::{StreamInfo, VorbisComment};
 use std::alloc::Global;
 
-/// What the head of a stream says, and where its first frame stands.
+/// What the head of a stream says, and where its first frame begins.
 #[repr(C)]
 #[derive(Clone, Copy, Debug)]
 pub struct ClaxonInfo {
@@ -27,9 +27,9 @@ pub struct ClaxonInfo {
     pub sample_rate: u32,
     /// The number of channels, 1 to 8.
     pub channels: u32,
-    /// The width of a sample in bits, 1 to 32.
+    /// The number of bits per sample, 1 to 32.
     pub bits_per_sample: u32,
-    /// The least number of samples of a channel in a block, the last block aside.
+    /// The least number of samples of a channel in a block, except the last block.
     pub min_block_size: u16,
     /// The greatest number of samples of a channel in a block.
     pub max_block_size: u16,
@@ -51,7 +51,7 @@ impl ClaxonInfo {
         }
     }
 
-    // What frames need of it. A width that no sample has says that nothing is known of the stream.
+    // What frames need of it. A bit depth out of range says that nothing is known of the stream.
     pub(crate) fn known_stream(&self) -> Option<StreamInfo>
         ensures width { IfSome result (λ info. HasBitDepth info) }
         ensures stream { option_map stream_with result ≡ known_stream self.now }
@@ -109,7 +109,7 @@ pub extern "C" fn claxon_open(
     }
 }
 
-/// Puts the text `NAME=value` of a tag, and a zero byte behind it.
+/// Writes the text `NAME=value` of a tag, and a zero byte after it.
 #[unsafe(no_mangle)]
 pub extern "C" fn claxon_tag(
     alloc: Global,
@@ -133,14 +133,15 @@ pub extern "C" fn claxon_tag(
     }
 }
 
-// Puts a tag of these comments where there is room.
+// Writes a tag of these comments where it fits.
 fn give_tag(
     comment: &Option<VorbisComment>,
     index: usize,
     text: &mut [u8],
     text_length: &mut usize,
 ) -> u32
-    ensures { AnswersText (slice_get (texts_of (found_view comment.now)) index) result text.old text.new text_length.new }
+    ensures { AnswersText (slice_get (texts_of (found_view comment.now)) index)
+        result text.old text.new text_length.new }
 {
     let Some(comment) = comment else {
         return NO_MORE;

@@ -1,12 +1,12 @@
 //! FLAC for C. `c/claxon.h` declares these calls, and `c/README.md` says how to use them.
 //!
-//! No call keeps anything: the caller holds the bytes, and the place in them.
+//! No call keeps anything: the caller holds the bytes, and the position in them.
 #![tactic(auto)]
 
-mod fronts;
+mod at_start;
 mod heads;
 mod next_block;
-mod place;
+mod interleave;
 mod status;
 
 pub use heads::ClaxonInfo;

@@ -5,9 +5,9 @@ ghost use Rattle.claxon_c.specs.Info.{known_stream};
 ghost use Rattle.claxon_c.specs.NextBlock.{CBlockIsSound, CBlockIsComplete, CBlockFaultIsComplete, CBlockFaultIsSound, CBlockElseIoError, PositionIsKept, ShowsBlock, CBlockOutOfMemoryAfterHeader, CBlockNoMoreIffEof};
 ghost use Rattle.claxon_c.specs.Status.{TextIsReported};
 
-use crate::fronts::block_at_start;
+use crate::at_start::block_at_start;
 use crate::heads::ClaxonInfo;
-use crate::place::put_samples;
+use crate::interleave::put_interleaved;
 use crate::status::{BUFFER_SHORT, NO_MORE, OK, report};
 use claxon::Block;
 use std::alloc::Global;
@@ -36,7 +36,7 @@ impl ClaxonBlock {
     }
 }
 
-/// Decodes the frame at the place into samples, place by place, and moves the place behind it.
+/// Decodes the frame at the position into interleaved samples, and moves the position after it.
 #[unsafe(no_mangle)]
 pub extern "C" fn claxon_next_block(
     alloc: Global,
@@ -47,13 +47,18 @@ pub extern "C" fn claxon_next_block(
     block: &mut ClaxonBlock,
     error: &mut [u8],
 ) -> u32
-    ensures sound { CBlockIsSound (known_stream info.now) bytes.now result at.old at.new samples.old samples.new block.new }
-    ensures complete { CBlockIsComplete (known_stream info.now) bytes.now result at.old at.new samples.old samples.new block.new }
-    ensures fault { CBlockFaultIsSound (known_stream info.now) (drop at.old bytes.now) result error.old error.new }
-    ensures named { CBlockFaultIsComplete (known_stream info.now) (drop at.old bytes.now) result error.old error.new }
-    ensures end { CBlockNoMoreIffEof (drop at.old bytes.now) result }
+    ensures sound { CBlockIsSound (known_stream info.now) bytes.now result
+        at.old at.new samples.old samples.new block.new }
+    ensures complete { CBlockIsComplete (known_stream info.now) bytes.now result
+        at.old at.new samples.old samples.new block.new }
+    ensures fault { CBlockFaultIsSound (known_stream info.now) (drop at.old bytes.now)
+        result error.old error.new }
+    ensures named { CBlockFaultIsComplete (known_stream info.now) (drop at.old bytes.now)
+        result error.old error.new }
+    ensures eof { CBlockNoMoreIffEof (drop at.old bytes.now) result }
     ensures io { CBlockElseIoError (known_stream info.now) (drop at.old bytes.now) result }
-    ensures memory { CBlockOutOfMemoryAfterHeader (known_stream info.now) (drop at.old bytes.now) result }
+    ensures memory { CBlockOutOfMemoryAfterHeader (known_stream info.now)
+        (drop at.old bytes.now) result }
     ensures text { TextIsReported result error.old error.new }
     ensures kept { PositionIsKept result at.old at.new samples.old samples.new }
 {
@@ -65,7 +70,7 @@ pub extern "C" fn claxon_next_block(
             if samples.len() < found.len() as usize {
                 return BUFFER_SHORT;
             }
-            put_samples(&found, samples);
+            put_interleaved(&found, samples);
             *at = start + taken;
             OK
         }

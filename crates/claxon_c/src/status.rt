@@ -1,4 +1,4 @@
-//! What calls answer: a status, and a text for an error.
+//! What calls return: a status, and a text for an error.
 ghost use Rattle.claxon_c.specs.Status.{ErrorIsReported, TextIsPut};
 
 use claxon::Error;
@@ -17,20 +17,20 @@ pub(crate) const NO_MORE: u32 = 5;
 
 pub(crate) const BUFFER_SHORT: u32 = 6;
 
-// Puts as much of the text as there is room for, and a zero byte behind it.
+// Writes as much of the text as fits, and a zero byte after it.
 pub(crate) fn put_text(text: &str, output: &mut [u8])
     ensures { TextIsPut text.now output.old output.new }
 {
-    let room = output.len();
-    if room > 0 {
+    let capacity = output.len();
+    if capacity > 0 {
         let bytes = text.as_bytes();
-        let count = bytes.len().min(room - 1);
+        let count = bytes.len().min(capacity - 1);
         output[..count].copy_from_slice(&bytes[..count]);
         output[count] = 0;
     }
 }
 
-// The status of the error, whose text is put.
+// The status of the error, whose text is written.
 pub(crate) fn report(error: &Error, output: &mut [u8]) -> u32
     ensures { ErrorIsReported error.now result output.old output.new }
 {

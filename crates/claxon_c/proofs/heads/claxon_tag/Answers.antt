@@ -6,7 +6,7 @@ use Rattle.claxon.specs.Heads.{Head}
 use Rattle.claxon.specs.ReadHead.{head_view}
 use Rattle.claxon_c.specs.HeadCalls.{AnswersText, texts_of}
 use Rattle.claxon_c.proofs.HeadCalls.{head_begins, head_fault, head_io, head_io_ok, head_memory, head_named, head_out_of_memory, no_head_fault, same_head, text_no_error}
-use Rattle.claxon_c.proofs.Told.{no_head, text_reported}
+use Rattle.claxon_c.proofs.Reports.{no_head, text_reported}
 use Rattle.claxon_c.proofs.heads.claxon_tag.Goals as goal
 
 pub returns-in-Ok : goal.returns-in-Ok
@@ -42,13 +42,13 @@ returns-in-Err c =
     let new = c.report.new.output in
     let e = c.in-Err.fault in
     let h = c.in-Err.ensures in
-    let known = c.report.ensures in
+    let reported = c.report.ensures in
     record {
-      sound = λ says. absurd (no_head status old new e known says);
-      complete = λ head begins. inr (head_out_of_memory view bytes taken status old new e h known head begins);
-      fault = head_fault view bytes taken status old new e h known;
-      named = head_named view bytes taken status old new e h known;
-      io = head_io view bytes taken status old new e h known;
-      memory = head_memory view bytes taken status old new e h known;
-      text = text_reported status old new e known;
+      sound = λ says. absurd (no_head status old new e reported says);
+      complete = λ head begins. inr (head_out_of_memory view bytes taken status old new e h reported head begins);
+      fault = head_fault view bytes taken status old new e h reported;
+      named = head_named view bytes taken status old new e h reported;
+      io = head_io view bytes taken status old new e h reported;
+      memory = head_memory view bytes taken status old new e h reported;
+      text = text_reported status old new e reported;
     }

@@ -25,6 +25,6 @@ returns c =
     let xs = c.deref.result.now in
     subst (λ (z : List (String Global × ℕ)). slice_get z c.args.index ≡ Some pair) c.deref.ensures.value (slice_get_read xs (length xs) c.args.index pair refl look.3.0 look.1) in
     let len : c.len.result ≡ length (string_bytes pair.0) = search rules in
-    let room : length (string_bytes pair.0) < length c.args.text.now = search rules in
+    let fits : length (string_bytes pair.0) < length c.args.text.now = search rules in
     let put : TextIsPut (string_bytes pair.0) c.args.text.now c.put_text.new.output = rw (sym c.as_str.ensures.value) c.put_text.ensures in
-    gives_text c.args.comment.now c.in-Some.comment c.args.index pair 0 c.args.text.now c.put_text.new.output c.len.result c.in-Some.is at (len, inl (refl, room, put))
+    gives_text c.args.comment.now c.in-Some.comment c.args.index pair 0 c.args.text.now c.put_text.new.output c.len.result c.in-Some.is at (len, inl (refl, fits, put))

@@ -1,4 +1,4 @@
-//! What stands at the front of bytes.
+//! What bytes begin with.
 ghost use Rattle.std.specs.Prelude.{◌≡◌, IfSome};
 ghost use Rattle.std.specs.Option.{option_map};
 ghost use Rattle.std.specs.Io.Cursor.{cursor_inner, cursor_position};
@@ -13,7 +13,7 @@ use claxon::{FlacReaderOptions, Result, read_head};
 use std::alloc::Global;
 use std::io::Cursor;
 
-// The head at the front, and how many bytes it has.
+// The head that the bytes begin with, and its number of bytes.
 pub(crate) fn head_at_start(
     alloc: Global,
     bytes: &[u8],
@@ -31,7 +31,7 @@ pub(crate) fn head_at_start(
     head
 }
 
-// The block of the frame at the front, and how many bytes it has.
+// The block of the frame that the bytes begin with, and the frame's number of bytes.
 pub(crate) fn block_at_start(
     alloc: Global,
     bytes: &[u8],
@@ -61,7 +61,7 @@ fn frames_of(bytes: &[u8], known: Option<StreamInfo>) -> FrameReader<Cursor<&[u8
     }
 }
 
-// How many bytes it hasn't given.
+// The number of bytes that it hasn't given.
 fn left_in(input: &Cursor<&[u8]>) -> usize
     ensures { result ≡ cursor_left (λ slice. slice.now) input.now }
 {

@@ -1,7 +1,7 @@
 use Rattle.std.proofs.Common.{Global, rules}
 use Rattle.claxon.specs.ReadHead.{head_view}
 use Rattle.claxon_c.proofs.AtStart.{head_at_start}
-use Rattle.claxon_c.proofs.fronts.head_at_start.Goals as goal
+use Rattle.claxon_c.proofs.at_start.head_at_start.Goals as goal
 
 pub returns : goal.returns
 returns c =

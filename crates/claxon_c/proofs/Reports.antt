@@ -1,4 +1,4 @@
--- What the status and the text of an error say.
+-- The status and the text that report an error.
 use Rattle.std.proofs.Common.{◌≡◌, ◌⊎◌, inl, inr, ℕ, List, refl, ap, subst}
 use Rattle.std.specs.Prelude.{◌≢◌, Result, Err, IsErrAnd}
 use Rattle.claxon.specs.Fault.{Fault}
@@ -41,7 +41,7 @@ module _ (status : ℕ) (old new : List ℕ) where
   no_fault s (inr a) (inl b) = absurd cc
   no_fault s (inr a) (inr b) = absurd cc
 
-  -- an error is no answer of something else
+  -- an error has no other status
   pub just_error : (e : Error) → ErrorIsReported e status old new → (status ≢ ok) × ((status ≢ no_more) × (status ≢ buffer_short))
   just_error (FormatError reason) t = (λ p. absurd cc, (λ p. absurd cc, λ p. absurd cc))
   just_error (Unsupported feature) t = (λ p. absurd cc, (λ p. absurd cc, λ p. absurd cc))
@@ -54,30 +54,30 @@ module _ (status : ℕ) (old new : List ℕ) where
   text_reported (IoError cause) t = (λ p. t.1, λ p. absurd cc)
   text_reported OutOfMemory t = (λ p. absurd cc, λ p. t.1)
 
-  -- `Bad` are the faults that may stand at the front of the bytes
-  module _ (bytes : List ℕ) (Bad : Fault → List ℕ → Type 0) (e : Error) (known : ErrorIsReported e status old new) where
+  -- `Bad` are the faults that the bytes may begin with
+  module _ (bytes : List ℕ) (Bad : Fault → List ℕ → Type 0) (e : Error) (reported : ErrorIsReported e status old new) where
     pub fault_reported : (e ≡ OutOfMemory) ⊎ (IsIo e ⊎ ((f : Fault) × IsFault f e × BeginsWith (Bad f) bytes)) → IsFaultStatus status → (f : Fault) × BeginsWith (Bad f) bytes × FaultIsReported f status old new
-    fault_reported (inl m) says = absurd (no_fault status says (inr (reported_out_of_memory e m known)))
-    fault_reported (inr (inl i)) says = absurd (no_fault status says (inl (reported_io e i known)))
-    fault_reported (inr (inr k)) says = (k.0, k.2, reported_fault k.0 e k.1 known)
+    fault_reported (inl m) says = absurd (no_fault status says (inr (reported_out_of_memory e m reported)))
+    fault_reported (inr (inl i)) says = absurd (no_fault status says (inl (reported_io e i reported)))
+    fault_reported (inr (inr k)) says = (k.0, k.2, reported_fault k.0 e k.1 reported)
 
     pub each_fault_reported : {A : Type 0} (f : Fault) → IsErrAnd (let q : Result A Error = Err e in q) (IsFault f) ⊎ IsOutOfMemory (let q : Result A Error = Err e in q) → FaultIsReported f status old new ⊎ (status ≡ out_of_memory)
-    each_fault_reported f (inl p) = inl (reported_fault f e p known)
-    each_fault_reported f (inr s) = let m : e ≡ OutOfMemory = cc in inr (reported_out_of_memory e m known)
+    each_fault_reported f (inl p) = inl (reported_fault f e p reported)
+    each_fault_reported f (inr s) = let m : e ≡ OutOfMemory = cc in inr (reported_out_of_memory e m reported)
 
     pub io_error_reported : {Y : Type 0} {Code : Y → List ℕ → Type 0} → (e ≡ OutOfMemory) ⊎ (IsIo e ⊎ ((f : Fault) × IsFault f e × BeginsWith (Bad f) bytes)) → HasNeither Code Bad bytes → (status ≡ input_ends) ⊎ (status ≡ out_of_memory)
-    io_error_reported (inl m) n = inr (reported_out_of_memory e m known)
-    io_error_reported (inr (inl i)) n = inl (reported_io e i known)
+    io_error_reported (inl m) n = inr (reported_out_of_memory e m reported)
+    io_error_reported (inr (inl i)) n = inl (reported_io e i reported)
     io_error_reported (inr (inr k)) n = absurd (n.no_fault k.0 k.2.0 k.2.1 k.2.2 k.2.3)
 
     pub error_out_of_memory : {A : Type 0} → status ≡ out_of_memory → IsOutOfMemory (let q : Result A Error = Err e in q)
-    error_out_of_memory is = ap (λ (z : Error). Err z) (is_out_of_memory e is known)
+    error_out_of_memory is = ap (λ (z : Error). Err z) (is_out_of_memory e is reported)
 
     pub out_of_memory_reported : {A : Type 0} → IsOutOfMemory (let q : Result A Error = Err e in q) → status ≡ out_of_memory
-    out_of_memory_reported s = let m : e ≡ OutOfMemory = cc in reported_out_of_memory e m known
+    out_of_memory_reported s = let m : e ≡ OutOfMemory = cc in reported_out_of_memory e m reported
 
--- nor a head
+-- nor is it a head
 pub no_head : (status : ℕ) (old new : List ℕ) (e : Error) → ErrorIsReported e status old new → IsHeadStatus status → ⊥
-no_head status old new e known (inl p) = (just_error status old new e known).0 p
-no_head status old new e known (inr (inl p)) = (just_error status old new e known).1.0 p
-no_head status old new e known (inr (inr p)) = (just_error status old new e known).1.1 p
+no_head status old new e reported (inl p) = (just_error status old new e reported).0 p
+no_head status old new e reported (inr (inl p)) = (just_error status old new e reported).1.0 p
+no_head status old new e reported (inr (inr p)) = (just_error status old new e reported).1.1 p

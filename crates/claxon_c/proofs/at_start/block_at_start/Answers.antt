@@ -4,7 +4,7 @@ use Rattle.claxon.specs.FrameReader.{frame_input, stream_with}
 use Rattle.claxon.proofs.SamplesInTurn.{reads_frame}
 use Rattle.claxon.proofs.FramesInMemory.{slice_frame_promises, known_as, slice_bytes, slice_remains, slice_never_fails}
 use Rattle.claxon_c.proofs.AtStart.{frame_at_start}
-use Rattle.claxon_c.proofs.fronts.block_at_start.Goals as goal
+use Rattle.claxon_c.proofs.at_start.block_at_start.Goals as goal
 
 pub returns : goal.returns
 returns c =
@@ -12,7 +12,7 @@ returns c =
     let old = c.frames_of-frames.result in
     let new = c.read_next_or_eof-found.new.self in
     let stream = option_map stream_with c.args.known in
-    let comes = slice_remains old (frame_input old) c.args.bytes refl c.frames_of-frames.ensures.position c.frames_of-frames.ensures.inner in
+    let remains = slice_remains old (frame_input old) c.args.bytes refl c.frames_of-frames.ensures.position c.frames_of-frames.ensures.inner in
     let reads = known_as {a = slice_bytes old} {b = slice_bytes new} c.frames_of-frames.ensures.stream (reads_frame _ e.sound e.complete e.at_end e.ended e.no_failure e.fault e.named e.io e.front e.memory e.gives) in
-    let m = slice_frame_promises stream c.args.bytes.now (slice_bytes old) (slice_bytes new) comes (slice_never_fails old new) c.read_next_or_eof-found.result reads e.ended in
-    frame_at_start c.args.bytes.now (slice_bytes old) (frame_input new) c.saturating_sub.result comes (search rules) stream c.read_next_or_eof-found.result reads.promises.sound m
+    let m = slice_frame_promises stream c.args.bytes.now (slice_bytes old) (slice_bytes new) remains (slice_never_fails old new) c.read_next_or_eof-found.result reads e.ended in
+    frame_at_start c.args.bytes.now (slice_bytes old) (frame_input new) c.saturating_sub.result remains (search rules) stream c.read_next_or_eof-found.result reads.promises.sound m
