@@ -1,4 +1,4 @@
--- What calls for samples gave, collected.
+-- The samples that calls gave, collected.
 use Rattle.std.proofs.Common.{◌≡◌, inl, inr, ℕ, ℤ, List, [], ◌∷◌, ◌++◌, length, Option, Some, sym, ap, subst, ◌∙◌, arith, length-append}
 use Rattle.claxon.specs.Frame.{StreamFormat, Block}
 use Rattle.claxon.specs.Source.{Source}
@@ -36,6 +36,6 @@ module _ {R A : Type 0} (source : R → Source ℕ) (stream : Option StreamForma
   stops xs mid e new h (inl step) = inl (xs, collected (Some e) xs new (gave_all source h (Some e) new step))
   stops xs mid e new h (inr k) = inr (k.0, lacks_memory xs k.1.0 new (gave_more source h k.1.0 new k.1.1))
 
--- the same samples by another name
+-- the same of equal samples
 pub gave_as : {R A : Type 0} {source : R → Source ℕ} {old new : FlacSamples R A} {xs ys : List ℤ} → ys ≡ xs → GaveSamples source old xs new → GaveSamples source old ys new
 gave_as {source = source} {old = old} {new = new} e h = subst (λ (z : List ℤ). GaveSamples source old z new) (sym e) h

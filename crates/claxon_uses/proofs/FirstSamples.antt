@@ -31,7 +31,7 @@ use Rattle.claxon_uses.proofs.Opened.{IsOpened, after_known, after_any_head, hea
 
 -- ---- bytes have one list of first samples, or a fault before so many
 
--- what follows the frames changes nothing
+-- later frames change nothing
 grown : (stream : Option StreamFormat) (count : ℕ) (blocks others : List Block) (m n : List ℕ) → (count ≤ length (samples_of blocks)) ⊎ (length m < 2) → Frames stream m others n → take count (samples_of blocks) ≡ take count (samples_of (blocks ++ others))
 grown stream count blocks [] m n enough f = ap (λ (z : List Block). take count (samples_of z)) (sym (append-nil blocks))
 grown stream count blocks (o ∷ others) m n (inr few) f = absurd (short_no_frame stream m few o f.0 f.1 f.2 f.3)
@@ -59,7 +59,7 @@ module _ (count : ℕ) (stream : Option StreamFormat) (width : IsWidth (known_wi
       go [] e g (inr few) = short_no_fault stream width a.rest few f begins.0 begins.1 begins.2 (g ∙ begins.3)
       go (o ∷ others) e g (inr few) = short_no_frame stream a.rest few o g.0 g.1 g.2 g.3
 
--- ---- all that is promised
+-- ---- all clauses
 
 pub record FirstSamplesPromises {R A : Type 0} (count : ℕ) (remaining : R → Option (List ℕ)) (reader : R) (r : Result (Vec ℤ A) Error) : Type 0 where
   pub sound : FirstSamplesAreSound count remaining reader r
@@ -73,28 +73,28 @@ module _ {R A : Type 0} (count : ℕ) (remaining : R → Option (List ℕ)) (rea
       → OpenFaultIsComplete remaining (with_samples true) reader (let r : OpenAnswer R A = Err e in r) → FirstSamplesPromises {A = A} count remaining reader (Err e)
   not_opened e complete fault named = record {
     sound = tt;
-    complete = λ xs known b. inr (no_head remaining reader e complete b.head b.front b.frames b.code known b.joined);
-    fault = elim fault [ inl m ↦ inl m | inr (inl i) ↦ inr (inl i) | inr (inr k) ↦ inr (inr (λ known. let f = k known in (f.0, f.1, inl f.2))) ];
-    named = λ f known bad. elim bad [ inl b ↦ head_fault_named remaining reader e named f known b | inr st ↦ inr (no_head remaining reader e complete st.0 st.3.front st.3.frames st.3.head known st.3.joined) ];
+    complete = λ xs is_known b. inr (no_head remaining reader e complete b.head b.front b.frames b.code is_known b.joined);
+    fault = elim fault [ inl m ↦ inl m | inr (inl i) ↦ inr (inl i) | inr (inr k) ↦ inr (inr (λ is_known. let f = k is_known in (f.0, f.1, inl f.2))) ];
+    named = λ f is_known bad. elim bad [ inl b ↦ head_fault_named remaining reader e named f is_known b | inr st ↦ inr (no_head remaining reader e complete st.0 st.3.front st.3.frames st.3.head is_known st.3.joined) ];
   }
 
   no_memory : (e : Error) → e ≡ OutOfMemory → FirstSamplesPromises {A = A} count remaining reader (Err e)
   no_memory e m = record {
     sound = tt;
-    complete = λ xs known b. inr (inl (ap (λ (z : Error). Err z) m));
+    complete = λ xs is_known b. inr (inl (ap (λ (z : Error). Err z) m));
     fault = inl m;
-    named = λ f known bad. inr (inl (ap (λ (z : Error). Err z) m));
+    named = λ f is_known bad. inr (inl (ap (λ (z : Error). Err z) m));
   }
 
 -- ---- the calls for samples
 
--- so many were given, or the next call gave none
+-- `count` samples were given, or the next call gave none
 pub given_first : {R A : Type 0} (source : R → Source ℕ) (count : ℕ) (old : FlacSamples R A) (xs : List ℤ) (left : ℕ) (mid new : FlacSamples R A)
     → GaveSamples source old xs mid → length xs + left ≡ count → (0 < left → SamplesStep source mid None new) → GivesFirstSamples source count old xs
 given_first source count old xs zero mid new h e step = inl (mid, h, omega (arith, e))
 given_first source count old xs (suc left) mid new h e step = inr (new, gave_all source h None new (step (omega arith)), omega (arith, e))
 
--- ---- a head was read, and samples behind it
+-- ---- a head was read, and then samples
 
 module _ {R A : Type 0} (count : ℕ) (remaining : R → Option (List ℕ)) (reader : R) (flac : FlacReader R A) (old : FlacSamples (MutBor (BufferedReader R A)) A)
     (o : IsOpened remaining reader flac (samples_bytes (lent (buffered_source remaining)) old) (samples_stream old)) (none_left : samples_left old ≡ []) where
@@ -107,20 +107,20 @@ module _ {R A : Type 0} (count : ℕ) (remaining : R → Option (List ℕ)) (rea
   abbrev stream : Option StreamFormat
   stream = samples_stream old
 
-  abbrev remaining : List ℕ
-  remaining = (samples_bytes source old).remaining
+  abbrev after_head : List ℕ
+  after_head = (samples_bytes source old).remaining
 
-  any_first : (ys : List ℤ) → s.known ≡ true → BeginsWithSamples count s.remaining ys → HasFirstSamples count stream remaining ys
-  any_first ys known b = after_any_head remaining reader flac o known (λ z l. HasFirstSamples count z l ys) b.head b.front b.frames b.code b.joined b.first_samples_are
+  any_first : (ys : List ℤ) → s.known ≡ true → BeginsWithSamples count s.remaining ys → HasFirstSamples count stream after_head ys
+  any_first ys is_known b = after_any_head remaining reader flac o is_known (λ z l. HasFirstSamples count z l ys) b.head b.front b.frames b.code b.joined b.first_samples_are
 
-  -- a first fault is that of a frame behind others
-  fault_after : (f : Fault) → s.known ≡ true → HasFirstFault count s.remaining f → (blocks : List Block) × (rest : List ℕ) × Frames stream remaining blocks rest × NoFrameLeft stream rest × (length (samples_of blocks) < count) × BeginsWith (FrameBytesFault stream f) rest
-  fault_after f known bad = elim bad [
-    | inl b ↦ absurd (no_head_fault remaining reader flac o known f b)
+  -- a first fault is that of a frame after others
+  fault_after : (f : Fault) → s.known ≡ true → HasFirstFault count s.remaining f → (blocks : List Block) × (rest : List ℕ) × Frames stream after_head blocks rest × NoFrameLeft stream rest × (length (samples_of blocks) < count) × BeginsWith (FrameBytesFault stream f) rest
+  fault_after f is_known bad = elim bad [
+    | inl b ↦ absurd (no_head_fault remaining reader flac o is_known f b)
     | inr st ↦ (
         let blocks = st.1 in
         let rest = st.2 in
-        let p = after_any_head remaining reader flac o known (λ z l. Frames z l blocks rest × NoFrameLeft z rest × BeginsWith (FrameBytesFault z f) rest) st.0 st.3.front st.3.frames st.3.head st.3.joined (st.3.blocks_are, st.3.complete, st.5) in
+        let p = after_any_head remaining reader flac o is_known (λ z l. Frames z l blocks rest × NoFrameLeft z rest × BeginsWith (FrameBytesFault z f) rest) st.0 st.3.front st.3.frames st.3.head st.3.joined (st.3.blocks_are, st.3.complete, st.5) in
         (blocks, rest, p.0, p.1, st.4, p.2)
         )
   ]
@@ -130,20 +130,20 @@ module _ {R A : Type 0} (count : ℕ) (remaining : R → Option (List ℕ)) (rea
 
   -- ---- no error was given
 
-  gave_first : (xs : List ℤ) (new : FlacSamples (MutBor (BufferedReader R A)) A) → GaveSamples source old xs new → length xs ≡ count → s.known ≡ true → HasFirstSamples count stream remaining xs
-  gave_first xs new h many known =
+  gave_first : (xs : List ℤ) (new : FlacSamples (MutBor (BufferedReader R A)) A) → GaveSamples source old xs new → length xs ≡ count → s.known ≡ true → HasFirstSamples count stream after_head xs
+  gave_first xs new h many is_known =
       let all : samples_of h.blocks ≡ xs ++ samples_left new = samples_are h.blocks _ h.samples in
       record {
         blocks = h.blocks;
         rest = (samples_bytes source new).remaining;
-        frames = (h.frames.consumed.known (after_known remaining reader flac o known)).is;
+        frames = (h.frames.consumed.known (after_known remaining reader flac o is_known)).is;
         first = sym (ap (λ (z : List ℤ). take count z) all ∙ ap (λ (n : ℕ). take n (xs ++ samples_left new)) (sym many) ∙ take-append_seam xs (samples_left new));
         enough = inl (omega (arith, many, ap length all, length-append xs (samples_left new)));
       }
 
-  gave_whole : (xs : List ℤ) (new : FlacSamples (MutBor (BufferedReader R A)) A) → GaveAll source old xs None new → length xs ≤ count → s.known ≡ true → HasFirstSamples count stream remaining xs
-  gave_whole xs new h few known =
-      let w = h.ends.blocks_are.consumed.known (after_known remaining reader flac o known) in
+  gave_whole : (xs : List ℤ) (new : FlacSamples (MutBor (BufferedReader R A)) A) → GaveAll source old xs None new → length xs ≤ count → s.known ≡ true → HasFirstSamples count stream after_head xs
+  gave_whole xs new h few is_known =
+      let w = h.ends.blocks_are.consumed.known (after_known remaining reader flac o is_known) in
       record {
         blocks = h.blocks;
         rest = h.ends.between.remaining;
@@ -152,49 +152,49 @@ module _ {R A : Type 0} (count : ℕ) (remaining : R → Option (List ℕ)) (rea
         enough = inr (h.ends.last.promises.at_end refl w.known).0;
       }
 
-  given : (xs : List ℤ) → GivesFirstSamples source count old xs → s.known ≡ true → HasFirstSamples count stream remaining xs
-  given xs (inl h) known = gave_first xs h.0 h.1 h.2 known
-  given xs (inr h) known = gave_whole xs h.0 h.1 h.2 known
+  given : (xs : List ℤ) → GivesFirstSamples source count old xs → s.known ≡ true → HasFirstSamples count stream after_head xs
+  given xs (inl h) is_known = gave_first xs h.0 h.1 h.2 is_known
+  given xs (inr h) is_known = gave_whole xs h.0 h.1 h.2 is_known
 
   answered : (first : Vec ℤ A) → GivesFirstSamples source count old first.items → FirstSamplesPromises count remaining reader (Ok first)
   answered first h = record {
-    sound = λ known. record {
+    sound = λ is_known. record {
       head = flac_head flac;
-      front = (o.head known).1.0;
+      front = (o.head is_known).1.0;
       frames = (flac_bytes remaining flac).remaining;
-      code = (o.head known).1.1;
-      joined = (o.head known).1.2;
-      first_samples_are = shown remaining reader flac o known (λ z l. HasFirstSamples count z l first.items) (has known);
+      code = (o.head is_known).1.1;
+      joined = (o.head is_known).1.2;
+      first_samples_are = shown remaining reader flac o is_known (λ z l. HasFirstSamples count z l first.items) (has is_known);
     };
-    complete = λ ys known b. inl (one_first count stream o.width remaining first.items ys (has known) (any_first ys known b));
+    complete = λ ys is_known b. inl (one_first count stream o.width after_head first.items ys (has is_known) (any_first ys is_known b));
     fault = tt;
-    named = λ f known bad. let b = fault_after f known bad in absurd (not_both count stream o.width remaining first.items b.0 b.1 f (has known) b.2 b.4 b.5);
+    named = λ f is_known bad. let b = fault_after f is_known bad in absurd (not_both count stream o.width after_head first.items b.0 b.1 f (has is_known) b.2 b.4 b.5);
   }
     where
-      has : s.known ≡ true → HasFirstSamples count stream remaining first.items
-      has known = given first.items h known
+      has : s.known ≡ true → HasFirstSamples count stream after_head first.items
+      has is_known = given first.items h is_known
 
-  -- ---- an error was given behind too few samples
+  -- ---- an error was given after too few samples
 
   failed : (e : Error) (xs : List ℤ) (new : FlacSamples (MutBor (BufferedReader R A)) A) → GaveAll source old xs (Some e) new → length xs < count → FirstSamplesPromises {A = A} count remaining reader (Err e)
   failed e xs new h less = record {
     sound = tt;
-    complete = λ ys known b. inr (elim h.ends.last.promises.fault [
+    complete = λ ys is_known b. inr (elim h.ends.last.promises.fault [
       | inl m ↦ inl (ap (λ (z : Error). Err z) m)
       | inr (inl i) ↦ inr i
       | inr (inr bad) ↦ (
-          let f = stands known bad in
-          absurd (not_both count stream o.width remaining ys h.blocks h.ends.between.remaining f.0 (any_first ys known b) (frames known) fewer f.2)
+          let f = stands is_known bad in
+          absurd (not_both count stream o.width after_head ys h.blocks h.ends.between.remaining f.0 (any_first ys is_known b) (frames is_known) fewer f.2)
           )
     ]);
     fault = elim h.ends.last.promises.fault [
       | inl m ↦ inl m
       | inr (inl i) ↦ inr (inl i)
-      | inr (inr bad) ↦ inr (inr (λ known. let f = stands known bad in (f.0, f.1, inr (first_fault known f.0 f.2))))
+      | inr (inr bad) ↦ inr (inr (λ is_known. let f = stands is_known bad in (f.0, f.1, inr (first_fault is_known f.0 f.2))))
     ];
-    named = λ f known bad.
-        let b = fault_after f known bad in
-        elim (behind stream o.width (Some e) h.blocks b.0 b.1 h.ends (after_known remaining reader flac o known) b.2 b.3) [
+    named = λ f is_known bad.
+        let b = fault_after f is_known bad in
+        elim (behind stream o.width (Some e) h.blocks b.0 b.1 h.ends (after_known remaining reader flac o is_known) b.2 b.3) [
           | inr x ↦ inr (same_memory_or_io_error e (excused_memory_or_io_error (end_found (Some e)) (samples_bytes source old) (samples_bytes source new) x))
           | inl p ↦ elim (h.ends.last.promises.named f b.5.0 b.5.1 b.5.2 (record { known = p.1.known; are = p.1.are ∙ b.5.3 })) [
             | inl q ↦ inl q.0
@@ -203,32 +203,32 @@ module _ {R A : Type 0} (count : ℕ) (remaining : R → Option (List ℕ)) (rea
         ];
   }
     where
-      frames : s.known ≡ true → Frames stream remaining h.blocks h.ends.between.remaining
-      frames known = (h.ends.blocks_are.consumed.known (after_known remaining reader flac o known)).is
+      frames : s.known ≡ true → Frames stream after_head h.blocks h.ends.between.remaining
+      frames is_known = (h.ends.blocks_are.consumed.known (after_known remaining reader flac o is_known)).is
 
       fewer : length (samples_of h.blocks) < count
       fewer = let l = ap length (samples_are h.blocks xs h.samples) in omega (arith, l, less)
 
-      -- the fault that the last answer names stands behind the frames
+      -- the fault that the last answer names follows the frames
       stands : s.known ≡ true → (h.ends.between.known ≡ true → (f : Fault) × IsFault f e × Consumed h.ends.between (samples_bytes source new) (FrameBytesFault stream f)) → (f : Fault) × IsFault f e × BeginsWith (FrameBytesFault stream f) h.ends.between.remaining
-      stands known bad =
-          let t = (h.ends.blocks_are.consumed.known (after_known remaining reader flac o known)).known in
+      stands is_known bad =
+          let t = (h.ends.blocks_are.consumed.known (after_known remaining reader flac o is_known)).known in
           let f = bad t in
           let p = (f.2 t).1 in
           (f.0, f.1, (p.0, (samples_bytes source new).remaining, p.1, p.2))
 
       first_fault : s.known ≡ true → (f : Fault) → BeginsWith (FrameBytesFault stream f) h.ends.between.remaining → (g : Head) × (blocks : List Block) × (rest : List ℕ) × IsStream true s.remaining g blocks rest × (length (samples_of blocks) < count) × BeginsWith (FrameBytesFault (Some (stream_of g.info)) f) rest
-      first_fault known f b =
+      first_fault is_known f b =
           let rest = h.ends.between.remaining in
-          let p = shown remaining reader flac o known (λ z l. Frames z l h.blocks rest × NoFrameLeft z rest × BeginsWith (FrameBytesFault z f) rest) (frames known, fault_no_frame stream o.width f rest b.0 b.1 b.2 b.3, b) in (
+          let p = shown remaining reader flac o is_known (λ z l. Frames z l h.blocks rest × NoFrameLeft z rest × BeginsWith (FrameBytesFault z f) rest) (frames is_known, fault_no_frame stream o.width f rest b.0 b.1 b.2 b.3, b) in (
             flac_head flac,
             h.blocks,
             rest,
             record {
-              front = (o.head known).1.0;
+              front = (o.head is_known).1.0;
               frames = (flac_bytes remaining flac).remaining;
-              head = (o.head known).1.1;
-              joined = (o.head known).1.2;
+              head = (o.head is_known).1.1;
+              joined = (o.head is_known).1.2;
               blocks_are = p.0;
               complete = p.1;
             },

@@ -1,4 +1,4 @@
--- Calls that gave up, since memory was refused or the source failed.
+-- Calls that were out of memory, or whose source failed.
 use Rattle.std.proofs.Common.{◌≡◌, inl, inr, ap}
 use Rattle.std.specs.Prelude.{Result, Ok, Err}
 use Rattle.claxon.specs.Errors.{Error}
@@ -21,7 +21,7 @@ pub same_memory_or_io_error : {A B : Type 0} (e : Error) → IsMemoryOrIoError (
 same_memory_or_io_error e (inl p) = inl (same_out_of_memory e p)
 same_memory_or_io_error e (inr i) = inr i
 
--- what is excused was dropped
+-- what is excused is such an error
 pub excused_memory_or_io_error : {X A : Type 0} (r : Result A Error) (a b : State X) → IsExcused r a b → IsMemoryOrIoError r
 excused_memory_or_io_error r a b (inl s) = inl s
 excused_memory_or_io_error r a b (inr f) = inr f.0

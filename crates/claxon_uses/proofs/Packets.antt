@@ -1,4 +1,4 @@
--- A packet that is to be a frame and nothing else.
+-- A packet that has to be exactly one frame.
 use Rattle.std.proofs.Common.{◌≡◌, inl, inr, ℕ, ◌<◌, ◌≤◌, List, [], ◌∷◌, ◌++◌, length, drop, codes, Option, None, Some, sym, ap, subst, ◌∙◌, refl, arith, append-nil}
 use Rattle.std.specs.Prelude.{Result, Ok, Err}
 use Rattle.std.proofs.lemmas.List.{drop_all, length-drop}
@@ -14,7 +14,7 @@ use Rattle.claxon.specs.Prefix.{BeginsWith}
 use Rattle.claxon_uses.specs.Packets.{PacketFaultIsComplete, PacketIsComplete, HasMoreThanFrame, PacketIsSound, PacketFaultIsSound, PacketOutOfMemoryAfterHeader}
 use Rattle.claxon.proofs.FramesInMemory.{SliceFramePromises}
 
--- all that is promised of such a call
+-- all clauses of such a call
 pub record PacketPromises (stream : Option StreamFormat) (packet : List ℕ) (r : Result BlockValue Error) : Type 0 where
   pub sound : PacketIsSound stream packet r
   pub complete : PacketIsComplete stream packet r
@@ -22,7 +22,7 @@ pub record PacketPromises (stream : Option StreamFormat) (packet : List ℕ) (r 
   pub named : PacketFaultIsComplete stream packet r
   pub memory : PacketOutOfMemoryAfterHeader stream packet r
 
--- another error is no want of memory
+-- another error isn't `OutOfMemory`
 other_than_memory : {A : Type 0} (e : Error) (text : List ℕ) → IsFormatError e text → (let q : Result A Error = Err e in q) ≡ Err OutOfMemory → ⊥
 other_than_memory e text is out_of_memory =
     let k : e ≡ OutOfMemory = cc in
@@ -30,14 +30,14 @@ other_than_memory e text is out_of_memory =
     none
 
 module _ (stream : Option StreamFormat) (packet : List ℕ) where
-  -- a whole packet stands at its front
+  -- a packet begins with all of it
   whole_begins : {C : List ℕ → Type 0} → C packet → BeginsWith C packet
   whole_begins c = (packet, [], c, sym (append-nil packet))
 
   same_error_out_of_memory : {A B : Type 0} (e : Error) → (let q : Result A Error = Err e in q) ≡ Err OutOfMemory → (let q : Result B Error = Err e in q) ≡ Err OutOfMemory
   same_error_out_of_memory e p = let k : e ≡ OutOfMemory = cc in ap (λ (z : Error). Err z) k
 
-  -- the frame's Err is answered
+  -- the Err of the frame is returned
   pub packet_failed : (e : Error) → SliceFramePromises stream packet (Err e) → PacketPromises stream packet (Err e)
   packet_failed e m = record {
     sound = tt;
@@ -55,13 +55,13 @@ module _ (stream : Option StreamFormat) (packet : List ℕ) where
   packet_without e m is = record {
     sound = tt;
     complete = λ block c. absurd (elim (m.complete block (whole_begins c)) [ inl p ↦ p | inr s ↦ not_out_of_memory None s ]);
-    refused = inr (inr (inr (inl (m.end.0 refl, is))));
+    refused = inr (inr (inr (inl (m.eof.0 refl, is))));
     named = λ f c. absurd (elim (m.named f c) [ inl p ↦ p | inr s ↦ not_out_of_memory None s ]);
     memory = λ s. absurd (other_than_memory e (codes "packet without a frame") is s);
   }
 
   module _ (block : BlockValue) (slice : List ℕ) (at : ℕ) (a b : State ℕ) (start : Remains a packet) (left : Remains b (drop at slice)) (reads : ReadsFrame stream (Ok (Some block)) a b) (m : SliceFramePromises stream packet (Ok (Some block))) where
-    -- what was taken, and what is left
+    -- what was consumed, and what is left
     taken : (t : List ℕ) × Frame stream (block_view block) t × (packet ≡ t ++ drop at slice)
     taken = let k = (reads.promises.sound start.known).1 in (k.0, k.1, sym start.are ∙ k.2 ∙ ap (λ (z : List ℕ). k.0 ++ z) left.are)
 
@@ -83,7 +83,7 @@ module _ (stream : Option StreamFormat) (packet : List ℕ) where
     more_than [] is some e k = absurd (omega arith)
     more_than (byte ∷ rest) is some e k = let w = taken in ((block_view block, w.0, byte, rest, w.1, w.2 ∙ ap (λ (z : List ℕ). w.0 ++ z) is), k)
 
-    -- something follows it
+    -- bytes follow it
     pub packet_of_more : at < length slice → (e : Error) → IsFormatError e (codes "packet of more than a frame") → PacketPromises stream packet (Err e)
     packet_of_more before e is =
         let some : 0 < length (drop at slice) = omega (arith, length-drop at slice) in

@@ -1,4 +1,4 @@
--- The tags of a stream whose head was read, or refused.
+-- The tags of a stream whose head was read, or not.
 use Rattle.std.proofs.Common.{◌≡◌, ◌∙◌, Bool, ℕ, List, ap, inl, inr, subst, true}
 use Rattle.std.specs.Prelude.{IfErr, IfOk, Option, Result, String, Vec, Ok, Err}
 use Rattle.claxon.specs.Errors.{Error}
@@ -18,7 +18,7 @@ options_alone o only comment =
     let second : Bool → Options = λ b. record { metadata_only = true; wants_comment = b } in
     ap first only ∙ ap second comment
 
--- ---- all that is promised
+-- ---- all clauses
 
 pub record TagPromises {R A : Type 0} (remaining : R → Option (List ℕ)) (reader : R) (r : Result (Vec (String A) A) Error) : Type 0 where
   pub sound : TagLinesAreSound remaining reader r
@@ -35,12 +35,12 @@ module _ {R A : Type 0} (remaining : R → Option (List ℕ)) (reader : R) (o : 
       let each = subst (λ (z : Options). OpenFaultIsComplete remaining z reader (let r : OpenAnswer R A = Err e in r)) alone named in
       record {
         sound = tt;
-        complete = λ h known b. elim (all h b.0 b.1 b.2 (record { known = known; are = b.3 })) [ inl p ↦ absurd p | inr d ↦ inr (same_memory_or_io_error e d) ];
+        complete = λ h is_known b. elim (all h b.0 b.1 b.2 (record { known = is_known; are = b.3 })) [ inl p ↦ absurd p | inr d ↦ inr (same_memory_or_io_error e d) ];
         fault = subst (λ (z : Options). OpenFaultIsSound remaining z reader (let r : OpenAnswer R A = Err e in r)) alone fault;
-        named = λ f known b. elim (each f b.0 b.1 b.2 (record { known = known; are = b.3 })) [ inl p ↦ inl p | inr d ↦ inr (same_memory_or_io_error e d) ];
+        named = λ f is_known b. elim (each f b.0 b.1 b.2 (record { known = is_known; are = b.3 })) [ inl p ↦ inl p | inr d ↦ inr (same_memory_or_io_error e d) ];
       }
 
-  -- a head was read, and its tags are answered or there is no memory for them
+  -- a head was read, and its tags are returned or there is no memory for them
   pub tags_answered : (flac : FlacReader R A) → OpenIsSound remaining o reader (let r : OpenAnswer R A = Ok flac in r) → OpenIsComplete remaining o reader (let r : OpenAnswer R A = Ok flac in r)
       → OpenFaultIsComplete remaining o reader (let r : OpenAnswer R A = Ok flac in r) → (r : Result (Vec (String A) A) Error) → IfOk r (AreTags flac) → IfErr r (λ e. e ≡ OutOfMemory) → TagPromises remaining reader r
   tags_answered flac sound complete named (Ok lines) are memory =
@@ -48,14 +48,14 @@ module _ {R A : Type 0} (remaining : R → Option (List ℕ)) (reader : R) (o : 
       let all = subst (λ (z : Options). OpenIsComplete remaining z reader (let r : OpenAnswer R A = Ok flac in r)) alone complete in
       let each = subst (λ (z : Options). OpenFaultIsComplete remaining z reader (let r : OpenAnswer R A = Ok flac in r)) alone named in
       record {
-        sound = λ known. (flac_head flac, ((shown known).1.0, (flac_bytes remaining flac).remaining, (shown known).1.1, (shown known).1.2), are);
-        complete = λ h known b. elim (all h b.0 b.1 b.2 (record { known = known; are = b.3 })) [ inl p ↦ inl (subst (λ (z : Head). AreTagsOf z lines) p.0 are) | inr d ↦ absurd (not_memory_or_io_error flac d) ];
+        sound = λ is_known. (flac_head flac, ((shown is_known).1.0, (flac_bytes remaining flac).remaining, (shown is_known).1.1, (shown is_known).1.2), are);
+        complete = λ h is_known b. elim (all h b.0 b.1 b.2 (record { known = is_known; are = b.3 })) [ inl p ↦ inl (subst (λ (z : Head). AreTagsOf z lines) p.0 are) | inr d ↦ absurd (not_memory_or_io_error flac d) ];
         fault = tt;
-        named = λ f known b. elim (each f b.0 b.1 b.2 (record { known = known; are = b.3 })) [ inl p ↦ absurd p | inr d ↦ absurd (not_memory_or_io_error flac d) ];
+        named = λ f is_known b. elim (each f b.0 b.1 b.2 (record { known = is_known; are = b.3 })) [ inl p ↦ absurd p | inr d ↦ absurd (not_memory_or_io_error flac d) ];
       }
   tags_answered flac sound complete named (Err e) are memory = record {
     sound = tt;
-    complete = λ h known b. inr (inl (ap (λ (z : Error). Err z) memory));
+    complete = λ h is_known b. inr (inl (ap (λ (z : Error). Err z) memory));
     fault = inl memory;
-    named = λ f known b. inr (inl (ap (λ (z : Error). Err z) memory));
+    named = λ f is_known b. inr (inl (ap (λ (z : Error). Err z) memory));
   }

@@ -1,4 +1,4 @@
--- What a call answers that reads a whole stream of bytes in memory.
+-- What a call returns that reads a whole stream in memory.
 use Rattle.std.proofs.Common.{◌≡◌, ◌⊎◌, inl, inr, ℕ, ℤ, ◌<◌, true, List, [], ◌∷◌, ◌++◌, length, Option, None, Some, refl, sym, ap, subst, ◌∙◌, Bor}
 use Rattle.std.specs.Prelude.{IfErr, IfOk, IsErrAnd, Result, Ok, Err}
 use Rattle.claxon.specs.Fault.{Fault}
@@ -28,13 +28,13 @@ use Rattle.claxon.proofs.InMemory.{cursor_just_out_of_memory}
 just_out_of_memory : {A : Type 0} (r : Result A Error) (b after : Slice) → IsExcused r (slice_state b) (slice_state after) → IsOutOfMemory r
 just_out_of_memory r b after x = cursor_just_out_of_memory (λ (s : Bor (List ℕ)). s.now) r b after x
 
--- an excuse behind frames that were read is want of memory
+-- an excuse after frames that were read is `OutOfMemory`
 head_out_of_memory_after : {A : Type 0} {P : List ℕ → List ℕ → Type 0} (r : Result A Error) (b after : Slice) (mid : State ℕ) → Consumes (slice_state b) mid P → IsExcused r mid (slice_state after) → IsOutOfMemory r
 head_out_of_memory_after r b after mid w x = just_out_of_memory r b after (excused_after (slice_state after) r w x)
 
 -- ---- the whole call
 
--- all that is promised of it
+-- all clauses of it
 pub record SliceStreamPromises {X : Type 0} (view : X → List ℤ) (bytes : List ℕ) (r : Result X Error) : Type 0 where
   pub sound : SliceStreamIsSound view bytes r
   pub complete : SliceStreamIsComplete view bytes r
@@ -42,9 +42,9 @@ pub record SliceStreamPromises {X : Type 0} (view : X → List ℤ) (bytes : Lis
   pub named : SliceStreamFaultIsComplete bytes r
   pub memory : SliceStreamOutOfMemoryAfterHeader bytes r
 
-module _ {X Z : Type 0} (view : X → List ℤ) (show : Z → Head) (bytes : List ℕ) (a b : Slice) (comes : Remains (slice_state a) bytes) where
+module _ {X Z : Type 0} (view : X → List ℤ) (show : Z → Head) (bytes : List ℕ) (a b : Slice) (remains : Remains (slice_state a) bytes) where
   there : (t rest : List ℕ) → bytes ≡ t ++ rest → Remains (slice_state a) (t ++ rest)
-  there t rest e = record { known = comes.known; are = comes.are ∙ e }
+  there t rest e = record { known = remains.known; are = remains.are ∙ e }
 
   -- no head was read
   pub head_failed : (e : Error) → CodeIsComplete show (let q : Result Z Error = Err e in q) (HeadCode (with_samples true)) (slice_state a) (slice_state b)
@@ -56,7 +56,7 @@ module _ {X Z : Type 0} (view : X → List ℤ) (show : Z → Head) (bytes : Lis
     fault = elim fault [
       | inl m ↦ inl m
       | inr (inl i) ↦ inr (inl i)
-      | inr (inr k) ↦ inr (inr (let f = k comes.known in (f.0, f.1, inl (begins_with_consumed (slice_state a) (slice_state b) bytes comes f.2))))
+      | inr (inr k) ↦ inr (inr (let f = k remains.known in (f.0, f.1, inl (begins_with_consumed (slice_state a) (slice_state b) bytes remains f.2))))
     ];
     named = λ f bad. elim bad [
       | inl begins ↦ elim (named f begins.0 begins.1 begins.2 (there begins.0 begins.1 begins.3)) [
@@ -65,7 +65,7 @@ module _ {X Z : Type 0} (view : X → List ℤ) (show : Z → Head) (bytes : Lis
       ]
       | inr st ↦ inr (no_head st.0 st.1 st.2 st.3)
     ];
-    memory = λ s. inl (subst HeadMayRunOutOfMemory comes.are (memory (same_out_of_memory e s) comes.known));
+    memory = λ s. inl (subst HeadMayRunOutOfMemory remains.are (memory (same_out_of_memory e s) remains.known));
   }
     where
       no_head : (h : Head) (blocks : List Block) (rest : List ℕ) → IsStream true bytes h blocks rest → IsOutOfMemory (let q : Result X Error = Err e in q)
@@ -77,15 +77,15 @@ module _ {X Z : Type 0} (view : X → List ℤ) (show : Z → Head) (bytes : Lis
   -- a head was read
   module _ (z : Z) (stream : StreamFormat) (is : stream ≡ stream_of (show z).info) (width : IsWidth (Some stream.width)) (consumed : Consumed (slice_state a) (slice_state b) (HeadCode (with_samples true) (show z)))
       (complete : CodeIsComplete show (let q : Result Z Error = Ok z in q) (HeadCode (with_samples true)) (slice_state a) (slice_state b)) (named : FaultIsComplete (let q : Result Z Error = Ok z in q) (HeadFault (with_samples true)) (slice_state a) (slice_state b)) where
-    known : (slice_state b).known ≡ true
-    known = (consumed comes.known).0
+    is_known : (slice_state b).known ≡ true
+    is_known = (consumed remains.known).0
 
     stands : (blocks : List Block) (rest : List ℕ) → Frames (Some stream) (slice_state b).remaining blocks rest → NoFrameLeft (Some stream) rest → IsStream true bytes (show z) blocks rest
-    stands blocks rest f c = let k = (consumed comes.known).1 in record {
+    stands blocks rest f c = let k = (consumed remains.known).1 in record {
       front = k.0;
       frames = (slice_state b).remaining;
       head = k.1;
-      joined = sym comes.are ∙ k.2;
+      joined = sym remains.are ∙ k.2;
       blocks_are = subst (λ (s : StreamFormat). Frames (Some s) (slice_state b).remaining blocks rest) is f;
       complete = subst (λ (s : StreamFormat). NoFrameLeft (Some s) rest) is c;
     }
@@ -94,7 +94,7 @@ module _ {X Z : Type 0} (view : X → List ℤ) (show : Z → Head) (bytes : Lis
     no_excuse (inl s) = not_out_of_memory z s
     no_excuse (inr f) = f.0
 
-    -- any stream that stands there has this head
+    -- each stream that the bytes are has this head
     same_head : (h : Head) (blocks : List Block) (rest : List ℕ) → IsStream true bytes h blocks rest → (show z ≡ h) × (Frames (Some stream) (slice_state b).remaining blocks rest × NoFrameLeft (Some stream) rest)
     same_head h blocks rest st = elim (complete h st.front st.frames st.head (there st.front st.frames st.joined)) [
       | inr x ↦ absurd (no_excuse x)
@@ -113,12 +113,12 @@ module _ {X Z : Type 0} (view : X → List ℤ) (show : Z → Head) (bytes : Lis
     not_head_fault f begins = elim (named f begins.0 begins.1 begins.2 (there begins.0 begins.1 begins.3)) [ inl p ↦ p.0 | inr x ↦ no_excuse x ]
 
     has_samples : BeginsWith (HeaderOfMoreSamples (Some stream) 0) (slice_state b).remaining ⊎ ((block : Block) × BeginsWith (Frame (Some stream) block) (slice_state b).remaining) → HasSamples bytes
-    has_samples s = let k = (consumed comes.known).1 in (
+    has_samples s = let k = (consumed remains.known).1 in (
       show z,
       k.0,
       (slice_state b).remaining,
       k.1,
-      sym comes.are ∙ k.2,
+      sym remains.are ∙ k.2,
       subst (λ (q : StreamFormat). BeginsWith (HeaderOfMoreSamples (Some q) 0) (slice_state b).remaining ⊎ ((block : Block) × BeginsWith (Frame (Some q) block) (slice_state b).remaining)) is s,
     )
 
@@ -126,14 +126,14 @@ module _ {X Z : Type 0} (view : X → List ℤ) (show : Z → Head) (bytes : Lis
     first_of [] m f begins = has_samples (inl (subst (λ (l : List ℕ). BeginsWith (HeaderOfMoreSamples (Some stream) 0) l) (sym f) begins))
     first_of (x ∷ blocks) m f begins = has_samples (inr (x, (f.0, f.1, f.2, f.3)))
 
-    -- a fault that stands behind frames is that of the stream
+    -- a fault after the frames is one of the stream
     same_fault : (h : Head) (f : Fault) (rest : List ℕ) → show z ≡ h → BeginsWith (FrameBytesFault (Some (stream_of h.info)) f) rest → BeginsWith (FrameBytesFault (Some stream) f) rest
     same_fault h f rest e begins = subst (λ (q : StreamFormat). BeginsWith (FrameBytesFault (Some q) f) rest) (sym (is ∙ ap (λ (k : Head). stream_of k.info) e)) begins
 
     -- what follows the frames that were read
     module _ (end : Option Error) (xs : List ℤ) (h : Collects (cursor_source (λ (s : Bor (List ℕ)). s.now)) (Some stream) b end xs) where
       past : (g : Head) (blocks : List Block) (rest : List ℕ) → IsStream true bytes g blocks rest → ((blocks ≡ h.blocks) × Remains h.ends.between rest) ⊎ IsOutOfMemory (end_found end)
-      past g blocks rest st = let s = same_head g blocks rest st in elim (behind (Some stream) width end h.blocks blocks rest h.ends known s.1.0 s.1.1) [ inl p ↦ inl p | inr x ↦ inr (just_out_of_memory (end_found end) b h.after x) ]
+      past g blocks rest st = let s = same_head g blocks rest st in elim (behind (Some stream) width end h.blocks blocks rest h.ends is_known s.1.0 s.1.1) [ inl p ↦ inl p | inr x ↦ inr (just_out_of_memory (end_found end) b h.after x) ]
 
       fault_named_after : (f : Fault) (g : Head) (blocks : List Block) (rest : List ℕ) → IsStream true bytes g blocks rest → BeginsWith (FrameBytesFault (Some (stream_of g.info)) f) rest → IsErrAnd (end_found end) (IsFault f) ⊎ IsOutOfMemory (end_found end)
       fault_named_after f g blocks rest st begins = elim (past g blocks rest st) [
@@ -147,7 +147,7 @@ module _ {X Z : Type 0} (view : X → List ℤ) (show : Z → Head) (bytes : Lis
     -- all frames were read
     all_collected : (x : X) → Collects (cursor_source (λ (s : Bor (List ℕ)). s.now)) (Some stream) b None (view x) → SliceStreamPromises view bytes (Ok x)
     all_collected x h =
-        let w = h.ends.blocks_are.consumed.known known in
+        let w = h.ends.blocks_are.consumed.known is_known in
         let few : length h.ends.between.remaining < 2 = (h.ends.last.promises.at_end refl w.known).0 in
         record {
           sound = (show z, h.blocks, h.ends.between.remaining, stands h.blocks h.ends.between.remaining w.is (short_no_frame (Some stream) h.ends.between.remaining few), few, sym h.samples);
@@ -160,7 +160,7 @@ module _ {X Z : Type 0} (view : X → List ℤ) (show : Z → Head) (bytes : Lis
     -- they ended with an error
     ended_by : (e : Error) (xs : List ℤ) → Collects (cursor_source (λ (s : Bor (List ℕ)). s.now)) (Some stream) b (Some e) xs → SliceStreamPromises view bytes (Err e)
     ended_by e xs h =
-        let w = h.ends.blocks_are.consumed.known known in
+        let w = h.ends.blocks_are.consumed.known is_known in
         let here : Remains h.ends.between h.ends.between.remaining = record { known = w.known; are = refl } in
         record {
           sound = tt;
@@ -192,7 +192,7 @@ module _ {X Z : Type 0} (view : X → List ℤ) (show : Z → Head) (bytes : Lis
       complete = λ g blocks rest st few. inr (ap (λ (q : Error). Err q) is_out_of_memory);
       fault = inl is_out_of_memory;
       named = λ f bad. inr (ap (λ (q : Error). Err q) is_out_of_memory);
-      memory = λ s. inr (let f = (k.frames.consumed.known known).is in has_samples (inr (k.first, (f.0, f.1, f.2, f.3))));
+      memory = λ s. inr (let f = (k.frames.consumed.known is_known).is in has_samples (inr (k.first, (f.0, f.1, f.2, f.3))));
     }
 
     pub slice_stream_promises : (r : Result X Error) → IfOk r (λ x. Collects (cursor_source (λ (s : Bor (List ℕ)). s.now)) (Some stream) b None (view x)) → IfErr r (λ e. StopsCollecting (cursor_source (λ (s : Bor (List ℕ)). s.now)) (Some stream) b e) → SliceStreamPromises view bytes r

@@ -13,7 +13,7 @@ use Rattle.claxon.specs.Errors.TheVariants.{OutOfMemory}
 use Rattle.claxon.specs.declared.samples.FlacSamples.{FlacSamples}
 use Rattle.claxon.specs.Prefix.{BeginsWith}
 
--- s begins with the frames of blocks, and these are their first samples, so many; or all, and then fewer than two bytes follow.
+-- s begins with the frames of blocks, and these are their first samples, `count` of them; or all, and then fewer than two bytes follow.
 pub record HasFirstSamples (count : ℕ) (stream : Option StreamFormat) (s : List ℕ) (xs : List ℤ) : Type 0 where
   pub blocks : List Block
   pub rest : List ℕ
@@ -21,7 +21,7 @@ pub record HasFirstSamples (count : ℕ) (stream : Option StreamFormat) (s : Lis
   pub first : xs ≡ take count (samples_of blocks)
   pub enough : (count ≤ length (samples_of blocks)) ⊎ (length rest < 2)
 
--- s begins with a head, and these are the first samples of the frames behind it.
+-- s begins with a head, and these are the first samples of the frames after it.
 pub record BeginsWithSamples (count : ℕ) (s : List ℕ) (xs : List ℤ) : Type 0 where
   pub head : Head
   pub front : List ℕ
@@ -30,40 +30,53 @@ pub record BeginsWithSamples (count : ℕ) (s : List ℕ) (xs : List ℤ) : Type
   pub joined : s ≡ front ++ frames
   pub first_samples_are : HasFirstSamples count (Some (stream_of head.info)) frames xs
 
--- The fault of a head stands at the front of s, or that of a frame behind a head and all frames that stand there, which have fewer samples.
+-- s begins with a fault of a head, or with a head, all frames that follow, which have fewer samples, and then a fault of a frame.
 abbrev pub HasFirstFault : ℕ → List ℕ → Fault → Type 0
 HasFirstFault count s f =
     BeginsWith (HeadFault (with_samples true) f) s
-    ⊎ ((h : Head) × (blocks : List Block) × (rest : List ℕ) × IsStream true s h blocks rest × (length (samples_of blocks) < count) × BeginsWith (FrameBytesFault (Some (stream_of h.info)) f) rest)
+    ⊎ ((h : Head) × (blocks : List Block) × (rest : List ℕ) × IsStream true s h blocks rest
+    × (length (samples_of blocks) < count)
+    × BeginsWith (FrameBytesFault (Some (stream_of h.info)) f) rest)
 
 module _ {R A : Type 0} (count : ℕ) (remaining : R → Option (List ℕ)) (reader : R) (result : Result (Vec ℤ A) Error) where
-  -- What is answered are the first samples of the stream that is to come.
+  -- What is returned are the first samples of the remaining stream.
   abbrev pub FirstSamplesAreSound : Type 0
-  FirstSamplesAreSound = IfOk result (λ first. (unread (remaining reader)).known ≡ true → BeginsWithSamples count (unread (remaining reader)).remaining first.items)
+  FirstSamplesAreSound =
+      IfOk result (λ first. (unread (remaining reader)).known ≡ true
+      → BeginsWithSamples count (unread (remaining reader)).remaining first.items)
 
-  -- Where what is to come has first samples they are answered, or memory or the source failed.
+  -- Where the remaining bytes have first samples these are returned, or the answer is `OutOfMemory` or an `IoError`.
   abbrev pub FirstSamplesAreComplete : Type 0
   FirstSamplesAreComplete =
       (xs : List ℤ) → (unread (remaining reader)).known ≡ true → BeginsWithSamples count (unread (remaining reader)).remaining xs
       → IsOkAnd result (λ first. first.items ≡ xs) ⊎ IsMemoryOrIoError result
 
-  -- An Err that is neither want of memory nor an `IoError` names the first fault of what is to come, before which there are too few samples.
+  -- An Err is `OutOfMemory`, an `IoError`, or the name of the first fault, before which there are too few samples.
   abbrev pub FirstFaultIsSound : Type 0
-  FirstFaultIsSound = IfErr result (λ e. (e ≡ OutOfMemory) ⊎ (IsIo e ⊎ ((unread (remaining reader)).known ≡ true → (f : Fault) × IsFault f e × HasFirstFault count (unread (remaining reader)).remaining f)))
+  FirstFaultIsSound =
+      IfErr result (λ e. (e ≡ OutOfMemory)
+      ⊎ (IsIo e
+      ⊎ ((unread (remaining reader)).known ≡ true
+      → (f : Fault) × IsFault f e × HasFirstFault count (unread (remaining reader)).remaining f)))
 
-  -- Where there is such a fault it is named, or memory or the source failed.
+  -- Where there is such a fault it is named, or the answer is `OutOfMemory` or an `IoError`.
   abbrev pub FirstFaultIsComplete : Type 0
-  FirstFaultIsComplete = (f : Fault) → (unread (remaining reader)).known ≡ true → HasFirstFault count (unread (remaining reader)).remaining f → IsErrAnd result (IsFault f) ⊎ IsMemoryOrIoError result
+  FirstFaultIsComplete =
+      (f : Fault) → (unread (remaining reader)).known ≡ true
+      → HasFirstFault count (unread (remaining reader)).remaining f
+      → IsErrAnd result (IsFault f) ⊎ IsMemoryOrIoError result
 
--- ---- what calls give, one after another
+-- ---- consecutive calls
 
 module _ {R A : Type 0} (source : R → Source ℕ) (count : ℕ) (samples : FlacSamples R A) where
-  -- So many calls gave these samples; or they are all, and behind them stood no frame.
+  -- Consecutive calls gave `count` samples; or all samples, and after them is no frame.
   abbrev pub GivesFirstSamples : List ℤ → Type 0
   GivesFirstSamples xs =
       ((new : FlacSamples R A) × GaveSamples source samples xs new × (length xs ≡ count))
       ⊎ ((new : FlacSamples R A) × GaveAll source samples xs None new × (length xs ≤ count))
 
-  -- After fewer samples this error was given, or there was no memory for one.
+  -- After fewer samples there was this error, or no memory for one.
   abbrev pub ErrBeforeCount : Error → Type 0
-  ErrBeforeCount error = ((xs : List ℤ) × (new : FlacSamples R A) × GaveAll source samples xs (Some error) new × (length xs < count)) ⊎ (error ≡ OutOfMemory)
+  ErrBeforeCount error =
+      ((xs : List ℤ) × (new : FlacSamples R A) × GaveAll source samples xs (Some error) new
+      × (length xs < count)) ⊎ (error ≡ OutOfMemory)

@@ -1,4 +1,4 @@
--- What a call answers for a packet that is to be a frame and nothing else.
+-- What a call returns for a packet that has to be exactly one frame.
 use Rattle.std.specs.Prelude.{◌≡◌, ◌⊎◌, ◌<◌, ℕ, List, ◌∷◌, ◌++◌, length, codes, Option, IfOk, IfErr, IsOkAnd, IsErrAnd, Result}
 use Rattle.claxon.specs.Block.{BlockValue}
 use Rattle.claxon.specs.Fault.{Fault}
@@ -20,22 +20,31 @@ HasMoreThanFrame stream packet e =
     ((block : Block) × (t : List ℕ) × (byte : ℕ) × (rest : List ℕ) × Frame stream block t × (packet ≡ t ++ byte ∷ rest)) × IsFormatError e (codes "packet of more than a frame")
 
 module _ (stream : Option StreamFormat) (packet : List ℕ) (result : Result BlockValue Error) where
-  -- The whole packet is a frame of the block that is answered.
+  -- The whole packet is a frame of the block that is returned.
   abbrev pub PacketIsSound : Type 0
   PacketIsSound = IfOk result (λ block. Frame stream (block_view block) packet)
 
-  -- The block of any packet that is a frame is answered, if memory is found.
+  -- Of a packet that is a frame the block is returned, or `OutOfMemory`.
   abbrev pub PacketIsComplete : Type 0
-  PacketIsComplete = (block : Block) → Frame stream block packet → IsOkAnd result (λ x. block_view x ≡ block) ⊎ IsOutOfMemory result
+  PacketIsComplete =
+      (block : Block) → Frame stream block packet
+      → IsOkAnd result (λ x. block_view x ≡ block) ⊎ IsOutOfMemory result
 
-  -- An Err is want of memory or an `IoError`, or it names a fault that the packet begins with, or says that it has no frame or more.
+  -- An Err is `OutOfMemory`, an `IoError`, the name of a fault that the packet begins with, or says that it has no frame or more than one.
   abbrev pub PacketFaultIsSound : Type 0
-  PacketFaultIsSound = IfErr result (λ e. (e ≡ OutOfMemory) ⊎ (IsIo e ⊎ (((f : Fault) × IsFault f e × BeginsWith (FrameBytesFault stream f) packet) ⊎ (HasNoFrame packet e ⊎ HasMoreThanFrame stream packet e))))
+  PacketFaultIsSound =
+      IfErr result (λ e. (e ≡ OutOfMemory)
+      ⊎ (IsIo e
+      ⊎ (((f : Fault) × IsFault f e × BeginsWith (FrameBytesFault stream f) packet)
+      ⊎ (HasNoFrame packet e ⊎ HasMoreThanFrame stream packet e))))
 
-  -- Any fault that it begins with is named, if memory is found.
+  -- A fault that the packet begins with is named, or `OutOfMemory` returned.
   abbrev pub PacketFaultIsComplete : Type 0
-  PacketFaultIsComplete = (f : Fault) → BeginsWith (FrameBytesFault stream f) packet → IsErrAnd result (IsFault f) ⊎ IsOutOfMemory result
+  PacketFaultIsComplete =
+      (f : Fault) → BeginsWith (FrameBytesFault stream f) packet
+      → IsErrAnd result (IsFault f) ⊎ IsOutOfMemory result
 
-  -- Memory is wanted only where it begins with the header of a frame that has samples.
+  -- `OutOfMemory` only where it begins with the header of a frame that has samples.
   abbrev pub PacketOutOfMemoryAfterHeader : Type 0
-  PacketOutOfMemoryAfterHeader = IsOutOfMemory result → BeginsWith (HeaderOfMoreSamples stream 0) packet
+  PacketOutOfMemoryAfterHeader =
+      IsOutOfMemory result → BeginsWith (HeaderOfMoreSamples stream 0) packet

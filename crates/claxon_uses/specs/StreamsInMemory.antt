@@ -1,4 +1,4 @@
--- What a call answers for a whole stream that stands in bytes in memory: a head, frames, and what begins with no further frame.
+-- What a call returns for a whole stream in memory: a head, frames, and a rest that begins with no frame.
 use Rattle.std.specs.Prelude.{◌≡◌, ◌⊎◌, ◌<◌, ℕ, ℤ, true, List, ◌++◌, length, Some, IfOk, IfErr, IsOkAnd, IsErrAnd, Result}
 use Rattle.claxon.specs.Error.{IsFault, IsIo}
 use Rattle.claxon.specs.Fault.{Fault}
@@ -13,36 +13,46 @@ use Rattle.claxon.specs.Errors.{Error}
 use Rattle.claxon.specs.Errors.TheVariants.{OutOfMemory}
 use Rattle.claxon.specs.Prefix.{BeginsWith}
 
--- the fault of a head stands at the front, or that of a frame behind a head and all frames that stand there
+-- the bytes begin with a fault of a head, or with a head, all frames that follow, and then a fault of a frame
 abbrev pub HasStreamFault : List ℕ → Fault → Type 0
 HasStreamFault bytes f =
     BeginsWith (HeadFault (with_samples true) f) bytes
-    ⊎ ((h : Head) × (blocks : List Block) × (rest : List ℕ) × IsStream true bytes h blocks rest × BeginsWith (FrameBytesFault (Some (stream_of h.info)) f) rest)
+    ⊎ ((h : Head) × (blocks : List Block) × (rest : List ℕ) × IsStream true bytes h blocks rest
+    × BeginsWith (FrameBytesFault (Some (stream_of h.info)) f) rest)
 
--- a head stands there, and behind it the header of a frame
+-- the bytes begin with a head, and then the header of a frame
 abbrev pub HasSamples : List ℕ → Type 0
 HasSamples bytes =
     (h : Head) × (front : List ℕ) × (frames : List ℕ) × HeadCode (with_samples true) h front × (bytes ≡ front ++ frames)
-    × (BeginsWith (HeaderOfMoreSamples (Some (stream_of h.info)) 0) frames ⊎ ((block : Block) × BeginsWith (Frame (Some (stream_of h.info)) block) frames))
+    × (BeginsWith (HeaderOfMoreSamples (Some (stream_of h.info)) 0) frames
+    ⊎ ((block : Block) × BeginsWith (Frame (Some (stream_of h.info)) block) frames))
 
--- `view` shows the samples of what is answered.
+-- `view` shows the samples of what is returned.
 module _ {X : Type 0} (view : X → List ℤ) (bytes : List ℕ) (result : Result X Error) where
-  -- The bytes are a stream whose samples, interleaved, are answered, and fewer than two bytes more.
+  -- The bytes are a stream whose samples, interleaved, are returned, and fewer than two bytes more.
   abbrev pub SliceStreamIsSound : Type 0
-  SliceStreamIsSound = IfOk result (λ x. (h : Head) × (blocks : List Block) × (rest : List ℕ) × IsStream true bytes h blocks rest × (length rest < 2) × (view x ≡ samples_of blocks))
+  SliceStreamIsSound =
+      IfOk result (λ x. (h : Head) × (blocks : List Block) × (rest : List ℕ)
+      × IsStream true bytes h blocks rest × (length rest < 2) × (view x ≡ samples_of blocks))
 
-  -- The samples of any such stream are answered, if memory is found.
+  -- The samples of each such stream are returned, or `OutOfMemory`.
   abbrev pub SliceStreamIsComplete : Type 0
-  SliceStreamIsComplete = (h : Head) (blocks : List Block) (rest : List ℕ) → IsStream true bytes h blocks rest → length rest < 2 → IsOkAnd result (λ x. view x ≡ samples_of blocks) ⊎ IsOutOfMemory result
+  SliceStreamIsComplete =
+      (h : Head) (blocks : List Block) (rest : List ℕ) → IsStream true bytes h blocks rest
+      → length rest < 2 → IsOkAnd result (λ x. view x ≡ samples_of blocks) ⊎ IsOutOfMemory result
 
--- An Err that is neither want of memory nor an `IoError` names a fault that the bytes have.
+-- An Err is `OutOfMemory`, an `IoError`, or the name of a fault that the bytes have.
 abbrev pub SliceStreamFaultIsSound : {X : Type 0} → List ℕ → Result X Error → Type 0
-SliceStreamFaultIsSound bytes result = IfErr result (λ e. (e ≡ OutOfMemory) ⊎ (IsIo e ⊎ ((f : Fault) × IsFault f e × HasStreamFault bytes f)))
+SliceStreamFaultIsSound bytes result =
+    IfErr result (λ e. (e ≡ OutOfMemory)
+    ⊎ (IsIo e ⊎ ((f : Fault) × IsFault f e × HasStreamFault bytes f)))
 
--- Any fault that they have is named, if memory is found.
+-- A fault that they have is named, or `OutOfMemory` returned.
 abbrev pub SliceStreamFaultIsComplete : {X : Type 0} → List ℕ → Result X Error → Type 0
-SliceStreamFaultIsComplete bytes result = (f : Fault) → HasStreamFault bytes f → IsErrAnd result (IsFault f) ⊎ IsOutOfMemory result
+SliceStreamFaultIsComplete bytes result =
+    (f : Fault) → HasStreamFault bytes f → IsErrAnd result (IsFault f) ⊎ IsOutOfMemory result
 
--- Memory is wanted only for a block of an application or of comments, or for samples.
+-- `OutOfMemory` only for an application or comment block, or for samples.
 abbrev pub SliceStreamOutOfMemoryAfterHeader : {X : Type 0} → List ℕ → Result X Error → Type 0
-SliceStreamOutOfMemoryAfterHeader bytes result = IsOutOfMemory result → HeadMayRunOutOfMemory bytes ⊎ HasSamples bytes
+SliceStreamOutOfMemoryAfterHeader bytes result =
+    IsOutOfMemory result → HeadMayRunOutOfMemory bytes ⊎ HasSamples bytes

@@ -16,31 +16,44 @@ tag_line tag = tag.0 ++ 0x3d ∷ tag.1
 
 -- These are the tags of the head, in order.
 abbrev pub AreTagsOf : {A : Type 0} → Head → Vec (String A) A → Type 0
-AreTagsOf head lines = map (λ line. string_bytes line) lines.items ≡ map tag_line (comment_tags head.comment)
+AreTagsOf head lines =
+    map (λ line. string_bytes line) lines.items ≡ map tag_line (comment_tags head.comment)
 
 -- These are the tags that the reader shows, in order.
 abbrev pub AreTags : {R A : Type 0} → FlacReader R A → Vec (String A) A → Type 0
 AreTags flac lines = AreTagsOf (flac_head flac) lines
 
--- the head and its comments are read, and nothing behind them
+-- the head and its comments are read, and nothing after them
 abbrev pub metadata_alone : Options
 metadata_alone = record { metadata_only = true; wants_comment = true }
 
 module _ {R A : Type 0} (remaining : R → Option (List ℕ)) (reader : R) (result : Result (Vec (String A) A) Error) where
-  -- What is answered are the tags of a head that the bytes begin with.
+  -- What is returned are the tags of a head that the bytes begin with.
   abbrev pub TagLinesAreSound : Type 0
-  TagLinesAreSound = IfOk result (λ lines. (unread (remaining reader)).known ≡ true → (h : Head) × BeginsWith (HeadCode metadata_alone h) (unread (remaining reader)).remaining × AreTagsOf h lines)
+  TagLinesAreSound =
+      IfOk result (λ lines. (unread (remaining reader)).known ≡ true
+      → (h : Head) × BeginsWith (HeadCode metadata_alone h) (unread (remaining reader)).remaining
+      × AreTagsOf h lines)
 
-  -- The tags of any head that they begin with are answered, or memory or the source failed.
+  -- The tags of a head that they begin with are returned, or the answer is `OutOfMemory` or an `IoError`.
   abbrev pub TagLinesAreComplete : Type 0
-  TagLinesAreComplete = (h : Head) → (unread (remaining reader)).known ≡ true → BeginsWith (HeadCode metadata_alone h) (unread (remaining reader)).remaining
+  TagLinesAreComplete =
+      (h : Head) → (unread (remaining reader)).known ≡ true
+      → BeginsWith (HeadCode metadata_alone h) (unread (remaining reader)).remaining
       → IsOkAnd result (AreTagsOf h) ⊎ IsMemoryOrIoError result
 
-  -- An Err that is neither want of memory nor an `IoError` names a fault of a head that they begin with.
+  -- An Err is `OutOfMemory`, an `IoError`, or the name of a fault of a head that they begin with.
   abbrev pub TagFaultIsSound : Type 0
-  TagFaultIsSound = IfErr result (λ e. (e ≡ OutOfMemory) ⊎ (IsIo e ⊎ ((unread (remaining reader)).known ≡ true → (f : Fault) × IsFault f e × BeginsWith (HeadFault metadata_alone f) (unread (remaining reader)).remaining)))
+  TagFaultIsSound =
+      IfErr result (λ e. (e ≡ OutOfMemory)
+      ⊎ (IsIo e
+      ⊎ ((unread (remaining reader)).known ≡ true
+      → (f : Fault) × IsFault f e
+      × BeginsWith (HeadFault metadata_alone f) (unread (remaining reader)).remaining)))
 
-  -- Any fault of a head that they begin with is named, or memory or the source failed.
+  -- A fault of a head that they begin with is named, or the answer is `OutOfMemory` or an `IoError`.
   abbrev pub TagFaultIsComplete : Type 0
-  TagFaultIsComplete = (f : Fault) → (unread (remaining reader)).known ≡ true → BeginsWith (HeadFault metadata_alone f) (unread (remaining reader)).remaining
+  TagFaultIsComplete =
+      (f : Fault) → (unread (remaining reader)).known ≡ true
+      → BeginsWith (HeadFault metadata_alone f) (unread (remaining reader)).remaining
       → IsErrAnd result (IsFault f) ⊎ IsMemoryOrIoError result

@@ -1,4 +1,4 @@
--- What is found in a stream that may be damaged: frames and faults, one behind another.
+-- What is found in a stream that may be damaged: frames and faults, one after another.
 use Rattle.std.specs.Prelude.{◌≡◌, ◌⊎◌, ◌↔◌, ◌<◌, ◌≤◌, ◌+◌, ◌^◌, ℕ, false, true, List, [], ◌∷◌, ◌++◌, codes, length, Option, Some, IfErr, IfOk, IsErrAnd, IsOkAnd, IsTrue, Ok, Err, Result}
 use Rattle.std.specs.List.{sum_by}
 use Rattle.claxon.specs.Error.{IsFault, IsIo, is_io, is_out_of_memory}
@@ -25,10 +25,11 @@ abbrev pub PartBytes : Option StreamFormat → Part → List ℕ → Type 0
 PartBytes stream (Ok block) t = Frame stream block t
 PartBytes stream (Err f) t = FrameBytesFault stream f t
 
--- s is these parts, one behind another, and r
+-- s is these parts, one after another, and then r
 abbrev pub Parts : Option StreamFormat → List ℕ → List Part → List ℕ → Type 0
 Parts stream s [] r = s ≡ r
-Parts stream s (part ∷ parts) r = (t : List ℕ) × (m : List ℕ) × PartBytes stream part t × (s ≡ t ++ m) × Parts stream m parts r
+Parts stream s (part ∷ parts) r =
+    (t : List ℕ) × (m : List ℕ) × PartBytes stream part t × (s ≡ t ++ m) × Parts stream m parts r
 
 -- ---- how many there are
 
@@ -51,9 +52,11 @@ pub record AreCounted (parts : List Part) (found : Found) : Type 0 where
   pub faults : found.faults ≡ sum_by part_faults parts
   pub samples : found.samples ≡ sum_by part_samples parts
 
--- They are too many to be counted: they have 2^64 samples, or they are 2^64 - 1 themselves.
+-- They are too many to be counted: they have 2^64 samples, or there are 2^64 - 1 parts.
 abbrev pub AreTooMany : List Part → Type 0
-AreTooMany parts = (2 ^ 64 ≤ sum_by part_samples parts) ⊎ (2 ^ 64 ≤ sum_by part_frames parts + sum_by part_faults parts + 1)
+AreTooMany parts =
+    (2 ^ 64 ≤ sum_by part_samples parts)
+    ⊎ (2 ^ 64 ≤ sum_by part_frames parts + sum_by part_faults parts + 1)
 
 -- Such numbers can be counted.
 abbrev pub CanBeCounted : Found → Type 0
@@ -65,21 +68,25 @@ pub record CountsPart (frames faults samples : ℕ) (old new : Found) : Type 0 w
   pub faults_are : new.faults ≡ old.faults + faults
   pub samples_are : new.samples ≡ old.samples + samples
 
--- So far just parts were taken, and these were counted.
+-- So far exactly parts were consumed, and these were counted.
 pub record ConsumesParts (stream : Option StreamFormat) (old new : State ℕ) (found : Found) : Type 0 where
   pub taken : old.known ≡ true → (new.known ≡ true) × ((parts : List Part) × Parts stream old.remaining parts new.remaining × AreCounted parts found)
 
--- The blocks to come are such parts up to their end.
+-- The remaining bytes are such parts up to the end.
 abbrev pub CountsParts : {R : Type 0} → (R → Source ℕ) → FrameReader R → Found → Type 0
 CountsParts source blocks found =
     (frame_bytes source blocks).known ≡ true
-    → (parts : List Part) × (rest : List ℕ) × Parts (frame_stream blocks) (frame_bytes source blocks).remaining parts rest × AreCounted parts found × (length rest < 2)
+    → (parts : List Part) × (rest : List ℕ)
+    × Parts (frame_stream blocks) (frame_bytes source blocks).remaining parts rest
+    × AreCounted parts found × (length rest < 2)
 
 -- ---- a whole stream
 
 -- It is right where no part is a fault, and there are as many samples as the streaminfo says, where it doesn't say 0.
 abbrev pub IsRight : Head → Found → Type 0
-IsRight head found = IsTrue found.is_right ↔ ((found.faults ≡ 0) × ((head.info.samples ≡ 0) ⊎ (head.info.samples ≡ found.samples)))
+IsRight head found =
+    IsTrue found.is_right
+    ↔ ((found.faults ≡ 0) × ((head.info.samples ≡ 0) ⊎ (head.info.samples ≡ found.samples)))
 
 -- s is a head, parts that were counted, and fewer than two bytes.
 pub record IsVerified (s : List ℕ) (found : Found) : Type 0 where
@@ -95,31 +102,36 @@ pub record IsVerified (s : List ℕ) (found : Found) : Type 0 where
   pub counted : AreCounted parts found
   pub right : IsRight head found
 
--- ---- what can't be counted
+-- ---- what is too much to be counted
 
--- it is too much to be counted
+-- the error that says so
 abbrev pub IsTooMany : Error → Type 0
-IsTooMany (Unsupported text) = text.now ≡ codes "more than 18446744073709551615 frames, faults or samples"
+IsTooMany (Unsupported text) =
+    text.now ≡ codes "more than 18446744073709551615 frames, faults or samples"
 IsTooMany _ = ⊥
 
 -- The error says that one part more is too much, and it is.
 abbrev pub ExceedsCount : ℕ → ℕ → ℕ → Found → Error → Type 0
-ExceedsCount frames faults samples found e = IsTooMany e × ((2 ^ 64 ≤ found.frames + frames) ⊎ ((2 ^ 64 ≤ found.faults + faults) ⊎ (2 ^ 64 ≤ found.samples + samples)))
+ExceedsCount frames faults samples found e =
+    IsTooMany e
+    × ((2 ^ 64 ≤ found.frames + frames)
+    ⊎ ((2 ^ 64 ≤ found.faults + faults) ⊎ (2 ^ 64 ≤ found.samples + samples)))
 
--- an error of another kind than want of memory and `IoError`
+-- an error other than `OutOfMemory` and `IoError`
 abbrev pub IsFormatOrUnsupported : Error → Type 0
 IsFormatOrUnsupported e = (is_out_of_memory e ≡ false) × (is_io e ≡ false)
 
--- The error is want of memory or an `IoError`, or one fault more is too much.
+-- The error is `OutOfMemory` or an `IoError`, or one fault more is too much.
 abbrev pub CannotCountFault : Error → Found → Error → Type 0
-CannotCountFault fault found e = (e ≡ OutOfMemory) ⊎ (IsIo e ⊎ (IsFormatOrUnsupported fault × ExceedsCount 0 1 0 found e))
+CannotCountFault fault found e =
+    (e ≡ OutOfMemory) ⊎ (IsIo e ⊎ (IsFormatOrUnsupported fault × ExceedsCount 0 1 0 found e))
 
--- The error is want of memory or an `IoError`, or says of more parts than can be counted that they are to come.
+-- The error is `OutOfMemory` or an `IoError`, or says that more parts remain than can be counted, and so it is.
 abbrev pub StopsCounting : {R : Type 0} → (R → Source ℕ) → FrameReader R → Error → Type 0
 StopsCounting source blocks e =
     (e ≡ OutOfMemory) ⊎ (IsIo e ⊎ (IsTooMany e × ((frame_bytes source blocks).known ≡ true → (parts : List Part) × (rest : List ℕ) × Parts (frame_stream blocks) (frame_bytes source blocks).remaining parts rest × AreTooMany parts)))
 
--- ---- what the call promises
+-- ---- the contract of the call
 
 -- s begins with a head and parts that are too many.
 pub record HasTooMany (s : List ℕ) : Type 0 where
@@ -134,22 +146,27 @@ pub record HasTooMany (s : List ℕ) : Type 0 where
   pub too_many : AreTooMany parts
 
 module _ {R : Type 0} (remaining : R → Option (List ℕ)) (reader : R) (result : Result Found Error) where
-  -- What is to come was counted up to its end.
+  -- The remaining bytes were counted up to the end.
   abbrev pub VerifyIsSound : Type 0
-  VerifyIsSound = IfOk result (λ found. (unread (remaining reader)).known ≡ true → IsVerified (unread (remaining reader)).remaining found)
+  VerifyIsSound =
+      IfOk result (λ found. (unread (remaining reader)).known ≡ true
+      → IsVerified (unread (remaining reader)).remaining found)
 
-  -- Any such stream that can be counted is answered so, or memory, the source or the writer failed.
+  -- For each such stream that can be counted these numbers are returned, or the answer is `OutOfMemory` or an `IoError`.
   abbrev pub VerifyIsComplete : Type 0
   VerifyIsComplete =
       (found : Found) → (unread (remaining reader)).known ≡ true → IsVerified (unread (remaining reader)).remaining found → CanBeCounted found → IsOkAnd result (λ counted. counted ≡ found) ⊎ IsMemoryOrIoError result
 
-  -- An Err is want of memory, an `IoError`, or says of more parts than can be counted that they are; or it names the fault of a head that stands there.
+  -- An Err is `OutOfMemory`, an `IoError`, says that there are more parts than can be counted, where it is so, or names the
+  -- fault of a head that the bytes begin with.
   abbrev pub VerifyFaultIsSound : Type 0
   VerifyFaultIsSound =
       IfErr result (λ e. (e ≡ OutOfMemory) ⊎ (IsIo e ⊎ ((unread (remaining reader)).known ≡ true
-      → (IsTooMany e × HasTooMany (unread (remaining reader)).remaining) ⊎ ((f : Fault) × IsFault f e × BeginsWith (HeadFault (with_samples true) f) (unread (remaining reader)).remaining))))
+      → (IsTooMany e × HasTooMany (unread (remaining reader)).remaining)
+      ⊎ ((f : Fault) × IsFault f e
+      × BeginsWith (HeadFault (with_samples true) f) (unread (remaining reader)).remaining))))
 
-  -- The fault of a head that stands there is named, or memory or the source failed.
+  -- A fault of a head that they begin with is named, or the answer is `OutOfMemory` or an `IoError`.
   abbrev pub VerifyHeadFaultIsComplete : Type 0
   VerifyHeadFaultIsComplete =
       (f : Fault) → (unread (remaining reader)).known ≡ true → BeginsWith (HeadFault (with_samples true) f) (unread (remaining reader)).remaining → IsErrAnd result (IsFault f) ⊎ IsMemoryOrIoError result

@@ -20,7 +20,7 @@ pub fn peak<Q: Files<File = File> + AllocGlobal>(rt: &Q, name: &str) -> Result<u
             break;
         };
         peak = peak.max(block_peak(&block));
-        // The next block is read into the memory of this one.
+        // The next block is read into the buffer of this one.
         buffer = block.into_buffer();
     }
     Ok(peak)

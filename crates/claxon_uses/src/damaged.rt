@@ -13,18 +13,18 @@ use std::io::{Read, Write};
 pub struct Found {
     /// How many frames were decoded.
     pub frames: u64,
-    /// How many faults were met.
+    /// How many faults were found.
     pub faults: u64,
     /// How many samples of each channel the frames have.
     pub samples: u64,
-    /// No fault was met, and there are as many samples as the streaminfo says, where it says so.
+    /// No fault was found, and there are as many samples as the streaminfo says, where it says so.
     pub is_right: bool,
 }
 
-/// Decodes all frames of a stream, and goes on behind each fault, of which a line is written.
+/// Decodes all frames of a stream, and continues after each fault, of which a line is written.
 ///
-/// An error is the fault of the head, or an `IoError`, where the bytes end within a frame or the writer failed; or it says that
-/// there are 2^64 samples or more, or 2^64 - 1 frames and faults or more.
+/// An error is the fault of the head, or an `IoError`, where the bytes end within a frame or the writer failed; or it
+/// says that there are 2^64 samples or more, or 2^64 - 1 frames and faults or more.
 pub fn verify<R: Read + Drop, A: Allocator + Copy, W: Write>(
     alloc: A,
     reader: R,
@@ -42,11 +42,12 @@ pub fn verify<R: Read + Drop, A: Allocator + Copy, W: Write>(
     Ok(Found { is_right, ..found })
 }
 
-// Whether there is no fault, and as many samples as are told, where that isn't 0.
-fn matches_streaminfo(found: &Found, known: u64) -> bool
-    ensures { IsTrue result ↔ ((found.now.faults ≡ 0) × ((known ≡ 0) ⊎ (known ≡ found.now.samples))) }
+// Whether there is no fault, and the expected number of samples, where that isn't 0.
+fn matches_streaminfo(found: &Found, expected: u64) -> bool
+    ensures { IsTrue result ↔
+        ((found.now.faults ≡ 0) × ((expected ≡ 0) ⊎ (expected ≡ found.now.samples))) }
 {
-    found.faults == 0 && (known == 0 || known == found.samples)
+    found.faults == 0 && (expected == 0 || expected == found.samples)
 }
 
 // Counts frames and faults up to the end.

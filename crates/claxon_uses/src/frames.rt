@@ -1,4 +1,4 @@
-//! Frames that stand in memory.
+//! Frames in memory.
 ghost use Rattle.std.specs.Prelude.{◌≤◌, None, Some};
 ghost use Rattle.claxon.specs.FrameReader.{stream_with};
 ghost use Rattle.claxon.specs.FramesInMemory.{SliceFrameIsSound, SliceFrameIsComplete, SliceFrameFaultIsComplete, SliceFrameFaultIsSound, SliceFrameNoneIffEof, SliceFrameOutOfMemoryAfterHeader};
@@ -12,12 +12,12 @@ use std::io::Cursor;
 
 /// The block of the frame that the bytes begin with; None where they are fewer than two.
 ///
-/// The header has to name the width of the samples, since nothing is known of the stream. What follows the frame is ignored.
-/// An error names the fault that stands there; it is an `IoError` where the bytes end within the frame.
+/// The header has to give the bit depth, since nothing is known of the stream. What follows the frame is ignored. An
+/// error names the fault that the bytes begin with; it is an `IoError` where they end within the frame.
 pub fn decode_one<A: Allocator>(alloc: A, bytes: &[u8]) -> FrameResult<A>
     ensures sound { SliceFrameIsSound None bytes.now result }
     ensures complete { SliceFrameIsComplete None bytes.now result }
-    ensures end { SliceFrameNoneIffEof bytes.now result }
+    ensures eof { SliceFrameNoneIffEof bytes.now result }
     ensures fault { SliceFrameFaultIsSound None bytes.now result }
     ensures named { SliceFrameFaultIsComplete None bytes.now result }
     ensures memory { SliceFrameOutOfMemoryAfterHeader None bytes.now result }
@@ -26,10 +26,10 @@ pub fn decode_one<A: Allocator>(alloc: A, bytes: &[u8]) -> FrameResult<A>
     frames.read_next_or_eof(Vec::new(alloc))
 }
 
-/// The block of a packet that is a whole frame of the stream with this streaminfo, as Ogg and MP4 hand them out, in the
-/// buffer's memory where it suffices.
+/// The block of a packet, as of Ogg or MP4, that is a whole frame of the stream with this streaminfo, in the buffer's
+/// memory where it suffices.
 ///
-/// An error names the fault that stands there, or says that the packet holds less or more than a frame.
+/// An error names the fault that the packet begins with, or says that it holds less or more than a frame.
 pub fn decode_packet<A: Allocator>(
     info: StreamInfo,
     packet: &[u8],

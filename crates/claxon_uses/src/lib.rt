@@ -1,4 +1,4 @@
-//! Callers of the decoder, proved from its contracts: each says what it does in terms of the bytes that it is handed.
+//! Callers of the decoder, proved from its contracts: each says what it does in terms of the bytes that it is given.
 #![tactic(auto)]
 
 mod blocks;

@@ -8,7 +8,7 @@ use claxon::{FlacReader, FlacSamples, Result};
 use std::alloc::Allocator;
 use std::io::Read;
 
-/// The first samples of a stream, for each place of a block the sample of each channel: so many, or all where it has fewer.
+/// The first samples of a stream, interleaved: this many, or all where it has fewer.
 ///
 /// An error names the first fault of the stream; it is an `IoError` where its bytes end within the head or a frame.
 pub fn first_samples<R: Read + Drop, A: Allocator + Copy>(
@@ -25,7 +25,7 @@ pub fn first_samples<R: Read + Drop, A: Allocator + Copy>(
     first_of(alloc, flac.samples(), count)
 }
 
-// For any source of bytes, since a loop over a reader that is lent is dear to prove.
+// For any source of bytes, since a loop over a borrowed reader is costly to prove.
 fn first_of<R: ReadBytes + Drop, A: Allocator + Copy>(
     alloc: A,
     samples: FlacSamples<R, A>,

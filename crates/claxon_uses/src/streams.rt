@@ -1,4 +1,4 @@
-//! Whole streams that stand in memory.
+//! Whole streams in memory.
 ghost use Rattle.std.specs.Prelude.{◌≡◌, ◌≤◌, ◌+◌, IfOk, IfErr, IsTrue, Some, None, false, vec_len};
 ghost use Rattle.claxon.specs.FrameReader.{stream_with};
 ghost use Rattle.claxon_uses.specs.Collecting.{Collects, NoneIsAdded, SampleIsAdded, StopsAdding, StopsCollecting};
@@ -10,9 +10,9 @@ use claxon::{FlacReaderOptions, FlacSamples, Result, read_head};
 use std::alloc::Allocator;
 use std::io::Cursor;
 
-/// The samples of a stream, for each place of a block the sample of each channel.
+/// The samples of a stream, interleaved.
 ///
-/// One byte more than the stream is ignored. An error names the fault of the head or of a frame that stands there; it is an
+/// One byte more than the stream is ignored. An error names the first fault, of the head or of a frame; it is an
 /// `IoError` where the bytes end within one.
 pub fn decode_all<A: Allocator + Copy>(alloc: A, bytes: &[u8]) -> Result<Vec<i32, A>>
     ensures sound { SliceStreamIsSound (λ all. all.items) bytes.now result }
@@ -30,7 +30,7 @@ pub fn decode_all<A: Allocator + Copy>(alloc: A, bytes: &[u8]) -> Result<Vec<i32
     collect_samples(alloc, input, info)
 }
 
-// The samples of all frames of the stream with this streaminfo that the input has.
+// The samples of all frames in the input, of the stream with this streaminfo.
 fn collect_samples<R: ReadBytes + Drop, A: Allocator + Copy>(
     alloc: A,
     input: R,
@@ -38,8 +38,10 @@ fn collect_samples<R: ReadBytes + Drop, A: Allocator + Copy>(
 ) -> Result<Vec<i32, A>>
     requires some { 1 ≤ info.bits_per_sample }
     requires most { info.bits_per_sample ≤ 32 }
-    ensures ok { IfOk result (λ all. Collects R.source (Some (stream_with info)) input None all.items) }
-    ensures err { IfErr result (λ error. StopsCollecting R.source (Some (stream_with info)) input error) }
+    ensures ok { IfOk result (λ all.
+        Collects R.source (Some (stream_with info)) input None all.items) }
+    ensures err { IfErr result (λ error.
+        StopsCollecting R.source (Some (stream_with info)) input error) }
 {
     let mut samples = FlacSamples::new(alloc, input, info);
     let mut all = Vec::new(alloc);
@@ -47,14 +49,16 @@ fn collect_samples<R: ReadBytes + Drop, A: Allocator + Copy>(
     Ok(all)
 }
 
-// Adds the next sample, and says whether there was one.
+// Adds the next sample, and returns whether there was one.
 fn push_next<R: ReadBytes + Drop, A: Allocator + Copy>(
     samples: &mut FlacSamples<R, A>,
     all: &mut Vec<i32, A>,
 ) -> Result<bool>
-    ensures some { IfOk result (λ more. IsTrue more → SampleIsAdded R.source samples.old samples.new all.old.items all.new.items) }
+    ensures some { IfOk result (λ more. IsTrue more
+        → SampleIsAdded R.source samples.old samples.new all.old.items all.new.items) }
     ensures len { IfOk result (λ more. IsTrue more → vec_len all.new ≡ vec_len all.old + 1) }
-    ensures none { IfOk result (λ more. more ≡ false → NoneIsAdded R.source samples.old samples.new all.old.items all.new.items) }
+    ensures none { IfOk result (λ more. more ≡ false
+        → NoneIsAdded R.source samples.old samples.new all.old.items all.new.items) }
     ensures err { IfErr result (λ error. StopsAdding R.source samples.old samples.new error) }
 {
     match samples.next() {

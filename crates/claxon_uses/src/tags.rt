@@ -30,7 +30,7 @@ pub fn stream_tags<R: Read + Drop, A: Allocator + Copy>(
     tag_lines(alloc, &flac)
 }
 
-// Those of a head with its comments, behind which nothing is read.
+// The options for a head with its comments, and nothing after it.
 fn head_options() -> FlacReaderOptions
     ensures only { result.metadata_only ≡ true }
     ensures comment { result.read_vorbis_comment ≡ true }
