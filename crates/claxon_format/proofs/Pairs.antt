@@ -21,7 +21,7 @@ equal_text false xs ys e same = absurd (other_text xs ys e same)
 
 pub names_same : NamesSame
 names_same = record {
-  known = λ a b e. same_text (map lower a) (map lower b) (sym e);
-  tests = λ a b e. equal_text (same a b) (map lower a) (map lower b) refl e;
+  sound = λ a b e. same_text (map lower a) (map lower b) (sym e);
+  complete = λ a b e. equal_text (same a b) (map lower a) (map lower b) refl e;
   std = λ a b. refl;
 }

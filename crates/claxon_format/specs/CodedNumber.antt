@@ -1,15 +1,15 @@
--- CodedNumber numbers (RFC 9639, section 9.1.5): a number of up to 36 bits in one to seven bytes, as UTF-8 spells characters.
+-- Coded numbers (RFC 9639, section 9.1.5): a number of up to 36 bits in one to seven bytes, coded as UTF-8 codes a character.
 use Rattle.std.specs.Prelude.{◌≡◌, ℕ, zero, suc, ◌+◌, ◌-◌, ◌*◌, ◌/◌, ◌^◌, ◌<◌, ◌≤◌, Bool, true, false, cond, not, ◌==◌, ◌||◌, ◌&&◌, nat_lt, [], ◌∷◌, ◌++◌, replicate}
 use Rattle.claxon_format.specs.Fault.{Fault, NumberFirst, NumberContinuation}
 use Rattle.claxon_format.specs.Bits.{Bits, bits, Number}
 use Rattle.claxon_format.specs.Reading.{ThenFault, MeetsOr, Never}
 
--- the low 6 * k bits of x, each six behind a one and a zero
+-- k continuation bytes: the low 6 * k bits of x, each six after a one and a zero
 abbrev pub continuation_bytes : ℕ → ℕ → Bits
 continuation_bytes zero x = []
 continuation_bytes (suc k) x = true ∷ false ∷ (bits 6 (x / 2 ^ (6 * k)) ++ continuation_bytes k x)
 
--- x spelled in a byte and k more; the standard wants the least k, and any that holds x is read
+-- x in a first byte and k continuation bytes; the standard wants the least k, and any k that holds x is read
 abbrev pub CodedNumber : ℕ → ℕ → Bits → Type 0
 CodedNumber zero x t = (x < 2 ^ 7) × (t ≡ bits 8 x)
 CodedNumber (suc j) x t =
@@ -22,7 +22,7 @@ CodedNumber (suc j) x t =
 abbrev pub bad_first : ℕ → Bool
 bad_first b = (not (nat_lt b 128) && nat_lt b 192) || (b == 255)
 
--- how many bytes follow a first byte
+-- how many continuation bytes follow a first byte
 abbrev pub continuation_count : ℕ → ℕ
 continuation_count b = cond (nat_lt b 128) 0 (cond (nat_lt b 224) 1 (cond (nat_lt b 240) 2 (cond (nat_lt b 248) 3 (cond (nat_lt b 252) 4 (cond (nat_lt b 254) 5 6)))))
 
@@ -30,11 +30,11 @@ continuation_count b = cond (nat_lt b 128) 0 (cond (nat_lt b 224) 1 (cond (nat_l
 abbrev pub bad_continuation : ℕ → Bool
 bad_continuation c = not (c / 64 == 2)
 
--- k bytes, and the first that goes on with no number
+-- of k bytes the first that is not a continuation byte
 abbrev pub ContinuationBytesFault : ℕ → Fault → Bits → Type 0
 ContinuationBytesFault zero = Never
 ContinuationBytesFault (suc k) = ThenFault (Number 8) Never (λ c. MeetsOr (bad_continuation c) NumberContinuation (ContinuationBytesFault k))
 
--- the first byte, and those that follow it
+-- the first byte and its continuation bytes
 abbrev pub CodedNumberFault : Fault → Bits → Type 0
 CodedNumberFault = ThenFault (Number 8) Never (λ b. MeetsOr (bad_first b) NumberFirst (ContinuationBytesFault (continuation_count b)))

@@ -6,12 +6,12 @@ use Rattle.claxon_format.specs.Fault.{Fault, CommentShort, CommentLarge, VendorL
 use Rattle.claxon_format.specs.Reading.{Each, ThenFault, MeetsOr, Never, Is, Mapped, choose, Checked, CheckedFault}
 use Rattle.claxon_format.specs.Metadata.{Bytes, Little, max_content_bytes}
 
--- an entry: its text, and the place of its first '='
+-- an entry: its text, and the position of its first '='
 pub record Entry : Type 0 where
   pub text : List ℕ
   pub place : ℕ
 
--- who wrote the block, and what it says
+-- the vendor string, and the entries
 pub record Comment : Type 0 where
   pub vendor : List ℕ
   pub entries : List Entry
@@ -32,11 +32,11 @@ IsEntry e =
     (name : List ℕ) × (value : List ℕ) × (e.text ≡ name ++ (0x3d ∷ value)) × (e.place ≡ length name)
     × (list_any is_separator name ≡ false) × (list_all is_name_byte name ≡ true) × IsUtf8 e.text
 
--- a length in four bytes, the least significant first, and as many bytes
+-- the length of a text in four bytes, little-endian, and the text
 abbrev pub LengthPrefixed : List ℕ → List ℕ → Type 0
 LengthPrefixed text t = (x : List ℕ) × Little 4 (length text) x × (t ≡ x ++ text)
 
--- what texts mean: an empty one nothing, any other an entry
+-- the entries of texts: an empty text has none, any other is one
 abbrev pub EntriesOf : List (List ℕ) → List Entry → Type 0
 EntriesOf [] [] = Unit {0}
 EntriesOf [] (e ∷ entries) = ⊥
@@ -44,7 +44,7 @@ EntriesOf ([] ∷ texts) entries = EntriesOf texts entries
 EntriesOf ((y ∷ ys) ∷ texts) [] = ⊥
 EntriesOf ((y ∷ ys) ∷ texts) (e ∷ entries) = (e.text ≡ y ∷ ys) × IsEntry e × EntriesOf texts entries
 
--- n bytes: the vendor, how many texts there are, and the texts
+-- n bytes: the vendor string, the number of texts, and the texts
 abbrev pub CommentCode : ℕ → Comment → List ℕ → Type 0
 CommentCode n c t =
     (texts : List (List ℕ)) × (x : List ℕ) × (y : List ℕ) × (z : List ℕ)
@@ -74,7 +74,7 @@ EntryFault n = ThenFault (Bytes n) Never (λ text. MeetsOr (not (has_separator t
 abbrev pub EntryCode : ℕ → Entry → List ℕ → Type 0
 EntryCode n e t = (length t ≡ n) × (e.text ≡ t) × IsEntry e
 
--- a text of n bytes, and what it means
+-- a text of n bytes and its entries: none if it is empty, or else one
 abbrev pub EntryOrEmpty : ℕ → List Entry → List ℕ → Type 0
 EntryOrEmpty n = choose (n == 0) (Is []) (Mapped (λ e. e ∷ []) (EntryCode n))
 
@@ -82,49 +82,49 @@ EntryOrEmpty n = choose (n == 0) (Is []) (Mapped (λ e. e ∷ []) (EntryCode n))
 abbrev pub EntryOrEmptyFault : ℕ → Fault → List ℕ → Type 0
 EntryOrEmptyFault n = choose (n == 0) Never (EntryFault n)
 
--- the length of an entry, which stands in so many bytes at most
+-- the length of an entry: at most the bytes that are left
 abbrev pub EntryLength : ℕ → ℕ → List ℕ → Type 0
 EntryLength most = Checked (nat_lt most) (Little 4)
 
--- and one that is more
+-- a length that is more
 abbrev pub EntryLengthFault : ℕ → Fault → List ℕ → Type 0
 EntryLengthFault most = CheckedFault (nat_lt most) EntryLong (Little 4) Never
 
--- the length of the vendor, which stands in so many bytes at most
+-- the length of the vendor string: at most the bytes that are left
 abbrev pub VendorLength : ℕ → ℕ → List ℕ → Type 0
 VendorLength most = Checked (nat_lt most) (Little 4)
 
--- and one that is more
+-- a length that is more
 abbrev pub VendorLengthFault : ℕ → Fault → List ℕ → Type 0
 VendorLengthFault most = CheckedFault (nat_lt most) VendorLong (Little 4) Never
 
--- the vendor in n bytes of UTF-8
+-- the vendor string: n bytes of UTF-8
 abbrev pub Vendor : ℕ → List ℕ → List ℕ → Type 0
 Vendor n = Checked not_utf8 (Bytes n)
 
--- and bytes that are none
+-- n bytes that are not UTF-8
 abbrev pub VendorFault : ℕ → Fault → List ℕ → Type 0
 VendorFault n = CheckedFault not_utf8 VendorNotUtf8 (Bytes n) Never
 
--- how many entries there are: fewer than the limit
+-- the number of texts, below the limit
 abbrev pub Count : ℕ → ℕ → List ℕ → Type 0
 Count limit = Checked (nat_le limit) (Little 4)
 
--- and a count that reaches the limit
+-- a number that reaches the limit
 abbrev pub CountFault : ℕ → Fault → List ℕ → Type 0
 CountFault limit = CheckedFault (nat_le limit) TooManyEntries (Little 4) Never
 
--- what is wrong after the last text, where so many texts are missing and so many bytes are left
+-- after the last text: bytes are left over, or texts are missing
 abbrev pub EntriesEndFault : ℕ → ℕ → Fault → List ℕ → Type 0
 EntriesEndFault missing left = MeetsOr (nat_lt 0 left) ExcessData (MeetsOr (nat_lt 0 missing) EntriesMissing Never)
 
--- of so many texts in so many bytes
+-- the faults of the missing texts in the bytes that are left
 abbrev pub EntriesFault : ℕ → ℕ → Fault → List ℕ → Type 0
 EntriesFault zero left = EntriesEndFault zero left
 EntriesFault (suc missing) left = choose (nat_lt left 4) (EntriesEndFault (suc missing) left) (
     ThenFault (EntryLength (left - 4)) (EntryLengthFault (left - 4)) (λ n. ThenFault (EntryOrEmpty n) (EntryOrEmptyFault n) (λ entries. EntriesFault missing (left - 4 - n))))
 
--- the fields in order, with the faults that they meet
+-- the faults of the fields, in order
 abbrev pub CommentFault : ℕ → Fault → List ℕ → Type 0
 CommentFault n =
     MeetsOr (nat_lt n 8) CommentShort (MeetsOr (nat_lt max_content_bytes n) CommentLarge (

@@ -15,16 +15,16 @@ abbrev pub ChannelsFit : ℕ → ℕ → List (List ℤ) → Type 0
 ChannelsFit n w [] = Unit {0}
 ChannelsFit n w (c ∷ cs) = (length c ≡ n) × AllFitIn w c × ChannelsFit n w cs
 
--- how many channels a channel code spells
+-- the number of channels of a channel code
 abbrev pub channel_count : ℕ → ℕ
 channel_count code = cond (nat_lt code 8) (code + 1) 2
 
--- what is coded for the channels
+-- the two channels that are coded for left and right
 abbrev pub decorrelated_pair : ℕ → List (List ℤ) → List (List ℤ)
 decorrelated_pair code (l ∷ r ∷ []) = zipped (decorrelate_first code) l r ∷ zipped (decorrelate_second code) l r ∷ []
 decorrelated_pair code other = other
 
--- the coded channels: those with codes from 8 on are mixed (section 4.2)
+-- the channels that are coded: under codes from 8 on they are decorrelated (section 4.2)
 abbrev pub decorrelated : ℕ → List (List ℤ) → List (List ℤ)
 decorrelated code channels = cond (nat_lt code 8) channels (decorrelated_pair code channels)
 
@@ -43,11 +43,11 @@ SuitsEach n _ _ _ = ⊥
 abbrev pub padding_of : ℕ → Bits → Bits
 padding_of n p = take n (p ++ replicate n false)
 
--- bits, and padding up to a border of 8 (section 9.3)
+-- bits, and padding up to a byte boundary (section 9.3)
 abbrev pub byte_aligned : Bits → Bits → Bits
 byte_aligned p x = x ++ padding_of (padding_length x) p
 
--- bits and their guard
+-- bits and their CRC
 abbrev pub append_crc : ℕ → (Bits → ℕ) → Bits → Bits
 append_crc w crc x = x ++ bits w (crc x)
 
@@ -58,7 +58,7 @@ write_frame f w x p plans channels =
 
 -- ---- headers
 
--- the codes of a header, with the bits of its rate, how many bytes its number has after the first, and the padding bits of its frame, of any value
+-- the codes of a header, the bits of its sample rate, the count of continuation bytes of its number, and the padding of its frame, of any value
 pub record HeaderPlan : Type 0 where
   pub size_code : ℕ
   pub rate_code : ℕ
@@ -66,17 +66,17 @@ pub record HeaderPlan : Type 0 where
   pub continuation_count : ℕ
   pub padding : Bits
 
--- a coded number in a byte and so many more (section 9.1.5)
+-- a coded number in a first byte and this count of continuation bytes (section 9.1.5)
 abbrev pub write_coded_number : ℕ → ℕ → Bits
 write_coded_number zero x = bits 8 x
 write_coded_number (suc j) x = let k = suc j in replicate (k + 1) true ++ (false ∷ (bits (6 - k) (x / 2 ^ (6 * k)) ++ continuation_bytes k x))
 
--- how great a number so many bytes hold
+-- the numbers below it fit a first byte and this count of continuation bytes
 abbrev pub coded_number_limit : ℕ → ℕ
 coded_number_limit zero = 2 ^ 7
 coded_number_limit (suc j) = 2 ^ (5 * suc j + 6)
 
--- the size less one, under codes 6 and 7 (section 9.1.6)
+-- the block size less one, under codes 6 and 7 (section 9.1.6)
 abbrev pub write_size : ℕ → ℕ → Bits
 write_size code n = cond (code == 6) (bits 8 (n - 1)) (cond (code == 7) (bits 16 (n - 1)) [])
 
@@ -86,11 +86,11 @@ write_fields f plan =
     (bits 14 0x3ffe ++ (bits 1 0 ++ bits 1 (bit f.variable))) ++ ((bits 4 plan.size_code ++ bits 4 plan.rate_code) ++ ((bits 4 f.channels ++ (bits 3 f.bit_depth_code ++ bits 1 0))
     ++ (write_coded_number plan.continuation_count f.number ++ (write_size plan.size_code f.size ++ plan.rate))))
 
--- a size that this code can spell (section 9.1.1)
+-- a block size that this code can stand for (section 9.1.1)
 abbrev pub SuitsSize : ℕ → ℕ → Type 0
 SuitsSize code n = either (code == 6) ((1 ≤ n) × (n ≤ 256)) (either (code == 7) ((1 ≤ n) × (n ≤ 65535)) (n ≡ size_of code))
 
--- codes that spell these fields
+-- codes that stand for these fields
 abbrev pub SuitsHeader : Fields → HeaderPlan → Type 0
 SuitsHeader f plan =
     (1 ≤ plan.size_code) × (plan.size_code ≤ 15) × (plan.rate_code ≤ 14) × (f.channels ≤ 10) × (f.bit_depth_code < 8) × (bit_depth_reserved f.bit_depth_code ≡ false)
@@ -116,11 +116,11 @@ unfoldable pub bytes_of : Bits → List ℕ
 bytes_of (a ∷ b ∷ c ∷ d ∷ e ∷ f ∷ g ∷ h ∷ t) = number (a ∷ b ∷ c ∷ d ∷ e ∷ f ∷ g ∷ h ∷ []) ∷ bytes_of t
 bytes_of _ = []
 
--- the width of a frame's samples, and of each coded channel
+-- the bit depth of a frame
 abbrev pub frame_width : Option StreamFormat → Fields → ℕ
 frame_width stream f = width_of (known_width stream) f.bit_depth_code
 
--- a side channel has one bit more
+-- the bit depth of each coded channel: a side channel has one bit more
 abbrev pub planned_widths : Option StreamFormat → Fields → List ℕ
 planned_widths stream f = widths f.channels (frame_width stream f)
 
@@ -132,10 +132,10 @@ written_block stream f channels = record { time = time_of stream (header_of (kno
 abbrev pub write_bytes : Option StreamFormat → Fields → HeaderPlan → List SubframePlan → List (List ℤ) → List ℕ
 write_bytes stream f header plans channels = bytes_of (write_frame f (frame_width stream f) (write_fields f header) header.padding plans channels)
 
--- the fields and their codes suit one another, and the channels: their width is known and at most 32, at most 31 where a side is coded
+-- the fields suit their codes and the channels: the bit depth is known and at most 32, or 31 where a side channel is coded
 pub record SuitsFrame (stream : Option StreamFormat) (f : Fields) (header : HeaderPlan) (channels : List (List ℤ)) : Type 0 where
   pub codes : SuitsHeader f header
   pub known : bit_depth_unknown (known_width stream) f ≡ false
-  pub narrow : side_too_wide (known_width stream) f ≡ false
+  pub not_too_wide : side_too_wide (known_width stream) f ≡ false
   pub count : length channels ≡ channel_count f.channels
   pub fit : ChannelsFit f.size (frame_width stream f) channels

@@ -8,12 +8,12 @@ use Rattle.claxon_format.specs.Streaminfo.{Streaminfo}
 use Rattle.claxon_format.specs.Comments.{Comment}
 use Rattle.claxon_format.specs.MetadataBlocks.{Content, Info, Comments, MetadataBlock, BlockCode, BlockFault}
 
--- which metadata is wished: that alone, or samples after it; and whether comments are
+-- whether metadata alone is read, and whether comments are wanted
 pub record Options : Type 0 where
   pub metadata_only : Bool
   pub wants_comment : Bool
 
--- what is shown
+-- what is read: the streaminfo, and the comments where they are wanted
 pub record Head : Type 0 where
   pub info : Streaminfo
   pub comment : Option Comment
@@ -34,21 +34,21 @@ stream_marker = 0x664c6143
 abbrev pub Marker : ℕ → List ℕ → Type 0
 Marker m t = (m ≡ stream_marker) × Big 4 m t
 
--- the standard sets no limit
+-- the most metadata blocks of a head: the standard sets no limit
 abbrev pub max_blocks : ℕ
 max_blocks = 65536
 
 -- ---- the code
 
--- a block at which no more is wished: the comments, or the streaminfo where no comments are wished
+-- a block after which no more metadata is wanted: the comments, or the streaminfo where comments are not wanted
 abbrev pub is_enough : Options → Content → Bool
 is_enough o c = o.metadata_only && cond o.wants_comment (is_comment c) (is_info c)
 
--- the last block, or one after which no more is wished
+-- the last block that is read: the last one of the head, or one after which no more metadata is wanted
 abbrev pub is_end : Options → MetadataBlock → Bool
 is_end o b = b.is_last || is_enough o b.content
 
--- of a block and those after it just the last is an end
+-- reading stops after the last of these blocks, and not before
 abbrev pub EndsAtLast : Options → MetadataBlock → List MetadataBlock → Type 0
 EndsAtLast o b [] = is_end o b ≡ true
 EndsAtLast o b (c ∷ others) = (is_end o b ≡ false) × EndsAtLast o c others
@@ -58,7 +58,7 @@ abbrev pub comment_of : Content → List Comment
 comment_of (Comments c) = c ∷ []
 comment_of _ = []
 
--- those of all blocks
+-- the comments of all blocks
 abbrev pub comments_in : List MetadataBlock → List Comment
 comments_in [] = []
 comments_in (b ∷ others) = comment_of b.content ++ comments_in others
@@ -67,7 +67,7 @@ abbrev pub first : List Comment → Option Comment
 first [] = None
 first (c ∷ others) = Some c
 
--- the streaminfo comes first and nowhere else, at most one block has comments, and just the last block is an end
+-- the streaminfo comes first and nowhere else, at most one block has comments, and reading stops after the last block
 pub record IsHead (o : Options) (h : Head) (b : MetadataBlock) (others : List MetadataBlock) : Type 0 where
   pub info : b.content ≡ Info h.info
   pub no_info : list_any (λ b. is_info b.content) others ≡ false
@@ -76,7 +76,7 @@ pub record IsHead (o : Options) (h : Head) (b : MetadataBlock) (others : List Me
   pub ends : EndsAtLast o b others
   pub comment : h.comment ≡ cond o.wants_comment (first (comments_in others)) None
 
--- the marker, a block and others, of which these are shown
+-- the marker and the blocks that are read
 abbrev pub HeadCode : Options → Head → List ℕ → Type 0
 HeadCode o h t =
     (b : MetadataBlock) × (others : List MetadataBlock) × (x : List ℕ) × (y : List ℕ) × (z : List ℕ)
@@ -97,22 +97,22 @@ found_with found _ = found
 abbrev pub is_second : Option Comment → Content → Bool
 is_second found c = is_comment c && is_some found
 
--- nothing is wished after this block
+-- no more metadata is wanted after this block
 abbrev pub is_done : Bool → Option Comment → MetadataBlock → Bool
 is_done suffices found b = b.is_last || (suffices && is_some (found_with found b.content))
 
--- of the blocks after the streaminfo, of which so many may come
+-- the faults of the blocks after the streaminfo, up to a limit of blocks
 abbrev pub OthersFault : Bool → ℕ → Option Comment → Fault → List ℕ → Type 0
 OthersFault suffices zero found = Met TooManyBlocks
 OthersFault suffices (suc k) found =
     ThenFault BlockCode BlockFault (λ b. MeetsOr (is_info b.content) SecondStreaminfo (MeetsOr (is_second found b.content) SecondComment (
     choose (is_done suffices found b) Never (OthersFault suffices k (found_with found b.content)))))
 
--- the streaminfo ends the head
+-- no block is read after the streaminfo
 abbrev pub streaminfo_ends_head : Options → Bool → Bool
 streaminfo_ends_head o is_last = is_last || (o.metadata_only && not o.wants_comment)
 
--- the first block is a streaminfo, and faults of others come behind it
+-- the first block must be a streaminfo; then the faults of the others
 abbrev pub FirstFault : Options → Bool → Content → Fault → List ℕ → Type 0
 FirstFault o is_last (Info i) = choose (streaminfo_ends_head o is_last) Never (OthersFault o.metadata_only 65535 None)
 FirstFault o is_last _ = Met StreaminfoMissing
@@ -121,6 +121,6 @@ FirstFault o is_last _ = Met StreaminfoMissing
 abbrev pub MarkerFault : Fault → List ℕ → Type 0
 MarkerFault = ThenFault (Big 4) Never (λ m. MeetsOr (m / 256 == 0x494433) Id3Header (MeetsOr (not (m == stream_marker)) StreamMarker Never))
 
--- the fields in order, with the faults that they meet
+-- the faults of the fields, in order
 abbrev pub HeadFault : Options → Fault → List ℕ → Type 0
 HeadFault o = ThenFault Marker MarkerFault (λ m. ThenFault BlockCode BlockFault (λ b. FirstFault o b.is_last b.content))

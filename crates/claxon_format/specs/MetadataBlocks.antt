@@ -6,7 +6,7 @@ use Rattle.claxon_format.specs.Metadata.{Bytes, Big, max_content_bytes, BlockHea
 use Rattle.claxon_format.specs.Streaminfo.{Streaminfo, StreaminfoCode, StreaminfoFault}
 use Rattle.claxon_format.specs.Comments.{Comment, CommentCode, CommentFault}
 
--- what a block says
+-- the content of a block
 pub data Content : Type 0 where
   Info : Streaminfo → Content
   Padding : ℕ → Content
@@ -14,13 +14,13 @@ pub data Content : Type 0 where
   Comments : Comment → Content
   Reserved : Content
 
--- ---- the content of a block of this type and length: the type is of eight bits where it is handed in
+-- ---- the content of a block of this type and length: a caller can hand in a type of eight bits
 
 -- section 8.2: 34 bytes
 abbrev pub InfoBody : ℕ → Content → List ℕ → Type 0
 InfoBody n b t = (n ≡ 34) × Mapped Info StreaminfoCode b t
 
--- section 8.4: a registered number, and data of the application's own
+-- section 8.4: an application ID, and application data
 abbrev pub ApplicationBody : ℕ → Content → List ℕ → Type 0
 ApplicationBody n b t = (id : ℕ) × (x : List ℕ) × (bytes : List ℕ) × (n ≤ max_content_bytes) × (length t ≡ n) × Big 4 id x × (b ≡ Application id bytes) × (t ≡ x ++ bytes)
 
@@ -28,21 +28,21 @@ ApplicationBody n b t = (id : ℕ) × (x : List ℕ) × (bytes : List ℕ) × (n
 abbrev pub is_padding : ℕ → Bool
 is_padding type = (type == 1) || (type == 3) || (type == 5) || (type == 6)
 
--- what is shown of it
+-- what is read of a block whose content is skipped
 abbrev pub skipped : ℕ → ℕ → Content
 skipped type n = cond (is_padding type) (Padding n) Reserved
 
--- types 0, 2 and 4 are read, there is no type 127, and any other is skipped
+-- types 0, 2 and 4 are read, type 127 is forbidden, and any other is skipped
 abbrev pub Body : ℕ → ℕ → Content → List ℕ → Type 0
 Body type n =
     choose (type == 0) (InfoBody n) (choose (type == 2) (ApplicationBody n) (choose (type == 4) (Mapped Comments (CommentCode n)) (
     choose (type == 127) (λ b t. ⊥) (Mapped (λ bytes. skipped type n) (Bytes n)))))
 
--- the length is asked for first
+-- the length is checked first
 abbrev pub ApplicationFault : ℕ → Fault → List ℕ → Type 0
 ApplicationFault n = MeetsOr (nat_lt n 4) ApplicationShort (MeetsOr (nat_lt max_content_bytes n) ApplicationLarge Never)
 
--- what a type and a length have against them, and then the content
+-- the faults of the type and the length, and then those of the content
 abbrev pub BodyFault : ℕ → ℕ → Fault → List ℕ → Type 0
 BodyFault type n =
     choose (type == 0) (MeetsOr (not (n == 34)) StreaminfoLength StreaminfoFault) (choose (type == 2) (ApplicationFault n) (choose (type == 4) (CommentFault n) (
@@ -50,15 +50,15 @@ BodyFault type n =
 
 -- ---- a block with its header
 
--- a content, and whether no block follows
+-- whether this is the last block, and its content
 pub record MetadataBlock : Type 0 where
   pub is_last : Bool
   pub content : Content
 
--- a header and the content that it announces
+-- a header, and content of its type and length
 abbrev pub BlockCode : MetadataBlock → List ℕ → Type 0
 BlockCode b t = (h : BlockHeader) × (x : List ℕ) × (y : List ℕ) × BlockHeaderCode h x × Body h.type h.length b.content y × (b.is_last ≡ h.is_last) × (t ≡ x ++ y)
 
--- a header has no fault, and its content may
+-- the faults of the content: a header has none
 abbrev pub BlockFault : Fault → List ℕ → Type 0
 BlockFault = ThenFault BlockHeaderCode Never (λ h. BodyFault h.type h.length)

@@ -3,26 +3,26 @@ use Rattle.std.specs.Prelude.{◌≡◌, ℕ, ◌+◌, Bool, ◌==◌, cond, nat
 use Rattle.std.specs.Cmp.Lexicographic.{pointwise}
 use Rattle.claxon_format.specs.Comments.{Entry}
 
--- the text before the place, and the text after the character there
+-- the name before the first '=', and the value after it
 abbrev pub pair : Entry → List ℕ × List ℕ
 pair e = (take e.place e.text, drop (e.place + 1) e.text)
 
--- those of all entries
+-- the names and values of all entries
 abbrev pub pairs : List Entry → List (List ℕ × List ℕ)
 pairs entries = map pair entries
 
--- 0x41 to 0x5a, the letters A to Z, are as 0x61 to 0x7a
+-- the letters A to Z, 0x41 to 0x5a, as a to z
 abbrev pub lower : ℕ → ℕ
 lower y = cond (nat_lt y 0x41) y (cond (nat_lt y 0x5b) (y + 0x20) y)
 
--- two names are the same
+-- two names are the same, ASCII case aside
 abbrev pub Same : List ℕ → List ℕ → Type 0
 Same a b = map lower a ≡ map lower b
 
--- whether they are
+-- whether two names are the same
 abbrev pub same : List ℕ → List ℕ → Bool
 same a b = pointwise ◌==◌ (map lower a) (map lower b)
 
--- the values of just the pairs with this name, in order
+-- the values of the pairs with this name, in order
 abbrev pub values : List ℕ → List (List ℕ × List ℕ) → List (List ℕ)
 values name ps = map (λ p. p.1) (filter (λ p. same p.0 name) ps)

@@ -10,11 +10,11 @@ abbrev pub duration : List (List ℤ) → ℕ
 duration [] = 0
 duration (c ∷ channels) = length c
 
--- the samples of one place, in the order of the channels
+-- sample i of each channel, in the order of the channels
 abbrev pub samples_at : List (List ℤ) → ℕ → List ℤ
 samples_at channels i = map (λ c. get_or c i (pos 0)) channels
 
--- the samples of each place, one place after another
+-- the first sample of each channel, the second of each, and so on
 abbrev pub interleave : List (List ℤ) → List ℤ
 interleave channels = flat_map (samples_at channels) (range_with_len 0 (duration channels))
 
@@ -26,7 +26,7 @@ stream_of i = record { width = i.width; min_block_size = i.min_block_size; max_b
 abbrev pub with_samples : Bool → Options
 with_samples wants_comment = record { metadata_only = false; wants_comment = wants_comment }
 
--- s is a head, the codes of these blocks, and r, which begins with no further one
+-- s is a head, the frames of these blocks, and r, which begins with no further frame
 pub record IsStream (wants_comment : Bool) (s : List ℕ) (h : Head) (blocks : List Block) (r : List ℕ) : Type 0 where
   pub front : List ℕ
   pub frames : List ℕ

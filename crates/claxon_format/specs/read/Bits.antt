@@ -1,4 +1,4 @@
--- Readers of bits and numbers (RFC 9639, section 5), and of the words of a residual (section 9.2.7.2).
+-- Readers of bits and numbers (RFC 9639, section 5), and of Rice codes (section 9.2.7.2).
 use Rattle.std.specs.Prelude.{ℕ, suc, ◌+◌, ◌*◌, ◌%◌, ◌^◌, Bool, true, false, cond, nat_lt, [], ◌∷◌, length, take, drop, ℤ}
 use Rattle.claxon_format.specs.Bits.{Bits, number, zigzag_decode, twos_complement}
 use Rattle.claxon_format.specs.Reading.{Reading, Done, Faulty, Incomplete, and_then, done}
@@ -21,26 +21,26 @@ one_more (Done q s) = Done (suc q) s
 one_more (Faulty f s) = Faulty f s
 one_more Incomplete = Incomplete
 
--- how many zeros there are up to a one
+-- the number of zeros before the first one
 unfoldable pub zeros_at : Bits → Reading Bool ℕ
 zeros_at [] = Incomplete
 zeros_at (true ∷ s) = Done 0 s
 zeros_at (false ∷ s) = one_more (zeros_at s)
 
--- 2 ^ 32 zeros are read as an end is
+-- 2 ^ 32 zeros are answered as a list that ends too early
 abbrev pub in_u32 : Reading Bool ℕ → Reading Bool ℕ
 in_u32 (Done q s) = cond (nat_lt q (2 ^ 32)) (Done q s) Incomplete
 in_u32 (Faulty f s) = Faulty f s
 in_u32 Incomplete = Incomplete
 
--- how many zeros there are, of fewer than 2 ^ 32
+-- a number below 2 ^ 32, in unary
 unfoldable pub unary_at : Bits → Reading Bool ℕ
 unary_at s = in_u32 (zeros_at s)
 
--- the folded number of a quotient and k low bits
+-- the zigzag-encoded number of a quotient and k low bits
 abbrev pub zigzag_encoded : ℕ → ℕ → ℕ → ℕ
 zigzag_encoded k q r = (q * 2 ^ k + r) % 2 ^ 32
 
--- a word under the parameter k
+-- a Rice code under the Rice parameter k
 unfoldable pub rice_code_at : ℕ → Bits → Reading Bool ℤ
 rice_code_at k = and_then unary_at (λ q. and_then (number_at k) (λ r. done (zigzag_decode (zigzag_encoded k q r))))

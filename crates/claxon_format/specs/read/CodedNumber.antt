@@ -6,7 +6,7 @@ use Rattle.claxon_format.specs.Fault.{NumberFirst, NumberContinuation}
 use Rattle.claxon_format.specs.Reading.{Reading, and_then, done, test}
 use Rattle.claxon_format.specs.read.Bits.{number_at}
 
--- a reader of numbers of so many bytes: from bits it is `in_bits`, from bytes `big_at`
+-- a reader of numbers of a count of bytes: from bits it is `in_bits`, from bytes `big_at`
 abbrev pub Numbers : Type 0 → Type 0
 Numbers X = ℕ → List X → Reading X ℕ
 
@@ -14,7 +14,7 @@ Numbers X = ℕ → List X → Reading X ℕ
 abbrev pub in_bits : Numbers Bool
 in_bits k = number_at (8 * k)
 
--- the bits that a first byte has of the number
+-- the bits of the number that stand in a first byte
 abbrev pub lead : ℕ → ℕ
 lead b = cond (nat_lt b 128) b (b % 2 ^ (6 - continuation_count b))
 
@@ -22,12 +22,12 @@ lead b = cond (nat_lt b 128) b (b % 2 ^ (6 - continuation_count b))
 unfoldable pub continuation_byte_at : {X : Type 0} → Numbers X → List X → Reading X ℕ
 continuation_byte_at number = and_then (number 1) (λ c. test (bad_continuation c) NumberContinuation (done (c % 64)))
 
--- so many times six bits behind those of x
+-- k continuation bytes: six bits each, after the bits of x
 unfoldable pub continuation_bytes_at : {X : Type 0} → Numbers X → ℕ → ℕ → List X → Reading X ℕ
 continuation_bytes_at number zero x = done x
 continuation_bytes_at number (suc k) x = and_then (continuation_byte_at number) (λ c. continuation_bytes_at number k (x * 64 + c))
 
--- a first byte, and those that follow it
+-- a first byte and its continuation bytes
 unfoldable pub coded_number_at : {X : Type 0} → Numbers X → List X → Reading X ℕ
 coded_number_at number = and_then (number 1) (λ b. test (bad_first b) NumberFirst (continuation_bytes_at number (continuation_count b) (lead b)))
 

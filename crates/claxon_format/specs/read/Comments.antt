@@ -9,18 +9,18 @@ use Rattle.claxon_format.specs.Comments.{Entry, Comment, entry_of, has_separator
 unfoldable pub entry_at : ℕ → List ℕ → Reading ℕ Entry
 entry_at n = and_then (bytes_at n) (λ text. test (not (has_separator text)) SeparatorMissing (test (not (has_name text)) NameByte (test (not_utf8 text) EntryNotUtf8 (done (entry_of text)))))
 
--- an empty text means nothing
+-- an empty text has no entry
 unfoldable pub entry_or_empty_at : ℕ → List ℕ → Reading ℕ (List Entry)
 entry_or_empty_at n = pick (n == 0) (done []) (and_then (entry_at n) (λ e. done (e ∷ [])))
 
 unfoldable pub entry_length_at : ℕ → List ℕ → Reading ℕ ℕ
 entry_length_at most = checked_at (nat_lt most) EntryLong (little_at 4)
 
--- what is wrong after the last text
+-- the faults after the last text
 abbrev pub entries_end_at : ℕ → ℕ → List ℕ → Reading ℕ (List Entry)
 entries_end_at missing left = test (nat_lt 0 left) ExcessData (test (nat_lt 0 missing) EntriesMissing (done []))
 
--- so many texts in so many bytes
+-- the missing texts in the bytes that are left
 unfoldable pub entries_at : ℕ → ℕ → List ℕ → Reading ℕ (List Entry)
 entries_at zero left = entries_end_at zero left
 entries_at (suc missing) left = pick (nat_lt left 4) (entries_end_at (suc missing) left) (

@@ -11,7 +11,7 @@ use Rattle.claxon_format.specs.read.Bytes.{by_bytes, with_crc_bytes_at}
 use Rattle.claxon_format.specs.read.Header.{fields_with_crc_at, with_width}
 use Rattle.claxon_format.specs.read.Subframe.{subframe_at}
 
--- what a header says to the body of its frame
+-- what a header says of the block of its frame
 pub record Start : Type 0 where
   pub time : ℕ
   pub size : ℕ
@@ -21,26 +21,26 @@ pub record Start : Type 0 where
 abbrev pub start_of : Option StreamFormat → Header → Start
 start_of stream h = record { time = time_of stream h; size = h.size; channels = h.channels; width = h.width }
 
--- a header and its guard
+-- a header and its CRC
 unfoldable pub start_at : Option StreamFormat → List ℕ → Reading ℕ Start
 start_at stream = with_width fields_with_crc_at (known_width stream) (λ f w. start_of stream (header_with f w))
 
--- channels of so many samples each, of these widths
+-- a subframe of this block size for each bit depth
 unfoldable pub coded_channels_at : ℕ → List ℕ → Bits → Reading Bool (List (List ℤ))
 coded_channels_at size widths = each_at (λ w. subframe_at w size) widths
 
--- and with them the rest of the last byte
+-- the subframes, and the padding up to a byte boundary
 unfoldable pub subframes_at : ℕ → List ℕ → List ℕ → Reading ℕ (List (List ℤ))
 subframes_at size widths = by_bytes (coded_channels_at size widths)
 
--- a block of channels that are coded behind a header
+-- the block of a header and the channels coded after it
 abbrev pub block_from : Start → List (List ℤ) → Block
 block_from start coded = record { time = start.time; channels = decoded_channels start.channels coded }
 
--- a header and its channels
+-- a header and its subframes
 unfoldable pub frame_without_crc_at : Option StreamFormat → List ℕ → Reading ℕ Block
 frame_without_crc_at stream = and_then (start_at stream) (λ start. and_then (subframes_at start.size (widths start.channels start.width)) (λ coded. done (block_from start coded)))
 
--- and their guard (section 9.3)
+-- and their CRC (section 9.3)
 abbrev pub frame_bytes_at : Option StreamFormat → List ℕ → Reading ℕ Block
 frame_bytes_at stream = with_crc_bytes_at 2 crc16 FrameCrc (frame_without_crc_at stream)

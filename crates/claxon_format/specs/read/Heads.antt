@@ -11,14 +11,14 @@ use Rattle.claxon_format.specs.Heads.{Options, Head, is_info, stream_marker, fou
 unfoldable pub marker_at : List ℕ → Reading ℕ ℕ
 marker_at = and_then (big_at 4) (λ m. test (m / 256 == 0x494433) Id3Header (test (not (m == stream_marker)) StreamMarker (done m)))
 
--- the blocks after the streaminfo, of which so many may come
+-- the blocks after the streaminfo, up to a limit of blocks
 unfoldable pub others_at : Bool → ℕ → Option Comment → List ℕ → Reading ℕ (Option Comment)
 others_at suffices zero found = fails TooManyBlocks
 others_at suffices (suc k) found =
     and_then block_at (λ b. test (is_info b.content) SecondStreaminfo (test (is_second found b.content) SecondComment (
     pick (is_done suffices found b) (done (found_with found b.content)) (others_at suffices k (found_with found b.content)))))
 
--- what is read behind the first block
+-- what is read after the first block
 unfoldable pub after_first : Options → Bool → Content → List ℕ → Reading ℕ Head
 after_first o is_last (Info i) =
     and_then (pick (streaminfo_ends_head o is_last) (done None) (others_at o.metadata_only 65535 None)) (λ found. done (record { info = i; comment = cond o.wants_comment found None }))

@@ -4,7 +4,7 @@ use Rattle.claxon_format.specs.Reading.{Reading, and_then, done}
 use Rattle.claxon_format.specs.read.Bytes.{big_at}
 use Rattle.claxon_format.specs.Metadata.{BlockHeader}
 
--- by the first byte and the length
+-- from the first byte and the length
 abbrev pub block_header : ℕ → ℕ → BlockHeader
 block_header first size = record { is_last = nat_lt 127 first; type = first % 128; length = size }
 

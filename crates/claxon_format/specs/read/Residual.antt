@@ -7,28 +7,28 @@ use Rattle.claxon_format.specs.Reading.{Reading, and_then, done, each_at, times_
 use Rattle.claxon_format.specs.Residual.{escape, partition_lengths}
 use Rattle.claxon_format.specs.read.Bits.{number_at, signed_at, rice_code_at}
 
--- an entry in b bits; in none it is 0
+-- a residual sample in b bits; where b is 0 it is 0
 unfoldable pub escaped_sample_at : ℕ → Bits → Reading Bool ℤ
 escaped_sample_at zero = done (pos 0)
 escaped_sample_at (suc b) = signed_at (suc b)
 
--- behind the escape: a width, and l entries in it
+-- after the escape: a number of bits, and l residual samples in that number of bits
 unfoldable pub escaped_partition_at : ℕ → Bits → Reading Bool (List ℤ)
 escaped_partition_at l = and_then (number_at 5) (λ b. times_at l (escaped_sample_at b))
 
--- a partition of l entries: a parameter and their words, or the escape
+-- a partition of l residual samples: a Rice parameter and Rice codes, or the escape
 unfoldable pub partition_at : ℕ → ℕ → Bits → Reading Bool (List ℤ)
 partition_at method l = and_then (number_at (4 + method)) (λ k. pick (k == escape method) (escaped_partition_at l) (times_at l (rice_code_at k)))
 
--- the entries of partitions one after another
+-- the residual samples of partitions, one after another
 abbrev pub joined_at : (ℕ → Bits → Reading Bool (List ℤ)) → List ℕ → Bits → Reading Bool (List ℤ)
-joined_at r ls = and_then (each_at r ls) (λ parts. done (flat_map (λ x. x) parts))
+joined_at r ls = and_then (each_at r ls) (λ partitions. done (flat_map (λ x. x) partitions))
 
--- how long parameters are
+-- the coding method: how many bits a Rice parameter has
 unfoldable pub method_at : Bits → Reading Bool ℕ
 method_at = checked_at (nat_lt 1) MethodReserved (number_at 2)
 
--- the partitions of n entries but the first ones, as many as order
+-- the partitions of n samples less the warm-up samples
 unfoldable pub partitions_at : ℕ → ℕ → ℕ → Bits → Reading Bool (List ℤ)
 partitions_at n order method = and_then (number_at 4) (λ p. test (nat_lt 0 (n % 2 ^ p)) PartitionOrder (test (nat_lt (n / 2 ^ p) order) PartitionShort (joined_at (partition_at method) (partition_lengths n order p))))
 

@@ -8,23 +8,23 @@ use Rattle.claxon_format.specs.Subframe.{reserved, scaled}
 use Rattle.claxon_format.specs.read.Bits.{bit_at, number_at, signed_at, unary_at}
 use Rattle.claxon_format.specs.read.Residual.{residual_at}
 
--- the number of the kind and how many bits are wasted
+-- the subframe type and the number of wasted bits
 pub record SubframeFields : Type 0 where
   pub type : ℕ
   pub wasted_bits : ℕ
 
--- the number of the kind
+-- the subframe type, after a padding bit
 unfoldable pub type_at : Bits → Reading Bool ℕ
 type_at = and_then bit_at (λ b. test b SubframePadding (checked_at reserved SubframeTypeReserved (number_at 6)))
 
 unfoldable pub wasted_bits_at : Bits → Reading Bool ℕ
 wasted_bits_at = and_then bit_at (λ b. pick b (and_then unary_at (λ q. done (suc q))) (done 0))
 
--- of wasted bits there are 31 at most
+-- at most 31 wasted bits
 unfoldable pub wasted_bits_to_31_at : Bits → Reading Bool ℕ
 wasted_bits_to_31_at = checked_at (nat_lt 31) WastedBitsLarge wasted_bits_at
 
--- the kind, and how many bits are wasted (section 9.2.1)
+-- the subframe type and the number of wasted bits (sections 9.2.1 and 9.2.2)
 unfoldable pub subframe_header_at : Bits → Reading Bool SubframeFields
 subframe_header_at = and_then type_at (λ n. and_then wasted_bits_to_31_at (λ z. done record { type = n; wasted_bits = z }))
 
@@ -45,7 +45,7 @@ unfoldable pub linear_at : ℕ → ℕ → ℕ → Bits → Reading Bool (List �
 linear_at w n order = test (nat_lt n order) LinearOrder (and_then (times_at order (signed_at w)) (λ warm_up. and_then parameters_at (λ p.
     and_then (times_at order (signed_at p.precision)) (λ cs. and_then (residual_at n order) (λ e. done (warm_up ++ restore (linear cs p.shift) (reverse warm_up) e))))))
 
--- n samples of w bits, of the kind with this number
+-- n samples of w bits, of this subframe type
 unfoldable pub subframe_body_at : ℕ → ℕ → ℕ → Bits → Reading Bool (List ℤ)
 subframe_body_at w n type = pick (type == 0) (and_then (signed_at w) (λ x. done (replicate n x))) (pick (type == 1) (times_at n (signed_at w)) (pick (nat_lt type 13) (fixed_at w n (type - 8)) (linear_at w n (type - 31))))
 
