@@ -29,14 +29,14 @@ bytes_pow (suc k) =
     let e : 8 * suc k ≡ 8 + 8 * k = omega arith in
     pow-suc 256 k ∙ ap (λ (m : ℕ). m * 256) (bytes_pow k) ∙ mul_comm (2 ^ (8 * k)) 256 ∙ sym (ap (λ (m : ℕ). 2 ^ m) e ∙ pow-add 2 8 (8 * k))
 
--- the bits of bytes spell their number
+-- the number of the bits of bytes is the big-endian number of the bytes
 pub number-bits_of : (s : List ℕ) → number (bits_of s) ≡ big_endian s
 unfolding bits_of number big_endian
 number-bits_of [] = refl
 number-bits_of (y ∷ s) =
     number-append (bits 8 y) (bits_of s) ∙ rw (number-bits 8 y, length-bits_of s, number-bits_of s, bytes_pow (length s)) refl
 
--- a number of k bytes is one of 8 * k bits
+-- a number in k bytes is a number in 8 * k bits
 pub Whole-number : (k : ℕ) → Whole ℕ (number_at (8 * k)) (big_at k)
 unfolding number_at big_at bytes_at
 Whole-number k = record { same = λ s. go s (ltb (length s) k) refl; rest = λ s. left s (ltb (length s) k) }

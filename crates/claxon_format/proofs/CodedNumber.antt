@@ -1,4 +1,4 @@
--- CodedNumber numbers, and their reader.
+-- Coded numbers, and their reader.
 use Rattle.std.proofs.Common.{◌≡◌, ℕ, zero, suc, ◌+◌, ◌-◌, ◌*◌, ◌/◌, ◌%◌, ◌^◌, ◌<◌, ◌≤◌, Bool, true, false, cond, [], ◌∷◌, ◌++◌, replicate, refl, sym, ap, subst, ◌∙◌, append_assoc, arith, inl, inr, ◌↔◌}
 use Rattle.std.proofs.lemmas.Bool.{le-ltb, cases_lt}
 use Rattle.std.proofs.lemmas.Bool.Decides.{nat_tests}
@@ -13,7 +13,7 @@ use Rattle.claxon_format.specs.read.CodedNumber.{lead, continuation_byte_at, con
 use Rattle.claxon_format.proofs.Laws.{Reads-then, Reads-same, Reads-test, Reads-done, Reads-assoc, Reads-test-then}
 use Rattle.claxon_format.proofs.Numbers.{Reads-number, bits-same, mod_small}
 
--- bits of a number in two parts
+-- the bits of a number, split in two
 pub bits-add : (a b x : ℕ) → bits (a + b) x ≡ bits a (x / 2 ^ b) ++ bits b x
 unfolding bits
 bits-add zero b x = ap (λ (n : ℕ). bits n x) (omega arith)
@@ -22,7 +22,7 @@ bits-add (suc a) b x =
     let e : x / 2 ^ (a + b) ≡ x / 2 ^ b / 2 ^ a = ap (λ (n : ℕ). x / 2 ^ n) (omega arith) ∙ sym (shr-shr x b a) in
     rw k (rw (e, bits-add a b x) refl)
 
--- ---- the bytes that follow
+-- ---- continuation bytes
 
 Continuation : ℕ → ℕ → ℕ → Bits → Type 0
 Continuation zero a = Is a
@@ -83,15 +83,15 @@ Reads-continuation_bytes (suc k) a =
 
 -- ---- the first byte
 
--- what a first byte of k followers is
+-- a first byte before k continuation bytes
 record Lead (b k : ℕ) : Type 0 where
   below : b < 2 ^ 8
   good : bad_first b ≡ false
   count : continuation_count b ≡ k
   value : lead b ≡ b % 2 ^ (6 - k)
-  spells : bits 8 b ≡ replicate (k + 1) true ++ (false ∷ bits (6 - k) b)
+  bits_are : bits 8 b ≡ replicate (k + 1) true ++ (false ∷ bits (6 - k) b)
 
--- above the bits of the number stand k + 1 ones and a zero, from which k is known
+-- a first byte that begins with k + 1 ones and a zero is before k continuation bytes
 leading_ones : (b k : ℕ) → 0 < k → k ≤ 6 → b / 2 ^ (6 - k) ≡ 2 ^ (k + 2) - 2
     → (192 ≤ b) × (b < 255) × (continuation_count b ≡ k) × (bits (k + 2) (2 ^ (k + 2) - 2) ≡ replicate (k + 1) true ++ (false ∷ []))
 unfolding bits
@@ -115,7 +115,7 @@ lead_of b k some few top =
       good = grind (arith, nat_tests);
       count = r.2;
       value = ap (λ (q : Bool). cond q b (b % 2 ^ (6 - continuation_count b))) (le-ltb b 128 (omega arith)) ∙ ap (λ (n : ℕ). b % 2 ^ (6 - n)) r.2;
-      spells = ap (λ (n : ℕ). bits n b) eight
+      bits_are = ap (λ (n : ℕ). bits n b) eight
           ∙ bits-add (k + 2) (6 - k) b
           ∙ ap (λ (z : Bits). z ++ bits (6 - k) b) (ap (bits (k + 2)) top ∙ r.3)
           ∙ append_assoc (replicate (k + 1) true) (false ∷ []) (bits (6 - k) b);
@@ -140,7 +140,7 @@ First = Then (Number 8) (λ b x t. (bad_first b ≡ false) × Continuation (cont
 SomeCodedNumber : ℕ → Bits → Type 0
 SomeCodedNumber x t = (k : ℕ) × CodedNumber k x t
 
--- a first byte of k followers and these hold the numbers of 5 * k + 6 bits
+-- a first byte and k continuation bytes hold the numbers of 5 * k + 6 bits
 coded_range : (k x : ℕ) → k ≤ 6 → (x / 2 ^ (6 * k) < 2 ^ (6 - k)) ↔ (x < 2 ^ (5 * k + 6))
 coded_range k x few =
     let e : (6 - k) + 6 * k ≡ 5 * k + 6 = omega arith in
@@ -156,7 +156,7 @@ large_to b (suc j) x t v some few l r s =
     let p = continuation_to k (b % 2 ^ w) x v r in
     let small : b % 2 ^ w < 2 ^ w = mod_below b (2 ^ w) (pow_pos w) in
     let low : bits w (x / 2 ^ (6 * k)) ≡ bits w b = ap (bits w) p.0 ∙ bits-same w (b % 2 ^ w) b (mod_small _ _ small) in
-    (few, (coded_range k x few).0 (rw p.0 small), s ∙ rw (l.spells, p.1, low) (append_assoc (replicate (k + 1) true) (false ∷ bits w b) (continuation_bytes k x)))
+    (few, (coded_range k x few).0 (rw p.0 small), s ∙ rw (l.bits_are, p.1, low) (append_assoc (replicate (k + 1) true) (false ∷ bits w b) (continuation_bytes k x)))
 
 large_from : (j x : ℕ) (t : Bits) → CodedNumber (suc j) x t → First x t
 unfolding First
@@ -174,7 +174,7 @@ large_from j x t (few, lt, s) =
       continuation_bytes k x,
       (l.below, refl),
       (l.good, rw (l.value, l.count) (continuation_from k (b % 2 ^ w) x (continuation_bytes k x) (sym value) refl)),
-      s ∙ sym (rw (l.spells, low) (append_assoc (replicate (k + 1) true) (false ∷ bits w y) (continuation_bytes k x))),
+      s ∙ sym (rw (l.bits_are, low) (append_assoc (replicate (k + 1) true) (false ∷ bits w y) (continuation_bytes k x))),
     )
 
 -- ---- all numbers

@@ -28,14 +28,14 @@ not_true false e = absurd cc
 pub not_false : (b : Bool) → b ≡ true → not b ≡ false
 not_false b e = rw e refl
 
--- where the name ends, the first '=' stands
+-- the first '=' is right after the name
 position_is : (name value : List ℕ) → list_any is_separator name ≡ false → position_or_len is_separator (name ++ (0x3d ∷ value)) ≡ length name
 position_is [] value none = refl
 position_is (y ∷ name) value none =
     let e = or_false (is_separator y) (list_any is_separator name) none in
     rw (e.0, position_is name value e.1) (omega arith)
 
--- a text that has a '='
+-- a text split at its first '='
 pub record AtSeparator (text : List ℕ) (name value : List ℕ) : Type 0 where
   pub joined : text ≡ name ++ (0x3d ∷ value)
   pub place : position_or_len is_separator text ≡ length name
@@ -114,8 +114,8 @@ entry_or_empty_length n es t c = go (eqb n 0) refl c
     go false e c = c.1.0
 
 entries_of_nonempty : (text : List ℕ) (texts : List (List ℕ)) (e : Entry) (others : List Entry) → (length text ≡ 0 → ⊥) → e.text ≡ text → IsEntry e → EntriesOf texts others → EntriesOf (text ∷ texts) (e ∷ others)
-entries_of_nonempty [] texts e others filled is entry rest = absurd (filled refl)
-entries_of_nonempty (y ∷ ys) texts e others filled is entry rest = (is, entry, rest)
+entries_of_nonempty [] texts e others nonempty is entry rest = absurd (nonempty refl)
+entries_of_nonempty (y ∷ ys) texts e others nonempty is entry rest = (is, entry, rest)
 
 entries_of_cons : (n : ℕ) (es others : List Entry) (t : List ℕ) (texts : List (List ℕ)) → EntryOrEmpty n es t → EntriesOf texts others → EntriesOf (t ∷ texts) (es ++ others)
 entries_of_cons n es others t texts c rest = go (eqb n 0) refl c
@@ -127,20 +127,20 @@ entries_of_cons n es others t texts c rest = go (eqb n 0) refl c
         let some : length t ≡ 0 → ⊥ = λ z. (let k : eqb n 0 ≡ true = eq-eqb n 0 (sym len ∙ z) in cc) in
         rw c.2 (entries_of_nonempty t texts c.0 others some c.1.1 c.1.2 rest)
 
-record Parts (text : List ℕ) (texts : List (List ℕ)) (es : List Entry) : Type 0 where
+record SplitEntries (text : List ℕ) (texts : List (List ℕ)) (es : List Entry) : Type 0 where
   first : List Entry
   others : List Entry
-  kept : EntryOrEmpty (length text) first text
+  entry_code : EntryOrEmpty (length text) first text
   rest : EntriesOf texts others
   joined : es ≡ first ++ others
 
 entry_or_empty_filled : (y : ℕ) (ys : List ℕ) (e : Entry) → e.text ≡ y ∷ ys → IsEntry e → EntryOrEmpty (length (y ∷ ys)) (e ∷ []) (y ∷ ys)
 entry_or_empty_filled y ys e is entry = rw (eqb-suc-zero (length ys)) (e, (refl, is, entry), refl)
 
-entries_of_parts : (text : List ℕ) (texts : List (List ℕ)) (es : List Entry) → EntriesOf (text ∷ texts) es → Parts text texts es
-entries_of_parts [] texts es m = record { first = []; others = es; kept = (refl, refl); rest = m; joined = refl }
+entries_of_parts : (text : List ℕ) (texts : List (List ℕ)) (es : List Entry) → EntriesOf (text ∷ texts) es → SplitEntries text texts es
+entries_of_parts [] texts es m = record { first = []; others = es; entry_code = (refl, refl); rest = m; joined = refl }
 entries_of_parts (y ∷ ys) texts [] m = absurd m
-entries_of_parts (y ∷ ys) texts (e ∷ es) m = record { first = e ∷ []; others = es; kept = entry_or_empty_filled y ys e m.0 m.1; rest = m.2; joined = refl }
+entries_of_parts (y ∷ ys) texts (e ∷ es) m = record { first = e ∷ []; others = es; entry_code = entry_or_empty_filled y ys e m.0 m.1; rest = m.2; joined = refl }
 
 EntriesEndTested : ℕ → ℕ → List Entry → List ℕ → Type 0
 EntriesEndTested missing left es t = (ltb 0 left ≡ false) × ((ltb 0 missing ≡ false) × Is [] es t)
@@ -152,7 +152,7 @@ EntriesTested : ℕ → ℕ → List Entry → List ℕ → Type 0
 EntriesTested zero left = EntriesEndTested zero left
 EntriesTested (suc missing) left = choose (ltb left 4) (EntriesEndTested (suc missing) left) (NextTested (EntriesTested missing) left)
 
--- so many texts in so many bytes
+-- count texts, with their lengths in left bytes, and the entries that they are
 record Entries (count left : ℕ) (es : List Entry) (t : List ℕ) : Type 0 where
   texts : List (List ℕ)
   count_is : length texts ≡ count
@@ -168,10 +168,10 @@ entries_end_to count left es t zero-is (empty, (none, (es-is, t-is))) =
 
 next_to : (count left : ℕ) (es : List Entry) (t : List ℕ) → 4 ≤ left → ((l : ℕ) (es : List Entry) (t : List ℕ) → EntriesTested count l es t → Entries count l es t) → NextTested (EntriesTested count) left es t → Entries (suc count) left es t
 unfolding NextTested
-next_to count left es t enough rest (n, x, u, (small, code), (ks, y, z, kept, (others, tested, es-is), u-is), t-is) =
+next_to count left es t enough rest (n, x, u, (small, code), (ks, y, z, entry_code, (others, tested, es-is), u-is), t-is) =
     let len = little_length 4 n x code in
     let r = rest (left - 4 - n) others z tested in
-    let l : length y ≡ n = entry_or_empty_length n ks y kept in
+    let l : length y ≡ n = entry_or_empty_length n ks y entry_code in
     let le : n ≤ left - 4 = ltb-false _ _ small in
     let lt : length t ≡ length x + (length y + length z) = ap length (t-is ∙ ap (λ (q : List ℕ). x ++ q) u-is) ∙ length-append x (y ++ z) ∙ ap (λ (m : ℕ). length x + m) (length-append y z) in
     let f = r.fills in
@@ -179,7 +179,7 @@ next_to count left es t enough rest (n, x, u, (small, code), (ks, y, z, kept, (o
       texts = y ∷ r.texts;
       count_is = ap suc r.count_is;
       each = (x ++ y, z, (x, subst (λ (k : ℕ). Little 4 k x) (sym l) code, refl), r.each, t-is ∙ ap (λ (q : List ℕ). x ++ q) u-is ∙ sym (append_assoc x y z));
-      entries_are = rw es-is (entries_of_cons n ks others y r.texts kept r.entries_are);
+      entries_are = rw es-is (entries_of_cons n ks others y r.texts entry_code r.entries_are);
       fills = omega arith;
     }
 
@@ -196,7 +196,7 @@ entries_to (suc count) left es t c = choose_to (ltb left 4) refl c (entries_to c
     choose_to true e c rest = absurd (no_entries_end count left es t c)
     choose_to false e c rest = next_to count left es t (ltb-false _ _ e) rest c
 
--- each text has its length in four bytes
+-- the length of each text has four bytes
 at_least_4_bytes_each : (texts : List (List ℕ)) (t : List ℕ) → Each LengthPrefixed texts t → 4 * length texts ≤ length t
 at_least_4_bytes_each [] t c = omega arith
 at_least_4_bytes_each (x ∷ texts) t (p, q, (h, code, p-is), rest, t-is) =
@@ -222,7 +222,7 @@ entries_from (x ∷ texts) (suc count) left es t n (p, q, (h, code, p-is), rest,
     let others = entries_from texts count (left - 4 - length x) parts.others q (omega arith) rest parts.rest after in
     let enough : ltb left 4 ≡ false = le-ltb _ _ (omega arith) in
     let small : ltb (left - 4) (length x) ≡ false = le-ltb _ _ (omega arith) in
-    rw enough (length x, h, x ++ q, (small, code), (parts.first, x, q, parts.kept, (parts.others, others, parts.joined), refl), t-is ∙ ap (λ (z : List ℕ). z ++ q) p-is ∙ append_assoc h x q)
+    rw enough (length x, h, x ++ q, (small, code), (parts.first, x, q, parts.entry_code, (parts.others, others, parts.joined), refl), t-is ∙ ap (λ (z : List ℕ). z ++ q) p-is ∙ append_assoc h x q)
 
 pub Reads-entry_length : (most : ℕ) → Reads ℕ ℕ (entry_length_at most) (EntryLength most) (EntryLengthFault most)
 unfolding entry_length_at

@@ -1,4 +1,4 @@
--- The laws that the functions of the crate promise.
+-- The laws of the format, as `specs/Laws.antt` states them.
 use Rattle.std.proofs.Common.{List, sym, ◌∙◌, ℤ}
 use Rattle.claxon_format.specs.read.Subframe.{subframe_at}
 use Rattle.claxon_format.specs.Subframe.{Subframe, SubframeFault}
@@ -10,7 +10,7 @@ use Rattle.claxon_format.specs.read.MetadataBlocks.{body_at, block_at}
 use Rattle.claxon_format.specs.Heads.{Head, HeadCode, HeadFault}
 use Rattle.claxon_format.specs.read.Heads.{head_at}
 use Rattle.claxon_format.specs.Laws.{SubframesUnambiguous, FramesUnambiguous, BodiesUnambiguous, MetadataBlocksUnambiguous, HeadsUnambiguous, CrcDivides, FramesHaveCrc, ChannelsUnambiguous, DecorrelationUndone, FramesLossless, PlansWritten, Interleaved}
-use Rattle.claxon_format.proofs.Laws.{known}
+use Rattle.claxon_format.proofs.Laws.{unambiguous}
 use Rattle.claxon_format.proofs.Division.{has_crc8, has_crc16}
 use Rattle.claxon_format.proofs.Subframes.{Reads-subframe}
 use Rattle.claxon_format.proofs.FrameBytes.{Reads-frame_bytes}
@@ -22,19 +22,19 @@ use Rattle.claxon_format.proofs.Heads.{Reads-head}
 use Rattle.claxon_format.proofs.Streams.{interleaved, length-interleave}
 
 pub subframes_unambiguous : SubframesUnambiguous
-subframes_unambiguous w n le = known (List ℤ) (subframe_at w n) (Subframe w n) (SubframeFault w n) (Reads-subframe w n le)
+subframes_unambiguous w n le = unambiguous (List ℤ) (subframe_at w n) (Subframe w n) (SubframeFault w n) (Reads-subframe w n le)
 
 pub frames_unambiguous : FramesUnambiguous
-frames_unambiguous stream k = known Block (frame_bytes_at stream) (Frame stream) (FrameBytesFault stream) (Reads-frame_bytes stream k)
+frames_unambiguous stream k = unambiguous Block (frame_bytes_at stream) (Frame stream) (FrameBytesFault stream) (Reads-frame_bytes stream k)
 
 pub bodies_unambiguous : BodiesUnambiguous
-bodies_unambiguous type n = known Content (body_at type n) (Body type n) (BodyFault type n) (Reads-body type n)
+bodies_unambiguous type n = unambiguous Content (body_at type n) (Body type n) (BodyFault type n) (Reads-body type n)
 
 pub metadata_blocks_unambiguous : MetadataBlocksUnambiguous
-metadata_blocks_unambiguous = known MetadataBlock block_at BlockCode BlockFault Reads-block
+metadata_blocks_unambiguous = unambiguous MetadataBlock block_at BlockCode BlockFault Reads-block
 
 pub heads_unambiguous : HeadsUnambiguous
-heads_unambiguous o = known Head (head_at o) (HeadCode o) (HeadFault o) (Reads-head o)
+heads_unambiguous o = unambiguous Head (head_at o) (HeadCode o) (HeadFault o) (Reads-head o)
 
 pub crc_divides : CrcDivides
 crc_divides = record {

@@ -21,7 +21,7 @@ use Rattle.std.proofs.Common.{◌≡◌, ℕ, ◌+◌, ◌%◌, Bool, false, not
 use Rattle.std.proofs.lemmas.List.{append_cancel_left, length-append, length-replicate}
 use Rattle.std.specs.Prelude.{Option}
 
--- ---- a code whose reader leaves whole bytes of whole bytes has whole bytes
+-- ---- a code fills whole bytes where its reader leaves whole bytes of whole bytes
 
 bits_left : {A : Type 0} (x : Reading ℕ A) (a : A) (rest : Bits) → Done a rest ≡ in_bits x → length rest % 8 ≡ 0
 bits_left (Done b m) a rest e = let k : rest ≡ bits_of m = cc in omega (arith, ap length k, length-bits_of m)
@@ -37,7 +37,7 @@ fills_bytes {r = r} {q = q} law h a t c =
     let m = bits_left (q (bytes_of (t ++ replicate (padding_length t) false))) a (replicate (padding_length t) false) e in
     omega (arith, length-replicate (padding_length t) false)
 
--- ---- a function of what is read
+-- ---- a function of the value that is read
 
 map_by_bytes : {A B : Type 0} (f : A → B) (r : Bits → Reading Bool A) (s : List ℕ) → by_bytes (and_then r (λ a. done (f a))) s ≡ and_then (by_bytes r) (λ a. done (f a)) s
 map_by_bytes f r s = go (r (bits_of s))
@@ -63,13 +63,13 @@ body_in_bytes stream k header s =
 
 -- ---- the whole frame
 
--- what is read after it is a function of what is read
+-- a function of the value, and then the next field
 then_map : {X A B C : Type 0} (x : Reading X A) (f : A → B) (g : B → List X → Reading X C) → bind (bind x (λ a. done (f a))) g ≡ bind x (λ a. g (f a))
 then_map (Done a m) f g = refl
 then_map (Faulty e m) f g = refl
 then_map Incomplete f g = refl
 
--- a function of what is made of a header
+-- a function of the value that is made of a header
 made_then : {A B : Type 0} (fields : List ℕ → Reading ℕ Fields) (known : Option ℕ) (make : Fields → ℕ → A) (f : A → B) (s : List ℕ) → with_width fields known (λ x w. f (make x w)) s ≡ and_then (with_width fields known make) (λ a. done (f a)) s
 made_then fields known make f s = go (fields s)
   where
@@ -113,13 +113,13 @@ Reads-start stream =
 pub Reads-frame_bytes : (stream : Option StreamFormat) → IsWidth (known_width stream) → Reads ℕ Block (frame_bytes_at stream) (Frame stream) (FrameBytesFault stream)
 Reads-frame_bytes stream k = Reads-is (λ s. sym (frame_is stream k s)) (Reads-by_bytes (Reads-frame stream k) (fills stream))
 
--- ---- what follows of it
+-- ---- frames have one reading
 
 -- no bytes begin with codes of two blocks, or of two lengths
 pub one_block : (stream : Option StreamFormat) → IsWidth (known_width stream) → (a b : Block) (t u x y : List ℕ) → Frame stream a t → Frame stream b u → t ++ x ≡ u ++ y → (a ≡ b) × (t ≡ u)
 one_block stream k = one_reading Block (frame_bytes_at stream) (Frame stream) (FrameBytesFault stream) (Reads-frame_bytes stream k)
 
--- bytes are the codes of one list of blocks
+-- bytes are the codes of at most one list of blocks
 pub one_block_list : (stream : Option StreamFormat) → IsWidth (known_width stream) → (s r q : List ℕ) (blocks others : List Block) → Frames stream s blocks r → NoFrameLeft stream r → Frames stream s others q → NoFrameLeft stream q → (blocks ≡ others) × (r ≡ q)
 one_block_list stream k s r q [] [] c e d f = (refl, sym c ∙ d)
 one_block_list stream k s r q [] (b ∷ others) c e d f = absurd (e b d.0 d.1 d.2 (sym c ∙ d.3))

@@ -1,4 +1,4 @@
--- Worked rows: what the readers give for the bytes of some metadata blocks and heads.
+-- Examples: what the readers give for the bytes of some metadata blocks and heads.
 use Rattle.std.proofs.Common.{◌≡◌, ℕ, Bool, true, false, List, [], ◌∷◌, refl}
 use Rattle.std.specs.Prelude.{Option, Some, None}
 use Rattle.std.proofs.Math.Utf8.{encode}

@@ -1,4 +1,4 @@
--- A frame's header is read from bytes as from their bits.
+-- A frame's header, read from bytes, is the one that is read from their bits.
 use Rattle.std.proofs.Common.{ℕ, zero, suc, ◌+◌, ◌*◌, ◌/◌, ◌%◌, Bool, not, eqb, ltb, Option}
 use Rattle.claxon_format.specs.Bits.{bits_of}
 use Rattle.claxon_format.specs.CodedNumber.{bad_first, bad_continuation, continuation_count}
@@ -24,7 +24,7 @@ Whole-coded_number : Whole ℕ (coded_number_at in_bits) (coded_number_at big_at
 unfolding coded_number_at
 Whole-coded_number = Whole-then (Whole-number 1) (λ b. Whole-test (bad_first b) NumberFirst (Whole-continuation_bytes (continuation_count b) (lead b)))
 
-Whole-size : (spelling : SizeCoding) → Whole ℕ (size_at in_bits spelling) (size_at big_at spelling)
+Whole-size : (coding : SizeCoding) → Whole ℕ (size_at in_bits coding) (size_at big_at coding)
 unfolding size_at
 Whole-size (ByCode n) = Whole-done n
 Whole-size InByte = Whole-then (Whole-number 1) (λ n. Whole-done (n + 1))
@@ -33,10 +33,10 @@ Whole-size InTwoBytes = Whole-then (Whole-number 2) (λ n. Whole-test (eqb n 655
 Whole-after : (v : Bool) → Whole Fields (fields_after in_bits v) (fields_after big_at v)
 unfolding fields_after codes_at channels_at number_in rate_at
 Whole-after v =
-    Whole-then (Whole-then (Whole-number 1) (λ b. Whole-test (eqb (b / 16) 0) SizeReserved (Whole-test (eqb (b % 16) 15) RateInvalid (Whole-done (size_coding (b / 16), rate_bytes (b % 16)))))) (λ spelled.
+    Whole-then (Whole-then (Whole-number 1) (λ b. Whole-test (eqb (b / 16) 0) SizeReserved (Whole-test (eqb (b % 16) 15) RateInvalid (Whole-done (size_coding (b / 16), rate_bytes (b % 16)))))) (λ size_and_rate.
     Whole-then (Whole-then (Whole-number 1) (λ c. Whole-test (ltb 10 (c / 16)) ChannelsReserved (Whole-test (bit_depth_reserved (c / 2 % 8)) BitDepthReserved (Whole-test (eqb (c % 2) 1) SecondReservedBit (Whole-done (c / 16, c / 2 % 8)))))) (λ codes.
     Whole-then (Whole-then Whole-coded_number (λ n. Whole-test (number_large v n) NumberLarge (Whole-done (v, n)))) (λ time.
-    Whole-then (Whole-size spelled.0) (λ size. Whole-then (Whole-then (Whole-number spelled.1) (λ n. Whole-done tt)) (λ rate. Whole-done (fields_of time codes size))))))
+    Whole-then (Whole-size size_and_rate.0) (λ size. Whole-then (Whole-then (Whole-number size_and_rate.1) (λ n. Whole-done tt)) (λ rate. Whole-done (fields_of time codes size))))))
 
 Whole-fields : Whole Fields (fields_at in_bits) (fields_at big_at)
 unfolding fields_at sync_at blocking_at
@@ -49,7 +49,7 @@ Whole-fields_with_crc =
     Whole-with (λ f x. and_then (number_at 8) (λ n. test (not (eqb n (crc8 x))) HeaderCrc (done f))) (λ f t. and_then (big_at 1) (λ n. test (not (eqb n (crc8 (bits_of t)))) HeaderCrc (done f)))
     Whole-fields (λ f t. Whole-then (Whole-number 1) (λ n. Whole-test (not (eqb n (crc8 (bits_of t)))) HeaderCrc (Whole-done f)))
 
--- what is made of a header
+-- a value that is made of a header
 pub Whole-header : {A : Type 0} (known : Option ℕ) (make : Fields → ℕ → A) → Whole A (with_width (with_crc_at 8 crc8 HeaderCrc (fields_at in_bits)) known make) (with_width fields_with_crc_at known make)
 unfolding width_at
 Whole-header known make =

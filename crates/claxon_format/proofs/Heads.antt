@@ -55,7 +55,7 @@ Reads-others suffices (suc k) found =
     Reads-then Reads-block (λ b t c. Reads-test (is_info b.content) SecondStreaminfo (λ p. Reads-test (is_second found b.content) SecondComment (λ q.
     Reads-pick (is_done suffices found b) (λ e. Reads-done (Option Comment) (found_with found b.content)) (λ e. Reads-others suffices k (found_with found b.content)))))
 
--- ---- what was found so far, and what is found in a block
+-- ---- the comments found so far, and those of a block
 
 listed : Option Comment → List Comment
 listed None = []
@@ -100,7 +100,7 @@ is_none : (found : Option Comment) → is_some found ≡ false → found ≡ Non
 is_none None e = refl
 is_none (Some c) e = absurd cc
 
--- where comments suffice none was found so far
+-- where a head ends at its comments, none were found so far
 enough_same : (only wants : Bool) (found : Option Comment) (c : Content) → (only && not wants) ≡ false → (only ≡ true → found ≡ None) → (only && is_some (found_with found c)) ≡ (only && cond wants (is_comment c) (is_info c))
 enough_same false wants found c e none = refl
 enough_same true false found c e none = absurd cc
@@ -133,14 +133,14 @@ record Others (o : Options) (k : ℕ) (found r : Option Comment) (t : List ℕ) 
 
 later_last : (o : Options) (k : ℕ) (found r : Option Comment) (t x u : List ℕ) (b : MetadataBlock) → WantsMore o found → BlockCode b x → is_info b.content ≡ false → is_second found b.content ≡ false → is_done o.metadata_only found b ≡ true
     → r ≡ found_with found b.content → u ≡ [] → t ≡ x ++ u → Others o (suc k) found r t
-later_last o k found r t x u b w code plain single done r-is u-is t-is =
+later_last o k found r t x u b w code not_info single done r-is u-is t-is =
     let l : listed found ++ comments_in (b ∷ []) ≡ listed (found_with found b.content) = ap (λ (z : List Comment). listed found ++ z) (append-nil (comment_of b.content)) ∙ sym (found_listed found b.content single) in
     record {
       next = b;
       others = [];
       few = omega arith;
       each = (x, u, code, u-is, t-is);
-      no_info = rw plain refl;
+      no_info = rw not_info refl;
       one = rw l (at_most_one (found_with found b.content));
       ends = sym (end_same o found b w) ∙ done;
       shown = r-is ∙ first_listed (found_with found b.content) ∙ ap first (sym l);
@@ -148,7 +148,7 @@ later_last o k found r t x u b w code plain single done r-is u-is t-is =
 
 later_more : (o : Options) (k : ℕ) (found r : Option Comment) (t x u : List ℕ) (b : MetadataBlock) → WantsMore o found → BlockCode b x → is_info b.content ≡ false → is_second found b.content ≡ false → is_done o.metadata_only found b ≡ false
     → Others o k (found_with found b.content) r u → t ≡ x ++ u → Others o (suc k) found r t
-later_more o k found r t x u b w code plain single going rest t-is =
+later_more o k found r t x u b w code not_info single going rest t-is =
     let l : listed found ++ comments_in (b ∷ rest.next ∷ rest.others) ≡ listed (found_with found b.content) ++ comments_in (rest.next ∷ rest.others) =
     sym (append_assoc (listed found) (comment_of b.content) (comments_in (rest.next ∷ rest.others))) ∙ ap (λ (z : List Comment). z ++ comments_in (rest.next ∷ rest.others)) (sym (found_listed found b.content single)) in
     let f = rest.few in
@@ -157,7 +157,7 @@ later_more o k found r t x u b w code plain single going rest t-is =
       others = rest.next ∷ rest.others;
       few = omega arith;
       each = (x, u, code, rest.each, t-is);
-      no_info = rw plain rest.no_info;
+      no_info = rw not_info rest.no_info;
       one = rw l rest.one;
       ends = (sym (end_same o found b w) ∙ going, rest.ends);
       shown = rest.shown ∙ ap first (sym l);
@@ -166,26 +166,26 @@ later_more o k found r t x u b w code plain single going rest t-is =
 others_to : (o : Options) (k : ℕ) (found r : Option Comment) (t : List ℕ) → WantsMore o found → OthersTested o.metadata_only k found r t → Others o k found r t
 unfolding OthersTested LaterTested
 others_to o zero found r t w c = absurd c
-others_to o (suc k) found r t w (b, x, u, code, (plain, (single, tail)), t-is) =
+others_to o (suc k) found r t w (b, x, u, code, (not_info, (single, tail)), t-is) =
     go (is_done o.metadata_only found b) refl tail (λ v. others_to o k (found_with found b.content) r u v)
   where
     go : (q : Bool) → is_done o.metadata_only found b ≡ q → choose q (Is (found_with found b.content)) (OthersTested o.metadata_only k (found_with found b.content)) r u
         → (WantsMore o (found_with found b.content) → OthersTested o.metadata_only k (found_with found b.content) r u → Others o k (found_with found b.content) r u) → Others o (suc k) found r t
-    go true e c rest = later_last o k found r t x u b w code plain single e c.0 c.1 t-is
-    go false e c rest = later_more o k found r t x u b w code plain single e (rest (wants_more_next o found b w e) c) t-is
+    go true e c rest = later_last o k found r t x u b w code not_info single e c.0 c.1 t-is
+    go false e c rest = later_more o k found r t x u b w code not_info single e (rest (wants_more_next o found b w e) c) t-is
 
 others_from : (o : Options) (others : List MetadataBlock) (k : ℕ) (b : MetadataBlock) (found r : Option Comment) (t : List ℕ) → WantsMore o found → length others < k → Each BlockCode (b ∷ others) t
     → list_any (λ b. is_info b.content) (b ∷ others) ≡ false → length (listed found ++ comments_in (b ∷ others)) ≤ 1 → EndsAtLast o b others → r ≡ first (listed found ++ comments_in (b ∷ others)) → OthersTested o.metadata_only k found r t
 unfolding OthersTested LaterTested
-others_from o others zero b found r t w few each plain one ends shown = absurd (omega arith)
-others_from o [] (suc k) b found r t w few (x, u, code, u-is, t-is) plain one ends shown =
-    let p = or_false _ _ plain in
+others_from o others zero b found r t w few each not_info one ends shown = absurd (omega arith)
+others_from o [] (suc k) b found r t w few (x, u, code, u-is, t-is) not_info one ends shown =
+    let p = or_false _ _ not_info in
     let single = not_second found b.content [] one in
     let l : listed found ++ comments_in (b ∷ []) ≡ listed (found_with found b.content) = ap (λ (z : List Comment). listed found ++ z) (append-nil (comment_of b.content)) ∙ sym (found_listed found b.content single) in
     let done : is_done o.metadata_only found b ≡ true = end_same o found b w ∙ ends in
     (b, x, u, code, (p.0, (single, rw done (shown ∙ ap first l ∙ sym (first_listed (found_with found b.content)), u-is))), t-is)
-others_from o (c ∷ others) (suc k) b found r t w few (x, u, code, each, t-is) plain one ends shown =
-    let p : (is_info b.content ≡ false) × (list_any (λ b. is_info b.content) (c ∷ others) ≡ false) = or_false _ _ plain in
+others_from o (c ∷ others) (suc k) b found r t w few (x, u, code, each, t-is) not_info one ends shown =
+    let p : (is_info b.content ≡ false) × (list_any (λ b. is_info b.content) (c ∷ others) ≡ false) = or_false _ _ not_info in
     let single = not_second found b.content (comments_in (c ∷ others)) one in
     let l : listed found ++ comments_in (b ∷ c ∷ others) ≡ listed (found_with found b.content) ++ comments_in (c ∷ others) =
     sym (append_assoc (listed found) (comment_of b.content) (comments_in (c ∷ others))) ∙ ap (λ (z : List Comment). z ++ comments_in (c ∷ others)) (sym (found_listed found b.content single)) in
@@ -212,13 +212,13 @@ Reads-first o is_last Reserved = Reads-fails Head StreaminfoMissing
 HeadTested : Options → Head → List ℕ → Type 0
 HeadTested o = Then Marker (λ m. Then BlockCode (λ b. FirstTested o b.is_last b.content))
 
--- a streaminfo is an end where it is marked as the last, or is all that is wished
+-- a head ends at streaminfo where that is marked as the last block, or the options ask for no more
 streaminfo_ends_head_is : (o : Options) (b : MetadataBlock) (i : Streaminfo) → b.content ≡ Info i → is_end o b ≡ streaminfo_ends_head o b.is_last
-streaminfo_ends_head_is o b i e = ap (λ (c : Content). b.is_last || (o.metadata_only && cond o.wants_comment (is_comment c) (is_info c))) e ∙ ap (λ (q : Bool). b.is_last || (o.metadata_only && q)) (wished o.wants_comment)
+streaminfo_ends_head_is o b i e = ap (λ (c : Content). b.is_last || (o.metadata_only && cond o.wants_comment (is_comment c) (is_info c))) e ∙ ap (λ (q : Bool). b.is_last || (o.metadata_only && q)) (wants_same o.wants_comment)
   where
-    wished : (wants : Bool) → cond wants false true ≡ not wants
-    wished true = refl
-    wished false = refl
+    wants_same : (wants : Bool) → cond wants false true ≡ not wants
+    wants_same true = refl
+    wants_same false = refl
 
 wants_more_first : (o : Options) (is_last : Bool) → streaminfo_ends_head o is_last ≡ false → WantsMore o None
 wants_more_first o is_last e = record { more = (or_false is_last (o.metadata_only && not o.wants_comment) e).1; none = λ only. refl }

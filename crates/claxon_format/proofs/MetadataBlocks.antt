@@ -54,11 +54,11 @@ Reads-application n =
 Reads-skipped : (type n : ℕ) → Reads ℕ Content (test (eqb type 127) BlockType (and_then (bytes_at n) (λ bytes. done (skipped type n)))) (choose (eqb type 127) (λ b t. ⊥) (Mapped (λ bytes. skipped type n) (Bytes n))) (MeetsOr (eqb type 127) BlockType Never)
 Reads-skipped type n =
     Reads-same (Reads-test (eqb type 127) BlockType (λ e. Reads-map (λ bytes. skipped type n) (Reads-bytes n)))
-    (λ b t c. rw c.0 c.1) (λ b t c. known (eqb type 127) b t c) (λ f t c. c) (λ f t c. c)
+    (λ b t c. rw c.0 c.1) (λ b t c. type_allowed (eqb type 127) b t c) (λ f t c. c) (λ f t c. c)
   where
-    known : (q : Bool) (b : Content) (t : List ℕ) → choose q (λ b t. ⊥) (Mapped (λ bytes. skipped type n) (Bytes n)) b t → (q ≡ false) × Mapped (λ bytes. skipped type n) (Bytes n) b t
-    known true b t c = absurd c
-    known false b t c = (refl, c)
+    type_allowed : (q : Bool) (b : Content) (t : List ℕ) → choose q (λ b t. ⊥) (Mapped (λ bytes. skipped type n) (Bytes n)) b t → (q ≡ false) × Mapped (λ bytes. skipped type n) (Bytes n) b t
+    type_allowed true b t c = absurd c
+    type_allowed false b t c = (refl, c)
 
 pub Reads-body : (type n : ℕ) → Reads ℕ Content (body_at type n) (Body type n) (BodyFault type n)
 unfolding body_at

@@ -1,4 +1,4 @@
--- A word of a residual, and its reader.
+-- Rice codes, and their reader.
 use Rattle.std.proofs.Common.{◌≡◌, ℕ, zero, suc, ◌+◌, ◌-◌, ◌*◌, ◌/◌, ◌%◌, ◌^◌, ◌<◌, ◌≤◌, Bool, true, false, cond, eqb, ltb, [], ◌∷◌, ◌++◌, replicate, refl, sym, ap, subst, ◌∙◌, append_assoc, arith, inl, inr, ◌⊎◌, ℤ, pos, negsuc, FitsSigned, w32}
 use Rattle.std.proofs.lemmas.Bool.{ltb-true, lt-ltb}
 use Rattle.std.proofs.lemmas.List.{append-nil}
@@ -91,7 +91,7 @@ never = record { none = λ f t x. x }
 pub never_then : {A : Type 0} {C : A → Bits → Type 0} {F : Fault → Bits → Type 0} {G : A → Fault → Bits → Type 0} → HasNoFault F → ((a : A) → HasNoFault (G a)) → HasNoFault (ThenFault C F G)
 never_then first second = record { none = λ f t c. elim c [ inl p ↦ first.none f t p | inr p ↦ (second p.0).none f p.2 p.4 ] }
 
--- ---- words
+-- ---- Rice codes
 
 pub zigzag-decode : (n : ℕ) → zigzag (zigzag_decode n) ≡ n
 zigzag-decode n =
@@ -119,11 +119,11 @@ zigzag_decode-fits n h = go (eqb (n % 2) 0)
     go true = record { sfits = omega arith }
     go false = record { sfits = omega arith }
 
--- what stands above the low k bits of 32, and those bits
+-- a number of 32 bits, split above its low k bits
 pub parts : (k n : ℕ) → k ≤ 32 → n % 2 ^ 32 ≡ (n / 2 ^ k % 2 ^ (32 - k)) * 2 ^ k + n % 2 ^ k
 parts k n le = let whole : 32 - k + k ≡ 32 = omega arith in subst (λ (m : ℕ). n % 2 ^ m ≡ (n / 2 ^ k % 2 ^ (32 - k)) * 2 ^ k + n % 2 ^ k) whole (mod-pow-add n (32 - k) k)
 
--- the quotient and the low bits make the folded number
+-- the quotient and the low k bits give the zigzag-encoded number
 pub zigzag_again : (k q : ℕ) (e : ℤ) → k ≤ 32 → FitsSigned w32 e → IsQuotient k q e → zigzag_encoded k q (zigzag e % 2 ^ k) ≡ zigzag e
 zigzag_again k q e le fits is =
     let low : zigzag e % 2 ^ k < 2 ^ k = mod_below (zigzag e) (2 ^ k) (pow_pos k) in
@@ -147,7 +147,7 @@ low_is k q r le small =
     let l : (q * 2 ^ k + r) % 2 ^ k < 2 ^ k = mod_below (q * 2 ^ k + r) (2 ^ k) (pow_pos k) in
     ap (λ (m : ℕ). m % 2 ^ k) p ∙ mod-mul-add ((q * 2 ^ k + r) / 2 ^ k % 2 ^ (32 - k)) (2 ^ k) ((q * 2 ^ k + r) % 2 ^ k) l ∙ mod-mul-add q (2 ^ k) r small ∙ sym (mod_small r (2 ^ k) small)
 
--- the fields of a word
+-- the fields of a Rice code
 Fields : ℕ → ℤ → Bits → Type 0
 Fields k = Then Unary (λ q. Then (Number k) (λ r. Is (zigzag_decode (zigzag_encoded k q r))))
 

@@ -1,4 +1,4 @@
--- Whole streams: a stream is read in one way. And where a sample stands among those that are given.
+-- A stream has one reading. And the position of each sample among the interleaved samples.
 use Rattle.std.proofs.Common.{◌≡◌, ℕ, zero, suc, ◌+◌, ◌*◌, ◌<◌, ◌≤◌, ◌^◌, Bool, true, false, cond, eqb, List, [], ◌∷◌, ◌++◌, length, map, refl, sym, ap, subst, ◌∙◌, arith, ℤ, pos}
 use Rattle.std.specs.Prelude.{get_or, Some}
 use Rattle.std.specs.List.{flat_map, range_with_len}
@@ -17,7 +17,7 @@ use Rattle.claxon_format.proofs.Laws.{one_reading}
 use Rattle.claxon_format.proofs.Heads.{Reads-head}
 use Rattle.claxon_format.proofs.FrameBytes.{one_block_list}
 
--- ---- where a sample stands
+-- ---- interleaved samples
 
 get_left : {X : Type 0} (xs ys : List X) (k : ℕ) (d : X) → k < length xs → get_or (xs ++ ys) k d ≡ get_or xs k d
 get_left [] ys k d lt = absurd (omega arith)
@@ -63,7 +63,7 @@ length-places f m len (suc n) a =
 pub length-interleave : (channels : List (List ℤ)) → length (interleave channels) ≡ duration channels * length channels
 length-interleave channels = length-places (samples_at channels) (length channels) (λ j. length-map channels (λ c. get_or c j (pos 0))) (duration channels) 0
 
--- ---- a stream is read in one way
+-- ---- a stream has one reading
 
 number_at_place : (ws ns : List ℕ) (t : Bits) → EachWith Number ws ns t → (k : ℕ) → k < length ws → get_or ns k 0 < 2 ^ get_or ws k 0
 number_at_place [] ns t c k lt = absurd (omega arith)
@@ -71,7 +71,7 @@ number_at_place (w ∷ ws) [] t c k lt = absurd c
 number_at_place (w ∷ ws) (n ∷ ns) t c zero lt = c.2.0
 number_at_place (w ∷ ws) (n ∷ ns) t c (suc k) lt = number_at_place ws ns c.1 c.3 k (omega arith)
 
--- the width of a streaminfo is from 1 to 32
+-- streaminfo has 1 to 32 bits per sample
 info_width : (i : Streaminfo) (t : List ℕ) → StreaminfoCode i t → (1 ≤ i.width) × (i.width ≤ 32)
 info_width i t (ns, md5, x, y, numbers, len, sum, a, b, c, d, i-is, t-is) =
     let lt : get_or ns 6 0 < 2 ^ 5 = number_at_place info_widths ns x numbers 6 (omega arith) in
@@ -99,7 +99,7 @@ head_width o h t c =
     let body : Body block.0.type block.0.length (Info h.info) block.2 = subst (λ (z : Content). Body block.0.type block.0.length z block.2) is.info block.4 in
     info_width h.info block.2 (info_body block.0.type block.0.length h.info block.2 body)
 
--- of two complete readings of a stream one
+-- two complete readings of a stream are equal
 pub one_stream : (wants : Bool) (s : List ℕ) (h g : Head) (blocks others : List Block) (r q : List ℕ) → IsStream wants s h blocks r → IsStream wants s g others q → (h ≡ g) × (blocks ≡ others) × (r ≡ q)
 one_stream wants s h g blocks others r q a b =
     let same = one_reading Head (head_at (with_samples wants)) (HeadCode (with_samples wants)) (HeadFault (with_samples wants)) (Reads-head (with_samples wants)) h g a.front b.front a.frames b.frames a.head b.head (sym a.joined ∙ b.joined) in

@@ -1,4 +1,4 @@
--- Tables of the standard (RFC 9639, section 9), and the edges of what is accepted. Codes and readers share these functions, so their laws don't see them.
+-- Tables of RFC 9639, section 9, and the limits of what is accepted. Codes and readers share these functions, so no law says anything of them.
 use Rattle.std.proofs.Common.{◌≡◌, true, false, [], ◌∷◌, map, replicate, refl}
 use Rattle.std.specs.Prelude.{Some, None}
 use Rattle.claxon_format.specs.Bits.{bits, bits_of}
@@ -27,8 +27,8 @@ bit_depths_by_code = refl
 bit_depth_codes_reserved : map bit_depth_reserved (0 ∷ 1 ∷ 2 ∷ 3 ∷ 4 ∷ 5 ∷ 6 ∷ 7 ∷ []) ≡ false ∷ false ∷ false ∷ true ∷ false ∷ false ∷ false ∷ true ∷ []
 bit_depth_codes_reserved = refl
 
-counts : map channel_count (0 ∷ 1 ∷ 2 ∷ 3 ∷ 4 ∷ 5 ∷ 6 ∷ 7 ∷ 8 ∷ 9 ∷ 10 ∷ []) ≡ 1 ∷ 2 ∷ 3 ∷ 4 ∷ 5 ∷ 6 ∷ 7 ∷ 8 ∷ 2 ∷ 2 ∷ 2 ∷ []
-counts = refl
+channel_counts : map channel_count (0 ∷ 1 ∷ 2 ∷ 3 ∷ 4 ∷ 5 ∷ 6 ∷ 7 ∷ 8 ∷ 9 ∷ 10 ∷ []) ≡ 1 ∷ 2 ∷ 3 ∷ 4 ∷ 5 ∷ 6 ∷ 7 ∷ 8 ∷ 2 ∷ 2 ∷ 2 ∷ []
+channel_counts = refl
 
 eight_channels : widths 7 16 ≡ replicate 8 16
 eight_channels = refl

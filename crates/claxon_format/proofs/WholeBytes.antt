@@ -1,4 +1,4 @@
--- Readers of bits whose fields are whole bytes, and the readers of bytes that do the same.
+-- Readers of bits whose fields are whole bytes, and the readers of bytes that give the same.
 use Rattle.std.proofs.Common.{◌≡◌, ℕ, ◌-◌, ◌/◌, Bool, true, false, List, [], ◌++◌, length, drop, refl, sym, ap, subst, ◌∙◌, append_assoc, arith}
 use Rattle.claxon_format.specs.Bits.{Bits, bits_of}
 use Rattle.claxon_format.specs.Fault.{Fault}
@@ -7,13 +7,13 @@ use Rattle.claxon_format.specs.Reading.{Reading, Done, Faulty, Incomplete, bind,
 use Rattle.claxon_format.proofs.Bytes.{bits_of-append, left_again}
 use Rattle.claxon_format.proofs.Laws.{taken_is}
 
--- what is left, in bits
+-- the same reading, with what is left in bits
 abbrev pub in_bits : {A : Type 0} → Reading ℕ A → Reading Bool A
 in_bits (Done a m) = Done a (bits_of m)
 in_bits (Faulty f m) = Faulty f (bits_of m)
 in_bits Incomplete = Incomplete
 
--- what is left is a rest
+-- what is left is the end of the list
 abbrev pub Leaves : {A : Type 0} → List ℕ → Reading ℕ A → Type 0
 Leaves s (Done a m) = (t : List ℕ) × (s ≡ t ++ m)
 Leaves s (Faulty f m) = (t : List ℕ) × (s ≡ t ++ m)
@@ -23,7 +23,7 @@ pub record Whole (A : Type 0) (r : Bits → Reading Bool A) (q : List ℕ → Re
   pub same : (s : List ℕ) → r (bits_of s) ≡ in_bits (q s)
   pub rest : (s : List ℕ) → Leaves s (q s)
 
--- what a reader of bytes leaves is whole
+-- a reader of bytes leaves whole bytes
 pub whole_again : {A : Type 0} (s : List ℕ) (x : Reading ℕ A) → Leaves s x → whole s (in_bits x) ≡ x
 whole_again {A = A} s x l = go x l
   where
@@ -35,7 +35,7 @@ whole_again {A = A} s x l = go x l
     go (Faulty f m) l = ap (λ (z : List ℕ). Faulty f z) (back l.0 m l.1)
     go Incomplete l = refl
 
--- bytes are read as the reader of bytes does
+-- the reader of bits, on bytes, gives what the reader of bytes gives
 pub whole_is : {A : Type 0} {r : Bits → Reading Bool A} {q : List ℕ → Reading ℕ A} → Whole A r q → (s : List ℕ) → by_bytes r s ≡ q s
 whole_is {A = A} {r = r} {q = q} h s = ap (whole s) (h.same s) ∙ whole_again s (q s) (h.rest s)
 
@@ -70,14 +70,14 @@ Whole-test false f h = record { same = λ s. h.same s; rest = λ s. h.rest s }
 pub Whole-done : {A : Type 0} (a : A) → Whole A (done a) (done a)
 Whole-done a = record { same = λ s. refl; rest = λ s. ([], refl) }
 
--- ---- a field that depends on what spells the one before it
+-- ---- a field that depends on the bits of the field before it
 
 with_bits : {A B : Type 0} (s : List ℕ) (x : Reading ℕ A) (f : A → Bits → Bits → Reading Bool B) (g : A → List ℕ → List ℕ → Reading ℕ B) → Leaves s x → ((a : A) (t : List ℕ) → Whole B (f a (bits_of t)) (g a t))
     → bind (in_bits x) (λ a m. f a (taken (bits_of s) m) m) ≡ in_bits (bind x (λ a m. g a (taken s m) m))
 with_bits s (Done a m) f g l k =
-    let spelled : taken (bits_of s) (bits_of m) ≡ bits_of (taken s m) =
+    let taken_bits : taken (bits_of s) (bits_of m) ≡ bits_of (taken s m) =
     taken_is (bits_of s) (bits_of l.0) (bits_of m) (ap bits_of l.1 ∙ bits_of-append l.0 m) ∙ ap bits_of (sym (taken_is s l.0 m l.1)) in
-    ap (λ (z : Bits). f a z (bits_of m)) spelled ∙ (k a (taken s m)).same m
+    ap (λ (z : Bits). f a z (bits_of m)) taken_bits ∙ (k a (taken s m)).same m
 with_bits s (Faulty e m) f g l k = refl
 with_bits s Incomplete f g l k = refl
 

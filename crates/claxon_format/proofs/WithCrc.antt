@@ -1,4 +1,4 @@
--- Fields that depend on the bits before them: padding up to a border, and guards.
+-- Fields that depend on the bits before them: padding up to a byte boundary, and CRCs.
 use Rattle.std.proofs.Common.{◌≡◌, ℕ, ◌^◌, ◌<◌, Bool, false, not, eqb, [], ◌++◌, length, refl, sym, ap, subst, ◌∙◌, arith, inl, inr}
 use Rattle.std.proofs.lemmas.List.{append-nil}
 use Rattle.std.proofs.lemmas.Bool.Decides.{nat_tests}
@@ -10,7 +10,7 @@ use Rattle.claxon_format.specs.read.Crc.{with_crc_at, byte_aligned_at}
 use Rattle.claxon_format.proofs.Laws.{Reads-then, Reads-with, Reads-same, Reads-test, Reads-done, Reads-map}
 use Rattle.claxon_format.proofs.Numbers.{Reads-number, length-bits, number-lt, bits-number}
 
--- ---- a guard of w bits after what it guards
+-- ---- a CRC of w bits after the field that it covers
 
 same_crc : (n g : ℕ) → not (eqb n g) ≡ false → n ≡ g
 same_crc n g h = grind (arith, nat_tests)
@@ -33,7 +33,7 @@ Reads-with_crc {C = C} w crc f small h =
     Reads-same (Reads-with h (λ a x c. Reads-then (Reads-number w) (λ n t d. Reads-test (not (eqb n (crc x))) f (λ same. Reads-done _ a))))
     (with_crc_to w crc C) (with_crc_from w crc small C) (λ f t c. c) (λ f t c. c)
 
--- ---- bits of any value up to a border of 8
+-- ---- padding of any value up to a byte boundary
 
 byte_aligned_to : {A : Type 0} (C : A → Bits → Type 0) (a : A) (t : Bits) → ThenWith C (λ x y. Mapped (λ n. x) (Number (padding_length y))) a t → ByteAligned C a t
 byte_aligned_to C a t (x, y, u, code, (n, (lt, u-is), a-is), t-is) = (y, u, rw a-is code, ap length u-is ∙ length-bits (padding_length y) n, t-is)

@@ -56,7 +56,7 @@ represents_bits n x lt e =
 pub represents_num : (n : ℕ) → n < 2 ^ 31 → Represents w32 n (pos n)
 represents_num n lt = let f : FitsSigned w32 (pos n) = record { sfits = lt } in record { below = omega arith; value = omega (arith, ints) ∙ sym (int_wrap_fits w32 (pos n) f) }
 
--- ---- what the fixed predictors compute: e is the residual's entry, a the newest sample, b the one before it, ..
+-- ---- what the fixed predictors compute: e is the residual sample, a the newest sample, b the one before it, ..
 
 pub step_1 : (i m : ℕ) (e a : ℤ) → Represents w32 i e → Represents w32 m a → to_z w32 ((m + i) % 4294967296) ≡ wrap (a +ℤ e)
 step_1 i m e a p q = (represents_add q p).value

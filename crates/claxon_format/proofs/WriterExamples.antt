@@ -1,4 +1,4 @@
--- Worked rows: what a writer writes for some frames under plans.
+-- Examples: what a writer writes for some frames under plans.
 use Rattle.std.proofs.Common.{◌≡◌, ℕ, false, true, List, [], ◌∷◌, refl, ℤ, pos, negsuc}
 use Rattle.std.specs.Prelude.{Option, None}
 use Rattle.std.specs.Int.{int_wrap}
@@ -13,7 +13,7 @@ write : Option StreamFormat → Fields → HeaderPlan → List SubframePlan → 
 unfolding bits number residue bytes_of divide divide_step crc8 crc16 int_wrap
 write stream f header plans channels = write_bytes stream f header plans channels
 
--- one sample of fixed blocking, whose size stands in a byte
+-- the fields of a frame of one sample, with a fixed block size, which is coded in a byte
 fields : ℕ → ℕ → Fields
 fields channels bit_depth_code = record { variable = false; size = 1; channels = channels; bit_depth_code = bit_depth_code; number = 0 }
 

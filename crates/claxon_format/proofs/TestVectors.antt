@@ -1,4 +1,4 @@
--- Vectors of other decoders: what predictors, stereo modes and coded numbers give.
+-- Test vectors of other decoders: predictors, stereo modes and coded numbers.
 use Rattle.std.proofs.Common.{◌≡◌, ℕ, List, [], ◌∷◌, reverse, drop, refl, ℤ, pos, negsuc}
 use Rattle.std.specs.Int.{int_wrap}
 use Rattle.claxon_format.specs.Fault.{NumberFirst}
