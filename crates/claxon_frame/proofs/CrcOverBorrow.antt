@@ -6,11 +6,11 @@ use Rattle.claxon_format.specs.Reading.{Reading, Done}
 use Rattle.claxon_input.specs.CrcReader.{crc_inner, crc_source, crc_state}
 use Rattle.claxon_input.specs.CrcUpdate.{update_crc8}
 use Rattle.claxon_input.specs.Source.{Source, through_loan, with_crc}
-use Rattle.claxon_input.specs.State.{State, bytes_in, past}
+use Rattle.claxon_input.specs.State.{State, bytes_in, crcs_at_eof}
 use Rattle.claxon_input.specs.Error.{is_io}
 use Rattle.claxon_input.specs.declared.crc.CrcReader.{CrcReader}
 use Rattle.claxon_input.specs.declared.error.Error.{Error}
-use Rattle.claxon_input.proofs.CrcReaders.{behind, same_crcs_below, same_loans_below, stops_below, under, consumes_below}
+use Rattle.claxon_input.proofs.CrcReaders.{over_borrow, same_crcs_below, same_loans_below, stops_below, under, consumes_below}
 use Rattle.claxon_input.proofs.States.{bytes_of_source}
 use Rattle.claxon_input.proofs.CallsInTurn.{stops_loans}
 use Rattle.claxon_input.specs.Gives.{ReachedEof, GivesOrEof, or_eof}
@@ -35,7 +35,7 @@ module _ (s t : Source ℕ) (j k : GName) (f g : List ℕ → ℕ) where
   pub gives_or_eof_borrowed : {A Y : Type 0} (count : ℕ) (view : A → Y) (r : Result (Option A) Error) (read : List ℕ → Reading ℕ Y)
       → GivesOrEof count view r read (bytes_of_source (with_crc f (through_loan j s))) (bytes_of_source (with_crc g (through_loan k t))) → GivesOrEof count view r read (bytes_of_source s) (bytes_of_source t)
   gives_or_eof_borrowed count view r read h =
-      gives_or_eof_below (bytes_of_source s) (bytes_of_source t) (j ∷ s.loans) (k ∷ t.loans) (past s.remaining (λ xs. f xs ∷ s.crcs xs)) (past t.remaining (λ xs. g xs ∷ t.crcs xs))
+      gives_or_eof_below (bytes_of_source s) (bytes_of_source t) (j ∷ s.loans) (k ∷ t.loans) (crcs_at_eof s.remaining (λ xs. f xs ∷ s.crcs xs)) (crcs_at_eof t.remaining (λ xs. g xs ∷ t.crcs xs))
       (same_loans_below j k s.loans t.loans) (same_crcs_below s.remaining t.remaining f g s.crcs t.crcs) count view r read h
 
   -- and the reference is still the same
@@ -44,16 +44,16 @@ module _ (s t : Source ℕ) (j k : GName) (f g : List ℕ → ℕ) where
   gives_or_eof_borrow_name count view r read h = let e : k ∷ t.loans ≡ j ∷ s.loans = gives_or_eof_loans count view r read _ _ h in cc
 
 module _ {R A Y : Type 0} (source : R → Source ℕ) (x : R) (j : GName) (b c : CrcReader (MutBor R) ℕ) (count : ℕ) (view : A → Y) (r : Result (Option A) Error) (read : List ℕ → Reading ℕ Y) where
-  pub gives_or_eof_through : crc_source (behind source) update_crc8 b ≡ with_crc (update_crc8 0) (through_loan j (source x))
-      → GivesOrEof count view r read (bytes_in (crc_source (behind source) update_crc8) b) (bytes_in (crc_source (behind source) update_crc8) c) → GivesOrEof count view r read (bytes_in source x) (bytes_in source (crc_inner c).now)
+  pub gives_or_eof_through : crc_source (over_borrow source) update_crc8 b ≡ with_crc (update_crc8 0) (through_loan j (source x))
+      → GivesOrEof count view r read (bytes_in (crc_source (over_borrow source) update_crc8) b) (bytes_in (crc_source (over_borrow source) update_crc8) c) → GivesOrEof count view r read (bytes_in source x) (bytes_in source (crc_inner c).now)
   unfolding bytes_in
   gives_or_eof_through e h =
       gives_or_eof_borrowed (source x) (source (crc_inner c).now) j (crc_inner c).ghost_name (update_crc8 0) (update_crc8 (crc_state c)) count view r read
-      (subst (λ z. GivesOrEof count view r read (bytes_of_source z) (bytes_of_source (crc_source (behind source) update_crc8 c))) e h)
+      (subst (λ z. GivesOrEof count view r read (bytes_of_source z) (bytes_of_source (crc_source (over_borrow source) update_crc8 c))) e h)
 
-  pub gives_or_eof_name : crc_source (behind source) update_crc8 b ≡ with_crc (update_crc8 0) (through_loan j (source x))
-      → GivesOrEof count view r read (bytes_in (crc_source (behind source) update_crc8) b) (bytes_in (crc_source (behind source) update_crc8) c) → j ≡ (crc_inner c).ghost_name
+  pub gives_or_eof_name : crc_source (over_borrow source) update_crc8 b ≡ with_crc (update_crc8 0) (through_loan j (source x))
+      → GivesOrEof count view r read (bytes_in (crc_source (over_borrow source) update_crc8) b) (bytes_in (crc_source (over_borrow source) update_crc8) c) → j ≡ (crc_inner c).ghost_name
   unfolding bytes_in
   gives_or_eof_name e h =
       gives_or_eof_borrow_name (source x) (source (crc_inner c).now) j (crc_inner c).ghost_name (update_crc8 0) (update_crc8 (crc_state c)) count view r read
-      (subst (λ z. GivesOrEof count view r read (bytes_of_source z) (bytes_of_source (crc_source (behind source) update_crc8 c))) e h)
+      (subst (λ z. GivesOrEof count view r read (bytes_of_source z) (bytes_of_source (crc_source (over_borrow source) update_crc8 c))) e h)

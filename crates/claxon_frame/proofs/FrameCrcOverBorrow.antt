@@ -6,11 +6,11 @@ use Rattle.claxon_format.specs.Frame.{StreamFormat}
 use Rattle.claxon_format.specs.Reading.{Reading, Done}
 use Rattle.claxon_input.specs.CrcReader.{crc_inner, crc_source, crc_state}
 use Rattle.claxon_input.specs.Source.{Source, through_loan, with_crc}
-use Rattle.claxon_input.specs.State.{bytes_in, past}
+use Rattle.claxon_input.specs.State.{bytes_in, crcs_at_eof}
 use Rattle.claxon_input.specs.Gives.{Consumes, GivesOrEofOrOutOfMemory}
 use Rattle.claxon_input.specs.declared.crc.CrcReader.{CrcReader}
 use Rattle.claxon_input.specs.declared.error.Error.{Error}
-use Rattle.claxon_input.proofs.CrcReaders.{behind, same_crcs_below, same_loans_below, consumes_below}
+use Rattle.claxon_input.proofs.CrcReaders.{over_borrow, same_crcs_below, same_loans_below, consumes_below}
 use Rattle.claxon_input.proofs.States.{bytes_of_source}
 use Rattle.claxon_input.specs.Error.{is_out_of_memory}
 use Rattle.claxon_format.specs.read.Frame.{start_at}
@@ -21,7 +21,7 @@ use Rattle.claxon_input.proofs.FieldOrEof.{out_of_memory_or_gives_or_eof, never_
 module _ (s t : Source ℕ) (j k : GName) (f g : List ℕ → ℕ) where
   consumes_borrowed : (P : List ℕ → List ℕ → Type 0) → Consumes (bytes_of_source (with_crc f (through_loan j s))) (bytes_of_source (with_crc g (through_loan k t))) P → Consumes (bytes_of_source s) (bytes_of_source t) P
   consumes_borrowed P h =
-      consumes_below (bytes_of_source s) (bytes_of_source t) (j ∷ s.loans) (k ∷ t.loans) (past s.remaining (λ xs. f xs ∷ s.crcs xs)) (past t.remaining (λ xs. g xs ∷ t.crcs xs))
+      consumes_below (bytes_of_source s) (bytes_of_source t) (j ∷ s.loans) (k ∷ t.loans) (crcs_at_eof s.remaining (λ xs. f xs ∷ s.crcs xs)) (crcs_at_eof t.remaining (λ xs. g xs ∷ t.crcs xs))
       (same_loans_below j k s.loans t.loans) (same_crcs_below s.remaining t.remaining f g s.crcs t.crcs) P h
 
   frame_borrowed : {A Y : Type 0} (count : ℕ) (view : A → Y) (r : Result (Option A) Error) (read : List ℕ → Reading ℕ Y)
@@ -42,29 +42,29 @@ module _ (s t : Source ℕ) (j k : GName) (f g : List ℕ → ℕ) where
   too_small_borrowed stream capacity h = record { start = h.start; header = consumes_borrowed (λ s m. start_at stream s ≡ Done h.start m) h.header; small = h.small }
 
 -- what was read through a CRC reader that was made over a reference
-module _ {R S : Type 0} (source : R → Source ℕ) (update : S → List ℕ → ℕ) (x : R) (j : GName) (f : List ℕ → ℕ) (b c : CrcReader (MutBor R) S) (made : crc_source (behind source) update b ≡ with_crc f (through_loan j (source x))) where
+module _ {R S : Type 0} (source : R → Source ℕ) (update : S → List ℕ → ℕ) (x : R) (j : GName) (f : List ℕ → ℕ) (b c : CrcReader (MutBor R) S) (made : crc_source (over_borrow source) update b ≡ with_crc f (through_loan j (source x))) where
   pub frame_through : {A Y : Type 0} (count : ℕ) (view : A → Y) (r : Result (Option A) Error) (read : List ℕ → Reading ℕ Y)
-      → GivesOrEofOrOutOfMemory count view r read (bytes_in (crc_source (behind source) update) b) (bytes_in (crc_source (behind source) update) c) → GivesOrEofOrOutOfMemory count view r read (bytes_in source x) (bytes_in source (crc_inner c).now)
+      → GivesOrEofOrOutOfMemory count view r read (bytes_in (crc_source (over_borrow source) update) b) (bytes_in (crc_source (over_borrow source) update) c) → GivesOrEofOrOutOfMemory count view r read (bytes_in source x) (bytes_in source (crc_inner c).now)
   unfolding bytes_in
   frame_through count view r read h =
       frame_borrowed (source x) (source (crc_inner c).now) j (crc_inner c).ghost_name f (update (crc_state c)) count view r read
-      (subst (λ z. GivesOrEofOrOutOfMemory count view r read (bytes_of_source z) (bytes_of_source (crc_source (behind source) update c))) made h)
+      (subst (λ z. GivesOrEofOrOutOfMemory count view r read (bytes_of_source z) (bytes_of_source (crc_source (over_borrow source) update c))) made h)
 
   -- and the reference is still the same
   pub frame_same_borrow : {A Y : Type 0} (count : ℕ) (view : A → Y) (r : Result (Option A) Error) (read : List ℕ → Reading ℕ Y)
-      → GivesOrEofOrOutOfMemory count view r read (bytes_in (crc_source (behind source) update) b) (bytes_in (crc_source (behind source) update) c) → j ≡ (crc_inner c).ghost_name
+      → GivesOrEofOrOutOfMemory count view r read (bytes_in (crc_source (over_borrow source) update) b) (bytes_in (crc_source (over_borrow source) update) c) → j ≡ (crc_inner c).ghost_name
   unfolding bytes_in
   frame_same_borrow count view r read h =
       frame_borrow_name (source x) (source (crc_inner c).now) j (crc_inner c).ghost_name f (update (crc_state c)) count view r read
-      (subst (λ z. GivesOrEofOrOutOfMemory count view r read (bytes_of_source z) (bytes_of_source (crc_source (behind source) update c))) made h)
+      (subst (λ z. GivesOrEofOrOutOfMemory count view r read (bytes_of_source z) (bytes_of_source (crc_source (over_borrow source) update c))) made h)
 
-  too_small_through : (stream : Option StreamFormat) (capacity : ℕ) → BufferTooSmall stream capacity (bytes_in (crc_source (behind source) update) b) (bytes_in (crc_source (behind source) update) c) → BufferTooSmall stream capacity (bytes_in source x) (bytes_in source (crc_inner c).now)
+  too_small_through : (stream : Option StreamFormat) (capacity : ℕ) → BufferTooSmall stream capacity (bytes_in (crc_source (over_borrow source) update) b) (bytes_in (crc_source (over_borrow source) update) c) → BufferTooSmall stream capacity (bytes_in source x) (bytes_in source (crc_inner c).now)
   unfolding bytes_in
   too_small_through stream capacity h =
       too_small_borrowed (source x) (source (crc_inner c).now) j (crc_inner c).ghost_name f (update (crc_state c)) stream capacity
-      (subst (λ z. BufferTooSmall stream capacity (bytes_of_source z) (bytes_of_source (crc_source (behind source) update c))) made h)
+      (subst (λ z. BufferTooSmall stream capacity (bytes_of_source z) (bytes_of_source (crc_source (over_borrow source) update c))) made h)
 
-  pub out_of_memory_through : {B : Type 0} (stream : Option StreamFormat) (capacity : ℕ) (r : Result B Error) → IfErr r (λ error. is_out_of_memory error ≡ true → BufferTooSmall stream capacity (bytes_in (crc_source (behind source) update) b) (bytes_in (crc_source (behind source) update) c))
+  pub out_of_memory_through : {B : Type 0} (stream : Option StreamFormat) (capacity : ℕ) (r : Result B Error) → IfErr r (λ error. is_out_of_memory error ≡ true → BufferTooSmall stream capacity (bytes_in (crc_source (over_borrow source) update) b) (bytes_in (crc_source (over_borrow source) update) c))
       → IfErr r (λ error. is_out_of_memory error ≡ true → BufferTooSmall stream capacity (bytes_in source x) (bytes_in source (crc_inner c).now))
   out_of_memory_through stream capacity (Ok y) h = tt
   out_of_memory_through stream capacity (Err e) h = λ m. too_small_through stream capacity (h m)

@@ -15,7 +15,7 @@ use Rattle.claxon_input.specs.State.{bits_in, bytes_in, state_of, bits_after, re
 use Rattle.claxon_input.specs.Bitstream.{bit_state}
 use Rattle.claxon_input.specs.declared.bits.Bitstream.{Bitstream}
 use Rattle.claxon_input.specs.declared.error.Error.{Error}
-use Rattle.claxon_input.proofs.CrcReaders.{behind}
+use Rattle.claxon_input.proofs.CrcReaders.{over_borrow}
 use Rattle.claxon_input.proofs.Promises.{fault_is}
 use Rattle.claxon_input.proofs.CallsInTurn.{gives_loans}
 
@@ -86,12 +86,12 @@ module _ (s t : Source ℕ) (j k : GName) (left : Bits) (few : length left < 8) 
   aligned_name view r read h = let e : k ∷ t.loans ≡ j ∷ s.loans = gives_loans view r read _ _ h in cc
 
 -- what a `Bitstream` that began at a byte boundary read, of the reader that it borrows
-pub gives_through : {R A Y : Type 0} {g : _} (source : R → Source ℕ) (x : R) (j : GName) (b c : Bitstream (MutBor R) g) (view : A → Y) (r : Result A Error) (read : Bits → Reading Bool Y) → bit_state (behind source) b ≡ record { left = []; source = through_loan j (source x) }
-    → Gives view r read (bits_in (behind source) b) (bits_in (behind source) c) → Gives view r (by_bytes read) (bytes_in source x) (bytes_in source c.reader.now)
+pub gives_through : {R A Y : Type 0} {g : _} (source : R → Source ℕ) (x : R) (j : GName) (b c : Bitstream (MutBor R) g) (view : A → Y) (r : Result A Error) (read : Bits → Reading Bool Y) → bit_state (over_borrow source) b ≡ record { left = []; source = through_loan j (source x) }
+    → Gives view r read (bits_in (over_borrow source) b) (bits_in (over_borrow source) c) → Gives view r (by_bytes read) (bytes_in source x) (bytes_in source c.reader.now)
 unfolding bits_in bytes_in
-gives_through source x j b c view r read e h = gives_aligned (source x) (source c.reader.now) j c.reader.ghost_name (bits c.count c.cache) (rw length-bits c.few) view r read (subst (λ z. Gives view r read (state_of (bits_after z.left) z.source) (bits_in (behind source) c)) e h)
+gives_through source x j b c view r read e h = gives_aligned (source x) (source c.reader.now) j c.reader.ghost_name (bits c.count c.cache) (rw length-bits c.few) view r read (subst (λ z. Gives view r read (state_of (bits_after z.left) z.source) (bits_in (over_borrow source) c)) e h)
 
-pub name_through : {R A Y : Type 0} {g : _} (source : R → Source ℕ) (x : R) (j : GName) (b c : Bitstream (MutBor R) g) (view : A → Y) (r : Result A Error) (read : Bits → Reading Bool Y) → bit_state (behind source) b ≡ record { left = []; source = through_loan j (source x) }
-    → Gives view r read (bits_in (behind source) b) (bits_in (behind source) c) → j ≡ c.reader.ghost_name
+pub name_through : {R A Y : Type 0} {g : _} (source : R → Source ℕ) (x : R) (j : GName) (b c : Bitstream (MutBor R) g) (view : A → Y) (r : Result A Error) (read : Bits → Reading Bool Y) → bit_state (over_borrow source) b ≡ record { left = []; source = through_loan j (source x) }
+    → Gives view r read (bits_in (over_borrow source) b) (bits_in (over_borrow source) c) → j ≡ c.reader.ghost_name
 unfolding bits_in
-name_through source x j b c view r read e h = aligned_name (source x) (source c.reader.now) j c.reader.ghost_name (bits c.count c.cache) (rw length-bits c.few) view r read (subst (λ z. Gives view r read (state_of (bits_after z.left) z.source) (bits_in (behind source) c)) e h)
+name_through source x j b c view r read e h = aligned_name (source x) (source c.reader.now) j c.reader.ghost_name (bits c.count c.cache) (rw length-bits c.few) view r read (subst (λ z. Gives view r read (state_of (bits_after z.left) z.source) (bits_in (over_borrow source) c)) e h)

@@ -83,7 +83,7 @@ module _ {R : Type 0} (source : R → Source ℕ) {a b : R} where
 
   pub most_taken : {xs : List ℕ} (n : ℕ) → length xs ≤ n → Takes (source a) (source b) xs → ConsumesAtMost n (bytes_in source a) (bytes_in source b)
   unfolding bytes_in
-  most_taken {xs = xs} n l h = most_known (source a).remaining (source b).remaining n (most_front (source a).remaining (source b).remaining xs n h.lost.front l)
+  most_taken {xs = xs} n l h = most_known (source a).remaining (source b).remaining n (most_front (source a).remaining (source b).remaining xs n h.moved.front l)
 
 -- for a function that reads a number first, to be named in its `using`
 pub ruleset first_number = (common_steps, consumes_byte, consumes_big, exit_big)

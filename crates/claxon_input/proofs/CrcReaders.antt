@@ -10,7 +10,7 @@ use Rattle.claxon_format.proofs.CrcBytes.{with_crc_after}
 use Rattle.claxon_format.proofs.Bytes.{bits_of-append}
 use Rattle.claxon_format.proofs.Laws.{taken_is}
 use Rattle.claxon_input.specs.Source.{Source, through_loan, with_crc}
-use Rattle.claxon_input.specs.State.{State, bytes_in, past, remaining_known, remaining_as}
+use Rattle.claxon_input.specs.State.{State, bytes_in, crcs_at_eof, remaining_known, remaining_as}
 use Rattle.claxon_input.specs.Gives.{IsRest, Consumes, FailureOr, IsFaultOf, Stops, Gives, GivesOrOutOfMemory}
 use Rattle.claxon_input.specs.CrcReader.{crc_source, crc_state, crc_inner}
 use Rattle.claxon_input.specs.declared.crc.CrcReader.{CrcReader}
@@ -27,7 +27,7 @@ bytes_of_all = remaining_as (λ all. all)
 -- ---- a reader that computes a CRC
 
 unfoldable same_first_crc : (p q : Option (List ℕ)) (f g : List ℕ → ℕ) (u v : List ℕ → List ℕ) → Type 0
-same_first_crc p q f g u v = past q (λ xs. g xs ∷ v xs) ≡ past p (λ xs. f xs ∷ u xs)
+same_first_crc p q f g u v = crcs_at_eof q (λ xs. g xs ∷ v xs) ≡ crcs_at_eof p (λ xs. f xs ∷ u xs)
 
 module _ {d : ℕ} {update_crc : ℕ → List ℕ → ℕ} {crc : Bits → ℕ} (law : DeterminesCrc d update_crc crc) where
   crc_is_of_taken : (p q : Option (List ℕ)) (x : ℕ) (u v : List ℕ → List ℕ) → x < 2 ^ d → remaining_known p ≡ true → remaining_known q ≡ true → IsRest (bytes_of_all p) (bytes_of_all q) → same_first_crc p q (update_crc 0) (update_crc x) u v
@@ -88,7 +88,7 @@ pub name_below : (m n : GName) (xs ys : List GName) → n ∷ ys ≡ m ∷ xs �
 name_below m n xs ys e = cc
 
 -- a CRC, and those below it
-pub same_crcs_below : (p q : Option (List ℕ)) (f g : List ℕ → ℕ) (u v : List ℕ → List ℕ) → remaining_known p ≡ true → remaining_known q ≡ true → past q (λ xs. g xs ∷ v xs) ≡ past p (λ xs. f xs ∷ u xs) → past q v ≡ past p u
+pub same_crcs_below : (p q : Option (List ℕ)) (f g : List ℕ → ℕ) (u v : List ℕ → List ℕ) → remaining_known p ≡ true → remaining_known q ≡ true → crcs_at_eof q (λ xs. g xs ∷ v xs) ≡ crcs_at_eof p (λ xs. f xs ∷ u xs) → crcs_at_eof q v ≡ crcs_at_eof p u
 same_crcs_below None q f g u v t k e = absurd cc
 same_crcs_below (Some all) None f g u v t k e = absurd cc
 same_crcs_below (Some all) (Some rest) f g u v t k e =
@@ -107,23 +107,23 @@ consumes_with_crc w c crc f r y a m h k = consumes_known _ h (λ t p. with_crc_a
 -- ---- a CRC reader over a reference
 
 -- the source that a reference reaches
-abbrev pub behind : {R : Type 0} → (R → Source ℕ) → MutBor R → Source ℕ
-behind source r = through_loan r.ghost_name (source r.now)
+abbrev pub over_borrow : {R : Type 0} → (R → Source ℕ) → MutBor R → Source ℕ
+over_borrow source r = through_loan r.ghost_name (source r.now)
 
 module _ {R S A Y : Type 0} (source : R → Source ℕ) (update_crc : S → List ℕ → ℕ) (x : R) (j : GName) (f : List ℕ → ℕ) (b c : CrcReader (MutBor R) S) (view : A → Y) (r : Result A Error) (read : List ℕ → Reading ℕ Y)
-    (made : crc_source (behind source) update_crc b ≡ with_crc f (through_loan j (source x))) where
+    (made : crc_source (over_borrow source) update_crc b ≡ with_crc f (through_loan j (source x))) where
   -- what it gave is given by what the reference reaches
-  pub gives_with_crc : Gives view r read (bytes_in (crc_source (behind source) update_crc) b) (bytes_in (crc_source (behind source) update_crc) c) → Gives view r read (bytes_in source x) (bytes_in source (crc_inner c).now)
+  pub gives_with_crc : Gives view r read (bytes_in (crc_source (over_borrow source) update_crc) b) (bytes_in (crc_source (over_borrow source) update_crc) c) → Gives view r read (bytes_in source x) (bytes_in source (crc_inner c).now)
   unfolding bytes_in
   gives_with_crc h =
       let y = source (crc_inner c).now in
       gives_below (bytes_of_source (source x)) (bytes_of_source y) (j ∷ (source x).loans) ((crc_inner c).ghost_name ∷ y.loans)
-      (past (source x).remaining (λ xs. f xs ∷ (source x).crcs xs)) (past y.remaining (λ xs. update_crc (crc_state c) xs ∷ y.crcs xs)) (same_loans_below j (crc_inner c).ghost_name (source x).loans y.loans)
+      (crcs_at_eof (source x).remaining (λ xs. f xs ∷ (source x).crcs xs)) (crcs_at_eof y.remaining (λ xs. update_crc (crc_state c) xs ∷ y.crcs xs)) (same_loans_below j (crc_inner c).ghost_name (source x).loans y.loans)
       (λ t u. same_crcs_below (source x).remaining y.remaining f (update_crc (crc_state c)) (source x).crcs y.crcs t u) view r read
       (subst (λ (z : Source ℕ). Gives view r read (bytes_of_source z) (bytes_of_source (with_crc (update_crc (crc_state c)) (through_loan (crc_inner c).ghost_name y)))) made h)
 
   -- and the reference is still the same
-  pub name_with_crc : Gives view r read (bytes_in (crc_source (behind source) update_crc) b) (bytes_in (crc_source (behind source) update_crc) c) → j ≡ (crc_inner c).ghost_name
+  pub name_with_crc : Gives view r read (bytes_in (crc_source (over_borrow source) update_crc) b) (bytes_in (crc_source (over_borrow source) update_crc) c) → j ≡ (crc_inner c).ghost_name
   unfolding bytes_in
   name_with_crc h =
       let y = source (crc_inner c).now in

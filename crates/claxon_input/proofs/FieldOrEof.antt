@@ -41,13 +41,13 @@ module _ {R : Type 0} (source : R → Source ℕ) {a b : R} where
   unfolding bytes_in
   failure_or_any_in P h = failure_or_any P h
 
-  pub ended : (k : ℕ) → MeetsEof (source a) (source b) k → ReachedEof k (bytes_in source a) (bytes_in source b)
+  pub reached_eof : (k : ℕ) → MeetsEof (source a) (source b) k → ReachedEof k (bytes_in source a) (bytes_in source b)
   unfolding bytes_in
-  ended k h = reached_eof_bytes k h
+  reached_eof k h = reached_eof_bytes k h
 
 pub gives_big_or_eof : {R : Type 0} (source : R → Source ℕ) (a b : R) (k : ℕ) (found : Option ℕ) → ForSome found (λ n. n < 2 ^ (8 * k)) → MatchOption found (MeetsEof (source a) (source b) k) (λ n. Takes (source a) (source b) (be_bytes k n))
     → GivesOrEof k (λ (n : ℕ). n) (Ok found) (big_at k) (bytes_in source a) (bytes_in source b)
-gives_big_or_eof source a b k None small h = ended source k h
+gives_big_or_eof source a b k None small h = reached_eof source k h
 gives_big_or_eof source a b k (Some n) small h = consumes_big_or_eof source k n (small n refl) h
 
 -- ---- exits

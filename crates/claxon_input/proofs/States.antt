@@ -15,7 +15,7 @@ use Rattle.claxon_format.proofs.Numbers.{Reads-number}
 use Rattle.claxon_format.proofs.RiceCodes.{Reads-unary, zeros_no_fault}
 use Rattle.claxon_input.specs.Source.{Source, TakesFront, IsKnown, Takes, FailureOrEof, SourceFailure, Failed, MovesPastSome, HasMore, MeetsEof}
 use Rattle.claxon_input.specs.Bitstream.{BitState, remaining_bits, TakesBits, TakesNumber, BitsFailureOrEof, HasNoOneBit, FailureOrNoOneBit}
-use Rattle.claxon_input.specs.State.{State, state_of, bits_after, past, remaining_known, remaining_as}
+use Rattle.claxon_input.specs.State.{State, state_of, bits_after, crcs_at_eof, remaining_known, remaining_as}
 use Rattle.claxon_input.specs.Gives.{IsRest, Consumes, FailureOr, FailedIn, GivesIo, ReachedEof}
 
 -- functions that agree are one
@@ -36,10 +36,10 @@ record KnownAfter {X : Type 0} (f g : List ℕ → List X) (a b : Source ℕ) (p
   known : remaining_known q ≡ true
   is : P (remaining_as f p) (remaining_as g q)
   rest : (z : List ℕ) → IsRest z (remaining_as (λ all. all) p) → IsRest z (remaining_as (λ all. all) q)
-  crcs : past q b.crcs ≡ past p a.crcs
+  crcs : crcs_at_eof q b.crcs ≡ crcs_at_eof p a.crcs
 
 -- the CRCs after all that remains are the same
-past_same : (a b : Source ℕ) (bytes all rest : List ℕ) → all ≡ bytes ++ rest → ((more : List ℕ) → b.crcs more ≡ a.crcs (bytes ++ more)) → past (Some rest) b.crcs ≡ past (Some all) a.crcs
+past_same : (a b : Source ℕ) (bytes all rest : List ℕ) → all ≡ bytes ++ rest → ((more : List ℕ) → b.crcs more ≡ a.crcs (bytes ++ more)) → crcs_at_eof (Some rest) b.crcs ≡ crcs_at_eof (Some all) a.crcs
 past_same a b bytes all rest l c = same_function (λ more. c (rest ++ more) ∙ ap a.crcs (sym (append_assoc bytes rest more) ∙ ap (λ (x : List ℕ). x ++ more) (sym l)))
 
 is_known_after : {X : Type 0} (f g : List ℕ → List X) (a b : Source ℕ) (p q : Option (List ℕ)) (bytes : List ℕ) (xs : List X) (P : List X → List X → Type 0) → TakesFront p q bytes → SplitsOff f g bytes xs
@@ -59,8 +59,8 @@ consumes_by : {X : Type 0} (f g : List ℕ → List X) {a b : Source ℕ} {bytes
 consumes_by f g {a = a} {b = b} {bytes = bytes} xs P h e k = record {
   errors = h.errors;
   empty_reads = h.empty_reads;
-  loans = h.lost.loans;
-  known = λ t. let w = is_known_after f g a b a.remaining b.remaining bytes xs P h.lost.front e h.lost.crcs k t in record { known = w.known; is = w.is; rest = w.rest; crcs = w.crcs };
+  loans = h.moved.loans;
+  known = λ t. let w = is_known_after f g a b a.remaining b.remaining bytes xs P h.moved.front e h.moved.crcs k t in record { known = w.known; is = w.is; rest = w.rest; crcs = w.crcs };
 }
 
 splits_off_bits : (old new : Bits) (bytes : List ℕ) (bs : Bits) → old ++ bits_of bytes ≡ bs ++ new → SplitsOff (bits_after old) (bits_after new) bytes bs
@@ -84,15 +84,15 @@ consumes_bytes {xs = xs} P h k = consumes_by (λ all. all) (λ all. all) xs P h 
 
 -- ---- the end of input
 
-all_taken : (a b : Source ℕ) (p q : Option (List ℕ)) (lost : List ℕ) (k : ℕ) → TakesFront p q lost → (IsKnown p → (more : List ℕ) → b.crcs more ≡ a.crcs (lost ++ more))
+all_taken : (a b : Source ℕ) (p q : Option (List ℕ)) (moved : List ℕ) (k : ℕ) → TakesFront p q moved → (IsKnown p → (more : List ℕ) → b.crcs more ≡ a.crcs (moved ++ more))
     → IfSome p (λ all. (length all < k) × (q ≡ Some [])) → remaining_known p ≡ true → KnownAfter (λ all. all) (λ all. all) a b p q (λ s m. (ltb (length s) k ≡ true) × (m ≡ []))
-all_taken a b None q lost k l c h t = absurd cc
-all_taken a b (Some all) None lost k l c h t = absurd l
-all_taken a b (Some all) (Some left) lost k l c h t = record {
+all_taken a b None q moved k l c h t = absurd cc
+all_taken a b (Some all) None moved k l c h t = absurd l
+all_taken a b (Some all) (Some left) moved k l c h t = record {
   known = refl;
   is = (lt-ltb _ _ h.0, ap (remaining_as (λ all. all)) h.1);
-  rest = λ z. is_rest_after z all lost left l;
-  crcs = past_same a b lost all left l (c tt);
+  rest = λ z. is_rest_after z all moved left l;
+  crcs = past_same a b moved all left l (c tt);
 }
 
 -- fewer than k remained, and all were consumed
@@ -100,7 +100,7 @@ pub reached_eof_bytes : {a b : Source ℕ} (k : ℕ) → MeetsEof a b k → Reac
 reached_eof_bytes {a} {b} k h = record {
   errors = h.errors;
   loans = h.taken.loans;
-  known = λ t. let w = all_taken a b a.remaining b.remaining h.lost k h.taken.front h.taken.crcs h.cause t in record { known = w.known; is = w.is; rest = w.rest; crcs = w.crcs };
+  known = λ t. let w = all_taken a b a.remaining b.remaining h.moved k h.taken.front h.taken.crcs h.cause t in record { known = w.known; is = w.is; rest = w.rest; crcs = w.crcs };
 }
 
 -- ---- an Err
@@ -114,21 +114,21 @@ failed_in : {X : Type 0} (f g : List ℕ → List X) (a b : Source ℕ) (left : 
 failed_in f g a b left e (inl h) = inl h
 failed_in f g a b left e (inr h) = inr (h.0, rw e (subst (λ (o : Option (List ℕ)). HasMore o) e h.1))
 
-is_failing : {X : Type 0} (f g : List ℕ → List X) (a b : Source ℕ) (p q : Option (List ℕ)) (lost : List ℕ) (P Q : List X → Type 0) → b.remaining ≡ q → TakesFront p q lost
+is_failing : {X : Type 0} (f g : List ℕ → List X) (a b : Source ℕ) (p q : Option (List ℕ)) (moved : List ℕ) (P Q : List X → Type 0) → b.remaining ≡ q → TakesFront p q moved
     → IfSome (option_map f p) (λ all. Q all ⊎ Failed a b) → ((s : List X) → Q s → P s) → remaining_known p ≡ true → Failing f g a b p q P
-is_failing f g a b None q lost P Q e l c h t = absurd cc
-is_failing f g a b (Some all) None lost P Q e l c h t = absurd l
-is_failing f g a b (Some all) (Some left) lost P Q e l c h t = record {
+is_failing f g a b None q moved P Q e l c h t = absurd cc
+is_failing f g a b (Some all) None moved P Q e l c h t = absurd l
+is_failing f g a b (Some all) (Some left) moved P Q e l c h t = record {
   known = refl;
   why = elim c [ inl q ↦ inl (h (f all) q) | inr q ↦ inr (failed_in f g a b left e q) ];
-  rest = λ z. is_rest_after z all lost left l;
+  rest = λ z. is_rest_after z all moved left l;
 }
 
 failure_or_by : {X : Type 0} (f g : List ℕ → List X) {a b : Source ℕ} (P Q : List X → Type 0) → MovesPastSome a b
     → IfSome (option_map f a.remaining) (λ all. Q all ⊎ Failed a b) → ((s : List X) → Q s → P s) → FailureOr (state_of f a) (state_of g b) P
 failure_or_by f g {a = a} {b = b} P Q r c h = record {
   loans = r.loans;
-  known = λ t. let w = is_failing f g a b a.remaining b.remaining r.lost P Q refl r.front c h t in record { known = w.known; why = w.why; rest = w.rest };
+  known = λ t. let w = is_failing f g a b a.remaining b.remaining r.moved P Q refl r.front c h t in record { known = w.known; why = w.why; rest = w.rest };
 }
 
 pub failure : (a b : BitState) (P Q : Bits → Type 0) → MovesPastSome a.source b.source → IfSome (remaining_bits a) (λ all. Q all ⊎ Failed a.source b.source) → ((s : Bits) → Q s → P s)

@@ -38,5 +38,5 @@ GivesBufferedOrNone read old result new =
 -- These are the next 64 bits, and 56 or more of them are in the cache.
 pub record PeeksBits (peek : ℕ) (a : BufferedBits) : Type 0 where
   pub within : 56 ≤ in_cache a
-  pub behind : Bits
-  pub next : bits_in_buffer a ≡ bits 64 peek ++ behind
+  pub after : Bits
+  pub next : bits_in_buffer a ≡ bits 64 peek ++ after

@@ -28,9 +28,9 @@ remaining_as f None = []
 remaining_as f (Some all) = f all
 
 -- the CRCs after all that remains and more
-abbrev pub past : Option (List ℕ) → (List ℕ → List ℕ) → List ℕ → List ℕ
-past None crcs more = []
-past (Some all) crcs more = crcs (all ++ more)
+abbrev pub crcs_at_eof : Option (List ℕ) → (List ℕ → List ℕ) → List ℕ → List ℕ
+crcs_at_eof None crcs more = []
+crcs_at_eof (Some all) crcs more = crcs (all ++ more)
 
 -- the state of a source, where f of its bytes remains
 abbrev pub state_of : {X : Type 0} → (List ℕ → List X) → Source ℕ → State X
@@ -41,7 +41,7 @@ state_of f s = record {
   errors = s.errors;
   empty_reads = s.empty_reads;
   loans = s.loans;
-  crcs = past s.remaining s.crcs;
+  crcs = crcs_at_eof s.remaining s.crcs;
 }
 
 -- the left-over bits, and then those of the remaining bytes

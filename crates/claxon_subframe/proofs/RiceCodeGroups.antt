@@ -185,7 +185,7 @@ after_last w used m le =
 pub group_read : (k w : ℕ) (xs : List ℤ) (codes used peeked : ℕ) (a b c : BufferedBits) → codes ≡ length xs → used ≤ 56 → GroupSoFar k w xs codes used peeked → bits_in_buffer b ≡ bits_in_buffer a → PeeksBits w b → bits_in_buffer c ≡ drop used (bits_in_buffer b)
     → GivesBuffered a c (times_at (length xs) (rice_code_at k)) xs
 group_read k w xs codes used peeked a b c e fits h same shows consumed rest =
-    let m : Bits = shows.behind in
+    let m : Bits = shows.after in
     let last : Bits = drop 63 (bits 64 w) in
     let old : bits_in_buffer a ++ rest ≡ but_last w ++ (last ++ (m ++ rest)) = ap (λ (t : Bits). t ++ rest) (sym same ∙ shows.next) ∙ append_assoc (bits 64 w) m rest ∙ after_last w 0 (m ++ rest) (omega arith) in
     let new : bits_in_buffer c ++ rest ≡ drop used (but_last w) ++ (last ++ (m ++ rest))

@@ -163,7 +163,7 @@ fn read_fields<R: ReadBytes>(input: &mut R, blocking: BlockingStrategy) -> Resul
     })
 }
 
-#[tactic(auto, using(claxon_input::proofs::FieldOrEof::ended))]
+#[tactic(auto, using(claxon_input::proofs::FieldOrEof::reached_eof))]
 fn read_sync_or_eof<R: ReadBytes>(input: &mut R) -> Result<Option<BlockingStrategy>>
     ensures { GivesOrEof 2 is_variable result (sync_at big_at)
         (bytes_in R.source input.old) (bytes_in R.source input.new) }

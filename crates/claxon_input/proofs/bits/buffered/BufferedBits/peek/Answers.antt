@@ -19,7 +19,7 @@ returns-clause-some c =
     let a = c.args.self.now in
     record {
       within = omega arith;
-      behind = drop (64 - a.count) (bits_of (drop a.at a.bytes.now));
+      after = drop (64 - a.count) (bits_of (drop a.at a.bytes.now));
       next = returns-clause-same c ∙ peek_next a.cache a.count c.eight_bytes.result a.at a.bytes.now a.few a.fits c.eight_bytes.type_inv (omega arith) c.eight_bytes.ensures;
     }
 
