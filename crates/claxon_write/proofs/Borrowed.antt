@@ -1,4 +1,4 @@
--- What was read through a loan was read from what it reaches.
+-- Reads through a mutable reference are reads of its target.
 use Rattle.std.specs.Borrow.{GName, MutBor}
 use Rattle.claxon.specs.Source.{Source, through_loan}
 use Rattle.std.proofs.Common.{◌≡◌, inl, inr, ℕ, ◌+◌, ◌%◌, ◌^◌, List, [], ◌∷◌, ◌++◌, Option, None, Some, ap, subst, ◌∙◌, append-nil, arith}
@@ -20,7 +20,7 @@ use Rattle.claxon.specs.StreamInfos.{StreamInfo}
 use Rattle.claxon.specs.SampleRuns.{ConsumesFrames, ReadsFrames, samples_of}
 use Rattle.claxon_write.specs.Decoded.{EndsAfter, Gathers, Decodes, FailsToFlushAll, FailsToWrite, StopsDecoding, TakesBlocks, last_bytes}
 use Rattle.claxon_write.specs.SampleBytes.{bytes_of_samples}
-use Rattle.claxon_write.specs.Written.{AppendsAllBut, FailsToPut, FlushFailed, IsFlushed, IsUnflushed, NothingFailed, Puts, capacity, failed_flushes_of, failed_writes_of, held, contents_with_pending, waiting}
+use Rattle.claxon_write.specs.Written.{AppendsAllBut, FailsToPut, FlushFailed, IsFlushed, IsUnflushed, NothingFailed, Puts, capacity, failed_flushes_of, failed_writes_of, writer_contents, contents_with_pending, pending}
 use Rattle.claxon_write.specs.declared.output.Output.{Output}
 use Rattle.claxon_write.specs.declared.stream.End.{End}
 use Rattle.claxon_write.proofs.Puts.{puts_both, puts_as, fails_after, fails_close, fewer, flush_failed_after, flushed_after, contents_alone, none_failed_both, appends_keeps}
@@ -108,29 +108,29 @@ blocks_unborrowed : (stream : Option StreamFormat) (blocks : List Block) (a b : 
 blocks_unborrowed stream blocks a b (inl h) = inl (takes_unborrowed h)
 blocks_unborrowed stream blocks a b (inr h) = inr (h.0, ends_unborrowed stream blocks h.0 a b h.1)
 
--- ---- all that was gathered was written
+-- ---- all gathered bytes were written
 
 module _ {W : Type 0} {contents : W → Option (List ℕ)} {stream : Option StreamFormat} where
-  pub decoded : {n : ℕ} (end : Option Error) {a b : State ℕ} {x y z : Output W} → Gathers contents stream end n a b x y → Puts contents [] y z → waiting z ≡ [] → Decodes contents stream end n (unborrowed a) (unborrowed b) x z × NothingFailed x z
+  pub decoded : {n : ℕ} (end : Option Error) {a b : State ℕ} {x y z : Output W} → Gathers contents stream end n a b x y → Puts contents [] y z → pending z ≡ [] → Decodes contents stream end n (unborrowed a) (unborrowed b) x z × NothingFailed x z
   decoded end {a = a} {b = b} {x = x} {z = z} h k none =
       let p = puts_as (append-nil (bytes_of_samples (samples_of h.blocks))) (puts_both h.puts k) in
-      (record { blocks = h.blocks; ends = ends_unborrowed stream h.blocks end a b h.ends; count = h.count; written = contents_alone (contents_with_pending contents x) (held contents z) (waiting z) (bytes_of_samples (samples_of h.blocks)) none p.bytes_are; none_pending = none }, p.nothing_failed)
+      (record { blocks = h.blocks; ends = ends_unborrowed stream h.blocks end a b h.ends; count = h.count; written = contents_alone (contents_with_pending contents x) (writer_contents contents z) (pending z) (bytes_of_samples (samples_of h.blocks)) none p.bytes_are; none_pending = none }, p.nothing_failed)
 
   pub fails_after_gathering : {n : ℕ} (end : Option Error) {error : Error} {a b : State ℕ} {x y z : Output W} → Gathers contents stream end n a b x y → FailsToPut contents [] error y z → IsUnflushed x z → FailsToWrite contents stream error (unborrowed a) (unborrowed b) x z
   fails_after_gathering end {a = a} {b = b} {x = x} {z = z} h k u =
       let p = fails_after h.puts k in
       let n : ℕ = capacity + last_bytes h.blocks in
-      let close : AppendsAllBut n (held contents x) (held contents z) (waiting x ++ (bytes_of_samples (samples_of h.blocks) ++ [])) = fewer capacity n (held contents x) (held contents z) (waiting x ++ (bytes_of_samples (samples_of h.blocks) ++ [])) (omega arith) (fails_close h.puts k) in
-      record { is_io = p.is_io; failed = p.failed; unflushed = u; blocks = h.blocks; takes = inr (end, ends_unborrowed stream h.blocks end a b h.ends); front = subst (λ (l : List ℕ). AppendsAllBut n (held contents x) (held contents z) (waiting x ++ l)) (append-nil (bytes_of_samples (samples_of h.blocks))) close; none_pending = p.none_pending }
+      let close : AppendsAllBut n (writer_contents contents x) (writer_contents contents z) (pending x ++ (bytes_of_samples (samples_of h.blocks) ++ [])) = fewer capacity n (writer_contents contents x) (writer_contents contents z) (pending x ++ (bytes_of_samples (samples_of h.blocks) ++ [])) (omega arith) (fails_close h.puts k) in
+      record { is_io = p.is_io; failed = p.failed; unflushed = u; blocks = h.blocks; takes = inr (end, ends_unborrowed stream h.blocks end a b h.ends); prefix = subst (λ (l : List ℕ). AppendsAllBut n (writer_contents contents x) (writer_contents contents z) (pending x ++ l)) (append-nil (bytes_of_samples (samples_of h.blocks))) close; none_pending = p.none_pending }
 
   pub fails_unborrowed_too : {error : Error} {a b : State ℕ} {x y : Output W} → FailsToWrite contents stream error a b x y → FailsToWrite contents stream error (unborrowed a) (unborrowed b) x y
-  fails_unborrowed_too {a = a} {b = b} h = record { is_io = h.is_io; failed = h.failed; unflushed = h.unflushed; blocks = h.blocks; takes = blocks_unborrowed stream h.blocks a b h.takes; front = h.front; none_pending = h.none_pending }
+  fails_unborrowed_too {a = a} {b = b} h = record { is_io = h.is_io; failed = h.failed; unflushed = h.unflushed; blocks = h.blocks; takes = blocks_unborrowed stream h.blocks a b h.takes; prefix = h.prefix; none_pending = h.none_pending }
 
--- the source of a loan
+-- the source of a mutable reference
 abbrev pub lent : {R : Type 0} → (R → Source ℕ) → MutBor R → Source ℕ
 lent source r = through_loan r.ghost_name (source r.now)
 
--- the loan stayed
+-- the reference stayed the same
 pub same_name : {R : Type 0} (source : R → Source ℕ) (r s q : MutBor R) → s ≡ r → (bytes_in (lent source) q).loans ≡ (bytes_in (lent source) s).loans → q.ghost_name ≡ r.ghost_name
 unfolding bytes_in
 same_name source r s q e h =
@@ -139,9 +139,9 @@ same_name source r s q e h =
     n ∙ ap (λ (x : MutBor _). x.ghost_name) e
 
 module _ {R W : Type 0} (source : R → Source ℕ) {contents : W → Option (List ℕ)} {stream known : Option StreamFormat} (r s q : MutBor R) (at : s ≡ r) (same : stream ≡ known) where
-  -- what was gathered is written, and then the end is answered
+  -- the gathered bytes are written, and then the end is returned
   pub written_through : (end : End) (o : Result (Unit {0}) Error) (x y z : Output W) → Gathers contents stream end.fault end.count (bytes_in (lent source) s) (bytes_in (lent source) q) x y → OnOk o (Puts contents [] y z) → IfErr o (λ e. FailsToPut contents [] e y z)
-      → waiting z ≡ [] → IsUnflushed x z
+      → pending z ≡ [] → IsUnflushed x z
       → IfOk (result_and o (Ok end)) (λ end. Decodes contents known end.fault end.count (bytes_in source r.now) (bytes_in source q.now) x z × NothingFailed x z)
       × IfErr (result_and o (Ok end)) (λ e. FailsToWrite contents known e (bytes_in source r.now) (bytes_in source q.now) x z)
   unfolding unborrowed bytes_in rest_of
@@ -160,28 +160,28 @@ either_failed (Ok u) h k l f = inl (none_failed_both h (record { writes = k; flu
 either_failed (Err e) h k l f = inr (flush_failed_after h (record { writes = k; flushes = f }))
 
 module _ {W : Type 0} {contents : W → Option (List ℕ)} where
-  flushed : {stream : Option StreamFormat} {end : Option Error} {n : ℕ} {a b : State ℕ} {x z w : Output W} → Decodes contents stream end n a b x z → Keeps (held contents z) (held contents w) → waiting w ≡ waiting z → Decodes contents stream end n a b x w
+  flushed : {stream : Option StreamFormat} {end : Option Error} {n : ℕ} {a b : State ℕ} {x z w : Output W} → Decodes contents stream end n a b x z → Keeps (writer_contents contents z) (writer_contents contents w) → pending w ≡ pending z → Decodes contents stream end n a b x w
   flushed {x = x} {z = z} {w = w} h k e =
-      record { blocks = h.blocks; ends = h.ends; count = h.count; written = appends_keeps (contents_with_pending contents x) (held contents z) (held contents w) (bytes_of_samples (samples_of h.blocks)) h.written k; none_pending = e ∙ h.none_pending }
+      record { blocks = h.blocks; ends = h.ends; count = h.count; written = appends_keeps (contents_with_pending contents x) (writer_contents contents z) (writer_contents contents w) (bytes_of_samples (samples_of h.blocks)) h.written k; none_pending = e ∙ h.none_pending }
 
-  -- under other names
+  -- for equal streaminfos and readers
   module _ {R : Type 0} (source : R → Source ℕ) {info shown : StreamInfo} {u v : R} (head : info ≡ shown) (at : u ≡ v) where
-    pub decodes_flushed : {end fault : Option Error} {n : ℕ} (q : R) {x z w : Output W} → end ≡ fault → Decodes contents (Some (stream_with info)) end n (bytes_in source u) (bytes_in source q) x z → Keeps (held contents z) (held contents w)
-        → waiting w ≡ waiting z → Decodes contents (Some (stream_with shown)) fault n (bytes_in source v) (bytes_in source q) x w
+    pub decodes_flushed : {end fault : Option Error} {n : ℕ} (q : R) {x z w : Output W} → end ≡ fault → Decodes contents (Some (stream_with info)) end n (bytes_in source u) (bytes_in source q) x z → Keeps (writer_contents contents z) (writer_contents contents w)
+        → pending w ≡ pending z → Decodes contents (Some (stream_with shown)) fault n (bytes_in source v) (bytes_in source q) x w
     decodes_flushed {fault = fault} {n = n} q {x = x} {w = w} e h k l =
         subst (λ (i : StreamInfo). Decodes contents (Some (stream_with i)) fault n (bytes_in source v) (bytes_in source q) x w) head
         (subst (λ (r : R). Decodes contents (Some (stream_with info)) fault n (bytes_in source r) (bytes_in source q) x w) at
         (subst (λ (f : Option Error). Decodes contents (Some (stream_with info)) f n (bytes_in source u) (bytes_in source q) x w) e (flushed h k l)))
 
     pub stops_flushed : {end : Option Error} {error : Error} {n : ℕ} (q : R) (r : Result (Unit {0}) Error) {x z w : Output W} → end ≡ Some error → Decodes contents (Some (stream_with info)) end n (bytes_in source u) (bytes_in source q) x z → NothingFailed x z → IsUnflushed x z
-        → Keeps (held contents z) (held contents w) → waiting w ≡ waiting z → failed_writes_of w ≡ failed_writes_of z → OnOk r (failed_flushes_of w ≡ failed_flushes_of z) → OnErr r (failed_flushes_of w ≡ (failed_flushes_of z + 1) % 2 ^ 64) → IsFlushed z w
+        → Keeps (writer_contents contents z) (writer_contents contents w) → pending w ≡ pending z → failed_writes_of w ≡ failed_writes_of z → OnOk r (failed_flushes_of w ≡ failed_flushes_of z) → OnErr r (failed_flushes_of w ≡ (failed_flushes_of z + 1) % 2 ^ 64) → IsFlushed z w
         → StopsDecoding contents (Some (stream_with shown)) error (bytes_in source v) (bytes_in source q) x w
     stops_flushed {n = n} q r e h none unflushed k l writes known failed flushed =
         record { count = n; decoded = decodes_flushed q e h k l; flushed = flushed_after unflushed flushed; failed = either_failed r none writes known failed }
 
-    -- the stream ended, and all was written and flushed, or the flush failed
+    -- the stream ended, and all samples were written and flushed, or the flush failed
     pub all_flushed : {end : Option Error} (n : ℕ) (q : R) (r : Result (Unit {0}) Error) {x z w : Output W} → end ≡ None → Decodes contents (Some (stream_with info)) end n (bytes_in source u) (bytes_in source q) x z → NothingFailed x z → IsUnflushed x z
-        → Keeps (held contents z) (held contents w) → waiting w ≡ waiting z → failed_writes_of w ≡ failed_writes_of z → OnOk r (failed_flushes_of w ≡ failed_flushes_of z) → OnErr r (failed_flushes_of w ≡ (failed_flushes_of z + 1) % 2 ^ 64) → IsFlushed z w → IfErr r (λ e. IsIo e)
+        → Keeps (writer_contents contents z) (writer_contents contents w) → pending w ≡ pending z → failed_writes_of w ≡ failed_writes_of z → OnOk r (failed_flushes_of w ≡ failed_flushes_of z) → OnErr r (failed_flushes_of w ≡ (failed_flushes_of z + 1) % 2 ^ 64) → IsFlushed z w → IfErr r (λ e. IsIo e)
         → IfOk (result_and r (Ok n)) (λ n. Decodes contents (Some (stream_with shown)) None n (bytes_in source v) (bytes_in source q) x w × NothingFailed x w × IsFlushed x w)
         × IfErr (result_and r (Ok n)) (λ error. StopsDecoding contents (Some (stream_with shown)) error (bytes_in source v) (bytes_in source q) x w
         ⊎ (FailsToWrite contents (Some (stream_with shown)) error (bytes_in source v) (bytes_in source q) x w ⊎ FailsToFlushAll contents (Some (stream_with shown)) error (bytes_in source v) (bytes_in source q) x w))

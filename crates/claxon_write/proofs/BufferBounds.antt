@@ -1,6 +1,6 @@
--- Bounds on places and their bytes.
+-- The samples that fit in the buffer.
 use Rattle.std.proofs.Common.{ℕ, ◌*◌, ◌≤◌, arith}
 
--- at most 512 places of at most eight channels
+-- at most 512 samples per channel, of at most eight channels
 pub bytes_fit : (count channels : ℕ) → count ≤ 512 → channels ≤ 8 → count * (4 * channels) ≤ 16384
 bytes_fit count channels few small = grind arith

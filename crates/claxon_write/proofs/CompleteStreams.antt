@@ -1,4 +1,4 @@
--- Where the frames of blocks are to come, and then no frame: what was written is known from them.
+-- If the input is the frames of blocks and then no frame, exactly their samples are written.
 use Rattle.std.proofs.Common.{◌≡◌, ◌⊎◌, inl, inr, ℕ, ◌+◌, ◌<◌, ◌≤◌, ◌^◌, true, List, [], ◌∷◌, ◌++◌, length, Option, None, Some, sym, ap, subst, ◌∙◌, arith, length-append}
 use Rattle.std.proofs.lemmas.Grind.{flat_map-append}
 use Rattle.std.specs.Prelude.{IfErr, IfOk, IsErrAnd, Result, Ok, Err}
@@ -18,7 +18,7 @@ use Rattle.claxon_write.specs.declared.output.Output.{Output}
 
 -- ---- excuses
 
--- an Err excuses whatever an Ok would be
+-- an Err is excused for any type of Ok
 excused_as : {A B : Type 0} (a b : State ℕ) (e : Error) → IsExcused (let q : Result A Error = Err e in q) a b → IsExcused (let q : Result B Error = Err e in q) a b
 excused_as a b e (inl m) = inl (let k : e ≡ OutOfMemory = cc in ap (λ (z : Error). Err z) k)
 excused_as a b e (inr f) = inr f
@@ -30,7 +30,7 @@ ok_unexcused a b x (inr f) = f.0
 -- ---- one run of frames
 
 module _ (stream : Option StreamFormat) (width : IsWidth (known_width stream)) where
-  -- the limit isn't met by fewer samples
+  -- fewer samples don't reach the limit
   fewer : (limit p q n : ℕ) → limit ≤ p → n ≡ p + q → n < limit → ⊥
   fewer limit p q n h e l = omega arith
 
@@ -43,7 +43,7 @@ module _ (stream : Option StreamFormat) (width : IsWidth (known_width stream)) w
       fewer (2 ^ 64) (length (samples_of all)) (length (samples_of q.0)) (length (samples_of blocks)) h.many e few
 
   module _ {W : Type 0} (contents : W → Option (List ℕ)) (a b : State ℕ) (x y : Output W) (blocks : List Block) (m : List ℕ) (known : a.known ≡ true) (f : Frames stream a.remaining blocks m) (few : length (samples_of blocks) < 2 ^ 64) where
-    -- a stream that ends there is written to its end
+    -- a stream that ends there is written completely
     pub written_whole : (r : Result ℕ Error) → IfOk r (λ n. Decodes contents stream None n a b x y × NothingFailed x y × IsFlushed x y)
         → IfErr r (λ e. StopsDecoding contents stream e a b x y ⊎ (FailsToWrite contents stream e a b x y ⊎ FailsToFlushAll contents stream e a b x y)) → length m < 2 → (r ≡ Ok (length (samples_of blocks))) ⊎ (IsExcused r a b ⊎ WriterHasFailed r x y)
     written_whole (Ok n) h k short = elim (behind stream width None h.0.blocks blocks m h.0.ends known f (short_no_frame stream m short)) [
@@ -64,7 +64,7 @@ module _ (stream : Option StreamFormat) (width : IsWidth (known_width stream)) w
           ]
         ]
 
-    -- a fault that stands there is named
+    -- a fault there is the result
     pub fault_after_frames : (r : Result ℕ Error) → IfOk r (λ n. Decodes contents stream None n a b x y × NothingFailed x y × IsFlushed x y)
         → IfErr r (λ e. StopsDecoding contents stream e a b x y ⊎ (FailsToWrite contents stream e a b x y ⊎ FailsToFlushAll contents stream e a b x y)) → (fault : Fault) (t rest : List ℕ) → FrameBytesFault stream fault t → m ≡ t ++ rest
         → IsErrAnd r (IsFault fault) ⊎ (IsExcused r a b ⊎ WriteHasFailed r x y)
@@ -76,18 +76,18 @@ module _ (stream : Option StreamFormat) (width : IsWidth (known_width stream)) w
         there : {s : State ℕ} → Remains s m → Remains s (t ++ rest)
         there {s = s} c = subst (λ (z : List ℕ). Remains s z) e c
 
-        -- the end doesn't stand there
-        no_entries_end : {n : ℕ} → Decodes contents stream None n a b x y → ⊥
-        no_entries_end h = elim (behind stream width None h.blocks blocks m h.ends known f none) [
+        -- it is not the end
+        not_eof : {n : ℕ} → Decodes contents stream None n a b x y → ⊥
+        not_eof h = elim (behind stream width None h.blocks blocks m h.ends known f none) [
           | inr z ↦ ok_unexcused a b None z
           | inl p ↦ elim (h.ends.last.promises.named fault t rest bad (there p.1)) [ inl z ↦ z.0 | inr z ↦ ok_unexcused h.ends.between b None z ]
         ]
 
         go : (r : Result ℕ Error) → IfOk r (λ n. Decodes contents stream None n a b x y × NothingFailed x y × IsFlushed x y)
             → IfErr r (λ e. StopsDecoding contents stream e a b x y ⊎ (FailsToWrite contents stream e a b x y ⊎ FailsToFlushAll contents stream e a b x y)) → IsErrAnd r (IsFault fault) ⊎ (IsExcused r a b ⊎ WriteHasFailed r x y)
-        go (Ok n) h k = absurd (no_entries_end h.0)
+        go (Ok n) h k = absurd (not_eof h.0)
         go (Err error) h (inr (inl k)) = inr (inr (k.is_io, k.failed))
-        go (Err error) h (inr (inr k)) = absurd (no_entries_end k.decoded)
+        go (Err error) h (inr (inr k)) = absurd (not_eof k.decoded)
         go (Err error) h (inl k) = elim k.decoded.ends [
           | inr limit ↦ absurd (under_limit k.decoded.blocks blocks m limit known f none few)
           | inl reads ↦ elim (behind stream width (Some error) k.decoded.blocks blocks m reads known f none) [

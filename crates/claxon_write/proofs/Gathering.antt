@@ -18,7 +18,7 @@ use Rattle.claxon.proofs.SamplesInTurn.{reads_as, same_duration}
 use Rattle.claxon.proofs.SampleRuns.{samples_add, takes_none, takes_more}
 use Rattle.claxon_write.specs.Decoded.{IsLimit, Gathers, FailsToWrite, last_bytes}
 use Rattle.claxon_write.specs.SampleBytes.{bytes_of_samples}
-use Rattle.claxon_write.specs.Written.{AppendsAllBut, FailsToPut, IsUnflushed, Puts, capacity, held, waiting}
+use Rattle.claxon_write.specs.Written.{AppendsAllBut, FailsToPut, IsUnflushed, Puts, capacity, writer_contents, pending}
 use Rattle.claxon_write.specs.declared.output.Output.{Output}
 use Rattle.claxon_write.proofs.Puts.{puts_none, puts_both, puts_as, fails_after, fails_close}
 use Rattle.claxon_write.proofs.SampleBytes.{bytes_append}
@@ -29,11 +29,11 @@ pub record GatheredSoFar {W : Type 0} (contents : W → Option (List ℕ)) (stre
   pub count : n ≡ length (samples_of blocks)
   pub puts : Puts contents (bytes_of_samples (samples_of blocks)) before after
 
--- the same where what is known of the stream and the answer have other names
+-- the same for an equal stream and an equal result
 pub reads_with : {stream known : Option StreamFormat} {r q : Result (Option BlockValue) Error} {a b : State ℕ} → stream ≡ known → r ≡ q → ReadsFrame stream r a b → ReadsFrame known q a b
 reads_with {q = q} {a = a} {b = b} e f h = subst (λ (z : Option StreamFormat). ReadsFrame z q a b) e (reads_as f h)
 
--- the loans on the way stay
+-- the reader's loans stay the same
 loans_stay : {A Y : Type 0} (count : ℕ) (view : A → Y) (r : Result (Option A) Error) (read : List ℕ → Reading ℕ Y) (a b : State ℕ) → GivesOrEofOrOutOfMemory count view r read a b → b.loans ≡ a.loans
 loans_stay count view (Ok (Some x)) read a b g = g.loans
 loans_stay count view (Ok None) read a b g = g.loans
@@ -105,7 +105,7 @@ module _ {W : Type 0} {contents : W → Option (List ℕ)} {stream : Option Stre
         unflushed = u;
         blocks = h.blocks ++ block_view block ∷ [];
         takes = inl (takes_more block h.frames k);
-        front = subst (λ (j : ℕ). AppendsAllBut (capacity + j) (held contents x) (held contents z) (waiting x ++ bytes_of_samples (samples_of (h.blocks ++ block_view block ∷ [])))) (sym (last_more h.blocks (block_view block)))
-            (subst (λ (l : List ℕ). AppendsAllBut (capacity + m) (held contents x) (held contents z) (waiting x ++ l)) (more_bytes h.blocks block) close);
+        prefix = subst (λ (j : ℕ). AppendsAllBut (capacity + j) (writer_contents contents x) (writer_contents contents z) (pending x ++ bytes_of_samples (samples_of (h.blocks ++ block_view block ∷ [])))) (sym (last_more h.blocks (block_view block)))
+            (subst (λ (l : List ℕ). AppendsAllBut (capacity + m) (writer_contents contents x) (writer_contents contents z) (pending x ++ l)) (more_bytes h.blocks block) close);
         none_pending = p.none_pending;
       }

@@ -5,6 +5,6 @@ pub mod Gathering
 pub mod Borrowed
 pub mod CompleteStreams
 pub mod Runs
-pub mod Rests
+pub mod RestOfInput
 pub mod SampleBytes
-pub mod Places
+pub mod Interleaving

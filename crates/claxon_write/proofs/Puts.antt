@@ -1,4 +1,4 @@
--- Bytes that are written or wait.
+-- Bytes that were written or are pending.
 use Rattle.std.proofs.Common.{◌≡◌, inr, ℕ, ◌+◌, ◌%◌, ◌^◌, List, [], ◌++◌, length, take, drop, Option, None, Some, refl, sym, ap, subst, ◌∙◌, append_assoc, arith, length-append, ℤ, ◌≤◌}
 use Rattle.std.specs.Prelude.{IfErr, OnOk, OnErr, Result, Ok, Err}
 use Rattle.std.specs.Io.KnownBytes.{Appends, Keeps, append_known}
@@ -7,13 +7,13 @@ use Rattle.std.proofs.lemmas.List.{append-nil, append_cancel_left, take_at, drop
 use Rattle.claxon.specs.Streams.{interleave}
 use Rattle.claxon.specs.Error.{IsIo}
 use Rattle.claxon.specs.Errors.{Error}
-use Rattle.claxon_write.specs.SampleBytes.{bytes_of_samples, places}
+use Rattle.claxon_write.specs.SampleBytes.{bytes_of_samples, interleave_range}
 use Rattle.claxon_write.proofs.SampleBytes.{range_all}
 use Rattle.claxon_write.specs.Output.{FlushFaultIsSound, FlushIsSound}
-use Rattle.claxon_write.specs.Written.{AppendsAllBut, AppendsPrefix, FailsToPut, FlushFailed, IsFlushed, IsUnflushed, NothingFailed, Puts, WriteFailed, capacity, failed_flushes_of, failed_writes_of, held, contents_with_pending, waiting}
+use Rattle.claxon_write.specs.Written.{AppendsAllBut, AppendsPrefix, FailsToPut, FlushFailed, IsFlushed, IsUnflushed, NothingFailed, Puts, WriteFailed, capacity, failed_flushes_of, failed_writes_of, writer_contents, contents_with_pending, pending}
 use Rattle.claxon.specs.Block.{duration_of}
 use Rattle.claxon.proofs.SamplesInTurn.{same_duration}
-use Rattle.claxon_write.specs.declared.output.Counted.{Counted}
+use Rattle.claxon_write.specs.declared.output.CountingWriter.{CountingWriter}
 use Rattle.claxon_write.specs.declared.output.Output.{Output}
 
 pub appends_nothing : (o : Option (List ℕ)) → Appends o o []
@@ -26,11 +26,11 @@ appends_keeps (Some x) None c xs h k = absurd h
 appends_keeps (Some x) (Some y) None xs h k = absurd k
 appends_keeps (Some x) (Some y) (Some z) xs h k = k ∙ h
 
--- a front was written before the failure
+-- a prefix was written before the failure
 pub prefix_kept : (a b c : Option (List ℕ)) (at : ℕ) (xs : List ℕ) → Appends a b (take at xs) → Keeps b c → AppendsPrefix a c xs
 prefix_kept a b c at xs h k = (at, appends_keeps a b c (take at xs) h k)
 
--- all is a front
+-- all bytes are a prefix
 pub prefix_all : (a b : Option (List ℕ)) (xs : List ℕ) → Appends a b xs → AppendsPrefix a b xs
 prefix_all a b xs h = (length xs, subst (λ (z : List ℕ). Appends a b z) (sym (take_all (length xs) xs (omega arith))) h)
 
@@ -42,26 +42,26 @@ prefix_of_kept None b xs k = (0, tt)
 prefix_of_kept (Some x) None xs k = absurd k
 prefix_of_kept (Some x) (Some y) xs k = (0, k ∙ sym (append-nil x))
 
--- ---- what waits
+-- ---- pending bytes
 
--- more waits
+-- more bytes are pending
 pub more_pending : (a : Option (List ℕ)) (w bytes : List ℕ) → Appends (append_known a w) (append_known a (w ++ bytes)) bytes
 more_pending None w bytes = tt
 more_pending (Some x) w bytes = sym (append_assoc x w bytes)
 
--- what waited was written
+-- the pending bytes were written
 pub pending_written : (a b : Option (List ℕ)) (w : List ℕ) → Appends a b w → Appends (append_known a w) (append_known b []) []
 pending_written None b w h = tt
 pending_written (Some x) None w h = absurd h
 pending_written (Some x) (Some y) w h = ap (λ (z : List ℕ). z ++ []) h
 
--- where none waits, what is held is all
+-- with nothing pending the contents are all bytes
 pub contents_alone : (a b : Option (List ℕ)) (w bytes : List ℕ) → w ≡ [] → Appends a (append_known b w) bytes → Appends a b bytes
 contents_alone None b w bytes e h = tt
 contents_alone (Some x) None w bytes e h = absurd h
 contents_alone (Some x) (Some y) w bytes e h = (let k = rw e at h in sym (append-nil y) ∙ k)
 
--- what waited and was put is what was written and waits
+-- bytes pending before and bytes put are the bytes written and those pending now
 whole : (x y wa wb xs ys : List ℕ) (j : ℕ) → y ≡ x ++ take j (wa ++ xs) → y ++ wb ≡ (x ++ wa) ++ xs → wa ++ (xs ++ ys) ≡ take j (wa ++ xs) ++ (wb ++ ys)
 whole x y wa wb xs ys j f e =
     let p = take j (wa ++ xs) in
@@ -69,8 +69,8 @@ whole x y wa wb xs ys j f e =
     let same : p ++ wb ≡ wa ++ xs = append_cancel_left x (p ++ wb) (wa ++ xs) both in
     sym (append_assoc wa xs ys) ∙ ap (λ (t : List ℕ). t ++ ys) (sym same) ∙ append_assoc p wb ys
 
-fronts : (x y z wa wb xs ys : List ℕ) (j k : ℕ) → y ≡ x ++ take j (wa ++ xs) → y ++ wb ≡ (x ++ wa) ++ xs → z ≡ y ++ take k (wb ++ ys) → z ≡ x ++ take (length (take j (wa ++ xs)) + k) (wa ++ (xs ++ ys))
-fronts x y z wa wb xs ys j k f e g =
+prefixes : (x y z wa wb xs ys : List ℕ) (j k : ℕ) → y ≡ x ++ take j (wa ++ xs) → y ++ wb ≡ (x ++ wa) ++ xs → z ≡ y ++ take k (wb ++ ys) → z ≡ x ++ take (length (take j (wa ++ xs)) + k) (wa ++ (xs ++ ys))
+prefixes x y z wa wb xs ys j k f e g =
     let p = take j (wa ++ xs) in
     let cut : take (length p + k) (p ++ (wb ++ ys)) ≡ p ++ take k (wb ++ ys) = take-add (length p) k (p ++ (wb ++ ys)) ∙ (rw (take_at p (wb ++ ys) (length p) refl, drop_at p (wb ++ ys) (length p) refl) refl) in
     g ∙ ap (λ (t : List ℕ). t ++ take k (wb ++ ys)) f ∙ append_assoc x p (take k (wb ++ ys)) ∙ ap (λ (t : List ℕ). x ++ t) (sym cut ∙ ap (take (length p + k)) (sym (whole x y wa wb xs ys j f e)))
@@ -78,13 +78,13 @@ fronts x y z wa wb xs ys j k f e g =
 few_missing : (s p t : List ℕ) (k m : ℕ) → s ≡ p ++ t → length t ≤ k + m → length s ≤ length p + k + m
 few_missing s p t k m e le = let l : length s ≡ length p + length t = ap length e ∙ length-append p t in omega arith
 
--- no more are missing than of what waited and was put last
+-- at most those pending and those put last are missing
 prefix_close : (a b c : Option (List ℕ)) (wa wb xs ys : List ℕ) (m : ℕ) → AppendsPrefix a b (wa ++ xs) → Appends (append_known a wa) (append_known b wb) xs → AppendsAllBut m b c (wb ++ ys) → AppendsAllBut m a c (wa ++ (xs ++ ys))
 prefix_close None b c wa wb xs ys m f e g = (length (wa ++ (xs ++ ys)), tt, omega arith)
 prefix_close (Some x) None c wa wb xs ys m f e g = absurd e
 prefix_close (Some x) (Some y) None wa wb xs ys m f e g = absurd g.1
 prefix_close (Some x) (Some y) (Some z) wa wb xs ys m f e g =
-    (length (take f.0 (wa ++ xs)) + g.0, fronts x y z wa wb xs ys f.0 g.0 f.1 e g.1, few_missing (wa ++ (xs ++ ys)) (take f.0 (wa ++ xs)) (wb ++ ys) g.0 m (whole x y wa wb xs ys f.0 f.1 e) g.2)
+    (length (take f.0 (wa ++ xs)) + g.0, prefixes x y z wa wb xs ys f.0 g.0 f.1 e g.1, few_missing (wa ++ (xs ++ ys)) (take f.0 (wa ++ xs)) (wb ++ ys) g.0 m (whole x y wa wb xs ys f.0 f.1 e) g.2)
 
 pub fewer : (m n : ℕ) (a b : Option (List ℕ)) (bytes : List ℕ) → m ≤ n → AppendsAllBut m a b bytes → AppendsAllBut n a b bytes
 fewer m n a b bytes le h = let l : length bytes ≤ h.0 + m = h.2 in (h.0, h.1, omega arith)
@@ -93,7 +93,7 @@ pub prefix_both : (a b c : Option (List ℕ)) (wa wb xs ys : List ℕ) → Appen
 prefix_both None b c wa wb xs ys f e g = (0, tt)
 prefix_both (Some x) None c wa wb xs ys f e g = absurd e
 prefix_both (Some x) (Some y) None wa wb xs ys f e g = absurd g.1
-prefix_both (Some x) (Some y) (Some z) wa wb xs ys f e g = (length (take f.0 (wa ++ xs)) + g.0, fronts x y z wa wb xs ys f.0 g.0 f.1 e g.1)
+prefix_both (Some x) (Some y) (Some z) wa wb xs ys f e g = (length (take f.0 (wa ++ xs)) + g.0, prefixes x y z wa wb xs ys f.0 g.0 f.1 e g.1)
 
 appends_both : (a b c : Option (List ℕ)) (xs ys : List ℕ) → Appends a b xs → Appends b c ys → Appends a c (xs ++ ys)
 appends_both None b c xs ys h k = tt
@@ -101,11 +101,11 @@ appends_both (Some x) None c xs ys h k = absurd h
 appends_both (Some x) (Some y) None xs ys h k = absurd k
 appends_both (Some x) (Some y) (Some z) xs ys h k = k ∙ (ap (λ t. t ++ ys) h ∙ append_assoc x xs ys)
 
--- a list is a front of it and what is behind
+-- a list is a prefix of it and the rest
 take_parts : (k : ℕ) (s : List ℕ) → s ≡ take k s ++ drop k s
 take_parts k s = sym (take-append-drop k s)
 
--- ---- what failed, and flushes
+-- ---- failures and flushes
 
 module _ {W : Type 0} where
   pub none_failed : (a : Output W) → NothingFailed a a
@@ -127,11 +127,11 @@ module _ {W : Type 0} where
 
 module _ {W : Type 0} {contents : W → Option (List ℕ)} where
   pub puts_none : (a : Output W) → Puts contents [] a a
-  puts_none a = record { front = prefix_none (held contents a) (waiting a ++ []); bytes_are = appends_nothing (contents_with_pending contents a); nothing_failed = none_failed a }
+  puts_none a = record { prefix = prefix_none (writer_contents contents a) (pending a ++ []); bytes_are = appends_nothing (contents_with_pending contents a); nothing_failed = none_failed a }
 
   pub puts_both : {xs ys : List ℕ} {a b c : Output W} → Puts contents xs a b → Puts contents ys b c → Puts contents (xs ++ ys) a c
   puts_both {xs = xs} {ys = ys} {a = a} {b = b} {c = c} h k = record {
-    front = prefix_both (held contents a) (held contents b) (held contents c) (waiting a) (waiting b) xs ys h.front h.bytes_are k.front;
+    prefix = prefix_both (writer_contents contents a) (writer_contents contents b) (writer_contents contents c) (pending a) (pending b) xs ys h.prefix h.bytes_are k.prefix;
     bytes_are = appends_both (contents_with_pending contents a) (contents_with_pending contents b) (contents_with_pending contents c) xs ys h.bytes_are k.bytes_are;
     nothing_failed = none_failed_both h.nothing_failed k.nothing_failed;
   }
@@ -139,35 +139,35 @@ module _ {W : Type 0} {contents : W → Option (List ℕ)} where
   pub puts_as : {xs ys : List ℕ} {a b : Output W} → xs ≡ ys → Puts contents xs a b → Puts contents ys a b
   puts_as {a = a} {b = b} e h = subst (λ (z : List ℕ). Puts contents z a b) e h
 
-  -- after such bytes were put no more are missing than wait at most and those that were put last
-  pub fails_close : {xs ys : List ℕ} {error : Error} {a b c : Output W} → Puts contents xs a b → FailsToPut contents ys error b c → AppendsAllBut (capacity + length ys) (held contents a) (held contents c) (waiting a ++ (xs ++ ys))
-  fails_close {xs = xs} {ys = ys} {a = a} {b = b} {c = c} h k = prefix_close (held contents a) (held contents b) (held contents c) (waiting a) (waiting b) xs ys (capacity + length ys) h.front h.bytes_are k.front
+  -- at most the capacity and the bytes put last are missing
+  pub fails_close : {xs ys : List ℕ} {error : Error} {a b c : Output W} → Puts contents xs a b → FailsToPut contents ys error b c → AppendsAllBut (capacity + length ys) (writer_contents contents a) (writer_contents contents c) (pending a ++ (xs ++ ys))
+  fails_close {xs = xs} {ys = ys} {a = a} {b = b} {c = c} h k = prefix_close (writer_contents contents a) (writer_contents contents b) (writer_contents contents c) (pending a) (pending b) xs ys (capacity + length ys) h.prefix h.bytes_are k.prefix
 
   pub fails_after : {xs ys : List ℕ} {error : Error} {a b c : Output W} → Puts contents xs a b → FailsToPut contents ys error b c → FailsToPut contents (xs ++ ys) error a c
   fails_after {xs = xs} {ys = ys} {a = a} {b = b} {c = c} h k = record {
     is_io = k.is_io;
     failed = write_failed_after h.nothing_failed k.failed;
-    front = fewer (capacity + length ys) (capacity + length (xs ++ ys)) (held contents a) (held contents c) (waiting a ++ (xs ++ ys)) (omega (arith, length-append xs ys)) (fails_close h k);
+    prefix = fewer (capacity + length ys) (capacity + length (xs ++ ys)) (writer_contents contents a) (writer_contents contents c) (pending a ++ (xs ++ ys)) (omega (arith, length-append xs ys)) (fails_close h k);
     none_pending = k.none_pending;
   }
 
   pub fails_as : {xs ys : List ℕ} {error : Error} {a b : Output W} → xs ≡ ys → FailsToPut contents xs error a b → FailsToPut contents ys error a b
   fails_as {error = error} {a = a} {b = b} e h = subst (λ (z : List ℕ). FailsToPut contents z error a b) e h
 
-  -- what was asked for is more than what failed
+  -- a failure to put a prefix is a failure to put all
   pub fails_more : {xs : List ℕ} (ys : List ℕ) {error : Error} {a b : Output W} → FailsToPut contents xs error a b → FailsToPut contents (xs ++ ys) error a b
   fails_more {xs = xs} ys {a = a} {b = b} h = record {
     is_io = h.is_io;
     failed = h.failed;
-    front = fewer (capacity + length xs + length ys) (capacity + length (xs ++ ys)) (held contents a) (held contents b) (waiting a ++ (xs ++ ys)) (omega (arith, length-append xs ys)) (longer (held contents a) (held contents b) (waiting a) xs ys (capacity + length xs) h.front);
+    prefix = fewer (capacity + length xs + length ys) (capacity + length (xs ++ ys)) (writer_contents contents a) (writer_contents contents b) (pending a ++ (xs ++ ys)) (omega (arith, length-append xs ys)) (longer (writer_contents contents a) (writer_contents contents b) (pending a) xs ys (capacity + length xs) h.prefix);
     none_pending = h.none_pending;
   }
     where
       longer : (p q : Option (List ℕ)) (w xs ys : List ℕ) (m : ℕ) → AppendsAllBut m p q (w ++ xs) → AppendsAllBut (m + length ys) p q (w ++ (xs ++ ys))
       longer p q w xs ys m f =
-          let front : List ℕ = take f.0 (w ++ xs) in
+          let prefix : List ℕ = take f.0 (w ++ xs) in
           let l : length (w ++ xs) ≤ f.0 + m = f.2 in
-          (length front, subst (λ (z : List ℕ). Appends p q z) (cut (w ++ xs) ys f.0 ∙ ap (take (length front)) (append_assoc w xs ys)) f.1, missing (w ++ xs) ys (w ++ (xs ++ ys)) f.0 m (append_assoc w xs ys) l)
+          (length prefix, subst (λ (z : List ℕ). Appends p q z) (cut (w ++ xs) ys f.0 ∙ ap (take (length prefix)) (append_assoc w xs ys)) f.1, missing (w ++ xs) ys (w ++ (xs ++ ys)) f.0 m (append_assoc w xs ys) l)
         where
           missing : (s t u : List ℕ) (k m : ℕ) → s ++ t ≡ u → length s ≤ k + m → length u ≤ length (take k s) + (m + length t)
           missing s t u k m e le = let l : length u ≡ length s + length t = sym (ap length e) ∙ length-append s t in omega (arith, length-take k s)
@@ -182,47 +182,47 @@ still_pending None q w k = tt
 still_pending (Some x) None w k = absurd k
 still_pending (Some x) (Some y) w k = ap (λ (z : List ℕ). z ++ w) k ∙ sym (append-nil (x ++ w))
 
--- ---- what the calls of the writer did
+-- ---- the calls of the writer
 
 module _ {W : Type 0} (contents : W → Option (List ℕ)) where
-  pub gathered_ok : (r : Result (Unit {0}) Error) (a b : Output W) (bytes : List ℕ) → bytes ≡ waiting a → waiting b ≡ [] → OnOk r (Appends (held contents a) (held contents b) bytes) → OnOk r (failed_writes_of b ≡ failed_writes_of a)
+  pub gathered_ok : (r : Result (Unit {0}) Error) (a b : Output W) (bytes : List ℕ) → bytes ≡ pending a → pending b ≡ [] → OnOk r (Appends (writer_contents contents a) (writer_contents contents b) bytes) → OnOk r (failed_writes_of b ≡ failed_writes_of a)
       → failed_flushes_of b ≡ failed_flushes_of a → OnOk r (Puts contents [] a b)
   gathered_ok (Err e) a b bytes same none h k l = tt
   gathered_ok (Ok x) a b bytes same none h k l =
-      let w : Appends (held contents a) (held contents b) (waiting a) = subst (λ (z : List ℕ). Appends (held contents a) (held contents b) z) same h in
+      let w : Appends (writer_contents contents a) (writer_contents contents b) (pending a) = subst (λ (z : List ℕ). Appends (writer_contents contents a) (writer_contents contents b) z) same h in
       record {
-        front = subst (λ (z : List ℕ). AppendsPrefix (held contents a) (held contents b) z) (sym (append-nil (waiting a))) (prefix_all (held contents a) (held contents b) (waiting a) w);
-        bytes_are = subst (λ (z : List ℕ). Appends (contents_with_pending contents a) (append_known (held contents b) z) []) (sym none) (pending_written (held contents a) (held contents b) (waiting a) w);
+        prefix = subst (λ (z : List ℕ). AppendsPrefix (writer_contents contents a) (writer_contents contents b) z) (sym (append-nil (pending a))) (prefix_all (writer_contents contents a) (writer_contents contents b) (pending a) w);
+        bytes_are = subst (λ (z : List ℕ). Appends (contents_with_pending contents a) (append_known (writer_contents contents b) z) []) (sym none) (pending_written (writer_contents contents a) (writer_contents contents b) (pending a) w);
         nothing_failed = record { writes = k; flushes = l };
       }
 
-  pub gathered_err : (r : Result (Unit {0}) Error) (a b : Output W) (bytes : List ℕ) → bytes ≡ waiting a → waiting b ≡ [] → IfErr r (λ e. IsIo e) → OnErr r (AppendsPrefix (held contents a) (held contents b) bytes)
+  pub gathered_err : (r : Result (Unit {0}) Error) (a b : Output W) (bytes : List ℕ) → bytes ≡ pending a → pending b ≡ [] → IfErr r (λ e. IsIo e) → OnErr r (AppendsPrefix (writer_contents contents a) (writer_contents contents b) bytes)
       → OnErr r (failed_writes_of b ≡ (failed_writes_of a + 1) % 2 ^ 64) → failed_flushes_of b ≡ failed_flushes_of a → length bytes ≤ capacity → IfErr r (λ e. FailsToPut contents [] e a b)
   gathered_err (Ok x) a b bytes same none i h k l few = tt
   gathered_err (Err e) a b bytes same none i h k l few = record {
     is_io = i;
     failed = record { writes = k; flushes = l };
-    front = subst (λ (z : List ℕ). AppendsAllBut (capacity + 0) (held contents a) (held contents b) z) (same ∙ sym (append-nil (waiting a))) (h.0, h.1, omega arith);
+    prefix = subst (λ (z : List ℕ). AppendsAllBut (capacity + 0) (writer_contents contents a) (writer_contents contents b) z) (same ∙ sym (append-nil (pending a))) (h.0, h.1, omega arith);
     none_pending = none;
   }
 
-  -- all that waited was written, and then the writer was flushed
-  module _ (r : Result (Unit {0}) Error) (a b c : Output W) (h : Puts contents [] a b) (u : IsUnflushed a b) (k : Keeps (held contents b) (held contents c)) (writes : failed_writes_of c ≡ failed_writes_of b) (f : IsFlushed b c) where
-    pub flushed_ok : waiting c ≡ waiting b → OnOk r (failed_flushes_of c ≡ failed_flushes_of b) → FlushIsSound contents r a c
+  -- all pending bytes were written, and then the writer was flushed
+  module _ (r : Result (Unit {0}) Error) (a b c : Output W) (h : Puts contents [] a b) (u : IsUnflushed a b) (k : Keeps (writer_contents contents b) (writer_contents contents c)) (writes : failed_writes_of c ≡ failed_writes_of b) (f : IsFlushed b c) where
+    pub flushed_ok : pending c ≡ pending b → OnOk r (failed_flushes_of c ≡ failed_flushes_of b) → FlushIsSound contents r a c
     flushed_ok w t = go r t
       where
         go : (r : Result (Unit {0}) Error) → OnOk r (failed_flushes_of c ≡ failed_flushes_of b) → FlushIsSound contents r a c
         go (Err e) t = tt
         go (Ok x) t = (
           puts_both h (record {
-            front = prefix_of_kept (held contents b) (held contents c) (waiting b ++ []) k;
-            bytes_are = subst (λ (z : List ℕ). Appends (contents_with_pending contents b) (append_known (held contents c) z) []) (sym w) (still_pending (held contents b) (held contents c) (waiting b) k);
+            prefix = prefix_of_kept (writer_contents contents b) (writer_contents contents c) (pending b ++ []) k;
+            bytes_are = subst (λ (z : List ℕ). Appends (contents_with_pending contents b) (append_known (writer_contents contents c) z) []) (sym w) (still_pending (writer_contents contents b) (writer_contents contents c) (pending b) k);
             nothing_failed = record { writes = writes; flushes = t };
           }),
           flushed_after u f,
         )
 
-    pub flushed_err : waiting b ≡ [] → waiting c ≡ [] → IfErr r (λ e. IsIo e) → OnErr r (failed_flushes_of c ≡ (failed_flushes_of b + 1) % 2 ^ 64) → FlushFaultIsSound contents r a c
+    pub flushed_err : pending b ≡ [] → pending c ≡ [] → IfErr r (λ e. IsIo e) → OnErr r (failed_flushes_of c ≡ (failed_flushes_of b + 1) % 2 ^ 64) → FlushFaultIsSound contents r a c
     flushed_err none w i t = go r i t
       where
         go : (r : Result (Unit {0}) Error) → IfErr r (λ e. IsIo e) → OnErr r (failed_flushes_of c ≡ (failed_flushes_of b + 1) % 2 ^ 64) → FlushFaultIsSound contents r a c
@@ -231,21 +231,21 @@ module _ {W : Type 0} (contents : W → Option (List ℕ)) where
           is_io = i;
           failed = flush_failed_after h.nothing_failed (record { writes = writes; flushes = t });
           flushed = flushed_after u f;
-          written = appends_keeps (contents_with_pending contents a) (held contents b) (held contents c) [] (contents_alone (contents_with_pending contents a) (held contents b) (waiting b) [] none h.bytes_are) k;
+          written = appends_keeps (contents_with_pending contents a) (writer_contents contents b) (writer_contents contents c) [] (contents_alone (contents_with_pending contents a) (writer_contents contents b) (pending b) [] none h.bytes_are) k;
           none_pending = w;
         })
 
-  -- more bytes wait, and the writer was left alone
-  pub puts_pending : (a b : Output W) (bytes : List ℕ) → b.writer ≡ a.writer → waiting b ≡ waiting a ++ bytes → Puts contents bytes a b
+  -- more bytes are pending, and the writer was not called
+  pub puts_pending : (a b : Output W) (bytes : List ℕ) → b.writer ≡ a.writer → pending b ≡ pending a ++ bytes → Puts contents bytes a b
   puts_pending a b bytes same more =
-      let h : held contents b ≡ held contents a = ap (λ (w : Counted W). contents w.inner.now) same in
+      let h : writer_contents contents b ≡ writer_contents contents a = ap (λ (w : CountingWriter W). contents w.inner.now) same in
       record {
-        front = subst (λ (o : Option (List ℕ)). AppendsPrefix (held contents a) o (waiting a ++ bytes)) (sym h) (prefix_none (held contents a) (waiting a ++ bytes));
-        bytes_are = rw (h, more) (more_pending (held contents a) (waiting a) bytes);
-        nothing_failed = record { writes = ap (λ (w : Counted W). w.failed_writes) same; flushes = ap (λ (w : Counted W). w.failed_flushes) same };
+        prefix = subst (λ (o : Option (List ℕ)). AppendsPrefix (writer_contents contents a) o (pending a ++ bytes)) (sym h) (prefix_none (writer_contents contents a) (pending a ++ bytes));
+        bytes_are = rw (h, more) (more_pending (writer_contents contents a) (pending a) bytes);
+        nothing_failed = record { writes = ap (λ (w : CountingWriter W). w.failed_writes) same; flushes = ap (λ (w : CountingWriter W). w.failed_flushes) same };
       }
 
 -- ---- samples as bytes
 
-pub bytes_all : (channels : List (List ℤ)) (n : ℕ) → n ≡ duration_of channels → bytes_of_samples (places channels 0 n) ≡ bytes_of_samples (interleave channels)
-bytes_all channels n e = ap (λ (j : ℕ). bytes_of_samples (places channels 0 j)) (e ∙ sym (same_duration channels)) ∙ ap bytes_of_samples (range_all channels)
+pub bytes_all : (channels : List (List ℤ)) (n : ℕ) → n ≡ duration_of channels → bytes_of_samples (interleave_range channels 0 n) ≡ bytes_of_samples (interleave channels)
+bytes_all channels n e = ap (λ (j : ℕ). bytes_of_samples (interleave_range channels 0 j)) (e ∙ sym (same_duration channels)) ∙ ap bytes_of_samples (range_all channels)

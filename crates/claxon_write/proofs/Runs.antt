@@ -1,4 +1,4 @@
--- A whole run: a head, the frames of blocks, and what stands behind them.
+-- A whole run: a head, the frames of blocks, and what follows them.
 use Rattle.std.proofs.Common.{◌≡◌, ◌⊎◌, inl, inr, ℕ, true, List, [], ◌∷◌, ◌++◌, Option, None, Some, refl, sym, ap, subst, ◌∙◌, append-nil}
 use Rattle.std.specs.Prelude.{IfErr, IfOk, Result, Ok, Err}
 use Rattle.std.specs.Io.KnownBytes.{Appends, append_known}
@@ -21,11 +21,11 @@ use Rattle.claxon_write.specs.SampleBytes.{bytes_of_samples}
 use Rattle.claxon_write.specs.Decoded.{Decodes, EndsAfter, FailsToFlushAll, FailsToWrite, StopsDecoding, TakesBlocks, TooManySamples}
 use Rattle.claxon_write.specs.Run.{DecoderStops, HasFrameFault, IsHeadAndFrames, ReachesLimit, RunWritesAll, RunFaultIsComplete, RunIsComplete, StopsAfterFrames, RunStopsEarly, WritesPrefixOfSamples, WritesPrefixAtMost}
 use Rattle.claxon_write.specs.WriteSamples.{StreamFaultIsComplete, StreamIsComplete}
-use Rattle.claxon_write.specs.Written.{AppendsPrefix, IsFlushed, NothingFailed, held, waiting}
+use Rattle.claxon_write.specs.Written.{AppendsPrefix, IsFlushed, NothingFailed, writer_contents, pending}
 use Rattle.claxon_write.specs.declared.output.Output.{Output}
 use Rattle.claxon_write.proofs.Puts.{prefix_all}
 
--- ---- the frames that stand in front
+-- ---- the frames at the start
 
 frames_split : (stream : Option StreamFormat) (blocks : List Block) (b : Block) (s m : List ℕ) → Frames stream s (blocks ++ b ∷ []) m → (r : List ℕ) × Frames stream s blocks r × ((t : List ℕ) × Frame stream b t × (r ≡ t ++ m))
 frames_split stream [] b s m h = (s, refl, (h.0, h.2, h.3 ∙ ap (λ (z : List ℕ). h.0 ++ z) h.4))
@@ -48,26 +48,26 @@ nothing_pending (Some s) (Some t) w bytes e h = h ∙ ap (λ (z : List ℕ). z +
 io_not_memory : (e : Error) → IsIo e → e ≡ OutOfMemory → ⊥
 io_not_memory e i m = let q : is_io OutOfMemory ≡ true = subst IsIo m i in cc
 
--- ---- behind a head that was taken
+-- ---- after the head
 
--- `x` is the output at first, in which nothing waits, and the writer holds `o`
-module _ {W : Type 0} (contents : W → Option (List ℕ)) (h : Head) (s a b : State ℕ) (o : Option (List ℕ)) (x y : Output W) (head : Consumed s a (HeadCode (with_samples true) h)) (is : held contents x ≡ o) (none : waiting x ≡ []) where
-  stands : (blocks : List Block) (rest : List ℕ) → s.known ≡ true → Frames (Some (stream_of h.info)) a.remaining blocks rest → IsHeadAndFrames s.remaining h blocks rest
-  stands blocks rest known f = let k = (head known).1 in record { front = k.0; frames = a.remaining; code = k.1; joined = k.2; blocks_are = f }
+-- `x` is the output at the start, with nothing pending, and the writer has the contents `o`
+module _ {W : Type 0} (contents : W → Option (List ℕ)) (h : Head) (s a b : State ℕ) (o : Option (List ℕ)) (x y : Output W) (head : Consumed s a (HeadCode (with_samples true) h)) (is : writer_contents contents x ≡ o) (none : pending x ≡ []) where
+  input_is : (blocks : List Block) (rest : List ℕ) → s.known ≡ true → Frames (Some (stream_of h.info)) a.remaining blocks rest → IsHeadAndFrames s.remaining h blocks rest
+  input_is blocks rest known f = let k = (head known).1 in record { prefix = k.0; frames = a.remaining; code = k.1; joined = k.2; blocks_are = f }
 
-  all_written : {end : Option Error} {n : ℕ} (d : Decodes contents (Some (stream_of h.info)) end n a b x y) → Appends o (held contents y) (bytes_of_samples (samples_of d.blocks))
-  all_written d = subst (λ (z : Option (List ℕ)). Appends z (held contents y) (bytes_of_samples (samples_of d.blocks))) is (nothing_pending (held contents x) (held contents y) (waiting x) (bytes_of_samples (samples_of d.blocks)) none d.written)
+  all_written : {end : Option Error} {n : ℕ} (d : Decodes contents (Some (stream_of h.info)) end n a b x y) → Appends o (writer_contents contents y) (bytes_of_samples (samples_of d.blocks))
+  all_written d = subst (λ (z : Option (List ℕ)). Appends z (writer_contents contents y) (bytes_of_samples (samples_of d.blocks))) is (nothing_pending (writer_contents contents x) (writer_contents contents y) (pending x) (bytes_of_samples (samples_of d.blocks)) none d.written)
 
-  pub ran : (r : Result ℕ Error) → IfOk r (λ n. Decodes contents (Some (stream_of h.info)) None n a b x y × NothingFailed x y × IsFlushed x y) → IfOk r (λ n. RunWritesAll n s o (held contents y))
+  pub ran : (r : Result ℕ Error) → IfOk r (λ n. Decodes contents (Some (stream_of h.info)) None n a b x y × NothingFailed x y × IsFlushed x y) → IfOk r (λ n. RunWritesAll n s o (writer_contents contents y))
   ran (Err e) d = tt
   ran (Ok n) d = record {
     blocks = d.0.blocks;
     count = d.0.count;
     written = all_written d.0;
-    stands = λ t.
+    input_is = λ t.
         let w = d.0.ends.blocks_are.consumed.known (head t).0 in
         let few = (d.0.ends.last.promises.at_end refl w.known).0 in
-        (h, d.0.ends.between.remaining, stands d.0.blocks d.0.ends.between.remaining t w.is, few);
+        (h, d.0.ends.between.remaining, input_is d.0.blocks d.0.ends.between.remaining t w.is, few);
   }
 
   -- ---- an Err
@@ -76,25 +76,25 @@ module _ {W : Type 0} (contents : W → Option (List ℕ)) (h : Head) (s a b : S
   Stopped e = StopsDecoding contents (Some (stream_of h.info)) e a b x y ⊎ (FailsToWrite contents (Some (stream_of h.info)) e a b x y ⊎ FailsToFlushAll contents (Some (stream_of h.info)) e a b x y)
 
   module _ {e : Error} {n : ℕ} (d : Decodes contents (Some (stream_of h.info)) (Some e) n a b x y) where
-    behind : (rest : List ℕ) → s.known ≡ true → Frames (Some (stream_of h.info)) a.remaining d.blocks rest → ReachesLimit h d.blocks e rest ⊎ HasFrameFault h e rest → StopsAfterFrames e s o (held contents y)
-    behind rest known f stops = record { blocks = d.blocks; head = h; rest = rest; stands = stands d.blocks rest known f; stops = stops; written = all_written d }
+    after_frames : (rest : List ℕ) → s.known ≡ true → Frames (Some (stream_of h.info)) a.remaining d.blocks rest → ReachesLimit h d.blocks e rest ⊎ HasFrameFault h e rest → StopsAfterFrames e s o (writer_contents contents y)
+    after_frames rest known f stops = record { blocks = d.blocks; head = h; rest = rest; input_is = input_is d.blocks rest known f; stops = stops; written = all_written d }
 
-    at_limit : TooManySamples (Some (stream_of h.info)) d.blocks e a b → DecoderStops e s o (held contents y)
+    at_limit : TooManySamples (Some (stream_of h.info)) d.blocks e a b → DecoderStops e s o (writer_contents contents y)
     at_limit limit known =
         let k = frames_split (Some (stream_of h.info)) d.blocks limit.last a.remaining b.remaining (limit.frames.consumed.known (head known).0).is in
-        inr (behind k.0 known k.1 (inl (record { is_limit = limit.is_limit; last = limit.last; front = k.2.0; rest = b.remaining; frame = k.2.1; joined = k.2.2; many = limit.many })))
+        inr (after_frames k.0 known k.1 (inl (record { is_limit = limit.is_limit; last = limit.last; prefix = k.2.0; rest = b.remaining; frame = k.2.1; joined = k.2.2; many = limit.many })))
 
-    at_fault : (mid : State ℕ) → Consumes a mid (λ p m. Frames (Some (stream_of h.info)) p d.blocks m) → (mid.known ≡ true → (f : Fault) × IsFault f e × Consumed mid b (FrameBytesFault (Some (stream_of h.info)) f)) → DecoderStops e s o (held contents y)
+    at_fault : (mid : State ℕ) → Consumes a mid (λ p m. Frames (Some (stream_of h.info)) p d.blocks m) → (mid.known ≡ true → (f : Fault) × IsFault f e × Consumed mid b (FrameBytesFault (Some (stream_of h.info)) f)) → DecoderStops e s o (writer_contents contents y)
     at_fault mid consumed bad known =
         let w = consumed.known (head known).0 in
         let f = bad w.known in
         let t = (f.2 w.known).1 in
-        inr (behind mid.remaining known w.is (inr (record { fault = f.0; named = f.1; front = t.0; rest = b.remaining; bad = t.1; joined = t.2 })))
+        inr (after_frames mid.remaining known w.is (inr (record { fault = f.0; named = f.1; prefix = t.0; rest = b.remaining; bad = t.1; joined = t.2 })))
 
-    decoder_stops : (e ≡ OutOfMemory) ⊎ (IsIo e ⊎ DecoderStops e s o (held contents y))
+    decoder_stops : (e ≡ OutOfMemory) ⊎ (IsIo e ⊎ DecoderStops e s o (writer_contents contents y))
     decoder_stops = go d.ends
       where
-        go : EndsAfter (Some (stream_of h.info)) d.blocks (Some e) a b → (e ≡ OutOfMemory) ⊎ (IsIo e ⊎ DecoderStops e s o (held contents y))
+        go : EndsAfter (Some (stream_of h.info)) d.blocks (Some e) a b → (e ≡ OutOfMemory) ⊎ (IsIo e ⊎ DecoderStops e s o (writer_contents contents y))
         go (inr limit) = inr (inr (at_limit limit))
         go (inl reads) = elim reads.last.promises.fault [
           | inl m ↦ inl m
@@ -102,18 +102,18 @@ module _ {W : Type 0} (contents : W → Option (List ℕ)) (h : Head) (s a b : S
           | inr (inr bad) ↦ inr (inr (at_fault reads.between reads.blocks_are.consumed bad))
         ]
 
-  pub stopped : (r : Result ℕ Error) → IfErr r (λ e. Stopped e) → IfErr r (λ e. RunStopsEarly e s o (held contents y))
+  pub stopped : (r : Result ℕ Error) → IfErr r (λ e. Stopped e) → IfErr r (λ e. RunStopsEarly e s o (writer_contents contents y))
   stopped (Ok n) k = tt
   stopped (Err e) (inl k) = record { why = decoder_stops k.decoded }
   stopped (Err e) (inr (inl k)) = record { why = inr (inl k.is_io) }
   stopped (Err e) (inr (inr k)) = record { why = inr (inl k.is_io) }
 
-  prefix_whole : (e : Error) {end : Option Error} {n : ℕ} → Decodes contents (Some (stream_of h.info)) end n a b x y → s.known ≡ true → WritesPrefixOfSamples e s o (held contents y)
+  prefix_whole : (e : Error) {end : Option Error} {n : ℕ} → Decodes contents (Some (stream_of h.info)) end n a b x y → s.known ≡ true → WritesPrefixOfSamples e s o (writer_contents contents y)
   prefix_whole e {end = end} d known =
       let f = ends_frames (Some (stream_of h.info)) d.blocks end a b d.ends (head known).0 in
-      record { blocks = d.blocks; head = h; rest = f.0; stands = stands d.blocks f.0 known f.1; front = prefix_all o (held contents y) (bytes_of_samples (samples_of d.blocks)) (all_written d); all = λ m. all_written d }
+      record { blocks = d.blocks; head = h; rest = f.0; input_is = input_is d.blocks f.0 known f.1; prefix = prefix_all o (writer_contents contents y) (bytes_of_samples (samples_of d.blocks)) (all_written d); all = λ m. all_written d }
 
-  prefix_part : (e : Error) → FailsToWrite contents (Some (stream_of h.info)) e a b x y → s.known ≡ true → WritesPrefixOfSamples e s o (held contents y)
+  prefix_part : (e : Error) → FailsToWrite contents (Some (stream_of h.info)) e a b x y → s.known ≡ true → WritesPrefixOfSamples e s o (writer_contents contents y)
   prefix_part e k known =
       let f = takes_frames (Some (stream_of h.info)) k.blocks a b k.takes (head known).0 in
       let bytes : List ℕ = bytes_of_samples (samples_of k.blocks) in
@@ -121,25 +121,25 @@ module _ {W : Type 0} (contents : W → Option (List ℕ)) (h : Head) (s a b : S
         blocks = k.blocks;
         head = h;
         rest = f.0;
-        stands = stands k.blocks f.0 known f.1;
-        front = subst (λ (z : Option (List ℕ)). AppendsPrefix z (held contents y) bytes) is (subst (λ (z : List ℕ). AppendsPrefix (held contents x) (held contents y) (z ++ bytes)) none (k.front.0, k.front.1));
+        input_is = input_is k.blocks f.0 known f.1;
+        prefix = subst (λ (z : Option (List ℕ)). AppendsPrefix z (writer_contents contents y) bytes) is (subst (λ (z : List ℕ). AppendsPrefix (writer_contents contents x) (writer_contents contents y) (z ++ bytes)) none (k.prefix.0, k.prefix.1));
         all = λ m. absurd (io_not_memory e k.is_io m);
       }
 
-  pub fronts : (r : Result ℕ Error) → IfErr r (λ e. Stopped e) → IfErr r (λ e. WritesPrefixAtMost e s o (held contents y))
-  fronts (Ok n) k = tt
-  fronts (Err e) (inl k) = record { written = λ known. inr (prefix_whole e k.decoded known) }
-  fronts (Err e) (inr (inl k)) = record { written = λ known. inr (prefix_part e k known) }
-  fronts (Err e) (inr (inr k)) = record { written = λ known. inr (prefix_whole e k.decoded known) }
+  pub prefixes : (r : Result ℕ Error) → IfErr r (λ e. Stopped e) → IfErr r (λ e. WritesPrefixAtMost e s o (writer_contents contents y))
+  prefixes (Ok n) k = tt
+  prefixes (Err e) (inl k) = record { written = λ known. inr (prefix_whole e k.decoded known) }
+  prefixes (Err e) (inr (inl k)) = record { written = λ known. inr (prefix_part e k known) }
+  prefixes (Err e) (inr (inr k)) = record { written = λ known. inr (prefix_whole e k.decoded known) }
 
 -- a head's fault
-pub refused : (s : State ℕ) (o : Option (List ℕ)) (e : Error) → (e ≡ OutOfMemory) ⊎ (IsIo e ⊎ (s.known ≡ true → (f : Fault) × IsFault f e × ((t : List ℕ) × (rest : List ℕ) × HeadFault (with_samples true) f t × (s.remaining ≡ t ++ rest))))
+pub head_fault : (s : State ℕ) (o : Option (List ℕ)) (e : Error) → (e ≡ OutOfMemory) ⊎ (IsIo e ⊎ (s.known ≡ true → (f : Fault) × IsFault f e × ((t : List ℕ) × (rest : List ℕ) × HeadFault (with_samples true) f t × (s.remaining ≡ t ++ rest))))
     → RunStopsEarly e s o o
-refused s o e (inl m) = record { why = inl m }
-refused s o e (inr (inl i)) = record { why = inr (inl i) }
-refused s o e (inr (inr h)) = record { why = inr (inr (λ known. let k = h known in inl (record { fault = k.0; named = k.1; front = k.2.0; rest = k.2.1; bad = k.2.2; joined = k.2.3; kept = refl }))) }
+head_fault s o e (inl m) = record { why = inl m }
+head_fault s o e (inr (inl i)) = record { why = inr (inl i) }
+head_fault s o e (inr (inr h)) = record { why = inr (inr (λ known. let k = h known in inl (record { fault = k.0; named = k.1; prefix = k.2.0; rest = k.2.1; bad = k.2.2; joined = k.2.3; kept = refl }))) }
 
--- ---- each stream
+-- ---- completeness
 
 dropped_as : {A B : Type 0} (e : Error) → IsMemoryOrIoError (let q : Result A Error = Err e in q) → IsMemoryOrIoError (let q : Result B Error = Err e in q)
 dropped_as e (inl m) = inl (let k : e ≡ OutOfMemory = cc in ap (λ (z : Error). Err z) k)
@@ -154,34 +154,34 @@ dropped_excused r a b (inl m) = inl m
 dropped_excused r a b (inr f) = inr f.0
 
 module _ {R A : Type 0} (remaining : R → Option (List ℕ)) (reader : R) where
-  -- no head was opened
+  -- opening failed
   module _ (e : Error) (opens : OpenIsComplete remaining (with_samples true) reader (let q : Result (FlacReader R A) Error = Err e in q)) where
     not_opened : (h : Head) (t rest : List ℕ) → HeadCode (with_samples true) h t → Remains (unread (remaining reader)) (t ++ rest) → IsMemoryOrIoError (let q : Result ℕ Error = Err e in q)
-    not_opened h t rest code comes = elim (opens h t rest code comes) [ inl p ↦ absurd p | inr d ↦ dropped_as e d ]
+    not_opened h t rest code remains = elim (opens h t rest code remains) [ inl p ↦ absurd p | inr d ↦ dropped_as e d ]
 
-    remains_joined : {xs : List ℕ} {h : Head} {blocks : List Block} {rest : List ℕ} (k : IsHeadAndFrames xs h blocks rest) → Remains (unread (remaining reader)) xs → Remains (unread (remaining reader)) (k.front ++ k.frames)
+    remains_joined : {xs : List ℕ} {h : Head} {blocks : List Block} {rest : List ℕ} (k : IsHeadAndFrames xs h blocks rest) → Remains (unread (remaining reader)) xs → Remains (unread (remaining reader)) (k.prefix ++ k.frames)
     remains_joined k c = record { known = c.known; are = c.are ∙ k.joined }
 
     pub not_opened_complete : RunIsComplete (Err e) (unread (remaining reader))
-    not_opened_complete h blocks xs rest comes k short few = inr (not_opened h k.front k.frames k.code (remains_joined k comes))
+    not_opened_complete h blocks xs rest remains k short few = inr (not_opened h k.prefix k.frames k.code (remains_joined k remains))
 
     pub not_opened_fault_complete : OpenFaultIsComplete remaining (with_samples true) reader (let q : Result (FlacReader R A) Error = Err e in q) → RunFaultIsComplete (Err e) (unread (remaining reader))
     not_opened_fault_complete names = record {
-      in_head = λ f t rest bad comes. elim (names f t rest bad comes) [ inl p ↦ inl p | inr d ↦ inr (dropped_as e d) ];
-      behind = λ h blocks xs t rest f comes k bad few. inr (not_opened h k.front k.frames k.code (remains_joined k comes));
+      in_head = λ f t rest bad remains. elim (names f t rest bad remains) [ inl p ↦ inl p | inr d ↦ inr (dropped_as e d) ];
+      after_frames = λ h blocks xs t rest f remains k bad few. inr (not_opened h k.prefix k.frames k.code (remains_joined k remains));
     }
 
-  -- a head was opened
+  -- opening succeeded
   module _ {W : Type 0} (flac new : FlacReader R A) (r : Result ℕ Error) (x y : Output W) (opens : OpenIsComplete remaining (with_samples true) reader (let q : Result (FlacReader R A) Error = Ok flac in q)) where
     opened : (h : Head) (t rest : List ℕ) → HeadCode (with_samples true) h t → Remains (unread (remaining reader)) (t ++ rest) → (flac_head flac ≡ h) × Remains (flac_bytes remaining flac) rest
-    opened h t rest code comes = elim (opens h t rest code comes) [ inl p ↦ p | inr d ↦ absurd (ok_kept flac d) ]
+    opened h t rest code remains = elim (opens h t rest code remains) [ inl p ↦ p | inr d ↦ absurd (ok_kept flac d) ]
 
     frames_of : (h : Head) (xs : List ℕ) (blocks : List Block) (rest : List ℕ) → flac_head flac ≡ h → Frames (Some (stream_of h.info)) xs blocks rest → Frames (Some (stream_with (flac_streaminfo flac))) xs blocks rest
     frames_of h xs blocks rest e f = subst (λ (z : Head). Frames (Some (stream_of z.info)) xs blocks rest) (sym e) f
 
     pub opened_complete : StreamIsComplete remaining r flac new x y → RunIsComplete r (unread (remaining reader))
-    opened_complete written h blocks xs rest comes k short few =
-        let p = opened h k.front k.frames k.code (record { known = comes.known; are = comes.are ∙ k.joined }) in
+    opened_complete written h blocks xs rest remains k short few =
+        let p = opened h k.prefix k.frames k.code (record { known = remains.known; are = remains.are ∙ k.joined }) in
         elim (written blocks k.frames rest p.1 (frames_of h k.frames blocks rest p.0 k.blocks_are) short few) [
           | inl e ↦ inl e
           | inr (inl z) ↦ inr (dropped_excused r (flac_bytes remaining flac) (flac_bytes remaining new) z)
@@ -190,9 +190,9 @@ module _ {R A : Type 0} (remaining : R → Option (List ℕ)) (reader : R) where
 
     pub opened_fault_complete : StreamFaultIsComplete remaining r flac new x y → OpenFaultIsComplete remaining (with_samples true) reader (let q : Result (FlacReader R A) Error = Ok flac in q) → RunFaultIsComplete r (unread (remaining reader))
     opened_fault_complete named names = record {
-      in_head = λ f t rest bad comes. elim (names f t rest bad comes) [ inl p ↦ absurd p | inr d ↦ absurd (ok_kept flac d) ];
-      behind = λ h blocks xs t rest f comes k bad few.
-          let p = opened h k.front k.frames k.code (record { known = comes.known; are = comes.are ∙ k.joined }) in
+      in_head = λ f t rest bad remains. elim (names f t rest bad remains) [ inl p ↦ absurd p | inr d ↦ absurd (ok_kept flac d) ];
+      after_frames = λ h blocks xs t rest f remains k bad few.
+          let p = opened h k.prefix k.frames k.code (record { known = remains.known; are = remains.are ∙ k.joined }) in
           let bad_here : FrameBytesFault (Some (stream_with (flac_streaminfo flac))) f t = subst (λ (z : Head). FrameBytesFault (Some (stream_of z.info)) f t) (sym p.0) bad in
           elim (named blocks k.frames t rest f p.1 (frames_of h k.frames blocks (t ++ rest) p.0 k.blocks_are) bad_here few) [
             | inl e ↦ inl e

@@ -9,81 +9,98 @@ use Rattle.claxon.specs.Errors.{Error}
 use Rattle.claxon.specs.Errors.TheVariants.{Unsupported}
 use Rattle.claxon.specs.SampleRuns.{ReadsFrames, ConsumesFrames, samples_of}
 use Rattle.claxon_write.specs.SampleBytes.{bytes_of_samples}
-use Rattle.claxon_write.specs.Written.{AppendsAllBut, FlushFailed, IsFlushed, IsUnflushed, NothingFailed, Puts, WriteFailed, capacity, held, contents_with_pending, waiting}
+use Rattle.claxon_write.specs.Written.{AppendsAllBut, FlushFailed, IsFlushed, IsUnflushed, NothingFailed, Puts, WriteFailed, capacity, writer_contents, contents_with_pending, pending}
 use Rattle.claxon_write.specs.declared.output.Output.{Output}
 
--- the limit on the number of samples
+-- The error says that there are 2^64 samples or more.
 abbrev pub IsLimit : Error → Type 0
-IsLimit (Unsupported text) = text.now ≡ codes "more than 18446744073709551615 samples are not supported"
+IsLimit (Unsupported text) =
+    text.now ≡ codes "more than 18446744073709551615 samples are not supported"
 IsLimit _ = ⊥
 
--- Behind the frames of these blocks stands one with which there are 2^64 samples or more; it was taken.
-pub record TooManySamples (stream : Option StreamFormat) (blocks : List Block) (error : Error) (old new : State ℕ) : Type 0 where
+-- After the frames of these blocks one more frame was consumed, with which there are 2^64 samples or more.
+pub record TooManySamples (stream : Option StreamFormat) (blocks : List Block) (error : Error)
+    (old new : State ℕ) : Type 0 where
   pub is_limit : IsLimit error
   pub last : Block
   pub frames : ConsumesFrames stream (blocks ++ last ∷ []) old new
   pub many : 2 ^ 64 ≤ length (samples_of (blocks ++ last ∷ []))
 
--- how the blocks ended: None says at the end of the stream
+-- What ended the blocks: None is the end of the stream.
 abbrev pub EndsAfter : Option StreamFormat → List Block → Option Error → State ℕ → State ℕ → Type 0
 EndsAfter stream blocks None old new = ReadsFrames stream blocks (Ok None) old new
-EndsAfter stream blocks (Some error) old new = ReadsFrames stream blocks (Err error) old new ⊎ TooManySamples stream blocks error old new
+EndsAfter stream blocks (Some error) old new =
+    ReadsFrames stream blocks (Err error) old new ⊎ TooManySamples stream blocks error old new
 
--- The samples of these blocks, n in number, were written or wait behind what waited, and nothing failed.
-pub record Gathers {W : Type 0} (contents : W → Option (List ℕ)) (stream : Option StreamFormat) (end : Option Error) (n : ℕ) (old new : State ℕ) (before after : Output W) : Type 0 where
+-- The n samples of these blocks were written after the pending bytes, or are pending after them, and nothing failed.
+pub record Gathers {W : Type 0} (contents : W → Option (List ℕ)) (stream : Option StreamFormat)
+    (end : Option Error) (n : ℕ) (old new : State ℕ) (before after : Output W) : Type 0 where
   pub blocks : List Block
   pub ends : EndsAfter stream blocks end old new
   pub count : n ≡ length (samples_of blocks)
   pub puts : Puts contents (bytes_of_samples (samples_of blocks)) before after
 
--- Just the samples of these blocks, n in number, were written behind what waited, and none wait any more.
-pub record Decodes {W : Type 0} (contents : W → Option (List ℕ)) (stream : Option StreamFormat) (end : Option Error) (n : ℕ) (old new : State ℕ) (before after : Output W) : Type 0 where
+-- Exactly the n samples of these blocks were written after the pending bytes, and nothing is pending any more.
+pub record Decodes {W : Type 0} (contents : W → Option (List ℕ)) (stream : Option StreamFormat)
+    (end : Option Error) (n : ℕ) (old new : State ℕ) (before after : Output W) : Type 0 where
   pub blocks : List Block
   pub ends : EndsAfter stream blocks end old new
   pub count : n ≡ length (samples_of blocks)
-  pub written : Appends (contents_with_pending contents before) (held contents after) (bytes_of_samples (samples_of blocks))
-  pub none_pending : waiting after ≡ []
+  pub written : Appends (contents_with_pending contents before) (writer_contents contents after)
+      (bytes_of_samples (samples_of blocks))
+  pub none_pending : pending after ≡ []
 
--- just the frames of these blocks were taken, or also the end or the fault behind them
+-- Only the frames of these blocks were consumed, or also the end or the fault after them.
 abbrev pub TakesBlocks : Option StreamFormat → List Block → State ℕ → State ℕ → Type 0
-TakesBlocks stream blocks old new = ConsumesFrames stream blocks old new ⊎ ((end : Option Error) × EndsAfter stream blocks end old new)
+TakesBlocks stream blocks old new =
+    ConsumesFrames stream blocks old new ⊎ ((end : Option Error)
+    × EndsAfter stream blocks end old new)
 
--- how many bytes the samples of the last of these blocks have
+-- the number of bytes of the samples of the last block
 abbrev pub last_bytes : List Block → ℕ
 last_bytes [] = 0
 last_bytes (b ∷ []) = length (bytes_of_samples (interleave b.channels))
 last_bytes (b ∷ c ∷ blocks) = last_bytes (c ∷ blocks)
 
--- A write failed, which was counted, and no flush was asked for: a front of what waited and of the samples of these blocks, whose frames were taken, was written, and none wait any more.
--- No more are missing than wait at most and those of the last block: the reader is no further ahead than that.
-pub record FailsToWrite {W : Type 0} (contents : W → Option (List ℕ)) (stream : Option StreamFormat) (error : Error) (old new : State ℕ) (before after : Output W) : Type 0 where
+-- A write failed, which was counted, and there was no flush. A prefix of the pending bytes and the samples of these
+-- blocks was written, and nothing is pending any more. The frames of the blocks were consumed, and at most the capacity and
+-- the bytes of the last block are missing.
+pub record FailsToWrite {W : Type 0} (contents : W → Option (List ℕ)) (stream : Option StreamFormat)
+    (error : Error) (old new : State ℕ) (before after : Output W) : Type 0 where
   pub is_io : IsIo error
   pub failed : WriteFailed before after
   pub unflushed : IsUnflushed before after
   pub blocks : List Block
   pub takes : TakesBlocks stream blocks old new
-  pub front : AppendsAllBut (capacity + last_bytes blocks) (held contents before) (held contents after) (waiting before ++ bytes_of_samples (samples_of blocks))
-  pub none_pending : waiting after ≡ []
+  pub prefix : AppendsAllBut (capacity + last_bytes blocks) (writer_contents contents before)
+      (writer_contents contents after) (pending before ++ bytes_of_samples (samples_of blocks))
+  pub none_pending : pending after ≡ []
 
--- The stream ended and all its samples were written, and then the one flush that was asked for failed, which was counted.
-pub record FailsToFlushAll {W : Type 0} (contents : W → Option (List ℕ)) (stream : Option StreamFormat) (error : Error) (old new : State ℕ) (before after : Output W) : Type 0 where
+-- The stream ended and all its samples were written, and then the one flush failed, which was counted.
+pub record FailsToFlushAll {W : Type 0} (contents : W → Option (List ℕ))
+    (stream : Option StreamFormat) (error : Error) (old new : State ℕ)
+    (before after : Output W) : Type 0 where
   pub is_io : IsIo error
   pub failed : FlushFailed before after
   pub flushed : IsFlushed before after
   pub count : ℕ
   pub decoded : Decodes contents stream None count old new before after
 
--- The decoder stopped when all samples before were written: no write failed, and one flush was asked for, last; whether it failed is counted alone.
-pub record StopsDecoding {W : Type 0} (contents : W → Option (List ℕ)) (stream : Option StreamFormat) (error : Error) (old new : State ℕ) (before after : Output W) : Type 0 where
+-- The decoder stopped, and all samples before that were written. No write failed. The last call of the writer was the one
+-- flush; if it failed, that was only counted.
+pub record StopsDecoding {W : Type 0} (contents : W → Option (List ℕ))
+    (stream : Option StreamFormat) (error : Error) (old new : State ℕ)
+    (before after : Output W) : Type 0 where
   pub count : ℕ
   pub decoded : Decodes contents stream (Some error) count old new before after
   pub flushed : IsFlushed before after
   pub failed : NothingFailed before after ⊎ FlushFailed before after
 
--- The answer is an `IoError`, and a write failed, which was counted.
+-- The result is an `IoError`, and a write failed, which was counted.
 abbrev pub WriteHasFailed : {A W : Type 0} → Result A Error → Output W → Output W → Type 0
 WriteHasFailed r before after = IsErrAnd r IsIo × WriteFailed before after
 
--- The answer is an `IoError`, and a write or a flush failed, which was counted.
+-- The result is an `IoError`, and a write or a flush failed, which was counted.
 abbrev pub WriterHasFailed : {A W : Type 0} → Result A Error → Output W → Output W → Type 0
-WriterHasFailed r before after = IsErrAnd r IsIo × (WriteFailed before after ⊎ FlushFailed before after)
+WriterHasFailed r before after =
+    IsErrAnd r IsIo × (WriteFailed before after ⊎ FlushFailed before after)

@@ -1,4 +1,4 @@
-pub mod Lent
+pub mod InnerWriter
 pub mod Written
 pub mod Decoded
 pub mod Output

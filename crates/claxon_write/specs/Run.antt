@@ -1,4 +1,4 @@
--- What `run` promises, from what was to come and what the writer held to what it holds.
+-- The clauses of `run`, about its input and the contents of the writer before and after.
 use Rattle.std.specs.Prelude.{◌≡◌, ◌⊎◌, ◌<◌, ◌≤◌, ℕ, ◌^◌, true, List, [], ◌∷◌, ◌++◌, length, Option, Some, Result, Ok, IfErr, IfOk, IsErrAnd}
 use Rattle.std.specs.Io.KnownBytes.{Appends}
 use Rattle.claxon.specs.Fault.{Fault}
@@ -16,106 +16,125 @@ use Rattle.claxon_write.specs.Decoded.{IsLimit}
 use Rattle.claxon_write.specs.Written.{AppendsPrefix}
 use Rattle.claxon_write.specs.SampleBytes.{bytes_of_samples}
 
--- s is a head, the frames of these blocks, and this rest.
-pub record IsHeadAndFrames (s : List ℕ) (head : Head) (blocks : List Block) (rest : List ℕ) : Type 0 where
-  pub front : List ℕ
+-- s is a head, the frames of these blocks, and the rest.
+pub record IsHeadAndFrames (s : List ℕ) (head : Head) (blocks : List Block)
+    (rest : List ℕ) : Type 0 where
+  pub prefix : List ℕ
   pub frames : List ℕ
-  pub code : HeadCode (with_samples true) head front
-  pub joined : s ≡ front ++ frames
+  pub code : HeadCode (with_samples true) head prefix
+  pub joined : s ≡ prefix ++ frames
   pub blocks_are : Frames (Some (stream_of head.info)) frames blocks rest
 
 -- ---- an Ok
 
--- What is to come is a head, the frames of some blocks and a rest of fewer than two bytes, and just the samples of these blocks, n in number, were written.
+-- Exactly the n samples of some blocks were written. The input is a head, the frames of these blocks and fewer than two bytes.
 pub record RunWritesAll (n : ℕ) (s : State ℕ) (old new : Option (List ℕ)) : Type 0 where
   pub blocks : List Block
   pub count : n ≡ length (samples_of blocks)
   pub written : Appends old new (bytes_of_samples (samples_of blocks))
-  pub stands : s.known ≡ true → (head : Head) × (rest : List ℕ) × IsHeadAndFrames s.remaining head blocks rest × (length rest < 2)
+  pub input_is : s.known ≡ true → (head : Head) × (rest : List ℕ)
+      × IsHeadAndFrames s.remaining head blocks rest × (length rest < 2)
 
--- An Ok says that a head, the frames of blocks and a rest of fewer than two bytes were to come, and that just the samples of these blocks, so many, were written.
-abbrev pub RunIsSound : {W : Type 0} → (W → Option (List ℕ)) → Result ℕ Error → State ℕ → W → W → Type 0
+-- An Ok is the number of samples: the input was a whole stream, and exactly its samples were written.
+abbrev pub RunIsSound : {W : Type 0} → (W → Option (List ℕ)) → Result ℕ Error → State ℕ → W → W
+    → Type 0
 RunIsSound contents r s old new = IfOk r (λ n. RunWritesAll n s (contents old) (contents new))
 
 -- ---- an Err
 
--- What is to come begins with the fault of a head that the error names, and nothing was written.
+-- The input begins with the fault of a head that the error names, and nothing was written.
 pub record StopsAtHead (error : Error) (s : State ℕ) (old new : Option (List ℕ)) : Type 0 where
   pub fault : Fault
   pub named : IsFault fault error
-  pub front : List ℕ
+  pub prefix : List ℕ
   pub rest : List ℕ
-  pub bad : HeadFault (with_samples true) fault front
-  pub joined : s.remaining ≡ front ++ rest
+  pub bad : HeadFault (with_samples true) fault prefix
+  pub joined : s.remaining ≡ prefix ++ rest
   pub kept : new ≡ old
 
--- The error is the limit of samples, and s begins with a frame with whose block there are 2^64 samples or more.
-pub record ReachesLimit (head : Head) (blocks : List Block) (error : Error) (s : List ℕ) : Type 0 where
+-- The error is the limit of samples, and s begins with a frame that makes them 2^64 or more.
+pub record ReachesLimit (head : Head) (blocks : List Block) (error : Error)
+    (s : List ℕ) : Type 0 where
   pub is_limit : IsLimit error
   pub last : Block
-  pub front : List ℕ
+  pub prefix : List ℕ
   pub rest : List ℕ
-  pub frame : Frame (Some (stream_of head.info)) last front
-  pub joined : s ≡ front ++ rest
+  pub frame : Frame (Some (stream_of head.info)) last prefix
+  pub joined : s ≡ prefix ++ rest
   pub many : 2 ^ 64 ≤ length (samples_of (blocks ++ last ∷ []))
 
--- The error names the fault of a frame that s begins with.
+-- s begins with the fault of a frame that the error names.
 pub record HasFrameFault (head : Head) (error : Error) (s : List ℕ) : Type 0 where
   pub fault : Fault
   pub named : IsFault fault error
-  pub front : List ℕ
+  pub prefix : List ℕ
   pub rest : List ℕ
-  pub bad : FrameBytesFault (Some (stream_of head.info)) fault front
-  pub joined : s ≡ front ++ rest
+  pub bad : FrameBytesFault (Some (stream_of head.info)) fault prefix
+  pub joined : s ≡ prefix ++ rest
 
--- What is to come is a head and the frames of blocks, behind which such a fault or the limit stands; just the samples of these blocks were written.
+-- The input is a head, the frames of blocks, and then the fault of a frame or the limit of samples; exactly the samples of
+-- these blocks were written.
 pub record StopsAfterFrames (error : Error) (s : State ℕ) (old new : Option (List ℕ)) : Type 0 where
   pub blocks : List Block
   pub head : Head
   pub rest : List ℕ
-  pub stands : IsHeadAndFrames s.remaining head blocks rest
+  pub input_is : IsHeadAndFrames s.remaining head blocks rest
   pub stops : ReachesLimit head blocks error rest ⊎ HasFrameFault head error rest
   pub written : Appends old new (bytes_of_samples (samples_of blocks))
 
--- the error is the decoder's, and all samples before the fault were written
+-- The error is the decoder's, and exactly the samples before the fault were written.
 abbrev pub DecoderStops : Error → State ℕ → Option (List ℕ) → Option (List ℕ) → Type 0
-DecoderStops error s old new = s.known ≡ true → StopsAtHead error s old new ⊎ StopsAfterFrames error s old new
+DecoderStops error s old new =
+    s.known ≡ true → StopsAtHead error s old new ⊎ StopsAfterFrames error s old new
 
--- the error is want of memory, an `IoError`, or the decoder's
+-- The error is `OutOfMemory`, an `IoError`, or the decoder's.
 pub record RunStopsEarly (error : Error) (s : State ℕ) (old new : Option (List ℕ)) : Type 0 where
   pub why : (error ≡ OutOfMemory) ⊎ (IsIo error ⊎ DecoderStops error s old new)
 
--- An Err that is neither want of memory nor an `IoError` is the decoder's: a fault or the limit of samples stands there, and just the samples before it were written.
-abbrev pub RunFaultIsSound : {W : Type 0} → (W → Option (List ℕ)) → Result ℕ Error → State ℕ → W → W → Type 0
-RunFaultIsSound contents r s old new = IfErr r (λ error. RunStopsEarly error s (contents old) (contents new))
+-- An Err other than `OutOfMemory` and `IoError` is the decoder's: the input has that fault, and exactly the samples before it
+-- were written.
+abbrev pub RunFaultIsSound : {W : Type 0} → (W → Option (List ℕ)) → Result ℕ Error → State ℕ → W → W
+    → Type 0
+RunFaultIsSound contents r s old new =
+    IfErr r (λ error. RunStopsEarly error s (contents old) (contents new))
 
--- What is to come is a head, the frames of these blocks and a rest, and a front of the bytes of the samples of just these blocks was written; all of them, where the error is want of memory.
-pub record WritesPrefixOfSamples (error : Error) (s : State ℕ) (old new : Option (List ℕ)) : Type 0 where
+-- The input is a head, the frames of these blocks and a rest. A prefix of the bytes of their samples was written, and all of
+-- them if the error is `OutOfMemory`.
+pub record WritesPrefixOfSamples (error : Error) (s : State ℕ)
+    (old new : Option (List ℕ)) : Type 0 where
   pub blocks : List Block
   pub head : Head
   pub rest : List ℕ
-  pub stands : IsHeadAndFrames s.remaining head blocks rest
-  pub front : AppendsPrefix old new (bytes_of_samples (samples_of blocks))
+  pub input_is : IsHeadAndFrames s.remaining head blocks rest
+  pub prefix : AppendsPrefix old new (bytes_of_samples (samples_of blocks))
   pub all : error ≡ OutOfMemory → Appends old new (bytes_of_samples (samples_of blocks))
 
--- Where the input is told, nothing was written, or a front of the samples of blocks whose frames stand behind a head.
-pub record WritesPrefixAtMost (error : Error) (s : State ℕ) (old new : Option (List ℕ)) : Type 0 where
+-- Where the input is known, nothing was written, or a prefix of the samples of blocks whose frames follow a head.
+pub record WritesPrefixAtMost (error : Error) (s : State ℕ)
+    (old new : Option (List ℕ)) : Type 0 where
   pub written : s.known ≡ true → (new ≡ old) ⊎ WritesPrefixOfSamples error s old new
 
--- Whatever an Err says, nothing was written but a front of the samples of blocks whose frames stand behind a head.
-abbrev pub RunWritesPrefix : {W : Type 0} → (W → Option (List ℕ)) → Result ℕ Error → State ℕ → W → W → Type 0
-RunWritesPrefix contents r s old new = IfErr r (λ error. WritesPrefixAtMost error s (contents old) (contents new))
+-- Whatever the Err, only a prefix of the samples of blocks whose frames follow the head was written.
+abbrev pub RunWritesPrefix : {W : Type 0} → (W → Option (List ℕ)) → Result ℕ Error → State ℕ → W → W
+    → Type 0
+RunWritesPrefix contents r s old new =
+    IfErr r (λ error. WritesPrefixAtMost error s (contents old) (contents new))
 
--- ---- each stream
+-- ---- completeness
 
--- Where a head, the frames of blocks of fewer than 2^64 samples in all, and then fewer than two bytes are to come, the answer is their number, or want of memory, or an `IoError`.
+-- For a head, the frames of blocks with fewer than 2^64 samples in all, and then fewer than two bytes, the result is the
+-- number of samples, or `OutOfMemory` or an `IoError`.
 abbrev pub RunIsComplete : Result ℕ Error → State ℕ → Type 0
 RunIsComplete r s =
-    (head : Head) (blocks : List Block) (xs rest : List ℕ) → Remains s xs → IsHeadAndFrames xs head blocks rest → length rest < 2 → length (samples_of blocks) < 2 ^ 64
+    (head : Head) (blocks : List Block) (xs rest : List ℕ) → Remains s xs
+    → IsHeadAndFrames xs head blocks rest → length rest < 2 → length (samples_of blocks) < 2 ^ 64
     → (r ≡ Ok (length (samples_of blocks))) ⊎ IsMemoryOrIoError r
 
--- Where a fault stands in the head, or behind the frames of such blocks, it is named; or it is want of memory, or an `IoError`.
+-- A fault in the head, or after the frames of such blocks, is the result, or it is `OutOfMemory` or an `IoError`.
 pub record RunFaultIsComplete (r : Result ℕ Error) (s : State ℕ) : Type 0 where
-  pub in_head : (f : Fault) (t rest : List ℕ) → HeadFault (with_samples true) f t → Remains s (t ++ rest) → IsErrAnd r (IsFault f) ⊎ IsMemoryOrIoError r
-  pub behind : (head : Head) (blocks : List Block) (xs t rest : List ℕ) (f : Fault) → Remains s xs → IsHeadAndFrames xs head blocks (t ++ rest) → FrameBytesFault (Some (stream_of head.info)) f t → length (samples_of blocks) < 2 ^ 64
+  pub in_head : (f : Fault) (t rest : List ℕ) → HeadFault (with_samples true) f t
+      → Remains s (t ++ rest) → IsErrAnd r (IsFault f) ⊎ IsMemoryOrIoError r
+  pub after_frames : (head : Head) (blocks : List Block) (xs t rest : List ℕ) (f : Fault)
+      → Remains s xs → IsHeadAndFrames xs head blocks (t ++ rest)
+      → FrameBytesFault (Some (stream_of head.info)) f t → length (samples_of blocks) < 2 ^ 64
       → IsErrAnd r (IsFault f) ⊎ IsMemoryOrIoError r

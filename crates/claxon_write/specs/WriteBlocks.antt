@@ -1,4 +1,4 @@
--- What the calls below `write_samples` promise, by the streaminfo or the reader of frames.
+-- The clauses of the functions that `write_samples` calls, by the streaminfo or the frame reader.
 use Rattle.std.specs.Prelude.{ℕ, List, Option, Some, Result, IfOk, IfErr}
 use Rattle.claxon.specs.FrameReader.{frame_bytes, frame_stream, stream_with}
 use Rattle.claxon.specs.FrameReaders.{FrameReader}
@@ -11,19 +11,30 @@ use Rattle.claxon_write.specs.Written.{NothingFailed}
 use Rattle.claxon_write.specs.declared.output.Output.{Output}
 use Rattle.claxon_write.specs.declared.stream.End.{End}
 
--- An Ok says how the blocks ended, that just their samples, so many, were written, and that nothing failed.
-abbrev pub WriteBlocksIsSound : {R W : Type 0} → (W → Option (List ℕ)) → (R → Source ℕ) → StreamInfo → Result End Error → R → R → Output W → Output W → Type 0
+-- An Ok has the number of samples and what ended the blocks: exactly their samples were written, and nothing failed.
+abbrev pub WriteBlocksIsSound : {R W : Type 0} → (W → Option (List ℕ)) → (R → Source ℕ) → StreamInfo
+    → Result End Error → R → R → Output W → Output W → Type 0
 WriteBlocksIsSound contents source info r old new before after =
-    IfOk r (λ end. Decodes contents (Some (stream_with info)) end.fault end.count (bytes_in source old) (bytes_in source new) before after × NothingFailed before after)
+    IfOk r (λ end. Decodes contents (Some (stream_with info)) end.fault end.count
+    (bytes_in source old) (bytes_in source new) before after × NothingFailed before after)
 
--- An Err is the writer's.
-abbrev pub WriteBlocksFaultIsSound : {R W : Type 0} → (W → Option (List ℕ)) → (R → Source ℕ) → StreamInfo → Result End Error → R → R → Output W → Output W → Type 0
-WriteBlocksFaultIsSound contents source info r old new before after = IfErr r (λ error. FailsToWrite contents (Some (stream_with info)) error (bytes_in source old) (bytes_in source new) before after)
+-- An Err is a failed write.
+abbrev pub WriteBlocksFaultIsSound : {R W : Type 0} → (W → Option (List ℕ)) → (R → Source ℕ)
+    → StreamInfo → Result End Error → R → R → Output W → Output W → Type 0
+WriteBlocksFaultIsSound contents source info r old new before after =
+    IfErr r (λ error. FailsToWrite contents (Some (stream_with info)) error (bytes_in source old)
+    (bytes_in source new) before after)
 
--- An Ok says how the blocks ended, and that their samples, so many, were written or wait.
-abbrev pub GatherBlocksIsSound : {R W : Type 0} → (W → Option (List ℕ)) → (R → Source ℕ) → Result End Error → FrameReader R → FrameReader R → Output W → Output W → Type 0
-GatherBlocksIsSound contents source r old new before after = IfOk r (λ end. Gathers contents (frame_stream old) end.fault end.count (frame_bytes source old) (frame_bytes source new) before after)
+-- An Ok has the number of samples and what ended the blocks: their samples were written or are pending.
+abbrev pub GatherBlocksIsSound : {R W : Type 0} → (W → Option (List ℕ)) → (R → Source ℕ)
+    → Result End Error → FrameReader R → FrameReader R → Output W → Output W → Type 0
+GatherBlocksIsSound contents source r old new before after =
+    IfOk r (λ end. Gathers contents (frame_stream old) end.fault end.count (frame_bytes source old)
+    (frame_bytes source new) before after)
 
--- An Err is the writer's.
-abbrev pub GatherBlocksFaultIsSound : {R W : Type 0} → (W → Option (List ℕ)) → (R → Source ℕ) → Result End Error → FrameReader R → FrameReader R → Output W → Output W → Type 0
-GatherBlocksFaultIsSound contents source r old new before after = IfErr r (λ error. FailsToWrite contents (frame_stream old) error (frame_bytes source old) (frame_bytes source new) before after)
+-- An Err is a failed write.
+abbrev pub GatherBlocksFaultIsSound : {R W : Type 0} → (W → Option (List ℕ)) → (R → Source ℕ)
+    → Result End Error → FrameReader R → FrameReader R → Output W → Output W → Type 0
+GatherBlocksFaultIsSound contents source r old new before after =
+    IfErr r (λ error. FailsToWrite contents (frame_stream old) error (frame_bytes source old)
+    (frame_bytes source new) before after)

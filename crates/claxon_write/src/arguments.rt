@@ -8,11 +8,11 @@ use std::env;
 use std::io::ErrorKind;
 use std::rt::Env;
 
-/// The arguments after the program's name, or none where one of them isn't UTF-8.
+/// The arguments after the program's name, or none if one of them isn't UTF-8.
 ///
 /// # Errors
 ///
-/// `OutOfMemory` alone.
+/// Only `OutOfMemory`.
 pub fn words<Q: Env + Alloc>(rt: &Q) -> Result<Vec<String<Q::A>, Q::A>>
     ensures { IfErr result (λ error. error ≡ OutOfMemory) }
 {

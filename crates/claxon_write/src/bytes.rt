@@ -1,6 +1,6 @@
-//! Samples as bytes, in places that have room for them.
+//! Samples as bytes, in a buffer of their size.
 ghost use Rattle.std.specs.Prelude.{◌≡◌, ◌≤◌, ◌<◌, ◌*◌, ◌∷◌, ◌++◌, [], length};
-ghost use Rattle.claxon_write.specs.SampleBytes.{PutsChannel, bytes_of_samples, places, sample_bytes};
+ghost use Rattle.claxon_write.specs.SampleBytes.{PutsChannel, bytes_of_samples, interleave_range, sample_bytes};
 
 fn little_endian(sample: i32) -> [u8; 4]
     ensures { result ≡ sample_bytes sample }
@@ -8,7 +8,7 @@ fn little_endian(sample: i32) -> [u8; 4]
     sample.cast_unsigned().to_le_bytes()
 }
 
-// As one number of 64 bits, so that one store writes both.
+// As one 64-bit number, so that one store writes both.
 fn little_endian_pair(left: i32, right: i32) -> [u8; 8]
     ensures { result ≡ sample_bytes left ++ sample_bytes right }
 {
@@ -19,38 +19,41 @@ fn little_endian_pair(left: i32, right: i32) -> [u8; 8]
 
 /// Puts the samples of one channel.
 #[inline(never)]
-pub fn put_mono(samples: &[i32], room: &mut [u8])
-    requires { length room.old ≡ 4 * length samples.now }
-    ensures { room.new ≡ bytes_of_samples (places (samples.now ∷ []) 0 (length samples.now)) }
+pub fn put_mono(samples: &[i32], buffer: &mut [u8])
+    requires { length buffer.old ≡ 4 * length samples.now }
+    ensures { buffer.new
+        ≡ bytes_of_samples (interleave_range (samples.now ∷ []) 0 (length samples.now)) }
 {
     for i in 0..samples.len() {
-        room[4 * i..4 * i + 4].copy_from_slice(&little_endian(samples[i]));
+        buffer[4 * i..4 * i + 4].copy_from_slice(&little_endian(samples[i]));
     }
 }
 
-/// Puts the samples of two channels, place by place.
+/// Puts the samples of two channels, interleaved.
 #[inline(never)]
-pub fn put_stereo(left: &[i32], right: &[i32], room: &mut [u8])
+pub fn put_stereo(left: &[i32], right: &[i32], buffer: &mut [u8])
     requires same { length right.now ≡ length left.now }
-    requires room { length room.old ≡ 8 * length left.now }
-    ensures { room.new ≡ bytes_of_samples (places (left.now ∷ right.now ∷ []) 0 (length left.now)) }
+    requires buffer { length buffer.old ≡ 8 * length left.now }
+    ensures { buffer.new
+        ≡ bytes_of_samples
+        (interleave_range (left.now ∷ right.now ∷ []) 0 (length left.now)) }
 {
     for i in 0..left.len() {
-        room[8 * i..8 * i + 8].copy_from_slice(&little_endian_pair(left[i], right[i]));
+        buffer[8 * i..8 * i + 8].copy_from_slice(&little_endian_pair(left[i], right[i]));
     }
 }
 
-/// Puts the samples of one of several channels, each behind those of the channels before it.
-// Their count is a constant, so that the compiler knows how far apart the samples stand.
+/// Puts the samples of one of `CHANNELS` channels into the interleaved samples, each after those of the channels before it.
+// The number of channels is a constant, so that the compiler knows the distance between the samples.
 #[inline(never)]
-pub fn put_channel<const CHANNELS: usize>(samples: &[i32], ch: usize, room: &mut [u8])
+pub fn put_channel<const CHANNELS: usize>(samples: &[i32], ch: usize, buffer: &mut [u8])
     requires here { ch < CHANNELS }
     requires few { CHANNELS ≤ 8 }
-    requires room { length room.old ≡ length samples.now * (4 * CHANNELS) }
-    ensures { PutsChannel samples.now ch CHANNELS room.old room.new }
+    requires buffer { length buffer.old ≡ length samples.now * (4 * CHANNELS) }
+    ensures { PutsChannel samples.now ch CHANNELS buffer.old buffer.new }
 {
     for i in 0..samples.len() {
         let at = i * (4 * CHANNELS) + 4 * ch;
-        room[at..at + 4].copy_from_slice(&little_endian(samples[i]));
+        buffer[at..at + 4].copy_from_slice(&little_endian(samples[i]));
     }
 }

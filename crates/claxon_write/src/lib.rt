@@ -1,4 +1,4 @@
-//! The samples of a stream as bytes on their way to a writer, and what `claxon_raw` does for its arguments.
+//! The samples of a stream as bytes, written to a writer, and the command of `claxon_raw`.
 #![tactic(auto)]
 
 mod arguments;

@@ -1,4 +1,4 @@
-//! Bytes on their way to a writer.
+//! A writer with a buffer for bytes and interleaved samples.
 ghost use Rattle.std.specs.Prelude.{◌≡◌, ◌≤◌, ◌<◌, ◌+◌, ◌*◌, ◌-◌, ◌%◌, ◌^◌, ◌++◌, IfErr, OnOk, OnErr, [], false, length, take, true};
 ghost use Rattle.std.specs.Io.KnownBytes.{Appends, Keeps};
 ghost use Rattle.claxon.specs.Error.{IsIo};
@@ -13,24 +13,24 @@ use std::io::{ErrorKind, Write};
 
 const CAPACITY: usize = 16384;
 
-// So many places of at most eight channels fill the bytes that are gathered.
-const MOST_PER_CHANNEL: usize = 512;
+// The most samples per channel that fit in the buffer, for eight channels.
+const MAX_PER_CHANNEL: usize = 512;
 
-/// A writer, and what came of the calls of it. The counts wrap.
-struct Counted<'w, W> {
+/// A writer that counts its failed writes and its flushes. The counts wrap.
+struct CountingWriter<'w, W> {
     inner: &'w mut W,
     failed_writes: u64,
     failed_flushes: u64,
-    // How many flushes were asked for, and whether the last call was one.
+    // The number of flushes, and whether the last call was one.
     flushes: u64,
     is_flushed: bool,
 }
 
-impl<'w, W> Drop for Counted<'w, W> {
+impl<'w, W> Drop for CountingWriter<'w, W> {
     fn drop(self)
         ensures { self.exit.0.now ≡ self.entry.inner.now }
     {
-        let Counted {
+        let CountingWriter {
             inner: _,
             failed_writes: _,
             failed_flushes: _,
@@ -40,14 +40,14 @@ impl<'w, W> Drop for Counted<'w, W> {
     }
 }
 
-impl<'w, W: Write> Counted<'w, W> {
+impl<'w, W: Write> CountingWriter<'w, W> {
     ghost use Rattle.claxon_write.specs.Output.{WritesPrefix, WritesSome};
 
     fn into_inner(self) -> &'w mut W
         ensures same_reference { result.ghost_name ≡ self.entry.inner.ghost_name }
         ensures writer { result.now ≡ self.entry.inner.now }
     {
-        let Counted {
+        let CountingWriter {
             inner,
             failed_writes: _,
             failed_flushes: _,
@@ -57,15 +57,17 @@ impl<'w, W: Write> Counted<'w, W> {
         inner
     }
 
-    // The one call of the writer's `write`, for bytes of which there are some. It wrote some of them, or it failed.
+    // The only call of the writer's `write`.
     fn write_some(&mut self, bytes: &[u8]) -> Result<usize>
         requires some { 0 < length bytes.now }
         ensures same_reference { self.new.inner.ghost_name ≡ self.old.inner.ghost_name }
         ensures ok { WritesSome W.contents bytes.now result self.old self.new }
-        ensures kept { OnErr result (Keeps (W.contents self.old.inner.now) (W.contents self.new.inner.now)) }
+        ensures kept { OnErr result (Keeps (W.contents self.old.inner.now)
+            (W.contents self.new.inner.now)) }
         ensures io { IfErr result (λ error. IsIo error) }
-        ensures known { OnOk result (self.new.failed_writes ≡ self.old.failed_writes) }
-        ensures failed { OnErr result (self.new.failed_writes ≡ (self.old.failed_writes + 1) % 2 ^ 64) }
+        ensures succeeded { OnOk result (self.new.failed_writes ≡ self.old.failed_writes) }
+        ensures failed { OnErr result (self.new.failed_writes
+            ≡ (self.old.failed_writes + 1) % 2 ^ 64) }
         ensures failed_flushes { self.new.failed_flushes ≡ self.old.failed_flushes }
         ensures flushes { self.new.flushes ≡ self.old.flushes }
         ensures not_flushed { self.new.is_flushed ≡ false }
@@ -84,14 +86,16 @@ impl<'w, W: Write> Counted<'w, W> {
         }
     }
 
-    // Writes all of the bytes. An `Interrupted` is a failure too.
+    // Writes all of the bytes. `Interrupted` is a failure too.
     fn write_whole(&mut self, bytes: &[u8]) -> Result<()>
         ensures same_reference { self.new.inner.ghost_name ≡ self.old.inner.ghost_name }
-        ensures ok { OnOk result (Appends (W.contents self.old.inner.now) (W.contents self.new.inner.now) bytes.now) }
-        ensures front { WritesPrefix W.contents bytes.now result self.old self.new }
+        ensures ok { OnOk result (Appends (W.contents self.old.inner.now)
+            (W.contents self.new.inner.now) bytes.now) }
+        ensures prefix { WritesPrefix W.contents bytes.now result self.old self.new }
         ensures io { IfErr result (λ error. IsIo error) }
-        ensures known { OnOk result (self.new.failed_writes ≡ self.old.failed_writes) }
-        ensures failed { OnErr result (self.new.failed_writes ≡ (self.old.failed_writes + 1) % 2 ^ 64) }
+        ensures succeeded { OnOk result (self.new.failed_writes ≡ self.old.failed_writes) }
+        ensures failed { OnErr result (self.new.failed_writes
+            ≡ (self.old.failed_writes + 1) % 2 ^ 64) }
         ensures failed_flushes { self.new.failed_flushes ≡ self.old.failed_flushes }
         ensures flushes { self.new.flushes ≡ self.old.flushes }
     {
@@ -102,14 +106,15 @@ impl<'w, W: Write> Counted<'w, W> {
         Ok(())
     }
 
-    // The one call of the writer's `flush`.
+    // The only call of the writer's `flush`.
     fn flush(&mut self) -> Result<()>
         ensures same_reference { self.new.inner.ghost_name ≡ self.old.inner.ghost_name }
         ensures kept { Keeps (W.contents self.old.inner.now) (W.contents self.new.inner.now) }
         ensures io { IfErr result (λ error. IsIo error) }
         ensures failed_writes { self.new.failed_writes ≡ self.old.failed_writes }
-        ensures known { OnOk result (self.new.failed_flushes ≡ self.old.failed_flushes) }
-        ensures failed { OnErr result (self.new.failed_flushes ≡ (self.old.failed_flushes + 1) % 2 ^ 64) }
+        ensures succeeded { OnOk result (self.new.failed_flushes ≡ self.old.failed_flushes) }
+        ensures failed { OnErr result (self.new.failed_flushes
+            ≡ (self.old.failed_flushes + 1) % 2 ^ 64) }
         ensures flushes { self.new.flushes ≡ (self.old.flushes + 1) % 2 ^ 64 }
         ensures flushed { self.new.is_flushed ≡ true }
     {
@@ -125,10 +130,10 @@ impl<'w, W: Write> Counted<'w, W> {
     }
 }
 
-/// Bytes that wait to be written.
+/// Bytes that are not written yet.
 #[derive(Drop)]
 struct Gathered {
-    // Those that wait stand in front.
+    // The first `used` bytes are pending.
     bytes: [u8; 16384],
     used: usize,
     ghost in_bounds: { used ≤ 16384 },
@@ -137,16 +142,16 @@ struct Gathered {
 impl Gathered {
     ghost use Rattle.claxon_write.specs.Written.{pending_in};
 
-    fn waiting(&self) -> &[u8]
+    fn pending(&self) -> &[u8]
         ensures value { result.now ≡ pending_in self.now }
         ensures few { length result.now ≤ 16384 }
     {
         &self.bytes[..self.used]
     }
 
-    // Adds as many of the bytes as there is room for, and says how many.
+    // Adds as many of the bytes as fit, and returns their number.
     fn add_prefix(&mut self, bytes: &[u8]) -> usize
-        requires room { self.old.used < 16384 }
+        requires not_full { self.old.used < 16384 }
         requires some { 0 < length bytes.now }
         ensures some { 0 < result }
         ensures most { result ≤ length bytes.now }
@@ -158,13 +163,14 @@ impl Gathered {
         count
     }
 
-    // Adds the samples of a block between two places, whose bytes are so many.
+    // Adds the interchannel samples of a block from index `from` up to `to`, which take `size` bytes.
     fn add_samples<A: Allocator>(&mut self, block: &Block<A>, from: usize, to: usize, size: usize)
         requires order { from ≤ to }
         requires in_block { to ≤ duration_of block.now.channels }
         requires size { size ≡ (to - from) * (4 * length block.now.channels) }
-        requires room { self.old.used + size ≤ 16384 }
-        ensures added { pending_in self.new ≡ pending_in self.old ++ bytes_between block.now.channels from to }
+        requires fits { self.old.used + size ≤ 16384 }
+        ensures added { pending_in self.new ≡ pending_in self.old
+            ++ bytes_between block.now.channels from to }
     {
         let end = self.used + size;
         interleave(block, from, to, &mut self.bytes[self.used..end]);
@@ -172,29 +178,29 @@ impl Gathered {
     }
 }
 
-/// A writer with bytes gathered for it.
+/// A writer with a buffer of bytes that are gathered for it.
 #[derive(Drop)]
 pub struct Output<'w, W> {
-    writer: Counted<'w, W>,
+    writer: CountingWriter<'w, W>,
     gathered: Gathered,
 }
 
 impl<'w, W: Write> Output<'w, W> {
-    ghost use Rattle.claxon_write.specs.Lent.{output_name, output_writer};
+    ghost use Rattle.claxon_write.specs.InnerWriter.{output_name, output_writer};
     ghost use Rattle.claxon_write.specs.Output.{FlushFaultIsSound, FlushIsSound, PutIsSound, PutFaultIsSound, block_bytes};
-    ghost use Rattle.claxon_write.specs.Written.{IsFlushed, IsUnflushed, failed_flushes_of, failed_writes_of, flushes_of, held, waiting, pending_count};
+    ghost use Rattle.claxon_write.specs.Written.{IsFlushed, IsUnflushed, failed_flushes_of, failed_writes_of, flushes_of, writer_contents, pending, pending_count};
 
-    /// Lends the writer. Nothing was gathered, no write and no flush failed, and no flush was asked for so far.
+    /// Borrows the writer. No bytes are gathered yet, and all counts are 0.
     pub fn new(inner: &'w mut W) -> Output<'w, W>
         ensures same_reference { output_name result ≡ inner.entry.ghost_name }
-        ensures held { held W.contents result ≡ W.contents inner.old }
-        ensures none_pending { waiting result ≡ [] }
+        ensures writer_contents { writer_contents W.contents result ≡ W.contents inner.old }
+        ensures none_pending { pending result ≡ [] }
         ensures failed_writes { failed_writes_of result ≡ 0 }
         ensures failed_flushes { failed_flushes_of result ≡ 0 }
         ensures flushes { flushes_of result ≡ 0 }
     {
         Output {
-            writer: Counted {
+            writer: CountingWriter {
                 inner,
                 failed_writes: 0,
                 failed_flushes: 0,
@@ -208,7 +214,7 @@ impl<'w, W: Write> Output<'w, W> {
         }
     }
 
-    /// Gives the writer back. What was gathered and not written is lost.
+    /// Returns the writer. Bytes that were gathered and not written are lost.
     pub fn into_inner(self) -> &'w mut W
         ensures same_reference { result.ghost_name ≡ output_name self.entry }
         ensures writer { result.now ≡ output_writer self.entry }
@@ -220,48 +226,49 @@ impl<'w, W: Write> Output<'w, W> {
         writer.into_inner()
     }
 
-    /// Writes all that was gathered.
+    /// Writes all gathered bytes.
     ///
     /// # Errors
     ///
-    /// An `IoError` where a write fails, or writes nothing. A front of what was gathered was written then, and nothing of it
-    /// is kept.
+    /// An `IoError` if a write fails, or writes nothing. Then a prefix of the gathered bytes was written, and the others are
+    /// lost.
     pub fn write_gathered(&mut self) -> Result<()>
         ensures same_reference { output_name self.new ≡ output_name self.old }
-        ensures none_pending { waiting self.new ≡ [] }
+        ensures none_pending { pending self.new ≡ [] }
         ensures none { pending_count self.new ≡ 0 }
-        // No flush is asked for.
         ensures unflushed { IsUnflushed self.old self.new }
         ensures ok { PutIsSound W.contents [] result self.old self.new }
         ensures err { PutFaultIsSound W.contents [] result self.old self.new }
     {
-        let outcome = self.writer.write_whole(self.gathered.waiting());
+        let outcome = self.writer.write_whole(self.gathered.pending());
         self.gathered.used = 0;
         outcome
     }
 
-    // Flushes the writer. What waits stays.
+    // Flushes the writer. Pending bytes stay pending.
     pub(crate) fn flush_writer(&mut self) -> Result<()>
         ensures same_reference { output_name self.new ≡ output_name self.old }
-        ensures waiting { waiting self.new ≡ waiting self.old }
-        ensures kept { Keeps (held W.contents self.old) (held W.contents self.new) }
+        ensures pending { pending self.new ≡ pending self.old }
+        ensures kept { Keeps (writer_contents W.contents self.old)
+            (writer_contents W.contents self.new) }
         ensures io { IfErr result (λ error. IsIo error) }
         ensures failed_writes { failed_writes_of self.new ≡ failed_writes_of self.old }
-        ensures known { OnOk result (failed_flushes_of self.new ≡ failed_flushes_of self.old) }
-        ensures failed { OnErr result (failed_flushes_of self.new ≡ (failed_flushes_of self.old + 1) % 2 ^ 64) }
+        ensures succeeded { OnOk result (failed_flushes_of self.new ≡ failed_flushes_of self.old) }
+        ensures failed { OnErr result (failed_flushes_of self.new
+            ≡ (failed_flushes_of self.old + 1) % 2 ^ 64) }
         ensures flushed { IsFlushed self.old self.new }
     {
         self.writer.flush()
     }
 
-    /// Writes all that was gathered, and flushes the writer.
+    /// Writes all gathered bytes, and flushes the writer.
     ///
     /// # Errors
     ///
-    /// Those of `write_gathered`, and then nothing is flushed; and an `IoError` where the flush fails, when all was written.
+    /// Those of `write_gathered`, without a flush; or an `IoError` if the flush fails, after all bytes were written.
     pub fn flush(&mut self) -> Result<()>
         ensures same_reference { output_name self.new ≡ output_name self.old }
-        ensures none_pending { waiting self.new ≡ [] }
+        ensures none_pending { pending self.new ≡ [] }
         ensures ok { FlushIsSound W.contents result self.old self.new }
         ensures err { FlushFaultIsSound W.contents result self.old self.new }
     {
@@ -269,11 +276,11 @@ impl<'w, W: Write> Output<'w, W> {
         self.flush_writer()
     }
 
-    // Writes what was gathered where there is no room for so many bytes more.
+    // Writes the gathered bytes if `size` more would not fit.
     fn reserve(&mut self, size: usize) -> Result<()>
         requires { size ≤ 16384 }
         ensures same_reference { output_name self.new ≡ output_name self.old }
-        ensures room { OnOk result (self.new.gathered.used + size ≤ 16384) }
+        ensures fits { OnOk result (self.new.gathered.used + size ≤ 16384) }
         ensures unflushed { IsUnflushed self.old self.new }
         ensures ok { PutIsSound W.contents [] result self.old self.new }
         ensures err { PutFaultIsSound W.contents [] result self.old self.new }
@@ -284,7 +291,7 @@ impl<'w, W: Write> Output<'w, W> {
         Ok(())
     }
 
-    /// Gathers bytes, and writes where there is no more room.
+    /// Gathers bytes, and writes whenever the buffer is full.
     ///
     /// # Errors
     ///
@@ -303,7 +310,7 @@ impl<'w, W: Write> Output<'w, W> {
         Ok(())
     }
 
-    /// Gathers the samples of a block: for each place the sample of each channel, in four little-endian bytes.
+    /// Gathers the samples of a block, interleaved, each as four little-endian bytes.
     ///
     /// # Errors
     ///
@@ -319,7 +326,7 @@ impl<'w, W: Write> Output<'w, W> {
         let channels = block.channels() as usize;
         let mut from = 0;
         while from < duration {
-            let count = MOST_PER_CHANNEL.min(duration - from);
+            let count = MAX_PER_CHANNEL.min(duration - from);
             let size = count * (4 * channels);
             self.reserve(size)?;
             self.gathered.add_samples(block, from, from + count, size);
@@ -329,46 +336,46 @@ impl<'w, W: Write> Output<'w, W> {
     }
 }
 
-// The bytes of the samples between two places, for which there is just room.
-fn interleave<A: Allocator>(block: &Block<A>, from: usize, to: usize, room: &mut [u8])
+// Fills the buffer with the bytes of the interchannel samples from index `from` up to `to`.
+fn interleave<A: Allocator>(block: &Block<A>, from: usize, to: usize, buffer: &mut [u8])
     requires order { from ≤ to }
     requires in_block { to ≤ duration_of block.now.channels }
-    requires room { length room.old ≡ (to - from) * (4 * length block.now.channels) }
-    ensures { room.new ≡ bytes_between block.now.channels from to }
+    requires buffer { length buffer.old ≡ (to - from) * (4 * length block.now.channels) }
+    ensures { buffer.new ≡ bytes_between block.now.channels from to }
 {
     match block.channels() {
-        // An empty block has no place, so there is no room either.
+        // An empty block has no samples, so the buffer is empty too.
         0 => {}
-        1 => put_mono(&block.channel(0)[from..to], room),
+        1 => put_mono(&block.channel(0)[from..to], buffer),
         2 => put_stereo(
             &block.channel(0)[from..to],
             &block.channel(1)[from..to],
-            room,
+            buffer,
         ),
-        3 => put_channels::<3, A>(block, from, to, room),
-        4 => put_channels::<4, A>(block, from, to, room),
-        5 => put_channels::<5, A>(block, from, to, room),
-        6 => put_channels::<6, A>(block, from, to, room),
-        7 => put_channels::<7, A>(block, from, to, room),
-        _ => put_channels::<8, A>(block, from, to, room),
+        3 => put_channels::<3, A>(block, from, to, buffer),
+        4 => put_channels::<4, A>(block, from, to, buffer),
+        5 => put_channels::<5, A>(block, from, to, buffer),
+        6 => put_channels::<6, A>(block, from, to, buffer),
+        7 => put_channels::<7, A>(block, from, to, buffer),
+        _ => put_channels::<8, A>(block, from, to, buffer),
     }
 }
 
-// The same for a block of `CHANNELS` channels, channel by channel.
+// The same for a block of `CHANNELS` channels, one channel at a time.
 fn put_channels<const CHANNELS: usize, A: Allocator>(
     block: &Block<A>,
     from: usize,
     to: usize,
-    room: &mut [u8],
+    buffer: &mut [u8],
 )
     requires channels { length block.now.channels ≡ CHANNELS }
     requires few { CHANNELS ≤ 8 }
     requires order { from ≤ to }
     requires in_block { to ≤ duration_of block.now.channels }
-    requires room { length room.old ≡ (to - from) * (4 * length block.now.channels) }
-    ensures { room.new ≡ bytes_between block.now.channels from to }
+    requires buffer { length buffer.old ≡ (to - from) * (4 * length block.now.channels) }
+    ensures { buffer.new ≡ bytes_between block.now.channels from to }
 {
     for ch in 0..CHANNELS {
-        put_channel::<CHANNELS>(&block.channel(ch as u32)[from..to], ch, room);
+        put_channel::<CHANNELS>(&block.channel(ch as u32)[from..to], ch, buffer);
     }
 }

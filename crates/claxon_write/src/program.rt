@@ -1,4 +1,4 @@
-//! What the programs share: their arguments, the head of a file, and the outcome of their work.
+//! What the programs share: arguments, opening a file for its head, and exit status.
 ghost use Rattle.std.specs.Prelude.{◌≡◌, OnErr, OnOk};
 
 use crate::arguments::words;
@@ -9,8 +9,8 @@ use std::io::{Read, Write};
 use std::process::ExitCode;
 use std::rt::{Env, Files};
 
-/// Hands the arguments after the program's name to a command, and answers the status that it answers; where memory for them
-/// is refused, that of this fault.
+/// Passes the arguments after the program's name to a command, and returns its status; if memory for them is refused, the
+/// status of that fault.
 pub fn run_command<Q: Env + AllocGlobal, E: Write, C: FnOnce(&[String], &mut E) -> u8>(
     rt: &Q,
     errors: &mut E,
@@ -24,7 +24,7 @@ pub fn run_command<Q: Env + AllocGlobal, E: Write, C: FnOnce(&[String], &mut E) 
     })
 }
 
-/// Opens a file for what its head says alone, its tags among it.
+/// Opens a file for its metadata only, with its tags.
 pub fn open_head<Q: Files + AllocGlobal>(rt: &Q, name: &str) -> claxon::Result<FlacReader<Q::File>>
 where
     Q::File: Read,
@@ -36,7 +36,7 @@ where
     FlacReader::new_ext(rt.alloc(), fs::open(rt, name)?, options)
 }
 
-/// The status for an outcome: 0, or 1 for a fault, whose text goes to `errors`. A failed write to `errors` changes nothing.
+/// The exit status for an outcome: 0, or 1 for a fault, whose text goes to `errors`. A failed write to `errors` is ignored.
 pub fn status<F: Display + Drop, E: Write>(outcome: Result<(), F>, errors: &mut E) -> u8
     ensures ok { OnOk outcome (result ≡ 0) }
     ensures err { OnErr outcome (result ≡ 1) }

@@ -1,4 +1,4 @@
-//! The samples of a FLAC file as bytes, or its tags.
+//! The command of `claxon_raw`: the samples of a FLAC file as bytes, or its tags.
 use crate::output::Output;
 use crate::program::{open_head, status};
 use crate::stream::run;
@@ -9,8 +9,8 @@ use std::fs;
 use std::io::{Read, Write};
 use std::rt::Files;
 
-/// Does what the arguments say, and answers the status: 0, 1 for a fault, whose text goes to `errors`, or 2 for arguments
-/// that the usage line doesn't have. A failed write to `errors` changes nothing.
+/// Does what the arguments say, and returns the exit status: 0, 1 for a fault, whose text goes to `errors`, or 2 for
+/// arguments that the usage line doesn't have. A failed write to `errors` is ignored.
 pub fn command<Q: Files + AllocGlobal, W: Write, E: Write>(
     rt: &Q,
     words: &[String],

@@ -4,7 +4,7 @@ ghost use Rattle.claxon.specs.Frame.{IsWidth};
 ghost use Rattle.claxon.specs.FlacReader.{flac_metadata_only, flac_streaminfo};
 ghost use Rattle.claxon.specs.FrameReader.{frame_bytes};
 ghost use Rattle.claxon.specs.Opening.{unread};
-ghost use Rattle.claxon_write.specs.Lent.{output_name};
+ghost use Rattle.claxon_write.specs.InnerWriter.{output_name};
 ghost use Rattle.claxon_write.specs.Run.{RunFaultIsComplete, RunIsComplete, RunFaultIsSound, RunWritesPrefix, RunIsSound};
 ghost use Rattle.claxon_write.specs.WriteBlocks.{GatherBlocksFaultIsSound, WriteBlocksFaultIsSound, GatherBlocksIsSound, WriteBlocksIsSound};
 ghost use Rattle.claxon_write.specs.WriteSamples.{StreamFaultIsComplete, StreamIsComplete, StreamLeavesRest, KeepsHead, StreamIsSound, StreamFaultIsSound};
@@ -20,25 +20,27 @@ use std::io::{Read, Write};
 
 const TOO_MANY_SAMPLES: &str = "more than 18446744073709551615 samples are not supported";
 
-/// Writes each sample of the input as four little-endian bytes, and answers how many there are.
+/// Writes each sample of the input as four little-endian bytes, and returns the number of samples.
 ///
-/// How often the writer failed is not told: for that use `write_samples`.
+/// It does not count how often the writer failed: for that use `write_samples`.
 ///
 /// # Errors
 ///
-/// The fault of the head, as `FlacReader::new` names it, and then nothing was written; else those of `write_samples`. Whatever
-/// the error, nothing but a front of the samples of blocks that stand behind the head was written.
+/// The error of `FlacReader::new`, and then nothing was written; else those of `write_samples`. Whatever the error, only a
+/// prefix of the samples of the blocks that follow the head was written.
 pub fn run<R: Read + Drop, W: Write, A: Allocator + Copy>(
     alloc: A,
     input: R,
     output: &mut W,
 ) -> Result<u64>
-    // The input is a head, frames and fewer than two bytes, and just the samples of these frames were written.
+    // The input is a head, frames and fewer than two bytes, and exactly the samples of these frames were written.
     ensures ok { RunIsSound W.contents result (unread (R.remaining input)) output.old output.new }
-    // A fault stands in the input, and just the samples before it were written; else it is an `IoError` or want of memory.
-    ensures err { RunFaultIsSound W.contents result (unread (R.remaining input)) output.old output.new }
-    // After an `IoError` or want of memory too.
-    ensures front { RunWritesPrefix W.contents result (unread (R.remaining input)) output.old output.new }
+    // The input has that fault, and exactly the samples before it were written; else it is an `IoError` or `OutOfMemory`.
+    ensures err { RunFaultIsSound W.contents result
+        (unread (R.remaining input)) output.old output.new }
+    // Holds after an `IoError` or `OutOfMemory` too.
+    ensures prefix { RunWritesPrefix W.contents result
+        (unread (R.remaining input)) output.old output.new }
     ensures complete { RunIsComplete result (unread (R.remaining input)) }
     ensures named { RunFaultIsComplete result (unread (R.remaining input)) }
 {
@@ -49,16 +51,16 @@ pub fn run<R: Read + Drop, W: Write, A: Allocator + Copy>(
     outcome
 }
 
-/// Writes each sample from here on as four little-endian bytes, flushes, and answers how many there were.
+/// Writes each remaining sample as four little-endian bytes, flushes, and returns the number of samples.
 ///
 /// # Errors
 ///
-/// The first fault of the decoder, or of the writer, an `IoError`. After a decoder's fault all samples before it were
-/// written, and the output was flushed; a flush that fails then changes nothing. After a failed write a front of the samples
-/// so far was written, and nothing is flushed. `Unsupported` where the samples are 2^64 or more.
+/// The first error of the decoder, or an `IoError` of the writer. After a decoder's error all samples before it were written,
+/// and the output was flushed; a flush that fails then is ignored. After a failed write a prefix of the samples so far was
+/// written, and there is no flush. `Unsupported` if there are 2^64 samples or more.
 ///
-/// Just the frames of the blocks whose samples were handed on were taken, or also the end or the fault behind them, so the
-/// reader can be asked for what follows.
+/// Only the frames of the blocks that were handed on are consumed, or also the end or the fault after them, so the reader
+/// can go on with what follows.
 pub fn write_samples<R: Read + Drop, W: Write, A: Allocator + Copy>(
     alloc: A,
     flac: &mut FlacReader<R, A>,
@@ -66,21 +68,23 @@ pub fn write_samples<R: Read + Drop, W: Write, A: Allocator + Copy>(
 ) -> Result<u64>
     requires { flac_metadata_only flac.old ≡ false }
     ensures same_reference { output_name output.new ≡ output_name output.old }
-    // What is shown of the head stays.
     ensures head { KeepsHead flac.old flac.new }
     ensures rest { StreamLeavesRest R.remaining flac.old flac.new }
-    // All samples up to the end of the stream were written, and just these, and then flushed.
-    ensures ok { StreamIsSound W.contents R.remaining result flac.old flac.new output.old output.new }
-    // All samples before a decoder's fault were written, and then flushed, or the writer failed.
-    ensures err { StreamFaultIsSound W.contents R.remaining result flac.old flac.new output.old output.new }
+    // Exactly the samples up to the end of the stream were written, and then flushed.
+    ensures ok { StreamIsSound W.contents R.remaining result
+        flac.old flac.new output.old output.new }
+    // All samples before a decoder's error were written, and then flushed, or the writer failed.
+    ensures err { StreamFaultIsSound W.contents R.remaining result
+        flac.old flac.new output.old output.new }
     ensures complete { StreamIsComplete R.remaining result flac.old flac.new output.old output.new }
-    ensures named { StreamFaultIsComplete R.remaining result flac.old flac.new output.old output.new }
+    ensures named { StreamFaultIsComplete R.remaining result
+        flac.old flac.new output.old output.new }
 {
     write_samples_exact(alloc, flac, output)
 }
 
-// Writes all samples, and then flushes, after a decoder's fault too, so that what stands before it isn't held back. That fault came
-// first, so a flush that fails then changes nothing.
+// Writes all samples, and then flushes, after a decoder's error too, so that no sample before it stays in the writer. The
+// decoder's error came first, so a flush that fails then is ignored.
 fn write_samples_exact<R: Read + Drop, W: Write, A: Allocator + Copy>(
     alloc: A,
     flac: &mut FlacReader<R, A>,
@@ -90,8 +94,10 @@ fn write_samples_exact<R: Read + Drop, W: Write, A: Allocator + Copy>(
     ensures same_reference { output_name output.new ≡ output_name output.old }
     ensures head { KeepsHead flac.old flac.new }
     ensures width { IsWidth (Some (flac_streaminfo flac.old).bits_per_sample) }
-    ensures ok { StreamIsSound W.contents R.remaining result flac.old flac.new output.old output.new }
-    ensures err { StreamFaultIsSound W.contents R.remaining result flac.old flac.new output.old output.new }
+    ensures ok { StreamIsSound W.contents R.remaining result
+        flac.old flac.new output.old output.new }
+    ensures err { StreamFaultIsSound W.contents R.remaining result
+        flac.old flac.new output.old output.new }
 {
     let info = flac.streaminfo();
     let end = write_blocks(alloc, flac.input(), info, output)?;
@@ -102,7 +108,7 @@ fn write_samples_exact<R: Read + Drop, W: Write, A: Allocator + Copy>(
     flushed.and(Ok(end.count))
 }
 
-/// How many samples were written, and the decoder's fault that ended them.
+/// The number of samples, and the decoder's error that ended them.
 #[derive(Drop)]
 struct End {
     count: u64,
@@ -111,9 +117,8 @@ struct End {
 
 // Writes block after block of the stream with this streaminfo. An error is the writer's.
 //
-// It makes its own `FrameReader`, and not `flac.blocks()`, since what was read through a lender that was called again is
-// no longer known of the lender. What was gathered is written after a decoder's fault too, so that no sample before it is
-// lost, and so that both ends share one write.
+// It makes its own `FrameReader` instead of `flac.blocks()`: the prover loses what was read through a lending method once
+// that is called again. The gathered bytes are written after a decoder's error too, so that no sample before it is lost.
 fn write_blocks<R: ReadBytes, W: Write, A: Allocator + Copy>(
     alloc: A,
     input: &mut R,
@@ -123,9 +128,11 @@ fn write_blocks<R: ReadBytes, W: Write, A: Allocator + Copy>(
     requires some { 1 ≤ info.bits_per_sample }
     requires most { info.bits_per_sample ≤ 32 }
     ensures same_reference { output_name output.new ≡ output_name output.old }
-    ensures ok { WriteBlocksIsSound W.contents R.source info result input.old input.new output.old output.new }
+    ensures ok { WriteBlocksIsSound W.contents R.source info result
+        input.old input.new output.old output.new }
     ensures unflushed { IsUnflushed output.old output.new }
-    ensures err { WriteBlocksFaultIsSound W.contents R.source info result input.old input.new output.old output.new }
+    ensures err { WriteBlocksFaultIsSound W.contents R.source info result
+        input.old input.new output.old output.new }
 {
     let mut frames = FrameReader::with_streaminfo(input, info);
     let end = gather_blocks(alloc, &mut frames, output)?;
@@ -140,10 +147,13 @@ fn gather_blocks<R: ReadBytes, W: Write, A: Allocator + Copy>(
     output: &mut Output<'_, W>,
 ) -> Result<End>
     ensures same_reference { output_name output.new ≡ output_name output.old }
-    ensures loans { (frame_bytes R.source frames.new).loans ≡ (frame_bytes R.source frames.old).loans }
-    ensures ok { GatherBlocksIsSound W.contents R.source result frames.old frames.new output.old output.new }
+    ensures loans { (frame_bytes R.source frames.new).loans
+        ≡ (frame_bytes R.source frames.old).loans }
+    ensures ok { GatherBlocksIsSound W.contents R.source result
+        frames.old frames.new output.old output.new }
     ensures unflushed { IsUnflushed output.old output.new }
-    ensures err { GatherBlocksFaultIsSound W.contents R.source result frames.old frames.new output.old output.new }
+    ensures err { GatherBlocksFaultIsSound W.contents R.source result
+        frames.old frames.new output.old output.new }
 {
     let mut count = 0u64;
     let mut buffer = Vec::new(alloc);

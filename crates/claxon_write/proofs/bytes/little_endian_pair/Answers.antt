@@ -3,7 +3,7 @@ use Rattle.std.specs.Int.{to_le_bytes, w32, w64}
 use Rattle.std.proofs.lemmas.Int.{to_z-of_z}
 use mir.Val.{of_z}
 use Rattle.claxon_write.specs.SampleBytes.{sample_bytes}
-use Rattle.claxon_write.proofs.Places.{pair_bytes}
+use Rattle.claxon_write.proofs.Interleaving.{pair_bytes}
 use Rattle.claxon_write.proofs.bytes.little_endian_pair.Goals as goal
 
 pub returns : goal.returns

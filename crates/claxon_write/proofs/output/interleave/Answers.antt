@@ -1,8 +1,8 @@
 use Rattle.std.proofs.Common.{◌≡◌, ◌*◌, ◌-◌, ◌∷◌, [], ℕ, length, refl, sym, ap, ◌∙◌, arith}
 use Rattle.std.specs.List.{between}
 use Rattle.std.proofs.lemmas.List.Edits.{length-between}
-use Rattle.claxon_write.specs.SampleBytes.{bytes_of_samples, places}
-use Rattle.claxon_write.proofs.Places.{before_channels, after_channels, mono_part, stereo_part}
+use Rattle.claxon_write.specs.SampleBytes.{bytes_of_samples, interleave_range}
+use Rattle.claxon_write.proofs.Interleaving.{before_channels, after_channels, mono_part, stereo_part}
 use Rattle.claxon_write.proofs.output.interleave.Goals as goal
 
 pub returns-in-0 : goal.returns-in-0
@@ -11,7 +11,7 @@ returns-in-0 g c =
     let from = c.args.from in
     let n = c.args.to - from in
     let none : length channels ≡ 0 = sym c.channels.ensures.value ∙ c.in-0.is in
-    after_channels channels 0 n from 0 c.args.room.now (c.requires.room ∙ ap (λ (k : ℕ). n * (4 * k)) none) (omega (arith, none)) (omega (arith, none)) (before_channels channels 0 from n c.args.room.now)
+    after_channels channels 0 n from 0 c.args.buffer.now (c.requires.buffer ∙ ap (λ (k : ℕ). n * (4 * k)) none) (omega (arith, none)) (omega (arith, none)) (before_channels channels 0 from n c.args.buffer.now)
 
 pub returns-in-1 : goal.returns-in-1
 returns-in-1 g c =
@@ -21,7 +21,7 @@ returns-in-1 g c =
     let channel = c.channel.result.now in
     let s = between from to channel in
     let n = length-between channel from to (omega (arith, c.requires.in_block, c.channel.ensures.len)) in
-    c.put_mono.ensures ∙ ap (λ (k : ℕ). bytes_of_samples (places (s ∷ []) 0 k)) n
+    c.put_mono.ensures ∙ ap (λ (k : ℕ). bytes_of_samples (interleave_range (s ∷ []) 0 k)) n
     ∙ ap bytes_of_samples (mono_part channels channel s from to (to - from) (sym c.channels.ensures.value ∙ c.in-1.is) c.channel.ensures.samples refl refl)
 
 pub returns-in-2 : goal.returns-in-2
@@ -34,5 +34,5 @@ returns-in-2 g c =
     let s = between from to left in
     let t = between from to right in
     let n = length-between left from to (omega (arith, c.requires.in_block, c.channel-in-2.ensures.len)) in
-    c.put_stereo.ensures ∙ ap (λ (k : ℕ). bytes_of_samples (places (s ∷ t ∷ []) 0 k)) n
+    c.put_stereo.ensures ∙ ap (λ (k : ℕ). bytes_of_samples (interleave_range (s ∷ t ∷ []) 0 k)) n
     ∙ ap bytes_of_samples (stereo_part channels left right s t from to (to - from) (sym c.channels.ensures.value ∙ c.in-2.is) c.channel-in-2.ensures.samples c.channel-in-2-2.ensures.samples refl refl refl)

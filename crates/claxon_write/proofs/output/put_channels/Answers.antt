@@ -1,22 +1,22 @@
 use Rattle.std.proofs.Common.{◌*◌, ◌-◌, ℕ, refl, sym, ap, ◌∙◌, arith}
 use Rattle.std.specs.List.{between}
 use Rattle.std.proofs.lemmas.List.Edits.{length-between}
-use Rattle.claxon_write.proofs.Places.{before_channels, channel_after, after_channels}
+use Rattle.claxon_write.proofs.Interleaving.{before_channels, channel_after, after_channels}
 use Rattle.claxon_write.proofs.output.put_channels.Goals as goal
 
 pub loop-ch-init : goal.loop-ch-init
-loop-ch-init g c = before_channels c.args.block.now.channels (4 * g.row.CHANNELS) c.args.from (c.args.to - c.args.from) c.args.room.now
+loop-ch-init g c = before_channels c.args.block.now.channels (4 * g.row.CHANNELS) c.args.from (c.args.to - c.args.from) c.args.buffer.now
 
 pub loop-ch-preserved : goal.loop-ch-preserved
 loop-ch-preserved g c =
     let from = c.args.from in
     let to = c.args.to in
     let channel = c.channel.result.now in
-    channel_after c.args.block.now.channels (4 * g.row.CHANNELS) from to (to - from) c.loop-ch.ch channel (between from to channel) c.loop-ch.room c.put_channel.new.room c.channel.ensures.samples refl
+    channel_after c.args.block.now.channels (4 * g.row.CHANNELS) from to (to - from) c.loop-ch.ch channel (between from to channel) c.loop-ch.buffer c.put_channel.new.buffer c.channel.ensures.samples refl
     (omega (arith, c.requires.order)) (sym (length-between channel from to (omega (arith, c.requires.in_block, c.channel.ensures.len)))) c.loop-ch.invariant c.put_channel.ensures
 
 pub returns : goal.returns
 returns g c =
     let channels = c.args.block.now.channels in
     let n = c.args.to - c.args.from in
-    after_channels channels (4 * g.row.CHANNELS) n c.args.from c.loop-ch.ch c.loop-ch.room (c.loop-ch.auto.room ∙ c.requires.room ∙ ap (λ (k : ℕ). n * (4 * k)) c.requires.channels) (ap (λ (k : ℕ). 4 * k) (sym c.requires.channels)) (omega (arith, c.loop-ch-test.false, c.requires.channels)) c.loop-ch.invariant
+    after_channels channels (4 * g.row.CHANNELS) n c.args.from c.loop-ch.ch c.loop-ch.buffer (c.loop-ch.auto.buffer ∙ c.requires.buffer ∙ ap (λ (k : ℕ). n * (4 * k)) c.requires.channels) (ap (λ (k : ℕ). 4 * k) (sym c.requires.channels)) (omega (arith, c.loop-ch-test.false, c.requires.channels)) c.loop-ch.invariant

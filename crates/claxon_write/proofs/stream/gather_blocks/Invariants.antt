@@ -1,6 +1,6 @@
 use Rattle.std.proofs.Common.{◌≡◌, ◌-◌, ◌^◌}
 use Rattle.claxon.specs.FrameReader.{frame_bytes, frame_stream}
-use Rattle.claxon_write.specs.Lent.{output_name}
+use Rattle.claxon_write.specs.InnerWriter.{output_name}
 use Rattle.claxon_write.specs.Written.{IsUnflushed}
 use Rattle.claxon_write.proofs.Gathering.{GatheredSoFar}
 use Rattle.claxon_write.proofs.stream.gather_blocks.Given as goal

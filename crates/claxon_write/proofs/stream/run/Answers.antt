@@ -2,7 +2,7 @@ use Rattle.std.proofs.Common.{rules, refl, inl, sym, ◌∙◌}
 use Rattle.std.proofs.lemmas.Result.{err_from_is_err_and}
 use Rattle.claxon.specs.FlacReader.{flac_head}
 use Rattle.claxon.specs.Opening.{flac_bytes, unread}
-use Rattle.claxon_write.proofs.Runs.{fronts, opened_complete, opened_fault_complete, ran, refused, not_opened_complete, not_opened_fault_complete, stopped}
+use Rattle.claxon_write.proofs.Runs.{prefixes, opened_complete, opened_fault_complete, ran, head_fault, not_opened_complete, not_opened_fault_complete, stopped}
 use Rattle.claxon_write.proofs.stream.run.Goals as goal
 
 pub returns-clause-ok : goal.returns-clause-ok
@@ -10,7 +10,7 @@ returns-clause-ok g c =
     let same = c.into_inner.ensures.same_reference ∙ (c.write_samples-outcome.ensures.same_reference ∙ c.new-output.ensures.same_reference) in
     let e = sym same in
     let k = ran g.W.Write.contents (flac_head c.in_ok-flac.flac) (unread (g.R.Read.remaining c.args.input)) (flac_bytes g.R.Read.remaining c.in_ok-flac.flac) _ (g.W.Write.contents c.args.output.now) c.new-output.result c.write_samples-outcome.new.output
-    c.in_ok-flac.ensures.sound c.new-output.ensures.held c.new-output.ensures.none_pending c.write_samples-outcome.result c.write_samples-outcome.ensures.ok in
+    c.in_ok-flac.ensures.sound c.new-output.ensures.writer_contents c.new-output.ensures.none_pending c.write_samples-outcome.result c.write_samples-outcome.ensures.ok in
     let w = c.into_inner.ensures.writer in
     let j = rw (← w) at k in
     search rules
@@ -20,17 +20,17 @@ returns-clause-err g c =
     let same = c.into_inner.ensures.same_reference ∙ (c.write_samples-outcome.ensures.same_reference ∙ c.new-output.ensures.same_reference) in
     let e = sym same in
     let k = stopped g.W.Write.contents (flac_head c.in_ok-flac.flac) (unread (g.R.Read.remaining c.args.input)) (flac_bytes g.R.Read.remaining c.in_ok-flac.flac) _ (g.W.Write.contents c.args.output.now) c.new-output.result c.write_samples-outcome.new.output
-    c.in_ok-flac.ensures.sound c.new-output.ensures.held c.new-output.ensures.none_pending c.write_samples-outcome.result c.write_samples-outcome.ensures.err in
+    c.in_ok-flac.ensures.sound c.new-output.ensures.writer_contents c.new-output.ensures.none_pending c.write_samples-outcome.result c.write_samples-outcome.ensures.err in
     let w = c.into_inner.ensures.writer in
     let j = rw (← w) at k in
     search rules
 
-pub returns-clause-front : goal.returns-clause-front
-returns-clause-front g c =
+pub returns-clause-prefix : goal.returns-clause-prefix
+returns-clause-prefix g c =
     let same = c.into_inner.ensures.same_reference ∙ (c.write_samples-outcome.ensures.same_reference ∙ c.new-output.ensures.same_reference) in
     let e = sym same in
-    let k = fronts g.W.Write.contents (flac_head c.in_ok-flac.flac) (unread (g.R.Read.remaining c.args.input)) (flac_bytes g.R.Read.remaining c.in_ok-flac.flac) _ (g.W.Write.contents c.args.output.now) c.new-output.result c.write_samples-outcome.new.output
-    c.in_ok-flac.ensures.sound c.new-output.ensures.held c.new-output.ensures.none_pending c.write_samples-outcome.result c.write_samples-outcome.ensures.err in
+    let k = prefixes g.W.Write.contents (flac_head c.in_ok-flac.flac) (unread (g.R.Read.remaining c.args.input)) (flac_bytes g.R.Read.remaining c.in_ok-flac.flac) _ (g.W.Write.contents c.args.output.now) c.new-output.result c.write_samples-outcome.new.output
+    c.in_ok-flac.ensures.sound c.new-output.ensures.writer_contents c.new-output.ensures.none_pending c.write_samples-outcome.result c.write_samples-outcome.ensures.err in
     let w = c.into_inner.ensures.writer in
     let j = rw (← w) at k in
     search rules
@@ -50,10 +50,10 @@ returns-clause-named g c =
 pub returns-in_err-flac-clause-err : goal.returns-in_err-flac-clause-err
 returns-in_err-flac-clause-err g c =
     let p = err_from_is_err_and c.from_residual.result c.from_residual.ensures.1 in
-    rw (p.1, p.2) (refused (unread (g.R.Read.remaining c.args.input)) (g.W.Write.contents c.args.output.now) _ c.in_err-flac.ensures.fault)
+    rw (p.1, p.2) (head_fault (unread (g.R.Read.remaining c.args.input)) (g.W.Write.contents c.args.output.now) _ c.in_err-flac.ensures.fault)
 
-pub returns-in_err-flac-clause-front : goal.returns-in_err-flac-clause-front
-returns-in_err-flac-clause-front g c =
+pub returns-in_err-flac-clause-prefix : goal.returns-in_err-flac-clause-prefix
+returns-in_err-flac-clause-prefix g c =
     let p = err_from_is_err_and c.from_residual.result c.from_residual.ensures.1 in
     rw (p.1, p.2) (record { written = λ known. inl refl })
 

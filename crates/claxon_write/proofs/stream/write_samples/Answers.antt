@@ -5,19 +5,19 @@ use Rattle.claxon.specs.FrameReader.{stream_with}
 use Rattle.claxon.specs.Frame.{Frames}
 use Rattle.claxon.specs.State.{bytes_in}
 use Rattle.claxon.specs.Opening.{flac_bytes}
-use Rattle.claxon_write.proofs.Rests.{answer_leaves}
+use Rattle.claxon_write.proofs.RestOfInput.{answer_leaves}
 use Rattle.claxon_write.proofs.CompleteStreams.{fault_after_frames, written_whole}
 use Rattle.claxon_write.proofs.stream.write_samples.Goals as goal
 
 pub returns-clause-complete : goal.returns-clause-complete
-returns-clause-complete g c blocks s rest comes frames short few =
+returns-clause-complete g c blocks s rest remains frames short few =
     let e = c.write_samples_exact.ensures in
-    written_whole _ e.width _ _ _ _ _ blocks rest comes.known (subst (λ (z : List ℕ). Frames (Some (stream_with (flac_streaminfo c.args.flac.now))) z blocks rest) (sym comes.are) frames) few c.write_samples_exact.result e.ok e.err short
+    written_whole _ e.width _ _ _ _ _ blocks rest remains.known (subst (λ (z : List ℕ). Frames (Some (stream_with (flac_streaminfo c.args.flac.now))) z blocks rest) (sym remains.are) frames) few c.write_samples_exact.result e.ok e.err short
 
 pub returns-clause-named : goal.returns-clause-named
-returns-clause-named g c blocks s t rest f comes frames bad few =
+returns-clause-named g c blocks s t rest f remains frames bad few =
     let e = c.write_samples_exact.ensures in
-    fault_after_frames _ e.width _ _ _ _ _ blocks _ comes.known (subst (λ (z : List ℕ). Frames (Some (stream_with (flac_streaminfo c.args.flac.now))) z blocks (t ++ rest)) (sym comes.are) frames) few c.write_samples_exact.result e.ok e.err f t rest bad refl
+    fault_after_frames _ e.width _ _ _ _ _ blocks _ remains.known (subst (λ (z : List ℕ). Frames (Some (stream_with (flac_streaminfo c.args.flac.now))) z blocks (t ++ rest)) (sym remains.are) frames) few c.write_samples_exact.result e.ok e.err f t rest bad refl
 
 pub returns-clause-rest : goal.returns-clause-rest
 unfolding bytes_in

@@ -1,5 +1,5 @@
 use Rattle.std.proofs.Common.{length, take, ◌-◌, ◌≡◌, ◌≤◌}
-use Rattle.claxon_write.specs.Lent.{output_name}
+use Rattle.claxon_write.specs.InnerWriter.{output_name}
 use Rattle.claxon_write.specs.Written.{IsUnflushed, Puts}
 use Rattle.claxon_write.proofs.output.Output.put.Given as goal
 

@@ -2,7 +2,7 @@ use Rattle.std.proofs.Common.{◌≡◌, ◌+◌, ◌-◌, ◌++◌, List, ℕ, 
 use Rattle.std.proofs.lemmas.List.{append-nil}
 use Rattle.std.proofs.lemmas.Result.{err_from_is_err_and}
 use Rattle.std.proofs.lemmas.Grind.{common_steps}
-use Rattle.claxon_write.specs.SampleBytes.{bytes_of_samples, places}
+use Rattle.claxon_write.specs.SampleBytes.{bytes_of_samples, interleave_range}
 use Rattle.claxon_write.proofs.Puts.{puts_none, puts_both, puts_as, puts_pending, fails_after, fails_more, fails_as, bytes_all}
 use Rattle.claxon_write.proofs.SampleBytes.{bytes_more, bytes_none}
 use Rattle.claxon_write.proofs.output.Output.put_block.Goals as goal
@@ -15,14 +15,14 @@ loop-from-preserved g c =
     let channels = c.args.block.now.channels in
     let from = c.loop-from.from in
     let n = c.min-count.result in
-    let first = bytes_of_samples (places channels 0 from) in
+    let first = bytes_of_samples (interleave_range channels 0 from) in
     let count : from + n - from ≡ n = omega arith in
     let added = rw count at c.add_samples.ensures.added in
     record {
       inside = omega (arith, c.min-count.ensures, c.loop-from.invariant.inside);
       reference = c.in_ok-reserve.ensures.same_reference ∙ c.loop-from.invariant.reference;
       unflushed = c.in_ok-reserve.ensures.unflushed ∙ c.loop-from.invariant.unflushed;
-      puts = puts_as (bytes_more channels from n (from + n) refl) (puts_both (puts_as (append-nil first) (puts_both c.loop-from.invariant.puts c.in_ok-reserve.ensures.ok)) (puts_pending g.W.Write.contents c.reserve.new.self _ (bytes_of_samples (places channels from n)) refl added));
+      puts = puts_as (bytes_more channels from n (from + n) refl) (puts_both (puts_as (append-nil first) (puts_both c.loop-from.invariant.puts c.in_ok-reserve.ensures.ok)) (puts_pending g.W.Write.contents c.reserve.new.self _ (bytes_of_samples (interleave_range channels from n)) refl added));
     }
 
 pub returns-clause-ok : goal.returns-clause-ok
@@ -35,9 +35,9 @@ returns-in_err-reserve-clause-err g c =
     let channels = c.args.block.now.channels in
     let from = c.loop-from.from in
     let d = c.duration-duration.result in
-    let first = bytes_of_samples (places channels 0 from) in
-    let all = ap (λ (z : List ℕ). z ++ bytes_of_samples (places channels from (d - from))) (append-nil first) ∙ bytes_more channels from (d - from) d (omega (arith, c.loop-from.invariant.inside)) ∙ bytes_all channels d c.duration-duration.ensures.value in
-    rw (p.1, p.2) (fails_as all (fails_more (bytes_of_samples (places channels from (d - from))) (fails_after c.loop-from.invariant.puts c.in_err-reserve.ensures.err)))
+    let first = bytes_of_samples (interleave_range channels 0 from) in
+    let all = ap (λ (z : List ℕ). z ++ bytes_of_samples (interleave_range channels from (d - from))) (append-nil first) ∙ bytes_more channels from (d - from) d (omega (arith, c.loop-from.invariant.inside)) ∙ bytes_all channels d c.duration-duration.ensures.value in
+    rw (p.1, p.2) (fails_as all (fails_more (bytes_of_samples (interleave_range channels from (d - from))) (fails_after c.loop-from.invariant.puts c.in_err-reserve.ensures.err)))
 
 pub reserve-requires : goal.reserve-requires
 reserve-requires g c = grind (arith, common_steps)

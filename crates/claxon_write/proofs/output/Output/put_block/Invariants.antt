@@ -1,6 +1,6 @@
 use Rattle.std.proofs.Common.{◌-◌, ◌≡◌, ◌≤◌}
-use Rattle.claxon_write.specs.Lent.{output_name}
-use Rattle.claxon_write.specs.SampleBytes.{bytes_of_samples, places}
+use Rattle.claxon_write.specs.InnerWriter.{output_name}
+use Rattle.claxon_write.specs.SampleBytes.{bytes_of_samples, interleave_range}
 use Rattle.claxon_write.specs.Written.{IsUnflushed, Puts}
 use Rattle.claxon_write.proofs.output.Output.put_block.Given as goal
 
@@ -9,7 +9,7 @@ invariant-loop-from g l = record {
   inside : l.from ≤ l.duration;
   reference : output_name l.self ≡ output_name l.initial.self;
   unflushed : IsUnflushed l.initial.self l.self;
-  puts : Puts g.W.Write.contents (bytes_of_samples (places l.block.channels 0 l.from)) l.initial.self l.self;
+  puts : Puts g.W.Write.contents (bytes_of_samples (interleave_range l.block.channels 0 l.from)) l.initial.self l.self;
 }
 
 abbrev pub decreases-loop-from : goal.decreases-loop-from

@@ -1,8 +1,8 @@
--- What clauses read of an `Output`.
+-- The writer of an `Output`.
 use Rattle.std.specs.Borrow.{GName}
 use Rattle.claxon_write.specs.declared.output.Output.{Output}
 
--- which reference to the writer it holds
+-- the ghost name of the reference to the writer
 abbrev pub output_name : {W : Type 0} → Output W → GName
 output_name s = s.writer.inner.ghost_name
 
