@@ -1,4 +1,4 @@
-//! Prints what a FLAC file is: a line for each fact that its head tells, and one for each tag.
+//! Prints the facts in the head of a FLAC file, one line each, and one line for each tag.
 #![tactic(auto)]
 
 use claxon_tools::commands::info::command;

@@ -1,4 +1,4 @@
--- Chunks that are put together from pieces.
+-- Chunks that are composed of pieces.
 use Rattle.std.proofs.Common.{◌≡◌, ℕ, ◌+◌, ◌%◌, List, [], ◌++◌, length, sym, ap, ◌∙◌, append_assoc, length-append, arith}
 use Rattle.std.specs.Prelude.{Bool, true, false, cond, codes, replicate}
 use Rattle.std.specs.Int.{to_le_bytes, w32}
@@ -13,16 +13,16 @@ pub record Grown (a b xs : List ℕ) : Type 0 where
 pub by : (a xs : List ℕ) {b : List ℕ} → b ≡ a ++ xs → Grown a b xs
 by a xs e = record { is = e }
 
--- a piece more, by its name
+-- one more piece, and an equal one
 pub more : {a b c xs ys zs : List ℕ} → Grown a b xs → Grown b c ys → ys ≡ zs → Grown a c (xs ++ zs)
 more {a} {b} {c} {xs} {ys} {zs} g h e = record { is = h.is ∙ ap (λ (z : List ℕ). b ++ z) e ∙ ap (λ (z : List ℕ). z ++ zs) g.is ∙ append_assoc a xs zs }
 
--- what stands before the samples, where the format has these bytes
-abbrev pub before : List ℕ → ℕ → ℕ → List ℕ
-before f all size = codes "RIFF" ++ to_le_bytes w32 all ++ codes "WAVEfmt " ++ to_le_bytes w32 (length f) ++ f ++ codes "data" ++ to_le_bytes w32 size
+-- the bytes before the samples, for a format of these bytes
+abbrev pub header_bytes : List ℕ → ℕ → ℕ → List ℕ
+header_bytes f all size = codes "RIFF" ++ to_le_bytes w32 all ++ codes "WAVEfmt " ++ to_le_bytes w32 (length f) ++ f ++ codes "data" ++ to_le_bytes w32 size
 
 pub whole : (f samples : List ℕ) (all : ℕ) → all ≡ 20 + length f + length samples + length samples % 2 → length f % 2 ≡ 0
-    → chunk (codes "RIFF") (codes "WAVE" ++ chunk (codes "fmt ") f ++ chunk (codes "data") samples) ≡ before f all (length samples) ++ samples ++ pad (length samples)
+    → chunk (codes "RIFF") (codes "WAVE" ++ chunk (codes "fmt ") f ++ chunk (codes "data") samples) ≡ header_bytes f all (length samples) ++ samples ++ pad (length samples)
 whole f samples all all-is even =
     let size = length samples in
     let ends = codes "data" ++ to_le_bytes w32 size ++ samples ++ pad size in

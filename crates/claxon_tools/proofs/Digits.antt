@@ -1,4 +1,4 @@
--- What numbers print that are padded with zeros to two and to three digits.
+-- Numbers that are printed with two and with three digits, padded with zeros.
 use Rattle.std.proofs.Common.{◌≡◌, ℕ, ◌<◌, ◌≤◌, ◌/◌, ◌%◌, ◌-◌, ◌^◌, [], false, ⊎_elim, arith}
 use Rattle.std.proofs.lemmas.Bool.{cases_lt}
 use Rattle.std.proofs.lemmas.Fmt.{decimal_digit, decimal_step}

@@ -1,4 +1,4 @@
--- The end of a file: its pad, and a right header.
+-- The end of a file: the pad byte, and the right header.
 use Rattle.std.proofs.Common.{◌≡◌, ℕ, List, Option, None, Some, ap, subst, ◌∙◌}
 use Rattle.std.specs.Prelude.{IfSome, Result, Ok, Err}
 use Rattle.std.specs.Io.KnownBytes.{Appends}
@@ -11,9 +11,9 @@ use Rattle.claxon_tools.specs.declared.wav.writer.WavWriter.{WavWriter}
 
 pub at_start : (old new : Option ℕ) (n : ℕ) → IfSome old (λ _. (n ≡ 0) × (new ≡ Some n)) → IfSome old (λ _. new ≡ Some 0)
 at_start None new n h = tt
-at_start (Some place) new n h = h.1 ∙ ap (λ (k : ℕ). Some k) h.0
+at_start (Some at) new n h = h.1 ∙ ap (λ (k : ℕ). Some k) h.0
 
--- the pad, and then the header
+-- the pad byte, and then the header
 ends : {W : Type 0} (contents : W → Option (List ℕ)) (position : W → Option ℕ) (old padded new : WavWriter W) → Appends (contents old.output) (contents padded.output) (pad old.written) → SameHeader old padded
     → UpdatesHeader contents position padded.layout padded.announced padded.written padded.output new.output × HeaderIsRight padded new → Ends contents position old.layout old.announced old.written old.output new.output × HeaderIsRight old new
 ends contents position old padded new p same m =

@@ -3,4 +3,4 @@ pub mod Chunks
 pub mod Converting
 pub mod Ending
 pub mod Interleaved
-pub mod Widths
+pub mod SamplesFit

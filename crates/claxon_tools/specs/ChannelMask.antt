@@ -29,8 +29,8 @@ side_left = 0x200
 abbrev pub side_right : ℕ
 side_right = 0x400
 
--- The masks of one to eight channels, as FLAC assigns them: RFC 9639, section 9.1.3. Of five and of six the surround channels
--- are those of the sides.
+-- The masks of one to eight channels, as FLAC assigns them: RFC 9639, section 9.1.3. For five and six channels the surround
+-- channels are the side channels.
 abbrev pub default_channel_masks : List ℕ
 default_channel_masks =
     front_center
@@ -43,11 +43,11 @@ default_channel_masks =
     ∷ (front_left + front_right + front_center + low_frequency + back_left + back_right + side_left + side_right)
     ∷ []
 
--- the mask of so many channels, where nothing else is said
+-- the default mask for this number of channels
 abbrev pub default_channel_mask : ℕ → ℕ
 default_channel_mask channels = get_or default_channel_masks (channels - 1) 0
 
--- the mask that is named, or the default one of so many channels
+-- the given mask, or the default one for this number of channels
 abbrev pub channel_mask_of : ℕ → Option ℕ → ℕ
 channel_mask_of channels None = default_channel_mask channels
 channel_mask_of channels (Some named) = named

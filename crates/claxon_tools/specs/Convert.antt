@@ -1,4 +1,4 @@
--- What is put of a stream, and what a whole conversion promises.
+-- The clauses of `put_blocks` and `convert`.
 use Rattle.std.specs.Prelude.{All, ◌≡◌, ◌⊎◌, ℕ, ◌+◌, ◌<◌, true, List, ◌++◌, length, Option, Some, Result, IfErr, OnOk}
 use Rattle.std.specs.Io.KnownBytes.{Appends}
 use Rattle.claxon.specs.Bits.{FitsIn}
@@ -25,67 +25,90 @@ use Rattle.claxon_tools.specs.declared.wav.writer.WavWriter.{WavWriter}
 
 -- the bytes of the samples of blocks, one block after another
 abbrev pub packed_blocks : ℕ → List Block → List ℕ
-packed_blocks width blocks = packed_samples width (samples_of blocks)
+packed_blocks valid_bits blocks = packed_samples valid_bits (samples_of blocks)
 
--- Just the samples of these blocks were put behind all that was written before, in as many bytes as are told. Each block has
--- the channels of the layout, and each sample no more bits than it.
-pub record PutsSamples {W : Type 0} (contents : W → Option (List ℕ)) (blocks : List Block) (old new : WavWriter W) : Type 0 where
+-- Exactly the samples of these blocks were written after all earlier bytes, and their bytes were counted. Each block has the
+-- channels of the layout, and each sample fits in its valid bits.
+pub record PutsSamples {W : Type 0} (contents : W → Option (List ℕ)) (blocks : List Block)
+    (old new : WavWriter W) : Type 0 where
   pub channels : All (λ b. length b.channels ≡ old.layout.channels) blocks
-  pub fit : All (FitsIn old.layout.width) (samples_of blocks)
-  pub bytes_are : Appends (contents old.output) (contents new.output) (packed_blocks old.layout.width blocks)
-  pub written_is : new.written ≡ old.written + length (packed_blocks old.layout.width blocks)
+  pub fit : All (FitsIn old.layout.valid_bits) (samples_of blocks)
+  pub bytes_are : Appends (contents old.output) (contents new.output)
+      (packed_blocks old.layout.valid_bits blocks)
+  pub written_is : new.written ≡ old.written + length (packed_blocks old.layout.valid_bits blocks)
   pub announced_is : new.announced ≡ old.announced
   pub layout_is : new.layout ≡ old.layout
 
--- What is to come is the frames of these blocks, one after another, and fewer than two bytes.
+-- The remaining input is the frames of these blocks, one after another, and fewer than two bytes.
 abbrev pub IsWholeStream : Option StreamFormat → List Block → State ℕ → Type 0
-IsWholeStream stream blocks s = s.known ≡ true → (rest : List ℕ) × Frames stream s.remaining blocks rest × (length rest < 2)
+IsWholeStream stream blocks s =
+    s.known ≡ true → (rest : List ℕ) × Frames stream s.remaining blocks rest × (length rest < 2)
 
--- Just the samples of all blocks up to the end of the stream were put.
-pub record PutsStream {W : Type 0} (contents : W → Option (List ℕ)) (stream : Option StreamFormat) (s : State ℕ) (old new : WavWriter W) : Type 0 where
+-- Exactly the samples of all blocks up to the end of the stream were written.
+pub record PutsStream {W : Type 0} (contents : W → Option (List ℕ)) (stream : Option StreamFormat)
+    (s : State ℕ) (old new : WavWriter W) : Type 0 where
   pub blocks : List Block
   pub all : IsWholeStream stream blocks s
   pub puts : PutsSamples contents blocks old new
 
--- An Ok says that all blocks up to the end were put.
-abbrev pub PutBlocksIsSound : {R W : Type 0} → (W → Option (List ℕ)) → (R → Source ℕ) → FrameReader R → Result (Unit {0}) Error → WavWriter W → WavWriter W → Type 0
-PutBlocksIsSound contents source blocks r old new = OnOk r (PutsStream contents (frame_stream blocks) (frame_bytes source blocks) old new)
+-- An Ok wrote all blocks up to the end of the stream.
+abbrev pub PutBlocksIsSound : {R W : Type 0} → (W → Option (List ℕ)) → (R → Source ℕ)
+    → FrameReader R → Result (Unit {0}) Error → WavWriter W → WavWriter W → Type 0
+PutBlocksIsSound contents source blocks r old new =
+    OnOk r (PutsStream contents (frame_stream blocks) (frame_bytes source blocks) old new)
 
--- The frames of such blocks stand at the front of s.
+-- s begins with the frames of such blocks.
 abbrev pub HasBlocks : Option StreamFormat → List ℕ → (List Block → Type 0) → Type 0
-HasBlocks stream s P = (blocks : List Block) × (rest : List ℕ) × Frames stream s blocks rest × P blocks
+HasBlocks stream s P =
+    (blocks : List Block) × (rest : List ℕ) × Frames stream s blocks rest × P blocks
 
--- A fault that the error names stands in s, behind the frames of blocks.
+-- s is the frames of blocks, followed by a fault that the error names.
 abbrev pub HasFault : Option StreamFormat → List ℕ → Cause → Type 0
-HasFault stream s error = (f : Fault) × IsFault f error × ((blocks : List Block) × (t : List ℕ) × (rest : List ℕ) × Frames stream s blocks (t ++ rest) × FrameBytesFault stream f t)
+HasFault stream s error =
+    (f : Fault) × IsFault f error × ((blocks : List Block) × (t : List ℕ) × (rest : List ℕ)
+    × Frames stream s blocks (t ++ rest) × FrameBytesFault stream f t)
 
--- An error that is neither want of memory nor an `IoError` names a fault that stands in s, or says that of blocks that stand there
--- not all have the channels of the layout, or not all samples so few bits, or that the bytes of their samples, behind those that
--- were written before, are more than the file has room for.
-abbrev pub ExplainsError : {W : Type 0} → Option StreamFormat → WavWriter W → List ℕ → Error → Type 0
-ExplainsError stream old s (Claxon error) = (error ≡ OutOfMemory) ⊎ (IsIo error ⊎ HasFault stream s error)
-ExplainsError stream old s OtherChannels = HasBlocks stream s (λ blocks. All (λ b. length b.channels ≡ old.layout.channels) blocks → ⊥)
-ExplainsError stream old s WideSample = HasBlocks stream s (λ blocks. All (FitsIn old.layout.width) (samples_of blocks) → ⊥)
-ExplainsError stream old s TooLong = HasBlocks stream s (λ blocks. 4294967234 < old.written + length (packed_blocks old.layout.width blocks))
+-- What an error says of s: it is `OutOfMemory`, an `IoError` or a fault in s; or s begins with blocks of which one has other
+-- channels than the layout, a sample doesn't fit in its valid bits, or the bytes, with those written before, are more than a
+-- WAV file holds.
+abbrev pub ExplainsError : {W : Type 0} → Option StreamFormat → WavWriter W → List ℕ → Error
+    → Type 0
+ExplainsError stream old s (Claxon error) =
+    (error ≡ OutOfMemory) ⊎ (IsIo error ⊎ HasFault stream s error)
+ExplainsError stream old s OtherChannels =
+    HasBlocks stream s (λ blocks. All (λ b. length b.channels ≡ old.layout.channels) blocks → ⊥)
+ExplainsError stream old s WideSample =
+    HasBlocks stream s (λ blocks. All (FitsIn old.layout.valid_bits) (samples_of blocks) → ⊥)
+ExplainsError stream old s TooLong =
+    HasBlocks stream s (λ blocks. 4294967234 < old.written + length
+    (packed_blocks old.layout.valid_bits blocks))
 ExplainsError stream old s SameFile = ⊥
 
--- The same of what is to come, where that is told.
-abbrev pub ExplainsErrorIfKnown : {W : Type 0} → Option StreamFormat → WavWriter W → State ℕ → Error → Type 0
-ExplainsErrorIfKnown stream old s error = s.known ≡ true → ExplainsError stream old s.remaining error
+-- The same for the remaining input, where it is known.
+abbrev pub ExplainsErrorIfKnown : {W : Type 0} → Option StreamFormat → WavWriter W → State ℕ → Error
+    → Type 0
+ExplainsErrorIfKnown stream old s error =
+    s.known ≡ true → ExplainsError stream old s.remaining error
 
--- An Err says what stands in the way of all blocks.
-abbrev pub PutBlocksFaultIsSound : {R W : Type 0} → (R → Source ℕ) → FrameReader R → Result (Unit {0}) Error → WavWriter W → Type 0
-PutBlocksFaultIsSound source blocks r old = IfErr r (ExplainsErrorIfKnown (frame_stream blocks) old (frame_bytes source blocks))
+-- An Err says why not all blocks were written.
+abbrev pub PutBlocksFaultIsSound : {R W : Type 0} → (R → Source ℕ) → FrameReader R
+    → Result (Unit {0}) Error → WavWriter W → Type 0
+PutBlocksFaultIsSound source blocks r old =
+    IfErr r (ExplainsErrorIfKnown (frame_stream blocks) old (frame_bytes source blocks))
 
--- Behind what the output held when the writer was started over it stands a whole WAV file of these samples, where that header
--- announced as many bytes as there are.
-abbrev pub HoldsFile : {W : Type 0} → (W → Option (List ℕ)) → List Block → WavWriter W → WavWriter W → Type 0
+-- The output has, after what it contained when the writer was started, a complete WAV file of these samples, if the first
+-- header announced the right number of bytes.
+abbrev pub HoldsFile : {W : Type 0} → (W → Option (List ℕ)) → List Block → WavWriter W → WavWriter W
+    → Type 0
 HoldsFile {W} contents blocks old new =
-    (layout : Layout) (announced : ℕ) (output : W) → Begins contents layout announced output old → announced ≡ length (packed_blocks layout.width blocks)
-    → Appends (contents output) (contents new.output) (wave_file layout (packed_blocks layout.width blocks))
+    (layout : Layout) (announced : ℕ) (output : W) → Begins contents layout announced output old
+    → announced ≡ length (packed_blocks layout.valid_bits blocks)
+    → Appends (contents output) (contents new.output)
+    (wave_file layout (packed_blocks layout.valid_bits blocks))
 
--- Just the samples of all blocks up to the end of the stream were put, and then the end of the file was.
-pub record Converts {W : Type 0} (contents : W → Option (List ℕ)) (position : W → Option ℕ) (stream : Option StreamFormat) (s : State ℕ) (old new : WavWriter W) : Type 0 where
+-- Exactly the samples of all blocks up to the end of the stream were written, and then the file was finished.
+pub record Converts {W : Type 0} (contents : W → Option (List ℕ)) (position : W → Option ℕ)
+    (stream : Option StreamFormat) (s : State ℕ) (old new : WavWriter W) : Type 0 where
   pub blocks : List Block
   pub all : IsWholeStream stream blocks s
   pub put : WavWriter W
@@ -94,10 +117,17 @@ pub record Converts {W : Type 0} (contents : W → Option (List ℕ)) (position 
   pub right : HeaderIsRight put new
   pub file : HoldsFile contents blocks old new
 
--- An Ok says that what was to come is all converted.
-abbrev pub ConvertIsSound : {R A W : Type 0} → (W → Option (List ℕ)) → (W → Option ℕ) → (R → Option (List ℕ)) → FlacReader R A → Result (Unit {0}) Error → WavWriter W → WavWriter W → Type 0
-ConvertIsSound contents position remaining flac r old new = OnOk r (Converts contents position (Some (stream_with (flac_streaminfo flac))) (flac_bytes remaining flac) old new)
+-- An Ok converted the whole stream.
+abbrev pub ConvertIsSound : {R A W : Type 0} → (W → Option (List ℕ)) → (W → Option ℕ)
+    → (R → Option (List ℕ)) → FlacReader R A → Result (Unit {0}) Error → WavWriter W → WavWriter W
+    → Type 0
+ConvertIsSound contents position remaining flac r old new =
+    OnOk r (Converts contents position (Some (stream_with (flac_streaminfo flac)))
+    (flac_bytes remaining flac) old new)
 
--- An Err says what stands in the way of that.
-abbrev pub ConvertFaultIsSound : {R A W : Type 0} → (R → Option (List ℕ)) → FlacReader R A → Result (Unit {0}) Error → WavWriter W → Type 0
-ConvertFaultIsSound remaining flac r old = IfErr r (ExplainsErrorIfKnown (Some (stream_with (flac_streaminfo flac))) old (flac_bytes remaining flac))
+-- An Err says why the stream was not converted completely.
+abbrev pub ConvertFaultIsSound : {R A W : Type 0} → (R → Option (List ℕ)) → FlacReader R A
+    → Result (Unit {0}) Error → WavWriter W → Type 0
+ConvertFaultIsSound remaining flac r old =
+    IfErr r (ExplainsErrorIfKnown (Some (stream_with (flac_streaminfo flac))) old
+    (flac_bytes remaining flac))

@@ -1,4 +1,4 @@
--- The lines that are printed of a stream.
+-- The lines that are printed about a stream.
 use Rattle.std.specs.Prelude.{ℕ, Option, None, Some, Result, OnOk, List, ◌++◌, flat_map, codes}
 use Rattle.std.specs.Borrow.{Bor}
 use Rattle.std.specs.declared.alloc.AllocError.{AllocError}
@@ -18,7 +18,7 @@ line name value = name ++ codes ": " ++ value ++ codes "\n"
 abbrev pub numbers_text : List (Bor (List ℕ) × Option ℕ) → List ℕ
 numbers_text numbers = flat_map (λ n. line n.0.now (number_text n.1)) numbers
 
--- what the samples are, how many, and how long they take
+-- the format, number and length of the samples
 abbrev pub format_text : StreamInfo → List ℕ
 format_text info = line (codes "sample_rate") (number_text (Some info.sample_rate))
     ++ line (codes "channels") (number_text (Some info.channels))
@@ -26,7 +26,7 @@ format_text info = line (codes "sample_rate") (number_text (Some info.sample_rat
     ++ line (codes "samples") (number_text info.samples)
     ++ line (codes "length") (length_text info.samples info.sample_rate)
 
--- the sizes of blocks and frames, and the sum of the samples
+-- the sizes of blocks and frames, and the MD5 sum of the samples
 abbrev pub sizes_text : StreamInfo → List ℕ
 sizes_text info = line (codes "min_block_size") (number_text (Some info.min_block_size))
     ++ line (codes "max_block_size") (number_text (Some info.max_block_size))
@@ -47,17 +47,19 @@ tags_text tags = flat_map tag_text tags
 
 -- all the lines
 abbrev pub facts_text : StreamInfo → Option (List ℕ) → List (List ℕ × List ℕ) → List ℕ
-facts_text info vendor tags = format_text info ++ sizes_text info ++ vendor_text vendor ++ tags_text tags
+facts_text info vendor tags =
+    format_text info ++ sizes_text info ++ vendor_text vendor ++ tags_text tags
 
--- those of all that is shown of a stream's head
+-- the lines for a reader's head
 abbrev pub facts_of : {R A : Type 0} → FlacReader R A → List ℕ
 facts_of flac = facts_text (flac_streaminfo flac) (vendor_of flac) (tags_of flac)
 
 -- An Ok is those lines.
-abbrev pub FactsIsSound : {R A : Type 0} → FlacReader R A → Result (String A) AllocError → Type 0
-FactsIsSound flac r = IsText (facts_of flac) r
+abbrev pub FactsAreSound : {R A : Type 0} → FlacReader R A → Result (String A) AllocError → Type 0
+FactsAreSound flac r = IsText (facts_of flac) r
 
--- An Ok wrote just those lines.
+-- An Ok wrote exactly those lines.
 abbrev pub WriteFactsIsSound : {R W A : Type 0} → (W → Option (List ℕ)) → FlacReader R A
     → Result (Unit {0}) Error → W → W → Type 0
-WriteFactsIsSound contents flac r old new = OnOk r (Appends (contents old) (contents new) (facts_of flac))
+WriteFactsIsSound contents flac r old new =
+    OnOk r (Appends (contents old) (contents new) (facts_of flac))

@@ -10,27 +10,28 @@ use Rattle.claxon_tools.specs.WaveFile.{sample_size}
 use Rattle.claxon_tools.specs.declared.wav.error.Error.{Error}
 use Rattle.claxon_tools.specs.declared.wav.error.Error.TheVariants.{Claxon, WideSample}
 
--- what silence is: a single byte is counted from the least sample on
+-- the value of silence: 8-bit samples are unsigned
 abbrev pub silence : ℕ → ℕ
 silence size = cond (size == 1) 128 0
 
--- a sample moved up by so many bits, as a number of 32 bits
-abbrev pub raised : ℕ → ℕ → ℤ → ℕ
-raised shift silence x = (cast_unsigned w32 x * 2 ^ shift % 2 ^ 32 + silence) % 2 ^ 32
+-- a sample scaled up by `shift` bits, as a 32-bit number
+abbrev pub scaled_up : ℕ → ℕ → ℤ → ℕ
+scaled_up shift silence x = (cast_unsigned w32 x * 2 ^ shift % 2 ^ 32 + silence) % 2 ^ 32
 
--- The bytes of a sample of so many bits, which are the highest ones of so many bytes. The least significant byte is the first.
+-- A sample as `size` little-endian bytes; its valid bits are the most significant ones.
 unfoldable pub bytes_of_sample : ℕ → ℕ → ℤ → List ℕ
-bytes_of_sample size width x = take size (to_le_bytes w32 (raised (8 * size - width) (silence size) x))
+bytes_of_sample size valid_bits x =
+    take size (to_le_bytes w32 (scaled_up (8 * size - valid_bits) (silence size) x))
 
--- the bytes of samples of so many bits, one after another
+-- the bytes of samples, one after another
 abbrev pub packed_samples : ℕ → List ℤ → List ℕ
-packed_samples width xs = flat_map (bytes_of_sample (sample_size width) width) xs
+packed_samples valid_bits xs = flat_map (bytes_of_sample (sample_size valid_bits) valid_bits) xs
 
--- the bytes of a block's samples, place by place
+-- the bytes of a block's interleaved samples
 abbrev pub packed_block : ℕ → BlockValue → List ℕ
-packed_block width block = packed_samples width (interleave block.channels)
+packed_block valid_bits block = packed_samples valid_bits (interleave block.channels)
 
--- A refusal of the width says that not all of the samples have so few bits. Else memory was refused.
+-- `WideSample` says that not all samples fit in the valid bits. Any other error is `OutOfMemory`.
 abbrev pub IsTooWide : ℕ → Error → List ℤ → Type 0
-IsTooWide width WideSample xs = All (FitsIn width) xs → ⊥
-IsTooWide width error xs = error ≡ Claxon OutOfMemory
+IsTooWide valid_bits WideSample xs = All (FitsIn valid_bits) xs → ⊥
+IsTooWide valid_bits error xs = error ≡ Claxon OutOfMemory

@@ -1,12 +1,12 @@
-//! What the decoder answered, as text.
+//! Results of the decoder, as text.
 use claxon::metadata::StreamInfo;
 use claxon::{Error, Result};
 use std::alloc::Global;
 use std::fmt;
 use std::io::Write;
 
-/// The text of what a call answered, gathered in memory and written in one place. Where memory is refused it is lost, so that
-/// those who add to it need not stop.
+/// The text of a result, gathered in memory and written at once. If memory is refused the text is lost; the methods that add
+/// to it have no errors.
 #[derive(Drop)]
 pub struct Answer {
     text: Vec<u8>,
@@ -14,7 +14,7 @@ pub struct Answer {
 }
 
 impl Answer {
-    /// A text with nothing in it.
+    /// An empty text.
     pub fn new(alloc: Global) -> Answer {
         Answer {
             text: Vec::new(alloc),
@@ -22,7 +22,7 @@ impl Answer {
         }
     }
 
-    /// What was added, or a text that no answer has.
+    /// The text, or one that no answer has if it is lost.
     pub fn as_bytes(&self) -> &[u8] {
         if self.is_lost {
             b"no memory for the answer"
@@ -31,11 +31,11 @@ impl Answer {
         }
     }
 
-    /// Writes what was added.
+    /// Writes the text.
     ///
     /// # Errors
     ///
-    /// `OutOfMemory` where it is lost, or the writer's `IoError`.
+    /// `OutOfMemory` if it is lost, or the writer's `IoError`.
     pub fn write_to<W: Write>(&self, output: &mut W) -> Result<()> {
         if self.is_lost {
             return Err(Error::OutOfMemory);
@@ -78,14 +78,14 @@ impl Answer {
         }
     }
 
-    /// Adds a value as it stands in a program, texts in quotes.
+    /// Adds a value as `Debug` formats it.
     pub fn quoted<T: fmt::Debug>(&mut self, value: &T) {
         if write!(&mut self.text, "{value:?}").is_err() {
             self.is_lost = true;
         }
     }
 
-    /// Adds texts with a number behind each.
+    /// Adds texts with a number after each.
     pub fn counts(&mut self, counts: &[(&str, u64)]) {
         for (text, count) in counts {
             self.text(text);
@@ -93,7 +93,7 @@ impl Answer {
         }
     }
 
-    /// Adds each of the samples, behind a space.
+    /// Adds each of the samples, after a space.
     pub fn samples(&mut self, samples: &[i32]) {
         for sample in samples {
             self.text(" ");
@@ -112,7 +112,7 @@ impl Answer {
         }
     }
 
-    /// Adds what a streaminfo says.
+    /// Adds the values of a streaminfo.
     pub fn streaminfo(&mut self, info: &StreamInfo) {
         self.counts(&[
             ("blocks ", u64::from(info.min_block_size)),
@@ -141,8 +141,8 @@ impl Answer {
         }
     }
 
-    /// Adds how much was taken and the text of a fault behind it, or `IO` where that is all.
-    pub fn fault_behind(&mut self, taken: u64, all: u64, error: &Error) {
+    /// Adds the number of bits or bytes consumed and the text of a fault, or `IO` for an `IoError` after all of them.
+    pub fn fault_after(&mut self, taken: u64, all: u64, error: &Error) {
         match error {
             Error::IoError(_) if taken == all => self.text("IO"),
             _ => {
@@ -153,7 +153,7 @@ impl Answer {
         }
     }
 
-    /// Adds what another call answers, where it isn't the same as what one does.
+    /// Adds the other answer after the heading, if it differs from the first.
     pub fn difference(&mut self, one: &Answer, other: &Answer, heading: &str) {
         if one.as_bytes() != other.as_bytes() {
             self.text(heading);

@@ -1,3 +1,3 @@
-//! What the programs do for their arguments.
+//! The commands of the programs.
 pub mod info;
 pub mod wav;

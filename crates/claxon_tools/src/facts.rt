@@ -1,8 +1,8 @@
-//! The lines that are printed of a stream.
+//! The lines that are printed about a stream.
 ghost use Rattle.std.specs.Prelude.{◌≡◌};
 ghost use Rattle.std.specs.Option.{option_map};
 ghost use Rattle.claxon.specs.Tags.{remaining_tags};
-ghost use Rattle.claxon_tools.specs.Facts.{FactsIsSound, WriteFactsIsSound, format_text, line, numbers_text, sizes_text, tag_text, tags_text, vendor_text};
+ghost use Rattle.claxon_tools.specs.Facts.{FactsAreSound, WriteFactsIsSound, format_text, line, numbers_text, sizes_text, tag_text, tags_text, vendor_text};
 ghost use Rattle.claxon_tools.specs.Text.{Adds};
 
 use crate::text::{escaped_text, length_text, md5_text, number_text};
@@ -12,10 +12,10 @@ use std::alloc::{AllocError, Allocator};
 use std::io::{Read, Write};
 
 /// Writes the lines `NAME: value` of a stream, and flushes: those of its streaminfo, one for the vendor, and one for each
-/// tag, in order. After an error a front of them may have been written.
+/// tag, in order. After an error a prefix of them may have been written.
 ///
-/// A value that the head doesn't tell is `unknown`. A vendor or a tag stands on one line, whatever its text holds, as
-/// `escaped_text` says.
+/// A value that the head doesn't give is `unknown`. A vendor or a tag takes one line, whatever its text contains: see
+/// `escaped_text`.
 pub fn write_facts<R: Read, W: Write, A: Allocator + Copy>(
     alloc: A,
     flac: &FlacReader<R, A>,
@@ -34,7 +34,7 @@ fn facts<R: Read, A: Allocator + Copy>(
     alloc: A,
     flac: &FlacReader<R, A>,
 ) -> Result<String<A>, AllocError>
-    ensures { FactsIsSound flac.now result }
+    ensures { FactsAreSound flac.now result }
 {
     let mut text = String::new(alloc);
     let info = flac.streaminfo();
@@ -45,7 +45,7 @@ fn facts<R: Read, A: Allocator + Copy>(
     Ok(text)
 }
 
-// What the samples are, how many there are, and how long they take.
+// The format, number and length of the samples.
 fn push_format<A: Allocator + Copy>(
     alloc: A,
     text: &mut String<A>,
@@ -64,7 +64,7 @@ fn push_format<A: Allocator + Copy>(
     push_line(text, "length", length.as_str())
 }
 
-// The sizes of blocks and frames, and the sum of the samples.
+// The sizes of blocks and frames, and the MD5 sum of the samples.
 fn push_sizes<A: Allocator + Copy>(
     alloc: A,
     text: &mut String<A>,

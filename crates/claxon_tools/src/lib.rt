@@ -1,5 +1,5 @@
-//! What the programs beside `claxon_raw` need: WAV files, values as text, the facts of a head, what the decoder answered,
-//! how far a long task is, and what each program does for its arguments.
+//! What the programs other than `claxon_raw` need: WAV files, values as text, the facts of a head, results of the decoder as
+//! text, progress, and the programs' commands.
 #![tactic(auto)]
 
 pub mod answer;

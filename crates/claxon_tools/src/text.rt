@@ -3,7 +3,7 @@ ghost use Rattle.claxon_tools.specs.Text.{Adds, IsText, escaped_char, escaped_te
 
 use std::alloc::{AllocError, Allocator};
 
-/// A number in decimal digits, or `unknown` where there is none.
+/// A number in decimal digits, or `unknown` for None.
 #[tactic(auto, unfolding(crate::specs::Text::number_text))]
 pub fn number_text<A: Allocator>(alloc: A, number: Option<u64>) -> Result<String<A>, AllocError>
     ensures { IsText (number_text number) result }
@@ -14,8 +14,8 @@ pub fn number_text<A: Allocator>(alloc: A, number: Option<u64>) -> Result<String
     }
 }
 
-/// How long so many samples take at so many a second, rounded down to thousandths of a second, as `h:mm:ss.mmm`; or
-/// `unknown` where the samples aren't known or the rate is 0.
+/// The length of this number of samples per channel at this sample rate, rounded down to milliseconds, as `h:mm:ss.mmm`; or
+/// `unknown` if the number isn't known or the rate is 0.
 #[tactic(auto, unfolding(crate::specs::Text::length_text))]
 pub fn length_text<A: Allocator>(
     alloc: A,
@@ -32,7 +32,7 @@ pub fn length_text<A: Allocator>(
     }
 }
 
-// So many thousandths of a second.
+// A time in milliseconds.
 fn time_text<A: Allocator>(alloc: A, time: u128) -> Result<String<A>, AllocError>
     ensures { IsText (time_text time) result }
 {
@@ -41,7 +41,7 @@ fn time_text<A: Allocator>(alloc: A, time: u128) -> Result<String<A>, AllocError
     format!(in alloc; "{hours}:{minutes:02}:{seconds:02}.{thousandths:03}")
 }
 
-/// An MD5 sum in hexadecimal digits, or `unknown` where it is nothing but zeros.
+/// An MD5 sum in hexadecimal digits, or `unknown` if it is all zeros.
 #[tactic(auto, unfolding(crate::specs::Text::md5_text))]
 pub fn md5_text<A: Allocator>(alloc: A, md5sum: &[u8; 16]) -> Result<String<A>, AllocError>
     ensures { IsText (md5_text md5sum.now) result }

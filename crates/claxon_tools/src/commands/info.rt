@@ -1,12 +1,12 @@
-//! The facts that the head of a FLAC file tells.
+//! The command of `claxon_info`: the facts in the head of a FLAC file.
 use crate::facts::write_facts;
 use claxon::Result;
 use claxon_write::{open_head, status};
 use std::io::{Read, Write};
 use std::rt::Files;
 
-/// Does what the arguments say, and answers the status: 0, 1 for a fault, whose text goes to `errors`, or 2 for arguments
-/// that the usage line doesn't have. A failed write to `errors` changes nothing.
+/// Does what the arguments say, and returns the exit status: 0, 1 for a fault, whose text goes to `errors`, or 2 for
+/// arguments that the usage line doesn't have. A failed write to `errors` is ignored.
 pub fn command<Q: Files + AllocGlobal, W: Write, E: Write>(
     rt: &Q,
     words: &[String],

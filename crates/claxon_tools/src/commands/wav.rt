@@ -1,4 +1,4 @@
-//! A FLAC file as a WAV file.
+//! The command of `claxon_wav`: a FLAC file as a WAV file.
 use crate::progress::Progress;
 use crate::wav::{Error, Layout, Result, WavWriter, convert};
 use claxon::FlacReader;
@@ -8,8 +8,8 @@ use std::io::{Read, Write};
 use std::os::unix::fs::MetadataExt;
 use std::rt::Files;
 
-/// Does what the arguments say, and answers the status: 0, 1 for a fault, whose text goes to `errors`, or 2 for arguments
-/// that the usage line doesn't have. A failed write to `errors` changes nothing.
+/// Does what the arguments say, and returns the exit status: 0, 1 for a fault, whose text goes to `errors`, or 2 for
+/// arguments that the usage line doesn't have. A failed write to `errors` is ignored.
 pub fn command<Q: Files + AllocGlobal, E: Write>(
     rt: &Q,
     words: &[String],
@@ -24,7 +24,7 @@ pub fn command<Q: Files + AllocGlobal, E: Write>(
     status(outcome, errors)
 }
 
-// The output is made when the head is read, so that a fault there leaves what stood in its place.
+// The output is created after the head is read, so that a fault there leaves an existing file as it is.
 fn convert_file<Q: Files + AllocGlobal, E: Write>(
     rt: &Q,
     from: &str,
@@ -38,7 +38,7 @@ fn convert_file<Q: Files + AllocGlobal, E: Write>(
         info.channels,
         info.bits_per_sample,
         info.sample_rate,
-        speakers(&flac),
+        channel_mask(&flac),
     );
     let Some(announced) = layout.data_size(info.samples.unwrap_or(0)) else {
         return Err(Error::TooLong);
@@ -54,17 +54,17 @@ fn convert_file<Q: Files + AllocGlobal, E: Write>(
     outcome
 }
 
-// The loudspeakers that a tag names, as an encoder writes it for a WAV file with unusual ones.
-fn speakers<R: Read>(flac: &FlacReader<R>) -> Option<u32> {
+// The channel mask in a tag, as an encoder writes it for a WAV file with other channels than the default ones.
+fn channel_mask<R: Read>(flac: &FlacReader<R>) -> Option<u32> {
     let value = flac.get_tag("WAVEFORMATEXTENSIBLE_CHANNEL_MASK").next()?;
-    let speakers = u32::from_str_radix(value.strip_prefix("0x")?, 16).ok()?;
-    if speakers == 0 {
+    let channel_mask = u32::from_str_radix(value.strip_prefix("0x")?, 16).ok()?;
+    if channel_mask == 0 {
         return None;
     }
-    Some(speakers)
+    Some(channel_mask)
 }
 
-// Making the output would empty the input.
+// Creating the output would empty the input.
 fn is_same_file<Q: Files>(rt: &Q, from: &str, to: &str) -> bool {
     match (fs::metadata(rt, from), fs::metadata(rt, to)) {
         (Ok(from), Ok(to)) => from.ino() != 0 && from.ino() == to.ino() && from.dev() == to.dev(),

@@ -1,4 +1,4 @@
-//! The blocks of a stream, put into a WAV file.
+//! The blocks of a stream, written to a WAV file.
 ghost use Rattle.std.specs.Prelude.{◌≡◌, false};
 ghost use Rattle.claxon.specs.FlacReader.{flac_metadata_only};
 ghost use Rattle.claxon_tools.specs.Convert.{ConvertIsSound, ConvertFaultIsSound, PutBlocksIsSound, PutBlocksFaultIsSound};
@@ -12,7 +12,7 @@ use claxon::input::ReadBytes;
 use std::alloc::Global;
 use std::io::{Read, Seek, Write};
 
-/// Writes all samples of the stream. After a fault those before it make a whole file too.
+/// Writes all samples of the stream, and finishes the file. After an error the samples before it are in a valid file too.
 pub fn convert<R: Read + Drop, W: Write + Seek, E: Write>(
     alloc: Global,
     flac: &mut FlacReader<R>,
@@ -21,7 +21,8 @@ pub fn convert<R: Read + Drop, W: Write + Seek, E: Write>(
     errors: &mut E,
 ) -> Result<()>
     requires { flac_metadata_only flac.old ≡ false }
-    ensures ok { ConvertIsSound W.contents W.stream_position R.remaining flac.old result wav.old wav.new }
+    ensures ok { ConvertIsSound W.contents W.stream_position R.remaining
+        flac.old result wav.old wav.new }
     ensures err { ConvertFaultIsSound R.remaining flac.old result wav.old }
 {
     let outcome = put_blocks(alloc, flac.blocks(), wav, progress, errors);
@@ -30,7 +31,7 @@ pub fn convert<R: Read + Drop, W: Write + Seek, E: Write>(
     finished
 }
 
-// Puts block after block up to the end. Each has samples, so the file has room for no more than so many blocks.
+// Writes block after block up to the end of the stream. Each has samples, so a WAV file holds only so many blocks.
 fn put_blocks<R: ReadBytes + Drop, W: Write + Seek, E: Write>(
     alloc: Global,
     blocks: FrameReader<R>,

@@ -1,4 +1,4 @@
-//! Why there is no whole WAV file.
+//! The errors of a conversion to a WAV file.
 ghost use Rattle.std.specs.Prelude.{◌≡◌};
 ghost use Rattle.claxon.specs.Errors.TheVariants.{IoError, OutOfMemory};
 ghost use Rattle.claxon_tools.specs.declared.wav.error.Error.TheVariants.{Claxon};
@@ -6,22 +6,22 @@ ghost use Rattle.claxon_tools.specs.declared.wav.error.Error.TheVariants.{Claxon
 use std::alloc::AllocError;
 use std::{fmt, io, result};
 
-/// What ended a conversion.
+/// An error of a conversion to a WAV file.
 #[derive(Debug, Drop)]
 pub enum Error {
-    /// A fault of the stream, of a file or of memory.
+    /// An error of the decoder, of a file or of memory.
     Claxon(claxon::Error),
 
     /// The samples are more than a WAV file holds.
     TooLong,
 
-    /// A block hasn't as many channels as the streaminfo says.
+    /// A block has another number of channels than the streaminfo says.
     OtherChannels,
 
     /// A sample has more bits than the streaminfo says.
     WideSample,
 
-    /// To make the output would empty the input.
+    /// The output is the input, and creating it would empty the input.
     SameFile,
 }
 

@@ -1,46 +1,51 @@
-//! What stands before the samples of a WAV file.
+//! The header of a WAV file: all that precedes the samples.
 ghost use Rattle.std.specs.Prelude.{◌≡◌, ◌≤◌, ◌*◌, ◌++◌, ◌%◌, ◌==◌, ◌||◌, OnOk, length};
 ghost use Rattle.claxon_tools.specs.ChannelMask.{default_channel_mask};
 
 use std::alloc::AllocError;
 
-/// The bytes of samples that a file can hold: the size of all that stands behind its first eight bytes, up to sixty bytes
-/// and a pad byte more, has 32 bits.
+/// The most bytes of samples that a file can hold: the size of all that follows its first eight bytes, which is up to sixty
+/// bytes and a pad byte more, has 32 bits.
 pub const MAX_DATA_SIZE: u32 = 4_294_967_234;
 
-// The code of plain samples in the long format.
+// The GUID of the PCM subformat.
 const PCM_SUBFORMAT: [u8; 16] = [1, 0, 0, 0, 0, 0, 16, 0, 128, 0, 0, 170, 0, 56, 155, 113];
 
-/// How the samples of a WAV file are to be read.
+/// The format of the samples of a WAV file.
 #[derive(Clone, Copy)]
 pub struct Layout {
     channels: u32,
-    width: u32,
+    valid_bits: u32,
     sample_rate: u32,
-    speakers: u32,
+    channel_mask: u32,
     ghost some_channels: { 1 ≤ channels },
     ghost few_channels: { channels ≤ 8 },
-    ghost some_bits: { 1 ≤ width },
-    ghost few_bits: { width ≤ 32 },
+    ghost some_bits: { 1 ≤ valid_bits },
+    ghost few_bits: { valid_bits ≤ 32 },
 }
 
 impl Layout {
     ghost use Rattle.claxon_tools.specs.WaveFile.{IsHeader, IsLayoutOf, IsSizeOf, extension, format, is_extensible, block_align, sample_size, base_format};
 
-    /// The layout of samples of so many channels and bits, and so many places a second. The channels belong to these
-    /// loudspeakers, a bit each; where none are named, to the usual ones of a FLAC stream.
-    pub fn new(channels: u32, width: u32, sample_rate: u32, speakers: Option<u32>) -> Layout
+    /// A layout with this number of channels, of bits per sample, and of samples per second and channel. The channel mask has
+    /// a bit for each channel's position; without one the channels are assigned as in a FLAC stream.
+    pub fn new(
+        channels: u32,
+        valid_bits: u32,
+        sample_rate: u32,
+        channel_mask: Option<u32>,
+    ) -> Layout
         requires some_channels { 1 ≤ channels }
         requires few_channels { channels ≤ 8 }
-        requires some_bits { 1 ≤ width }
-        requires few_bits { width ≤ 32 }
-        ensures { IsLayoutOf channels width sample_rate speakers result }
+        requires some_bits { 1 ≤ valid_bits }
+        requires few_bits { valid_bits ≤ 32 }
+        ensures { IsLayoutOf channels valid_bits sample_rate channel_mask result }
     {
         Layout {
             channels,
-            width,
+            valid_bits,
             sample_rate,
-            speakers: speakers.unwrap_or(default_channel_mask(channels)),
+            channel_mask: channel_mask.unwrap_or(default_channel_mask(channels)),
         }
     }
 
@@ -51,24 +56,24 @@ impl Layout {
         self.channels
     }
 
-    /// The bits of a sample, which are the highest ones of its bytes.
-    pub fn width(&self) -> u32
-        ensures value { result ≡ self.now.width }
+    /// The valid bits per sample, which are the most significant bits of its bytes.
+    pub fn valid_bits(&self) -> u32
+        ensures value { result ≡ self.now.valid_bits }
         ensures some_bits { 1 ≤ result }
         ensures few_bits { result ≤ 32 }
     {
-        self.width
+        self.valid_bits
     }
 
-    // The bytes of a sample.
+    // The number of bytes of a sample.
     fn sample_size(&self) -> u32
-        ensures value { result ≡ sample_size self.now.width }
+        ensures value { result ≡ sample_size self.now.valid_bits }
         ensures few { result ≤ 4 }
     {
-        self.width.div_ceil(8)
+        self.valid_bits.div_ceil(8)
     }
 
-    // The bytes of a sample of each channel.
+    // The number of bytes of one sample of each channel.
     fn block_align(&self) -> u32
         ensures value { result ≡ block_align self.now }
         ensures few { result ≤ 32 }
@@ -76,11 +81,11 @@ impl Layout {
         self.channels * self.sample_size()
     }
 
-    /// The bytes of so many samples of each channel, or None where no WAV file holds them.
-    pub fn data_size(&self, places: u64) -> Option<u32>
-        ensures { IsSizeOf self.now places result }
+    /// The number of bytes of `count` samples per channel, or None if no WAV file holds them.
+    pub fn data_size(&self, count: u64) -> Option<u32>
+        ensures { IsSizeOf self.now count result }
     {
-        let size = places.checked_mul(u64::from(self.block_align()))?;
+        let size = count.checked_mul(u64::from(self.block_align()))?;
         if size > u64::from(MAX_DATA_SIZE) {
             return None;
         }
@@ -88,25 +93,25 @@ impl Layout {
     }
 
     fn is_8_or_16_bits(&self) -> bool
-        ensures { result ≡ ((self.now.width == 8) || (self.now.width == 16)) }
+        ensures { result ≡ ((self.now.valid_bits == 8) || (self.now.valid_bits == 16)) }
     {
-        self.width == 8 || self.width == 16
+        self.valid_bits == 8 || self.valid_bits == 16
     }
 
     fn has_mono_or_stereo_mask(&self) -> bool
-        ensures { result ≡ ((self.now.speakers == 3) || (self.now.speakers == 4)) }
+        ensures { result ≡ ((self.now.channel_mask == 3) || (self.now.channel_mask == 4)) }
     {
-        self.speakers == 3 || self.speakers == 4
+        self.channel_mask == 3 || self.channel_mask == 4
     }
 
-    // Whether the format has to name its loudspeakers and the bits of a sample.
+    // Whether the format needs a channel mask and valid bits, as in WAVEFORMATEXTENSIBLE.
     fn is_extensible(&self) -> bool
         ensures { result ≡ is_extensible self.now }
     {
         self.channels > 2 || !self.is_8_or_16_bits() || !self.has_mono_or_stereo_mask()
     }
 
-    /// Puts all that stands before so many bytes of samples in place of these bytes.
+    /// Replaces the bytes by the header for `size` bytes of samples.
     pub fn put_header(&self, size: u32, bytes: &mut Vec<u8>) -> Result<(), AllocError>
         requires { size ≤ 4294967234 }
         ensures { OnOk result (IsHeader self.now size bytes.new.items) }
@@ -157,19 +162,19 @@ impl Layout {
         Ok(())
     }
 
-    // What the long format has more: its size, the bits of a sample, the loudspeakers, the code of the samples.
+    // The extension: its size, valid bits per sample, channel mask, subformat.
     fn put_extension(&self, bytes: &mut Vec<u8>) -> Result<(), AllocError>
         ensures { OnOk result (bytes.new.items ≡ bytes.old.items ++ extension self.now) }
     {
         bytes.extend_from_slice(&22u16.to_le_bytes())?;
-        bytes.extend_from_slice(&(self.width as u16).to_le_bytes())?;
-        bytes.extend_from_slice(&self.speakers.to_le_bytes())?;
+        bytes.extend_from_slice(&(self.valid_bits as u16).to_le_bytes())?;
+        bytes.extend_from_slice(&self.channel_mask.to_le_bytes())?;
         bytes.extend_from_slice(&PCM_SUBFORMAT)?;
         Ok(())
     }
 }
 
-// The channel mask of so many channels, as FLAC assigns them.
+// The channel mask of this number of channels, as FLAC assigns them.
 fn default_channel_mask(channels: u32) -> u32
     requires some_channels { 1 ≤ channels }
     requires few_channels { channels ≤ 8 }

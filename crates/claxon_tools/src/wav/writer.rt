@@ -1,4 +1,4 @@
-//! A WAV file that is being written.
+//! Writing a WAV file.
 ghost use Rattle.std.specs.Prelude.{◌≡◌, ◌≤◌, All, IfErr, OnOk};
 ghost use Rattle.std.specs.Io.KnownBytes.{Appends};
 ghost use Rattle.claxon.specs.Bits.{FitsIn};
@@ -12,15 +12,15 @@ use claxon::Block;
 use std::alloc::{Allocator, Global};
 use std::io::{Seek, SeekFrom, Write};
 
-/// A WAV file at the start of its output, and the samples that stand in it so far.
+/// A WAV file in an output, with the samples written so far.
 #[derive(Drop)]
 pub struct WavWriter<W> {
     output: W,
     layout: Layout,
-    // The bytes of samples that the header names, and those that were written.
+    // The number of bytes of samples that the header announces, and the number written.
     announced: u32,
     written: u32,
-    // The room of what is written is kept from one time to the next.
+    // These are kept to reuse their memory.
     header: Vec<u8>,
     interleaved: Vec<i32>,
     bytes: Vec<u8>,
@@ -31,7 +31,7 @@ pub struct WavWriter<W> {
 impl<W: Write + Seek> WavWriter<W> {
     ghost use Rattle.claxon_tools.specs.Writer.{StartIsSound, FinishIsSound, IsOutOfMemoryOrIo, UpdateHeaderIsSound, PutBlockIsSound, PutBlockFaultIsSound, SameHeader};
 
-    /// Writes a header for so many bytes of samples. Others may come: `finish` mends it.
+    /// Writes a header that announces this number of bytes of samples. If there are others, `finish` corrects it.
     pub fn start(alloc: Global, output: W, layout: Layout, announced: u32) -> Result<WavWriter<W>>
     where
         W: Drop,
@@ -56,7 +56,8 @@ impl<W: Write + Seek> WavWriter<W> {
     /// Writes the samples of a block.
     pub fn put_block<A: Allocator>(&mut self, block: &Block<A>) -> Result<()>
         ensures ok { PutBlockIsSound W.contents block.now result self.old self.new }
-        ensures fits { OnOk result (All (FitsIn self.old.layout.width) (interleave block.now.channels)) }
+        ensures fits { OnOk result (All (FitsIn self.old.layout.valid_bits)
+            (interleave block.now.channels)) }
         ensures err { IfErr result (λ error. PutBlockFaultIsSound block.now error self.old) }
         ensures layout { self.new.layout ≡ self.old.layout }
         ensures announced { self.new.announced ≡ self.old.announced }
@@ -64,11 +65,11 @@ impl<W: Write + Seek> WavWriter<W> {
         if block.channels() != self.layout.channels() {
             return Err(Error::OtherChannels);
         }
-        let width = self.layout.width();
-        pack(block, width, &mut self.interleaved, &mut self.bytes)?;
-        let room = (MAX_DATA_SIZE - self.written) as usize;
+        let valid_bits = self.layout.valid_bits();
+        pack(block, valid_bits, &mut self.interleaved, &mut self.bytes)?;
+        let free = (MAX_DATA_SIZE - self.written) as usize;
         let size = self.bytes.len();
-        if size > room {
+        if size > free {
             return Err(Error::TooLong);
         }
         self.output.write_all(self.bytes.as_slice())?;
@@ -76,20 +77,21 @@ impl<W: Write + Seek> WavWriter<W> {
         Ok(())
     }
 
-    /// Makes a whole file of what was written so far. Where the header was right no seek is made.
+    /// Finishes the file with the samples written so far. There is no seek if the header was right.
     pub fn finish(&mut self) -> Result<()>
         ensures ok { FinishIsSound W.contents W.stream_position result self.old self.new }
         ensures err { IfErr result IsOutOfMemoryOrIo }
     {
         let padded = self.pad();
-        let mended = self.update_header();
+        let updated = self.update_header();
         padded?;
-        mended
+        updated
     }
 
-    // A zero behind an odd number of bytes.
+    // The pad byte after an odd number of bytes.
     fn pad(&mut self) -> Result<()>
-        ensures bytes { OnOk result (Appends (W.contents self.old.output) (W.contents self.new.output) (pad self.old.written)) }
+        ensures bytes { OnOk result (Appends (W.contents self.old.output)
+            (W.contents self.new.output) (pad self.old.written)) }
         ensures same { SameHeader self.old self.new }
         ensures err { IfErr result IsOutOfMemoryOrIo }
     {

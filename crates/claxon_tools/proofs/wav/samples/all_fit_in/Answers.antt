@@ -4,7 +4,7 @@ use Rattle.std.proofs.lemmas.Int.{to_z-of_z}
 use Rattle.std.proofs.lemmas.List.{take_all}
 use mir.Val.{SFits}
 use Rattle.claxon.specs.Bits.{FitsIn}
-use Rattle.claxon_tools.proofs.Widths.{next_fits, next_misfits}
+use Rattle.claxon_tools.proofs.SamplesFit.{next_fits, next_misfits}
 use Rattle.claxon_tools.proofs.wav.samples.all_fit_in.Goals as goal
 
 pub loop-i-preserved : goal.loop-i-preserved
@@ -13,7 +13,7 @@ loop-i-preserved c =
     let i = c.loop-i.i in
     let x = get_or xs i (pos 0) in
     let f : SFits w32 x = search rules in
-    let P : ℤ → Type 0 = FitsIn c.args.width in
+    let P : ℤ → Type 0 = FitsIn c.args.valid_bits in
     let same = to_z-of_z w32 x f in
     record {
       yes = next_fits P xs i c.loop-i-test.true c.loop-i.fit c.fits_in-fit.result c.loop-i.invariant.yes (λ e. subst P same (c.fits_in-fit.ensures.yes e));
@@ -21,4 +21,4 @@ loop-i-preserved c =
     }
 
 pub returns-clause-yes : goal.returns-clause-yes
-returns-clause-yes c = λ e. subst (λ (z : List ℤ). All (FitsIn c.args.width) z) (take_all c.loop-i.i c.args.samples.now (omega arith)) (c.loop-i.invariant.yes e)
+returns-clause-yes c = λ e. subst (λ (z : List ℤ). All (FitsIn c.args.valid_bits) z) (take_all c.loop-i.i c.args.samples.now (omega arith)) (c.loop-i.invariant.yes e)

@@ -5,6 +5,6 @@ use Rattle.claxon_tools.proofs.wav.samples.all_fit_in.Given as goal
 
 abbrev pub invariant-loop-i : goal.invariant-loop-i
 invariant-loop-i l = record {
-  yes : l.fit ≡ true → All (FitsIn l.width) (take l.i l.samples);
-  no : l.fit ≡ false → All (FitsIn l.width) (take l.i l.samples) → ⊥;
+  yes : l.fit ≡ true → All (FitsIn l.valid_bits) (take l.i l.samples);
+  no : l.fit ≡ false → All (FitsIn l.valid_bits) (take l.i l.samples) → ⊥;
 }

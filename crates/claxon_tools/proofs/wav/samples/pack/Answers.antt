@@ -12,10 +12,10 @@ returns-in_err-resize-clause-wide g c = let p = err_from_is_err_and c.from_resid
 
 pub returns-then-not-all_fit_in-clause-wide : goal.returns-then-not-all_fit_in-clause-wide
 returns-then-not-all_fit_in-clause-wide g c =
-    let room = c.interleave.new.room in
-    let len : length room ≡ c.resize.new.self.len = omega (arith, c.interleave.auto.room, c.as_mut_slice.ensures.len) in
-    let same : interleave c.args.block.now.channels ≡ c.as_slice.result.now = sym c.interleave.ensures ∙ sym (take_at room (drop (length room) c.resize.new.self.items) c.resize.new.self.len len) ∙ sym c.as_slice.ensures.value in
-    λ h. c.all_fit_in.ensures.no c.if-not-all_fit_in.true (subst (λ (z : List ℤ). All (FitsIn c.args.width) z) same h)
+    let buffer = c.interleave.new.buffer in
+    let len : length buffer ≡ c.resize.new.self.len = omega (arith, c.interleave.auto.buffer, c.as_mut_slice.ensures.len) in
+    let same : interleave c.args.block.now.channels ≡ c.as_slice.result.now = sym c.interleave.ensures ∙ sym (take_at buffer (drop (length buffer) c.resize.new.self.items) c.resize.new.self.len len) ∙ sym c.as_slice.ensures.value in
+    λ h. c.all_fit_in.ensures.no c.if-not-all_fit_in.true (subst (λ (z : List ℤ). All (FitsIn c.args.valid_bits) z) same h)
 
 pub returns-in_err-resize-2-clause-wide : goal.returns-in_err-resize-2-clause-wide
 returns-in_err-resize-2-clause-wide g c = let p = err_from_is_err_and c.from_residual-in_err-resize-2.result c.from_residual-in_err-resize-2.ensures.1 in rw (p.1, p.2) refl
@@ -25,7 +25,7 @@ returns-clause-ok g c = grind (arith, common_steps)
 
 pub returns-clause-fits : goal.returns-clause-fits
 returns-clause-fits g c =
-    let room = c.interleave.new.room in
-    let len : length room ≡ c.resize.new.self.len = omega (arith, c.interleave.auto.room, c.as_mut_slice.ensures.len) in
-    let same : c.as_slice.result.now ≡ interleave c.args.block.now.channels = c.as_slice.ensures.value ∙ take_at room (drop (length room) c.resize.new.self.items) c.resize.new.self.len len ∙ c.interleave.ensures in
-    subst (λ (z : List ℤ). All (FitsIn c.args.width) z) same (c.all_fit_in.ensures.yes c.if-not-all_fit_in.false)
+    let buffer = c.interleave.new.buffer in
+    let len : length buffer ≡ c.resize.new.self.len = omega (arith, c.interleave.auto.buffer, c.as_mut_slice.ensures.len) in
+    let same : c.as_slice.result.now ≡ interleave c.args.block.now.channels = c.as_slice.ensures.value ∙ take_at buffer (drop (length buffer) c.resize.new.self.items) c.resize.new.self.len len ∙ c.interleave.ensures in
+    subst (λ (z : List ℤ). All (FitsIn c.args.valid_bits) z) same (c.all_fit_in.ensures.yes c.if-not-all_fit_in.false)

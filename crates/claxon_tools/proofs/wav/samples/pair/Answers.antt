@@ -15,4 +15,4 @@ loop-i-preserved c =
     let i = c.loop-i.i in
     let f : SFits w32 (get_or s i (pos 0)) = search rules in
     let g : SFits w32 (get_or t i (pos 0)) = search rules in
-    pair_more s t i (2 * i) (2 * i + 1) (2 * (i + 1)) _ _ c.loop-i.room refl refl refl (omega arith) (to_z-of_z w32 _ f) (to_z-of_z w32 _ g) c.loop-i.invariant
+    pair_more s t i (2 * i) (2 * i + 1) (2 * (i + 1)) _ _ c.loop-i.buffer refl refl refl (omega arith) (to_z-of_z w32 _ f) (to_z-of_z w32 _ g) c.loop-i.invariant

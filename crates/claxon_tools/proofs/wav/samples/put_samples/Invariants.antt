@@ -4,4 +4,4 @@ use Rattle.claxon_tools.specs.Samples.{bytes_of_sample}
 use Rattle.claxon_tools.proofs.wav.samples.put_samples.Given as goal
 
 abbrev pub invariant-loop-i : goal.invariant-loop-i
-invariant-loop-i g l = take (l.i * g.row.N) l.room ≡ flat_map (bytes_of_sample g.row.N l.width) (take l.i l.samples)
+invariant-loop-i g l = take (l.i * g.row.N) l.buffer ≡ flat_map (bytes_of_sample g.row.N l.valid_bits) (take l.i l.samples)

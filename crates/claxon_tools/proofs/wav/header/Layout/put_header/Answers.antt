@@ -2,7 +2,7 @@ use Rattle.std.proofs.Common.{rules, ◌≡◌, ◌+◌, ◌%◌, ◌++◌, [], 
 use Rattle.std.specs.Prelude.{codes}
 use Rattle.std.specs.Int.{to_le_bytes}
 use Rattle.claxon_tools.specs.WaveFile.{format, pad}
-use Rattle.claxon_tools.proofs.Chunks.{by, more, before, whole}
+use Rattle.claxon_tools.proofs.Chunks.{by, more, header_bytes, whole}
 use Rattle.claxon_tools.proofs.wav.header.Layout.put_header.Goals as goal
 
 pub returns : goal.returns
@@ -21,8 +21,8 @@ returns c =
     let five = more four (by c.extend_from_slice-4.new.self.items f c.in_ok-put_format.ensures) refl in
     let six = more five (by c.put_format.new.bytes.items (codes "data") c.in_ok-extend_from_slice-5.ensures.items) refl in
     let seven = more six (by c.extend_from_slice-5.new.self.items c.to_le_bytes-3.result c.in_ok-extend_from_slice-6.ensures.items) size_bytes in
-    let put : c.extend_from_slice-6.new.self.items ≡ before f all size = seven.is in
+    let put : c.extend_from_slice-6.new.self.items ≡ header_bytes f all size = seven.is in
     λ samples len.
     let all_is : all ≡ 20 + length f + length samples + length samples % 2 = rw (len, c.format_size-format_size.ensures.size) refl in
     let even : length f % 2 ≡ 0 = rw (sym c.format_size-format_size.ensures.size) c.format_size-format_size.ensures.even in
-    whole f samples all all_is even ∙ ap (λ (n : ℕ). before f all n ++ samples ++ pad n) len ∙ ap (λ (z : List ℕ). z ++ samples ++ pad size) (sym put)
+    whole f samples all all_is even ∙ ap (λ (n : ℕ). header_bytes f all n ++ samples ++ pad n) len ∙ ap (λ (z : List ℕ). z ++ samples ++ pad size) (sym put)

@@ -1,4 +1,4 @@
--- Whether each of the samples so far is one of the wanted kind.
+-- Whether all samples so far satisfy a predicate.
 use Rattle.std.proofs.Common.{◌≡◌, ℕ, zero, suc, ◌+◌, ◌<◌, List, [], ◌∷◌, length, take, get_or, refl, sym, subst, arith, ℤ, pos, Bool, true, false}
 use Rattle.std.specs.Prelude.{All, ◌&&◌}
 use Rattle.std.proofs.lemmas.Bool.{false≢true}
