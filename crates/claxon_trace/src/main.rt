@@ -1,4 +1,4 @@
-//! Prints what each call of the decoder answers for a file, going on after faults.
+//! Prints the result of each call of the decoder for a file, going on after errors.
 #![tactic(auto)]
 
 mod trace;
@@ -11,13 +11,13 @@ use std::process::ExitCode;
 use std::rt::Files;
 use trace::{Ending, trace};
 
-// Where garbage stands each two bytes are a fault.
-const MOST_FAULTS: u64 = 10_000;
+// In garbage each pair of bytes is an error.
+const MAX_FAULTS: u64 = 10_000;
 
-// After how many faults to stop, 0 for never, and the file.
+// The number of errors after which to stop, 0 for never, and the file.
 fn request(words: &[String]) -> Option<(u64, &str)> {
     match words {
-        [name] if name.as_str() != "--faults" => Some((MOST_FAULTS, name.as_str())),
+        [name] if name.as_str() != "--faults" => Some((MAX_FAULTS, name.as_str())),
         [option, number, name] if option.as_str() == "--faults" => {
             let most = number.as_str().parse::<u64>().ok()?;
             Some((most, name.as_str()))
@@ -42,7 +42,7 @@ where
     Ok(ending)
 }
 
-// The status: 0 where no call answered a fault, 1 where one did, 2 for arguments that the usage line doesn't have.
+// The exit status: 0 without errors, 1 with errors, 2 for arguments that the usage line doesn't have.
 fn command<Q: Files + AllocGlobal, W: Write + Drop, E: Write>(
     rt: &Q,
     words: &[String],

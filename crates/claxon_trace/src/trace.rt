@@ -1,4 +1,4 @@
-//! One line for each answer.
+//! One line for each result.
 ghost use Rattle.std.specs.Prelude.{◌≤◌};
 
 use claxon::frame::FrameReader;
@@ -13,16 +13,16 @@ use std::io::{Read, Write};
 /// How a trace ended.
 #[derive(Clone, Copy)]
 pub enum Ending {
-    /// No call answered a fault.
+    /// There was no error.
     Clean,
-    /// Some call did, and the last one answered the end, an `IoError` or the fault of the head.
+    /// There were errors, and the last result was the end, an `IoError` or the error of the head.
     Faulty,
-    /// There were as many faults as were to be told, and the stream may go on.
+    /// The limit of errors was reached, and the stream may go on.
     Stopped,
 }
 
-/// Writes a line for the head and one for each call that reads a block, made again after a fault, until the end, an
-/// `IoError`, or so many faults. With 0 no number of faults ends it.
+/// Writes a line for the head and one for each call that reads a block, going on after errors until the end, an `IoError`, or
+/// `most` errors. If `most` is 0 there is no limit.
 pub fn trace<R: Read + Drop, W: Write>(
     alloc: Global,
     input: R,
@@ -50,13 +50,13 @@ fn trace_stream<R: Read + Drop, W: Write>(
     trace_frames(alloc, flac.input(), info, most, output)
 }
 
-// What a call that reads a block answered.
+// The result of a call that reads a block.
 #[derive(Clone, Copy)]
 enum Step {
     Block,
     End,
     Fault,
-    // A fault that no call comes behind.
+    // An error after which no call is made.
     LastFault,
 }
 
@@ -94,7 +94,7 @@ fn trace_frames<R: ReadBytes, W: Write>(
     })
 }
 
-// What the next call answers, and its line.
+// The result of the next call, and its line.
 fn next_step<R: ReadBytes>(alloc: Global, frames: &mut FrameReader<R>) -> (Step, Answer) {
     match frames.read_next_or_eof(Vec::new(alloc)) {
         Ok(Some(block)) => (Step::Block, block_line(alloc, &block)),
