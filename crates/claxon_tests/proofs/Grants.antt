@@ -1,4 +1,4 @@
--- `is_granted` at a call: what it is handed, and what a caller has of it. Assumes `Logic`.
+-- A call of `is_granted`: its precondition, and what a caller gets from its postcondition. Assumes `Logic`.
 use Rattle.std.proofs.Common.{◌≡◌, ℕ, Bool, List, [], ◌∷◌, refl, ap}
 use seplogic.Ra.Ura.{Ura}
 use mir.Val.{Val, vbool, vptr}

@@ -1,4 +1,4 @@
--- Guarded pairs in bytes.
+-- Pairs with CRC as bytes.
 use Rattle.std.proofs.Common.{◌≡◌, ◌<◌, ℕ, List, subst, ◌∙◌}
 use Rattle.claxon_format.specs.Fault.{FrameCrc}
 use Rattle.claxon_format.specs.read.Bytes.{by_bytes, crc_at, with_crc_bytes_at}
@@ -22,7 +22,7 @@ pub pair_is : (s : List ℕ) → pair_with_crc_at s ≡ with_crc_bytes_at 2 crc1
 unfolding pair_with_crc_at pair_at
 pair_is s = with_crc_in_bytes 2 crc16 FrameCrc (Reads-then (Reads-number 5) (λ a t code. Reads-map (λ b. (a, b)) (Reads-number 9))) s
 
--- after the pair its guard is to come
+-- after the pair its CRC remains
 pub after_pair : {R : Type 0} (source : R → Source ℕ) (b c : CrcReader R ℕ) (crc : ℕ) (p : ℕ × ℕ) → crc_state b ≡ 0 → crc ≡ crc_state c → crc < 65536
     → Consumes (bytes_in (crc_source source update_crc16) b) (bytes_in (crc_source source update_crc16) c) (λ s m. by_bytes pair_at s ≡ Done p m)
     → Consumes (bytes_in (crc_source source update_crc16) b) (bytes_in (crc_source source update_crc16) c) (λ s m. pair_with_crc_at s ≡ bind (crc_at 2 crc FrameCrc m) (λ u. done p))

@@ -1,4 +1,4 @@
--- Two numbers of 5 and of 9 bits, padding and a guard: a code as small as one of a frame's kind can be.
+-- Two numbers of 5 and of 9 bits, padding and a CRC: a small code of the same form as a frame.
 use Rattle.std.specs.Prelude.{ℕ, Bool, List, Result}
 use Rattle.claxon_format.specs.Bits.{Bits}
 use Rattle.claxon_format.specs.Fault.{FrameCrc}
@@ -16,10 +16,11 @@ use Rattle.claxon_input.specs.declared.error.Error.{Error}
 unfoldable pub pair_at : Bits → Reading Bool (ℕ × ℕ)
 pair_at = and_then (number_at 5) (λ a. and_then (number_at 9) (λ b. done (a, b)))
 
--- in bytes, with padding and guard
+-- as bytes, with padding and CRC
 unfoldable pub pair_with_crc_at : List ℕ → Reading ℕ (ℕ × ℕ)
 pair_with_crc_at = by_bytes (with_crc_at 16 crc16 FrameCrc (byte_aligned_at pair_at))
 
--- What was answered and taken is what the reader of guarded pairs gives.
+-- The result and the bytes consumed are those of `pair_with_crc_at`.
 abbrev pub PairIsRead : {R : Type 0} → (R → Source ℕ) → R → Result (ℕ × ℕ) Error → R → Type 0
-PairIsRead source old result new = Gives (λ pair. pair) result pair_with_crc_at (bytes_in source old) (bytes_in source new)
+PairIsRead source old result new =
+    Gives (λ pair. pair) result pair_with_crc_at (bytes_in source old) (bytes_in source new)

@@ -1,11 +1,11 @@
-//! What calls answered, in forms that can be compared, and bytes that serve in many places.
+//! Results of calls in a form that can be compared, and bytes that many tests use.
 use claxon::frame::{FrameReader, FrameResult};
 use claxon::input::ReadBytes;
 use claxon::{Error, FlacReader, FlacSamples};
 use std::alloc::{AllocError, AllocFailed, Allocator, Global};
 use std::io::Read;
 
-/// A fault, whatever the cause of an `IoError` is.
+/// An error, without the cause of an `IoError`.
 #[derive(PartialEq, Clone, Copy)]
 pub enum Fault {
     Io,
@@ -23,7 +23,7 @@ pub fn fault_of(error: &Error) -> Fault {
     }
 }
 
-/// What a call that counts ended with, whatever the cause of an `IoError` is.
+/// The result of a call that counts, without the cause of an `IoError`.
 pub fn end_of(outcome: claxon::Result<u64>) -> Result<u64, Fault> {
     match outcome {
         Ok(count) => Ok(count),
@@ -31,7 +31,7 @@ pub fn end_of(outcome: claxon::Result<u64>) -> Result<u64, Fault> {
     }
 }
 
-/// What one call for a block or a sample answered: of a block its first sample, and None at the end.
+/// The result of one call for a block or a sample: the first sample of a block, and None at the end.
 pub type Step = Result<Option<i32>, Fault>;
 
 pub fn step_of<A: Allocator>(answer: FrameResult<A>) -> Step {
@@ -42,7 +42,7 @@ pub fn step_of<A: Allocator>(answer: FrameResult<A>) -> Step {
     }
 }
 
-/// Whether the calls for a block, each into an empty buffer, answer these.
+/// Whether calls for a block, each into an empty buffer, have these results.
 pub fn answers_each<R: ReadBytes, A: Allocator + Copy>(
     alloc: A,
     reader: &mut FrameReader<R>,
@@ -55,18 +55,18 @@ pub fn answers_each<R: ReadBytes, A: Allocator + Copy>(
     all
 }
 
-/// What a stream gave by its samples: the last of them, their number, and how many came behind an end; how many faults,
-/// and the last of these.
+/// The samples of a stream: the last one, their number, and how many came after an end; the number of errors, and the last
+/// one.
 #[derive(Clone, Copy)]
 pub struct Run {
     pub last: i32,
     pub count: usize,
-    pub behind_an_end: usize,
+    pub after_eof: usize,
     pub faults: usize,
     pub fault: Option<Fault>,
 }
 
-// What the next call for a sample answers: in one place, since each function that holds the call is dear to prove.
+// The result of the next call for a sample. One function has the call, since each that has it takes long to prove.
 fn next_of<R: ReadBytes + Drop, A: Allocator + Copy>(samples: &mut FlacSamples<R, A>) -> Step {
     match samples.next() {
         Some(Ok(sample)) => Ok(Some(sample)),
@@ -75,7 +75,7 @@ fn next_of<R: ReadBytes + Drop, A: Allocator + Copy>(samples: &mut FlacSamples<R
     }
 }
 
-/// Whether the calls for samples of an open stream, by an iterator of their own, answer these.
+/// Whether calls for samples of an open stream, by a new iterator, have these results.
 pub fn gives_each<R: Read + Drop, A: Allocator + Copy>(
     flac: &mut FlacReader<R, A>,
     wants: &[Step],
@@ -91,12 +91,12 @@ pub fn gives_each<R: Read + Drop, A: Allocator + Copy>(
     all
 }
 
-/// What a hundred calls for samples of an open stream give, from here on.
+/// The results of the next hundred calls for samples of an open stream.
 pub fn rest_of<R: Read + Drop, A: Allocator + Copy>(flac: &mut FlacReader<R, A>) -> Run {
     let mut run = Run {
         last: 0,
         count: 0,
-        behind_an_end: 0,
+        after_eof: 0,
         faults: 0,
         fault: None,
     };
@@ -110,7 +110,7 @@ pub fn rest_of<R: Read + Drop, A: Allocator + Copy>(flac: &mut FlacReader<R, A>)
             Ok(Some(sample)) => {
                 run.last = sample;
                 run.count = run.count.saturating_add(1);
-                run.behind_an_end = run.behind_an_end.saturating_add(usize::from(has_ended));
+                run.after_eof = run.after_eof.saturating_add(usize::from(has_ended));
             }
             Ok(None) => has_ended = true,
             Err(fault) => {
@@ -122,7 +122,7 @@ pub fn rest_of<R: Read + Drop, A: Allocator + Copy>(flac: &mut FlacReader<R, A>)
     run
 }
 
-/// What a stream gives, or the fault that keeps it from being opened.
+/// The samples of a stream, or the error of opening it.
 pub fn run_of<R: Read + Drop, A: Allocator + Copy>(alloc: A, reader: R) -> Result<Run, Fault> {
     match FlacReader::new(alloc, reader) {
         Ok(flac) => {
@@ -134,7 +134,7 @@ pub fn run_of<R: Read + Drop, A: Allocator + Copy>(alloc: A, reader: R) -> Resul
 }
 
 /// The marker and a streaminfo of blocks of 16 samples, 44,100 Hz, one channel of 8 bits, and one sample. The first byte
-/// of its block is 0x80 where it is the last.
+/// of its block is 0x80 if it is the last block.
 pub fn head(first: u8) -> [u8; 42] {
     let mut bytes = [0; 42];
     bytes[..26].copy_from_slice(&[
@@ -144,17 +144,17 @@ pub fn head(first: u8) -> [u8; 42] {
     bytes
 }
 
-/// The number of the first frame, and one sample, 5.
+/// A frame of number 0 with one sample, 5.
 pub const FRAME: [u8; 11] = [
     0xff, 0xf8, 0x69, 0x02, 0x00, 0x00, 0x9a, 0x00, 0x05, 0x34, 0x58,
 ];
 
-/// Two samples of two channels as they are: 3 and -2, twice.
+/// A frame of two independent channels with two samples each: 3 and -2, interleaved.
 pub const PAIRS: [u8; 13] = [
     0xff, 0xf8, 0x69, 0x12, 0x00, 0x01, 0x3f, 0x00, 0x03, 0x00, 0xfe, 0x71, 0x51,
 ];
 
-/// The smallest head and two frames of one sample, 5. The last byte ends the second one's guard.
+/// The smallest head and two frames of one sample, 5. The last byte is the last one of the second frame's CRC.
 pub fn two_frames(last: u8) -> [u8; 64] {
     let mut bytes = [0; 64];
     bytes[..26].copy_from_slice(&[

@@ -1,4 +1,4 @@
-//! Metadata blocks with their headers, alone and one after another, and headers that lie.
+//! Metadata blocks with their headers, single and in sequence, and headers with a wrong length.
 use crate::answers::{COMMENT, Fault, fault_of, joined};
 use claxon::input::ReadBytes;
 use claxon::metadata::{
@@ -9,7 +9,7 @@ use std::io::Cursor;
 use std::process::Abort;
 use std::test::Fail;
 
-// Whether it is an application block of the number 7 and the byte 9.
+// Whether it is an application block with the id 7 and the byte 9.
 fn is_application(block: &MetadataBlock) -> bool {
     match block {
         MetadataBlock::Application { id, bytes } => *id == 7 && bytes.as_slice() == [9].as_slice(),
@@ -17,7 +17,7 @@ fn is_application(block: &MetadataBlock) -> bool {
     }
 }
 
-// What these bytes are answered with, and how many of them are taken.
+// The result for these bytes, and the number of bytes consumed.
 fn answer_of(alloc: Global, bytes: &[u8]) -> (Result<bool, Fault>, u64) {
     let mut input = Cursor::new(bytes);
     let answer = match read_metadata_block_with_header(alloc, &mut input) {
@@ -37,7 +37,7 @@ const LARGE_COMMENT: Fault = Fault::Unsupported(
     "Vorbis comment blocks larger than 10 MiB are not supported",
 );
 
-// Each with bytes behind what is taken.
+// Each with a byte after those that are consumed.
 #[test]
 fn blocks_with_headers(rt: HostRuntime) {
     let rows: [(&[u8], Result<bool, Fault>, u64); 4] = [
@@ -52,12 +52,15 @@ fn blocks_with_headers(rt: HostRuntime) {
     ];
     for (bytes, want, taken) in rows {
         assert!(rt; answer_of(rt.alloc(), bytes) == (want, taken), "{bytes:?}");
-        let front = &bytes[..bytes.len().saturating_sub(1)];
-        assert!(rt; answer_of(rt.alloc(), front) == (want, taken), "{front:?}");
+        let prefix = &bytes[..bytes.len().saturating_sub(1)];
+        assert!(rt;
+            answer_of(rt.alloc(), prefix) == (want, taken),
+            "{prefix:?}"
+        );
     }
 }
 
-// Headers that are cut, or say more than there is. What an `IoError` has taken isn't said.
+// Headers that are truncated, or have a length beyond the input. How much an `IoError` consumes is left open.
 #[test]
 fn headers_with_wrong_lengths(rt: HostRuntime) {
     let rows: [&[u8]; 6] = [
@@ -75,17 +78,19 @@ fn headers_with_wrong_lengths(rt: HostRuntime) {
 }
 
 // No vendor, and the one entry `X=Y`.
-fn is_worked(comment: &VorbisComment) -> bool {
+fn is_example(comment: &VorbisComment) -> bool {
     match comment.comments.as_slice() {
-        [(text, place)] => comment.vendor.is_empty() && text.as_str() == "X=Y" && *place == 1,
+        [(text, separator)] => comment.vendor.is_empty()
+            && text.as_str() == "X=Y"
+            && *separator == 1,
         _ => false,
     }
 }
 
-// What the next call of a reader of blocks answers.
+// The result of the next call for a block.
 #[derive(PartialEq, Clone, Copy)]
 enum Next {
-    Worked,
+    Example,
     Padding(u32),
     Other,
     Fault(Fault),
@@ -103,8 +108,8 @@ fn next_of<R: ReadBytes + Drop>(blocks: &mut MetadataBlockReader<R>) -> Next {
 fn shown(block: &MetadataBlock) -> Next {
     match block {
         MetadataBlock::VorbisComment(comment) => {
-            if is_worked(comment) {
-                Next::Worked
+            if is_example(comment) {
+                Next::Example
             } else {
                 Next::Other
             }
@@ -119,7 +124,7 @@ const MORE: (usize, Option<usize>) = (1, None);
 
 const NO_MORE: (usize, Option<usize>) = (0, Some(0));
 
-// Whether the calls answer these, with these size hints behind each of them, and others may follow before the first.
+// Whether the calls have these results, each with this size hint after it; before the first call more may follow.
 fn gives_each<R: ReadBytes + Drop>(
     blocks: &mut MetadataBlockReader<R>,
     wants: &[(Next, (usize, Option<usize>))],
@@ -131,7 +136,7 @@ fn gives_each<R: ReadBytes + Drop>(
     all
 }
 
-// The calls answer these, and so many bytes are taken.
+// The calls have these results, and `taken` bytes are consumed.
 fn check(
     rt: &(impl Abort + AllocGlobal),
     bytes: Vec<u8>,
@@ -146,13 +151,13 @@ fn check(
     assert!(rt; input.position() == taken, "{taken}");
 }
 
-// The worked comments, padding that is marked as last, and nothing or a block behind it.
+// The example comments, padding that is marked as the last block, and nothing or another block after it.
 #[test]
 fn blocks_one_after_another(rt: HostRuntime) -> Result<(), Fail> {
     let header = [0x04, 0x00, 0x00, 0x13];
     let padding = [0x81, 0x00, 0x00, 0x00];
     let wants = [
-        (Next::Worked, MORE),
+        (Next::Example, MORE),
         (Next::Padding(0), NO_MORE),
         (Next::End, NO_MORE),
         (Next::End, NO_MORE),
@@ -164,7 +169,7 @@ fn blocks_one_after_another(rt: HostRuntime) -> Result<(), Fail> {
     Ok(())
 }
 
-// A block behind the fault isn't read.
+// A block after the fault isn't read.
 #[test]
 fn no_block_after_a_fault(rt: HostRuntime) -> Result<(), Fail> {
     let rows: [(&[u8], Fault, u64); 2] = [

@@ -1,4 +1,4 @@
-//! What callers find in worked streams, in memory and in a file.
+//! The proved examples on streams in memory and in a file.
 use crate::answers::{COMMENT, FRAME, head, joined, two_frames};
 use crate::files::file_of;
 use claxon_uses::{first_samples, list_tags, peak, verify};
@@ -9,18 +9,18 @@ use std::test::Fail;
 
 const COMMENT_HEADER: [u8; 4] = [0x84, 0x00, 0x00, 0x13];
 
-// The one tag of the worked block.
-fn are_worked(lines: &[String]) -> bool {
+// The only tag of the example comments.
+fn are_example_tags(lines: &[String]) -> bool {
     match lines {
         [line] => line.as_str() == "X=Y",
         _ => false,
     }
 }
 
-// Whether the first samples of two frames, where so many are wished, are so many, each 5.
-fn begins_with(alloc: Global, wished: usize, count: usize) -> bool {
+// Whether a request for the first samples of two frames gives `count` samples, each 5.
+fn begins_with(alloc: Global, requested: usize, count: usize) -> bool {
     let bytes = two_frames(0x58);
-    match first_samples(alloc, Cursor::new(bytes.as_slice()), wished) {
+    match first_samples(alloc, Cursor::new(bytes.as_slice()), requested) {
         Ok(first) => first.as_slice() == &[5, 5][..count.min(2)],
         Err(_) => false,
     }
@@ -28,12 +28,12 @@ fn begins_with(alloc: Global, wished: usize, count: usize) -> bool {
 
 #[test]
 fn as_many_samples_as_requested(rt: HostRuntime) {
-    for (wished, count) in [(0, 0), (1, 1), (2, 2), (3, 2)] {
-        assert!(rt; begins_with(rt.alloc(), wished, count), "{wished}");
+    for (requested, count) in [(0, 0), (1, 1), (2, 2), (3, 2)] {
+        assert!(rt; begins_with(rt.alloc(), requested, count), "{requested}");
     }
 }
 
-// Whether so many frames, faults and samples are found in so many of the bytes, whether that is right, and the lines.
+// Whether `verify` of the first `len` bytes finds these numbers of frames, faults and samples, and prints these lines.
 fn verifies(
     alloc: Global,
     bytes: &[u8],
@@ -43,8 +43,8 @@ fn verifies(
     text: &[u8],
 ) -> bool {
     let mut lines = Vec::new(alloc);
-    let front = &bytes[..len.min(bytes.len())];
-    match verify(alloc, Cursor::new(front), &mut lines) {
+    let prefix = &bytes[..len.min(bytes.len())];
+    match verify(alloc, Cursor::new(prefix), &mut lines) {
         Ok(found) => {
             (found.frames, found.faults, found.samples) == counts
                 && found.is_right == is_right
@@ -54,19 +54,19 @@ fn verifies(
     }
 }
 
-// One sample is told: one frame, a second one, and one that is damaged before another.
+// The streaminfo has one sample: one frame, two frames, and a damaged frame before another one.
 #[test]
 fn goes_on_after_faults(rt: HostRuntime) {
     let twice = two_frames(0x58);
-    let mut behind = twice;
-    behind[52] ^= 0x01;
+    let mut damaged = twice;
+    damaged[52] ^= 0x01;
     let text = b"after 0 samples: Ill-formed FLAC stream: frame CRC mismatch\n";
     assert!(rt; verifies(rt.alloc(), &twice, 53, (1, 0, 1), true, b""));
     assert!(rt; verifies(rt.alloc(), &twice, 64, (2, 0, 2), false, b""));
-    assert!(rt; verifies(rt.alloc(), &behind, 64, (1, 1, 1), false, text));
+    assert!(rt; verifies(rt.alloc(), &damaged, 64, (1, 1, 1), false, text));
 }
 
-// The tags and the greatest sample that callers find in a file of these bytes, which is taken away again.
+// The tags and the peak sample of a file of these bytes, which is removed again.
 fn found_in_file(
     rt: &HostRuntime,
     bytes: &[u8],
@@ -82,7 +82,7 @@ fn of_a_file(rt: HostRuntime) -> Result<(), Fail> {
     let parts: [&[u8]; 4] = [&head(0x00), &COMMENT_HEADER, &COMMENT, &FRAME];
     let bytes = joined(rt.alloc(), &parts)?;
     let (lines, greatest) = found_in_file(&rt, &bytes)?;
-    assert!(rt; are_worked(&lines?));
+    assert!(rt; are_example_tags(&lines?));
     assert!(rt; greatest? == 5);
     Ok(())
 }

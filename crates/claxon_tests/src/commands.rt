@@ -1,4 +1,4 @@
-//! What the program does for its words: samples and tags of files, and the words themselves.
+//! The command of `claxon_raw`: samples and tags of files, and its arguments.
 use crate::answers::{FIVES, FRAME, PAIRS, head, joined, two_frames};
 use crate::doubles::sinks::Sink;
 use crate::files::{file_of, path_of};
@@ -11,7 +11,7 @@ use std::io::ErrorKind;
 use std::rt::Env;
 use std::test::Fail;
 
-// What a command line gives: its status, what it writes, and what it says.
+// The outcome of a command line: its status, its output and its errors.
 #[derive(Drop)]
 struct Outcome {
     status: u8,
@@ -19,7 +19,7 @@ struct Outcome {
     errors: Vec<u8>,
 }
 
-/// The words of a command line.
+/// The arguments of a command line.
 pub fn owned(alloc: Global, words: &[&str]) -> Result<Vec<String>, AllocError> {
     let mut owned = Vec::new(alloc);
     for word in words {
@@ -39,7 +39,7 @@ fn outcome_of(rt: &HostRuntime, words: &[&str]) -> claxon::Result<Outcome> {
     })
 }
 
-// What a file of these bytes gives, its samples or its tags.
+// The outcome for a file of these bytes: its samples or its tags.
 fn outcome_of_file(
     rt: &HostRuntime,
     name: &str,
@@ -56,7 +56,7 @@ fn outcome_of_file(
     Ok(outcome?)
 }
 
-// Whether that is what a command line gave.
+// Whether that is the outcome of a command line.
 fn gave(outcome: &Outcome, status: u8, output: &[u8], errors: &[u8]) -> bool {
     outcome.status == status
         && outcome.output.as_slice() == output
@@ -69,7 +69,7 @@ const TWICE: [u8; 22] = [
     0x00, 0x9a, 0x00, 0x05, 0x34, 0x58,
 ];
 
-// Frames behind the smallest head, and what is written: three frames of three channels, one sample, two, and 3 and -2 twice.
+// Frames after the smallest head, and what is written: three frames of three channels, one sample, two, and 3 and -2 twice.
 #[rattlefmt::skip]
 const SAMPLES: [(&[u8], &[u8]); 4] = [
     (
@@ -90,7 +90,7 @@ const SAMPLES: [(&[u8], &[u8]); 4] = [
     (&PAIRS, &[3, 0, 0, 0, 0xfe, 0xff, 0xff, 0xff, 3, 0, 0, 0, 0xfe, 0xff, 0xff, 0xff]),
 ];
 
-// Whether the file of these frames gives just these samples.
+// Whether the file of these frames gives exactly these samples.
 fn gives_samples(rt: &HostRuntime, frames: &[u8], samples: &[u8]) -> Result<bool, Fail> {
     let bytes = joined(rt.alloc(), &[&head(0x80), frames])?;
     let clean = outcome_of_file(rt, "raw_whole", &bytes, false)?;
@@ -113,7 +113,7 @@ fn damaged_files(rt: HostRuntime) -> Result<(), Fail> {
     Ok(())
 }
 
-// Whether a command line gives a fault's text and nothing else.
+// Whether a command line prints the text of an error and nothing else.
 fn has_failed(rt: &HostRuntime, words: &[&str]) -> claxon::Result<bool> {
     let outcome = outcome_of(rt, words)?;
     Ok(outcome.status == 1 && outcome.output.is_empty() && !outcome.errors.is_empty())
@@ -127,7 +127,7 @@ fn files_that_are_not_there(rt: HostRuntime) -> Result<(), Fail> {
     Ok(())
 }
 
-// A comment block's length, its tags, and what is printed of them. One tag has an empty value.
+// A comment block's length, its tags, and what is printed for them. One tag has an empty value.
 #[rattlefmt::skip]
 const TAGS: [(&[u8], &[u8]); 4] = [
     (
@@ -167,7 +167,7 @@ fn other_arguments(rt: HostRuntime) -> Result<(), Fail> {
     Ok(())
 }
 
-// A failed write of the text changes nothing.
+// A failed write of the usage line is ignored.
 #[test]
 fn a_usage_line_that_is_lost(rt: HostRuntime) {
     let words = Vec::new(rt.alloc());
@@ -177,7 +177,7 @@ fn a_usage_line_that_is_lost(rt: HostRuntime) {
     assert_eq!(rt; status, 2);
 }
 
-// Command lines, the program's name in front, and their words: none where one isn't UTF-8.
+// Command lines that begin with the program's name, and their arguments: none if one isn't UTF-8.
 #[rattlefmt::skip]
 const COMMAND_LINES: [(&[&[u8]], &[&[u8]]); 5] = [
     (&[], &[]),
@@ -232,12 +232,15 @@ fn are_same(words: &[String], want: &[&[u8]]) -> bool {
 #[test]
 fn arguments_of_command_lines(rt: HostRuntime) -> Result<(), Fail> {
     for (line, (_, want)) in COMMAND_LINES.iter().enumerate() {
-        assert!(rt; are_same(&arguments_given(rt.alloc(), line)?, *want), "{line}");
+        assert!(rt;
+            are_same(&arguments_given(rt.alloc(), line)?, *want),
+            "{line}"
+        );
     }
     Ok(())
 }
 
-// How many words the third command line has in this memory.
+// The number of arguments of the third command line with this memory.
 fn count_in<'a>(heap: &'a LocalHeap) -> Option<usize> {
     let given = (Given { line: 2 }, heap);
     match words(&given) {
@@ -246,14 +249,14 @@ fn count_in<'a>(heap: &'a LocalHeap) -> Option<usize> {
     }
 }
 
-// How many words there are in so many bytes, and how many of these are still used behind the call.
+// The number of arguments with `size` bytes of memory, and how many of these are still used after the call.
 fn arguments_in(alloc: Global, size: usize) -> Result<(Option<usize>, usize), Fail> {
     let heap = LocalHeap::new(alloc, size)?;
     let count = count_in(&heap);
     Ok((count, heap.used()))
 }
 
-// Where memory is refused there are no words at all, not fewer.
+// If memory is refused there are no arguments at all.
 #[test]
 fn arguments_in_refused_memory(rt: HostRuntime) -> Result<(), Fail> {
     let mut refused = 0u32;

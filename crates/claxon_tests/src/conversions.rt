@@ -1,4 +1,4 @@
-//! Whole files, as another decoder writes them.
+//! Conversions to WAV files, compared with those of another decoder.
 ghost use Rattle.std.specs.Prelude.{◌≡◌, false};
 ghost use Rattle.claxon.specs.FlacReader.{flac_metadata_only};
 
@@ -12,7 +12,7 @@ use std::io::{Cursor, Read, Seek, Write};
 use std::test::Fail;
 use std::{fs, result};
 
-// One channel of 8 bits, of which the streaminfo says that one sample comes, and two blocks, with three samples and with two.
+// One channel of 8 bits with one sample by the streaminfo, and two blocks, with three samples and with two.
 const STREAM: [u8; 67] = [
     0x66, 0x4c, 0x61, 0x43, 0x80, 0x00, 0x00, 0x22, 0x00, 0x10, 0x00, 0x10, 0x00, 0x00, 0x00, 0x00,
     0x00, 0x00, 0x0a, 0xc4, 0x40, 0x70, 0x00, 0x00, 0x00, 0x01, 0x00, 0x00, 0x00, 0x00, 0x00, 0x00,
@@ -27,7 +27,7 @@ const WHOLE: &[u8] =
 const FIRST_BLOCK: &[u8] =
     b"RIFF\x28\x00\x00\x00WAVEfmt \x10\x00\x00\x00\x01\x00\x01\x00\x44\xac\x00\x00\x44\xac\x00\x00\x01\x00\x08\x00data\x03\x00\x00\x00\x81\x7e\x83\x00";
 
-// Whether all blocks of an open stream were put.
+// Whether all blocks of an open stream were written.
 fn fills<R: Read + Drop, W: Write + Seek>(
     alloc: Global,
     flac: &mut FlacReader<R>,
@@ -59,14 +59,14 @@ fn is_converted(
     Ok(fills(alloc, &mut flac, &mut wav, errors))
 }
 
-// Whether a stream is converted whole, or not, into these bytes, while this is shown.
+// Whether a stream is converted completely, or not, into these bytes, and this progress is shown.
 fn gives(alloc: Global, stream: &[u8], is_whole: bool, want: &[u8], shown: &[u8]) -> Result<bool> {
     let (mut bytes, mut errors) = (Vec::new(alloc), Vec::new(alloc));
     let outcome = is_converted(alloc, stream, &mut bytes, &mut errors)?;
     Ok(outcome == is_whole && bytes.as_slice() == want && errors.as_slice() == shown)
 }
 
-// The whole stream, one whose last byte is turned, and one that is cut within the second block.
+// The whole stream, one whose last byte is changed, and one that is truncated within the second block.
 #[test]
 fn in_memory(rt: HostRuntime) -> result::Result<(), Fail> {
     let mut stream = STREAM;
@@ -85,7 +85,7 @@ fn in_memory(rt: HostRuntime) -> result::Result<(), Fail> {
     Ok(())
 }
 
-// Puts bytes into a file of this process's own.
+// Writes bytes to a file of this process.
 fn put(rt: &HostRuntime, name: &str, bytes: &[u8]) -> result::Result<(), Fail> {
     let path = path_of(rt, name)?;
     fs::write(rt, path.as_str(), bytes)?;
@@ -104,14 +104,14 @@ fn remove(rt: &HostRuntime, name: &str) -> result::Result<(), Fail> {
     Ok(())
 }
 
-// The status of converting one of them into another.
+// The status of converting one file into another.
 fn status_of(rt: &HostRuntime, from: &str, to: &str) -> result::Result<u8, Fail> {
     let words = [path_of(rt, from)?, path_of(rt, to)?];
     let mut errors = Vec::new(rt.alloc());
     Ok(command(rt, &words, false, &mut errors))
 }
 
-// Whether that status is this one, and these bytes are what stands in the output afterwards.
+// Whether this is the status, and the output has these bytes afterwards.
 fn leaves(
     rt: &HostRuntime,
     from: &str,
@@ -147,7 +147,7 @@ fn with_files(rt: HostRuntime) -> result::Result<(), Fail> {
     Ok(())
 }
 
-// What is said, and the status, where there are no words.
+// Whether a command line without arguments prints the usage line and has the status 2.
 fn refuses_no_arguments(rt: &HostRuntime) -> bool {
     let mut errors = Vec::new(rt.alloc());
     let status = command(rt, &[], false, &mut errors);

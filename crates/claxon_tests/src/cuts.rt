@@ -1,4 +1,4 @@
-//! A stream that is cut at each place, a byte a read.
+//! A stream that is truncated at each byte, read one byte at a time.
 use crate::answers::{FRAME, Fault, Step, fault_of, head, joined};
 use crate::sources::OneByte;
 use claxon::input::ReadBytes;
@@ -7,7 +7,7 @@ use std::alloc::Global;
 use std::io::Read;
 use std::test::Fail;
 
-// What the next call for a sample answers.
+// The result of the next call for a sample.
 fn next_of<R: ReadBytes + Drop>(samples: &mut FlacSamples<R>) -> Step {
     match samples.next() {
         Some(Ok(sample)) => Ok(Some(sample)),
@@ -16,7 +16,7 @@ fn next_of<R: ReadBytes + Drop>(samples: &mut FlacSamples<R>) -> Step {
     }
 }
 
-// Whether the first call for a sample answers this, and all further ones None.
+// Whether the first call for a sample has this result, and all further ones are None.
 fn gives_once<R: Read + Drop>(flac: &mut FlacReader<R>, first: Step) -> bool {
     if flac.is_metadata_only() {
         return false;
@@ -29,7 +29,7 @@ fn gives_once<R: Read + Drop>(flac: &mut FlacReader<R>, first: Step) -> bool {
     all
 }
 
-// Whether these bytes are refused for want of more, where no answer is given, else are opened and give this.
+// Whether opening these bytes is an `IoError`, if `first` is None, else whether they are opened and give it.
 fn is_answered(alloc: Global, bytes: &[u8], first: Option<Step>) -> bool {
     match (FlacReader::new(alloc, OneByte::new(bytes)), first) {
         (Ok(flac), Some(first)) => {
@@ -52,8 +52,8 @@ fn cut_streams(rt: HostRuntime) -> Result<(), Fail> {
             44..53 => Some(Err(Fault::Io)),
             _ => Some(Ok(Some(5))),
         };
-        let front = &bytes[..len.min(bytes.len())];
-        assert!(rt; is_answered(rt.alloc(), front, first), "{len}");
+        let prefix = &bytes[..len.min(bytes.len())];
+        assert!(rt; is_answered(rt.alloc(), prefix, first), "{len}");
     }
     Ok(())
 }

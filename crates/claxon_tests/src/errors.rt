@@ -1,4 +1,4 @@
-//! What errors and values say of themselves.
+//! Errors and values as `Display` and `Debug` print them.
 use crate::answers::two_frames;
 use claxon::{Error, FlacReader, FlacReaderOptions};
 use claxon_tools::wav;

@@ -1,4 +1,4 @@
-//! Readers that give little, fail or pause, under frames, samples and whole runs.
+//! Frames, samples and whole runs over readers that give few bytes, fail or pause.
 use crate::answers::{FIVES, FRAME, Fault, Run, answers_each, end_of, joined, run_of, two_frames};
 use claxon::frame::FrameReader;
 use claxon::input::BufferedReader;
@@ -7,7 +7,7 @@ use std::alloc::Global;
 use std::io::{self, ErrorKind, Read};
 use std::test::Fail;
 
-// Gives so many bytes a read. After so many reads one gives none: it fails, or is empty.
+// Gives a fixed number of bytes per read. After some reads one gives none: it fails, or is empty.
 #[derive(Drop)]
 struct Interrupts<'a> {
     bytes: &'a [u8],
@@ -33,8 +33,8 @@ impl Read for Interrupts<'_> {
         }
         self.reads_left = self.reads_left.saturating_sub(1);
         let count = self.piece.min(self.bytes.len()).min(buf.len());
-        let (front, rest) = self.bytes.split_at(count);
-        buf[..count].copy_from_slice(front);
+        let (prefix, rest) = self.bytes.split_at(count);
+        buf[..count].copy_from_slice(prefix);
         self.bytes = rest;
         Ok(count)
     }
@@ -46,7 +46,7 @@ const FAILURES: [ErrorKind; 3] = [
     ErrorKind::WouldBlock,
 ];
 
-// Five bytes, a failure, and the rest of two frames: the first is lost, and its bytes are no frame.
+// Five bytes, a failure, and the rest of two frames: the first frame is lost, and its remaining bytes are no frame.
 #[test]
 fn frames_after_a_failure(rt: HostRuntime) -> Result<(), Fail> {
     let bytes = joined(rt.alloc(), &[&FRAME, &FRAME])?;
@@ -72,7 +72,7 @@ fn frames_after_a_failure(rt: HostRuntime) -> Result<(), Fail> {
     Ok(())
 }
 
-// Whether a stream is refused for want of bytes, where no count is given, else gives so many samples and one fault.
+// Whether opening a stream is an `IoError`, if `count` is None, else whether it gives `count` samples and one error.
 fn is_cut(run: Result<Run, Fault>, count: Option<usize>) -> bool {
     match run {
         Ok(run) => Some(run.count) == count && run.faults == 1 && run.fault == Some(Fault::Io),
@@ -80,7 +80,7 @@ fn is_cut(run: Result<Run, Fault>, count: Option<usize>) -> bool {
     }
 }
 
-// A byte a read: how many samples come before the read fails, one once the first frame was read.
+// One byte per read: the number of samples before the failed read is one after the first frame, else none.
 #[test]
 fn samples_with_a_failed_read(rt: HostRuntime) {
     let bytes = two_frames(0x58);
@@ -101,8 +101,8 @@ fn samples_with_a_failed_read(rt: HostRuntime) {
     }
 }
 
-// Whether a run of the smallest head and two frames ends so and writes so many bytes of their samples, a byte a read, after
-// so many of which one gives none.
+// Whether a run of the smallest head and two frames, one byte per read, has this result and writes this number of bytes of
+// their samples, if a read after this number of reads gives none.
 fn ends_with(
     alloc: Global,
     reads: u32,
@@ -141,7 +141,7 @@ fn runs_with_a_failed_read(rt: HostRuntime) {
     }
 }
 
-// A read that gives nothing is the end, which cuts heads and frames, and comes in due order between frames.
+// An empty read is the end of the input: within a head or a frame it is an error, and between frames it is not.
 #[test]
 fn runs_with_an_empty_read(rt: HostRuntime) {
     for reads in 0..65 {
@@ -160,15 +160,15 @@ fn runs_with_an_empty_read(rt: HostRuntime) {
     }
 }
 
-// Whether two samples came, the second one behind an end.
+// Whether there were two samples, the second one after an end.
 fn goes_on_after_eof(run: Result<Run, Fault>) -> bool {
     match run {
-        Ok(run) => run.count == 2 && run.behind_an_end == 1 && run.last == 5 && run.faults == 0,
+        Ok(run) => run.count == 2 && run.after_eof == 1 && run.last == 5 && run.faults == 0,
         Err(_) => false,
     }
 }
 
-// After an empty read between two frames the reader is asked again.
+// After an empty read between two frames the reader is called again.
 #[test]
 fn samples_after_an_empty_read(rt: HostRuntime) {
     let bytes = two_frames(0x58);

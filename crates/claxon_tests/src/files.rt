@@ -6,24 +6,24 @@ use std::io::{Cursor, Read};
 use std::test::Fail;
 use std::{env, fs, process};
 
-/// A name of this process's own in the folder for files that don't last.
+/// A path for this process in the folder for temporary files.
 pub fn path_of(rt: &HostRuntime, name: &str) -> Result<String, Fail> {
     let (folder, id) = (env::temp_dir(rt)?, process::id(rt.process()));
     let folder = folder.as_str();
     Ok(format!(in rt.alloc(); "{folder}/claxon_{name}_{id}")?)
 }
 
-/// The name of such a file, which holds these bytes.
+/// The path of such a file with these bytes.
 pub fn file_of(rt: &HostRuntime, name: &str, bytes: &[u8]) -> Result<String, Fail> {
     let path = path_of(rt, name)?;
     fs::write(rt, path.as_str(), bytes)?;
     Ok(path)
 }
 
-/// How many tags and samples an open file shows, or the fault that refuses it.
+/// The number of tags and of samples of an open file, or the error of opening it.
 type Found = Result<(usize, usize), Fault>;
 
-// What is found by these options, or by default.
+// What is found with these options, or by default.
 fn found_by(rt: &HostRuntime, path: &str, options: Option<FlacReaderOptions>) -> Found {
     let opened = match options {
         Some(options) => FlacReader::open_ext(rt, path, options),
@@ -58,7 +58,7 @@ const OPTIONS: [FlacReaderOptions; 4] = [
     },
 ];
 
-// Whether a file gives this by each choice of options, and by default what the first one gives.
+// Whether a file gives this with each choice of options, and by default what the first one gives.
 fn gives(rt: &HostRuntime, path: &str, wants: [Found; 4]) -> bool {
     let mut all = found_by(rt, path, None) == wants[0];
     for (options, want) in OPTIONS.into_iter().zip(wants) {
@@ -67,17 +67,17 @@ fn gives(rt: &HostRuntime, path: &str, wants: [Found; 4]) -> bool {
     all
 }
 
-// The same of a file that holds so much of a head, and then the rest.
-fn is_given(rt: &HostRuntime, front: usize, rest: &[u8], wants: [Found; 4]) -> Result<bool, Fail> {
+// The same for a file with the first bytes of a head, and then the rest.
+fn is_given(rt: &HostRuntime, prefix: usize, rest: &[u8], wants: [Found; 4]) -> Result<bool, Fail> {
     let first = head(0x00);
-    let bytes = joined(rt.alloc(), &[&first[..front.min(42)], rest])?;
+    let bytes = joined(rt.alloc(), &[&first[..prefix.min(42)], rest])?;
     let path = file_of(rt, "opened", &bytes)?;
     let all = gives(rt, path.as_str(), wants);
     fs::remove_file(rt, path.as_str())?;
     Ok(all)
 }
 
-// All that an open stream shows of its head.
+// The whole head of an open stream, as text.
 fn head_text<R: Read>(alloc: Global, flac: &FlacReader<R>) -> Result<String, AllocError> {
     let (info, vendor) = (flac.streaminfo(), flac.vendor());
     let mut text = format!(in alloc; "{info:?} {vendor:?}")?;
@@ -87,7 +87,7 @@ fn head_text<R: Read>(alloc: Global, flac: &FlacReader<R>) -> Result<String, All
     Ok(text)
 }
 
-// The same, or the text of the fault.
+// The same, or the text of the error.
 fn answer_of<R: Read + Drop>(
     alloc: Global,
     opened: claxon::Result<FlacReader<R>>,
@@ -98,7 +98,7 @@ fn answer_of<R: Read + Drop>(
     }
 }
 
-// What a file answers by these options, or by default, and what its bytes in memory do.
+// The result for a file with these options, or by default, and for its bytes in memory.
 fn answers_of(
     rt: &HostRuntime,
     path: &str,
@@ -119,7 +119,7 @@ fn answers_of(
     Ok((file, memory))
 }
 
-// Whether a file of these bytes answers what they do in memory, by each choice of options.
+// Whether a file of these bytes has the same results as the bytes in memory, with each choice of options.
 fn answers_as_in_memory(rt: &HostRuntime, bytes: &[u8]) -> Result<bool, Fail> {
     let path = file_of(rt, "shown", bytes)?;
     let (file, memory) = answers_of(rt, path.as_str(), bytes, None)?;
@@ -132,7 +132,7 @@ fn answers_as_in_memory(rt: &HostRuntime, bytes: &[u8]) -> Result<bool, Fail> {
     Ok(all)
 }
 
-// A stream of comments that are written in upper and lower case and beyond ASCII, and a streaminfo that leaves nothing open.
+// A stream with comments in upper and lower case and outside ASCII, and a streaminfo in which every value is known.
 const TAGGED: &[u8] =
     b"fLaC\x00\x00\x00\x22\x10\x00\x12\x00\x00\x00\x0e\x00\x124\x0a\xc4B\xf1#Eg\x89\x00\x01\x02\x03\x04\x05\x06\x07\x08\x09\x0a\x0b\x0c\x0d\x0e\x0f\
 \x84\x00\x00C \x00\x00\x00reference libFLAC 1.4.2 20221022\
@@ -163,8 +163,8 @@ const ID3: Found = Err(Fault::Format("stream starts with ID3 header rather than 
 
 const CUT: Found = Err(Fault::Io);
 
-// How much of a head the files begin with, what comes then, and what each choice of options finds: a tag and a frame;
-// nothing behind the streaminfo, which isn't the last block; markers of other streams; and nothing at all.
+// The number of bytes of a head, the bytes after them, and what each choice of options finds: a tag and a frame; nothing after
+// a streaminfo that isn't the last block; markers of other formats; and an empty file.
 #[rattlefmt::skip]
 const FILES: [(usize, &[u8], [Found; 4]); 5] = [
     (42, &[
@@ -179,9 +179,9 @@ const FILES: [(usize, &[u8], [Found; 4]); 5] = [
 
 #[test]
 fn opened_files(rt: HostRuntime) -> Result<(), Fail> {
-    for (front, rest, wants) in FILES {
-        let is_given = is_given(&rt, front, rest, wants)?;
-        assert!(rt; is_given, "{front} {}", rest.len());
+    for (prefix, rest, wants) in FILES {
+        let is_given = is_given(&rt, prefix, rest, wants)?;
+        assert!(rt; is_given, "{prefix} {}", rest.len());
     }
     Ok(())
 }

@@ -1,4 +1,4 @@
-//! Calls one after another on one reader.
+//! Several calls on one reader.
 use crate::answers::{COMMENT, FRAME, Fault, PAIRS, Step, answers_each, gives_each, head, joined};
 use claxon::frame::FrameReader;
 use claxon::{FlacReader, FlacReaderOptions};
@@ -14,13 +14,13 @@ const BAD_HEADER: Step = Err(Fault::Format("frame header CRC mismatch"));
 
 const NO_SYNC: Step = Err(Fault::Format("frame sync code missing"));
 
-// The frame of one sample, whose last byte is turned.
+// The frame of one sample, with its last byte changed.
 const DAMAGED: [u8; 11] = [
     0xff, 0xf8, 0x69, 0x02, 0x00, 0x00, 0x9a, 0x00, 0x05, 0x34, 0x59,
 ];
 
-// The frames behind the smallest head, and what the calls for samples answer, by an iterator and then by another one. A block
-// of which a sample was given is taken whole. An iterator that answered an Err answers None for good, another one goes on.
+// The frames after the smallest head, and the results of calls for samples, by one iterator and then by another one. A block of
+// which a sample was given is consumed completely. After an Err an iterator gives None for good; another one goes on.
 #[rattlefmt::skip]
 const SAMPLES: [([&[u8]; 2], &[Step], &[Step]); 6] = [
     ([&FRAME, &[]], &[Ok(Some(5)), END, END], &[END]),
@@ -50,11 +50,11 @@ fn samples_in_turn(rt: HostRuntime) -> Result<(), Fail> {
     Ok(())
 }
 
-// The calls for blocks of a frame with a wrong header guard: each goes on at the first byte that wasn't taken.
+// The calls for blocks of a frame with a wrong header CRC: each goes on at the first byte that wasn't consumed.
 #[rattlefmt::skip]
 const CALLS: [(u64, Step); 4] = [(7, BAD_HEADER), (9, NO_SYNC), (11, NO_SYNC), (11, END)];
 
-// Whether the calls by one reader answer so, and where it stands after so many of them.
+// The position of a reader after `count` of these calls, if they have these results.
 fn position_after(alloc: Global, bytes: &[u8], count: usize) -> Option<u64> {
     let mut reader = FrameReader::new(Cursor::new(bytes));
     let mut all = true;
@@ -72,9 +72,9 @@ fn position_after(alloc: Global, bytes: &[u8], count: usize) -> Option<u64> {
 fn frames_in_turn(rt: HostRuntime) {
     let mut bytes = FRAME;
     bytes[6] = 0x9b;
-    for (row, (place, _)) in CALLS.into_iter().enumerate() {
+    for (row, (position, _)) in CALLS.into_iter().enumerate() {
         assert!(rt;
-            position_after(rt.alloc(), &bytes, row.saturating_add(1)) == Some(place),
+            position_after(rt.alloc(), &bytes, row.saturating_add(1)) == Some(position),
             "{row}"
         );
     }
@@ -97,7 +97,7 @@ fn values_of(alloc: Global, bytes: &[u8], options: FlacReaderOptions, name: &str
 fn tags_by_name(rt: HostRuntime) -> Result<(), Fail> {
     let parts: [&[u8]; 3] = [&head(0x00), &[0x84, 0x00, 0x00, 0x13], &COMMENT];
     let bytes = joined(rt.alloc(), &parts)?;
-    for (name, wished, count) in [
+    for (name, requested, count) in [
         ("x", true, 1),
         ("X", true, 1),
         ("Z", true, 0),
@@ -106,7 +106,7 @@ fn tags_by_name(rt: HostRuntime) -> Result<(), Fail> {
     ] {
         let options = FlacReaderOptions {
             metadata_only: false,
-            read_vorbis_comment: wished,
+            read_vorbis_comment: requested,
         };
         assert!(rt;
             values_of(rt.alloc(), &bytes, options, name) == Some(count),

@@ -1,10 +1,10 @@
-//! What command lines of `claxon_info` give.
+//! Command lines of `claxon_info`.
 use crate::commands::owned;
 use claxon_tools::commands::info::command;
 use std::env;
 use std::test::Fail;
 
-// Whether these words give this status and nothing but a word of it, which may be known.
+// Whether these arguments have this status and print nothing but an error, with this text if one is given.
 fn are_refused(rt: &HostRuntime, words: &[String], want: u8, said: Option<&str>) -> bool {
     let (mut output, mut errors): (Vec<u8>, Vec<u8>) = (Vec::new(rt.alloc()), Vec::new(rt.alloc()));
     let status = command(rt, words, &mut output, &mut errors);

@@ -1,7 +1,7 @@
-//! Tests of bytes, bits and remainders, over readers that cut and fail, and a caller of theirs that is proved from their
-//! contracts, as readers of fields of other formats are.
+//! Tests of bytes, bits and CRCs, over readers that end early and fail, and a caller that is proved from their contracts, as a
+//! reader of another format would be.
 #[cfg(test)]
 mod bits;
 #[cfg(test)]
 mod bytes;
-pub mod guarded;
+pub mod crc_pair;

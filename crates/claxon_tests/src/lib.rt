@@ -1,7 +1,7 @@
-//! Tests that cross crates: bytes and bits; metadata blocks one after another and what callers find; frames and whole
-//! streams, from files and over readers that give little, pause and fail; runs of some 2^32 zeros; runs into writers of all
-//! kinds; what the programs do for their words; values as text and headers of WAV files; want of memory; and vectors of the
-//! original's tests. Rows of bytes with their answer are lines of `claxon_cases`.
+//! Tests that cross crates: bytes and bits; sequences of metadata blocks and the proved examples; frames and whole streams,
+//! from files and over readers that give few bytes, pause and fail; runs of some 2^32 zeros; runs into writers of all kinds; the
+//! programs' command lines; values as text and headers of WAV files; refused memory; and vectors of upstream's tests. Rows of
+//! bytes with their results are lines of `claxon_cases`.
 #![tactic(auto)]
 
 #[cfg(test)]
@@ -33,9 +33,9 @@ pub mod input;
 #[cfg(test)]
 mod lost_output;
 #[cfg(test)]
-mod memory;
-#[cfg(test)]
 mod max_blocks;
+#[cfg(test)]
+mod memory;
 #[cfg(test)]
 mod sources;
 #[cfg(test)]

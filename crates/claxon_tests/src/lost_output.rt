@@ -1,4 +1,4 @@
-//! The program where what it writes is lost.
+//! The command of `claxon_raw` with an output that fails.
 use crate::answers::{COMMENT, FIVES, head, joined, two_frames};
 use crate::commands::owned;
 use crate::doubles::sinks::Sink;
@@ -8,7 +8,7 @@ use std::fs;
 use std::io::{self, ErrorKind};
 use std::test::Fail;
 
-// Whether a command line ends with status 1 and the text of such a failure, and has written these bytes before.
+// Whether a command line has the status 1, prints the text of such a failure, and has written these bytes before.
 fn has_failed(
     rt: &HostRuntime,
     words: &[&str],
@@ -24,7 +24,7 @@ fn has_failed(
     Ok(status == 1 && errors.as_slice() == text.as_bytes() && output.written() == written)
 }
 
-// A write in the midst fails, and the flush.
+// A write fails, or the flush.
 #[test]
 fn samples(rt: HostRuntime) -> Result<(), Fail> {
     let path = file_of(&rt, "lost_samples", &two_frames(0x58))?;

@@ -1,4 +1,4 @@
-//! The most metadata blocks that a stream may have.
+//! The maximum number of metadata blocks of a stream.
 use crate::answers::{Fault, fault_of, head, joined};
 use claxon::{FlacReader, FlacReaderOptions};
 use std::alloc::Global;
@@ -15,7 +15,7 @@ fn many_blocks(alloc: Global, last: u8) -> Result<Vec<u8>, Fail> {
     Ok(bytes)
 }
 
-// The fault that keeps a stream from being opened with these options, if one does. It shows no tags and no vendor.
+// The error of opening a stream with these options, if there is one. The stream has no tags and no vendor.
 fn fault_of_opening(
     alloc: Global,
     bytes: &[u8],

@@ -1,8 +1,8 @@
-//! Memory that is refused, each request in turn.
+//! Refused memory, for each request in turn.
 use crate::answers::{
     COMMENT, FIVES, FRAME, Fault, Step, answers_each, fault_of, head, joined, run_of, two_frames,
 };
-use crate::doubles::FailureOrNoOneBit;
+use crate::doubles::RefusesOne;
 use crate::doubles::sinks::Sink;
 use claxon::FlacReader;
 use claxon::frame::FrameReader;
@@ -14,7 +14,7 @@ use std::io::{Cursor, ErrorKind};
 use std::process::Abort;
 use std::test::Fail;
 
-// Calls that take memory.
+// Calls that allocate memory.
 #[derive(Clone, Copy)]
 enum Call {
     Open,
@@ -25,7 +25,7 @@ enum Call {
 
 const OTHER: Result<(), Fault> = Err(Fault::Format("another answer"));
 
-// Whether the call answers what the bytes hold.
+// Whether the call has the right result for the bytes.
 fn answer_of<A: Allocator + Copy>(heap: A, call: Call, bytes: &[u8]) -> Result<(), Fault> {
     match call {
         Call::Open => opened(heap, bytes),
@@ -35,7 +35,7 @@ fn answer_of<A: Allocator + Copy>(heap: A, call: Call, bytes: &[u8]) -> Result<(
     }
 }
 
-// A stream with the one tag `X=Y`.
+// A stream with the only tag `X=Y`.
 fn opened<A: Allocator + Copy>(heap: A, bytes: &[u8]) -> Result<(), Fault> {
     match FlacReader::new(heap, Cursor::new(bytes)) {
         Ok(flac) if flac.get_tag("X").next().is_some_and(|value| value == "Y") => Ok(()),
@@ -54,7 +54,7 @@ fn sampled<A: Allocator + Copy>(heap: A, bytes: &[u8]) -> Result<(), Fault> {
     }
 }
 
-// A stream of two samples, each 5. Where memory is refused none is written.
+// A stream of two samples, each 5. If memory is refused none is written.
 fn written<A: Allocator + Copy>(heap: A, bytes: &[u8]) -> Result<(), Fault> {
     let mut sink = Sink::new(8, 9, false, ErrorKind::Other);
     match run(heap, Cursor::new(bytes), &mut sink) {
@@ -77,36 +77,36 @@ fn block_read<A: Allocator + Copy>(heap: A, bytes: &[u8]) -> Result<(), Fault> {
     }
 }
 
-// An application block of the id 7 and the byte 9, or comments.
+// An application block with the id 7 and the byte 9, or comments.
 fn is_block<A: Allocator>(block: &MetadataBlock<A>, bytes: &[u8]) -> bool {
     match block {
         MetadataBlock::Application { id, bytes } => *id == 7 && bytes.as_slice() == [9].as_slice(),
-        MetadataBlock::VorbisComment(comment) => is_worked(comment, bytes),
+        MetadataBlock::VorbisComment(comment) => is_example(comment, bytes),
         _ => false,
     }
 }
 
-// The vendor `ab`, and as many entries as the bytes say, each `X=Y`.
-fn is_worked<A: Allocator>(comment: &VorbisComment<A>, bytes: &[u8]) -> bool {
+// The vendor `ab`, and the number of entries in the bytes, each `X=Y`.
+fn is_example<A: Allocator>(comment: &VorbisComment<A>, bytes: &[u8]) -> bool {
     let said = match bytes.get(10) {
         Some(count) => usize::from(*count),
         None => 0,
     };
     let mut all = said == comment.comments.len();
-    for (text, place) in &comment.comments {
-        all = all && text.as_str() == "X=Y" && *place == 1;
+    for (text, separator) in &comment.comments {
+        all = all && text.as_str() == "X=Y" && *separator == 1;
     }
     all && comment.vendor.as_str() == "ab"
 }
 
-// What the call answers where the request after so many is refused, and how many more would have been granted.
+// The result of the call if the request after `granted` ones is refused, and how many more would have been granted.
 fn attempt(
     alloc: Global,
     call: Call,
     bytes: &[u8],
     granted: u64,
 ) -> Result<(Result<(), Fault>, u64), Fail> {
-    let heap = FailureOrNoOneBit::new(LocalHeap::new(alloc, 8192)?, granted);
+    let heap = RefusesOne::new(LocalHeap::new(alloc, 8192)?, granted);
     let answer = answer_of(&heap, call, bytes);
     if heap.inner().used() > 0 {
         return Err(Fail::new("memory that isn't given back"));
@@ -114,7 +114,7 @@ fn attempt(
     Ok((answer, heap.left()))
 }
 
-// The call makes so many requests, and want of memory is its answer where any of them is refused, which is then the last.
+// The call makes this number of requests. If any of them is refused it is the last one, and the result is `OutOfMemory`.
 fn check(
     rt: &(impl Abort + AllocGlobal),
     call: Call,
@@ -130,8 +130,8 @@ fn check(
     Ok(())
 }
 
-// The bytes of the reader, an entry and their vector, then the samples of a block. The empty vendor takes none, and
-// neither does writing.
+// One request each for the buffer of the reader, an entry, the vector of entries, and the samples of a block. The empty vendor
+// and writing make none.
 #[test]
 fn streams(rt: HostRuntime) -> Result<(), Fail> {
     let tagged = joined(
@@ -144,7 +144,7 @@ fn streams(rt: HostRuntime) -> Result<(), Fail> {
     check(&rt, Call::Run, &two_frames(0x58), 2)
 }
 
-// The vendor `ab` and so many entries `X=Y`.
+// The vendor `ab` and a number of entries `X=Y`.
 fn comment_block(alloc: Global, entries: u8) -> Result<Vec<u8>, Fail> {
     let length = 10u8.saturating_add(entries.saturating_mul(7));
     let mut bytes = joined(
@@ -162,7 +162,7 @@ fn comment_block(alloc: Global, entries: u8) -> Result<Vec<u8>, Fail> {
     Ok(bytes)
 }
 
-// The vendor, each entry, and their vector, which has room for four at first, and then for eight.
+// The vendor, each entry, and their vector, which has capacity for four at first, and then for eight.
 #[test]
 fn metadata_blocks(rt: HostRuntime) -> Result<(), Fail> {
     for (entries, requests) in [(0, 1), (1, 3), (3, 5), (4, 6), (5, 8)] {
@@ -173,15 +173,15 @@ fn metadata_blocks(rt: HostRuntime) -> Result<(), Fail> {
     check(&rt, Call::Block, &application, 1)
 }
 
-// What the calls answer, each into an empty buffer, the first of which can't grow, and how many bytes they take.
+// The results of the calls, each into an empty buffer, of which the first can't grow, and the number of bytes consumed.
 fn check_calls(rt: &(impl Abort + AllocGlobal), wants: &[Step], taken: u64) {
-    let heap = FailureOrNoOneBit::new(rt.alloc(), 0);
+    let heap = RefusesOne::new(rt.alloc(), 0);
     let mut reader = FrameReader::new(Cursor::new(FRAME.as_slice()));
     assert!(rt; answers_each(&heap, &mut reader, wants));
     assert!(rt; reader.into_inner().position() == taken && heap.left() == u64::MAX);
 }
 
-// The header is taken, so the next call reads the two bytes that follow it.
+// The frame header is consumed, so the next call reads the two bytes that follow it.
 #[test]
 fn a_buffer_that_cannot_grow(rt: HostRuntime) {
     let no_sync = Err(Fault::Format("frame sync code missing"));

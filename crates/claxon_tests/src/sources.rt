@@ -1,8 +1,8 @@
-//! Readers that give a byte a read, and some 2^32 zeros that nothing keeps.
+//! A reader that gives one byte per read, and one that gives up to 2^32 zero bytes without storing them.
 use std::io;
 use std::io::Read;
 
-/// Gives one byte a read.
+/// Gives one byte per read.
 #[derive(Drop)]
 pub struct OneByte<'a> {
     bytes: &'a [u8],
@@ -25,7 +25,7 @@ impl Read for OneByte<'_> {
     }
 }
 
-/// Gives a byte, so many zero bytes, and then another byte again and again.
+/// Gives a byte, `zeros` zero bytes, and then another byte without end.
 #[derive(Drop)]
 pub struct ZerosBetween {
     first: Option<u8>,

@@ -1,5 +1,5 @@
-//! Vectors of the original's own tests of public functions. Those of single samples, channels and frames are lines of
-//! `claxon_cases/data/subframes.txt` and `frames.txt`; those of private functions stand beside these.
+//! Vectors of upstream's tests of public functions. Those of single samples, channels and frames are lines of
+//! `claxon_cases/data/subframes.txt` and `frames.txt`; those of private functions are next to these functions.
 use claxon::Block;
 use claxon::subframe::extend_sign_u32;
 

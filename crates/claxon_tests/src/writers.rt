@@ -16,8 +16,7 @@ fn into_a_vector(rt: HostRuntime) {
     assert!(rt; end == Ok(2) && output.as_slice() == FIVES.as_slice());
 }
 
-// A run of the stream into the sink ends with this and writes these bytes. What is written before a fault is a front of the
-// samples.
+// A run of the stream into the sink has this result and writes these bytes.
 fn check(
     rt: &(impl Abort + AllocGlobal),
     bytes: &[u8],
@@ -29,8 +28,8 @@ fn check(
     assert!(rt; end == want && sink.written() == written, "{written:?}");
 }
 
-// The same rows of the smallest stream, and where its last byte is turned: writers that fail at the first write, at the flush,
-// at both, and not at all.
+// The smallest stream, also with its last byte changed: writers that fail at the first write, at the flush, at both, and not at
+// all.
 #[test]
 fn one_frame_into_sinks(rt: HostRuntime) -> Result<(), Fail> {
     let rows = [
@@ -53,9 +52,9 @@ fn one_frame_into_sinks(rt: HostRuntime) -> Result<(), Fail> {
     Ok(())
 }
 
-// The last byte, how much a write takes, how many are taken and whether flushes fail; what a run ends with, how much is
-// written, and how often it is flushed. A write that takes nothing is a failed one too, after which nothing is flushed. After
-// a decoder's fault a flush that fails changes nothing.
+// The last byte, the most bytes per write, the number of writes before one fails, and whether flushes fail; the result of a
+// run, the number of bytes written, and the number of flushes. A write of no bytes is a failed one too, and there is no flush
+// after it. After a decoder's error a flush that fails is ignored.
 #[test]
 fn runs_into_sinks(rt: HostRuntime) {
     let rows = [
@@ -81,7 +80,7 @@ fn runs_into_sinks(rt: HostRuntime) {
 fn each_write_failed(rt: HostRuntime) {
     for writes_left in 0..8u32 {
         let mut sink = Sink::new(1, writes_left, false, ErrorKind::Other);
-        let front = &FIVES[..writes_left as usize];
-        check(&rt, &two_frames(0x58), &mut sink, Err(Fault::Io), front);
+        let prefix = &FIVES[..writes_left as usize];
+        check(&rt, &two_frames(0x58), &mut sink, Err(Fault::Io), prefix);
     }
 }

@@ -15,7 +15,7 @@ fn decode<R: ReadBytes>(input: &mut R) -> Result<i32, Fault> {
     }
 }
 
-// What a byte, so many zero bytes and another byte are, which from then on comes again and again.
+// The results for a byte, `zeros` zero bytes, and then another byte without end.
 fn check(
     rt: &(impl Abort + AllocGlobal),
     bytes: (u8, u32, u8),
@@ -29,17 +29,17 @@ fn check(
     Ok(())
 }
 
-// The count of wasted bits. After 2^32 zeros the next call begins at the byte behind the last of them.
+// The number of wasted bits. After 2^32 zeros the next call begins at the byte after the last of them.
 #[test]
 fn wasted_bits(rt: HostRuntime) -> Result<(), Fail> {
     let wasted = Err(Fault::Format("wasted bits per sample must not exceed 31"));
-    let no_width = "subframe has no non-wasted bits";
-    check(&rt, (0x01, 536_870_911, 0x01), wasted, no_width)?;
+    let no_bits = "subframe has no non-wasted bits";
+    check(&rt, (0x01, 536_870_911, 0x01), wasted, no_bits)?;
     let invalid = "invalid subframe header";
     check(&rt, (0x01, 536_870_912, 0x80), Err(Fault::Io), invalid)
 }
 
-// The quotient of a Rice code, which begins with the third bit of the third byte. The greatest is 2^32 - 1.
+// The quotient of a Rice code, which begins with the third bit of the third byte. Its maximum is 2^32 - 1.
 #[test]
 fn quotients(rt: HostRuntime) -> Result<(), Fail> {
     let least = Ok(-2_147_483_648);

@@ -1,10 +1,11 @@
-//! A writer with little room that fails.
+//! A writer that fails.
 ghost use Rattle.std.specs.Prelude.{◌≤◌};
 
 use std::io;
 use std::io::{ErrorKind, Write};
 
-/// A place for a few bytes. It takes so many bytes a call, fails from some write on, and perhaps at each flush, in one way.
+/// A writer for up to 32 bytes. It takes a limited number of bytes per call, and fails from some write on, and perhaps at each
+/// flush.
 #[derive(Drop)]
 pub struct Sink {
     bytes: [u8; 32],
@@ -18,7 +19,7 @@ pub struct Sink {
 }
 
 impl Sink {
-    /// Takes so many bytes a call, and so many calls. It fails with this kind.
+    /// Takes at most `most` bytes per write, and `writes_left` writes before one fails. Failures are of this kind.
     pub const fn new(most: usize, writes_left: u32, fails_at_flush: bool, kind: ErrorKind) -> Sink {
         Sink {
             bytes: [0; 32],
@@ -36,7 +37,7 @@ impl Sink {
         &self.bytes[..self.used]
     }
 
-    /// How often it was flushed.
+    /// The number of flushes.
     pub fn flushes(&self) -> u32 {
         self.flushes
     }

@@ -1,12 +1,12 @@
-//! Bits, bytes and remainders of worked bytes.
-use crate::input::guarded::read_pair_with_crc;
+//! Bits, bytes and CRCs of known bytes.
+use crate::input::crc_pair::read_pair_with_crc;
 use claxon_input::crc::{Crc8Reader, Crc16Reader};
 use claxon_input::input::{Bitstream, BufferedReader, ReadBytes};
 use std::io;
 use std::io::Cursor;
 use std::test::Fail;
 
-// A call for bits, of so many where that is told.
+// A call for bits, with their number where it takes one.
 #[derive(Clone, Copy)]
 enum Call {
     Zeros,
@@ -17,7 +17,7 @@ enum Call {
     UpTo32(u32),
 }
 
-// What it answers, or None where it fails.
+// Its result, or None if it fails.
 fn answer<R: ReadBytes>(bits: &mut Bitstream<R>, call: Call) -> Option<u32> {
     let answer = match call {
         Call::Zeros => bits.read_unary(),
@@ -40,7 +40,7 @@ fn widened<N: Into<u32>>(number: io::Result<N>) -> io::Result<u32> {
     }
 }
 
-// Whether calls for bits of these bytes answer so, one after another, and take so many bytes.
+// Whether calls for bits of these bytes have these results, and consume `taken` bytes.
 fn answers_each(bytes: &[u8], calls: &[(Call, Option<u32>)], taken: u64) -> bool {
     let mut cursor = Cursor::new(bytes);
     let mut all = true;
@@ -89,9 +89,9 @@ fn calls_in_turn(rt: HostRuntime) {
             &[(Call::Zeros, Some(8)), (Call::UpTo8(7), Some(0)), (Call::UpTo8(0), Some(0)), (Call::Bit, None)],
             2,
         ),
-        // No byte is taken early.
+        // No byte is consumed early.
         (&[0xff, 0x80, 0x55], &[(Call::Bit, Some(1)), (Call::From9To16(9), Some(510))], 2),
-        // Too few bits take all.
+        // If there are too few bits, all are consumed.
         (&[0xa5, 0xe1], &[(Call::UpTo32(20), None), (Call::Bit, None)], 2),
     ];
     for (row, (bytes, calls, taken)) in rows.iter().enumerate() {
@@ -99,8 +99,8 @@ fn calls_in_turn(rt: HostRuntime) {
     }
 }
 
-// All bits of the cache are read, a number of no bits takes no byte, and too few bits take all: where the calls stand one
-// after another.
+// All bits of the cache are read, a number of no bits consumes no byte, and too few bits are all consumed: the position after
+// each call.
 #[test]
 fn all_of_the_cache(rt: HostRuntime) {
     let calls = [
@@ -124,7 +124,7 @@ fn all_of_the_cache(rt: HostRuntime) {
     }
 }
 
-// However 32 bits are split in two, they are the same number, and four bytes are taken.
+// However 32 bits are split in two, they are the same number, and four bytes are consumed.
 #[test]
 fn splits(rt: HostRuntime) {
     for first in 0..33u32 {
@@ -137,7 +137,7 @@ fn splits(rt: HostRuntime) {
     }
 }
 
-// The number of 32 bits whose first so many are read by a call of their own.
+// A 32-bit number that is read by two calls, the first one for `first` bits.
 fn number_in_two<R: ReadBytes>(input: &mut R, first: u32) -> Option<u64> {
     let mut bits = Bitstream::new(input);
     let first = first.min(32);
@@ -157,12 +157,12 @@ fn buffered_bytes(rt: HostRuntime) -> Result<(), Fail> {
     reader.read_into(&mut five)?;
     assert!(rt; five == [7, 11, 13, 17, 19]);
     assert!(rt; reader.read_into(&mut [0; 2]).is_err());
-    // What is left was taken.
+    // The remaining byte was consumed.
     assert!(rt; reader.read_u8_or_eof()?.is_none());
     Ok(())
 }
 
-// What is left of so many bytes that are passed over, and of those that are read then.
+// The CRC of `count` bytes that are skipped, and of those that are read then.
 fn crc8_of<R: ReadBytes>(input: &mut R, count: u32, buffer: &mut [u8]) -> io::Result<u8> {
     let mut reader = Crc8Reader::new(input);
     reader.skip(count)?;
@@ -177,28 +177,28 @@ fn crc16_of<R: ReadBytes>(input: &mut R, count: u32, buffer: &mut [u8]) -> io::R
     Ok(reader.crc())
 }
 
-// Each of the bytes is passed over or read: all or none by a skip, and in three bytes the first alone.
+// Each byte is skipped or read: all or none are skipped, and of three bytes also only the first.
 #[test]
-fn remainders(rt: HostRuntime) -> Result<(), Fail> {
+fn crcs(rt: HostRuntime) -> Result<(), Fail> {
     let rows: [(&[u8], u32, u8, u16); 7] = [
         (&[0x1f], 1, 0x5d, 0x8041),
         (&[0x04, 0x01], 2, 0x53, 0x1806),
         (&[0x61, 0x62, 0x63], 3, 0x5f, 0xcadb),
         (&[0x61, 0x62, 0x63], 1, 0x5f, 0xcadb),
         (&[0x61, 0x62, 0x63], 0, 0x5f, 0xcadb),
-        // The check values of both polynomials in the usual catalogues.
+        // The check values of both polynomials in CRC catalogues.
         (b"123456789", 9, 0xf4, 0xfee8),
         (b"123456789", 4, 0xf4, 0xfee8),
     ];
-    for (bytes, skipped, narrow, wide) in rows {
+    for (bytes, skipped, crc8, crc16) in rows {
         let mut buffer = [0; 9];
         let rest = &mut buffer[..(bytes.len() as u32).saturating_sub(skipped).min(9) as usize];
         assert!(rt;
-            crc8_of(&mut Cursor::new(bytes), skipped, rest)? == narrow,
+            crc8_of(&mut Cursor::new(bytes), skipped, rest)? == crc8,
             "{skipped}"
         );
         assert!(rt;
-            crc16_of(&mut Cursor::new(bytes), skipped, rest)? == wide,
+            crc16_of(&mut Cursor::new(bytes), skipped, rest)? == crc16,
             "{skipped}"
         );
     }

@@ -1,4 +1,4 @@
-//! Bytes, bits and remainders from readers that end and tell nothing, and errors.
+//! Bytes, bits and CRCs from readers that end or whose contents are unknown, and errors.
 use claxon_input::Error;
 use claxon_input::crc::Crc16Reader;
 use claxon_input::input::{Bitstream, BufferedReader, ReadBytes};
@@ -6,7 +6,7 @@ use std::io;
 use std::io::{Cursor, Read};
 use std::test::Fail;
 
-// The position stays where it is in each call.
+// Each call leaves the position where it is.
 #[test]
 fn cursor_far_out(rt: HostRuntime) -> Result<(), Fail> {
     let mut cursor = Cursor::new([1u8, 2, 3]);
@@ -19,7 +19,7 @@ fn cursor_far_out(rt: HostRuntime) -> Result<(), Fail> {
     Ok(())
 }
 
-// Whether a call failed for this kind of cause.
+// Whether a call failed with this kind of error.
 fn has_failed<T: Drop>(outcome: io::Result<T>, kind: io::ErrorKind) -> bool {
     match outcome {
         Ok(_) => false,
@@ -27,7 +27,7 @@ fn has_failed<T: Drop>(outcome: io::Result<T>, kind: io::ErrorKind) -> bool {
     }
 }
 
-// Calls that meet the end of the input.
+// Calls that reach the end of the input.
 #[derive(Clone, Copy)]
 enum Call {
     Byte,
@@ -47,7 +47,7 @@ const CALLS: [Call; 6] = [
     Call::Skip,
 ];
 
-// Whether the end of the input, where there are too few bytes, is told as such.
+// Whether the error for too few bytes is `UnexpectedEof`.
 fn has_kind_of_eof<R: ReadBytes>(input: &mut R, call: Call) -> bool {
     let kind = io::ErrorKind::UnexpectedEof;
     match call {
@@ -61,7 +61,7 @@ fn has_kind_of_eof<R: ReadBytes>(input: &mut R, call: Call) -> bool {
     }
 }
 
-// Of a buffered reader and of a cursor, behind the last byte and before it where a call asks for more.
+// For a buffered reader and a cursor, after the last byte, and before it if a call needs more.
 #[test]
 fn eof_has_its_kind(rt: HostRuntime) -> Result<(), Fail> {
     for call in CALLS {
@@ -77,7 +77,7 @@ fn eof_has_its_kind(rt: HostRuntime) -> Result<(), Fail> {
     Ok(())
 }
 
-// A cursor with too few bytes takes none of them.
+// A cursor with too few bytes consumes none of them.
 #[test]
 fn eof_takes_nothing(rt: HostRuntime) -> Result<(), Fail> {
     let mut cursor = Cursor::new([1u8, 2]);
@@ -98,8 +98,8 @@ fn errors_and_their_texts(rt: HostRuntime) -> Result<(), Fail> {
     Ok(())
 }
 
-// So many zero bytes, and bytes of one value behind them. None of them is kept, and how many were taken is counted. A reader
-// with the four calls that are asked for, which tells nothing of its bytes, and one that is buffered.
+// `left` zero bytes, and then bytes of the value `then`. None of them is stored, and those consumed are counted. It is a
+// `ReadBytes` with only the four required methods, whose contents are unknown, and a `Read` for a buffered reader.
 #[derive(Drop)]
 struct Zeros {
     left: u64,
@@ -160,7 +160,7 @@ impl Read for Zeros {
     }
 }
 
-// Whether a count of zeros is this one, or none where there are too many, and the count behind it is this one.
+// Whether a run of zeros has this length, or is too long for None, and the next run has this length.
 fn counts<R: ReadBytes>(input: &mut R, first: Option<u32>, second: u32) -> bool {
     let mut bits = Bitstream::new(input);
     let is_first = match bits.read_unary() {
@@ -178,7 +178,7 @@ fn the_longest_run_of_zeros(rt: HostRuntime) {
     assert!(rt; input.taken == 536_870_913);
 }
 
-// 2^32 zeros: all of them are taken, and what comes then is read from its first bit on.
+// 2^32 zeros: all of them are consumed, and what follows is read from its first bit on.
 #[test]
 fn a_run_of_zeros_too_long(rt: HostRuntime) {
     let mut input = zeros_before(536_870_912, 0x80);
@@ -195,13 +195,13 @@ fn buffered_runs_of_zeros(rt: HostRuntime) -> Result<(), Fail> {
     Ok(())
 }
 
-// A number of 13 bits behind three bytes.
+// A 13-bit number after three bytes.
 fn number_after_three<R: ReadBytes>(reader: &mut R) -> io::Result<u16> {
     reader.skip(3)?;
     Bitstream::new(reader).read_leq_u16(13)
 }
 
-// The same, and the remainder.
+// The same, with the CRC.
 fn number_and_crc<R: ReadBytes>(input: &mut R) -> io::Result<(u16, u16)> {
     let mut crc = Crc16Reader::new(input);
     let number = number_after_three(&mut crc)?;
@@ -212,7 +212,7 @@ fn number_and_crc<R: ReadBytes>(input: &mut R) -> io::Result<(u16, u16)> {
 fn zeros_give_zero(rt: HostRuntime) -> Result<(), Fail> {
     let mut input = zeros_before(6, 0xff);
     assert!(rt; input.buffered().is_empty());
-    let (number, remainder) = number_and_crc(&mut input)?;
-    assert!(rt; number == 0 && remainder == 0 && input.taken == 5);
+    let (number, crc16) = number_and_crc(&mut input)?;
+    assert!(rt; number == 0 && crc16 == 0 && input.taken == 5);
     Ok(())
 }

@@ -1,4 +1,4 @@
--- It answers what the inner allocator answers, or `Err` where the request isn't granted. Assumes `Logic`.
+-- It returns the inner allocator's result, or `Err` if the request isn't granted. Assumes `Logic`.
 use Rattle.std.proofs.Common.{◌≡◌, ℕ, ◌+◌, ◌^◌, ◌<◌, Bool, true, false, List, [], ◌∷◌, Ok, Err, refl, w64, Bor}
 use mathlib.Core.Path.{sym, subst}
 use lib.Dec.{T}
@@ -30,7 +30,7 @@ use denote.Param.{bounded, param}
 use denote.Plain.{uint_vals, uint_Tells}
 use denote.Signature.{Slot, plain, types_at}
 use denote.Steps.{heard, nothing}
-use denote.Triple.Clauses.{ReachedEof, Clauses}
+use denote.Triple.Clauses.{Ended, Clauses}
 use denote.Triple.Spec.{triple_of}
 use denote.Triple.Statement.{Triple}
 use denote.Triple.Table.{entered, cited}
@@ -44,7 +44,7 @@ use Rattle.std.proofs.alloc.Calls.{Al, α, seen, token, Answer, answer_val, Answ
 use Rattle.claxon_tests.proofs.Grants.{Grant, at_grant, Grant-goes, Grant-gives}
 use Rattle.claxon_tests.proofs.doubles.is_granted.Symbol as c_sym
 use Rattle.claxon_tests.proofs.doubles.is_granted.Met as c_met
-use Rattle.claxon_tests.specs.contracts.doubles.FailureOrNoOneBit as wrapper
+use Rattle.claxon_tests.specs.contracts.doubles.RefusesOne as wrapper
 use Rattle.claxon_tests.specs.contracts.doubles.RefusesOneAllocator.allocate as F
 use Rattle.claxon_tests.specs.contracts.doubles.RefusesOneAllocator.allocate.Key as key
 use Rattle.claxon_tests.proofs.doubles.RefusesOneAllocator.allocate.Statement as stated
@@ -60,7 +60,7 @@ module _ (Z : Al) where
   abbrev self : Slot 2
   self = RefOf (0 ∷ []) tt (plain (λ _. wrapper.the_row (param 0 Z.row))) (λ _. tt)
 
-  abbrev ended : ReachedEof
+  abbrev ended : Ended
   ended = F.ended Z.row Z.g Z.d Z.drops
 
   abbrev stayed : Stays ended.signature.params ended.kept
@@ -128,7 +128,7 @@ allocate_spec 𝓤 𝓛 𝓜 𝓡 wired Y L g d d' met _ =
     let A = 𝓛.A in
     let 𝓣 : Tables 𝓤 𝓛.H = tables_of 𝓤 𝓛.H 𝓜 (tables 𝓤 𝓛.H 𝓜 𝓡 𝓡.env) in
     let c = F.clauses Y g d d' 𝓛 𝓜.mem 𝓡.returns in
-    entered 𝓤 𝓛.H (triple_of 𝓛 (F.signature Y) (F.spec Y g d d' 𝓛 𝓜.mem 𝓡.returns)) 𝓣.C 𝓣.Λ (key.name (args Z)) (here Z) (code.zigzag_decoded 𝓤 𝓛.H 𝓜 𝓡 wired (Y, tt) d d')
+    entered 𝓤 𝓛.H (triple_of 𝓛 (F.signature Y) (F.spec Y g d d' 𝓛 𝓜.mem 𝓡.returns)) 𝓣.C 𝓣.Λ (key.name (args Z)) (here Z) (code.unfolded 𝓤 𝓛.H 𝓜 𝓡 wired (Y, tt) d d')
     (walk_Meets 𝓛 (ended Z) (stayed Z) (Goes-dropped 𝓛 2 (self Z) yes (λ κs x f. refl), (Goes-dropped 𝓛 2 (plain (λ _. usize)) yes (λ κs x f. refl), (Goes-dropped 𝓛 2 (plain (λ _. usize)) yes (λ κs x f. refl), tt))) c (WpFn 𝓤 𝓛.H 𝓣.C 𝓣.Λ (here Z)) (WpFn-mono 𝓤 𝓛.H 𝓛.laws 𝓣 (here Z))
     (walked 𝓛 (ended Z) (stayed Z) c (WpFn 𝓤 𝓛.H 𝓣.C 𝓣.Λ (here Z)) (λ κs. (shr_vals, (uint_vals w64, (uint_vals w64, tt)))) (λ κs. ((λ r vs s. s.0), (uint_Tells w64, (uint_Tells w64, tt))))
     (λ κs qs bounds a τ are. walk Z 𝓛 𝓜.mem 𝓡.returns 𝓣 (met.allocate d') (cited 𝓤 𝓛.H _ 𝓜 𝓡 𝓡.env c_sym.name (𝓡.env c_sym.name) refl (c_met.met 𝓤 𝓛 𝓜 𝓡 (code.calls-claxon_tests::doubles::is_granted 𝓡.env wired))) κs.0 κs.1.0 qs.0 qs.1.0 bounds.0 a.0 a.1.0 a.1.1.0 τ are.1.0.1 are.1.1.0.1)))

@@ -5,7 +5,7 @@ use Rattle.claxon_format.proofs.CrcBytes.{crc_at_done, crc_at_fault, crc_at_inco
 use Rattle.claxon_input.proofs.CallsInTurn.{consumes_map, consumes_none, io_exit, failure_or_after}
 use Rattle.claxon_input.proofs.ByteFields.{consumes_big, failure_or_big}
 use Rattle.claxon_input.proofs.Faults.{stops_fault}
-use Rattle.claxon_tests.proofs.input.guarded.check_guard.Goals as goal
+use Rattle.claxon_tests.proofs.input.crc_pair.check_crc.Goals as goal
 
 pub returns-in_err-read_be_u16 : goal.returns-in_err-read_be_u16
 returns-in_err-read_be_u16 g c =

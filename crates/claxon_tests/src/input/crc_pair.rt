@@ -1,4 +1,4 @@
-//! A field of bits with padding and a guard, read as a frame is: bits through a remainder, and then the guard in bytes.
+//! Two numbers with padding and a CRC, read as a frame is: bits through a CRC reader, and then the CRC as bytes.
 ghost use Rattle.std.specs.Prelude.{◌≡◌};
 ghost use Rattle.claxon_format.specs.Fault.{FrameCrc};
 ghost use Rattle.claxon_format.specs.read.Bytes.{by_bytes, crc_at};
@@ -12,7 +12,7 @@ use claxon_input::crc::Crc16Reader;
 use claxon_input::input::{Bitstream, ReadBytes};
 use claxon_input::{Error, Result};
 
-/// Reads two numbers, of 5 and of 9 bits, up to a byte border, and the guard of these bytes.
+/// Reads two numbers, of 5 and of 9 bits, the padding up to byte alignment, and the CRC-16 of these bytes.
 pub fn read_pair_with_crc<R: ReadBytes>(input: &mut R) -> Result<(u32, u32)>
     ensures { PairIsRead R.source input.old result input.new }
 {
@@ -22,16 +22,19 @@ pub fn read_pair_with_crc<R: ReadBytes>(input: &mut R) -> Result<(u32, u32)>
 
 fn read_pair_through_crc<R: ReadBytes>(input: &mut Crc16Reader<R>) -> Result<(u32, u32)>
     requires { crc_state input.old ≡ 0 }
-    ensures { Gives (λ pair. pair) result pair_with_crc_at (bytes_in (crc_source R.source update_crc16) input.old) (bytes_in (crc_source R.source update_crc16) input.new) }
+    ensures { Gives (λ pair. pair) result pair_with_crc_at
+        (bytes_in (crc_source R.source update_crc16) input.old)
+        (bytes_in (crc_source R.source update_crc16) input.new) }
 {
     let pair = read_pair(input)?;
     let computed = input.crc();
-    check_guard(input, computed)?;
+    check_crc(input, computed)?;
     Ok(pair)
 }
 
 fn read_pair<R: ReadBytes>(input: &mut R) -> Result<(u32, u32)>
-    ensures { Gives (λ pair. pair) result (by_bytes pair_at) (bytes_in R.source input.old) (bytes_in R.source input.new) }
+    ensures { Gives (λ pair. pair) result (by_bytes pair_at)
+        (bytes_in R.source input.old) (bytes_in R.source input.new) }
 {
     let mut bits = Bitstream::new(input);
     read_pair_of_bits(&mut bits)
@@ -39,15 +42,17 @@ fn read_pair<R: ReadBytes>(input: &mut R) -> Result<(u32, u32)>
 
 #[tactic(auto, unfolding(crate::specs::PairWithCrc::pair_at))]
 fn read_pair_of_bits<R: ReadBytes>(bits: &mut Bitstream<R>) -> Result<(u32, u32)>
-    ensures { Gives (λ pair. pair) result pair_at (bits_in R.source bits.old) (bits_in R.source bits.new) }
+    ensures { Gives (λ pair. pair) result pair_at
+        (bits_in R.source bits.old) (bits_in R.source bits.new) }
 {
     let first = bits.read_leq_u32(5)?;
     let second = bits.read_leq_u32(9)?;
     Ok((first, second))
 }
 
-fn check_guard<R: ReadBytes>(input: &mut R, computed: u16) -> Result<()>
-    ensures { Gives (λ x. tt) result (crc_at 2 computed FrameCrc) (bytes_in R.source input.old) (bytes_in R.source input.new) }
+fn check_crc<R: ReadBytes>(input: &mut R, computed: u16) -> Result<()>
+    ensures { Gives (λ x. tt) result (crc_at 2 computed FrameCrc)
+        (bytes_in R.source input.old) (bytes_in R.source input.new) }
 {
     if input.read_be_u16()? != computed {
         return Err(Error::FormatError("frame CRC mismatch"));
