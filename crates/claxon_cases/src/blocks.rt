@@ -1,4 +1,4 @@
-//! Metadata blocks: the bytes that are taken, and what the block holds.
+//! Metadata blocks: the bytes consumed, and the contents of the block.
 use crate::replay::Case;
 use claxon::metadata::{MetadataBlock, StreamInfo, VorbisComment, read_metadata_block};
 use claxon::{Error, Result};
@@ -59,7 +59,7 @@ fn add_comment(comment: &VorbisComment, answer: &mut Answer) {
     answer.quoted(&comment.comments);
 }
 
-/// Adds what a streaminfo says.
+/// Adds the values of a streaminfo.
 pub fn add_streaminfo(info: &StreamInfo, answer: &mut Answer) {
     answer.text("streaminfo ");
     answer.streaminfo(info);

@@ -1,4 +1,4 @@
-//! Frames: the bytes that are taken, and the blocks.
+//! Frames: the bytes consumed, and the blocks.
 ghost use Rattle.std.specs.Prelude.{◌≡◌};
 
 use crate::replay::Case;
@@ -10,8 +10,8 @@ use claxon_tools::answer::Answer;
 use std::alloc::Global;
 use std::io::Cursor;
 
-// The samples and numbers of them that stand in used buffers.
-const OLD_BUFFERS: [(i32, usize); 4] = [(13, 1), (13, 16384), (17, 1), (17, 16384)];
+// The value and number of the old samples in used buffers.
+const USED_BUFFERS: [(i32, usize); 4] = [(13, 1), (13, 16384), (17, 1), (17, 16384)];
 
 // The marker and a streaminfo of one channel of 8 bits, in blocks of 16 samples.
 const HEAD: [u8; 42] = [
@@ -20,20 +20,20 @@ const HEAD: [u8; 42] = [
     0x00, 0x00, 0x00, 0x00, 0x00, 0x00, 0x00, 0x00, 0x00, 0x00,
 ];
 
-/// Adds what each of so many calls answers, with ` | ` between them: `BYTES block TIME CHANNELS DURATION samples..`,
-/// `BYTES end`, `BYTES text`, or `IO`, which has taken all bytes. Behind that stands what they answer otherwise into
-/// buffers with old samples, one and more than a block has, and which calls over a stream of these frames disagree.
+/// Adds the result of each of `calls` calls, with ` | ` between them: `BYTES block TIME CHANNELS DURATION samples..`,
+/// `BYTES end`, `BYTES text`, or `IO`, after which all bytes are consumed. Then follow different results into buffers with old
+/// samples, one and more than a block has, and the calls over a stream of these frames that disagree.
 pub fn answer_of_frames(alloc: Global, case: &Case, calls: usize, answer: &mut Answer) {
     let one = answers_into(alloc, case, calls, (0, 0));
     answer.bytes(one.as_bytes());
-    for old in OLD_BUFFERS {
+    for old in USED_BUFFERS {
         let other = answers_into(alloc, case, calls, old);
         answer.difference(&one, &other, "; into a used buffer: ");
     }
     add_as_a_stream(alloc, &case.bytes, answer);
 }
 
-// The frames behind a head.
+// The frames after a head.
 fn add_as_a_stream(alloc: Global, frames: &[u8], answer: &mut Answer) {
     let mut bytes = Vec::new(alloc);
     if bytes.extend_from_slice(&HEAD).is_err() || bytes.extend_from_slice(frames).is_err() {
@@ -43,7 +43,7 @@ fn add_as_a_stream(alloc: Global, frames: &[u8], answer: &mut Answer) {
     add_calls_that_disagree(alloc, &bytes, answer);
 }
 
-// What the calls answer, each into a buffer of so many such samples.
+// The results of the calls, each into a buffer of old samples.
 fn answers_into(alloc: Global, case: &Case, calls: usize, old: (i32, usize)) -> Answer {
     let mut answer = Answer::new(alloc);
     let (all, mut taken) = (case.bytes.len() as u64, 0);
@@ -61,9 +61,8 @@ fn answers_into(alloc: Global, case: &Case, calls: usize, old: (i32, usize)) -> 
     answer
 }
 
-// What a call answers that begins behind so many bytes, and where it ends; none where no stream has such samples or
-// blocks, or memory is refused. A reader holds its input and what is known of the stream, so that each call may have one
-// of its own.
+// The result of a call that begins at this position, and the position after it; None if no stream has such samples or blocks, or
+// memory is refused. A reader has no state but its input and the streaminfo, so each call can have a new one.
 fn next_block(
     alloc: Global,
     case: &Case,
@@ -97,7 +96,7 @@ fn add_outcome(outcome: FrameResult, taken: u64, all: u64, answer: &mut Answer) 
             answer.value(&taken);
             answer.text(" end");
         }
-        Err(error) => answer.fault_behind(taken, all, &error),
+        Err(error) => answer.fault_after(taken, all, &error),
     }
 }
 
@@ -110,7 +109,7 @@ fn add_block(block: Block, answer: &mut Answer) {
     answer.samples(&block.into_buffer());
 }
 
-// A stream of samples of so many bits, in blocks of 16 to so many.
+// A stream with this bit depth, in blocks of 16 to `length` samples.
 fn stream_info(bits_per_sample: u32, max_block_size: u16) -> StreamInfo
     ensures { result.bits_per_sample ≡ bits_per_sample }
 {

@@ -1,4 +1,4 @@
-//! Decodes files, and replays lines of subframes, metadata blocks, frames and streams, whose answers others gave.
+//! Decodes files, and replays lines of subframes, metadata blocks, frames and streams with answers of another decoder.
 #![tactic(auto)]
 
 mod blocks;
@@ -17,7 +17,7 @@ use std::process::ExitCode;
 use std::rt::{Env, Files};
 use std::{env, fs};
 
-// What the lines of a file are, where it has lines.
+// The kind of the lines of a file, if it has lines.
 fn kind_of(name: &str) -> Option<Kind> {
     match name {
         "subframes.txt" => Some(Kind::Subframe),
@@ -28,7 +28,7 @@ fn kind_of(name: &str) -> Option<Kind> {
     }
 }
 
-// A line for each file that the arguments name.
+// One line for each file in the arguments.
 fn print_all<Q: Env + Files + AllocGlobal, W: Write>(rt: &Q, output: &mut W) -> Result<()>
 where
     Q::File: Read,

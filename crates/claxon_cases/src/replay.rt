@@ -1,4 +1,4 @@
-//! Lines `number length bytes: answer`, in which the number is a width, a type or a choice of options and the bytes are
+//! Lines `number length bytes: answer`, in which the number is a bit depth, a type or a choice of options, and the bytes are
 //! hexadecimal.
 use crate::blocks::answer_of_block;
 use crate::frames::answer_of_frames;
@@ -9,17 +9,16 @@ use claxon_tools::answer::Answer;
 use std::alloc::Global;
 use std::io::Write;
 
-/// What the lines of a file are.
+/// The kind of the lines of a file.
 #[derive(Clone, Copy)]
 pub enum Kind {
-    /// Of samples of a width, so many.
+    /// A subframe with a bit depth and a number of samples.
     Subframe,
-    /// Of a type and of so many bytes.
+    /// A metadata block with a type and a number of bytes.
     Block,
-    /// Of samples of a width, in blocks of at most so many; zeros where neither is known. There are as many calls as
-    /// answers.
+    /// Frames with a bit depth and a maximum block size, or zeros if neither is known. There are as many calls as answers.
     Frame,
-    /// Opened with these options, and so many samples shown.
+    /// A stream with options, and a number of samples to print.
     Stream,
 }
 
@@ -31,7 +30,7 @@ pub struct Case {
     pub bytes: Vec<u8>,
 }
 
-/// Prints each line that is answered otherwise, and how many aren't.
+/// Prints each line with another answer, and the number of lines that agree.
 pub fn replay<W: Write>(
     alloc: Global,
     kind: Kind,
@@ -46,7 +45,7 @@ pub fn replay<W: Write>(
     Ok(())
 }
 
-// Reports each line that is answered otherwise, and returns how many aren't.
+// Reports each line with another answer, and returns the number of lines that agree.
 fn compare_lines(alloc: Global, kind: Kind, name: &str, lines: &str, report: &mut Answer) -> u32 {
     let mut agreeing = 0u32;
     for line in lines.lines() {
@@ -72,7 +71,7 @@ fn is_answered(alloc: Global, kind: Kind, name: &str, line: &str, report: &mut A
     agrees
 }
 
-// What the decoder answers, as a line has it.
+// The decoder's result, in the form of a line's answer.
 fn answer_of(alloc: Global, kind: Kind, text: &str, want: &str) -> Answer {
     let mut answer = Answer::new(alloc);
     let Some(case) = read_case(alloc, text) else {
@@ -88,7 +87,7 @@ fn answer_of(alloc: Global, kind: Kind, text: &str, want: &str) -> Answer {
     answer
 }
 
-// None also where memory is refused.
+// None also if memory is refused.
 fn read_case(alloc: Global, text: &str) -> Option<Case> {
     let mut words = text.split(' ');
     let number = words.next()?.parse::<u32>().ok()?;

@@ -1,4 +1,4 @@
-//! Files by the samples that they give.
+//! Files by their samples.
 use claxon::input::ReadBytes;
 use claxon::{FlacReader, FlacSamples, Result};
 use claxon_tools::answer::Answer;
@@ -6,7 +6,7 @@ use claxon_tools::fnv::{OFFSET_BASIS, hash_on};
 use std::alloc::Global;
 use std::io::{Read, Write};
 
-/// Gathers the samples up to the end or the first fault; none of a stream that was opened for its metadata alone.
+/// Collects the samples up to the end or the first error; none for a stream that was opened for its metadata only.
 pub fn gather<R: Read + Drop>(flac: &mut FlacReader<R>, samples: &mut Vec<i32>) -> Result<()> {
     if flac.is_metadata_only() {
         return Ok(());
@@ -14,7 +14,7 @@ pub fn gather<R: Read + Drop>(flac: &mut FlacReader<R>, samples: &mut Vec<i32>) 
     gather_all(flac.samples(), samples)
 }
 
-// For any source of bytes, since a loop over a reader that is lent is dear to prove.
+// For any source of bytes, since a loop over a borrowed reader takes long to prove.
 fn gather_all<R: ReadBytes + Drop>(given: FlacSamples<R>, samples: &mut Vec<i32>) -> Result<()> {
     for sample in given.take(usize::MAX) {
         samples.push(sample?)?;
@@ -26,7 +26,7 @@ fn decode<R: Read + Drop>(alloc: Global, input: R, samples: &mut Vec<i32>) -> Re
     gather(&mut FlacReader::new(alloc, input)?, samples)
 }
 
-/// Prints how many samples a file gives, a hash of their bytes, and how it ends.
+/// Prints the number of samples of a file, a hash of their bytes, and how it ends.
 pub fn print_tally<R: Read + Drop, W: Write>(
     alloc: Global,
     name: &str,

@@ -1,4 +1,4 @@
-//! Streams: what their heads show, their samples and blocks, and whether the other calls say the same.
+//! Streams: their heads, samples and blocks, and whether the other calls agree.
 use crate::blocks::add_streaminfo;
 use crate::replay::Case;
 use crate::samples::gather;
@@ -12,8 +12,8 @@ use std::io::{Cursor, Read};
 
 type Opened<'a> = Result<FlacReader<Cursor<&'a [u8]>>>;
 
-/// Adds what opening the stream shows, and unless it was opened for its metadata alone its samples, its blocks and how
-/// they end; behind that the calls that disagree, if any do.
+/// Adds the head of the stream, and unless it was opened for its metadata only its samples, its blocks and how they end; then
+/// the calls that disagree, if any do.
 pub fn answer_of_stream(alloc: Global, case: &Case, answer: &mut Answer) {
     if case.number > 3 {
         answer.text("no case");
@@ -26,7 +26,7 @@ pub fn answer_of_stream(alloc: Global, case: &Case, answer: &mut Answer) {
     add_calls_that_disagree(alloc, &case.bytes, answer);
 }
 
-/// Adds the calls over a stream that show, end with or write otherwise than they should among themselves.
+/// Adds the calls over a stream whose heads, results or output differ from those of the others.
 pub fn add_calls_that_disagree(alloc: Global, bytes: &[u8], answer: &mut Answer) {
     add_other_heads(alloc, bytes, answer);
     add_other_runs(alloc, bytes, answer);
@@ -58,7 +58,7 @@ fn add_opened(opened: &Opened<'_>, answer: &mut Answer) {
     }
 }
 
-// The vendor, or `-` where none is shown, the tags, and the streaminfo.
+// The vendor, or `-` if there is none, the tags, and the streaminfo.
 fn add_head(info: &StreamInfo, vendor: Option<&str>, tags: Tags<'_>, answer: &mut Answer) {
     match vendor {
         Some(vendor) => answer.parts(&["<", vendor, "> "]),
@@ -70,7 +70,7 @@ fn add_head(info: &StreamInfo, vendor: Option<&str>, tags: Tags<'_>, answer: &mu
     add_streaminfo(info, answer);
 }
 
-// How many samples there are, the first of them, the first blocks, and how both end.
+// The number of samples, the first of them, the first blocks, and how both end.
 fn add_contents(alloc: Global, case: &Case, answer: &mut Answer) {
     let most = case.length as usize;
     let mut samples = Vec::new(alloc);
@@ -93,7 +93,7 @@ fn add_first(samples: &[i32], most: usize, answer: &mut Answer) {
     answer.samples(samples.get(..most).unwrap_or(samples));
 }
 
-// Asks for each block anew.
+// Calls `blocks` again for each block.
 fn add_blocks(alloc: Global, opened: Opened<'_>, most: usize, answer: &mut Answer) -> Result<()> {
     let mut flac = opened?;
     for count in 0..usize::MAX {
@@ -124,7 +124,7 @@ fn add_block(block: Block, most: usize, answer: &mut Answer) {
     add_first(&block.into_buffer(), most, answer);
 }
 
-// Under each choice of options a reader shows what the head alone does, and without any what it does by default.
+// With each choice of options a reader has the head that `read_head` returns, and without options the default one.
 fn add_other_heads(alloc: Global, bytes: &[u8], answer: &mut Answer) {
     for number in 0..4 {
         let one = shown(alloc, bytes, options_of(number));
@@ -171,7 +171,7 @@ fn add_head_alone(
     Ok(())
 }
 
-// A run ends with and writes what opening the stream and writing its samples do.
+// `run` has the result and the output of opening the stream and writing its samples.
 fn add_other_runs(alloc: Global, bytes: &[u8], answer: &mut Answer) {
     let (mut one, mut other) = (Vec::new(alloc), Vec::new(alloc));
     let end = count_of(alloc, &run(alloc, Cursor::new(bytes), &mut one));
