@@ -20,16 +20,16 @@ returns-in_err-block-clause-memory g c out_of_memory known =
     (header_view c.in_ok-header.header, t.0, _, t.1, (may.0 again, λ four. may.1 four again read.known), t.2)
 
 pub returns-in_err-header-clause-within : goal.returns-in_err-header-clause-within
-returns-in_err-header-clause-within g c h x rest code comes = omega (arith, c.in_err-header.ensures.within)
+returns-in_err-header-clause-within g c h x rest code remains = omega (arith, c.in_err-header.ensures.within)
 
 pub returns-in_err-block-clause-within : goal.returns-in_err-block-clause-within
-returns-in_err-block-clause-within g c h x rest code comes =
-    let same = header_is _ h x rest code comes.are (c.in_ok-header.ensures.gives.known comes.known).is in
+returns-in_err-block-clause-within g c h x rest code remains =
+    let same = header_is _ h x rest code remains.are (c.in_ok-header.ensures.gives.known remains.known).is in
     omega (arith, same, c.in_ok-header.ensures.within, c.in_err-block.ensures.within)
 
 pub returns-clause-within : goal.returns-clause-within
-returns-clause-within g c h x rest code comes =
-    let same = header_is _ h x rest code comes.are (c.in_ok-header.ensures.gives.known comes.known).is in
+returns-clause-within g c h x rest code remains =
+    let same = header_is _ h x rest code remains.are (c.in_ok-header.ensures.gives.known remains.known).is in
     omega (arith, same, c.in_ok-header.ensures.within, c.in_ok-block.ensures.within)
 
 pub returns-clause-memory : goal.returns-clause-memory
