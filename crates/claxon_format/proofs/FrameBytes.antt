@@ -14,7 +14,7 @@ use Rattle.claxon_format.specs.read.Header.{header_at, fields_with_crc_at, with_
 use Rattle.claxon_format.specs.read.Bytes.{by_bytes, whole, big_at}
 use Rattle.claxon_format.specs.FrameWriter.{bytes_of}
 use Rattle.claxon_format.specs.Crc.{crc16, padding_length}
-use Rattle.claxon_format.specs.Header.{Fields, Header, header_with, HeaderCode, HeaderFault}
+use Rattle.claxon_format.specs.Header.{Fields, Header, HeaderCode, HeaderFault}
 use Rattle.claxon_format.specs.Reading.{Reading, Reads, Done, Faulty, Incomplete, bind, and_then, done, taken, test, Mapped}
 use Rattle.claxon_format.specs.Stereo.{widths}
 use Rattle.std.proofs.Common.{◌≡◌, ℕ, ◌+◌, ◌%◌, Bool, false, not, eqb, List, [], ◌∷◌, ◌++◌, length, replicate, refl, sym, ap, ap₂, subst, ◌∙◌, arith}
@@ -50,12 +50,12 @@ map_by_bytes f r s = go (r (bits_of s))
 -- ---- header and subframes
 
 subframes_in_bytes : (stream : Option StreamFormat) (h : Header) (s : List ℕ)
-    → by_bytes (and_then (coded_channels_at h.size (widths h.channels h.width)) (λ coded. done (block_of stream h coded))) s ≡ and_then (subframes_at h.size (widths h.channels h.width)) (λ coded. done (block_of stream h coded)) s
+    → by_bytes (and_then (coded_channels_at h.fields.size (widths h.fields.channels h.width)) (λ coded. done (block_of stream h coded))) s ≡ and_then (subframes_at h.fields.size (widths h.fields.channels h.width)) (λ coded. done (block_of stream h coded)) s
 unfolding subframes_at
-subframes_in_bytes stream h s = map_by_bytes (block_of stream h) (coded_channels_at h.size (widths h.channels h.width)) s
+subframes_in_bytes stream h s = map_by_bytes (block_of stream h) (coded_channels_at h.fields.size (widths h.fields.channels h.width)) s
 
 pub body_in_bytes : (stream : Option StreamFormat) {q : List ℕ → Reading ℕ Header} → IsWidth (known_width stream) → Whole Header (header_at (known_width stream)) q → (s : List ℕ)
-    → by_bytes (frame_body_at stream) s ≡ and_then (by_bytes (header_at (known_width stream))) (λ h. and_then (subframes_at h.size (widths h.channels h.width)) (λ coded. done (block_of stream h coded))) s
+    → by_bytes (frame_body_at stream) s ≡ and_then (by_bytes (header_at (known_width stream))) (λ h. and_then (subframes_at h.fields.size (widths h.fields.channels h.width)) (λ coded. done (block_of stream h coded))) s
 unfolding frame_body_at
 body_in_bytes stream k header s =
     by_bytes_then (Reads-header (known_width stream)) (fills_bytes (Reads-header (known_width stream)) header) (λ h t c. Reads-map (block_of stream h) (Reads-subframes (known_width stream) k h t c)) s
@@ -70,15 +70,15 @@ then_map (Faulty e m) f g = refl
 then_map Incomplete f g = refl
 
 -- a function of the value that is made of a header
-made_then : {A B : Type 0} (fields : List ℕ → Reading ℕ Fields) (known : Option ℕ) (make : Fields → ℕ → A) (f : A → B) (s : List ℕ) → with_width fields known (λ x w. f (make x w)) s ≡ and_then (with_width fields known make) (λ a. done (f a)) s
+made_then : {A B : Type 0} (fields : List ℕ → Reading ℕ Fields) (known : Option ℕ) (make : Header → A) (f : A → B) (s : List ℕ) → with_width fields known (λ h. f (make h)) s ≡ and_then (with_width fields known make) (λ a. done (f a)) s
 made_then fields known make f s = go (fields s)
   where
-    width : (x : Fields) (y : Reading ℕ ℕ) → bind y (λ w. done (f (make x w))) ≡ bind (bind y (λ w. done (make x w))) (λ a. done (f a))
+    width : (x : Fields) (y : Reading ℕ ℕ) → bind y (λ w. done (f (make (record { fields = x; width = w })))) ≡ bind (bind y (λ w. done (make (record { fields = x; width = w })))) (λ a. done (f a))
     width x (Done w m) = refl
     width x (Faulty e m) = refl
     width x Incomplete = refl
 
-    go : (x : Reading ℕ Fields) → bind x (λ f'. and_then (width_at known f') (λ w. done (f (make f' w)))) ≡ bind (bind x (λ f'. and_then (width_at known f') (λ w. done (make f' w)))) (λ a. done (f a))
+    go : (x : Reading ℕ Fields) → bind x (λ f'. and_then (width_at known f') (λ w. done (f (make (record { fields = f'; width = w }))))) ≡ bind (bind x (λ f'. and_then (width_at known f') (λ w. done (make (record { fields = f'; width = w }))))) (λ a. done (f a))
     go (Done x m) = width x (width_at known x m)
     go (Faulty e m) = refl
     go Incomplete = refl
@@ -86,13 +86,13 @@ made_then fields known make f s = go (fields s)
 pub start_is : (stream : Option StreamFormat) (s : List ℕ) → start_at stream s ≡ by_bytes (and_then (header_at (known_width stream)) (λ h. done (start_of stream h))) s
 unfolding start_at header_at
 start_is stream s =
-    made_then fields_with_crc_at (known_width stream) header_with (start_of stream) s
-    ∙ sym (whole_is (Whole-then (Whole-header (known_width stream) header_with) (λ h. Whole-done (start_of stream h))) s)
+    made_then fields_with_crc_at (known_width stream) (λ h. h) (start_of stream) s
+    ∙ sym (whole_is (Whole-then (Whole-header (known_width stream) (λ h. h)) (λ h. Whole-done (start_of stream h))) s)
 
 frame_without_crc_is : (stream : Option StreamFormat) → IsWidth (known_width stream) → (s : List ℕ) → by_bytes (frame_body_at stream) s ≡ frame_without_crc_at stream s
 unfolding frame_without_crc_at header_at
 frame_without_crc_is stream k s =
-    body_in_bytes stream k (Whole-header (known_width stream) header_with) s
+    body_in_bytes stream k (Whole-header (known_width stream) (λ h. h)) s
     ∙ sym (ap (λ x. bind x (λ start. and_then (subframes_at start.size (widths start.channels start.width)) (λ coded. done (block_from start coded)))) (start_is stream s ∙ map_by_bytes (start_of stream) (header_at (known_width stream)) s)
     ∙ then_map (by_bytes (header_at (known_width stream)) s) (start_of stream) (λ start. and_then (subframes_at start.size (widths start.channels start.width)) (λ coded. done (block_from start coded))))
 
@@ -106,7 +106,7 @@ frame_is stream k s =
 pub Reads-start : (stream : Option StreamFormat) → Reads ℕ Start (start_at stream) (InBytes (Mapped (start_of stream) (HeaderCode (known_width stream)))) (ByteAlignedFault (HeaderFault (known_width stream)))
 unfolding header_at
 Reads-start stream =
-    Reads-is (start_is stream) (Reads-by_bytes (Reads-map (start_of stream) (Reads-header (known_width stream))) (λ start t c. fills_bytes (Reads-header (known_width stream)) (Whole-header (known_width stream) header_with) c.0 t c.1))
+    Reads-is (start_is stream) (Reads-by_bytes (Reads-map (start_of stream) (Reads-header (known_width stream))) (λ start t c. fills_bytes (Reads-header (known_width stream)) (Whole-header (known_width stream) (λ h. h)) c.0 t c.1))
 
 -- ---- a whole frame
 

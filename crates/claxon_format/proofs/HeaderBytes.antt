@@ -1,16 +1,16 @@
 -- A frame's header, read from bytes, is the one that is read from their bits.
-use Rattle.std.proofs.Common.{ℕ, zero, suc, ◌+◌, ◌*◌, ◌/◌, ◌%◌, Bool, not, eqb, ltb, Option}
+use Rattle.std.proofs.Common.{ℕ, zero, suc, ◌+◌, ◌*◌, ◌/◌, ◌%◌, Bool, true, not, eqb, ltb, Option, Some, None}
 use Rattle.claxon_format.specs.Bits.{bits_of}
 use Rattle.claxon_format.specs.CodedNumber.{bad_first, bad_continuation, continuation_count}
 use Rattle.claxon_format.specs.Fault.{SyncMissing, ReservedBit, SizeReserved, RateInvalid, ChannelsReserved, BitDepthReserved, SecondReservedBit, NumberFirst, NumberContinuation, NumberLarge, SizeLarge, HeaderCrc, BitDepthUnknown, SideTooWide}
 use Rattle.claxon_format.specs.Crc.{crc8}
 use Rattle.claxon_format.specs.read.Crc.{with_crc_at}
-use Rattle.claxon_format.specs.Header.{Fields, side_too_wide, bit_depth_unknown, number_large, rate_bytes, width_of, bit_depth_reserved}
+use Rattle.claxon_format.specs.Header.{Fields, Header, side_too_wide, number_large, rate_bytes, width_of, bit_depth_reserved}
 use Rattle.claxon_format.specs.read.Bytes.{big_at}
 use Rattle.claxon_format.specs.Reading.{and_then, done, test}
 use Rattle.claxon_format.specs.read.Bits.{number_at}
 use Rattle.claxon_format.specs.read.CodedNumber.{in_bits, lead, continuation_byte_at, continuation_bytes_at, coded_number_at}
-use Rattle.claxon_format.specs.read.Header.{SizeCoding, ByCode, InByte, InTwoBytes, size_coding, blocking_at, sync_at, codes_at, channels_at, number_in, size_at, rate_at, fields_of, fields_after, fields_at, fields_with_crc_at, width_at, with_width}
+use Rattle.claxon_format.specs.read.Header.{SizeCoding, ByCode, InByte, InTwoBytes, size_coding, blocking_at, sync_at, codes_at, channels_at, number_in, size_at, rate_at, fields_of, fields_after, fields_at, fields_with_crc_at, depth_at, width_at, with_width}
 use Rattle.claxon_format.proofs.ByteNumbers.{Whole-number}
 use Rattle.claxon_format.proofs.WholeBytes.{Whole, Whole-then, Whole-test, Whole-done, Whole-with}
 
@@ -49,8 +49,12 @@ Whole-fields_with_crc =
     Whole-with (λ f x. and_then (number_at 8) (λ n. test (not (eqb n (crc8 x))) HeaderCrc (done f))) (λ f t. and_then (big_at 1) (λ n. test (not (eqb n (crc8 (bits_of t)))) HeaderCrc (done f)))
     Whole-fields (λ f t. Whole-then (Whole-number 1) (λ n. Whole-test (not (eqb n (crc8 (bits_of t)))) HeaderCrc (Whole-done f)))
 
+Whole-depth : (channels : ℕ) (x : Option ℕ) → Whole ℕ (depth_at channels x) (depth_at channels x)
+Whole-depth channels None = Whole-test true BitDepthUnknown (Whole-done 0)
+Whole-depth channels (Some w) = Whole-test (side_too_wide channels w) SideTooWide (Whole-done w)
+
 -- a value that is made of a header
-pub Whole-header : {A : Type 0} (known : Option ℕ) (make : Fields → ℕ → A) → Whole A (with_width (with_crc_at 8 crc8 HeaderCrc (fields_at in_bits)) known make) (with_width fields_with_crc_at known make)
+pub Whole-header : {A : Type 0} (known : Option ℕ) (make : Header → A) → Whole A (with_width (with_crc_at 8 crc8 HeaderCrc (fields_at in_bits)) known make) (with_width fields_with_crc_at known make)
 unfolding width_at
 Whole-header known make =
-    Whole-then Whole-fields_with_crc (λ f. Whole-then (Whole-test (bit_depth_unknown known f) BitDepthUnknown (Whole-test (side_too_wide known f) SideTooWide (Whole-done (width_of known f.bit_depth_code)))) (λ w. Whole-done (make f w)))
+    Whole-then Whole-fields_with_crc (λ f. Whole-then (Whole-depth f.channels (width_of known f.bit_depth_code)) (λ w. Whole-done (make (record { fields = f; width = w }))))

@@ -1,12 +1,11 @@
 -- A stream has one reading. And the position of each sample among the interleaved samples.
-use Rattle.std.proofs.Common.{◌≡◌, ℕ, zero, suc, ◌+◌, ◌*◌, ◌<◌, ◌≤◌, ◌^◌, Bool, true, false, cond, eqb, List, [], ◌∷◌, ◌++◌, length, map, refl, sym, ap, subst, ◌∙◌, arith, ℤ, pos}
+use Rattle.std.proofs.Common.{◌≡◌, ℕ, zero, suc, ◌+◌, ◌*◌, ◌<◌, ◌≤◌, Bool, true, false, cond, eqb, List, [], ◌∷◌, ◌++◌, length, map, refl, sym, ap, subst, ◌∙◌, arith, ℤ, pos}
 use Rattle.std.specs.Prelude.{get_or, Some}
 use Rattle.std.specs.List.{flat_map, range_with_len}
 use Rattle.std.proofs.lemmas.List.{append_cancel_left, length-append, length-map}
-use Rattle.claxon_format.specs.Bits.{Bits, Number}
-use Rattle.claxon_format.specs.Reading.{EachWith, Mapped, choose}
+use Rattle.claxon_format.specs.Reading.{Mapped, choose}
 use Rattle.claxon_format.specs.Metadata.{Bytes}
-use Rattle.claxon_format.specs.Streaminfo.{Streaminfo, info_widths, StreaminfoCode}
+use Rattle.claxon_format.specs.Streaminfo.{Streaminfo, StreaminfoCode}
 use Rattle.claxon_format.specs.Comments.{CommentCode}
 use Rattle.claxon_format.specs.MetadataBlocks.{Content, Info, Padding, Comments, Reserved, ApplicationBody, skipped, is_padding, Body, InfoBody}
 use Rattle.claxon_format.specs.Frame.{Block, IsWidth, Frames, NoFrameLeft}
@@ -65,18 +64,9 @@ length-interleave channels = length-places (samples_at channels) (length channel
 
 -- ---- a stream has one reading
 
-number_at_place : (ws ns : List ℕ) (t : Bits) → EachWith Number ws ns t → (k : ℕ) → k < length ws → get_or ns k 0 < 2 ^ get_or ws k 0
-number_at_place [] ns t c k lt = absurd (omega arith)
-number_at_place (w ∷ ws) [] t c k lt = absurd c
-number_at_place (w ∷ ws) (n ∷ ns) t c zero lt = c.2.0
-number_at_place (w ∷ ws) (n ∷ ns) t c (suc k) lt = number_at_place ws ns c.1 c.3 k (omega arith)
-
 -- streaminfo has 1 to 32 bits per sample
 info_width : (i : Streaminfo) (t : List ℕ) → StreaminfoCode i t → (1 ≤ i.width) × (i.width ≤ 32)
-info_width i t (ns, md5, x, y, numbers, len, sum, a, b, c, d, i-is, t-is) =
-    let lt : get_or ns 6 0 < 2 ^ 5 = number_at_place info_widths ns x numbers 6 (omega arith) in
-    let w : i.width ≡ get_or ns 6 0 + 1 = ap (λ (z : Streaminfo). z.width) i-is in
-    (omega arith, omega arith)
+info_width i t c = (c.0.8, c.0.9)
 
 not_skipped : (b : Bool) (n : ℕ) (i : Streaminfo) → Info i ≡ cond b (Padding n) Reserved → ⊥
 not_skipped true n i e = cc

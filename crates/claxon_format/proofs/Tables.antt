@@ -6,7 +6,7 @@ use Rattle.claxon_format.specs.Residual.{escape, partition_lengths}
 use Rattle.claxon_format.specs.Subframe.{reserved}
 use Rattle.claxon_format.specs.CodedNumber.{bad_first, continuation_count, bad_continuation}
 use Rattle.claxon_format.specs.Crc.{padding_length}
-use Rattle.claxon_format.specs.Header.{size_of, rate_bits, width_of, bit_depth_reserved, number_large}
+use Rattle.claxon_format.specs.Header.{size_of, rate_bits, width_of, bit_depth_reserved, side_too_wide, number_large}
 use Rattle.claxon_format.specs.Stereo.{widths}
 use Rattle.claxon_format.specs.Frame.{block_step}
 use Rattle.claxon_format.specs.FrameWriter.{channel_count}
@@ -15,14 +15,32 @@ use Rattle.claxon_format.specs.read.Metadata.{block_header}
 use Rattle.claxon_format.specs.read.Bytes.{big_endian}
 use Rattle.claxon_format.specs.Pairs.{lower}
 
-sizes : map size_of (1 ∷ 2 ∷ 3 ∷ 4 ∷ 5 ∷ 8 ∷ 9 ∷ 10 ∷ 11 ∷ 12 ∷ 13 ∷ 14 ∷ 15 ∷ []) ≡ 192 ∷ 576 ∷ 1152 ∷ 2304 ∷ 4608 ∷ 256 ∷ 512 ∷ 1024 ∷ 2048 ∷ 4096 ∷ 8192 ∷ 16384 ∷ 32768 ∷ []
+sizes : map size_of (1 ∷ 2 ∷ 3 ∷ 4 ∷ 5 ∷ 8 ∷ 9 ∷ 10 ∷ 11 ∷ 12 ∷ 13 ∷ 14 ∷ 15 ∷ []) ≡ map Some (192 ∷ 576 ∷ 1152 ∷ 2304 ∷ 4608 ∷ 256 ∷ 512 ∷ 1024 ∷ 2048 ∷ 4096 ∷ 8192 ∷ 16384 ∷ 32768 ∷ [])
 sizes = refl
+
+-- codes without a block size: reserved, or with a field for it
+no_sizes : map size_of (0 ∷ 6 ∷ 7 ∷ 16 ∷ []) ≡ None ∷ None ∷ None ∷ None ∷ []
+no_sizes = refl
 
 rates : map rate_bits (0 ∷ 1 ∷ 2 ∷ 3 ∷ 4 ∷ 5 ∷ 6 ∷ 7 ∷ 8 ∷ 9 ∷ 10 ∷ 11 ∷ 12 ∷ 13 ∷ 14 ∷ []) ≡ 0 ∷ 0 ∷ 0 ∷ 0 ∷ 0 ∷ 0 ∷ 0 ∷ 0 ∷ 0 ∷ 0 ∷ 0 ∷ 0 ∷ 8 ∷ 16 ∷ 16 ∷ []
 rates = refl
 
-bit_depths_by_code : map (width_of None) (1 ∷ 2 ∷ 4 ∷ 5 ∷ 6 ∷ []) ≡ 8 ∷ 12 ∷ 16 ∷ 20 ∷ 24 ∷ []
+bit_depths_by_code : map (width_of None) (1 ∷ 2 ∷ 4 ∷ 5 ∷ 6 ∷ []) ≡ map Some (8 ∷ 12 ∷ 16 ∷ 20 ∷ 24 ∷ [])
 bit_depths_by_code = refl
+
+-- codes without a bit depth: unknown, or reserved
+no_widths : map (width_of None) (0 ∷ 3 ∷ 7 ∷ []) ≡ None ∷ None ∷ None ∷ []
+no_widths = refl
+
+-- a stream's bit depth is that of code 0 alone
+stream_widths : map (width_of (Some 32)) (0 ∷ 1 ∷ 2 ∷ 3 ∷ 4 ∷ 5 ∷ 6 ∷ 7 ∷ []) ≡ Some 32 ∷ Some 8 ∷ Some 12 ∷ None ∷ Some 16 ∷ Some 20 ∷ Some 24 ∷ None ∷ []
+stream_widths = refl
+
+sides_too_wide : map (λ channels. side_too_wide channels 32) (0 ∷ 7 ∷ 8 ∷ 9 ∷ 10 ∷ []) ≡ false ∷ false ∷ true ∷ true ∷ true ∷ []
+sides_too_wide = refl
+
+widest_side : side_too_wide 8 31 ≡ false
+widest_side = refl
 
 bit_depth_codes_reserved : map bit_depth_reserved (0 ∷ 1 ∷ 2 ∷ 3 ∷ 4 ∷ 5 ∷ 6 ∷ 7 ∷ []) ≡ false ∷ false ∷ false ∷ true ∷ false ∷ false ∷ false ∷ true ∷ []
 bit_depth_codes_reserved = refl

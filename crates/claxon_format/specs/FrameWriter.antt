@@ -1,10 +1,10 @@
 -- What a writer writes for a whole frame under plans (RFC 9639, section 9), and which plans suit the channels.
-use Rattle.std.specs.Prelude.{ℕ, zero, suc, true, false, cond, List, length, take, replicate, nat_lt, ℤ, Option, ◌≡◌, ◌+◌, ◌-◌, ◌*◌, ◌/◌, ◌^◌, ◌<◌, ◌≤◌, ◌∷◌, ◌++◌, ◌==◌, []}
+use Rattle.std.specs.Prelude.{ℕ, zero, suc, true, false, cond, List, length, take, replicate, nat_lt, ℤ, Option, Some, unwrap_or, ◌≡◌, ◌+◌, ◌-◌, ◌*◌, ◌/◌, ◌^◌, ◌<◌, ◌≤◌, ◌∷◌, ◌++◌, ◌==◌, []}
 use Rattle.claxon_format.specs.Bits.{Bits, bits, number}
 use Rattle.claxon_format.specs.Crc.{padding_length, crc8, crc16, bit}
 use Rattle.claxon_format.specs.CodedNumber.{continuation_bytes}
-use Rattle.claxon_format.specs.Header.{Fields, header_of, width_of, bit_depth_unknown, side_too_wide, size_of, rate_bits, bit_depth_reserved, number_large}
-use Rattle.claxon_format.specs.Stereo.{either, widths, zipped, decorrelate_first, decorrelate_second}
+use Rattle.claxon_format.specs.Header.{Fields, width_of, side_too_wide, size_of, rate_bits, bit_depth_reserved, number_large}
+use Rattle.claxon_format.specs.Stereo.{widths, zipped, decorrelate_first, decorrelate_second}
 use Rattle.claxon_format.specs.Frame.{StreamFormat, Block, known_width, time_of}
 use Rattle.claxon_format.specs.Writer.{AllFitIn, SubframePlan, write_subframe, SuitsSubframe, plan_with_quotients, SuitsShape}
 
@@ -88,7 +88,7 @@ write_fields f plan =
 
 -- a block size that this code can stand for (section 9.1.1)
 abbrev pub SuitsSize : ℕ → ℕ → Type 0
-SuitsSize code n = either (code == 6) ((1 ≤ n) × (n ≤ 256)) (either (code == 7) ((1 ≤ n) × (n ≤ 65535)) (n ≡ size_of code))
+SuitsSize code n = cond (code == 6) ((1 ≤ n) × (n ≤ 256)) (cond (code == 7) ((1 ≤ n) × (n ≤ 65535)) (size_of code ≡ Some n))
 
 -- codes that stand for these fields
 abbrev pub SuitsHeader : Fields → HeaderPlan → Type 0
@@ -116,9 +116,9 @@ unfoldable pub bytes_of : Bits → List ℕ
 bytes_of (a ∷ b ∷ c ∷ d ∷ e ∷ f ∷ g ∷ h ∷ t) = number (a ∷ b ∷ c ∷ d ∷ e ∷ f ∷ g ∷ h ∷ []) ∷ bytes_of t
 bytes_of _ = []
 
--- the bit depth of a frame
+-- the bit depth of a frame; where it isn't known nothing suits
 abbrev pub frame_width : Option StreamFormat → Fields → ℕ
-frame_width stream f = width_of (known_width stream) f.bit_depth_code
+frame_width stream f = unwrap_or (width_of (known_width stream) f.bit_depth_code) 0
 
 -- the bit depth of each coded channel: a side channel has one bit more
 abbrev pub planned_widths : Option StreamFormat → Fields → List ℕ
@@ -126,16 +126,16 @@ planned_widths stream f = widths f.channels (frame_width stream f)
 
 -- the block that is written
 abbrev pub written_block : Option StreamFormat → Fields → List (List ℤ) → Block
-written_block stream f channels = record { time = time_of stream (header_of (known_width stream) f); channels = channels }
+written_block stream f channels = record { time = time_of stream f; channels = channels }
 
 -- the bytes of a frame
 abbrev pub write_bytes : Option StreamFormat → Fields → HeaderPlan → List SubframePlan → List (List ℤ) → List ℕ
 write_bytes stream f header plans channels = bytes_of (write_frame f (frame_width stream f) (write_fields f header) header.padding plans channels)
 
--- the fields suit their codes and the channels: the bit depth is known and at most 32, or 31 where a side channel is coded
+-- the fields suit their codes and the channels: the bit depth is known, and a side channel has at most 32 bits
 pub record SuitsFrame (stream : Option StreamFormat) (f : Fields) (header : HeaderPlan) (channels : List (List ℤ)) : Type 0 where
   pub codes : SuitsHeader f header
-  pub known : bit_depth_unknown (known_width stream) f ≡ false
-  pub not_too_wide : side_too_wide (known_width stream) f ≡ false
+  pub known : width_of (known_width stream) f.bit_depth_code ≡ Some (frame_width stream f)
+  pub not_too_wide : side_too_wide f.channels (frame_width stream f) ≡ false
   pub count : length channels ≡ channel_count f.channels
   pub fit : ChannelsFit f.size (frame_width stream f) channels

@@ -5,15 +5,18 @@ use Rattle.claxon_frame.specs.FrameHeader.{HasBitDepthCode, bit_depth_code}
 
 pub record Named (known : Option ℕ) (code bits : ℕ) : Type 0 where
   pub some : eqb code 0 ≡ false
-  pub value : width_of known code ≡ bits
+  pub value : width_of known code ≡ Some bits
   pub few : bits ≤ 24
 
-named : (known : Option ℕ) (a b c d : Bool) (bits : ℕ) → width_of None (cond a 1 (cond b 2 (cond c 4 (cond d 5 6)))) ≡ bits → Named known (cond a 1 (cond b 2 (cond c 4 (cond d 5 6)))) bits
-named known true b c d bits e = record { some = refl; value = e; few = omega arith }
-named known false true c d bits e = record { some = refl; value = e; few = omega arith }
-named known false false true d bits e = record { some = refl; value = e; few = omega arith }
-named known false false false true bits e = record { some = refl; value = e; few = omega arith }
-named known false false false false bits e = record { some = refl; value = e; few = omega arith }
+some_few : (v bits : ℕ) → v ≤ 24 → Some v ≡ Some bits → bits ≤ 24
+some_few v bits le e = let k : v ≡ bits = cc in omega arith
+
+named : (known : Option ℕ) (a b c d : Bool) (bits : ℕ) → width_of None (cond a 1 (cond b 2 (cond c 4 (cond d 5 6)))) ≡ Some bits → Named known (cond a 1 (cond b 2 (cond c 4 (cond d 5 6)))) bits
+named known true b c d bits e = record { some = refl; value = e; few = some_few _ bits (omega arith) e }
+named known false true c d bits e = record { some = refl; value = e; few = some_few _ bits (omega arith) e }
+named known false false true d bits e = record { some = refl; value = e; few = some_few _ bits (omega arith) e }
+named known false false false true bits e = record { some = refl; value = e; few = some_few _ bits (omega arith) e }
+named known false false false false bits e = record { some = refl; value = e; few = some_few _ bits (omega arith) e }
 
 -- such a bit depth is that of its code, whatever the stream's is
 pub code_names : (known : Option ℕ) (bits : ℕ) → HasBitDepthCode bits → Named known (bit_depth_code (Some bits)) bits

@@ -41,7 +41,7 @@ bit_depth_code (Some bits) =
 
 -- a bit depth that has a code
 abbrev pub HasBitDepthCode : ℕ → Type 0
-HasBitDepthCode bits = width_of None (bit_depth_code (Some bits)) ≡ bits
+HasBitDepthCode bits = width_of None (bit_depth_code (Some bits)) ≡ Some bits
 
 -- the blocking strategy bit
 abbrev pub is_variable : BlockingStrategy → Bool

@@ -52,7 +52,7 @@ frame_bytes source reader = bytes_in source (frame_input reader)
 abbrev pub HeaderOfMoreSamples : Option StreamFormat → ℕ → List ℕ → Type 0
 HeaderOfMoreSamples stream capacity t =
     (h : Header) × HeaderCode (known_width stream) h (bits_of t)
-    × (capacity < channel_count h.channels * h.size)
+    × (capacity < channel_count h.fields.channels * h.fields.size)
 
 -- ---- what a call that reads the next frame promises
 

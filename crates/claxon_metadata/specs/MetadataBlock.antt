@@ -1,10 +1,11 @@
 -- The metadata blocks of the code as values of the format, and what holds of each one that was read (RFC 9639, section 8).
-use Rattle.std.specs.Prelude.{◌≡◌, ◌⊎◌, ◌++◌, Bool, true, Result, ℕ, ◌-◌, ◌<◌, ◌≤◌, List, [], ◌∷◌, Option, None, Some, IfSome}
+use Rattle.std.specs.Prelude.{◌≡◌, ◌⊎◌, ◌++◌, Bool, true, Result, ℕ, ◌-◌, ◌<◌, ◌≤◌, List, Option, None, Some, IfSome}
 use Rattle.claxon_format.specs.MetadataBlocks.{Content, Info, Padding, Application, Comments, Reserved, MetadataBlock as Block, BlockCode}
 use Rattle.claxon_format.specs.read.MetadataBlocks.{block_at}
 use Rattle.claxon_format.specs.Metadata.{BlockHeader, BlockHeaderCode, max_content_bytes}
 use Rattle.claxon_format.specs.Reading.{Reading, Mapped, and_then, done}
 use Rattle.claxon_format.specs.Streaminfo.{Streaminfo}
+use Rattle.claxon_format.specs.read.Streaminfo.{StreaminfoSizes, StreaminfoFormat}
 use Rattle.claxon_input.specs.declared.error.Error.{Error}
 use Rattle.claxon_input.specs.Promises.{IsOutOfMemory}
 use Rattle.claxon_input.specs.State.{State}
@@ -41,15 +42,23 @@ abbrev pub header_view : MetadataBlockHeader → BlockHeader
 header_view header =
     record { is_last = header.is_last; type = header.block_type; length = header.length }
 
--- the bounds of the block and frame sizes, in the order in which they are written
-abbrev pub sizes_view : SizeBounds → List ℕ
-sizes_view sizes =
-    sizes.min_block_size ∷ sizes.max_block_size ∷ sizes.min_frame_size ∷ sizes.max_frame_size ∷ []
+-- the bounds of the block and frame sizes
+abbrev pub sizes_view : SizeBounds → StreaminfoSizes
+sizes_view sizes = record {
+  min_block_size = sizes.min_block_size;
+  max_block_size = sizes.max_block_size;
+  min_frame_size = sizes.min_frame_size;
+  max_frame_size = sizes.max_frame_size;
+}
 
--- the number of channels and the bits per sample are written minus one
-abbrev pub format_view : SampleFormat → List ℕ
-format_view format =
-    format.sample_rate ∷ (format.channels - 1) ∷ (format.bits_per_sample - 1) ∷ format.samples ∷ []
+-- the format of the samples, and their number
+abbrev pub format_view : SampleFormat → StreaminfoFormat
+format_view format = record {
+  rate = format.sample_rate;
+  channels = format.channels;
+  width = format.bits_per_sample;
+  samples = format.samples;
+}
 
 -- the content of a block that is returned; the last three never are
 abbrev pub content_view : {A : Type 0} → MetadataBlock A → Content

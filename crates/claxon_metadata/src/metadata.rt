@@ -1,12 +1,12 @@
 //! The `metadata` module deals with metadata at the beginning of a FLAC stream.
-ghost use Rattle.std.specs.Prelude.{◌≡◌, ◌<◌, ◌≤◌, ◌++◌, ◌%◌, false, map, IfOk, IfSome, vec_len};
+ghost use Rattle.std.specs.Prelude.{◌≡◌, ◌<◌, ◌≤◌, ◌%◌, false, map, IfOk, IfSome, vec_len};
 ghost use Rattle.claxon_format.specs.MetadataBlocks.{skipped};
 ghost use Rattle.claxon_format.specs.read.MetadataBlocks.{info_body_at, application_at, block_at};
 ghost use Rattle.claxon_format.specs.read.Bytes.{bytes_at};
 ghost use Rattle.claxon_format.specs.Metadata.{max_content_bytes};
 ghost use Rattle.claxon_format.specs.read.Metadata.{block_header_at};
-ghost use Rattle.claxon_format.specs.Streaminfo.{info_of, frame_sizes_inconsistent};
-ghost use Rattle.claxon_format.specs.read.Streaminfo.{sizes_at, format_at, info_fields_at, streaminfo_at};
+ghost use Rattle.claxon_format.specs.Streaminfo.{frame_sizes_inconsistent};
+ghost use Rattle.claxon_format.specs.read.Streaminfo.{sizes_at, format_at, info_of, info_fields_at, streaminfo_at};
 ghost use Rattle.claxon_input.specs.Promises.{IsOutOfMemory};
 ghost use Rattle.claxon_input.specs.State.{bytes_in};
 ghost use Rattle.claxon_input.specs.Gives.{Gives, GivesOrOutOfMemory};
@@ -266,7 +266,7 @@ struct SizeBounds {
     max_frame_size: u32,
 }
 
-#[tactic(auto, using(claxon_input::proofs::ByteFields::numbers), unfolding(claxon_format::specs::read::Streaminfo::sizes_at, claxon_format::specs::Reading::each_at))]
+#[tactic(auto, using(claxon_input::proofs::ByteFields::numbers), unfolding(claxon_format::specs::read::Streaminfo::sizes_at))]
 fn read_size_bounds<R: ReadBytes>(input: &mut R) -> Result<SizeBounds>
     ensures gives { Gives sizes_view result sizes_at
         (bytes_in R.source input.old) (bytes_in R.source input.new) }
@@ -332,7 +332,7 @@ fn stream_info(sizes: SizeBounds, format: SampleFormat, md5sum: &[u8; 16]) -> St
     requires channels { (1 ≤ format.channels) × (format.channels ≤ 8) }
     requires width { (1 ≤ format.bits_per_sample) × (format.bits_per_sample ≤ 32) }
     ensures bounds { HasBounds result }
-    ensures value { info_view result ≡ info_of (sizes_view sizes ++ format_view format)
+    ensures value { info_view result ≡ info_of (sizes_view sizes) (format_view format)
         (map (λ byte. byte % 256) md5sum.now) }
 {
     StreamInfo {

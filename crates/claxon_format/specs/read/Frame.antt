@@ -4,7 +4,7 @@ use Rattle.claxon_format.specs.Bits.{Bits}
 use Rattle.claxon_format.specs.Fault.{FrameCrc}
 use Rattle.claxon_format.specs.Frame.{StreamFormat, Block, known_width, time_of}
 use Rattle.claxon_format.specs.Crc.{crc16}
-use Rattle.claxon_format.specs.Header.{Header, header_with}
+use Rattle.claxon_format.specs.Header.{Header}
 use Rattle.claxon_format.specs.Reading.{Reading, and_then, done, each_at}
 use Rattle.claxon_format.specs.Stereo.{widths, decoded_channels}
 use Rattle.claxon_format.specs.read.Bytes.{by_bytes, with_crc_bytes_at}
@@ -19,11 +19,11 @@ pub record Start : Type 0 where
   pub width : ℕ
 
 abbrev pub start_of : Option StreamFormat → Header → Start
-start_of stream h = record { time = time_of stream h; size = h.size; channels = h.channels; width = h.width }
+start_of stream h = record { time = time_of stream h.fields; size = h.fields.size; channels = h.fields.channels; width = h.width }
 
 -- a header and its CRC
 unfoldable pub start_at : Option StreamFormat → List ℕ → Reading ℕ Start
-start_at stream = with_width fields_with_crc_at (known_width stream) (λ f w. start_of stream (header_with f w))
+start_at stream = with_width fields_with_crc_at (known_width stream) (start_of stream)
 
 -- a subframe of this block size for each bit depth
 unfoldable pub coded_channels_at : ℕ → List ℕ → Bits → Reading Bool (List (List ℤ))

@@ -5,7 +5,7 @@ ghost use Rattle.claxon_format.specs.CodedNumber.{bad_first};
 ghost use Rattle.claxon_format.specs.Fault.{HeaderCrc, BitDepthReserved};
 ghost use Rattle.claxon_format.specs.Frame.{block_step, known_width, time_of};
 ghost use Rattle.claxon_format.specs.read.Bytes.{crc_at, big_at};
-ghost use Rattle.claxon_format.specs.Header.{header_of, rate_bytes, bit_depth_reserved};
+ghost use Rattle.claxon_format.specs.Header.{rate_bytes, bit_depth_reserved};
 ghost use Rattle.claxon_format.specs.Reading.{done, test};
 ghost use Rattle.claxon_input.specs.CrcReader.{crc_source, crc_state};
 ghost use Rattle.claxon_input.specs.CrcUpdate.{update_crc8};
@@ -54,8 +54,7 @@ pub fn read_frame_header_or_eof<R: ReadBytes>(
 
 // The number of samples of each channel before a frame.
 fn time_of_block(fields: &HeaderFields, stream: Option<KnownStreamFormat>) -> u64
-    ensures { result ≡ time_of (stream_format_view stream)
-        (header_of (known_width (stream_format_view stream)) (fields_view fields.now)) }
+    ensures { result ≡ time_of (stream_format_view stream) (fields_view fields.now) }
 {
     match fields.block_time {
         BlockTime::SampleNumber(number) => number,

@@ -1,4 +1,4 @@
-use Rattle.std.proofs.Common.{◌≡◌, ◌-◌, ◌+◌, ◌%◌, ◌<◌, ℕ, suc, List, [], ◌∷◌, get_or, map, refl, ap₂, arith}
+use Rattle.std.proofs.Common.{◌≡◌, ◌%◌, ◌<◌, ℕ, suc, List, [], ◌∷◌, get_or, map, refl, ap₂, arith}
 use Rattle.claxon_metadata.specs.MetadataBlock.{or_zero}
 use Rattle.claxon_metadata.proofs.metadata.stream_info.Goals.{then-format-eq0, else-format-eq0}
 use Rattle.claxon_metadata.proofs.metadata.stream_info.Goals as goal
@@ -11,12 +11,8 @@ low_bytes (y ∷ ys) h =
 
 pub returns-clause-value : goal.returns-clause-value
 returns-clause-value c =
-    let some = c.requires.channels.0 in
-    let wide = c.requires.width.0 in
-    let channels : c.args.format.channels - 1 + 1 ≡ c.args.format.channels = omega arith in
-    let width : c.args.format.bits_per_sample - 1 + 1 ≡ c.args.format.bits_per_sample = omega arith in
     let samples : or_zero c.if-format-eq0.result ≡ c.args.format.samples = elim c.if-format-eq0.branch [
       | then-format-eq0 w ↦ rw (w.result-is, w.if-format-eq0.true) refl
       | else-format-eq0 w ↦ rw w.result-is refl
     ] in
-    rw (low_bytes c.args.md5sum.now c.fits-md5sum, channels, width, samples, c.if_known.ensures.value, c.if_known-2.ensures.value) refl
+    rw (low_bytes c.args.md5sum.now c.fits-md5sum, samples, c.if_known.ensures.value, c.if_known-2.ensures.value) refl

@@ -1,4 +1,4 @@
-use Rattle.std.proofs.Common.{Ok, Err, Option, sym, ap, ◌∙◌, rules}
+use Rattle.std.proofs.Common.{◌≡◌, Ok, Err, Option, sym, ap, ◌∙◌, rules}
 use Rattle.std.proofs.lemmas.Result.{err_from_is_err_and}
 use Rattle.claxon_input.specs.declared.error.Error.{Error}
 use Rattle.claxon_frame.specs.Block.{BlockValue}
@@ -31,7 +31,10 @@ pub returns-in-Some-clause-left : goal.returns-in-Some-clause-left
 returns-in-Some-clause-left g c = search rules
 
 pub returns-in_err-block-clause-memory : goal.returns-in_err-block-clause-memory
-returns-in_err-block-clause-memory g c = search rules
+returns-in_err-block-clause-memory g c out =
+    let p = err_from_is_err_and c.from_residual.result c.from_residual.ensures.1 in
+    let same : c.into_buffer.result.cap ≡ c.args.self.now.block.capacity = search rules in
+    rw (← same) (c.read_next_or_eof.ensures.memory (c.in_err-block.was ∙ ap (λ (z : Error). Err z) (sym p.2) ∙ rw p.1 at out))
 
 pub returns-in_err-block-clause-enough : goal.returns-in_err-block-clause-enough
 returns-in_err-block-clause-enough g c = search rules

@@ -10,5 +10,17 @@ small (suc (suc (suc (suc (suc zero))))) lo hi = refl
 small (suc (suc (suc (suc (suc (suc n)))))) lo hi = absurd (omega arith)
 small _ lo hi = absurd (omega arith)
 
+large : (code : ℕ) → 8 ≤ code → code ≤ 15 → ByCode (256 * 2 ^ (code - 8) % 65536) ≡ size_coding code
+large (suc (suc (suc (suc (suc (suc (suc (suc zero)))))))) lo hi = refl
+large (suc (suc (suc (suc (suc (suc (suc (suc (suc zero))))))))) lo hi = refl
+large (suc (suc (suc (suc (suc (suc (suc (suc (suc (suc zero)))))))))) lo hi = refl
+large (suc (suc (suc (suc (suc (suc (suc (suc (suc (suc (suc zero))))))))))) lo hi = refl
+large (suc (suc (suc (suc (suc (suc (suc (suc (suc (suc (suc (suc zero)))))))))))) lo hi = refl
+large (suc (suc (suc (suc (suc (suc (suc (suc (suc (suc (suc (suc (suc zero))))))))))))) lo hi = refl
+large (suc (suc (suc (suc (suc (suc (suc (suc (suc (suc (suc (suc (suc (suc zero)))))))))))))) lo hi = refl
+large (suc (suc (suc (suc (suc (suc (suc (suc (suc (suc (suc (suc (suc (suc (suc zero))))))))))))))) lo hi = refl
+large (suc (suc (suc (suc (suc (suc (suc (suc (suc (suc (suc (suc (suc (suc (suc (suc n)))))))))))))))) lo hi = absurd (omega arith)
+large _ lo hi = absurd (omega arith)
+
 pub returns-in_default-clause-coding : goal.returns-in_default-clause-coding
 returns-in_default-clause-coding c = small c.args.code (omega arith) (omega arith)

@@ -1,7 +1,7 @@
 use Rattle.std.proofs.Common.{◌≡◌, ℕ, List, Option, refl, ap}
 use Rattle.std.proofs.lemmas.Result.{err_from_is_err_and}
 use Rattle.claxon_format.specs.Frame.{StreamFormat, known_width}
-use Rattle.claxon_format.specs.Header.{Fields, header_with}
+use Rattle.claxon_format.specs.Header.{Fields}
 use Rattle.claxon_format.specs.Reading.{Done, Reading, and_then, bind, done}
 use Rattle.claxon_input.specs.State.{bytes_in}
 use Rattle.claxon_input.proofs.CallsInTurn.{StopsWith, stops_after, consumes_map, consumes_none}
@@ -15,7 +15,7 @@ use Rattle.claxon_frame.proofs.frame.header.read_frame_header_or_eof.Goals as go
 
 -- what is still to be read, or checked, after the fields and the CRC
 start_after : Option StreamFormat → Fields → List ℕ → Reading ℕ Start
-start_after stream f = and_then (width_at (known_width stream) f) (λ w. done (start_of stream (header_with f w)))
+start_after stream f = and_then (width_at (known_width stream) f) (λ w. done (start_of stream (record { fields = f; width = w })))
 
 after_crc : (stream : Option StreamFormat) (f : Fields) (s m : List ℕ) → fields_with_crc_at s ≡ Done f m → start_at stream s ≡ start_after stream f m
 unfolding start_at start_after

@@ -1,5 +1,5 @@
-use Rattle.std.proofs.Common.{◌≡◌, ℕ, ◌-◌, ◌<◌, ◌≤◌, Bool, true, false, ◌&&◌, List, Option, None, Some, eqb, ltb, refl, arith}
-use Rattle.std.proofs.lemmas.Bool.{lt-ltb}
+use Rattle.std.proofs.Common.{◌≡◌, ℕ, ◌+◌, ◌-◌, ◌<◌, ◌≤◌, Bool, true, false, not, ◌&&◌, List, Option, None, Some, ltb, refl, arith}
+use Rattle.std.proofs.lemmas.Bool.{le-ltb, lt-ltb}
 use Rattle.claxon_format.specs.Frame.{StreamFormat, known_width}
 use Rattle.claxon_format.specs.Header.{Fields}
 use Rattle.claxon_format.specs.Reading.{Done}
@@ -14,10 +14,18 @@ use Rattle.claxon_frame.specs.declared.frame.header.parts.KnownStreamFormat.{Kno
 use Rattle.claxon_frame.proofs.BitDepthCodes.{code_names}
 use Rattle.claxon_frame.proofs.frame.header.resolve_bit_depth.Goals as goal
 
+and_false : (b : Bool) → (b && false) ≡ false
+and_false true = refl
+and_false false = refl
+
 -- the bit depth that the header gives
 named_read : (stream : Option StreamFormat) (f : Fields) (bits : ℕ) (s : List ℕ) → f.bit_depth_code ≡ bit_depth_code (Some bits) → HasBitDepthCode bits → width_at (known_width stream) f s ≡ Done bits s
 unfolding width_at
-named_read stream f bits s e h = let n = code_names (known_width stream) bits h in rw (e, n.some, n.value) refl
+named_read stream f bits s e h =
+    let n = code_names (known_width stream) bits h in
+    let few = n.few in
+    let k : ltb 32 (bits + 1) ≡ false = le-ltb _ _ (omega arith) in
+    rw (e, n.value, k, and_false (not (ltb f.channels 8))) refl
 
 -- a side channel has one bit more at most
 side_fits : (a : ChannelAssignment) (bits : ℕ) → bits ≤ 24 → max_bit_depth a bits ≤ 32
@@ -35,13 +43,9 @@ returns-in-Some-clause-gives c here =
     consumes_none here _ (named_read (stream_format_view c.args.stream) (fields_view c.args.fields.now) c.in-Some.bits here.remaining (rw c.in-Some.is refl) (c.args.fields.now.named c.in-Some.bits c.in-Some.is))
 
 -- the bit depth of the stream, if there is no side channel
-and_false : (b : Bool) → (b && false) ≡ false
-and_false true = refl
-and_false false = refl
-
 stream_read : (width : ℕ) (f : Fields) (s : List ℕ) → f.bit_depth_code ≡ 0 → f.channels < 8 → width_at (Some width) f s ≡ Done width s
 unfolding width_at
-stream_read width f s e lt = let k : ltb f.channels 8 ≡ true = lt-ltb _ _ lt in rw (e, k, and_false (eqb width 32)) refl
+stream_read width f s e lt = let k : ltb f.channels 8 ≡ true = lt-ltb _ _ lt in rw (e, k) refl
 
 independent_read : (stream : Option KnownStreamFormat) (fields : HeaderFields) (format : KnownStreamFormat) (n : ℕ) (s : List ℕ) → stream ≡ Some format → fields.bits_per_sample ≡ None → fields.channel_assignment ≡ Independent n → n ≤ 8
     → width_at (known_width (stream_format_view stream)) (fields_view fields) s ≡ Done format.bits_per_sample s
