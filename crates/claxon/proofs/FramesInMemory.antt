@@ -65,10 +65,10 @@ module _ (stream : Option StreamFormat) (bytes : List ℕ) (a b : State ℕ) (re
       only_few r h e = let n : None ≡ None → a.known ≡ true → (length a.remaining < 2) × Remains b [] = rw e at h in subst (λ (s : List ℕ). length s < 2) remains.are (n refl remains.known).0
 
   pub slice_frame_promises : (r : FrameAnswer) → ReadsFrame stream r a b → ((xs : List ℕ) → Remains a xs → length xs < 2 → ((r ≡ Ok None) × Remains b []) ⊎ HasFailed r a b) → SliceFramePromises stream bytes r
-  slice_frame_promises r h ended = record {
+  slice_frame_promises r h eof_is_none = record {
     sound = slice_frame_sound r h.promises.sound;
     complete = slice_frame_complete r h.promises.complete;
-    eof = slice_none_iff_eof r h.promises.at_end ended;
+    eof = slice_none_iff_eof r h.promises.none_is_eof eof_is_none;
     fault = slice_fault_sound r h.promises.fault;
     named = slice_fault_complete r h.promises.named;
     memory = λ s. begins_with_consumed a b bytes remains (h.memory s);

@@ -12,7 +12,7 @@ use Rattle.claxon_format.specs.Streaminfo.{Streaminfo}
 use Rattle.std.specs.Option as Options
 use Rattle.claxon_input.specs.State.{State}
 use Rattle.claxon_input.specs.Gives.{Consumes}
-use Rattle.claxon_input.proofs.CallsInTurn.{consumes_then, consumes_map, StopsAs}
+use Rattle.claxon_input.proofs.ConsecutiveCalls.{consumes_then, consumes_map, StopsAs}
 use Rattle.claxon_metadata.specs.MetadataBlock.{metadata_block_view, content_view, info_view}
 use Rattle.claxon.specs.ReadHead.{ConsumesBlocks, comments_at, found_view, other_at}
 use Rattle.claxon.proofs.HeadMemory.{consumes_blocks_both, consumes_other_block}
@@ -29,9 +29,9 @@ unfolding other_at
 other_stops found s = stops_with _ refl
 
 found_stops : (p q : Bool) (f g : Fault) (y : Option Comment) (z : Bool × Option Comment) (m : List ℕ) → StopsAs (cond p (Faulty f m) (cond q (Faulty g m) (Done y m))) (cond p (Faulty f m) (cond q (Faulty g m) (Done z m)))
-found_stops true q f g y z m = record { fault = λ h rest e. cc; short = λ e. absurd cc }
-found_stops false true f g y z m = record { fault = λ h rest e. cc; short = λ e. absurd cc }
-found_stops false false f g y z m = record { fault = λ h rest e. absurd cc; short = λ e. absurd cc }
+found_stops true q f g y z m = record { fault = λ h rest e. cc; incomplete = λ e. absurd cc }
+found_stops false true f g y z m = record { fault = λ h rest e. cc; incomplete = λ e. absurd cc }
+found_stops false false f g y z m = record { fault = λ h rest e. absurd cc; incomplete = λ e. absurd cc }
 
 found_done : (p q : Bool) (f g : Fault) (is_last : Bool) (y z : Option Comment) (m rest : List ℕ) → cond p (Faulty f m) (cond q (Faulty g m) (Done y m)) ≡ Done z rest → cond {A = Reading ℕ (Bool × Option Comment)} p (Faulty f m) (cond q (Faulty g m) (Done (is_last, y) m)) ≡ Done (is_last, z) rest
 found_done true q f g is_last y z m rest e = absurd cc
@@ -124,9 +124,9 @@ other_then suffices (suc k) found next is_last s m some e =
 
 tested_stops : (suffices : Bool) (k : ℕ) (found : Option Comment) (b : Block) (rest : List ℕ) (p q : Bool) (x : Reading ℕ (Option Comment))
     → StopsAs (cond p (Faulty SecondStreaminfo rest) (cond q (Faulty SecondComment rest) (Done (other_of found b) rest))) (cond p (Faulty SecondStreaminfo rest) (cond q (Faulty SecondComment rest) x))
-tested_stops suffices k found b rest true q x = record { fault = λ f r e. cc; short = λ e. absurd cc }
-tested_stops suffices k found b rest false true x = record { fault = λ f r e. cc; short = λ e. absurd cc }
-tested_stops suffices k found b rest false false x = record { fault = λ f r e. absurd cc; short = λ e. absurd cc }
+tested_stops suffices k found b rest true q x = record { fault = λ f r e. cc; incomplete = λ e. absurd cc }
+tested_stops suffices k found b rest false true x = record { fault = λ f r e. cc; incomplete = λ e. absurd cc }
+tested_stops suffices k found b rest false false x = record { fault = λ f r e. absurd cc; incomplete = λ e. absurd cc }
 
 others_stops : (suffices : Bool) (k : ℕ) (found : Option Comment) (s : List ℕ) → 0 < k → StopsAs (other_at found s) (others_at suffices k found s)
 unfolding other_at others_at
@@ -137,8 +137,8 @@ others_stops suffices (suc k) found s some = go (block_at s)
         → StopsAs (bind x (λ b. test (is_info b.content) SecondStreaminfo (test (is_second found b.content) SecondComment (done (other_of found b)))))
         (bind x (λ b. test (is_info b.content) SecondStreaminfo (test (is_second found b.content) SecondComment (pick (is_done suffices found b) (done (found_with found b.content)) (others_at suffices k (found_with found b.content))))))
     go (Done b rest) = tested_stops suffices k found b rest (is_info b.content) (is_second found b.content) _
-    go (Faulty f rest) = record { fault = λ g r e. cc; short = λ e. absurd cc }
-    go Incomplete = record { fault = λ g r e. absurd cc; short = λ e. refl }
+    go (Faulty f rest) = record { fault = λ g r e. cc; incomplete = λ e. absurd cc }
+    go Incomplete = record { fault = λ g r e. absurd cc; incomplete = λ e. refl }
 
 -- this many blocks are still allowed, and these comments were found
 pub record OthersSoFar (suffices : Bool) (most : ℕ) (found : Option Comment) (old new : State ℕ) : Type 0 where

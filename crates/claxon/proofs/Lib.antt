@@ -1,4 +1,4 @@
-pub use Rattle.claxon_input.proofs.CallsInTurn
+pub use Rattle.claxon_input.proofs.ConsecutiveCalls
 pub use Rattle.claxon_format.proofs.Streams
 pub use Rattle.claxon_format.proofs.FormatLaws
 pub use Rattle.claxon_input.proofs.InMemory

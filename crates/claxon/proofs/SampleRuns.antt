@@ -22,7 +22,7 @@ use Rattle.claxon_input.specs.Source.{Source}
 use Rattle.claxon_input.specs.State.{State, bytes_in}
 use Rattle.claxon_input.specs.Gives.{FailedIn, Consumes}
 use Rattle.claxon_input.specs.Promises.{Remains, IsExcused, Consumed}
-use Rattle.claxon_input.proofs.CallsInTurn.{consumes_none, consumes_then, consumes_known}
+use Rattle.claxon_input.proofs.ConsecutiveCalls.{consumes_none, consumes_then, consumes_known}
 use Rattle.claxon_frame.specs.Block.{BlockValue}
 use Rattle.claxon_frame.specs.FrameReader.{ReadsFrame, block_view}
 use Rattle.claxon_frame.proofs.FramePromises.{incomplete_frame}
@@ -176,7 +176,7 @@ short_no_fault stream width r short f t u bad e = let q : Faulty f u ≡ Incompl
 
 -- after the last frame fewer than two bytes remain
 few_left : {stream : Option StreamFormat} {blocks : List Block} {a b : State ℕ} (h : ReadsFrames stream blocks (Ok None) a b) → a.known ≡ true → length h.between.remaining < 2
-few_left h is_known = (h.last.promises.at_end refl (h.blocks_are.consumed.known is_known).known).0
+few_left h is_known = (h.last.promises.none_is_eof refl (h.blocks_are.consumed.known is_known).known).0
 
 -- ---- where the frames of blocks remain, and then no frame
 

@@ -26,12 +26,12 @@ any_capacity stream capacity r a b h out_of_memory is_known =
 pub reads_frame : {stream : Option StreamFormat} {r : FrameAnswer} {a b : State ℕ} (capacity : ℕ) → FoundIsSound block_view r (Frame stream) a b → FoundIsComplete block_view r (Frame stream) a b → NoneIsEof 2 r a b
     → ((xs : List ℕ) → Remains a xs → length xs < 2 → ((r ≡ Ok None) × Remains b []) ⊎ HasFailed r a b) → IfOk r (λ found. b.errors ≡ a.errors) → FaultIsSound r (FrameBytesFault stream) a b → FaultIsComplete r (FrameBytesFault stream) a b
     → ElseIoErrorFrom 2 r (Frame stream) (FrameBytesFault stream) a b → LeavesRest r a b → (IsOutOfMemory r → Consumed a b (HeaderOfMoreSamples stream capacity)) → GivesOrEofOrOutOfMemory 2 block_view r (frame_bytes_at stream) a b → ReadsFrame stream r a b
-reads_frame {stream = stream} {r = r} {a = a} {b = b} capacity sound complete at_end ended no_failure fault named io front memory gives = record {
+reads_frame {stream = stream} {r = r} {a = a} {b = b} capacity sound complete none_is_eof eof_is_none no_failure fault named io front memory gives = record {
   promises = record {
     sound = sound;
     complete = complete;
-    at_end = at_end;
-    ended = λ xs c few. elim (ended xs c few) [ inl h ↦ inl h | inr f ↦ inr (inr f) ];
+    none_is_eof = none_is_eof;
+    eof_is_none = λ xs c few. elim (eof_is_none xs c few) [ inl h ↦ inl h | inr f ↦ inr (inr f) ];
     no_failure = no_failure;
     fault = fault;
     named = named;

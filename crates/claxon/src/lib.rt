@@ -45,7 +45,7 @@ mod error {
 
 /// Bytes and bits.
 pub mod input {
-    pub use claxon_input::input::{BufferedBits, Bitstream, BufferedReader, ReadBytes};
+    pub use claxon_input::input::{Bitstream, BufferedBits, BufferedReader, ReadBytes};
 }
 
 /// Frames: blocks of samples, one after another.

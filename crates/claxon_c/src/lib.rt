@@ -5,8 +5,8 @@
 
 mod at_start;
 mod heads;
-mod next_block;
 mod interleave;
+mod next_block;
 mod status;
 
 pub use heads::ClaxonInfo;

@@ -13,7 +13,7 @@ use Rattle.claxon_format.specs.Reading.{Done, Faulty, bind}
 use Rattle.claxon_input.specs.declared.error.Error.{Error}
 use Rattle.claxon_input.specs.State.{State}
 use Rattle.claxon_input.specs.Gives.{Consumes, Stops}
-use Rattle.claxon_input.proofs.CallsInTurn.{consumes_then, consumes_map, consumes_none, stops_after}
+use Rattle.claxon_input.proofs.ConsecutiveCalls.{consumes_then, consumes_map, consumes_none, stops_after}
 
 -- i of them were read, and the number so far is y
 pub record ContinuationSoFar (count x i y : ℕ) (old new : State ℕ) : Type 0 where
@@ -48,7 +48,7 @@ continuation_end {count} {x} {i} {y} {old} {new} le h = consumes_map _ h.so_far 
 pub continuation_err : {count x i y : ℕ} {e : Error} {old new now : State ℕ} → i < count → ContinuationSoFar count x i y old new → Stops e (continuation_byte_at big_at) new now → Stops e (continuation_bytes_at big_at count x) old now
 continuation_err {count} {x} {i} {y} lt h k = stops_after h.so_far (record {
   fault = λ s f rest e. one_less count i y s lt ∙ ap (λ z. bind z (λ c. continuation_bytes_at big_at (count - (i + 1)) (y * 64 + c))) e;
-  short = λ s e. one_less count i y s lt ∙ ap (λ z. bind z (λ c. continuation_bytes_at big_at (count - (i + 1)) (y * 64 + c))) e;
+  incomplete = λ s e. one_less count i y s lt ∙ ap (λ z. bind z (λ c. continuation_bytes_at big_at (count - (i + 1)) (y * 64 + c))) e;
 }) k
 
 -- ---- the first byte

@@ -12,7 +12,7 @@ use Rattle.claxon_input.specs.declared.crc.CrcReader.{CrcReader}
 use Rattle.claxon_input.specs.declared.error.Error.{Error}
 use Rattle.claxon_input.proofs.CrcReaders.{over_borrow, same_crcs_below, same_loans_below, stops_below, under, consumes_below}
 use Rattle.claxon_input.proofs.States.{bytes_of_source}
-use Rattle.claxon_input.proofs.CallsInTurn.{stops_loans}
+use Rattle.claxon_input.proofs.ConsecutiveCalls.{stops_loans}
 use Rattle.claxon_input.specs.Gives.{ReachedEof, GivesOrEof, or_eof}
 
 module _ {X : Type 0} (a b : State X) (l m : List GName) (f g : List ℕ → List ℕ) (loans : m ≡ l → b.loans ≡ a.loans) (crcs : a.known ≡ true → b.known ≡ true → g ≡ f → b.crcs ≡ a.crcs) where

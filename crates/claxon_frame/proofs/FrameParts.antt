@@ -10,21 +10,21 @@ use Rattle.claxon_format.specs.Crc.{crc16}
 use Rattle.claxon_format.specs.Reading.{Done, bind, done, taken}
 use Rattle.claxon_format.specs.Stereo.{widths}
 use Rattle.claxon_format.proofs.CrcBytes.{with_crc_after}
-use Rattle.claxon_input.proofs.CallsInTurn.{StopsWith, StopsAs}
+use Rattle.claxon_input.proofs.ConsecutiveCalls.{StopsWith, StopsAs}
 
 -- if a part is invalid or incomplete, so is the frame
 pub start_stops : (stream : Option StreamFormat) → StopsWith (start_at stream) (frame_bytes_at stream)
 unfolding frame_without_crc_at
 start_stops stream = record {
   fault = λ s f rest e. rw e refl;
-  short = λ s e. rw e refl;
+  incomplete = λ s e. rw e refl;
 }
 
 pub channels_stop : (stream : Option StreamFormat) → (start : Start) (s m : List ℕ) → start_at stream s ≡ Done start m → StopsAs (subframes_at start.size (widths start.channels start.width) m) (frame_bytes_at stream s)
 unfolding frame_without_crc_at
 channels_stop stream start s m h = record {
   fault = λ f rest e. rw (h, e) refl;
-  short = λ e. rw (h, e) refl;
+  incomplete = λ e. rw (h, e) refl;
 }
 
 -- after the subframes comes the CRC of the bytes before it

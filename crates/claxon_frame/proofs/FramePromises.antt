@@ -25,7 +25,7 @@ incomplete_start stream s h =
 
 -- and an incomplete frame
 pub incomplete_frame : (stream : Option StreamFormat) (s : List ℕ) → length s < 2 → frame_bytes_at stream s ≡ Incomplete
-incomplete_frame stream s h = (start_stops stream).short s (incomplete_start stream s h)
+incomplete_frame stream s h = (start_stops stream).incomplete s (incomplete_start stream s h)
 
 only_header : (stream : Option StreamFormat) (capacity : ℕ) (a b : State ℕ) → BufferTooSmall stream capacity a b → Consumed a b (HeaderOfMoreSamples stream capacity)
 only_header stream capacity a b h known =
@@ -52,7 +52,7 @@ module _ {A : Type 0} (view : A → Block) (stream : Option StreamFormat) (width
 
   -- nothing is allocated at the end of the input
   pub frame_eof_is_none : (capacity : ℕ) → IfOutOfMemory r (BufferTooSmall stream capacity a b) → (xs : List ℕ) → Remains a xs → length xs < 2 → ((r ≡ Ok None) × Remains b []) ⊎ HasFailed r a b
-  frame_eof_is_none capacity h xs o small = elim (frame_promises.ended xs o small) [
+  frame_eof_is_none capacity h xs o small = elim (frame_promises.eof_is_none xs o small) [
     | inl p ↦ inl p
     | inr (inl e) ↦ absurd (no_header stream capacity a b (when_out_of_memory r h e) o.known (rw o.are small))
     | inr (inr f) ↦ inr f

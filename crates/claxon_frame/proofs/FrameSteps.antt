@@ -18,7 +18,7 @@ use Rattle.claxon_input.specs.Gives.{Consumes, Stops, GivesOrOutOfMemory, or_eof
 use Rattle.claxon_input.proofs.CrcReaders.{source_crc_of_taken}
 use Rattle.claxon_input.proofs.CrcUpdate.{determines_crc16}
 use Rattle.claxon_input.proofs.States.{bytes_of_source}
-use Rattle.claxon_input.proofs.CallsInTurn.{consumes_none, consumes_map, consumes_then, stops_as, out_of_memory_or_gives, out_of_memory_later}
+use Rattle.claxon_input.proofs.ConsecutiveCalls.{consumes_none, consumes_map, consumes_then, stops_as, out_of_memory_or_gives, out_of_memory_later}
 use Rattle.claxon_input.specs.Error.{is_out_of_memory}
 use Rattle.claxon_frame.specs.FrameStart.{stream_format_view}
 use Rattle.claxon_frame.specs.FrameReader.{BufferTooSmall}
@@ -61,7 +61,7 @@ module _ (stream : Option StreamFormat) (width : IsWidth (known_width stream)) w
       let w = channels_stop stream start a.remaining b.remaining q.1 in
       record {
         fault = λ f rest e. or_found 2 (frame_bytes_at stream) a.remaining (Faulty f rest) q.0 (w.fault f rest e);
-        short = λ e. or_found 2 (frame_bytes_at stream) a.remaining Incomplete q.0 (w.short e);
+        incomplete = λ e. or_found 2 (frame_bytes_at stream) a.remaining Incomplete q.0 (w.incomplete e);
       })) k
 
   -- the bytes before the CRC, and the CRC of them
@@ -95,7 +95,7 @@ module _ (stream : Option StreamFormat) (width : IsWidth (known_width stream)) w
       → Consumes b (bytes_with_crc16 crc t) (λ s m. subframes_at start.size (widths start.channels start.width) s ≡ Done channels m) → Stops e (crc_at 2 crc FrameCrc) (bytes_with_crc16 crc t) c → Stops e (or_eof 2 (frame_bytes_at stream)) (bytes_with_crc16 first s) c
   footer_stops start channels first crc s t zero small h k e = stops_as (consumes_map _ (before_crc start channels first crc s t zero small h k) (λ p. record {
     fault = λ f rest q. or_found 2 (frame_bytes_at stream) (bytes_with_crc16 first s).remaining (Faulty f rest) p.enough (p.frame_is ∙ rw q refl);
-    short = λ q. or_found 2 (frame_bytes_at stream) (bytes_with_crc16 first s).remaining Incomplete p.enough (p.frame_is ∙ rw q refl);
+    incomplete = λ q. or_found 2 (frame_bytes_at stream) (bytes_with_crc16 first s).remaining Incomplete p.enough (p.frame_is ∙ rw q refl);
   })) e
 
   pub frame_consumes : (start : Start) (channels : List (List ℤ)) (first crc : ℕ) (s t : Source ℕ) {b c : State ℕ} → first ≡ 0 → crc < 65536 → Consumes (bytes_with_crc16 first s) b (λ s m. or_eof 2 (start_at stream) s ≡ Done (Some start) m)

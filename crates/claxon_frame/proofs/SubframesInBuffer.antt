@@ -10,7 +10,7 @@ use Rattle.claxon_input.specs.declared.error.Error.{Error}
 use Rattle.claxon_input.specs.State.{State}
 use Rattle.claxon_input.specs.Gives.{Consumes, Stops}
 use Rattle.claxon_input.proofs.FieldLoops.{with_front, front_none, regroup}
-use Rattle.claxon_input.proofs.CallsInTurn.{consumes_then, consumes_map, consumes_none, stops_after, StopsWith}
+use Rattle.claxon_input.proofs.ConsecutiveCalls.{consumes_then, consumes_map, consumes_none, stops_after, StopsWith}
 use Rattle.claxon_frame.specs.FrameHeader.{channels_of, subframe_bit_depths}
 use Rattle.claxon_format.specs.read.Frame.{coded_channels_at}
 use Rattle.claxon_frame.specs.Block.{chunks}
@@ -101,7 +101,7 @@ channels_next {ws = ws} {size = size} {i = i} {start = start} {xs = xs} w ys {a 
 
 channels_stop : (ws : List ℕ) (size i w : ℕ) (front : List (List ℤ)) → i < length ws → get_or ws i 0 ≡ w → StopsWith (subframe_at w size) (λ m. with_front front (coded_channels_at size (drop i ws) m))
 unfolding coded_channels_at each_at
-channels_stop ws size i w front lt here = record { fault = λ s f rest e. rw (drop_more ws i 0 lt, here, e) refl; short = λ s e. rw (drop_more ws i 0 lt, here, e) refl }
+channels_stop ws size i w front lt here = record { fault = λ s f rest e. rw (drop_more ws i 0 lt, here, e) refl; incomplete = λ s e. rw (drop_more ws i 0 lt, here, e) refl }
 
 pub channels_err : {ws : List ℕ} {size i start : ℕ} {xs : List ℤ} {e : Error} (w : ℕ) {a b c : State Bool} → i < length ws → get_or ws i 0 ≡ w → ChannelsSoFar ws size i start xs a b
     → Stops e (subframe_at w (length (take (start + size - start) (drop start xs)))) b c → Stops e (coded_channels_at size ws) a c

@@ -98,8 +98,8 @@ impl<R: ReadBytes> FrameReader<R> {
         ensures unambiguous { FrameIsUnambiguous (frame_stream self.old) }
         ensures lossless { PlansWriteFrames (frame_stream self.old) }
         ensures bytes_exist { PlansHaveBytes (frame_stream self.old) }
-        ensures at_end { FrameNoneIsEof R.source self.old result self.new }
-        ensures ended { FrameEofIsNone R.source self.old result self.new }
+        ensures none_is_eof { FrameNoneIsEof R.source self.old result self.new }
+        ensures eof_is_none { FrameEofIsNone R.source self.old result self.new }
         ensures no_failure { FailureIsErr R.source self.old result self.new }
         ensures fault { FrameFaultIsSound R.source self.old result self.new }
         ensures named { FrameFaultIsComplete R.source self.old result self.new }

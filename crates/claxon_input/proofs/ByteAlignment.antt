@@ -17,7 +17,7 @@ use Rattle.claxon_input.specs.declared.bits.Bitstream.{Bitstream}
 use Rattle.claxon_input.specs.declared.error.Error.{Error}
 use Rattle.claxon_input.proofs.CrcReaders.{over_borrow}
 use Rattle.claxon_input.proofs.Promises.{fault_is}
-use Rattle.claxon_input.proofs.CallsInTurn.{gives_loans}
+use Rattle.claxon_input.proofs.ConsecutiveCalls.{gives_loans}
 
 -- what is left, by how long it is
 rest_is : (z m : List ℕ) (n : ℕ) → IsRest z m → n ≡ length z - length m → drop n z ≡ m

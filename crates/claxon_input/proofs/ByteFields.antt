@@ -16,7 +16,7 @@ use Rattle.claxon_input.specs.Gives.{Consumes, FailureOr, Gives}
 use Rattle.claxon_input.proofs.BigEndian.{be_1, be_2, length-be_bytes, length-le_bytes, big_endian-bytes, little_endian-bytes}
 use Rattle.claxon_input.proofs.Sources.{most_front}
 use Rattle.claxon_input.proofs.States.{consumes_taken, failure_or_bytes}
-use Rattle.claxon_input.proofs.CallsInTurn.{consumes_map, consumes_none, gives_after, failure_or_after, failure_or_known, io_exit}
+use Rattle.claxon_input.proofs.ConsecutiveCalls.{consumes_map, consumes_none, gives_after, failure_or_after, failure_or_known, io_exit}
 
 -- what is made of the bytes doesn't matter where the input ends
 incomplete_after : {X Y : Type 0} {a b : State X} {read : List X → Reading X Y} {Z : Type 0} (whole : List X → Reading X Z) → ((s : List X) → read s ≡ Incomplete → whole s ≡ Incomplete) → FailureOr a b (λ s. read s ≡ Incomplete) → FailureOr a b (λ s. whole s ≡ Incomplete)

@@ -17,7 +17,7 @@ use Rattle.claxon_input.specs.declared.crc.CrcReader.{CrcReader}
 use Rattle.claxon_input.specs.declared.error.Error.{Error}
 use Rattle.claxon_input.specs.declared.error.Error.TheVariants.{IoError, FormatError, Unsupported, OutOfMemory}
 use Rattle.claxon_input.proofs.States.{bytes_of_source, same_function}
-use Rattle.claxon_input.proofs.CallsInTurn.{gives_loans}
+use Rattle.claxon_input.proofs.ConsecutiveCalls.{consumes_known, gives_loans}
 use Rattle.claxon_input.proofs.CrcUpdate.{DeterminesCrc}
 
 -- the bytes that remain, where they are known
@@ -95,9 +95,6 @@ same_crcs_below (Some all) (Some rest) f g u v t k e =
     same_function (λ more. let o : g (rest ++ more) ∷ v (rest ++ more) ≡ f (all ++ more) ∷ u (all ++ more) = ap (λ (h : List ℕ → List ℕ). h more) e in cc)
 
 -- ---- a CRC after what it covers
-
-consumes_known : {X : Type 0} {a b : State X} {P : List X → List X → Type 0} (T : List X → List X → Type 0) → Consumes a b P → (a.known ≡ true → P a.remaining b.remaining → T a.remaining b.remaining) → Consumes a b T
-consumes_known T h f = record { errors = h.errors; empty_reads = h.empty_reads; loans = h.loans; known = λ t. let x = h.known t in record { known = x.known; is = f t x.is; rest = x.rest; crcs = x.crcs } }
 
 -- what was read has the CRC c: a number that has to be c is still to be read
 pub consumes_with_crc : {A : Type 0} (w c : ℕ) (crc : Bits → ℕ) (f : Fault) (r : List ℕ → Reading ℕ A) (y : A) (a m : State ℕ) → Consumes a m (λ s k. r s ≡ Done y k) → (a.known ≡ true → c ≡ crc (bits_of (taken a.remaining m.remaining)))

@@ -6,7 +6,7 @@ use Rattle.claxon_format.proofs.Laws.{bind_done}
 use Rattle.claxon_input.specs.declared.error.Error.{Error}
 use Rattle.claxon_input.specs.State.{State}
 use Rattle.claxon_input.specs.Gives.{Consumes, Stops}
-use Rattle.claxon_input.proofs.CallsInTurn.{consumes_then, consumes_map, stops_after, StopsWith}
+use Rattle.claxon_input.proofs.ConsecutiveCalls.{consumes_then, consumes_map, stops_after, StopsWith}
 
 -- what was read before, and what is still read
 abbrev pub with_front : {X A : Type 0} → List A → Reading X (List A) → Reading X (List A)
@@ -55,7 +55,7 @@ times_stop : {X A : Type 0} (read : List X → Reading X A) (xs : List A) (i : �
 unfolding times_at each_at
 times_stop read xs i lt =
     let k : length xs - i ≡ suc (length xs - (i + 1)) = omega arith in
-    record { fault = λ s f rest e. rw (k, e) refl; short = λ s e. rw (k, e) refl }
+    record { fault = λ s f rest e. rw (k, e) refl; incomplete = λ s e. rw (k, e) refl }
 
 pub times_err : {X A : Type 0} {read : List X → Reading X A} {n : ℕ} {xs : List A} {i : ℕ} {e : Error} {a b c : State X} → i < length xs → TimesSoFar read n xs i a b → Stops e read b c → Stops e (times_at n read) a c
 times_err {read = read} {xs = xs} {i = i} lt h k = stops_after h.so_far (times_stop read xs i lt) k

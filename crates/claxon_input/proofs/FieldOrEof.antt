@@ -13,7 +13,7 @@ use Rattle.std.specs.declared.io.Error as io
 use Rattle.claxon_input.specs.declared.error.Error.{Error}
 use Rattle.claxon_input.specs.declared.error.Error.TheVariants.{IoError, FormatError, Unsupported, OutOfMemory}
 use Rattle.claxon_input.proofs.States.{reached_eof_bytes, failure_or_any}
-use Rattle.claxon_input.proofs.CallsInTurn.{consumes_then, consumes_map, consumes_none, stops_after, StopsWith}
+use Rattle.claxon_input.proofs.ConsecutiveCalls.{consumes_then, consumes_map, consumes_none, stops_after, StopsWith}
 use Rattle.claxon_input.proofs.ByteFields.{consumes_big}
 
 -- ---- the calls of a reader of bytes
@@ -109,13 +109,13 @@ some_ok k whole next h n = consumes_then _ h n (λ p q. p ∙ ap found q)
 
 -- or stops
 pub some_stops : {X Z : Type 0} (k : ℕ) (whole next : List X → Reading X Z) {e : Error} {a b c : State X} → Consumes a b (λ s m. or_eof k whole s ≡ found (next m)) → Stops e next b c → Stops e (or_eof k whole) a c
-some_stops k whole next h n = stops_after h (record { fault = λ s f rest q. ap found q; short = λ s q. ap found q }) n
+some_stops k whole next h n = stops_after h (record { fault = λ s f rest q. ap found q; incomplete = λ s q. ap found q }) n
 
 -- where the first field stops, so does the whole
 pub first_stops : {X Y Z : Type 0} (k : ℕ) (first : List X → Reading X Y) (whole : List X → Reading X Z) {e : Error} {a b : State X} → StopsWith first whole → Stops e (or_eof k first) a b → Stops e (or_eof k whole) a b
 first_stops k first whole {a = a} w h = stops_after (consumes_none a (λ s m. or_eof k whole s ≡ or_eof k whole m) refl) (record {
   fault = λ s f rest q. let p = fault_read k first s f rest q in enough k whole s p.0 ∙ ap found (w.fault s f rest p.1);
-  short = λ s q. let p = incomplete_read k first s q in enough k whole s p.0 ∙ ap found (w.short s p.1);
+  incomplete = λ s q. let p = incomplete_read k first s q in enough k whole s p.0 ∙ ap found (w.incomplete s p.1);
 }) h
 
 -- ---- calls that allocate memory

@@ -11,7 +11,7 @@ use Rattle.claxon_input.specs.Gives.{FailedIn, Stops, IsFaultOf, GivesOrOutOfMem
 use Rattle.claxon_input.specs.Error.{IsIo, is_io}
 use Rattle.claxon_input.specs.Promises.{FoundIsComplete, Remains, EofIsNone, EofPromises, ElseIoErrorFrom, IsExcused, LeavesRest, FaultIsComplete, NoneIsEof, FaultIsSound, FoundIsSound}
 use Rattle.claxon_input.proofs.Promises.{fault_is, leaves_rest, promises}
-use Rattle.claxon_input.proofs.CallsInTurn.{consumes_map, consumes_none, failure_or_after}
+use Rattle.claxon_input.proofs.ConsecutiveCalls.{consumes_map, consumes_none, failure_or_after}
 use Rattle.claxon_input.proofs.FieldOrEof.{some_read, fault_read, incomplete_read}
 
 -- ---- as a call that doesn't reach the end of input
@@ -148,8 +148,8 @@ module _ {X Y : Type 0} {read : List X → Reading X Y} {C : Y → List X → Ty
   eof_promises view r a b g = record {
     sound = found_is_sound view r a b g;
     complete = found_is_complete view r a b g;
-    at_end = none_is_eof k view r read a b g;
-    ended = eof_gives_none k view r read a b g;
+    none_is_eof = none_is_eof k view r read a b g;
+    eof_is_none = eof_gives_none k view r read a b g;
     no_failure = no_failure k view r read a b g;
     fault = found_fault_is_sound view r a b g;
     named = found_fault_is_complete view r a b g;

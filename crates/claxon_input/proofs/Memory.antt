@@ -8,7 +8,7 @@ use Rattle.claxon_input.specs.State.{State}
 use Rattle.claxon_input.specs.Gives.{Consumes, Stops, Gives, GivesOrOutOfMemory}
 use Rattle.claxon_input.specs.Error.{is_out_of_memory}
 use Rattle.claxon_input.specs.Promises.{IsOutOfMemory}
-use Rattle.claxon_input.proofs.CallsInTurn.{out_of_memory_later, gives_never_out_of_memory, stops_as, StopsAs}
+use Rattle.claxon_input.proofs.ConsecutiveCalls.{out_of_memory_later, gives_never_out_of_memory, stops_as, StopsAs}
 
 -- the Err of a call that allocates memory
 out_of_memory_as : {X A B Y Z : Type 0} (view : A → Y) (seen : B → Z) (e : Error) {read : List X → Reading X Z} {whole : List X → Reading X Y} {a b : State X} (c : State X)

@@ -72,7 +72,3 @@ pub record FailureOrNoOneBit (old new : BitState) : Type 0 where
   pub emptied : new.left ≡ []
   pub cause : IfSome (remaining_bits old)
       (λ all. HasNoOneBit old new all ⊎ Failed old.source new.source)
-
--- the loans stay the same
-abbrev pub KeepsBitLoans : BitState → BitState → Type 0
-KeepsBitLoans old new = new.source.loans ≡ old.source.loans

@@ -140,8 +140,8 @@ pub record EofPromises {X A Y : Type 0} (count : ℕ) (view : A → Y) (r : Resu
     (Code : Y → List X → Type 0) (Bad : Fault → List X → Type 0) (old new : State X) : Type 0 where
   pub sound : FoundIsSound view r Code old new
   pub complete : FoundIsComplete view r Code old new
-  pub at_end : NoneIsEof count r old new
-  pub ended : EofIsNone count r old new
+  pub none_is_eof : NoneIsEof count r old new
+  pub eof_is_none : EofIsNone count r old new
   pub no_failure : IfOk r (λ found. new.errors ≡ old.errors)
   pub fault : FaultIsSound r Bad old new
   pub named : FaultIsComplete r Bad old new

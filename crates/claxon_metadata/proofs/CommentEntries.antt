@@ -8,7 +8,7 @@ use Rattle.claxon_format.specs.Reading.{Reading, Done, Faulty, Incomplete, bind}
 use Rattle.claxon_input.specs.State.{State}
 use Rattle.claxon_input.specs.Gives.{Consumes}
 use Rattle.claxon_input.proofs.FieldLoops.{with_front}
-use Rattle.claxon_input.proofs.CallsInTurn.{consumes_then, consumes_map, StopsAs}
+use Rattle.claxon_input.proofs.ConsecutiveCalls.{consumes_then, consumes_map, StopsAs}
 use Rattle.claxon_metadata.specs.VorbisComment.{entry_or_empty_view}
 use Rattle.claxon_metadata.specs.TagEntries.{entry_view, entries_view}
 
@@ -55,14 +55,14 @@ unfolding entries_at
 length_stops zero left kept s some fits = absurd (omega arith)
 length_stops (suc missing) left kept s some fits =
     let b : ltb left 4 ≡ false = le-ltb _ _ fits in
-    record { fault = λ f rest e. rw (b, e) refl; short = λ e. rw (b, e) refl }
+    record { fault = λ f rest e. rw (b, e) refl; incomplete = λ e. rw (b, e) refl }
 
 entry_stops : (missing left n : ℕ) (kept : List Entry) (s m : List ℕ) → 0 < missing → 4 ≤ left → entry_length_at (left - 4) s ≡ Done n m → StopsAs (entry_or_empty_at n m) (with_front kept (entries_at missing left s))
 unfolding entries_at
 entry_stops zero left n kept s m some fits p = absurd (omega arith)
 entry_stops (suc missing) left n kept s m some fits p =
     let b : ltb left 4 ≡ false = le-ltb _ _ fits in
-    record { fault = λ f rest e. rw (b, p, e) refl; short = λ e. rw (b, p, e) refl }
+    record { fault = λ f rest e. rw (b, p, e) refl; incomplete = λ e. rw (b, p, e) refl }
 
 pub length_err : {count length missing left : ℕ} {kept : List Entry} {a b : State ℕ} → 0 < missing → 4 ≤ left → EntriesSoFar count length missing left kept a b
     → Consumes a b (λ s m. StopsAs (entry_length_at (left - 4) m) (entries_at count length s))
@@ -83,7 +83,7 @@ no_more_entries (suc missing) left s h =
 
 pub end_err : {count length missing left : ℕ} {kept : List Entry} {a b : State ℕ} → (0 < missing → left < 4) → EntriesSoFar count length missing left kept a b
     → Consumes a b (λ s m. StopsAs (entries_end_at missing left m) (entries_at count length s))
-end_err {missing = missing} {left = left} {kept = kept} {b = b} last h = consumes_map _ h.so_far (λ p. rw (p, no_more_entries missing left b.remaining last) (record { fault = λ f rest e. rw e refl; short = λ e. rw e refl }))
+end_err {missing = missing} {left = left} {kept = kept} {b = b} last h = consumes_map _ h.so_far (λ p. rw (p, no_more_entries missing left b.remaining last) (record { fault = λ f rest e. rw e refl; incomplete = λ e. rw e refl }))
 
 pub entries_end : {count length missing left : ℕ} {kept : List Entry} {a b : State ℕ} → (0 < missing → left < 4) → EntriesSoFar count length missing left kept a b
     → Consumes b b (λ s m. entries_end_at missing left s ≡ Done [] m) → Consumes a b (λ s m. entries_at count length s ≡ Done kept m)

@@ -8,7 +8,7 @@ use Rattle.claxon_format.specs.Reading.{Done}
 use Rattle.claxon_format.specs.read.Comments.{comment_at, count_at, entries_at, vendor_at, vendor_length_at}
 use Rattle.claxon_input.specs.Gives.{Consumes}
 use Rattle.claxon_input.specs.State.{State}
-use Rattle.claxon_input.proofs.CallsInTurn.{consumes_then, StopsAs}
+use Rattle.claxon_input.proofs.ConsecutiveCalls.{consumes_then, StopsAs}
 
 -- if one of them is invalid or incomplete, so is the block
 module _ {n : ℕ} (s : List ℕ) (long : 8 ≤ n) (small : n ≤ max_content_bytes) where
@@ -20,20 +20,20 @@ module _ {n : ℕ} (s : List ℕ) (long : 8 ≤ n) (small : n ≤ max_content_by
 
   pub length_stops : StopsAs (vendor_length_at (n - 8) s) (comment_at n s)
   unfolding comment_at
-  length_stops = record { fault = λ f rest e. rw (not_short, not_large, e) refl; short = λ e. rw (not_short, not_large, e) refl }
+  length_stops = record { fault = λ f rest e. rw (not_short, not_large, e) refl; incomplete = λ e. rw (not_short, not_large, e) refl }
 
   pub vendor_stops : (v : ℕ) (m : List ℕ) → vendor_length_at (n - 8) s ≡ Done v m → StopsAs (vendor_at v m) (comment_at n s)
   unfolding comment_at
-  vendor_stops v m p = record { fault = λ f rest e. rw (not_short, not_large, p, e) refl; short = λ e. rw (not_short, not_large, p, e) refl }
+  vendor_stops v m p = record { fault = λ f rest e. rw (not_short, not_large, p, e) refl; incomplete = λ e. rw (not_short, not_large, p, e) refl }
 
   pub count_stops : (v : ℕ) (vendor m k : List ℕ) → vendor_length_at (n - 8) s ≡ Done v m → vendor_at v m ≡ Done vendor k → StopsAs (count_at (n / 4) k) (comment_at n s)
   unfolding comment_at
-  count_stops v vendor m k p q = record { fault = λ f rest e. rw (not_short, not_large, p, q, e) refl; short = λ e. rw (not_short, not_large, p, q, e) refl }
+  count_stops v vendor m k p q = record { fault = λ f rest e. rw (not_short, not_large, p, q, e) refl; incomplete = λ e. rw (not_short, not_large, p, q, e) refl }
 
   entries_stop : (v count : ℕ) (vendor m k j : List ℕ) → vendor_length_at (n - 8) s ≡ Done v m → vendor_at v m ≡ Done vendor k → count_at (n / 4) k ≡ Done count j
       → StopsAs (entries_at count (n - 8 - v) j) (comment_at n s)
   unfolding comment_at
-  entries_stop v count vendor m k j p q r = record { fault = λ f rest e. rw (not_short, not_large, p, q, r, e) refl; short = λ e. rw (not_short, not_large, p, q, r, e) refl }
+  entries_stop v count vendor m k j p q r = record { fault = λ f rest e. rw (not_short, not_large, p, q, r, e) refl; incomplete = λ e. rw (not_short, not_large, p, q, r, e) refl }
 
 pub entries_err : {n v count : ℕ} {vendor : List ℕ} {a b c d : State ℕ} → 8 ≤ n → n ≤ max_content_bytes
     → Consumes a b (λ s m. vendor_length_at (n - 8) s ≡ Done v m) → Consumes b c (λ s m. vendor_at v s ≡ Done vendor m) → Consumes c d (λ s m. count_at (n / 4) s ≡ Done count m)

@@ -15,13 +15,13 @@ use Rattle.claxon_format.proofs.MetadataBlocks.{Reads-block}
 use Rattle.claxon_format.proofs.Laws.{Reads-map}
 use Rattle.claxon_input.specs.Gives.{Consumes}
 use Rattle.claxon_input.specs.State.{State}
-use Rattle.claxon_input.proofs.CallsInTurn.{consumes_map, StopsAs}
+use Rattle.claxon_input.proofs.ConsecutiveCalls.{consumes_map, StopsAs}
 use Rattle.claxon_metadata.specs.VorbisComment.{HasVendorLength}
 use Rattle.claxon_metadata.specs.MetadataBlock.{ContentCode, content_at}
 
 -- if the first field is invalid or incomplete, so is the whole
 pub stops_with : {X Y Z : Type 0} {x : Reading X Y} {whole : Reading X Z} (f : Y → List X → Reading X Z) → whole ≡ bind x f → StopsAs x whole
-stops_with f e = record { fault = λ g rest q. e ∙ rw q refl; short = λ q. e ∙ rw q refl }
+stops_with f e = record { fault = λ g rest q. e ∙ rw q refl; incomplete = λ q. e ∙ rw q refl }
 
 -- if the application data is incomplete, so is the block
 pub application_stops : {n id : ℕ} {a b : State ℕ} → 4 ≤ n → n ≤ max_content_bytes → Consumes a b (λ s m. big_at 4 s ≡ Done id m) → Consumes a b (λ s m. StopsAs (bytes_at (n - 4) m) (application_at n s))
@@ -29,7 +29,7 @@ unfolding application_at
 application_stops {n = n} some small h =
     let enough : ltb n 4 ≡ false = le-ltb _ _ some in
     let fits : ltb max_content_bytes n ≡ false = le-ltb _ _ small in
-    consumes_map _ h (λ p. record { fault = λ f rest q. rw (enough, fits, p, q) refl; short = λ q. rw (enough, fits, p, q) refl })
+    consumes_map _ h (λ p. record { fault = λ f rest q. rw (enough, fits, p, q) refl; incomplete = λ q. rw (enough, fits, p, q) refl })
 
 pub body_info : (type n : ℕ) (s : List ℕ) → type ≡ 0 → body_at type n s ≡ bind (info_body_at n s) (λ i. done (Info i))
 unfolding body_at

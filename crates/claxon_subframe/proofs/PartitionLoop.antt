@@ -9,7 +9,7 @@ use Rattle.claxon_input.specs.declared.error.Error.{Error}
 use Rattle.claxon_input.specs.State.{State}
 use Rattle.claxon_input.specs.Gives.{Consumes, Stops}
 use Rattle.claxon_input.proofs.FieldLoops.{with_front, front_both}
-use Rattle.claxon_input.proofs.CallsInTurn.{consumes_then, consumes_map, stops_after, StopsWith}
+use Rattle.claxon_input.proofs.ConsecutiveCalls.{consumes_then, consumes_map, stops_after, StopsWith}
 use Rattle.claxon_format.specs.read.Residual.{joined_at}
 use Rattle.claxon_subframe.specs.Partitions.{lengths, total}
 use Rattle.claxon_subframe.proofs.JoinedPartitions.{joined_first, joined_add}
@@ -76,7 +76,7 @@ partitions_stop : (read : ℕ → Bits → Reading Bool (List ℤ)) (front : Lis
 unfolding each_at
 partitions_stop read front partitions i len each lt =
     let k : partitions - i ≡ suc (partitions - (i + 1)) = omega arith in
-    record { fault = λ s f rest e. rw (k, e) refl; short = λ s e. rw (k, e) refl }
+    record { fault = λ s f rest e. rw (k, e) refl; incomplete = λ s e. rw (k, e) refl }
 
 pub partitions_err : {read : ℕ → Bits → Reading Bool (List ℤ)} {all : List ℕ} {partitions i start len each : ℕ} {xs : List ℤ} {e : Error} {a b c : State Bool} → i < partitions → PartitionsSoFar read all partitions i start len each xs a b
     → Stops e (read (length (take (start + len - start) (drop start xs)))) b c → Stops e (joined_at read all) a c

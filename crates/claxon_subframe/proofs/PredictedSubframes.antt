@@ -13,7 +13,7 @@ use Rattle.claxon_format.specs.read.Subframe.{fixed_at, linear_at, parameters_at
 use Rattle.claxon_input.specs.State.{State}
 use Rattle.claxon_input.specs.Gives.{Consumes, Stops}
 use Rattle.claxon_input.specs.declared.error.Error.{Error}
-use Rattle.claxon_input.proofs.CallsInTurn.{consumes_none}
+use Rattle.claxon_input.proofs.ConsecutiveCalls.{consumes_none}
 use Rattle.claxon_subframe.proofs.ConsecutiveFields.{then_consumes}
 
 -- where there are as many samples as the order

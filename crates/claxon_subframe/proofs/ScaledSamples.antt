@@ -13,7 +13,7 @@ use Rattle.claxon_format.proofs.Residuals.{Reads-times}
 use Rattle.claxon_format.proofs.SignedIntegers.{Reads-signed}
 use Rattle.claxon_input.specs.State.{State}
 use Rattle.claxon_input.specs.Gives.{Consumes}
-use Rattle.claxon_input.proofs.CallsInTurn.{consumes_then}
+use Rattle.claxon_input.proofs.ConsecutiveCalls.{consumes_then}
 
 replicate_fits : (n : ℕ) (x : ℤ) → FitsSigned w32 x → AllFit (replicate n x)
 replicate_fits zero x h = tt

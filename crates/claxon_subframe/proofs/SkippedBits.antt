@@ -8,7 +8,7 @@ use Rattle.claxon_input.specs.declared.bits.buffered.BufferedBits.{BufferedBits}
 use Rattle.claxon_input.specs.State.{State}
 use Rattle.claxon_input.specs.Gives.{Consumes, FailureOr}
 use Rattle.claxon_input.proofs.BufferedBitSteps.{skipped_bits_is, not_skipped_bits}
-use Rattle.claxon_input.proofs.CallsInTurn.{consumes_known, failure_or_known}
+use Rattle.claxon_input.proofs.ConsecutiveCalls.{consumes_known, failure_or_known}
 
 -- b is a after `bits - left` bits were skipped
 pub record Skipped (bits left : ℕ) (a b : BufferedBits) (rest : Bits) : Type 0 where

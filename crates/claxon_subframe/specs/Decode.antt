@@ -4,10 +4,10 @@ use Rattle.std.specs.Prelude.{ℕ, List, ℤ, Result}
 use Rattle.claxon_format.specs.Laws.{IsUnambiguous}
 use Rattle.claxon_format.specs.read.Subframe.{subframe_at}
 use Rattle.claxon_format.specs.Subframe.{Subframe, SubframeFault}
-use Rattle.claxon_input.specs.Bitstream.{KeepsBitLoans, bit_state}
+use Rattle.claxon_input.specs.Bitstream.{bit_state}
 use Rattle.claxon_input.specs.Gives.{Gives}
 use Rattle.claxon_input.specs.Promises.{CodeIsComplete, ElseIoError, IsOutOfMemory, LeavesRest, FaultIsComplete, CodeIsSound, FaultIsSound}
-use Rattle.claxon_input.specs.Source.{Source}
+use Rattle.claxon_input.specs.Source.{KeepsLoans, Source}
 use Rattle.claxon_input.specs.State.{bits_in}
 use Rattle.claxon_input.specs.declared.bits.Bitstream.{Bitstream}
 use Rattle.claxon_input.specs.declared.error.Error.{Error}
@@ -57,4 +57,5 @@ NeverOutOfMemory result = IsOutOfMemory result → ⊥
 
 -- The borrows of the reader stay the same.
 abbrev pub KeepsReaderLoans : {R : Type 0} {g : _} → (R → Source ℕ) → Bitstream R g → Bitstream R g → Type 0
-KeepsReaderLoans source old new = KeepsBitLoans (bit_state source old) (bit_state source new)
+KeepsReaderLoans source old new =
+    KeepsLoans (bit_state source old).source (bit_state source new).source

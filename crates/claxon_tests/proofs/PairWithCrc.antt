@@ -15,7 +15,7 @@ use Rattle.claxon_input.specs.Gives.{Consumes}
 use Rattle.claxon_input.specs.declared.crc.CrcReader.{CrcReader}
 use Rattle.claxon_input.proofs.CrcReaders.{crc_of_taken, consumes_with_crc}
 use Rattle.claxon_input.proofs.CrcUpdate.{determines_crc16}
-use Rattle.claxon_input.proofs.CallsInTurn.{consumes_map}
+use Rattle.claxon_input.proofs.ConsecutiveCalls.{consumes_map}
 use Rattle.claxon_tests.specs.PairWithCrc.{pair_at, pair_with_crc_at}
 
 pub pair_is : (s : List ℕ) → pair_with_crc_at s ≡ with_crc_bytes_at 2 crc16 FrameCrc (by_bytes pair_at) s

@@ -149,7 +149,7 @@ module _ {R A : Type 0} (count : ℕ) (remaining : R → Option (List ℕ)) (rea
         rest = h.ends.between.remaining;
         frames = w.is;
         first = sym (ap (λ (z : List ℤ). take count z) (samples_are h.blocks xs h.samples) ∙ take_all count xs few);
-        enough = inr (h.ends.last.promises.at_end refl w.known).0;
+        enough = inr (h.ends.last.promises.none_is_eof refl w.known).0;
       }
 
   given : (xs : List ℤ) → GivesFirstSamples source count old xs → s.known ≡ true → HasFirstSamples count stream after_head xs

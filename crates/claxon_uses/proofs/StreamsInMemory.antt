@@ -148,7 +148,7 @@ module _ {X Z : Type 0} (view : X → List ℤ) (show : Z → Head) (bytes : Lis
     all_collected : (x : X) → Collects (cursor_source (λ (s : Bor (List ℕ)). s.now)) (Some stream) b None (view x) → SliceStreamPromises view bytes (Ok x)
     all_collected x h =
         let w = h.ends.blocks_are.consumed.known is_known in
-        let few : length h.ends.between.remaining < 2 = (h.ends.last.promises.at_end refl w.known).0 in
+        let few : length h.ends.between.remaining < 2 = (h.ends.last.promises.none_is_eof refl w.known).0 in
         record {
           sound = (show z, h.blocks, h.ends.between.remaining, stands h.blocks h.ends.between.remaining w.is (short_no_frame (Some stream) h.ends.between.remaining few), few, sym h.samples);
           complete = λ g blocks rest st small. elim (past None (view x) h g blocks rest st) [ inl p ↦ inl (sym h.samples ∙ ap (λ (l : List Block). samples_of l) (sym p.0)) | inr y ↦ absurd (not_out_of_memory None y) ];
@@ -166,7 +166,7 @@ module _ {X Z : Type 0} (view : X → List ℤ) (show : Z → Head) (bytes : Lis
           sound = tt;
           complete = λ g blocks rest st few. elim (past (Some e) xs h g blocks rest st) [
             | inr y ↦ inr (same_out_of_memory e y)
-            | inl p ↦ elim (h.ends.last.promises.ended rest p.1 few) [ inl q ↦ absurd (let k = q.0 in cc) | inr x ↦ inr (same_out_of_memory e (head_out_of_memory_after (end_found (Some e)) b h.after h.ends.between h.ends.blocks_are.consumed x)) ]
+            | inl p ↦ elim (h.ends.last.promises.eof_is_none rest p.1 few) [ inl q ↦ absurd (let k = q.0 in cc) | inr x ↦ inr (same_out_of_memory e (head_out_of_memory_after (end_found (Some e)) b h.after h.ends.between h.ends.blocks_are.consumed x)) ]
           ];
           fault = elim h.ends.last.promises.fault [
             | inl m ↦ inl m

@@ -81,8 +81,8 @@ reads_unborrowed {stream = stream} {r = r} {a = a} {b = b} h = let p = h.promise
   promises = record {
     sound = p.sound;
     complete = λ y t rest c o. elim (p.complete y t rest c (remains_borrowed o)) [ inl q ↦ inl (q.0, remains_unborrowed q.1) | inr q ↦ inr q ];
-    at_end = at_eof_unborrowed a b r p.at_end;
-    ended = λ xs o few. elim (p.ended xs (remains_borrowed o) few) [ inl q ↦ inl (q.0, remains_unborrowed q.1) | inr q ↦ inr q ];
+    none_is_eof = at_eof_unborrowed a b r p.none_is_eof;
+    eof_is_none = λ xs o few. elim (p.eof_is_none xs (remains_borrowed o) few) [ inl q ↦ inl (q.0, remains_unborrowed q.1) | inr q ↦ inr q ];
     no_failure = p.no_failure;
     fault = p.fault;
     named = λ f t rest c o. elim (p.named f t rest c (remains_borrowed o)) [ inl q ↦ inl (q.0, remains_unborrowed q.1) | inr q ↦ inr q ];

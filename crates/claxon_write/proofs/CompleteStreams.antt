@@ -58,7 +58,7 @@ module _ (stream : Option StreamFormat) (width : IsWidth (known_width stream)) w
         go (inr limit) = absurd (under_limit k.decoded.blocks blocks m limit known f (short_no_frame stream m short) few)
         go (inl reads) = elim (behind stream width (Some e) k.decoded.blocks blocks m reads known f (short_no_frame stream m short)) [
           | inr z ↦ inr (inl (excused_as a b e z))
-          | inl p ↦ elim (reads.last.promises.ended m p.1 short) [
+          | inl p ↦ elim (reads.last.promises.eof_is_none m p.1 short) [
             | inl z ↦ absurd (let w = z.0 in cc)
             | inr z ↦ inr (inl (excused_as a b e (excused_after b (Err e) reads.blocks_are.consumed z)))
           ]

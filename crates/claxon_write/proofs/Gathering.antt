@@ -9,7 +9,7 @@ use Rattle.claxon.proofs.Streams.{length-interleave}
 use Rattle.claxon.specs.State.{State}
 use Rattle.claxon.specs.Errors.{Error}
 use Rattle.claxon.specs.Errors.TheVariants.{IoError, FormatError, Unsupported, OutOfMemory}
-use Rattle.claxon.proofs.CallsInTurn.{stops_loans}
+use Rattle.claxon.proofs.ConsecutiveCalls.{stops_loans}
 use Rattle.claxon.specs.Gives.{GivesOrEofOrOutOfMemory, or_eof}
 use Rattle.claxon.specs.Block.{BlockValue, duration_of}
 use Rattle.claxon.specs.FrameReader.{ReadsFrame, block_view}

@@ -66,7 +66,7 @@ module _ {W : Type 0} (contents : W → Option (List ℕ)) (h : Head) (s a b : S
     written = all_written d.0;
     input_is = λ t.
         let w = d.0.ends.blocks_are.consumed.known (head t).0 in
-        let few = (d.0.ends.last.promises.at_end refl w.known).0 in
+        let few = (d.0.ends.last.promises.none_is_eof refl w.known).0 in
         (h, d.0.ends.between.remaining, input_is d.0.blocks d.0.ends.between.remaining t w.is, few);
   }
 

@@ -1,6 +1,6 @@
 use Rattle.std.proofs.Common.{refl, rules, sym, ◌∙◌}
 use Rattle.claxon_format.specs.Fault.{fault_text, SecondComment}
-use Rattle.claxon_input.proofs.CallsInTurn.{consumes_none}
+use Rattle.claxon_input.proofs.ConsecutiveCalls.{consumes_none}
 use Rattle.claxon_input.proofs.Faults.{stops_fault}
 use Rattle.claxon_format.specs.MetadataBlocks.{Comments}
 use Rattle.claxon_metadata.specs.VorbisComment.{comment_view}

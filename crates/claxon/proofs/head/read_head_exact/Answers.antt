@@ -4,7 +4,7 @@ use Rattle.std.proofs.lemmas.Grind.{common_steps}
 use Rattle.claxon_format.specs.Fault.{fault_text, StreaminfoMissing}
 use Rattle.claxon_format.specs.Heads.{stream_marker}
 use Rattle.claxon_input.specs.declared.error.Error.{Error}
-use Rattle.claxon_input.proofs.CallsInTurn.{consumes_none, consumes_map, consumes_then}
+use Rattle.claxon_input.proofs.ConsecutiveCalls.{consumes_none, consumes_map, consumes_then}
 use Rattle.claxon_metadata.specs.MetadataBlock.{metadata_block_view}
 use Rattle.claxon.specs.ReadHead.{found_view, head_view, options_view}
 use Rattle.claxon_metadata.specs.declared.metadata.MetadataBlock.{MetadataBlock}

@@ -2,7 +2,7 @@ use Rattle.std.proofs.Common.{Bool, Err, ap}
 use Rattle.std.proofs.lemmas.Result.{err_from_is_err_and}
 use Rattle.claxon_input.specs.declared.error.Error.{Error}
 use Rattle.claxon_input.specs.State.{bytes_in}
-use Rattle.claxon_input.proofs.CallsInTurn.{consumes_none, consumes_then, consumes_map}
+use Rattle.claxon_input.proofs.ConsecutiveCalls.{consumes_none, consumes_then, consumes_map}
 use Rattle.claxon_metadata.specs.MetadataBlock.{metadata_block_view}
 use Rattle.claxon.specs.ReadHead.{found_view, other_view}
 use Rattle.claxon_metadata.specs.declared.metadata.MetadataBlock.{MetadataBlock}

@@ -13,6 +13,6 @@ returns c =
     let new = c.read_next_or_eof-found.new.self in
     let stream = option_map stream_with c.args.known in
     let remains = slice_remains old (frame_input old) c.args.bytes refl c.frames_of-frames.ensures.position c.frames_of-frames.ensures.inner in
-    let reads = known_as {a = slice_bytes old} {b = slice_bytes new} c.frames_of-frames.ensures.stream (reads_frame _ e.sound e.complete e.at_end e.ended e.no_failure e.fault e.named e.io e.front e.memory e.gives) in
-    let m = slice_frame_promises stream c.args.bytes.now (slice_bytes old) (slice_bytes new) remains (slice_never_fails old new) c.read_next_or_eof-found.result reads e.ended in
+    let reads = known_as {a = slice_bytes old} {b = slice_bytes new} c.frames_of-frames.ensures.stream (reads_frame _ e.sound e.complete e.none_is_eof e.eof_is_none e.no_failure e.fault e.named e.io e.front e.memory e.gives) in
+    let m = slice_frame_promises stream c.args.bytes.now (slice_bytes old) (slice_bytes new) remains (slice_never_fails old new) c.read_next_or_eof-found.result reads e.eof_is_none in
     frame_at_start c.args.bytes.now (slice_bytes old) (frame_input new) c.saturating_sub.result remains (search rules) stream c.read_next_or_eof-found.result reads.promises.sound m

@@ -3,7 +3,7 @@ use Rattle.std.proofs.lemmas.Result.{err_from_is_err_and}
 use Rattle.claxon_format.specs.read.MetadataBlocks.{application_at}
 use Rattle.claxon_format.specs.Fault.{fault_text}
 use Rattle.claxon_input.proofs.ByteFields.{consumes_big, failure_or_big}
-use Rattle.claxon_input.proofs.CallsInTurn.{consumes_then}
+use Rattle.claxon_input.proofs.ConsecutiveCalls.{consumes_then}
 use Rattle.claxon_input.proofs.Memory.{exit_with_memory}
 use Rattle.claxon_metadata.specs.MetadataBlock.{content_view}
 use Rattle.claxon_metadata.proofs.ContentByType.{application_stops}

@@ -2,7 +2,7 @@ use Rattle.std.proofs.Common.{◌≡◌, length, drop, rules, ◌∙◌}
 use Rattle.std.proofs.lemmas.List.{take_at}
 use Rattle.std.proofs.lemmas.Result.{err_from_is_err_and}
 use Rattle.claxon_input.proofs.ByteFields.{consumes_whole, failure_or_whole}
-use Rattle.claxon_input.proofs.CallsInTurn.{gives_never_out_of_memory, io_exit, consumes_map}
+use Rattle.claxon_input.proofs.ConsecutiveCalls.{gives_never_out_of_memory, io_exit, consumes_map}
 use Rattle.claxon_metadata.proofs.metadata.read_bytes.Goals as goal
 
 pub returns-in_err-read_into-clause-gives : goal.returns-in_err-read_into-clause-gives

@@ -3,7 +3,7 @@ use Rattle.std.proofs.lemmas.Result.{err_from_is_err_and}
 use Rattle.claxon_format.specs.read.MetadataBlocks.{body_at, application_at}
 use Rattle.claxon_format.specs.Fault.{fault_text, BlockType}
 use Rattle.claxon_input.proofs.ByteFields.{consumes_skipped, failure_or_skipped, most_taken}
-use Rattle.claxon_input.proofs.CallsInTurn.{consumes_none, consumes_map, io_exit, gives_or_out_of_memory_after, gives_never_out_of_memory, failure_or_known}
+use Rattle.claxon_input.proofs.ConsecutiveCalls.{consumes_none, consumes_map, io_exit, gives_or_out_of_memory_after, gives_never_out_of_memory, failure_or_known}
 use Rattle.claxon_metadata.specs.MetadataBlock.{content_view}
 use Rattle.claxon_metadata.specs.VorbisComment.{comment_view}
 use Rattle.claxon_input.proofs.Faults.{stops_fault}

@@ -8,7 +8,7 @@ use Rattle.claxon_input.specs.declared.error.Error.{Error}
 use Rattle.claxon_input.specs.Gives.{Gives}
 use Rattle.claxon_input.specs.Promises.{Promises}
 use Rattle.claxon_input.specs.State.{State, bits_in}
-use Rattle.claxon_input.proofs.CallsInTurn.{gives_loans, gives_never_out_of_memory}
+use Rattle.claxon_input.proofs.ConsecutiveCalls.{gives_loans, gives_never_out_of_memory}
 use Rattle.claxon_input.proofs.Memory.{gives_not_out_of_memory}
 use Rattle.claxon_input.proofs.Promises.{promises}
 use Rattle.claxon_subframe.proofs.subframe.decode.Goals as goal

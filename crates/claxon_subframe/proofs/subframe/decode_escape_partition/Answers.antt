@@ -1,5 +1,5 @@
 use Rattle.std.proofs.Common.{◌≡◌, ◌≢◌, pos, length, replicate, refl, rules, arith}
-use Rattle.claxon_input.proofs.CallsInTurn.{gives_after, consumes_map}
+use Rattle.claxon_input.proofs.ConsecutiveCalls.{gives_after, consumes_map}
 use Rattle.claxon_format.specs.read.Residual.{escaped_partition_at}
 use Rattle.claxon_subframe.proofs.EscapedPartitions.{escaped_zero_bits, escaped_some_bits}
 use Rattle.claxon_subframe.proofs.subframe.decode_escape_partition.Goals as goal

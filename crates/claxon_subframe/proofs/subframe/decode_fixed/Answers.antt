@@ -6,7 +6,7 @@ use Rattle.claxon_format.specs.Fault.{FixedOrder, fault_text}
 use Rattle.claxon_format.specs.Predict.{fixed}
 use Rattle.claxon_format.specs.read.Subframe.{fixed_at}
 use Rattle.claxon_format.specs.read.Residual.{residual_at}
-use Rattle.claxon_input.proofs.CallsInTurn.{consumes_none, gives_after, exit}
+use Rattle.claxon_input.proofs.ConsecutiveCalls.{consumes_none, gives_after, exit}
 use Rattle.claxon_input.proofs.Faults.{stops_fault}
 use Rattle.claxon_subframe.proofs.ConsecutiveFields.{then_consumes, then_stops, consumes_as}
 use Rattle.claxon_subframe.proofs.OrderZero.{fixed_0_at}

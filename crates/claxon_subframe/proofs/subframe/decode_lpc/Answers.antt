@@ -5,7 +5,7 @@ use Rattle.std.proofs.lemmas.Result.{err_from_is_err_and}
 use Rattle.claxon_format.specs.Fault.{LinearOrder, fault_text}
 use Rattle.claxon_format.specs.Predict.{linear}
 use Rattle.claxon_format.specs.read.Subframe.{linear_at}
-use Rattle.claxon_input.proofs.CallsInTurn.{exit, consumes_none}
+use Rattle.claxon_input.proofs.ConsecutiveCalls.{exit, consumes_none}
 use Rattle.claxon_input.proofs.Faults.{stops_fault}
 use Rattle.claxon_subframe.proofs.ConsecutiveFields.{then_consumes, then_stops, consumes_as}
 use Rattle.claxon_subframe.proofs.PredictedSubframes.{linear_begins, linear_warm_up, times_consumes, times_stops, residual_consumes, residual_stops, table_front, in_place}

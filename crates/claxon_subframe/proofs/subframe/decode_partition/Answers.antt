@@ -1,6 +1,6 @@
 use Rattle.std.proofs.Common.{length, arith}
 use Rattle.std.proofs.lemmas.Result.{err_from_is_err_and}
-use Rattle.claxon_input.proofs.CallsInTurn.{gives_after, io_exit, failure_or_known, consumes_map}
+use Rattle.claxon_input.proofs.ConsecutiveCalls.{gives_after, io_exit, failure_or_known, consumes_map}
 use Rattle.claxon_subframe.specs.SubframeFields.{method_of}
 use Rattle.claxon_subframe.proofs.PartitionParameter.{escape_of, rice_parameter_of, partition_incomplete, partition_escaped, partition_rice}
 use Rattle.claxon_subframe.proofs.subframe.decode_partition.Goals as goal

@@ -7,7 +7,7 @@ use Rattle.claxon_format.specs.Bits.{Bits}
 use Rattle.claxon_format.specs.Residual.{partition_lengths}
 use Rattle.claxon_format.specs.read.Bits.{number_at}
 use Rattle.claxon_format.specs.read.Residual.{partition_at, residual_at, method_at, partitions_at, joined_at}
-use Rattle.claxon_input.proofs.CallsInTurn.{consumes_then, consumes_none, exit, io_exit, failure_or_after, stops_after, gives_after}
+use Rattle.claxon_input.proofs.ConsecutiveCalls.{consumes_then, consumes_none, exit, io_exit, failure_or_after, stops_after, gives_after}
 use Rattle.claxon_subframe.specs.SubframeFields.{method_of}
 use Rattle.claxon_subframe.specs.Partitions.{lengths}
 use Rattle.claxon_input.proofs.Faults.{stops_fault}
@@ -25,7 +25,7 @@ returns-in_err-partition_type g c =
     exit _ (err_from_is_err_and c.from_residual.result c.from_residual.ensures.1)
     (stops_after {next = residual_at c.args.block_size (c.args.block_size - length c.args.buffer.now)} (consumes_none _ _ refl) (record {
       fault = λ s f rest e. rw e refl;
-      short = λ s e. rw e refl;
+      incomplete = λ s e. rw e refl;
     }) c.in_err-partition_type.ensures)
 
 pub returns-in_err-read_leq_u8 : goal.returns-in_err-read_leq_u8

@@ -7,7 +7,7 @@ use Rattle.claxon_subframe.specs.SubframeFields.{type_number}
 use Rattle.claxon_subframe.specs.declared.subframe.SubframeType.{SubframeType}
 use Rattle.claxon_subframe.specs.declared.subframe.SubframeType.TheVariants.{Constant, Verbatim, Fixed, Lpc}
 use Rattle.claxon_subframe.proofs.SubframeTypeNumbers.{type_is_fixed, type_is_linear}
-use Rattle.claxon_input.proofs.CallsInTurn.{gives_same}
+use Rattle.claxon_input.proofs.ConsecutiveCalls.{gives_same}
 use Rattle.claxon_subframe.proofs.subframe.decode_samples.Goals as goal
 
 constant_is : (subframe_type : SubframeType) (w n : ℕ) → subframe_type ≡ Constant → (s : Bits) → subframe_body_at w n (type_number subframe_type) s ≡ (and_then (signed_at w) (λ x. done (replicate n x))) s

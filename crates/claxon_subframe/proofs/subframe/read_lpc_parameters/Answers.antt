@@ -1,7 +1,7 @@
 use Rattle.std.proofs.Common.{◌≡◌, false, eqb, refl, arith, rules}
 use Rattle.std.proofs.lemmas.Bool.Decides.{nat_tests}
 use Rattle.std.proofs.lemmas.Result.{err_from_is_err_and}
-use Rattle.claxon_input.proofs.CallsInTurn.{io_exit, failure_or_after}
+use Rattle.claxon_input.proofs.ConsecutiveCalls.{io_exit, failure_or_after}
 use Rattle.claxon_format.specs.read.Subframe.{parameters_at}
 use Rattle.claxon_subframe.specs.SubframeFields.{parameters_of}
 use Rattle.claxon_format.specs.Fault.{fault_text}

@@ -53,4 +53,4 @@ returns-in-Ok-None-clause-ok g c =
     let a = frame_bytes g.R.ReadBytes.source c.loop.reader in
     let b = frame_bytes g.R.ReadBytes.source c.read_next_or_eof.new.self in
     let is = c.in-Ok-None.is ∙ ap (λ (z : Option BlockValue). Ok z) c.in-Ok-None.field-0-is in
-    counts_all b c.loop.invariant.so_far (eof_reached a b is c.read_next_or_eof.ensures.at_end)
+    counts_all b c.loop.invariant.so_far (eof_reached a b is c.read_next_or_eof.ensures.none_is_eof)

@@ -13,7 +13,7 @@ pub loop-block-preserved : goal.loop-block-preserved
 loop-block-preserved g c =
     let e = c.read_next_or_eof.ensures in
     let v = c.loop-block.invariant in
-    let reads = reads_with v.stream (c.in-Ok-Some.is ∙ ap (λ (z : Option BlockValue). Ok z) c.in-Ok-Some.field-0-is) (reads_frame _ e.sound e.complete e.at_end e.ended e.no_failure e.fault e.named e.io e.front e.memory e.gives) in
+    let reads = reads_with v.stream (c.in-Ok-Some.is ∙ ap (λ (z : Option BlockValue). Ok z) c.in-Ok-Some.field-0-is) (reads_frame _ e.sound e.complete e.none_is_eof e.eof_is_none e.no_failure e.fault e.named e.io e.front e.memory e.gives) in
     record {
       reference = c.in_ok-put_block.ensures.same_reference ∙ v.reference;
       unflushed = c.in_ok-put_block.ensures.unflushed ∙ v.unflushed;
@@ -26,13 +26,13 @@ pub returns-in-Ok-None-clause-ok : goal.returns-in-Ok-None-clause-ok
 returns-in-Ok-None-clause-ok g c =
     let e = c.read_next_or_eof.ensures in
     let v = c.loop-block.invariant in
-    gathered_end v.so_far (reads_with v.stream (c.in-Ok-None.is ∙ ap (λ (z : Option BlockValue). Ok z) c.in-Ok-None.field-0-is) (reads_frame _ e.sound e.complete e.at_end e.ended e.no_failure e.fault e.named e.io e.front e.memory e.gives))
+    gathered_end v.so_far (reads_with v.stream (c.in-Ok-None.is ∙ ap (λ (z : Option BlockValue). Ok z) c.in-Ok-None.field-0-is) (reads_frame _ e.sound e.complete e.none_is_eof e.eof_is_none e.no_failure e.fault e.named e.io e.front e.memory e.gives))
 
 pub returns-in-Err-clause-ok : goal.returns-in-Err-clause-ok
 returns-in-Err-clause-ok g c =
     let e = c.read_next_or_eof.ensures in
     let v = c.loop-block.invariant in
-    let k = gathered_fault v.so_far (reads_with v.stream c.in-Err.is (reads_frame _ e.sound e.complete e.at_end e.ended e.no_failure e.fault e.named e.io e.front e.memory e.gives)) in
+    let k = gathered_fault v.so_far (reads_with v.stream c.in-Err.is (reads_frame _ e.sound e.complete e.none_is_eof e.eof_is_none e.no_failure e.fault e.named e.io e.front e.memory e.gives)) in
     search rules
 
 pub returns-in-Err-clause-err : goal.returns-in-Err-clause-err
@@ -42,7 +42,7 @@ pub returns-in_default-clause-ok : goal.returns-in_default-clause-ok
 returns-in_default-clause-ok g c =
     let e = c.read_next_or_eof.ensures in
     let v = c.loop-block.invariant in
-    let reads = reads_with v.stream (c.in-Ok-Some.is ∙ ap (λ (z : Option BlockValue). Ok z) c.in-Ok-Some.field-0-is) (reads_frame _ e.sound e.complete e.at_end e.ended e.no_failure e.fault e.named e.io e.front e.memory e.gives) in
+    let reads = reads_with v.stream (c.in-Ok-Some.is ∙ ap (λ (z : Option BlockValue). Ok z) c.in-Ok-Some.field-0-is) (reads_frame _ e.sound e.complete e.none_is_eof e.eof_is_none e.no_failure e.fault e.named e.io e.front e.memory e.gives) in
     let many : 2 ^ 64 ≤ c.loop-block.count + c.len.result = omega (arith, c.from.ensures, c.in_default.ensures) in
     gathered_limit c.in-Ok-Some.block refl c.len.ensures many v.so_far reads
 
@@ -50,26 +50,26 @@ pub returns-in_err-put_block-clause-err : goal.returns-in_err-put_block-clause-e
 returns-in_err-put_block-clause-err g c =
     let e = c.read_next_or_eof.ensures in
     let v = c.loop-block.invariant in
-    let reads = reads_with v.stream (c.in-Ok-Some.is ∙ ap (λ (z : Option BlockValue). Ok z) c.in-Ok-Some.field-0-is) (reads_frame _ e.sound e.complete e.at_end e.ended e.no_failure e.fault e.named e.io e.front e.memory e.gives) in
+    let reads = reads_with v.stream (c.in-Ok-Some.is ∙ ap (λ (z : Option BlockValue). Ok z) c.in-Ok-Some.field-0-is) (reads_frame _ e.sound e.complete e.none_is_eof e.eof_is_none e.no_failure e.fault e.named e.io e.front e.memory e.gives) in
     let p = err_from_is_err_and c.from_residual.result c.from_residual.ensures.1 in
     rw (p.1, p.2) (gathered_fails c.in-Ok-Some.block v.so_far reads c.in_err-put_block.ensures.err (c.in_err-put_block.ensures.unflushed ∙ v.unflushed))
 
 pub returns-in-Ok-None-clause-loans : goal.returns-in-Ok-None-clause-loans
 returns-in-Ok-None-clause-loans g c =
     let e = c.read_next_or_eof.ensures in
-    reads_loans (reads_frame _ e.sound e.complete e.at_end e.ended e.no_failure e.fault e.named e.io e.front e.memory e.gives) ∙ c.loop-block.invariant.loans
+    reads_loans (reads_frame _ e.sound e.complete e.none_is_eof e.eof_is_none e.no_failure e.fault e.named e.io e.front e.memory e.gives) ∙ c.loop-block.invariant.loans
 
 pub returns-in-Err-clause-loans : goal.returns-in-Err-clause-loans
 returns-in-Err-clause-loans g c =
     let e = c.read_next_or_eof.ensures in
-    reads_loans (reads_frame _ e.sound e.complete e.at_end e.ended e.no_failure e.fault e.named e.io e.front e.memory e.gives) ∙ c.loop-block.invariant.loans
+    reads_loans (reads_frame _ e.sound e.complete e.none_is_eof e.eof_is_none e.no_failure e.fault e.named e.io e.front e.memory e.gives) ∙ c.loop-block.invariant.loans
 
 pub returns-in_default-clause-loans : goal.returns-in_default-clause-loans
 returns-in_default-clause-loans g c =
     let e = c.read_next_or_eof.ensures in
-    reads_loans (reads_frame _ e.sound e.complete e.at_end e.ended e.no_failure e.fault e.named e.io e.front e.memory e.gives) ∙ c.loop-block.invariant.loans
+    reads_loans (reads_frame _ e.sound e.complete e.none_is_eof e.eof_is_none e.no_failure e.fault e.named e.io e.front e.memory e.gives) ∙ c.loop-block.invariant.loans
 
 pub returns-in_err-put_block-clause-loans : goal.returns-in_err-put_block-clause-loans
 returns-in_err-put_block-clause-loans g c =
     let e = c.read_next_or_eof.ensures in
-    reads_loans (reads_frame _ e.sound e.complete e.at_end e.ended e.no_failure e.fault e.named e.io e.front e.memory e.gives) ∙ c.loop-block.invariant.loans
+    reads_loans (reads_frame _ e.sound e.complete e.none_is_eof e.eof_is_none e.no_failure e.fault e.named e.io e.front e.memory e.gives) ∙ c.loop-block.invariant.loans

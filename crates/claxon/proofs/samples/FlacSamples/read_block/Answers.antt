@@ -9,17 +9,17 @@ pub returns-in_err-block-clause-reads : goal.returns-in_err-block-clause-reads
 returns-in_err-block-clause-reads g c =
     let e = c.read_next_or_eof.ensures in
     let p = err_from_is_err_and c.from_residual.result c.from_residual.ensures.1 in
-    rw p.1 (reads_as (c.in_err-block.was ∙ ap (λ (z : Error). Err z) (sym p.2)) (reads_frame _ e.sound e.complete e.at_end e.ended e.no_failure e.fault e.named e.io e.front e.memory e.gives))
+    rw p.1 (reads_as (c.in_err-block.was ∙ ap (λ (z : Error). Err z) (sym p.2)) (reads_frame _ e.sound e.complete e.none_is_eof e.eof_is_none e.no_failure e.fault e.named e.io e.front e.memory e.gives))
 
 pub returns-in-Some-clause-reads : goal.returns-in-Some-clause-reads
 returns-in-Some-clause-reads g c =
     let e = c.read_next_or_eof.ensures in
-    reads_as (c.in_ok-block.was ∙ ap (λ (z : Option BlockValue). Ok z) c.in-Some.is) (reads_frame _ e.sound e.complete e.at_end e.ended e.no_failure e.fault e.named e.io e.front e.memory e.gives)
+    reads_as (c.in_ok-block.was ∙ ap (λ (z : Option BlockValue). Ok z) c.in-Some.is) (reads_frame _ e.sound e.complete e.none_is_eof e.eof_is_none e.no_failure e.fault e.named e.io e.front e.memory e.gives)
 
 pub returns-in-None-clause-reads : goal.returns-in-None-clause-reads
 returns-in-None-clause-reads g c =
     let e = c.read_next_or_eof.ensures in
-    reads_as (c.in_ok-block.was ∙ ap (λ (z : Option BlockValue). Ok z) c.in-None.is) (reads_frame _ e.sound e.complete e.at_end e.ended e.no_failure e.fault e.named e.io e.front e.memory e.gives)
+    reads_as (c.in_ok-block.was ∙ ap (λ (z : Option BlockValue). Ok z) c.in-None.is) (reads_frame _ e.sound e.complete e.none_is_eof e.eof_is_none e.no_failure e.fault e.named e.io e.front e.memory e.gives)
 
 pub returns-in-None-clause-none_left : goal.returns-in-None-clause-none_left
 returns-in-None-clause-none_left g c = search rules

@@ -26,13 +26,13 @@ pub returns-clause-bytes_exist : goal.returns-clause-bytes_exist
 returns-clause-bytes_exist g c f header plans channels fits suits =
     plans_written (frame_stream c.args.self.now) f header plans channels (stream_is_width c.args.self.now.stream) fits suits
 
-pub returns-clause-at_end : goal.returns-clause-at_end
-returns-clause-at_end g c =
-    let e = (frame_promises block_view _ (stream_is_width c.args.self.now.stream) c.read_next_or_eof_exact.result _ _ c.read_next_or_eof_exact.ensures.gives).at_end in
+pub returns-clause-none_is_eof : goal.returns-clause-none_is_eof
+returns-clause-none_is_eof g c =
+    let e = (frame_promises block_view _ (stream_is_width c.args.self.now.stream) c.read_next_or_eof_exact.result _ _ c.read_next_or_eof_exact.ensures.gives).none_is_eof in
     search depth 1
 
-pub returns-clause-ended : goal.returns-clause-ended
-returns-clause-ended g c = frame_eof_is_none block_view _ (stream_is_width c.args.self.now.stream) c.read_next_or_eof_exact.result _ _ c.read_next_or_eof_exact.ensures.gives _ c.read_next_or_eof_exact.ensures.buffer_too_small
+pub returns-clause-eof_is_none : goal.returns-clause-eof_is_none
+returns-clause-eof_is_none g c = frame_eof_is_none block_view _ (stream_is_width c.args.self.now.stream) c.read_next_or_eof_exact.result _ _ c.read_next_or_eof_exact.ensures.gives _ c.read_next_or_eof_exact.ensures.buffer_too_small
 
 pub returns-clause-no_failure : goal.returns-clause-no_failure
 returns-clause-no_failure g c =

@@ -11,7 +11,7 @@ use Rattle.claxon_format.specs.read.Header.{channels_at}
 use Rattle.claxon_input.specs.State.{State}
 use Rattle.claxon_input.specs.Gives.{Consumes}
 use Rattle.claxon_input.proofs.ByteFields.{consumes_byte, exit_big}
-use Rattle.claxon_input.proofs.CallsInTurn.{exit, consumes_none, consumes_map}
+use Rattle.claxon_input.proofs.ConsecutiveCalls.{exit, consumes_none, consumes_map}
 use Rattle.claxon_input.proofs.Faults.{stops_fault}
 use Rattle.claxon_frame.specs.FrameHeader.{channel_code}
 use Rattle.claxon_subframe.proofs.ConsecutiveFields.{then_consumes, then_stops}

@@ -5,7 +5,7 @@ use Rattle.claxon_format.specs.read.Bytes.{big_at}
 use Rattle.claxon_format.specs.read.Header.{channels_at, codes_at, fields_after, fields_of, number_in, rate_at, size_at}
 use Rattle.claxon_input.specs.State.{State}
 use Rattle.claxon_input.specs.Gives.{Consumes}
-use Rattle.claxon_input.proofs.CallsInTurn.{exit, consumes_none}
+use Rattle.claxon_input.proofs.ConsecutiveCalls.{exit, consumes_none}
 use Rattle.claxon_frame.specs.FrameHeader.{is_variable}
 use Rattle.claxon_subframe.proofs.ConsecutiveFields.{then_consumes, then_stops}
 use Rattle.claxon_frame.proofs.frame.header.read_fields.Goals as goal

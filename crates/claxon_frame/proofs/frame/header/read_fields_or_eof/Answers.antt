@@ -2,7 +2,7 @@ use Rattle.std.proofs.Common.{ap}
 use Rattle.std.proofs.lemmas.Result.{err_from_is_err_and}
 use Rattle.claxon_format.specs.read.Bytes.{big_at}
 use Rattle.claxon_format.specs.Reading.{bind}
-use Rattle.claxon_input.proofs.CallsInTurn.{StopsWith}
+use Rattle.claxon_input.proofs.ConsecutiveCalls.{StopsWith}
 use Rattle.claxon_frame.specs.FrameHeader.{is_variable}
 use Rattle.claxon_format.specs.read.Header.{fields_at, fields_after, sync_at}
 use Rattle.claxon_input.proofs.FieldOrEof.{exit_or_eof, first_stops, after_first, some_ok, some_stops}
@@ -12,7 +12,7 @@ stops_with : StopsWith (sync_at big_at) (fields_at big_at)
 unfolding fields_at
 stops_with = record {
   fault = λ s f rest e. ap (λ x. bind x (fields_after big_at)) e;
-  short = λ s e. ap (λ x. bind x (fields_after big_at)) e;
+  incomplete = λ s e. ap (λ x. bind x (fields_after big_at)) e;
 }
 
 pub returns-in_err-blocking : goal.returns-in_err-blocking

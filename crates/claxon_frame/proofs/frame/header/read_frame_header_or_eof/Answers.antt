@@ -4,7 +4,7 @@ use Rattle.claxon_format.specs.Frame.{StreamFormat, known_width}
 use Rattle.claxon_format.specs.Header.{Fields}
 use Rattle.claxon_format.specs.Reading.{Done, Reading, and_then, bind, done}
 use Rattle.claxon_input.specs.State.{bytes_in}
-use Rattle.claxon_input.proofs.CallsInTurn.{StopsWith, stops_after, consumes_map, consumes_none}
+use Rattle.claxon_input.proofs.ConsecutiveCalls.{StopsWith, stops_after, consumes_map, consumes_none}
 use Rattle.claxon_format.specs.read.Frame.{Start, start_of, start_at}
 use Rattle.claxon_frame.specs.FrameStart.{fields_view, stream_format_view}
 use Rattle.claxon_format.specs.read.Header.{fields_with_crc_at, width_at}
@@ -25,7 +25,7 @@ stops_with : (stream : Option StreamFormat) → StopsWith fields_with_crc_at (st
 unfolding start_at start_after
 stops_with stream = record {
   fault = λ s f rest e. ap (λ x. bind x (start_after stream)) e;
-  short = λ s e. ap (λ x. bind x (start_after stream)) e;
+  incomplete = λ s e. ap (λ x. bind x (start_after stream)) e;
 }
 
 pub returns-in_err-fields-clause-gives : goal.returns-in_err-fields-clause-gives
@@ -40,7 +40,7 @@ returns-in_err-bits_per_sample-clause-gives g c =
     let f = fields_view c.in-Some.fields in
     exit_or_eof 2 _ (start_at stream) (err_from_is_err_and c.from_residual-in_err-bits_per_sample.result c.from_residual-in_err-bits_per_sample.ensures.1)
     (some_stops 2 (start_at stream) (start_after stream f) (after_first 2 fields_with_crc_at (start_at stream) (start_after stream f) (after_crc stream f) (rw c.in-Some.is at c.in_ok-fields.ensures))
-    (stops_after {next = start_after stream f} (consumes_none _ _ refl) (record { fault = λ s x rest e. rw e refl; short = λ s e. rw e refl }) (c.in_err-bits_per_sample.ensures.gives _)))
+    (stops_after {next = start_after stream f} (consumes_none _ _ refl) (record { fault = λ s x rest e. rw e refl; incomplete = λ s e. rw e refl }) (c.in_err-bits_per_sample.ensures.gives _)))
 
 pub returns-clause-gives : goal.returns-clause-gives
 unfolding start_after

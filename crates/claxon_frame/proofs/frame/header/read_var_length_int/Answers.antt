@@ -1,7 +1,7 @@
 use Rattle.std.proofs.Common.{refl, sym, ◌∙◌, rules}
 use Rattle.claxon_format.specs.Fault.{NumberFirst, fault_text}
 use Rattle.claxon_input.proofs.ByteFields.{consumes_byte}
-use Rattle.claxon_input.proofs.CallsInTurn.{gives_after, consumes_map}
+use Rattle.claxon_input.proofs.ConsecutiveCalls.{gives_after, consumes_map}
 use Rattle.claxon_input.proofs.Faults.{stops_fault}
 use Rattle.claxon_frame.proofs.ContinuationBytes.{one_byte, more_bytes, coded_good, coded_one, coded_bad}
 use Rattle.claxon_frame.proofs.frame.header.read_var_length_int.Goals as goal

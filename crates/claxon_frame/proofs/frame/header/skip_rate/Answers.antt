@@ -4,7 +4,7 @@ use Rattle.claxon_format.specs.read.Bytes.{bytes_at, big_at}
 use Rattle.claxon_format.specs.Reading.{Done}
 use Rattle.claxon_format.specs.read.Header.{rate_at}
 use Rattle.claxon_input.proofs.ByteFields.{consumes_byte, consumes_big}
-use Rattle.claxon_input.proofs.CallsInTurn.{consumes_map, consumes_none}
+use Rattle.claxon_input.proofs.ConsecutiveCalls.{consumes_map, consumes_none}
 use Rattle.claxon_frame.proofs.frame.header.skip_rate.Goals as goal
 use Rattle.claxon_frame.proofs.frame.header.skip_rate.Goals.{in-Known, in-Read8+in_ok-read_u8-in-Read8, in-Read16+in_ok-read_be_u16-in-Read16}
 

@@ -5,7 +5,7 @@ use Rattle.claxon_format.specs.read.Comments.{entry_length_at}
 use Rattle.claxon_metadata.specs.VorbisComment.{entry_or_empty_view}
 use Rattle.claxon_metadata.proofs.CommentEntries.{entries_next, entries_view_more, entries_view_same, length_err, entry_err, end_err, entries_end}
 use Rattle.claxon_metadata.proofs.TagSeparators.{separators_push}
-use Rattle.claxon_input.proofs.CallsInTurn.{consumes_then}
+use Rattle.claxon_input.proofs.ConsecutiveCalls.{consumes_then}
 use Rattle.claxon_input.proofs.Memory.{exit_no_memory, exit_with_memory}
 use Rattle.claxon_metadata.proofs.metadata.comment.read_entries.Goals as goal
 use Rattle.claxon_metadata.proofs.metadata.comment.read_entries.Goals.{in-Some+in_ok-push, in_default, then-loop-missing-test+else-bytes_left-ge4, else-loop-missing-test}

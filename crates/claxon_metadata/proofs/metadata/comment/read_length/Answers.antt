@@ -1,7 +1,7 @@
 use Rattle.std.proofs.Common.{◌≡◌, refl, true, ltb, rules}
 use Rattle.std.proofs.lemmas.Bool.{lt-ltb}
 use Rattle.claxon_input.proofs.ByteFields.{exit_little, consumes_little}
-use Rattle.claxon_input.proofs.CallsInTurn.{consumes_map}
+use Rattle.claxon_input.proofs.ConsecutiveCalls.{consumes_map}
 use Rattle.claxon_input.proofs.Faults.{stops_fault}
 use Rattle.claxon_metadata.proofs.metadata.comment.read_length.Goals as goal
 

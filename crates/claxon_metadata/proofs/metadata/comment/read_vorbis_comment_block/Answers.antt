@@ -3,7 +3,7 @@ use Rattle.std.proofs.lemmas.Grind.{common_steps}
 use Rattle.std.proofs.lemmas.Result.{err_from_is_err_and}
 use Rattle.claxon_format.specs.Fault.{VendorLong, fault_text}
 use Rattle.claxon_format.specs.read.Comments.{vendor_length_at}
-use Rattle.claxon_input.proofs.CallsInTurn.{consumes_then, consumes_map, consumes_none}
+use Rattle.claxon_input.proofs.ConsecutiveCalls.{consumes_then, consumes_map, consumes_none}
 use Rattle.claxon_input.proofs.Memory.{exit_no_memory, exit_with_memory}
 use Rattle.claxon_metadata.specs.VorbisComment.{comment_view}
 use Rattle.claxon_metadata.specs.TagEntries.{entries_view}

@@ -3,7 +3,7 @@ use Rattle.claxon_format.specs.Reading.{Done}
 use Rattle.claxon_format.specs.read.Bits.{rice_code_at}
 use Rattle.claxon_input.specs.Gives.{Consumes}
 use Rattle.claxon_input.specs.State.{bits_in}
-use Rattle.claxon_input.proofs.CallsInTurn.{consumes_then}
+use Rattle.claxon_input.proofs.ConsecutiveCalls.{consumes_then}
 use Rattle.claxon_subframe.proofs.ConsecutiveFields.{consumes_as}
 use Rattle.claxon_subframe.proofs.RiceCodeShifts.{rice_code_is}
 use Rattle.claxon_subframe.proofs.subframe.rice.read_rice_code.Goals as goal

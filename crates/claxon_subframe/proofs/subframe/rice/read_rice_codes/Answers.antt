@@ -1,6 +1,6 @@
 use Rattle.std.proofs.Common.{rules, arith, w32, FitsSigned}
 use Rattle.std.proofs.lemmas.Result.{err_from_is_err_and}
-use Rattle.claxon_input.proofs.CallsInTurn.{exit}
+use Rattle.claxon_input.proofs.ConsecutiveCalls.{exit}
 use Rattle.claxon_input.proofs.FieldLoops.{times_end, times_err}
 use Rattle.claxon_subframe.proofs.BufferedFields.{fields_put, fields_fit, filled_one}
 use Rattle.claxon_subframe.proofs.subframe.rice.read_rice_codes.Goals as goal

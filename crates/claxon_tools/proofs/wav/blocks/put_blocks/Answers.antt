@@ -52,4 +52,4 @@ returns-clause-ok g c =
     let a = frame_bytes g.R.ReadBytes.source c.loop-reader.reader in
     let b = frame_bytes g.R.ReadBytes.source c.read_next_or_eof.new.self in
     let is = c.in_ok-block.was ∙ ap (λ (z : Option BlockValue). Ok z) c.in_default.is in
-    put_all b c.loop-reader.invariant.so_far (eof_met a b is e.at_end)
+    put_all b c.loop-reader.invariant.so_far (eof_met a b is e.none_is_eof)

@@ -47,7 +47,7 @@ failure_or_after {c = c} T h k f = record {
 -- where the first reader stops, so does the second
 pub record StopsWith {X Y Z : Type 0} (first : List X → Reading X Y) (second : List X → Reading X Z) : Type 0 where
   pub fault : (s : List X) (f : Fault) (rest : List X) → first s ≡ Faulty f rest → second s ≡ Faulty f rest
-  pub short : (s : List X) → first s ≡ Incomplete → second s ≡ Incomplete
+  pub incomplete : (s : List X) → first s ≡ Incomplete → second s ≡ Incomplete
 
 fault_of : {X Y Z : Type 0} (e : Error) (x : Reading X Y) (y : Reading X Z) (m : List X) → ((f : Fault) (rest : List X) → x ≡ Faulty f rest → y ≡ Faulty f rest) → IsFaultOf e x m → IsFaultOf e y m
 fault_of e (Faulty f rest) y m g h = rw (g f rest refl) h
@@ -57,7 +57,7 @@ fault_of e Incomplete y m g h = absurd h
 -- an Err after something was consumed
 pub stops_after : {X Y Z : Type 0} {e : Error} {a b c : State X} {read : List X → Reading X Y} {next whole : List X → Reading X Z} → Consumes a b (λ s m. whole s ≡ next m) → StopsWith read next → Stops e read b c → Stops e whole a c
 stops_after {e = e} {b = b} {c = c} {read = read} {next = next} {whole = whole} h w k = record {
-  failure = λ i. failure_or_after (λ s. whole s ≡ Incomplete) h (k.failure i) (λ p q. p ∙ w.short b.remaining q);
+  failure = λ i. failure_or_after (λ s. whole s ≡ Incomplete) h (k.failure i) (λ p q. p ∙ w.incomplete b.remaining q);
   fault = λ i. consumes_then (λ s m. IsFaultOf e (whole s) m) h (k.fault i) (λ p q. rw p (fault_of e (read b.remaining) (next b.remaining) c.remaining (w.fault b.remaining) q));
   named = k.named;
 }
@@ -65,7 +65,7 @@ stops_after {e = e} {b = b} {c = c} {read = read} {next = next} {whole = whole} 
 -- the call that the function ends with
 pub gives_after : {X A Y : Type 0} (view : A → Y) {next whole : List X → Reading X Y} {a b : State X} (r : Result A Error) (c : State X) → Consumes a b (λ s m. whole s ≡ next m) → Gives view r next b c → Gives view r whole a c
 gives_after view (Ok x) c h k = consumes_then _ h k (λ p q. p ∙ q)
-gives_after view (Err e) c h k = stops_after h (record { fault = λ s f rest q. q; short = λ s q. q }) k
+gives_after view (Err e) c h k = stops_after h (record { fault = λ s f rest q. q; incomplete = λ s q. q }) k
 
 -- ---- exits
 
@@ -89,17 +89,17 @@ gives_loans view (Err e) read a b g = stops_loans e read a b (is_io e) refl g
 -- the same under another reader
 pub gives_same : {X A Y : Type 0} (view : A → Y) (r : Result A Error) (read whole : List X → Reading X Y) (a b : State X) → ((s : List X) → whole s ≡ read s) → Gives view r read a b → Gives view r whole a b
 gives_same view (Ok x) read whole a b h g = consumes_map _ g (λ p. h _ ∙ p)
-gives_same view (Err e) read whole a b h g = stops_after (consumes_none a (λ s m. whole s ≡ whole m) refl) (record { fault = λ s f rest p. h s ∙ p; short = λ s p. h s ∙ p }) g
+gives_same view (Err e) read whole a b h g = stops_after (consumes_none a (λ s m. whole s ≡ whole m) refl) (record { fault = λ s f rest p. h s ∙ p; incomplete = λ s p. h s ∙ p }) g
 
 -- where x stops, so does y
 pub record StopsAs {X Y Z : Type 0} (x : Reading X Y) (y : Reading X Z) : Type 0 where
   pub fault : (f : Fault) (rest : List X) → x ≡ Faulty f rest → y ≡ Faulty f rest
-  pub short : x ≡ Incomplete → y ≡ Incomplete
+  pub incomplete : x ≡ Incomplete → y ≡ Incomplete
 
 -- an Err of the last call is the Err of the whole
 pub stops_as : {X Y Z : Type 0} {e : Error} {read : List X → Reading X Y} {whole : List X → Reading X Z} {a b c : State X} → Consumes a b (λ s m. StopsAs (read m) (whole s)) → Stops e read b c → Stops e whole a c
 stops_as {e = e} {read = read} {whole = whole} {a = a} {b = b} {c = c} h k = record {
-  failure = λ i. failure_or_after (λ s. whole s ≡ Incomplete) h (k.failure i) (λ p q. p.short q);
+  failure = λ i. failure_or_after (λ s. whole s ≡ Incomplete) h (k.failure i) (λ p q. p.incomplete q);
   fault = λ i. consumes_then (λ s m. IsFaultOf e (whole s) m) h (k.fault i) (λ p q. fault_of e (read b.remaining) (whole a.remaining) c.remaining p.fault q);
   named = k.named;
 }
