@@ -1,9 +1,9 @@
 -- What clauses say of a `BufferedReader`.
-use Rattle.std.specs.Prelude.{◌≡◌, ℕ, List, [], slice_range, IfOk, OnErr, Result}
+use Rattle.std.specs.Prelude.{◌≡◌, ◌≢◌, ℕ, List, [], slice_range, IfOk, OnErr, Result}
 use Rattle.std.specs.Io.KnownBytes.{prepend_known}
 use Rattle.std.specs.declared.option.Option.{Option}
 use Rattle.claxon_input.specs.declared.error.Error.{Error}
-use Rattle.claxon_input.specs.Source.{Source}
+use Rattle.claxon_input.specs.Source.{Source, MeetsEof, Skips, SourceFailure, Takes}
 use Rattle.claxon_input.specs.declared.input.BufferedReader.{BufferedReader}
 
 -- the buffered bytes that were not consumed yet
@@ -23,6 +23,33 @@ buffered_source remaining r = record {
 -- the wrapped reader
 abbrev pub buffered_inner : {R A : Type 0} → BufferedReader R A → R
 buffered_inner r = r.inner
+
+-- ---- what the calls promise; `old` and `new` are the reader before and after the call
+
+module _ {R A : Type 0} (remaining : R → Option (List ℕ)) (old new : BufferedReader R A) where
+  -- just xs was consumed
+  abbrev pub BufferTakes : List ℕ → Type 0
+  BufferTakes xs = Takes (buffered_source remaining old) (buffered_source remaining new) xs
+
+  -- just count bytes were consumed
+  abbrev pub BufferSkips : ℕ → Type 0
+  BufferSkips count = Skips (buffered_source remaining old) (buffered_source remaining new) count
+
+  -- A byte or more is buffered, and nothing was consumed.
+  abbrev pub IsFilled : Type 0
+  IsFilled = (bytes_in_buffer new ≢ []) × BufferTakes []
+
+  -- Nothing is buffered, and nothing remained.
+  abbrev pub IsAtEof : Type 0
+  IsAtEof =
+      (bytes_in_buffer new ≡ [])
+      × MeetsEof (buffered_source remaining old) (buffered_source remaining new) 1
+
+  -- Nothing is buffered, one read of the source failed, and nothing was consumed.
+  abbrev pub FillFailed : Type 0
+  FillFailed =
+      (bytes_in_buffer new ≡ [])
+      × SourceFailure (buffered_source remaining old) (buffered_source remaining new) 0
 
 -- Nothing was read from the inner reader, and no read failed.
 abbrev pub NothingWasRead : {R A : Type 0} → (R → Option (List ℕ)) → R
