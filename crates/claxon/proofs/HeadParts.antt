@@ -7,7 +7,7 @@ use Rattle.claxon_format.specs.Comments.{Comment}
 use Rattle.claxon_format.specs.Fault.{Fault, SecondComment, SecondStreaminfo, StreaminfoMissing, TooManyBlocks}
 use Rattle.claxon_format.specs.Heads.{Options, Head, is_info, is_some, is_second, is_done, streaminfo_ends_head, found_with, stream_marker}
 use Rattle.claxon_format.specs.read.Heads.{marker_at, others_at, after_first, head_at}
-use Rattle.claxon_format.specs.Reading.{Reading, Done, Faulty, Incomplete, bind, test, pick, done}
+use Rattle.claxon_format.specs.Reading.{Reading, Done, Faulty, Incomplete, bind, test, done}
 use Rattle.claxon_format.specs.Streaminfo.{Streaminfo}
 use Rattle.std.specs.Option as Options
 use Rattle.claxon_input.specs.State.{State}
@@ -96,8 +96,8 @@ other_of found b = (b.is_last, found_with found b.content)
 -- where a block was read that doesn't end the head, the others are read
 tested : (suffices : Bool) (k : ℕ) (found next : Option Comment) (is_last : Bool) (b : Block) (rest m : List ℕ) (p q : Bool)
     → cond p (Faulty SecondStreaminfo rest) (cond q (Faulty SecondComment rest) (Done (other_of found b) rest)) ≡ Done (is_last, next) m
-    → cond p (Faulty SecondStreaminfo rest) (cond q (Faulty SecondComment rest) (pick (is_done suffices found b) (done (found_with found b.content)) (others_at suffices k (found_with found b.content)) rest))
-    ≡ pick (is_last || (suffices && is_some next)) (done next) (others_at suffices k next) m
+    → cond p (Faulty SecondStreaminfo rest) (cond q (Faulty SecondComment rest) (cond (is_done suffices found b) (done (found_with found b.content)) (others_at suffices k (found_with found b.content)) rest))
+    ≡ cond (is_last || (suffices && is_some next)) (done next) (others_at suffices k next) m
 tested suffices k found next is_last b rest m true q e = absurd cc
 tested suffices k found next is_last b rest m false true e = absurd cc
 tested suffices k found next is_last b rest m false false e =
@@ -108,7 +108,7 @@ tested suffices k found next is_last b rest m false false e =
     rw (l, f, r) refl
 
 other_then : (suffices : Bool) (k : ℕ) (found next : Option Comment) (is_last : Bool) (s m : List ℕ) → 0 < k → other_at found s ≡ Done (is_last, next) m
-    → others_at suffices k found s ≡ pick (is_last || (suffices && is_some next)) (done next) (others_at suffices (k - 1) next) m
+    → others_at suffices k found s ≡ cond (is_last || (suffices && is_some next)) (done next) (others_at suffices (k - 1) next) m
 unfolding other_at others_at
 other_then suffices zero found next is_last s m some e = absurd (omega arith)
 other_then suffices (suc k) found next is_last s m some e =
@@ -116,8 +116,8 @@ other_then suffices (suc k) found next is_last s m some e =
     rw o (go (block_at s) e)
   where
     go : (x : Reading ℕ Block) → bind x (λ b. test (is_info b.content) SecondStreaminfo (test (is_second found b.content) SecondComment (done (other_of found b)))) ≡ Done (is_last, next) m
-        → bind x (λ b. test (is_info b.content) SecondStreaminfo (test (is_second found b.content) SecondComment (pick (is_done suffices found b) (done (found_with found b.content)) (others_at suffices k (found_with found b.content)))))
-        ≡ pick (is_last || (suffices && is_some next)) (done next) (others_at suffices k next) m
+        → bind x (λ b. test (is_info b.content) SecondStreaminfo (test (is_second found b.content) SecondComment (cond (is_done suffices found b) (done (found_with found b.content)) (others_at suffices k (found_with found b.content)))))
+        ≡ cond (is_last || (suffices && is_some next)) (done next) (others_at suffices k next) m
     go (Done b rest) h = tested suffices k found next is_last b rest m (is_info b.content) (is_second found b.content) h
     go (Faulty f rest) h = absurd cc
     go Incomplete h = absurd cc
@@ -135,7 +135,7 @@ others_stops suffices (suc k) found s some = go (block_at s)
   where
     go : (x : Reading ℕ Block)
         → StopsAs (bind x (λ b. test (is_info b.content) SecondStreaminfo (test (is_second found b.content) SecondComment (done (other_of found b)))))
-        (bind x (λ b. test (is_info b.content) SecondStreaminfo (test (is_second found b.content) SecondComment (pick (is_done suffices found b) (done (found_with found b.content)) (others_at suffices k (found_with found b.content))))))
+        (bind x (λ b. test (is_info b.content) SecondStreaminfo (test (is_second found b.content) SecondComment (cond (is_done suffices found b) (done (found_with found b.content)) (others_at suffices k (found_with found b.content))))))
     go (Done b rest) = tested_stops suffices k found b rest (is_info b.content) (is_second found b.content) _
     go (Faulty f rest) = record { fault = λ g r e. cc; incomplete = λ e. absurd cc }
     go Incomplete = record { fault = λ g r e. absurd cc; incomplete = λ e. refl }

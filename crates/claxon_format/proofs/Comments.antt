@@ -8,11 +8,11 @@ use Rattle.std.proofs.lemmas.Bool.{lt-leb, eq-eqb, eqb-true, ltb-true, ltb-false
 use Rattle.std.proofs.lemmas.List.{take_at, length-append, append-nil}
 use Rattle.std.proofs.lemmas.Str.{IsUtf8-from_is_utf8, is_utf8-from_IsUtf8}
 use Rattle.claxon_format.specs.Fault.{CommentShort, CommentLarge, VendorLong, VendorNotUtf8, TooManyEntries, EntryLong, SeparatorMissing, NameByte, EntryNotUtf8, ExcessData, EntriesMissing}
-use Rattle.claxon_format.specs.Reading.{Reads, Then, Is, Each, Mapped, choose}
+use Rattle.claxon_format.specs.Reading.{Reads, Then, Is, Each, Mapped}
 use Rattle.claxon_format.specs.Metadata.{Bytes, Little, max_content_bytes}
 use Rattle.claxon_format.specs.Comments.{Entry, is_separator, IsEntry, LengthPrefixed, EntriesOf, entry_of, has_separator, has_name, not_utf8, EntryFault, EntryCode, EntryOrEmpty, EntryOrEmptyFault, EntryLength, EntryLengthFault, EntriesEndFault, EntriesFault, VendorLength, VendorLengthFault, Vendor, VendorFault, Count, CountFault, Comment, CommentCode, CommentFault}
 use Rattle.claxon_format.specs.read.Comments.{entry_at, entry_or_empty_at, entry_length_at, entries_end_at, entries_at, vendor_length_at, vendor_at, count_at, comment_at}
-use Rattle.claxon_format.proofs.Laws.{Reads-then, Reads-same, Reads-test, Reads-done, Reads-map, Reads-pick, Reads-checked}
+use Rattle.claxon_format.proofs.Laws.{Reads-then, Reads-same, Reads-test, Reads-done, Reads-map, Reads-cond, Reads-checked}
 use Rattle.claxon_format.proofs.Metadata.{Reads-bytes, Reads-little, little_length}
 
 -- ---- a text before and after its first '='
@@ -102,14 +102,14 @@ Reads-entry n =
 
 pub Reads-entry_or_empty : (n : ℕ) → Reads ℕ (List Entry) (entry_or_empty_at n) (EntryOrEmpty n) (EntryOrEmptyFault n)
 unfolding entry_or_empty_at
-Reads-entry_or_empty n = Reads-pick (eqb n 0) (λ e. Reads-done (List Entry) []) (λ e. Reads-map (λ e. e ∷ []) (Reads-entry n))
+Reads-entry_or_empty n = Reads-cond (eqb n 0) (λ e. Reads-done (List Entry) []) (λ e. Reads-map (λ e. e ∷ []) (Reads-entry n))
 
 -- ---- entries
 
 entry_or_empty_length : (n : ℕ) (es : List Entry) (t : List ℕ) → EntryOrEmpty n es t → length t ≡ n
 entry_or_empty_length n es t c = go (eqb n 0) refl c
   where
-    go : (b : Bool) → eqb n 0 ≡ b → choose b (Is []) (Mapped (λ e. e ∷ []) (EntryCode n)) es t → length t ≡ n
+    go : (b : Bool) → eqb n 0 ≡ b → cond b (Is []) (Mapped (λ e. e ∷ []) (EntryCode n)) es t → length t ≡ n
     go true e c = ap length c.1 ∙ sym (eqb-true n 0 e)
     go false e c = c.1.0
 
@@ -120,7 +120,7 @@ entries_of_nonempty (y ∷ ys) texts e others nonempty is entry rest = (is, entr
 entries_of_cons : (n : ℕ) (es others : List Entry) (t : List ℕ) (texts : List (List ℕ)) → EntryOrEmpty n es t → EntriesOf texts others → EntriesOf (t ∷ texts) (es ++ others)
 entries_of_cons n es others t texts c rest = go (eqb n 0) refl c
   where
-    go : (b : Bool) → eqb n 0 ≡ b → choose b (Is []) (Mapped (λ e. e ∷ []) (EntryCode n)) es t → EntriesOf (t ∷ texts) (es ++ others)
+    go : (b : Bool) → eqb n 0 ≡ b → cond b (Is []) (Mapped (λ e. e ∷ []) (EntryCode n)) es t → EntriesOf (t ∷ texts) (es ++ others)
     go true e c = rw (c.0, c.1) rest
     go false e c =
         let len = c.1.0 in
@@ -150,7 +150,7 @@ NextTested rest left = Then (EntryLength (left - 4)) (λ n. Then (EntryOrEmpty n
 
 EntriesTested : ℕ → ℕ → List Entry → List ℕ → Type 0
 EntriesTested zero left = EntriesEndTested zero left
-EntriesTested (suc missing) left = choose (ltb left 4) (EntriesEndTested (suc missing) left) (NextTested (EntriesTested missing) left)
+EntriesTested (suc missing) left = cond (ltb left 4) (EntriesEndTested (suc missing) left) (NextTested (EntriesTested missing) left)
 
 -- count texts, with their lengths in left bytes, and the entries that they are
 record Entries (count left : ℕ) (es : List Entry) (t : List ℕ) : Type 0 where
@@ -190,11 +190,11 @@ no_entries_end count left es t c = let k = ltb-false _ _ c.1.0 in omega arith
 entries_to : (count left : ℕ) (es : List Entry) (t : List ℕ) → EntriesTested count left es t → Entries count left es t
 unfolding EntriesTested EntriesEndTested
 entries_to zero left es t c = entries_end_to zero left es t refl c
-entries_to (suc count) left es t c = choose_to (ltb left 4) refl c (entries_to count)
+entries_to (suc count) left es t c = cond_to (ltb left 4) refl c (entries_to count)
   where
-    choose_to : (b : Bool) → ltb left 4 ≡ b → choose b (EntriesEndTested (suc count) left) (NextTested (EntriesTested count) left) es t → ((l : ℕ) (es : List Entry) (t : List ℕ) → EntriesTested count l es t → Entries count l es t) → Entries (suc count) left es t
-    choose_to true e c rest = absurd (no_entries_end count left es t c)
-    choose_to false e c rest = next_to count left es t (ltb-false _ _ e) rest c
+    cond_to : (b : Bool) → ltb left 4 ≡ b → cond b (EntriesEndTested (suc count) left) (NextTested (EntriesTested count) left) es t → ((l : ℕ) (es : List Entry) (t : List ℕ) → EntriesTested count l es t → Entries count l es t) → Entries (suc count) left es t
+    cond_to true e c rest = absurd (no_entries_end count left es t c)
+    cond_to false e c rest = next_to count left es t (ltb-false _ _ e) rest c
 
 -- the length of each text has four bytes
 at_least_4_bytes_each : (texts : List (List ℕ)) (t : List ℕ) → Each LengthPrefixed texts t → 4 * length texts ≤ length t
@@ -236,7 +236,7 @@ Reads-entries : (missing left : ℕ) → Reads ℕ (List Entry) (entries_at miss
 unfolding entries_at EntriesTested NextTested
 Reads-entries zero left = Reads-entries_end zero left
 Reads-entries (suc missing) left =
-    Reads-pick (ltb left 4) (λ e. Reads-entries_end (suc missing) left)
+    Reads-cond (ltb left 4) (λ e. Reads-entries_end (suc missing) left)
     (λ e. Reads-then (Reads-entry_length (left - 4)) (λ n t c. Reads-then (Reads-entry_or_empty n) (λ es u d. Reads-map (λ others. es ++ others) (Reads-entries missing (left - 4 - n)))))
 
 -- ---- the whole

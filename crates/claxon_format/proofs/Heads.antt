@@ -5,14 +5,14 @@ use Rattle.std.specs.List.{list_any}
 use Rattle.std.proofs.lemmas.Bool.{eqb-true}
 use Rattle.std.proofs.lemmas.List.{append-nil}
 use Rattle.claxon_format.specs.Fault.{Id3Header, StreamMarker, StreaminfoMissing, SecondComment, SecondStreaminfo, TooManyBlocks}
-use Rattle.claxon_format.specs.Reading.{Reads, Each, Then, Is, Mapped, choose, done}
+use Rattle.claxon_format.specs.Reading.{Reads, Each, Then, Is, Mapped, done}
 use Rattle.claxon_format.specs.Metadata.{Big}
 use Rattle.claxon_format.specs.Streaminfo.{Streaminfo}
 use Rattle.claxon_format.specs.Comments.{Comment}
 use Rattle.claxon_format.specs.MetadataBlocks.{Content, Info, Padding, Application, Comments, Reserved, MetadataBlock, BlockCode}
 use Rattle.claxon_format.specs.Heads.{Options, Head, is_info, is_comment, stream_marker, Marker, MarkerFault, is_end, EndsAtLast, comment_of, comments_in, first, IsHead, HeadCode, HeadFault, is_some, found_with, is_second, is_done, OthersFault, streaminfo_ends_head, FirstFault}
 use Rattle.claxon_format.specs.read.Heads.{marker_at, others_at, after_first, head_at}
-use Rattle.claxon_format.proofs.Laws.{Reads-then, Reads-same, Reads-test, Reads-done, Reads-map, Reads-pick, Reads-fails}
+use Rattle.claxon_format.proofs.Laws.{Reads-then, Reads-same, Reads-test, Reads-done, Reads-map, Reads-cond, Reads-fails}
 use Rattle.claxon_format.proofs.Metadata.{Reads-big}
 use Rattle.claxon_format.proofs.MetadataBlocks.{Reads-block}
 use Rattle.claxon_format.proofs.Comments.{not_true, or_false}
@@ -42,7 +42,7 @@ Reads-marker =
 
 LaterTested : (Option Comment → Option Comment → List ℕ → Type 0) → Bool → Option Comment → Option Comment → List ℕ → Type 0
 LaterTested rest suffices found =
-    Then BlockCode (λ b r t. (is_info b.content ≡ false) × ((is_second found b.content ≡ false) × choose (is_done suffices found b) (Is (found_with found b.content)) (rest (found_with found b.content)) r t))
+    Then BlockCode (λ b r t. (is_info b.content ≡ false) × ((is_second found b.content ≡ false) × cond (is_done suffices found b) (Is (found_with found b.content)) (rest (found_with found b.content)) r t))
 
 OthersTested : Bool → ℕ → Option Comment → Option Comment → List ℕ → Type 0
 OthersTested suffices zero found r t = ⊥
@@ -53,7 +53,7 @@ unfolding others_at OthersTested LaterTested
 Reads-others suffices zero found = Reads-fails (Option Comment) TooManyBlocks
 Reads-others suffices (suc k) found =
     Reads-then Reads-block (λ b t c. Reads-test (is_info b.content) SecondStreaminfo (λ p. Reads-test (is_second found b.content) SecondComment (λ q.
-    Reads-pick (is_done suffices found b) (λ e. Reads-done (Option Comment) (found_with found b.content)) (λ e. Reads-others suffices k (found_with found b.content)))))
+    Reads-cond (is_done suffices found b) (λ e. Reads-done (Option Comment) (found_with found b.content)) (λ e. Reads-others suffices k (found_with found b.content)))))
 
 -- ---- the comments found so far, and those of a block
 
@@ -169,7 +169,7 @@ others_to o zero found r t w c = absurd c
 others_to o (suc k) found r t w (b, x, u, code, (not_info, (single, tail)), t-is) =
     go (is_done o.metadata_only found b) refl tail (λ v. others_to o k (found_with found b.content) r u v)
   where
-    go : (q : Bool) → is_done o.metadata_only found b ≡ q → choose q (Is (found_with found b.content)) (OthersTested o.metadata_only k (found_with found b.content)) r u
+    go : (q : Bool) → is_done o.metadata_only found b ≡ q → cond q (Is (found_with found b.content)) (OthersTested o.metadata_only k (found_with found b.content)) r u
         → (WantsMore o (found_with found b.content) → OthersTested o.metadata_only k (found_with found b.content) r u → Others o k (found_with found b.content) r u) → Others o (suc k) found r t
     go true e c rest = later_last o k found r t x u b w code not_info single e c.0 c.1 t-is
     go false e c rest = later_more o k found r t x u b w code not_info single e (rest (wants_more_next o found b w e) c) t-is
@@ -196,14 +196,14 @@ others_from o (c ∷ others) (suc k) b found r t w few (x, u, code, each, t-is) 
 -- ---- the whole
 
 FirstTested : Options → Bool → Content → Head → List ℕ → Type 0
-FirstTested o is_last (Info i) h t = Mapped (λ found. record { info = i; comment = cond o.wants_comment found None }) (choose (streaminfo_ends_head o is_last) (Is None) (OthersTested o.metadata_only 65535 None)) h t
+FirstTested o is_last (Info i) h t = Mapped (λ found. record { info = i; comment = cond o.wants_comment found None }) (cond (streaminfo_ends_head o is_last) (Is None) (OthersTested o.metadata_only 65535 None)) h t
 FirstTested o is_last _ h t = ⊥
 
 Reads-first : (o : Options) (is_last : Bool) (c : Content) → Reads ℕ Head (after_first o is_last c) (FirstTested o is_last c) (FirstFault o is_last c)
 unfolding after_first FirstTested
 Reads-first o is_last (Info i) =
     Reads-map (λ found. record { info = i; comment = cond o.wants_comment found None })
-    (Reads-pick (streaminfo_ends_head o is_last) (λ e. Reads-done (Option Comment) None) (λ e. Reads-others o.metadata_only 65535 None))
+    (Reads-cond (streaminfo_ends_head o is_last) (λ e. Reads-done (Option Comment) None) (λ e. Reads-others o.metadata_only 65535 None))
 Reads-first o is_last (Comments c) = Reads-fails Head StreaminfoMissing
 Reads-first o is_last (Padding n) = Reads-fails Head StreaminfoMissing
 Reads-first o is_last (Application id bytes) = Reads-fails Head StreaminfoMissing
@@ -227,7 +227,7 @@ record FirstIs (o : Options) (b : MetadataBlock) (h : Head) (t : List ℕ) : Typ
   info : b.content ≡ Info h.info
   found : Option Comment
   comment : h.comment ≡ cond o.wants_comment found None
-  rest : choose (streaminfo_ends_head o b.is_last) (Is None) (OthersTested o.metadata_only 65535 None) found t
+  rest : cond (streaminfo_ends_head o b.is_last) (Is None) (OthersTested o.metadata_only 65535 None) found t
 
 first_is : (o : Options) (is_last : Bool) (c : Content) (h : Head) (t : List ℕ) → FirstTested o is_last c h t → FirstIs o (record { is_last = is_last; content = c }) h t
 unfolding FirstTested
@@ -267,14 +267,14 @@ head_to o h t (m, x, u, (m-is, marker), (b, y, v, code, tested, u-is), t-is) =
     let f = first_is o b.is_last b.content h v tested in
     go (streaminfo_ends_head o b.is_last) refl f.found f.rest f.info f.comment (t-is ∙ ap (λ (z : List ℕ). x ++ z) u-is)
   where
-    go : (q : Bool) → streaminfo_ends_head o b.is_last ≡ q → (found : Option Comment) → choose q (Is None) (OthersTested o.metadata_only 65535 None) found v → b.content ≡ Info h.info → h.comment ≡ cond o.wants_comment found None → t ≡ x ++ (y ++ v) → HeadCode o h t
+    go : (q : Bool) → streaminfo_ends_head o b.is_last ≡ q → (found : Option Comment) → cond q (Is None) (OthersTested o.metadata_only 65535 None) found v → b.content ≡ Info h.info → h.comment ≡ cond o.wants_comment found None → t ≡ x ++ (y ++ v) → HeadCode o h t
     go true e found c info shown joined = (b, [], x, y, v, subst (λ (q : ℕ). Big 4 q x) m-is marker, code, c.1, streaminfo_only o h b found e info shown c.0, joined)
     go false e found c info shown joined =
         let r = others_to o 65535 None found v (wants_more_first o b.is_last e) c in
         (b, r.next ∷ r.others, x, y, v, subst (λ (q : ℕ). Big 4 q x) m-is marker, code, r.each, head_with_blocks o h b found v e info shown r, joined)
 
 first_from : (o : Options) (is_last : Bool) (c : Content) (h : Head) (found : Option Comment) (t : List ℕ) → c ≡ Info h.info → h.comment ≡ cond o.wants_comment found None
-    → choose (streaminfo_ends_head o is_last) (Is None) (OthersTested o.metadata_only 65535 None) found t → FirstTested o is_last c h t
+    → cond (streaminfo_ends_head o is_last) (Is None) (OthersTested o.metadata_only 65535 None) found t → FirstTested o is_last c h t
 unfolding FirstTested
 first_from o is_last c h found t info shown rest = rw info (found, rest, ap (λ (z : Option Comment). record { info = h.info; comment = z }) shown)
 

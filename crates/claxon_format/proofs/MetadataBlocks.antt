@@ -1,15 +1,15 @@
 -- Metadata blocks, and their readers.
-use Rattle.std.proofs.Common.{◌≡◌, ℕ, ◌+◌, ◌-◌, ◌≤◌, Bool, true, false, not, eqb, ltb, List, ◌++◌, length, refl, ap, ◌∙◌, arith}
+use Rattle.std.proofs.Common.{◌≡◌, ℕ, ◌+◌, ◌-◌, ◌≤◌, Bool, true, false, cond, not, eqb, ltb, List, ◌++◌, length, refl, ap, ◌∙◌, arith}
 use Rattle.std.proofs.lemmas.Bool.{ltb-false, le-ltb, eqb-true, eq-eqb}
 use Rattle.std.proofs.lemmas.List.{length-append}
 use Rattle.claxon_format.specs.Fault.{StreaminfoLength, BlockType, ApplicationShort, ApplicationLarge}
-use Rattle.claxon_format.specs.Reading.{Reads, and_then, done, test, Then, MeetsOr, Never, Mapped, choose}
+use Rattle.claxon_format.specs.Reading.{Reads, and_then, done, test, Then, MeetsOr, Never, Mapped}
 use Rattle.claxon_format.specs.Metadata.{Bytes, Big, max_content_bytes, BlockHeaderCode}
 use Rattle.claxon_format.specs.read.Bytes.{bytes_at}
 use Rattle.claxon_format.specs.Streaminfo.{Streaminfo, StreaminfoCode, StreaminfoFault}
 use Rattle.claxon_format.specs.MetadataBlocks.{Content, Info, Application, Comments, InfoBody, ApplicationBody, skipped, Body, ApplicationFault, BodyFault, MetadataBlock, BlockCode, BlockFault}
 use Rattle.claxon_format.specs.read.MetadataBlocks.{info_body_at, application_at, body_at, block_at}
-use Rattle.claxon_format.proofs.Laws.{Reads-then, Reads-same, Reads-test, Reads-map, Reads-pick}
+use Rattle.claxon_format.proofs.Laws.{Reads-then, Reads-same, Reads-test, Reads-map, Reads-cond}
 use Rattle.claxon_format.proofs.Metadata.{Reads-bytes, Reads-big, big_length, Reads-block_header, no_fault_after}
 use Rattle.claxon_format.proofs.Streaminfos.{Reads-streaminfo}
 use Rattle.claxon_format.proofs.Comments.{Reads-comment, not_true, not_false}
@@ -51,19 +51,19 @@ Reads-application n =
     Reads-same (Reads-then (Reads-big 4) (λ id t c. Reads-map (λ bytes. Application id bytes) (Reads-bytes (n - 4)))) (λ b t c. c) (λ b t c. c) (no_fault_after (Big 4)) (λ f t c. absurd c))))
     (application_to n) (application_from n) (λ f t c. c) (λ f t c. c)
 
-Reads-skipped : (type n : ℕ) → Reads ℕ Content (test (eqb type 127) BlockType (and_then (bytes_at n) (λ bytes. done (skipped type n)))) (choose (eqb type 127) (λ b t. ⊥) (Mapped (λ bytes. skipped type n) (Bytes n))) (MeetsOr (eqb type 127) BlockType Never)
+Reads-skipped : (type n : ℕ) → Reads ℕ Content (test (eqb type 127) BlockType (and_then (bytes_at n) (λ bytes. done (skipped type n)))) (cond (eqb type 127) (λ b t. ⊥) (Mapped (λ bytes. skipped type n) (Bytes n))) (MeetsOr (eqb type 127) BlockType Never)
 Reads-skipped type n =
     Reads-same (Reads-test (eqb type 127) BlockType (λ e. Reads-map (λ bytes. skipped type n) (Reads-bytes n)))
     (λ b t c. rw c.0 c.1) (λ b t c. type_allowed (eqb type 127) b t c) (λ f t c. c) (λ f t c. c)
   where
-    type_allowed : (q : Bool) (b : Content) (t : List ℕ) → choose q (λ b t. ⊥) (Mapped (λ bytes. skipped type n) (Bytes n)) b t → (q ≡ false) × Mapped (λ bytes. skipped type n) (Bytes n) b t
+    type_allowed : (q : Bool) (b : Content) (t : List ℕ) → cond q (λ b t. ⊥) (Mapped (λ bytes. skipped type n) (Bytes n)) b t → (q ≡ false) × Mapped (λ bytes. skipped type n) (Bytes n) b t
     type_allowed true b t c = absurd c
     type_allowed false b t c = (refl, c)
 
 pub Reads-body : (type n : ℕ) → Reads ℕ Content (body_at type n) (Body type n) (BodyFault type n)
 unfolding body_at
 Reads-body type n =
-    Reads-pick (eqb type 0) (λ e. Reads-info n) (λ e. Reads-pick (eqb type 2) (λ e. Reads-application n) (λ e. Reads-pick (eqb type 4) (λ e. Reads-map Comments (Reads-comment n)) (λ e. Reads-skipped type n)))
+    Reads-cond (eqb type 0) (λ e. Reads-info n) (λ e. Reads-cond (eqb type 2) (λ e. Reads-application n) (λ e. Reads-cond (eqb type 4) (λ e. Reads-map Comments (Reads-comment n)) (λ e. Reads-skipped type n)))
 
 -- ---- blocks
 

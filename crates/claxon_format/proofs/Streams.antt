@@ -3,7 +3,7 @@ use Rattle.std.proofs.Common.{◌≡◌, ℕ, zero, suc, ◌+◌, ◌*◌, ◌<�
 use Rattle.std.specs.Prelude.{get_or, Some}
 use Rattle.std.specs.List.{flat_map, range_with_len}
 use Rattle.std.proofs.lemmas.List.{append_cancel_left, length-append, length-map}
-use Rattle.claxon_format.specs.Reading.{Mapped, choose}
+use Rattle.claxon_format.specs.Reading.{Mapped}
 use Rattle.claxon_format.specs.Metadata.{Bytes}
 use Rattle.claxon_format.specs.Streaminfo.{Streaminfo, StreaminfoCode}
 use Rattle.claxon_format.specs.Comments.{CommentCode}
@@ -75,7 +75,7 @@ not_skipped false n i e = cc
 info_body : (type n : ℕ) (i : Streaminfo) (t : List ℕ) → Body type n (Info i) t → StreaminfoCode i t
 info_body type n i t c = go (eqb type 0) (eqb type 2) (eqb type 4) (eqb type 127) c
   where
-    go : (p q r s : Bool) → choose p (InfoBody n) (choose q (ApplicationBody n) (choose r (Mapped Comments (CommentCode n)) (choose s (λ b t. ⊥) (Mapped (λ bytes. skipped type n) (Bytes n))))) (Info i) t → StreaminfoCode i t
+    go : (p q r s : Bool) → cond p (InfoBody n) (cond q (ApplicationBody n) (cond r (Mapped Comments (CommentCode n)) (cond s (λ b t. ⊥) (Mapped (λ bytes. skipped type n) (Bytes n))))) (Info i) t → StreaminfoCode i t
     go true q r s c = let e : i ≡ c.1.0 = (let k = c.1.2 in cc) in subst (λ (z : Streaminfo). StreaminfoCode z t) (sym e) c.1.1
     go false true r s c = absurd (let k = c.6 in cc)
     go false false true s c = absurd (let k = c.2 in cc)

@@ -1,9 +1,9 @@
 -- The content of a Vorbis comment block (RFC 9639, section 8.6).
-use Rattle.std.specs.Prelude.{◌≡◌, ℕ, zero, suc, ◌-◌, ◌/◌, ◌≤◌, Bool, true, false, not, ◌==◌, ◌&&◌, nat_lt, nat_le, List, [], ◌∷◌, ◌++◌, length, IsUtf8}
+use Rattle.std.specs.Prelude.{◌≡◌, ℕ, zero, suc, ◌-◌, ◌/◌, ◌≤◌, Bool, true, false, cond, not, ◌==◌, ◌&&◌, nat_lt, nat_le, List, [], ◌∷◌, ◌++◌, length, IsUtf8}
 use Rattle.std.specs.List.{list_all, list_any, position_or_len, before_first}
 use Rattle.std.specs.Str.{is_utf8}
 use Rattle.claxon_format.specs.Fault.{Fault, CommentShort, CommentLarge, VendorLong, VendorNotUtf8, TooManyEntries, EntryLong, SeparatorMissing, NameByte, EntryNotUtf8, ExcessData, EntriesMissing}
-use Rattle.claxon_format.specs.Reading.{Each, ThenFault, MeetsOr, Never, Is, Mapped, choose, Checked, CheckedFault}
+use Rattle.claxon_format.specs.Reading.{Each, ThenFault, MeetsOr, Never, Is, Mapped, Checked, CheckedFault}
 use Rattle.claxon_format.specs.Metadata.{Bytes, Little, max_content_bytes}
 
 -- an entry: its text, and the position of its first '='
@@ -76,11 +76,11 @@ EntryCode n e t = (length t ≡ n) × (e.text ≡ t) × IsEntry e
 
 -- a text of n bytes and its entries: none if it is empty, or else one
 abbrev pub EntryOrEmpty : ℕ → List Entry → List ℕ → Type 0
-EntryOrEmpty n = choose (n == 0) (Is []) (Mapped (λ e. e ∷ []) (EntryCode n))
+EntryOrEmpty n = cond (n == 0) (Is []) (Mapped (λ e. e ∷ []) (EntryCode n))
 
 -- an empty text has no fault
 abbrev pub EntryOrEmptyFault : ℕ → Fault → List ℕ → Type 0
-EntryOrEmptyFault n = choose (n == 0) Never (EntryFault n)
+EntryOrEmptyFault n = cond (n == 0) Never (EntryFault n)
 
 -- the length of an entry: at most the bytes that are left
 abbrev pub EntryLength : ℕ → ℕ → List ℕ → Type 0
@@ -121,7 +121,7 @@ EntriesEndFault missing left = MeetsOr (nat_lt 0 left) ExcessData (MeetsOr (nat_
 -- the faults of the missing texts in the bytes that are left
 abbrev pub EntriesFault : ℕ → ℕ → Fault → List ℕ → Type 0
 EntriesFault zero left = EntriesEndFault zero left
-EntriesFault (suc missing) left = choose (nat_lt left 4) (EntriesEndFault (suc missing) left) (
+EntriesFault (suc missing) left = cond (nat_lt left 4) (EntriesEndFault (suc missing) left) (
     ThenFault (EntryLength (left - 4)) (EntryLengthFault (left - 4)) (λ n. ThenFault (EntryOrEmpty n) (EntryOrEmptyFault n) (λ entries. EntriesFault missing (left - 4 - n))))
 
 -- the faults of the fields, in order

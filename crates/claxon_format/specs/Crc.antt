@@ -1,5 +1,5 @@
 -- Division of polynomials over two elements, CRCs (RFC 9639, sections 9.1.8 and 9.3), and padding.
-use Rattle.std.specs.Prelude.{◌≡◌, ℕ, ◌+◌, ◌-◌, ◌*◌, ◌%◌, ◌^◌, ◌==◌, not, Bool, false, nat_lt, if◌then◌else◌, bit_xor, [], ◌∷◌, ◌++◌, length, replicate, cond}
+use Rattle.std.specs.Prelude.{◌≡◌, ℕ, ◌+◌, ◌-◌, ◌*◌, ◌%◌, ◌^◌, ◌==◌, not, Bool, false, nat_lt, bit_xor, [], ◌∷◌, ◌++◌, length, replicate, cond}
 use Rattle.claxon_format.specs.Fault.{Fault}
 use Rattle.claxon_format.specs.Bits.{Bits, bits, Number}
 use Rattle.claxon_format.specs.Reading.{ThenFault, ThenWithFault, MeetsOr, Never}
@@ -10,7 +10,7 @@ bit b = cond b 1 0
 
 -- one step of long division: the next bit is appended to the remainder, and the polynomial is subtracted where it fits
 unfoldable pub divide_step : ℕ → ℕ → ℕ → Bool → ℕ
-divide_step degree poly r b = if nat_lt (r * 2 + bit b) (2 ^ degree) then r * 2 + bit b else bit_xor (r * 2 + bit b) poly
+divide_step degree poly r b = cond (nat_lt (r * 2 + bit b) (2 ^ degree)) (r * 2 + bit b) (bit_xor (r * 2 + bit b) poly)
 
 -- the remainder after more bits
 unfoldable pub divide : ℕ → ℕ → ℕ → Bits → ℕ

@@ -2,7 +2,7 @@
 use Rattle.std.specs.Prelude.{◌≡◌, ℕ, zero, suc, ◌/◌, ◌<◌, ◌≤◌, Bool, true, false, cond, not, ◌==◌, ◌&&◌, ◌||◌, List, [], ◌∷◌, ◌++◌, length, Option, Some, None}
 use Rattle.std.specs.List.{list_any}
 use Rattle.claxon_format.specs.Fault.{Fault, Id3Header, StreamMarker, StreaminfoMissing, SecondComment, SecondStreaminfo, TooManyBlocks}
-use Rattle.claxon_format.specs.Reading.{Each, ThenFault, MeetsOr, Met, Never, choose}
+use Rattle.claxon_format.specs.Reading.{Each, ThenFault, MeetsOr, Met, Never}
 use Rattle.claxon_format.specs.Metadata.{Big}
 use Rattle.claxon_format.specs.Streaminfo.{Streaminfo}
 use Rattle.claxon_format.specs.Comments.{Comment}
@@ -106,7 +106,7 @@ abbrev pub OthersFault : Bool → ℕ → Option Comment → Fault → List ℕ 
 OthersFault suffices zero found = Met TooManyBlocks
 OthersFault suffices (suc k) found =
     ThenFault BlockCode BlockFault (λ b. MeetsOr (is_info b.content) SecondStreaminfo (MeetsOr (is_second found b.content) SecondComment (
-    choose (is_done suffices found b) Never (OthersFault suffices k (found_with found b.content)))))
+    cond (is_done suffices found b) Never (OthersFault suffices k (found_with found b.content)))))
 
 -- no block is read after the streaminfo
 abbrev pub streaminfo_ends_head : Options → Bool → Bool
@@ -114,7 +114,7 @@ streaminfo_ends_head o is_last = is_last || (o.metadata_only && not o.wants_comm
 
 -- the first block must be a streaminfo; then the faults of the others
 abbrev pub FirstFault : Options → Bool → Content → Fault → List ℕ → Type 0
-FirstFault o is_last (Info i) = choose (streaminfo_ends_head o is_last) Never (OthersFault o.metadata_only 65535 None)
+FirstFault o is_last (Info i) = cond (streaminfo_ends_head o is_last) Never (OthersFault o.metadata_only 65535 None)
 FirstFault o is_last _ = Met StreaminfoMissing
 
 -- an ID3 tag begins with 49 44 33

@@ -1,7 +1,7 @@
 -- Metadata blocks (RFC 9639, section 8).
 use Rattle.std.specs.Prelude.{◌≡◌, ℕ, ◌≤◌, Bool, cond, not, ◌==◌, ◌||◌, nat_lt, List, ◌++◌, length}
 use Rattle.claxon_format.specs.Fault.{Fault, StreaminfoLength, BlockType, ApplicationShort, ApplicationLarge}
-use Rattle.claxon_format.specs.Reading.{ThenFault, MeetsOr, Never, Mapped, choose}
+use Rattle.claxon_format.specs.Reading.{ThenFault, MeetsOr, Never, Mapped}
 use Rattle.claxon_format.specs.Metadata.{Bytes, Big, max_content_bytes, BlockHeader, BlockHeaderCode}
 use Rattle.claxon_format.specs.Streaminfo.{Streaminfo, StreaminfoCode, StreaminfoFault}
 use Rattle.claxon_format.specs.Comments.{Comment, CommentCode, CommentFault}
@@ -35,8 +35,8 @@ skipped type n = cond (is_padding type) (Padding n) Reserved
 -- types 0, 2 and 4 are read, type 127 is forbidden, and any other is skipped
 abbrev pub Body : ℕ → ℕ → Content → List ℕ → Type 0
 Body type n =
-    choose (type == 0) (InfoBody n) (choose (type == 2) (ApplicationBody n) (choose (type == 4) (Mapped Comments (CommentCode n)) (
-    choose (type == 127) (λ b t. ⊥) (Mapped (λ bytes. skipped type n) (Bytes n)))))
+    cond (type == 0) (InfoBody n) (cond (type == 2) (ApplicationBody n) (cond (type == 4) (Mapped Comments (CommentCode n)) (
+    cond (type == 127) (λ b t. ⊥) (Mapped (λ bytes. skipped type n) (Bytes n)))))
 
 -- the length is checked first
 abbrev pub ApplicationFault : ℕ → Fault → List ℕ → Type 0
@@ -45,7 +45,7 @@ ApplicationFault n = MeetsOr (nat_lt n 4) ApplicationShort (MeetsOr (nat_lt max_
 -- the faults of the type and the length, and then those of the content
 abbrev pub BodyFault : ℕ → ℕ → Fault → List ℕ → Type 0
 BodyFault type n =
-    choose (type == 0) (MeetsOr (not (n == 34)) StreaminfoLength StreaminfoFault) (choose (type == 2) (ApplicationFault n) (choose (type == 4) (CommentFault n) (
+    cond (type == 0) (MeetsOr (not (n == 34)) StreaminfoLength StreaminfoFault) (cond (type == 2) (ApplicationFault n) (cond (type == 4) (CommentFault n) (
     MeetsOr (type == 127) BlockType Never)))
 
 -- ---- a block with its header

@@ -1,13 +1,13 @@
 -- A channel from the samples of its subframe, before wasted bits are appended.
-use Rattle.std.proofs.Common.{◌≡◌, ℕ, zero, suc, ◌-◌, ◌<◌, ◌≤◌, Bool, true, false, eqb, ltb, List, [], ◌∷◌, map, replicate, refl, ap, ◌∙◌, arith, ℤ, pos, ◌*ℤ◌, w32, FitsSigned}
+use Rattle.std.proofs.Common.{◌≡◌, ℕ, zero, suc, ◌-◌, ◌<◌, ◌≤◌, Bool, true, false, cond, eqb, ltb, List, [], ◌∷◌, map, replicate, refl, ap, ◌∙◌, arith, ℤ, pos, ◌*ℤ◌, w32, FitsSigned}
 use Rattle.std.proofs.lemmas.Bool.{ltb-true, lt-ltb}
 use Rattle.std.proofs.lemmas.Int.{ints, int_wrap_fits}
 use Rattle.claxon_format.specs.Bits.{Bits, Signed}
 use Rattle.claxon_format.specs.Predict.{wrap}
-use Rattle.claxon_format.specs.Reading.{Done, Mapped, choose}
+use Rattle.claxon_format.specs.Reading.{Done, Mapped}
 use Rattle.claxon_format.specs.read.Subframe.{subframe_body_at, SubframeFields, subframe_header_at, subframe_at}
 use Rattle.claxon_format.specs.Subframe.{AllFit, Samples, Fixed, Linear, scaled}
-use Rattle.claxon_format.proofs.Laws.{Reads-map, Reads-pick}
+use Rattle.claxon_format.proofs.Laws.{Reads-map, Reads-cond}
 use Rattle.claxon_format.proofs.Predicted.{fit_each, signed_fits, Reads-fixed, Reads-linear}
 use Rattle.claxon_format.proofs.Residuals.{Reads-times}
 use Rattle.claxon_format.proofs.SignedIntegers.{Reads-signed}
@@ -20,7 +20,7 @@ replicate_fits zero x h = tt
 replicate_fits (suc n) x h = (h, replicate_fits n x h)
 
 type_fits : (w n fixed linear : ℕ) (a b c : Bool) (u : List ℤ) (t : Bits) → 0 < w → w ≤ 32
-    → choose a (Mapped (λ x. replicate n x) (Signed w)) (choose b (Samples w n) (choose c (Fixed w n fixed) (Linear w n linear))) u t → AllFit u
+    → cond a (Mapped (λ x. replicate n x) (Signed w)) (cond b (Samples w n) (cond c (Fixed w n fixed) (Linear w n linear))) u t → AllFit u
 type_fits w n fixed linear true b c u t some most k = rw k.2 (replicate_fits n k.0 (signed_fits w k.0 t some most k.1))
 type_fits w n fixed linear false true c u t some most k = fit_each (Signed w) u t (λ e v d. signed_fits w e v some most d) k.1
 type_fits w n fixed linear false false true u t some most k = k.4
@@ -30,7 +30,7 @@ type_fits w n fixed linear false false false u t some most k = k.8
 samples_fit : (w n type : ℕ) (s m : Bits) (u : List ℤ) → 0 < w → w ≤ 32 → subframe_body_at w n type s ≡ Done u m → AllFit u
 unfolding subframe_body_at
 samples_fit w n type s m u some most e =
-    let law = Reads-pick (eqb type 0) (λ e. Reads-map (λ x. replicate n x) (Reads-signed w some)) (λ f. Reads-pick (eqb type 1) (λ e. Reads-times n (Reads-signed w some)) (λ f. Reads-pick (ltb type 13)
+    let law = Reads-cond (eqb type 0) (λ e. Reads-map (λ x. replicate n x) (Reads-signed w some)) (λ f. Reads-cond (eqb type 1) (λ e. Reads-times n (Reads-signed w some)) (λ f. Reads-cond (ltb type 13)
     (λ low. Reads-fixed w n (type - 8) some most (let k : type < 13 = ltb-true _ _ low in omega arith)) (λ high. Reads-linear w n (type - 31) some most))) in
     let t = law.takes s u m e in
     type_fits w n (type - 8) (type - 31) (eqb type 0) (eqb type 1) (ltb type 13) u t.0 some most t.1

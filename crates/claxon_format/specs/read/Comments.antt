@@ -1,7 +1,7 @@
 -- Readers of the content of a Vorbis comment block and of its fields (RFC 9639, section 8.6).
-use Rattle.std.specs.Prelude.{ℕ, zero, suc, ◌-◌, ◌/◌, not, ◌==◌, nat_lt, nat_le, List, [], ◌∷◌, ◌++◌}
+use Rattle.std.specs.Prelude.{ℕ, zero, suc, ◌-◌, ◌/◌, cond, not, ◌==◌, nat_lt, nat_le, List, [], ◌∷◌, ◌++◌}
 use Rattle.claxon_format.specs.Fault.{CommentShort, CommentLarge, VendorLong, VendorNotUtf8, TooManyEntries, EntryLong, SeparatorMissing, NameByte, EntryNotUtf8, ExcessData, EntriesMissing}
-use Rattle.claxon_format.specs.Reading.{Reading, pick, and_then, done, test, checked_at}
+use Rattle.claxon_format.specs.Reading.{Reading, and_then, done, test, checked_at}
 use Rattle.claxon_format.specs.Metadata.{max_content_bytes}
 use Rattle.claxon_format.specs.read.Bytes.{bytes_at, little_at}
 use Rattle.claxon_format.specs.Comments.{Entry, Comment, entry_of, has_separator, has_name, not_utf8}
@@ -11,7 +11,7 @@ entry_at n = and_then (bytes_at n) (λ text. test (not (has_separator text)) Sep
 
 -- an empty text has no entry
 unfoldable pub entry_or_empty_at : ℕ → List ℕ → Reading ℕ (List Entry)
-entry_or_empty_at n = pick (n == 0) (done []) (and_then (entry_at n) (λ e. done (e ∷ [])))
+entry_or_empty_at n = cond (n == 0) (done []) (and_then (entry_at n) (λ e. done (e ∷ [])))
 
 unfoldable pub entry_length_at : ℕ → List ℕ → Reading ℕ ℕ
 entry_length_at most = checked_at (nat_lt most) EntryLong (little_at 4)
@@ -23,7 +23,7 @@ entries_end_at missing left = test (nat_lt 0 left) ExcessData (test (nat_lt 0 mi
 -- the missing texts in the bytes that are left
 unfoldable pub entries_at : ℕ → ℕ → List ℕ → Reading ℕ (List Entry)
 entries_at zero left = entries_end_at zero left
-entries_at (suc missing) left = pick (nat_lt left 4) (entries_end_at (suc missing) left) (
+entries_at (suc missing) left = cond (nat_lt left 4) (entries_end_at (suc missing) left) (
     and_then (entry_length_at (left - 4)) (λ n. and_then (entry_or_empty_at n) (λ entries. and_then (entries_at missing (left - 4 - n)) (λ others. done (entries ++ others)))))
 
 unfoldable pub vendor_length_at : ℕ → List ℕ → Reading ℕ ℕ

@@ -1,7 +1,7 @@
 -- Readers of metadata blocks and of their content (RFC 9639, section 8).
-use Rattle.std.specs.Prelude.{ℕ, ◌-◌, not, ◌==◌, nat_lt, List}
+use Rattle.std.specs.Prelude.{ℕ, ◌-◌, cond, not, ◌==◌, nat_lt, List}
 use Rattle.claxon_format.specs.Fault.{StreaminfoLength, BlockType, ApplicationShort, ApplicationLarge}
-use Rattle.claxon_format.specs.Reading.{Reading, pick, and_then, done, test}
+use Rattle.claxon_format.specs.Reading.{Reading, and_then, done, test}
 use Rattle.claxon_format.specs.Metadata.{max_content_bytes}
 use Rattle.claxon_format.specs.read.Bytes.{bytes_at, big_at}
 use Rattle.claxon_format.specs.read.Metadata.{block_header_at}
@@ -21,7 +21,7 @@ application_at n = test (nat_lt n 4) ApplicationShort (test (nat_lt max_content_
 -- the content of a block of this type and length
 unfoldable pub body_at : ℕ → ℕ → List ℕ → Reading ℕ Content
 body_at type n =
-    pick (type == 0) (and_then (info_body_at n) (λ i. done (Info i))) (pick (type == 2) (application_at n) (pick (type == 4) (and_then (comment_at n) (λ c. done (Comments c))) (
+    cond (type == 0) (and_then (info_body_at n) (λ i. done (Info i))) (cond (type == 2) (application_at n) (cond (type == 4) (and_then (comment_at n) (λ c. done (Comments c))) (
     test (type == 127) BlockType (and_then (bytes_at n) (λ bytes. done (skipped type n))))))
 
 unfoldable pub block_at : List ℕ → Reading ℕ MetadataBlock

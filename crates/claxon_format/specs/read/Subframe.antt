@@ -1,9 +1,9 @@
 -- Readers of a subframe and of its parts (RFC 9639, sections 9.2.1 to 9.2.6).
-use Rattle.std.specs.Prelude.{ℕ, suc, ◌+◌, ◌-◌, Bool, ◌==◌, not, nat_lt, List, ◌++◌, ℤ, replicate, reverse, map}
+use Rattle.std.specs.Prelude.{ℕ, suc, ◌+◌, ◌-◌, Bool, cond, ◌==◌, not, nat_lt, List, ◌++◌, ℤ, replicate, reverse, map}
 use Rattle.claxon_format.specs.Bits.{Bits}
 use Rattle.claxon_format.specs.Fault.{SubframePadding, SubframeTypeReserved, WastedBitsLarge, NoBitsLeft, FixedOrder, LinearOrder, PrecisionInvalid, ShiftNegative}
 use Rattle.claxon_format.specs.Predict.{restore, fixed, linear}
-use Rattle.claxon_format.specs.Reading.{Reading, and_then, done, times_at, test, checked_at, pick}
+use Rattle.claxon_format.specs.Reading.{Reading, and_then, done, times_at, test, checked_at}
 use Rattle.claxon_format.specs.Subframe.{reserved, scaled}
 use Rattle.claxon_format.specs.read.Bits.{bit_at, number_at, signed_at, unary_at}
 use Rattle.claxon_format.specs.read.Residual.{residual_at}
@@ -18,7 +18,7 @@ unfoldable pub type_at : Bits → Reading Bool ℕ
 type_at = and_then bit_at (λ b. test b SubframePadding (checked_at reserved SubframeTypeReserved (number_at 6)))
 
 unfoldable pub wasted_bits_at : Bits → Reading Bool ℕ
-wasted_bits_at = and_then bit_at (λ b. pick b (and_then unary_at (λ q. done (suc q))) (done 0))
+wasted_bits_at = and_then bit_at (λ b. cond b (and_then unary_at (λ q. done (suc q))) (done 0))
 
 -- at most 31 wasted bits
 unfoldable pub wasted_bits_to_31_at : Bits → Reading Bool ℕ
@@ -47,7 +47,7 @@ linear_at w n order = test (nat_lt n order) LinearOrder (and_then (times_at orde
 
 -- n samples of w bits, of this subframe type
 unfoldable pub subframe_body_at : ℕ → ℕ → ℕ → Bits → Reading Bool (List ℤ)
-subframe_body_at w n type = pick (type == 0) (and_then (signed_at w) (λ x. done (replicate n x))) (pick (type == 1) (times_at n (signed_at w)) (pick (nat_lt type 13) (fixed_at w n (type - 8)) (linear_at w n (type - 31))))
+subframe_body_at w n type = cond (type == 0) (and_then (signed_at w) (λ x. done (replicate n x))) (cond (type == 1) (times_at n (signed_at w)) (cond (nat_lt type 13) (fixed_at w n (type - 8)) (linear_at w n (type - 31))))
 
 -- n samples of w bits
 unfoldable pub subframe_at : ℕ → ℕ → Bits → Reading Bool (List ℤ)
