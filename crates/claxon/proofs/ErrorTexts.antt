@@ -5,7 +5,7 @@ use Rattle.std.specs.Cmp.Lexicographic.{pointwise, same_text}
 use Rattle.std.proofs.lemmas.Bool.{not-true}
 use Rattle.std.proofs.lemmas.List.Folds.{Any-from_list_any}
 use Rattle.claxon_format.specs.Fault.{Fault, fault_text, faults, is_unsupported}
-use Rattle.claxon_format.specs.Reading.{Reading}
+use Rattle.claxon_format.specs.read.Reading.{Reading}
 use Rattle.claxon_input.specs.declared.error.Error.{Error}
 use Rattle.claxon_input.specs.declared.error.Error.TheVariants.{IoError, FormatError, Unsupported, OutOfMemory}
 use Rattle.claxon_input.specs.Error.{IsFault, is_io, is_named}

@@ -6,7 +6,8 @@ use Rattle.claxon_format.specs.Fault.{Fault, SecondComment, SecondStreaminfo}
 use Rattle.claxon_format.specs.Heads.{found_with, is_info, is_second, stream_marker}
 use Rattle.claxon_format.specs.Metadata.{BlockHeader, BlockHeaderCode}
 use Rattle.claxon_format.specs.MetadataBlocks.{BlockCode, MetadataBlock}
-use Rattle.claxon_format.specs.Reading.{Done, Each, Faulty, Reading, Incomplete, bind, done, test}
+use Rattle.claxon_format.specs.read.Reading.{Done, Faulty, Reading, Incomplete, bind, done, test}
+use Rattle.claxon_format.specs.Codes.{Each}
 use Rattle.claxon_format.specs.read.Heads.{marker_at}
 use Rattle.claxon_format.specs.read.MetadataBlocks.{block_at}
 use Rattle.claxon_format.proofs.Heads.{Reads-marker}

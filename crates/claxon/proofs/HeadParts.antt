@@ -7,7 +7,7 @@ use Rattle.claxon_format.specs.Comments.{Comment}
 use Rattle.claxon_format.specs.Fault.{Fault, SecondComment, SecondStreaminfo, StreaminfoMissing, TooManyBlocks}
 use Rattle.claxon_format.specs.Heads.{Options, Head, is_info, is_some, is_second, is_done, streaminfo_ends_head, found_with, stream_marker}
 use Rattle.claxon_format.specs.read.Heads.{marker_at, others_at, after_first, head_at}
-use Rattle.claxon_format.specs.Reading.{Reading, Done, Faulty, Incomplete, bind, test, done}
+use Rattle.claxon_format.specs.read.Reading.{Reading, Done, Faulty, Incomplete, bind, test, done}
 use Rattle.claxon_format.specs.Streaminfo.{Streaminfo}
 use Rattle.std.specs.Option as Options
 use Rattle.claxon_input.specs.State.{State}

@@ -8,7 +8,7 @@ use Rattle.claxon_format.specs.Fault.{Fault}
 use Rattle.claxon_format.specs.Frame.{StreamFormat, Block, Frame, FrameBytesFault, Frames, NoFrameLeft, IsWidth, known_width}
 use Rattle.claxon_format.specs.Crc.{crc16}
 use Rattle.claxon_format.specs.Heads.{HeadCode}
-use Rattle.claxon_format.specs.Reading.{Faulty, Incomplete}
+use Rattle.claxon_format.specs.read.Reading.{Faulty, Incomplete}
 use Rattle.claxon_format.specs.read.Frame.{frame_bytes_at}
 use Rattle.claxon_format.specs.Streams.{interleave, stream_of, with_samples}
 use Rattle.claxon_format.proofs.Bytes.{length-bits_of}

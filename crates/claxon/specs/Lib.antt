@@ -1,6 +1,6 @@
 pub use Rattle.claxon_format.specs.Bits
 pub use Rattle.claxon_format.specs.Comments
-pub use Rattle.claxon_format.specs.Reading
+pub use Rattle.claxon_format.specs.Codes
 pub use Rattle.claxon_format.specs.read
 pub use Rattle.claxon_metadata.specs.declared.metadata.VorbisComment as VorbisComments
 pub use Rattle.claxon_format.specs.Fault

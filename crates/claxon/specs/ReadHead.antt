@@ -7,7 +7,8 @@ use Rattle.claxon_format.specs.Heads.{Options, Head, HeadCode, HeadFault, Marker
 use Rattle.claxon_format.specs.read.Heads.{head_at}
 use Rattle.claxon_format.specs.Metadata.{BlockHeader, BlockHeaderCode}
 use Rattle.claxon_format.specs.MetadataBlocks.{MetadataBlock as Block, BlockCode, Content}
-use Rattle.claxon_format.specs.Reading.{Each, Reading, and_then, done, test}
+use Rattle.claxon_format.specs.Codes.{Each}
+use Rattle.claxon_format.specs.read.Reading.{Reading, and_then, done, test}
 use Rattle.claxon_input.specs.declared.error.Error.{Error}
 use Rattle.claxon_input.specs.declared.input.BufferedReader.{BufferedReader}
 use Rattle.claxon_input.specs.BufferedReader.{buffered_source}

@@ -7,10 +7,11 @@ use Rattle.std.proofs.lemmas.Nat.{pow-add, pow_pos, mod_below, mod_low, shr-shr,
 use Rattle.std.proofs.Math.Nat.{div-lt_iff_lt-mul}
 use Rattle.claxon_format.specs.Fault.{NumberFirst, NumberContinuation}
 use Rattle.claxon_format.specs.Bits.{Bits, bits, Number}
-use Rattle.claxon_format.specs.Reading.{Reads, Then, Is, done}
+use Rattle.claxon_format.specs.read.Reading.{Reads, done}
+use Rattle.claxon_format.proofs.Laws.{Then, Reads-then, Reads-same, Reads-test, Reads-done, Reads-assoc, Reads-test-then}
+use Rattle.claxon_format.specs.Codes.{Is}
 use Rattle.claxon_format.specs.CodedNumber.{continuation_bytes, CodedNumber, bad_first, continuation_count, bad_continuation, ContinuationBytesFault, CodedNumberFault}
 use Rattle.claxon_format.specs.read.CodedNumber.{lead, continuation_byte_at, continuation_bytes_at, in_bits, coded_number_at, coded_number_bits_at}
-use Rattle.claxon_format.proofs.Laws.{Reads-then, Reads-same, Reads-test, Reads-done, Reads-assoc, Reads-test-then}
 use Rattle.claxon_format.proofs.Numbers.{Reads-number, bits-same, mod_small}
 
 -- the bits of a number, split in two

@@ -8,11 +8,12 @@ use Rattle.std.proofs.lemmas.Bool.{lt-leb, eq-eqb, eqb-true, ltb-true, ltb-false
 use Rattle.std.proofs.lemmas.List.{take_at, length-append, append-nil}
 use Rattle.std.proofs.lemmas.Str.{IsUtf8-from_is_utf8, is_utf8-from_IsUtf8}
 use Rattle.claxon_format.specs.Fault.{CommentShort, CommentLarge, VendorLong, VendorNotUtf8, TooManyEntries, EntryLong, SeparatorMissing, NameByte, EntryNotUtf8, ExcessData, EntriesMissing}
-use Rattle.claxon_format.specs.Reading.{Reads, Then, Is, Each, Mapped}
+use Rattle.claxon_format.specs.read.Reading.{Reads}
+use Rattle.claxon_format.proofs.Laws.{Then, Reads-then, Reads-same, Reads-test, Reads-done, Reads-map, Reads-cond, Reads-checked}
+use Rattle.claxon_format.specs.Codes.{Is, Each, Mapped}
 use Rattle.claxon_format.specs.Metadata.{Bytes, Little, max_content_bytes}
-use Rattle.claxon_format.specs.Comments.{Entry, is_separator, IsEntry, LengthPrefixed, EntriesOf, entry_of, has_separator, has_name, not_utf8, EntryFault, EntryCode, EntryOrEmpty, EntryOrEmptyFault, EntryLength, EntryLengthFault, EntriesEndFault, EntriesFault, VendorLength, VendorLengthFault, Vendor, VendorFault, Count, CountFault, Comment, CommentCode, CommentFault}
-use Rattle.claxon_format.specs.read.Comments.{entry_at, entry_or_empty_at, entry_length_at, entries_end_at, entries_at, vendor_length_at, vendor_at, count_at, comment_at}
-use Rattle.claxon_format.proofs.Laws.{Reads-then, Reads-same, Reads-test, Reads-done, Reads-map, Reads-cond, Reads-checked}
+use Rattle.claxon_format.specs.Comments.{Entry, is_separator, IsEntry, LengthPrefixed, EntriesOf, has_separator, has_name, not_utf8, EntryFault, EntryCode, EntryOrEmpty, EntryOrEmptyFault, EntryLength, EntryLengthFault, EntriesEndFault, EntriesFault, VendorLength, VendorLengthFault, Vendor, VendorFault, Count, CountFault, Comment, CommentCode, CommentFault}
+use Rattle.claxon_format.specs.read.Comments.{entry_of, entry_at, entry_or_empty_at, entry_length_at, entries_end_at, entries_at, vendor_length_at, vendor_at, count_at, comment_at}
 use Rattle.claxon_format.proofs.Metadata.{Reads-bytes, Reads-little, little_length}
 
 -- ---- a text before and after its first '='

@@ -7,7 +7,7 @@ use Rattle.claxon_format.specs.Fault.{Fault}
 use Rattle.claxon_format.specs.read.Bytes.{by_bytes, whole, left_bytes, crc_at, with_crc_bytes_at, big_at}
 use Rattle.claxon_format.specs.Crc.{padding_length}
 use Rattle.claxon_format.specs.read.Crc.{byte_aligned_at, with_crc_at}
-use Rattle.claxon_format.specs.Reading.{Reading, Reads, Done, Faulty, Incomplete, bind, and_then, done, taken, test}
+use Rattle.claxon_format.specs.read.Reading.{Reading, Reads, Done, Faulty, Incomplete, bind, and_then, done, taken, test}
 use Rattle.claxon_format.specs.read.Bits.{number_at}
 use Rattle.claxon_format.proofs.Bytes.{bits_of-append, length-bits_of, byte_split}
 use Rattle.claxon_format.proofs.ByteNumbers.{Whole-number}

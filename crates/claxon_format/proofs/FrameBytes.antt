@@ -15,7 +15,8 @@ use Rattle.claxon_format.specs.read.Bytes.{by_bytes, whole, big_at}
 use Rattle.claxon_format.specs.FrameWriter.{bytes_of}
 use Rattle.claxon_format.specs.Crc.{crc16, padding_length}
 use Rattle.claxon_format.specs.Header.{Fields, Header, HeaderCode, HeaderFault}
-use Rattle.claxon_format.specs.Reading.{Reading, Reads, Done, Faulty, Incomplete, bind, and_then, done, taken, test, Mapped}
+use Rattle.claxon_format.specs.read.Reading.{Reading, Reads, Done, Faulty, Incomplete, bind, and_then, done, taken, test}
+use Rattle.claxon_format.specs.Codes.{Mapped}
 use Rattle.claxon_format.specs.Stereo.{widths}
 use Rattle.std.proofs.Common.{◌≡◌, ℕ, ◌+◌, ◌%◌, Bool, false, not, eqb, List, [], ◌∷◌, ◌++◌, length, replicate, refl, sym, ap, ap₂, subst, ◌∙◌, arith}
 use Rattle.std.proofs.lemmas.List.{append_cancel_left, length-append, length-replicate}

@@ -2,9 +2,9 @@
 use Rattle.std.proofs.Common.{◌≡◌, ℕ, List, [], ◌∷◌, refl, ℤ, pos, negsuc}
 use Rattle.std.specs.Prelude.{Option, Some, None}
 use Rattle.claxon_format.specs.Fault.{SyncMissing, SizeReserved, NumberContinuation, SizeLarge, BitDepthUnknown, SideTooWide, SubframePadding, HeaderCrc, FrameCrc, NumberFirst, NumberLarge, FixedOrder, NoBitsLeft, WastedBitsLarge, PartitionOrder, PartitionShort, MethodReserved, LinearOrder, PrecisionInvalid, ShiftNegative, SubframeTypeReserved}
-use Rattle.claxon_format.specs.Bits.{bits, bits_of, number, twos_complement, residue}
-use Rattle.claxon_format.specs.Reading.{Reading, Done, Faulty, Incomplete, each_at, times_at}
-use Rattle.claxon_format.specs.read.Bits.{number_at, zeros_at, unary_at, rice_code_at, signed_at, bit_at}
+use Rattle.claxon_format.specs.Bits.{bits, bits_of, number, residue}
+use Rattle.claxon_format.specs.read.Bits.{twos_complement, number_at, zeros_at, unary_at, rice_code_at, signed_at, bit_at}
+use Rattle.claxon_format.specs.read.Reading.{Reading, Done, Faulty, Incomplete, each_at, times_at}
 use Rattle.claxon_format.specs.read.Residual.{escaped_sample_at, escaped_partition_at, partition_at, method_at, partitions_at, residual_at}
 use Rattle.claxon_format.specs.read.Subframe.{type_at, wasted_bits_at, wasted_bits_to_31_at, subframe_header_at, fixed_at, parameters_at, linear_at, subframe_body_at, subframe_at}
 use Rattle.claxon_format.specs.read.CodedNumber.{continuation_byte_at, continuation_bytes_at, coded_number_at}

@@ -5,7 +5,7 @@ use Rattle.std.proofs.Math.Utf8.{encode}
 use Rattle.std.specs.Str.{chars, is_utf8}
 use Rattle.claxon_format.specs.Fault.{Id3Header, StreamMarker, StreaminfoMissing, SecondComment, SecondStreaminfo, StreaminfoLength, BlockSizeBounds, BlockSizeSmall, FrameSizeBounds, SampleRate, BlockType, ApplicationShort, ApplicationLarge, CommentShort, CommentLarge, VendorLong, VendorNotUtf8, TooManyEntries, EntryLong, SeparatorMissing, NameByte, EntryNotUtf8, ExcessData, EntriesMissing}
 use Rattle.claxon_format.specs.Bits.{bits, bits_of, number}
-use Rattle.claxon_format.specs.Reading.{Reading, Done, Faulty, Incomplete, each_at, times_at}
+use Rattle.claxon_format.specs.read.Reading.{Reading, Done, Faulty, Incomplete, each_at, times_at}
 use Rattle.claxon_format.specs.read.Bits.{number_at}
 use Rattle.claxon_format.specs.read.Bytes.{bytes_at, big_at, little_at, big_endian, little_endian}
 use Rattle.claxon_format.specs.read.Metadata.{block_header_at}

@@ -7,7 +7,7 @@ use Rattle.claxon_format.specs.Crc.{crc8}
 use Rattle.claxon_format.specs.read.Crc.{with_crc_at}
 use Rattle.claxon_format.specs.Header.{Fields, Header, side_too_wide, number_large, rate_bytes, width_of, bit_depth_reserved}
 use Rattle.claxon_format.specs.read.Bytes.{big_at}
-use Rattle.claxon_format.specs.Reading.{and_then, done, test}
+use Rattle.claxon_format.specs.read.Reading.{and_then, done, test}
 use Rattle.claxon_format.specs.read.Bits.{number_at}
 use Rattle.claxon_format.specs.read.CodedNumber.{in_bits, lead, continuation_byte_at, continuation_bytes_at, coded_number_at}
 use Rattle.claxon_format.specs.read.Header.{SizeCoding, ByCode, InByte, InTwoBytes, size_coding, blocking_at, sync_at, codes_at, channels_at, number_in, size_at, rate_at, fields_of, fields_after, fields_at, fields_with_crc_at, depth_at, width_at, with_width}

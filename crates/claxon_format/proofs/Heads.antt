@@ -5,14 +5,15 @@ use Rattle.std.specs.List.{list_any}
 use Rattle.std.proofs.lemmas.Bool.{eqb-true}
 use Rattle.std.proofs.lemmas.List.{append-nil}
 use Rattle.claxon_format.specs.Fault.{Id3Header, StreamMarker, StreaminfoMissing, SecondComment, SecondStreaminfo, TooManyBlocks}
-use Rattle.claxon_format.specs.Reading.{Reads, Each, Then, Is, Mapped, done}
+use Rattle.claxon_format.specs.read.Reading.{Reads, done}
+use Rattle.claxon_format.specs.Codes.{Each, Is, Mapped}
+use Rattle.claxon_format.proofs.Laws.{Then, Reads-then, Reads-same, Reads-test, Reads-done, Reads-map, Reads-cond, Reads-fails}
 use Rattle.claxon_format.specs.Metadata.{Big}
 use Rattle.claxon_format.specs.Streaminfo.{Streaminfo}
 use Rattle.claxon_format.specs.Comments.{Comment}
 use Rattle.claxon_format.specs.MetadataBlocks.{Content, Info, Padding, Application, Comments, Reserved, MetadataBlock, BlockCode}
 use Rattle.claxon_format.specs.Heads.{Options, Head, is_info, is_comment, stream_marker, Marker, MarkerFault, is_end, EndsAtLast, comment_of, comments_in, first, IsHead, HeadCode, HeadFault, is_some, found_with, is_second, is_done, OthersFault, streaminfo_ends_head, FirstFault}
 use Rattle.claxon_format.specs.read.Heads.{marker_at, others_at, after_first, head_at}
-use Rattle.claxon_format.proofs.Laws.{Reads-then, Reads-same, Reads-test, Reads-done, Reads-map, Reads-cond, Reads-fails}
 use Rattle.claxon_format.proofs.Metadata.{Reads-big}
 use Rattle.claxon_format.proofs.MetadataBlocks.{Reads-block}
 use Rattle.claxon_format.proofs.Comments.{not_true, or_false}

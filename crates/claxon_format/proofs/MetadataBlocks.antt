@@ -3,13 +3,14 @@ use Rattle.std.proofs.Common.{◌≡◌, ℕ, ◌+◌, ◌-◌, ◌≤◌, Bool,
 use Rattle.std.proofs.lemmas.Bool.{ltb-false, le-ltb, eqb-true, eq-eqb}
 use Rattle.std.proofs.lemmas.List.{length-append}
 use Rattle.claxon_format.specs.Fault.{StreaminfoLength, BlockType, ApplicationShort, ApplicationLarge}
-use Rattle.claxon_format.specs.Reading.{Reads, and_then, done, test, Then, MeetsOr, Never, Mapped}
+use Rattle.claxon_format.specs.read.Reading.{Reads, and_then, done, test}
+use Rattle.claxon_format.proofs.Laws.{Then, Reads-then, Reads-same, Reads-test, Reads-map, Reads-cond}
+use Rattle.claxon_format.specs.Codes.{MeetsOr, Never, Mapped}
 use Rattle.claxon_format.specs.Metadata.{Bytes, Big, max_content_bytes, BlockHeaderCode}
 use Rattle.claxon_format.specs.read.Bytes.{bytes_at}
 use Rattle.claxon_format.specs.Streaminfo.{Streaminfo, StreaminfoCode, StreaminfoFault}
 use Rattle.claxon_format.specs.MetadataBlocks.{Content, Info, Application, Comments, InfoBody, ApplicationBody, skipped, Body, ApplicationFault, BodyFault, MetadataBlock, BlockCode, BlockFault}
 use Rattle.claxon_format.specs.read.MetadataBlocks.{info_body_at, application_at, body_at, block_at}
-use Rattle.claxon_format.proofs.Laws.{Reads-then, Reads-same, Reads-test, Reads-map, Reads-cond}
 use Rattle.claxon_format.proofs.Metadata.{Reads-bytes, Reads-big, big_length, Reads-block_header, no_fault_after}
 use Rattle.claxon_format.proofs.Streaminfos.{Reads-streaminfo}
 use Rattle.claxon_format.proofs.Comments.{Reads-comment, not_true, not_false}

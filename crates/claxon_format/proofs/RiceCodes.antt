@@ -3,12 +3,17 @@ use Rattle.std.proofs.Common.{◌≡◌, ℕ, zero, suc, ◌+◌, ◌-◌, ◌*�
 use Rattle.std.proofs.lemmas.Bool.{ltb-true, lt-ltb}
 use Rattle.std.proofs.lemmas.List.{append-nil}
 use Rattle.std.proofs.lemmas.Nat.{field_of, div-mul-add, mod-mul-add, mod_below, pow_pos, mod-pow-add}
-use Rattle.claxon_format.specs.Bits.{Bits, bits, zigzag, zigzag_decode, rice_code, RiceCode, IsQuotient, Number, Unary}
+use Rattle.claxon_format.specs.Bits.{Bits, bits, zigzag, rice_code, RiceCode, IsQuotient, Number}
+use Rattle.claxon_format.specs.read.Bits.{zigzag_decode, one_more, zeros_at, in_u32, unary_at, zigzag_encoded, rice_code_at}
 use Rattle.claxon_format.specs.Fault.{Fault}
-use Rattle.claxon_format.specs.Reading.{Reads, Reading, Done, Faulty, Incomplete, Then, ThenFault, Never, Is}
-use Rattle.claxon_format.proofs.Laws.{Reads-then, Reads-same, Reads-done}
-use Rattle.claxon_format.specs.read.Bits.{one_more, zeros_at, in_u32, unary_at, zigzag_encoded, rice_code_at}
+use Rattle.claxon_format.specs.read.Reading.{Reads, Reading, Done, Faulty, Incomplete}
+use Rattle.claxon_format.proofs.Laws.{Then, Reads-then, Reads-same, Reads-done}
+use Rattle.claxon_format.specs.Codes.{ThenFault, Never, Is}
 use Rattle.claxon_format.proofs.Numbers.{Reads-number, bits-same, mod_small}
+
+-- a number q in unary: q zeros and a one, where q is below 2 ^ 32
+abbrev pub Unary : ℕ → Bits → Type 0
+Unary q t = (q < 2 ^ 32) × (t ≡ replicate q false ++ true ∷ [])
 
 even_or_odd : (v : ℕ) → (v ≡ 2 * (v / 2)) ⊎ (v ≡ 2 * (v / 2) + 1)
 even_or_odd v = grind arith

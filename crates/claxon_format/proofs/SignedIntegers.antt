@@ -3,9 +3,10 @@ use Rattle.std.proofs.Common.{◌≡◌, ℕ, suc, ◌-◌, ◌*◌, ◌^◌, �
 use Rattle.std.proofs.lemmas.Bool.{cases_lt, le-ltb, lt-ltb}
 use Rattle.std.proofs.Math.Nat.{pow-suc}
 use Rattle.std.proofs.lemmas.Nat.{pow_pos, mod_below}
-use Rattle.claxon_format.specs.Bits.{bits, residue, twos_complement, FitsIn, Signed}
-use Rattle.claxon_format.specs.Reading.{Reads, Never}
-use Rattle.claxon_format.specs.read.Bits.{signed_at}
+use Rattle.claxon_format.specs.Bits.{bits, residue, FitsIn, Signed}
+use Rattle.claxon_format.specs.read.Bits.{twos_complement, signed_at}
+use Rattle.claxon_format.specs.read.Reading.{Reads}
+use Rattle.claxon_format.specs.Codes.{Never}
 use Rattle.claxon_format.proofs.Laws.{Reads-same, Reads-map}
 use Rattle.claxon_format.proofs.Numbers.{Reads-number, mod_small}
 

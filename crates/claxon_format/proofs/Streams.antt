@@ -3,7 +3,7 @@ use Rattle.std.proofs.Common.{◌≡◌, ℕ, zero, suc, ◌+◌, ◌*◌, ◌<�
 use Rattle.std.specs.Prelude.{get_or, Some}
 use Rattle.std.specs.List.{flat_map, range_with_len}
 use Rattle.std.proofs.lemmas.List.{append_cancel_left, length-append, length-map}
-use Rattle.claxon_format.specs.Reading.{Mapped}
+use Rattle.claxon_format.specs.Codes.{Mapped}
 use Rattle.claxon_format.specs.Metadata.{Bytes}
 use Rattle.claxon_format.specs.Streaminfo.{Streaminfo, StreaminfoCode}
 use Rattle.claxon_format.specs.Comments.{CommentCode}

@@ -2,12 +2,13 @@
 use Rattle.std.proofs.Common.{◌≡◌, ℕ, List, [], ◌∷◌, reverse, drop, refl, ℤ, pos, negsuc}
 use Rattle.std.specs.Int.{int_wrap}
 use Rattle.claxon_format.specs.Fault.{NumberFirst}
-use Rattle.claxon_format.specs.Bits.{bits, bits_of, number, residue, twos_complement, zigzag_decode}
-use Rattle.claxon_format.specs.Reading.{Reading, Done, Faulty}
-use Rattle.claxon_format.specs.read.Bits.{number_at}
-use Rattle.claxon_format.specs.Predict.{restored, fixed, linear}
+use Rattle.claxon_format.specs.Bits.{bits, bits_of, number, residue}
+use Rattle.claxon_format.specs.read.Bits.{twos_complement, zigzag_decode, number_at}
+use Rattle.claxon_format.specs.read.Reading.{Reading, Done, Faulty}
+use Rattle.claxon_format.specs.read.Predict.{restored, fixed}
+use Rattle.claxon_format.specs.Predict.{linear}
 use Rattle.claxon_format.specs.read.CodedNumber.{continuation_byte_at, continuation_bytes_at, coded_number_at, coded_number_bits_at}
-use Rattle.claxon_format.specs.Stereo.{decoded_pair}
+use Rattle.claxon_format.specs.read.Stereo.{decoded_pair}
 use Rattle.claxon_format.specs.read.Bytes.{by_bytes}
 
 -- ---- predictors

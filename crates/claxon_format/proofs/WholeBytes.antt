@@ -3,7 +3,7 @@ use Rattle.std.proofs.Common.{◌≡◌, ℕ, ◌-◌, ◌/◌, Bool, true, fals
 use Rattle.claxon_format.specs.Bits.{Bits, bits_of}
 use Rattle.claxon_format.specs.Fault.{Fault}
 use Rattle.claxon_format.specs.read.Bytes.{by_bytes, whole}
-use Rattle.claxon_format.specs.Reading.{Reading, Done, Faulty, Incomplete, bind, and_then, and_with, done, taken, test}
+use Rattle.claxon_format.specs.read.Reading.{Reading, Done, Faulty, Incomplete, bind, and_then, and_with, done, taken, test}
 use Rattle.claxon_format.proofs.Bytes.{bits_of-append, left_again}
 use Rattle.claxon_format.proofs.Laws.{taken_is}
 

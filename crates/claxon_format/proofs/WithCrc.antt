@@ -4,10 +4,11 @@ use Rattle.std.proofs.lemmas.List.{append-nil}
 use Rattle.std.proofs.lemmas.Bool.Decides.{nat_tests}
 use Rattle.claxon_format.specs.Fault.{Fault}
 use Rattle.claxon_format.specs.Bits.{Bits, bits, number, Number}
-use Rattle.claxon_format.specs.Reading.{Reads, Reading, Then, ThenWith, ThenWithFault, Never, Is, Mapped}
+use Rattle.claxon_format.specs.read.Reading.{Reads, Reading}
+use Rattle.claxon_format.proofs.Laws.{Then, ThenWith, Reads-then, Reads-with, Reads-same, Reads-test, Reads-done, Reads-map}
+use Rattle.claxon_format.specs.Codes.{ThenWithFault, Never, Is, Mapped}
 use Rattle.claxon_format.specs.Crc.{WithCrc, WithCrcFault, padding_length, ByteAligned}
 use Rattle.claxon_format.specs.read.Crc.{with_crc_at, byte_aligned_at}
-use Rattle.claxon_format.proofs.Laws.{Reads-then, Reads-with, Reads-same, Reads-test, Reads-done, Reads-map}
 use Rattle.claxon_format.proofs.Numbers.{Reads-number, length-bits, number-lt, bits-number}
 
 -- ---- a CRC of w bits after the field that it covers

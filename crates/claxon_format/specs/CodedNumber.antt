@@ -2,7 +2,7 @@
 use Rattle.std.specs.Prelude.{◌≡◌, ℕ, zero, suc, ◌+◌, ◌-◌, ◌*◌, ◌/◌, ◌^◌, ◌<◌, ◌≤◌, Bool, true, false, cond, not, ◌==◌, ◌||◌, ◌&&◌, nat_lt, [], ◌∷◌, ◌++◌, replicate}
 use Rattle.claxon_format.specs.Fault.{Fault, NumberFirst, NumberContinuation}
 use Rattle.claxon_format.specs.Bits.{Bits, bits, Number}
-use Rattle.claxon_format.specs.Reading.{ThenFault, MeetsOr, Never}
+use Rattle.claxon_format.specs.Codes.{ThenFault, MeetsOr, Never}
 
 -- k continuation bytes: the low 6 * k bits of x, each six after a one and a zero
 abbrev pub continuation_bytes : ℕ → ℕ → Bits

@@ -3,7 +3,7 @@ use Rattle.std.specs.Prelude.{◌≡◌, ℕ, zero, suc, ◌-◌, ◌/◌, ◌�
 use Rattle.std.specs.List.{list_all, list_any, position_or_len, before_first}
 use Rattle.std.specs.Str.{is_utf8}
 use Rattle.claxon_format.specs.Fault.{Fault, CommentShort, CommentLarge, VendorLong, VendorNotUtf8, TooManyEntries, EntryLong, SeparatorMissing, NameByte, EntryNotUtf8, ExcessData, EntriesMissing}
-use Rattle.claxon_format.specs.Reading.{Each, ThenFault, MeetsOr, Never, Is, Mapped, Checked, CheckedFault}
+use Rattle.claxon_format.specs.Codes.{Each, ThenFault, MeetsOr, Never, Is, Mapped, Checked, CheckedFault}
 use Rattle.claxon_format.specs.Metadata.{Bytes, Little, max_content_bytes}
 
 -- an entry: its text, and the position of its first '='
@@ -52,10 +52,6 @@ CommentCode n c t =
     × Little 4 (length texts) y × Each LengthPrefixed texts z × EntriesOf texts c.entries × (t ≡ x ++ (y ++ z))
 
 -- ---- faults
-
--- the entry that a text is, if it is one
-abbrev pub entry_of : List ℕ → Entry
-entry_of text = record { text = text; place = position_or_len is_separator text }
 
 abbrev pub has_separator : List ℕ → Bool
 has_separator text = nat_lt (position_or_len is_separator text) (length text)

@@ -2,7 +2,7 @@
 use Rattle.std.specs.Prelude.{◌≡◌, ℕ, ◌+◌, ◌-◌, ◌*◌, ◌%◌, ◌^◌, ◌==◌, not, Bool, false, nat_lt, bit_xor, [], ◌∷◌, ◌++◌, length, replicate, cond}
 use Rattle.claxon_format.specs.Fault.{Fault}
 use Rattle.claxon_format.specs.Bits.{Bits, bits, Number}
-use Rattle.claxon_format.specs.Reading.{ThenFault, ThenWithFault, MeetsOr, Never}
+use Rattle.claxon_format.specs.Codes.{ThenFault, ThenWithFault, MeetsOr, Never}
 
 -- the number of a bit
 abbrev pub bit : Bool → ℕ

@@ -2,7 +2,7 @@
 use Rattle.std.specs.Prelude.{◌≡◌, ℕ, zero, suc, ◌/◌, ◌<◌, ◌≤◌, Bool, true, false, cond, not, ◌==◌, ◌&&◌, ◌||◌, List, [], ◌∷◌, ◌++◌, length, Option, Some, None}
 use Rattle.std.specs.List.{list_any}
 use Rattle.claxon_format.specs.Fault.{Fault, Id3Header, StreamMarker, StreaminfoMissing, SecondComment, SecondStreaminfo, TooManyBlocks}
-use Rattle.claxon_format.specs.Reading.{Each, ThenFault, MeetsOr, Met, Never}
+use Rattle.claxon_format.specs.Codes.{Each, ThenFault, MeetsOr, Met, Never}
 use Rattle.claxon_format.specs.Metadata.{Big}
 use Rattle.claxon_format.specs.Streaminfo.{Streaminfo}
 use Rattle.claxon_format.specs.Comments.{Comment}

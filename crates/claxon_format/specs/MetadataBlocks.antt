@@ -1,7 +1,7 @@
 -- Metadata blocks (RFC 9639, section 8).
 use Rattle.std.specs.Prelude.{◌≡◌, ℕ, ◌≤◌, Bool, cond, not, ◌==◌, ◌||◌, nat_lt, List, ◌++◌, length}
 use Rattle.claxon_format.specs.Fault.{Fault, StreaminfoLength, BlockType, ApplicationShort, ApplicationLarge}
-use Rattle.claxon_format.specs.Reading.{ThenFault, MeetsOr, Never, Mapped}
+use Rattle.claxon_format.specs.Codes.{ThenFault, MeetsOr, Never, Mapped}
 use Rattle.claxon_format.specs.Metadata.{Bytes, Big, max_content_bytes, BlockHeader, BlockHeaderCode}
 use Rattle.claxon_format.specs.Streaminfo.{Streaminfo, StreaminfoCode, StreaminfoFault}
 use Rattle.claxon_format.specs.Comments.{Comment, CommentCode, CommentFault}

@@ -1,10 +1,13 @@
+pub mod Reading
 pub mod Bits
 pub mod Bytes
 pub mod Crc
 pub mod Residual
+pub mod Predict
 pub mod Subframe
 pub mod CodedNumber
 pub mod Header
+pub mod Stereo
 pub mod Frame
 pub mod Metadata
 pub mod Streaminfo

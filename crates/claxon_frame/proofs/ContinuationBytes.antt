@@ -9,7 +9,7 @@ use Rattle.claxon_format.specs.CodedNumber.{bad_first, continuation_count}
 use Rattle.claxon_format.specs.read.CodedNumber.{lead, coded_number_at, continuation_bytes_at, continuation_byte_at}
 use Rattle.claxon_format.specs.Fault.{NumberFirst}
 use Rattle.claxon_format.specs.read.Bytes.{big_at}
-use Rattle.claxon_format.specs.Reading.{Done, Faulty, bind}
+use Rattle.claxon_format.specs.read.Reading.{Done, Faulty, bind}
 use Rattle.claxon_input.specs.declared.error.Error.{Error}
 use Rattle.claxon_input.specs.State.{State}
 use Rattle.claxon_input.specs.Gives.{Consumes, Stops}

@@ -6,7 +6,8 @@ use Rattle.std.proofs.lemmas.List.{take_more_set, drop_more, drop-set-lt, take_a
 use Rattle.std.proofs.lemmas.Nat.{and_mask, or_shifted}
 use Rattle.claxon_format.specs.Bits.{residue}
 use Rattle.claxon_format.specs.Predict.{wrap, floor_shift}
-use Rattle.claxon_format.specs.Stereo.{parity, left_of, right_of, zipped, decoded_pair}
+use Rattle.claxon_format.specs.Stereo.{parity, zipped}
+use Rattle.claxon_format.specs.read.Stereo.{left_of, right_of, decoded_pair}
 use Rattle.claxon_frame.specs.Block.{chunks}
 use Rattle.claxon_format.proofs.Wraps.{Represents, represents_fits, represents_add, represents_sub, represents_mul, represents_num}
 

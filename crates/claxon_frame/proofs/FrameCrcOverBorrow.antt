@@ -3,7 +3,7 @@ use Rattle.std.proofs.Common.{◌≡◌, ℕ, Option, List, ◌∷◌, inl, inr,
 use Rattle.std.specs.Borrow.{GName, MutBor}
 use Rattle.std.specs.Prelude.{Result, Ok, Err, IfErr, true}
 use Rattle.claxon_format.specs.Frame.{StreamFormat}
-use Rattle.claxon_format.specs.Reading.{Reading, Done}
+use Rattle.claxon_format.specs.read.Reading.{Reading, Done}
 use Rattle.claxon_input.specs.CrcReader.{crc_inner, crc_source, crc_state}
 use Rattle.claxon_input.specs.Source.{Source, through_loan, with_crc}
 use Rattle.claxon_input.specs.State.{bytes_in, crcs_at_eof}

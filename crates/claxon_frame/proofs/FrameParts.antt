@@ -7,7 +7,7 @@ use Rattle.claxon_format.specs.Frame.{StreamFormat}
 use Rattle.claxon_format.specs.read.Bytes.{crc_at}
 use Rattle.claxon_format.specs.read.Frame.{frame_bytes_at, subframes_at, block_from, frame_without_crc_at, Start, start_at}
 use Rattle.claxon_format.specs.Crc.{crc16}
-use Rattle.claxon_format.specs.Reading.{Done, bind, done, taken}
+use Rattle.claxon_format.specs.read.Reading.{Done, bind, done, taken}
 use Rattle.claxon_format.specs.Stereo.{widths}
 use Rattle.claxon_format.proofs.CrcBytes.{with_crc_after}
 use Rattle.claxon_input.proofs.ConsecutiveCalls.{StopsWith, StopsAs}

@@ -7,7 +7,7 @@ use Rattle.claxon_format.specs.read.Frame.{frame_bytes_at, Start, start_at}
 use Rattle.claxon_format.specs.FrameWriter.{channel_count}
 use Rattle.claxon_format.specs.read.Header.{sync_at, fields_at, fields_with_crc_at}
 use Rattle.claxon_format.specs.read.Bytes.{bytes_at, big_at}
-use Rattle.claxon_format.specs.Reading.{Done, Incomplete}
+use Rattle.claxon_format.specs.read.Reading.{Done, Incomplete}
 use Rattle.claxon_format.proofs.FrameBytes.{Reads-frame_bytes, Reads-start}
 use Rattle.claxon_input.specs.declared.error.Error.{Error}
 use Rattle.claxon_input.specs.State.{State}

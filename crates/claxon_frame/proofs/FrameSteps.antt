@@ -7,7 +7,7 @@ use Rattle.claxon_format.specs.Frame.{Block, IsWidth, StreamFormat, known_width}
 use Rattle.claxon_format.specs.read.Frame.{frame_bytes_at, block_from, subframes_at, Start, start_at}
 use Rattle.claxon_format.specs.read.Bytes.{crc_at}
 use Rattle.claxon_format.specs.FrameWriter.{channel_count}
-use Rattle.claxon_format.specs.Reading.{Reading, Done, Faulty, Incomplete, bind, done}
+use Rattle.claxon_format.specs.read.Reading.{Reading, Done, Faulty, Incomplete, bind, done}
 use Rattle.claxon_format.specs.Stereo.{widths}
 use Rattle.claxon_input.specs.declared.error.Error.{Error}
 use Rattle.claxon_input.specs.declared.error.Error.TheVariants.{IoError, FormatError, Unsupported, OutOfMemory}

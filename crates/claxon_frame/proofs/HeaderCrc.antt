@@ -5,7 +5,7 @@ use Rattle.claxon_format.specs.Fault.{HeaderCrc}
 use Rattle.claxon_format.specs.read.Bytes.{crc_at, big_at}
 use Rattle.claxon_format.specs.Crc.{crc8}
 use Rattle.claxon_format.specs.Header.{Fields}
-use Rattle.claxon_format.specs.Reading.{Done, and_then, done, taken}
+use Rattle.claxon_format.specs.read.Reading.{Done, and_then, done, taken}
 use Rattle.claxon_format.proofs.CrcBytes.{with_crc_after}
 use Rattle.claxon_input.specs.CrcUpdate.{update_crc8}
 use Rattle.claxon_input.specs.Source.{Source, with_crc}

@@ -4,7 +4,7 @@ use Rattle.std.proofs.lemmas.Bool.{lt-ltb}
 use Rattle.std.proofs.lemmas.List.{append-nil, take_all, length-append, length-take-le, length-drop, length-replicate, drop_all, drop_more, take-append-drop, take-append-le, drop-append-le}
 use borrow.Rule.Slice.PartMut.{put_mid, same_len_mid}
 use Rattle.claxon_format.specs.Bits.{Bits}
-use Rattle.claxon_format.specs.Reading.{Reading, Done, each_at}
+use Rattle.claxon_format.specs.read.Reading.{Reading, Done, each_at}
 use Rattle.claxon_format.specs.read.Subframe.{subframe_at}
 use Rattle.claxon_input.specs.declared.error.Error.{Error}
 use Rattle.claxon_input.specs.State.{State}

@@ -1,7 +1,7 @@
 -- Decorrelation is undone in one buffer; pairs of samples.
 use Rattle.std.specs.Prelude.{◌≡◌, ℕ, ◌*◌, ℤ, List, length}
 use Rattle.std.specs.List.{zip}
-use Rattle.claxon_format.specs.Stereo.{decoded_pair, decoded_channels}
+use Rattle.claxon_format.specs.read.Stereo.{decoded_pair, decoded_channels}
 use Rattle.claxon_frame.specs.FrameHeader.{channels_of, channel_code}
 use Rattle.claxon_frame.specs.Block.{chunks}
 use Rattle.claxon_frame.specs.declared.frame.header.parts.ChannelAssignment.{ChannelAssignment}

@@ -5,8 +5,8 @@ use Rattle.claxon_format.specs.Frame.{StreamFormat, Block, Frame, FrameBytesFaul
 use Rattle.claxon_format.specs.read.Frame.{frame_bytes_at, Start, start_at}
 use Rattle.claxon_format.specs.FrameWriter.{HeaderPlan, SuitsEach, SuitsEachShape, SuitsFrame, channel_count, decorrelated, planned_widths, plans_with_quotients, write_bytes, written_block}
 use Rattle.claxon_format.specs.Header.{Fields, Header, HeaderCode}
-use Rattle.claxon_format.specs.Laws.{IsUnambiguous}
-use Rattle.claxon_format.specs.Reading.{Done}
+use Rattle.claxon_format.specs.Unambiguous.{IsUnambiguous}
+use Rattle.claxon_format.specs.read.Reading.{Done}
 use Rattle.claxon_format.specs.Writer.{SubframePlan}
 use Rattle.claxon_input.specs.declared.error.Error.{Error}
 use Rattle.claxon_input.specs.Source.{Source}

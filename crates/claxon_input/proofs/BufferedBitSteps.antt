@@ -5,7 +5,7 @@ use Rattle.std.specs.Option.{option_map}
 use Rattle.std.proofs.lemmas.Bool.{lt-ltb, le-ltb, ltb-true}
 use Rattle.std.proofs.lemmas.List.{drop_at, take-append-drop}
 use Rattle.claxon_format.specs.Bits.{Bits, bits, bits_of}
-use Rattle.claxon_format.specs.Reading.{Done, Incomplete}
+use Rattle.claxon_format.specs.read.Reading.{Done, Incomplete}
 use Rattle.claxon_format.proofs.Bytes.{bits_of-append, length-bits_of}
 use Rattle.claxon_format.proofs.Numbers.{length-bits}
 use Rattle.claxon_input.specs.Bitstream.{BitState, left_in, TakesBits, BitsFailureOrEof}

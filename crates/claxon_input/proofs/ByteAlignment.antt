@@ -6,7 +6,7 @@ use Rattle.std.proofs.lemmas.List.{length-append, drop_at}
 use Rattle.claxon_format.specs.Bits.{Bits, bits, bits_of}
 use Rattle.claxon_format.specs.Fault.{Fault}
 use Rattle.claxon_format.specs.read.Bytes.{by_bytes, left_bytes}
-use Rattle.claxon_format.specs.Reading.{Reading, Done, Faulty, Incomplete}
+use Rattle.claxon_format.specs.read.Reading.{Reading, Done, Faulty, Incomplete}
 use Rattle.claxon_format.proofs.Bytes.{length-bits_of}
 use Rattle.claxon_format.proofs.Numbers.{length-bits}
 use Rattle.claxon_input.specs.Source.{Source, through_loan}

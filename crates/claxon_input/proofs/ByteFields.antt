@@ -5,7 +5,7 @@ use Rattle.std.specs.declared.io.Error as io
 use Rattle.std.proofs.lemmas.Grind.{common_steps}
 use Rattle.std.proofs.lemmas.Result.{err_from_is_err_and}
 use Rattle.claxon_format.specs.read.Bytes.{bytes_at, big_at, little_at, skipped_at}
-use Rattle.claxon_format.specs.Reading.{Reading, Done, Incomplete, and_then}
+use Rattle.claxon_format.specs.read.Reading.{Reading, Done, Incomplete, and_then}
 use Rattle.claxon_input.specs.Bytes.{be_bytes, le_bytes}
 use Rattle.claxon_input.specs.declared.error.Error.{Error}
 use Rattle.claxon_input.specs.declared.error.Error.TheVariants.{IoError}

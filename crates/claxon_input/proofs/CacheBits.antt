@@ -6,7 +6,7 @@ use Rattle.std.specs.Int.{leading_zeros, w64}
 use Rattle.claxon_format.specs.Bits.{Bits, bits, bits_of}
 use Rattle.claxon_format.proofs.Bytes.{bits_of-append, length-bits_of}
 use Rattle.claxon_format.proofs.CodedNumber.{bits-add}
-use Rattle.claxon_format.specs.Reading.{Done}
+use Rattle.claxon_format.specs.read.Reading.{Done}
 use Rattle.claxon_format.specs.read.Bits.{number_at, unary_at}
 use Rattle.claxon_format.proofs.Numbers.{Reads-number, length-bits, mod_small}
 use Rattle.claxon_format.proofs.RiceCodes.{Reads-unary}

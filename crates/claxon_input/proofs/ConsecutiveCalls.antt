@@ -3,7 +3,7 @@ use Rattle.std.proofs.Common.{◌≡◌, ◌⊎◌, inl, inr, Bool, true, false,
 use Rattle.std.specs.Prelude.{Result, Ok, Err}
 use Rattle.std.specs.declared.io.Error as io
 use Rattle.claxon_format.specs.Fault.{Fault}
-use Rattle.claxon_format.specs.Reading.{Reading, Done, Faulty, Incomplete}
+use Rattle.claxon_format.specs.read.Reading.{Reading, Done, Faulty, Incomplete}
 use Rattle.claxon_input.specs.declared.error.Error.{Error}
 use Rattle.claxon_input.specs.declared.error.Error.TheVariants.{IoError, FormatError, Unsupported, OutOfMemory}
 use Rattle.claxon_input.specs.State.{State}

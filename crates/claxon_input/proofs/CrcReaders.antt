@@ -5,7 +5,7 @@ use Rattle.std.specs.Prelude.{Result, Ok, Err}
 use Rattle.claxon_format.specs.Bits.{Bits, bits_of}
 use Rattle.claxon_format.specs.Fault.{Fault}
 use Rattle.claxon_format.specs.read.Bytes.{crc_at, with_crc_bytes_at}
-use Rattle.claxon_format.specs.Reading.{Reading, Done, Incomplete, bind, done, taken}
+use Rattle.claxon_format.specs.read.Reading.{Reading, Done, Incomplete, bind, done, taken}
 use Rattle.claxon_format.proofs.CrcBytes.{with_crc_after}
 use Rattle.claxon_format.proofs.Bytes.{bits_of-append}
 use Rattle.claxon_format.proofs.Laws.{taken_is}

@@ -1,7 +1,7 @@
 -- An Err that names a fault.
 use Rattle.std.proofs.Common.{◌≡◌, true, false, List, refl}
 use Rattle.claxon_format.specs.Fault.{Fault}
-use Rattle.claxon_format.specs.Reading.{Reading, Faulty}
+use Rattle.claxon_format.specs.read.Reading.{Reading, Faulty}
 use Rattle.claxon_input.specs.declared.error.Error.{Error}
 use Rattle.claxon_input.specs.State.{State}
 use Rattle.claxon_input.specs.Gives.{Consumes, Stops}

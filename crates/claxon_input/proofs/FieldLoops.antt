@@ -1,7 +1,7 @@
 -- Loops that read fields one after another.
 use Rattle.std.proofs.Common.{◌≡◌, ℕ, zero, suc, ◌+◌, ◌-◌, ◌<◌, ◌≤◌, List, [], ◌∷◌, ◌++◌, length, take, set, refl, sym, ap, ◌∙◌, append_assoc, arith, length-append, take-add}
 use Rattle.std.proofs.lemmas.List.{append-nil, take_more_set, length-set, take_all, take_at, drop_at, length-take-le}
-use Rattle.claxon_format.specs.Reading.{Reading, Done, Faulty, Incomplete, bind, times_at, each_at}
+use Rattle.claxon_format.specs.read.Reading.{Reading, Done, Faulty, Incomplete, bind, times_at, each_at}
 use Rattle.claxon_format.proofs.Laws.{bind_done}
 use Rattle.claxon_input.specs.declared.error.Error.{Error}
 use Rattle.claxon_input.specs.State.{State}

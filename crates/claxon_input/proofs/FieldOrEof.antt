@@ -4,7 +4,7 @@ use Rattle.std.specs.Prelude.{Result, Ok, Err, MatchOption}
 use Rattle.std.specs.Option.{ForSome}
 use Rattle.claxon_format.specs.Fault.{Fault}
 use Rattle.claxon_format.specs.read.Bytes.{bytes_at, big_at}
-use Rattle.claxon_format.specs.Reading.{Reading, Done, Faulty, Incomplete, done, bind}
+use Rattle.claxon_format.specs.read.Reading.{Reading, Done, Faulty, Incomplete, done, bind}
 use Rattle.claxon_input.specs.Bytes.{be_bytes}
 use Rattle.claxon_input.specs.Source.{Source, Takes, MeetsEof, SourceFailure}
 use Rattle.claxon_input.specs.State.{State, bytes_in}

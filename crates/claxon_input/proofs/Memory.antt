@@ -1,7 +1,7 @@
 -- Calls that allocate memory, and calls that allocate none.
 use Rattle.std.proofs.Common.{◌≡◌, List, true, false, refl}
 use Rattle.std.specs.Prelude.{Result, Ok, Err}
-use Rattle.claxon_format.specs.Reading.{Reading}
+use Rattle.claxon_format.specs.read.Reading.{Reading}
 use Rattle.claxon_input.specs.declared.error.Error.{Error}
 use Rattle.claxon_input.specs.declared.error.Error.TheVariants.{IoError, FormatError, Unsupported, OutOfMemory}
 use Rattle.claxon_input.specs.State.{State}

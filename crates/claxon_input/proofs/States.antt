@@ -8,7 +8,7 @@ use Rattle.std.proofs.lemmas.Bool.{lt-ltb, le-ltb}
 use Rattle.claxon_format.specs.Bits.{Bits, bits, bits_of}
 use Rattle.claxon_format.specs.Fault.{Fault}
 use Rattle.claxon_format.specs.read.Bytes.{bytes_at}
-use Rattle.claxon_format.specs.Reading.{Reading, Done, Faulty, Incomplete}
+use Rattle.claxon_format.specs.read.Reading.{Reading, Done, Faulty, Incomplete}
 use Rattle.claxon_format.specs.read.Bits.{number_at, zeros_at, one_more, in_u32, unary_at, bit_at}
 use Rattle.claxon_format.proofs.Bytes.{bits_of-append}
 use Rattle.claxon_format.proofs.Numbers.{Reads-number}

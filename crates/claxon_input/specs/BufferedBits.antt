@@ -1,7 +1,7 @@
 -- Buffered bits.
 use Rattle.std.specs.Prelude.{◌≡◌, ℕ, ◌≤◌, Bool, true, ◌++◌, length, take, drop, cond, nat_lt, Option, MatchOption}
 use Rattle.claxon_format.specs.Bits.{Bits, bits, bits_of}
-use Rattle.claxon_format.specs.Reading.{Reading, Done, Incomplete}
+use Rattle.claxon_format.specs.read.Reading.{Reading, Done, Incomplete}
 use Rattle.claxon_input.specs.State.{State}
 use Rattle.claxon_input.specs.declared.bits.buffered.BufferedBits.{BufferedBits}
 

@@ -1,7 +1,7 @@
 -- What a call that reads a field returned and consumed, by a reader on lists. Proofs about calls one after another use these
 -- clauses; what callers see of them stands in `Promises`.
 use Rattle.std.specs.Prelude.{◌≡◌, ◌≢◌, ℕ, Option, None, Some, ◌⊎◌, true, false, cond, nat_lt, List, [], ◌++◌, length, Result, Ok, Err}
-use Rattle.claxon_format.specs.Reading.{Reading, Done, Faulty, Incomplete, and_then, done}
+use Rattle.claxon_format.specs.read.Reading.{Reading, Done, Faulty, Incomplete, and_then, done}
 use Rattle.claxon_input.specs.Error.{IsFault, is_io, is_named}
 use Rattle.claxon_input.specs.State.{State}
 use Rattle.claxon_input.specs.declared.error.Error.{Error}

@@ -4,7 +4,7 @@ use Rattle.std.proofs.lemmas.Bool.{lt-ltb, le-ltb}
 use Rattle.std.proofs.lemmas.List.{append-nil, map-append}
 use Rattle.claxon_format.specs.Comments.{Entry}
 use Rattle.claxon_format.specs.read.Comments.{entry_length_at, entry_or_empty_at, entries_end_at, entries_at}
-use Rattle.claxon_format.specs.Reading.{Reading, Done, Faulty, Incomplete, bind}
+use Rattle.claxon_format.specs.read.Reading.{Reading, Done, Faulty, Incomplete, bind}
 use Rattle.claxon_input.specs.State.{State}
 use Rattle.claxon_input.specs.Gives.{Consumes}
 use Rattle.claxon_input.proofs.FieldLoops.{with_front}

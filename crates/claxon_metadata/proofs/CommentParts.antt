@@ -4,7 +4,7 @@ use Rattle.std.specs.Prelude.{◌/◌}
 use Rattle.std.proofs.lemmas.Bool.{le-ltb}
 use Rattle.claxon_format.specs.Comments.{Entry}
 use Rattle.claxon_format.specs.Metadata.{max_content_bytes}
-use Rattle.claxon_format.specs.Reading.{Done}
+use Rattle.claxon_format.specs.read.Reading.{Done}
 use Rattle.claxon_format.specs.read.Comments.{comment_at, count_at, entries_at, vendor_at, vendor_length_at}
 use Rattle.claxon_input.specs.Gives.{Consumes}
 use Rattle.claxon_input.specs.State.{State}

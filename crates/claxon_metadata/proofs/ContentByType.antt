@@ -8,7 +8,7 @@ use Rattle.claxon_format.specs.read.MetadataBlocks.{info_body_at, application_at
 use Rattle.claxon_format.specs.read.Comments.{comment_at, vendor_length_at}
 use Rattle.claxon_format.specs.Fault.{BlockType}
 use Rattle.claxon_format.specs.read.Bytes.{big_at, bytes_at, skipped_at}
-use Rattle.claxon_format.specs.Reading.{Reads, Reading, Done, Faulty, Incomplete, bind, done}
+use Rattle.claxon_format.specs.read.Reading.{Reads, Reading, Done, Faulty, Incomplete, bind, done}
 use Rattle.claxon_format.proofs.Comments.{Reads-vendor_length}
 use Rattle.claxon_format.proofs.Metadata.{Reads-block_header}
 use Rattle.claxon_format.proofs.MetadataBlocks.{Reads-block}

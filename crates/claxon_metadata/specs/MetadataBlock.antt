@@ -3,7 +3,8 @@ use Rattle.std.specs.Prelude.{◌≡◌, ◌⊎◌, ◌++◌, Bool, true, Result
 use Rattle.claxon_format.specs.MetadataBlocks.{Content, Info, Padding, Application, Comments, Reserved, MetadataBlock as Block, BlockCode}
 use Rattle.claxon_format.specs.read.MetadataBlocks.{block_at}
 use Rattle.claxon_format.specs.Metadata.{BlockHeader, BlockHeaderCode, max_content_bytes}
-use Rattle.claxon_format.specs.Reading.{Reading, Mapped, and_then, done}
+use Rattle.claxon_format.specs.read.Reading.{Reading, and_then, done}
+use Rattle.claxon_format.specs.Codes.{Mapped}
 use Rattle.claxon_format.specs.Streaminfo.{Streaminfo}
 use Rattle.claxon_format.specs.read.Streaminfo.{StreaminfoSizes, StreaminfoFormat}
 use Rattle.claxon_input.specs.declared.error.Error.{Error}

@@ -3,7 +3,7 @@ use Rattle.std.specs.Prelude.{◌≡◌, ℕ, true, nat_lt, Option, None, Some, 
 use Rattle.std.specs.declared.string.String.{String}
 use Rattle.claxon_format.specs.Comments.{Entry, Comment, VendorLength}
 use Rattle.claxon_format.specs.Fault.{Fault}
-use Rattle.claxon_format.specs.Reading.{checked_at}
+use Rattle.claxon_format.specs.read.Reading.{checked_at}
 use Rattle.claxon_format.specs.read.Bytes.{little_at}
 use Rattle.claxon_format.specs.read.Comments.{entries_end_at}
 use Rattle.claxon_input.specs.Error.{IsFault, is_named}

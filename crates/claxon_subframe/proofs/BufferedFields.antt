@@ -5,7 +5,7 @@ use Rattle.std.proofs.lemmas.List.{take_more_set, take_at, drop_at, take_all, le
 use Rattle.std.proofs.lemmas.Slice.{take-put_mid}
 use borrow.Rule.Slice.PartMut.{put_mid, same_len_mid}
 use Rattle.claxon_format.specs.Bits.{Bits}
-use Rattle.claxon_format.specs.Reading.{Reading, Done, times_at, each_at}
+use Rattle.claxon_format.specs.read.Reading.{Reading, Done, times_at, each_at}
 use Rattle.claxon_input.specs.BufferedBits.{bits_in_buffer, GivesBuffered}
 use Rattle.claxon_input.specs.declared.bits.buffered.BufferedBits.{BufferedBits}
 use Rattle.claxon_input.specs.State.{State}

@@ -8,7 +8,8 @@ use Rattle.claxon_format.proofs.Numbers.{Reads-number}
 use Rattle.claxon_format.proofs.Residuals.{Reads-partition, some_never}
 use Rattle.claxon_format.proofs.RiceCodes.{never}
 use Rattle.claxon_format.specs.Bits.{Bits}
-use Rattle.claxon_format.specs.Reading.{Reads, Never, Done, EachWith, Mapped, each_at, times_at}
+use Rattle.claxon_format.specs.read.Reading.{Reads, Done, each_at, times_at}
+use Rattle.claxon_format.specs.Codes.{Never, EachWith, Mapped}
 use Rattle.claxon_format.specs.Residual.{Partition, escape}
 use Rattle.claxon_format.specs.read.Bits.{number_at, rice_code_at}
 use Rattle.claxon_format.specs.read.Residual.{joined_at, partition_at}

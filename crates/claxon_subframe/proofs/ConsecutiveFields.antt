@@ -1,6 +1,6 @@
 -- A field of consecutive fields, read by one call each: after a call the other fields are left, and where a call fails the whole fails.
 use Rattle.std.proofs.Common.{◌≡◌, List, ap, ◌∙◌}
-use Rattle.claxon_format.specs.Reading.{Reading, Done, bind}
+use Rattle.claxon_format.specs.read.Reading.{Reading, Done, bind}
 use Rattle.claxon_input.specs.declared.error.Error.{Error}
 use Rattle.claxon_input.specs.State.{State}
 use Rattle.claxon_input.specs.Gives.{Consumes, Stops}

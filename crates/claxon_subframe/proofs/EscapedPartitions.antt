@@ -1,7 +1,7 @@
 -- The residual samples of an escaped partition.
 use Rattle.std.proofs.Common.{◌≡◌, ◌≢◌, ℕ, zero, suc, replicate, refl, pos}
 use Rattle.claxon_format.specs.Bits.{Bits}
-use Rattle.claxon_format.specs.Reading.{Done, times_at, each_at}
+use Rattle.claxon_format.specs.read.Reading.{Done, times_at, each_at}
 use Rattle.claxon_format.specs.read.Residual.{escaped_sample_at}
 use Rattle.claxon_format.specs.read.Bits.{signed_at}
 

@@ -4,7 +4,7 @@ use Rattle.std.specs.List.{flat_map}
 use Rattle.std.proofs.lemmas.List.{append-nil}
 use Rattle.claxon_format.proofs.Laws.{bind_done}
 use Rattle.claxon_format.specs.Bits.{Bits}
-use Rattle.claxon_format.specs.Reading.{Reading, Done, Faulty, Incomplete, bind, done, each_at}
+use Rattle.claxon_format.specs.read.Reading.{Reading, Done, Faulty, Incomplete, bind, done, each_at}
 use Rattle.claxon_format.specs.read.Residual.{joined_at}
 use Rattle.claxon_input.proofs.FieldLoops.{with_front, front_none, front_both}
 

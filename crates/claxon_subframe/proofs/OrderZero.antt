@@ -3,11 +3,12 @@ use Rattle.std.proofs.Common.{◌≡◌, ℕ, Bool, false, ltb, List, [], ◌∷
 use Rattle.std.proofs.lemmas.Bool.{le-ltb}
 use Rattle.std.proofs.lemmas.Int.{ints, int_wrap_fits}
 use Rattle.claxon_format.specs.Bits.{Bits}
-use Rattle.claxon_format.specs.Reading.{Reading, Done, Faulty, Incomplete, bind, done, times_at, each_at}
+use Rattle.claxon_format.specs.read.Reading.{Reading, Done, Faulty, Incomplete, bind, done, times_at, each_at}
 use Rattle.claxon_format.specs.read.Residual.{residual_at}
 use Rattle.claxon_format.specs.read.Subframe.{fixed_at}
 use Rattle.claxon_format.specs.Subframe.{AllFit}
-use Rattle.claxon_format.specs.Predict.{wrap, restore, fixed}
+use Rattle.claxon_format.specs.Predict.{wrap}
+use Rattle.claxon_format.specs.read.Predict.{restore, fixed}
 use Rattle.claxon_format.proofs.Predicted.{residual_fits}
 use Rattle.claxon_format.proofs.Residuals.{Reads-residual}
 

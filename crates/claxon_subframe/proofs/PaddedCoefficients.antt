@@ -4,7 +4,8 @@ use Rattle.std.proofs.lemmas.List.{take_more_set, take_more, take_all, append-ni
 use Rattle.std.proofs.Math.Seq.{take-append_seam, drop-append_seam}
 use Rattle.std.proofs.lemmas.Bool.{cases_lt}
 use Rattle.claxon_format.proofs.Predicted.{length-restore}
-use Rattle.claxon_format.specs.Predict.{wrap, dot, floor_shift, linear, restore, restored}
+use Rattle.claxon_format.specs.Predict.{wrap, dot, floor_shift, linear}
+use Rattle.claxon_format.specs.read.Predict.{restore, restored}
 use Rattle.claxon_subframe.proofs.Predictors.{restored_all, abs_16, value_16}
 use Rattle.claxon_subframe.specs.Lanes.{AllWithin, Within}
 use Rattle.claxon_subframe.proofs.Lanes.{dot_trailing_zeros}

@@ -2,7 +2,7 @@
 use Rattle.std.proofs.Common.{◌≡◌, ◌≢◌, ℕ, ◌+◌, ◌-◌, ◌*◌, ◌%◌, ◌^◌, ◌<◌, ◌≤◌, true, false, eqb, refl, sym, ap, subst, ◌∙◌, arith}
 use Rattle.std.proofs.lemmas.Bool.Decides.{nat_tests}
 use Rattle.claxon_format.specs.Bits.{Bits}
-use Rattle.claxon_format.specs.Reading.{Done, Incomplete, times_at}
+use Rattle.claxon_format.specs.read.Reading.{Done, Incomplete, times_at}
 use Rattle.claxon_format.specs.Residual.{escape}
 use Rattle.claxon_format.specs.read.Bits.{number_at, rice_code_at}
 use Rattle.claxon_format.specs.read.Residual.{escaped_partition_at, partition_at}

@@ -5,8 +5,9 @@ use Rattle.std.proofs.lemmas.List.{length-append, length-drop, length-take, leng
 use Rattle.std.proofs.lemmas.Slice.{take-put_mid}
 use borrow.Rule.Slice.PartMut.{mid_of, put_mid, same_len_mid}
 use Rattle.claxon_format.specs.Bits.{Bits}
-use Rattle.claxon_format.specs.Predict.{fixed, linear, restore, restored}
-use Rattle.claxon_format.specs.Reading.{Reading, Done, and_then, done, times_at}
+use Rattle.claxon_format.specs.read.Predict.{fixed, restore, restored}
+use Rattle.claxon_format.specs.Predict.{linear}
+use Rattle.claxon_format.specs.read.Reading.{Reading, Done, and_then, done, times_at}
 use Rattle.claxon_format.specs.read.Bits.{signed_at}
 use Rattle.claxon_format.specs.read.Residual.{residual_at}
 use Rattle.claxon_format.specs.read.Subframe.{fixed_at, linear_at, parameters_at}

@@ -6,7 +6,8 @@ use Rattle.std.proofs.Math.IntN.{+ℤ_assoc, +ℤ_comm}
 use Rattle.std.proofs.lemmas.Nat.{and_mask, mul-le}
 use Rattle.std.proofs.lemmas.Int.{wraps, unsigned_abs-mul, to_z-of_z, ints, int_wrap-add_left, SFits-int_wrap}
 use Rattle.std.proofs.lemmas.List.{drop_more, take_more_set, drop-set-lt, take-append-drop, append-nil, reverse-append, drop_all, take_all, length-reverse, length-drop, length-take, drop-take}
-use Rattle.claxon_format.specs.Predict.{linear, floor_shift, dot, wrap, restore, restored}
+use Rattle.claxon_format.specs.Predict.{linear, floor_shift, dot, wrap}
+use Rattle.claxon_format.specs.read.Predict.{restore, restored}
 
 -- ---- the step of a loop in place
 

@@ -3,7 +3,8 @@ use Rattle.std.proofs.Common.{◌≡◌, ℕ, ◌+◌, ◌-◌, ◌<◌, ◌≤�
 use Rattle.std.proofs.lemmas.List.{take_more_set, drop_more, drop-set-lt, reverse-append, drop_all, take_all, append-nil, length-drop}
 use Rattle.std.proofs.lemmas.Int.{to_z-of_z}
 use borrow.Rule.Slice.PartMut.{put_mid}
-use Rattle.claxon_format.specs.Predict.{wrap, restore, restored}
+use Rattle.claxon_format.specs.Predict.{wrap}
+use Rattle.claxon_format.specs.read.Predict.{restore, restored}
 
 -- i of the items were restored; whole are all restored samples, and newest those in variables
 pub record Restoring (p : List ℤ → ℤ) (start whole items : List ℤ) (i : ℕ) (newest : List ℤ) : Type 0 where

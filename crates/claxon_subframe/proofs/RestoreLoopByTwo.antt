@@ -2,7 +2,8 @@
 use Rattle.std.proofs.Common.{◌≡◌, ℕ, ◌+◌, ◌<◌, List, [], ◌∷◌, ◌++◌, length, take, drop, reverse, get_or, set, refl, sym, ap, ◌∙◌, arith, ℤ, pos, ◌+ℤ◌, to_z, of_z, w32, w64, FitsSigned}
 use Rattle.std.proofs.lemmas.Int.{to_z-of_z, int_wrap_fits, SFits-int_wrap}
 use Rattle.std.proofs.lemmas.List.{take_more, take_more_set, get_or-set_other, length-set, take-append-drop, take-take, drop-take, reverse-append}
-use Rattle.claxon_format.specs.Predict.{wrap, linear, restored}
+use Rattle.claxon_format.specs.Predict.{wrap, linear}
+use Rattle.claxon_format.specs.read.Predict.{restored}
 use Rattle.claxon_subframe.specs.PendingSums.{but_newest_five, four_pending, five_before, AreNewest, IsScaledUp, IsFollowedByTwo}
 use Rattle.claxon_subframe.specs.declared.subframe.predictor.NewestFive.{NewestFive}
 use Rattle.claxon_subframe.proofs.Predictors.{restored_more, restored_all, abs_32}

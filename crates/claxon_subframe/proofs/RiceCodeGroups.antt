@@ -7,9 +7,9 @@ use Rattle.std.proofs.lemmas.List.{take-take, drop-take, take-append-le, drop-ap
 use Rattle.std.proofs.lemmas.Nat.{pow_pos, shl-shr, shl_below, shr_below, shr_split, or_shifted, or_shr, or_comm, le_or_l, le_or_r, and_mask, mod-pow-add, mod-mul-add, mod_below}
 use Rattle.std.proofs.Math.Nat.{eq-zero-or-pos, mod-eq_of_lt, mul-pos}
 use Rattle.std.proofs.Math.Seq.{drop-append-add}
-use Rattle.claxon_format.specs.Bits.{Bits, bits, zigzag_decode}
-use Rattle.claxon_format.specs.Reading.{Done, times_at, each_at}
-use Rattle.claxon_format.specs.read.Bits.{number_at, unary_at, rice_code_at}
+use Rattle.claxon_format.specs.Bits.{Bits, bits}
+use Rattle.claxon_format.specs.read.Bits.{zigzag_decode, number_at, unary_at, rice_code_at}
+use Rattle.claxon_format.specs.read.Reading.{Done, times_at, each_at}
 use Rattle.claxon_format.proofs.Numbers.{Reads-number, length-bits}
 use Rattle.claxon_format.proofs.RiceCodes.{Reads-unary}
 use Rattle.claxon_input.specs.BufferedBits.{bits_in_buffer, GivesBuffered, PeeksBits}

@@ -5,9 +5,9 @@ use Rattle.std.proofs.lemmas.Nat.{and_mask, div-mul-add, mod-mul-add, mod_below,
 use Rattle.std.proofs.lemmas.Int.{ints, to_z-of_z}
 use Rattle.std.specs.Int.Bits.{xor_add_and, xor_zero_r}
 use Rattle.std.specs.Int.Signed.{shr_z}
-use Rattle.claxon_format.specs.Bits.{Bits, zigzag_decode}
-use Rattle.claxon_format.specs.Reading.{Done, done}
-use Rattle.claxon_format.specs.read.Bits.{zigzag_encoded, number_at, unary_at, rice_code_at}
+use Rattle.claxon_format.specs.Bits.{Bits}
+use Rattle.claxon_format.specs.read.Bits.{zigzag_decode, zigzag_encoded, number_at, unary_at, rice_code_at}
+use Rattle.claxon_format.specs.read.Reading.{Done, done}
 use Rattle.claxon_format.proofs.Numbers.{Reads-number}
 use Rattle.claxon_format.proofs.RiceCodes.{parts, zigzag_decode-fits}
 

@@ -4,7 +4,8 @@ use Rattle.std.proofs.lemmas.Bool.{ltb-true, lt-ltb}
 use Rattle.std.proofs.lemmas.Int.{ints, int_wrap_fits}
 use Rattle.claxon_format.specs.Bits.{Bits, Signed}
 use Rattle.claxon_format.specs.Predict.{wrap}
-use Rattle.claxon_format.specs.Reading.{Done, Mapped}
+use Rattle.claxon_format.specs.read.Reading.{Done}
+use Rattle.claxon_format.specs.Codes.{Mapped}
 use Rattle.claxon_format.specs.read.Subframe.{subframe_body_at, SubframeFields, subframe_header_at, subframe_at}
 use Rattle.claxon_format.specs.Subframe.{AllFit, Samples, Fixed, Linear, scaled}
 use Rattle.claxon_format.proofs.Laws.{Reads-map, Reads-cond}

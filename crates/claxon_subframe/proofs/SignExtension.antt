@@ -5,9 +5,9 @@ use Rattle.std.proofs.lemmas.Bool.{cases_lt, lt-ltb, le-ltb}
 use Rattle.std.proofs.lemmas.Int.{to_z-of_z}
 use Rattle.std.proofs.lemmas.Nat.{pow-add, pow_pos, div-mul-add, mod-mul-add, mod_below}
 use Rattle.std.proofs.Math.Nat.{pow-suc, mul_assoc}
-use Rattle.claxon_format.specs.Bits.{Bits, twos_complement}
-use Rattle.claxon_format.specs.Reading.{Done, done}
-use Rattle.claxon_format.specs.read.Bits.{number_at, signed_at}
+use Rattle.claxon_format.specs.Bits.{Bits}
+use Rattle.claxon_format.specs.read.Bits.{twos_complement, number_at, signed_at}
+use Rattle.claxon_format.specs.read.Reading.{Done, done}
 use Rattle.claxon_format.proofs.Numbers.{Reads-number, mod_small}
 
 -- the value of n in two's complement, modulo twice half

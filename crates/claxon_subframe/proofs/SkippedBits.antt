@@ -2,7 +2,8 @@
 use Rattle.std.proofs.Common.{◌≡◌, Bool, ℕ, ◌+◌, ◌-◌, ◌≤◌, ◌++◌, length, drop, sym, ap, ◌∙◌, arith, length-append}
 use Rattle.std.proofs.lemmas.List.{drop_at}
 use Rattle.claxon_format.specs.Bits.{Bits}
-use Rattle.claxon_format.specs.Reading.{Reading, Reads, Never, Done, Incomplete}
+use Rattle.claxon_format.specs.read.Reading.{Reading, Reads, Done, Incomplete}
+use Rattle.claxon_format.specs.Codes.{Never}
 use Rattle.claxon_input.specs.BufferedBits.{bits_in_buffer, GivesBuffered, IsBufferOf, skipped_bits_at}
 use Rattle.claxon_input.specs.declared.bits.buffered.BufferedBits.{BufferedBits}
 use Rattle.claxon_input.specs.State.{State}

@@ -1,7 +1,7 @@
 -- The clauses of `subframe::decode` (RFC 9639, section 9.2). `old` and `new` are the reader before and after the call; w is the
 -- bit depth, n the number of samples, and channel what the buffer holds afterwards.
 use Rattle.std.specs.Prelude.{ℕ, List, ℤ, Result}
-use Rattle.claxon_format.specs.Laws.{IsUnambiguous}
+use Rattle.claxon_format.specs.Unambiguous.{IsUnambiguous}
 use Rattle.claxon_format.specs.read.Subframe.{subframe_at}
 use Rattle.claxon_format.specs.Subframe.{Subframe, SubframeFault}
 use Rattle.claxon_input.specs.Bitstream.{bit_state}

@@ -1,7 +1,7 @@
 -- The clauses of the calls that read the Rice codes of a partition (RFC 9639, section 9.2.7.1).
 use Rattle.std.specs.Prelude.{◌≡◌, ℕ, ◌-◌, ◌<◌, ◌≤◌, List, ◌++◌, ℤ, length, take, drop, Result, IfOk}
 use Rattle.claxon_format.specs.Bits.{Bits, bits}
-use Rattle.claxon_format.specs.Reading.{Done, times_at}
+use Rattle.claxon_format.specs.read.Reading.{Done, times_at}
 use Rattle.claxon_format.specs.read.Bits.{rice_code_at}
 use Rattle.claxon_input.specs.BufferedBits.{GivesBuffered}
 use Rattle.claxon_input.specs.Gives.{Gives, Consumes}

@@ -1,6 +1,6 @@
 -- The clauses of the calls that read unencoded samples (RFC 9639, section 9.2.4).
 use Rattle.std.specs.Prelude.{◌≡◌, ℕ, List, ℤ, length, take, Result, IfOk}
-use Rattle.claxon_format.specs.Reading.{Done, times_at}
+use Rattle.claxon_format.specs.read.Reading.{Done, times_at}
 use Rattle.claxon_format.specs.read.Bits.{signed_at}
 use Rattle.claxon_input.specs.Gives.{Gives, Consumes}
 use Rattle.claxon_input.specs.Source.{Source}

@@ -1,9 +1,9 @@
 //! Subframes: one channel of a frame.
 ghost use Rattle.std.specs.Prelude.{◌≡◌, ◌+◌, ◌-◌, ◌*◌, ◌%◌, ◌^◌, ◌<◌, ◌≤◌, IfOk, length, map, replicate};
-ghost use Rattle.claxon_format.specs.Bits.{FitsIn, residue, twos_complement};
+ghost use Rattle.claxon_format.specs.Bits.{FitsIn, residue};
+ghost use Rattle.claxon_format.specs.read.Bits.{twos_complement, signed_at};
 ghost use Rattle.claxon_format.specs.Fault.{Fault};
-ghost use Rattle.claxon_format.specs.Reading.{and_then, done, times_at};
-ghost use Rattle.claxon_format.specs.read.Bits.{signed_at};
+ghost use Rattle.claxon_format.specs.read.Reading.{and_then, done, times_at};
 ghost use Rattle.claxon_format.specs.read.Residual.{partition_at, residual_at, escaped_partition_at, joined_at, method_at};
 ghost use Rattle.claxon_format.specs.read.Subframe.{fixed_at, subframe_at, type_at, wasted_bits_to_31_at, subframe_header_at, parameters_at, linear_at, subframe_body_at};
 ghost use Rattle.claxon_format.specs.Subframe.{scaled};

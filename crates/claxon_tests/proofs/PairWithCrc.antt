@@ -3,7 +3,7 @@ use Rattle.std.proofs.Common.{◌≡◌, ◌<◌, ℕ, List, subst, ◌∙◌}
 use Rattle.claxon_format.specs.Fault.{FrameCrc}
 use Rattle.claxon_format.specs.read.Bytes.{by_bytes, crc_at, with_crc_bytes_at}
 use Rattle.claxon_format.specs.Crc.{crc16}
-use Rattle.claxon_format.specs.Reading.{Done, bind, done}
+use Rattle.claxon_format.specs.read.Reading.{Done, bind, done}
 use Rattle.claxon_format.proofs.Laws.{Reads-then, Reads-map}
 use Rattle.claxon_format.proofs.Numbers.{Reads-number}
 use Rattle.claxon_format.proofs.CrcBytes.{with_crc_in_bytes}

@@ -5,7 +5,7 @@ use Rattle.claxon_format.specs.Fault.{FrameCrc}
 use Rattle.claxon_format.specs.read.Bytes.{by_bytes}
 use Rattle.claxon_format.specs.read.Crc.{byte_aligned_at, with_crc_at}
 use Rattle.claxon_format.specs.Crc.{crc16}
-use Rattle.claxon_format.specs.Reading.{Reading, and_then, done}
+use Rattle.claxon_format.specs.read.Reading.{Reading, and_then, done}
 use Rattle.claxon_format.specs.read.Bits.{number_at}
 use Rattle.claxon_input.specs.Gives.{Gives}
 use Rattle.claxon_input.specs.Source.{Source}

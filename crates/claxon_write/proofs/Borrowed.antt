@@ -7,7 +7,7 @@ use Rattle.std.specs.Result.{result_and}
 use Rattle.std.specs.Io.KnownBytes.{Keeps}
 use Rattle.claxon.specs.Frame.{StreamFormat, Block}
 use Rattle.claxon.specs.read.Frame.{frame_bytes_at}
-use Rattle.claxon.specs.Reading.{Reading}
+use Rattle.claxon.specs.read.Reading.{Reading}
 use Rattle.claxon.specs.Errors.{Error}
 use Rattle.claxon.specs.Errors.TheVariants.{IoError, FormatError, Unsupported, OutOfMemory}
 use Rattle.claxon.specs.Gives.{FailedOr, Stops, FailureOr, Consumes, ReachedEof, GivesOrEofOrOutOfMemory}

@@ -3,7 +3,7 @@ use Rattle.std.proofs.Common.{◌≡◌, inl, inr, ℕ, ◌+◌, ◌*◌, ◌≤
 use Rattle.std.specs.Prelude.{Result, Ok, Err}
 use Rattle.claxon.specs.Frame.{StreamFormat, Block}
 use Rattle.claxon.specs.read.Frame.{frame_bytes_at}
-use Rattle.claxon.specs.Reading.{Reading}
+use Rattle.claxon.specs.read.Reading.{Reading}
 use Rattle.claxon.specs.Streams.{interleave}
 use Rattle.claxon.proofs.Streams.{length-interleave}
 use Rattle.claxon.specs.State.{State}

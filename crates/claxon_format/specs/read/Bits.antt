@@ -1,7 +1,7 @@
 -- Readers of bits and numbers (RFC 9639, section 5), and of Rice codes (section 9.2.7.2).
-use Rattle.std.specs.Prelude.{ℕ, suc, ◌+◌, ◌*◌, ◌%◌, ◌^◌, Bool, true, false, cond, nat_lt, [], ◌∷◌, length, take, drop, ℤ}
-use Rattle.claxon_format.specs.Bits.{Bits, number, zigzag_decode, twos_complement}
-use Rattle.claxon_format.specs.Reading.{Reading, Done, Faulty, Incomplete, and_then, done}
+use Rattle.std.specs.Prelude.{ℕ, suc, ◌+◌, ◌-◌, ◌*◌, ◌/◌, ◌%◌, ◌^◌, Bool, true, false, cond, ◌==◌, nat_lt, [], ◌∷◌, length, take, drop, ℤ, pos, negsuc}
+use Rattle.claxon_format.specs.Bits.{Bits, number}
+use Rattle.claxon_format.specs.read.Reading.{Reading, Done, Faulty, Incomplete, and_then, done}
 
 unfoldable pub bit_at : Bits → Reading Bool Bool
 bit_at [] = Incomplete
@@ -10,6 +10,10 @@ bit_at (b ∷ s) = Done b s
 -- a number of w bits
 unfoldable pub number_at : ℕ → Bits → Reading Bool ℕ
 number_at w s = cond (nat_lt (length s) w) Incomplete (Done (number (take w s)) (drop w s))
+
+-- the integer of w bits that n stands for in two's complement
+unfoldable pub twos_complement : ℕ → ℕ → ℤ
+twos_complement w n = cond (nat_lt n (2 ^ (w - 1))) (pos n) (negsuc (2 ^ w - 1 - n))
 
 -- an integer of w bits in two's complement
 unfoldable pub signed_at : ℕ → Bits → Reading Bool ℤ
@@ -40,6 +44,10 @@ unary_at s = in_u32 (zeros_at s)
 -- the zigzag-encoded number of a quotient and k low bits
 abbrev pub zigzag_encoded : ℕ → ℕ → ℕ → ℕ
 zigzag_encoded k q r = (q * 2 ^ k + r) % 2 ^ 32
+
+-- the integer that a zigzag-encoded number stands for
+abbrev pub zigzag_decode : ℕ → ℤ
+zigzag_decode n = cond (n % 2 == 0) (pos (n / 2)) (negsuc (n / 2))
 
 -- a Rice code under the Rice parameter k
 unfoldable pub rice_code_at : ℕ → Bits → Reading Bool ℤ

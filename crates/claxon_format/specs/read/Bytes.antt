@@ -2,7 +2,7 @@
 use Rattle.std.specs.Prelude.{ℕ, ◌+◌, ◌*◌, ◌%◌, ◌^◌, [], ◌∷◌, ◌-◌, ◌/◌, Bool, cond, not, ◌==◌, nat_lt, List, length, take, drop}
 use Rattle.claxon_format.specs.Bits.{Bits, bits_of}
 use Rattle.claxon_format.specs.Fault.{Fault}
-use Rattle.claxon_format.specs.Reading.{Reading, Done, Faulty, Incomplete, and_then, and_with, done, test}
+use Rattle.claxon_format.specs.read.Reading.{Reading, Done, Faulty, Incomplete, and_then, and_with, done, test}
 
 -- the number that bytes stand for, big-endian and little-endian; as in `bits_of` a byte counts modulo 256
 unfoldable pub big_endian : List ℕ → ℕ

@@ -3,7 +3,7 @@ use Rattle.std.specs.Prelude.{ℕ, zero, suc, ◌+◌, ◌-◌, ◌*◌, ◌%◌
 use Rattle.claxon_format.specs.Bits.{Bits}
 use Rattle.claxon_format.specs.CodedNumber.{bad_first, bad_continuation, continuation_count}
 use Rattle.claxon_format.specs.Fault.{NumberFirst, NumberContinuation}
-use Rattle.claxon_format.specs.Reading.{Reading, and_then, done, test}
+use Rattle.claxon_format.specs.read.Reading.{Reading, and_then, done, test}
 use Rattle.claxon_format.specs.read.Bits.{number_at}
 
 -- a reader of numbers of a count of bytes: from bits it is `in_bits`, from bytes `big_at`

@@ -1,10 +1,15 @@
 -- Readers of the content of a Vorbis comment block and of its fields (RFC 9639, section 8.6).
-use Rattle.std.specs.Prelude.{ℕ, zero, suc, ◌-◌, ◌/◌, cond, not, ◌==◌, nat_lt, nat_le, List, [], ◌∷◌, ◌++◌}
+use Rattle.std.specs.Prelude.{cond, ℕ, zero, suc, ◌-◌, ◌/◌, not, ◌==◌, nat_lt, nat_le, List, [], ◌∷◌, ◌++◌}
+use Rattle.std.specs.List.{position_or_len}
 use Rattle.claxon_format.specs.Fault.{CommentShort, CommentLarge, VendorLong, VendorNotUtf8, TooManyEntries, EntryLong, SeparatorMissing, NameByte, EntryNotUtf8, ExcessData, EntriesMissing}
-use Rattle.claxon_format.specs.Reading.{Reading, and_then, done, test, checked_at}
+use Rattle.claxon_format.specs.read.Reading.{Reading, and_then, done, test, checked_at}
 use Rattle.claxon_format.specs.Metadata.{max_content_bytes}
 use Rattle.claxon_format.specs.read.Bytes.{bytes_at, little_at}
-use Rattle.claxon_format.specs.Comments.{Entry, Comment, entry_of, has_separator, has_name, not_utf8}
+use Rattle.claxon_format.specs.Comments.{Entry, Comment, is_separator, has_separator, has_name, not_utf8}
+
+-- the entry that a text is, if it is one
+abbrev pub entry_of : List ℕ → Entry
+entry_of text = record { text = text; place = position_or_len is_separator text }
 
 unfoldable pub entry_at : ℕ → List ℕ → Reading ℕ Entry
 entry_at n = and_then (bytes_at n) (λ text. test (not (has_separator text)) SeparatorMissing (test (not (has_name text)) NameByte (test (not_utf8 text) EntryNotUtf8 (done (entry_of text)))))

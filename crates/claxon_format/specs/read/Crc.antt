@@ -3,7 +3,7 @@ use Rattle.std.specs.Prelude.{ℕ, Bool, not, ◌==◌}
 use Rattle.claxon_format.specs.Bits.{Bits}
 use Rattle.claxon_format.specs.Fault.{Fault}
 use Rattle.claxon_format.specs.Crc.{padding_length}
-use Rattle.claxon_format.specs.Reading.{Reading, and_then, and_with, done, test}
+use Rattle.claxon_format.specs.read.Reading.{Reading, and_then, and_with, done, test}
 use Rattle.claxon_format.specs.read.Bits.{number_at}
 
 -- what r reads, and then its CRC of w bits

@@ -5,8 +5,9 @@ use Rattle.claxon_format.specs.Fault.{FrameCrc}
 use Rattle.claxon_format.specs.Frame.{StreamFormat, Block, known_width, time_of}
 use Rattle.claxon_format.specs.Crc.{crc16}
 use Rattle.claxon_format.specs.Header.{Header}
-use Rattle.claxon_format.specs.Reading.{Reading, and_then, done, each_at}
-use Rattle.claxon_format.specs.Stereo.{widths, decoded_channels}
+use Rattle.claxon_format.specs.read.Reading.{Reading, and_then, done, each_at}
+use Rattle.claxon_format.specs.Stereo.{widths}
+use Rattle.claxon_format.specs.read.Stereo.{decoded_channels}
 use Rattle.claxon_format.specs.read.Bytes.{by_bytes, with_crc_bytes_at}
 use Rattle.claxon_format.specs.read.Header.{fields_with_crc_at, with_width}
 use Rattle.claxon_format.specs.read.Subframe.{subframe_at}

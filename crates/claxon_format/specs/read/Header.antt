@@ -6,7 +6,7 @@ use Rattle.claxon_format.specs.read.Bytes.{with_crc_bytes_at, big_at}
 use Rattle.claxon_format.specs.Crc.{crc8}
 use Rattle.claxon_format.specs.read.Crc.{with_crc_at}
 use Rattle.claxon_format.specs.Header.{Fields, Header, number_large, rate_bytes, side_too_wide, size_of, width_of, bit_depth_reserved}
-use Rattle.claxon_format.specs.Reading.{Reading, and_then, done, fails, test}
+use Rattle.claxon_format.specs.read.Reading.{Reading, and_then, done, fails, test}
 use Rattle.claxon_format.specs.read.CodedNumber.{Numbers, in_bits, coded_number_at}
 
 -- the sync code and a reserved bit, and whether the block size is variable

@@ -1,7 +1,7 @@
 -- Readers of the head of a stream and of its parts (RFC 9639, sections 6 and 8).
 use Rattle.std.specs.Prelude.{ℕ, zero, suc, ◌/◌, Bool, cond, not, ◌==◌, List, Option, None}
 use Rattle.claxon_format.specs.Fault.{Id3Header, StreamMarker, StreaminfoMissing, SecondComment, SecondStreaminfo, TooManyBlocks}
-use Rattle.claxon_format.specs.Reading.{Reading, and_then, done, test, fails}
+use Rattle.claxon_format.specs.read.Reading.{Reading, and_then, done, test, fails}
 use Rattle.claxon_format.specs.read.Bytes.{big_at}
 use Rattle.claxon_format.specs.Comments.{Comment}
 use Rattle.claxon_format.specs.MetadataBlocks.{Content, Info}

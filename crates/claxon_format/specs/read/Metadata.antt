@@ -1,6 +1,6 @@
 -- The reader of the header of a metadata block (RFC 9639, section 8.1).
 use Rattle.std.specs.Prelude.{ℕ, ◌%◌, nat_lt, List}
-use Rattle.claxon_format.specs.Reading.{Reading, and_then, done}
+use Rattle.claxon_format.specs.read.Reading.{Reading, and_then, done}
 use Rattle.claxon_format.specs.read.Bytes.{big_at}
 use Rattle.claxon_format.specs.Metadata.{BlockHeader}
 

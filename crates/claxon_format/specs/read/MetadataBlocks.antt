@@ -1,7 +1,7 @@
 -- Readers of metadata blocks and of their content (RFC 9639, section 8).
 use Rattle.std.specs.Prelude.{ℕ, ◌-◌, cond, not, ◌==◌, nat_lt, List}
 use Rattle.claxon_format.specs.Fault.{StreaminfoLength, BlockType, ApplicationShort, ApplicationLarge}
-use Rattle.claxon_format.specs.Reading.{Reading, and_then, done, test}
+use Rattle.claxon_format.specs.read.Reading.{Reading, and_then, done, test}
 use Rattle.claxon_format.specs.Metadata.{max_content_bytes}
 use Rattle.claxon_format.specs.read.Bytes.{bytes_at, big_at}
 use Rattle.claxon_format.specs.read.Metadata.{block_header_at}

@@ -3,7 +3,7 @@ use Rattle.std.specs.Prelude.{ℕ, zero, suc, ◌+◌, ◌/◌, ◌%◌, ◌^◌
 use Rattle.std.specs.List.{flat_map}
 use Rattle.claxon_format.specs.Bits.{Bits}
 use Rattle.claxon_format.specs.Fault.{MethodReserved, PartitionOrder, PartitionShort}
-use Rattle.claxon_format.specs.Reading.{Reading, and_then, done, each_at, times_at, test, checked_at}
+use Rattle.claxon_format.specs.read.Reading.{Reading, and_then, done, each_at, times_at, test, checked_at}
 use Rattle.claxon_format.specs.Residual.{escape, partition_lengths}
 use Rattle.claxon_format.specs.read.Bits.{number_at, signed_at, rice_code_at}
 

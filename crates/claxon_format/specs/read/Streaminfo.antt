@@ -1,7 +1,7 @@
 -- Readers of the content of a streaminfo block and of its fields (RFC 9639, section 8.2).
 use Rattle.std.specs.Prelude.{ℕ, ◌+◌, ◌*◌, ◌/◌, ◌%◌, ◌^◌, List, map}
 use Rattle.claxon_format.specs.Fault.{BlockSizeBounds, BlockSizeSmall, FrameSizeBounds, SampleRate}
-use Rattle.claxon_format.specs.Reading.{Reading, and_then, done, test}
+use Rattle.claxon_format.specs.read.Reading.{Reading, and_then, done, test}
 use Rattle.claxon_format.specs.read.Bytes.{bytes_at, big_at}
 use Rattle.claxon_format.specs.Streaminfo.{Streaminfo, block_sizes_inconsistent, block_small, frame_sizes_inconsistent, rate_invalid}
 

@@ -2,8 +2,9 @@
 use Rattle.std.specs.Prelude.{ℕ, suc, ◌+◌, ◌-◌, Bool, cond, ◌==◌, not, nat_lt, List, ◌++◌, ℤ, replicate, reverse, map}
 use Rattle.claxon_format.specs.Bits.{Bits}
 use Rattle.claxon_format.specs.Fault.{SubframePadding, SubframeTypeReserved, WastedBitsLarge, NoBitsLeft, FixedOrder, LinearOrder, PrecisionInvalid, ShiftNegative}
-use Rattle.claxon_format.specs.Predict.{restore, fixed, linear}
-use Rattle.claxon_format.specs.Reading.{Reading, and_then, done, times_at, test, checked_at}
+use Rattle.claxon_format.specs.read.Predict.{restore, fixed}
+use Rattle.claxon_format.specs.Predict.{linear}
+use Rattle.claxon_format.specs.read.Reading.{Reading, and_then, done, times_at, test, checked_at}
 use Rattle.claxon_format.specs.Subframe.{reserved, scaled}
 use Rattle.claxon_format.specs.read.Bits.{bit_at, number_at, signed_at, unary_at}
 use Rattle.claxon_format.specs.read.Residual.{residual_at}

@@ -6,7 +6,7 @@ ghost use Rattle.claxon_format.specs.Fault.{HeaderCrc, BitDepthReserved};
 ghost use Rattle.claxon_format.specs.Frame.{block_step, known_width, time_of};
 ghost use Rattle.claxon_format.specs.read.Bytes.{crc_at, big_at};
 ghost use Rattle.claxon_format.specs.Header.{rate_bytes, bit_depth_reserved};
-ghost use Rattle.claxon_format.specs.Reading.{done, test};
+ghost use Rattle.claxon_format.specs.read.Reading.{done, test};
 ghost use Rattle.claxon_input.specs.CrcReader.{crc_source, crc_state};
 ghost use Rattle.claxon_input.specs.CrcUpdate.{update_crc8};
 ghost use Rattle.claxon_input.specs.State.{State, bytes_in};

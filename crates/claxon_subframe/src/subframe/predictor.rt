@@ -1,7 +1,8 @@
 //! Predictors: samples from the warm-up samples and the residual, in place. Samples are modulo 2^32.
 ghost use Rattle.std.specs.Prelude.{◌≡◌, ◌+◌, ◌-◌, ◌*◌, ◌^◌, ◌<◌, ◌≤◌, true, false, ◌++◌, length, take, drop, reverse, replicate, get_or, pos, FitsSigned};
 ghost use Rattle.std.specs.Int.{w32};
-ghost use Rattle.claxon_format.specs.Predict.{wrap, dot, fixed, floor_shift, linear, restored};
+ghost use Rattle.claxon_format.specs.Predict.{wrap, dot, floor_shift, linear};
+ghost use Rattle.claxon_format.specs.read.Predict.{fixed, restored};
 ghost use Rattle.claxon_subframe.specs.Predictor.{SamplesAreRestored};
 ghost use Rattle.claxon_subframe.specs.Lanes.{Within, Lanes, LanesFit64, plus_products, advanced_by_two};
 ghost use Rattle.claxon_subframe.specs.PendingSums.{but_newest_five, AreTaps, SmallTaps, SumsFit64, ArePendingSumsAfterTwo, ArePendingSumsBeforeAll, ArePendingSumsAfter, IsScaledUp, AddsProduct, IsSample, IsFollowed, AreNewest, IsFollowedByTwo};

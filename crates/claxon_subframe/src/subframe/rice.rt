@@ -2,9 +2,9 @@
 //! where no call can fail; then these bits are skipped in one call.
 ghost use Rattle.std.specs.Prelude.{◌≡◌, ◌<◌, ◌≤◌, IfOk, IfErr, OnErr, length};
 ghost use Rattle.std.specs.Bool.{MatchBool};
-ghost use Rattle.claxon_format.specs.Bits.{Bits, zigzag_decode};
-ghost use Rattle.claxon_format.specs.Reading.{times_at};
-ghost use Rattle.claxon_format.specs.read.Bits.{rice_code_at};
+ghost use Rattle.claxon_format.specs.Bits.{Bits};
+ghost use Rattle.claxon_format.specs.read.Bits.{zigzag_decode, rice_code_at};
+ghost use Rattle.claxon_format.specs.read.Reading.{times_at};
 ghost use Rattle.claxon_input.specs.BufferedBits.{bits_in_buffer, GivesBuffered, GivesBufferedOrNone};
 ghost use Rattle.claxon_input.specs.State.{bits_in};
 ghost use Rattle.claxon_input.specs.Gives.{Gives, FailureOr};

@@ -2,7 +2,7 @@
 //! where no call can fail; then these bits are skipped in one call.
 ghost use Rattle.std.specs.Prelude.{◌≡◌, ◌<◌, ◌≤◌, ◌++◌, IfOk, IfErr, OnErr, length, take};
 ghost use Rattle.claxon_format.specs.Bits.{Bits};
-ghost use Rattle.claxon_format.specs.Reading.{Done, times_at};
+ghost use Rattle.claxon_format.specs.read.Reading.{Done, times_at};
 ghost use Rattle.claxon_format.specs.read.Bits.{signed_at};
 ghost use Rattle.claxon_input.specs.BufferedBits.{bits_in_buffer, GivesBufferedOrNone};
 ghost use Rattle.claxon_input.specs.State.{bits_in};

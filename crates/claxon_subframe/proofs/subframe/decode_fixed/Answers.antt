@@ -3,7 +3,7 @@ use Rattle.std.proofs.lemmas.Bool.{lt-ltb}
 use Rattle.std.proofs.lemmas.List.{length-take-le}
 use Rattle.std.proofs.lemmas.Result.{err_from_is_err_and}
 use Rattle.claxon_format.specs.Fault.{FixedOrder, fault_text}
-use Rattle.claxon_format.specs.Predict.{fixed}
+use Rattle.claxon_format.specs.read.Predict.{fixed}
 use Rattle.claxon_format.specs.read.Subframe.{fixed_at}
 use Rattle.claxon_format.specs.read.Residual.{residual_at}
 use Rattle.claxon_input.proofs.ConsecutiveCalls.{consumes_none, gives_after, exit}

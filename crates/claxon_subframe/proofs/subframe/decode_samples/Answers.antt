@@ -1,6 +1,6 @@
 use Rattle.std.proofs.Common.{◌≡◌, ℕ, ◌≤◌, length, replicate, refl}
 use Rattle.claxon_format.specs.Bits.{Bits}
-use Rattle.claxon_format.specs.Reading.{and_then, done, times_at}
+use Rattle.claxon_format.specs.read.Reading.{and_then, done, times_at}
 use Rattle.claxon_format.specs.read.Bits.{signed_at}
 use Rattle.claxon_format.specs.read.Subframe.{fixed_at, subframe_body_at, linear_at}
 use Rattle.claxon_subframe.specs.SubframeFields.{type_number}

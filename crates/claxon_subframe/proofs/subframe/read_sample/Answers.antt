@@ -1,7 +1,6 @@
 use Rattle.std.proofs.Common.{◌≡◌, ◌^◌, ◌∙◌, ap, arith}
 use Rattle.std.proofs.lemmas.Grind.{common_steps}
-use Rattle.claxon_format.specs.Bits.{twos_complement}
-use Rattle.claxon_format.specs.read.Bits.{signed_at}
+use Rattle.claxon_format.specs.read.Bits.{twos_complement, signed_at}
 use Rattle.claxon_format.proofs.Numbers.{mod_small}
 use Rattle.claxon_subframe.proofs.subframe.read_sample.Goals as goal
 

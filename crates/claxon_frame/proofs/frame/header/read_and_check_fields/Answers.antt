@@ -2,7 +2,7 @@ use Rattle.std.proofs.Common.{refl}
 use Rattle.std.proofs.lemmas.Result.{err_from_is_err_and}
 use Rattle.claxon_format.specs.Fault.{HeaderCrc}
 use Rattle.claxon_format.specs.read.Bytes.{crc_at, big_at}
-use Rattle.claxon_format.specs.Reading.{and_then, done}
+use Rattle.claxon_format.specs.read.Reading.{and_then, done}
 use Rattle.claxon_input.specs.State.{bytes_in}
 use Rattle.claxon_input.proofs.ConsecutiveCalls.{stops_after, consumes_map, consumes_none}
 use Rattle.claxon_format.specs.read.Header.{fields_at, fields_with_crc_at}

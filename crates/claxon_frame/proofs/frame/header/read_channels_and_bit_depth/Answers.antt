@@ -5,7 +5,7 @@ use Rattle.std.proofs.lemmas.Nat.{and_mask}
 use Rattle.std.proofs.lemmas.Result.{err_from_is_err_and}
 use Rattle.claxon_format.specs.Fault.{ChannelsReserved, BitDepthReserved, SecondReservedBit, fault_text}
 use Rattle.claxon_format.specs.Header.{bit_depth_reserved}
-use Rattle.claxon_format.specs.Reading.{Done, bind, done, test}
+use Rattle.claxon_format.specs.read.Reading.{Done, bind, done, test}
 use Rattle.claxon_format.specs.read.Bytes.{big_at}
 use Rattle.claxon_format.specs.read.Header.{channels_at}
 use Rattle.claxon_input.specs.State.{State}

@@ -1,6 +1,6 @@
 use Rattle.std.proofs.Common.{◌≡◌, ℕ, Bool, refl}
 use Rattle.std.proofs.lemmas.Result.{err_from_is_err_and}
-use Rattle.claxon_format.specs.Reading.{and_then, done}
+use Rattle.claxon_format.specs.read.Reading.{and_then, done}
 use Rattle.claxon_format.specs.read.Bytes.{big_at}
 use Rattle.claxon_format.specs.read.Header.{channels_at, codes_at, fields_after, fields_of, number_in, rate_at, size_at}
 use Rattle.claxon_input.specs.State.{State}

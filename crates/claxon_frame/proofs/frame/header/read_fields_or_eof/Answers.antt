@@ -1,7 +1,7 @@
 use Rattle.std.proofs.Common.{ap}
 use Rattle.std.proofs.lemmas.Result.{err_from_is_err_and}
 use Rattle.claxon_format.specs.read.Bytes.{big_at}
-use Rattle.claxon_format.specs.Reading.{bind}
+use Rattle.claxon_format.specs.read.Reading.{bind}
 use Rattle.claxon_input.proofs.ConsecutiveCalls.{StopsWith}
 use Rattle.claxon_frame.specs.FrameHeader.{is_variable}
 use Rattle.claxon_format.specs.read.Header.{fields_at, fields_after, sync_at}

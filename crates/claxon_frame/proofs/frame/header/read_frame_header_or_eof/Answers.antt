@@ -2,7 +2,7 @@ use Rattle.std.proofs.Common.{◌≡◌, ℕ, List, Option, refl, ap}
 use Rattle.std.proofs.lemmas.Result.{err_from_is_err_and}
 use Rattle.claxon_format.specs.Frame.{StreamFormat, known_width}
 use Rattle.claxon_format.specs.Header.{Fields}
-use Rattle.claxon_format.specs.Reading.{Done, Reading, and_then, bind, done}
+use Rattle.claxon_format.specs.read.Reading.{Done, Reading, and_then, bind, done}
 use Rattle.claxon_input.specs.State.{bytes_in}
 use Rattle.claxon_input.proofs.ConsecutiveCalls.{StopsWith, stops_after, consumes_map, consumes_none}
 use Rattle.claxon_format.specs.read.Frame.{Start, start_of, start_at}

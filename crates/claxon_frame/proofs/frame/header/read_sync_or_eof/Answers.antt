@@ -1,7 +1,7 @@
 use Rattle.std.proofs.Common.{ap, rules}
 use Rattle.std.proofs.lemmas.Result.{err_from_is_err_and}
 use Rattle.claxon_format.specs.read.Bytes.{big_at}
-use Rattle.claxon_format.specs.Reading.{bind}
+use Rattle.claxon_format.specs.read.Reading.{bind}
 use Rattle.claxon_format.specs.read.Header.{blocking_at, sync_at}
 use Rattle.claxon_input.proofs.FieldOrEof.{gives_big_or_eof, exit_or_eof, io_exit_or_eof, failure_or_any_in, after_first, some_ok, some_stops}
 use Rattle.claxon_frame.proofs.frame.header.read_sync_or_eof.Goals as goal

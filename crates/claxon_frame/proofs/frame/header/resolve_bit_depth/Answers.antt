@@ -2,7 +2,7 @@ use Rattle.std.proofs.Common.{◌≡◌, ℕ, ◌+◌, ◌-◌, ◌<◌, ◌≤�
 use Rattle.std.proofs.lemmas.Bool.{le-ltb, lt-ltb}
 use Rattle.claxon_format.specs.Frame.{StreamFormat, known_width}
 use Rattle.claxon_format.specs.Header.{Fields}
-use Rattle.claxon_format.specs.Reading.{Done}
+use Rattle.claxon_format.specs.read.Reading.{Done}
 use Rattle.claxon_input.proofs.ConsecutiveCalls.{consumes_none}
 use Rattle.claxon_frame.specs.FrameHeader.{HasBitDepthCode, max_bit_depth, bit_depth_code}
 use Rattle.claxon_frame.specs.FrameStart.{fields_view, stream_format_view}

@@ -1,7 +1,7 @@
 use Rattle.std.proofs.Common.{◌≡◌, ℕ, false, ltb, List, length, refl, arith, rules}
 use Rattle.std.proofs.lemmas.Bool.{le-ltb}
 use Rattle.claxon_format.specs.read.Bytes.{bytes_at, big_at}
-use Rattle.claxon_format.specs.Reading.{Done}
+use Rattle.claxon_format.specs.read.Reading.{Done}
 use Rattle.claxon_format.specs.read.Header.{rate_at}
 use Rattle.claxon_input.proofs.ByteFields.{consumes_byte, consumes_big}
 use Rattle.claxon_input.proofs.ConsecutiveCalls.{consumes_map, consumes_none}

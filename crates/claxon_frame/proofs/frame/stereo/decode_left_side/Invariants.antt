@@ -1,4 +1,4 @@
-use Rattle.claxon_format.specs.Stereo.{right_of}
+use Rattle.claxon_format.specs.read.Stereo.{right_of}
 use Rattle.claxon_frame.proofs.Decorrelation.{ZippedUpTo}
 use Rattle.claxon_frame.proofs.frame.stereo.decode_left_side.Given as goal
 

@@ -1,5 +1,5 @@
 use Rattle.std.proofs.Common.{◌≡◌, length, ◌<◌, get_or, pos, rules, arith, sym, ap, ◌∙◌, FitsSigned, w32}
-use Rattle.claxon_format.specs.Stereo.{left_of, decoded_pair}
+use Rattle.claxon_format.specs.read.Stereo.{left_of, decoded_pair}
 use Rattle.claxon_frame.specs.Block.{chunks}
 use Rattle.claxon_frame.proofs.Decorrelation.{right_side_is, zipped_here, zipped_next, zipped_end, zipped_second, halves_are}
 use Rattle.claxon_frame.proofs.frame.stereo.decode_right_side.Goals as goal

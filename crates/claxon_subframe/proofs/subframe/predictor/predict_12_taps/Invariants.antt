@@ -1,5 +1,6 @@
 use Rattle.std.proofs.Common.{◌≡◌, ◌*◌, length, take, reverse}
-use Rattle.claxon_format.specs.Predict.{restored, linear}
+use Rattle.claxon_format.specs.read.Predict.{restored}
+use Rattle.claxon_format.specs.Predict.{linear}
 use Rattle.claxon_subframe.specs.PendingSums.{but_newest_five, AreNewest}
 use Rattle.claxon_subframe.specs.TwelveLanes.{numbers, AreTwelvePending}
 use Rattle.claxon_subframe.proofs.subframe.predictor.predict_12_taps.Given as goal

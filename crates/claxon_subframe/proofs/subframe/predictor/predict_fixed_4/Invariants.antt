@@ -1,5 +1,5 @@
 use Rattle.std.proofs.Common.{[], ◌∷◌, take, drop, reverse}
-use Rattle.claxon_format.specs.Predict.{fixed, restore}
+use Rattle.claxon_format.specs.read.Predict.{fixed, restore}
 use Rattle.claxon_subframe.proofs.RestoreLoop.{Restoring}
 use Rattle.claxon_subframe.proofs.subframe.predictor.predict_fixed_4.Given as goal
 

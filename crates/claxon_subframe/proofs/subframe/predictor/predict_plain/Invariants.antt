@@ -1,5 +1,6 @@
 use Rattle.std.proofs.Common.{◌≡◌, length, reverse}
-use Rattle.claxon_format.specs.Predict.{restored, linear}
+use Rattle.claxon_format.specs.read.Predict.{restored}
+use Rattle.claxon_format.specs.Predict.{linear}
 use Rattle.claxon_subframe.proofs.subframe.predictor.predict_plain.Given as goal
 
 abbrev pub invariant-loop-i : goal.invariant-loop-i

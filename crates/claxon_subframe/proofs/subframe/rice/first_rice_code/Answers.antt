@@ -1,6 +1,6 @@
 use Rattle.std.proofs.Common.{arith, refl, ap, ap₂, bit_or, ◌*◌, ◌%◌, ◌^◌, ◌<◌, ◌∙◌, ℕ}
 use Rattle.std.specs.Int.{leading_zeros, w64}
-use Rattle.claxon_format.specs.Bits.{zigzag_decode}
+use Rattle.claxon_format.specs.read.Bits.{zigzag_decode}
 use Rattle.claxon_input.proofs.BitSteps.{mask}
 use Rattle.claxon_input.proofs.CacheBits.{highest}
 use Rattle.claxon_subframe.proofs.RiceCodeGroups.{rotation_by, first_is, mirrored_twice, rotated_nonzero, rice_code_bits}

@@ -1,5 +1,5 @@
 use Rattle.std.proofs.Common.{◌≡◌, ℤ, rules}
-use Rattle.claxon_format.specs.Reading.{Done}
+use Rattle.claxon_format.specs.read.Reading.{Done}
 use Rattle.claxon_format.specs.read.Bits.{rice_code_at}
 use Rattle.claxon_input.specs.Gives.{Consumes}
 use Rattle.claxon_input.specs.State.{bits_in}
