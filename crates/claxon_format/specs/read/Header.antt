@@ -53,8 +53,8 @@ fields_of time codes size = record { variable = time.0; size = size; channels = 
 -- the fields after the sync code
 unfoldable pub fields_after : {X : Type 0} → Numbers X → Bool → List X → Reading X Fields
 fields_after number variable =
-    and_then (codes_at number) (λ spelled. and_then (channels_at number) (λ codes. and_then (number_in number variable) (λ time.
-    and_then (size_at number spelled.0) (λ size. and_then (rate_at number spelled.1) (λ rate. done (fields_of time codes size))))))
+    and_then (codes_at number) (λ size_and_rate. and_then (channels_at number) (λ codes. and_then (number_in number variable) (λ time.
+    and_then (size_at number size_and_rate.0) (λ size. and_then (rate_at number size_and_rate.1) (λ rate. done (fields_of time codes size))))))
 
 -- all fields before the CRC
 unfoldable pub fields_at : {X : Type 0} → Numbers X → List X → Reading X Fields
