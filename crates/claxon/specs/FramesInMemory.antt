@@ -1,12 +1,12 @@
 -- The answer of a call for the frame that bytes in memory begin with. No read of them fails, so the only excuse is
 -- `OutOfMemory`, and that only after a frame header.
-use Rattle.std.specs.Prelude.{◌≡◌, ◌⊎◌, ◌↔◌, ◌<◌, ℕ, List, length, Option, None, IfOk, IfErr, IfSome, IsOkAnd, IsErrAnd, IsSomeAnd, Ok}
+use Rattle.std.specs.Prelude.{◌≡◌, ◌⊎◌, ◌↔◌, ◌<◌, ℕ, List, length, Option, None, IfOk, IfSome, IsOkAnd, IsErrAnd, IsSomeAnd, Ok}
 use Rattle.claxon.specs.Fault.{Fault}
 use Rattle.claxon.specs.Frame.{StreamFormat, Block, Frame, FrameBytesFault}
-use Rattle.claxon.specs.Error.{IsFault, IsIo}
+use Rattle.claxon.specs.Error.{IsFault}
 use Rattle.claxon.specs.FrameReader.{FrameAnswer, HeaderOfMoreSamples, block_view}
 use Rattle.claxon.specs.Promises.{IsOutOfMemory}
-use Rattle.claxon.specs.Errors.TheVariants.{OutOfMemory}
+use Rattle.claxon.specs.OtherErrors.{IfOtherErr}
 use Rattle.claxon.specs.Prefix.{BeginsWith}
 
 module _ (stream : Option StreamFormat) (bytes : List ℕ) (result : FrameAnswer) where
@@ -25,8 +25,8 @@ module _ (stream : Option StreamFormat) (bytes : List ℕ) (result : FrameAnswer
   -- An Err is `OutOfMemory`, an `IoError`, or the name of a fault that they begin with.
   abbrev pub SliceFrameFaultIsSound : Type 0
   SliceFrameFaultIsSound =
-      IfErr result (λ e. (e ≡ OutOfMemory)
-      ⊎ (IsIo e ⊎ ((f : Fault) × IsFault f e × BeginsWith (FrameBytesFault stream f) bytes)))
+      IfOtherErr result (λ e.
+      (f : Fault) × IsFault f e × BeginsWith (FrameBytesFault stream f) bytes)
 
   -- Where they begin with a fault it is named, or `OutOfMemory` returned.
   abbrev pub SliceFrameFaultIsComplete : Type 0

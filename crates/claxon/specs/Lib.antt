@@ -31,5 +31,6 @@ pub mod FlacReader
 pub mod Opening
 pub mod FlacSamples
 pub mod SampleRuns
+pub mod OtherErrors
 pub mod Prefix
 pub mod FramesInMemory

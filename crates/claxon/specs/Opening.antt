@@ -1,14 +1,15 @@
 -- What opening a stream does to the reader that is passed in, which is kept, or dropped after an Err.
-use Rattle.std.specs.Prelude.{◌≡◌, ℕ, Bool, true, false, ◌⊎◌, List, [], ◌++◌, Option, None, IfOk, IfErr, IsOkAnd, IsErrAnd, Result}
+use Rattle.std.specs.Prelude.{◌≡◌, ℕ, Bool, true, false, ◌⊎◌, List, [], ◌++◌, Option, None, IfOk, IsOkAnd, IsErrAnd, Result}
 use Rattle.std.specs.declared.fs.File.{File}
 use Rattle.claxon_format.specs.Fault.{Fault}
 use Rattle.claxon_input.specs.declared.error.Error.{Error}
-use Rattle.claxon_input.specs.declared.error.Error.TheVariants.{OutOfMemory}
 use Rattle.claxon_input.specs.State.{State, state_of}
 use Rattle.claxon_input.specs.Error.{IsFault, IsIo}
 use Rattle.claxon_input.specs.Promises.{Remains, HasNeither, IsOutOfMemory, Consumed}
 use Rattle.claxon_format.specs.Heads.{Head, Options, HeadCode, HeadFault}
 use Rattle.claxon.specs.ReadHead.{buffered_bytes}
+use Rattle.claxon.specs.OtherErrors.{IfOtherErr}
+use Rattle.claxon.specs.Prefix.{BeginsWith}
 use Rattle.claxon.specs.FlacReader.{flac_head, flac_input, flac_metadata_only}
 use Rattle.claxon.specs.declared.reader.FlacReader.{FlacReader}
 
@@ -17,6 +18,11 @@ abbrev pub unread : Option (List ℕ) → State ℕ
 unread known =
     state_of (λ all. all)
     (record { remaining = known; errors = 0; empty_reads = 0; loans = []; crcs = λ _. [] })
+
+-- P of the remaining bytes of the reader, where they are known
+abbrev pub IfKnown : {R : Type 0} → (R → Option (List ℕ)) → R → (List ℕ → Type 0) → Type 0
+IfKnown remaining reader P =
+    (unread (remaining reader)).known ≡ true → P (unread (remaining reader)).remaining
 
 -- the bytes after those that were consumed
 abbrev pub flac_bytes : {R A : Type 0} → (R → Option (List ℕ)) → FlacReader R A → State ℕ
@@ -40,8 +46,7 @@ ShowsCommentIfRead read result =
 
 -- An Err is `OutOfMemory`, an `IoError`, or names a fault with its text.
 abbrev pub ErrNamesFault : {X : Type 0} → Result X Error → Type 0
-ErrNamesFault result =
-    IfErr result (λ error. (error ≡ OutOfMemory) ⊎ (IsIo error ⊎ ((f : Fault) × IsFault f error)))
+ErrNamesFault result = IfOtherErr result (λ error. (f : Fault) × IsFault f error)
 
 -- the bytes of a `File` aren't known
 abbrev pub file_remaining : File → Option (List ℕ)
@@ -77,10 +82,8 @@ module _ {R A : Type 0} (remaining : R → Option (List ℕ)) (o : Options) (rea
   -- An Err is `OutOfMemory`, an `IoError`, or the name of a fault that the bytes begin with.
   abbrev pub OpenFaultIsSound : Type 0
   OpenFaultIsSound =
-      IfErr result (λ error. (error ≡ OutOfMemory)
-      ⊎ (IsIo error ⊎ ((unread (remaining reader)).known ≡ true → (f : Fault) × IsFault f error
-      × ((t : List ℕ) × (rest : List ℕ) × HeadFault o f t
-      × ((unread (remaining reader)).remaining ≡ t ++ rest)))))
+      IfOtherErr result (λ error. IfKnown remaining reader (λ s.
+      (f : Fault) × IsFault f error × BeginsWith (HeadFault o f) s))
 
   -- Where the bytes begin with a fault it is named, or there is one of these errors.
   abbrev pub OpenFaultIsComplete : Type 0
@@ -92,6 +95,5 @@ module _ {R A : Type 0} (remaining : R → Option (List ℕ)) (o : Options) (rea
   -- Where they begin with neither there is one of these errors.
   abbrev pub OpenElseIoError : Type 0
   OpenElseIoError =
-      (unread (remaining reader)).known ≡ true
-      → HasNeither (HeadCode o) (HeadFault o) (unread (remaining reader)).remaining
-      → IsMemoryOrIoError result
+      IfKnown remaining reader (λ s.
+      HasNeither (HeadCode o) (HeadFault o) s → IsMemoryOrIoError result)

@@ -1,6 +1,6 @@
 -- What bytes in memory begin with, and how many bytes it has.
-use Rattle.std.proofs.Common.{◌≡◌, ◌⊎◌, inl, inr, ℕ, ◌-◌, true, subst, List, ◌++◌, length, Option, None, Some, sym, ap, ◌∙◌, arith, length-append, Bor}
-use Rattle.std.specs.Prelude.{Result, Ok, Err, IfErr, IfOk, IfSome}
+use Rattle.std.proofs.Common.{◌≡◌, inl, inr, ℕ, ◌-◌, true, subst, List, ◌++◌, length, Option, None, Some, sym, ap, ◌∙◌, arith, length-append, Bor}
+use Rattle.std.specs.Prelude.{Result, Ok, Err, IfOk, IfSome}
 use Rattle.std.specs.declared.io.Cursor.{Cursor}
 use Rattle.std.specs.Io.Cursor.{cursor_position, cursor_inner}
 use Rattle.std.proofs.lemmas.List.{length-drop}
@@ -20,8 +20,8 @@ use Rattle.claxon.specs.ReadHead.{OutOfMemoryAfterMarker, HeadMayRunOutOfMemory}
 use Rattle.claxon.proofs.FramesInMemory.{SliceFramePromises, begins_with_consumed}
 use Rattle.claxon.proofs.FramesInMemory.{slice_state}
 use Rattle.claxon.specs.Prefix.{BeginsWith}
-use Rattle.claxon.specs.Error.{IsFault, IsIo}
-use Rattle.claxon.specs.Errors.TheVariants.{OutOfMemory}
+use Rattle.claxon.specs.Error.{IsFault}
+use Rattle.claxon.specs.OtherErrors.{IfOtherErr}
 use Rattle.claxon_c.specs.AtStart.{FrameAtStart, BeginsWithLength, HeadAtStart}
 
 abbrev Slice : Type 0
@@ -61,7 +61,7 @@ module _ {A : Type 0} (view : StreamInfo × Option A → Head) (bytes : Bor (Lis
   head_begins_with_length (Err e) h = tt
 
   head_fault_sound : (r : Result (StreamInfo × Option A) Error) → FaultIsSound r (HeadFault (with_samples true)) (slice_state a) (slice_state b)
-      → IfErr r (λ e. (e ≡ OutOfMemory) ⊎ (IsIo e ⊎ ((f : Fault) × IsFault f e × BeginsWith (HeadFault (with_samples true) f) bytes.now)))
+      → IfOtherErr r (λ e. (f : Fault) × IsFault f e × BeginsWith (HeadFault (with_samples true) f) bytes.now)
   head_fault_sound (Ok shown) h = tt
   head_fault_sound (Err e) h = elim h [
     | inl m ↦ inl m

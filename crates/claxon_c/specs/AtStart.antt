@@ -1,13 +1,13 @@
 -- What private calls return for the start of bytes, and how many bytes it has.
-use Rattle.std.specs.Prelude.{◌≡◌, ◌⊎◌, ℕ, ◌≤◌, true, List, ◌++◌, length, Option, Result, IfErr, IfOk, IfSome, IsErrAnd, IsOkAnd}
+use Rattle.std.specs.Prelude.{◌≡◌, ◌⊎◌, ℕ, ◌≤◌, true, List, ◌++◌, length, Option, Result, IfOk, IfSome, IsErrAnd, IsOkAnd}
 use Rattle.claxon.specs.Fault.{Fault}
 use Rattle.claxon.specs.Frame.{StreamFormat, Frame}
 use Rattle.claxon.specs.Heads.{Head, HeadCode, HeadFault}
 use Rattle.claxon.specs.Streams.{with_samples}
-use Rattle.claxon.specs.Error.{IsFault, IsIo}
+use Rattle.claxon.specs.Error.{IsFault}
 use Rattle.claxon.specs.Promises.{IsOutOfMemory}
 use Rattle.claxon.specs.Errors.{Error}
-use Rattle.claxon.specs.Errors.TheVariants.{OutOfMemory}
+use Rattle.claxon.specs.OtherErrors.{IfOtherErr}
 use Rattle.claxon.specs.StreamInfos.{StreamInfo}
 use Rattle.claxon.specs.MetadataBlock.{HasBounds}
 use Rattle.claxon.specs.FrameReader.{FrameAnswer, block_view}
@@ -29,7 +29,7 @@ pub record HeadAtStart {A : Type 0} (view : StreamInfo × Option A → Head) (by
   pub bounds : IfOk r (λ shown. HasBounds shown.0)
   pub sound : IfOk r (λ shown. BeginsWithLength (HeadCode (with_samples true) (view shown)) bytes taken)
   pub complete : (h : Head) → BeginsWith (HeadCode (with_samples true) h) bytes → IsOkAnd r (λ shown. view shown ≡ h) ⊎ IsOutOfMemory r
-  pub fault : IfErr r (λ e. (e ≡ OutOfMemory) ⊎ (IsIo e ⊎ ((f : Fault) × IsFault f e × BeginsWith (HeadFault (with_samples true) f) bytes)))
+  pub fault : IfOtherErr r (λ e. (f : Fault) × IsFault f e × BeginsWith (HeadFault (with_samples true) f) bytes)
   pub named : (f : Fault) → BeginsWith (HeadFault (with_samples true) f) bytes → IsErrAnd r (IsFault f) ⊎ IsOutOfMemory r
   pub memory : IsOutOfMemory r → HeadMayRunOutOfMemory bytes
 

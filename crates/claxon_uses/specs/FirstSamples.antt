@@ -1,16 +1,17 @@
 -- The first samples of a stream that a reader gives.
-use Rattle.std.specs.Prelude.{◌≡◌, ◌⊎◌, ◌<◌, ◌≤◌, ℕ, ℤ, true, List, ◌++◌, length, take, Option, None, Some, IfOk, IfErr, IsOkAnd, IsErrAnd, Result, Vec}
-use Rattle.claxon.specs.Error.{IsFault, IsIo}
+use Rattle.std.specs.Prelude.{◌≡◌, ◌⊎◌, ◌<◌, ◌≤◌, ℕ, ℤ, true, List, ◌++◌, length, take, Option, None, Some, IfOk, IsOkAnd, IsErrAnd, Result, Vec}
+use Rattle.claxon.specs.Error.{IsFault}
 use Rattle.claxon.specs.Fault.{Fault}
 use Rattle.claxon.specs.Frame.{Block, FrameBytesFault, Frames, StreamFormat}
 use Rattle.claxon.specs.Heads.{Head, HeadCode, HeadFault}
-use Rattle.claxon.specs.Opening.{IsMemoryOrIoError, unread}
+use Rattle.claxon.specs.Opening.{IfKnown, IsMemoryOrIoError}
 use Rattle.claxon.specs.SampleRuns.{GaveAll, GaveSamples, samples_of}
 use Rattle.claxon.specs.Source.{Source}
 use Rattle.claxon.specs.Streams.{IsStream, stream_of, with_samples}
 use Rattle.claxon.specs.Errors.{Error}
 use Rattle.claxon.specs.Errors.TheVariants.{OutOfMemory}
 use Rattle.claxon.specs.declared.samples.FlacSamples.{FlacSamples}
+use Rattle.claxon.specs.OtherErrors.{IfOtherErr}
 use Rattle.claxon.specs.Prefix.{BeginsWith}
 
 -- s begins with the frames of blocks, and these are their first samples, `count` of them; or all, and then fewer than two bytes follow.
@@ -42,29 +43,25 @@ module _ {R A : Type 0} (count : ℕ) (remaining : R → Option (List ℕ)) (rea
   -- What is returned are the first samples of the remaining stream.
   abbrev pub FirstSamplesAreSound : Type 0
   FirstSamplesAreSound =
-      IfOk result (λ first. (unread (remaining reader)).known ≡ true
-      → BeginsWithSamples count (unread (remaining reader)).remaining first.items)
+      IfOk result (λ first. IfKnown remaining reader (λ s. BeginsWithSamples count s first.items))
 
   -- Where the remaining bytes have first samples these are returned, or the answer is `OutOfMemory` or an `IoError`.
   abbrev pub FirstSamplesAreComplete : Type 0
   FirstSamplesAreComplete =
-      (xs : List ℤ) → (unread (remaining reader)).known ≡ true → BeginsWithSamples count (unread (remaining reader)).remaining xs
-      → IsOkAnd result (λ first. first.items ≡ xs) ⊎ IsMemoryOrIoError result
+      (xs : List ℤ) → IfKnown remaining reader (λ s. BeginsWithSamples count s xs
+      → IsOkAnd result (λ first. first.items ≡ xs) ⊎ IsMemoryOrIoError result)
 
   -- An Err is `OutOfMemory`, an `IoError`, or the name of the first fault, before which there are too few samples.
   abbrev pub FirstFaultIsSound : Type 0
   FirstFaultIsSound =
-      IfErr result (λ e. (e ≡ OutOfMemory)
-      ⊎ (IsIo e
-      ⊎ ((unread (remaining reader)).known ≡ true
-      → (f : Fault) × IsFault f e × HasFirstFault count (unread (remaining reader)).remaining f)))
+      IfOtherErr result (λ e. IfKnown remaining reader (λ s.
+      (f : Fault) × IsFault f e × HasFirstFault count s f))
 
   -- Where there is such a fault it is named, or the answer is `OutOfMemory` or an `IoError`.
   abbrev pub FirstFaultIsComplete : Type 0
   FirstFaultIsComplete =
-      (f : Fault) → (unread (remaining reader)).known ≡ true
-      → HasFirstFault count (unread (remaining reader)).remaining f
-      → IsErrAnd result (IsFault f) ⊎ IsMemoryOrIoError result
+      (f : Fault) → IfKnown remaining reader (λ s. HasFirstFault count s f
+      → IsErrAnd result (IsFault f) ⊎ IsMemoryOrIoError result)
 
 -- ---- consecutive calls
 

@@ -1,13 +1,13 @@
 -- What a call returns for a packet that has to be exactly one frame.
-use Rattle.std.specs.Prelude.{◌≡◌, ◌⊎◌, ◌<◌, ℕ, List, ◌∷◌, ◌++◌, length, codes, Option, IfOk, IfErr, IsOkAnd, IsErrAnd, Result}
+use Rattle.std.specs.Prelude.{◌≡◌, ◌⊎◌, ◌<◌, ℕ, List, ◌∷◌, ◌++◌, length, codes, Option, IfOk, IsOkAnd, IsErrAnd, Result}
 use Rattle.claxon.specs.Block.{BlockValue}
 use Rattle.claxon.specs.Fault.{Fault}
 use Rattle.claxon.specs.Frame.{StreamFormat, Block, Frame, FrameBytesFault}
-use Rattle.claxon.specs.Error.{IsFault, IsFormatError, IsIo}
+use Rattle.claxon.specs.Error.{IsFault, IsFormatError}
 use Rattle.claxon.specs.FrameReader.{HeaderOfMoreSamples, block_view}
 use Rattle.claxon.specs.Promises.{IsOutOfMemory}
 use Rattle.claxon.specs.Errors.{Error}
-use Rattle.claxon.specs.Errors.TheVariants.{OutOfMemory}
+use Rattle.claxon.specs.OtherErrors.{IfOtherErr}
 use Rattle.claxon.specs.Prefix.{BeginsWith}
 
 -- It is too short for a frame, and the error says so.
@@ -33,10 +33,9 @@ module _ (stream : Option StreamFormat) (packet : List ℕ) (result : Result Blo
   -- An Err is `OutOfMemory`, an `IoError`, the name of a fault that the packet begins with, or says that it has no frame or more than one.
   abbrev pub PacketFaultIsSound : Type 0
   PacketFaultIsSound =
-      IfErr result (λ e. (e ≡ OutOfMemory)
-      ⊎ (IsIo e
-      ⊎ (((f : Fault) × IsFault f e × BeginsWith (FrameBytesFault stream f) packet)
-      ⊎ (HasNoFrame packet e ⊎ HasMoreThanFrame stream packet e))))
+      IfOtherErr result (λ e.
+      ((f : Fault) × IsFault f e × BeginsWith (FrameBytesFault stream f) packet)
+      ⊎ (HasNoFrame packet e ⊎ HasMoreThanFrame stream packet e))
 
   -- A fault that the packet begins with is named, or `OutOfMemory` returned.
   abbrev pub PacketFaultIsComplete : Type 0

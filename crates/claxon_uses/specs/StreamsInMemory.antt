@@ -1,6 +1,6 @@
 -- What a call returns for a whole stream in memory: a head, frames, and a rest that begins with no frame.
-use Rattle.std.specs.Prelude.{◌≡◌, ◌⊎◌, ◌<◌, ℕ, ℤ, true, List, ◌++◌, length, Some, IfOk, IfErr, IsOkAnd, IsErrAnd, Result}
-use Rattle.claxon.specs.Error.{IsFault, IsIo}
+use Rattle.std.specs.Prelude.{◌≡◌, ◌⊎◌, ◌<◌, ℕ, ℤ, true, List, ◌++◌, length, Some, IfOk, IsOkAnd, IsErrAnd, Result}
+use Rattle.claxon.specs.Error.{IsFault}
 use Rattle.claxon.specs.Fault.{Fault}
 use Rattle.claxon.specs.Frame.{Block, Frame, FrameBytesFault}
 use Rattle.claxon.specs.FrameReader.{HeaderOfMoreSamples}
@@ -10,7 +10,7 @@ use Rattle.claxon.specs.ReadHead.{HeadMayRunOutOfMemory}
 use Rattle.claxon.specs.SampleRuns.{samples_of}
 use Rattle.claxon.specs.Streams.{IsStream, stream_of, with_samples}
 use Rattle.claxon.specs.Errors.{Error}
-use Rattle.claxon.specs.Errors.TheVariants.{OutOfMemory}
+use Rattle.claxon.specs.OtherErrors.{IfOtherErr}
 use Rattle.claxon.specs.Prefix.{BeginsWith}
 
 -- the bytes begin with a fault of a head, or with a head, all frames that follow, and then a fault of a frame
@@ -44,8 +44,7 @@ module _ {X : Type 0} (view : X → List ℤ) (bytes : List ℕ) (result : Resul
 -- An Err is `OutOfMemory`, an `IoError`, or the name of a fault that the bytes have.
 abbrev pub SliceStreamFaultIsSound : {X : Type 0} → List ℕ → Result X Error → Type 0
 SliceStreamFaultIsSound bytes result =
-    IfErr result (λ e. (e ≡ OutOfMemory)
-    ⊎ (IsIo e ⊎ ((f : Fault) × IsFault f e × HasStreamFault bytes f)))
+    IfOtherErr result (λ e. (f : Fault) × IsFault f e × HasStreamFault bytes f)
 
 -- A fault that they have is named, or `OutOfMemory` returned.
 abbrev pub SliceStreamFaultIsComplete : {X : Type 0} → List ℕ → Result X Error → Type 0

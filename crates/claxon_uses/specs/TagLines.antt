@@ -1,13 +1,13 @@
 -- Tags as text.
-use Rattle.std.specs.Prelude.{◌≡◌, ◌⊎◌, ℕ, true, List, ◌∷◌, ◌++◌, Option, String, Vec, map, string_bytes, IfOk, IfErr, IsOkAnd, IsErrAnd, Result}
-use Rattle.claxon.specs.Error.{IsFault, IsIo}
+use Rattle.std.specs.Prelude.{◌≡◌, ◌⊎◌, ℕ, true, List, ◌∷◌, ◌++◌, Option, String, Vec, map, string_bytes, IfOk, IsOkAnd, IsErrAnd, Result}
+use Rattle.claxon.specs.Error.{IsFault}
 use Rattle.claxon.specs.Errors.{Error}
-use Rattle.claxon.specs.Errors.TheVariants.{OutOfMemory}
 use Rattle.claxon.specs.Fault.{Fault}
 use Rattle.claxon.specs.FlacReader.{comment_tags, flac_head}
 use Rattle.claxon.specs.Heads.{Head, HeadCode, HeadFault, Options}
-use Rattle.claxon.specs.Opening.{IsMemoryOrIoError, unread}
+use Rattle.claxon.specs.Opening.{IfKnown, IsMemoryOrIoError}
 use Rattle.claxon.specs.declared.reader.FlacReader.{FlacReader}
+use Rattle.claxon.specs.OtherErrors.{IfOtherErr}
 use Rattle.claxon.specs.Prefix.{BeginsWith}
 
 -- NAME=value; 0x3d is `=`
@@ -31,29 +31,23 @@ module _ {R A : Type 0} (remaining : R → Option (List ℕ)) (reader : R) (resu
   -- What is returned are the tags of a head that the bytes begin with.
   abbrev pub TagLinesAreSound : Type 0
   TagLinesAreSound =
-      IfOk result (λ lines. (unread (remaining reader)).known ≡ true
-      → (h : Head) × BeginsWith (HeadCode metadata_alone h) (unread (remaining reader)).remaining
-      × AreTagsOf h lines)
+      IfOk result (λ lines. IfKnown remaining reader (λ s.
+      (h : Head) × BeginsWith (HeadCode metadata_alone h) s × AreTagsOf h lines))
 
   -- The tags of a head that they begin with are returned, or the answer is `OutOfMemory` or an `IoError`.
   abbrev pub TagLinesAreComplete : Type 0
   TagLinesAreComplete =
-      (h : Head) → (unread (remaining reader)).known ≡ true
-      → BeginsWith (HeadCode metadata_alone h) (unread (remaining reader)).remaining
-      → IsOkAnd result (AreTagsOf h) ⊎ IsMemoryOrIoError result
+      (h : Head) → IfKnown remaining reader (λ s. BeginsWith (HeadCode metadata_alone h) s
+      → IsOkAnd result (AreTagsOf h) ⊎ IsMemoryOrIoError result)
 
   -- An Err is `OutOfMemory`, an `IoError`, or the name of a fault of a head that they begin with.
   abbrev pub TagFaultIsSound : Type 0
   TagFaultIsSound =
-      IfErr result (λ e. (e ≡ OutOfMemory)
-      ⊎ (IsIo e
-      ⊎ ((unread (remaining reader)).known ≡ true
-      → (f : Fault) × IsFault f e
-      × BeginsWith (HeadFault metadata_alone f) (unread (remaining reader)).remaining)))
+      IfOtherErr result (λ e. IfKnown remaining reader (λ s.
+      (f : Fault) × IsFault f e × BeginsWith (HeadFault metadata_alone f) s))
 
   -- A fault of a head that they begin with is named, or the answer is `OutOfMemory` or an `IoError`.
   abbrev pub TagFaultIsComplete : Type 0
   TagFaultIsComplete =
-      (f : Fault) → (unread (remaining reader)).known ≡ true
-      → BeginsWith (HeadFault metadata_alone f) (unread (remaining reader)).remaining
-      → IsErrAnd result (IsFault f) ⊎ IsMemoryOrIoError result
+      (f : Fault) → IfKnown remaining reader (λ s. BeginsWith (HeadFault metadata_alone f) s
+      → IsErrAnd result (IsFault f) ⊎ IsMemoryOrIoError result)

@@ -1,18 +1,19 @@
 -- What is found in a stream that may be damaged: frames and faults, one after another.
-use Rattle.std.specs.Prelude.{◌≡◌, ◌⊎◌, ◌↔◌, ◌<◌, ◌≤◌, ◌+◌, ◌^◌, ℕ, false, true, List, [], ◌∷◌, ◌++◌, codes, length, Option, Some, IfErr, IfOk, IsErrAnd, IsOkAnd, IsTrue, Ok, Err, Result}
+use Rattle.std.specs.Prelude.{◌≡◌, ◌⊎◌, ◌↔◌, ◌<◌, ◌≤◌, ◌+◌, ◌^◌, ℕ, false, true, List, [], ◌∷◌, ◌++◌, codes, length, Option, Some, IfOk, IsErrAnd, IsOkAnd, IsTrue, Ok, Err, Result}
 use Rattle.std.specs.List.{sum_by}
 use Rattle.claxon.specs.Error.{IsFault, IsIo, is_io, is_out_of_memory}
 use Rattle.claxon.specs.Fault.{Fault}
 use Rattle.claxon.specs.Frame.{Block, Frame, FrameBytesFault, StreamFormat}
 use Rattle.claxon.specs.FrameReader.{frame_bytes, frame_stream}
 use Rattle.claxon.specs.Heads.{Head, HeadCode, HeadFault}
-use Rattle.claxon.specs.Opening.{IsMemoryOrIoError, unread}
+use Rattle.claxon.specs.Opening.{IfKnown, IsMemoryOrIoError}
 use Rattle.claxon.specs.Source.{Source}
 use Rattle.claxon.specs.State.{State}
 use Rattle.claxon.specs.Streams.{duration, stream_of, with_samples}
 use Rattle.claxon.specs.FrameReaders.{FrameReader}
 use Rattle.claxon.specs.Errors.{Error}
 use Rattle.claxon.specs.Errors.TheVariants.{OutOfMemory, Unsupported}
+use Rattle.claxon.specs.OtherErrors.{IfOtherErr}
 use Rattle.claxon.specs.Prefix.{BeginsWith}
 use Rattle.claxon_uses.specs.declared.damaged.Found.{Found}
 
@@ -149,24 +150,23 @@ module _ {R : Type 0} (remaining : R → Option (List ℕ)) (reader : R) (result
   -- The remaining bytes were counted up to the end.
   abbrev pub VerifyIsSound : Type 0
   VerifyIsSound =
-      IfOk result (λ found. (unread (remaining reader)).known ≡ true
-      → IsVerified (unread (remaining reader)).remaining found)
+      IfOk result (λ found. IfKnown remaining reader (λ s. IsVerified s found))
 
   -- For each such stream that can be counted these numbers are returned, or the answer is `OutOfMemory` or an `IoError`.
   abbrev pub VerifyIsComplete : Type 0
   VerifyIsComplete =
-      (found : Found) → (unread (remaining reader)).known ≡ true → IsVerified (unread (remaining reader)).remaining found → CanBeCounted found → IsOkAnd result (λ counted. counted ≡ found) ⊎ IsMemoryOrIoError result
+      (found : Found) → IfKnown remaining reader (λ s. IsVerified s found → CanBeCounted found
+      → IsOkAnd result (λ counted. counted ≡ found) ⊎ IsMemoryOrIoError result)
 
   -- An Err is `OutOfMemory`, an `IoError`, says that there are more parts than can be counted, where it is so, or names the
   -- fault of a head that the bytes begin with.
   abbrev pub VerifyFaultIsSound : Type 0
   VerifyFaultIsSound =
-      IfErr result (λ e. (e ≡ OutOfMemory) ⊎ (IsIo e ⊎ ((unread (remaining reader)).known ≡ true
-      → (IsTooMany e × HasTooMany (unread (remaining reader)).remaining)
-      ⊎ ((f : Fault) × IsFault f e
-      × BeginsWith (HeadFault (with_samples true) f) (unread (remaining reader)).remaining))))
+      IfOtherErr result (λ e. IfKnown remaining reader (λ s. (IsTooMany e × HasTooMany s)
+      ⊎ ((f : Fault) × IsFault f e × BeginsWith (HeadFault (with_samples true) f) s)))
 
   -- A fault of a head that they begin with is named, or the answer is `OutOfMemory` or an `IoError`.
   abbrev pub VerifyHeadFaultIsComplete : Type 0
   VerifyHeadFaultIsComplete =
-      (f : Fault) → (unread (remaining reader)).known ≡ true → BeginsWith (HeadFault (with_samples true) f) (unread (remaining reader)).remaining → IsErrAnd result (IsFault f) ⊎ IsMemoryOrIoError result
+      (f : Fault) → IfKnown remaining reader (λ s. BeginsWith (HeadFault (with_samples true) f) s
+      → IsErrAnd result (IsFault f) ⊎ IsMemoryOrIoError result)
