@@ -14,8 +14,8 @@ use Rattle.claxon_input.specs.State.{State}
 use Rattle.claxon_input.specs.Gives.{Consumes}
 use Rattle.claxon_input.proofs.ConsecutiveCalls.{consumes_then, consumes_map, StopsAs}
 use Rattle.claxon_metadata.specs.MetadataBlock.{metadata_block_view, content_view, info_view}
-use Rattle.claxon.specs.ReadHead.{ConsumesBlocks, comments_at, found_view, other_at}
-use Rattle.claxon.proofs.HeadMemory.{consumes_blocks_both, consumes_other_block}
+use Rattle.claxon.specs.ReadHead.{comments_at, found_view, max_other_blocks, other_at}
+use Rattle.claxon.proofs.HeadMemory.{ConsumesBlocks, consumes_blocks_both, consumes_other_block}
 use Rattle.claxon_metadata.specs.declared.metadata.StreamInfo.{StreamInfo}
 use Rattle.claxon_metadata.specs.declared.metadata.VorbisComment.{VorbisComment}
 use Rattle.claxon_metadata.specs.declared.metadata.MetadataBlock.{MetadataBlock}
@@ -142,7 +142,7 @@ others_stops suffices (suc k) found s some = go (block_at s)
 
 -- this many blocks are still allowed, and these comments were found
 pub record OthersSoFar (suffices : Bool) (most : ℕ) (found : Option Comment) (old new : State ℕ) : Type 0 where
-  pub so_far : Consumes old new (λ s m. others_at suffices 65535 None s ≡ others_at suffices most found m)
+  pub so_far : Consumes old new (λ s m. others_at suffices max_other_blocks None s ≡ others_at suffices most found m)
   pub consumed_blocks : Consumes old new ConsumesBlocks
 
 pub others_next : {suffices : Bool} {most : ℕ} {found : Option Comment} (is_last : Bool) (next : Option Comment) {a b c : State ℕ} → 0 < most → (is_last || (suffices && is_some next)) ≡ false → OthersSoFar suffices most found a b
@@ -154,11 +154,11 @@ others_next {suffices = suffices} {most = most} {found = found} is_last next som
     }
 
 pub others_done : {suffices : Bool} {most : ℕ} {found : Option Comment} (is_last : Bool) (next : Option Comment) {a b c : State ℕ} → 0 < most → (is_last || (suffices && is_some next)) ≡ true → OthersSoFar suffices most found a b
-    → Consumes b c (λ s m. other_at found s ≡ Done (is_last, next) m) → Consumes a c (λ s m. others_at suffices 65535 None s ≡ Done next m)
+    → Consumes b c (λ s m. other_at found s ≡ Done (is_last, next) m) → Consumes a c (λ s m. others_at suffices max_other_blocks None s ≡ Done next m)
 others_done {suffices = suffices} {most = most} {found = found} is_last next some ends h k =
     consumes_then _ h.so_far k (λ p q. p ∙ other_then suffices most found next is_last _ _ some q ∙ rw ends refl)
 
-pub others_stop : {suffices : Bool} {most : ℕ} {found : Option Comment} {a b : State ℕ} → 0 < most → OthersSoFar suffices most found a b → Consumes a b (λ s m. StopsAs (other_at found m) (others_at suffices 65535 None s))
+pub others_stop : {suffices : Bool} {most : ℕ} {found : Option Comment} {a b : State ℕ} → 0 < most → OthersSoFar suffices most found a b → Consumes a b (λ s m. StopsAs (other_at found m) (others_at suffices max_other_blocks None s))
 others_stop {suffices = suffices} {most = most} {found = found} {b = b} some h = consumes_map _ h.so_far (λ p. rw p (others_stops suffices most found b.remaining some))
 
 others_end : (suffices : Bool) (k : ℕ) (found : Option Comment) (s : List ℕ) → k ≡ 0 → others_at suffices k found s ≡ Faulty TooManyBlocks s
@@ -166,7 +166,7 @@ unfolding others_at
 others_end suffices zero found s e = refl
 others_end suffices (suc k) found s e = absurd (omega arith)
 
-pub others_too_many : {suffices : Bool} {most : ℕ} {found : Option Comment} {a b : State ℕ} → most ≡ 0 → OthersSoFar suffices most found a b → Consumes a b (λ s m. others_at suffices 65535 None s ≡ Faulty TooManyBlocks m)
+pub others_too_many : {suffices : Bool} {most : ℕ} {found : Option Comment} {a b : State ℕ} → most ≡ 0 → OthersSoFar suffices most found a b → Consumes a b (λ s m. others_at suffices max_other_blocks None s ≡ Faulty TooManyBlocks m)
 others_too_many {suffices = suffices} {most = most} {found = found} {b = b} none h = consumes_map _ h.so_far (λ p. p ∙ others_end suffices most found b.remaining none)
 
 -- ---- the whole head
@@ -207,16 +207,16 @@ unfolding after_first
 streaminfo_only o k is_last info s m n short e f = after_block o k (record { is_last = is_last; content = Info info }) s m n e f ∙ rw short refl
 
 head_with_blocks : (o : Options) (k : ℕ) (is_last : Bool) (info : Streaminfo) (s m n : List ℕ) → streaminfo_ends_head o is_last ≡ false → marker_at s ≡ Done k m → block_at m ≡ Done (record { is_last = is_last; content = Info info }) n
-    → head_at o s ≡ bind (others_at o.metadata_only 65535 None n) (λ found. done (head_with o info found))
+    → head_at o s ≡ bind (others_at o.metadata_only max_other_blocks None n) (λ found. done (head_with o info found))
 unfolding after_first
 head_with_blocks o k is_last info s m n long e f = after_block o k (record { is_last = is_last; content = Info info }) s m n e f ∙ rw long refl
 
 pub later_stops : (o : Options) (k : ℕ) (is_last : Bool) (info : Streaminfo) (s m n : List ℕ) → streaminfo_ends_head o is_last ≡ false → marker_at s ≡ Done k m → block_at m ≡ Done (record { is_last = is_last; content = Info info }) n
-    → StopsAs (others_at o.metadata_only 65535 None n) (head_at o s)
+    → StopsAs (others_at o.metadata_only max_other_blocks None n) (head_at o s)
 later_stops o k is_last info s m n long e f = stops_with (λ found. done (head_with o info found)) (head_with_blocks o k is_last info s m n long e f)
 
 pub head_whole : (o : Options) (k : ℕ) (is_last : Bool) (info : Streaminfo) (found : Option Comment) (s m n rest : List ℕ) → streaminfo_ends_head o is_last ≡ false → marker_at s ≡ Done k m → block_at m ≡ Done (record { is_last = is_last; content = Info info }) n
-    → others_at o.metadata_only 65535 None n ≡ Done found rest → head_at o s ≡ Done (head_with o info found) rest
+    → others_at o.metadata_only max_other_blocks None n ≡ Done found rest → head_at o s ≡ Done (head_with o info found) rest
 head_whole o k is_last info found s m n rest long e f q = head_with_blocks o k is_last info s m n long e f ∙ rw q refl
 
 -- ---- after the marker and the streaminfo
@@ -241,20 +241,20 @@ unfolding Begun
 begun_short o {is_last = is_last} {info = info} {b = b} short h =
     consumes_map _ h.begun (λ p. streaminfo_only o stream_marker is_last info _ p.0 b.remaining short p.1 p.2 ∙ ap (λ (z : Option Comment). Done (record { info = info; comment = z }) b.remaining) (shown_none o.wants_comment))
 
-pub begun_stops : (o : Options) {is_last : Bool} {info : Streaminfo} {a b : State ℕ} → streaminfo_ends_head o is_last ≡ false → HeadBegun is_last info a b → Consumes a b (λ s m. StopsAs (others_at o.metadata_only 65535 None m) (head_at o s))
+pub begun_stops : (o : Options) {is_last : Bool} {info : Streaminfo} {a b : State ℕ} → streaminfo_ends_head o is_last ≡ false → HeadBegun is_last info a b → Consumes a b (λ s m. StopsAs (others_at o.metadata_only max_other_blocks None m) (head_at o s))
 unfolding Begun
 begun_stops o {is_last = is_last} {info = info} {b = b} long h = consumes_map _ h.begun (λ p. later_stops o stream_marker is_last info _ p.0 b.remaining long p.1 p.2)
 
 begun_whole : (o : Options) {is_last : Bool} {info : Streaminfo} {a b c : State ℕ} (found shown : Option Comment) → streaminfo_ends_head o is_last ≡ false → cond o.wants_comment found None ≡ shown → HeadBegun is_last info a b
-    → Consumes b c (λ s m. others_at o.metadata_only 65535 None s ≡ Done found m) → Consumes a c (λ s m. head_at o s ≡ Done (record { info = info; comment = shown }) m)
+    → Consumes b c (λ s m. others_at o.metadata_only max_other_blocks None s ≡ Done found m) → Consumes a c (λ s m. head_at o s ≡ Done (record { info = info; comment = shown }) m)
 unfolding Begun
 begun_whole o {is_last = is_last} {info = info} {b = b} {c = c} found shown long e h k =
     consumes_then _ h.begun k (λ p q. head_whole o stream_marker is_last info found _ p.0 b.remaining c.remaining long p.1 p.2 q ∙ ap (λ (z : Option Comment). Done (record { info = info; comment = z }) c.remaining) e)
 
 pub begun_with : (o : Options) {is_last : Bool} {info : Streaminfo} {a b c : State ℕ} (found : Option Comment) → streaminfo_ends_head o is_last ≡ false → o.wants_comment ≡ true → HeadBegun is_last info a b
-    → Consumes b c (λ s m. others_at o.metadata_only 65535 None s ≡ Done found m) → Consumes a c (λ s m. head_at o s ≡ Done (record { info = info; comment = found }) m)
+    → Consumes b c (λ s m. others_at o.metadata_only max_other_blocks None s ≡ Done found m) → Consumes a c (λ s m. head_at o s ≡ Done (record { info = info; comment = found }) m)
 begun_with o found long requested h k = begun_whole o found found long (rw requested refl) h k
 
 pub begun_without : (o : Options) {is_last : Bool} {info : Streaminfo} {a b c : State ℕ} (found : Option Comment) → streaminfo_ends_head o is_last ≡ false → o.wants_comment ≡ false → HeadBegun is_last info a b
-    → Consumes b c (λ s m. others_at o.metadata_only 65535 None s ≡ Done found m) → Consumes a c (λ s m. head_at o s ≡ Done (record { info = info; comment = None }) m)
+    → Consumes b c (λ s m. others_at o.metadata_only max_other_blocks None s ≡ Done found m) → Consumes a c (λ s m. head_at o s ≡ Done (record { info = info; comment = None }) m)
 begun_without o found long requested h k = begun_whole o found None long (rw requested refl) h k

@@ -1,5 +1,5 @@
 -- The head of a stream (RFC 9639, sections 6 and 8) as the code returns it, and its reader split as the code is split.
-use Rattle.std.specs.Prelude.{◌≡◌, ◌++◌, ℕ, Bool, true, false, List, Option, Some, None, Result, IfOk, IfSome}
+use Rattle.std.specs.Prelude.{◌≡◌, ◌++◌, ℕ, Bool, true, false, List, [], Option, Some, None, Result, IfOk, IfSome}
 use Rattle.claxon_format.specs.read.MetadataBlocks.{block_at}
 use Rattle.claxon_format.specs.Comments.{Comment}
 use Rattle.claxon_format.specs.Fault.{SecondComment, SecondStreaminfo}
@@ -60,31 +60,29 @@ CommentsAreFound found block result =
     (here : State ℕ)
     → Gives found_view result (comments_at (found_view found) (content_view block)) here here
 
--- s is whole blocks, one after another, and then m
-abbrev pub ConsumesBlocks : List ℕ → List ℕ → Type 0
-ConsumesBlocks s m = (blocks : List Block) × (t : List ℕ) × Each BlockCode blocks t × (s ≡ t ++ m)
-
--- s is whole blocks, and then the header of an application or comment block whose length is allowed, and in comments the
--- length of a vendor string that fits
-abbrev pub BlocksMayRunOutOfMemory : List ℕ → Type 0
-BlocksMayRunOutOfMemory s =
-    (m : List ℕ) × ConsumesBlocks s m × (h : BlockHeader) × (x : List ℕ) × (rest : List ℕ)
-    × BlockHeaderCode h x × MayRunOutOfMemory h.type h.length rest × (m ≡ x ++ rest)
-
--- s is the marker of a stream, and then such blocks
-abbrev pub HeadMayRunOutOfMemory : List ℕ → Type 0
-HeadMayRunOutOfMemory s =
-    (t : List ℕ) × (m : List ℕ) × Marker stream_marker t × BlocksMayRunOutOfMemory m × (s ≡ t ++ m)
+-- Memory may be needed for s: it begins with a front of this kind, then whole blocks, and then the header of an application
+-- or comment block of valid length, in a comment block followed by a vendor length that fits.
+pub record MemoryMayBeNeeded (Front : List ℕ → Type 0) (s : List ℕ) : Type 0 where
+  pub front : List ℕ
+  pub blocks : List Block
+  pub before : List ℕ
+  pub header : BlockHeader
+  pub code : List ℕ
+  pub content : List ℕ
+  pub front_is : Front front
+  pub blocks_are : Each BlockCode blocks before
+  pub header_is : BlockHeaderCode header code
+  pub allocates : MayRunOutOfMemory header.type header.length content
+  pub joined : s ≡ front ++ (before ++ (code ++ content))
 
 -- `OutOfMemory` only after whole blocks and such a header.
 abbrev pub OutOfMemoryAfterBlocks : {A : Type 0} → Result A Error → State ℕ → Type 0
 OutOfMemoryAfterBlocks r old =
-    IsOutOfMemory r → old.known ≡ true → BlocksMayRunOutOfMemory old.remaining
+    IsOutOfMemory r → old.known ≡ true → MemoryMayBeNeeded (λ t. t ≡ []) old.remaining
 
--- `OutOfMemory` only after the marker, whole blocks and such a header.
-abbrev pub OutOfMemoryAfterMarker : {A : Type 0} → Result A Error → State ℕ → Type 0
-OutOfMemoryAfterMarker r old =
-    IsOutOfMemory r → old.known ≡ true → HeadMayRunOutOfMemory old.remaining
+-- the greatest number of blocks after the streaminfo; the format sets no limit
+abbrev pub max_other_blocks : ℕ
+max_other_blocks = 65535
 
 -- ---- the contract of `read_head`
 
@@ -109,10 +107,13 @@ CommentHasSeparatorIndices result =
 abbrev pub HeadHasCommentIfRead : {A : Type 0} → Bool → HeadAnswer A → Type 0
 HeadHasCommentIfRead read result = IfOk result (λ shown. read ≡ false → shown.1 ≡ None)
 
--- `OutOfMemory` only after the marker, whole blocks and the header of an application or comment block, whose length was
--- checked, and in comments only after the length of a vendor string that fits.
-abbrev pub HeadOutOfMemoryAfterHeader : {R Z : Type 0} → (R → Source ℕ) → R → HeadAnswer Z → Type 0
-HeadOutOfMemoryAfterHeader source old result = OutOfMemoryAfterMarker result (bytes_in source old)
+-- `OutOfMemory` only after the marker, whole blocks and the header of an application or comment block of valid length, in a
+-- comment block only after a vendor length that fits.
+abbrev pub HeadOutOfMemoryAfterHeader : {R A : Type 0} → (R → Source ℕ) → R → Result A Error
+    → Type 0
+HeadOutOfMemoryAfterHeader source old result =
+    IsOutOfMemory result → (bytes_in source old).known ≡ true
+    → MemoryMayBeNeeded (Marker stream_marker) (bytes_in source old).remaining
 
 -- After an Err the remaining bytes are a suffix of those before.
 abbrev pub HeadLeavesRest : {R Z : Type 0} → (R → Source ℕ) → R → HeadAnswer Z → R → Type 0

@@ -5,9 +5,9 @@ ghost use Rattle.claxon_format.specs.read.Heads.{head_at, marker_at, others_at};
 ghost use Rattle.claxon_format.specs.Heads.{streaminfo_ends_head, stream_marker};
 ghost use Rattle.claxon_input.specs.State.{bytes_in};
 ghost use Rattle.claxon_input.specs.Gives.{Gives, GivesOrOutOfMemory};
-ghost use Rattle.claxon_metadata.specs.MetadataBlock.{BlockHasBounds};
+ghost use Rattle.claxon_metadata.specs.MetadataBlock.{BlockHasBounds, OutOfMemoryAfterBlockHeader};
 ghost use Rattle.claxon_metadata.specs.TagEntries.{HaveSeparatorIndices};
-ghost use Rattle.claxon.specs.ReadHead.{CommentHasSeparatorIndices, CommentsAreFound, HeadFaultIsComplete, HeadIsComplete, HeadFaultIsSound, HeadHasCommentIfRead, HeadIsRead, HeadLeavesRest, HeadOutOfMemoryAfterHeader, HeadIsSound, InfoHasBounds, HeadElseIoError, OutOfMemoryAfterMarker, OutOfMemoryAfterBlocks, found_view, head_view, other_at, other_view, options_view};
+ghost use Rattle.claxon.specs.ReadHead.{CommentHasSeparatorIndices, CommentsAreFound, HeadFaultIsComplete, HeadIsComplete, HeadFaultIsSound, HeadHasCommentIfRead, HeadIsRead, HeadLeavesRest, HeadOutOfMemoryAfterHeader, HeadIsSound, InfoHasBounds, HeadElseIoError, OutOfMemoryAfterBlocks, found_view, head_view, max_other_blocks, other_at, other_view, options_view};
 
 use crate::error::{Error, Result};
 use crate::input::ReadBytes;
@@ -95,7 +95,7 @@ fn read_head_exact<R: ReadBytes, A: Allocator + Copy>(
     ensures bounds { InfoHasBounds result }
     ensures places { CommentHasSeparatorIndices result }
     ensures comment { HeadHasCommentIfRead options.read_vorbis_comment result }
-    ensures memory { OutOfMemoryAfterMarker result (bytes_in R.source input.old) }
+    ensures memory { HeadOutOfMemoryAfterHeader R.source input.old result }
     ensures gives { GivesOrOutOfMemory head_view result (head_at (options_view options))
         (bytes_in R.source input.old) (bytes_in R.source input.new) }
 {
@@ -139,7 +139,8 @@ fn read_other_blocks<R: ReadBytes, A: Allocator + Copy>(
     ensures places { IfOk result (λ found.
         IfSome found (λ comment. HaveSeparatorIndices comment.comments.items)) }
     ensures memory { OutOfMemoryAfterBlocks result (bytes_in R.source input.old) }
-    ensures gives { GivesOrOutOfMemory found_view result (others_at comments_suffice 65535 None)
+    ensures gives { GivesOrOutOfMemory found_view result
+        (others_at comments_suffice max_other_blocks None)
         (bytes_in R.source input.old) (bytes_in R.source input.new) }
 {
     let mut found = None;
@@ -175,7 +176,7 @@ fn read_other_block<R: ReadBytes, A: Allocator + Copy>(
     requires { IfSome found (λ comment. HaveSeparatorIndices comment.comments.items) }
     ensures places { IfOk result (λ other.
         IfSome other.1 (λ comment. HaveSeparatorIndices comment.comments.items)) }
-    ensures memory { OutOfMemoryAfterBlocks result (bytes_in R.source input.old) }
+    ensures memory { OutOfMemoryAfterBlockHeader result (bytes_in R.source input.old) }
     ensures gives { GivesOrOutOfMemory other_view result (other_at (found_view found))
         (bytes_in R.source input.old) (bytes_in R.source input.new) }
 {

@@ -6,9 +6,9 @@ use Rattle.std.specs.Io.Cursor.{cursor_position, cursor_inner}
 use Rattle.std.proofs.lemmas.List.{length-drop}
 use Rattle.claxon.specs.Fault.{Fault}
 use Rattle.claxon.specs.Frame.{StreamFormat, Frame}
-use Rattle.claxon.specs.Heads.{Head, HeadCode, HeadFault}
+use Rattle.claxon.specs.Heads.{Head, HeadCode, HeadFault, Marker, stream_marker}
 use Rattle.claxon.specs.Streams.{with_samples}
-use Rattle.claxon.specs.Cursor.{cursor_left}
+use Rattle.claxon.specs.Cursor.{cursor_left, cursor_source}
 use Rattle.claxon.specs.Promises.{CodeIsComplete, Remains, FaultIsComplete, CodeIsSound, FaultIsSound, FoundIsSound, Consumed}
 use Rattle.claxon.specs.State.{State}
 use Rattle.claxon.specs.Errors.{Error}
@@ -16,7 +16,7 @@ use Rattle.claxon.proofs.InMemory.{cursor_remains, cursor_just_out_of_memory, ne
 use Rattle.claxon.specs.MetadataBlock.{HasBounds}
 use Rattle.claxon.specs.StreamInfos.{StreamInfo}
 use Rattle.claxon.specs.FrameReader.{FrameAnswer, block_view}
-use Rattle.claxon.specs.ReadHead.{OutOfMemoryAfterMarker, HeadMayRunOutOfMemory}
+use Rattle.claxon.specs.ReadHead.{HeadOutOfMemoryAfterHeader, MemoryMayBeNeeded}
 use Rattle.claxon.proofs.FramesInMemory.{SliceFramePromises, begins_with_consumed}
 use Rattle.claxon.proofs.FramesInMemory.{slice_state}
 use Rattle.claxon.specs.Prefix.{BeginsWith}
@@ -71,7 +71,7 @@ module _ {A : Type 0} (view : StreamInfo × Option A → Head) (bytes : Bor (Lis
 
   pub head_at_start : (r : Result (StreamInfo × Option A) Error) → IfOk r (λ shown. HasBounds shown.0) → CodeIsSound view r (HeadCode (with_samples true)) (slice_state a) (slice_state b)
       → CodeIsComplete view r (HeadCode (with_samples true)) (slice_state a) (slice_state b) → FaultIsSound r (HeadFault (with_samples true)) (slice_state a) (slice_state b)
-      → FaultIsComplete r (HeadFault (with_samples true)) (slice_state a) (slice_state b) → OutOfMemoryAfterMarker r (slice_state a) → HeadAtStart view bytes.now r taken
+      → FaultIsComplete r (HeadFault (with_samples true)) (slice_state a) (slice_state b) → HeadOutOfMemoryAfterHeader (cursor_source shown_bytes) a r → HeadAtStart view bytes.now r taken
   head_at_start r bounds sound complete fault named memory = record {
     bounds = bounds;
     sound = head_begins_with_length r sound;
@@ -84,5 +84,5 @@ module _ {A : Type 0} (view : StreamInfo × Option A → Head) (bytes : Bor (Lis
       | inl p ↦ inl p.0
       | inr x ↦ inr (cursor_just_out_of_memory shown_bytes r a b x)
     ];
-    memory = λ s. subst HeadMayRunOutOfMemory remains.are (memory s remains.known);
+    memory = λ s. subst (MemoryMayBeNeeded (Marker stream_marker)) remains.are (memory s remains.known);
   }

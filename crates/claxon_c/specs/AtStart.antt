@@ -2,7 +2,7 @@
 use Rattle.std.specs.Prelude.{◌≡◌, ◌⊎◌, ℕ, ◌≤◌, true, List, ◌++◌, length, Option, Result, IfOk, IfSome, IsErrAnd, IsOkAnd}
 use Rattle.claxon.specs.Fault.{Fault}
 use Rattle.claxon.specs.Frame.{StreamFormat, Frame}
-use Rattle.claxon.specs.Heads.{Head, HeadCode, HeadFault}
+use Rattle.claxon.specs.Heads.{Head, HeadCode, HeadFault, Marker, stream_marker}
 use Rattle.claxon.specs.Streams.{with_samples}
 use Rattle.claxon.specs.Error.{IsFault}
 use Rattle.claxon.specs.Promises.{IsOutOfMemory}
@@ -11,7 +11,7 @@ use Rattle.claxon.specs.OtherErrors.{IfOtherErr}
 use Rattle.claxon.specs.StreamInfos.{StreamInfo}
 use Rattle.claxon.specs.MetadataBlock.{HasBounds}
 use Rattle.claxon.specs.FrameReader.{FrameAnswer, block_view}
-use Rattle.claxon.specs.ReadHead.{HeadMayRunOutOfMemory}
+use Rattle.claxon.specs.ReadHead.{MemoryMayBeNeeded}
 use Rattle.claxon.specs.Prefix.{BeginsWith}
 use Rattle.claxon.specs.FramesInMemory.{SliceFrameIsComplete, SliceFrameFaultIsComplete, SliceFrameFaultIsSound, SliceFrameNoneIffEof, SliceFrameOutOfMemoryAfterHeader}
 
@@ -31,7 +31,7 @@ pub record HeadAtStart {A : Type 0} (view : StreamInfo × Option A → Head) (by
   pub complete : (h : Head) → BeginsWith (HeadCode (with_samples true) h) bytes → IsOkAnd r (λ shown. view shown ≡ h) ⊎ IsOutOfMemory r
   pub fault : IfOtherErr r (λ e. (f : Fault) × IsFault f e × BeginsWith (HeadFault (with_samples true) f) bytes)
   pub named : (f : Fault) → BeginsWith (HeadFault (with_samples true) f) bytes → IsErrAnd r (IsFault f) ⊎ IsOutOfMemory r
-  pub memory : IsOutOfMemory r → HeadMayRunOutOfMemory bytes
+  pub memory : IsOutOfMemory r → MemoryMayBeNeeded (Marker stream_marker) bytes
 
 -- The bytes begin with the frame of the block that is returned, or with what the error says, or they are too few for a frame.
 pub record FrameAtStart (stream : Option StreamFormat) (bytes : List ℕ) (r : FrameAnswer) (taken : ℕ) : Type 0 where

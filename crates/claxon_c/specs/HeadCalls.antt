@@ -2,10 +2,10 @@
 use Rattle.std.specs.Prelude.{◌≡◌, ◌≢◌, ◌⊎◌, ℕ, ◌≤◌, ◌<◌, true, List, [], length, map, slice_get, Option, None, Some}
 use Rattle.claxon.specs.Comments.{Comment}
 use Rattle.claxon.specs.Fault.{Fault}
-use Rattle.claxon.specs.Heads.{Head, HeadCode, HeadFault}
+use Rattle.claxon.specs.Heads.{Head, HeadCode, HeadFault, Marker, stream_marker}
 use Rattle.claxon.specs.Streams.{stream_of, with_samples}
 use Rattle.claxon.specs.Promises.{HasNeither}
-use Rattle.claxon.specs.ReadHead.{HeadMayRunOutOfMemory}
+use Rattle.claxon.specs.ReadHead.{MemoryMayBeNeeded}
 use Rattle.claxon.specs.Prefix.{BeginsWith}
 use Rattle.claxon_c.specs.declared.heads.ClaxonInfo.{ClaxonInfo}
 use Rattle.claxon_c.specs.AtStart.{BeginsWithLength}
@@ -92,4 +92,5 @@ module _ (bytes : List ℕ) (status : ℕ) where
 
   -- `out_of_memory` only for an application or comment block.
   abbrev pub CHeadOutOfMemoryAfterHeader : Type 0
-  CHeadOutOfMemoryAfterHeader = status ≡ out_of_memory → HeadMayRunOutOfMemory bytes
+  CHeadOutOfMemoryAfterHeader =
+      status ≡ out_of_memory → MemoryMayBeNeeded (Marker stream_marker) bytes

@@ -3,7 +3,7 @@ use Rattle.std.proofs.Common.{◌≡◌, ◌⊎◌, inl, inr, ℕ, ℤ, ◌<◌,
 use Rattle.std.specs.Prelude.{IfErr, IfOk, IsErrAnd, Result, Ok, Err}
 use Rattle.claxon.specs.Fault.{Fault}
 use Rattle.claxon.specs.Frame.{Block, Frame, FrameBytesFault, Frames, NoFrameLeft, IsWidth, StreamFormat}
-use Rattle.claxon.specs.Heads.{Head, HeadCode, HeadFault}
+use Rattle.claxon.specs.Heads.{Head, HeadCode, HeadFault, Marker, stream_marker}
 use Rattle.claxon.specs.Streams.{IsStream, stream_of, with_samples}
 use Rattle.claxon.specs.Cursor.{cursor_source}
 use Rattle.claxon.specs.Error.{IsFault}
@@ -13,7 +13,7 @@ use Rattle.claxon.specs.State.{State}
 use Rattle.claxon.specs.Errors.{Error}
 use Rattle.claxon.specs.Errors.TheVariants.{OutOfMemory}
 use Rattle.claxon.specs.FrameReader.{HeaderOfMoreSamples}
-use Rattle.claxon.specs.ReadHead.{OutOfMemoryAfterMarker, HeadMayRunOutOfMemory}
+use Rattle.claxon.specs.ReadHead.{HeadOutOfMemoryAfterHeader, MemoryMayBeNeeded}
 use Rattle.claxon.specs.SampleRuns.{end_found, samples_of}
 use Rattle.claxon.proofs.SampleRuns.{behind, excused_after, fault_no_frame, short_no_frame}
 use Rattle.claxon_uses.specs.Collecting.{Collects, LacksMemory, StopsCollecting}
@@ -49,7 +49,7 @@ module _ {X Z : Type 0} (view : X → List ℤ) (show : Z → Head) (bytes : Lis
   -- no head was read
   pub head_failed : (e : Error) → CodeIsComplete show (let q : Result Z Error = Err e in q) (HeadCode (with_samples true)) (slice_state a) (slice_state b)
       → FaultIsSound (let q : Result Z Error = Err e in q) (HeadFault (with_samples true)) (slice_state a) (slice_state b) → FaultIsComplete (let q : Result Z Error = Err e in q) (HeadFault (with_samples true)) (slice_state a) (slice_state b)
-      → OutOfMemoryAfterMarker (let q : Result Z Error = Err e in q) (slice_state a) → SliceStreamPromises view bytes (Err e)
+      → HeadOutOfMemoryAfterHeader (cursor_source (λ (s : Bor (List ℕ)). s.now)) a (let q : Result Z Error = Err e in q) → SliceStreamPromises view bytes (Err e)
   head_failed e complete fault named memory = record {
     sound = tt;
     complete = λ h blocks rest st few. inr (no_head h blocks rest st);
@@ -65,7 +65,7 @@ module _ {X Z : Type 0} (view : X → List ℤ) (show : Z → Head) (bytes : Lis
       ]
       | inr st ↦ inr (no_head st.0 st.1 st.2 st.3)
     ];
-    memory = λ s. inl (subst HeadMayRunOutOfMemory remains.are (memory (same_out_of_memory e s) remains.known));
+    memory = λ s. inl (subst (MemoryMayBeNeeded (Marker stream_marker)) remains.are (memory (same_out_of_memory e s) remains.known));
   }
     where
       no_head : (h : Head) (blocks : List Block) (rest : List ℕ) → IsStream true bytes h blocks rest → IsOutOfMemory (let q : Result X Error = Err e in q)

@@ -4,9 +4,9 @@ use Rattle.claxon.specs.Error.{IsFault}
 use Rattle.claxon.specs.Fault.{Fault}
 use Rattle.claxon.specs.Frame.{Block, Frame, FrameBytesFault}
 use Rattle.claxon.specs.FrameReader.{HeaderOfMoreSamples}
-use Rattle.claxon.specs.Heads.{Head, HeadCode, HeadFault}
+use Rattle.claxon.specs.Heads.{Head, HeadCode, HeadFault, Marker, stream_marker}
 use Rattle.claxon.specs.Promises.{IsOutOfMemory}
-use Rattle.claxon.specs.ReadHead.{HeadMayRunOutOfMemory}
+use Rattle.claxon.specs.ReadHead.{MemoryMayBeNeeded}
 use Rattle.claxon.specs.SampleRuns.{samples_of}
 use Rattle.claxon.specs.Streams.{IsStream, stream_of, with_samples}
 use Rattle.claxon.specs.Errors.{Error}
@@ -54,4 +54,4 @@ SliceStreamFaultIsComplete bytes result =
 -- `OutOfMemory` only for an application or comment block, or for samples.
 abbrev pub SliceStreamOutOfMemoryAfterHeader : {X : Type 0} → List ℕ → Result X Error → Type 0
 SliceStreamOutOfMemoryAfterHeader bytes result =
-    IsOutOfMemory result → HeadMayRunOutOfMemory bytes ⊎ HasSamples bytes
+    IsOutOfMemory result → MemoryMayBeNeeded (Marker stream_marker) bytes ⊎ HasSamples bytes

@@ -9,7 +9,7 @@ use Rattle.claxon_metadata.specs.MetadataBlock.{metadata_block_view}
 use Rattle.claxon.specs.ReadHead.{found_view, head_view, options_view}
 use Rattle.claxon_metadata.specs.declared.metadata.MetadataBlock.{MetadataBlock}
 use Rattle.claxon_input.proofs.Faults.{stops_fault}
-use Rattle.claxon.proofs.HeadMemory.{never_out_of_memory_in_front, out_of_memory_after_marker, out_of_memory_after_first}
+use Rattle.claxon.proofs.HeadMemory.{never_out_of_memory_without_allocation, out_of_memory_after_marker, out_of_memory_after_first}
 use Rattle.claxon.proofs.HeadParts.{marker_stops, first_stops, no_streaminfo, head_begun, begun_short, begun_stops, begun_with, begun_without}
 use Rattle.claxon_input.proofs.Memory.{exit_no_memory, exit_with_memory}
 use Rattle.claxon.proofs.head.read_head_exact.Goals as goal
@@ -20,7 +20,7 @@ returns-in_err-read_stream_header-clause-gives g c =
 
 pub returns-in_err-read_stream_header-clause-memory : goal.returns-in_err-read_stream_header-clause-memory
 returns-in_err-read_stream_header-clause-memory g c out_of_memory is_known =
-    absurd (never_out_of_memory_in_front (err_from_is_err_and c.from_residual.result c.from_residual.ensures.1) c.in_err-read_stream_header.ensures out_of_memory)
+    absurd (never_out_of_memory_without_allocation (err_from_is_err_and c.from_residual.result c.from_residual.ensures.1) c.in_err-read_stream_header.ensures out_of_memory)
 
 pub returns-in_err-is_last-clause-memory : goal.returns-in_err-is_last-clause-memory
 returns-in_err-is_last-clause-memory g c =

@@ -6,7 +6,7 @@ use Rattle.claxon_input.proofs.ConsecutiveCalls.{consumes_none, consumes_then, c
 use Rattle.claxon_metadata.specs.MetadataBlock.{metadata_block_view}
 use Rattle.claxon.specs.ReadHead.{found_view, other_view}
 use Rattle.claxon_metadata.specs.declared.metadata.MetadataBlock.{MetadataBlock}
-use Rattle.claxon.proofs.HeadMemory.{never_out_of_memory_in_front, out_of_memory_here}
+use Rattle.claxon.proofs.HeadMemory.{never_out_of_memory_without_allocation, out_of_memory_here}
 use Rattle.claxon.proofs.HeadParts.{other_done, other_stops, other_tested}
 use Rattle.claxon_input.proofs.Memory.{exit_no_memory, exit_with_memory}
 use Rattle.claxon.proofs.head.read_other_block.Goals as goal
@@ -22,7 +22,7 @@ returns-in_err-is_last-clause-gives g c =
 pub returns-in_err-comments_with-clause-memory : goal.returns-in_err-comments_with-clause-memory
 returns-in_err-comments_with-clause-memory g c out_of_memory is_known =
     let here = bytes_in g.R.ReadBytes.source c.args.input.now in
-    absurd (never_out_of_memory_in_front (err_from_is_err_and c.from_residual-in_err-comments_with.result c.from_residual-in_err-comments_with.ensures.1) (c.in_err-comments_with.ensures.gives here) out_of_memory)
+    absurd (never_out_of_memory_without_allocation (err_from_is_err_and c.from_residual-in_err-comments_with.result c.from_residual-in_err-comments_with.ensures.1) (c.in_err-comments_with.ensures.gives here) out_of_memory)
 
 pub returns-in_err-comments_with-clause-gives : goal.returns-in_err-comments_with-clause-gives
 returns-in_err-comments_with-clause-gives g c =
