@@ -7,5 +7,6 @@ pub mod HeadParts
 pub mod ErrorTexts
 pub mod SamplesInTurn
 pub mod Opening
+pub mod OutOfMemory
 pub mod SampleRuns
 pub mod FramesInMemory

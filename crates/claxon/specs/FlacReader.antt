@@ -1,5 +1,5 @@
 -- Views of a `FlacReader` for contracts, and what it lends.
-use Rattle.std.specs.Prelude.{Bool, ℕ, Option, None, Some, List, []}
+use Rattle.std.specs.Prelude.{◌≤◌, Bool, ℕ, Option, None, Some, List, []}
 use Rattle.std.specs.declared.alloc.Allocator.{Ghosts}
 use Rattle.std.specs.Borrow.{Lends, MutBor, Fml, RattleType}
 use Rattle.claxon_input.specs.declared.input.BufferedReader.{BufferedReader}
@@ -18,6 +18,10 @@ use Rattle.claxon.specs.contracts.reader.FlacReader.{the_row}
 -- `flac.is_metadata_only()`
 abbrev pub flac_metadata_only : {R A : Type 0} → FlacReader R A → Bool
 flac_metadata_only s = s.metadata_only
+
+-- a bit depth of 1 to 32
+abbrev pub HasBitDepth : StreamInfo → Type 0
+HasBitDepth info = (1 ≤ info.bits_per_sample) × (info.bits_per_sample ≤ 32)
 
 -- `flac.streaminfo()`
 abbrev pub flac_streaminfo : {R A : Type 0} → FlacReader R A → StreamInfo

@@ -55,7 +55,7 @@ impl<R: Read, A: Allocator + Copy> FlacReader<R, A> {
     ghost use Rattle.claxon_frame.specs.FrameReader.{frame_input, frame_stream, stream_with};
     ghost use Rattle.claxon_input.specs.BufferedReader.{buffered_inner};
     ghost use Rattle.claxon.specs.FlacSamples.{have_failed, samples_left, samples_stream};
-    ghost use Rattle.claxon.specs.FlacReader.{LendsInput, LendsBlocks, LendsSamples, flac_input, flac_metadata_only, flac_streaminfo, samples_input, tags_of, vendor_of};
+    ghost use Rattle.claxon.specs.FlacReader.{HasBitDepth, LendsInput, LendsBlocks, LendsSamples, flac_input, flac_metadata_only, flac_streaminfo, samples_input, tags_of, vendor_of};
     ghost use Rattle.claxon_metadata.specs.Tags.{remaining_tags, remaining_values};
 
     /// Reads the head of a stream, with the default options.
@@ -127,7 +127,7 @@ impl<R: Read, A: Allocator + Copy> FlacReader<R, A> {
         ensures value { result ≡ flac_streaminfo self.now }
         ensures bounds { HasBounds result }
         ensures channels { (1 ≤ result.channels) × (result.channels ≤ 8) }
-        ensures width { (1 ≤ result.bits_per_sample) × (result.bits_per_sample ≤ 32) }
+        ensures width { HasBitDepth result }
     {
         self.head.streaminfo
     }

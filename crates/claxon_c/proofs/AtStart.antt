@@ -1,7 +1,6 @@
 -- What bytes in memory begin with, and how many bytes it has.
 use Rattle.std.proofs.Common.{◌≡◌, inl, inr, ℕ, ◌-◌, true, subst, List, ◌++◌, length, Option, None, Some, sym, ap, ◌∙◌, arith, length-append, Bor}
 use Rattle.std.specs.Prelude.{Result, Ok, Err, IfOk, IfSome}
-use Rattle.std.specs.declared.io.Cursor.{Cursor}
 use Rattle.std.specs.Io.Cursor.{cursor_position, cursor_inner}
 use Rattle.std.proofs.lemmas.List.{length-drop}
 use Rattle.claxon.specs.Fault.{Fault}
@@ -17,15 +16,11 @@ use Rattle.claxon.specs.MetadataBlock.{HasBounds}
 use Rattle.claxon.specs.StreamInfos.{StreamInfo}
 use Rattle.claxon.specs.FrameReader.{FrameAnswer, block_view}
 use Rattle.claxon.specs.ReadHead.{HeadOutOfMemoryAfterHeader, MemoryMayBeNeeded}
-use Rattle.claxon.proofs.FramesInMemory.{SliceFramePromises, begins_with_consumed}
-use Rattle.claxon.proofs.FramesInMemory.{slice_state}
+use Rattle.claxon.proofs.FramesInMemory.{Slice, SliceFramePromises, begins_with_consumed, slice_state}
 use Rattle.claxon.specs.Prefix.{BeginsWith}
 use Rattle.claxon.specs.Error.{IsFault}
 use Rattle.claxon.specs.OtherErrors.{IfOtherErr}
 use Rattle.claxon_c.specs.AtStart.{FrameAtStart, BeginsWithLength, HeadAtStart}
-
-abbrev Slice : Type 0
-Slice = Cursor (Bor (List ℕ))
 
 abbrev pub shown_bytes : Bor (List ℕ) → List ℕ
 shown_bytes s = s.now

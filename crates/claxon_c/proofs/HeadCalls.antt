@@ -1,17 +1,17 @@
 -- What calls return for the head at the start of bytes.
 use Rattle.std.proofs.Common.{◌≡◌, inl, inr, ℕ, zero, suc, true, List, [], ◌∷◌, length, nat_le, Option, None, Some, refl, sym, ap, subst, ◌∙◌, rules, Global}
-use Rattle.std.specs.Prelude.{Result, Ok, Err, map, slice_get, ◌≢◌, string_bytes}
+use Rattle.std.specs.Prelude.{Ok, Err, map, slice_get, ◌≢◌, string_bytes}
 use Rattle.std.specs.declared.string.String.{String}
 use Rattle.claxon.specs.Heads.{Head, HeadCode, HeadFault}
 use Rattle.claxon.specs.Streams.{stream_of, with_samples}
 use Rattle.claxon.specs.Errors.{Error}
-use Rattle.claxon.specs.Errors.TheVariants.{OutOfMemory}
 use Rattle.claxon.specs.MetadataBlock.{HasBounds, info_view}
 use Rattle.claxon.specs.TagEntries.{entry_view}
 use Rattle.claxon.specs.StreamInfos.{StreamInfo}
 use Rattle.claxon.specs.VorbisComments.{VorbisComment}
 use Rattle.claxon.specs.ReadHead.{found_view, head_view}
 use Rattle.claxon.specs.Prefix.{BeginsWith}
+use Rattle.claxon.proofs.OutOfMemory.{not_out_of_memory}
 use Rattle.claxon_c.specs.declared.heads.ClaxonInfo.{ClaxonInfo}
 use Rattle.claxon_c.specs.AtStart.{BeginsWithLength, HeadAtStart}
 use Rattle.claxon_c.specs.HeadCalls.{AnswersText, CHeadFaultIsComplete, CHeadFaultIsSound, CHeadElseIoError, ShowsHead, CHeadOutOfMemoryAfterHeader, texts_of}
@@ -39,17 +39,14 @@ module _ {A : Type 0} (view : StreamInfo × Option A → Head) (bytes : List ℕ
 
   -- there is this one
   module _ (z : StreamInfo × Option A) (h : HeadAtStart view bytes (Ok z) taken) where
-    not_out_of_memory : (let q : Result (StreamInfo × Option A) Error = Ok z in q) ≡ Err OutOfMemory → ⊥
-    not_out_of_memory p = cc
-
     pub head_begins : BeginsWith (HeadCode (with_samples true) (view z)) bytes
     head_begins = (h.sound.0, h.sound.1, h.sound.2, h.sound.3)
 
     pub same_head : (head : Head) → BeginsWith (HeadCode (with_samples true) head) bytes → view z ≡ head
-    same_head head begins = elim (h.complete head begins) [ inl p ↦ p | inr s ↦ absurd (not_out_of_memory s) ]
+    same_head head begins = elim (h.complete head begins) [ inl p ↦ p | inr s ↦ absurd (not_out_of_memory z s) ]
 
     pub no_head_fault : CHeadFaultIsComplete bytes status old new
-    no_head_fault f begins = absurd (elim (h.named f begins) [ inl p ↦ p | inr s ↦ not_out_of_memory s ])
+    no_head_fault f begins = absurd (elim (h.named f begins) [ inl p ↦ p | inr s ↦ not_out_of_memory z s ])
 
     pub head_io_ok : CHeadElseIoError bytes status
     head_io_ok n = absurd (n.no_code (view z) h.sound.0 h.sound.1 h.sound.2 h.sound.3)

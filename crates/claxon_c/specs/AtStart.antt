@@ -1,5 +1,5 @@
 -- What private calls return for the start of bytes, and how many bytes it has.
-use Rattle.std.specs.Prelude.{◌≡◌, ◌⊎◌, ℕ, ◌≤◌, true, List, ◌++◌, length, Option, Result, IfOk, IfSome, IsErrAnd, IsOkAnd}
+use Rattle.std.specs.Prelude.{◌≡◌, ◌⊎◌, ℕ, true, List, ◌++◌, length, Option, Result, IfOk, IfSome, IsErrAnd, IsOkAnd}
 use Rattle.claxon.specs.Fault.{Fault}
 use Rattle.claxon.specs.Frame.{StreamFormat, Frame}
 use Rattle.claxon.specs.Heads.{Head, HeadCode, HeadFault, Marker, stream_marker}
@@ -14,10 +14,6 @@ use Rattle.claxon.specs.FrameReader.{FrameAnswer, block_view}
 use Rattle.claxon.specs.ReadHead.{MemoryMayBeNeeded}
 use Rattle.claxon.specs.Prefix.{BeginsWith}
 use Rattle.claxon.specs.FramesInMemory.{SliceFrameIsComplete, SliceFrameFaultIsComplete, SliceFrameFaultIsSound, SliceFrameNoneIffEof, SliceFrameOutOfMemoryAfterHeader}
-
--- its bit depth is 1 to 32
-abbrev pub HasBitDepth : StreamInfo → Type 0
-HasBitDepth info = (1 ≤ info.bits_per_sample) × (info.bits_per_sample ≤ 32)
 
 -- The bytes begin with a code of this length.
 abbrev pub BeginsWithLength : (List ℕ → Type 0) → List ℕ → ℕ → Type 0

@@ -4,8 +4,9 @@ ghost use Rattle.std.specs.Option.{option_map};
 ghost use Rattle.std.specs.Io.Cursor.{cursor_inner, cursor_position};
 ghost use Rattle.claxon.specs.Cursor.{cursor_left};
 ghost use Rattle.claxon.specs.ReadHead.{head_view};
+ghost use Rattle.claxon.specs.FlacReader.{HasBitDepth};
 ghost use Rattle.claxon.specs.FrameReader.{frame_input, frame_stream, stream_with};
-ghost use Rattle.claxon_c.specs.AtStart.{FrameAtStart, HasBitDepth, HeadAtStart};
+ghost use Rattle.claxon_c.specs.AtStart.{FrameAtStart, HeadAtStart};
 
 use claxon::frame::{FrameReader, FrameResult};
 use claxon::metadata::{StreamInfo, VorbisComment};

@@ -3,7 +3,7 @@ ghost use Rattle.std.specs.Prelude.{◌≡◌, IfSome, length, slice_get};
 ghost use Rattle.std.specs.Option.{option_map};
 ghost use Rattle.claxon.specs.ReadHead.{found_view};
 ghost use Rattle.claxon.specs.FrameReader.{stream_with};
-ghost use Rattle.claxon_c.specs.AtStart.{HasBitDepth};
+ghost use Rattle.claxon.specs.FlacReader.{HasBitDepth};
 ghost use Rattle.claxon_c.specs.Info.{InfoShows, known_stream};
 ghost use Rattle.claxon_c.specs.HeadCalls.{AnswersText, CHeadFaultIsComplete, COpenIsComplete, CTagIsComplete, CHeadFaultIsSound, COpenIsSound, InfoIsKept, CHeadElseIoError, CHeadOutOfMemoryAfterHeader, CTagIsSound, texts_of};
 ghost use Rattle.claxon_c.specs.Status.{TextIsReported};

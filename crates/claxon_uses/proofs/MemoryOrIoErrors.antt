@@ -1,17 +1,11 @@
 -- Calls that were out of memory, or whose source failed.
-use Rattle.std.proofs.Common.{◌≡◌, inl, inr, ap}
+use Rattle.std.proofs.Common.{inl, inr}
 use Rattle.std.specs.Prelude.{Result, Ok, Err}
 use Rattle.claxon.specs.Errors.{Error}
-use Rattle.claxon.specs.Errors.TheVariants.{OutOfMemory}
 use Rattle.claxon.specs.Opening.{IsMemoryOrIoError}
 use Rattle.claxon.specs.Promises.{IsExcused}
 use Rattle.claxon.specs.State.{State}
-
-pub not_out_of_memory : {A : Type 0} (x : A) → (let q : Result A Error = Ok x in q) ≡ Err OutOfMemory → ⊥
-not_out_of_memory x p = cc
-
-pub same_out_of_memory : {A B : Type 0} (e : Error) → (let q : Result A Error = Err e in q) ≡ Err OutOfMemory → (let q : Result B Error = Err e in q) ≡ Err OutOfMemory
-same_out_of_memory e p = let k : e ≡ OutOfMemory = cc in ap (λ (z : Error). Err z) k
+use Rattle.claxon.proofs.OutOfMemory.{not_out_of_memory, same_out_of_memory}
 
 pub not_memory_or_io_error : {A : Type 0} (x : A) → IsMemoryOrIoError (let q : Result A Error = Ok x in q) → ⊥
 not_memory_or_io_error x (inl p) = not_out_of_memory x p

@@ -13,6 +13,7 @@ use Rattle.claxon.specs.FrameReader.{ReadsFrame, block_view}
 use Rattle.claxon.specs.Prefix.{BeginsWith}
 use Rattle.claxon_uses.specs.Packets.{PacketFaultIsComplete, PacketIsComplete, HasMoreThanFrame, PacketIsSound, PacketFaultIsSound, PacketOutOfMemoryAfterHeader}
 use Rattle.claxon.proofs.FramesInMemory.{SliceFramePromises}
+use Rattle.claxon.proofs.OutOfMemory.{not_out_of_memory, same_out_of_memory}
 
 -- all clauses of such a call
 pub record PacketPromises (stream : Option StreamFormat) (packet : List ℕ) (r : Result BlockValue Error) : Type 0 where
@@ -34,21 +35,15 @@ module _ (stream : Option StreamFormat) (packet : List ℕ) where
   whole_begins : {C : List ℕ → Type 0} → C packet → BeginsWith C packet
   whole_begins c = (packet, [], c, sym (append-nil packet))
 
-  same_error_out_of_memory : {A B : Type 0} (e : Error) → (let q : Result A Error = Err e in q) ≡ Err OutOfMemory → (let q : Result B Error = Err e in q) ≡ Err OutOfMemory
-  same_error_out_of_memory e p = let k : e ≡ OutOfMemory = cc in ap (λ (z : Error). Err z) k
-
   -- the Err of the frame is returned
   pub packet_failed : (e : Error) → SliceFramePromises stream packet (Err e) → PacketPromises stream packet (Err e)
   packet_failed e m = record {
     sound = tt;
-    complete = λ block c. elim (m.complete block (whole_begins c)) [ inl p ↦ absurd p | inr s ↦ inr (same_error_out_of_memory e s) ];
+    complete = λ block c. elim (m.complete block (whole_begins c)) [ inl p ↦ absurd p | inr s ↦ inr (same_out_of_memory e s) ];
     refused = elim m.fault [ inl p ↦ inl p | inr (inl i) ↦ inr (inl i) | inr (inr f) ↦ inr (inr (inl f)) ];
-    named = λ f c. elim (m.named f c) [ inl p ↦ inl p | inr s ↦ inr (same_error_out_of_memory e s) ];
-    memory = λ s. m.memory (same_error_out_of_memory e s);
+    named = λ f c. elim (m.named f c) [ inl p ↦ inl p | inr s ↦ inr (same_out_of_memory e s) ];
+    memory = λ s. m.memory (same_out_of_memory e s);
   }
-
-  not_out_of_memory : {A : Type 0} (x : A) → (let q : Result A Error = Ok x in q) ≡ Err OutOfMemory → ⊥
-  not_out_of_memory x p = cc
 
   -- there is none
   pub packet_without : (e : Error) → SliceFramePromises stream packet (Ok None) → IsFormatError e (codes "packet without a frame") → PacketPromises stream packet (Err e)

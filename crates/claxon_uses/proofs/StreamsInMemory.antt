@@ -19,7 +19,7 @@ use Rattle.claxon.proofs.SampleRuns.{behind, excused_after, fault_no_frame, shor
 use Rattle.claxon_uses.specs.Collecting.{Collects, LacksMemory, StopsCollecting}
 use Rattle.claxon.specs.Prefix.{BeginsWith}
 use Rattle.claxon_uses.specs.StreamsInMemory.{SliceStreamFaultIsComplete, SliceStreamIsComplete, HasSamples, SliceStreamOutOfMemoryAfterHeader, SliceStreamFaultIsSound, SliceStreamIsSound}
-use Rattle.claxon_uses.proofs.MemoryOrIoErrors.{same_out_of_memory, not_out_of_memory}
+use Rattle.claxon.proofs.OutOfMemory.{not_out_of_memory, same_out_of_memory}
 use Rattle.claxon.proofs.FramesInMemory.{Slice, slice_state, begins_with_consumed}
 use Rattle.claxon.proofs.InMemory.{cursor_just_out_of_memory}
 
