@@ -1,8 +1,6 @@
 //! Blocks, one after another.
-ghost use Rattle.std.specs.Prelude.{drop};
 ghost use Rattle.claxon.specs.FrameReader.{block_view};
-ghost use Rattle.claxon_c.specs.Info.{known_stream};
-ghost use Rattle.claxon_c.specs.NextBlock.{CBlockIsSound, CBlockIsComplete, CBlockFaultIsComplete, CBlockFaultIsSound, CBlockElseIoError, PositionIsKept, ShowsBlock, CBlockOutOfMemoryAfterHeader, CBlockNoMoreIffEof};
+ghost use Rattle.claxon_c.specs.NextBlock.{CBlockElseIoError, CBlockFaultIsComplete, CBlockFaultIsSound, CBlockIsComplete, CBlockIsShown, CBlockIsSound, CBlockNoMoreIffEof, CBlockOutOfMemoryAfterHeader, CSamplesAreGiven, PositionIsKept, ShowsBlock};
 ghost use Rattle.claxon_c.specs.Status.{TextIsReported};
 
 use crate::at_start::block_at_start;
@@ -47,18 +45,15 @@ pub extern "C" fn claxon_next_block(
     block: &mut ClaxonBlock,
     error: &mut [u8],
 ) -> u32
-    ensures sound { CBlockIsSound (known_stream info.now) bytes.now result
-        at.old at.new samples.old samples.new block.new }
-    ensures complete { CBlockIsComplete (known_stream info.now) bytes.now result
-        at.old at.new samples.old samples.new block.new }
-    ensures fault { CBlockFaultIsSound (known_stream info.now) (drop at.old bytes.now)
-        result error.old error.new }
-    ensures named { CBlockFaultIsComplete (known_stream info.now) (drop at.old bytes.now)
-        result error.old error.new }
-    ensures eof { CBlockNoMoreIffEof (drop at.old bytes.now) result }
-    ensures io { CBlockElseIoError (known_stream info.now) (drop at.old bytes.now) result }
-    ensures memory { CBlockOutOfMemoryAfterHeader (known_stream info.now)
-        (drop at.old bytes.now) result }
+    ensures sound { CBlockIsSound info.now bytes.now at.old result at.new }
+    ensures shown { CBlockIsShown info.now bytes.now at.old result block.new }
+    ensures samples { CSamplesAreGiven info.now bytes.now at.old result samples.old samples.new }
+    ensures complete { CBlockIsComplete info.now bytes.now at.old result }
+    ensures fault { CBlockFaultIsSound info.now bytes.now at.old result error.old error.new }
+    ensures named { CBlockFaultIsComplete info.now bytes.now at.old result error.old error.new }
+    ensures eof { CBlockNoMoreIffEof bytes.now at.old result }
+    ensures io { CBlockElseIoError info.now bytes.now at.old result }
+    ensures memory { CBlockOutOfMemoryAfterHeader info.now bytes.now at.old result }
     ensures text { TextIsReported result error.old error.new }
     ensures kept { PositionIsKept result at.old at.new samples.old samples.new }
 {

@@ -17,8 +17,8 @@ returns-in-Err c =
     let stream = known_stream c.args.info.now in
     let s : start ≡ min (length bytes) from = search rules in
     let h = at_position (option_map stream_with c.known_stream.result) stream bytes from start _ taken c.known_stream.ensures.stream s c.in-Err.ensures in
-    let k = next_error stream bytes from taken c.args.samples.now c.args.samples.now c.args.block.now c.args.error.now c.report.new.output c.in-Err.fault c.report.result h c.report.ensures in
-    record { sound = k.sound; complete = k.complete; fault = k.fault; named = k.named; eof = k.eof; io = k.io; memory = k.memory; text = k.text; kept = k.kept }
+    let k = next_error c.args.info.now bytes from taken c.args.samples.now c.args.samples.now c.args.block.now c.args.error.now c.report.new.output c.in-Err.fault c.report.result h c.report.ensures in
+    record { sound = k.sound; shown = k.shown; samples = k.samples; complete = k.complete; fault = k.fault; named = k.named; eof = k.eof; io = k.io; memory = k.memory; text = k.text; kept = k.kept }
 
 pub returns-in-Ok-None : goal.returns-in-Ok-None
 returns-in-Ok-None c =
@@ -30,8 +30,8 @@ returns-in-Ok-None c =
     let s : start ≡ min (length bytes) from = search rules in
     let is : c.block_at_start.result ≡ Ok None = search rules in
     let h = at_position (option_map stream_with c.known_stream.result) stream bytes from start (Ok None) taken c.known_stream.ensures.stream s (subst (λ (r : FrameAnswer). FrameAtStart (option_map stream_with c.known_stream.result) (take (length bytes - start) (drop start bytes)) r taken) is c.block_at_start.ensures) in
-    let k = next_none stream bytes from taken c.args.samples.now c.args.samples.now c.args.block.now c.args.error.now c.args.error.now h in
-    record { sound = k.sound; complete = k.complete; fault = k.fault; named = k.named; eof = k.eof; io = k.io; memory = k.memory; text = k.text; kept = k.kept }
+    let k = next_none c.args.info.now bytes from taken c.args.samples.now c.args.samples.now c.args.block.now c.args.error.now c.args.error.now h in
+    record { sound = k.sound; shown = k.shown; samples = k.samples; complete = k.complete; fault = k.fault; named = k.named; eof = k.eof; io = k.io; memory = k.memory; text = k.text; kept = k.kept }
 
 pub returns-then-samples-len : goal.returns-then-samples-len
 returns-then-samples-len c =
@@ -45,8 +45,8 @@ returns-then-samples-len c =
     let is : c.block_at_start.result ≡ Ok (Some found) = search rules in
     let h = at_position (option_map stream_with c.known_stream.result) stream bytes from start (Ok (Some found)) taken c.known_stream.ensures.stream s (subst (λ (r : FrameAnswer). FrameAtStart (option_map stream_with c.known_stream.result) (take (length bytes - start) (drop start bytes)) r taken) is c.block_at_start.ensures) in
     let short : length c.args.samples.now < length found.channels * duration found.channels = search rules in
-    let k = next_buffer_short stream bytes from taken c.args.samples.now c.new.result c.args.error.now found start s h c.new.ensures short in
-    record { sound = k.sound; complete = k.complete; fault = k.fault; named = k.named; eof = k.eof; io = k.io; memory = k.memory; text = k.text; kept = k.kept }
+    let k = next_buffer_short c.args.info.now bytes from taken c.args.samples.now c.new.result c.args.error.now found start s h c.new.ensures short in
+    record { sound = k.sound; shown = k.shown; samples = k.samples; complete = k.complete; fault = k.fault; named = k.named; eof = k.eof; io = k.io; memory = k.memory; text = k.text; kept = k.kept }
 
 pub returns-else-samples-len : goal.returns-else-samples-len
 returns-else-samples-len c =
@@ -60,5 +60,5 @@ returns-else-samples-len c =
     let is : c.block_at_start.result ≡ Ok (Some found) = search rules in
     let h = at_position (option_map stream_with c.known_stream.result) stream bytes from start (Ok (Some found)) taken c.known_stream.ensures.stream s (subst (λ (r : FrameAnswer). FrameAtStart (option_map stream_with c.known_stream.result) (take (length bytes - start) (drop start bytes)) r taken) is c.block_at_start.ensures) in
     let fits : length found.channels * duration found.channels ≤ length c.args.samples.now = search rules in
-    let k = next_block stream bytes from taken c.args.samples.now c.put_interleaved.new.samples c.new.result c.args.error.now c.args.error.now found start s h c.new.ensures (inl (refl, fits, c.put_interleaved.ensures)) in
-    record { sound = k.sound; complete = k.complete; fault = k.fault; named = k.named; eof = k.eof; io = k.io; memory = k.memory; text = k.text; kept = k.kept }
+    let k = next_block c.args.info.now bytes from taken c.args.samples.now c.put_interleaved.new.samples c.new.result c.args.error.now c.args.error.now found start s h c.new.ensures (inl (refl, fits, c.put_interleaved.ensures)) in
+    record { sound = k.sound; shown = k.shown; samples = k.samples; complete = k.complete; fault = k.fault; named = k.named; eof = k.eof; io = k.io; memory = k.memory; text = k.text; kept = k.kept }
