@@ -220,9 +220,9 @@ module _ (stream : Option StreamFormat) (width : IsWidth (known_width stream)) w
       go (x ∷ more) e g = absurd (c x g.0 g.1 g.2 g.3)
 
   -- All of them were read and the last answer is that for what follows, or it is excused.
-  pub behind : (end : Option Error) (done blocks : List Block) (m : List ℕ) {a b : State ℕ} (h : ReadsFrames stream done (end_found end) a b) → a.known ≡ true → Frames stream a.remaining blocks m → NoFrameLeft stream m
+  pub all_frames_read : (end : Option Error) (done blocks : List Block) (m : List ℕ) {a b : State ℕ} (h : ReadsFrames stream done (end_found end) a b) → a.known ≡ true → Frames stream a.remaining blocks m → NoFrameLeft stream m
       → ((blocks ≡ done) × Remains h.between m) ⊎ IsExcused (end_found end) a b
-  behind end done blocks m {a = a} {b = b} h is_known f c =
+  all_frames_read end done blocks m {a = a} {b = b} h is_known f c =
       let w = h.blocks_are.consumed.known is_known in
       let q = frames_left a.remaining h.between.remaining m done blocks w.is f c in
       go q.0 q.1 q.2

@@ -23,7 +23,7 @@ use Rattle.claxon.specs.Opening.{OpenFaultIsComplete, OpenIsComplete, OpenFaultI
 use Rattle.claxon.specs.SampleRuns.{GaveAll, GaveSamples, end_found, lent, samples_of}
 use Rattle.claxon.specs.declared.reader.FlacReader.{FlacReader}
 use Rattle.claxon.specs.declared.samples.FlacSamples.{FlacSamples}
-use Rattle.claxon.proofs.SampleRuns.{behind, fault_no_frame, frames_either, frames_left, gave_all, short_no_frame, short_no_fault}
+use Rattle.claxon.proofs.SampleRuns.{all_frames_read, fault_no_frame, frames_either, frames_left, gave_all, short_no_frame, short_no_fault}
 use Rattle.claxon_uses.specs.FirstSamples.{BeginsWithSamples, FirstFaultIsComplete, FirstFaultIsSound, FirstSamplesAreComplete, FirstSamplesAreSound, GivesFirstSamples, HasFirstSamples, HasFirstFault, ErrBeforeCount}
 use Rattle.claxon.specs.Prefix.{BeginsWith}
 use Rattle.claxon_uses.proofs.MemoryOrIoErrors.{same_memory_or_io_error, excused_memory_or_io_error}
@@ -194,7 +194,7 @@ module _ {R A : Type 0} (count : ℕ) (remaining : R → Option (List ℕ)) (rea
     ];
     named = λ f is_known bad.
         let b = fault_after f is_known bad in
-        elim (behind stream o.width (Some e) h.blocks b.0 b.1 h.ends (after_known remaining reader flac o is_known) b.2 b.3) [
+        elim (all_frames_read stream o.width (Some e) h.blocks b.0 b.1 h.ends (after_known remaining reader flac o is_known) b.2 b.3) [
           | inr x ↦ inr (same_memory_or_io_error e (excused_memory_or_io_error (end_found (Some e)) (samples_bytes source old) (samples_bytes source new) x))
           | inl p ↦ elim (h.ends.last.promises.named f b.5.0 b.5.1 b.5.2 (record { known = p.1.known; are = p.1.are ∙ b.5.3 })) [
             | inl q ↦ inl q.0

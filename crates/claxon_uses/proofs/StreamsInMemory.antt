@@ -15,7 +15,7 @@ use Rattle.claxon.specs.Errors.TheVariants.{OutOfMemory}
 use Rattle.claxon.specs.FrameReader.{HeaderOfMoreSamples}
 use Rattle.claxon.specs.ReadHead.{HeadOutOfMemoryAfterHeader, MemoryMayBeNeeded}
 use Rattle.claxon.specs.SampleRuns.{end_found, samples_of}
-use Rattle.claxon.proofs.SampleRuns.{behind, excused_after, fault_no_frame, short_no_frame}
+use Rattle.claxon.proofs.SampleRuns.{all_frames_read, excused_after, fault_no_frame, short_no_frame}
 use Rattle.claxon_uses.specs.Collecting.{Collects, LacksMemory, StopsCollecting}
 use Rattle.claxon.specs.Prefix.{BeginsWith}
 use Rattle.claxon_uses.specs.StreamsInMemory.{SliceStreamFaultIsComplete, SliceStreamIsComplete, HasSamples, SliceStreamOutOfMemoryAfterHeader, SliceStreamFaultIsSound, SliceStreamIsSound}
@@ -29,8 +29,8 @@ just_out_of_memory : {A : Type 0} (r : Result A Error) (b after : Slice) → IsE
 just_out_of_memory r b after x = cursor_just_out_of_memory (λ (s : Bor (List ℕ)). s.now) r b after x
 
 -- an excuse after frames that were read is `OutOfMemory`
-head_out_of_memory_after : {A : Type 0} {P : List ℕ → List ℕ → Type 0} (r : Result A Error) (b after : Slice) (mid : State ℕ) → Consumes (slice_state b) mid P → IsExcused r mid (slice_state after) → IsOutOfMemory r
-head_out_of_memory_after r b after mid w x = just_out_of_memory r b after (excused_after (slice_state after) r w x)
+out_of_memory_after_frames : {A : Type 0} {P : List ℕ → List ℕ → Type 0} (r : Result A Error) (b after : Slice) (mid : State ℕ) → Consumes (slice_state b) mid P → IsExcused r mid (slice_state after) → IsOutOfMemory r
+out_of_memory_after_frames r b after mid w x = just_out_of_memory r b after (excused_after (slice_state after) r w x)
 
 -- ---- the whole call
 
@@ -133,14 +133,14 @@ module _ {X Z : Type 0} (view : X → List ℤ) (show : Z → Head) (bytes : Lis
     -- what follows the frames that were read
     module _ (end : Option Error) (xs : List ℤ) (h : Collects (cursor_source (λ (s : Bor (List ℕ)). s.now)) (Some stream) b end xs) where
       past : (g : Head) (blocks : List Block) (rest : List ℕ) → IsStream true bytes g blocks rest → ((blocks ≡ h.blocks) × Remains h.ends.between rest) ⊎ IsOutOfMemory (end_found end)
-      past g blocks rest st = let s = same_head g blocks rest st in elim (behind (Some stream) width end h.blocks blocks rest h.ends is_known s.1.0 s.1.1) [ inl p ↦ inl p | inr x ↦ inr (just_out_of_memory (end_found end) b h.after x) ]
+      past g blocks rest st = let s = same_head g blocks rest st in elim (all_frames_read (Some stream) width end h.blocks blocks rest h.ends is_known s.1.0 s.1.1) [ inl p ↦ inl p | inr x ↦ inr (just_out_of_memory (end_found end) b h.after x) ]
 
       fault_named_after : (f : Fault) (g : Head) (blocks : List Block) (rest : List ℕ) → IsStream true bytes g blocks rest → BeginsWith (FrameBytesFault (Some (stream_of g.info)) f) rest → IsErrAnd (end_found end) (IsFault f) ⊎ IsOutOfMemory (end_found end)
       fault_named_after f g blocks rest st begins = elim (past g blocks rest st) [
         | inr y ↦ inr y
         | inl p ↦ (
             let k = same_fault g f rest (same_head g blocks rest st).0 begins in
-            elim (h.ends.last.promises.named f k.0 k.1 k.2 (record { known = p.1.known; are = p.1.are ∙ k.3 })) [ inl q ↦ inl q.0 | inr x ↦ inr (head_out_of_memory_after (end_found end) b h.after h.ends.between h.ends.blocks_are.consumed x) ]
+            elim (h.ends.last.promises.named f k.0 k.1 k.2 (record { known = p.1.known; are = p.1.are ∙ k.3 })) [ inl q ↦ inl q.0 | inr x ↦ inr (out_of_memory_after_frames (end_found end) b h.after h.ends.between h.ends.blocks_are.consumed x) ]
             )
       ]
 
@@ -166,7 +166,7 @@ module _ {X Z : Type 0} (view : X → List ℤ) (show : Z → Head) (bytes : Lis
           sound = tt;
           complete = λ g blocks rest st few. elim (past (Some e) xs h g blocks rest st) [
             | inr y ↦ inr (same_out_of_memory e y)
-            | inl p ↦ elim (h.ends.last.promises.eof_is_none rest p.1 few) [ inl q ↦ absurd (let k = q.0 in cc) | inr x ↦ inr (same_out_of_memory e (head_out_of_memory_after (end_found (Some e)) b h.after h.ends.between h.ends.blocks_are.consumed x)) ]
+            | inl p ↦ elim (h.ends.last.promises.eof_is_none rest p.1 few) [ inl q ↦ absurd (let k = q.0 in cc) | inr x ↦ inr (same_out_of_memory e (out_of_memory_after_frames (end_found (Some e)) b h.after h.ends.between h.ends.blocks_are.consumed x)) ]
           ];
           fault = elim h.ends.last.promises.fault [
             | inl m ↦ inl m

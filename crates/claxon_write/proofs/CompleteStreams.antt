@@ -11,7 +11,7 @@ use Rattle.claxon.specs.Error.{IsFault}
 use Rattle.claxon.specs.Promises.{Remains, IsExcused}
 use Rattle.claxon.specs.State.{State}
 use Rattle.claxon.specs.SampleRuns.{samples_of}
-use Rattle.claxon.proofs.SampleRuns.{behind, excused_after, fault_no_frame, frames_left, short_no_frame}
+use Rattle.claxon.proofs.SampleRuns.{all_frames_read, excused_after, fault_no_frame, frames_left, short_no_frame}
 use Rattle.claxon_write.specs.Decoded.{Decodes, EndsAfter, FailsToFlushAll, FailsToWrite, StopsDecoding, TooManySamples, WriteHasFailed, WriterHasFailed}
 use Rattle.claxon_write.specs.Written.{IsFlushed, NothingFailed}
 use Rattle.claxon_write.specs.declared.output.Output.{Output}
@@ -46,7 +46,7 @@ module _ (stream : Option StreamFormat) (width : IsWidth (known_width stream)) w
     -- a stream that ends there is written completely
     pub written_whole : (r : Result ℕ Error) → IfOk r (λ n. Decodes contents stream None n a b x y × NothingFailed x y × IsFlushed x y)
         → IfErr r (λ e. StopsDecoding contents stream e a b x y ⊎ (FailsToWrite contents stream e a b x y ⊎ FailsToFlushAll contents stream e a b x y)) → length m < 2 → (r ≡ Ok (length (samples_of blocks))) ⊎ (IsExcused r a b ⊎ WriterHasFailed r x y)
-    written_whole (Ok n) h k short = elim (behind stream width None h.0.blocks blocks m h.0.ends known f (short_no_frame stream m short)) [
+    written_whole (Ok n) h k short = elim (all_frames_read stream width None h.0.blocks blocks m h.0.ends known f (short_no_frame stream m short)) [
       | inl p ↦ inl (ap (λ (z : ℕ). Ok z) (h.0.count ∙ ap (λ (z : List Block). length (samples_of z)) (sym p.0)))
       | inr e ↦ absurd (ok_unexcused a b None e)
     ]
@@ -56,7 +56,7 @@ module _ (stream : Option StreamFormat) (width : IsWidth (known_width stream)) w
       where
         go : EndsAfter stream k.decoded.blocks (Some e) a b → ((let q : Result ℕ Error = Err e in q) ≡ Ok (length (samples_of blocks))) ⊎ (IsExcused (let q : Result ℕ Error = Err e in q) a b ⊎ WriterHasFailed (let q : Result ℕ Error = Err e in q) x y)
         go (inr limit) = absurd (under_limit k.decoded.blocks blocks m limit known f (short_no_frame stream m short) few)
-        go (inl reads) = elim (behind stream width (Some e) k.decoded.blocks blocks m reads known f (short_no_frame stream m short)) [
+        go (inl reads) = elim (all_frames_read stream width (Some e) k.decoded.blocks blocks m reads known f (short_no_frame stream m short)) [
           | inr z ↦ inr (inl (excused_as a b e z))
           | inl p ↦ elim (reads.last.promises.eof_is_none m p.1 short) [
             | inl z ↦ absurd (let w = z.0 in cc)
@@ -78,7 +78,7 @@ module _ (stream : Option StreamFormat) (width : IsWidth (known_width stream)) w
 
         -- it is not the end
         not_eof : {n : ℕ} → Decodes contents stream None n a b x y → ⊥
-        not_eof h = elim (behind stream width None h.blocks blocks m h.ends known f none) [
+        not_eof h = elim (all_frames_read stream width None h.blocks blocks m h.ends known f none) [
           | inr z ↦ ok_unexcused a b None z
           | inl p ↦ elim (h.ends.last.promises.named fault t rest bad (there p.1)) [ inl z ↦ z.0 | inr z ↦ ok_unexcused h.ends.between b None z ]
         ]
@@ -90,7 +90,7 @@ module _ (stream : Option StreamFormat) (width : IsWidth (known_width stream)) w
         go (Err error) h (inr (inr k)) = absurd (not_eof k.decoded)
         go (Err error) h (inl k) = elim k.decoded.ends [
           | inr limit ↦ absurd (under_limit k.decoded.blocks blocks m limit known f none few)
-          | inl reads ↦ elim (behind stream width (Some error) k.decoded.blocks blocks m reads known f none) [
+          | inl reads ↦ elim (all_frames_read stream width (Some error) k.decoded.blocks blocks m reads known f none) [
             | inr z ↦ inr (inl (excused_as a b error z))
             | inl p ↦ elim (reads.last.promises.named fault t rest bad (there p.1)) [
               | inl z ↦ inl z.0
