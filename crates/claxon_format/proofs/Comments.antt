@@ -12,7 +12,7 @@ use Rattle.claxon_format.specs.read.Reading.{Reads}
 use Rattle.claxon_format.proofs.Laws.{Then, Reads-then, Reads-same, Reads-test, Reads-done, Reads-map, Reads-cond, Reads-checked}
 use Rattle.claxon_format.specs.Codes.{Is, Each, Mapped}
 use Rattle.claxon_format.specs.Metadata.{Bytes, Little, max_content_bytes}
-use Rattle.claxon_format.specs.Comments.{Entry, is_separator, IsEntry, LengthPrefixed, EntriesOf, has_separator, has_name, not_utf8, EntryFault, EntryCode, EntryOrEmpty, EntryOrEmptyFault, EntryLength, EntryLengthFault, EntriesEndFault, EntriesFault, VendorLength, VendorLengthFault, Vendor, VendorFault, Count, CountFault, Comment, CommentCode, CommentFault}
+use Rattle.claxon_format.specs.Comments.{Entry, is_separator, IsEntry, LengthPrefixed, EntriesOf, has_separator, has_name, not_utf8, EntryFault, EntryCode, EntryOrEmpty, EntryOrEmptyFault, TextLength, TextLengthFault, EntriesEndFault, EntriesFault, Vendor, VendorFault, Count, CountFault, Comment, CommentCode, CommentFault}
 use Rattle.claxon_format.specs.read.Comments.{entry_of, entry_at, entry_or_empty_at, entry_length_at, entries_end_at, entries_at, vendor_length_at, vendor_at, count_at, comment_at}
 use Rattle.claxon_format.proofs.Metadata.{Reads-bytes, Reads-little, little_length}
 
@@ -147,7 +147,7 @@ EntriesEndTested : ℕ → ℕ → List Entry → List ℕ → Type 0
 EntriesEndTested missing left es t = (ltb 0 left ≡ false) × ((ltb 0 missing ≡ false) × Is [] es t)
 
 NextTested : (ℕ → List Entry → List ℕ → Type 0) → ℕ → List Entry → List ℕ → Type 0
-NextTested rest left = Then (EntryLength (left - 4)) (λ n. Then (EntryOrEmpty n) (λ es. Mapped (λ others. es ++ others) (rest (left - 4 - n))))
+NextTested rest left = Then (TextLength (left - 4)) (λ n. Then (EntryOrEmpty n) (λ es. Mapped (λ others. es ++ others) (rest (left - 4 - n))))
 
 EntriesTested : ℕ → ℕ → List Entry → List ℕ → Type 0
 EntriesTested zero left = EntriesEndTested zero left
@@ -225,7 +225,7 @@ entries_from (x ∷ texts) (suc count) left es t n (p, q, (h, code, p-is), rest,
     let small : ltb (left - 4) (length x) ≡ false = le-ltb _ _ (omega arith) in
     rw enough (length x, h, x ++ q, (small, code), (parts.first, x, q, parts.entry_code, (parts.others, others, parts.joined), refl), t-is ∙ ap (λ (z : List ℕ). z ++ q) p-is ∙ append_assoc h x q)
 
-pub Reads-entry_length : (most : ℕ) → Reads ℕ ℕ (entry_length_at most) (EntryLength most) (EntryLengthFault most)
+pub Reads-entry_length : (most : ℕ) → Reads ℕ ℕ (entry_length_at most) (TextLength most) (TextLengthFault EntryLong most)
 unfolding entry_length_at
 Reads-entry_length most = Reads-checked (ltb most) EntryLong (Reads-little 4)
 
@@ -244,7 +244,7 @@ Reads-entries (suc missing) left =
 
 CommentTested : ℕ → Comment → List ℕ → Type 0
 CommentTested n c t =
-    (ltb n 8 ≡ false) × ((ltb max_content_bytes n ≡ false) × Then (VendorLength (n - 8)) (λ v. Then (Vendor v) (λ vendor. Then (Count (n / 4)) (λ count. Mapped (λ entries. record { vendor = vendor; entries = entries }) (EntriesTested count (n - 8 - v))))) c t)
+    (ltb n 8 ≡ false) × ((ltb max_content_bytes n ≡ false) × Then (TextLength (n - 8)) (λ v. Then (Vendor v) (λ vendor. Then (Count (n / 4)) (λ count. Mapped (λ entries. record { vendor = vendor; entries = entries }) (EntriesTested count (n - 8 - v))))) c t)
 
 comment_to : (n : ℕ) (c : Comment) (t : List ℕ) → CommentTested n c t → CommentCode n c t
 unfolding CommentTested
@@ -303,7 +303,7 @@ comment_from n c t (texts, x, y, z, most, len, (h, h-code, x-is), utf8, y-code, 
       ),
     )
 
-pub Reads-vendor_length : (most : ℕ) → Reads ℕ ℕ (vendor_length_at most) (VendorLength most) (VendorLengthFault most)
+pub Reads-vendor_length : (most : ℕ) → Reads ℕ ℕ (vendor_length_at most) (TextLength most) (TextLengthFault VendorLong most)
 unfolding vendor_length_at
 Reads-vendor_length most = Reads-checked (ltb most) VendorLong (Reads-little 4)
 

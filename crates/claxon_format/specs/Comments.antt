@@ -78,21 +78,13 @@ EntryOrEmpty n = cond (n == 0) (Is []) (Mapped (λ e. e ∷ []) (EntryCode n))
 abbrev pub EntryOrEmptyFault : ℕ → Fault → List ℕ → Type 0
 EntryOrEmptyFault n = cond (n == 0) Never (EntryFault n)
 
--- the length of an entry: at most the bytes that are left
-abbrev pub EntryLength : ℕ → ℕ → List ℕ → Type 0
-EntryLength most = Checked (nat_lt most) (Little 4)
+-- the length of the vendor string or of an entry: at most the bytes that are left
+abbrev pub TextLength : ℕ → ℕ → List ℕ → Type 0
+TextLength most = Checked (nat_lt most) (Little 4)
 
--- a length that is more
-abbrev pub EntryLengthFault : ℕ → Fault → List ℕ → Type 0
-EntryLengthFault most = CheckedFault (nat_lt most) EntryLong (Little 4) Never
-
--- the length of the vendor string: at most the bytes that are left
-abbrev pub VendorLength : ℕ → ℕ → List ℕ → Type 0
-VendorLength most = Checked (nat_lt most) (Little 4)
-
--- a length that is more
-abbrev pub VendorLengthFault : ℕ → Fault → List ℕ → Type 0
-VendorLengthFault most = CheckedFault (nat_lt most) VendorLong (Little 4) Never
+-- a length that is more, which is this fault
+abbrev pub TextLengthFault : Fault → ℕ → Fault → List ℕ → Type 0
+TextLengthFault fault most = CheckedFault (nat_lt most) fault (Little 4) Never
 
 -- the vendor string: n bytes of UTF-8
 abbrev pub Vendor : ℕ → List ℕ → List ℕ → Type 0
@@ -118,11 +110,11 @@ EntriesEndFault missing left = MeetsOr (nat_lt 0 left) ExcessData (MeetsOr (nat_
 abbrev pub EntriesFault : ℕ → ℕ → Fault → List ℕ → Type 0
 EntriesFault zero left = EntriesEndFault zero left
 EntriesFault (suc missing) left = cond (nat_lt left 4) (EntriesEndFault (suc missing) left) (
-    ThenFault (EntryLength (left - 4)) (EntryLengthFault (left - 4)) (λ n. ThenFault (EntryOrEmpty n) (EntryOrEmptyFault n) (λ entries. EntriesFault missing (left - 4 - n))))
+    ThenFault (TextLength (left - 4)) (TextLengthFault EntryLong (left - 4)) (λ n. ThenFault (EntryOrEmpty n) (EntryOrEmptyFault n) (λ entries. EntriesFault missing (left - 4 - n))))
 
 -- the faults of the fields, in order
 abbrev pub CommentFault : ℕ → Fault → List ℕ → Type 0
 CommentFault n =
     MeetsOr (nat_lt n 8) CommentShort (MeetsOr (nat_lt max_content_bytes n) CommentLarge (
-    ThenFault (VendorLength (n - 8)) (VendorLengthFault (n - 8)) (λ v. ThenFault (Vendor v) (VendorFault v) (λ vendor.
+    ThenFault (TextLength (n - 8)) (TextLengthFault VendorLong (n - 8)) (λ v. ThenFault (Vendor v) (VendorFault v) (λ vendor.
     ThenFault (Count (n / 4)) (CountFault (n / 4)) (λ count. EntriesFault count (n - 8 - v))))))

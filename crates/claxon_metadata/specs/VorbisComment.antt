@@ -1,7 +1,7 @@
 -- Vorbis comments (RFC 9639, section 8.6) in the code.
 use Rattle.std.specs.Prelude.{◌≡◌, ℕ, true, nat_lt, Option, None, Some, Result, List, [], ◌∷◌, ◌++◌, string_bytes}
 use Rattle.std.specs.declared.string.String.{String}
-use Rattle.claxon_format.specs.Comments.{Entry, Comment, VendorLength}
+use Rattle.claxon_format.specs.Comments.{Entry, Comment, TextLength}
 use Rattle.claxon_format.specs.Fault.{Fault}
 use Rattle.claxon_format.specs.read.Reading.{checked_at}
 use Rattle.claxon_format.specs.read.Bytes.{little_at}
@@ -27,7 +27,7 @@ entry_or_empty_view (Some pair) = entry_view pair ∷ []
 -- the bytes begin with a vendor length, which is at most `most`
 abbrev pub HasVendorLength : ℕ → List ℕ → Type 0
 HasVendorLength most s =
-    (v : ℕ) × (x : List ℕ) × (rest : List ℕ) × VendorLength most v x × (s ≡ x ++ rest)
+    (v : ℕ) × (x : List ℕ) × (rest : List ℕ) × TextLength most v x × (s ≡ x ++ rest)
 
 -- `OutOfMemory` is returned only if the bytes begin with such a length.
 abbrev pub OutOfMemoryAfterVendorLength : {A : Type 0} → ℕ → Result A Error → State ℕ → Type 0

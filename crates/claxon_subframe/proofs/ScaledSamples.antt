@@ -24,8 +24,8 @@ type_fits : (w n fixed linear : ℕ) (a b c : Bool) (u : List ℤ) (t : Bits) �
     → cond a (Mapped (λ x. replicate n x) (Signed w)) (cond b (Samples w n) (cond c (Fixed w n fixed) (Linear w n linear))) u t → AllFit u
 type_fits w n fixed linear true b c u t some most k = rw k.2 (replicate_fits n k.0 (signed_fits w k.0 t some most k.1))
 type_fits w n fixed linear false true c u t some most k = fit_each (Signed w) u t (λ e v d. signed_fits w e v some most d) k.1
-type_fits w n fixed linear false false true u t some most k = k.4
-type_fits w n fixed linear false false false u t some most k = k.8
+type_fits w n fixed linear false false true u t some most k = k.3
+type_fits w n fixed linear false false false u t some most k = k.7
 
 -- samples that were read fit 32 bits
 samples_fit : (w n type : ℕ) (s m : Bits) (u : List ℤ) → 0 < w → w ≤ 32 → subframe_body_at w n type s ≡ Done u m → AllFit u

@@ -1,5 +1,5 @@
 -- What reading a field gives, and how readers are put together. And the law that joins a reader, a code and its faults.
-use Rattle.std.specs.Prelude.{◌≡◌, ◌-◌, Bool, true, false, List, [], ◌∷◌, ◌++◌, length, take, ℕ, replicate, cond}
+use Rattle.std.specs.Prelude.{◌≡◌, ◌-◌, Bool, List, [], ◌∷◌, ◌++◌, length, take, ℕ, replicate, cond}
 use Rattle.claxon_format.specs.Fault.{Fault}
 
 -- a value and what is left after it; a fault and what is left after the field that has it; or the list ends inside a field
