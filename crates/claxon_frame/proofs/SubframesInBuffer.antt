@@ -17,7 +17,7 @@ use Rattle.claxon_frame.specs.Block.{chunks}
 use Rattle.claxon_frame.specs.declared.frame.header.parts.ChannelAssignment.{ChannelAssignment}
 use Rattle.claxon_frame.specs.declared.frame.header.parts.ChannelAssignment.TheVariants.{Independent, LeftSideStereo, RightSideStereo, MidSideStereo}
 use Rattle.claxon_frame.proofs.Chunks.{chunk_ends}
-use Rattle.claxon_subframe.proofs.PartitionLoop.{part_length, front_replaced}
+use Rattle.claxon_subframe.proofs.PartitionLoop.{length-range, front_replaced}
 
 -- there is a bit depth for each channel
 pub length-subframe_bit_depths : (assignment : ChannelAssignment) (bits : ℕ) → 1 ≤ channels_of assignment → channels_of assignment ≤ 8 → length (subframe_bit_depths assignment bits) ≡ channels_of assignment
@@ -49,7 +49,7 @@ chunks_more (suc k) n xs ys h e =
 -- n samples that are put in from `start` on are the next chunk
 put_chunk : (k n start : ℕ) (xs ys : List ℤ) → start ≡ k * n → start + n ≤ length xs → length ys ≡ n → chunks (k + 1) n (put_mid start (start + n - start) xs ys) ≡ chunks k n xs ++ ys ∷ []
 put_chunk k n start xs ys place fits e =
-    let here = front_replaced start n xs ys fits (e ∙ sym (part_length start n xs fits)) in
+    let here = front_replaced start n xs ys fits (e ∙ sym (length-range start n xs fits)) in
     let front : length (take start xs) ≡ k * n = length-take-le start xs (omega arith) ∙ place in
     let new = put_mid start (start + n - start) xs ys in
     let one : k + 1 ≡ suc k = omega arith in
@@ -90,7 +90,7 @@ pub channels_next : {ws : List ℕ} {size i start : ℕ} {xs : List ℤ} (w : �
     → ChannelsSoFar ws size (i + 1) (start + size) (put_mid start (start + size - start) xs ys) a c
 channels_next {ws = ws} {size = size} {i = i} {start = start} {xs = xs} w ys {a = a} {b = b} {c = c} lt here h e k =
     let fits = channels_fit lt h in
-    let n = part_length start size xs fits in
+    let n = length-range start size xs fits in
     let q : Consumes b c (λ s m. subframe_at w size s ≡ Done ys m) = subst (λ (z : ℕ). Consumes b c (λ s m. subframe_at w z s ≡ Done ys m)) n k in
     let p = h.place in
     record {
@@ -106,7 +106,7 @@ channels_stop ws size i w front lt here = record { fault = λ s f rest e. rw (dr
 pub channels_err : {ws : List ℕ} {size i start : ℕ} {xs : List ℤ} {e : Error} (w : ℕ) {a b c : State Bool} → i < length ws → get_or ws i 0 ≡ w → ChannelsSoFar ws size i start xs a b
     → Stops e (subframe_at w (length (take (start + size - start) (drop start xs)))) b c → Stops e (coded_channels_at size ws) a c
 channels_err {ws = ws} {size = size} {i = i} {start = start} {xs = xs} {e = e} w {b = b} {c = c} lt here h k =
-    let n = part_length start size xs (channels_fit lt h) in
+    let n = length-range start size xs (channels_fit lt h) in
     stops_after h.so_far (channels_stop ws size i w (chunks i size xs) lt here) (subst (λ (z : ℕ). Stops e (subframe_at w z) b c) n k)
 
 subframes_done : (ws : List ℕ) (size i : ℕ) (front : List (List ℤ)) (m : Bits) (total : Reading Bool (List (List ℤ))) → length ws ≤ i → total ≡ with_front front (coded_channels_at size (drop i ws) m) → total ≡ Done front m

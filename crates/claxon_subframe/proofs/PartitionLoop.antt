@@ -42,11 +42,12 @@ capacity partitions i start len each n lt e =
     let q : start + (len + total (replicate (partitions - (i + 1)) each)) ≡ n = subst (λ (m : ℕ). start + total (lengths m len each) ≡ n) k e in
     (omega arith, rw left_next (omega arith))
 
-pub part_length : (a k : ℕ) (xs : List ℤ) → a + k ≤ length xs → length (take (a + k - a) (drop a xs)) ≡ k
-part_length a k xs le = omega (arith, length-take (a + k - a) (drop a xs), length-drop a xs)
+-- the range from a to a + k has k elements
+pub length-range : (a k : ℕ) (xs : List ℤ) → a + k ≤ length xs → length (take (a + k - a) (drop a xs)) ≡ k
+length-range a k xs le = omega (arith, length-take (a + k - a) (drop a xs), length-drop a xs)
 
 pub front_replaced : (a k : ℕ) (xs ys : List ℤ) → a + k ≤ length xs → length ys ≡ length (take (a + k - a) (drop a xs)) → take (a + k) (put_mid a (a + k - a) xs ys) ≡ take a xs ++ ys
-front_replaced a k xs ys le e = let p = part_length a k xs le in take-put_mid a (a + k - a) xs ys (a + k) (omega arith) (omega arith)
+front_replaced a k xs ys le e = let p = length-range a k xs le in take-put_mid a (a + k - a) xs ys (a + k) (omega arith) (omega arith)
 
 -- ---- the loop
 
@@ -64,7 +65,7 @@ pub partitions_next : {read : ℕ → Bits → Reading Bool (List ℤ)} {all : L
     → PartitionsSoFar read all partitions (i + 1) (start + len) each each (put_mid start (start + len - start) xs ys) a c
 partitions_next {read = read} {all = all} {partitions = partitions} {i = i} {start = start} {len = len} {each = each} {xs = xs} ys {a = a} {b = b} {c = c} lt h e k =
     let r = capacity partitions i start len each (length xs) lt h.rest in
-    let n = part_length start len xs r.0 in
+    let n = length-range start len xs r.0 in
     let q : Consumes b c (λ s m. read len s ≡ Done ys m) = subst (λ (z : ℕ). Consumes b c (λ s m. read z s ≡ Done ys m)) n k in
     let front = front_replaced start len xs ys r.0 e in
     record {
@@ -81,7 +82,7 @@ partitions_stop read front partitions i len each lt =
 pub partitions_err : {read : ℕ → Bits → Reading Bool (List ℤ)} {all : List ℕ} {partitions i start len each : ℕ} {xs : List ℤ} {e : Error} {a b c : State Bool} → i < partitions → PartitionsSoFar read all partitions i start len each xs a b
     → Stops e (read (length (take (start + len - start) (drop start xs)))) b c → Stops e (joined_at read all) a c
 partitions_err {read = read} {partitions = partitions} {i = i} {start = start} {len = len} {each = each} {xs = xs} {e = e} {b = b} {c = c} lt h k =
-    let n = part_length start len xs (partition_fits lt h) in
+    let n = length-range start len xs (partition_fits lt h) in
     stops_after h.so_far (partitions_stop read (take start xs) partitions i len each lt) (subst (λ (z : ℕ). Stops e (read z) b c) n k)
 
 pub partitions_end : {read : ℕ → Bits → Reading Bool (List ℤ)} {all : List ℕ} {partitions i start len each : ℕ} {xs : List ℤ} {a b : State Bool} → partitions ≤ i → PartitionsSoFar read all partitions i start len each xs a b → Consumes a b (λ s m. joined_at read all s ≡ Done xs m)

@@ -5,12 +5,12 @@ use Rattle.claxon_format.specs.Unambiguous.{IsUnambiguous}
 use Rattle.claxon_format.specs.read.Subframe.{subframe_at}
 use Rattle.claxon_format.specs.Subframe.{Subframe, SubframeFault}
 use Rattle.claxon_input.specs.Bitstream.{bit_state}
-use Rattle.claxon_input.specs.Gives.{Gives}
 use Rattle.claxon_input.specs.Promises.{CodeIsComplete, ElseIoError, IsOutOfMemory, LeavesRest, FaultIsComplete, CodeIsSound, FaultIsSound}
 use Rattle.claxon_input.specs.Source.{KeepsLoans, Source}
 use Rattle.claxon_input.specs.State.{bits_in}
 use Rattle.claxon_input.specs.declared.bits.Bitstream.{Bitstream}
 use Rattle.claxon_input.specs.declared.error.Error.{Error}
+use Rattle.claxon_subframe.specs.Buffer.{FillsBuffer}
 
 module _ {R A : Type 0} {g : _} (source : R → Source ℕ) (w n : ℕ) (old : Bitstream R g) (result : Result A Error) (new : Bitstream R g) where
   -- After an Ok the bits consumed are a subframe of the channel that the buffer now holds.
@@ -45,7 +45,7 @@ module _ {R A : Type 0} {g : _} (source : R → Source ℕ) (w n : ℕ) (old : B
   -- The result and the bits consumed are those of the format's reader.
   abbrev pub SubframeIsRead : List ℤ → Type 0
   SubframeIsRead channel =
-      Gives (λ x. channel) result (subframe_at w n) (bits_in source old) (bits_in source new)
+      FillsBuffer source (subframe_at w n) old result new channel
 
 -- No bits begin with two subframes, with a subframe and a fault, or with two faults.
 abbrev pub SubframeIsUnambiguous : ℕ → ℕ → Type 0

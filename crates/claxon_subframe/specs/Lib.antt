@@ -1,3 +1,4 @@
+pub mod Buffer
 pub mod SubframeFields
 pub mod Partitions
 pub mod Decode

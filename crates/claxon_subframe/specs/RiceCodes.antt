@@ -4,17 +4,18 @@ use Rattle.claxon_format.specs.Bits.{Bits, bits}
 use Rattle.claxon_format.specs.read.Reading.{Done, times_at}
 use Rattle.claxon_format.specs.read.Bits.{rice_code_at}
 use Rattle.claxon_input.specs.BufferedBits.{GivesBuffered}
-use Rattle.claxon_input.specs.Gives.{Gives, Consumes}
+use Rattle.claxon_input.specs.Gives.{Consumes}
 use Rattle.claxon_input.specs.Source.{Source}
 use Rattle.claxon_input.specs.State.{bits_in}
 use Rattle.claxon_input.specs.declared.bits.Bitstream.{Bitstream}
 use Rattle.claxon_input.specs.declared.bits.buffered.BufferedBits.{BufferedBits}
 use Rattle.claxon_input.specs.declared.error.Error.{Error}
+use Rattle.claxon_subframe.specs.Buffer.{FillsBuffer}
 
 -- The buffer now holds the residual samples of Rice codes with this parameter, as many as it is long, whose bits were consumed.
 abbrev pub RiceCodesAreRead : {R A : Type 0} {g : _} → (R → Source ℕ) → ℕ → Bitstream R g → Result A Error → Bitstream R g → List ℤ → List ℤ → Type 0
 RiceCodesAreRead source parameter old result new was is =
-    Gives (λ x. is) result (times_at (length was) (rice_code_at parameter)) (bits_in source old) (bits_in source new)
+    FillsBuffer source (times_at (length was) (rice_code_at parameter)) old result new is
 
 -- The buffer begins with the residual samples of as many Rice codes as the Ok says, whose bits were consumed.
 abbrev pub FirstRiceCodesAreRead : {R : Type 0} {g : _} → (R → Source ℕ) → ℕ → Bitstream R g → Result ℕ Error → Bitstream R g → List ℤ → Type 0

@@ -2,16 +2,17 @@
 use Rattle.std.specs.Prelude.{◌≡◌, ℕ, List, ℤ, length, take, Result, IfOk}
 use Rattle.claxon_format.specs.read.Reading.{Done, times_at}
 use Rattle.claxon_format.specs.read.Bits.{signed_at}
-use Rattle.claxon_input.specs.Gives.{Gives, Consumes}
+use Rattle.claxon_input.specs.Gives.{Consumes}
 use Rattle.claxon_input.specs.Source.{Source}
 use Rattle.claxon_input.specs.State.{bits_in}
 use Rattle.claxon_input.specs.declared.bits.Bitstream.{Bitstream}
 use Rattle.claxon_input.specs.declared.error.Error.{Error}
+use Rattle.claxon_subframe.specs.Buffer.{FillsBuffer}
 
 -- The buffer now holds samples of this bit depth, as many as it is long, whose bits were consumed.
 abbrev pub SamplesAreRead : {R A : Type 0} {g : _} → (R → Source ℕ) → ℕ → Bitstream R g → Result A Error → Bitstream R g → List ℤ → List ℤ → Type 0
 SamplesAreRead source width old result new was is =
-    Gives (λ x. is) result (times_at (length was) (signed_at width)) (bits_in source old) (bits_in source new)
+    FillsBuffer source (times_at (length was) (signed_at width)) old result new is
 
 -- The buffer begins with as many samples of this bit depth as the Ok says, whose bits were consumed.
 abbrev pub FirstSamplesAreRead : {R : Type 0} {g : _} → (R → Source ℕ) → ℕ → Bitstream R g → Result ℕ Error → Bitstream R g → List ℤ → Type 0

@@ -9,6 +9,7 @@ ghost use Rattle.claxon_format.specs.read.Subframe.{fixed_at, subframe_at, type_
 ghost use Rattle.claxon_format.specs.Subframe.{scaled};
 ghost use Rattle.claxon_input.specs.State.{bits_in};
 ghost use Rattle.claxon_input.specs.Gives.{Gives};
+ghost use Rattle.claxon_subframe.specs.Buffer.{FillsBuffer};
 ghost use Rattle.claxon_subframe.specs.Decode.{SubframeFaultIsComplete, SubframeIsComplete, KeepsReaderLoans, SubframeElseIoError, SubframeFaultIsSound, SubframeIsRead, SubframeIsUnambiguous, SubframeLeavesRest, SubframeIsSound, NeverOutOfMemory};
 ghost use Rattle.claxon_subframe.specs.SubframeFields.{fixed_order, lpc_order, type_number, subframe_view, parameters_of, method_of};
 ghost use Rattle.claxon_subframe.specs.Partitions.{lengths, total};
@@ -49,7 +50,7 @@ struct SubframeHeader {
 fn read_subframe_type<R: ReadBytes>(input: &mut Bitstream<R>) -> Result<SubframeType>
     ensures fixed { IfOk result (λ sf_type. fixed_order sf_type ≤ 4) }
     ensures lpc { IfOk result (λ sf_type. lpc_order sf_type ≤ 32) }
-    ensures gives { Gives (type_number) result (type_at)
+    ensures gives { Gives type_number result type_at
         (bits_in R.source input.old) (bits_in R.source input.new) }
 {
     if input.read_bit()? {
@@ -68,7 +69,7 @@ fn read_subframe_type<R: ReadBytes>(input: &mut Bitstream<R>) -> Result<Subframe
 #[tactic(auto, unfolding(claxon_format::specs::read::Subframe::wasted_bits_to_31_at, claxon_format::specs::read::Subframe::wasted_bits_at, claxon_format::specs::Fault::fault_text))]
 fn read_wasted_bits<R: ReadBytes>(input: &mut Bitstream<R>) -> Result<u32>
     ensures most { IfOk result (λ wasted. wasted ≤ 31) }
-    ensures gives { Gives (λ x. x) result (wasted_bits_to_31_at)
+    ensures gives { Gives (λ x. x) result wasted_bits_to_31_at
         (bits_in R.source input.old) (bits_in R.source input.new) }
 {
     if !input.read_bit()? {
@@ -151,8 +152,8 @@ pub fn decode<R: ReadBytes>(input: &mut Bitstream<R>, bps: u32, buffer: &mut [i3
 fn decode_exact<R: ReadBytes>(input: &mut Bitstream<R>, bps: u32, buffer: &mut [i32]) -> Result<()>
     requires width { bps ≤ 32 }
     requires block { length buffer.old < 65536 }
-    ensures { Gives (λ x. buffer.new) result (subframe_at bps (length buffer.old))
-        (bits_in R.source input.old) (bits_in R.source input.new) }
+    ensures { FillsBuffer R.source (subframe_at bps (length buffer.old))
+        input.old result input.new buffer.new }
 {
     let header = read_subframe_header(input)?;
     let wasted = header.wasted_bits_per_sample;
@@ -177,9 +178,8 @@ fn decode_samples<R: ReadBytes>(
     requires some { 0 < bps }
     requires width { bps ≤ 32 }
     requires block { length buffer.old < 65536 }
-    ensures { Gives (λ x. buffer.new) result
-        (subframe_body_at bps (length buffer.old) (type_number sf_type))
-        (bits_in R.source input.old) (bits_in R.source input.new) }
+    ensures { FillsBuffer R.source (subframe_body_at bps (length buffer.old) (type_number sf_type))
+        input.old result input.new buffer.new }
 {
     match sf_type {
         SubframeType::Constant => decode_constant(input, bps, buffer),
@@ -218,9 +218,9 @@ fn decode_constant<R: ReadBytes>(
 ) -> Result<()>
     requires some { 0 < bps }
     requires width { bps ≤ 32 }
-    ensures { Gives (λ x. buffer.new) result
+    ensures { FillsBuffer R.source
         (and_then (signed_at bps) (λ x. done (replicate (length buffer.old) x)))
-        (bits_in R.source input.old) (bits_in R.source input.new) }
+        input.old result input.new buffer.new }
 {
     let sample = read_sample(input, bps)?;
     buffer.fill(sample);
@@ -237,8 +237,8 @@ fn decode_fixed<R: ReadBytes>(
     requires width { bps ≤ 32 }
     requires order { order ≤ 4 }
     requires block { length buffer.old < 65536 }
-    ensures { Gives (λ x. buffer.new) result (fixed_at bps (length buffer.old) order)
-        (bits_in R.source input.old) (bits_in R.source input.new) }
+    ensures { FillsBuffer R.source (fixed_at bps (length buffer.old) order)
+        input.old result input.new buffer.new }
 {
     if buffer.len() < order as usize {
         return Err(Error::FormatError("invalid fixed subframe, order is larger than block size"));
@@ -266,7 +266,7 @@ fn read_lpc_parameters<R: ReadBytes>(input: &mut Bitstream<R>) -> Result<LpcPara
     ensures some { IfOk result (λ lpc. 0 < lpc.precision) }
     ensures most { IfOk result (λ lpc. lpc.precision ≤ 15) }
     ensures shift { IfOk result (λ lpc. lpc.shift ≤ 15) }
-    ensures gives { Gives (parameters_of) result (parameters_at)
+    ensures gives { Gives parameters_of result parameters_at
         (bits_in R.source input.old) (bits_in R.source input.new) }
 {
     let precision_less_one = u32::from(input.read_leq_u8(4)?);
@@ -293,9 +293,8 @@ fn read_coefficients<R: ReadBytes>(
 ) -> Result<()>
     requires some { 0 < precision }
     requires most { precision ≤ 16 }
-    ensures { Gives (λ x. coefficients.new) result
-        (times_at (length coefficients.old) (signed_at precision))
-        (bits_in R.source input.old) (bits_in R.source input.new) }
+    ensures { FillsBuffer R.source (times_at (length coefficients.old) (signed_at precision))
+        input.old result input.new coefficients.new }
 {
     for coefficient in coefficients.iter_mut() {
         *coefficient = read_coefficient(input, precision)?;
@@ -325,8 +324,8 @@ fn decode_lpc<R: ReadBytes>(
     requires width { bps ≤ 32 }
     requires order { order ≤ 32 }
     requires block { length buffer.old < 65536 }
-    ensures { Gives (λ x. buffer.new) result (linear_at bps (length buffer.old) order)
-        (bits_in R.source input.old) (bits_in R.source input.new) }
+    ensures { FillsBuffer R.source (linear_at bps (length buffer.old) order)
+        input.old result input.new buffer.new }
 {
     if buffer.len() < order as usize {
         return Err(Error::FormatError("invalid LPC subframe, lpc order is larger than block size"));
@@ -384,9 +383,8 @@ fn decode_residual<R: ReadBytes>(
     buffer: &mut [i32],
 ) -> Result<()>
     requires { length buffer.old ≤ block_size }
-    ensures { Gives (λ x. buffer.new) result
-        (residual_at block_size (block_size - length buffer.old))
-        (bits_in R.source input.old) (bits_in R.source input.new) }
+    ensures { FillsBuffer R.source (residual_at block_size (block_size - length buffer.old))
+        input.old result input.new buffer.new }
 {
     let partition_type = read_partition_type(input)?;
     let order = u32::from(input.read_leq_u8(4)?);
@@ -419,9 +417,9 @@ fn decode_partitions<R: ReadBytes>(
     buffer: &mut [i32],
 ) -> Result<()>
     requires { total (lengths n_partitions first each) ≡ length buffer.old }
-    ensures { Gives (λ x. buffer.new) result
+    ensures { FillsBuffer R.source
         (joined_at (partition_at (method_of partition_type)) (lengths n_partitions first each))
-        (bits_in R.source input.old) (bits_in R.source input.new) }
+        input.old result input.new buffer.new }
 {
     let mut start = 0;
     let mut len = first;
@@ -448,9 +446,8 @@ fn decode_partition<R: ReadBytes>(
     partition_type: RicePartitionType,
     buffer: &mut [i32],
 ) -> Result<()>
-    ensures { Gives (λ x. buffer.new) result
-        (partition_at (method_of partition_type) (length buffer.old))
-        (bits_in R.source input.old) (bits_in R.source input.new) }
+    ensures { FillsBuffer R.source (partition_at (method_of partition_type) (length buffer.old))
+        input.old result input.new buffer.new }
 {
     let bits = partition_type.parameter_bits();
     let escape = (1 << bits) - 1;
@@ -465,8 +462,8 @@ fn decode_partition<R: ReadBytes>(
 // all are 0.
 #[tactic(auto, unfolding(claxon_format::specs::read::Residual::escaped_partition_at, claxon_format::specs::read::Residual::escaped_sample_at))]
 fn decode_escape_partition<R: ReadBytes>(input: &mut Bitstream<R>, buffer: &mut [i32]) -> Result<()>
-    ensures { Gives (λ x. buffer.new) result (escaped_partition_at (length buffer.old))
-        (bits_in R.source input.old) (bits_in R.source input.new) }
+    ensures { FillsBuffer R.source (escaped_partition_at (length buffer.old))
+        input.old result input.new buffer.new }
 {
     let width = u32::from(input.read_leq_u8(5)?);
     if width == 0 {

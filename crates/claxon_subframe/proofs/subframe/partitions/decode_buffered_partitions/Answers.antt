@@ -1,7 +1,7 @@
 use Rattle.std.proofs.Common.{length, ◌∙◌, arith}
 use Rattle.std.proofs.lemmas.Grind.{common_steps}
 use Rattle.claxon_subframe.specs.SubframeFields.{method_of}
-use Rattle.claxon_subframe.proofs.PartitionLoop.{part_length}
+use Rattle.claxon_subframe.proofs.PartitionLoop.{length-range}
 use Rattle.claxon_subframe.proofs.BufferedPartitions.{buffered_partitions_begin, buffered_partitions_next, buffered_partition_fits}
 use Rattle.claxon_subframe.proofs.subframe.partitions.decode_buffered_partitions.Goals as goal
 
@@ -16,7 +16,7 @@ loop-whole-preserved c =
       grind (arith, l.invariant.0),
       omega arith,
       buffered_partitions_next (method_of c.args.partition_type) c.args.each l.whole l.start l.buffer ys c.args.buffered.now l.buffered c.decode_buffered_partition.new.buffered l.invariant.0 capacity c.decode_buffered_partition.auto.buffer
-          (c.decode_buffered_partition.auto.buffer ∙ part_length l.start c.args.each l.buffer capacity) l.invariant.2 c.if-not-decode_buffered_partition.ensures,
+          (c.decode_buffered_partition.auto.buffer ∙ length-range l.start c.args.each l.buffer capacity) l.invariant.2 c.if-not-decode_buffered_partition.ensures,
     )
 
 pub returns-then-not-decode_buffered_partition-clause-read : goal.returns-then-not-decode_buffered_partition-clause-read
