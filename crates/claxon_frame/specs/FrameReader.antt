@@ -13,7 +13,7 @@ use Rattle.claxon_input.specs.Source.{Source}
 use Rattle.claxon_input.specs.State.{State, bytes_in}
 use Rattle.claxon_input.specs.Promises.{FoundIsComplete, Remains, EofPromises, ElseIoErrorFrom, HasFailed, IsOutOfMemory, LeavesRest, FaultIsComplete, NoneIsEof, FaultIsSound, FoundIsSound, Consumed}
 use Rattle.claxon_input.specs.Gives.{Consumes, GivesOrEofOrOutOfMemory}
-use Rattle.claxon_frame.specs.Block.{BlockValue, duration_of}
+use Rattle.claxon_frame.specs.Block.{BlockValue, duration_of, max_block_samples}
 use Rattle.claxon_frame.specs.FrameStart.{stream_format_view}
 use Rattle.claxon_frame.specs.declared.frame.FrameReader.{FrameReader}
 use Rattle.claxon_metadata.specs.declared.metadata.StreamInfo.{StreamInfo}
@@ -133,9 +133,9 @@ FrameOutOfMemoryAfterHeader source capacity old result new =
     → Consumed (frame_bytes source old) (frame_bytes source new)
     (HeaderOfMoreSamples (frame_stream old) capacity)
 
--- A capacity for eight channels of the largest block is always enough.
+-- The capacity for the greatest number of samples of a block is always enough.
 abbrev pub MaxCapacityIsEnough : ℕ → FrameAnswer → Type 0
-MaxCapacityIsEnough capacity result = IsOutOfMemory result → capacity < 8 * 65535
+MaxCapacityIsEnough capacity result = IsOutOfMemory result → capacity < max_block_samples
 
 -- A block that is returned has capacity for its samples, and no less than the buffer had.
 abbrev pub BlockKeepsCapacity : ℕ → FrameAnswer → Type 0

@@ -2,4 +2,6 @@ pub mod FrameStart
 pub mod FrameReader
 pub mod FrameHeader
 pub mod Block
+pub mod Subframes
+pub mod FrameCrc
 pub mod Decorrelation

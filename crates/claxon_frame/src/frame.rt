@@ -1,18 +1,18 @@
 //! Frames: blocks of samples, one after another.
 ghost use Rattle.std.specs.Prelude.{◌≡◌, ◌+◌, ◌*◌, ◌<◌, ◌≤◌, true, IfOk, IfErr, Ok, Some, None, length, vec_len, vec_capacity};
-ghost use Rattle.claxon_frame.specs.FrameHeader.{channels_of, subframe_bit_depths};
-ghost use Rattle.claxon_format.specs.read.Frame.{block_from, coded_channels_at, subframes_at, frame_bytes_at};
-ghost use Rattle.claxon_frame.specs.Block.{chunks, duration_of};
+ghost use Rattle.claxon_format.specs.read.Frame.{block_from, frame_bytes_at};
+ghost use Rattle.claxon_frame.specs.Block.{duration_of, max_block_samples};
 ghost use Rattle.claxon_input.specs.Error.{is_out_of_memory};
 ghost use Rattle.claxon_format.specs.Fault.{Fault, FrameCrc};
 ghost use Rattle.claxon_format.specs.read.Bytes.{crc_at};
-ghost use Rattle.claxon_input.specs.CrcReader.{crc_source, crc_state};
-ghost use Rattle.claxon_input.specs.CrcUpdate.{update_crc16};
-ghost use Rattle.claxon_input.specs.State.{bytes_in, bits_in};
+ghost use Rattle.claxon_input.specs.CrcReader.{crc_state};
+ghost use Rattle.claxon_input.specs.State.{bytes_in};
 ghost use Rattle.claxon_input.specs.Gives.{Gives, GivesOrOutOfMemory, Consumes, GivesOrEofOrOutOfMemory};
 ghost use Rattle.claxon_input.specs.Promises.{IfOutOfMemory};
+ghost use Rattle.claxon_frame.specs.FrameCrc.{crc16_bytes};
 ghost use Rattle.claxon_frame.specs.FrameStart.{stream_format_view, start_view};
 ghost use Rattle.claxon_frame.specs.FrameReader.{BlockHasSamples, BlockKeepsCapacity, BufferTooSmall, block_view};
+ghost use Rattle.claxon_frame.specs.Subframes.{CodedChannelsAreRead, SubframesAreRead, channels_in, sample_count, subframes_after};
 
 mod block;
 mod header;
@@ -138,7 +138,7 @@ fn read_next_or_eof_exact<R: ReadBytes, A: Allocator>(
     ensures buffer_too_small { IfOutOfMemory result
         (BufferTooSmall (stream_format_view stream) (vec_capacity buffer)
         (bytes_in R.source input.old) (bytes_in R.source input.new)) }
-    ensures max_capacity { IfOutOfMemory result (vec_capacity buffer < 8 * 65535) }
+    ensures max_capacity { IfOutOfMemory result (vec_capacity buffer < max_block_samples) }
 {
     let mut input = Crc16Reader::new(input);
     read_frame_or_eof(&mut input, stream, buffer)
@@ -153,15 +153,13 @@ fn read_frame_or_eof<R: ReadBytes, A: Allocator>(
     requires { crc_state input.old ≡ 0 }
     ensures gives { GivesOrEofOrOutOfMemory 2 block_view result
         (frame_bytes_at (stream_format_view stream))
-        (bytes_in (crc_source R.source update_crc16) input.old)
-        (bytes_in (crc_source R.source update_crc16) input.new) }
+        (crc16_bytes R.source input.old) (crc16_bytes R.source input.new) }
     ensures some { BlockHasSamples result }
     ensures kept_capacity { BlockKeepsCapacity (vec_capacity buffer) result }
     ensures buffer_too_small { IfOutOfMemory result
         (BufferTooSmall (stream_format_view stream) (vec_capacity buffer)
-        (bytes_in (crc_source R.source update_crc16) input.old)
-        (bytes_in (crc_source R.source update_crc16) input.new)) }
-    ensures max_capacity { IfOutOfMemory result (vec_capacity buffer < 8 * 65535) }
+        (crc16_bytes R.source input.old) (crc16_bytes R.source input.new)) }
+    ensures max_capacity { IfOutOfMemory result (vec_capacity buffer < max_block_samples) }
 {
     let Some(header) = read_frame_header_or_eof(input, stream)? else {
         return Ok(None);
@@ -177,18 +175,14 @@ fn read_channels<R: ReadBytes, A: Allocator>(
     header: &FrameHeader,
     buffer: Vec<i32, A>,
 ) -> Result<Vec<i32, A>>
-    ensures len { IfOk result (λ filled. vec_len filled
-        ≡ channels_of header.now.channel_assignment * header.now.block_size) }
+    ensures len { IfOk result (λ filled. vec_len filled ≡ sample_count header.now) }
     ensures kept_capacity { IfOk result (λ filled. vec_capacity buffer ≤ vec_capacity filled) }
-    ensures gives { GivesOrOutOfMemory
-        (λ filled. chunks (channels_of header.now.channel_assignment) header.now.block_size
-        filled.items) result
-        (subframes_at header.now.block_size
-        (subframe_bit_depths header.now.channel_assignment header.now.bits_per_sample))
+    ensures gives { GivesOrOutOfMemory (λ filled. channels_in header.now filled.items) result
+        (subframes_after header.now)
         (bytes_in R.source input.old) (bytes_in R.source input.new) }
-    ensures buffer_too_small { IfOutOfMemory result (vec_capacity buffer
-        < channels_of header.now.channel_assignment * header.now.block_size) }
-    ensures max_capacity { IfOutOfMemory result (vec_capacity buffer < 8 * 65535) }
+    ensures buffer_too_small { IfOutOfMemory result
+        (vec_capacity buffer < sample_count header.now) }
+    ensures max_capacity { IfOutOfMemory result (vec_capacity buffer < max_block_samples) }
     ensures none_consumed { IfOutOfMemory result
         (Consumes (bytes_in R.source input.old) (bytes_in R.source input.new) (λ s m. s ≡ m)) }
 {
@@ -201,12 +195,12 @@ fn read_channels<R: ReadBytes, A: Allocator>(
 
 // The block of the decoded subframes in the buffer: decorrelation is still to be undone.
 fn to_block<A: Allocator>(header: FrameHeader, buffer: Vec<i32, A>) -> Block<A>
-    requires { vec_len buffer ≡ channels_of header.channel_assignment * header.block_size }
+    requires { vec_len buffer ≡ sample_count header }
     ensures some { (1 ≤ length result.channels) × (1 ≤ duration_of result.channels) }
     ensures fits { length result.channels * duration_of result.channels ≤ result.capacity }
     ensures kept_capacity { result.capacity ≡ vec_capacity buffer }
-    ensures value { block_view result ≡ block_from (start_view header)
-        (chunks (channels_of header.channel_assignment) header.block_size buffer.items) }
+    ensures value { block_view result
+        ≡ block_from (start_view header) (channels_in header buffer.items) }
 {
     let mut buffer = buffer;
     undo_decorrelation(header.channel_assignment, buffer.as_mut_slice());
@@ -236,14 +230,8 @@ fn decode_subframes<R: ReadBytes>(
     header: &FrameHeader,
     buffer: &mut [i32],
 ) -> Result<()>
-    requires { length buffer.old
-        ≡ channels_of header.now.channel_assignment * header.now.block_size }
-    ensures { Gives
-        (λ x. chunks (channels_of header.now.channel_assignment) header.now.block_size buffer.new)
-        result
-        (subframes_at header.now.block_size
-        (subframe_bit_depths header.now.channel_assignment header.now.bits_per_sample))
-        (bytes_in R.source input.old) (bytes_in R.source input.new) }
+    requires { length buffer.old ≡ sample_count header.now }
+    ensures { SubframesAreRead R.source header.now input.old result input.new buffer.new }
 {
     let mut bits = Bitstream::new(input);
     decode_channels(&mut bits, header, buffer)
@@ -256,14 +244,8 @@ fn decode_channels<R: ReadBytes>(
     header: &FrameHeader,
     buffer: &mut [i32],
 ) -> Result<()>
-    requires { length buffer.old
-        ≡ channels_of header.now.channel_assignment * header.now.block_size }
-    ensures { Gives
-        (λ x. chunks (channels_of header.now.channel_assignment) header.now.block_size buffer.new)
-        result
-        (coded_channels_at header.now.block_size
-        (subframe_bit_depths header.now.channel_assignment header.now.bits_per_sample))
-        (bits_in R.source input.old) (bits_in R.source input.new) }
+    requires { length buffer.old ≡ sample_count header.now }
+    ensures { CodedChannelsAreRead R.source header.now input.old result input.new buffer.new }
 {
     let assignment = header.channel_assignment;
     let size = usize::from(header.block_size);
@@ -281,8 +263,7 @@ fn decode_channels<R: ReadBytes>(
 fn check_footer<R: ReadBytes>(input: &mut Crc16Reader<R>) -> Result<()>
     ensures fits { crc_state input.old < 65536 }
     ensures gives { Gives (λ x. tt) result (crc_at 2 (crc_state input.old) FrameCrc)
-        (bytes_in (crc_source R.source update_crc16) input.old)
-        (bytes_in (crc_source R.source update_crc16) input.new) }
+        (crc16_bytes R.source input.old) (crc16_bytes R.source input.new) }
 {
     let computed = input.crc();
     let stored = input.read_be_u16()?;

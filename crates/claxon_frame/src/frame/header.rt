@@ -7,10 +7,10 @@ ghost use Rattle.claxon_format.specs.Frame.{block_step, known_width, time_of};
 ghost use Rattle.claxon_format.specs.read.Bytes.{crc_at, big_at};
 ghost use Rattle.claxon_format.specs.Header.{rate_bytes, bit_depth_reserved};
 ghost use Rattle.claxon_format.specs.read.Reading.{done, test};
-ghost use Rattle.claxon_input.specs.CrcReader.{crc_source, crc_state};
-ghost use Rattle.claxon_input.specs.CrcUpdate.{update_crc8};
+ghost use Rattle.claxon_input.specs.CrcReader.{crc_state};
 ghost use Rattle.claxon_input.specs.State.{State, bytes_in};
 ghost use Rattle.claxon_input.specs.Gives.{Gives, GivesOrEof};
+ghost use Rattle.claxon_frame.specs.FrameCrc.{crc8_bytes};
 ghost use Rattle.claxon_frame.specs.FrameHeader.{HasBitDepthCode, channel_code, channels_of, is_variable, least_size, block_time_view, max_bit_depth, bit_depth_code};
 ghost use Rattle.claxon_input.specs.Error.{is_out_of_memory};
 ghost use Rattle.claxon_format.specs.read.Header.{fields_at, blocking_at, channels_at, codes_at, fields_after, fields_with_crc_at, number_in, rate_at, size_coding, size_at, sync_at, width_at};
@@ -112,8 +112,7 @@ fn read_fields_with_crc<R: ReadBytes>(input: &mut R) -> Result<Option<HeaderFiel
 fn read_and_check_fields<R: ReadBytes>(input: &mut Crc8Reader<R>) -> Result<Option<HeaderFields>>
     requires { crc_state input.old ≡ 0 }
     ensures { GivesOrEof 2 fields_view result fields_with_crc_at
-        (bytes_in (crc_source R.source update_crc8) input.old)
-        (bytes_in (crc_source R.source update_crc8) input.new) }
+        (crc8_bytes R.source input.old) (crc8_bytes R.source input.new) }
 {
     let Some(fields) = read_fields_or_eof(input)? else {
         return Ok(None);
