@@ -86,7 +86,8 @@ abbrev pub MayRunOutOfMemory : ℕ → ℕ → List ℕ → Type 0
 MayRunOutOfMemory type length s =
     MayAllocate type length × (type ≡ 4 → HasVendorLength (length - 8) s)
 
--- `OutOfMemory` is returned only after the header of such a block, with its content following.
+-- `OutOfMemory` is returned only after the header of an application or Vorbis comment block of a valid length; for a Vorbis
+-- comment block only if a vendor length that fits follows.
 abbrev pub OutOfMemoryAfterBlockHeader : {A : Type 0} → Result A Error → State ℕ → Type 0
 OutOfMemoryAfterBlockHeader r old =
     IsOutOfMemory r → old.known ≡ true → (h : BlockHeader) × (x : List ℕ) × (rest : List ℕ)

@@ -1,5 +1,5 @@
 -- What clauses know of a `MetadataBlockReader`, and what one call of its `next` does.
-use Rattle.std.specs.Prelude.{ℕ, Option, None, Some, Result, Bool, true, IfOk, IfErr, ◌≡◌, MatchBool}
+use Rattle.std.specs.Prelude.{ℕ, Option, None, Some, Result, Bool, true, IfErr, ◌≡◌, MatchBool}
 use Rattle.claxon_format.specs.MetadataBlocks.{BlockCode, BlockFault}
 use Rattle.claxon_format.specs.read.MetadataBlocks.{block_at}
 use Rattle.claxon_input.specs.declared.error.Error.{Error}
@@ -9,8 +9,8 @@ use Rattle.claxon_input.specs.State.{bytes_in}
 use Rattle.claxon_input.specs.Gives.{GivesOrOutOfMemory}
 use Rattle.claxon_metadata.specs.declared.metadata.MetadataBlock.{MetadataBlock}
 use Rattle.claxon_metadata.specs.declared.metadata.MetadataBlockReader.{MetadataBlockReader}
-use Rattle.claxon_metadata.specs.ReadMetadataBlock.{AtMostBlockIsConsumed}
-use Rattle.claxon_metadata.specs.MetadataBlock.{BlockHasBounds, OutOfMemoryAfterBlockHeader, metadata_block_view}
+use Rattle.claxon_metadata.specs.ReadMetadataBlock.{AtMostBlockIsConsumed, ResultHasBounds}
+use Rattle.claxon_metadata.specs.MetadataBlock.{OutOfMemoryAfterBlockHeader, metadata_block_view}
 
 -- the wrapped reader
 abbrev pub reader_input : {R A : Type 0} → MetadataBlockReader R A → R
@@ -22,7 +22,7 @@ has_ended r = r.done
 
 -- A block with its header was read, or an Err was returned. Nothing follows an Err, nor a block with the last-block flag.
 pub record ReadsBlock {R A : Type 0} (source : R → Source ℕ) (old : MetadataBlockReader R A) (result : Result (MetadataBlock A) Error) (new : MetadataBlockReader R A) : Type 0 where
-  pub bounds : IfOk result (λ block. BlockHasBounds block)
+  pub bounds : ResultHasBounds result
   pub memory : OutOfMemoryAfterBlockHeader result (bytes_in source (reader_input old))
   pub within : AtMostBlockIsConsumed source (reader_input old) (reader_input new)
   pub promises : Promises (metadata_block_view (has_ended new)) result BlockCode BlockFault

@@ -10,7 +10,7 @@ use Rattle.claxon_input.specs.Promises.{CodeIsComplete, Remains, ElseIoError, Is
 use Rattle.claxon_input.specs.Source.{Source}
 use Rattle.claxon_input.specs.State.{bytes_in}
 use Rattle.claxon_input.specs.declared.error.Error.{Error}
-use Rattle.claxon_metadata.specs.MetadataBlock.{ContentCode, BlockHasBounds, OutOfMemoryAfterBlockHeader, MayAllocate, content_at, content_view, metadata_block_view}
+use Rattle.claxon_metadata.specs.MetadataBlock.{ContentCode, BlockHasBounds, MayAllocate, content_at, content_view, metadata_block_view}
 use Rattle.claxon_metadata.specs.VorbisComment.{OutOfMemoryAfterVendorLength, comment_view}
 use Rattle.claxon_metadata.specs.declared.metadata.MetadataBlock.{MetadataBlock}
 use Rattle.claxon_metadata.specs.declared.metadata.VorbisComment.{VorbisComment}
@@ -109,13 +109,6 @@ module _ {R A : Type 0} (source : R → Source ℕ) (old : R) (result : Metadata
   abbrev pub MetadataBlockIsRead : Type 0
   MetadataBlockIsRead =
       GivesOrOutOfMemory content_view result content_at (bytes_in source old) (bytes_in source new)
-
--- `OutOfMemory` is returned only after the header of an application or Vorbis comment block of a valid length; for a Vorbis
--- comment block only if a vendor length that fits follows.
-abbrev pub MetadataBlockOutOfMemoryAfterHeader : {R A : Type 0} → (R → Source ℕ) → R
-    → MetadataAnswer A → Type 0
-MetadataBlockOutOfMemoryAfterHeader source old result =
-    OutOfMemoryAfterBlockHeader result (bytes_in source old)
 
 -- Whatever is returned, if the bytes begin with a header at most its four bytes and the length that it gives are consumed.
 abbrev pub AtMostBlockIsConsumed : {R : Type 0} → (R → Source ℕ) → R → R → Type 0

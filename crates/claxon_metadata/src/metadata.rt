@@ -10,7 +10,7 @@ ghost use Rattle.claxon_format.specs.read.Streaminfo.{sizes_at, format_at, info_
 ghost use Rattle.claxon_input.specs.Promises.{IsOutOfMemory};
 ghost use Rattle.claxon_input.specs.State.{bytes_in};
 ghost use Rattle.claxon_input.specs.Gives.{Gives, GivesOrOutOfMemory};
-ghost use Rattle.claxon_metadata.specs.ReadMetadataBlock.{AtMostIsConsumed, AtMostBlockIsConsumed, MetadataBlockFaultIsSound, MetadataBlockIsRead, ResultHasBounds, MetadataBlockOutOfMemoryAfterHeader, MetadataBlockIsSound, ContentFaultIsSound, ContentIsRead, ContentOutOfMemoryAfterLengths, ContentIsSound, MetadataBlockFaultIsComplete, MetadataBlockIsComplete, ContentFaultIsComplete, ContentIsComplete, MetadataBlockAndFlagIsRead, MetadataBlockElseIoError, ContentElseIoError, MetadataBlockLeavesRest};
+ghost use Rattle.claxon_metadata.specs.ReadMetadataBlock.{AtMostIsConsumed, AtMostBlockIsConsumed, MetadataBlockFaultIsSound, MetadataBlockIsRead, ResultHasBounds, MetadataBlockIsSound, ContentFaultIsSound, ContentIsRead, ContentOutOfMemoryAfterLengths, ContentIsSound, MetadataBlockFaultIsComplete, MetadataBlockIsComplete, ContentFaultIsComplete, ContentIsComplete, MetadataBlockAndFlagIsRead, MetadataBlockElseIoError, ContentElseIoError, MetadataBlockLeavesRest};
 ghost use Rattle.claxon_metadata.specs.MetadataBlock.{HasBounds, BlockHasBounds, OutOfMemoryAfterBlockHeader, content_at, content_view, format_view, header_view, info_view, or_zero, sizes_view};
 
 mod comment;
@@ -162,7 +162,7 @@ pub fn read_metadata_block_with_header<R: ReadBytes, A: Allocator + Copy>(
     input: &mut R,
 ) -> Result<MetadataBlock<A>>
     ensures bounds { ResultHasBounds result }
-    ensures memory { MetadataBlockOutOfMemoryAfterHeader R.source input.old result }
+    ensures memory { OutOfMemoryAfterBlockHeader result (bytes_in R.source input.old) }
     ensures sound { MetadataBlockIsSound R.source input.old result input.new }
     ensures complete { MetadataBlockIsComplete R.source input.old result input.new }
     ensures fault { MetadataBlockFaultIsSound R.source input.old result input.new }
@@ -181,7 +181,7 @@ fn read_metadata_block_with_header_exact<R: ReadBytes, A: Allocator + Copy>(
     input: &mut R,
 ) -> Result<MetadataBlock<A>>
     ensures bounds { ResultHasBounds result }
-    ensures memory { MetadataBlockOutOfMemoryAfterHeader R.source input.old result }
+    ensures memory { OutOfMemoryAfterBlockHeader result (bytes_in R.source input.old) }
     ensures gives { MetadataBlockIsRead R.source input.old result input.new }
     ensures within { AtMostBlockIsConsumed R.source input.old input.new }
 {
@@ -414,7 +414,7 @@ fn read_application_block<R: ReadBytes, A: Allocator>(
     input: &mut R,
     length: u32,
 ) -> Result<MetadataBlock<A>>
-    ensures bounds { IfOk result (λ block. BlockHasBounds block) }
+    ensures bounds { ResultHasBounds result }
     ensures memory { IsOutOfMemory result → (4 ≤ length) × (length ≤ max_content_bytes) }
     ensures gives { GivesOrOutOfMemory content_view result (application_at length)
         (bytes_in R.source input.old) (bytes_in R.source input.new) }
