@@ -13,7 +13,7 @@ use Rattle.claxon_input.specs.declared.error.Error.{Error}
 use Rattle.claxon_input.specs.State.{State}
 use Rattle.claxon_input.specs.Promises.{Remains, EofPromises, HasFailed, IfOutOfMemory, IsOutOfMemory, Consumed}
 use Rattle.claxon_input.specs.Gives.{GivesOrEofOrOutOfMemory}
-use Rattle.claxon_frame.specs.FrameReader.{BufferTooSmall, HeaderOfMoreSamples}
+use Rattle.claxon_frame.specs.FrameReader.{BufferTooSmall, HeaderOfMoreSamples, OutOfMemoryBeyondCapacity}
 use Rattle.claxon_frame.proofs.FrameParts.{start_stops}
 use Rattle.claxon_input.proofs.FieldOrEofPromises.{eof_promises}
 
@@ -41,7 +41,7 @@ no_header stream capacity a b h known small = let e : Incomplete ≡ Done h.star
 pub when_out_of_memory : {A P : Type 0} (r : Result A Error) → IfOutOfMemory r P → IsOutOfMemory r → P
 when_out_of_memory {P = P} r h e = let k : true ≡ true → P = rw e at h in k refl
 
-pub memory_is : {A : Type 0} (stream : Option StreamFormat) (capacity : ℕ) (r : Result A Error) (a b : State ℕ) → IfOutOfMemory r (BufferTooSmall stream capacity a b) → IsOutOfMemory r → Consumed a b (HeaderOfMoreSamples stream capacity)
+pub memory_is : {A : Type 0} (stream : Option StreamFormat) (capacity : ℕ) (r : Result A Error) (a b : State ℕ) → IfOutOfMemory r (BufferTooSmall stream capacity a b) → OutOfMemoryBeyondCapacity stream capacity r a b
 memory_is stream capacity r a b h e = only_header stream capacity a b (when_out_of_memory r h e)
 
 -- ---- all clauses

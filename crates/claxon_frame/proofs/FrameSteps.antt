@@ -108,7 +108,7 @@ module _ (stream : Option StreamFormat) (width : IsWidth (known_width stream)) w
 
 pub stream_is_width : (format : Option KnownStreamFormat) → IsWidth (known_width (stream_format_view format))
 stream_is_width None = tt
-stream_is_width (Some format) = (format.some, format.most)
+stream_is_width (Some format) = (format.min_bits, format.max_bits)
 
 -- ---- out of memory
 

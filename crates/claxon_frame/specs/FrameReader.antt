@@ -56,6 +56,12 @@ HeaderOfMoreSamples stream capacity t =
 
 -- ---- what a call that reads the next frame promises
 
+-- `OutOfMemory` is returned only if just a header was consumed, whose block has more samples than this capacity.
+abbrev pub OutOfMemoryBeyondCapacity : {A : Type 0} → Option StreamFormat → ℕ → Result A Error
+    → State ℕ → State ℕ → Type 0
+OutOfMemoryBeyondCapacity stream capacity r old new =
+    IsOutOfMemory r → Consumed old new (HeaderOfMoreSamples stream capacity)
+
 -- what it returns
 abbrev pub FrameAnswer : Type 0
 FrameAnswer = Result (Option BlockValue) Error
@@ -64,7 +70,7 @@ FrameAnswer = Result (Option BlockValue) Error
 -- left, the Err of the fault that the bytes begin with, an `IoError`, or `OutOfMemory` after a header.
 pub record ReadsFrame (stream : Option StreamFormat) (r : FrameAnswer) (old new : State ℕ) : Type 0 where
   pub promises : EofPromises 2 block_view r (Frame stream) (FrameBytesFault stream) old new
-  pub memory : IsOutOfMemory r → Consumed old new (HeaderOfMoreSamples stream 0)
+  pub memory : OutOfMemoryBeyondCapacity stream 0 r old new
   pub gives : GivesOrEofOrOutOfMemory 2 block_view r (frame_bytes_at stream) old new
 
 -- The clauses of `read_next_or_eof`. `old` and `new` are the reader before and after the call.
@@ -129,9 +135,8 @@ module _ {R : Type 0} (source : R → Source ℕ) (old : FrameReader R) (result 
 abbrev pub FrameOutOfMemoryAfterHeader : {R : Type 0} → (R → Source ℕ) → ℕ → FrameReader R
     → FrameAnswer → FrameReader R → Type 0
 FrameOutOfMemoryAfterHeader source capacity old result new =
-    IsOutOfMemory result
-    → Consumed (frame_bytes source old) (frame_bytes source new)
-    (HeaderOfMoreSamples (frame_stream old) capacity)
+    OutOfMemoryBeyondCapacity (frame_stream old) capacity result
+    (frame_bytes source old) (frame_bytes source new)
 
 -- The capacity for the greatest number of samples of a block is always enough.
 abbrev pub MaxCapacityIsEnough : ℕ → FrameAnswer → Type 0

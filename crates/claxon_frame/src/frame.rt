@@ -57,8 +57,8 @@ impl<R: ReadBytes> FrameReader<R> {
 
     /// A reader of the frames of the stream with this streaminfo, which has 1 to 32 bits per sample.
     pub fn with_streaminfo(input: R, info: StreamInfo) -> FrameReader<R>
-        requires some { 1 ≤ info.bits_per_sample }
-        requires most { info.bits_per_sample ≤ 32 }
+        requires min_bits { 1 ≤ info.bits_per_sample }
+        requires max_bits { info.bits_per_sample ≤ 32 }
         ensures input { frame_input result ≡ input }
         ensures stream { frame_stream result ≡ Some (stream_with info) }
     {

@@ -1,7 +1,7 @@
 -- The clause of the calls that read samples or coefficients into a buffer.
 use Rattle.std.specs.Prelude.{ℕ, List, ℤ, Bool, Result}
 use Rattle.claxon_format.specs.Bits.{Bits}
-use Rattle.claxon_format.specs.Reading.{Reading}
+use Rattle.claxon_format.specs.read.Reading.{Reading}
 use Rattle.claxon_input.specs.Gives.{Gives}
 use Rattle.claxon_input.specs.Source.{Source}
 use Rattle.claxon_input.specs.State.{bits_in}

@@ -80,7 +80,7 @@ fn previous_block_size(block_size: u16, stream: Option<KnownStreamFormat>) -> u1
 // The bit depth of the header, or that of the stream if the header gives none.
 #[tactic(auto, unfolding(claxon_format::specs::read::Header::width_at, claxon_format::specs::Fault::fault_text))]
 fn resolve_bit_depth(fields: &HeaderFields, stream: Option<KnownStreamFormat>) -> Result<u32>
-    ensures value { IfOk result (λ bits. max_bit_depth fields.now.channel_assignment bits ≤ 32) }
+    ensures max_bits { IfOk result (λ bits. max_bit_depth fields.now.channel_assignment bits ≤ 32) }
     ensures gives { (here : State ℕ) → Gives (λ x. x) result
         (width_at (known_width (stream_format_view stream)) (fields_view fields.now)) here here }
 {
@@ -192,7 +192,7 @@ fn blocking_strategy(sync: u16) -> Result<BlockingStrategy>
 
 #[tactic(auto, using(claxon_input::proofs::ByteFields::first_number), unfolding(claxon_format::specs::read::Header::codes_at, claxon_format::specs::Fault::fault_text))]
 fn read_size_and_rate<R: ReadBytes>(input: &mut R) -> Result<(BlockSize, SampleRate)>
-    ensures value { IfOk result (λ codes. 1 ≤ least_size codes.0) }
+    ensures min_size { IfOk result (λ codes. 1 ≤ least_size codes.0) }
     ensures gives { Gives (λ codes. (size_view codes.0, rate_view codes.1)) result (codes_at big_at)
         (bytes_in R.source input.old) (bytes_in R.source input.new) }
 {
@@ -208,9 +208,9 @@ fn read_size_and_rate<R: ReadBytes>(input: &mut R) -> Result<(BlockSize, SampleR
 
 // The block size of a code from 1 to 15 (RFC 9639, section 9.1.1).
 fn block_size_of(code: u8) -> BlockSize
-    requires some { 1 ≤ code }
-    requires most { code ≤ 15 }
-    ensures some { 1 ≤ least_size result }
+    requires min_code { 1 ≤ code }
+    requires max_code { code ≤ 15 }
+    ensures min_size { 1 ≤ least_size result }
     ensures coding { size_view result ≡ size_coding code }
 {
     match code {
@@ -237,9 +237,9 @@ fn sample_rate_of(code: u8) -> SampleRate
 fn read_channels_and_bit_depth<R: ReadBytes>(
     input: &mut R,
 ) -> Result<(ChannelAssignment, Option<u32>)>
-    ensures some { IfOk result (λ codes. 1 ≤ channels_of codes.0) }
-    ensures few { IfOk result (λ codes. channels_of codes.0 ≤ 8) }
-    ensures named { IfOk result (λ codes. ForSome codes.1 HasBitDepthCode) }
+    ensures min_channels { IfOk result (λ codes. 1 ≤ channels_of codes.0) }
+    ensures max_channels { IfOk result (λ codes. channels_of codes.0 ≤ 8) }
+    ensures has_code { IfOk result (λ codes. ForSome codes.1 HasBitDepthCode) }
     ensures gives { Gives (λ codes. (channel_code codes.0, bit_depth_code codes.1)) result
         (channels_at big_at) (bytes_in R.source input.old) (bytes_in R.source input.new) }
 {
@@ -262,7 +262,7 @@ fn read_channels_and_bit_depth<R: ReadBytes>(
 #[tactic(auto, unfolding(claxon_format::specs::Fault::fault_text))]
 fn bit_depth_of(code: u8) -> Result<Option<u32>>
     requires { code < 8 }
-    ensures named { IfOk result (λ width. ForSome width HasBitDepthCode) }
+    ensures has_code { IfOk result (λ bits. ForSome bits HasBitDepthCode) }
     ensures gives { (here : State ℕ) → Gives bit_depth_code result
         (test (bit_depth_reserved code) BitDepthReserved (done code)) here here }
 {
@@ -355,7 +355,7 @@ fn read_continuation_byte<R: ReadBytes>(input: &mut R) -> Result<u8>
 #[tactic(auto, using(claxon_input::proofs::ByteFields::first_number), unfolding(claxon_format::specs::read::Header::size_at, claxon_format::specs::Fault::fault_text))]
 fn read_block_size<R: ReadBytes>(input: &mut R, size: BlockSize) -> Result<u16>
     requires { 1 ≤ least_size size }
-    ensures value { IfOk result (λ n. 1 ≤ n) }
+    ensures min_size { IfOk result (λ size. 1 ≤ size) }
     ensures gives { Gives (λ x. x) result (size_at big_at (size_view size))
         (bytes_in R.source input.old) (bytes_in R.source input.new) }
 {

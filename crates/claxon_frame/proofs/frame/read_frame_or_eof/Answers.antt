@@ -18,7 +18,7 @@ pub returns-in_err-buffer-clause-buffer_too_small : goal.returns-in_err-buffer-c
 returns-in_err-buffer-clause-buffer_too_small g c =
     let h = rw c.in-Some.is at c.in_ok-header.ensures.gives in
     let p = err_from_is_err_and c.from_residual-in_err-buffer.result c.from_residual-in_err-buffer.ensures.1 in
-    let n = channel_count_is c.in-Some.header.channel_assignment c.in-Some.header.some_channels c.in-Some.header.few_channels in
+    let n = channel_count_is c.in-Some.header.channel_assignment c.in-Some.header.min_channels c.in-Some.header.max_channels in
     rw (p.1, p.2) (λ m. buffer_too_small _ (stream_is_width c.args.stream) _ _ h (c.in_err-buffer.ensures.none_consumed m) (sym n) (c.in_err-buffer.ensures.buffer_too_small m))
 
 pub returns-in_err-check_footer-clause-gives : goal.returns-in_err-check_footer-clause-gives

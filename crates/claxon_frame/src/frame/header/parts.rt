@@ -12,8 +12,8 @@ pub struct KnownStreamFormat {
     /// The minimum and the maximum block size. If they are equal all blocks but the last have this size.
     pub min_block_size: u16,
     pub max_block_size: u16,
-    ghost some: { 1 ≤ bits_per_sample },
-    ghost most: { bits_per_sample ≤ 32 },
+    ghost min_bits: { 1 ≤ bits_per_sample },
+    ghost max_bits: { bits_per_sample ≤ 32 },
 }
 
 /// Whether all blocks but the last have the same size.
@@ -65,9 +65,9 @@ pub struct FrameHeader {
     pub block_size: u16,
     pub channel_assignment: ChannelAssignment,
     pub bits_per_sample: u32,
-    ghost some_samples: { 1 ≤ block_size },
-    ghost some_channels: { 1 ≤ channels_of channel_assignment },
-    ghost few_channels: { channels_of channel_assignment ≤ 8 },
+    ghost min_size: { 1 ≤ block_size },
+    ghost min_channels: { 1 ≤ channels_of channel_assignment },
+    ghost max_channels: { channels_of channel_assignment ≤ 8 },
     ghost max_bits: { max_bit_depth channel_assignment bits_per_sample ≤ 32 },
 }
 
@@ -78,10 +78,10 @@ pub struct HeaderFields {
     pub block_size: u16,
     pub channel_assignment: ChannelAssignment,
     pub bits_per_sample: Option<u32>,
-    ghost some_samples: { 1 ≤ block_size },
-    ghost some_channels: { 1 ≤ channels_of channel_assignment },
-    ghost few_channels: { channels_of channel_assignment ≤ 8 },
-    ghost named: { ForSome bits_per_sample HasBitDepthCode },
+    ghost min_size: { 1 ≤ block_size },
+    ghost min_channels: { 1 ≤ channels_of channel_assignment },
+    ghost max_channels: { channels_of channel_assignment ≤ 8 },
+    ghost has_code: { ForSome bits_per_sample HasBitDepthCode },
 }
 
 impl ChannelAssignment {
@@ -99,7 +99,7 @@ impl ChannelAssignment {
     /// The bit depth of a subframe: that of a side channel has one bit more.
     pub fn bit_depth(self, bits_per_sample: u32, ch: u8) -> u32
         requires { max_bit_depth self bits_per_sample ≤ 32 }
-        ensures most { result ≤ 32 }
+        ensures max_bits { result ≤ 32 }
         ensures value { IsSubframeBitDepth self bits_per_sample ch result }
     {
         let is_side = match self {

@@ -34,13 +34,13 @@ side_fits LeftSideStereo bits few = omega arith
 side_fits RightSideStereo bits few = omega arith
 side_fits MidSideStereo bits few = omega arith
 
-pub returns-in-Some-clause-value : goal.returns-in-Some-clause-value
-returns-in-Some-clause-value c =
-    side_fits c.args.fields.now.channel_assignment c.in-Some.bits (code_names None c.in-Some.bits (c.args.fields.now.named c.in-Some.bits c.in-Some.is)).few
+pub returns-in-Some-clause-max_bits : goal.returns-in-Some-clause-max_bits
+returns-in-Some-clause-max_bits c =
+    side_fits c.args.fields.now.channel_assignment c.in-Some.bits (code_names None c.in-Some.bits (c.args.fields.now.has_code c.in-Some.bits c.in-Some.is)).few
 
 pub returns-in-Some-clause-gives : goal.returns-in-Some-clause-gives
 returns-in-Some-clause-gives c here =
-    consumes_none here _ (named_read (stream_format_view c.args.stream) (fields_view c.args.fields.now) c.in-Some.bits here.remaining (rw c.in-Some.is refl) (c.args.fields.now.named c.in-Some.bits c.in-Some.is))
+    consumes_none here _ (named_read (stream_format_view c.args.stream) (fields_view c.args.fields.now) c.in-Some.bits here.remaining (rw c.in-Some.is refl) (c.args.fields.now.has_code c.in-Some.bits c.in-Some.is))
 
 -- the bit depth of the stream, if there is no side channel
 stream_read : (width : ℕ) (f : Fields) (s : List ℕ) → f.bit_depth_code ≡ 0 → f.channels < 8 → width_at (Some width) f s ≡ Done width s
@@ -55,5 +55,5 @@ independent_read stream fields format n s e w a few =
 
 pub returns-in-Independent-clause-gives : goal.returns-in-Independent-clause-gives
 returns-in-Independent-clause-gives c here =
-    let few = rw c.in-Independent.is at c.args.fields.now.few_channels in
+    let few = rw c.in-Independent.is at c.args.fields.now.max_channels in
     consumes_none here _ (independent_read c.args.stream c.args.fields.now c.in-Some-stream.format c.in-Independent.field-0 here.remaining c.in-Some-stream.is c.in_default.is c.in-Independent.is few)
