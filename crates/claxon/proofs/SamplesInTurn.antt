@@ -9,14 +9,14 @@ use Rattle.claxon_format.specs.Streams.{duration, interleave}
 use Rattle.claxon_format.proofs.Streams.{interleaved, length-interleave}
 use Rattle.claxon_input.specs.declared.error.Error.{Error}
 use Rattle.claxon_input.specs.State.{State}
-use Rattle.claxon_input.specs.Promises.{FoundIsComplete, Remains, ElseIoErrorFrom, HasFailed, IsOutOfMemory, LeavesRest, FaultIsComplete, NoneIsEof, FaultIsSound, FoundIsSound, Consumed}
+use Rattle.claxon_input.specs.Promises.{FoundIsComplete, Remains, ElseIoErrorFrom, HasFailed, LeavesRest, FaultIsComplete, NoneIsEof, FaultIsSound, FoundIsSound}
 use Rattle.claxon_frame.specs.Block.{BlockValue, duration_of}
 use Rattle.claxon_input.specs.Gives.{GivesOrEofOrOutOfMemory}
-use Rattle.claxon_frame.specs.FrameReader.{FrameAnswer, HeaderOfMoreSamples, ReadsFrame, block_view}
+use Rattle.claxon_frame.specs.FrameReader.{FrameAnswer, OutOfMemoryBeyondCapacity, ReadsFrame, block_view}
 
 -- ---- the clauses of a call that reads the next frame
 
-any_capacity : {A : Type 0} (stream : Option StreamFormat) (capacity : ℕ) (r : Result A Error) (a b : State ℕ) → (IsOutOfMemory r → Consumed a b (HeaderOfMoreSamples stream capacity)) → IsOutOfMemory r → Consumed a b (HeaderOfMoreSamples stream 0)
+any_capacity : {A : Type 0} (stream : Option StreamFormat) (capacity : ℕ) (r : Result A Error) (a b : State ℕ) → OutOfMemoryBeyondCapacity stream capacity r a b → OutOfMemoryBeyondCapacity stream 0 r a b
 any_capacity stream capacity r a b h out_of_memory is_known =
     let k = h out_of_memory is_known in
     let t = k.1 in
@@ -25,7 +25,7 @@ any_capacity stream capacity r a b h out_of_memory is_known =
 
 pub reads_frame : {stream : Option StreamFormat} {r : FrameAnswer} {a b : State ℕ} (capacity : ℕ) → FoundIsSound block_view r (Frame stream) a b → FoundIsComplete block_view r (Frame stream) a b → NoneIsEof 2 r a b
     → ((xs : List ℕ) → Remains a xs → length xs < 2 → ((r ≡ Ok None) × Remains b []) ⊎ HasFailed r a b) → IfOk r (λ found. b.errors ≡ a.errors) → FaultIsSound r (FrameBytesFault stream) a b → FaultIsComplete r (FrameBytesFault stream) a b
-    → ElseIoErrorFrom 2 r (Frame stream) (FrameBytesFault stream) a b → LeavesRest r a b → (IsOutOfMemory r → Consumed a b (HeaderOfMoreSamples stream capacity)) → GivesOrEofOrOutOfMemory 2 block_view r (frame_bytes_at stream) a b → ReadsFrame stream r a b
+    → ElseIoErrorFrom 2 r (Frame stream) (FrameBytesFault stream) a b → LeavesRest r a b → OutOfMemoryBeyondCapacity stream capacity r a b → GivesOrEofOrOutOfMemory 2 block_view r (frame_bytes_at stream) a b → ReadsFrame stream r a b
 reads_frame {stream = stream} {r = r} {a = a} {b = b} capacity sound complete none_is_eof eof_is_none no_failure fault named io front memory gives = record {
   promises = record {
     sound = sound;

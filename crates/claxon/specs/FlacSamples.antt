@@ -3,12 +3,11 @@ use Rattle.std.specs.Prelude.{◌≡◌, ℕ, ◌+◌, ◌*◌, ℤ, Bool, true,
 use Rattle.claxon_format.specs.Frame.{StreamFormat}
 use Rattle.claxon_format.specs.Streams.{interleave}
 use Rattle.claxon_input.specs.declared.error.Error.{Error}
-use Rattle.claxon_input.specs.Promises.{IsOutOfMemory, Consumed}
 use Rattle.claxon_input.specs.Source.{Source}
 use Rattle.claxon_input.specs.State.{State, bytes_in}
 use Rattle.claxon_frame.specs.Block.{BlockValue}
 use Rattle.claxon.specs.FlacReader.{samples_input}
-use Rattle.claxon_frame.specs.FrameReader.{BlockKeepsCapacity, HeaderOfMoreSamples, ReadsFrame, MaxCapacityIsEnough, frame_stream}
+use Rattle.claxon_frame.specs.FrameReader.{BlockKeepsCapacity, MaxCapacityIsEnough, OutOfMemoryBeyondCapacity, ReadsFrame, frame_stream}
 use Rattle.claxon.specs.declared.samples.FlacSamples.{FlacSamples}
 
 -- the samples of the current block that weren't given yet
@@ -65,9 +64,8 @@ BlockAnswer (Err error) result new = (result ≡ Some (Err error)) × (have_fail
 abbrev pub OutOfMemoryForLargerBlock : {R A : Type 0} → (R → Source ℕ) → FlacSamples R A
     → Result (Option BlockValue) Error → FlacSamples R A → Type 0
 OutOfMemoryForLargerBlock source old found new =
-    IsOutOfMemory found
-    → Consumed (samples_bytes source old) (samples_bytes source new)
-    (HeaderOfMoreSamples (samples_stream old) (samples_capacity old))
+    OutOfMemoryBeyondCapacity (samples_stream old) (samples_capacity old) found
+    (samples_bytes source old) (samples_bytes source new)
 
 -- The next block was read, into the last buffer where its capacity suffices.
 pub record NextBlock {R A : Type 0} (source : R → Source ℕ) (old : FlacSamples R A) (result : Option (Result ℤ Error)) (new : FlacSamples R A) : Type 0 where

@@ -4,7 +4,7 @@ use Rattle.std.specs.Prelude.{◌≡◌, ◌⊎◌, ◌↔◌, ◌<◌, ℕ, Lis
 use Rattle.claxon.specs.Fault.{Fault}
 use Rattle.claxon.specs.Frame.{StreamFormat, Block, Frame, FrameBytesFault}
 use Rattle.claxon.specs.Error.{IsFault}
-use Rattle.claxon.specs.FrameReader.{FrameAnswer, HeaderOfMoreSamples, block_view}
+use Rattle.claxon.specs.FrameReader.{FrameAnswer, HeaderOfLargerBlock, block_view}
 use Rattle.claxon.specs.Promises.{IsOutOfMemory}
 use Rattle.claxon.specs.OtherErrors.{IfOtherErr}
 use Rattle.claxon.specs.Prefix.{BeginsWith}
@@ -37,7 +37,7 @@ module _ (stream : Option StreamFormat) (bytes : List ℕ) (result : FrameAnswer
   -- `OutOfMemory` only where they begin with the header of a frame that has samples.
   abbrev pub SliceFrameOutOfMemoryAfterHeader : Type 0
   SliceFrameOutOfMemoryAfterHeader =
-      IsOutOfMemory result → BeginsWith (HeaderOfMoreSamples stream 0) bytes
+      IsOutOfMemory result → BeginsWith (HeaderOfLargerBlock stream 0) bytes
 
 -- None is returned exactly where there are fewer than two bytes.
 abbrev pub SliceFrameNoneIffEof : List ℕ → FrameAnswer → Type 0

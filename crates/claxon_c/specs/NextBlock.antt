@@ -4,7 +4,7 @@ use Rattle.claxon.specs.Fault.{Fault}
 use Rattle.claxon.specs.Frame.{Block, Frame, FrameBytesFault}
 use Rattle.claxon.specs.Streams.{duration, interleave}
 use Rattle.claxon.specs.Promises.{HasNeither}
-use Rattle.claxon.specs.FrameReader.{HeaderOfMoreSamples}
+use Rattle.claxon.specs.FrameReader.{HeaderOfLargerBlock}
 use Rattle.claxon.specs.Prefix.{BeginsWith}
 use Rattle.claxon_c.specs.declared.heads.ClaxonInfo.{ClaxonInfo}
 use Rattle.claxon_c.specs.declared.next_block.ClaxonBlock.{ClaxonBlock}
@@ -89,7 +89,7 @@ module _ (info : ClaxonInfo) (bytes : List ℕ) (from status : ℕ) where
   abbrev pub CBlockOutOfMemoryAfterHeader : Type 0
   CBlockOutOfMemoryAfterHeader =
       status ≡ out_of_memory
-      → BeginsWith (HeaderOfMoreSamples (known_stream info) 0) (drop from bytes)
+      → BeginsWith (HeaderOfLargerBlock (known_stream info) 0) (drop from bytes)
 
 -- `no_more` is returned exactly where fewer than two bytes are left.
 abbrev pub CBlockNoMoreIffEof : List ℕ → ℕ → ℕ → Type 0

@@ -13,7 +13,7 @@ use Rattle.claxon_input.specs.declared.error.Error.{Error}
 use Rattle.claxon_input.specs.State.{State}
 use Rattle.claxon_input.specs.Promises.{Remains, EofPromises, HasFailed, IfOutOfMemory, IsOutOfMemory, Consumed}
 use Rattle.claxon_input.specs.Gives.{GivesOrEofOrOutOfMemory}
-use Rattle.claxon_frame.specs.FrameReader.{BufferTooSmall, HeaderOfMoreSamples, OutOfMemoryBeyondCapacity}
+use Rattle.claxon_frame.specs.FrameReader.{BufferTooSmall, HeaderOfLargerBlock, OutOfMemoryBeyondCapacity}
 use Rattle.claxon_frame.proofs.FrameParts.{start_stops}
 use Rattle.claxon_input.proofs.FieldOrEofPromises.{eof_promises}
 
@@ -27,7 +27,7 @@ incomplete_start stream s h =
 pub incomplete_frame : (stream : Option StreamFormat) (s : List ℕ) → length s < 2 → frame_bytes_at stream s ≡ Incomplete
 incomplete_frame stream s h = (start_stops stream).incomplete s (incomplete_start stream s h)
 
-only_header : (stream : Option StreamFormat) (capacity : ℕ) (a b : State ℕ) → BufferTooSmall stream capacity a b → Consumed a b (HeaderOfMoreSamples stream capacity)
+only_header : (stream : Option StreamFormat) (capacity : ℕ) (a b : State ℕ) → BufferTooSmall stream capacity a b → Consumed a b (HeaderOfLargerBlock stream capacity)
 only_header stream capacity a b h known =
     let t = (Reads-start stream).takes a.remaining h.start b.remaining (h.header.known known).is in
     ((h.header.known known).known, (t.0, (t.1.0, t.1.1, subst (λ (start : Start). capacity < channel_count start.channels * start.size) t.1.2 h.small), t.2))

@@ -49,22 +49,22 @@ abbrev pub frame_bytes : {R : Type 0} → (R → Source ℕ) → FrameReader R �
 frame_bytes source reader = bytes_in source (frame_input reader)
 
 -- the bytes of a header, whose block has more samples than this capacity
-abbrev pub HeaderOfMoreSamples : Option StreamFormat → ℕ → List ℕ → Type 0
-HeaderOfMoreSamples stream capacity t =
+abbrev pub HeaderOfLargerBlock : Option StreamFormat → ℕ → List ℕ → Type 0
+HeaderOfLargerBlock stream capacity t =
     (h : Header) × HeaderCode (known_width stream) h (bits_of t)
     × (capacity < channel_count h.fields.channels * h.fields.size)
 
 -- ---- what a call that reads the next frame promises
 
+-- what it returns
+abbrev pub FrameAnswer : Type 0
+FrameAnswer = Result (Option BlockValue) Error
+
 -- `OutOfMemory` is returned only if just a header was consumed, whose block has more samples than this capacity.
 abbrev pub OutOfMemoryBeyondCapacity : {A : Type 0} → Option StreamFormat → ℕ → Result A Error
     → State ℕ → State ℕ → Type 0
 OutOfMemoryBeyondCapacity stream capacity r old new =
-    IsOutOfMemory r → Consumed old new (HeaderOfMoreSamples stream capacity)
-
--- what it returns
-abbrev pub FrameAnswer : Type 0
-FrameAnswer = Result (Option BlockValue) Error
+    IsOutOfMemory r → Consumed old new (HeaderOfLargerBlock stream capacity)
 
 -- A call that reads the next frame returned a block, of which just the frame was consumed, None where fewer than two bytes were
 -- left, the Err of the fault that the bytes begin with, an `IoError`, or `OutOfMemory` after a header.

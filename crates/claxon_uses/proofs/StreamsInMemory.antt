@@ -12,7 +12,7 @@ use Rattle.claxon.specs.Promises.{CodeIsComplete, Remains, IsExcused, IsOutOfMem
 use Rattle.claxon.specs.State.{State}
 use Rattle.claxon.specs.Errors.{Error}
 use Rattle.claxon.specs.Errors.TheVariants.{OutOfMemory}
-use Rattle.claxon.specs.FrameReader.{HeaderOfMoreSamples}
+use Rattle.claxon.specs.FrameReader.{HeaderOfLargerBlock}
 use Rattle.claxon.specs.ReadHead.{HeadOutOfMemoryAfterHeader, MemoryMayBeNeeded}
 use Rattle.claxon.specs.SampleRuns.{end_found, samples_of}
 use Rattle.claxon.proofs.SampleRuns.{all_frames_read, excused_after, fault_no_frame, short_no_frame}
@@ -112,18 +112,18 @@ module _ {X Z : Type 0} (view : X → List ℤ) (show : Z → Head) (bytes : Lis
     not_head_fault : (f : Fault) → BeginsWith (HeadFault (with_samples true) f) bytes → ⊥
     not_head_fault f begins = elim (named f begins.0 begins.1 begins.2 (there begins.0 begins.1 begins.3)) [ inl p ↦ p.0 | inr x ↦ no_excuse x ]
 
-    has_samples : BeginsWith (HeaderOfMoreSamples (Some stream) 0) (slice_state b).remaining ⊎ ((block : Block) × BeginsWith (Frame (Some stream) block) (slice_state b).remaining) → HasSamples bytes
+    has_samples : BeginsWith (HeaderOfLargerBlock (Some stream) 0) (slice_state b).remaining ⊎ ((block : Block) × BeginsWith (Frame (Some stream) block) (slice_state b).remaining) → HasSamples bytes
     has_samples s = let k = (consumed remains.known).1 in (
       show z,
       k.0,
       (slice_state b).remaining,
       k.1,
       sym remains.are ∙ k.2,
-      subst (λ (q : StreamFormat). BeginsWith (HeaderOfMoreSamples (Some q) 0) (slice_state b).remaining ⊎ ((block : Block) × BeginsWith (Frame (Some q) block) (slice_state b).remaining)) is s,
+      subst (λ (q : StreamFormat). BeginsWith (HeaderOfLargerBlock (Some q) 0) (slice_state b).remaining ⊎ ((block : Block) × BeginsWith (Frame (Some q) block) (slice_state b).remaining)) is s,
     )
 
-    first_of : (blocks : List Block) (m : List ℕ) → Frames (Some stream) (slice_state b).remaining blocks m → BeginsWith (HeaderOfMoreSamples (Some stream) 0) m → HasSamples bytes
-    first_of [] m f begins = has_samples (inl (subst (λ (l : List ℕ). BeginsWith (HeaderOfMoreSamples (Some stream) 0) l) (sym f) begins))
+    first_of : (blocks : List Block) (m : List ℕ) → Frames (Some stream) (slice_state b).remaining blocks m → BeginsWith (HeaderOfLargerBlock (Some stream) 0) m → HasSamples bytes
+    first_of [] m f begins = has_samples (inl (subst (λ (l : List ℕ). BeginsWith (HeaderOfLargerBlock (Some stream) 0) l) (sym f) begins))
     first_of (x ∷ blocks) m f begins = has_samples (inr (x, (f.0, f.1, f.2, f.3)))
 
     -- a fault after the frames is one of the stream

@@ -4,7 +4,7 @@ use Rattle.claxon.specs.Block.{BlockValue}
 use Rattle.claxon.specs.Fault.{Fault}
 use Rattle.claxon.specs.Frame.{StreamFormat, Block, Frame, FrameBytesFault}
 use Rattle.claxon.specs.Error.{IsFault, IsFormatError}
-use Rattle.claxon.specs.FrameReader.{HeaderOfMoreSamples, block_view}
+use Rattle.claxon.specs.FrameReader.{HeaderOfLargerBlock, block_view}
 use Rattle.claxon.specs.Promises.{IsOutOfMemory}
 use Rattle.claxon.specs.Errors.{Error}
 use Rattle.claxon.specs.OtherErrors.{IfOtherErr}
@@ -46,4 +46,4 @@ module _ (stream : Option StreamFormat) (packet : List ℕ) (result : Result Blo
   -- `OutOfMemory` only where it begins with the header of a frame that has samples.
   abbrev pub PacketOutOfMemoryAfterHeader : Type 0
   PacketOutOfMemoryAfterHeader =
-      IsOutOfMemory result → BeginsWith (HeaderOfMoreSamples stream 0) packet
+      IsOutOfMemory result → BeginsWith (HeaderOfLargerBlock stream 0) packet

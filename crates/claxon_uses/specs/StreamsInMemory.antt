@@ -3,7 +3,7 @@ use Rattle.std.specs.Prelude.{◌≡◌, ◌⊎◌, ◌<◌, ℕ, ℤ, true, Lis
 use Rattle.claxon.specs.Error.{IsFault}
 use Rattle.claxon.specs.Fault.{Fault}
 use Rattle.claxon.specs.Frame.{Block, Frame, FrameBytesFault}
-use Rattle.claxon.specs.FrameReader.{HeaderOfMoreSamples}
+use Rattle.claxon.specs.FrameReader.{HeaderOfLargerBlock}
 use Rattle.claxon.specs.Heads.{Head, HeadCode, HeadFault, Marker, stream_marker}
 use Rattle.claxon.specs.Promises.{IsOutOfMemory}
 use Rattle.claxon.specs.ReadHead.{MemoryMayBeNeeded}
@@ -24,7 +24,7 @@ HasStreamFault bytes f =
 abbrev pub HasSamples : List ℕ → Type 0
 HasSamples bytes =
     (h : Head) × (front : List ℕ) × (frames : List ℕ) × HeadCode (with_samples true) h front × (bytes ≡ front ++ frames)
-    × (BeginsWith (HeaderOfMoreSamples (Some (stream_of h.info)) 0) frames
+    × (BeginsWith (HeaderOfLargerBlock (Some (stream_of h.info)) 0) frames
     ⊎ ((block : Block) × BeginsWith (Frame (Some (stream_of h.info)) block) frames))
 
 -- `view` shows the samples of what is returned.
