@@ -1,10 +1,9 @@
 -- Reads through a mutable reference are reads of its target.
 use Rattle.std.specs.Borrow.{GName, MutBor}
 use Rattle.claxon.specs.Source.{Source, through_loan}
-use Rattle.std.proofs.Common.{◌≡◌, inl, inr, ℕ, ◌+◌, ◌%◌, ◌^◌, List, [], ◌∷◌, ◌++◌, Option, None, Some, ap, subst, ◌∙◌, append-nil, arith}
+use Rattle.std.proofs.Common.{◌≡◌, inl, inr, ℕ, ◌+◌, List, [], ◌∷◌, ◌++◌, Option, None, Some, ap, subst, ◌∙◌, append-nil, arith}
 use Rattle.std.specs.Prelude.{IfErr, IfOk, OnErr, OnOk, ◌⊎◌, Result, Ok, Err}
 use Rattle.std.specs.Result.{result_and}
-use Rattle.std.specs.Io.KnownBytes.{Keeps}
 use Rattle.claxon.specs.Frame.{StreamFormat, Block}
 use Rattle.claxon.specs.read.Frame.{frame_bytes_at}
 use Rattle.claxon.specs.read.Reading.{Reading}
@@ -18,9 +17,10 @@ use Rattle.claxon.specs.Block.{BlockValue}
 use Rattle.claxon.specs.FrameReader.{ReadsFrame, block_view, stream_with}
 use Rattle.claxon.specs.StreamInfos.{StreamInfo}
 use Rattle.claxon.specs.SampleRuns.{ConsumesFrames, ReadsFrames, samples_of}
-use Rattle.claxon_write.specs.Decoded.{EndsAfter, Gathers, Decodes, FailsToFlushAll, FailsToWrite, StopsDecoding, TakesBlocks, last_bytes}
+use Rattle.claxon_write.specs.Decoded.{EndsAfter, Gathers, Decodes, DecodesToEof, FailsToDecode, FailsToWrite, StopsDecoding, TakesBlocks, last_bytes}
 use Rattle.claxon_write.specs.SampleBytes.{bytes_of_samples}
-use Rattle.claxon_write.specs.Written.{AppendsAllBut, FailsToPut, FlushFailed, IsFlushed, IsUnflushed, NothingFailed, Puts, capacity, failed_flushes_of, failed_writes_of, writer_contents, contents_with_pending, pending}
+use Rattle.claxon_write.specs.Capacity.{capacity}
+use Rattle.claxon_write.specs.Written.{AppendsAllBut, FailsToPut, FlushFailed, IsFlushed, IsUnflushed, KeepsContents, NonePending, NothingFailed, Puts, writer_contents, contents_with_pending, pending}
 use Rattle.claxon_write.specs.declared.output.Output.{Output}
 use Rattle.claxon_write.specs.declared.stream.End.{End}
 use Rattle.claxon_write.proofs.Puts.{puts_both, puts_as, fails_after, fails_close, fewer, flush_failed_after, flushed_after, contents_alone, none_failed_both, appends_keeps}
@@ -111,7 +111,7 @@ blocks_unborrowed stream blocks a b (inr h) = inr (h.0, ends_unborrowed stream b
 -- ---- all gathered bytes were written
 
 module _ {W : Type 0} {contents : W → Option (List ℕ)} {stream : Option StreamFormat} where
-  pub decoded : {n : ℕ} (end : Option Error) {a b : State ℕ} {x y z : Output W} → Gathers contents stream end n a b x y → Puts contents [] y z → pending z ≡ [] → Decodes contents stream end n (unborrowed a) (unborrowed b) x z × NothingFailed x z
+  pub decoded : {n : ℕ} (end : Option Error) {a b : State ℕ} {x y z : Output W} → Gathers contents stream end n a b x y → Puts contents [] y z → NonePending z → Decodes contents stream end n (unborrowed a) (unborrowed b) x z × NothingFailed x z
   decoded end {a = a} {b = b} {x = x} {z = z} h k none =
       let p = puts_as (append-nil (bytes_of_samples (samples_of h.blocks))) (puts_both h.puts k) in
       (record { blocks = h.blocks; ends = ends_unborrowed stream h.blocks end a b h.ends; count = h.count; written = contents_alone (contents_with_pending contents x) (writer_contents contents z) (pending z) (bytes_of_samples (samples_of h.blocks)) none p.bytes_are; none_pending = none }, p.nothing_failed)
@@ -141,7 +141,7 @@ same_name source r s q e h =
 module _ {R W : Type 0} (source : R → Source ℕ) {contents : W → Option (List ℕ)} {stream known : Option StreamFormat} (r s q : MutBor R) (at : s ≡ r) (same : stream ≡ known) where
   -- the gathered bytes are written, and then the end is returned
   pub written_through : (end : End) (o : Result (Unit {0}) Error) (x y z : Output W) → Gathers contents stream end.fault end.count (bytes_in (lent source) s) (bytes_in (lent source) q) x y → OnOk o (Puts contents [] y z) → IfErr o (λ e. FailsToPut contents [] e y z)
-      → pending z ≡ [] → IsUnflushed x z
+      → NonePending z → IsUnflushed x z
       → IfOk (result_and o (Ok end)) (λ end. Decodes contents known end.fault end.count (bytes_in source r.now) (bytes_in source q.now) x z × NothingFailed x z)
       × IfErr (result_and o (Ok end)) (λ e. FailsToWrite contents known e (bytes_in source r.now) (bytes_in source q.now) x z)
   unfolding unborrowed bytes_in rest_of
@@ -154,19 +154,18 @@ module _ {R W : Type 0} (source : R → Source ℕ) {contents : W → Option (Li
 
 -- ---- the flush at the end
 
-either_failed : {W : Type 0} (r : Result (Unit {0}) Error) {x z w : Output W} → NothingFailed x z → failed_writes_of w ≡ failed_writes_of z → OnOk r (failed_flushes_of w ≡ failed_flushes_of z) → OnErr r (failed_flushes_of w ≡ (failed_flushes_of z + 1) % 2 ^ 64)
-    → NothingFailed x w ⊎ FlushFailed x w
-either_failed (Ok u) h k l f = inl (none_failed_both h (record { writes = k; flushes = l }))
-either_failed (Err e) h k l f = inr (flush_failed_after h (record { writes = k; flushes = f }))
+either_failed : {W : Type 0} (r : Result (Unit {0}) Error) {x z w : Output W} → NothingFailed x z → OnOk r (NothingFailed z w) → OnErr r (FlushFailed z w) → NothingFailed x w ⊎ FlushFailed x w
+either_failed (Ok u) h k l = inl (none_failed_both h k)
+either_failed (Err e) h k l = inr (flush_failed_after h l)
 
 module _ {W : Type 0} {contents : W → Option (List ℕ)} where
-  flushed : {stream : Option StreamFormat} {end : Option Error} {n : ℕ} {a b : State ℕ} {x z w : Output W} → Decodes contents stream end n a b x z → Keeps (writer_contents contents z) (writer_contents contents w) → pending w ≡ pending z → Decodes contents stream end n a b x w
+  flushed : {stream : Option StreamFormat} {end : Option Error} {n : ℕ} {a b : State ℕ} {x z w : Output W} → Decodes contents stream end n a b x z → KeepsContents contents z w → pending w ≡ pending z → Decodes contents stream end n a b x w
   flushed {x = x} {z = z} {w = w} h k e =
       record { blocks = h.blocks; ends = h.ends; count = h.count; written = appends_keeps (contents_with_pending contents x) (writer_contents contents z) (writer_contents contents w) (bytes_of_samples (samples_of h.blocks)) h.written k; none_pending = e ∙ h.none_pending }
 
   -- for equal streaminfos and readers
   module _ {R : Type 0} (source : R → Source ℕ) {info shown : StreamInfo} {u v : R} (head : info ≡ shown) (at : u ≡ v) where
-    pub decodes_flushed : {end fault : Option Error} {n : ℕ} (q : R) {x z w : Output W} → end ≡ fault → Decodes contents (Some (stream_with info)) end n (bytes_in source u) (bytes_in source q) x z → Keeps (writer_contents contents z) (writer_contents contents w)
+    pub decodes_flushed : {end fault : Option Error} {n : ℕ} (q : R) {x z w : Output W} → end ≡ fault → Decodes contents (Some (stream_with info)) end n (bytes_in source u) (bytes_in source q) x z → KeepsContents contents z w
         → pending w ≡ pending z → Decodes contents (Some (stream_with shown)) fault n (bytes_in source v) (bytes_in source q) x w
     decodes_flushed {fault = fault} {n = n} q {x = x} {w = w} e h k l =
         subst (λ (i : StreamInfo). Decodes contents (Some (stream_with i)) fault n (bytes_in source v) (bytes_in source q) x w) head
@@ -174,21 +173,20 @@ module _ {W : Type 0} {contents : W → Option (List ℕ)} where
         (subst (λ (f : Option Error). Decodes contents (Some (stream_with info)) f n (bytes_in source u) (bytes_in source q) x w) e (flushed h k l)))
 
     pub stops_flushed : {end : Option Error} {error : Error} {n : ℕ} (q : R) (r : Result (Unit {0}) Error) {x z w : Output W} → end ≡ Some error → Decodes contents (Some (stream_with info)) end n (bytes_in source u) (bytes_in source q) x z → NothingFailed x z → IsUnflushed x z
-        → Keeps (writer_contents contents z) (writer_contents contents w) → pending w ≡ pending z → failed_writes_of w ≡ failed_writes_of z → OnOk r (failed_flushes_of w ≡ failed_flushes_of z) → OnErr r (failed_flushes_of w ≡ (failed_flushes_of z + 1) % 2 ^ 64) → IsFlushed z w
+        → KeepsContents contents z w → pending w ≡ pending z → OnOk r (NothingFailed z w) → OnErr r (FlushFailed z w) → IsFlushed z w
         → StopsDecoding contents (Some (stream_with shown)) error (bytes_in source v) (bytes_in source q) x w
-    stops_flushed {n = n} q r e h none unflushed k l writes known failed flushed =
-        record { count = n; decoded = decodes_flushed q e h k l; flushed = flushed_after unflushed flushed; failed = either_failed r none writes known failed }
+    stops_flushed {n = n} q r e h none unflushed k l succeeded failed flushed =
+        record { count = n; decoded = decodes_flushed q e h k l; flushed = flushed_after unflushed flushed; failed = either_failed r none succeeded failed }
 
     -- the stream ended, and all samples were written and flushed, or the flush failed
     pub all_flushed : {end : Option Error} (n : ℕ) (q : R) (r : Result (Unit {0}) Error) {x z w : Output W} → end ≡ None → Decodes contents (Some (stream_with info)) end n (bytes_in source u) (bytes_in source q) x z → NothingFailed x z → IsUnflushed x z
-        → Keeps (writer_contents contents z) (writer_contents contents w) → pending w ≡ pending z → failed_writes_of w ≡ failed_writes_of z → OnOk r (failed_flushes_of w ≡ failed_flushes_of z) → OnErr r (failed_flushes_of w ≡ (failed_flushes_of z + 1) % 2 ^ 64) → IsFlushed z w → IfErr r (λ e. IsIo e)
-        → IfOk (result_and r (Ok n)) (λ n. Decodes contents (Some (stream_with shown)) None n (bytes_in source v) (bytes_in source q) x w × NothingFailed x w × IsFlushed x w)
-        × IfErr (result_and r (Ok n)) (λ error. StopsDecoding contents (Some (stream_with shown)) error (bytes_in source v) (bytes_in source q) x w
-        ⊎ (FailsToWrite contents (Some (stream_with shown)) error (bytes_in source v) (bytes_in source q) x w ⊎ FailsToFlushAll contents (Some (stream_with shown)) error (bytes_in source v) (bytes_in source q) x w))
-    all_flushed n q (Ok done) e h none unflushed k l writes known failed flushed io = ((decodes_flushed q e h k l, none_failed_both none (record { writes = writes; flushes = known }), flushed_after unflushed flushed), tt)
-    all_flushed n q (Err error) e h none unflushed k l writes known failed flushed io = (
+        → KeepsContents contents z w → pending w ≡ pending z → OnOk r (NothingFailed z w) → OnErr r (FlushFailed z w) → IsFlushed z w → IfErr r (λ e. IsIo e)
+        → IfOk (result_and r (Ok n)) (λ n. DecodesToEof contents (Some (stream_with shown)) n (bytes_in source v) (bytes_in source q) x w)
+        × IfErr (result_and r (Ok n)) (λ error. FailsToDecode contents (Some (stream_with shown)) error (bytes_in source v) (bytes_in source q) x w)
+    all_flushed n q (Ok done) e h none unflushed k l succeeded failed flushed io = ((decodes_flushed q e h k l, none_failed_both none succeeded, flushed_after unflushed flushed), tt)
+    all_flushed n q (Err error) e h none unflushed k l succeeded failed flushed io = (
       tt,
-      inr (inr (record { is_io = io; failed = flush_failed_after none (record { writes = writes; flushes = failed }); flushed = flushed_after unflushed flushed; count = n; decoded = decodes_flushed q e h k l })),
+      inr (inr (record { is_io = io; failed = flush_failed_after none failed; flushed = flushed_after unflushed flushed; count = n; decoded = decodes_flushed q e h k l })),
     )
 
     pub fails_shown : {error : Error} (q : R) {x y : Output W} → FailsToWrite contents (Some (stream_with info)) error (bytes_in source u) (bytes_in source q) x y → FailsToWrite contents (Some (stream_with shown)) error (bytes_in source v) (bytes_in source q) x y

@@ -1,5 +1,5 @@
 -- If the input is the frames of blocks and then no frame, exactly their samples are written.
-use Rattle.std.proofs.Common.{◌≡◌, ◌⊎◌, inl, inr, ℕ, ◌+◌, ◌<◌, ◌≤◌, ◌^◌, true, List, [], ◌∷◌, ◌++◌, length, Option, None, Some, sym, ap, subst, ◌∙◌, arith, length-append}
+use Rattle.std.proofs.Common.{◌≡◌, ◌⊎◌, inl, inr, ℕ, ◌+◌, ◌<◌, ◌≤◌, ◌^◌, true, List, [], ◌∷◌, ◌++◌, length, Option, None, Some, refl, sym, ap, subst, ◌∙◌, arith, length-append}
 use Rattle.std.proofs.lemmas.Grind.{flat_map-append}
 use Rattle.std.specs.Prelude.{IfErr, IfOk, IsErrAnd, Result, Ok, Err}
 use Rattle.claxon.specs.Fault.{Fault}
@@ -12,8 +12,8 @@ use Rattle.claxon.specs.Promises.{Remains, IsExcused}
 use Rattle.claxon.specs.State.{State}
 use Rattle.claxon.specs.SampleRuns.{samples_of}
 use Rattle.claxon.proofs.SampleRuns.{all_frames_read, excused_after, fault_no_frame, frames_left, short_no_frame}
-use Rattle.claxon_write.specs.Decoded.{Decodes, EndsAfter, FailsToFlushAll, FailsToWrite, StopsDecoding, TooManySamples, WriteHasFailed, WriterHasFailed}
-use Rattle.claxon_write.specs.Written.{IsFlushed, NothingFailed}
+use Rattle.claxon_write.specs.Decoded.{Decodes, DecodesToEof, EndsAfter, FailsToDecode, TooManySamples, WriteHasFailed, WriterHasFailed}
+use Rattle.claxon_write.specs.WriteSamples.{EofAfterBlocks, FaultAfterBlocks}
 use Rattle.claxon_write.specs.declared.output.Output.{Output}
 
 -- ---- excuses
@@ -44,8 +44,8 @@ module _ (stream : Option StreamFormat) (width : IsWidth (known_width stream)) w
 
   module _ {W : Type 0} (contents : W → Option (List ℕ)) (a b : State ℕ) (x y : Output W) (blocks : List Block) (m : List ℕ) (known : a.known ≡ true) (f : Frames stream a.remaining blocks m) (few : length (samples_of blocks) < 2 ^ 64) where
     -- a stream that ends there is written completely
-    pub written_whole : (r : Result ℕ Error) → IfOk r (λ n. Decodes contents stream None n a b x y × NothingFailed x y × IsFlushed x y)
-        → IfErr r (λ e. StopsDecoding contents stream e a b x y ⊎ (FailsToWrite contents stream e a b x y ⊎ FailsToFlushAll contents stream e a b x y)) → length m < 2 → (r ≡ Ok (length (samples_of blocks))) ⊎ (IsExcused r a b ⊎ WriterHasFailed r x y)
+    written_whole : (r : Result ℕ Error) → IfOk r (λ n. DecodesToEof contents stream n a b x y)
+        → IfErr r (λ e. FailsToDecode contents stream e a b x y) → length m < 2 → (r ≡ Ok (length (samples_of blocks))) ⊎ (IsExcused r a b ⊎ WriterHasFailed r x y)
     written_whole (Ok n) h k short = elim (all_frames_read stream width None h.0.blocks blocks m h.0.ends known f (short_no_frame stream m short)) [
       | inl p ↦ inl (ap (λ (z : ℕ). Ok z) (h.0.count ∙ ap (λ (z : List Block). length (samples_of z)) (sym p.0)))
       | inr e ↦ absurd (ok_unexcused a b None e)
@@ -65,8 +65,8 @@ module _ (stream : Option StreamFormat) (width : IsWidth (known_width stream)) w
         ]
 
     -- a fault there is the result
-    pub fault_after_frames : (r : Result ℕ Error) → IfOk r (λ n. Decodes contents stream None n a b x y × NothingFailed x y × IsFlushed x y)
-        → IfErr r (λ e. StopsDecoding contents stream e a b x y ⊎ (FailsToWrite contents stream e a b x y ⊎ FailsToFlushAll contents stream e a b x y)) → (fault : Fault) (t rest : List ℕ) → FrameBytesFault stream fault t → m ≡ t ++ rest
+    fault_after_frames : (r : Result ℕ Error) → IfOk r (λ n. DecodesToEof contents stream n a b x y)
+        → IfErr r (λ e. FailsToDecode contents stream e a b x y) → (fault : Fault) (t rest : List ℕ) → FrameBytesFault stream fault t → m ≡ t ++ rest
         → IsErrAnd r (IsFault fault) ⊎ (IsExcused r a b ⊎ WriteHasFailed r x y)
     fault_after_frames r h k fault t rest bad e = go r h k
       where
@@ -83,8 +83,8 @@ module _ (stream : Option StreamFormat) (width : IsWidth (known_width stream)) w
           | inl p ↦ elim (h.ends.last.promises.named fault t rest bad (there p.1)) [ inl z ↦ z.0 | inr z ↦ ok_unexcused h.ends.between b None z ]
         ]
 
-        go : (r : Result ℕ Error) → IfOk r (λ n. Decodes contents stream None n a b x y × NothingFailed x y × IsFlushed x y)
-            → IfErr r (λ e. StopsDecoding contents stream e a b x y ⊎ (FailsToWrite contents stream e a b x y ⊎ FailsToFlushAll contents stream e a b x y)) → IsErrAnd r (IsFault fault) ⊎ (IsExcused r a b ⊎ WriteHasFailed r x y)
+        go : (r : Result ℕ Error) → IfOk r (λ n. DecodesToEof contents stream n a b x y)
+            → IfErr r (λ e. FailsToDecode contents stream e a b x y) → IsErrAnd r (IsFault fault) ⊎ (IsExcused r a b ⊎ WriteHasFailed r x y)
         go (Ok n) h k = absurd (not_eof h.0)
         go (Err error) h (inr (inl k)) = inr (inr (k.is_io, k.failed))
         go (Err error) h (inr (inr k)) = absurd (not_eof k.decoded)
@@ -98,3 +98,12 @@ module _ (stream : Option StreamFormat) (width : IsWidth (known_width stream)) w
             ]
           ]
         ]
+
+  module _ {W : Type 0} (contents : W → Option (List ℕ)) (a b : State ℕ) (x y : Output W) (r : Result ℕ Error) (ok : IfOk r (λ n. DecodesToEof contents stream n a b x y)) (err : IfErr r (λ e. FailsToDecode contents stream e a b x y)) where
+    pub eof_complete : (n : ℕ) → EofAfterBlocks stream a n → (r ≡ Ok n) ⊎ (IsExcused r a b ⊎ WriterHasFailed r x y)
+    eof_complete n h =
+        subst (λ (z : ℕ). (r ≡ Ok z) ⊎ (IsExcused r a b ⊎ WriterHasFailed r x y)) (sym h.count)
+        (written_whole contents a b x y h.blocks h.rest h.known h.frames h.few r ok err h.eof)
+
+    pub fault_complete : (f : Fault) → FaultAfterBlocks stream a f → IsErrAnd r (IsFault f) ⊎ (IsExcused r a b ⊎ WriteHasFailed r x y)
+    fault_complete f h = fault_after_frames contents a b x y h.blocks (h.fault ++ h.rest) h.known h.frames h.few r ok err f h.fault h.rest h.bad refl

@@ -18,7 +18,8 @@ use Rattle.claxon.proofs.SamplesInTurn.{reads_as, same_duration}
 use Rattle.claxon.proofs.SampleRuns.{samples_add, takes_none, takes_more}
 use Rattle.claxon_write.specs.Decoded.{IsLimit, Gathers, FailsToWrite, last_bytes}
 use Rattle.claxon_write.specs.SampleBytes.{bytes_of_samples}
-use Rattle.claxon_write.specs.Written.{AppendsAllBut, FailsToPut, IsUnflushed, Puts, capacity, writer_contents, pending}
+use Rattle.claxon_write.specs.Capacity.{capacity}
+use Rattle.claxon_write.specs.Written.{AppendsAllBut, FailsToPut, IsUnflushed, Puts, writer_contents, pending}
 use Rattle.claxon_write.specs.declared.output.Output.{Output}
 use Rattle.claxon_write.proofs.Puts.{puts_none, puts_both, puts_as, fails_after, fails_close}
 use Rattle.claxon_write.proofs.SampleBytes.{bytes_append}

@@ -10,7 +10,8 @@ use Rattle.claxon.specs.Errors.{Error}
 use Rattle.claxon_write.specs.SampleBytes.{bytes_of_samples, interleave_range}
 use Rattle.claxon_write.proofs.SampleBytes.{range_all}
 use Rattle.claxon_write.specs.Output.{FlushFaultIsSound, FlushIsSound}
-use Rattle.claxon_write.specs.Written.{AppendsAllBut, AppendsPrefix, FailsToPut, FlushFailed, IsFlushed, IsUnflushed, NothingFailed, Puts, WriteFailed, capacity, failed_flushes_of, failed_writes_of, writer_contents, contents_with_pending, pending}
+use Rattle.claxon_write.specs.Capacity.{capacity}
+use Rattle.claxon_write.specs.Written.{AppendsAllBut, AppendsPrefix, FailsToPut, FlushFailed, IsFlushed, IsUnflushed, KeepsContents, NonePending, NothingFailed, Puts, WriteFailed, failed_flushes_of, failed_writes_of, writer_contents, contents_with_pending, pending}
 use Rattle.claxon.specs.Block.{duration_of}
 use Rattle.claxon.proofs.SamplesInTurn.{same_duration}
 use Rattle.claxon_write.specs.declared.output.CountingWriter.{CountingWriter}
@@ -185,7 +186,7 @@ still_pending (Some x) (Some y) w k = ap (λ (z : List ℕ). z ++ w) k ∙ sym (
 -- ---- the calls of the writer
 
 module _ {W : Type 0} (contents : W → Option (List ℕ)) where
-  pub gathered_ok : (r : Result (Unit {0}) Error) (a b : Output W) (bytes : List ℕ) → bytes ≡ pending a → pending b ≡ [] → OnOk r (Appends (writer_contents contents a) (writer_contents contents b) bytes) → OnOk r (failed_writes_of b ≡ failed_writes_of a)
+  pub gathered_ok : (r : Result (Unit {0}) Error) (a b : Output W) (bytes : List ℕ) → bytes ≡ pending a → NonePending b → OnOk r (Appends (writer_contents contents a) (writer_contents contents b) bytes) → OnOk r (failed_writes_of b ≡ failed_writes_of a)
       → failed_flushes_of b ≡ failed_flushes_of a → OnOk r (Puts contents [] a b)
   gathered_ok (Err e) a b bytes same none h k l = tt
   gathered_ok (Ok x) a b bytes same none h k l =
@@ -196,7 +197,7 @@ module _ {W : Type 0} (contents : W → Option (List ℕ)) where
         nothing_failed = record { writes = k; flushes = l };
       }
 
-  pub gathered_err : (r : Result (Unit {0}) Error) (a b : Output W) (bytes : List ℕ) → bytes ≡ pending a → pending b ≡ [] → IfErr r (λ e. IsIo e) → OnErr r (AppendsPrefix (writer_contents contents a) (writer_contents contents b) bytes)
+  pub gathered_err : (r : Result (Unit {0}) Error) (a b : Output W) (bytes : List ℕ) → bytes ≡ pending a → NonePending b → IfErr r (λ e. IsIo e) → OnErr r (AppendsPrefix (writer_contents contents a) (writer_contents contents b) bytes)
       → OnErr r (failed_writes_of b ≡ (failed_writes_of a + 1) % 2 ^ 64) → failed_flushes_of b ≡ failed_flushes_of a → length bytes ≤ capacity → IfErr r (λ e. FailsToPut contents [] e a b)
   gathered_err (Ok x) a b bytes same none i h k l few = tt
   gathered_err (Err e) a b bytes same none i h k l few = record {
@@ -207,29 +208,29 @@ module _ {W : Type 0} (contents : W → Option (List ℕ)) where
   }
 
   -- all pending bytes were written, and then the writer was flushed
-  module _ (r : Result (Unit {0}) Error) (a b c : Output W) (h : Puts contents [] a b) (u : IsUnflushed a b) (k : Keeps (writer_contents contents b) (writer_contents contents c)) (writes : failed_writes_of c ≡ failed_writes_of b) (f : IsFlushed b c) where
-    pub flushed_ok : pending c ≡ pending b → OnOk r (failed_flushes_of c ≡ failed_flushes_of b) → FlushIsSound contents r a c
+  module _ (r : Result (Unit {0}) Error) (a b c : Output W) (h : Puts contents [] a b) (u : IsUnflushed a b) (k : KeepsContents contents b c) (f : IsFlushed b c) where
+    pub flushed_ok : pending c ≡ pending b → OnOk r (NothingFailed b c) → FlushIsSound contents r a c
     flushed_ok w t = go r t
       where
-        go : (r : Result (Unit {0}) Error) → OnOk r (failed_flushes_of c ≡ failed_flushes_of b) → FlushIsSound contents r a c
+        go : (r : Result (Unit {0}) Error) → OnOk r (NothingFailed b c) → FlushIsSound contents r a c
         go (Err e) t = tt
         go (Ok x) t = (
           puts_both h (record {
             prefix = prefix_of_kept (writer_contents contents b) (writer_contents contents c) (pending b ++ []) k;
             bytes_are = subst (λ (z : List ℕ). Appends (contents_with_pending contents b) (append_known (writer_contents contents c) z) []) (sym w) (still_pending (writer_contents contents b) (writer_contents contents c) (pending b) k);
-            nothing_failed = record { writes = writes; flushes = t };
+            nothing_failed = t;
           }),
           flushed_after u f,
         )
 
-    pub flushed_err : pending b ≡ [] → pending c ≡ [] → IfErr r (λ e. IsIo e) → OnErr r (failed_flushes_of c ≡ (failed_flushes_of b + 1) % 2 ^ 64) → FlushFaultIsSound contents r a c
+    pub flushed_err : NonePending b → NonePending c → IfErr r (λ e. IsIo e) → OnErr r (FlushFailed b c) → FlushFaultIsSound contents r a c
     flushed_err none w i t = go r i t
       where
-        go : (r : Result (Unit {0}) Error) → IfErr r (λ e. IsIo e) → OnErr r (failed_flushes_of c ≡ (failed_flushes_of b + 1) % 2 ^ 64) → FlushFaultIsSound contents r a c
+        go : (r : Result (Unit {0}) Error) → IfErr r (λ e. IsIo e) → OnErr r (FlushFailed b c) → FlushFaultIsSound contents r a c
         go (Ok x) i t = tt
         go (Err e) i t = inr (record {
           is_io = i;
-          failed = flush_failed_after h.nothing_failed (record { writes = writes; flushes = t });
+          failed = flush_failed_after h.nothing_failed t;
           flushed = flushed_after u f;
           written = appends_keeps (contents_with_pending contents a) (writer_contents contents b) (writer_contents contents c) [] (contents_alone (contents_with_pending contents a) (writer_contents contents b) (pending b) [] none h.bytes_are) k;
           none_pending = w;

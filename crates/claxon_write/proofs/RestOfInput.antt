@@ -1,5 +1,5 @@
 -- The remaining input is a rest of the input before.
-use Rattle.std.proofs.Common.{◌≡◌, ◌⊎◌, inl, inr, ℕ, true, List, [], ◌++◌, Option, None, Some, refl, sym, ap, ◌∙◌, append_assoc}
+use Rattle.std.proofs.Common.{◌≡◌, inl, inr, ℕ, true, List, [], ◌++◌, Option, None, Some, refl, sym, ap, ◌∙◌, append_assoc}
 use Rattle.std.specs.Prelude.{IfErr, IfOk, Result, Ok, Err}
 use Rattle.claxon.specs.Frame.{StreamFormat, Block}
 use Rattle.claxon.specs.Block.{BlockValue}
@@ -8,8 +8,7 @@ use Rattle.claxon.specs.Errors.{Error}
 use Rattle.claxon.specs.Gives.{IsRest, Consumes}
 use Rattle.claxon.specs.State.{State}
 use Rattle.claxon.specs.SampleRuns.{ReadsFrames}
-use Rattle.claxon_write.specs.Decoded.{Decodes, EndsAfter, FailsToFlushAll, FailsToWrite, StopsDecoding, TakesBlocks}
-use Rattle.claxon_write.specs.Written.{IsFlushed, NothingFailed}
+use Rattle.claxon_write.specs.Decoded.{DecodesToEof, EndsAfter, FailsToDecode, TakesBlocks}
 use Rattle.claxon_write.specs.declared.output.Output.{Output}
 
 rest_self : (s : List ℕ) → IsRest s s
@@ -48,8 +47,7 @@ blocks_leave stream blocks a b (inl h) = consumes_leaves h.consumed
 blocks_leave stream blocks a b (inr h) = ends_leave stream blocks h.0 a b h.1
 
 -- for any result
-pub answer_leaves : {W : Type 0} (contents : W → Option (List ℕ)) (stream : Option StreamFormat) (r : Result ℕ Error) (a b : State ℕ) (x y : Output W) → IfOk r (λ n. Decodes contents stream None n a b x y × NothingFailed x y × IsFlushed x y)
-    → IfErr r (λ e. StopsDecoding contents stream e a b x y ⊎ (FailsToWrite contents stream e a b x y ⊎ FailsToFlushAll contents stream e a b x y)) → KeepsRest a b
+pub answer_leaves : {W : Type 0} (contents : W → Option (List ℕ)) (stream : Option StreamFormat) (r : Result ℕ Error) (a b : State ℕ) (x y : Output W) → IfOk r (λ n. DecodesToEof contents stream n a b x y) → IfErr r (λ e. FailsToDecode contents stream e a b x y) → KeepsRest a b
 answer_leaves contents stream (Ok n) a b x y h k = ends_leave stream h.0.blocks None a b h.0.ends
 answer_leaves contents stream (Err e) a b x y h (inl k) = ends_leave stream k.decoded.blocks (Some e) a b k.decoded.ends
 answer_leaves contents stream (Err e) a b x y h (inr (inl k)) = blocks_leave stream k.blocks a b k.takes

@@ -6,22 +6,21 @@ use Rattle.claxon.specs.Fault.{Fault}
 use Rattle.claxon.specs.Frame.{StreamFormat, Block, Frame, FrameBytesFault, Frames}
 use Rattle.claxon.specs.Heads.{Head, HeadCode, HeadFault}
 use Rattle.claxon.specs.Streams.{stream_of, with_samples}
-use Rattle.claxon.specs.FrameReader.{stream_with}
 use Rattle.claxon.specs.Errors.{Error}
 use Rattle.claxon.specs.Errors.TheVariants.{OutOfMemory}
 use Rattle.claxon.specs.Error.{IsFault, IsIo, is_io}
 use Rattle.claxon.specs.Gives.{Consumes}
 use Rattle.claxon.specs.Promises.{Remains, IsExcused, Consumed}
 use Rattle.claxon.specs.State.{State}
-use Rattle.claxon.specs.FlacReader.{flac_head, flac_streaminfo}
+use Rattle.claxon.specs.FlacReader.{flac_head}
 use Rattle.claxon.specs.Opening.{OpenFaultIsComplete, OpenIsComplete, IsMemoryOrIoError, flac_bytes, unread}
 use Rattle.claxon.specs.SampleRuns.{samples_of}
 use Rattle.claxon.specs.declared.reader.FlacReader.{FlacReader}
 use Rattle.claxon_write.specs.SampleBytes.{bytes_of_samples}
-use Rattle.claxon_write.specs.Decoded.{Decodes, EndsAfter, FailsToFlushAll, FailsToWrite, StopsDecoding, TakesBlocks, TooManySamples}
+use Rattle.claxon_write.specs.Decoded.{Decodes, DecodesToEof, EndsAfter, FailsToDecode, FailsToWrite, TakesBlocks, TooManySamples}
 use Rattle.claxon_write.specs.Run.{DecoderStops, HasFrameFault, IsHeadAndFrames, ReachesLimit, RunWritesAll, RunFaultIsComplete, RunIsComplete, StopsAfterFrames, RunStopsEarly, WritesPrefixOfSamples, WritesPrefixAtMost}
-use Rattle.claxon_write.specs.WriteSamples.{StreamFaultIsComplete, StreamIsComplete}
-use Rattle.claxon_write.specs.Written.{AppendsPrefix, IsFlushed, NothingFailed, writer_contents, pending}
+use Rattle.claxon_write.specs.WriteSamples.{EofAfterBlocks, FaultAfterBlocks, StreamFaultIsComplete, StreamIsComplete, flac_stream}
+use Rattle.claxon_write.specs.Written.{AppendsPrefix, NonePending, writer_contents, pending}
 use Rattle.claxon_write.specs.declared.output.Output.{Output}
 use Rattle.claxon_write.proofs.Puts.{prefix_all}
 
@@ -51,14 +50,14 @@ io_not_memory e i m = let q : is_io OutOfMemory ≡ true = subst IsIo m i in cc
 -- ---- after the head
 
 -- `x` is the output at the start, with nothing pending, and the writer has the contents `o`
-module _ {W : Type 0} (contents : W → Option (List ℕ)) (h : Head) (s a b : State ℕ) (o : Option (List ℕ)) (x y : Output W) (head : Consumed s a (HeadCode (with_samples true) h)) (is : writer_contents contents x ≡ o) (none : pending x ≡ []) where
+module _ {W : Type 0} (contents : W → Option (List ℕ)) (h : Head) (s a b : State ℕ) (o : Option (List ℕ)) (x y : Output W) (head : Consumed s a (HeadCode (with_samples true) h)) (is : writer_contents contents x ≡ o) (none : NonePending x) where
   input_is : (blocks : List Block) (rest : List ℕ) → s.known ≡ true → Frames (Some (stream_of h.info)) a.remaining blocks rest → IsHeadAndFrames s.remaining h blocks rest
   input_is blocks rest known f = let k = (head known).1 in record { prefix = k.0; frames = a.remaining; code = k.1; joined = k.2; blocks_are = f }
 
   all_written : {end : Option Error} {n : ℕ} (d : Decodes contents (Some (stream_of h.info)) end n a b x y) → Appends o (writer_contents contents y) (bytes_of_samples (samples_of d.blocks))
   all_written d = subst (λ (z : Option (List ℕ)). Appends z (writer_contents contents y) (bytes_of_samples (samples_of d.blocks))) is (nothing_pending (writer_contents contents x) (writer_contents contents y) (pending x) (bytes_of_samples (samples_of d.blocks)) none d.written)
 
-  pub ran : (r : Result ℕ Error) → IfOk r (λ n. Decodes contents (Some (stream_of h.info)) None n a b x y × NothingFailed x y × IsFlushed x y) → IfOk r (λ n. RunWritesAll n s o (writer_contents contents y))
+  pub ran : (r : Result ℕ Error) → IfOk r (λ n. DecodesToEof contents (Some (stream_of h.info)) n a b x y) → IfOk r (λ n. RunWritesAll n s o (writer_contents contents y))
   ran (Err e) d = tt
   ran (Ok n) d = record {
     blocks = d.0.blocks;
@@ -71,9 +70,6 @@ module _ {W : Type 0} (contents : W → Option (List ℕ)) (h : Head) (s a b : S
   }
 
   -- ---- an Err
-
-  abbrev Stopped : Error → Type 0
-  Stopped e = StopsDecoding contents (Some (stream_of h.info)) e a b x y ⊎ (FailsToWrite contents (Some (stream_of h.info)) e a b x y ⊎ FailsToFlushAll contents (Some (stream_of h.info)) e a b x y)
 
   module _ {e : Error} {n : ℕ} (d : Decodes contents (Some (stream_of h.info)) (Some e) n a b x y) where
     after_frames : (rest : List ℕ) → s.known ≡ true → Frames (Some (stream_of h.info)) a.remaining d.blocks rest → ReachesLimit h d.blocks e rest ⊎ HasFrameFault h e rest → StopsAfterFrames e s o (writer_contents contents y)
@@ -102,7 +98,7 @@ module _ {W : Type 0} (contents : W → Option (List ℕ)) (h : Head) (s a b : S
           | inr (inr bad) ↦ inr (inr (at_fault reads.between reads.blocks_are.consumed bad))
         ]
 
-  pub stopped : (r : Result ℕ Error) → IfErr r (λ e. Stopped e) → IfErr r (λ e. RunStopsEarly e s o (writer_contents contents y))
+  pub stopped : (r : Result ℕ Error) → IfErr r (λ e. FailsToDecode contents (Some (stream_of h.info)) e a b x y) → IfErr r (λ e. RunStopsEarly e s o (writer_contents contents y))
   stopped (Ok n) k = tt
   stopped (Err e) (inl k) = record { why = decoder_stops k.decoded }
   stopped (Err e) (inr (inl k)) = record { why = inr (inl k.is_io) }
@@ -126,7 +122,7 @@ module _ {W : Type 0} (contents : W → Option (List ℕ)) (h : Head) (s a b : S
         all = λ m. absurd (io_not_memory e k.is_io m);
       }
 
-  pub prefixes : (r : Result ℕ Error) → IfErr r (λ e. Stopped e) → IfErr r (λ e. WritesPrefixAtMost e s o (writer_contents contents y))
+  pub prefixes : (r : Result ℕ Error) → IfErr r (λ e. FailsToDecode contents (Some (stream_of h.info)) e a b x y) → IfErr r (λ e. WritesPrefixAtMost e s o (writer_contents contents y))
   prefixes (Ok n) k = tt
   prefixes (Err e) (inl k) = record { written = λ known. inr (prefix_whole e k.decoded known) }
   prefixes (Err e) (inr (inl k)) = record { written = λ known. inr (prefix_part e k known) }
@@ -159,44 +155,43 @@ module _ {R A : Type 0} (remaining : R → Option (List ℕ)) (reader : R) where
     not_opened : (h : Head) (t rest : List ℕ) → HeadCode (with_samples true) h t → Remains (unread (remaining reader)) (t ++ rest) → IsMemoryOrIoError (let q : Result ℕ Error = Err e in q)
     not_opened h t rest code remains = elim (opens h t rest code remains) [ inl p ↦ absurd p | inr d ↦ dropped_as e d ]
 
-    remains_joined : {xs : List ℕ} {h : Head} {blocks : List Block} {rest : List ℕ} (k : IsHeadAndFrames xs h blocks rest) → Remains (unread (remaining reader)) xs → Remains (unread (remaining reader)) (k.prefix ++ k.frames)
-    remains_joined k c = record { known = c.known; are = c.are ∙ k.joined }
+    pub not_opened_complete : RunIsComplete (Err e) (remaining reader)
+    not_opened_complete n s = inr (not_opened s.head s.input_is.prefix s.input_is.frames s.input_is.code (record { known = s.known; are = s.input_is.joined }))
 
-    pub not_opened_complete : RunIsComplete (Err e) (unread (remaining reader))
-    not_opened_complete h blocks xs rest remains k short few = inr (not_opened h k.prefix k.frames k.code (remains_joined k remains))
-
-    pub not_opened_fault_complete : OpenFaultIsComplete remaining (with_samples true) reader (let q : Result (FlacReader R A) Error = Err e in q) → RunFaultIsComplete (Err e) (unread (remaining reader))
-    not_opened_fault_complete names = record {
-      in_head = λ f t rest bad remains. elim (names f t rest bad remains) [ inl p ↦ inl p | inr d ↦ inr (dropped_as e d) ];
-      after_frames = λ h blocks xs t rest f remains k bad few. inr (not_opened h k.prefix k.frames k.code (remains_joined k remains));
-    }
+    pub not_opened_fault_complete : OpenFaultIsComplete remaining (with_samples true) reader (let q : Result (FlacReader R A) Error = Err e in q) → RunFaultIsComplete (Err e) (remaining reader)
+    not_opened_fault_complete names f (inl s) = elim (names f s.fault s.rest s.bad s.remains) [ inl p ↦ inl p | inr d ↦ inr (dropped_as e d) ]
+    not_opened_fault_complete names f (inr s) = inr (not_opened s.head s.input_is.prefix s.input_is.frames s.input_is.code (record { known = s.known; are = s.input_is.joined }))
 
   -- opening succeeded
   module _ {W : Type 0} (flac new : FlacReader R A) (r : Result ℕ Error) (x y : Output W) (opens : OpenIsComplete remaining (with_samples true) reader (let q : Result (FlacReader R A) Error = Ok flac in q)) where
     opened : (h : Head) (t rest : List ℕ) → HeadCode (with_samples true) h t → Remains (unread (remaining reader)) (t ++ rest) → (flac_head flac ≡ h) × Remains (flac_bytes remaining flac) rest
     opened h t rest code remains = elim (opens h t rest code remains) [ inl p ↦ p | inr d ↦ absurd (ok_kept flac d) ]
 
-    frames_of : (h : Head) (xs : List ℕ) (blocks : List Block) (rest : List ℕ) → flac_head flac ≡ h → Frames (Some (stream_of h.info)) xs blocks rest → Frames (Some (stream_with (flac_streaminfo flac))) xs blocks rest
-    frames_of h xs blocks rest e f = subst (λ (z : Head). Frames (Some (stream_of z.info)) xs blocks rest) (sym e) f
+    frames_here : (h : Head) (xs : List ℕ) (blocks : List Block) (rest : List ℕ) → (flac_head flac ≡ h) × Remains (flac_bytes remaining flac) xs → Frames (Some (stream_of h.info)) xs blocks rest → Frames (flac_stream flac) (flac_bytes remaining flac).remaining blocks rest
+    frames_here h xs blocks rest p f =
+        subst (λ (z : Head). Frames (Some (stream_of z.info)) (flac_bytes remaining flac).remaining blocks rest) (sym p.0)
+        (subst (λ (z : List ℕ). Frames (Some (stream_of h.info)) z blocks rest) (sym p.1.are) f)
 
-    pub opened_complete : StreamIsComplete remaining r flac new x y → RunIsComplete r (unread (remaining reader))
-    opened_complete written h blocks xs rest remains k short few =
-        let p = opened h k.prefix k.frames k.code (record { known = remains.known; are = remains.are ∙ k.joined }) in
-        elim (written blocks k.frames rest p.1 (frames_of h k.frames blocks rest p.0 k.blocks_are) short few) [
+    pub opened_complete : StreamIsComplete remaining r flac new x y → RunIsComplete r (remaining reader)
+    opened_complete written n s =
+        let k = s.input_is in
+        let p = opened s.head k.prefix k.frames k.code (record { known = s.known; are = k.joined }) in
+        let here : EofAfterBlocks (flac_stream flac) (flac_bytes remaining flac) n = record { blocks = s.blocks; rest = s.rest; known = p.1.known; frames = frames_here s.head k.frames s.blocks s.rest p k.blocks_are; eof = s.eof; count = s.count; few = s.few } in
+        elim (written n here) [
           | inl e ↦ inl e
           | inr (inl z) ↦ inr (dropped_excused r (flac_bytes remaining flac) (flac_bytes remaining new) z)
           | inr (inr z) ↦ inr (inr z.0)
         ]
 
-    pub opened_fault_complete : StreamFaultIsComplete remaining r flac new x y → OpenFaultIsComplete remaining (with_samples true) reader (let q : Result (FlacReader R A) Error = Ok flac in q) → RunFaultIsComplete r (unread (remaining reader))
-    opened_fault_complete named names = record {
-      in_head = λ f t rest bad remains. elim (names f t rest bad remains) [ inl p ↦ absurd p | inr d ↦ absurd (ok_kept flac d) ];
-      after_frames = λ h blocks xs t rest f remains k bad few.
-          let p = opened h k.prefix k.frames k.code (record { known = remains.known; are = remains.are ∙ k.joined }) in
-          let bad_here : FrameBytesFault (Some (stream_with (flac_streaminfo flac))) f t = subst (λ (z : Head). FrameBytesFault (Some (stream_of z.info)) f t) (sym p.0) bad in
-          elim (named blocks k.frames t rest f p.1 (frames_of h k.frames blocks (t ++ rest) p.0 k.blocks_are) bad_here few) [
-            | inl e ↦ inl e
-            | inr (inl z) ↦ inr (dropped_excused r (flac_bytes remaining flac) (flac_bytes remaining new) z)
-            | inr (inr z) ↦ inr (inr z.0)
-          ];
-    }
+    pub opened_fault_complete : StreamFaultIsComplete remaining r flac new x y → OpenFaultIsComplete remaining (with_samples true) reader (let q : Result (FlacReader R A) Error = Ok flac in q) → RunFaultIsComplete r (remaining reader)
+    opened_fault_complete named names f (inl s) = elim (names f s.fault s.rest s.bad s.remains) [ inl p ↦ absurd p | inr d ↦ absurd (ok_kept flac d) ]
+    opened_fault_complete named names f (inr s) =
+        let k = s.input_is in
+        let p = opened s.head k.prefix k.frames k.code (record { known = s.known; are = k.joined }) in
+        let bad : FrameBytesFault (flac_stream flac) f s.fault = subst (λ (z : Head). FrameBytesFault (Some (stream_of z.info)) f s.fault) (sym p.0) s.bad in
+        let here : FaultAfterBlocks (flac_stream flac) (flac_bytes remaining flac) f = record { blocks = s.blocks; fault = s.fault; rest = s.rest; known = p.1.known; frames = frames_here s.head k.frames s.blocks (s.fault ++ s.rest) p k.blocks_are; bad = bad; few = s.few } in
+        elim (named f here) [
+          | inl e ↦ inl e
+          | inr (inl z) ↦ inr (dropped_excused r (flac_bytes remaining flac) (flac_bytes remaining new) z)
+          | inr (inr z) ↦ inr (inr z.0)
+        ]

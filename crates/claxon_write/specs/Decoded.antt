@@ -9,7 +9,8 @@ use Rattle.claxon.specs.Errors.{Error}
 use Rattle.claxon.specs.Errors.TheVariants.{Unsupported}
 use Rattle.claxon.specs.SampleRuns.{ReadsFrames, ConsumesFrames, samples_of}
 use Rattle.claxon_write.specs.SampleBytes.{bytes_of_samples}
-use Rattle.claxon_write.specs.Written.{AppendsAllBut, FlushFailed, IsFlushed, IsUnflushed, NothingFailed, Puts, WriteFailed, capacity, writer_contents, contents_with_pending, pending}
+use Rattle.claxon_write.specs.Capacity.{capacity}
+use Rattle.claxon_write.specs.Written.{AppendsAllBut, FlushFailed, IsFlushed, IsUnflushed, NonePending, NothingFailed, Puts, WriteFailed, writer_contents, contents_with_pending, pending}
 use Rattle.claxon_write.specs.declared.output.Output.{Output}
 
 -- The error says that there are 2^64 samples or more.
@@ -48,7 +49,7 @@ pub record Decodes {W : Type 0} (contents : W → Option (List ℕ)) (stream : O
   pub count : n ≡ length (samples_of blocks)
   pub written : Appends (contents_with_pending contents before) (writer_contents contents after)
       (bytes_of_samples (samples_of blocks))
-  pub none_pending : pending after ≡ []
+  pub none_pending : NonePending after
 
 -- Only the frames of these blocks were consumed, or also the end or the fault after them.
 abbrev pub TakesBlocks : Option StreamFormat → List Block → State ℕ → State ℕ → Type 0
@@ -74,7 +75,7 @@ pub record FailsToWrite {W : Type 0} (contents : W → Option (List ℕ)) (strea
   pub takes : TakesBlocks stream blocks old new
   pub prefix : AppendsAllBut (capacity + last_bytes blocks) (writer_contents contents before)
       (writer_contents contents after) (pending before ++ bytes_of_samples (samples_of blocks))
-  pub none_pending : pending after ≡ []
+  pub none_pending : NonePending after
 
 -- The stream ended and all its samples were written, and then the one flush failed, which was counted.
 pub record FailsToFlushAll {W : Type 0} (contents : W → Option (List ℕ))
@@ -95,6 +96,21 @@ pub record StopsDecoding {W : Type 0} (contents : W → Option (List ℕ))
   pub decoded : Decodes contents stream (Some error) count old new before after
   pub flushed : IsFlushed before after
   pub failed : NothingFailed before after ⊎ FlushFailed before after
+
+-- The stream ended, exactly its n samples were written and then flushed, and nothing failed.
+abbrev pub DecodesToEof : {W : Type 0} → (W → Option (List ℕ)) → Option StreamFormat → ℕ
+    → State ℕ → State ℕ → Output W → Output W → Type 0
+DecodesToEof contents stream n old new before after =
+    Decodes contents stream None n old new before after × NothingFailed before after
+    × IsFlushed before after
+
+-- The decoder stopped, a write failed, or the stream ended and the flush failed.
+abbrev pub FailsToDecode : {W : Type 0} → (W → Option (List ℕ)) → Option StreamFormat → Error
+    → State ℕ → State ℕ → Output W → Output W → Type 0
+FailsToDecode contents stream error old new before after =
+    StopsDecoding contents stream error old new before after
+    ⊎ (FailsToWrite contents stream error old new before after
+    ⊎ FailsToFlushAll contents stream error old new before after)
 
 -- The result is an `IoError`, and a write failed, which was counted.
 abbrev pub WriteHasFailed : {A W : Type 0} → Result A Error → Output W → Output W → Type 0

@@ -1,6 +1,8 @@
+pub mod Capacity
 pub mod InnerWriter
 pub mod Written
 pub mod Decoded
+pub mod CountingWriter
 pub mod Output
 pub mod WriteBlocks
 pub mod WriteSamples

@@ -1,26 +1,23 @@
 -- The clauses of the methods of `Output`.
-use Rattle.std.specs.Prelude.{ℕ, ◌<◌, ◌≤◌, ◌⊎◌, List, [], length, take, Option, Result, IfErr, IfOk, OnErr, OnOk}
-use Rattle.std.specs.Io.KnownBytes.{Appends}
+use Rattle.std.specs.Borrow.{MutBor}
+use Rattle.std.specs.Prelude.{◌≡◌, ℕ, ◌⊎◌, List, [], Option, Result, IfErr, OnOk}
 use Rattle.claxon.specs.Streams.{interleave}
 use Rattle.claxon.specs.Block.{BlockValue}
 use Rattle.claxon.specs.Errors.{Error}
 use Rattle.claxon_write.specs.SampleBytes.{bytes_of_samples}
-use Rattle.claxon_write.specs.Written.{AppendsPrefix, FailsToFlush, FailsToPut, IsFlushed, IsUnflushed, Puts}
-use Rattle.claxon_write.specs.declared.output.CountingWriter.{CountingWriter}
+use Rattle.claxon_write.specs.InnerWriter.{output_name}
+use Rattle.claxon_write.specs.Written.{FailsToFlush, FailsToPut, IsFlushed, IsUnflushed, NonePending, Puts, failed_flushes_of, failed_writes_of, flushes_of, writer_contents}
 use Rattle.claxon_write.specs.declared.output.Output.{Output}
 
--- An Ok is the number of bytes that were written, at least one.
-abbrev pub WritesSome : {W : Type 0} → (W → Option (List ℕ)) → List ℕ → Result ℕ Error
-    → CountingWriter W → CountingWriter W → Type 0
-WritesSome contents bytes r old new =
-    IfOk r (λ n. (0 < n) × (n ≤ length bytes)
-    × Appends (contents old.inner.now) (contents new.inner.now) (take n bytes))
-
--- An Err wrote a prefix of these bytes.
-abbrev pub WritesPrefix : {W : Type 0} → (W → Option (List ℕ)) → List ℕ → Result (Unit {0}) Error
-    → CountingWriter W → CountingWriter W → Type 0
-WritesPrefix contents bytes r old new =
-    OnErr r (AppendsPrefix (contents old.inner.now) (contents new.inner.now) bytes)
+-- The output borrows this writer, whose contents are the same. No bytes are pending, and all counts are 0.
+pub record IsNewOutput {W : Type 0} (contents : W → Option (List ℕ)) (inner : MutBor W)
+    (o : Output W) : Type 0 where
+  pub same_reference : output_name o ≡ inner.ghost_name
+  pub contents_are : writer_contents contents o ≡ contents inner.now
+  pub none_pending : NonePending o
+  pub failed_writes : failed_writes_of o ≡ 0
+  pub failed_flushes : failed_flushes_of o ≡ 0
+  pub flushes : flushes_of o ≡ 0
 
 -- An Ok put these bytes after all earlier ones.
 abbrev pub PutIsSound : {W : Type 0} → (W → Option (List ℕ)) → List ℕ → Result (Unit {0}) Error

@@ -1,4 +1,4 @@
--- The clauses of `run`, about its input and the contents of the writer before and after.
+-- The clauses of `run`, about the bytes of its input, where they are known, and the contents of the writer before and after.
 use Rattle.std.specs.Prelude.{◌≡◌, ◌⊎◌, ◌<◌, ◌≤◌, ℕ, ◌^◌, true, List, [], ◌∷◌, ◌++◌, length, Option, Some, Result, Ok, IfErr, IfOk, IsErrAnd}
 use Rattle.std.specs.Io.KnownBytes.{Appends}
 use Rattle.claxon.specs.Fault.{Fault}
@@ -10,7 +10,7 @@ use Rattle.claxon.specs.Error.{IsFault, IsIo}
 use Rattle.claxon.specs.Promises.{Remains}
 use Rattle.claxon.specs.Errors.{Error}
 use Rattle.claxon.specs.Errors.TheVariants.{OutOfMemory}
-use Rattle.claxon.specs.Opening.{IsMemoryOrIoError}
+use Rattle.claxon.specs.Opening.{IsMemoryOrIoError, unread}
 use Rattle.claxon.specs.SampleRuns.{samples_of}
 use Rattle.claxon_write.specs.Decoded.{IsLimit}
 use Rattle.claxon_write.specs.Written.{AppendsPrefix}
@@ -36,9 +36,10 @@ pub record RunWritesAll (n : ℕ) (s : State ℕ) (old new : Option (List ℕ)) 
       × IsHeadAndFrames s.remaining head blocks rest × (length rest < 2)
 
 -- An Ok is the number of samples: the input was a whole stream, and exactly its samples were written.
-abbrev pub RunIsSound : {W : Type 0} → (W → Option (List ℕ)) → Result ℕ Error → State ℕ → W → W
-    → Type 0
-RunIsSound contents r s old new = IfOk r (λ n. RunWritesAll n s (contents old) (contents new))
+abbrev pub RunIsSound : {W : Type 0} → (W → Option (List ℕ)) → Result ℕ Error → Option (List ℕ) → W
+    → W → Type 0
+RunIsSound contents r input old new =
+    IfOk r (λ n. RunWritesAll n (unread input) (contents old) (contents new))
 
 -- ---- an Err
 
@@ -93,10 +94,10 @@ pub record RunStopsEarly (error : Error) (s : State ℕ) (old new : Option (List
 
 -- An Err other than `OutOfMemory` and `IoError` is the decoder's: the input has that fault, and exactly the samples before it
 -- were written.
-abbrev pub RunFaultIsSound : {W : Type 0} → (W → Option (List ℕ)) → Result ℕ Error → State ℕ → W → W
-    → Type 0
-RunFaultIsSound contents r s old new =
-    IfErr r (λ error. RunStopsEarly error s (contents old) (contents new))
+abbrev pub RunFaultIsSound : {W : Type 0} → (W → Option (List ℕ)) → Result ℕ Error
+    → Option (List ℕ) → W → W → Type 0
+RunFaultIsSound contents r input old new =
+    IfErr r (λ error. RunStopsEarly error (unread input) (contents old) (contents new))
 
 -- The input is a head, the frames of these blocks and a rest. A prefix of the bytes of their samples was written, and all of
 -- them if the error is `OutOfMemory`.
@@ -115,26 +116,49 @@ pub record WritesPrefixAtMost (error : Error) (s : State ℕ)
   pub written : s.known ≡ true → (new ≡ old) ⊎ WritesPrefixOfSamples error s old new
 
 -- Whatever the Err, only a prefix of the samples of blocks whose frames follow the head was written.
-abbrev pub RunWritesPrefix : {W : Type 0} → (W → Option (List ℕ)) → Result ℕ Error → State ℕ → W → W
-    → Type 0
-RunWritesPrefix contents r s old new =
-    IfErr r (λ error. WritesPrefixAtMost error s (contents old) (contents new))
+abbrev pub RunWritesPrefix : {W : Type 0} → (W → Option (List ℕ)) → Result ℕ Error
+    → Option (List ℕ) → W → W → Type 0
+RunWritesPrefix contents r input old new =
+    IfErr r (λ error. WritesPrefixAtMost error (unread input) (contents old) (contents new))
 
 -- ---- completeness
 
--- For a head, the frames of blocks with fewer than 2^64 samples in all, and then fewer than two bytes, the result is the
--- number of samples, or `OutOfMemory` or an `IoError`.
-abbrev pub RunIsComplete : Result ℕ Error → State ℕ → Type 0
-RunIsComplete r s =
-    (head : Head) (blocks : List Block) (xs rest : List ℕ) → Remains s xs
-    → IsHeadAndFrames xs head blocks rest → length rest < 2 → length (samples_of blocks) < 2 ^ 64
-    → (r ≡ Ok (length (samples_of blocks))) ⊎ IsMemoryOrIoError r
+-- The input is a head, the frames of blocks with n samples in all, fewer than 2^64, and then fewer than two bytes.
+pub record EofAfterHeadAndBlocks (s : State ℕ) (n : ℕ) : Type 0 where
+  pub head : Head
+  pub blocks : List Block
+  pub rest : List ℕ
+  pub known : s.known ≡ true
+  pub input_is : IsHeadAndFrames s.remaining head blocks rest
+  pub eof : length rest < 2
+  pub count : n ≡ length (samples_of blocks)
+  pub few : length (samples_of blocks) < 2 ^ 64
 
--- A fault in the head, or after the frames of such blocks, is the result, or it is `OutOfMemory` or an `IoError`.
-pub record RunFaultIsComplete (r : Result ℕ Error) (s : State ℕ) : Type 0 where
-  pub in_head : (f : Fault) (t rest : List ℕ) → HeadFault (with_samples true) f t
-      → Remains s (t ++ rest) → IsErrAnd r (IsFault f) ⊎ IsMemoryOrIoError r
-  pub after_frames : (head : Head) (blocks : List Block) (xs t rest : List ℕ) (f : Fault)
-      → Remains s xs → IsHeadAndFrames xs head blocks (t ++ rest)
-      → FrameBytesFault (Some (stream_of head.info)) f t → length (samples_of blocks) < 2 ^ 64
-      → IsErrAnd r (IsFault f) ⊎ IsMemoryOrIoError r
+-- The input begins with this fault of a head.
+pub record FaultInHead (s : State ℕ) (f : Fault) : Type 0 where
+  pub fault : List ℕ
+  pub rest : List ℕ
+  pub bad : HeadFault (with_samples true) f fault
+  pub remains : Remains s (fault ++ rest)
+
+-- The input is a head, the frames of blocks with fewer than 2^64 samples in all, and then this fault of a frame.
+pub record FaultAfterHeadAndBlocks (s : State ℕ) (f : Fault) : Type 0 where
+  pub head : Head
+  pub blocks : List Block
+  pub fault : List ℕ
+  pub rest : List ℕ
+  pub known : s.known ≡ true
+  pub input_is : IsHeadAndFrames s.remaining head blocks (fault ++ rest)
+  pub bad : FrameBytesFault (Some (stream_of head.info)) f fault
+  pub few : length (samples_of blocks) < 2 ^ 64
+
+-- If the input is a stream of n samples, the result is n, or `OutOfMemory` or an `IoError`.
+abbrev pub RunIsComplete : Result ℕ Error → Option (List ℕ) → Type 0
+RunIsComplete r input =
+    (n : ℕ) → EofAfterHeadAndBlocks (unread input) n → (r ≡ Ok n) ⊎ IsMemoryOrIoError r
+
+-- A fault of the head, or of a frame after it, is the result, or it is `OutOfMemory` or an `IoError`.
+abbrev pub RunFaultIsComplete : Result ℕ Error → Option (List ℕ) → Type 0
+RunFaultIsComplete r input =
+    (f : Fault) → FaultInHead (unread input) f ⊎ FaultAfterHeadAndBlocks (unread input) f
+    → IsErrAnd r (IsFault f) ⊎ IsMemoryOrIoError r

@@ -1,8 +1,9 @@
 -- The bytes that an `Output` wrote, and those pending in it.
 use Rattle.std.specs.Prelude.{◌≡◌, ◌≤◌, ℕ, ◌+◌, ◌%◌, ◌^◌, Bool, true, List, [], ◌++◌, length, take, Option}
-use Rattle.std.specs.Io.KnownBytes.{Appends, append_known}
+use Rattle.std.specs.Io.KnownBytes.{Appends, Keeps, append_known}
 use Rattle.claxon.specs.Error.{IsIo}
 use Rattle.claxon.specs.Errors.{Error}
+use Rattle.claxon_write.specs.Capacity.{capacity}
 use Rattle.claxon_write.specs.declared.output.Gathered.{Gathered}
 use Rattle.claxon_write.specs.declared.output.Output.{Output}
 
@@ -13,9 +14,9 @@ pending_in g = take g.used g.bytes
 abbrev pub pending : {W : Type 0} → Output W → List ℕ
 pending o = pending_in o.gathered
 
--- how many bytes are pending
-abbrev pub pending_count : {W : Type 0} → Output W → ℕ
-pending_count o = o.gathered.used
+-- No bytes are pending.
+abbrev pub NonePending : {W : Type 0} → Output W → Type 0
+NonePending o = pending o ≡ []
 
 -- the number of failed writes, modulo 2^64, as the next two
 abbrev pub failed_writes_of : {W : Type 0} → Output W → ℕ
@@ -61,6 +62,11 @@ pub record IsFlushed {W : Type 0} (old new : Output W) : Type 0 where
 abbrev pub writer_contents : {W : Type 0} → (W → Option (List ℕ)) → Output W → Option (List ℕ)
 writer_contents contents o = contents o.writer.inner.now
 
+-- The contents of the writer stay the same.
+abbrev pub KeepsContents : {W : Type 0} → (W → Option (List ℕ)) → Output W → Output W → Type 0
+KeepsContents contents old new =
+    Keeps (writer_contents contents old) (writer_contents contents new)
+
 -- the contents of the writer, followed by the pending bytes
 abbrev pub contents_with_pending : {W : Type 0} → (W → Option (List ℕ)) → Output W → Option (List ℕ)
 contents_with_pending contents o = append_known (writer_contents contents o) (pending o)
@@ -72,10 +78,6 @@ AppendsPrefix old new bytes = (k : ℕ) × Appends old new (take k bytes)
 -- A prefix of these bytes was added, and at most n of them are missing.
 abbrev pub AppendsAllBut : ℕ → Option (List ℕ) → Option (List ℕ) → List ℕ → Type 0
 AppendsAllBut n old new bytes = (k : ℕ) × Appends old new (take k bytes) × (length bytes ≤ k + n)
-
--- at most this many bytes are pending
-abbrev pub capacity : ℕ
-capacity = 16384
 
 -- These bytes were written after the pending ones, or are pending after them, and nothing failed.
 pub record Puts {W : Type 0} (contents : W → Option (List ℕ)) (bytes : List ℕ)
@@ -94,7 +96,7 @@ pub record FailsToPut {W : Type 0} (contents : W → Option (List ℕ)) (bytes :
   pub failed : WriteFailed old new
   pub prefix : AppendsAllBut (capacity + length bytes) (writer_contents contents old)
       (writer_contents contents new) (pending old ++ bytes)
-  pub none_pending : pending new ≡ []
+  pub none_pending : NonePending new
 
 -- The flush failed, which was counted, after all pending bytes were written.
 pub record FailsToFlush {W : Type 0} (contents : W → Option (List ℕ)) (error : Error)
@@ -103,4 +105,4 @@ pub record FailsToFlush {W : Type 0} (contents : W → Option (List ℕ)) (error
   pub failed : FlushFailed old new
   pub flushed : IsFlushed old new
   pub written : Appends (contents_with_pending contents old) (writer_contents contents new) []
-  pub none_pending : pending new ≡ []
+  pub none_pending : NonePending new

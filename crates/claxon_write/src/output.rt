@@ -3,6 +3,7 @@ ghost use Rattle.std.specs.Prelude.{◌≡◌, ◌≤◌, ◌<◌, ◌+◌, ◌*
 ghost use Rattle.std.specs.Io.KnownBytes.{Appends, Keeps};
 ghost use Rattle.claxon.specs.Error.{IsIo};
 ghost use Rattle.claxon.specs.Block.{duration_of};
+ghost use Rattle.claxon_write.specs.Capacity.{capacity};
 ghost use Rattle.claxon_write.specs.SampleBytes.{bytes_between};
 
 use crate::bytes::{put_channel, put_mono, put_stereo};
@@ -11,6 +12,7 @@ use std::alloc::Allocator;
 use std::io;
 use std::io::{ErrorKind, Write};
 
+// The most bytes that are pending.
 const CAPACITY: usize = 16384;
 
 // The most samples per channel that fit in the buffer, for eight channels.
@@ -41,7 +43,7 @@ impl<'w, W> Drop for CountingWriter<'w, W> {
 }
 
 impl<'w, W: Write> CountingWriter<'w, W> {
-    ghost use Rattle.claxon_write.specs.Output.{WritesPrefix, WritesSome};
+    ghost use Rattle.claxon_write.specs.CountingWriter.{CountsFailedFlush, CountsFailedWrite, KeepsInner, WritesAll, WritesPrefix, WritesSome};
 
     fn into_inner(self) -> &'w mut W
         ensures same_reference { result.ghost_name ≡ self.entry.inner.ghost_name }
@@ -62,12 +64,10 @@ impl<'w, W: Write> CountingWriter<'w, W> {
         requires some { 0 < length bytes.now }
         ensures same_reference { self.new.inner.ghost_name ≡ self.old.inner.ghost_name }
         ensures ok { WritesSome W.contents bytes.now result self.old self.new }
-        ensures kept { OnErr result (Keeps (W.contents self.old.inner.now)
-            (W.contents self.new.inner.now)) }
+        ensures kept { OnErr result (KeepsInner W.contents self.old self.new) }
         ensures io { IfErr result (λ error. IsIo error) }
         ensures succeeded { OnOk result (self.new.failed_writes ≡ self.old.failed_writes) }
-        ensures failed { OnErr result (self.new.failed_writes
-            ≡ (self.old.failed_writes + 1) % 2 ^ 64) }
+        ensures failed { OnErr result (CountsFailedWrite self.old self.new) }
         ensures failed_flushes { self.new.failed_flushes ≡ self.old.failed_flushes }
         ensures flushes { self.new.flushes ≡ self.old.flushes }
         ensures not_flushed { self.new.is_flushed ≡ false }
@@ -89,13 +89,11 @@ impl<'w, W: Write> CountingWriter<'w, W> {
     // Writes all of the bytes. `Interrupted` is a failure too.
     fn write_whole(&mut self, bytes: &[u8]) -> Result<()>
         ensures same_reference { self.new.inner.ghost_name ≡ self.old.inner.ghost_name }
-        ensures ok { OnOk result (Appends (W.contents self.old.inner.now)
-            (W.contents self.new.inner.now) bytes.now) }
+        ensures ok { WritesAll W.contents bytes.now result self.old self.new }
         ensures prefix { WritesPrefix W.contents bytes.now result self.old self.new }
         ensures io { IfErr result (λ error. IsIo error) }
         ensures succeeded { OnOk result (self.new.failed_writes ≡ self.old.failed_writes) }
-        ensures failed { OnErr result (self.new.failed_writes
-            ≡ (self.old.failed_writes + 1) % 2 ^ 64) }
+        ensures failed { OnErr result (CountsFailedWrite self.old self.new) }
         ensures failed_flushes { self.new.failed_flushes ≡ self.old.failed_flushes }
         ensures flushes { self.new.flushes ≡ self.old.flushes }
     {
@@ -109,12 +107,11 @@ impl<'w, W: Write> CountingWriter<'w, W> {
     // The only call of the writer's `flush`.
     fn flush(&mut self) -> Result<()>
         ensures same_reference { self.new.inner.ghost_name ≡ self.old.inner.ghost_name }
-        ensures kept { Keeps (W.contents self.old.inner.now) (W.contents self.new.inner.now) }
+        ensures kept { KeepsInner W.contents self.old self.new }
         ensures io { IfErr result (λ error. IsIo error) }
         ensures failed_writes { self.new.failed_writes ≡ self.old.failed_writes }
         ensures succeeded { OnOk result (self.new.failed_flushes ≡ self.old.failed_flushes) }
-        ensures failed { OnErr result (self.new.failed_flushes
-            ≡ (self.old.failed_flushes + 1) % 2 ^ 64) }
+        ensures failed { OnErr result (CountsFailedFlush self.old self.new) }
         ensures flushes { self.new.flushes ≡ (self.old.flushes + 1) % 2 ^ 64 }
         ensures flushed { self.new.is_flushed ≡ true }
     {
@@ -134,9 +131,9 @@ impl<'w, W: Write> CountingWriter<'w, W> {
 #[derive(Drop)]
 struct Gathered {
     // The first `used` bytes are pending.
-    bytes: [u8; 16384],
+    bytes: [u8; CAPACITY],
     used: usize,
-    ghost in_bounds: { used ≤ 16384 },
+    ghost in_bounds: { used ≤ capacity },
 }
 
 impl Gathered {
@@ -144,14 +141,14 @@ impl Gathered {
 
     fn pending(&self) -> &[u8]
         ensures value { result.now ≡ pending_in self.now }
-        ensures few { length result.now ≤ 16384 }
+        ensures few { length result.now ≤ capacity }
     {
         &self.bytes[..self.used]
     }
 
     // Adds as many of the bytes as fit, and returns their number.
     fn add_prefix(&mut self, bytes: &[u8]) -> usize
-        requires not_full { self.old.used < 16384 }
+        requires not_full { length (pending_in self.old) < capacity }
         requires some { 0 < length bytes.now }
         ensures some { 0 < result }
         ensures most { result ≤ length bytes.now }
@@ -168,7 +165,7 @@ impl Gathered {
         requires order { from ≤ to }
         requires in_block { to ≤ duration_of block.now.channels }
         requires size { size ≡ (to - from) * (4 * length block.now.channels) }
-        requires fits { self.old.used + size ≤ 16384 }
+        requires fits { length (pending_in self.old) + size ≤ capacity }
         ensures added { pending_in self.new ≡ pending_in self.old
             ++ bytes_between block.now.channels from to }
     {
@@ -186,18 +183,13 @@ pub struct Output<'w, W> {
 }
 
 impl<'w, W: Write> Output<'w, W> {
-    ghost use Rattle.claxon_write.specs.InnerWriter.{output_name, output_writer};
-    ghost use Rattle.claxon_write.specs.Output.{FlushFaultIsSound, FlushIsSound, PutIsSound, PutFaultIsSound, block_bytes};
-    ghost use Rattle.claxon_write.specs.Written.{IsFlushed, IsUnflushed, failed_flushes_of, failed_writes_of, flushes_of, writer_contents, pending, pending_count};
+    ghost use Rattle.claxon_write.specs.InnerWriter.{IsWriterOf, SameWriter};
+    ghost use Rattle.claxon_write.specs.Output.{FlushFaultIsSound, FlushIsSound, IsNewOutput, PutFaultIsSound, PutIsSound, block_bytes};
+    ghost use Rattle.claxon_write.specs.Written.{FlushFailed, IsFlushed, IsUnflushed, KeepsContents, NonePending, NothingFailed, pending};
 
     /// Borrows the writer. No bytes are gathered yet, and all counts are 0.
     pub fn new(inner: &'w mut W) -> Output<'w, W>
-        ensures same_reference { output_name result ≡ inner.entry.ghost_name }
-        ensures writer_contents { writer_contents W.contents result ≡ W.contents inner.old }
-        ensures none_pending { pending result ≡ [] }
-        ensures failed_writes { failed_writes_of result ≡ 0 }
-        ensures failed_flushes { failed_flushes_of result ≡ 0 }
-        ensures flushes { flushes_of result ≡ 0 }
+        ensures { IsNewOutput W.contents inner.entry result }
     {
         Output {
             writer: CountingWriter {
@@ -208,7 +200,7 @@ impl<'w, W: Write> Output<'w, W> {
                 is_flushed: false,
             },
             gathered: Gathered {
-                bytes: [0; 16384],
+                bytes: [0; CAPACITY],
                 used: 0,
             },
         }
@@ -216,8 +208,7 @@ impl<'w, W: Write> Output<'w, W> {
 
     /// Returns the writer. Bytes that were gathered and not written are lost.
     pub fn into_inner(self) -> &'w mut W
-        ensures same_reference { result.ghost_name ≡ output_name self.entry }
-        ensures writer { result.now ≡ output_writer self.entry }
+        ensures { IsWriterOf self.entry result }
     {
         let Output {
             writer,
@@ -233,9 +224,8 @@ impl<'w, W: Write> Output<'w, W> {
     /// An `IoError` if a write fails, or writes nothing. Then a prefix of the gathered bytes was written, and the others are
     /// lost.
     pub fn write_gathered(&mut self) -> Result<()>
-        ensures same_reference { output_name self.new ≡ output_name self.old }
-        ensures none_pending { pending self.new ≡ [] }
-        ensures none { pending_count self.new ≡ 0 }
+        ensures same_reference { SameWriter self.old self.new }
+        ensures none_pending { NonePending self.new }
         ensures unflushed { IsUnflushed self.old self.new }
         ensures ok { PutIsSound W.contents [] result self.old self.new }
         ensures err { PutFaultIsSound W.contents [] result self.old self.new }
@@ -247,15 +237,12 @@ impl<'w, W: Write> Output<'w, W> {
 
     // Flushes the writer. Pending bytes stay pending.
     pub(crate) fn flush_writer(&mut self) -> Result<()>
-        ensures same_reference { output_name self.new ≡ output_name self.old }
+        ensures same_reference { SameWriter self.old self.new }
         ensures pending { pending self.new ≡ pending self.old }
-        ensures kept { Keeps (writer_contents W.contents self.old)
-            (writer_contents W.contents self.new) }
+        ensures kept { KeepsContents W.contents self.old self.new }
         ensures io { IfErr result (λ error. IsIo error) }
-        ensures failed_writes { failed_writes_of self.new ≡ failed_writes_of self.old }
-        ensures succeeded { OnOk result (failed_flushes_of self.new ≡ failed_flushes_of self.old) }
-        ensures failed { OnErr result (failed_flushes_of self.new
-            ≡ (failed_flushes_of self.old + 1) % 2 ^ 64) }
+        ensures succeeded { OnOk result (NothingFailed self.old self.new) }
+        ensures failed { OnErr result (FlushFailed self.old self.new) }
         ensures flushed { IsFlushed self.old self.new }
     {
         self.writer.flush()
@@ -267,8 +254,8 @@ impl<'w, W: Write> Output<'w, W> {
     ///
     /// Those of `write_gathered`, without a flush; or an `IoError` if the flush fails, after all bytes were written.
     pub fn flush(&mut self) -> Result<()>
-        ensures same_reference { output_name self.new ≡ output_name self.old }
-        ensures none_pending { pending self.new ≡ [] }
+        ensures same_reference { SameWriter self.old self.new }
+        ensures none_pending { NonePending self.new }
         ensures ok { FlushIsSound W.contents result self.old self.new }
         ensures err { FlushFaultIsSound W.contents result self.old self.new }
     {
@@ -278,9 +265,9 @@ impl<'w, W: Write> Output<'w, W> {
 
     // Writes the gathered bytes if `size` more would not fit.
     fn reserve(&mut self, size: usize) -> Result<()>
-        requires { size ≤ 16384 }
-        ensures same_reference { output_name self.new ≡ output_name self.old }
-        ensures fits { OnOk result (self.new.gathered.used + size ≤ 16384) }
+        requires { size ≤ capacity }
+        ensures same_reference { SameWriter self.old self.new }
+        ensures fits { OnOk result (length (pending self.new) + size ≤ capacity) }
         ensures unflushed { IsUnflushed self.old self.new }
         ensures ok { PutIsSound W.contents [] result self.old self.new }
         ensures err { PutFaultIsSound W.contents [] result self.old self.new }
@@ -297,7 +284,7 @@ impl<'w, W: Write> Output<'w, W> {
     ///
     /// Those of `write_gathered`.
     pub fn put(&mut self, bytes: &[u8]) -> Result<()>
-        ensures same_reference { output_name self.new ≡ output_name self.old }
+        ensures same_reference { SameWriter self.old self.new }
         ensures unflushed { IsUnflushed self.old self.new }
         ensures ok { PutIsSound W.contents bytes.now result self.old self.new }
         ensures err { PutFaultIsSound W.contents bytes.now result self.old self.new }
@@ -317,7 +304,7 @@ impl<'w, W: Write> Output<'w, W> {
     /// Those of `write_gathered`.
     #[tactic(auto, using(crate::proofs::BufferBounds::bytes_fit))]
     pub fn put_block<A: Allocator>(&mut self, block: &Block<A>) -> Result<()>
-        ensures same_reference { output_name self.new ≡ output_name self.old }
+        ensures same_reference { SameWriter self.old self.new }
         ensures unflushed { IsUnflushed self.old self.new }
         ensures ok { PutIsSound W.contents (block_bytes block.now) result self.old self.new }
         ensures err { PutFaultIsSound W.contents (block_bytes block.now) result self.old self.new }

@@ -3,8 +3,7 @@ ghost use Rattle.std.specs.Prelude.{◌≡◌, ◌≤◌, false, Some};
 ghost use Rattle.claxon.specs.Frame.{IsWidth};
 ghost use Rattle.claxon.specs.FlacReader.{flac_metadata_only, flac_streaminfo};
 ghost use Rattle.claxon.specs.FrameReader.{frame_bytes};
-ghost use Rattle.claxon.specs.Opening.{unread};
-ghost use Rattle.claxon_write.specs.InnerWriter.{output_name};
+ghost use Rattle.claxon_write.specs.InnerWriter.{SameWriter};
 ghost use Rattle.claxon_write.specs.Run.{RunFaultIsComplete, RunIsComplete, RunFaultIsSound, RunWritesPrefix, RunIsSound};
 ghost use Rattle.claxon_write.specs.WriteBlocks.{GatherBlocksFaultIsSound, WriteBlocksFaultIsSound, GatherBlocksIsSound, WriteBlocksIsSound};
 ghost use Rattle.claxon_write.specs.WriteSamples.{StreamFaultIsComplete, StreamIsComplete, StreamLeavesRest, KeepsHead, StreamIsSound, StreamFaultIsSound};
@@ -34,15 +33,13 @@ pub fn run<R: Read + Drop, W: Write, A: Allocator + Copy>(
     output: &mut W,
 ) -> Result<u64>
     // The input is a head, frames and fewer than two bytes, and exactly the samples of these frames were written.
-    ensures ok { RunIsSound W.contents result (unread (R.remaining input)) output.old output.new }
+    ensures ok { RunIsSound W.contents result (R.remaining input) output.old output.new }
     // The input has that fault, and exactly the samples before it were written; else it is an `IoError` or `OutOfMemory`.
-    ensures err { RunFaultIsSound W.contents result
-        (unread (R.remaining input)) output.old output.new }
+    ensures err { RunFaultIsSound W.contents result (R.remaining input) output.old output.new }
     // Holds after an `IoError` or `OutOfMemory` too.
-    ensures prefix { RunWritesPrefix W.contents result
-        (unread (R.remaining input)) output.old output.new }
-    ensures complete { RunIsComplete result (unread (R.remaining input)) }
-    ensures named { RunFaultIsComplete result (unread (R.remaining input)) }
+    ensures prefix { RunWritesPrefix W.contents result (R.remaining input) output.old output.new }
+    ensures complete { RunIsComplete result (R.remaining input) }
+    ensures named { RunFaultIsComplete result (R.remaining input) }
 {
     let mut flac = FlacReader::new(alloc, input)?;
     let mut output = Output::new(output);
@@ -67,7 +64,7 @@ pub fn write_samples<R: Read + Drop, W: Write, A: Allocator + Copy>(
     output: &mut Output<'_, W>,
 ) -> Result<u64>
     requires { flac_metadata_only flac.old ≡ false }
-    ensures same_reference { output_name output.new ≡ output_name output.old }
+    ensures same_reference { SameWriter output.old output.new }
     ensures head { KeepsHead flac.old flac.new }
     ensures rest { StreamLeavesRest R.remaining flac.old flac.new }
     // Exactly the samples up to the end of the stream were written, and then flushed.
@@ -91,7 +88,7 @@ fn write_samples_exact<R: Read + Drop, W: Write, A: Allocator + Copy>(
     output: &mut Output<'_, W>,
 ) -> Result<u64>
     requires { flac_metadata_only flac.old ≡ false }
-    ensures same_reference { output_name output.new ≡ output_name output.old }
+    ensures same_reference { SameWriter output.old output.new }
     ensures head { KeepsHead flac.old flac.new }
     ensures width { IsWidth (Some (flac_streaminfo flac.old).bits_per_sample) }
     ensures ok { StreamIsSound W.contents R.remaining result
@@ -127,7 +124,7 @@ fn write_blocks<R: ReadBytes, W: Write, A: Allocator + Copy>(
 ) -> Result<End>
     requires some { 1 ≤ info.bits_per_sample }
     requires most { info.bits_per_sample ≤ 32 }
-    ensures same_reference { output_name output.new ≡ output_name output.old }
+    ensures same_reference { SameWriter output.old output.new }
     ensures ok { WriteBlocksIsSound W.contents R.source info result
         input.old input.new output.old output.new }
     ensures unflushed { IsUnflushed output.old output.new }
@@ -146,7 +143,7 @@ fn gather_blocks<R: ReadBytes, W: Write, A: Allocator + Copy>(
     frames: &mut FrameReader<R>,
     output: &mut Output<'_, W>,
 ) -> Result<End>
-    ensures same_reference { output_name output.new ≡ output_name output.old }
+    ensures same_reference { SameWriter output.old output.new }
     ensures loans { (frame_bytes R.source frames.new).loans
         ≡ (frame_bytes R.source frames.old).loans }
     ensures ok { GatherBlocksIsSound W.contents R.source result

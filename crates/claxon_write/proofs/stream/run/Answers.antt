@@ -10,7 +10,7 @@ returns-clause-ok g c =
     let same = c.into_inner.ensures.same_reference ∙ (c.write_samples-outcome.ensures.same_reference ∙ c.new-output.ensures.same_reference) in
     let e = sym same in
     let k = ran g.W.Write.contents (flac_head c.in_ok-flac.flac) (unread (g.R.Read.remaining c.args.input)) (flac_bytes g.R.Read.remaining c.in_ok-flac.flac) _ (g.W.Write.contents c.args.output.now) c.new-output.result c.write_samples-outcome.new.output
-    c.in_ok-flac.ensures.sound c.new-output.ensures.writer_contents c.new-output.ensures.none_pending c.write_samples-outcome.result c.write_samples-outcome.ensures.ok in
+    c.in_ok-flac.ensures.sound c.new-output.ensures.contents_are c.new-output.ensures.none_pending c.write_samples-outcome.result c.write_samples-outcome.ensures.ok in
     let w = c.into_inner.ensures.writer in
     let j = rw (← w) at k in
     search rules
@@ -20,7 +20,7 @@ returns-clause-err g c =
     let same = c.into_inner.ensures.same_reference ∙ (c.write_samples-outcome.ensures.same_reference ∙ c.new-output.ensures.same_reference) in
     let e = sym same in
     let k = stopped g.W.Write.contents (flac_head c.in_ok-flac.flac) (unread (g.R.Read.remaining c.args.input)) (flac_bytes g.R.Read.remaining c.in_ok-flac.flac) _ (g.W.Write.contents c.args.output.now) c.new-output.result c.write_samples-outcome.new.output
-    c.in_ok-flac.ensures.sound c.new-output.ensures.writer_contents c.new-output.ensures.none_pending c.write_samples-outcome.result c.write_samples-outcome.ensures.err in
+    c.in_ok-flac.ensures.sound c.new-output.ensures.contents_are c.new-output.ensures.none_pending c.write_samples-outcome.result c.write_samples-outcome.ensures.err in
     let w = c.into_inner.ensures.writer in
     let j = rw (← w) at k in
     search rules
@@ -30,7 +30,7 @@ returns-clause-prefix g c =
     let same = c.into_inner.ensures.same_reference ∙ (c.write_samples-outcome.ensures.same_reference ∙ c.new-output.ensures.same_reference) in
     let e = sym same in
     let k = prefixes g.W.Write.contents (flac_head c.in_ok-flac.flac) (unread (g.R.Read.remaining c.args.input)) (flac_bytes g.R.Read.remaining c.in_ok-flac.flac) _ (g.W.Write.contents c.args.output.now) c.new-output.result c.write_samples-outcome.new.output
-    c.in_ok-flac.ensures.sound c.new-output.ensures.writer_contents c.new-output.ensures.none_pending c.write_samples-outcome.result c.write_samples-outcome.ensures.err in
+    c.in_ok-flac.ensures.sound c.new-output.ensures.contents_are c.new-output.ensures.none_pending c.write_samples-outcome.result c.write_samples-outcome.ensures.err in
     let w = c.into_inner.ensures.writer in
     let j = rw (← w) at k in
     search rules

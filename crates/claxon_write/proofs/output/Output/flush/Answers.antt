@@ -6,13 +6,13 @@ use Rattle.claxon_write.proofs.output.Output.flush.Goals as goal
 pub returns-clause-ok : goal.returns-clause-ok
 returns-clause-ok g c =
     let f = c.flush_writer.ensures in
-    flushed_ok g.W.Write.contents c.flush_writer.result c.args.self.now _ c.flush_writer.new.self c.in_ok-write_gathered.ensures.ok c.in_ok-write_gathered.ensures.unflushed f.kept f.failed_writes f.flushed f.pending f.succeeded
+    flushed_ok g.W.Write.contents c.flush_writer.result c.args.self.now _ c.flush_writer.new.self c.in_ok-write_gathered.ensures.ok c.in_ok-write_gathered.ensures.unflushed f.kept f.flushed f.pending f.succeeded
 
 pub returns-clause-err : goal.returns-clause-err
 returns-clause-err g c =
     let f = c.flush_writer.ensures in
     let none = c.write_gathered.ensures.none_pending in
-    flushed_err g.W.Write.contents c.flush_writer.result c.args.self.now _ c.flush_writer.new.self c.in_ok-write_gathered.ensures.ok c.in_ok-write_gathered.ensures.unflushed f.kept f.failed_writes f.flushed none (f.pending ∙ none) f.io f.failed
+    flushed_err g.W.Write.contents c.flush_writer.result c.args.self.now _ c.flush_writer.new.self c.in_ok-write_gathered.ensures.ok c.in_ok-write_gathered.ensures.unflushed f.kept f.flushed none (f.pending ∙ none) f.io f.failed
 
 pub returns-in_err-write_gathered-clause-err : goal.returns-in_err-write_gathered-clause-err
 returns-in_err-write_gathered-clause-err g c =
