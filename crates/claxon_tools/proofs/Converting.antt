@@ -12,24 +12,26 @@ use Rattle.claxon.specs.Bits.{FitsIn}
 use Rattle.claxon.specs.Frame.{Block, Frame, FrameBytesFault, Frames, StreamFormat}
 use Rattle.claxon.specs.Streams.{interleave}
 use Rattle.claxon.specs.Block.{BlockValue, duration_of}
-use Rattle.claxon.specs.FrameReader.{FrameAnswer, block_view, frame_bytes, frame_input, frame_stream, stream_with}
+use Rattle.claxon.specs.FrameReader.{FrameAnswer, block_view, frame_bytes, frame_input, frame_stream}
 use Rattle.claxon.specs.FrameReaders.{FrameReader}
 use Rattle.claxon.specs.BufferedReader.{buffered_source}
 use Rattle.claxon.specs.Errors.{Error as Cause}
 use Rattle.claxon.specs.BufferedReaders.{BufferedReader}
 use Rattle.claxon.specs.Promises.{NoneIsEof, FaultIsSound, FoundIsSound, Consumed}
 use Rattle.claxon.specs.State.{State}
-use Rattle.claxon.specs.FlacReader.{flac_input, flac_streaminfo}
+use Rattle.claxon.specs.FlacReader.{flac_input}
 use Rattle.claxon.specs.Opening.{flac_bytes}
 use Rattle.claxon.specs.SampleRuns.{lent, samples_of}
 use Rattle.claxon.specs.declared.reader.FlacReader.{FlacReader}
 use Rattle.claxon.proofs.SampleRuns.{after_loan, samples_add}
 use Rattle.claxon.proofs.SamplesInTurn.{same_duration}
 use Rattle.claxon.proofs.Streams.{length-interleave}
+use Rattle.claxon_write.specs.WriteSamples.{flac_stream}
 use Rattle.claxon_tools.specs.Convert.{ConvertIsSound, HoldsFile, PutsSamples, PutsStream, ExplainsError, ExplainsErrorIfKnown, packed_blocks}
 use Rattle.claxon_tools.specs.Samples.{bytes_of_sample, packed_block, packed_samples, scaled_up, silence}
 use Rattle.claxon_tools.specs.WaveFile.{pad, sample_size}
-use Rattle.claxon_tools.specs.Writer.{Ends, FinishIsSound, PutBlockFaultIsSound}
+use Rattle.claxon_tools.specs.DataSize.{max_data_size}
+use Rattle.claxon_tools.specs.Writer.{Ends, ExplainsBlockError, FinishIsSound, SameHeader, SamplesFit}
 use Rattle.claxon_tools.specs.declared.wav.error.Error.{Error}
 use Rattle.claxon_tools.specs.declared.wav.error.Error.TheVariants.{Claxon, OtherChannels, SameFile, TooLong, WideSample}
 use Rattle.claxon_tools.specs.declared.wav.header.Layout.{Layout}
@@ -79,8 +81,8 @@ module _ {W : Type 0} {contents : W → Option (List ℕ)} where
 
   puts_more : {blocks : List Block} {x y z : WavWriter W} (block : BlockValue) → PutsSamples contents blocks x y
       → Appends (contents y.output) (contents z.output) (packed_block y.layout.valid_bits block) × (length block.channels ≡ y.layout.channels) × (z.written ≡ y.written + length (packed_block y.layout.valid_bits block))
-      → All (FitsIn y.layout.valid_bits) (interleave block.channels) → z.layout ≡ y.layout → z.announced ≡ y.announced → PutsSamples contents (blocks ++ block_view block ∷ []) x z
-  puts_more {blocks = blocks} {x = x} {y = y} {z = z} block h put fits layout announced =
+      → SamplesFit block y → SameHeader y z → PutsSamples contents (blocks ++ block_view block ∷ []) x z
+  puts_more {blocks = blocks} {x = x} {y = y} {z = z} block h put fits same =
       let valid_bits : y.layout.valid_bits ≡ x.layout.valid_bits = ap (λ (l : Layout). l.valid_bits) h.layout_is in
       let all = packed_more x.layout.valid_bits blocks block in
       let more : Appends (contents y.output) (contents z.output) (packed_block x.layout.valid_bits block) = subst (λ (n : ℕ). Appends (contents y.output) (contents z.output) (packed_block n block)) valid_bits put.0 in
@@ -90,8 +92,8 @@ module _ {W : Type 0} {contents : W → Option (List ℕ)} where
         fit = subst (All (FitsIn x.layout.valid_bits)) (sym (samples_add blocks (block_view block))) (All-append (FitsIn x.layout.valid_bits) (samples_of blocks) (interleave block.channels) h.fit (subst (λ (n : ℕ). All (FitsIn n) (interleave block.channels)) valid_bits fits));
         bytes_are = subst (λ (s : List ℕ). Appends (contents x.output) (contents z.output) s) all (Appends-trans (contents x.output) (contents y.output) (contents z.output) (packed_blocks x.layout.valid_bits blocks) (packed_block x.layout.valid_bits block) h.bytes_are more);
         written_is = omega (arith, counted, h.written_is, length-append (packed_blocks x.layout.valid_bits blocks) (packed_block x.layout.valid_bits block)) ∙ ap (λ (s : List ℕ). x.written + length s) all;
-        announced_is = announced ∙ h.announced_is;
-        layout_is = layout ∙ h.layout_is;
+        announced_is = same.announced_is ∙ h.announced_is;
+        layout_is = same.layout_is ∙ h.layout_is;
       }
 
   module _ {stream : Option StreamFormat} where
@@ -100,11 +102,11 @@ module _ {W : Type 0} {contents : W → Option (List ℕ)} where
 
     pub put_more : {a b : State ℕ} (c : State ℕ) {x y z : WavWriter W} (block : BlockValue) → PutSoFar contents stream a b x y → Consumed b c (Frame stream (block_view block))
         → Appends (contents y.output) (contents z.output) (packed_block y.layout.valid_bits block) × (length block.channels ≡ y.layout.channels) × (z.written ≡ y.written + length (packed_block y.layout.valid_bits block))
-        → All (FitsIn y.layout.valid_bits) (interleave block.channels) → z.layout ≡ y.layout → z.announced ≡ y.announced → PutSoFar contents stream a c x z
-    put_more {a = a} {b = b} c block h frame put fits layout announced = record {
+        → SamplesFit block y → SameHeader y z → PutSoFar contents stream a c x z
+    put_more {a = a} {b = b} c block h frame put fits same = record {
       blocks = h.blocks ++ block_view block ∷ [];
       consumed = λ known. let k = h.consumed known in let t = frame k.0 in (t.0, frames_push stream h.blocks (block_view block) a.remaining b.remaining t.1.0 c.remaining k.1 t.1.1 t.1.2);
-      puts = puts_more block h.puts put fits layout announced;
+      puts = puts_more block h.puts put fits same;
     }
 
     -- the end
@@ -141,12 +143,12 @@ module _ {W : Type 0} {contents : W → Option (List ℕ)} {stream : Option Stre
     all_frames known = let k = h.consumed known in let t = (frame k.0).1 in frames_push stream h.blocks (block_view block) a.remaining b.remaining t.0 c.remaining k.1 t.1 t.2
 
     -- an error of the writer
-    pub stops_at_block : (e : Error) → PutBlockFaultIsSound block e y → ExplainsErrorIfKnown stream x a e
+    pub stops_at_block : (e : Error) → ExplainsBlockError block y e → ExplainsErrorIfKnown stream x a e
     stops_at_block (Claxon e) (inl m) known = inl m
     stops_at_block (Claxon e) (inr i) known = inr (inl i)
     stops_at_block TooLong r known =
         let all = packed_more x.layout.valid_bits h.blocks block in
-        let more = subst (λ (l : Layout). 4294967234 < y.written + length (packed_block l.valid_bits block)) h.puts.layout_is r in
+        let more = subst (λ (l : Layout). max_data_size < y.written + length (packed_block l.valid_bits block)) h.puts.layout_is r in
         let both = length-append (packed_blocks x.layout.valid_bits h.blocks) (packed_block x.layout.valid_bits block) in
         (h.blocks ++ block_view block ∷ [], c.remaining, all_frames known, omega (arith, more, h.puts.written_is, both, ap length all))
     stops_at_block SameFile r known = r
@@ -196,7 +198,7 @@ module _ {W : Type 0} (contents : W → Option (List ℕ)) (position : W → Opt
 
 -- all blocks, and then the end
 pub converted : {R A W : Type 0} (contents : W → Option (List ℕ)) (position : W → Option ℕ) (remaining : R → Option (List ℕ)) (flac : FlacReader R A) (frames : FrameReader (MutBor (BufferedReader R A))) (r : Result (Unit {0}) Error) (old put new : WavWriter W)
-    → (frame_input frames).now ≡ flac_input flac → frame_stream frames ≡ Some (stream_with (flac_streaminfo flac)) → PutsStream contents (frame_stream frames) (frame_bytes (lent (buffered_source remaining)) frames) old put → FinishIsSound contents position r put new
+    → (frame_input frames).now ≡ flac_input flac → frame_stream frames ≡ flac_stream flac → PutsStream contents (frame_stream frames) (frame_bytes (lent (buffered_source remaining)) frames) old put → FinishIsSound contents position r put new
     → ConvertIsSound contents position remaining flac r old new
 converted contents position remaining flac frames (Err e) old put new input stream puts finishes = tt
 converted contents position remaining flac frames (Ok done) old put new input stream puts finishes =
@@ -216,8 +218,8 @@ converted contents position remaining flac frames (Ok done) old put new input st
 
 -- the same for the errors
 pub not_converted : {R A W : Type 0} (remaining : R → Option (List ℕ)) (flac : FlacReader R A) (frames : FrameReader (MutBor (BufferedReader R A))) (old : WavWriter W) (e : Error)
-    → (frame_input frames).now ≡ flac_input flac → frame_stream frames ≡ Some (stream_with (flac_streaminfo flac)) → ExplainsErrorIfKnown (frame_stream frames) old (frame_bytes (lent (buffered_source remaining)) frames) e
-    → ExplainsErrorIfKnown (Some (stream_with (flac_streaminfo flac))) old (flac_bytes remaining flac) e
+    → (frame_input frames).now ≡ flac_input flac → frame_stream frames ≡ flac_stream flac → ExplainsErrorIfKnown (frame_stream frames) old (frame_bytes (lent (buffered_source remaining)) frames) e
+    → ExplainsErrorIfKnown (flac_stream flac) old (flac_bytes remaining flac) e
 not_converted remaining flac frames old e input stream stops known =
     let here = after_loan remaining flac (frame_input frames) input in
     subst (λ (s : Option StreamFormat). ExplainsError s old (flac_bytes remaining flac).remaining e) stream (subst (λ (s : List ℕ). ExplainsError (frame_stream frames) old s e) here.0 (stops (here.1 ∙ known)))

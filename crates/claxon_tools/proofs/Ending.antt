@@ -14,18 +14,18 @@ at_start None new n h = tt
 at_start (Some at) new n h = h.1 ∙ ap (λ (k : ℕ). Some k) h.0
 
 -- the pad byte, and then the header
-ends : {W : Type 0} (contents : W → Option (List ℕ)) (position : W → Option ℕ) (old padded new : WavWriter W) → Appends (contents old.output) (contents padded.output) (pad old.written) → SameHeader old padded
+ends : {W : Type 0} (contents : W → Option (List ℕ)) (position : W → Option ℕ) (old padded new : WavWriter W) → Appends (contents old.output) (contents padded.output) (pad old.written) → SameHeader old padded → padded.written ≡ old.written
     → UpdatesHeader contents position padded.layout padded.announced padded.written padded.output new.output × HeaderIsRight padded new → Ends contents position old.layout old.announced old.written old.output new.output × HeaderIsRight old new
-ends contents position old padded new p same m =
+ends contents position old padded new p same count m =
     let k : UpdatesHeader contents position old.layout old.announced old.written padded.output new.output =
     subst (λ (l : Layout). UpdatesHeader contents position l old.announced old.written padded.output new.output) same.layout_is
     (subst (λ (n : ℕ). UpdatesHeader contents position padded.layout n old.written padded.output new.output) same.announced_is
-    (subst (λ (n : ℕ). UpdatesHeader contents position padded.layout padded.announced n padded.output new.output) same.written_is m.0)) in (
+    (subst (λ (n : ℕ). UpdatesHeader contents position padded.layout padded.announced n padded.output new.output) count m.0)) in (
       record { right = λ e. Appends-kept (contents old.output) (contents padded.output) (contents new.output) (pad old.written) p (k.right e); wrong = λ e. (padded.output, p, k.wrong e) },
-      record { announced_is = m.1.announced_is ∙ same.written_is; written_is = m.1.written_is ∙ same.written_is; layout_is = m.1.layout_is ∙ same.layout_is },
+      record { announced_is = m.1.announced_is ∙ count; written_is = m.1.written_is ∙ count; layout_is = m.1.layout_is ∙ same.layout_is },
     )
 
-pub finishes : {W : Type 0} (contents : W → Option (List ℕ)) (position : W → Option ℕ) (r : Result (Unit {0}) Error) (old padded new : WavWriter W) → Appends (contents old.output) (contents padded.output) (pad old.written) → SameHeader old padded
+pub finishes : {W : Type 0} (contents : W → Option (List ℕ)) (position : W → Option ℕ) (r : Result (Unit {0}) Error) (old padded new : WavWriter W) → Appends (contents old.output) (contents padded.output) (pad old.written) → SameHeader old padded → padded.written ≡ old.written
     → UpdateHeaderIsSound contents position r padded new → FinishIsSound contents position r old new
-finishes contents position (Ok done) old padded new p same m = ends contents position old padded new p same m
-finishes contents position (Err e) old padded new p same m = tt
+finishes contents position (Ok done) old padded new p same count m = ends contents position old padded new p same count m
+finishes contents position (Err e) old padded new p same count m = tt

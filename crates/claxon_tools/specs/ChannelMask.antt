@@ -39,8 +39,10 @@ default_channel_masks =
     ∷ (front_left + front_right + back_left + back_right)
     ∷ (front_left + front_right + front_center + side_left + side_right)
     ∷ (front_left + front_right + front_center + low_frequency + side_left + side_right)
-    ∷ (front_left + front_right + front_center + low_frequency + back_center + side_left + side_right)
-    ∷ (front_left + front_right + front_center + low_frequency + back_left + back_right + side_left + side_right)
+    ∷ (front_left + front_right + front_center + low_frequency + back_center + side_left
+    + side_right)
+    ∷ (front_left + front_right + front_center + low_frequency + back_left + back_right + side_left
+    + side_right)
     ∷ []
 
 -- the default mask for this number of channels

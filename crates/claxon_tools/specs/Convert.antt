@@ -1,20 +1,21 @@
 -- The clauses of `put_blocks` and `convert`.
-use Rattle.std.specs.Prelude.{All, ◌≡◌, ◌⊎◌, ℕ, ◌+◌, ◌<◌, true, List, ◌++◌, length, Option, Some, Result, IfErr, OnOk}
+use Rattle.std.specs.Prelude.{All, ◌≡◌, ◌⊎◌, ℕ, ◌+◌, ◌<◌, true, List, ◌++◌, length, Option, Result, IfErr, OnOk}
 use Rattle.std.specs.Io.KnownBytes.{Appends}
 use Rattle.claxon.specs.Bits.{FitsIn}
 use Rattle.claxon.specs.Fault.{Fault}
 use Rattle.claxon.specs.Frame.{Block, FrameBytesFault, Frames, StreamFormat}
-use Rattle.claxon.specs.FrameReader.{frame_bytes, frame_stream, stream_with}
+use Rattle.claxon.specs.FrameReader.{frame_bytes, frame_stream}
 use Rattle.claxon.specs.FrameReaders.{FrameReader}
 use Rattle.claxon.specs.Error.{IsFault, IsIo}
 use Rattle.claxon.specs.Source.{Source}
 use Rattle.claxon.specs.State.{State}
 use Rattle.claxon.specs.Errors.{Error as Cause}
 use Rattle.claxon.specs.Errors.TheVariants.{OutOfMemory}
-use Rattle.claxon.specs.FlacReader.{flac_streaminfo}
 use Rattle.claxon.specs.Opening.{flac_bytes}
 use Rattle.claxon.specs.SampleRuns.{samples_of}
 use Rattle.claxon.specs.declared.reader.FlacReader.{FlacReader}
+use Rattle.claxon_write.specs.WriteSamples.{flac_stream}
+use Rattle.claxon_tools.specs.DataSize.{max_data_size}
 use Rattle.claxon_tools.specs.Samples.{packed_samples}
 use Rattle.claxon_tools.specs.WaveFile.{wave_file}
 use Rattle.claxon_tools.specs.Writer.{Begins, Ends, HeaderIsRight}
@@ -80,8 +81,8 @@ ExplainsError stream old s OtherChannels =
 ExplainsError stream old s WideSample =
     HasBlocks stream s (λ blocks. All (FitsIn old.layout.valid_bits) (samples_of blocks) → ⊥)
 ExplainsError stream old s TooLong =
-    HasBlocks stream s (λ blocks. 4294967234 < old.written + length
-    (packed_blocks old.layout.valid_bits blocks))
+    HasBlocks stream s (λ blocks. max_data_size
+    < old.written + length (packed_blocks old.layout.valid_bits blocks))
 ExplainsError stream old s SameFile = ⊥
 
 -- The same for the remaining input, where it is known.
@@ -122,12 +123,10 @@ abbrev pub ConvertIsSound : {R A W : Type 0} → (W → Option (List ℕ)) → (
     → (R → Option (List ℕ)) → FlacReader R A → Result (Unit {0}) Error → WavWriter W → WavWriter W
     → Type 0
 ConvertIsSound contents position remaining flac r old new =
-    OnOk r (Converts contents position (Some (stream_with (flac_streaminfo flac)))
-    (flac_bytes remaining flac) old new)
+    OnOk r (Converts contents position (flac_stream flac) (flac_bytes remaining flac) old new)
 
 -- An Err says why the stream was not converted completely.
 abbrev pub ConvertFaultIsSound : {R A W : Type 0} → (R → Option (List ℕ)) → FlacReader R A
     → Result (Unit {0}) Error → WavWriter W → Type 0
 ConvertFaultIsSound remaining flac r old =
-    IfErr r (ExplainsErrorIfKnown (Some (stream_with (flac_streaminfo flac))) old
-    (flac_bytes remaining flac))
+    IfErr r (ExplainsErrorIfKnown (flac_stream flac) old (flac_bytes remaining flac))

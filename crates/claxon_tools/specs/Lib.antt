@@ -1,6 +1,7 @@
 pub mod Progress
 pub mod Text
 pub mod ChannelMask
+pub mod DataSize
 pub mod WaveFile
 pub mod Convert
 pub mod Samples

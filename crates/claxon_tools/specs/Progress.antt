@@ -1,7 +1,26 @@
 -- The progress of a conversion.
-use Rattle.std.specs.Prelude.{ℕ, ◌*◌, ◌-◌, ◌^◌, ◌/◌, max, min, Option, None, Some}
+use Rattle.std.specs.Prelude.{◌≡◌, ℕ, ◌*◌, ◌-◌, ◌^◌, ◌/◌, max, min, Option, None, Some}
+use Rattle.claxon_tools.specs.declared.progress.Progress.{Progress}
 
 -- the percentage to show after `done` of `total` samples, at most 100; without a total it stays as it was
 abbrev pub percent_at : Option ℕ → Option ℕ → ℕ → Option ℕ
 percent_at None shown done = shown
 percent_at (Some total) shown done = Some (min (min (done * 100) (2 ^ 64 - 1) / max total 1) 100)
+
+-- The line has this total, and isn't written yet.
+pub record IsNewProgress (total : Option ℕ) (p : Progress) : Type 0 where
+  pub total_is : p.total ≡ total
+  pub none_shown : p.percent ≡ None
+
+-- After `done` samples the line has their percentage, and the same total.
+pub record ShowsPercentage (done : ℕ) (old new : Progress) : Type 0 where
+  pub total_is : new.total ≡ old.total
+  pub percent_is : new.percent ≡ percent_at old.total old.percent done
+
+-- Nothing is written without a total, or for the percentage that was shown last.
+abbrev pub WritesOnlyChanges : {E : Type 0} → Progress → Progress → E → E → Type 0
+WritesOnlyChanges old new before after = new.percent ≡ old.percent → after ≡ before
+
+-- Nothing is written if there was no line.
+abbrev pub EndsOnlyLine : {E : Type 0} → Progress → E → E → Type 0
+EndsOnlyLine p before after = p.percent ≡ None → after ≡ before

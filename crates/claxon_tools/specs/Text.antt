@@ -28,7 +28,8 @@ time_text t = decimal (t / 3600000) ++ codes ":" ++ two_digits (t / 60000 % 60) 
 -- the length of `samples` samples per channel at this sample rate, rounded down to milliseconds
 unfoldable pub length_text : Option ℕ → ℕ → List ℕ
 length_text None rate = unknown_text
-length_text (Some samples) rate = if rate == 0 then unknown_text else time_text (samples * 1000 / rate)
+length_text (Some samples) rate =
+    if rate == 0 then unknown_text else time_text (samples * 1000 / rate)
 
 -- a byte in two hexadecimal digits
 abbrev pub hex_byte : ℕ → List ℕ
@@ -45,9 +46,10 @@ is_control c = nat_lt c 32 || (nat_le 127 c && nat_lt c 160) || c == 0x2028 || c
 -- a character in UTF-8, escaped for one line: a backslash, a line feed, a carriage return and a tab by a letter, another
 -- control character by its number
 unfoldable pub escaped_char : ℕ → List ℕ
-escaped_char c = if c == 0x5C then codes "\\\\" else (if c == 0x0A then codes "\\n" else (if c == 0x0D then codes "\\r"
-    else (if c == 0x09 then codes "\\t" else (if is_control c then codes "\\u{" ++ digits 16 false c ++ codes "}"
-    else encode_utf8 c))))
+escaped_char c =
+    if c == 0x5C then codes "\\\\" else (if c == 0x0A then codes "\\n"
+    else (if c == 0x0D then codes "\\r" else (if c == 0x09 then codes "\\t"
+    else (if is_control c then codes "\\u{" ++ digits 16 false c ++ codes "}" else encode_utf8 c))))
 
 -- each character escaped
 abbrev pub escaped_text : List ℕ → List ℕ
@@ -58,5 +60,6 @@ abbrev pub IsText : {A : Type 0} → List ℕ → Result (String A) AllocError �
 IsText bytes r = IfOk r (λ text. string_bytes text ≡ bytes)
 
 -- An Ok added these bytes to the text.
-abbrev pub Adds : {A : Type 0} → List ℕ → Result (Unit {0}) AllocError → String A → String A → Type 0
+abbrev pub Adds : {A : Type 0} → List ℕ → Result (Unit {0}) AllocError → String A → String A
+    → Type 0
 Adds bytes r old new = OnOk r (string_bytes new ≡ string_bytes old ++ bytes)

@@ -1,8 +1,18 @@
 -- WAV files.
-use Rattle.std.specs.Prelude.{nat_lt, ◌≡◌, ◌==◌, ◌||◌, not, ℕ, ◌*◌, ◌<◌, ◌%◌, ◌^◌, List, [], ◌∷◌, ◌++◌, Bool, cond, codes, length, replicate, ◌≤◌, Option, None, Some}
+use Rattle.std.specs.Prelude.{nat_lt, ◌≡◌, ◌==◌, ◌||◌, not, ℕ, ◌*◌, ◌<◌, ◌%◌, ◌^◌, List, [], ◌∷◌, ◌++◌, Bool, cond, codes, length, replicate, ◌≤◌, Option, None, Some, Result, OnOk}
+use Rattle.std.specs.declared.alloc.AllocError.{AllocError}
 use Rattle.std.specs.Int.{div_ceil, to_le_bytes, w16, w32}
 use Rattle.claxon_tools.specs.ChannelMask.{channel_mask_of}
+use Rattle.claxon_tools.specs.DataSize.{max_data_size}
 use Rattle.claxon_tools.specs.declared.wav.header.Layout.{Layout}
+
+-- its number of channels
+abbrev pub layout_channels : Layout → ℕ
+layout_channels l = l.channels
+
+-- its valid bits per sample
+abbrev pub layout_valid_bits : Layout → ℕ
+layout_valid_bits l = l.valid_bits
 
 -- the pad byte after an odd number of bytes
 abbrev pub pad : ℕ → List ℕ
@@ -58,10 +68,14 @@ abbrev pub IsHeader : Layout → ℕ → List ℕ → Type 0
 IsHeader l size header =
     (samples : List ℕ) → length samples ≡ size → wave_file l samples ≡ header ++ samples ++ pad size
 
+-- An Ok left just the header for `size` bytes of samples.
+abbrev pub PutHeaderIsSound : Layout → ℕ → Result (Unit {0}) AllocError → List ℕ → Type 0
+PutHeaderIsSound l size r bytes = OnOk r (IsHeader l size bytes)
+
 -- the number of bytes of `count` samples per channel, or None if the file would be too large for its 32-bit size
 abbrev pub IsSizeOf : Layout → ℕ → Option ℕ → Type 0
-IsSizeOf l count None = 4294967234 < count * block_align l
-IsSizeOf l count (Some size) = (size ≡ count * block_align l) × (size ≤ 4294967234)
+IsSizeOf l count None = max_data_size < count * block_align l
+IsSizeOf l count (Some size) = (size ≡ count * block_align l) × (size ≤ max_data_size)
 
 -- It has these channels, valid bits and sample rate, and the given channel mask or the default one of FLAC.
 pub record IsLayoutOf (channels valid_bits sample_rate : ℕ) (channel_mask : Option ℕ)

@@ -1,11 +1,12 @@
 -- The clauses of the methods of `WavWriter`.
-use Rattle.std.specs.Prelude.{All, ◌≡◌, ◌⊎◌, ◌<◌, ℕ, ◌+◌, List, length, Option, Some, Result, IfOk, IfSome, OnOk}
+use Rattle.std.specs.Prelude.{All, ◌≡◌, ◌⊎◌, ◌<◌, ℕ, ◌+◌, List, length, Option, Some, Result, IfErr, IfOk, IfSome, OnOk}
 use Rattle.std.specs.Io.KnownBytes.{Appends, Keeps}
 use Rattle.claxon.specs.Bits.{FitsIn}
 use Rattle.claxon.specs.Streams.{interleave}
 use Rattle.claxon.specs.Block.{BlockValue}
 use Rattle.claxon.specs.Error.{IsIo}
 use Rattle.claxon.specs.Errors.TheVariants.{OutOfMemory}
+use Rattle.claxon_tools.specs.DataSize.{max_data_size}
 use Rattle.claxon_tools.specs.Samples.{packed_block}
 use Rattle.claxon_tools.specs.WaveFile.{IsHeader, pad}
 use Rattle.claxon_tools.specs.declared.wav.error.Error.{Error}
@@ -23,33 +24,54 @@ pub record Begins {W : Type 0} (contents : W → Option (List ℕ)) (layout : La
   pub announced_is : new.announced ≡ announced
   pub none_so_far : new.written ≡ 0
 
+-- An Ok wrote such a header.
 abbrev pub StartIsSound : {W : Type 0} → (W → Option (List ℕ)) → Layout → ℕ → W
     → Result (WavWriter W) Error → Type 0
 StartIsSound contents layout announced output r =
     IfOk r (λ new. Begins contents layout announced output new)
 
+-- the bytes of the block's samples in this file
+abbrev pub wav_bytes : {W : Type 0} → WavWriter W → BlockValue → List ℕ
+wav_bytes file block = packed_block file.layout.valid_bits block
+
 -- An Ok wrote the samples of the block after all earlier bytes, and counted their bytes.
 abbrev pub PutBlockIsSound : {W : Type 0} → (W → Option (List ℕ)) → BlockValue
     → Result (Unit {0}) Error → WavWriter W → WavWriter W → Type 0
 PutBlockIsSound contents block r old new =
-    OnOk r (Appends (contents old.output) (contents new.output)
-    (packed_block old.layout.valid_bits block) × (length block.channels ≡ old.layout.channels)
-    × (new.written ≡ old.written + length (packed_block old.layout.valid_bits block)))
+    OnOk r (Appends (contents old.output) (contents new.output) (wav_bytes old block)
+    × (length block.channels ≡ old.layout.channels)
+    × (new.written ≡ old.written + length (wav_bytes old block)))
 
--- `OutOfMemory`, or an `IoError`
-abbrev pub IsOutOfMemoryOrIo : Error → Type 0
-IsOutOfMemoryOrIo (Claxon error) = (error ≡ OutOfMemory) ⊎ IsIo error
-IsOutOfMemoryOrIo error = ⊥
+-- Each sample of the block fits in the valid bits of the layout.
+abbrev pub SamplesFit : {W : Type 0} → BlockValue → WavWriter W → Type 0
+SamplesFit block file = All (FitsIn file.layout.valid_bits) (interleave block.channels)
 
--- An Err says that the block has other channels than the layout, a sample doesn't fit in its valid bits, or the bytes are more
--- than a WAV file holds; or it is `OutOfMemory` or an `IoError`.
-abbrev pub PutBlockFaultIsSound : {W : Type 0} → BlockValue → Error → WavWriter W → Type 0
-PutBlockFaultIsSound block OtherChannels old = length block.channels ≡ old.layout.channels → ⊥
-PutBlockFaultIsSound block WideSample old =
-    All (FitsIn old.layout.valid_bits) (interleave block.channels) → ⊥
-PutBlockFaultIsSound block TooLong old =
-    4294967234 < old.written + length (packed_block old.layout.valid_bits block)
-PutBlockFaultIsSound block error old = IsOutOfMemoryOrIo error
+-- After an Ok each sample of the block fits.
+abbrev pub PutBlockFits : {W : Type 0} → BlockValue → Result (Unit {0}) Error → WavWriter W → Type 0
+PutBlockFits block r old = OnOk r (SamplesFit block old)
+
+-- The error is `OutOfMemory` or an `IoError` of the decoder's errors.
+abbrev pub WrapsMemoryOrIoError : Error → Type 0
+WrapsMemoryOrIoError (Claxon error) = (error ≡ OutOfMemory) ⊎ IsIo error
+WrapsMemoryOrIoError error = ⊥
+
+-- The error says that the block has other channels than the layout, a sample doesn't fit in its valid bits, or the bytes are
+-- more than a WAV file holds; or it is `OutOfMemory` or an `IoError`.
+abbrev pub ExplainsBlockError : {W : Type 0} → BlockValue → WavWriter W → Error → Type 0
+ExplainsBlockError block old OtherChannels = length block.channels ≡ old.layout.channels → ⊥
+ExplainsBlockError block old WideSample = SamplesFit block old → ⊥
+ExplainsBlockError block old TooLong = max_data_size < old.written + length (wav_bytes old block)
+ExplainsBlockError block old error = WrapsMemoryOrIoError error
+
+-- An Err says why the block was not written.
+abbrev pub PutBlockFaultIsSound : {W : Type 0} → BlockValue → Result (Unit {0}) Error → WavWriter W
+    → Type 0
+PutBlockFaultIsSound block r old = IfErr r (ExplainsBlockError block old)
+
+-- The layout and the announced number of bytes stay the same.
+pub record SameHeader {W : Type 0} (old new : WavWriter W) : Type 0 where
+  pub layout_is : new.layout ≡ old.layout
+  pub announced_is : new.announced ≡ old.announced
 
 -- ---- the end
 
@@ -59,11 +81,11 @@ pub record HeaderIsRight {W : Type 0} (old new : WavWriter W) : Type 0 where
   pub written_is : new.written ≡ old.written
   pub layout_is : new.layout ≡ old.layout
 
--- The layout, the announced bytes and the count of written bytes stay the same.
-pub record SameHeader {W : Type 0} (old new : WavWriter W) : Type 0 where
-  pub layout_is : new.layout ≡ old.layout
-  pub announced_is : new.announced ≡ old.announced
-  pub written_is : new.written ≡ old.written
+-- An Ok wrote the pad byte after all earlier bytes.
+abbrev pub PadIsSound : {W : Type 0} → (W → Option (List ℕ)) → Result (Unit {0}) Error → WavWriter W
+    → WavWriter W → Type 0
+PadIsSound contents r old new =
+    OnOk r (Appends (contents old.output) (contents new.output) (pad old.written))
 
 -- A header that announces `size` bytes was written after a seek to the start of the output, where the position is known.
 pub record WritesHeader {W : Type 0} (contents : W → Option (List ℕ)) (position : W → Option ℕ)
@@ -102,3 +124,7 @@ abbrev pub FinishIsSound : {W : Type 0} → (W → Option (List ℕ)) → (W →
 FinishIsSound contents position r old new =
     OnOk r (Ends contents position old.layout old.announced old.written old.output new.output
     × HeaderIsRight old new)
+
+-- An Err is `OutOfMemory` or an `IoError`.
+abbrev pub FinishFaultIsSound : Result (Unit {0}) Error → Type 0
+FinishFaultIsSound r = IfErr r WrapsMemoryOrIoError

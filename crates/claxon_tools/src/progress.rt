@@ -1,7 +1,4 @@
 //! The progress of a conversion.
-ghost use Rattle.std.specs.Prelude.{◌≡◌, None};
-ghost use Rattle.claxon_tools.specs.Progress.{percent_at};
-
 use std::io::Write;
 
 /// A line with the percentage of samples that are done, which is written again when it changes.
@@ -13,10 +10,11 @@ pub struct Progress {
 }
 
 impl Progress {
+    ghost use Rattle.claxon_tools.specs.Progress.{EndsOnlyLine, IsNewProgress, ShowsPercentage, WritesOnlyChanges};
+
     /// A line that isn't written yet. Without a total it never is.
     pub fn new(total: Option<u64>) -> Progress
-        ensures total { result.total ≡ total }
-        ensures none_shown { result.percent ≡ None }
+        ensures { IsNewProgress total result }
     {
         Progress {
             total,
@@ -26,10 +24,8 @@ impl Progress {
 
     /// Writes the line if the percentage has changed. A failed write is ignored.
     pub fn show<E: Write>(&mut self, done: u64, errors: &mut E)
-        ensures total { self.new.total ≡ self.old.total }
-        ensures percent { self.new.percent ≡ percent_at self.old.total self.old.percent done }
-        // Nothing is written without a total, or for the percentage that was shown last.
-        ensures quiet { self.new.percent ≡ self.old.percent → errors.new ≡ errors.old }
+        ensures percentage { ShowsPercentage done self.old self.new }
+        ensures quiet { WritesOnlyChanges self.old self.new errors.old errors.new }
     {
         let Some(total) = self.total else {
             return;
@@ -43,8 +39,7 @@ impl Progress {
 
     /// Ends the line, if there is one.
     pub fn end<E: Write>(&mut self, errors: &mut E)
-        // Nothing is written if there was no line.
-        ensures quiet { self.old.percent ≡ None → errors.new ≡ errors.old }
+        ensures quiet { EndsOnlyLine self.old errors.old errors.new }
     {
         if self.percent.is_some() {
             let _ = writeln!(errors);

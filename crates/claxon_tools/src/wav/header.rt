@@ -25,7 +25,8 @@ pub struct Layout {
 }
 
 impl Layout {
-    ghost use Rattle.claxon_tools.specs.WaveFile.{IsHeader, IsLayoutOf, IsSizeOf, extension, format, is_extensible, block_align, sample_size, base_format};
+    ghost use Rattle.claxon_tools.specs.DataSize.{max_data_size};
+    ghost use Rattle.claxon_tools.specs.WaveFile.{IsLayoutOf, IsSizeOf, PutHeaderIsSound, base_format, block_align, extension, format, is_extensible, layout_channels, layout_valid_bits, sample_size};
 
     /// A layout with this number of channels, of bits per sample, and of samples per second and channel. The channel mask has
     /// a bit for each channel's position; without one the channels are assigned as in a FLAC stream.
@@ -51,14 +52,14 @@ impl Layout {
 
     /// The number of channels.
     pub fn channels(&self) -> u32
-        ensures { result ≡ self.now.channels }
+        ensures { result ≡ layout_channels self.now }
     {
         self.channels
     }
 
     /// The valid bits per sample, which are the most significant bits of its bytes.
     pub fn valid_bits(&self) -> u32
-        ensures value { result ≡ self.now.valid_bits }
+        ensures value { result ≡ layout_valid_bits self.now }
         ensures some_bits { 1 ≤ result }
         ensures few_bits { result ≤ 32 }
     {
@@ -113,8 +114,8 @@ impl Layout {
 
     /// Replaces the bytes by the header for `size` bytes of samples.
     pub fn put_header(&self, size: u32, bytes: &mut Vec<u8>) -> Result<(), AllocError>
-        requires { size ≤ 4294967234 }
-        ensures { OnOk result (IsHeader self.now size bytes.new.items) }
+        requires { size ≤ max_data_size }
+        ensures { PutHeaderIsSound self.now size result bytes.new.items }
     {
         let format_size = self.format_size();
         bytes.clear();

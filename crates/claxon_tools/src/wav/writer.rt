@@ -1,9 +1,6 @@
 //! Writing a WAV file.
-ghost use Rattle.std.specs.Prelude.{◌≡◌, ◌≤◌, All, IfErr, OnOk};
-ghost use Rattle.std.specs.Io.KnownBytes.{Appends};
-ghost use Rattle.claxon.specs.Bits.{FitsIn};
-ghost use Rattle.claxon.specs.Streams.{interleave};
-ghost use Rattle.claxon_tools.specs.WaveFile.{pad};
+ghost use Rattle.std.specs.Prelude.{◌≡◌, ◌≤◌, IfErr};
+ghost use Rattle.claxon_tools.specs.DataSize.{max_data_size};
 
 use crate::wav::error::{Error, Result};
 use crate::wav::header::{Layout, MAX_DATA_SIZE};
@@ -24,18 +21,18 @@ pub struct WavWriter<W> {
     header: Vec<u8>,
     interleaved: Vec<i32>,
     bytes: Vec<u8>,
-    ghost announced_fits: { announced ≤ 4294967234 },
-    ghost written_fits: { written ≤ 4294967234 },
+    ghost announced_fits: { announced ≤ max_data_size },
+    ghost written_fits: { written ≤ max_data_size },
 }
 
 impl<W: Write + Seek> WavWriter<W> {
-    ghost use Rattle.claxon_tools.specs.Writer.{StartIsSound, FinishIsSound, IsOutOfMemoryOrIo, UpdateHeaderIsSound, PutBlockIsSound, PutBlockFaultIsSound, SameHeader};
+    ghost use Rattle.claxon_tools.specs.Writer.{FinishFaultIsSound, FinishIsSound, PadIsSound, PutBlockFaultIsSound, PutBlockFits, PutBlockIsSound, SameHeader, StartIsSound, UpdateHeaderIsSound, WrapsMemoryOrIoError};
 
     /// Writes a header that announces this number of bytes of samples. If there are others, `finish` corrects it.
     pub fn start(alloc: Global, output: W, layout: Layout, announced: u32) -> Result<WavWriter<W>>
     where
         W: Drop,
-        requires { announced ≤ 4294967234 }
+        requires { announced ≤ max_data_size }
         ensures { StartIsSound W.contents layout announced output result }
     {
         let mut output = output;
@@ -56,11 +53,9 @@ impl<W: Write + Seek> WavWriter<W> {
     /// Writes the samples of a block.
     pub fn put_block<A: Allocator>(&mut self, block: &Block<A>) -> Result<()>
         ensures ok { PutBlockIsSound W.contents block.now result self.old self.new }
-        ensures fits { OnOk result (All (FitsIn self.old.layout.valid_bits)
-            (interleave block.now.channels)) }
-        ensures err { IfErr result (λ error. PutBlockFaultIsSound block.now error self.old) }
-        ensures layout { self.new.layout ≡ self.old.layout }
-        ensures announced { self.new.announced ≡ self.old.announced }
+        ensures fits { PutBlockFits block.now result self.old }
+        ensures err { PutBlockFaultIsSound block.now result self.old }
+        ensures header { SameHeader self.old self.new }
     {
         if block.channels() != self.layout.channels() {
             return Err(Error::OtherChannels);
@@ -80,7 +75,7 @@ impl<W: Write + Seek> WavWriter<W> {
     /// Finishes the file with the samples written so far. There is no seek if the header was right.
     pub fn finish(&mut self) -> Result<()>
         ensures ok { FinishIsSound W.contents W.stream_position result self.old self.new }
-        ensures err { IfErr result IsOutOfMemoryOrIo }
+        ensures err { FinishFaultIsSound result }
     {
         let padded = self.pad();
         let updated = self.update_header();
@@ -90,10 +85,10 @@ impl<W: Write + Seek> WavWriter<W> {
 
     // The pad byte after an odd number of bytes.
     fn pad(&mut self) -> Result<()>
-        ensures bytes { OnOk result (Appends (W.contents self.old.output)
-            (W.contents self.new.output) (pad self.old.written)) }
+        ensures bytes { PadIsSound W.contents result self.old self.new }
         ensures same { SameHeader self.old self.new }
-        ensures err { IfErr result IsOutOfMemoryOrIo }
+        ensures count { self.new.written ≡ self.old.written }
+        ensures err { IfErr result WrapsMemoryOrIoError }
     {
         if self.written % 2 == 1 {
             self.output.write_all(&[0])?;
@@ -103,7 +98,7 @@ impl<W: Write + Seek> WavWriter<W> {
 
     fn update_header(&mut self) -> Result<()>
         ensures ok { UpdateHeaderIsSound W.contents W.stream_position result self.old self.new }
-        ensures err { IfErr result IsOutOfMemoryOrIo }
+        ensures err { IfErr result WrapsMemoryOrIoError }
     {
         if self.written != self.announced {
             self.layout.put_header(self.written, &mut self.header)?;

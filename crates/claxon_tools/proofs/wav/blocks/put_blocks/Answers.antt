@@ -16,7 +16,7 @@ loop-reader-preserved g c =
     let b = frame_bytes g.R.ReadBytes.source c.read_next_or_eof.new.self in
     let is = c.in_ok-block.was ∙ ap (λ (z : Option BlockValue). Ok z) c.in-Some.is in
     let p = c.in_ok-put_block.ensures in
-    record { stream = e.stream ∙ v.stream; so_far = put_more b c.in-Some.block v.so_far (frame_consumed v.stream a b c.in-Some.block is e.sound) p.ok p.fits p.layout p.announced }
+    record { stream = e.stream ∙ v.stream; so_far = put_more b c.in-Some.block v.so_far (frame_consumed v.stream a b c.in-Some.block is e.sound) p.ok p.fits p.header }
 
 pub loop-reader-smaller : goal.loop-reader-smaller
 loop-reader-smaller g c =

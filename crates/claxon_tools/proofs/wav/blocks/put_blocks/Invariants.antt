@@ -1,5 +1,6 @@
-use Rattle.std.proofs.Common.{◌≡◌, ◌-◌}
+use Rattle.std.proofs.Common.{◌≡◌, ◌+◌, ◌-◌}
 use Rattle.claxon.specs.FrameReader.{frame_bytes, frame_stream}
+use Rattle.claxon_tools.specs.DataSize.{max_data_size}
 use Rattle.claxon_tools.proofs.Converting.{PutSoFar}
 use Rattle.claxon_tools.proofs.wav.blocks.put_blocks.Given as goal
 
@@ -10,4 +11,4 @@ invariant-loop-reader g l = record {
 }
 
 abbrev pub decreases-loop-reader : goal.decreases-loop-reader
-decreases-loop-reader g l = 4294967235 - l.wav.written
+decreases-loop-reader g l = max_data_size + 1 - l.wav.written
