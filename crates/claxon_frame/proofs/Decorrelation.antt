@@ -9,7 +9,7 @@ use Rattle.claxon_format.specs.Predict.{wrap, floor_shift}
 use Rattle.claxon_format.specs.Stereo.{parity, zipped}
 use Rattle.claxon_format.specs.read.Stereo.{left_of, right_of, decoded_pair}
 use Rattle.claxon_frame.specs.Block.{chunks}
-use Rattle.claxon_format.proofs.Wraps.{Represents, represents_fits, represents_add, represents_sub, represents_mul, represents_num}
+use Rattle.claxon_format.proofs.WrappingArithmetic.{Represents, represents_fits, represents_add, represents_sub, represents_mul, represents_num}
 
 -- ---- one pair of samples
 

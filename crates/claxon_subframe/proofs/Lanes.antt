@@ -13,7 +13,7 @@ use mir.Syntax.{wrap_add, wrap_mul, shl, shr, signed}
 use lib.Lanes.{zip2}
 use Rattle.claxon_format.specs.Predict.{dot}
 use Rattle.claxon_subframe.specs.Lanes.{AllWithin, Lanes, AllFit64, LanesFit64, wrap_64, plus_products, advanced_by_two}
-use Rattle.claxon_format.proofs.Wraps.{represents_add, represents_mul, represents_fits}
+use Rattle.claxon_format.proofs.WrappingArithmetic.{represents_add, represents_mul, represents_fits}
 
 -- ---- division by a power of two, rounded down
 

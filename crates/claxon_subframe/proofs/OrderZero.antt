@@ -9,7 +9,7 @@ use Rattle.claxon_format.specs.read.Subframe.{fixed_at}
 use Rattle.claxon_format.specs.Subframe.{AllFit}
 use Rattle.claxon_format.specs.Predict.{wrap}
 use Rattle.claxon_format.specs.read.Predict.{restore, fixed}
-use Rattle.claxon_format.proofs.Predicted.{residual_fits}
+use Rattle.claxon_format.proofs.PredictorSubframes.{residual_fits}
 use Rattle.claxon_format.proofs.Residuals.{Reads-residual}
 
 restore_0 : (past xs : List ℤ) → AllFit xs → restore (fixed 0) past xs ≡ xs

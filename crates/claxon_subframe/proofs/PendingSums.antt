@@ -15,7 +15,7 @@ use Rattle.std.proofs.lemmas.List.{drop_all, drop_more, drop-drop, drop-replicat
 use Rattle.std.proofs.Math.Seq.{drop-append_seam}
 use Rattle.claxon_subframe.proofs.PaddedCoefficients.{reverse_zeros}
 use Rattle.claxon_format.specs.Predict.{wrap, dot, floor_shift, linear}
-use Rattle.claxon_format.proofs.Wraps.{Represents, represents_add, represents_mul, represents_fits}
+use Rattle.claxon_format.proofs.WrappingArithmetic.{Represents, represents_add, represents_mul, represents_fits}
 use Rattle.claxon_subframe.specs.Lanes.{AllWithin, Within, Lanes, LanesFit64, wrap_64, advanced_by_two}
 use Rattle.claxon_subframe.specs.PendingSums.{but_newest_five, pending_at, four_pending, four_taps, ArePendingSums, AreTaps, SmallTaps, SmallLater, AreLaterTaps, FitVectors, SumsFit64, scaled_up, IsScaledUp, AddsProduct, plus_five, IsSample, IsFollowed, five_before, AreNewest}
 use Rattle.claxon_subframe.specs.declared.subframe.predictor.NewestFive.{NewestFive}

@@ -9,7 +9,7 @@ use Rattle.claxon_format.specs.Codes.{Mapped}
 use Rattle.claxon_format.specs.read.Subframe.{subframe_body_at, SubframeFields, subframe_header_at, subframe_at}
 use Rattle.claxon_format.specs.Subframe.{AllFit, Samples, Fixed, Linear, scaled}
 use Rattle.claxon_format.proofs.Laws.{Reads-map, Reads-cond}
-use Rattle.claxon_format.proofs.Predicted.{fit_each, signed_fits, Reads-fixed, Reads-linear}
+use Rattle.claxon_format.proofs.PredictorSubframes.{fit_each, signed_fits, Reads-fixed, Reads-linear}
 use Rattle.claxon_format.proofs.Residuals.{Reads-times}
 use Rattle.claxon_format.proofs.SignedIntegers.{Reads-signed}
 use Rattle.claxon_input.specs.State.{State}

@@ -1,6 +1,6 @@
 use Rattle.std.proofs.Common.{◌∷◌, get_or, pos, rules, refl, FitsSigned, w32, to_z, arith}
 use Rattle.claxon_subframe.proofs.RestoreLoop.{restoring_next}
-use Rattle.claxon_format.proofs.Wraps.{represents_fits, represents_bits, step_1}
+use Rattle.claxon_format.proofs.WrappingArithmetic.{represents_fits, represents_bits, step_1}
 use Rattle.claxon_subframe.proofs.subframe.predictor.predict_fixed_1.Goals as goal
 
 pub loop-place-preserved : goal.loop-place-preserved

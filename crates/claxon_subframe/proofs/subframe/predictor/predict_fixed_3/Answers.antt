@@ -1,7 +1,7 @@
 use Rattle.std.proofs.Common.{◌∷◌, get_or, pos, rules, refl, FitsSigned, w32, to_z, arith}
 use Rattle.claxon_format.specs.read.Predict.{fixed}
 use Rattle.claxon_subframe.proofs.RestoreLoop.{restoring_next, restoring_from, restoring_end, restored_into, front_3}
-use Rattle.claxon_format.proofs.Wraps.{represents_fits, represents_bits, step_3}
+use Rattle.claxon_format.proofs.WrappingArithmetic.{represents_fits, represents_bits, step_3}
 use Rattle.claxon_subframe.proofs.subframe.predictor.predict_fixed_3.Goals as goal
 
 pub loop-place-init : goal.loop-place-init
