@@ -7,8 +7,8 @@ static FLAC__StreamDecoderWriteStatus add(const FLAC__StreamDecoder *decoder, co
                                           const FLAC__int32 *const channels[], void *sum) {
     uint64_t total = 0;
     for (unsigned channel = 0; channel < frame->header.channels; channel++) {
-        for (unsigned place = 0; place < frame->header.blocksize; place++) {
-            total += (uint64_t)(int64_t)channels[channel][place];
+        for (unsigned index = 0; index < frame->header.blocksize; index++) {
+            total += (uint64_t)(int64_t)channels[channel][index];
         }
     }
     *(uint64_t *)sum += total;
@@ -22,17 +22,17 @@ static void fail(const FLAC__StreamDecoder *decoder, FLAC__StreamDecoderErrorSta
     fprintf(stderr, "peer: %s\n", FLAC__StreamDecoderErrorStatusString[status]);
 }
 
-int main(int count, char **words) {
+int main(int argc, char **argv) {
     uint64_t sum = 0;
     FLAC__StreamDecoder *decoder = FLAC__stream_decoder_new();
-    if (count != 2 || decoder == NULL) {
+    if (argc != 2 || decoder == NULL) {
         fprintf(stderr, "usage: peer FILE\n");
         return 2;
     }
     FLAC__stream_decoder_set_md5_checking(decoder, false);
-    if (FLAC__stream_decoder_init_file(decoder, words[1], add, NULL, fail, &sum) != FLAC__STREAM_DECODER_INIT_STATUS_OK
+    if (FLAC__stream_decoder_init_file(decoder, argv[1], add, NULL, fail, &sum) != FLAC__STREAM_DECODER_INIT_STATUS_OK
         || !FLAC__stream_decoder_process_until_end_of_stream(decoder)) {
-        fprintf(stderr, "peer: %s isn't decoded\n", words[1]);
+        fprintf(stderr, "peer: %s can't be decoded\n", argv[1]);
         return 1;
     }
     FLAC__stream_decoder_delete(decoder);

@@ -1,4 +1,4 @@
-"""Runs decoders over a file, under limits of time and memory, and reads their answers."""
+"""Runs decoders over a file, with limits of time and memory, and reads their results."""
 import dataclasses
 import os
 import re
@@ -9,18 +9,18 @@ HEAD = re.compile(r'head blocks (\d+)-(\d+) frames (?:\d+|none)-(?:\d+|none) rat
                   r'samples (\d+|none) md5 ([0-9a-f]{32})')
 BLOCK = re.compile(r'block time (\d+) channels ([1-8]) duration ([1-9]\d*) fnv ([0-9a-f]{16})')
 FAULT = re.compile(r'fault (IO|Ill-formed FLAC stream: .+|A currently unsupported feature of the FLAC format was .+)')
-MOST_FAULTS = 10000
-STOPPED = 'claxon_trace: stopped after %d faults\n' % MOST_FAULTS
+MAX_FAULTS = 10000
+STOPPED = 'claxon_trace: stopped after %d faults\n' % MAX_FAULTS
 
 
 @dataclasses.dataclass
 class Limits:
-    """Seconds and mebibytes for one run, 0 for as much memory as there is."""
+    """The limits of one run: seconds of processor time, and mebibytes of memory, 0 for no limit."""
     seconds: int
     memory: int
 
     def set(self, process):
-        """Limits a process that has just begun. To do so in it beforehand would copy this one for each run."""
+        """Limits a process that has just started. A limit that it sets itself would need a copy of this process."""
         try:
             resource.prlimit(process, resource.RLIMIT_CPU, (self.seconds, self.seconds + 1))
             if self.memory:
@@ -31,112 +31,112 @@ class Limits:
 
 @dataclasses.dataclass
 class Run:
-    """What a program wrote and how it ended; `trouble` is None where it ended by itself within its limits."""
+    """What a program wrote and how it ended; `failure` is None where it ended by itself within its limits."""
     output: bytes
     errors: str
     status: int
-    trouble: str
+    failure: str
 
 
-def run(words, limits):
-    """Runs a program to its end, or until it took too long."""
-    process = subprocess.Popen(words, stdin=subprocess.DEVNULL, stdout=subprocess.PIPE, stderr=subprocess.PIPE)
+def run(command, limits):
+    """Runs a program until it ends or its time is over."""
+    process = subprocess.Popen(command, stdin=subprocess.DEVNULL, stdout=subprocess.PIPE, stderr=subprocess.PIPE)
     limits.set(process.pid)
     try:
         output, errors = process.communicate(timeout=4 * limits.seconds)
     except subprocess.TimeoutExpired:
         process.kill()
         process.communicate()
-        return Run(b'', '', -1, 'no end')
-    trouble = 'signal %d' % -process.returncode if process.returncode < 0 else None
-    return Run(output, errors.decode('utf-8', 'replace'), process.returncode, trouble)
+        return Run(b'', '', -1, 'timeout')
+    failure = 'signal %d' % -process.returncode if process.returncode < 0 else None
+    return Run(output, errors.decode('utf-8', 'replace'), process.returncode, failure)
 
 
 @dataclasses.dataclass
-class Answer:
-    """What claxon answered up to its first fault. `wrong` says what no run may do."""
+class Trace:
+    """The trace of `claxon_trace` up to its first fault. `wrong` is what no run may do, or None."""
     head: tuple = None
     blocks: list = dataclasses.field(default_factory=list)
     fault: str = None
     wrong: str = None
 
 
-def ending_of(done, lines, answer):
-    """What is wrong with the way in which a trace ended."""
+def check_ending(finished, lines, trace):
+    """What is wrong with the end of a trace, or None."""
     faults = sum(line.startswith('fault') for line in lines)
-    if done.status != (1 if faults else 0):
-        return 'status %d with %d faults' % (done.status, faults)
-    was_stopped = faults == MOST_FAULTS and lines[-1] != 'fault IO'
-    if done.errors != (STOPPED if was_stopped else ''):
-        return 'errors: %s' % done.errors.split('\n')[0]
-    has_ended = lines[-1:] in (['end'], ['fault IO']) or (not answer.head and len(lines) == 1)
+    if finished.status != (1 if faults else 0):
+        return 'status %d with %d faults' % (finished.status, faults)
+    was_stopped = faults == MAX_FAULTS and lines[-1] != 'fault IO'
+    if finished.errors != (STOPPED if was_stopped else ''):
+        return 'errors: %s' % finished.errors.split('\n')[0]
+    has_ended = lines[-1:] in (['end'], ['fault IO']) or (not trace.head and len(lines) == 1)
     return None if has_ended or was_stopped else 'no last line'
 
 
-def read_line(line, answer):
-    """Takes a line of a trace, and says whether it has the form of one."""
+def read_line(line, trace):
+    """Adds a line to a trace, and returns whether it has the form of one."""
     block, fault, head = BLOCK.fullmatch(line), FAULT.fullmatch(line), HEAD.fullmatch(line)
-    if block and answer.head:
-        if answer.fault is None:
-            answer.blocks.append((int(block[1]), int(block[2]), int(block[3]), block[4]))
+    if block and trace.head:
+        if trace.fault is None:
+            trace.blocks.append((int(block[1]), int(block[2]), int(block[3]), block[4]))
     elif fault:
-        answer.fault = answer.fault or fault[1].removeprefix('Ill-formed FLAC stream: ')
-    elif head and not answer.head:
-        answer.head = head.groups()
+        trace.fault = trace.fault or fault[1].removeprefix('Ill-formed FLAC stream: ')
+    elif head and not trace.head:
+        trace.head = head.groups()
     else:
-        return line == 'end' and answer.head is not None
+        return line == 'end' and trace.head is not None
     return True
 
 
 def claxon(program, path, limits):
     """Runs `claxon_trace`."""
-    done = run([program, path], limits)
-    answer = Answer(wrong=done.trouble)
-    if answer.wrong:
-        return answer
-    lines = done.output.decode('utf-8', 'replace').split('\n')[:-1]
+    finished = run([program, path], limits)
+    trace = Trace(wrong=finished.failure)
+    if trace.wrong:
+        return trace
+    lines = finished.output.decode('utf-8', 'replace').split('\n')[:-1]
     for line in lines:
-        if not read_line(line, answer):
-            answer.wrong = 'line: %s' % line[:80]
-            return answer
-    answer.wrong = ending_of(done, lines, answer)
-    return answer
+        if not read_line(line, trace):
+            trace.wrong = 'line: %s' % line[:80]
+            return trace
+    trace.wrong = check_ending(finished, lines, trace)
+    return trace
 
 
 @dataclasses.dataclass
 class Samples:
-    """What `flac` made of a stream: why it refused it, or None and the bytes of the samples in a WAV file."""
+    """The result of `flac`: why it refused the stream, or None; and the samples as bytes of a WAV file."""
     refusal: str = None
     data: bytes = b''
 
 
-def refusal_of(done):
-    """The first line that `flac` complains in, without its numbers."""
-    for line in done.errors.split('\n'):
+def refusal_of(finished):
+    """The first error message of `flac`, with N for each number, or None."""
+    for line in finished.errors.split('\n'):
         line = line.split('.flac: ')[-1].strip()
         if line and not line.startswith('WARNING, cannot check MD5 signature'):
             return re.sub(r'\d+', 'N', line.removeprefix('*** Got error code '))
-    return None if done.status == 0 else 'status %d' % done.status
+    return None if finished.status == 0 else 'status %d' % finished.status
 
 
 def flac(program, path, limits):
     """Runs `flac -d`."""
     wav = path + '.wav'
-    done = run([program, '-d', '-s', '-f', '-o', wav, path], limits)
-    samples = Samples(done.trouble or refusal_of(done))
+    finished = run([program, '-d', '-s', '-f', '-o', wav, path], limits)
+    samples = Samples(finished.failure or refusal_of(finished))
     if os.path.exists(wav):
         with open(wav, 'rb') as file:
-            samples.data = data_of(file.read())
+            samples.data = data_chunk(file.read())
         os.remove(wav)
     return samples
 
 
-def data_of(wav):
-    """The samples' bytes of a WAV file."""
+def data_chunk(wav):
+    """The content of the data chunk of a WAV file."""
     at = 12
     while at + 8 <= len(wav):
-        length = int.from_bytes(wav[at + 4:at + 8], 'little')
+        size = int.from_bytes(wav[at + 4:at + 8], 'little')
         if wav[at:at + 4] == b'data':
-            return wav[at + 8:at + 8 + length]
-        at += 8 + length + length % 2
+            return wav[at + 8:at + 8 + size]
+        at += 8 + size + size % 2
     return b''
