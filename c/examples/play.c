@@ -1,12 +1,12 @@
-/* play [--tags] [--step BYTES] FILE: writes the samples of a FLAC file to standard output, interleaved, four little-endian bytes
- * each, or its tags. The file is read by so many bytes at a time, and of it no more is kept than the head or a frame. */
+/* play [--tags] [--step BYTES] FILE: writes the samples of a FLAC file to standard output, interleaved, as four
+ * little-endian bytes each, or its tags. It reads BYTES bytes of the file at a time, and drops those that are decoded. */
 #include <stdio.h>
 #include <stdlib.h>
 #include <string.h>
 
 #include "claxon.h"
 
-/* The layout that the library has. */
+/* The layout that the library uses. */
 _Static_assert(sizeof(struct claxon_info) == 40, "claxon_info");
 _Static_assert(offsetof(struct claxon_info, first_frame) == 0 && offsetof(struct claxon_info, tags) == 8, "claxon_info");
 _Static_assert(offsetof(struct claxon_info, samples) == 16 && offsetof(struct claxon_info, sample_rate) == 24, "claxon_info");
@@ -26,7 +26,7 @@ struct input {
 static int32_t samples[CLAXON_MOST_SAMPLES];
 static unsigned char out[4 * CLAXON_MOST_SAMPLES];
 
-/* Drops the bytes before *at, and reads more after the others. Returns 0 where the file has no more. */
+/* Drops the bytes before *at, and reads more after the others. Returns 0 if the file has no more or malloc fails. */
 static int refill(struct input *input, size_t *at) {
     memmove(input->bytes, input->bytes + *at, input->length - *at);
     input->length -= *at;
@@ -133,10 +133,10 @@ int main(int argc, char **argv) {
         error[0] = 0;
     }
     if (error[0]) {
-        const char *kind = status == CLAXON_FORMAT_ERROR ? "Ill-formed FLAC stream: "
-                         : status == CLAXON_UNSUPPORTED  ? "A currently unsupported feature of the FLAC format was encountered: "
-                                                         : "";
-        fprintf(stderr, "%s%s\n", kind, error);
+        const char *prefix = status == CLAXON_FORMAT_ERROR ? "Ill-formed FLAC stream: "
+                           : status == CLAXON_UNSUPPORTED  ? "A currently unsupported feature of the FLAC format was encountered: "
+                                                           : "";
+        fprintf(stderr, "%s%s\n", prefix, error);
     }
     fclose(input.file);
     free(input.bytes);

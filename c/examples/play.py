@@ -1,7 +1,8 @@
 #!/usr/bin/env python3
-"""play.py FILE: writes the samples of a FLAC file to standard output, interleaved, four little-endian bytes each.
+"""play.py FILE: writes the samples of a FLAC file to standard output, interleaved, as four little-endian bytes
+each.
 
-Wants libclaxon.so, which `make -C c` builds into c/out.
+Needs libclaxon.so, which `make -C c` builds into c/out.
 """
 import ctypes
 import pathlib

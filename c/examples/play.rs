@@ -1,4 +1,4 @@
-//! play FILE: writes the samples of a FLAC file to standard output, interleaved, four little-endian bytes each.
+//! play FILE: writes the samples of a FLAC file to standard output, interleaved, as four little-endian bytes each.
 //!
 //! `rustc -O -L c/out c/examples/play.rs` builds it, once `make -C c` has built the library.
 use std::io::Write;
@@ -60,8 +60,8 @@ fn main() -> std::io::Result<()> {
         };
         if status == OK {
             let count = block.channels as usize * block.duration as usize;
-            let of_block: Vec<u8> = samples[..count].iter().flat_map(|sample| sample.to_le_bytes()).collect();
-            output.write_all(&of_block)?;
+            let block_bytes: Vec<u8> = samples[..count].iter().flat_map(|sample| sample.to_le_bytes()).collect();
+            output.write_all(&block_bytes)?;
         }
     }
     if status != NO_MORE {

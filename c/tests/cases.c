@@ -1,6 +1,6 @@
-/* cases FOLDER < LINES: decodes each file that a line `NAME COUNT HASH ANSWER` names, handed in whole and piece by piece, and
- * compares the number of its samples, the FNV-1a hash of their little-endian bytes, and the error. `IO` stands for bytes that
- * end too early. In between it tries each way in which a buffer is too short. */
+/* cases FOLDER < LINES: decodes each file that a line `NAME COUNT HASH RESULT` names, passed whole and piece by piece, and
+ * compares the number of its samples, the FNV-1a hash of their little-endian bytes, and the result: `ok`, the error, or `IO`
+ * where the bytes end too early. It also tests buffers that are too short. */
 #include <inttypes.h>
 #include <stdio.h>
 #include <stdlib.h>
@@ -35,34 +35,34 @@ static void add_samples(struct tally *tally, size_t count) {
     tally->count += count;
 }
 
-/* The same call with a capacity of one sample less leaves all as it is, and shows the block whose samples don't fit. */
-static void try_short(const char *name, const uint8_t *bytes, size_t length, size_t at, const struct claxon_info *info, const struct claxon_block *block) {
-    struct claxon_block shown;
+/* The same call with a capacity of one sample less changes neither the position nor the samples, and fills the block. */
+static void test_short_buffer(const char *name, const uint8_t *bytes, size_t length, size_t at, const struct claxon_info *info, const struct claxon_block *block) {
+    struct claxon_block reported;
     char error[1];
-    size_t same = at;
+    size_t position = at;
     size_t count = (size_t)block->channels * block->duration;
     memset(samples, UNTOUCHED, sizeof samples);
-    uint32_t status = claxon_next_block(bytes, length, &same, info, samples, count - 1, &shown, error, 0);
-    expect(status == CLAXON_BUFFER_SHORT && same == at, name, "a short buffer");
-    expect(shown.channels == block->channels && shown.duration == block->duration && shown.time == block->time, name, "the block of a short buffer");
+    uint32_t status = claxon_next_block(bytes, length, &position, info, samples, count - 1, &reported, error, 0);
+    expect(status == CLAXON_BUFFER_SHORT && position == at, name, "a short buffer");
+    expect(reported.channels == block->channels && reported.duration == block->duration && reported.time == block->time, name, "the block of a short buffer");
     expect(samples[0] == samples[CLAXON_MOST_SAMPLES], name, "samples in a short buffer");
-    status = claxon_next_block(bytes, length, &same, info, samples, count, &shown, error, 0);
-    expect(status == CLAXON_OK && samples[count] == samples[CLAXON_MOST_SAMPLES], name, "a buffer of just that size");
+    status = claxon_next_block(bytes, length, &position, info, samples, count, &reported, error, 0);
+    expect(status == CLAXON_OK && samples[count] == samples[CLAXON_MOST_SAMPLES], name, "a buffer of exactly that size");
 }
 
 /* The text of an error in a small buffer: a prefix of it, a 0, and nothing after the buffer. */
-static void try_cut_text(const char *name, const uint8_t *bytes, size_t length, const char *text) {
+static void test_truncated_text(const char *name, const uint8_t *bytes, size_t length, const char *text) {
     struct claxon_info info;
     for (size_t capacity = 0; capacity < 8; capacity++) {
-        char cut[9];
-        memset(cut, UNTOUCHED, sizeof cut);
-        claxon_open(bytes, length, &info, cut, capacity);
-        expect(capacity == 0 || (strlen(cut) == capacity - 1 && strncmp(cut, text, capacity - 1) == 0), name, "a cut text");
-        expect(cut[capacity] == UNTOUCHED, name, "after a cut text");
+        char truncated[9];
+        memset(truncated, UNTOUCHED, sizeof truncated);
+        claxon_open(bytes, length, &info, truncated, capacity);
+        expect(capacity == 0 || (strlen(truncated) == capacity - 1 && strncmp(truncated, text, capacity - 1) == 0), name, "a truncated text");
+        expect(truncated[capacity] == UNTOUCHED, name, "after a truncated text");
     }
 }
 
-/* Passes the file in pieces of this many bytes, and returns the last status. */
+/* Passes the file in pieces of `piece` bytes, and returns the last status. */
 static uint32_t decode(const char *name, const uint8_t *bytes, size_t length, size_t piece, struct tally *tally, char *error, size_t error_size) {
     struct claxon_info info;
     struct claxon_block block;
@@ -74,7 +74,7 @@ static uint32_t decode(const char *name, const uint8_t *bytes, size_t length, si
     } while (status == CLAXON_INPUT_ENDS && end < length);
     if (status != CLAXON_OK) {
         if (end == length) {
-            try_cut_text(name, bytes, length, error);
+            test_truncated_text(name, bytes, length, error);
         }
         return status;
     }
@@ -86,7 +86,7 @@ static uint32_t decode(const char *name, const uint8_t *bytes, size_t length, si
         if (status == CLAXON_OK) {
             add_samples(tally, (size_t)block.channels * block.duration);
             if (piece == SIZE_MAX) {
-                try_short(name, bytes + start, end - start, before, &info, &block);
+                test_short_buffer(name, bytes + start, end - start, before, &info, &block);
             }
             continue;
         }
@@ -100,13 +100,13 @@ static uint32_t decode(const char *name, const uint8_t *bytes, size_t length, si
     }
 }
 
-static const char *kind_of(uint32_t status) {
+static const char *error_prefix(uint32_t status) {
     return status == CLAXON_FORMAT_ERROR ? "Ill-formed FLAC stream: "
          : status == CLAXON_UNSUPPORTED  ? "A currently unsupported feature of the FLAC format was encountered: "
                                          : "";
 }
 
-static void try_file(const char *name, const uint8_t *bytes, size_t length, uint64_t count, uint64_t hash, const char *answer) {
+static void test_file(const char *name, const uint8_t *bytes, size_t length, uint64_t count, uint64_t hash, const char *expected) {
     const size_t pieces[] = {SIZE_MAX, 997, 61, 1};
     for (size_t i = 0; i < 4; i++) {
         struct tally tally = {0, UINT64_C(0xcbf29ce484222325)};
@@ -116,8 +116,8 @@ static void try_file(const char *name, const uint8_t *bytes, size_t length, uint
             continue;
         }
         uint32_t status = decode(name, bytes, length, pieces[i], &tally, error, sizeof error);
-        snprintf(reported, sizeof reported, "%s%s", kind_of(status), status == CLAXON_NO_MORE ? "ok" : status == CLAXON_INPUT_ENDS ? "IO" : error);
-        if (tally.count != count || tally.hash != hash || strcmp(reported, answer) != 0) {
+        snprintf(reported, sizeof reported, "%s%s", error_prefix(status), status == CLAXON_NO_MORE ? "ok" : status == CLAXON_INPUT_ENDS ? "IO" : error);
+        if (tally.count != count || tally.hash != hash || strcmp(reported, expected) != 0) {
             printf("%s by %zu: %" PRIu64 " %016" PRIx64 " %s\n", name, pieces[i], tally.count, tally.hash, reported);
             failures++;
         }
@@ -142,18 +142,18 @@ static uint8_t *read_file(const char *folder, const char *name, size_t *length) 
 }
 
 int main(int argc, char **argv) {
-    char line[512], name[256], answer[256];
+    char line[512], name[256], expected[256];
     uint64_t count, hash;
     int files = 0;
     while (argc == 2 && fgets(line, sizeof line, stdin)) {
         size_t length = 0;
-        if (sscanf(line, "%255s %" SCNu64 " %" SCNx64 " %255[^\n]", name, &count, &hash, answer) != 4) {
+        if (sscanf(line, "%255s %" SCNu64 " %" SCNx64 " %255[^\n]", name, &count, &hash, expected) != 4) {
             continue;
         }
         uint8_t *bytes = read_file(argv[1], name, &length);
-        expect(bytes != NULL, name, "can't be read");
+        expect(bytes != NULL, name, "the file can't be read");
         if (bytes) {
-            try_file(name, bytes, length, count, hash, answer);
+            test_file(name, bytes, length, count, hash, expected);
             files++;
         }
         free(bytes);
