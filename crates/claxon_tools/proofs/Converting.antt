@@ -182,7 +182,7 @@ eof_met a b is h = subst (λ (q : FrameAnswer). NoneIsEof 2 q a b) is h
 
 module _ {W : Type 0} (contents : W → Option (List ℕ)) (position : W → Option ℕ) where
   -- the header, the samples and the pad byte
-  pub file : (blocks : List Block) (old put new : WavWriter W) → PutsSamples contents blocks old put → Ends contents position put.layout put.announced put.written put.output new.output → HoldsFile contents blocks old new
+  pub file : (blocks : List Block) (old put new : WavWriter W) → PutsSamples contents blocks old put → Ends contents position put new.output → HoldsFile contents blocks old new
   file blocks old put new h ends layout announced output begins is =
       let size = length (packed_blocks layout.valid_bits blocks) in
       let valid_bits : old.layout.valid_bits ≡ layout.valid_bits = ap (λ (l : Layout). l.valid_bits) begins.layout_is in

@@ -114,7 +114,7 @@ pub record Converts {W : Type 0} (contents : W → Option (List ℕ)) (position 
   pub all : IsWholeStream stream blocks s
   pub put : WavWriter W
   pub puts : PutsSamples contents blocks old put
-  pub ends : Ends contents position put.layout put.announced put.written put.output new.output
+  pub ends : Ends contents position put new.output
   pub right : HeaderIsRight put new
   pub file : HoldsFile contents blocks old new
 

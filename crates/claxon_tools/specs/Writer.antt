@@ -50,7 +50,7 @@ SamplesFit block file = All (FitsIn file.layout.valid_bits) (interleave block.ch
 abbrev pub PutBlockFits : {W : Type 0} → BlockValue → Result (Unit {0}) Error → WavWriter W → Type 0
 PutBlockFits block r old = OnOk r (SamplesFit block old)
 
--- The error is `OutOfMemory` or an `IoError` of the decoder's errors.
+-- The error wraps `OutOfMemory` or an `IoError` of `claxon`.
 abbrev pub WrapsMemoryOrIoError : Error → Type 0
 WrapsMemoryOrIoError (Claxon error) = (error ≡ OutOfMemory) ⊎ IsIo error
 WrapsMemoryOrIoError error = ⊥
@@ -98,32 +98,32 @@ pub record WritesHeader {W : Type 0} (contents : W → Option (List ℕ)) (posit
 
 -- If the header was right, nothing was written, else the right one.
 pub record UpdatesHeader {W : Type 0} (contents : W → Option (List ℕ)) (position : W → Option ℕ)
-    (layout : Layout) (announced written : ℕ) (old new : W) : Type 0 where
-  pub right : announced ≡ written → Keeps (contents old) (contents new)
-  pub wrong : (announced ≡ written → ⊥) → WritesHeader contents position layout written old new
+    (old : WavWriter W) (new : W) : Type 0 where
+  pub right : old.announced ≡ old.written → Keeps (contents old.output) (contents new)
+  pub wrong : (old.announced ≡ old.written → ⊥)
+      → WritesHeader contents position old.layout old.written old.output new
 
 -- After an Ok the header is right.
 abbrev pub UpdateHeaderIsSound : {W : Type 0} → (W → Option (List ℕ)) → (W → Option ℕ)
     → Result (Unit {0}) Error → WavWriter W → WavWriter W → Type 0
 UpdateHeaderIsSound contents position r old new =
-    OnOk r (UpdatesHeader contents position old.layout old.announced old.written old.output
-    new.output × HeaderIsRight old new)
+    OnOk r (UpdatesHeader contents position old new.output × HeaderIsRight old new)
 
 -- The pad byte was written after all earlier bytes. If the header was right, nothing else was written; else the right header
 -- was.
 pub record Ends {W : Type 0} (contents : W → Option (List ℕ)) (position : W → Option ℕ)
-    (layout : Layout) (announced written : ℕ) (old new : W) : Type 0 where
-  pub right : announced ≡ written → Appends (contents old) (contents new) (pad written)
-  pub wrong : (announced ≡ written → ⊥) → (padded : W)
-      × Appends (contents old) (contents padded) (pad written)
-      × WritesHeader contents position layout written padded new
+    (old : WavWriter W) (new : W) : Type 0 where
+  pub right : old.announced ≡ old.written
+      → Appends (contents old.output) (contents new) (pad old.written)
+  pub wrong : (old.announced ≡ old.written → ⊥) → (padded : W)
+      × Appends (contents old.output) (contents padded) (pad old.written)
+      × WritesHeader contents position old.layout old.written padded new
 
 -- An Ok wrote the pad byte after the samples, and the header is right.
 abbrev pub FinishIsSound : {W : Type 0} → (W → Option (List ℕ)) → (W → Option ℕ)
     → Result (Unit {0}) Error → WavWriter W → WavWriter W → Type 0
 FinishIsSound contents position r old new =
-    OnOk r (Ends contents position old.layout old.announced old.written old.output new.output
-    × HeaderIsRight old new)
+    OnOk r (Ends contents position old new.output × HeaderIsRight old new)
 
 -- An Err is `OutOfMemory` or an `IoError`.
 abbrev pub FinishFaultIsSound : Result (Unit {0}) Error → Type 0

@@ -17,7 +17,7 @@ use Rattle.claxon.specs.Block.{BlockValue}
 use Rattle.claxon.specs.FrameReader.{ReadsFrame, block_view, stream_with}
 use Rattle.claxon.specs.StreamInfos.{StreamInfo}
 use Rattle.claxon.specs.SampleRuns.{ConsumesFrames, ReadsFrames, samples_of}
-use Rattle.claxon_write.specs.Decoded.{EndsAfter, Gathers, Decodes, DecodesToEof, FailsToDecode, FailsToWrite, StopsDecoding, TakesBlocks, last_bytes}
+use Rattle.claxon_write.specs.Decoded.{EndsAfter, Gathers, Decodes, DecodesToEof, FailsToDecode, FailsToWrite, StopsDecoding, ConsumesFramesOrEnd, last_bytes}
 use Rattle.claxon_write.specs.SampleBytes.{bytes_of_samples}
 use Rattle.claxon_write.specs.Capacity.{capacity}
 use Rattle.claxon_write.specs.Written.{AppendsAllBut, FailsToPut, FlushFailed, IsFlushed, IsUnflushed, KeepsContents, NonePending, NothingFailed, Puts, writer_contents, contents_with_pending, pending}
@@ -104,7 +104,7 @@ ends_unborrowed stream blocks None a b h = runs_unborrowed h
 ends_unborrowed stream blocks (Some e) a b (inl h) = inl (runs_unborrowed h)
 ends_unborrowed stream blocks (Some e) a b (inr h) = inr (record { is_limit = h.is_limit; last = h.last; frames = takes_unborrowed h.frames; many = h.many })
 
-blocks_unborrowed : (stream : Option StreamFormat) (blocks : List Block) (a b : State ℕ) → TakesBlocks stream blocks a b → TakesBlocks stream blocks (unborrowed a) (unborrowed b)
+blocks_unborrowed : (stream : Option StreamFormat) (blocks : List Block) (a b : State ℕ) → ConsumesFramesOrEnd stream blocks a b → ConsumesFramesOrEnd stream blocks (unborrowed a) (unborrowed b)
 blocks_unborrowed stream blocks a b (inl h) = inl (takes_unborrowed h)
 blocks_unborrowed stream blocks a b (inr h) = inr (h.0, ends_unborrowed stream blocks h.0 a b h.1)
 

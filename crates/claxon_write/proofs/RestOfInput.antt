@@ -8,7 +8,7 @@ use Rattle.claxon.specs.Errors.{Error}
 use Rattle.claxon.specs.Gives.{IsRest, Consumes}
 use Rattle.claxon.specs.State.{State}
 use Rattle.claxon.specs.SampleRuns.{ReadsFrames}
-use Rattle.claxon_write.specs.Decoded.{DecodesToEof, EndsAfter, FailsToDecode, TakesBlocks}
+use Rattle.claxon_write.specs.Decoded.{DecodesToEof, EndsAfter, FailsToDecode, ConsumesFramesOrEnd}
 use Rattle.claxon_write.specs.declared.output.Output.{Output}
 
 rest_self : (s : List ℕ) → IsRest s s
@@ -42,7 +42,7 @@ ends_leave stream blocks None a b h = runs_leave (Ok None) h
 ends_leave stream blocks (Some e) a b (inl h) = runs_leave (Err e) h
 ends_leave stream blocks (Some e) a b (inr h) = consumes_leaves h.frames.consumed
 
-blocks_leave : (stream : Option StreamFormat) (blocks : List Block) (a b : State ℕ) → TakesBlocks stream blocks a b → KeepsRest a b
+blocks_leave : (stream : Option StreamFormat) (blocks : List Block) (a b : State ℕ) → ConsumesFramesOrEnd stream blocks a b → KeepsRest a b
 blocks_leave stream blocks a b (inl h) = consumes_leaves h.consumed
 blocks_leave stream blocks a b (inr h) = ends_leave stream blocks h.0 a b h.1
 

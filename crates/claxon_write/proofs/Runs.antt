@@ -17,7 +17,7 @@ use Rattle.claxon.specs.Opening.{OpenFaultIsComplete, OpenIsComplete, IsMemoryOr
 use Rattle.claxon.specs.SampleRuns.{samples_of}
 use Rattle.claxon.specs.declared.reader.FlacReader.{FlacReader}
 use Rattle.claxon_write.specs.SampleBytes.{bytes_of_samples}
-use Rattle.claxon_write.specs.Decoded.{Decodes, DecodesToEof, EndsAfter, FailsToDecode, FailsToWrite, TakesBlocks, TooManySamples}
+use Rattle.claxon_write.specs.Decoded.{Decodes, DecodesToEof, EndsAfter, FailsToDecode, FailsToWrite, ConsumesFramesOrEnd, TooManySamples}
 use Rattle.claxon_write.specs.Run.{DecoderStops, HasFrameFault, IsHeadAndFrames, ReachesLimit, RunWritesAll, RunFaultIsComplete, RunIsComplete, StopsAfterFrames, RunStopsEarly, WritesPrefixOfSamples, WritesPrefixAtMost}
 use Rattle.claxon_write.specs.WriteSamples.{EofAfterBlocks, FaultAfterBlocks, StreamFaultIsComplete, StreamIsComplete, flac_stream}
 use Rattle.claxon_write.specs.Written.{AppendsPrefix, NonePending, writer_contents, pending}
@@ -35,7 +35,7 @@ ends_frames stream blocks None a b h known = (h.between.remaining, (h.blocks_are
 ends_frames stream blocks (Some e) a b (inl h) known = (h.between.remaining, (h.blocks_are.consumed.known known).is)
 ends_frames stream blocks (Some e) a b (inr h) known = let k = frames_split stream blocks h.last a.remaining b.remaining (h.frames.consumed.known known).is in (k.0, k.1)
 
-takes_frames : (stream : Option StreamFormat) (blocks : List Block) (a b : State ℕ) → TakesBlocks stream blocks a b → a.known ≡ true → (rest : List ℕ) × Frames stream a.remaining blocks rest
+takes_frames : (stream : Option StreamFormat) (blocks : List Block) (a b : State ℕ) → ConsumesFramesOrEnd stream blocks a b → a.known ≡ true → (rest : List ℕ) × Frames stream a.remaining blocks rest
 takes_frames stream blocks a b (inl h) known = (b.remaining, (h.consumed.known known).is)
 takes_frames stream blocks a b (inr h) known = ends_frames stream blocks h.0 a b h.1 known
 

@@ -52,8 +52,8 @@ pub record Decodes {W : Type 0} (contents : W → Option (List ℕ)) (stream : O
   pub none_pending : NonePending after
 
 -- Only the frames of these blocks were consumed, or also the end or the fault after them.
-abbrev pub TakesBlocks : Option StreamFormat → List Block → State ℕ → State ℕ → Type 0
-TakesBlocks stream blocks old new =
+abbrev pub ConsumesFramesOrEnd : Option StreamFormat → List Block → State ℕ → State ℕ → Type 0
+ConsumesFramesOrEnd stream blocks old new =
     ConsumesFrames stream blocks old new ⊎ ((end : Option Error)
     × EndsAfter stream blocks end old new)
 
@@ -72,7 +72,7 @@ pub record FailsToWrite {W : Type 0} (contents : W → Option (List ℕ)) (strea
   pub failed : WriteFailed before after
   pub unflushed : IsUnflushed before after
   pub blocks : List Block
-  pub takes : TakesBlocks stream blocks old new
+  pub takes : ConsumesFramesOrEnd stream blocks old new
   pub prefix : AppendsAllBut (capacity + last_bytes blocks) (writer_contents contents before)
       (writer_contents contents after) (pending before ++ bytes_of_samples (samples_of blocks))
   pub none_pending : NonePending after

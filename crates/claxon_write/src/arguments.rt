@@ -1,5 +1,5 @@
 //! The arguments of a program.
-ghost use Rattle.std.specs.Prelude.{◌≡◌, IfErr};
+ghost use Rattle.std.specs.Prelude.{IsOkUnless};
 ghost use Rattle.claxon.specs.Errors.TheVariants.{OutOfMemory};
 
 use claxon::{Error, Result};
@@ -14,7 +14,7 @@ use std::rt::Env;
 ///
 /// Only `OutOfMemory`.
 pub fn words<Q: Env + Alloc>(rt: &Q) -> Result<Vec<String<Q::A>, Q::A>>
-    ensures { IfErr result (λ error. error ≡ OutOfMemory) }
+    ensures { IsOkUnless result OutOfMemory }
 {
     match env::args(rt) {
         Ok(words) => Ok(words.skip(1).collect(rt.alloc())?),
