@@ -60,6 +60,3 @@ Whole-number k = record { same = λ s. go s (ltb (length s) k) refl; rest = λ s
     left : (s : List ℕ) (b : Bool) → Leaves s (bind (cond b Incomplete (Done (take k s) (drop k s))) (λ xs. done (big_endian xs)))
     left s true = tt
     left s false = (take k s, sym (take-append-drop k s))
-
-pub big_in_bits : (k : ℕ) (s : List ℕ) → by_bytes (number_at (8 * k)) s ≡ big_at k s
-big_in_bits k s = whole_is (Whole-number k) s

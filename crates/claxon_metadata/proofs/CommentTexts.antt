@@ -27,12 +27,6 @@ text_not_utf8 bytes h = go (is_utf8 bytes) refl
     go true e = absurd (h (IsUtf8-from_is_utf8 bytes e))
     go false e = refl
 
-pub names_fault : (f : Fault) (e : Error) (text : List ℕ) → text ≡ fault_text f → is_unsupported f ≡ false → IsFormatError e text → IsFault f e
-names_fault f (FormatError reason) text t u h = (h ∙ t, u)
-names_fault f (IoError cause) text t u h = absurd h
-names_fault f (Unsupported reason) text t u h = absurd h
-names_fault f OutOfMemory text t u h = absurd h
-
 -- ---- the first '='
 
 -- it is an ASCII character
