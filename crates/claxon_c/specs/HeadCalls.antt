@@ -17,7 +17,7 @@ abbrev pub texts_of : Option Comment → List (List ℕ)
 texts_of None = []
 texts_of (Some comment) = map (λ entry. entry.text) comment.entries
 
--- It shows this head of so many bytes, and what its frames need to know.
+-- It shows this head, the number of its bytes, and what its frames need to know.
 pub record ShowsHead (h : Head) (count : ℕ) (info : ClaxonInfo) : Type 0 where
   pub first_frame : info.first_frame ≡ count
   pub tags : info.tags ≡ length (texts_of h.comment)

@@ -29,7 +29,7 @@ use Rattle.claxon.specs.Prefix.{BeginsWith}
 use Rattle.claxon_uses.proofs.MemoryOrIoErrors.{same_memory_or_io_error, excused_memory_or_io_error}
 use Rattle.claxon_uses.proofs.Opened.{IsOpened, after_known, after_any_head, head_fault_named, no_head, no_head_fault, shown}
 
--- ---- bytes have one list of first samples, or a fault before so many
+-- ---- bytes have one list of first samples, or a fault before the requested number
 
 -- later frames change nothing
 grown : (stream : Option StreamFormat) (count : ℕ) (blocks others : List Block) (m n : List ℕ) → (count ≤ length (samples_of blocks)) ⊎ (length m < 2) → Frames stream m others n → take count (samples_of blocks) ≡ take count (samples_of (blocks ++ others))

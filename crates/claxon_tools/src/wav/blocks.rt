@@ -31,7 +31,7 @@ pub fn convert<R: Read + Drop, W: Write + Seek, E: Write>(
     finished
 }
 
-// Writes block after block up to the end of the stream. Each has samples, so a WAV file holds only so many blocks.
+// Writes block after block up to the end of the stream. Each has samples, so the size of a WAV file bounds their number.
 fn put_blocks<R: ReadBytes + Drop, W: Write + Seek, E: Write>(
     alloc: Global,
     blocks: FrameReader<R>,
