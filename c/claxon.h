@@ -8,6 +8,10 @@
 
 #include <stddef.h>
 #include <stdint.h>
+#if (defined(__STDC_VERSION__) && __STDC_VERSION__ >= 201112L) || (defined(__cplusplus) && __cplusplus >= 201103L)
+#include <assert.h>
+#define CLAXON_HAS_STATIC_ASSERT
+#endif
 
 #ifdef __cplusplus
 extern "C" {
@@ -45,6 +49,19 @@ struct claxon_block {
     uint32_t channels; /* 1 to 8 */
     uint32_t duration; /* the number of samples of each channel, 1 to 65535 */
 };
+
+/* The layout that the library has: that of x86-64 Linux, which it is built for. */
+#ifdef CLAXON_HAS_STATIC_ASSERT
+static_assert(sizeof(struct claxon_info) == 40 && offsetof(struct claxon_info, first_frame) == 0 &&
+                  offsetof(struct claxon_info, tags) == 8 && offsetof(struct claxon_info, samples) == 16 &&
+                  offsetof(struct claxon_info, sample_rate) == 24 && offsetof(struct claxon_info, channels) == 28 &&
+                  offsetof(struct claxon_info, bits_per_sample) == 32 && offsetof(struct claxon_info, min_block_size) == 36 &&
+                  offsetof(struct claxon_info, max_block_size) == 38,
+              "claxon is for x86-64 Linux: struct claxon_info has another layout here");
+static_assert(sizeof(struct claxon_block) == 16 && offsetof(struct claxon_block, time) == 0 &&
+                  offsetof(struct claxon_block, channels) == 8 && offsetof(struct claxon_block, duration) == 12,
+              "claxon is for x86-64 Linux: struct claxon_block has another layout here");
+#endif
 
 /* Reads the head that the bytes begin with. With CLAXON_OK, `info` is filled.
  * Else: FORMAT_ERROR, UNSUPPORTED, INPUT_ENDS, OUT_OF_MEMORY; `error` gets a text that ends with 0, truncated if it doesn't

@@ -6,15 +6,6 @@
 
 #include "claxon.h"
 
-/* The layout that the library uses. */
-_Static_assert(sizeof(struct claxon_info) == 40, "claxon_info");
-_Static_assert(offsetof(struct claxon_info, first_frame) == 0 && offsetof(struct claxon_info, tags) == 8, "claxon_info");
-_Static_assert(offsetof(struct claxon_info, samples) == 16 && offsetof(struct claxon_info, sample_rate) == 24, "claxon_info");
-_Static_assert(offsetof(struct claxon_info, channels) == 28 && offsetof(struct claxon_info, bits_per_sample) == 32, "claxon_info");
-_Static_assert(offsetof(struct claxon_info, min_block_size) == 36 && offsetof(struct claxon_info, max_block_size) == 38, "claxon_info");
-_Static_assert(sizeof(struct claxon_block) == 16 && offsetof(struct claxon_block, time) == 0, "claxon_block");
-_Static_assert(offsetof(struct claxon_block, channels) == 8 && offsetof(struct claxon_block, duration) == 12, "claxon_block");
-
 struct input {
     FILE *file;
     uint8_t *bytes;
