@@ -8,7 +8,7 @@ use Rattle.std.proofs.lemmas.Nat.{pow_pos, shl-shr, shl_below, shr_below, shr_sp
 use Rattle.std.proofs.Math.Nat.{eq-zero-or-pos, mod-eq_of_lt, mul-pos}
 use Rattle.std.proofs.Math.Seq.{drop-append-add}
 use Rattle.claxon_format.specs.Bits.{Bits, bits}
-use Rattle.claxon_format.specs.read.Bits.{zigzag_decode, number_at, unary_at, rice_code_at}
+use Rattle.claxon_format.specs.read.Bits.{number_at, unary_at}
 use Rattle.claxon_format.specs.read.Reading.{Done, times_at, each_at}
 use Rattle.claxon_format.proofs.Numbers.{Reads-number, length-bits}
 use Rattle.claxon_format.proofs.RiceCodes.{Reads-unary}
@@ -17,8 +17,8 @@ use Rattle.claxon_input.specs.declared.bits.buffered.BufferedBits.{BufferedBits}
 use Rattle.claxon_input.proofs.BitLists.{bits-join, bits-low}
 use Rattle.claxon_input.proofs.CacheBits.{top_bits, low_bits, highest}
 use Rattle.claxon_input.proofs.FieldLoops.{times_push}
-use Rattle.claxon_subframe.specs.RiceCodes.{IsFirstRiceCode}
-use Rattle.claxon_subframe.proofs.RiceCodeShifts.{rice_code_from}
+use Rattle.claxon_subframe.specs.RiceCodes.{IsFirstRiceCode, encoded_code_at}
+use Rattle.claxon_subframe.proofs.RiceCodeShifts.{encoded_code_from}
 
 -- ---- rotation
 
@@ -112,10 +112,10 @@ split_rice_code W P z k n first h le =
     sym (take-append-drop (z + 1 + k) (take n W)) ∙ ap (λ (t : Bits). t ++ drop (z + 1 + k) (take n W)) (one ∙ ap (λ (t : Bits). t ++ take k (drop (z + 1) W)) first)
     ∙ append_assoc P (take k (drop (z + 1) W)) (drop (z + 1 + k) (take n W))
 
-pub first_is : (k x : ℕ) (e v : ℤ) → k ≤ 30 → x < 18446744073709551616
-    → e ≡ zigzag_decode (bit_or (leading_zeros w64 x * 2 ^ k % 4294967296) (rotate_right w64 x (rotation_by (leading_zeros w64 x) k) % 2 ^ k)) → v ≡ to_z w32 (of_z w32 e)
+pub first_is : (k x : ℕ) (v : ℤ) → k ≤ 30 → x < 18446744073709551616
+    → v ≡ to_z w32 (bit_or (leading_zeros w64 x * 2 ^ k % 4294967296) (rotate_right w64 x (rotation_by (leading_zeros w64 x) k) % 2 ^ k))
     → IsFirstRiceCode k x v (leading_zeros w64 x + 1 + k) (rotate_right w64 x (rotation_by (leading_zeros w64 x) k))
-first_is k x e v le lt e-is v-is = record {
+first_is k x v le lt v-is = record {
   code = λ n rest small h capacity.
       let z : ℕ = leading_zeros w64 x in
       let rotated : ℕ = rotate_right w64 x (rotation_by z k) in
@@ -127,7 +127,7 @@ first_is k x e v le lt e-is v-is = record {
       ∙ append_assoc P (bits k r ++ left) rest ∙ ap (λ (t : Bits). P ++ t) (append_assoc (bits k r) left rest) in
       let first : unary_at (take n (bits 64 x) ++ rest) ≡ Done z (bits k r ++ (left ++ rest)) = ap unary_at split ∙ Reads-unary.again z P (bits k r ++ (left ++ rest)) (omega arith, refl) in
       let second : number_at k (bits k r ++ (left ++ rest)) ≡ Done r (left ++ rest) = (Reads-number k).again r (bits k r) (left ++ rest) (mod_below rotated (2 ^ k) (pow_pos k), refl) in
-      rice_code_from k z r e v (take n (bits 64 x) ++ rest) (bits k r ++ (left ++ rest)) (left ++ rest) le first second e-is v-is;
+      encoded_code_from k z r v (take n (bits 64 x) ++ rest) (bits k r ++ (left ++ rest)) (left ++ rest) le first second v-is;
   others = λ n small h capacity.
       let m : ℕ = leading_zeros w64 x + 1 + k in
       let len : length (drop m (bits 64 x)) ≡ 64 - m = length-drop m (bits 64 x) ∙ ap (λ (j : ℕ). j - m) (length-bits 64 x) in
@@ -147,7 +147,7 @@ but_last w = take 63 (bits 64 w)
 pub record GroupSoFar (k w : ℕ) (xs : List ℤ) (codes used peeked : ℕ) : Type 0 where
   pub few : used ≤ 95 * codes
   pub some : 0 < peeked
-  pub so_far : used ≤ 56 → (rest : Bits) → times_at codes (rice_code_at k) (but_last w ++ rest) ≡ Done (take codes xs) (drop used (but_last w) ++ rest)
+  pub so_far : used ≤ 56 → (rest : Bits) → times_at codes (encoded_code_at k) (but_last w ++ rest) ≡ Done (take codes xs) (drop used (but_last w) ++ rest)
   pub others : used ≤ 56 → take (63 - used) (bits 64 peeked) ≡ drop used (but_last w)
 
 last_set : (w : ℕ) → but_last (bit_or w 1) ≡ but_last w
@@ -166,9 +166,9 @@ group_next k w xs codes used peeked x n_bits rotated lt h le some is = record {
   some = some;
   so_far = λ fits rest.
       let T = h.others (omega arith) in
-      let e : rice_code_at k (drop used (but_last w) ++ rest) ≡ Done x (drop (used + n_bits) (but_last w) ++ rest)
-      = subst (λ (t : Bits). rice_code_at k (t ++ rest) ≡ Done x (drop n_bits t ++ rest)) T (is.code (63 - used) rest (omega arith) (omega arith) (omega arith)) ∙ ap (λ (t : Bits). Done x (t ++ rest)) (drop-drop n_bits used (but_last w)) in
-      times_push (rice_code_at k) codes (but_last w ++ rest) (drop used (but_last w) ++ rest) (drop (used + n_bits) (but_last w) ++ rest) (take codes xs) x (h.so_far (omega arith) rest) e
+      let e : encoded_code_at k (drop used (but_last w) ++ rest) ≡ Done x (drop (used + n_bits) (but_last w) ++ rest)
+      = subst (λ (t : Bits). encoded_code_at k (t ++ rest) ≡ Done x (drop n_bits t ++ rest)) T (is.code (63 - used) rest (omega arith) (omega arith) (omega arith)) ∙ ap (λ (t : Bits). Done x (t ++ rest)) (drop-drop n_bits used (but_last w)) in
+      times_push (encoded_code_at k) codes (but_last w ++ rest) (drop used (but_last w) ++ rest) (drop (used + n_bits) (but_last w) ++ rest) (take codes xs) x (h.so_far (omega arith) rest) e
       ∙ ap (λ (t : List ℤ). Done t (drop (used + n_bits) (but_last w) ++ rest)) (sym (take_more_set xs codes x lt));
   others = λ fits.
       let n : 63 - (used + n_bits) ≡ 63 - used - n_bits = omega arith in
@@ -183,11 +183,11 @@ after_last w used m le =
     ∙ append_assoc (drop used (but_last w)) (drop 63 (bits 64 w)) m
 
 pub group_read : (k w : ℕ) (xs : List ℤ) (codes used peeked : ℕ) (a b c : BufferedBits) → codes ≡ length xs → used ≤ 56 → GroupSoFar k w xs codes used peeked → bits_in_buffer b ≡ bits_in_buffer a → PeeksBits w b → bits_in_buffer c ≡ drop used (bits_in_buffer b)
-    → GivesBuffered a c (times_at (length xs) (rice_code_at k)) xs
+    → GivesBuffered a c (times_at (length xs) (encoded_code_at k)) xs
 group_read k w xs codes used peeked a b c e fits h same shows consumed rest =
     let m : Bits = shows.after in
     let last : Bits = drop 63 (bits 64 w) in
     let old : bits_in_buffer a ++ rest ≡ but_last w ++ (last ++ (m ++ rest)) = ap (λ (t : Bits). t ++ rest) (sym same ∙ shows.next) ∙ append_assoc (bits 64 w) m rest ∙ after_last w 0 (m ++ rest) (omega arith) in
     let new : bits_in_buffer c ++ rest ≡ drop used (but_last w) ++ (last ++ (m ++ rest))
     = ap (λ (t : Bits). t ++ rest) (consumed ∙ ap (drop used) shows.next ∙ drop-append-le used (bits 64 w) m (omega (arith, length-bits 64 w))) ∙ append_assoc (drop used (bits 64 w)) m rest ∙ after_last w used (m ++ rest) fits in
-    ap₂ (λ (n : ℕ) (s : Bits). times_at n (rice_code_at k) s) (sym e) old ∙ h.so_far fits (last ++ (m ++ rest)) ∙ ap₂ (λ (t : List ℤ) (s : Bits). Done t s) (take_all codes xs (omega arith)) (sym new)
+    ap₂ (λ (n : ℕ) (s : Bits). times_at n (encoded_code_at k) s) (sym e) old ∙ h.so_far fits (last ++ (m ++ rest)) ∙ ap₂ (λ (t : List ℤ) (s : Bits). Done t s) (take_all codes xs (omega arith)) (sym new)

@@ -1,15 +1,19 @@
 -- A Rice code's number by shifts and an or, and zigzag decoding.
-use Rattle.std.proofs.Common.{◌≡◌, ℕ, ◌+◌, ◌-◌, ◌*◌, ◌/◌, ◌%◌, ◌^◌, ◌<◌, ◌≤◌, ltb, false, refl, sym, ap, ◌∙◌, arith, inl, inr, ◌⊎◌, ℤ, pos, negsuc, to_z, of_z, w32, FitsSigned, bit_or, bit_xor}
+use Rattle.std.proofs.Common.{◌≡◌, ℕ, zero, suc, Bool, List, [], ◌∷◌, ◌++◌, length, take, drop, map, ◌+◌, ◌-◌, ◌*◌, ◌/◌, ◌%◌, ◌^◌, ◌<◌, ◌≤◌, ltb, false, refl, sym, ap, ◌∙◌, arith, inl, inr, ◌⊎◌, ℤ, pos, negsuc, to_z, of_z, w32, FitsSigned, bit_or, bit_xor}
 use Rattle.std.proofs.lemmas.Bool.{le-ltb}
 use Rattle.std.proofs.lemmas.Nat.{and_mask, div-mul-add, mod-mul-add, mod_below, pow_pos, shl-shr, or_shifted}
-use Rattle.std.proofs.lemmas.Int.{ints, to_z-of_z}
+use Rattle.std.proofs.lemmas.List.{length-map, length-take-le, take_at}
+use Rattle.std.proofs.lemmas.Int.{ints, of_z-to_z}
 use Rattle.std.specs.Int.Bits.{xor_add_and, xor_zero_r}
 use Rattle.std.specs.Int.Signed.{shr_z}
 use Rattle.claxon_format.specs.Bits.{Bits}
 use Rattle.claxon_format.specs.read.Bits.{zigzag_decode, zigzag_encoded, number_at, unary_at, rice_code_at}
-use Rattle.claxon_format.specs.read.Reading.{Done, done}
+use Rattle.claxon_format.specs.read.Reading.{Reading, Done, Faulty, Incomplete, and_then, bind, done, each_at, times_at}
 use Rattle.claxon_format.proofs.Numbers.{Reads-number}
 use Rattle.claxon_format.proofs.RiceCodes.{parts, zigzag_decode-fits}
+use Rattle.claxon_input.specs.BufferedBits.{bits_in_buffer}
+use Rattle.claxon_input.specs.declared.bits.buffered.BufferedBits.{BufferedBits}
+use Rattle.claxon_subframe.specs.RiceCodes.{BufferedCodesAreRead, EncodedCodesAreRead, decoded, encoded_code_at}
 
 -- the quotient shifted, or the low bits
 pub or_folded : (k q r : ℕ) → k ≤ 32 → r < 2 ^ k → bit_or (q * 2 ^ k % 4294967296) r ≡ zigzag_encoded k q r
@@ -32,12 +36,12 @@ rice_code_is k q r e s m left le first second e-is =
     let fits : FitsSigned w32 e = rw whole (zigzag_decode-fits (zigzag_encoded k q r) (mod_below (q * 2 ^ k + r) 4294967296 (omega arith))) in
     (rw (first, second) (ap (λ (y : ℤ). done y left) (sym whole)), fits)
 
--- as it is kept in 32 bits
-pub rice_code_from : (k q r : ℕ) (e v : ℤ) (s m left : Bits) → k ≤ 30 → unary_at s ≡ Done q m → number_at k m ≡ Done r left → e ≡ zigzag_decode (bit_or (q * 2 ^ k % 4294967296) r) → v ≡ to_z w32 (of_z w32 e)
-    → rice_code_at k s ≡ Done v left
-rice_code_from k q r e v s m left le first second e-is v-is =
-    let w = rice_code_is k q r e s m left le first second e-is in
-    rw (v-is ∙ to_z-of_z w32 e w.1) w.0
+-- the zigzag-encoded number of the call and the remaining bits
+pub encoded_code_from : (k q r : ℕ) (v : ℤ) (s m left : Bits) → k ≤ 30 → unary_at s ≡ Done q m → number_at k m ≡ Done r left → v ≡ to_z w32 (bit_or (q * 2 ^ k % 4294967296) r) → encoded_code_at k s ≡ Done v left
+unfolding encoded_code_at
+encoded_code_from k q r v s m left le first second v-is =
+    let small : r < 2 ^ k = ((Reads-number k).takes m r left second).1.0 in
+    rw (first, second) (ap (λ (y : ℤ). done y left) (sym (v-is ∙ ap (to_z w32) (or_folded k q r (omega arith) small))))
 
 -- ---- zigzag decoding
 
@@ -68,3 +72,51 @@ rice_is v z lt e =
           let x : bit_xor (v / 2) 4294967295 + v / 2 + 1 ≡ 4294967296 = xor_ones (v / 2) (omega arith) in
           rw (z-is, parity) (to_z_high (bit_xor (v / 2) 4294967295) (v / 2) x (omega arith)))
     ]
+
+-- ---- codes that are zigzag-decoded after they were read
+
+-- what is read, with f of its value
+abbrev pub mapped : {X A B : Type 0} → (A → B) → Reading X A → Reading X B
+mapped f (Done a s) = Done (f a) s
+mapped f (Faulty e s) = Faulty e s
+mapped f Incomplete = Incomplete
+
+-- a code is read as its encoded number is, and then decoded
+pub rice_code_decoded : (k : ℕ) (s : Bits) → rice_code_at k s ≡ mapped decoded (encoded_code_at k s)
+unfolding rice_code_at encoded_code_at
+rice_code_decoded k s = first (unary_at s)
+  where
+    second : (q : ℕ) (r : Reading Bool ℕ) → bind r (λ n. done (zigzag_decode (zigzag_encoded k q n))) ≡ mapped decoded (bind r (λ n. done (to_z w32 (zigzag_encoded k q n))))
+    second q (Done r m) = ap (λ (n : ℕ). Done (zigzag_decode n) m) (sym (of_z-to_z w32 (zigzag_encoded k q r) (mod_below (q * 2 ^ k + r) 4294967296 (omega arith))))
+    second q (Faulty f m) = refl
+    second q Incomplete = refl
+    first : (r : Reading Bool ℕ) → bind r (λ q. and_then (number_at k) (λ n. done (zigzag_decode (zigzag_encoded k q n)))) ≡ mapped decoded (bind r (λ q. and_then (number_at k) (λ n. done (to_z w32 (zigzag_encoded k q n)))))
+    first (Done q m) = second q (number_at k m)
+    first (Faulty f m) = refl
+    first Incomplete = refl
+
+-- and so are several codes
+pub codes_decoded : (k n : ℕ) (s : Bits) → times_at n (rice_code_at k) s ≡ mapped (map decoded) (times_at n (encoded_code_at k) s)
+unfolding times_at each_at
+codes_decoded k zero s = refl
+codes_decoded k (suc n) s = rw (rice_code_decoded k s) (first (λ m. codes_decoded k n m) (encoded_code_at k s))
+  where
+    second : (x : ℤ) (r : Reading Bool (List ℤ)) → bind (mapped (map decoded) r) (λ xs. done (decoded x ∷ xs)) ≡ mapped (map decoded) (bind r (λ xs. done (x ∷ xs)))
+    second x (Done xs m) = refl
+    second x (Faulty f m) = refl
+    second x Incomplete = refl
+    first : ((m : Bits) → times_at n (rice_code_at k) m ≡ mapped (map decoded) (times_at n (encoded_code_at k) m)) → (r : Reading Bool ℤ) → bind (mapped decoded r) (λ x m. bind (times_at n (rice_code_at k) m) (λ xs. done (x ∷ xs))) ≡ mapped (map decoded) (bind r (λ x m. bind (times_at n (encoded_code_at k) m) (λ xs. done (x ∷ xs))))
+    first others (Done x m) = ap (λ (r : Reading Bool (List ℤ)). bind r (λ xs. done (decoded x ∷ xs))) (others m) ∙ second x (times_at n (encoded_code_at k) m)
+    first others (Faulty f m) = refl
+    first others Incomplete = refl
+
+-- the codes of the buffer, once the encoded numbers at its front are decoded
+pub codes_read : (k codes : ℕ) (xs ys : List ℤ) (a b : BufferedBits) → take codes ys ≡ map decoded (take codes xs) → EncodedCodesAreRead k a codes b xs → BufferedCodesAreRead k a codes b ys
+codes_read k codes xs ys a b e h rest =
+    codes_decoded k codes (bits_in_buffer a ++ rest) ∙ ap (mapped (map decoded)) (h rest) ∙ ap (λ (t : List ℤ). Done t (bits_in_buffer b ++ rest)) (sym e)
+
+-- the encoded numbers at the front of the buffer, decoded in their place
+pub decoded_front : (codes : ℕ) (xs ys : List ℤ) → codes ≤ length xs → ys ≡ map decoded (take codes xs) → take codes (ys ++ drop codes xs) ≡ map decoded (take codes xs)
+decoded_front codes xs ys le e =
+    let len : length ys ≡ codes = ap length e ∙ length-map (take codes xs) decoded ∙ length-take-le codes xs le in
+    take_at ys (drop codes xs) codes len ∙ e

@@ -1,6 +1,6 @@
 //! The Rice codes of a partition: most of a stream's bits, and of the time to decode it. They are decoded from the buffered bits,
 //! where no call can fail; then these bits are skipped in one call.
-ghost use Rattle.std.specs.Prelude.{◌≡◌, ◌<◌, ◌≤◌, IfOk, IfErr, OnErr, length};
+ghost use Rattle.std.specs.Prelude.{◌≡◌, ◌<◌, ◌≤◌, IfOk, IfErr, OnErr, length, map};
 ghost use Rattle.std.specs.Bool.{MatchBool};
 ghost use Rattle.claxon_format.specs.Bits.{Bits};
 ghost use Rattle.claxon_format.specs.read.Bits.{zigzag_decode, rice_code_at};
@@ -9,7 +9,7 @@ ghost use Rattle.claxon_input.specs.BufferedBits.{bits_in_buffer, GivesBuffered,
 ghost use Rattle.claxon_input.specs.State.{bits_in};
 ghost use Rattle.claxon_input.specs.Gives.{Gives, FailureOr};
 ghost use Rattle.claxon_input.specs.Error.{IsIo};
-ghost use Rattle.claxon_subframe.specs.RiceCodes.{RiceCodesAreRead, FirstRiceCodesAreRead, BufferedCodesAreRead, IsFirstRiceCode};
+ghost use Rattle.claxon_subframe.specs.RiceCodes.{RiceCodesAreRead, FirstRiceCodesAreRead, BufferedCodesAreRead, EncodedCodesAreRead, IsFirstRiceCode, decoded, encoded_code_at};
 
 use claxon_input::error::Result;
 use claxon_input::input::{Bitstream, BufferedBits, ReadBytes};
@@ -73,15 +73,27 @@ pub fn decode_buffered_codes(
     let mut next = *buffered;
     let codes = match parameter {
         0..=4 => decode_by_groups(6, &mut next, parameter, buffer),
-        5..=9 => decode_by_groups(4, &mut next, parameter, buffer),
+        5..=7 => decode_by_groups(5, &mut next, parameter, buffer),
+        8..=9 => decode_by_groups(4, &mut next, parameter, buffer),
         10..=14 => decode_by_groups(3, &mut next, parameter, buffer),
         _ => decode_by_groups(2, &mut next, parameter, buffer),
     };
     *buffered = next;
+    decode_zigzag(&mut buffer[..codes]);
     codes
 }
 
-// The same, in groups of `group` codes where these fit into 64 bits.
+// Zigzag-decodes each number. No number waits for another here, so the compiler decodes several at once, in vectors.
+fn decode_zigzag(numbers: &mut [i32])
+    ensures { numbers.new ≡ map decoded numbers.old }
+{
+    for number in numbers.iter_mut() {
+        *number = rice_to_signed(number.cast_unsigned());
+    }
+}
+
+// Decodes the Rice codes that are completely buffered to their zigzag-encoded numbers, in groups of `group` codes where these fit
+// into 64 bits, and returns how many there are.
 #[inline(always)]
 fn decode_by_groups(
     group: usize,
@@ -92,7 +104,7 @@ fn decode_by_groups(
     requires parameter { parameter ≤ 30 }
     requires group { group ≤ 6 }
     ensures few { result ≤ length buffer.new }
-    ensures codes { BufferedCodesAreRead parameter buffered.old result buffered.new buffer.new }
+    ensures codes { EncodedCodesAreRead parameter buffered.old result buffered.new buffer.new }
 {
     let mut codes = 0;
     while codes < buffer.len() {
@@ -117,7 +129,7 @@ fn decode_group_or_code(
     requires group { group ≤ 6 }
     requires capacity { 0 < length buffer.now }
     ensures few { result ≤ length buffer.new }
-    ensures codes { BufferedCodesAreRead parameter buffered.old result buffered.new buffer.new }
+    ensures codes { EncodedCodesAreRead parameter buffered.old result buffered.new buffer.new }
 {
     if group <= buffer.len() && decode_group(buffered, parameter, &mut buffer[..group]) {
         return group;
@@ -136,7 +148,7 @@ fn decode_group(buffered: &mut BufferedBits, parameter: u32, group: &mut [i32]) 
     requires few { length group.now ≤ 6 }
     ensures { MatchBool result
         (GivesBuffered buffered.old buffered.new
-        (times_at (length group.new) (rice_code_at parameter)) group.new)
+        (times_at (length group.new) (encoded_code_at parameter)) group.new)
         (bits_in_buffer buffered.new ≡ bits_in_buffer buffered.old) }
 {
     let Some(first) = buffered.peek() else {
@@ -145,9 +157,9 @@ fn decode_group(buffered: &mut BufferedBits, parameter: u32, group: &mut [i32]) 
     // The last bit is set so that the 64 bits are never zero; a code that reaches this bit isn't used.
     let mut peeked = first | 1;
     let mut used = 0;
-    for residual in group.iter_mut() {
+    for number in group.iter_mut() {
         let (code, bits, rotated) = first_rice_code(peeked, parameter);
-        *residual = code;
+        *number = code;
         used += bits;
         peeked = rotated;
     }
@@ -158,8 +170,8 @@ fn decode_group(buffered: &mut BufferedBits, parameter: u32, group: &mut [i32]) 
     true
 }
 
-// The residual sample of the first Rice code in 64 bits, the length of the code in bits, and the 64 bits rotated past it. Where
-// the length is 64 or more the sample is unspecified.
+// The zigzag-encoded number of the first Rice code in 64 bits, the length of the code in bits, and the 64 bits rotated past it.
+// Where the length is 64 or more the number is unspecified.
 #[inline(always)]
 fn first_rice_code(peeked: u64, parameter: u32) -> (i32, u32, u64)
     requires parameter { parameter ≤ 30 }
@@ -176,20 +188,20 @@ fn first_rice_code(peeked: u64, parameter: u32) -> (i32, u32, u64)
     let rotated = peeked.rotate_right(back);
     let low = (rotated & ((1 << parameter) - 1)) as u32;
     let zeros = first ^ 63;
-    (rice_to_signed((zeros << parameter) | low), bits, rotated)
+    (((zeros << parameter) | low).cast_signed(), bits, rotated)
 }
 
-// A Rice code, or `None` where it isn't completely buffered.
+// The zigzag-encoded number of a Rice code, or `None` where the code isn't completely buffered.
 #[inline(always)]
 fn decode_code(buffered: &mut BufferedBits, parameter: u32) -> Option<i32>
     requires { parameter ≤ 30 }
-    ensures { GivesBufferedOrNone (rice_code_at parameter) buffered.old result buffered.new }
+    ensures { GivesBufferedOrNone (encoded_code_at parameter) buffered.old result buffered.new }
 {
     let mut next = *buffered;
     let quotient = next.unary()?;
     let low = next.number(parameter)?;
     *buffered = next;
-    Some(rice_to_signed((quotient << parameter) | low))
+    Some(((quotient << parameter) | low).cast_signed())
 }
 
 // A Rice code: the quotient by 2^parameter in unary, as zeros and a one, then the remainder in `parameter` bits. The number is
