@@ -71,11 +71,23 @@ pub fn decode_buffered_codes(
 {
     // A copy stays in registers: the reference might alias the buffer, and would be loaded again after each code.
     let mut next = *buffered;
+    // The compiler makes code of its own for each of the parameters that are frequent.
     let codes = match parameter {
-        0..=4 => decode_by_groups(6, &mut next, parameter, buffer),
-        5..=7 => decode_by_groups(5, &mut next, parameter, buffer),
-        8..=9 => decode_by_groups(4, &mut next, parameter, buffer),
-        10..=14 => decode_by_groups(3, &mut next, parameter, buffer),
+        0 => decode_by_groups(6, &mut next, 0, buffer),
+        1 => decode_by_groups(6, &mut next, 1, buffer),
+        2 => decode_by_groups(6, &mut next, 2, buffer),
+        3 => decode_by_groups(6, &mut next, 3, buffer),
+        4 => decode_by_groups(6, &mut next, 4, buffer),
+        5 => decode_by_groups(5, &mut next, 5, buffer),
+        6 => decode_by_groups(5, &mut next, 6, buffer),
+        7 => decode_by_groups(5, &mut next, 7, buffer),
+        8 => decode_by_groups(4, &mut next, 8, buffer),
+        9 => decode_by_groups(4, &mut next, 9, buffer),
+        10 => decode_by_groups(3, &mut next, 10, buffer),
+        11 => decode_by_groups(3, &mut next, 11, buffer),
+        12 => decode_by_groups(3, &mut next, 12, buffer),
+        13 => decode_by_groups(3, &mut next, 13, buffer),
+        14 => decode_by_groups(3, &mut next, 14, buffer),
         _ => decode_by_groups(2, &mut next, parameter, buffer),
     };
     *buffered = next;

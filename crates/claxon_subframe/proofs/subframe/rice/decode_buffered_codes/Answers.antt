@@ -5,7 +5,7 @@ use Rattle.claxon_subframe.proofs.subframe.rice.decode_buffered_codes.Goals as g
 
 pub returns-clause-codes : goal.returns-clause-codes
 returns-clause-codes c =
-    let read = c.if-parameter-lt5 in
+    let read = c.match-parameter in
     let few : read.codes ≤ length read.buffer = search rules in
     let encoded : EncodedCodesAreRead c.args.parameter c.args.buffered.now read.codes read.next read.buffer = search rules in
     codes_read c.args.parameter read.codes read.buffer _ c.args.buffered.now read.next (decoded_front read.codes read.buffer c.decode_zigzag.new.numbers few c.decode_zigzag.ensures) encoded
