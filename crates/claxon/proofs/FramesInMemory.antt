@@ -1,5 +1,5 @@
 -- The answer of a call that reads a frame of bytes in memory.
-use Rattle.std.proofs.Common.{◌≡◌, ◌⊎◌, inl, inr, ℕ, ◌<◌, true, List, [], ◌++◌, length, drop, Option, None, Some, sym, ap, subst, ◌∙◌, refl, Bor}
+use Rattle.std.proofs.Common.{◌≡◌, ◌⊎◌, inl, inr, ℕ, ◌<◌, List, [], ◌++◌, length, drop, Option, None, Some, sym, ap, subst, ◌∙◌, refl, Bor}
 use Rattle.std.specs.Prelude.{Ok, Err}
 use Rattle.std.specs.declared.io.Cursor.{Cursor}
 use Rattle.std.specs.Io.Cursor.{cursor_position, cursor_inner}
@@ -13,6 +13,7 @@ use Rattle.claxon.specs.FrameReaders.{FrameReader}
 use Rattle.claxon.specs.Prefix.{BeginsWith}
 use Rattle.claxon.specs.FramesInMemory.{SliceFrameIsSound, SliceFrameIsComplete, SliceFrameFaultIsComplete, SliceFrameFaultIsSound, SliceFrameNoneIffEof, SliceFrameOutOfMemoryAfterHeader}
 use Rattle.claxon.proofs.InMemory.{cursor_remains, cursor_never_fails, new_cursor_remains}
+use Rattle.claxon_input.specs.State.{RemainingIsKnown}
 
 -- all clauses of such a call
 pub record SliceFramePromises (stream : Option StreamFormat) (bytes : List ℕ) (r : FrameAnswer) : Type 0 where
@@ -62,7 +63,7 @@ module _ (stream : Option StreamFormat) (bytes : List ℕ) (a b : State ℕ) (re
   slice_none_iff_eof r h k = (λ e. only_few r h e, λ few. elim (k bytes remains few) [ inl p ↦ p.0 | inr f ↦ absurd (never f.1) ])
     where
       only_few : (r : FrameAnswer) → NoneIsEof 2 r a b → r ≡ Ok None → length bytes < 2
-      only_few r h e = let n : None ≡ None → a.known ≡ true → (length a.remaining < 2) × Remains b [] = rw e at h in subst (λ (s : List ℕ). length s < 2) remains.are (n refl remains.known).0
+      only_few r h e = let n : None ≡ None → RemainingIsKnown a → (length a.remaining < 2) × Remains b [] = rw e at h in subst (λ (s : List ℕ). length s < 2) remains.are (n refl remains.known).0
 
   pub slice_frame_promises : (r : FrameAnswer) → ReadsFrame stream r a b → ((xs : List ℕ) → Remains a xs → length xs < 2 → ((r ≡ Ok None) × Remains b []) ⊎ HasFailed r a b) → SliceFramePromises stream bytes r
   slice_frame_promises r h eof_is_none = record {

@@ -17,7 +17,7 @@ use Rattle.claxon_input.specs.declared.error.Error.TheVariants.{OutOfMemory}
 use Rattle.claxon_input.specs.Gives.{Stops, Consumes}
 use Rattle.claxon_input.specs.Promises.{IsOutOfMemory}
 use Rattle.claxon_input.proofs.Memory.{stops_not_out_of_memory}
-use Rattle.claxon_input.specs.State.{State}
+use Rattle.claxon_input.specs.State.{State, RemainingIsKnown}
 use Rattle.claxon_metadata.specs.MetadataBlock.{MayRunOutOfMemory, OutOfMemoryAfterBlockHeader}
 use Rattle.claxon.specs.ReadHead.{MemoryMayBeNeeded, OutOfMemoryAfterBlocks, other_at}
 
@@ -103,18 +103,18 @@ never_out_of_memory_without_allocation {r = r} {e = e} {read = read} {a = a} {b 
     absurd cc
 
 -- at the next block
-pub out_of_memory_here : {A : Type 0} (a : State ℕ) {r : Result A Error} {e : Error} → (y : Error) × (r ≡ Err y) × (y ≡ e) → (e ≡ OutOfMemory → a.known ≡ true → HeaderMayRunOutOfMemory a.remaining) → OutOfMemoryAfterBlockHeader r a
+pub out_of_memory_here : {A : Type 0} (a : State ℕ) {r : Result A Error} {e : Error} → (y : Error) × (r ≡ Err y) × (y ≡ e) → (e ≡ OutOfMemory → RemainingIsKnown a → HeaderMayRunOutOfMemory a.remaining) → OutOfMemoryAfterBlockHeader r a
 out_of_memory_here a {r = r} {e = e} p h out_of_memory is_known = h (error_is_out_of_memory r e p out_of_memory) is_known
 
 -- after blocks that were consumed
-pub out_of_memory_after_blocks : {A : Type 0} (a b : State ℕ) {r : Result A Error} {e : Error} → (y : Error) × (r ≡ Err y) × (y ≡ e) → Consumes a b ConsumesBlocks → (e ≡ OutOfMemory → b.known ≡ true → HeaderMayRunOutOfMemory b.remaining) → OutOfMemoryAfterBlocks r a
+pub out_of_memory_after_blocks : {A : Type 0} (a b : State ℕ) {r : Result A Error} {e : Error} → (y : Error) × (r ≡ Err y) × (y ≡ e) → Consumes a b ConsumesBlocks → (e ≡ OutOfMemory → RemainingIsKnown b → HeaderMayRunOutOfMemory b.remaining) → OutOfMemoryAfterBlocks r a
 out_of_memory_after_blocks a b {r = r} {e = e} p w h out_of_memory is_known =
     let x = w.known is_known in
     needed_at_header [] refl refl x.is (h (error_is_out_of_memory r e p out_of_memory) x.known)
 
 -- after the marker
-pub out_of_memory_after_marker : {A : Type 0} (a b : State ℕ) {r : Result A Error} {e : Error} → (y : Error) × (r ≡ Err y) × (y ≡ e) → Consumes a b (λ s m. marker_at s ≡ Done stream_marker m) → (e ≡ OutOfMemory → b.known ≡ true → HeaderMayRunOutOfMemory b.remaining)
-    → IsOutOfMemory r → a.known ≡ true → MemoryMayBeNeeded (Marker stream_marker) a.remaining
+pub out_of_memory_after_marker : {A : Type 0} (a b : State ℕ) {r : Result A Error} {e : Error} → (y : Error) × (r ≡ Err y) × (y ≡ e) → Consumes a b (λ s m. marker_at s ≡ Done stream_marker m) → (e ≡ OutOfMemory → RemainingIsKnown b → HeaderMayRunOutOfMemory b.remaining)
+    → IsOutOfMemory r → RemainingIsKnown a → MemoryMayBeNeeded (Marker stream_marker) a.remaining
 out_of_memory_after_marker a b {r = r} {e = e} p w h out_of_memory is_known =
     let x = w.known is_known in
     let k = Reads-marker.takes a.remaining stream_marker b.remaining x.is in
@@ -122,7 +122,7 @@ out_of_memory_after_marker a b {r = r} {e = e} p w h out_of_memory is_known =
 
 -- after the marker and a block
 pub out_of_memory_after_first : {A : Type 0} (block : MetadataBlock) (a b c : State ℕ) {r : Result A Error} {e : Error} → (y : Error) × (r ≡ Err y) × (y ≡ e) → Consumes a b (λ s m. marker_at s ≡ Done stream_marker m)
-    → Consumes b c (λ s m. block_at s ≡ Done block m) → (e ≡ OutOfMemory → c.known ≡ true → MemoryMayBeNeeded (λ t. t ≡ []) c.remaining) → IsOutOfMemory r → a.known ≡ true → MemoryMayBeNeeded (Marker stream_marker) a.remaining
+    → Consumes b c (λ s m. block_at s ≡ Done block m) → (e ≡ OutOfMemory → RemainingIsKnown c → MemoryMayBeNeeded (λ t. t ≡ []) c.remaining) → IsOutOfMemory r → RemainingIsKnown a → MemoryMayBeNeeded (Marker stream_marker) a.remaining
 out_of_memory_after_first block a b c {r = r} {e = e} p w v h out_of_memory is_known =
     let x = w.known is_known in
     let y = v.known x.known in

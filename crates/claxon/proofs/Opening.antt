@@ -1,5 +1,5 @@
 -- A reader of which nothing was read, in a byte buffer.
-use Rattle.std.proofs.Common.{◌≡◌, inl, inr, ℕ, true, List, [], Option, None, Some, refl, sym, ap, subst, ◌∙◌}
+use Rattle.std.proofs.Common.{◌≡◌, inl, inr, ℕ, List, [], Option, None, Some, refl, sym, ap, subst, ◌∙◌}
 use Rattle.std.specs.Prelude.{Result, Ok, Err}
 use Rattle.std.specs.Io.KnownBytes.{prepend_known}
 use Rattle.claxon_format.specs.Heads.{Head, HeadCode, HeadFault, Options}
@@ -7,7 +7,7 @@ use Rattle.claxon_input.specs.declared.error.Error.{Error}
 use Rattle.claxon_input.specs.declared.error.Error.TheVariants.{OutOfMemory}
 use Rattle.claxon_input.specs.Promises.{CodeIsComplete, Remains, ElseIoError, HasNeither, IsExcused, FaultIsComplete, FaultIsSound}
 use Rattle.claxon_input.specs.Source.{Source}
-use Rattle.claxon_input.specs.State.{State, bytes_in, state_of}
+use Rattle.claxon_input.specs.State.{State, bytes_in, state_of, RemainingIsKnown}
 use Rattle.claxon.specs.FlacReader.{flac_head}
 use Rattle.claxon.specs.Opening.{OpenAnswer, OpenFaultIsComplete, OpenIsComplete, OpenFaultIsSound, IsMemoryOrIoError, OpenElseIoError, flac_bytes, unread}
 
@@ -34,8 +34,8 @@ module _ {R : Type 0} (remaining : R → Option (List ℕ)) (reader : R) (a : St
   remains_in : {xs : List ℕ} → Remains (unread (remaining reader)) xs → Remains a xs
   remains_in {xs = xs} c = subst (λ (s : State ℕ). Remains s xs) (sym same) c
 
-  known_in : (unread (remaining reader)).known ≡ true → a.known ≡ true
-  known_in t = ap (λ (s : State ℕ). s.known) same ∙ t
+  known_in : RemainingIsKnown (unread (remaining reader)) → RemainingIsKnown a
+  known_in t = subst (λ (s : State ℕ). RemainingIsKnown s) (sym same) t
 
   remaining_is : a.remaining ≡ (unread (remaining reader)).remaining
   remaining_is = ap (λ (s : State ℕ). s.remaining) same

@@ -1,6 +1,6 @@
 -- Blocks that are read one after another, and the samples that calls gave of them.
 use Rattle.std.specs.Borrow.{MutBor}
-use Rattle.std.proofs.Common.{◌≡◌, ◌⊎◌, inl, inr, ℕ, ◌+◌, ◌<◌, ◌≤◌, true, false, List, [], ◌∷◌, ◌++◌, length, refl, sym, ap, ap₂, subst, ◌∙◌, append_assoc, arith, ℤ}
+use Rattle.std.proofs.Common.{◌≡◌, ◌⊎◌, inl, inr, ℕ, ◌+◌, ◌<◌, ◌≤◌, false, List, [], ◌∷◌, ◌++◌, length, refl, sym, ap, ap₂, subst, ◌∙◌, append_assoc, arith, ℤ}
 use Rattle.std.specs.Prelude.{Bool, IsOkAnd, IsSomeAnd, MatchBool, Option, None, Some, Result, Ok, Err}
 use Rattle.std.proofs.lemmas.List.{append-nil, append_cancel_left, length-append}
 use Rattle.claxon_format.specs.Bits.{bits, bits_of}
@@ -19,7 +19,7 @@ use Rattle.claxon_input.specs.declared.error.Error.{Error}
 use Rattle.claxon_input.specs.declared.input.BufferedReader.{BufferedReader}
 use Rattle.claxon_input.specs.BufferedReader.{buffered_source}
 use Rattle.claxon_input.specs.Source.{Source}
-use Rattle.claxon_input.specs.State.{State, bytes_in}
+use Rattle.claxon_input.specs.State.{State, bytes_in, RemainingIsKnown}
 use Rattle.claxon_input.specs.Gives.{FailedIn, Consumes}
 use Rattle.claxon_input.specs.Promises.{Remains, IsExcused, Consumed}
 use Rattle.claxon_input.proofs.ConsecutiveCalls.{consumes_none, consumes_then, consumes_known}
@@ -175,7 +175,7 @@ pub short_no_fault : (stream : Option StreamFormat) → IsWidth (known_width str
 short_no_fault stream width r short f t u bad e = let q : Faulty f u ≡ Incomplete = sym ((Reads-frame_bytes stream width).bad_again f t u bad) ∙ ap (frame_bytes_at stream) (sym e) ∙ incomplete_frame stream r short in cc
 
 -- after the last frame fewer than two bytes remain
-few_left : {stream : Option StreamFormat} {blocks : List Block} {a b : State ℕ} (h : ReadsFrames stream blocks (Ok None) a b) → a.known ≡ true → length h.between.remaining < 2
+few_left : {stream : Option StreamFormat} {blocks : List Block} {a b : State ℕ} (h : ReadsFrames stream blocks (Ok None) a b) → RemainingIsKnown a → length h.between.remaining < 2
 few_left h is_known = (h.last.promises.none_is_eof refl (h.blocks_are.consumed.known is_known).known).0
 
 -- ---- where the frames of blocks remain, and then no frame
@@ -220,7 +220,7 @@ module _ (stream : Option StreamFormat) (width : IsWidth (known_width stream)) w
       go (x ∷ more) e g = absurd (c x g.0 g.1 g.2 g.3)
 
   -- All of them were read and the last answer is that for what follows, or it is excused.
-  pub all_frames_read : (end : Option Error) (done blocks : List Block) (m : List ℕ) {a b : State ℕ} (h : ReadsFrames stream done (end_found end) a b) → a.known ≡ true → Frames stream a.remaining blocks m → NoFrameLeft stream m
+  pub all_frames_read : (end : Option Error) (done blocks : List Block) (m : List ℕ) {a b : State ℕ} (h : ReadsFrames stream done (end_found end) a b) → RemainingIsKnown a → Frames stream a.remaining blocks m → NoFrameLeft stream m
       → ((blocks ≡ done) × Remains h.between m) ⊎ IsExcused (end_found end) a b
   all_frames_read end done blocks m {a = a} {b = b} h is_known f c =
       let w = h.blocks_are.consumed.known is_known in
@@ -239,16 +239,16 @@ module _ (stream : Option StreamFormat) (width : IsWidth (known_width stream)) w
 module _ {R A : Type 0} (remaining : R → Option (List ℕ)) where
   -- the bytes of a borrowed byte buffer are those of the reader
   pub after_loan : (flac : FlacReader R A) (input : MutBor (BufferedReader R A)) → input.now ≡ flac_input flac
-      → ((bytes_in (lent (buffered_source remaining)) input).remaining ≡ (flac_bytes remaining flac).remaining) × ((bytes_in (lent (buffered_source remaining)) input).known ≡ (flac_bytes remaining flac).known)
+      → ((bytes_in (lent (buffered_source remaining)) input).remaining ≡ (flac_bytes remaining flac).remaining) × (RemainingIsKnown (flac_bytes remaining flac) → RemainingIsKnown (bytes_in (lent (buffered_source remaining)) input))
   unfolding bytes_in
-  after_loan flac input is = (rw is refl, rw is refl)
+  after_loan flac input is = (rw is refl, λ t. rw is t)
 
   pub whole_streams : (wants : Bool) (s : State ℕ) (flac : FlacReader R A) (old new : FlacSamples (MutBor (BufferedReader R A)) A) (xs : List ℤ) → Consumed s (flac_bytes remaining flac) (HeadCode (with_samples wants) (flac_head flac))
-      → BeginsAt flac old → GaveAll (lent (buffered_source remaining)) old xs None new → s.known ≡ true → StreamOf wants s.remaining flac xs
+      → BeginsAt flac old → GaveAll (lent (buffered_source remaining)) old xs None new → RemainingIsKnown s → StreamOf wants s.remaining flac xs
   whole_streams wants s flac old new xs head begins gave is_known =
       let k = (head is_known).1 in
       let here = after_loan flac (samples_input old) begins.input in
-      let t : (samples_bytes (lent (buffered_source remaining)) old).known ≡ true = here.1 ∙ (head is_known).0 in
+      let t : RemainingIsKnown (samples_bytes (lent (buffered_source remaining)) old) = here.1 (head is_known).0 in
       let ends = gave.ends in
       let frames = (ends.blocks_are.consumed.known t).is in
       let few = few_left ends t in

@@ -24,7 +24,7 @@ any_capacity stream capacity r a b h out_of_memory is_known =
     (k.0, (t.0, (t.1.0, t.1.1, omega arith), t.2))
 
 pub reads_frame : {stream : Option StreamFormat} {r : FrameAnswer} {a b : State ℕ} (capacity : ℕ) → FoundIsSound block_view r (Frame stream) a b → FoundIsComplete block_view r (Frame stream) a b → NoneIsEof 2 r a b
-    → ((xs : List ℕ) → Remains a xs → length xs < 2 → ((r ≡ Ok None) × Remains b []) ⊎ HasFailed r a b) → IfOk r (λ found. b.errors ≡ a.errors) → FaultIsSound r (FrameBytesFault stream) a b → FaultIsComplete r (FrameBytesFault stream) a b
+    → ((xs : List ℕ) → Remains a xs → length xs < 2 → ((r ≡ Ok None) × Remains b []) ⊎ HasFailed r a b) → IfOk r (λ found. b.source.errors ≡ a.source.errors) → FaultIsSound r (FrameBytesFault stream) a b → FaultIsComplete r (FrameBytesFault stream) a b
     → ElseIoErrorFrom 2 r (Frame stream) (FrameBytesFault stream) a b → LeavesRest r a b → OutOfMemoryBeyondCapacity stream capacity r a b → GivesOrEofOrOutOfMemory 2 block_view r (frame_bytes_at stream) a b → ReadsFrame stream r a b
 reads_frame {stream = stream} {r = r} {a = a} {b = b} capacity sound complete none_is_eof eof_is_none no_failure fault named io front memory gives = record {
   promises = record {

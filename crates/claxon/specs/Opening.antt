@@ -1,9 +1,9 @@
 -- What opening a stream does to the reader that is passed in, which is kept, or dropped after an Err.
-use Rattle.std.specs.Prelude.{◌≡◌, ℕ, Bool, true, false, ◌⊎◌, List, [], ◌++◌, Option, None, IfOk, IsOkAnd, IsErrAnd, Result}
+use Rattle.std.specs.Prelude.{◌≡◌, ℕ, Bool, false, ◌⊎◌, List, [], ◌++◌, Option, None, IfOk, IsOkAnd, IsErrAnd, Result}
 use Rattle.std.specs.declared.fs.File.{File}
 use Rattle.claxon_format.specs.Fault.{Fault}
 use Rattle.claxon_input.specs.declared.error.Error.{Error}
-use Rattle.claxon_input.specs.State.{State, state_of}
+use Rattle.claxon_input.specs.State.{State, state_of, RemainingIsKnown}
 use Rattle.claxon_input.specs.Error.{IsFault, IsIo}
 use Rattle.claxon_input.specs.Promises.{Remains, HasNeither, IsOutOfMemory, Consumed}
 use Rattle.claxon_format.specs.Heads.{Head, Options, HeadCode, HeadFault}
@@ -22,7 +22,7 @@ unread known =
 -- P of the remaining bytes of the reader, where they are known
 abbrev pub IfKnown : {R : Type 0} → (R → Option (List ℕ)) → R → (List ℕ → Type 0) → Type 0
 IfKnown remaining reader P =
-    (unread (remaining reader)).known ≡ true → P (unread (remaining reader)).remaining
+    RemainingIsKnown (unread (remaining reader)) → P (unread (remaining reader)).remaining
 
 -- the bytes after those that were consumed
 abbrev pub flac_bytes : {R A : Type 0} → (R → Option (List ℕ)) → FlacReader R A → State ℕ
@@ -55,8 +55,8 @@ file_remaining file = None
 -- Where a reader is returned no read failed.
 abbrev pub NoReadFailed : {R A : Type 0} → (R → Option (List ℕ)) → OpenAnswer R A → Type 0
 NoReadFailed remaining result =
-    IfOk result (λ flac. ((flac_bytes remaining flac).errors ≡ 0)
-    × ((flac_bytes remaining flac).empty_reads ≡ 0))
+    IfOk result (λ flac. ((flac_bytes remaining flac).source.errors ≡ 0)
+    × ((flac_bytes remaining flac).source.empty_reads ≡ 0))
 
 -- The answer is `OutOfMemory` or an `IoError`. The reader was dropped, so its counts of failed reads are gone.
 abbrev pub IsMemoryOrIoError : {X : Type 0} → Result X Error → Type 0

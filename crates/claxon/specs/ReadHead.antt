@@ -1,5 +1,5 @@
 -- The head of a stream (RFC 9639, sections 6 and 8) as the code returns it, and its reader split as the code is split.
-use Rattle.std.specs.Prelude.{◌≡◌, ◌++◌, ℕ, Bool, true, false, List, [], Option, Some, None, Result, IfOk, IfSome}
+use Rattle.std.specs.Prelude.{◌≡◌, ◌++◌, ℕ, Bool, false, List, [], Option, Some, None, Result, IfOk, IfSome}
 use Rattle.claxon_format.specs.read.MetadataBlocks.{block_at}
 use Rattle.claxon_format.specs.Comments.{Comment}
 use Rattle.claxon_format.specs.Fault.{SecondComment, SecondStreaminfo}
@@ -15,7 +15,7 @@ use Rattle.claxon_input.specs.BufferedReader.{buffered_source}
 use Rattle.claxon_input.specs.Gives.{Gives, GivesOrOutOfMemory}
 use Rattle.claxon_input.specs.Promises.{IsOutOfMemory, CodeIsSound, CodeIsComplete, FaultIsSound, FaultIsComplete, ElseIoError, LeavesRest}
 use Rattle.claxon_input.specs.Source.{Source}
-use Rattle.claxon_input.specs.State.{State, bytes_in}
+use Rattle.claxon_input.specs.State.{State, bytes_in, RemainingIsKnown}
 use Rattle.claxon_metadata.specs.MetadataBlock.{HasBounds, MayRunOutOfMemory, content_view, info_view}
 use Rattle.claxon_metadata.specs.VorbisComment.{comment_view}
 use Rattle.claxon_metadata.specs.TagEntries.{HaveSeparatorIndices}
@@ -78,7 +78,7 @@ pub record MemoryMayBeNeeded (Front : List ℕ → Type 0) (s : List ℕ) : Type
 -- `OutOfMemory` only after whole blocks and such a header.
 abbrev pub OutOfMemoryAfterBlocks : {A : Type 0} → Result A Error → State ℕ → Type 0
 OutOfMemoryAfterBlocks r old =
-    IsOutOfMemory r → old.known ≡ true → MemoryMayBeNeeded (λ t. t ≡ []) old.remaining
+    IsOutOfMemory r → RemainingIsKnown old → MemoryMayBeNeeded (λ t. t ≡ []) old.remaining
 
 -- the greatest number of blocks after the streaminfo; the format sets no limit
 abbrev pub max_other_blocks : ℕ
@@ -112,7 +112,7 @@ HeadHasCommentIfRead read result = IfOk result (λ shown. read ≡ false → sho
 abbrev pub HeadOutOfMemoryAfterHeader : {R A : Type 0} → (R → Source ℕ) → R → Result A Error
     → Type 0
 HeadOutOfMemoryAfterHeader source old result =
-    IsOutOfMemory result → (bytes_in source old).known ≡ true
+    IsOutOfMemory result → RemainingIsKnown (bytes_in source old)
     → MemoryMayBeNeeded (Marker stream_marker) (bytes_in source old).remaining
 
 -- After an Err the remaining bytes are a suffix of those before.

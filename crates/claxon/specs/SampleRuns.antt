@@ -1,7 +1,7 @@
 -- Blocks that are read one after another (RFC 9639, section 6), up to an answer without a block; and the samples that
 -- consecutive calls gave of them.
 use Rattle.std.specs.Borrow.{MutBor, RattleType}
-use Rattle.std.specs.Prelude.{◌≡◌, ℕ, ℤ, Bool, true, false, List, [], ◌∷◌, ◌++◌, Option, None, Some, Result, Ok, Err}
+use Rattle.std.specs.Prelude.{◌≡◌, ℕ, ℤ, Bool, false, List, [], ◌∷◌, ◌++◌, Option, None, Some, Result, Ok, Err}
 use Rattle.std.specs.List.{flat_map}
 use Rattle.claxon_format.specs.Frame.{StreamFormat, Block, Frames}
 use Rattle.claxon_format.specs.Heads.{HeadCode}
@@ -10,7 +10,7 @@ use Rattle.claxon_input.specs.declared.error.Error.{Error}
 use Rattle.claxon_input.specs.declared.input.BufferedReader.{BufferedReader}
 use Rattle.claxon_input.specs.BufferedReader.{buffered_source}
 use Rattle.claxon_input.specs.Source.{Source, through_loan}
-use Rattle.claxon_input.specs.State.{State}
+use Rattle.claxon_input.specs.State.{State, RemainingIsKnown}
 use Rattle.claxon_input.specs.Gives.{Consumes}
 use Rattle.claxon_input.specs.Promises.{Consumed}
 use Rattle.claxon_frame.specs.Block.{BlockValue}
@@ -105,4 +105,4 @@ WholeStreams R A remaining =
     (wants : Bool) (s : State ℕ) (flac : FlacReader R.Denot A.Denot) (old new : FlacSamples (MutBor (BufferedReader R.Denot A.Denot)) A.Denot) (xs : List ℤ)
     → Consumed s (flac_bytes remaining flac) (HeadCode (with_samples wants) (flac_head flac))
     → BeginsAt flac old → GaveAll (lent (buffered_source remaining)) old xs None new
-    → s.known ≡ true → StreamOf wants s.remaining flac xs
+    → RemainingIsKnown s → StreamOf wants s.remaining flac xs

@@ -1,12 +1,12 @@
 -- What was read through a CRC reader over a mutable reference, in terms of the borrowed reader.
-use Rattle.std.proofs.Common.{◌≡◌, ℕ, Option, None, Some, List, ◌∷◌, true, refl, subst}
+use Rattle.std.proofs.Common.{◌≡◌, ℕ, Option, None, Some, List, ◌∷◌, refl, subst}
 use Rattle.std.specs.Borrow.{GName, MutBor}
 use Rattle.std.specs.Prelude.{Result, Ok, Err}
 use Rattle.claxon_format.specs.read.Reading.{Reading, Done}
 use Rattle.claxon_input.specs.CrcReader.{crc_inner, crc_source, crc_state}
 use Rattle.claxon_input.specs.CrcUpdate.{update_crc8}
 use Rattle.claxon_input.specs.Source.{Source, through_loan, with_crc}
-use Rattle.claxon_input.specs.State.{State, bytes_in, crcs_at_eof}
+use Rattle.claxon_input.specs.State.{State, bytes_in}
 use Rattle.claxon_input.specs.Error.{is_io}
 use Rattle.claxon_input.specs.declared.crc.CrcReader.{CrcReader}
 use Rattle.claxon_input.specs.declared.error.Error.{Error}
@@ -15,18 +15,18 @@ use Rattle.claxon_input.proofs.States.{bytes_of_source}
 use Rattle.claxon_input.proofs.ConsecutiveCalls.{stops_loans}
 use Rattle.claxon_input.specs.Gives.{ReachedEof, GivesOrEof, or_eof}
 
-module _ {X : Type 0} (a b : State X) (l m : List GName) (f g : List ℕ → List ℕ) (loans : m ≡ l → b.loans ≡ a.loans) (crcs : a.known ≡ true → b.known ≡ true → g ≡ f → b.crcs ≡ a.crcs) where
-  eof_below : (count : ℕ) → ReachedEof count (under l f a) (under m g b) → ReachedEof count a b
-  eof_below count h = record { errors = h.errors; loans = loans h.loans; known = λ t. let x = h.known t in record { known = x.known; is = x.is; rest = x.rest; crcs = crcs t x.known x.crcs } }
+module _ {X : Type 0} (a b : State X) (m n : GName) (f g : List ℕ → ℕ) where
+  eof_below : (count : ℕ) → ReachedEof count (under m f a) (under n g b) → ReachedEof count a b
+  eof_below count h = record { errors = h.errors; loans = same_loans_below m n a.source.loans b.source.loans h.loans; known = λ t. let x = h.known t in record { known = x.known; is = x.is; rest = x.rest; crcs = same_crcs_below a.source.remaining b.source.remaining f g a.source.crcs b.source.crcs t x.known x.crcs } }
 
   -- what was read through a CRC and a loan was read from the source under them
-  pub gives_or_eof_below : {A Y : Type 0} (count : ℕ) (view : A → Y) (r : Result (Option A) Error) (read : List X → Reading X Y) → GivesOrEof count view r read (under l f a) (under m g b) → GivesOrEof count view r read a b
-  gives_or_eof_below count view (Ok (Some x)) read h = consumes_below a b l m f g loans crcs (λ s k. or_eof count read s ≡ Done (Some (view x)) k) h
+  pub gives_or_eof_below : {A Y : Type 0} (count : ℕ) (view : A → Y) (r : Result (Option A) Error) (read : List X → Reading X Y) → GivesOrEof count view r read (under m f a) (under n g b) → GivesOrEof count view r read a b
+  gives_or_eof_below count view (Ok (Some x)) read h = consumes_below a b m n f g (λ s k. or_eof count read s ≡ Done (Some (view x)) k) h
   gives_or_eof_below count view (Ok None) read h = eof_below count h
-  gives_or_eof_below count view (Err e) read h = stops_below a b l m f g loans crcs e (or_eof count read) h
+  gives_or_eof_below count view (Err e) read h = stops_below a b m n f g e (or_eof count read) h
 
 -- the loans stay the same
-pub gives_or_eof_loans : {X A Y : Type 0} (count : ℕ) (view : A → Y) (r : Result (Option A) Error) (read : List X → Reading X Y) (a b : State X) → GivesOrEof count view r read a b → b.loans ≡ a.loans
+pub gives_or_eof_loans : {X A Y : Type 0} (count : ℕ) (view : A → Y) (r : Result (Option A) Error) (read : List X → Reading X Y) (a b : State X) → GivesOrEof count view r read a b → b.source.loans ≡ a.source.loans
 gives_or_eof_loans count view (Ok (Some x)) read a b g = g.loans
 gives_or_eof_loans count view (Ok None) read a b g = g.loans
 gives_or_eof_loans count view (Err e) read a b g = stops_loans e (or_eof count read) a b (is_io e) refl g
@@ -34,9 +34,7 @@ gives_or_eof_loans count view (Err e) read a b g = stops_loans e (or_eof count r
 module _ (s t : Source ℕ) (j k : GName) (f g : List ℕ → ℕ) where
   pub gives_or_eof_borrowed : {A Y : Type 0} (count : ℕ) (view : A → Y) (r : Result (Option A) Error) (read : List ℕ → Reading ℕ Y)
       → GivesOrEof count view r read (bytes_of_source (with_crc f (through_loan j s))) (bytes_of_source (with_crc g (through_loan k t))) → GivesOrEof count view r read (bytes_of_source s) (bytes_of_source t)
-  gives_or_eof_borrowed count view r read h =
-      gives_or_eof_below (bytes_of_source s) (bytes_of_source t) (j ∷ s.loans) (k ∷ t.loans) (crcs_at_eof s.remaining (λ xs. f xs ∷ s.crcs xs)) (crcs_at_eof t.remaining (λ xs. g xs ∷ t.crcs xs))
-      (same_loans_below j k s.loans t.loans) (same_crcs_below s.remaining t.remaining f g s.crcs t.crcs) count view r read h
+  gives_or_eof_borrowed count view r read h = gives_or_eof_below (bytes_of_source s) (bytes_of_source t) j k f g count view r read h
 
   -- and the reference is still the same
   pub gives_or_eof_borrow_name : {A Y : Type 0} (count : ℕ) (view : A → Y) (r : Result (Option A) Error) (read : List ℕ → Reading ℕ Y)

@@ -6,11 +6,11 @@ use Rattle.claxon_format.specs.Frame.{StreamFormat}
 use Rattle.claxon_format.specs.read.Reading.{Reading, Done}
 use Rattle.claxon_input.specs.CrcReader.{crc_inner, crc_source, crc_state}
 use Rattle.claxon_input.specs.Source.{Source, through_loan, with_crc}
-use Rattle.claxon_input.specs.State.{bytes_in, crcs_at_eof}
+use Rattle.claxon_input.specs.State.{bytes_in}
 use Rattle.claxon_input.specs.Gives.{Consumes, GivesOrEofOrOutOfMemory}
 use Rattle.claxon_input.specs.declared.crc.CrcReader.{CrcReader}
 use Rattle.claxon_input.specs.declared.error.Error.{Error}
-use Rattle.claxon_input.proofs.CrcReaders.{over_borrow, same_crcs_below, same_loans_below, consumes_below}
+use Rattle.claxon_input.proofs.CrcReaders.{over_borrow, consumes_below}
 use Rattle.claxon_input.proofs.States.{bytes_of_source}
 use Rattle.claxon_input.specs.Error.{is_out_of_memory}
 use Rattle.claxon_format.specs.read.Frame.{start_at}
@@ -20,9 +20,7 @@ use Rattle.claxon_input.proofs.FieldOrEof.{out_of_memory_or_gives_or_eof, never_
 
 module _ (s t : Source ℕ) (j k : GName) (f g : List ℕ → ℕ) where
   consumes_borrowed : (P : List ℕ → List ℕ → Type 0) → Consumes (bytes_of_source (with_crc f (through_loan j s))) (bytes_of_source (with_crc g (through_loan k t))) P → Consumes (bytes_of_source s) (bytes_of_source t) P
-  consumes_borrowed P h =
-      consumes_below (bytes_of_source s) (bytes_of_source t) (j ∷ s.loans) (k ∷ t.loans) (crcs_at_eof s.remaining (λ xs. f xs ∷ s.crcs xs)) (crcs_at_eof t.remaining (λ xs. g xs ∷ t.crcs xs))
-      (same_loans_below j k s.loans t.loans) (same_crcs_below s.remaining t.remaining f g s.crcs t.crcs) P h
+  consumes_borrowed P h = consumes_below (bytes_of_source s) (bytes_of_source t) j k f g P h
 
   frame_borrowed : {A Y : Type 0} (count : ℕ) (view : A → Y) (r : Result (Option A) Error) (read : List ℕ → Reading ℕ Y)
       → GivesOrEofOrOutOfMemory count view r read (bytes_of_source (with_crc f (through_loan j s))) (bytes_of_source (with_crc g (through_loan k t))) → GivesOrEofOrOutOfMemory count view r read (bytes_of_source s) (bytes_of_source t)

@@ -10,7 +10,7 @@ use Rattle.claxon_format.specs.read.Bytes.{bytes_at, big_at}
 use Rattle.claxon_format.specs.read.Reading.{Done, Incomplete}
 use Rattle.claxon_format.proofs.FrameBytes.{Reads-frame_bytes, Reads-start}
 use Rattle.claxon_input.specs.declared.error.Error.{Error}
-use Rattle.claxon_input.specs.State.{State}
+use Rattle.claxon_input.specs.State.{State, RemainingIsKnown}
 use Rattle.claxon_input.specs.Promises.{Remains, EofPromises, HasFailed, IfOutOfMemory, IsOutOfMemory, Consumed}
 use Rattle.claxon_input.specs.Gives.{GivesOrEofOrOutOfMemory}
 use Rattle.claxon_frame.specs.FrameReader.{BufferTooSmall, HeaderOfLargerBlock, OutOfMemoryBeyondCapacity}
@@ -32,7 +32,7 @@ only_header stream capacity a b h known =
     let t = (Reads-start stream).takes a.remaining h.start b.remaining (h.header.known known).is in
     ((h.header.known known).known, (t.0, (t.1.0, t.1.1, subst (λ (start : Start). capacity < channel_count start.channels * start.size) t.1.2 h.small), t.2))
 
-no_header : (stream : Option StreamFormat) (capacity : ℕ) (a b : State ℕ) → BufferTooSmall stream capacity a b → a.known ≡ true → length a.remaining < 2 → ⊥
+no_header : (stream : Option StreamFormat) (capacity : ℕ) (a b : State ℕ) → BufferTooSmall stream capacity a b → RemainingIsKnown a → length a.remaining < 2 → ⊥
 no_header stream capacity a b h known small = let e : Incomplete ≡ Done h.start b.remaining = sym (incomplete_start stream a.remaining small) ∙ (h.header.known known).is in cc
 
 -- ---- out of memory

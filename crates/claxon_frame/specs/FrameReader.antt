@@ -100,7 +100,8 @@ module _ {R : Type 0} (source : R → Source ℕ) (old : FrameReader R) (result 
   -- If a read of the source fails, neither None nor a block is returned.
   abbrev pub FailureIsErr : Type 0
   FailureIsErr =
-      IfOk result (λ found. (frame_bytes source new).errors ≡ (frame_bytes source old).errors)
+      IfOk result (λ found. (frame_bytes source new).source.errors
+      ≡ (frame_bytes source old).source.errors)
 
   -- An Err other than `OutOfMemory` and `IoError` is a fault of the consumed bytes.
   abbrev pub FrameFaultIsSound : Type 0

@@ -10,16 +10,16 @@ use Rattle.claxon_format.proofs.Bytes.{bits_of-append, length-bits_of}
 use Rattle.claxon_format.proofs.Numbers.{length-bits}
 use Rattle.claxon_input.specs.Bitstream.{BitState, left_in, TakesBits, BitsFailureOrEof}
 use Rattle.claxon_input.specs.BufferedBits.{skipped_bits_at}
-use Rattle.claxon_input.specs.Source.{Source, IsFront, Skips, Takes, FailureOrEof, Failed}
-use Rattle.claxon_input.specs.State.{remaining_known, remaining_as, bits_after}
+use Rattle.claxon_input.specs.Source.{Source, IsFront, IsKnown, Skips, Takes, FailureOrEof, Failed}
+use Rattle.claxon_input.specs.State.{remaining_as, bits_after}
 use Rattle.claxon_input.specs.Gives.{Consumes, FailureOr}
 use Rattle.claxon_input.proofs.BitSteps.{bits_both, fetched, cut_in_cache, bits_failure_or_eof}
 use Rattle.claxon_input.proofs.States.{state_of_bits, consumed, failure}
 
 -- ---- the buffered bits come first
 
-pub is_buffer_of : (left : Bits) (o : Option (List ℕ)) (bytes part : List ℕ) (most : ℕ) → IsFront bytes o → part ≡ take most bytes → remaining_known o ≡ true → (rest : Bits) × (remaining_as (bits_after left) o ≡ (left ++ bits_of (drop 0 part)) ++ rest)
-is_buffer_of left None bytes part most h p t = absurd cc
+pub is_buffer_of : (left : Bits) (o : Option (List ℕ)) (bytes part : List ℕ) (most : ℕ) → IsFront bytes o → part ≡ take most bytes → IsKnown o → (rest : Bits) × (remaining_as (bits_after left) o ≡ (left ++ bits_of (drop 0 part)) ++ rest)
+is_buffer_of left None bytes part most h p t = absurd t
 is_buffer_of left (Some all) bytes part most h p t =
     let whole : all ≡ take most bytes ++ (drop most bytes ++ h.0) = h.1 ∙ ap (λ (x : List ℕ). x ++ h.0) (sym (take-append-drop most bytes)) ∙ append_assoc (take most bytes) (drop most bytes) h.0 in (
       bits_of (drop most bytes ++ h.0),

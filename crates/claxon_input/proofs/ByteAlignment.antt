@@ -1,5 +1,5 @@
 -- From bits to whole bytes: what is left over of the last byte read is padding.
-use Rattle.std.proofs.Common.{◌≡◌, ℕ, ◌+◌, ◌-◌, ◌/◌, ◌<◌, Bool, true, List, [], ◌∷◌, ◌++◌, length, drop, refl, ap, subst, ◌∙◌, arith, inl, inr}
+use Rattle.std.proofs.Common.{◌≡◌, ℕ, ◌+◌, ◌-◌, ◌/◌, ◌<◌, Bool, List, [], ◌∷◌, ◌++◌, length, drop, refl, ap, subst, ◌∙◌, arith, inl, inr}
 use Rattle.std.specs.Prelude.{Result, Ok, Err, Option, None, Some}
 use Rattle.std.specs.Borrow.{MutBor, GName}
 use Rattle.std.proofs.lemmas.List.{length-append, drop_at}
@@ -9,9 +9,9 @@ use Rattle.claxon_format.specs.read.Bytes.{by_bytes, left_bytes}
 use Rattle.claxon_format.specs.read.Reading.{Reading, Done, Faulty, Incomplete}
 use Rattle.claxon_format.proofs.Bytes.{length-bits_of}
 use Rattle.claxon_format.proofs.Numbers.{length-bits}
-use Rattle.claxon_input.specs.Source.{Source, through_loan}
+use Rattle.claxon_input.specs.Source.{Source, IsKnown, through_loan}
 use Rattle.claxon_input.specs.Gives.{Consumes, FailureOr, Gives, IsRest}
-use Rattle.claxon_input.specs.State.{bits_in, bytes_in, state_of, bits_after, remaining_as, remaining_known}
+use Rattle.claxon_input.specs.State.{bits_in, bytes_in, state_of, bits_after, remaining_as}
 use Rattle.claxon_input.specs.Bitstream.{bit_state}
 use Rattle.claxon_input.specs.declared.bits.Bitstream.{Bitstream}
 use Rattle.claxon_input.specs.declared.error.Error.{Error}
@@ -46,11 +46,11 @@ aligned_incomplete_is read z e = rw e refl
 
 -- ---- what was consumed
 
-both_known : (P : Bits → Bits → Type 0) (Q : List ℕ → List ℕ → Type 0) (left : Bits) (p q : Option (List ℕ)) → ((z m : List ℕ) → IsRest z m → P (bits_of z) (left ++ bits_of m) → Q z m) → remaining_known p ≡ true → remaining_known q ≡ true
+both_known : (P : Bits → Bits → Type 0) (Q : List ℕ → List ℕ → Type 0) (left : Bits) (p q : Option (List ℕ)) → ((z m : List ℕ) → IsRest z m → P (bits_of z) (left ++ bits_of m) → Q z m) → IsKnown p → IsKnown q
     → ((z : List ℕ) → IsRest z (remaining_as (λ all. all) p) → IsRest z (remaining_as (λ all. all) q)) → P (remaining_as (bits_after []) p) (remaining_as (bits_after left) q) → Q (remaining_as (λ all. all) p) (remaining_as (λ all. all) q)
 unfolding IsRest
-both_known P Q left None q f t u rest k = absurd cc
-both_known P Q left (Some z) None f t u rest k = absurd cc
+both_known P Q left None q f t u rest k = absurd t
+both_known P Q left (Some z) None f t u rest k = absurd u
 both_known P Q left (Some z) (Some m) f t u rest k = f z m (rest z ([], refl)) k
 
 module _ (s t : Source ℕ) (j k : GName) (left : Bits) (few : length left < 8) where

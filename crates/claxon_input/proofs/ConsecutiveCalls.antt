@@ -6,7 +6,7 @@ use Rattle.claxon_format.specs.Fault.{Fault}
 use Rattle.claxon_format.specs.read.Reading.{Reading, Done, Faulty, Incomplete}
 use Rattle.claxon_input.specs.declared.error.Error.{Error}
 use Rattle.claxon_input.specs.declared.error.Error.TheVariants.{IoError, FormatError, Unsupported, OutOfMemory}
-use Rattle.claxon_input.specs.State.{State}
+use Rattle.claxon_input.specs.State.{State, RemainingIsKnown}
 use Rattle.claxon_input.specs.Gives.{Consumes, FailureOr, FailedIn, IsFaultOf, Stops, Gives, OutOfMemoryLeavesRest, GivesOrOutOfMemory}
 use Rattle.claxon_input.specs.Error.{is_io}
 
@@ -27,10 +27,10 @@ pub consumes_map : {X : Type 0} {a b : State X} {P : List X → List X → Type 
 consumes_map T h f = record { errors = h.errors; empty_reads = h.empty_reads; loans = h.loans; known = λ t. let x = h.known t in record { known = x.known; is = f x.is; rest = x.rest; crcs = x.crcs } }
 
 -- the same, where it is known what remains
-pub consumes_known : {X : Type 0} {a b : State X} {P : List X → List X → Type 0} (T : List X → List X → Type 0) → Consumes a b P → (a.known ≡ true → P a.remaining b.remaining → T a.remaining b.remaining) → Consumes a b T
+pub consumes_known : {X : Type 0} {a b : State X} {P : List X → List X → Type 0} (T : List X → List X → Type 0) → Consumes a b P → (RemainingIsKnown a → P a.remaining b.remaining → T a.remaining b.remaining) → Consumes a b T
 consumes_known T h f = record { errors = h.errors; empty_reads = h.empty_reads; loans = h.loans; known = λ t. let x = h.known t in record { known = x.known; is = f t x.is; rest = x.rest; crcs = x.crcs } }
 
-pub failure_or_known : {X : Type 0} {a b : State X} {Q : List X → Type 0} (T : List X → Type 0) → FailureOr a b Q → (a.known ≡ true → Q a.remaining → T a.remaining) → FailureOr a b T
+pub failure_or_known : {X : Type 0} {a b : State X} {Q : List X → Type 0} (T : List X → Type 0) → FailureOr a b Q → (RemainingIsKnown a → Q a.remaining → T a.remaining) → FailureOr a b T
 failure_or_known T h f = record { loans = h.loans; known = λ t. let x = h.known t in record { known = x.known; why = elim x.why [ inl q ↦ inl (f t q) | inr q ↦ inr q ]; rest = x.rest } }
 
 failed_later : {X : Type 0} {a b : State X} (c : State X) {P : List X → List X → Type 0} → Consumes a b P → FailedIn b c → FailedIn a c
@@ -78,11 +78,11 @@ pub exit : {X A Y : Type 0} (view : A → Y) {read : List X → Reading X Y} {a 
 exit view p h = rw (p.1, p.2) h
 
 -- the loans stay the same
-pub stops_loans : {X Y : Type 0} (e : Error) (read : List X → Reading X Y) (a b : State X) (io : Bool) → is_io e ≡ io → Stops e read a b → b.loans ≡ a.loans
+pub stops_loans : {X Y : Type 0} (e : Error) (read : List X → Reading X Y) (a b : State X) (io : Bool) → is_io e ≡ io → Stops e read a b → b.source.loans ≡ a.source.loans
 stops_loans e read a b true i k = (k.failure i).loans
 stops_loans e read a b false i k = (k.fault i).loans
 
-pub gives_loans : {X A Y : Type 0} (view : A → Y) (r : Result A Error) (read : List X → Reading X Y) (a b : State X) → Gives view r read a b → b.loans ≡ a.loans
+pub gives_loans : {X A Y : Type 0} (view : A → Y) (r : Result A Error) (read : List X → Reading X Y) (a b : State X) → Gives view r read a b → b.source.loans ≡ a.source.loans
 gives_loans view (Ok x) read a b g = g.loans
 gives_loans view (Err e) read a b g = stops_loans e read a b (is_io e) refl g
 

@@ -1,6 +1,6 @@
 -- What was read through a CRC reader: its CRC is that of the bytes consumed, and a CRC of the stream is compared with it.
 use Rattle.std.specs.Borrow.{GName, MutBor}
-use Rattle.std.proofs.Common.{◌≡◌, ℕ, ◌<◌, ◌^◌, true, List, [], ◌∷◌, ◌++◌, Option, None, Some, refl, subst, sym, ap, ◌∙◌}
+use Rattle.std.proofs.Common.{◌≡◌, ℕ, ◌<◌, ◌^◌, List, [], ◌∷◌, ◌++◌, Option, None, Some, refl, subst, sym, ap, ◌∙◌}
 use Rattle.std.specs.Prelude.{Result, Ok, Err}
 use Rattle.claxon_format.specs.Bits.{Bits, bits_of}
 use Rattle.claxon_format.specs.Fault.{Fault}
@@ -9,8 +9,8 @@ use Rattle.claxon_format.specs.read.Reading.{Reading, Done, Incomplete, bind, do
 use Rattle.claxon_format.proofs.CrcBytes.{with_crc_after}
 use Rattle.claxon_format.proofs.Bytes.{bits_of-append}
 use Rattle.claxon_format.proofs.Laws.{taken_is}
-use Rattle.claxon_input.specs.Source.{Source, through_loan, with_crc}
-use Rattle.claxon_input.specs.State.{State, bytes_in, crcs_at_eof, remaining_known, remaining_as}
+use Rattle.claxon_input.specs.Source.{Source, IsKnown, through_loan, with_crc}
+use Rattle.claxon_input.specs.State.{State, bytes_in, crcs_at_eof, remaining_as, RemainingIsKnown}
 use Rattle.claxon_input.specs.Gives.{IsRest, Consumes, FailureOr, IsFaultOf, Stops, Gives, GivesOrOutOfMemory}
 use Rattle.claxon_input.specs.CrcReader.{crc_source, crc_state, crc_inner}
 use Rattle.claxon_input.specs.declared.crc.CrcReader.{CrcReader}
@@ -30,23 +30,23 @@ unfoldable same_first_crc : (p q : Option (List ℕ)) (f g : List ℕ → ℕ) (
 same_first_crc p q f g u v = crcs_at_eof q (λ xs. g xs ∷ v xs) ≡ crcs_at_eof p (λ xs. f xs ∷ u xs)
 
 module _ {d : ℕ} {update_crc : ℕ → List ℕ → ℕ} {crc : Bits → ℕ} (law : DeterminesCrc d update_crc crc) where
-  crc_is_of_taken : (p q : Option (List ℕ)) (x : ℕ) (u v : List ℕ → List ℕ) → x < 2 ^ d → remaining_known p ≡ true → remaining_known q ≡ true → IsRest (bytes_of_all p) (bytes_of_all q) → same_first_crc p q (update_crc 0) (update_crc x) u v
+  crc_is_of_taken : (p q : Option (List ℕ)) (x : ℕ) (u v : List ℕ → List ℕ) → x < 2 ^ d → IsKnown p → IsKnown q → IsRest (bytes_of_all p) (bytes_of_all q) → same_first_crc p q (update_crc 0) (update_crc x) u v
       → x ≡ crc (bits_of (taken (bytes_of_all p) (bytes_of_all q)))
   unfolding IsRest same_first_crc
-  crc_is_of_taken None q x u v small t k r e = absurd cc
-  crc_is_of_taken (Some all) None x u v small t k r e = absurd cc
+  crc_is_of_taken None q x u v small t k r e = absurd t
+  crc_is_of_taken (Some all) None x u v small t k r e = absurd k
   crc_is_of_taken (Some all) (Some rest) x u v small t k r e =
       law.determines all rest (bits_of r.0) x u v small (ap bits_of r.1 ∙ bits_of-append r.0 rest) e ∙ ap (λ (s : List ℕ). crc (bits_of s)) (sym (taken_is all r.0 rest r.1))
 
   -- the CRC is that of the bytes consumed
-  pub source_crc_of_taken : (a b : Source ℕ) {P : List ℕ → List ℕ → Type 0} (x : ℕ) → x < 2 ^ d → Consumes (bytes_of_source (with_crc (update_crc 0) a)) (bytes_of_source (with_crc (update_crc x) b)) P → remaining_known a.remaining ≡ true
+  pub source_crc_of_taken : (a b : Source ℕ) {P : List ℕ → List ℕ → Type 0} (x : ℕ) → x < 2 ^ d → Consumes (bytes_of_source (with_crc (update_crc 0) a)) (bytes_of_source (with_crc (update_crc x) b)) P → IsKnown a.remaining
       → x ≡ crc (bits_of (taken (bytes_of_all a.remaining) (bytes_of_all b.remaining)))
   unfolding IsRest same_first_crc
   source_crc_of_taken a b x small h t = let k = h.known t in crc_is_of_taken a.remaining b.remaining x a.crcs b.crcs small t k.known (k.rest (bytes_of_all a.remaining) ([], refl)) k.crcs
 
   -- what `crc` returns is the CRC of what was consumed since the reader was made
   pub crc_of_taken : {R : Type 0} (source : R → Source ℕ) (b c : CrcReader R ℕ) {P : List ℕ → List ℕ → Type 0} → crc_state b ≡ 0 → crc_state c < 2 ^ d
-      → Consumes (bytes_in (crc_source source update_crc) b) (bytes_in (crc_source source update_crc) c) P → (bytes_in (crc_source source update_crc) b).known ≡ true
+      → Consumes (bytes_in (crc_source source update_crc) b) (bytes_in (crc_source source update_crc) c) P → RemainingIsKnown (bytes_in (crc_source source update_crc) b)
       → crc_state c ≡ crc (bits_of (taken (bytes_in (crc_source source update_crc) b).remaining (bytes_in (crc_source source update_crc) c).remaining))
   unfolding bytes_in
   crc_of_taken source b c {P = P} start small h t =
@@ -54,31 +54,6 @@ module _ {d : ℕ} {update_crc : ℕ → List ℕ → ℕ} {crc : Bits → ℕ} 
       (subst (λ (x : ℕ). Consumes (bytes_of_source (with_crc (update_crc x) (source (crc_inner b)))) (bytes_of_source (with_crc (update_crc (crc_state c)) (source (crc_inner c)))) P) start h) t
 
 -- ---- what was done through a CRC reader or a loan was done to what it reaches
-
--- other loans and CRCs
-abbrev pub under : {X : Type 0} → List GName → (List ℕ → List ℕ) → State X → State X
-under loans crcs s = record s { loans = loans; crcs = crcs }
-
-module _ {X : Type 0} (a b : State X) (l m : List GName) (f g : List ℕ → List ℕ) (loans : m ≡ l → b.loans ≡ a.loans) (crcs : a.known ≡ true → b.known ≡ true → g ≡ f → b.crcs ≡ a.crcs) where
-  pub consumes_below : (P : List X → List X → Type 0) → Consumes (under l f a) (under m g b) P → Consumes a b P
-  consumes_below P h = record { errors = h.errors; empty_reads = h.empty_reads; loans = loans h.loans; known = λ t. let x = h.known t in record { known = x.known; is = x.is; rest = x.rest; crcs = crcs t x.known x.crcs } }
-
-  pub failure_or_below : (P : List X → Type 0) → FailureOr (under l f a) (under m g b) P → FailureOr a b P
-  failure_or_below P h = record { loans = loans h.loans; known = λ t. let x = h.known t in record { known = x.known; why = x.why; rest = x.rest } }
-
-  pub stops_below : {Y : Type 0} (e : Error) (read : List X → Reading X Y) → Stops e read (under l f a) (under m g b) → Stops e read a b
-  stops_below e read h = record { failure = λ i. failure_or_below (λ s. read s ≡ Incomplete) (h.failure i); fault = λ i. consumes_below (λ s m. IsFaultOf e (read s) m) (h.fault i); named = h.named }
-
-  pub gives_below : {A Y : Type 0} (view : A → Y) (r : Result A Error) (read : List X → Reading X Y) → Gives view r read (under l f a) (under m g b) → Gives view r read a b
-  gives_below view (Ok x) read h = consumes_below (λ s m. read s ≡ Done (view x) m) h
-  gives_below view (Err e) read h = stops_below e read h
-
-  pub gives_or_out_of_memory_below : {A Y : Type 0} (view : A → Y) (r : Result A Error) (read : List X → Reading X Y) → GivesOrOutOfMemory view r read (under l f a) (under m g b) → GivesOrOutOfMemory view r read a b
-  gives_or_out_of_memory_below view (Ok x) read h = consumes_below (λ s m. read s ≡ Done (view x) m) h
-  gives_or_out_of_memory_below view (Err OutOfMemory) read h = record { consumed = consumes_below (λ s m. Unit {0}) h.consumed }
-  gives_or_out_of_memory_below view (Err (IoError e)) read h = stops_below (IoError e) read h
-  gives_or_out_of_memory_below view (Err (FormatError e)) read h = stops_below (FormatError e) read h
-  gives_or_out_of_memory_below view (Err (Unsupported e)) read h = stops_below (Unsupported e) read h
 
 -- a loan
 pub same_loans_below : (m n : GName) (xs ys : List GName) → n ∷ ys ≡ m ∷ xs → ys ≡ xs
@@ -88,16 +63,41 @@ pub name_below : (m n : GName) (xs ys : List GName) → n ∷ ys ≡ m ∷ xs �
 name_below m n xs ys e = cc
 
 -- a CRC, and those below it
-pub same_crcs_below : (p q : Option (List ℕ)) (f g : List ℕ → ℕ) (u v : List ℕ → List ℕ) → remaining_known p ≡ true → remaining_known q ≡ true → crcs_at_eof q (λ xs. g xs ∷ v xs) ≡ crcs_at_eof p (λ xs. f xs ∷ u xs) → crcs_at_eof q v ≡ crcs_at_eof p u
-same_crcs_below None q f g u v t k e = absurd cc
-same_crcs_below (Some all) None f g u v t k e = absurd cc
+pub same_crcs_below : (p q : Option (List ℕ)) (f g : List ℕ → ℕ) (u v : List ℕ → List ℕ) → IsKnown p → IsKnown q → crcs_at_eof q (λ xs. g xs ∷ v xs) ≡ crcs_at_eof p (λ xs. f xs ∷ u xs) → crcs_at_eof q v ≡ crcs_at_eof p u
+same_crcs_below None q f g u v t k e = absurd t
+same_crcs_below (Some all) None f g u v t k e = absurd k
 same_crcs_below (Some all) (Some rest) f g u v t k e =
     same_function (λ more. let o : g (rest ++ more) ∷ v (rest ++ more) ≡ f (all ++ more) ∷ u (all ++ more) = ap (λ (h : List ℕ → List ℕ). h more) e in cc)
+
+-- through one more loan, with one more CRC
+abbrev pub under : {X : Type 0} → GName → (List ℕ → ℕ) → State X → State X
+under name update_crc s = record s { source = with_crc update_crc (through_loan name s.source) }
+
+module _ {X : Type 0} (a b : State X) (m n : GName) (f g : List ℕ → ℕ) where
+  pub consumes_below : (P : List X → List X → Type 0) → Consumes (under m f a) (under n g b) P → Consumes a b P
+  consumes_below P h = record { errors = h.errors; empty_reads = h.empty_reads; loans = same_loans_below m n a.source.loans b.source.loans h.loans; known = λ t. let x = h.known t in record { known = x.known; is = x.is; rest = x.rest; crcs = same_crcs_below a.source.remaining b.source.remaining f g a.source.crcs b.source.crcs t x.known x.crcs } }
+
+  pub failure_or_below : (P : List X → Type 0) → FailureOr (under m f a) (under n g b) P → FailureOr a b P
+  failure_or_below P h = record { loans = same_loans_below m n a.source.loans b.source.loans h.loans; known = λ t. let x = h.known t in record { known = x.known; why = x.why; rest = x.rest } }
+
+  pub stops_below : {Y : Type 0} (e : Error) (read : List X → Reading X Y) → Stops e read (under m f a) (under n g b) → Stops e read a b
+  stops_below e read h = record { failure = λ i. failure_or_below (λ s. read s ≡ Incomplete) (h.failure i); fault = λ i. consumes_below (λ s m. IsFaultOf e (read s) m) (h.fault i); named = h.named }
+
+  pub gives_below : {A Y : Type 0} (view : A → Y) (r : Result A Error) (read : List X → Reading X Y) → Gives view r read (under m f a) (under n g b) → Gives view r read a b
+  gives_below view (Ok x) read h = consumes_below (λ s m. read s ≡ Done (view x) m) h
+  gives_below view (Err e) read h = stops_below e read h
+
+  pub gives_or_out_of_memory_below : {A Y : Type 0} (view : A → Y) (r : Result A Error) (read : List X → Reading X Y) → GivesOrOutOfMemory view r read (under m f a) (under n g b) → GivesOrOutOfMemory view r read a b
+  gives_or_out_of_memory_below view (Ok x) read h = consumes_below (λ s m. read s ≡ Done (view x) m) h
+  gives_or_out_of_memory_below view (Err OutOfMemory) read h = record { consumed = consumes_below (λ s m. Unit {0}) h.consumed }
+  gives_or_out_of_memory_below view (Err (IoError e)) read h = stops_below (IoError e) read h
+  gives_or_out_of_memory_below view (Err (FormatError e)) read h = stops_below (FormatError e) read h
+  gives_or_out_of_memory_below view (Err (Unsupported e)) read h = stops_below (Unsupported e) read h
 
 -- ---- a CRC after what it covers
 
 -- what was read has the CRC c: a number that has to be c is still to be read
-pub consumes_with_crc : {A : Type 0} (w c : ℕ) (crc : Bits → ℕ) (f : Fault) (r : List ℕ → Reading ℕ A) (y : A) (a m : State ℕ) → Consumes a m (λ s k. r s ≡ Done y k) → (a.known ≡ true → c ≡ crc (bits_of (taken a.remaining m.remaining)))
+pub consumes_with_crc : {A : Type 0} (w c : ℕ) (crc : Bits → ℕ) (f : Fault) (r : List ℕ → Reading ℕ A) (y : A) (a m : State ℕ) → Consumes a m (λ s k. r s ≡ Done y k) → (RemainingIsKnown a → c ≡ crc (bits_of (taken a.remaining m.remaining)))
     → Consumes a m (λ s k. with_crc_bytes_at w crc f r s ≡ bind (crc_at w c f k) (λ u. done y))
 consumes_with_crc w c crc f r y a m h k = consumes_known _ h (λ t p. with_crc_after w c crc f r y a.remaining m.remaining p (k t))
 
@@ -114,9 +114,7 @@ module _ {R S A Y : Type 0} (source : R → Source ℕ) (update_crc : S → List
   unfolding bytes_in
   gives_with_crc h =
       let y = source (crc_inner c).now in
-      gives_below (bytes_of_source (source x)) (bytes_of_source y) (j ∷ (source x).loans) ((crc_inner c).ghost_name ∷ y.loans)
-      (crcs_at_eof (source x).remaining (λ xs. f xs ∷ (source x).crcs xs)) (crcs_at_eof y.remaining (λ xs. update_crc (crc_state c) xs ∷ y.crcs xs)) (same_loans_below j (crc_inner c).ghost_name (source x).loans y.loans)
-      (λ t u. same_crcs_below (source x).remaining y.remaining f (update_crc (crc_state c)) (source x).crcs y.crcs t u) view r read
+      gives_below (bytes_of_source (source x)) (bytes_of_source y) j (crc_inner c).ghost_name f (update_crc (crc_state c)) view r read
       (subst (λ (z : Source ℕ). Gives view r read (bytes_of_source z) (bytes_of_source (with_crc (update_crc (crc_state c)) (through_loan (crc_inner c).ghost_name y)))) made h)
 
   -- and the reference is still the same

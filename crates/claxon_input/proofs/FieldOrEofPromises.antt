@@ -6,7 +6,7 @@ use Rattle.claxon_format.specs.Fault.{Fault}
 use Rattle.claxon_format.specs.read.Reading.{Reading, Reads, Done, Faulty, Incomplete}
 use Rattle.claxon_input.specs.declared.error.Error.{Error}
 use Rattle.claxon_input.specs.declared.error.Error.TheVariants.{IoError, FormatError, Unsupported, OutOfMemory}
-use Rattle.claxon_input.specs.State.{State}
+use Rattle.claxon_input.specs.State.{State, RemainingIsKnown}
 use Rattle.claxon_input.specs.Gives.{FailedIn, Stops, IsFaultOf, GivesOrOutOfMemory, ReachedEof, or_eof, GivesOrEofOrOutOfMemory}
 use Rattle.claxon_input.specs.Error.{IsIo, is_io}
 use Rattle.claxon_input.specs.Promises.{FoundIsComplete, Remains, EofIsNone, EofPromises, ElseIoErrorFrom, IsExcused, LeavesRest, FaultIsComplete, NoneIsEof, FaultIsSound, FoundIsSound}
@@ -76,7 +76,7 @@ none_is_eof k view (Ok (Some x)) read a b h = λ e t. absurd cc
 none_is_eof k view (Err e) read a b h = tt
 
 -- after an Ok the count of Errs is the same
-no_failure : {X A Y : Type 0} (k : ℕ) (view : A → Y) (r : Result (Option A) Error) (read : List X → Reading X Y) (a b : State X) → GivesOrEofOrOutOfMemory k view r read a b → IfOk r (λ found. b.errors ≡ a.errors)
+no_failure : {X A Y : Type 0} (k : ℕ) (view : A → Y) (r : Result (Option A) Error) (read : List X → Reading X Y) (a b : State X) → GivesOrEofOrOutOfMemory k view r read a b → IfOk r (λ found. b.source.errors ≡ a.source.errors)
 no_failure k view (Ok None) read a b h = h.errors
 no_failure k view (Ok (Some x)) read a b h = h.errors
 no_failure k view (Err e) read a b h = tt
@@ -107,7 +107,7 @@ module _ {X Y : Type 0} {read : List X → Reading X Y} {C : Y → List X → Ty
   found_is_sound view (Err e) a b g = tt
 
   -- where something is read the end of input wasn't reached
-  not_reached_eof : (a b : State X) (x : Reading X Y) → a.known ≡ true → read a.remaining ≡ x → (x ≡ Incomplete → ⊥) → ReachedEof k a b → ⊥
+  not_reached_eof : (a b : State X) (x : Reading X Y) → RemainingIsKnown a → read a.remaining ≡ x → (x ≡ Incomplete → ⊥) → ReachedEof k a b → ⊥
   not_reached_eof a b x t e n h = n (sym e ∙ short a.remaining (ltb-true _ _ (h.known t).is.0))
 
   found_is_complete : {A : Type 0} (view : A → Y) (r : Result (Option A) Error) (a b : State X) → GivesOrEofOrOutOfMemory k view r read a b → FoundIsComplete view r C a b

@@ -16,12 +16,12 @@ use Rattle.claxon_input.specs.declared.error.Error.{Error}
 -- ---- any source whose counts of failed reads stay the same
 
 -- Where both counts are the same the source didn't fail.
-pub never_failed : {X : Type 0} (a b : State X) → b.errors ≡ a.errors → b.empty_reads ≡ a.empty_reads → FailedIn a b → ⊥
+pub never_failed : {X : Type 0} (a b : State X) → b.source.errors ≡ a.source.errors → b.source.empty_reads ≡ a.source.empty_reads → FailedIn a b → ⊥
 never_failed a b e k (inl h) = h e
 never_failed a b e k (inr h) = h.0 k
 
 -- So just `OutOfMemory` excuses the call.
-pub just_out_of_memory : {X A : Type 0} (r : Result A Error) (a b : State X) → b.errors ≡ a.errors → b.empty_reads ≡ a.empty_reads → IsExcused r a b → IsOutOfMemory r
+pub just_out_of_memory : {X A : Type 0} (r : Result A Error) (a b : State X) → b.source.errors ≡ a.source.errors → b.source.empty_reads ≡ a.source.empty_reads → IsExcused r a b → IsOutOfMemory r
 just_out_of_memory r a b e k (inl h) = h
 just_out_of_memory r a b e k (inr h) = absurd (never_failed a b e k h.1)
 
@@ -31,7 +31,7 @@ module _ {T : Type 0} (items : T → List ℕ) where
   -- The bytes from the position on remain.
   pub cursor_remains : (c : Cursor T) → Remains (bytes_in (cursor_source items) c) (drop (cursor_position c) (items (cursor_inner c)))
   unfolding bytes_in
-  cursor_remains c = record { known = refl; are = refl }
+  cursor_remains c = record { known = tt; are = refl }
 
   -- Of a new cursor that is all of them.
   pub new_cursor_remains : (c : Cursor T) (inner : T) → cursor_position c ≡ 0 → cursor_inner c ≡ inner → Remains (bytes_in (cursor_source items) c) (items inner)
@@ -54,7 +54,7 @@ module _ {T : Type 0} (items : T → List ℕ) where
   -- The bits left over, and then those of the bytes from the position on, remain.
   pub bits_remain : {g : _} (b : Bitstream (Cursor T) g) → Remains (bits_in (cursor_source items) b) (left_over b ++ bits_of (drop (cursor_position b.reader) (items (cursor_inner b.reader))))
   unfolding bits_in
-  bits_remain b = record { known = refl; are = refl }
+  bits_remain b = record { known = tt; are = refl }
 
   -- No read of them fails.
   pub bits_never_fail : {g h : _} (a : Bitstream (Cursor T) g) (b : Bitstream (Cursor T) h) → FailedIn (bits_in (cursor_source items) a) (bits_in (cursor_source items) b) → ⊥

@@ -8,7 +8,7 @@ use Rattle.claxon_input.specs.declared.error.Error.TheVariants.{IoError, FormatE
 use Rattle.claxon_input.specs.Error.{IsFault, is_io}
 use Rattle.claxon_input.specs.Gives.{FailedIn, GivesOrOutOfMemory, IsFaultOf, IsRest, Stops, FailureOr, Consumes}
 use Rattle.claxon_input.specs.Promises.{CodeIsComplete, Remains, ElseIoError, LeavesRest, FaultIsComplete, Promises, CodeIsSound, FaultIsSound, Consumed}
-use Rattle.claxon_input.specs.State.{State}
+use Rattle.claxon_input.specs.State.{State, RemainingIsKnown, source_bytes}
 
 -- ---- errors
 
@@ -33,21 +33,21 @@ whole_rest : {X : Type 0} (s : List X) → IsRest s s
 unfolding IsRest
 whole_rest s = ([], refl)
 
-stops_rest : {X Y : Type 0} (e : Error) (read : List X → Reading X Y) (a b : State X) (io : Bool) → is_io e ≡ io → Stops e read a b → a.known ≡ true → (b.known ≡ true) × IsRest a.bytes b.bytes
-stops_rest e read a b true i k t = let w = (k.failure i).known t in (w.known, w.rest a.bytes (whole_rest a.bytes))
-stops_rest e read a b false i k t = let w = (k.fault i).known t in (w.known, w.rest a.bytes (whole_rest a.bytes))
+stops_rest : {X Y : Type 0} (e : Error) (read : List X → Reading X Y) (a b : State X) (io : Bool) → is_io e ≡ io → Stops e read a b → RemainingIsKnown a → RemainingIsKnown b × IsRest (source_bytes a) (source_bytes b)
+stops_rest e read a b true i k t = let w = (k.failure i).known t in (w.known, w.rest (source_bytes a) (whole_rest (source_bytes a)))
+stops_rest e read a b false i k t = let w = (k.fault i).known t in (w.known, w.rest (source_bytes a) (whole_rest (source_bytes a)))
 
 pub leaves_rest : {X A Y : Type 0} (view : A → Y) (r : Result A Error) (read : List X → Reading X Y) (a b : State X) → GivesOrOutOfMemory view r read a b → LeavesRest r a b
 leaves_rest view (Ok x) read a b g = tt
 leaves_rest view (Err (IoError i)) read a b g = stops_rest (IoError i) read a b true refl g
 leaves_rest view (Err (FormatError i)) read a b g = stops_rest (FormatError i) read a b false refl g
 leaves_rest view (Err (Unsupported i)) read a b g = stops_rest (Unsupported i) read a b false refl g
-leaves_rest view (Err OutOfMemory) read a b g = λ t. let w = g.consumed.known t in (w.known, w.rest a.bytes (whole_rest a.bytes))
+leaves_rest view (Err OutOfMemory) read a b g = λ t. let w = g.consumed.known t in (w.known, w.rest (source_bytes a) (whole_rest (source_bytes a)))
 
 -- ---- by the laws of a reader
 
 -- an `IoError` where what remains is not incomplete says that the source failed
-failed : {X : Type 0} {P : List X → Type 0} {a b : State X} → FailureOr a b P → a.known ≡ true → (P a.remaining → ⊥) → FailedIn a b
+failed : {X : Type 0} {P : List X → Type 0} {a b : State X} → FailureOr a b P → RemainingIsKnown a → (P a.remaining → ⊥) → FailedIn a b
 failed k t n = elim (k.known t).why [ inl p ↦ absurd (n p) | inr f ↦ f ]
 
 module _ {X Y : Type 0} {read : List X → Reading X Y} {C : Y → List X → Type 0} {F : Fault → List X → Type 0} (law : Reads X Y read C F) where
@@ -70,7 +70,7 @@ module _ {X Y : Type 0} {read : List X → Reading X Y} {C : Y → List X → Ty
   code_is_complete view (Err (Unsupported i)) a b g y t rest c o = absurd (not_fault (Unsupported i) (read a.remaining) b.remaining y rest ((g.fault refl).known o.known).is (read_there a y t rest c o))
   code_is_complete view (Err OutOfMemory) a b g y t rest c o = inr (inl refl)
 
-  fault_bad : (e : Error) (a b : State X) → Consumes a b (λ s m. IsFaultOf e (read s) m) → a.known ≡ true → (f : Fault) × IsFault f e × Consumed a b (F f)
+  fault_bad : (e : Error) (a b : State X) → Consumes a b (λ s m. IsFaultOf e (read s) m) → RemainingIsKnown a → (f : Fault) × IsFault f e × Consumed a b (F f)
   fault_bad e a b g t =
       let w = g.known t in
       let p = fault_is e (read a.remaining) b.remaining w.is in

@@ -15,7 +15,7 @@ use Rattle.claxon_format.proofs.Numbers.{Reads-number}
 use Rattle.claxon_format.proofs.RiceCodes.{Reads-unary, zeros_no_fault}
 use Rattle.claxon_input.specs.Source.{Source, TakesFront, IsKnown, Takes, FailureOrEof, SourceFailure, Failed, MovesPastSome, HasMore, MeetsEof}
 use Rattle.claxon_input.specs.Bitstream.{BitState, remaining_bits, TakesBits, TakesNumber, BitsFailureOrEof, HasNoOneBit, FailureOrNoOneBit}
-use Rattle.claxon_input.specs.State.{State, state_of, bits_after, crcs_at_eof, remaining_known, remaining_as}
+use Rattle.claxon_input.specs.State.{State, state_of, bits_after, crcs_at_eof, remaining_as}
 use Rattle.claxon_input.specs.Gives.{IsRest, Consumes, FailureOr, FailedIn, GivesIo, ReachedEof}
 
 -- functions that agree are one
@@ -33,7 +33,7 @@ abbrev SplitsOff : {X : Type 0} → (List ℕ → List X) → (List ℕ → List
 SplitsOff f g bytes xs = (rest : List ℕ) → f (bytes ++ rest) ≡ xs ++ g rest
 
 record KnownAfter {X : Type 0} (f g : List ℕ → List X) (a b : Source ℕ) (p q : Option (List ℕ)) (P : List X → List X → Type 0) : Type 0 where
-  known : remaining_known q ≡ true
+  known : IsKnown q
   is : P (remaining_as f p) (remaining_as g q)
   rest : (z : List ℕ) → IsRest z (remaining_as (λ all. all) p) → IsRest z (remaining_as (λ all. all) q)
   crcs : crcs_at_eof q b.crcs ≡ crcs_at_eof p a.crcs
@@ -43,13 +43,13 @@ past_same : (a b : Source ℕ) (bytes all rest : List ℕ) → all ≡ bytes ++ 
 past_same a b bytes all rest l c = same_function (λ more. c (rest ++ more) ∙ ap a.crcs (sym (append_assoc bytes rest more) ∙ ap (λ (x : List ℕ). x ++ more) (sym l)))
 
 is_known_after : {X : Type 0} (f g : List ℕ → List X) (a b : Source ℕ) (p q : Option (List ℕ)) (bytes : List ℕ) (xs : List X) (P : List X → List X → Type 0) → TakesFront p q bytes → SplitsOff f g bytes xs
-    → (IsKnown p → (more : List ℕ) → b.crcs more ≡ a.crcs (bytes ++ more)) → ((m : List X) → P (xs ++ m) m) → remaining_known p ≡ true → KnownAfter f g a b p q P
-is_known_after f g a b None q bytes xs P l e c h t = absurd cc
+    → (IsKnown p → (more : List ℕ) → b.crcs more ≡ a.crcs (bytes ++ more)) → ((m : List X) → P (xs ++ m) m) → IsKnown p → KnownAfter f g a b p q P
+is_known_after f g a b None q bytes xs P l e c h t = absurd t
 is_known_after f g a b (Some all) None bytes xs P l e c h t = absurd l
 is_known_after f g a b (Some all) (Some rest) bytes xs P l e c h t =
     let k : f all ≡ xs ++ g rest = ap f l ∙ e rest in
     record {
-      known = refl;
+      known = tt;
       is = subst (λ (s : List _). P s (g rest)) (sym k) (h (g rest));
       rest = λ z. is_rest_after z all bytes rest l;
       crcs = past_same a b bytes all rest l (c tt);
@@ -85,11 +85,11 @@ consumes_bytes {xs = xs} P h k = consumes_by (λ all. all) (λ all. all) xs P h 
 -- ---- the end of input
 
 all_taken : (a b : Source ℕ) (p q : Option (List ℕ)) (moved : List ℕ) (k : ℕ) → TakesFront p q moved → (IsKnown p → (more : List ℕ) → b.crcs more ≡ a.crcs (moved ++ more))
-    → IfSome p (λ all. (length all < k) × (q ≡ Some [])) → remaining_known p ≡ true → KnownAfter (λ all. all) (λ all. all) a b p q (λ s m. (ltb (length s) k ≡ true) × (m ≡ []))
-all_taken a b None q moved k l c h t = absurd cc
+    → IfSome p (λ all. (length all < k) × (q ≡ Some [])) → IsKnown p → KnownAfter (λ all. all) (λ all. all) a b p q (λ s m. (ltb (length s) k ≡ true) × (m ≡ []))
+all_taken a b None q moved k l c h t = absurd t
 all_taken a b (Some all) None moved k l c h t = absurd l
 all_taken a b (Some all) (Some left) moved k l c h t = record {
-  known = refl;
+  known = tt;
   is = (lt-ltb _ _ h.0, ap (remaining_as (λ all. all)) h.1);
   rest = λ z. is_rest_after z all moved left l;
   crcs = past_same a b moved all left l (c tt);
@@ -106,7 +106,7 @@ reached_eof_bytes {a} {b} k h = record {
 -- ---- an Err
 
 record Failing {X : Type 0} (f g : List ℕ → List X) (a b : Source ℕ) (p q : Option (List ℕ)) (P : List X → Type 0) : Type 0 where
-  known : remaining_known q ≡ true
+  known : IsKnown q
   why : P (remaining_as f p) ⊎ FailedIn (state_of f a) (state_of g b)
   rest : (z : List ℕ) → IsRest z (remaining_as (λ all. all) p) → IsRest z (remaining_as (λ all. all) q)
 
@@ -115,11 +115,11 @@ failed_in f g a b left e (inl h) = inl h
 failed_in f g a b left e (inr h) = inr (h.0, rw e (subst (λ (o : Option (List ℕ)). HasMore o) e h.1))
 
 is_failing : {X : Type 0} (f g : List ℕ → List X) (a b : Source ℕ) (p q : Option (List ℕ)) (moved : List ℕ) (P Q : List X → Type 0) → b.remaining ≡ q → TakesFront p q moved
-    → IfSome (option_map f p) (λ all. Q all ⊎ Failed a b) → ((s : List X) → Q s → P s) → remaining_known p ≡ true → Failing f g a b p q P
-is_failing f g a b None q moved P Q e l c h t = absurd cc
+    → IfSome (option_map f p) (λ all. Q all ⊎ Failed a b) → ((s : List X) → Q s → P s) → IsKnown p → Failing f g a b p q P
+is_failing f g a b None q moved P Q e l c h t = absurd t
 is_failing f g a b (Some all) None moved P Q e l c h t = absurd l
 is_failing f g a b (Some all) (Some left) moved P Q e l c h t = record {
-  known = refl;
+  known = tt;
   why = elim c [ inl q ↦ inl (h (f all) q) | inr q ↦ inr (failed_in f g a b left e q) ];
   rest = λ z. is_rest_after z all moved left l;
 }

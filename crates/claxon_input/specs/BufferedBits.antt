@@ -1,8 +1,8 @@
 -- Buffered bits.
-use Rattle.std.specs.Prelude.{◌≡◌, ℕ, ◌≤◌, Bool, true, ◌++◌, length, take, drop, cond, nat_lt, Option, MatchOption}
+use Rattle.std.specs.Prelude.{◌≡◌, ℕ, ◌≤◌, Bool, ◌++◌, length, take, drop, cond, nat_lt, Option, MatchOption}
 use Rattle.claxon_format.specs.Bits.{Bits, bits, bits_of}
 use Rattle.claxon_format.specs.read.Reading.{Reading, Done, Incomplete}
-use Rattle.claxon_input.specs.State.{State}
+use Rattle.claxon_input.specs.State.{State, RemainingIsKnown}
 use Rattle.claxon_input.specs.declared.bits.buffered.BufferedBits.{BufferedBits}
 
 -- those in the cache, and those of the bytes after them
@@ -21,7 +21,7 @@ GivesBuffered old new read x =
 
 -- the remaining bits begin with the buffered ones, where they are known
 abbrev pub IsBufferOf : BufferedBits → State Bool → Type 0
-IsBufferOf a s = s.known ≡ true → (rest : Bits) × (s.remaining ≡ bits_in_buffer a ++ rest)
+IsBufferOf a s = RemainingIsKnown s → (rest : Bits) × (s.remaining ≡ bits_in_buffer a ++ rest)
 
 -- n bits, whatever they are
 unfoldable pub skipped_bits_at : ℕ → Bits → Reading Bool (Unit {0})

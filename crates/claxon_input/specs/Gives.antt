@@ -3,7 +3,7 @@
 use Rattle.std.specs.Prelude.{◌≡◌, ◌≢◌, ℕ, Option, None, Some, ◌⊎◌, true, false, cond, nat_lt, List, [], ◌++◌, length, Result, Ok, Err}
 use Rattle.claxon_format.specs.read.Reading.{Reading, Done, Faulty, Incomplete, and_then, done}
 use Rattle.claxon_input.specs.Error.{IsFault, is_io, is_named}
-use Rattle.claxon_input.specs.State.{State}
+use Rattle.claxon_input.specs.State.{State, RemainingIsKnown, final_crcs, source_bytes}
 use Rattle.claxon_input.specs.declared.error.Error.{Error}
 use Rattle.claxon_input.specs.declared.error.Error.TheVariants.{OutOfMemory}
 
@@ -16,33 +16,34 @@ IsRest {X} s m = (t : List X) × (s ≡ t ++ m)
 -- It is still known what remains, and P holds. The bytes in the source are a suffix of those before, and the CRCs at the end of
 -- input are the same.
 pub record KnownAnd {X : Type 0} (old new : State X) (P : Type 0) : Type 0 where
-  pub known : new.known ≡ true
+  pub known : RemainingIsKnown new
   pub is : P
-  pub rest : (z : List ℕ) → IsRest z old.bytes → IsRest z new.bytes
-  pub crcs : new.crcs ≡ old.crcs
+  pub rest : (z : List ℕ) → IsRest z (source_bytes old) → IsRest z (source_bytes new)
+  pub crcs : final_crcs new ≡ final_crcs old
 
 -- No read of the source failed, and P holds of what remained before and remains after.
 pub record Consumes {X : Type 0} (old new : State X) (P : List X → List X → Type 0) : Type 0 where
-  pub errors : new.errors ≡ old.errors
-  pub empty_reads : new.empty_reads ≡ old.empty_reads
-  pub loans : new.loans ≡ old.loans
-  pub known : old.known ≡ true → KnownAnd old new (P old.remaining new.remaining)
+  pub errors : new.source.errors ≡ old.source.errors
+  pub empty_reads : new.source.empty_reads ≡ old.source.empty_reads
+  pub loans : new.source.loans ≡ old.source.loans
+  pub known : RemainingIsKnown old → KnownAnd old new (P old.remaining new.remaining)
 
 -- a read of the source returned an Err, or no bytes before the end of input
 abbrev pub FailedIn : {X : Type 0} → State X → State X → Type 0
 FailedIn old new =
-    (new.errors ≢ old.errors) ⊎ ((new.empty_reads ≢ old.empty_reads) × (new.bytes ≢ []))
+    (new.source.errors ≢ old.source.errors)
+    ⊎ ((new.source.empty_reads ≢ old.source.empty_reads) × (source_bytes new ≢ []))
 
 -- It is still known what remains, P holds or the source failed, and a prefix was consumed.
 pub record FailedOr {X : Type 0} (old new : State X) (P : Type 0) : Type 0 where
-  pub known : new.known ≡ true
+  pub known : RemainingIsKnown new
   pub why : P ⊎ FailedIn old new
-  pub rest : (z : List ℕ) → IsRest z old.bytes → IsRest z new.bytes
+  pub rest : (z : List ℕ) → IsRest z (source_bytes old) → IsRest z (source_bytes new)
 
 -- The source failed, or P holds of what remained.
 pub record FailureOr {X : Type 0} (old new : State X) (P : List X → Type 0) : Type 0 where
-  pub loans : new.loans ≡ old.loans
-  pub known : old.known ≡ true → FailedOr old new (P old.remaining)
+  pub loans : new.source.loans ≡ old.source.loans
+  pub known : RemainingIsKnown old → FailedOr old new (P old.remaining)
 
 -- ---- what an Err says
 
@@ -94,9 +95,9 @@ or_eof count read s =
 
 -- fewer than count were left, and all were consumed
 pub record ReachedEof {X : Type 0} (count : ℕ) (old new : State X) : Type 0 where
-  pub errors : new.errors ≡ old.errors
-  pub loans : new.loans ≡ old.loans
-  pub known : old.known ≡ true → KnownAnd old new
+  pub errors : new.source.errors ≡ old.source.errors
+  pub loans : new.source.loans ≡ old.source.loans
+  pub known : RemainingIsKnown old → KnownAnd old new
       ((nat_lt (length old.remaining) count ≡ true) × (new.remaining ≡ []))
 
 -- What the call returned, as view shows it, is what reading gives, or None where fewer than count are left; and just that was

@@ -3,7 +3,7 @@ use Rattle.std.specs.Prelude.{◌≡◌, ℕ, ◌+◌, ◌<◌, ◌≤◌, ◌�
 use Rattle.claxon_format.specs.Fault.{Fault}
 use Rattle.claxon_input.specs.Error.{IsFault, IsIo, is_out_of_memory}
 use Rattle.claxon_input.specs.Gives.{FailedIn, IsRest}
-use Rattle.claxon_input.specs.State.{State}
+use Rattle.claxon_input.specs.State.{State, RemainingIsKnown, source_bytes}
 use Rattle.claxon_input.specs.declared.error.Error.{Error}
 use Rattle.claxon_input.specs.declared.error.Error.TheVariants.{OutOfMemory}
 
@@ -11,13 +11,13 @@ use Rattle.claxon_input.specs.declared.error.Error.TheVariants.{OutOfMemory}
 
 -- It is known what remains: xs.
 pub record Remains {X : Type 0} (s : State X) (xs : List X) : Type 0 where
-  pub known : s.known ≡ true
+  pub known : RemainingIsKnown s
   pub are : s.remaining ≡ xs
 
 -- Where it is known what remains, C holds of what was consumed, and it is still known what remains.
 abbrev pub Consumed : {X : Type 0} → State X → State X → (List X → Type 0) → Type 0
 Consumed {X} old new C =
-    old.known ≡ true → (new.known ≡ true)
+    RemainingIsKnown old → RemainingIsKnown new
     × ((t : List X) × C t × (old.remaining ≡ t ++ new.remaining))
 
 -- At most n were consumed, where it is known what remains.
@@ -63,7 +63,7 @@ abbrev pub FaultIsSound : {X A : Type 0} → Result A Error → (Fault → List 
     → State X → Type 0
 FaultIsSound {X} r Bad old new =
     IfErr r (λ e. (e ≡ OutOfMemory)
-    ⊎ (IsIo e ⊎ (old.known ≡ true → (f : Fault) × IsFault f e × Consumed old new (Bad f))))
+    ⊎ (IsIo e ⊎ (RemainingIsKnown old → (f : Fault) × IsFault f e × Consumed old new (Bad f))))
 
 -- Where a fault stands it is named and alone consumed, or the result is excused.
 abbrev pub FaultIsComplete : {X A : Type 0} → Result A Error → (Fault → List X → Type 0) → State X
@@ -84,12 +84,12 @@ pub record HasNeither {X Y : Type 0} (Code : Y → List X → Type 0) (Bad : Fau
 abbrev pub ElseIoError : {X A Y : Type 0} → Result A Error → (Y → List X → Type 0)
     → (Fault → List X → Type 0) → State X → State X → Type 0
 ElseIoError {X} {A} {Y} r Code Bad old new =
-    old.known ≡ true → HasNeither Code Bad old.remaining → IsOutOfMemory r ⊎ IsErrAnd r IsIo
+    RemainingIsKnown old → HasNeither Code Bad old.remaining → IsOutOfMemory r ⊎ IsErrAnd r IsIo
 
 -- An Err leaves a suffix of the bytes that remained.
 abbrev pub LeavesRest : {X A : Type 0} → Result A Error → State X → State X → Type 0
 LeavesRest r old new =
-    IfErr r (λ e. old.known ≡ true → (new.known ≡ true) × IsRest old.bytes new.bytes)
+    IfErr r (λ e. RemainingIsKnown old → RemainingIsKnown new × IsRest (source_bytes old) (source_bytes new))
 
 -- all of it
 pub record Promises {X A Y : Type 0} (view : A → Y) (r : Result A Error)
@@ -120,7 +120,7 @@ FoundIsComplete {X} {A} {Y} view r Code old new =
 -- None says that fewer than count remained, which were consumed.
 abbrev pub NoneIsEof : {X A : Type 0} → ℕ → Result (Option A) Error → State X → State X → Type 0
 NoneIsEof count r old new =
-    IfOk r (λ found. found ≡ None → old.known ≡ true → (length old.remaining < count)
+    IfOk r (λ found. found ≡ None → RemainingIsKnown old → (length old.remaining < count)
     × Remains new [])
 
 -- Where fewer than count remain they are consumed and None is returned, or the result is excused.
@@ -142,7 +142,7 @@ pub record EofPromises {X A Y : Type 0} (count : ℕ) (view : A → Y) (r : Resu
   pub complete : FoundIsComplete view r Code old new
   pub none_is_eof : NoneIsEof count r old new
   pub eof_is_none : EofIsNone count r old new
-  pub no_failure : IfOk r (λ found. new.errors ≡ old.errors)
+  pub no_failure : IfOk r (λ found. new.source.errors ≡ old.source.errors)
   pub fault : FaultIsSound r Bad old new
   pub named : FaultIsComplete r Bad old new
   pub io : ElseIoErrorFrom count r Code Bad old new

@@ -1,48 +1,40 @@
 -- The state of a reader: what remains of its source, as bits where X is Bool, or as bytes where it is ℕ.
-use Rattle.std.specs.Borrow.{GName}
-use Rattle.std.specs.Prelude.{ℕ, Option, None, Some, Bool, true, false, List, [], ◌++◌}
+use Rattle.std.specs.Prelude.{ℕ, Option, None, Some, Bool, List, [], ◌++◌}
 use Rattle.claxon_format.specs.Bits.{bits_of}
-use Rattle.claxon_input.specs.Source.{Source}
+use Rattle.claxon_input.specs.Source.{Source, IsKnown}
 use Rattle.claxon_input.specs.Bitstream.{bit_state}
 use Rattle.claxon_input.specs.declared.bits.Bitstream.{Bitstream}
 
--- Whether it is known what remains; what remains; the bytes of it that are still in the source; the counts of failed reads; the
--- loans; and the CRCs after all that remains and more.
+-- the source, and what remains of it, if that is known
 pub record State (X : Type 0) : Type 0 where
-  pub known : Bool
+  pub source : Source ℕ
   pub remaining : List X
-  pub bytes : List ℕ
-  pub errors : ℕ
-  pub empty_reads : ℕ
-  pub loans : List GName
-  pub crcs : List ℕ → List ℕ
 
--- whether it is known what remains
-abbrev pub remaining_known : Option (List ℕ) → Bool
-remaining_known None = false
-remaining_known (Some all) = true
+-- it is known what remains
+abbrev pub RemainingIsKnown : {X : Type 0} → State X → Type 0
+RemainingIsKnown s = IsKnown s.source.remaining
 
 -- f of the bytes that remain; nothing where these aren't known
 abbrev pub remaining_as : {X : Type 0} → (List ℕ → List X) → Option (List ℕ) → List X
 remaining_as f None = []
 remaining_as f (Some all) = f all
 
+-- the bytes that are still in the source
+abbrev pub source_bytes : {X : Type 0} → State X → List ℕ
+source_bytes s = remaining_as (λ all. all) s.source.remaining
+
 -- the CRCs after all that remains and more
 abbrev pub crcs_at_eof : Option (List ℕ) → (List ℕ → List ℕ) → List ℕ → List ℕ
 crcs_at_eof None crcs more = []
 crcs_at_eof (Some all) crcs more = crcs (all ++ more)
 
+-- those of a state
+abbrev pub final_crcs : {X : Type 0} → State X → List ℕ → List ℕ
+final_crcs s = crcs_at_eof s.source.remaining s.source.crcs
+
 -- the state of a source, where f of its bytes remains
 abbrev pub state_of : {X : Type 0} → (List ℕ → List X) → Source ℕ → State X
-state_of f s = record {
-  known = remaining_known s.remaining;
-  remaining = remaining_as f s.remaining;
-  bytes = remaining_as (λ all. all) s.remaining;
-  errors = s.errors;
-  empty_reads = s.empty_reads;
-  loans = s.loans;
-  crcs = crcs_at_eof s.remaining s.crcs;
-}
+state_of f s = record { source = s; remaining = remaining_as f s.remaining }
 
 -- the left-over bits, and then those of the remaining bytes
 abbrev pub bits_after : List Bool → List ℕ → List Bool

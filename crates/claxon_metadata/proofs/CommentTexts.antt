@@ -7,10 +7,6 @@ use Rattle.std.proofs.lemmas.Str.{is_utf8-from_IsUtf8, IsUtf8-from_is_utf8, IsUt
 use Rattle.std.proofs.lemmas.Bool.Decides.{Decides-eqb}
 use Rattle.std.proofs.lemmas.List.Quantifiers.{position-Some}
 use Rattle.claxon_format.specs.Comments.{is_separator, not_utf8}
-use Rattle.claxon_format.specs.Fault.{Fault, fault_text, is_unsupported}
-use Rattle.claxon_input.specs.declared.error.Error.{Error}
-use Rattle.claxon_input.specs.declared.error.Error.TheVariants.{IoError, FormatError, Unsupported, OutOfMemory}
-use Rattle.claxon_input.specs.Error.{IsFormatError, IsFault}
 use Rattle.claxon_metadata.specs.TagEntries.{IsSeparatorIndex}
 
 -- ---- UTF-8

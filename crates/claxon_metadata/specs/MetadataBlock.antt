@@ -1,5 +1,5 @@
 -- The metadata blocks of the code as values of the format, and what holds of each one that was read (RFC 9639, section 8).
-use Rattle.std.specs.Prelude.{◌≡◌, ◌⊎◌, ◌++◌, Bool, true, Result, ℕ, ◌-◌, ◌<◌, ◌≤◌, List, Option, None, Some, IfSome}
+use Rattle.std.specs.Prelude.{◌≡◌, ◌⊎◌, ◌++◌, Bool, Result, ℕ, ◌-◌, ◌<◌, ◌≤◌, List, Option, None, Some, IfSome}
 use Rattle.claxon_format.specs.MetadataBlocks.{Content, Info, Padding, Application, Comments, Reserved, MetadataBlock as Block, BlockCode}
 use Rattle.claxon_format.specs.read.MetadataBlocks.{block_at}
 use Rattle.claxon_format.specs.Metadata.{BlockHeader, BlockHeaderCode, max_content_bytes}
@@ -9,7 +9,7 @@ use Rattle.claxon_format.specs.Streaminfo.{Streaminfo}
 use Rattle.claxon_format.specs.read.Streaminfo.{StreaminfoSizes, StreaminfoFormat}
 use Rattle.claxon_input.specs.declared.error.Error.{Error}
 use Rattle.claxon_input.specs.Promises.{IsOutOfMemory}
-use Rattle.claxon_input.specs.State.{State}
+use Rattle.claxon_input.specs.State.{State, RemainingIsKnown}
 use Rattle.claxon_metadata.specs.declared.metadata.StreamInfo.{StreamInfo}
 use Rattle.claxon_metadata.specs.declared.metadata.SizeBounds.{SizeBounds}
 use Rattle.claxon_metadata.specs.declared.metadata.SampleFormat.{SampleFormat}
@@ -90,7 +90,7 @@ MayRunOutOfMemory type length s =
 -- comment block only if a vendor length that fits follows.
 abbrev pub OutOfMemoryAfterBlockHeader : {A : Type 0} → Result A Error → State ℕ → Type 0
 OutOfMemoryAfterBlockHeader r old =
-    IsOutOfMemory r → old.known ≡ true → (h : BlockHeader) × (x : List ℕ) × (rest : List ℕ)
+    IsOutOfMemory r → RemainingIsKnown old → (h : BlockHeader) × (x : List ℕ) × (rest : List ℕ)
     × BlockHeaderCode h x × MayRunOutOfMemory h.type h.length rest × (old.remaining ≡ x ++ rest)
 
 -- a block, of which only the content matters: not its last-block flag

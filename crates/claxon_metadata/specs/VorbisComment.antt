@@ -10,7 +10,7 @@ use Rattle.claxon_input.specs.Error.{IsFault, is_named}
 use Rattle.claxon_input.specs.Gives.{Gives}
 use Rattle.claxon_input.specs.Promises.{IsOutOfMemory}
 use Rattle.claxon_input.specs.Source.{Source}
-use Rattle.claxon_input.specs.State.{State, bytes_in}
+use Rattle.claxon_input.specs.State.{State, bytes_in, RemainingIsKnown}
 use Rattle.claxon_input.specs.declared.error.Error.{Error}
 use Rattle.claxon_metadata.specs.declared.metadata.VorbisComment.{VorbisComment}
 use Rattle.claxon_metadata.specs.TagEntries.{entry_view, entries_view}
@@ -32,7 +32,7 @@ HasVendorLength most s =
 -- `OutOfMemory` is returned only if the bytes begin with such a length.
 abbrev pub OutOfMemoryAfterVendorLength : {A : Type 0} → ℕ → Result A Error → State ℕ → Type 0
 OutOfMemoryAfterVendorLength most r old =
-    IsOutOfMemory r → old.known ≡ true → HasVendorLength most old.remaining
+    IsOutOfMemory r → RemainingIsKnown old → HasVendorLength most old.remaining
 
 -- A length of at most `most` was read; a greater one is the fault of this error.
 abbrev pub LengthIsRead : {R : Type 0} → (R → Source ℕ) → ℕ → Error → R → Result ℕ Error → R

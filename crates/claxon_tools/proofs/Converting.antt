@@ -18,7 +18,7 @@ use Rattle.claxon.specs.BufferedReader.{buffered_source}
 use Rattle.claxon.specs.Errors.{Error as Cause}
 use Rattle.claxon.specs.BufferedReaders.{BufferedReader}
 use Rattle.claxon.specs.Promises.{NoneIsEof, FaultIsSound, FoundIsSound, Consumed}
-use Rattle.claxon.specs.State.{State}
+use Rattle.claxon.specs.State.{State, RemainingIsKnown}
 use Rattle.claxon.specs.FlacReader.{flac_input}
 use Rattle.claxon.specs.Opening.{flac_bytes}
 use Rattle.claxon.specs.SampleRuns.{lent, samples_of}
@@ -65,7 +65,7 @@ frames_push stream (x ∷ blocks) b s m t r f c e = (f.0, f.1, f.2, f.3, frames_
 -- So far exactly the frames of these blocks were consumed, and their samples written.
 pub record PutSoFar {W : Type 0} (contents : W → Option (List ℕ)) (stream : Option StreamFormat) (a b : State ℕ) (x y : WavWriter W) : Type 0 where
   pub blocks : List Block
-  pub consumed : a.known ≡ true → (b.known ≡ true) × Frames stream a.remaining blocks b.remaining
+  pub consumed : RemainingIsKnown a → RemainingIsKnown b × Frames stream a.remaining blocks b.remaining
   pub puts : PutsSamples contents blocks x y
 
 module _ {W : Type 0} {contents : W → Option (List ℕ)} where
@@ -139,7 +139,7 @@ module _ {W : Type 0} {contents : W → Option (List ℕ)} {stream : Option Stre
 
   module _ (block : BlockValue) (frame : Consumed b c (Frame stream (block_view block))) where
     -- the frames of all blocks, with this one
-    all_frames : a.known ≡ true → Frames stream a.remaining (h.blocks ++ block_view block ∷ []) c.remaining
+    all_frames : RemainingIsKnown a → Frames stream a.remaining (h.blocks ++ block_view block ∷ []) c.remaining
     all_frames known = let k = h.consumed known in let t = (frame k.0).1 in frames_push stream h.blocks (block_view block) a.remaining b.remaining t.0 c.remaining k.1 t.1 t.2
 
     -- an error of the writer
@@ -206,7 +206,7 @@ converted contents position remaining flac frames (Ok done) old put new input st
     record {
       blocks = puts.blocks;
       all = λ known. (
-          let k = puts.all (here.1 ∙ known) in
+          let k = puts.all (here.1 known) in
           (k.0, subst (λ (s : Option StreamFormat). Frames s (flac_bytes remaining flac).remaining puts.blocks k.0) stream (subst (λ (s : List ℕ). Frames (frame_stream frames) s puts.blocks k.0) here.0 k.1), k.2)
           );
       put = put;
@@ -222,4 +222,4 @@ pub not_converted : {R A W : Type 0} (remaining : R → Option (List ℕ)) (flac
     → ExplainsErrorIfKnown (flac_stream flac) old (flac_bytes remaining flac) e
 not_converted remaining flac frames old e input stream stops known =
     let here = after_loan remaining flac (frame_input frames) input in
-    subst (λ (s : Option StreamFormat). ExplainsError s old (flac_bytes remaining flac).remaining e) stream (subst (λ (s : List ℕ). ExplainsError (frame_stream frames) old s e) here.0 (stops (here.1 ∙ known)))
+    subst (λ (s : Option StreamFormat). ExplainsError s old (flac_bytes remaining flac).remaining e) stream (subst (λ (s : List ℕ). ExplainsError (frame_stream frames) old s e) here.0 (stops (here.1 known)))

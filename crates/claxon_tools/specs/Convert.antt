@@ -8,7 +8,7 @@ use Rattle.claxon.specs.FrameReader.{frame_bytes, frame_stream}
 use Rattle.claxon.specs.FrameReaders.{FrameReader}
 use Rattle.claxon.specs.Error.{IsFault, IsIo}
 use Rattle.claxon.specs.Source.{Source}
-use Rattle.claxon.specs.State.{State}
+use Rattle.claxon.specs.State.{State, RemainingIsKnown}
 use Rattle.claxon.specs.Errors.{Error as Cause}
 use Rattle.claxon.specs.Errors.TheVariants.{OutOfMemory}
 use Rattle.claxon.specs.Opening.{flac_bytes}
@@ -43,7 +43,7 @@ pub record PutsSamples {W : Type 0} (contents : W → Option (List ℕ)) (blocks
 -- The remaining input is the frames of these blocks, one after another, and fewer than two bytes.
 abbrev pub IsWholeStream : Option StreamFormat → List Block → State ℕ → Type 0
 IsWholeStream stream blocks s =
-    s.known ≡ true → (rest : List ℕ) × Frames stream s.remaining blocks rest × (length rest < 2)
+    RemainingIsKnown s → (rest : List ℕ) × Frames stream s.remaining blocks rest × (length rest < 2)
 
 -- Exactly the samples of all blocks up to the end of the stream were written.
 pub record PutsStream {W : Type 0} (contents : W → Option (List ℕ)) (stream : Option StreamFormat)
@@ -89,7 +89,7 @@ ExplainsError stream old s SameFile = ⊥
 abbrev pub ExplainsErrorIfKnown : {W : Type 0} → Option StreamFormat → WavWriter W → State ℕ → Error
     → Type 0
 ExplainsErrorIfKnown stream old s error =
-    s.known ≡ true → ExplainsError stream old s.remaining error
+    RemainingIsKnown s → ExplainsError stream old s.remaining error
 
 -- An Err says why not all blocks were written.
 abbrev pub PutBlocksFaultIsSound : {R W : Type 0} → (R → Source ℕ) → FrameReader R

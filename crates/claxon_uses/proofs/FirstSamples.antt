@@ -13,7 +13,7 @@ use Rattle.claxon.specs.BufferedReader.{buffered_source}
 use Rattle.claxon.specs.Error.{IsFault}
 use Rattle.claxon.specs.Promises.{Consumed}
 use Rattle.claxon.specs.Source.{Source}
-use Rattle.claxon.specs.State.{State}
+use Rattle.claxon.specs.State.{State, RemainingIsKnown}
 use Rattle.claxon.specs.Errors.{Error}
 use Rattle.claxon.specs.Errors.TheVariants.{OutOfMemory}
 use Rattle.claxon.specs.BufferedReaders.{BufferedReader}
@@ -110,11 +110,11 @@ module _ {R A : Type 0} (count : ℕ) (remaining : R → Option (List ℕ)) (rea
   abbrev after_head : List ℕ
   after_head = (samples_bytes source old).remaining
 
-  any_first : (ys : List ℤ) → s.known ≡ true → BeginsWithSamples count s.remaining ys → HasFirstSamples count stream after_head ys
+  any_first : (ys : List ℤ) → RemainingIsKnown s → BeginsWithSamples count s.remaining ys → HasFirstSamples count stream after_head ys
   any_first ys is_known b = after_any_head remaining reader flac o is_known (λ z l. HasFirstSamples count z l ys) b.head b.front b.frames b.code b.joined b.first_samples_are
 
   -- a first fault is that of a frame after others
-  fault_after : (f : Fault) → s.known ≡ true → HasFirstFault count s.remaining f → (blocks : List Block) × (rest : List ℕ) × Frames stream after_head blocks rest × NoFrameLeft stream rest × (length (samples_of blocks) < count) × BeginsWith (FrameBytesFault stream f) rest
+  fault_after : (f : Fault) → RemainingIsKnown s → HasFirstFault count s.remaining f → (blocks : List Block) × (rest : List ℕ) × Frames stream after_head blocks rest × NoFrameLeft stream rest × (length (samples_of blocks) < count) × BeginsWith (FrameBytesFault stream f) rest
   fault_after f is_known bad = elim bad [
     | inl b ↦ absurd (no_head_fault remaining reader flac o is_known f b)
     | inr st ↦ (
@@ -130,7 +130,7 @@ module _ {R A : Type 0} (count : ℕ) (remaining : R → Option (List ℕ)) (rea
 
   -- ---- no error was given
 
-  gave_first : (xs : List ℤ) (new : FlacSamples (MutBor (BufferedReader R A)) A) → GaveSamples source old xs new → length xs ≡ count → s.known ≡ true → HasFirstSamples count stream after_head xs
+  gave_first : (xs : List ℤ) (new : FlacSamples (MutBor (BufferedReader R A)) A) → GaveSamples source old xs new → length xs ≡ count → RemainingIsKnown s → HasFirstSamples count stream after_head xs
   gave_first xs new h many is_known =
       let all : samples_of h.blocks ≡ xs ++ samples_left new = samples_are h.blocks _ h.samples in
       record {
@@ -141,7 +141,7 @@ module _ {R A : Type 0} (count : ℕ) (remaining : R → Option (List ℕ)) (rea
         enough = inl (omega (arith, many, ap length all, length-append xs (samples_left new)));
       }
 
-  gave_whole : (xs : List ℤ) (new : FlacSamples (MutBor (BufferedReader R A)) A) → GaveAll source old xs None new → length xs ≤ count → s.known ≡ true → HasFirstSamples count stream after_head xs
+  gave_whole : (xs : List ℤ) (new : FlacSamples (MutBor (BufferedReader R A)) A) → GaveAll source old xs None new → length xs ≤ count → RemainingIsKnown s → HasFirstSamples count stream after_head xs
   gave_whole xs new h few is_known =
       let w = h.ends.blocks_are.consumed.known (after_known remaining reader flac o is_known) in
       record {
@@ -152,7 +152,7 @@ module _ {R A : Type 0} (count : ℕ) (remaining : R → Option (List ℕ)) (rea
         enough = inr (h.ends.last.promises.none_is_eof refl w.known).0;
       }
 
-  given : (xs : List ℤ) → GivesFirstSamples source count old xs → s.known ≡ true → HasFirstSamples count stream after_head xs
+  given : (xs : List ℤ) → GivesFirstSamples source count old xs → RemainingIsKnown s → HasFirstSamples count stream after_head xs
   given xs (inl h) is_known = gave_first xs h.0 h.1 h.2 is_known
   given xs (inr h) is_known = gave_whole xs h.0 h.1 h.2 is_known
 
@@ -171,7 +171,7 @@ module _ {R A : Type 0} (count : ℕ) (remaining : R → Option (List ℕ)) (rea
     named = λ f is_known bad. let b = fault_after f is_known bad in absurd (not_both count stream o.width after_head first.items b.0 b.1 f (has is_known) b.2 b.4 b.5);
   }
     where
-      has : s.known ≡ true → HasFirstSamples count stream after_head first.items
+      has : RemainingIsKnown s → HasFirstSamples count stream after_head first.items
       has is_known = given first.items h is_known
 
   -- ---- an error was given after too few samples
@@ -203,21 +203,21 @@ module _ {R A : Type 0} (count : ℕ) (remaining : R → Option (List ℕ)) (rea
         ];
   }
     where
-      frames : s.known ≡ true → Frames stream after_head h.blocks h.ends.between.remaining
+      frames : RemainingIsKnown s → Frames stream after_head h.blocks h.ends.between.remaining
       frames is_known = (h.ends.blocks_are.consumed.known (after_known remaining reader flac o is_known)).is
 
       fewer : length (samples_of h.blocks) < count
       fewer = let l = ap length (samples_are h.blocks xs h.samples) in omega (arith, l, less)
 
       -- the fault that the last answer names follows the frames
-      stands : s.known ≡ true → (h.ends.between.known ≡ true → (f : Fault) × IsFault f e × Consumed h.ends.between (samples_bytes source new) (FrameBytesFault stream f)) → (f : Fault) × IsFault f e × BeginsWith (FrameBytesFault stream f) h.ends.between.remaining
+      stands : RemainingIsKnown s → (RemainingIsKnown h.ends.between → (f : Fault) × IsFault f e × Consumed h.ends.between (samples_bytes source new) (FrameBytesFault stream f)) → (f : Fault) × IsFault f e × BeginsWith (FrameBytesFault stream f) h.ends.between.remaining
       stands is_known bad =
           let t = (h.ends.blocks_are.consumed.known (after_known remaining reader flac o is_known)).known in
           let f = bad t in
           let p = (f.2 t).1 in
           (f.0, f.1, (p.0, (samples_bytes source new).remaining, p.1, p.2))
 
-      first_fault : s.known ≡ true → (f : Fault) → BeginsWith (FrameBytesFault stream f) h.ends.between.remaining → (g : Head) × (blocks : List Block) × (rest : List ℕ) × IsStream true s.remaining g blocks rest × (length (samples_of blocks) < count) × BeginsWith (FrameBytesFault (Some (stream_of g.info)) f) rest
+      first_fault : RemainingIsKnown s → (f : Fault) → BeginsWith (FrameBytesFault stream f) h.ends.between.remaining → (g : Head) × (blocks : List Block) × (rest : List ℕ) × IsStream true s.remaining g blocks rest × (length (samples_of blocks) < count) × BeginsWith (FrameBytesFault (Some (stream_of g.info)) f) rest
       first_fault is_known f b =
           let rest = h.ends.between.remaining in
           let p = shown remaining reader flac o is_known (λ z l. Frames z l h.blocks rest × NoFrameLeft z rest × BeginsWith (FrameBytesFault z f) rest) (frames is_known, fault_no_frame stream o.width f rest b.0 b.1 b.2 b.3, b) in (

@@ -14,7 +14,7 @@ use Rattle.claxon.specs.Heads.{Head, HeadCode, HeadFault}
 use Rattle.claxon.specs.Opening.{OpenFaultIsComplete, OpenIsComplete, OpenIsSound, IsMemoryOrIoError, OpenAnswer, flac_bytes, unread}
 use Rattle.claxon.specs.Promises.{Remains}
 use Rattle.claxon.specs.SampleRuns.{lent}
-use Rattle.claxon.specs.State.{State, bytes_in}
+use Rattle.claxon.specs.State.{State, bytes_in, RemainingIsKnown}
 use Rattle.claxon.specs.Streams.{stream_of, with_samples}
 use Rattle.claxon.specs.declared.reader.FlacReader.{FlacReader}
 use Rattle.claxon.proofs.SampleRuns.{after_loan}
@@ -25,12 +25,12 @@ use Rattle.claxon_uses.proofs.MemoryOrIoErrors.{same_memory_or_io_error, not_mem
 
 module _ {R A : Type 0} (remaining : R → Option (List ℕ)) (reader : R) (e : Error) where
   -- where the bytes begin with one, there was `OutOfMemory` or an `IoError`
-  pub no_head : {X : Type 0} → OpenIsComplete remaining (with_samples true) reader (let r : OpenAnswer R A = Err e in r) → (h : Head) (front frames : List ℕ) → HeadCode (with_samples true) h front → (unread (remaining reader)).known ≡ true
+  pub no_head : {X : Type 0} → OpenIsComplete remaining (with_samples true) reader (let r : OpenAnswer R A = Err e in r) → (h : Head) (front frames : List ℕ) → HeadCode (with_samples true) h front → RemainingIsKnown (unread (remaining reader))
       → (unread (remaining reader)).remaining ≡ front ++ frames → IsMemoryOrIoError (let r : Result X Error = Err e in r)
   no_head complete h front frames code is_known is = elim (complete h front frames code (record { known = is_known; are = is })) [ inl p ↦ absurd p | inr d ↦ same_memory_or_io_error e d ]
 
   -- a fault of a head is named
-  pub head_fault_named : {X : Type 0} → OpenFaultIsComplete remaining (with_samples true) reader (let r : OpenAnswer R A = Err e in r) → (f : Fault) → (unread (remaining reader)).known ≡ true
+  pub head_fault_named : {X : Type 0} → OpenFaultIsComplete remaining (with_samples true) reader (let r : OpenAnswer R A = Err e in r) → (f : Fault) → RemainingIsKnown (unread (remaining reader))
       → BeginsWith (HeadFault (with_samples true) f) (unread (remaining reader)).remaining → IsErrAnd (let r : Result X Error = Err e in r) (IsFault f) ⊎ IsMemoryOrIoError (let r : Result X Error = Err e in r)
   head_fault_named named f is_known b = elim (named f b.0 b.1 b.2 (record { known = is_known; are = b.3 })) [ inl p ↦ inl p | inr d ↦ inr (same_memory_or_io_error e d) ]
 
@@ -44,7 +44,7 @@ pub record IsOpened {R A : Type 0} (remaining : R → Option (List ℕ)) (reader
   pub width : IsWidth (known_width stream)
   pub stream_is : stream ≡ Some (stream_of (flac_head flac).info)
   pub remaining_is : after.remaining ≡ (flac_bytes remaining flac).remaining
-  pub known_is : after.known ≡ (flac_bytes remaining flac).known
+  pub known_is : RemainingIsKnown (flac_bytes remaining flac) → RemainingIsKnown after
 
 module _ {R A : Type 0} (remaining : R → Option (List ℕ)) (reader : R) (flac : FlacReader R A) where
   -- over the borrow of its input
@@ -60,9 +60,9 @@ module _ {R A : Type 0} (remaining : R → Option (List ℕ)) (reader : R) (flac
     known_is = (after_loan remaining flac input input_is).1;
   }
 
-  module _ {after : State ℕ} {stream : Option StreamFormat} (o : IsOpened remaining reader flac after stream) (is_known : (unread (remaining reader)).known ≡ true) where
-    pub after_known : after.known ≡ true
-    after_known = o.known_is ∙ (o.head is_known).0
+  module _ {after : State ℕ} {stream : Option StreamFormat} (o : IsOpened remaining reader flac after stream) (is_known : RemainingIsKnown (unread (remaining reader))) where
+    pub after_known : RemainingIsKnown after
+    after_known = o.known_is (o.head is_known).0
 
     -- what holds of the remaining frames holds of those after the head that is shown
     pub shown : (P : Option StreamFormat → List ℕ → Type 0) → P stream after.remaining → P (Some (stream_of (flac_head flac).info)) (flac_bytes remaining flac).remaining

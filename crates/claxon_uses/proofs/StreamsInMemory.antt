@@ -9,7 +9,7 @@ use Rattle.claxon.specs.Cursor.{cursor_source}
 use Rattle.claxon.specs.Error.{IsFault}
 use Rattle.claxon.specs.Gives.{Consumes}
 use Rattle.claxon.specs.Promises.{CodeIsComplete, Remains, IsExcused, IsOutOfMemory, FaultIsComplete, FaultIsSound, Consumed}
-use Rattle.claxon.specs.State.{State}
+use Rattle.claxon.specs.State.{State, RemainingIsKnown}
 use Rattle.claxon.specs.Errors.{Error}
 use Rattle.claxon.specs.Errors.TheVariants.{OutOfMemory}
 use Rattle.claxon.specs.FrameReader.{HeaderOfLargerBlock}
@@ -77,7 +77,7 @@ module _ {X Z : Type 0} (view : X → List ℤ) (show : Z → Head) (bytes : Lis
   -- a head was read
   module _ (z : Z) (stream : StreamFormat) (is : stream ≡ stream_of (show z).info) (width : IsWidth (Some stream.width)) (consumed : Consumed (slice_state a) (slice_state b) (HeadCode (with_samples true) (show z)))
       (complete : CodeIsComplete show (let q : Result Z Error = Ok z in q) (HeadCode (with_samples true)) (slice_state a) (slice_state b)) (named : FaultIsComplete (let q : Result Z Error = Ok z in q) (HeadFault (with_samples true)) (slice_state a) (slice_state b)) where
-    is_known : (slice_state b).known ≡ true
+    is_known : RemainingIsKnown (slice_state b)
     is_known = (consumed remains.known).0
 
     stands : (blocks : List Block) (rest : List ℕ) → Frames (Some stream) (slice_state b).remaining blocks rest → NoFrameLeft (Some stream) rest → IsStream true bytes (show z) blocks rest

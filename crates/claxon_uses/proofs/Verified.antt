@@ -12,7 +12,7 @@ use Rattle.claxon.specs.Frame.{Block, Frame, FrameBytesFault, IsWidth, StreamFor
 use Rattle.claxon.specs.Heads.{Head}
 use Rattle.claxon.specs.Error.{is_out_of_memory}
 use Rattle.claxon.specs.Promises.{NoneIsEof, FaultIsSound, FoundIsSound, Consumed}
-use Rattle.claxon.specs.State.{State}
+use Rattle.claxon.specs.State.{State, RemainingIsKnown}
 use Rattle.claxon.specs.Errors.{Error}
 use Rattle.claxon.specs.Block.{BlockValue, duration_of}
 use Rattle.claxon.specs.BufferedReader.{buffered_source}
@@ -43,7 +43,7 @@ module _ {stream : Option StreamFormat} where
   takes_none a found frames faults samples = record { taken = λ is_known. (is_known, ([], refl, record { frames = frames; faults = faults; samples = samples })) }
 
   module _ {a b : State ℕ} (c : State ℕ) {found : Found} (so_far : ConsumesParts stream a b found) where
-    with_part : (part : Part) → Consumed b c (PartBytes stream part) → a.known ≡ true → (c.known ≡ true) × ((parts : List Part) × Parts stream a.remaining (parts ++ part ∷ []) c.remaining × AreCounted parts found)
+    with_part : (part : Part) → Consumed b c (PartBytes stream part) → RemainingIsKnown a → RemainingIsKnown c × ((parts : List Part) × Parts stream a.remaining (parts ++ part ∷ []) c.remaining × AreCounted parts found)
     with_part part consumed is_known =
         let k = so_far.taken is_known in
         let w = consumed k.0 in
@@ -69,7 +69,7 @@ module _ {stream : Option StreamFormat} where
     }
 
     -- one part more is too much
-    exceeds_part : (part : Part) → Consumed b c (PartBytes stream part) → (e : Error) → ExceedsCount (part_frames part) (part_faults part) (part_samples part) found e → a.known ≡ true → (parts : List Part) × (rest : List ℕ) × Parts stream a.remaining parts rest × AreTooMany parts
+    exceeds_part : (part : Part) → Consumed b c (PartBytes stream part) → (e : Error) → ExceedsCount (part_frames part) (part_faults part) (part_samples part) found e → RemainingIsKnown a → (parts : List Part) × (rest : List ℕ) × Parts stream a.remaining parts rest × AreTooMany parts
     exceeds_part part consumed e n is_known =
         let p = (with_part part consumed is_known).1 in
         let frames = sum_by_push part_frames p.0 part in
@@ -90,11 +90,11 @@ module _ {stream : Option StreamFormat} where
     pub takes_frame : {more : Found} (block : BlockValue) (n : ℕ) → Consumed b c (Frame stream (block_view block)) → n ≡ duration_of block.channels → CountsPart 1 0 n found more → ConsumesParts stream a c more
     takes_frame {more} block n consumed is counts = takes_part (Ok (block_view block)) consumed (subst (λ (z : ℕ). CountsPart 1 0 z found more) (is ∙ sym (same_duration block.channels)) counts)
 
-    pub exceeds_frame : (block : BlockValue) (n : ℕ) → Consumed b c (Frame stream (block_view block)) → n ≡ duration_of block.channels → (e : Error) → ExceedsCount 1 0 n found e → a.known ≡ true → (parts : List Part) × (rest : List ℕ) × Parts stream a.remaining parts rest × AreTooMany parts
+    pub exceeds_frame : (block : BlockValue) (n : ℕ) → Consumed b c (Frame stream (block_view block)) → n ≡ duration_of block.channels → (e : Error) → ExceedsCount 1 0 n found e → RemainingIsKnown a → (parts : List Part) × (rest : List ℕ) × Parts stream a.remaining parts rest × AreTooMany parts
     exceeds_frame block n consumed is e counts = exceeds_part (Ok (block_view block)) consumed e (subst (λ (z : ℕ). ExceedsCount 1 0 z found e) (is ∙ sym (same_duration block.channels)) counts)
 
     -- a fault
-    fault_part : (error : Error) → FaultIsSound (let r : FrameAnswer = Err error in r) (FrameBytesFault stream) b c → IsFormatOrUnsupported error → a.known ≡ true → (f : Fault) × Consumed b c (FrameBytesFault stream f)
+    fault_part : (error : Error) → FaultIsSound (let r : FrameAnswer = Err error in r) (FrameBytesFault stream) b c → IsFormatOrUnsupported error → RemainingIsKnown a → (f : Fault) × Consumed b c (FrameBytesFault stream f)
     fault_part error bad names is_known = elim bad [
       | inl m ↦ absurd (let z : true ≡ false = subst (λ (q : Error). is_out_of_memory q ≡ false) m names.0 in cc)
       | inr (inl i) ↦ absurd (let z : true ≡ false = sym i ∙ names.1 in cc)
@@ -104,15 +104,15 @@ module _ {stream : Option StreamFormat} where
     pub takes_fault : {more : Found} (error : Error) → FaultIsSound (let r : FrameAnswer = Err error in r) (FrameBytesFault stream) b c → IsFormatOrUnsupported error → CountsPart 0 1 0 found more → ConsumesParts stream a c more
     takes_fault error bad names counts = record { taken = λ is_known. let f = fault_part error bad names is_known in (takes_part (Err f.0) f.1 counts).taken is_known }
 
-    pub exceeds_fault : (error : Error) → FaultIsSound (let r : FrameAnswer = Err error in r) (FrameBytesFault stream) b c → IsFormatOrUnsupported error → (e : Error) → ExceedsCount 0 1 0 found e → a.known ≡ true → (parts : List Part) × (rest : List ℕ) × Parts stream a.remaining parts rest × AreTooMany parts
+    pub exceeds_fault : (error : Error) → FaultIsSound (let r : FrameAnswer = Err error in r) (FrameBytesFault stream) b c → IsFormatOrUnsupported error → (e : Error) → ExceedsCount 0 1 0 found e → RemainingIsKnown a → (parts : List Part) × (rest : List ℕ) × Parts stream a.remaining parts rest × AreTooMany parts
     exceeds_fault error bad names e counts is_known = let f = fault_part error bad names is_known in exceeds_part (Err f.0) f.1 e counts is_known
 
     -- too many frames and faults
-    pub too_many : 2 ^ 64 ≤ found.frames + found.faults + 1 → a.known ≡ true → (parts : List Part) × (rest : List ℕ) × Parts stream a.remaining parts rest × AreTooMany parts
+    pub too_many : 2 ^ 64 ≤ found.frames + found.faults + 1 → RemainingIsKnown a → (parts : List Part) × (rest : List ℕ) × Parts stream a.remaining parts rest × AreTooMany parts
     too_many m is_known = let p = (so_far.taken is_known).1 in let k = p.2 in (p.0, b.remaining, p.1, inr (omega (arith, m, k.frames, k.faults)))
 
     -- the end
-    pub counts_all : NoneIsEof 2 (let r : FrameAnswer = Ok None in r) b c → a.known ≡ true → (parts : List Part) × (rest : List ℕ) × Parts stream a.remaining parts rest × AreCounted parts found × (length rest < 2)
+    pub counts_all : NoneIsEof 2 (let r : FrameAnswer = Ok None in r) b c → RemainingIsKnown a → (parts : List Part) × (rest : List ℕ) × Parts stream a.remaining parts rest × AreCounted parts found × (length rest < 2)
     counts_all end is_known = let k = so_far.taken is_known in let p = k.1 in (p.0, b.remaining, p.1, p.2, (end refl k.0).0)
 
 -- the same of an equal answer and an equal stream
@@ -205,7 +205,7 @@ module _ {R A : Type 0} (remaining : R → Option (List ℕ)) (reader : R) where
     abbrev after_head : List ℕ
     after_head = (frame_bytes (lent (buffered_source remaining)) blocks).remaining
 
-    any_parts : (found : Found) (is_known : s.known ≡ true) (v : IsVerified s.remaining found) → Parts (frame_stream blocks) after_head v.parts v.rest
+    any_parts : (found : Found) (is_known : RemainingIsKnown s) (v : IsVerified s.remaining found) → Parts (frame_stream blocks) after_head v.parts v.rest
     any_parts found is_known v = after_any_head remaining reader flac o is_known (λ z l. Parts z l v.parts v.rest) v.head v.front v.frames v.code v.joined v.parts_are
 
     -- all parts were counted
@@ -259,7 +259,7 @@ module _ {R A : Type 0} (remaining : R → Option (List ℕ)) (reader : R) where
       named = λ f is_known b. absurd (no_head_fault remaining reader flac o is_known f b);
     }
       where
-        too_many_after_head : (parts : List Part) (rest : List ℕ) → s.known ≡ true → Parts (frame_stream blocks) after_head parts rest → AreTooMany parts → HasTooMany s.remaining
+        too_many_after_head : (parts : List Part) (rest : List ℕ) → RemainingIsKnown s → Parts (frame_stream blocks) after_head parts rest → AreTooMany parts → HasTooMany s.remaining
         too_many_after_head parts rest is_known p many = record {
           head = flac_head flac;
           front = (o.head is_known).1.0;

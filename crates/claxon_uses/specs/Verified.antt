@@ -8,7 +8,7 @@ use Rattle.claxon.specs.FrameReader.{frame_bytes, frame_stream}
 use Rattle.claxon.specs.Heads.{Head, HeadCode, HeadFault}
 use Rattle.claxon.specs.Opening.{IfKnown, IsMemoryOrIoError}
 use Rattle.claxon.specs.Source.{Source}
-use Rattle.claxon.specs.State.{State}
+use Rattle.claxon.specs.State.{State, RemainingIsKnown}
 use Rattle.claxon.specs.Streams.{duration, stream_of, with_samples}
 use Rattle.claxon.specs.FrameReaders.{FrameReader}
 use Rattle.claxon.specs.Errors.{Error}
@@ -71,12 +71,12 @@ pub record CountsPart (frames faults samples : ℕ) (old new : Found) : Type 0 w
 
 -- So far exactly parts were consumed, and these were counted.
 pub record ConsumesParts (stream : Option StreamFormat) (old new : State ℕ) (found : Found) : Type 0 where
-  pub taken : old.known ≡ true → (new.known ≡ true) × ((parts : List Part) × Parts stream old.remaining parts new.remaining × AreCounted parts found)
+  pub taken : RemainingIsKnown old → RemainingIsKnown new × ((parts : List Part) × Parts stream old.remaining parts new.remaining × AreCounted parts found)
 
 -- The remaining bytes are such parts up to the end.
 abbrev pub CountsParts : {R : Type 0} → (R → Source ℕ) → FrameReader R → Found → Type 0
 CountsParts source blocks found =
-    (frame_bytes source blocks).known ≡ true
+    RemainingIsKnown (frame_bytes source blocks)
     → (parts : List Part) × (rest : List ℕ)
     × Parts (frame_stream blocks) (frame_bytes source blocks).remaining parts rest
     × AreCounted parts found × (length rest < 2)
@@ -130,7 +130,7 @@ CannotCountFault fault found e =
 -- The error is `OutOfMemory` or an `IoError`, or says that more parts remain than can be counted, and so it is.
 abbrev pub StopsCounting : {R : Type 0} → (R → Source ℕ) → FrameReader R → Error → Type 0
 StopsCounting source blocks e =
-    (e ≡ OutOfMemory) ⊎ (IsIo e ⊎ (IsTooMany e × ((frame_bytes source blocks).known ≡ true → (parts : List Part) × (rest : List ℕ) × Parts (frame_stream blocks) (frame_bytes source blocks).remaining parts rest × AreTooMany parts)))
+    (e ≡ OutOfMemory) ⊎ (IsIo e ⊎ (IsTooMany e × (RemainingIsKnown (frame_bytes source blocks) → (parts : List Part) × (rest : List ℕ) × Parts (frame_stream blocks) (frame_bytes source blocks).remaining parts rest × AreTooMany parts)))
 
 -- ---- the contract of the call
 

@@ -31,7 +31,7 @@ rest_of (n ∷ names) = names
 
 -- without the outermost loan
 pub unborrowed : {X : Type 0} → State X → State X
-unborrowed s = record s { loans = rest_of s.loans }
+unborrowed s = record s { source = record s.source { loans = rest_of s.source.loans } }
 
 module _ {X : Type 0} {a b : State X} where
   consumes_unborrowed : {P : List X → List X → Type 0} → Consumes a b P → Consumes (unborrowed a) (unborrowed b) P
@@ -131,7 +131,7 @@ abbrev pub lent : {R : Type 0} → (R → Source ℕ) → MutBor R → Source �
 lent source r = through_loan r.ghost_name (source r.now)
 
 -- the reference stayed the same
-pub same_name : {R : Type 0} (source : R → Source ℕ) (r s q : MutBor R) → s ≡ r → (bytes_in (lent source) q).loans ≡ (bytes_in (lent source) s).loans → q.ghost_name ≡ r.ghost_name
+pub same_name : {R : Type 0} (source : R → Source ℕ) (r s q : MutBor R) → s ≡ r → (bytes_in (lent source) q).source.loans ≡ (bytes_in (lent source) s).source.loans → q.ghost_name ≡ r.ghost_name
 unfolding bytes_in
 same_name source r s q e h =
     let k : q.ghost_name ∷ (source q.now).loans ≡ s.ghost_name ∷ (source s.now).loans = h in

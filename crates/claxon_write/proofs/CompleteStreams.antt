@@ -9,7 +9,7 @@ use Rattle.claxon.specs.Errors.{Error}
 use Rattle.claxon.specs.Errors.TheVariants.{OutOfMemory}
 use Rattle.claxon.specs.Error.{IsFault}
 use Rattle.claxon.specs.Promises.{Remains, IsExcused}
-use Rattle.claxon.specs.State.{State}
+use Rattle.claxon.specs.State.{State, RemainingIsKnown}
 use Rattle.claxon.specs.SampleRuns.{samples_of}
 use Rattle.claxon.proofs.SampleRuns.{all_frames_read, excused_after, fault_no_frame, frames_left, short_no_frame}
 use Rattle.claxon_write.specs.Decoded.{Decodes, DecodesToEof, EndsAfter, FailsToDecode, TooManySamples, WriteHasFailed, WriterHasFailed}
@@ -34,7 +34,7 @@ module _ (stream : Option StreamFormat) (width : IsWidth (known_width stream)) w
   fewer : (limit p q n : ℕ) → limit ≤ p → n ≡ p + q → n < limit → ⊥
   fewer limit p q n h e l = omega arith
 
-  under_limit : (done blocks : List Block) (m : List ℕ) {error : Error} {a b : State ℕ} → TooManySamples stream done error a b → a.known ≡ true → Frames stream a.remaining blocks m → NoFrameLeft stream m → length (samples_of blocks) < 2 ^ 64 → ⊥
+  under_limit : (done blocks : List Block) (m : List ℕ) {error : Error} {a b : State ℕ} → TooManySamples stream done error a b → RemainingIsKnown a → Frames stream a.remaining blocks m → NoFrameLeft stream m → length (samples_of blocks) < 2 ^ 64 → ⊥
   under_limit done blocks m {a = a} {b = b} h known f c few =
       let all = done ++ h.last ∷ [] in
       let q = frames_left stream width a.remaining b.remaining m all blocks (h.frames.consumed.known known).is f c in
@@ -42,7 +42,7 @@ module _ (stream : Option StreamFormat) (width : IsWidth (known_width stream)) w
       ap (λ (z : List Block). length (samples_of z)) q.1 ∙ ap length (flat_map-append (λ (b : Block). interleave b.channels) all q.0) ∙ length-append (samples_of all) (samples_of q.0) in
       fewer (2 ^ 64) (length (samples_of all)) (length (samples_of q.0)) (length (samples_of blocks)) h.many e few
 
-  module _ {W : Type 0} (contents : W → Option (List ℕ)) (a b : State ℕ) (x y : Output W) (blocks : List Block) (m : List ℕ) (known : a.known ≡ true) (f : Frames stream a.remaining blocks m) (few : length (samples_of blocks) < 2 ^ 64) where
+  module _ {W : Type 0} (contents : W → Option (List ℕ)) (a b : State ℕ) (x y : Output W) (blocks : List Block) (m : List ℕ) (known : RemainingIsKnown a) (f : Frames stream a.remaining blocks m) (few : length (samples_of blocks) < 2 ^ 64) where
     -- a stream that ends there is written completely
     written_whole : (r : Result ℕ Error) → IfOk r (λ n. DecodesToEof contents stream n a b x y)
         → IfErr r (λ e. FailsToDecode contents stream e a b x y) → length m < 2 → (r ≡ Ok (length (samples_of blocks))) ⊎ (IsExcused r a b ⊎ WriterHasFailed r x y)

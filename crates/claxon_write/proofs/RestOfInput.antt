@@ -6,7 +6,7 @@ use Rattle.claxon.specs.Block.{BlockValue}
 use Rattle.claxon.specs.FrameReader.{ReadsFrame}
 use Rattle.claxon.specs.Errors.{Error}
 use Rattle.claxon.specs.Gives.{IsRest, Consumes}
-use Rattle.claxon.specs.State.{State}
+use Rattle.claxon.specs.State.{State, RemainingIsKnown, source_bytes}
 use Rattle.claxon.specs.SampleRuns.{ReadsFrames}
 use Rattle.claxon_write.specs.Decoded.{DecodesToEof, EndsAfter, FailsToDecode, ConsumesFramesOrEnd}
 use Rattle.claxon_write.specs.declared.output.Output.{Output}
@@ -21,17 +21,17 @@ rest_trans s m r h k = (h.0 ++ k.0, h.1 ∙ ap (λ (z : List ℕ). h.0 ++ z) k.1
 
 -- the bytes of the source are a rest of those before, and still known
 abbrev pub KeepsRest : State ℕ → State ℕ → Type 0
-KeepsRest a b = a.known ≡ true → (b.known ≡ true) × IsRest a.bytes b.bytes
+KeepsRest a b = RemainingIsKnown a → RemainingIsKnown b × IsRest (source_bytes a) (source_bytes b)
 
 leaves_both : (a b c : State ℕ) → KeepsRest a b → KeepsRest b c → KeepsRest a c
-leaves_both a b c h k known = let p = h known in let q = k p.0 in (q.0, rest_trans a.bytes b.bytes c.bytes p.1 q.1)
+leaves_both a b c h k known = let p = h known in let q = k p.0 in (q.0, rest_trans (source_bytes a) (source_bytes b) (source_bytes c) p.1 q.1)
 
 consumes_leaves : {a b : State ℕ} {P : List ℕ → List ℕ → Type 0} → Consumes a b P → KeepsRest a b
-consumes_leaves {a = a} h known = let k = h.known known in (k.known, k.rest a.bytes (rest_self a.bytes))
+consumes_leaves {a = a} h known = let k = h.known known in (k.known, k.rest (source_bytes a) (rest_self (source_bytes a)))
 
 frame_leaves : (stream : Option StreamFormat) (r : Result (Option BlockValue) Error) (a b : State ℕ) → ReadsFrame stream r a b → KeepsRest a b
 frame_leaves stream (Ok (Some x)) a b h = consumes_leaves h.gives
-frame_leaves stream (Ok None) a b h = λ known. let k = h.gives.known known in (k.known, k.rest a.bytes (rest_self a.bytes))
+frame_leaves stream (Ok None) a b h = λ known. let k = h.gives.known known in (k.known, k.rest (source_bytes a) (rest_self (source_bytes a)))
 frame_leaves stream (Err e) a b h = h.promises.front
 
 runs_leave : {stream : Option StreamFormat} {blocks : List Block} (r : Result (Option BlockValue) Error) {a b : State ℕ} → ReadsFrames stream blocks r a b → KeepsRest a b

@@ -11,7 +11,7 @@ use Rattle.claxon.specs.Errors.TheVariants.{OutOfMemory}
 use Rattle.claxon.specs.Error.{IsFault, IsIo, is_io}
 use Rattle.claxon.specs.Gives.{Consumes}
 use Rattle.claxon.specs.Promises.{Remains, IsExcused, Consumed}
-use Rattle.claxon.specs.State.{State}
+use Rattle.claxon.specs.State.{State, RemainingIsKnown}
 use Rattle.claxon.specs.FlacReader.{flac_head}
 use Rattle.claxon.specs.Opening.{OpenFaultIsComplete, OpenIsComplete, IsMemoryOrIoError, flac_bytes, unread}
 use Rattle.claxon.specs.SampleRuns.{samples_of}
@@ -30,12 +30,12 @@ frames_split : (stream : Option StreamFormat) (blocks : List Block) (b : Block) 
 frames_split stream [] b s m h = (s, refl, (h.0, h.2, h.3 ∙ ap (λ (z : List ℕ). h.0 ++ z) h.4))
 frames_split stream (x ∷ blocks) b s m h = let k = frames_split stream blocks b h.1 m h.4 in (k.0, (h.0, h.1, h.2, h.3, k.1), k.2)
 
-ends_frames : (stream : Option StreamFormat) (blocks : List Block) (end : Option Error) (a b : State ℕ) → EndsAfter stream blocks end a b → a.known ≡ true → (rest : List ℕ) × Frames stream a.remaining blocks rest
+ends_frames : (stream : Option StreamFormat) (blocks : List Block) (end : Option Error) (a b : State ℕ) → EndsAfter stream blocks end a b → RemainingIsKnown a → (rest : List ℕ) × Frames stream a.remaining blocks rest
 ends_frames stream blocks None a b h known = (h.between.remaining, (h.blocks_are.consumed.known known).is)
 ends_frames stream blocks (Some e) a b (inl h) known = (h.between.remaining, (h.blocks_are.consumed.known known).is)
 ends_frames stream blocks (Some e) a b (inr h) known = let k = frames_split stream blocks h.last a.remaining b.remaining (h.frames.consumed.known known).is in (k.0, k.1)
 
-takes_frames : (stream : Option StreamFormat) (blocks : List Block) (a b : State ℕ) → ConsumesFramesOrEnd stream blocks a b → a.known ≡ true → (rest : List ℕ) × Frames stream a.remaining blocks rest
+takes_frames : (stream : Option StreamFormat) (blocks : List Block) (a b : State ℕ) → ConsumesFramesOrEnd stream blocks a b → RemainingIsKnown a → (rest : List ℕ) × Frames stream a.remaining blocks rest
 takes_frames stream blocks a b (inl h) known = (b.remaining, (h.consumed.known known).is)
 takes_frames stream blocks a b (inr h) known = ends_frames stream blocks h.0 a b h.1 known
 
@@ -51,7 +51,7 @@ io_not_memory e i m = let q : is_io OutOfMemory ≡ true = subst IsIo m i in cc
 
 -- `x` is the output at the start, with nothing pending, and the writer has the contents `o`
 module _ {W : Type 0} (contents : W → Option (List ℕ)) (h : Head) (s a b : State ℕ) (o : Option (List ℕ)) (x y : Output W) (head : Consumed s a (HeadCode (with_samples true) h)) (is : writer_contents contents x ≡ o) (none : NonePending x) where
-  input_is : (blocks : List Block) (rest : List ℕ) → s.known ≡ true → Frames (Some (stream_of h.info)) a.remaining blocks rest → IsHeadAndFrames s.remaining h blocks rest
+  input_is : (blocks : List Block) (rest : List ℕ) → RemainingIsKnown s → Frames (Some (stream_of h.info)) a.remaining blocks rest → IsHeadAndFrames s.remaining h blocks rest
   input_is blocks rest known f = let k = (head known).1 in record { prefix = k.0; frames = a.remaining; code = k.1; joined = k.2; blocks_are = f }
 
   all_written : {end : Option Error} {n : ℕ} (d : Decodes contents (Some (stream_of h.info)) end n a b x y) → Appends o (writer_contents contents y) (bytes_of_samples (samples_of d.blocks))
@@ -72,7 +72,7 @@ module _ {W : Type 0} (contents : W → Option (List ℕ)) (h : Head) (s a b : S
   -- ---- an Err
 
   module _ {e : Error} {n : ℕ} (d : Decodes contents (Some (stream_of h.info)) (Some e) n a b x y) where
-    after_frames : (rest : List ℕ) → s.known ≡ true → Frames (Some (stream_of h.info)) a.remaining d.blocks rest → ReachesLimit h d.blocks e rest ⊎ HasFrameFault h e rest → StopsAfterFrames e s o (writer_contents contents y)
+    after_frames : (rest : List ℕ) → RemainingIsKnown s → Frames (Some (stream_of h.info)) a.remaining d.blocks rest → ReachesLimit h d.blocks e rest ⊎ HasFrameFault h e rest → StopsAfterFrames e s o (writer_contents contents y)
     after_frames rest known f stops = record { blocks = d.blocks; head = h; rest = rest; input_is = input_is d.blocks rest known f; stops = stops; written = all_written d }
 
     at_limit : TooManySamples (Some (stream_of h.info)) d.blocks e a b → DecoderStops e s o (writer_contents contents y)
@@ -80,7 +80,7 @@ module _ {W : Type 0} (contents : W → Option (List ℕ)) (h : Head) (s a b : S
         let k = frames_split (Some (stream_of h.info)) d.blocks limit.last a.remaining b.remaining (limit.frames.consumed.known (head known).0).is in
         inr (after_frames k.0 known k.1 (inl (record { is_limit = limit.is_limit; last = limit.last; prefix = k.2.0; rest = b.remaining; frame = k.2.1; joined = k.2.2; many = limit.many })))
 
-    at_fault : (mid : State ℕ) → Consumes a mid (λ p m. Frames (Some (stream_of h.info)) p d.blocks m) → (mid.known ≡ true → (f : Fault) × IsFault f e × Consumed mid b (FrameBytesFault (Some (stream_of h.info)) f)) → DecoderStops e s o (writer_contents contents y)
+    at_fault : (mid : State ℕ) → Consumes a mid (λ p m. Frames (Some (stream_of h.info)) p d.blocks m) → (RemainingIsKnown mid → (f : Fault) × IsFault f e × Consumed mid b (FrameBytesFault (Some (stream_of h.info)) f)) → DecoderStops e s o (writer_contents contents y)
     at_fault mid consumed bad known =
         let w = consumed.known (head known).0 in
         let f = bad w.known in
@@ -104,12 +104,12 @@ module _ {W : Type 0} (contents : W → Option (List ℕ)) (h : Head) (s a b : S
   stopped (Err e) (inr (inl k)) = record { why = inr (inl k.is_io) }
   stopped (Err e) (inr (inr k)) = record { why = inr (inl k.is_io) }
 
-  prefix_whole : (e : Error) {end : Option Error} {n : ℕ} → Decodes contents (Some (stream_of h.info)) end n a b x y → s.known ≡ true → WritesPrefixOfSamples e s o (writer_contents contents y)
+  prefix_whole : (e : Error) {end : Option Error} {n : ℕ} → Decodes contents (Some (stream_of h.info)) end n a b x y → RemainingIsKnown s → WritesPrefixOfSamples e s o (writer_contents contents y)
   prefix_whole e {end = end} d known =
       let f = ends_frames (Some (stream_of h.info)) d.blocks end a b d.ends (head known).0 in
       record { blocks = d.blocks; head = h; rest = f.0; input_is = input_is d.blocks f.0 known f.1; prefix = prefix_all o (writer_contents contents y) (bytes_of_samples (samples_of d.blocks)) (all_written d); all = λ m. all_written d }
 
-  prefix_part : (e : Error) → FailsToWrite contents (Some (stream_of h.info)) e a b x y → s.known ≡ true → WritesPrefixOfSamples e s o (writer_contents contents y)
+  prefix_part : (e : Error) → FailsToWrite contents (Some (stream_of h.info)) e a b x y → RemainingIsKnown s → WritesPrefixOfSamples e s o (writer_contents contents y)
   prefix_part e k known =
       let f = takes_frames (Some (stream_of h.info)) k.blocks a b k.takes (head known).0 in
       let bytes : List ℕ = bytes_of_samples (samples_of k.blocks) in
@@ -129,7 +129,7 @@ module _ {W : Type 0} (contents : W → Option (List ℕ)) (h : Head) (s a b : S
   prefixes (Err e) (inr (inr k)) = record { written = λ known. inr (prefix_whole e k.decoded known) }
 
 -- a head's fault
-pub head_fault : (s : State ℕ) (o : Option (List ℕ)) (e : Error) → (e ≡ OutOfMemory) ⊎ (IsIo e ⊎ (s.known ≡ true → (f : Fault) × IsFault f e × ((t : List ℕ) × (rest : List ℕ) × HeadFault (with_samples true) f t × (s.remaining ≡ t ++ rest))))
+pub head_fault : (s : State ℕ) (o : Option (List ℕ)) (e : Error) → (e ≡ OutOfMemory) ⊎ (IsIo e ⊎ (RemainingIsKnown s → (f : Fault) × IsFault f e × ((t : List ℕ) × (rest : List ℕ) × HeadFault (with_samples true) f t × (s.remaining ≡ t ++ rest))))
     → RunStopsEarly e s o o
 head_fault s o e (inl m) = record { why = inl m }
 head_fault s o e (inr (inl i)) = record { why = inr (inl i) }

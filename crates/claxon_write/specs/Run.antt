@@ -5,7 +5,7 @@ use Rattle.claxon.specs.Fault.{Fault}
 use Rattle.claxon.specs.Frame.{Block, Frame, FrameBytesFault, Frames}
 use Rattle.claxon.specs.Heads.{Head, HeadCode, HeadFault}
 use Rattle.claxon.specs.Streams.{stream_of, with_samples}
-use Rattle.claxon.specs.State.{State}
+use Rattle.claxon.specs.State.{State, RemainingIsKnown}
 use Rattle.claxon.specs.Error.{IsFault, IsIo}
 use Rattle.claxon.specs.Promises.{Remains}
 use Rattle.claxon.specs.Errors.{Error}
@@ -32,7 +32,7 @@ pub record RunWritesAll (n : ℕ) (s : State ℕ) (old new : Option (List ℕ)) 
   pub blocks : List Block
   pub count : n ≡ length (samples_of blocks)
   pub written : Appends old new (bytes_of_samples (samples_of blocks))
-  pub input_is : s.known ≡ true → (head : Head) × (rest : List ℕ)
+  pub input_is : RemainingIsKnown s → (head : Head) × (rest : List ℕ)
       × IsHeadAndFrames s.remaining head blocks rest × (length rest < 2)
 
 -- An Ok is the number of samples: the input was a whole stream, and exactly its samples were written.
@@ -86,7 +86,7 @@ pub record StopsAfterFrames (error : Error) (s : State ℕ) (old new : Option (L
 -- The error is the decoder's, and exactly the samples before the fault were written.
 abbrev pub DecoderStops : Error → State ℕ → Option (List ℕ) → Option (List ℕ) → Type 0
 DecoderStops error s old new =
-    s.known ≡ true → StopsAtHead error s old new ⊎ StopsAfterFrames error s old new
+    RemainingIsKnown s → StopsAtHead error s old new ⊎ StopsAfterFrames error s old new
 
 -- The error is `OutOfMemory`, an `IoError`, or the decoder's.
 pub record RunStopsEarly (error : Error) (s : State ℕ) (old new : Option (List ℕ)) : Type 0 where
@@ -113,7 +113,7 @@ pub record WritesPrefixOfSamples (error : Error) (s : State ℕ)
 -- Where the input is known, nothing was written, or a prefix of the samples of blocks whose frames follow a head.
 pub record WritesPrefixAtMost (error : Error) (s : State ℕ)
     (old new : Option (List ℕ)) : Type 0 where
-  pub written : s.known ≡ true → (new ≡ old) ⊎ WritesPrefixOfSamples error s old new
+  pub written : RemainingIsKnown s → (new ≡ old) ⊎ WritesPrefixOfSamples error s old new
 
 -- Whatever the Err, only a prefix of the samples of blocks whose frames follow the head was written.
 abbrev pub RunWritesPrefix : {W : Type 0} → (W → Option (List ℕ)) → Result ℕ Error
@@ -128,7 +128,7 @@ pub record EofAfterHeadAndBlocks (s : State ℕ) (n : ℕ) : Type 0 where
   pub head : Head
   pub blocks : List Block
   pub rest : List ℕ
-  pub known : s.known ≡ true
+  pub known : RemainingIsKnown s
   pub input_is : IsHeadAndFrames s.remaining head blocks rest
   pub eof : length rest < 2
   pub count : n ≡ length (samples_of blocks)
@@ -147,7 +147,7 @@ pub record FaultAfterHeadAndBlocks (s : State ℕ) (f : Fault) : Type 0 where
   pub blocks : List Block
   pub fault : List ℕ
   pub rest : List ℕ
-  pub known : s.known ≡ true
+  pub known : RemainingIsKnown s
   pub input_is : IsHeadAndFrames s.remaining head blocks (fault ++ rest)
   pub bad : FrameBytesFault (Some (stream_of head.info)) f fault
   pub few : length (samples_of blocks) < 2 ^ 64

@@ -7,7 +7,7 @@ use Rattle.claxon.specs.Errors.{Error}
 use Rattle.claxon.specs.Error.{IsFault}
 use Rattle.claxon.specs.Gives.{IsRest}
 use Rattle.claxon.specs.Promises.{IsExcused}
-use Rattle.claxon.specs.State.{State}
+use Rattle.claxon.specs.State.{State, RemainingIsKnown}
 use Rattle.claxon.specs.FlacReader.{flac_head, flac_metadata_only, flac_streaminfo}
 use Rattle.claxon.specs.Opening.{flac_bytes}
 use Rattle.claxon.specs.SampleRuns.{samples_of}
@@ -29,7 +29,7 @@ flac_stream flac = Some (stream_with (flac_streaminfo flac))
 abbrev pub StreamLeavesRest : {R A : Type 0} → (R → Option (List ℕ)) → FlacReader R A
     → FlacReader R A → Type 0
 StreamLeavesRest remaining old new =
-    (flac_bytes remaining old).known ≡ true → ((flac_bytes remaining new).known ≡ true)
+    RemainingIsKnown (flac_bytes remaining old) → RemainingIsKnown (flac_bytes remaining new)
     × IsRest (flac_bytes remaining old).remaining (flac_bytes remaining new).remaining
 
 -- ---- what remains
@@ -38,7 +38,7 @@ StreamLeavesRest remaining old new =
 pub record EofAfterBlocks (stream : Option StreamFormat) (s : State ℕ) (n : ℕ) : Type 0 where
   pub blocks : List Block
   pub rest : List ℕ
-  pub known : s.known ≡ true
+  pub known : RemainingIsKnown s
   pub frames : Frames stream s.remaining blocks rest
   pub eof : length rest < 2
   pub count : n ≡ length (samples_of blocks)
@@ -49,7 +49,7 @@ pub record FaultAfterBlocks (stream : Option StreamFormat) (s : State ℕ) (f : 
   pub blocks : List Block
   pub fault : List ℕ
   pub rest : List ℕ
-  pub known : s.known ≡ true
+  pub known : RemainingIsKnown s
   pub frames : Frames stream s.remaining blocks (fault ++ rest)
   pub bad : FrameBytesFault stream f fault
   pub few : length (samples_of blocks) < 2 ^ 64

@@ -144,8 +144,8 @@ fn gather_blocks<R: ReadBytes, W: Write, A: Allocator + Copy>(
     output: &mut Output<'_, W>,
 ) -> Result<End>
     ensures same_reference { SameWriter output.old output.new }
-    ensures loans { (frame_bytes R.source frames.new).loans
-        ≡ (frame_bytes R.source frames.old).loans }
+    ensures loans { (frame_bytes R.source frames.new).source.loans
+        ≡ (frame_bytes R.source frames.old).source.loans }
     ensures ok { GatherBlocksIsSound W.contents R.source result
         frames.old frames.new output.old output.new }
     ensures unflushed { IsUnflushed output.old output.new }

@@ -10,7 +10,7 @@ invariant-loop-block g l = record {
   reference : output_name l.output ≡ output_name l.initial.output;
   unflushed : IsUnflushed l.fn.output l.output;
   stream : frame_stream l.frames ≡ frame_stream l.fn.frames;
-  loans : (frame_bytes g.R.ReadBytes.source l.frames).loans ≡ (frame_bytes g.R.ReadBytes.source l.fn.frames).loans;
+  loans : (frame_bytes g.R.ReadBytes.source l.frames).source.loans ≡ (frame_bytes g.R.ReadBytes.source l.fn.frames).source.loans;
   so_far : GatheredSoFar g.W.Write.contents (frame_stream l.fn.frames) l.count (frame_bytes g.R.ReadBytes.source l.fn.frames) (frame_bytes g.R.ReadBytes.source l.frames) l.fn.output l.output;
 }
 

@@ -13,7 +13,7 @@ pub returns-clause-no_failure : goal.returns-clause-no_failure
 returns-clause-no_failure g c =
     let e = still_unread (buffered_source g.R.Read.remaining) c.in_ok-input.input (g.R.Read.remaining c.args.reader) c.in_ok-input.ensures.ok in
     let w = c.in_ok-streaminfo.ensures.gives in
-    (w.errors ∙ ap (λ (a : State ℕ). a.errors) e, w.empty_reads ∙ ap (λ (a : State ℕ). a.empty_reads) e)
+    (w.errors ∙ ap (λ (a : State ℕ). a.source.errors) e, w.empty_reads ∙ ap (λ (a : State ℕ). a.source.empty_reads) e)
 
 pub returns-clause-sound : goal.returns-clause-sound
 returns-clause-sound g c =
