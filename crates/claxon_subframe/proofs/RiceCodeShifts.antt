@@ -90,6 +90,7 @@ rice_code_decoded k s = first (unary_at s)
     second q (Done r m) = ap (λ (n : ℕ). Done (zigzag_decode n) m) (sym (of_z-to_z w32 (zigzag_encoded k q r) (mod_below (q * 2 ^ k + r) 4294967296 (omega arith))))
     second q (Faulty f m) = refl
     second q Incomplete = refl
+
     first : (r : Reading Bool ℕ) → bind r (λ q. and_then (number_at k) (λ n. done (zigzag_decode (zigzag_encoded k q n)))) ≡ mapped decoded (bind r (λ q. and_then (number_at k) (λ n. done (to_z w32 (zigzag_encoded k q n)))))
     first (Done q m) = second q (number_at k m)
     first (Faulty f m) = refl
@@ -105,6 +106,7 @@ codes_decoded k (suc n) s = rw (rice_code_decoded k s) (first (λ m. codes_decod
     second x (Done xs m) = refl
     second x (Faulty f m) = refl
     second x Incomplete = refl
+
     first : ((m : Bits) → times_at n (rice_code_at k) m ≡ mapped (map decoded) (times_at n (encoded_code_at k) m)) → (r : Reading Bool ℤ) → bind (mapped decoded r) (λ x m. bind (times_at n (rice_code_at k) m) (λ xs. done (x ∷ xs))) ≡ mapped (map decoded) (bind r (λ x m. bind (times_at n (encoded_code_at k) m) (λ xs. done (x ∷ xs))))
     first others (Done x m) = ap (λ (r : Reading Bool (List ℤ)). bind r (λ xs. done (decoded x ∷ xs))) (others m) ∙ second x (times_at n (encoded_code_at k) m)
     first others (Faulty f m) = refl
