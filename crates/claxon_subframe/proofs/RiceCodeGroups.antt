@@ -1,5 +1,5 @@
 -- Rice codes decoded from 64 bits that are rotated past each code.
-use Rattle.std.proofs.Common.{bit_or, bit_xor, inl, inr, ◌≡◌, ℕ, zero, suc, ◌+◌, ◌-◌, ◌*◌, ◌/◌, ◌%◌, ◌^◌, ◌<◌, ◌≤◌, true, false, List, [], ◌∷◌, ◌++◌, length, length-take, take, drop, set, replicate, refl, sym, ap, ap₂, subst, ◌∙◌, append_assoc, arith, ℤ, take-add, to_z, of_z, w32}
+use Rattle.std.proofs.Common.{bit_or, bit_xor, inl, inr, ◌≡◌, ℕ, zero, suc, ◌+◌, ◌-◌, ◌*◌, ◌/◌, ◌%◌, ◌^◌, ◌<◌, ◌≤◌, true, false, List, [], ◌∷◌, ◌++◌, length, length-take, take, drop, set, replicate, refl, sym, ap, ap₂, subst, ◌∙◌, append_assoc, arith, ℤ, take-add, to_z, w32}
 use Rattle.std.specs.Int.{leading_zeros, rotate_left, rotate_right, w64}
 use Rattle.std.specs.Int.Count.{leading_of_zero}
 use Rattle.std.specs.Int.Bits.{or_zero_r, xor_add_and}

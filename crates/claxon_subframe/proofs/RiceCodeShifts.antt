@@ -1,5 +1,5 @@
 -- A Rice code's number by shifts and an or, and zigzag decoding.
-use Rattle.std.proofs.Common.{◌≡◌, ℕ, zero, suc, Bool, List, [], ◌∷◌, ◌++◌, length, take, drop, map, ◌+◌, ◌-◌, ◌*◌, ◌/◌, ◌%◌, ◌^◌, ◌<◌, ◌≤◌, ltb, false, refl, sym, ap, ◌∙◌, arith, inl, inr, ◌⊎◌, ℤ, pos, negsuc, to_z, of_z, w32, FitsSigned, bit_or, bit_xor}
+use Rattle.std.proofs.Common.{◌≡◌, ℕ, zero, suc, Bool, List, ◌∷◌, ◌++◌, length, take, drop, map, ◌+◌, ◌-◌, ◌*◌, ◌/◌, ◌%◌, ◌^◌, ◌<◌, ◌≤◌, ltb, false, refl, sym, ap, ◌∙◌, arith, inl, inr, ◌⊎◌, ℤ, pos, negsuc, to_z, of_z, w32, FitsSigned, bit_or, bit_xor}
 use Rattle.std.proofs.lemmas.Bool.{le-ltb}
 use Rattle.std.proofs.lemmas.Nat.{and_mask, div-mul-add, mod-mul-add, mod_below, pow_pos, shl-shr, or_shifted}
 use Rattle.std.proofs.lemmas.List.{length-map, length-take-le, take_at}
