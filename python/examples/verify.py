@@ -1,0 +1,116 @@
+#!/usr/bin/env python3
+"""verify.py FILE..: decodes FLAC files, and compares them with what their streaminfo says.
+
+A line for each file: its number of frames, and of samples of each channel. Where it isn't right,
+also the first fault and the number of faults, the number of samples that the streaminfo says, and
+whether the MD5 sum of the samples is another one. After a fault it goes on at the next frame.
+
+The status is 0 where all files are right, 1 where one isn't, and 2 for wrong arguments.
+"""
+import hashlib
+import pathlib
+import sys
+from array import array
+from typing import List
+
+sys.path.insert(0, str(pathlib.Path(__file__).resolve().parent.parent))
+import claxon  # noqa: E402
+
+# For a sample of so many bytes, a type of array and the number of its items.
+ITEMS = {1: ("b", 1), 2: ("h", 1), 3: ("b", 3), 4: ("i", 1)}
+
+KINDS = {
+    claxon.FormatError: "ill-formed: ",
+    claxon.Unsupported: "not supported: ",
+    claxon.InputEnds: "cut: ",
+}
+
+
+def sample_bytes(block: claxon.Block, width: int) -> bytes:
+    """The samples as the MD5 sum takes them: interleaved, each in `width` bytes, little-endian."""
+    kind, count = ITEMS[width]
+    output = array(kind, bytes(width * len(block.planar)))
+    for channel, samples in enumerate(block.samples):
+        items = array(kind, samples.tobytes())
+        step = len(items) // block.duration
+        for item in range(count):
+            output[channel * count + item :: count * block.channels] = items[item::step]
+    return output.tobytes()
+
+
+def describe(error: claxon.Error) -> str:
+    place = "" if error.position is None else f" at byte {error.position}"
+    return f"{KINDS.get(type(error), '')}{error}{place}"
+
+
+class Verification:
+    """What was found in a stream, up to its end."""
+
+    def __init__(self, flac: claxon.Flac) -> None:
+        self.info = flac.info
+        self.frames = self.samples = 0
+        self.faults: List[str] = []
+        self.channels = {flac.info.channels}
+        self.md5 = hashlib.md5()
+        is_over = False
+        while not is_over:
+            try:
+                self.add_blocks(flac)
+                is_over = True
+            except (claxon.FormatError, claxon.Unsupported, claxon.InputEnds) as error:
+                self.faults.append(f"{describe(error)}, after {self.samples} samples")
+                is_over = flac.resync() is None
+
+    def add_blocks(self, flac: claxon.Flac) -> None:
+        width = (self.info.bits_per_sample + 7) // 8
+        for block in flac.blocks():
+            self.frames += 1
+            self.samples += block.duration
+            self.channels.add(block.channels)
+            if self.info.md5 is not None:
+                self.md5.update(sample_bytes(block, width))
+
+    def wrong(self) -> List[str]:
+        """What isn't right."""
+        found = self.faults[:1]
+        if len(self.faults) > 1:
+            found.append(f"{len(self.faults)} faults")
+        if len(self.channels) > 1:
+            found.append("the number of channels changes")
+        if self.info.samples not in (None, self.samples):
+            found.append(f"the streaminfo says {self.info.samples} samples")
+        if self.info.md5 not in (None, self.md5.digest()):
+            found.append("the MD5 sum is another one")
+        return found
+
+
+def verify(name: str) -> bool:
+    """Prints the line of a file. Whether it is right."""
+    try:
+        with claxon.Flac(name) as flac:
+            found = Verification(flac)
+    except claxon.Error as error:
+        print(f"{name}: {describe(error)}")
+        return False
+    except OSError as error:
+        print(f"{name}: {error.strerror or error}")
+        return False
+    wrong = found.wrong()
+    counts = f"{found.frames} frames, {found.samples} samples"
+    no_sum = ", no MD5 sum" if found.info.md5 is None else ""
+    print(f"{name}: {'; '.join(wrong) or 'ok'}{';' if wrong else ','} {counts}{no_sum}")
+    return not wrong
+
+
+def main() -> int:
+    names = sys.argv[1:]
+    if not names:
+        print("usage: verify.py FILE..", file=sys.stderr)
+        return 2
+    # Names that aren't UTF-8 are printed as they are.
+    sys.stdout.reconfigure(errors="surrogateescape")  # type: ignore[attr-defined]
+    return 0 if all([verify(name) for name in names]) else 1
+
+
+if __name__ == "__main__":
+    sys.exit(main())
