@@ -2,8 +2,9 @@
 """verify.py FILE..: decodes FLAC files, and compares them with what their streaminfo says.
 
 A line for each file: its number of frames, and of samples of each channel. Where it isn't right,
-also the first fault and the number of faults, the number of samples that the streaminfo says, and
-whether the MD5 sum of the samples is another one. After a fault it goes on at the next frame.
+also the first fault and the number of faults, and the number of samples that the streaminfo says;
+where there is no fault, whether the MD5 sum is that of other samples. After a fault it goes on at
+the next frame.
 
 The status is 0 where all files are right, 1 where one isn't, and 2 for wrong arguments.
 """
@@ -20,9 +21,10 @@ import claxon  # noqa: E402
 ITEMS = {1: ("b", 1), 2: ("h", 1), 3: ("b", 3), 4: ("i", 1)}
 
 KINDS = {
-    claxon.FormatError: "ill-formed: ",
-    claxon.Unsupported: "not supported: ",
-    claxon.InputEnds: "cut: ",
+    claxon.FormatError: "ill-formed",
+    claxon.Unsupported: "not supported",
+    claxon.InputEnds: "cut",
+    claxon.OutOfMemory: "out of memory",
 }
 
 
@@ -38,9 +40,13 @@ def sample_bytes(block: claxon.Block, width: int) -> bytes:
     return output.tobytes()
 
 
-def describe(error: claxon.Error) -> str:
-    place = "" if error.position is None else f" at byte {error.position}"
-    return f"{KINDS.get(type(error), '')}{error}{place}"
+def describe(error: claxon.Error, samples: int = 0) -> str:
+    after = f", after {count(samples, 'sample')}" if samples else ""
+    return f"{KINDS[type(error)]} at byte {error.position}{after}: {error}"
+
+
+def count(number: int, name: str) -> str:
+    return f"{number} {name}{'' if number == 1 else 's'}"
 
 
 class Verification:
@@ -58,7 +64,7 @@ class Verification:
                 self.add_blocks(flac)
                 is_over = True
             except (claxon.FormatError, claxon.Unsupported, claxon.InputEnds) as error:
-                self.faults.append(f"{describe(error)}, after {self.samples} samples")
+                self.faults.append(describe(error, self.samples))
                 is_over = flac.resync() is None
 
     def add_blocks(self, flac: claxon.Flac) -> None:
@@ -74,13 +80,13 @@ class Verification:
         """What isn't right."""
         found = self.faults[:1]
         if len(self.faults) > 1:
-            found.append(f"{len(self.faults)} faults")
+            found.append(count(len(self.faults), "fault"))
         if len(self.channels) > 1:
             found.append("the number of channels changes")
         if self.info.samples not in (None, self.samples):
-            found.append(f"the streaminfo says {self.info.samples} samples")
-        if self.info.md5 not in (None, self.md5.digest()):
-            found.append("the MD5 sum is another one")
+            found.append(f"the streaminfo says {count(self.info.samples or 0, 'sample')}")
+        if not self.faults and self.info.md5 not in (None, self.md5.digest()):
+            found.append("the MD5 sum is that of other samples")
         return found
 
 
@@ -96,9 +102,10 @@ def verify(name: str) -> bool:
         print(f"{name}: {error.strerror or error}")
         return False
     wrong = found.wrong()
-    counts = f"{found.frames} frames, {found.samples} samples"
-    no_sum = ", no MD5 sum" if found.info.md5 is None else ""
-    print(f"{name}: {'; '.join(wrong) or 'ok'}{';' if wrong else ','} {counts}{no_sum}")
+    counts = [count(found.frames, "frame"), count(found.samples, "sample")]
+    if found.info.md5 is None:
+        counts.append("no MD5 sum")
+    print(f"{name}: " + "; ".join([*wrong, ", ".join(counts if wrong else ["ok", *counts])]))
     return not wrong
 
 

@@ -6,7 +6,7 @@ the streams that are written here.
 import io
 import pathlib
 from array import array
-from typing import Iterable, Iterator, List, NamedTuple, Optional, Tuple
+from typing import Iterator, NamedTuple, Optional, Sequence, Tuple
 
 import claxon
 
@@ -124,8 +124,14 @@ def frame_header(channels: int, duration: int) -> bytes:
     return fields + bytes([crc(0x07, 8, fields)])
 
 
-def verbatim_frame(channels: Iterable[bytes]) -> bytes:
-    """A frame whose samples are these bytes, signed, each channel in a verbatim subframe."""
-    subframes: List[bytes] = [b"\x02" + samples for samples in channels]
-    frame = frame_header(len(subframes), len(subframes[0]) - 1) + b"".join(subframes)
+def verbatim_frame(channels: Sequence[Sequence[int]], bits: int = 8) -> bytes:
+    """Frame 0 of these samples, each channel in a verbatim subframe."""
+    mask = (1 << bits) - 1
+    digits = "".join(
+        "00000010" + "".join(f"{sample & mask:0{bits}b}" for sample in channel)
+        for channel in channels
+    )
+    digits += "0" * (-len(digits) % 8)
+    body = int(digits, 2).to_bytes(len(digits) // 8, "big")
+    frame = frame_header(len(channels), len(channels[0])) + body
     return frame + crc(0x8005, 16, frame).to_bytes(2, "big")

@@ -55,7 +55,8 @@ class Files(unittest.TestCase):
                     expected = memoryview(given).cast("i")[channel :: len(samples)]
                     self.assertEqual(found.tolist(), expected.tolist())
                 self.assertEqual(sum(map(len, samples)), case.samples)
-                self.assertEqual(rate, claxon.Flac(DATA / case.name).info.sample_rate)
+                with claxon.Flac(DATA / case.name) as flac:
+                    self.assertEqual(rate, flac.info.sample_rate)
         self.assertGreater(tried, 5)
 
     def expect_refused(self, case: Case, error: claxon.Error) -> None:

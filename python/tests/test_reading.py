@@ -15,6 +15,7 @@ import time
 import tracemalloc
 import unittest
 from array import array
+from subprocess import PIPE
 from typing import List, Optional, Tuple
 
 import claxon
@@ -97,7 +98,7 @@ class Objects(unittest.TestCase):
         self.assertRaises(IsADirectoryError, claxon.read, SONG.parent)
 
     def test_pipe(self) -> None:
-        with subprocess.Popen(["cat", str(SONG)], stdout=subprocess.PIPE) as process:
+        with subprocess.Popen(["cat", str(SONG)], stdout=PIPE) as process:
             self.assertEqual(decode(process.stdout), decode(SONG))
 
     def test_from_where_it_stands(self) -> None:
@@ -208,7 +209,7 @@ class Blocks(unittest.TestCase):
 
     def test_small_blocks_after_large_ones(self) -> None:
         """A list of blocks holds no more than twice what their samples take, and the largest."""
-        large = verbatim_frame([bytes(65535)])
+        large = verbatim_frame([65535 * [7]])
         stream = head() + large + 3000 * FRAME_OF_5
         tracemalloc.start()
         self.addCleanup(tracemalloc.stop)
@@ -223,9 +224,9 @@ class Windows(unittest.TestCase):
     def test_large_frames(self) -> None:
         """The window grows where a frame doesn't fit, whatever stands before and after it."""
         source = random.Random(1)
-        channels = [bytes(source.randrange(256) for _ in range(65535)) for _ in range(8)]
+        channels = [[source.randrange(-128, 128) for _ in range(65535)] for _ in range(8)]
         large = verbatim_frame(channels)
-        expected = [byte - 256 if byte > 127 else byte for channel in channels for byte in channel]
+        expected = [sample for channel in channels for sample in channel]
         stream = head() + FRAME_OF_5 + large + FRAME_OF_5 + large + FRAME_OF_5
         for step in (1 << 30, 4099):
             with claxon.Flac(Trickle(stream, step)) as flac:  # type: ignore[arg-type]
@@ -437,7 +438,7 @@ class Library(unittest.TestCase):
     def imported(self, **variables: str) -> str:
         environment = {"PYTHONPATH": str(self.folder / "python"), **variables}
         command = [sys.executable, "-c", "import claxon; print(claxon._library._name)"]
-        run = subprocess.run(command, env=environment, stdout=-1, stderr=-1, cwd=self.folder)
+        run = subprocess.run(command, env=environment, stdout=PIPE, stderr=PIPE, cwd=self.folder)
         return (run.stdout or run.stderr).decode().strip().splitlines()[-1]
 
     def test_places(self) -> None:
