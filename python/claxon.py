@@ -47,6 +47,10 @@ _STEP = 1 << 16  # bytes that are read and dropped at once
 _FIRST_WINDOW = 1 << 18  # bytes
 _ERROR_SIZE = 128  # more than any text of the library takes
 
+# The number of samples that may be decoded for frames in which a fault is found, before `resync`
+# passes over headers, and how many more for each byte that is passed.
+_MOST_WASTED, _WASTED_PER_BYTE = 1 << 25, 4
+
 
 class Error(Exception):
     """A stream can't be decoded. The text is the library's.
@@ -355,6 +359,7 @@ class Flac:
         self._tags: Optional[Dict[str, List[str]]] = None
         self._samples: Optional["array[int]"] = None
         self._capacity = 1  # a pointer to no samples would be null
+        self._wasted = 0  # samples of frames in which a fault was found, at most
         try:
             source = _Source(self._owned or file)  # type: ignore[arg-type]
             self._read_head(source)
@@ -404,13 +409,17 @@ class Flac:
     def resync(self) -> Optional[int]:
         """Goes to the next place from which a frame can be decoded, for `blocks`, after a fault.
 
-        Returns the number of bytes that were skipped, or None where no frame is left. Decoding is
-        tried wherever a sync code stands, so bytes that are made for it can take long.
+        Returns the number of bytes that were skipped, or None where no frame is left. The time is
+        linear in it: where very many headers have led to no frame, as only in a stream that is made
+        for it, some are passed without a try.
         """
         self._expect_open()
         start = self._window.position()
         while self._window.find(_SYNC):
             place = self._window.position()
+            if self._wasted > _MOST_WASTED + _WASTED_PER_BYTE * place:
+                continue
+            self._samples, self._capacity = None, 1
             status = self._decode()
             if status == _OUT_OF_MEMORY:
                 raise self._frame_fault(status)
@@ -540,7 +549,10 @@ class Flac:
                 self._samples = None
                 self._capacity = self._found.channels * self._found.duration
             elif status not in (_INPUT_ENDS, _NO_MORE) or not window.fill():
-                return status
+                break
+        if status not in (_OK, _NO_MORE):
+            self._wasted += self._capacity  # at most as many samples were decoded
+        return status
 
     def _expect_open(self) -> None:
         if self._closed:
@@ -559,7 +571,7 @@ class Flac:
     def _frame_fault(self, status: int) -> Error:
         position = self._window.position()
         if status == _INPUT_ENDS and not self._window.file_ends:
-            return FormatError(f"no frame ends within {_MOST_FRAME_BYTES} bytes", position)
+            return FormatError(f"frame longer than {_MOST_FRAME_BYTES} bytes", position)
         return self._fault(status, position)
 
     def _fault(self, status: int, position: Optional[int]) -> Error:

@@ -246,7 +246,7 @@ class Windows(unittest.TestCase):
             self.assertEqual(raised.exception.position, len(head()))
             self.assertLess(file.given, len(head()) + MOST_FRAME_BYTES + 1)
             self.assertLess(time.process_time() - start, 10)
-        self.assertEqual(str(raised.exception), "no frame ends within 16777215 bytes")
+        self.assertEqual(str(raised.exception), "frame longer than 16777215 bytes")
 
     def test_pictures_are_not_held(self) -> None:
         """Padding, pictures and others are skipped in small steps, or by `seek`."""
@@ -416,6 +416,17 @@ class Damage(unittest.TestCase):
         self.assertEqual(flac.resync(), None)
         self.assertEqual(list(flac.blocks()), [])
         self.assertEqual(flac.resync(), None)
+
+    def test_resync_is_linear(self) -> None:
+        """Headers of the largest frames, one after another: without a limit they take 20 s."""
+        hostile = (frame_header(8, 65535) + b"\x02") * 30000
+        stream = head() + hostile + bytes(200000) + FRAME_OF_5
+        start = time.process_time()
+        with claxon.Flac(io.BytesIO(stream)) as flac:
+            self.assertRaises(claxon.FormatError, next, flac.blocks())
+            self.assertEqual(flac.resync(), len(hostile) + 200000)
+            self.assertEqual([block.planar.tolist() for block in flac.blocks()], [[5]])
+        self.assertLess(time.process_time() - start, 10)
 
     def test_fault_again(self) -> None:
         """Without `resync` the fault is found again."""
