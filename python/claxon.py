@@ -453,10 +453,10 @@ class Flac:
                 before, block = streaminfo + comments, header + content
             self._expect_no_fault(head + before + block, is_whole, position)
             if metadata.type == _STREAMINFO:
-                streaminfo = _not_last(block)
+                streaminfo = block
                 self._keep_info(content)
             elif metadata.type == _VORBIS_COMMENT:
-                comments = _not_last(block)
+                comments = block
                 self._comments = content
             if metadata.is_last:
                 break
@@ -584,11 +584,6 @@ def _next_metadata(header: bytes) -> _Metadata:
     metadata = _Metadata()
     _library.claxon_next_metadata(header, len(header), ctypes.c_size_t(0), metadata)
     return metadata
-
-
-def _not_last(block: bytes) -> bytes:
-    """The metadata block, with the flag of the last one cleared."""
-    return bytes([block[0] & 0x7F]) + block[1:]
 
 
 def read(file: _File) -> Tuple[List["array[int]"], int]:

@@ -16,7 +16,7 @@ import tracemalloc
 import unittest
 from array import array
 from subprocess import PIPE
-from typing import List, Optional, Tuple
+from typing import Optional, Tuple
 
 import claxon
 from tests import DATA, FRAME_OF_5, MARKER, STREAMINFO, TOP, Trickle, comments, decode
@@ -403,17 +403,16 @@ class Damage(unittest.TestCase):
                     self.expect_damage(flac, len(damage) + zeros)
 
     def expect_damage(self, flac: claxon.Flac, length: int) -> None:
-        found: List[int] = []
-        with self.assertRaises(claxon.FormatError) as raised:
-            found += (block.planar[0] for block in flac.blocks())
-        position = len(head()) + len(FRAME_OF_5)
-        self.assertEqual(raised.exception.position, position)
-        self.assertEqual(flac.resync(), length)
-        with self.assertRaises(claxon.FormatError) as raised:
-            for block in flac.blocks():
-                self.assertEqual(block.planar.tolist(), [5])
-        self.assertEqual(raised.exception.position, position + length + len(FRAME_OF_5))
-        self.assertEqual(flac.resync(), None)
+        position = len(head())
+        for skipped in (length, None):
+            blocks = flac.blocks()
+            self.assertEqual(next(blocks).planar.tolist(), [5])
+            with self.assertRaises(claxon.FormatError) as raised:
+                next(blocks)
+            position += len(FRAME_OF_5)
+            self.assertEqual(raised.exception.position, position)
+            self.assertEqual(flac.resync(), skipped)
+            position += length
         self.assertEqual(list(flac.blocks()), [])
         self.assertEqual(flac.resync(), None)
 
