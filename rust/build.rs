@@ -1,0 +1,62 @@
+//! Finds the library for C: in the folder that CLAXON_LIB_DIR names, else where `make -C c` puts it, else by pkg-config.
+use std::env;
+use std::path::{Path, PathBuf};
+use std::process::{exit, Command};
+
+const HELP: &str = "\
+claxon: the library for C wasn't found. One of these helps:
+  make -C c                        in the repository, of which this crate is the folder rust/
+  CLAXON_LIB_DIR=FOLDER            the folder that has libclaxon.a or libclaxon.so
+  PKG_CONFIG_PATH=PREFIX/lib/pkgconfig   where it was installed below PREFIX";
+
+fn main() {
+    println!("cargo:rerun-if-env-changed=CLAXON_LIB_DIR");
+    println!("cargo:rerun-if-env-changed=PKG_CONFIG_PATH");
+    if !is_supported() {
+        fail("claxon: the library for C is for x86-64 Linux");
+    }
+    match library_folder() {
+        Some(folder) => link(&folder),
+        None => fail(HELP),
+    }
+}
+
+fn fail(reason: &str) -> ! {
+    eprintln!("{reason}");
+    exit(1);
+}
+
+fn is_supported() -> bool {
+    let target = |name: &str| env::var(name).unwrap_or_default();
+    target("CARGO_CFG_TARGET_OS") == "linux" && target("CARGO_CFG_TARGET_ARCH") == "x86_64"
+}
+
+fn library_folder() -> Option<PathBuf> {
+    if let Some(named) = env::var_os("CLAXON_LIB_DIR") {
+        let folder = PathBuf::from(named);
+        if !has_library(&folder) {
+            fail(&format!("claxon: CLAXON_LIB_DIR is {}, which has no libclaxon", folder.display()));
+        }
+        return Some(folder);
+    }
+    // Cargo sets it for each build script.
+    let built = Path::new(&env::var_os("CARGO_MANIFEST_DIR")?).join("../c/out");
+    println!("cargo:rerun-if-changed={}", built.join("libclaxon.a").display());
+    Some(built).filter(|folder| has_library(folder)).or_else(installed)
+}
+
+fn has_library(folder: &Path) -> bool {
+    folder.join("libclaxon.a").exists() || folder.join("libclaxon.so").exists()
+}
+
+fn installed() -> Option<PathBuf> {
+    let output = Command::new("pkg-config").args(["--variable=libdir", "claxon"]).output().ok()?;
+    let folder = PathBuf::from(String::from_utf8(output.stdout).ok()?.trim());
+    Some(folder).filter(|folder| output.status.success() && has_library(folder))
+}
+
+fn link(folder: &Path) {
+    let kind = if folder.join("libclaxon.a").exists() { "static" } else { "dylib" };
+    println!("cargo:rustc-link-search=native={}", folder.display());
+    println!("cargo:rustc-link-lib={kind}=claxon");
+}

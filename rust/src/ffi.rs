@@ -1,0 +1,209 @@
+//! The calls of `claxon.h`. What is unsafe stands here alone.
+//!
+//! Each pointer below is that of a slice or of a reference, with the slice's own length. So it isn't null, even for a length of 0;
+//! what it leads to is initialized and lives as long as the call; and what is written to is borrowed mutably, so that nothing else of
+//! the call overlaps it. The calls keep no pointer, and are safe for any bytes.
+use std::ops::Range;
+
+pub const OK: u32 = 0;
+pub const FORMAT_ERROR: u32 = 1;
+pub const UNSUPPORTED: u32 = 2;
+pub const INPUT_ENDS: u32 = 3;
+pub const OUT_OF_MEMORY: u32 = 4;
+pub const NO_MORE: u32 = 5;
+pub const BUFFER_SHORT: u32 = 6;
+
+/// The version of the interface that is declared here.
+#[cfg(test)]
+pub const VERSION: u32 = 100;
+
+/// The most bytes of a frame that a streaminfo can give.
+pub const MOST_FRAME_BYTES: usize = 16_777_215;
+
+/// `struct claxon_info`. All zeros mean that nothing is known of the stream.
+#[repr(C)]
+#[derive(Clone, Copy, Debug, Default)]
+pub struct Info {
+    pub first_frame: usize,
+    pub tags: usize,
+    pub samples: u64,
+    pub sample_rate: u32,
+    pub channels: u32,
+    pub bits_per_sample: u32,
+    pub min_frame_size: u32,
+    pub max_frame_size: u32,
+    pub min_block_size: u16,
+    pub max_block_size: u16,
+    pub md5: [u8; 16],
+}
+
+/// `struct claxon_block`.
+#[repr(C)]
+#[derive(Clone, Copy, Debug, Default)]
+pub struct Block {
+    pub time: u64,
+    pub channels: u32,
+    pub duration: u32,
+}
+
+impl Block {
+    /// The number of samples of all channels together.
+    pub fn samples(&self) -> usize {
+        self.channels as usize * self.duration as usize
+    }
+}
+
+// The layout that `claxon.h` asserts.
+const _: () = assert!(std::mem::size_of::<Info>() == 64 && std::mem::size_of::<Block>() == 16);
+
+/// A text that the library writes. Its longest one has 92 bytes.
+pub type Text = [u8; 128];
+
+const NO_TEXT: Text = [0; 128];
+
+extern "C" {
+    #[cfg(test)]
+    fn claxon_version() -> u32;
+    fn claxon_open(bytes: *const u8, length: usize, info: *mut Info, error: *mut u8, error_size: usize) -> u32;
+    fn claxon_streaminfo(content: *const u8, length: usize, info: *mut Info, error: *mut u8, error_size: usize) -> u32;
+    fn claxon_vendor(
+        content: *const u8,
+        length: usize,
+        vendor_at: *mut usize,
+        vendor_length: *mut usize,
+        tags: *mut usize,
+        error: *mut u8,
+        error_size: usize,
+    ) -> u32;
+    fn claxon_next_tag(
+        content: *const u8,
+        length: usize,
+        place: *mut usize,
+        name_at: *mut usize,
+        name_length: *mut usize,
+        value_at: *mut usize,
+        value_length: *mut usize,
+        error: *mut u8,
+        error_size: usize,
+    ) -> u32;
+    fn claxon_next_block_planar(
+        bytes: *const u8,
+        length: usize,
+        at: *mut usize,
+        info: *const Info,
+        samples: *mut i32,
+        capacity: usize,
+        block: *mut Block,
+        error: *mut u8,
+        error_size: usize,
+    ) -> u32;
+}
+
+/// A status other than `OK`, and the text of an error.
+pub struct Failure {
+    pub status: u32,
+    pub text: Text,
+}
+
+fn checked<T>(status: u32, found: T, text: Text) -> Result<T, Failure> {
+    match status {
+        OK => Ok(found),
+        _ => Err(Failure { status, text }),
+    }
+}
+
+/// The version of the library.
+#[cfg(test)]
+pub fn version() -> u32 {
+    // SAFETY: the call has no argument.
+    unsafe { claxon_version() }
+}
+
+/// The head that the bytes begin with.
+pub fn open(bytes: &[u8]) -> Result<Info, Failure> {
+    let (mut info, mut text) = (Info::default(), NO_TEXT);
+    // SAFETY: as the module says.
+    let status = unsafe { claxon_open(bytes.as_ptr(), bytes.len(), &mut info, text.as_mut_ptr(), text.len()) };
+    checked(status, info, text)
+}
+
+/// The content of a streaminfo block.
+pub fn streaminfo(content: &[u8]) -> Result<Info, Failure> {
+    let (mut info, mut text) = (Info::default(), NO_TEXT);
+    // SAFETY: as the module says.
+    let status = unsafe { claxon_streaminfo(content.as_ptr(), content.len(), &mut info, text.as_mut_ptr(), text.len()) };
+    checked(status, info, text)
+}
+
+/// The place of the vendor string in the whole content of a block of Vorbis comments, and the number of tags.
+pub fn vendor(content: &[u8]) -> Result<(Range<usize>, usize), Failure> {
+    let (mut at, mut length, mut tags, mut text) = (0, 0, 0, NO_TEXT);
+    // SAFETY: as the module says.
+    let status = unsafe {
+        claxon_vendor(content.as_ptr(), content.len(), &mut at, &mut length, &mut tags, text.as_mut_ptr(), text.len())
+    };
+    checked(status, (at..at + length, tags), text)
+}
+
+/// The places of the name and the value of the next tag in that content. `place` is 0 at first.
+pub fn next_tag(content: &[u8], place: &mut usize) -> Result<(Range<usize>, Range<usize>), Failure> {
+    let (mut name_at, mut name_length, mut value_at, mut value_length, mut text) = (0, 0, 0, 0, NO_TEXT);
+    // SAFETY: as the module says.
+    let status = unsafe {
+        claxon_next_tag(
+            content.as_ptr(),
+            content.len(),
+            place,
+            &mut name_at,
+            &mut name_length,
+            &mut value_at,
+            &mut value_length,
+            text.as_mut_ptr(),
+            text.len(),
+        )
+    };
+    checked(status, (name_at..name_at + name_length, value_at..value_at + value_length), text)
+}
+
+/// What stands where a frame may begin.
+pub enum NextBlock {
+    /// A frame of `length` bytes, whose samples were written, one channel after another.
+    Found { block: Block, length: usize },
+    /// The header of a frame whose samples don't fit.
+    BufferShort(Block),
+    Failed(Failure),
+}
+
+/// Decodes the frame that the bytes begin with.
+pub fn next_block(bytes: &[u8], info: &Info, samples: &mut [i32]) -> NextBlock {
+    let (mut length, mut block, mut text) = (0, Block::default(), NO_TEXT);
+    // SAFETY: as the module says.
+    let status = unsafe {
+        claxon_next_block_planar(
+            bytes.as_ptr(),
+            bytes.len(),
+            &mut length,
+            info,
+            samples.as_mut_ptr(),
+            samples.len(),
+            &mut block,
+            text.as_mut_ptr(),
+            text.len(),
+        )
+    };
+    match status {
+        OK => NextBlock::Found { block, length },
+        BUFFER_SHORT => NextBlock::BufferShort(block),
+        _ => NextBlock::Failed(Failure { status, text }),
+    }
+}
+
+#[cfg(test)]
+mod tests {
+    use super::*;
+
+    #[test]
+    fn the_library_has_the_version_that_is_declared_here() {
+        assert_eq!(version(), VERSION);
+    }
+}

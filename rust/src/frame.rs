@@ -1,0 +1,285 @@
+//! Frames, and the blocks of samples that they have.
+use crate::error::{end_of_input, unsupported, Error, Result};
+use crate::ffi::{self, Failure, Info, NextBlock, MOST_FRAME_BYTES};
+use crate::input::ReadBytes;
+use crate::metadata::StreamInfo;
+use std::{io, iter, result, slice};
+
+/// A block of samples: of each channel the same number.
+pub struct Block {
+    time: u64,
+    channels: u32,
+    duration: u32,
+    // The channels, one after another.
+    samples: Vec<i32>,
+}
+
+impl Block {
+    // The buffer has at least its samples.
+    fn new(block: ffi::Block, mut samples: Vec<i32>) -> Block {
+        samples.truncate(block.samples());
+        Block { time: block.time, channels: block.channels, duration: block.duration, samples }
+    }
+
+    /// A block of no channels and no samples.
+    pub fn empty() -> Block {
+        Block { time: 0, channels: 0, duration: 0, samples: Vec::new() }
+    }
+
+    /// The number of samples of each channel that come before the block.
+    pub fn time(&self) -> u64 {
+        self.time
+    }
+
+    /// The number of samples of all channels together.
+    #[inline]
+    pub fn len(&self) -> u32 {
+        self.channels * self.duration
+    }
+
+    /// Whether it has no samples, as [`Block::empty`] has none.
+    #[inline]
+    pub fn is_empty(&self) -> bool {
+        self.len() == 0
+    }
+
+    /// The number of samples of each channel.
+    #[inline]
+    pub fn duration(&self) -> u32 {
+        self.duration
+    }
+
+    /// The number of channels.
+    #[inline]
+    pub fn channels(&self) -> u32 {
+        self.channels
+    }
+
+    /// The samples of channel `ch`, of which the first is 0.
+    ///
+    /// # Panics
+    ///
+    /// Where there is no such channel.
+    #[inline]
+    pub fn channel(&self, ch: u32) -> &[i32] {
+        let (ch, duration) = (ch as usize, self.duration as usize);
+        &self.samples[ch * duration..(ch + 1) * duration]
+    }
+
+    /// The sample of channel `ch` with this index in the block. Both begin at 0.
+    ///
+    /// # Panics
+    ///
+    /// Where there is no such channel, and in the last channel where there is no such sample. In other channels the index must be
+    /// below [`Block::duration`] too: one above it leads into the next channel.
+    #[inline]
+    pub fn sample(&self, ch: u32, sample: u32) -> i32 {
+        self.samples[ch as usize * self.duration as usize + sample as usize]
+    }
+
+    /// The buffer of the samples, for the next call of [`FrameReader::read_next_or_eof`].
+    pub fn into_buffer(self) -> Vec<i32> {
+        self.samples
+    }
+
+    /// The pairs of a left and a right sample.
+    ///
+    /// # Panics
+    ///
+    /// Where the block hasn't two channels.
+    #[inline]
+    pub fn stereo_samples(&self) -> StereoSamples<'_> {
+        assert!(self.channels == 2, "stereo_samples() is for blocks of two channels");
+        StereoSamples { pairs: self.channel(0).iter().zip(self.channel(1)) }
+    }
+}
+
+/// An iterator over pairs of samples, which [`Block::stereo_samples`] returns.
+pub struct StereoSamples<'a> {
+    pairs: iter::Zip<slice::Iter<'a, i32>, slice::Iter<'a, i32>>,
+}
+
+impl Iterator for StereoSamples<'_> {
+    type Item = (i32, i32);
+
+    #[inline]
+    fn next(&mut self) -> Option<(i32, i32)> {
+        self.pairs.next().map(|(left, right)| (*left, *right))
+    }
+
+    #[inline]
+    fn size_hint(&self) -> (usize, Option<usize>) {
+        self.pairs.size_hint()
+    }
+}
+
+/// What [`FrameReader::read_next_or_eof`] returns: a block, `None` at the end of the stream, or an error.
+pub type FrameResult = Result<Option<Block>>;
+
+/// Reads frames, one after another.
+///
+/// [`FlacReader::blocks`](crate::FlacReader::blocks) makes one after the head of a stream. Over an `io::Cursor` it reads the frame of a
+/// packet of Ogg or MP4.
+pub struct FrameReader<R: ReadBytes> {
+    input: R,
+    info: Info,
+}
+
+// A frame is tried after each of so many reads, so that none waits for bytes after it.
+const TRIES_AT_ONCE: u32 = 16;
+
+// Why no more bytes are buffered.
+enum Stop {
+    EndOfInput,
+    Failed(io::Error),
+    TooLong,
+}
+
+impl<R: ReadBytes> FrameReader<R> {
+    /// A reader of the frames of an unknown stream. A frame has to give its bit depth.
+    pub fn new(input: R) -> FrameReader<R> {
+        FrameReader { input, info: Info::default() }
+    }
+
+    /// A reader of the frames of a stream with this streaminfo. A frame may leave its bit depth to the streaminfo; and where that gives
+    /// one size for all blocks, the time of a block is a multiple of it.
+    pub fn with_streaminfo(input: R, streaminfo: StreamInfo) -> FrameReader<R> {
+        FrameReader { input, info: streaminfo.info() }
+    }
+
+    /// Reads the next block into this buffer, or into a larger one where that is too short.
+    ///
+    /// Nothing shows what was in the buffer, or how long it was: `Vec::new()` will do. [`Block::into_buffer`] gives it back, so that one
+    /// buffer serves for a whole stream. After an error it is lost.
+    ///
+    /// It returns `None` where fewer than two bytes are left.
+    ///
+    /// # Errors
+    ///
+    /// `FormatError` and `Unsupported` for what is wrong with the frame. The next call continues after the bytes that had to be read to
+    /// see that; it doesn't search for the next frame. `IoError` where the reader fails, or its bytes end within the frame. Where it
+    /// fails the bytes before are kept, and the next call begins with the same frame.
+    pub fn read_next_or_eof(&mut self, mut buffer: Vec<i32>) -> FrameResult {
+        let (mut tries, mut stop) = (0, None);
+        loop {
+            match self.try_block(&mut buffer) {
+                Err(failure) if is_cut(&failure) => {
+                    if let Some(stop) = stop {
+                        return self.stopped(stop, failure.status);
+                    }
+                }
+                tried => {
+                    self.put_back(stop);
+                    return self.finished(tried, buffer);
+                }
+            }
+            tries += 1;
+            stop = self.buffer_more(tries);
+        }
+    }
+
+    /// The wrapped reader.
+    pub fn into_inner(self) -> R {
+        self.input
+    }
+
+    // The bytes that a frame may have.
+    fn bytes(&self) -> &[u8] {
+        let bytes = self.input.buffered();
+        &bytes[..bytes.len().min(MOST_FRAME_BYTES)]
+    }
+
+    // Decodes the frame that is buffered, and consumes it. The buffer is made as long as its samples need.
+    fn try_block(&mut self, buffer: &mut Vec<i32>) -> result::Result<ffi::Block, Failure> {
+        loop {
+            match ffi::next_block(self.bytes(), &self.info, buffer) {
+                NextBlock::Found { block, length } => {
+                    self.input.consume(length);
+                    return Ok(block);
+                }
+                NextBlock::BufferShort(block) => buffer.resize(block.samples(), 0),
+                NextBlock::Failed(failure) => return Err(failure),
+            }
+        }
+    }
+
+    // Buffers bytes until the frame is worth another try. After some tries that is where an eighth more bytes are there: so a reader
+    // that gives a byte at a time costs a multiple of the frame's length, and not its square.
+    fn buffer_more(&mut self, tries: u32) -> Option<Stop> {
+        let tried = self.input.buffered().len();
+        loop {
+            if self.input.buffered().len() >= MOST_FRAME_BYTES {
+                return Some(Stop::TooLong);
+            }
+            match self.input.fill() {
+                Ok(0) => return Some(Stop::EndOfInput),
+                Ok(_) => {}
+                Err(error) => return Some(Stop::Failed(error)),
+            }
+            if tries <= TRIES_AT_ONCE || self.input.buffered().len() - tried >= tried / 8 {
+                return None;
+            }
+        }
+    }
+
+    // What stopped the last read is for the next call, where this one didn't need it.
+    fn put_back(&mut self, stop: Option<Stop>) {
+        match stop {
+            Some(Stop::EndOfInput) => self.input.put_back(Ok(0)),
+            Some(Stop::Failed(error)) => self.input.put_back(Err(error)),
+            Some(Stop::TooLong) | None => {}
+        }
+    }
+
+    // The result where the frame is whole, or has a fault.
+    fn finished(&mut self, tried: result::Result<ffi::Block, Failure>, mut buffer: Vec<i32>) -> FrameResult {
+        match tried {
+            Ok(block) => Ok(Some(Block::new(block, buffer))),
+            Err(failure) => {
+                self.consume_fault(&mut buffer);
+                Err(failure.into())
+            }
+        }
+    }
+
+    // The result where the frame isn't whole, and no more bytes are buffered.
+    fn stopped(&mut self, stop: Stop, status: u32) -> FrameResult {
+        if let Stop::Failed(error) = stop {
+            return Err(Error::IoError(error));
+        }
+        self.input.consume(self.bytes().len());
+        match stop {
+            Stop::TooLong => unsupported("frames of more than 16777215 bytes are not supported"),
+            _ if status == ffi::NO_MORE => Ok(None),
+            _ => Err(Error::IoError(end_of_input())),
+        }
+    }
+
+    // Consumes the bytes up to the one where the fault shows: the fewest that aren't the beginning of a frame. The buffer has the
+    // length that the frame's samples need.
+    fn consume_fault(&mut self, buffer: &mut [i32]) {
+        let bytes = self.bytes();
+        let mut shows = |length: usize| match ffi::next_block(&bytes[..length], &self.info, buffer) {
+            NextBlock::Failed(failure) => !is_cut(&failure),
+            _ => true,
+        };
+        let (mut without, mut with) = (0, 2.min(bytes.len()));
+        while with < bytes.len() && !shows(with) {
+            (without, with) = (with, bytes.len().min(2 * with));
+        }
+        while with - without > 1 {
+            let middle = without + (with - without) / 2;
+            if shows(middle) {
+                with = middle;
+            } else {
+                without = middle;
+            }
+        }
+        self.input.consume(with);
+    }
+}
+
+// Whether the bytes ended before the frame did.
+fn is_cut(failure: &Failure) -> bool {
+    failure.status == ffi::INPUT_ENDS || failure.status == ffi::NO_MORE
+}

@@ -1,0 +1,215 @@
+//! Readers of bytes.
+use crate::error::end_of_input;
+use crate::source::Source;
+use std::io;
+
+// Some ten frames of music, so that a frame which the end of the buffer cuts, and which is tried twice, is one of many.
+const CAPACITY: usize = 1 << 17;
+
+/// A reader with a buffer, for any `io::Read`.
+///
+/// The buffer holds whole frames. It has 128 KiB, and is doubled where a frame is larger than that.
+pub struct BufferedReader<R: io::Read> {
+    inner: R,
+    buffer: Vec<u8>,
+    // The bytes in `start..end` were read, and not consumed.
+    start: usize,
+    end: usize,
+    put_back: Option<io::Result<usize>>,
+}
+
+impl<R: io::Read> BufferedReader<R> {
+    /// Wraps a reader.
+    pub fn new(inner: R) -> BufferedReader<R> {
+        BufferedReader { inner, buffer: Vec::new(), start: 0, end: 0, put_back: None }
+    }
+
+    /// The wrapped reader. Buffered bytes are lost.
+    pub fn into_inner(self) -> R {
+        self.inner
+    }
+
+    // Moves the buffered bytes to the front, and makes a buffer that has more than them.
+    fn make_space(&mut self) {
+        self.buffer.copy_within(self.start..self.end, 0);
+        self.end -= self.start;
+        self.start = 0;
+        if self.end == self.buffer.len() {
+            self.buffer.resize(CAPACITY.max(2 * self.end), 0);
+        }
+    }
+}
+
+impl<R: io::Read> Source for BufferedReader<R> {
+    fn buffered(&self) -> &[u8] {
+        &self.buffer[self.start..self.end]
+    }
+
+    fn consume(&mut self, count: usize) {
+        assert!(count <= self.end - self.start);
+        self.start += count;
+    }
+
+    fn fill(&mut self) -> io::Result<usize> {
+        if let Some(read) = self.put_back.take() {
+            return read;
+        }
+        self.make_space();
+        let free = &mut self.buffer[self.end..];
+        let count = self.inner.read(free)?;
+        assert!(count <= free.len(), "a reader that says it read more than it can have read");
+        self.end += count;
+        Ok(count)
+    }
+
+    fn put_back(&mut self, read: io::Result<usize>) {
+        self.put_back = Some(read);
+    }
+}
+
+/// Reads bytes, and numbers of several bytes.
+///
+/// It is implemented for `BufferedReader`, `io::Cursor` and references to them, and can't be implemented elsewhere: a frame is decoded
+/// from the bytes that are buffered.
+pub trait ReadBytes: Source {
+    /// Reads a byte.
+    fn read_u8(&mut self) -> io::Result<u8> {
+        self.read_u8_or_eof()?.ok_or_else(end_of_input)
+    }
+
+    /// Reads a byte, or returns `None` at the end of input.
+    fn read_u8_or_eof(&mut self) -> io::Result<Option<u8>> {
+        if self.buffered().is_empty() && self.fill()? == 0 {
+            return Ok(None);
+        }
+        let byte = self.buffered()[0];
+        self.consume(1);
+        Ok(Some(byte))
+    }
+
+    /// Fills the buffer. Where fewer bytes remain, a `BufferedReader` consumes them and a `Cursor` none.
+    fn read_into(&mut self, buffer: &mut [u8]) -> io::Result<()> {
+        let mut filled = 0;
+        while filled < buffer.len() {
+            let count = self.buffered().len().min(buffer.len() - filled);
+            buffer[filled..filled + count].copy_from_slice(&self.buffered()[..count]);
+            self.consume(count);
+            filled += count;
+            if filled < buffer.len() && self.fill()? == 0 {
+                return Err(end_of_input());
+            }
+        }
+        Ok(())
+    }
+
+    /// Skips bytes. Where fewer remain, a `BufferedReader` consumes them and a `Cursor` none.
+    fn skip(&mut self, amount: u32) -> io::Result<()> {
+        let mut left = amount as usize;
+        while left > 0 {
+            let count = self.buffered().len().min(left);
+            self.consume(count);
+            left -= count;
+            if left > 0 && self.fill()? == 0 {
+                return Err(end_of_input());
+            }
+        }
+        Ok(())
+    }
+
+    /// Reads a big-endian number of 16 bits.
+    fn read_be_u16(&mut self) -> io::Result<u16> {
+        let high = self.read_u8()?;
+        Ok(u16::from_be_bytes([high, self.read_u8()?]))
+    }
+
+    /// Reads a big-endian number of 16 bits, or consumes what is left and returns `None` where that is fewer than two bytes.
+    fn read_be_u16_or_eof(&mut self) -> io::Result<Option<u16>> {
+        let Some(high) = self.read_u8_or_eof()? else { return Ok(None) };
+        let low = self.read_u8_or_eof()?;
+        Ok(low.map(|low| u16::from_be_bytes([high, low])))
+    }
+
+    /// Reads a big-endian number of 24 bits.
+    fn read_be_u24(&mut self) -> io::Result<u32> {
+        let high = self.read_u8()?;
+        Ok(u32::from(high) << 16 | u32::from(self.read_be_u16()?))
+    }
+
+    /// Reads a big-endian number of 32 bits.
+    fn read_be_u32(&mut self) -> io::Result<u32> {
+        let high = self.read_be_u16()?;
+        Ok(u32::from(high) << 16 | u32::from(self.read_be_u16()?))
+    }
+
+    /// Reads a little-endian number of 32 bits.
+    fn read_le_u32(&mut self) -> io::Result<u32> {
+        self.read_be_u32().map(u32::swap_bytes)
+    }
+}
+
+impl<R: io::Read> ReadBytes for BufferedReader<R> {}
+
+impl<R: ReadBytes> Source for &mut R {
+    fn buffered(&self) -> &[u8] {
+        (**self).buffered()
+    }
+
+    fn consume(&mut self, count: usize) {
+        (**self).consume(count)
+    }
+
+    fn fill(&mut self) -> io::Result<usize> {
+        (**self).fill()
+    }
+
+    fn put_back(&mut self, read: io::Result<usize>) {
+        (**self).put_back(read)
+    }
+}
+
+impl<R: ReadBytes> ReadBytes for &mut R {
+    fn read_into(&mut self, buffer: &mut [u8]) -> io::Result<()> {
+        (**self).read_into(buffer)
+    }
+
+    fn skip(&mut self, amount: u32) -> io::Result<()> {
+        (**self).skip(amount)
+    }
+}
+
+impl<T: AsRef<[u8]>> Source for io::Cursor<T> {
+    fn buffered(&self) -> &[u8] {
+        let bytes = self.get_ref().as_ref();
+        let start = usize::try_from(self.position()).unwrap_or(usize::MAX);
+        &bytes[start.min(bytes.len())..]
+    }
+
+    fn consume(&mut self, count: usize) {
+        assert!(count <= self.buffered().len());
+        self.set_position(self.position() + count as u64);
+    }
+
+    // All there is was buffered from the beginning.
+    fn fill(&mut self) -> io::Result<usize> {
+        Ok(0)
+    }
+
+    fn put_back(&mut self, _: io::Result<usize>) {}
+}
+
+impl<T: AsRef<[u8]>> ReadBytes for io::Cursor<T> {
+    fn read_into(&mut self, buffer: &mut [u8]) -> io::Result<()> {
+        let bytes = self.buffered().get(..buffer.len()).ok_or_else(end_of_input)?;
+        buffer.copy_from_slice(bytes);
+        self.consume(buffer.len());
+        Ok(())
+    }
+
+    fn skip(&mut self, amount: u32) -> io::Result<()> {
+        if self.buffered().len() < amount as usize {
+            return Err(end_of_input());
+        }
+        self.consume(amount as usize);
+        Ok(())
+    }
+}

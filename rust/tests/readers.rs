@@ -1,0 +1,306 @@
+//! Readers that give little, fail, pause, end early or never end; and the bytes that are consumed.
+mod common;
+
+use claxon::frame::FrameReader;
+use claxon::input::{BufferedReader, ReadBytes};
+use claxon::{Error, FlacReader};
+use common::*;
+use std::cell::Cell;
+use std::io::{self, Cursor, Read};
+
+/// A head and three frames, of 1, 2 and 4 samples of a channel.
+fn stream() -> (Vec<u8>, [usize; 4]) {
+    let frames = ["fff8690200009a00053458", "fff869a20000d2000000028024d1", "fff86902000393120a000c408a5c"].map(bytes);
+    let mut stream = bytes(HEAD);
+    let mut ends = [stream.len(); 4];
+    for (index, frame) in frames.iter().enumerate() {
+        stream.extend_from_slice(frame);
+        ends[index + 1] = stream.len();
+    }
+    (stream, ends)
+}
+
+// 3 and -2 are left and right; the others are mono.
+const SAMPLES: [&[i32]; 3] = [&[5], &[3, -2], &[10, 11, 11, 9]];
+
+#[test]
+fn a_stream_that_ends_early() {
+    let (stream, ends) = stream();
+    for end in 0..=stream.len() {
+        for piece in [usize::MAX, 1] {
+            let (samples, result) = decode(Pieces(&stream[..end], piece));
+            let whole = (1..4).filter(|index| ends[*index] <= end).count();
+            assert_eq!(samples, SAMPLES[..whole].concat(), "{end} bytes");
+            // Fewer than two bytes after a frame are the end of the stream.
+            let is_end = ends.iter().any(|place| *place == end || *place + 1 == end) && end >= ends[0];
+            match result {
+                Ok(()) => assert!(is_end, "{end} bytes"),
+                Err(Error::IoError(error)) => {
+                    assert!(!is_end, "{end} bytes");
+                    assert_eq!(error.kind(), io::ErrorKind::UnexpectedEof);
+                }
+                Err(error) => panic!("{error}"),
+            }
+        }
+    }
+}
+
+/// Gives the bytes in pieces, and fails once after `place` of them.
+fn failing(stream: &[u8], place: usize, piece: usize, kind: io::ErrorKind) -> Steps {
+    let gives = |bytes: &[u8]| bytes.chunks(piece).map(|chunk| Step::Gives(chunk.to_vec())).collect::<Vec<_>>();
+    Steps::new([gives(&stream[..place]), vec![Step::Fails(kind)], gives(&stream[place..])].concat())
+}
+
+/// After the failure the next call goes on with the same frame: no byte is lost.
+#[test]
+fn a_reader_that_fails_once() {
+    let (stream, ends) = stream();
+    for kind in [io::ErrorKind::Interrupted, io::ErrorKind::WouldBlock, io::ErrorKind::ConnectionReset] {
+        for (place, piece) in (0..=stream.len()).flat_map(|place| [(place, 1), (place, 5), (place, 1000)]) {
+            let mut flac = match FlacReader::new(failing(&stream, place, piece, kind)) {
+                Ok(flac) => flac,
+                Err(Error::IoError(error)) => {
+                    assert!(place < ends[0]);
+                    assert_eq!(error.kind(), kind);
+                    continue;
+                }
+                Err(error) => panic!("{error}"),
+            };
+            let (mut blocks, mut failures) = (Vec::new(), Vec::new());
+            loop {
+                match flac.blocks().read_next_or_eof(Vec::new()) {
+                    Ok(Some(block)) => blocks.push(block.into_buffer()),
+                    Ok(None) => break,
+                    Err(Error::IoError(error)) => {
+                        assert_eq!(error.kind(), kind);
+                        failures.push(blocks.len());
+                    }
+                    Err(error) => panic!("{error}"),
+                }
+            }
+            assert_eq!(blocks, SAMPLES, "{place} by {piece}");
+            // All whole blocks came before it.
+            let before = (1..4).filter(|index| ends[*index] <= place).count();
+            assert_eq!(failures, [before], "{place} by {piece}");
+        }
+    }
+}
+
+#[test]
+fn samples_end_at_a_failure() {
+    let (stream, ends) = stream();
+    let mut flac = FlacReader::new(failing(&stream, ends[1] + 3, 1, io::ErrorKind::Other)).unwrap();
+    let mut samples = flac.samples();
+    assert_eq!(samples.next().unwrap().unwrap(), 5);
+    assert!(samples.next().unwrap().is_err());
+    assert!(samples.next().is_none());
+    assert!(samples.next().is_none());
+}
+
+/// A failure that came after a long frame, of which the last bytes came one by one, isn't lost.
+#[test]
+fn a_failure_after_a_whole_frame() {
+    let file = bytes_of("quiet_noise.flac");
+    let (all, result) = decode(&file[..]);
+    assert!(result.is_ok());
+    for kind in [io::ErrorKind::Other, io::ErrorKind::UnexpectedEof] {
+        let steps = file.iter().map(|byte| Step::Gives(vec![*byte])).chain([Step::Fails(kind)]).collect();
+        let (samples, result) = decode(Steps::new(steps));
+        assert_eq!(samples, all);
+        assert!(matches!(result, Err(Error::IoError(error)) if error.kind() == kind));
+    }
+}
+
+/// Reads that give nothing are the end; what comes later is read by a later call.
+#[test]
+fn a_reader_that_pauses() {
+    let (stream, ends) = stream();
+    let steps = vec![Step::Gives(stream[..ends[1]].to_vec()), Step::Gives(vec![]), Step::Gives(stream[ends[1]..].to_vec())];
+    let mut flac = FlacReader::new(Steps::new(steps)).unwrap();
+    let mut samples = flac.samples();
+    assert_eq!(samples.next().unwrap().unwrap(), 5);
+    assert!(samples.next().is_none());
+    assert_eq!(samples.map(Result::unwrap).collect::<Vec<_>>(), [3, -2, 10, 11, 11, 9]);
+}
+
+/// A block is returned as soon as the frame's last byte was read: no byte after it is waited for.
+#[test]
+fn no_frame_is_delayed() {
+    let (stream, ends) = stream();
+    for piece in [1, 2, 3, 7, 1000] {
+        let mut steps: Vec<Step> = stream[..ends[2]].chunks(piece).map(|chunk| Step::Gives(chunk.to_vec())).collect();
+        let reads = steps.len();
+        steps.push(Step::Fails(io::ErrorKind::WouldBlock));
+        let mut flac = FlacReader::new(Steps::new(steps)).unwrap();
+        for expected in &SAMPLES[..2] {
+            let block = flac.blocks().read_next_or_eof(Vec::new()).unwrap().unwrap();
+            assert_eq!(block.into_buffer(), *expected);
+        }
+        assert!(flac.into_inner().reads <= reads);
+    }
+}
+
+/// Gives some bytes, and then zeros for ever. It notes how many were asked for in all, and at most at once.
+struct Endless<'a> {
+    first: &'a [u8],
+    given: &'a Cell<usize>,
+}
+
+impl Read for Endless<'_> {
+    fn read(&mut self, buffer: &mut [u8]) -> io::Result<usize> {
+        let count = match self.first.read(buffer)? {
+            0 => {
+                buffer.fill(0);
+                buffer.len()
+            }
+            count => count,
+        };
+        self.given.set(self.given.get() + count);
+        Ok(count)
+    }
+}
+
+#[test]
+fn what_is_not_flac_is_refused_at_once() {
+    let given = Cell::new(0);
+    let error = FlacReader::new(Endless { first: b"", given: &given }).err().unwrap();
+    assert_eq!(error, Error::FormatError("invalid stream header"));
+    assert!(given.get() <= 1 << 17);
+}
+
+/// After the header of a frame with one Rice code, zeros are a quotient that never ends.
+#[test]
+fn zeros_that_never_end() {
+    let (mut stream, ends) = stream();
+    stream.truncate(ends[2]);
+    // Mono, 8 bits, four samples, fixed order 0; Rice parameter 0.
+    stream.extend_from_slice(&bytes("fff8690200039310"));
+    let given = Cell::new(0);
+    let mut flac = FlacReader::new(Endless { first: &stream, given: &given }).unwrap();
+    let mut samples = flac.samples();
+    assert_eq!(samples.by_ref().take(3).map(Result::unwrap).collect::<Vec<_>>(), [5, 3, -2]);
+    let error = samples.next().unwrap().unwrap_err();
+    assert_eq!(error, Error::Unsupported("frames of more than 16777215 bytes are not supported"));
+    assert!(samples.next().is_none());
+    assert!(given.get() <= (1 << 24) + (1 << 17), "{} bytes were read", given.get());
+}
+
+/// So many zeros in a `Cursor` have the same result, whatever follows them.
+#[test]
+fn long_zeros_in_memory() {
+    let mut frames = bytes("fff8690200039310");
+    frames.resize(16_777_215, 0);
+    frames.extend_from_slice(&bytes(FRAME));
+    let mut input = Cursor::new(frames);
+    let error = FrameReader::new(&mut input).read_next_or_eof(Vec::new()).err().unwrap();
+    assert_eq!(error, Error::Unsupported("frames of more than 16777215 bytes are not supported"));
+    assert_eq!(input.position(), 16_777_215);
+    let block = FrameReader::new(&mut input).read_next_or_eof(Vec::new()).unwrap().unwrap();
+    assert_eq!(block.channel(0), [5]);
+}
+
+/// A frame of 200,000 bytes, which doesn't fit into the first buffer: 24 bits, 65,535 samples, verbatim, as they are.
+#[test]
+fn a_frame_larger_than_the_first_buffer() {
+    let count = 65535u32;
+    let mut frame = bytes("fff8790c00fffe");
+    frame.push(crc8(&frame));
+    frame.push(2);
+    let values: Vec<i32> = (0..count as i32).map(|number| number * 127 - 4_000_000).collect();
+    frame.extend(values.iter().flat_map(|value| value.to_be_bytes()[1..].to_vec()));
+    frame.extend_from_slice(&crc16(&frame).to_be_bytes());
+    let stream = [bytes(HEAD), frame.clone(), frame].concat();
+    for piece in [usize::MAX, 100_000, 4096, 100] {
+        let (samples, result) = decode(Pieces(&stream[..], piece));
+        assert!(result.is_ok());
+        assert!(samples == [&values[..], &values[..]].concat(), "by {piece}");
+    }
+}
+
+// Of RFC 9639, sections 9.1.8 and 9.3.
+fn crc8(bytes: &[u8]) -> u8 {
+    let step = |crc: u8| if crc & 0x80 != 0 { crc << 1 ^ 0x07 } else { crc << 1 };
+    bytes.iter().fold(0, |crc, byte| (0..8).fold(crc ^ byte, |crc, _| step(crc)))
+}
+
+fn crc16(bytes: &[u8]) -> u16 {
+    let step = |crc: u16| if crc & 0x8000 != 0 { crc << 1 ^ 0x8005 } else { crc << 1 };
+    bytes.iter().fold(0, |crc, byte| (0..8).fold(crc ^ u16::from(*byte) << 8, |crc, _| step(crc)))
+}
+
+/// After a fault the next call continues where it showed.
+#[test]
+fn calls_after_faults() {
+    let frame = bytes(FRAME);
+    let damaged = bytes("fff8690200009b00053458");
+    let stream = [bytes(HEAD), damaged, frame.clone(), frame].concat();
+    for piece in [usize::MAX, 1] {
+        let mut flac = FlacReader::new(Pieces(&stream[..], piece)).unwrap();
+        let mut results = Vec::new();
+        loop {
+            match flac.blocks().read_next_or_eof(Vec::new()) {
+                Ok(Some(block)) => results.push(format!("{:?}", block.into_buffer())),
+                Ok(None) => break,
+                Err(error) => results.push(error.to_string()),
+            }
+        }
+        let (crc, sync) = ("Ill-formed FLAC stream: frame header CRC mismatch", "Ill-formed FLAC stream: frame sync code missing");
+        assert_eq!(results, [crc, sync, sync, "[5]", "[5]"]);
+    }
+}
+
+#[test]
+fn the_wrapped_reader() {
+    let (stream, _) = stream();
+    let flac = FlacReader::new(Pieces(Cursor::new(stream.clone()), 50)).unwrap();
+    assert_eq!(flac.into_inner().0.position(), 50);
+    let mut input = BufferedReader::new(Pieces(Cursor::new(stream), 50));
+    assert_eq!(input.read_be_u32().unwrap(), 0x664c_6143);
+    assert_eq!(input.into_inner().0.position(), 50);
+}
+
+/// Reads bytes and numbers; then too many, and what is left after that.
+fn read_numbers<R: ReadBytes>(mut input: R) -> R {
+    assert_eq!(input.read_u8().unwrap(), 2);
+    assert_eq!(input.read_be_u16().unwrap(), 0x0305);
+    assert_eq!(input.read_be_u24().unwrap(), 0x07_0b0d);
+    assert_eq!(input.read_be_u32().unwrap(), 0x1113_171d);
+    assert_eq!(input.read_le_u32().unwrap(), 0x2f2b_291f);
+    assert_eq!(input.read_u8_or_eof().unwrap(), Some(0x35));
+    assert_eq!(input.read_be_u16_or_eof().unwrap(), Some(0x3b3d));
+    let mut three = [0; 3];
+    input.read_into(&mut three).unwrap();
+    assert_eq!(three, [0x43, 0x47, 0x49]);
+    input.skip(1).unwrap();
+    input
+}
+
+const NUMBERS: [u8; 23] = [
+    2, 3, 5, 7, 0xb, 0xd, 0x11, 0x13, 0x17, 0x1d, 0x1f, 0x29, 0x2b, 0x2f, 0x35, 0x3b, 0x3d, 0x43, 0x47, 0x49, 0x4f, 0x53, 0x59,
+];
+
+#[test]
+fn numbers_of_several_bytes() {
+    let is_eof = |error: io::Error| assert_eq!(error.kind(), io::ErrorKind::UnexpectedEof);
+    for piece in [1, 2, 1000] {
+        let mut input = BufferedReader::new(Pieces(&NUMBERS[..], piece));
+        read_numbers(&mut input);
+        is_eof(input.read_into(&mut [0; 3]).unwrap_err());
+        assert_eq!(input.read_u8_or_eof().unwrap(), None);
+        let mut input = read_numbers(BufferedReader::new(Pieces(&NUMBERS[..], piece)));
+        is_eof(input.skip(3).unwrap_err());
+        is_eof(input.read_u8().unwrap_err());
+    }
+    let mut input = read_numbers(Cursor::new(NUMBERS));
+    is_eof(input.read_into(&mut [0; 3]).unwrap_err());
+    is_eof(input.skip(3).unwrap_err());
+    assert_eq!(input.position(), 21);
+    input.skip(1).unwrap();
+    assert_eq!(input.read_be_u16_or_eof().unwrap(), None);
+    assert_eq!(input.position(), 23);
+    input.set_position(u64::MAX);
+    input.skip(0).unwrap();
+    is_eof(input.skip(1).unwrap_err());
+    assert_eq!(input.read_u8_or_eof().unwrap(), None);
+    assert_eq!(input.position(), u64::MAX);
+}
