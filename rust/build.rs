@@ -9,6 +9,9 @@ claxon: the library for C wasn't found. One of these helps:
   CLAXON_LIB_DIR=FOLDER            the folder that has libclaxon.a or libclaxon.so
   PKG_CONFIG_PATH=PREFIX/lib/pkgconfig   where it was installed below PREFIX";
 
+const STATIC: &str = "libclaxon.a";
+const SHARED: &str = "libclaxon.so";
+
 fn main() {
     println!("cargo:rerun-if-env-changed=CLAXON_LIB_DIR");
     println!("cargo:rerun-if-env-changed=PKG_CONFIG_PATH");
@@ -41,12 +44,11 @@ fn library_folder() -> Option<PathBuf> {
     }
     // Cargo sets it for each build script.
     let built = Path::new(&env::var_os("CARGO_MANIFEST_DIR")?).join("../c/out");
-    println!("cargo:rerun-if-changed={}", built.join("libclaxon.a").display());
     Some(built).filter(|folder| has_library(folder)).or_else(installed)
 }
 
 fn has_library(folder: &Path) -> bool {
-    folder.join("libclaxon.a").exists() || folder.join("libclaxon.so").exists()
+    folder.join(STATIC).exists() || folder.join(SHARED).exists()
 }
 
 fn installed() -> Option<PathBuf> {
@@ -56,7 +58,8 @@ fn installed() -> Option<PathBuf> {
 }
 
 fn link(folder: &Path) {
-    let kind = if folder.join("libclaxon.a").exists() { "static" } else { "dylib" };
+    let (name, kind) = if folder.join(STATIC).exists() { (STATIC, "static") } else { (SHARED, "dylib") };
+    println!("cargo:rerun-if-changed={}", folder.join(name).display());
     println!("cargo:rustc-link-search=native={}", folder.display());
     println!("cargo:rustc-link-lib={kind}=claxon");
 }

@@ -1,7 +1,8 @@
 //! time FILE ..: how long this crate takes to decode each file, in nanoseconds a sample, beside the program claxon_raw.
 //!
-//! `cargo bench --bench time -- song.flac`. The program is `crates/claxon_raw/out/claxon_raw` of this repository, or the one that
-//! CLAXON_RAW names; it also writes what it decodes, four bytes a sample, to /dev/null. Each figure is the least of several rounds.
+//! `cargo bench --bench time -- song.flac`. The program is `crates/claxon_raw/out/claxon_raw` of this repository, or the
+//! one that CLAXON_RAW names; it also writes what it decodes, four bytes a sample, to /dev/null. Each figure is the least
+//! of several rounds.
 use claxon::{FlacReader, Result};
 use std::path::{Path, PathBuf};
 use std::process::{Command, Stdio};

@@ -10,7 +10,13 @@ fn print_tags(path: &OsStr) -> Result<()> {
     let options = FlacReaderOptions { metadata_only: true, read_vorbis_comment: true };
     let flac = FlacReader::open_ext(path, options)?;
     let info = flac.streaminfo();
-    println!("{}: {} Hz, {} channels, {} bits", Path::new(path).display(), info.sample_rate, info.channels, info.bits_per_sample);
+    println!(
+        "{}: {} Hz, {} channels, {} bits",
+        Path::new(path).display(),
+        info.sample_rate,
+        info.channels,
+        info.bits_per_sample
+    );
     for (name, value) in flac.tags() {
         println!("    {name}={value}");
     }

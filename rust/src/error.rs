@@ -97,8 +97,8 @@ pub(crate) fn end_of_input() -> io::Error {
     io::Error::new(io::ErrorKind::UnexpectedEof, "the bytes end too early")
 }
 
-// The library writes a text into a buffer, and an `Error` has one that lives for ever. Each of the some fifty texts is leaked once,
-// when it is met first.
+// The library writes a text into a buffer, and an `Error` has one that lives for ever. Each of the some fifty texts is
+// leaked once, when it is met first.
 fn kept(text: &ffi::Text) -> &'static str {
     static TEXTS: Mutex<Option<HashSet<&'static str>>> = Mutex::new(None);
     let length = text.iter().position(|byte| *byte == 0).unwrap_or(text.len());

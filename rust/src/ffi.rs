@@ -1,8 +1,8 @@
 //! The calls of `claxon.h`. What is unsafe stands here alone.
 //!
-//! Each pointer below is that of a slice or of a reference, with the slice's own length. So it isn't null, even for a length of 0;
-//! what it leads to is initialized and lives as long as the call; and what is written to is borrowed mutably, so that nothing else of
-//! the call overlaps it. The calls keep no pointer, and are safe for any bytes.
+//! Each pointer below is that of a slice or of a reference, with the slice's own length. So it isn't null, even for a
+//! length of 0; what it leads to is initialized and lives as long as the call; and what is written to is borrowed
+//! mutably, so that nothing else of the call overlaps it. The calls keep no pointer, and are safe for any bytes.
 use std::ops::Range;
 
 pub const OK: u32 = 0;
@@ -57,9 +57,9 @@ impl Block {
 const _: () = assert!(std::mem::size_of::<Info>() == 64 && std::mem::size_of::<Block>() == 16);
 
 /// A text that the library writes. Its longest one has 92 bytes.
-pub type Text = [u8; 128];
+pub type Text = [u8; 112];
 
-const NO_TEXT: Text = [0; 128];
+const NO_TEXT: Text = [0; 112];
 
 extern "C" {
     #[cfg(test)]
@@ -131,7 +131,8 @@ pub fn open(bytes: &[u8]) -> Result<Info, Failure> {
 pub fn streaminfo(content: &[u8]) -> Result<Info, Failure> {
     let (mut info, mut text) = (Info::default(), NO_TEXT);
     // SAFETY: as the module says.
-    let status = unsafe { claxon_streaminfo(content.as_ptr(), content.len(), &mut info, text.as_mut_ptr(), text.len()) };
+    let status =
+        unsafe { claxon_streaminfo(content.as_ptr(), content.len(), &mut info, text.as_mut_ptr(), text.len()) };
     checked(status, info, text)
 }
 
@@ -168,7 +169,10 @@ pub fn next_tag(content: &[u8], place: &mut usize) -> Result<(Range<usize>, Rang
 /// What stands where a frame may begin.
 pub enum NextBlock {
     /// A frame of `length` bytes, whose samples were written, one channel after another.
-    Found { block: Block, length: usize },
+    Found {
+        block: Block,
+        length: usize,
+    },
     /// The header of a frame whose samples don't fit.
     BufferShort(Block),
     Failed(Failure),

@@ -3,6 +3,7 @@ use crate::error::{end_of_input, unsupported, Error, Result};
 use crate::ffi::{self, Failure, Info, NextBlock, MOST_FRAME_BYTES};
 use crate::input::ReadBytes;
 use crate::metadata::StreamInfo;
+use crate::source::FRAME_CAPACITY;
 use std::{io, iter, result, slice};
 
 /// A block of samples: of each channel the same number.
@@ -70,8 +71,8 @@ impl Block {
     ///
     /// # Panics
     ///
-    /// Where there is no such channel, and in the last channel where there is no such sample. In other channels the index must be
-    /// below [`Block::duration`] too: one above it leads into the next channel.
+    /// Where there is no such channel, and in the last channel where there is no such sample. In other channels the
+    /// index must be below [`Block::duration`] too: one above it leads into the next channel.
     #[inline]
     pub fn sample(&self, ch: u32, sample: u32) -> i32 {
         self.samples[ch as usize * self.duration as usize + sample as usize]
@@ -118,8 +119,8 @@ pub type FrameResult = Result<Option<Block>>;
 
 /// Reads frames, one after another.
 ///
-/// [`FlacReader::blocks`](crate::FlacReader::blocks) makes one after the head of a stream. Over an `io::Cursor` it reads the frame of a
-/// packet of Ogg or MP4.
+/// [`FlacReader::blocks`](crate::FlacReader::blocks) makes one after the head of a stream. Over an `io::Cursor` it
+/// reads the frame of a packet of Ogg or MP4.
 pub struct FrameReader<R: ReadBytes> {
     input: R,
     info: Info,
@@ -141,24 +142,24 @@ impl<R: ReadBytes> FrameReader<R> {
         FrameReader { input, info: Info::default() }
     }
 
-    /// A reader of the frames of a stream with this streaminfo. A frame may leave its bit depth to the streaminfo; and where that gives
-    /// one size for all blocks, the time of a block is a multiple of it.
+    /// A reader of the frames of a stream with this streaminfo. A frame may leave its bit depth to the streaminfo; and
+    /// where that gives one size for all blocks, the time of a block is a multiple of it.
     pub fn with_streaminfo(input: R, streaminfo: StreamInfo) -> FrameReader<R> {
         FrameReader { input, info: streaminfo.info() }
     }
 
     /// Reads the next block into this buffer, or into a larger one where that is too short.
     ///
-    /// Nothing shows what was in the buffer, or how long it was: `Vec::new()` will do. [`Block::into_buffer`] gives it back, so that one
-    /// buffer serves for a whole stream. After an error it is lost.
+    /// Nothing shows what was in the buffer, or how long it was: `Vec::new()` will do. [`Block::into_buffer`] gives it
+    /// back, so that one buffer serves for a whole stream. After an error it is lost.
     ///
     /// It returns `None` where fewer than two bytes are left.
     ///
     /// # Errors
     ///
-    /// `FormatError` and `Unsupported` for what is wrong with the frame. The next call continues after the bytes that had to be read to
-    /// see that; it doesn't search for the next frame. `IoError` where the reader fails, or its bytes end within the frame. Where it
-    /// fails the bytes before are kept, and the next call begins with the same frame.
+    /// `FormatError` and `Unsupported` for what is wrong with the frame. The next call continues after the bytes that
+    /// had to be read to see that; it doesn't search for the next frame. `IoError` where the reader fails, or its bytes
+    /// end within the frame. Where it fails the bytes before are kept, and the next call begins with the same frame.
     pub fn read_next_or_eof(&mut self, mut buffer: Vec<i32>) -> FrameResult {
         let (mut tries, mut stop) = (0, None);
         loop {
@@ -203,15 +204,15 @@ impl<R: ReadBytes> FrameReader<R> {
         }
     }
 
-    // Buffers bytes until the frame is worth another try. After some tries that is where an eighth more bytes are there: so a reader
-    // that gives a byte at a time costs a multiple of the frame's length, and not its square.
+    // Buffers bytes until the frame is worth another try. After some tries that is where an eighth more bytes are
+    // there: so a reader that gives a byte at a time costs a multiple of the frame's length, and not its square.
     fn buffer_more(&mut self, tries: u32) -> Option<Stop> {
         let tried = self.input.buffered().len();
         loop {
             if self.input.buffered().len() >= MOST_FRAME_BYTES {
                 return Some(Stop::TooLong);
             }
-            match self.input.fill() {
+            match self.input.fill(FRAME_CAPACITY) {
                 Ok(0) => return Some(Stop::EndOfInput),
                 Ok(_) => {}
                 Err(error) => return Some(Stop::Failed(error)),
@@ -255,8 +256,8 @@ impl<R: ReadBytes> FrameReader<R> {
         }
     }
 
-    // Consumes the bytes up to the one where the fault shows: the fewest that aren't the beginning of a frame. The buffer has the
-    // length that the frame's samples need.
+    // Consumes the bytes up to the one where the fault shows: the fewest that aren't the beginning of a frame. The
+    // buffer has the length that the frame's samples need.
     fn consume_fault(&mut self, buffer: &mut [i32]) {
         let bytes = self.bytes();
         let mut shows = |length: usize| match ffi::next_block(&bytes[..length], &self.info, buffer) {

@@ -1,14 +1,12 @@
 //! Readers of bytes.
 use crate::error::end_of_input;
-use crate::source::Source;
+use crate::source::{Source, METADATA_CAPACITY};
 use std::io;
-
-// Some ten frames of music, so that a frame which the end of the buffer cuts, and which is tried twice, is one of many.
-const CAPACITY: usize = 1 << 17;
 
 /// A reader with a buffer, for any `io::Read`.
 ///
-/// The buffer holds whole frames. It has 128 KiB, and is doubled where a frame is larger than that.
+/// The buffer holds whole frames. It has 4 KiB for metadata and 256 KiB for frames, and is doubled where a frame is
+/// larger.
 pub struct BufferedReader<R: io::Read> {
     inner: R,
     buffer: Vec<u8>,
@@ -29,13 +27,16 @@ impl<R: io::Read> BufferedReader<R> {
         self.inner
     }
 
-    // Moves the buffered bytes to the front, and makes a buffer that has more than them.
-    fn make_space(&mut self) {
+    // Moves the buffered bytes to the front of a buffer of at least this capacity, which has more than them.
+    fn make_space(&mut self, capacity: usize) {
         self.buffer.copy_within(self.start..self.end, 0);
         self.end -= self.start;
         self.start = 0;
+        if self.buffer.len() < capacity {
+            self.buffer.resize(capacity, 0);
+        }
         if self.end == self.buffer.len() {
-            self.buffer.resize(CAPACITY.max(2 * self.end), 0);
+            self.buffer.resize(2 * self.end, 0);
         }
     }
 }
@@ -50,11 +51,11 @@ impl<R: io::Read> Source for BufferedReader<R> {
         self.start += count;
     }
 
-    fn fill(&mut self) -> io::Result<usize> {
+    fn fill(&mut self, capacity: usize) -> io::Result<usize> {
         if let Some(read) = self.put_back.take() {
             return read;
         }
-        self.make_space();
+        self.make_space(capacity);
         let free = &mut self.buffer[self.end..];
         let count = self.inner.read(free)?;
         assert!(count <= free.len(), "a reader that says it read more than it can have read");
@@ -69,8 +70,8 @@ impl<R: io::Read> Source for BufferedReader<R> {
 
 /// Reads bytes, and numbers of several bytes.
 ///
-/// It is implemented for `BufferedReader`, `io::Cursor` and references to them, and can't be implemented elsewhere: a frame is decoded
-/// from the bytes that are buffered.
+/// It is implemented for `BufferedReader`, `io::Cursor` and references to them, and can't be implemented elsewhere: a
+/// frame is decoded from the bytes that are buffered.
 pub trait ReadBytes: Source {
     /// Reads a byte.
     fn read_u8(&mut self) -> io::Result<u8> {
@@ -79,7 +80,7 @@ pub trait ReadBytes: Source {
 
     /// Reads a byte, or returns `None` at the end of input.
     fn read_u8_or_eof(&mut self) -> io::Result<Option<u8>> {
-        if self.buffered().is_empty() && self.fill()? == 0 {
+        if self.buffered().is_empty() && self.fill(METADATA_CAPACITY)? == 0 {
             return Ok(None);
         }
         let byte = self.buffered()[0];
@@ -95,7 +96,7 @@ pub trait ReadBytes: Source {
             buffer[filled..filled + count].copy_from_slice(&self.buffered()[..count]);
             self.consume(count);
             filled += count;
-            if filled < buffer.len() && self.fill()? == 0 {
+            if filled < buffer.len() && self.fill(METADATA_CAPACITY)? == 0 {
                 return Err(end_of_input());
             }
         }
@@ -109,7 +110,7 @@ pub trait ReadBytes: Source {
             let count = self.buffered().len().min(left);
             self.consume(count);
             left -= count;
-            if left > 0 && self.fill()? == 0 {
+            if left > 0 && self.fill(METADATA_CAPACITY)? == 0 {
                 return Err(end_of_input());
             }
         }
@@ -122,7 +123,8 @@ pub trait ReadBytes: Source {
         Ok(u16::from_be_bytes([high, self.read_u8()?]))
     }
 
-    /// Reads a big-endian number of 16 bits, or consumes what is left and returns `None` where that is fewer than two bytes.
+    /// Reads a big-endian number of 16 bits, or consumes what is left and returns `None` where that is fewer than two
+    /// bytes.
     fn read_be_u16_or_eof(&mut self) -> io::Result<Option<u16>> {
         let Some(high) = self.read_u8_or_eof()? else { return Ok(None) };
         let low = self.read_u8_or_eof()?;
@@ -158,8 +160,8 @@ impl<R: ReadBytes> Source for &mut R {
         (**self).consume(count)
     }
 
-    fn fill(&mut self) -> io::Result<usize> {
-        (**self).fill()
+    fn fill(&mut self, capacity: usize) -> io::Result<usize> {
+        (**self).fill(capacity)
     }
 
     fn put_back(&mut self, read: io::Result<usize>) {
@@ -190,7 +192,7 @@ impl<T: AsRef<[u8]>> Source for io::Cursor<T> {
     }
 
     // All there is was buffered from the beginning.
-    fn fill(&mut self) -> io::Result<usize> {
+    fn fill(&mut self, _: usize) -> io::Result<usize> {
         Ok(0)
     }
 

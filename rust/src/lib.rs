@@ -1,7 +1,8 @@
 //! An exact FLAC decoder, with the names of claxon 0.4.3.
 //!
-//! It is a thin layer over the library for C of this repository, whose decoder is proved: each supported stream is decoded exactly, and
-//! anything else is an error that names what is wrong. `README.md` says where it differs from claxon 0.4.3.
+//! It is a thin layer over the library for C of this repository, whose decoder is proved: each supported stream is
+//! decoded exactly, and anything else is an error that names what is wrong. `README.md` says where it differs from
+//! claxon 0.4.3.
 //!
 //! # Examples
 //!
@@ -112,8 +113,9 @@ impl<R: Read> FlacReader<R> {
     ///
     /// # Errors
     ///
-    /// `FormatError` where the bytes aren't the head of a stream. `Unsupported` where a block of comments or of an application is larger
-    /// than 10 MiB, or where there are more than 65,536 blocks. `IoError` where the reader fails, or its bytes end within the head.
+    /// `FormatError` where the bytes aren't the head of a stream. `Unsupported` where a block of comments or of an
+    /// application is larger than 10 MiB, or where there are more than 65,536 blocks. `IoError` where the reader fails,
+    /// or its bytes end within the head.
     pub fn new(reader: R) -> Result<FlacReader<R>> {
         FlacReader::new_ext(reader, FlacReaderOptions::default())
     }
@@ -170,7 +172,8 @@ impl<R: Read> FlacReader<R> {
 
     /// An iterator over the samples from here on, the channels interleaved.
     ///
-    /// The samples that are left of a block are lost with the iterator. As each sample is a `Result`, [`FlacReader::blocks`] is faster.
+    /// The samples that are left of a block are lost with the iterator. As each sample is a `Result`,
+    /// [`FlacReader::blocks`] is faster.
     ///
     /// # Panics
     ///

@@ -2,6 +2,7 @@
 use crate::error::{end_of_input, Error, Result};
 use crate::ffi::{self, Info};
 use crate::input::ReadBytes;
+use crate::source::METADATA_CAPACITY;
 use std::{io, slice};
 
 /// What the streaminfo block says of a stream. Frames aren't compared with it, and the MD5 sum isn't computed.
@@ -9,8 +10,8 @@ use std::{io, slice};
 pub struct StreamInfo {
     /// The least number of samples of each channel in a block. The last block may have fewer.
     pub min_block_size: u16,
-    /// The greatest number of samples of each channel in a block. A buffer of this times `channels` holds any block of a stream that
-    /// keeps to its streaminfo.
+    /// The greatest number of samples of each channel in a block. A buffer of this times `channels` holds any block of
+    /// a stream that keeps to its streaminfo.
     pub max_block_size: u16,
     /// The least number of bytes of a frame, if known.
     pub min_frame_size: Option<u32>,
@@ -143,7 +144,8 @@ impl<'a> Iterator for Tags<'a> {
 
 impl ExactSizeIterator for Tags<'_> {}
 
-/// An iterator over the values of the tags of one name, which [`FlacReader::get_tag`](crate::FlacReader::get_tag) returns.
+/// An iterator over the values of the tags of one name, which [`FlacReader::get_tag`](crate::FlacReader::get_tag)
+/// returns.
 pub struct GetTag<'a> {
     tags: Tags<'a>,
     needle: &'a str,
@@ -239,7 +241,8 @@ pub fn read_metadata_block_with_header<R: ReadBytes>(input: &mut R) -> Result<Me
 ///
 /// # Errors
 ///
-/// `FormatError` or `Unsupported` for what is wrong with the block, `IoError` where the reader fails or its bytes end within it.
+/// `FormatError` or `Unsupported` for what is wrong with the block, `IoError` where the reader fails or its bytes end
+/// within it.
 pub fn read_metadata_block<R: ReadBytes>(input: &mut R, block_type: u8, length: u32) -> Result<MetadataBlock> {
     if block_type == APPLICATION {
         check_header(block_type, length)?;
@@ -275,8 +278,8 @@ fn check_beginning(block_type: u8, length: u32, content: &[u8]) -> Result<()> {
     }
 }
 
-// Whether it refuses the block by its type and length, before anything of it is read. A caller can pass types that no header has:
-// they are reserved. A length that no header can give is refused as the greatest one is.
+// Whether it refuses the block by its type and length, before anything of it is read. A caller can pass types that no
+// header has: they are reserved. A length that no header can give is refused as the greatest one is.
 fn check_header(block_type: u8, length: u32) -> Result<()> {
     match block_type {
         ..=MAX_TYPE => check_beginning(block_type, length, &[]),
@@ -298,8 +301,8 @@ fn read_application<R: ReadBytes>(input: &mut R, length: u32) -> Result<Metadata
     Ok(MetadataBlock::Application { id, data })
 }
 
-// Appends as many bytes. After an error those that were there are appended, and consumed. Memory grows with what is there, and not with
-// what a header says.
+// Appends as many bytes. After an error those that were there are appended, and consumed. Memory grows with what is
+// there, and not with what a header says.
 fn read_content<R: ReadBytes>(input: &mut R, length: u32, content: &mut Vec<u8>) -> io::Result<()> {
     let length = length as usize;
     loop {
@@ -309,7 +312,7 @@ fn read_content<R: ReadBytes>(input: &mut R, length: u32, content: &mut Vec<u8>)
         if content.len() == length {
             return Ok(());
         }
-        if input.fill()? == 0 {
+        if input.fill(METADATA_CAPACITY)? == 0 {
             return Err(end_of_input());
         }
     }

@@ -210,11 +210,17 @@ fn texts_of_faults() -> HashSet<String> {
 // Each fault of the format is met by a line above, or by `heads::too_many_blocks`.
 #[test]
 fn each_fault_has_a_case() {
-    let answers: String = ["streams.txt", "frames.txt", "blocks.txt"].iter().flat_map(|name| lines_of(name)).map(|line| line.answer + "\n").collect();
+    let answers: String = ["streams.txt", "frames.txt", "blocks.txt"]
+        .iter()
+        .flat_map(|name| lines_of(name))
+        .map(|line| line.answer + "\n")
+        .collect();
     let texts = texts_of_faults();
     assert_eq!(texts.len(), 45);
     for text in texts {
-        let has_case = answers.split(['\n', '|']).any(|answer| answer.trim_end().trim_end_matches("; end").ends_with(&format!(": {text}")));
+        let has_case = answers
+            .split(['\n', '|'])
+            .any(|answer| answer.trim_end().trim_end_matches("; end").ends_with(&format!(": {text}")));
         assert!(has_case || text == "more than 65536 metadata blocks are not supported", "{text}");
     }
 }

@@ -74,32 +74,30 @@ fn panics(misuse: impl FnOnce()) -> bool {
 #[test]
 fn misuse_panics() {
     let (one, two) = (block_of(ONE_CHANNEL), block_of(TWO_CHANNELS));
-    assert!(panics(|| drop(one.stereo_samples())));
-    assert!(panics(|| drop(Block::empty().stereo_samples())));
+    assert!(panics(|| _ = one.stereo_samples()));
+    assert!(panics(|| _ = Block::empty().stereo_samples()));
     assert!(panics(|| _ = two.channel(2)));
     assert!(panics(|| _ = two.sample(1, 2)));
     assert!(panics(|| _ = two.sample(2, 0)));
     assert!(panics(|| _ = Block::empty().sample(0, 0)));
     let stream = stream_with(&[&bytes(COMMENTS)]);
     let mut flac = FlacReader::new_ext(&stream[..], METADATA_ONLY).unwrap();
-    assert!(panics(|| drop(flac.blocks())));
-    assert!(panics(|| drop(flac.samples())));
+    assert!(panics(|| _ = flac.blocks()));
+    assert!(panics(|| _ = flac.samples()));
 }
 
 #[test]
 fn errors() {
     let format = Error::FormatError("invalid sample rate");
     let unsupported = Error::Unsupported("invalid sample rate");
-    let io = || Error::from(io::Error::new(io::ErrorKind::Other, "no disk"));
+    let io = || Error::from(io::Error::other("no disk"));
     assert_eq!(format, Error::FormatError("invalid sample rate"));
     assert_ne!(format, Error::FormatError("invalid sample"));
     assert_ne!(format, unsupported);
     assert_ne!(io(), io());
     assert_eq!(format.to_string(), "Ill-formed FLAC stream: invalid sample rate");
-    assert_eq!(
-        unsupported.to_string(),
-        "A currently unsupported feature of the FLAC format was encountered: invalid sample rate"
-    );
+    let text = "A currently unsupported feature of the FLAC format was encountered: invalid sample rate";
+    assert_eq!(unsupported.to_string(), text);
     assert_eq!(io().to_string(), "no disk");
     assert_eq!(format!("{format:?}"), r#"FormatError("invalid sample rate")"#);
     let not_utf8 = String::from_utf8(vec![0xff]).unwrap_err();

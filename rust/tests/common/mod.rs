@@ -96,6 +96,14 @@ pub fn fault(error: &Error) -> String {
     }
 }
 
+pub fn ill_formed(reason: &str) -> String {
+    format!("Ill-formed FLAC stream: {reason}")
+}
+
+pub fn unsupported(feature: &str) -> String {
+    format!("A currently unsupported feature of the FLAC format was encountered: {feature}")
+}
+
 pub fn streaminfo(info: &StreamInfo) -> String {
     let size = |size: Option<u32>| size.map_or("none".to_string(), |size| size.to_string());
     let samples = info.samples.map_or("none".to_string(), |samples| samples.to_string());
