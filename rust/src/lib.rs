@@ -68,6 +68,10 @@ pub use error::{Error, Result};
 pub use frame::Block;
 pub use samples::FlacSamples;
 
+#[cfg(doctest)]
+#[doc = include_str!("../README.md")]
+struct Readme;
+
 use frame::FrameReader;
 use input::BufferedReader;
 use metadata::{GetTag, StreamInfo, Tags, VorbisComment};
