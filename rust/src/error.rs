@@ -1,6 +1,5 @@
 //! Errors.
 use crate::ffi::{self, Failure};
-use std::collections::HashSet;
 use std::sync::{Mutex, PoisonError};
 use std::{error, fmt, io, result, string};
 
@@ -100,15 +99,13 @@ pub(crate) fn end_of_input() -> io::Error {
 // The library writes a text into a buffer, and an `Error` has one that lives for ever. Each of the some fifty texts is
 // leaked once, when it is met first.
 fn kept(text: &ffi::Text) -> &'static str {
-    static TEXTS: Mutex<Option<HashSet<&'static str>>> = Mutex::new(None);
-    let length = text.iter().position(|byte| *byte == 0).unwrap_or(text.len());
-    let text = String::from_utf8_lossy(&text[..length]);
+    static TEXTS: Mutex<Vec<&'static str>> = Mutex::new(Vec::new());
+    let text = text.split(|byte| *byte == 0).next().unwrap_or_default();
     let mut texts = TEXTS.lock().unwrap_or_else(PoisonError::into_inner);
-    let texts = texts.get_or_insert_with(HashSet::new);
-    if let Some(known) = texts.get(&*text) {
+    if let Some(known) = texts.iter().find(|known| known.as_bytes() == text) {
         return known;
     }
-    let new: &'static str = Box::leak(text.into_owned().into_boxed_str());
-    texts.insert(new);
+    let new: &'static str = Box::leak(String::from_utf8_lossy(text).into());
+    texts.push(new);
     new
 }

@@ -192,10 +192,10 @@ fn no_more_is_read_than_is_requested() {
     let (head, comments) = (open_head(), bytes(COMMENTS));
     let steps = || vec![Step::Gives(head.clone()), Step::Gives(comments.clone()), Step::Fails(io::ErrorKind::Other)];
     let flac = FlacReader::new_ext(Steps::new(steps()), STREAMINFO_ONLY).unwrap();
-    assert_eq!(flac.into_inner().reads, 1);
+    assert_eq!(flac.into_inner().reads.get(), 1);
     let flac = FlacReader::new_ext(Steps::new(steps()), TAGS_ONLY).unwrap();
     assert_eq!(flac.get_tag("X").next(), Some("Y"));
-    assert_eq!(flac.into_inner().reads, 2);
+    assert_eq!(flac.into_inner().reads.get(), 2);
 }
 
 #[test]

@@ -2,10 +2,12 @@
 #![allow(dead_code)]
 use claxon::metadata::StreamInfo;
 use claxon::{Error, FlacReader, FlacReaderOptions, Result};
+use std::cell::Cell;
 use std::fmt::Write as _;
 use std::fs;
 use std::io::{self, Read};
 use std::path::{Path, PathBuf};
+use std::rc::Rc;
 
 /// The cases, whose results were made without this decoder.
 pub fn cases() -> PathBuf {
@@ -184,18 +186,18 @@ pub enum Step {
 /// Takes one step a read, and then is at its end.
 pub struct Steps {
     steps: std::vec::IntoIter<Step>,
-    pub reads: usize,
+    pub reads: Rc<Cell<usize>>,
 }
 
 impl Steps {
     pub fn new(steps: Vec<Step>) -> Steps {
-        Steps { steps: steps.into_iter(), reads: 0 }
+        Steps { steps: steps.into_iter(), reads: Rc::default() }
     }
 }
 
 impl Read for Steps {
     fn read(&mut self, buffer: &mut [u8]) -> io::Result<usize> {
-        self.reads += 1;
+        self.reads.set(self.reads.get() + 1);
         match self.steps.next() {
             Some(Step::Gives(bytes)) => {
                 buffer[..bytes.len()].copy_from_slice(&bytes);
