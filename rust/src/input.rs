@@ -29,9 +29,11 @@ impl<R: io::Read> BufferedReader<R> {
 
     // Moves the buffered bytes to the front of a buffer of at least this capacity, which has more than them.
     fn make_space(&mut self, capacity: usize) {
-        self.buffer.copy_within(self.start..self.end, 0);
-        self.end -= self.start;
-        self.start = 0;
+        if self.start > 0 {
+            self.buffer.copy_within(self.start..self.end, 0);
+            self.end -= self.start;
+            self.start = 0;
+        }
         if self.buffer.len() < capacity {
             self.buffer.resize(capacity, 0);
         }
