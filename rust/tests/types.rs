@@ -47,6 +47,7 @@ fn a_frame_of_several_channels() {
     for (ch, index) in (0..8).flat_map(|ch| (0..block.duration()).map(move |index| (ch, index))) {
         assert_eq!(block.sample(ch, index), block.channel(ch)[index as usize]);
     }
+    assert!(panics(|| _ = block.stereo_samples()));
     let (samples, _) = decode(&file[..]);
     assert_eq!(samples[..8], std::array::from_fn::<i32, 8, _>(|ch| block.sample(ch as u32, 0)));
 }
