@@ -126,7 +126,7 @@ pub struct FrameReader<R: ReadBytes> {
     info: Info,
 }
 
-// A frame is tried after each of so many reads, so that none waits for bytes after it.
+// A frame is tried after each of so many reads, so that it doesn't wait for bytes after it.
 const TRIES_AT_ONCE: u32 = 16;
 
 // Why no more bytes are buffered.

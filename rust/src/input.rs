@@ -13,6 +13,7 @@ pub struct BufferedReader<R: io::Read> {
     // The bytes in `start..end` were read, and not consumed.
     start: usize,
     end: usize,
+    // What the next `fill` returns in place of a read.
     put_back: Option<io::Result<usize>>,
 }
 
