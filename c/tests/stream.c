@@ -1,0 +1,839 @@
+/* stream FOLDER ROUNDS < LINES: tests claxon_stream.h.
+ *
+ * - Each file that a line `NAME COUNT HASH RESULT` names is read in pieces of several sizes. The number of its samples, the
+ *   FNV-1a hash of their little-endian bytes, and the result are compared: `ok`, the error, or `IO` where the bytes end.
+ * - What a stream gives is compared with what claxon_open and claxon_next_block give for the whole bytes: of files that are
+ *   cut or damaged, of heads that are made up, ROUNDS of each, and of heads at each limit.
+ * - Reading fails, memory is refused, a frame has no end.
+ *
+ * With 0 ROUNDS small files are read alone, for tools that make it slow.
+ * It is linked with --wrap for malloc and realloc, so that it can refuse memory and sees how much is asked for at once. */
+#include <inttypes.h>
+#include <stdio.h>
+#include <stdlib.h>
+#include <string.h>
+
+#include "claxon_stream.h"
+
+static int failures;
+
+static void expect(int holds, const char *name, const char *what) {
+    if (!holds) {
+        printf("%s: %s\n", name, what);
+        failures++;
+    }
+}
+
+/* Memory. */
+
+void *__real_malloc(size_t size);
+void *__real_realloc(void *old, size_t size);
+void *__wrap_malloc(size_t size);
+void *__wrap_realloc(void *old, size_t size);
+
+static size_t requests, refused_request, greatest_request; /* each request from refused_request on is refused, if it isn't 0 */
+static size_t refused_every;                               /* each so many-th is refused, if it isn't 0 */
+
+static int is_refused(size_t size) {
+    requests++;
+    greatest_request = size > greatest_request ? size : greatest_request;
+    return (refused_request && requests >= refused_request) || (refused_every && requests % refused_every == 0);
+}
+
+void *__wrap_malloc(size_t size) {
+    return is_refused(size) ? NULL : __real_malloc(size);
+}
+
+void *__wrap_realloc(void *old, size_t size) {
+    return is_refused(size) ? NULL : __real_realloc(old, size);
+}
+
+/* Bytes that are read in pieces. */
+
+struct source {
+    const uint8_t *bytes;
+    size_t length;
+    size_t at;
+    size_t piece;    /* how many bytes are given at most */
+    size_t fails_at; /* where reading fails */
+    int has_ended;
+};
+
+static size_t read_source(void *from, uint8_t *bytes, size_t length) {
+    struct source *source = from;
+    size_t count = length < source->piece ? length : source->piece;
+    expect(length > 0 && !source->has_ended, "read", "a call for nothing, or after the end");
+    count = count < source->length - source->at ? count : source->length - source->at;
+    if (source->at + count > source->fails_at) {
+        count = source->fails_at - source->at;
+        if (count == 0) {
+            source->has_ended = 1;
+            return (size_t)-1;
+        }
+    }
+    source->has_ended = count == 0;
+    if (count > 0) {
+        memcpy(bytes, source->bytes + source->at, count);
+    }
+    source->at += count;
+    return count;
+}
+
+static struct source pieces_of(const uint8_t *bytes, size_t length, size_t piece) {
+    struct source source = {bytes, length, 0, piece, SIZE_MAX, 0};
+    return source;
+}
+
+/* Samples. */
+
+struct tally {
+    uint64_t count;
+    uint64_t hash;
+};
+
+static const struct tally no_samples = {0, UINT64_C(0xcbf29ce484222325)};
+
+/* Adds samples in the order of time, whose distance in memory is `step` from channel to channel and `next` from time to time. */
+static void add_samples(struct tally *tally, const int32_t *samples, const struct claxon_block *block, size_t step, size_t next) {
+    for (size_t i = 0; i < block->duration; i++) {
+        for (size_t ch = 0; ch < block->channels; ch++) {
+            uint32_t sample = (uint32_t)samples[ch * step + i * next];
+            for (int j = 0; j < 4; j++) {
+                tally->hash = (tally->hash ^ (sample >> 8 * j & 0xff)) * UINT64_C(0x100000001b3);
+            }
+        }
+    }
+    tally->count += (uint64_t)block->channels * block->duration;
+}
+
+static void add_interleaved(struct tally *tally, const int32_t *samples, const struct claxon_block *block) {
+    add_samples(tally, samples, block, 1, block->channels);
+}
+
+static int is_same_tally(struct tally a, struct tally b) {
+    return a.count == b.count && a.hash == b.hash;
+}
+
+static int is_same_block(const struct claxon_block *a, const struct claxon_block *b) {
+    return a->time == b->time && a->channels == b->channels && a->duration == b->duration;
+}
+
+static int is_same_info(const struct claxon_info *a, const struct claxon_info *b) {
+    return a->first_frame == b->first_frame && a->tags == b->tags && a->samples == b->samples &&
+           a->sample_rate == b->sample_rate && a->channels == b->channels && a->bits_per_sample == b->bits_per_sample &&
+           a->min_frame_size == b->min_frame_size && a->max_frame_size == b->max_frame_size &&
+           a->min_block_size == b->min_block_size && a->max_block_size == b->max_block_size && memcmp(a->md5, b->md5, 16) == 0;
+}
+
+/* Files whose results are known. */
+
+static const char *result_of(uint32_t status, const char *error, char *text, size_t size) {
+    const char *prefix = status == CLAXON_FORMAT_ERROR ? "Ill-formed FLAC stream: "
+                       : status == CLAXON_UNSUPPORTED  ? "A currently unsupported feature of the FLAC format was encountered: "
+                                                       : "";
+    snprintf(text, size, "%s%s", prefix, status == CLAXON_NO_MORE ? "ok" : status == CLAXON_INPUT_ENDS ? "IO" : error);
+    return text;
+}
+
+static void test_known(const char *name, const uint8_t *bytes, size_t length, struct tally known, const char *result) {
+    static const size_t pieces[] = {SIZE_MAX, 4099, 997, 61, 7, 1};
+    for (size_t i = 0; i < 12; i++) {
+        struct claxon_stream stream;
+        struct source source = pieces_of(bytes, length, pieces[i / 2]);
+        struct tally tally = no_samples;
+        int planar = i % 2;
+        char text[256];
+        uint32_t status;
+        claxon_stream_init(&stream, read_source, &source);
+        while ((status = (planar ? claxon_stream_next_block_planar : claxon_stream_next_block)(&stream)) == CLAXON_OK) {
+            size_t channels = stream.block.channels, duration = stream.block.duration;
+            add_samples(&tally, stream.samples, &stream.block, planar ? duration : 1, planar ? 1 : channels);
+        }
+        if (!is_same_tally(tally, known) || strcmp(result_of(status, stream.error, text, sizeof text), result) != 0) {
+            printf("%s by %zu, planar %d: %" PRIu64 " %016" PRIx64 " %s\n", name, source.piece, planar, tally.count, tally.hash, text);
+            failures++;
+        }
+        expect((status == CLAXON_NO_MORE) == (stream.error[0] == 0), name, "a text at the end");
+        expect(stream.position <= length && (status != CLAXON_NO_MORE || stream.position + 1 >= length), name, "the position at the end");
+        claxon_stream_free(&stream);
+    }
+}
+
+/* Any bytes: the same as of the whole of them in memory. */
+
+static int32_t samples[CLAXON_MOST_SAMPLES];
+
+struct whole {
+    const uint8_t *bytes;
+    size_t length;
+    size_t at;
+    struct claxon_info info;
+    struct claxon_block block;
+    char error[128];
+};
+
+static uint32_t next_of_whole(struct whole *whole) {
+    return claxon_next_block(whole->bytes, whole->length, &whole->at, &whole->info, samples, CLAXON_MOST_SAMPLES, &whole->block,
+                             whole->error, sizeof whole->error);
+}
+
+/* Goes to the next byte 0xff from which a frame decodes, after the present one. */
+static uint32_t resync_of_whole(struct whole *whole) {
+    for (size_t at = whole->at + 1; at + 1 < whole->length; at++) {
+        if (whole->bytes[at] == 0xff) {
+            whole->at = at;
+            if (next_of_whole(whole) == CLAXON_OK) {
+                whole->at = at;
+                return CLAXON_OK;
+            }
+        }
+    }
+    return CLAXON_NO_MORE;
+}
+
+static int is_fault(uint32_t status) {
+    return status != CLAXON_OK && status != CLAXON_NO_MORE;
+}
+
+/* Compares block after block, and goes on after each fault. Returns the number of blocks. */
+static size_t compare_frames(const char *name, struct claxon_stream *stream, struct whole *whole) {
+    size_t blocks = 0;
+    uint32_t status, expected;
+    do {
+        size_t before = whole->at;
+        status = claxon_stream_next_block(stream);
+        expected = next_of_whole(whole);
+        expect(status == expected, name, "the status of a block");
+        expect(!is_fault(expected) || strcmp(stream->error, whole->error) == 0, name, "the text of a frame's fault");
+        expect(stream->position == whole->at && (expected == CLAXON_OK || whole->at == before), name, "the position");
+        if (status == CLAXON_OK && expected == CLAXON_OK) {
+            size_t count = (size_t)whole->block.channels * whole->block.duration;
+            expect(is_same_block(&stream->block, &whole->block), name, "a block");
+            expect(memcmp(stream->samples, samples, count * sizeof *samples) == 0, name, "the samples of a block");
+            blocks++;
+        } else if (is_fault(expected)) {
+            status = claxon_stream_resync(stream);
+            expected = resync_of_whole(whole);
+            expect(status == expected, name, "the status of resync");
+            expect(expected != CLAXON_OK || stream->position == whole->at, name, "the position after resync");
+        }
+    } while (status == CLAXON_OK && expected == CLAXON_OK);
+    return blocks;
+}
+
+/* Returns the number of blocks, and leaves the text of the head's fault, or "", in `text`. */
+static size_t compare(const char *name, const uint8_t *bytes, size_t length, size_t piece, char *text, size_t size) {
+    struct claxon_stream stream;
+    struct source source = pieces_of(bytes, length, piece);
+    struct whole whole = {bytes, length, 0, {0}, {0}, ""};
+    size_t blocks = 0;
+    uint32_t status, expected = claxon_open(bytes, length, &whole.info, whole.error, sizeof whole.error);
+    claxon_stream_init(&stream, read_source, &source);
+    status = claxon_stream_open(&stream);
+    expect(status == expected, name, "the status of a head");
+    snprintf(text, size, "%s", stream.error);
+    if (expected == CLAXON_OK && status == CLAXON_OK) {
+        expect(is_same_info(&stream.info, &whole.info), name, "the info of a head");
+        whole.at = whole.info.first_frame;
+        blocks = compare_frames(name, &stream, &whole);
+    } else {
+        expect(strcmp(stream.error, whole.error) == 0, name, "the text of a head's fault");
+        expect(claxon_stream_next_block(&stream) == status && claxon_stream_open(&stream) == status, name, "the status after a head's fault");
+        expect(strcmp(stream.error, whole.error) == 0, name, "the text after a head's fault");
+    }
+    claxon_stream_free(&stream);
+    return blocks;
+}
+
+/* Numbers that look random, the same in each run. */
+
+static uint64_t random_state = 1;
+
+static uint32_t below(uint32_t limit) {
+    random_state = random_state * UINT64_C(6364136223846793005) + UINT64_C(1442695040888963407);
+    return limit ? (uint32_t)((random_state >> 33) % limit) : 0;
+}
+
+static size_t any_piece(void) {
+    static const size_t pieces[] = {1, 2, 3, 5, 16, 100, 1000, SIZE_MAX};
+    return pieces[below(8)];
+}
+
+/* Damaged files. */
+
+static void damage(uint8_t *bytes, size_t length) {
+    for (uint32_t changes = 1 + below(3); changes > 0 && length > 0; changes--) {
+        size_t at = below((uint32_t)length);
+        size_t count = 1 + below(40);
+        count = count < length - at ? count : length - at;
+        switch (below(4)) {
+        case 0: bytes[at] ^= (uint8_t)(1 << below(8)); break;
+        case 1: memset(bytes + at, below(2) ? 0 : 0xff, count); break;
+        case 2: memmove(bytes + at, bytes + at + count, length - at - count); break;
+        default: memmove(bytes + at, bytes + below((uint32_t)(length - count + 1)), count);
+        }
+    }
+}
+
+static size_t damaged_blocks;
+
+static void test_damaged(const char *name, const uint8_t *bytes, size_t length, unsigned rounds) {
+    char text[128];
+    uint8_t *damaged = malloc(length + 1);
+    for (unsigned i = 0; i < rounds; i++) {
+        size_t kept = below(3) ? length : below((uint32_t)length + 1);
+        memcpy(damaged, bytes, length);
+        damage(damaged, below(2) || kept < 100 ? kept : 100);
+        damaged_blocks += compare(name, damaged, kept, any_piece(), text, sizeof text);
+    }
+    free(damaged);
+}
+
+static void test_cut(const char *name, const uint8_t *bytes, size_t length) {
+    char text[128];
+    for (size_t kept = 0; kept < length; kept += 1 + below((uint32_t)kept / 100)) {
+        uint8_t *cut = malloc(kept + 1); /* so that what is read after its end is seen */
+        memcpy(cut, bytes, kept);
+        compare(name, cut, kept, any_piece(), text, sizeof text);
+        free(cut);
+    }
+}
+
+/* Heads that are made up. */
+
+struct made {
+    uint8_t *bytes;
+    size_t length;
+    size_t size;
+};
+
+/* Makes room for so many bytes at the end, and returns their place. */
+static uint8_t *put_space(struct made *made, size_t length) {
+    if (made->size - made->length < length) {
+        made->size = 2 * (made->size + length);
+        made->bytes = realloc(made->bytes, made->size);
+    }
+    made->length += length;
+    return made->bytes + made->length - length;
+}
+
+static void put(struct made *made, const void *bytes, size_t length) {
+    memcpy(put_space(made, length), bytes, length);
+}
+
+static void put_many(struct made *made, int byte, size_t count) {
+    if (count > 0) {
+        memset(put_space(made, count), byte, count);
+    }
+}
+
+static void put_byte(struct made *made, unsigned byte) {
+    *put_space(made, 1) = (uint8_t)byte;
+}
+
+static void put_header(struct made *made, unsigned type, int is_last, size_t length) {
+    put_byte(made, type | (is_last ? 0x80u : 0u));
+    put_byte(made, (unsigned)(length >> 16 & 0xff));
+    put_byte(made, (unsigned)(length >> 8 & 0xff));
+    put_byte(made, (unsigned)(length & 0xff));
+}
+
+/* Two channels of 8 bits, 4 samples of each. */
+static void put_streaminfo(struct made *made, int is_last) {
+    static const uint8_t content[34] = {0, 16, 0, 16, 0, 0, 1, 0, 1, 0, 0x0a, 0xc4, 0x42, 0x70, 0, 0, 0, 4};
+    put_header(made, CLAXON_STREAMINFO, is_last, 34);
+    put(made, content, 34);
+}
+
+static void put_number(struct made *made, uint32_t number) {
+    for (int i = 0; i < 4; i++) {
+        put_byte(made, number >> 8 * i & 0xff);
+    }
+}
+
+/* Comments with a vendor string of three bytes and so many tags. They say that there are `count`. */
+static void put_comments(struct made *made, int is_last, uint32_t tags, uint32_t count) {
+    put_header(made, CLAXON_VORBIS_COMMENT, is_last, 11 + 7 * (size_t)tags);
+    put_number(made, 3);
+    put(made, "abc", 3);
+    put_number(made, count);
+    for (uint32_t i = 0; i < tags; i++) {
+        put_number(made, 3);
+        put(made, "X=Y", 3);
+    }
+}
+
+/* A block of any kind, right or wrong. */
+static void put_any_block(struct made *made) {
+    static const uint8_t types[] = {1, 2, 2, 3, 5, 6, 7, 126, 127};
+    int is_last = below(4) == 0;
+    size_t length = below(40);
+    uint32_t tags = below(4);
+    switch (below(8)) {
+    case 0: put_streaminfo(made, is_last); break;
+    case 1:
+    case 2:
+    case 3: put_comments(made, is_last, tags, below(4) ? tags : tags + below(4)); break;
+    case 4:
+        put_header(made, below(2) ? CLAXON_VORBIS_COMMENT : CLAXON_APPLICATION, is_last, below(3) ? length : 10485759 + below(4));
+        put_many(made, (int)below(4), length);
+        break;
+    default:
+        put_header(made, types[below(sizeof types)], is_last, length);
+        put_many(made, (int)below(256), length);
+    }
+}
+
+#define MOST_TEXTS 64
+
+static char texts[MOST_TEXTS][128];
+
+/* Counts the texts of faults that were seen. */
+static size_t note_text(const char *text) {
+    size_t count = 0;
+    while (count < MOST_TEXTS - 1 && texts[count][0]) {
+        if (strcmp(texts[count], text) == 0) {
+            return count;
+        }
+        count++;
+    }
+    snprintf(texts[count], sizeof texts[count], "%s", text);
+    return count;
+}
+
+static int was_seen(const char *text) {
+    for (size_t i = 0; i < MOST_TEXTS; i++) {
+        if (strcmp(texts[i], text) == 0) {
+            return 1;
+        }
+    }
+    return 0;
+}
+
+static void test_made_head(struct made *made, size_t piece) {
+    char text[128];
+    compare("a head that is made up", made->bytes, made->length, piece, text, sizeof text);
+    note_text(text[0] ? text : "none");
+}
+
+static void test_any_head(void) {
+    struct made made = {NULL, 0, 0};
+    put(&made, below(20) ? "fLaC" : below(2) ? "ID3!" : "fLaX", 4);
+    if (below(10)) {
+        put_streaminfo(&made, below(8) == 0);
+    }
+    for (uint32_t blocks = below(6); blocks > 0; blocks--) {
+        put_any_block(&made);
+    }
+    if (below(3) == 0) {
+        size_t at = below((uint32_t)(below(2) || made.length < 42 ? made.length : 42));
+        made.bytes[at] = (uint8_t)(below(2) ? below(256) : made.bytes[at] ^ 1u << below(8));
+    }
+    made.length = below(3) ? made.length : below((uint32_t)made.length + 1);
+    made.bytes = realloc(made.bytes, made.length + 1);
+    test_made_head(&made, any_piece());
+    free(made.bytes);
+}
+
+/* The texts of all faults of a head. */
+static const char *const head_texts[] = {
+    "none",
+    "the bytes end",
+    "stream starts with ID3 header rather than FLAC header",
+    "invalid stream header",
+    "streaminfo block missing",
+    "encountered second Vorbis comment block",
+    "encountered second streaminfo block",
+    "more than 65536 metadata blocks are not supported",
+    "invalid streaminfo metadata block length",
+    "inconsistent bounds, min block size > max block size",
+    "invalid block size, must be at least 16",
+    "inconsistent bounds, min frame size > max frame size",
+    "invalid sample rate",
+    "invalid metadata block type",
+    "application block length must be at least 4 bytes",
+    "application blocks larger than 10 MiB are not supported",
+    "Vorbis comment block is too short",
+    "Vorbis comment blocks larger than 10 MiB are not supported",
+    "vendor string too long",
+    "Vorbis comment or vendor string is not valid UTF-8",
+    "too many entries for Vorbis comment block",
+    "Vorbis comment too long for Vorbis comment block",
+    "Vorbis comment does not contain '='",
+    "Vorbis comment field name contains invalid byte",
+    "Vorbis comment block has excess data",
+    "Vorbis comment block contains wrong number of entries",
+};
+
+static void test_heads(unsigned rounds) {
+    for (unsigned i = 0; i < rounds; i++) {
+        test_any_head();
+    }
+}
+
+static void test_all_seen(void) {
+    for (size_t i = 0; i < sizeof head_texts / sizeof *head_texts; i++) {
+        expect(was_seen(head_texts[i]), head_texts[i], "this fault of a head wasn't seen");
+    }
+}
+
+/* As many blocks as a head may have, one more, and more than 65536 after which the bytes end. */
+static void test_many_blocks(void) {
+    for (size_t others = 65535; others <= 65536; others++) {
+        struct made made = {NULL, 0, 0};
+        put(&made, "fLaC", 4);
+        put_streaminfo(&made, 0);
+        for (size_t i = 1; i <= others; i++) {
+            put_header(&made, CLAXON_PADDING, i == others, 0);
+        }
+        test_made_head(&made, SIZE_MAX);
+        made.length = 4 + 38 + 4 * 65535 - 1;
+        test_made_head(&made, SIZE_MAX);
+        free(made.bytes);
+    }
+}
+
+/* Comments and application data of as many bytes as may be, and one more. */
+static void test_long_blocks(void) {
+    for (size_t more = 0; more <= 1; more++) {
+        struct made made = {NULL, 0, 0};
+        size_t length = 10 * 1024 * 1024 + more;
+        put(&made, "fLaC", 4);
+        put_streaminfo(&made, 0);
+        put_header(&made, CLAXON_APPLICATION, 0, length);
+        put_many(&made, 7, length);
+        put_header(&made, CLAXON_VORBIS_COMMENT, 1, length);
+        put_number(&made, (uint32_t)length - 8);
+        put_many(&made, 'v', length - 8);
+        put_number(&made, 0);
+        test_made_head(&made, 65536);
+        memcpy(made.bytes + 42 + 4 + length, made.bytes + 42, 4); /* in place of the comments, the application block's header */
+        memmove(made.bytes + 42, made.bytes + 42 + 4 + length, 4 + length);
+        made.bytes[42] = 0x80 | CLAXON_APPLICATION;
+        made.length = 42 + 4 + length;
+        test_made_head(&made, SIZE_MAX);
+        made.bytes[42] = 0x80 | CLAXON_VORBIS_COMMENT;
+        test_made_head(&made, SIZE_MAX);
+        free(made.bytes);
+    }
+}
+
+/* The metadata blocks of a stream, one after another. */
+
+struct made_block {
+    unsigned type;
+    size_t length;
+};
+
+/* A head with two pictures of the greatest length, and comments with a tag; one frame follows. */
+static const struct made_block blocks[] = {{CLAXON_STREAMINFO, 34}, {CLAXON_PICTURE, 0xffffff}, {CLAXON_APPLICATION, 100},
+                                           {CLAXON_VORBIS_COMMENT, 18}, {CLAXON_PICTURE, 0xffffff}, {CLAXON_PADDING, 0}};
+
+#define BLOCKS (sizeof blocks / sizeof *blocks)
+
+static const uint8_t frame[] = {0xff, 0xf8, 0x69, 0x08, 0x00, 0x0f, 0x30, 0x00, 0x12, 0x34, 0xaa, 0x3b};
+
+static struct made make_pictures(void) {
+    struct made made = {NULL, 0, 0};
+    put(&made, "fLaC", 4);
+    put_streaminfo(&made, 0);
+    for (size_t i = 1; i < BLOCKS; i++) {
+        if (blocks[i].type == CLAXON_VORBIS_COMMENT) {
+            put_comments(&made, 0, 1, 1);
+        } else {
+            put_header(&made, blocks[i].type, i + 1 == BLOCKS, blocks[i].length);
+            put_many(&made, (int)i, blocks[i].length);
+        }
+    }
+    put(&made, frame, sizeof frame);
+    return made;
+}
+
+/* Reads the content of a block in pieces, and compares it with the bytes. */
+static void test_content(struct claxon_stream *stream, const uint8_t *bytes, const struct claxon_metadata *metadata, size_t piece) {
+    static uint8_t content[4096];
+    size_t done = 0, got;
+    while ((got = claxon_stream_content(stream, content, piece)) > 0) {
+        expect(memcmp(content, bytes + metadata->content + done, got) == 0, "a metadata block", "its content");
+        done += got;
+    }
+    expect(done == metadata->length, "a metadata block", "the length of its content");
+}
+
+static void test_tags(const uint8_t *comments, size_t length, size_t count) {
+    size_t place = 0, vendor_at, vendor_length, tags, name_at, name_length, value_at, value_length;
+    char error[128];
+    uint32_t status = claxon_vendor(comments, length, &vendor_at, &vendor_length, &tags, error, sizeof error);
+    expect(status == CLAXON_OK && tags == count, "comments", "the number of tags");
+    expect(vendor_length == (count ? 3u : 0u) && memcmp(comments + vendor_at, "abc", vendor_length) == 0, "comments", "the vendor");
+    for (size_t i = 0; i < count; i++) {
+        status = claxon_next_tag(comments, length, &place, &name_at, &name_length, &value_at, &value_length, error, sizeof error);
+        expect(status == CLAXON_OK && name_length == 1 && value_length == 1, "comments", "a tag");
+        expect(comments[name_at] == 'X' && comments[value_at] == 'Y', "comments", "the text of a tag");
+    }
+    status = claxon_next_tag(comments, length, &place, &name_at, &name_length, &value_at, &value_length, error, sizeof error);
+    expect(status == CLAXON_NO_MORE, "comments", "the end of the tags");
+}
+
+/* Reads every `every`-th block, in pieces of `piece` bytes, and passes over the others. */
+static void test_walk(const struct made *made, size_t every, size_t piece) {
+    struct claxon_stream stream;
+    struct source source = pieces_of(made->bytes, made->length, 10000);
+    struct claxon_metadata metadata, expected;
+    size_t at = 4, i = 0;
+    greatest_request = 0;
+    claxon_stream_init(&stream, read_source, &source);
+    test_tags(stream.comments, stream.comments_length, 0);
+    while (claxon_stream_next_metadata(&stream, &metadata) == CLAXON_OK) {
+        claxon_next_metadata(made->bytes, made->length, &at, &expected);
+        expect(i < BLOCKS && metadata.type == blocks[i].type && metadata.length == blocks[i].length, "a head", "a block");
+        expect(metadata.is_last == (i + 1 == BLOCKS) && metadata.content == expected.content, "a head", "the place of a block");
+        test_tags(stream.comments, stream.comments_length, i >= 3);
+        expect(stream.info.channels == 2 && stream.info.samples == 4 && stream.info.tags == (i >= 3), "a head", "the info so far");
+        if (i % every == 0) {
+            test_content(&stream, made->bytes, &metadata, piece);
+        }
+        i++;
+    }
+    expect(i == BLOCKS && stream.info.first_frame == at && stream.position == at, "a head", "its end");
+    expect(greatest_request <= 65536, "a head", "memory for pictures");
+    expect(claxon_stream_next_metadata(&stream, &metadata) == CLAXON_NO_MORE, "a head", "a block after the end");
+    expect(claxon_stream_content(&stream, made->bytes, 1) == 0, "a head", "content after the end");
+    expect(claxon_stream_next_block(&stream) == CLAXON_OK && stream.samples[15] == 0x1234, "a head", "the frame after it");
+    expect(claxon_stream_next_block(&stream) == CLAXON_NO_MORE, "a head", "the end of the stream");
+    claxon_stream_free(&stream);
+}
+
+static void test_metadata(void) {
+    struct made made = make_pictures();
+    test_walk(&made, 1, 4096);
+    test_walk(&made, 1, 4095);
+    test_walk(&made, 3, 1);
+    test_walk(&made, BLOCKS + 1, 1);
+    free(made.bytes);
+}
+
+/* Frames without a head, after a head that is damaged, and after other bytes. */
+
+static void test_resync_to(const char *name, const struct made *made, uint32_t head, uint64_t first, size_t count) {
+    struct claxon_stream stream;
+    struct source source = pieces_of(made->bytes, made->length, 7);
+    claxon_stream_init(&stream, read_source, &source);
+    if (head != CLAXON_OK) {
+        expect(claxon_stream_next_block(&stream) == head, name, "the head");
+    }
+    for (int i = 0; i < 2; i++) { /* a second time it stays where it is */
+        expect(claxon_stream_resync(&stream) == (count ? CLAXON_OK : CLAXON_NO_MORE), name, "resync");
+        expect(!count || stream.position == first, name, "the position after resync");
+    }
+    for (size_t i = 0; i < count; i++) {
+        expect(claxon_stream_next_block(&stream) == CLAXON_OK && stream.samples[15] == 0x1234, name, "a frame after resync");
+    }
+    expect(claxon_stream_next_block(&stream) == CLAXON_NO_MORE && !stream.error[0], name, "the end after resync");
+    expect(claxon_stream_resync(&stream) == CLAXON_NO_MORE, name, "resync at the end");
+    claxon_stream_free(&stream);
+}
+
+static void test_resync(void) {
+    struct made made = {NULL, 0, 0};
+    test_resync_to("nothing", &made, CLAXON_OK, 0, 0);
+    put(&made, frame, sizeof frame);
+    test_resync_to("a frame alone", &made, CLAXON_OK, 0, 1);
+    put_many(&made, 0xff, 3);
+    put(&made, frame, sizeof frame);
+    put_many(&made, 0xff, 1);
+    made.bytes[0] = 0;
+    test_resync_to("a frame after bytes ff", &made, CLAXON_OK, sizeof frame + 3, 1);
+    made.length = 0;
+    put(&made, "fLaC", 4);
+    put_streaminfo(&made, 0);
+    put_header(&made, 127, 0, 1000);
+    put_many(&made, 0xf8, 100);
+    put(&made, frame, sizeof frame);
+    put(&made, frame, sizeof frame);
+    test_resync_to("a damaged head", &made, CLAXON_FORMAT_ERROR, 4 + 38 + 4 + 100, 2);
+    free(made.bytes);
+}
+
+/* Reading that fails. */
+
+/* The number of frames whose last byte is before `end`. */
+static size_t frames_before(const uint8_t *bytes, size_t length, size_t end) {
+    struct whole whole = {bytes, length, 0, {0}, {0}, ""};
+    size_t count = 0;
+    if (claxon_open(bytes, length, &whole.info, whole.error, sizeof whole.error) == CLAXON_OK) {
+        whole.at = whole.info.first_frame;
+        while (next_of_whole(&whole) == CLAXON_OK && whole.at <= end) {
+            count++;
+        }
+    }
+    return count;
+}
+
+static void test_failing(const char *name, const uint8_t *bytes, size_t length, size_t fails_at) {
+    struct claxon_stream stream;
+    struct source source = pieces_of(bytes, length, any_piece());
+    size_t count = 0;
+    uint32_t status;
+    source.fails_at = fails_at;
+    claxon_stream_init(&stream, read_source, &source);
+    while ((status = claxon_stream_next_block(&stream)) == CLAXON_OK) {
+        count++;
+    }
+    expect(status == CLAXON_INPUT_ENDS && strcmp(stream.error, "reading failed") == 0, name, "the status where reading fails");
+    expect(count == frames_before(bytes, length, fails_at), name, "the frames before reading fails");
+    status = claxon_stream_resync(&stream);
+    expect(status == CLAXON_INPUT_ENDS && strcmp(stream.error, "reading failed") == 0, name, "resync where reading fails");
+    claxon_stream_free(&stream);
+}
+
+/* Memory that is refused. */
+
+/* Decodes, and calls again where memory was refused. */
+static uint32_t decode_refused(struct claxon_stream *stream, struct tally *tally, size_t *refusals) {
+    uint32_t status;
+    do {
+        status = claxon_stream_next_block(stream);
+        if (status == CLAXON_OK) {
+            add_interleaved(tally, stream->samples, &stream->block);
+        } else if (status == CLAXON_OUT_OF_MEMORY) {
+            expect(strcmp(stream->error, "out of memory") == 0, "memory", "the text");
+            refused_request = 0;
+            ++*refusals;
+        }
+    } while (status == CLAXON_OK || (status == CLAXON_OUT_OF_MEMORY && stream->head_status == CLAXON_OK));
+    return status;
+}
+
+static size_t test_refused(const char *name, const uint8_t *bytes, size_t length, struct tally known, size_t request, size_t every) {
+    struct claxon_stream stream;
+    struct source source = pieces_of(bytes, length, 100);
+    struct tally tally = no_samples;
+    size_t refusals = 0;
+    uint32_t status;
+    requests = 0;
+    refused_request = request;
+    claxon_stream_init(&stream, read_source, &source);
+    status = claxon_stream_open(&stream);
+    if (status == CLAXON_OUT_OF_MEMORY) {
+        expect(claxon_stream_next_block(&stream) == status, name, "the status after memory was refused for the head");
+        refusals++;
+    } else {
+        refused_every = every;
+        status = decode_refused(&stream, &tally, &refusals);
+        expect(status == CLAXON_NO_MORE && is_same_tally(tally, known), name, "what is decoded after memory was refused");
+    }
+    refused_request = refused_every = 0;
+    claxon_stream_free(&stream);
+    return refusals;
+}
+
+static void test_memory(const char *name, const uint8_t *bytes, size_t length, struct tally known) {
+    size_t request = 1;
+    while (test_refused(name, bytes, length, known, request, 0) > 0) {
+        request++;
+    }
+    expect(request > 4, name, "the number of requests that were refused");
+    expect(test_refused(name, bytes, length, known, 0, 3) > 0, name, "each third request refused");
+    expect(test_refused(name, bytes, length, known, 0, 2) > 0, name, "each second request refused");
+}
+
+/* A frame that has no end. */
+static void test_endless_frame(void) {
+    struct claxon_stream stream;
+    struct made made = {NULL, 0, 0};
+    struct source source;
+    put(&made, "fLaC", 4);
+    put_streaminfo(&made, 1);
+    put(&made, frame, 7);
+    put_byte(&made, 0x10); /* a fixed predictor of order 0: then a run of zeros is a Rice code */
+    put_many(&made, 0, 20000000);
+    put(&made, frame, sizeof frame);
+    source = pieces_of(made.bytes, made.length, 65536);
+    greatest_request = 0;
+    claxon_stream_init(&stream, read_source, &source);
+    expect(claxon_stream_next_block(&stream) == CLAXON_FORMAT_ERROR, "an endless frame", "its status");
+    expect(strcmp(stream.error, "frame longer than 16777215 bytes") == 0, "an endless frame", "its text");
+    expect(stream.position == 4 + 38, "an endless frame", "its position");
+    expect(greatest_request == CLAXON_MOST_FRAME_BYTES, "an endless frame", "memory for it");
+    expect(source.at <= 4 + 38 + CLAXON_MOST_FRAME_BYTES, "an endless frame", "reading ahead");
+    expect(claxon_stream_resync(&stream) == CLAXON_OK, "an endless frame", "resync");
+    expect(claxon_stream_next_block(&stream) == CLAXON_OK && stream.samples[15] == 0x1234, "an endless frame", "the frame after it");
+    expect(claxon_stream_next_block(&stream) == CLAXON_NO_MORE, "an endless frame", "the end");
+    claxon_stream_free(&stream);
+    free(made.bytes);
+}
+
+static uint8_t *read_file(const char *folder, const char *name, size_t *length) {
+    char path[512];
+    snprintf(path, sizeof path, "%s/%s", folder, name);
+    FILE *file = fopen(path, "rb");
+    uint8_t *bytes = NULL;
+    if (file && fseek(file, 0, SEEK_END) == 0) {
+        *length = (size_t)ftell(file);
+        rewind(file);
+        bytes = malloc(*length + 1);
+        *length = bytes ? fread(bytes, 1, *length, file) : 0;
+    }
+    if (file) {
+        fclose(file);
+    }
+    return bytes;
+}
+
+/* Larger files are left out of what takes time for each byte. */
+#define SMALL 8192
+
+static void test_file(const char *name, const uint8_t *bytes, size_t length, struct tally known, const char *result, unsigned rounds) {
+    int is_ok = strcmp(result, "ok") == 0;
+    test_known(name, bytes, length, known, result);
+    if (length <= SMALL) {
+        test_cut(name, bytes, length);
+        for (size_t i = 0; i < length && is_ok; i += 1 + below(40)) {
+            test_failing(name, bytes, length, i);
+        }
+        if (is_ok) {
+            test_memory(name, bytes, length, known);
+        }
+    }
+    test_damaged(name, bytes, length, length <= SMALL ? rounds : rounds / 50);
+}
+
+static int test_files(const char *folder, unsigned rounds) {
+    char line[512], name[256], result[256];
+    struct tally known;
+    int files = 0;
+    while (fgets(line, sizeof line, stdin)) {
+        size_t length = 0;
+        if (sscanf(line, "%255s %" SCNu64 " %" SCNx64 " %255[^\n]", name, &known.count, &known.hash, result) != 4) {
+            continue;
+        }
+        uint8_t *bytes = read_file(folder, name, &length);
+        expect(bytes != NULL, name, "the file can't be read");
+        if (bytes && (length <= SMALL || rounds > 0)) {
+            test_file(name, bytes, length, known, result, rounds);
+            files++;
+        }
+        free(bytes);
+    }
+    return files;
+}
+
+int main(int argc, char **argv) {
+    unsigned rounds = argc == 3 ? (unsigned)strtoul(argv[2], NULL, 10) : 0;
+    int files = argc == 3 ? test_files(argv[1], rounds) : 0;
+    expect(claxon_version() == CLAXON_VERSION, "claxon_version", "the version of claxon.h");
+    expect(files > 0, "stream", "no files");
+    test_heads(100 * rounds + 100);
+    test_resync();
+    if (rounds > 0) {
+        test_many_blocks();
+        test_long_blocks();
+        test_all_seen();
+        test_metadata();
+        test_endless_frame();
+        expect(damaged_blocks > 0, "stream", "no blocks of damaged files");
+    }
+    printf("stream: %d files, %zu blocks of damaged files, %d failures\n", files, damaged_blocks, failures);
+    return failures != 0;
+}
