@@ -96,10 +96,14 @@ static inline size_t claxon_stream_fread(void *file, uint8_t *bytes, size_t leng
 /* The metadata blocks of a head, as claxon_open limits them. */
 #define CLAXON_STREAM_MOST_BLOCKS 65536
 
-/* How much work may lead to no frame, in bytes and samples, before resync passes over headers; and how much of it a byte
- * that is passed makes good. */
+/* The most bytes of a frame's header. */
+#define CLAXON_STREAM_MOST_HEADER 16
+
+/* How much work may lead to no frame, in bytes and samples, before resync passes over sync codes untried; how much of it a
+ * byte that is passed makes good; and what a call costs in any case. */
 #define CLAXON_STREAM_MOST_WASTED (2 * (uint64_t)CLAXON_MOST_FRAME_BYTES)
 #define CLAXON_STREAM_WASTED_OF_A_BYTE 4
+#define CLAXON_STREAM_WASTED_BY_A_CALL 64
 
 static inline void claxon_stream_init(struct claxon_stream *stream, claxon_stream_read *read, void *source) {
     static const uint8_t no_comments[8] = {0, 0, 0, 0, 0, 0, 0, 0};
@@ -448,21 +452,25 @@ static inline uint32_t claxon_stream_decode(struct claxon_stream *stream, int pl
     return status;
 }
 
-/* Notes that no frame begins at the start of the window, and what finding it out cost at most, if a header stands there. */
-static inline void claxon_stream_refuse(struct claxon_stream *stream) {
-    struct claxon_block block;
-    char error[1];
+/* Reads the header at the start of the window. BUFFER_SHORT: there is one, and `block` is filled. */
+static inline uint32_t claxon_stream_frame_header(struct claxon_stream *stream, struct claxon_block *block) {
+    int32_t samples;
     size_t at = 0;
-    uint32_t status = claxon_next_block(stream->window + stream->start, stream->held, &at, &stream->info, stream->samples, 0,
-                                        &block, error, 0);
+    return claxon_next_block(stream->window + stream->start, stream->held, &at, &stream->info, &samples, 0, block,
+                             stream->error, 0);
+}
+
+/* Notes that no frame begins at the start of the window, and what it cost at most to find out, in bytes and samples. */
+static inline void claxon_stream_refuse(struct claxon_stream *stream, uint32_t header, const struct claxon_block *block) {
     stream->is_refused = 1;
-    stream->wasted += 64;
-    if (status == CLAXON_BUFFER_SHORT) {
-        stream->wasted += stream->held + (uint64_t)block.channels * block.duration;
+    stream->wasted += CLAXON_STREAM_WASTED_BY_A_CALL;
+    if (header == CLAXON_BUFFER_SHORT) {
+        stream->wasted += stream->held + (uint64_t)block->channels * block->duration;
     }
 }
 
 static inline uint32_t claxon_stream_next(struct claxon_stream *stream, int planar) {
+    struct claxon_block block;
     size_t length;
     uint32_t status = claxon_stream_open(stream);
     if (status != CLAXON_OK) {
@@ -472,7 +480,7 @@ static inline uint32_t claxon_stream_next(struct claxon_stream *stream, int plan
     if (status == CLAXON_OK) {
         claxon_stream_pass(stream, length);
     } else if (status != CLAXON_NO_MORE && status != CLAXON_OUT_OF_MEMORY) {
-        claxon_stream_refuse(stream);
+        claxon_stream_refuse(stream, claxon_stream_frame_header(stream, &block), &block);
     }
     return status;
 }
@@ -485,12 +493,12 @@ static inline uint32_t claxon_stream_next_block_planar(struct claxon_stream *str
     return claxon_stream_next(stream, 1);
 }
 
-/* Goes to the next sync code. NO_MORE: none is left. */
+/* Goes to the next sync code, and holds the header that it may begin. NO_MORE: none is left. */
 static inline uint32_t claxon_stream_next_sync(struct claxon_stream *stream) {
     for (;;) {
         const uint8_t *bytes;
         size_t at = 0;
-        uint32_t status = claxon_stream_hold(stream, 2);
+        uint32_t status = claxon_stream_hold(stream, CLAXON_STREAM_MOST_HEADER);
         if (status != CLAXON_OK) {
             return status;
         }
@@ -502,7 +510,7 @@ static inline uint32_t claxon_stream_next_sync(struct claxon_stream *stream) {
             at++;
         }
         claxon_stream_pass(stream, at);
-        if (stream->held >= 2) {
+        if (stream->held >= CLAXON_STREAM_MOST_HEADER || (stream->held >= 2 && stream->has_ended)) {
             return CLAXON_OK;
         }
     }
@@ -515,17 +523,21 @@ static inline uint32_t claxon_stream_resync(struct claxon_stream *stream) {
         claxon_stream_pass(stream, 1);
     }
     for (;;) {
+        struct claxon_block block;
         size_t length;
-        uint32_t status = claxon_stream_next_sync(stream);
+        uint32_t header, status = claxon_stream_next_sync(stream);
         if (status != CLAXON_OK) {
             return status;
         }
         if (stream->wasted <= CLAXON_STREAM_MOST_WASTED) {
-            status = claxon_stream_decode(stream, 0, &length);
-            if (status == CLAXON_OK || status == CLAXON_OUT_OF_MEMORY) {
-                return status;
+            header = claxon_stream_frame_header(stream, &block);
+            if (header != CLAXON_FORMAT_ERROR && header != CLAXON_UNSUPPORTED) {
+                status = claxon_stream_decode(stream, 0, &length);
+                if (status == CLAXON_OK || status == CLAXON_OUT_OF_MEMORY) {
+                    return status;
+                }
             }
-            claxon_stream_refuse(stream);
+            claxon_stream_refuse(stream, header, &block);
         }
         claxon_stream_pass(stream, 1);
     }

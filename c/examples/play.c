@@ -7,7 +7,9 @@ static int play(FILE *file) {
     while (claxon_stream_next_block(&stream) == CLAXON_OK) {
         fwrite(stream.samples, 4, (size_t)stream.block.channels * stream.block.duration, stdout);
     }
-    fprintf(stderr, stream.error[0] ? "%s\n" : "", stream.error);
+    if (stream.error[0]) {
+        fprintf(stderr, "%s\n", stream.error);
+    }
     claxon_stream_free(&stream);
     return stream.error[0] != 0;
 }

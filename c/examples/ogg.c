@@ -1,0 +1,80 @@
+/* ogg FILE: writes the samples of an Ogg FLAC file, of one stream, as play does. It trusts the pages: their CRCs and numbers
+ * aren't looked at. */
+#include <stdio.h>
+#include <string.h>
+
+#include "claxon.h"
+
+struct ogg {
+    FILE *file;
+    uint8_t lengths[255]; /* of the page's segments */
+    size_t segments, next;
+    size_t length; /* of the packet */
+    uint8_t packet[CLAXON_MOST_FRAME_BYTES];
+};
+
+static int next_page(struct ogg *ogg) {
+    uint8_t header[27];
+    if (fread(header, 1, 27, ogg->file) != 27 || memcmp(header, "OggS", 4) != 0) {
+        return 0;
+    }
+    ogg->segments = header[26];
+    ogg->next = 0;
+    return fread(ogg->lengths, 1, ogg->segments, ogg->file) == ogg->segments;
+}
+
+/* Reads a packet. Returns 0 at the end of the file, and where it isn't Ogg. */
+static int next_packet(struct ogg *ogg) {
+    size_t length = 255;
+    ogg->length = 0;
+    while (length == 255) {
+        if (ogg->next == ogg->segments) {
+            if (!next_page(ogg)) {
+                return 0;
+            }
+            continue;
+        }
+        length = ogg->lengths[ogg->next++];
+        if (length > sizeof ogg->packet - ogg->length ||
+            fread(ogg->packet + ogg->length, 1, length, ogg->file) != length) {
+            return 0;
+        }
+        ogg->length += length;
+    }
+    return 1;
+}
+
+/* The first packet has the content of the streaminfo block at 17. Then a packet is a metadata block or a frame. */
+static uint32_t play_packets(struct ogg *ogg, char *error, size_t error_size) {
+    static int32_t samples[CLAXON_MOST_SAMPLES];
+    struct claxon_info info;
+    struct claxon_block block;
+    size_t start = next_packet(ogg) && ogg->length > 17 ? 17 : ogg->length;
+    uint32_t status = claxon_streaminfo(ogg->packet + start, ogg->length - start, &info, error, error_size);
+    while (status == CLAXON_OK && next_packet(ogg)) {
+        size_t at = 0;
+        if (ogg->length > 0 && ogg->packet[0] == 0xff) {
+            status = claxon_next_block(ogg->packet, ogg->length, &at, &info, samples, CLAXON_MOST_SAMPLES, &block, error, error_size);
+            if (status == CLAXON_OK) {
+                fwrite(samples, 4, (size_t)block.channels * block.duration, stdout);
+            }
+        }
+    }
+    return status;
+}
+
+int main(int argc, char **argv) {
+    static struct ogg ogg;
+    char error[128];
+    ogg.file = argc == 2 ? fopen(argv[1], "rb") : NULL;
+    if (!ogg.file) {
+        fprintf(stderr, "usage: ogg FILE\n");
+        return 2;
+    }
+    uint32_t status = play_packets(&ogg, error, sizeof error);
+    if (status != CLAXON_OK) {
+        fprintf(stderr, "%s\n", error);
+    }
+    fclose(ogg.file);
+    return fflush(stdout) != 0 || status != CLAXON_OK;
+}

@@ -1,0 +1,42 @@
+/* tags FILE: prints the tags of a FLAC file, and reads no further than its Vorbis comments. */
+#include "claxon_stream.h"
+
+static void print_tags(const uint8_t *comments, size_t length) {
+    size_t place = 0, name_at, name_length, value_at, value_length;
+    char error[128];
+    while (claxon_next_tag(comments, length, &place, &name_at, &name_length, &value_at, &value_length, error, sizeof error) ==
+           CLAXON_OK) {
+        fwrite(comments + name_at, 1, name_length, stdout);
+        putchar('=');
+        fwrite(comments + value_at, 1, value_length, stdout);
+        putchar('\n');
+    }
+}
+
+static int read_tags(FILE *file) {
+    struct claxon_stream stream;
+    struct claxon_metadata metadata;
+    uint32_t status;
+    claxon_stream_init(&stream, claxon_stream_fread, file);
+    do {
+        status = claxon_stream_next_metadata(&stream, &metadata);
+    } while (status == CLAXON_OK && metadata.type != CLAXON_VORBIS_COMMENT);
+    if (status == CLAXON_OK) {
+        print_tags(stream.comments, stream.comments_length);
+    } else if (status != CLAXON_NO_MORE) {
+        fprintf(stderr, "%s\n", stream.error);
+    }
+    claxon_stream_free(&stream);
+    return status != CLAXON_OK && status != CLAXON_NO_MORE;
+}
+
+int main(int argc, char **argv) {
+    FILE *file = argc == 2 ? fopen(argv[1], "rb") : NULL;
+    if (!file) {
+        fprintf(stderr, "usage: tags FILE\n");
+        return 2;
+    }
+    int failed = read_tags(file);
+    fclose(file);
+    return fflush(stdout) != 0 || failed;
+}
