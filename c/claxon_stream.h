@@ -422,6 +422,19 @@ static inline uint32_t claxon_stream_hold_more(struct claxon_stream *stream) {
     return claxon_stream_hold(stream, count);
 }
 
+/* Decodes the frame at the start of the window, if the bytes that are held and the samples suffice. */
+static inline uint32_t claxon_stream_try_frame(struct claxon_stream *stream, int planar, size_t *length,
+                                               struct claxon_block *block) {
+    const uint8_t *bytes = stream->window + stream->start;
+    *length = 0;
+    if (planar) {
+        return claxon_next_block_planar(bytes, stream->held, length, &stream->info, stream->samples, stream->samples_size,
+                                        block, stream->error, sizeof stream->error);
+    }
+    return claxon_next_block(bytes, stream->held, length, &stream->info, stream->samples, stream->samples_size, block,
+                             stream->error, sizeof stream->error);
+}
+
 /* Decodes the frame at the start of the window. With CLAXON_OK, `length` is its length in bytes. */
 static inline uint32_t claxon_stream_decode(struct claxon_stream *stream, int planar, size_t *length) {
     struct claxon_block block;
@@ -430,11 +443,7 @@ static inline uint32_t claxon_stream_decode(struct claxon_stream *stream, int pl
         status = claxon_stream_hold_samples(stream, 8192);
     }
     while (status == CLAXON_OK) {
-        size_t held = stream->held;
-        *length = 0;
-        status = (planar ? claxon_next_block_planar : claxon_next_block)(
-            stream->window + stream->start, held, length, &stream->info, stream->samples, stream->samples_size, &block,
-            stream->error, sizeof stream->error);
+        status = claxon_stream_try_frame(stream, planar, length, &block);
         if (status == CLAXON_OK) {
             stream->block = block;
             return claxon_stream_no_fault(stream, status);

@@ -1,4 +1,4 @@
-/* damaged FILE: writes samples as play does, and goes on after damage. It prints what is wrong and which samples are missing. */
+/* damaged FILE: writes samples as play does, and goes on after damage: it prints what is wrong, and what is missing. */
 #include <inttypes.h>
 
 #include "claxon_stream.h"
@@ -9,8 +9,8 @@ static void play_on(struct claxon_stream *stream) {
     while (status == CLAXON_OK) {
         status = claxon_stream_next_block(stream);
         if (status == CLAXON_OK) {
-            if (stream->block.time != next) {
-                fprintf(stderr, "from sample %" PRIu64 " on to %" PRIu64 "\n", next, stream->block.time);
+            if (stream->block.time > next) {
+                fprintf(stderr, "samples %" PRIu64 " to %" PRIu64 " are missing\n", next, stream->block.time - 1);
             }
             next = stream->block.time + stream->block.duration;
             fwrite(stream->samples, 4, (size_t)stream->block.channels * stream->block.duration, stdout);

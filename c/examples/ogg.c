@@ -35,8 +35,7 @@ static int next_packet(struct ogg *ogg) {
             continue;
         }
         length = ogg->lengths[ogg->next++];
-        if (length > sizeof ogg->packet - ogg->length ||
-            fread(ogg->packet + ogg->length, 1, length, ogg->file) != length) {
+        if (length > sizeof ogg->packet - ogg->length || fread(ogg->packet + ogg->length, 1, length, ogg->file) != length) {
             return 0;
         }
         ogg->length += length;
@@ -45,16 +44,16 @@ static int next_packet(struct ogg *ogg) {
 }
 
 /* The first packet has the content of the streaminfo block at 17. Then a packet is a metadata block or a frame. */
-static uint32_t play_packets(struct ogg *ogg, char *error, size_t error_size) {
+static uint32_t play_packets(struct ogg *ogg, char error[128]) {
     static int32_t samples[CLAXON_MOST_SAMPLES];
     struct claxon_info info;
     struct claxon_block block;
     size_t start = next_packet(ogg) && ogg->length > 17 ? 17 : ogg->length;
-    uint32_t status = claxon_streaminfo(ogg->packet + start, ogg->length - start, &info, error, error_size);
+    uint32_t status = claxon_streaminfo(ogg->packet + start, ogg->length - start, &info, error, 128);
     while (status == CLAXON_OK && next_packet(ogg)) {
         size_t at = 0;
         if (ogg->length > 0 && ogg->packet[0] == 0xff) {
-            status = claxon_next_block(ogg->packet, ogg->length, &at, &info, samples, CLAXON_MOST_SAMPLES, &block, error, error_size);
+            status = claxon_next_block(ogg->packet, ogg->length, &at, &info, samples, CLAXON_MOST_SAMPLES, &block, error, 128);
             if (status == CLAXON_OK) {
                 fwrite(samples, 4, (size_t)block.channels * block.duration, stdout);
             }
@@ -71,7 +70,7 @@ int main(int argc, char **argv) {
         fprintf(stderr, "usage: ogg FILE\n");
         return 2;
     }
-    uint32_t status = play_packets(&ogg, error, sizeof error);
+    uint32_t status = play_packets(&ogg, error);
     if (status != CLAXON_OK) {
         fprintf(stderr, "%s\n", error);
     }

@@ -23,11 +23,12 @@ static int read_tags(FILE *file) {
     } while (status == CLAXON_OK && metadata.type != CLAXON_VORBIS_COMMENT);
     if (status == CLAXON_OK) {
         print_tags(stream.comments, stream.comments_length);
-    } else if (status != CLAXON_NO_MORE) {
+    }
+    if (stream.error[0]) {
         fprintf(stderr, "%s\n", stream.error);
     }
     claxon_stream_free(&stream);
-    return status != CLAXON_OK && status != CLAXON_NO_MORE;
+    return stream.error[0] != 0;
 }
 
 int main(int argc, char **argv) {

@@ -28,7 +28,8 @@ static size_t read_bytes(void *from, uint8_t *bytes, size_t length) {
 }
 
 /* A head without comments: one channel of 16 bits. */
-static const uint8_t head[42] = {'f', 'L', 'a', 'C', 0x80, 0, 0, 34, 0, 16, 0xff, 0xff, 0, 0, 0, 0, 0, 0, 0x0a, 0xc4, 0x40, 0xf0};
+static const uint8_t head[42] = {'f',  'L', 'a', 'C', 0x80, 0, 0, 34,   0,    16,   0xff,
+                                 0xff, 0,   0,   0,   0,    0, 0, 0x0a, 0xc4, 0x40, 0xf0};
 
 /* A frame of 16 samples of 16 bits, each 0x1234. */
 static const uint8_t frame[] = {0xff, 0xf8, 0x69, 0x08, 0x00, 0x0f, 0x30, 0x00, 0x12, 0x34, 0xaa, 0x3b};
@@ -46,7 +47,8 @@ static uint8_t crc8(const uint8_t *bytes, size_t length) {
 
 /* The header of a frame of 16 bits with so many channels and samples of each. Returns its length. */
 static size_t put_frame_header(uint8_t *bytes, unsigned channels, unsigned duration) {
-    const uint8_t header[7] = {0xff, 0xf8, 0x79, (uint8_t)((channels - 1) << 4 | 0x08), 0x00, (uint8_t)((duration - 1) >> 8), (uint8_t)(duration - 1)};
+    const uint8_t header[7] = {
+        0xff, 0xf8, 0x79, (uint8_t)((channels - 1) << 4 | 0x08), 0x00, (uint8_t)((duration - 1) >> 8), (uint8_t)(duration - 1)};
     memcpy(bytes, header, 7);
     bytes[7] = crc8(header, 7);
     return 8;
@@ -235,7 +237,8 @@ static int test_kind(const struct kind *kind, struct bytes *source, size_t lengt
     clock_t start = clock();
     int is_found = read_stream(source);
     double seconds = (double)(clock() - start) / CLOCKS_PER_SEC;
-    printf("hostile: %6.3f s, %s%s%s\n", seconds, kind->name, is_found ? "" : ": the last frame isn't found", seconds <= most ? "" : ": too slow");
+    printf("hostile: %6.3f s, %s%s%s\n", seconds, kind->name, is_found ? "" : ": the last frame isn't found",
+           seconds <= most ? "" : ": too slow");
     fflush(stdout);
     return is_found && seconds <= most;
 }

@@ -93,7 +93,8 @@ int main(int argc, char **argv) {
         return 2;
     }
     size_t start = put_head(length), at = start;
-    while (claxon_next_block(bytes, length, &at, &info, samples, CLAXON_MOST_SAMPLES, &block, error, sizeof error) == CLAXON_OK) {
+    while (claxon_next_block(bytes, length, &at, &info, samples, CLAXON_MOST_SAMPLES, &block, error, sizeof error) ==
+           CLAXON_OK) {
         put_packet(bytes + start, at - start);
         start = at;
     }
