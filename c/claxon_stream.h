@@ -64,8 +64,8 @@ static inline void claxon_stream_free(struct claxon_stream *stream);
  * head that has one is at its end. */
 static inline uint32_t claxon_stream_next_metadata(struct claxon_stream *stream, struct claxon_metadata *metadata);
 
-/* Reads the next bytes of the content of that block. Returns their number: less than `length` where its content, the stream
- * or memory ends. */
+/* Reads the next bytes of the content of that block. Returns their number: less than `length` where its content or the
+ * stream ends. */
 static inline size_t claxon_stream_content(struct claxon_stream *stream, uint8_t *bytes, size_t length);
 
 /* Reads the head, or what is left of it. With CLAXON_OK, the stream is at its first frame or after it. Else as
@@ -80,9 +80,9 @@ static inline uint32_t claxon_stream_next_block(struct claxon_stream *stream);
 /* As claxon_stream_next_block, with the samples of one channel after those of another. */
 static inline uint32_t claxon_stream_next_block_planar(struct claxon_stream *stream);
 
-/* Goes to the next position at which a frame decodes: after what was refused, in the head too. block.time of that frame says
- * how much is missing before it. NO_MORE: there is none. Its time grows as the number of bytes: where very many headers of
- * frames have led to no frame, as only a forged stream has them, it passes over some untried. */
+/* Goes to the next position at which a frame decodes: after what was refused, in the head too. claxon_stream_next_block gives
+ * that frame, whose block.time says how much is missing before it. NO_MORE: there is none. The time is linear in the bytes:
+ * where very many headers have led to no frame, as in a stream that was made for it, some are passed over untried. */
 static inline uint32_t claxon_stream_resync(struct claxon_stream *stream);
 
 /* A claxon_stream_read whose source is a FILE *. */
@@ -93,8 +93,9 @@ static inline size_t claxon_stream_fread(void *file, uint8_t *bytes, size_t leng
 /* How many bytes are read at once where no more are needed. */
 #define CLAXON_STREAM_STEP 65536
 
-/* The metadata blocks of a head, as claxon_open limits them. */
+/* The metadata blocks of a head, and the length of an application block, as claxon_open limits them. */
 #define CLAXON_STREAM_MOST_BLOCKS 65536
+#define CLAXON_STREAM_MOST_APPLICATION (10 * 1024 * 1024)
 
 /* The most bytes of a frame's header. */
 #define CLAXON_STREAM_MOST_HEADER 16
@@ -348,11 +349,14 @@ static inline uint32_t claxon_stream_try_metadata(struct claxon_stream *stream, 
     static const uint8_t no_streaminfo[8] = {'f', 'L', 'a', 'C', 0x80 | CLAXON_PADDING, 0, 0, 0};
     struct claxon_info info;
     uint8_t *header = stream->head + stream->head_length;
-    uint32_t status;
+    uint32_t status, length = metadata->length;
+    if (metadata->type == CLAXON_APPLICATION && length >= 4 && length <= CLAXON_STREAM_MOST_APPLICATION) {
+        length = 4; /* claxon_open allocates memory for all of it */
+    }
     header[0] = (uint8_t)(0x80 | metadata->type);
-    header[1] = (uint8_t)(metadata->length >> 16);
-    header[2] = (uint8_t)(metadata->length >> 8);
-    header[3] = (uint8_t)metadata->length;
+    header[1] = (uint8_t)(length >> 16);
+    header[2] = (uint8_t)(length >> 8);
+    header[3] = (uint8_t)length;
     status = claxon_open(stream->head, stream->head_length + 4, &info, stream->error, sizeof stream->error);
     if (status != CLAXON_INPUT_ENDS) {
         return status;

@@ -532,8 +532,9 @@ struct made_block {
 };
 
 /* A head with two pictures of the greatest length, and comments with a tag; one frame follows. */
-static const struct made_block blocks[] = {{CLAXON_STREAMINFO, 34},     {CLAXON_PICTURE, 0xffffff}, {CLAXON_APPLICATION, 100},
-                                           {CLAXON_VORBIS_COMMENT, 18}, {CLAXON_PICTURE, 0xffffff}, {CLAXON_PADDING, 0}};
+static const struct made_block blocks[] = {{CLAXON_STREAMINFO, 34},       {CLAXON_PICTURE, 0xffffff},
+                                           {CLAXON_APPLICATION, 1000000}, {CLAXON_VORBIS_COMMENT, 18},
+                                           {CLAXON_PICTURE, 0xffffff},    {CLAXON_PADDING, 0}};
 
 #define BLOCKS (sizeof blocks / sizeof *blocks)
 
@@ -654,6 +655,11 @@ static void test_resync(void) {
     put_many(&made, 0xff, 1);
     made.bytes[0] = 0;
     test_resync_to("a frame after bytes ff", &made, CLAXON_OK, sizeof frame + 3, 1);
+    made.length = 0;
+    put(&made, frame, 6);
+    put_byte(&made, frame[6] ^ 1u);
+    put(&made, frame, sizeof frame);
+    test_resync_to("a frame after a header with a wrong CRC", &made, CLAXON_OK, 7, 1);
     made.length = 0;
     put(&made, "fLaC", 4);
     put_streaminfo(&made, 0);
