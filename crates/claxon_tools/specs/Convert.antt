@@ -1,5 +1,5 @@
 -- The clauses of `put_blocks` and `convert`.
-use Rattle.std.specs.Prelude.{All, ◌≡◌, ◌⊎◌, ℕ, ◌+◌, ◌<◌, true, List, ◌++◌, length, Option, Result, IfErr, OnOk}
+use Rattle.std.specs.Prelude.{All, ◌≡◌, ◌⊎◌, ℕ, ◌+◌, ◌<◌, List, ◌++◌, length, Option, Result, IfErr, OnOk}
 use Rattle.std.specs.Io.KnownBytes.{Appends}
 use Rattle.claxon.specs.Bits.{FitsIn}
 use Rattle.claxon.specs.Fault.{Fault}

@@ -1,5 +1,5 @@
 -- The clauses of `write_samples`, about the remaining input and the contents of the writer before and after.
-use Rattle.std.specs.Prelude.{◌≡◌, ◌⊎◌, ℕ, ◌<◌, ◌^◌, true, List, ◌++◌, length, Option, Some, Result, Ok, IfOk, IfErr, IsErrAnd}
+use Rattle.std.specs.Prelude.{◌≡◌, ◌⊎◌, ℕ, ◌<◌, ◌^◌, List, ◌++◌, length, Option, Some, Result, Ok, IfOk, IfErr, IsErrAnd}
 use Rattle.claxon.specs.Fault.{Fault}
 use Rattle.claxon.specs.Frame.{Block, FrameBytesFault, Frames, StreamFormat}
 use Rattle.claxon.specs.FrameReader.{stream_with}
