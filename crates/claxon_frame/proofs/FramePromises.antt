@@ -18,7 +18,7 @@ use Rattle.claxon_frame.proofs.FrameParts.{start_stops}
 use Rattle.claxon_input.proofs.FieldOrEofPromises.{eof_promises}
 
 -- fewer than two bytes are an incomplete header
-incomplete_start : (stream : Option StreamFormat) (s : List ℕ) → length s < 2 → start_at stream s ≡ Incomplete
+pub incomplete_start : (stream : Option StreamFormat) (s : List ℕ) → length s < 2 → start_at stream s ≡ Incomplete
 unfolding start_at fields_with_crc_at fields_at sync_at big_at bytes_at
 incomplete_start stream s h =
     let b : ltb (length s) 2 ≡ true = lt-ltb _ _ h in rw b refl

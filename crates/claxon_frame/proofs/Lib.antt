@@ -9,3 +9,4 @@ pub mod FrameParts
 pub mod FrameSteps
 pub mod FrameCrcOverBorrow
 pub mod FramePromises
+pub mod BlockInfo

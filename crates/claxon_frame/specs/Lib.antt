@@ -1,5 +1,6 @@
 pub mod FrameStart
 pub mod FrameReader
+pub mod BlockInfo
 pub mod FrameHeader
 pub mod Block
 pub mod Subframes

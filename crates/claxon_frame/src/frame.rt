@@ -16,15 +16,18 @@ ghost use Rattle.claxon_frame.specs.Subframes.{CodedChannelsAreRead, SubframesAr
 
 mod block;
 mod header;
+mod info;
 mod stereo;
 
 pub use block::{Block, StereoSamples};
+pub use info::BlockInfo;
 use claxon_input::crc::Crc16Reader;
 use claxon_input::error::{Error, Result};
 use claxon_input::input::{Bitstream, ReadBytes};
 use claxon_metadata::metadata::StreamInfo;
 use claxon_subframe::subframe;
 use header::{FrameHeader, KnownStreamFormat, read_frame_header_or_eof};
+use info::read_block_info_or_eof;
 use std::alloc::{Allocator, Global};
 use stereo::undo_decorrelation;
 
@@ -42,6 +45,7 @@ pub struct FrameReader<R> {
 pub type FrameResult<A = Global> = Result<Option<Block<A>>>;
 
 impl<R: ReadBytes> FrameReader<R> {
+    ghost use Rattle.claxon_frame.specs.BlockInfo.{HasBlockBounds, HeaderElseIoError, HeaderEofIsNone, HeaderFailureIsErr, HeaderFaultIsComplete, HeaderFaultIsSound, HeaderIsComplete, HeaderIsRead, HeaderIsSound, HeaderIsUnambiguous, HeaderLeavesRest, HeaderNeverOutOfMemory, HeaderNoneIsEof};
     ghost use Rattle.claxon_frame.specs.FrameReader.{BlockHasSamples, BlockKeepsCapacity, FrameFaultIsComplete, FrameIsComplete, FailureIsErr, FrameFaultIsSound, FrameIsRead, FrameIsUnambiguous, FrameLeavesRest, FrameIsSound, FrameElseIoError, FrameNoneIsEof, PlansHaveBytes, PlansWriteFrames, FrameOutOfMemoryAfterHeader, MaxCapacityIsEnough, FrameEofIsNone, frame_input, frame_stream, stream_with};
 
     /// A reader that knows nothing of the stream: each frame header has to give the bit depth.
@@ -112,6 +116,36 @@ impl<R: ReadBytes> FrameReader<R> {
         ensures gives { FrameIsRead R.source self.old result self.new }
     {
         read_next_or_eof_exact(&mut self.input, self.stream, buffer)
+    }
+
+    /// Reads the header of the next frame alone, with its CRC-8, and says what it says of the block.
+    ///
+    /// So the size of a block is known before its samples are decoded. The subframes aren't read: the next call starts after
+    /// the header. To decode the frame, read it from its first byte. None if fewer than two bytes are left, which are consumed.
+    /// (RFC 9639, section 9.1.)
+    ///
+    /// # Errors
+    ///
+    /// `FormatError` if the bytes aren't a header, also if the CRC is wrong; `Unsupported` for a bit depth that neither header
+    /// nor streaminfo gives, or a side channel of 33 bits. `IoError` if the source fails or ends inside the header. Never
+    /// `OutOfMemory`. After an error the next call starts at the first byte that wasn't consumed.
+    pub fn read_header_or_eof(&mut self) -> Result<Option<BlockInfo>>
+        ensures stream { frame_stream self.new ≡ frame_stream self.old }
+        ensures bounds { HasBlockBounds result }
+        ensures sound { HeaderIsSound R.source self.old result self.new }
+        ensures complete { HeaderIsComplete R.source self.old result self.new }
+        ensures unambiguous { HeaderIsUnambiguous (frame_stream self.old) }
+        ensures none_is_eof { HeaderNoneIsEof R.source self.old result self.new }
+        ensures eof_is_none { HeaderEofIsNone R.source self.old result self.new }
+        ensures no_failure { HeaderFailureIsErr R.source self.old result self.new }
+        ensures fault { HeaderFaultIsSound R.source self.old result self.new }
+        ensures named { HeaderFaultIsComplete R.source self.old result self.new }
+        ensures io { HeaderElseIoError R.source self.old result self.new }
+        ensures front { HeaderLeavesRest R.source self.old result self.new }
+        ensures no_memory { HeaderNeverOutOfMemory result }
+        ensures gives { HeaderIsRead R.source self.old result self.new }
+    {
+        read_block_info_or_eof(&mut self.input, self.stream)
     }
 
     /// The wrapped reader.

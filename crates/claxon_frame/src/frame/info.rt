@@ -1,0 +1,52 @@
+//! What the header of a frame says of its block.
+ghost use Rattle.std.specs.Prelude.{◌≡◌};
+ghost use Rattle.claxon_frame.specs.BlockInfo.{HasBlockBounds, HeaderInfoIsRead, info_of_header};
+ghost use Rattle.claxon_frame.specs.FrameStart.{stream_format_view};
+
+use crate::frame::header::{FrameHeader, KnownStreamFormat, read_frame_header_or_eof};
+use claxon_input::error::Result;
+use claxon_input::input::ReadBytes;
+
+/// What the header of a frame says of its block.
+#[derive(Clone, Copy, Debug)]
+pub struct BlockInfo {
+    /// The number of samples of each channel before the block.
+    pub time: u64,
+
+    /// The number of channels, 1 to 8.
+    pub channels: u32,
+
+    /// The number of samples of each channel, 1 to 65,535.
+    pub duration: u32,
+
+    /// The bit depth: that of the stream where the header gives none.
+    pub bits_per_sample: u32,
+}
+
+impl BlockInfo {
+    fn new(header: &FrameHeader) -> BlockInfo
+        ensures { result ≡ info_of_header header.now }
+    {
+        BlockInfo {
+            time: header.time,
+            channels: u32::from(header.channel_assignment.channels()),
+            duration: u32::from(header.block_size),
+            bits_per_sample: header.bits_per_sample,
+        }
+    }
+}
+
+// What the header of the next frame says. None if fewer than two bytes were left, which are consumed.
+pub(super) fn read_block_info_or_eof<R: ReadBytes>(
+    input: &mut R,
+    stream: Option<KnownStreamFormat>,
+) -> Result<Option<BlockInfo>>
+    ensures gives { HeaderInfoIsRead R.source (stream_format_view stream)
+        input.old result input.new }
+    ensures bounds { HasBlockBounds result }
+{
+    let Some(header) = read_frame_header_or_eof(input, stream)? else {
+        return Ok(None);
+    };
+    Ok(Some(BlockInfo::new(&header)))
+}
