@@ -10,3 +10,4 @@ pub mod FrameSteps
 pub mod FrameCrcOverBorrow
 pub mod FramePromises
 pub mod BlockInfo
+pub mod FrameHeaders
