@@ -2,6 +2,8 @@ pub use Rattle.claxon_input.proofs.ConsecutiveCalls
 pub use Rattle.claxon_format.proofs.Streams
 pub use Rattle.claxon_format.proofs.FormatLaws
 pub use Rattle.claxon_input.proofs.InMemory
+pub use Rattle.claxon_frame.proofs.BlockInfo
+pub use Rattle.claxon_frame.proofs.FrameHeaders
 pub mod HeadMemory
 pub mod HeadParts
 pub mod ErrorTexts

@@ -24,7 +24,9 @@ pub use Rattle.claxon_metadata.specs.MetadataBlock
 pub use Rattle.claxon_metadata.specs.MetadataBlockReader
 pub use Rattle.claxon_frame.specs.Block
 pub use Rattle.claxon_frame.specs.FrameReader
+pub use Rattle.claxon_frame.specs.BlockInfo
 pub use Rattle.claxon_frame.specs.declared.frame.FrameReader as FrameReaders
+pub use Rattle.claxon_frame.specs.declared.frame.info.BlockInfo as BlockInfos
 pub use Rattle.claxon_frame.specs.Decorrelation
 pub mod ReadHead
 pub mod FlacReader

@@ -50,7 +50,7 @@ pub mod input {
 
 /// Frames: blocks of samples, one after another.
 pub mod frame {
-    pub use claxon_frame::frame::{Block, FrameReader, FrameResult, StereoSamples};
+    pub use claxon_frame::frame::{Block, BlockInfo, FrameReader, FrameResult, StereoSamples};
 }
 
 /// Metadata at the beginning of a stream.

@@ -1,5 +1,5 @@
 -- What private calls return for the start of bytes, and how many bytes it has.
-use Rattle.std.specs.Prelude.{◌≡◌, ◌⊎◌, ℕ, true, List, ◌++◌, length, Option, Result, IfOk, IfSome, IsErrAnd, IsOkAnd}
+use Rattle.std.specs.Prelude.{◌≡◌, ◌⊎◌, ℕ, ◌*◌, ◌<◌, true, List, ◌++◌, length, Option, None, Some, Result, IfOk, IfSome, IsErrAnd, IsOkAnd}
 use Rattle.claxon.specs.Fault.{Fault}
 use Rattle.claxon.specs.Frame.{StreamFormat, Frame}
 use Rattle.claxon.specs.Heads.{Head, HeadCode, HeadFault, Marker, stream_marker}
@@ -10,7 +10,9 @@ use Rattle.claxon.specs.Errors.{Error}
 use Rattle.claxon.specs.OtherErrors.{IfOtherErr}
 use Rattle.claxon.specs.StreamInfos.{StreamInfo}
 use Rattle.claxon.specs.MetadataBlock.{HasBounds}
-use Rattle.claxon.specs.FrameReader.{FrameAnswer, block_view}
+use Rattle.claxon.specs.BlockInfo.{HeaderOf}
+use Rattle.claxon.specs.BlockInfos.{BlockInfo}
+use Rattle.claxon.specs.FrameReader.{FrameAnswer, HeaderOfLargerBlock, block_view}
 use Rattle.claxon.specs.ReadHead.{MemoryMayBeNeeded}
 use Rattle.claxon.specs.Prefix.{BeginsWith}
 use Rattle.claxon.specs.FramesInMemory.{SliceFrameIsComplete, SliceFrameFaultIsComplete, SliceFrameFaultIsSound, SliceFrameNoneIffEof, SliceFrameOutOfMemoryAfterHeader}
@@ -37,3 +39,10 @@ pub record FrameAtStart (stream : Option StreamFormat) (bytes : List ℕ) (r : F
   pub fault : SliceFrameFaultIsSound stream bytes r
   pub named : SliceFrameFaultIsComplete stream bytes r
   pub memory : SliceFrameOutOfMemoryAfterHeader stream bytes r
+
+-- The bytes begin with the header of a block that has more samples than the capacity, which says what is returned. Or they don't.
+abbrev pub LargerBlockAtStart : Option StreamFormat → ℕ → List ℕ → Option BlockInfo → Type 0
+LargerBlockAtStart stream capacity bytes None =
+    BeginsWith (HeaderOfLargerBlock stream capacity) bytes → ⊥
+LargerBlockAtStart stream capacity bytes (Some info) =
+    BeginsWith (HeaderOf stream info) bytes × (capacity < info.channels * info.duration)

@@ -6,9 +6,9 @@ ghost use Rattle.claxon.specs.Cursor.{cursor_left};
 ghost use Rattle.claxon.specs.ReadHead.{head_view};
 ghost use Rattle.claxon.specs.FlacReader.{HasBitDepth};
 ghost use Rattle.claxon.specs.FrameReader.{frame_input, frame_stream, stream_with};
-ghost use Rattle.claxon_c.specs.AtStart.{FrameAtStart, HeadAtStart};
+ghost use Rattle.claxon_c.specs.AtStart.{FrameAtStart, HeadAtStart, LargerBlockAtStart};
 
-use claxon::frame::{FrameReader, FrameResult};
+use claxon::frame::{BlockInfo, FrameReader, FrameResult};
 use claxon::metadata::{StreamInfo, VorbisComment};
 use claxon::{FlacReaderOptions, Result, read_head};
 use std::alloc::Global;
@@ -46,6 +46,26 @@ pub(crate) fn block_at_start(
     let found = frames.read_next_or_eof(Vec::new(alloc));
     *taken = bytes.len().saturating_sub(left_in(&frames.into_inner()));
     found
+}
+
+// What the header says that the bytes begin with, if its block has more samples than this capacity. Else None, also where
+// there is no header.
+pub(crate) fn larger_block_at_start(
+    bytes: &[u8],
+    known: Option<StreamInfo>,
+    capacity: usize,
+) -> Option<BlockInfo>
+    requires { IfSome known (λ info. HasBitDepth info) }
+    ensures { LargerBlockAtStart (option_map stream_with known) capacity bytes.now result }
+{
+    let mut frames = frames_of(bytes, known);
+    let Ok(Some(info)) = frames.read_header_or_eof() else {
+        return None;
+    };
+    if info.channels as usize * info.duration as usize <= capacity {
+        return None;
+    }
+    Some(info)
 }
 
 // A reader of the frames in the bytes.
