@@ -3,3 +3,4 @@ pub mod BlockCalls
 pub mod HeadCalls
 pub mod InterleavedSamples
 pub mod Reports
+pub mod HeadersAtStart

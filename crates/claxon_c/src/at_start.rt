@@ -59,13 +59,17 @@ pub(crate) fn larger_block_at_start(
     ensures { LargerBlockAtStart (option_map stream_with known) capacity bytes.now result }
 {
     let mut frames = frames_of(bytes, known);
-    let Ok(Some(info)) = frames.read_header_or_eof() else {
-        return None;
-    };
-    if info.channels as usize * info.duration as usize <= capacity {
-        return None;
+    match frames.read_header_or_eof() {
+        Ok(Some(info)) => {
+            if info.channels as usize * info.duration as usize > capacity {
+                Some(info)
+            } else {
+                None
+            }
+        }
+        Ok(None) => None,
+        Err(_) => None,
     }
-    Some(info)
 }
 
 // A reader of the frames in the bytes.
