@@ -1,6 +1,6 @@
 -- What a call returns for the frame at a position.
-use Rattle.std.proofs.Common.{◌≡◌, inl, inr, ℕ, ℤ, ◌+◌, ◌-◌, ◌*◌, ◌<◌, List, length, take, drop, min, Option, None, Some, refl, sym, ap, subst, ◌∙◌, arith}
-use Rattle.std.specs.Prelude.{Ok, Err, ◌≢◌}
+use Rattle.std.proofs.Common.{◌≡◌, ◌⊎◌, inl, inr, ℕ, ℤ, ◌+◌, ◌-◌, ◌*◌, ◌<◌, ◌≤◌, List, ◌++◌, length, take, drop, min, Option, None, Some, refl, sym, ap, subst, ◌∙◌, arith}
+use Rattle.std.specs.Prelude.{Result, Ok, Err, ◌≢◌}
 use Rattle.std.proofs.lemmas.List.{drop_all, length-drop, take_all}
 use Rattle.std.proofs.lemmas.Bool.{cases_lt}
 use Rattle.claxon.specs.Fault.{Fault}
@@ -8,30 +8,40 @@ use Rattle.claxon.specs.Frame.{StreamFormat, Block, Frame, FrameBytesFault}
 use Rattle.claxon.specs.Streams.{duration}
 use Rattle.claxon.specs.Errors.{Error}
 use Rattle.claxon.specs.Block.{BlockValue}
-use Rattle.claxon.specs.FrameReader.{FrameAnswer, block_view}
+use Rattle.claxon.specs.BlockInfo.{HeaderBytesFault, HeaderOf}
+use Rattle.claxon.specs.BlockInfos.{BlockInfo}
+use Rattle.claxon.specs.FrameReader.{FrameAnswer, HeaderOfLargerBlock, block_view}
 use Rattle.claxon.specs.Prefix.{BeginsWith}
+use Rattle.claxon.proofs.BlockInfo.{header_has_two_bytes, headers_unambiguous}
+use Rattle.claxon.proofs.FrameHeaders.{SaysBlock, frame_has_header, header_fault_is_frames}
 use Rattle.claxon.proofs.OutOfMemory.{not_out_of_memory}
 use Rattle.claxon_c.specs.declared.heads.ClaxonInfo.{ClaxonInfo}
 use Rattle.claxon_c.specs.declared.next_block.ClaxonBlock.{ClaxonBlock}
-use Rattle.claxon_c.specs.AtStart.{FrameAtStart}
+use Rattle.claxon_c.specs.AtStart.{FrameAtStart, LargerBlockAtStart}
 use Rattle.claxon_c.specs.Info.{known_stream}
-use Rattle.claxon_c.specs.NextBlock.{CBlockElseIoError, CBlockFaultIsComplete, CBlockFaultIsSound, CBlockIsComplete, CBlockIsShown, CBlockIsSound, CBlockNoMoreIffEof, CBlockOutOfMemoryAfterHeader, CSamplesAreGiven, GivesSamples, IsBlockStatus, PositionIsKept, ShowsBlock}
-use Rattle.claxon_c.specs.Status.{ErrorIsReported, TextIsReported, buffer_short, no_more, ok}
+use Rattle.claxon_c.specs.NextBlock.{BlockIsKept, CBlockElseIoError, CBlockFaultIsComplete, CBlockFaultIsSound, CBlockIsComplete, CBlockIsShown, CBlockIsSound, CBlockNoMoreIffEof, CBlockOutOfMemoryAfterHeader, CFrameHeaderFaultIsComplete, CHeaderIsShown, CSamplesAreGiven, CShortIffLarger, IsAtEnd, IsBlockStatus, IsDecoded, IsLarger, IsRefused, IsShort, Layout, NextBlock, PositionIsKept, ShowsBlock, ShowsInfo, TextIsKept}
+use Rattle.claxon_c.specs.Status.{ErrorIsReported, FaultIsReported, IsFaultStatus, TextIsReported, buffer_short, no_more, ok, out_of_memory}
+use Rattle.claxon_c.proofs.HeadersAtStart.{larger_says, says_larger}
 use Rattle.claxon_c.proofs.Reports.{each_fault_reported, io_error_reported, fault_reported, just_error, error_out_of_memory, out_of_memory_reported, text_reported}
 
 -- all clauses of it
-pub record CBlockPromises (info : ClaxonInfo) (bytes : List ℕ) (status from to : ℕ) (old new : List ℤ) (block : ClaxonBlock) (before after : List ℕ) : Type 0 where
+pub record CBlockPromises (Put : Layout) (info : ClaxonInfo) (bytes : List ℕ) (status from to : ℕ) (old new : List ℤ) (block shown : ClaxonBlock) (before after : List ℕ) : Type 0 where
   pub sound : CBlockIsSound info bytes from status to
-  pub shown : CBlockIsShown info bytes from status block
-  pub samples : CSamplesAreGiven info bytes from status old new
+  pub shown_is : CBlockIsShown info bytes from status shown
+  pub header : CHeaderIsShown info bytes from status shown
+  pub samples : CSamplesAreGiven info bytes from status Put old new
   pub complete : CBlockIsComplete info bytes from status
+  pub short : CShortIffLarger info bytes from status (length old)
   pub fault : CBlockFaultIsSound info bytes from status before after
-  pub named : CBlockFaultIsComplete info bytes from status before after
+  pub named : CBlockFaultIsComplete info bytes from status (length old) before after
+  pub header_named : CFrameHeaderFaultIsComplete info bytes from status before after
   pub eof : CBlockNoMoreIffEof bytes from status
-  pub io : CBlockElseIoError info bytes from status
+  pub io : CBlockElseIoError info bytes from status (length old)
   pub memory : CBlockOutOfMemoryAfterHeader info bytes from status
   pub text : TextIsReported status before after
   pub kept : PositionIsKept status from to old new
+  pub block_kept : BlockIsKept status block shown
+  pub text_kept : TextIsKept status before after
 
 -- a position past the end is as good as the end
 same_rest : (from start : ℕ) (bytes : List ℕ) → start ≡ min (length bytes) from → drop start bytes ≡ drop from bytes
@@ -40,88 +50,194 @@ same_rest from start bytes e = elim (cases_lt (length bytes) from) [
   | inl lt ↦ drop_all start bytes (omega arith) ∙ sym (drop_all from bytes (omega arith))
 ]
 
--- of the bytes from the position on
-pub at_position : (known stream : Option StreamFormat) (bytes : List ℕ) (from start : ℕ) (r : FrameAnswer) (taken : ℕ) → known ≡ stream → start ≡ min (length bytes) from → FrameAtStart known (take (length bytes - start) (drop start bytes)) r taken
-    → FrameAtStart stream (drop from bytes) r taken
-at_position known stream bytes from start r taken e s h =
-    let rest : take (length bytes - start) (drop start bytes) ≡ drop from bytes = take_all (length bytes - start) (drop start bytes) (omega (arith, length-drop start bytes)) ∙ same_rest from start bytes s in
-    subst (λ (z : List ℕ). FrameAtStart stream z r taken) rest (subst (λ (z : Option StreamFormat). FrameAtStart z (take (length bytes - start) (drop start bytes)) r taken) e h)
+rest_there : (from start : ℕ) (bytes : List ℕ) → start ≡ min (length bytes) from → take (length bytes - start) (drop start bytes) ≡ drop from bytes
+rest_there from start bytes e = take_all (length bytes - start) (drop start bytes) (omega (arith, length-drop start bytes)) ∙ same_rest from start bytes e
 
-module _ (info : ClaxonInfo) (bytes : List ℕ) (from taken : ℕ) (old new : List ℤ) (block : ClaxonBlock) (before after : List ℕ) where
-  -- no frame was read
-  pub next_error : (e : Error) (status : ℕ) → FrameAtStart (known_stream info) (drop from bytes) (Err e) taken → ErrorIsReported e status before after → CBlockPromises info bytes status from from old old block before after
-  next_error e status h reported =
-      let Bad : Fault → List ℕ → Type 0 = λ f. FrameBytesFault (known_stream info) f in
+-- of the bytes from the position on
+pub at_position : (known stream : Option StreamFormat) (bytes : List ℕ) (from start : ℕ) (r : FrameAnswer) (count : ℕ) → known ≡ stream → start ≡ min (length bytes) from → FrameAtStart known (take (length bytes - start) (drop start bytes)) r count
+    → FrameAtStart stream (drop from bytes) r count
+at_position known stream bytes from start r count e s h =
+    subst (λ (z : List ℕ). FrameAtStart stream z r count) (rest_there from start bytes s) (subst (λ (z : Option StreamFormat). FrameAtStart z (take (length bytes - start) (drop start bytes)) r count) e h)
+
+-- ---- a header, and the frame that it begins
+
+module _ (stream : Option StreamFormat) (rest : List ℕ) where
+  -- what is said of a block there is said of it by each header
+  same_said : (x y : BlockInfo) → BeginsWith (HeaderOf stream x) rest → BeginsWith (HeaderOf stream y) rest → x ≡ y
+  same_said x y (t, m, c, e) (u, n, d, f) = ((headers_unambiguous stream).one_code x y t u m n c d (sym e ∙ f)).0
+
+  -- a header has no fault
+  no_header_fault : (x : BlockInfo) (f : Fault) → BeginsWith (HeaderOf stream x) rest → BeginsWith (HeaderBytesFault stream f) rest → ⊥
+  no_header_fault x f (t, m, c, e) (u, n, d, g) = (headers_unambiguous stream).no_fault x f t u m n c d (sym e ∙ g)
+
+  -- its fault is one of the frame
+  fault_of_frame : (f : Fault) → BeginsWith (HeaderBytesFault stream f) rest → BeginsWith (FrameBytesFault stream f) rest
+  fault_of_frame f (t, m, c, e) = (t, m, header_fault_is_frames stream f t c, e)
+
+  -- a header says how large the block of its frame is
+  says_block : (x : BlockInfo) (b : Block) → BeginsWith (HeaderOf stream x) rest → BeginsWith (Frame stream b) rest → SaysBlock x b
+  says_block x b header (t, m, c, e) =
+      let k = frame_has_header stream b t m c in
+      let there : BeginsWith (HeaderOf stream k.0) rest = (k.2.0, k.2.1, k.2.2, e ∙ k.2.3) in
+      subst (λ (y : BlockInfo). SaysBlock y b) (same_said k.0 x there header) k.1
+
+  two_bytes : (x : BlockInfo) → BeginsWith (HeaderOf stream x) rest → length rest < 2 → ⊥
+  two_bytes x (t, m, c, e) few = header_has_two_bytes stream x t m c (subst (λ (s : List ℕ). length s < 2) e few)
+
+-- ---- what is returned
+
+module _ (Put : Layout) (info : ClaxonInfo) (bytes : List ℕ) (from : ℕ) (old : List ℤ) (block shown : ClaxonBlock) (before after : List ℕ) where
+  abbrev stream : Option StreamFormat
+  stream = known_stream info
+
+  abbrev rest : List ℕ
+  rest = drop from bytes
+
+  -- no frame was decoded
+  refused : (status : ℕ) → IsRefused info bytes from (length old) status before after → shown ≡ block → CBlockPromises Put info bytes status from from old old block shown before after
+  refused status r kept =
+      let e = r.error in
+      let h = r.refused in
+      let reported = r.reported in
+      let Bad : Fault → List ℕ → Type 0 = λ f. FrameBytesFault stream f in
       let no = just_error status before after e reported in
       let no_frame : IsBlockStatus status → ⊥ = λ says. elim says [ inl p ↦ no.0 p | inr p ↦ no.1.1 p ] in
-      let rest = drop from bytes in
       record {
-        sound = λ says. absurd (no_frame says);
-        shown = λ says b begins. absurd (no_frame says);
+        sound = λ p. absurd (no.0 p);
+        shown_is = λ says b begins. absurd (no_frame says);
+        header = λ says x begins. absurd (no_frame says);
         samples = λ says b begins. absurd (no_frame says);
         complete = λ b begins. inr (elim (h.complete b begins) [ inl p ↦ absurd p | inr s ↦ out_of_memory_reported status before after rest Bad e reported s ]);
+        short = (λ p. absurd (no.1.1 p), λ larger. absurd (r.not_larger larger));
         fault = fault_reported status before after rest Bad e reported h.fault;
-        named = λ f begins. each_fault_reported status before after rest Bad e reported {A = Option BlockValue} f (h.named f begins);
+        named = λ fits f begins. each_fault_reported status before after rest Bad e reported {A = Option BlockValue} f (h.named f begins);
+        header_named = λ f begins. elim (each_fault_reported status before after rest Bad e reported {A = Option BlockValue} f (h.named f (fault_of_frame stream rest f begins))) [
+          | inl p ↦ p
+          | inr s ↦ (let k = larger_says stream 0 rest (h.memory (error_out_of_memory status before after rest Bad e reported s)) in absurd (no_header_fault stream rest k.0 f k.1 begins))
+        ];
         eof = (λ p. absurd (no.1.0 p), λ few. absurd (let q = h.eof.1 few in cc));
-        io = λ some n. io_error_reported status before after rest Bad e reported h.fault n;
+        io = λ fits some n. io_error_reported status before after rest Bad e reported h.fault n;
         memory = λ is. h.memory (error_out_of_memory status before after rest Bad e reported is);
         text = text_reported status before after e reported;
         kept = λ p. (refl, refl);
+        block_kept = λ p. kept;
+        text_kept = λ says. absurd (elim says [ inl p ↦ no_frame p | inr p ↦ no.1.0 p ]);
       }
 
   -- there are too few bytes for one
-  pub next_none : FrameAtStart (known_stream info) (drop from bytes) (Ok None) taken → CBlockPromises info bytes no_more from from old old block before before
-  next_none h =
-      let no_frame : IsBlockStatus no_more → ⊥ = λ says. elim says [ inl p ↦ absurd cc | inr p ↦ absurd cc ] in
+  at_end : (status : ℕ) → IsAtEnd info bytes from (length old) status → shown ≡ block → after ≡ before → CBlockPromises Put info bytes status from from old old block shown before after
+  at_end status r kept same =
+      let h = r.none in
+      let is = r.status_is in
+      let no_frame : IsBlockStatus status → ⊥ = λ says. elim says [ inl p ↦ absurd cc | inr p ↦ absurd cc ] in
       record {
-        sound = λ says. absurd (no_frame says);
-        shown = λ says b begins. absurd (no_frame says);
+        sound = λ p. absurd cc;
+        shown_is = λ says b begins. absurd (no_frame says);
+        header = λ says x begins. absurd (no_frame says);
         samples = λ says b begins. absurd (no_frame says);
         complete = λ b begins. absurd (elim (h.complete b begins) [ inl p ↦ p | inr s ↦ not_out_of_memory None s ]);
+        short = (λ p. absurd cc, λ larger. absurd (r.not_larger larger));
         fault = λ says. absurd (elim says [ inl p ↦ absurd cc | inr p ↦ absurd cc ]);
-        named = λ f begins. absurd (elim (h.named f begins) [ inl p ↦ p | inr s ↦ not_out_of_memory None s ]);
-        eof = (λ p. h.eof.0 refl, λ few. refl);
-        io = λ some n. absurd (omega (arith, some, h.eof.0 refl));
-        memory = λ is. absurd cc;
+        named = λ fits f begins. absurd (elim (h.named f begins) [ inl p ↦ p | inr s ↦ not_out_of_memory None s ]);
+        header_named = λ f begins. absurd (elim (h.named f (fault_of_frame stream rest f begins)) [ inl p ↦ p | inr s ↦ not_out_of_memory None s ]);
+        eof = (λ p. h.eof.0 refl, λ few. is);
+        io = λ fits some n. absurd (omega (arith, some, h.eof.0 refl));
+        memory = λ p. absurd cc;
         text = (λ p. absurd cc, λ p. absurd cc);
         kept = λ p. (refl, refl);
+        block_kept = λ p. kept;
+        text_kept = λ p. same;
       }
 
-  -- one was read
-  module _ (found : BlockValue) (start : ℕ) (s : start ≡ min (length bytes) from) (h : FrameAtStart (known_stream info) (drop from bytes) (Ok (Some found)) taken) (shows : ShowsBlock (block_view found) block) where
-    same_block : (b : Block) → BeginsWith (Frame (known_stream info) b) (drop from bytes) → block_view found ≡ b
-    same_block b begins = elim (h.complete b begins) [ inl p ↦ p | inr q ↦ absurd (not_out_of_memory (Some found) q) ]
+  -- its samples don't fit
+  short : (status : ℕ) → IsShort info bytes from (length old) status shown → after ≡ before → CBlockPromises Put info bytes status from from old old block shown before after
+  short status r same =
+      let is = r.status_is in
+      let says = λ (b : Block) (begins : BeginsWith (Frame stream b) rest). says_block stream rest r.said b r.header begins in
+      let larger = says_larger stream (length old) rest r.said r.header r.larger in
+      record {
+        sound = λ p. absurd cc;
+        shown_is = λ q b begins. (let k = says b begins in record { time = r.shows.time ∙ k.time; channels = r.shows.channels ∙ k.channels; duration_is = r.shows.duration_is ∙ k.duration_is });
+        header = λ q x begins. subst (λ (y : BlockInfo). ShowsInfo y shown) (same_said stream rest r.said x r.header begins) r.shows;
+        samples = λ q b begins. (let k = says b begins in inr (is, rw (← k.channels, ← k.duration_is) r.larger));
+        complete = λ b begins. inl (inr is);
+        short = (λ p. larger, λ p. is);
+        fault = λ q. absurd (elim q [ inl p ↦ absurd cc | inr p ↦ absurd cc ]);
+        named = λ fits f begins. absurd (fits larger);
+        header_named = λ f begins. absurd (no_header_fault stream rest r.said f r.header begins);
+        eof = (λ p. absurd cc, λ few. absurd (two_bytes stream rest r.said r.header few));
+        io = λ fits some n. absurd (fits larger);
+        memory = λ p. absurd cc;
+        text = (λ p. absurd cc, λ p. absurd cc);
+        kept = λ p. (refl, refl);
+        block_kept = λ no. absurd (no (inr is));
+        text_kept = λ p. same;
+      }
 
-    enough : length (drop from bytes) < 2 → ⊥
-    enough few = let q = h.eof.1 few in cc
+  -- one was decoded
+  decoded : (found : BlockValue) (to : ℕ) (new : List ℤ) → IsDecoded info bytes from (length old) found to shown → after ≡ before → Put found.channels old new → CBlockPromises Put info bytes ok from to old new block shown before after
+  decoded found to new r same put =
+      let h = r.frame in
+      let same_block : (b : Block) → BeginsWith (Frame stream b) rest → block_view found ≡ b = λ b begins. elim (h.complete b begins) [ inl p ↦ p | inr q ↦ absurd (not_out_of_memory (Some found) q) ] in
+      let there : BeginsWith (Frame stream (block_view found)) rest = (h.sound.0, h.sound.1, h.sound.2, h.sound.3) in
+      record {
+        sound = λ q. (block_view found, h.sound.0, h.sound.1, h.sound.2, h.sound.3, r.after ∙ ap (λ (n : ℕ). from + n) h.sound.4);
+        shown_is = λ q b begins. subst (λ (z : Block). ShowsBlock z shown) (same_block b begins) r.shows;
+        header = λ q x begins. (let k = says_block stream rest x (block_view found) begins there in record { time = r.shows.time ∙ sym k.time; channels = r.shows.channels ∙ sym k.channels; duration_is = r.shows.duration_is ∙ sym k.duration_is });
+        samples = λ q b begins. inl (rw (← same_block b begins) (refl, r.fits, put));
+        complete = λ b begins. inl (inl refl);
+        short = (λ p. absurd cc, λ larger. absurd (r.not_larger larger));
+        fault = λ q. absurd (elim q [ inl p ↦ absurd cc | inr p ↦ absurd cc ]);
+        named = λ fits f begins. absurd (elim (h.named f begins) [ inl p ↦ p | inr q ↦ not_out_of_memory (Some found) q ]);
+        header_named = λ f begins. absurd (elim (h.named f (fault_of_frame stream rest f begins)) [ inl p ↦ p | inr q ↦ not_out_of_memory (Some found) q ]);
+        eof = (λ p. absurd cc, λ few. absurd (let q = h.eof.1 few in cc));
+        io = λ fits some n. absurd (n.no_code (block_view found) h.sound.0 h.sound.1 h.sound.2 h.sound.3);
+        memory = λ p. absurd cc;
+        text = (λ p. absurd cc, λ p. absurd cc);
+        kept = λ no. absurd (no refl);
+        block_kept = λ no. absurd (no (inl refl));
+        text_kept = λ p. same;
+      }
 
-    after_frame : start + taken ≡ from + length h.sound.0
-    after_frame = elim (cases_lt (length (drop from bytes)) 2) [
-      | inr le ↦ omega (arith, s, le, length-drop from bytes, h.sound.4)
-      | inl lt ↦ absurd (enough lt)
-    ]
+  pub given : (found : BlockValue) (to : ℕ) (new : List ℤ) → NextBlock info bytes from (length old) (Ok found) to block shown before after → Put found.channels old new → CBlockPromises Put info bytes ok from to old new block shown before after
+  given found to new h put = decoded found to new h.0 h.1 put
 
-    given : (status to : ℕ) → (status ≡ ok → to ≡ start + taken) → IsBlockStatus status → GivesSamples (block_view found) status old new → (status ≢ ok → (to ≡ from) × (new ≡ old)) → CBlockPromises info bytes status from to old new block before before
-    given status to moved says put kept = record {
-      sound = λ q. (block_view found, h.sound.0, h.sound.1, h.sound.2, h.sound.3, λ p. moved p ∙ after_frame);
-      shown = λ q b begins. subst (λ (z : Block). ShowsBlock z block) (same_block b begins) shows;
-      samples = λ q b begins. subst (λ (z : Block). GivesSamples z status old new) (same_block b begins) put;
-      complete = λ b begins. inl says;
-      fault = λ q. absurd (elim q [ inl p ↦ elim says [ inl a ↦ absurd cc | inr a ↦ absurd cc ] | inr p ↦ elim says [ inl a ↦ absurd cc | inr a ↦ absurd cc ] ]);
-      named = λ f begins. absurd (elim (h.named f begins) [ inl p ↦ p | inr q ↦ not_out_of_memory (Some found) q ]);
-      eof = (λ p. absurd (elim says [ inl a ↦ absurd cc | inr a ↦ absurd cc ]), λ few. absurd (enough few));
-      io = λ some n. absurd (n.no_code (block_view found) h.sound.0 h.sound.1 h.sound.2 h.sound.3);
-      memory = λ p. absurd (elim says [ inl a ↦ absurd cc | inr a ↦ absurd cc ]);
-      text = (λ p. absurd (elim says [ inl a ↦ absurd cc | inr a ↦ absurd cc ]), λ p. absurd (elim says [ inl a ↦ absurd cc | inr a ↦ absurd cc ]));
-      kept = kept;
-    }
+  pub not_given : (status to : ℕ) → NextBlock info bytes from (length old) (Err status) to block shown before after → CBlockPromises Put info bytes status from to old old block shown before after
+  not_given status to (same, why) = rw same (elim why [
+    | inl h ↦ short status h.0 h.1
+    | inr (inl h) ↦ at_end status h.0 h.1 h.2
+    | inr (inr h) ↦ refused status h.0 h.1
+  ])
 
-  pub next_block : (found : BlockValue) (start : ℕ) → start ≡ min (length bytes) from → FrameAtStart (known_stream info) (drop from bytes) (Ok (Some found)) taken → ShowsBlock (block_view found) block → GivesSamples (block_view found) ok old new
-      → CBlockPromises info bytes ok from (start + taken) old new block before before
-  next_block found start s h shows put = given found start s h shows ok (start + taken) (λ p. refl) (inl refl) put (λ no. absurd (no refl))
+-- ---- the call that both share
 
--- its samples don't fit
-pub next_buffer_short : (info : ClaxonInfo) (bytes : List ℕ) (from taken : ℕ) (old : List ℤ) (block : ClaxonBlock) (before : List ℕ) (found : BlockValue) (start : ℕ) → start ≡ min (length bytes) from → FrameAtStart (known_stream info) (drop from bytes) (Ok (Some found)) taken
-    → ShowsBlock (block_view found) block → length old < length found.channels * duration found.channels → CBlockPromises info bytes buffer_short from from old old block before before
-next_buffer_short info bytes from taken old block before found start s h shows short =
-    given info bytes from taken old old block before before found start s h shows buffer_short from (λ p. absurd cc) (inr refl) (inr (refl, short)) (λ no. (refl, refl))
+module _ (info : ClaxonInfo) (bytes : List ℕ) (from capacity start : ℕ) (is : start ≡ min (length bytes) from) where
+  -- the position after the frame
+  pub decoded_there : (found : BlockValue) (count : ℕ) (shown : ClaxonBlock) → FrameAtStart (known_stream info) (drop from bytes) (Ok (Some found)) count → LargerBlockAtStart (known_stream info) capacity (drop from bytes) None → ShowsBlock (block_view found) shown
+      → IsDecoded info bytes from capacity found (start + count) shown
+  decoded_there found count shown h none shows =
+      let stream = known_stream info in
+      let rest = drop from bytes in
+      let enough : length rest < 2 → ⊥ = λ few. (let q = h.eof.1 few in cc) in
+      let t = h.sound in
+      let k = frame_has_header stream (block_view found) t.0 t.1 t.2 in
+      let there : BeginsWith (HeaderOf stream k.0) rest = (k.2.0, k.2.1, k.2.2, t.3 ∙ k.2.3) in
+      record {
+        not_larger = none;
+        fits = elim (cases_lt capacity (k.0.channels * k.0.duration)) [
+          | inl lt ↦ absurd (none (says_larger stream capacity rest k.0 there lt))
+          | inr le ↦ rw (← k.1.channels, ← k.1.duration_is) le
+        ];
+        count = count;
+        frame = h;
+        after = elim (cases_lt (length rest) 2) [
+          | inr le ↦ omega (arith, is, le, length-drop from bytes)
+          | inl lt ↦ absurd (enough lt)
+        ];
+        shows = shows;
+      }
+
+  -- of the bytes from the position on
+  pub larger_there : (known stream : Option StreamFormat) (r : Option BlockInfo) → known ≡ stream → LargerBlockAtStart known capacity (take (length bytes - start) (drop start bytes)) r → LargerBlockAtStart stream capacity (drop from bytes) r
+  larger_there known stream r same h =
+      subst (λ (z : List ℕ). LargerBlockAtStart stream capacity z r) (rest_there from start bytes is) (subst (λ (z : Option StreamFormat). LargerBlockAtStart z capacity (take (length bytes - start) (drop start bytes)) r) same h)

@@ -4,3 +4,4 @@ pub mod HeadCalls
 pub mod InterleavedSamples
 pub mod Reports
 pub mod HeadersAtStart
+pub mod PlanarSamples

@@ -1,20 +1,34 @@
 -- What a call returns for the frame at a position in bytes.
-use Rattle.std.specs.Prelude.{◌≡◌, ◌≢◌, ◌⊎◌, ◌↔◌, ℕ, ℤ, ◌+◌, ◌*◌, ◌<◌, ◌≤◌, List, ◌++◌, length, drop}
+use Rattle.std.specs.Prelude.{◌≡◌, ◌≢◌, ◌⊎◌, ◌↔◌, ℕ, ℤ, ◌+◌, ◌*◌, ◌<◌, ◌≤◌, List, ◌++◌, length, drop, Result, Ok, Err, None, Some}
 use Rattle.claxon.specs.Fault.{Fault}
 use Rattle.claxon.specs.Frame.{Block, Frame, FrameBytesFault}
 use Rattle.claxon.specs.Streams.{duration, interleave}
 use Rattle.claxon.specs.Promises.{HasNeither}
-use Rattle.claxon.specs.FrameReader.{HeaderOfLargerBlock}
+use Rattle.claxon.specs.Errors.{Error}
+use Rattle.claxon.specs.Block.{BlockValue, joined}
+use Rattle.claxon.specs.BlockInfo.{HeaderBytesFault, HeaderOf}
+use Rattle.claxon.specs.BlockInfos.{BlockInfo}
+use Rattle.claxon.specs.FrameReader.{HeaderOfLargerBlock, block_view}
 use Rattle.claxon.specs.Prefix.{BeginsWith}
 use Rattle.claxon_c.specs.declared.heads.ClaxonInfo.{ClaxonInfo}
 use Rattle.claxon_c.specs.declared.next_block.ClaxonBlock.{ClaxonBlock}
+use Rattle.claxon_c.specs.AtStart.{FrameAtStart}
 use Rattle.claxon_c.specs.Info.{known_stream}
-use Rattle.claxon_c.specs.Status.{FaultIsReported, IsFaultStatus, buffer_short, input_ends, no_more, ok, out_of_memory}
+use Rattle.claxon_c.specs.Status.{ErrorIsReported, FaultIsReported, IsFaultStatus, buffer_short, input_ends, no_more, ok, out_of_memory}
 
--- The output begins with the interleaved samples, and its rest is unchanged.
-abbrev pub SamplesArePut : List (List ℤ) → List ℤ → List ℤ → Type 0
-SamplesArePut channels old new =
+-- how the samples of channels are put into a buffer: its contents before and after
+abbrev pub Layout : Type 1
+Layout = List (List ℤ) → List ℤ → List ℤ → Type 0
+
+-- The buffer begins with the interleaved samples, and its rest is unchanged.
+abbrev pub InterleavedArePut : Layout
+InterleavedArePut channels old new =
     new ≡ interleave channels ++ drop (length channels * duration channels) old
+
+-- The buffer begins with the samples of one channel after another, and its rest is unchanged.
+abbrev pub PlanarArePut : Layout
+PlanarArePut channels old new =
+    new ≡ joined channels ++ drop (length channels * duration channels) old
 
 -- It shows this block.
 pub record ShowsBlock (b : Block) (shown : ClaxonBlock) : Type 0 where
@@ -22,14 +36,20 @@ pub record ShowsBlock (b : Block) (shown : ClaxonBlock) : Type 0 where
   pub channels : shown.channels ≡ length b.channels
   pub duration_is : shown.duration ≡ duration b.channels
 
+-- It shows what a header says of its block.
+pub record ShowsInfo (info : BlockInfo) (shown : ClaxonBlock) : Type 0 where
+  pub time : shown.time ≡ info.time
+  pub channels : shown.channels ≡ info.channels
+  pub duration_is : shown.duration ≡ info.duration
+
 -- The samples of the block are written where they fit, else the status is `buffer_short`.
-abbrev pub GivesSamples : Block → ℕ → List ℤ → List ℤ → Type 0
-GivesSamples b status old new =
+abbrev pub GivesSamples : Layout → Block → ℕ → List ℤ → List ℤ → Type 0
+GivesSamples Put b status old new =
     ((status ≡ ok) × (length b.channels * duration b.channels ≤ length old)
-    × SamplesArePut b.channels old new)
+    × Put b.channels old new)
     ⊎ ((status ≡ buffer_short) × (length old < length b.channels * duration b.channels))
 
--- the status says that there is a frame
+-- the status says that there is a frame, or its header
 abbrev pub IsBlockStatus : ℕ → Type 0
 IsBlockStatus status = (status ≡ ok) ⊎ (status ≡ buffer_short)
 
@@ -37,14 +57,27 @@ IsBlockStatus status = (status ≡ ok) ⊎ (status ≡ buffer_short)
 abbrev pub PositionIsKept : ℕ → ℕ → ℕ → List ℤ → List ℤ → Type 0
 PositionIsKept status from to old new = status ≢ ok → (to ≡ from) × (new ≡ old)
 
--- `from` is the position before the call.
+-- The block is changed by `ok` and `buffer_short` alone.
+abbrev pub BlockIsKept : ℕ → ClaxonBlock → ClaxonBlock → Type 0
+BlockIsKept status old new = (IsBlockStatus status → ⊥) → new ≡ old
+
+-- The buffer of the text isn't changed by `ok`, `buffer_short` and `no_more`.
+abbrev pub TextIsKept : ℕ → List ℕ → List ℕ → Type 0
+TextIsKept status old new = IsBlockStatus status ⊎ (status ≡ no_more) → new ≡ old
+
+-- A header stands at the position whose block has more samples than the capacity.
+abbrev pub IsLarger : ClaxonInfo → List ℕ → ℕ → ℕ → Type 0
+IsLarger info bytes from capacity =
+    BeginsWith (HeaderOfLargerBlock (known_stream info) capacity) (drop from bytes)
+
+-- `from` is the position before the call, and `capacity` the number of samples that the buffer holds.
 module _ (info : ClaxonInfo) (bytes : List ℕ) (from status : ℕ) where
-  -- With `ok` or `buffer_short` a frame begins at the position; with `ok` the position is after it now.
+  -- With `ok` a frame begins at the position, which is after it now.
   abbrev pub CBlockIsSound : ℕ → Type 0
   CBlockIsSound to =
-      IsBlockStatus status
+      status ≡ ok
       → (b : Block) × (front : List ℕ) × (rest : List ℕ) × Frame (known_stream info) b front
-      × (drop from bytes ≡ front ++ rest) × (status ≡ ok → to ≡ from + length front)
+      × (drop from bytes ≡ front ++ rest) × (to ≡ from + length front)
 
   -- The block of the frame that begins there is shown.
   abbrev pub CBlockIsShown : ClaxonBlock → Type 0
@@ -52,17 +85,36 @@ module _ (info : ClaxonInfo) (bytes : List ℕ) (from status : ℕ) where
       IsBlockStatus status → (b : Block)
       → BeginsWith (Frame (known_stream info) b) (drop from bytes) → ShowsBlock b shown
 
-  -- Its samples are written where they fit, else the status is `buffer_short`.
-  abbrev pub CSamplesAreGiven : List ℤ → List ℤ → Type 0
-  CSamplesAreGiven old new =
+  -- What the header says is shown, whether the rest of its frame stands there or not.
+  abbrev pub CHeaderIsShown : ClaxonBlock → Type 0
+  CHeaderIsShown shown =
+      IsBlockStatus status → (said : BlockInfo)
+      → BeginsWith (HeaderOf (known_stream info) said) (drop from bytes) → ShowsInfo said shown
+
+  -- The samples are written where they fit, else the status is `buffer_short`.
+  abbrev pub CSamplesAreGiven : Layout → List ℤ → List ℤ → Type 0
+  CSamplesAreGiven Put old new =
       IsBlockStatus status → (b : Block)
-      → BeginsWith (Frame (known_stream info) b) (drop from bytes) → GivesSamples b status old new
+      → BeginsWith (Frame (known_stream info) b) (drop from bytes)
+      → GivesSamples Put b status old new
+
+  -- So it is of interleaved samples.
+  abbrev pub CSamplesAreInterleaved : List ℤ → List ℤ → Type 0
+  CSamplesAreInterleaved = CSamplesAreGiven InterleavedArePut
+
+  -- So it is of the samples of one channel after another.
+  abbrev pub CSamplesArePlanar : List ℤ → List ℤ → Type 0
+  CSamplesArePlanar = CSamplesAreGiven PlanarArePut
 
   -- Where a frame begins there the status is `ok` or `buffer_short`, or it is `out_of_memory`.
   abbrev pub CBlockIsComplete : Type 0
   CBlockIsComplete =
       (b : Block) → BeginsWith (Frame (known_stream info) b) (drop from bytes)
       → IsBlockStatus status ⊎ (status ≡ out_of_memory)
+
+  -- The status is `buffer_short` exactly where a header stands whose block has more samples, whatever follows the header.
+  abbrev pub CShortIffLarger : ℕ → Type 0
+  CShortIffLarger capacity = (status ≡ buffer_short) ↔ IsLarger info bytes from capacity
 
   -- The status of a fault reports one that stands at the position; its text is written to `new`.
   abbrev pub CBlockFaultIsSound : List ℕ → List ℕ → Type 0
@@ -71,16 +123,25 @@ module _ (info : ClaxonInfo) (bytes : List ℕ) (from status : ℕ) where
       → (f : Fault) × BeginsWith (FrameBytesFault (known_stream info) f) (drop from bytes)
       × FaultIsReported f status old new
 
-  -- A fault that stands at the position is reported, or the status is `out_of_memory`.
-  abbrev pub CBlockFaultIsComplete : List ℕ → List ℕ → Type 0
-  CBlockFaultIsComplete old new =
-      (f : Fault) → BeginsWith (FrameBytesFault (known_stream info) f) (drop from bytes)
+  -- Unless the samples don't fit, a fault that stands at the position is reported, or the status is `out_of_memory`.
+  abbrev pub CBlockFaultIsComplete : ℕ → List ℕ → List ℕ → Type 0
+  CBlockFaultIsComplete capacity old new =
+      (IsLarger info bytes from capacity → ⊥)
+      → (f : Fault) → BeginsWith (FrameBytesFault (known_stream info) f) (drop from bytes)
       → FaultIsReported f status old new ⊎ (status ≡ out_of_memory)
 
-  -- Where two bytes or more are left and neither stands there, the status is `input_ends` or `out_of_memory`.
-  abbrev pub CBlockElseIoError : Type 0
-  CBlockElseIoError =
-      2 ≤ length (drop from bytes)
+  -- The fault of a header is reported, whatever the capacity.
+  abbrev pub CFrameHeaderFaultIsComplete : List ℕ → List ℕ → Type 0
+  CFrameHeaderFaultIsComplete old new =
+      (f : Fault) → BeginsWith (HeaderBytesFault (known_stream info) f) (drop from bytes)
+      → FaultIsReported f status old new
+
+  -- Unless the samples don't fit, the status is `input_ends` or `out_of_memory` where two bytes or more are left, and neither
+  -- stands there.
+  abbrev pub CBlockElseIoError : ℕ → Type 0
+  CBlockElseIoError capacity =
+      (IsLarger info bytes from capacity → ⊥)
+      → 2 ≤ length (drop from bytes)
       → HasNeither (Frame (known_stream info)) (FrameBytesFault (known_stream info))
       (drop from bytes)
       → (status ≡ input_ends) ⊎ (status ≡ out_of_memory)
@@ -94,3 +155,47 @@ module _ (info : ClaxonInfo) (bytes : List ℕ) (from status : ℕ) where
 -- `no_more` is returned exactly where fewer than two bytes are left.
 abbrev pub CBlockNoMoreIffEof : List ℕ → ℕ → ℕ → Type 0
 CBlockNoMoreIffEof bytes from status = (status ≡ no_more) ↔ (length (drop from bytes) < 2)
+
+-- ---- the call that both share
+
+module _ (info : ClaxonInfo) (bytes : List ℕ) (from capacity : ℕ) where
+  -- A frame was decoded whose samples fit, and the position is after it.
+  pub record IsDecoded (found : BlockValue) (to : ℕ) (shown : ClaxonBlock) : Type 0 where
+    pub not_larger : IsLarger info bytes from capacity → ⊥
+    pub fits : length found.channels * duration found.channels ≤ capacity
+    pub count : ℕ
+    pub frame : FrameAtStart (known_stream info) (drop from bytes) (Ok (Some found)) count
+    pub after : to ≡ from + count
+    pub shows : ShowsBlock (block_view found) shown
+
+  -- A header stands at the position whose block has more samples than the capacity.
+  pub record IsShort (status : ℕ) (shown : ClaxonBlock) : Type 0 where
+    pub status_is : status ≡ buffer_short
+    pub said : BlockInfo
+    pub header : BeginsWith (HeaderOf (known_stream info) said) (drop from bytes)
+    pub larger : capacity < said.channels * said.duration
+    pub shows : ShowsInfo said shown
+
+  -- Too few bytes are left for a frame.
+  pub record IsAtEnd (status : ℕ) : Type 0 where
+    pub not_larger : IsLarger info bytes from capacity → ⊥
+    pub status_is : status ≡ no_more
+    pub count : ℕ
+    pub none : FrameAtStart (known_stream info) (drop from bytes) (Ok None) count
+
+  -- No frame was decoded, and the status and the text say why.
+  pub record IsRefused (status : ℕ) (before after : List ℕ) : Type 0 where
+    pub not_larger : IsLarger info bytes from capacity → ⊥
+    pub error : Error
+    pub count : ℕ
+    pub refused : FrameAtStart (known_stream info) (drop from bytes) (Err error) count
+    pub reported : ErrorIsReported error status before after
+
+  -- The block of the frame at the position, or the status. `old` and `shown` are what is shown of a block before and after the
+  -- call, `before` and `after` the text.
+  abbrev pub NextBlock : Result BlockValue ℕ → ℕ → ClaxonBlock → ClaxonBlock → List ℕ → List ℕ → Type 0
+  NextBlock (Ok found) to old shown before after = IsDecoded found to shown × (after ≡ before)
+  NextBlock (Err status) to old shown before after =
+      (to ≡ from) × ((IsShort status shown × (after ≡ before))
+      ⊎ ((IsAtEnd status × (shown ≡ old) × (after ≡ before))
+      ⊎ (IsRefused status before after × (shown ≡ old))))

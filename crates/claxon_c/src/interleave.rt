@@ -2,14 +2,14 @@
 ghost use Rattle.std.specs.Prelude.{◌≡◌, ◌≤◌, ◌<◌, ◌*◌, length};
 ghost use Rattle.claxon.specs.Streams.{samples_at};
 ghost use Rattle.claxon.specs.Block.{duration_of};
-ghost use Rattle.claxon_c.specs.NextBlock.{SamplesArePut};
+ghost use Rattle.claxon_c.specs.NextBlock.{InterleavedArePut};
 
 use claxon::Block;
 
 // Writes all samples of the block, interleaved, to the front of the output.
 pub(crate) fn put_interleaved(block: &Block, samples: &mut [i32])
     requires { length block.now.channels * duration_of block.now.channels ≤ length samples.old }
-    ensures { SamplesArePut block.now.channels samples.old samples.new }
+    ensures { InterleavedArePut block.now.channels samples.old samples.new }
 {
     let channels = block.channels() as usize;
     let mut from = 0;

@@ -7,6 +7,7 @@ mod at_start;
 mod heads;
 mod interleave;
 mod next_block;
+mod planar;
 mod status;
 
 pub use heads::ClaxonInfo;

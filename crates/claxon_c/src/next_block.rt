@@ -1,16 +1,19 @@
 //! Blocks, one after another.
+ghost use Rattle.std.specs.Prelude.{length};
 ghost use Rattle.claxon.specs.FrameReader.{block_view};
-ghost use Rattle.claxon_c.specs.NextBlock.{CBlockElseIoError, CBlockFaultIsComplete, CBlockFaultIsSound, CBlockIsComplete, CBlockIsShown, CBlockIsSound, CBlockNoMoreIffEof, CBlockOutOfMemoryAfterHeader, CSamplesAreGiven, PositionIsKept, ShowsBlock};
+ghost use Rattle.claxon_c.specs.NextBlock.{BlockIsKept, CBlockElseIoError, CBlockFaultIsComplete, CBlockFaultIsSound, CBlockIsComplete, CBlockIsShown, CBlockIsSound, CBlockNoMoreIffEof, CBlockOutOfMemoryAfterHeader, CFrameHeaderFaultIsComplete, CHeaderIsShown, CSamplesAreInterleaved, CSamplesArePlanar, CShortIffLarger, NextBlock, PositionIsKept, ShowsBlock, ShowsInfo, TextIsKept};
 ghost use Rattle.claxon_c.specs.Status.{TextIsReported};
 
-use crate::at_start::block_at_start;
+use crate::at_start::{block_at_start, larger_block_at_start};
 use crate::heads::ClaxonInfo;
 use crate::interleave::put_interleaved;
+use crate::planar::put_planar;
 use crate::status::{BUFFER_SHORT, NO_MORE, OK, report};
 use claxon::Block;
+use claxon::frame::BlockInfo;
 use std::alloc::Global;
 
-/// What a block says of itself.
+/// The properties of a block.
 #[repr(C)]
 #[derive(Clone, Copy, Debug)]
 pub struct ClaxonBlock {
@@ -32,9 +35,21 @@ impl ClaxonBlock {
             duration: block.duration(),
         }
     }
+
+    // As the header of its frame says.
+    fn from_header(info: &BlockInfo) -> ClaxonBlock
+        ensures { ShowsInfo info.now result }
+    {
+        ClaxonBlock {
+            time: info.time,
+            channels: info.channels,
+            duration: info.duration,
+        }
+    }
 }
 
-/// Decodes the frame at the position into interleaved samples, and moves the position after it.
+/// Decodes the frame at the position into interleaved samples, and moves the position after it. Where the samples don't fit, no
+/// more than the header is read.
 #[unsafe(no_mangle)]
 pub extern "C" fn claxon_next_block(
     alloc: Global,
@@ -47,29 +62,101 @@ pub extern "C" fn claxon_next_block(
 ) -> u32
     ensures sound { CBlockIsSound info.now bytes.now at.old result at.new }
     ensures shown { CBlockIsShown info.now bytes.now at.old result block.new }
-    ensures samples { CSamplesAreGiven info.now bytes.now at.old result samples.old samples.new }
+    ensures header { CHeaderIsShown info.now bytes.now at.old result block.new }
+    ensures samples { CSamplesAreInterleaved info.now bytes.now at.old result
+        samples.old samples.new }
     ensures complete { CBlockIsComplete info.now bytes.now at.old result }
+    ensures short { CShortIffLarger info.now bytes.now at.old result (length samples.old) }
     ensures fault { CBlockFaultIsSound info.now bytes.now at.old result error.old error.new }
-    ensures named { CBlockFaultIsComplete info.now bytes.now at.old result error.old error.new }
+    ensures named { CBlockFaultIsComplete info.now bytes.now at.old result (length samples.old)
+        error.old error.new }
+    ensures header_named { CFrameHeaderFaultIsComplete info.now bytes.now at.old result
+        error.old error.new }
     ensures eof { CBlockNoMoreIffEof bytes.now at.old result }
-    ensures io { CBlockElseIoError info.now bytes.now at.old result }
+    ensures io { CBlockElseIoError info.now bytes.now at.old result (length samples.old) }
     ensures memory { CBlockOutOfMemoryAfterHeader info.now bytes.now at.old result }
     ensures text { TextIsReported result error.old error.new }
     ensures kept { PositionIsKept result at.old at.new samples.old samples.new }
+    ensures block_kept { BlockIsKept result block.old block.new }
+    ensures text_kept { TextIsKept result error.old error.new }
 {
-    let start = bytes.len().min(*at);
-    let mut taken = 0;
-    match block_at_start(alloc, &bytes[start..], info.known_stream(), &mut taken) {
-        Ok(Some(found)) => {
-            *block = ClaxonBlock::new(&found);
-            if samples.len() < found.len() as usize {
-                return BUFFER_SHORT;
-            }
+    match next_block(alloc, bytes, at, info, samples.len(), block, error) {
+        Ok(found) => {
             put_interleaved(&found, samples);
-            *at = start + taken;
             OK
         }
-        Ok(None) => NO_MORE,
-        Err(fault) => report(&fault, error),
+        Err(status) => status,
+    }
+}
+
+/// As `claxon_next_block`, with the samples of one channel after those of another.
+#[unsafe(no_mangle)]
+pub extern "C" fn claxon_next_block_planar(
+    alloc: Global,
+    bytes: &[u8],
+    at: &mut usize,
+    info: &ClaxonInfo,
+    samples: &mut [i32],
+    block: &mut ClaxonBlock,
+    error: &mut [u8],
+) -> u32
+    ensures sound { CBlockIsSound info.now bytes.now at.old result at.new }
+    ensures shown { CBlockIsShown info.now bytes.now at.old result block.new }
+    ensures header { CHeaderIsShown info.now bytes.now at.old result block.new }
+    ensures samples { CSamplesArePlanar info.now bytes.now at.old result
+        samples.old samples.new }
+    ensures complete { CBlockIsComplete info.now bytes.now at.old result }
+    ensures short { CShortIffLarger info.now bytes.now at.old result (length samples.old) }
+    ensures fault { CBlockFaultIsSound info.now bytes.now at.old result error.old error.new }
+    ensures named { CBlockFaultIsComplete info.now bytes.now at.old result (length samples.old)
+        error.old error.new }
+    ensures header_named { CFrameHeaderFaultIsComplete info.now bytes.now at.old result
+        error.old error.new }
+    ensures eof { CBlockNoMoreIffEof bytes.now at.old result }
+    ensures io { CBlockElseIoError info.now bytes.now at.old result (length samples.old) }
+    ensures memory { CBlockOutOfMemoryAfterHeader info.now bytes.now at.old result }
+    ensures text { TextIsReported result error.old error.new }
+    ensures kept { PositionIsKept result at.old at.new samples.old samples.new }
+    ensures block_kept { BlockIsKept result block.old block.new }
+    ensures text_kept { TextIsKept result error.old error.new }
+{
+    match next_block(alloc, bytes, at, info, samples.len(), block, error) {
+        Ok(found) => {
+            put_planar(found, samples);
+            OK
+        }
+        Err(status) => status,
+    }
+}
+
+// The block of the frame at the position, which is moved after it, if the capacity suffices for its samples. Else the status.
+fn next_block(
+    alloc: Global,
+    bytes: &[u8],
+    at: &mut usize,
+    info: &ClaxonInfo,
+    capacity: usize,
+    block: &mut ClaxonBlock,
+    error: &mut [u8],
+) -> Result<Block, u32>
+    ensures { NextBlock info.now bytes.now at.old capacity result at.new
+        block.old block.new error.old error.new }
+{
+    let start = bytes.len().min(*at);
+    let rest = &bytes[start..];
+    let known = info.known_stream();
+    if let Some(larger) = larger_block_at_start(rest, known, capacity) {
+        *block = ClaxonBlock::from_header(&larger);
+        return Err(BUFFER_SHORT);
+    }
+    let mut count = 0;
+    match block_at_start(alloc, rest, known, &mut count) {
+        Ok(Some(found)) => {
+            *block = ClaxonBlock::new(&found);
+            *at = start + count;
+            Ok(found)
+        }
+        Ok(None) => Err(NO_MORE),
+        Err(fault) => Err(report(&fault, error)),
     }
 }

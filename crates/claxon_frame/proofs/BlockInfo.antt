@@ -1,5 +1,5 @@
 -- What a header says of its block.
-use Rattle.std.proofs.Common.{◌≡◌, ◌⊎◌, inl, inr, ℕ, ◌<◌, true, false, List, [], length, Option, None, Some, refl, ap, ◌∙◌}
+use Rattle.std.proofs.Common.{◌≡◌, ◌⊎◌, inl, inr, ℕ, ◌<◌, true, false, List, [], ◌++◌, length, Option, None, Some, refl, ap, ◌∙◌}
 use Rattle.std.specs.Prelude.{Ok, Err}
 use Rattle.claxon_format.specs.Frame.{StreamFormat}
 use Rattle.claxon_format.specs.read.Frame.{Start, start_at}
@@ -66,3 +66,10 @@ module _ (stream : Option StreamFormat) (r : HeaderAnswer) (a b : State ℕ) (g 
     | inr (inl e) ↦ absurd (info_never_out_of_memory stream r a b g e)
     | inr (inr f) ↦ inr f
   ]
+
+-- a header has two bytes at least
+pub header_has_two_bytes : (stream : Option StreamFormat) (info : BlockInfo) (t rest : List ℕ) → HeaderOf stream info t → length (t ++ rest) < 2 → ⊥
+header_has_two_bytes stream info t rest c small =
+    let done = (Reads-info stream).again info t rest c in
+    let none = incomplete_info stream (t ++ rest) small in
+    cc
