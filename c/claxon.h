@@ -75,10 +75,17 @@ uint32_t claxon_tag(const uint8_t *bytes, size_t length, size_t index, char *tex
 
 /* Decodes the frame at the position *at. With CLAXON_OK, `block` is filled, channels * duration samples are written,
  * interleaved, and *at is moved after the frame. With any other status *at and the samples are unchanged:
- * NO_MORE: fewer than two bytes are left. INPUT_ENDS: the bytes end within the frame. BUFFER_SHORT: `block` is filled, and
- * its samples don't fit. FORMAT_ERROR, UNSUPPORTED, OUT_OF_MEMORY, INPUT_ENDS: `error` gets a text. */
+ * NO_MORE: fewer than two bytes are left. INPUT_ENDS: the bytes end within the frame. BUFFER_SHORT: a frame's header is
+ * there, `block` is filled from it, and its samples don't fit; no more than the header was read. FORMAT_ERROR, UNSUPPORTED,
+ * OUT_OF_MEMORY, INPUT_ENDS: `error` gets a text. */
 uint32_t claxon_next_block(const uint8_t *bytes, size_t length, size_t *at, const struct claxon_info *info, int32_t *samples,
                            size_t capacity, struct claxon_block *block, char *error, size_t error_size);
+
+/* As claxon_next_block, with the samples of one channel after those of another: sample `i` of channel `ch` is
+ * samples[ch * block.duration + i]. */
+uint32_t claxon_next_block_planar(const uint8_t *bytes, size_t length, size_t *at, const struct claxon_info *info,
+                                  int32_t *samples, size_t capacity, struct claxon_block *block, char *error,
+                                  size_t error_size);
 
 #ifdef __cplusplus
 }

@@ -1,6 +1,6 @@
 /* cases FOLDER < LINES: decodes each file that a line `NAME COUNT HASH RESULT` names, passed whole and piece by piece, and
  * compares the number of its samples, the FNV-1a hash of their little-endian bytes, and the result: `ok`, the error, or `IO`
- * where the bytes end too early. It also tests buffers that are too short. */
+ * where the bytes end too early. It also tests planar samples, and buffers that are too short. */
 #include <inttypes.h>
 #include <stdio.h>
 #include <stdlib.h>
@@ -35,19 +35,121 @@ static void add_samples(struct tally *tally, size_t count) {
     tally->count += count;
 }
 
-/* The same call with a capacity of one sample less changes neither the position nor the samples, and fills the block. */
-static void test_short_buffer(const char *name, const uint8_t *bytes, size_t length, size_t at, const struct claxon_info *info, const struct claxon_block *block) {
-    struct claxon_block reported;
+typedef uint32_t next_block(const uint8_t *, size_t, size_t *, const struct claxon_info *, int32_t *, size_t,
+                            struct claxon_block *, char *, size_t);
+
+/* A frame, and the block that it is known to hold. */
+struct frame {
+    const char *name;
+    const uint8_t *bytes;
+    size_t length;
+    const struct claxon_info *info;
+    struct claxon_block block;
+};
+
+static size_t sample_count(const struct frame *frame) {
+    return (size_t)frame->block.channels * frame->block.duration;
+}
+
+static int is_untouched(const void *memory, size_t size) {
+    const uint8_t *bytes = memory;
+    for (size_t i = 0; i < size; i++) {
+        if (bytes[i] != UNTOUCHED) {
+            return 0;
+        }
+    }
+    return 1;
+}
+
+/* The call gives this status for the first `length` bytes, and changes neither the position nor the samples. */
+static void expect_status(next_block *call, const struct frame *frame, const uint8_t *bytes, size_t length, size_t capacity,
+                          uint32_t status, const char *what) {
+    struct claxon_block block;
+    char error[64];
+    size_t at = 0;
+    memset(&block, UNTOUCHED, sizeof block);
+    memset(error, UNTOUCHED, sizeof error);
+    memset(samples, UNTOUCHED, sample_count(frame) * sizeof *samples);
+    expect(call(bytes, length, &at, frame->info, samples, capacity, &block, error, sizeof error) == status, frame->name, what);
+    expect(at == 0 && is_untouched(samples, sample_count(frame) * sizeof *samples), frame->name, what);
+    if (status == CLAXON_BUFFER_SHORT) {
+        expect(block.time == frame->block.time && block.channels == frame->block.channels && block.duration == frame->block.duration, frame->name, what);
+        expect(is_untouched(error, sizeof error), frame->name, what);
+    } else {
+        expect(is_untouched(&block, sizeof block), frame->name, what);
+        expect(is_untouched(error, sizeof error) == (status == CLAXON_NO_MORE), frame->name, what);
+    }
+}
+
+/* The length of the header: of no fewer bytes does a short buffer tell the size of the block. */
+static size_t test_truncated_header(next_block *call, const struct frame *frame) {
+    size_t length = 0, at = 0;
+    struct claxon_block block;
     char error[1];
-    size_t position = at;
-    size_t count = (size_t)block->channels * block->duration;
-    memset(samples, UNTOUCHED, sizeof samples);
-    uint32_t status = claxon_next_block(bytes, length, &position, info, samples, count - 1, &reported, error, 0);
-    expect(status == CLAXON_BUFFER_SHORT && position == at, name, "a short buffer");
-    expect(reported.channels == block->channels && reported.duration == block->duration && reported.time == block->time, name, "the block of a short buffer");
-    expect(samples[0] == samples[CLAXON_MOST_SAMPLES], name, "samples in a short buffer");
-    status = claxon_next_block(bytes, length, &position, info, samples, count, &reported, error, 0);
-    expect(status == CLAXON_OK && samples[count] == samples[CLAXON_MOST_SAMPLES], name, "a buffer of exactly that size");
+    while (length < frame->length && call(frame->bytes, length, &at, frame->info, samples, 0, &block, error, 0) != CLAXON_BUFFER_SHORT) {
+        expect_status(call, frame, frame->bytes, length, 0, length < 2 ? CLAXON_NO_MORE : CLAXON_INPUT_ENDS, "a truncated header");
+        length++;
+    }
+    expect(length >= 6 && length <= 16, frame->name, "the length of a header");
+    return length;
+}
+
+/* A buffer is too short before the subframes are read: whole, truncated or damaged. */
+static void test_short_buffer(next_block *call, const struct frame *frame) {
+    size_t count = sample_count(frame);
+    size_t header = test_truncated_header(call, frame);
+    size_t lengths[] = {header, frame->length - 1, frame->length};
+    uint8_t *damaged = malloc(frame->length);
+    for (size_t i = 0; i < 3; i++) {
+        expect_status(call, frame, frame->bytes, lengths[i], 0, CLAXON_BUFFER_SHORT, "an empty buffer");
+        expect_status(call, frame, frame->bytes, lengths[i], count - 1, CLAXON_BUFFER_SHORT, "a short buffer");
+    }
+    expect_status(call, frame, frame->bytes, frame->length - 1, count, CLAXON_INPUT_ENDS, "a truncated frame");
+    expect(damaged != NULL, frame->name, "malloc");
+    if (damaged) {
+        memcpy(damaged, frame->bytes, frame->length);
+        damaged[frame->length - 1] ^= 1; /* the CRC of the frame */
+        expect_status(call, frame, damaged, frame->length, count - 1, CLAXON_BUFFER_SHORT, "a short buffer for a damaged frame");
+        expect_status(call, frame, damaged, frame->length, count, CLAXON_FORMAT_ERROR, "a damaged frame");
+        damaged[header - 1] ^= 1; /* the CRC of its header */
+        expect_status(call, frame, damaged, frame->length, 0, CLAXON_FORMAT_ERROR, "a damaged header");
+        expect_status(call, frame, damaged, frame->length, count, CLAXON_FORMAT_ERROR, "a damaged header in a large buffer");
+    }
+    free(damaged);
+}
+
+/* The interleaved samples of the frame come one channel after another, and nothing after them is written. */
+static void test_planar(const struct frame *frame, const int32_t *interleaved) {
+    struct claxon_block block;
+    char error[1];
+    size_t at = 0, channels = frame->block.channels, duration = frame->block.duration, equal = 0;
+    memset(&samples[channels * duration], UNTOUCHED, sizeof *samples);
+    uint32_t status = claxon_next_block_planar(frame->bytes, frame->length, &at, frame->info, samples, channels * duration, &block, error, 0);
+    expect(status == CLAXON_OK && at == frame->length, frame->name, "planar samples");
+    expect(block.time == frame->block.time && block.channels == channels && block.duration == duration, frame->name, "the block of planar samples");
+    expect(is_untouched(&samples[channels * duration], sizeof *samples), frame->name, "after planar samples");
+    for (size_t ch = 0; ch < channels; ch++) {
+        for (size_t i = 0; i < duration; i++) {
+            equal += samples[ch * duration + i] == interleaved[i * channels + ch];
+        }
+    }
+    expect(equal == channels * duration, frame->name, "the order of planar samples");
+}
+
+/* A buffer of exactly the size of the block, planar samples, and buffers that are too short. */
+static void test_frame(const struct frame *frame) {
+    static int32_t interleaved[CLAXON_MOST_SAMPLES];
+    struct claxon_block block;
+    char error[1];
+    size_t at = 0, count = sample_count(frame);
+    memset(&samples[count], UNTOUCHED, sizeof *samples);
+    uint32_t status = claxon_next_block(frame->bytes, frame->length, &at, frame->info, samples, count, &block, error, 0);
+    expect(status == CLAXON_OK && at == frame->length, frame->name, "a buffer of exactly that size");
+    expect(is_untouched(&samples[count], sizeof *samples), frame->name, "after the samples");
+    memcpy(interleaved, samples, count * sizeof *samples);
+    test_planar(frame, interleaved);
+    test_short_buffer(claxon_next_block, frame);
+    test_short_buffer(claxon_next_block_planar, frame);
 }
 
 /* The text of an error in a small buffer: a prefix of it, a 0, and nothing after the buffer. */
@@ -86,7 +188,7 @@ static uint32_t decode(const char *name, const uint8_t *bytes, size_t length, si
         if (status == CLAXON_OK) {
             add_samples(tally, (size_t)block.channels * block.duration);
             if (piece == SIZE_MAX) {
-                test_short_buffer(name, bytes + start, end - start, before, &info, &block);
+                test_frame(&(struct frame){name, bytes + start + before, at - before, &info, block});
             }
             continue;
         }
