@@ -38,8 +38,8 @@ info_stops stream = record {
 pub info_consumes : (stream : Option StreamFormat) {start : Start} {a b : State ℕ} → Consumes a b (λ s m. or_eof 2 (start_at stream) s ≡ Done (Some start) m) → Consumes a b (λ s m. or_eof 2 (header_info_at stream) s ≡ Done (Some (info_of_start start)) m)
 info_consumes stream {start = start} {a = a} {b = b} h =
     consumes_map _ h (λ p.
-        let r = some_read 2 (start_at stream) a.remaining start b.remaining p in
-        enough 2 (header_info_at stream) a.remaining r.0 ∙ ap (λ x. found (bind x (λ start. done (info_of_start start)))) r.1)
+    let r = some_read 2 (start_at stream) a.remaining start b.remaining p in
+    enough 2 (header_info_at stream) a.remaining r.0 ∙ ap (λ x. found (bind x (λ start. done (info_of_start start)))) r.1)
 
 -- ---- all clauses
 

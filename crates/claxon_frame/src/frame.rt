@@ -20,13 +20,13 @@ mod info;
 mod stereo;
 
 pub use block::{Block, StereoSamples};
-pub use info::BlockInfo;
 use claxon_input::crc::Crc16Reader;
 use claxon_input::error::{Error, Result};
 use claxon_input::input::{Bitstream, ReadBytes};
 use claxon_metadata::metadata::StreamInfo;
 use claxon_subframe::subframe;
 use header::{FrameHeader, KnownStreamFormat, read_frame_header_or_eof};
+pub use info::BlockInfo;
 use info::read_block_info_or_eof;
 use std::alloc::{Allocator, Global};
 use stereo::undo_decorrelation;

@@ -7,6 +7,9 @@ use crate::frame::header::{FrameHeader, KnownStreamFormat, read_frame_header_or_
 use claxon_input::error::Result;
 use claxon_input::input::ReadBytes;
 
+#[cfg(test)]
+mod tests;
+
 /// What the header of a frame says of its block.
 #[derive(Clone, Copy, Debug)]
 pub struct BlockInfo {
