@@ -98,7 +98,7 @@ module _ {R : Type 0} (source : R → Source ℕ) (old : FrameReader R) (result 
   -- If a read of the source fails, the result is an Err.
   abbrev pub HeaderFailureIsErr : Type 0
   HeaderFailureIsErr =
-      IfOk result (λ found. (frame_bytes source new).errors ≡ (frame_bytes source old).errors)
+      IfOk result (λ found. (frame_bytes source new).source.errors ≡ (frame_bytes source old).source.errors)
 
   -- An Err other than `IoError` is a fault of the consumed bytes.
   abbrev pub HeaderFaultIsSound : Type 0
