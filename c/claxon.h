@@ -17,6 +17,12 @@
 extern "C" {
 #endif
 
+/* The version of this header: 10000 * major + 100 * minor + patch. */
+#define CLAXON_VERSION 100
+
+/* The version of the library. */
+uint32_t claxon_version(void);
+
 /* What a call returns. */
 enum claxon_status {
     CLAXON_OK = 0,
@@ -24,12 +30,16 @@ enum claxon_status {
     CLAXON_UNSUPPORTED = 2,   /* the stream has something that isn't supported: `error` says what */
     CLAXON_INPUT_ENDS = 3,    /* the bytes end too early: call again with these and more */
     CLAXON_OUT_OF_MEMORY = 4, /* malloc failed */
-    CLAXON_NO_MORE = 5,       /* no further block, or no such tag */
-    CLAXON_BUFFER_SHORT = 6   /* the samples or the text don't fit */
+    CLAXON_NO_MORE = 5,       /* no further block, or no further tag */
+    CLAXON_BUFFER_SHORT = 6   /* the samples don't fit */
 };
 
 /* The maximum number of samples in a block, of all channels together. */
 #define CLAXON_MOST_SAMPLES (8 * 65535)
+
+/* The most bytes of a frame that a streaminfo can give. A window over a stream need never be larger: where a frame doesn't
+ * stand in as many bytes, the stream is damaged. */
+#define CLAXON_MOST_FRAME_BYTES 16777215
 
 /* What the head of a stream says. All zeros mean that nothing is known of the stream. */
 struct claxon_info {
@@ -39,8 +49,30 @@ struct claxon_info {
     uint32_t sample_rate;     /* in Hz */
     uint32_t channels;        /* 1 to 8 */
     uint32_t bits_per_sample; /* 1 to 32 */
+    uint32_t min_frame_size;  /* in bytes, or 0 if unknown */
+    uint32_t max_frame_size;  /* in bytes, or 0 if unknown */
     uint16_t min_block_size;  /* in samples of each channel; the last block may be smaller */
     uint16_t max_block_size;
+    uint8_t md5[16];          /* the MD5 sum of the samples, or zeros if unknown */
+};
+
+/* A metadata block. */
+struct claxon_metadata {
+    size_t content;   /* the position of its content */
+    uint32_t length;  /* the length of its content in bytes */
+    uint8_t type;     /* one of enum claxon_block_type, or a reserved type */
+    uint8_t is_last;  /* 1 if the first frame follows it, else 0 */
+};
+
+/* The types of metadata blocks that have a name. */
+enum claxon_block_type {
+    CLAXON_STREAMINFO = 0,
+    CLAXON_PADDING = 1,
+    CLAXON_APPLICATION = 2,
+    CLAXON_SEEK_TABLE = 3,
+    CLAXON_VORBIS_COMMENT = 4,
+    CLAXON_CUE_SHEET = 5,
+    CLAXON_PICTURE = 6
 };
 
 /* The properties of a block. */
@@ -52,12 +84,17 @@ struct claxon_block {
 
 /* The layout that the library has: that of x86-64 Linux, which it is built for. */
 #ifdef CLAXON_HAS_STATIC_ASSERT
-static_assert(sizeof(struct claxon_info) == 40 && offsetof(struct claxon_info, first_frame) == 0 &&
+static_assert(sizeof(struct claxon_info) == 64 && offsetof(struct claxon_info, first_frame) == 0 &&
                   offsetof(struct claxon_info, tags) == 8 && offsetof(struct claxon_info, samples) == 16 &&
                   offsetof(struct claxon_info, sample_rate) == 24 && offsetof(struct claxon_info, channels) == 28 &&
-                  offsetof(struct claxon_info, bits_per_sample) == 32 && offsetof(struct claxon_info, min_block_size) == 36 &&
-                  offsetof(struct claxon_info, max_block_size) == 38,
+                  offsetof(struct claxon_info, bits_per_sample) == 32 && offsetof(struct claxon_info, min_frame_size) == 36 &&
+                  offsetof(struct claxon_info, max_frame_size) == 40 && offsetof(struct claxon_info, min_block_size) == 44 &&
+                  offsetof(struct claxon_info, max_block_size) == 46 && offsetof(struct claxon_info, md5) == 48,
               "claxon is for x86-64 Linux: struct claxon_info has another layout here");
+static_assert(sizeof(struct claxon_metadata) == 16 && offsetof(struct claxon_metadata, content) == 0 &&
+                  offsetof(struct claxon_metadata, length) == 8 && offsetof(struct claxon_metadata, type) == 12 &&
+                  offsetof(struct claxon_metadata, is_last) == 13,
+              "claxon is for x86-64 Linux: struct claxon_metadata has another layout here");
 static_assert(sizeof(struct claxon_block) == 16 && offsetof(struct claxon_block, time) == 0 &&
                   offsetof(struct claxon_block, channels) == 8 && offsetof(struct claxon_block, duration) == 12,
               "claxon is for x86-64 Linux: struct claxon_block has another layout here");
@@ -68,10 +105,26 @@ static_assert(sizeof(struct claxon_block) == 16 && offsetof(struct claxon_block,
  * fit. */
 uint32_t claxon_open(const uint8_t *bytes, size_t length, struct claxon_info *info, char *error, size_t error_size);
 
-/* Writes a tag of the head that the bytes begin with, `NAME=value` in UTF-8, and a 0 after it. The first tag has index 0.
- * CLAXON_OK and BUFFER_SHORT set `text_length` to its length in bytes, without the 0. NO_MORE: `index` isn't below
- * info.tags. Else as claxon_open, with the error's text in `text`. */
-uint32_t claxon_tag(const uint8_t *bytes, size_t length, size_t index, char *text, size_t text_size, size_t *text_length);
+/* Reads the header of the metadata block at the position *at, which takes four bytes. The first one is at 4, after the
+ * marker `fLaC`. With CLAXON_OK, `metadata` is filled, and *at is moved after the block's content, which need not be there:
+ * the position may be past `length`. INPUT_ENDS: fewer than four bytes are left at *at; nothing is changed. */
+uint32_t claxon_next_metadata(const uint8_t *bytes, size_t length, size_t *at, struct claxon_metadata *metadata);
+
+/* Reads the content of a streaminfo block, as Ogg, MP4 and Matroska hand it in: just these `length` bytes. With CLAXON_OK,
+ * `info` is filled, with 0 for first_frame and tags, which such a block doesn't say. Else as claxon_open. */
+uint32_t claxon_streaminfo(const uint8_t *content, size_t length, struct claxon_info *info, char *error, size_t error_size);
+
+/* Reads the whole content of a Vorbis comment block: just these `length` bytes. With CLAXON_OK, the vendor string, in UTF-8,
+ * is at `vendor_at` in the content, and `tags` is the number of tags. Else as claxon_open. */
+uint32_t claxon_vendor(const uint8_t *content, size_t length, size_t *vendor_at, size_t *vendor_length, size_t *tags,
+                       char *error, size_t error_size);
+
+/* Finds the next tag in the content of a Vorbis comment block. *place is 0 for the first one, and is moved after the tag.
+ * With CLAXON_OK, its name (ASCII, of which upper and lower case mean the same) and its value (UTF-8) are at `name_at` and
+ * `value_at` in the content. NO_MORE: no tag is left. FORMAT_ERROR, INPUT_ENDS: no tag stands at *place, `error` gets a text.
+ * With any status but OK nothing else is changed. claxon_vendor tells whether the whole block is well-formed. */
+uint32_t claxon_next_tag(const uint8_t *content, size_t length, size_t *place, size_t *name_at, size_t *name_length,
+                         size_t *value_at, size_t *value_length, char *error, size_t error_size);
 
 /* Decodes the frame at the position *at. With CLAXON_OK, `block` is filled, channels * duration samples are written,
  * interleaved, and *at is moved after the frame. With any other status *at and the samples are unchanged:

@@ -14,7 +14,7 @@ use Rattle.claxon.specs.Prefix.{BeginsWith}
 use Rattle.claxon.proofs.OutOfMemory.{not_out_of_memory}
 use Rattle.claxon_c.specs.declared.heads.ClaxonInfo.{ClaxonInfo}
 use Rattle.claxon_c.specs.AtStart.{BeginsWithLength, HeadAtStart}
-use Rattle.claxon_c.specs.HeadCalls.{AnswersText, CHeadFaultIsComplete, CHeadFaultIsSound, CHeadElseIoError, ShowsHead, CHeadOutOfMemoryAfterHeader, texts_of}
+use Rattle.claxon_c.specs.HeadCalls.{CHeadFaultIsComplete, CHeadFaultIsSound, CHeadElseIoError, ShowsHead, CHeadOutOfMemoryAfterHeader, tag_count}
 use Rattle.claxon_c.specs.Info.{InfoShows, known_stream}
 use Rattle.claxon_c.specs.Status.{ErrorIsReported, IsFaultStatus, out_of_memory, input_ends}
 use Rattle.claxon_c.proofs.Reports.{each_fault_reported, io_error_reported, fault_reported, error_out_of_memory, out_of_memory_reported}
@@ -59,7 +59,7 @@ known found info tags taken shows bounds =
     let most : nat_le found.bits_per_sample 32 ≡ true = search (rules, bounds.bits) in
     rw (shows.width, shows.min_block_size, shows.max_block_size, some, most) refl
 
-pub shows_head : (found : StreamInfo) (comment : Option (VorbisComment Global)) (info : ClaxonInfo) (tags taken : ℕ) → InfoShows found tags taken info → tags ≡ length (texts_of (found_view comment)) → HasBounds found
+pub shows_head : (found : StreamInfo) (comment : Option (VorbisComment Global)) (info : ClaxonInfo) (tags taken : ℕ) → InfoShows found tags taken info → tags ≡ tag_count (found_view comment) → HasBounds found
     → ShowsHead (head_view (found, comment)) info.first_frame info
 shows_head found comment info tags taken shows count bounds = record {
   first_frame = refl;
@@ -70,28 +70,11 @@ shows_head found comment info tags taken shows count bounds = record {
   width = shows.width;
   min_block_size = shows.min_block_size;
   max_block_size = shows.max_block_size;
+  min_frame_size = shows.min_frame_size;
+  max_frame_size = shows.max_frame_size;
+  md5 = shows.md5;
   stream = known found info tags taken shows bounds;
 }
-
--- ---- a tag
-
-text_of_entry : (xs : List (String Global × ℕ)) (index : ℕ) (pair : String Global × ℕ) → slice_get xs index ≡ Some pair → slice_get (map (λ entry. entry.text) (map entry_view xs)) index ≡ Some (string_bytes pair.0)
-text_of_entry [] index pair e = absurd cc
-text_of_entry (x ∷ xs) zero pair e = let same : x ≡ pair = cc in ap (λ (z : String Global × ℕ). Some (string_bytes z.0)) same
-text_of_entry (x ∷ xs) (suc index) pair e = text_of_entry xs index pair e
-
--- a tag is no error
-pub text_no_error : (text : Option (List ℕ)) (status : ℕ) (old new : List ℕ) (count : ℕ) → AnswersText text status old new count → (IsFaultStatus status → ⊥) × ((status ≢ out_of_memory) × (status ≢ input_ends))
-text_no_error None status old new count h = (λ says. elim says [ inl p ↦ absurd cc | inr p ↦ absurd cc ], (λ p. absurd cc, λ p. absurd cc))
-text_no_error (Some text) status old new count (len, inl h) = (λ says. elim says [ inl p ↦ absurd cc | inr p ↦ absurd cc ], (λ p. absurd cc, λ p. absurd cc))
-text_no_error (Some text) status old new count (len, inr h) = (λ says. elim says [ inl p ↦ absurd cc | inr p ↦ absurd cc ], (λ p. absurd cc, λ p. absurd cc))
-
--- it is that of the entry
-pub gives_text : (found : Option (VorbisComment Global)) (comment : VorbisComment Global) (index : ℕ) (pair : String Global × ℕ) (status : ℕ) (old new : List ℕ) (count : ℕ) → found ≡ Some comment → slice_get comment.comments.items index ≡ Some pair
-    → AnswersText (Some (string_bytes pair.0)) status old new count → AnswersText (slice_get (texts_of (found_view found)) index) status old new count
-gives_text found comment index pair status old new count is at h =
-    let e : slice_get (texts_of (found_view found)) index ≡ Some (string_bytes pair.0) = ap (λ (x : Option (VorbisComment Global)). slice_get (texts_of (found_view x)) index) is ∙ text_of_entry comment.comments.items index pair at in
-    subst (λ (x : Option (List ℕ)). AnswersText x status old new count) (sym e) h
 
 -- the head is the bytes before the first frame
 pub head_at_first_frame : (found : StreamInfo) (comment : Option (VorbisComment Global)) (bytes : List ℕ) (info : ClaxonInfo) (taken : ℕ) → HeadAtStart (head_view {A = Global}) bytes (Ok (found, comment)) taken → info.first_frame ≡ taken

@@ -7,7 +7,6 @@ use Rattle.claxon.specs.Promises.{HasNeither, IsOutOfMemory}
 use Rattle.claxon.specs.Errors.{Error}
 use Rattle.claxon.specs.Errors.TheVariants.{IoError, FormatError, Unsupported, OutOfMemory}
 use Rattle.claxon.specs.Prefix.{BeginsWith}
-use Rattle.claxon_c.specs.HeadCalls.{IsHeadStatus}
 use Rattle.claxon_c.specs.Status.{ErrorIsReported, FaultIsReported, IsFaultStatus, TextIsPut, TextIsReported, buffer_short, input_ends, no_more, ok, out_of_memory}
 
 module _ (status : ℕ) (old new : List ℕ) where
@@ -75,9 +74,3 @@ module _ (status : ℕ) (old new : List ℕ) where
 
     pub out_of_memory_reported : {A : Type 0} → IsOutOfMemory (let q : Result A Error = Err e in q) → status ≡ out_of_memory
     out_of_memory_reported s = let m : e ≡ OutOfMemory = cc in reported_out_of_memory e m reported
-
--- nor is it a head
-pub no_head : (status : ℕ) (old new : List ℕ) (e : Error) → ErrorIsReported e status old new → IsHeadStatus status → ⊥
-no_head status old new e reported (inl p) = (just_error status old new e reported).0 p
-no_head status old new e reported (inr (inl p)) = (just_error status old new e reported).1.0 p
-no_head status old new e reported (inr (inr p)) = (just_error status old new e reported).1.1 p

@@ -12,32 +12,25 @@ use Rattle.claxon_c.specs.AtStart.{BeginsWithLength}
 use Rattle.claxon_c.specs.Info.{known_stream}
 use Rattle.claxon_c.specs.Status.{FaultIsReported, IsFaultStatus, TextIsPut, buffer_short, input_ends, no_more, ok, out_of_memory}
 
--- the texts of the tags
-abbrev pub texts_of : Option Comment → List (List ℕ)
-texts_of None = []
-texts_of (Some comment) = map (λ entry. entry.text) comment.entries
+-- the number of tags
+abbrev pub tag_count : Option Comment → ℕ
+tag_count None = 0
+tag_count (Some comment) = length comment.entries
 
 -- It shows this head, the number of its bytes, and what its frames need to know.
 pub record ShowsHead (h : Head) (count : ℕ) (info : ClaxonInfo) : Type 0 where
   pub first_frame : info.first_frame ≡ count
-  pub tags : info.tags ≡ length (texts_of h.comment)
+  pub tags : info.tags ≡ tag_count h.comment
   pub samples : info.samples ≡ h.info.samples
   pub rate : info.sample_rate ≡ h.info.rate
   pub channels : info.channels ≡ h.info.channels
   pub width : info.bits_per_sample ≡ h.info.width
   pub min_block_size : info.min_block_size ≡ h.info.min_block_size
   pub max_block_size : info.max_block_size ≡ h.info.max_block_size
+  pub min_frame_size : info.min_frame_size ≡ h.info.min_frame_size
+  pub max_frame_size : info.max_frame_size ≡ h.info.max_frame_size
+  pub md5 : info.md5 ≡ h.info.md5
   pub stream : known_stream info ≡ Some (stream_of h.info)
-
--- The answer for an index of a text: the text and its length, its length alone where it doesn't fit, or that there is none.
-abbrev pub AnswersText : Option (List ℕ) → ℕ → List ℕ → List ℕ → ℕ → Type 0
-AnswersText None status old new count = status ≡ no_more
-AnswersText (Some text) status old new count =
-    (count ≡ length text) × (((status ≡ ok) × (length text < length old) × TextIsPut text old new) ⊎ ((status ≡ buffer_short) × (length old ≤ length text)))
-
--- the status says that the bytes begin with a head
-abbrev pub IsHeadStatus : ℕ → Type 0
-IsHeadStatus status = (status ≡ ok) ⊎ ((status ≡ no_more) ⊎ (status ≡ buffer_short))
 
 -- The info is changed by `ok` alone.
 abbrev pub InfoIsKept : ℕ → ClaxonInfo → ClaxonInfo → Type 0
@@ -56,20 +49,6 @@ module _ (bytes : List ℕ) (status : ℕ) where
   COpenIsComplete info =
       (h : Head) → BeginsWith (HeadCode (with_samples true) h) bytes
       → ((status ≡ ok) × ShowsHead h info.first_frame info) ⊎ (status ≡ out_of_memory)
-
-  -- Of the head that the bytes begin with, the tag is returned, or that there is none, or that it doesn't fit.
-  abbrev pub CTagIsSound : ℕ → List ℕ → List ℕ → ℕ → Type 0
-  CTagIsSound index old new count =
-      IsHeadStatus status
-      → (h : Head) × BeginsWith (HeadCode (with_samples true) h) bytes
-      × AnswersText (slice_get (texts_of h.comment) index) status old new count
-
-  -- So it is for each head that the bytes begin with, or the status is `out_of_memory`.
-  abbrev pub CTagIsComplete : ℕ → List ℕ → List ℕ → ℕ → Type 0
-  CTagIsComplete index old new count =
-      (h : Head) → BeginsWith (HeadCode (with_samples true) h) bytes
-      → AnswersText (slice_get (texts_of h.comment) index) status old new count
-      ⊎ (status ≡ out_of_memory)
 
   -- The status of a fault reports one that the bytes begin with; its text is written to `new`.
   abbrev pub CHeadFaultIsSound : List ℕ → List ℕ → Type 0

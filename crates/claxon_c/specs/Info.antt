@@ -15,6 +15,9 @@ pub record InfoShows (found : StreamInfo) (tags first_frame : ℕ) (info : Claxo
   pub width : info.bits_per_sample ≡ found.bits_per_sample
   pub min_block_size : info.min_block_size ≡ found.min_block_size
   pub max_block_size : info.max_block_size ≡ found.max_block_size
+  pub min_frame_size : info.min_frame_size ≡ or_zero found.min_frame_size
+  pub max_frame_size : info.max_frame_size ≡ or_zero found.max_frame_size
+  pub md5 : info.md5 ≡ found.md5sum
 
 -- What it says of the stream: nothing, where the bit depth is out of range.
 abbrev pub known_stream : ClaxonInfo → Option StreamFormat

@@ -2,4 +2,6 @@ pub mod Status
 pub mod AtStart
 pub mod Info
 pub mod HeadCalls
+pub mod NextMetadata
 pub mod NextBlock
+pub mod Version

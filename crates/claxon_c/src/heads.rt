@@ -1,15 +1,15 @@
 //! The head of a stream.
-ghost use Rattle.std.specs.Prelude.{◌≡◌, IfSome, length, slice_get};
+ghost use Rattle.std.specs.Prelude.{◌≡◌, IfSome};
 ghost use Rattle.std.specs.Option.{option_map};
 ghost use Rattle.claxon.specs.ReadHead.{found_view};
 ghost use Rattle.claxon.specs.FrameReader.{stream_with};
 ghost use Rattle.claxon.specs.FlacReader.{HasBitDepth};
 ghost use Rattle.claxon_c.specs.Info.{InfoShows, known_stream};
-ghost use Rattle.claxon_c.specs.HeadCalls.{AnswersText, CHeadFaultIsComplete, COpenIsComplete, CTagIsComplete, CHeadFaultIsSound, COpenIsSound, InfoIsKept, CHeadElseIoError, CHeadOutOfMemoryAfterHeader, CTagIsSound, texts_of};
+ghost use Rattle.claxon_c.specs.HeadCalls.{CHeadFaultIsComplete, COpenIsComplete, CHeadFaultIsSound, COpenIsSound, InfoIsKept, CHeadElseIoError, CHeadOutOfMemoryAfterHeader, tag_count};
 ghost use Rattle.claxon_c.specs.Status.{TextIsReported};
 
 use crate::at_start::head_at_start;
-use crate::status::{BUFFER_SHORT, NO_MORE, OK, put_text, report};
+use crate::status::{OK, report};
 use claxon::metadata::{StreamInfo, VorbisComment};
 use std::alloc::Global;
 
@@ -29,10 +29,16 @@ pub struct ClaxonInfo {
     pub channels: u32,
     /// The number of bits per sample, 1 to 32.
     pub bits_per_sample: u32,
+    /// The least number of bytes of a frame, or 0 where it isn't known.
+    pub min_frame_size: u32,
+    /// The greatest number of bytes of a frame, or 0 where it isn't known.
+    pub max_frame_size: u32,
     /// The least number of samples of a channel in a block, except the last block.
     pub min_block_size: u16,
     /// The greatest number of samples of a channel in a block.
     pub max_block_size: u16,
+    /// The MD5 sum of the samples, or zeros where it isn't known.
+    pub md5: [u8; 16],
 }
 
 impl ClaxonInfo {
@@ -46,8 +52,11 @@ impl ClaxonInfo {
             sample_rate: found.sample_rate,
             channels: found.channels,
             bits_per_sample: found.bits_per_sample,
+            min_frame_size: found.min_frame_size.unwrap_or(0),
+            max_frame_size: found.max_frame_size.unwrap_or(0),
             min_block_size: found.min_block_size,
             max_block_size: found.max_block_size,
+            md5: found.md5sum,
         }
     }
 
@@ -74,7 +83,7 @@ impl ClaxonInfo {
 }
 
 fn count_tags(comment: &Option<VorbisComment>) -> usize
-    ensures { result ≡ length (texts_of (found_view comment.now)) }
+    ensures { result ≡ tag_count (found_view comment.now) }
 {
     match comment {
         Some(comment) => comment.comments.len(),
@@ -107,52 +116,4 @@ pub extern "C" fn claxon_open(
         }
         Err(fault) => report(&fault, error),
     }
-}
-
-/// Writes the text `NAME=value` of a tag, and a zero byte after it.
-#[unsafe(no_mangle)]
-pub extern "C" fn claxon_tag(
-    alloc: Global,
-    bytes: &[u8],
-    index: usize,
-    text: &mut [u8],
-    text_length: &mut usize,
-) -> u32
-    ensures sound { CTagIsSound bytes.now result index text.old text.new text_length.new }
-    ensures complete { CTagIsComplete bytes.now result index text.old text.new text_length.new }
-    ensures fault { CHeadFaultIsSound bytes.now result text.old text.new }
-    ensures named { CHeadFaultIsComplete bytes.now result text.old text.new }
-    ensures io { CHeadElseIoError bytes.now result }
-    ensures memory { CHeadOutOfMemoryAfterHeader bytes.now result }
-    ensures text { TextIsReported result text.old text.new }
-{
-    let mut taken = 0;
-    match head_at_start(alloc, bytes, &mut taken) {
-        Ok((_, comment)) => give_tag(&comment, index, text, text_length),
-        Err(fault) => report(&fault, text),
-    }
-}
-
-// Writes a tag of these comments where it fits.
-fn give_tag(
-    comment: &Option<VorbisComment>,
-    index: usize,
-    text: &mut [u8],
-    text_length: &mut usize,
-) -> u32
-    ensures { AnswersText (slice_get (texts_of (found_view comment.now)) index)
-        result text.old text.new text_length.new }
-{
-    let Some(comment) = comment else {
-        return NO_MORE;
-    };
-    let Some((tag, _)) = comment.comments.get(index) else {
-        return NO_MORE;
-    };
-    *text_length = tag.len();
-    if text.len() <= tag.len() {
-        return BUFFER_SHORT;
-    }
-    put_text(tag.as_str(), text);
-    OK
 }

@@ -6,9 +6,12 @@
 mod at_start;
 mod heads;
 mod interleave;
+mod metadata;
 mod next_block;
 mod planar;
 mod status;
+mod version;
 
 pub use heads::ClaxonInfo;
+pub use metadata::ClaxonMetadata;
 pub use next_block::ClaxonBlock;
