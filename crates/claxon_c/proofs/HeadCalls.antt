@@ -53,7 +53,7 @@ module _ {A : Type 0} (view : StreamInfo × Option A → Head) (bytes : List ℕ
 
 -- ---- what is shown of it
 
-known : (found : StreamInfo) (info : ClaxonInfo) (tags taken : ℕ) → InfoShows found tags taken info → HasBounds found → known_stream info ≡ Some (stream_of (info_view found))
+pub known : (found : StreamInfo) (info : ClaxonInfo) (tags taken : ℕ) → InfoShows found tags taken info → HasBounds found → known_stream info ≡ Some (stream_of (info_view found))
 known found info tags taken shows bounds =
     let some : nat_le 1 found.bits_per_sample ≡ true = search (rules, bounds.some_bits) in
     let most : nat_le found.bits_per_sample 32 ≡ true = search (rules, bounds.bits) in

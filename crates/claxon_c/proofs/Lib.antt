@@ -1,5 +1,7 @@
 pub mod AtStart
 pub mod BlockCalls
+pub mod BlockContents
+pub mod ContentCalls
 pub mod HeadCalls
 pub mod InterleavedSamples
 pub mod NextMetadata

@@ -42,7 +42,7 @@ pub struct ClaxonInfo {
 }
 
 impl ClaxonInfo {
-    fn new(found: &StreamInfo, tags: usize, first_frame: usize) -> ClaxonInfo
+    pub(crate) fn new(found: &StreamInfo, tags: usize, first_frame: usize) -> ClaxonInfo
         ensures { InfoShows found.now tags first_frame result }
     {
         ClaxonInfo {

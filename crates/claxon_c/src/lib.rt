@@ -4,6 +4,7 @@
 #![tactic(auto)]
 
 mod at_start;
+mod contents;
 mod heads;
 mod interleave;
 mod metadata;

@@ -1,0 +1,47 @@
+use Rattle.std.proofs.Common.{inl, inr, refl, ◌≡◌}
+use Rattle.claxon_metadata.specs.MetadataBlock.{info_view}
+use Rattle.claxon_format.specs.MetadataBlocks.{Info}
+use Rattle.claxon_c.specs.Contents.{streaminfo_type}
+use Rattle.claxon_c.specs.Status.{out_of_memory}
+use Rattle.claxon_c.proofs.ContentCalls.{content_fault, content_io, content_io_ok, content_memory, content_named, content_out_of_memory, info_content, no_content_fault, no_streaminfo_memory, shows_streaminfo, streaminfo_begins, streaminfo_complete, streaminfo_sound}
+use Rattle.claxon_c.proofs.Reports.{just_error, text_reported}
+use Rattle.claxon_c.proofs.contents.claxon_streaminfo.Goals as goal
+
+pub returns-in-Ok : goal.returns-in-Ok
+returns-in-Ok c =
+    let content = c.args.content.now in
+    let found = c.in-Ok.found in
+    let old = c.args.error.now in
+    let h = c.in-Ok.ensures.value in
+    let shows = shows_streaminfo found c.new.result c.new.ensures c.in-Ok.ensures.bounds in
+    record {
+      sound = streaminfo_sound content found c.new.result h shows;
+      complete = streaminfo_complete content found c.new.result h shows;
+      fault = λ says. absurd (elim says [ inl p ↦ absurd cc | inr p ↦ absurd cc ]);
+      named = no_content_fault info_content streaminfo_type content 0 old old found h;
+      io = content_io_ok info_content streaminfo_type content 0 old old found h;
+      memory = λ is. absurd cc;
+      text = (λ is. absurd cc, λ is. absurd cc);
+      kept = λ no. absurd (no refl);
+    }
+
+pub returns-in-Err : goal.returns-in-Err
+returns-in-Err c =
+    let content = c.args.content.now in
+    let status = c.report.result in
+    let old = c.args.error.now in
+    let new = c.report.new.output in
+    let e = c.in-Err.fault in
+    let h = c.in-Err.ensures.value in
+    let reported = c.report.ensures in
+    let memory : status ≡ out_of_memory → ⊥ = λ is. no_streaminfo_memory content (content_memory info_content streaminfo_type content status old new e h reported is) in
+    record {
+      sound = λ says. absurd ((just_error status old new e reported).0 says);
+      complete = λ i code. absurd (memory (content_out_of_memory info_content streaminfo_type content status old new e h reported (Info i) (streaminfo_begins i content code)));
+      fault = content_fault info_content streaminfo_type content status old new e h reported;
+      named = content_named info_content streaminfo_type content status old new e h reported;
+      io = content_io info_content streaminfo_type content status old new e h reported;
+      memory = memory;
+      text = text_reported status old new e reported;
+      kept = λ no. refl;
+    }

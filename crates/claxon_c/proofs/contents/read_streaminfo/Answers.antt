@@ -1,0 +1,27 @@
+use Rattle.std.proofs.Common.{Global, rules, refl, ◌≡◌, length, subst, sym}
+use Rattle.std.specs.Prelude.{Err, Result}
+use Rattle.claxon_format.specs.MetadataBlocks.{Body, BodyFault, Info}
+use Rattle.claxon_input.specs.declared.error.Error.{Error}
+use Rattle.claxon_metadata.specs.MetadataBlock.{MayRunOutOfMemory, content_view, info_view}
+use Rattle.claxon_metadata.specs.declared.metadata.StreamInfo.{StreamInfo}
+use Rattle.claxon_metadata.specs.declared.metadata.MetadataBlock.TheVariants.{StreamInfo as InfoBlock}
+use Rattle.claxon_c.specs.Contents.{BodyIsRead, streaminfo_type}
+use Rattle.claxon_c.proofs.ContentCalls.{error_is_read, value_is_read, info_content}
+use Rattle.claxon_c.proofs.contents.read_streaminfo.Goals as goal
+
+pub returns-in_err-block-clause-value : goal.returns-in_err-block-clause-value
+returns-in_err-block-clause-value c =
+    let e = c.in_err-block.field-0.0 in
+    let content = c.args.content.now in
+    let n = length content in
+    let is : c.from_residual.result ≡ Err e = search rules in
+    subst (λ (r : Result StreamInfo Error). BodyIsRead info_content streaminfo_type content r) (sym is)
+    (error_is_read (content_view {A = Global}) info_content (Body streaminfo_type n) (BodyFault streaminfo_type n) (MayRunOutOfMemory streaminfo_type n content) content e c.in_err-block.ensures.value)
+
+pub returns-in-StreamInfo-clause-value : goal.returns-in-StreamInfo-clause-value
+returns-in-StreamInfo-clause-value c =
+    let found = c.in-StreamInfo.found in
+    let content = c.args.content.now in
+    let n = length content in
+    let is : content_view {A = Global} c.in_ok-block.block ≡ Info (info_view found) = search rules in
+    value_is_read (content_view {A = Global}) info_content (Body streaminfo_type n) (BodyFault streaminfo_type n) (MayRunOutOfMemory streaminfo_type n content) content c.in_ok-block.block found is c.in_ok-block.ensures.value
