@@ -8,3 +8,6 @@ pub mod NextMetadata
 pub mod Reports
 pub mod HeadersAtStart
 pub mod PlanarSamples
+pub mod TagCalls
+pub mod TagTexts
+pub mod TagsRead

@@ -10,7 +10,7 @@ use Rattle.claxon.specs.Prefix.{BeginsWith}
 use Rattle.claxon_c.specs.Status.{ErrorIsReported, FaultIsReported, IsFaultStatus, TextIsPut, TextIsReported, buffer_short, input_ends, no_more, ok, out_of_memory}
 
 module _ (status : ℕ) (old new : List ℕ) where
-  reported_fault : (f : Fault) (e : Error) → IsFault f e → ErrorIsReported e status old new → FaultIsReported f status old new
+  pub reported_fault : (f : Fault) (e : Error) → IsFault f e → ErrorIsReported e status old new → FaultIsReported f status old new
   reported_fault f (FormatError reason) is t = (rw is.1 t.0, subst (λ (z : List ℕ). TextIsPut z old new) is.0 t.1)
   reported_fault f (Unsupported feature) is t = (rw is.1 t.0, subst (λ (z : List ℕ). TextIsPut z old new) is.0 t.1)
   reported_fault f (IoError cause) is t = absurd is

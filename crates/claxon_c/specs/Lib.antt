@@ -5,4 +5,6 @@ pub mod HeadCalls
 pub mod Contents
 pub mod NextMetadata
 pub mod NextBlock
+pub mod NextTag
+pub mod TagReader
 pub mod Version

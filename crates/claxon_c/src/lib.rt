@@ -11,6 +11,7 @@ mod metadata;
 mod next_block;
 mod planar;
 mod status;
+mod tags;
 mod version;
 
 pub use heads::ClaxonInfo;

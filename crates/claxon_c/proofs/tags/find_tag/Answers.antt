@@ -1,0 +1,20 @@
+use Rattle.std.proofs.Common.{◌≡◌, List, rules, length, ap, sym, subst, ◌∙◌, ℕ, Option, drop}
+use Rattle.std.specs.Prelude.{Err, Result}
+use Rattle.claxon_format.specs.Comments.{Entry}
+use Rattle.claxon_format.specs.read.Reading.{Reading}
+use Rattle.claxon_input.specs.declared.error.Error.{Error}
+use Rattle.claxon_c.specs.declared.tags.Tag.{Tag}
+use Rattle.claxon_c.specs.TagReader.{TagIsRead, tag_at}
+use Rattle.claxon_c.proofs.tags.find_tag.Goals as goal
+
+pub returns-in_err-first : goal.returns-in_err-first
+returns-in_err-first c =
+    let content = c.args.content.now in
+    let e = c.in_err-first.field-0.0 in
+    let is : c.from_residual.result ≡ Err e = search rules in
+    subst (λ (r : Result (Option Tag) Error). TagIsRead content (tag_at c.args.place content) r) (sym is) c.in_err-first.ensures
+
+pub returns : goal.returns
+returns c =
+    let content = c.args.content.now in
+    subst (λ (read : Reading ℕ (Option Entry)). TagIsRead content read c.first_tag.result) (sym c.in_ok-first.ensures.1) c.first_tag.ensures

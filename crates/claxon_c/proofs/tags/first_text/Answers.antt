@@ -1,0 +1,36 @@
+use Rattle.std.proofs.Common.{◌≡◌, ◌≤◌, ◌<◌, ◌+◌, ◌-◌, [], List, arith, rules, refl, drop, length, ap, sym, subst, ◌∙◌, ℕ, min}
+use Rattle.claxon_format.specs.Fault.{CommentShort, VendorLong, fault_text}
+use Rattle.claxon_format.specs.read.Bytes.{little_at}
+use Rattle.claxon_format.specs.read.Reading.{Done, Faulty}
+use Rattle.claxon_c.specs.TagReader.{FirstTextIsRead, first_entry_at, tag_at}
+use Rattle.claxon_c.proofs.TagTexts.{front_missing, place_passed, vendor_passed, vendor_too_long}
+use Rattle.claxon_c.proofs.tags.first_text.Goals as goal
+
+pub returns-then-place-gt0 : goal.returns-then-place-gt0
+returns-then-place-gt0 c =
+    let content = c.args.content.now in
+    let least : c.min.result ≡ min (length content) c.args.place = search rules in
+    (omega (arith, least), place_passed c.args.place content (search rules) ∙ ap (λ (n : ℕ). first_entry_at (length content) (drop n content)) (sym least))
+
+pub returns-then-content : goal.returns-then-content
+unfolding fault_text
+returns-then-content c =
+    let content = c.args.content.now in
+    let at : c.args.place ≡ 0 = search rules in
+    (CommentShort, content, (refl, refl), ap (λ (n : ℕ). tag_at n content) at ∙ front_missing content (search rules))
+
+pub returns-then-vendor_length-content : goal.returns-then-vendor_length-content
+unfolding fault_text
+returns-then-vendor_length-content c =
+    let content = c.args.content.now in
+    let at : c.args.place ≡ 0 = search rules in
+    (VendorLong, drop 4 content, (refl, refl), ap (λ (n : ℕ). tag_at n content) at ∙ vendor_too_long content (drop 4 content) c.length_at-vendor_length.result (search rules) c.length_at-vendor_length.ensures (search rules))
+
+pub returns : goal.returns
+returns c =
+    let content = c.args.content.now in
+    let v = c.length_at-vendor_length.result in
+    let at : c.args.place ≡ 0 = search rules in
+    let enough : 8 ≤ length content = search rules in
+    let fits : v ≤ length content - 8 = search rules in
+    (omega (arith, enough, fits), ap (λ (n : ℕ). tag_at n content) at ∙ vendor_passed content v enough c.length_at-vendor_length.ensures fits)

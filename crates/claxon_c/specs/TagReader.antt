@@ -1,0 +1,103 @@
+-- The reader of the next tag in the content of a Vorbis comment block, for private calls.
+use Rattle.std.specs.Prelude.{◌≡◌, ℕ, zero, suc, ◌+◌, ◌-◌, ◌<◌, ◌≤◌, nat_lt, cond, List, [], ◌∷◌, length, drop, Option, None, Some, Result, Ok, Err, MatchResult}
+use Rattle.std.specs.List.{position_or_len}
+use Rattle.claxon_format.specs.Comments.{Entry, is_separator}
+use Rattle.claxon_format.specs.Fault.{CommentShort, ExcessData, Fault}
+use Rattle.claxon_format.specs.read.Bytes.{bytes_at}
+use Rattle.claxon_format.specs.read.Comments.{entry_at, entry_length_at, entry_of, entry_or_empty_at, vendor_length_at}
+use Rattle.claxon_format.specs.read.Reading.{Done, Faulty, Reading, and_then, bind, test}
+use Rattle.claxon_input.specs.Error.{IsFault}
+use Rattle.claxon_input.specs.declared.error.Error.{Error}
+use Rattle.claxon_c.specs.declared.tags.Tag.{Tag}
+use Rattle.claxon_c.specs.declared.tags.Text.{Text}
+
+-- the length of a text, where `left` bytes are left
+unfoldable pub text_length_at : ℕ → List ℕ → Reading ℕ ℕ
+text_length_at left = test (nat_lt left 4) ExcessData (entry_length_at (left - 4))
+
+-- a text, and the entry that it is unless it is empty
+unfoldable pub text_at : ℕ → List ℕ → Reading ℕ (List Entry)
+text_at left = and_then (text_length_at left) entry_or_empty_at
+
+-- the first of these entries of a text, or what is read after it
+abbrev pub after_text : (List ℕ → Reading ℕ (Option Entry)) → List Entry → List ℕ → Reading ℕ (Option Entry)
+after_text next [] rest = next rest
+after_text next (e ∷ others) rest = Done (Some e) rest
+
+-- the first entry of at most `most` texts
+unfoldable pub first_entry_at : ℕ → List ℕ → Reading ℕ (Option Entry)
+first_entry_at zero s = Done None s
+first_entry_at (suc most) s =
+    cond (nat_lt 0 (length s)) (bind (text_at (length s) s) (after_text (first_entry_at most)))
+    (Done None s)
+
+-- the length of the vendor string in a content of n bytes
+unfoldable pub front_length_at : ℕ → List ℕ → Reading ℕ ℕ
+front_length_at n = test (nat_lt n 8) CommentShort (vendor_length_at (n - 8))
+
+-- what stands before the texts
+unfoldable pub front_at : ℕ → List ℕ → Reading ℕ (List ℕ)
+front_at n = and_then (front_length_at n) (λ v. bytes_at (v + 4))
+
+-- the next tag from a place on
+unfoldable pub tag_at : ℕ → List ℕ → Reading ℕ (Option Entry)
+tag_at zero content = bind (front_at (length content) content) (λ _. first_entry_at (length content))
+tag_at (suc n) content = first_entry_at (length content) (drop (suc n) content)
+
+-- ---- what private calls return
+
+-- the fault that was read is that of the error
+abbrev pub ReadsFault : {A : Type 0} → Reading ℕ A → Error → Type 0
+ReadsFault read e = (f : Fault) × (rest : List ℕ) × IsFault f e × (read ≡ Faulty f rest)
+
+-- The end of the text at this place is returned.
+abbrev pub TextEndIsRead : List ℕ → ℕ → Result ℕ Error → Type 0
+TextEndIsRead content at result =
+    MatchResult result
+    (λ end. (at + 4 ≤ end) × (end ≤ length content)
+    × (text_length_at (length content - at) (drop at content) ≡ Done (end - at - 4) (drop (at + 4) content)))
+    (λ e. ReadsFault (text_length_at (length content - at) (drop at content)) e)
+
+-- The length of the name of an entry is returned.
+abbrev pub NameIsRead : List ℕ → Result ℕ Error → Type 0
+NameIsRead text result =
+    MatchResult result
+    (λ count. (count ≡ position_or_len is_separator text)
+    × (entry_at (length text) text ≡ Done (entry_of text) []))
+    (λ e. ReadsFault (entry_at (length text) text) e)
+
+-- no entry, or one whose name has this length, and whose text has `count` bytes
+abbrev pub IsEntryOf : Option ℕ → ℕ → List Entry → Type 0
+IsEntryOf None count entries = entries ≡ []
+IsEntryOf (Some n) count entries =
+    (e : Entry) × (entries ≡ e ∷ []) × (length e.text ≡ count) × (e.place ≡ n)
+
+-- The text at this place is returned.
+abbrev pub TextIsRead : List ℕ → ℕ → Result Text Error → Type 0
+TextIsRead content at result =
+    MatchResult result
+    (λ text. (at + 4 ≤ text.end) × (text.end ≤ length content) × ((entries : List Entry)
+    × IsEntryOf text.name_length (text.end - at - 4) entries
+    × (text_at (length content - at) (drop at content) ≡ Done entries (drop text.end content))))
+    (λ e. ReadsFault (text_at (length content - at) (drop at content)) e)
+
+-- The tag is that of the entry that was read.
+abbrev pub IsTagOf : List ℕ → Reading ℕ (Option Entry) → Option Tag → Type 0
+IsTagOf content read None = (rest : List ℕ) × (read ≡ Done None rest)
+IsTagOf content read (Some tag) =
+    (e : Entry) × (rest : List ℕ) × (read ≡ Done (Some e) rest)
+    × (tag.end + length rest ≡ length content) × (tag.name_at + length e.text ≡ tag.end)
+    × (tag.name_length ≡ e.place)
+
+-- What was read is returned.
+abbrev pub TagIsRead : List ℕ → Reading ℕ (Option Entry) → Result (Option Tag) Error → Type 0
+TagIsRead content read result =
+    MatchResult result (λ found. IsTagOf content read found) (λ e. ReadsFault read e)
+
+-- The place of the first text is returned, where `read` reads what stands before it.
+abbrev pub FirstTextIsRead : ℕ → List ℕ → Result ℕ Error → Type 0
+FirstTextIsRead place content result =
+    MatchResult result
+    (λ first. (first ≤ length content)
+    × (tag_at place content ≡ first_entry_at (length content) (drop first content)))
+    (λ e. ReadsFault (tag_at place content) e)
