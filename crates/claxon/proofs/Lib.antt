@@ -1,7 +1,15 @@
 pub use Rattle.claxon_input.proofs.ConsecutiveCalls
 pub use Rattle.claxon_format.proofs.Streams
 pub use Rattle.claxon_format.proofs.FormatLaws
+pub use Rattle.claxon_format.proofs.Bytes
+pub use Rattle.claxon_format.proofs.CodedNumber
+pub use Rattle.claxon_format.proofs.Comments
+pub use Rattle.claxon_format.proofs.CrcBytes
+pub use Rattle.claxon_format.proofs.Laws
+pub use Rattle.claxon_format.proofs.Metadata
+pub use Rattle.claxon_format.proofs.Numbers
 pub use Rattle.claxon_input.proofs.InMemory
+pub use Rattle.claxon_input.proofs.CacheBits
 pub use Rattle.claxon_frame.proofs.BlockInfo
 pub use Rattle.claxon_frame.proofs.FrameHeaders
 pub mod HeadMemory

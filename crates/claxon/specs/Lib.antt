@@ -1,6 +1,10 @@
 pub use Rattle.claxon_format.specs.Bits
 pub use Rattle.claxon_format.specs.Comments
 pub use Rattle.claxon_format.specs.Codes
+pub use Rattle.claxon_format.specs.Crc
+pub use Rattle.claxon_format.specs.Metadata
+pub use Rattle.claxon_format.specs.MetadataBlocks
+pub use Rattle.claxon_format.specs.Streaminfo
 pub use Rattle.claxon_format.specs.read
 pub use Rattle.claxon_metadata.specs.declared.metadata.VorbisComment as VorbisComments
 pub use Rattle.claxon_format.specs.Fault
@@ -21,6 +25,8 @@ pub use Rattle.claxon_metadata.specs.VorbisComment
 pub use Rattle.claxon_metadata.specs.TagEntries
 pub use Rattle.claxon_metadata.specs.Tags
 pub use Rattle.claxon_metadata.specs.MetadataBlock
+pub use Rattle.claxon_metadata.specs.ReadMetadataBlock
+pub use Rattle.claxon_metadata.specs.declared.metadata.MetadataBlock as MetadataBlockVariants
 pub use Rattle.claxon_metadata.specs.MetadataBlockReader
 pub use Rattle.claxon_frame.specs.Block
 pub use Rattle.claxon_frame.specs.FrameReader

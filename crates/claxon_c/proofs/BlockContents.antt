@@ -3,18 +3,18 @@ use Rattle.std.proofs.Common.{◌≡◌, ◌⊎◌, inl, inr, ℕ, ◌≤◌, �
 use Rattle.std.specs.Prelude.{Result, Ok, Err, IfOk}
 use Rattle.std.specs.Io.Cursor.{cursor_position, cursor_inner}
 use Rattle.std.proofs.lemmas.Bool.{cases_lt, eqb-true, ltb-true, ltb-false, lt-ltb, le-ltb}
-use Rattle.claxon_format.specs.Codes.{MeetsOr}
-use Rattle.claxon_format.specs.Fault.{Fault}
-use Rattle.claxon_format.specs.Metadata.{max_content_bytes}
-use Rattle.claxon_format.specs.MetadataBlocks.{Body, BodyFault, Content}
-use Rattle.claxon_input.specs.Cursor.{cursor_source}
-use Rattle.claxon_input.specs.Error.{IsFault}
-use Rattle.claxon_input.specs.Promises.{CodeIsComplete, CodeIsSound, FaultIsComplete, FaultIsSound, IsOutOfMemory, Remains}
-use Rattle.claxon_input.specs.State.{State}
-use Rattle.claxon_input.specs.declared.error.Error.{Error}
-use Rattle.claxon_input.proofs.InMemory.{cursor_just_out_of_memory, new_cursor_remains}
-use Rattle.claxon_metadata.specs.MetadataBlock.{MayAllocate, MayRunOutOfMemory}
-use Rattle.claxon_metadata.specs.VorbisComment.{HasVendorLength, OutOfMemoryAfterVendorLength}
+use Rattle.claxon.specs.Codes.{MeetsOr}
+use Rattle.claxon.specs.Fault.{Fault}
+use Rattle.claxon.specs.Metadata.{max_content_bytes}
+use Rattle.claxon.specs.MetadataBlocks.{Body, BodyFault, Content}
+use Rattle.claxon.specs.Cursor.{cursor_source}
+use Rattle.claxon.specs.Error.{IsFault}
+use Rattle.claxon.specs.Promises.{CodeIsComplete, CodeIsSound, FaultIsComplete, FaultIsSound, IsOutOfMemory, Remains}
+use Rattle.claxon.specs.State.{State}
+use Rattle.claxon.specs.Errors.{Error}
+use Rattle.claxon.proofs.InMemory.{cursor_just_out_of_memory, new_cursor_remains}
+use Rattle.claxon.specs.MetadataBlock.{MayAllocate, MayRunOutOfMemory}
+use Rattle.claxon.specs.VorbisComment.{HasVendorLength, OutOfMemoryAfterVendorLength}
 use Rattle.claxon.specs.OtherErrors.{IfOtherErr}
 use Rattle.claxon.specs.Prefix.{BeginsWith}
 use Rattle.claxon.proofs.FramesInMemory.{Slice, begins_with_consumed, slice_state}

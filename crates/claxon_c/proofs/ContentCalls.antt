@@ -2,21 +2,21 @@
 use Rattle.std.proofs.Common.{◌≡◌, ◌⊎◌, inl, inr, ℕ, ◌+◌, ◌*◌, ◌<◌, ◌≤◌, List, [], ◌∷◌, ◌++◌, length, take, drop, refl, sym, ap, subst, ◌∙◌, arith, length-append, append-nil, append_assoc, Option, None, Global}
 use Rattle.std.specs.Prelude.{Result, Ok, Err, string_bytes}
 use Rattle.std.proofs.lemmas.List.{drop_at, length-map, take_at}
-use Rattle.claxon_format.specs.Bits.{Bits, bits, bits_of, Number}
-use Rattle.claxon_format.specs.Codes.{Each}
-use Rattle.claxon_format.specs.Comments.{Comment, CommentCode}
-use Rattle.claxon_format.specs.Fault.{Fault}
-use Rattle.claxon_format.specs.MetadataBlocks.{Body, BodyFault, Comments, Content, Info}
-use Rattle.claxon_format.specs.Streaminfo.{Streaminfo, StreaminfoCode}
-use Rattle.claxon_format.proofs.Bytes.{length-bits_of}
-use Rattle.claxon_format.proofs.Metadata.{little_length}
-use Rattle.claxon_format.proofs.Numbers.{length-bits}
-use Rattle.claxon_input.specs.declared.error.Error.{Error}
-use Rattle.claxon_metadata.specs.MetadataBlock.{HasBounds, MayRunOutOfMemory, info_view}
-use Rattle.claxon_metadata.specs.TagEntries.{entry_view}
-use Rattle.claxon_metadata.specs.VorbisComment.{comment_view}
-use Rattle.claxon_metadata.specs.declared.metadata.StreamInfo.{StreamInfo}
-use Rattle.claxon_metadata.specs.declared.metadata.VorbisComment.{VorbisComment}
+use Rattle.claxon.specs.Bits.{Bits, bits, bits_of, Number}
+use Rattle.claxon.specs.Codes.{Each}
+use Rattle.claxon.specs.Comments.{Comment, CommentCode}
+use Rattle.claxon.specs.Fault.{Fault}
+use Rattle.claxon.specs.MetadataBlocks.{Body, BodyFault, Comments, Content, Info}
+use Rattle.claxon.specs.Streaminfo.{Streaminfo, StreaminfoCode}
+use Rattle.claxon.proofs.Bytes.{length-bits_of}
+use Rattle.claxon.proofs.Metadata.{little_length}
+use Rattle.claxon.proofs.Numbers.{length-bits}
+use Rattle.claxon.specs.Errors.{Error}
+use Rattle.claxon.specs.MetadataBlock.{HasBounds, MayRunOutOfMemory, info_view}
+use Rattle.claxon.specs.TagEntries.{entry_view}
+use Rattle.claxon.specs.VorbisComment.{comment_view}
+use Rattle.claxon.specs.StreamInfos.{StreamInfo}
+use Rattle.claxon.specs.VorbisComments.{VorbisComment}
 use Rattle.claxon.specs.Prefix.{BeginsWith}
 use Rattle.claxon.proofs.OutOfMemory.{not_out_of_memory, same_out_of_memory}
 use Rattle.claxon_c.specs.declared.heads.ClaxonInfo.{ClaxonInfo}

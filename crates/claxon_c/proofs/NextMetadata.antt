@@ -2,15 +2,15 @@
 use Rattle.std.proofs.Common.{◌≡◌, ℕ, ◌+◌, ◌*◌, ◌/◌, ◌%◌, ◌<◌, ◌≤◌, ltb, Bool, List, ◌++◌, length, take, drop, refl, sym, ap, ap₂, ◌∙◌, subst, inl, inr, arith, length-append}
 use Rattle.std.proofs.lemmas.Bool.{lt-ltb, le-ltb, cases_lt}
 use Rattle.std.proofs.lemmas.List.{take-append-drop, drop-drop}
-use Rattle.claxon_format.specs.Bits.{Bits, bits, bits_of}
-use Rattle.claxon_format.specs.Crc.{bit}
-use Rattle.claxon_format.specs.Metadata.{BlockHeader, BlockHeaderCode}
-use Rattle.claxon_format.specs.read.Metadata.{block_header_at}
-use Rattle.claxon_format.specs.read.Reading.{Reading, Done}
-use Rattle.claxon_format.proofs.Bytes.{length-bits_of}
-use Rattle.claxon_format.proofs.CodedNumber.{bits-add}
-use Rattle.claxon_format.proofs.Metadata.{Reads-block_header}
-use Rattle.claxon_format.proofs.Numbers.{bits-same, length-bits}
+use Rattle.claxon.specs.Bits.{Bits, bits, bits_of}
+use Rattle.claxon.specs.Crc.{bit}
+use Rattle.claxon.specs.Metadata.{BlockHeader, BlockHeaderCode}
+use Rattle.claxon.specs.read.Metadata.{block_header_at}
+use Rattle.claxon.specs.read.Reading.{Reading, Done}
+use Rattle.claxon.proofs.Bytes.{length-bits_of}
+use Rattle.claxon.proofs.CodedNumber.{bits-add}
+use Rattle.claxon.proofs.Metadata.{Reads-block_header}
+use Rattle.claxon.proofs.Numbers.{bits-same, length-bits}
 use Rattle.claxon.specs.Prefix.{BeginsWith}
 use Rattle.claxon_c.specs.declared.metadata.ClaxonMetadata.{ClaxonMetadata}
 use Rattle.claxon_c.specs.NextMetadata.{IsNextHeader, CMetadataIsComplete, CMetadataIsSound, ShowsHeader, header_length}

@@ -4,16 +4,16 @@ use Rattle.std.specs.Prelude.{replicate}
 use Rattle.std.proofs.Math.Dec.{eqb-suc-zero}
 use Rattle.std.proofs.lemmas.Bool.{cases_lt, le-ltb, lt-ltb, ltb-false, ltb-true}
 use Rattle.std.proofs.lemmas.List.{drop_at, length-drop, length-take, take-append-drop, take_at}
-use Rattle.claxon_format.specs.Codes.{Each, Is, Mapped, MeetsOr, Never, ThenFault}
-use Rattle.claxon_format.specs.Comments.{Entry, EntryCode, EntryOrEmpty, EntryOrEmptyFault, IsEntry, LengthPrefixed, TextLength, TextLengthFault}
-use Rattle.claxon_format.specs.Fault.{CommentShort, EntryLong, ExcessData, Fault, VendorLong}
-use Rattle.claxon_format.specs.Metadata.{Bytes, Little}
-use Rattle.claxon_format.specs.read.Bytes.{bytes_at}
-use Rattle.claxon_format.specs.read.Comments.{entry_length_at, entry_or_empty_at, vendor_length_at}
-use Rattle.claxon_format.specs.read.Reading.{Done, Faulty, Incomplete, Reading, Reads, and_then, bind, test}
-use Rattle.claxon_format.proofs.Comments.{Reads-entry_length, Reads-entry_or_empty, Reads-vendor_length}
-use Rattle.claxon_format.proofs.Laws.{Reads-same, Reads-test, Reads-then, Then}
-use Rattle.claxon_format.proofs.Metadata.{Reads-bytes, little_length}
+use Rattle.claxon.specs.Codes.{Each, Is, Mapped, MeetsOr, Never, ThenFault}
+use Rattle.claxon.specs.Comments.{Entry, EntryCode, EntryOrEmpty, EntryOrEmptyFault, IsEntry, LengthPrefixed, TextLength, TextLengthFault}
+use Rattle.claxon.specs.Fault.{CommentShort, EntryLong, ExcessData, Fault, VendorLong}
+use Rattle.claxon.specs.Metadata.{Bytes, Little}
+use Rattle.claxon.specs.read.Bytes.{bytes_at}
+use Rattle.claxon.specs.read.Comments.{entry_length_at, entry_or_empty_at, vendor_length_at}
+use Rattle.claxon.specs.read.Reading.{Done, Faulty, Incomplete, Reading, Reads, and_then, bind, test}
+use Rattle.claxon.proofs.Comments.{Reads-entry_length, Reads-entry_or_empty, Reads-vendor_length}
+use Rattle.claxon.proofs.Laws.{Reads-same, Reads-test, Reads-then, Then}
+use Rattle.claxon.proofs.Metadata.{Reads-bytes, little_length}
 use Rattle.claxon.specs.Prefix.{BeginsWith}
 use Rattle.claxon_c.specs.NextTag.{EmptyTexts, FrontFault, NextTag, NextTagFault, NoTagIsLeft, TagFaultStands, TagStands, TextFault, TextsFrom}
 use Rattle.claxon_c.specs.TagReader.{after_text, first_entry_at, front_at, front_length_at, tag_at, text_at, text_length_at}

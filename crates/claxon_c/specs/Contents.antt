@@ -1,13 +1,13 @@
 -- What calls return that are passed the content of a metadata block, and nothing else: of a streaminfo or of Vorbis comments.
 use Rattle.std.specs.Prelude.{◌≡◌, ◌≢◌, ◌⊎◌, ℕ, ◌<◌, List, length, take, drop, Option, None, Result, IfOk, IsErrAnd, IsOkAnd}
-use Rattle.claxon_format.specs.Fault.{Fault}
-use Rattle.claxon_format.specs.Comments.{Comment, CommentCode}
-use Rattle.claxon_format.specs.MetadataBlocks.{Body, BodyFault, Content}
-use Rattle.claxon_format.specs.Streaminfo.{Streaminfo, StreaminfoCode}
-use Rattle.claxon_input.specs.Error.{IsFault}
-use Rattle.claxon_input.specs.Promises.{HasNeither, IsOutOfMemory}
-use Rattle.claxon_input.specs.declared.error.Error.{Error}
-use Rattle.claxon_metadata.specs.MetadataBlock.{MayRunOutOfMemory}
+use Rattle.claxon.specs.Fault.{Fault}
+use Rattle.claxon.specs.Comments.{Comment, CommentCode}
+use Rattle.claxon.specs.MetadataBlocks.{Body, BodyFault, Content}
+use Rattle.claxon.specs.Streaminfo.{Streaminfo, StreaminfoCode}
+use Rattle.claxon.specs.Error.{IsFault}
+use Rattle.claxon.specs.Promises.{HasNeither, IsOutOfMemory}
+use Rattle.claxon.specs.Errors.{Error}
+use Rattle.claxon.specs.MetadataBlock.{MayRunOutOfMemory}
 use Rattle.claxon.specs.OtherErrors.{IfOtherErr}
 use Rattle.claxon.specs.Prefix.{BeginsWith}
 use Rattle.claxon_c.specs.declared.heads.ClaxonInfo.{ClaxonInfo}

@@ -1,7 +1,7 @@
 -- What a call returns for the metadata block at a position in bytes.
 use Rattle.std.specs.Prelude.{◌≡◌, ◌≢◌, ◌↔◌, ℕ, ◌+◌, ◌<◌, ◌≤◌, List, length, drop}
-use Rattle.claxon_format.specs.Crc.{bit}
-use Rattle.claxon_format.specs.Metadata.{BlockHeader, BlockHeaderCode}
+use Rattle.claxon.specs.Crc.{bit}
+use Rattle.claxon.specs.Metadata.{BlockHeader, BlockHeaderCode}
 use Rattle.claxon.specs.Prefix.{BeginsWith}
 use Rattle.claxon_c.specs.declared.metadata.ClaxonMetadata.{ClaxonMetadata}
 use Rattle.claxon_c.specs.Status.{input_ends, ok}

@@ -1,8 +1,8 @@
 -- What a call returns for the next tag in the content of a Vorbis comment block.
 use Rattle.std.specs.Prelude.{◌≡◌, ◌≢◌, ◌⊎◌, ◌↔◌, ℕ, zero, suc, ◌+◌, ◌-◌, ◌<◌, nat_lt, List, [], ◌∷◌, ◌++◌, length, take, drop, replicate}
-use Rattle.claxon_format.specs.Codes.{Each, MeetsOr, ThenFault}
-use Rattle.claxon_format.specs.Comments.{Comment, CommentCode, EntriesOf, Entry, EntryOrEmptyFault, IsEntry, LengthPrefixed, TextLength, TextLengthFault}
-use Rattle.claxon_format.specs.Fault.{CommentShort, EntryLong, ExcessData, Fault, VendorLong}
+use Rattle.claxon.specs.Codes.{Each, MeetsOr, ThenFault}
+use Rattle.claxon.specs.Comments.{Comment, CommentCode, EntriesOf, Entry, EntryOrEmptyFault, IsEntry, LengthPrefixed, TextLength, TextLengthFault}
+use Rattle.claxon.specs.Fault.{CommentShort, EntryLong, ExcessData, Fault, VendorLong}
 use Rattle.claxon.specs.Prefix.{BeginsWith}
 use Rattle.claxon_c.specs.Status.{FaultIsReported, IsFaultStatus, no_more, ok}
 

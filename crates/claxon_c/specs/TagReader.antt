@@ -1,13 +1,13 @@
 -- The reader of the next tag in the content of a Vorbis comment block, for private calls.
 use Rattle.std.specs.Prelude.{◌≡◌, ℕ, zero, suc, ◌+◌, ◌-◌, ◌<◌, ◌≤◌, nat_lt, cond, List, [], ◌∷◌, length, drop, Option, None, Some, Result, Ok, Err, MatchResult}
 use Rattle.std.specs.List.{position_or_len}
-use Rattle.claxon_format.specs.Comments.{Entry, is_separator}
-use Rattle.claxon_format.specs.Fault.{CommentShort, ExcessData, Fault}
-use Rattle.claxon_format.specs.read.Bytes.{bytes_at}
-use Rattle.claxon_format.specs.read.Comments.{entry_at, entry_length_at, entry_of, entry_or_empty_at, vendor_length_at}
-use Rattle.claxon_format.specs.read.Reading.{Done, Faulty, Reading, and_then, bind, test}
-use Rattle.claxon_input.specs.Error.{IsFault}
-use Rattle.claxon_input.specs.declared.error.Error.{Error}
+use Rattle.claxon.specs.Comments.{Entry, is_separator}
+use Rattle.claxon.specs.Fault.{CommentShort, ExcessData, Fault}
+use Rattle.claxon.specs.read.Bytes.{bytes_at}
+use Rattle.claxon.specs.read.Comments.{entry_at, entry_length_at, entry_of, entry_or_empty_at, vendor_length_at}
+use Rattle.claxon.specs.read.Reading.{Done, Faulty, Reading, and_then, bind, test}
+use Rattle.claxon.specs.Error.{IsFault}
+use Rattle.claxon.specs.Errors.{Error}
 use Rattle.claxon_c.specs.declared.tags.Tag.{Tag}
 use Rattle.claxon_c.specs.declared.tags.Text.{Text}
 

@@ -1,9 +1,9 @@
 //! The contents of two kinds of metadata blocks: a streaminfo, and Vorbis comments.
 ghost use Rattle.std.specs.Prelude.{◌≡◌, ◌⊎◌, ◌≤◌, ◌<◌, IfOk, length};
-ghost use Rattle.claxon_format.specs.MetadataBlocks.{Comments, Info};
-ghost use Rattle.claxon_metadata.specs.MetadataBlock.{HasBounds, content_view, info_view};
-ghost use Rattle.claxon_metadata.specs.ReadMetadataBlock.{ResultHasBounds};
-ghost use Rattle.claxon_metadata.specs.VorbisComment.{comment_view};
+ghost use Rattle.claxon.specs.MetadataBlocks.{Comments, Info};
+ghost use Rattle.claxon.specs.MetadataBlock.{HasBounds, content_view, info_view};
+ghost use Rattle.claxon.specs.ReadMetadataBlock.{ResultHasBounds};
+ghost use Rattle.claxon.specs.VorbisComment.{comment_view};
 ghost use Rattle.claxon_c.specs.Contents.{BodyIsRead, CContentElseIoError, CContentFaultIsComplete, CContentFaultIsSound, CStreaminfoIsComplete, CStreaminfoIsSound, CStreaminfoNeverOutOfMemory, CVendorIsComplete, CVendorIsSound, CVendorOutOfMemoryAfterLengths, VendorIsKept, comment_type, streaminfo_type};
 ghost use Rattle.claxon_c.specs.HeadCalls.{InfoIsKept};
 ghost use Rattle.claxon_c.specs.Status.{TextIsReported};

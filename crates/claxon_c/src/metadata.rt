@@ -1,6 +1,6 @@
 //! Metadata blocks, one after another.
 ghost use Rattle.std.specs.Prelude.{◌≡◌, ◌≤◌, ◌+◌, take, drop, length};
-ghost use Rattle.claxon_format.specs.Bits.{bits, bits_of};
+ghost use Rattle.claxon.specs.Bits.{bits, bits_of};
 ghost use Rattle.claxon_c.specs.NextMetadata.{CMetadataIffHeaderIsLeft, CMetadataInputEndsElse, CMetadataIsComplete, CMetadataIsSound, MetadataIsKept, header_length};
 
 use crate::status::{INPUT_ENDS, OK};

@@ -1,10 +1,10 @@
 //! Tags, one after another.
 ghost use Rattle.std.specs.Prelude.{◌≡◌, ◌≤◌, ◌<◌, ◌+◌, [], ◌∷◌, drop, length};
 ghost use Rattle.std.specs.List.{list_all, position};
-ghost use Rattle.claxon_format.specs.Comments as comments;
-ghost use Rattle.claxon_format.specs.Comments.{is_separator};
-ghost use Rattle.claxon_format.specs.read.Bytes.{little_at};
-ghost use Rattle.claxon_format.specs.read.Reading.{Done};
+ghost use Rattle.claxon.specs.Comments as comments;
+ghost use Rattle.claxon.specs.Comments.{is_separator};
+ghost use Rattle.claxon.specs.read.Bytes.{little_at};
+ghost use Rattle.claxon.specs.read.Reading.{Done};
 ghost use Rattle.claxon_c.specs.NextTag.{CTagFaultIsComplete, CTagFaultIsSound, CTagIsComplete, CTagIsSound, CTagNoMoreIffEnd, CTagStatusIsKnown, CTagsAreInOrder, TagIsKept};
 ghost use Rattle.claxon_c.specs.TagReader.{FirstTextIsRead, NameIsRead, TagIsRead, TextEndIsRead, TextIsRead, first_entry_at, tag_at};
 

@@ -1,12 +1,12 @@
 -- Pairs with CRC as bytes.
 use Rattle.std.proofs.Common.{◌≡◌, ◌<◌, ℕ, List, subst, ◌∙◌}
-use Rattle.claxon_format.specs.Fault.{FrameCrc}
-use Rattle.claxon_format.specs.read.Bytes.{by_bytes, crc_at, with_crc_bytes_at}
-use Rattle.claxon_format.specs.Crc.{crc16}
-use Rattle.claxon_format.specs.read.Reading.{Done, bind, done}
-use Rattle.claxon_format.proofs.Laws.{Reads-then, Reads-map}
-use Rattle.claxon_format.proofs.Numbers.{Reads-number}
-use Rattle.claxon_format.proofs.CrcBytes.{with_crc_in_bytes}
+use Rattle.claxon.specs.Fault.{FrameCrc}
+use Rattle.claxon.specs.read.Bytes.{by_bytes, crc_at, with_crc_bytes_at}
+use Rattle.claxon.specs.Crc.{crc16}
+use Rattle.claxon.specs.read.Reading.{Done, bind, done}
+use Rattle.claxon.proofs.Laws.{Reads-then, Reads-map}
+use Rattle.claxon.proofs.Numbers.{Reads-number}
+use Rattle.claxon.proofs.CrcBytes.{with_crc_in_bytes}
 use Rattle.claxon_input.specs.CrcReader.{crc_source, crc_state}
 use Rattle.claxon_input.specs.CrcUpdate.{update_crc16}
 use Rattle.claxon_input.specs.Source.{Source}

@@ -1,12 +1,12 @@
 -- Two numbers of 5 and of 9 bits, padding and a CRC: a small code of the same form as a frame.
 use Rattle.std.specs.Prelude.{ℕ, Bool, List, Result}
-use Rattle.claxon_format.specs.Bits.{Bits}
-use Rattle.claxon_format.specs.Fault.{FrameCrc}
-use Rattle.claxon_format.specs.read.Bytes.{by_bytes}
-use Rattle.claxon_format.specs.read.Crc.{byte_aligned_at, with_crc_at}
-use Rattle.claxon_format.specs.Crc.{crc16}
-use Rattle.claxon_format.specs.read.Reading.{Reading, and_then, done}
-use Rattle.claxon_format.specs.read.Bits.{number_at}
+use Rattle.claxon.specs.Bits.{Bits}
+use Rattle.claxon.specs.Fault.{FrameCrc}
+use Rattle.claxon.specs.read.Bytes.{by_bytes}
+use Rattle.claxon.specs.read.Crc.{byte_aligned_at, with_crc_at}
+use Rattle.claxon.specs.Crc.{crc16}
+use Rattle.claxon.specs.read.Reading.{Reading, and_then, done}
+use Rattle.claxon.specs.read.Bits.{number_at}
 use Rattle.claxon_input.specs.Gives.{Gives}
 use Rattle.claxon_input.specs.Source.{Source}
 use Rattle.claxon_input.specs.State.{bytes_in}

@@ -1,7 +1,7 @@
 //! Two numbers with padding and a CRC, read as a frame is: bits through a CRC reader, and then the CRC as bytes.
 ghost use Rattle.std.specs.Prelude.{◌≡◌};
-ghost use Rattle.claxon_format.specs.Fault.{FrameCrc};
-ghost use Rattle.claxon_format.specs.read.Bytes.{by_bytes, crc_at};
+ghost use Rattle.claxon.specs.Fault.{FrameCrc};
+ghost use Rattle.claxon.specs.read.Bytes.{by_bytes, crc_at};
 ghost use Rattle.claxon_input.specs.CrcReader.{crc_source, crc_state};
 ghost use Rattle.claxon_input.specs.CrcUpdate.{update_crc16};
 ghost use Rattle.claxon_input.specs.State.{bytes_in, bits_in};

@@ -1,6 +1,6 @@
 use Rattle.std.proofs.Common.{inl, inr, refl, ◌≡◌}
-use Rattle.claxon_metadata.specs.MetadataBlock.{info_view}
-use Rattle.claxon_format.specs.MetadataBlocks.{Info}
+use Rattle.claxon.specs.MetadataBlock.{info_view}
+use Rattle.claxon.specs.MetadataBlocks.{Info}
 use Rattle.claxon_c.specs.Contents.{streaminfo_type}
 use Rattle.claxon_c.specs.Status.{out_of_memory}
 use Rattle.claxon_c.proofs.ContentCalls.{content_fault, content_io, content_io_ok, content_memory, content_named, content_out_of_memory, info_content, no_content_fault, no_streaminfo_memory, shows_streaminfo, streaminfo_begins, streaminfo_complete, streaminfo_sound}

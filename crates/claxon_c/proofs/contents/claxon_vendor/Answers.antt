@@ -1,6 +1,6 @@
 use Rattle.std.proofs.Common.{inl, inr, refl, rules, ◌≡◌, length}
 use Rattle.std.specs.Prelude.{string_bytes}
-use Rattle.claxon_format.specs.MetadataBlocks.{Comments}
+use Rattle.claxon.specs.MetadataBlocks.{Comments}
 use Rattle.claxon_c.specs.Contents.{comment_type}
 use Rattle.claxon_c.proofs.ContentCalls.{comment_begins, comment_content, content_fault, content_io, content_io_ok, content_memory, content_named, content_out_of_memory, no_content_fault, vendor_complete, vendor_sound}
 use Rattle.claxon_c.proofs.Reports.{just_error, text_reported}

@@ -1,10 +1,10 @@
 use Rattle.std.proofs.Common.{Global, rules, refl, ◌≡◌, length, subst, sym}
 use Rattle.std.specs.Prelude.{Err, Result}
-use Rattle.claxon_format.specs.MetadataBlocks.{Body, BodyFault, Comments}
-use Rattle.claxon_input.specs.declared.error.Error.{Error}
-use Rattle.claxon_metadata.specs.MetadataBlock.{MayRunOutOfMemory, content_view}
-use Rattle.claxon_metadata.specs.VorbisComment.{comment_view}
-use Rattle.claxon_metadata.specs.declared.metadata.VorbisComment.{VorbisComment}
+use Rattle.claxon.specs.MetadataBlocks.{Body, BodyFault, Comments}
+use Rattle.claxon.specs.Errors.{Error}
+use Rattle.claxon.specs.MetadataBlock.{MayRunOutOfMemory, content_view}
+use Rattle.claxon.specs.VorbisComment.{comment_view}
+use Rattle.claxon.specs.VorbisComments.{VorbisComment}
 use Rattle.claxon_c.specs.Contents.{BodyIsRead, comment_type}
 use Rattle.claxon_c.proofs.ContentCalls.{comment_content, error_is_read, value_is_read}
 use Rattle.claxon_c.proofs.contents.read_comment.Goals as goal

@@ -1,5 +1,5 @@
 use Rattle.std.proofs.Common.{Global, rules, ◌≡◌, length, min}
-use Rattle.claxon_metadata.specs.MetadataBlock.{content_view}
+use Rattle.claxon.specs.MetadataBlock.{content_view}
 use Rattle.claxon_c.proofs.BlockContents.{body_is_read, like_least}
 use Rattle.claxon_c.proofs.contents.read_content.Goals as goal
 

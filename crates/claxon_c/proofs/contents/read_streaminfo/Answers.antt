@@ -1,10 +1,10 @@
 use Rattle.std.proofs.Common.{Global, rules, refl, ◌≡◌, length, subst, sym}
 use Rattle.std.specs.Prelude.{Err, Result}
-use Rattle.claxon_format.specs.MetadataBlocks.{Body, BodyFault, Info}
-use Rattle.claxon_input.specs.declared.error.Error.{Error}
-use Rattle.claxon_metadata.specs.MetadataBlock.{MayRunOutOfMemory, content_view, info_view}
-use Rattle.claxon_metadata.specs.declared.metadata.StreamInfo.{StreamInfo}
-use Rattle.claxon_metadata.specs.declared.metadata.MetadataBlock.TheVariants.{StreamInfo as InfoBlock}
+use Rattle.claxon.specs.MetadataBlocks.{Body, BodyFault, Info}
+use Rattle.claxon.specs.Errors.{Error}
+use Rattle.claxon.specs.MetadataBlock.{MayRunOutOfMemory, content_view, info_view}
+use Rattle.claxon.specs.StreamInfos.{StreamInfo}
+use Rattle.claxon.specs.MetadataBlockVariants.TheVariants.{StreamInfo as InfoBlock}
 use Rattle.claxon_c.specs.Contents.{BodyIsRead, streaminfo_type}
 use Rattle.claxon_c.proofs.ContentCalls.{error_is_read, value_is_read, info_content}
 use Rattle.claxon_c.proofs.contents.read_streaminfo.Goals as goal

@@ -1,5 +1,5 @@
 use Rattle.std.proofs.Common.{arith}
-use Rattle.claxon_input.proofs.CacheBits.{bits_of_four}
+use Rattle.claxon.proofs.CacheBits.{bits_of_four}
 use Rattle.claxon_c.proofs.metadata.header_at.Goals as goal
 
 pub returns : goal.returns

@@ -1,7 +1,7 @@
 use Rattle.std.proofs.Common.{◌≡◌, ◌≤◌, ◌+◌, ◌-◌, arith, rules, true, false, refl, drop, length, ap, ◌∙◌, ℕ}
 use Rattle.std.proofs.lemmas.Bool.{le-ltb, lt-ltb}
-use Rattle.claxon_format.specs.Fault.{EntryLong, ExcessData, fault_text}
-use Rattle.claxon_format.specs.read.Reading.{Done}
+use Rattle.claxon.specs.Fault.{EntryLong, ExcessData, fault_text}
+use Rattle.claxon.specs.read.Reading.{Done}
 use Rattle.claxon_c.proofs.TagTexts.{length_missing, length_tested}
 use Rattle.claxon_c.proofs.tags.end_of_text.Goals as goal
 

@@ -1,8 +1,8 @@
 use Rattle.std.proofs.Common.{◌≡◌, List, rules, length, ap, sym, subst, ◌∙◌, ℕ, Option, drop}
 use Rattle.std.specs.Prelude.{Err, Result}
-use Rattle.claxon_format.specs.Comments.{Entry}
-use Rattle.claxon_format.specs.read.Reading.{Reading}
-use Rattle.claxon_input.specs.declared.error.Error.{Error}
+use Rattle.claxon.specs.Comments.{Entry}
+use Rattle.claxon.specs.read.Reading.{Reading}
+use Rattle.claxon.specs.Errors.{Error}
 use Rattle.claxon_c.specs.declared.tags.Tag.{Tag}
 use Rattle.claxon_c.specs.TagReader.{TagIsRead, tag_at}
 use Rattle.claxon_c.proofs.tags.find_tag.Goals as goal

@@ -1,9 +1,9 @@
 use Rattle.std.proofs.Common.{◌≡◌, ◌≤◌, ◌<◌, ◌+◌, ◌-◌, ◌∷◌, [], List, arith, rules, refl, drop, length, ap, sym, subst, ◌∙◌, ℕ, Option, None, Some}
 use Rattle.std.specs.Prelude.{Err, Result}
 use Rattle.std.proofs.lemmas.List.{length-drop}
-use Rattle.claxon_format.specs.Comments.{Entry}
-use Rattle.claxon_format.specs.read.Reading.{Done}
-use Rattle.claxon_input.specs.declared.error.Error.{Error}
+use Rattle.claxon.specs.Comments.{Entry}
+use Rattle.claxon.specs.read.Reading.{Done}
+use Rattle.claxon.specs.Errors.{Error}
 use Rattle.claxon_c.specs.declared.tags.Tag.{Tag}
 use Rattle.claxon_c.specs.TagReader.{IsEntryOf, TagIsRead, first_entry_at, text_at}
 use Rattle.claxon_c.proofs.TagsRead.{after_empty, at_end, at_entry, at_fault}

@@ -1,7 +1,7 @@
 use Rattle.std.proofs.Common.{◌≡◌, rules, refl}
 use Rattle.std.proofs.lemmas.Result.{err_from_is_err_and}
-use Rattle.claxon_format.specs.Fault.{FrameCrc, fault_text}
-use Rattle.claxon_format.proofs.CrcBytes.{crc_at_done, crc_at_fault, crc_at_incomplete}
+use Rattle.claxon.specs.Fault.{FrameCrc, fault_text}
+use Rattle.claxon.proofs.CrcBytes.{crc_at_done, crc_at_fault, crc_at_incomplete}
 use Rattle.claxon_input.proofs.ConsecutiveCalls.{consumes_map, consumes_none, io_exit, failure_or_after}
 use Rattle.claxon_input.proofs.ByteFields.{consumes_big, failure_or_big}
 use Rattle.claxon_input.proofs.Faults.{stops_fault}
