@@ -1,12 +1,11 @@
-//! Prints the facts in the head of a FLAC file, one line each, and one line for each tag.
+//! Prints the facts in the heads of FLAC files, one line each, and one line for each tag.
 #![tactic(auto)]
 
-use claxon_tools::commands::info::command;
-use claxon_tools::run_command;
+use claxon_tools::commands::info::{PROGRAM, command};
 use std::process::ExitCode;
 
 fn main(rt: HostRuntime) -> ExitCode {
-    run_command(&rt, &mut rt.stderr(), |words, errors| {
-        command(&rt, words, &mut rt.stdout(), errors)
+    PROGRAM.run(&rt, &mut rt.stderr(), |words, errors| {
+        command(&rt, words, rt.stdin(), &mut rt.stdout(), errors)
     })
 }

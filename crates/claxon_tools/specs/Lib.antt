@@ -1,3 +1,4 @@
+pub mod Arguments
 pub mod Progress
 pub mod Text
 pub mod ChannelMask

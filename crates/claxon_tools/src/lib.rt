@@ -3,9 +3,11 @@
 #![tactic(auto)]
 
 pub mod answer;
+pub mod arguments;
 pub mod commands;
 mod facts;
 pub mod fnv;
+pub mod program;
 pub mod progress;
 pub mod text;
 pub mod wav;

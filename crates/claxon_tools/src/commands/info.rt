@@ -1,31 +1,130 @@
-//! The command of `claxon_info`: the facts in the head of a FLAC file.
+//! The command of `claxon_info`: the facts in the head of FLAC files.
+use crate::arguments::Names;
 use crate::facts::write_facts;
-use claxon::Result;
-use claxon_write::{open_head, status};
+use crate::program::{Input, Part, Program, STANDARD, line, open_input, report};
+use claxon::{FlacReader, FlacReaderOptions, Result};
+use std::alloc::Global;
 use std::io::{Read, Write};
 use std::rt::Files;
 
-/// Does what the arguments say, and returns the exit status: 0, 1 for a fault, whose text goes to `errors`, or 2 for
-/// arguments that the usage line doesn't have. A failed write to `errors` is ignored.
-pub fn command<Q: Files + AllocGlobal, W: Write, E: Write>(
+/// What the program says about itself.
+pub const PROGRAM: Program = Program {
+    name: "claxon_info",
+    arguments: "FILE..",
+    help: "Shows the streaminfo and the tags of FLAC files, a line `NAME: value` for each. No frame is read.
+Where there are several files, a line `file: NAME` is before those of each.
+
+  FILE       a FLAC file; - is standard input
+  --         ends the options
+  --help     shows this text
+  --version  shows the version
+
+Status: 0 if all was read and written, 1 if not, 2 for other arguments.
+",
+};
+
+/// Does what the arguments say, and returns the exit status: 0, 1 if a file or the output fails, with a line on `errors` for
+/// each, or 2 for arguments that the usage line doesn't have. A failed write to `errors` is ignored. After a failed write to
+/// `output` the other files aren't read.
+pub fn command<Q: Files + AllocGlobal, I: Read + Copy, W: Write, E: Write>(
     rt: &Q,
     words: &[String],
+    input: I,
     output: &mut W,
     errors: &mut E,
 ) -> u8
 where
     Q::File: Read,
 {
-    let [name] = words else {
-        let _ = writeln!(errors, "usage: claxon_info FILE");
-        return 2;
-    };
-    status(print_facts(rt, name.as_str(), output), errors)
+    match Names::parse(words) {
+        Ok(names) => show_files(rt, names, input, output, errors),
+        Err(notice) => PROGRAM.print(notice, output, errors),
+    }
 }
 
-fn print_facts<Q: Files + AllocGlobal, W: Write>(rt: &Q, name: &str, output: &mut W) -> Result<()>
+// What became of a file.
+#[derive(Clone, Copy)]
+enum Outcome {
+    Shown,
+    Faulty,
+    // The output failed.
+    Lost,
+}
+
+fn show_files<Q: Files + AllocGlobal, I: Read + Copy, W: Write, E: Write>(
+    rt: &Q,
+    names: Names<'_>,
+    input: I,
+    output: &mut W,
+    errors: &mut E,
+) -> u8
 where
     Q::File: Read,
 {
-    write_facts(rt.alloc(), &open_head(rt, name)?, output)
+    let has_heading = names.total() > 1;
+    let mut status = 0;
+    for name in names {
+        match show_file(rt, name, has_heading, input, output, errors) {
+            Outcome::Shown => {}
+            Outcome::Faulty => status = 1,
+            Outcome::Lost => return 1,
+        }
+    }
+    status
+}
+
+fn show_file<Q: Files + AllocGlobal, I: Read + Copy, W: Write, E: Write>(
+    rt: &Q,
+    name: &str,
+    has_heading: bool,
+    input: I,
+    output: &mut W,
+    errors: &mut E,
+) -> Outcome
+where
+    Q::File: Read,
+{
+    let flac = match open_head(rt, name, input) {
+        Ok(flac) => flac,
+        Err(error) => {
+            report(rt.alloc(), name, Part::Head, &error, errors);
+            return Outcome::Faulty;
+        }
+    };
+    match write_lines(rt.alloc(), name, has_heading, &flac, output) {
+        Ok(()) => Outcome::Shown,
+        Err(error) => {
+            report(rt.alloc(), STANDARD, Part::Output, &error, errors);
+            Outcome::Lost
+        }
+    }
+}
+
+// Opens a file for its metadata only, with its tags.
+fn open_head<Q: Files + AllocGlobal, I: Read + Copy>(
+    rt: &Q,
+    name: &str,
+    input: I,
+) -> Result<FlacReader<Input<Q::File, I>>>
+where
+    Q::File: Read,
+{
+    let options = FlacReaderOptions {
+        metadata_only: true,
+        read_vorbis_comment: true,
+    };
+    FlacReader::new_ext(rt.alloc(), open_input(rt, name, input)?, options)
+}
+
+fn write_lines<R: Read, W: Write>(
+    alloc: Global,
+    name: &str,
+    has_heading: bool,
+    flac: &FlacReader<R>,
+    output: &mut W,
+) -> Result<()> {
+    if has_heading {
+        output.write_all(line(alloc, "file", name)?.as_bytes())?;
+    }
+    write_facts(alloc, flac, output)
 }

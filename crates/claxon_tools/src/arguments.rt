@@ -1,0 +1,150 @@
+//! The arguments of a program: options, and names of files.
+ghost use Rattle.std.specs.Prelude.{IsOkUnless};
+ghost use Rattle.claxon.specs.Errors.TheVariants.{OutOfMemory};
+
+use std::env;
+use std::io::ErrorKind;
+use std::rt::Env;
+
+/// An argument.
+pub enum Argument<'a> {
+    /// A word that begins with `-`, but for `-` itself. There is none after the word `--`.
+    Option(&'a str),
+
+    /// Any other word, as the name of a file, or `-` for a standard stream.
+    Operand(&'a str),
+}
+
+/// The arguments of a command line, in order. The first word `--` isn't one: it ends the options.
+#[derive(Drop)]
+pub struct Arguments<'a> {
+    words: &'a [String],
+    has_options: bool,
+}
+
+impl<'a> Arguments<'a> {
+    ghost use Rattle.claxon_tools.specs.Arguments.{TakesWord};
+
+    /// All arguments of these words.
+    pub fn new(words: &'a [String]) -> Arguments<'a> {
+        Arguments {
+            words,
+            has_options: true,
+        }
+    }
+
+    /// The next argument.
+    pub fn next(&mut self) -> Option<Argument<'a>>
+        ensures word { TakesWord result self.old self.new }
+    {
+        let word = self.value()?;
+        if self.has_options && word == "--" {
+            self.has_options = false;
+            return Some(Argument::Operand(self.value()?));
+        }
+        if self.has_options && word != "-" && word.starts_with('-') {
+            return Some(Argument::Option(word));
+        }
+        Some(Argument::Operand(word))
+    }
+
+    /// The next word, whatever it is, as the value of an option.
+    pub fn value(&mut self) -> Option<&'a str>
+        ensures word { TakesWord result self.old self.new }
+    {
+        let (first, others) = self.words.split_first()?;
+        self.words = others;
+        Some(first.as_str())
+    }
+}
+
+/// What a program prints in place of its work.
+pub enum Notice<'a> {
+    /// What it does, its arguments and its statuses, for `--help`.
+    Help,
+
+    /// The version of the product, for `--version`.
+    Version,
+
+    /// The usage line, after the name of an option that it doesn't have.
+    UnknownOption(&'a str),
+
+    /// The usage line.
+    Usage,
+}
+
+impl<'a> Notice<'a> {
+    /// What is printed for an option that each program has, or for one that it doesn't have.
+    pub fn of_option(option: &'a str) -> Notice<'a> {
+        if option == "--help" {
+            return Notice::Help;
+        }
+        if option == "--version" {
+            return Notice::Version;
+        }
+        Notice::UnknownOption(option)
+    }
+}
+
+/// The names of files, in order, where these are all of the arguments.
+#[derive(Drop)]
+pub struct Names<'a> {
+    arguments: Arguments<'a>,
+    count: usize,
+}
+
+impl<'a> Names<'a> {
+    /// The names among these words, of which there is one or more, and no option.
+    pub fn parse(words: &'a [String]) -> Result<Names<'a>, Notice<'a>> {
+        let mut arguments = Arguments::new(words);
+        let mut count = 0usize;
+        while let Some(argument) = arguments.next() {
+            match argument {
+                Argument::Option(option) => return Err(Notice::of_option(option)),
+                Argument::Operand(_) => count = count.saturating_add(1),
+            }
+        }
+        if count == 0 {
+            return Err(Notice::Usage);
+        }
+        Ok(Names {
+            arguments: Arguments::new(words),
+            count,
+        })
+    }
+
+    /// The number of names in all.
+    pub fn total(&self) -> usize {
+        self.count
+    }
+}
+
+impl<'a> Iterator for Names<'a> {
+    ghost use Rattle.std.specs.Iterator.{at_most};
+    ghost use Rattle.claxon_tools.specs.Arguments.{words_left};
+
+    type Item = &'a str;
+
+    ghost remaining = { λ s. at_most (words_left s.arguments) };
+
+    fn next(&mut self) -> Option<&'a str> {
+        match self.arguments.next()? {
+            Argument::Option(name) | Argument::Operand(name) => Some(name),
+        }
+    }
+}
+
+/// The words after the program's name, or None if one of them isn't UTF-8.
+///
+/// # Errors
+///
+/// Only `OutOfMemory`.
+pub fn text_words<Q: Env + AllocGlobal>(rt: &Q) -> claxon::Result<Option<Vec<String>>>
+    ensures { IsOkUnless result OutOfMemory }
+{
+    match env::args(rt) {
+        Ok(words) => Ok(Some(words.skip(1).collect(rt.alloc())?)),
+        Err(error) if error.kind() == ErrorKind::InvalidData => Ok(None),
+        Err(_) => Err(claxon::Error::OutOfMemory),
+    }
+}
