@@ -10,7 +10,7 @@ HEAD = re.compile(r'head blocks (\d+)-(\d+) frames (?:\d+|none)-(?:\d+|none) rat
 BLOCK = re.compile(r'block time (\d+) channels ([1-8]) duration ([1-9]\d*) fnv ([0-9a-f]{16})')
 FAULT = re.compile(r'fault (IO|Ill-formed FLAC stream: .+|A currently unsupported feature of the FLAC format was .+)')
 MAX_FAULTS = 10000
-STOPPED = 'claxon_trace: stopped after %d faults\n' % MAX_FAULTS
+STOPPED = 'stopped after %d faults' % MAX_FAULTS
 
 
 @dataclasses.dataclass
@@ -61,13 +61,14 @@ class Trace:
     wrong: str = None
 
 
-def check_ending(finished, lines, trace):
+def check_ending(finished, path, lines, trace):
     """What is wrong with the end of a trace, or None."""
     faults = sum(line.startswith('fault') for line in lines)
     if finished.status != (1 if faults else 0):
         return 'status %d with %d faults' % (finished.status, faults)
     was_stopped = faults == MAX_FAULTS and lines[-1] != 'fault IO'
-    if finished.errors != (STOPPED if was_stopped else ''):
+    expected = STOPPED if was_stopped else '.+' if lines[-1:] == ['fault IO'] else None
+    if not re.fullmatch(re.escape(path) + ': ' + expected + '\n' if expected else '', finished.errors):
         return 'errors: %s' % finished.errors.split('\n')[0]
     has_ended = lines[-1:] in (['end'], ['fault IO']) or (not trace.head and len(lines) == 1)
     return None if has_ended or was_stopped else 'no last line'
@@ -99,7 +100,7 @@ def claxon(program, path, limits):
         if not read_line(line, trace):
             trace.wrong = 'line: %s' % line[:80]
             return trace
-    trace.wrong = check_ending(finished, lines, trace)
+    trace.wrong = check_ending(finished, path, lines, trace)
     return trace
 
 

@@ -2,13 +2,15 @@
 ghost use Rattle.std.specs.Prelude.{◌≡◌, false};
 ghost use Rattle.claxon.specs.FlacReader.{flac_metadata_only};
 
-use crate::files::path_of;
+use crate::commands::owned;
+use crate::doubles::sinks::Sink;
+use crate::files::{file_of, path_of};
 use claxon::FlacReader;
 use claxon_tools::commands::wav::command;
 use claxon_tools::progress::Progress;
 use claxon_tools::wav::{Layout, Result, WavWriter, convert};
 use std::alloc::Global;
-use std::io::{Cursor, Read, Seek, Write};
+use std::io::{Cursor, ErrorKind, Read, Seek, Write};
 use std::test::Fail;
 use std::{fs, result};
 
@@ -104,57 +106,195 @@ fn remove(rt: &HostRuntime, name: &str) -> result::Result<(), Fail> {
     Ok(())
 }
 
-// The status of converting one file into another.
-fn status_of(rt: &HostRuntime, from: &str, to: &str) -> result::Result<u8, Fail> {
-    let words = [path_of(rt, from)?, path_of(rt, to)?];
-    let mut errors = Vec::new(rt.alloc());
-    Ok(command(rt, &words, false, &mut errors))
+// STREAM with this number of samples in its streaminfo; 0 is unknown.
+fn with_samples(samples: u32) -> [u8; 67] {
+    let mut stream = STREAM;
+    stream[22..26].copy_from_slice(&samples.to_be_bytes());
+    stream
 }
 
-// Whether this is the status, and the output has these bytes afterwards.
-fn leaves(
-    rt: &HostRuntime,
-    from: &str,
-    to: &str,
+// STREAM with 2^36 - 1 samples by its streaminfo.
+fn long_stream() -> [u8; 67] {
+    let mut stream = STREAM;
+    stream[21..26].copy_from_slice(&[0x7f, 0xff, 0xff, 0xff, 0xff]);
+    stream
+}
+
+// The arguments of a command line: options, and names of files of this process.
+fn paths_of(rt: &HostRuntime, words: &[&str]) -> result::Result<Vec<String>, Fail> {
+    let mut paths = Vec::new(rt.alloc());
+    for word in words {
+        if word.starts_with('-') {
+            paths.push(String::from_str(rt.alloc(), *word)?)?;
+        } else {
+            paths.push(path_of(rt, *word)?)?;
+        }
+    }
+    Ok(paths)
+}
+
+// The line on a file of this process, or none for an empty text.
+fn line_of(rt: &HostRuntime, name: &str, text: &str) -> result::Result<String, Fail> {
+    if text.is_empty() {
+        return Ok(String::new(rt.alloc()));
+    }
+    let path = path_of(rt, name)?;
+    let path = path.as_str();
+    Ok(format!(in rt.alloc(); "{path}: {text}\n")?)
+}
+
+// Whether a command line has this status, prints this text on one of its files, and leaves these bytes in that of `out`.
+fn leaves(rt: &HostRuntime, row: &Row) -> result::Result<bool, Fail> {
+    let words = paths_of(rt, row.words)?;
+    let line = line_of(rt, row.name, row.text)?;
+    let (mut output, mut errors): (Vec<u8>, Vec<u8>) = (Vec::new(rt.alloc()), Vec::new(rt.alloc()));
+    let status = command(rt, &words, b"".as_slice(), &mut output, false, &mut errors);
+    let is_said = errors.as_slice() == line.as_bytes() && output.is_empty();
+    Ok(is_said && status == row.status && holds(rt, "out", row.left)?)
+}
+
+struct Row {
+    words: &'static [&'static str],
+    name: &'static str,
     status: u8,
-    want: &[u8],
-) -> result::Result<bool, Fail> {
-    Ok(status_of(rt, from, to)? == status && holds(rt, "out.wav", want)?)
+    text: &'static str,
+    left: &'static [u8],
 }
 
-// The long stream has 2^36 - 1 samples by its streaminfo.
+#[rattlefmt::skip]
+const ROWS: [Row; 8] = [
+    Row { words: &["-f", "in", "in"], name: "in", status: 1, text: "the output is the input", left: b"old" },
+    Row { words: &["-f", "none", "out"], name: "none", status: 1, text: "No such file or directory", left: b"old" },
+    Row { words: &["-f", "long", "out"], name: "long", status: 1, text: "the samples are more than a WAV file holds, 4 GiB", left: b"old" },
+    Row { words: &["in", "out"], name: "out", status: 1, text: "the output exists; -f replaces it", left: b"old" },
+    Row { words: &["in", "-f", "out"], name: "out", status: 0, text: "", left: WHOLE },
+    Row { words: &["in", "none/out"], name: "none/out", status: 1, text: "No such file or directory", left: WHOLE },
+    Row { words: &["cut", "-f", "--", "out"], name: "cut", status: 1, text: "the file is cut: it ends inside a frame", left: FIRST_BLOCK },
+    Row { words: &["other", "out", "-f"], name: "other", status: 1, text: "the head tells 1 samples, 5 were found", left: WHOLE },
+];
+
 #[test]
 fn with_files(rt: HostRuntime) -> result::Result<(), Fail> {
-    let mut long_stream = STREAM;
-    long_stream[21..26].copy_from_slice(&[0x7f, 0xff, 0xff, 0xff, 0xff]);
-    put(&rt, "in.flac", &STREAM)?;
-    put(&rt, "long.flac", &long_stream)?;
-    put(&rt, "out.wav", b"old")?;
-    let rows: [(&str, &str, u8, &[u8]); 5] = [
-        ("in.flac", "in.flac", 1, b"old"),
-        ("none.flac", "out.wav", 1, b"old"),
-        ("long.flac", "out.wav", 1, b"old"),
-        ("in.flac", "out.wav", 0, WHOLE),
-        ("in.flac", "none/out.wav", 1, WHOLE),
-    ];
-    for (from, to, status, want) in rows {
-        assert!(rt; leaves(&rt, from, to, status, want)?, "{from} {to}");
+    let stream = with_samples(5);
+    put(&rt, "in", &stream)?;
+    put(&rt, "cut", &stream[..60])?;
+    put(&rt, "other", &STREAM)?;
+    put(&rt, "long", &long_stream())?;
+    put(&rt, "out", b"old")?;
+    for row in &ROWS {
+        assert!(rt; leaves(&rt, row)?, "{:?}", row.words);
     }
-    assert!(rt; holds(&rt, "in.flac", &STREAM)?);
-    for name in ["in.flac", "long.flac", "out.wav"] {
+    assert!(rt; holds(&rt, "in", &stream)?);
+    for name in ["in", "cut", "other", "long", "out"] {
         remove(&rt, name)?;
     }
     Ok(())
 }
 
-// Whether a command line without arguments prints the usage line and has the status 2.
-fn refuses_no_arguments(rt: &HostRuntime) -> bool {
-    let mut errors = Vec::new(rt.alloc());
-    let status = command(rt, &[], false, &mut errors);
-    status == 2 && errors.as_slice() == b"usage: claxon_wav FILE OUT.wav\n".as_slice()
+// Without a name the output is beside the input, with another extension.
+#[test]
+fn without_a_name_for_the_output(rt: HostRuntime) -> result::Result<(), Fail> {
+    let (path, alloc) = (file_of(&rt, "named", &with_samples(5))?, rt.alloc());
+    let name = path.as_str();
+    let wanted = format!(in alloc; "{name}.wav")?;
+    let words = [String::from_str(alloc, name)?];
+    let (mut output, mut errors): (Vec<u8>, Vec<u8>) = (Vec::new(alloc), Vec::new(alloc));
+    let status = command(&rt, &words, b"".as_slice(), &mut output, false, &mut errors);
+    let found = fs::read(&rt, wanted.as_str())?;
+    assert!(rt; status == 0 && found.as_slice() == WHOLE && output.is_empty() && errors.is_empty());
+    fs::remove_file(&rt, wanted.as_str())?;
+    fs::remove_file(&rt, name)?;
+    Ok(())
+}
+
+// The file of STREAM with an unknown number of samples, as a pipe gets it.
+const UNKNOWN: &[u8] =
+    b"RIFF\xff\xff\xff\xffWAVEfmt \x10\x00\x00\x00\x01\x00\x01\x00\x44\xac\x00\x00\x44\xac\x00\x00\x01\x00\x08\x00data\xff\xff\xff\xff\x81\x7e\x83\x00\xff";
+
+// The same with one sample announced.
+const ANNOUNCED: &[u8] =
+    b"RIFF\x26\x00\x00\x00WAVEfmt \x10\x00\x00\x00\x01\x00\x01\x00\x44\xac\x00\x00\x44\xac\x00\x00\x01\x00\x08\x00data\x01\x00\x00\x00\x81\x7e\x83\x00\xff";
+
+// Whether STREAM with this number of samples in its streaminfo, in standard input, comes to this.
+fn pipes(
+    rt: &HostRuntime,
+    words: &[&str],
+    samples: u32,
+    status: u8,
+    left: &[u8],
+    said: &str,
+) -> result::Result<bool, Fail> {
+    let words = owned(rt.alloc(), words)?;
+    let stream = with_samples(samples);
+    let (mut output, mut errors): (Vec<u8>, Vec<u8>) = (Vec::new(rt.alloc()), Vec::new(rt.alloc()));
+    let found = command(
+        rt,
+        &words,
+        stream.as_slice(),
+        &mut output,
+        false,
+        &mut errors,
+    );
+    let is_said = errors.as_slice() == said.as_bytes();
+    Ok(found == status && is_said && output.as_slice() == left)
 }
 
 #[test]
-fn without_arguments(rt: HostRuntime) {
-    assert!(rt; refuses_no_arguments(&rt));
+fn to_standard_output(rt: HostRuntime) -> result::Result<(), Fail> {
+    let other = "standard input: the head tells 1 samples, 5 were found\n";
+    assert!(rt; pipes(&rt, &["-", "-"], 5, 0, WHOLE, "")?);
+    assert!(rt; pipes(&rt, &["-"], 0, 0, UNKNOWN, "")?);
+    assert!(rt; pipes(&rt, &["--", "-", "-"], 1, 1, ANNOUNCED, other)?);
+    assert!(rt; pipes(&rt, &["-", "/dev/null"], 5, 0, b"", "")?);
+    assert!(rt; pipes(&rt, &["-", "/dev/null"], 0, 0, b"", "")?);
+    Ok(())
+}
+
+// Whether a command line prints this text, has this status, and writes nothing.
+fn is_refused(
+    rt: &HostRuntime,
+    words: &[&str],
+    input: &[u8],
+    status: u8,
+    said: &str,
+) -> result::Result<bool, Fail> {
+    let words = owned(rt.alloc(), words)?;
+    let mut output = Sink::new(8, 0, false, ErrorKind::StorageFull);
+    let mut errors = Vec::new(rt.alloc());
+    let found = command(rt, &words, input, &mut output, false, &mut errors);
+    Ok(found == status && errors.as_slice() == said.as_bytes() && output.written().is_empty())
+}
+
+// The smallest head, for samples of 32 bits, and a frame header with the bit depth code for 32 bits.
+fn deep_stream() -> [u8; 47] {
+    let mut stream = [0; 47];
+    stream[..42].copy_from_slice(&STREAM[..42]);
+    stream[20..22].copy_from_slice(&[0x41, 0xf0]);
+    stream[42..].copy_from_slice(&[0xff, 0xf8, 0x69, 0x0e, 0x00]);
+    stream
+}
+
+const USAGE: &str = "usage: claxon_wav [-f] FILE [OUT.wav]\n";
+
+const UNKNOWN_OPTION: &str =
+    "claxon_wav: unknown option -x\nusage: claxon_wav [-f] FILE [OUT.wav]\n";
+
+const DEEP: &str =
+    "standard input: Ill-formed FLAC stream: invalid frame header, encountered reserved value
+standard input: 32-bit samples are not supported
+";
+
+// The output fails at each write.
+#[test]
+fn what_writes_nothing(rt: HostRuntime) -> result::Result<(), Fail> {
+    let full = "standard output: no storage space\n";
+    let stream = with_samples(5);
+    assert!(rt; is_refused(&rt, &[], b"", 2, USAGE)?);
+    assert!(rt; is_refused(&rt, &["a", "b", "c"], b"", 2, USAGE)?);
+    assert!(rt; is_refused(&rt, &["a", "-x"], b"", 2, UNKNOWN_OPTION)?);
+    assert!(rt; is_refused(&rt, &["--help"], b"", 1, full)?);
+    assert!(rt; is_refused(&rt, &["--version"], b"", 1, full)?);
+    assert!(rt; is_refused(&rt, &["-"], stream.as_slice(), 1, full)?);
+    assert!(rt; is_refused(&rt, &["-", "/dev/null"], &deep_stream(), 1, DEEP)?);
+    Ok(())
 }

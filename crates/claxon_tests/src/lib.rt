@@ -41,6 +41,8 @@ mod sources;
 #[cfg(test)]
 mod texts;
 #[cfg(test)]
+mod traces;
+#[cfg(test)]
 mod vectors;
 #[cfg(test)]
 mod wav_headers;

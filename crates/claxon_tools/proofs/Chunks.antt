@@ -1,9 +1,10 @@
 -- Chunks that are composed of pieces.
 use Rattle.std.proofs.Common.{◌≡◌, ℕ, ◌+◌, ◌%◌, List, [], ◌++◌, length, sym, ap, ◌∙◌, append_assoc, length-append, arith}
-use Rattle.std.specs.Prelude.{Bool, true, false, cond, codes, replicate}
+use Rattle.std.specs.Prelude.{Bool, true, false, cond, codes, replicate, Result, Ok, Err, OnOk}
+use Rattle.std.specs.declared.alloc.AllocError.{AllocError}
 use Rattle.std.specs.Int.{to_le_bytes, w32}
 use Rattle.std.proofs.lemmas.List.{append-nil, length-replicate}
-use Rattle.claxon_tools.specs.WaveFile.{chunk, extension, format, is_extensible, pad, base_format}
+use Rattle.claxon_tools.specs.WaveFile.{base_format, chunk, extension, format, header_bytes, is_extensible, pad, PutHeaderIsSound}
 use Rattle.claxon_tools.specs.declared.wav.header.Layout.{Layout}
 
 -- a has grown to b by xs
@@ -16,10 +17,6 @@ by a xs e = record { is = e }
 -- one more piece, and an equal one
 pub more : {a b c xs ys zs : List ℕ} → Grown a b xs → Grown b c ys → ys ≡ zs → Grown a c (xs ++ zs)
 more {a} {b} {c} {xs} {ys} {zs} g h e = record { is = h.is ∙ ap (λ (z : List ℕ). b ++ z) e ∙ ap (λ (z : List ℕ). z ++ zs) g.is ∙ append_assoc a xs zs }
-
--- the bytes before the samples, for a format of these bytes
-abbrev pub header_bytes : List ℕ → ℕ → ℕ → List ℕ
-header_bytes f all size = codes "RIFF" ++ to_le_bytes w32 all ++ codes "WAVEfmt " ++ to_le_bytes w32 (length f) ++ f ++ codes "data" ++ to_le_bytes w32 size
 
 pub whole : (f samples : List ℕ) (all : ℕ) → all ≡ 20 + length f + length samples + length samples % 2 → length f % 2 ≡ 0
     → chunk (codes "RIFF") (codes "WAVE" ++ chunk (codes "fmt ") f ++ chunk (codes "data") samples) ≡ header_bytes f all (length samples) ++ samples ++ pad (length samples)
@@ -39,6 +36,15 @@ whole f samples all all-is even =
     (sym (append_assoc f (codes "data" ++ to_le_bytes w32 size) (samples ++ pad size))
     ∙ ap (λ (z : List ℕ). z ++ (samples ++ pad size)) (sym (append_assoc f (codes "data") (to_le_bytes w32 size)))
     ∙ sym (append_assoc (f ++ codes "data" ++ to_le_bytes w32 size) samples (pad size)))
+
+pub header_is : (l : Layout) (size all : ℕ) (bytes : List ℕ) (r : Result (Unit {0}) AllocError) → all ≡ 20 + length (format l) + size + size % 2 → length (format l) % 2 ≡ 0 → OnOk r (bytes ≡ header_bytes (format l) all size)
+    → PutHeaderIsSound l size r bytes
+header_is l size all bytes (Ok done) all_is even put =
+    λ samples len.
+    let f = format l in
+    let is : all ≡ 20 + length f + length samples + length samples % 2 = rw len all_is in
+    whole f samples all is even ∙ ap (λ (n : ℕ). header_bytes f all n ++ samples ++ pad n) len ∙ ap (λ (z : List ℕ). z ++ samples ++ pad size) (sym put)
+header_is l size all bytes (Err e) all_is even put = tt
 
 -- ---- the two formats
 

@@ -1,9 +1,10 @@
 -- Blocks that are written one after another, and the file that they make.
 use Rattle.std.specs.Borrow.{MutBor}
-use Rattle.std.proofs.Common.{◌≡◌, inl, inr, ℕ, ◌+◌, ◌-◌, ◌*◌, ◌<◌, ◌≤◌, ℤ, w32, take, List, [], ◌∷◌, ◌++◌, length, Option, None, Some, refl, sym, ap, subst, ◌∙◌, arith, length-append}
+use Rattle.std.proofs.Common.{◌≡◌, inl, inr, ℕ, ◌+◌, ◌-◌, ◌*◌, ◌<◌, ◌≤◌, ℤ, w32, zero, suc, take, Bool, true, false, cond, ◌==◌, List, [], ◌∷◌, ◌++◌, length, Option, None, Some, refl, sym, ap, subst, ◌∙◌, arith, append-nil, eq-eqb, length-append}
 use Rattle.std.specs.Prelude.{All, Result, Ok, Err}
 use Rattle.std.specs.Io.KnownBytes.{Appends}
 use Rattle.std.proofs.KnownBytes.{Appends-nil, Appends-trans}
+use Rattle.std.proofs.lemmas.Bool.Decides.{nat_tests}
 use Rattle.std.proofs.lemmas.Grind.{flat_map-append}
 use Rattle.std.proofs.lemmas.List.Elements.{All-append, All-drop, All-nil, All-push}
 use Rattle.std.proofs.lemmas.List.{drop_at, get_or_push, length-take}
@@ -27,13 +28,13 @@ use Rattle.claxon.proofs.SampleRuns.{after_loan, samples_add}
 use Rattle.claxon.proofs.SamplesInTurn.{same_duration}
 use Rattle.claxon.proofs.Streams.{length-interleave}
 use Rattle.claxon_write.specs.WriteSamples.{flac_stream}
-use Rattle.claxon_tools.specs.Convert.{ConvertIsSound, HoldsFile, PutsSamples, PutsStream, ExplainsError, ExplainsErrorIfKnown, packed_blocks}
+use Rattle.claxon_tools.specs.Convert.{ConvertIsSound, ConvertToStreamIsSound, HoldsFile, HoldsUnknown, PutsSamples, PutsStream, ExplainsError, ExplainsErrorIfKnown, packed_blocks}
 use Rattle.claxon_tools.specs.Samples.{bytes_of_sample, packed_block, packed_samples, scaled_up, silence}
-use Rattle.claxon_tools.specs.WaveFile.{pad, sample_size}
+use Rattle.claxon_tools.specs.WaveFile.{pad, sample_size, unknown_header}
 use Rattle.claxon_tools.specs.DataSize.{max_data_size}
-use Rattle.claxon_tools.specs.Writer.{Ends, ExplainsBlockError, FinishIsSound, SameHeader, SamplesFit}
+use Rattle.claxon_tools.specs.Writer.{ExplainsBlockError, FinishIsSound, FinishStreamIsSound, SameHeader, SamplesFit, stream_pad}
 use Rattle.claxon_tools.specs.declared.wav.error.Error.{Error}
-use Rattle.claxon_tools.specs.declared.wav.error.Error.TheVariants.{Claxon, OtherChannels, SameFile, TooLong, WideSample}
+use Rattle.claxon_tools.specs.declared.wav.error.Error.TheVariants.{Claxon, Exists, OtherChannels, Output, SameFile, TooLong, WideSample}
 use Rattle.claxon_tools.specs.declared.wav.header.Layout.{Layout}
 use Rattle.claxon_tools.specs.declared.wav.writer.WavWriter.{WavWriter}
 
@@ -144,14 +145,15 @@ module _ {W : Type 0} {contents : W → Option (List ℕ)} {stream : Option Stre
 
     -- an error of the writer
     pub stops_at_block : (e : Error) → ExplainsBlockError block y e → ExplainsErrorIfKnown stream x a e
-    stops_at_block (Claxon e) (inl m) known = inl m
-    stops_at_block (Claxon e) (inr i) known = inr (inl i)
+    stops_at_block (Claxon e) m known = inl m
+    stops_at_block (Output e) m known = tt
     stops_at_block TooLong r known =
         let all = packed_more x.layout.valid_bits h.blocks block in
         let more = subst (λ (l : Layout). max_data_size < y.written + length (packed_block l.valid_bits block)) h.puts.layout_is r in
         let both = length-append (packed_blocks x.layout.valid_bits h.blocks) (packed_block x.layout.valid_bits block) in
         (h.blocks ++ block_view block ∷ [], c.remaining, all_frames known, omega (arith, more, h.puts.written_is, both, ap length all))
     stops_at_block SameFile r known = r
+    stops_at_block Exists r known = r
     stops_at_block OtherChannels r known = (
       h.blocks ++ block_view block ∷ [],
       c.remaining,
@@ -180,9 +182,16 @@ eof_met a b is h = subst (λ (q : FrameAnswer). NoneIsEof 2 q a b) is h
 
 -- ---- a whole file
 
-module _ {W : Type 0} (contents : W → Option (List ℕ)) (position : W → Option ℕ) where
+-- no pad byte where none were announced
+no_pad : (written announced : ℕ) → announced ≡ 0 → cond (written == announced) (pad written) [] ≡ []
+no_pad zero announced e = rw e refl
+no_pad (suc n) announced e =
+    let differ : (suc n == announced) ≡ false = grind (arith, nat_tests) in
+    ap (λ (b : Bool). cond b (pad (suc n)) []) differ
+
+module _ {W : Type 0} (contents : W → Option (List ℕ)) where
   -- the header, the samples and the pad byte
-  pub file : (blocks : List Block) (old put new : WavWriter W) → PutsSamples contents blocks old put → Ends contents position put new.output → HoldsFile contents blocks old new
+  pub file : (blocks : List Block) (old put new : WavWriter W) → PutsSamples contents blocks old put → (put.announced ≡ put.written → Appends (contents put.output) (contents new.output) (pad put.written)) → HoldsFile contents blocks old new
   file blocks old put new h ends layout announced output begins is =
       let size = length (packed_blocks layout.valid_bits blocks) in
       let valid_bits : old.layout.valid_bits ≡ layout.valid_bits = ap (λ (l : Layout). l.valid_bits) begins.layout_is in
@@ -191,7 +200,7 @@ module _ {W : Type 0} (contents : W → Option (List ℕ)) (position : W → Opt
       let counted : put.written ≡ old.written + size = subst (λ (n : ℕ). put.written ≡ old.written + length (packed_blocks n blocks)) valid_bits h.written_is in
       let written : put.written ≡ announced = omega (arith, counted, begins.none_so_far, is) in
       let right : put.announced ≡ put.written = h.announced_is ∙ begins.announced_is ∙ sym written in
-      let padded : Appends (contents put.output) (contents new.output) (pad announced) = subst (λ (n : ℕ). Appends (contents put.output) (contents new.output) (pad n)) written (ends.right right) in
+      let padded : Appends (contents put.output) (contents new.output) (pad announced) = subst (λ (n : ℕ). Appends (contents put.output) (contents new.output) (pad n)) written (ends right) in
       let front = Appends-trans (contents output) (contents old.output) (contents put.output) begins.header samples begins.written bytes in
       let whole = Appends-trans (contents output) (contents put.output) (contents new.output) (begins.header ++ samples) (pad announced) front padded in
       subst (λ (s : List ℕ). Appends (contents output) (contents new.output) s) (sym (begins.is_header samples (sym is))) whole
@@ -213,7 +222,46 @@ converted contents position remaining flac frames (Ok done) old put new input st
       puts = puts.puts;
       ends = finishes.0;
       right = finishes.1;
-      file = file contents position puts.blocks old put new puts.puts finishes.0;
+      file = file contents puts.blocks old put new puts.puts finishes.0.right;
+    }
+
+-- The pad byte is that of a file whose header announced the right number of bytes. After the header for an unknown number it
+-- isn't written.
+module _ {W : Type 0} (contents : W → Option (List ℕ)) (put new : WavWriter W) (h : Appends (contents put.output) (contents new.output) (stream_pad put)) where
+  padded_where_right : put.announced ≡ put.written → Appends (contents put.output) (contents new.output) (pad put.written)
+  padded_where_right e = subst (λ (b : Bool). Appends (contents put.output) (contents new.output) (cond b (pad put.written) [])) (eq-eqb put.written put.announced (sym e)) h
+
+  padded_where_none_announced : put.announced ≡ 0 → Appends (contents put.output) (contents new.output) []
+  padded_where_none_announced e = subst (λ (s : List ℕ). Appends (contents put.output) (contents new.output) s) (no_pad put.written put.announced e) h
+
+  where_unknown : (blocks : List Block) (old : WavWriter W) → PutsSamples contents blocks old put → HoldsUnknown contents blocks old new
+  where_unknown blocks old h layout output begins =
+      let valid_bits : old.layout.valid_bits ≡ layout.valid_bits = ap (λ (l : Layout). l.valid_bits) begins.layout_is in
+      let samples = packed_blocks layout.valid_bits blocks in
+      let bytes : Appends (contents old.output) (contents put.output) samples = subst (λ (n : ℕ). Appends (contents old.output) (contents put.output) (packed_blocks n blocks)) valid_bits h.bytes_are in
+      let front = Appends-trans (contents output) (contents old.output) (contents put.output) (unknown_header layout) samples begins.written bytes in
+      let none : put.announced ≡ 0 = h.announced_is ∙ begins.none_announced in
+      let whole = Appends-trans (contents output) (contents put.output) (contents new.output) (unknown_header layout ++ samples) [] front (padded_where_none_announced none) in
+      subst (λ (s : List ℕ). Appends (contents output) (contents new.output) s) (append-nil (unknown_header layout ++ samples)) whole
+
+-- all blocks, and then the end of an output that can't seek
+pub converted_to_stream : {R A W : Type 0} (contents : W → Option (List ℕ)) (remaining : R → Option (List ℕ)) (flac : FlacReader R A) (frames : FrameReader (MutBor (BufferedReader R A))) (r : Result (Unit {0}) Error) (old put new : WavWriter W)
+    → (frame_input frames).now ≡ flac_input flac → frame_stream frames ≡ flac_stream flac → PutsStream contents (frame_stream frames) (frame_bytes (lent (buffered_source remaining)) frames) old put → FinishStreamIsSound contents r put new
+    → ConvertToStreamIsSound contents remaining flac r old new
+converted_to_stream contents remaining flac frames (Err e) old put new input stream puts finishes = tt
+converted_to_stream contents remaining flac frames (Ok done) old put new input stream puts finishes =
+    let here = after_loan remaining flac (frame_input frames) input in
+    record {
+      blocks = puts.blocks;
+      all = λ known. (
+          let k = puts.all (here.1 ∙ known) in
+          (k.0, subst (λ (s : Option StreamFormat). Frames s (flac_bytes remaining flac).remaining puts.blocks k.0) stream (subst (λ (s : List ℕ). Frames (frame_stream frames) s puts.blocks k.0) here.0 k.1), k.2)
+          );
+      put = put;
+      puts = puts.puts;
+      written_is = finishes.1;
+      file = file contents puts.blocks old put new puts.puts (padded_where_right contents put new finishes.0);
+      unknown = where_unknown contents put new finishes.0 puts.blocks old puts.puts;
     }
 
 -- the same for the errors

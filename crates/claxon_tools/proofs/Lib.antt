@@ -4,3 +4,4 @@ pub mod Converting
 pub mod Ending
 pub mod Interleaved
 pub mod SamplesFit
+mod Printing

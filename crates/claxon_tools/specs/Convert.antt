@@ -17,10 +17,10 @@ use Rattle.claxon.specs.declared.reader.FlacReader.{FlacReader}
 use Rattle.claxon_write.specs.WriteSamples.{flac_stream}
 use Rattle.claxon_tools.specs.DataSize.{max_data_size}
 use Rattle.claxon_tools.specs.Samples.{packed_samples}
-use Rattle.claxon_tools.specs.WaveFile.{wave_file}
-use Rattle.claxon_tools.specs.Writer.{Begins, Ends, HeaderIsRight}
+use Rattle.claxon_tools.specs.WaveFile.{unknown_header, wave_file}
+use Rattle.claxon_tools.specs.Writer.{Begins, BeginsUnknown, Ends, HeaderIsRight}
 use Rattle.claxon_tools.specs.declared.wav.error.Error.{Error}
-use Rattle.claxon_tools.specs.declared.wav.error.Error.TheVariants.{Claxon, OtherChannels, SameFile, TooLong, WideSample}
+use Rattle.claxon_tools.specs.declared.wav.error.Error.TheVariants.{Claxon, Exists, OtherChannels, Output, SameFile, TooLong, WideSample}
 use Rattle.claxon_tools.specs.declared.wav.header.Layout.{Layout}
 use Rattle.claxon_tools.specs.declared.wav.writer.WavWriter.{WavWriter}
 
@@ -69,7 +69,7 @@ HasFault stream s error =
     (f : Fault) × IsFault f error × ((blocks : List Block) × (t : List ℕ) × (rest : List ℕ)
     × Frames stream s blocks (t ++ rest) × FrameBytesFault stream f t)
 
--- What an error says of s: it is `OutOfMemory`, an `IoError` or a fault in s; or s begins with blocks of which one has other
+-- What an error says of s: it is `OutOfMemory`, an `IoError` or a fault in s, or a failed call of the output; or s begins with blocks of which one has other
 -- channels than the layout, a sample doesn't fit in its valid bits, or the bytes, with those written before, are more than a
 -- WAV file holds.
 abbrev pub ExplainsError : {W : Type 0} → Option StreamFormat → WavWriter W → List ℕ → Error
@@ -83,7 +83,9 @@ ExplainsError stream old s WideSample =
 ExplainsError stream old s TooLong =
     HasBlocks stream s (λ blocks. max_data_size
     < old.written + length (packed_blocks old.layout.valid_bits blocks))
+ExplainsError stream old s (Output error) = Unit {0}
 ExplainsError stream old s SameFile = ⊥
+ExplainsError stream old s Exists = ⊥
 
 -- The same for the remaining input, where it is known.
 abbrev pub ExplainsErrorIfKnown : {W : Type 0} → Option StreamFormat → WavWriter W → State ℕ → Error
@@ -124,6 +126,33 @@ abbrev pub ConvertIsSound : {R A W : Type 0} → (W → Option (List ℕ)) → (
     → Type 0
 ConvertIsSound contents position remaining flac r old new =
     OnOk r (Converts contents position (flac_stream flac) (flac_bytes remaining flac) old new)
+
+-- The output has, after what it contained when the writer was started for samples of unknown number, that header and these
+-- samples.
+abbrev pub HoldsUnknown : {W : Type 0} → (W → Option (List ℕ)) → List Block → WavWriter W
+    → WavWriter W → Type 0
+HoldsUnknown {W} contents blocks old new =
+    (layout : Layout) (output : W) → BeginsUnknown contents layout output old
+    → Appends (contents output) (contents new.output)
+    (unknown_header layout ++ packed_blocks layout.valid_bits blocks)
+
+-- Exactly the samples of all blocks up to the end of the stream were written, after a header that was not corrected.
+pub record ConvertsToStream {W : Type 0} (contents : W → Option (List ℕ))
+    (stream : Option StreamFormat) (s : State ℕ) (old new : WavWriter W) : Type 0 where
+  pub blocks : List Block
+  pub all : IsWholeStream stream blocks s
+  pub put : WavWriter W
+  pub puts : PutsSamples contents blocks old put
+  pub written_is : new.written ≡ put.written
+  pub file : HoldsFile contents blocks old new
+  pub unknown : HoldsUnknown contents blocks old new
+
+-- An Ok converted the whole stream.
+abbrev pub ConvertToStreamIsSound : {R A W : Type 0} → (W → Option (List ℕ))
+    → (R → Option (List ℕ)) → FlacReader R A → Result (Unit {0}) Error → WavWriter W → WavWriter W
+    → Type 0
+ConvertToStreamIsSound contents remaining flac r old new =
+    OnOk r (ConvertsToStream contents (flac_stream flac) (flac_bytes remaining flac) old new)
 
 -- An Err says why the stream was not converted completely.
 abbrev pub ConvertFaultIsSound : {R A W : Type 0} → (R → Option (List ℕ)) → FlacReader R A

@@ -1,3 +1,4 @@
+pub mod Program
 pub mod Arguments
 pub mod Progress
 pub mod Text

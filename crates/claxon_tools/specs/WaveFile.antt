@@ -1,5 +1,5 @@
 -- WAV files.
-use Rattle.std.specs.Prelude.{nat_lt, ◌≡◌, ◌==◌, ◌||◌, not, ℕ, ◌*◌, ◌<◌, ◌%◌, ◌^◌, List, [], ◌∷◌, ◌++◌, Bool, cond, codes, length, replicate, ◌≤◌, Option, None, Some, Result, OnOk}
+use Rattle.std.specs.Prelude.{nat_lt, ◌≡◌, ◌==◌, ◌||◌, not, ℕ, ◌*◌, ◌<◌, ◌%◌, ◌^◌, ◌-◌, List, [], ◌∷◌, ◌++◌, Bool, cond, codes, length, replicate, ◌≤◌, Option, None, Some, Result, OnOk}
 use Rattle.std.specs.declared.alloc.AllocError.{AllocError}
 use Rattle.std.specs.Int.{div_ceil, to_le_bytes, w16, w32}
 use Rattle.claxon_tools.specs.ChannelMask.{channel_mask_of}
@@ -56,6 +56,20 @@ extension l =
 
 unfoldable pub format : Layout → List ℕ
 format l = cond (is_extensible l) (base_format 65534 l ++ extension l) (base_format 1 l)
+
+-- the bytes before the samples, for a format of these bytes, a size of all that follows it and one of the samples
+abbrev pub header_bytes : List ℕ → ℕ → ℕ → List ℕ
+header_bytes f all size =
+    codes "RIFF" ++ to_le_bytes w32 all ++ codes "WAVEfmt " ++ to_le_bytes w32 (length f) ++ f
+    ++ codes "data" ++ to_le_bytes w32 size
+
+-- the size that stands for an unknown one
+abbrev pub unknown_size : ℕ
+unknown_size = 2 ^ 32 - 1
+
+-- the bytes before samples that end where the file ends
+abbrev pub unknown_header : Layout → List ℕ
+unknown_header l = header_bytes (format l) unknown_size unknown_size
 
 -- a WAV file with these bytes of sample data
 abbrev pub wave_file : Layout → List ℕ → List ℕ

@@ -1,18 +1,31 @@
 -- The clauses of the methods of `WavWriter`.
-use Rattle.std.specs.Prelude.{All, ◌≡◌, ◌⊎◌, ◌<◌, ℕ, ◌+◌, List, length, Option, Some, Result, IfErr, IfOk, IfSome, OnOk}
+use Rattle.std.specs.Prelude.{All, ◌≡◌, ◌==◌, ◌<◌, ℕ, ◌+◌, ◌/◌, List, [], cond, length, Option, Some, Result, IfErr, IfOk, IfSome, OnOk}
 use Rattle.std.specs.Io.KnownBytes.{Appends, Keeps}
 use Rattle.claxon.specs.Bits.{FitsIn}
 use Rattle.claxon.specs.Streams.{interleave}
 use Rattle.claxon.specs.Block.{BlockValue}
-use Rattle.claxon.specs.Error.{IsIo}
 use Rattle.claxon.specs.Errors.TheVariants.{OutOfMemory}
 use Rattle.claxon_tools.specs.DataSize.{max_data_size}
 use Rattle.claxon_tools.specs.Samples.{packed_block}
-use Rattle.claxon_tools.specs.WaveFile.{IsHeader, pad}
+use Rattle.claxon_tools.specs.WaveFile.{IsHeader, block_align, pad, unknown_header}
 use Rattle.claxon_tools.specs.declared.wav.error.Error.{Error}
-use Rattle.claxon_tools.specs.declared.wav.error.Error.TheVariants.{Claxon, OtherChannels, TooLong, WideSample}
+use Rattle.claxon_tools.specs.declared.wav.error.Error.TheVariants.{Claxon, OtherChannels, Output, TooLong, WideSample}
 use Rattle.claxon_tools.specs.declared.wav.header.Layout.{Layout}
 use Rattle.claxon_tools.specs.declared.wav.writer.WavWriter.{WavWriter}
+
+-- This header was written, and no samples yet.
+pub record WritesOnlyHeader {W : Type 0} (contents : W → Option (List ℕ)) (header : List ℕ)
+    (layout : Layout) (announced : ℕ) (output : W) (new : WavWriter W) : Type 0 where
+  pub written : Appends (contents output) (contents new.output) header
+  pub layout_is : new.layout ≡ layout
+  pub announced_is : new.announced ≡ announced
+  pub none_so_far : new.written ≡ 0
+
+-- An Ok wrote this header.
+abbrev pub BeginIsSound : {W : Type 0} → (W → Option (List ℕ)) → List ℕ → Layout → ℕ → W
+    → Result (WavWriter W) Error → Type 0
+BeginIsSound contents header layout announced output r =
+    IfOk r (λ new. WritesOnlyHeader contents header layout announced output new)
 
 -- A header that announces this number of bytes was written, and no samples yet.
 pub record Begins {W : Type 0} (contents : W → Option (List ℕ)) (layout : Layout) (announced : ℕ)
@@ -29,6 +42,24 @@ abbrev pub StartIsSound : {W : Type 0} → (W → Option (List ℕ)) → Layout 
     → Result (WavWriter W) Error → Type 0
 StartIsSound contents layout announced output r =
     IfOk r (λ new. Begins contents layout announced output new)
+
+-- The header for samples of unknown number was written, and no samples yet.
+pub record BeginsUnknown {W : Type 0} (contents : W → Option (List ℕ)) (layout : Layout)
+    (output : W) (new : WavWriter W) : Type 0 where
+  pub written : Appends (contents output) (contents new.output) (unknown_header layout)
+  pub layout_is : new.layout ≡ layout
+  pub none_so_far : new.written ≡ 0
+  pub none_announced : new.announced ≡ 0
+
+-- An Ok wrote that header.
+abbrev pub StartUnknownIsSound : {W : Type 0} → (W → Option (List ℕ)) → Layout → W
+    → Result (WavWriter W) Error → Type 0
+StartUnknownIsSound contents layout output r =
+    IfOk r (λ new. BeginsUnknown contents layout output new)
+
+-- the number of samples per channel that were written
+abbrev pub samples_written : {W : Type 0} → WavWriter W → ℕ
+samples_written file = file.written / block_align file.layout
 
 -- the bytes of the block's samples in this file
 abbrev pub wav_bytes : {W : Type 0} → WavWriter W → BlockValue → List ℕ
@@ -50,18 +81,19 @@ SamplesFit block file = All (FitsIn file.layout.valid_bits) (interleave block.ch
 abbrev pub PutBlockFits : {W : Type 0} → BlockValue → Result (Unit {0}) Error → WavWriter W → Type 0
 PutBlockFits block r old = OnOk r (SamplesFit block old)
 
--- The error wraps `OutOfMemory` or an `IoError` of `claxon`.
-abbrev pub WrapsMemoryOrIoError : Error → Type 0
-WrapsMemoryOrIoError (Claxon error) = (error ≡ OutOfMemory) ⊎ IsIo error
-WrapsMemoryOrIoError error = ⊥
+-- The error is `OutOfMemory`, or a failed call of the output.
+abbrev pub IsMemoryOrOutput : Error → Type 0
+IsMemoryOrOutput (Claxon error) = error ≡ OutOfMemory
+IsMemoryOrOutput (Output error) = Unit {0}
+IsMemoryOrOutput error = ⊥
 
 -- The error says that the block has other channels than the layout, a sample doesn't fit in its valid bits, or the bytes are
--- more than a WAV file holds; or it is `OutOfMemory` or an `IoError`.
+-- more than a WAV file holds; or it is `OutOfMemory` or a failed call of the output.
 abbrev pub ExplainsBlockError : {W : Type 0} → BlockValue → WavWriter W → Error → Type 0
 ExplainsBlockError block old OtherChannels = length block.channels ≡ old.layout.channels → ⊥
 ExplainsBlockError block old WideSample = SamplesFit block old → ⊥
 ExplainsBlockError block old TooLong = max_data_size < old.written + length (wav_bytes old block)
-ExplainsBlockError block old error = WrapsMemoryOrIoError error
+ExplainsBlockError block old error = IsMemoryOrOutput error
 
 -- An Err says why the block was not written.
 abbrev pub PutBlockFaultIsSound : {W : Type 0} → BlockValue → Result (Unit {0}) Error → WavWriter W
@@ -125,6 +157,17 @@ abbrev pub FinishIsSound : {W : Type 0} → (W → Option (List ℕ)) → (W →
 FinishIsSound contents position r old new =
     OnOk r (Ends contents position old new.output × HeaderIsRight old new)
 
--- An Err is `OutOfMemory` or an `IoError`.
+-- An Err is `OutOfMemory` or a failed call of the output.
 abbrev pub FinishFaultIsSound : Result (Unit {0}) Error → Type 0
-FinishFaultIsSound r = IfErr r WrapsMemoryOrIoError
+FinishFaultIsSound r = IfErr r IsMemoryOrOutput
+
+-- the pad byte of a file whose header announced the bytes that were written
+abbrev pub stream_pad : {W : Type 0} → WavWriter W → List ℕ
+stream_pad file = cond (file.written == file.announced) (pad file.written) []
+
+-- An Ok wrote that pad byte after all earlier bytes, and nothing else.
+abbrev pub FinishStreamIsSound : {W : Type 0} → (W → Option (List ℕ)) → Result (Unit {0}) Error
+    → WavWriter W → WavWriter W → Type 0
+FinishStreamIsSound contents r old new =
+    OnOk r (Appends (contents old.output) (contents new.output) (stream_pad old)
+    × (new.written ≡ old.written))

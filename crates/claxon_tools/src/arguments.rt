@@ -1,5 +1,5 @@
 //! The arguments of a program: options, and names of files.
-ghost use Rattle.std.specs.Prelude.{IsOkUnless};
+ghost use Rattle.std.specs.Prelude.{◌≡◌, ◌≤◌, IsOkUnless};
 ghost use Rattle.claxon.specs.Errors.TheVariants.{OutOfMemory};
 
 use std::env;
@@ -23,10 +23,12 @@ pub struct Arguments<'a> {
 }
 
 impl<'a> Arguments<'a> {
-    ghost use Rattle.claxon_tools.specs.Arguments.{TakesWord};
+    ghost use Rattle.claxon_tools.specs.Arguments.{AreArgumentsOf, NextIsSound, TakesWord, ValueIsSound, words_left};
 
     /// All arguments of these words.
-    pub fn new(words: &'a [String]) -> Arguments<'a> {
+    pub fn new(words: &'a [String]) -> Arguments<'a>
+        ensures { AreArgumentsOf words.now result }
+    {
         Arguments {
             words,
             has_options: true,
@@ -35,22 +37,28 @@ impl<'a> Arguments<'a> {
 
     /// The next argument.
     pub fn next(&mut self) -> Option<Argument<'a>>
-        ensures word { TakesWord result self.old self.new }
+        ensures argument { NextIsSound self.old result self.new }
+        ensures shorter { TakesWord result self.old self.new }
     {
         let word = self.value()?;
-        if self.has_options && word == "--" {
-            self.has_options = false;
-            return Some(Argument::Operand(self.value()?));
+        if !self.has_options {
+            return Some(Argument::Operand(word));
         }
-        if self.has_options && word != "-" && word.starts_with('-') {
-            return Some(Argument::Option(word));
+        match word.as_bytes() {
+            b"--" => {
+                self.has_options = false;
+                Some(Argument::Operand(self.value()?))
+            }
+            [b'-', _, ..] => Some(Argument::Option(word)),
+            _ => Some(Argument::Operand(word)),
         }
-        Some(Argument::Operand(word))
     }
 
     /// The next word, whatever it is, as the value of an option.
     pub fn value(&mut self) -> Option<&'a str>
-        ensures word { TakesWord result self.old self.new }
+        ensures value { ValueIsSound self.old result self.new }
+        ensures shorter { TakesWord result self.old self.new }
+        ensures not_longer { words_left self.new ≤ words_left self.old }
     {
         let (first, others) = self.words.split_first()?;
         self.words = others;
@@ -74,8 +82,12 @@ pub enum Notice<'a> {
 }
 
 impl<'a> Notice<'a> {
+    ghost use Rattle.claxon_tools.specs.Arguments.{IsNoticeOf};
+
     /// What is printed for an option that each program has, or for one that it doesn't have.
-    pub fn of_option(option: &'a str) -> Notice<'a> {
+    pub fn of_option(option: &'a str) -> Notice<'a>
+        ensures { IsNoticeOf option.now result }
+    {
         if option == "--help" {
             return Notice::Help;
         }
@@ -94,8 +106,12 @@ pub struct Names<'a> {
 }
 
 impl<'a> Names<'a> {
+    ghost use Rattle.claxon_tools.specs.Arguments.{ParseIsSound, names_total};
+
     /// The names among these words, of which there is one or more, and no option.
-    pub fn parse(words: &'a [String]) -> Result<Names<'a>, Notice<'a>> {
+    pub fn parse(words: &'a [String]) -> Result<Names<'a>, Notice<'a>>
+        ensures { ParseIsSound result }
+    {
         let mut arguments = Arguments::new(words);
         let mut count = 0usize;
         while let Some(argument) = arguments.next() {
@@ -114,7 +130,9 @@ impl<'a> Names<'a> {
     }
 
     /// The number of names in all.
-    pub fn total(&self) -> usize {
+    pub fn total(&self) -> usize
+        ensures { result ≡ names_total self.now }
+    {
         self.count
     }
 }

@@ -1,3 +1,4 @@
 //! The commands of the programs.
 pub mod info;
+pub mod trace;
 pub mod wav;

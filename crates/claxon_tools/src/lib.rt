@@ -1,5 +1,5 @@
-//! What the programs other than `claxon_raw` need: WAV files, values as text, the facts of a head, results of the decoder as
-//! text, progress, and the programs' commands.
+//! What the programs other than `claxon_raw` need: arguments, messages, WAV files, values as text, the facts of a head, results
+//! of the decoder as text, progress, and the programs' commands.
 #![tactic(auto)]
 
 pub mod answer;
@@ -12,5 +12,5 @@ pub mod progress;
 pub mod text;
 pub mod wav;
 
-pub use claxon_write::{run_command, status};
+pub use claxon_write::status;
 pub use facts::write_facts;

@@ -1,7 +1,13 @@
 //! What the programs other than `claxon_raw` share: texts about themselves, their input, and lines about faults.
+ghost use Rattle.std.specs.Prelude.{◌≡◌};
+ghost use Rattle.claxon_tools.specs.Facts.{line};
+ghost use Rattle.claxon_tools.specs.Program.{ErrorTextIsSound, IoTextIsSound, IsShownName, OpensInput, PrintsText, WritesText};
+ghost use Rattle.claxon_tools.specs.Text.{IsText, escaped_text};
+
 use crate::arguments::{Notice, text_words};
 use crate::text::escaped_text;
 use claxon::Error;
+use claxon::metadata::StreamInfo;
 use claxon_write::status;
 use std::alloc::{AllocError, Allocator, Global};
 use std::fs;
@@ -28,17 +34,23 @@ pub struct Program {
 }
 
 impl Program {
+    ghost use Rattle.claxon_tools.specs.Program.{PrintIsSound, help_text, version_text};
+    ghost use Rattle.claxon_tools.specs.Text.{IsText};
+
     /// Prints a notice, and returns the exit status: 0, or 1 if `output` fails, for the help and the version, which go to
     /// `output`; 2 for the usage line, which goes to `errors`. A failed write to `errors` is ignored.
     pub fn print<W: Write, E: Write>(
         &self,
+        alloc: Global,
         notice: Notice<'_>,
         output: &mut W,
         errors: &mut E,
-    ) -> u8 {
+    ) -> u8
+        ensures { PrintIsSound W.contents self.now notice.entry result output.old output.new }
+    {
         match notice {
-            Notice::Help => status(self.write_help(output), errors),
-            Notice::Version => status(self.write_version(output), errors),
+            Notice::Help => print_text(alloc, self.help_text(alloc), output, errors),
+            Notice::Version => print_text(alloc, self.version_text(alloc, VERSION), output, errors),
             Notice::UnknownOption(option) => {
                 let _ = writeln!(errors, "{}: unknown option {option}", self.name);
                 self.refuse(errors)
@@ -47,23 +59,29 @@ impl Program {
         }
     }
 
-    fn refuse<E: Write>(&self, errors: &mut E) -> u8 {
+    // The exit status of other arguments.
+    fn refuse<E: Write>(&self, errors: &mut E) -> u8
+        ensures { result ≡ 2 }
+    {
         let _ = writeln!(errors, "usage: {} {}", self.name, self.arguments);
         2
     }
 
-    fn write_help<W: Write>(&self, output: &mut W) -> io::Result<()> {
-        write!(
-            output,
-            "usage: {} {}\n\n{}",
-            self.name, self.arguments, self.help
-        )?;
-        output.flush()
+    fn help_text(&self, alloc: Global) -> Result<String, AllocError>
+        ensures { IsText (help_text self.now) result }
+    {
+        let (name, arguments, help) = (self.name, self.arguments, self.help);
+        format!(in alloc; "usage: {name} {arguments}\n\n{help}")
     }
 
-    fn write_version<W: Write>(&self, output: &mut W) -> io::Result<()> {
-        writeln!(output, "{} {VERSION}", self.name)?;
-        output.flush()
+    fn version_text(&self, alloc: Global, version: &str) -> Result<String, AllocError>
+        ensures { IsText (version_text self.now version.now) result }
+    {
+        let mut text = String::from_str(alloc, self.name)?;
+        text.push_str(" ")?;
+        text.push_str(version)?;
+        text.push_str("\n")?;
+        Ok(text)
     }
 
     /// Passes the arguments after the program's name to a command, and returns its status. If one of them isn't UTF-8, or
@@ -85,6 +103,33 @@ impl Program {
             Err(error) => status(Err(error), errors),
         })
     }
+}
+
+// Prints a text on standard output, and returns the exit status.
+fn print_text<W: Write, E: Write>(
+    alloc: Global,
+    text: Result<String, AllocError>,
+    output: &mut W,
+    errors: &mut E,
+) -> u8
+    ensures { PrintsText W.contents text result output.old output.new }
+{
+    match write_text(text, output) {
+        Ok(()) => 0,
+        Err(error) => {
+            report(alloc, STANDARD, Part::Output, &error, errors);
+            1
+        }
+    }
+}
+
+fn write_text<W: Write>(text: Result<String, AllocError>, output: &mut W) -> claxon::Result<()>
+    ensures { WritesText W.contents text result output.old output.new }
+{
+    let text = text?;
+    output.write_all(text.as_bytes())?;
+    output.flush()?;
+    Ok(())
 }
 
 /// The input of a program.
@@ -111,7 +156,9 @@ pub fn open_input<Q: Files, I: Read + Drop>(
     rt: &Q,
     name: &str,
     standard: I,
-) -> io::Result<Input<Q::File, I>> {
+) -> io::Result<Input<Q::File, I>>
+    ensures { OpensInput name.now standard result }
+{
     if name == STANDARD {
         return Ok(Input::Standard(standard));
     }
@@ -135,25 +182,49 @@ pub enum Part {
 /// its head or a frame, the text says that it is cut. A failed write to `errors` is ignored, and so is memory that is refused.
 pub fn report<E: Write>(alloc: Global, name: &str, part: Part, error: &Error, errors: &mut E) {
     let text = error_text(alloc, part, error);
-    report_text(alloc, shown_name(name, part), text, errors);
+    report_text(alloc, name, part, text, errors);
 }
 
-// Prints a line `NAME: TEXT`.
-fn report_text<E: Write>(
+/// Prints the line of an error in the frames of a stream with this streaminfo, after `samples` samples per channel. Where the
+/// first frame is refused because of the bit depth code for 32 bits, which was reserved before, a second line says so.
+pub fn report_frame<E: Write>(
     alloc: Global,
     name: &str,
+    info: &StreamInfo,
+    samples: u64,
+    error: &Error,
+    errors: &mut E,
+) {
+    report(alloc, name, Part::Frame, error, errors);
+    if info.bits_per_sample == 32 && samples == 0 && *error == RESERVED_VALUE {
+        let text = String::from_str(alloc, "32-bit samples are not supported");
+        report_text(alloc, name, Part::Frame, text, errors);
+    }
+}
+
+const RESERVED_VALUE: Error = Error::FormatError(
+    "invalid frame header, encountered reserved value",
+);
+
+/// Prints a line `NAME: TEXT`, as `report` does.
+pub fn report_text<E: Write>(
+    alloc: Global,
+    name: &str,
+    part: Part,
     text: Result<String, AllocError>,
     errors: &mut E,
 ) {
     if let Ok(text) = text
-        && let Ok(line) = line(alloc, name, text.as_str())
+        && let Ok(line) = line(alloc, shown_name(name, part), text.as_str())
     {
         let _ = errors.write_all(line.as_bytes());
     }
 }
 
 /// The name that is printed for an input or an output: `-` is a standard stream.
-pub fn shown_name(name: &str, part: Part) -> &str {
+pub fn shown_name(name: &str, part: Part) -> &str
+    ensures { IsShownName name.now part result.now }
+{
     match part {
         Part::Head | Part::Frame if name == STANDARD => "standard input",
         Part::Output if name == STANDARD => "standard output",
@@ -162,11 +233,10 @@ pub fn shown_name(name: &str, part: Part) -> &str {
 }
 
 /// A line `NAME: TEXT`, with the text as `escaped_text` has it.
-pub fn line<A: Allocator + Copy>(
-    alloc: A,
-    name: &str,
-    text: &str,
-) -> Result<String<A>, AllocError> {
+#[tactic(auto, unfolding(crate::specs::Facts::line))]
+pub fn line<A: Allocator + Copy>(alloc: A, name: &str, text: &str) -> Result<String<A>, AllocError>
+    ensures { IsText (line (escaped_text name.now) (escaped_text text.now)) result }
+{
     let (name, text) = (escaped_text(alloc, name)?, escaped_text(alloc, text)?);
     format!(in alloc; "{name}: {text}\n")
 }
@@ -176,7 +246,9 @@ pub fn error_text<A: Allocator + Copy>(
     alloc: A,
     part: Part,
     error: &Error,
-) -> Result<String<A>, AllocError> {
+) -> Result<String<A>, AllocError>
+    ensures { ErrorTextIsSound part error.now result }
+{
     match error {
         Error::IoError(cause) => io_text(alloc, part, cause),
         _ => format!(in alloc; "{error}"),
@@ -188,7 +260,9 @@ fn io_text<A: Allocator + Copy>(
     alloc: A,
     part: Part,
     cause: &io::Error,
-) -> Result<String<A>, AllocError> {
+) -> Result<String<A>, AllocError>
+    ensures { IoTextIsSound part cause.now result }
+{
     let is_eof = cause.kind() == ErrorKind::UnexpectedEof;
     match part {
         Part::Head if is_eof => {

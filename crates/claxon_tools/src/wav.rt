@@ -5,7 +5,7 @@ mod header;
 mod samples;
 mod writer;
 
-pub use blocks::convert;
+pub use blocks::{convert, convert_to_stream};
 pub use error::{Error, Result};
 pub use header::{Layout, MAX_DATA_SIZE};
 pub use writer::WavWriter;

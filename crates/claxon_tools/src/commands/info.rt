@@ -38,7 +38,7 @@ where
 {
     match Names::parse(words) {
         Ok(names) => show_files(rt, names, input, output, errors),
-        Err(notice) => PROGRAM.print(notice, output, errors),
+        Err(notice) => PROGRAM.print(rt.alloc(), notice, output, errors),
     }
 }
 

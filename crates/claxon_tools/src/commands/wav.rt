@@ -1,57 +1,312 @@
 //! The command of `claxon_wav`: a FLAC file as a WAV file.
-use crate::progress::Progress;
-use crate::wav::{Error, Layout, Result, WavWriter, convert};
-use claxon::FlacReader;
-use claxon_write::status;
-use std::fs;
-use std::io::{Read, Write};
-use std::os::unix::fs::MetadataExt;
-use std::rt::Files;
+ghost use Rattle.std.specs.Prelude.{◌≡◌, ◌≤◌, IfOk, IfSome, false};
+ghost use Rattle.claxon.specs.FlacReader.{flac_metadata_only};
+ghost use Rattle.claxon_tools.specs.DataSize.{max_data_size};
 
-/// Does what the arguments say, and returns the exit status: 0, 1 for a fault, whose text goes to `errors`, or 2 for
+use crate::arguments::{Argument, Arguments, Notice};
+use crate::program::{Part, Program, STANDARD, open_input, report, report_frame, report_text};
+use crate::progress::Progress;
+use crate::wav::{Error, Layout, Result, WavWriter, convert, convert_to_stream};
+use claxon::FlacReader;
+use claxon::metadata::StreamInfo;
+use std::alloc::{AllocError, Global};
+use std::fs::OpenFile;
+use std::io::{Read, Seek, Write};
+use std::os::unix::fs::MetadataExt;
+use std::path::Path;
+use std::rt::Files;
+use std::{fs, result};
+
+/// What the program says about itself.
+pub const PROGRAM: Program = Program {
+    name: "claxon_wav",
+    arguments: "[-f] FILE [OUT.wav]",
+    help: "Converts a FLAC file to a WAV file.
+
+  FILE       the FLAC file; - is standard input
+  OUT.wav    the WAV file; - is standard output. Without it: FILE with .wav as its
+             extension, or standard output for standard input
+  -f         replaces OUT.wav if it exists
+  --         ends the options
+  --help     shows this text
+  --version  shows the version
+
+Samples before a fault are written too. Another number of samples than the
+streaminfo tells is a fault.
+
+Status: 0 if all was converted, 1 if not, 2 for other arguments.
+",
+};
+
+/// Does what the arguments say, and returns the exit status: 0, 1 for a fault, which has a line on `errors`, or 2 for
 /// arguments that the usage line doesn't have. A failed write to `errors` is ignored.
-pub fn command<Q: Files + AllocGlobal, E: Write>(
+pub fn command<Q: Files + AllocGlobal, I: Read + Copy, W: Write + Drop, E: Write>(
     rt: &Q,
     words: &[String],
+    input: I,
+    output: W,
     shows_progress: bool,
     errors: &mut E,
 ) -> u8 {
-    let [from, to] = words else {
-        let _ = writeln!(errors, "usage: claxon_wav FILE OUT.wav");
-        return 2;
-    };
-    let outcome = convert_file(rt, from.as_str(), to.as_str(), shows_progress, errors);
-    status(outcome, errors)
+    match parse(words) {
+        Ok(request) => run(rt, request, input, output, shows_progress, errors),
+        Err(notice) => {
+            let mut output = output;
+            PROGRAM.print(rt.alloc(), notice, &mut output, errors)
+        }
+    }
+}
+
+// What a command line asks for.
+#[derive(Clone, Copy)]
+struct Request<'a> {
+    from: &'a str,
+    to: Option<&'a str>,
+    replaces: bool,
+}
+
+fn parse<'a>(words: &'a [String]) -> result::Result<Request<'a>, Notice<'a>> {
+    let mut arguments = Arguments::new(words);
+    let (mut from, mut to, mut replaces) = (None, None, false);
+    while let Some(argument) = arguments.next() {
+        match argument {
+            Argument::Option("-f") => replaces = true,
+            Argument::Option(option) => return Err(Notice::of_option(option)),
+            Argument::Operand(name) if from.is_none() => from = Some(name),
+            Argument::Operand(name) if to.is_none() => to = Some(name),
+            Argument::Operand(_) => return Err(Notice::Usage),
+        }
+    }
+    match from {
+        Some(from) => Ok(Request { from, to, replaces }),
+        None => Err(Notice::Usage),
+    }
+}
+
+// The names of the input and the output, and whether the output may exist.
+#[derive(Clone, Copy)]
+struct Job<'a> {
+    from: &'a str,
+    to: &'a str,
+    replaces: bool,
+}
+
+fn run<Q: Files + AllocGlobal, I: Read + Copy, W: Write + Drop, E: Write>(
+    rt: &Q,
+    request: Request<'_>,
+    input: I,
+    output: W,
+    shows_progress: bool,
+    errors: &mut E,
+) -> u8 {
+    let (from, replaces) = (request.from, request.replaces);
+    match output_name(rt.alloc(), from, request.to) {
+        Ok(to) => {
+            let to = to.as_str();
+            let job = Job { from, to, replaces };
+            convert_file(rt, job, input, output, shows_progress, errors)
+        }
+        Err(error) => {
+            let error = claxon::Error::from(error);
+            report(rt.alloc(), from, Part::Head, &error, errors);
+            1
+        }
+    }
+}
+
+// The name that is given, or that of the input with another extension.
+fn output_name(alloc: Global, from: &str, to: Option<&str>) -> result::Result<String, AllocError> {
+    match to {
+        Some(to) => String::from_str(alloc, to),
+        None if from == STANDARD => String::from_str(alloc, STANDARD),
+        None => {
+            let path = Path::new(from).with_extension(alloc, "wav")?;
+            Ok(path.into_string())
+        }
+    }
 }
 
 // The output is created after the head is read, so that a fault there leaves an existing file as it is.
-fn convert_file<Q: Files + AllocGlobal, E: Write>(
+fn convert_file<Q: Files + AllocGlobal, I: Read + Copy, W: Write + Drop, E: Write>(
     rt: &Q,
-    from: &str,
-    to: &str,
+    job: Job<'_>,
+    input: I,
+    output: W,
     shows_progress: bool,
     errors: &mut E,
-) -> Result<()> {
-    let mut flac = FlacReader::new(rt.alloc(), fs::open(rt, from)?)?;
-    let info = flac.streaminfo();
-    let layout = Layout::new(
-        info.channels,
-        info.bits_per_sample,
-        info.sample_rate,
-        channel_mask(&flac),
-    );
-    let Some(announced) = layout.data_size(info.samples.unwrap_or(0)) else {
-        return Err(Error::TooLong);
+) -> u8 {
+    let opened = match open_input(rt, job.from, input) {
+        Ok(input) => FlacReader::new(rt.alloc(), input),
+        Err(error) => Err(claxon::Error::IoError(error)),
     };
-    if is_same_file(rt, from, to) {
-        return Err(Error::SameFile);
+    match opened {
+        Ok(mut flac) => {
+            let info = flac.streaminfo();
+            let mut progress = Progress::new(if shows_progress { info.samples } else { None });
+            let outcome = write_wav(rt, job, &mut flac, output, &mut progress, errors);
+            progress.end(errors);
+            status_of(rt.alloc(), job, &info, outcome, errors)
+        }
+        Err(error) => {
+            report(rt.alloc(), job.from, Part::Head, &error, errors);
+            1
+        }
     }
-    let output = fs::create(rt, to)?;
-    let mut wav = WavWriter::start(rt.alloc(), output, layout, announced)?;
-    let mut progress = Progress::new(if shows_progress { info.samples } else { None });
-    let outcome = convert(rt.alloc(), &mut flac, &mut wav, &mut progress, errors);
-    progress.end(errors);
-    outcome
+}
+
+// An error, and the number of samples per channel that were written before it.
+#[derive(Drop)]
+struct Failure {
+    error: Error,
+    samples: u32,
+}
+
+impl From<Error> for Failure {
+    fn from(error: Error) -> Failure {
+        Failure { error, samples: 0 }
+    }
+}
+
+// Writes the WAV file, and returns the number of samples per channel.
+fn write_wav<Q: Files + AllocGlobal, R: Read + Drop, W: Write + Drop, E: Write>(
+    rt: &Q,
+    job: Job<'_>,
+    flac: &mut FlacReader<R>,
+    output: W,
+    progress: &mut Progress,
+    errors: &mut E,
+) -> result::Result<u32, Failure>
+    requires { flac_metadata_only flac.old ≡ false }
+{
+    let info = flac.streaminfo();
+    let (channels, bits) = (info.channels, info.bits_per_sample);
+    let layout = Layout::new(channels, bits, info.sample_rate, channel_mask(flac));
+    let announced = announced_size(&layout, &info)?;
+    if job.to == STANDARD {
+        return write_stream(
+            rt.alloc(),
+            flac,
+            output,
+            layout,
+            announced,
+            progress,
+            errors,
+        );
+    }
+    let file = create(rt, job)?;
+    if is_regular(&file) {
+        return write_file(rt.alloc(), flac, file, layout, announced, progress, errors);
+    }
+    write_stream(rt.alloc(), flac, file, layout, announced, progress, errors)
+}
+
+// The number of bytes of the samples that the streaminfo tells.
+fn announced_size(layout: &Layout, info: &StreamInfo) -> Result<Option<u32>>
+    ensures { IfOk result (λ size. IfSome size (λ n. n ≤ max_data_size)) }
+{
+    match info.samples {
+        Some(samples) => match layout.data_size(samples) {
+            Some(size) => Ok(Some(size)),
+            None => Err(Error::TooLong),
+        },
+        None => Ok(None),
+    }
+}
+
+// To a file, whose header is corrected at the end where it isn't right.
+fn write_file<R: Read + Drop, W: Write + Seek + Drop, E: Write>(
+    alloc: Global,
+    flac: &mut FlacReader<R>,
+    file: W,
+    layout: Layout,
+    announced: Option<u32>,
+    progress: &mut Progress,
+    errors: &mut E,
+) -> result::Result<u32, Failure>
+    requires reads_frames { flac_metadata_only flac.old ≡ false }
+    requires fits { IfSome announced (λ n. n ≤ max_data_size) }
+{
+    let mut wav = WavWriter::start(alloc, file, layout, announced.unwrap_or(0))?;
+    let outcome = convert(alloc, flac, &mut wav, progress, errors);
+    with_samples(wav.samples(), outcome)
+}
+
+// To an output that can't seek.
+fn write_stream<R: Read + Drop, W: Write + Drop, E: Write>(
+    alloc: Global,
+    flac: &mut FlacReader<R>,
+    output: W,
+    layout: Layout,
+    announced: Option<u32>,
+    progress: &mut Progress,
+    errors: &mut E,
+) -> result::Result<u32, Failure>
+    requires reads_frames { flac_metadata_only flac.old ≡ false }
+    requires fits { IfSome announced (λ n. n ≤ max_data_size) }
+{
+    let mut wav = match announced {
+        Some(size) => WavWriter::start(alloc, output, layout, size)?,
+        None => WavWriter::start_unknown(alloc, output, layout)?,
+    };
+    let outcome = convert_to_stream(alloc, flac, &mut wav, progress, errors);
+    with_samples(wav.samples(), outcome)
+}
+
+fn with_samples(samples: u32, outcome: Result<()>) -> result::Result<u32, Failure> {
+    match outcome {
+        Ok(()) => Ok(samples),
+        Err(error) => Err(Failure { error, samples }),
+    }
+}
+
+// Prints what went wrong, and returns the exit status.
+fn status_of<E: Write>(
+    alloc: Global,
+    job: Job<'_>,
+    info: &StreamInfo,
+    outcome: result::Result<u32, Failure>,
+    errors: &mut E,
+) -> u8 {
+    match outcome {
+        Ok(found) => match info.samples {
+            Some(told) if told != u64::from(found) => {
+                let text = format!(in alloc; "the head tells {told} samples, {found} were found");
+                report_text(alloc, job.from, Part::Head, text, errors);
+                1
+            }
+            _ => 0,
+        },
+        Err(failure) => {
+            report_failure(alloc, job, info, failure, errors);
+            1
+        }
+    }
+}
+
+fn report_failure<E: Write>(
+    alloc: Global,
+    job: Job<'_>,
+    info: &StreamInfo,
+    failure: Failure,
+    errors: &mut E,
+) {
+    match failure.error {
+        Error::Claxon(error) => {
+            let samples = u64::from(failure.samples);
+            report_frame(alloc, job.from, info, samples, &error, errors);
+        }
+        Error::Output(cause) => {
+            let error = claxon::Error::IoError(cause);
+            report(alloc, job.to, Part::Output, &error, errors);
+        }
+        error => {
+            let (name, part) = match error {
+                Error::SameFile | Error::Exists => (job.to, Part::Output),
+                _ => (job.from, Part::Frame),
+            };
+            report_text(alloc, name, part, format!(in alloc; "{error}"), errors);
+        }
+    }
 }
 
 // The channel mask in a tag, as an encoder writes it for a WAV file with other channels than the default ones.
@@ -64,8 +319,28 @@ fn channel_mask<R: Read>(flac: &FlacReader<R>) -> Option<u32> {
     Some(channel_mask)
 }
 
+// Creates the output. A device or a pipe holds nothing that could be lost, so its name may exist.
+fn create<Q: Files>(rt: &Q, job: Job<'_>) -> Result<Q::File> {
+    if is_same_file(rt, job.from, job.to) {
+        return Err(Error::SameFile);
+    }
+    if !job.replaces && Path::new(job.to).is_file(rt) {
+        return Err(Error::Exists);
+    }
+    Ok(fs::create(rt, job.to)?)
+}
+
+// Whether an open file can seek, as far as its type tells.
+fn is_regular<F: OpenFile>(file: &F) -> bool {
+    match file.metadata() {
+        Ok(metadata) => metadata.is_file(),
+        Err(_) => false,
+    }
+}
+
 // Creating the output would empty the input.
 fn is_same_file<Q: Files>(rt: &Q, from: &str, to: &str) -> bool {
+    let from = if from == STANDARD { "/dev/stdin" } else { from };
     match (fs::metadata(rt, from), fs::metadata(rt, to)) {
         (Ok(from), Ok(to)) => from.ino() != 0 && from.ino() == to.ino() && from.dev() == to.dev(),
         _ => false,

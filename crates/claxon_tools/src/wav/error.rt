@@ -1,7 +1,7 @@
 //! The errors of a conversion to a WAV file.
 ghost use Rattle.std.specs.Prelude.{◌≡◌};
-ghost use Rattle.claxon.specs.Errors.TheVariants.{IoError, OutOfMemory};
-ghost use Rattle.claxon_tools.specs.declared.wav.error.Error.TheVariants.{Claxon};
+ghost use Rattle.claxon.specs.Errors.TheVariants.{OutOfMemory};
+ghost use Rattle.claxon_tools.specs.declared.wav.error.Error.TheVariants.{Claxon, Output};
 
 use std::alloc::AllocError;
 use std::{fmt, io, result};
@@ -9,8 +9,11 @@ use std::{fmt, io, result};
 /// An error of a conversion to a WAV file.
 #[derive(Debug, Drop)]
 pub enum Error {
-    /// An error of the decoder, of a file or of memory.
+    /// An error of the decoder, of the input or of memory.
     Claxon(claxon::Error),
+
+    /// A failed call of the output.
+    Output(io::Error),
 
     /// The samples are more than a WAV file holds.
     TooLong,
@@ -23,6 +26,9 @@ pub enum Error {
 
     /// The output is the input, and creating it would empty the input.
     SameFile,
+
+    /// The output exists, and isn't to be replaced.
+    Exists,
 }
 
 /// A result of a conversion.
@@ -32,10 +38,12 @@ impl fmt::Display for Error {
     fn fmt<W: fmt::Write>(&self, f: &mut fmt::Formatter<W>) -> fmt::Result {
         match self {
             Error::Claxon(error) => write!(f, "{error}"),
+            Error::Output(error) => write!(f, "{error}"),
             Error::TooLong => write!(f, "the samples are more than a WAV file holds, 4 GiB"),
             Error::OtherChannels => write!(f, "the number of channels changes within the stream"),
             Error::WideSample => write!(f, "a sample has more bits than the streaminfo says"),
             Error::SameFile => write!(f, "the output is the input"),
+            Error::Exists => write!(f, "the output exists; -f replaces it"),
         }
     }
 }
@@ -49,10 +57,10 @@ impl From<claxon::Error> for Error {
 }
 
 impl From<io::Error> for Error {
-    ghost from_gives = { λ cause e. e ≡ Claxon (IoError cause) };
+    ghost from_gives = { λ cause e. e ≡ Output cause };
 
     fn from(cause: io::Error) -> Error {
-        Error::Claxon(claxon::Error::IoError(cause))
+        Error::Output(cause)
     }
 }
 

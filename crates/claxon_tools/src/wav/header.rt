@@ -26,7 +26,7 @@ pub struct Layout {
 
 impl Layout {
     ghost use Rattle.claxon_tools.specs.DataSize.{max_data_size};
-    ghost use Rattle.claxon_tools.specs.WaveFile.{IsLayoutOf, IsSizeOf, PutHeaderIsSound, base_format, block_align, extension, format, is_extensible, layout_channels, layout_valid_bits, sample_size};
+    ghost use Rattle.claxon_tools.specs.WaveFile.{IsLayoutOf, IsSizeOf, PutHeaderIsSound, base_format, block_align, extension, format, header_bytes, is_extensible, layout_channels, layout_valid_bits, sample_size, unknown_header};
 
     /// A layout with this number of channels, of bits per sample, and of samples per second and channel. The channel mask has
     /// a bit for each channel's position; without one the channels are assigned as in a FLAC stream.
@@ -69,14 +69,16 @@ impl Layout {
     // The number of bytes of a sample.
     fn sample_size(&self) -> u32
         ensures value { result ≡ sample_size self.now.valid_bits }
+        ensures some { 1 ≤ result }
         ensures few { result ≤ 4 }
     {
         self.valid_bits.div_ceil(8)
     }
 
     // The number of bytes of one sample of each channel.
-    fn block_align(&self) -> u32
+    pub(crate) fn block_align(&self) -> u32
         ensures value { result ≡ block_align self.now }
+        ensures some { 1 ≤ result }
         ensures few { result ≤ 32 }
     {
         self.channels * self.sample_size()
@@ -118,11 +120,25 @@ impl Layout {
         ensures { PutHeaderIsSound self.now size result bytes.new.items }
     {
         let format_size = self.format_size();
+        self.put_sizes(20 + format_size + size + size % 2, size, bytes)
+    }
+
+    /// Replaces the bytes by the header for samples of unknown number, up to the end of the file: both sizes are 0xFFFFFFFF.
+    pub fn put_unknown_header(&self, bytes: &mut Vec<u8>) -> Result<(), AllocError>
+        ensures { OnOk result (bytes.new.items ≡ unknown_header self.now) }
+    {
+        self.put_sizes(u32::MAX, u32::MAX, bytes)
+    }
+
+    // Replaces the bytes by a header with these sizes, of all that follows the first one and of the samples.
+    fn put_sizes(&self, all: u32, size: u32, bytes: &mut Vec<u8>) -> Result<(), AllocError>
+        ensures { OnOk result (bytes.new.items ≡ header_bytes (format self.now) all size) }
+    {
         bytes.clear();
         bytes.extend_from_slice(b"RIFF")?;
-        bytes.extend_from_slice(&(20 + format_size + size + size % 2).to_le_bytes())?;
+        bytes.extend_from_slice(&all.to_le_bytes())?;
         bytes.extend_from_slice(b"WAVEfmt ")?;
-        bytes.extend_from_slice(&format_size.to_le_bytes())?;
+        bytes.extend_from_slice(&self.format_size().to_le_bytes())?;
         self.put_format(bytes)?;
         bytes.extend_from_slice(b"data")?;
         bytes.extend_from_slice(&size.to_le_bytes())?;

@@ -25,8 +25,8 @@ pub struct WavWriter<W> {
     ghost written_fits: { written ≤ max_data_size },
 }
 
-impl<W: Write + Seek> WavWriter<W> {
-    ghost use Rattle.claxon_tools.specs.Writer.{FinishFaultIsSound, FinishIsSound, PadIsSound, PutBlockFaultIsSound, PutBlockFits, PutBlockIsSound, SameHeader, StartIsSound, UpdateHeaderIsSound, WrapsMemoryOrIoError};
+impl<W: Write> WavWriter<W> {
+    ghost use Rattle.claxon_tools.specs.Writer.{BeginIsSound, FinishFaultIsSound, FinishStreamIsSound, IsMemoryOrOutput, PadIsSound, PutBlockFaultIsSound, PutBlockFits, PutBlockIsSound, SameHeader, StartIsSound, StartUnknownIsSound, samples_written};
 
     /// Writes a header that announces this number of bytes of samples. If there are others, `finish` corrects it.
     pub fn start(alloc: Global, output: W, layout: Layout, announced: u32) -> Result<WavWriter<W>>
@@ -35,9 +35,36 @@ impl<W: Write + Seek> WavWriter<W> {
         requires { announced ≤ max_data_size }
         ensures { StartIsSound W.contents layout announced output result }
     {
-        let mut output = output;
         let mut header = Vec::new(alloc);
         layout.put_header(announced, &mut header)?;
+        WavWriter::begin(alloc, output, layout, announced, header)
+    }
+
+    /// Writes a header for samples of unknown number. It is never corrected: `finish_stream` ends the file.
+    pub fn start_unknown(alloc: Global, output: W, layout: Layout) -> Result<WavWriter<W>>
+    where
+        W: Drop,
+        ensures { StartUnknownIsSound W.contents layout output result }
+    {
+        let mut header = Vec::new(alloc);
+        layout.put_unknown_header(&mut header)?;
+        WavWriter::begin(alloc, output, layout, 0, header)
+    }
+
+    // Writes a header.
+    fn begin(
+        alloc: Global,
+        output: W,
+        layout: Layout,
+        announced: u32,
+        header: Vec<u8>,
+    ) -> Result<WavWriter<W>>
+    where
+        W: Drop,
+        requires { announced ≤ max_data_size }
+        ensures { BeginIsSound W.contents header.items layout announced output result }
+    {
+        let mut output = output;
         output.write_all(header.as_slice())?;
         Ok(WavWriter {
             output,
@@ -72,6 +99,43 @@ impl<W: Write + Seek> WavWriter<W> {
         Ok(())
     }
 
+    /// The number of samples per channel written so far.
+    pub fn samples(&self) -> u32
+        ensures { result ≡ samples_written self.now }
+    {
+        self.written / self.layout.block_align()
+    }
+
+    /// Finishes the file of an output that can't seek, so the header stays as it is. Where it announced the bytes that were
+    /// written, the pad byte is written.
+    pub fn finish_stream(&mut self) -> Result<()>
+        ensures ok { FinishStreamIsSound W.contents result self.old self.new }
+        ensures err { FinishFaultIsSound result }
+    {
+        if self.written == self.announced {
+            self.pad()?;
+        }
+        self.output.flush()?;
+        Ok(())
+    }
+
+    // The pad byte after an odd number of bytes.
+    fn pad(&mut self) -> Result<()>
+        ensures bytes { PadIsSound W.contents result self.old self.new }
+        ensures same { SameHeader self.old self.new }
+        ensures count { self.new.written ≡ self.old.written }
+        ensures err { IfErr result IsMemoryOrOutput }
+    {
+        if self.written % 2 == 1 {
+            self.output.write_all(&[0])?;
+        }
+        Ok(())
+    }
+}
+
+impl<W: Write + Seek> WavWriter<W> {
+    ghost use Rattle.claxon_tools.specs.Writer.{FinishFaultIsSound, FinishIsSound, IsMemoryOrOutput, UpdateHeaderIsSound};
+
     /// Finishes the file with the samples written so far. There is no seek if the header was right.
     pub fn finish(&mut self) -> Result<()>
         ensures ok { FinishIsSound W.contents W.stream_position result self.old self.new }
@@ -83,22 +147,9 @@ impl<W: Write + Seek> WavWriter<W> {
         updated
     }
 
-    // The pad byte after an odd number of bytes.
-    fn pad(&mut self) -> Result<()>
-        ensures bytes { PadIsSound W.contents result self.old self.new }
-        ensures same { SameHeader self.old self.new }
-        ensures count { self.new.written ≡ self.old.written }
-        ensures err { IfErr result WrapsMemoryOrIoError }
-    {
-        if self.written % 2 == 1 {
-            self.output.write_all(&[0])?;
-        }
-        Ok(())
-    }
-
     fn update_header(&mut self) -> Result<()>
         ensures ok { UpdateHeaderIsSound W.contents W.stream_position result self.old self.new }
-        ensures err { IfErr result WrapsMemoryOrIoError }
+        ensures err { IfErr result IsMemoryOrOutput }
     {
         if self.written != self.announced {
             self.layout.put_header(self.written, &mut self.header)?;
