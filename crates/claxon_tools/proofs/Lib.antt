@@ -5,3 +5,7 @@ pub mod Ending
 pub mod Interleaved
 pub mod SamplesFit
 mod Printing
+pub mod Parts
+pub mod BlockReads
+pub mod Counting
+pub mod Verified

@@ -9,3 +9,4 @@ pub mod Convert
 pub mod Samples
 pub mod Writer
 pub mod Facts
+pub mod Verify

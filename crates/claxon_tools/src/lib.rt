@@ -10,6 +10,7 @@ pub mod fnv;
 pub mod program;
 pub mod progress;
 pub mod text;
+pub mod verify;
 pub mod wav;
 
 pub use claxon_write::status;

@@ -1,0 +1,111 @@
+-- A call that reads a block.
+use Rattle.std.specs.Borrow.{MutBor}
+use Rattle.std.proofs.Common.{◌≡◌, ◌⊎◌, ◌<◌, ◌≤◌, ℕ, true, false, List, [], ◌∷◌, length, inl, inr, refl, sym, ap, arith, subst, ◌∙◌}
+use Rattle.std.proofs.lemmas.Bool.Decides.{eqb_tells}
+use Rattle.std.specs.Prelude.{IfErr, IfOk, Option, None, Some, Result, Ok, Err}
+use Rattle.claxon.specs.Error.{IsFault, IsIo, is_io}
+use Rattle.claxon.specs.Errors.{Error}
+use Rattle.claxon.specs.Errors.TheVariants.{FormatError, IoError, OutOfMemory, Unsupported}
+use Rattle.claxon.specs.Fault.{Fault}
+use Rattle.claxon.specs.Frame.{Frame, FrameBytesFault, StreamFormat}
+use Rattle.claxon.specs.FrameReader.{FrameAnswer, ReadsFrame, block_view}
+use Rattle.claxon.specs.Block.{BlockValue}
+use Rattle.claxon.specs.Gives.{FailedIn, GivesOrEofOrOutOfMemory}
+use Rattle.claxon.specs.Promises.{HasNeither, IsExcused, NoneIsEof, Remains}
+use Rattle.claxon.specs.SampleRuns.{lent}
+use Rattle.claxon.specs.Source.{Source}
+use Rattle.claxon.specs.State.{State, bytes_in}
+use Rattle.claxon.specs.read.Frame.{frame_bytes_at}
+use Rattle.claxon.specs.read.Reading.{Reading}
+use Rattle.claxon_tools.specs.Verify.{BlockIsRead, IfConsumed, IsNotWhole}
+
+-- whether the source failed
+pub decide_failed : {X : Type 0} (a b : State X) → FailedIn a b ⊎ (FailedIn a b → ⊥)
+decide_failed a b = elim (eqb_tells b.errors a.errors) [
+  | inr p ↦ inl (inl p.1)
+  | inl p ↦ elim (eqb_tells b.empty_reads a.empty_reads) [
+      | inl q ↦ inr (λ f. elim f [ inl n ↦ n p.1 | inr n ↦ n.0 q.1 ])
+      | inr q ↦ go b.bytes refl p.1 q.1
+    ]
+]
+  where
+    go : (l : List ℕ) → b.bytes ≡ l → b.errors ≡ a.errors → (b.empty_reads ≡ a.empty_reads → ⊥) → FailedIn a b ⊎ (FailedIn a b → ⊥)
+    go [] e p q = inr (λ f. elim f [ inl n ↦ n p | inr n ↦ n.1 e ])
+    go (x ∷ l) e p q = inl (inr (q, λ z. let k : x ∷ l ≡ [] = sym e ∙ z in cc))
+
+-- an `IoError` isn't `OutOfMemory`
+pub io_not_memory : {A : Type 0} (e : Error) → IsIo e → (let r : Result A Error = Err e in r) ≡ Err OutOfMemory → ⊥
+io_not_memory (IoError cause) io m = cc
+io_not_memory (FormatError text) io m = absurd cc
+io_not_memory (Unsupported text) io m = absurd cc
+io_not_memory OutOfMemory io m = absurd cc
+
+-- where it didn't fail and the result is an `IoError`, there is no excuse
+pub not_excused : {X A : Type 0} (a b : State X) (e : Error) → IsIo e → (FailedIn a b → ⊥) → IsExcused (let r : Result A Error = Err e in r) a b → ⊥
+not_excused a b e io not_failed (inl m) = io_not_memory e io m
+not_excused a b e io not_failed (inr f) = not_failed f.1
+
+pub io_not_fault : (f : Fault) (e : Error) → IsIo e → IsFault f e → ⊥
+io_not_fault f (IoError cause) io h = h
+io_not_fault f (FormatError text) io h = absurd cc
+io_not_fault f (Unsupported text) io h = absurd cc
+io_not_fault f OutOfMemory io h = h
+
+module _ (stream : Option StreamFormat) (a b : State ℕ) where
+  block_io : (r : FrameAnswer) → ReadsFrame stream r a b → IfErr r (λ e. IsIo e → a.known ≡ true → IsNotWhole stream a.remaining ⊎ FailedIn a b)
+  block_io (Ok found) h = tt
+  block_io (Err e) h = λ io known. elim (decide_failed a b) [
+    | inl f ↦ inr f
+    | inr not_failed ↦ (
+        let few : length a.remaining < 2 → ⊥ = λ lt. elim (h.promises.eof_is_none a.remaining (record { known = known; are = refl }) lt) [ inl p ↦ (let k : Err e ≡ Ok None = p.0 in cc) | inr x ↦ not_excused a b e io not_failed x ] in
+        inl (
+          omega (arith, few),
+          record {
+            no_code = λ y t rest c is. elim (h.promises.complete y t rest c (record { known = known; are = is })) [ inl p ↦ p.0 | inr x ↦ not_excused a b e io not_failed x ];
+            no_fault = λ f t rest c is. elim (h.promises.named f t rest c (record { known = known; are = is })) [ inl p ↦ io_not_fault f e io p.0 | inr x ↦ not_excused a b e io not_failed x ];
+          },
+        )
+        )
+  ]
+
+  block_kept : (r : FrameAnswer) (read : List ℕ → Reading ℕ _) → GivesOrEofOrOutOfMemory 2 block_view r read a b → IfConsumed r ((b.errors ≡ a.errors) × (b.empty_reads ≡ a.empty_reads) × (a.known ≡ true → b.crcs ≡ a.crcs))
+  block_kept (Ok (Some x)) read g = (g.errors, g.empty_reads, λ k. (g.known k).crcs)
+  block_kept (Ok None) read g = tt
+  block_kept (Err OutOfMemory) read g = tt
+  block_kept (Err (IoError cause)) read g = tt
+  block_kept (Err (FormatError text)) read g = let w = g.fault refl in (w.errors, w.empty_reads, λ k. (w.known k).crcs)
+  block_kept (Err (Unsupported text)) read g = let w = g.fault refl in (w.errors, w.empty_reads, λ k. (w.known k).crcs)
+
+  block_eof : (r : FrameAnswer) → NoneIsEof 2 r a b → IfOk r (λ found. found ≡ None → a.known ≡ true → length a.remaining < 2)
+  block_eof (Ok found) h = λ e known. (h e known).0
+  block_eof (Err e) h = tt
+
+  block_read : (r : FrameAnswer) → b.loans ≡ a.loans → ReadsFrame stream r a b → BlockIsRead stream r a b
+  block_read r loans h = record {
+    sound = h.promises.sound;
+    eof = block_eof r h.promises.none_is_eof;
+    fault = h.promises.fault;
+    io = block_io r h;
+    memory = h.memory;
+    loans = loans;
+    kept = block_kept r (frame_bytes_at stream) h.gives;
+  }
+
+-- a block that was read through a reference
+module _ {R : Type 0} (source : R → Source ℕ) (stream : Option StreamFormat) (r : FrameAnswer) (s q : MutBor R) where
+  unborrowed : BlockIsRead stream r (bytes_in (lent source) s) (bytes_in (lent source) q) → BlockIsRead stream r (bytes_in source s.now) (bytes_in source q.now)
+  unfolding bytes_in
+  unborrowed h = record {
+    sound = h.sound;
+    eof = h.eof;
+    fault = h.fault;
+    io = h.io;
+    memory = h.memory;
+    loans = (let k : q.ghost_name ∷ (source q.now).loans ≡ s.ghost_name ∷ (source s.now).loans = h.loans in cc);
+    kept = h.kept;
+  }
+
+  pub read_through : (known : Option StreamFormat) (x : MutBor R) → s ≡ x → stream ≡ known → (bytes_in (lent source) q).loans ≡ (bytes_in (lent source) s).loans → ReadsFrame stream r (bytes_in (lent source) s) (bytes_in (lent source) q) → BlockIsRead known r (bytes_in source x.now) (bytes_in source q.now)
+  read_through known x at same loans h =
+      subst (λ (z : MutBor R). BlockIsRead known r (bytes_in source z.now) (bytes_in source q.now)) at
+      (subst (λ (z : Option StreamFormat). BlockIsRead z r (bytes_in source s.now) (bytes_in source q.now)) same (unborrowed (block_read stream (bytes_in (lent source) s) (bytes_in (lent source) q) r loans h)))

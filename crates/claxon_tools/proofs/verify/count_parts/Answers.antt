@@ -1,0 +1,51 @@
+use Rattle.std.proofs.Common.{◌≡◌, Ok, Option, ap, arith, refl, sym, ◌∙◌}
+use Rattle.std.proofs.lemmas.Result.{err_from_is_err_and}
+use Rattle.claxon.specs.Block.{BlockValue}
+use Rattle.claxon_tools.specs.Verify.{counted_bytes}
+use Rattle.claxon_tools.specs.declared.verify.Position.{Position}
+use Rattle.claxon_tools.proofs.Counting.{none_so_far, position_after, frame_counted, fault_counted, cut_counted, frame_exceeds, read_as}
+use Rattle.claxon_tools.proofs.verify.count_parts.Goals.{in-Ok-Some+in_ok-found-in-Ok-Some, in-Err+in_ok-found-in-Err+else-is_last}
+use Rattle.claxon_tools.proofs.verify.count_parts.Goals as goal
+
+pub loop-init : goal.loop-init
+loop-init g c = record { count = refl; so_far = none_so_far _ _ _ }
+
+pub loop-preserved : goal.loop-preserved
+loop-preserved g c =
+    let h = c.loop.invariant.so_far in
+    let b = counted_bytes g.R.ReadBytes.source c.read_block.new.input in
+    let read = c.read_block.ensures in
+    record {
+      count = elim c.match-read_block.branch [
+        | in-Ok-Some+in_ok-found-in-Ok-Some w ↦ (let k = w.in_ok-found-in-Ok-Some.ensures.ok in rw w.found-is (omega (arith, c.loop.invariant.count, k.frames_are, k.faults_are)))
+        | in-Err+in_ok-found-in-Err+else-is_last w ↦ (let k = w.in_ok-found-in-Err.ensures.ok.1 in rw w.found-is (omega (arith, c.loop.invariant.count, k.frames_are, k.faults_are)))
+      ];
+      so_far = elim c.match-read_block.branch [
+        | in-Ok-Some+in_ok-found-in-Ok-Some w ↦ (
+            let is = w.in-Ok-Some.is ∙ ap (λ (z : Option BlockValue). Ok z) w.in-Ok-Some.field-0-is in
+            rw w.found-is (frame_counted h w.in-Ok-Some.block _ b (read_as is read) w.duration.ensures.value w.in_ok-found-in-Ok-Some.ensures.ok)
+            )
+        | in-Err+in_ok-found-in-Err+else-is_last w ↦ (
+            let k = w.in_ok-found-in-Err.ensures.ok in
+            let byte = ap (λ (p : Position). p.bytes) c.crc-byte.ensures in
+            let small = rw byte at w.with_fault.ensures.fits in
+            rw w.found-is (fault_counted h (λ known front e. byte ∙ position_after g.R.ReadBytes.source c.args.input.now c.loop.input known (h.known known) (h.crcs known) small front e) w.in-Err.error b (read_as w.in-Err.is read) (sym w.is_io_error-is_last.ensures ∙ w.if-is_last.false) k.0 k.1)
+            )
+      ];
+    }
+
+pub returns-in_err-found-in-Ok-Some-clause-err : goal.returns-in_err-found-in-Ok-Some-clause-err
+returns-in_err-found-in-Ok-Some-clause-err g c =
+    let b = counted_bytes g.R.ReadBytes.source c.read_block.new.input in
+    let is = c.in-Ok-Some.is ∙ ap (λ (z : Option BlockValue). Ok z) c.in-Ok-Some.field-0-is in
+    let p = err_from_is_err_and c.from_residual.result c.from_residual.ensures.1 in
+    rw (p.1, p.2) (frame_exceeds c.loop.invariant.so_far c.in-Ok-Some.block _ b (read_as is c.read_block.ensures) c.duration.ensures.value _ c.in_err-found-in-Ok-Some.ensures.err)
+
+pub returns-then-is_last-clause-ok : goal.returns-then-is_last-clause-ok
+returns-then-is_last-clause-ok g c =
+    let h = c.loop.invariant.so_far in
+    let b = counted_bytes g.R.ReadBytes.source c.read_block.new.input in
+    let byte = ap (λ (p : Position). p.bytes) c.crc-byte.ensures in
+    let small = rw byte at c.with_fault.ensures.fits in
+    cut_counted h (λ known front e. byte ∙ position_after g.R.ReadBytes.source c.args.input.now c.loop.input known (h.known known) (h.crcs known) small front e) c.in-Err.error b (read_as c.in-Err.is c.read_block.ensures)
+    (sym c.is_io_error-is_last.ensures ∙ c.if-is_last.true) c.in_ok-found-in-Err.ensures.ok.1

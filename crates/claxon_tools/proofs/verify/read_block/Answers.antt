@@ -1,0 +1,20 @@
+use Rattle.std.proofs.Common.{rules, sym}
+use Rattle.claxon.specs.FrameReader.{frame_bytes, frame_input}
+use Rattle.claxon.specs.SampleRuns.{lent}
+use Rattle.claxon.proofs.SamplesInTurn.{reads_frame}
+use Rattle.claxon_write.proofs.Borrowed.{same_name}
+use Rattle.claxon_write.proofs.Gathering.{reads_loans}
+use Rattle.claxon_tools.proofs.BlockReads.{read_through}
+use Rattle.claxon_tools.proofs.verify.read_block.Goals as goal
+
+pub returns : goal.returns
+returns g c =
+    let at = c.with_streaminfo-frames.ensures.input in
+    let e = c.read_next_or_eof.ensures in
+    let q = frame_input c.read_next_or_eof.new.self in
+    let s = frame_input c.with_streaminfo-frames.result in
+    let b = frame_bytes (lent g.R.ReadBytes.source) c.read_next_or_eof.new.self in
+    let reads = reads_frame _ e.sound e.complete e.none_is_eof e.eof_is_none e.no_failure e.fault e.named e.io e.front e.memory e.gives in
+    let n = sym (same_name g.R.ReadBytes.source _ s q at (reads_loans {b = b} reads)) in
+    let k = read_through g.R.ReadBytes.source _ c.read_next_or_eof.result s q _ _ at c.with_streaminfo-frames.ensures.stream (reads_loans {b = b} reads) reads in
+    search rules

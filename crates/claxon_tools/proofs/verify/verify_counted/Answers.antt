@@ -1,0 +1,36 @@
+use Rattle.std.proofs.Common.{◌≡◌, ◌+◌, ◌%◌, ◌^◌, ℕ, ap, length, refl, ◌∙◌, zero-add}
+use Rattle.std.proofs.lemmas.Result.{err_from_is_err_and}
+use Rattle.claxon_tools.specs.Verify.{counted_bytes, position_of}
+use Rattle.claxon_tools.proofs.Counting.{position_modulo}
+use Rattle.claxon_tools.proofs.Verified.{all_counted, head_consumed, no_head, not_counted}
+use Rattle.claxon_tools.proofs.verify.verify_counted.Goals as goal
+
+pub returns : goal.returns
+returns g c =
+    let e = c.in_ok-info.ensures in
+    let source = g.R.ReadBytes.source in
+    let a = counted_bytes source c.args.input.now in
+    let m = counted_bytes source c.read_head.new.input in
+    let b = counted_bytes source c.count_parts-counted.new.input in
+    let h = head_consumed a m (c.in_ok-info.info, c.in_ok-info._comment) (position_of c.read_head.new.input) e.sound e.complete e.named e.gives e.bounds (λ known after crcs front is. position_modulo source c.args.input.now c.read_head.new.input known after crcs front is ∙ ap (λ (n : ℕ). n % 2 ^ 64) (ap (λ (n : ℕ). n + length front) c.requires ∙ zero-add (length front))) in
+    record {
+      promises = all_counted b h c.in_ok-found.found c.in_ok-info.info.samples c.has_no_fault-is_right.result c.in_ok-found.ensures.ok refl c.has_no_fault-is_right.ensures;
+      loans = c.in_ok-found.ensures.loans ∙ e.gives.loans;
+    }
+
+pub returns-in_err-info-clause-promises : goal.returns-in_err-info-clause-promises
+returns-in_err-info-clause-promises g c =
+    let e = c.in_err-info.ensures in
+    let p = err_from_is_err_and c.from_residual.result c.from_residual.ensures.1 in
+    rw (p.1, p.2) (no_head _ _ c.in_err-info.field-0.0 e.complete e.fault e.named e.memory)
+
+pub returns-in_err-found-clause-promises : goal.returns-in_err-found-clause-promises
+returns-in_err-found-clause-promises g c =
+    let e = c.in_ok-info.ensures in
+    let source = g.R.ReadBytes.source in
+    let a = counted_bytes source c.args.input.now in
+    let m = counted_bytes source c.read_head.new.input in
+    let b = counted_bytes source c.count_parts-counted.new.input in
+    let h = head_consumed a m (c.in_ok-info.info, c.in_ok-info._comment) (position_of c.read_head.new.input) e.sound e.complete e.named e.gives e.bounds (λ known after crcs front is. position_modulo source c.args.input.now c.read_head.new.input known after crcs front is ∙ ap (λ (n : ℕ). n % 2 ^ 64) (ap (λ (n : ℕ). n + length front) c.requires ∙ zero-add (length front))) in
+    let p = err_from_is_err_and c.from_residual-in_err-found.result c.from_residual-in_err-found.ensures.1 in
+    rw (p.1, p.2) (not_counted b h c.in_err-found.field-0.0 c.in_err-found.ensures.err)

@@ -1,0 +1,339 @@
+-- What is found in a stream: frames and faults, one after another, counted to its end.
+use Rattle.std.specs.Prelude.{◌≡◌, ◌⊎◌, ◌↔◌, ◌<◌, ◌≤◌, ◌+◌, ◌%◌, ◌^◌, ℕ, Bool, false, true, List, [], ◌∷◌, ◌++◌, codes, length, Option, None, Some, IfErr, IfOk, IsErrAnd, IsOkAnd, IsTrue, Ok, Err, Result}
+use Rattle.std.specs.List.{sum_by}
+use Rattle.claxon.specs.Error.{IsFault, IsIo, is_out_of_memory}
+use Rattle.claxon.specs.Fault.{Fault}
+use Rattle.claxon.specs.Frame.{Block, Frame, FrameBytesFault, StreamFormat}
+use Rattle.claxon.specs.FrameReader.{FrameAnswer, HeaderOfLargerBlock, block_view}
+use Rattle.claxon.specs.Gives.{FailedIn}
+use Rattle.claxon.specs.Heads.{Head, HeadCode, HeadFault, Marker, stream_marker}
+use Rattle.claxon.specs.MetadataBlock.{or_zero}
+use Rattle.claxon.specs.Prefix.{BeginsWith}
+use Rattle.claxon.specs.Promises.{Consumed, FaultIsSound, FoundIsSound, HasNeither, IsOutOfMemory}
+use Rattle.claxon.specs.ReadHead.{MemoryMayBeNeeded}
+use Rattle.claxon.specs.Source.{Source}
+use Rattle.claxon.specs.State.{State, bytes_in}
+use Rattle.claxon.specs.Streams.{IsStream, duration, stream_of, with_samples}
+use Rattle.claxon.specs.Errors.{Error}
+use Rattle.claxon.specs.Errors.TheVariants.{FormatError, OutOfMemory, Unsupported}
+use Rattle.claxon_input.specs.CrcReader.{crc_source, crc_state}
+use Rattle.claxon_input.specs.declared.crc.CrcReader.{CrcReader}
+use Rattle.claxon_tools.specs.declared.verify.FirstFault.{FirstFault}
+use Rattle.claxon_tools.specs.declared.verify.Found.{Found}
+use Rattle.claxon_tools.specs.declared.verify.Position.{Position}
+use Rattle.claxon_tools.specs.declared.verify.Report.{Report}
+
+-- ---- frames and faults
+
+-- the frame of a block, or a fault
+abbrev pub Part : Type 0
+Part = Result Block Fault
+
+-- its bytes
+abbrev pub PartBytes : Option StreamFormat → Part → List ℕ → Type 0
+PartBytes stream (Ok block) t = Frame stream block t
+PartBytes stream (Err f) t = FrameBytesFault stream f t
+
+-- s is these parts, one after another, and then r
+abbrev pub Parts : Option StreamFormat → List ℕ → List Part → List ℕ → Type 0
+Parts stream s [] r = s ≡ r
+Parts stream s (part ∷ parts) r =
+    (t : List ℕ) × (m : List ℕ) × PartBytes stream part t × (s ≡ t ++ m) × Parts stream m parts r
+
+-- m begins with neither a frame nor a fault: it ends inside the frame, or that has a run of 2^32 zero bits.
+abbrev pub IsNotWhole : Option StreamFormat → List ℕ → Type 0
+IsNotWhole stream m = (2 ≤ length m) × HasNeither (Frame stream) (FrameBytesFault stream) m
+
+-- ---- how many there are
+
+abbrev pub part_frames : Part → ℕ
+part_frames (Ok block) = 1
+part_frames (Err f) = 0
+
+abbrev pub part_faults : Part → ℕ
+part_faults (Ok block) = 0
+part_faults (Err f) = 1
+
+-- of each channel
+abbrev pub part_samples : Part → ℕ
+part_samples (Ok block) = duration block.channels
+part_samples (Err f) = 0
+
+-- A frame that isn't whole is one fault more.
+abbrev pub cut_faults : Bool → ℕ
+cut_faults false = 0
+cut_faults true = 1
+
+-- These are the numbers of all of them together.
+pub record AreCounted (parts : List Part) (is_cut : Bool) (found : Found) : Type 0 where
+  pub frames : found.frames ≡ sum_by part_frames parts
+  pub faults : found.faults ≡ sum_by part_faults parts + cut_faults is_cut
+  pub samples : found.samples ≡ sum_by part_samples parts
+
+-- They are too many to be counted: they have 2^64 samples, or there are 2^64 - 1 parts.
+abbrev pub AreTooMany : List Part → Type 0
+AreTooMany parts =
+    (2 ^ 64 ≤ sum_by part_samples parts)
+    ⊎ (2 ^ 64 ≤ sum_by part_frames parts + sum_by part_faults parts + 1)
+
+-- Such numbers can be counted.
+abbrev pub CanBeCounted : Found → Type 0
+CanBeCounted found = (found.samples < 2 ^ 64) × (found.frames + found.faults + 1 < 2 ^ 64)
+
+-- ---- the end, and the first fault. `failed` says that a read of the source failed.
+
+-- Fewer than two bytes are left, or a frame that isn't whole.
+abbrev pub EndsAt : Type 0 → Option StreamFormat → Bool → List ℕ → Type 0
+EndsAt failed stream false rest = length rest < 2
+EndsAt failed stream true rest = IsNotWhole stream rest ⊎ failed
+
+-- The error names the fault that m begins with, or is an `IoError` in a frame that isn't whole.
+abbrev pub IsFaultAt : Type 0 → Option StreamFormat → List ℕ → Error → Type 0
+IsFaultAt failed stream m e =
+    ((f : Fault) × IsFault f e × BeginsWith (FrameBytesFault stream f) m)
+    ⊎ (IsIo e × (IsNotWhole stream m ⊎ failed))
+
+-- After just frames the fault stands in s, which begins at the byte `start` of the stream.
+pub record IsFirst (failed : Type 0) (stream : Option StreamFormat) (start : ℕ) (s : List ℕ)
+    (first : FirstFault) : Type 0 where
+  pub front : List ℕ
+  pub before : List Part
+  pub left : List ℕ
+  pub joined : s ≡ front ++ left
+  pub parts_are : Parts stream s before left
+  pub only_frames : sum_by part_faults before ≡ 0
+  pub byte_is : first.byte ≡ (start + length front) % 2 ^ 64
+  pub samples_are : first.samples ≡ sum_by part_samples before
+  pub fault : IsFaultAt failed stream left first.error
+
+-- It is told where there are faults.
+abbrev pub FirstIs : Type 0 → Option StreamFormat → ℕ → List ℕ → ℕ → Option FirstFault → Type 0
+FirstIs failed stream start s faults None = faults ≡ 0
+FirstIs failed stream start s faults (Some first) =
+    (1 ≤ faults) × IsFirst failed stream start s first
+
+-- s, which begins at the byte `start` of the stream, is parts up to the end, and these were counted.
+pub record Counted (failed : Type 0) (stream : Option StreamFormat) (start : ℕ) (s : List ℕ)
+    (found : Found) : Type 0 where
+  pub parts : List Part
+  pub is_cut : Bool
+  pub rest : List ℕ
+  pub parts_are : Parts stream s parts rest
+  pub ends : EndsAt failed stream is_cut rest
+  pub counts : AreCounted parts is_cut found
+  pub first : FirstIs failed stream start s found.faults found.first_fault
+
+-- ---- a whole stream
+
+-- It is right where there is no fault, and as many samples as the streaminfo says, where it doesn't say 0.
+abbrev pub IsRight : Head → Report → Type 0
+IsRight head report =
+    IsTrue report.is_right ↔ ((report.found.faults ≡ 0)
+    × ((head.info.samples ≡ 0) ⊎ (head.info.samples ≡ report.found.samples)))
+
+-- s is a head and parts up to the end, and the report is about them.
+pub record IsVerified (failed : Type 0) (s : List ℕ) (report : Report) : Type 0 where
+  pub head : Head
+  pub front : List ℕ
+  pub frames : List ℕ
+  pub code : HeadCode (with_samples true) head front
+  pub joined : s ≡ front ++ frames
+  pub counted : Counted failed (Some (stream_of head.info)) (length front) frames report.found
+  pub expected : or_zero report.expected ≡ head.info.samples
+  pub right : IsRight head report
+
+-- the number of samples of each channel of a block
+abbrev pub block_samples : Block → ℕ
+block_samples block = duration block.channels
+
+-- s is a head and frames, and then fewer than two bytes; there are as many samples as the streaminfo says, where it doesn't
+-- say 0.
+pub record IsRightStream (s : List ℕ) : Type 0 where
+  pub head : Head
+  pub blocks : List Block
+  pub rest : List ℕ
+  pub stream : IsStream true s head blocks rest
+  pub few : length rest < 2
+  pub total : (head.info.samples ≡ 0) ⊎ (head.info.samples ≡ sum_by block_samples blocks)
+
+-- s begins with a head, parts, and then such bytes.
+pub record HasParts (s : List ℕ) (P : Option StreamFormat → List Part → List ℕ → Type 0) : Type 0 where
+  pub head : Head
+  pub front : List ℕ
+  pub frames : List ℕ
+  pub parts : List Part
+  pub left : List ℕ
+  pub code : HeadCode (with_samples true) head front
+  pub joined : s ≡ front ++ frames
+  pub parts_are : Parts (Some (stream_of head.info)) frames parts left
+  pub what : P (Some (stream_of head.info)) parts left
+
+-- ---- what is too much to be counted
+
+-- the error that says so
+abbrev pub IsTooMany : Error → Type 0
+IsTooMany (Unsupported text) =
+    text.now ≡ codes "more than 18446744073709551615 frames, faults or samples"
+IsTooMany _ = ⊥
+
+-- The error says that one part more is too much, and it is.
+abbrev pub ExceedsCount : ℕ → ℕ → ℕ → Found → Error → Type 0
+ExceedsCount frames faults samples found e =
+    IsTooMany e
+    × ((2 ^ 64 ≤ found.frames + frames)
+    ⊎ ((2 ^ 64 ≤ found.faults + faults) ⊎ (2 ^ 64 ≤ found.samples + samples)))
+
+-- The fault is `OutOfMemory`, which is returned, or one fault more is too much.
+abbrev pub CannotCountFault : Error → Found → Error → Type 0
+CannotCountFault fault found e =
+    ((fault ≡ OutOfMemory) × (e ≡ OutOfMemory))
+    ⊎ ((is_out_of_memory fault ≡ false) × ExceedsCount 0 1 0 found e)
+
+-- ---- one part more
+
+-- One frame more is counted.
+pub record CountsFrame (samples : ℕ) (old new : Found) : Type 0 where
+  pub frames_are : new.frames ≡ old.frames + 1
+  pub faults_are : new.faults ≡ old.faults
+  pub samples_are : new.samples ≡ old.samples + samples
+  pub first_is : new.first_fault ≡ old.first_fault
+
+-- the first fault, after one more
+abbrev pub first_of : Option FirstFault → FirstFault → Option FirstFault
+first_of None fault = Some fault
+first_of (Some first) fault = Some first
+
+-- One fault more is counted.
+pub record CountsFault (byte : ℕ) (error : Error) (old new : Found) : Type 0 where
+  pub frames_are : new.frames ≡ old.frames
+  pub faults_are : new.faults ≡ old.faults + 1
+  pub samples_are : new.samples ≡ old.samples
+  pub first_is : new.first_fault
+      ≡ first_of old.first_fault (record { byte = byte; samples = old.samples; error = error })
+
+-- P after a block, or after an Err other than `OutOfMemory` and `IoError`
+abbrev pub IfConsumed : FrameAnswer → Type 0 → Type 0
+IfConsumed (Ok (Some block)) P = P
+IfConsumed (Ok None) P = Unit {0}
+IfConsumed (Err (FormatError text)) P = P
+IfConsumed (Err (Unsupported text)) P = P
+IfConsumed (Err e) P = Unit {0}
+
+-- What a call that reads a block returned, and what it did to its input.
+pub record BlockIsRead (stream : Option StreamFormat) (r : FrameAnswer) (old new : State ℕ) : Type 0 where
+  pub sound : FoundIsSound block_view r (Frame stream) old new
+  pub eof : IfOk r (λ found. found ≡ None → old.known ≡ true → length old.remaining < 2)
+  pub fault : FaultIsSound r (FrameBytesFault stream) old new
+  pub io : IfErr r (λ e. IsIo e → old.known ≡ true → IsNotWhole stream old.remaining
+      ⊎ FailedIn old new)
+  pub memory : IsOutOfMemory r → Consumed old new (HeaderOfLargerBlock stream 0)
+  pub loans : new.loans ≡ old.loans
+  pub kept : IfConsumed r ((new.errors ≡ old.errors) × (new.empty_reads ≡ old.empty_reads)
+      × (old.known ≡ true → new.crcs ≡ old.crcs))
+
+-- ---- a reader that counts bytes
+
+-- the position after more bytes
+abbrev pub update_position : Position → List ℕ → ℕ
+update_position position more = (position.bytes + length more) % 2 ^ 64
+
+-- the bytes of such a reader
+abbrev pub counted_bytes : {R : Type 0} → (R → Source ℕ) → CrcReader R Position → State ℕ
+counted_bytes source input = bytes_in (crc_source source update_position) input
+
+-- how many were read
+abbrev pub position_of : {R : Type 0} → CrcReader R Position → ℕ
+position_of input = (crc_state input).bytes
+
+-- ---- what was counted
+
+-- The remaining bytes, which begin at the byte `start` of the stream, were counted.
+abbrev pub CountsParts : Option StreamFormat → ℕ → State ℕ → State ℕ → Found → Type 0
+CountsParts stream start old new found =
+    old.known ≡ true → Counted (FailedIn old new) stream start old.remaining found
+
+-- The error is `OutOfMemory` after parts and the header of a frame, or says that more parts remain than can be counted, and so
+-- it is.
+abbrev pub StopsCounting : Option StreamFormat → State ℕ → Error → Type 0
+StopsCounting stream old e =
+    ((e ≡ OutOfMemory) × (old.known ≡ true → (parts : List Part) × (m : List ℕ) × Parts stream old.remaining parts m × BeginsWith (HeaderOfLargerBlock stream 0) m))
+    ⊎ (IsTooMany e × (old.known ≡ true → (parts : List Part) × (m : List ℕ) × Parts stream old.remaining parts m × AreTooMany parts))
+
+-- ---- the contract of the call
+
+-- Both tell a first fault at the same place, or none.
+abbrev pub SameFirst : Option FirstFault → Option FirstFault → Type 0
+SameFirst None None = Unit {0}
+SameFirst (Some a) (Some b) = (a.byte ≡ b.byte) × (a.samples ≡ b.samples)
+SameFirst _ _ = ⊥
+
+-- Both say the same.
+pub record SameReport (a b : Report) : Type 0 where
+  pub frames : a.found.frames ≡ b.found.frames
+  pub faults : a.found.faults ≡ b.found.faults
+  pub samples : a.found.samples ≡ b.found.samples
+  pub first : SameFirst a.found.first_fault b.found.first_fault
+  pub expected : or_zero a.expected ≡ or_zero b.expected
+  pub is_right : a.is_right ≡ b.is_right
+
+-- `old` and `new` are the input before and after the call.
+module _ (old : State ℕ) (result : Result Report Error) (new : State ℕ) where
+  -- Memory was refused, or a read of the source failed.
+  abbrev pub IsExcused : Type 0
+  IsExcused = IsOutOfMemory result ⊎ FailedIn old new
+
+  -- The report is about the remaining bytes.
+  abbrev pub VerifyIsSound : Type 0
+  VerifyIsSound =
+      IfOk result (λ report. old.known ≡ true → IsVerified (FailedIn old new) old.remaining report)
+
+  -- For each stream that can be counted its report is returned, or memory or the source failed.
+  abbrev pub VerifyIsComplete : Type 0
+  VerifyIsComplete =
+      (report : Report) → old.known ≡ true → IsVerified ⊥ old.remaining report
+      → CanBeCounted report.found → IsOkAnd result (λ told. SameReport told report) ⊎ IsExcused
+
+  -- `is_right` is true only of a head and frames without a fault, with the right number of samples.
+  abbrev pub RightIsSound : Type 0
+  RightIsSound =
+      IfOk result (λ report. IsTrue report.is_right → old.known ≡ true
+      → IsRightStream old.remaining)
+
+  -- It is true of each such stream that can be counted, or memory or the source failed.
+  abbrev pub RightIsComplete : Type 0
+  RightIsComplete =
+      old.known ≡ true → (stream : IsRightStream old.remaining)
+      → sum_by block_samples stream.blocks < 2 ^ 64 → length stream.blocks + 1 < 2 ^ 64
+      → IsOkAnd result (λ report. IsTrue report.is_right) ⊎ IsExcused
+
+  -- An Err is `OutOfMemory`; an `IoError` where the bytes begin with neither a head nor a fault of one, or the source failed;
+  -- or it says that there are more parts than can be counted, or names the fault of a head, and so it is.
+  abbrev pub VerifyFaultIsSound : Type 0
+  VerifyFaultIsSound =
+      IfErr result (λ e. (e ≡ OutOfMemory) ⊎ ((IsIo e × (old.known ≡ true
+      → HasNeither (HeadCode (with_samples true)) (HeadFault (with_samples true)) old.remaining ⊎ FailedIn old new))
+      ⊎ (old.known ≡ true → (IsTooMany e × HasParts old.remaining (λ stream parts left. AreTooMany parts))
+      ⊎ ((f : Fault) × IsFault f e × BeginsWith (HeadFault (with_samples true) f) old.remaining))))
+
+  -- A fault of a head that they begin with is named, or memory or the source failed.
+  abbrev pub VerifyHeadFaultIsComplete : Type 0
+  VerifyHeadFaultIsComplete =
+      (f : Fault) → old.known ≡ true → BeginsWith (HeadFault (with_samples true) f) old.remaining
+      → IsErrAnd result (IsFault f) ⊎ IsExcused
+
+  -- `OutOfMemory` is returned only after the header of a metadata block, or of a frame.
+  abbrev pub VerifyOutOfMemoryAfterHeader : Type 0
+  VerifyOutOfMemoryAfterHeader =
+      IsOutOfMemory result → old.known ≡ true
+      → MemoryMayBeNeeded (Marker stream_marker) old.remaining
+      ⊎ HasParts old.remaining (λ stream parts left. BeginsWith (HeaderOfLargerBlock stream 0) left)
+
+  -- all of it
+  pub record VerifyPromises : Type 0 where
+    pub sound : VerifyIsSound
+    pub complete : VerifyIsComplete
+    pub right : RightIsSound
+    pub right_complete : RightIsComplete
+    pub fault : VerifyFaultIsSound
+    pub named : VerifyHeadFaultIsComplete
+    pub memory : VerifyOutOfMemoryAfterHeader
