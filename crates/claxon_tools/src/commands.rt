@@ -1,4 +1,5 @@
 //! The commands of the programs.
 pub mod info;
 pub mod trace;
+pub mod verify;
 pub mod wav;

@@ -1,0 +1,215 @@
+//! The command of `claxon_verify`: whether FLAC files are right.
+use crate::arguments::Names;
+use crate::program::{Part, Program, STANDARD, error_text, line, open_input, report, shown_name};
+use crate::verify::{FirstFault, Report, verify};
+use claxon::input::BufferedReader;
+use claxon::Error;
+use std::alloc::{AllocError, Global};
+use std::io::{ErrorKind, Read, Write};
+use std::rt::Files;
+
+/// What the program says about itself.
+pub const PROGRAM: Program = Program {
+    name: "claxon_verify",
+    arguments: "FILE..",
+    help: "Decodes FLAC files to their ends and says of each, in a line, whether it is right: that it has no fault, and as many
+samples as its streaminfo says. For a file that isn't right the line has the first fault, the byte at which its frame
+begins and the number of samples before it, and the numbers of faults and frames in all. After a fault decoding goes on
+with the next bytes. The MD5 sum of the samples is not computed.
+
+  FILE       a FLAC file; - is standard input
+  --         ends the options
+  --help     shows this text
+  --version  shows the version
+
+Status: 0 if all are right, 1 if one isn't, can't be read, or the output fails, 2 for other arguments.
+",
+};
+
+/// Does what the arguments say, and returns the exit status: 0 if all files are right, 1 if one isn't or the output fails, or
+/// 2 for arguments that the usage line doesn't have. There is a line on `output` for each file, or on `errors` for one that
+/// can't be read. A failed write to `errors` is ignored. After a failed write to `output` the other files aren't read.
+pub fn command<Q: Files + AllocGlobal, I: Read + Copy, W: Write, E: Write>(
+    rt: &Q,
+    words: &[String],
+    input: I,
+    shows_progress: bool,
+    output: &mut W,
+    errors: &mut E,
+) -> u8
+where
+    Q::File: Read,
+{
+    match Names::parse(words) {
+        Ok(names) => verify_files(rt, names, input, shows_progress, output, errors),
+        Err(notice) => PROGRAM.print(notice, output, errors),
+    }
+}
+
+// What became of a file.
+#[derive(Clone, Copy)]
+enum Outcome {
+    Right,
+    Wrong,
+    // The output failed.
+    Lost,
+}
+
+fn verify_files<Q: Files + AllocGlobal, I: Read + Copy, W: Write, E: Write>(
+    rt: &Q,
+    names: Names<'_>,
+    input: I,
+    shows_progress: bool,
+    output: &mut W,
+    errors: &mut E,
+) -> u8
+where
+    Q::File: Read,
+{
+    let mut status = 0;
+    for name in names {
+        let outcome = match verify_file(rt, name, input, shows_progress, errors) {
+            Ok(report) => print_report(rt.alloc(), name, &report, output, errors),
+            Err(error) => print_error(rt.alloc(), name, &error, output, errors),
+        };
+        match outcome {
+            Outcome::Right => {}
+            Outcome::Wrong => status = 1,
+            Outcome::Lost => return 1,
+        }
+    }
+    status
+}
+
+fn verify_file<Q: Files + AllocGlobal, I: Read + Copy, E: Write>(
+    rt: &Q,
+    name: &str,
+    input: I,
+    shows_progress: bool,
+    errors: &mut E,
+) -> claxon::Result<Report>
+where
+    Q::File: Read,
+{
+    let input = open_input(rt, name, input)?;
+    let mut input = BufferedReader::new(rt.alloc(), input)?;
+    verify(rt.alloc(), &mut input, shows_progress, errors)
+}
+
+fn print_report<W: Write, E: Write>(
+    alloc: Global,
+    name: &str,
+    report: &Report,
+    output: &mut W,
+    errors: &mut E,
+) -> Outcome {
+    let outcome = if report.is_right {
+        Outcome::Right
+    } else {
+        Outcome::Wrong
+    };
+    print_line(alloc, name, report_text(alloc, report), outcome, output, errors)
+}
+
+// A file whose head is wrong has a line on the output, and one that can't be read on `errors`.
+fn print_error<W: Write, E: Write>(
+    alloc: Global,
+    name: &str,
+    error: &Error,
+    output: &mut W,
+    errors: &mut E,
+) -> Outcome {
+    if !is_in_bytes(error) {
+        report(alloc, name, Part::Head, error, errors);
+        return Outcome::Wrong;
+    }
+    let text = head_text(alloc, error);
+    print_line(alloc, name, text, Outcome::Wrong, output, errors)
+}
+
+// Whether the error is one of the bytes of a file, and not of reading them.
+fn is_in_bytes(error: &Error) -> bool {
+    match error {
+        Error::FormatError(_) | Error::Unsupported(_) => true,
+        Error::IoError(cause) => cause.kind() == ErrorKind::UnexpectedEof,
+        Error::OutOfMemory => false,
+    }
+}
+
+fn print_line<W: Write, E: Write>(
+    alloc: Global,
+    name: &str,
+    text: Result<String, AllocError>,
+    outcome: Outcome,
+    output: &mut W,
+    errors: &mut E,
+) -> Outcome {
+    match write_line(alloc, shown_name(name, Part::Frame), text, output) {
+        Ok(()) => outcome,
+        Err(error) => {
+            report(alloc, STANDARD, Part::Output, &error, errors);
+            Outcome::Lost
+        }
+    }
+}
+
+fn write_line<W: Write>(
+    alloc: Global,
+    name: &str,
+    text: Result<String, AllocError>,
+    output: &mut W,
+) -> claxon::Result<()> {
+    output.write_all(line(alloc, name, text?.as_str())?.as_bytes())?;
+    output.flush()?;
+    Ok(())
+}
+
+fn head_text(alloc: Global, error: &Error) -> Result<String, AllocError> {
+    let text = error_text(alloc, Part::Head, error)?;
+    format!(in alloc; "wrong, {text}")
+}
+
+// The numbers that a report has, after `ok` or `wrong`.
+fn report_text(alloc: Global, report: &Report) -> Result<String, AllocError> {
+    let verdict = if report.is_right { "ok" } else { "wrong" };
+    let mut text = String::from_str(alloc, verdict)?;
+    push_count(&mut text, report.found.frames, "frame")?;
+    push_count(&mut text, report.found.samples, "sample")?;
+    push_expected(&mut text, report)?;
+    push_faults(alloc, &mut text, report)?;
+    Ok(text)
+}
+
+// The number of samples in the head, if it is another one.
+fn push_expected(text: &mut String, report: &Report) -> Result<(), AllocError> {
+    match report.expected {
+        Some(expected) if expected != report.found.samples => {
+            write!(text, ", the head tells {expected}")
+        }
+        _ => Ok(()),
+    }
+}
+
+fn push_faults(alloc: Global, text: &mut String, report: &Report) -> Result<(), AllocError> {
+    let Some(first) = &report.found.first_fault else {
+        return Ok(());
+    };
+    let faults = report.found.faults;
+    push_count(text, faults, "fault")?;
+    if faults > 1 {
+        text.push_str(", the first")?;
+    }
+    push_fault(alloc, text, first)
+}
+
+fn push_fault(alloc: Global, text: &mut String, first: &FirstFault) -> Result<(), AllocError> {
+    let (byte, samples) = (first.byte, first.samples);
+    let what = error_text(alloc, Part::Frame, &first.error)?;
+    write!(text, " at byte {byte} after {samples} samples: {what}")
+}
+
+// A number of things.
+fn push_count(text: &mut String, count: u64, thing: &str) -> Result<(), AllocError> {
+    let end = if count == 1 { "" } else { "s" };
+    write!(text, ", {count} {thing}{end}")
+}
