@@ -1,17 +1,16 @@
 -- A call that reads a block.
 use Rattle.std.specs.Borrow.{MutBor}
-use Rattle.std.proofs.Common.{◌≡◌, ◌⊎◌, ◌<◌, ◌≤◌, ℕ, true, false, List, [], ◌∷◌, length, inl, inr, refl, sym, ap, arith, subst, ◌∙◌}
+use Rattle.std.proofs.Common.{◌≡◌, ◌⊎◌, ◌<◌, ℕ, true, List, [], ◌∷◌, length, inl, inr, refl, sym, arith, subst, ◌∙◌}
 use Rattle.std.proofs.lemmas.Bool.Decides.{eqb_tells}
 use Rattle.std.specs.Prelude.{IfErr, IfOk, Option, None, Some, Result, Ok, Err}
-use Rattle.claxon.specs.Error.{IsFault, IsIo, is_io}
+use Rattle.claxon.specs.Error.{IsFault, IsIo}
 use Rattle.claxon.specs.Errors.{Error}
 use Rattle.claxon.specs.Errors.TheVariants.{FormatError, IoError, OutOfMemory, Unsupported}
 use Rattle.claxon.specs.Fault.{Fault}
-use Rattle.claxon.specs.Frame.{Frame, FrameBytesFault, StreamFormat}
+use Rattle.claxon.specs.Frame.{StreamFormat}
 use Rattle.claxon.specs.FrameReader.{FrameAnswer, ReadsFrame, block_view}
-use Rattle.claxon.specs.Block.{BlockValue}
 use Rattle.claxon.specs.Gives.{FailedIn, GivesOrEofOrOutOfMemory}
-use Rattle.claxon.specs.Promises.{HasNeither, IsExcused, NoneIsEof, Remains}
+use Rattle.claxon.specs.Promises.{IsExcused, NoneIsEof}
 use Rattle.claxon.specs.SampleRuns.{lent}
 use Rattle.claxon.specs.Source.{Source}
 use Rattle.claxon.specs.State.{State, bytes_in}
@@ -24,9 +23,9 @@ pub decide_failed : {X : Type 0} (a b : State X) → FailedIn a b ⊎ (FailedIn 
 decide_failed a b = elim (eqb_tells b.errors a.errors) [
   | inr p ↦ inl (inl p.1)
   | inl p ↦ elim (eqb_tells b.empty_reads a.empty_reads) [
-      | inl q ↦ inr (λ f. elim f [ inl n ↦ n p.1 | inr n ↦ n.0 q.1 ])
-      | inr q ↦ go b.bytes refl p.1 q.1
-    ]
+    | inl q ↦ inr (λ f. elim f [ inl n ↦ n p.1 | inr n ↦ n.0 q.1 ])
+    | inr q ↦ go b.bytes refl p.1 q.1
+  ]
 ]
   where
     go : (l : List ℕ) → b.bytes ≡ l → b.errors ≡ a.errors → (b.empty_reads ≡ a.empty_reads → ⊥) → FailedIn a b ⊎ (FailedIn a b → ⊥)

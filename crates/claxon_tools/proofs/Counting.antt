@@ -1,26 +1,23 @@
 -- Frames and faults that are counted, one after another.
 use Rattle.std.proofs.Common.{◌≡◌, ◌⊎◌, ◌<◌, ◌≤◌, ◌+◌, ◌%◌, ◌^◌, ℕ, true, false, List, [], ◌∷◌, ◌++◌, length, inl, inr, refl, sym, ap, arith, subst, ◌∙◌, length-append}
 use Rattle.std.specs.Prelude.{Option, None, Some, Ok, Err}
-use Rattle.std.specs.List.{sum_by}
 use Rattle.std.proofs.lemmas.List.{append-nil}
 use Rattle.std.proofs.lemmas.List.Sums.{sum_by_push}
-use Rattle.std.proofs.lemmas.Bool.{false≢true}
 use Rattle.claxon.specs.Block.{BlockValue, duration_of}
 use Rattle.claxon.specs.Error.{IsFault, IsIo, is_io, is_out_of_memory}
 use Rattle.claxon.specs.Errors.{Error}
 use Rattle.claxon.specs.Errors.TheVariants.{FormatError, IoError, OutOfMemory, Unsupported}
 use Rattle.claxon.specs.Fault.{Fault}
-use Rattle.claxon.specs.Frame.{Block, Frame, FrameBytesFault, StreamFormat}
-use Rattle.claxon.specs.FrameReader.{FrameAnswer, HeaderOfLargerBlock, block_view}
+use Rattle.claxon.specs.Frame.{FrameBytesFault, StreamFormat}
+use Rattle.claxon.specs.FrameReader.{FrameAnswer, block_view}
 use Rattle.claxon.specs.Gives.{FailedIn}
-use Rattle.claxon.specs.Prefix.{BeginsWith}
 use Rattle.claxon.specs.Promises.{Consumed}
 use Rattle.claxon.specs.Source.{Source}
 use Rattle.claxon.specs.State.{State, bytes_in, crcs_at_eof, remaining_as, remaining_known}
 use Rattle.claxon.proofs.SamplesInTurn.{same_duration}
 use Rattle.claxon_input.specs.CrcReader.{crc_inner}
 use Rattle.claxon_input.specs.declared.crc.CrcReader.{CrcReader}
-use Rattle.claxon_tools.specs.Verify.{AreCounted, AreTooMany, BlockIsRead, CannotCountFault, Counted, CountsFault, CountsFrame, CountsParts, EndsAt, ExceedsCount, FirstIs, IfConsumed, IsFaultAt, IsFirst, IsNotWhole, IsTooMany, Part, PartBytes, Parts, StopsCounting, counted_bytes, cut_faults, first_of, part_faults, part_frames, part_samples, position_of}
+use Rattle.claxon_tools.specs.Verify.{AreCounted, AreTooMany, BlockIsRead, CannotCountFault, CountsFault, CountsFrame, CountsParts, ExceedsCount, FirstIs, IfConsumed, IsFaultAt, IsFirst, IsNotWhole, IsTooMany, Part, PartBytes, Parts, StopsCounting, counted_bytes, first_of, part_faults, part_frames, part_samples, position_of}
 use Rattle.claxon_tools.specs.declared.verify.FirstFault.{FirstFault}
 use Rattle.claxon_tools.specs.declared.verify.Found.{Found}
 use Rattle.claxon_tools.specs.declared.verify.Position.{Position}
@@ -256,28 +253,42 @@ module _ {stream : Option StreamFormat} {start : ℕ} {a b : State ℕ} {found :
   many_counted e is n = inr (is, λ k. let p = h.is k in (p.parts, b.remaining, p.parts_are, many_parts p.parts b.remaining p.counts (inl n)))
 
   pub frame_exceeds : (block : BlockValue) (n : ℕ) (c : State ℕ) → BlockIsRead stream (Ok (Some block)) b c → n ≡ duration_of block.channels → (e : Error) → ExceedsCount 1 0 n found e → StopsCounting stream a e
-  frame_exceeds block n c read is e exceeds = inr (exceeds.0, λ k.
-      let part : Part = Ok (block_view block) in
-      let p = h.is k in
-      let q = p.counts in
-      let w = with_part part c (frame_consumed block c read) k in
-      let frames = sum_by_push part_frames p.parts part in
-      let faults = sum_by_push part_faults p.parts part in
-      let samples = sum_by_push part_samples p.parts part in
-      let d : n ≡ part_samples part = is ∙ sym (same_duration block.channels) in
-      (p.parts ++ part ∷ [], c.remaining, w.1, elim exceeds.1 [
-        | inl m ↦ inr (omega (arith, m, q.frames, frames))
-        | inr (inl m) ↦ inr (omega (arith, m, q.faults, faults))
-        | inr (inr m) ↦ inl (omega (arith, m, q.samples, samples, d))
-      ]))
+  frame_exceeds block n c read is e exceeds = inr (
+    exceeds.0,
+    λ k.
+        let part : Part = Ok (block_view block) in
+        let p = h.is k in
+        let q = p.counts in
+        let w = with_part part c (frame_consumed block c read) k in
+        let frames = sum_by_push part_frames p.parts part in
+        let faults = sum_by_push part_faults p.parts part in
+        let samples = sum_by_push part_samples p.parts part in
+        let d : n ≡ part_samples part = is ∙ sym (same_duration block.channels) in (
+          p.parts ++ part ∷ [],
+          c.remaining,
+          w.1,
+          elim exceeds.1 [
+            | inl m ↦ inr (omega (arith, m, q.frames, frames))
+            | inr (inl m) ↦ inr (omega (arith, m, q.faults, faults))
+            | inr (inr m) ↦ inl (omega (arith, m, q.samples, samples, d))
+          ],
+        ),
+  )
 
   pub fault_exceeds : (error : Error) (c : State ℕ) → BlockIsRead stream (Err error) b c → (e : Error) → CannotCountFault error found e → StopsCounting stream a e
   fault_exceeds error c read e (inl m) = inl (m.1, λ k. let p = h.is k in let w = (read.memory (ap (λ (z : Error). Err z) m.0) (h.known k)).1 in (p.parts, b.remaining, p.parts_are, (w.0, c.remaining, w.1, w.2)))
-  fault_exceeds error c read e (inr m) = inr (m.1.0, λ k.
-      let p = h.is k in
-      let q = p.counts in
-      (p.parts, b.remaining, p.parts_are, elim m.1.1 [
-        | inl n ↦ inr (omega (arith, n, q.frames))
-        | inr (inl n) ↦ inr (omega (arith, n, q.faults))
-        | inr (inr n) ↦ inl (omega (arith, n, q.samples))
-      ]))
+  fault_exceeds error c read e (inr m) = inr (
+    m.1.0,
+    λ k.
+        let p = h.is k in
+        let q = p.counts in (
+          p.parts,
+          b.remaining,
+          p.parts_are,
+          elim m.1.1 [
+            | inl n ↦ inr (omega (arith, n, q.frames))
+            | inr (inl n) ↦ inr (omega (arith, n, q.faults))
+            | inr (inr n) ↦ inl (omega (arith, n, q.samples))
+          ],
+        ),
+  )

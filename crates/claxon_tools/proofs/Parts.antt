@@ -1,15 +1,15 @@
 -- Frames and faults, one after another.
-use Rattle.std.proofs.Common.{◌≡◌, ◌⊎◌, ◌<◌, ◌≤◌, ◌+◌, ◌^◌, ◌%◌, ℕ, true, false, List, [], ◌∷◌, ◌++◌, length, inl, inr, refl, sym, ap, ap₂, arith, subst, ◌∙◌, append_assoc, length-append}
+use Rattle.std.proofs.Common.{◌≡◌, ◌⊎◌, ◌<◌, ◌+◌, ◌^◌, ◌%◌, ℕ, true, false, List, [], ◌∷◌, ◌++◌, length, inl, inr, refl, sym, ap, ap₂, arith, subst, ◌∙◌, append_assoc, length-append}
 use Rattle.std.specs.Prelude.{Bool, Option, None, Some, Ok, Err}
 use Rattle.std.specs.List.{sum_by}
 use Rattle.std.proofs.lemmas.List.{append-nil, append_cancel_left}
 use Rattle.std.proofs.lemmas.List.Sums.{sum_by-append, sum_by-cons}
 use Rattle.claxon.specs.Errors.{Error}
 use Rattle.claxon.specs.Fault.{Fault}
-use Rattle.claxon.specs.Frame.{Block, Frame, FrameBytesFault, Frames, IsWidth, NoFrameLeft, StreamFormat, known_width}
+use Rattle.claxon.specs.Frame.{Block, Frames, IsWidth, NoFrameLeft, StreamFormat, known_width}
 use Rattle.claxon.proofs.FormatLaws.{frames_unambiguous}
 use Rattle.claxon.proofs.SampleRuns.{short_no_frame, short_no_fault}
-use Rattle.claxon_tools.specs.Verify.{AreCounted, AreTooMany, CanBeCounted, Counted, EndsAt, FirstIs, IsFaultAt, IsFirst, IsNotWhole, Part, PartBytes, Parts, SameFirst, block_samples, cut_faults, part_faults, part_frames, part_samples}
+use Rattle.claxon_tools.specs.Verify.{AreTooMany, CanBeCounted, Counted, EndsAt, FirstIs, IsFaultAt, IsFirst, IsNotWhole, Part, PartBytes, Parts, SameFirst, block_samples, cut_faults, part_faults, part_frames, part_samples}
 use Rattle.claxon_tools.specs.declared.verify.FirstFault.{FirstFault}
 use Rattle.claxon_tools.specs.declared.verify.Found.{Found}
 
@@ -142,15 +142,15 @@ module _ (stream : Option StreamFormat) (width : IsWidth (known_width stream)) w
     same_first a b x y = elim (fault_no_frame a.error x.left x.fault) [
       | inr f ↦ inr f
       | inl none ↦ elim (fault_no_frame b.error y.left y.fault) [
-          | inr f ↦ absurd f
-          | inl none' ↦ (
-              let k = same_frames s x.left y.left x.before y.before x.parts_are x.only_frames none y.parts_are y.only_frames none' in
-              let l : length x.front + length x.left ≡ length y.front + length y.left = sym (length-append x.front x.left) ∙ ap length (sym x.joined ∙ y.joined) ∙ length-append y.front y.left in
-              let r : length x.left ≡ length y.left = ap length k.1 in
-              let n : length x.front ≡ length y.front = omega arith in
-              inl (x.byte_is ∙ ap (λ (z : ℕ). (start + z) % 2 ^ 64) n ∙ sym y.byte_is, x.samples_are ∙ ap (sum_by part_samples) k.0 ∙ sym y.samples_are)
-              )
-        ]
+        | inr f ↦ absurd f
+        | inl none' ↦ (
+            let k = same_frames s x.left y.left x.before y.before x.parts_are x.only_frames none y.parts_are y.only_frames none' in
+            let l : length x.front + length x.left ≡ length y.front + length y.left = sym (length-append x.front x.left) ∙ ap length (sym x.joined ∙ y.joined) ∙ length-append y.front y.left in
+            let r : length x.left ≡ length y.left = ap length k.1 in
+            let n : length x.front ≡ length y.front = omega arith in
+            inl (x.byte_is ∙ ap (λ (z : ℕ). (start + z) % 2 ^ 64) n ∙ sym y.byte_is, x.samples_are ∙ ap (sum_by part_samples) k.0 ∙ sym y.samples_are)
+            )
+      ]
     ]
 
     same_firsts : (faults : ℕ) (a b : Option FirstFault) → FirstIs failed stream start s faults a → FirstIs ⊥ stream start s faults b → SameFirst a b ⊎ failed

@@ -1,14 +1,14 @@
 -- A whole stream: its head, and what was counted after it.
 use Rattle.std.specs.Borrow.{MutBor}
-use Rattle.std.proofs.Common.{◌≡◌, ◌⊎◌, ◌<◌, ◌≤◌, ◌+◌, ◌%◌, ◌^◌, ℕ, true, false, List, [], ◌∷◌, ◌++◌, length, inl, inr, refl, sym, ap, ap₂, arith, subst, ◌∙◌, length-append}
-use Rattle.std.specs.Prelude.{Bool, IfOk, IsTrue, IsOkAnd, Option, None, Some, Result, Ok, Err, ◌↔◌}
+use Rattle.std.proofs.Common.{◌≡◌, ◌⊎◌, ◌<◌, ◌+◌, ◌%◌, ◌^◌, ℕ, true, false, List, ◌∷◌, ◌++◌, length, inl, inr, refl, sym, ap, arith, subst, ◌∙◌, length-append}
+use Rattle.std.specs.Prelude.{Bool, IsTrue, IsOkAnd, Option, None, Some, Result, Ok, Err, ◌↔◌}
 use Rattle.std.specs.List.{sum_by}
 use Rattle.std.proofs.lemmas.Bool.{false≢true}
-use Rattle.claxon.specs.Error.{IsFault, IsIo}
+use Rattle.claxon.specs.Error.{IsIo}
 use Rattle.claxon.specs.Errors.{Error}
 use Rattle.claxon.specs.Errors.TheVariants.{OutOfMemory}
 use Rattle.claxon.specs.Fault.{Fault}
-use Rattle.claxon.specs.Frame.{Block, Frames, IsWidth, StreamFormat, known_width}
+use Rattle.claxon.specs.Frame.{IsWidth, StreamFormat, known_width}
 use Rattle.claxon.specs.FrameReader.{HeaderOfLargerBlock, stream_with}
 use Rattle.claxon.specs.Gives.{Consumes, FailedIn}
 use Rattle.claxon.specs.Heads.{Head, HeadCode, HeadFault, Marker, stream_marker}
@@ -26,7 +26,7 @@ use Rattle.claxon.proofs.OutOfMemory.{not_out_of_memory, same_out_of_memory}
 use Rattle.claxon.proofs.SampleRuns.{short_no_frame}
 use Rattle.claxon_input.specs.CrcReader.{crc_inner}
 use Rattle.claxon_input.specs.declared.crc.CrcReader.{CrcReader}
-use Rattle.claxon_tools.specs.Verify.{AreCounted, AreTooMany, CanBeCounted, Counted, CountsParts, EndsAt, FirstIs, HasParts, IsFirst, IsRightStream, IsTooMany, IsVerified, Part, Parts, RightIsComplete, RightIsSound, SameReport, StopsCounting, VerifyFaultIsSound, VerifyIsComplete, VerifyIsSound, VerifyPromises, block_samples, counted_bytes, cut_faults, part_faults}
+use Rattle.claxon_tools.specs.Verify.{AreTooMany, Counted, CountsParts, EndsAt, FirstIs, HasParts, IsRightStream, IsTooMany, IsVerified, Part, Parts, RightIsComplete, RightIsSound, SameReport, StopsCounting, VerifyIsComplete, VerifyIsSound, VerifyPromises, block_samples, counted_bytes, cut_faults}
 use Rattle.claxon_tools.specs.declared.verify.FirstFault.{FirstFault}
 use Rattle.claxon_tools.specs.declared.verify.Found.{Found}
 use Rattle.claxon_tools.specs.declared.verify.Position.{Position}
@@ -186,9 +186,9 @@ module _ {A : Type 0} (a m : State ℕ) where
       neither io known = elim (decide_failed a m) [
         | inl f ↦ inr f
         | inr not_failed ↦ inl (record {
-            no_code = λ h t rest c is. elim (complete h t rest c (record { known = known; are = is })) [ inl p ↦ p.0 | inr x ↦ not_excused a m e io not_failed x ];
-            no_fault = λ f t rest c is. elim (named f t rest c (record { known = known; are = is })) [ inl p ↦ io_not_fault f e io p.0 | inr x ↦ not_excused a m e io not_failed x ];
-          })
+          no_code = λ h t rest c is. elim (complete h t rest c (record { known = known; are = is })) [ inl p ↦ p.0 | inr x ↦ not_excused a m e io not_failed x ];
+          no_fault = λ f t rest c is. elim (named f t rest c (record { known = known; are = is })) [ inl p ↦ io_not_fault f e io p.0 | inr x ↦ not_excused a m e io not_failed x ];
+        })
       ]
 
 -- ---- a head was read

@@ -94,13 +94,20 @@ pub fn verify<R: ReadBytes, A: Allocator + Copy, E: Write>(
     shows_progress: bool,
     errors: &mut E,
 ) -> Result<Report>
-    ensures sound { VerifyIsSound (bytes_in R.source input.old) result (bytes_in R.source input.new) }
-    ensures complete { VerifyIsComplete (bytes_in R.source input.old) result (bytes_in R.source input.new) }
-    ensures right { RightIsSound (bytes_in R.source input.old) result (bytes_in R.source input.new) }
-    ensures right_complete { RightIsComplete (bytes_in R.source input.old) result (bytes_in R.source input.new) }
-    ensures fault { VerifyFaultIsSound (bytes_in R.source input.old) result (bytes_in R.source input.new) }
-    ensures named { VerifyHeadFaultIsComplete (bytes_in R.source input.old) result (bytes_in R.source input.new) }
-    ensures memory { VerifyOutOfMemoryAfterHeader (bytes_in R.source input.old) result (bytes_in R.source input.new) }
+    ensures sound { VerifyIsSound (bytes_in R.source input.old) result
+        (bytes_in R.source input.new) }
+    ensures complete { VerifyIsComplete (bytes_in R.source input.old) result
+        (bytes_in R.source input.new) }
+    ensures right { RightIsSound (bytes_in R.source input.old) result
+        (bytes_in R.source input.new) }
+    ensures right_complete { RightIsComplete (bytes_in R.source input.old) result
+        (bytes_in R.source input.new) }
+    ensures fault { VerifyFaultIsSound (bytes_in R.source input.old) result
+        (bytes_in R.source input.new) }
+    ensures named { VerifyHeadFaultIsComplete (bytes_in R.source input.old) result
+        (bytes_in R.source input.new) }
+    ensures memory { VerifyOutOfMemoryAfterHeader (bytes_in R.source input.old) result
+        (bytes_in R.source input.new) }
 {
     verify_exact(alloc, input, shows_progress, errors)
 }

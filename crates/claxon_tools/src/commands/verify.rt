@@ -2,8 +2,8 @@
 use crate::arguments::Names;
 use crate::program::{Part, Program, STANDARD, error_text, line, open_input, report, shown_name};
 use crate::verify::{FirstFault, Report, verify};
-use claxon::input::BufferedReader;
 use claxon::Error;
+use claxon::input::BufferedReader;
 use std::alloc::{AllocError, Global};
 use std::io::{ErrorKind, Read, Write};
 use std::rt::Files;
@@ -108,7 +108,14 @@ fn print_report<W: Write, E: Write>(
     } else {
         Outcome::Wrong
     };
-    print_line(alloc, name, report_text(alloc, report), outcome, output, errors)
+    print_line(
+        alloc,
+        name,
+        report_text(alloc, report),
+        outcome,
+        output,
+        errors,
+    )
 }
 
 // A file whose head is wrong has a line on the output, and one that can't be read on `errors`.

@@ -1,9 +1,9 @@
-use Rattle.std.proofs.Common.{◌≡◌, Ok, Option, ap, arith, refl, sym, ◌∙◌}
+use Rattle.std.proofs.Common.{Ok, Option, ap, arith, refl, sym, ◌∙◌}
 use Rattle.std.proofs.lemmas.Result.{err_from_is_err_and}
 use Rattle.claxon.specs.Block.{BlockValue}
 use Rattle.claxon_tools.specs.Verify.{counted_bytes}
 use Rattle.claxon_tools.specs.declared.verify.Position.{Position}
-use Rattle.claxon_tools.proofs.Counting.{none_so_far, position_after, frame_counted, fault_counted, cut_counted, frame_exceeds, read_as}
+use Rattle.claxon_tools.proofs.Counting.{none_so_far, position_after, frame_counted, fault_counted, cut_counted, eof_counted, fault_exceeds, frame_exceeds, many_counted, read_as}
 use Rattle.claxon_tools.proofs.verify.count_parts.Goals.{in-Ok-Some+in_ok-found-in-Ok-Some, in-Err+in_ok-found-in-Err+else-is_last}
 use Rattle.claxon_tools.proofs.verify.count_parts.Goals as goal
 
@@ -23,13 +23,13 @@ loop-preserved g c =
       so_far = elim c.match-read_block.branch [
         | in-Ok-Some+in_ok-found-in-Ok-Some w ↦ (
             let is = w.in-Ok-Some.is ∙ ap (λ (z : Option BlockValue). Ok z) w.in-Ok-Some.field-0-is in
-            rw w.found-is (frame_counted h w.in-Ok-Some.block _ b (read_as is read) w.duration.ensures.value w.in_ok-found-in-Ok-Some.ensures.ok)
+            rw w.found-is (frame_counted h w.in-Ok-Some.block _ b (read_as {b = b} is read) w.duration.ensures.value w.in_ok-found-in-Ok-Some.ensures.ok)
             )
         | in-Err+in_ok-found-in-Err+else-is_last w ↦ (
             let k = w.in_ok-found-in-Err.ensures.ok in
             let byte = ap (λ (p : Position). p.bytes) c.crc-byte.ensures in
             let small = rw byte at w.with_fault.ensures.fits in
-            rw w.found-is (fault_counted h (λ known front e. byte ∙ position_after g.R.ReadBytes.source c.args.input.now c.loop.input known (h.known known) (h.crcs known) small front e) w.in-Err.error b (read_as w.in-Err.is read) (sym w.is_io_error-is_last.ensures ∙ w.if-is_last.false) k.0 k.1)
+            rw w.found-is (fault_counted h (λ known front e. byte ∙ position_after g.R.ReadBytes.source c.args.input.now c.loop.input known (h.known known) (h.crcs known) small front e) w.in-Err.error b (read_as {b = b} w.in-Err.is read) (sym w.is_io_error-is_last.ensures ∙ w.if-is_last.false) k.0 k.1)
             )
       ];
     }
@@ -39,7 +39,7 @@ returns-in_err-found-in-Ok-Some-clause-err g c =
     let b = counted_bytes g.R.ReadBytes.source c.read_block.new.input in
     let is = c.in-Ok-Some.is ∙ ap (λ (z : Option BlockValue). Ok z) c.in-Ok-Some.field-0-is in
     let p = err_from_is_err_and c.from_residual.result c.from_residual.ensures.1 in
-    rw (p.1, p.2) (frame_exceeds c.loop.invariant.so_far c.in-Ok-Some.block _ b (read_as is c.read_block.ensures) c.duration.ensures.value _ c.in_err-found-in-Ok-Some.ensures.err)
+    rw (p.1, p.2) (frame_exceeds c.loop.invariant.so_far c.in-Ok-Some.block _ b (read_as {b = b} is c.read_block.ensures) c.duration.ensures.value _ c.in_err-found-in-Ok-Some.ensures.err)
 
 pub returns-then-is_last-clause-ok : goal.returns-then-is_last-clause-ok
 returns-then-is_last-clause-ok g c =
@@ -47,5 +47,20 @@ returns-then-is_last-clause-ok g c =
     let b = counted_bytes g.R.ReadBytes.source c.read_block.new.input in
     let byte = ap (λ (p : Position). p.bytes) c.crc-byte.ensures in
     let small = rw byte at c.with_fault.ensures.fits in
-    cut_counted h (λ known front e. byte ∙ position_after g.R.ReadBytes.source c.args.input.now c.loop.input known (h.known known) (h.crcs known) small front e) c.in-Err.error b (read_as c.in-Err.is c.read_block.ensures)
+    cut_counted h (λ known front e. byte ∙ position_after g.R.ReadBytes.source c.args.input.now c.loop.input known (h.known known) (h.crcs known) small front e) c.in-Err.error b (read_as {b = b} c.in-Err.is c.read_block.ensures)
     (sym c.is_io_error-is_last.ensures ∙ c.if-is_last.true) c.in_ok-found-in-Err.ensures.ok.1
+
+pub returns-in_err-found-in-Err-clause-err : goal.returns-in_err-found-in-Err-clause-err
+returns-in_err-found-in-Err-clause-err g c =
+    let b = counted_bytes g.R.ReadBytes.source c.read_block.new.input in
+    let p = err_from_is_err_and c.from_residual-in_err-found-in-Err.result c.from_residual-in_err-found-in-Err.ensures.1 in
+    rw (p.1, p.2) (fault_exceeds c.loop.invariant.so_far c.in-Err.error b (read_as {b = b} c.in-Err.is c.read_block.ensures) _ c.in_err-found-in-Err.ensures.err)
+
+pub returns-in-Ok-None-clause-ok : goal.returns-in-Ok-None-clause-ok
+returns-in-Ok-None-clause-ok g c =
+    let b = counted_bytes g.R.ReadBytes.source c.read_block.new.input in
+    let is = c.in-Ok-None.is ∙ ap (λ (z : Option BlockValue). Ok z) c.in-Ok-None.field-0-is in
+    eof_counted c.loop.invariant.so_far b (read_as {b = b} is c.read_block.ensures)
+
+pub returns-clause-err : goal.returns-clause-err
+returns-clause-err g c = many_counted c.loop.invariant.so_far _ c.too_many.ensures (omega (arith, c.loop.invariant.count, c.loop-test.false))

@@ -1,4 +1,4 @@
-use Rattle.std.proofs.Common.{◌≡◌, ◌+◌, ◌%◌, ◌^◌, ℕ, ap, length, refl, ◌∙◌, zero-add}
+use Rattle.std.proofs.Common.{◌+◌, ◌%◌, ◌^◌, ℕ, ap, length, refl, ◌∙◌, zero-add}
 use Rattle.std.proofs.lemmas.Result.{err_from_is_err_and}
 use Rattle.claxon_tools.specs.Verify.{counted_bytes, position_of}
 use Rattle.claxon_tools.proofs.Counting.{position_modulo}
