@@ -1,7 +1,7 @@
 //! The proved examples on streams in memory and in a file.
 use crate::answers::{COMMENT, FRAME, head, joined, two_frames};
 use crate::files::file_of;
-use claxon_uses::{first_samples, list_tags, peak, verify};
+use claxon_uses::{first_samples, list_tags, peak};
 use std::alloc::Global;
 use std::fs;
 use std::io::Cursor;
@@ -31,39 +31,6 @@ fn as_many_samples_as_requested(rt: HostRuntime) {
     for (requested, count) in [(0, 0), (1, 1), (2, 2), (3, 2)] {
         assert!(rt; begins_with(rt.alloc(), requested, count), "{requested}");
     }
-}
-
-// Whether `verify` of the first `len` bytes finds these numbers of frames, faults and samples, and prints these lines.
-fn verifies(
-    alloc: Global,
-    bytes: &[u8],
-    len: usize,
-    counts: (u64, u64, u64),
-    is_right: bool,
-    text: &[u8],
-) -> bool {
-    let mut lines = Vec::new(alloc);
-    let prefix = &bytes[..len.min(bytes.len())];
-    match verify(alloc, Cursor::new(prefix), &mut lines) {
-        Ok(found) => {
-            (found.frames, found.faults, found.samples) == counts
-                && found.is_right == is_right
-                && lines.as_slice() == text
-        }
-        Err(_) => false,
-    }
-}
-
-// The streaminfo has one sample: one frame, two frames, and a damaged frame before another one.
-#[test]
-fn goes_on_after_faults(rt: HostRuntime) {
-    let twice = two_frames(0x58);
-    let mut damaged = twice;
-    damaged[52] ^= 0x01;
-    let text = b"after 0 samples: Ill-formed FLAC stream: frame CRC mismatch\n";
-    assert!(rt; verifies(rt.alloc(), &twice, 53, (1, 0, 1), true, b""));
-    assert!(rt; verifies(rt.alloc(), &twice, 64, (2, 0, 2), false, b""));
-    assert!(rt; verifies(rt.alloc(), &damaged, 64, (1, 1, 1), false, text));
 }
 
 // The tags and the peak sample of a file of these bytes, which is removed again.

@@ -45,6 +45,8 @@ mod traces;
 #[cfg(test)]
 mod vectors;
 #[cfg(test)]
+mod verify;
+#[cfg(test)]
 mod wav_headers;
 #[cfg(test)]
 mod writers;

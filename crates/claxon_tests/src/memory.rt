@@ -7,6 +7,7 @@ use crate::doubles::sinks::Sink;
 use claxon::FlacReader;
 use claxon::frame::FrameReader;
 use claxon::metadata::{MetadataBlock, VorbisComment, read_metadata_block_with_header};
+use claxon_tools::verify::verify;
 use claxon_write::run;
 use linked_list_allocator::LocalHeap;
 use std::alloc::{Allocator, Global};
@@ -20,6 +21,7 @@ enum Call {
     Open,
     Samples,
     Run,
+    Verify,
     Block,
 }
 
@@ -31,6 +33,7 @@ fn answer_of<A: Allocator + Copy>(heap: A, call: Call, bytes: &[u8]) -> Result<(
         Call::Open => opened(heap, bytes),
         Call::Samples => sampled(heap, bytes),
         Call::Run => written(heap, bytes),
+        Call::Verify => verified(heap, bytes),
         Call::Block => block_read(heap, bytes),
     }
 }
@@ -61,6 +64,16 @@ fn written<A: Allocator + Copy>(heap: A, bytes: &[u8]) -> Result<(), Fault> {
         Ok(2) if sink.written() == FIVES.as_slice() => Ok(()),
         Err(error) if sink.written().is_empty() => Err(fault_of(&error)),
         _ => OTHER,
+    }
+}
+
+// A stream of two samples in two frames.
+fn verified<A: Allocator + Copy>(heap: A, bytes: &[u8]) -> Result<(), Fault> {
+    let mut errors = Sink::new(0, 0, false, ErrorKind::Other);
+    match verify(heap, &mut Cursor::new(bytes), false, &mut errors) {
+        Ok(report) if report.found.frames == 2 && report.found.samples == 2 => Ok(()),
+        Ok(_) => OTHER,
+        Err(error) => Err(fault_of(&error)),
     }
 }
 
@@ -141,7 +154,8 @@ fn streams(rt: HostRuntime) -> Result<(), Fail> {
     check(&rt, Call::Open, &tagged, 3)?;
     let with_a_frame = joined(rt.alloc(), &[&tagged, &FRAME])?;
     check(&rt, Call::Samples, &with_a_frame, 4)?;
-    check(&rt, Call::Run, &two_frames(0x58), 2)
+    check(&rt, Call::Run, &two_frames(0x58), 2)?;
+    check(&rt, Call::Verify, &two_frames(0x58), 1)
 }
 
 // The vendor `ab` and a number of entries `X=Y`.

@@ -6,4 +6,3 @@ pub mod Packets
 pub mod Peaks
 pub mod StreamTags
 pub mod StreamsInMemory
-pub mod Verified

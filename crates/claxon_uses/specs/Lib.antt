@@ -4,4 +4,3 @@ pub mod Packets
 pub mod Peak
 pub mod StreamsInMemory
 pub mod TagLines
-pub mod Verified

@@ -2,14 +2,12 @@
 #![tactic(auto)]
 
 mod blocks;
-mod damaged;
 mod frames;
 mod samples;
 mod streams;
 mod tags;
 
 pub use blocks::{block_peak, peak};
-pub use damaged::{Found, verify};
 pub use frames::{decode_one, decode_packet};
 pub use samples::first_samples;
 pub use streams::decode_all;
