@@ -6,9 +6,15 @@ use std::io::IsTerminal;
 use std::process::ExitCode;
 
 fn main(rt: HostRuntime) -> ExitCode {
-    let mut errors = rt.stderr();
-    let shows_progress = errors.is_terminal();
-    PROGRAM.run(&rt, &mut errors, |words, errors| {
-        command(&rt, words, rt.stdin(), shows_progress, &mut rt.stdout(), errors)
+    PROGRAM.run(&rt, &mut rt.stderr(), |words, errors| {
+        let shows_progress = errors.is_terminal();
+        command(
+            &rt,
+            words,
+            rt.stdin(),
+            shows_progress,
+            &mut rt.stdout(),
+            errors,
+        )
     })
 }
