@@ -126,7 +126,7 @@ four_pending_past_vectors ks past v j le fit =
 pub four_pending_fit_64 : (ks past : List ℤ) (j : ℕ) → LanesFit64 (four_pending ks past j)
 four_pending_fit_64 ks past j = record { four = refl; each = (SFits-int_wrap w64 _, (SFits-int_wrap w64 _, (SFits-int_wrap w64 _, (SFits-int_wrap w64 _, tt)))) }
 
-pub pending_sums_fit_64 : {ks past : List ℤ} {sums : PendingSums} → ArePendingSums ks past sums → SumsFit64 sums
+pub pending_sums_fit_64 : {ks past : List ℤ} {sums : PendingSums (List ℤ)} → ArePendingSums ks past sums → SumsFit64 sums
 pending_sums_fit_64 {ks} {past} {sums} w = record {
   at_0 = subst LanesFit64 (sym w.at_0) (four_pending_fit_64 ks past 0);
   later = record {
@@ -162,7 +162,7 @@ pub four_pending_enough : (ks past rest : List ℤ) (v j : ℕ) → FitVectors v
 four_pending_enough ks past rest v j fit le =
     four_same (pending_enough ks past rest v (j + 3) fit le) (pending_enough ks past rest v (j + 2) fit le) (pending_enough ks past rest v (j + 1) fit le) (pending_enough ks past rest v j fit le)
 
-pub pending_sums_enough : (ks past rest : List ℤ) (v : ℕ) (sums : PendingSums) → FitVectors v ks → 4 * v + 4 ≤ length past → ArePendingSums ks past sums → ArePendingSums ks (past ++ rest) sums
+pub pending_sums_enough : (ks past rest : List ℤ) (v : ℕ) (sums : PendingSums (List ℤ)) → FitVectors v ks → 4 * v + 4 ≤ length past → ArePendingSums ks past sums → ArePendingSums ks (past ++ rest) sums
 pending_sums_enough ks past rest v sums fit le w = record {
   at_0 = w.at_0 ∙ four_pending_enough ks past rest v 0 fit le;
   later = record { at_4 = w.later.at_4 ∙ four_pending_enough ks past rest v 4 fit le; at_8 = w.later.at_8 ∙ four_pending_enough ks past rest v 8 fit le; at_12 = w.later.at_12 ∙ four_pending_enough ks past rest v 12 fit le; at_16 = w.later.at_16 ∙ four_pending_enough ks past rest v 16 fit le; at_20 = w.later.at_20 ∙ four_pending_enough ks past rest v 20 fit le; at_24 = w.later.at_24 ∙ four_pending_enough ks past rest v 24 fit le; at_28 = w.later.at_28 ∙ four_pending_enough ks past rest v 28 fit le };
@@ -413,10 +413,10 @@ farther_scaled_up xs rs u farther z t wx wr fits ht eu ex er = absurd (omega (ar
 abbrev pub coefficient_at : List ℤ → ℕ → ℤ
 coefficient_at ts j = to_z w64 (of_z w64 (get_or ts j (pos 0)))
 
-abbrev second_taps : List ℤ → LaterLanes
+abbrev second_taps : List ℤ → LaterLanes (List ℤ)
 second_taps ts = record { at_4 = coefficient_at ts 23 ∷ coefficient_at ts 24 ∷ coefficient_at ts 25 ∷ coefficient_at ts 26 ∷ []; at_8 = coefficient_at ts 19 ∷ coefficient_at ts 20 ∷ coefficient_at ts 21 ∷ coefficient_at ts 22 ∷ []; at_12 = coefficient_at ts 15 ∷ coefficient_at ts 16 ∷ coefficient_at ts 17 ∷ coefficient_at ts 18 ∷ []; at_16 = coefficient_at ts 11 ∷ coefficient_at ts 12 ∷ coefficient_at ts 13 ∷ coefficient_at ts 14 ∷ []; at_20 = coefficient_at ts 7 ∷ coefficient_at ts 8 ∷ coefficient_at ts 9 ∷ coefficient_at ts 10 ∷ []; at_24 = coefficient_at ts 3 ∷ coefficient_at ts 4 ∷ coefficient_at ts 5 ∷ coefficient_at ts 6 ∷ []; at_28 = pos 0 ∷ coefficient_at ts 0 ∷ coefficient_at ts 1 ∷ coefficient_at ts 2 ∷ [] }
 
-abbrev newest_taps : List ℤ → LaterLanes
+abbrev newest_taps : List ℤ → LaterLanes (List ℤ)
 newest_taps ts = record { at_4 = coefficient_at ts 24 ∷ coefficient_at ts 25 ∷ coefficient_at ts 26 ∷ pos 0 ∷ []; at_8 = coefficient_at ts 20 ∷ coefficient_at ts 21 ∷ coefficient_at ts 22 ∷ coefficient_at ts 23 ∷ []; at_12 = coefficient_at ts 16 ∷ coefficient_at ts 17 ∷ coefficient_at ts 18 ∷ coefficient_at ts 19 ∷ []; at_16 = coefficient_at ts 12 ∷ coefficient_at ts 13 ∷ coefficient_at ts 14 ∷ coefficient_at ts 15 ∷ []; at_20 = coefficient_at ts 8 ∷ coefficient_at ts 9 ∷ coefficient_at ts 10 ∷ coefficient_at ts 11 ∷ []; at_24 = coefficient_at ts 4 ∷ coefficient_at ts 5 ∷ coefficient_at ts 6 ∷ coefficient_at ts 7 ∷ []; at_28 = coefficient_at ts 0 ∷ coefficient_at ts 1 ∷ coefficient_at ts 2 ∷ coefficient_at ts 3 ∷ [] }
 
 abbrev as_taps : List ℤ → Taps

@@ -7,4 +7,5 @@ pub mod Samples
 pub mod Lanes
 pub mod Predictor
 pub mod PendingSums
+pub mod Pairs
 pub mod TwelveLanes

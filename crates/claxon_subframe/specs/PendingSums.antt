@@ -20,7 +20,7 @@ abbrev pub four_pending : List ℤ → List ℤ → ℕ → List ℤ
 four_pending coefficients past j = pending_at coefficients past (j + 3) ∷ pending_at coefficients past (j + 2) ∷ pending_at coefficients past (j + 1) ∷ pending_at coefficients past j ∷ []
 
 -- the lanes hold the pending sums of the samples from the fifth on
-pub record LaterArePending (coefficients past : List ℤ) (later : LaterLanes) : Type 0 where
+pub record LaterArePending (coefficients past : List ℤ) (later : LaterLanes (List ℤ)) : Type 0 where
   pub at_4 : later.at_4 ≡ four_pending coefficients past 4
   pub at_8 : later.at_8 ≡ four_pending coefficients past 8
   pub at_12 : later.at_12 ≡ four_pending coefficients past 12
@@ -30,7 +30,7 @@ pub record LaterArePending (coefficients past : List ℤ) (later : LaterLanes) :
   pub at_28 : later.at_28 ≡ four_pending coefficients past 28
 
 -- the lanes hold the pending sums of the next 32 samples
-pub record ArePendingSums (coefficients past : List ℤ) (sums : PendingSums) : Type 0 where
+pub record ArePendingSums (coefficients past : List ℤ) (sums : PendingSums (List ℤ)) : Type 0 where
   pub at_0 : sums.at_0 ≡ four_pending coefficients past 0
   pub later : LaterArePending coefficients past sums.later
 
@@ -39,7 +39,7 @@ abbrev pub four_taps : List ℤ → ℕ → List ℤ
 four_taps coefficients j = get_or coefficients (j + 3) (pos 0) ∷ get_or coefficients (j + 2) (pos 0) ∷ get_or coefficients (j + 1) (pos 0) ∷ get_or coefficients j (pos 0) ∷ []
 
 -- the coefficients of a sample with `back` samples between it and the next one
-pub record AreLaterTaps (coefficients : List ℤ) (back : ℕ) (taps : LaterLanes) : Type 0 where
+pub record AreLaterTaps (coefficients : List ℤ) (back : ℕ) (taps : LaterLanes (List ℤ)) : Type 0 where
   pub at_4 : taps.at_4 ≡ four_taps coefficients (back + 4)
   pub at_8 : taps.at_8 ≡ four_taps coefficients (back + 8)
   pub at_12 : taps.at_12 ≡ four_taps coefficients (back + 12)
@@ -56,7 +56,7 @@ pub record AreTaps (coefficients : List ℤ) (taps : Taps) : Type 0 where
   pub newest : AreLaterTaps coefficients 0 taps.newest
 
 -- sums that fit 64 bits
-pub record LaterFit64 (later : LaterLanes) : Type 0 where
+pub record LaterFit64 (later : LaterLanes (List ℤ)) : Type 0 where
   pub at_4 : LanesFit64 later.at_4
   pub at_8 : LanesFit64 later.at_8
   pub at_12 : LanesFit64 later.at_12
@@ -65,12 +65,12 @@ pub record LaterFit64 (later : LaterLanes) : Type 0 where
   pub at_24 : LanesFit64 later.at_24
   pub at_28 : LanesFit64 later.at_28
 
-pub record SumsFit64 (sums : PendingSums) : Type 0 where
+pub record SumsFit64 (sums : PendingSums (List ℤ)) : Type 0 where
   pub at_0 : LanesFit64 sums.at_0
   pub later : LaterFit64 sums.later
 
 -- coefficients of at most 2 ^ 15 in size
-pub record SmallLater (taps : LaterLanes) : Type 0 where
+pub record SmallLater (taps : LaterLanes (List ℤ)) : Type 0 where
   pub at_4 : Lanes (2 ^ 15) taps.at_4
   pub at_8 : Lanes (2 ^ 15) taps.at_8
   pub at_12 : Lanes (2 ^ 15) taps.at_12
@@ -89,16 +89,16 @@ FitVectors vectors coefficients =
     drop (4 * vectors + 4) coefficients ≡ replicate (length coefficients - (4 * vectors + 4)) (pos 0)
 
 -- pending sums become those after two more samples
-abbrev pub ArePendingSumsAfterTwo : ℕ → Taps → PendingSums → ℤ → ℤ → PendingSums → Type 0
+abbrev pub ArePendingSumsAfterTwo : ℕ → Taps → PendingSums (List ℤ) → ℤ → ℤ → PendingSums (List ℤ) → Type 0
 ArePendingSumsAfterTwo vectors taps old second newest new =
     (coefficients past : List ℤ) → AreTaps coefficients taps → FitVectors vectors coefficients → ArePendingSums coefficients past old → ArePendingSums coefficients (newest ∷ second ∷ past) new
 
 -- the pending sums before the first sample
-abbrev pub ArePendingSumsBeforeAll : PendingSums → Type 0
+abbrev pub ArePendingSumsBeforeAll : PendingSums (List ℤ) → Type 0
 ArePendingSumsBeforeAll sums = (coefficients : List ℤ) → ArePendingSums coefficients [] sums
 
 -- the pending sums after these samples
-abbrev pub ArePendingSumsAfter : ℕ → Taps → List ℤ → PendingSums → Type 0
+abbrev pub ArePendingSumsAfter : ℕ → Taps → List ℤ → PendingSums (List ℤ) → Type 0
 ArePendingSumsAfter vectors taps samples sums = (coefficients : List ℤ) → AreTaps coefficients taps → FitVectors vectors coefficients → ArePendingSums coefficients (reverse samples) sums
 
 -- a sum and a residual sample, scaled up so that a shift by 32 drops of the sum what `shift` would drop, and nothing of the residual

@@ -10,6 +10,10 @@ ghost use Rattle.claxon_subframe.specs.TwelveLanes.{numbers, SmallTwelve, Twelve
 
 use std::simd::prelude::*;
 
+mod pairs;
+
+use pairs::predict_by_pairs;
+
 #[cfg(test)]
 mod tests;
 
@@ -158,10 +162,12 @@ pub fn predict_lpc(coefficients: &mut [i16], shift: u32, buffer: &mut [i32])
 {
     // From here on the oldest sample's coefficient is first.
     coefficients.reverse();
+    let known = predict_by_pairs(coefficients, shift, buffer);
+    let rest = &mut buffer[known - coefficients.len()..];
     if coefficients.len() <= 12 {
-        predict_lpc_low_order(coefficients, shift, buffer);
+        predict_lpc_low_order(coefficients, shift, rest);
     } else {
-        predict_lpc_high_order(coefficients, shift, buffer);
+        predict_lpc_high_order(coefficients, shift, rest);
     }
 }
 
@@ -601,29 +607,29 @@ fn predict_12_taps<const VECTORS: usize>(coefficients: &TwelveLanes, shift: u32,
 
 // Lanes for the samples that follow, from the fifth on: seven vectors, in each the latest sample's lane first.
 #[derive(Clone, Copy)]
-struct LaterLanes {
-    at_4: i64x4,
-    at_8: i64x4,
-    at_12: i64x4,
-    at_16: i64x4,
-    at_20: i64x4,
-    at_24: i64x4,
-    at_28: i64x4,
+struct LaterLanes<L> {
+    at_4: L,
+    at_8: L,
+    at_12: L,
+    at_16: L,
+    at_20: L,
+    at_24: L,
+    at_28: L,
 }
 
 // The pending sums of the next 32 samples.
 #[derive(Clone, Copy)]
-struct PendingSums {
-    at_0: i64x4,
-    later: LaterLanes,
+struct PendingSums<L> {
+    at_0: L,
+    later: LaterLanes<L>,
 }
 
 // The coefficients of the newer of two samples for these samples, and those of the one before it. They are 0 for the five
 // samples directly after each, so neither adds to the next four.
 #[derive(Clone, Copy)]
 struct Taps {
-    second: LaterLanes,
-    newest: LaterLanes,
+    second: LaterLanes<i64x4>,
+    newest: LaterLanes<i64x4>,
 }
 
 #[inline(always)]
@@ -656,7 +662,7 @@ fn taps_of(padded: &[i64; 32]) -> Taps
 
 // The pending sums before the first sample.
 #[inline(always)]
-fn no_sums() -> PendingSums
+fn no_sums() -> PendingSums<i64x4>
     ensures { ArePendingSumsBeforeAll result }
 {
     let zeros = i64x4::splat(0);
@@ -677,11 +683,11 @@ fn no_sums() -> PendingSums
 // The pending sums after two more samples. Where `VECTORS` is less than 7 no coefficient reaches the latest ones.
 #[inline(always)]
 fn advance_sums<const VECTORS: usize>(
-    sums: PendingSums,
+    sums: PendingSums<i64x4>,
     taps: Taps,
     one: i64,
     two: i64,
-) -> PendingSums
+) -> PendingSums<i64x4>
     requires sums { SumsFit64 sums }
     requires taps { SmallTaps taps }
     requires one { FitsSigned w32 one }
@@ -759,7 +765,7 @@ fn advance_sums<const VECTORS: usize>(
 
 // The pending sums after these samples, which are as many as there are coefficients.
 #[inline(always)]
-fn first_sums<const VECTORS: usize>(taps: Taps, samples: &[i32]) -> PendingSums
+fn first_sums<const VECTORS: usize>(taps: Taps, samples: &[i32]) -> PendingSums<i64x4>
     requires samples { length samples.now ≡ 4 * VECTORS + 4 }
     requires taps { SmallTaps taps }
     requires some { 3 ≤ VECTORS }
