@@ -22,3 +22,4 @@ pub mod PaddedCoefficients
 pub mod PendingSums
 pub mod RestoreLoopByTwo
 pub mod TwelveLanes
+pub mod Pairs

@@ -27,7 +27,7 @@ use Rattle.claxon_subframe.proofs.Lanes.{shr_more, small_fits, dot_trailing_zero
 
 -- ---- what two more samples add
 
-dot_one : (ks : List ℤ) (j : ℕ) (y : ℤ) (past : List ℤ) → dot (drop j ks) (y ∷ past) ≡ get_or ks j (pos 0) *ℤ y +ℤ dot (drop (j + 1) ks) past
+pub dot_one : (ks : List ℤ) (j : ℕ) (y : ℤ) (past : List ℤ) → dot (drop j ks) (y ∷ past) ≡ get_or ks j (pos 0) *ℤ y +ℤ dot (drop (j + 1) ks) past
 dot_one ks j y past =
     elim (cases_lt j (length ks)) [
       | inl there ↦ ap (λ (l : List ℤ). dot l (y ∷ past)) (drop_more ks j (pos 0) there)
@@ -117,7 +117,7 @@ pending_past_vectors ks past v i le fit =
     pending_zeros ks past (length ks - (4 * v + 4) - d) i
     (sym (drop-drop d (4 * v + 4) ks ∙ ap (λ (n : ℕ). drop n ks) there) ∙ ap (drop d) fit ∙ drop-replicate d (length ks - (4 * v + 4)) (pos 0))
 
-four_pending_past_vectors : (ks past : List ℤ) (v j : ℕ) → 4 * v + 4 ≤ j → FitVectors v ks → replicate 4 (pos 0) ≡ four_pending ks past j
+pub four_pending_past_vectors : (ks past : List ℤ) (v j : ℕ) → 4 * v + 4 ≤ j → FitVectors v ks → replicate 4 (pos 0) ≡ four_pending ks past j
 four_pending_past_vectors ks past v j le fit =
     sym (four_same (pending_past_vectors ks past v (j + 3) (omega arith) fit) (pending_past_vectors ks past v (j + 2) (omega arith) fit) (pending_past_vectors ks past v (j + 1) (omega arith) fit) (pending_past_vectors ks past v j le fit))
 
@@ -288,11 +288,11 @@ scaled_up_is a r t ht =
 
 -- ---- a sample
 
-from_last : (ts : List ℤ) (n i k : ℕ) → length ts ≡ n → i + k + 1 ≡ n → get_or (reverse ts) i (pos 0) ≡ get_or ts k (pos 0)
+pub from_last : (ts : List ℤ) (n i k : ℕ) → length ts ≡ n → i + k + 1 ≡ n → get_or (reverse ts) i (pos 0) ≡ get_or ts k (pos 0)
 from_last ts n i k long e = get_or-reverse ts i (pos 0) (omega arith) ∙ ap (λ (m : ℕ). get_or ts m (pos 0)) (omega arith)
 
 -- the newest five coefficients, and the others
-five_first : (l : List ℤ) → 5 ≤ length l → l ≡ get_or l 0 (pos 0) ∷ get_or l 1 (pos 0) ∷ get_or l 2 (pos 0) ∷ get_or l 3 (pos 0) ∷ get_or l 4 (pos 0) ∷ drop 5 l
+pub five_first : (l : List ℤ) → 5 ≤ length l → l ≡ get_or l 0 (pos 0) ∷ get_or l 1 (pos 0) ∷ get_or l 2 (pos 0) ∷ get_or l 3 (pos 0) ∷ get_or l 4 (pos 0) ∷ drop 5 l
 five_first (a ∷ b ∷ c ∷ d ∷ e ∷ l) le = refl
 five_first l le = absurd (omega arith)
 
@@ -441,10 +441,10 @@ are_last ts long h = record {
 pub coefficient_small : (ts : List ℤ) (j : ℕ) → Within 32768 ts → unsigned_abs (coefficient_at ts j) ≤ 32768
 coefficient_small ts j h = subst (λ (v : ℤ). unsigned_abs v ≤ 32768) (sym (coefficient_at_is ts j h)) (within_at 32768 ts j h.each)
 
-kept : (ts : List ℤ) (i k : ℕ) → length ts ≡ 32 → i + k ≡ 26 → get_or (drop 5 (reverse ts)) i (pos 0) ≡ get_or ts k (pos 0)
+pub kept : (ts : List ℤ) (i k : ℕ) → length ts ≡ 32 → i + k ≡ 26 → get_or (drop 5 (reverse ts)) i (pos 0) ≡ get_or ts k (pos 0)
 kept ts i k long e = get_or-drop 5 (reverse ts) i (pos 0) ∙ from_last ts 32 (5 + i) k long (omega arith)
 
-taps_length : (ts : List ℤ) → length ts ≡ 32 → length (but_newest_five (reverse ts)) ≡ 32
+pub taps_length : (ts : List ℤ) → length ts ≡ 32 → length (but_newest_five (reverse ts)) ≡ 32
 taps_length ts long = omega (arith, length-drop 5 (reverse ts), length-reverse ts)
 
 second_value : (ts : List ℤ) → length ts ≡ 32 → Within 32768 ts → AreLaterTaps (but_newest_five (reverse ts)) 1 (second_taps ts)

@@ -75,7 +75,7 @@ value_32 c h =
 pub product_size : (c x : ℤ) → unsigned_abs c ≤ 2 ^ 15 → unsigned_abs x ≤ 2 ^ 31 → unsigned_abs (c *ℤ x) ≤ 2 ^ 46
 product_size c x h k = subst (λ (m : ℕ). m ≤ 2 ^ 46) (sym (unsigned_abs-mul c x)) (mul-le (unsigned_abs c) (unsigned_abs x) (2 ^ 15) (2 ^ 31) h k)
 
-between : (p : ℤ) (m : ℕ) → unsigned_abs p ≤ m → (neg_ℤ (pos m) ≤ℤ p) × (p ≤ℤ pos m)
+pub between : (p : ℤ) (m : ℕ) → unsigned_abs p ≤ m → (neg_ℤ (pos m) ≤ℤ p) × (p ≤ℤ pos m)
 between (pos n) m h = (omega (arith, ints), omega (arith, ints))
 between (negsuc n) m h = (omega (arith, ints), omega (arith, ints))
 

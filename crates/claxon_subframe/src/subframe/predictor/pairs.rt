@@ -1,13 +1,13 @@
 //! Linear predictors over samples of 16 bits. One instruction multiplies two samples by their coefficients in each of four lanes,
 //! and adds the two products. The lanes have 32 bits: where the magnitudes of the coefficients add up to less than 2^16, the
 //! pending sums of samples of 16 bits fit.
-ghost use Rattle.std.specs.Prelude.{◌≡◌, ◌+◌, ◌*◌, ◌-◌, ◌^◌, ◌<◌, ◌≤◌, ◌↔◌, IsTrue, true, false, length, take, drop, reverse, replicate, pos, FitsSigned};
+ghost use Rattle.std.specs.Prelude.{◌≡◌, ◌+◌, ◌*◌, ◌-◌, ◌^◌, ◌<◌, ◌≤◌, ◌↔◌, ◌++◌, IsTrue, true, false, length, take, drop, reverse, replicate, pos, FitsSigned};
 ghost use Rattle.std.specs.Int.{w16, w32};
 ghost use Rattle.claxon_format.specs.Predict.{linear};
 ghost use Rattle.claxon_format.specs.read.Predict.{restored};
 ghost use Rattle.claxon_subframe.specs.Lanes.{Within};
 ghost use Rattle.claxon_subframe.specs.PendingSums.{ArePendingSumsBeforeAll, but_newest_five};
-ghost use Rattle.claxon_subframe.specs.Pairs.{Fit16, ArePairTaps, ArePairSumsAfter, ArePairSumsAfterTwo, LanesFit16, LanesFit32, SmallPairTaps, SumsFit32, advanced_by_pair, magnitude, pair_of};
+ghost use Rattle.claxon_subframe.specs.Pairs.{Fit16, ArePairTaps, ArePairSumsAfter, ArePairSumsAfterTwo, LanesFit16, LanesFit32, SmallPairTaps, SumsFit32, advanced_by_pair, magnitude, pair_of, plus_pairs};
 
 use super::{LaterLanes, NewestFive, PendingSums, low_bits, predict_plain};
 use std::simd::prelude::*;
@@ -48,12 +48,20 @@ fn sum_of_magnitudes(coefficients: &[i16]) -> u32
     sum
 }
 
+// Whether a sample fits 16 bits.
+#[inline(always)]
+fn fits_16_bits(sample: i64) -> bool
+    ensures { IsTrue result ↔ FitsSigned w16 sample }
+{
+    (-0x8000..=0x7fff).contains(&sample)
+}
+
 // Whether both samples fit 16 bits.
 #[inline(always)]
-fn fit_16_bits(one: i64, two: i64) -> bool
+fn both_fit_16_bits(one: i64, two: i64) -> bool
     ensures { IsTrue result ↔ (FitsSigned w16 one × FitsSigned w16 two) }
 {
-    (-0x8000..=0x7fff).contains(&one) && (-0x8000..=0x7fff).contains(&two)
+    fits_16_bits(one) && fits_16_bits(two)
 }
 
 // Whether all samples fit 16 bits.
@@ -61,7 +69,7 @@ fn all_fit_16_bits(samples: &[i32]) -> bool
     ensures { IsTrue result ↔ Fit16 samples.now }
 {
     for sample in samples.iter() {
-        if !(-0x8000..=0x7fff).contains(sample) {
+        if !fits_16_bits(i64::from(*sample)) {
             return false;
         }
     }
@@ -286,7 +294,7 @@ fn predict_pairs<const VECTORS: usize>(
         let i = 2 * pair;
         let pending = sums.at_0.cast::<i64>();
         let next = newest.followed_by_two(last, pending, buffer[i], buffer[i + 1], shift);
-        if !fit_16_bits(next.second, next.newest) {
+        if !both_fit_16_bits(next.second, next.newest) {
             return i;
         }
         buffer[i] = low_bits(next.second);

@@ -1,0 +1,9 @@
+use Rattle.std.proofs.Common.{rules}
+use Rattle.claxon_subframe.specs.Pairs.{AllFit16}
+use Rattle.claxon_subframe.proofs.Pairs.{read_from, pair_taps_value}
+use Rattle.claxon_subframe.proofs.subframe.predictor.pairs.pair_taps_of.Goals as goal
+
+pub returns-clause-value : goal.returns-clause-value
+returns-clause-value c =
+    let fits : AllFit16 (read_from c.args.padded.now 0 27) = search rules in
+    pair_taps_value c.args.padded.now c.told-padded fits
