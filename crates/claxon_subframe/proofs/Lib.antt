@@ -23,3 +23,4 @@ pub mod PendingSums
 pub mod RestoreLoopByTwo
 pub mod TwelveLanes
 pub mod Pairs
+pub mod RestoredFront

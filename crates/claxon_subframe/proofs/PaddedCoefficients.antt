@@ -52,7 +52,7 @@ filled_all {n} {k} {i} {cs} {xs} all full h = sym (take_all (k + i) xs (omega (a
 
 -- ---- the first samples, then the others
 
-restore_same : (p q : List ℤ → ℤ) (past xs : List ℤ) → ((l : List ℤ) → p l ≡ q l) → restore p past xs ≡ restore q past xs
+pub restore_same : (p q : List ℤ → ℤ) (past xs : List ℤ) → ((l : List ℤ) → p l ≡ q l) → restore p past xs ≡ restore q past xs
 restore_same p q past [] h = refl
 restore_same p q past (e ∷ es) h =
     ap (λ (y : ℤ). wrap (y +ℤ e) ∷ restore p (wrap (y +ℤ e) ∷ past) es) (h past) ∙ ap (λ (t : List ℤ). wrap (q past +ℤ e) ∷ t) (restore_same p q (wrap (q past +ℤ e) ∷ past) es h)
@@ -65,12 +65,12 @@ restore_append p past (e ∷ es) ys =
     = sym (ap (λ (t : List ℤ). t ++ past) (reverse-append (x ∷ []) (restore p (x ∷ past) es)) ∙ append_assoc (reverse (restore p (x ∷ past) es)) (x ∷ []) past) in
     ap (λ (t : List ℤ). x ∷ t) (restore_append p (x ∷ past) es ys ∙ ap (λ (t : List ℤ). restore p (x ∷ past) es ++ restore p t ys) newest)
 
-length-restored : (p : List ℤ → ℤ) (n : ℕ) (xs : List ℤ) → n ≤ length xs → length (restored p n xs) ≡ length xs
+pub length-restored : (p : List ℤ → ℤ) (n : ℕ) (xs : List ℤ) → n ≤ length xs → length (restored p n xs) ≡ length xs
 length-restored p n xs le =
     omega (arith, length-append (take n xs) (restore p (reverse (take n xs)) (drop n xs)), length-restore p (reverse (take n xs)) (drop n xs), length-take n xs, length-drop n xs)
 
 -- n of the first k samples are warm-up samples
-restored_front : (p q : List ℤ → ℤ) (n k : ℕ) (xs : List ℤ) → n ≤ k → k ≤ length xs → ((l : List ℤ) → p l ≡ q l) → restored p k (restored q n (take k xs) ++ drop k xs) ≡ restored q n xs
+pub restored_front : (p q : List ℤ → ℤ) (n k : ℕ) (xs : List ℤ) → n ≤ k → k ≤ length xs → ((l : List ℤ) → p l ≡ q l) → restored p k (restored q n (take k xs) ++ drop k xs) ≡ restored q n xs
 restored_front p q n k xs le lt h =
     let front : List ℤ = restored q n (take k xs) in
     let long : length front ≡ k = length-restored q n (take k xs) (omega (arith, length-take k xs)) ∙ omega (arith, length-take k xs) in
@@ -94,7 +94,7 @@ reverse_zeros (suc k) =
     let more : k + 1 ≡ suc k = omega arith in
     reverse-append (pos 0 ∷ []) (replicate k (pos 0)) ∙ ap (λ (t : List ℤ). t ++ pos 0 ∷ []) (reverse_zeros k) ∙ replicate-append-replicate k 1 (pos 0) ∙ ap (λ (n : ℕ). replicate n (pos 0)) more
 
-linear_leading_zeros : (k : ℕ) (cs : List ℤ) (t : ℕ) (l : List ℤ) → linear (reverse (replicate k (pos 0) ++ cs)) t l ≡ linear (reverse cs) t l
+pub linear_leading_zeros : (k : ℕ) (cs : List ℤ) (t : ℕ) (l : List ℤ) → linear (reverse (replicate k (pos 0) ++ cs)) t l ≡ linear (reverse cs) t l
 linear_leading_zeros k cs t l =
     let rotated : reverse (replicate k (pos 0) ++ cs) ≡ reverse cs ++ replicate k (pos 0) = reverse-append (replicate k (pos 0)) cs ∙ ap (λ (z : List ℤ). reverse cs ++ z) (reverse_zeros k) in
     ap (λ (z : List ℤ). floor_shift (dot z l) t) rotated ∙ ap (λ (y : ℤ). floor_shift y t) (dot_trailing_zeros k (reverse cs) l)

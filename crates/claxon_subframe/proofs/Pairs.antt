@@ -17,7 +17,8 @@ use Rattle.claxon_subframe.specs.Pairs.{AllFit16, Fit16, LanesFit16, AllFit32, L
 use Rattle.claxon_subframe.specs.declared.subframe.predictor.NewestFive.{NewestFive}
 use Rattle.claxon_subframe.specs.declared.subframe.predictor.LaterLanes.{LaterLanes}
 use Rattle.claxon_subframe.specs.declared.subframe.predictor.PendingSums.{PendingSums}
-use Rattle.claxon_subframe.proofs.Predictors.{abs_16, between}
+use Rattle.claxon_subframe.proofs.Predictors.{abs_16, abs_32, between, value_16, value_32}
+use Rattle.claxon_subframe.proofs.Lanes.{small_fits}
 use Rattle.claxon_subframe.proofs.PendingSums.{dot_one, four_same, four_pending_past_vectors, from_last, five_first, kept, taps_length}
 
 -- ---- lanes as an operation gets them, and as it gives them
@@ -321,3 +322,53 @@ zeros_then n cs ys le e =
     let gone : drop (n - k) (drop k (replicate n (pos 0))) ≡ [] = drop_all (n - k) (drop k (replicate n (pos 0))) (omega (arith, length-drop k (replicate n (pos 0)), length-replicate n (pos 0))) in
     ap (λ (l : List ℤ). l ++ (ys ++ drop (n - k) (drop k (replicate n (pos 0))))) front ∙ ap (λ (l : List ℤ). replicate k (pos 0) ++ (ys ++ l)) gone
     ∙ ap (λ (l : List ℤ). replicate k (pos 0) ++ l) (append-nil ys ∙ e)
+
+-- ---- lanes in 64 bits
+
+widened_each : (xs : List ℤ) → AllFit32 xs → map (to_z w64) (map (act1 (cast signed signed w64) (s_int w32) (s_int w64)) (map (of_z w32) xs)) ≡ xs
+widened_each [] h = refl
+widened_each (x ∷ xs) h = rw (value_32 x h.0, widened_each xs h.1) refl
+
+pub widened_is : (xs : List ℤ) → LanesFit32 xs → map (to_z w64) (map (act1 (cast signed signed w64) (s_int w32) (s_int w64)) (map (of_z w32) xs)) ≡ xs
+widened_is xs h = widened_each xs h.each
+
+all_fit_64 : (xs : List ℤ) → AllFit32 xs → AllFit64 xs
+all_fit_64 [] h = tt
+all_fit_64 (x ∷ xs) h = (small_fits 2147483648 x (omega arith) (abs_32 x h.0), all_fit_64 xs h.1)
+
+pub widened_fit_64 : (xs : List ℤ) → LanesFit32 xs → LanesFit64 (map (to_z w64) (map (act1 (cast signed signed w64) (s_int w32) (s_int w64)) (map (of_z w32) xs)))
+widened_fit_64 xs h = subst LanesFit64 (sym (widened_is xs h)) (record { four = h.four; each = all_fit_64 xs h.each })
+
+-- a number of 16 bits, widened to 64
+pub widened_16 : (x y : ℤ) → FitsSigned w16 x → y ≡ to_z w16 (of_z w16 x) → to_z w64 (of_z w64 y) ≡ x
+widened_16 x y f e = ap (λ (v : ℤ). to_z w64 (of_z w64 v)) e ∙ value_16 x f
+
+-- ---- the coefficients
+
+-- the last five of 32 are the newest
+pub last_five_are : (ts : List ℤ) (s : NewestFive) → length ts ≡ 32 → s.fifth ≡ get_or ts 27 (pos 0) → s.fourth ≡ get_or ts 28 (pos 0) → s.third ≡ get_or ts 29 (pos 0) → s.second ≡ get_or ts 30 (pos 0) → s.newest ≡ get_or ts 31 (pos 0) → AreNewest (reverse ts) s
+last_five_are ts s long e27 e28 e29 e30 e31 = record {
+  rest = drop 5 (reverse ts);
+  is = five_first (reverse ts) (omega (arith, length-reverse ts))
+      ∙ rw (from_last ts 32 0 31 long refl, from_last ts 32 1 30 long refl, from_last ts 32 2 29 long refl, from_last ts 32 3 28 long refl, from_last ts 32 4 27 long refl, e27, e28, e29, e30, e31) refl;
+}
+
+magnitude_append : (xs ys : List ℤ) → magnitude (xs ++ ys) ≡ magnitude xs + magnitude ys
+magnitude_append [] ys = omega arith
+magnitude_append (x ∷ xs) ys = omega (arith, magnitude_append xs ys)
+
+magnitude_reverse : (xs : List ℤ) → magnitude (reverse xs) ≡ magnitude xs
+magnitude_reverse [] = refl
+magnitude_reverse (x ∷ xs) = ap magnitude (reverse-append (x ∷ []) xs) ∙ magnitude_append (reverse xs) (x ∷ []) ∙ omega (arith, magnitude_reverse xs)
+
+magnitude_zeros : (n : ℕ) → magnitude (replicate n (pos 0)) ≡ 0
+magnitude_zeros zero = refl
+magnitude_zeros (suc n) = omega (arith, magnitude_zeros n)
+
+pub magnitude_padded : (k : ℕ) (cs padded : List ℤ) → padded ≡ replicate k (pos 0) ++ cs → magnitude padded ≡ magnitude cs
+magnitude_padded k cs padded e = ap magnitude e ∙ magnitude_append (replicate k (pos 0)) cs ∙ omega (arith, magnitude_zeros k)
+
+pub magnitude_but_newest : (ts : List ℤ) (m : ℕ) → magnitude ts < m → magnitude (but_newest_five (reverse ts)) < m
+magnitude_but_newest ts m lt =
+    let all : magnitude (drop 5 (reverse ts)) ≤ magnitude (reverse ts) = magnitude_drop 5 (reverse ts) in
+    omega (arith, magnitude_reverse ts)

@@ -5,7 +5,7 @@ ghost use Rattle.std.specs.Prelude.{◌≡◌, ◌+◌, ◌*◌, ◌-◌, ◌^�
 ghost use Rattle.std.specs.Int.{w16, w32};
 ghost use Rattle.claxon_format.specs.Predict.{linear};
 ghost use Rattle.claxon_format.specs.read.Predict.{restored};
-ghost use Rattle.claxon_subframe.specs.Lanes.{Within};
+ghost use Rattle.claxon_subframe.specs.Lanes.{LanesFit64};
 ghost use Rattle.claxon_subframe.specs.PendingSums.{ArePendingSumsBeforeAll, but_newest_five};
 ghost use Rattle.claxon_subframe.specs.Pairs.{Fit16, ArePairTaps, ArePairSumsAfter, ArePairSumsAfterTwo, LanesFit16, LanesFit32, SmallPairTaps, SumsFit32, advanced_by_pair, magnitude, pair_of, plus_pairs};
 
@@ -261,6 +261,16 @@ fn first_sums<const VECTORS: usize>(taps: LaterLanes<i16x8>, samples: &[i32]) ->
     sums
 }
 
+// The same lanes in 64 bits.
+#[inline(always)]
+fn widened(lanes: i32x4) -> i64x4
+    requires { LanesFit32 lanes }
+    ensures value { result ≡ lanes }
+    ensures fits { LanesFit64 result }
+{
+    lanes.cast::<i64>()
+}
+
 // The samples after the first 4 * VECTORS + 4, while they fit 16 bits. Returns how many stand at the front then.
 #[inline(never)]
 fn predict_pairs<const VECTORS: usize>(
@@ -292,7 +302,7 @@ fn predict_pairs<const VECTORS: usize>(
     let mut newest = NewestFive::of(&buffer[4 * VECTORS - 1..4 * VECTORS + 4]);
     for pair in 2 * VECTORS + 2..buffer.len() / 2 {
         let i = 2 * pair;
-        let pending = sums.at_0.cast::<i64>();
+        let pending = widened(sums.at_0);
         let next = newest.followed_by_two(last, pending, buffer[i], buffer[i + 1], shift);
         if !both_fit_16_bits(next.second, next.newest) {
             return i;
