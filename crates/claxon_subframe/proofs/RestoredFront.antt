@@ -1,6 +1,7 @@
 -- Samples of which some stand already at the front.
 use Rattle.std.proofs.Common.{◌≡◌, ℕ, ◌+◌, ◌-◌, ◌≤◌, List, [], ◌∷◌, ◌++◌, length, take, drop, reverse, replicate, append_assoc, refl, sym, ap, ◌∙◌, arith, ℤ, pos, ◌+ℤ◌}
-use Rattle.std.proofs.lemmas.List.{drop-drop, take-append-drop, length-drop, length-reverse, length-take, reverse-append, reverse-reverse}
+use Rattle.std.proofs.lemmas.List.{append-nil, drop_all, drop-drop, length-drop, length-reverse, length-take, take_all, reverse-append, reverse-reverse}
+use borrow.Rule.Slice.PartMut.{put_mid}
 use Rattle.claxon_format.specs.Predict.{wrap, floor_shift, linear}
 use Rattle.claxon_format.specs.read.Predict.{restore, restored}
 use Rattle.claxon_subframe.proofs.Predictors.{dot-append}
@@ -42,3 +43,17 @@ front_restored cs xs front t f few lt e =
 pub padded_restored : (cs padded xs : List ℤ) (t n k : ℕ) → padded ≡ replicate k (pos 0) ++ cs → restored (linear (reverse padded) t) n xs ≡ restored (linear (reverse cs) t) n xs
 padded_restored cs padded xs t n k e =
     ap (λ (l : List ℤ). take n xs ++ l) (restore_same (linear (reverse padded) t) (linear (reverse cs) t) (reverse (take n xs)) (drop n xs) (λ l. ap (λ (z : List ℤ). linear (reverse z) t l) e ∙ linear_leading_zeros k cs t l))
+
+-- the samples before place k stand, and the others are restored from as many of them as there are coefficients
+pub rest_restored : (cs reversed mid tail xs : List ℤ) (t k : ℕ) → reversed ≡ reverse cs → length reversed ≤ k → k ≤ length mid
+    → tail ≡ restored (linear (reverse reversed) t) (length reversed) (take (length mid - (k - length reversed)) (drop (k - length reversed) mid)) → restored (linear (reverse reversed) t) k mid ≡ restored (linear (reverse reversed) t) (length reversed) xs
+    → put_mid (k - length reversed) (length mid - (k - length reversed)) mid tail ≡ restored (linear cs t) (length cs) xs
+rest_restored cs reversed mid tail xs t k er le lt et e =
+    let d : ℕ = k - length reversed in
+    let part : take (length mid - d) (drop d mid) ≡ drop d mid = take_all (length mid - d) (drop d mid) (omega (arith, length-drop d mid)) in
+    let gone : drop (length mid - d) (drop d mid) ≡ [] = drop_all (length mid - d) (drop d mid) (omega (arith, length-drop d mid)) in
+    let twice : reverse reversed ≡ cs = ap reverse er ∙ reverse-reverse cs in
+    let long : length reversed ≡ length cs = ap length er ∙ length-reverse cs in
+    ap (λ (l : List ℤ). take d mid ++ (tail ++ l)) gone ∙ ap (λ (l : List ℤ). take d mid ++ l) (append-nil tail ∙ et ∙ ap (restored (linear (reverse reversed) t) (length reversed)) part)
+    ∙ tail_restored (reverse reversed) mid t (length reversed) k (omega (arith, length-reverse reversed)) le lt ∙ e
+    ∙ ap (λ (l : List ℤ). restored (linear l t) (length reversed) xs) twice ∙ ap (λ (n : ℕ). restored (linear cs t) n xs) long
