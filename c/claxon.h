@@ -111,7 +111,8 @@ uint32_t claxon_open(const uint8_t *bytes, size_t length, struct claxon_info *in
 uint32_t claxon_next_metadata(const uint8_t *bytes, size_t length, size_t *at, struct claxon_metadata *metadata);
 
 /* Reads the content of a streaminfo block, as Ogg, MP4 and Matroska hand it in: just these `length` bytes. With CLAXON_OK,
- * `info` is filled, with 0 for first_frame and tags, which such a block doesn't say. Else as claxon_open. */
+ * `info` is filled, with 0 for first_frame and tags, which such a block doesn't say. Else as claxon_open, but never
+ * OUT_OF_MEMORY. */
 uint32_t claxon_streaminfo(const uint8_t *content, size_t length, struct claxon_info *info, char *error, size_t error_size);
 
 /* Reads the whole content of a Vorbis comment block: just these `length` bytes. With CLAXON_OK, the vendor string, in UTF-8,
@@ -121,7 +122,7 @@ uint32_t claxon_vendor(const uint8_t *content, size_t length, size_t *vendor_at,
 
 /* Finds the next tag in the content of a Vorbis comment block. *place is 0 for the first one, and is moved after the tag.
  * With CLAXON_OK, its name (ASCII, of which upper and lower case mean the same) and its value (UTF-8) are at `name_at` and
- * `value_at` in the content. NO_MORE: no tag is left. FORMAT_ERROR, INPUT_ENDS: no tag stands at *place, `error` gets a text.
+ * `value_at` in the content. NO_MORE: no tag is left. FORMAT_ERROR: what stands at *place is no tag, `error` gets a text.
  * With any status but OK nothing else is changed. claxon_vendor tells whether the whole block is well-formed. */
 uint32_t claxon_next_tag(const uint8_t *content, size_t length, size_t *place, size_t *name_at, size_t *name_length,
                          size_t *value_at, size_t *value_length, char *error, size_t error_size);

@@ -1,7 +1,10 @@
 /* cases FOLDER < LINES: decodes each file that a line `NAME COUNT HASH RESULT` names, passed whole and piece by piece, and
  * compares the number of its samples, the FNV-1a hash of their little-endian bytes, and the result: `ok`, the error, or `IO`
- * where the bytes end too early. It also tests planar samples, and buffers that are too short. */
+ * where the bytes end too early. It also tests planar samples, buffers that are too short, and the calls for metadata blocks:
+ * by the lines of FOLDER/blocks.txt whose bytes are a whole content, by headers worked out by hand, and on the files. */
+#include <ctype.h>
 #include <inttypes.h>
+#include <stdarg.h>
 #include <stdio.h>
 #include <stdlib.h>
 #include <string.h>
@@ -243,10 +246,253 @@ static uint8_t *read_file(const char *folder, const char *name, size_t *length) 
     return bytes;
 }
 
+/* ---- metadata blocks */
+
+struct text {
+    char chars[1 << 16];
+    size_t length;
+};
+
+static void add(struct text *text, const char *format, ...) {
+    va_list values;
+    va_start(values, format);
+    size_t left = sizeof text->chars - text->length;
+    int count = vsnprintf(text->chars + text->length, left, format, values);
+    va_end(values);
+    text->length += count < 0 ? 0 : (size_t)count < left ? (size_t)count : left - 1;
+}
+
+/* In quotation marks, with escapes, as the lines have it. */
+static void add_quoted(struct text *text, const uint8_t *bytes, size_t count) {
+    add(text, "\"");
+    for (size_t i = 0; i < count; i++) {
+        uint8_t byte = bytes[i];
+        if (byte == '"' || byte == '\\') {
+            add(text, "\\%c", byte);
+        } else if (byte == 0 || byte == '\t' || byte == '\n' || byte == '\r') {
+            add(text, "\\%c", byte == 0 ? '0' : byte == '\t' ? 't' : byte == '\n' ? 'n' : 'r');
+        } else if (byte < 0x20 || byte == 0x7f) {
+            add(text, "\\u{%x}", byte);
+        } else {
+            add(text, "%c", byte);
+        }
+    }
+    add(text, "\"");
+}
+
+static void add_size(struct text *text, const char *before, uint64_t size) {
+    add(text, size ? "%s%" PRIu64 : "%snone", before, size);
+}
+
+static void add_error(struct text *text, uint32_t status, const char *error) {
+    add(text, "%s%s", error_prefix(status), status == CLAXON_INPUT_ENDS ? "IO" : error);
+}
+
+static void add_streaminfo(struct text *text, const uint8_t *content, size_t length) {
+    struct claxon_info info, untouched;
+    char error[128];
+    memset(&untouched, UNTOUCHED, sizeof untouched);
+    info = untouched;
+    uint32_t status = claxon_streaminfo(content, length, &info, error, sizeof error);
+    if (status != CLAXON_OK) {
+        add_error(text, status, error);
+        expect(memcmp(&info, &untouched, sizeof info) == 0, text->chars, "the info is changed");
+        return;
+    }
+    add(text, "streaminfo blocks %u-%u", info.min_block_size, info.max_block_size);
+    add_size(text, " frames ", info.min_frame_size);
+    add_size(text, "-", info.max_frame_size);
+    add(text, " rate %" PRIu32 " channels %" PRIu32 " width %" PRIu32, info.sample_rate, info.channels, info.bits_per_sample);
+    add_size(text, " samples ", info.samples);
+    add(text, " md5 ");
+    for (int i = 0; i < 16; i++) {
+        add(text, "%02x", info.md5[i]);
+    }
+    expect(info.first_frame == 0 && info.tags == 0, text->chars, "first_frame and tags of a streaminfo block");
+}
+
+/* Adds the tags to the text, counts them, and returns the last status. */
+static uint32_t add_tags(struct text *text, const uint8_t *content, size_t length, size_t *tags, char *error, size_t error_size) {
+    size_t place = 0;
+    for (*tags = 0;; ++*tags) {
+        size_t before = place;
+        size_t name = UNTOUCHED, name_length = UNTOUCHED, value = UNTOUCHED, value_length = UNTOUCHED;
+        uint32_t status = claxon_next_tag(content, length, &place, &name, &name_length, &value, &value_length, error, error_size);
+        if (status != CLAXON_OK) {
+            expect(place == before && name == UNTOUCHED && name_length == UNTOUCHED && value == UNTOUCHED && value_length == UNTOUCHED, text->chars, "numbers without a tag");
+            return status;
+        }
+        expect(place > before && value == name + name_length + 1 && value + value_length == place && place <= length && content[value - 1] == '=', text->chars, "where a tag is");
+        add(text, *tags ? ", (" : "(");
+        add_quoted(text, content + name, place - name);
+        add(text, ", %zu)", name_length);
+    }
+}
+
+static void add_comment(struct text *text, const uint8_t *content, size_t length) {
+    size_t vendor = UNTOUCHED, vendor_length = UNTOUCHED, tags = UNTOUCHED, found;
+    char error[128];
+    uint32_t status = claxon_vendor(content, length, &vendor, &vendor_length, &tags, error, sizeof error);
+    if (status != CLAXON_OK) {
+        add_error(text, status, error);
+        expect(vendor == UNTOUCHED && vendor_length == UNTOUCHED && tags == UNTOUCHED, text->chars, "numbers without a vendor string");
+        return;
+    }
+    add(text, "comment ");
+    add_quoted(text, content + vendor, vendor_length);
+    add(text, " [");
+    status = add_tags(text, content, length, &found, error, sizeof error);
+    add(text, "]");
+    expect(status == CLAXON_NO_MORE && found == tags, text->chars, "the number of tags");
+}
+
+/* A fault of an entry, or of what stands before all entries but the vendor string's bytes, is also one of the tags. */
+static void test_faulty_tags(const uint8_t *content, size_t length, const char *expected) {
+    static struct text text, ignored;
+    const char *faults[] = {"block is too short", "vendor string too long", "too long for Vorbis comment block", "does not contain '='", "field name contains invalid byte"};
+    for (size_t i = 0; i < sizeof faults / sizeof *faults; i++) {
+        if (strstr(expected, faults[i])) {
+            size_t tags;
+            char error[128];
+            text.length = ignored.length = 0;
+            add_error(&text, add_tags(&ignored, content, length, &tags, error, sizeof error), error);
+            expect(strcmp(text.chars, expected) == 0, expected, text.chars);
+        }
+    }
+}
+
+/* `TYPE LENGTH BYTES: CONSUMED FAULT` or `TYPE LENGTH BYTES: ok CONSUMED BLOCK`: whether it is a whole content that was tested. */
+static int test_content_line(char *line) {
+    static uint8_t content[1 << 15];
+    static struct text text;
+    size_t count = 0;
+    char *rest = line;
+    unsigned long type = strtoul(rest, &rest, 10), length = strtoul(rest, &rest, 10);
+    for (rest++; isxdigit((unsigned char)rest[0]) && isxdigit((unsigned char)rest[1]) && count < sizeof content; rest += 2) {
+        char digits[3] = {rest[0], rest[1], 0};
+        content[count++] = (uint8_t)strtoul(digits, NULL, 16);
+    }
+    if (*rest != ':' || count != length || (type != CLAXON_STREAMINFO && type != CLAXON_VORBIS_COMMENT)) {
+        return 0;
+    }
+    rest += strncmp(rest, ": ok ", 5) == 0 ? 5 : 2;
+    rest += strspn(rest, "0123456789");
+    rest += *rest == ' ';
+    rest[strcspn(rest, "\n")] = 0;
+    text.length = 0;
+    if (type == CLAXON_STREAMINFO) {
+        add_streaminfo(&text, content, count);
+    } else {
+        add_comment(&text, content, count);
+        test_faulty_tags(content, count, rest);
+    }
+    expect(strcmp(text.chars, rest) == 0, rest, text.chars);
+    return 1;
+}
+
+static int test_contents(const char *folder) {
+    static char line[1 << 16];
+    char path[512];
+    int tested = 0;
+    snprintf(path, sizeof path, "%s/blocks.txt", folder);
+    FILE *file = fopen(path, "r");
+    while (file && fgets(line, sizeof line, file)) {
+        tested += test_content_line(line);
+    }
+    if (file) {
+        fclose(file);
+    }
+    return tested;
+}
+
+/* Headers worked out by hand, at each place, and cut at each byte. */
+static void test_headers(void) {
+    const struct {
+        uint8_t bytes[4];
+        uint8_t type, is_last;
+        uint32_t length;
+    } headers[] = {{{0x84, 0x00, 0x01, 0x02}, 4, 1, 258}, {{0x7f, 0xff, 0xff, 0xff}, 127, 0, 16777215}, {{0x80, 0x00, 0x00, 0x22}, 0, 1, 34}, {{0x06, 0x80, 0x00, 0x00}, 6, 0, 8388608}};
+    for (size_t i = 0; i < sizeof headers / sizeof *headers; i++) {
+        for (size_t start = 0; start < 3; start++) {
+            uint8_t bytes[8] = {0xff, 0xff, 0xff, 0xff, 0xff, 0xff, 0xff, 0xff};
+            struct claxon_metadata metadata, untouched;
+            memset(&untouched, UNTOUCHED, sizeof untouched);
+            memcpy(bytes + start, headers[i].bytes, 4);
+            for (size_t length = 0; length < start + 4; length++) {
+                size_t at = start;
+                metadata = untouched;
+                expect(claxon_next_metadata(bytes, length, &at, &metadata) == CLAXON_INPUT_ENDS && at == start && memcmp(&metadata, &untouched, sizeof metadata) == 0, "a header", "less than four bytes");
+            }
+            size_t at = start;
+            expect(claxon_next_metadata(bytes, start + 4, &at, &metadata) == CLAXON_OK && at == start + 4 + headers[i].length && metadata.content == start + 4 && metadata.length == headers[i].length && metadata.type == headers[i].type && metadata.is_last == headers[i].is_last, "a header", "its fields");
+            for (int j = 0; j < 3; j++) {
+                const size_t past[] = {start + 4, start + 5, SIZE_MAX};
+                at = past[j];
+                expect(claxon_next_metadata(bytes, start + 4, &at, &metadata) == CLAXON_INPUT_ENDS && at == past[j], "a header", "a position past the end");
+            }
+        }
+    }
+}
+
+/* A place past the end, and one that isn't where a tag begins. */
+static void test_places(void) {
+    const uint8_t content[] = {0, 0, 0, 0, 2, 0, 0, 0, 3, 0, 0, 0, 'A', '=', 'b', 2, 0, 0, 0, 'C', '='};
+    const struct {
+        size_t place;
+        uint32_t status;
+        size_t after;
+        const char *error;
+    } rows[] = {{0, CLAXON_OK, 15, ""}, {8, CLAXON_OK, 15, ""}, {15, CLAXON_OK, 21, ""}, {21, CLAXON_NO_MORE, 21, ""}, {22, CLAXON_NO_MORE, 22, ""}, {SIZE_MAX, CLAXON_NO_MORE, SIZE_MAX, ""},
+        {4, CLAXON_FORMAT_ERROR, 4, "Vorbis comment does not contain '='"}, {12, CLAXON_FORMAT_ERROR, 12, "Vorbis comment too long for Vorbis comment block"},
+        {18, CLAXON_FORMAT_ERROR, 18, "Vorbis comment block has excess data"}};
+    for (size_t i = 0; i < sizeof rows / sizeof *rows; i++) {
+        size_t place = rows[i].place, name, name_length, value, value_length;
+        char error[128] = "";
+        uint32_t status = claxon_next_tag(content, sizeof content, &place, &name, &name_length, &value, &value_length, error, sizeof error);
+        expect(status == rows[i].status && place == rows[i].after && strcmp(error, rows[i].error) == 0, "a place", error);
+    }
+}
+
+/* The blocks of a head end where the first frame begins. Alone, each has what the whole head has of it. */
+static void test_blocks_of(const char *name, const uint8_t *bytes, size_t length) {
+    static struct text text;
+    struct claxon_info info;
+    struct claxon_metadata metadata = {0, 0, 0, 0};
+    char error[128];
+    size_t at = 4, tags = 0;
+    if (claxon_open(bytes, length, &info, error, sizeof error) != CLAXON_OK) {
+        return;
+    }
+    while (!metadata.is_last) {
+        size_t start = at;
+        if (claxon_next_metadata(bytes, length, &at, &metadata) != CLAXON_OK) {
+            expect(0, name, "a block");
+            return;
+        }
+        expect(metadata.content == start + 4 && at == metadata.content + metadata.length, name, "the position after a block");
+        text.length = 0;
+        if (metadata.type == CLAXON_STREAMINFO) {
+            struct claxon_info alone;
+            expect(start == 4 && claxon_streaminfo(bytes + metadata.content, metadata.length, &alone, error, sizeof error) == CLAXON_OK, name, "the streaminfo");
+            alone.first_frame = info.first_frame;
+            alone.tags = info.tags;
+            expect(memcmp(&alone, &info, sizeof info) == 0, name, "the streaminfo alone");
+        } else if (metadata.type == CLAXON_VORBIS_COMMENT) {
+            expect(add_tags(&text, bytes + metadata.content, metadata.length, &tags, error, sizeof error) == CLAXON_NO_MORE, name, "the tags");
+            add_comment(&text, bytes + metadata.content, metadata.length);
+        }
+    }
+    expect(at == info.first_frame && tags == info.tags, name, "the end of the head");
+}
+
 int main(int argc, char **argv) {
     char line[512], name[256], expected[256];
     uint64_t count, hash;
-    int files = 0;
+    int files = 0, contents = argc == 2 ? test_contents(argv[1]) : 0;
+    test_headers();
+    test_places();
+    expect(claxon_version() == CLAXON_VERSION, "claxon_version", "not that of claxon.h");
+    expect(contents > 0, "blocks.txt", "no line");
     while (argc == 2 && fgets(line, sizeof line, stdin)) {
         size_t length = 0;
         if (sscanf(line, "%255s %" SCNu64 " %" SCNx64 " %255[^\n]", name, &count, &hash, expected) != 4) {
@@ -256,10 +502,11 @@ int main(int argc, char **argv) {
         expect(bytes != NULL, name, "the file can't be read");
         if (bytes) {
             test_file(name, bytes, length, count, hash, expected);
+            test_blocks_of(name, bytes, length);
             files++;
         }
         free(bytes);
     }
-    printf("cases: %d files, %d failures\n", files, failures);
+    printf("cases: %d files, %d contents of blocks, %d failures\n", files, contents, failures);
     return failures != 0 || files == 0;
 }

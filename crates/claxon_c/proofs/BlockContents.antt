@@ -1,16 +1,13 @@
 -- The content of a metadata block in memory.
-use Rattle.std.proofs.Common.{◌≡◌, ◌⊎◌, inl, inr, ℕ, ◌≤◌, ◌<◌, ◌-◌, Bool, true, false, not, eqb, ltb, List, ◌++◌, length, refl, sym, ap, subst, ◌∙◌, arith, Bor, min}
+use Rattle.std.proofs.Common.{◌≡◌, ◌⊎◌, inl, inr, ℕ, ◌≤◌, ◌-◌, Bool, true, false, not, eqb, List, ◌++◌, length, refl, sym, subst, ◌∙◌, arith, Bor, min}
 use Rattle.std.specs.Prelude.{Result, Ok, Err, IfOk}
 use Rattle.std.specs.Io.Cursor.{cursor_position, cursor_inner}
 use Rattle.std.proofs.lemmas.Bool.{cases_lt, eqb-true, ltb-true, ltb-false, lt-ltb, le-ltb}
-use Rattle.claxon.specs.Codes.{MeetsOr}
 use Rattle.claxon.specs.Fault.{Fault}
 use Rattle.claxon.specs.Metadata.{max_content_bytes}
 use Rattle.claxon.specs.MetadataBlocks.{Body, BodyFault, Content}
-use Rattle.claxon.specs.Cursor.{cursor_source}
 use Rattle.claxon.specs.Error.{IsFault}
 use Rattle.claxon.specs.Promises.{CodeIsComplete, CodeIsSound, FaultIsComplete, FaultIsSound, IsOutOfMemory, Remains}
-use Rattle.claxon.specs.State.{State}
 use Rattle.claxon.specs.Errors.{Error}
 use Rattle.claxon.proofs.InMemory.{cursor_just_out_of_memory, new_cursor_remains}
 use Rattle.claxon.specs.MetadataBlock.{MayAllocate, MayRunOutOfMemory}

@@ -1,8 +1,8 @@
 -- What calls return that are passed the content of a metadata block.
-use Rattle.std.proofs.Common.{◌≡◌, ◌⊎◌, inl, inr, ℕ, ◌+◌, ◌*◌, ◌<◌, ◌≤◌, List, [], ◌∷◌, ◌++◌, length, take, drop, refl, sym, ap, subst, ◌∙◌, arith, length-append, append-nil, append_assoc, Option, None, Global}
-use Rattle.std.specs.Prelude.{Result, Ok, Err, string_bytes}
+use Rattle.std.proofs.Common.{◌≡◌, inl, inr, ℕ, ◌+◌, ◌*◌, List, [], ◌∷◌, ◌++◌, length, take, drop, refl, sym, ap, subst, ◌∙◌, arith, length-append, append-nil, append_assoc, Global}
+use Rattle.std.specs.Prelude.{Ok, Err, string_bytes}
 use Rattle.std.proofs.lemmas.List.{drop_at, length-map, take_at}
-use Rattle.claxon.specs.Bits.{Bits, bits, bits_of, Number}
+use Rattle.claxon.specs.Bits.{Bits, bits, Number}
 use Rattle.claxon.specs.Codes.{Each}
 use Rattle.claxon.specs.Comments.{Comment, CommentCode}
 use Rattle.claxon.specs.Fault.{Fault}
@@ -108,7 +108,7 @@ streaminfo_length : (i : Streaminfo) (t : List ℕ) → StreaminfoCode i t → l
 streaminfo_length i t ((md5, a, b, c, d, r, s, u, v, w, x, md5-len, each, t-is), sizes, small, frames, rates) =
     let fields = ap length t-is ∙ field_length 16 i.min_block_size _ ∙ ap (λ (n : ℕ). 16 + n) (field_length 16 i.max_block_size _ ∙ ap (λ (n : ℕ). 16 + n) (
     field_length 24 i.min_frame_size _ ∙ ap (λ (n : ℕ). 24 + n) (field_length 24 i.max_frame_size _ ∙ ap (λ (n : ℕ). 24 + n) (field_length 20 i.rate _ ∙ ap (λ (n : ℕ). 20 + n) (
-    field_length 3 _ _ ∙ ap (λ (n : ℕ). 3 + n) (field_length 5 _ _ ∙ ap (λ (n : ℕ). 5 + n) (field_length 36 i.samples _)))))) ) in
+    field_length 3 _ _ ∙ ap (λ (n : ℕ). 3 + n) (field_length 5 _ _ ∙ ap (λ (n : ℕ). 5 + n) (field_length 36 i.samples _))))))) in
     omega (arith, length-bits_of t, fields, bytes_length i.md5 md5 each, md5-len)
 
 streaminfo_is_whole : (i : Streaminfo) (content : List ℕ) → BeginsWith (Body streaminfo_type (length content) (Info i)) content → StreaminfoCode i content

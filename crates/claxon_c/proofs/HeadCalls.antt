@@ -1,12 +1,10 @@
 -- What calls return for the head at the start of bytes.
-use Rattle.std.proofs.Common.{◌≡◌, inl, inr, ℕ, zero, suc, true, List, [], ◌∷◌, length, nat_le, Option, None, Some, refl, sym, ap, subst, ◌∙◌, rules, Global}
-use Rattle.std.specs.Prelude.{Ok, Err, map, slice_get, ◌≢◌, string_bytes}
-use Rattle.std.specs.declared.string.String.{String}
+use Rattle.std.proofs.Common.{◌≡◌, inl, inr, ℕ, true, List, nat_le, Option, Some, refl, ◌∙◌, rules, Global}
+use Rattle.std.specs.Prelude.{Ok, Err}
 use Rattle.claxon.specs.Heads.{Head, HeadCode, HeadFault}
 use Rattle.claxon.specs.Streams.{stream_of, with_samples}
 use Rattle.claxon.specs.Errors.{Error}
 use Rattle.claxon.specs.MetadataBlock.{HasBounds, info_view}
-use Rattle.claxon.specs.TagEntries.{entry_view}
 use Rattle.claxon.specs.StreamInfos.{StreamInfo}
 use Rattle.claxon.specs.VorbisComments.{VorbisComment}
 use Rattle.claxon.specs.ReadHead.{found_view, head_view}
@@ -16,7 +14,7 @@ use Rattle.claxon_c.specs.declared.heads.ClaxonInfo.{ClaxonInfo}
 use Rattle.claxon_c.specs.AtStart.{BeginsWithLength, HeadAtStart}
 use Rattle.claxon_c.specs.HeadCalls.{CHeadFaultIsComplete, CHeadFaultIsSound, CHeadElseIoError, ShowsHead, CHeadOutOfMemoryAfterHeader, tag_count}
 use Rattle.claxon_c.specs.Info.{InfoShows, known_stream}
-use Rattle.claxon_c.specs.Status.{ErrorIsReported, IsFaultStatus, out_of_memory, input_ends}
+use Rattle.claxon_c.specs.Status.{ErrorIsReported, out_of_memory}
 use Rattle.claxon_c.proofs.Reports.{each_fault_reported, io_error_reported, fault_reported, error_out_of_memory, out_of_memory_reported}
 
 module _ {A : Type 0} (view : StreamInfo × Option A → Head) (bytes : List ℕ) (taken status : ℕ) (old new : List ℕ) where

@@ -1,12 +1,12 @@
 -- The header of a metadata block, as a number of 32 bits.
-use Rattle.std.proofs.Common.{◌≡◌, ℕ, ◌+◌, ◌*◌, ◌/◌, ◌%◌, ◌<◌, ◌≤◌, ltb, Bool, List, ◌++◌, length, take, drop, refl, sym, ap, ap₂, ◌∙◌, subst, inl, inr, arith, length-append}
+use Rattle.std.proofs.Common.{◌≡◌, ℕ, ◌+◌, ◌*◌, ◌/◌, ◌%◌, ◌<◌, ◌≤◌, ltb, List, ◌++◌, length, take, drop, refl, sym, ap, ap₂, ◌∙◌, subst, inl, inr, arith, length-append}
 use Rattle.std.proofs.lemmas.Bool.{lt-ltb, le-ltb, cases_lt}
-use Rattle.std.proofs.lemmas.List.{take-append-drop, drop-drop}
+use Rattle.std.proofs.lemmas.List.{take-append-drop}
 use Rattle.claxon.specs.Bits.{Bits, bits, bits_of}
 use Rattle.claxon.specs.Crc.{bit}
 use Rattle.claxon.specs.Metadata.{BlockHeader, BlockHeaderCode}
 use Rattle.claxon.specs.read.Metadata.{block_header_at}
-use Rattle.claxon.specs.read.Reading.{Reading, Done}
+use Rattle.claxon.specs.read.Reading.{Done}
 use Rattle.claxon.proofs.Bytes.{length-bits_of}
 use Rattle.claxon.proofs.CodedNumber.{bits-add}
 use Rattle.claxon.proofs.Metadata.{Reads-block_header}

@@ -1,17 +1,16 @@
 -- What calls return for the next tag in the content of a Vorbis comment block.
-use Rattle.std.proofs.Common.{◌≡◌, ◌⊎◌, inl, inr, ℕ, zero, suc, ◌+◌, ◌-◌, ◌<◌, ◌≤◌, List, [], ◌∷◌, ◌++◌, length, take, drop, refl, sym, ap, subst, ◌∙◌, arith, length-append, append_assoc, Option, None, Some}
-use Rattle.std.specs.Prelude.{replicate}
+use Rattle.std.proofs.Common.{◌≡◌, inl, inr, ℕ, zero, suc, ◌+◌, ◌-◌, ◌<◌, ◌≤◌, List, [], ◌∷◌, ◌++◌, length, take, drop, refl, sym, ap, subst, ◌∙◌, arith, length-append, append_assoc, None, Some}
 use Rattle.std.proofs.lemmas.List.{drop-drop, drop_at, length-drop, length-take, take-append-drop, take_at}
 use Rattle.claxon.specs.Codes.{Each}
-use Rattle.claxon.specs.Comments.{Comment, CommentCode, EntriesOf, Entry, IsEntry, LengthPrefixed}
+use Rattle.claxon.specs.Comments.{EntriesOf, Entry, IsEntry, LengthPrefixed}
 use Rattle.claxon.specs.Fault.{Fault}
-use Rattle.claxon.specs.read.Reading.{Done, Faulty, Reading}
+use Rattle.claxon.specs.read.Reading.{Done}
 use Rattle.claxon.proofs.Metadata.{little_length}
 use Rattle.claxon.specs.Error.{IsFault}
 use Rattle.claxon.specs.Errors.{Error}
 use Rattle.claxon.specs.Errors.TheVariants.{IoError, FormatError, Unsupported, OutOfMemory}
-use Rattle.claxon_c.specs.NextTag.{CTagFaultIsComplete, CTagFaultIsSound, CTagIsComplete, CTagIsSound, CTagNoMoreIffEnd, CTagStatusIsKnown, CTagsAreInOrder, EmptyTexts, NextTag, NoTagIsLeft, ShowsFirst, ShowsTag, TagFaultStands, TagStands, TagsAre, TextsFrom}
-use Rattle.claxon_c.specs.Status.{ErrorIsReported, FaultIsReported, IsFaultStatus, no_more, ok}
+use Rattle.claxon_c.specs.NextTag.{CTagFaultIsComplete, CTagFaultIsSound, CTagIsComplete, CTagIsSound, CTagNoMoreIffEnd, CTagsAreInOrder, EmptyTexts, NextTag, ShowsTag, TagStands, TagsAre, TextsFrom}
+use Rattle.claxon_c.specs.Status.{ErrorIsReported, FaultIsReported, IsFaultStatus, no_more}
 use Rattle.claxon_c.specs.TagReader.{ReadsFault, tag_at}
 use Rattle.claxon_c.proofs.Reports.{reported_fault}
 use Rattle.claxon_c.proofs.TagsRead.{end_read, end_stands, fault_read, fault_stands, tag_read, tag_stands}

@@ -1,17 +1,17 @@
 -- Texts of Vorbis comments in memory, one by one.
-use Rattle.std.proofs.Common.{◌≡◌, ℕ, zero, suc, ◌+◌, ◌*◌, ◌-◌, ◌%◌, ◌<◌, ◌≤◌, Bool, true, false, not, ltb, cond, List, [], ◌∷◌, ◌++◌, length, take, drop, get_or, refl, sym, ap, ◌∙◌, subst, inl, inr, arith, append-nil, append_assoc, min}
+use Rattle.std.proofs.Common.{◌≡◌, ℕ, zero, suc, ◌+◌, ◌*◌, ◌-◌, ◌<◌, ◌≤◌, Bool, true, false, not, ltb, cond, List, [], ◌∷◌, ◌++◌, length, take, drop, get_or, refl, sym, ap, ◌∙◌, inl, inr, arith, append-nil, append_assoc, min}
 use Rattle.std.specs.Prelude.{IsUtf8, None, Some}
 use Rattle.std.specs.List.{list_all, position, position_or_len}
 use Rattle.std.specs.Str.{is_utf8}
 use Rattle.std.proofs.Math.Dec.{eqb-suc-zero}
-use Rattle.std.proofs.lemmas.Bool.{cases_lt, le-ltb, lt-ltb, ltb-false, ltb-true}
+use Rattle.std.proofs.lemmas.Bool.{cases_lt, le-ltb, lt-ltb}
 use Rattle.std.proofs.lemmas.Str.{is_utf8-from_IsUtf8, IsUtf8-from_is_utf8}
 use Rattle.std.proofs.lemmas.List.{drop-drop, drop_more, length-drop, length-take, take-append-drop}
-use Rattle.claxon.specs.Comments.{Entry, has_name, has_separator, is_name_byte, is_separator, not_utf8}
+use Rattle.claxon.specs.Comments.{Entry, has_name, has_separator, is_name_byte, is_separator}
 use Rattle.claxon.specs.Fault.{CommentShort, EntryLong, EntryNotUtf8, ExcessData, Fault, NameByte, SeparatorMissing, VendorLong}
 use Rattle.claxon.specs.read.Bytes.{bytes_at, little_at, little_endian}
 use Rattle.claxon.specs.read.Comments.{entry_at, entry_length_at, entry_of, entry_or_empty_at, vendor_length_at}
-use Rattle.claxon.specs.read.Reading.{Done, Faulty, Incomplete, Reading, and_then, bind, checked_at, done, test}
+use Rattle.claxon.specs.read.Reading.{Done, Faulty, Reading, bind, done, test}
 use Rattle.claxon.proofs.Comments.{Reads-entry}
 use Rattle.claxon.proofs.Metadata.{Reads-bytes}
 use Rattle.claxon_c.specs.TagReader.{first_entry_at, front_at, front_length_at, tag_at, text_at, text_length_at}

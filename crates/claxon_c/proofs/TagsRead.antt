@@ -1,16 +1,14 @@
 -- The reader of the next tag takes just what the definitions say.
-use Rattle.std.proofs.Common.{◌≡◌, ◌⊎◌, inl, inr, ℕ, zero, suc, ◌+◌, ◌*◌, ◌-◌, ◌<◌, ◌≤◌, Bool, true, false, ltb, eqb, cond, List, [], ◌∷◌, ◌++◌, length, take, drop, refl, sym, ap, ap₂, subst, ◌∙◌, arith, length-append, append-nil, append_assoc, Option, None, Some}
+use Rattle.std.proofs.Common.{◌≡◌, ◌⊎◌, inl, inr, ℕ, zero, suc, ◌+◌, ◌-◌, ◌<◌, ◌≤◌, false, ltb, List, [], ◌∷◌, ◌++◌, length, take, drop, refl, sym, ap, subst, ◌∙◌, arith, length-append, append-nil, append_assoc, Option, None, Some}
 use Rattle.std.specs.Prelude.{replicate}
 use Rattle.std.proofs.Math.Dec.{eqb-suc-zero}
-use Rattle.std.proofs.lemmas.Bool.{cases_lt, le-ltb, lt-ltb, ltb-false, ltb-true}
-use Rattle.std.proofs.lemmas.List.{drop_at, length-drop, length-take, take-append-drop, take_at}
-use Rattle.claxon.specs.Codes.{Each, Is, Mapped, MeetsOr, Never, ThenFault}
+use Rattle.std.proofs.lemmas.Bool.{le-ltb, lt-ltb}
+use Rattle.std.proofs.lemmas.List.{length-drop, length-take, take-append-drop}
+use Rattle.claxon.specs.Codes.{Each, Mapped, MeetsOr, ThenFault}
 use Rattle.claxon.specs.Comments.{Entry, EntryCode, EntryOrEmpty, EntryOrEmptyFault, IsEntry, LengthPrefixed, TextLength, TextLengthFault}
-use Rattle.claxon.specs.Fault.{CommentShort, EntryLong, ExcessData, Fault, VendorLong}
+use Rattle.claxon.specs.Fault.{CommentShort, EntryLong, ExcessData, Fault}
 use Rattle.claxon.specs.Metadata.{Bytes, Little}
-use Rattle.claxon.specs.read.Bytes.{bytes_at}
-use Rattle.claxon.specs.read.Comments.{entry_length_at, entry_or_empty_at, vendor_length_at}
-use Rattle.claxon.specs.read.Reading.{Done, Faulty, Incomplete, Reading, Reads, and_then, bind, test}
+use Rattle.claxon.specs.read.Reading.{Done, Faulty, Incomplete, Reading, Reads, bind}
 use Rattle.claxon.proofs.Comments.{Reads-entry_length, Reads-entry_or_empty, Reads-vendor_length}
 use Rattle.claxon.proofs.Laws.{Reads-same, Reads-test, Reads-then, Then}
 use Rattle.claxon.proofs.Metadata.{Reads-bytes, little_length}
@@ -149,8 +147,8 @@ first_reads_as (suc most) (a ∷ s) le =
         subst (λ (z : List ℕ). ReadsAs (length (a ∷ s)) z (first_entry_at most rest)) (sym e) (prepend t rest (first_entry_at most rest) (length (a ∷ s)) p len (more rest (omega arith)))
     step (k ∷ es) t rest text e more =
         let is : (k.text ≡ text.text) × IsEntry k = elim text.is [
-        | inl p ↦ absurd cc
-        | inr q ↦ (let same : k ≡ q.0 = cc in (ap (λ (z : Entry). z.text) same ∙ q.2, subst IsEntry (sym same) q.3))
+          | inl p ↦ absurd cc
+          | inr q ↦ (let same : k ≡ q.0 = cc in (ap (λ (z : Entry). z.text) same ∙ q.2, subst IsEntry (sym same) q.3))
         ] in
         let tag : NextTag k t = ([], t, no_texts, subst (λ (z : List ℕ). LengthPrefixed z t) (sym is.0) text.prefixed, is.1, refl) in
         (t, tag, e)

@@ -1,5 +1,5 @@
 -- What calls return that are passed the content of a metadata block, and nothing else: of a streaminfo or of Vorbis comments.
-use Rattle.std.specs.Prelude.{◌≡◌, ◌≢◌, ◌⊎◌, ℕ, ◌<◌, List, length, take, drop, Option, None, Result, IfOk, IsErrAnd, IsOkAnd}
+use Rattle.std.specs.Prelude.{◌≡◌, ◌≢◌, ◌⊎◌, ℕ, List, length, take, drop, None, Result, IfOk, IsErrAnd, IsOkAnd}
 use Rattle.claxon.specs.Fault.{Fault}
 use Rattle.claxon.specs.Comments.{Comment, CommentCode}
 use Rattle.claxon.specs.MetadataBlocks.{Body, BodyFault, Content}

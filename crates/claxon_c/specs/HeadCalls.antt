@@ -1,5 +1,5 @@
 -- What calls return that read the head at the start of bytes. No read of bytes in memory fails, so the only excuse is `out_of_memory`.
-use Rattle.std.specs.Prelude.{◌≡◌, ◌≢◌, ◌⊎◌, ℕ, ◌≤◌, ◌<◌, true, List, [], length, map, slice_get, Option, None, Some}
+use Rattle.std.specs.Prelude.{◌≡◌, ◌≢◌, ◌⊎◌, ℕ, true, List, length, Option, None, Some}
 use Rattle.claxon.specs.Comments.{Comment}
 use Rattle.claxon.specs.Fault.{Fault}
 use Rattle.claxon.specs.Heads.{Head, HeadCode, HeadFault, Marker, stream_marker}
@@ -10,7 +10,7 @@ use Rattle.claxon.specs.Prefix.{BeginsWith}
 use Rattle.claxon_c.specs.declared.heads.ClaxonInfo.{ClaxonInfo}
 use Rattle.claxon_c.specs.AtStart.{BeginsWithLength}
 use Rattle.claxon_c.specs.Info.{known_stream}
-use Rattle.claxon_c.specs.Status.{FaultIsReported, IsFaultStatus, TextIsPut, buffer_short, input_ends, no_more, ok, out_of_memory}
+use Rattle.claxon_c.specs.Status.{FaultIsReported, IsFaultStatus, input_ends, ok, out_of_memory}
 
 -- the number of tags
 abbrev pub tag_count : Option Comment → ℕ

@@ -1,5 +1,5 @@
 -- The reader of the next tag in the content of a Vorbis comment block, for private calls.
-use Rattle.std.specs.Prelude.{◌≡◌, ℕ, zero, suc, ◌+◌, ◌-◌, ◌<◌, ◌≤◌, nat_lt, cond, List, [], ◌∷◌, length, drop, Option, None, Some, Result, Ok, Err, MatchResult}
+use Rattle.std.specs.Prelude.{◌≡◌, ℕ, zero, suc, ◌+◌, ◌-◌, ◌≤◌, nat_lt, cond, List, [], ◌∷◌, length, drop, Option, None, Some, Result, MatchResult}
 use Rattle.std.specs.List.{position_or_len}
 use Rattle.claxon.specs.Comments.{Entry, is_separator}
 use Rattle.claxon.specs.Fault.{CommentShort, ExcessData, Fault}

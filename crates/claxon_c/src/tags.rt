@@ -123,10 +123,16 @@ fn text_at(content: &[u8], at: usize) -> Result<Text>
     let end = end_of_text(content, at)?;
     let text = &content[at + LENGTH_BYTES..end];
     if text.is_empty() {
-        return Ok(Text { end, name_length: None });
+        return Ok(Text {
+            end,
+            name_length: None,
+        });
     }
     let count = length_of_name(text)?;
-    Ok(Text { end, name_length: Some(count) })
+    Ok(Text {
+        end,
+        name_length: Some(count),
+    })
 }
 
 // The end of the text whose length is at this place.
@@ -150,7 +156,12 @@ fn length_at(content: &[u8], at: usize) -> u32
     requires { at + 4 ≤ length content.now }
     ensures { little_at 4 (drop at content.now) ≡ Done result (drop (at + 4) content.now) }
 {
-    u32::from_le_bytes([content[at], content[at + 1], content[at + 2], content[at + 3]])
+    u32::from_le_bytes([
+        content[at],
+        content[at + 1],
+        content[at + 2],
+        content[at + 3],
+    ])
 }
 
 // The length of the name of an entry, which has its first `=` after it.

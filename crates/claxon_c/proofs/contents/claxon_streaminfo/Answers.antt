@@ -1,5 +1,4 @@
 use Rattle.std.proofs.Common.{inl, inr, refl, ◌≡◌}
-use Rattle.claxon.specs.MetadataBlock.{info_view}
 use Rattle.claxon.specs.MetadataBlocks.{Info}
 use Rattle.claxon_c.specs.Contents.{streaminfo_type}
 use Rattle.claxon_c.specs.Status.{out_of_memory}

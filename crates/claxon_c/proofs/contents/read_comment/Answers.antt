@@ -1,4 +1,4 @@
-use Rattle.std.proofs.Common.{Global, rules, refl, ◌≡◌, length, subst, sym}
+use Rattle.std.proofs.Common.{Global, rules, ◌≡◌, length, subst, sym}
 use Rattle.std.specs.Prelude.{Err, Result}
 use Rattle.claxon.specs.MetadataBlocks.{Body, BodyFault, Comments}
 use Rattle.claxon.specs.Errors.{Error}

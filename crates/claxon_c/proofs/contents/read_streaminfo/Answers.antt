@@ -1,10 +1,9 @@
-use Rattle.std.proofs.Common.{Global, rules, refl, ◌≡◌, length, subst, sym}
+use Rattle.std.proofs.Common.{Global, rules, ◌≡◌, length, subst, sym}
 use Rattle.std.specs.Prelude.{Err, Result}
 use Rattle.claxon.specs.MetadataBlocks.{Body, BodyFault, Info}
 use Rattle.claxon.specs.Errors.{Error}
 use Rattle.claxon.specs.MetadataBlock.{MayRunOutOfMemory, content_view, info_view}
 use Rattle.claxon.specs.StreamInfos.{StreamInfo}
-use Rattle.claxon.specs.MetadataBlockVariants.TheVariants.{StreamInfo as InfoBlock}
 use Rattle.claxon_c.specs.Contents.{BodyIsRead, streaminfo_type}
 use Rattle.claxon_c.proofs.ContentCalls.{error_is_read, value_is_read, info_content}
 use Rattle.claxon_c.proofs.contents.read_streaminfo.Goals as goal

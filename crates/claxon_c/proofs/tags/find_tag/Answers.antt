@@ -1,4 +1,4 @@
-use Rattle.std.proofs.Common.{◌≡◌, List, rules, length, ap, sym, subst, ◌∙◌, ℕ, Option, drop}
+use Rattle.std.proofs.Common.{◌≡◌, rules, sym, subst, ℕ, Option}
 use Rattle.std.specs.Prelude.{Err, Result}
 use Rattle.claxon.specs.Comments.{Entry}
 use Rattle.claxon.specs.read.Reading.{Reading}

@@ -1,4 +1,4 @@
-use Rattle.std.proofs.Common.{◌≡◌, ◌≤◌, ◌<◌, ◌+◌, ◌-◌, ◌∷◌, [], List, arith, rules, refl, drop, length, ap, sym, subst, ◌∙◌, ℕ, Option, None, Some}
+use Rattle.std.proofs.Common.{◌≡◌, ◌<◌, ◌-◌, ◌∷◌, [], List, arith, rules, refl, drop, length, ap, sym, subst, ◌∙◌, ℕ, Option, None, Some}
 use Rattle.std.specs.Prelude.{Err, Result}
 use Rattle.std.proofs.lemmas.List.{length-drop}
 use Rattle.claxon.specs.Comments.{Entry}

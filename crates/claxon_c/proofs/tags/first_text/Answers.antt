@@ -1,8 +1,6 @@
-use Rattle.std.proofs.Common.{◌≡◌, ◌≤◌, ◌<◌, ◌+◌, ◌-◌, [], List, arith, rules, refl, drop, length, ap, sym, subst, ◌∙◌, ℕ, min}
+use Rattle.std.proofs.Common.{◌≡◌, ◌≤◌, ◌-◌, arith, rules, refl, drop, length, ap, sym, ◌∙◌, ℕ, min}
 use Rattle.claxon.specs.Fault.{CommentShort, VendorLong, fault_text}
-use Rattle.claxon.specs.read.Bytes.{little_at}
-use Rattle.claxon.specs.read.Reading.{Done, Faulty}
-use Rattle.claxon_c.specs.TagReader.{FirstTextIsRead, first_entry_at, tag_at}
+use Rattle.claxon_c.specs.TagReader.{first_entry_at, tag_at}
 use Rattle.claxon_c.proofs.TagTexts.{front_missing, place_passed, vendor_passed, vendor_too_long}
 use Rattle.claxon_c.proofs.tags.first_text.Goals as goal
 

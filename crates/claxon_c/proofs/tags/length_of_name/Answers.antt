@@ -1,8 +1,7 @@
-use Rattle.std.proofs.Common.{◌≡◌, arith, rules, true, false, refl, None, Some, [], sym, ap, ◌∙◌, ℕ, take}
-use Rattle.std.specs.Prelude.{IsUtf8}
-use Rattle.std.specs.List.{list_all, position, position_or_len}
+use Rattle.std.proofs.Common.{◌≡◌, rules, true, false, refl, None, Some, [], take}
+use Rattle.std.specs.List.{list_all, position}
 use Rattle.std.specs.Str.{is_utf8}
-use Rattle.claxon.specs.Comments.{has_name, has_separator, is_name_byte, is_separator}
+use Rattle.claxon.specs.Comments.{has_name, is_name_byte, is_separator}
 use Rattle.claxon.specs.Fault.{EntryNotUtf8, NameByte, SeparatorMissing, fault_text}
 use Rattle.claxon_c.proofs.TagTexts.{entry_read, name_is, no_separator, separator_found, utf8_is, utf8_is_not}
 use Rattle.claxon_c.proofs.tags.length_of_name.Goals as goal

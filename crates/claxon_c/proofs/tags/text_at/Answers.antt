@@ -1,10 +1,10 @@
-use Rattle.std.proofs.Common.{◌≡◌, ◌≤◌, ◌<◌, ◌+◌, ◌-◌, ◌∷◌, [], ◌++◌, List, arith, rules, true, false, refl, take, drop, length, ap, sym, subst, ◌∙◌, ℕ, inl, inr}
+use Rattle.std.proofs.Common.{◌≡◌, ◌<◌, ◌+◌, ◌-◌, ◌∷◌, [], ◌++◌, List, arith, rules, refl, take, drop, length, ap, sym, subst, ◌∙◌, ℕ}
 use Rattle.std.specs.Prelude.{Err, Result}
 use Rattle.claxon.specs.read.Comments.{entry_of}
-use Rattle.claxon.specs.read.Reading.{Done, Reading}
+use Rattle.claxon.specs.read.Reading.{Done}
 use Rattle.claxon.specs.Errors.{Error}
 use Rattle.claxon_c.specs.declared.tags.Text.{Text}
-use Rattle.claxon_c.specs.TagReader.{TextIsRead, text_length_at}
+use Rattle.claxon_c.specs.TagReader.{TextIsRead}
 use Rattle.claxon_c.proofs.TagTexts.{empty_read, entry_faulty, entry_found, length_stops, text_length, text_split}
 use Rattle.claxon_c.proofs.tags.text_at.Goals as goal
 
