@@ -13,22 +13,22 @@ use Rattle.claxon.specs.Gives.{FailedIn, GivesOrEofOrOutOfMemory}
 use Rattle.claxon.specs.Promises.{IsExcused, NoneIsEof}
 use Rattle.claxon.specs.SampleRuns.{lent}
 use Rattle.claxon.specs.Source.{Source}
-use Rattle.claxon.specs.State.{State, bytes_in}
+use Rattle.claxon.specs.State.{State, bytes_in, RemainingIsKnown, final_crcs, source_bytes}
 use Rattle.claxon.specs.read.Frame.{frame_bytes_at}
 use Rattle.claxon.specs.read.Reading.{Reading}
 use Rattle.claxon_tools.specs.Verify.{BlockIsRead, IfConsumed, IsNotWhole}
 
 -- whether the source failed
 pub decide_failed : {X : Type 0} (a b : State X) → FailedIn a b ⊎ (FailedIn a b → ⊥)
-decide_failed a b = elim (eqb_tells b.errors a.errors) [
+decide_failed a b = elim (eqb_tells b.source.errors a.source.errors) [
   | inr p ↦ inl (inl p.1)
-  | inl p ↦ elim (eqb_tells b.empty_reads a.empty_reads) [
+  | inl p ↦ elim (eqb_tells b.source.empty_reads a.source.empty_reads) [
     | inl q ↦ inr (λ f. elim f [ inl n ↦ n p.1 | inr n ↦ n.0 q.1 ])
-    | inr q ↦ go b.bytes refl p.1 q.1
+    | inr q ↦ go (source_bytes b) refl p.1 q.1
   ]
 ]
   where
-    go : (l : List ℕ) → b.bytes ≡ l → b.errors ≡ a.errors → (b.empty_reads ≡ a.empty_reads → ⊥) → FailedIn a b ⊎ (FailedIn a b → ⊥)
+    go : (l : List ℕ) → source_bytes b ≡ l → b.source.errors ≡ a.source.errors → (b.source.empty_reads ≡ a.source.empty_reads → ⊥) → FailedIn a b ⊎ (FailedIn a b → ⊥)
     go [] e p q = inr (λ f. elim f [ inl n ↦ n p | inr n ↦ n.1 e ])
     go (x ∷ l) e p q = inl (inr (q, λ z. let k : x ∷ l ≡ [] = sym e ∙ z in cc))
 
@@ -51,7 +51,7 @@ io_not_fault f (Unsupported text) io h = absurd cc
 io_not_fault f OutOfMemory io h = h
 
 module _ (stream : Option StreamFormat) (a b : State ℕ) where
-  block_io : (r : FrameAnswer) → ReadsFrame stream r a b → IfErr r (λ e. IsIo e → a.known ≡ true → IsNotWhole stream a.remaining ⊎ FailedIn a b)
+  block_io : (r : FrameAnswer) → ReadsFrame stream r a b → IfErr r (λ e. IsIo e → RemainingIsKnown a → IsNotWhole stream a.remaining ⊎ FailedIn a b)
   block_io (Ok found) h = tt
   block_io (Err e) h = λ io known. elim (decide_failed a b) [
     | inl f ↦ inr f
@@ -67,7 +67,7 @@ module _ (stream : Option StreamFormat) (a b : State ℕ) where
         )
   ]
 
-  block_kept : (r : FrameAnswer) (read : List ℕ → Reading ℕ _) → GivesOrEofOrOutOfMemory 2 block_view r read a b → IfConsumed r ((b.errors ≡ a.errors) × (b.empty_reads ≡ a.empty_reads) × (a.known ≡ true → b.crcs ≡ a.crcs))
+  block_kept : (r : FrameAnswer) (read : List ℕ → Reading ℕ _) → GivesOrEofOrOutOfMemory 2 block_view r read a b → IfConsumed r ((b.source.errors ≡ a.source.errors) × (b.source.empty_reads ≡ a.source.empty_reads) × (RemainingIsKnown a → final_crcs b ≡ final_crcs a))
   block_kept (Ok (Some x)) read g = (g.errors, g.empty_reads, λ k. (g.known k).crcs)
   block_kept (Ok None) read g = tt
   block_kept (Err OutOfMemory) read g = tt
@@ -75,11 +75,11 @@ module _ (stream : Option StreamFormat) (a b : State ℕ) where
   block_kept (Err (FormatError text)) read g = let w = g.fault refl in (w.errors, w.empty_reads, λ k. (w.known k).crcs)
   block_kept (Err (Unsupported text)) read g = let w = g.fault refl in (w.errors, w.empty_reads, λ k. (w.known k).crcs)
 
-  block_eof : (r : FrameAnswer) → NoneIsEof 2 r a b → IfOk r (λ found. found ≡ None → a.known ≡ true → length a.remaining < 2)
+  block_eof : (r : FrameAnswer) → NoneIsEof 2 r a b → IfOk r (λ found. found ≡ None → RemainingIsKnown a → length a.remaining < 2)
   block_eof (Ok found) h = λ e known. (h e known).0
   block_eof (Err e) h = tt
 
-  block_read : (r : FrameAnswer) → b.loans ≡ a.loans → ReadsFrame stream r a b → BlockIsRead stream r a b
+  block_read : (r : FrameAnswer) → b.source.loans ≡ a.source.loans → ReadsFrame stream r a b → BlockIsRead stream r a b
   block_read r loans h = record {
     sound = h.promises.sound;
     eof = block_eof r h.promises.none_is_eof;
@@ -104,7 +104,7 @@ module _ {R : Type 0} (source : R → Source ℕ) (stream : Option StreamFormat)
     kept = h.kept;
   }
 
-  pub read_through : (known : Option StreamFormat) (x : MutBor R) → s ≡ x → stream ≡ known → (bytes_in (lent source) q).loans ≡ (bytes_in (lent source) s).loans → ReadsFrame stream r (bytes_in (lent source) s) (bytes_in (lent source) q) → BlockIsRead known r (bytes_in source x.now) (bytes_in source q.now)
+  pub read_through : (known : Option StreamFormat) (x : MutBor R) → s ≡ x → stream ≡ known → (bytes_in (lent source) q).source.loans ≡ (bytes_in (lent source) s).source.loans → ReadsFrame stream r (bytes_in (lent source) s) (bytes_in (lent source) q) → BlockIsRead known r (bytes_in source x.now) (bytes_in source q.now)
   read_through known x at same loans h =
       subst (λ (z : MutBor R). BlockIsRead known r (bytes_in source z.now) (bytes_in source q.now)) at
       (subst (λ (z : Option StreamFormat). BlockIsRead z r (bytes_in source s.now) (bytes_in source q.now)) same (unborrowed (block_read stream (bytes_in (lent source) s) (bytes_in (lent source) q) r loans h)))

@@ -12,8 +12,8 @@ use Rattle.claxon.specs.Frame.{FrameBytesFault, StreamFormat}
 use Rattle.claxon.specs.FrameReader.{FrameAnswer, block_view}
 use Rattle.claxon.specs.Gives.{FailedIn}
 use Rattle.claxon.specs.Promises.{Consumed}
-use Rattle.claxon.specs.Source.{Source}
-use Rattle.claxon.specs.State.{State, bytes_in, crcs_at_eof, remaining_as, remaining_known}
+use Rattle.claxon.specs.Source.{IsKnown, Source}
+use Rattle.claxon.specs.State.{State, bytes_in, crcs_at_eof, remaining_as, RemainingIsKnown, final_crcs}
 use Rattle.claxon.proofs.SamplesInTurn.{same_duration}
 use Rattle.claxon_input.specs.CrcReader.{crc_inner}
 use Rattle.claxon_input.specs.declared.crc.CrcReader.{CrcReader}
@@ -25,10 +25,10 @@ use Rattle.claxon_tools.proofs.Parts.{parts_push, parts_front}
 
 -- ---- the position
 
-end_of : (p q : Option (List ℕ)) (m n : ℕ) (u v : List ℕ → List ℕ) → remaining_known p ≡ true → remaining_known q ≡ true → crcs_at_eof q (λ xs. (n + length xs) % 2 ^ 64 ∷ v xs) ≡ crcs_at_eof p (λ xs. (m + length xs) % 2 ^ 64 ∷ u xs)
+end_of : (p q : Option (List ℕ)) (m n : ℕ) (u v : List ℕ → List ℕ) → IsKnown p → IsKnown q → crcs_at_eof q (λ xs. (n + length xs) % 2 ^ 64 ∷ v xs) ≡ crcs_at_eof p (λ xs. (m + length xs) % 2 ^ 64 ∷ u xs)
     → (n + length (remaining_as (λ all. all) q)) % 2 ^ 64 ≡ (m + length (remaining_as (λ all. all) p)) % 2 ^ 64
-end_of None q m n u v k l e = absurd cc
-end_of (Some all) None m n u v k l e = absurd cc
+end_of None q m n u v k l e = absurd k
+end_of (Some all) None m n u v k l e = absurd l
 end_of (Some all) (Some rest) m n u v k l e =
     let o : (n + length (rest ++ [])) % 2 ^ 64 ∷ v (rest ++ []) ≡ (m + length (all ++ [])) % 2 ^ 64 ∷ u (all ++ []) = ap (λ (h : List ℕ → List ℕ). h []) e in
     let i : (n + length (rest ++ [])) % 2 ^ 64 ≡ (m + length (all ++ [])) % 2 ^ 64 = cc in
@@ -38,7 +38,7 @@ end_of (Some all) (Some rest) m n u v k l e =
 after_bytes : (m n x y z : ℕ) → (n + y) % 2 ^ 64 ≡ (m + x) % 2 ^ 64 → x ≡ z + y → n % 2 ^ 64 ≡ (m + z) % 2 ^ 64
 after_bytes m n x y z e f = omega arith
 
-module _ {R : Type 0} (source : R → Source ℕ) (x y : CrcReader R Position) (k : (counted_bytes source x).known ≡ true) (l : (counted_bytes source y).known ≡ true) (crcs : (counted_bytes source y).crcs ≡ (counted_bytes source x).crcs) where
+module _ {R : Type 0} (source : R → Source ℕ) (x y : CrcReader R Position) (k : RemainingIsKnown (counted_bytes source x)) (l : RemainingIsKnown (counted_bytes source y)) (crcs : final_crcs (counted_bytes source y) ≡ final_crcs (counted_bytes source x)) where
   pub position_modulo : (front : List ℕ) → (counted_bytes source x).remaining ≡ front ++ (counted_bytes source y).remaining → position_of y % 2 ^ 64 ≡ (position_of x + length front) % 2 ^ 64
   unfolding bytes_in
   position_modulo front e =
@@ -94,12 +94,12 @@ pub record SoFar (stream : Option StreamFormat) (start : ℕ) (s m : List ℕ) (
   pub first : FirstIs ⊥ stream start s found.faults found.first_fault
 
 pub record CountedSoFar (stream : Option StreamFormat) (start : ℕ) (a b : State ℕ) (found : Found) : Type 0 where
-  pub errors : b.errors ≡ a.errors
-  pub empty_reads : b.empty_reads ≡ a.empty_reads
-  pub loans : b.loans ≡ a.loans
-  pub known : a.known ≡ true → b.known ≡ true
-  pub crcs : a.known ≡ true → b.crcs ≡ a.crcs
-  pub is : a.known ≡ true → SoFar stream start a.remaining b.remaining found
+  pub errors : b.source.errors ≡ a.source.errors
+  pub empty_reads : b.source.empty_reads ≡ a.source.empty_reads
+  pub loans : b.source.loans ≡ a.source.loans
+  pub known : RemainingIsKnown a → RemainingIsKnown b
+  pub crcs : RemainingIsKnown a → final_crcs b ≡ final_crcs a
+  pub is : RemainingIsKnown a → SoFar stream start a.remaining b.remaining found
 
 pub none_so_far : (stream : Option StreamFormat) (start : ℕ) (a : State ℕ) → CountedSoFar stream start a a (record { frames = 0; faults = 0; samples = 0; first_fault = None })
 none_so_far stream start a = record {
@@ -119,7 +119,7 @@ kept_err (Unsupported text) io memory h = h
 kept_err OutOfMemory io memory h = absurd cc
 
 module _ {stream : Option StreamFormat} {start : ℕ} {a b : State ℕ} {found : Found} (h : CountedSoFar stream start a b found) where
-  with_part : (part : Part) (c : State ℕ) → Consumed b c (PartBytes stream part) → (k : a.known ≡ true) → (c.known ≡ true) × Parts stream a.remaining ((h.is k).parts ++ part ∷ []) c.remaining
+  with_part : (part : Part) (c : State ℕ) → Consumed b c (PartBytes stream part) → (k : RemainingIsKnown a) → (RemainingIsKnown c) × Parts stream a.remaining ((h.is k).parts ++ part ∷ []) c.remaining
   with_part part c consumed k =
       let w = consumed (h.known k) in
       (w.0, parts_push stream (h.is k).parts part a.remaining b.remaining w.1.0 c.remaining (h.is k).parts_are w.1.1 w.1.2)
@@ -154,7 +154,7 @@ module _ {stream : Option StreamFormat} {start : ℕ} {a b : State ℕ} {found :
       }
 
   -- one fault more
-  fault_consumed : (error : Error) (c : State ℕ) → BlockIsRead stream (Err error) b c → is_io error ≡ false → is_out_of_memory error ≡ false → b.known ≡ true → (f : Fault) × IsFault f error × Consumed b c (FrameBytesFault stream f)
+  fault_consumed : (error : Error) (c : State ℕ) → BlockIsRead stream (Err error) b c → is_io error ≡ false → is_out_of_memory error ≡ false → RemainingIsKnown b → (f : Fault) × IsFault f error × Consumed b c (FrameBytesFault stream f)
   fault_consumed error c read io memory k = elim read.fault [
     | inl m ↦ absurd (let z : true ≡ false = subst (λ (q : Error). is_out_of_memory q ≡ false) m memory in cc)
     | inr (inl i) ↦ absurd (let z : true ≡ false = sym i ∙ io in cc)
@@ -162,7 +162,7 @@ module _ {stream : Option StreamFormat} {start : ℕ} {a b : State ℕ} {found :
   ]
 
   -- it is the first one
-  new_first : {failed : Type 0} (first : FirstFault) (k : a.known ≡ true) → IsFaultAt failed stream b.remaining first.error → first.samples ≡ found.samples → ((front : List ℕ) → a.remaining ≡ front ++ b.remaining → first.byte ≡ (start + length front) % 2 ^ 64) → found.faults ≡ 0 → IsFirst failed stream start a.remaining first
+  new_first : {failed : Type 0} (first : FirstFault) (k : RemainingIsKnown a) → IsFaultAt failed stream b.remaining first.error → first.samples ≡ found.samples → ((front : List ℕ) → a.remaining ≡ front ++ b.remaining → first.byte ≡ (start + length front) % 2 ^ 64) → found.faults ≡ 0 → IsFirst failed stream start a.remaining first
   new_first first k fault samples at none =
       let p = h.is k in
       let q = parts_front stream p.parts a.remaining b.remaining p.parts_are in
@@ -178,7 +178,7 @@ module _ {stream : Option StreamFormat} {start : ℕ} {a b : State ℕ} {found :
         fault = fault;
       }
 
-  module _ {byte : ℕ} (at : a.known ≡ true → (front : List ℕ) → a.remaining ≡ front ++ b.remaining → byte ≡ (start + length front) % 2 ^ 64) where
+  module _ {byte : ℕ} (at : RemainingIsKnown a → (front : List ℕ) → a.remaining ≡ front ++ b.remaining → byte ≡ (start + length front) % 2 ^ 64) where
     pub fault_counted : {more : Found} (error : Error) (c : State ℕ) → BlockIsRead stream (Err error) b c → is_io error ≡ false → is_out_of_memory error ≡ false → CountsFault byte error found more → CountedSoFar stream start a c more
     fault_counted {more} error c read io memory counts =
         let kept = kept_err error io memory read.kept in

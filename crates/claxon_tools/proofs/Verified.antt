@@ -18,7 +18,7 @@ use Rattle.claxon.specs.Promises.{CodeIsComplete, CodeIsSound, FaultIsComplete, 
 use Rattle.claxon.specs.ReadHead.{HeadAnswer, MemoryMayBeNeeded, head_view}
 use Rattle.claxon.specs.SampleRuns.{lent}
 use Rattle.claxon.specs.Source.{Source}
-use Rattle.claxon.specs.State.{State, bytes_in}
+use Rattle.claxon.specs.State.{State, bytes_in, RemainingIsKnown, final_crcs}
 use Rattle.claxon.specs.StreamInfos.{StreamInfo}
 use Rattle.claxon.specs.Streams.{stream_of, with_samples}
 use Rattle.claxon.specs.VorbisComments.{VorbisComment}
@@ -164,7 +164,7 @@ module _ {A : Type 0} (a m : State ℕ) where
   no_answer e = Err e
 
   pub no_head : (e : Error) → CodeIsComplete head_view (no_answer e) (HeadCode (with_samples true)) a m → FaultIsSound (no_answer e) (HeadFault (with_samples true)) a m → FaultIsComplete (no_answer e) (HeadFault (with_samples true)) a m
-      → (IsOutOfMemory (no_answer e) → a.known ≡ true → MemoryMayBeNeeded (Marker stream_marker) a.remaining) → VerifyPromises a (Err e) m
+      → (IsOutOfMemory (no_answer e) → RemainingIsKnown a → MemoryMayBeNeeded (Marker stream_marker) a.remaining) → VerifyPromises a (Err e) m
   no_head e complete fault named memory = record {
     sound = tt;
     complete = all;
@@ -182,7 +182,7 @@ module _ {A : Type 0} (a m : State ℕ) where
       all : VerifyIsComplete a (Err e) m
       all report known v can = elim (complete v.head v.front v.frames v.code (record { known = known; are = v.joined })) [ inl p ↦ absurd p.0 | inr (inl n) ↦ inr (inl (same_out_of_memory e n)) | inr (inr x) ↦ inr (inr x.1) ]
 
-      neither : IsIo e → a.known ≡ true → HasNeither (HeadCode (with_samples true)) (HeadFault (with_samples true)) a.remaining ⊎ FailedIn a m
+      neither : IsIo e → RemainingIsKnown a → HasNeither (HeadCode (with_samples true)) (HeadFault (with_samples true)) a.remaining ⊎ FailedIn a m
       neither io known = elim (decide_failed a m) [
         | inl f ↦ inr f
         | inr not_failed ↦ inl (record {
@@ -195,18 +195,18 @@ module _ {A : Type 0} (a m : State ℕ) where
 
 -- It was consumed, and the counting began after it.
 pub record HeadIsConsumed (a m : State ℕ) (head : Head) (stream : Option StreamFormat) (start : ℕ) : Type 0 where
-  pub errors : m.errors ≡ a.errors
-  pub empty_reads : m.empty_reads ≡ a.empty_reads
-  pub known : a.known ≡ true → m.known ≡ true
-  pub is : a.known ≡ true → (front : List ℕ) × HeadCode (with_samples true) head front × (a.remaining ≡ front ++ m.remaining) × (start % 2 ^ 64 ≡ length front % 2 ^ 64)
+  pub errors : m.source.errors ≡ a.source.errors
+  pub empty_reads : m.source.empty_reads ≡ a.source.empty_reads
+  pub known : RemainingIsKnown a → RemainingIsKnown m
+  pub is : RemainingIsKnown a → (front : List ℕ) × HeadCode (with_samples true) head front × (a.remaining ≡ front ++ m.remaining) × (start % 2 ^ 64 ≡ length front % 2 ^ 64)
   pub complete : (h : Head) (front rest : List ℕ) → HeadCode (with_samples true) h front → Remains a (front ++ rest) → (head ≡ h) × (m.remaining ≡ rest)
-  pub no_fault : (f : Fault) → a.known ≡ true → BeginsWith (HeadFault (with_samples true) f) a.remaining → ⊥
+  pub no_fault : (f : Fault) → RemainingIsKnown a → BeginsWith (HeadFault (with_samples true) f) a.remaining → ⊥
   pub width : IsWidth (known_width stream)
   pub stream_is : stream ≡ Some (stream_of head.info)
 
 pub head_consumed : {A : Type 0} {P : List ℕ → List ℕ → Type 0} (a m : State ℕ) (shown : StreamInfo × Option (VorbisComment A)) (start : ℕ) → CodeIsSound head_view (let r : HeadAnswer A = Ok shown in r) (HeadCode (with_samples true)) a m
     → CodeIsComplete head_view (let r : HeadAnswer A = Ok shown in r) (HeadCode (with_samples true)) a m → FaultIsComplete (let r : HeadAnswer A = Ok shown in r) (HeadFault (with_samples true)) a m → Consumes a m P → HasBounds shown.0
-    → (a.known ≡ true → m.known ≡ true → m.crcs ≡ a.crcs → (front : List ℕ) → a.remaining ≡ front ++ m.remaining → start % 2 ^ 64 ≡ length front % 2 ^ 64) → HeadIsConsumed a m (head_view shown) (Some (stream_with shown.0)) start
+    → (RemainingIsKnown a → RemainingIsKnown m → final_crcs m ≡ final_crcs a → (front : List ℕ) → a.remaining ≡ front ++ m.remaining → start % 2 ^ 64 ≡ length front % 2 ^ 64) → HeadIsConsumed a m (head_view shown) (Some (stream_with shown.0)) start
 head_consumed a m shown start sound complete named consumed bounds at = record {
   errors = consumed.errors;
   empty_reads = consumed.empty_reads;
@@ -226,7 +226,7 @@ module _ {a m : State ℕ} (b : State ℕ) {head : Head} {stream : Option Stream
   failed_since f = elim f [ inl n ↦ inl (λ e. n (e ∙ sym h.errors)) | inr n ↦ inr (λ e. n.0 (e ∙ sym h.empty_reads), n.1) ]
 
   -- any head that the bytes begin with is the one that was read
-  same_start : (known : a.known ≡ true) (other : Head) (front frames : List ℕ) → HeadCode (with_samples true) other front → a.remaining ≡ front ++ frames → (head ≡ other) × (m.remaining ≡ frames) × (length (h.is known).0 ≡ length front)
+  same_start : (known : RemainingIsKnown a) (other : Head) (front frames : List ℕ) → HeadCode (with_samples true) other front → a.remaining ≡ front ++ frames → (head ≡ other) × (m.remaining ≡ frames) × (length (h.is known).0 ≡ length front)
   same_start known other front frames code joined =
       let q = h.complete other front frames code (record { known = known; are = joined }) in
       let s = h.is known in
@@ -234,14 +234,14 @@ module _ {a m : State ℕ} (b : State ℕ) {head : Head} {stream : Option Stream
       let n : length m.remaining ≡ length frames = ap length q.1 in
       (q.0, q.1, omega arith)
 
-  as_counted : (known : a.known ≡ true) (report : Report) (v : IsVerified ⊥ a.remaining report) → Counted ⊥ stream (length (h.is known).0) m.remaining report.found
+  as_counted : (known : RemainingIsKnown a) (report : Report) (v : IsVerified ⊥ a.remaining report) → Counted ⊥ stream (length (h.is known).0) m.remaining report.found
   as_counted known report v =
       let q = same_start known v.head v.front v.frames v.code v.joined in
       let of_stream : Some (stream_of v.head.info) ≡ stream = sym (h.stream_is ∙ ap (λ (z : Head). Some (stream_of z.info)) q.0) in
       subst (λ (z : Option StreamFormat). Counted ⊥ z (length (h.is known).0) m.remaining report.found) of_stream
       (subst (λ (n : ℕ). Counted ⊥ (Some (stream_of v.head.info)) n m.remaining report.found) (sym q.2) (subst (λ (z : List ℕ). Counted ⊥ (Some (stream_of v.head.info)) (length v.front) z report.found) (sym q.1) v.counted))
 
-  has_parts : (known : a.known ≡ true) (P : Option StreamFormat → List Part → List ℕ → Type 0) (parts : List Part) (left : List ℕ) → Parts stream m.remaining parts left → P stream parts left → HasParts a.remaining P
+  has_parts : (known : RemainingIsKnown a) (P : Option StreamFormat → List Part → List ℕ → Type 0) (parts : List Part) (left : List ℕ) → Parts stream m.remaining parts left → P stream parts left → HasParts a.remaining P
   has_parts known P parts left p q =
       let s = h.is known in
       record {
@@ -269,10 +269,10 @@ module _ {a m : State ℕ} (b : State ℕ) {head : Head} {stream : Option Stream
     memory = λ n known. absurd (not_out_of_memory (report_of found expected is_right) n);
   }
     where
-      counted : (known : a.known ≡ true) → Counted (FailedIn a b) stream (length (h.is known).0) m.remaining found
+      counted : (known : RemainingIsKnown a) → Counted (FailedIn a b) stream (length (h.is known).0) m.remaining found
       counted known = counted_from failed_since (length (h.is known).0) start (h.is known).3 m.remaining found (counts (h.known known))
 
-      verified : a.known ≡ true → IsVerified (FailedIn a b) a.remaining (report_of found expected is_right)
+      verified : RemainingIsKnown a → IsVerified (FailedIn a b) a.remaining (report_of found expected is_right)
       verified known =
           let s = h.is known in
           record {

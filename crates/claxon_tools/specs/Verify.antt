@@ -12,7 +12,7 @@ use Rattle.claxon.specs.Prefix.{BeginsWith}
 use Rattle.claxon.specs.Promises.{Consumed, FaultIsSound, FoundIsSound, HasNeither, IsOutOfMemory}
 use Rattle.claxon.specs.ReadHead.{MemoryMayBeNeeded}
 use Rattle.claxon.specs.Source.{Source}
-use Rattle.claxon.specs.State.{State, bytes_in}
+use Rattle.claxon.specs.State.{State, bytes_in, RemainingIsKnown, final_crcs}
 use Rattle.claxon.specs.Streams.{IsStream, duration, stream_of, with_samples}
 use Rattle.claxon.specs.Errors.{Error}
 use Rattle.claxon.specs.Errors.TheVariants.{FormatError, OutOfMemory, Unsupported}
@@ -222,14 +222,14 @@ IfConsumed (Err e) P = Unit {0}
 -- What a call that reads a block returned, and what it did to its input.
 pub record BlockIsRead (stream : Option StreamFormat) (r : FrameAnswer) (old new : State ℕ) : Type 0 where
   pub sound : FoundIsSound block_view r (Frame stream) old new
-  pub eof : IfOk r (λ found. found ≡ None → old.known ≡ true → length old.remaining < 2)
+  pub eof : IfOk r (λ found. found ≡ None → RemainingIsKnown old → length old.remaining < 2)
   pub fault : FaultIsSound r (FrameBytesFault stream) old new
-  pub io : IfErr r (λ e. IsIo e → old.known ≡ true → IsNotWhole stream old.remaining
+  pub io : IfErr r (λ e. IsIo e → RemainingIsKnown old → IsNotWhole stream old.remaining
       ⊎ FailedIn old new)
   pub memory : IsOutOfMemory r → Consumed old new (HeaderOfLargerBlock stream 0)
-  pub loans : new.loans ≡ old.loans
-  pub kept : IfConsumed r ((new.errors ≡ old.errors) × (new.empty_reads ≡ old.empty_reads)
-      × (old.known ≡ true → new.crcs ≡ old.crcs))
+  pub loans : new.source.loans ≡ old.source.loans
+  pub kept : IfConsumed r ((new.source.errors ≡ old.source.errors) × (new.source.empty_reads ≡ old.source.empty_reads)
+      × (RemainingIsKnown old → final_crcs new ≡ final_crcs old))
 
 -- ---- a reader that counts bytes
 
@@ -250,14 +250,14 @@ position_of input = (crc_state input).bytes
 -- The remaining bytes, which begin at the byte `start` of the stream, were counted.
 abbrev pub CountsParts : Option StreamFormat → ℕ → State ℕ → State ℕ → Found → Type 0
 CountsParts stream start old new found =
-    old.known ≡ true → Counted (FailedIn old new) stream start old.remaining found
+    RemainingIsKnown old → Counted (FailedIn old new) stream start old.remaining found
 
 -- The error is `OutOfMemory` after parts and the header of a frame, or says that more parts remain than can be counted, and so
 -- it is.
 abbrev pub StopsCounting : Option StreamFormat → State ℕ → Error → Type 0
 StopsCounting stream old e =
-    ((e ≡ OutOfMemory) × (old.known ≡ true → (parts : List Part) × (m : List ℕ) × Parts stream old.remaining parts m × BeginsWith (HeaderOfLargerBlock stream 0) m))
-    ⊎ (IsTooMany e × (old.known ≡ true → (parts : List Part) × (m : List ℕ) × Parts stream old.remaining parts m × AreTooMany parts))
+    ((e ≡ OutOfMemory) × (RemainingIsKnown old → (parts : List Part) × (m : List ℕ) × Parts stream old.remaining parts m × BeginsWith (HeaderOfLargerBlock stream 0) m))
+    ⊎ (IsTooMany e × (RemainingIsKnown old → (parts : List Part) × (m : List ℕ) × Parts stream old.remaining parts m × AreTooMany parts))
 
 -- ---- the contract of the call
 
@@ -285,24 +285,24 @@ module _ (old : State ℕ) (result : Result Report Error) (new : State ℕ) wher
   -- The report is about the remaining bytes.
   abbrev pub VerifyIsSound : Type 0
   VerifyIsSound =
-      IfOk result (λ report. old.known ≡ true → IsVerified (FailedIn old new) old.remaining report)
+      IfOk result (λ report. RemainingIsKnown old → IsVerified (FailedIn old new) old.remaining report)
 
   -- For each stream that can be counted its report is returned, or memory or the source failed.
   abbrev pub VerifyIsComplete : Type 0
   VerifyIsComplete =
-      (report : Report) → old.known ≡ true → IsVerified ⊥ old.remaining report
+      (report : Report) → RemainingIsKnown old → IsVerified ⊥ old.remaining report
       → CanBeCounted report.found → IsOkAnd result (λ told. SameReport told report) ⊎ IsExcused
 
   -- `is_right` is true only of a head and frames without a fault, with the right number of samples.
   abbrev pub RightIsSound : Type 0
   RightIsSound =
-      IfOk result (λ report. IsTrue report.is_right → old.known ≡ true
+      IfOk result (λ report. IsTrue report.is_right → RemainingIsKnown old
       → IsRightStream old.remaining)
 
   -- It is true of each such stream that can be counted, or memory or the source failed.
   abbrev pub RightIsComplete : Type 0
   RightIsComplete =
-      old.known ≡ true → (stream : IsRightStream old.remaining)
+      RemainingIsKnown old → (stream : IsRightStream old.remaining)
       → sum_by block_samples stream.blocks < 2 ^ 64 → length stream.blocks + 1 < 2 ^ 64
       → IsOkAnd result (λ report. IsTrue report.is_right) ⊎ IsExcused
 
@@ -310,21 +310,21 @@ module _ (old : State ℕ) (result : Result Report Error) (new : State ℕ) wher
   -- or it says that there are more parts than can be counted, or names the fault of a head, and so it is.
   abbrev pub VerifyFaultIsSound : Type 0
   VerifyFaultIsSound =
-      IfErr result (λ e. (e ≡ OutOfMemory) ⊎ ((IsIo e × (old.known ≡ true
+      IfErr result (λ e. (e ≡ OutOfMemory) ⊎ ((IsIo e × (RemainingIsKnown old
       → HasNeither (HeadCode (with_samples true)) (HeadFault (with_samples true)) old.remaining ⊎ FailedIn old new))
-      ⊎ (old.known ≡ true → (IsTooMany e × HasParts old.remaining (λ stream parts left. AreTooMany parts))
+      ⊎ (RemainingIsKnown old → (IsTooMany e × HasParts old.remaining (λ stream parts left. AreTooMany parts))
       ⊎ ((f : Fault) × IsFault f e × BeginsWith (HeadFault (with_samples true) f) old.remaining))))
 
   -- A fault of a head that they begin with is named, or memory or the source failed.
   abbrev pub VerifyHeadFaultIsComplete : Type 0
   VerifyHeadFaultIsComplete =
-      (f : Fault) → old.known ≡ true → BeginsWith (HeadFault (with_samples true) f) old.remaining
+      (f : Fault) → RemainingIsKnown old → BeginsWith (HeadFault (with_samples true) f) old.remaining
       → IsErrAnd result (IsFault f) ⊎ IsExcused
 
   -- `OutOfMemory` is returned only after the header of a metadata block, or of a frame.
   abbrev pub VerifyOutOfMemoryAfterHeader : Type 0
   VerifyOutOfMemoryAfterHeader =
-      IsOutOfMemory result → old.known ≡ true
+      IsOutOfMemory result → RemainingIsKnown old
       → MemoryMayBeNeeded (Marker stream_marker) old.remaining
       ⊎ HasParts old.remaining (λ stream parts left. BeginsWith (HeaderOfLargerBlock stream 0) left)
 
