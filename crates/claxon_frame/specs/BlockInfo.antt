@@ -10,7 +10,7 @@ use Rattle.claxon_format.specs.read.Frame.{Start, start_at}
 use Rattle.claxon_format.specs.read.Reading.{Reading, and_then, done}
 use Rattle.claxon_input.specs.declared.error.Error.{Error}
 use Rattle.claxon_input.specs.Gives.{GivesOrEof}
-use Rattle.claxon_input.specs.Promises.{FoundIsComplete, Remains, ElseIoErrorFrom, HasFailed, IsOutOfMemory, LeavesRest, FaultIsComplete, NoneIsEof, FaultIsSound, FoundIsSound}
+use Rattle.claxon_input.specs.Promises.{FoundIsComplete, Remains, ElseIoErrorFrom, HasFailed, LeavesRest, FaultIsComplete, NoneIsEof, FaultIsSound, FoundIsSound}
 use Rattle.claxon_input.specs.Source.{Source}
 use Rattle.claxon_input.specs.State.{bytes_in}
 use Rattle.claxon_frame.specs.FrameReader.{frame_bytes, frame_stream}
@@ -127,10 +127,6 @@ module _ {R : Type 0} (source : R → Source ℕ) (old : FrameReader R) (result 
   HeaderIsRead =
       GivesOrEof 2 (λ info. info) result (header_info_at (frame_stream old))
       (frame_bytes source old) (frame_bytes source new)
-
--- The result is never out of memory.
-abbrev pub HeaderNeverOutOfMemory : HeaderAnswer → Type 0
-HeaderNeverOutOfMemory result = IsOutOfMemory result → ⊥
 
 -- No bytes begin with two headers, with a header and a fault of one, or with two faults.
 abbrev pub HeaderIsUnambiguous : Option StreamFormat → Type 0

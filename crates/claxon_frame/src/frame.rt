@@ -45,7 +45,8 @@ pub struct FrameReader<R> {
 pub type FrameResult<A = Global> = Result<Option<Block<A>>>;
 
 impl<R: ReadBytes> FrameReader<R> {
-    ghost use Rattle.claxon_frame.specs.BlockInfo.{HasBlockBounds, HeaderElseIoError, HeaderEofIsNone, HeaderFailureIsErr, HeaderFaultIsComplete, HeaderFaultIsSound, HeaderIsComplete, HeaderIsRead, HeaderIsSound, HeaderIsUnambiguous, HeaderLeavesRest, HeaderNeverOutOfMemory, HeaderNoneIsEof};
+    ghost use Rattle.claxon_frame.specs.BlockInfo.{HasBlockBounds, HeaderElseIoError, HeaderEofIsNone, HeaderFailureIsErr, HeaderFaultIsComplete, HeaderFaultIsSound, HeaderIsComplete, HeaderIsRead, HeaderIsSound, HeaderIsUnambiguous, HeaderLeavesRest, HeaderNoneIsEof};
+    ghost use Rattle.claxon_subframe.specs.Decode.{NeverOutOfMemory};
     ghost use Rattle.claxon_frame.specs.FrameReader.{BlockHasSamples, BlockKeepsCapacity, FrameFaultIsComplete, FrameIsComplete, FailureIsErr, FrameFaultIsSound, FrameIsRead, FrameIsUnambiguous, FrameLeavesRest, FrameIsSound, FrameElseIoError, FrameNoneIsEof, PlansHaveBytes, PlansWriteFrames, FrameOutOfMemoryAfterHeader, MaxCapacityIsEnough, FrameEofIsNone, frame_input, frame_stream, stream_with};
 
     /// A reader that knows nothing of the stream: each frame header has to give the bit depth.
@@ -142,7 +143,7 @@ impl<R: ReadBytes> FrameReader<R> {
         ensures named { HeaderFaultIsComplete R.source self.old result self.new }
         ensures io { HeaderElseIoError R.source self.old result self.new }
         ensures front { HeaderLeavesRest R.source self.old result self.new }
-        ensures no_memory { HeaderNeverOutOfMemory result }
+        ensures no_memory { NeverOutOfMemory result }
         ensures gives { HeaderIsRead R.source self.old result self.new }
     {
         read_block_info_or_eof(&mut self.input, self.stream)
