@@ -169,13 +169,7 @@ fn shift_two_lanes(before: i32x4, lanes: i32x4) -> i32x4
 
 // The pending sums of four samples, after two more samples. Where no coefficient reaches these four, all is zero.
 #[inline(always)]
-fn advance_lanes(
-    has_taps: bool,
-    before: i32x4,
-    sums: i32x4,
-    taps: i16x8,
-    pair: i16x8,
-) -> i32x4
+fn advance_lanes(has_taps: bool, before: i32x4, sums: i32x4, taps: i16x8, pair: i16x8) -> i32x4
     requires before { LanesFit32 before }
     requires sums { LanesFit32 sums }
     requires taps { LanesFit16 taps }
@@ -273,11 +267,7 @@ fn widened(lanes: i32x4) -> i64x4
 
 // The samples after the first 4 * VECTORS + 4, while they fit 16 bits. Returns how many stand at the front then.
 #[inline(never)]
-fn predict_pairs<const VECTORS: usize>(
-    padded: &[i16; 32],
-    shift: u32,
-    buffer: &mut [i32],
-) -> usize
+fn predict_pairs<const VECTORS: usize>(padded: &[i16; 32], shift: u32, buffer: &mut [i32]) -> usize
     requires vectors { VECTORS ≤ 7 }
     requires some { 2 ≤ VECTORS }
     requires shift { shift ≤ 15 }
