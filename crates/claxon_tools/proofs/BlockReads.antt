@@ -1,7 +1,7 @@
 -- A call that reads a block.
 use Rattle.std.specs.Borrow.{MutBor}
-use Rattle.std.proofs.Common.{◌≡◌, ◌⊎◌, ◌<◌, ℕ, true, List, [], ◌∷◌, length, inl, inr, refl, sym, arith, subst, ◌∙◌}
-use Rattle.std.proofs.lemmas.Bool.Decides.{eqb_tells}
+use Rattle.std.proofs.Common.{◌≡◌, ◌⊎◌, ◌<◌, ℕ, true, List, [], ◌∷◌, length, inl, inr, refl, sym, arith, subst, ◌∙◌, Bool, eqb, false}
+use Rattle.std.proofs.lemmas.Bool.{eqb-false, eqb-true}
 use Rattle.std.specs.Prelude.{IfErr, IfOk, Option, None, Some, Result, Ok, Err}
 use Rattle.claxon.specs.Error.{IsFault, IsIo}
 use Rattle.claxon.specs.Errors.{Error}
@@ -20,17 +20,13 @@ use Rattle.claxon_tools.specs.Verify.{BlockIsRead, IfConsumed, IsNotWhole}
 
 -- whether the source failed
 pub decide_failed : {X : Type 0} (a b : State X) → FailedIn a b ⊎ (FailedIn a b → ⊥)
-decide_failed a b = elim (eqb_tells b.source.errors a.source.errors) [
-  | inr p ↦ inl (inl p.1)
-  | inl p ↦ elim (eqb_tells b.source.empty_reads a.source.empty_reads) [
-    | inl q ↦ inr (λ f. elim f [ inl n ↦ n p.1 | inr n ↦ n.0 q.1 ])
-    | inr q ↦ go (source_bytes b) refl p.1 q.1
-  ]
-]
+decide_failed a b = go (eqb b.source.errors a.source.errors) (eqb b.source.empty_reads a.source.empty_reads) (source_bytes b) refl refl refl
   where
-    go : (l : List ℕ) → source_bytes b ≡ l → b.source.errors ≡ a.source.errors → (b.source.empty_reads ≡ a.source.empty_reads → ⊥) → FailedIn a b ⊎ (FailedIn a b → ⊥)
-    go [] e p q = inr (λ f. elim f [ inl n ↦ n p | inr n ↦ n.1 e ])
-    go (x ∷ l) e p q = inl (inr (q, λ z. let k : x ∷ l ≡ [] = sym e ∙ z in cc))
+    go : (x y : Bool) (l : List ℕ) → eqb b.source.errors a.source.errors ≡ x → eqb b.source.empty_reads a.source.empty_reads ≡ y → source_bytes b ≡ l → FailedIn a b ⊎ (FailedIn a b → ⊥)
+    go false y l e f g = inl (inl (eqb-false b.source.errors a.source.errors e))
+    go true true l e f g = inr (λ z. elim z [ inl n ↦ n (eqb-true b.source.errors a.source.errors e) | inr n ↦ n.0 (eqb-true b.source.empty_reads a.source.empty_reads f) ])
+    go true false [] e f g = inr (λ z. elim z [ inl n ↦ n (eqb-true b.source.errors a.source.errors e) | inr n ↦ n.1 g ])
+    go true false (x ∷ l) e f g = inl (inr (eqb-false b.source.empty_reads a.source.empty_reads f, λ z. let k : x ∷ l ≡ [] = sym g ∙ z in cc))
 
 -- an `IoError` isn't `OutOfMemory`
 pub io_not_memory : {A : Type 0} (e : Error) → IsIo e → (let r : Result A Error = Err e in r) ≡ Err OutOfMemory → ⊥

@@ -82,11 +82,11 @@ not_cut failed stream true rest h e = absurd (omega (arith, e))
 
 right_stream : {failed : Type 0} (s : List ℕ) (report : Report) → IsVerified failed s report → IsTrue report.is_right → IsRightStream s
 right_stream {failed = failed} s report v is_right =
-    let told = v.right.0 is_right in
+    let answer = v.right.0 is_right in
     let c = v.counted in
     let stream : Option StreamFormat = Some (stream_of v.head.info) in
-    let k = frames_of_parts stream c.parts v.frames c.rest c.parts_are (omega (arith, c.counts.faults, told.0)) in
-    let few = not_cut failed stream c.is_cut c.rest c.ends (omega (arith, c.counts.faults, told.0)) in
+    let k = frames_of_parts stream c.parts v.frames c.rest c.parts_are (omega (arith, c.counts.faults, answer.0)) in
+    let few = not_cut failed stream c.is_cut c.rest c.ends (omega (arith, c.counts.faults, answer.0)) in
     record {
       head = v.head;
       blocks = k.0;
@@ -100,7 +100,7 @@ right_stream {failed = failed} s report v is_right =
         complete = short_no_frame stream c.rest few;
       };
       few = few;
-      total = elim told.1 [ inl n ↦ inl n | inr n ↦ inr (n ∙ c.counts.samples ∙ k.2) ];
+      total = elim answer.1 [ inl n ↦ inl n | inr n ↦ inr (n ∙ c.counts.samples ∙ k.2) ];
     }
 
 right_report : (s : List ℕ) → IsRightStream s → Report
@@ -142,8 +142,8 @@ unfolding right_report
 right_complete a result b h = λ known r few short.
     elim (h (right_report a.remaining r) known (right_verified a.remaining r) (few, omega (arith, short))) [ inl p ↦ inl (is_right (right_report a.remaining r) result p refl) | inr x ↦ inr x ]
   where
-    is_right : (other : Report) (q : Result Report Error) → IsOkAnd q (λ told. SameReport told other) → other.is_right ≡ true → IsOkAnd q (λ told. IsTrue told.is_right)
-    is_right other (Ok told) p e = p.is_right ∙ e
+    is_right : (other : Report) (q : Result Report Error) → IsOkAnd q (λ answer. SameReport answer other) → other.is_right ≡ true → IsOkAnd q (λ answer. IsTrue answer.is_right)
+    is_right other (Ok answer) p e = p.is_right ∙ e
     is_right other (Err e) p t = p
 
 -- two answers of one meaning are equal

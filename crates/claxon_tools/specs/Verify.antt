@@ -106,7 +106,7 @@ pub record IsFirst (failed : Type 0) (stream : Option StreamFormat) (start : ℕ
   pub samples_are : first.samples ≡ sum_by part_samples before
   pub fault : IsFaultAt failed stream left first.error
 
--- It is told where there are faults.
+-- There is one where there are faults.
 abbrev pub FirstIs : Type 0 → Option StreamFormat → ℕ → List ℕ → ℕ → Option FirstFault → Type 0
 FirstIs failed stream start s faults None = faults ≡ 0
 FirstIs failed stream start s faults (Some first) =
@@ -252,16 +252,23 @@ abbrev pub CountsParts : Option StreamFormat → ℕ → State ℕ → State ℕ
 CountsParts stream start old new found =
     RemainingIsKnown old → Counted (FailedIn old new) stream start old.remaining found
 
+-- s begins with parts, and then such bytes.
+abbrev pub BeginsWithParts : Option StreamFormat → List ℕ → (List Part → List ℕ → Type 0) → Type 0
+BeginsWithParts stream s P =
+    (parts : List Part) × (left : List ℕ) × Parts stream s parts left × P parts left
+
 -- The error is `OutOfMemory` after parts and the header of a frame, or says that more parts remain than can be counted, and so
 -- it is.
 abbrev pub StopsCounting : Option StreamFormat → State ℕ → Error → Type 0
 StopsCounting stream old e =
-    ((e ≡ OutOfMemory) × (RemainingIsKnown old → (parts : List Part) × (m : List ℕ) × Parts stream old.remaining parts m × BeginsWith (HeaderOfLargerBlock stream 0) m))
-    ⊎ (IsTooMany e × (RemainingIsKnown old → (parts : List Part) × (m : List ℕ) × Parts stream old.remaining parts m × AreTooMany parts))
+    ((e ≡ OutOfMemory) × (RemainingIsKnown old → BeginsWithParts stream old.remaining
+    (λ parts left. BeginsWith (HeaderOfLargerBlock stream 0) left)))
+    ⊎ (IsTooMany e × (RemainingIsKnown old → BeginsWithParts stream old.remaining
+    (λ parts left. AreTooMany parts)))
 
 -- ---- the contract of the call
 
--- Both tell a first fault at the same place, or none.
+-- Both have a first fault at the same place, or none.
 abbrev pub SameFirst : Option FirstFault → Option FirstFault → Type 0
 SameFirst None None = Unit {0}
 SameFirst (Some a) (Some b) = (a.byte ≡ b.byte) × (a.samples ≡ b.samples)
@@ -291,7 +298,7 @@ module _ (old : State ℕ) (result : Result Report Error) (new : State ℕ) wher
   abbrev pub VerifyIsComplete : Type 0
   VerifyIsComplete =
       (report : Report) → RemainingIsKnown old → IsVerified ⊥ old.remaining report
-      → CanBeCounted report.found → IsOkAnd result (λ told. SameReport told report) ⊎ IsExcused
+      → CanBeCounted report.found → IsOkAnd result (λ answer. SameReport answer report) ⊎ IsExcused
 
   -- `is_right` is true only of a head and frames without a fault, with the right number of samples.
   abbrev pub RightIsSound : Type 0

@@ -79,8 +79,8 @@ impl RunningCrc for Position {
     }
 }
 
-/// Decodes all frames of a stream, and goes on after each fault but an `IoError`. If `shows_progress` is true and the streaminfo
-/// says how many samples there are, a line with the percentage is written to `errors`; failed writes are ignored.
+/// Decodes all frames of a stream, and goes on after each fault but an `IoError`. If `shows_progress` is true and the
+/// streaminfo says how many samples there are, a line with the percentage is written to `errors`; failed writes are ignored.
 ///
 /// Fewer than two bytes after the last frame are ignored. No MD5 sum is computed.
 ///
