@@ -1,5 +1,5 @@
 -- Samples of which some stand already at the front.
-use Rattle.std.proofs.Common.{◌≡◌, ℕ, ◌+◌, ◌-◌, ◌≤◌, List, [], ◌∷◌, ◌++◌, length, take, drop, reverse, replicate, append_assoc, refl, sym, ap, ◌∙◌, arith, ℤ, pos, ◌+ℤ◌}
+use Rattle.std.proofs.Common.{◌≡◌, ℕ, ◌-◌, ◌≤◌, List, [], ◌∷◌, ◌++◌, length, take, drop, reverse, replicate, append_assoc, refl, sym, ap, ◌∙◌, arith, ℤ, pos, ◌+ℤ◌}
 use Rattle.std.proofs.lemmas.List.{append-nil, drop_all, drop-drop, length-drop, length-reverse, length-take, take_all, reverse-append, reverse-reverse}
 use borrow.Rule.Slice.PartMut.{put_mid}
 use Rattle.claxon_format.specs.Predict.{wrap, floor_shift, linear}

@@ -1,5 +1,5 @@
 -- Pending sums in lanes of 32 bits, for samples of 16 bits.
-use Rattle.std.specs.Prelude.{◌≡◌, ℕ, ◌+◌, ◌^◌, ◌<◌, ℤ, pos, ◌+ℤ◌, ◌*ℤ◌, FitsSigned, List, [], ◌∷◌, ◌++◌, length, map, take, drop, reverse, replicate}
+use Rattle.std.specs.Prelude.{◌≡◌, ℕ, ◌+◌, ◌^◌, ◌<◌, ℤ, pos, ◌+ℤ◌, ◌*ℤ◌, FitsSigned, List, [], ◌∷◌, ◌++◌, length, take, drop, reverse, replicate}
 use Rattle.std.specs.Int.{int_wrap, w16, w32}
 use Rattle.std.specs.Int.RustNames.{unsigned_abs}
 use Rattle.claxon_subframe.specs.PendingSums.{ArePendingSums, FitVectors, four_taps}

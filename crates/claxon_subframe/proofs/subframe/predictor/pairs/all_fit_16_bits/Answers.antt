@@ -1,4 +1,4 @@
-use Rattle.std.proofs.Common.{◌∙◌, get_or, pos, refl, rules, arith, subst, sym, FitsSigned, w16, w32}
+use Rattle.std.proofs.Common.{◌∙◌, get_or, pos, refl, rules, subst, sym, FitsSigned, w16, w32}
 use Rattle.std.proofs.lemmas.List.{take_all}
 use Rattle.claxon_subframe.specs.Pairs.{Fit16}
 use Rattle.claxon_subframe.proofs.Pairs.{fit_at, fit_more}

@@ -1,4 +1,4 @@
-use Rattle.std.proofs.Common.{◌≡◌, ℕ, ◌+◌, ◌-◌, ◌*◌, ◌%◌, ◌∙◌, List, ℤ, length, get_or, take, drop, reverse, pos, refl, sym, ap, subst, rules, arith, FitsSigned, w16, w32}
+use Rattle.std.proofs.Common.{◌≡◌, ℕ, ◌+◌, ◌-◌, ◌*◌, ◌%◌, ◌∙◌, List, ℤ, length, get_or, take, reverse, pos, refl, sym, ap, subst, rules, arith, FitsSigned, w16, w32}
 use Rattle.std.proofs.lemmas.Int.{to_z-of_z}
 use Rattle.std.proofs.lemmas.List.{length-set}
 use Rattle.claxon_format.specs.Predict.{linear}

@@ -1,4 +1,4 @@
-use Rattle.std.proofs.Common.{◌≡◌, ◌∙◌, ap, get_or, pos, rules, arith, length, FitsSigned, w16, unsigned_abs}
+use Rattle.std.proofs.Common.{◌∙◌, ap, get_or, pos, rules, arith, FitsSigned, w16, unsigned_abs}
 use Rattle.std.proofs.lemmas.Int.{to_z-of_z}
 use Rattle.claxon_subframe.specs.Pairs.{magnitude}
 use Rattle.claxon_subframe.proofs.Pairs.{magnitude_more, magnitude_all}
