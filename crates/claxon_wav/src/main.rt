@@ -6,9 +6,8 @@ use std::io::IsTerminal;
 use std::process::ExitCode;
 
 fn main(rt: HostRuntime) -> ExitCode {
-    let mut errors = rt.stderr();
-    let shows_progress = errors.is_terminal();
-    PROGRAM.run(&rt, &mut errors, |words, errors| {
+    PROGRAM.run(&rt, &mut rt.stderr(), |words, errors| {
+        let shows_progress = rt.stderr().is_terminal();
         command(&rt, words, rt.stdin(), rt.stdout(), shows_progress, errors)
     })
 }
