@@ -31,8 +31,8 @@ pub const PROGRAM: Program = Program {
   --help     shows this text
   --version  shows the version
 
-Samples before a fault are written too. Another number of samples than the
-streaminfo tells is a fault.
+Samples before a fault are written too. Another number of samples than in the
+streaminfo is a fault.
 
 Status: 0 if all was converted, 1 if not, 2 for other arguments.
 ",
@@ -269,8 +269,8 @@ fn status_of<E: Write>(
 ) -> u8 {
     match outcome {
         Ok(found) => match info.samples {
-            Some(told) if told != u64::from(found) => {
-                let text = format!(in alloc; "the head tells {told} samples, {found} were found");
+            Some(known) if known != u64::from(found) => {
+                let text = format!(in alloc; "the head tells {known} samples, {found} were found");
                 report_text(alloc, job.from, Part::Head, text, errors);
                 1
             }
