@@ -1,16 +1,14 @@
 -- What a call returns for the frame at a position.
-use Rattle.std.proofs.Common.{◌≡◌, ◌⊎◌, inl, inr, ℕ, ℤ, ◌+◌, ◌-◌, ◌*◌, ◌<◌, ◌≤◌, List, ◌++◌, length, take, drop, min, Option, None, Some, refl, sym, ap, subst, ◌∙◌, arith}
-use Rattle.std.specs.Prelude.{Result, Ok, Err, ◌≢◌}
+use Rattle.std.proofs.Common.{◌≡◌, inl, inr, ℕ, ℤ, ◌+◌, ◌-◌, ◌*◌, ◌<◌, List, length, take, drop, min, Option, None, Some, refl, sym, ap, subst, ◌∙◌, arith}
+use Rattle.std.specs.Prelude.{Ok, Err}
 use Rattle.std.proofs.lemmas.List.{drop_all, length-drop, take_all}
 use Rattle.std.proofs.lemmas.Bool.{cases_lt}
 use Rattle.claxon.specs.Fault.{Fault}
 use Rattle.claxon.specs.Frame.{StreamFormat, Block, Frame, FrameBytesFault}
-use Rattle.claxon.specs.Streams.{duration}
-use Rattle.claxon.specs.Errors.{Error}
 use Rattle.claxon.specs.Block.{BlockValue}
 use Rattle.claxon.specs.BlockInfo.{HeaderBytesFault, HeaderOf}
 use Rattle.claxon.specs.BlockInfos.{BlockInfo}
-use Rattle.claxon.specs.FrameReader.{FrameAnswer, HeaderOfLargerBlock, block_view}
+use Rattle.claxon.specs.FrameReader.{FrameAnswer, block_view}
 use Rattle.claxon.specs.Prefix.{BeginsWith}
 use Rattle.claxon.proofs.BlockInfo.{header_has_two_bytes, headers_unambiguous}
 use Rattle.claxon.proofs.FrameHeaders.{SaysBlock, frame_has_header, header_fault_is_frames}
@@ -19,8 +17,8 @@ use Rattle.claxon_c.specs.declared.heads.ClaxonInfo.{ClaxonInfo}
 use Rattle.claxon_c.specs.declared.next_block.ClaxonBlock.{ClaxonBlock}
 use Rattle.claxon_c.specs.AtStart.{FrameAtStart, LargerBlockAtStart}
 use Rattle.claxon_c.specs.Info.{known_stream}
-use Rattle.claxon_c.specs.NextBlock.{BlockIsKept, CBlockElseIoError, CBlockFaultIsComplete, CBlockFaultIsSound, CBlockIsComplete, CBlockIsShown, CBlockIsSound, CBlockNoMoreIffEof, CBlockOutOfMemoryAfterHeader, CFrameHeaderFaultIsComplete, CHeaderIsShown, CSamplesAreGiven, CShortIffLarger, IsAtEnd, IsBlockStatus, IsDecoded, IsLarger, IsRefused, IsShort, Layout, NextBlock, PositionIsKept, ShowsBlock, ShowsInfo, TextIsKept}
-use Rattle.claxon_c.specs.Status.{ErrorIsReported, FaultIsReported, IsFaultStatus, TextIsReported, buffer_short, no_more, ok, out_of_memory}
+use Rattle.claxon_c.specs.NextBlock.{BlockIsKept, CBlockElseIoError, CBlockFaultIsComplete, CBlockFaultIsSound, CBlockIsComplete, CBlockIsShown, CBlockIsSound, CBlockNoMoreIffEof, CBlockOutOfMemoryAfterHeader, CFrameHeaderFaultIsComplete, CHeaderIsShown, CSamplesAreGiven, CShortIffLarger, IsAtEnd, IsBlockStatus, IsDecoded, IsRefused, IsShort, Layout, NextBlock, PositionIsKept, ShowsBlock, ShowsInfo, TextIsKept}
+use Rattle.claxon_c.specs.Status.{TextIsReported, ok}
 use Rattle.claxon_c.proofs.HeadersAtStart.{larger_says, says_larger}
 use Rattle.claxon_c.proofs.Reports.{each_fault_reported, io_error_reported, fault_reported, just_error, error_out_of_memory, out_of_memory_reported, text_reported}
 

@@ -1,5 +1,3 @@
-use Rattle.std.proofs.Common.{rules}
-use Rattle.std.specs.Prelude.{Ok, Err}
 use Rattle.claxon_c.specs.NextBlock.{PlanarArePut}
 use Rattle.claxon_c.proofs.BlockCalls.{given, not_given}
 use Rattle.claxon_c.proofs.next_block.claxon_next_block_planar.Goals as goal

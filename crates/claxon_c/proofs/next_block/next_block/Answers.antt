@@ -1,9 +1,7 @@
-use Rattle.std.proofs.Common.{◌≡◌, ◌-◌, inl, inr, refl, take, drop, length, min, rules, Option, None, Some, subst}
+use Rattle.std.proofs.Common.{◌≡◌, inl, inr, refl, length, min, rules, None, Some}
 use Rattle.std.specs.Prelude.{Ok}
 use Rattle.std.specs.Option.{option_map}
-use Rattle.claxon.specs.BlockInfos.{BlockInfo}
-use Rattle.claxon.specs.FrameReader.{FrameAnswer, stream_with}
-use Rattle.claxon_c.specs.AtStart.{FrameAtStart, LargerBlockAtStart}
+use Rattle.claxon.specs.FrameReader.{stream_with}
 use Rattle.claxon_c.specs.Info.{known_stream}
 use Rattle.claxon_c.proofs.BlockCalls.{at_position, decoded_there, larger_there}
 use Rattle.claxon_c.proofs.next_block.next_block.Goals as goal

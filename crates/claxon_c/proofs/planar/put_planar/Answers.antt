@@ -1,6 +1,5 @@
-use Rattle.std.proofs.Common.{◌≡◌, ◌*◌, ◌≤◌, length, arith, ap, ◌∙◌, rules}
+use Rattle.std.proofs.Common.{◌≡◌, ◌*◌, ◌≤◌, length, ap, ◌∙◌, rules}
 use Rattle.std.proofs.lemmas.List.{length-take-le}
-use Rattle.claxon.specs.Block.{joined}
 use Rattle.claxon_c.proofs.PlanarSamples.{length-joined}
 use Rattle.claxon_c.proofs.planar.put_planar.Goals as goal
 
