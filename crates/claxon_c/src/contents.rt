@@ -84,7 +84,7 @@ fn read_streaminfo(alloc: Global, content: &[u8]) -> Result<StreamInfo>
     ensures bounds { IfOk result (λ found. HasBounds found) }
     ensures value { BodyIsRead (λ found. Info (info_view found)) streaminfo_type content.now result }
 {
-    let block = read_content(alloc, STREAMINFO, content)?;
+    let block = read_body(alloc, STREAMINFO, content)?;
     if let MetadataBlock::StreamInfo(found) = block {
         return Ok(found);
     }
@@ -94,7 +94,7 @@ fn read_streaminfo(alloc: Global, content: &[u8]) -> Result<StreamInfo>
 fn read_comment(alloc: Global, content: &[u8]) -> Result<VorbisComment>
     ensures { BodyIsRead (λ found. Comments (comment_view found)) comment_type content.now result }
 {
-    let block = read_content(alloc, VORBIS_COMMENT, content)?;
+    let block = read_body(alloc, VORBIS_COMMENT, content)?;
     if let MetadataBlock::VorbisComment(found) = block {
         return Ok(found);
     }
@@ -102,7 +102,7 @@ fn read_comment(alloc: Global, content: &[u8]) -> Result<VorbisComment>
 }
 
 // The content of a block of one of these two types.
-fn read_content(alloc: Global, block_type: u8, content: &[u8]) -> Result<MetadataBlock>
+fn read_body(alloc: Global, block_type: u8, content: &[u8]) -> Result<MetadataBlock>
     requires { (block_type ≡ streaminfo_type) ⊎ (block_type ≡ comment_type) }
     ensures bounds { ResultHasBounds result }
     ensures value { BodyIsRead content_view block_type content.now result }

@@ -1,7 +1,7 @@
 use Rattle.std.proofs.Common.{Global, rules, ◌≡◌, length, min}
 use Rattle.claxon.specs.MetadataBlock.{content_view}
 use Rattle.claxon_c.proofs.BlockContents.{body_is_read, like_least}
-use Rattle.claxon_c.proofs.contents.read_content.Goals as goal
+use Rattle.claxon_c.proofs.contents.read_body.Goals as goal
 
 pub returns-clause-value : goal.returns-clause-value
 returns-clause-value c =
