@@ -42,7 +42,7 @@ where
 {
     match Names::parse(words) {
         Ok(names) => verify_files(rt, names, input, shows_progress, output, errors),
-        Err(notice) => PROGRAM.print(notice, output, errors),
+        Err(notice) => PROGRAM.print(rt.alloc(), notice, output, errors),
     }
 }
 
