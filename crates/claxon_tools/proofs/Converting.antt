@@ -254,7 +254,7 @@ converted_to_stream contents remaining flac frames (Ok done) old put new input s
     record {
       blocks = puts.blocks;
       all = λ known. (
-          let k = puts.all (here.1 ∙ known) in
+          let k = puts.all (here.1 known) in
           (k.0, subst (λ (s : Option StreamFormat). Frames s (flac_bytes remaining flac).remaining puts.blocks k.0) stream (subst (λ (s : List ℕ). Frames (frame_stream frames) s puts.blocks k.0) here.0 k.1), k.2)
           );
       put = put;
