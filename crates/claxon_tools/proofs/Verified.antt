@@ -333,7 +333,7 @@ module _ {a m : State ℕ} (b : State ℕ) {head : Head} {stream : Option Stream
 -- ---- through the reader that counts bytes
 
 module _ {R : Type 0} (source : R → Source ℕ) (input : MutBor R) (x y : CrcReader (MutBor R) Position) (at : crc_inner x ≡ input) where
-  pub same_input : (counted_bytes (lent source) y).loans ≡ (counted_bytes (lent source) x).loans → input.ghost_name ≡ (crc_inner y).ghost_name
+  pub same_input : (counted_bytes (lent source) y).source.loans ≡ (counted_bytes (lent source) x).source.loans → input.ghost_name ≡ (crc_inner y).ghost_name
   unfolding bytes_in
   same_input loans =
       let k : (crc_inner y).ghost_name ∷ (source (crc_inner y).now).loans ≡ (crc_inner x).ghost_name ∷ (source (crc_inner x).now).loans = loans in

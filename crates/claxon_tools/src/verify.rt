@@ -135,8 +135,8 @@ fn verify_counted<R: ReadBytes, A: Allocator + Copy, E: Write>(
     requires { position_of input.old ≡ 0 }
     ensures promises { VerifyPromises (counted_bytes R.source input.old) result
         (counted_bytes R.source input.new) }
-    ensures loans { (counted_bytes R.source input.new).loans
-        ≡ (counted_bytes R.source input.old).loans }
+    ensures loans { (counted_bytes R.source input.new).source.loans
+        ≡ (counted_bytes R.source input.old).source.loans }
 {
     let options = FlacReaderOptions {
         metadata_only: false,
@@ -178,8 +178,8 @@ fn count_parts<R: ReadBytes, A: Allocator + Copy, E: Write>(
         (counted_bytes R.source input.old) (counted_bytes R.source input.new)) }
     ensures err { IfErr result (StopsCounting (Some (stream_with info))
         (counted_bytes R.source input.old)) }
-    ensures loans { (counted_bytes R.source input.new).loans
-        ≡ (counted_bytes R.source input.old).loans }
+    ensures loans { (counted_bytes R.source input.new).source.loans
+        ≡ (counted_bytes R.source input.old).source.loans }
 {
     let mut found = Found {
         frames: 0,
