@@ -120,10 +120,10 @@ streaminfo_is_whole i content (t, rest, (len, (k, code, same)), e) =
 pub streaminfo_begins : (i : Streaminfo) (content : List ℕ) → StreaminfoCode i content → BeginsWith (Body streaminfo_type (length content) (Info i)) content
 streaminfo_begins i content code = all_of_it (Body streaminfo_type (length content) (Info i)) content (streaminfo_length i content code, (i, code, refl))
 
-pub shows_streaminfo : (found : StreamInfo) (info : ClaxonInfo) → InfoShows found 0 0 info → HasBounds found → ShowsStreaminfo (info_view found) info
-shows_streaminfo found info shows bounds = record {
-  first_frame = shows.first_frame_is;
-  tags = shows.tags_are;
+pub shows_streaminfo : (found : StreamInfo) (info : ClaxonInfo) (tags first : ℕ) → InfoShows found tags first info → tags ≡ 0 → first ≡ 0 → HasBounds found → ShowsStreaminfo (info_view found) info
+shows_streaminfo found info tags first shows none start bounds = record {
+  first_frame = shows.first_frame_is ∙ start;
+  tags = shows.tags_are ∙ none;
   samples = shows.samples;
   rate = shows.rate;
   channels = shows.channels;
@@ -133,7 +133,7 @@ shows_streaminfo found info shows bounds = record {
   min_frame_size = shows.min_frame_size;
   max_frame_size = shows.max_frame_size;
   md5 = shows.md5;
-  stream = known found info 0 0 shows bounds;
+  stream = known found info tags first shows bounds;
 }
 
 -- it needs no memory

@@ -1,4 +1,4 @@
-use Rattle.std.proofs.Common.{inl, inr, refl, ◌≡◌}
+use Rattle.std.proofs.Common.{arith, inl, inr, refl, ◌≡◌}
 use Rattle.claxon.specs.MetadataBlocks.{Info}
 use Rattle.claxon_c.specs.Contents.{streaminfo_type}
 use Rattle.claxon_c.specs.Status.{out_of_memory}
@@ -12,7 +12,7 @@ returns-in-Ok c =
     let found = c.in-Ok.found in
     let old = c.args.error.now in
     let h = c.in-Ok.ensures.value in
-    let shows = shows_streaminfo found c.new.result c.new.ensures c.in-Ok.ensures.bounds in
+    let shows = shows_streaminfo found c.new.result _ _ c.new.ensures (omega arith) (omega arith) c.in-Ok.ensures.bounds in
     record {
       sound = streaminfo_sound content found c.new.result h shows;
       complete = streaminfo_complete content found c.new.result h shows;

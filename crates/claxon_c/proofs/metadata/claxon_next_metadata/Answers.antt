@@ -13,9 +13,9 @@ returns-then-saturating_sub-lt-HEADER_LENGTH-clause-complete c h begins =
 pub returns-clause-sound : goal.returns-clause-sound
 returns-clause-sound c =
     let n = c.header_at-header.result in
-    metadata_sound c.args.bytes.now c.args.at.now n _ (search rules) c.header_at-header.ensures refl refl refl refl
+    metadata_sound c.args.bytes.now c.args.at.now n _ (search rules) c.header_at-header.ensures (omega arith) (omega arith) (omega arith) (omega arith)
 
 pub returns-clause-complete : goal.returns-clause-complete
 returns-clause-complete c =
     let n = c.header_at-header.result in
-    metadata_complete c.args.bytes.now c.args.at.now n _ (search rules) c.header_at-header.ensures refl refl refl refl
+    metadata_complete c.args.bytes.now c.args.at.now n _ (search rules) c.header_at-header.ensures (omega arith) (omega arith) (omega arith) (omega arith)

@@ -1,4 +1,4 @@
-use Rattle.std.proofs.Common.{◌≡◌, ◌≤◌, ◌+◌, ◌-◌, None, Some, refl, rules, subst}
+use Rattle.std.proofs.Common.{arith, ◌≡◌, ◌≤◌, ◌+◌, ◌-◌, None, Some, refl, rules, subst}
 use Rattle.claxon_c.specs.TagReader.{IsTagOf, tag_at}
 use Rattle.claxon_c.proofs.TagCalls.{faulty_complete, faulty_in_order, faulty_named, faulty_no_more, faulty_sound, found_complete, found_in_order, found_named, found_no_more, found_sound, none_complete, none_in_order, none_named, none_no_more, value_inside}
 use Rattle.claxon_c.proofs.tags.claxon_next_tag.Goals as goal
@@ -32,24 +32,24 @@ returns-in-Ok-Some-clause-sound c =
     let tag = c.in-Ok-Some.tag in
     let is : c.in-Ok-Some.field-0 ≡ Some tag = search rules in
     let (e, rest, read, after, from, count) = subst (IsTagOf c.args.content.now (tag_at c.args.place.now c.args.content.now)) is c.in-Ok-Some.ensures in
-    let value_at = tag.name_at + tag.name_length + 1 in
-    found_sound c.args.place.now c.args.content.now e rest read tag.end tag.name_at tag.name_length value_at (tag.end - value_at) after from count refl refl
+    let inside : tag.name_at + tag.name_length + 1 ≤ tag.end = value_inside c.args.place.now c.args.content.now e rest tag.end tag.name_at tag.name_length read from count in
+    found_sound c.args.place.now c.args.content.now e rest read _ _ _ _ _ (omega (arith, after, inside)) (omega (arith, from, inside)) count (omega arith) (omega (arith, inside))
 
 pub returns-in-Ok-Some-clause-complete : goal.returns-in-Ok-Some-clause-complete
 returns-in-Ok-Some-clause-complete c =
     let tag = c.in-Ok-Some.tag in
     let is : c.in-Ok-Some.field-0 ≡ Some tag = search rules in
     let (e, rest, read, after, from, count) = subst (IsTagOf c.args.content.now (tag_at c.args.place.now c.args.content.now)) is c.in-Ok-Some.ensures in
-    let value_at = tag.name_at + tag.name_length + 1 in
-    found_complete c.args.place.now c.args.content.now e rest read tag.end tag.name_at tag.name_length value_at (tag.end - value_at) after from count refl refl
+    let inside : tag.name_at + tag.name_length + 1 ≤ tag.end = value_inside c.args.place.now c.args.content.now e rest tag.end tag.name_at tag.name_length read from count in
+    found_complete c.args.place.now c.args.content.now e rest read _ _ _ _ _ (omega (arith, after, inside)) (omega (arith, from, inside)) count (omega arith) (omega (arith, inside))
 
 pub returns-in-Ok-Some-clause-in_order : goal.returns-in-Ok-Some-clause-in_order
 returns-in-Ok-Some-clause-in_order c =
     let tag = c.in-Ok-Some.tag in
     let is : c.in-Ok-Some.field-0 ≡ Some tag = search rules in
     let (e, rest, read, after, from, count) = subst (IsTagOf c.args.content.now (tag_at c.args.place.now c.args.content.now)) is c.in-Ok-Some.ensures in
-    let value_at = tag.name_at + tag.name_length + 1 in
-    found_in_order c.args.place.now c.args.content.now e rest read tag.end tag.name_at tag.name_length value_at (tag.end - value_at) after from count refl refl
+    let inside : tag.name_at + tag.name_length + 1 ≤ tag.end = value_inside c.args.place.now c.args.content.now e rest tag.end tag.name_at tag.name_length read from count in
+    found_in_order c.args.place.now c.args.content.now e rest read _ _ _ _ _ (omega (arith, after, inside)) (omega (arith, from, inside)) count (omega arith) (omega (arith, inside))
 
 pub returns-in-Ok-Some-clause-no_more : goal.returns-in-Ok-Some-clause-no_more
 returns-in-Ok-Some-clause-no_more c =
