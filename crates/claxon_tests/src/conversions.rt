@@ -173,11 +173,16 @@ const ROWS: [Row; 8] = [
     Row { words: &["other", "out", "-f"], name: "other", status: 1, text: "the head tells 1 samples, 5 were found", left: WHOLE },
 ];
 
+// The first bytes.
+fn front(bytes: &[u8], len: usize) -> &[u8] {
+    &bytes[..len.min(bytes.len())]
+}
+
 #[test]
 fn with_files(rt: HostRuntime) -> result::Result<(), Fail> {
     let stream = with_samples(5);
     put(&rt, "in", &stream)?;
-    put(&rt, "cut", &stream[..60])?;
+    put(&rt, "cut", front(&stream, 60))?;
     put(&rt, "other", &STREAM)?;
     put(&rt, "long", &long_stream())?;
     put(&rt, "out", b"old")?;

@@ -184,11 +184,16 @@ fn lines(rt: HostRuntime) -> Result<(), Fail> {
     Ok(())
 }
 
+// The first bytes.
+fn front(bytes: &[u8], len: usize) -> &[u8] {
+    &bytes[..len.min(bytes.len())]
+}
+
 // A right file, one that isn't there, and standard input with a wrong stream. Only the last writes fail.
 #[test]
 fn several_files(rt: HostRuntime) -> Result<(), Fail> {
     let (right, none) = (
-        file_of(&rt, "verify_right", &damaged([false; 2])[..53])?,
+        file_of(&rt, "verify_right", front(&damaged([false; 2]), 53))?,
         path_of(&rt, "verify_none")?,
     );
     let (right, none) = (right.as_str(), none.as_str());
@@ -213,7 +218,14 @@ fn lost_output(rt: HostRuntime) -> Result<(), Fail> {
     for (writes_left, fails_at_flush) in [(0, false), (9, true)] {
         let mut output = Sink::new(64, writes_left, fails_at_flush, ErrorKind::StorageFull);
         let mut errors: Vec<u8> = Vec::new(rt.alloc());
-        let status = command(&rt, &words, &bytes[..53], false, &mut output, &mut errors);
+        let status = command(
+            &rt,
+            &words,
+            front(&bytes, 53),
+            false,
+            &mut output,
+            &mut errors,
+        );
         let failure = io::Error::from(ErrorKind::StorageFull);
         let text = format!(in rt.alloc(); "standard output: {failure}\n")?;
         assert!(rt; status == 1 && errors.as_slice() == text.as_bytes());
