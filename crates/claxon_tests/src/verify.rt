@@ -210,12 +210,13 @@ fn several_files(rt: HostRuntime) -> Result<(), Fail> {
     Ok(())
 }
 
-// A write fails, or the flush: the second file isn't read.
+// A write fails, and the second file isn't read; or the flush.
 #[test]
 fn lost_output(rt: HostRuntime) -> Result<(), Fail> {
     let bytes = damaged([false; 2]);
-    let words = owned(rt.alloc(), &["-", "-"])?;
-    for (writes_left, fails_at_flush) in [(0, false), (9, true)] {
+    let rows: [(&[&str], u32, bool); 2] = [(&["-", "-"], 0, false), (&["--version"], 9, true)];
+    for (words, writes_left, fails_at_flush) in rows {
+        let words = owned(rt.alloc(), words)?;
         let mut output = Sink::new(64, writes_left, fails_at_flush, ErrorKind::StorageFull);
         let mut errors: Vec<u8> = Vec::new(rt.alloc());
         let status = command(
