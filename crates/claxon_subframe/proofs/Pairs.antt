@@ -12,14 +12,14 @@ use lib.Lanes.{zip2}
 use Rattle.claxon_format.specs.Predict.{dot}
 use Rattle.claxon_format.proofs.WrappingArithmetic.{Represents, represents_add, represents_mul, represents_fits}
 use Rattle.claxon_subframe.specs.Lanes.{AllFit64, LanesFit64}
-use Rattle.claxon_subframe.specs.PendingSums.{but_newest_five, pending_at, four_pending, ArePendingSums, FitVectors, AreNewest}
+use Rattle.claxon_subframe.specs.PendingSums.{but_newest_four, but_newest_five, pending_at, four_pending, ArePendingSums, FitVectors, AreNewest}
 use Rattle.claxon_subframe.specs.Pairs.{AllFit16, Fit16, LanesFit16, AllFit32, LanesFit32, SumsFit32, magnitude, pair_of, plus_pairs, advanced_by_pair, pair_taps, ArePairTaps}
 use Rattle.claxon_subframe.specs.declared.subframe.predictor.NewestFive.{NewestFive}
 use Rattle.claxon_subframe.specs.declared.subframe.predictor.LaterLanes.{LaterLanes}
 use Rattle.claxon_subframe.specs.declared.subframe.predictor.PendingSums.{PendingSums}
 use Rattle.claxon_subframe.proofs.Predictors.{abs_16, abs_32, between, value_16, value_32}
 use Rattle.claxon_subframe.proofs.Lanes.{small_fits}
-use Rattle.claxon_subframe.proofs.PendingSums.{dot_one, four_same, four_pending_past_vectors, from_last, five_first, kept, taps_length}
+use Rattle.claxon_subframe.proofs.PendingSums.{dot_one, four_tap, five_tap, four_same, four_pending_past_vectors, from_last, five_first}
 
 -- ---- lanes as an operation gets them, and as it gives them
 
@@ -165,9 +165,9 @@ pending_is : (ks past : List ℤ) (j : ℕ) → magnitude ks < 65536 → Fit16 p
 pending_is ks past j small h = int_wrap_fits w64 _ (dot_fits_64 ks past j small h)
 
 -- the pending sum of a sample, after two more samples
-pending_pair : (ks past : List ℤ) (x y : ℤ) (j k m : ℕ) → magnitude ks < 65536 → Fit16 (y ∷ x ∷ past) → k ≡ j + 1 → m ≡ j + 2
+pending_pair_more : (ks past : List ℤ) (x y : ℤ) (j k m : ℕ) → magnitude ks < 65536 → Fit16 (y ∷ x ∷ past) → k ≡ j + 1 → m ≡ j + 2
     → int_wrap w32 (pending_at ks past m +ℤ (get_or ks k (pos 0) *ℤ x +ℤ get_or ks j (pos 0) *ℤ y)) ≡ pending_at ks (y ∷ x ∷ past) j
-pending_pair ks past x y j k m small h ek em =
+pending_pair_more ks past x y j k m small h ek em =
     let older : Fit16 past = record { each = h.each.1.1 } in
     let next : k + 1 ≡ m = omega arith in
     let one : dot (drop k ks) (x ∷ past) ≡ get_or ks k (pos 0) *ℤ x +ℤ dot (drop m ks) past
@@ -180,18 +180,35 @@ pending_pair ks past x y j k m small h ek em =
     ∙ regroup (dot (drop m ks) past) (get_or ks k (pos 0) *ℤ x) (get_or ks j (pos 0) *ℤ y) ∙ ap (λ (v : ℤ). get_or ks j (pos 0) *ℤ y +ℤ v) (sym one) ∙ sym two in
     ap (int_wrap w32) all ∙ int_wrap_fits w32 _ (dot_fits_32 ks (y ∷ x ∷ past) j small h) ∙ sym (pending_is ks (y ∷ x ∷ past) j small h)
 
-advanced_by_pair_at : (ks past : List ℤ) (x y : ℤ) (j : ℕ) → magnitude ks < 65536 → Fit16 (y ∷ x ∷ past)
+-- the same with products of the coefficients c and d
+pending_pair : (ks past : List ℤ) (x y c d : ℤ) (j k m : ℕ) → magnitude ks < 65536 → Fit16 (y ∷ x ∷ past) → k ≡ j + 1 → m ≡ j + 2 → c ≡ get_or ks k (pos 0) → d ≡ get_or ks j (pos 0)
+    → int_wrap w32 (pending_at ks past m +ℤ (c *ℤ x +ℤ d *ℤ y)) ≡ pending_at ks (y ∷ x ∷ past) j
+pending_pair ks past x y c d j k m small h ek em ec ed = rw (ec, ed) (pending_pair_more ks past x y j k m small h ek em)
+
+four_small : (ks : List ℤ) → magnitude ks < 65536 → magnitude (but_newest_four ks) < 65536
+four_small ks small = omega (arith, magnitude_drop 4 ks)
+
+five_small : (ks : List ℤ) → magnitude ks < 65536 → magnitude (but_newest_five ks) < 65536
+five_small ks small = omega (arith, magnitude_drop 5 ks)
+
+advanced_by_pair_at : (ks past : List ℤ) (x y : ℤ) (j : ℕ) → 4 ≤ j → magnitude ks < 65536 → Fit16 (y ∷ x ∷ past)
     → advanced_by_pair (four_pending ks past (j + 4)) (four_pending ks past j) (pair_taps ks j) (pair_of x y) ≡ four_pending ks (y ∷ x ∷ past) j
-advanced_by_pair_at ks past x y j small h =
-    four_same (pending_pair ks past x y (j + 3) (j + 1 + 3) (j + 4 + 1) small h (omega arith) (omega arith)) (pending_pair ks past x y (j + 2) (j + 1 + 2) (j + 4) small h (omega arith) (omega arith))
-    (pending_pair ks past x y (j + 1) (j + 1 + 1) (j + 3) small h (omega arith) (omega arith)) (pending_pair ks past x y j (j + 1) (j + 2) small h (omega arith) (omega arith))
+advanced_by_pair_at ks past x y j far small h =
+    let four = four_small ks small in
+    let five = five_small ks small in
+    four_same (pending_pair (but_newest_five ks) past x y _ _ (j + 3) (j + 1 + 3) (j + 4 + 1) five h (omega arith) (omega arith) (five_tap ks (j + 1 + 3) (omega arith)) (five_tap ks (j + 3) (omega arith)))
+    (pending_pair (but_newest_four ks) past x y _ _ (j + 2) (j + 1 + 2) (j + 4) four h (omega arith) (omega arith) (four_tap ks (j + 1 + 2) (omega arith)) (four_tap ks (j + 2) (omega arith)))
+    (pending_pair (but_newest_five ks) past x y _ _ (j + 1) (j + 1 + 1) (j + 3) five h (omega arith) (omega arith) (five_tap ks (j + 1 + 1) (omega arith)) (five_tap ks (j + 1) (omega arith)))
+    (pending_pair (but_newest_four ks) past x y _ _ j (j + 1) (j + 2) four h (omega arith) (omega arith) (four_tap ks (j + 1) (omega arith)) (four_tap ks j far))
 
 pending_fits_32 : (ks past : List ℤ) (j : ℕ) → magnitude ks < 65536 → Fit16 past → FitsSigned w32 (pending_at ks past j)
 pending_fits_32 ks past j small h = subst (FitsSigned w32) (sym (pending_is ks past j small h)) (dot_fits_32 ks past j small h)
 
 pub four_pending_fit_32 : (ks past : List ℤ) (j : ℕ) → magnitude ks < 65536 → Fit16 past → LanesFit32 (four_pending ks past j)
 four_pending_fit_32 ks past j small h =
-    record { four = refl; each = (pending_fits_32 ks past (j + 3) small h, (pending_fits_32 ks past (j + 2) small h, (pending_fits_32 ks past (j + 1) small h, (pending_fits_32 ks past j small h, tt)))) }
+    let four = λ (i : ℕ). pending_fits_32 (but_newest_four ks) past i (four_small ks small) h in
+    let five = λ (i : ℕ). pending_fits_32 (but_newest_five ks) past i (five_small ks small) h in
+    record { four = refl; each = (five (j + 3), (four (j + 2), (five (j + 1), (four j, tt)))) }
 
 pub pair_sums_fit_32 : {ks past : List ℤ} {sums : PendingSums (List ℤ)} → magnitude ks < 65536 → Fit16 past → ArePendingSums ks past sums → SumsFit32 sums
 pair_sums_fit_32 {ks} {past} {sums} small h w =
@@ -215,12 +232,12 @@ advanced_same {before} {b} {zs} {z} {cs} {c} {xs} {x} eb ez ec ex =
 
 -- a vector of pending sums, as a call computes it
 module _ (ks past : List ℤ) (x y : ℤ) (v : ℕ) (fit : FitVectors v ks) (small : magnitude ks < 65536) (h : Fit16 (y ∷ x ∷ past)) {w : List ℤ} (ew : w ≡ pair_of x y) where
-  pub later_pairs_advanced : (j : ℕ) (has : Bool) (b s t r : List ℤ) → (has ≡ false → 4 * v + 4 ≤ j) → (has ≡ true → r ≡ advanced_by_pair b s t w) → (has ≡ false → r ≡ replicate 4 (pos 0))
+  pub later_pairs_advanced : (j : ℕ) (has : Bool) (b s t r : List ℤ) → 4 ≤ j → (has ≡ false → 4 * v + 4 ≤ j) → (has ≡ true → r ≡ advanced_by_pair b s t w) → (has ≡ false → r ≡ replicate 4 (pos 0))
       → b ≡ four_pending ks past (j + 4) → s ≡ four_pending ks past j → t ≡ pair_taps ks j → as_lanes_32 r ≡ four_pending ks (y ∷ x ∷ past) j
-  later_pairs_advanced j true b s t r few e none eb es et =
-      let value : r ≡ four_pending ks (y ∷ x ∷ past) j = e refl ∙ advanced_same eb es et ew ∙ advanced_by_pair_at ks past x y j small h in
+  later_pairs_advanced j true b s t r far few e none eb es et =
+      let value : r ≡ four_pending ks (y ∷ x ∷ past) j = e refl ∙ advanced_same eb es et ew ∙ advanced_by_pair_at ks past x y j far small h in
       ap as_lanes_32 value ∙ same_fit_32 (four_pending_fit_32 ks (y ∷ x ∷ past) j small h)
-  later_pairs_advanced j false b s t r few e none eb es et =
+  later_pairs_advanced j false b s t r far few e none eb es et =
       let value : r ≡ four_pending ks (y ∷ x ∷ past) j = none refl ∙ four_pending_past_vectors ks (y ∷ x ∷ past) v j (few refl) fit in
       ap as_lanes_32 value ∙ same_fit_32 (four_pending_fit_32 ks (y ∷ x ∷ past) j small h)
 
@@ -272,7 +289,7 @@ abbrev pub tap_at : List ℤ → ℕ → ℤ
 tap_at ts j = to_z w16 (of_z w16 (get_or ts j (pos 0)))
 
 abbrev pub as_pair_taps : List ℤ → LaterLanes (List ℤ)
-as_pair_taps ts = record { at_4 = tap_at ts 23 ∷ tap_at ts 24 ∷ tap_at ts 24 ∷ tap_at ts 25 ∷ tap_at ts 25 ∷ tap_at ts 26 ∷ tap_at ts 26 ∷ pos 0 ∷ []; at_8 = tap_at ts 19 ∷ tap_at ts 20 ∷ tap_at ts 20 ∷ tap_at ts 21 ∷ tap_at ts 21 ∷ tap_at ts 22 ∷ tap_at ts 22 ∷ tap_at ts 23 ∷ []; at_12 = tap_at ts 15 ∷ tap_at ts 16 ∷ tap_at ts 16 ∷ tap_at ts 17 ∷ tap_at ts 17 ∷ tap_at ts 18 ∷ tap_at ts 18 ∷ tap_at ts 19 ∷ []; at_16 = tap_at ts 11 ∷ tap_at ts 12 ∷ tap_at ts 12 ∷ tap_at ts 13 ∷ tap_at ts 13 ∷ tap_at ts 14 ∷ tap_at ts 14 ∷ tap_at ts 15 ∷ []; at_20 = tap_at ts 7 ∷ tap_at ts 8 ∷ tap_at ts 8 ∷ tap_at ts 9 ∷ tap_at ts 9 ∷ tap_at ts 10 ∷ tap_at ts 10 ∷ tap_at ts 11 ∷ []; at_24 = tap_at ts 3 ∷ tap_at ts 4 ∷ tap_at ts 4 ∷ tap_at ts 5 ∷ tap_at ts 5 ∷ tap_at ts 6 ∷ tap_at ts 6 ∷ tap_at ts 7 ∷ []; at_28 = pos 0 ∷ tap_at ts 0 ∷ tap_at ts 0 ∷ tap_at ts 1 ∷ tap_at ts 1 ∷ tap_at ts 2 ∷ tap_at ts 2 ∷ tap_at ts 3 ∷ [] }
+as_pair_taps ts = record { at_4 = tap_at ts 23 ∷ tap_at ts 24 ∷ tap_at ts 24 ∷ tap_at ts 25 ∷ tap_at ts 25 ∷ tap_at ts 26 ∷ tap_at ts 26 ∷ tap_at ts 27 ∷ []; at_8 = tap_at ts 19 ∷ tap_at ts 20 ∷ tap_at ts 20 ∷ tap_at ts 21 ∷ tap_at ts 21 ∷ tap_at ts 22 ∷ tap_at ts 22 ∷ tap_at ts 23 ∷ []; at_12 = tap_at ts 15 ∷ tap_at ts 16 ∷ tap_at ts 16 ∷ tap_at ts 17 ∷ tap_at ts 17 ∷ tap_at ts 18 ∷ tap_at ts 18 ∷ tap_at ts 19 ∷ []; at_16 = tap_at ts 11 ∷ tap_at ts 12 ∷ tap_at ts 12 ∷ tap_at ts 13 ∷ tap_at ts 13 ∷ tap_at ts 14 ∷ tap_at ts 14 ∷ tap_at ts 15 ∷ []; at_20 = tap_at ts 7 ∷ tap_at ts 8 ∷ tap_at ts 8 ∷ tap_at ts 9 ∷ tap_at ts 9 ∷ tap_at ts 10 ∷ tap_at ts 10 ∷ tap_at ts 11 ∷ []; at_24 = tap_at ts 3 ∷ tap_at ts 4 ∷ tap_at ts 4 ∷ tap_at ts 5 ∷ tap_at ts 5 ∷ tap_at ts 6 ∷ tap_at ts 6 ∷ tap_at ts 7 ∷ []; at_28 = pos 0 ∷ tap_at ts 0 ∷ tap_at ts 0 ∷ tap_at ts 1 ∷ tap_at ts 1 ∷ tap_at ts 2 ∷ tap_at ts 2 ∷ tap_at ts 3 ∷ [] }
 
 eight_same : {a b c d e f g h i j k l m n o p : ℤ} → a ≡ i → b ≡ j → c ≡ k → d ≡ l → e ≡ m → f ≡ n → g ≡ o → h ≡ p → a ∷ b ∷ c ∷ d ∷ e ∷ f ∷ g ∷ h ∷ [] ≡ i ∷ j ∷ k ∷ l ∷ m ∷ n ∷ o ∷ p ∷ []
 eight_same ea eb ec ed ee ef eg eh = rw (ea, eb, ec, ed, ee, ef, eg, eh) refl
@@ -282,21 +299,20 @@ abbrev pub read_from : List ℤ → ℕ → ℕ → List ℤ
 read_from ts i zero = []
 read_from ts i (suc n) = get_or ts i (pos 0) ∷ read_from ts (i + 1) n
 
-pub pair_taps_value : (ts : List ℤ) → length ts ≡ 32 → AllFit16 (read_from ts 0 27) → ArePairTaps (but_newest_five (reverse ts)) (as_pair_taps ts)
+pub pair_taps_value : (ts : List ℤ) → length ts ≡ 32 → AllFit16 (read_from ts 0 28) → ArePairTaps (reverse ts) (as_pair_taps ts)
 pair_taps_value ts long fits =
-    let f = λ (k : ℕ). all_fit_at (read_from ts 0 27) k fits in
-    let same : (i k : ℕ) → i + k ≡ 26 → FitsSigned w16 (get_or ts k (pos 0)) → tap_at ts k ≡ get_or (drop 5 (reverse ts)) i (pos 0) = λ i k e h. to_z-of_z w16 (get_or ts k (pos 0)) h ∙ sym (kept ts i k long e) in
-    let past : pos 0 ≡ get_or (drop 5 (reverse ts)) 27 (pos 0) = sym (get_or_past (drop 5 (reverse ts)) 27 (pos 0) (omega (arith, length-drop 5 (reverse ts), length-reverse ts))) in
+    let f = λ (k : ℕ). all_fit_at (read_from ts 0 28) k fits in
+    let same : (i k : ℕ) → i + k + 1 ≡ 32 → FitsSigned w16 (get_or ts k (pos 0)) → tap_at ts k ≡ get_or (reverse ts) i (pos 0) = λ i k e h. to_z-of_z w16 (get_or ts k (pos 0)) h ∙ sym (from_last ts 32 i k long e) in
+    let past : pos 0 ≡ get_or (reverse ts) 32 (pos 0) = sym (get_or_past (reverse ts) 32 (pos 0) (omega (arith, length-reverse ts))) in
     record {
-      long = taps_length ts long;
-      nearest = refl;
-      at_4 = eight_same (same 3 23 refl (f 23)) (same 2 24 refl (f 24)) (same 2 24 refl (f 24)) (same 1 25 refl (f 25)) (same 1 25 refl (f 25)) (same 0 26 refl (f 26)) (same 0 26 refl (f 26)) refl;
-      at_8 = eight_same (same 7 19 refl (f 19)) (same 6 20 refl (f 20)) (same 6 20 refl (f 20)) (same 5 21 refl (f 21)) (same 5 21 refl (f 21)) (same 4 22 refl (f 22)) (same 4 22 refl (f 22)) (same 3 23 refl (f 23));
-      at_12 = eight_same (same 11 15 refl (f 15)) (same 10 16 refl (f 16)) (same 10 16 refl (f 16)) (same 9 17 refl (f 17)) (same 9 17 refl (f 17)) (same 8 18 refl (f 18)) (same 8 18 refl (f 18)) (same 7 19 refl (f 19));
-      at_16 = eight_same (same 15 11 refl (f 11)) (same 14 12 refl (f 12)) (same 14 12 refl (f 12)) (same 13 13 refl (f 13)) (same 13 13 refl (f 13)) (same 12 14 refl (f 14)) (same 12 14 refl (f 14)) (same 11 15 refl (f 15));
-      at_20 = eight_same (same 19 7 refl (f 7)) (same 18 8 refl (f 8)) (same 18 8 refl (f 8)) (same 17 9 refl (f 9)) (same 17 9 refl (f 9)) (same 16 10 refl (f 10)) (same 16 10 refl (f 10)) (same 15 11 refl (f 11));
-      at_24 = eight_same (same 23 3 refl (f 3)) (same 22 4 refl (f 4)) (same 22 4 refl (f 4)) (same 21 5 refl (f 5)) (same 21 5 refl (f 5)) (same 20 6 refl (f 6)) (same 20 6 refl (f 6)) (same 19 7 refl (f 7));
-      at_28 = eight_same past (same 26 0 refl (f 0)) (same 26 0 refl (f 0)) (same 25 1 refl (f 1)) (same 25 1 refl (f 1)) (same 24 2 refl (f 2)) (same 24 2 refl (f 2)) (same 23 3 refl (f 3));
+      long = omega (arith, length-reverse ts);
+      at_4 = eight_same (same 8 23 refl (f 23)) (same 7 24 refl (f 24)) (same 7 24 refl (f 24)) (same 6 25 refl (f 25)) (same 6 25 refl (f 25)) (same 5 26 refl (f 26)) (same 5 26 refl (f 26)) (same 4 27 refl (f 27));
+      at_8 = eight_same (same 12 19 refl (f 19)) (same 11 20 refl (f 20)) (same 11 20 refl (f 20)) (same 10 21 refl (f 21)) (same 10 21 refl (f 21)) (same 9 22 refl (f 22)) (same 9 22 refl (f 22)) (same 8 23 refl (f 23));
+      at_12 = eight_same (same 16 15 refl (f 15)) (same 15 16 refl (f 16)) (same 15 16 refl (f 16)) (same 14 17 refl (f 17)) (same 14 17 refl (f 17)) (same 13 18 refl (f 18)) (same 13 18 refl (f 18)) (same 12 19 refl (f 19));
+      at_16 = eight_same (same 20 11 refl (f 11)) (same 19 12 refl (f 12)) (same 19 12 refl (f 12)) (same 18 13 refl (f 13)) (same 18 13 refl (f 13)) (same 17 14 refl (f 14)) (same 17 14 refl (f 14)) (same 16 15 refl (f 15));
+      at_20 = eight_same (same 24 7 refl (f 7)) (same 23 8 refl (f 8)) (same 23 8 refl (f 8)) (same 22 9 refl (f 9)) (same 22 9 refl (f 9)) (same 21 10 refl (f 10)) (same 21 10 refl (f 10)) (same 20 11 refl (f 11));
+      at_24 = eight_same (same 28 3 refl (f 3)) (same 27 4 refl (f 4)) (same 27 4 refl (f 4)) (same 26 5 refl (f 5)) (same 26 5 refl (f 5)) (same 25 6 refl (f 6)) (same 25 6 refl (f 6)) (same 24 7 refl (f 7));
+      at_28 = eight_same past (same 31 0 refl (f 0)) (same 31 0 refl (f 0)) (same 30 1 refl (f 1)) (same 30 1 refl (f 1)) (same 29 2 refl (f 2)) (same 29 2 refl (f 2)) (same 28 3 refl (f 3));
     }
 
 pub fit_more : (xs : List ℤ) (i : ℕ) → i < length xs → FitsSigned w16 (get_or xs i (pos 0)) → Fit16 (take i xs) → Fit16 (take (i + 1) xs)
@@ -368,7 +384,5 @@ magnitude_zeros (suc n) = omega (arith, magnitude_zeros n)
 pub magnitude_padded : (k : ℕ) (cs padded : List ℤ) → padded ≡ replicate k (pos 0) ++ cs → magnitude padded ≡ magnitude cs
 magnitude_padded k cs padded e = ap magnitude e ∙ magnitude_append (replicate k (pos 0)) cs ∙ omega (arith, magnitude_zeros k)
 
-pub magnitude_but_newest : (ts : List ℤ) (m : ℕ) → magnitude ts < m → magnitude (but_newest_five (reverse ts)) < m
-magnitude_but_newest ts m lt =
-    let all : magnitude (drop 5 (reverse ts)) ≤ magnitude (reverse ts) = magnitude_drop 5 (reverse ts) in
-    omega (arith, magnitude_reverse ts)
+pub reversed_small : (ts : List ℤ) (m : ℕ) → magnitude ts < m → magnitude (reverse ts) < m
+reversed_small ts m lt = omega (arith, magnitude_reverse ts)

@@ -17,7 +17,7 @@ use Rattle.claxon_subframe.proofs.PaddedCoefficients.{reverse_zeros}
 use Rattle.claxon_format.specs.Predict.{wrap, dot, floor_shift, linear}
 use Rattle.claxon_format.proofs.WrappingArithmetic.{Represents, represents_add, represents_mul, represents_fits}
 use Rattle.claxon_subframe.specs.Lanes.{AllWithin, Within, Lanes, LanesFit64, wrap_64, advanced_by_two}
-use Rattle.claxon_subframe.specs.PendingSums.{but_newest_five, pending_at, four_pending, four_taps, ArePendingSums, AreTaps, SmallTaps, SmallLater, AreLaterTaps, FitVectors, SumsFit64, scaled_up, IsScaledUp, AddsProduct, plus_five, IsSample, IsFollowed, five_before, AreNewest}
+use Rattle.claxon_subframe.specs.PendingSums.{but_newest_four, but_newest_five, pending_at, four_pending, four_taps, ArePendingSums, AreTaps, SmallTaps, SmallLater, AreLaterTaps, FitVectors, SumsFit64, scaled_up, IsScaledUp, AddsProduct, plus_five, IsSample, IsButFifth, IsFollowed, five_before, AreNewest}
 use Rattle.claxon_subframe.specs.declared.subframe.predictor.NewestFive.{NewestFive}
 use Rattle.claxon_subframe.specs.declared.subframe.predictor.Taps.{Taps}
 use Rattle.claxon_subframe.specs.declared.subframe.predictor.LaterLanes.{LaterLanes}
@@ -39,10 +39,27 @@ dot_one ks j y past =
           ap (λ (l : List ℤ). dot l (y ∷ past)) none ∙ sym nothing ∙ ap (λ (v : ℤ). v *ℤ y +ℤ pos 0) (sym zero) ∙ ap (λ (l : List ℤ). get_or ks j (pos 0) *ℤ y +ℤ dot l past) (sym later))
     ]
 
+-- from the fifth or the sixth on these are the coefficients
+four_beyond : (cs : List ℤ) (i : ℕ) → 4 ≤ i → drop i (but_newest_four cs) ≡ drop i cs
+four_beyond cs (suc (suc (suc (suc n)))) le = let there : 4 + n ≡ suc (suc (suc (suc n))) = omega arith in drop-drop n 4 cs ∙ ap (λ (m : ℕ). drop m cs) there
+four_beyond cs i le = absurd (omega arith)
+
+five_beyond : (cs : List ℤ) (i : ℕ) → 5 ≤ i → drop i (but_newest_five cs) ≡ drop i cs
+five_beyond cs (suc (suc (suc (suc (suc n))))) le = let there : 5 + n ≡ suc (suc (suc (suc (suc n)))) = omega arith in drop-drop n 5 cs ∙ ap (λ (m : ℕ). drop m cs) there
+five_beyond cs i le = absurd (omega arith)
+
+pub four_tap : (cs : List ℤ) (i : ℕ) → 4 ≤ i → get_or cs i (pos 0) ≡ get_or (but_newest_four cs) i (pos 0)
+four_tap cs (suc (suc (suc (suc n)))) le = sym (get_or-drop 4 cs n (pos 0) ∙ ap (λ (m : ℕ). get_or cs m (pos 0)) (omega arith))
+four_tap cs i le = absurd (omega arith)
+
+pub five_tap : (cs : List ℤ) (i : ℕ) → 5 ≤ i → get_or cs i (pos 0) ≡ get_or (but_newest_five cs) i (pos 0)
+five_tap cs (suc (suc (suc (suc (suc n))))) le = sym (get_or-drop 5 cs n (pos 0) ∙ ap (λ (m : ℕ). get_or cs m (pos 0)) (omega arith))
+five_tap cs i le = absurd (omega arith)
+
 -- the pending sum of a sample, after two more samples
-pending_two : (ks past : List ℤ) (x y : ℤ) (j k m : ℕ) → k ≡ j + 1 → m ≡ j + 2
+pending_two_more : (ks past : List ℤ) (x y : ℤ) (j k m : ℕ) → k ≡ j + 1 → m ≡ j + 2
     → wrap_64 (wrap_64 (pending_at ks past m +ℤ get_or ks k (pos 0) *ℤ x) +ℤ get_or ks j (pos 0) *ℤ y) ≡ pending_at ks (y ∷ x ∷ past) j
-pending_two ks past x y j k m ek em =
+pending_two_more ks past x y j k m ek em =
     let next : k + 1 ≡ m = omega arith in
     let one : dot (drop k ks) (x ∷ past) ≡ get_or ks k (pos 0) *ℤ x +ℤ dot (drop m ks) past
     = subst (λ (n : ℕ). dot (drop k ks) (x ∷ past) ≡ get_or ks k (pos 0) *ℤ x +ℤ dot (drop n ks) past) next (dot_one ks k x past) in
@@ -53,16 +70,25 @@ pending_two ks past x y j k m ek em =
     ap (λ (v : ℤ). wrap_64 (v +ℤ get_or ks j (pos 0) *ℤ y)) first ∙ int_wrap-add_left w64 (dot (drop k ks) (x ∷ past)) (get_or ks j (pos 0) *ℤ y)
     ∙ ap wrap_64 (+ℤ_comm (dot (drop k ks) (x ∷ past)) (get_or ks j (pos 0) *ℤ y) ∙ sym two)
 
+-- the same with products of the coefficients c and d
+pending_two : (ks past : List ℤ) (x y c d : ℤ) (j k m : ℕ) → k ≡ j + 1 → m ≡ j + 2 → c ≡ get_or ks k (pos 0) → d ≡ get_or ks j (pos 0)
+    → wrap_64 (wrap_64 (pending_at ks past m +ℤ c *ℤ x) +ℤ d *ℤ y) ≡ pending_at ks (y ∷ x ∷ past) j
+pending_two ks past x y c d j k m ek em ec ed = rw (ec, ed) (pending_two_more ks past x y j k m ek em)
+
 pub four_same : {a b c d e f g h : ℤ} → a ≡ e → b ≡ f → c ≡ g → d ≡ h → a ∷ b ∷ c ∷ d ∷ [] ≡ e ∷ f ∷ g ∷ h ∷ []
 four_same {a} {b} {c} {d} {e} {f} {g} {h} p q r s =
     ap (λ (v : ℤ). v ∷ b ∷ c ∷ d ∷ []) p ∙ ap (λ (v : ℤ). e ∷ v ∷ c ∷ d ∷ []) q ∙ ap (λ (v : ℤ). e ∷ f ∷ v ∷ d ∷ []) r ∙ ap (λ (v : ℤ). e ∷ f ∷ g ∷ v ∷ []) s
 
-advanced_by_two_at : (ks past : List ℤ) (x y : ℤ) (j k m n : ℕ) → m ≡ j + 4 → k ≡ j + 1 → n ≡ j
+advanced_by_two_at : (ks past : List ℤ) (x y : ℤ) (j k m n : ℕ) → 4 ≤ j → m ≡ j + 4 → k ≡ j + 1 → n ≡ j
     → advanced_by_two (four_pending ks past m) (four_pending ks past j) (four_taps ks k) (replicate 4 x) (four_taps ks n) (replicate 4 y) ≡ four_pending ks (y ∷ x ∷ past) j
-advanced_by_two_at ks past x y j k m n em ek en =
+advanced_by_two_at ks past x y j k m n far em ek en =
+    let four = λ (i : ℕ) (le : 4 ≤ i). four_tap ks i le in
+    let five = λ (i : ℕ) (le : 5 ≤ i). five_tap ks i le in
     rw (em, ek, en)
-    (four_same (pending_two ks past x y (j + 3) (j + 1 + 3) (j + 4 + 1) (omega arith) (omega arith)) (pending_two ks past x y (j + 2) (j + 1 + 2) (j + 4) (omega arith) (omega arith))
-    (pending_two ks past x y (j + 1) (j + 1 + 1) (j + 3) (omega arith) (omega arith)) (pending_two ks past x y j (j + 1) (j + 2) (omega arith) (omega arith)))
+    (four_same (pending_two (but_newest_five ks) past x y _ _ (j + 3) (j + 1 + 3) (j + 4 + 1) (omega arith) (omega arith) (five (j + 1 + 3) (omega arith)) (five (j + 3) (omega arith)))
+    (pending_two (but_newest_four ks) past x y _ _ (j + 2) (j + 1 + 2) (j + 4) (omega arith) (omega arith) (four (j + 1 + 2) (omega arith)) (four (j + 2) (omega arith)))
+    (pending_two (but_newest_five ks) past x y _ _ (j + 1) (j + 1 + 1) (j + 3) (omega arith) (omega arith) (five (j + 1 + 1) (omega arith)) (five (j + 1) (omega arith)))
+    (pending_two (but_newest_four ks) past x y _ _ j (j + 1) (j + 2) (omega arith) (omega arith) (four (j + 1) (omega arith)) (four j far)))
 
 -- the same, where both are among the newest five samples before it
 skipped : (ks past : List ℤ) (x y : ℤ) (j k m : ℕ) → k ≡ j + 1 → m ≡ j + 2 → get_or ks j (pos 0) ≡ pos 0 → get_or ks k (pos 0) ≡ pos 0 → pending_at ks past m ≡ pending_at ks (y ∷ x ∷ past) j
@@ -75,14 +101,10 @@ skipped ks past x y j k m ek em ej none =
     = dot_one ks j y (x ∷ past) ∙ ap (λ (z : ℤ). z *ℤ y +ℤ dot (drop (j + 1) ks) (x ∷ past)) ej ∙ nothing y _ ∙ ap (λ (n : ℕ). dot (drop n ks) (x ∷ past)) (sym ek) in
     ap wrap_64 (sym (two ∙ one))
 
-front_zero : (ks : List ℤ) (i : ℕ) → i < 5 → take 5 ks ≡ replicate 5 (pos 0) → get_or ks i (pos 0) ≡ get_or (replicate 5 (pos 0)) i (pos 0)
-front_zero ks i lt e = sym (get_or-take 5 ks i (pos 0) lt) ∙ ap (λ (l : List ℤ). get_or l i (pos 0)) e
-
-pub moved_0 : (ks past : List ℤ) (x y : ℤ) → take 5 ks ≡ replicate 5 (pos 0) → drop 2 (four_pending ks past 4) ++ take 2 (four_pending ks past 0) ≡ four_pending ks (y ∷ x ∷ past) 0
-moved_0 ks past x y e =
-    let z = λ (i : ℕ) (lt : i < 5). front_zero ks i lt e in
-    four_same (skipped ks past x y 3 4 5 refl refl (z 3 (omega arith)) (z 4 (omega arith))) (skipped ks past x y 2 3 4 refl refl (z 2 (omega arith)) (z 3 (omega arith)))
-    (skipped ks past x y 1 2 3 refl refl (z 1 (omega arith)) (z 2 (omega arith))) (skipped ks past x y 0 1 2 refl refl (z 0 (omega arith)) (z 1 (omega arith)))
+moved_0 : (ks past : List ℤ) (x y : ℤ) → drop 2 (four_pending ks past 4) ++ take 2 (four_pending ks past 0) ≡ four_pending ks (y ∷ x ∷ past) 0
+moved_0 ks past x y =
+    four_same (skipped (but_newest_five ks) past x y 3 4 5 refl refl refl refl) (skipped (but_newest_four ks) past x y 2 3 4 refl refl refl refl)
+    (skipped (but_newest_five ks) past x y 1 2 3 refl refl refl refl) (skipped (but_newest_four ks) past x y 0 1 2 refl refl refl refl)
 
 -- ---- sums of zero
 
@@ -92,8 +114,11 @@ zero_64 = int_wrap_fits w64 (pos 0) (record { sfits = omega arith })
 pending_none : (ks past : List ℤ) (j : ℕ) → length ks ≤ j → pending_at ks past j ≡ pos 0
 pending_none ks past j le = ap (λ (l : List ℤ). wrap_64 (dot l past)) (drop_all j ks le) ∙ zero_64
 
-pub four_pending_none : (ks past : List ℤ) (n : ℕ) → length ks ≡ n → replicate 4 (pos 0) ≡ four_pending ks past n
-four_pending_none ks past n e = sym (four_same (pending_none ks past (n + 3) (omega arith)) (pending_none ks past (n + 2) (omega arith)) (pending_none ks past (n + 1) (omega arith)) (pending_none ks past n (omega arith)))
+pub four_pending_none : (ks past : List ℤ) (n : ℕ) → 5 ≤ n → length ks ≡ n → replicate 4 (pos 0) ≡ four_pending ks past n
+four_pending_none ks past n some e =
+    let four : length (but_newest_four ks) ≡ n = omega (arith, length-drop 4 ks) in
+    let five : length (but_newest_five ks) ≡ n = omega (arith, length-drop 5 ks) in
+    sym (four_same (pending_none (but_newest_five ks) past (n + 3) (omega arith)) (pending_none (but_newest_four ks) past (n + 2) (omega arith)) (pending_none (but_newest_five ks) past (n + 1) (omega arith)) (pending_none (but_newest_four ks) past n (omega arith)))
 
 dot_nothing : (ks : List ℤ) → dot ks [] ≡ pos 0
 dot_nothing [] = refl
@@ -104,22 +129,27 @@ pending_before_all ks j = ap wrap_64 (dot_nothing (drop j ks)) ∙ zero_64
 
 -- before the first sample
 pub four_pending_before_all : (ks : List ℤ) (j : ℕ) → replicate 4 (pos 0) ≡ four_pending ks [] j
-four_pending_before_all ks j = sym (four_same (pending_before_all ks (j + 3)) (pending_before_all ks (j + 2)) (pending_before_all ks (j + 1)) (pending_before_all ks j))
+four_pending_before_all ks j =
+    sym (four_same (pending_before_all (but_newest_five ks) (j + 3)) (pending_before_all (but_newest_four ks) (j + 2)) (pending_before_all (but_newest_five ks) (j + 1)) (pending_before_all (but_newest_four ks) j))
 
 pending_zeros : (ks past : List ℤ) (n j : ℕ) → drop j ks ≡ replicate n (pos 0) → pending_at ks past j ≡ pos 0
 pending_zeros ks past n j e = ap (λ (l : List ℤ). wrap_64 (dot l past)) e ∙ ap wrap_64 (dot_trailing_zeros n [] past) ∙ zero_64
 
--- the pending sum of a sample that no coefficient reaches
-pending_past_vectors : (ks past : List ℤ) (v i : ℕ) → 4 * v + 4 ≤ i → FitVectors v ks → pending_at ks past i ≡ pos 0
-pending_past_vectors ks past v i le fit =
+-- the coefficients that no vector reaches
+past_vectors : (cs : List ℤ) (v i : ℕ) → 4 * v + 4 ≤ i → FitVectors v cs → drop i cs ≡ replicate (length cs - (4 * v + 4) - (i - (4 * v + 4))) (pos 0)
+past_vectors cs v i le fit =
     let d : ℕ = i - (4 * v + 4) in
     let there : 4 * v + 4 + d ≡ i = omega arith in
-    pending_zeros ks past (length ks - (4 * v + 4) - d) i
-    (sym (drop-drop d (4 * v + 4) ks ∙ ap (λ (n : ℕ). drop n ks) there) ∙ ap (drop d) fit ∙ drop-replicate d (length ks - (4 * v + 4)) (pos 0))
+    sym (drop-drop d (4 * v + 4) cs ∙ ap (λ (n : ℕ). drop n cs) there) ∙ ap (drop d) fit ∙ drop-replicate d (length cs - (4 * v + 4)) (pos 0)
+
+-- the pending sum of a sample that no coefficient reaches
+pending_past_vectors : (ks cs past : List ℤ) (v i : ℕ) → drop i ks ≡ drop i cs → 4 * v + 4 ≤ i → FitVectors v cs → pending_at ks past i ≡ pos 0
+pending_past_vectors ks cs past v i same le fit = pending_zeros ks past _ i (same ∙ past_vectors cs v i le fit)
 
 pub four_pending_past_vectors : (ks past : List ℤ) (v j : ℕ) → 4 * v + 4 ≤ j → FitVectors v ks → replicate 4 (pos 0) ≡ four_pending ks past j
 four_pending_past_vectors ks past v j le fit =
-    sym (four_same (pending_past_vectors ks past v (j + 3) (omega arith) fit) (pending_past_vectors ks past v (j + 2) (omega arith) fit) (pending_past_vectors ks past v (j + 1) (omega arith) fit) (pending_past_vectors ks past v j le fit))
+    sym (four_same (pending_past_vectors (but_newest_five ks) ks past v (j + 3) (five_beyond ks (j + 3) (omega arith)) (omega arith) fit) (pending_past_vectors (but_newest_four ks) ks past v (j + 2) (four_beyond ks (j + 2) (omega arith)) (omega arith) fit)
+    (pending_past_vectors (but_newest_five ks) ks past v (j + 1) (five_beyond ks (j + 1) (omega arith)) (omega arith) fit) (pending_past_vectors (but_newest_four ks) ks past v j (four_beyond ks j (omega arith)) le fit))
 
 -- ---- the coefficients
 
@@ -151,16 +181,17 @@ dot_enough [] past rest (suc n) k e le = refl
 dot_enough (c ∷ l) [] rest (suc n) k e le = absurd (omega arith)
 dot_enough (c ∷ l) (x ∷ past) rest (suc n) k e le = ap (λ (z : ℤ). c *ℤ x +ℤ z) (dot_enough l past rest n k e (omega arith))
 
-pending_enough : (ks past rest : List ℤ) (v j : ℕ) → FitVectors v ks → 4 * v + 4 ≤ length past → pending_at ks past j ≡ pending_at ks (past ++ rest) j
-pending_enough ks past rest v j fit le =
-    let swap : j + (4 * v + 4) ≡ 4 * v + 4 + j = omega arith in
-    let none : drop (4 * v + 4) (drop j ks) ≡ replicate (length ks - (4 * v + 4) - j) (pos 0)
-    = drop-drop (4 * v + 4) j ks ∙ ap (λ (n : ℕ). drop n ks) swap ∙ sym (drop-drop j (4 * v + 4) ks) ∙ ap (drop j) fit ∙ drop-replicate j (length ks - (4 * v + 4)) (pos 0) in
-    ap wrap_64 (sym (dot_enough (drop j ks) past rest (4 * v + 4) (length ks - (4 * v + 4) - j) none le))
+pending_enough : (ks cs past rest : List ℤ) (v j : ℕ) → drop (j + (4 * v + 4)) ks ≡ drop (j + (4 * v + 4)) cs → FitVectors v cs → 4 * v + 4 ≤ length past → pending_at ks past j ≡ pending_at ks (past ++ rest) j
+pending_enough ks cs past rest v j same fit le =
+    let none : drop (4 * v + 4) (drop j ks) ≡ replicate (length cs - (4 * v + 4) - (j + (4 * v + 4) - (4 * v + 4))) (pos 0)
+    = drop-drop (4 * v + 4) j ks ∙ same ∙ past_vectors cs v (j + (4 * v + 4)) (omega arith) fit in
+    ap wrap_64 (sym (dot_enough (drop j ks) past rest (4 * v + 4) _ none le))
 
 pub four_pending_enough : (ks past rest : List ℤ) (v j : ℕ) → FitVectors v ks → 4 * v + 4 ≤ length past → four_pending ks past j ≡ four_pending ks (past ++ rest) j
 four_pending_enough ks past rest v j fit le =
-    four_same (pending_enough ks past rest v (j + 3) fit le) (pending_enough ks past rest v (j + 2) fit le) (pending_enough ks past rest v (j + 1) fit le) (pending_enough ks past rest v j fit le)
+    let four = λ (i : ℕ). pending_enough (but_newest_four ks) ks past rest v i (four_beyond ks (i + (4 * v + 4)) (omega arith)) fit le in
+    let five = λ (i : ℕ) (some : 1 ≤ i). pending_enough (but_newest_five ks) ks past rest v i (five_beyond ks (i + (4 * v + 4)) (omega arith)) fit le in
+    four_same (five (j + 3) (omega arith)) (four (j + 2)) (five (j + 1) (omega arith)) (four j)
 
 pub pending_sums_enough : (ks past rest : List ℤ) (v : ℕ) (sums : PendingSums (List ℤ)) → FitVectors v ks → 4 * v + 4 ≤ length past → ArePendingSums ks past sums → ArePendingSums ks (past ++ rest) sums
 pending_sums_enough ks past rest v sums fit le w = record {
@@ -170,19 +201,19 @@ pending_sums_enough ks past rest v sums fit le w = record {
 
 -- a vector of pending sums, as a call computes it
 module _ (ks past : List ℤ) (x y : ℤ) (v : ℕ) (fit : FitVectors v ks) {u w : List ℤ} (eu : u ≡ replicate 4 x) (ew : w ≡ replicate 4 y) where
-  pub later_lanes_advanced : (j : ℕ) (has : Bool) (b s k t r : List ℤ) → (has ≡ false → 4 * v + 4 ≤ j) → (has ≡ true → r ≡ advanced_by_two b s k u t w) → (has ≡ false → r ≡ replicate 4 (pos 0))
+  pub later_lanes_advanced : (j : ℕ) (has : Bool) (b s k t r : List ℤ) → 4 ≤ j → (has ≡ false → 4 * v + 4 ≤ j) → (has ≡ true → r ≡ advanced_by_two b s k u t w) → (has ≡ false → r ≡ replicate 4 (pos 0))
       → b ≡ four_pending ks past (j + 4) → s ≡ four_pending ks past j → k ≡ four_taps ks (j + 1) → t ≡ four_taps ks j → as_lanes r ≡ four_pending ks (y ∷ x ∷ past) j
-  later_lanes_advanced j true b s k t r few e none eb es ek et =
-      let value : r ≡ four_pending ks (y ∷ x ∷ past) j = e refl ∙ rw (eb, es, ek, eu, et, ew) (advanced_by_two_at ks past x y j (j + 1) (j + 4) j refl refl refl) in
+  later_lanes_advanced j true b s k t r far few e none eb es ek et =
+      let value : r ≡ four_pending ks (y ∷ x ∷ past) j = e refl ∙ rw (eb, es, ek, eu, et, ew) (advanced_by_two_at ks past x y j (j + 1) (j + 4) j far refl refl refl) in
       ap as_lanes value ∙ same_fit_64 (four_pending_fit_64 ks (y ∷ x ∷ past) j)
-  later_lanes_advanced j false b s k t r few e none eb es ek et =
+  later_lanes_advanced j false b s k t r far few e none eb es ek et =
       let value : r ≡ four_pending ks (y ∷ x ∷ past) j = none refl ∙ four_pending_past_vectors ks (y ∷ x ∷ past) v j (few refl) fit in
       ap as_lanes value ∙ same_fit_64 (four_pending_fit_64 ks (y ∷ x ∷ past) j)
 
 -- the next four samples' lanes, which are only shifted
-pub nearest_lanes_advanced : (ks past : List ℤ) (x y : ℤ) {b s : List ℤ} (r : List ℤ) → take 5 ks ≡ replicate 5 (pos 0) → r ≡ drop 2 b ++ take 2 s → b ≡ four_pending ks past 4 → s ≡ four_pending ks past 0
+pub nearest_lanes_advanced : (ks past : List ℤ) (x y : ℤ) {b s : List ℤ} (r : List ℤ) → r ≡ drop 2 b ++ take 2 s → b ≡ four_pending ks past 4 → s ≡ four_pending ks past 0
     → r ≡ four_pending ks (y ∷ x ∷ past) 0
-nearest_lanes_advanced ks past x y r zeros e eb es = e ∙ rw (eb, es) (moved_0 ks past x y zeros)
+nearest_lanes_advanced ks past x y r e eb es = e ∙ rw (eb, es) (moved_0 ks past x y)
 
 -- the same numbers, as a vector has them
 pub lanes_64_are : {xs ys : List ℤ} → LanesFit64 xs → xs ≡ ys → as_lanes xs ≡ ys
@@ -308,6 +339,12 @@ five_last ds rest c s =
     let regroup : (a b d e f g : ℤ) → ((((a +ℤ b) +ℤ d) +ℤ e) +ℤ f) +ℤ g ≡ g +ℤ (f +ℤ (e +ℤ (d +ℤ (b +ℤ a)))) = λ a b d e f g. omega (arith, ints) in
     regroup (dot ds rest) (c.fifth *ℤ s.fifth) (c.fourth *ℤ s.fourth) (c.third *ℤ s.third) (c.second *ℤ s.second) (c.newest *ℤ s.newest)
 
+-- the same, where the product of the fifth is in the pending sum
+four_last : (ds rest : List ℤ) (c d s : NewestFive) → IsButFifth c d → plus_five (dot (c.fifth ∷ ds) (s.fifth ∷ rest)) d s ≡ dot (five_before c ds) (five_before s rest)
+four_last ds rest c d s h =
+    let regroup : (a b d e f g : ℤ) → (((((b +ℤ a) +ℤ pos 0) +ℤ d) +ℤ e) +ℤ f) +ℤ g ≡ g +ℤ (f +ℤ (e +ℤ (d +ℤ (b +ℤ a)))) = λ a b d e f g. omega (arith, ints) in
+    rw (h.fifth, h.fourth, h.third, h.second, h.newest, zero-*ℤ s.fifth) (regroup (dot ds rest) (c.fifth *ℤ s.fifth) (c.fourth *ℤ s.fourth) (c.third *ℤ s.third) (c.second *ℤ s.second) (c.newest *ℤ s.newest))
+
 -- one more sample
 followed_is : (s b : NewestFive) (m : ℤ) (rest : List ℤ) → IsFollowed s m b → five_before b (s.fifth ∷ rest) ≡ m ∷ five_before s rest
 followed_is s b m rest f = rw (f.newest, f.second, f.third, f.fourth, f.fifth) refl
@@ -327,17 +364,18 @@ place_is ks ds rest r w e x c s t ek ew up is =
     ∙ ap (λ (l : List ℤ). wrap (linear l t (five_before s rest) +ℤ r)) (sym ek)
 
 -- the next sample
-pub one_is : (ks rest ws : List ℤ) (r w e x : ℤ) (c s : NewestFive) (t : ℕ) (new : AreNewest ks c) → ws ≡ four_pending (but_newest_five ks) (five_before s rest) 0 → w ≡ get_or ws 3 (pos 0)
-    → IsScaledUp w r t e → IsSample e c s t x → x ≡ wrap (linear ks t (five_before s rest) +ℤ r)
-one_is ks rest ws r w e x c s t new es ew up is =
-    let there : w ≡ pending_at (but_newest_five ks) (five_before s rest) 0 = ew ∙ ap (λ (l : List ℤ). get_or l 3 (pos 0)) es in
-    let others : pending_at (but_newest_five ks) (five_before s rest) 0 ≡ pending_at (but_newest_five (five_before c new.rest)) (five_before s rest) 0 = ap (λ (l : List ℤ). pending_at (but_newest_five l) (five_before s rest) 0) new.is in
-    let none : dot (but_newest_five (five_before c new.rest)) (five_before s rest) ≡ dot new.rest rest
-    = dot_four_zero_taps (pos 0 ∷ new.rest) (s.fifth ∷ rest) s.newest s.second s.third s.fourth ∙ dot_zero_tap new.rest rest s.fifth in
-    place_is ks new.rest rest r w e x c s t new.is (there ∙ others ∙ ap wrap_64 none) up is
+pub one_is : (ks rest ws : List ℤ) (r w e x : ℤ) (c d s : NewestFive) (t : ℕ) (new : AreNewest ks c) → IsButFifth c d → ws ≡ four_pending ks (five_before s rest) 0 → w ≡ get_or ws 3 (pos 0)
+    → IsScaledUp w r t e → IsSample e d s t x → x ≡ wrap (linear ks t (five_before s rest) +ℤ r)
+one_is ks rest ws r w e x c d s t new but es ew up is =
+    let there : w ≡ pending_at (but_newest_four ks) (five_before s rest) 0 = ew ∙ ap (λ (l : List ℤ). get_or l 3 (pos 0)) es in
+    let others : pending_at (but_newest_four ks) (five_before s rest) 0 ≡ pending_at (but_newest_four (five_before c new.rest)) (five_before s rest) 0 = ap (λ (l : List ℤ). pending_at (but_newest_four l) (five_before s rest) 0) new.is in
+    let sum : ℤ = dot (c.fifth ∷ new.rest) (s.fifth ∷ rest) in
+    let none : dot (but_newest_four (five_before c new.rest)) (five_before s rest) ≡ sum = dot_four_zero_taps (c.fifth ∷ new.rest) (s.fifth ∷ rest) s.newest s.second s.third s.fourth in
+    is sum r (up sum (there ∙ others ∙ ap wrap_64 none)) ∙ ap (λ (v : ℤ). wrap (floor_shift v t +ℤ r)) (four_last new.rest rest c d s but)
+    ∙ ap (λ (l : List ℤ). wrap (linear l t (five_before s rest) +ℤ r)) (sym new.is)
 
 -- the sample after it
-pub two_is : (ks rest ws : List ℤ) (m r w e x : ℤ) (c s b : NewestFive) (t : ℕ) (new : AreNewest ks c) → IsFollowed s m b → ws ≡ four_pending (but_newest_five ks) (five_before s rest) 0 → w ≡ get_or ws 2 (pos 0)
+pub two_is : (ks rest ws : List ℤ) (m r w e x : ℤ) (c s b : NewestFive) (t : ℕ) (new : AreNewest ks c) → IsFollowed s m b → ws ≡ four_pending ks (five_before s rest) 0 → w ≡ get_or ws 2 (pos 0)
     → IsScaledUp w r t e → IsSample e c b t x → x ≡ wrap (linear ks t (m ∷ five_before s rest) +ℤ r)
 two_is ks rest ws m r w e x c s b t new f es ew up is =
     let there : w ≡ pending_at (but_newest_five ks) (five_before s rest) 1 = ew ∙ ap (λ (l : List ℤ). get_or l 2 (pos 0)) es in
@@ -417,7 +455,7 @@ abbrev second_taps : List ℤ → LaterLanes (List ℤ)
 second_taps ts = record { at_4 = coefficient_at ts 23 ∷ coefficient_at ts 24 ∷ coefficient_at ts 25 ∷ coefficient_at ts 26 ∷ []; at_8 = coefficient_at ts 19 ∷ coefficient_at ts 20 ∷ coefficient_at ts 21 ∷ coefficient_at ts 22 ∷ []; at_12 = coefficient_at ts 15 ∷ coefficient_at ts 16 ∷ coefficient_at ts 17 ∷ coefficient_at ts 18 ∷ []; at_16 = coefficient_at ts 11 ∷ coefficient_at ts 12 ∷ coefficient_at ts 13 ∷ coefficient_at ts 14 ∷ []; at_20 = coefficient_at ts 7 ∷ coefficient_at ts 8 ∷ coefficient_at ts 9 ∷ coefficient_at ts 10 ∷ []; at_24 = coefficient_at ts 3 ∷ coefficient_at ts 4 ∷ coefficient_at ts 5 ∷ coefficient_at ts 6 ∷ []; at_28 = pos 0 ∷ coefficient_at ts 0 ∷ coefficient_at ts 1 ∷ coefficient_at ts 2 ∷ [] }
 
 abbrev newest_taps : List ℤ → LaterLanes (List ℤ)
-newest_taps ts = record { at_4 = coefficient_at ts 24 ∷ coefficient_at ts 25 ∷ coefficient_at ts 26 ∷ pos 0 ∷ []; at_8 = coefficient_at ts 20 ∷ coefficient_at ts 21 ∷ coefficient_at ts 22 ∷ coefficient_at ts 23 ∷ []; at_12 = coefficient_at ts 16 ∷ coefficient_at ts 17 ∷ coefficient_at ts 18 ∷ coefficient_at ts 19 ∷ []; at_16 = coefficient_at ts 12 ∷ coefficient_at ts 13 ∷ coefficient_at ts 14 ∷ coefficient_at ts 15 ∷ []; at_20 = coefficient_at ts 8 ∷ coefficient_at ts 9 ∷ coefficient_at ts 10 ∷ coefficient_at ts 11 ∷ []; at_24 = coefficient_at ts 4 ∷ coefficient_at ts 5 ∷ coefficient_at ts 6 ∷ coefficient_at ts 7 ∷ []; at_28 = coefficient_at ts 0 ∷ coefficient_at ts 1 ∷ coefficient_at ts 2 ∷ coefficient_at ts 3 ∷ [] }
+newest_taps ts = record { at_4 = coefficient_at ts 24 ∷ coefficient_at ts 25 ∷ coefficient_at ts 26 ∷ coefficient_at ts 27 ∷ []; at_8 = coefficient_at ts 20 ∷ coefficient_at ts 21 ∷ coefficient_at ts 22 ∷ coefficient_at ts 23 ∷ []; at_12 = coefficient_at ts 16 ∷ coefficient_at ts 17 ∷ coefficient_at ts 18 ∷ coefficient_at ts 19 ∷ []; at_16 = coefficient_at ts 12 ∷ coefficient_at ts 13 ∷ coefficient_at ts 14 ∷ coefficient_at ts 15 ∷ []; at_20 = coefficient_at ts 8 ∷ coefficient_at ts 9 ∷ coefficient_at ts 10 ∷ coefficient_at ts 11 ∷ []; at_24 = coefficient_at ts 4 ∷ coefficient_at ts 5 ∷ coefficient_at ts 6 ∷ coefficient_at ts 7 ∷ []; at_28 = coefficient_at ts 0 ∷ coefficient_at ts 1 ∷ coefficient_at ts 2 ∷ coefficient_at ts 3 ∷ [] }
 
 abbrev as_taps : List ℤ → Taps
 as_taps ts = record { second = second_taps ts; newest = newest_taps ts }
@@ -441,41 +479,35 @@ are_last ts long h = record {
 pub coefficient_small : (ts : List ℤ) (j : ℕ) → Within 32768 ts → unsigned_abs (coefficient_at ts j) ≤ 32768
 coefficient_small ts j h = subst (λ (v : ℤ). unsigned_abs v ≤ 32768) (sym (coefficient_at_is ts j h)) (within_at 32768 ts j h.each)
 
-pub kept : (ts : List ℤ) (i k : ℕ) → length ts ≡ 32 → i + k ≡ 26 → get_or (drop 5 (reverse ts)) i (pos 0) ≡ get_or ts k (pos 0)
-kept ts i k long e = get_or-drop 5 (reverse ts) i (pos 0) ∙ from_last ts 32 (5 + i) k long (omega arith)
-
-pub taps_length : (ts : List ℤ) → length ts ≡ 32 → length (but_newest_five (reverse ts)) ≡ 32
-taps_length ts long = omega (arith, length-drop 5 (reverse ts), length-reverse ts)
-
-second_value : (ts : List ℤ) → length ts ≡ 32 → Within 32768 ts → AreLaterTaps (but_newest_five (reverse ts)) 1 (second_taps ts)
+second_value : (ts : List ℤ) → length ts ≡ 32 → Within 32768 ts → AreLaterTaps (reverse ts) 1 (second_taps ts)
 second_value ts long h =
-    let z : (i k : ℕ) → i + k ≡ 26 → coefficient_at ts k ≡ get_or (drop 5 (reverse ts)) i (pos 0) = λ i k e. coefficient_at_is ts k h ∙ sym (kept ts i k long e) in
-    let past : pos 0 ≡ get_or (drop 5 (reverse ts)) 27 (pos 0) = sym (get_or_past (drop 5 (reverse ts)) 27 (pos 0) (omega (arith, length-drop 5 (reverse ts), length-reverse ts))) in
+    let z : (i k : ℕ) → i + k + 1 ≡ 32 → coefficient_at ts k ≡ get_or (reverse ts) i (pos 0) = λ i k e. coefficient_at_is ts k h ∙ sym (from_last ts 32 i k long e) in
+    let past : pos 0 ≡ get_or (reverse ts) 32 (pos 0) = sym (get_or_past (reverse ts) 32 (pos 0) (omega (arith, length-reverse ts))) in
     record {
-      at_4 = four_same (z 3 23 refl) (z 2 24 refl) (z 1 25 refl) (z 0 26 refl);
-      at_8 = four_same (z 7 19 refl) (z 6 20 refl) (z 5 21 refl) (z 4 22 refl);
-      at_12 = four_same (z 11 15 refl) (z 10 16 refl) (z 9 17 refl) (z 8 18 refl);
-      at_16 = four_same (z 15 11 refl) (z 14 12 refl) (z 13 13 refl) (z 12 14 refl);
-      at_20 = four_same (z 19 7 refl) (z 18 8 refl) (z 17 9 refl) (z 16 10 refl);
-      at_24 = four_same (z 23 3 refl) (z 22 4 refl) (z 21 5 refl) (z 20 6 refl);
-      at_28 = four_same past (z 26 0 refl) (z 25 1 refl) (z 24 2 refl);
+      at_4 = four_same (z 8 23 refl) (z 7 24 refl) (z 6 25 refl) (z 5 26 refl);
+      at_8 = four_same (z 12 19 refl) (z 11 20 refl) (z 10 21 refl) (z 9 22 refl);
+      at_12 = four_same (z 16 15 refl) (z 15 16 refl) (z 14 17 refl) (z 13 18 refl);
+      at_16 = four_same (z 20 11 refl) (z 19 12 refl) (z 18 13 refl) (z 17 14 refl);
+      at_20 = four_same (z 24 7 refl) (z 23 8 refl) (z 22 9 refl) (z 21 10 refl);
+      at_24 = four_same (z 28 3 refl) (z 27 4 refl) (z 26 5 refl) (z 25 6 refl);
+      at_28 = four_same past (z 31 0 refl) (z 30 1 refl) (z 29 2 refl);
     }
 
-newest_value : (ts : List ℤ) → length ts ≡ 32 → Within 32768 ts → AreLaterTaps (but_newest_five (reverse ts)) 0 (newest_taps ts)
+newest_value : (ts : List ℤ) → length ts ≡ 32 → Within 32768 ts → AreLaterTaps (reverse ts) 0 (newest_taps ts)
 newest_value ts long h =
-    let z : (i k : ℕ) → i + k ≡ 26 → coefficient_at ts k ≡ get_or (drop 5 (reverse ts)) i (pos 0) = λ i k e. coefficient_at_is ts k h ∙ sym (kept ts i k long e) in
+    let z : (i k : ℕ) → i + k + 1 ≡ 32 → coefficient_at ts k ≡ get_or (reverse ts) i (pos 0) = λ i k e. coefficient_at_is ts k h ∙ sym (from_last ts 32 i k long e) in
     record {
-      at_4 = four_same (z 2 24 refl) (z 1 25 refl) (z 0 26 refl) refl;
-      at_8 = four_same (z 6 20 refl) (z 5 21 refl) (z 4 22 refl) (z 3 23 refl);
-      at_12 = four_same (z 10 16 refl) (z 9 17 refl) (z 8 18 refl) (z 7 19 refl);
-      at_16 = four_same (z 14 12 refl) (z 13 13 refl) (z 12 14 refl) (z 11 15 refl);
-      at_20 = four_same (z 18 8 refl) (z 17 9 refl) (z 16 10 refl) (z 15 11 refl);
-      at_24 = four_same (z 22 4 refl) (z 21 5 refl) (z 20 6 refl) (z 19 7 refl);
-      at_28 = four_same (z 26 0 refl) (z 25 1 refl) (z 24 2 refl) (z 23 3 refl);
+      at_4 = four_same (z 7 24 refl) (z 6 25 refl) (z 5 26 refl) (z 4 27 refl);
+      at_8 = four_same (z 11 20 refl) (z 10 21 refl) (z 9 22 refl) (z 8 23 refl);
+      at_12 = four_same (z 15 16 refl) (z 14 17 refl) (z 13 18 refl) (z 12 19 refl);
+      at_16 = four_same (z 19 12 refl) (z 18 13 refl) (z 17 14 refl) (z 16 15 refl);
+      at_20 = four_same (z 23 8 refl) (z 22 9 refl) (z 21 10 refl) (z 20 11 refl);
+      at_24 = four_same (z 27 4 refl) (z 26 5 refl) (z 25 6 refl) (z 24 7 refl);
+      at_28 = four_same (z 31 0 refl) (z 30 1 refl) (z 29 2 refl) (z 28 3 refl);
     }
 
-pub taps_value : (ts : List ℤ) → length ts ≡ 32 → Within 32768 ts → AreTaps (but_newest_five (reverse ts)) (as_taps ts)
-taps_value ts long h = record { long = taps_length ts long; nearest = refl; second = second_value ts long h; newest = newest_value ts long h }
+pub taps_value : (ts : List ℤ) → length ts ≡ 32 → Within 32768 ts → AreTaps (reverse ts) (as_taps ts)
+taps_value ts long h = record { long = omega (arith, length-reverse ts); second = second_value ts long h; newest = newest_value ts long h }
 
 pub four_lanes : {a b c d : ℤ} → unsigned_abs a ≤ 32768 → unsigned_abs b ≤ 32768 → unsigned_abs c ≤ 32768 → unsigned_abs d ≤ 32768 → Lanes 32768 (a ∷ b ∷ c ∷ d ∷ [])
 four_lanes ha hb hc hd = record { four = refl; each = (ha, (hb, (hc, (hd, tt)))) }
@@ -489,19 +521,16 @@ second_small ts h =
 newest_small : (ts : List ℤ) → Within 32768 ts → SmallLater (newest_taps ts)
 newest_small ts h =
     let e = λ (j : ℕ). coefficient_small ts j h in
-    let none : unsigned_abs (pos 0) ≤ 32768 = omega arith in
-    record { at_4 = four_lanes (e 24) (e 25) (e 26) none; at_8 = four_lanes (e 20) (e 21) (e 22) (e 23); at_12 = four_lanes (e 16) (e 17) (e 18) (e 19); at_16 = four_lanes (e 12) (e 13) (e 14) (e 15); at_20 = four_lanes (e 8) (e 9) (e 10) (e 11); at_24 = four_lanes (e 4) (e 5) (e 6) (e 7); at_28 = four_lanes (e 0) (e 1) (e 2) (e 3) }
+    record { at_4 = four_lanes (e 24) (e 25) (e 26) (e 27); at_8 = four_lanes (e 20) (e 21) (e 22) (e 23); at_12 = four_lanes (e 16) (e 17) (e 18) (e 19); at_16 = four_lanes (e 12) (e 13) (e 14) (e 15); at_20 = four_lanes (e 8) (e 9) (e 10) (e 11); at_24 = four_lanes (e 4) (e 5) (e 6) (e 7); at_28 = four_lanes (e 0) (e 1) (e 2) (e 3) }
 
 pub taps_small : (ts : List ℤ) → Within 32768 ts → SmallTaps (as_taps ts)
 taps_small ts h = record { second = second_small ts h; newest = newest_small ts h }
 
 -- with k zeros before the coefficients, these fit v vectors
-pub fit_vectors : (ts : List ℤ) (n v k : ℕ) → length ts ≡ n → k + (4 * v + 4) ≡ n → 1 ≤ v → take k ts ≡ replicate k (pos 0) → FitVectors v (but_newest_five (reverse ts))
-fit_vectors ts n v k long whole some zeros =
-    let there : 5 + (4 * v - 1) ≡ 4 * v + 4 = omega arith in
+pub fit_vectors : (ts : List ℤ) (n v k : ℕ) → length ts ≡ n → k + (4 * v + 4) ≡ n → take k ts ≡ replicate k (pos 0) → FitVectors v (reverse ts)
+fit_vectors ts n v k long whole zeros =
     let halves : reverse ts ≡ reverse (drop k ts) ++ reverse (take k ts) = ap reverse (sym (take-append-drop k ts)) ∙ reverse-append (take k ts) (drop k ts) in
     let far : length (reverse (drop k ts)) ≡ 4 * v + 4 = omega (arith, length-reverse (drop k ts), length-drop k ts) in
     let after : drop (4 * v + 4) (reverse ts) ≡ reverse (take k ts) = ap (λ (m : ℕ). drop m (reverse ts)) (sym far) ∙ ap (drop (length (reverse (drop k ts)))) halves ∙ drop-append_seam (reverse (drop k ts)) (reverse (take k ts)) in
-    let left : k ≡ length (but_newest_five (reverse ts)) - (4 * v + 4) = omega (arith, length-drop 5 (reverse ts), length-reverse ts) in
-    ap (λ (m : ℕ). drop m (but_newest_five (reverse ts))) (sym there) ∙ sym (drop-drop (4 * v - 1) 5 (but_newest_five (reverse ts))) ∙ drop-drop (4 * v - 1) 5 (reverse ts) ∙ ap (λ (m : ℕ). drop m (reverse ts)) there ∙ after
-    ∙ ap reverse zeros ∙ reverse_zeros k ∙ ap (λ (m : ℕ). replicate m (pos 0)) left
+    let left : k ≡ length (reverse ts) - (4 * v + 4) = omega (arith, length-reverse ts) in
+    after ∙ ap reverse zeros ∙ reverse_zeros k ∙ ap (λ (m : ℕ). replicate m (pos 0)) left

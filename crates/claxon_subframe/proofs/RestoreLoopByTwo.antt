@@ -4,7 +4,7 @@ use Rattle.std.proofs.lemmas.Int.{to_z-of_z, int_wrap_fits, SFits-int_wrap}
 use Rattle.std.proofs.lemmas.List.{take_more, take_more_set, get_or-set_other, length-set, take-append-drop, take-take, drop-take, reverse-append}
 use Rattle.claxon_format.specs.Predict.{wrap, linear}
 use Rattle.claxon_format.specs.read.Predict.{restored}
-use Rattle.claxon_subframe.specs.PendingSums.{but_newest_five, four_pending, five_before, AreNewest, IsScaledUp, IsFollowedByTwo}
+use Rattle.claxon_subframe.specs.PendingSums.{four_pending, five_before, AreNewest, IsScaledUp, IsFollowedByTwo}
 use Rattle.claxon_subframe.specs.declared.subframe.predictor.NewestFive.{NewestFive}
 use Rattle.claxon_subframe.proofs.Predictors.{restored_more, restored_all, abs_32}
 use Rattle.claxon_subframe.proofs.Lanes.{small_fits}
@@ -90,10 +90,10 @@ pub record TwoMade (ks : List ℤ) (t : ℕ) (xs rest : List ℤ) (i j : ℕ) (s
   pub newest : n.newest ≡ wrap (linear ks t (n.second ∷ reverse (take i xs)) +ℤ get_or xs j (pos 0))
   pub past : n.newest ∷ n.second ∷ five_before s rest ≡ five_before n (s.fourth ∷ s.fifth ∷ rest)
 
-pub two_made : (ks xs pending ws : List ℤ) (i j : ℕ) (x y : ℤ) (last s n : NewestFive) (t : ℕ) → AreNewest ks last → (past : AreNewest (reverse (take i xs)) s) → pending ≡ four_pending (but_newest_five ks) (reverse (take i xs)) 0
+pub two_made : (ks xs pending ws : List ℤ) (i j : ℕ) (x y : ℤ) (last s n : NewestFive) (t : ℕ) → AreNewest ks last → (past : AreNewest (reverse (take i xs)) s) → pending ≡ four_pending ks (reverse (take i xs)) 0
     → ws ≡ pending → x ≡ get_or xs i (pos 0) → y ≡ get_or xs j (pos 0) → IsFollowedByTwo s last ws x y t n → TwoMade ks t xs past.rest i j s n
 two_made ks xs pending ws i j x y last s n t new past pending_is ew ex ey two =
-    let next = two ks past.rest new (ew ∙ pending_is ∙ ap (λ (l : List ℤ). four_pending (but_newest_five ks) l 0) past.is) in
+    let next = two ks past.rest new (ew ∙ pending_is ∙ ap (λ (l : List ℤ). four_pending ks l 0) past.is) in
     record {
       second = next.second ∙ ap (λ (l : List ℤ). wrap (linear ks t l +ℤ x)) (sym past.is) ∙ ap (λ (v : ℤ). wrap (linear ks t (reverse (take i xs)) +ℤ v)) ex;
       newest = next.newest ∙ ap (λ (l : List ℤ). wrap (linear ks t (n.second ∷ l) +ℤ y)) (sym past.is) ∙ ap (λ (v : ℤ). wrap (linear ks t (n.second ∷ reverse (take i xs)) +ℤ v)) ey;
@@ -101,10 +101,10 @@ two_made ks xs pending ws i j x y last s n t new past pending_is ew ex ey two =
     }
 
 -- one sample
-pub one_made : (ks xs pending ws : List ℤ) (i : ℕ) (x y : ℤ) (last s n : NewestFive) (t : ℕ) → AreNewest ks last → AreNewest (reverse (take i xs)) s → pending ≡ four_pending (but_newest_five ks) (reverse (take i xs)) 0
+pub one_made : (ks xs pending ws : List ℤ) (i : ℕ) (x y : ℤ) (last s n : NewestFive) (t : ℕ) → AreNewest ks last → AreNewest (reverse (take i xs)) s → pending ≡ four_pending ks (reverse (take i xs)) 0
     → ws ≡ pending → x ≡ get_or xs i (pos 0) → IsFollowedByTwo s last ws x y t n → n.second ≡ wrap (linear ks t (reverse (take i xs)) +ℤ get_or xs i (pos 0))
 one_made ks xs pending ws i x y last s n t new past pending_is ew ex two =
-    let next = two ks past.rest new (ew ∙ pending_is ∙ ap (λ (l : List ℤ). four_pending (but_newest_five ks) l 0) past.is) in
+    let next = two ks past.rest new (ew ∙ pending_is ∙ ap (λ (l : List ℤ). four_pending ks l 0) past.is) in
     next.second ∙ ap (λ (l : List ℤ). wrap (linear ks t l +ℤ x)) (sym past.is) ∙ ap (λ (v : ℤ). wrap (linear ks t (reverse (take i xs)) +ℤ v)) ex
 
 -- the buffer with both samples

@@ -3,7 +3,7 @@ use Rattle.std.proofs.Common.{◌≡◌, ℕ, ◌+◌, ◌*◌, ◌≤◌, List,
 use Rattle.std.proofs.lemmas.Int.{to_z-of_z}
 use Rattle.std.proofs.lemmas.List.{length-append}
 use Rattle.claxon_subframe.specs.Lanes.{Within, Lanes, LanesFit64}
-use Rattle.claxon_subframe.specs.PendingSums.{but_newest_five, FitVectors, AreNewest}
+use Rattle.claxon_subframe.specs.PendingSums.{FitVectors, AreNewest}
 use Rattle.claxon_subframe.specs.TwelveLanes.{numbers, SmallTwelve, TwelveFit64, SmallTwelveTaps, AreTwelveTaps, AreTwelvePending}
 use Rattle.claxon_subframe.specs.declared.subframe.predictor.NewestFive.{NewestFive}
 use Rattle.claxon_subframe.specs.declared.subframe.predictor.TwelveLanes.{TwelveLanes}
@@ -39,13 +39,13 @@ twice_in_64 x h =
     ap (λ (v : ℤ). to_z w64 (of_z w64 v)) (to_z-of_z w64 x f) ∙ to_z-of_z w64 x f
 
 abbrev pub as_twelve_taps : TwelveLanes → TwelveTaps
-as_twelve_taps t = record { second = record { at_8 = pos 0 ∷ lane t.at_8 0 ∷ lane t.at_8 1 ∷ lane t.at_8 2 ∷ []; at_4 = lane t.at_8 3 ∷ lane t.at_4 0 ∷ lane t.at_4 1 ∷ lane t.at_4 2 ∷ [] }; newest = record { at_8 = map (to_z w64) (map (of_z w64) t.at_8); at_4 = lane t.at_4 0 ∷ lane t.at_4 1 ∷ lane t.at_4 2 ∷ pos 0 ∷ [] } }
+as_twelve_taps t = record { second = record { at_8 = pos 0 ∷ lane t.at_8 0 ∷ lane t.at_8 1 ∷ lane t.at_8 2 ∷ []; at_4 = lane t.at_8 3 ∷ lane t.at_4 0 ∷ lane t.at_4 1 ∷ lane t.at_4 2 ∷ [] }; newest = record { at_8 = map (to_z w64) (map (of_z w64) t.at_8); at_4 = map (to_z w64) (map (of_z w64) t.at_4) } }
 
 -- the newest five coefficients, as the code has them
 abbrev pub as_last : TwelveLanes → NewestFive
 as_last t = record { fifth = lane t.at_4 3; fourth = lane t.at_0 0; third = lane t.at_0 1; second = lane t.at_0 2; newest = lane t.at_0 3 }
 
-taps_are_lanes : (xs ys zs : List ℤ) → Lanes 32768 xs → Lanes 32768 ys → Lanes 32768 zs → AreTwelveTaps (but_newest_five (reverse (xs ++ (ys ++ zs)))) (as_twelve_taps (record { at_8 = xs; at_4 = ys; at_0 = zs }))
+taps_are_lanes : (xs ys zs : List ℤ) → Lanes 32768 xs → Lanes 32768 ys → Lanes 32768 zs → AreTwelveTaps (reverse (xs ++ (ys ++ zs))) (as_twelve_taps (record { at_8 = xs; at_4 = ys; at_0 = zs }))
 taps_are_lanes (a ∷ b ∷ c ∷ d ∷ []) (e ∷ f ∷ g ∷ h ∷ []) (i ∷ j ∷ k ∷ l ∷ []) x y z =
     let a-is = twice_in_64 a x.each.0 in
     let b-is = twice_in_64 b x.each.1.0 in
@@ -56,13 +56,12 @@ taps_are_lanes (a ∷ b ∷ c ∷ d ∷ []) (e ∷ f ∷ g ∷ h ∷ []) (i ∷ 
     let g-is = twice_in_64 g y.each.1.1.0 in
     record {
       long = refl;
-      nearest = refl;
       second = record { at_8 = four_same refl a-is b-is c-is; at_4 = four_same d-is e-is f-is g-is };
-      newest = record { at_8 = same_lanes (omega arith) x; at_4 = four_same e-is f-is g-is refl };
+      newest = record { at_8 = same_lanes (omega arith) x; at_4 = same_lanes (omega arith) y };
     }
 taps_are_lanes xs ys zs x y z = absurd (omega (arith, x.four, y.four, z.four))
 
-pub twelve_taps : (t : TwelveLanes) → SmallTwelve t → AreTwelveTaps (but_newest_five (reverse (numbers t))) (as_twelve_taps t)
+pub twelve_taps : (t : TwelveLanes) → SmallTwelve t → AreTwelveTaps (reverse (numbers t)) (as_twelve_taps t)
 twelve_taps t h = taps_are_lanes t.at_8 t.at_4 t.at_0 h.at_8 h.at_4 h.at_0
 
 lanes_small : (xs ys : List ℤ) → Lanes 32768 xs → Lanes 32768 ys → SmallTwelveTaps (as_twelve_taps (record { at_8 = xs; at_4 = ys; at_0 = [] }))
@@ -78,7 +77,7 @@ lanes_small (a ∷ b ∷ c ∷ d ∷ []) (e ∷ f ∷ g ∷ h ∷ []) x y =
     let g-is = small g y.each.1.1.0 in
     record {
       second = record { at_8 = four_lanes none a-is b-is c-is; at_4 = four_lanes d-is e-is f-is g-is };
-      newest = record { at_8 = kept_lanes (omega arith) x; at_4 = four_lanes e-is f-is g-is none };
+      newest = record { at_8 = kept_lanes (omega arith) x; at_4 = kept_lanes (omega arith) y };
     }
 lanes_small xs ys x y = absurd (omega (arith, x.four, y.four))
 

@@ -58,10 +58,9 @@ advanced_by_pair before zs taps pair = plus_pairs (drop 2 before ++ take 2 zs) t
 abbrev pub pair_taps : List ℤ → ℕ → List ℤ
 pair_taps coefficients j = in_turn (four_taps coefficients (j + 1)) (four_taps coefficients j)
 
--- the same for the samples from the fifth on: they are zero for the next four samples
+-- the same for the samples from the fifth on
 pub record ArePairTaps (coefficients : List ℤ) (taps : LaterLanes (List ℤ)) : Type 0 where
   pub long : length coefficients ≡ 32
-  pub nearest : take 5 coefficients ≡ replicate 5 (pos 0)
   pub at_4 : taps.at_4 ≡ pair_taps coefficients 4
   pub at_8 : taps.at_8 ≡ pair_taps coefficients 8
   pub at_12 : taps.at_12 ≡ pair_taps coefficients 12

@@ -7,7 +7,11 @@ use Rattle.claxon_subframe.specs.declared.subframe.predictor.Taps.{Taps}
 use Rattle.claxon_subframe.specs.declared.subframe.predictor.LaterLanes.{LaterLanes}
 use Rattle.claxon_subframe.specs.declared.subframe.predictor.PendingSums.{PendingSums}
 
--- coefficients, the newest sample's first, with zeros for the newest five
+-- coefficients, the newest sample's first, with zeros for the newest four
+abbrev pub but_newest_four : List ℤ → List ℤ
+but_newest_four coefficients = pos 0 ∷ pos 0 ∷ pos 0 ∷ pos 0 ∷ drop 4 coefficients
+
+-- the same with zeros for the newest five
 abbrev pub but_newest_five : List ℤ → List ℤ
 but_newest_five coefficients = pos 0 ∷ pos 0 ∷ pos 0 ∷ pos 0 ∷ pos 0 ∷ drop 5 coefficients
 
@@ -15,9 +19,10 @@ but_newest_five coefficients = pos 0 ∷ pos 0 ∷ pos 0 ∷ pos 0 ∷ pos 0 ∷
 abbrev pub pending_at : List ℤ → List ℤ → ℕ → ℤ
 pending_at coefficients past j = wrap_64 (dot (drop j coefficients) past)
 
--- the same for four samples, the latest first
+-- the same for four samples, the latest first, which become two pairs: of the first of a pair all coefficients but the newest four count, of the second all but the newest five
 abbrev pub four_pending : List ℤ → List ℤ → ℕ → List ℤ
-four_pending coefficients past j = pending_at coefficients past (j + 3) ∷ pending_at coefficients past (j + 2) ∷ pending_at coefficients past (j + 1) ∷ pending_at coefficients past j ∷ []
+four_pending coefficients past j =
+    pending_at (but_newest_five coefficients) past (j + 3) ∷ pending_at (but_newest_four coefficients) past (j + 2) ∷ pending_at (but_newest_five coefficients) past (j + 1) ∷ pending_at (but_newest_four coefficients) past j ∷ []
 
 -- the lanes hold the pending sums of the samples from the fifth on
 pub record LaterArePending (coefficients past : List ℤ) (later : LaterLanes (List ℤ)) : Type 0 where
@@ -48,10 +53,9 @@ pub record AreLaterTaps (coefficients : List ℤ) (back : ℕ) (taps : LaterLane
   pub at_24 : taps.at_24 ≡ four_taps coefficients (back + 24)
   pub at_28 : taps.at_28 ≡ four_taps coefficients (back + 28)
 
--- the coefficients of the newest sample and of the one before it, which are zero for the next four samples
+-- the coefficients of the newest sample and of the one before it, for the samples from the fifth on
 pub record AreTaps (coefficients : List ℤ) (taps : Taps) : Type 0 where
   pub long : length coefficients ≡ 32
-  pub nearest : take 5 coefficients ≡ replicate 5 (pos 0)
   pub second : AreLaterTaps coefficients 1 taps.second
   pub newest : AreLaterTaps coefficients 0 taps.newest
 
@@ -124,6 +128,14 @@ abbrev pub IsSample : ℤ → NewestFive → NewestFive → ℕ → ℤ → Type
 IsSample scaled coefficients samples shift sample =
     (sum residual : ℤ) → scaled ≡ scaled_up sum residual shift → sample ≡ wrap (floor_shift (plus_five sum coefficients samples) shift +ℤ residual)
 
+-- these coefficients without that of the fifth sample
+pub record IsButFifth (coefficients others : NewestFive) : Type 0 where
+  pub fifth : others.fifth ≡ pos 0
+  pub fourth : others.fourth ≡ coefficients.fourth
+  pub third : others.third ≡ coefficients.third
+  pub second : others.second ≡ coefficients.second
+  pub newest : others.newest ≡ coefficients.newest
+
 -- the newest five samples, after one more
 pub record IsFollowed (old : NewestFive) (sample : ℤ) (new : NewestFive) : Type 0 where
   pub fifth : new.fifth ≡ old.fourth
@@ -147,7 +159,7 @@ pub record AreNextTwo (coefficients rest : List ℤ) (old : NewestFive) (nearest
   pub newest : new.newest ≡ wrap (linear coefficients shift (new.second ∷ five_before old rest) +ℤ farther)
   pub past : new.newest ∷ new.second ∷ five_before old rest ≡ five_before new (old.fourth ∷ old.fifth ∷ rest)
 
--- the same, where the lanes hold the pending sums of all coefficients but the newest five
+-- the same, where the lanes hold the pending sums
 abbrev pub IsFollowedByTwo : NewestFive → NewestFive → List ℤ → ℤ → ℤ → ℕ → NewestFive → Type 0
 IsFollowedByTwo old five pending nearest farther shift new =
-    (coefficients rest : List ℤ) → AreNewest coefficients five → pending ≡ four_pending (but_newest_five coefficients) (five_before old rest) 0 → AreNextTwo coefficients rest old nearest farther shift new
+    (coefficients rest : List ℤ) → AreNewest coefficients five → pending ≡ four_pending coefficients (five_before old rest) 0 → AreNextTwo coefficients rest old nearest farther shift new

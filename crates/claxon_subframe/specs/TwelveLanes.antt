@@ -35,10 +35,9 @@ pub record AreEightTaps (coefficients : List ℤ) (back : ℕ) (taps : EightLane
   pub at_8 : taps.at_8 ≡ four_taps coefficients (back + 8)
   pub at_4 : taps.at_4 ≡ four_taps coefficients (back + 4)
 
--- the coefficients of the newest sample and of the one before it, which are zero for the next four samples
+-- the coefficients of the newest sample and of the one before it, for the samples from the fifth on
 pub record AreTwelveTaps (coefficients : List ℤ) (taps : TwelveTaps) : Type 0 where
   pub long : length coefficients ≡ 12
-  pub nearest : take 5 coefficients ≡ replicate 5 (pos 0)
   pub second : AreEightTaps coefficients 1 taps.second
   pub newest : AreEightTaps coefficients 0 taps.newest
 

@@ -5,7 +5,7 @@ ghost use Rattle.claxon_format.specs.Predict.{wrap, dot, floor_shift, linear};
 ghost use Rattle.claxon_format.specs.read.Predict.{fixed, restored};
 ghost use Rattle.claxon_subframe.specs.Predictor.{SamplesAreRestored};
 ghost use Rattle.claxon_subframe.specs.Lanes.{Within, Lanes, LanesFit64, plus_products, advanced_by_two};
-ghost use Rattle.claxon_subframe.specs.PendingSums.{but_newest_five, AreTaps, SmallTaps, SumsFit64, ArePendingSumsAfterTwo, ArePendingSumsBeforeAll, ArePendingSumsAfter, IsScaledUp, AddsProduct, IsSample, IsFollowed, AreNewest, IsFollowedByTwo};
+ghost use Rattle.claxon_subframe.specs.PendingSums.{AreTaps, SmallTaps, SumsFit64, ArePendingSumsAfterTwo, ArePendingSumsBeforeAll, ArePendingSumsAfter, IsScaledUp, AddsProduct, IsSample, IsButFifth, IsFollowed, AreNewest, IsFollowedByTwo};
 ghost use Rattle.claxon_subframe.specs.TwelveLanes.{numbers, SmallTwelve, TwelveFit64, AreTwelveTaps, SmallTwelveTaps, AreTwelvePendingAfterTwo, AreTwelvePendingBeforeAll, AreTwelvePendingAfter};
 
 use std::simd::prelude::*;
@@ -373,7 +373,22 @@ impl NewestFive {
         }
     }
 
-    // The newest five after the next two samples, whose pending sums are the last two lanes of `pending`, the next one's last.
+    // These coefficients without that of the fifth sample.
+    #[inline(always)]
+    fn but_fifth(self) -> NewestFive
+        ensures { IsButFifth self result }
+    {
+        NewestFive {
+            fifth: 0,
+            fourth: self.fourth,
+            third: self.third,
+            second: self.second,
+            newest: self.newest,
+        }
+    }
+
+    // The newest five after the next two samples, whose pending sums are the last two lanes of `pending`, the next one's last. That
+    // of the next one has the product of the fifth sample already.
     #[inline(always)]
     fn followed_by_two(
         self,
@@ -390,7 +405,7 @@ impl NewestFive {
         ensures newest { FitsSigned w32 result.newest }
     {
         let (nearest, farther) = scaled_up(pending, nearest, farther, shift);
-        let one = sample_of(nearest, coefficients, self, shift);
+        let one = sample_of(nearest, coefficients.but_fifth(), self, shift);
         let before = self.followed_by(one);
         let two = sample_of(farther, coefficients, before, shift);
         before.followed_by(two)
@@ -437,8 +452,7 @@ struct EightLanes {
     at_4: i64x4,
 }
 
-// The coefficients of the newer of two samples for the next twelve samples, and those of the one before it. They are 0 for the
-// five samples directly after each, so neither adds to the next four.
+// The coefficients of the newer of two samples for the next twelve samples, from the fifth on, and those of the one before it.
 #[derive(Clone, Copy)]
 struct TwelveTaps {
     second: EightLanes,
@@ -464,7 +478,7 @@ fn padded_to_twelve(coefficients: &[i16]) -> TwelveLanes
 #[inline(always)]
 fn taps_of_twelve(coefficients: &TwelveLanes) -> TwelveTaps
     requires { SmallTwelve coefficients.now }
-    ensures value { AreTwelveTaps (but_newest_five (reverse (numbers coefficients.now))) result }
+    ensures value { AreTwelveTaps (reverse (numbers coefficients.now)) result }
     ensures small { SmallTwelveTaps result }
 {
     let [oldest, second, third, fourth] = coefficients.at_8.to_array();
@@ -476,7 +490,7 @@ fn taps_of_twelve(coefficients: &TwelveLanes) -> TwelveTaps
         },
         newest: EightLanes {
             at_8: coefficients.at_8,
-            at_4: i64x4::from_array([fifth, sixth, seventh, 0]),
+            at_4: coefficients.at_4,
         },
     }
 }
@@ -558,9 +572,10 @@ fn first_twelve_sums<const VECTORS: usize>(taps: TwelveTaps, samples: &[i32]) ->
 // zeros.
 //
 // A sample's products are added to the pending sums of later samples as soon as it is known, two samples at a time, so that the
-// lanes shift by half a vector. The products of the newest five samples are added last, one by one, so that a sample depends on
-// the one just before it only by one product, and on no pending sum that was just computed. The coefficients are passed by
-// reference and this isn't inlined, so that the compiler keeps the shifts of `sign_extended`.
+// lanes shift by half a vector. The products of the newest samples, four for the first of two and five for the second, are added
+// last, one by one, so that a sample depends on the one just before it only by one product, and on no pending sum that was just
+// computed. The coefficients are passed by reference and this isn't inlined, so that the compiler keeps the shifts of
+// `sign_extended`.
 #[inline(never)]
 fn predict_12_taps<const VECTORS: usize>(coefficients: &TwelveLanes, shift: u32, buffer: &mut [i32])
     requires shift { shift ≤ 15 }
@@ -624,8 +639,7 @@ struct PendingSums<L> {
     later: LaterLanes<L>,
 }
 
-// The coefficients of the newer of two samples for these samples, and those of the one before it. They are 0 for the five
-// samples directly after each, so neither adds to the next four.
+// The coefficients of the newer of two samples for these samples, from the fifth on, and those of the one before it.
 #[derive(Clone, Copy)]
 struct Taps {
     second: LaterLanes<i64x4>,
@@ -635,7 +649,7 @@ struct Taps {
 #[inline(always)]
 fn taps_of(padded: &[i64; 32]) -> Taps
     requires { Within (2 ^ 15) padded.now }
-    ensures value { AreTaps (but_newest_five (reverse padded.now)) result }
+    ensures value { AreTaps (reverse padded.now) result }
     ensures small { SmallTaps result }
 {
     Taps {
@@ -649,7 +663,7 @@ fn taps_of(padded: &[i64; 32]) -> Taps
             at_28: i64x4::from_array([0, padded[0], padded[1], padded[2]]),
         },
         newest: LaterLanes {
-            at_4: i64x4::from_array([padded[24], padded[25], padded[26], 0]),
+            at_4: i64x4::from_array([padded[24], padded[25], padded[26], padded[27]]),
             at_8: i64x4::from_array([padded[20], padded[21], padded[22], padded[23]]),
             at_12: i64x4::from_array([padded[16], padded[17], padded[18], padded[19]]),
             at_16: i64x4::from_array([padded[12], padded[13], padded[14], padded[15]]),

@@ -6,7 +6,7 @@ ghost use Rattle.std.specs.Int.{w16, w32};
 ghost use Rattle.claxon_format.specs.Predict.{linear};
 ghost use Rattle.claxon_format.specs.read.Predict.{restored};
 ghost use Rattle.claxon_subframe.specs.Lanes.{LanesFit64};
-ghost use Rattle.claxon_subframe.specs.PendingSums.{ArePendingSumsBeforeAll, but_newest_five};
+ghost use Rattle.claxon_subframe.specs.PendingSums.{ArePendingSumsBeforeAll};
 ghost use Rattle.claxon_subframe.specs.Pairs.{Fit16, ArePairTaps, ArePairSumsAfter, ArePairSumsAfterTwo, LanesFit16, LanesFit32, SmallPairTaps, SumsFit32, advanced_by_pair, magnitude, pair_of, plus_pairs};
 
 use super::{LaterLanes, NewestFive, PendingSums, low_bits, predict_plain};
@@ -114,15 +114,15 @@ fn padded_to_32(coefficients: &[i16]) -> [i16; 32]
 }
 
 // For each later sample, from the fifth on, the coefficients of two samples in turn: of the one before the newest, and of the
-// newest. They are 0 for the five samples directly after each, so neither adds to the next four.
+// newest.
 #[inline(always)]
 fn pair_taps_of(padded: &[i16; 32]) -> LaterLanes<i16x8>
-    ensures value { ArePairTaps (but_newest_five (reverse padded.now)) result }
+    ensures value { ArePairTaps (reverse padded.now) result }
     ensures small { SmallPairTaps result }
 {
     let p = padded;
     LaterLanes {
-        at_4: i16x8::from_array([p[23], p[24], p[24], p[25], p[25], p[26], p[26], 0]),
+        at_4: i16x8::from_array([p[23], p[24], p[24], p[25], p[25], p[26], p[26], p[27]]),
         at_8: i16x8::from_array([p[19], p[20], p[20], p[21], p[21], p[22], p[22], p[23]]),
         at_12: i16x8::from_array([p[15], p[16], p[16], p[17], p[17], p[18], p[18], p[19]]),
         at_16: i16x8::from_array([p[11], p[12], p[12], p[13], p[13], p[14], p[14], p[15]]),

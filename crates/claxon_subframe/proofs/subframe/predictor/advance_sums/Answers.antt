@@ -97,15 +97,15 @@ returns-clause-value g c = λ ks past taps fit pending.
     let newest = sample_lanes c.args.two c.broadcast-two.result c.ranges.two c.broadcast-two.ensures.lanes c.broadcast-two.ensures.value in
     let on = later_lanes_advanced ks past c.args.one c.args.two g.row.VECTORS fit second newest in
     record {
-      at_0 = nearest_lanes_advanced ks past c.args.one c.args.two _ taps.nearest (moved_by c.requires.sums.later.at_4 c.requires.sums.at_0 c.shift_two_lanes.ensures.fits c.shift_two_lanes.ensures.value) pending.later.at_4 pending.at_0;
+      at_0 = nearest_lanes_advanced ks past c.args.one c.args.two _ (moved_by c.requires.sums.later.at_4 c.requires.sums.at_0 c.shift_two_lanes.ensures.fits c.shift_two_lanes.ensures.value) pending.later.at_4 pending.at_0;
       later = record {
-        at_4 = on 4 _ _ _ _ _ c.advance_lanes.result (λ h. absurd cc) c.advance_lanes.ensures.value c.advance_lanes.ensures.zeros (lanes_64_are c.requires.sums.later.at_8 pending.later.at_8) (lanes_64_are c.requires.sums.later.at_4 pending.later.at_4) (taps_are c.requires.taps.second.at_4 taps.second.at_4) (taps_are c.requires.taps.newest.at_4 taps.newest.at_4);
-        at_8 = on 8 _ _ _ _ _ c.advance_lanes-2.result (λ h. absurd cc) c.advance_lanes-2.ensures.value c.advance_lanes-2.ensures.zeros (lanes_64_are c.requires.sums.later.at_12 pending.later.at_12) (lanes_64_are c.requires.sums.later.at_8 pending.later.at_8) (taps_are c.requires.taps.second.at_8 taps.second.at_8) (taps_are c.requires.taps.newest.at_8 taps.newest.at_8);
-        at_12 = on 12 _ _ _ _ _ c.advance_lanes-3.result (λ h. absurd cc) c.advance_lanes-3.ensures.value c.advance_lanes-3.ensures.zeros (lanes_64_are c.requires.sums.later.at_16 pending.later.at_16) (lanes_64_are c.requires.sums.later.at_12 pending.later.at_12) (taps_are c.requires.taps.second.at_12 taps.second.at_12) (taps_are c.requires.taps.newest.at_12 taps.newest.at_12);
-        at_16 = on 16 _ _ _ _ _ c.advance_lanes-4.result (λ h. omega (arith, ltb-false)) c.advance_lanes-4.ensures.value c.advance_lanes-4.ensures.zeros (lanes_64_are c.requires.sums.later.at_20 pending.later.at_20) (lanes_64_are c.requires.sums.later.at_16 pending.later.at_16) (taps_are c.requires.taps.second.at_16 taps.second.at_16) (taps_are c.requires.taps.newest.at_16 taps.newest.at_16);
-        at_20 = on 20 _ _ _ _ _ c.advance_lanes-5.result (λ h. omega (arith, ltb-false)) c.advance_lanes-5.ensures.value c.advance_lanes-5.ensures.zeros (lanes_64_are c.requires.sums.later.at_24 pending.later.at_24) (lanes_64_are c.requires.sums.later.at_20 pending.later.at_20) (taps_are c.requires.taps.second.at_20 taps.second.at_20) (taps_are c.requires.taps.newest.at_20 taps.newest.at_20);
-        at_24 = on 24 _ _ _ _ _ c.advance_lanes-6.result (λ h. omega (arith, ltb-false)) c.advance_lanes-6.ensures.value c.advance_lanes-6.ensures.zeros (lanes_64_are c.requires.sums.later.at_28 pending.later.at_28) (lanes_64_are c.requires.sums.later.at_24 pending.later.at_24) (taps_are c.requires.taps.second.at_24 taps.second.at_24) (taps_are c.requires.taps.newest.at_24 taps.newest.at_24);
-        at_28 = on 28 _ _ _ _ _ c.advance_lanes-7.result (λ h. omega (arith, ltb-false)) c.advance_lanes-7.ensures.value c.advance_lanes-7.ensures.zeros (four_pending_none ks past 32 taps.long) (lanes_64_are c.requires.sums.later.at_28 pending.later.at_28) (taps_are c.requires.taps.second.at_28 taps.second.at_28) (taps_are c.requires.taps.newest.at_28 taps.newest.at_28);
+        at_4 = on 4 _ _ _ _ _ c.advance_lanes.result (omega arith) (λ h. absurd cc) c.advance_lanes.ensures.value c.advance_lanes.ensures.zeros (lanes_64_are c.requires.sums.later.at_8 pending.later.at_8) (lanes_64_are c.requires.sums.later.at_4 pending.later.at_4) (taps_are c.requires.taps.second.at_4 taps.second.at_4) (taps_are c.requires.taps.newest.at_4 taps.newest.at_4);
+        at_8 = on 8 _ _ _ _ _ c.advance_lanes-2.result (omega arith) (λ h. absurd cc) c.advance_lanes-2.ensures.value c.advance_lanes-2.ensures.zeros (lanes_64_are c.requires.sums.later.at_12 pending.later.at_12) (lanes_64_are c.requires.sums.later.at_8 pending.later.at_8) (taps_are c.requires.taps.second.at_8 taps.second.at_8) (taps_are c.requires.taps.newest.at_8 taps.newest.at_8);
+        at_12 = on 12 _ _ _ _ _ c.advance_lanes-3.result (omega arith) (λ h. absurd cc) c.advance_lanes-3.ensures.value c.advance_lanes-3.ensures.zeros (lanes_64_are c.requires.sums.later.at_16 pending.later.at_16) (lanes_64_are c.requires.sums.later.at_12 pending.later.at_12) (taps_are c.requires.taps.second.at_12 taps.second.at_12) (taps_are c.requires.taps.newest.at_12 taps.newest.at_12);
+        at_16 = on 16 _ _ _ _ _ c.advance_lanes-4.result (omega arith) (λ h. omega (arith, ltb-false)) c.advance_lanes-4.ensures.value c.advance_lanes-4.ensures.zeros (lanes_64_are c.requires.sums.later.at_20 pending.later.at_20) (lanes_64_are c.requires.sums.later.at_16 pending.later.at_16) (taps_are c.requires.taps.second.at_16 taps.second.at_16) (taps_are c.requires.taps.newest.at_16 taps.newest.at_16);
+        at_20 = on 20 _ _ _ _ _ c.advance_lanes-5.result (omega arith) (λ h. omega (arith, ltb-false)) c.advance_lanes-5.ensures.value c.advance_lanes-5.ensures.zeros (lanes_64_are c.requires.sums.later.at_24 pending.later.at_24) (lanes_64_are c.requires.sums.later.at_20 pending.later.at_20) (taps_are c.requires.taps.second.at_20 taps.second.at_20) (taps_are c.requires.taps.newest.at_20 taps.newest.at_20);
+        at_24 = on 24 _ _ _ _ _ c.advance_lanes-6.result (omega arith) (λ h. omega (arith, ltb-false)) c.advance_lanes-6.ensures.value c.advance_lanes-6.ensures.zeros (lanes_64_are c.requires.sums.later.at_28 pending.later.at_28) (lanes_64_are c.requires.sums.later.at_24 pending.later.at_24) (taps_are c.requires.taps.second.at_24 taps.second.at_24) (taps_are c.requires.taps.newest.at_24 taps.newest.at_24);
+        at_28 = on 28 _ _ _ _ _ c.advance_lanes-7.result (omega arith) (λ h. omega (arith, ltb-false)) c.advance_lanes-7.ensures.value c.advance_lanes-7.ensures.zeros (four_pending_none ks past 32 (omega arith) taps.long) (lanes_64_are c.requires.sums.later.at_28 pending.later.at_28) (taps_are c.requires.taps.second.at_28 taps.second.at_28) (taps_are c.requires.taps.newest.at_28 taps.newest.at_28);
       };
     }
 

@@ -37,9 +37,9 @@ returns-clause-value g c = λ ks past taps fit pending.
     let newest = sample_lanes c.args.two c.broadcast-two.result c.ranges.two c.broadcast-two.ensures.lanes c.broadcast-two.ensures.value in
     let on = later_lanes_advanced ks past c.args.one c.args.two g.row.VECTORS fit second newest in
     record {
-      at_8 = on 8 _ _ _ _ _ c.advance_lanes.result (λ h. omega (arith, ltb-false)) c.advance_lanes.ensures.value c.advance_lanes.ensures.zeros (four_pending_none ks past 12 taps.long) (lanes_64_are c.requires.sums.at_8 pending.at_8) (taps_are c.requires.taps.second.at_8 taps.second.at_8) (taps_are c.requires.taps.newest.at_8 taps.newest.at_8);
-      at_4 = on 4 _ _ _ _ _ c.advance_lanes-2.result (λ h. absurd cc) c.advance_lanes-2.ensures.value c.advance_lanes-2.ensures.zeros (lanes_64_are c.requires.sums.at_8 pending.at_8) (lanes_64_are c.requires.sums.at_4 pending.at_4) (taps_are c.requires.taps.second.at_4 taps.second.at_4) (taps_are c.requires.taps.newest.at_4 taps.newest.at_4);
-      at_0 = nearest_lanes_advanced ks past c.args.one c.args.two _ taps.nearest (moved_by c.requires.sums.at_4 c.requires.sums.at_0 c.shift_two_lanes.ensures.fits c.shift_two_lanes.ensures.value) pending.at_4 pending.at_0;
+      at_8 = on 8 _ _ _ _ _ c.advance_lanes.result (omega arith) (λ h. omega (arith, ltb-false)) c.advance_lanes.ensures.value c.advance_lanes.ensures.zeros (four_pending_none ks past 12 (omega arith) taps.long) (lanes_64_are c.requires.sums.at_8 pending.at_8) (taps_are c.requires.taps.second.at_8 taps.second.at_8) (taps_are c.requires.taps.newest.at_8 taps.newest.at_8);
+      at_4 = on 4 _ _ _ _ _ c.advance_lanes-2.result (omega arith) (λ h. absurd cc) c.advance_lanes-2.ensures.value c.advance_lanes-2.ensures.zeros (lanes_64_are c.requires.sums.at_8 pending.at_8) (lanes_64_are c.requires.sums.at_4 pending.at_4) (taps_are c.requires.taps.second.at_4 taps.second.at_4) (taps_are c.requires.taps.newest.at_4 taps.newest.at_4);
+      at_0 = nearest_lanes_advanced ks past c.args.one c.args.two _ (moved_by c.requires.sums.at_4 c.requires.sums.at_0 c.shift_two_lanes.ensures.fits c.shift_two_lanes.ensures.value) pending.at_4 pending.at_0;
     }
 
 pub returns-clause-fits : goal.returns-clause-fits

@@ -2,7 +2,6 @@ use Rattle.std.proofs.Common.{◌≡◌, ℕ, ◌+◌, ◌-◌, ◌*◌, ◌∙�
 use Rattle.std.proofs.lemmas.Int.{to_z-of_z}
 use Rattle.std.proofs.lemmas.List.{length-set, length-take, length-drop, length-reverse}
 use Rattle.claxon_format.specs.Predict.{linear}
-use Rattle.claxon_subframe.specs.PendingSums.{but_newest_five}
 use Rattle.claxon_subframe.specs.TwelveLanes.{numbers, AreTwelvePending}
 use Rattle.claxon_subframe.proofs.Predictors.{restored_all}
 use Rattle.claxon_subframe.proofs.Lanes.{kept_fit_64, same_fit_64}
@@ -29,10 +28,10 @@ followed_by_two-requires-clause-pending g c = kept_fit_64 (twelve_fit_64 c.loop-
 
 pub loop-pair-init : goal.loop-pair-init
 loop-pair-init g c =
-    let ks = but_newest_five (reverse (numbers c.args.coefficients.now)) in
+    let ks = reverse (numbers c.args.coefficients.now) in
     let n = 8 - 4 * g.row.VECTORS in
     let near = reverse (take (12 - n) (drop n c.args.buffer.now)) in
-    let fit = fit_vectors (numbers c.args.coefficients.now) 12 g.row.VECTORS n (twelve_long c.args.coefficients.now c.requires.small) (omega arith) c.requires.some c.requires.zeros in
+    let fit = fit_vectors (numbers c.args.coefficients.now) 12 g.row.VECTORS n (twelve_long c.args.coefficients.now c.requires.small) (omega arith) c.requires.zeros in
     record {
       kept = refl;
       same = refl;
@@ -55,14 +54,14 @@ loop-pair-preserved g c =
     let two = narrowed new.newest c.low_bits-in-loop-pair.result c.followed_by_two-newest.ensures.newest c.low_bits-in-loop-pair.ensures in
     let made = two_made ks c.loop-pair.buffer c.loop-pair.sums.at_0 _ i j _ _ _ c.loop-pair.newest new c.args.shift (twelve_last c.args.coefficients.now c.requires.small) c.loop-pair.invariant.past c.loop-pair.invariant.sums.at_0
     (same_fit_64 (twelve_fit_64 c.loop-pair.invariant.sums).at_0) (to_z-of_z w32 _ first) (to_z-of_z w32 _ after) c.followed_by_two-newest.ensures.value in
-    let fit = fit_vectors (numbers c.args.coefficients.now) 12 g.row.VECTORS (8 - 4 * g.row.VECTORS) (twelve_long c.args.coefficients.now c.requires.small) (omega arith) c.requires.some c.requires.zeros in
+    let fit = fit_vectors (numbers c.args.coefficients.now) 12 g.row.VECTORS (8 - 4 * g.row.VECTORS) (twelve_long c.args.coefficients.now c.requires.small) (omega arith) c.requires.zeros in
     record {
       kept = length-set _ _ _ ∙ length-set c.loop-pair.buffer _ _ ∙ c.loop-pair.invariant.kept;
       same = made_restored ks c.loop-pair.buffer c.loop-pair.invariant.past.rest c.args.shift i j k _ _ c.loop-pair.newest new refl (omega arith) (omega arith) one two made ∙ c.loop-pair.invariant.same;
       past = made_newest ks c.loop-pair.buffer c.args.shift i j k _ _ c.loop-pair.newest new c.loop-pair.invariant.past refl (omega arith) (omega arith) one two made;
-      sums = subst (λ (l : List ℤ). AreTwelvePending (but_newest_five ks) l c.advance_twelve_sums-sums.result)
+      sums = subst (λ (l : List ℤ). AreTwelvePending ks l c.advance_twelve_sums-sums.result)
           (made_past c.loop-pair.buffer i j k _ _ _ _ refl (omega arith) (omega arith) (one ∙ sym (as_i64 new.second c.followed_by_two-newest.ensures.second)) (two ∙ sym (as_i64 new.newest c.followed_by_two-newest.ensures.newest)))
-          (c.advance_twelve_sums-sums.ensures.value (but_newest_five ks) (reverse (take i c.loop-pair.buffer)) c.taps_of_twelve-taps.ensures.value fit c.loop-pair.invariant.sums);
+          (c.advance_twelve_sums-sums.ensures.value ks (reverse (take i c.loop-pair.buffer)) c.taps_of_twelve-taps.ensures.value fit c.loop-pair.invariant.sums);
     }
 
 pub returns-then-buffer-eq1 : goal.returns-then-buffer-eq1

@@ -2,7 +2,7 @@ use Rattle.std.proofs.Common.{◌≡◌, ℕ, ◌+◌, ◌-◌, ◌*◌, ◌∙�
 use Rattle.std.proofs.lemmas.Int.{to_z-of_z}
 use Rattle.std.proofs.lemmas.List.{length-set, length-take, length-drop, length-reverse}
 use Rattle.claxon_format.specs.Predict.{linear}
-use Rattle.claxon_subframe.specs.PendingSums.{but_newest_five, ArePendingSums}
+use Rattle.claxon_subframe.specs.PendingSums.{ArePendingSums}
 use Rattle.claxon_subframe.proofs.Predictors.{restored_all}
 use Rattle.claxon_subframe.proofs.Lanes.{kept_fit_64, same_fit_64}
 use Rattle.claxon_subframe.proofs.PendingSums.{pending_sums_fit_64, pending_sums_enough, are_last, fit_vectors}
@@ -23,10 +23,10 @@ followed_by_two-requires-clause-pending g c = kept_fit_64 (pending_sums_fit_64 c
 
 pub loop-pair-init : goal.loop-pair-init
 loop-pair-init g c =
-    let ks = but_newest_five (reverse c.args.padded.now) in
+    let ks = reverse c.args.padded.now in
     let n = 28 - 4 * g.row.VECTORS in
     let near = reverse (take (32 - n) (drop n c.args.buffer.now)) in
-    let fit = fit_vectors c.args.padded.now 32 g.row.VECTORS n c.told-padded (omega arith) (omega arith) c.requires.zeros in
+    let fit = fit_vectors c.args.padded.now 32 g.row.VECTORS n c.told-padded (omega arith) c.requires.zeros in
     record {
       kept = refl;
       same = refl;
@@ -49,14 +49,14 @@ loop-pair-preserved g c =
     let two = narrowed new.newest c.low_bits-in-loop-pair.result c.followed_by_two-newest.ensures.newest c.low_bits-in-loop-pair.ensures in
     let made = two_made ks c.loop-pair.buffer c.loop-pair.sums.at_0 _ i j _ _ _ c.loop-pair.newest new c.args.shift (are_last c.args.padded.now c.told-padded c.requires.small) c.loop-pair.invariant.past c.loop-pair.invariant.sums.at_0
     (same_fit_64 (pending_sums_fit_64 c.loop-pair.invariant.sums).at_0) (to_z-of_z w32 _ first) (to_z-of_z w32 _ after) c.followed_by_two-newest.ensures.value in
-    let fit = fit_vectors c.args.padded.now 32 g.row.VECTORS (28 - 4 * g.row.VECTORS) c.told-padded (omega arith) (omega arith) c.requires.zeros in
+    let fit = fit_vectors c.args.padded.now 32 g.row.VECTORS (28 - 4 * g.row.VECTORS) c.told-padded (omega arith) c.requires.zeros in
     record {
       kept = length-set _ _ _ ∙ length-set c.loop-pair.buffer _ _ ∙ c.loop-pair.invariant.kept;
       same = made_restored ks c.loop-pair.buffer c.loop-pair.invariant.past.rest c.args.shift i j k _ _ c.loop-pair.newest new refl (omega arith) (omega arith) one two made ∙ c.loop-pair.invariant.same;
       past = made_newest ks c.loop-pair.buffer c.args.shift i j k _ _ c.loop-pair.newest new c.loop-pair.invariant.past refl (omega arith) (omega arith) one two made;
-      sums = subst (λ (l : List ℤ). ArePendingSums (but_newest_five ks) l c.advance_sums-sums.result)
+      sums = subst (λ (l : List ℤ). ArePendingSums ks l c.advance_sums-sums.result)
           (made_past c.loop-pair.buffer i j k _ _ _ _ refl (omega arith) (omega arith) (one ∙ sym (as_i64 new.second c.followed_by_two-newest.ensures.second)) (two ∙ sym (as_i64 new.newest c.followed_by_two-newest.ensures.newest)))
-          (c.advance_sums-sums.ensures.value (but_newest_five ks) (reverse (take i c.loop-pair.buffer)) c.taps_of-taps.ensures.value fit c.loop-pair.invariant.sums);
+          (c.advance_sums-sums.ensures.value ks (reverse (take i c.loop-pair.buffer)) c.taps_of-taps.ensures.value fit c.loop-pair.invariant.sums);
     }
 
 pub returns-then-buffer-eq1 : goal.returns-then-buffer-eq1

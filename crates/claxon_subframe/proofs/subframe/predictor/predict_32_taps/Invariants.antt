@@ -1,7 +1,7 @@
 use Rattle.std.proofs.Common.{◌≡◌, ◌*◌, length, take, reverse}
 use Rattle.claxon_format.specs.read.Predict.{restored}
 use Rattle.claxon_format.specs.Predict.{linear}
-use Rattle.claxon_subframe.specs.PendingSums.{but_newest_five, ArePendingSums, AreNewest}
+use Rattle.claxon_subframe.specs.PendingSums.{ArePendingSums, AreNewest}
 use Rattle.claxon_subframe.proofs.subframe.predictor.predict_32_taps.Given as goal
 
 abbrev pub invariant-loop-pair : goal.invariant-loop-pair
@@ -9,5 +9,5 @@ invariant-loop-pair g l = record {
   kept : length l.buffer ≡ length l.fn.buffer;
   same : restored (linear (reverse l.padded) l.shift) (2 * l.pair) l.buffer ≡ restored (linear (reverse l.padded) l.shift) 32 l.fn.buffer;
   past : AreNewest (reverse (take (2 * l.pair) l.buffer)) l.newest;
-  sums : ArePendingSums (but_newest_five (reverse l.padded)) (reverse (take (2 * l.pair) l.buffer)) l.sums;
+  sums : ArePendingSums (reverse l.padded) (reverse (take (2 * l.pair) l.buffer)) l.sums;
 }

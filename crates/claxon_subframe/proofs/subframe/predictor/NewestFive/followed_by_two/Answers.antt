@@ -21,7 +21,7 @@ returns-clause-value c = λ ks rest new es.
     let second-is = c.followed_by.ensures.second ∙ c.followed_by-before.ensures.newest in
     record {
       second = second-is ∙ one
-          ∙ one_is ks rest c.args.pending _ _ _ c.sample_of-one.result c.args.coefficients c.args.self c.args.shift new es (ap (λ (l : List ℤ). get_or l 3 (pos 0)) same) (passed_scaled_up _ (to_z w32 (of_z w32 c.args.nearest)) _ c.args.shift c.scaled_up-nearest.ensures.nearest) c.sample_of-one.ensures.value
+          ∙ one_is ks rest c.args.pending _ _ _ c.sample_of-one.result c.args.coefficients _ c.args.self c.args.shift new c.but_fifth.ensures es (ap (λ (l : List ℤ). get_or l 3 (pos 0)) same) (passed_scaled_up _ (to_z w32 (of_z w32 c.args.nearest)) _ c.args.shift c.scaled_up-nearest.ensures.nearest) c.sample_of-one.ensures.value
           ∙ ap (λ (v : ℤ). wrap (linear ks c.args.shift past +ℤ v)) nearest;
       newest = c.followed_by.ensures.newest ∙ two
           ∙ two_is ks rest c.args.pending _ _ _ _ c.sample_of-two.result c.args.coefficients c.args.self c.followed_by-before.result c.args.shift new c.followed_by-before.ensures es (ap (λ (l : List ℤ). get_or l 2 (pos 0)) same) (passed_scaled_up _ (to_z w32 (of_z w32 c.args.farther)) _ c.args.shift c.scaled_up-nearest.ensures.farther) c.sample_of-two.ensures.value

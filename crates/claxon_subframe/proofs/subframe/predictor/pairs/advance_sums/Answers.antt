@@ -75,15 +75,15 @@ returns-clause-value g c = λ ks past taps fit small older pending.
     let pair = pair_is c.args.one c.args.two c.pair_lanes-pair.result c.requires.one c.requires.two c.pair_lanes-pair.ensures in
     let on = later_pairs_advanced ks past c.args.one c.args.two g.row.VECTORS fit small (fit_two c.args.one c.args.two c.requires.one c.requires.two older) pair in
     record {
-      at_0 = nearest_lanes_advanced ks past c.args.one c.args.two _ taps.nearest (shifted_by c.requires.sums.later.at_4 c.requires.sums.at_0 c.shift_two_lanes.ensures.fits c.shift_two_lanes.ensures.value) pending.later.at_4 pending.at_0;
+      at_0 = nearest_lanes_advanced ks past c.args.one c.args.two _ (shifted_by c.requires.sums.later.at_4 c.requires.sums.at_0 c.shift_two_lanes.ensures.fits c.shift_two_lanes.ensures.value) pending.later.at_4 pending.at_0;
       later = record {
-        at_4 = on 4 _ _ _ _ c.advance_lanes.result (λ h. absurd cc) c.advance_lanes.ensures.value c.advance_lanes.ensures.zeros (lanes_32_are c.requires.sums.later.at_8 pending.later.at_8) (lanes_32_are c.requires.sums.later.at_4 pending.later.at_4) (lanes_16_are c.requires.taps.at_4 taps.at_4);
-        at_8 = on 8 _ _ _ _ c.advance_lanes-2.result (λ h. absurd cc) c.advance_lanes-2.ensures.value c.advance_lanes-2.ensures.zeros (lanes_32_are c.requires.sums.later.at_12 pending.later.at_12) (lanes_32_are c.requires.sums.later.at_8 pending.later.at_8) (lanes_16_are c.requires.taps.at_8 taps.at_8);
-        at_12 = on 12 _ _ _ _ c.advance_lanes-3.result (λ h. omega (arith, ltb-false)) c.advance_lanes-3.ensures.value c.advance_lanes-3.ensures.zeros (lanes_32_are c.requires.sums.later.at_16 pending.later.at_16) (lanes_32_are c.requires.sums.later.at_12 pending.later.at_12) (lanes_16_are c.requires.taps.at_12 taps.at_12);
-        at_16 = on 16 _ _ _ _ c.advance_lanes-4.result (λ h. omega (arith, ltb-false)) c.advance_lanes-4.ensures.value c.advance_lanes-4.ensures.zeros (lanes_32_are c.requires.sums.later.at_20 pending.later.at_20) (lanes_32_are c.requires.sums.later.at_16 pending.later.at_16) (lanes_16_are c.requires.taps.at_16 taps.at_16);
-        at_20 = on 20 _ _ _ _ c.advance_lanes-5.result (λ h. omega (arith, ltb-false)) c.advance_lanes-5.ensures.value c.advance_lanes-5.ensures.zeros (lanes_32_are c.requires.sums.later.at_24 pending.later.at_24) (lanes_32_are c.requires.sums.later.at_20 pending.later.at_20) (lanes_16_are c.requires.taps.at_20 taps.at_20);
-        at_24 = on 24 _ _ _ _ c.advance_lanes-6.result (λ h. omega (arith, ltb-false)) c.advance_lanes-6.ensures.value c.advance_lanes-6.ensures.zeros (lanes_32_are c.requires.sums.later.at_28 pending.later.at_28) (lanes_32_are c.requires.sums.later.at_24 pending.later.at_24) (lanes_16_are c.requires.taps.at_24 taps.at_24);
-        at_28 = on 28 _ _ _ _ c.advance_lanes-7.result (λ h. omega (arith, ltb-false)) c.advance_lanes-7.ensures.value c.advance_lanes-7.ensures.zeros (four_pending_none ks past 32 taps.long) (lanes_32_are c.requires.sums.later.at_28 pending.later.at_28) (lanes_16_are c.requires.taps.at_28 taps.at_28);
+        at_4 = on 4 _ _ _ _ c.advance_lanes.result (omega arith) (λ h. absurd cc) c.advance_lanes.ensures.value c.advance_lanes.ensures.zeros (lanes_32_are c.requires.sums.later.at_8 pending.later.at_8) (lanes_32_are c.requires.sums.later.at_4 pending.later.at_4) (lanes_16_are c.requires.taps.at_4 taps.at_4);
+        at_8 = on 8 _ _ _ _ c.advance_lanes-2.result (omega arith) (λ h. absurd cc) c.advance_lanes-2.ensures.value c.advance_lanes-2.ensures.zeros (lanes_32_are c.requires.sums.later.at_12 pending.later.at_12) (lanes_32_are c.requires.sums.later.at_8 pending.later.at_8) (lanes_16_are c.requires.taps.at_8 taps.at_8);
+        at_12 = on 12 _ _ _ _ c.advance_lanes-3.result (omega arith) (λ h. omega (arith, ltb-false)) c.advance_lanes-3.ensures.value c.advance_lanes-3.ensures.zeros (lanes_32_are c.requires.sums.later.at_16 pending.later.at_16) (lanes_32_are c.requires.sums.later.at_12 pending.later.at_12) (lanes_16_are c.requires.taps.at_12 taps.at_12);
+        at_16 = on 16 _ _ _ _ c.advance_lanes-4.result (omega arith) (λ h. omega (arith, ltb-false)) c.advance_lanes-4.ensures.value c.advance_lanes-4.ensures.zeros (lanes_32_are c.requires.sums.later.at_20 pending.later.at_20) (lanes_32_are c.requires.sums.later.at_16 pending.later.at_16) (lanes_16_are c.requires.taps.at_16 taps.at_16);
+        at_20 = on 20 _ _ _ _ c.advance_lanes-5.result (omega arith) (λ h. omega (arith, ltb-false)) c.advance_lanes-5.ensures.value c.advance_lanes-5.ensures.zeros (lanes_32_are c.requires.sums.later.at_24 pending.later.at_24) (lanes_32_are c.requires.sums.later.at_20 pending.later.at_20) (lanes_16_are c.requires.taps.at_20 taps.at_20);
+        at_24 = on 24 _ _ _ _ c.advance_lanes-6.result (omega arith) (λ h. omega (arith, ltb-false)) c.advance_lanes-6.ensures.value c.advance_lanes-6.ensures.zeros (lanes_32_are c.requires.sums.later.at_28 pending.later.at_28) (lanes_32_are c.requires.sums.later.at_24 pending.later.at_24) (lanes_16_are c.requires.taps.at_24 taps.at_24);
+        at_28 = on 28 _ _ _ _ c.advance_lanes-7.result (omega arith) (λ h. omega (arith, ltb-false)) c.advance_lanes-7.ensures.value c.advance_lanes-7.ensures.zeros (four_pending_none ks past 32 (omega arith) taps.long) (lanes_32_are c.requires.sums.later.at_28 pending.later.at_28) (lanes_16_are c.requires.taps.at_28 taps.at_28);
       };
     }
 

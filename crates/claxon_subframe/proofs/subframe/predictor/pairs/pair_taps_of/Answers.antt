@@ -5,5 +5,5 @@ use Rattle.claxon_subframe.proofs.subframe.predictor.pairs.pair_taps_of.Goals as
 
 pub returns-clause-value : goal.returns-clause-value
 returns-clause-value c =
-    let fits : AllFit16 (read_from c.args.padded.now 0 27) = search rules in
+    let fits : AllFit16 (read_from c.args.padded.now 0 28) = search rules in
     pair_taps_value c.args.padded.now c.told-padded fits

@@ -1,7 +1,7 @@
 use Rattle.std.proofs.Common.{◌≡◌, ◌+◌, ◌*◌, length, take, reverse}
 use Rattle.claxon_format.specs.read.Predict.{restored}
 use Rattle.claxon_format.specs.Predict.{linear}
-use Rattle.claxon_subframe.specs.PendingSums.{but_newest_five, ArePendingSums, AreNewest}
+use Rattle.claxon_subframe.specs.PendingSums.{ArePendingSums, AreNewest}
 use Rattle.claxon_subframe.specs.Pairs.{Fit16}
 use Rattle.claxon_subframe.proofs.subframe.predictor.pairs.predict_pairs.Given as goal
 
@@ -11,5 +11,5 @@ invariant-loop-pair g l = record {
   same : restored (linear (reverse l.padded) l.shift) (2 * l.pair) l.buffer ≡ restored (linear (reverse l.padded) l.shift) (4 * g.row.VECTORS + 4) l.fn.buffer;
   past : AreNewest (reverse (take (2 * l.pair) l.buffer)) l.newest;
   small : Fit16 (reverse (take (2 * l.pair) l.buffer));
-  sums : ArePendingSums (but_newest_five (reverse l.padded)) (reverse (take (2 * l.pair) l.buffer)) l.sums;
+  sums : ArePendingSums (reverse l.padded) (reverse (take (2 * l.pair) l.buffer)) l.sums;
 }
