@@ -436,14 +436,14 @@ lanes_scaled_up xs u rs =
     (zip2 (act2 shl (s_int w64) (s_int w64) (s_int w64)) (map (of_z w64) xs) (of_z w64 u ∷ of_z w64 u ∷ of_z w64 u ∷ of_z w64 u ∷ []))
     (zip2 (act2 shl (s_int w64) (s_int w64) (s_int w64)) (map (of_z w64) rs) (32 ∷ 32 ∷ 32 ∷ 32 ∷ [])))
 
-pub nearest_scaled_up : (xs rs : List ℤ) (u nearest z : ℤ) (t : ℕ) → LanesFit64 xs → LanesFit64 rs → FitsSigned w32 nearest → t ≤ 15 → u ≡ pos (32 - t) → get_or xs 3 (pos 0) ≡ wrap_64 z → get_or rs 3 (pos 0) ≡ nearest
-    → to_z w64 (of_z w64 (get_or (lanes_scaled_up xs u rs) 3 (pos 0))) ≡ scaled_up z nearest t
-nearest_scaled_up (a ∷ b ∷ c ∷ d ∷ []) (e ∷ f ∷ g ∷ h ∷ []) u nearest z t wx wr fits ht eu ex er = lane_scaled_up d u h nearest z t wx.each.1.1.1.0 fits ht eu ex er
+pub nearest_scaled_up : (xs rs : List ℤ) (u nearest z : ℤ) (t : ℕ) → LanesFit64 xs → LanesFit64 rs → FitsSigned w32 nearest → t ≤ 15 → u ≡ pos (32 - t) → get_or xs 0 (pos 0) ≡ wrap_64 z → get_or rs 0 (pos 0) ≡ nearest
+    → to_z w64 (of_z w64 (get_or (lanes_scaled_up xs u rs) 0 (pos 0))) ≡ scaled_up z nearest t
+nearest_scaled_up (a ∷ b ∷ c ∷ d ∷ []) (e ∷ f ∷ g ∷ h ∷ []) u nearest z t wx wr fits ht eu ex er = lane_scaled_up a u e nearest z t wx.each.0 fits ht eu ex er
 nearest_scaled_up xs rs u nearest z t wx wr fits ht eu ex er = absurd (omega (arith, wx.four, wr.four))
 
-pub farther_scaled_up : (xs rs : List ℤ) (u farther z : ℤ) (t : ℕ) → LanesFit64 xs → LanesFit64 rs → FitsSigned w32 farther → t ≤ 15 → u ≡ pos (32 - t) → get_or xs 2 (pos 0) ≡ wrap_64 z → get_or rs 2 (pos 0) ≡ farther
-    → to_z w64 (of_z w64 (get_or (lanes_scaled_up xs u rs) 2 (pos 0))) ≡ scaled_up z farther t
-farther_scaled_up (a ∷ b ∷ c ∷ d ∷ []) (e ∷ f ∷ g ∷ h ∷ []) u farther z t wx wr fits ht eu ex er = lane_scaled_up c u g farther z t wx.each.1.1.0 fits ht eu ex er
+pub farther_scaled_up : (xs rs : List ℤ) (u farther z : ℤ) (t : ℕ) → LanesFit64 xs → LanesFit64 rs → FitsSigned w32 farther → t ≤ 15 → u ≡ pos (32 - t) → get_or xs 1 (pos 0) ≡ wrap_64 z → get_or rs 1 (pos 0) ≡ farther
+    → to_z w64 (of_z w64 (get_or (lanes_scaled_up xs u rs) 1 (pos 0))) ≡ scaled_up z farther t
+farther_scaled_up (a ∷ b ∷ c ∷ d ∷ []) (e ∷ f ∷ g ∷ h ∷ []) u farther z t wx wr fits ht eu ex er = lane_scaled_up b u f farther z t wx.each.1.0 fits ht eu ex er
 farther_scaled_up xs rs u farther z t wx wr fits ht eu ex er = absurd (omega (arith, wx.four, wr.four))
 
 -- ---- the coefficients, as the code makes them of 32 numbers

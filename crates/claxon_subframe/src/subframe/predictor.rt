@@ -308,14 +308,25 @@ fn advance_lanes(
     add_products(add_products(moved, for_second, second), for_newest, newest)
 }
 
-// The residual samples of the next two samples in the last two lanes, the next one's last.
+// The residual samples of the next two samples in the first two lanes, in the order of the buffer, so that one load reads both.
 #[inline(always)]
 fn residuals_in_lanes(nearest: i32, farther: i32) -> i64x4
-    ensures nearest { get_or result 3 (pos 0) ≡ nearest }
-    ensures farther { get_or result 2 (pos 0) ≡ farther }
+    ensures nearest { get_or result 0 (pos 0) ≡ nearest }
+    ensures farther { get_or result 1 (pos 0) ≡ farther }
     ensures fits { LanesFit64 result }
 {
-    i32x4::from_array([0, 0, farther, nearest]).cast::<i64>()
+    i32x4::from_array([nearest, farther, 0, 0]).cast::<i64>()
+}
+
+// The pending sums of the next two samples, the last two lanes, in the same order.
+#[inline(always)]
+fn sums_of_next_two(sums: i64x4) -> i64x4
+    requires { LanesFit64 sums }
+    ensures nearest { get_or result 0 (pos 0) ≡ get_or sums 3 (pos 0) }
+    ensures farther { get_or result 1 (pos 0) ≡ get_or sums 2 (pos 0) }
+    ensures fits { LanesFit64 result }
+{
+    sums.swizzle([3, 2, 3, 2])
 }
 
 // The pending sums of the next two samples, each with its residual sample. All is scaled up so that one shift by 32 drops the
@@ -329,7 +340,8 @@ fn scaled_up(sums: i64x4, nearest: i32, farther: i32, shift: u32) -> (i64, i64)
 {
     let up = i64x4::splat(i64::from(32 - shift));
     let residuals = residuals_in_lanes(nearest, farther);
-    let [_, _, second, first] = ((sums << up) + (residuals << i64x4::splat(32))).to_array();
+    let pending = sums_of_next_two(sums);
+    let [first, second, _, _] = ((pending << up) + (residuals << i64x4::splat(32))).to_array();
     (first, second)
 }
 
