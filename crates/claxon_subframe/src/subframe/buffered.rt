@@ -37,7 +37,6 @@ pub trait SampleCode: Copy {
 }
 
 /// Reads as many samples as the buffer is long.
-#[inline(always)]
 pub fn read_samples<C: SampleCode, R: ReadBytes>(
     input: &mut Bitstream<R>,
     code: C,

@@ -47,6 +47,7 @@ impl SampleCode for RiceCode {
 }
 
 /// Reads as many Rice codes as the buffer is long.
+#[inline(always)]
 pub fn read_rice_codes<R: ReadBytes>(
     input: &mut Bitstream<R>,
     parameter: u32,

@@ -51,6 +51,7 @@ impl SampleCode for Verbatim {
 }
 
 /// Reads as many samples of `bps` bits as the buffer is long.
+#[inline(always)]
 pub fn decode_verbatim<R: ReadBytes>(
     input: &mut Bitstream<R>,
     bps: u32,
