@@ -1,14 +1,13 @@
 //! Consecutive samples of one code. Those that are completely buffered are decoded from the buffered bits, where no call can fail;
 //! then these bits are skipped in one call. A sample that is only partly buffered is read by itself.
-ghost use Rattle.std.specs.Prelude.{◌≤◌, IfOk, IfErr, OnErr, ℤ, Bool, length};
+ghost use Rattle.std.specs.Prelude.{◌≤◌, ℤ, Bool, length};
 ghost use Rattle.claxon_format.specs.Bits.{Bits};
 ghost use Rattle.claxon_format.specs.Codes.{Never};
 ghost use Rattle.claxon_format.specs.read.Reading.{Reading, Reads, times_at};
 ghost use Rattle.claxon_input.specs.State.{bits_in};
-ghost use Rattle.claxon_input.specs.Gives.{Gives, FailureOr};
-ghost use Rattle.claxon_input.specs.Error.{IsIo};
+ghost use Rattle.claxon_input.specs.Gives.{Gives};
 ghost use Rattle.claxon_subframe.specs.Buffer.{FillsBuffer};
-ghost use Rattle.claxon_subframe.specs.Samples.{BufferedSamplesAreRead, FirstSamplesAreRead};
+ghost use Rattle.claxon_subframe.specs.Samples.{BufferedSamplesAreRead};
 
 use claxon_input::error::Result;
 use claxon_input::input::{Bitstream, BufferedBits, ReadBytes};
@@ -47,32 +46,16 @@ pub fn read_samples<C: SampleCode, R: ReadBytes>(
 {
     let mut start = 0;
     while start < buffer.len() {
-        start += read_buffered_samples(input, code, &mut buffer[start..])?;
+        let mut buffered = input.buffered();
+        let bits = buffered.len();
+        start += code.decode_buffered(&mut buffered, &mut buffer[start..]);
+        let consumed = bits - buffered.len();
+        input.skip_bits(consumed)?;
+        // The next sample isn't completely buffered.
         if start < buffer.len() {
             buffer[start] = code.read_sample(input)?;
             start += 1;
         }
     }
     Ok(())
-}
-
-// Reads the samples that are completely buffered, and returns their number. Only the source can fail.
-fn read_buffered_samples<C: SampleCode, R: ReadBytes>(
-    input: &mut Bitstream<R>,
-    code: C,
-    buffer: &mut [i32],
-) -> Result<usize>
-    ensures few { IfOk result (λ samples. samples ≤ length buffer.new) }
-    ensures ok { FirstSamplesAreRead R.source (C.sample_at code)
-        input.old result input.new buffer.new }
-    ensures io { IfErr result IsIo }
-    ensures err { OnErr result
-        (FailureOr (bits_in R.source input.old) (bits_in R.source input.new) (λ s. ⊥)) }
-{
-    let mut buffered = input.buffered();
-    let bits = buffered.len();
-    let samples = code.decode_buffered(&mut buffered, buffer);
-    let consumed = bits - buffered.len();
-    input.skip_bits(consumed)?;
-    Ok(samples)
 }
