@@ -5,11 +5,14 @@ use Rattle.std.proofs.lemmas.List.{take_more_set, take_at, drop_at, take_all, le
 use Rattle.std.proofs.lemmas.Slice.{take-put_mid}
 use borrow.Rule.Slice.PartMut.{put_mid, same_len_mid}
 use Rattle.claxon_format.specs.Bits.{Bits}
-use Rattle.claxon_format.specs.read.Reading.{Reading, Done, times_at, each_at}
-use Rattle.claxon_input.specs.BufferedBits.{bits_in_buffer, GivesBuffered}
+use Rattle.claxon_format.specs.Codes.{Never}
+use Rattle.claxon_format.specs.read.Reading.{Reading, Reads, Done, times_at, each_at}
+use Rattle.claxon_format.proofs.Residuals.{Reads-times}
+use Rattle.claxon_input.specs.BufferedBits.{bits_in_buffer, GivesBuffered, IsBufferOf, skipped_bits_at}
 use Rattle.claxon_input.specs.declared.bits.buffered.BufferedBits.{BufferedBits}
 use Rattle.claxon_input.specs.State.{State}
 use Rattle.claxon_input.specs.Gives.{Consumes}
+use Rattle.claxon_subframe.proofs.SkippedBits.{read_consumes}
 use Rattle.claxon_input.proofs.FieldLoops.{TimesSoFar, with_front, times_add, times_next, times_push, times_several}
 
 -- `count` fields were decoded to the front of xs
@@ -58,13 +61,19 @@ fields_end read xs count more a c none h =
 
 -- ---- fields read into the rest of a slice
 
-pub fields_put : {read : Bits → Reading Bool ℤ} {n start : ℕ} {xs : List ℤ} (count : ℕ) (ys : List ℤ) {a b c : State Bool} → start ≤ length xs → count ≤ length ys → length ys ≡ length (take (length xs - start) (drop start xs)) → TimesSoFar read n xs start a b
+fields_put : {read : Bits → Reading Bool ℤ} {n start : ℕ} {xs : List ℤ} (count : ℕ) (ys : List ℤ) {a b c : State Bool} → start ≤ length xs → count ≤ length ys → length ys ≡ length (take (length xs - start) (drop start xs)) → TimesSoFar read n xs start a b
     → Consumes b c (λ s m. times_at count read s ≡ Done (take count ys) m) → TimesSoFar read n (put_mid start (length xs - start) xs ys) (start + count) a c
 fields_put {start = start} {xs = xs} count ys le few same h e =
     let capacity : length ys ≡ length xs - start = same ∙ omega (arith, length-take (length xs - start) (drop start xs), length-drop start xs) in
     let whole : length (put_mid start (length xs - start) xs ys) ≡ length xs = same_len_mid start (length xs - start) xs ys same in
     let full : take (start + (length xs - start)) (put_mid start (length xs - start) xs ys) ≡ take start xs ++ ys = take-put_mid start (length xs - start) xs ys (start + (length xs - start)) (omega arith) (omega arith) in
     times_several ys (put_mid start (length xs - start) xs ys) count (sym (take_all (start + (length xs - start)) (put_mid start (length xs - start) xs ys) (omega arith)) ∙ full) whole le few h e
+
+-- the same, where they were decoded from the buffered bits, and these were then skipped
+pub fields_skipped : {read : Bits → Reading Bool ℤ} {Code : ℤ → Bits → Type 0} (exact : Reads Bool ℤ read Code Never) (bits left count : ℕ) (ys : List ℤ) (from to : BufferedBits) {n start : ℕ} {xs : List ℤ} {a b c : State Bool}
+    → bits ≡ length (bits_in_buffer from) → left ≡ length (bits_in_buffer to) → GivesBuffered from to (times_at count read) (take count ys) → IsBufferOf from b → start ≤ length xs → count ≤ length ys → length ys ≡ length (take (length xs - start) (drop start xs))
+    → TimesSoFar read n xs start a b → Consumes b c (λ s m. skipped_bits_at (bits - left) s ≡ Done tt m) → TimesSoFar read n (put_mid start (length xs - start) xs ys) (start + count) a c
+fields_skipped exact bits left count ys from to p q e here le few same h k = fields_put count ys le few same h (read_consumes (Reads-times count exact) bits left (take count ys) from to p q e here k)
 
 pub fields_fit : (start count : ℕ) (xs ys : List ℤ) → start ≤ length xs → count ≤ length ys → length ys ≡ length (take (length xs - start) (drop start xs)) → start + count ≤ length (put_mid start (length xs - start) xs ys)
 fields_fit start count xs ys le few same =

@@ -1,13 +1,11 @@
 -- The clauses of the calls that read the Rice codes of a partition (RFC 9639, section 9.2.7.1).
-use Rattle.std.specs.Prelude.{◌≡◌, Bool, ℕ, ◌-◌, ◌<◌, ◌≤◌, List, ◌++◌, ℤ, length, take, drop, Result, IfOk}
+use Rattle.std.specs.Prelude.{◌≡◌, Bool, ℕ, ◌-◌, ◌<◌, ◌≤◌, List, ◌++◌, ℤ, length, take, drop, Result}
 use Rattle.std.specs.Int.{cast_signed, cast_unsigned, w32}
 use Rattle.claxon_format.specs.Bits.{Bits, bits}
 use Rattle.claxon_format.specs.read.Reading.{Reading, Done, and_then, done, times_at}
 use Rattle.claxon_format.specs.read.Bits.{number_at, rice_code_at, unary_at, zigzag_decode, zigzag_encoded}
 use Rattle.claxon_input.specs.BufferedBits.{GivesBuffered}
-use Rattle.claxon_input.specs.Gives.{Consumes}
 use Rattle.claxon_input.specs.Source.{Source}
-use Rattle.claxon_input.specs.State.{bits_in}
 use Rattle.claxon_input.specs.declared.bits.Bitstream.{Bitstream}
 use Rattle.claxon_input.specs.declared.bits.buffered.BufferedBits.{BufferedBits}
 use Rattle.claxon_input.specs.declared.error.Error.{Error}
@@ -17,11 +15,6 @@ use Rattle.claxon_subframe.specs.Buffer.{FillsBuffer}
 abbrev pub RiceCodesAreRead : {R A : Type 0} {g : _} → (R → Source ℕ) → ℕ → Bitstream R g → Result A Error → Bitstream R g → List ℤ → List ℤ → Type 0
 RiceCodesAreRead source parameter old result new was is =
     FillsBuffer source (times_at (length was) (rice_code_at parameter)) old result new is
-
--- The buffer begins with the residual samples of as many Rice codes as the Ok says, whose bits were consumed.
-abbrev pub FirstRiceCodesAreRead : {R : Type 0} {g : _} → (R → Source ℕ) → ℕ → Bitstream R g → Result ℕ Error → Bitstream R g → List ℤ → Type 0
-FirstRiceCodesAreRead source parameter old result new buffer =
-    IfOk result (λ codes. Consumes (bits_in source old) (bits_in source new) (λ s m. times_at codes (rice_code_at parameter) s ≡ Done (take codes buffer) m))
 
 -- The buffer begins with the residual samples of this many Rice codes, which were decoded from the buffered bits.
 abbrev pub BufferedCodesAreRead : ℕ → BufferedBits → ℕ → BufferedBits → List ℤ → Type 0

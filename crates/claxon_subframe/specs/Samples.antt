@@ -1,11 +1,12 @@
 -- The clauses of the calls that read unencoded samples (RFC 9639, section 9.2.4).
-use Rattle.std.specs.Prelude.{◌≡◌, ℕ, List, ℤ, length, take, Result, IfOk}
-use Rattle.claxon_format.specs.read.Reading.{Done, times_at}
+use Rattle.std.specs.Prelude.{Bool, ℕ, List, ℤ, length, take, Result}
+use Rattle.claxon_format.specs.Bits.{Bits}
+use Rattle.claxon_format.specs.read.Reading.{Reading, times_at}
 use Rattle.claxon_format.specs.read.Bits.{signed_at}
-use Rattle.claxon_input.specs.Gives.{Consumes}
+use Rattle.claxon_input.specs.BufferedBits.{GivesBuffered}
 use Rattle.claxon_input.specs.Source.{Source}
-use Rattle.claxon_input.specs.State.{bits_in}
 use Rattle.claxon_input.specs.declared.bits.Bitstream.{Bitstream}
+use Rattle.claxon_input.specs.declared.bits.buffered.BufferedBits.{BufferedBits}
 use Rattle.claxon_input.specs.declared.error.Error.{Error}
 use Rattle.claxon_subframe.specs.Buffer.{FillsBuffer}
 
@@ -14,7 +15,7 @@ abbrev pub SamplesAreRead : {R A : Type 0} {g : _} → (R → Source ℕ) → �
 SamplesAreRead source width old result new was is =
     FillsBuffer source (times_at (length was) (signed_at width)) old result new is
 
--- The buffer begins with as many samples of this bit depth as the Ok says, whose bits were consumed.
-abbrev pub FirstSamplesAreRead : {R : Type 0} {g : _} → (R → Source ℕ) → ℕ → Bitstream R g → Result ℕ Error → Bitstream R g → List ℤ → Type 0
-FirstSamplesAreRead source width old result new buffer =
-    IfOk result (λ samples. Consumes (bits_in source old) (bits_in source new) (λ s m. times_at samples (signed_at width) s ≡ Done (take samples buffer) m))
+-- The buffer begins with this many samples, which were decoded from the buffered bits.
+abbrev pub BufferedSamplesAreRead : (Bits → Reading Bool ℤ) → BufferedBits → ℕ → BufferedBits → List ℤ → Type 0
+BufferedSamplesAreRead read old samples new buffer =
+    GivesBuffered old new (times_at samples read) (take samples buffer)

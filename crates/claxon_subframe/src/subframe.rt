@@ -14,6 +14,7 @@ ghost use Rattle.claxon_subframe.specs.Decode.{SubframeFaultIsComplete, Subframe
 ghost use Rattle.claxon_subframe.specs.SubframeFields.{fixed_order, lpc_order, type_number, subframe_view, parameters_of, method_of};
 ghost use Rattle.claxon_subframe.specs.Partitions.{lengths, total};
 
+mod buffered;
 mod partitions;
 mod predictor;
 mod rice;

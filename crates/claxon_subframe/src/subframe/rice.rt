@@ -1,23 +1,53 @@
-//! The Rice codes of a partition: most of a stream's bits, and of the time to decode it. They are decoded from the buffered bits,
-//! where no call can fail; then these bits are skipped in one call.
-ghost use Rattle.std.specs.Prelude.{◌≡◌, ◌<◌, ◌≤◌, IfOk, IfErr, OnErr, length, map};
+//! The Rice codes of a partition: most of a stream's bits, and of the time to decode it.
+ghost use Rattle.std.specs.Prelude.{◌≡◌, ◌<◌, ◌≤◌, length, map};
 ghost use Rattle.std.specs.Bool.{MatchBool};
-ghost use Rattle.claxon_format.specs.Bits.{Bits};
 ghost use Rattle.claxon_format.specs.read.Bits.{zigzag_decode, rice_code_at};
 ghost use Rattle.claxon_format.specs.read.Reading.{times_at};
 ghost use Rattle.claxon_input.specs.BufferedBits.{bits_in_buffer, GivesBuffered, GivesBufferedOrNone};
-ghost use Rattle.claxon_input.specs.State.{bits_in};
-ghost use Rattle.claxon_input.specs.Gives.{Gives, FailureOr};
-ghost use Rattle.claxon_input.specs.Error.{IsIo};
-ghost use Rattle.claxon_subframe.specs.RiceCodes.{RiceCodesAreRead, FirstRiceCodesAreRead, BufferedCodesAreRead, EncodedCodesAreRead, IsFirstRiceCode, decoded, encoded_code_at};
+ghost use Rattle.claxon_subframe.specs.RiceCodes.{RiceCodesAreRead, BufferedCodesAreRead, EncodedCodesAreRead, IsFirstRiceCode, decoded, encoded_code_at};
 
+use super::buffered::{SampleCode, read_samples};
 use claxon_input::error::Result;
 use claxon_input::input::{Bitstream, BufferedBits, ReadBytes};
 
 #[cfg(test)]
 mod tests;
 
+/// The Rice codes with this parameter: the quotient by 2^parameter in unary, as zeros and a one, then the remainder in `parameter`
+/// bits. The number is taken modulo 2^32.
+#[derive(Clone, Copy)]
+struct RiceCode {
+    parameter: u32,
+    ghost bound: { parameter ≤ 30 },
+}
+
+impl SampleCode for RiceCode {
+    ghost use Rattle.claxon_format.specs.Bits.{RiceCode as RiceCodeOf};
+    ghost use Rattle.claxon_format.proofs.RiceCodes.{Reads-rice_code};
+    ghost use Rattle.std.proofs.Common.{rules};
+
+    ghost sample_at = { λ c. rice_code_at c.parameter };
+
+    ghost code = { λ c. RiceCodeOf c.parameter };
+
+    ghost reads = { λ c. Reads-rice_code c.parameter (Prim.search rules) };
+
+    #[inline(always)]
+    fn decode_buffered(self, buffered: &mut BufferedBits, buffer: &mut [i32]) -> usize {
+        decode_buffered_codes(buffered, self.parameter, buffer)
+    }
+
+    #[inline(always)]
+    #[tactic(auto, unfolding(claxon_format::specs::read::Bits::rice_code_at))]
+    fn read_sample<R: ReadBytes>(self, input: &mut Bitstream<R>) -> Result<i32> {
+        let quotient = input.read_unary()?;
+        let low = input.read_leq_u32(self.parameter)?;
+        Ok(rice_to_signed((quotient << self.parameter) | low))
+    }
+}
+
 /// Reads as many Rice codes as the buffer is long.
+#[inline(always)]
 pub fn read_rice_codes<R: ReadBytes>(
     input: &mut Bitstream<R>,
     parameter: u32,
@@ -26,36 +56,7 @@ pub fn read_rice_codes<R: ReadBytes>(
     requires { parameter ≤ 30 }
     ensures { RiceCodesAreRead R.source parameter input.old result input.new buffer.old buffer.new }
 {
-    let mut start = 0;
-    while start < buffer.len() {
-        start += read_buffered_rice_codes(input, parameter, &mut buffer[start..])?;
-        if start < buffer.len() {
-            buffer[start] = read_rice_code(input, parameter)?;
-            start += 1;
-        }
-    }
-    Ok(())
-}
-
-// Reads the Rice codes that are completely buffered, and returns their number. Only the source can fail.
-fn read_buffered_rice_codes<R: ReadBytes>(
-    input: &mut Bitstream<R>,
-    parameter: u32,
-    buffer: &mut [i32],
-) -> Result<usize>
-    requires { parameter ≤ 30 }
-    ensures few { IfOk result (λ codes. codes ≤ length buffer.new) }
-    ensures ok { FirstRiceCodesAreRead R.source parameter input.old result input.new buffer.new }
-    ensures io { IfErr result IsIo }
-    ensures err { OnErr result
-        (FailureOr (bits_in R.source input.old) (bits_in R.source input.new) (λ s. ⊥)) }
-{
-    let mut buffered = input.buffered();
-    let bits = buffered.len();
-    let codes = decode_buffered_codes(&mut buffered, parameter, buffer);
-    let consumed = bits - buffered.len();
-    input.skip_bits(consumed)?;
-    Ok(codes)
+    read_samples(input, RiceCode { parameter }, buffer)
 }
 
 /// Decodes the Rice codes that are completely buffered, and returns their number.
@@ -214,20 +215,6 @@ fn decode_code(buffered: &mut BufferedBits, parameter: u32) -> Option<i32>
     let low = next.number(parameter)?;
     *buffered = next;
     Some(((quotient << parameter) | low).cast_signed())
-}
-
-// A Rice code: the quotient by 2^parameter in unary, as zeros and a one, then the remainder in `parameter` bits. The number is
-// taken modulo 2^32.
-#[inline(always)]
-#[tactic(auto, unfolding(claxon_format::specs::read::Bits::rice_code_at))]
-fn read_rice_code<R: ReadBytes>(input: &mut Bitstream<R>, parameter: u32) -> Result<i32>
-    requires { parameter ≤ 30 }
-    ensures { Gives (λ x. x) result (rice_code_at parameter)
-        (bits_in R.source input.old) (bits_in R.source input.new) }
-{
-    let quotient = input.read_unary()?;
-    let low = input.read_leq_u32(parameter)?;
-    Ok(rice_to_signed((quotient << parameter) | low))
 }
 
 // Zigzag decoding: 0, 1, 2, 3, 4 are 0, -1, 1, -2, 2, so that small numbers of either sign have short codes.

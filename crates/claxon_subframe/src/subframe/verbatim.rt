@@ -1,20 +1,57 @@
-//! Unencoded samples: of verbatim subframes, warm-up samples and escaped partitions. They are decoded from the buffered bits,
-//! where no call can fail; then these bits are skipped in one call.
-ghost use Rattle.std.specs.Prelude.{◌≡◌, ◌<◌, ◌≤◌, ◌++◌, IfOk, IfErr, OnErr, length, take};
-ghost use Rattle.claxon_format.specs.Bits.{Bits};
-ghost use Rattle.claxon_format.specs.read.Reading.{Done, times_at};
+//! Unencoded samples: of verbatim subframes, warm-up samples and escaped partitions.
+ghost use Rattle.std.specs.Prelude.{◌<◌, ◌≤◌};
 ghost use Rattle.claxon_format.specs.read.Bits.{signed_at};
-ghost use Rattle.claxon_input.specs.BufferedBits.{bits_in_buffer, GivesBufferedOrNone};
-ghost use Rattle.claxon_input.specs.State.{bits_in};
-ghost use Rattle.claxon_input.specs.Gives.{FailureOr};
-ghost use Rattle.claxon_input.specs.Error.{IsIo};
-ghost use Rattle.claxon_subframe.specs.Samples.{SamplesAreRead, FirstSamplesAreRead};
+ghost use Rattle.claxon_input.specs.BufferedBits.{GivesBufferedOrNone};
+ghost use Rattle.claxon_subframe.specs.Samples.{SamplesAreRead};
 
+use super::buffered::{SampleCode, read_samples};
 use super::{extend_sign_u32, read_sample};
 use claxon_input::error::Result;
 use claxon_input::input::{Bitstream, BufferedBits, ReadBytes};
 
+/// Unencoded samples of this many bits, signed numbers.
+#[derive(Clone, Copy)]
+struct Verbatim {
+    bps: u32,
+    ghost some: { 0 < bps },
+    ghost width: { bps ≤ 32 },
+}
+
+impl SampleCode for Verbatim {
+    ghost use Rattle.claxon_format.specs.Bits.{Signed};
+    ghost use Rattle.claxon_format.proofs.SignedIntegers.{Reads-signed};
+
+    ghost sample_at = { λ c. signed_at c.bps };
+
+    ghost code = { λ c. Signed c.bps };
+
+    ghost reads = { λ c. Reads-signed c.bps c.some };
+
+    // Works on a copy of the buffered bits: through the reference they would be stored and loaded again at each sample, as the
+    // compiler can't exclude that it aliases the buffer.
+    #[inline(never)]
+    fn decode_buffered(self, buffered: &mut BufferedBits, buffer: &mut [i32]) -> usize {
+        let mut next = *buffered;
+        let mut samples = 0;
+        for place in buffer.iter_mut() {
+            let Some(sample) = decode_buffered_sample(&mut next, self.bps) else {
+                break;
+            };
+            *place = sample;
+            samples += 1;
+        }
+        *buffered = next;
+        samples
+    }
+
+    #[inline(always)]
+    fn read_sample<R: ReadBytes>(self, input: &mut Bitstream<R>) -> Result<i32> {
+        read_sample(input, self.bps)
+    }
+}
+
 /// Reads as many samples of `bps` bits as the buffer is long.
+#[inline(always)]
 pub fn decode_verbatim<R: ReadBytes>(
     input: &mut Bitstream<R>,
     bps: u32,
@@ -24,61 +61,7 @@ pub fn decode_verbatim<R: ReadBytes>(
     requires width { bps ≤ 32 }
     ensures { SamplesAreRead R.source bps input.old result input.new buffer.old buffer.new }
 {
-    let mut start = 0;
-    while start < buffer.len() {
-        start += read_buffered_samples(input, bps, &mut buffer[start..])?;
-        if start < buffer.len() {
-            buffer[start] = read_sample(input, bps)?;
-            start += 1;
-        }
-    }
-    Ok(())
-}
-
-// Reads the samples that are completely buffered, and returns their number. Only the source can fail.
-fn read_buffered_samples<R: ReadBytes>(
-    input: &mut Bitstream<R>,
-    bps: u32,
-    buffer: &mut [i32],
-) -> Result<usize>
-    requires some { 0 < bps }
-    requires width { bps ≤ 32 }
-    ensures few { IfOk result (λ samples. samples ≤ length buffer.new) }
-    ensures ok { FirstSamplesAreRead R.source bps input.old result input.new buffer.new }
-    ensures io { IfErr result IsIo }
-    ensures err { OnErr result
-        (FailureOr (bits_in R.source input.old) (bits_in R.source input.new) (λ s. ⊥)) }
-{
-    let mut buffered = input.buffered();
-    let bits = buffered.len();
-    let samples = decode_buffered_samples(&mut buffered, bps, buffer);
-    let consumed = bits - buffered.len();
-    input.skip_bits(consumed)?;
-    Ok(samples)
-}
-
-// Works on a copy of the buffered bits: through the reference they would be stored and loaded again at each sample, as the
-// compiler can't exclude that it aliases the buffer.
-#[inline(never)]
-fn decode_buffered_samples(buffered: &mut BufferedBits, bps: u32, buffer: &mut [i32]) -> usize
-    requires some { 0 < bps }
-    requires width { bps ≤ 32 }
-    ensures few { result ≤ length buffer.new }
-    ensures samples { (rest : Bits)
-        → times_at result (signed_at bps) (bits_in_buffer buffered.old ++ rest)
-        ≡ Done (take result buffer.new) (bits_in_buffer buffered.new ++ rest) }
-{
-    let mut next = *buffered;
-    let mut samples = 0;
-    for place in buffer.iter_mut() {
-        let Some(sample) = decode_buffered_sample(&mut next, bps) else {
-            break;
-        };
-        *place = sample;
-        samples += 1;
-    }
-    *buffered = next;
-    samples
+    read_samples(input, Verbatim { bps }, buffer)
 }
 
 // A sample, or `None` where it isn't completely buffered.

@@ -3,10 +3,10 @@ use Rattle.std.proofs.lemmas.Grind.{common_steps}
 use Rattle.std.proofs.lemmas.Int.{to_z-of_z}
 use Rattle.claxon_format.specs.read.Bits.{signed_at}
 use Rattle.claxon_subframe.proofs.BufferedFields.{FieldsSoFar, fields_begin, fields_next}
-use Rattle.claxon_subframe.proofs.subframe.verbatim.decode_buffered_samples.Goals as goal
+use Rattle.claxon_subframe.proofs.subframe.verbatim.VerbatimSampleCode.decode_buffered.Goals as goal
 
 pub loop-place-init : goal.loop-place-init
-loop-place-init c = (refl, fields_begin (signed_at c.args.bps) c.args.buffer.now c.args.buffered.now)
+loop-place-init c = (refl, fields_begin (signed_at c.args.self.bps) c.args.buffer.now c.args.buffered.now)
 
 pub loop-place-preserved : goal.loop-place-preserved
 loop-place-preserved c =
@@ -15,7 +15,7 @@ loop-place-preserved c =
     let lt : l.samples < length l.buffer = omega (arith, l.invariant.0) in
     let next = fields_next c.in-Some.sample lt l.invariant.1 c.in-Some.ensures in (
       omega (arith, l.invariant.0),
-      rw (to_z-of_z w32 c.in-Some.sample f) (subst (λ (i : ℕ). FieldsSoFar (signed_at c.args.bps) (set l.buffer i c.in-Some.sample) (l.samples + 1) c.args.buffered.now c.decode_buffered_sample.new.buffered) l.invariant.0 next),
+      rw (to_z-of_z w32 c.in-Some.sample f) (subst (λ (i : ℕ). FieldsSoFar (signed_at c.args.self.bps) (set l.buffer i c.in-Some.sample) (l.samples + 1) c.args.buffered.now c.decode_buffered_sample.new.buffered) l.invariant.0 next),
     )
 
 pub returns-after-loop-place-clause-samples : goal.returns-after-loop-place-clause-samples

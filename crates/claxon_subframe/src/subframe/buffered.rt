@@ -1,0 +1,61 @@
+//! Consecutive samples of one code. Those that are completely buffered are decoded from the buffered bits, where no call can fail;
+//! then these bits are skipped in one call. A sample that is only partly buffered is read by itself.
+ghost use Rattle.std.specs.Prelude.{◌≤◌, ℤ, Bool, length};
+ghost use Rattle.claxon_format.specs.Bits.{Bits};
+ghost use Rattle.claxon_format.specs.Codes.{Never};
+ghost use Rattle.claxon_format.specs.read.Reading.{Reading, Reads, times_at};
+ghost use Rattle.claxon_input.specs.State.{bits_in};
+ghost use Rattle.claxon_input.specs.Gives.{Gives};
+ghost use Rattle.claxon_subframe.specs.Buffer.{FillsBuffer};
+ghost use Rattle.claxon_subframe.specs.Samples.{BufferedSamplesAreRead};
+
+use claxon_input::error::Result;
+use claxon_input::input::{Bitstream, BufferedBits, ReadBytes};
+
+/// How a sample is coded.
+pub trait SampleCode: Copy {
+    /// The reader of a sample, on lists of bits.
+    ghost sample_at: { Self → Bits → Reading Bool ℤ };
+
+    /// Whether these bits are those of the sample.
+    ghost code: { Self → ℤ → Bits → Type 0 };
+
+    /// Decodes the samples that are completely buffered, and returns their number.
+    fn decode_buffered(self, buffered: &mut BufferedBits, buffer: &mut [i32]) -> usize
+        ensures few { result ≤ length buffer.new }
+        ensures samples { BufferedSamplesAreRead (sample_at self)
+            buffered.old result buffered.new buffer.new };
+
+    /// Reads a sample.
+    fn read_sample<R: ReadBytes>(self, input: &mut Bitstream<R>) -> Result<i32>
+        ensures { Gives (λ x. x) result (sample_at self)
+            (bits_in R.source input.old) (bits_in R.source input.new) };
+
+    /// The reader accepts just these samples with their bits, and finds no fault in any bits.
+    ghost reads: { (self : Self) → Reads Bool ℤ (sample_at self) (code self) Never };
+}
+
+/// Reads as many samples as the buffer is long.
+pub fn read_samples<C: SampleCode, R: ReadBytes>(
+    input: &mut Bitstream<R>,
+    code: C,
+    buffer: &mut [i32],
+) -> Result<()>
+    ensures { FillsBuffer R.source (times_at (length buffer.old) (C.sample_at code))
+        input.old result input.new buffer.new }
+{
+    let mut start = 0;
+    while start < buffer.len() {
+        let mut buffered = input.buffered();
+        let bits = buffered.len();
+        start += code.decode_buffered(&mut buffered, &mut buffer[start..]);
+        let consumed = bits - buffered.len();
+        input.skip_bits(consumed)?;
+        // The next sample isn't completely buffered.
+        if start < buffer.len() {
+            buffer[start] = code.read_sample(input)?;
+            start += 1;
+        }
+    }
+    Ok(())
+}
