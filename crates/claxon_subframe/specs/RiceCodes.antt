@@ -23,11 +23,6 @@ abbrev pub FirstRiceCodesAreRead : {R : Type 0} {g : _} → (R → Source ℕ) �
 FirstRiceCodesAreRead source parameter old result new buffer =
     IfOk result (λ codes. Consumes (bits_in source old) (bits_in source new) (λ s m. times_at codes (rice_code_at parameter) s ≡ Done (take codes buffer) m))
 
--- The buffer begins with the residual samples of this many Rice codes, which were decoded from the buffered bits.
-abbrev pub BufferedCodesAreRead : ℕ → BufferedBits → ℕ → BufferedBits → List ℤ → Type 0
-BufferedCodesAreRead parameter old codes new buffer =
-    GivesBuffered old new (times_at codes (rice_code_at parameter)) (take codes buffer)
-
 -- ---- before zigzag decoding
 
 -- the zigzag-encoded number of a Rice code with this parameter, as the i32 that has its bits

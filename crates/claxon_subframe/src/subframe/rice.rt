@@ -9,7 +9,7 @@ ghost use Rattle.claxon_input.specs.BufferedBits.{bits_in_buffer, GivesBuffered,
 ghost use Rattle.claxon_input.specs.State.{bits_in};
 ghost use Rattle.claxon_input.specs.Gives.{Gives, FailureOr};
 ghost use Rattle.claxon_input.specs.Error.{IsIo};
-ghost use Rattle.claxon_subframe.specs.RiceCodes.{RiceCodesAreRead, FirstRiceCodesAreRead, BufferedCodesAreRead, EncodedCodesAreRead, IsFirstRiceCode, decoded, encoded_code_at};
+ghost use Rattle.claxon_subframe.specs.RiceCodes.{RiceCodesAreRead, FirstRiceCodesAreRead, EncodedCodesAreRead, IsFirstRiceCode, decoded, encoded_code_at};
 
 use claxon_input::error::Result;
 use claxon_input::input::{Bitstream, BufferedBits, ReadBytes};
@@ -53,12 +53,13 @@ fn read_buffered_rice_codes<R: ReadBytes>(
     let mut buffered = input.buffered();
     let bits = buffered.len();
     let codes = decode_buffered_codes(&mut buffered, parameter, buffer);
+    decode_zigzag(&mut buffer[..codes]);
     let consumed = bits - buffered.len();
     input.skip_bits(consumed)?;
     Ok(codes)
 }
 
-/// Decodes the Rice codes that are completely buffered, and returns their number.
+/// Decodes the Rice codes that are completely buffered to their zigzag-encoded numbers, and returns how many there are.
 #[inline(never)]
 pub fn decode_buffered_codes(
     buffered: &mut BufferedBits,
@@ -67,7 +68,7 @@ pub fn decode_buffered_codes(
 ) -> usize
     requires { parameter ≤ 30 }
     ensures few { result ≤ length buffer.new }
-    ensures codes { BufferedCodesAreRead parameter buffered.old result buffered.new buffer.new }
+    ensures codes { EncodedCodesAreRead parameter buffered.old result buffered.new buffer.new }
 {
     // A copy stays in registers: the reference might alias the buffer, and would be loaded again after each code.
     let mut next = *buffered;
@@ -91,12 +92,11 @@ pub fn decode_buffered_codes(
         _ => decode_by_groups(2, &mut next, parameter, buffer),
     };
     *buffered = next;
-    decode_zigzag(&mut buffer[..codes]);
     codes
 }
 
-// Zigzag-decodes each number. No number waits for another here, so the compiler decodes several at once, in vectors.
-fn decode_zigzag(numbers: &mut [i32])
+/// Zigzag-decodes each number. No number waits for another here, so the compiler decodes several at once, in vectors.
+pub fn decode_zigzag(numbers: &mut [i32])
     ensures { numbers.new ≡ map decoded numbers.old }
 {
     for number in numbers.iter_mut() {
