@@ -11,9 +11,9 @@ use Rattle.claxon_format.specs.read.Bits.{zigzag_decode, zigzag_encoded, number_
 use Rattle.claxon_format.specs.read.Reading.{Reading, Done, Faulty, Incomplete, and_then, bind, done, each_at, times_at}
 use Rattle.claxon_format.proofs.Numbers.{Reads-number}
 use Rattle.claxon_format.proofs.RiceCodes.{parts, zigzag_decode-fits}
-use Rattle.claxon_input.specs.BufferedBits.{bits_in_buffer}
+use Rattle.claxon_input.specs.BufferedBits.{bits_in_buffer, GivesBuffered}
 use Rattle.claxon_input.specs.declared.bits.buffered.BufferedBits.{BufferedBits}
-use Rattle.claxon_subframe.specs.RiceCodes.{BufferedCodesAreRead, EncodedCodesAreRead, decoded, encoded_code_at}
+use Rattle.claxon_subframe.specs.RiceCodes.{EncodedCodesAreRead, decoded, encoded_code_at}
 
 -- the quotient shifted, or the low bits
 pub or_folded : (k q r : ℕ) → k ≤ 32 → r < 2 ^ k → bit_or (q * 2 ^ k % 4294967296) r ≡ zigzag_encoded k q r
@@ -113,12 +113,13 @@ codes_decoded k (suc n) s = rw (rice_code_decoded k s) (first (λ m. codes_decod
     first others Incomplete = refl
 
 -- the codes of the buffer, once the encoded numbers at its front are decoded
-pub codes_read : (k codes : ℕ) (xs ys : List ℤ) (a b : BufferedBits) → take codes ys ≡ map decoded (take codes xs) → EncodedCodesAreRead k a codes b xs → BufferedCodesAreRead k a codes b ys
+pub codes_read : (k codes : ℕ) (xs ys : List ℤ) (a b : BufferedBits) → take codes ys ≡ map decoded (take codes xs) → EncodedCodesAreRead k a codes b xs → GivesBuffered a b (times_at codes (rice_code_at k)) (take codes ys)
 codes_read k codes xs ys a b e h rest =
     codes_decoded k codes (bits_in_buffer a ++ rest) ∙ ap (mapped (map decoded)) (h rest) ∙ ap (λ (t : List ℤ). Done t (bits_in_buffer b ++ rest)) (sym e)
 
 -- the encoded numbers at the front of the buffer, decoded in their place
-pub decoded_front : (codes : ℕ) (xs ys : List ℤ) → codes ≤ length xs → ys ≡ map decoded (take codes xs) → take codes (ys ++ drop codes xs) ≡ map decoded (take codes xs)
-decoded_front codes xs ys le e =
-    let len : length ys ≡ codes = ap length e ∙ length-map (take codes xs) decoded ∙ length-take-le codes xs le in
-    take_at ys (drop codes xs) codes len ∙ e
+pub decoded_front : {n : ℕ} (codes : ℕ) (xs ys : List ℤ) → n ≡ codes → codes ≤ length xs → ys ≡ map decoded (take n xs) → take codes (ys ++ drop n xs) ≡ map decoded (take codes xs)
+decoded_front {n} codes xs ys same le e =
+    let front : ys ≡ map decoded (take codes xs) = e ∙ ap (λ (k : ℕ). map decoded (take k xs)) same in
+    let len : length ys ≡ codes = ap length front ∙ length-map (take codes xs) decoded ∙ length-take-le codes xs le in
+    take_at ys (drop n xs) codes len ∙ front

@@ -16,11 +16,6 @@ abbrev pub RiceCodesAreRead : {R A : Type 0} {g : _} → (R → Source ℕ) → 
 RiceCodesAreRead source parameter old result new was is =
     FillsBuffer source (times_at (length was) (rice_code_at parameter)) old result new is
 
--- The buffer begins with the residual samples of this many Rice codes, which were decoded from the buffered bits.
-abbrev pub BufferedCodesAreRead : ℕ → BufferedBits → ℕ → BufferedBits → List ℤ → Type 0
-BufferedCodesAreRead parameter old codes new buffer =
-    GivesBuffered old new (times_at codes (rice_code_at parameter)) (take codes buffer)
-
 -- ---- before zigzag decoding
 
 -- the zigzag-encoded number of a Rice code with this parameter, as the i32 that has its bits

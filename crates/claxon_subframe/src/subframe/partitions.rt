@@ -1,5 +1,5 @@
 //! Partitions that are completely buffered. Their bits are skipped in one call, so that short partitions cost little.
-ghost use Rattle.std.specs.Prelude.{◌≡◌, ◌+◌, ◌*◌, ◌≤◌, ◌<◌, IfOk, IfErr, OnErr, length, take, replicate};
+ghost use Rattle.std.specs.Prelude.{◌≡◌, ◌+◌, ◌*◌, ◌≤◌, ◌<◌, IfOk, IfErr, OnErr, length, map, take, replicate};
 ghost use Rattle.std.specs.Bool.{MatchBool};
 ghost use Rattle.claxon_format.specs.read.Residual.{joined_at, partition_at};
 ghost use Rattle.claxon_input.specs.BufferedBits.{bits_in_buffer, GivesBuffered};
@@ -7,10 +7,11 @@ ghost use Rattle.claxon_input.specs.State.{bits_in};
 ghost use Rattle.claxon_input.specs.Gives.{FailureOr};
 ghost use Rattle.claxon_input.specs.Error.{IsIo};
 ghost use Rattle.claxon_subframe.specs.Partitions.{PartitionsAreRead};
+ghost use Rattle.claxon_subframe.specs.RiceCodes.{decoded};
 ghost use Rattle.claxon_subframe.specs.SubframeFields.{method_of};
 
 use super::RicePartitionType;
-use super::rice::decode_buffered_codes;
+use super::rice::{decode_buffered_codes, decode_zigzag};
 use claxon_input::error::Result;
 use claxon_input::input::{Bitstream, BufferedBits, ReadBytes};
 
@@ -39,7 +40,7 @@ pub fn read_buffered_partitions<R: ReadBytes>(
     Ok(whole)
 }
 
-// Decodes these partitions from the buffered bits.
+// Decodes these partitions from the buffered bits. All are zigzag-decoded at once, since vectors gain little on short ones.
 fn decode_buffered_partitions(
     buffered: &mut BufferedBits,
     partition_type: RicePartitionType,
@@ -63,10 +64,12 @@ fn decode_buffered_partitions(
         whole += 1;
         start += each;
     }
+    decode_zigzag(&mut buffer[..start]);
     whole
 }
 
-// A partition of Rice codes, where it is completely buffered. Otherwise the contents of the buffer are unspecified.
+// The zigzag-encoded numbers of a partition of Rice codes, where it is completely buffered. Otherwise the contents of the buffer
+// are unspecified.
 fn decode_buffered_partition(
     buffered: &mut BufferedBits,
     partition_type: RicePartitionType,
@@ -75,7 +78,7 @@ fn decode_buffered_partition(
     requires { length buffer.now < 65536 }
     ensures { MatchBool result
         (GivesBuffered buffered.old buffered.new
-        (partition_at (method_of partition_type) (length buffer.new)) buffer.new)
+        (partition_at (method_of partition_type) (length buffer.new)) (map decoded buffer.new))
         (bits_in_buffer buffered.new ≡ bits_in_buffer buffered.old) }
 {
     let bits = partition_type.parameter_bits();

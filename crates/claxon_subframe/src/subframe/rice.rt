@@ -4,7 +4,7 @@ ghost use Rattle.std.specs.Bool.{MatchBool};
 ghost use Rattle.claxon_format.specs.read.Bits.{zigzag_decode, rice_code_at};
 ghost use Rattle.claxon_format.specs.read.Reading.{times_at};
 ghost use Rattle.claxon_input.specs.BufferedBits.{bits_in_buffer, GivesBuffered, GivesBufferedOrNone};
-ghost use Rattle.claxon_subframe.specs.RiceCodes.{RiceCodesAreRead, BufferedCodesAreRead, EncodedCodesAreRead, IsFirstRiceCode, decoded, encoded_code_at};
+ghost use Rattle.claxon_subframe.specs.RiceCodes.{RiceCodesAreRead, EncodedCodesAreRead, IsFirstRiceCode, decoded, encoded_code_at};
 
 use super::buffered::{SampleCode, read_samples};
 use claxon_input::error::Result;
@@ -34,7 +34,9 @@ impl SampleCode for RiceCode {
 
     #[inline(always)]
     fn decode_buffered(self, buffered: &mut BufferedBits, buffer: &mut [i32]) -> usize {
-        decode_buffered_codes(buffered, self.parameter, buffer)
+        let codes = decode_buffered_codes(buffered, self.parameter, buffer);
+        decode_zigzag(&mut buffer[..codes]);
+        codes
     }
 
     #[inline(always)]
@@ -59,7 +61,7 @@ pub fn read_rice_codes<R: ReadBytes>(
     read_samples(input, RiceCode { parameter }, buffer)
 }
 
-/// Decodes the Rice codes that are completely buffered, and returns their number.
+/// Decodes the Rice codes that are completely buffered to their zigzag-encoded numbers, and returns how many there are.
 #[inline(never)]
 pub fn decode_buffered_codes(
     buffered: &mut BufferedBits,
@@ -68,7 +70,7 @@ pub fn decode_buffered_codes(
 ) -> usize
     requires { parameter ≤ 30 }
     ensures few { result ≤ length buffer.new }
-    ensures codes { BufferedCodesAreRead parameter buffered.old result buffered.new buffer.new }
+    ensures codes { EncodedCodesAreRead parameter buffered.old result buffered.new buffer.new }
 {
     // A copy stays in registers: the reference might alias the buffer, and would be loaded again after each code.
     let mut next = *buffered;
@@ -92,12 +94,11 @@ pub fn decode_buffered_codes(
         _ => decode_by_groups(2, &mut next, parameter, buffer),
     };
     *buffered = next;
-    decode_zigzag(&mut buffer[..codes]);
     codes
 }
 
-// Zigzag-decodes each number. No number waits for another here, so the compiler decodes several at once, in vectors.
-fn decode_zigzag(numbers: &mut [i32])
+/// Zigzag-decodes each number. No number waits for another here, so the compiler decodes several at once, in vectors.
+pub fn decode_zigzag(numbers: &mut [i32])
     ensures { numbers.new ≡ map decoded numbers.old }
 {
     for number in numbers.iter_mut() {
