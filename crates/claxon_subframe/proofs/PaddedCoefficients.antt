@@ -99,10 +99,10 @@ linear_leading_zeros k cs t l =
     let rotated : reverse (replicate k (pos 0) ++ cs) ≡ reverse cs ++ replicate k (pos 0) = reverse-append (replicate k (pos 0)) cs ∙ ap (λ (z : List ℤ). reverse cs ++ z) (reverse_zeros k) in
     ap (λ (z : List ℤ). floor_shift (dot z l) t) rotated ∙ ap (λ (y : ℤ). floor_shift y t) (dot_trailing_zeros k (reverse cs) l)
 
-pub rest_is : (n : ℕ) (cs xs padded front all : List ℤ) (t f : ℕ) → length cs ≤ n → length cs ≤ length xs → f ≡ min (length xs) n → padded ≡ replicate (n - length cs) (pos 0) ++ cs
+pub rest_is : (n k : ℕ) (cs xs padded front all : List ℤ) (t f : ℕ) → length cs ≤ n → length cs ≤ length xs → f ≡ min (length xs) n → padded ≡ replicate k (pos 0) ++ cs
     → front ≡ restored (linear (reverse cs) t) (length cs) (take f xs) → all ≡ restored (linear (reverse padded) t) n (front ++ drop f xs) → all ≡ restored (linear (reverse cs) t) (length cs) xs
-rest_is n cs xs padded front all t f few warm_up ef et er ea =
-    let same = λ (l : List ℤ). ap (λ (z : List ℤ). linear (reverse z) t l) et ∙ linear_leading_zeros (n - length cs) cs t l in
+rest_is n k cs xs padded front all t f few warm_up ef et er ea =
+    let same = λ (l : List ℤ). ap (λ (z : List ℤ). linear (reverse z) t l) et ∙ linear_leading_zeros k cs t l in
     elim (cases_lt (length xs) n) [
       | inl short ↦
           (let whole : front ≡ restored (linear (reverse cs) t) (length cs) xs = er ∙ ap (restored (linear (reverse cs) t) (length cs)) (take_all f xs (omega arith)) in

@@ -206,7 +206,7 @@ pub fn predict_lpc_low_order(coefficients: &[i16], shift: u32, buffer: &mut [i32
     }
 }
 
-// The first 32 samples by their sums of products, the others by pending sums in `VECTORS` vectors.
+// The first samples by their sums of products, the others by pending sums in `VECTORS` vectors.
 #[inline(always)]
 fn predict_by_vectors<const VECTORS: usize>(coefficients: &[i16], shift: u32, buffer: &mut [i32])
     requires vectors { VECTORS ≤ 7 }
@@ -216,7 +216,7 @@ fn predict_by_vectors<const VECTORS: usize>(coefficients: &[i16], shift: u32, bu
     requires shift { shift ≤ 15 }
     ensures { SamplesAreRestored coefficients.now shift buffer.old buffer.new }
 {
-    let front = buffer.len().min(32);
+    let front = buffer.len().min(4 * VECTORS + 4);
     predict_plain(coefficients, shift, &mut buffer[..front]);
     predict_32_taps::<VECTORS>(&padded_coefficients::<32>(coefficients), shift, buffer);
 }
@@ -807,8 +807,8 @@ fn first_sums<const VECTORS: usize>(taps: Taps, samples: &[i32]) -> PendingSums<
     sums
 }
 
-// The samples from index 32 on, each from the 32 samples before it, as in `predict_12_taps`. Where `VECTORS` is less than 7 the
-// oldest coefficients are zeros.
+// The samples after the first 4 * VECTORS + 4, as in `predict_12_taps`. Where `VECTORS` is less than 7 the oldest coefficients
+// are zeros.
 #[inline(never)]
 fn predict_32_taps<const VECTORS: usize>(padded: &[i64; 32], shift: u32, buffer: &mut [i32])
     requires shift { shift ≤ 15 }
@@ -816,9 +816,10 @@ fn predict_32_taps<const VECTORS: usize>(padded: &[i64; 32], shift: u32, buffer:
     requires vectors { VECTORS ≤ 7 }
     requires some { 3 ≤ VECTORS }
     requires zeros { take (28 - 4 * VECTORS) padded.now ≡ replicate (28 - 4 * VECTORS) (pos 0) }
-    ensures { buffer.new ≡ restored (linear (reverse padded.now) shift) 32 buffer.old }
+    ensures { buffer.new
+        ≡ restored (linear (reverse padded.now) shift) (4 * VECTORS + 4) buffer.old }
 {
-    if buffer.len() <= 32 {
+    if buffer.len() <= 4 * VECTORS + 4 {
         return;
     }
     let last = NewestFive {
@@ -829,9 +830,9 @@ fn predict_32_taps<const VECTORS: usize>(padded: &[i64; 32], shift: u32, buffer:
         newest: padded[31],
     };
     let taps = taps_of(padded);
-    let mut sums = first_sums::<VECTORS>(taps, &buffer[28 - 4 * VECTORS..32]);
-    let mut newest = NewestFive::of(&buffer[27..32]);
-    for pair in 16..buffer.len() / 2 {
+    let mut sums = first_sums::<VECTORS>(taps, &buffer[..4 * VECTORS + 4]);
+    let mut newest = NewestFive::of(&buffer[4 * VECTORS - 1..4 * VECTORS + 4]);
+    for pair in 2 * VECTORS + 2..buffer.len() / 2 {
         let i = 2 * pair;
         newest = newest.followed_by_two(last, sums.at_0, buffer[i], buffer[i + 1], shift);
         buffer[i] = low_bits(newest.second);

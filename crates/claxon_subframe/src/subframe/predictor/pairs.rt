@@ -3,8 +3,7 @@
 //! pending sums of samples of 16 bits fit.
 ghost use Rattle.std.specs.Prelude.{◌≡◌, ◌+◌, ◌*◌, ◌-◌, ◌^◌, ◌<◌, ◌≤◌, ◌↔◌, ◌++◌, IsTrue, true, false, length, take, drop, reverse, replicate, pos, FitsSigned};
 ghost use Rattle.std.specs.Int.{w16, w32};
-ghost use Rattle.claxon_format.specs.Predict.{linear};
-ghost use Rattle.claxon_format.specs.read.Predict.{restored};
+ghost use Rattle.claxon_subframe.specs.Predictor.{FrontIsRestored};
 ghost use Rattle.claxon_subframe.specs.Lanes.{LanesFit64};
 ghost use Rattle.claxon_subframe.specs.PendingSums.{ArePendingSumsBeforeAll};
 ghost use Rattle.claxon_subframe.specs.Pairs.{Fit16, ArePairTaps, ArePairSumsAfter, ArePairSumsAfterTwo, LanesFit16, LanesFit32, SmallPairTaps, SumsFit32, advanced_by_pair, magnitude, pair_of, plus_pairs};
@@ -20,8 +19,8 @@ pub fn predict_by_pairs(coefficients: &[i16], shift: u32, buffer: &mut [i32]) ->
     requires shift { shift ≤ 15 }
     ensures warm_up { length coefficients.now ≤ result }
     ensures few { result ≤ length buffer.new }
-    ensures restored { restored (linear (reverse coefficients.now) shift) result buffer.new
-        ≡ restored (linear (reverse coefficients.now) shift) (length coefficients.now) buffer.old }
+    ensures restored { FrontIsRestored coefficients.now shift (length coefficients.now)
+        buffer.old result buffer.new }
 {
     if coefficients.len() <= 8 || sum_of_magnitudes(coefficients) > 0xffff {
         return coefficients.len();
@@ -91,8 +90,8 @@ fn predict_front<const VECTORS: usize>(
     requires small { magnitude coefficients.now < 2 ^ 16 }
     ensures warm_up { length coefficients.now ≤ result }
     ensures few { result ≤ length buffer.new }
-    ensures restored { restored (linear (reverse coefficients.now) shift) result buffer.new
-        ≡ restored (linear (reverse coefficients.now) shift) (length coefficients.now) buffer.old }
+    ensures restored { FrontIsRestored coefficients.now shift (length coefficients.now)
+        buffer.old result buffer.new }
 {
     let front = buffer.len().min(4 * VECTORS + 4);
     predict_plain(coefficients, shift, &mut buffer[..front]);
@@ -277,8 +276,8 @@ fn predict_pairs<const VECTORS: usize>(padded: &[i16; 32], shift: u32, buffer: &
     requires magnitude { magnitude padded.now < 2 ^ 16 }
     ensures warm_up { 4 * VECTORS + 4 ≤ result }
     ensures few { result ≤ length buffer.new }
-    ensures restored { restored (linear (reverse padded.now) shift) result buffer.new
-        ≡ restored (linear (reverse padded.now) shift) (4 * VECTORS + 4) buffer.old }
+    ensures restored { FrontIsRestored padded.now shift (4 * VECTORS + 4)
+        buffer.old result buffer.new }
 {
     let last = NewestFive {
         fifth: i64::from(padded[27]),

@@ -1,16 +1,17 @@
-use Rattle.std.proofs.Common.{◌≡◌, ℕ, ◌+◌, ◌-◌, ◌*◌, ◌∙◌, List, ℤ, length, get_or, take, drop, reverse, pos, refl, sym, ap, subst, rules, arith, FitsSigned, w32}
+use Rattle.std.proofs.Common.{◌≡◌, ℕ, ◌+◌, ◌-◌, ◌*◌, ◌∙◌, List, ℤ, length, get_or, take, reverse, pos, refl, sym, ap, subst, rules, arith, FitsSigned, w32}
 use Rattle.std.proofs.lemmas.Int.{to_z-of_z}
-use Rattle.std.proofs.lemmas.List.{length-set, length-take, length-drop, length-reverse}
+use Rattle.std.proofs.lemmas.List.{length-set}
 use Rattle.claxon_format.specs.Predict.{linear}
+use Rattle.claxon_format.specs.read.Predict.{restored}
 use Rattle.claxon_subframe.specs.PendingSums.{ArePendingSums}
 use Rattle.claxon_subframe.proofs.Predictors.{restored_all}
 use Rattle.claxon_subframe.proofs.Lanes.{kept_fit_64, same_fit_64}
-use Rattle.claxon_subframe.proofs.PendingSums.{pending_sums_fit_64, pending_sums_enough, are_last, fit_vectors}
+use Rattle.claxon_subframe.proofs.PendingSums.{pending_sums_fit_64, are_last, fit_vectors}
 use Rattle.claxon_subframe.proofs.RestoreLoopByTwo.{newest_after, as_i64, narrowed, past_split, two_made, one_made, made_restored, made_past, made_newest, last_restored}
 use Rattle.claxon_subframe.proofs.subframe.predictor.predict_32_taps.Goals as goal
 
-pub returns-then-buffer-le32 : goal.returns-then-buffer-le32
-returns-then-buffer-le32 g c = sym (restored_all (linear (reverse c.args.padded.now) c.args.shift) c.args.buffer.now 32 c.if-buffer-le32.true)
+pub returns-then-buffer : goal.returns-then-buffer
+returns-then-buffer g c = sym (restored_all (linear (reverse c.args.padded.now) c.args.shift) c.args.buffer.now (4 * g.row.VECTORS + 4) c.if-buffer.true)
 
 pub advance_sums-sums-requires-clause-sums : goal.advance_sums-sums-requires-clause-sums
 advance_sums-sums-requires-clause-sums g c = pending_sums_fit_64 c.loop-pair.invariant.sums
@@ -24,16 +25,13 @@ followed_by_two-requires-clause-pending g c = kept_fit_64 (pending_sums_fit_64 c
 pub loop-pair-init : goal.loop-pair-init
 loop-pair-init g c =
     let ks = reverse c.args.padded.now in
-    let n = 28 - 4 * g.row.VECTORS in
-    let near = reverse (take (32 - n) (drop n c.args.buffer.now)) in
-    let fit = fit_vectors c.args.padded.now 32 g.row.VECTORS n c.told-padded (omega arith) c.requires.zeros in
+    let there : 4 * g.row.VECTORS + 4 ≡ 2 * (2 * g.row.VECTORS + 2) = omega arith in
+    let fit = fit_vectors c.args.padded.now 32 g.row.VECTORS (28 - 4 * g.row.VECTORS) c.told-padded (omega arith) c.requires.zeros in
     record {
       kept = refl;
-      same = refl;
-      past = newest_after _ _ _ _ (past_split c.args.buffer.now 27 5 32 refl) c.of-newest.ensures;
-      sums = subst (λ (l : List ℤ). ArePendingSums ks l c.first_sums-sums.result) (past_split c.args.buffer.now n (32 - n) 32 (omega arith))
-          (pending_sums_enough ks near (reverse (take n c.args.buffer.now)) g.row.VECTORS c.first_sums-sums.result fit (omega (arith, length-reverse (take (32 - n) (drop n c.args.buffer.now)), length-take (32 - n) (drop n c.args.buffer.now), length-drop n c.args.buffer.now))
-          (c.first_sums-sums.ensures ks c.taps_of-taps.ensures.value fit));
+      same = ap (λ (n : ℕ). restored (linear (reverse c.args.padded.now) c.args.shift) n c.args.buffer.now) (sym there);
+      past = newest_after _ _ _ _ (past_split c.args.buffer.now (4 * g.row.VECTORS - 1) (4 * g.row.VECTORS + 4 - (4 * g.row.VECTORS - 1)) (2 * (2 * g.row.VECTORS + 2)) (omega arith)) c.of-newest.ensures;
+      sums = subst (λ (n : ℕ). ArePendingSums ks (reverse (take n c.args.buffer.now)) c.first_sums-sums.result) there (c.first_sums-sums.ensures ks c.taps_of-taps.ensures.value fit);
     }
 
 pub loop-pair-preserved : goal.loop-pair-preserved
@@ -69,10 +67,6 @@ returns-then-buffer-eq1 g c =
     let made = one_made ks c.loop-pair.buffer c.loop-pair.sums.at_0 _ (2 * c.loop-pair.pair) _ _ _ c.loop-pair.newest new c.args.shift (are_last c.args.padded.now c.told-padded c.requires.small) c.loop-pair.invariant.past c.loop-pair.invariant.sums.at_0
     (same_fit_64 (pending_sums_fit_64 c.loop-pair.invariant.sums).at_0) (to_z-of_z w32 _ residual ∙ ap (λ (n : ℕ). get_or c.loop-pair.buffer n (pos 0)) at) c.followed_by_two.ensures.value in
     last_restored (linear ks c.args.shift) c.loop-pair.buffer _ (2 * c.loop-pair.pair) (length c.loop-pair.buffer - 1) _ at (omega arith) (one ∙ made) c.loop-pair.invariant.same
-
-pub first_sums-sums-requires-clause-samples : goal.first_sums-sums-requires-clause-samples
-first_sums-sums-requires-clause-samples g c =
-    omega (arith, length-take (32 - (28 - 4 * g.row.VECTORS)) (drop (28 - 4 * g.row.VECTORS) c.args.buffer.now), length-drop (28 - 4 * g.row.VECTORS) c.args.buffer.now)
 
 pub returns-else-buffer-eq1 : goal.returns-else-buffer-eq1
 returns-else-buffer-eq1 g c =
