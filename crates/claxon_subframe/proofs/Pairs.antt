@@ -14,9 +14,9 @@ use Rattle.claxon_format.proofs.WrappingArithmetic.{Represents, represents_add, 
 use Rattle.claxon_subframe.specs.Lanes.{AllFit64, LanesFit64}
 use Rattle.claxon_subframe.specs.PendingSums.{but_newest_four, but_newest_five, pending_at, four_pending, ArePendingSums, FitVectors, AreNewest}
 use Rattle.claxon_subframe.specs.Pairs.{AllFit16, Fit16, LanesFit16, AllFit32, LanesFit32, SumsFit32, magnitude, pair_of, plus_pairs, advanced_by_pair, pair_taps, ArePairTaps}
-use Rattle.claxon_subframe.specs.declared.subframe.predictor.NewestFive.{NewestFive}
-use Rattle.claxon_subframe.specs.declared.subframe.predictor.LaterLanes.{LaterLanes}
-use Rattle.claxon_subframe.specs.declared.subframe.predictor.PendingSums.{PendingSums}
+use Rattle.claxon_subframe.specs.declared.subframe.predictor.lanes.NewestFive.{NewestFive}
+use Rattle.claxon_subframe.specs.declared.subframe.predictor.lanes.LaterLanes.{LaterLanes}
+use Rattle.claxon_subframe.specs.declared.subframe.predictor.lanes.PendingSums.{PendingSums}
 use Rattle.claxon_subframe.proofs.Predictors.{abs_16, abs_32, between, value_16, value_32}
 use Rattle.claxon_subframe.proofs.Lanes.{small_fits}
 use Rattle.claxon_subframe.proofs.PendingSums.{dot_one, four_tap, five_tap, four_same, four_pending_past_vectors, from_last, five_first}

@@ -18,10 +18,10 @@ use Rattle.claxon_format.specs.Predict.{wrap, dot, floor_shift, linear}
 use Rattle.claxon_format.proofs.WrappingArithmetic.{Represents, represents_add, represents_mul, represents_fits}
 use Rattle.claxon_subframe.specs.Lanes.{AllWithin, Within, Lanes, LanesFit64, wrap_64, advanced_by_two}
 use Rattle.claxon_subframe.specs.PendingSums.{but_newest_four, but_newest_five, pending_at, four_pending, four_taps, ArePendingSums, AreTaps, SmallTaps, SmallLater, AreLaterTaps, FitVectors, SumsFit64, scaled_up, IsScaledUp, AddsProduct, plus_five, IsSample, IsButFifth, IsFollowed, five_before, AreNewest}
-use Rattle.claxon_subframe.specs.declared.subframe.predictor.NewestFive.{NewestFive}
-use Rattle.claxon_subframe.specs.declared.subframe.predictor.Taps.{Taps}
-use Rattle.claxon_subframe.specs.declared.subframe.predictor.LaterLanes.{LaterLanes}
-use Rattle.claxon_subframe.specs.declared.subframe.predictor.PendingSums.{PendingSums}
+use Rattle.claxon_subframe.specs.declared.subframe.predictor.lanes.NewestFive.{NewestFive}
+use Rattle.claxon_subframe.specs.declared.subframe.predictor.high_order.Taps.{Taps}
+use Rattle.claxon_subframe.specs.declared.subframe.predictor.lanes.LaterLanes.{LaterLanes}
+use Rattle.claxon_subframe.specs.declared.subframe.predictor.lanes.PendingSums.{PendingSums}
 use Rattle.claxon_subframe.proofs.Predictors.{floor_is, abs_32, shifted_fits}
 use Rattle.claxon_subframe.proofs.Lanes.{shr_more, small_fits, dot_trailing_zeros, same_lanes, same_fit_64}
 

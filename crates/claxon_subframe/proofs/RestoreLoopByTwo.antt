@@ -5,7 +5,7 @@ use Rattle.std.proofs.lemmas.List.{take_more, take_more_set, get_or-set_other, l
 use Rattle.claxon_format.specs.Predict.{wrap, linear}
 use Rattle.claxon_format.specs.read.Predict.{restored}
 use Rattle.claxon_subframe.specs.PendingSums.{four_pending, five_before, AreNewest, IsScaledUp, IsFollowedByTwo}
-use Rattle.claxon_subframe.specs.declared.subframe.predictor.NewestFive.{NewestFive}
+use Rattle.claxon_subframe.specs.declared.subframe.predictor.lanes.NewestFive.{NewestFive}
 use Rattle.claxon_subframe.proofs.Predictors.{restored_more, restored_all, abs_32}
 use Rattle.claxon_subframe.proofs.Lanes.{small_fits}
 

@@ -5,9 +5,9 @@ use Rattle.std.proofs.lemmas.List.{length-append}
 use Rattle.claxon_subframe.specs.Lanes.{Within, Lanes, LanesFit64}
 use Rattle.claxon_subframe.specs.PendingSums.{FitVectors, AreNewest}
 use Rattle.claxon_subframe.specs.TwelveLanes.{numbers, SmallTwelve, TwelveFit64, SmallTwelveTaps, AreTwelveTaps, AreTwelvePending}
-use Rattle.claxon_subframe.specs.declared.subframe.predictor.NewestFive.{NewestFive}
-use Rattle.claxon_subframe.specs.declared.subframe.predictor.TwelveLanes.{TwelveLanes}
-use Rattle.claxon_subframe.specs.declared.subframe.predictor.TwelveTaps.{TwelveTaps}
+use Rattle.claxon_subframe.specs.declared.subframe.predictor.lanes.NewestFive.{NewestFive}
+use Rattle.claxon_subframe.specs.declared.subframe.predictor.low_order.TwelveLanes.{TwelveLanes}
+use Rattle.claxon_subframe.specs.declared.subframe.predictor.low_order.TwelveTaps.{TwelveTaps}
 use Rattle.claxon_subframe.proofs.Lanes.{small_fits, same_lanes, kept_lanes}
 use Rattle.claxon_subframe.proofs.PendingSums.{four_pending_fit_64, four_pending_enough, four_same, four_lanes, coefficient_at, coefficient_at_is, coefficient_small}
 

@@ -3,8 +3,8 @@ use Rattle.std.specs.Prelude.{◌≡◌, ℕ, ◌+◌, ◌^◌, ◌<◌, ℤ, po
 use Rattle.std.specs.Int.{int_wrap, w16, w32}
 use Rattle.std.specs.Int.RustNames.{unsigned_abs}
 use Rattle.claxon_subframe.specs.PendingSums.{ArePendingSums, FitVectors, four_taps}
-use Rattle.claxon_subframe.specs.declared.subframe.predictor.LaterLanes.{LaterLanes}
-use Rattle.claxon_subframe.specs.declared.subframe.predictor.PendingSums.{PendingSums}
+use Rattle.claxon_subframe.specs.declared.subframe.predictor.lanes.LaterLanes.{LaterLanes}
+use Rattle.claxon_subframe.specs.declared.subframe.predictor.lanes.PendingSums.{PendingSums}
 
 -- each number fits 16 bits
 abbrev pub AllFit16 : List ℤ → Type 0

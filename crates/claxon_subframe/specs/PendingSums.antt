@@ -2,10 +2,10 @@
 use Rattle.std.specs.Prelude.{◌≡◌, ℕ, ◌+◌, ◌-◌, ◌*◌, ◌^◌, ℤ, pos, ◌+ℤ◌, ◌*ℤ◌, List, [], ◌∷◌, take, drop, reverse, replicate, length, get_or}
 use Rattle.claxon_format.specs.Predict.{wrap, dot, floor_shift, linear}
 use Rattle.claxon_subframe.specs.Lanes.{Lanes, LanesFit64, wrap_64}
-use Rattle.claxon_subframe.specs.declared.subframe.predictor.NewestFive.{NewestFive}
-use Rattle.claxon_subframe.specs.declared.subframe.predictor.Taps.{Taps}
-use Rattle.claxon_subframe.specs.declared.subframe.predictor.LaterLanes.{LaterLanes}
-use Rattle.claxon_subframe.specs.declared.subframe.predictor.PendingSums.{PendingSums}
+use Rattle.claxon_subframe.specs.declared.subframe.predictor.lanes.NewestFive.{NewestFive}
+use Rattle.claxon_subframe.specs.declared.subframe.predictor.high_order.Taps.{Taps}
+use Rattle.claxon_subframe.specs.declared.subframe.predictor.lanes.LaterLanes.{LaterLanes}
+use Rattle.claxon_subframe.specs.declared.subframe.predictor.lanes.PendingSums.{PendingSums}
 
 -- coefficients, the newest sample's first, with zeros for the newest four
 abbrev pub but_newest_four : List ℤ → List ℤ

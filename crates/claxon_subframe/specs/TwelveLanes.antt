@@ -2,9 +2,9 @@
 use Rattle.std.specs.Prelude.{◌≡◌, ℕ, ◌+◌, ◌^◌, ℤ, pos, List, [], ◌∷◌, ◌++◌, length, take, replicate, reverse}
 use Rattle.claxon_subframe.specs.Lanes.{Lanes, LanesFit64}
 use Rattle.claxon_subframe.specs.PendingSums.{four_pending, four_taps, FitVectors}
-use Rattle.claxon_subframe.specs.declared.subframe.predictor.TwelveLanes.{TwelveLanes}
-use Rattle.claxon_subframe.specs.declared.subframe.predictor.EightLanes.{EightLanes}
-use Rattle.claxon_subframe.specs.declared.subframe.predictor.TwelveTaps.{TwelveTaps}
+use Rattle.claxon_subframe.specs.declared.subframe.predictor.low_order.TwelveLanes.{TwelveLanes}
+use Rattle.claxon_subframe.specs.declared.subframe.predictor.low_order.EightLanes.{EightLanes}
+use Rattle.claxon_subframe.specs.declared.subframe.predictor.low_order.TwelveTaps.{TwelveTaps}
 
 -- the twelve numbers, those of the latest samples first
 abbrev pub numbers : TwelveLanes → List ℤ

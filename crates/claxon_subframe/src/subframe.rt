@@ -23,7 +23,8 @@ mod verbatim;
 use claxon_input::error::{Error, Result};
 use claxon_input::input::{Bitstream, ReadBytes};
 use partitions::read_buffered_partitions;
-use predictor::{predict_fixed, predict_lpc};
+use predictor::fixed::predict_fixed;
+use predictor::predict_lpc;
 use rice::read_rice_codes;
 use verbatim::decode_verbatim;
 

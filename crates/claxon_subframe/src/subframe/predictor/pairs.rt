@@ -8,7 +8,8 @@ ghost use Rattle.claxon_subframe.specs.Lanes.{LanesFit64};
 ghost use Rattle.claxon_subframe.specs.PendingSums.{ArePendingSumsBeforeAll};
 ghost use Rattle.claxon_subframe.specs.Pairs.{Fit16, ArePairTaps, ArePairSumsAfter, ArePairSumsAfterTwo, LanesFit16, LanesFit32, SmallPairTaps, SumsFit32, advanced_by_pair, magnitude, pair_of, plus_pairs};
 
-use super::{LaterLanes, NewestFive, PendingSums, low_bits, predict_plain};
+use super::lanes::{LaterLanes, NewestFive, PendingSums};
+use super::{low_bits, predict_plain};
 use std::simd::prelude::*;
 
 /// Restores samples while they fit 16 bits, from the warm-up samples on, by a predictor of more than eight coefficients, the

@@ -1,4 +1,5 @@
 //! Predictors: worked samples, and the vectors of upstream's tests.
+use super::fixed::predict_fixed;
 use super::*;
 
 #[test]

@@ -1,0 +1,8 @@
+use Rattle.std.proofs.Common.{[], ◌∷◌, take, drop, reverse}
+use Rattle.claxon_format.specs.read.Predict.{fixed, restore}
+use Rattle.claxon_subframe.proofs.RestoreLoop.{Restoring}
+use Rattle.claxon_subframe.proofs.subframe.predictor.fixed.predict_fixed_1.Given as goal
+
+abbrev pub invariant-loop-place : goal.invariant-loop-place
+invariant-loop-place l =
+    Restoring (fixed 1) (reverse (take 1 l.fn.buffer)) (restore (fixed 1) (reverse (take 1 l.fn.buffer)) (drop 1 l.fn.buffer)) l.place-items l.place-index (l.newest ∷ [])

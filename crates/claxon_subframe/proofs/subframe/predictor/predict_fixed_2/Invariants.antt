@@ -1,8 +1,0 @@
-use Rattle.std.proofs.Common.{[], ◌∷◌, take, drop, reverse}
-use Rattle.claxon_format.specs.read.Predict.{fixed, restore}
-use Rattle.claxon_subframe.proofs.RestoreLoop.{Restoring}
-use Rattle.claxon_subframe.proofs.subframe.predictor.predict_fixed_2.Given as goal
-
-abbrev pub invariant-loop-place : goal.invariant-loop-place
-invariant-loop-place l =
-    Restoring (fixed 2) (reverse (take 2 l.fn.buffer)) (restore (fixed 2) (reverse (take 2 l.fn.buffer)) (drop 2 l.fn.buffer)) l.place-items l.place-index (l.newest ∷ l.second ∷ [])
