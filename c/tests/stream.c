@@ -8,21 +8,8 @@
  *
  * With 0 ROUNDS small files are read alone, for tools that make it slow.
  * It is linked with --wrap for malloc and realloc, so that it can refuse memory and sees how much is asked for at once. */
-#include <inttypes.h>
-#include <stdio.h>
-#include <stdlib.h>
-#include <string.h>
-
 #include "claxon_stream.h"
-
-static int failures;
-
-static void expect(int holds, const char *name, const char *what) {
-    if (!holds) {
-        printf("%s: %s\n", name, what);
-        failures++;
-    }
-}
+#include "known.h"
 
 /* Memory. */
 
@@ -86,33 +73,18 @@ static struct source pieces_of(const uint8_t *bytes, size_t length, size_t piece
 
 /* Samples. */
 
-struct tally {
-    uint64_t count;
-    uint64_t hash;
-};
-
-static const struct tally no_samples = {0, UINT64_C(0xcbf29ce484222325)};
-
 /* Adds samples in the order of time. In memory the next channel is at a distance of `step`, and the next time of `next`. */
 static void add_samples(struct tally *tally, const int32_t *samples, const struct claxon_block *block, size_t step,
                         size_t next) {
     for (size_t i = 0; i < block->duration; i++) {
         for (size_t ch = 0; ch < block->channels; ch++) {
-            uint32_t sample = (uint32_t)samples[ch * step + i * next];
-            for (int j = 0; j < 4; j++) {
-                tally->hash = (tally->hash ^ (sample >> 8 * j & 0xff)) * UINT64_C(0x100000001b3);
-            }
+            add_sample(tally, samples[ch * step + i * next]);
         }
     }
-    tally->count += (uint64_t)block->channels * block->duration;
 }
 
 static void add_interleaved(struct tally *tally, const int32_t *samples, const struct claxon_block *block) {
     add_samples(tally, samples, block, 1, block->channels);
-}
-
-static int is_same_tally(struct tally a, struct tally b) {
-    return a.count == b.count && a.hash == b.hash;
 }
 
 static int is_same_block(const struct claxon_block *a, const struct claxon_block *b) {
@@ -128,15 +100,7 @@ static int is_same_info(const struct claxon_info *a, const struct claxon_info *b
 
 /* Files whose results are known. */
 
-static const char *result_of(uint32_t status, const char *error, char *text, size_t size) {
-    const char *prefix = status == CLAXON_FORMAT_ERROR  ? "Ill-formed FLAC stream: "
-                         : status == CLAXON_UNSUPPORTED ? "A currently unsupported feature of the FLAC format was encountered: "
-                                                        : "";
-    snprintf(text, size, "%s%s", prefix, status == CLAXON_NO_MORE ? "ok" : status == CLAXON_INPUT_ENDS ? "IO" : error);
-    return text;
-}
-
-static void test_known(const char *name, const uint8_t *bytes, size_t length, struct tally known, const char *result) {
+static void test_known(const struct known *known, const uint8_t *bytes, size_t length) {
     static const size_t pieces[] = {SIZE_MAX, 4099, 997, 61, 7, 1};
     for (size_t i = 0; i < 12; i++) {
         struct claxon_stream stream;
@@ -150,13 +114,14 @@ static void test_known(const char *name, const uint8_t *bytes, size_t length, st
             size_t channels = stream.block.channels, duration = stream.block.duration;
             add_samples(&tally, stream.samples, &stream.block, planar ? duration : 1, planar ? 1 : channels);
         }
-        if (!is_same_tally(tally, known) || strcmp(result_of(status, stream.error, text, sizeof text), result) != 0) {
-            printf("%s by %zu, planar %d: %" PRIu64 " %016" PRIx64 " %s\n", name, source.piece, planar, tally.count, tally.hash,
-                   text);
+        result_of(status, stream.error, text, sizeof text);
+        if (!is_same_tally(tally, known->tally) || strcmp(text, known->result) != 0) {
+            printf("%s by %zu, planar %d: %" PRIu64 " %016" PRIx64 " %s\n", known->name, source.piece, planar, tally.count,
+                   tally.hash, text);
             failures++;
         }
-        expect((status == CLAXON_NO_MORE) == (stream.error[0] == 0), name, "a text at the end");
-        expect(stream.position <= length && (status != CLAXON_NO_MORE || stream.position + 1 >= length), name,
+        expect((status == CLAXON_NO_MORE) == (stream.error[0] == 0), known->name, "a text at the end");
+        expect(stream.position <= length && (status != CLAXON_NO_MORE || stream.position + 1 >= length), known->name,
                "the position at the end");
         claxon_stream_free(&stream);
     }
@@ -782,55 +747,33 @@ static void test_endless_frame(void) {
     free(made.bytes);
 }
 
-static uint8_t *read_file(const char *folder, const char *name, size_t *length) {
-    char path[512];
-    snprintf(path, sizeof path, "%s/%s", folder, name);
-    FILE *file = fopen(path, "rb");
-    uint8_t *bytes = NULL;
-    if (file && fseek(file, 0, SEEK_END) == 0) {
-        *length = (size_t)ftell(file);
-        rewind(file);
-        bytes = malloc(*length + 1);
-        *length = bytes ? fread(bytes, 1, *length, file) : 0;
-    }
-    if (file) {
-        fclose(file);
-    }
-    return bytes;
-}
-
 /* Larger files are left out of what takes time for each byte. */
 #define SMALL 8192
 
-static void test_file(const char *name, const uint8_t *bytes, size_t length, struct tally known, const char *result,
-                      unsigned rounds) {
-    int is_ok = strcmp(result, "ok") == 0;
-    test_known(name, bytes, length, known, result);
+static void test_file(const struct known *known, const uint8_t *bytes, size_t length, unsigned rounds) {
+    const char *name = known->name;
+    int is_ok = strcmp(known->result, "ok") == 0;
+    test_known(known, bytes, length);
     if (length <= SMALL) {
         test_cut(name, bytes, length);
         for (size_t i = 0; i < length && is_ok; i += 1 + below(40)) {
             test_failing(name, bytes, length, i);
         }
         if (is_ok) {
-            test_memory(name, bytes, length, known);
+            test_memory(name, bytes, length, known->tally);
         }
     }
     test_damaged(name, bytes, length, length <= SMALL ? rounds : rounds / 50);
 }
 
 static int test_files(const char *folder, unsigned rounds) {
-    char line[512], name[256], result[256];
-    struct tally known;
+    struct known known;
     int files = 0;
-    while (fgets(line, sizeof line, stdin)) {
+    while (next_known(&known)) {
         size_t length = 0;
-        if (sscanf(line, "%255s %" SCNu64 " %" SCNx64 " %255[^\n]", name, &known.count, &known.hash, result) != 4) {
-            continue;
-        }
-        uint8_t *bytes = read_file(folder, name, &length);
-        expect(bytes != NULL, name, "the file can't be read");
+        uint8_t *bytes = read_file(folder, known.name, &length);
         if (bytes && (length <= SMALL || rounds > 0)) {
-            test_file(name, bytes, length, known, result, rounds);
+            test_file(&known, bytes, length, rounds);
             files++;
         }
         free(bytes);

@@ -10,7 +10,6 @@ import random
 import shutil
 import subprocess
 import sys
-import tempfile
 import time
 import tracemalloc
 import unittest
@@ -19,8 +18,8 @@ from subprocess import PIPE
 from typing import Optional, Tuple
 
 import claxon
-from tests import DATA, FRAME_OF_5, MARKER, STREAMINFO, TOP, Trickle, comments, decode
-from tests import frame_header, head, metadata_block, result_of, verbatim_frame
+from tests import DATA, FRAME_OF_5, MARKER, STREAMINFO, TOP, FolderCase, Trickle, comments
+from tests import decode, frame_header, head, metadata_block, result_of, verbatim_frame
 
 SONG = TOP / "crates" / "claxon_info" / "data" / "tagged.flac"
 MOST_FRAME_BYTES = 16777215
@@ -434,13 +433,11 @@ class Damage(unittest.TestCase):
             self.assertRaises(claxon.FormatError, list, flac.blocks())
 
 
-class Library(unittest.TestCase):
+class Library(FolderCase):
     """Where the library is looked for. Each is tried by a Python of its own."""
 
     def setUp(self) -> None:
-        folder = tempfile.TemporaryDirectory()
-        self.addCleanup(folder.cleanup)
-        self.folder = pathlib.Path(folder.name)
+        super().setUp()
         (self.folder / "python").mkdir()
         shutil.copy(claxon.__file__, self.folder / "python")
         self.built = pathlib.Path(claxon._library._name)

@@ -7,9 +7,6 @@ use common::*;
 use std::cell::Cell;
 use std::io::{self, Cursor, Read};
 
-const TAGS_ONLY: FlacReaderOptions = FlacReaderOptions { metadata_only: true, read_vorbis_comment: true };
-const STREAMINFO_ONLY: FlacReaderOptions = FlacReaderOptions { metadata_only: true, read_vorbis_comment: false };
-
 fn open_fault(stream: &[u8], options: FlacReaderOptions) -> String {
     match FlacReader::new_ext(stream, options) {
         Ok(_) => "ok".to_string(),
