@@ -7,6 +7,7 @@ import os
 import pathlib
 import pickle
 import random
+import re
 import shutil
 import subprocess
 import sys
@@ -153,7 +154,12 @@ class Objects(unittest.TestCase):
             self.assertEqual((str(error), error.position), ("frame CRC mismatch", 42))
 
     def test_version(self) -> None:
+        """The library's is that of the header, whose interface is the one that the module has."""
         self.assertEqual(claxon.library_version(), (TOP / "c" / "VERSION").read_text().strip())
+        header = (TOP / "c" / "claxon.h").read_text()
+        [declared] = re.findall(r"^#define CLAXON_VERSION (\d+)$", header, re.M)
+        self.assertEqual(claxon._library.claxon_version(), int(declared))
+        self.assertEqual(claxon._INTERFACE, int(declared) // 100)
 
 
 class Blocks(unittest.TestCase):
@@ -433,6 +439,10 @@ class Damage(unittest.TestCase):
             self.assertRaises(claxon.FormatError, list, flac.blocks())
 
 
+# The calls of the library that the module needs, but for that of its version.
+CALLS = ["open", "streaminfo", "next_metadata", "vendor", "next_tag", "next_block_planar"]
+
+
 class Library(FolderCase):
     """Where the library is looked for. Each is tried by a Python of its own."""
 
@@ -469,3 +479,21 @@ class Library(FolderCase):
     def test_other_library(self) -> None:
         libc = ctypes.util.find_library("c")
         self.assertIn("isn't the library", self.imported(CLAXON_LIBRARY=str(libc)))
+
+    def test_other_versions(self) -> None:
+        """Another patch of the interface is taken; another interface is refused by its version."""
+        compiler = shutil.which("cc")
+        if not compiler:
+            self.skipTest("there is no C compiler to make a library of another version with")
+        calls = [f"claxon_{name}" for name in CALLS]
+        code = "".join(f"unsigned {call}(void) {{ return 0; }}\n" for call in calls)
+        for version, text in ((199, None), (99, "0.0.99"), (200, "0.2.0"), (10100, "1.1.0")):
+            path = self.folder / f"{version}.so"
+            source = path.with_suffix(".c")
+            source.write_text(f"{code}unsigned claxon_version(void) {{ return {version}; }}\n")
+            subprocess.check_call([compiler, "-shared", "-fPIC", str(source), "-o", str(path)])
+            found = self.imported(CLAXON_LIBRARY=str(path))
+            if text is None:
+                self.assertEqual(found, str(path))
+            else:
+                self.assertIn(f"{path} has version {text}, and claxon.py needs 0.1:", found)

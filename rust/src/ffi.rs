@@ -210,4 +210,17 @@ mod tests {
     fn the_library_has_the_version_that_is_declared_here() {
         assert_eq!(version(), VERSION);
     }
+
+    // The number that `claxon.h` defines this name as.
+    fn number_in_header(name: &str) -> usize {
+        let header = include_str!("../../c/claxon.h");
+        let definition = header.lines().find_map(|line| line.strip_prefix(&format!("#define {name} ")));
+        definition.unwrap().parse().unwrap()
+    }
+
+    #[test]
+    fn the_header_has_the_numbers_that_are_declared_here() {
+        assert_eq!(number_in_header("CLAXON_VERSION"), VERSION as usize);
+        assert_eq!(number_in_header("CLAXON_MOST_FRAME_BYTES"), MOST_FRAME_BYTES);
+    }
 }
