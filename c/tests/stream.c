@@ -572,7 +572,7 @@ static void test_walk(const struct made *made, size_t every, size_t piece) {
         i++;
     }
     expect(i == BLOCKS && stream.info.first_frame == at && stream.position == at, "a head", "its end");
-    expect(greatest_request <= 65536, "a head", "memory for pictures");
+    expect(greatest_request == 65536, "a head", "memory for pictures");
     expect(claxon_stream_next_metadata(&stream, &metadata) == CLAXON_NO_MORE, "a head", "a block after the end");
     expect(claxon_stream_content(&stream, made->bytes, 1) == 0, "a head", "content after the end");
     expect(claxon_stream_next_block(&stream) == CLAXON_OK && stream.samples[15] == 0x1234, "a head", "the frame after it");
@@ -611,6 +611,8 @@ static void test_resync_to(const char *name, const struct made *made, uint32_t h
 }
 
 static void test_resync(void) {
+    /* The header of a frame of 8 channels of 65535 samples, which zeros after it make constant. Its CRC would follow. */
+    static const uint8_t large[8] = {0xff, 0xf8, 0x79, 0x78, 0x00, 0xff, 0xfe, 0x70};
     struct made made = {NULL, 0, 0};
     test_resync_to("nothing", &made, CLAXON_OK, 0, 0);
     put(&made, frame, sizeof frame);
@@ -625,6 +627,13 @@ static void test_resync(void) {
     put_byte(&made, frame[6] ^ 1u);
     put(&made, frame, sizeof frame);
     test_resync_to("a frame after a header with a wrong CRC", &made, CLAXON_OK, 7, 1);
+    made.length = 0;
+    for (int i = 0; i < 30; i++) {
+        put(&made, large, sizeof large);
+        put_many(&made, 0, 24 + 2);
+    }
+    put(&made, frame, sizeof frame);
+    test_resync_to("a frame after 30 large ones with a wrong CRC", &made, CLAXON_OK, 30 * 34, 1);
     made.length = 0;
     put(&made, "fLaC", 4);
     put_streaminfo(&made, 0);

@@ -161,6 +161,20 @@ class Objects(unittest.TestCase):
         self.assertEqual(claxon._library.claxon_version(), int(declared))
         self.assertEqual(claxon._INTERFACE, int(declared) // 100)
 
+    def test_statuses(self) -> None:
+        """Each status of the header is known, and each that is a fault has its class."""
+        header = (TOP / "c" / "claxon.h").read_text()
+        statuses = header[header.index("enum claxon_status") : header.index("};")]
+        found = {name: int(number) for name, number in re.findall(r"CLAXON_(\w+) = (\d)", statuses)}
+        self.assertEqual(len(found), 7)
+        for name, number in found.items():
+            self.assertEqual(getattr(claxon, "_" + name), number)
+        classes = {
+            found[name]: getattr(claxon, name.title().replace("_", ""))
+            for name in ("FORMAT_ERROR", "UNSUPPORTED", "INPUT_ENDS")
+        }
+        self.assertEqual(claxon._ERRORS, {**classes, found["OUT_OF_MEMORY"]: claxon.OutOfMemory})
+
 
 class Blocks(unittest.TestCase):
     def test_buffers(self) -> None:
@@ -275,10 +289,14 @@ class Windows(unittest.TestCase):
                 self.given += len(found)
                 return found
 
-        counted = Counted(content)
+        counted = Counted(content + b"damage")
         flac = claxon.Flac(counted)
         self.assertLess(counted.given, 100)
-        self.assertEqual([block.planar.tolist() for block in flac.blocks()], [[5]])
+        blocks = flac.blocks()
+        self.assertEqual(next(blocks).planar.tolist(), [5])
+        with self.assertRaises(claxon.FormatError) as damaged:
+            next(blocks)
+        self.assertEqual(damaged.exception.position, len(content))
         for end in (len(content) - len(last) - len(FRAME_OF_5) - 1, len(head()) + 4):
             with self.assertRaises(claxon.InputEnds) as raised:
                 claxon.Flac(io.BytesIO(content[:end]))
@@ -407,6 +425,13 @@ class Damage(unittest.TestCase):
                 with claxon.Flac(Trickle(stream, step)) as flac:  # type: ignore[arg-type]
                     self.expect_damage(flac, len(damage) + zeros)
 
+    def test_resync_to_the_next_byte(self) -> None:
+        stream = head() + FRAME_OF_5 + b"\xff" + FRAME_OF_5
+        with claxon.Flac(io.BytesIO(stream)) as flac:
+            self.assertRaises(claxon.FormatError, list, flac.blocks())
+            self.assertEqual(flac.resync(), 1)
+            self.assertEqual([block.planar.tolist() for block in flac.blocks()], [[5]])
+
     def expect_damage(self, flac: claxon.Flac, length: int) -> None:
         position = len(head())
         for skipped in (length, None):
@@ -431,6 +456,14 @@ class Damage(unittest.TestCase):
             self.assertEqual(flac.resync(), len(hostile) + 200000)
             self.assertEqual([block.planar.tolist() for block in flac.blocks()], [[5]])
         self.assertLess(time.process_time() - start, 10)
+
+    def test_resync_over_few_headers(self) -> None:
+        """As many of them as damage makes don't hide the frame that follows at once."""
+        hostile = (frame_header(8, 65535) + b"\x02") * 60
+        with claxon.Flac(io.BytesIO(head() + hostile + FRAME_OF_5 + bytes(100000))) as flac:
+            self.assertRaises(claxon.FormatError, next, flac.blocks())
+            self.assertEqual(flac.resync(), len(hostile))
+            self.assertEqual(next(flac.blocks()).planar.tolist(), [5])
 
     def test_fault_again(self) -> None:
         """Without `resync` the fault is found again."""
