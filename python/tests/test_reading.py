@@ -17,10 +17,11 @@ import unittest
 from array import array
 from subprocess import PIPE
 from typing import Optional, Tuple
+from unittest import mock
 
 import claxon
 from tests import DATA, FRAME_OF_5, MARKER, STREAMINFO, TOP, FolderCase, Trickle, comments
-from tests import decode, frame_header, head, metadata_block, result_of, verbatim_frame
+from tests import crc, decode, frame_header, head, metadata_block, result_of, verbatim_frame
 
 SONG = TOP / "crates" / "claxon_info" / "data" / "tagged.flac"
 MOST_FRAME_BYTES = 16777215
@@ -424,6 +425,43 @@ class Damage(unittest.TestCase):
             for step in (1 << 30, 1, 4099) if zeros <= 1000 else (1 << 30, 4099):
                 with claxon.Flac(Trickle(stream, step)) as flac:  # type: ignore[arg-type]
                     self.expect_damage(flac, len(damage) + zeros)
+
+    def test_resync_between_windows(self) -> None:
+        """The sync code may stand where a window ends, or be parted by it."""
+        for place in range(claxon._FIRST_WINDOW - 2, claxon._FIRST_WINDOW + 1):
+            stream = head() + FRAME_OF_5 + bytes(place - len(FRAME_OF_5)) + FRAME_OF_5
+            with claxon.Flac(io.BytesIO(stream)) as flac:
+                self.assertRaises(claxon.FormatError, list, flac.blocks())
+                self.assertEqual(flac.resync(), place - len(FRAME_OF_5))
+                self.assertEqual([block.planar.tolist() for block in flac.blocks()], [[5]])
+
+    def test_resync_to_blocks_of_several_sizes(self) -> None:
+        """A frame of a stream whose blocks differ in size has another bit after its sync code."""
+        header = b"\xff\xf9" + FRAME_OF_5[2:6]
+        frame = header + bytes([crc(0x07, 8, header)]) + FRAME_OF_5[7:9]
+        frame += crc(0x8005, 16, frame).to_bytes(2, "big")
+        with claxon.Flac(io.BytesIO(head() + b"damage" + frame)) as flac:
+            self.assertRaises(claxon.FormatError, list, flac.blocks())
+            self.assertEqual(flac.resync(), len(b"damage"))
+            self.assertEqual([block.planar.tolist() for block in flac.blocks()], [[5]])
+
+    def test_memory_that_is_refused(self) -> None:
+        """The calls may be repeated."""
+        stream = head() + FRAME_OF_5 + b"damage" + FRAME_OF_5
+        refused = mock.patch.object(
+            claxon._library, "claxon_next_block_planar", return_value=claxon._OUT_OF_MEMORY
+        )
+        with claxon.Flac(io.BytesIO(stream)) as flac:
+            with refused:
+                self.assertRaises(claxon.OutOfMemory, list, flac.blocks())
+            blocks = flac.blocks()
+            self.assertEqual(next(blocks).planar.tolist(), [5])
+            self.assertRaises(claxon.FormatError, next, blocks)
+            with refused, self.assertRaises(claxon.OutOfMemory) as raised:
+                flac.resync()
+            place = len(stream) - len(FRAME_OF_5)
+            self.assertEqual(raised.exception.position, place)
+            self.assertEqual([block.planar.tolist() for block in flac.blocks()], [[5]])
 
     def test_resync_to_the_next_byte(self) -> None:
         stream = head() + FRAME_OF_5 + b"\xff" + FRAME_OF_5
