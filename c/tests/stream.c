@@ -44,11 +44,13 @@ struct source {
     size_t piece;    /* how many bytes are given at most */
     size_t fails_at; /* where reading fails */
     int has_ended;
+    size_t calls; /* how many there were */
 };
 
 static size_t read_source(void *from, uint8_t *bytes, size_t length) {
     struct source *source = from;
     size_t count = length < source->piece ? length : source->piece;
+    source->calls++;
     expect(length > 0 && !source->has_ended, "read", "a call for nothing, or after the end");
     count = count < source->length - source->at ? count : source->length - source->at;
     if (source->at + count > source->fails_at) {
@@ -67,7 +69,7 @@ static size_t read_source(void *from, uint8_t *bytes, size_t length) {
 }
 
 static struct source pieces_of(const uint8_t *bytes, size_t length, size_t piece) {
-    struct source source = {bytes, length, 0, piece, SIZE_MAX, 0};
+    struct source source = {bytes, length, 0, piece, SIZE_MAX, 0, 0};
     return source;
 }
 
@@ -123,6 +125,7 @@ static void test_known(const struct known *known, const uint8_t *bytes, size_t l
         expect((status == CLAXON_NO_MORE) == (stream.error[0] == 0), known->name, "a text at the end");
         expect(stream.position <= length && (status != CLAXON_NO_MORE || stream.position + 1 >= length), known->name,
                "the position at the end");
+        expect(source.piece != SIZE_MAX || source.calls <= 2 + 2 * length / 65536, known->name, "the number of reads");
         claxon_stream_free(&stream);
     }
 }
@@ -489,6 +492,18 @@ static void test_long_blocks(void) {
     }
 }
 
+/* Comments of which just the length is there: no memory is taken for what isn't. */
+static void test_missing_comments(void) {
+    struct made made = {NULL, 0, 0};
+    put(&made, "fLaC", 4);
+    put_streaminfo(&made, 0);
+    put_header(&made, CLAXON_VORBIS_COMMENT, 1, 10 * 1024 * 1024);
+    greatest_request = 0;
+    test_made_head(&made, SIZE_MAX);
+    expect(greatest_request <= 65536, "comments that aren't there", "memory for them");
+    free(made.bytes);
+}
+
 /* The metadata blocks of a stream, one after another. */
 
 struct made_block {
@@ -564,6 +579,7 @@ static void test_walk(const struct made *made, size_t every, size_t piece) {
         expect(i < BLOCKS && metadata.type == blocks[i].type && metadata.length == blocks[i].length, "a head", "a block");
         expect(metadata.is_last == (i + 1 == BLOCKS) && metadata.content == expected.content, "a head", "the place of a block");
         test_tags(stream.comments, stream.comments_length, i >= 3);
+        expect(stream.info.first_frame == 0, "a head", "the first frame, before the head has ended");
         expect(stream.info.channels == 2 && stream.info.samples == 4 && stream.info.tags == (i >= 3), "a head",
                "the info so far");
         if (i % every == 0) {
@@ -675,6 +691,20 @@ static void test_failing(const char *name, const uint8_t *bytes, size_t length, 
     status = claxon_stream_resync(&stream);
     expect(status == CLAXON_INPUT_ENDS && strcmp(stream.error, "reading failed") == 0, name, "resync where reading fails");
     claxon_stream_free(&stream);
+}
+
+/* A folder can be opened as a file, but not read. */
+static void test_failing_file(void) {
+    struct claxon_stream stream;
+    FILE *folder = fopen(".", "rb");
+    expect(folder != NULL, "a folder", "it can't be opened");
+    if (folder) {
+        claxon_stream_init(&stream, claxon_stream_fread, folder);
+        expect(claxon_stream_next_block(&stream) == CLAXON_INPUT_ENDS, "a folder", "the status");
+        expect(strcmp(stream.error, "reading failed") == 0, "a folder", "the text");
+        claxon_stream_free(&stream);
+        fclose(folder);
+    }
 }
 
 /* Memory that is refused. */
@@ -797,6 +827,8 @@ int main(int argc, char **argv) {
     expect(files > 0, "stream", "no files");
     test_heads(rounds > 0 ? 20000 : 200);
     test_resync();
+    test_missing_comments();
+    test_failing_file();
     if (rounds > 0) {
         test_many_blocks();
         test_long_blocks();

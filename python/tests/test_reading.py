@@ -14,6 +14,7 @@ import sys
 import time
 import tracemalloc
 import unittest
+import warnings
 from array import array
 from subprocess import PIPE
 from typing import Optional, Tuple
@@ -142,10 +143,14 @@ class Objects(unittest.TestCase):
         self.assertRaises(ValueError, flac.resync)
         flac.close()
         self.assertEqual(flac.tags["EMPTY"], [""])
-        # A file whose head is refused is closed too: else there would be a ResourceWarning.
-        with self.assertRaises(claxon.FormatError):
-            claxon.Flac(DATA / "id3.flac")
-        gc.collect()
+        # A file whose head is refused is closed too.
+        with warnings.catch_warnings(record=True) as caught:
+            warnings.simplefilter("always", ResourceWarning)
+            with self.assertRaises(claxon.FormatError):
+                claxon.Flac(DATA / "id3.flac")
+            del flac, blocks
+            gc.collect()
+        self.assertEqual(caught, [])
 
     def test_errors(self) -> None:
         for kind in (claxon.FormatError, claxon.Unsupported, claxon.InputEnds, claxon.OutOfMemory):
@@ -502,6 +507,15 @@ class Damage(unittest.TestCase):
             self.assertRaises(claxon.FormatError, next, flac.blocks())
             self.assertEqual(flac.resync(), len(hostile))
             self.assertEqual(next(flac.blocks()).planar.tolist(), [5])
+
+    def test_resync_after_a_large_block(self) -> None:
+        """Small frames count as small ones, whatever came before them."""
+        large = verbatim_frame(8 * [65535 * [7]])
+        damaged = 100 * (FRAME_OF_5[:-1] + b"\xff")
+        with claxon.Flac(io.BytesIO(head() + large + damaged + FRAME_OF_5)) as flac:
+            self.assertRaises(claxon.FormatError, list, flac.blocks())
+            self.assertEqual(flac.resync(), len(damaged))
+            self.assertEqual([block.planar.tolist() for block in flac.blocks()], [[5]])
 
     def test_fault_again(self) -> None:
         """Without `resync` the fault is found again."""

@@ -196,10 +196,11 @@ fn a_frame_in_many_reads() {
     }
 }
 
-/// Gives some bytes, and then zeros for ever. It notes how many were asked for in all, and at most at once.
+/// Gives some bytes, and then zeros for ever. It notes how many were given in all, and in how many reads.
 struct Endless<'a> {
     first: &'a [u8],
     given: &'a Cell<usize>,
+    reads: &'a Cell<usize>,
 }
 
 impl Read for Endless<'_> {
@@ -212,14 +213,15 @@ impl Read for Endless<'_> {
             count => count,
         };
         self.given.set(self.given.get() + count);
+        self.reads.set(self.reads.get() + 1);
         Ok(count)
     }
 }
 
 #[test]
 fn what_is_not_flac_is_refused_at_once() {
-    let given = Cell::new(0);
-    let error = FlacReader::new(Endless { first: b"", given: &given }).err().unwrap();
+    let (given, reads) = (Cell::new(0), Cell::new(0));
+    let error = FlacReader::new(Endless { first: b"", given: &given, reads: &reads }).err().unwrap();
     assert_eq!(error, Error::FormatError("invalid stream header"));
     assert!(given.get() <= 4096);
 }
@@ -231,14 +233,15 @@ fn zeros_that_never_end() {
     stream.truncate(ends[2]);
     // Mono, 8 bits, four samples, fixed order 0; Rice parameter 0.
     stream.extend_from_slice(&bytes("fff8690200039310"));
-    let given = Cell::new(0);
-    let mut flac = FlacReader::new(Endless { first: &stream, given: &given }).unwrap();
+    let (given, reads) = (Cell::new(0), Cell::new(0));
+    let mut flac = FlacReader::new(Endless { first: &stream, given: &given, reads: &reads }).unwrap();
     let mut samples = flac.samples();
     assert_eq!(samples.by_ref().take(3).map(Result::unwrap).collect::<Vec<_>>(), [5, 3, -2]);
     let error = samples.next().unwrap().unwrap_err();
     assert_eq!(error, Error::Unsupported("frames of more than 16777215 bytes are not supported"));
     assert!(samples.next().is_none());
     assert!(given.get() <= (1 << 24) + (1 << 18), "{} bytes were read", given.get());
+    assert!(reads.get() < 20, "{} reads", reads.get());
 }
 
 /// So many zeros in a `Cursor` have the same result, whatever follows them. With one less the bytes end too early.
@@ -260,23 +263,25 @@ fn long_zeros_in_memory() {
     assert_eq!(block.channel(0), [5]);
 }
 
-/// A frame of 200,000 bytes, which doesn't fit into the first buffer: 24 bits, 65,535 samples, verbatim, as they are. Byte
-/// by byte it is tried some 100 times, and not after each byte, which would take minutes.
+/// A frame of 400,000 bytes, which doesn't fit into the first buffer: two channels of 24 bits, 65,535 samples, verbatim, as
+/// they are. Byte by byte it is tried some 100 times, and not after each byte, which would take minutes.
 #[test]
 fn a_frame_larger_than_the_first_buffer() {
     let start = Instant::now();
-    let count = 65535u32;
-    let mut frame = bytes("fff8790c00fffe");
+    let mut frame = bytes("fff8791c00fffe");
     frame.push(crc8(&frame));
-    frame.push(2);
-    let values: Vec<i32> = (0..count as i32).map(|number| number * 127 - 4_000_000).collect();
-    frame.extend(values.iter().flat_map(|value| value.to_be_bytes()[1..].to_vec()));
+    let values: Vec<i32> = (0..65535).map(|number| number * 127 - 4_000_000).collect();
+    for _ in 0..2 {
+        frame.push(2);
+        frame.extend(values.iter().flat_map(|value| value.to_be_bytes()[1..].to_vec()));
+    }
     frame.extend_from_slice(&crc16(&frame).to_be_bytes());
+    let expected: Vec<i32> = values.iter().chain(&values).flat_map(|value| [*value; 2]).collect();
     let stream = [bytes(HEAD), frame.clone(), frame].concat();
     for piece in [usize::MAX, 100_000, 4096, 100, 1] {
         let (samples, result) = decode(Pieces(&stream[..], piece));
         assert!(result.is_ok());
-        assert!(samples == [&values[..], &values[..]].concat(), "by {piece}");
+        assert!(samples == expected, "by {piece}");
     }
     assert!(start.elapsed().as_secs() < 10);
 }
