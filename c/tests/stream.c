@@ -592,12 +592,32 @@ static void test_walk(const struct made *made, size_t every, size_t piece) {
     expect(claxon_stream_next_metadata(&stream, &metadata) == CLAXON_NO_MORE, "a head", "a block after the end");
     expect(claxon_stream_content(&stream, made->bytes, 1) == 0, "a head", "content after the end");
     expect(claxon_stream_next_block(&stream) == CLAXON_OK && stream.samples[15] == 0x1234, "a head", "the frame after it");
+    expect(greatest_request == 65536, "a head", "memory for the samples of a small block");
     expect(claxon_stream_next_block(&stream) == CLAXON_NO_MORE, "a head", "the end of the stream");
+    claxon_stream_free(&stream);
+}
+
+/* In the content of a block resync goes to the frame as from anywhere else, and the content is left. */
+static void test_resync_in_content(const struct made *made) {
+    struct claxon_stream stream;
+    struct source source = pieces_of(made->bytes, made->length, 10000);
+    struct claxon_metadata metadata;
+    uint8_t byte;
+    claxon_stream_init(&stream, read_source, &source);
+    expect(claxon_stream_next_metadata(&stream, &metadata) == CLAXON_OK, "a head", "its first block");
+    expect(claxon_stream_next_metadata(&stream, &metadata) == CLAXON_OK, "a head", "its second block");
+    expect(claxon_stream_content(&stream, &byte, 1) == 1 && byte == 1, "a head", "a byte of a block");
+    expect(claxon_stream_resync(&stream) == CLAXON_OK, "a head", "resync in a block");
+    expect(stream.position == made->length - sizeof frame, "a head", "the position after resync in a block");
+    expect(claxon_stream_content(&stream, &byte, 1) == 0, "a head", "content after resync");
+    expect(claxon_stream_next_metadata(&stream, &metadata) == CLAXON_NO_MORE, "a head", "a block after resync");
+    expect(claxon_stream_next_block(&stream) == CLAXON_OK && stream.samples[15] == 0x1234, "a head", "the frame after resync");
     claxon_stream_free(&stream);
 }
 
 static void test_metadata(void) {
     struct made made = make_pictures();
+    test_resync_in_content(&made);
     test_walk(&made, 1, 4096);
     test_walk(&made, 1, 4095);
     test_walk(&made, 3, 1);
@@ -709,6 +729,14 @@ static void test_failing_file(void) {
 
 /* Memory that is refused. */
 
+/* Where memory was refused for a frame, resync is still at it. */
+static void test_resync_refused(struct claxon_stream *stream) {
+    uint64_t position = stream->position;
+    uint32_t status = claxon_stream_resync(stream);
+    expect(status == CLAXON_OK || status == CLAXON_OUT_OF_MEMORY, "memory", "resync where memory was refused");
+    expect(stream->position == position, "memory", "the position after memory was refused");
+}
+
 /* Decodes, and calls again where memory was refused. */
 static uint32_t decode_refused(struct claxon_stream *stream, struct tally *tally, size_t *refusals) {
     uint32_t status;
@@ -719,7 +747,9 @@ static uint32_t decode_refused(struct claxon_stream *stream, struct tally *tally
         } else if (status == CLAXON_OUT_OF_MEMORY) {
             expect(strcmp(stream->error, "out of memory") == 0, "memory", "the text");
             refused_request = 0;
-            ++*refusals;
+            if (++*refusals % 2 == 0) {
+                test_resync_refused(stream);
+            }
         }
     } while (status == CLAXON_OK || (status == CLAXON_OUT_OF_MEMORY && stream->head_status == CLAXON_OK));
     return status;
