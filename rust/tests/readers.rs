@@ -283,7 +283,7 @@ fn a_frame_larger_than_the_first_buffer() {
         assert!(result.is_ok());
         assert!(samples == expected, "by {piece}");
     }
-    assert!(start.elapsed().as_secs() < 10);
+    assert!(start.elapsed().as_secs() < 30);
 }
 
 // Of RFC 9639, sections 9.1.8 and 9.3.
