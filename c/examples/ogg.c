@@ -1,5 +1,5 @@
-/* ogg FILE: writes the samples of an Ogg FLAC file, of one stream, as play does. It trusts the pages: their CRCs and numbers
- * aren't looked at. */
+/* ogg FILE: writes the samples of an Ogg FLAC file, of one stream, as play does. Where the file isn't whole, it says so at the
+ * end. It trusts the pages: their CRCs and numbers aren't looked at. */
 #include <stdio.h>
 #include <string.h>
 
@@ -9,13 +9,16 @@ struct ogg {
     FILE *file;
     uint8_t lengths[255]; /* of the page's segments */
     size_t segments, next;
+    int has_ended; /* whether nothing was left where a page could begin */
     size_t length; /* of the packet */
     uint8_t packet[CLAXON_MOST_FRAME_BYTES];
 };
 
 static int next_page(struct ogg *ogg) {
     uint8_t header[27];
-    if (fread(header, 1, 27, ogg->file) != 27 || memcmp(header, "OggS", 4) != 0) {
+    size_t count = fread(header, 1, 27, ogg->file);
+    ogg->has_ended = count == 0;
+    if (count != 27 || memcmp(header, "OggS", 4) != 0) {
         return 0;
     }
     ogg->segments = header[26];
@@ -23,7 +26,7 @@ static int next_page(struct ogg *ogg) {
     return fread(ogg->lengths, 1, ogg->segments, ogg->file) == ogg->segments;
 }
 
-/* Reads a packet. Returns 0 at the end of the file, and where it isn't Ogg. */
+/* Reads a packet. Returns 0 at the end of the file, and where it is cut or isn't Ogg. */
 static int next_packet(struct ogg *ogg) {
     size_t length = 255;
     ogg->length = 0;
@@ -43,13 +46,25 @@ static int next_packet(struct ogg *ogg) {
     return 1;
 }
 
+/* The last packet ended where the file does. */
+static int is_whole(const struct ogg *ogg) {
+    return ogg->has_ended && ogg->length == 0;
+}
+
+static uint32_t refuse(char error[128], const char *text) {
+    strcpy(error, text);
+    return CLAXON_FORMAT_ERROR;
+}
+
 /* The first packet has the content of the streaminfo block at 17. Then a packet is a metadata block or a frame. */
 static uint32_t play_packets(struct ogg *ogg, char error[128]) {
     static int32_t samples[CLAXON_MOST_SAMPLES];
     struct claxon_info info;
     struct claxon_block block;
-    size_t start = next_packet(ogg) && ogg->length > 17 ? 17 : ogg->length;
-    uint32_t status = claxon_streaminfo(ogg->packet + start, ogg->length - start, &info, error, 128);
+    if (!next_packet(ogg) || ogg->length < 17 || memcmp(ogg->packet, "\177FLAC", 5) != 0) {
+        return refuse(error, "not Ogg FLAC");
+    }
+    uint32_t status = claxon_streaminfo(ogg->packet + 17, ogg->length - 17, &info, error, 128);
     while (status == CLAXON_OK && next_packet(ogg)) {
         size_t at = 0;
         if (ogg->length > 0 && ogg->packet[0] == 0xff) {
@@ -59,7 +74,7 @@ static uint32_t play_packets(struct ogg *ogg, char error[128]) {
             }
         }
     }
-    return status;
+    return status != CLAXON_OK || is_whole(ogg) ? status : refuse(error, "the file isn't whole");
 }
 
 int main(int argc, char **argv) {

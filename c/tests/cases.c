@@ -3,39 +3,18 @@
  * where the bytes end too early. It also tests planar samples, buffers that are too short, and the calls for metadata blocks:
  * by the lines of FOLDER/blocks.txt whose bytes are a whole content, by headers worked out by hand, and on the files. */
 #include <ctype.h>
-#include <inttypes.h>
 #include <stdarg.h>
-#include <stdio.h>
-#include <stdlib.h>
-#include <string.h>
 
-#include "claxon.h"
+#include "known.h"
 
 #define UNTOUCHED 0x55
 
-static int failures;
 static int32_t samples[CLAXON_MOST_SAMPLES + 1];
-
-static void expect(int holds, const char *name, const char *what) {
-    if (!holds) {
-        printf("%s: %s\n", name, what);
-        failures++;
-    }
-}
-
-struct tally {
-    uint64_t count;
-    uint64_t hash;
-};
 
 static void add_samples(struct tally *tally, size_t count) {
     for (size_t i = 0; i < count; i++) {
-        uint32_t sample = (uint32_t)samples[i];
-        for (int j = 0; j < 4; j++) {
-            tally->hash = (tally->hash ^ (sample >> 8 * j & 0xff)) * UINT64_C(0x100000001b3);
-        }
+        add_sample(tally, samples[i]);
     }
-    tally->count += count;
 }
 
 typedef uint32_t next_block(const uint8_t *, size_t, size_t *, const struct claxon_info *, int32_t *, size_t,
@@ -205,45 +184,22 @@ static uint32_t decode(const char *name, const uint8_t *bytes, size_t length, si
     }
 }
 
-static const char *error_prefix(uint32_t status) {
-    return status == CLAXON_FORMAT_ERROR ? "Ill-formed FLAC stream: "
-         : status == CLAXON_UNSUPPORTED  ? "A currently unsupported feature of the FLAC format was encountered: "
-                                         : "";
-}
-
-static void test_file(const char *name, const uint8_t *bytes, size_t length, uint64_t count, uint64_t hash, const char *expected) {
+static void test_file(const struct known *known, const uint8_t *bytes, size_t length) {
     const size_t pieces[] = {SIZE_MAX, 997, 61, 1};
     for (size_t i = 0; i < 4; i++) {
-        struct tally tally = {0, UINT64_C(0xcbf29ce484222325)};
+        struct tally tally = no_samples;
         char error[128] = "";
         char reported[256];
         if (pieces[i] == 1 && length > 4096) {
             continue;
         }
-        uint32_t status = decode(name, bytes, length, pieces[i], &tally, error, sizeof error);
-        snprintf(reported, sizeof reported, "%s%s", error_prefix(status), status == CLAXON_NO_MORE ? "ok" : status == CLAXON_INPUT_ENDS ? "IO" : error);
-        if (tally.count != count || tally.hash != hash || strcmp(reported, expected) != 0) {
-            printf("%s by %zu: %" PRIu64 " %016" PRIx64 " %s\n", name, pieces[i], tally.count, tally.hash, reported);
+        uint32_t status = decode(known->name, bytes, length, pieces[i], &tally, error, sizeof error);
+        result_of(status, error, reported, sizeof reported);
+        if (!is_same_tally(tally, known->tally) || strcmp(reported, known->result) != 0) {
+            printf("%s by %zu: %" PRIu64 " %016" PRIx64 " %s\n", known->name, pieces[i], tally.count, tally.hash, reported);
             failures++;
         }
     }
-}
-
-static uint8_t *read_file(const char *folder, const char *name, size_t *length) {
-    char path[512];
-    snprintf(path, sizeof path, "%s/%s", folder, name);
-    FILE *file = fopen(path, "rb");
-    uint8_t *bytes = NULL;
-    if (file && fseek(file, 0, SEEK_END) == 0) {
-        *length = (size_t)ftell(file);
-        rewind(file);
-        bytes = malloc(*length + 1);
-        *length = bytes ? fread(bytes, 1, *length, file) : 0;
-    }
-    if (file) {
-        fclose(file);
-    }
-    return bytes;
 }
 
 /* ---- metadata blocks */
@@ -285,7 +241,8 @@ static void add_size(struct text *text, const char *before, uint64_t size) {
 }
 
 static void add_error(struct text *text, uint32_t status, const char *error) {
-    add(text, "%s%s", error_prefix(status), status == CLAXON_INPUT_ENDS ? "IO" : error);
+    char result[256];
+    add(text, "%s", result_of(status, error, result, sizeof result));
 }
 
 static void add_streaminfo(struct text *text, const uint8_t *content, size_t length) {
@@ -486,23 +443,18 @@ static void test_blocks_of(const char *name, const uint8_t *bytes, size_t length
 }
 
 int main(int argc, char **argv) {
-    char line[512], name[256], expected[256];
-    uint64_t count, hash;
+    struct known known;
     int files = 0, contents = argc == 2 ? test_contents(argv[1]) : 0;
     test_headers();
     test_places();
     expect(claxon_version() == CLAXON_VERSION, "claxon_version", "not that of claxon.h");
     expect(contents > 0, "blocks.txt", "no line");
-    while (argc == 2 && fgets(line, sizeof line, stdin)) {
+    while (argc == 2 && next_known(&known)) {
         size_t length = 0;
-        if (sscanf(line, "%255s %" SCNu64 " %" SCNx64 " %255[^\n]", name, &count, &hash, expected) != 4) {
-            continue;
-        }
-        uint8_t *bytes = read_file(argv[1], name, &length);
-        expect(bytes != NULL, name, "the file can't be read");
+        uint8_t *bytes = read_file(argv[1], known.name, &length);
         if (bytes) {
-            test_file(name, bytes, length, count, hash, expected);
-            test_blocks_of(name, bytes, length);
+            test_file(&known, bytes, length);
+            test_blocks_of(known.name, bytes, length);
             files++;
         }
         free(bytes);

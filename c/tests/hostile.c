@@ -125,16 +125,20 @@ static void good_and_bad_frames(uint8_t *bytes, size_t length) {
     fill(bytes, length, pattern, sizeof pattern);
 }
 
+static void put_block_header(uint8_t *bytes, unsigned type, size_t length) {
+    bytes[0] = (uint8_t)type;
+    bytes[1] = (uint8_t)(length >> 16);
+    bytes[2] = (uint8_t)(length >> 8);
+    bytes[3] = (uint8_t)length;
+}
+
 /* A head of pictures: its last block ends before the frame at the end. */
 static void pictures(uint8_t *bytes, size_t length) {
     const size_t most = 0xffffff;
     memset(bytes, 0, length);
     while (length > 0) {
         size_t content = length - 4 < most ? length - 4 : length - 8 < most ? most - 4 : most;
-        bytes[0] = (uint8_t)(CLAXON_PICTURE | (content + 4 == length ? 0x80 : 0));
-        bytes[1] = (uint8_t)(content >> 16);
-        bytes[2] = (uint8_t)(content >> 8);
-        bytes[3] = (uint8_t)content;
+        put_block_header(bytes, CLAXON_PICTURE | (content + 4 == length ? 0x80 : 0), content);
         bytes += 4 + content;
         length -= 4 + content;
     }
@@ -149,10 +153,7 @@ static void many_tags(uint8_t *bytes, size_t length) {
         return;
     }
     memset(bytes, 0, 12);
-    bytes[0] = CLAXON_VORBIS_COMMENT;
-    bytes[1] = (uint8_t)(content >> 16);
-    bytes[2] = (uint8_t)(content >> 8);
-    bytes[3] = (uint8_t)content;
+    put_block_header(bytes, CLAXON_VORBIS_COMMENT, content);
     for (int i = 0; i < 4; i++) {
         bytes[8 + i] = (uint8_t)(tags >> 8 * i);
     }
@@ -162,8 +163,9 @@ static void many_tags(uint8_t *bytes, size_t length) {
 
 /* Many blocks of application data. */
 static void applications(uint8_t *bytes, size_t length) {
-    uint8_t pattern[700] = {CLAXON_APPLICATION, 0, (700 - 4) >> 8, (700 - 4) & 0xff};
+    uint8_t pattern[700] = {0};
     size_t whole = length / sizeof pattern * sizeof pattern - sizeof pattern;
+    put_block_header(pattern, CLAXON_APPLICATION, sizeof pattern - 4);
     fill(bytes, whole, pattern, sizeof pattern);
     pictures(bytes + whole, length - whole);
 }

@@ -8,21 +8,8 @@
  *
  * With 0 ROUNDS small files are read alone, for tools that make it slow.
  * It is linked with --wrap for malloc and realloc, so that it can refuse memory and sees how much is asked for at once. */
-#include <inttypes.h>
-#include <stdio.h>
-#include <stdlib.h>
-#include <string.h>
-
 #include "claxon_stream.h"
-
-static int failures;
-
-static void expect(int holds, const char *name, const char *what) {
-    if (!holds) {
-        printf("%s: %s\n", name, what);
-        failures++;
-    }
-}
+#include "known.h"
 
 /* Memory. */
 
@@ -57,11 +44,13 @@ struct source {
     size_t piece;    /* how many bytes are given at most */
     size_t fails_at; /* where reading fails */
     int has_ended;
+    size_t calls; /* how many there were */
 };
 
 static size_t read_source(void *from, uint8_t *bytes, size_t length) {
     struct source *source = from;
     size_t count = length < source->piece ? length : source->piece;
+    source->calls++;
     expect(length > 0 && !source->has_ended, "read", "a call for nothing, or after the end");
     count = count < source->length - source->at ? count : source->length - source->at;
     if (source->at + count > source->fails_at) {
@@ -80,39 +69,24 @@ static size_t read_source(void *from, uint8_t *bytes, size_t length) {
 }
 
 static struct source pieces_of(const uint8_t *bytes, size_t length, size_t piece) {
-    struct source source = {bytes, length, 0, piece, SIZE_MAX, 0};
+    struct source source = {bytes, length, 0, piece, SIZE_MAX, 0, 0};
     return source;
 }
 
 /* Samples. */
-
-struct tally {
-    uint64_t count;
-    uint64_t hash;
-};
-
-static const struct tally no_samples = {0, UINT64_C(0xcbf29ce484222325)};
 
 /* Adds samples in the order of time. In memory the next channel is at a distance of `step`, and the next time of `next`. */
 static void add_samples(struct tally *tally, const int32_t *samples, const struct claxon_block *block, size_t step,
                         size_t next) {
     for (size_t i = 0; i < block->duration; i++) {
         for (size_t ch = 0; ch < block->channels; ch++) {
-            uint32_t sample = (uint32_t)samples[ch * step + i * next];
-            for (int j = 0; j < 4; j++) {
-                tally->hash = (tally->hash ^ (sample >> 8 * j & 0xff)) * UINT64_C(0x100000001b3);
-            }
+            add_sample(tally, samples[ch * step + i * next]);
         }
     }
-    tally->count += (uint64_t)block->channels * block->duration;
 }
 
 static void add_interleaved(struct tally *tally, const int32_t *samples, const struct claxon_block *block) {
     add_samples(tally, samples, block, 1, block->channels);
-}
-
-static int is_same_tally(struct tally a, struct tally b) {
-    return a.count == b.count && a.hash == b.hash;
 }
 
 static int is_same_block(const struct claxon_block *a, const struct claxon_block *b) {
@@ -128,15 +102,7 @@ static int is_same_info(const struct claxon_info *a, const struct claxon_info *b
 
 /* Files whose results are known. */
 
-static const char *result_of(uint32_t status, const char *error, char *text, size_t size) {
-    const char *prefix = status == CLAXON_FORMAT_ERROR  ? "Ill-formed FLAC stream: "
-                         : status == CLAXON_UNSUPPORTED ? "A currently unsupported feature of the FLAC format was encountered: "
-                                                        : "";
-    snprintf(text, size, "%s%s", prefix, status == CLAXON_NO_MORE ? "ok" : status == CLAXON_INPUT_ENDS ? "IO" : error);
-    return text;
-}
-
-static void test_known(const char *name, const uint8_t *bytes, size_t length, struct tally known, const char *result) {
+static void test_known(const struct known *known, const uint8_t *bytes, size_t length) {
     static const size_t pieces[] = {SIZE_MAX, 4099, 997, 61, 7, 1};
     for (size_t i = 0; i < 12; i++) {
         struct claxon_stream stream;
@@ -150,14 +116,16 @@ static void test_known(const char *name, const uint8_t *bytes, size_t length, st
             size_t channels = stream.block.channels, duration = stream.block.duration;
             add_samples(&tally, stream.samples, &stream.block, planar ? duration : 1, planar ? 1 : channels);
         }
-        if (!is_same_tally(tally, known) || strcmp(result_of(status, stream.error, text, sizeof text), result) != 0) {
-            printf("%s by %zu, planar %d: %" PRIu64 " %016" PRIx64 " %s\n", name, source.piece, planar, tally.count, tally.hash,
-                   text);
+        result_of(status, stream.error, text, sizeof text);
+        if (!is_same_tally(tally, known->tally) || strcmp(text, known->result) != 0) {
+            printf("%s by %zu, planar %d: %" PRIu64 " %016" PRIx64 " %s\n", known->name, source.piece, planar, tally.count,
+                   tally.hash, text);
             failures++;
         }
-        expect((status == CLAXON_NO_MORE) == (stream.error[0] == 0), name, "a text at the end");
-        expect(stream.position <= length && (status != CLAXON_NO_MORE || stream.position + 1 >= length), name,
+        expect((status == CLAXON_NO_MORE) == (stream.error[0] == 0), known->name, "a text at the end");
+        expect(stream.position <= length && (status != CLAXON_NO_MORE || stream.position + 1 >= length), known->name,
                "the position at the end");
+        expect(source.piece != SIZE_MAX || source.calls <= 2 + 2 * length / 65536, known->name, "the number of reads");
         claxon_stream_free(&stream);
     }
 }
@@ -524,6 +492,18 @@ static void test_long_blocks(void) {
     }
 }
 
+/* Comments of which just the length is there: no memory is taken for what isn't. */
+static void test_missing_comments(void) {
+    struct made made = {NULL, 0, 0};
+    put(&made, "fLaC", 4);
+    put_streaminfo(&made, 0);
+    put_header(&made, CLAXON_VORBIS_COMMENT, 1, 10 * 1024 * 1024);
+    greatest_request = 0;
+    test_made_head(&made, SIZE_MAX);
+    expect(greatest_request <= 65536, "comments that aren't there", "memory for them");
+    free(made.bytes);
+}
+
 /* The metadata blocks of a stream, one after another. */
 
 struct made_block {
@@ -599,6 +579,7 @@ static void test_walk(const struct made *made, size_t every, size_t piece) {
         expect(i < BLOCKS && metadata.type == blocks[i].type && metadata.length == blocks[i].length, "a head", "a block");
         expect(metadata.is_last == (i + 1 == BLOCKS) && metadata.content == expected.content, "a head", "the place of a block");
         test_tags(stream.comments, stream.comments_length, i >= 3);
+        expect(stream.info.first_frame == 0, "a head", "the first frame, before the head has ended");
         expect(stream.info.channels == 2 && stream.info.samples == 4 && stream.info.tags == (i >= 3), "a head",
                "the info so far");
         if (i % every == 0) {
@@ -607,16 +588,36 @@ static void test_walk(const struct made *made, size_t every, size_t piece) {
         i++;
     }
     expect(i == BLOCKS && stream.info.first_frame == at && stream.position == at, "a head", "its end");
-    expect(greatest_request <= 65536, "a head", "memory for pictures");
+    expect(greatest_request == 65536, "a head", "memory for pictures");
     expect(claxon_stream_next_metadata(&stream, &metadata) == CLAXON_NO_MORE, "a head", "a block after the end");
     expect(claxon_stream_content(&stream, made->bytes, 1) == 0, "a head", "content after the end");
     expect(claxon_stream_next_block(&stream) == CLAXON_OK && stream.samples[15] == 0x1234, "a head", "the frame after it");
+    expect(greatest_request == 65536, "a head", "memory for the samples of a small block");
     expect(claxon_stream_next_block(&stream) == CLAXON_NO_MORE, "a head", "the end of the stream");
+    claxon_stream_free(&stream);
+}
+
+/* In the content of a block resync goes to the frame as from anywhere else, and the content is left. */
+static void test_resync_in_content(const struct made *made) {
+    struct claxon_stream stream;
+    struct source source = pieces_of(made->bytes, made->length, 10000);
+    struct claxon_metadata metadata;
+    uint8_t byte;
+    claxon_stream_init(&stream, read_source, &source);
+    expect(claxon_stream_next_metadata(&stream, &metadata) == CLAXON_OK, "a head", "its first block");
+    expect(claxon_stream_next_metadata(&stream, &metadata) == CLAXON_OK, "a head", "its second block");
+    expect(claxon_stream_content(&stream, &byte, 1) == 1 && byte == 1, "a head", "a byte of a block");
+    expect(claxon_stream_resync(&stream) == CLAXON_OK, "a head", "resync in a block");
+    expect(stream.position == made->length - sizeof frame, "a head", "the position after resync in a block");
+    expect(claxon_stream_content(&stream, &byte, 1) == 0, "a head", "content after resync");
+    expect(claxon_stream_next_metadata(&stream, &metadata) == CLAXON_NO_MORE, "a head", "a block after resync");
+    expect(claxon_stream_next_block(&stream) == CLAXON_OK && stream.samples[15] == 0x1234, "a head", "the frame after resync");
     claxon_stream_free(&stream);
 }
 
 static void test_metadata(void) {
     struct made made = make_pictures();
+    test_resync_in_content(&made);
     test_walk(&made, 1, 4096);
     test_walk(&made, 1, 4095);
     test_walk(&made, 3, 1);
@@ -646,6 +647,8 @@ static void test_resync_to(const char *name, const struct made *made, uint32_t h
 }
 
 static void test_resync(void) {
+    /* The header of a frame of 8 channels of 65535 samples, which zeros after it make constant. Its CRC would follow. */
+    static const uint8_t large[8] = {0xff, 0xf8, 0x79, 0x78, 0x00, 0xff, 0xfe, 0x70};
     struct made made = {NULL, 0, 0};
     test_resync_to("nothing", &made, CLAXON_OK, 0, 0);
     put(&made, frame, sizeof frame);
@@ -660,6 +663,13 @@ static void test_resync(void) {
     put_byte(&made, frame[6] ^ 1u);
     put(&made, frame, sizeof frame);
     test_resync_to("a frame after a header with a wrong CRC", &made, CLAXON_OK, 7, 1);
+    made.length = 0;
+    for (int i = 0; i < 30; i++) {
+        put(&made, large, sizeof large);
+        put_many(&made, 0, 24 + 2);
+    }
+    put(&made, frame, sizeof frame);
+    test_resync_to("a frame after 30 large ones with a wrong CRC", &made, CLAXON_OK, 30 * 34, 1);
     made.length = 0;
     put(&made, "fLaC", 4);
     put_streaminfo(&made, 0);
@@ -703,7 +713,29 @@ static void test_failing(const char *name, const uint8_t *bytes, size_t length, 
     claxon_stream_free(&stream);
 }
 
+/* A folder can be opened as a file, but not read. */
+static void test_failing_file(void) {
+    struct claxon_stream stream;
+    FILE *folder = fopen(".", "rb");
+    expect(folder != NULL, "a folder", "it can't be opened");
+    if (folder) {
+        claxon_stream_init(&stream, claxon_stream_fread, folder);
+        expect(claxon_stream_next_block(&stream) == CLAXON_INPUT_ENDS, "a folder", "the status");
+        expect(strcmp(stream.error, "reading failed") == 0, "a folder", "the text");
+        claxon_stream_free(&stream);
+        fclose(folder);
+    }
+}
+
 /* Memory that is refused. */
+
+/* Where memory was refused for a frame, resync is still at it. */
+static void test_resync_refused(struct claxon_stream *stream) {
+    uint64_t position = stream->position;
+    uint32_t status = claxon_stream_resync(stream);
+    expect(status == CLAXON_OK || status == CLAXON_OUT_OF_MEMORY, "memory", "resync where memory was refused");
+    expect(stream->position == position, "memory", "the position after memory was refused");
+}
 
 /* Decodes, and calls again where memory was refused. */
 static uint32_t decode_refused(struct claxon_stream *stream, struct tally *tally, size_t *refusals) {
@@ -715,7 +747,9 @@ static uint32_t decode_refused(struct claxon_stream *stream, struct tally *tally
         } else if (status == CLAXON_OUT_OF_MEMORY) {
             expect(strcmp(stream->error, "out of memory") == 0, "memory", "the text");
             refused_request = 0;
-            ++*refusals;
+            if (++*refusals % 2 == 0) {
+                test_resync_refused(stream);
+            }
         }
     } while (status == CLAXON_OK || (status == CLAXON_OUT_OF_MEMORY && stream->head_status == CLAXON_OK));
     return status;
@@ -782,55 +816,33 @@ static void test_endless_frame(void) {
     free(made.bytes);
 }
 
-static uint8_t *read_file(const char *folder, const char *name, size_t *length) {
-    char path[512];
-    snprintf(path, sizeof path, "%s/%s", folder, name);
-    FILE *file = fopen(path, "rb");
-    uint8_t *bytes = NULL;
-    if (file && fseek(file, 0, SEEK_END) == 0) {
-        *length = (size_t)ftell(file);
-        rewind(file);
-        bytes = malloc(*length + 1);
-        *length = bytes ? fread(bytes, 1, *length, file) : 0;
-    }
-    if (file) {
-        fclose(file);
-    }
-    return bytes;
-}
-
 /* Larger files are left out of what takes time for each byte. */
 #define SMALL 8192
 
-static void test_file(const char *name, const uint8_t *bytes, size_t length, struct tally known, const char *result,
-                      unsigned rounds) {
-    int is_ok = strcmp(result, "ok") == 0;
-    test_known(name, bytes, length, known, result);
+static void test_file(const struct known *known, const uint8_t *bytes, size_t length, unsigned rounds) {
+    const char *name = known->name;
+    int is_ok = strcmp(known->result, "ok") == 0;
+    test_known(known, bytes, length);
     if (length <= SMALL) {
         test_cut(name, bytes, length);
         for (size_t i = 0; i < length && is_ok; i += 1 + below(40)) {
             test_failing(name, bytes, length, i);
         }
         if (is_ok) {
-            test_memory(name, bytes, length, known);
+            test_memory(name, bytes, length, known->tally);
         }
     }
     test_damaged(name, bytes, length, length <= SMALL ? rounds : rounds / 50);
 }
 
 static int test_files(const char *folder, unsigned rounds) {
-    char line[512], name[256], result[256];
-    struct tally known;
+    struct known known;
     int files = 0;
-    while (fgets(line, sizeof line, stdin)) {
+    while (next_known(&known)) {
         size_t length = 0;
-        if (sscanf(line, "%255s %" SCNu64 " %" SCNx64 " %255[^\n]", name, &known.count, &known.hash, result) != 4) {
-            continue;
-        }
-        uint8_t *bytes = read_file(folder, name, &length);
-        expect(bytes != NULL, name, "the file can't be read");
+        uint8_t *bytes = read_file(folder, known.name, &length);
         if (bytes && (length <= SMALL || rounds > 0)) {
-            test_file(name, bytes, length, known, result, rounds);
+            test_file(&known, bytes, length, rounds);
             files++;
         }
         free(bytes);
@@ -845,6 +857,8 @@ int main(int argc, char **argv) {
     expect(files > 0, "stream", "no files");
     test_heads(rounds > 0 ? 20000 : 200);
     test_resync();
+    test_missing_comments();
+    test_failing_file();
     if (rounds > 0) {
         test_many_blocks();
         test_long_blocks();

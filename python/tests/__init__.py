@@ -5,6 +5,8 @@ the streams that are written here.
 """
 import io
 import pathlib
+import tempfile
+import unittest
 from array import array
 from typing import Iterator, NamedTuple, Optional, Sequence, Tuple
 
@@ -72,6 +74,15 @@ def decode(file: object) -> Tuple[bytes, Optional[claxon.Error]]:
     except claxon.Error as error:
         return bytes(found), error
     return bytes(found), None
+
+
+class FolderCase(unittest.TestCase):
+    """Tests that each have an empty folder, which is removed after them."""
+
+    def setUp(self) -> None:
+        folder = tempfile.TemporaryDirectory()
+        self.addCleanup(folder.cleanup)
+        self.folder = pathlib.Path(folder.name)
 
 
 class Trickle:

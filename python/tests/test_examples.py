@@ -11,14 +11,14 @@ import re
 import shutil
 import subprocess
 import sys
-import tempfile
 import unittest
 from subprocess import DEVNULL, PIPE, STDOUT
 from types import ModuleType
 from typing import List, Tuple
 
 import claxon
-from tests import DATA, FRAME_OF_5, MARKER, STREAMINFO, TOP, metadata_block, verbatim_frame
+from tests import DATA, FRAME_OF_5, MARKER, STREAMINFO, TOP, FolderCase, metadata_block
+from tests import verbatim_frame
 
 PYTHON = pathlib.Path(claxon.__file__).resolve().parent
 VERIFY = PYTHON / "examples" / "verify.py"
@@ -39,13 +39,11 @@ def examples() -> List[Tuple[str, str]]:
     return found
 
 
-class Folder(unittest.TestCase):
+class Folder(FolderCase):
     """A folder as the examples have it: the module, the library, and two files."""
 
     def setUp(self) -> None:
-        folder = tempfile.TemporaryDirectory()
-        self.addCleanup(folder.cleanup)
-        self.folder = pathlib.Path(folder.name)
+        super().setUp()
         (self.folder / "player").mkdir()
         (self.folder / "c" / "out").mkdir(parents=True)
         shutil.copy(claxon._library._name, self.folder / "c" / "out" / "libclaxon.so.0")

@@ -7,20 +7,22 @@ import os
 import pathlib
 import pickle
 import random
+import re
 import shutil
 import subprocess
 import sys
-import tempfile
 import time
 import tracemalloc
 import unittest
+import warnings
 from array import array
 from subprocess import PIPE
 from typing import Optional, Tuple
+from unittest import mock
 
 import claxon
-from tests import DATA, FRAME_OF_5, MARKER, STREAMINFO, TOP, Trickle, comments, decode
-from tests import frame_header, head, metadata_block, result_of, verbatim_frame
+from tests import DATA, FRAME_OF_5, MARKER, STREAMINFO, TOP, FolderCase, Trickle, comments
+from tests import crc, decode, frame_header, head, metadata_block, result_of, verbatim_frame
 
 SONG = TOP / "crates" / "claxon_info" / "data" / "tagged.flac"
 MOST_FRAME_BYTES = 16777215
@@ -141,10 +143,14 @@ class Objects(unittest.TestCase):
         self.assertRaises(ValueError, flac.resync)
         flac.close()
         self.assertEqual(flac.tags["EMPTY"], [""])
-        # A file whose head is refused is closed too: else there would be a ResourceWarning.
-        with self.assertRaises(claxon.FormatError):
-            claxon.Flac(DATA / "id3.flac")
-        gc.collect()
+        # A file whose head is refused is closed too.
+        with warnings.catch_warnings(record=True) as caught:
+            warnings.simplefilter("always", ResourceWarning)
+            with self.assertRaises(claxon.FormatError):
+                claxon.Flac(DATA / "id3.flac")
+            del flac, blocks
+            gc.collect()
+        self.assertEqual(caught, [])
 
     def test_errors(self) -> None:
         for kind in (claxon.FormatError, claxon.Unsupported, claxon.InputEnds, claxon.OutOfMemory):
@@ -154,7 +160,26 @@ class Objects(unittest.TestCase):
             self.assertEqual((str(error), error.position), ("frame CRC mismatch", 42))
 
     def test_version(self) -> None:
+        """The library's is that of the header, whose interface is the one that the module has."""
         self.assertEqual(claxon.library_version(), (TOP / "c" / "VERSION").read_text().strip())
+        header = (TOP / "c" / "claxon.h").read_text()
+        [declared] = re.findall(r"^#define CLAXON_VERSION (\d+)$", header, re.M)
+        self.assertEqual(claxon._library.claxon_version(), int(declared))
+        self.assertEqual(claxon._INTERFACE, int(declared) // 100)
+
+    def test_statuses(self) -> None:
+        """Each status of the header is known, and each that is a fault has its class."""
+        header = (TOP / "c" / "claxon.h").read_text()
+        statuses = header[header.index("enum claxon_status") : header.index("};")]
+        found = {name: int(number) for name, number in re.findall(r"CLAXON_(\w+) = (\d)", statuses)}
+        self.assertEqual(len(found), 7)
+        for name, number in found.items():
+            self.assertEqual(getattr(claxon, "_" + name), number)
+        classes = {
+            found[name]: getattr(claxon, name.title().replace("_", ""))
+            for name in ("FORMAT_ERROR", "UNSUPPORTED", "INPUT_ENDS")
+        }
+        self.assertEqual(claxon._ERRORS, {**classes, found["OUT_OF_MEMORY"]: claxon.OutOfMemory})
 
 
 class Blocks(unittest.TestCase):
@@ -270,10 +295,14 @@ class Windows(unittest.TestCase):
                 self.given += len(found)
                 return found
 
-        counted = Counted(content)
+        counted = Counted(content + b"damage")
         flac = claxon.Flac(counted)
         self.assertLess(counted.given, 100)
-        self.assertEqual([block.planar.tolist() for block in flac.blocks()], [[5]])
+        blocks = flac.blocks()
+        self.assertEqual(next(blocks).planar.tolist(), [5])
+        with self.assertRaises(claxon.FormatError) as damaged:
+            next(blocks)
+        self.assertEqual(damaged.exception.position, len(content))
         for end in (len(content) - len(last) - len(FRAME_OF_5) - 1, len(head()) + 4):
             with self.assertRaises(claxon.InputEnds) as raised:
                 claxon.Flac(io.BytesIO(content[:end]))
@@ -402,6 +431,50 @@ class Damage(unittest.TestCase):
                 with claxon.Flac(Trickle(stream, step)) as flac:  # type: ignore[arg-type]
                     self.expect_damage(flac, len(damage) + zeros)
 
+    def test_resync_between_windows(self) -> None:
+        """The sync code may stand where a window ends, or be parted by it."""
+        for place in range(claxon._FIRST_WINDOW - 2, claxon._FIRST_WINDOW + 1):
+            stream = head() + FRAME_OF_5 + bytes(place - len(FRAME_OF_5)) + FRAME_OF_5
+            with claxon.Flac(io.BytesIO(stream)) as flac:
+                self.assertRaises(claxon.FormatError, list, flac.blocks())
+                self.assertEqual(flac.resync(), place - len(FRAME_OF_5))
+                self.assertEqual([block.planar.tolist() for block in flac.blocks()], [[5]])
+
+    def test_resync_to_blocks_of_several_sizes(self) -> None:
+        """A frame of a stream whose blocks differ in size has another bit after its sync code."""
+        header = b"\xff\xf9" + FRAME_OF_5[2:6]
+        frame = header + bytes([crc(0x07, 8, header)]) + FRAME_OF_5[7:9]
+        frame += crc(0x8005, 16, frame).to_bytes(2, "big")
+        with claxon.Flac(io.BytesIO(head() + b"damage" + frame)) as flac:
+            self.assertRaises(claxon.FormatError, list, flac.blocks())
+            self.assertEqual(flac.resync(), len(b"damage"))
+            self.assertEqual([block.planar.tolist() for block in flac.blocks()], [[5]])
+
+    def test_memory_that_is_refused(self) -> None:
+        """The calls may be repeated."""
+        stream = head() + FRAME_OF_5 + b"damage" + FRAME_OF_5
+        refused = mock.patch.object(
+            claxon._library, "claxon_next_block_planar", return_value=claxon._OUT_OF_MEMORY
+        )
+        with claxon.Flac(io.BytesIO(stream)) as flac:
+            with refused:
+                self.assertRaises(claxon.OutOfMemory, list, flac.blocks())
+            blocks = flac.blocks()
+            self.assertEqual(next(blocks).planar.tolist(), [5])
+            self.assertRaises(claxon.FormatError, next, blocks)
+            with refused, self.assertRaises(claxon.OutOfMemory) as raised:
+                flac.resync()
+            place = len(stream) - len(FRAME_OF_5)
+            self.assertEqual(raised.exception.position, place)
+            self.assertEqual([block.planar.tolist() for block in flac.blocks()], [[5]])
+
+    def test_resync_to_the_next_byte(self) -> None:
+        stream = head() + FRAME_OF_5 + b"\xff" + FRAME_OF_5
+        with claxon.Flac(io.BytesIO(stream)) as flac:
+            self.assertRaises(claxon.FormatError, list, flac.blocks())
+            self.assertEqual(flac.resync(), 1)
+            self.assertEqual([block.planar.tolist() for block in flac.blocks()], [[5]])
+
     def expect_damage(self, flac: claxon.Flac, length: int) -> None:
         position = len(head())
         for skipped in (length, None):
@@ -427,6 +500,23 @@ class Damage(unittest.TestCase):
             self.assertEqual([block.planar.tolist() for block in flac.blocks()], [[5]])
         self.assertLess(time.process_time() - start, 10)
 
+    def test_resync_over_few_headers(self) -> None:
+        """As many of them as damage makes don't hide the frame that follows at once."""
+        hostile = (frame_header(8, 65535) + b"\x02") * 60
+        with claxon.Flac(io.BytesIO(head() + hostile + FRAME_OF_5 + bytes(100000))) as flac:
+            self.assertRaises(claxon.FormatError, next, flac.blocks())
+            self.assertEqual(flac.resync(), len(hostile))
+            self.assertEqual(next(flac.blocks()).planar.tolist(), [5])
+
+    def test_resync_after_a_large_block(self) -> None:
+        """Small frames count as small ones, whatever came before them."""
+        large = verbatim_frame(8 * [65535 * [7]])
+        damaged = 100 * (FRAME_OF_5[:-1] + b"\xff")
+        with claxon.Flac(io.BytesIO(head() + large + damaged + FRAME_OF_5)) as flac:
+            self.assertRaises(claxon.FormatError, list, flac.blocks())
+            self.assertEqual(flac.resync(), len(damaged))
+            self.assertEqual([block.planar.tolist() for block in flac.blocks()], [[5]])
+
     def test_fault_again(self) -> None:
         """Without `resync` the fault is found again."""
         with claxon.Flac(DATA / "bad_footer.flac") as flac:
@@ -434,13 +524,15 @@ class Damage(unittest.TestCase):
             self.assertRaises(claxon.FormatError, list, flac.blocks())
 
 
-class Library(unittest.TestCase):
+# The calls of the library that the module needs, but for that of its version.
+CALLS = ["open", "streaminfo", "next_metadata", "vendor", "next_tag", "next_block_planar"]
+
+
+class Library(FolderCase):
     """Where the library is looked for. Each is tried by a Python of its own."""
 
     def setUp(self) -> None:
-        folder = tempfile.TemporaryDirectory()
-        self.addCleanup(folder.cleanup)
-        self.folder = pathlib.Path(folder.name)
+        super().setUp()
         (self.folder / "python").mkdir()
         shutil.copy(claxon.__file__, self.folder / "python")
         self.built = pathlib.Path(claxon._library._name)
@@ -472,3 +564,21 @@ class Library(unittest.TestCase):
     def test_other_library(self) -> None:
         libc = ctypes.util.find_library("c")
         self.assertIn("isn't the library", self.imported(CLAXON_LIBRARY=str(libc)))
+
+    def test_other_versions(self) -> None:
+        """Another patch of the interface is taken; another interface is refused by its version."""
+        compiler = shutil.which("cc")
+        if not compiler:
+            self.skipTest("there is no C compiler to make a library of another version with")
+        calls = [f"claxon_{name}" for name in CALLS]
+        code = "".join(f"unsigned {call}(void) {{ return 0; }}\n" for call in calls)
+        for version, text in ((199, None), (99, "0.0.99"), (200, "0.2.0"), (10100, "1.1.0")):
+            path = self.folder / f"{version}.so"
+            source = path.with_suffix(".c")
+            source.write_text(f"{code}unsigned claxon_version(void) {{ return {version}; }}\n")
+            subprocess.check_call([compiler, "-shared", "-fPIC", str(source), "-o", str(path)])
+            found = self.imported(CLAXON_LIBRARY=str(path))
+            if text is None:
+                self.assertEqual(found, str(path))
+            else:
+                self.assertIn(f"{path} has version {text}, and claxon.py needs 0.1:", found)

@@ -109,3 +109,22 @@ fn kept(text: &ffi::Text) -> &'static str {
     texts.push(new);
     new
 }
+
+#[cfg(test)]
+mod tests {
+    use super::*;
+
+    fn kind_of(status: u32) -> io::ErrorKind {
+        match Error::from(Failure { status, text: [0; 112] }) {
+            Error::IoError(error) => error.kind(),
+            error => panic!("{error:?}"),
+        }
+    }
+
+    #[test]
+    fn statuses_that_are_no_fault_of_the_format() {
+        assert_eq!(kind_of(ffi::OUT_OF_MEMORY), io::ErrorKind::OutOfMemory);
+        assert_eq!(kind_of(ffi::INPUT_ENDS), io::ErrorKind::UnexpectedEof);
+        assert_eq!(kind_of(ffi::NO_MORE), io::ErrorKind::UnexpectedEof);
+    }
+}

@@ -210,4 +210,20 @@ mod tests {
     fn the_library_has_the_version_that_is_declared_here() {
         assert_eq!(version(), VERSION);
     }
+
+    // The number that `claxon.h` has after these words.
+    fn number_in_header(words: &str) -> usize {
+        let (_, rest) = include_str!("../../c/claxon.h").split_once(words).unwrap();
+        let number = rest.split(|letter: char| !letter.is_ascii_digit()).next().unwrap();
+        number.parse().unwrap()
+    }
+
+    #[test]
+    fn the_header_has_the_numbers_that_are_declared_here() {
+        assert_eq!(number_in_header("#define CLAXON_VERSION "), VERSION as usize);
+        assert_eq!(number_in_header("#define CLAXON_MOST_FRAME_BYTES "), MOST_FRAME_BYTES);
+        let names = ["OK", "FORMAT_ERROR", "UNSUPPORTED", "INPUT_ENDS", "OUT_OF_MEMORY", "NO_MORE", "BUFFER_SHORT"];
+        let numbers = [OK, FORMAT_ERROR, UNSUPPORTED, INPUT_ENDS, OUT_OF_MEMORY, NO_MORE, BUFFER_SHORT];
+        assert_eq!(names.map(|name| number_in_header(&format!(" CLAXON_{name} = ")) as u32), numbers);
+    }
 }

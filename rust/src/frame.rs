@@ -1,5 +1,5 @@
 //! Frames, and the blocks of samples that they have.
-use crate::error::{end_of_input, unsupported, Error, Result};
+use crate::error::{end_of_input, format_error, unsupported, Error, Result};
 use crate::ffi::{self, Failure, Info, NextBlock, MOST_FRAME_BYTES};
 use crate::input::ReadBytes;
 use crate::metadata::StreamInfo;
@@ -129,6 +129,10 @@ pub struct FrameReader<R: ReadBytes> {
 // A frame is tried after each of so many reads, so that it doesn't wait for bytes after it.
 const TRIES_AT_ONCE: u32 = 16;
 
+// The 14 bits of a sync code, before two that tell more of the frame, and which bits they are.
+const SYNC_CODE: u16 = 0xfff8;
+const SYNC_CODE_BITS: u16 = 0xfffc;
+
 // Why no more bytes are buffered.
 enum Stop {
     EndOfInput,
@@ -163,6 +167,10 @@ impl<R: ReadBytes> FrameReader<R> {
     pub fn read_next_or_eof(&mut self, mut buffer: Vec<i32>) -> FrameResult {
         let (mut tries, mut stop) = (0, None);
         loop {
+            if self.lacks_sync_code() {
+                self.input.consume(2);
+                return format_error("frame sync code missing");
+            }
             match self.try_block(&mut buffer) {
                 Err(failure) if is_cut(&failure) => {
                     if let Some(stop) = stop {
@@ -188,6 +196,16 @@ impl<R: ReadBytes> FrameReader<R> {
     fn bytes(&self) -> &[u8] {
         let bytes = self.input.buffered();
         &bytes[..bytes.len().min(MOST_FRAME_BYTES)]
+    }
+
+    // Whether the next two bytes are no sync code. The library refuses them too, by themselves. It isn't asked, so that
+    // going on after each fault through bytes that aren't FLAC costs no more than to look at them. Nothing has stopped
+    // a read then: with fewer than two bytes buffered there was no such fault.
+    fn lacks_sync_code(&self) -> bool {
+        match self.input.buffered() {
+            [first, second, ..] => u16::from_be_bytes([*first, *second]) & SYNC_CODE_BITS != SYNC_CODE,
+            _ => false,
+        }
     }
 
     // Decodes the frame that is buffered, and consumes it. The buffer is made as long as its samples need.
@@ -283,4 +301,87 @@ impl<R: ReadBytes> FrameReader<R> {
 // Whether the bytes ended before the frame did.
 fn is_cut(failure: &Failure) -> bool {
     failure.status == ffi::INPUT_ENDS || failure.status == ffi::NO_MORE
+}
+
+#[cfg(test)]
+mod tests {
+    use super::*;
+    use std::io::Cursor;
+
+    // What a call returns, and how many bytes were consumed by then.
+    type Step = (String, usize);
+
+    // Whether the library says that the frame isn't whole, what it says, and how many bytes it consumes: all of them, a
+    // frame, or as few as show the fault.
+    fn step_of_library(bytes: &[u8], samples: &mut [i32]) -> (bool, Step) {
+        match ffi::next_block(bytes, &Info::default(), samples) {
+            NextBlock::Found { block, length } => (false, (format!("{:?}", &samples[..block.samples()]), length)),
+            NextBlock::Failed(failure) if is_cut(&failure) => (true, (String::new(), bytes.len())),
+            NextBlock::Failed(failure) => {
+                let fewest = (0..bytes.len()).find(|length| !step_of_library(&bytes[..*length], samples).0);
+                (false, (Error::from(failure).to_string(), fewest.unwrap_or(bytes.len())))
+            }
+            NextBlock::BufferShort(_) => panic!("a block of more samples than any block has"),
+        }
+    }
+
+    fn steps_of_library(bytes: &[u8], samples: &mut [i32]) -> Vec<Step> {
+        let (mut steps, mut at) = (Vec::new(), 0);
+        while at < bytes.len() {
+            let (is_cut, (result, length)) = step_of_library(&bytes[at..], samples);
+            at += length;
+            steps.extend((!is_cut).then_some((result, at)));
+        }
+        steps
+    }
+
+    fn steps_of_reader(bytes: &[u8]) -> Vec<Step> {
+        let (mut input, mut steps) = (Cursor::new(bytes), Vec::new());
+        while (input.position() as usize) < bytes.len() {
+            let result = match FrameReader::new(&mut input).read_next_or_eof(Vec::new()) {
+                Ok(Some(block)) => format!("{:?}", block.into_buffer()),
+                Ok(None) | Err(Error::IoError(_)) => break,
+                Err(error) => error.to_string(),
+            };
+            steps.push((result, input.position() as usize));
+        }
+        steps
+    }
+
+    #[test]
+    fn two_bytes_are_refused_as_the_library_refuses_them() {
+        for bytes in (0..=u16::MAX).map(u16::to_be_bytes) {
+            assert_eq!(steps_of_reader(&bytes), steps_of_library(&bytes, &mut [0]), "{bytes:02x?}");
+        }
+    }
+
+    // Bytes that look random, among them bytes of sync codes and whole frames.
+    fn garbage(length: usize) -> Vec<u8> {
+        const FRAME: [u8; 11] = [0xff, 0xf8, 0x69, 2, 0, 0, 0x9a, 0, 5, 0x34, 0x58];
+        const BYTES: [u8; 8] = [0xff, 0xff, 0xf8, 0xf9, 0xfa, 0xfe, 0x69, 0];
+        let (mut bytes, mut state) = (Vec::new(), 1u32);
+        while bytes.len() < length {
+            state = state.wrapping_mul(1_664_525).wrapping_add(1_013_904_223);
+            match state >> 28 {
+                0 => bytes.extend_from_slice(&FRAME),
+                1..=9 => bytes.push(BYTES[(state >> 20 & 7) as usize]),
+                _ => bytes.push((state >> 16) as u8),
+            }
+        }
+        bytes
+    }
+
+    #[test]
+    fn faults_follow_one_another_as_the_library_names_them() {
+        let mut samples = vec![0; 8 * 65535];
+        for bytes in [garbage(10_000), vec![0; 1001], vec![0xff; 1000], [0xff, 0xf8].repeat(500)] {
+            let steps = steps_of_reader(&bytes);
+            assert!(steps.len() > 100);
+            assert_eq!(steps, steps_of_library(&bytes, &mut samples));
+        }
+        let texts: Vec<_> = steps_of_reader(&garbage(10_000)).into_iter().map(|(text, _)| text).collect();
+        for text in ["[5]", "Ill-formed FLAC stream: frame sync code missing"] {
+            assert!(texts.iter().any(|found| found == text), "{text}");
+        }
+    }
 }

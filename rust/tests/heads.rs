@@ -1,14 +1,13 @@
 //! Heads: options, limits, which fault comes first, and what is read and held of them.
 mod common;
 
-use claxon::metadata::{read_metadata_block_with_header, GetTag, MetadataBlock, MetadataBlockReader, Tags};
+use claxon::metadata::{
+    read_metadata_block, read_metadata_block_with_header, GetTag, MetadataBlock, MetadataBlockReader, Tags,
+};
 use claxon::{Error, FlacReader, FlacReaderOptions, Result};
 use common::*;
 use std::cell::Cell;
 use std::io::{self, Cursor, Read};
-
-const TAGS_ONLY: FlacReaderOptions = FlacReaderOptions { metadata_only: true, read_vorbis_comment: true };
-const STREAMINFO_ONLY: FlacReaderOptions = FlacReaderOptions { metadata_only: true, read_vorbis_comment: false };
 
 fn open_fault(stream: &[u8], options: FlacReaderOptions) -> String {
     match FlacReader::new_ext(stream, options) {
@@ -183,7 +182,7 @@ fn pictures_are_not_held() {
     let (samples, result) = decode(Picture { before: &before, picture: 0xff_ffff, after: &after, most: &most });
     assert!(result.is_ok());
     assert_eq!(samples, [5]);
-    assert!(most.get() <= 1 << 18, "{} bytes at once", most.get());
+    assert_eq!(most.get(), 1 << 18);
 }
 
 /// Where the metadata alone is requested, nothing after it is read.
@@ -232,6 +231,23 @@ fn a_block_with_its_header() {
     }
     let padding = read_metadata_block_with_header(&mut Cursor::new(b"\x83\0\0\x02\x01\x02"));
     assert!(matches!(padding, Ok(MetadataBlock::Padding { length: 2 })));
+}
+
+/// A caller can name lengths of more than the 24 bits that a header has for them.
+#[test]
+fn lengths_that_no_header_has() {
+    let texts = [
+        (0, ill_formed("invalid streaminfo metadata block length")),
+        (1, "IO".to_string()),
+        (2, unsupported("application blocks larger than 10 MiB are not supported")),
+        (4, unsupported("Vorbis comment blocks larger than 10 MiB are not supported")),
+    ];
+    for (block_type, text) in texts {
+        for length in [1 << 24, (1 << 24) + 34, (1 << 25) + 34, u32::MAX] {
+            let error = read_metadata_block(&mut Cursor::new([0; 100]), block_type, length).err().unwrap();
+            assert_eq!(fault(&error), text, "{length} bytes");
+        }
+    }
 }
 
 #[test]

@@ -8,6 +8,7 @@ use claxon::{Error, FlacReader};
 use common::*;
 use std::cell::Cell;
 use std::io::{self, Cursor, Read};
+use std::time::Instant;
 
 /// A head and three frames, of 1, 2 and 4 samples of a channel.
 fn stream() -> (Vec<u8>, [usize; 4]) {
@@ -112,6 +113,19 @@ fn a_failure_after_a_whole_frame() {
     }
 }
 
+/// Nor is a read that gave nothing after such a frame: it is the end, until the next call.
+#[test]
+fn a_pause_after_a_whole_frame() {
+    let file = bytes_of("quiet_noise.flac");
+    let (all, _) = decode(&file[..]);
+    let single = file.iter().map(|byte| Step::Gives(vec![*byte]));
+    let steps = single.chain([Step::Gives(vec![]), Step::Gives(bytes(FRAME))]).collect();
+    let mut flac = FlacReader::new(Steps::new(steps)).unwrap();
+    let mut samples = flac.samples();
+    assert!(samples.by_ref().map(Result::unwrap).eq(all));
+    assert_eq!(samples.map(Result::unwrap).collect::<Vec<_>>(), [5]);
+}
+
 /// Reads that give nothing are the end; what comes later is read by a later call.
 #[test]
 fn a_reader_that_pauses() {
@@ -160,10 +174,33 @@ fn no_frame_is_delayed() {
     }
 }
 
-/// Gives some bytes, and then zeros for ever. It notes how many were asked for in all, and at most at once.
+/// That holds for up to 16 reads, of which the last can give little. After more reads up to an eighth of the frame is read
+/// after it.
+#[test]
+fn a_frame_in_many_reads() {
+    let stream = bytes_of("quiet_noise.flac");
+    let ends = frame_ends(&stream);
+    let (head, frame, rest) = (&stream[..ends[0]], &stream[ends[0]..ends[1]], &stream[ends[1]..]);
+    let first = frame.len() - 15;
+    for (piece, most) in [(first, 0), (1, frame.len() / 8 + 1)] {
+        let (front, back) = frame.split_at(first);
+        let pieces = [head]
+            .into_iter()
+            .chain(front.chunks(piece))
+            .chain([back, rest].into_iter().flat_map(|part| part.chunks(1)));
+        let input = Steps::new(pieces.map(|piece| Step::Gives(piece.to_vec())).collect());
+        let reads = input.reads.clone();
+        assert!(FlacReader::new(input).unwrap().blocks().read_next_or_eof(Vec::new()).unwrap().is_some());
+        let least = 1 + first.div_ceil(piece) + back.len();
+        assert!((least..=least + most).contains(&reads.get()), "{} reads, by {piece}", reads.get());
+    }
+}
+
+/// Gives some bytes, and then zeros for ever. It notes how many were given in all, and in how many reads.
 struct Endless<'a> {
     first: &'a [u8],
     given: &'a Cell<usize>,
+    reads: &'a Cell<usize>,
 }
 
 impl Read for Endless<'_> {
@@ -176,14 +213,15 @@ impl Read for Endless<'_> {
             count => count,
         };
         self.given.set(self.given.get() + count);
+        self.reads.set(self.reads.get() + 1);
         Ok(count)
     }
 }
 
 #[test]
 fn what_is_not_flac_is_refused_at_once() {
-    let given = Cell::new(0);
-    let error = FlacReader::new(Endless { first: b"", given: &given }).err().unwrap();
+    let (given, reads) = (Cell::new(0), Cell::new(0));
+    let error = FlacReader::new(Endless { first: b"", given: &given, reads: &reads }).err().unwrap();
     assert_eq!(error, Error::FormatError("invalid stream header"));
     assert!(given.get() <= 4096);
 }
@@ -195,21 +233,27 @@ fn zeros_that_never_end() {
     stream.truncate(ends[2]);
     // Mono, 8 bits, four samples, fixed order 0; Rice parameter 0.
     stream.extend_from_slice(&bytes("fff8690200039310"));
-    let given = Cell::new(0);
-    let mut flac = FlacReader::new(Endless { first: &stream, given: &given }).unwrap();
+    let (given, reads) = (Cell::new(0), Cell::new(0));
+    let mut flac = FlacReader::new(Endless { first: &stream, given: &given, reads: &reads }).unwrap();
     let mut samples = flac.samples();
     assert_eq!(samples.by_ref().take(3).map(Result::unwrap).collect::<Vec<_>>(), [5, 3, -2]);
     let error = samples.next().unwrap().unwrap_err();
     assert_eq!(error, Error::Unsupported("frames of more than 16777215 bytes are not supported"));
     assert!(samples.next().is_none());
     assert!(given.get() <= (1 << 24) + (1 << 18), "{} bytes were read", given.get());
+    assert!(reads.get() < 20, "{} reads", reads.get());
 }
 
-/// So many zeros in a `Cursor` have the same result, whatever follows them.
+/// So many zeros in a `Cursor` have the same result, whatever follows them. With one less the bytes end too early.
 #[test]
 fn long_zeros_in_memory() {
     let mut frames = bytes("fff8690200039310");
-    frames.resize(16_777_215, 0);
+    frames.resize(16_777_214, 0);
+    let error = FrameReader::new(Cursor::new(&frames)).read_next_or_eof(Vec::new()).err().unwrap();
+    assert_eq!(fault(&error), "IO");
+    frames.push(0);
+    let error = FrameReader::new(Cursor::new(&frames)).read_next_or_eof(Vec::new()).err().unwrap();
+    assert_eq!(error, Error::Unsupported("frames of more than 16777215 bytes are not supported"));
     frames.extend_from_slice(&bytes(FRAME));
     let mut input = Cursor::new(frames);
     let error = FrameReader::new(&mut input).read_next_or_eof(Vec::new()).err().unwrap();
@@ -219,22 +263,27 @@ fn long_zeros_in_memory() {
     assert_eq!(block.channel(0), [5]);
 }
 
-/// A frame of 200,000 bytes, which doesn't fit into the first buffer: 24 bits, 65,535 samples, verbatim, as they are.
+/// A frame of 400,000 bytes, which doesn't fit into the first buffer: two channels of 24 bits, 65,535 samples, verbatim, as
+/// they are. Byte by byte it is tried some 100 times, and not after each byte, which would take minutes.
 #[test]
 fn a_frame_larger_than_the_first_buffer() {
-    let count = 65535u32;
-    let mut frame = bytes("fff8790c00fffe");
+    let start = Instant::now();
+    let mut frame = bytes("fff8791c00fffe");
     frame.push(crc8(&frame));
-    frame.push(2);
-    let values: Vec<i32> = (0..count as i32).map(|number| number * 127 - 4_000_000).collect();
-    frame.extend(values.iter().flat_map(|value| value.to_be_bytes()[1..].to_vec()));
+    let values: Vec<i32> = (0..65535).map(|number| number * 127 - 4_000_000).collect();
+    for _ in 0..2 {
+        frame.push(2);
+        frame.extend(values.iter().flat_map(|value| value.to_be_bytes()[1..].to_vec()));
+    }
     frame.extend_from_slice(&crc16(&frame).to_be_bytes());
+    let expected: Vec<i32> = values.iter().chain(&values).flat_map(|value| [*value; 2]).collect();
     let stream = [bytes(HEAD), frame.clone(), frame].concat();
-    for piece in [usize::MAX, 100_000, 4096, 100] {
+    for piece in [usize::MAX, 100_000, 4096, 100, 1] {
         let (samples, result) = decode(Pieces(&stream[..], piece));
         assert!(result.is_ok());
-        assert!(samples == [&values[..], &values[..]].concat(), "by {piece}");
+        assert!(samples == expected, "by {piece}");
     }
+    assert!(start.elapsed().as_secs() < 30);
 }
 
 // Of RFC 9639, sections 9.1.8 and 9.3.

@@ -2,12 +2,10 @@
 mod common;
 
 use claxon::frame::FrameReader;
-use claxon::{Block, Error, FlacReader, FlacReaderOptions};
+use claxon::{Block, Error, FlacReader};
 use common::*;
 use std::io::{self, Cursor};
 use std::panic::{catch_unwind, AssertUnwindSafe};
-
-const METADATA_ONLY: FlacReaderOptions = FlacReaderOptions { metadata_only: true, read_vorbis_comment: true };
 
 fn block_of(frame: &str) -> Block {
     let buffer = vec![13; 100];
@@ -82,7 +80,7 @@ fn misuse_panics() {
     assert!(panics(|| _ = two.sample(2, 0)));
     assert!(panics(|| _ = Block::empty().sample(0, 0)));
     let stream = stream_with(&[&bytes(COMMENTS)]);
-    let mut flac = FlacReader::new_ext(&stream[..], METADATA_ONLY).unwrap();
+    let mut flac = FlacReader::new_ext(&stream[..], TAGS_ONLY).unwrap();
     assert!(panics(|| _ = flac.blocks()));
     assert!(panics(|| _ = flac.samples()));
 }
@@ -127,7 +125,7 @@ fn files() {
     let path = cases().join("../claxon_raw/data/smallest.flac");
     let mut flac = FlacReader::open(&path).unwrap();
     assert_eq!(flac.samples().map(Result::unwrap).collect::<Vec<_>>(), [5]);
-    let flac = FlacReader::open_ext(&path, METADATA_ONLY).unwrap();
+    let flac = FlacReader::open_ext(&path, TAGS_ONLY).unwrap();
     assert!(flac.is_metadata_only());
     assert_eq!(flac.vendor(), None);
     let missing = FlacReader::open(path.with_extension("missing"));

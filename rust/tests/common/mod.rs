@@ -90,6 +90,9 @@ pub const OPTIONS: [FlacReaderOptions; 4] = [
     FlacReaderOptions { metadata_only: true, read_vorbis_comment: true },
 ];
 
+pub const STREAMINFO_ONLY: FlacReaderOptions = OPTIONS[1];
+pub const TAGS_ONLY: FlacReaderOptions = OPTIONS[3];
+
 /// A fault as it is printed, and `IO` for any error of the reader.
 pub fn fault(error: &Error) -> String {
     match error {
