@@ -1,5 +1,5 @@
 //! The contents of two kinds of metadata blocks: a streaminfo, and Vorbis comments.
-ghost use Rattle.std.specs.Prelude.{◌≡◌, ◌⊎◌, ◌≤◌, ◌<◌, IfOk, length};
+ghost use Rattle.std.specs.Prelude.{◌≡◌, ◌⊎◌, ◌<◌, IfOk, length};
 ghost use Rattle.claxon.specs.MetadataBlocks.{Comments, Info};
 ghost use Rattle.claxon.specs.MetadataBlock.{HasBounds, content_view, info_view};
 ghost use Rattle.claxon.specs.ReadMetadataBlock.{ResultHasBounds};

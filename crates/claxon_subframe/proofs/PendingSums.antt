@@ -193,12 +193,6 @@ four_pending_enough ks past rest v j fit le =
     let five = λ (i : ℕ) (some : 1 ≤ i). pending_enough (but_newest_five ks) ks past rest v i (five_beyond ks (i + (4 * v + 4)) (omega arith)) fit le in
     four_same (five (j + 3) (omega arith)) (four (j + 2)) (five (j + 1) (omega arith)) (four j)
 
-pub pending_sums_enough : (ks past rest : List ℤ) (v : ℕ) (sums : PendingSums (List ℤ)) → FitVectors v ks → 4 * v + 4 ≤ length past → ArePendingSums ks past sums → ArePendingSums ks (past ++ rest) sums
-pending_sums_enough ks past rest v sums fit le w = record {
-  at_0 = w.at_0 ∙ four_pending_enough ks past rest v 0 fit le;
-  later = record { at_4 = w.later.at_4 ∙ four_pending_enough ks past rest v 4 fit le; at_8 = w.later.at_8 ∙ four_pending_enough ks past rest v 8 fit le; at_12 = w.later.at_12 ∙ four_pending_enough ks past rest v 12 fit le; at_16 = w.later.at_16 ∙ four_pending_enough ks past rest v 16 fit le; at_20 = w.later.at_20 ∙ four_pending_enough ks past rest v 20 fit le; at_24 = w.later.at_24 ∙ four_pending_enough ks past rest v 24 fit le; at_28 = w.later.at_28 ∙ four_pending_enough ks past rest v 28 fit le };
-}
-
 -- a vector of pending sums, as a call computes it
 module _ (ks past : List ℤ) (x y : ℤ) (v : ℕ) (fit : FitVectors v ks) {u w : List ℤ} (eu : u ≡ replicate 4 x) (ew : w ≡ replicate 4 y) where
   pub later_lanes_advanced : (j : ℕ) (has : Bool) (b s k t r : List ℤ) → 4 ≤ j → (has ≡ false → 4 * v + 4 ≤ j) → (has ≡ true → r ≡ advanced_by_two b s k u t w) → (has ≡ false → r ≡ replicate 4 (pos 0))

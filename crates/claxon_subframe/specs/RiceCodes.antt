@@ -9,12 +9,12 @@ use Rattle.claxon_input.specs.Source.{Source}
 use Rattle.claxon_input.specs.declared.bits.Bitstream.{Bitstream}
 use Rattle.claxon_input.specs.declared.bits.buffered.BufferedBits.{BufferedBits}
 use Rattle.claxon_input.specs.declared.error.Error.{Error}
-use Rattle.claxon_subframe.specs.Buffer.{FillsBuffer}
+use Rattle.claxon_subframe.specs.Samples.{SamplesAreReadBy}
 
 -- The buffer now holds the residual samples of Rice codes with this parameter, as many as it is long, whose bits were consumed.
 abbrev pub RiceCodesAreRead : {R A : Type 0} {g : _} → (R → Source ℕ) → ℕ → Bitstream R g → Result A Error → Bitstream R g → List ℤ → List ℤ → Type 0
 RiceCodesAreRead source parameter old result new was is =
-    FillsBuffer source (times_at (length was) (rice_code_at parameter)) old result new is
+    SamplesAreReadBy source (rice_code_at parameter) old result new was is
 
 -- ---- before zigzag decoding
 

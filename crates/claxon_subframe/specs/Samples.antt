@@ -10,10 +10,15 @@ use Rattle.claxon_input.specs.declared.bits.buffered.BufferedBits.{BufferedBits}
 use Rattle.claxon_input.specs.declared.error.Error.{Error}
 use Rattle.claxon_subframe.specs.Buffer.{FillsBuffer}
 
--- The buffer now holds samples of this bit depth, as many as it is long, whose bits were consumed.
+-- The buffer now holds samples that this reader reads, as many as it is long, whose bits were consumed.
+abbrev pub SamplesAreReadBy : {R A : Type 0} {g : _} → (R → Source ℕ) → (Bits → Reading Bool ℤ) → Bitstream R g → Result A Error → Bitstream R g → List ℤ → List ℤ → Type 0
+SamplesAreReadBy source read old result new was is =
+    FillsBuffer source (times_at (length was) read) old result new is
+
+-- The same for samples of this bit depth.
 abbrev pub SamplesAreRead : {R A : Type 0} {g : _} → (R → Source ℕ) → ℕ → Bitstream R g → Result A Error → Bitstream R g → List ℤ → List ℤ → Type 0
 SamplesAreRead source width old result new was is =
-    FillsBuffer source (times_at (length was) (signed_at width)) old result new is
+    SamplesAreReadBy source (signed_at width) old result new was is
 
 -- The buffer begins with this many samples, which were decoded from the buffered bits.
 abbrev pub BufferedSamplesAreRead : (Bits → Reading Bool ℤ) → BufferedBits → ℕ → BufferedBits → List ℤ → Type 0

@@ -3,11 +3,10 @@
 ghost use Rattle.std.specs.Prelude.{◌≤◌, ℤ, Bool, length};
 ghost use Rattle.claxon_format.specs.Bits.{Bits};
 ghost use Rattle.claxon_format.specs.Codes.{Never};
-ghost use Rattle.claxon_format.specs.read.Reading.{Reading, Reads, times_at};
+ghost use Rattle.claxon_format.specs.read.Reading.{Reading, Reads};
 ghost use Rattle.claxon_input.specs.State.{bits_in};
 ghost use Rattle.claxon_input.specs.Gives.{Gives};
-ghost use Rattle.claxon_subframe.specs.Buffer.{FillsBuffer};
-ghost use Rattle.claxon_subframe.specs.Samples.{BufferedSamplesAreRead};
+ghost use Rattle.claxon_subframe.specs.Samples.{SamplesAreReadBy, BufferedSamplesAreRead};
 
 use claxon_input::error::Result;
 use claxon_input::input::{Bitstream, BufferedBits, ReadBytes};
@@ -41,8 +40,8 @@ pub fn read_samples<C: SampleCode, R: ReadBytes>(
     code: C,
     buffer: &mut [i32],
 ) -> Result<()>
-    ensures { FillsBuffer R.source (times_at (length buffer.old) (C.sample_at code))
-        input.old result input.new buffer.new }
+    ensures { SamplesAreReadBy R.source (C.sample_at code)
+        input.old result input.new buffer.old buffer.new }
 {
     let mut start = 0;
     while start < buffer.len() {

@@ -2,7 +2,7 @@
 //! and adds the two products. The lanes have 32 bits: where the magnitudes of the coefficients add up to less than 2^16, the
 //! pending sums of samples of 16 bits fit.
 ghost use Rattle.std.specs.Prelude.{◌≡◌, ◌+◌, ◌*◌, ◌-◌, ◌^◌, ◌<◌, ◌≤◌, ◌↔◌, ◌++◌, IsTrue, true, false, length, take, drop, reverse, replicate, pos, FitsSigned};
-ghost use Rattle.std.specs.Int.{w16, w32};
+ghost use Rattle.std.specs.Int.{w16};
 ghost use Rattle.claxon_subframe.specs.Predictor.{FrontIsRestored};
 ghost use Rattle.claxon_subframe.specs.Lanes.{LanesFit64};
 ghost use Rattle.claxon_subframe.specs.PendingSums.{ArePendingSumsBeforeAll};
