@@ -135,7 +135,7 @@ const LINES: [(usize, [bool; 2], u8, &str); 8] = [
         63,
         [false, false],
         1,
-        "wrong, 1 frame, 1 sample, 1 fault at byte 53 after 1 samples: the file is cut: it ends inside a frame",
+        "wrong, 1 frame, 1 sample, 1 fault at byte 53 after 1 sample: the file is cut: it ends inside a frame",
     ),
     (
         64,

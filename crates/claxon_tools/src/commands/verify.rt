@@ -180,8 +180,8 @@ fn head_text(alloc: Global, error: &Error) -> Result<String, AllocError> {
 fn report_text(alloc: Global, report: &Report) -> Result<String, AllocError> {
     let verdict = if report.is_right { "ok" } else { "wrong" };
     let mut text = String::from_str(alloc, verdict)?;
-    push_count(&mut text, report.found.frames, "frame")?;
-    push_count(&mut text, report.found.samples, "sample")?;
+    push_count(&mut text, ", ", report.found.frames, "frame")?;
+    push_count(&mut text, ", ", report.found.samples, "sample")?;
     push_expected(&mut text, report)?;
     push_faults(alloc, &mut text, report)?;
     Ok(text)
@@ -202,7 +202,7 @@ fn push_faults(alloc: Global, text: &mut String, report: &Report) -> Result<(), 
         return Ok(());
     };
     let faults = report.found.faults;
-    push_count(text, faults, "fault")?;
+    push_count(text, ", ", faults, "fault")?;
     if faults > 1 {
         text.push_str(", the first")?;
     }
@@ -210,13 +210,15 @@ fn push_faults(alloc: Global, text: &mut String, report: &Report) -> Result<(), 
 }
 
 fn push_fault(alloc: Global, text: &mut String, first: &FirstFault) -> Result<(), AllocError> {
-    let (byte, samples) = (first.byte, first.samples);
+    let byte = first.byte;
     let what = error_text(alloc, Part::Frame, &first.error)?;
-    write!(text, " at byte {byte} after {samples} samples: {what}")
+    write!(text, " at byte {byte}")?;
+    push_count(text, " after ", first.samples, "sample")?;
+    write!(text, ": {what}")
 }
 
-// A number of things.
-fn push_count(text: &mut String, count: u64, thing: &str) -> Result<(), AllocError> {
+// A number of things, in the plural unless it is 1.
+fn push_count(text: &mut String, before: &str, count: u64, thing: &str) -> Result<(), AllocError> {
     let end = if count == 1 { "" } else { "s" };
-    write!(text, ", {count} {thing}{end}")
+    write!(text, "{before}{count} {thing}{end}")
 }
