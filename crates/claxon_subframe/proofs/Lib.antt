@@ -21,6 +21,7 @@ pub mod Lanes
 pub mod PaddedCoefficients
 pub mod PendingSums
 pub mod RestoreLoopByTwo
+pub mod PredictorState
 pub mod TwelveLanes
 pub mod Pairs
 pub mod RestoredFront

@@ -7,5 +7,6 @@ pub mod Samples
 pub mod Lanes
 pub mod Predictor
 pub mod PendingSums
+pub mod PredictorState
 pub mod Pairs
 pub mod TwelveLanes

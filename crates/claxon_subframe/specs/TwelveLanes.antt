@@ -1,7 +1,12 @@
 -- Twelve numbers in three vectors: coefficients, and the pending sums of the next twelve samples.
-use Rattle.std.specs.Prelude.{◌≡◌, ℕ, ◌+◌, ◌^◌, ℤ, pos, List, [], ◌∷◌, ◌++◌, length, take, replicate, reverse}
+use Rattle.std.specs.Prelude.{◌≡◌, ℕ, ◌+◌, ◌^◌, ℤ, List, [], ◌∷◌, ◌++◌, length, reverse}
+use Rattle.claxon_format.specs.Predict.{linear}
+use Rattle.claxon_format.specs.read.Predict.{restored}
 use Rattle.claxon_subframe.specs.Lanes.{Lanes, LanesFit64}
-use Rattle.claxon_subframe.specs.PendingSums.{four_pending, four_taps, FitVectors}
+use Rattle.claxon_subframe.specs.PendingSums.{four_pending, four_taps, FitVectors, AreNewest}
+use Rattle.claxon_subframe.specs.PredictorState.{StandsAt, AreRestored}
+use Rattle.claxon_subframe.specs.declared.subframe.predictor.lanes.NewestFive.{NewestFive}
+use Rattle.claxon_subframe.specs.declared.subframe.predictor.lanes.PredictorState.{PredictorState}
 use Rattle.claxon_subframe.specs.declared.subframe.predictor.low_order.TwelveLanes.{TwelveLanes}
 use Rattle.claxon_subframe.specs.declared.subframe.predictor.low_order.EightLanes.{EightLanes}
 use Rattle.claxon_subframe.specs.declared.subframe.predictor.low_order.TwelveTaps.{TwelveTaps}
@@ -59,3 +64,15 @@ AreTwelvePendingBeforeAll sums = (coefficients : List ℤ) → AreTwelvePending 
 -- the pending sums after these samples
 abbrev pub AreTwelvePendingAfter : ℕ → TwelveTaps → List ℤ → TwelveLanes → Type 0
 AreTwelvePendingAfter vectors taps samples sums = (coefficients : List ℤ) → AreTwelveTaps coefficients taps → FitVectors vectors coefficients → AreTwelvePending coefficients (reverse samples) sums
+
+-- the samples from place i to place j are restored, with any coefficients of which these are the taps and the newest five
+abbrev pub RestoresTwelve : ℕ → NewestFive → TwelveTaps → ℕ → List ℤ → ℕ → PredictorState TwelveLanes → List ℤ → ℕ → PredictorState TwelveLanes → Type 0
+RestoresTwelve vectors last taps shift old i before new j after =
+    (coefficients : List ℤ) → AreTwelveTaps coefficients taps → AreNewest coefficients last → FitVectors vectors coefficients
+    → StandsAt (AreTwelvePending coefficients) old i before → AreRestored (AreTwelvePending coefficients) (linear coefficients shift) old i new j after
+
+-- the same for all samples from place i on
+abbrev pub RestoresAllTwelve : ℕ → NewestFive → TwelveTaps → ℕ → List ℤ → ℕ → PredictorState TwelveLanes → List ℤ → Type 0
+RestoresAllTwelve vectors last taps shift old i before new =
+    (coefficients : List ℤ) → AreTwelveTaps coefficients taps → AreNewest coefficients last → FitVectors vectors coefficients
+    → StandsAt (AreTwelvePending coefficients) old i before → new ≡ restored (linear coefficients shift) i old

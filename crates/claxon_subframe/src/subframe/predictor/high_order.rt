@@ -202,8 +202,8 @@ fn first_sums<const VECTORS: usize>(taps: Taps, samples: &[i32]) -> PendingSums<
     sums
 }
 
-// The samples after the first 4 * VECTORS + 4, as in `low_order::predict_12_taps`. Where `VECTORS` is less than 7 the oldest coefficients
-// are zeros.
+// The samples after the first 4 * VECTORS + 4, as in `low_order::predict_12_taps`. Where `VECTORS` is less than 7 the oldest
+// coefficients are zeros.
 #[inline(never)]
 fn predict_32_taps<const VECTORS: usize>(padded: &[i64; 32], shift: u32, buffer: &mut [i32])
     requires shift { shift ≤ 15 }

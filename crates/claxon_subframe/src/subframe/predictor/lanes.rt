@@ -83,8 +83,8 @@ pub fn shift_two_lanes(before: i64x4, lanes: i64x4) -> i64x4
     before.shuffle(lanes, [2, 3, 4, 5])
 }
 
-/// The pending sums of four samples, after two more samples: the lanes shifted by two, and the products of the two samples. Where
-/// no coefficient reaches these four, all is zero.
+/// The pending sums of four samples, after two more samples: the lanes shifted by two, and the products of the two samples.
+/// Where no coefficient reaches these four, all is zero.
 #[inline(always)]
 pub fn advance_lanes(
     has_taps: bool,
@@ -167,8 +167,8 @@ impl NewestFive {
         }
     }
 
-    /// The newest five after the next two samples, whose pending sums are the last two lanes of `pending`, the next one's last. That
-    // of the next one has the product of the fifth sample already.
+    /// The newest five after the next two samples, whose pending sums are the last two lanes of `pending`, the next one's last.
+    /// That of the next one has the product of the fifth sample already.
     #[inline(always)]
     pub fn followed_by_two(
         self,
@@ -190,6 +190,13 @@ impl NewestFive {
         let two = sample_of(farther, coefficients, before, shift);
         before.followed_by(two)
     }
+}
+
+/// What a predictor keeps from one pair of samples to the next: the newest five samples, and the pending sums of the next ones.
+#[derive(Clone, Copy)]
+pub struct PredictorState<S> {
+    pub newest: NewestFive,
+    pub sums: S,
 }
 
 // The residual samples of the next two samples in the first two lanes, in the order of the buffer, so that one load reads both.

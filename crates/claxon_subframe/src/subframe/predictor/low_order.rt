@@ -4,9 +4,11 @@ ghost use Rattle.std.specs.Int.{w32};
 ghost use Rattle.claxon_format.specs.Predict.{linear};
 ghost use Rattle.claxon_format.specs.read.Predict.{restored};
 ghost use Rattle.claxon_subframe.specs.Predictor.{SamplesAreRestored};
-ghost use Rattle.claxon_subframe.specs.TwelveLanes.{numbers, SmallTwelve, TwelveFit64, AreTwelveTaps, SmallTwelveTaps, AreTwelvePendingAfterTwo, AreTwelvePendingBeforeAll, AreTwelvePendingAfter};
+ghost use Rattle.claxon_subframe.specs.TwelveLanes.{numbers, SmallTwelve, TwelveFit64, AreTwelveTaps, SmallTwelveTaps, AreTwelvePendingAfterTwo, AreTwelvePendingBeforeAll, AreTwelvePendingAfter, RestoresTwelve, RestoresAllTwelve};
 
-use super::lanes::{NewestFive, advance_lanes, broadcast, padded_coefficients, shift_two_lanes};
+use super::lanes::{
+    NewestFive, PredictorState, advance_lanes, broadcast, padded_coefficients, shift_two_lanes,
+};
 use super::{low_bits, predict_plain};
 use std::simd::prelude::*;
 
@@ -161,13 +163,101 @@ fn first_twelve_sums<const VECTORS: usize>(taps: TwelveTaps, samples: &[i32]) ->
     sums
 }
 
+// Restores the residual samples at `i` and after it.
+#[inline(always)]
+fn restore_pair<const VECTORS: usize>(
+    last: NewestFive,
+    taps: TwelveTaps,
+    shift: u32,
+    state: PredictorState<TwelveLanes>,
+    buffer: &mut [i32],
+    i: usize,
+) -> PredictorState<TwelveLanes>
+    requires shift { shift ≤ 15 }
+    requires taps { SmallTwelveTaps taps }
+    requires some { 1 ≤ VECTORS }
+    requires sums { TwelveFit64 state.sums }
+    requires room { i + 2 ≤ length buffer.old }
+    ensures kept { length buffer.new ≡ length buffer.old }
+    ensures restored { RestoresTwelve VECTORS last taps shift buffer.old i state
+        buffer.new (i + 2) result }
+    ensures fits { TwelveFit64 result.sums }
+{
+    let newest = state
+        .newest
+        .followed_by_two(last, state.sums.at_0, buffer[i], buffer[i + 1], shift);
+    buffer[i] = low_bits(newest.second);
+    buffer[i + 1] = low_bits(newest.newest);
+    let sums = advance_twelve_sums::<VECTORS>(state.sums, taps, newest.second, newest.newest);
+    PredictorState { newest, sums }
+}
+
+// Restores ten residual samples from `i` on. After five pairs each of the newest five samples stands again where it stood, so
+// that no register moves.
+#[inline(always)]
+fn restore_ten<const VECTORS: usize>(
+    last: NewestFive,
+    taps: TwelveTaps,
+    shift: u32,
+    state: PredictorState<TwelveLanes>,
+    buffer: &mut [i32],
+    i: usize,
+) -> PredictorState<TwelveLanes>
+    requires shift { shift ≤ 15 }
+    requires taps { SmallTwelveTaps taps }
+    requires some { 1 ≤ VECTORS }
+    requires sums { TwelveFit64 state.sums }
+    requires room { i + 10 ≤ length buffer.old }
+    ensures kept { length buffer.new ≡ length buffer.old }
+    ensures restored { RestoresTwelve VECTORS last taps shift buffer.old i state
+        buffer.new (i + 10) result }
+    ensures fits { TwelveFit64 result.sums }
+{
+    let two = restore_pair::<VECTORS>(last, taps, shift, state, buffer, i);
+    let four = restore_pair::<VECTORS>(last, taps, shift, two, buffer, i + 2);
+    let six = restore_pair::<VECTORS>(last, taps, shift, four, buffer, i + 4);
+    let eight = restore_pair::<VECTORS>(last, taps, shift, six, buffer, i + 6);
+    restore_pair::<VECTORS>(last, taps, shift, eight, buffer, i + 8)
+}
+
+// Restores the residual samples from the pair `first` on.
+#[inline(always)]
+fn restore_rest<const VECTORS: usize>(
+    last: NewestFive,
+    taps: TwelveTaps,
+    shift: u32,
+    state: PredictorState<TwelveLanes>,
+    buffer: &mut [i32],
+    first: usize,
+)
+    requires shift { shift ≤ 15 }
+    requires taps { SmallTwelveTaps taps }
+    requires some { 1 ≤ VECTORS }
+    requires sums { TwelveFit64 state.sums }
+    requires first { 2 * first ≤ length buffer.old }
+    ensures { RestoresAllTwelve VECTORS last taps shift buffer.old (2 * first) state buffer.new }
+{
+    let mut current = state;
+    for pair in first..buffer.len() / 2 {
+        current = restore_pair::<VECTORS>(last, taps, shift, current, buffer, 2 * pair);
+    }
+    // With an odd length one sample is left.
+    if buffer.len() % 2 == 1 {
+        let i = buffer.len() - 1;
+        let newest = current
+            .newest
+            .followed_by_two(last, current.sums.at_0, buffer[i], 0, shift);
+        buffer[i] = low_bits(newest.second);
+    }
+}
+
 // The samples from index 12 on, each from the twelve samples before it. Where `VECTORS` is 1 the oldest four coefficients are
 // zeros.
 //
 // A sample's products are added to the pending sums of later samples as soon as it is known, two samples at a time, so that the
-// lanes shift by half a vector. The products of the newest samples, four for the first of two and five for the second, are added
-// last, one by one, so that a sample depends on the one just before it only by one product, and on no pending sum that was just
-// computed. The coefficients are passed by reference and this isn't inlined, so that the compiler keeps the shifts of
+// lanes shift by half a vector. The products of the newest samples, four for the first of two and five for the second, are
+// added last, one by one, so that a sample depends on the one just before it only by one product, and on no pending sum that
+// was just computed. The coefficients are passed by reference and this isn't inlined, so that the compiler keeps the shifts of
 // `sign_extended`.
 #[inline(never)]
 fn predict_12_taps<const VECTORS: usize>(coefficients: &TwelveLanes, shift: u32, buffer: &mut [i32])
@@ -193,22 +283,13 @@ fn predict_12_taps<const VECTORS: usize>(coefficients: &TwelveLanes, shift: u32,
         newest: first,
     };
     let taps = taps_of_twelve(coefficients);
-    let mut sums = first_twelve_sums::<VECTORS>(taps, &buffer[8 - 4 * VECTORS..12]);
-    let mut newest = NewestFive::of(&buffer[7..12]);
-    for pair in 6..buffer.len() / 2 {
-        let i = 2 * pair;
-        newest = newest.followed_by_two(last, sums.at_0, buffer[i], buffer[i + 1], shift);
-        buffer[i] = low_bits(newest.second);
-        buffer[i + 1] = low_bits(newest.newest);
-        sums = advance_twelve_sums::<VECTORS>(sums, taps, newest.second, newest.newest);
+    let mut state = PredictorState {
+        newest: NewestFive::of(&buffer[7..12]),
+        sums: first_twelve_sums::<VECTORS>(taps, &buffer[8 - 4 * VECTORS..12]),
+    };
+    let tens = (buffer.len() - 12) / 10;
+    for ten in 0..tens {
+        state = restore_ten::<VECTORS>(last, taps, shift, state, buffer, 12 + 10 * ten);
     }
-    // With an odd length one sample is left.
-    if buffer.len() % 2 == 1 {
-        let i = buffer.len() - 1;
-        buffer[i] = low_bits(
-            newest
-                .followed_by_two(last, sums.at_0, buffer[i], 0, shift)
-                .second,
-        );
-    }
+    restore_rest::<VECTORS>(last, taps, shift, state, buffer, 6 + 5 * tens);
 }

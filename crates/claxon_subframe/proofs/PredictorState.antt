@@ -1,0 +1,35 @@
+-- A predictor that restores samples two at a time.
+use Rattle.std.proofs.Common.{◌≡◌, ℕ, ◌+◌, ◌<◌, List, ◌∷◌, length, take, reverse, get_or, set, refl, subst, ◌∙◌, ℤ, pos}
+use Rattle.std.proofs.lemmas.List.{length-set}
+use Rattle.claxon_format.specs.Predict.{linear}
+use Rattle.claxon_subframe.specs.PendingSums.{four_pending, AreNewest, IsFollowedByTwo}
+use Rattle.claxon_subframe.specs.PredictorState.{StandsAt, AreRestored}
+use Rattle.claxon_subframe.specs.declared.subframe.predictor.lanes.NewestFive.{NewestFive}
+use Rattle.claxon_subframe.specs.declared.subframe.predictor.lanes.PredictorState.{PredictorState}
+use Rattle.claxon_subframe.proofs.RestoreLoopByTwo.{two_made, made_restored, made_past, made_newest}
+
+pub none_restored : {S : Type 0} {Pending : List ℤ → S → Type 0} {p : List ℤ → ℤ} {xs : List ℤ} {i : ℕ} {s : PredictorState S} → StandsAt Pending xs i s → AreRestored Pending p xs i xs i s
+none_restored h = record { kept = refl; same = refl; stands = h }
+
+-- first to place j, and then to place k, which is the place m
+pub then_restored : {S : Type 0} {Pending : List ℤ → S → Type 0} {p : List ℤ → ℤ} {xs ys zs : List ℤ} {i j k : ℕ} {s n : PredictorState S} (m : ℕ)
+    → AreRestored Pending p xs i ys j s → AreRestored Pending p ys j zs k n → k ≡ m → AreRestored Pending p xs i zs m n
+then_restored {S} {Pending} {p} {xs} {ys} {zs} {i} {j} {k} {s} {n} m first second e =
+    subst (λ (l : ℕ). AreRestored Pending p xs i zs l n) e (record { kept = second.kept ∙ first.kept; same = second.same ∙ first.same; stands = second.stands })
+
+-- the samples at i and j, which are stored as a and b, and added to the pending sums as v and w
+pub pair_restored : {S : Type 0} (Pending : List ℤ → S → Type 0) (ks xs ws : List ℤ) (t i j k : ℕ) (x y a b v w : ℤ) (last : NewestFive) (s n : PredictorState S)
+    → j ≡ i + 1 → k ≡ j + 1 → j < length xs → AreNewest ks last → StandsAt Pending xs i s → ws ≡ four_pending ks (reverse (take i xs)) 0
+    → x ≡ get_or xs i (pos 0) → y ≡ get_or xs j (pos 0) → IsFollowedByTwo s.newest last ws x y t n.newest
+    → a ≡ n.newest.second → b ≡ n.newest.newest → a ≡ v → b ≡ w → Pending (w ∷ v ∷ reverse (take i xs)) n.sums
+    → AreRestored Pending (linear ks t) xs i (set (set xs i a) j b) k n
+pair_restored Pending ks xs ws t i j k x y a b v w last s n ej ek lt new stands pending ex ey two ea eb ev ew sums =
+    let made = two_made ks xs ws ws i j x y last s.newest n.newest t new stands.newest pending refl ex ey two in
+    record {
+      kept = length-set _ _ _ ∙ length-set xs _ _;
+      same = made_restored ks xs stands.newest.rest t i j k a b s.newest n.newest ej ek lt ea eb made;
+      stands = record {
+        newest = made_newest ks xs t i j k a b s.newest n.newest stands.newest ej ek lt ea eb made;
+        sums = subst (λ (l : List ℤ). Pending l n.sums) (made_past xs i j k a b v w ej ek lt ev ew) sums;
+      };
+    }
