@@ -1,9 +1,11 @@
 -- A predictor that restores samples two at a time.
-use Rattle.std.proofs.Common.{◌≡◌, ℕ, ◌+◌, ◌<◌, List, ◌∷◌, length, take, reverse, get_or, set, refl, subst, ◌∙◌, ℤ, pos}
+use Rattle.std.proofs.Common.{◌≡◌, ℕ, ◌+◌, ◌<◌, List, ◌∷◌, length, take, reverse, get_or, set, Result, Ok, Err, refl, ap, subst, ◌∙◌, ℤ, pos}
+use Rattle.std.specs.Prelude.{IsErrAnd}
 use Rattle.std.proofs.lemmas.List.{length-set}
+use Rattle.claxon_format.specs.read.Predict.{restored}
 use Rattle.claxon_format.specs.Predict.{linear}
 use Rattle.claxon_subframe.specs.PendingSums.{four_pending, AreNewest, IsFollowedByTwo}
-use Rattle.claxon_subframe.specs.PredictorState.{StandsAt, AreRestored}
+use Rattle.claxon_subframe.specs.PredictorState.{StandsAt, AreRestored, AreRestoredOrStop}
 use Rattle.claxon_subframe.specs.declared.subframe.predictor.lanes.NewestFive.{NewestFive}
 use Rattle.claxon_subframe.specs.declared.subframe.predictor.lanes.PredictorState.{PredictorState}
 use Rattle.claxon_subframe.proofs.RestoreLoopByTwo.{two_made, made_restored, made_past, made_newest}
@@ -11,11 +13,28 @@ use Rattle.claxon_subframe.proofs.RestoreLoopByTwo.{two_made, made_restored, mad
 pub none_restored : {S : Type 0} {Pending : List ℤ → S → Type 0} {p : List ℤ → ℤ} {xs : List ℤ} {i : ℕ} {s : PredictorState S} → StandsAt Pending xs i s → AreRestored Pending p xs i xs i s
 none_restored h = record { kept = refl; same = refl; stands = h }
 
+-- to place j, which is the place m
+pub place_is : {S : Type 0} {Pending : List ℤ → S → Type 0} {p : List ℤ → ℤ} {xs ys : List ℤ} {i j : ℕ} {s : PredictorState S} (m : ℕ) → AreRestored Pending p xs i ys j s → j ≡ m → AreRestored Pending p xs i ys m s
+place_is {S} {Pending} {p} {xs} {ys} {i} {j} {s} m h e = subst (λ (l : ℕ). AreRestored Pending p xs i ys l s) e h
+
 -- first to place j, and then to place k, which is the place m
 pub then_restored : {S : Type 0} {Pending : List ℤ → S → Type 0} {p : List ℤ → ℤ} {xs ys zs : List ℤ} {i j k : ℕ} {s n : PredictorState S} (m : ℕ)
     → AreRestored Pending p xs i ys j s → AreRestored Pending p ys j zs k n → k ≡ m → AreRestored Pending p xs i zs m n
-then_restored {S} {Pending} {p} {xs} {ys} {zs} {i} {j} {k} {s} {n} m first second e =
-    subst (λ (l : ℕ). AreRestored Pending p xs i zs l n) e (record { kept = second.kept ∙ first.kept; same = second.same ∙ first.same; stands = second.stands })
+then_restored m first second e =
+    place_is m (record { kept = second.kept ∙ first.kept; same = second.same ∙ first.same; stands = second.stands }) e
+
+-- the same where the second may stop
+pub then_restored_or_stop : {S : Type 0} {Pending : List ℤ → S → Type 0} {p : List ℤ → ℤ} {xs ys zs : List ℤ} {i j k : ℕ} {s : PredictorState S} (m : ℕ) (r : Result (PredictorState S) ℕ)
+    → AreRestored Pending p xs i ys j s → AreRestoredOrStop Pending p ys j zs k r → k ≡ m → AreRestoredOrStop Pending p xs i zs m r
+then_restored_or_stop m (Ok n) first second e = record { ok = then_restored m first second.ok e; err = tt }
+then_restored_or_stop m (Err place) first second e = record { ok = tt; err = second.err ∙ first.same }
+
+-- it stopped at place e
+pub stopped : {S : Type 0} {Pending : List ℤ → S → Type 0} {p : List ℤ → ℤ} {xs zs : List ℤ} {i j : ℕ} (r : Result (PredictorState S) ℕ) (e : ℕ)
+    → IsErrAnd r (λ place. place ≡ e) → restored p e zs ≡ restored p i xs → AreRestoredOrStop Pending p xs i zs j r
+stopped (Ok n) e is same = absurd is
+stopped {S} {Pending} {p} {xs} {zs} {i} {j} (Err place) e is same =
+    record { ok = tt; err = ap (λ (n : ℕ). restored p n zs) is ∙ same }
 
 -- the samples at i and j, which are stored as a and b, and added to the pending sums as v and w
 pub pair_restored : {S : Type 0} (Pending : List ℤ → S → Type 0) (ks xs ws : List ℤ) (t i j k : ℕ) (x y a b v w : ℤ) (last : NewestFive) (s n : PredictorState S)

@@ -6,10 +6,11 @@ ghost use Rattle.claxon_format.specs.read.Predict.{restored};
 ghost use Rattle.claxon_subframe.specs.Predictor.{SamplesAreRestored};
 ghost use Rattle.claxon_subframe.specs.Lanes.{Within};
 ghost use Rattle.claxon_subframe.specs.PendingSums.{AreTaps, SmallTaps, SumsFit64, ArePendingSumsAfterTwo, ArePendingSumsBeforeAll, ArePendingSumsAfter};
+ghost use Rattle.claxon_subframe.specs.PredictorState.{RestoresSamples, RestoresAllSamples};
 
 use super::lanes::{
-    LaterLanes, NewestFive, PendingSums, advance_lanes, broadcast, padded_coefficients,
-    shift_two_lanes,
+    LaterLanes, NewestFive, PendingSums, PredictorState, advance_lanes, broadcast,
+    padded_coefficients, shift_two_lanes,
 };
 use super::{low_bits, predict_plain};
 use std::simd::prelude::*;
@@ -202,6 +203,93 @@ fn first_sums<const VECTORS: usize>(taps: Taps, samples: &[i32]) -> PendingSums<
     sums
 }
 
+// Restores the residual samples at `i` and after it.
+#[inline(always)]
+fn restore_pair<const VECTORS: usize>(
+    last: NewestFive,
+    taps: Taps,
+    shift: u32,
+    state: PredictorState<PendingSums<i64x4>>,
+    buffer: &mut [i32],
+    i: usize,
+) -> PredictorState<PendingSums<i64x4>>
+    requires shift { shift ≤ 15 }
+    requires taps { SmallTaps taps }
+    requires some { 3 ≤ VECTORS }
+    requires sums { SumsFit64 state.sums }
+    requires room { i + 2 ≤ length buffer.old }
+    ensures kept { length buffer.new ≡ length buffer.old }
+    ensures restored { RestoresSamples VECTORS last taps shift buffer.old i state
+        buffer.new (i + 2) result }
+    ensures fits { SumsFit64 result.sums }
+{
+    let newest = state
+        .newest
+        .followed_by_two(last, state.sums.at_0, buffer[i], buffer[i + 1], shift);
+    buffer[i] = low_bits(newest.second);
+    buffer[i + 1] = low_bits(newest.newest);
+    let sums = advance_sums::<VECTORS>(state.sums, taps, newest.second, newest.newest);
+    PredictorState { newest, sums }
+}
+
+// Restores ten residual samples from `i` on, as in `low_order::restore_ten`.
+#[inline(always)]
+fn restore_ten<const VECTORS: usize>(
+    last: NewestFive,
+    taps: Taps,
+    shift: u32,
+    state: PredictorState<PendingSums<i64x4>>,
+    buffer: &mut [i32],
+    i: usize,
+) -> PredictorState<PendingSums<i64x4>>
+    requires shift { shift ≤ 15 }
+    requires taps { SmallTaps taps }
+    requires some { 3 ≤ VECTORS }
+    requires sums { SumsFit64 state.sums }
+    requires room { i + 10 ≤ length buffer.old }
+    ensures kept { length buffer.new ≡ length buffer.old }
+    ensures restored { RestoresSamples VECTORS last taps shift buffer.old i state
+        buffer.new (i + 10) result }
+    ensures fits { SumsFit64 result.sums }
+{
+    let two = restore_pair::<VECTORS>(last, taps, shift, state, buffer, i);
+    let four = restore_pair::<VECTORS>(last, taps, shift, two, buffer, i + 2);
+    let six = restore_pair::<VECTORS>(last, taps, shift, four, buffer, i + 4);
+    let eight = restore_pair::<VECTORS>(last, taps, shift, six, buffer, i + 6);
+    restore_pair::<VECTORS>(last, taps, shift, eight, buffer, i + 8)
+}
+
+// Restores the residual samples from the pair `first` on.
+#[inline(always)]
+fn restore_rest<const VECTORS: usize>(
+    last: NewestFive,
+    taps: Taps,
+    shift: u32,
+    state: PredictorState<PendingSums<i64x4>>,
+    buffer: &mut [i32],
+    first: usize,
+)
+    requires shift { shift ≤ 15 }
+    requires taps { SmallTaps taps }
+    requires some { 3 ≤ VECTORS }
+    requires sums { SumsFit64 state.sums }
+    requires first { 2 * first ≤ length buffer.old }
+    ensures { RestoresAllSamples VECTORS last taps shift buffer.old (2 * first) state buffer.new }
+{
+    let mut current = state;
+    for pair in first..buffer.len() / 2 {
+        current = restore_pair::<VECTORS>(last, taps, shift, current, buffer, 2 * pair);
+    }
+    // With an odd length one sample is left.
+    if buffer.len() % 2 == 1 {
+        let i = buffer.len() - 1;
+        let newest = current
+            .newest
+            .followed_by_two(last, current.sums.at_0, buffer[i], 0, shift);
+        buffer[i] = low_bits(newest.second);
+    }
+}
+
 // The samples after the first 4 * VECTORS + 4, as in `low_order::predict_12_taps`. Where `VECTORS` is less than 7 the oldest
 // coefficients are zeros.
 #[inline(never)]
@@ -225,22 +313,15 @@ fn predict_32_taps<const VECTORS: usize>(padded: &[i64; 32], shift: u32, buffer:
         newest: padded[31],
     };
     let taps = taps_of(padded);
-    let mut sums = first_sums::<VECTORS>(taps, &buffer[..4 * VECTORS + 4]);
-    let mut newest = NewestFive::of(&buffer[4 * VECTORS - 1..4 * VECTORS + 4]);
-    for pair in 2 * VECTORS + 2..buffer.len() / 2 {
-        let i = 2 * pair;
-        newest = newest.followed_by_two(last, sums.at_0, buffer[i], buffer[i + 1], shift);
-        buffer[i] = low_bits(newest.second);
-        buffer[i + 1] = low_bits(newest.newest);
-        sums = advance_sums::<VECTORS>(sums, taps, newest.second, newest.newest);
+    let mut state = PredictorState {
+        newest: NewestFive::of(&buffer[4 * VECTORS - 1..4 * VECTORS + 4]),
+        sums: first_sums::<VECTORS>(taps, &buffer[..4 * VECTORS + 4]),
+    };
+    let tens = (buffer.len() - (4 * VECTORS + 4)) / 10;
+    for ten in 0..tens {
+        let i = 4 * VECTORS + 4 + 10 * ten;
+        state = restore_ten::<VECTORS>(last, taps, shift, state, buffer, i);
     }
-    // With an odd length one sample is left.
-    if buffer.len() % 2 == 1 {
-        let i = buffer.len() - 1;
-        buffer[i] = low_bits(
-            newest
-                .followed_by_two(last, sums.at_0, buffer[i], 0, shift)
-                .second,
-        );
-    }
+    let first = 2 * VECTORS + 2 + 5 * tens;
+    restore_rest::<VECTORS>(last, taps, shift, state, buffer, first);
 }

@@ -1,14 +1,14 @@
 //! Linear predictors over samples of 16 bits. One instruction multiplies two samples by their coefficients in each of four
 //! lanes, and adds the two products. The lanes have 32 bits: where the magnitudes of the coefficients add up to less than 2^16,
 //! the pending sums of samples of 16 bits fit.
-ghost use Rattle.std.specs.Prelude.{◌≡◌, ◌+◌, ◌*◌, ◌-◌, ◌^◌, ◌<◌, ◌≤◌, ◌↔◌, ◌++◌, IsTrue, true, false, length, take, drop, reverse, replicate, pos, FitsSigned};
+ghost use Rattle.std.specs.Prelude.{◌≡◌, ◌+◌, ◌*◌, ◌-◌, ◌^◌, ◌<◌, ◌≤◌, ◌↔◌, ◌++◌, IfErr, IfOk, IsTrue, true, false, length, take, drop, reverse, replicate, pos, FitsSigned};
 ghost use Rattle.std.specs.Int.{w16};
 ghost use Rattle.claxon_subframe.specs.Predictor.{FrontIsRestored};
 ghost use Rattle.claxon_subframe.specs.Lanes.{LanesFit64};
-ghost use Rattle.claxon_subframe.specs.PendingSums.{ArePendingSumsBeforeAll};
-ghost use Rattle.claxon_subframe.specs.Pairs.{Fit16, ArePairTaps, ArePairSumsAfter, ArePairSumsAfterTwo, LanesFit16, LanesFit32, SmallPairTaps, SumsFit32, advanced_by_pair, magnitude, pair_of, plus_pairs};
+ghost use Rattle.claxon_subframe.specs.PendingSums.{AreNewest, ArePendingSumsBeforeAll};
+ghost use Rattle.claxon_subframe.specs.Pairs.{Fit16, ArePairTaps, ArePairSumsAfter, ArePairSumsAfterTwo, LanesFit16, LanesFit32, SmallPairTaps, SumsFit32, advanced_by_pair, magnitude, pair_of, plus_pairs, RestoresPairs, RestoresFront};
 
-use super::lanes::{LaterLanes, NewestFive, PendingSums};
+use super::lanes::{LaterLanes, NewestFive, PendingSums, PredictorState};
 use super::{low_bits, predict_plain};
 use std::simd::prelude::*;
 
@@ -129,6 +129,20 @@ fn pair_taps_of(padded: &[i16; 32]) -> LaterLanes<i16x8>
         at_20: i16x8::from_array([p[7], p[8], p[8], p[9], p[9], p[10], p[10], p[11]]),
         at_24: i16x8::from_array([p[3], p[4], p[4], p[5], p[5], p[6], p[6], p[7]]),
         at_28: i16x8::from_array([0, p[0], p[0], p[1], p[1], p[2], p[2], p[3]]),
+    }
+}
+
+// The coefficients of the newest five samples.
+#[inline(always)]
+fn newest_coefficients(padded: &[i16; 32]) -> NewestFive
+    ensures { AreNewest (reverse padded.now) result }
+{
+    NewestFive {
+        fifth: i64::from(padded[27]),
+        fourth: i64::from(padded[28]),
+        third: i64::from(padded[29]),
+        second: i64::from(padded[30]),
+        newest: i64::from(padded[31]),
     }
 }
 
@@ -265,6 +279,101 @@ fn widened(lanes: i32x4) -> i64x4
     lanes.cast::<i64>()
 }
 
+// Restores the residual samples at `i` and after it. Where one of the samples doesn't fit 16 bits, nothing is stored, and the
+// Err is `i`.
+#[inline(always)]
+fn restore_pair<const VECTORS: usize>(
+    last: NewestFive,
+    taps: LaterLanes<i16x8>,
+    shift: u32,
+    state: PredictorState<PendingSums<i32x4>>,
+    buffer: &mut [i32],
+    i: usize,
+) -> Result<PredictorState<PendingSums<i32x4>>, usize>
+    requires shift { shift ≤ 15 }
+    requires taps { SmallPairTaps taps }
+    requires some { 2 ≤ VECTORS }
+    requires sums { SumsFit32 state.sums }
+    requires room { i + 2 ≤ length buffer.old }
+    ensures kept { length buffer.new ≡ length buffer.old }
+    ensures restored { RestoresPairs VECTORS last taps shift buffer.old i state
+        buffer.new (i + 2) result }
+    ensures fits { IfOk result (λ next. SumsFit32 next.sums) }
+    ensures place { IfErr result (λ place. place ≡ i) }
+{
+    let pending = widened(state.sums.at_0);
+    let newest = state
+        .newest
+        .followed_by_two(last, pending, buffer[i], buffer[i + 1], shift);
+    if !both_fit_16_bits(newest.second, newest.newest) {
+        return Err(i);
+    }
+    buffer[i] = low_bits(newest.second);
+    buffer[i + 1] = low_bits(newest.newest);
+    let sums = advance_sums::<VECTORS>(state.sums, taps, newest.second, newest.newest);
+    Ok(PredictorState { newest, sums })
+}
+
+// Restores ten residual samples from `i` on, as in `low_order::restore_ten`, while they fit 16 bits. An Err is the place of the
+// first pair that doesn't.
+#[inline(always)]
+fn restore_ten<const VECTORS: usize>(
+    last: NewestFive,
+    taps: LaterLanes<i16x8>,
+    shift: u32,
+    state: PredictorState<PendingSums<i32x4>>,
+    buffer: &mut [i32],
+    i: usize,
+) -> Result<PredictorState<PendingSums<i32x4>>, usize>
+    requires shift { shift ≤ 15 }
+    requires taps { SmallPairTaps taps }
+    requires some { 2 ≤ VECTORS }
+    requires sums { SumsFit32 state.sums }
+    requires room { i + 10 ≤ length buffer.old }
+    ensures kept { length buffer.new ≡ length buffer.old }
+    ensures restored { RestoresPairs VECTORS last taps shift buffer.old i state
+        buffer.new (i + 10) result }
+    ensures fits { IfOk result (λ next. SumsFit32 next.sums) }
+    ensures place { IfErr result (λ place. (i ≤ place) × (place ≤ i + 8)) }
+{
+    let two = restore_pair::<VECTORS>(last, taps, shift, state, buffer, i)?;
+    let four = restore_pair::<VECTORS>(last, taps, shift, two, buffer, i + 2)?;
+    let six = restore_pair::<VECTORS>(last, taps, shift, four, buffer, i + 4)?;
+    let eight = restore_pair::<VECTORS>(last, taps, shift, six, buffer, i + 6)?;
+    restore_pair::<VECTORS>(last, taps, shift, eight, buffer, i + 8)
+}
+
+// Restores the residual samples from the pair `first` on, while they fit 16 bits. Returns how many samples stand at the front
+// then.
+#[inline(always)]
+fn restore_rest<const VECTORS: usize>(
+    last: NewestFive,
+    taps: LaterLanes<i16x8>,
+    shift: u32,
+    state: PredictorState<PendingSums<i32x4>>,
+    buffer: &mut [i32],
+    first: usize,
+) -> usize
+    requires shift { shift ≤ 15 }
+    requires taps { SmallPairTaps taps }
+    requires some { 2 ≤ VECTORS }
+    requires sums { SumsFit32 state.sums }
+    requires first { 2 * first ≤ length buffer.old }
+    ensures least { 2 * first ≤ result }
+    ensures few { result ≤ length buffer.new }
+    ensures restored { RestoresFront VECTORS last taps shift buffer.old (2 * first) state
+        buffer.new result }
+{
+    let mut current = state;
+    for pair in first..buffer.len() / 2 {
+        match restore_pair::<VECTORS>(last, taps, shift, current, buffer, 2 * pair) {
+            Ok(next) => current = next,
+            Err(place) => return place,
+        }
+    }
+    buffer.len() - buffer.len() % 2
+}
+
 // The samples after the first 4 * VECTORS + 4, while they fit 16 bits. Returns how many stand at the front then.
 #[inline(never)]
 fn predict_pairs<const VECTORS: usize>(padded: &[i16; 32], shift: u32, buffer: &mut [i32]) -> usize
@@ -280,27 +389,20 @@ fn predict_pairs<const VECTORS: usize>(padded: &[i16; 32], shift: u32, buffer: &
     ensures restored { FrontIsRestored padded.now shift (4 * VECTORS + 4)
         buffer.old result buffer.new }
 {
-    let last = NewestFive {
-        fifth: i64::from(padded[27]),
-        fourth: i64::from(padded[28]),
-        third: i64::from(padded[29]),
-        second: i64::from(padded[30]),
-        newest: i64::from(padded[31]),
-    };
+    let last = newest_coefficients(padded);
     let taps = pair_taps_of(padded);
-    let mut sums = first_sums::<VECTORS>(taps, &buffer[..4 * VECTORS + 4]);
-    let mut newest = NewestFive::of(&buffer[4 * VECTORS - 1..4 * VECTORS + 4]);
-    for pair in 2 * VECTORS + 2..buffer.len() / 2 {
-        let i = 2 * pair;
-        let pending = widened(sums.at_0);
-        let next = newest.followed_by_two(last, pending, buffer[i], buffer[i + 1], shift);
-        if !both_fit_16_bits(next.second, next.newest) {
-            return i;
+    let mut state = PredictorState {
+        newest: NewestFive::of(&buffer[4 * VECTORS - 1..4 * VECTORS + 4]),
+        sums: first_sums::<VECTORS>(taps, &buffer[..4 * VECTORS + 4]),
+    };
+    let tens = (buffer.len() - (4 * VECTORS + 4)) / 10;
+    for ten in 0..tens {
+        let i = 4 * VECTORS + 4 + 10 * ten;
+        match restore_ten::<VECTORS>(last, taps, shift, state, buffer, i) {
+            Ok(next) => state = next,
+            Err(place) => return place,
         }
-        buffer[i] = low_bits(next.second);
-        buffer[i + 1] = low_bits(next.newest);
-        sums = advance_sums::<VECTORS>(sums, taps, next.second, next.newest);
-        newest = next;
     }
-    buffer.len() - buffer.len() % 2
+    let first = 2 * VECTORS + 2 + 5 * tens;
+    restore_rest::<VECTORS>(last, taps, shift, state, buffer, first)
 }

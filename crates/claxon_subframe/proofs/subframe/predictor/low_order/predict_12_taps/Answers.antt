@@ -4,7 +4,7 @@ use Rattle.claxon_format.specs.Predict.{linear}
 use Rattle.claxon_subframe.specs.TwelveLanes.{numbers, AreTwelvePending}
 use Rattle.claxon_subframe.proofs.Predictors.{restored_all}
 use Rattle.claxon_subframe.proofs.PendingSums.{fit_vectors}
-use Rattle.claxon_subframe.proofs.PredictorState.{none_restored, then_restored}
+use Rattle.claxon_subframe.proofs.PredictorState.{none_restored, place_is, then_restored}
 use Rattle.claxon_subframe.proofs.RestoreLoopByTwo.{newest_after, past_split}
 use Rattle.claxon_subframe.proofs.TwelveLanes.{twelve_fit_64, twelve_enough, twelve_last, twelve_long}
 use Rattle.claxon_subframe.proofs.subframe.predictor.low_order.predict_12_taps.Goals as goal
@@ -54,5 +54,5 @@ returns g c =
     let fit = fit_vectors (numbers c.args.coefficients.now) 12 g.row.VECTORS (8 - 4 * g.row.VECTORS) (twelve_long c.args.coefficients.now c.requires.small) (omega arith) c.requires.zeros in
     let tens : ℕ = (length c.args.buffer.now - 12) / 10 in
     let so_far = c.loop-ten.invariant.restored in
-    let at = then_restored (2 * (6 + 5 * tens)) so_far (none_restored so_far.stands) (omega arith) in
+    let at = place_is (2 * (6 + 5 * tens)) so_far (omega arith) in
     c.restore_rest.ensures ks c.taps_of_twelve-taps.ensures.value (twelve_last c.args.coefficients.now c.requires.small) fit at.stands ∙ at.same

@@ -1,15 +1,12 @@
-use Rattle.std.proofs.Common.{◌≡◌, ◌+◌, ◌*◌, length, take, reverse}
-use Rattle.claxon_format.specs.read.Predict.{restored}
+use Rattle.std.proofs.Common.{◌≡◌, ◌+◌, ◌*◌, length, reverse}
 use Rattle.claxon_format.specs.Predict.{linear}
-use Rattle.claxon_subframe.specs.PendingSums.{ArePendingSums, AreNewest}
-use Rattle.claxon_subframe.specs.Pairs.{Fit16}
+use Rattle.claxon_subframe.specs.PredictorState.{AreRestored}
+use Rattle.claxon_subframe.specs.Pairs.{ArePendingSums16, SumsFit32}
 use Rattle.claxon_subframe.proofs.subframe.predictor.pairs.predict_pairs.Given as goal
 
-abbrev pub invariant-loop-pair : goal.invariant-loop-pair
-invariant-loop-pair g l = record {
+abbrev pub invariant-loop-ten : goal.invariant-loop-ten
+invariant-loop-ten g l = record {
   kept : length l.buffer ≡ length l.fn.buffer;
-  same : restored (linear (reverse l.padded) l.shift) (2 * l.pair) l.buffer ≡ restored (linear (reverse l.padded) l.shift) (4 * g.row.VECTORS + 4) l.fn.buffer;
-  past : AreNewest (reverse (take (2 * l.pair) l.buffer)) l.newest;
-  small : Fit16 (reverse (take (2 * l.pair) l.buffer));
-  sums : ArePendingSums (reverse l.padded) (reverse (take (2 * l.pair) l.buffer)) l.sums;
+  fits : SumsFit32 l.state.sums;
+  restored : AreRestored (ArePendingSums16 (reverse l.padded)) (linear (reverse l.padded) l.shift) l.fn.buffer (4 * g.row.VECTORS + 4) l.buffer (4 * g.row.VECTORS + 4 + 10 * l.ten) l.state;
 }
