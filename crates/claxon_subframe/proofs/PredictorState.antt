@@ -15,19 +15,45 @@ none_restored h = record { kept = refl; same = refl; stands = h }
 
 -- to place j, which is the place m
 pub place_is : {S : Type 0} {Pending : List ℤ → S → Type 0} {p : List ℤ → ℤ} {xs ys : List ℤ} {i j : ℕ} {s : PredictorState S} (m : ℕ) → AreRestored Pending p xs i ys j s → j ≡ m → AreRestored Pending p xs i ys m s
-place_is {S} {Pending} {p} {xs} {ys} {i} {j} {s} m h e = subst (λ (l : ℕ). AreRestored Pending p xs i ys l s) e h
+place_is {S} {Pending} {p} {xs} {ys} {i} {j} {s} m h e = subst (λ (n : ℕ). AreRestored Pending p xs i ys n s) e h
 
--- first to place j, and then to place k, which is the place m
-pub then_restored : {S : Type 0} {Pending : List ℤ → S → Type 0} {p : List ℤ → ℤ} {xs ys zs : List ℤ} {i j k : ℕ} {s n : PredictorState S} (m : ℕ)
-    → AreRestored Pending p xs i ys j s → AreRestored Pending p ys j zs k n → k ≡ m → AreRestored Pending p xs i zs m n
-then_restored m first second e =
-    place_is m (record { kept = second.kept ∙ first.kept; same = second.same ∙ first.same; stands = second.stands }) e
+-- first to place j, and from there, which is the place l, to place k
+pub then_restored : {S : Type 0} {Pending : List ℤ → S → Type 0} {p : List ℤ → ℤ} {xs ys zs : List ℤ} {i j k l : ℕ} {s n : PredictorState S}
+    → AreRestored Pending p xs i ys j s → (StandsAt Pending ys l s → AreRestored Pending p ys l zs k n) → j ≡ l → AreRestored Pending p xs i zs k n
+then_restored {S} {Pending} {p} {xs} {ys} {zs} {i} {j} {k} {l} first second e =
+    let at = place_is l first e in
+    let next = second at.stands in
+    record { kept = next.kept ∙ at.kept; same = next.same ∙ at.same; stands = next.stands }
 
--- the same where the second may stop
-pub then_restored_or_stop : {S : Type 0} {Pending : List ℤ → S → Type 0} {p : List ℤ → ℤ} {xs ys zs : List ℤ} {i j k : ℕ} {s : PredictorState S} (m : ℕ) (r : Result (PredictorState S) ℕ)
-    → AreRestored Pending p xs i ys j s → AreRestoredOrStop Pending p ys j zs k r → k ≡ m → AreRestoredOrStop Pending p xs i zs m r
-then_restored_or_stop m (Ok n) first second e = record { ok = then_restored m first second.ok e; err = tt }
-then_restored_or_stop m (Err place) first second e = record { ok = tt; err = second.err ∙ first.same }
+-- the same with all that is left
+pub then_all_restored : {S : Type 0} {Pending : List ℤ → S → Type 0} {p : List ℤ → ℤ} {xs ys zs : List ℤ} {i j l : ℕ} {s : PredictorState S}
+    → AreRestored Pending p xs i ys j s → (StandsAt Pending ys l s → zs ≡ restored p l ys) → j ≡ l → zs ≡ restored p i xs
+then_all_restored {S} {Pending} {p} {xs} {ys} {zs} {i} {j} {l} first second e =
+    let at = place_is l first e in
+    second at.stands ∙ at.same
+
+-- the same with those up to place k
+pub then_front_restored : {S : Type 0} {Pending : List ℤ → S → Type 0} {p : List ℤ → ℤ} {xs ys : List ℤ} {i j l : ℕ} {s : PredictorState S} (zs : List ℤ) (k : ℕ)
+    → AreRestored Pending p xs i ys j s → (StandsAt Pending ys l s → restored p k zs ≡ restored p l ys) → j ≡ l → restored p k zs ≡ restored p i xs
+then_front_restored {S} {Pending} {p} {xs} {ys} {i} {j} {l} zs k first second e =
+    let at = place_is l first e in
+    second at.stands ∙ at.same
+
+-- the same where it went on from there, or stopped at place e, or either
+pub then_ok : {S : Type 0} {Pending : List ℤ → S → Type 0} {p : List ℤ → ℤ} {xs ys zs : List ℤ} {i j k l : ℕ} {s n : PredictorState S}
+    → AreRestored Pending p xs i ys j s → (StandsAt Pending ys l s → AreRestoredOrStop Pending p ys l zs k (Ok n)) → j ≡ l → AreRestored Pending p xs i zs k n
+then_ok {S} {Pending} {p} {xs} {ys} {zs} {i} {j} {k} {l} {s} first second e = then_restored first (λ (h : StandsAt Pending ys l s). (second h).ok) e
+
+pub then_err : {S : Type 0} {Pending : List ℤ → S → Type 0} {p : List ℤ → ℤ} {xs ys zs : List ℤ} {i j k l e : ℕ} {s : PredictorState S}
+    → AreRestored Pending p xs i ys j s → (StandsAt Pending ys l s → AreRestoredOrStop Pending p ys l zs k (Err e)) → j ≡ l → restored p e zs ≡ restored p i xs
+then_err {S} {Pending} {p} {xs} {ys} {zs} {i} {j} {k} {l} first second same_place =
+    let at = place_is l first same_place in
+    (second at.stands).err ∙ at.same
+
+pub then_either : {S : Type 0} {Pending : List ℤ → S → Type 0} {p : List ℤ → ℤ} {xs ys zs : List ℤ} {i j k l : ℕ} {s : PredictorState S} (m : ℕ) (r : Result (PredictorState S) ℕ)
+    → AreRestored Pending p xs i ys j s → (StandsAt Pending ys l s → AreRestoredOrStop Pending p ys l zs k r) → j ≡ l → k ≡ m → AreRestoredOrStop Pending p xs i zs m r
+then_either m (Ok n) first second e to = record { ok = place_is m (then_ok first second e) to; err = tt }
+then_either m (Err place) first second e to = record { ok = tt; err = then_err first second e }
 
 -- it stopped at place e
 pub stopped : {S : Type 0} {Pending : List ℤ → S → Type 0} {p : List ℤ → ℤ} {xs zs : List ℤ} {i j : ℕ} (r : Result (PredictorState S) ℕ) (e : ℕ)
@@ -52,3 +78,7 @@ pair_restored Pending ks xs ws t i j k x y a b v w last s n ej ek lt new stands 
         sums = subst (λ (l : List ℤ). Pending l n.sums) (made_past xs i j k a b v w ej ek lt ev ew) sums;
       };
     }
+
+-- the samples before place m, which is the place n
+pub place_restored : (p : List ℤ → ℤ) (xs : List ℤ) {whole : List ℤ} (m n : ℕ) → m ≡ n → restored p n xs ≡ whole → restored p m xs ≡ whole
+place_restored p xs m n e same = ap (λ (k : ℕ). restored p k xs) e ∙ same

@@ -192,8 +192,8 @@ fn restore_pair<const VECTORS: usize>(
     PredictorState { newest, sums }
 }
 
-// Restores ten residual samples from `i` on. After five pairs each of the newest five samples stands again where it stood, so
-// that no register moves.
+// Restores ten residual samples from `i` on. A pair moves each name of `NewestFive` on by two samples, and five pairs by ten, to
+// where it was, so that the compiler moves no registers.
 #[inline(always)]
 fn restore_ten<const VECTORS: usize>(
     last: NewestFive,

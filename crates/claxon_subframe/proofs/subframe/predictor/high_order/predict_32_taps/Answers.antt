@@ -1,10 +1,10 @@
-use Rattle.std.proofs.Common.{ℕ, ◌+◌, ◌-◌, ◌*◌, ◌/◌, ◌∙◌, length, reverse, refl, sym, arith}
+use Rattle.std.proofs.Common.{◌+◌, ◌-◌, ◌*◌, reverse, refl, sym, arith}
 use Rattle.claxon_format.specs.Predict.{linear}
 use Rattle.claxon_subframe.specs.PendingSums.{ArePendingSums}
 use Rattle.claxon_subframe.specs.PredictorState.{StandsAt}
 use Rattle.claxon_subframe.proofs.Predictors.{restored_all}
 use Rattle.claxon_subframe.proofs.PendingSums.{pending_sums_fit_64, are_last, fit_vectors}
-use Rattle.claxon_subframe.proofs.PredictorState.{none_restored, place_is, then_restored}
+use Rattle.claxon_subframe.proofs.PredictorState.{none_restored, place_is, then_restored, then_all_restored}
 use Rattle.claxon_subframe.proofs.RestoreLoopByTwo.{newest_after, past_split}
 use Rattle.claxon_subframe.proofs.subframe.predictor.high_order.predict_32_taps.Goals as goal
 
@@ -30,17 +30,12 @@ loop-ten-init g c =
 pub loop-ten-preserved : goal.loop-ten-preserved
 loop-ten-preserved g c =
     let fit = fit_vectors c.args.padded.now 32 g.row.VECTORS (28 - 4 * g.row.VECTORS) c.told-padded (omega arith) c.requires.zeros in
-    let so_far = c.loop-ten.invariant.restored in
-    record {
-      kept = c.restore_ten-state.ensures.kept ∙ c.loop-ten.invariant.kept;
-      restored = then_restored (4 * g.row.VECTORS + 4 + 10 * (c.loop-ten.ten + 1)) so_far
-          (c.restore_ten-state.ensures.restored (reverse c.args.padded.now) c.taps_of-taps.ensures.value (are_last c.args.padded.now c.told-padded c.requires.small) fit so_far.stands) (omega arith);
-    }
+    let next = then_restored c.loop-ten.invariant.restored
+    (c.restore_ten-state.ensures.restored (reverse c.args.padded.now) c.taps_of-taps.ensures.value (are_last c.args.padded.now c.told-padded c.requires.small) fit) (omega arith) in
+    record { kept = next.kept; restored = place_is (4 * g.row.VECTORS + 4 + 10 * (c.loop-ten.ten + 1)) next (omega arith) }
 
 pub returns : goal.returns
 returns g c =
     let fit = fit_vectors c.args.padded.now 32 g.row.VECTORS (28 - 4 * g.row.VECTORS) c.told-padded (omega arith) c.requires.zeros in
-    let tens : ℕ = (length c.args.buffer.now - (4 * g.row.VECTORS + 4)) / 10 in
-    let so_far = c.loop-ten.invariant.restored in
-    let at = place_is (2 * (2 * g.row.VECTORS + 2 + 5 * tens)) so_far (omega arith) in
-    c.restore_rest.ensures (reverse c.args.padded.now) c.taps_of-taps.ensures.value (are_last c.args.padded.now c.told-padded c.requires.small) fit at.stands ∙ at.same
+    then_all_restored c.loop-ten.invariant.restored
+    (c.restore_rest.ensures (reverse c.args.padded.now) c.taps_of-taps.ensures.value (are_last c.args.padded.now c.told-padded c.requires.small) fit) (omega arith)

@@ -1,10 +1,10 @@
-use Rattle.std.proofs.Common.{ℕ, ◌+◌, ◌-◌, ◌*◌, ◌/◌, ◌∙◌, List, ℤ, length, take, drop, reverse, refl, sym, subst, arith}
+use Rattle.std.proofs.Common.{◌+◌, ◌-◌, ◌*◌, List, ℤ, take, drop, reverse, refl, sym, subst, arith}
 use Rattle.std.proofs.lemmas.List.{length-take, length-drop, length-reverse}
 use Rattle.claxon_format.specs.Predict.{linear}
 use Rattle.claxon_subframe.specs.TwelveLanes.{numbers, AreTwelvePending}
 use Rattle.claxon_subframe.proofs.Predictors.{restored_all}
 use Rattle.claxon_subframe.proofs.PendingSums.{fit_vectors}
-use Rattle.claxon_subframe.proofs.PredictorState.{none_restored, place_is, then_restored}
+use Rattle.claxon_subframe.proofs.PredictorState.{none_restored, place_is, then_restored, then_all_restored}
 use Rattle.claxon_subframe.proofs.RestoreLoopByTwo.{newest_after, past_split}
 use Rattle.claxon_subframe.proofs.TwelveLanes.{twelve_fit_64, twelve_enough, twelve_last, twelve_long}
 use Rattle.claxon_subframe.proofs.subframe.predictor.low_order.predict_12_taps.Goals as goal
@@ -41,18 +41,12 @@ loop-ten-init g c =
 pub loop-ten-preserved : goal.loop-ten-preserved
 loop-ten-preserved g c =
     let fit = fit_vectors (numbers c.args.coefficients.now) 12 g.row.VECTORS (8 - 4 * g.row.VECTORS) (twelve_long c.args.coefficients.now c.requires.small) (omega arith) c.requires.zeros in
-    let so_far = c.loop-ten.invariant.restored in
-    record {
-      kept = c.restore_ten-state.ensures.kept ∙ c.loop-ten.invariant.kept;
-      restored = then_restored (12 + 10 * (c.loop-ten.ten + 1)) so_far
-          (c.restore_ten-state.ensures.restored (reverse (numbers c.args.coefficients.now)) c.taps_of_twelve-taps.ensures.value (twelve_last c.args.coefficients.now c.requires.small) fit so_far.stands) (omega arith);
-    }
+    let next = then_restored c.loop-ten.invariant.restored
+    (c.restore_ten-state.ensures.restored (reverse (numbers c.args.coefficients.now)) c.taps_of_twelve-taps.ensures.value (twelve_last c.args.coefficients.now c.requires.small) fit) (omega arith) in
+    record { kept = next.kept; restored = place_is (12 + 10 * (c.loop-ten.ten + 1)) next (omega arith) }
 
 pub returns : goal.returns
 returns g c =
-    let ks = reverse (numbers c.args.coefficients.now) in
     let fit = fit_vectors (numbers c.args.coefficients.now) 12 g.row.VECTORS (8 - 4 * g.row.VECTORS) (twelve_long c.args.coefficients.now c.requires.small) (omega arith) c.requires.zeros in
-    let tens : ℕ = (length c.args.buffer.now - 12) / 10 in
-    let so_far = c.loop-ten.invariant.restored in
-    let at = place_is (2 * (6 + 5 * tens)) so_far (omega arith) in
-    c.restore_rest.ensures ks c.taps_of_twelve-taps.ensures.value (twelve_last c.args.coefficients.now c.requires.small) fit at.stands ∙ at.same
+    then_all_restored c.loop-ten.invariant.restored
+    (c.restore_rest.ensures (reverse (numbers c.args.coefficients.now)) c.taps_of_twelve-taps.ensures.value (twelve_last c.args.coefficients.now c.requires.small) fit) (omega arith)

@@ -4,7 +4,7 @@ use Rattle.claxon_format.specs.Predict.{linear}
 use Rattle.claxon_subframe.proofs.Predictors.{restored_all}
 use Rattle.claxon_subframe.proofs.Lanes.{kept_fit_64, same_fit_64}
 use Rattle.claxon_subframe.proofs.RestoreLoopByTwo.{narrowed, one_made, last_restored}
-use Rattle.claxon_subframe.proofs.PredictorState.{none_restored, then_restored}
+use Rattle.claxon_subframe.proofs.PredictorState.{none_restored, place_is, then_restored}
 use Rattle.claxon_subframe.proofs.subframe.predictor.low_order.restore_rest.Goals as goal
 
 pub followed_by_two-newest-requires-clause-pending : goal.followed_by_two-newest-requires-clause-pending
@@ -18,8 +18,7 @@ loop-pair-preserved g c = record {
   kept = c.restore_pair-current.ensures.kept ∙ c.loop-pair.invariant.kept;
   fits = c.restore_pair-current.ensures.fits;
   restored = λ ks taps last fit stands.
-      let so_far = c.loop-pair.invariant.restored ks taps last fit stands in
-      then_restored (2 * (c.loop-pair.pair + 1)) so_far (c.restore_pair-current.ensures.restored ks taps last fit so_far.stands) (omega arith);
+      place_is (2 * (c.loop-pair.pair + 1)) (then_restored (c.loop-pair.invariant.restored ks taps last fit stands) (c.restore_pair-current.ensures.restored ks taps last fit) (omega arith)) (omega arith);
 }
 
 pub returns-then-buffer-eq1 : goal.returns-then-buffer-eq1

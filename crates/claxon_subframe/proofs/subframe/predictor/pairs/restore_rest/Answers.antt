@@ -1,7 +1,6 @@
-use Rattle.std.proofs.Common.{◌≡◌, ℕ, ◌+◌, ◌-◌, ◌*◌, ◌%◌, ◌∙◌, length, refl, ap, arith}
+use Rattle.std.proofs.Common.{◌+◌, ◌*◌, ◌∙◌, refl, arith}
 use Rattle.claxon_format.specs.Predict.{linear}
-use Rattle.claxon_format.specs.read.Predict.{restored}
-use Rattle.claxon_subframe.proofs.PredictorState.{none_restored, then_restored}
+use Rattle.claxon_subframe.proofs.PredictorState.{none_restored, place_is, place_restored, then_ok, then_err}
 use Rattle.claxon_subframe.proofs.subframe.predictor.pairs.restore_rest.Goals as goal
 
 pub loop-pair-init : goal.loop-pair-init
@@ -12,17 +11,13 @@ loop-pair-preserved g c = record {
   kept = c.restore_pair.ensures.kept ∙ c.loop-pair.invariant.kept;
   fits = c.in-Ok.ensures.fits;
   restored = λ ks taps last fit magnitude stands.
-      let so_far = c.loop-pair.invariant.restored ks taps last fit magnitude stands in
-      then_restored (2 * (c.loop-pair.pair + 1)) so_far (c.in-Ok.ensures.restored ks taps last fit magnitude so_far.stands).ok (omega arith);
+      place_is (2 * (c.loop-pair.pair + 1)) (then_ok (c.loop-pair.invariant.restored ks taps last fit magnitude stands) (c.in-Ok.ensures.restored ks taps last fit magnitude) (omega arith)) (omega arith);
 }
 
 pub returns-in-Err-clause-restored : goal.returns-in-Err-clause-restored
 returns-in-Err-clause-restored g c = λ ks taps last fit magnitude stands.
-    let so_far = c.loop-pair.invariant.restored ks taps last fit magnitude stands in
-    (c.in-Err.ensures.restored ks taps last fit magnitude so_far.stands).err ∙ so_far.same
+    then_err (c.loop-pair.invariant.restored ks taps last fit magnitude stands) (c.in-Err.ensures.restored ks taps last fit magnitude) (omega arith)
 
 pub returns-clause-restored : goal.returns-clause-restored
 returns-clause-restored g c = λ ks taps last fit magnitude stands.
-    let so_far = c.loop-pair.invariant.restored ks taps last fit magnitude stands in
-    let there : length c.loop-pair.buffer - length c.loop-pair.buffer % 2 ≡ 2 * c.loop-pair.pair = omega arith in
-    ap (λ (n : ℕ). restored (linear ks c.args.shift) n c.loop-pair.buffer) there ∙ so_far.same
+    place_restored (linear ks c.args.shift) c.loop-pair.buffer _ (2 * c.loop-pair.pair) (omega arith) (c.loop-pair.invariant.restored ks taps last fit magnitude stands).same

@@ -1,5 +1,5 @@
-use Rattle.std.proofs.Common.{◌+◌, ◌∙◌, arith}
-use Rattle.claxon_subframe.proofs.PredictorState.{then_restored, then_restored_or_stop, stopped}
+use Rattle.std.proofs.Common.{◌+◌, arith}
+use Rattle.claxon_subframe.proofs.PredictorState.{stopped, then_ok, then_err, then_either}
 use Rattle.claxon_subframe.proofs.subframe.predictor.pairs.restore_ten.Goals as goal
 
 pub returns-in_err-two-clause-restored : goal.returns-in_err-two-clause-restored
@@ -9,25 +9,25 @@ returns-in_err-two-clause-restored g c = λ ks taps last fit magnitude stands.
 pub returns-in_err-four-clause-restored : goal.returns-in_err-four-clause-restored
 returns-in_err-four-clause-restored g c = λ ks taps last fit magnitude stands.
     let two = (c.in_ok-two.ensures.restored ks taps last fit magnitude stands).ok in
-    stopped c.from_residual-in_err-four.result c.in_err-four.field-0.0 c.from_residual-in_err-four.ensures.1 ((c.in_err-four.ensures.restored ks taps last fit magnitude two.stands).err ∙ two.same)
+    stopped c.from_residual-in_err-four.result c.in_err-four.field-0.0 c.from_residual-in_err-four.ensures.1 (then_err two (c.in_err-four.ensures.restored ks taps last fit magnitude) (omega arith))
 
 pub returns-in_err-six-clause-restored : goal.returns-in_err-six-clause-restored
 returns-in_err-six-clause-restored g c = λ ks taps last fit magnitude stands.
     let two = (c.in_ok-two.ensures.restored ks taps last fit magnitude stands).ok in
-    let four = then_restored (c.args.i + 4) two (c.in_ok-four.ensures.restored ks taps last fit magnitude two.stands).ok (omega arith) in
-    stopped c.from_residual-in_err-six.result c.in_err-six.field-0.0 c.from_residual-in_err-six.ensures.1 ((c.in_err-six.ensures.restored ks taps last fit magnitude four.stands).err ∙ four.same)
+    let four = then_ok two (c.in_ok-four.ensures.restored ks taps last fit magnitude) (omega arith) in
+    stopped c.from_residual-in_err-six.result c.in_err-six.field-0.0 c.from_residual-in_err-six.ensures.1 (then_err four (c.in_err-six.ensures.restored ks taps last fit magnitude) (omega arith))
 
 pub returns-in_err-eight-clause-restored : goal.returns-in_err-eight-clause-restored
 returns-in_err-eight-clause-restored g c = λ ks taps last fit magnitude stands.
     let two = (c.in_ok-two.ensures.restored ks taps last fit magnitude stands).ok in
-    let four = then_restored (c.args.i + 4) two (c.in_ok-four.ensures.restored ks taps last fit magnitude two.stands).ok (omega arith) in
-    let six = then_restored (c.args.i + 6) four (c.in_ok-six.ensures.restored ks taps last fit magnitude four.stands).ok (omega arith) in
-    stopped c.from_residual-in_err-eight.result c.in_err-eight.field-0.0 c.from_residual-in_err-eight.ensures.1 ((c.in_err-eight.ensures.restored ks taps last fit magnitude six.stands).err ∙ six.same)
+    let four = then_ok two (c.in_ok-four.ensures.restored ks taps last fit magnitude) (omega arith) in
+    let six = then_ok four (c.in_ok-six.ensures.restored ks taps last fit magnitude) (omega arith) in
+    stopped c.from_residual-in_err-eight.result c.in_err-eight.field-0.0 c.from_residual-in_err-eight.ensures.1 (then_err six (c.in_err-eight.ensures.restored ks taps last fit magnitude) (omega arith))
 
 pub returns-clause-restored : goal.returns-clause-restored
 returns-clause-restored g c = λ ks taps last fit magnitude stands.
     let two = (c.in_ok-two.ensures.restored ks taps last fit magnitude stands).ok in
-    let four = then_restored (c.args.i + 4) two (c.in_ok-four.ensures.restored ks taps last fit magnitude two.stands).ok (omega arith) in
-    let six = then_restored (c.args.i + 6) four (c.in_ok-six.ensures.restored ks taps last fit magnitude four.stands).ok (omega arith) in
-    let eight = then_restored (c.args.i + 8) six (c.in_ok-eight.ensures.restored ks taps last fit magnitude six.stands).ok (omega arith) in
-    then_restored_or_stop (c.args.i + 10) c.restore_pair-5.result eight (c.restore_pair-5.ensures.restored ks taps last fit magnitude eight.stands) (omega arith)
+    let four = then_ok two (c.in_ok-four.ensures.restored ks taps last fit magnitude) (omega arith) in
+    let six = then_ok four (c.in_ok-six.ensures.restored ks taps last fit magnitude) (omega arith) in
+    let eight = then_ok six (c.in_ok-eight.ensures.restored ks taps last fit magnitude) (omega arith) in
+    then_either (c.args.i + 10) c.restore_pair-5.result eight (c.restore_pair-5.ensures.restored ks taps last fit magnitude) (omega arith) (omega arith)
