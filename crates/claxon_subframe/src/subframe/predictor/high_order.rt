@@ -217,7 +217,7 @@ fn restore_pair<const VECTORS: usize>(
     requires taps { SmallTaps taps }
     requires some { 3 ≤ VECTORS }
     requires sums { SumsFit64 state.sums }
-    requires room { i + 2 ≤ length buffer.old }
+    requires within { i + 2 ≤ length buffer.old }
     ensures kept { length buffer.new ≡ length buffer.old }
     ensures restored { RestoresSamples VECTORS last taps shift buffer.old i state
         buffer.new (i + 2) result }
@@ -246,7 +246,7 @@ fn restore_ten<const VECTORS: usize>(
     requires taps { SmallTaps taps }
     requires some { 3 ≤ VECTORS }
     requires sums { SumsFit64 state.sums }
-    requires room { i + 10 ≤ length buffer.old }
+    requires within { i + 10 ≤ length buffer.old }
     ensures kept { length buffer.new ≡ length buffer.old }
     ensures restored { RestoresSamples VECTORS last taps shift buffer.old i state
         buffer.new (i + 10) result }

@@ -177,7 +177,7 @@ fn restore_pair<const VECTORS: usize>(
     requires taps { SmallTwelveTaps taps }
     requires some { 1 ≤ VECTORS }
     requires sums { TwelveFit64 state.sums }
-    requires room { i + 2 ≤ length buffer.old }
+    requires within { i + 2 ≤ length buffer.old }
     ensures kept { length buffer.new ≡ length buffer.old }
     ensures restored { RestoresTwelve VECTORS last taps shift buffer.old i state
         buffer.new (i + 2) result }
@@ -207,7 +207,7 @@ fn restore_ten<const VECTORS: usize>(
     requires taps { SmallTwelveTaps taps }
     requires some { 1 ≤ VECTORS }
     requires sums { TwelveFit64 state.sums }
-    requires room { i + 10 ≤ length buffer.old }
+    requires within { i + 10 ≤ length buffer.old }
     ensures kept { length buffer.new ≡ length buffer.old }
     ensures restored { RestoresTwelve VECTORS last taps shift buffer.old i state
         buffer.new (i + 10) result }

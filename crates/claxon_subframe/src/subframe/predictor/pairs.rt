@@ -294,7 +294,7 @@ fn restore_pair<const VECTORS: usize>(
     requires taps { SmallPairTaps taps }
     requires some { 2 ≤ VECTORS }
     requires sums { SumsFit32 state.sums }
-    requires room { i + 2 ≤ length buffer.old }
+    requires within { i + 2 ≤ length buffer.old }
     ensures kept { length buffer.new ≡ length buffer.old }
     ensures restored { RestoresPairs VECTORS last taps shift buffer.old i state
         buffer.new (i + 2) result }
@@ -329,7 +329,7 @@ fn restore_ten<const VECTORS: usize>(
     requires taps { SmallPairTaps taps }
     requires some { 2 ≤ VECTORS }
     requires sums { SumsFit32 state.sums }
-    requires room { i + 10 ≤ length buffer.old }
+    requires within { i + 10 ≤ length buffer.old }
     ensures kept { length buffer.new ≡ length buffer.old }
     ensures restored { RestoresPairs VECTORS last taps shift buffer.old i state
         buffer.new (i + 10) result }
