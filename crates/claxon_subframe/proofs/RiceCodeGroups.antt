@@ -1,10 +1,10 @@
 -- Rice codes decoded from 64 bits that are rotated past each code.
-use Rattle.std.proofs.Common.{bit_or, bit_xor, inl, inr, ◌≡◌, ℕ, zero, suc, ◌+◌, ◌-◌, ◌*◌, ◌/◌, ◌%◌, ◌^◌, ◌<◌, ◌≤◌, true, false, List, [], ◌∷◌, ◌++◌, length, length-take, take, drop, set, replicate, refl, sym, ap, ap₂, subst, ◌∙◌, append_assoc, arith, ℤ, take-add, to_z, w32}
+use Rattle.std.proofs.Common.{bit_or, bit_xor, inl, inr, ◌≡◌, ℕ, zero, suc, ◌+◌, ◌-◌, ◌*◌, ◌/◌, ◌%◌, ◌^◌, ◌<◌, ◌≤◌, true, false, List, [], ◌∷◌, ◌++◌, length, take, drop, set, replicate, refl, sym, ap, ap₂, subst, ◌∙◌, append_assoc, arith, ℤ, take-add, to_z, w32}
 use Rattle.std.specs.Int.{leading_zeros, rotate_left, rotate_right, w64}
 use Rattle.std.specs.Int.Count.{leading_of_zero}
-use Rattle.std.specs.Int.Bits.{or_zero_r, xor_add_and}
-use Rattle.std.proofs.lemmas.List.{take-take, drop-take, take-append-le, drop-append-le, length-drop, take-append-drop, drop-drop, take_more_set, take_all}
-use Rattle.std.proofs.lemmas.Nat.{pow_pos, shl-shr, shl_below, shr_below, shr_split, or_shifted, or_shr, or_comm, le_or_l, le_or_r, and_mask, mod-pow-add, mod-mul-add, mod_below}
+use Rattle.std.specs.Int.Bits.{or_self, xor_add_and}
+use Rattle.std.proofs.lemmas.List.{append-nil, take-take, drop-take, take-append-le, drop-append-le, length-drop, take-append-drop, drop-drop, take_more_set, take_all}
+use Rattle.std.proofs.lemmas.Nat.{pow_pos, shl-shr, shl_below, shr_below, shr_split, or_shifted, or_comm, le_or_l, le_or_r, and_mask, mod-pow-add, mod-mul-add, mod_below}
 use Rattle.std.proofs.Math.Nat.{eq-zero-or-pos, mod-eq_of_lt, mul-pos}
 use Rattle.std.proofs.Math.Seq.{drop-append-add}
 use Rattle.claxon_format.specs.Bits.{Bits, bits}
@@ -38,19 +38,6 @@ rotated_bits x n some h lt =
     ∙ subst (λ (w : ℕ). bits w (x % 2 ^ (64 - n) * 2 ^ n + x / 2 ^ (64 - n)) ≡ bits (64 - n) (x % 2 ^ (64 - n)) ++ bits n (x / 2 ^ (64 - n))) e (bits-join (x % 2 ^ (64 - n)) (x / 2 ^ (64 - n)) (64 - n) n l)
     ∙ ap₂ (λ (s t : Bits). s ++ t) (bits-low (64 - n) x ∙ sym (low_bits x n (omega arith))) (sym (top_bits x n (omega arith)))
 
--- the last k bits after a rotation by z + 1 + k
-last_bits : (x z k : ℕ) → z + 1 + k < 64 → x < 18446744073709551616 → bits k (rotate_left w64 x (z + 1 + k) % 2 ^ k) ≡ take k (drop (z + 1) (bits 64 x))
-last_bits x z k h lt =
-    let len : length (drop (z + 1 + k) (bits 64 x)) ≡ 64 - (z + 1 + k) = length-drop (z + 1 + k) (bits 64 x) ∙ ap (λ (m : ℕ). m - (z + 1 + k)) (length-bits 64 x) in
-    let e : 64 - (64 - k) ≡ k = omega arith in
-    let f : 64 - k ≡ length (drop (z + 1 + k) (bits 64 x)) + (z + 1) = omega arith in
-    bits-low k (rotate_left w64 x (z + 1 + k))
-    ∙ sym (low_bits (rotate_left w64 x (z + 1 + k)) (64 - k) (omega arith) ∙ ap (λ (j : ℕ). bits j (rotate_left w64 x (z + 1 + k))) e)
-    ∙ ap (drop (64 - k)) (rotated_bits x (z + 1 + k) (omega arith) h lt)
-    ∙ ap (λ (j : ℕ). drop j (drop (z + 1 + k) (bits 64 x) ++ take (z + 1 + k) (bits 64 x))) f
-    ∙ drop-append-add (drop (z + 1 + k) (bits 64 x)) (take (z + 1 + k) (bits 64 x)) (z + 1)
-    ∙ drop-take (z + 1) k (bits 64 x)
-
 -- rotating right by 64 - n is rotating left by n
 rotated_right : (x n back : ℕ) → 0 < n → n < 64 → back % 64 ≡ 64 - n → rotate_right w64 x back ≡ rotate_left w64 x n
 rotated_right x n back some h e =
@@ -58,6 +45,43 @@ rotated_right x n back some h e =
     let other : (64 - (64 - n)) % 64 ≡ n = omega arith in
     let rest : (64 - n) % 64 ≡ 64 - n = omega arith in
     rw (e, other, by, rest) (or_comm (x / 2 ^ (64 - n)) (x * 2 ^ n % 18446744073709551616))
+
+rotated_by_none : (x : ℕ) → x < 18446744073709551616 → rotate_left w64 x 0 ≡ x
+rotated_by_none x lt =
+    let low : x * 2 ^ 0 % 18446744073709551616 ≡ x = omega arith in
+    let high : x / 2 ^ 0 ≡ x = omega arith in
+    ap₂ bit_or low high ∙ or_self x
+
+-- rotated left, where k may be 0
+rotated_left_bits : (x k : ℕ) → k < 64 → x < 18446744073709551616 → bits 64 (rotate_left w64 x k) ≡ drop k (bits 64 x) ++ take k (bits 64 x)
+rotated_left_bits x zero h lt = ap (bits 64) (rotated_by_none x lt) ∙ sym (append-nil (bits 64 x))
+rotated_left_bits x (suc k) h lt = rotated_bits x (suc k) (omega arith) h lt
+
+-- rotated left by k, and then right by 64 - n
+rotated_twice : (x y k n m back : ℕ) → m ≡ k + n → m < 64 → 0 < n → back % 64 ≡ 64 - n → x < 18446744073709551616 → y < 18446744073709551616 → y ≡ rotate_left w64 x k
+    → bits 64 (rotate_right w64 y back) ≡ drop m (bits 64 x) ++ take m (bits 64 x)
+rotated_twice x y k n m back sum h some e lt y-lt y-is =
+    let W : Bits = bits 64 x in
+    let len : length (drop k W) ≡ 64 - k = length-drop k W ∙ ap (λ (j : ℕ). j - k) (length-bits 64 x) in
+    let le : n ≤ length (drop k W) = omega arith in
+    let once : bits 64 y ≡ drop k W ++ take k W = ap (bits 64) y-is ∙ rotated_left_bits x k (omega arith) lt in
+    ap (bits 64) (rotated_right y n back some (omega arith) e) ∙ rotated_bits y n some (omega arith) y-lt ∙ ap (λ (t : Bits). drop n t ++ take n t) once
+    ∙ ap₂ (λ (s t : Bits). s ++ t) (drop-append-le n (drop k W) (take k W) le ∙ ap (λ (t : Bits). t ++ take k W) (drop-drop n k W)) (take-append-le n (drop k W) (take k W) le)
+    ∙ append_assoc (drop (k + n) W) (take k W) (take n (drop k W)) ∙ ap (λ (t : Bits). drop (k + n) W ++ t) (sym (take-add k n W)) ∙ ap (λ (j : ℕ). drop j W ++ take j W) (sym sum)
+
+-- the last k bits of a number whose bits are those of x rotated left by z + 1 + k
+last_bits : (x r z k m : ℕ) → m ≡ z + 1 + k → m < 64 → bits 64 r ≡ drop m (bits 64 x) ++ take m (bits 64 x) → bits k (r % 2 ^ k) ≡ take k (drop (z + 1) (bits 64 x))
+last_bits x r z k m sum h is =
+    let len : length (drop m (bits 64 x)) ≡ 64 - m = length-drop m (bits 64 x) ∙ ap (λ (j : ℕ). j - m) (length-bits 64 x) in
+    let e : 64 - (64 - k) ≡ k = omega arith in
+    let f : 64 - k ≡ length (drop m (bits 64 x)) + (z + 1) = omega arith in
+    bits-low k r
+    ∙ sym (low_bits r (64 - k) (omega arith) ∙ ap (λ (j : ℕ). bits j r) e)
+    ∙ ap (drop (64 - k)) is
+    ∙ ap (λ (j : ℕ). drop j (drop m (bits 64 x) ++ take m (bits 64 x))) f
+    ∙ drop-append-add (drop m (bits 64 x)) (take m (bits 64 x)) (z + 1)
+    ∙ ap (λ (j : ℕ). drop (z + 1) (take j (bits 64 x))) sum
+    ∙ drop-take (z + 1) k (bits 64 x)
 
 -- a rotation of a number other than 0 isn't 0
 pub rotated_nonzero : (x back : ℕ) → 0 < x → x < 18446744073709551616 → 0 < rotate_right w64 x back
@@ -82,6 +106,10 @@ rotated_nonzero x back some lt =
     zero_rotation zero below = absurd (omega arith)
     zero_rotation (suc j) below = omega arith
 
+pub rotated_left_nonzero : (x k : ℕ) → k < 64 → 0 < x → x < 18446744073709551616 → 0 < rotate_left w64 x k
+rotated_left_nonzero x zero h some lt = omega (arith, some, rotated_by_none x lt)
+rotated_left_nonzero x (suc k) h some lt = rw (sym (rotated_right x (suc k) (63 - k) (omega arith) h (omega arith))) (rotated_nonzero x (63 - k) some lt)
+
 -- ---- the first Rice code
 
 mirrored : (z : ℕ) → z < 64 → bit_xor z 63 ≡ 63 - z
@@ -97,9 +125,6 @@ rotation_by z k = (bit_xor z 63 + (4294967296 - k)) % 4294967296
 pub rice_code_bits : (z k : ℕ) → z < 64 → k ≤ 30 → (64 + (4294967296 - rotation_by z k)) % 4294967296 ≡ z + 1 + k
 rice_code_bits z k lt le = rw (mirrored z lt) (omega arith)
 
-back_right : (x z k : ℕ) → z + 1 + k < 64 → rotate_right w64 x (rotation_by z k) ≡ rotate_left w64 x (z + 1 + k)
-back_right x z k lt = rotated_right x (z + 1 + k) (rotation_by z k) (omega arith) lt (rw (mirrored z (omega arith)) (omega arith))
-
 -- the first bits, with fewer than 63 leading zeros
 first_one : (x : ℕ) → x < 18446744073709551616 → leading_zeros w64 x < 63 → take (leading_zeros w64 x + 1) (bits 64 x) ≡ replicate (leading_zeros w64 x) false ++ true ∷ []
 first_one zero lt h = absurd (omega (arith, leading_of_zero 64))
@@ -112,18 +137,18 @@ split_rice_code W P z k n first h le =
     sym (take-append-drop (z + 1 + k) (take n W)) ∙ ap (λ (t : Bits). t ++ drop (z + 1 + k) (take n W)) (one ∙ ap (λ (t : Bits). t ++ take k (drop (z + 1) W)) first)
     ∙ append_assoc P (take k (drop (z + 1) W)) (drop (z + 1 + k) (take n W))
 
-pub first_is : (k x : ℕ) (v : ℤ) → k ≤ 30 → x < 18446744073709551616
-    → v ≡ to_z w32 (bit_or (leading_zeros w64 x * 2 ^ k % 4294967296) (rotate_right w64 x (rotation_by (leading_zeros w64 x) k) % 2 ^ k))
-    → IsFirstRiceCode k x v (leading_zeros w64 x + 1 + k) (rotate_right w64 x (rotation_by (leading_zeros w64 x) k))
-first_is k x v le lt v-is = record {
+pub first_is : (k x y : ℕ) (v : ℤ) → k ≤ 30 → x < 18446744073709551616 → y < 18446744073709551616 → y ≡ rotate_left w64 x k
+    → v ≡ to_z w32 (bit_or (leading_zeros w64 x * 2 ^ k % 4294967296) (rotate_right w64 y (bit_xor (leading_zeros w64 x) 63) % 2 ^ k))
+    → IsFirstRiceCode k x v (leading_zeros w64 x + 1 + k) (rotate_right w64 y (bit_xor (leading_zeros w64 x) 63))
+first_is k x y v le lt y-lt y-is v-is = record {
   code = λ n rest small h capacity.
       let z : ℕ = leading_zeros w64 x in
-      let rotated : ℕ = rotate_right w64 x (rotation_by z k) in
+      let rotated : ℕ = rotate_right w64 y (bit_xor z 63) in
       let r : ℕ = rotated % 2 ^ k in
       let P : Bits = replicate z false ++ true ∷ [] in
       let left : Bits = drop (leading_zeros w64 x + 1 + k) (take n (bits 64 x)) in
       let split : take n (bits 64 x) ++ rest ≡ P ++ (bits k r ++ (left ++ rest))
-      = ap (λ (t : Bits). t ++ rest) (split_rice_code (bits 64 x) P z k n (first_one x lt (omega arith)) h (rw (length-bits 64 x) capacity) ∙ ap (λ (t : Bits). P ++ (t ++ left)) (sym (ap (λ (t : ℕ). bits k (t % 2 ^ k)) (back_right x z k small) ∙ last_bits x z k small lt)))
+      = ap (λ (t : Bits). t ++ rest) (split_rice_code (bits 64 x) P z k n (first_one x lt (omega arith)) h (rw (length-bits 64 x) capacity) ∙ ap (λ (t : Bits). P ++ (t ++ left)) (sym (last_bits x rotated z k (z + 1 + k) refl small (past small))))
       ∙ append_assoc P (bits k r ++ left) rest ∙ ap (λ (t : Bits). P ++ t) (append_assoc (bits k r) left rest) in
       let first : unary_at (take n (bits 64 x) ++ rest) ≡ Done z (bits k r ++ (left ++ rest)) = ap unary_at split ∙ Reads-unary.again z P (bits k r ++ (left ++ rest)) (omega arith, refl) in
       let second : number_at k (bits k r ++ (left ++ rest)) ≡ Done r (left ++ rest) = (Reads-number k).again r (bits k r) (left ++ rest) (mod_below rotated (2 ^ k) (pow_pos k), refl) in
@@ -132,32 +157,29 @@ first_is k x v le lt v-is = record {
       let m : ℕ = leading_zeros w64 x + 1 + k in
       let len : length (drop m (bits 64 x)) ≡ 64 - m = length-drop m (bits 64 x) ∙ ap (λ (j : ℕ). j - m) (length-bits 64 x) in
       let f : n ≡ m + (n - m) = omega arith in
-      ap (take (n - m)) (ap (bits 64) (back_right x (leading_zeros w64 x) k small) ∙ rotated_bits x m (omega arith) small lt) ∙ take-append-le (n - m) (drop m (bits 64 x)) (take m (bits 64 x)) (omega arith)
+      ap (take (n - m)) (past small) ∙ take-append-le (n - m) (drop m (bits 64 x)) (take m (bits 64 x)) (omega arith)
       ∙ sym (ap (λ (j : ℕ). drop m (take j (bits 64 x))) f ∙ drop-take m (n - m) (bits 64 x));
 }
+  where
+    past : leading_zeros w64 x + 1 + k < 64 → bits 64 (rotate_right w64 y (bit_xor (leading_zeros w64 x) 63)) ≡ drop (leading_zeros w64 x + 1 + k) (bits 64 x) ++ take (leading_zeros w64 x + 1 + k) (bits 64 x)
+    past small =
+        let z : ℕ = leading_zeros w64 x in
+        let back : bit_xor z 63 % 64 ≡ 64 - (z + 1) = omega (arith, mirrored z (omega arith)) in
+        rotated_twice x y k (z + 1) (z + 1 + k) (bit_xor z 63) (omega arith) small (omega arith) back lt y-lt y-is
 
 -- ---- a group of codes
 
--- the first 63 of the 64 bits w
-abbrev but_last : ℕ → Bits
-but_last w = take 63 (bits 64 w)
-
--- `codes` codes of the 64 bits w were decoded to the front of xs, from `used` bits. If these are at most 56, `peeked` begins with the other bits of w but the last.
+-- `codes` codes of the 64 bits w were decoded to the front of xs, from `used` bits. If these are at most 56, `peeked` begins with the other bits of w.
 -- `peeked` isn't 0.
 pub record GroupSoFar (k w : ℕ) (xs : List ℤ) (codes used peeked : ℕ) : Type 0 where
   pub few : used ≤ 95 * codes
   pub some : 0 < peeked
-  pub so_far : used ≤ 56 → (rest : Bits) → times_at codes (encoded_code_at k) (but_last w ++ rest) ≡ Done (take codes xs) (drop used (but_last w) ++ rest)
-  pub others : used ≤ 56 → take (63 - used) (bits 64 peeked) ≡ drop used (but_last w)
+  pub so_far : used ≤ 56 → (rest : Bits) → times_at codes (encoded_code_at k) (bits 64 w ++ rest) ≡ Done (take codes xs) (drop used (bits 64 w) ++ rest)
+  pub others : used ≤ 56 → take (64 - used) (bits 64 peeked) ≡ drop used (bits 64 w)
 
-last_set : (w : ℕ) → but_last (bit_or w 1) ≡ but_last w
-last_set w =
-    let same : bit_or w 1 / 2 ^ 1 ≡ w / 2 ^ 1 = or_shr w 1 1 ∙ or_zero_r (w / 2 ^ 1) in
-    top_bits (bit_or w 1) 63 (omega arith) ∙ ap (bits 63) same ∙ sym (top_bits w 63 (omega arith))
-
-pub group_begins : (k w : ℕ) (xs : List ℤ) → GroupSoFar k w xs 0 0 (bit_or w 1)
+pub group_begins : (k w : ℕ) (xs : List ℤ) → 0 < w → GroupSoFar k w xs 0 0 w
 unfolding times_at each_at
-group_begins k w xs = record { few = omega arith; some = omega (arith, le_or_r w 1); so_far = λ _ rest. refl; others = λ _. last_set w }
+group_begins k w xs some = record { few = omega arith; some = some; so_far = λ _ rest. refl; others = λ _. take_all 64 (bits 64 w) (omega (arith, length-bits 64 w)) }
 
 pub group_next : (k w : ℕ) (xs : List ℤ) (codes used peeked : ℕ) (x : ℤ) (n_bits rotated : ℕ) → codes < length xs → GroupSoFar k w xs codes used peeked → n_bits ≤ 95 → 0 < rotated → IsFirstRiceCode k peeked x n_bits rotated
     → GroupSoFar k w (set xs codes x) (codes + 1) (used + n_bits) rotated
@@ -166,28 +188,20 @@ group_next k w xs codes used peeked x n_bits rotated lt h le some is = record {
   some = some;
   so_far = λ fits rest.
       let T = h.others (omega arith) in
-      let e : encoded_code_at k (drop used (but_last w) ++ rest) ≡ Done x (drop (used + n_bits) (but_last w) ++ rest)
-      = subst (λ (t : Bits). encoded_code_at k (t ++ rest) ≡ Done x (drop n_bits t ++ rest)) T (is.code (63 - used) rest (omega arith) (omega arith) (omega arith)) ∙ ap (λ (t : Bits). Done x (t ++ rest)) (drop-drop n_bits used (but_last w)) in
-      times_push (encoded_code_at k) codes (but_last w ++ rest) (drop used (but_last w) ++ rest) (drop (used + n_bits) (but_last w) ++ rest) (take codes xs) x (h.so_far (omega arith) rest) e
-      ∙ ap (λ (t : List ℤ). Done t (drop (used + n_bits) (but_last w) ++ rest)) (sym (take_more_set xs codes x lt));
+      let e : encoded_code_at k (drop used (bits 64 w) ++ rest) ≡ Done x (drop (used + n_bits) (bits 64 w) ++ rest)
+      = subst (λ (t : Bits). encoded_code_at k (t ++ rest) ≡ Done x (drop n_bits t ++ rest)) T (is.code (64 - used) rest (omega arith) (omega arith) (omega arith)) ∙ ap (λ (t : Bits). Done x (t ++ rest)) (drop-drop n_bits used (bits 64 w)) in
+      times_push (encoded_code_at k) codes (bits 64 w ++ rest) (drop used (bits 64 w) ++ rest) (drop (used + n_bits) (bits 64 w) ++ rest) (take codes xs) x (h.so_far (omega arith) rest) e
+      ∙ ap (λ (t : List ℤ). Done t (drop (used + n_bits) (bits 64 w) ++ rest)) (sym (take_more_set xs codes x lt));
   others = λ fits.
-      let n : 63 - (used + n_bits) ≡ 63 - used - n_bits = omega arith in
-      ap (λ (j : ℕ). take j (bits 64 rotated)) n ∙ is.others (63 - used) (omega arith) (omega arith) (omega arith) ∙ ap (drop n_bits) (h.others (omega arith)) ∙ drop-drop n_bits used (but_last w);
+      let n : 64 - (used + n_bits) ≡ 64 - used - n_bits = omega arith in
+      ap (λ (j : ℕ). take j (bits 64 rotated)) n ∙ is.others (64 - used) (omega arith) (omega arith) (omega arith) ∙ ap (drop n_bits) (h.others (omega arith)) ∙ drop-drop n_bits used (bits 64 w);
 }
-
--- the last bit is after the bits used
-after_last : (w used : ℕ) (m : Bits) → used ≤ 56 → drop used (bits 64 w) ++ m ≡ drop used (but_last w) ++ (drop 63 (bits 64 w) ++ m)
-after_last w used m le =
-    let long : used ≤ length (but_last w) = omega (arith, length-take 63 (bits 64 w), length-bits 64 w) in
-    ap (λ (t : Bits). t ++ m) (ap (drop used) (sym (take-append-drop 63 (bits 64 w))) ∙ drop-append-le used (but_last w) (drop 63 (bits 64 w)) long)
-    ∙ append_assoc (drop used (but_last w)) (drop 63 (bits 64 w)) m
 
 pub group_read : (k w : ℕ) (xs : List ℤ) (codes used peeked : ℕ) (a b c : BufferedBits) → codes ≡ length xs → used ≤ 56 → GroupSoFar k w xs codes used peeked → bits_in_buffer b ≡ bits_in_buffer a → PeeksBits w b → bits_in_buffer c ≡ drop used (bits_in_buffer b)
     → GivesBuffered a c (times_at (length xs) (encoded_code_at k)) xs
 group_read k w xs codes used peeked a b c e fits h same shows consumed rest =
     let m : Bits = shows.after in
-    let last : Bits = drop 63 (bits 64 w) in
-    let old : bits_in_buffer a ++ rest ≡ but_last w ++ (last ++ (m ++ rest)) = ap (λ (t : Bits). t ++ rest) (sym same ∙ shows.next) ∙ append_assoc (bits 64 w) m rest ∙ after_last w 0 (m ++ rest) (omega arith) in
-    let new : bits_in_buffer c ++ rest ≡ drop used (but_last w) ++ (last ++ (m ++ rest))
-    = ap (λ (t : Bits). t ++ rest) (consumed ∙ ap (drop used) shows.next ∙ drop-append-le used (bits 64 w) m (omega (arith, length-bits 64 w))) ∙ append_assoc (drop used (bits 64 w)) m rest ∙ after_last w used (m ++ rest) fits in
-    ap₂ (λ (n : ℕ) (s : Bits). times_at n (encoded_code_at k) s) (sym e) old ∙ h.so_far fits (last ++ (m ++ rest)) ∙ ap₂ (λ (t : List ℤ) (s : Bits). Done t s) (take_all codes xs (omega arith)) (sym new)
+    let old : bits_in_buffer a ++ rest ≡ bits 64 w ++ (m ++ rest) = ap (λ (t : Bits). t ++ rest) (sym same ∙ shows.next) ∙ append_assoc (bits 64 w) m rest in
+    let new : bits_in_buffer c ++ rest ≡ drop used (bits 64 w) ++ (m ++ rest)
+    = ap (λ (t : Bits). t ++ rest) (consumed ∙ ap (drop used) shows.next ∙ drop-append-le used (bits 64 w) m (omega (arith, length-bits 64 w))) ∙ append_assoc (drop used (bits 64 w)) m rest in
+    ap₂ (λ (n : ℕ) (s : Bits). times_at n (encoded_code_at k) s) (sym e) old ∙ h.so_far fits (m ++ rest) ∙ ap₂ (λ (t : List ℤ) (s : Bits). Done t s) (take_all codes xs (omega arith)) (sym new)

@@ -1,5 +1,5 @@
 -- The clauses of the calls that read the Rice codes of a partition (RFC 9639, section 9.2.7.1).
-use Rattle.std.specs.Prelude.{◌≡◌, Bool, ℕ, ◌-◌, ◌<◌, ◌≤◌, List, ◌++◌, ℤ, length, take, drop, Result}
+use Rattle.std.specs.Prelude.{◌≡◌, Bool, ℕ, ◌-◌, ◌<◌, ◌≤◌, List, ◌++◌, ℤ, take, drop, Result}
 use Rattle.std.specs.Int.{cast_signed, cast_unsigned, w32}
 use Rattle.claxon_format.specs.Bits.{Bits, bits}
 use Rattle.claxon_format.specs.read.Reading.{Reading, Done, and_then, done, times_at}

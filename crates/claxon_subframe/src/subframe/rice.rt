@@ -168,8 +168,11 @@ fn decode_group(buffered: &mut BufferedBits, parameter: u32, group: &mut [i32]) 
     let Some(first) = buffered.peek() else {
         return false;
     };
-    // The last bit is set so that the 64 bits are never zero; a code that reaches this bit isn't used.
-    let mut peeked = first | 1;
+    // There is no code without a one. The compiler counts the zeros of a number in fewer instructions where it isn't zero.
+    if first == 0 {
+        return false;
+    }
+    let mut peeked = first;
     let mut used = 0;
     for number in group.iter_mut() {
         let (code, bits, rotated) = first_rice_code(peeked, parameter);
@@ -194,12 +197,11 @@ fn first_rice_code(peeked: u64, parameter: u32) -> (i32, u32, u64)
     ensures code { IsFirstRiceCode parameter peeked result.0 result.1 result.2 }
     ensures some { 0 < result.2 }
 {
-    // The index of the first one from the low end: rotating right by it depends on fewer operations than rotating left by the
-    // number of zeros.
+    // The index of the first one from the low end. The next code waits for it and for one rotation alone: rotating left by the
+    // parameter doesn't wait for it, and rotating left by the number of zeros would take one operation more.
     let first = peeked.leading_zeros() ^ 63;
-    let back = first.wrapping_sub(parameter);
-    let bits = 64u32.wrapping_sub(back);
-    let rotated = peeked.rotate_right(back);
+    let rotated = peeked.rotate_left(parameter).rotate_right(first);
+    let bits = 64u32.wrapping_sub(first.wrapping_sub(parameter));
     let low = (rotated & ((1 << parameter) - 1)) as u32;
     let zeros = first ^ 63;
     (((zeros << parameter) | low).cast_signed(), bits, rotated)

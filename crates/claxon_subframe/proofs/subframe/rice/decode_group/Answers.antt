@@ -4,7 +4,7 @@ use Rattle.claxon_subframe.proofs.RiceCodeGroups.{group_begins, group_next, grou
 use Rattle.claxon_subframe.proofs.subframe.rice.decode_group.Goals as goal
 
 pub loop-number-init : goal.loop-number-init
-loop-number-init c = group_begins c.args.parameter c.in-Some.first c.args.group.now
+loop-number-init c = group_begins c.args.parameter c.in-Some.first c.args.group.now (omega arith)
 
 pub loop-number-preserved : goal.loop-number-preserved
 loop-number-preserved c =

@@ -1,9 +1,9 @@
-use Rattle.std.proofs.Common.{rules, arith, ap, ap₂, bit_or, to_z, w32, ◌*◌, ◌%◌, ◌^◌, ◌<◌, ◌∙◌, ℕ}
+use Rattle.std.proofs.Common.{rules, arith, ap, ap₂, bit_or, bit_xor, to_z, w32, ◌*◌, ◌%◌, ◌^◌, ◌<◌, ◌∙◌, ℕ}
 use Rattle.std.specs.Int.{leading_zeros, w64}
 use Rattle.std.proofs.lemmas.Int.{to_z-of_z}
 use Rattle.claxon_input.proofs.BitSteps.{mask}
 use Rattle.claxon_input.proofs.CacheBits.{highest}
-use Rattle.claxon_subframe.proofs.RiceCodeGroups.{rotation_by, first_is, mirrored_twice, rotated_nonzero, rice_code_bits}
+use Rattle.claxon_subframe.proofs.RiceCodeGroups.{first_is, mirrored_twice, rotated_nonzero, rotated_left_nonzero, rice_code_bits}
 use Rattle.claxon_subframe.proofs.subframe.rice.first_rice_code.Goals as goal
 
 pub returns-clause-few : goal.returns-clause-few
@@ -17,11 +17,12 @@ returns-clause-code c =
     let k = c.args.parameter in
     let z : ℕ = leading_zeros w64 c.args.peeked in
     let within : z < 64 = (highest c.args.peeked c.requires.some (omega arith)).within in
+    let left = c.rotate_left.ensures in
     let rotated = c.rotate_right-rotated.ensures in
     let low = mask c.rotate_right-rotated.result k (omega arith) ∙ ap (λ (t : ℕ). t % 2 ^ k) rotated in
     let code = c.cast_signed.ensures ∙ ap₂ (λ (q r : ℕ). to_z w32 (bit_or (q * 2 ^ k % 4294967296) r)) (mirrored_twice z within) low in
     rw (rice_code_bits z k within c.requires.parameter, rotated, to_z-of_z w32 c.cast_signed.result (search rules))
-    (first_is k c.args.peeked _ c.requires.parameter (omega arith) code)
+    (first_is k c.args.peeked c.rotate_left.result _ c.requires.parameter (omega arith) (omega arith) left code)
 
 pub returns-clause-some : goal.returns-clause-some
-returns-clause-some c = rw c.rotate_right-rotated.ensures (rotated_nonzero c.args.peeked (rotation_by (leading_zeros w64 c.args.peeked) c.args.parameter) c.requires.some (omega arith))
+returns-clause-some c = rw c.rotate_right-rotated.ensures (rotated_nonzero c.rotate_left.result (bit_xor (leading_zeros w64 c.args.peeked) 63) (rw c.rotate_left.ensures (rotated_left_nonzero c.args.peeked c.args.parameter (omega arith) c.requires.some (omega arith))) (omega arith))
