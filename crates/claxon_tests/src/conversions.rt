@@ -170,7 +170,7 @@ const ROWS: [Row; 8] = [
     Row { words: &["in", "-f", "out"], name: "out", status: 0, text: "", left: WHOLE },
     Row { words: &["in", "none/out"], name: "none/out", status: 1, text: "No such file or directory", left: WHOLE },
     Row { words: &["cut", "-f", "--", "out"], name: "cut", status: 1, text: "the file is cut: it ends inside a frame", left: FIRST_BLOCK },
-    Row { words: &["other", "out", "-f"], name: "other", status: 1, text: "the head tells 1 samples, 5 were found", left: WHOLE },
+    Row { words: &["other", "out", "-f"], name: "other", status: 1, text: "the head tells 1 sample, 5 were found", left: WHOLE },
 ];
 
 // The first bytes.
@@ -246,7 +246,7 @@ fn pipes(
 
 #[test]
 fn to_standard_output(rt: HostRuntime) -> result::Result<(), Fail> {
-    let other = "standard input: the head tells 1 samples, 5 were found\n";
+    let other = "standard input: the head tells 1 sample, 5 were found\n";
     assert!(rt; pipes(&rt, &["-", "-"], 5, 0, WHOLE, "")?);
     assert!(rt; pipes(&rt, &["-"], 0, 0, UNKNOWN, "")?);
     assert!(rt; pipes(&rt, &["--", "-", "-"], 1, 1, ANNOUNCED, other)?);

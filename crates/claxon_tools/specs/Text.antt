@@ -13,6 +13,10 @@ unfoldable pub number_text : Option ℕ → List ℕ
 number_text None = unknown_text
 number_text (Some n) = decimal n
 
+-- a number of things, in the plural unless it is 1
+unfoldable pub count_text : ℕ → List ℕ → List ℕ
+count_text n thing = decimal n ++ codes " " ++ thing ++ (if n == 1 then [] else codes "s")
+
 -- a number below 100 in two digits, and one below 1000 in three
 unfoldable pub two_digits : ℕ → List ℕ
 two_digits n = (48 + n / 10) ∷ (48 + n % 10) ∷ []

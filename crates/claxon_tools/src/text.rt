@@ -1,5 +1,5 @@
 //! Values as text.
-ghost use Rattle.claxon_tools.specs.Text.{Adds, IsText, escaped_char, escaped_text, length_text, md5_text, number_text, time_text};
+ghost use Rattle.claxon_tools.specs.Text.{Adds, IsText, count_text, escaped_char, escaped_text, length_text, md5_text, number_text, time_text};
 
 use std::alloc::{AllocError, Allocator};
 
@@ -12,6 +12,19 @@ pub fn number_text<A: Allocator>(alloc: A, number: Option<u64>) -> Result<String
         Some(number) => format!(in alloc; "{number}"),
         None => String::from_str(alloc, "unknown"),
     }
+}
+
+/// A number of things, in the plural unless it is 1.
+#[tactic(auto, unfolding(crate::specs::Text::count_text))]
+pub fn count_text<A: Allocator>(
+    alloc: A,
+    count: u64,
+    thing: &str,
+) -> Result<String<A>, AllocError>
+    ensures { IsText (count_text count thing.now) result }
+{
+    let end = if count == 1 { "" } else { "s" };
+    format!(in alloc; "{count} {thing}{end}")
 }
 
 /// The length of this number of samples per channel at this sample rate, rounded down to milliseconds, as `h:mm:ss.mmm`; or

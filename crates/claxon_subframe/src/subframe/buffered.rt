@@ -1,5 +1,5 @@
-//! Consecutive samples of one code. Those that are completely buffered are decoded from the buffered bits, where no call can fail;
-//! then these bits are skipped in one call. A sample that is only partly buffered is read by itself.
+//! Consecutive samples of one code. Those that are completely buffered are decoded from the buffered bits, where no call can
+//! fail; then these bits are skipped in one call. A sample that is only partly buffered is read by itself.
 ghost use Rattle.std.specs.Prelude.{◌≤◌, ℤ, Bool, length};
 ghost use Rattle.claxon_format.specs.Bits.{Bits};
 ghost use Rattle.claxon_format.specs.Codes.{Never};

@@ -15,8 +15,8 @@ use super::rice::{decode_buffered_codes, decode_zigzag};
 use claxon_input::error::Result;
 use claxon_input::input::{Bitstream, BufferedBits, ReadBytes};
 
-/// Reads the partitions that are completely buffered, at most `most`, each of `each` residual samples, and returns their number.
-/// Only the source can fail.
+/// Reads the partitions that are completely buffered, at most `most`, each of `each` residual samples, and returns their
+/// number. Only the source can fail.
 pub fn read_buffered_partitions<R: ReadBytes>(
     input: &mut Bitstream<R>,
     partition_type: RicePartitionType,
@@ -68,8 +68,8 @@ fn decode_buffered_partitions(
     whole
 }
 
-// The zigzag-encoded numbers of a partition of Rice codes, where it is completely buffered. Otherwise the contents of the buffer
-// are unspecified.
+// The zigzag-encoded numbers of a partition of Rice codes, where it is completely buffered. Otherwise the contents of the
+// buffer are unspecified.
 fn decode_buffered_partition(
     buffered: &mut BufferedBits,
     partition_type: RicePartitionType,

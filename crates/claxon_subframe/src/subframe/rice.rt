@@ -13,8 +13,8 @@ use claxon_input::input::{Bitstream, BufferedBits, ReadBytes};
 #[cfg(test)]
 mod tests;
 
-/// The Rice codes with this parameter: the quotient by 2^parameter in unary, as zeros and a one, then the remainder in `parameter`
-/// bits. The number is taken modulo 2^32.
+/// The Rice codes with this parameter: the quotient by 2^parameter in unary, as zeros and a one, then the remainder in
+/// `parameter` bits. The number is taken modulo 2^32.
 #[derive(Clone, Copy)]
 struct RiceCode {
     parameter: u32,
@@ -106,8 +106,8 @@ pub fn decode_zigzag(numbers: &mut [i32])
     }
 }
 
-// Decodes the Rice codes that are completely buffered to their zigzag-encoded numbers, in groups of `group` codes where these fit
-// into 64 bits, and returns how many there are.
+// Decodes the Rice codes that are completely buffered to their zigzag-encoded numbers, in groups of `group` codes where these
+// fit into 64 bits, and returns how many there are.
 #[inline(always)]
 fn decode_by_groups(
     group: usize,

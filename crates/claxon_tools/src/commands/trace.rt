@@ -5,11 +5,12 @@ use crate::answer::Answer;
 use crate::arguments::{Argument, Arguments, Notice};
 use crate::fnv::{OFFSET_BASIS, hash_on};
 use crate::program::{Part, Program, STANDARD, open_input, report, report_text};
+use crate::text::count_text;
 use claxon::frame::FrameReader;
 use claxon::input::ReadBytes;
 use claxon::metadata::StreamInfo;
 use claxon::{Block, Error, FlacReader, Result};
-use std::alloc::{Allocator, Global};
+use std::alloc::{AllocError, Allocator, Global};
 use std::io::{BufWriter, Read, Write};
 use std::result;
 use std::rt::Files;
@@ -141,13 +142,17 @@ fn status_of<E: Write>(
         Ok(Ending::Faulty) => {}
         Ok(Ending::Failed(part, error)) => report(alloc, request.name, part, &error, errors),
         Ok(Ending::Stopped) => {
-            let max_faults = request.max_faults;
-            let text = format!(in alloc; "stopped after {max_faults} faults");
+            let text = stopped_text(alloc, request.max_faults);
             report_text(alloc, request.name, Part::Frame, text, errors);
         }
         Err(error) => report(alloc, STANDARD, Part::Output, &error, errors),
     }
     1
+}
+
+fn stopped_text(alloc: Global, faults: u64) -> result::Result<String, AllocError> {
+    let counted = count_text(alloc, faults, "fault")?;
+    format!(in alloc; "stopped after {counted}")
 }
 
 // How a trace ended.

@@ -1,6 +1,7 @@
 //! The command of `claxon_verify`: whether FLAC files are right.
 use crate::arguments::Names;
 use crate::program::{Part, Program, STANDARD, error_text, line, open_input, report, shown_name};
+use crate::text::count_text;
 use crate::verify::{FirstFault, Report, verify};
 use claxon::Error;
 use claxon::input::BufferedReader;
@@ -180,8 +181,8 @@ fn head_text(alloc: Global, error: &Error) -> Result<String, AllocError> {
 fn report_text(alloc: Global, report: &Report) -> Result<String, AllocError> {
     let verdict = if report.is_right { "ok" } else { "wrong" };
     let mut text = String::from_str(alloc, verdict)?;
-    push_count(&mut text, ", ", report.found.frames, "frame")?;
-    push_count(&mut text, ", ", report.found.samples, "sample")?;
+    push_count(alloc, &mut text, ", ", report.found.frames, "frame")?;
+    push_count(alloc, &mut text, ", ", report.found.samples, "sample")?;
     push_expected(&mut text, report)?;
     push_faults(alloc, &mut text, report)?;
     Ok(text)
@@ -202,7 +203,7 @@ fn push_faults(alloc: Global, text: &mut String, report: &Report) -> Result<(), 
         return Ok(());
     };
     let faults = report.found.faults;
-    push_count(text, ", ", faults, "fault")?;
+    push_count(alloc, text, ", ", faults, "fault")?;
     if faults > 1 {
         text.push_str(", the first")?;
     }
@@ -213,12 +214,17 @@ fn push_fault(alloc: Global, text: &mut String, first: &FirstFault) -> Result<()
     let byte = first.byte;
     let what = error_text(alloc, Part::Frame, &first.error)?;
     write!(text, " at byte {byte}")?;
-    push_count(text, " after ", first.samples, "sample")?;
+    push_count(alloc, text, " after ", first.samples, "sample")?;
     write!(text, ": {what}")
 }
 
-// A number of things, in the plural unless it is 1.
-fn push_count(text: &mut String, before: &str, count: u64, thing: &str) -> Result<(), AllocError> {
-    let end = if count == 1 { "" } else { "s" };
-    write!(text, "{before}{count} {thing}{end}")
+fn push_count(
+    alloc: Global,
+    text: &mut String,
+    before: &str,
+    count: u64,
+    thing: &str,
+) -> Result<(), AllocError> {
+    let counted = count_text(alloc, count, thing)?;
+    write!(text, "{before}{counted}")
 }

@@ -6,6 +6,7 @@ ghost use Rattle.claxon_tools.specs.DataSize.{max_data_size};
 use crate::arguments::{Argument, Arguments, Notice};
 use crate::program::{Part, Program, STANDARD, open_input, report, report_frame, report_text};
 use crate::progress::Progress;
+use crate::text::count_text;
 use crate::wav::{Error, Layout, Result, WavWriter, convert, convert_to_stream};
 use claxon::FlacReader;
 use claxon::metadata::StreamInfo;
@@ -259,6 +260,13 @@ fn with_samples(samples: u32, outcome: Result<()>) -> result::Result<u32, Failur
     }
 }
 
+// That other samples were found than the streaminfo tells.
+fn samples_text(alloc: Global, known: u64, found: u32) -> result::Result<String, AllocError> {
+    let counted = count_text(alloc, known, "sample")?;
+    let were = if found == 1 { "was" } else { "were" };
+    format!(in alloc; "the head tells {counted}, {found} {were} found")
+}
+
 // Prints what went wrong, and returns the exit status.
 fn status_of<E: Write>(
     alloc: Global,
@@ -270,7 +278,7 @@ fn status_of<E: Write>(
     match outcome {
         Ok(found) => match info.samples {
             Some(known) if known != u64::from(found) => {
-                let text = format!(in alloc; "the head tells {known} samples, {found} were found");
+                let text = samples_text(alloc, known, found);
                 report_text(alloc, job.from, Part::Head, text, errors);
                 1
             }
