@@ -112,7 +112,7 @@ rotated_left_nonzero x (suc k) h some lt = rw (sym (rotated_right x (suc k) (63 
 
 -- ---- the first Rice code
 
-mirrored : (z : ℕ) → z < 64 → bit_xor z 63 ≡ 63 - z
+pub mirrored : (z : ℕ) → z < 64 → bit_xor z 63 ≡ 63 - z
 mirrored z lt = omega (arith, xor_add_and z 63, and_mask z 6)
 
 pub mirrored_twice : (z : ℕ) → z < 64 → bit_xor (bit_xor z 63) 63 ≡ z
@@ -137,13 +137,13 @@ split_rice_code W P z k n first h le =
     sym (take-append-drop (z + 1 + k) (take n W)) ∙ ap (λ (t : Bits). t ++ drop (z + 1 + k) (take n W)) (one ∙ ap (λ (t : Bits). t ++ take k (drop (z + 1) W)) first)
     ∙ append_assoc P (take k (drop (z + 1) W)) (drop (z + 1 + k) (take n W))
 
-pub first_is : (k x y : ℕ) (v : ℤ) → k ≤ 30 → x < 18446744073709551616 → y < 18446744073709551616 → y ≡ rotate_left w64 x k
-    → v ≡ to_z w32 (bit_or (leading_zeros w64 x * 2 ^ k % 4294967296) (rotate_right w64 y (bit_xor (leading_zeros w64 x) 63) % 2 ^ k))
-    → IsFirstRiceCode k x v (leading_zeros w64 x + 1 + k) (rotate_right w64 y (bit_xor (leading_zeros w64 x) 63))
-first_is k x y v le lt y-lt y-is v-is = record {
+pub first_is : (k x y back : ℕ) (v : ℤ) → k ≤ 30 → x < 18446744073709551616 → y < 18446744073709551616 → y ≡ rotate_left w64 x k → back ≡ bit_xor (leading_zeros w64 x) 63
+    → v ≡ to_z w32 (bit_or (leading_zeros w64 x * 2 ^ k % 4294967296) (rotate_right w64 y back % 2 ^ k))
+    → IsFirstRiceCode k x v (leading_zeros w64 x + 1 + k) (rotate_right w64 y back)
+first_is k x y back v le lt y-lt y-is back-is v-is = record {
   code = λ n rest small h capacity.
       let z : ℕ = leading_zeros w64 x in
-      let rotated : ℕ = rotate_right w64 y (bit_xor z 63) in
+      let rotated : ℕ = rotate_right w64 y back in
       let r : ℕ = rotated % 2 ^ k in
       let P : Bits = replicate z false ++ true ∷ [] in
       let left : Bits = drop (leading_zeros w64 x + 1 + k) (take n (bits 64 x)) in
@@ -161,11 +161,11 @@ first_is k x y v le lt y-lt y-is v-is = record {
       ∙ sym (ap (λ (j : ℕ). drop m (take j (bits 64 x))) f ∙ drop-take m (n - m) (bits 64 x));
 }
   where
-    past : leading_zeros w64 x + 1 + k < 64 → bits 64 (rotate_right w64 y (bit_xor (leading_zeros w64 x) 63)) ≡ drop (leading_zeros w64 x + 1 + k) (bits 64 x) ++ take (leading_zeros w64 x + 1 + k) (bits 64 x)
+    past : leading_zeros w64 x + 1 + k < 64 → bits 64 (rotate_right w64 y back) ≡ drop (leading_zeros w64 x + 1 + k) (bits 64 x) ++ take (leading_zeros w64 x + 1 + k) (bits 64 x)
     past small =
         let z : ℕ = leading_zeros w64 x in
-        let back : bit_xor z 63 % 64 ≡ 64 - (z + 1) = omega (arith, mirrored z (omega arith)) in
-        rotated_twice x y k (z + 1) (z + 1 + k) (bit_xor z 63) (omega arith) small (omega arith) back lt y-lt y-is
+        let e : back % 64 ≡ 64 - (z + 1) = omega (arith, back-is, mirrored z (omega arith)) in
+        rotated_twice x y k (z + 1) (z + 1 + k) back (omega arith) small (omega arith) e lt y-lt y-is
 
 -- ---- a group of codes
 

@@ -3,7 +3,7 @@ use Rattle.std.specs.Int.{leading_zeros, w64}
 use Rattle.std.proofs.lemmas.Int.{to_z-of_z}
 use Rattle.claxon_input.proofs.BitSteps.{mask}
 use Rattle.claxon_input.proofs.CacheBits.{highest}
-use Rattle.claxon_subframe.proofs.RiceCodeGroups.{first_is, mirrored_twice, rotated_nonzero, rotated_left_nonzero, rice_code_bits}
+use Rattle.claxon_subframe.proofs.RiceCodeGroups.{first_is, mirrored, mirrored_twice, rotated_nonzero, rotated_left_nonzero, rice_code_bits}
 use Rattle.claxon_subframe.proofs.subframe.rice.first_rice_code.Goals as goal
 
 pub returns-clause-few : goal.returns-clause-few
@@ -22,7 +22,7 @@ returns-clause-code c =
     let low = mask c.rotate_right-rotated.result k (omega arith) ∙ ap (λ (t : ℕ). t % 2 ^ k) rotated in
     let code = c.cast_signed.ensures ∙ ap₂ (λ (q r : ℕ). to_z w32 (bit_or (q * 2 ^ k % 4294967296) r)) (mirrored_twice z within) low in
     rw (rice_code_bits z k within c.requires.parameter, rotated, to_z-of_z w32 c.cast_signed.result (search rules))
-    (first_is k c.args.peeked c.rotate_left.result _ c.requires.parameter (omega arith) (omega arith) left code)
+    (first_is k c.args.peeked c.rotate_left.result _ _ c.requires.parameter (omega arith) (omega arith) left (omega (arith, mirrored z within)) code)
 
 pub returns-clause-some : goal.returns-clause-some
-returns-clause-some c = rw c.rotate_right-rotated.ensures (rotated_nonzero c.rotate_left.result (bit_xor (leading_zeros w64 c.args.peeked) 63) (rw c.rotate_left.ensures (rotated_left_nonzero c.args.peeked c.args.parameter (omega arith) c.requires.some (omega arith))) (omega arith))
+returns-clause-some c = rw c.rotate_right-rotated.ensures (rotated_nonzero c.rotate_left.result _ (rw c.rotate_left.ensures (rotated_left_nonzero c.args.peeked c.args.parameter (omega arith) c.requires.some (omega arith))) (omega arith))
