@@ -29,7 +29,7 @@ use Rattle.claxon.proofs.SamplesInTurn.{same_duration}
 use Rattle.claxon.proofs.Streams.{length-interleave}
 use Rattle.claxon_write.specs.WriteSamples.{flac_stream}
 use Rattle.claxon_tools.specs.Convert.{ConvertIsSound, ConvertToStreamIsSound, HoldsFile, HoldsUnknown, PutsSamples, PutsStream, ExplainsError, ExplainsErrorIfKnown, packed_blocks}
-use Rattle.claxon_tools.specs.Samples.{bytes_of_sample, packed_block, packed_samples, scaled_up, silence}
+use Rattle.claxon_tools.specs.Samples.{bytes_of_sample, packed_block, packed_samples, shifted_sample, silence}
 use Rattle.claxon_tools.specs.WaveFile.{pad, sample_size, unknown_header}
 use Rattle.claxon_tools.specs.DataSize.{max_data_size}
 use Rattle.claxon_tools.specs.Writer.{ExplainsBlockError, FinishIsSound, FinishStreamIsSound, SameHeader, SamplesFit, stream_pad}
@@ -47,7 +47,7 @@ samples_take : (valid_bits : ℕ) → 1 ≤ valid_bits → (xs : List ℤ) → 1
 unfolding bytes_of_sample
 samples_take valid_bits some [] h = absurd (omega (arith, h))
 samples_take valid_bits some (x ∷ xs) h =
-    let four = to_le_bytes w32 (scaled_up (8 * sample_size valid_bits - valid_bits) (silence (sample_size valid_bits)) x) in
+    let four = to_le_bytes w32 (shifted_sample (8 * sample_size valid_bits - valid_bits) (silence (sample_size valid_bits)) x) in
     let first = length-take (sample_size valid_bits) four in
     omega (arith, length-append (take (sample_size valid_bits) four) (packed_samples valid_bits xs), first, some)
 

@@ -11,7 +11,7 @@ use borrow.Rule.Slice.PartMut.{put_mid}
 use Rattle.claxon.specs.Streams.{interleave, samples_at}
 use Rattle.claxon.specs.Block.{duration_of}
 use Rattle.claxon.proofs.SamplesInTurn.{same_duration}
-use Rattle.claxon_tools.specs.Samples.{bytes_of_sample, scaled_up, silence}
+use Rattle.claxon_tools.specs.Samples.{bytes_of_sample, shifted_sample, silence}
 use Rattle.claxon_write.specs.SampleBytes.{interleave_range}
 use Rattle.claxon_write.proofs.Interleaving.{alone, both_of}
 use Rattle.claxon_write.proofs.SampleBytes.{range_all, range_more, range_none}
@@ -107,10 +107,10 @@ all_packed f samples i n buffer i-is len so_far =
 
 pub length-bytes_of_sample : (size valid_bits : ℕ) (x : ℤ) → size ≤ 4 → length (bytes_of_sample size valid_bits x) ≡ size
 unfolding bytes_of_sample
-length-bytes_of_sample size valid_bits x small = let all = to_le_bytes w32 (scaled_up (8 * size - valid_bits) (silence size) x) in let four : length all ≡ 4 = refl in omega (arith, length-take size all, four, small)
+length-bytes_of_sample size valid_bits x small = let all = to_le_bytes w32 (shifted_sample (8 * size - valid_bits) (silence size) x) in let four : length all ≡ 4 = refl in omega (arith, length-take size all, four, small)
 
 -- a sample's bytes, taken from four
-pub taken : (size valid_bits shift quiet : ℕ) (x : ℤ) (four bytes : List ℕ) → bytes ≡ take size four → four ≡ to_le_bytes w32 (scaled_up shift quiet x) → shift ≡ 8 * size - valid_bits → quiet ≡ silence size → bytes ≡ bytes_of_sample size valid_bits x
+pub taken : (size valid_bits shift quiet : ℕ) (x : ℤ) (four bytes : List ℕ) → bytes ≡ take size four → four ≡ to_le_bytes w32 (shifted_sample shift quiet x) → shift ≡ 8 * size - valid_bits → quiet ≡ silence size → bytes ≡ bytes_of_sample size valid_bits x
 unfolding bytes_of_sample
 taken size valid_bits shift quiet x four bytes cut is shift-is quiet-is =
-    cut ∙ ap (take size) is ∙ ap (λ (k : ℕ). take size (to_le_bytes w32 (scaled_up k quiet x))) shift-is ∙ ap (λ (k : ℕ). take size (to_le_bytes w32 (scaled_up (8 * size - valid_bits) k x))) quiet-is
+    cut ∙ ap (take size) is ∙ ap (λ (k : ℕ). take size (to_le_bytes w32 (shifted_sample k quiet x))) shift-is ∙ ap (λ (k : ℕ). take size (to_le_bytes w32 (shifted_sample (8 * size - valid_bits) k x))) quiet-is

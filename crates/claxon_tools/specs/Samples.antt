@@ -14,14 +14,14 @@ use Rattle.claxon_tools.specs.declared.wav.error.Error.TheVariants.{Claxon, Wide
 abbrev pub silence : ℕ → ℕ
 silence size = cond (size == 1) 128 0
 
--- a sample scaled up by `shift` bits, as a 32-bit number
-abbrev pub scaled_up : ℕ → ℕ → ℤ → ℕ
-scaled_up shift silence x = (cast_unsigned w32 x * 2 ^ shift % 2 ^ 32 + silence) % 2 ^ 32
+-- a sample shifted up by `shift` bits, as a 32-bit number
+abbrev pub shifted_sample : ℕ → ℕ → ℤ → ℕ
+shifted_sample shift silence x = (cast_unsigned w32 x * 2 ^ shift % 2 ^ 32 + silence) % 2 ^ 32
 
 -- A sample as `size` little-endian bytes; its valid bits are the most significant ones.
 unfoldable pub bytes_of_sample : ℕ → ℕ → ℤ → List ℕ
 bytes_of_sample size valid_bits x =
-    take size (to_le_bytes w32 (scaled_up (8 * size - valid_bits) (silence size) x))
+    take size (to_le_bytes w32 (shifted_sample (8 * size - valid_bits) (silence size) x))
 
 -- the bytes of samples, one after another
 abbrev pub packed_samples : ℕ → List ℤ → List ℕ

@@ -5,7 +5,7 @@ ghost use Rattle.std.specs.List.{flat_map};
 ghost use Rattle.claxon.specs.Bits.{FitsIn};
 ghost use Rattle.claxon.specs.Streams.{interleave, samples_at};
 ghost use Rattle.claxon.specs.Block.{duration_of};
-ghost use Rattle.claxon_tools.specs.Samples.{IsTooWide, packed_block, bytes_of_sample, scaled_up, silence};
+ghost use Rattle.claxon_tools.specs.Samples.{IsTooWide, packed_block, bytes_of_sample, shifted_sample, silence};
 ghost use Rattle.claxon_tools.specs.WaveFile.{sample_size};
 ghost use Rattle.claxon_write.specs.SampleBytes.{interleave_range};
 
@@ -135,7 +135,7 @@ fn silence(size: usize) -> u32
 
 fn scale_up(sample: i32, shift: u32, silence: u32) -> [u8; 4]
     requires { shift < 32 }
-    ensures { result ≡ to_le_bytes w32 (scaled_up shift silence sample) }
+    ensures { result ≡ to_le_bytes w32 (shifted_sample shift silence sample) }
 {
     (sample.cast_unsigned() << shift)
         .wrapping_add(silence)

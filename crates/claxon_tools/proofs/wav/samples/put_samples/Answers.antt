@@ -2,7 +2,7 @@ use Rattle.std.proofs.Common.{◌≡◌, ◌≤◌, ◌*◌, ◌-◌, ◌∙◌,
 use Rattle.std.specs.Int.{to_le_bytes}
 use mir.Val.{SFits}
 use Rattle.std.proofs.lemmas.Int.{to_z-of_z}
-use Rattle.claxon_tools.specs.Samples.{bytes_of_sample, scaled_up}
+use Rattle.claxon_tools.specs.Samples.{bytes_of_sample, shifted_sample}
 use Rattle.claxon_tools.proofs.Interleaved.{all_packed, length-bytes_of_sample, packed_more, chunk_fits, taken}
 use Rattle.claxon_tools.proofs.wav.samples.put_samples.Goals as goal
 
@@ -19,7 +19,7 @@ loop-i-preserved g c =
     let small : size ≤ 4 = omega (arith, c.requires.size, c.requires.few_bits) in
     let bytes : c.copy_from_slice.new.self ≡ bytes_of_sample size c.args.valid_bits x =
     taken size c.args.valid_bits (8 * size - c.args.valid_bits) c.silence-silence.result x c.scale_up-four.result c.copy_from_slice.new.self c.copy_from_slice.ensures.after
-    (c.scale_up-four.ensures ∙ ap (λ (z : ℤ). to_le_bytes w32 (scaled_up (8 * size - c.args.valid_bits) c.silence-silence.result z)) (to_z-of_z w32 x f)) refl c.silence-silence.ensures in
+    (c.scale_up-four.ensures ∙ ap (λ (z : ℤ). to_le_bytes w32 (shifted_sample (8 * size - c.args.valid_bits) c.silence-silence.result z)) (to_z-of_z w32 x f)) refl c.silence-silence.ensures in
     let len : length c.copy_from_slice.new.self ≡ size = ap length bytes ∙ length-bytes_of_sample size c.args.valid_bits x small in
     let here = chunk_fits i (length samples) size (length c.loop-i.buffer) c.loop-i-test.true (c.loop-i.auto.buffer ∙ c.requires.buffer) in
     packed_more (bytes_of_sample size c.args.valid_bits) samples i size _ c.loop-i.buffer c.copy_from_slice.new.self c.loop-i-test.true (omega (arith, here)) len bytes c.loop-i.invariant
