@@ -16,11 +16,7 @@ pub fn number_text<A: Allocator>(alloc: A, number: Option<u64>) -> Result<String
 
 /// A number of things, in the plural unless it is 1.
 #[tactic(auto, unfolding(crate::specs::Text::count_text))]
-pub fn count_text<A: Allocator>(
-    alloc: A,
-    count: u64,
-    thing: &str,
-) -> Result<String<A>, AllocError>
+pub fn count_text<A: Allocator>(alloc: A, count: u64, thing: &str) -> Result<String<A>, AllocError>
     ensures { IsText (count_text count thing.now) result }
 {
     let end = if count == 1 { "" } else { "s" };

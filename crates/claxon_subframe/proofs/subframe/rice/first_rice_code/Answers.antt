@@ -1,4 +1,4 @@
-use Rattle.std.proofs.Common.{rules, arith, ap, ap₂, bit_or, bit_xor, to_z, w32, ◌*◌, ◌%◌, ◌^◌, ◌<◌, ◌∙◌, ℕ}
+use Rattle.std.proofs.Common.{rules, arith, ap, ap₂, bit_or, to_z, w32, ◌*◌, ◌%◌, ◌^◌, ◌<◌, ◌∙◌, ℕ}
 use Rattle.std.specs.Int.{leading_zeros, w64}
 use Rattle.std.proofs.lemmas.Int.{to_z-of_z}
 use Rattle.claxon_input.proofs.BitSteps.{mask}
