@@ -1,9 +1,12 @@
 pub mod PartitionLengths
 pub mod EscapedPartitions
 pub mod RiceCodeShifts
-pub mod RiceCodeGroups
+pub mod Rotations
+pub mod FirstRiceCode
 pub mod BufferedFields
 pub mod SignExtension
+pub mod FirstSample
+pub mod ValueGroups
 pub mod SkippedBits
 pub mod JoinedPartitions
 pub mod PartitionLoop

@@ -82,6 +82,10 @@ extended_16 bits v z some most lt fits e =
     ∙ ap (λ (y : ℤ). shr_z y (2 ^ (16 - bits))) (k ∙ e)
     ∙ shifted 32768 16 bits v some most refl lt
 
+-- a number of as many bits
+pub number_from : {j n : ℕ} (k : ℕ) (s left : Bits) → j ≡ k → number_at j s ≡ Done n left → number_at k s ≡ Done n left
+number_from {n = n} k s left e h = subst (λ (i : ℕ). number_at i s ≡ Done n left) e h
+
 -- the sample of a call, and the remaining bits
 pub sample_from : (w n : ℕ) (v : ℤ) (s left : Bits) → number_at w s ≡ Done n left → v ≡ twos_complement w (n % 2 ^ w) → signed_at w s ≡ Done v left
 unfolding signed_at

@@ -3,6 +3,7 @@ pub mod SubframeFields
 pub mod Partitions
 pub mod Decode
 pub mod RiceCodes
+pub mod BufferedValues
 pub mod Samples
 pub mod Lanes
 pub mod Predictor

@@ -1,14 +1,14 @@
 -- The clauses of the calls that read the Rice codes of a partition (RFC 9639, section 9.2.7.1).
-use Rattle.std.specs.Prelude.{◌≡◌, Bool, ℕ, ◌-◌, ◌<◌, ◌≤◌, List, ◌++◌, ℤ, take, drop, Result}
+use Rattle.std.specs.Prelude.{Bool, ℕ, List, ℤ, Result}
 use Rattle.std.specs.Int.{cast_signed, cast_unsigned, w32}
-use Rattle.claxon_format.specs.Bits.{Bits, bits}
-use Rattle.claxon_format.specs.read.Reading.{Reading, Done, and_then, done, times_at}
+use Rattle.claxon_format.specs.Bits.{Bits}
+use Rattle.claxon_format.specs.read.Reading.{Reading, and_then, done}
 use Rattle.claxon_format.specs.read.Bits.{number_at, rice_code_at, unary_at, zigzag_decode, zigzag_encoded}
-use Rattle.claxon_input.specs.BufferedBits.{GivesBuffered}
 use Rattle.claxon_input.specs.Source.{Source}
 use Rattle.claxon_input.specs.declared.bits.Bitstream.{Bitstream}
 use Rattle.claxon_input.specs.declared.bits.buffered.BufferedBits.{BufferedBits}
 use Rattle.claxon_input.specs.declared.error.Error.{Error}
+use Rattle.claxon_subframe.specs.BufferedValues.{BufferedValuesAreRead}
 use Rattle.claxon_subframe.specs.Samples.{SamplesAreReadBy}
 
 -- The buffer now holds the residual samples of Rice codes with this parameter, as many as it is long, whose bits were consumed.
@@ -29,9 +29,4 @@ decoded x = zigzag_decode (cast_unsigned w32 x)
 -- The buffer begins with the encoded numbers of this many Rice codes, which were decoded from the buffered bits.
 abbrev pub EncodedCodesAreRead : ℕ → BufferedBits → ℕ → BufferedBits → List ℤ → Type 0
 EncodedCodesAreRead parameter old codes new buffer =
-    GivesBuffered old new (times_at codes (encoded_code_at parameter)) (take codes buffer)
-
--- The first n of the 64 bits peeked begin with the Rice code of the encoded number x, which has n_bits bits; `rotated` begins with the others of these n.
-pub record IsFirstRiceCode (parameter peeked : ℕ) (x : ℤ) (n_bits rotated : ℕ) : Type 0 where
-  pub code : (n : ℕ) (rest : Bits) → n_bits < 64 → n_bits ≤ n → n ≤ 64 → encoded_code_at parameter (take n (bits 64 peeked) ++ rest) ≡ Done x (drop n_bits (take n (bits 64 peeked)) ++ rest)
-  pub others : (n : ℕ) → n_bits < 64 → n_bits ≤ n → n ≤ 64 → take (n - n_bits) (bits 64 rotated) ≡ drop n_bits (take n (bits 64 peeked))
+    BufferedValuesAreRead (encoded_code_at parameter) old codes new buffer

@@ -1,12 +1,10 @@
 -- The clauses of the calls that read unencoded samples (RFC 9639, section 9.2.4).
-use Rattle.std.specs.Prelude.{Bool, ℕ, List, ℤ, length, take, Result}
+use Rattle.std.specs.Prelude.{Bool, ℕ, List, ℤ, length, Result}
 use Rattle.claxon_format.specs.Bits.{Bits}
 use Rattle.claxon_format.specs.read.Reading.{Reading, times_at}
 use Rattle.claxon_format.specs.read.Bits.{signed_at}
-use Rattle.claxon_input.specs.BufferedBits.{GivesBuffered}
 use Rattle.claxon_input.specs.Source.{Source}
 use Rattle.claxon_input.specs.declared.bits.Bitstream.{Bitstream}
-use Rattle.claxon_input.specs.declared.bits.buffered.BufferedBits.{BufferedBits}
 use Rattle.claxon_input.specs.declared.error.Error.{Error}
 use Rattle.claxon_subframe.specs.Buffer.{FillsBuffer}
 
@@ -19,8 +17,3 @@ SamplesAreReadBy source read old result new was is =
 abbrev pub SamplesAreRead : {R A : Type 0} {g : _} → (R → Source ℕ) → ℕ → Bitstream R g → Result A Error → Bitstream R g → List ℤ → List ℤ → Type 0
 SamplesAreRead source width old result new was is =
     SamplesAreReadBy source (signed_at width) old result new was is
-
--- The buffer begins with this many samples, which were decoded from the buffered bits.
-abbrev pub BufferedSamplesAreRead : (Bits → Reading Bool ℤ) → BufferedBits → ℕ → BufferedBits → List ℤ → Type 0
-BufferedSamplesAreRead read old samples new buffer =
-    GivesBuffered old new (times_at samples read) (take samples buffer)

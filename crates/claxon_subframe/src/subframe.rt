@@ -15,6 +15,7 @@ ghost use Rattle.claxon_subframe.specs.SubframeFields.{fixed_order, lpc_order, t
 ghost use Rattle.claxon_subframe.specs.Partitions.{lengths, total};
 
 mod buffered;
+mod groups;
 mod partitions;
 mod predictor;
 mod rice;

@@ -6,7 +6,8 @@ ghost use Rattle.claxon_format.specs.Codes.{Never};
 ghost use Rattle.claxon_format.specs.read.Reading.{Reading, Reads};
 ghost use Rattle.claxon_input.specs.State.{bits_in};
 ghost use Rattle.claxon_input.specs.Gives.{Gives};
-ghost use Rattle.claxon_subframe.specs.Samples.{SamplesAreReadBy, BufferedSamplesAreRead};
+ghost use Rattle.claxon_subframe.specs.BufferedValues.{BufferedValuesAreRead};
+ghost use Rattle.claxon_subframe.specs.Samples.{SamplesAreReadBy};
 
 use claxon_input::error::Result;
 use claxon_input::input::{Bitstream, BufferedBits, ReadBytes};
@@ -22,7 +23,7 @@ pub trait SampleCode: Copy {
     /// Decodes the samples that are completely buffered, and returns their number.
     fn decode_buffered(self, buffered: &mut BufferedBits, buffer: &mut [i32]) -> usize
         ensures few { result ≤ length buffer.new }
-        ensures samples { BufferedSamplesAreRead (sample_at self)
+        ensures samples { BufferedValuesAreRead (sample_at self)
             buffered.old result buffered.new buffer.new };
 
     /// Reads a sample.

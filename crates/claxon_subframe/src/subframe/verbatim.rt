@@ -1,10 +1,10 @@
 //! Unencoded samples: of verbatim subframes, warm-up samples and escaped partitions.
 ghost use Rattle.std.specs.Prelude.{◌<◌, ◌≤◌};
 ghost use Rattle.claxon_format.specs.read.Bits.{signed_at};
-ghost use Rattle.claxon_input.specs.BufferedBits.{GivesBufferedOrNone};
 ghost use Rattle.claxon_subframe.specs.Samples.{SamplesAreRead};
 
 use super::buffered::{SampleCode, read_samples};
+use super::groups::{GroupCode, decode_by_groups};
 use super::{extend_sign_u32, read_sample};
 use claxon_input::error::Result;
 use claxon_input::input::{Bitstream, BufferedBits, ReadBytes};
@@ -27,19 +27,18 @@ impl SampleCode for Verbatim {
 
     ghost reads = { λ c. Reads-signed c.bps c.some };
 
-    // Works on a copy of the buffered bits: through the reference they would be stored and loaded again at each sample, as the
-    // compiler can't exclude that it aliases the buffer.
     #[inline(never)]
     fn decode_buffered(self, buffered: &mut BufferedBits, buffer: &mut [i32]) -> usize {
+        // A copy stays in registers: the reference might alias the buffer, and would be loaded again after each sample.
         let mut next = *buffered;
-        let mut samples = 0;
-        for place in buffer.iter_mut() {
-            let Some(sample) = decode_buffered_sample(&mut next, self.bps) else {
-                break;
-            };
-            *place = sample;
-            samples += 1;
-        }
+        // The compiler makes code of its own for each of the bit depths that are frequent.
+        let samples = match self.bps {
+            16 => decode_by_groups(Verbatim { bps: 16 }, 3, &mut next, buffer),
+            24 => decode_by_groups(Verbatim { bps: 24 }, 2, &mut next, buffer),
+            1..=18 => decode_by_groups(self, 3, &mut next, buffer),
+            19..=28 => decode_by_groups(self, 2, &mut next, buffer),
+            _ => decode_by_groups(self, 1, &mut next, buffer),
+        };
         *buffered = next;
         samples
     }
@@ -47,6 +46,23 @@ impl SampleCode for Verbatim {
     #[inline(always)]
     fn read_sample<R: ReadBytes>(self, input: &mut Bitstream<R>) -> Result<i32> {
         read_sample(input, self.bps)
+    }
+}
+
+impl GroupCode for Verbatim {
+    ghost value_at = { λ c. signed_at c.bps };
+
+    #[inline(always)]
+    fn first_value(self, peeked: u64) -> (i32, u32, u64) {
+        let number = (peeked >> (64 - self.bps)) as u32;
+        let rotated = peeked.rotate_left(self.bps);
+        (extend_sign_u32(number, self.bps), self.bps, rotated)
+    }
+
+    #[inline(always)]
+    fn decode_value(self, buffered: &mut BufferedBits) -> Option<i32> {
+        let number = buffered.number(self.bps)?;
+        Some(extend_sign_u32(number, self.bps))
     }
 }
 
@@ -62,15 +78,4 @@ pub fn decode_verbatim<R: ReadBytes>(
     ensures { SamplesAreRead R.source bps input.old result input.new buffer.old buffer.new }
 {
     read_samples(input, Verbatim { bps }, buffer)
-}
-
-// A sample, or `None` where it isn't completely buffered.
-#[inline(always)]
-fn decode_buffered_sample(buffered: &mut BufferedBits, bps: u32) -> Option<i32>
-    requires some { 0 < bps }
-    requires width { bps ≤ 32 }
-    ensures { GivesBufferedOrNone (signed_at bps) buffered.old result buffered.new }
-{
-    let sample = buffered.number(bps)?;
-    Some(extend_sign_u32(sample, bps))
 }

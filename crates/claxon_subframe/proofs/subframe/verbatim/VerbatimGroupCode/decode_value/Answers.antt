@@ -1,0 +1,9 @@
+use Rattle.std.proofs.Common.{rules, arith, ◌∙◌, w32, FitsSigned}
+use Rattle.std.proofs.lemmas.Int.{to_z-of_z}
+use Rattle.claxon_subframe.proofs.SignExtension.{number_from, sample_from}
+use Rattle.claxon_subframe.proofs.subframe.verbatim.VerbatimGroupCode.decode_value.Goals as goal
+
+pub returns : goal.returns
+returns c rest =
+    let f : FitsSigned w32 c.extend_sign_u32.result = search rules in
+    sample_from c.args.self.bps c.in_ok-number.number _ _ _ (number_from c.args.self.bps _ _ (omega arith) (c.in_ok-number.ensures rest)) (to_z-of_z w32 c.extend_sign_u32.result f ∙ c.extend_sign_u32.ensures.value)
