@@ -3,7 +3,7 @@ use Rattle.std.proofs.Common.{◌≡◌, ℕ, zero, suc, Bool, true, false, ◌+
 use Rattle.std.specs.Int.{int_wrap}
 use Rattle.std.proofs.lemmas.Nat.{mul-le}
 use Rattle.std.proofs.lemmas.Int.{ints, to_z-of_z, int_wrap_fits, SFits-int_wrap, unsigned_abs-mul}
-use Rattle.std.proofs.lemmas.List.{append-nil, drop_all, drop_more, get_or_past, length-drop, length-replicate, length-reverse, reverse-append, take_more, take-replicate}
+use Rattle.std.proofs.lemmas.List.{append-nil, drop_all, drop_more, get_or_past, length-drop, length-replicate, length-reverse, reverse-append, take-replicate}
 use borrow.Rule.Slice.PartMut.{put_mid}
 use borrow.Rule.Simd.Lanes.{act1, act2}
 use borrow.Table.Row.{s_int}
@@ -12,11 +12,10 @@ use lib.Lanes.{zip2}
 use Rattle.claxon_format.specs.Predict.{dot}
 use Rattle.claxon_format.proofs.WrappingArithmetic.{Represents, represents_add, represents_mul, represents_fits}
 use Rattle.claxon_subframe.specs.Lanes.{AllFit64, LanesFit64}
-use Rattle.claxon_subframe.specs.PendingSums.{but_newest_four, but_newest_five, pending_at, four_pending, ArePendingSums, FitVectors, AreNewest}
-use Rattle.claxon_subframe.specs.Pairs.{AllFit16, Fit16, LanesFit16, AllFit32, LanesFit32, SumsFit32, magnitude, pair_of, plus_pairs, advanced_by_pair, pair_taps, ArePairTaps}
+use Rattle.claxon_subframe.specs.PendingSums.{but_newest_four, but_newest_five, pending_at, four_pending, FitVectors, AreNewest}
+use Rattle.claxon_subframe.specs.Pairs.{AllFit16, Fit16, LanesFit16, AllFit32, LanesFit32, magnitude, pair_of, plus_pairs, advanced_by_pair, pair_taps, ArePairTaps}
 use Rattle.claxon_subframe.specs.declared.subframe.predictor.lanes.NewestFive.{NewestFive}
 use Rattle.claxon_subframe.specs.declared.subframe.predictor.lanes.LaterLanes.{LaterLanes}
-use Rattle.claxon_subframe.specs.declared.subframe.predictor.lanes.PendingSums.{PendingSums}
 use Rattle.claxon_subframe.proofs.Predictors.{abs_16, abs_32, between, value_16, value_32}
 use Rattle.claxon_subframe.proofs.Lanes.{small_fits}
 use Rattle.claxon_subframe.proofs.PendingSums.{dot_one, four_tap, five_tap, four_same, four_pending_past_vectors, from_last, five_first}
@@ -210,22 +209,6 @@ four_pending_fit_32 ks past j small h =
     let five = λ (i : ℕ). pending_fits_32 (but_newest_five ks) past i (five_small ks small) h in
     record { four = refl; each = (five (j + 3), (four (j + 2), (five (j + 1), (four j, tt)))) }
 
-pub pair_sums_fit_32 : {ks past : List ℤ} {sums : PendingSums (List ℤ)} → magnitude ks < 65536 → Fit16 past → ArePendingSums ks past sums → SumsFit32 sums
-pair_sums_fit_32 {ks} {past} {sums} small h w =
-    let fits = λ (j : ℕ). four_pending_fit_32 ks past j small h in
-    record {
-      at_0 = subst LanesFit32 (sym w.at_0) (fits 0);
-      later = record {
-        at_4 = subst LanesFit32 (sym w.later.at_4) (fits 4);
-        at_8 = subst LanesFit32 (sym w.later.at_8) (fits 8);
-        at_12 = subst LanesFit32 (sym w.later.at_12) (fits 12);
-        at_16 = subst LanesFit32 (sym w.later.at_16) (fits 16);
-        at_20 = subst LanesFit32 (sym w.later.at_20) (fits 20);
-        at_24 = subst LanesFit32 (sym w.later.at_24) (fits 24);
-        at_28 = subst LanesFit32 (sym w.later.at_28) (fits 28);
-      };
-    }
-
 advanced_same : {before b zs z cs c xs x : List ℤ} → before ≡ b → zs ≡ z → cs ≡ c → xs ≡ x → advanced_by_pair before zs cs xs ≡ advanced_by_pair b z c x
 advanced_same {before} {b} {zs} {z} {cs} {c} {xs} {x} eb ez ec ex =
     ap (λ (l : List ℤ). advanced_by_pair l zs cs xs) eb ∙ ap (λ (l : List ℤ). advanced_by_pair b l cs xs) ez ∙ ap (λ (l : List ℤ). advanced_by_pair b z l xs) ec ∙ ap (λ (l : List ℤ). advanced_by_pair b z c l) ex
@@ -271,14 +254,8 @@ all_fit_at [] i h = record { sfits = omega arith }
 all_fit_at (x ∷ xs) zero h = h.0
 all_fit_at (x ∷ xs) (suc i) h = all_fit_at xs i h.1
 
-pub fit_reverse : {xs : List ℤ} → Fit16 xs → Fit16 (reverse xs)
-fit_reverse {xs} h = record { each = all_fit_reverse xs h.each }
-
 pub fit_take : {xs : List ℤ} (n : ℕ) → Fit16 xs → Fit16 (take n xs)
 fit_take {xs} n h = record { each = all_fit_take n xs h.each }
-
-pub fit_at : {xs : List ℤ} (i : ℕ) → Fit16 xs → FitsSigned w16 (get_or xs i (pos 0))
-fit_at {xs} i h = all_fit_at xs i h.each
 
 pub fit_two : {past : List ℤ} (x y : ℤ) → FitsSigned w16 x → FitsSigned w16 y → Fit16 past → Fit16 (y ∷ x ∷ past)
 fit_two {past} x y fx fy h = record { each = (fy, (fx, h.each)) }
@@ -314,9 +291,6 @@ pair_taps_value ts long fits =
       at_24 = eight_same (same 28 3 refl (f 3)) (same 27 4 refl (f 4)) (same 27 4 refl (f 4)) (same 26 5 refl (f 5)) (same 26 5 refl (f 5)) (same 25 6 refl (f 6)) (same 25 6 refl (f 6)) (same 24 7 refl (f 7));
       at_28 = eight_same past (same 31 0 refl (f 0)) (same 31 0 refl (f 0)) (same 30 1 refl (f 1)) (same 30 1 refl (f 1)) (same 29 2 refl (f 2)) (same 29 2 refl (f 2)) (same 28 3 refl (f 3));
     }
-
-pub fit_more : (xs : List ℤ) (i : ℕ) → i < length xs → FitsSigned w16 (get_or xs i (pos 0)) → Fit16 (take i xs) → Fit16 (take (i + 1) xs)
-fit_more xs i lt f h = record { each = subst AllFit16 (sym (take_more xs i (pos 0) lt)) (all_fit_append (take i xs) (get_or xs i (pos 0) ∷ []) h.each (f, tt)) }
 
 -- ---- the sum of magnitudes
 

@@ -17,11 +17,10 @@ use Rattle.claxon_subframe.proofs.PaddedCoefficients.{reverse_zeros}
 use Rattle.claxon_format.specs.Predict.{wrap, dot, floor_shift, linear}
 use Rattle.claxon_format.proofs.WrappingArithmetic.{Represents, represents_add, represents_mul, represents_fits}
 use Rattle.claxon_subframe.specs.Lanes.{AllWithin, Within, Lanes, LanesFit64, wrap_64, advanced_by_two}
-use Rattle.claxon_subframe.specs.PendingSums.{but_newest_four, but_newest_five, pending_at, four_pending, four_taps, ArePendingSums, AreTaps, SmallTaps, SmallLater, AreLaterTaps, FitVectors, SumsFit64, scaled_up, IsScaledUp, AddsProduct, plus_five, IsSample, IsButFifth, IsFollowed, five_before, AreNewest}
+use Rattle.claxon_subframe.specs.PendingSums.{but_newest_four, but_newest_five, pending_at, four_pending, four_taps, AreTaps, SmallTaps, SmallLater, AreLaterTaps, FitVectors, scaled_up, IsScaledUp, AddsProduct, plus_five, IsSample, IsButFifth, IsFollowed, five_before, AreNewest}
 use Rattle.claxon_subframe.specs.declared.subframe.predictor.lanes.NewestFive.{NewestFive}
 use Rattle.claxon_subframe.specs.declared.subframe.predictor.high_order.Taps.{Taps}
 use Rattle.claxon_subframe.specs.declared.subframe.predictor.lanes.LaterLanes.{LaterLanes}
-use Rattle.claxon_subframe.specs.declared.subframe.predictor.lanes.PendingSums.{PendingSums}
 use Rattle.claxon_subframe.proofs.Predictors.{floor_is, abs_32, shifted_fits}
 use Rattle.claxon_subframe.proofs.Lanes.{shr_more, small_fits, dot_trailing_zeros, same_lanes, same_fit_64}
 
@@ -155,20 +154,6 @@ four_pending_past_vectors ks past v j le fit =
 
 pub four_pending_fit_64 : (ks past : List ℤ) (j : ℕ) → LanesFit64 (four_pending ks past j)
 four_pending_fit_64 ks past j = record { four = refl; each = (SFits-int_wrap w64 _, (SFits-int_wrap w64 _, (SFits-int_wrap w64 _, (SFits-int_wrap w64 _, tt)))) }
-
-pub pending_sums_fit_64 : {ks past : List ℤ} {sums : PendingSums (List ℤ)} → ArePendingSums ks past sums → SumsFit64 sums
-pending_sums_fit_64 {ks} {past} {sums} w = record {
-  at_0 = subst LanesFit64 (sym w.at_0) (four_pending_fit_64 ks past 0);
-  later = record {
-    at_4 = subst LanesFit64 (sym w.later.at_4) (four_pending_fit_64 ks past 4);
-    at_8 = subst LanesFit64 (sym w.later.at_8) (four_pending_fit_64 ks past 8);
-    at_12 = subst LanesFit64 (sym w.later.at_12) (four_pending_fit_64 ks past 12);
-    at_16 = subst LanesFit64 (sym w.later.at_16) (four_pending_fit_64 ks past 16);
-    at_20 = subst LanesFit64 (sym w.later.at_20) (four_pending_fit_64 ks past 20);
-    at_24 = subst LanesFit64 (sym w.later.at_24) (four_pending_fit_64 ks past 24);
-    at_28 = subst LanesFit64 (sym w.later.at_28) (four_pending_fit_64 ks past 28);
-  };
-}
 
 abbrev as_lanes : List ℤ → List ℤ
 as_lanes xs = map (to_z w64) (map (of_z w64) xs)

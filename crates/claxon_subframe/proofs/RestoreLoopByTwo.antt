@@ -6,7 +6,7 @@ use Rattle.claxon_format.specs.Predict.{wrap, linear}
 use Rattle.claxon_format.specs.read.Predict.{restored}
 use Rattle.claxon_subframe.specs.PendingSums.{four_pending, five_before, AreNewest, IsScaledUp, IsFollowedByTwo}
 use Rattle.claxon_subframe.specs.declared.subframe.predictor.lanes.NewestFive.{NewestFive}
-use Rattle.claxon_subframe.proofs.Predictors.{restored_more, restored_all, abs_32}
+use Rattle.claxon_subframe.proofs.Predictors.{restored_more, abs_32}
 use Rattle.claxon_subframe.proofs.Lanes.{small_fits}
 
 -- one more sample
@@ -77,10 +77,9 @@ past_split xs k m n there =
     = sym (take-append-drop k (take n xs)) ∙ ap (λ (l : List ℤ). l ++ drop k (take n xs)) (take-take k n xs (omega arith)) ∙ ap (λ (l : List ℤ). take k xs ++ l) (ap (λ (i : ℕ). drop k (take i xs)) (sym there) ∙ drop-take k m xs) in
     sym (ap reverse split ∙ reverse-append (take k xs) (take m (drop k xs)))
 
--- one sample is left
-pub last_restored : (p : List ℤ → ℤ) (xs whole : List ℤ) (i m : ℕ) (x : ℤ) → m ≡ i → length xs ≡ i + 1 → x ≡ wrap (p (reverse (take i xs)) +ℤ get_or xs i (pos 0)) → restored p i xs ≡ whole → set xs m x ≡ whole
-last_restored p xs whole i m x em long ex same =
-    ap (λ (n : ℕ). set xs n x) em ∙ sym (restored_all p (set xs i x) (i + 1) (omega (arith, length-set xs i x))) ∙ restored_more p xs i x (omega arith) ex ∙ same
+-- the newest five of the first n samples, read from place k on
+pub newest_of : (xs : List ℤ) (n k m : ℕ) (s : NewestFive) → AreNewest (reverse (take m (drop k xs))) s → k + m ≡ n → AreNewest (reverse (take n xs)) s
+newest_of xs n k m s h e = newest_after (reverse (take m (drop k xs))) (reverse (take k xs)) (reverse (take n xs)) s (past_split xs k m n e) h
 
 -- ---- the sample at i and the one after it
 
@@ -99,13 +98,6 @@ two_made ks xs pending ws i j x y last s n t new past pending_is ew ex ey two =
       newest = next.newest ∙ ap (λ (l : List ℤ). wrap (linear ks t (n.second ∷ l) +ℤ y)) (sym past.is) ∙ ap (λ (v : ℤ). wrap (linear ks t (n.second ∷ reverse (take i xs)) +ℤ v)) ey;
       past = next.past;
     }
-
--- one sample
-pub one_made : (ks xs pending ws : List ℤ) (i : ℕ) (x y : ℤ) (last s n : NewestFive) (t : ℕ) → AreNewest ks last → AreNewest (reverse (take i xs)) s → pending ≡ four_pending ks (reverse (take i xs)) 0
-    → ws ≡ pending → x ≡ get_or xs i (pos 0) → IsFollowedByTwo s last ws x y t n → n.second ≡ wrap (linear ks t (reverse (take i xs)) +ℤ get_or xs i (pos 0))
-one_made ks xs pending ws i x y last s n t new past pending_is ew ex two =
-    let next = two ks past.rest new (ew ∙ pending_is ∙ ap (λ (l : List ℤ). four_pending ks l 0) past.is) in
-    next.second ∙ ap (λ (l : List ℤ). wrap (linear ks t l +ℤ x)) (sym past.is) ∙ ap (λ (v : ℤ). wrap (linear ks t (reverse (take i xs)) +ℤ v)) ex
 
 -- the buffer with both samples
 pub made_restored : (ks xs rest : List ℤ) (t i j k : ℕ) (x y : ℤ) (s n : NewestFive) → j ≡ i + 1 → k ≡ j + 1 → j < length xs → x ≡ n.second → y ≡ n.newest → TwoMade ks t xs rest i j s n → restored (linear ks t) k (set (set xs i x) j y) ≡ restored (linear ks t) i xs

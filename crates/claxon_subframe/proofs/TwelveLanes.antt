@@ -2,23 +2,16 @@
 use Rattle.std.proofs.Common.{◌≡◌, ℕ, ◌+◌, ◌*◌, ◌≤◌, List, [], ◌∷◌, ◌++◌, length, reverse, get_or, map, refl, sym, ap, subst, ◌∙◌, arith, ℤ, pos, of_z, to_z, w64, unsigned_abs}
 use Rattle.std.proofs.lemmas.Int.{to_z-of_z}
 use Rattle.std.proofs.lemmas.List.{length-append}
-use Rattle.claxon_subframe.specs.Lanes.{Within, Lanes, LanesFit64}
+use Rattle.claxon_subframe.specs.Lanes.{Within, Lanes}
 use Rattle.claxon_subframe.specs.PendingSums.{FitVectors, AreNewest}
-use Rattle.claxon_subframe.specs.TwelveLanes.{numbers, SmallTwelve, TwelveFit64, SmallTwelveTaps, AreTwelveTaps, AreTwelvePending}
+use Rattle.claxon_subframe.specs.TwelveLanes.{numbers, SmallTwelve, SmallTwelveTaps, AreTwelveTaps, AreTwelvePending}
 use Rattle.claxon_subframe.specs.declared.subframe.predictor.lanes.NewestFive.{NewestFive}
 use Rattle.claxon_subframe.specs.declared.subframe.predictor.low_order.TwelveLanes.{TwelveLanes}
 use Rattle.claxon_subframe.specs.declared.subframe.predictor.low_order.TwelveTaps.{TwelveTaps}
 use Rattle.claxon_subframe.proofs.Lanes.{small_fits, same_lanes, kept_lanes}
-use Rattle.claxon_subframe.proofs.PendingSums.{four_pending_fit_64, four_pending_enough, four_same, four_lanes, coefficient_at, coefficient_at_is, coefficient_small}
+use Rattle.claxon_subframe.proofs.PendingSums.{four_pending_enough, four_same, four_lanes, coefficient_at, coefficient_at_is, coefficient_small}
 
 -- ---- pending sums
-
-pub twelve_fit_64 : {ks past : List ℤ} {sums : TwelveLanes} → AreTwelvePending ks past sums → TwelveFit64 sums
-twelve_fit_64 {ks} {past} {sums} w = record {
-  at_8 = subst LanesFit64 (sym w.at_8) (four_pending_fit_64 ks past 8);
-  at_4 = subst LanesFit64 (sym w.at_4) (four_pending_fit_64 ks past 4);
-  at_0 = subst LanesFit64 (sym w.at_0) (four_pending_fit_64 ks past 0);
-}
 
 pub twelve_enough : (ks past rest : List ℤ) (v : ℕ) (sums : TwelveLanes) → FitVectors v ks → 4 * v + 4 ≤ length past → AreTwelvePending ks past sums → AreTwelvePending ks (past ++ rest) sums
 twelve_enough ks past rest v sums fit le w = record {

@@ -1,15 +1,10 @@
 -- Pending sums in lanes of 32 bits, for samples of 16 bits.
-use Rattle.std.specs.Prelude.{Result, ◌≡◌, ℕ, ◌+◌, ◌^◌, ◌<◌, ℤ, ◌+ℤ◌, ◌*ℤ◌, FitsSigned, List, [], ◌∷◌, ◌++◌, length, take, drop, reverse}
+use Rattle.std.specs.Prelude.{◌≡◌, ℕ, ◌+◌, ◌^◌, ◌<◌, ℤ, ◌+ℤ◌, ◌*ℤ◌, FitsSigned, List, [], ◌∷◌, ◌++◌, length, take, drop}
 use Rattle.std.specs.Int.{int_wrap, w16, w32}
 use Rattle.std.specs.Int.RustNames.{unsigned_abs}
-use Rattle.claxon_format.specs.Predict.{linear}
-use Rattle.claxon_format.specs.read.Predict.{restored}
-use Rattle.claxon_subframe.specs.PendingSums.{AreNewest, ArePendingSums, FitVectors, four_taps}
-use Rattle.claxon_subframe.specs.PredictorState.{StandsAt, AreRestoredOrStop}
+use Rattle.claxon_subframe.specs.PendingSums.{ArePendingSums, FitVectors, four_taps}
 use Rattle.claxon_subframe.specs.declared.subframe.predictor.lanes.LaterLanes.{LaterLanes}
-use Rattle.claxon_subframe.specs.declared.subframe.predictor.lanes.NewestFive.{NewestFive}
 use Rattle.claxon_subframe.specs.declared.subframe.predictor.lanes.PendingSums.{PendingSums}
-use Rattle.claxon_subframe.specs.declared.subframe.predictor.lanes.PredictorState.{PredictorState}
 
 -- each number fits 16 bits
 abbrev pub AllFit16 : List ℤ → Type 0
@@ -98,31 +93,13 @@ pub record SumsFit32 (sums : PendingSums (List ℤ)) : Type 0 where
   pub at_0 : LanesFit32 sums.at_0
   pub later : LaterFit32 sums.later
 
--- pending sums of samples of 16 bits become those after two more
-abbrev pub ArePairSumsAfterTwo : ℕ → LaterLanes (List ℤ) → PendingSums (List ℤ) → ℤ → ℤ → PendingSums (List ℤ) → Type 0
-ArePairSumsAfterTwo vectors taps old second newest new =
-    (coefficients past : List ℤ) → ArePairTaps coefficients taps → FitVectors vectors coefficients → magnitude coefficients < 2 ^ 16 → Fit16 past
-    → ArePendingSums coefficients past old → ArePendingSums coefficients (newest ∷ second ∷ past) new
-
--- the pending sums after these samples
-abbrev pub ArePairSumsAfter : ℕ → LaterLanes (List ℤ) → List ℤ → PendingSums (List ℤ) → Type 0
-ArePairSumsAfter vectors taps samples sums =
-    (coefficients : List ℤ) → ArePairTaps coefficients taps → FitVectors vectors coefficients → magnitude coefficients < 2 ^ 16 → ArePendingSums coefficients (reverse samples) sums
-
 -- the pending sums of samples of 16 bits
 pub record ArePendingSums16 (coefficients past : List ℤ) (sums : PendingSums (List ℤ)) : Type 0 where
   pub small : Fit16 past
   pub pending : ArePendingSums coefficients past sums
 
--- the samples from place i to place j are restored, while they fit 16 bits, with any coefficients of which these are the taps and
--- the newest five
-abbrev pub RestoresPairs : ℕ → NewestFive → LaterLanes (List ℤ) → ℕ → List ℤ → ℕ → PredictorState (PendingSums (List ℤ)) → List ℤ → ℕ → Result (PredictorState (PendingSums (List ℤ))) ℕ → Type 0
-RestoresPairs vectors last taps shift old i before new j result =
-    (coefficients : List ℤ) → ArePairTaps coefficients taps → AreNewest coefficients last → FitVectors vectors coefficients → magnitude coefficients < 2 ^ 16
-    → StandsAt (ArePendingSums16 coefficients) old i before → AreRestoredOrStop (ArePendingSums16 coefficients) (linear coefficients shift) old i new j result
-
--- the samples from place i to place j are restored, with such coefficients
-abbrev pub RestoresFront : ℕ → NewestFive → LaterLanes (List ℤ) → ℕ → List ℤ → ℕ → PredictorState (PendingSums (List ℤ)) → List ℤ → ℕ → Type 0
-RestoresFront vectors last taps shift old i before new j =
-    (coefficients : List ℤ) → ArePairTaps coefficients taps → AreNewest coefficients last → FitVectors vectors coefficients → magnitude coefficients < 2 ^ 16
-    → StandsAt (ArePendingSums16 coefficients) old i before → restored (linear coefficients shift) j new ≡ restored (linear coefficients shift) i old
+-- coefficients of which these are the taps, whose magnitudes add up to less than 2 ^ 16
+pub record ArePairCoefficients (vectors : ℕ) (taps : LaterLanes (List ℤ)) (coefficients : List ℤ) : Type 0 where
+  pub pairs : ArePairTaps coefficients taps
+  pub fit : FitVectors vectors coefficients
+  pub small : magnitude coefficients < 2 ^ 16

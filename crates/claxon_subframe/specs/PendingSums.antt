@@ -92,18 +92,10 @@ abbrev pub FitVectors : ℕ → List ℤ → Type 0
 FitVectors vectors coefficients =
     drop (4 * vectors + 4) coefficients ≡ replicate (length coefficients - (4 * vectors + 4)) (pos 0)
 
--- pending sums become those after two more samples
-abbrev pub ArePendingSumsAfterTwo : ℕ → Taps → PendingSums (List ℤ) → ℤ → ℤ → PendingSums (List ℤ) → Type 0
-ArePendingSumsAfterTwo vectors taps old second newest new =
-    (coefficients past : List ℤ) → AreTaps coefficients taps → FitVectors vectors coefficients → ArePendingSums coefficients past old → ArePendingSums coefficients (newest ∷ second ∷ past) new
-
--- the pending sums before the first sample
-abbrev pub ArePendingSumsBeforeAll : PendingSums (List ℤ) → Type 0
-ArePendingSumsBeforeAll sums = (coefficients : List ℤ) → ArePendingSums coefficients [] sums
-
--- the pending sums after these samples
-abbrev pub ArePendingSumsAfter : ℕ → Taps → List ℤ → PendingSums (List ℤ) → Type 0
-ArePendingSumsAfter vectors taps samples sums = (coefficients : List ℤ) → AreTaps coefficients taps → FitVectors vectors coefficients → ArePendingSums coefficients (reverse samples) sums
+-- the pending sums after these samples, with any of these coefficients
+abbrev pub ArePendingSumsOf : {S : Type 0} → (List ℤ → Type 0) → (List ℤ → List ℤ → S → Type 0) → List ℤ → S → Type 0
+ArePendingSumsOf Coefficients Pending samples sums =
+    (coefficients : List ℤ) → Coefficients coefficients → Pending coefficients (reverse samples) sums
 
 -- a sum and a residual sample, scaled up so that a shift by 32 drops of the sum what `shift` would drop, and nothing of the residual
 abbrev pub scaled_up : ℤ → ℤ → ℕ → ℤ

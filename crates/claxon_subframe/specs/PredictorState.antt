@@ -2,10 +2,8 @@
 use Rattle.std.specs.Prelude.{◌≡◌, ℕ, ℤ, List, Result, IfOk, IfErr, length, take, reverse}
 use Rattle.claxon_format.specs.Predict.{linear}
 use Rattle.claxon_format.specs.read.Predict.{restored}
-use Rattle.claxon_subframe.specs.PendingSums.{AreNewest, ArePendingSums, AreTaps, FitVectors}
-use Rattle.claxon_subframe.specs.declared.subframe.predictor.high_order.Taps.{Taps}
+use Rattle.claxon_subframe.specs.PendingSums.{AreNewest}
 use Rattle.claxon_subframe.specs.declared.subframe.predictor.lanes.NewestFive.{NewestFive}
-use Rattle.claxon_subframe.specs.declared.subframe.predictor.lanes.PendingSums.{PendingSums}
 use Rattle.claxon_subframe.specs.declared.subframe.predictor.lanes.PredictorState.{PredictorState}
 
 -- a predictor that has come to place i: the newest five of the samples before it, and their pending sums
@@ -24,14 +22,14 @@ pub record AreRestoredOrStop {S : Type 0} (Pending : List ℤ → S → Type 0) 
   pub ok : IfOk result (λ state. AreRestored Pending predict old i new j state)
   pub err : IfErr result (λ place. restored predict place new ≡ restored predict i old)
 
--- the samples from place i to place j are restored, with any coefficients of which these are the taps and the newest five
-abbrev pub RestoresSamples : ℕ → NewestFive → Taps → ℕ → List ℤ → ℕ → PredictorState (PendingSums (List ℤ)) → List ℤ → ℕ → PredictorState (PendingSums (List ℤ)) → Type 0
-RestoresSamples vectors last taps shift old i before new j after =
-    (coefficients : List ℤ) → AreTaps coefficients taps → AreNewest coefficients last → FitVectors vectors coefficients
-    → StandsAt (ArePendingSums coefficients) old i before → AreRestored (ArePendingSums coefficients) (linear coefficients shift) old i new j after
+-- the samples from place i to place j are restored while they fit, with any of these coefficients of which these are the newest five
+abbrev pub RestoresSamples : {S : Type 0} → (List ℤ → Type 0) → (List ℤ → List ℤ → S → Type 0) → NewestFive → ℕ → List ℤ → ℕ → PredictorState S → List ℤ → ℕ → Result (PredictorState S) ℕ → Type 0
+RestoresSamples Coefficients Pending last shift old i before new j result =
+    (coefficients : List ℤ) → Coefficients coefficients → AreNewest coefficients last
+    → StandsAt (Pending coefficients) old i before → AreRestoredOrStop (Pending coefficients) (linear coefficients shift) old i new j result
 
--- the same for all samples from place i on
-abbrev pub RestoresAllSamples : ℕ → NewestFive → Taps → ℕ → List ℤ → ℕ → PredictorState (PendingSums (List ℤ)) → List ℤ → Type 0
-RestoresAllSamples vectors last taps shift old i before new =
-    (coefficients : List ℤ) → AreTaps coefficients taps → AreNewest coefficients last → FitVectors vectors coefficients
-    → StandsAt (ArePendingSums coefficients) old i before → new ≡ restored (linear coefficients shift) i old
+-- the samples from place i to place j are restored, with such coefficients
+abbrev pub RestoresFront : {S : Type 0} → (List ℤ → Type 0) → (List ℤ → List ℤ → S → Type 0) → NewestFive → ℕ → List ℤ → ℕ → PredictorState S → List ℤ → ℕ → Type 0
+RestoresFront Coefficients Pending last shift old i before new j =
+    (coefficients : List ℤ) → Coefficients coefficients → AreNewest coefficients last
+    → StandsAt (Pending coefficients) old i before → restored (linear coefficients shift) j new ≡ restored (linear coefficients shift) i old

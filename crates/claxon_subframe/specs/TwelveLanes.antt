@@ -1,12 +1,7 @@
 -- Twelve numbers in three vectors: coefficients, and the pending sums of the next twelve samples.
-use Rattle.std.specs.Prelude.{◌≡◌, ℕ, ◌+◌, ◌^◌, ℤ, List, [], ◌∷◌, ◌++◌, length, reverse}
-use Rattle.claxon_format.specs.Predict.{linear}
-use Rattle.claxon_format.specs.read.Predict.{restored}
+use Rattle.std.specs.Prelude.{◌≡◌, ℕ, ◌+◌, ◌^◌, ℤ, List, ◌++◌, length}
 use Rattle.claxon_subframe.specs.Lanes.{Lanes, LanesFit64}
-use Rattle.claxon_subframe.specs.PendingSums.{four_pending, four_taps, FitVectors, AreNewest}
-use Rattle.claxon_subframe.specs.PredictorState.{StandsAt, AreRestored}
-use Rattle.claxon_subframe.specs.declared.subframe.predictor.lanes.NewestFive.{NewestFive}
-use Rattle.claxon_subframe.specs.declared.subframe.predictor.lanes.PredictorState.{PredictorState}
+use Rattle.claxon_subframe.specs.PendingSums.{four_pending, four_taps}
 use Rattle.claxon_subframe.specs.declared.subframe.predictor.low_order.TwelveLanes.{TwelveLanes}
 use Rattle.claxon_subframe.specs.declared.subframe.predictor.low_order.EightLanes.{EightLanes}
 use Rattle.claxon_subframe.specs.declared.subframe.predictor.low_order.TwelveTaps.{TwelveTaps}
@@ -51,28 +46,3 @@ pub record AreTwelvePending (coefficients past : List ℤ) (sums : TwelveLanes) 
   pub at_8 : sums.at_8 ≡ four_pending coefficients past 8
   pub at_4 : sums.at_4 ≡ four_pending coefficients past 4
   pub at_0 : sums.at_0 ≡ four_pending coefficients past 0
-
--- pending sums become those after two more samples
-abbrev pub AreTwelvePendingAfterTwo : ℕ → TwelveTaps → TwelveLanes → ℤ → ℤ → TwelveLanes → Type 0
-AreTwelvePendingAfterTwo vectors taps old second newest new =
-    (coefficients past : List ℤ) → AreTwelveTaps coefficients taps → FitVectors vectors coefficients → AreTwelvePending coefficients past old → AreTwelvePending coefficients (newest ∷ second ∷ past) new
-
--- the pending sums before the first sample
-abbrev pub AreTwelvePendingBeforeAll : TwelveLanes → Type 0
-AreTwelvePendingBeforeAll sums = (coefficients : List ℤ) → AreTwelvePending coefficients [] sums
-
--- the pending sums after these samples
-abbrev pub AreTwelvePendingAfter : ℕ → TwelveTaps → List ℤ → TwelveLanes → Type 0
-AreTwelvePendingAfter vectors taps samples sums = (coefficients : List ℤ) → AreTwelveTaps coefficients taps → FitVectors vectors coefficients → AreTwelvePending coefficients (reverse samples) sums
-
--- the samples from place i to place j are restored, with any coefficients of which these are the taps and the newest five
-abbrev pub RestoresTwelve : ℕ → NewestFive → TwelveTaps → ℕ → List ℤ → ℕ → PredictorState TwelveLanes → List ℤ → ℕ → PredictorState TwelveLanes → Type 0
-RestoresTwelve vectors last taps shift old i before new j after =
-    (coefficients : List ℤ) → AreTwelveTaps coefficients taps → AreNewest coefficients last → FitVectors vectors coefficients
-    → StandsAt (AreTwelvePending coefficients) old i before → AreRestored (AreTwelvePending coefficients) (linear coefficients shift) old i new j after
-
--- the same for all samples from place i on
-abbrev pub RestoresAllTwelve : ℕ → NewestFive → TwelveTaps → ℕ → List ℤ → ℕ → PredictorState TwelveLanes → List ℤ → Type 0
-RestoresAllTwelve vectors last taps shift old i before new =
-    (coefficients : List ℤ) → AreTwelveTaps coefficients taps → AreNewest coefficients last → FitVectors vectors coefficients
-    → StandsAt (AreTwelvePending coefficients) old i before → new ≡ restored (linear coefficients shift) i old

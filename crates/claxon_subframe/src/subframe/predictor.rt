@@ -9,6 +9,7 @@ mod high_order;
 mod lanes;
 mod low_order;
 mod pairs;
+mod restore;
 
 use high_order::predict_lpc_high_order;
 use low_order::predict_lpc_low_order;

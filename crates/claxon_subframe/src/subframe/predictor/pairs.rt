@@ -1,15 +1,16 @@
 //! Linear predictors over samples of 16 bits. One instruction multiplies two samples by their coefficients in each of four
 //! lanes, and adds the two products. The lanes have 32 bits: where the magnitudes of the coefficients add up to less than 2^16,
 //! the pending sums of samples of 16 bits fit.
-ghost use Rattle.std.specs.Prelude.{◌≡◌, ◌+◌, ◌*◌, ◌-◌, ◌^◌, ◌<◌, ◌≤◌, ◌↔◌, ◌++◌, IfErr, IfOk, IsTrue, true, false, length, take, drop, reverse, replicate, pos, FitsSigned};
+ghost use Rattle.std.specs.Prelude.{◌≡◌, ◌+◌, ◌*◌, ◌-◌, ◌^◌, ◌<◌, ◌≤◌, ◌↔◌, ◌++◌, IsTrue, true, false, length, take, drop, reverse, replicate, pos, FitsSigned};
 ghost use Rattle.std.specs.Int.{w16};
 ghost use Rattle.claxon_subframe.specs.Predictor.{FrontIsRestored};
 ghost use Rattle.claxon_subframe.specs.Lanes.{LanesFit64};
-ghost use Rattle.claxon_subframe.specs.PendingSums.{AreNewest, ArePendingSumsBeforeAll};
-ghost use Rattle.claxon_subframe.specs.Pairs.{Fit16, ArePairTaps, ArePairSumsAfter, ArePairSumsAfterTwo, LanesFit16, LanesFit32, SmallPairTaps, SumsFit32, advanced_by_pair, magnitude, pair_of, plus_pairs, RestoresPairs, RestoresFront};
+ghost use Rattle.claxon_subframe.specs.PendingSums.{AreNewest};
+ghost use Rattle.claxon_subframe.specs.Pairs.{ArePairTaps, LanesFit16, LanesFit32, SmallPairTaps, SumsFit32, advanced_by_pair, magnitude, pair_of, plus_pairs};
 
 use super::lanes::{LaterLanes, NewestFive, PendingSums, PredictorState};
-use super::{low_bits, predict_plain};
+use super::predict_plain;
+use super::restore::{LaneTaps, first_sums, restore_front};
 use std::simd::prelude::*;
 
 /// Restores samples while they fit 16 bits, from the warm-up samples on, by a predictor of more than eight coefficients, the
@@ -56,26 +57,6 @@ fn fits_16_bits(sample: i64) -> bool
     (-0x8000..=0x7fff).contains(&sample)
 }
 
-// Whether both samples fit 16 bits.
-#[inline(always)]
-fn both_fit_16_bits(one: i64, two: i64) -> bool
-    ensures { IsTrue result ↔ (FitsSigned w16 one × FitsSigned w16 two) }
-{
-    fits_16_bits(one) && fits_16_bits(two)
-}
-
-// Whether all samples fit 16 bits.
-fn all_fit_16_bits(samples: &[i32]) -> bool
-    ensures { IsTrue result ↔ Fit16 samples.now }
-{
-    for sample in samples.iter() {
-        if !fits_16_bits(i64::from(*sample)) {
-            return false;
-        }
-    }
-    true
-}
-
 // The first samples by their sums of products, the others by pending sums in `VECTORS` vectors while samples fit 16 bits.
 #[inline(always)]
 fn predict_front<const VECTORS: usize>(
@@ -96,7 +77,7 @@ fn predict_front<const VECTORS: usize>(
 {
     let front = buffer.len().min(4 * VECTORS + 4);
     predict_plain(coefficients, shift, &mut buffer[..front]);
-    if front < 4 * VECTORS + 4 || !all_fit_16_bits(&buffer[..front]) {
+    if front < 4 * VECTORS + 4 {
         return front;
     }
     predict_pairs::<VECTORS>(&padded_to_32(coefficients), shift, buffer)
@@ -198,77 +179,6 @@ fn advance_lanes(has_taps: bool, before: i32x4, sums: i32x4, taps: i16x8, pair: 
     add_pairs(shift_two_lanes(before, sums), taps, pair)
 }
 
-// The pending sums after two more samples. Where `VECTORS` is less than 7 no coefficient reaches the latest ones.
-#[inline(always)]
-fn advance_sums<const VECTORS: usize>(
-    sums: PendingSums<i32x4>,
-    taps: LaterLanes<i16x8>,
-    one: i64,
-    two: i64,
-) -> PendingSums<i32x4>
-    requires sums { SumsFit32 sums }
-    requires taps { SmallPairTaps taps }
-    requires one { FitsSigned w16 one }
-    requires two { FitsSigned w16 two }
-    requires some { 2 ≤ VECTORS }
-    ensures value { ArePairSumsAfterTwo VECTORS taps sums one two result }
-    ensures fits { SumsFit32 result }
-{
-    let pair = pair_lanes(one, two);
-    let old = sums.later;
-    PendingSums {
-        at_0: shift_two_lanes(old.at_4, sums.at_0),
-        later: LaterLanes {
-            at_4: advance_lanes(true, old.at_8, old.at_4, taps.at_4, pair),
-            at_8: advance_lanes(true, old.at_12, old.at_8, taps.at_8, pair),
-            at_12: advance_lanes(VECTORS > 2, old.at_16, old.at_12, taps.at_12, pair),
-            at_16: advance_lanes(VECTORS > 3, old.at_20, old.at_16, taps.at_16, pair),
-            at_20: advance_lanes(VECTORS > 4, old.at_24, old.at_20, taps.at_20, pair),
-            at_24: advance_lanes(VECTORS > 5, old.at_28, old.at_24, taps.at_24, pair),
-            at_28: advance_lanes(VECTORS > 6, i32x4::splat(0), old.at_28, taps.at_28, pair),
-        },
-    }
-}
-
-// The pending sums before the first sample.
-#[inline(always)]
-fn no_sums() -> PendingSums<i32x4>
-    ensures { ArePendingSumsBeforeAll result }
-{
-    let zeros = i32x4::splat(0);
-    PendingSums {
-        at_0: zeros,
-        later: LaterLanes {
-            at_4: zeros,
-            at_8: zeros,
-            at_12: zeros,
-            at_16: zeros,
-            at_20: zeros,
-            at_24: zeros,
-            at_28: zeros,
-        },
-    }
-}
-
-// The pending sums after these samples, which are as many as there are coefficients.
-#[inline(always)]
-fn first_sums<const VECTORS: usize>(taps: LaterLanes<i16x8>, samples: &[i32]) -> PendingSums<i32x4>
-    requires samples { length samples.now ≡ 4 * VECTORS + 4 }
-    requires small { Fit16 samples.now }
-    requires taps { SmallPairTaps taps }
-    requires some { 2 ≤ VECTORS }
-    requires vectors { VECTORS ≤ 7 }
-    ensures { ArePairSumsAfter VECTORS taps samples.now result }
-{
-    let mut sums = no_sums();
-    for pair in 0..2 * VECTORS + 2 {
-        let one = i64::from(samples[2 * pair]);
-        let two = i64::from(samples[2 * pair + 1]);
-        sums = advance_sums::<VECTORS>(sums, taps, one, two);
-    }
-    sums
-}
-
 // The same lanes in 64 bits.
 #[inline(always)]
 fn widened(lanes: i32x4) -> i64x4
@@ -279,99 +189,79 @@ fn widened(lanes: i32x4) -> i64x4
     lanes.cast::<i64>()
 }
 
-// Restores the residual samples at `i` and after it. Where one of the samples doesn't fit 16 bits, nothing is stored, and the
-// Err is `i`.
-#[inline(always)]
-fn restore_pair<const VECTORS: usize>(
-    last: NewestFive,
+// These coefficients, where the oldest 28 - 4 * `VECTORS` of the 32 are zeros.
+#[derive(Clone, Copy)]
+struct PairTaps<const VECTORS: usize> {
     taps: LaterLanes<i16x8>,
-    shift: u32,
-    state: PredictorState<PendingSums<i32x4>>,
-    buffer: &mut [i32],
-    i: usize,
-) -> Result<PredictorState<PendingSums<i32x4>>, usize>
-    requires shift { shift ≤ 15 }
-    requires taps { SmallPairTaps taps }
-    requires some { 2 ≤ VECTORS }
-    requires sums { SumsFit32 state.sums }
-    requires within { i + 2 ≤ length buffer.old }
-    ensures kept { length buffer.new ≡ length buffer.old }
-    ensures restored { RestoresPairs VECTORS last taps shift buffer.old i state
-        buffer.new (i + 2) result }
-    ensures fits { IfOk result (λ next. SumsFit32 next.sums) }
-    ensures place { IfErr result (λ place. place ≡ i) }
-{
-    let pending = widened(state.sums.at_0);
-    let newest = state
-        .newest
-        .followed_by_two(last, pending, buffer[i], buffer[i + 1], shift);
-    if !both_fit_16_bits(newest.second, newest.newest) {
-        return Err(i);
-    }
-    buffer[i] = low_bits(newest.second);
-    buffer[i + 1] = low_bits(newest.newest);
-    let sums = advance_sums::<VECTORS>(state.sums, taps, newest.second, newest.newest);
-    Ok(PredictorState { newest, sums })
+    ghost some: { 2 ≤ VECTORS },
 }
 
-// Restores ten residual samples from `i` on, as in `low_order::restore_ten`, while they fit 16 bits. An Err is the place of the
-// first pair that doesn't.
-#[inline(always)]
-fn restore_ten<const VECTORS: usize>(
-    last: NewestFive,
-    taps: LaterLanes<i16x8>,
-    shift: u32,
-    state: PredictorState<PendingSums<i32x4>>,
-    buffer: &mut [i32],
-    i: usize,
-) -> Result<PredictorState<PendingSums<i32x4>>, usize>
-    requires shift { shift ≤ 15 }
-    requires taps { SmallPairTaps taps }
-    requires some { 2 ≤ VECTORS }
-    requires sums { SumsFit32 state.sums }
-    requires within { i + 10 ≤ length buffer.old }
-    ensures kept { length buffer.new ≡ length buffer.old }
-    ensures restored { RestoresPairs VECTORS last taps shift buffer.old i state
-        buffer.new (i + 10) result }
-    ensures fits { IfOk result (λ next. SumsFit32 next.sums) }
-    ensures place { IfErr result (λ place. (i ≤ place) × (place ≤ i + 8)) }
-{
-    let two = restore_pair::<VECTORS>(last, taps, shift, state, buffer, i)?;
-    let four = restore_pair::<VECTORS>(last, taps, shift, two, buffer, i + 2)?;
-    let six = restore_pair::<VECTORS>(last, taps, shift, four, buffer, i + 4)?;
-    let eight = restore_pair::<VECTORS>(last, taps, shift, six, buffer, i + 6)?;
-    restore_pair::<VECTORS>(last, taps, shift, eight, buffer, i + 8)
-}
+impl<const VECTORS: usize> LaneTaps for PairTaps<VECTORS> {
+    ghost use Rattle.claxon_subframe.specs.Pairs.{ArePairCoefficients, ArePendingSums16};
 
-// Restores the residual samples from the pair `first` on, while they fit 16 bits. Returns how many samples stand at the front
-// then.
-#[inline(always)]
-fn restore_rest<const VECTORS: usize>(
-    last: NewestFive,
-    taps: LaterLanes<i16x8>,
-    shift: u32,
-    state: PredictorState<PendingSums<i32x4>>,
-    buffer: &mut [i32],
-    first: usize,
-) -> usize
-    requires shift { shift ≤ 15 }
-    requires taps { SmallPairTaps taps }
-    requires some { 2 ≤ VECTORS }
-    requires sums { SumsFit32 state.sums }
-    requires first { 2 * first ≤ length buffer.old }
-    ensures least { 2 * first ≤ result }
-    ensures few { result ≤ length buffer.new }
-    ensures restored { RestoresFront VECTORS last taps shift buffer.old (2 * first) state
-        buffer.new result }
-{
-    let mut current = state;
-    for pair in first..buffer.len() / 2 {
-        match restore_pair::<VECTORS>(last, taps, shift, current, buffer, 2 * pair) {
-            Ok(next) => current = next,
-            Err(place) => return place,
+    type Sums = PendingSums<i32x4>;
+
+    ghost coefficients = { λ c. ArePairCoefficients VECTORS c.taps };
+
+    ghost pending = { ArePendingSums16 };
+
+    ghost taps_fit = { λ c. SmallPairTaps c.taps };
+
+    ghost fit = { SumsFit32 };
+
+    ghost sample_fits = { FitsSigned w16 };
+
+    #[inline(always)]
+    fn no_sums(self) -> PendingSums<i32x4> {
+        let zeros = i32x4::splat(0);
+        PendingSums {
+            at_0: zeros,
+            later: LaterLanes {
+                at_4: zeros,
+                at_8: zeros,
+                at_12: zeros,
+                at_16: zeros,
+                at_20: zeros,
+                at_24: zeros,
+                at_28: zeros,
+            },
         }
     }
-    buffer.len() - buffer.len() % 2
+
+    #[inline(always)]
+    fn next_four(self, sums: PendingSums<i32x4>) -> i64x4 {
+        widened(sums.at_0)
+    }
+
+    #[inline(always)]
+    fn both_fit(self, one: i64, two: i64) -> bool {
+        fits_16_bits(one) && fits_16_bits(two)
+    }
+
+    // Where `VECTORS` is less than 7 no coefficient reaches the latest sums.
+    #[inline(always)]
+    fn advance(self, sums: PendingSums<i32x4>, one: i64, two: i64) -> PendingSums<i32x4> {
+        let pair = pair_lanes(one, two);
+        let old = sums.later;
+        PendingSums {
+            at_0: shift_two_lanes(old.at_4, sums.at_0),
+            later: LaterLanes {
+                at_4: advance_lanes(true, old.at_8, old.at_4, self.taps.at_4, pair),
+                at_8: advance_lanes(true, old.at_12, old.at_8, self.taps.at_8, pair),
+                at_12: advance_lanes(VECTORS > 2, old.at_16, old.at_12, self.taps.at_12, pair),
+                at_16: advance_lanes(VECTORS > 3, old.at_20, old.at_16, self.taps.at_16, pair),
+                at_20: advance_lanes(VECTORS > 4, old.at_24, old.at_20, self.taps.at_20, pair),
+                at_24: advance_lanes(VECTORS > 5, old.at_28, old.at_24, self.taps.at_24, pair),
+                at_28: advance_lanes(
+                    VECTORS > 6,
+                    i32x4::splat(0),
+                    old.at_28,
+                    self.taps.at_28,
+                    pair,
+                ),
+            },
+        }
+    }
 }
 
 // The samples after the first 4 * VECTORS + 4, while they fit 16 bits. Returns how many stand at the front then.
@@ -381,7 +271,6 @@ fn predict_pairs<const VECTORS: usize>(padded: &[i16; 32], shift: u32, buffer: &
     requires some { 2 ≤ VECTORS }
     requires shift { shift ≤ 15 }
     requires warm_up { 4 * VECTORS + 4 ≤ length buffer.old }
-    requires small { Fit16 (take (4 * VECTORS + 4) buffer.old) }
     requires zeros { take (28 - 4 * VECTORS) padded.now ≡ replicate (28 - 4 * VECTORS) (pos 0) }
     requires magnitude { magnitude padded.now < 2 ^ 16 }
     ensures warm_up { 4 * VECTORS + 4 ≤ result }
@@ -390,19 +279,14 @@ fn predict_pairs<const VECTORS: usize>(padded: &[i16; 32], shift: u32, buffer: &
         buffer.old result buffer.new }
 {
     let last = newest_coefficients(padded);
-    let taps = pair_taps_of(padded);
-    let mut state = PredictorState {
-        newest: NewestFive::of(&buffer[4 * VECTORS - 1..4 * VECTORS + 4]),
-        sums: first_sums::<VECTORS>(taps, &buffer[..4 * VECTORS + 4]),
+    let taps = PairTaps::<VECTORS> {
+        taps: pair_taps_of(padded),
     };
-    let tens = (buffer.len() - (4 * VECTORS + 4)) / 10;
-    for ten in 0..tens {
-        let i = 4 * VECTORS + 4 + 10 * ten;
-        match restore_ten::<VECTORS>(last, taps, shift, state, buffer, i) {
-            Ok(next) => state = next,
-            Err(place) => return place,
-        }
-    }
-    let first = 2 * VECTORS + 2 + 5 * tens;
-    restore_rest::<VECTORS>(last, taps, shift, state, buffer, first)
+    let start = 4 * VECTORS + 4;
+    let Some(sums) = first_sums(taps, &buffer[..start]) else {
+        return start;
+    };
+    let newest = NewestFive::of(&buffer[start - 5..start]);
+    let state = PredictorState { newest, sums };
+    restore_front(last, taps, shift, state, buffer, start)
 }
