@@ -13,9 +13,6 @@ use Rattle.claxon_subframe.proofs.RestoreLoopByTwo.{two_made, made_restored, mad
 pub none_restored : {S : Type 0} {Pending : List ℤ → S → Type 0} {p : List ℤ → ℤ} {xs : List ℤ} {i : ℕ} {s : PredictorState S} → StandsAt Pending xs i s → AreRestored Pending p xs i xs i s
 none_restored h = record { kept = refl; same = refl; stands = h }
 
-pub stands_at : {S : Type 0} {Pending : List ℤ → S → Type 0} {xs : List ℤ} {i : ℕ} {s : PredictorState S} (m : ℕ) → StandsAt Pending xs i s → i ≡ m → StandsAt Pending xs m s
-stands_at {S} {Pending} {xs} {i} {s} m h e = subst (λ (n : ℕ). StandsAt Pending xs n s) e h
-
 -- to place j, which is the place m
 pub place_is : {S : Type 0} {Pending : List ℤ → S → Type 0} {p : List ℤ → ℤ} {xs ys : List ℤ} {i j : ℕ} {s : PredictorState S} (m : ℕ) → AreRestored Pending p xs i ys j s → j ≡ m → AreRestored Pending p xs i ys m s
 place_is {S} {Pending} {p} {xs} {ys} {i} {j} {s} m h e = subst (λ (n : ℕ). AreRestored Pending p xs i ys n s) e h
@@ -27,13 +24,6 @@ then_restored {S} {Pending} {p} {xs} {ys} {zs} {i} {j} {k} {l} first second e =
     let at = place_is l first e in
     let next = second at.stands in
     record { kept = next.kept ∙ at.kept; same = next.same ∙ at.same; stands = next.stands }
-
--- the same with those up to place k
-pub then_front_restored : {S : Type 0} {Pending : List ℤ → S → Type 0} {p : List ℤ → ℤ} {xs ys : List ℤ} {i j l : ℕ} {s : PredictorState S} (zs : List ℤ) (k : ℕ)
-    → AreRestored Pending p xs i ys j s → (StandsAt Pending ys l s → restored p k zs ≡ restored p l ys) → j ≡ l → restored p k zs ≡ restored p i xs
-then_front_restored {S} {Pending} {p} {xs} {ys} {i} {j} {l} zs k first second e =
-    let at = place_is l first e in
-    second at.stands ∙ at.same
 
 -- the same where it went on from there, or stopped at place e, or either
 pub then_ok : {S : Type 0} {Pending : List ℤ → S → Type 0} {p : List ℤ → ℤ} {xs ys zs : List ℤ} {i j k l : ℕ} {s n : PredictorState S}

@@ -32,8 +32,8 @@ pub fn predict_lpc_high_order(coefficients: &[i16], shift: u32, buffer: &mut [i3
     }
 }
 
-// The first samples by their sums of products, the others by pending sums in `VECTORS` vectors, and one that may be left as the
-// first ones.
+// The first samples by their sums of products, the others by pending sums in `VECTORS` vectors, ten at a time, and those left
+// like the first.
 #[inline(always)]
 fn predict_by_vectors<const VECTORS: usize>(coefficients: &[i16], shift: u32, buffer: &mut [i32])
     requires vectors { VECTORS ≤ 7 }
@@ -43,11 +43,11 @@ fn predict_by_vectors<const VECTORS: usize>(coefficients: &[i16], shift: u32, bu
     requires shift { shift ≤ 15 }
     ensures { SamplesAreRestored coefficients.now shift buffer.old buffer.new }
 {
-    let front = buffer.len().min(4 * VECTORS + 4);
-    predict_plain(coefficients, shift, &mut buffer[..front]);
-    if front < 4 * VECTORS + 4 {
+    if buffer.len() < 4 * VECTORS + 14 {
+        predict_plain(coefficients, shift, buffer);
         return;
     }
+    predict_plain(coefficients, shift, &mut buffer[..4 * VECTORS + 4]);
     let padded = padded_coefficients::<32>(coefficients);
     let known = predict_32_taps::<VECTORS>(&padded, shift, buffer);
     predict_plain(

@@ -21,12 +21,12 @@ pub fn predict_lpc_low_order(coefficients: &[i16], shift: u32, buffer: &mut [i32
     requires shift { shift ≤ 15 }
     ensures { SamplesAreRestored coefficients.now shift buffer.old buffer.new }
 {
-    // The first twelve samples by their sums of products, the others in vectors, and one that may be left like the first ones.
-    let front = buffer.len().min(12);
-    predict_plain(coefficients, shift, &mut buffer[..front]);
-    if front < 12 {
+    // The first twelve samples by their sums of products, the others in vectors, ten at a time, and those left like the first.
+    if buffer.len() < 22 {
+        predict_plain(coefficients, shift, buffer);
         return;
     }
+    predict_plain(coefficients, shift, &mut buffer[..12]);
     let twelve = padded_to_twelve(coefficients);
     let known = if coefficients.len() <= 8 {
         predict_12_taps::<1>(&twelve, shift, buffer)
@@ -172,9 +172,9 @@ impl<const VECTORS: usize> LaneTaps for LowOrderTaps<VECTORS> {
     }
 }
 
-// The samples from index 12 on, each from the twelve samples before it, two at a time: one may be left. Returns how many samples
-// stand at the front then. Where `VECTORS` is 1 the oldest four coefficients are zeros. The coefficients are passed by reference
-// and this isn't inlined, so that the compiler keeps the shifts of `sign_extended`.
+// The samples from index 12 on, each from the twelve samples before it, ten at a time. Returns how many samples stand at the
+// front then. Where `VECTORS` is 1 the oldest four coefficients are zeros. The coefficients are passed by reference and this isn't
+// inlined, so that the compiler keeps the shifts of `sign_extended`.
 #[inline(never)]
 fn predict_12_taps<const VECTORS: usize>(
     coefficients: &TwelveLanes,

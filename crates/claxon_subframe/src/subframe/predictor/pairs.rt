@@ -57,7 +57,8 @@ fn fits_16_bits(sample: i64) -> bool
     (-0x8000..=0x7fff).contains(&sample)
 }
 
-// The first samples by their sums of products, the others by pending sums in `VECTORS` vectors while samples fit 16 bits.
+// The first samples by their sums of products, the others by pending sums in `VECTORS` vectors, ten at a time while they fit 16
+// bits.
 #[inline(always)]
 fn predict_front<const VECTORS: usize>(
     coefficients: &[i16],
@@ -75,11 +76,10 @@ fn predict_front<const VECTORS: usize>(
     ensures restored { FrontIsRestored coefficients.now shift (length coefficients.now)
         buffer.old result buffer.new }
 {
-    let front = buffer.len().min(4 * VECTORS + 4);
-    predict_plain(coefficients, shift, &mut buffer[..front]);
-    if front < 4 * VECTORS + 4 {
-        return front;
+    if buffer.len() < 4 * VECTORS + 14 {
+        return coefficients.len();
     }
+    predict_plain(coefficients, shift, &mut buffer[..4 * VECTORS + 4]);
     predict_pairs::<VECTORS>(&padded_to_32(coefficients), shift, buffer)
 }
 

@@ -4,7 +4,7 @@
 //! lanes shift by half a vector. The products of the newest samples, four for the first of two and five for the second, are
 //! added last, one by one, so that a sample depends on the one just before it only by one product, and on no pending sum that
 //! was just computed.
-ghost use Rattle.std.specs.Prelude.{◌≡◌, ◌+◌, ◌%◌, ◌≤◌, ◌∷◌, [], List, ℤ, IfErr, IfOk, IfSome, IsTrue, length, reverse, FitsSigned};
+ghost use Rattle.std.specs.Prelude.{◌≡◌, ◌+◌, ◌%◌, ◌≤◌, ◌∷◌, [], List, ℤ, IfErr, IfOk, IfSome, IsTrue, length, FitsSigned};
 ghost use Rattle.std.specs.Int.{w32};
 ghost use Rattle.claxon_subframe.specs.Lanes.{LanesFit64};
 ghost use Rattle.claxon_subframe.specs.PendingSums.{ArePendingSumsOf, four_pending};
@@ -145,41 +145,8 @@ fn restore_ten<T: LaneTaps>(
     restore_pair(last, taps, shift, eight, buffer, i + 8)
 }
 
-// Restores the residual samples from `start` on while they fit. Returns how many samples stand at the front then.
-#[inline(always)]
-fn restore_rest<T: LaneTaps>(
-    last: NewestFive,
-    taps: T,
-    shift: u32,
-    state: PredictorState<T::Sums>,
-    buffer: &mut [i32],
-    start: usize,
-) -> usize
-    requires shift { shift ≤ 15 }
-    requires taps { T.taps_fit taps }
-    requires sums { T.fit state.sums }
-    requires start { start ≤ length buffer.old }
-    ensures kept { length buffer.new ≡ length buffer.old }
-    ensures least { start ≤ result }
-    ensures few { result ≤ length buffer.new }
-    ensures restored { RestoresFront (T.coefficients taps) T.pending last shift buffer.old start state
-        buffer.new result }
-{
-    let mut current = state;
-    let end = buffer.len() - (buffer.len() - start) % 2;
-    let mut place = start;
-    while place < end {
-        match restore_pair(last, taps, shift, current, buffer, place) {
-            Ok(next) => current = next,
-            Err(stop) => return stop,
-        }
-        place += 2;
-    }
-    place
-}
-
 /// Restores the residual samples from `start` on while they fit, where `state` is that after the samples before it.
-/// Returns how many samples stand at the front then. The last of an odd number of samples is left.
+/// Returns how many samples stand at the front then. Where all fit, fewer than ten are left.
 #[inline(always)]
 pub fn restore_front<T: LaneTaps>(
     last: NewestFive,
@@ -200,14 +167,12 @@ pub fn restore_front<T: LaneTaps>(
         buffer.new result }
 {
     let mut current = state;
-    let end = buffer.len() - (buffer.len() - start) % 10;
-    let mut place = start;
-    while place < end {
-        match restore_ten(last, taps, shift, current, buffer, place) {
+    let tens = (buffer.len() - start) / 10;
+    for ten in 0..tens {
+        match restore_ten(last, taps, shift, current, buffer, start + 10 * ten) {
             Ok(next) => current = next,
             Err(stop) => return stop,
         }
-        place += 10;
     }
-    restore_rest(last, taps, shift, current, buffer, place)
+    start + 10 * tens
 }

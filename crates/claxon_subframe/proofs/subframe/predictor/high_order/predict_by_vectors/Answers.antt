@@ -1,4 +1,4 @@
-use Rattle.std.proofs.Common.{◌≡◌, ◌+◌, ◌*◌, ◌-◌, length, min, rules, arith}
+use Rattle.std.proofs.Common.{◌+◌, ◌*◌, ◌-◌, length, arith}
 use Rattle.claxon_subframe.proofs.PaddedCoefficients.{zeros_before}
 use Rattle.claxon_subframe.proofs.RestoredFront.{all_restored}
 use Rattle.claxon_subframe.proofs.subframe.predictor.high_order.predict_by_vectors.Goals as goal
@@ -10,6 +10,5 @@ predict_32_taps-known-requires-clause-zeros g c =
 pub returns : goal.returns
 returns g c =
     let cs = c.args.coefficients.now in
-    let front : c.min-front.result ≡ min (length c.args.buffer.now) (4 * g.row.VECTORS + 4) = search rules in
-    all_restored cs c.padded_coefficients-padded.result c.predict_plain.new.buffer c.predict_32_taps-known.new.buffer c.predict_plain-2.new.buffer c.args.buffer.now c.args.shift c.min-front.result (4 * g.row.VECTORS + 4) c.predict_32_taps-known.result (32 - length cs)
-    (omega arith) (omega arith) (omega arith) (omega arith) (omega arith) c.padded_coefficients-padded.ensures.value c.predict_plain.ensures c.predict_32_taps-known.ensures.restored c.predict_plain-2.ensures
+    all_restored cs c.padded_coefficients-padded.result c.predict_plain-2.new.buffer c.predict_32_taps-known.new.buffer c.predict_plain-3.new.buffer c.args.buffer.now c.args.shift (4 * g.row.VECTORS + 4) c.predict_32_taps-known.result (32 - length cs)
+    (omega arith) (omega arith) (omega arith) (omega arith) c.padded_coefficients-padded.ensures.value c.predict_plain-2.ensures c.predict_32_taps-known.ensures.restored c.predict_plain-3.ensures

@@ -1,4 +1,4 @@
-use Rattle.std.proofs.Common.{◌≡◌, ℕ, ◌-◌, ◌≤◌, ◌++◌, ◌∙◌, List, ℤ, length, min, drop, reverse, ap, ap₂, rules, arith}
+use Rattle.std.proofs.Common.{◌≡◌, ℕ, ◌-◌, ◌≤◌, ◌++◌, ◌∙◌, List, ℤ, length, drop, reverse, ap, ap₂, arith}
 use Rattle.claxon_format.specs.Predict.{linear}
 use Rattle.claxon_format.specs.read.Predict.{restored}
 use Rattle.claxon_subframe.specs.TwelveLanes.{numbers}
@@ -17,9 +17,8 @@ returns c =
     let mid = c.if-coefficients-le8.buffer in
     let k = c.if-coefficients-le8.known in
     let p = linear (reverse (numbers c.padded_to_twelve-twelve.result)) c.args.shift in
-    let front : c.min-front.result ≡ min (length c.args.buffer.now) 12 = search rules in
     let made = λ (n : ℕ) (ys : List ℤ). restored p n ys in
-    let same : restored p k mid ≡ restored p 12 (c.predict_plain.new.buffer ++ drop c.min-front.result xs)
+    let same : restored p k mid ≡ restored p 12 (c.predict_plain-2.new.buffer ++ drop 12 xs)
     = elim c.if-coefficients-le8.branch [
       | then-coefficients-le8 w ↦ ap₂ made w.known-is w.buffer-is ∙ w.predict_12_taps-known.ensures.restored
       | else-coefficients-le8 w ↦ ap₂ made w.known-is w.buffer-is ∙ w.predict_12_taps-known-else-coefficients-le8.ensures.restored
@@ -32,5 +31,5 @@ returns c =
       | then-coefficients-le8 w ↦ omega (arith, w.known-is, w.predict_12_taps-known.ensures.few, ap length w.buffer-is)
       | else-coefficients-le8 w ↦ omega (arith, w.known-is, w.predict_12_taps-known-else-coefficients-le8.ensures.few, ap length w.buffer-is)
     ] in
-    all_restored cs (numbers c.padded_to_twelve-twelve.result) c.predict_plain.new.buffer mid c.predict_plain-2.new.buffer xs c.args.shift c.min-front.result 12 k (12 - length cs)
-    (omega arith) (omega arith) (omega arith) (omega arith) most c.padded_to_twelve-twelve.ensures.value c.predict_plain.ensures same c.predict_plain-2.ensures
+    all_restored cs (numbers c.padded_to_twelve-twelve.result) c.predict_plain-2.new.buffer mid c.predict_plain-3.new.buffer xs c.args.shift 12 k (12 - length cs)
+    (omega arith) (omega arith) (omega arith) most c.padded_to_twelve-twelve.ensures.value c.predict_plain-2.ensures same c.predict_plain-3.ensures

@@ -1,26 +1,23 @@
-use Rattle.std.proofs.Common.{◌+◌, ◌∙◌, refl, arith}
-use Rattle.claxon_subframe.proofs.PredictorState.{none_restored, place_is, then_ok, then_err, then_front_restored}
+use Rattle.std.proofs.Common.{◌+◌, ◌*◌, ◌∙◌, refl, arith}
+use Rattle.claxon_format.specs.Predict.{linear}
+use Rattle.claxon_subframe.proofs.PredictorState.{none_restored, place_is, then_ok, then_err, place_restored}
 use Rattle.claxon_subframe.proofs.subframe.predictor.restore.restore_front.Goals as goal
 
-pub loop-place-init : goal.loop-place-init
-loop-place-init g c = record { kept = refl; least = omega arith; most = omega arith; within = omega arith; whole = omega arith; fits = c.requires.sums; restored = λ ks are last stands. none_restored stands }
+pub loop-ten-init : goal.loop-ten-init
+loop-ten-init g c = record { kept = refl; fits = c.requires.sums; restored = λ ks are last stands. place_is (c.args.start + 10 * 0) (none_restored stands) (omega arith) }
 
-pub loop-place-preserved : goal.loop-place-preserved
-loop-place-preserved g c = record {
-  kept = c.restore_ten.ensures.kept ∙ c.loop-place.invariant.kept;
-  least = omega arith;
-  most = omega arith;
-  within = omega arith;
-  whole = omega arith;
+pub loop-ten-preserved : goal.loop-ten-preserved
+loop-ten-preserved g c = record {
+  kept = c.restore_ten.ensures.kept ∙ c.loop-ten.invariant.kept;
   fits = c.in-Ok.ensures.fits;
   restored = λ ks are last stands.
-      place_is (c.loop-place.place + 10) (then_ok (c.loop-place.invariant.restored ks are last stands) (c.in-Ok.ensures.restored ks are last) (omega arith)) (omega arith);
+      place_is (c.args.start + 10 * (c.loop-ten.ten + 1)) (then_ok (c.loop-ten.invariant.restored ks are last stands) (c.in-Ok.ensures.restored ks are last) (omega arith)) (omega arith);
 }
 
 pub returns-in-Err-clause-restored : goal.returns-in-Err-clause-restored
 returns-in-Err-clause-restored g c = λ ks are last stands.
-    then_err (c.loop-place.invariant.restored ks are last stands) (c.in-Err.ensures.restored ks are last) (omega arith)
+    then_err (c.loop-ten.invariant.restored ks are last stands) (c.in-Err.ensures.restored ks are last) (omega arith)
 
 pub returns-clause-restored : goal.returns-clause-restored
 returns-clause-restored g c = λ ks are last stands.
-    then_front_restored c.restore_rest.new.buffer c.restore_rest.result (c.loop-place.invariant.restored ks are last stands) (c.restore_rest.ensures.restored ks are last) (omega arith)
+    place_restored (linear ks c.args.shift) c.loop-ten.buffer _ (c.args.start + 10 * c.loop-ten.ten) (omega arith) (c.loop-ten.invariant.restored ks are last stands).same
