@@ -1,5 +1,5 @@
 -- What calls return for the next tag in the content of a Vorbis comment block.
-use Rattle.std.proofs.Common.{◌≡◌, inl, inr, ℕ, zero, suc, ◌+◌, ◌-◌, ◌<◌, ◌≤◌, List, [], ◌∷◌, ◌++◌, length, take, drop, refl, sym, ap, subst, ◌∙◌, arith, length-append, append_assoc, None, Some}
+use Rattle.std.proofs.Common.{◌≡◌, inl, inr, ℕ, zero, suc, ◌+◌, ◌-◌, ◌<◌, ◌≤◌, List, [], ◌∷◌, Option, ◌++◌, length, take, drop, refl, sym, ap, subst, ◌∙◌, arith, length-append, append_assoc, None, Some}
 use Rattle.std.proofs.lemmas.List.{drop-drop, drop_at, length-drop, length-take, take-append-drop, take_at}
 use Rattle.claxon.specs.Codes.{Each}
 use Rattle.claxon.specs.Comments.{EntriesOf, Entry, IsEntry, LengthPrefixed}
@@ -11,7 +11,8 @@ use Rattle.claxon.specs.Errors.{Error}
 use Rattle.claxon.specs.Errors.TheVariants.{IoError, FormatError, Unsupported, OutOfMemory}
 use Rattle.claxon_c.specs.NextTag.{CTagFaultIsComplete, CTagFaultIsSound, CTagIsComplete, CTagIsSound, CTagNoMoreIffEnd, CTagsAreInOrder, EmptyTexts, NextTag, ShowsTag, TagStands, TagsAre, TextsFrom}
 use Rattle.claxon_c.specs.Status.{ErrorIsReported, FaultIsReported, IsFaultStatus, no_more}
-use Rattle.claxon_c.specs.TagReader.{ReadsFault, tag_at}
+use Rattle.claxon_c.specs.TagReader.{IsTagOf, ReadsFault, tag_at}
+use Rattle.claxon_c.specs.declared.tags.Tag.{Tag}
 use Rattle.claxon_c.proofs.Reports.{reported_fault}
 use Rattle.claxon_c.proofs.TagsRead.{end_read, end_stands, fault_read, fault_stands, tag_read, tag_stands}
 
@@ -142,49 +143,60 @@ tags_after (suc n) content rest texts others some is each m = (texts, subst (Eac
 
 -- ---- the clauses
 
--- the value begins within the tag
-pub value_inside : (place : ℕ) (content : List ℕ) (e : Entry) (rest : List ℕ) (end name_at name_length : ℕ) → tag_at place content ≡ Done (Some e) rest → name_at + length e.text ≡ end → name_length ≡ e.place → name_at + name_length + 1 ≤ end
-value_inside place content e rest end name_at name_length read from count =
-    let inside = place_inside e (entry_of_stands place content e rest (tag_stands place content e rest read)) in
-    omega arith
+-- the entry of a tag that was found
+pub record FoundTag (place : ℕ) (content : List ℕ) (tag : Tag) : Type 0 where
+  pub entry : Entry
+  pub rest : List ℕ
+  pub read : tag_at place content ≡ Done (Some entry) rest
+  pub after : tag.end + length rest ≡ length content
+  pub from : tag.name_at + length entry.text ≡ tag.end
+  pub count : tag.name_length ≡ entry.place
+  -- the value begins within the tag
+  pub inside : tag.name_at + tag.name_length + 1 ≤ tag.end
+
+pub found_tag : (place : ℕ) (content : List ℕ) (found : Option Tag) (tag : Tag) → found ≡ Some tag → IsTagOf content (tag_at place content) found → FoundTag place content tag
+found_tag place content found tag is h =
+    let (e, rest, read, after, from, count) = subst (IsTagOf content (tag_at place content)) is h in
+    let separator = place_inside e (entry_of_stands place content e rest (tag_stands place content e rest read)) in
+    record { entry = e; rest = rest; read = read; after = after; from = from; count = count; inside = omega arith }
 
 same_tag : (d e : Entry) (r s : List ℕ) → Done (Some d) r ≡ Done (Some e) s → (d ≡ e) × (r ≡ s)
 same_tag d e r s p = (let q : Some d ≡ Some e = cc in cc, cc)
 
 -- a tag is returned
-module _ (place : ℕ) (content : List ℕ) (e : Entry) (rest : List ℕ) (read : tag_at place content ≡ Done (Some e) rest) (to name_at name_length value_at value_length : ℕ)
-    (after : to + length rest ≡ length content) (from : name_at + length e.text ≡ to) (count : name_length ≡ e.place) (value-at : value_at ≡ name_at + name_length + 1) (value-count : value_length ≡ to - value_at) where
-  found_shows : ShowsTag content e rest to name_at name_length value_at value_length
-  found_shows = shows_tag place content e rest (tag_stands place content e rest read) to name_at name_length value_at value_length after from count value-at value-count
+module _ (place : ℕ) (content : List ℕ) {tag : Tag} (t : FoundTag place content tag) (to name_at name_length value_at value_length : ℕ)
+    (after : to + length t.rest ≡ length content) (from : name_at + length t.entry.text ≡ to) (count : name_length ≡ t.entry.place) (value-at : value_at ≡ name_at + name_length + 1) (value-count : value_length ≡ to - value_at) where
+  found_shows : ShowsTag content t.entry t.rest to name_at name_length value_at value_length
+  found_shows = shows_tag place content t.entry t.rest (tag_stands place content t.entry t.rest t.read) to name_at name_length value_at value_length after from count value-at value-count
 
   pub found_sound : CTagIsSound content place 0 to name_at name_length value_at value_length
-  found_sound says = (e, rest, tag_stands place content e rest read, found_shows)
+  found_sound says = (t.entry, t.rest, tag_stands place content t.entry t.rest t.read, found_shows)
 
   pub found_complete : CTagIsComplete content place 0 to name_at name_length value_at value_length
   found_complete d s stands =
-      let same = same_tag e d rest s (sym read ∙ tag_read place content d s stands) in
-      (refl, subst (λ (z : List ℕ). ShowsTag content d z to name_at name_length value_at value_length) same.1 (subst (λ (z : Entry). ShowsTag content z rest to name_at name_length value_at value_length) same.0 found_shows))
+      let same = same_tag t.entry d t.rest s (sym t.read ∙ tag_read place content d s stands) in
+      (refl, subst (λ (z : List ℕ). ShowsTag content d z to name_at name_length value_at value_length) same.1 (subst (λ (z : Entry). ShowsTag content z t.rest to name_at name_length value_at value_length) same.0 found_shows))
 
   pub found_in_order : CTagsAreInOrder content place 0 to name_at name_length value_at value_length
   found_in_order [] are =
       let k = tag_texts place content [] are in
-      absurd (let p = sym read ∙ end_read place content (k.bytes, k.from, all_empty k.texts k.bytes k.each k.are) in let q : Some e ≡ None = cc in cc)
+      absurd (let p = sym t.read ∙ end_read place content (k.bytes, k.from, all_empty k.texts k.bytes k.each k.are) in let q : Some t.entry ≡ None = cc in cc)
   found_in_order (d ∷ others) are =
       let k = tag_texts place content (d ∷ others) are in
       let first = first_tag_of k.texts k.bytes d others k.each k.are in
       let stands : TagStands place content d first.rest = (k.bytes, first.code, k.from, first.tag, first.joined) in
       let shown = found_complete d first.rest stands in
-      let same = same_tag e d rest first.rest (sym read ∙ tag_read place content d first.rest stands) in
-      let mine = tag_stands place content e rest read in
-      let is : drop to content ≡ first.rest = rest_is place content e rest mine to name_at name_length value_at value_length after from count value-at value-count ∙ same.1 in
-      let some = not_first place content e rest mine to name_at name_length value_at value_length after from count value-at value-count in
+      let same = same_tag t.entry d t.rest first.rest (sym t.read ∙ tag_read place content d first.rest stands) in
+      let mine = tag_stands place content t.entry t.rest t.read in
+      let is : drop to content ≡ first.rest = rest_is place content t.entry t.rest mine to name_at name_length value_at value_length after from count value-at value-count ∙ same.1 in
+      let some = not_first place content t.entry t.rest mine to name_at name_length value_at value_length after from count value-at value-count in
       (refl, first.rest, shown.1, tags_after to content first.rest first.later others some is first.each first.entries)
 
   pub found_no_more : CTagNoMoreIffEnd content place 0
-  found_no_more = (λ says. absurd cc, λ left. absurd (let p = sym read ∙ end_read place content left in let q : Some e ≡ None = cc in cc))
+  found_no_more = (λ says. absurd cc, λ left. absurd (let p = sym t.read ∙ end_read place content left in let q : Some t.entry ≡ None = cc in cc))
 
   pub found_named : (old new : List ℕ) → CTagFaultIsComplete content place 0 old new
-  found_named old new f stands = absurd (let p = sym read ∙ (fault_read place content f stands).1 in cc)
+  found_named old new f stands = absurd (let p = sym t.read ∙ (fault_read place content f stands).1 in cc)
 
 -- no tag is left
 module _ (place : ℕ) (content : List ℕ) (rest : List ℕ) (read : tag_at place content ≡ Done None rest) (to name_at name_length value_at value_length : ℕ) where

@@ -3,7 +3,7 @@ use Rattle.std.proofs.Common.{◌≡◌, ◌⊎◌, inl, inr, ℕ, ◌<◌, true
 use Rattle.std.specs.Prelude.{Ok, Err}
 use Rattle.claxon_format.specs.Frame.{StreamFormat}
 use Rattle.claxon_format.specs.read.Frame.{Start, start_at}
-use Rattle.claxon_format.specs.read.Reading.{Reads, Done, Faulty, Incomplete, bind, done}
+use Rattle.claxon_format.specs.read.Reading.{Reads, Done, Incomplete, bind, done}
 use Rattle.claxon_format.proofs.FrameBytes.{Reads-start}
 use Rattle.claxon_format.proofs.Laws.{Reads-map, Reads-same, unambiguous}
 use Rattle.claxon_input.specs.declared.error.Error.TheVariants.{OutOfMemory}

@@ -61,21 +61,22 @@ put_chunk k n start xs ys place fits e =
 
 -- ---- the loop over the channels
 
--- i of the channels were read and put into xs, up to `start`
-pub record ChannelsSoFar (ws : List ℕ) (size i start : ℕ) (xs : List ℤ) (old new : State Bool) : Type 0 where
+-- i of the channels, of which there are so many, were read and put into xs, up to `start`
+pub record ChannelsSoFar (ws : List ℕ) (count size i start : ℕ) (xs : List ℤ) (old new : State Bool) : Type 0 where
+  pub depths : length ws ≡ count
   pub place : start ≡ i * size
-  pub whole : length xs ≡ length ws * size
+  pub whole : length xs ≡ count * size
   pub so_far : Consumes old new (λ s m. coded_channels_at size ws s ≡ with_front (chunks i size xs) (coded_channels_at size (drop i ws) m))
 
-pub channels_begin : (ws : List ℕ) (size : ℕ) (xs : List ℤ) (a : State Bool) → length xs ≡ length ws * size → ChannelsSoFar ws size 0 0 xs a a
-channels_begin ws size xs a e = record { place = omega arith; whole = e; so_far = consumes_none a _ (sym (front_none (coded_channels_at size ws a.remaining))) }
+pub channels_begin : (ws : List ℕ) (count size : ℕ) (xs : List ℤ) (a : State Bool) → length ws ≡ count → length xs ≡ count * size → ChannelsSoFar ws count size 0 0 xs a a
+channels_begin ws count size xs a n e = record { depths = n; place = omega arith; whole = e; so_far = consumes_none a _ (sym (front_none (coded_channels_at size ws a.remaining))) }
 
 -- the next channel fits into the buffer
 chunk_in_buffer : (i n size start len : ℕ) → i < n → start ≡ i * size → len ≡ n * size → start + size ≤ len
 chunk_in_buffer i n size start len lt place whole = let e = chunk_ends n size i lt in omega arith
 
-pub channels_fit : {ws : List ℕ} {size i start : ℕ} {xs : List ℤ} {a b : State Bool} → i < length ws → ChannelsSoFar ws size i start xs a b → start + size ≤ length xs
-channels_fit {ws = ws} {size = size} {i = i} {start = start} {xs = xs} lt h = chunk_in_buffer i (length ws) size start (length xs) lt h.place h.whole
+pub channels_fit : {ws : List ℕ} {count size i start : ℕ} {xs : List ℤ} {a b : State Bool} → i < count → ChannelsSoFar ws count size i start xs a b → start + size ≤ length xs
+channels_fit {count = count} {size = size} {i = i} {start = start} {xs = xs} lt h = chunk_in_buffer i count size start (length xs) lt h.place h.whole
 
 subframes_more : (ws : List ℕ) (size i w : ℕ) (front : List (List ℤ)) (ys : List ℤ) (s m : Bits) (total : Reading Bool (List (List ℤ))) → i < length ws → get_or ws i 0 ≡ w → subframe_at w size s ≡ Done ys m
     → with_front front (coded_channels_at size (drop i ws) s) ≡ total → with_front (front ++ ys ∷ []) (coded_channels_at size (drop (i + 1) ws) m) ≡ total
@@ -85,29 +86,30 @@ subframes_more ws size i w front ys s m total lt here e so_far =
     = rw (drop_more ws i 0 lt, here, e) (regroup front ys (coded_channels_at size (drop (i + 1) ws) m)) in
     sym one ∙ so_far
 
-pub channels_next : {ws : List ℕ} {size i start : ℕ} {xs : List ℤ} (w : ℕ) (ys : List ℤ) {a b c : State Bool} → i < length ws → get_or ws i 0 ≡ w → ChannelsSoFar ws size i start xs a b
+pub channels_next : {ws : List ℕ} {count size i start : ℕ} {xs : List ℤ} (w : ℕ) (ys : List ℤ) {a b c : State Bool} → i < count → get_or ws i 0 ≡ w → ChannelsSoFar ws count size i start xs a b
     → length ys ≡ length (take (start + size - start) (drop start xs)) → Consumes b c (λ s m. subframe_at w (length (take (start + size - start) (drop start xs))) s ≡ Done ys m)
-    → ChannelsSoFar ws size (i + 1) (start + size) (put_mid start (start + size - start) xs ys) a c
+    → ChannelsSoFar ws count size (i + 1) (start + size) (put_mid start (start + size - start) xs ys) a c
 channels_next {ws = ws} {size = size} {i = i} {start = start} {xs = xs} w ys {a = a} {b = b} {c = c} lt here h e k =
     let fits = channels_fit lt h in
     let n = length-range start size xs fits in
     let q : Consumes b c (λ s m. subframe_at w size s ≡ Done ys m) = subst (λ (z : ℕ). Consumes b c (λ s m. subframe_at w z s ≡ Done ys m)) n k in
     let p = h.place in
     record {
+      depths = h.depths;
       place = omega arith;
       whole = same_len_mid start (start + size - start) xs ys e ∙ h.whole;
-      so_far = consumes_then _ h.so_far q (λ x y. rw (put_chunk i size start xs ys h.place fits (e ∙ n)) (sym (subframes_more ws size i w (chunks i size xs) ys _ _ (coded_channels_at size ws a.remaining) lt here y (sym x))));
+      so_far = consumes_then _ h.so_far q (λ x y. rw (put_chunk i size start xs ys h.place fits (e ∙ n)) (sym (subframes_more ws size i w (chunks i size xs) ys _ _ (coded_channels_at size ws a.remaining) (omega (arith, lt, h.depths)) here y (sym x))));
     }
 
 channels_stop : (ws : List ℕ) (size i w : ℕ) (front : List (List ℤ)) → i < length ws → get_or ws i 0 ≡ w → StopsWith (subframe_at w size) (λ m. with_front front (coded_channels_at size (drop i ws) m))
 unfolding coded_channels_at each_at
 channels_stop ws size i w front lt here = record { fault = λ s f rest e. rw (drop_more ws i 0 lt, here, e) refl; incomplete = λ s e. rw (drop_more ws i 0 lt, here, e) refl }
 
-pub channels_err : {ws : List ℕ} {size i start : ℕ} {xs : List ℤ} {e : Error} (w : ℕ) {a b c : State Bool} → i < length ws → get_or ws i 0 ≡ w → ChannelsSoFar ws size i start xs a b
+pub channels_err : {ws : List ℕ} {count size i start : ℕ} {xs : List ℤ} {e : Error} (w : ℕ) {a b c : State Bool} → i < count → get_or ws i 0 ≡ w → ChannelsSoFar ws count size i start xs a b
     → Stops e (subframe_at w (length (take (start + size - start) (drop start xs)))) b c → Stops e (coded_channels_at size ws) a c
 channels_err {ws = ws} {size = size} {i = i} {start = start} {xs = xs} {e = e} w {b = b} {c = c} lt here h k =
     let n = length-range start size xs (channels_fit lt h) in
-    stops_after h.so_far (channels_stop ws size i w (chunks i size xs) lt here) (subst (λ (z : ℕ). Stops e (subframe_at w z) b c) n k)
+    stops_after h.so_far (channels_stop ws size i w (chunks i size xs) (omega (arith, lt, h.depths)) here) (subst (λ (z : ℕ). Stops e (subframe_at w z) b c) n k)
 
 subframes_done : (ws : List ℕ) (size i : ℕ) (front : List (List ℤ)) (m : Bits) (total : Reading Bool (List (List ℤ))) → length ws ≤ i → total ≡ with_front front (coded_channels_at size (drop i ws) m) → total ≡ Done front m
 unfolding coded_channels_at each_at
@@ -115,6 +117,7 @@ subframes_done ws size i front m total le e =
     let one : with_front front (coded_channels_at size (drop i ws) m) ≡ Done front m = rw (drop_all i ws le) (ap (λ (t : List (List ℤ)). Done t m) (append-nil front)) in
     e ∙ one
 
-pub channels_end : {ws : List ℕ} {size i start : ℕ} {xs : List ℤ} {a b : State Bool} (k : ℕ) → i ≡ k → length ws ≡ k → ChannelsSoFar ws size i start xs a b → Consumes a b (λ s m. coded_channels_at size ws s ≡ Done (chunks k size xs) m)
-channels_end {ws = ws} {size = size} {i = i} {xs = xs} {a = a} {b = b} k e n h =
+pub channels_end : {ws : List ℕ} {count size i start : ℕ} {xs : List ℤ} {a b : State Bool} → i ≡ count → ChannelsSoFar ws count size i start xs a b → Consumes a b (λ s m. coded_channels_at size ws s ≡ Done (chunks count size xs) m)
+channels_end {ws = ws} {size = size} {i = i} {xs = xs} {a = a} {b = b} e h =
+    let n = h.depths in
     consumes_map _ h.so_far (λ p. subframes_done ws size i (chunks i size xs) b.remaining (coded_channels_at size ws a.remaining) (omega arith) p ∙ ap (λ (j : ℕ). Done (chunks j size xs) b.remaining) e)

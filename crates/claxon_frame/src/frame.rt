@@ -273,7 +273,7 @@ fn decode_subframes<R: ReadBytes>(
 }
 
 // The subframes of all channels, decoded into the buffer one after another.
-#[tactic(auto, using(crate::proofs::Chunks::chunk_ends))]
+#[tactic(auto, using(crate::proofs::SubframesInBuffer::channels_fit))]
 fn decode_channels<R: ReadBytes>(
     input: &mut Bitstream<R>,
     header: &FrameHeader,

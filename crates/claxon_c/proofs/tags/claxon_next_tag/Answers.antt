@@ -1,94 +1,70 @@
 use Rattle.std.proofs.Common.{arith, ◌≡◌, ◌≤◌, ◌+◌, ◌-◌, None, Some, refl, rules, subst}
 use Rattle.claxon_c.specs.TagReader.{IsTagOf, tag_at}
-use Rattle.claxon_c.proofs.TagCalls.{faulty_complete, faulty_in_order, faulty_named, faulty_no_more, faulty_sound, found_complete, found_in_order, found_named, found_no_more, found_sound, none_complete, none_in_order, none_named, none_no_more, value_inside}
+use Rattle.claxon_c.proofs.TagCalls.{faulty_complete, faulty_in_order, faulty_named, faulty_no_more, faulty_sound, found_complete, found_in_order, found_named, found_no_more, found_sound, none_complete, none_in_order, none_named, none_no_more, found_tag}
 use Rattle.claxon_c.proofs.tags.claxon_next_tag.Goals as goal
 
 pub overflow_add-value_at : goal.overflow_add-value_at
 overflow_add-value_at c =
-    let tag = c.in-Ok-Some.tag in
-    let is : c.in-Ok-Some.field-0 ≡ Some tag = search rules in
-    let (e, rest, read, after, from, count) = subst (IsTagOf c.args.content.now (tag_at c.args.place.now c.args.content.now)) is c.in-Ok-Some.ensures in
-    let inside : tag.name_at + tag.name_length + 1 ≤ tag.end = value_inside c.args.place.now c.args.content.now e rest tag.end tag.name_at tag.name_length read from count in
-    search (rules, inside)
+    let t = found_tag c.args.place.now c.args.content.now _ _ c.in-Ok-Some.field-0-is c.in-Ok-Some.ensures in
+    search (rules, t.inside)
 
 pub overflow_add-value_at-in-Ok-Some : goal.overflow_add-value_at-in-Ok-Some
 overflow_add-value_at-in-Ok-Some c =
-    let tag = c.in-Ok-Some.tag in
-    let is : c.in-Ok-Some.field-0 ≡ Some tag = search rules in
-    let (e, rest, read, after, from, count) = subst (IsTagOf c.args.content.now (tag_at c.args.place.now c.args.content.now)) is c.in-Ok-Some.ensures in
-    let inside : tag.name_at + tag.name_length + 1 ≤ tag.end = value_inside c.args.place.now c.args.content.now e rest tag.end tag.name_at tag.name_length read from count in
-    search (rules, inside)
+    let t = found_tag c.args.place.now c.args.content.now _ _ c.in-Ok-Some.field-0-is c.in-Ok-Some.ensures in
+    search (rules, t.inside)
 
 pub overflow_sub-value_length : goal.overflow_sub-value_length
 overflow_sub-value_length c =
-    let tag = c.in-Ok-Some.tag in
-    let is : c.in-Ok-Some.field-0 ≡ Some tag = search rules in
-    let (e, rest, read, after, from, count) = subst (IsTagOf c.args.content.now (tag_at c.args.place.now c.args.content.now)) is c.in-Ok-Some.ensures in
-    let inside : tag.name_at + tag.name_length + 1 ≤ tag.end = value_inside c.args.place.now c.args.content.now e rest tag.end tag.name_at tag.name_length read from count in
-    inside
+    let t = found_tag c.args.place.now c.args.content.now _ _ c.in-Ok-Some.field-0-is c.in-Ok-Some.ensures in
+    t.inside
 
 pub returns-in-Ok-Some-clause-sound : goal.returns-in-Ok-Some-clause-sound
 returns-in-Ok-Some-clause-sound c =
-    let tag = c.in-Ok-Some.tag in
-    let is : c.in-Ok-Some.field-0 ≡ Some tag = search rules in
-    let (e, rest, read, after, from, count) = subst (IsTagOf c.args.content.now (tag_at c.args.place.now c.args.content.now)) is c.in-Ok-Some.ensures in
-    let inside : tag.name_at + tag.name_length + 1 ≤ tag.end = value_inside c.args.place.now c.args.content.now e rest tag.end tag.name_at tag.name_length read from count in
-    found_sound c.args.place.now c.args.content.now e rest read _ _ _ _ _ (omega (arith, after, inside)) (omega (arith, from, inside)) count (omega arith) (omega (arith, inside))
+    let t = found_tag c.args.place.now c.args.content.now _ _ c.in-Ok-Some.field-0-is c.in-Ok-Some.ensures in
+    found_sound c.args.place.now c.args.content.now t _ _ _ _ _ (omega (arith, t.after, t.inside)) (omega (arith, t.from, t.inside)) t.count (omega arith) (omega (arith, t.inside))
 
 pub returns-in-Ok-Some-clause-complete : goal.returns-in-Ok-Some-clause-complete
 returns-in-Ok-Some-clause-complete c =
-    let tag = c.in-Ok-Some.tag in
-    let is : c.in-Ok-Some.field-0 ≡ Some tag = search rules in
-    let (e, rest, read, after, from, count) = subst (IsTagOf c.args.content.now (tag_at c.args.place.now c.args.content.now)) is c.in-Ok-Some.ensures in
-    let inside : tag.name_at + tag.name_length + 1 ≤ tag.end = value_inside c.args.place.now c.args.content.now e rest tag.end tag.name_at tag.name_length read from count in
-    found_complete c.args.place.now c.args.content.now e rest read _ _ _ _ _ (omega (arith, after, inside)) (omega (arith, from, inside)) count (omega arith) (omega (arith, inside))
+    let t = found_tag c.args.place.now c.args.content.now _ _ c.in-Ok-Some.field-0-is c.in-Ok-Some.ensures in
+    found_complete c.args.place.now c.args.content.now t _ _ _ _ _ (omega (arith, t.after, t.inside)) (omega (arith, t.from, t.inside)) t.count (omega arith) (omega (arith, t.inside))
 
 pub returns-in-Ok-Some-clause-in_order : goal.returns-in-Ok-Some-clause-in_order
 returns-in-Ok-Some-clause-in_order c =
-    let tag = c.in-Ok-Some.tag in
-    let is : c.in-Ok-Some.field-0 ≡ Some tag = search rules in
-    let (e, rest, read, after, from, count) = subst (IsTagOf c.args.content.now (tag_at c.args.place.now c.args.content.now)) is c.in-Ok-Some.ensures in
-    let inside : tag.name_at + tag.name_length + 1 ≤ tag.end = value_inside c.args.place.now c.args.content.now e rest tag.end tag.name_at tag.name_length read from count in
-    found_in_order c.args.place.now c.args.content.now e rest read _ _ _ _ _ (omega (arith, after, inside)) (omega (arith, from, inside)) count (omega arith) (omega (arith, inside))
+    let t = found_tag c.args.place.now c.args.content.now _ _ c.in-Ok-Some.field-0-is c.in-Ok-Some.ensures in
+    found_in_order c.args.place.now c.args.content.now t _ _ _ _ _ (omega (arith, t.after, t.inside)) (omega (arith, t.from, t.inside)) t.count (omega arith) (omega (arith, t.inside))
 
 pub returns-in-Ok-Some-clause-no_more : goal.returns-in-Ok-Some-clause-no_more
 returns-in-Ok-Some-clause-no_more c =
+    let t = found_tag c.args.place.now c.args.content.now _ _ c.in-Ok-Some.field-0-is c.in-Ok-Some.ensures in
     let tag = c.in-Ok-Some.tag in
-    let is : c.in-Ok-Some.field-0 ≡ Some tag = search rules in
-    let (e, rest, read, after, from, count) = subst (IsTagOf c.args.content.now (tag_at c.args.place.now c.args.content.now)) is c.in-Ok-Some.ensures in
     let value_at = tag.name_at + tag.name_length + 1 in
-    found_no_more c.args.place.now c.args.content.now e rest read tag.end tag.name_at tag.name_length value_at (tag.end - value_at) after from count refl refl
+    found_no_more c.args.place.now c.args.content.now t tag.end tag.name_at tag.name_length value_at (tag.end - value_at) t.after t.from t.count refl refl
 
 pub returns-in-Ok-Some-clause-named : goal.returns-in-Ok-Some-clause-named
 returns-in-Ok-Some-clause-named c =
+    let t = found_tag c.args.place.now c.args.content.now _ _ c.in-Ok-Some.field-0-is c.in-Ok-Some.ensures in
     let tag = c.in-Ok-Some.tag in
-    let is : c.in-Ok-Some.field-0 ≡ Some tag = search rules in
-    let (e, rest, read, after, from, count) = subst (IsTagOf c.args.content.now (tag_at c.args.place.now c.args.content.now)) is c.in-Ok-Some.ensures in
     let value_at = tag.name_at + tag.name_length + 1 in
-    found_named c.args.place.now c.args.content.now e rest read tag.end tag.name_at tag.name_length value_at (tag.end - value_at) after from count refl refl c.args.error.now c.args.error.now
+    found_named c.args.place.now c.args.content.now t tag.end tag.name_at tag.name_length value_at (tag.end - value_at) t.after t.from t.count refl refl c.args.error.now c.args.error.now
 
 pub returns-in-Ok-None-clause-complete : goal.returns-in-Ok-None-clause-complete
 returns-in-Ok-None-clause-complete c =
-    let is : c.in-Ok-None.field-0 ≡ None = search rules in
-    let (rest, read) = subst (IsTagOf c.args.content.now (tag_at c.args.place.now c.args.content.now)) is c.in-Ok-None.ensures in
+    let (rest, read) = subst (IsTagOf c.args.content.now (tag_at c.args.place.now c.args.content.now)) c.in-Ok-None.field-0-is c.in-Ok-None.ensures in
     none_complete c.args.place.now c.args.content.now rest read c.args.place.now c.args.name_at.now c.args.name_length.now c.args.value_at.now c.args.value_length.now
 
 pub returns-in-Ok-None-clause-in_order : goal.returns-in-Ok-None-clause-in_order
 returns-in-Ok-None-clause-in_order c =
-    let is : c.in-Ok-None.field-0 ≡ None = search rules in
-    let (rest, read) = subst (IsTagOf c.args.content.now (tag_at c.args.place.now c.args.content.now)) is c.in-Ok-None.ensures in
+    let (rest, read) = subst (IsTagOf c.args.content.now (tag_at c.args.place.now c.args.content.now)) c.in-Ok-None.field-0-is c.in-Ok-None.ensures in
     none_in_order c.args.place.now c.args.content.now rest read c.args.place.now c.args.name_at.now c.args.name_length.now c.args.value_at.now c.args.value_length.now
 
 pub returns-in-Ok-None-clause-no_more : goal.returns-in-Ok-None-clause-no_more
 returns-in-Ok-None-clause-no_more c =
-    let is : c.in-Ok-None.field-0 ≡ None = search rules in
-    let (rest, read) = subst (IsTagOf c.args.content.now (tag_at c.args.place.now c.args.content.now)) is c.in-Ok-None.ensures in
+    let (rest, read) = subst (IsTagOf c.args.content.now (tag_at c.args.place.now c.args.content.now)) c.in-Ok-None.field-0-is c.in-Ok-None.ensures in
     none_no_more c.args.place.now c.args.content.now rest read c.args.place.now c.args.name_at.now c.args.name_length.now c.args.value_at.now c.args.value_length.now
 
 pub returns-in-Ok-None-clause-named : goal.returns-in-Ok-None-clause-named
 returns-in-Ok-None-clause-named c =
-    let is : c.in-Ok-None.field-0 ≡ None = search rules in
-    let (rest, read) = subst (IsTagOf c.args.content.now (tag_at c.args.place.now c.args.content.now)) is c.in-Ok-None.ensures in
+    let (rest, read) = subst (IsTagOf c.args.content.now (tag_at c.args.place.now c.args.content.now)) c.in-Ok-None.field-0-is c.in-Ok-None.ensures in
     none_named c.args.place.now c.args.content.now rest read c.args.place.now c.args.name_at.now c.args.name_length.now c.args.value_at.now c.args.value_length.now c.args.error.now c.args.error.now
 
 pub returns-in-Err-clause-complete : goal.returns-in-Err-clause-complete
