@@ -59,12 +59,12 @@ rest_restored cs reversed mid tail xs t k er le lt et e =
     ∙ ap (λ (l : List ℤ). restored (linear l t) (length reversed) xs) twice ∙ ap (λ (n : ℕ). restored (linear cs t) n xs) long
 
 -- the first f samples by the plain sum, those up to place k with zeros before the coefficients, and the others by the plain sum again
-pub all_restored : (cs padded front mid tail xs : List ℤ) (t f k m : ℕ) → length cs ≤ f → f ≤ length xs → f ≤ k → k ≤ length mid → padded ≡ replicate m (pos 0) ++ cs → front ≡ restored (linear (reverse cs) t) (length cs) (take f xs)
-    → restored (linear (reverse padded) t) k mid ≡ restored (linear (reverse padded) t) f (front ++ drop f xs)
+pub all_restored : (cs padded front mid tail xs : List ℤ) (t f n k m : ℕ) → length cs ≤ f → f ≤ length xs → n ≡ f → f ≤ k → k ≤ length mid → padded ≡ replicate m (pos 0) ++ cs → front ≡ restored (linear (reverse cs) t) (length cs) (take f xs)
+    → restored (linear (reverse padded) t) k mid ≡ restored (linear (reverse padded) t) n (front ++ drop f xs)
     → tail ≡ restored (linear (reverse cs) t) (length cs) (take (length mid - (k - length cs)) (drop (k - length cs) mid))
     → put_mid (k - length cs) (length mid - (k - length cs)) mid tail ≡ restored (linear (reverse cs) t) (length cs) xs
-all_restored cs padded front mid tail xs t f k m few lt le most e ef em et =
+all_restored cs padded front mid tail xs t f n k m few lt same le most e ef em et =
     let plain = λ (j : ℕ) (ys : List ℤ). padded_restored cs padded ys t j m e in
     let whole : restored (linear (reverse cs) t) k mid ≡ restored (linear (reverse cs) t) (length cs) xs
-    = sym (plain k mid) ∙ em ∙ plain f (front ++ drop f xs) ∙ front_restored cs xs front t f few lt ef in
+    = sym (plain k mid) ∙ em ∙ plain n (front ++ drop f xs) ∙ ap (λ (j : ℕ). restored (linear (reverse cs) t) j (front ++ drop f xs)) same ∙ front_restored cs xs front t f few lt ef in
     rest_restored (reverse cs) cs mid tail xs t k (sym (reverse-reverse cs)) (omega arith) most et whole ∙ ap (λ (j : ℕ). restored (linear (reverse cs) t) j xs) (length-reverse cs)

@@ -10,5 +10,5 @@ predict_32_taps-known-requires-clause-zeros g c =
 pub returns : goal.returns
 returns g c =
     let cs = c.args.coefficients.now in
-    all_restored cs c.padded_coefficients-padded.result c.predict_plain-2.new.buffer c.predict_32_taps-known.new.buffer c.predict_plain-3.new.buffer c.args.buffer.now c.args.shift (4 * g.row.VECTORS + 4) c.predict_32_taps-known.result (32 - length cs)
-    (omega arith) (omega arith) (omega arith) (omega arith) c.padded_coefficients-padded.ensures.value c.predict_plain-2.ensures c.predict_32_taps-known.ensures.restored c.predict_plain-3.ensures
+    all_restored cs c.padded_coefficients-padded.result c.predict_plain-2.new.buffer c.predict_32_taps-known.new.buffer c.predict_plain-3.new.buffer c.args.buffer.now c.args.shift _ (4 * g.row.VECTORS + 4) c.predict_32_taps-known.result (32 - length cs)
+    (omega arith) (omega arith) (omega arith) (omega arith) (omega arith) c.padded_coefficients-padded.ensures.value c.predict_plain-2.ensures c.predict_32_taps-known.ensures.restored c.predict_plain-3.ensures

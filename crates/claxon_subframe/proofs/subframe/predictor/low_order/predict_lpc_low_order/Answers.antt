@@ -31,5 +31,5 @@ returns c =
       | then-coefficients-le8 w ↦ omega (arith, w.known-is, w.predict_12_taps-known.ensures.few, ap length w.buffer-is)
       | else-coefficients-le8 w ↦ omega (arith, w.known-is, w.predict_12_taps-known-else-coefficients-le8.ensures.few, ap length w.buffer-is)
     ] in
-    all_restored cs (numbers c.padded_to_twelve-twelve.result) c.predict_plain-2.new.buffer mid c.predict_plain-3.new.buffer xs c.args.shift 12 k (12 - length cs)
-    (omega arith) (omega arith) (omega arith) most c.padded_to_twelve-twelve.ensures.value c.predict_plain-2.ensures same c.predict_plain-3.ensures
+    all_restored cs (numbers c.padded_to_twelve-twelve.result) c.predict_plain-2.new.buffer mid c.predict_plain-3.new.buffer xs c.args.shift 12 12 k (12 - length cs)
+    (omega arith) (omega arith) (omega arith) (omega arith) most c.padded_to_twelve-twelve.ensures.value c.predict_plain-2.ensures same c.predict_plain-3.ensures
