@@ -4,7 +4,7 @@
 //! lanes shift by half a vector. The products of the newest samples, four for the first of two and five for the second, are
 //! added last, one by one, so that a sample depends on the one just before it only by one product, and on no pending sum that
 //! was just computed.
-ghost use Rattle.std.specs.Prelude.{◌≡◌, ◌+◌, ◌%◌, ◌≤◌, ◌∷◌, [], List, ℤ, IfErr, IfOk, IfSome, IsTrue, length, FitsSigned};
+ghost use Rattle.std.specs.Prelude.{◌≡◌, ◌+◌, ◌%◌, ◌≤◌, ◌↔◌, ◌∷◌, [], List, ℤ, IfErr, IfOk, IfSome, IsTrue, length, FitsSigned};
 ghost use Rattle.std.specs.Int.{w32};
 ghost use Rattle.claxon_subframe.specs.Lanes.{LanesFit64};
 ghost use Rattle.claxon_subframe.specs.PendingSums.{ArePendingSumsOf, four_pending};
@@ -50,7 +50,7 @@ pub trait LaneTaps: Copy {
     fn both_fit(self, one: i64, two: i64) -> bool
         requires one { FitsSigned w32 one }
         requires two { FitsSigned w32 two }
-        ensures { IsTrue result → sample_fits one × sample_fits two };
+        ensures { IsTrue result ↔ (sample_fits one × sample_fits two) };
 
     /// The sums after two more samples.
     fn advance(self, sums: Self::Sums, one: i64, two: i64) -> Self::Sums
