@@ -79,7 +79,7 @@ module _ (d p : ℕ) (some : 2 ≤ 2 ^ d) (low : 2 ^ d ≤ p) (high : p < 2 * 2 
       let b : y % 256 < 256 = omega arith in
       xor_lt d c (y % 256 * 2 ^ (d - 8)) h (rw (bound, mul_comm (y % 256) (2 ^ (d - 8))) (mul-lt-mul_of_pos_left b q))
 
-  update_crc_lt : (xs : List ℕ) (c : ℕ) → 8 ≤ d → c < 2 ^ d → update_crc d p c xs < 2 ^ d
+  pub update_crc_lt : (xs : List ℕ) (c : ℕ) → 8 ≤ d → c < 2 ^ d → update_crc d p c xs < 2 ^ d
   unfolding update_crc
   update_crc_lt [] c e h = h
   update_crc_lt (y ∷ ys) c e h = update_crc_lt ys _ e (divide_lt d p some low high (replicate 8 false) (bit_xor c (y % 256 * 2 ^ (d - 8))) (xor_byte_lt c y e h))
@@ -258,16 +258,16 @@ update8_byte_is c y e h l k =
     k ∙ entry_8 (bit_xor c y) (xor_lt 8 c y h l) ∙ ap (λ z. zeros 8 0x107 8 (bit_xor c z)) m
 
 -- division by the polynomial of degree 16
-zeros16-xor : (n a c : ℕ) → a < 65536 → c < 65536 → zeros 16 0x18005 n (bit_xor a c) ≡ bit_xor (zeros 16 0x18005 n a) (zeros 16 0x18005 n c)
+pub zeros16-xor : (n a c : ℕ) → a < 65536 → c < 65536 → zeros 16 0x18005 n (bit_xor a c) ≡ bit_xor (zeros 16 0x18005 n a) (zeros 16 0x18005 n c)
 zeros16-xor n a c h l = zeros-xor 16 0x18005 (omega arith) (omega arith) (omega arith) n a c h l
 
-zeros16-small : (n x : ℕ) → x * 2 ^ n < 65536 → zeros 16 0x18005 n x ≡ x * 2 ^ n
+pub zeros16-small : (n x : ℕ) → x * 2 ^ n < 65536 → zeros 16 0x18005 n x ≡ x * 2 ^ n
 zeros16-small n x h = zeros-small 16 0x18005 (omega arith) (omega arith) (omega arith) n x h
 
-zeros16_lt : (n x : ℕ) → x < 65536 → zeros 16 0x18005 n x < 65536
+pub zeros16_lt : (n x : ℕ) → x < 65536 → zeros 16 0x18005 n x < 65536
 zeros16_lt n x h = divide_lt 16 0x18005 (omega arith) (omega arith) (omega arith) (replicate n false) x h
 
-byte-xor : (a b : ℕ) → bit_xor (a * 256) (b * 256) ≡ bit_xor a b * 256
+pub byte-xor : (a b : ℕ) → bit_xor (a * 256) (b * 256) ≡ bit_xor a b * 256
 byte-xor a b =
     let e : bit_xor (a * 256 + 0) (b * 256 + 0) ≡ bit_xor a b * 256 + 0 = xor_block 8 a b 0 0 (omega arith) (omega arith) in
     rw (add-zero (a * 256), add-zero (b * 256), add-zero (bit_xor a b * 256)) at e
@@ -296,11 +296,11 @@ update16_byte_is c y e h l k =
 -- ---- eight bytes at once
 
 -- what each byte adds to the CRC after n more bytes of zeros, whatever the others are
-unfoldable shares : ℕ → List ℕ → ℕ
+unfoldable pub shares : ℕ → List ℕ → ℕ
 shares n [] = 0
 shares n (y ∷ ys) = bit_xor (after_zeros (n + suc (length ys)) (y % 256 * 256)) (shares n ys)
 
-apart : (n : ℕ) (ys : List ℕ) (c : ℕ) → c < 65536 → after_zeros n (update_crc16 c ys) ≡ bit_xor (after_zeros (n + length ys) c) (shares n ys)
+pub apart : (n : ℕ) (ys : List ℕ) (c : ℕ) → c < 65536 → after_zeros n (update_crc16 c ys) ≡ bit_xor (after_zeros (n + length ys) c) (shares n ys)
 unfolding update_crc shares
 apart n [] c h = ap (λ m. after_zeros m c) (sym (add-zero n)) ∙ sym (xor_zero_r (after_zeros (n + 0) c))
 apart n (y ∷ ys) c h =
@@ -313,7 +313,7 @@ apart n (y ∷ ys) c h =
     ∙ xor_assoc (zeros 16 0x18005 m c) (zeros 16 0x18005 m (y % 256 * 256)) (shares n ys)
 
 -- a CRC is XORed into the next two bytes
-absorbed : (c y0 y1 : ℕ) (ys : List ℕ) → c < 65536 → y0 < 256 → y1 < 256 → update_crc16 c (y0 ∷ y1 ∷ ys) ≡ update_crc16 0 (bit_xor (c / 256) y0 ∷ bit_xor (c % 256) y1 ∷ ys)
+pub absorbed : (c y0 y1 : ℕ) (ys : List ℕ) → c < 65536 → y0 < 256 → y1 < 256 → update_crc16 c (y0 ∷ y1 ∷ ys) ≡ update_crc16 0 (bit_xor (c / 256) y0 ∷ bit_xor (c % 256) y1 ∷ ys)
 unfolding update_crc
 absorbed c y0 y1 ys h a b =
     let hi = bit_xor (c / 256) y0 in
@@ -330,7 +330,7 @@ absorbed c y0 y1 ys h a b =
     ap₂ (λ u v. bit_xor (zeros 16 0x18005 8 (bit_xor 0 (u * 256))) (v * 256)) n0 n1 ∙ ap (λ u. bit_xor (zeros 16 0x18005 8 u) (lo * 256)) (xor_zero_l (hi * 256)) in
     ap (λ u. update_crc16 (zeros 16 0x18005 8 u) ys) (left ∙ sym right)
 
-from_none : (n : ℕ) (ys : List ℕ) → after_zeros n (update_crc16 0 ys) ≡ shares n ys
+pub from_none : (n : ℕ) (ys : List ℕ) → after_zeros n (update_crc16 0 ys) ≡ shares n ys
 from_none n ys =
     let none : after_zeros (n + length ys) 0 ≡ 0 = zeros16-small (8 * (n + length ys)) 0 (omega arith) ∙ omega arith in
     apart n ys 0 (omega arith) ∙ ap (λ z. bit_xor z (shares n ys)) none ∙ xor_zero_l (shares n ys)
@@ -383,7 +383,7 @@ pub eight_of : (i : ℕ) (bs : List ℕ) → i + 8 ≤ length bs
 eight_of i bs e = simp (get_or-drop, add-zero) at (first_eight (drop i bs) (omega (arith, length-drop i bs)))
 
 -- no zeros follow
-none_more : (c : ℕ) → after_zeros 0 c ≡ c
+pub none_more : (c : ℕ) → after_zeros 0 c ≡ c
 none_more c = divide_none 16 0x18005 c
 
 pub eight_alone : (c e i : ℕ) (bs xs : List ℕ) → xs ≡ take 8 (drop i bs) → e ≡ after_zeros 0 (update_crc16 c (take 8 (drop 0 xs))) → e ≡ update_crc16 c (take 8 (drop i bs))

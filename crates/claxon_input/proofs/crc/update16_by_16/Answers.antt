@@ -1,7 +1,7 @@
 use Rattle.std.proofs.Common.{arith, refl, ap, ◌∙◌, ◌≡◌, ◌+◌, ◌*◌, ◌/◌, [], get_or, drop, length}
 use Rattle.claxon_input.specs.CrcUpdate.{update_crc16}
 use Rattle.claxon_input.proofs.CrcUpdate.{update_crc-piece, piece_at}
-use Rattle.claxon_input.proofs.crc.update16.Goals as goal
+use Rattle.claxon_input.proofs.crc.update16_by_16.Goals as goal
 
 pub loop-sixteen-init : goal.loop-sixteen-init
 loop-sixteen-init c = refl
