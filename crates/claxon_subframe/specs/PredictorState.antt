@@ -1,5 +1,6 @@
 -- What a predictor keeps from one pair of samples to the next.
-use Rattle.std.specs.Prelude.{◌≡◌, ℕ, ℤ, List, Result, IfOk, IfErr, length, take, reverse}
+use Rattle.std.specs.Prelude.{◌≡◌, ℕ, ℤ, List, Result, IfOk, IfErr, FitsSigned, length, take, reverse}
+use Rattle.std.specs.Int.{w32}
 use Rattle.claxon_format.specs.Predict.{linear}
 use Rattle.claxon_format.specs.read.Predict.{restored}
 use Rattle.claxon_subframe.specs.PendingSums.{AreNewest}
@@ -33,3 +34,7 @@ abbrev pub RestoresFront : {S : Type 0} → (List ℤ → Type 0) → (List ℤ 
 RestoresFront Coefficients Pending last shift old i before new j =
     (coefficients : List ℤ) → Coefficients coefficients → AreNewest coefficients last
     → StandsAt (Pending coefficients) old i before → restored (linear coefficients shift) j new ≡ restored (linear coefficients shift) i old
+
+-- lanes that every sample of 32 bits fits
+abbrev pub EachFits : (ℤ → Type 0) → Type 0
+EachFits SampleFits = (sample : ℤ) → FitsSigned w32 sample → SampleFits sample

@@ -205,6 +205,32 @@ fn crcs(rt: HostRuntime) -> Result<(), Fail> {
     Ok(())
 }
 
+// Around the shortest slice whose CRC is folded, and after whole and broken pieces of 128 bytes. Division bit by bit, in another
+// language, gave the same CRCs.
+#[test]
+fn crcs_of_long_slices(rt: HostRuntime) -> Result<(), Fail> {
+    let mut bytes = [0u8; 512];
+    for i in 0..512usize {
+        bytes[i] = (i * 7 % 251) as u8;
+    }
+    let rows: [(u32, u16); 6] = [
+        (255, 0x851a),
+        (256, 0x1956),
+        (383, 0xac7f),
+        (384, 0xff11),
+        (500, 0xb852),
+        (512, 0xfdb0),
+    ];
+    for (count, crc16) in rows {
+        let mut reader = Cursor::new(bytes);
+        assert!(rt;
+            crc16_of(&mut reader, count, &mut [])? == crc16,
+            "{count}"
+        );
+    }
+    Ok(())
+}
+
 #[test]
 fn a_pair_with_crc(rt: HostRuntime) -> Result<(), Fail> {
     let mut reader = Cursor::new([0xacu8, 0x04, 0x68, 0x11, 0xac, 0x04, 0x68, 0x10]);

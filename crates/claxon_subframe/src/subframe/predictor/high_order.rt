@@ -1,5 +1,5 @@
 //! Linear predictors of more than twelve coefficients.
-ghost use Rattle.std.specs.Prelude.{◌≡◌, ◌+◌, ◌-◌, ◌*◌, ◌^◌, ◌≤◌, length, take, reverse, replicate, pos, FitsSigned};
+ghost use Rattle.std.specs.Prelude.{◌≡◌, ◌+◌, ◌-◌, ◌*◌, ◌^◌, ◌<◌, ◌≤◌, length, take, reverse, replicate, pos, FitsSigned};
 ghost use Rattle.std.specs.Int.{w32};
 ghost use Rattle.claxon_format.specs.Predict.{linear};
 ghost use Rattle.claxon_format.specs.read.Predict.{restored};
@@ -228,6 +228,7 @@ fn predict_32_taps<const VECTORS: usize>(
     requires zeros { take (28 - 4 * VECTORS) padded.now ≡ replicate (28 - 4 * VECTORS) (pos 0) }
     ensures least { 4 * VECTORS + 4 ≤ result }
     ensures few { result ≤ length buffer.new }
+    ensures all { length buffer.new < result + 10 }
     ensures restored { restored (linear (reverse padded.now) shift) result buffer.new
         ≡ restored (linear (reverse padded.now) shift) (4 * VECTORS + 4) buffer.old }
 {

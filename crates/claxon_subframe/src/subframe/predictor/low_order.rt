@@ -1,5 +1,5 @@
 //! Linear predictors of at most twelve coefficients. Most are of this kind.
-ghost use Rattle.std.specs.Prelude.{◌≡◌, ◌-◌, ◌*◌, ◌≤◌, ◌++◌, length, take, reverse, replicate, pos, FitsSigned};
+ghost use Rattle.std.specs.Prelude.{◌≡◌, ◌+◌, ◌-◌, ◌*◌, ◌<◌, ◌≤◌, ◌++◌, length, take, reverse, replicate, pos, FitsSigned};
 ghost use Rattle.std.specs.Int.{w32};
 ghost use Rattle.claxon_format.specs.Predict.{linear};
 ghost use Rattle.claxon_format.specs.read.Predict.{restored};
@@ -190,6 +190,7 @@ fn predict_12_taps<const VECTORS: usize>(
         ≡ replicate (8 - 4 * VECTORS) (pos 0) }
     ensures least { 12 ≤ result }
     ensures few { result ≤ length buffer.new }
+    ensures all { length buffer.new < result + 10 }
     ensures restored { restored (linear (reverse (numbers coefficients.now)) shift) result buffer.new
         ≡ restored (linear (reverse (numbers coefficients.now)) shift) 12 buffer.old }
 {

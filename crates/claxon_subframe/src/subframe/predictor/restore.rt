@@ -4,11 +4,11 @@
 //! lanes shift by half a vector. The products of the newest samples, four for the first of two and five for the second, are
 //! added last, one by one, so that a sample depends on the one just before it only by one product, and on no pending sum that
 //! was just computed.
-ghost use Rattle.std.specs.Prelude.{◌≡◌, ◌+◌, ◌%◌, ◌≤◌, ◌↔◌, ◌∷◌, [], List, ℤ, IfErr, IfOk, IfSome, IsTrue, length, FitsSigned};
+ghost use Rattle.std.specs.Prelude.{◌≡◌, ◌+◌, ◌%◌, ◌<◌, ◌≤◌, ◌↔◌, ◌∷◌, [], List, ℤ, IfErr, IfOk, IfSome, IsSome, IsTrue, length, FitsSigned};
 ghost use Rattle.std.specs.Int.{w32};
 ghost use Rattle.claxon_subframe.specs.Lanes.{LanesFit64};
 ghost use Rattle.claxon_subframe.specs.PendingSums.{ArePendingSumsOf, four_pending};
-ghost use Rattle.claxon_subframe.specs.PredictorState.{RestoresFront, RestoresSamples};
+ghost use Rattle.claxon_subframe.specs.PredictorState.{EachFits, RestoresFront, RestoresSamples};
 
 use super::lanes::{NewestFive, PredictorState};
 use super::low_bits;
@@ -68,6 +68,7 @@ pub trait LaneTaps: Copy {
 pub fn first_sums<T: LaneTaps>(taps: T, samples: &[i32]) -> Option<T::Sums>
     requires even { length samples.now % 2 ≡ 0 }
     requires taps { T.taps_fit taps }
+    ensures all { EachFits T.sample_fits → IsSome result }
     ensures fit { IfSome result T.fit }
     ensures pending { IfSome result (ArePendingSumsOf (T.coefficients taps) T.pending samples.now) }
 {
@@ -103,6 +104,7 @@ fn restore_pair<T: LaneTaps>(
         buffer.new (i + 2) result }
     ensures fits { IfOk result (λ next. T.fit next.sums) }
     ensures place { IfErr result (λ place. place ≡ i) }
+    ensures all { EachFits T.sample_fits → IfErr result (λ place. ⊥) }
 {
     let pending = taps.next_four(state.sums);
     let newest = state
@@ -137,6 +139,7 @@ fn restore_ten<T: LaneTaps>(
         buffer.new (i + 10) result }
     ensures fits { IfOk result (λ next. T.fit next.sums) }
     ensures place { IfErr result (λ place. (i ≤ place) × (place ≤ i + 8)) }
+    ensures all { EachFits T.sample_fits → IfErr result (λ place. ⊥) }
 {
     let two = restore_pair(last, taps, shift, state, buffer, i)?;
     let four = restore_pair(last, taps, shift, two, buffer, i + 2)?;
@@ -163,6 +166,7 @@ pub fn restore_front<T: LaneTaps>(
     ensures kept { length buffer.new ≡ length buffer.old }
     ensures least { start ≤ result }
     ensures few { result ≤ length buffer.new }
+    ensures all { EachFits T.sample_fits → length buffer.new < result + 10 }
     ensures restored { RestoresFront (T.coefficients taps) T.pending last shift buffer.old start state
         buffer.new result }
 {

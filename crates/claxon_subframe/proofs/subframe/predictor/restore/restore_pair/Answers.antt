@@ -1,4 +1,5 @@
-use Rattle.std.proofs.Common.{◌+◌, ◌∙◌, get_or, take, reverse, pos, refl, sym, rules, arith, FitsSigned, w32}
+use Rattle.std.proofs.Common.{◌+◌, ◌∙◌, get_or, take, reverse, pos, refl, sym, rules, arith, subst, ℤ, FitsSigned, to_z, of_z, w32, w64}
+use Rattle.std.proofs.lemmas.Bool.{false≢true}
 use Rattle.std.proofs.lemmas.Int.{to_z-of_z}
 use Rattle.claxon_subframe.proofs.Lanes.{kept_fit_64, same_fit_64}
 use Rattle.claxon_subframe.proofs.RestoreLoopByTwo.{as_i64, narrowed}
@@ -25,3 +26,10 @@ returns-clause-restored g c = λ ks are last stands.
           (c.advance-sums.ensures.pending ks (reverse (take i xs)) are stands.sums);
       err = tt;
     }
+
+pub returns-then-not-both_fit-clause-all : goal.returns-then-not-both_fit-clause-all
+returns-then-not-both_fit-clause-all g c = λ each.
+    let new = c.followed_by_two-newest.result in
+    let fit = c.followed_by_two-newest.ensures in
+    let fits = λ (z : ℤ) (f : FitsSigned w32 z). each (to_z w64 (of_z w64 z)) (subst (λ (y : ℤ). FitsSigned w32 y) (sym (as_i64 z f)) f) in
+    absurd (false≢true (sym c.if-not-both_fit.true ∙ c.both_fit.ensures.1 (fits new.second fit.second, fits new.newest fit.newest)))
