@@ -223,10 +223,7 @@ fn crcs_of_long_slices(rt: HostRuntime) -> Result<(), Fail> {
     ];
     for (count, crc16) in rows {
         let mut reader = Cursor::new(bytes);
-        assert!(rt;
-            crc16_of(&mut reader, count, &mut [])? == crc16,
-            "{count}"
-        );
+        assert!(rt; crc16_of(&mut reader, count, &mut [])? == crc16, "{count}");
     }
     Ok(())
 }
