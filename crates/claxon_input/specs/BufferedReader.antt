@@ -3,6 +3,7 @@ use Rattle.std.specs.Prelude.{◌≡◌, ◌≢◌, ℕ, List, [], slice_range, 
 use Rattle.std.specs.Io.KnownBytes.{prepend_known}
 use Rattle.std.specs.declared.option.Option.{Option}
 use Rattle.claxon_input.specs.declared.error.Error.{Error}
+use Rattle.claxon_input.specs.CountingReader.{counted_inner, empty_reads_of, errors_of}
 use Rattle.claxon_input.specs.Source.{Source, MeetsEof, Skips, SourceFailure, Takes}
 use Rattle.claxon_input.specs.declared.input.BufferedReader.{BufferedReader}
 
@@ -13,16 +14,16 @@ bytes_in_buffer r = slice_range r.buf.items r.pos r.num_valid
 -- the buffered bytes, and then those that remain of the inner reader
 abbrev pub buffered_source : {R A : Type 0} → (R → Option (List ℕ)) → BufferedReader R A → Source ℕ
 buffered_source remaining r = record {
-  remaining = prepend_known (bytes_in_buffer r) (remaining r.inner);
-  errors = r.errors;
-  empty_reads = r.empty_reads;
+  remaining = prepend_known (bytes_in_buffer r) (remaining (counted_inner r.inner));
+  errors = errors_of r.inner;
+  empty_reads = empty_reads_of r.inner;
   loans = [];
   crcs = λ _. [];
 }
 
 -- the wrapped reader
 abbrev pub buffered_inner : {R A : Type 0} → BufferedReader R A → R
-buffered_inner r = r.inner
+buffered_inner r = counted_inner r.inner
 
 -- ---- what the calls promise; `old` and `new` are the reader before and after the call
 

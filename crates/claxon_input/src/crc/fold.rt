@@ -27,7 +27,7 @@ pub fn update16_by_folding(state: u16, bytes: &[u8]) -> u16
     update16_by_16(state, rest)
 }
 
-// XORs the state into the first two bytes, which have the same CRC then without it.
+// XORs the state into the first two bytes: from 0 all have the CRC then that they had from the state.
 fn with_state(state: u16, bytes: &[u8; 128]) -> [u8; 128]
     ensures { update_crc16 0 result ≡ update_crc16 state bytes.now }
 {

@@ -14,7 +14,7 @@ returns g c =
     let h : n ≤ j - i = omega (arith, c.requires, l) in
     let d : length (drop i buf) ≡ length buf - i = length-drop i buf in
     record {
-      moved = record { front = advances (g.R.Read.remaining c.args.self.now.inner) buf i n j (take n (take (j - i) (drop i buf))) (take_within n (j - i) (drop i buf) h (grind (arith, common_steps))) (omega arith); loans = refl; crcs = λ _ _. refl };
+      moved = record { front = advances (g.R.Read.remaining c.args.self.now.inner.inner) buf i n j (take n (take (j - i) (drop i buf))) (take_within n (j - i) (drop i buf) h (grind (arith, common_steps))) (omega arith); loans = refl; crcs = λ _ _. refl };
       errors = refl;
       empty_reads = refl;
     }
