@@ -117,11 +117,21 @@ fn stream(bits_per_sample: u32, max_block_size: u32) -> StreamInfo {
     }
 }
 
+// More than a hundred equal samples are ` VALUExCOUNT`.
+fn samples_of_block(found: &[i32]) -> String {
+    match found {
+        [first, rest @ ..] if rest.len() >= 100 && rest.iter().all(|sample| sample == first) => {
+            format!(" {first}x{}", found.len())
+        }
+        _ => samples(found),
+    }
+}
+
 fn answer_of_frame(result: FrameResult, position: usize, all: usize) -> String {
     match result {
         Ok(Some(block)) => {
             let (time, channels, duration) = (block.time(), block.channels(), block.duration());
-            format!("{position} block {time} {channels} {duration}{}", samples(&block.into_buffer()))
+            format!("{position} block {time} {channels} {duration}{}", samples_of_block(&block.into_buffer()))
         }
         Ok(None) => format!("{position} end"),
         Err(Error::IoError(_)) if position == all => "IO".to_string(),

@@ -106,7 +106,27 @@ fn add_block(block: Block, answer: &mut Answer) {
         (" ", u64::from(block.channels())),
         (" ", u64::from(block.duration())),
     ]);
-    answer.samples(&block.into_buffer());
+    add_samples(&block.into_buffer(), answer);
+}
+
+// Adds the samples; more than a hundred equal ones as ` VALUExCOUNT`.
+fn add_samples(samples: &[i32], answer: &mut Answer) {
+    match samples.first() {
+        Some(first) if samples.len() > 100 && are_all(samples, *first) => {
+            answer.text(" ");
+            answer.value(first);
+            answer.counts(&[("x", samples.len() as u64)]);
+        }
+        _ => answer.samples(samples),
+    }
+}
+
+fn are_all(samples: &[i32], value: i32) -> bool {
+    let mut all = true;
+    for sample in samples {
+        all = all && *sample == value;
+    }
+    all
 }
 
 // A stream with this bit depth, in blocks of 16 to `length` samples.

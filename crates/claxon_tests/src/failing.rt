@@ -1,5 +1,7 @@
 //! Frames, samples and whole runs over readers that give few bytes, fail or pause.
-use crate::answers::{FIVES, FRAME, Fault, Run, answers_each, end_of, joined, run_of, two_frames};
+use crate::answers::{
+    FIVES, FRAME, Fault, Run, Step, answers_each, end_of, joined, run_of, two_frames,
+};
 use claxon::frame::FrameReader;
 use claxon::input::BufferedReader;
 use claxon_write::run;
@@ -46,28 +48,79 @@ const FAILURES: [ErrorKind; 3] = [
     ErrorKind::WouldBlock,
 ];
 
-// Five bytes, a failure, and the rest of two frames: the first frame is lost, and its remaining bytes are no frame.
+// Two frames, one byte per read. For each number of reads before one that fails: the frames before the failure, the calls after
+// it that find no sync code, as the frame that it cut is lost, and the frames that are found then.
+const FRAMES: [(usize, usize, usize); 23] = [
+    (0, 0, 2),
+    (0, 5, 1),
+    (0, 10, 0),
+    (0, 4, 1),
+    (0, 9, 0),
+    (0, 3, 1),
+    (0, 8, 0),
+    (0, 2, 1),
+    (0, 7, 0),
+    (0, 1, 1),
+    (0, 6, 0),
+    (1, 0, 1),
+    (1, 5, 0),
+    (1, 4, 0),
+    (1, 4, 0),
+    (1, 3, 0),
+    (1, 3, 0),
+    (1, 2, 0),
+    (1, 2, 0),
+    (1, 1, 0),
+    (1, 1, 0),
+    (1, 0, 0),
+    (2, 0, 0),
+];
+
+// The result of a call, the first of which has number 0.
+fn nth_step((before, lost, after): (usize, usize, usize), call: usize) -> Step {
+    let after_failure = call.saturating_sub(before);
+    if call < before {
+        Ok(Some(5))
+    } else if after_failure == 0 {
+        Err(Fault::Io)
+    } else if after_failure <= lost {
+        Err(Fault::Format("frame sync code missing"))
+    } else if after_failure <= lost.saturating_add(after) {
+        Ok(Some(5))
+    } else {
+        Ok(None)
+    }
+}
+
+// Whether the calls for two frames have these results if the read after this number of reads fails.
+fn goes_on(
+    alloc: Global,
+    reads: u32,
+    kind: ErrorKind,
+    counts: (usize, usize, usize),
+) -> Result<bool, Fail> {
+    let bytes = joined(alloc, &[&FRAME, &FRAME])?;
+    let source = Interrupts {
+        bytes: &bytes,
+        piece: 1,
+        reads_left: reads,
+        trouble: Some(Trouble::Failure(kind)),
+    };
+    let mut reader = FrameReader::new(BufferedReader::new(alloc, source)?);
+    let mut all = true;
+    for call in 0..14 {
+        all = all && answers_each(alloc, &mut reader, &[nth_step(counts, call)]);
+    }
+    Ok(all)
+}
+
 #[test]
-fn frames_after_a_failure(rt: HostRuntime) -> Result<(), Fail> {
-    let bytes = joined(rt.alloc(), &[&FRAME, &FRAME])?;
-    let no_sync = Err(Fault::Format("frame sync code missing"));
-    let wants = [
-        Err(Fault::Io),
-        no_sync,
-        no_sync,
-        no_sync,
-        Ok(Some(5)),
-        Ok(None),
-    ];
-    for kind in FAILURES {
-        let source = Interrupts {
-            bytes: &bytes,
-            piece: 5,
-            reads_left: 1,
-            trouble: Some(Trouble::Failure(kind)),
-        };
-        let mut reader = FrameReader::new(BufferedReader::new(rt.alloc(), source)?);
-        assert!(rt; answers_each(rt.alloc(), &mut reader, &wants));
+fn frames_with_a_failed_read(rt: HostRuntime) -> Result<(), Fail> {
+    for (reads, counts) in FRAMES.into_iter().enumerate() {
+        for kind in FAILURES {
+            let goes_on = goes_on(rt.alloc(), reads as u32, kind, counts)?;
+            assert!(rt; goes_on, "{reads}");
+        }
     }
     Ok(())
 }
@@ -80,24 +133,31 @@ fn is_cut(run: Result<Run, Fault>, count: Option<usize>) -> bool {
     }
 }
 
-// One byte per read: the number of samples before the failed read is one after the first frame, else none.
+// Whether a stream of two frames, one byte per read, is cut like that if the read after this number of reads fails.
+fn is_cut_after(alloc: Global, reads: u32, kind: ErrorKind, count: Option<usize>) -> bool {
+    let bytes = two_frames(0x58);
+    let source = Interrupts {
+        bytes: &bytes,
+        piece: 1,
+        reads_left: reads,
+        trouble: Some(Trouble::Failure(kind)),
+    };
+    is_cut(run_of(alloc, source), count)
+}
+
+// The number of samples before the failed read is one after the first frame, else none.
 #[test]
 fn samples_with_a_failed_read(rt: HostRuntime) {
-    let bytes = two_frames(0x58);
     for reads in 0..65 {
-        let source = Interrupts {
-            bytes: &bytes,
-            piece: 1,
-            reads_left: reads,
-            trouble: Some(Trouble::Failure(ErrorKind::Other)),
-        };
         let count = match reads {
             0..42 => None,
             42..53 => Some(0),
             53..64 => Some(1),
             _ => Some(2),
         };
-        assert!(rt; is_cut(run_of(rt.alloc(), source), count), "{reads}");
+        for kind in FAILURES {
+            assert!(rt; is_cut_after(rt.alloc(), reads, kind, count), "{reads}");
+        }
     }
 }
 

@@ -77,10 +77,11 @@ fn is_given(rt: &HostRuntime, prefix: usize, rest: &[u8], wants: [Found; 4]) -> 
     Ok(all)
 }
 
-// The whole head of an open stream, as text.
+// The whole head of an open stream, and whether it was opened for its metadata only, as text.
 fn head_text<R: Read>(alloc: Global, flac: &FlacReader<R>) -> Result<String, AllocError> {
     let (info, vendor) = (flac.streaminfo(), flac.vendor());
-    let mut text = format!(in alloc; "{info:?} {vendor:?}")?;
+    let only = flac.is_metadata_only();
+    let mut text = format!(in alloc; "{info:?} {vendor:?} {only}")?;
     for (name, value) in flac.tags() {
         write!(&mut text, " {name}={value}")?;
     }
@@ -141,16 +142,38 @@ const TAGGED: &[u8] =
 const TAGGED_HEAD: &str =
     "StreamInfo { min_block_size: 4096, max_block_size: 4608, min_frame_size: Some(14), max_frame_size: Some(4660), \
 sample_rate: 44100, channels: 2, bits_per_sample: 16, samples: Some(4886718345), md5sum: [0, 1, 2, 3, 4, 5, 6, 7, 8, 9, 10, 11, 12, 13, 14, 15] } \
-Some(\"reference libFLAC 1.4.2 20221022\") TITLE=A=b artist=Z\u{fc}";
+Some(\"reference libFLAC 1.4.2 20221022\") false TITLE=A=b artist=Z\u{fc}";
 
-const STREAMS: [&[u8]; 4] = [TAGGED, b"fLaC\x80\x00\x00\x22\x10\x00", b"ID3\x04", b""];
+// The same of a tag without a vendor and without frames.
+const UNNAMED: &[u8] =
+    b"fLaC\x00\x00\x00\x22\x00\x10\x00\x10\x00\x00\x00\x00\x00\x00\x0a\xc4\x40\x70\x00\x00\x00\x01\x00\x00\x00\x00\x00\x00\x00\x00\x00\x00\x00\x00\x00\x00\x00\x00\
+\x84\x00\x00\x13\x00\x00\x00\x00\x02\x00\x00\x00\x00\x00\x00\x00\x03\x00\x00\x00X=Y";
+
+const UNNAMED_HEAD: &str =
+    "StreamInfo { min_block_size: 16, max_block_size: 16, min_frame_size: None, max_frame_size: None, \
+sample_rate: 44100, channels: 1, bits_per_sample: 8, samples: Some(1), md5sum: [0, 0, 0, 0, 0, 0, 0, 0, 0, 0, 0, 0, 0, 0, 0, 0] } \
+Some(\"\") false X=Y";
+
+// Whole heads, one without its comments, and a streaminfo and nothing after it; a truncated streaminfo; markers of other formats;
+// an empty file.
+const STREAMS: [&[u8]; 7] = [
+    TAGGED,
+    UNNAMED,
+    b"fLaC\x00\x00\x00\x22\x00\x10\x00\x10\x00\x00\x00\x00\x00\x00\x0a\xc4\x40\x70\x00\x00\x00\x01\x00\x00\x00\x00\x00\x00\x00\x00\x00\x00\x00\x00\x00\x00\x00\x00",
+    b"fLaC\x80\x00\x00\x22\x10\x00",
+    b"ID3\x04",
+    b"fLaD",
+    b"",
+];
 
 #[test]
 fn heads_of_files(rt: HostRuntime) -> Result<(), Fail> {
-    let path = file_of(&rt, "head", TAGGED)?;
-    let text = answer_of(rt.alloc(), FlacReader::open(&rt, path.as_str()))?;
-    fs::remove_file(&rt, path.as_str())?;
-    assert_eq!(rt; text.as_str(), TAGGED_HEAD);
+    for (bytes, want) in [(TAGGED, TAGGED_HEAD), (UNNAMED, UNNAMED_HEAD)] {
+        let path = file_of(&rt, "head", bytes)?;
+        let text = answer_of(rt.alloc(), FlacReader::open(&rt, path.as_str()))?;
+        fs::remove_file(&rt, path.as_str())?;
+        assert_eq!(rt; text.as_str(), want);
+    }
     for bytes in STREAMS {
         assert!(rt; answers_as_in_memory(&rt, bytes)?, "{}", bytes.len());
     }

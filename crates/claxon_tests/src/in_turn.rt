@@ -1,7 +1,10 @@
 //! Several calls on one reader.
-use crate::answers::{COMMENT, FRAME, Fault, PAIRS, Step, answers_each, gives_each, head, joined};
+use crate::answers::{
+    COMMENT, FRAME, Fault, PAIRS, Step, answers_each, fault_of, gives_each, head, joined,
+};
 use claxon::frame::FrameReader;
-use claxon::{FlacReader, FlacReaderOptions};
+use claxon::input::ReadBytes;
+use claxon::{FlacReader, FlacReaderOptions, read_head};
 use std::alloc::Global;
 use std::io::Cursor;
 use std::test::Fail;
@@ -22,11 +25,12 @@ const DAMAGED: [u8; 11] = [
 // The frames after the smallest head, and the results of calls for samples, by one iterator and then by another one. A block of
 // which a sample was given is consumed completely. After an Err an iterator gives None for good; another one goes on.
 #[rattlefmt::skip]
-const SAMPLES: [([&[u8]; 2], &[Step], &[Step]); 6] = [
+const SAMPLES: [([&[u8]; 2], &[Step], &[Step]); 7] = [
     ([&FRAME, &[]], &[Ok(Some(5)), END, END], &[END]),
     ([&FRAME, &FRAME], &[Ok(Some(5)), Ok(Some(5)), END, END], &[END]),
     ([&FRAME, &FRAME], &[Ok(Some(5))], &[Ok(Some(5)), END, END]),
     ([&PAIRS, &[]], &[Ok(Some(3)), Ok(Some(-2)), Ok(Some(3)), Ok(Some(-2)), END], &[END]),
+    ([&PAIRS, &[]], &[Ok(Some(3))], &[END]),
     ([&PAIRS, &FRAME], &[Ok(Some(3))], &[Ok(Some(5)), END]),
     ([&DAMAGED, &FRAME], &[BAD_FOOTER, END, END, END], &[Ok(Some(5)), END]),
 ];
@@ -78,6 +82,57 @@ fn frames_in_turn(rt: HostRuntime) {
             "{row}"
         );
     }
+}
+
+// The first bytes of a head, further ones, and the fault that reading them ends with, after all of them are consumed: the marker,
+// the order of blocks, and a fault of a block.
+#[rattlefmt::skip]
+const HEADS: [(usize, &[u8], Fault); 8] = [
+    (0, &[0x49, 0x44, 0x33, 0x04], Fault::Format("stream starts with ID3 header rather than FLAC header")),
+    (3, &[0x44], Fault::Format("invalid stream header")),
+    (4, &[0x81, 0x00, 0x00, 0x00], Fault::Format("streaminfo block missing")),
+    (4, &[0x80, 0x00, 0x00, 0x21], Fault::Format("invalid streaminfo metadata block length")),
+    (42, &[0x7f, 0x00, 0x00, 0x00], Fault::Format("invalid metadata block type")),
+    (42, &[0x02, 0x00, 0x00, 0x03], Fault::Format("application block length must be at least 4 bytes")),
+    (42, &[0x04, 0xa0, 0x00, 0x01], Fault::Unsupported("Vorbis comment blocks larger than 10 MiB are not supported")),
+    (42, &[
+        0x00, 0x00, 0x00, 0x22, 0x00, 0x10, 0x00, 0x10, 0x00, 0x00, 0x00, 0x00, 0x00, 0x00, 0x0a, 0xc4, 0x40, 0x70, 0x00,
+        0x00, 0x00, 0x01, 0x00, 0x00, 0x00, 0x00, 0x00, 0x00, 0x00, 0x00, 0x00, 0x00, 0x00, 0x00, 0x00, 0x00, 0x00, 0x00,
+    ], Fault::Format("encountered second streaminfo block")),
+];
+
+// The fault of reading a head, if there is one.
+fn fault_of_head<R: ReadBytes>(alloc: Global, input: &mut R) -> Option<Fault> {
+    match read_head(alloc, input, FlacReaderOptions::default()) {
+        Ok(_) => None,
+        Err(error) => Some(fault_of(&error)),
+    }
+}
+
+// Whether reading a head has this fault after these bytes, and the next call then reads the head after them.
+fn ends_before_a_head(
+    alloc: Global,
+    prefix: usize,
+    rest: &[u8],
+    want: Fault,
+) -> Result<bool, Fail> {
+    let first = head(0x00);
+    let bytes = joined(alloc, &[&first[..prefix.min(42)], rest, &head(0x80)])?;
+    let mut input = Cursor::new(bytes.as_slice());
+    let fault = fault_of_head(alloc, &mut input);
+    let end = input.position() == prefix.saturating_add(rest.len()) as u64;
+    Ok(fault == Some(want) && end && fault_of_head(alloc, &mut input).is_none())
+}
+
+#[test]
+fn heads_in_turn(rt: HostRuntime) -> Result<(), Fail> {
+    for (row, (prefix, rest, want)) in HEADS.into_iter().enumerate() {
+        assert!(rt;
+            ends_before_a_head(rt.alloc(), prefix, rest, want)?,
+            "{row}"
+        );
+    }
+    Ok(())
 }
 
 // How many values the tags of this name have, where each is `Y`.
