@@ -31,3 +31,10 @@ get-chunks (suc k) n (suc ch) xs h = get-chunks k n ch (drop n xs) (omega arith)
 
 pub chunk_ends : (k n ch : ℕ) → ch < k → ch * n + n ≤ k * n
 chunk_ends k n ch h = grind arith
+
+-- the same part of a list, by other bounds
+pub same_part : {n m k l : ℕ} (xs : List ℤ) → n ≡ k → m ≡ l → Some (take n (drop m xs)) ≡ Some (take k (drop l xs))
+same_part xs e f = rw (e, f) refl
+
+pub length-part : {n k : ℕ} (m : ℕ) (xs : List ℤ) → n ≡ k → m + k ≤ length xs → length (take n (drop m xs)) ≡ k
+length-part {n} {k} m xs e below = rw e (length-take-le k (drop m xs) (omega (arith, length-drop m xs)))

@@ -1,6 +1,5 @@
-use Rattle.std.proofs.Common.{sym, ◌∙◌, ap, length-drop, ◌*◌, ◌+◌, ◌<◌, ◌-◌, ◌≡◌, length, arith}
-use Rattle.claxon_frame.proofs.Chunks.{length-chunks, get-chunks, chunk_ends, duration-chunks}
-use Rattle.std.proofs.lemmas.List.{length-take-le}
+use Rattle.std.proofs.Common.{sym, ◌∙◌, ap, ◌*◌, ◌<◌, ◌≡◌, length, arith}
+use Rattle.claxon_frame.proofs.Chunks.{length-chunks, get-chunks, chunk_ends, duration-chunks, same_part, length-part}
 use Rattle.claxon_frame.proofs.frame.block.Block.channel.Goals as goal
 
 pub slice_bounds-result-end : goal.slice_bounds-result-end
@@ -16,8 +15,7 @@ returns-clause-samples g c =
     let n : length c.args.self.now.channels ≡ c.self.inside.channels = rw (← c.self.view_is) (length-chunks _ _ _) in
     let few : c.args.ch < c.self.inside.channels = omega (arith, c.requires) in
     let e = get-chunks c.self.inside.channels c.self.inside.duration c.args.ch c.self.inside.buffer.items few in
-    let same : c.args.ch * c.self.inside.duration + c.self.inside.duration - c.args.ch * c.self.inside.duration ≡ c.self.inside.duration = omega arith in
-    rw (← c.self.view_is, c.deref.ensures.value, same) e
+    rw (← c.self.view_is, c.deref.ensures.value) (e ∙ same_part c.self.inside.buffer.items (omega arith) (omega arith))
 
 pub returns-clause-len : goal.returns-clause-len
 returns-clause-len g c =
@@ -25,6 +23,5 @@ returns-clause-len g c =
     let few : c.args.ch < c.self.inside.channels = omega (arith, c.requires) in
     let fits = chunk_ends c.self.inside.channels c.self.inside.duration c.args.ch few in
     let d = duration-chunks c.self.inside.channels c.self.inside.duration c.self.inside.buffer.items c.self.invariant.0 c.self.invariant.3 in
-    let same : c.args.ch * c.self.inside.duration + c.self.inside.duration - c.args.ch * c.self.inside.duration ≡ c.self.inside.duration = omega arith in
     let whole : length c.deref.result.now ≡ c.self.inside.channels * c.self.inside.duration = ap length c.deref.ensures.value ∙ c.self.invariant.0 in
-    rw (← c.self.view_is, same) (length-take-le c.self.inside.duration _ (omega (arith, length-drop (c.args.ch * c.self.inside.duration) c.deref.result.now, whole)) ∙ sym d)
+    rw (← c.self.view_is) (length-part _ c.deref.result.now (omega arith) (omega (arith, fits, whole)) ∙ sym d)
