@@ -1,13 +1,14 @@
 -- A predictor that restores samples two at a time.
-use Rattle.std.proofs.Common.{◌≡◌, ℕ, ◌+◌, ◌<◌, List, ◌∷◌, length, take, reverse, get_or, set, Result, Ok, Err, refl, ap, subst, ◌∙◌, ℤ, pos}
-use Rattle.std.specs.Prelude.{IsErrAnd}
+use Rattle.std.proofs.Common.{◌≡◌, ℕ, ◌+◌, ◌<◌, List, ◌∷◌, length, take, reverse, get_or, set, Option, Some, Result, Ok, Err, refl, sym, ap, subst, ◌∙◌, ℤ, pos, ◌+ℤ◌}
+use Rattle.std.specs.Prelude.{IfOk, IfSome, IsErrAnd}
 use Rattle.std.proofs.lemmas.List.{length-set}
 use Rattle.claxon_format.specs.read.Predict.{restored}
-use Rattle.claxon_format.specs.Predict.{linear}
+use Rattle.claxon_format.specs.Predict.{wrap, linear}
 use Rattle.claxon_subframe.specs.PendingSums.{four_pending, AreNewest, IsFollowedByTwo}
 use Rattle.claxon_subframe.specs.PredictorState.{StandsAt, AreRestored, AreRestoredOrStop}
 use Rattle.claxon_subframe.specs.declared.subframe.predictor.lanes.NewestFive.{NewestFive}
 use Rattle.claxon_subframe.specs.declared.subframe.predictor.lanes.PredictorState.{PredictorState}
+use Rattle.claxon_subframe.proofs.Predictors.{restored_more}
 use Rattle.claxon_subframe.proofs.RestoreLoopByTwo.{two_made, made_restored, made_past, made_newest}
 
 pub none_restored : {S : Type 0} {Pending : List ℤ → S → Type 0} {p : List ℤ → ℤ} {xs : List ℤ} {i : ℕ} {s : PredictorState S} → StandsAt Pending xs i s → AreRestored Pending p xs i xs i s
@@ -41,6 +42,13 @@ pub then_either : {S : Type 0} {Pending : List ℤ → S → Type 0} {p : List �
 then_either m (Ok n) first second e to = record { ok = place_is m (then_ok first second e) to; err = tt }
 then_either m (Err place) first second e to = record { ok = tt; err = then_err first second e }
 
+-- what holds of the value in a result that is known to be Ok
+pub of_ok : {T E : Type 0} (P : T → Type 0) {r : Result T E} {x : T} → r ≡ Ok x → IfOk r P → P x
+of_ok {T} {E} P e h = subst (λ (r : Result T E). IfOk r P) e h
+
+pub of_some : {T : Type 0} (P : T → Type 0) {r : Option T} {x : T} → r ≡ Some x → IfSome r P → P x
+of_some {T} P e h = subst (λ (r : Option T). IfSome r P) e h
+
 -- it stopped at place e
 pub stopped : {S : Type 0} {Pending : List ℤ → S → Type 0} {p : List ℤ → ℤ} {xs zs : List ℤ} {i j : ℕ} (r : Result (PredictorState S) ℕ) (e : ℕ)
     → IsErrAnd r (λ place. place ≡ e) → restored p e zs ≡ restored p i xs → AreRestoredOrStop Pending p xs i zs j r
@@ -64,6 +72,17 @@ pair_restored Pending ks xs ws t i j k x y a b v w last s n ej ek lt new stands 
         sums = subst (λ (l : List ℤ). Pending l n.sums) (made_past xs i j k a b v w ej ek lt ev ew) sums;
       };
     }
+
+-- the sample at i, as the first of two
+pub one_restored : {S : Type 0} (Pending : List ℤ → S → Type 0) (ks xs ws : List ℤ) (t i : ℕ) (x y a : ℤ) (last : NewestFive) (s : PredictorState S) (n : NewestFive)
+    → i < length xs → AreNewest ks last → StandsAt Pending xs i s → ws ≡ four_pending ks (reverse (take i xs)) 0
+    → x ≡ get_or xs i (pos 0) → IsFollowedByTwo s.newest last ws x y t n → a ≡ n.second
+    → restored (linear ks t) (i + 1) (set xs i a) ≡ restored (linear ks t) i xs
+one_restored Pending ks xs ws t i x y a last s n lt new stands pending ex two ea =
+    let past = stands.newest in
+    let next = two ks past.rest new (pending ∙ ap (λ (l : List ℤ). four_pending ks l 0) past.is) in
+    restored_more (linear ks t) xs i a lt
+    (ea ∙ next.second ∙ ap (λ (l : List ℤ). wrap (linear ks t l +ℤ x)) (sym past.is) ∙ ap (λ (v : ℤ). wrap (linear ks t (reverse (take i xs)) +ℤ v)) ex)
 
 -- the samples before place m, which is the place n
 pub place_restored : (p : List ℤ → ℤ) (xs : List ℤ) {whole : List ℤ} (m n : ℕ) → m ≡ n → restored p n xs ≡ whole → restored p m xs ≡ whole

@@ -1,16 +1,18 @@
 //! Linear predictors of at most twelve coefficients. Most are of this kind.
-ghost use Rattle.std.specs.Prelude.{◌≡◌, ◌+◌, ◌-◌, ◌*◌, ◌<◌, ◌≤◌, ◌++◌, length, take, reverse, replicate, pos, FitsSigned};
+ghost use Rattle.std.specs.Prelude.{◌≡◌, ◌+◌, ◌-◌, ◌*◌, ◌<◌, ◌≤◌, ◌++◌, List, ℤ, length, take, reverse, replicate, pos, FitsSigned};
 ghost use Rattle.std.specs.Int.{w32};
 ghost use Rattle.claxon_format.specs.Predict.{linear};
 ghost use Rattle.claxon_format.specs.read.Predict.{restored};
 ghost use Rattle.claxon_subframe.specs.Predictor.{SamplesAreRestored};
-ghost use Rattle.claxon_subframe.specs.TwelveLanes.{numbers, SmallTwelve, TwelveFit64, AreTwelveTaps, SmallTwelveTaps};
+ghost use Rattle.claxon_subframe.specs.PendingSums.{AreNewest, FitVectors};
+ghost use Rattle.claxon_subframe.specs.PredictorState.{StandsAt};
+ghost use Rattle.claxon_subframe.specs.TwelveLanes.{numbers, SmallTwelve, TwelveFit64, AreTwelvePending, AreTwelveTaps, SmallTwelveTaps};
 
 use super::lanes::{
     NewestFive, PredictorState, advance_lanes, broadcast, padded_coefficients, shift_two_lanes,
 };
-use super::predict_plain;
-use super::restore::{LaneTaps, first_sums, restore_front};
+use super::restore::{LaneTaps, first_sums, restore_front, restore_pair};
+use super::{low_bits, predict_plain};
 use std::simd::prelude::*;
 
 /// The samples of a linear predictor of at most 12 coefficients, the oldest sample's first, from its warm-up samples and the
@@ -21,23 +23,18 @@ pub fn predict_lpc_low_order(coefficients: &[i16], shift: u32, buffer: &mut [i32
     requires shift { shift ≤ 15 }
     ensures { SamplesAreRestored coefficients.now shift buffer.old buffer.new }
 {
-    // The first twelve samples by their sums of products, the others in vectors, ten at a time, and those left like the first.
-    if buffer.len() < 22 {
+    // The first twelve samples by their sums of products, all others in vectors.
+    if buffer.len() <= 12 {
         predict_plain(coefficients, shift, buffer);
         return;
     }
     predict_plain(coefficients, shift, &mut buffer[..12]);
     let twelve = padded_to_twelve(coefficients);
-    let known = if coefficients.len() <= 8 {
-        predict_12_taps::<1>(&twelve, shift, buffer)
+    if coefficients.len() <= 8 {
+        predict_after_12::<1>(&twelve, shift, buffer);
     } else {
-        predict_12_taps::<2>(&twelve, shift, buffer)
-    };
-    predict_plain(
-        coefficients,
-        shift,
-        &mut buffer[known - coefficients.len()..],
-    );
+        predict_after_12::<2>(&twelve, shift, buffer);
+    }
 }
 
 // Twelve numbers in three vectors: coefficients, the oldest sample's first, or the pending sums of the next twelve samples, the
@@ -107,9 +104,6 @@ struct LowOrderTaps<const VECTORS: usize> {
 }
 
 impl<const VECTORS: usize> LaneTaps for LowOrderTaps<VECTORS> {
-    ghost use Rattle.claxon_subframe.specs.PendingSums.{FitVectors};
-    ghost use Rattle.claxon_subframe.specs.TwelveLanes.{AreTwelvePending};
-
     type Sums = TwelveLanes;
 
     ghost coefficients = { λ c ks. AreTwelveTaps ks c.taps × FitVectors VECTORS ks };
@@ -172,9 +166,69 @@ impl<const VECTORS: usize> LaneTaps for LowOrderTaps<VECTORS> {
     }
 }
 
-// The samples from index 12 on, each from the twelve samples before it, ten at a time. Returns how many samples stand at the
-// front then. Where `VECTORS` is 1 the oldest four coefficients are zeros. The coefficients are passed by reference and this isn't
-// inlined, so that the compiler keeps the shifts of `sign_extended`.
+// The coefficients of the newest five samples.
+#[inline(always)]
+fn newest_of_twelve(coefficients: &TwelveLanes) -> NewestFive
+    requires { SmallTwelve coefficients.now }
+    ensures { AreNewest (reverse (numbers coefficients.now)) result }
+{
+    let [_, _, _, fifth] = coefficients.at_4.to_array();
+    let [fourth, third, second, first] = coefficients.at_0.to_array();
+    NewestFive {
+        fifth,
+        fourth,
+        third,
+        second,
+        newest: first,
+    }
+}
+
+// The state after these samples, of which the newest 4 * `VECTORS` + 4 are read.
+#[inline(always)]
+fn state_after<const VECTORS: usize>(
+    taps: LowOrderTaps<VECTORS>,
+    samples: &[i32],
+) -> PredictorState<TwelveLanes>
+    requires enough { 12 ≤ length samples.now }
+    requires vectors { VECTORS ≤ 2 }
+    requires taps { SmallTwelveTaps taps.taps }
+    ensures fit { TwelveFit64 result.sums }
+    ensures newest { AreNewest (reverse samples.now) result.newest }
+    ensures sums { (coefficients : List ℤ) → AreTwelveTaps coefficients taps.entry.taps
+        → FitVectors VECTORS coefficients
+        → AreTwelvePending coefficients (reverse samples.now) result.sums }
+{
+    let sums = first_sums(taps, &samples[samples.len() - (4 * VECTORS + 4)..]).unwrap();
+    let newest = NewestFive::of(&samples[samples.len() - 5..]);
+    PredictorState { newest, sums }
+}
+
+// The samples from index 12 on, each from the twelve samples before it: ten at a time, then two, then one. Where `VECTORS` is 1
+// the oldest four coefficients are zeros.
+#[inline(always)]
+fn predict_after_12<const VECTORS: usize>(
+    coefficients: &TwelveLanes,
+    shift: u32,
+    buffer: &mut [i32],
+)
+    requires shift { shift ≤ 15 }
+    requires warm_up { 12 ≤ length buffer.old }
+    requires small { SmallTwelve coefficients.now }
+    requires vectors { VECTORS ≤ 2 }
+    requires some { 1 ≤ VECTORS }
+    requires zeros { take (8 - 4 * VECTORS) (numbers coefficients.now)
+        ≡ replicate (8 - 4 * VECTORS) (pos 0) }
+    ensures { buffer.new
+        ≡ restored (linear (reverse (numbers coefficients.now)) shift) 12 buffer.old }
+{
+    let known = predict_12_taps::<VECTORS>(coefficients, shift, buffer);
+    if known < buffer.len() {
+        predict_last::<VECTORS>(coefficients, shift, buffer, known);
+    }
+}
+
+// The samples from index 12 on, ten at a time. Returns how many samples stand at the front then. The coefficients are passed by
+// reference and this isn't inlined, so that the compiler keeps the shifts of `sign_extended`.
 #[inline(never)]
 fn predict_12_taps<const VECTORS: usize>(
     coefficients: &TwelveLanes,
@@ -194,22 +248,69 @@ fn predict_12_taps<const VECTORS: usize>(
     ensures restored { restored (linear (reverse (numbers coefficients.now)) shift) result buffer.new
         ≡ restored (linear (reverse (numbers coefficients.now)) shift) 12 buffer.old }
 {
-    let [_, _, _, fifth] = coefficients.at_4.to_array();
-    let [fourth, third, second, first] = coefficients.at_0.to_array();
-    let last = NewestFive {
-        fifth,
-        fourth,
-        third,
-        second,
-        newest: first,
-    };
+    let last = newest_of_twelve(coefficients);
     let taps = LowOrderTaps::<VECTORS> {
         taps: taps_of_twelve(coefficients),
     };
-    let Some(sums) = first_sums(taps, &buffer[8 - 4 * VECTORS..12]) else {
-        return 12;
-    };
-    let newest = NewestFive::of(&buffer[7..12]);
-    let state = PredictorState { newest, sums };
+    let state = state_after(taps, &buffer[..12]);
     restore_front(last, taps, shift, state, buffer, 12)
+}
+
+// The samples from index `known` on, two at a time and then one. The state is computed anew, so that `predict_12_taps` has no
+// more to keep in registers.
+#[inline(never)]
+fn predict_last<const VECTORS: usize>(
+    coefficients: &TwelveLanes,
+    shift: u32,
+    buffer: &mut [i32],
+    known: usize,
+)
+    requires shift { shift ≤ 15 }
+    requires least { 12 ≤ known }
+    requires few { known ≤ length buffer.old }
+    requires small { SmallTwelve coefficients.now }
+    requires vectors { VECTORS ≤ 2 }
+    requires some { 1 ≤ VECTORS }
+    requires zeros { take (8 - 4 * VECTORS) (numbers coefficients.now)
+        ≡ replicate (8 - 4 * VECTORS) (pos 0) }
+    ensures { buffer.new
+        ≡ restored (linear (reverse (numbers coefficients.now)) shift) known buffer.old }
+{
+    let last = newest_of_twelve(coefficients);
+    let taps = LowOrderTaps::<VECTORS> {
+        taps: taps_of_twelve(coefficients),
+    };
+    let mut state = state_after(taps, &buffer[..known]);
+    let pairs = (buffer.len() - known) / 2;
+    for pair in 0..pairs {
+        state = restore_pair(last, taps, shift, state, buffer, known + 2 * pair).unwrap();
+    }
+    if known + 2 * pairs < buffer.len() {
+        restore_one(last, shift, state, buffer, known + 2 * pairs);
+    }
+}
+
+// Restores the residual sample at `i`, as the first of two.
+#[inline(always)]
+fn restore_one(
+    last: NewestFive,
+    shift: u32,
+    state: PredictorState<TwelveLanes>,
+    buffer: &mut [i32],
+    i: usize,
+)
+    requires shift { shift ≤ 15 }
+    requires sums { TwelveFit64 state.sums }
+    requires within { i < length buffer.old }
+    ensures kept { length buffer.new ≡ length buffer.old }
+    ensures restored { (coefficients : List ℤ) → AreNewest coefficients last
+        → StandsAt (AreTwelvePending coefficients) buffer.old i state
+        → restored (linear coefficients shift) (i + 1) buffer.new
+        ≡ restored (linear coefficients shift) i buffer.old }
+{
+    let pending = state.sums.at_0;
+    let newest = state
+        .newest
+        .followed_by_two(last, pending, buffer[i], 0, shift);
+    buffer[i] = low_bits(newest.second);
 }

@@ -84,10 +84,10 @@ pub fn first_sums<T: LaneTaps>(taps: T, samples: &[i32]) -> Option<T::Sums>
     Some(sums)
 }
 
-// Restores the residual samples at `i` and after it. Where one of the samples doesn't fit, nothing is stored, and the Err is
-// `i`.
+/// Restores the residual samples at `i` and after it. Where one of the samples doesn't fit, nothing is stored, and the Err is
+/// `i`.
 #[inline(always)]
-fn restore_pair<T: LaneTaps>(
+pub fn restore_pair<T: LaneTaps>(
     last: NewestFive,
     taps: T,
     shift: u32,
