@@ -23,7 +23,8 @@ use Rattle.claxon_write.specs.Capacity.{capacity}
 use Rattle.claxon_write.specs.Written.{AppendsAllBut, FailsToPut, FlushFailed, IsFlushed, IsUnflushed, KeepsContents, NonePending, NothingFailed, Puts, writer_contents, contents_with_pending, pending}
 use Rattle.claxon_write.specs.declared.output.Output.{Output}
 use Rattle.claxon_write.specs.declared.stream.End.{End}
-use Rattle.claxon_write.proofs.Puts.{puts_both, puts_as, fails_after, fails_close, fewer, flush_failed_after, flushed_after, contents_alone, none_failed_both, appends_keeps}
+use Rattle.claxon_write.proofs.Counts.{flush_failed_after, flushed_after, none_failed_both}
+use Rattle.claxon_write.proofs.Puts.{puts_both, puts_as, fails_after, fails_close, fewer, contents_alone, appends_keeps}
 
 rest_of : List GName → List GName
 rest_of [] = []
@@ -154,9 +155,9 @@ module _ {R W : Type 0} (source : R → Source ℕ) {contents : W → Option (Li
 
 -- ---- the flush at the end
 
-either_failed : {W : Type 0} (r : Result (Unit {0}) Error) {x z w : Output W} → NothingFailed x z → OnOk r (NothingFailed z w) → OnErr r (FlushFailed z w) → NothingFailed x w ⊎ FlushFailed x w
-either_failed (Ok u) h k l = inl (none_failed_both h k)
-either_failed (Err e) h k l = inr (flush_failed_after h l)
+either_failed : {W : Type 0} (x z w : Output W) (r : Result (Unit {0}) Error) → NothingFailed x z → OnOk r (NothingFailed z w) → OnErr r (FlushFailed z w) → NothingFailed x w ⊎ FlushFailed x w
+either_failed x z w (Ok u) h k l = inl (none_failed_both h k)
+either_failed x z w (Err e) h k l = inr (flush_failed_after h l)
 
 module _ {W : Type 0} {contents : W → Option (List ℕ)} where
   flushed : {stream : Option StreamFormat} {end : Option Error} {n : ℕ} {a b : State ℕ} {x z w : Output W} → Decodes contents stream end n a b x z → KeepsContents contents z w → pending w ≡ pending z → Decodes contents stream end n a b x w
@@ -175,16 +176,16 @@ module _ {W : Type 0} {contents : W → Option (List ℕ)} where
     pub stops_flushed : {end : Option Error} {error : Error} {n : ℕ} (q : R) (r : Result (Unit {0}) Error) {x z w : Output W} → end ≡ Some error → Decodes contents (Some (stream_with info)) end n (bytes_in source u) (bytes_in source q) x z → NothingFailed x z → IsUnflushed x z
         → KeepsContents contents z w → pending w ≡ pending z → OnOk r (NothingFailed z w) → OnErr r (FlushFailed z w) → IsFlushed z w
         → StopsDecoding contents (Some (stream_with shown)) error (bytes_in source v) (bytes_in source q) x w
-    stops_flushed {n = n} q r e h none unflushed k l succeeded failed flushed =
-        record { count = n; decoded = decodes_flushed q e h k l; flushed = flushed_after unflushed flushed; failed = either_failed r none succeeded failed }
+    stops_flushed {n = n} q r {x = x} {z = z} {w = w} e h none unflushed k l succeeded failed flushed =
+        record { count = n; decoded = decodes_flushed q e h k l; flushed = flushed_after unflushed flushed; failed = either_failed x z w r none succeeded failed }
 
     -- the stream ended, and all samples were written and flushed, or the flush failed
-    pub all_flushed : {end : Option Error} (n : ℕ) (q : R) (r : Result (Unit {0}) Error) {x z w : Output W} → end ≡ None → Decodes contents (Some (stream_with info)) end n (bytes_in source u) (bytes_in source q) x z → NothingFailed x z → IsUnflushed x z
+    pub all_flushed : {end : Option Error} (n : ℕ) (q : R) (r : Result (Unit {0}) Error) {x z : Output W} (w : Output W) → end ≡ None → Decodes contents (Some (stream_with info)) end n (bytes_in source u) (bytes_in source q) x z → NothingFailed x z → IsUnflushed x z
         → KeepsContents contents z w → pending w ≡ pending z → OnOk r (NothingFailed z w) → OnErr r (FlushFailed z w) → IsFlushed z w → IfErr r (λ e. IsIo e)
         → IfOk (result_and r (Ok n)) (λ n. DecodesToEof contents (Some (stream_with shown)) n (bytes_in source v) (bytes_in source q) x w)
         × IfErr (result_and r (Ok n)) (λ error. FailsToDecode contents (Some (stream_with shown)) error (bytes_in source v) (bytes_in source q) x w)
-    all_flushed n q (Ok done) e h none unflushed k l succeeded failed flushed io = ((decodes_flushed q e h k l, none_failed_both none succeeded, flushed_after unflushed flushed), tt)
-    all_flushed n q (Err error) e h none unflushed k l succeeded failed flushed io = (
+    all_flushed n q (Ok done) w e h none unflushed k l succeeded failed flushed io = ((decodes_flushed q e h k l, none_failed_both none succeeded, flushed_after unflushed flushed), tt)
+    all_flushed n q (Err error) w e h none unflushed k l succeeded failed flushed io = (
       tt,
       inr (inr (record { is_io = io; failed = flush_failed_after none failed; flushed = flushed_after unflushed flushed; count = n; decoded = decodes_flushed q e h k l })),
     )

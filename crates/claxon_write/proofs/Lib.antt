@@ -1,5 +1,6 @@
 pub mod BufferBounds
 pub mod Appended
+pub mod Counts
 pub mod Puts
 pub mod Gathering
 pub mod Borrowed

@@ -1,5 +1,5 @@
 -- Bytes that were written or are pending.
-use Rattle.std.proofs.Common.{◌≡◌, inr, ℕ, ◌+◌, ◌%◌, ◌^◌, List, [], ◌++◌, length, take, drop, Option, None, Some, refl, sym, ap, subst, ◌∙◌, append_assoc, arith, length-append, ℤ, ◌≤◌}
+use Rattle.std.proofs.Common.{◌≡◌, inr, ℕ, ◌+◌, List, [], ◌++◌, length, take, drop, Option, None, Some, refl, sym, ap, subst, ◌∙◌, append_assoc, arith, length-append, ℤ, ◌≤◌}
 use Rattle.std.specs.Prelude.{IfErr, OnOk, OnErr, Result, Ok, Err}
 use Rattle.std.specs.Io.KnownBytes.{Appends, Keeps, append_known}
 use Rattle.std.proofs.Math.Seq.{take-add}
@@ -11,10 +11,12 @@ use Rattle.claxon_write.specs.SampleBytes.{bytes_of_samples, interleave_range}
 use Rattle.claxon_write.proofs.SampleBytes.{range_all}
 use Rattle.claxon_write.specs.Output.{FlushFaultIsSound, FlushIsSound}
 use Rattle.claxon_write.specs.Capacity.{capacity}
-use Rattle.claxon_write.specs.Written.{AppendsAllBut, AppendsPrefix, FailsToPut, FlushFailed, IsFlushed, IsUnflushed, KeepsContents, NonePending, NothingFailed, Puts, WriteFailed, failed_flushes_of, failed_writes_of, writer_contents, contents_with_pending, pending}
+use Rattle.claxon_write.specs.CountingWriter.{failed_flushes_of, failed_seeks_of, failed_writes_of, inner_contents}
+use Rattle.claxon_write.specs.Written.{AppendsAllBut, AppendsPrefix, FailsToPut, FlushFailed, IsFlushed, IsUnflushed, KeepsContents, NonePending, NothingFailed, Puts, WriteFailed, writer_contents, contents_with_pending, pending}
+use Rattle.claxon_write.proofs.Counts.{none_failed, none_failed_both, write_failed_after, flush_failed_after, flushed_after}
 use Rattle.claxon.specs.Block.{duration_of}
 use Rattle.claxon.proofs.SamplesInTurn.{same_duration}
-use Rattle.claxon_write.specs.declared.output.CountingWriter.{CountingWriter}
+use Rattle.claxon_write.specs.declared.counting_writer.CountingWriter.{CountingWriter}
 use Rattle.claxon_write.specs.declared.output.Output.{Output}
 
 pub appends_nothing : (o : Option (List ℕ)) → Appends o o []
@@ -106,29 +108,11 @@ appends_both (Some x) (Some y) (Some z) xs ys h k = k ∙ (ap (λ t. t ++ ys) h 
 take_parts : (k : ℕ) (s : List ℕ) → s ≡ take k s ++ drop k s
 take_parts k s = sym (take-append-drop k s)
 
--- ---- failures and flushes
-
-module _ {W : Type 0} where
-  pub none_failed : (a : Output W) → NothingFailed a a
-  none_failed a = record { writes = refl; flushes = refl }
-
-  pub none_failed_both : {a b c : Output W} → NothingFailed a b → NothingFailed b c → NothingFailed a c
-  none_failed_both h k = record { writes = k.writes ∙ h.writes; flushes = k.flushes ∙ h.flushes }
-
-  pub write_failed_after : {a b c : Output W} → NothingFailed a b → WriteFailed b c → WriteFailed a c
-  write_failed_after h k = record { writes = k.writes ∙ ap (λ (n : ℕ). (n + 1) % 2 ^ 64) h.writes; flushes = k.flushes ∙ h.flushes }
-
-  pub flush_failed_after : {a b c : Output W} → NothingFailed a b → FlushFailed b c → FlushFailed a c
-  flush_failed_after h k = record { writes = k.writes ∙ h.writes; flushes = k.flushes ∙ ap (λ (n : ℕ). (n + 1) % 2 ^ 64) h.flushes }
-
-  pub flushed_after : {a b c : Output W} → IsUnflushed a b → IsFlushed b c → IsFlushed a c
-  flushed_after h k = record { once = k.once ∙ ap (λ (n : ℕ). (n + 1) % 2 ^ 64) h; last = k.last }
-
 -- ---- one after another
 
 module _ {W : Type 0} {contents : W → Option (List ℕ)} where
   pub puts_none : (a : Output W) → Puts contents [] a a
-  puts_none a = record { prefix = prefix_none (writer_contents contents a) (pending a ++ []); bytes_are = appends_nothing (contents_with_pending contents a); nothing_failed = none_failed a }
+  puts_none a = record { prefix = prefix_none (writer_contents contents a) (pending a ++ []); bytes_are = appends_nothing (contents_with_pending contents a); nothing_failed = none_failed a.writer }
 
   pub puts_both : {xs ys : List ℕ} {a b c : Output W} → Puts contents xs a b → Puts contents ys b c → Puts contents (xs ++ ys) a c
   puts_both {xs = xs} {ys = ys} {a = a} {b = b} {c = c} h k = record {
@@ -186,23 +170,23 @@ still_pending (Some x) (Some y) w k = ap (λ (z : List ℕ). z ++ w) k ∙ sym (
 -- ---- the calls of the writer
 
 module _ {W : Type 0} (contents : W → Option (List ℕ)) where
-  pub gathered_ok : (r : Result (Unit {0}) Error) (a b : Output W) (bytes : List ℕ) → bytes ≡ pending a → NonePending b → OnOk r (Appends (writer_contents contents a) (writer_contents contents b) bytes) → OnOk r (failed_writes_of b ≡ failed_writes_of a)
-      → failed_flushes_of b ≡ failed_flushes_of a → OnOk r (Puts contents [] a b)
-  gathered_ok (Err e) a b bytes same none h k l = tt
-  gathered_ok (Ok x) a b bytes same none h k l =
+  pub gathered_ok : (r : Result (Unit {0}) Error) (a b : Output W) (bytes : List ℕ) → bytes ≡ pending a → NonePending b → OnOk r (Appends (writer_contents contents a) (writer_contents contents b) bytes) → OnOk r (NothingFailed a b)
+      → OnOk r (Puts contents [] a b)
+  gathered_ok (Err e) a b bytes same none h k = tt
+  gathered_ok (Ok x) a b bytes same none h k =
       let w : Appends (writer_contents contents a) (writer_contents contents b) (pending a) = subst (λ (z : List ℕ). Appends (writer_contents contents a) (writer_contents contents b) z) same h in
       record {
         prefix = subst (λ (z : List ℕ). AppendsPrefix (writer_contents contents a) (writer_contents contents b) z) (sym (append-nil (pending a))) (prefix_all (writer_contents contents a) (writer_contents contents b) (pending a) w);
         bytes_are = subst (λ (z : List ℕ). Appends (contents_with_pending contents a) (append_known (writer_contents contents b) z) []) (sym none) (pending_written (writer_contents contents a) (writer_contents contents b) (pending a) w);
-        nothing_failed = record { writes = k; flushes = l };
+        nothing_failed = k;
       }
 
   pub gathered_err : (r : Result (Unit {0}) Error) (a b : Output W) (bytes : List ℕ) → bytes ≡ pending a → NonePending b → IfErr r (λ e. IsIo e) → OnErr r (AppendsPrefix (writer_contents contents a) (writer_contents contents b) bytes)
-      → OnErr r (failed_writes_of b ≡ (failed_writes_of a + 1) % 2 ^ 64) → failed_flushes_of b ≡ failed_flushes_of a → length bytes ≤ capacity → IfErr r (λ e. FailsToPut contents [] e a b)
-  gathered_err (Ok x) a b bytes same none i h k l few = tt
-  gathered_err (Err e) a b bytes same none i h k l few = record {
+      → OnErr r (WriteFailed a b) → length bytes ≤ capacity → IfErr r (λ e. FailsToPut contents [] e a b)
+  gathered_err (Ok x) a b bytes same none i h k few = tt
+  gathered_err (Err e) a b bytes same none i h k few = record {
     is_io = i;
-    failed = record { writes = k; flushes = l };
+    failed = k;
     prefix = subst (λ (z : List ℕ). AppendsAllBut (capacity + 0) (writer_contents contents a) (writer_contents contents b) z) (same ∙ sym (append-nil (pending a))) (h.0, h.1, omega arith);
     none_pending = none;
   }
@@ -239,11 +223,11 @@ module _ {W : Type 0} (contents : W → Option (List ℕ)) where
   -- more bytes are pending, and the writer was not called
   pub puts_pending : (a b : Output W) (bytes : List ℕ) → b.writer ≡ a.writer → pending b ≡ pending a ++ bytes → Puts contents bytes a b
   puts_pending a b bytes same more =
-      let h : writer_contents contents b ≡ writer_contents contents a = ap (λ (w : CountingWriter W). contents w.inner.now) same in
+      let h : writer_contents contents b ≡ writer_contents contents a = ap (λ (w : CountingWriter W). inner_contents contents w) same in
       record {
         prefix = subst (λ (o : Option (List ℕ)). AppendsPrefix (writer_contents contents a) o (pending a ++ bytes)) (sym h) (prefix_none (writer_contents contents a) (pending a ++ bytes));
         bytes_are = rw (h, more) (more_pending (writer_contents contents a) (pending a) bytes);
-        nothing_failed = record { writes = ap (λ (w : CountingWriter W). w.failed_writes) same; flushes = ap (λ (w : CountingWriter W). w.failed_flushes) same };
+        nothing_failed = record { writes = ap failed_writes_of same; flushes = ap failed_flushes_of same; seeks = ap failed_seeks_of same };
       }
 
 -- ---- samples as bytes

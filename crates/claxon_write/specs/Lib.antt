@@ -1,8 +1,9 @@
 pub mod Capacity
+pub mod CountingWriter
 pub mod InnerWriter
 pub mod Written
+pub mod WriteWhole
 pub mod Decoded
-pub mod CountingWriter
 pub mod Output
 pub mod WriteBlocks
 pub mod WriteSamples

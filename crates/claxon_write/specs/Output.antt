@@ -1,23 +1,18 @@
 -- The clauses of the methods of `Output`.
 use Rattle.std.specs.Borrow.{MutBor}
-use Rattle.std.specs.Prelude.{◌≡◌, ℕ, ◌⊎◌, List, [], Option, Result, IfErr, OnOk}
+use Rattle.std.specs.Prelude.{ℕ, ◌⊎◌, List, [], Option, Result, IfErr, OnOk}
 use Rattle.claxon.specs.Streams.{interleave}
 use Rattle.claxon.specs.Block.{BlockValue}
 use Rattle.claxon.specs.Errors.{Error}
 use Rattle.claxon_write.specs.SampleBytes.{bytes_of_samples}
-use Rattle.claxon_write.specs.InnerWriter.{output_name}
-use Rattle.claxon_write.specs.Written.{FailsToFlush, FailsToPut, IsFlushed, IsUnflushed, NonePending, Puts, failed_flushes_of, failed_writes_of, flushes_of, writer_contents}
+use Rattle.claxon_write.specs.CountingWriter.{IsNewCountingWriter}
+use Rattle.claxon_write.specs.Written.{FailsToFlush, FailsToPut, IsFlushed, IsUnflushed, NonePending, Puts}
 use Rattle.claxon_write.specs.declared.output.Output.{Output}
 
--- The output borrows this writer, whose contents are the same. No bytes are pending, and all counts are 0.
-pub record IsNewOutput {W : Type 0} (contents : W → Option (List ℕ)) (inner : MutBor W)
-    (o : Output W) : Type 0 where
-  pub same_reference : output_name o ≡ inner.ghost_name
-  pub contents_are : writer_contents contents o ≡ contents inner.now
+-- The output borrows this writer, which is as it was. No bytes are pending, and all counts are 0.
+pub record IsNewOutput {W : Type 0} (inner : MutBor W) (o : Output W) : Type 0 where
+  pub writer_is : IsNewCountingWriter inner o.writer
   pub none_pending : NonePending o
-  pub failed_writes : failed_writes_of o ≡ 0
-  pub failed_flushes : failed_flushes_of o ≡ 0
-  pub flushes : flushes_of o ≡ 0
 
 -- An Ok put these bytes after all earlier ones.
 abbrev pub PutIsSound : {W : Type 0} → (W → Option (List ℕ)) → List ℕ → Result (Unit {0}) Error

@@ -1,9 +1,10 @@
 -- The bytes that an `Output` wrote, and those pending in it.
-use Rattle.std.specs.Prelude.{◌≡◌, ◌≤◌, ℕ, ◌+◌, ◌%◌, ◌^◌, Bool, true, List, [], ◌++◌, length, take, Option}
-use Rattle.std.specs.Io.KnownBytes.{Appends, Keeps, append_known}
+use Rattle.std.specs.Prelude.{◌≡◌, ◌≤◌, ℕ, ◌+◌, List, [], ◌++◌, length, take, Option}
+use Rattle.std.specs.Io.KnownBytes.{Appends, append_known}
 use Rattle.claxon.specs.Error.{IsIo}
 use Rattle.claxon.specs.Errors.{Error}
 use Rattle.claxon_write.specs.Capacity.{capacity}
+use Rattle.claxon_write.specs.CountingWriter.{CountsFailedFlush, CountsFailedWrite, CountsFlush, CountsNoFailure, CountsNoFlush, KeepsInner, inner_contents}
 use Rattle.claxon_write.specs.declared.output.Gathered.{Gathered}
 use Rattle.claxon_write.specs.declared.output.Output.{Output}
 
@@ -18,54 +19,33 @@ pending o = pending_in o.gathered
 abbrev pub NonePending : {W : Type 0} → Output W → Type 0
 NonePending o = pending o ≡ []
 
--- the number of failed writes, modulo 2^64, as the next two
-abbrev pub failed_writes_of : {W : Type 0} → Output W → ℕ
-failed_writes_of o = o.writer.failed_writes
+-- No call of the writer failed.
+abbrev pub NothingFailed : {W : Type 0} → Output W → Output W → Type 0
+NothingFailed old new = CountsNoFailure old.writer new.writer
 
--- the number of failed flushes
-abbrev pub failed_flushes_of : {W : Type 0} → Output W → ℕ
-failed_flushes_of o = o.writer.failed_flushes
+-- One write failed, and no other call.
+abbrev pub WriteFailed : {W : Type 0} → Output W → Output W → Type 0
+WriteFailed old new = CountsFailedWrite old.writer new.writer
 
--- the number of flushes
-abbrev pub flushes_of : {W : Type 0} → Output W → ℕ
-flushes_of o = o.writer.flushes
-
--- whether the last call of the writer was a flush
-abbrev pub is_flushed_last : {W : Type 0} → Output W → Bool
-is_flushed_last o = o.writer.is_flushed
-
--- No write and no flush failed.
-pub record NothingFailed {W : Type 0} (old new : Output W) : Type 0 where
-  pub writes : failed_writes_of new ≡ failed_writes_of old
-  pub flushes : failed_flushes_of new ≡ failed_flushes_of old
-
--- One write failed, and no flush.
-pub record WriteFailed {W : Type 0} (old new : Output W) : Type 0 where
-  pub writes : failed_writes_of new ≡ (failed_writes_of old + 1) % 2 ^ 64
-  pub flushes : failed_flushes_of new ≡ failed_flushes_of old
-
--- One flush failed, and no write.
-pub record FlushFailed {W : Type 0} (old new : Output W) : Type 0 where
-  pub writes : failed_writes_of new ≡ failed_writes_of old
-  pub flushes : failed_flushes_of new ≡ (failed_flushes_of old + 1) % 2 ^ 64
+-- One flush failed, and no other call.
+abbrev pub FlushFailed : {W : Type 0} → Output W → Output W → Type 0
+FlushFailed old new = CountsFailedFlush old.writer new.writer
 
 -- There was no flush.
 abbrev pub IsUnflushed : {W : Type 0} → Output W → Output W → Type 0
-IsUnflushed old new = flushes_of new ≡ flushes_of old
+IsUnflushed old new = CountsNoFlush old.writer new.writer
 
 -- There was one flush, and it was the last call of the writer.
-pub record IsFlushed {W : Type 0} (old new : Output W) : Type 0 where
-  pub once : flushes_of new ≡ (flushes_of old + 1) % 2 ^ 64
-  pub last : is_flushed_last new ≡ true
+abbrev pub IsFlushed : {W : Type 0} → Output W → Output W → Type 0
+IsFlushed old new = CountsFlush old.writer new.writer
 
 -- the contents of the writer, where they are known
 abbrev pub writer_contents : {W : Type 0} → (W → Option (List ℕ)) → Output W → Option (List ℕ)
-writer_contents contents o = contents o.writer.inner.now
+writer_contents contents o = inner_contents contents o.writer
 
 -- The contents of the writer stay the same.
 abbrev pub KeepsContents : {W : Type 0} → (W → Option (List ℕ)) → Output W → Output W → Type 0
-KeepsContents contents old new =
-    Keeps (writer_contents contents old) (writer_contents contents new)
+KeepsContents contents old new = KeepsInner contents old.writer new.writer
 
 -- the contents of the writer, followed by the pending bytes
 abbrev pub contents_with_pending : {W : Type 0} → (W → Option (List ℕ)) → Output W → Option (List ℕ)

@@ -3,12 +3,14 @@
 
 mod arguments;
 mod bytes;
+mod counting_writer;
 mod output;
 mod program;
 mod raw;
 mod stream;
 
 pub use arguments::words;
+pub use counting_writer::CountingWriter;
 pub use output::Output;
 pub use program::{open_head, run_command, status};
 pub use raw::command;

@@ -6,10 +6,10 @@ ghost use Rattle.claxon_write.specs.Capacity.{capacity};
 ghost use Rattle.claxon_write.specs.SampleBytes.{bytes_between};
 
 use crate::bytes::{put_channel, put_mono, put_stereo};
-use claxon::{Block, Error, Result};
+use crate::counting_writer::CountingWriter;
+use claxon::{Block, Result};
 use std::alloc::Allocator;
-use std::io;
-use std::io::{ErrorKind, Write};
+use std::io::Write;
 
 // The most bytes that are pending.
 const CAPACITY: usize = 16384;
@@ -17,112 +17,29 @@ const CAPACITY: usize = 16384;
 // The most samples per channel that fit in the buffer, for eight channels.
 const MAX_PER_CHANNEL: usize = 512;
 
-/// A writer that counts its failed writes and its flushes. The counts wrap.
-struct CountingWriter<'w, W> {
-    inner: &'w mut W,
-    failed_writes: u64,
-    failed_flushes: u64,
-    // The number of flushes, and whether the last call was one.
-    flushes: u64,
-    is_flushed: bool,
-}
-
-impl<'w, W> Drop for CountingWriter<'w, W> {
-    fn drop(self)
-        ensures { self.exit.0.now ≡ self.entry.inner.now }
-    {
-        let CountingWriter {
-            inner: _,
-            failed_writes: _,
-            failed_flushes: _,
-            flushes: _,
-            is_flushed: _,
-        } = self;
-    }
-}
-
 impl<'w, W: Write> CountingWriter<'w, W> {
-    ghost use Rattle.claxon_write.specs.CountingWriter.{CountsFailedFlush, CountsFailedWrite, KeepsInner, WritesAll, WritesPrefix, WritesSome};
+    ghost use Rattle.claxon_write.specs.CountingWriter.{CountsFailedWrite, CountsNoFailure, CountsNoFlush, SameInner};
+    ghost use Rattle.claxon_write.specs.WriteWhole.{WritesAll, WritesPrefix};
 
-    fn into_inner(self) -> &'w mut W
-        ensures same_reference { result.ghost_name ≡ self.entry.inner.ghost_name }
-        ensures writer { result.now ≡ self.entry.inner.now }
-    {
-        let CountingWriter {
-            inner,
-            failed_writes: _,
-            failed_flushes: _,
-            flushes: _,
-            is_flushed: _,
-        } = self;
-        inner
-    }
-
-    // The only call of the writer's `write`.
-    fn write_some(&mut self, bytes: &[u8]) -> Result<usize>
-        requires some { 0 < length bytes.now }
-        ensures same_reference { self.new.inner.ghost_name ≡ self.old.inner.ghost_name }
-        ensures ok { WritesSome W.contents bytes.now result self.old self.new }
-        ensures kept { OnErr result (KeepsInner W.contents self.old self.new) }
-        ensures io { IfErr result (λ error. IsIo error) }
-        ensures succeeded { OnOk result (self.new.failed_writes ≡ self.old.failed_writes) }
-        ensures failed { OnErr result (CountsFailedWrite self.old self.new) }
-        ensures failed_flushes { self.new.failed_flushes ≡ self.old.failed_flushes }
-        ensures flushes { self.new.flushes ≡ self.old.flushes }
-        ensures not_flushed { self.new.is_flushed ≡ false }
-    {
-        self.is_flushed = false;
-        match self.inner.write(bytes) {
-            Ok(0) => {
-                self.failed_writes = self.failed_writes.wrapping_add(1);
-                Err(Error::IoError(io::Error::from(ErrorKind::WriteZero)))
-            }
-            Ok(count) => Ok(count),
-            Err(error) => {
-                self.failed_writes = self.failed_writes.wrapping_add(1);
-                Err(Error::IoError(error))
-            }
-        }
-    }
-
-    // Writes all of the bytes. `Interrupted` is a failure too.
-    fn write_whole(&mut self, bytes: &[u8]) -> Result<()>
-        ensures same_reference { self.new.inner.ghost_name ≡ self.old.inner.ghost_name }
+    /// Writes all of the bytes.
+    ///
+    /// # Errors
+    ///
+    /// Those of `write_some`, `Interrupted` too. Then a prefix of the bytes was written.
+    pub fn write_whole(&mut self, bytes: &[u8]) -> Result<()>
+        ensures same_reference { SameInner self.old self.new }
         ensures ok { WritesAll W.contents bytes.now result self.old self.new }
         ensures prefix { WritesPrefix W.contents bytes.now result self.old self.new }
         ensures io { IfErr result (λ error. IsIo error) }
-        ensures succeeded { OnOk result (self.new.failed_writes ≡ self.old.failed_writes) }
+        ensures succeeded { OnOk result (CountsNoFailure self.old self.new) }
         ensures failed { OnErr result (CountsFailedWrite self.old self.new) }
-        ensures failed_flushes { self.new.failed_flushes ≡ self.old.failed_flushes }
-        ensures flushes { self.new.flushes ≡ self.old.flushes }
+        ensures unflushed { CountsNoFlush self.old self.new }
     {
         let mut at = 0;
         while at < bytes.len() {
             at += self.write_some(&bytes[at..])?;
         }
         Ok(())
-    }
-
-    // The only call of the writer's `flush`.
-    fn flush(&mut self) -> Result<()>
-        ensures same_reference { self.new.inner.ghost_name ≡ self.old.inner.ghost_name }
-        ensures kept { KeepsInner W.contents self.old self.new }
-        ensures io { IfErr result (λ error. IsIo error) }
-        ensures failed_writes { self.new.failed_writes ≡ self.old.failed_writes }
-        ensures succeeded { OnOk result (self.new.failed_flushes ≡ self.old.failed_flushes) }
-        ensures failed { OnErr result (CountsFailedFlush self.old self.new) }
-        ensures flushes { self.new.flushes ≡ (self.old.flushes + 1) % 2 ^ 64 }
-        ensures flushed { self.new.is_flushed ≡ true }
-    {
-        self.flushes = self.flushes.wrapping_add(1);
-        self.is_flushed = true;
-        match self.inner.flush() {
-            Ok(()) => Ok(()),
-            Err(error) => {
-                self.failed_flushes = self.failed_flushes.wrapping_add(1);
-                Err(Error::IoError(error))
-            }
-        }
     }
 }
 
@@ -188,16 +105,10 @@ impl<'w, W: Write> Output<'w, W> {
 
     /// Borrows the writer. No bytes are gathered yet, and all counts are 0.
     pub fn new(inner: &'w mut W) -> Output<'w, W>
-        ensures { IsNewOutput W.contents inner.entry result }
+        ensures { IsNewOutput inner.entry result }
     {
         Output {
-            writer: CountingWriter {
-                inner,
-                failed_writes: 0,
-                failed_flushes: 0,
-                flushes: 0,
-                is_flushed: false,
-            },
+            writer: CountingWriter::new(inner),
             gathered: Gathered {
                 bytes: [0; CAPACITY],
                 used: 0,

@@ -1,4 +1,4 @@
-use Rattle.std.proofs.Common.{rules, refl, inl, sym, ◌∙◌}
+use Rattle.std.proofs.Common.{rules, refl, inl, sym, ap, ◌∙◌}
 use Rattle.std.proofs.lemmas.Result.{err_from_is_err_and}
 use Rattle.claxon.specs.FlacReader.{flac_head}
 use Rattle.claxon.specs.Opening.{flac_bytes, unread}
@@ -7,30 +7,30 @@ use Rattle.claxon_write.proofs.stream.run.Goals as goal
 
 pub returns-clause-ok : goal.returns-clause-ok
 returns-clause-ok g c =
-    let same = c.into_inner.ensures.same_reference ∙ (c.write_samples-outcome.ensures.same_reference ∙ c.new-output.ensures.same_reference) in
+    let same = c.into_inner.ensures.same_reference ∙ (c.write_samples-outcome.ensures.same_reference ∙ c.new-output.ensures.writer_is.same_reference) in
     let e = sym same in
     let k = ran g.W.Write.contents (flac_head c.in_ok-flac.flac) (unread (g.R.Read.remaining c.args.input)) (flac_bytes g.R.Read.remaining c.in_ok-flac.flac) _ (g.W.Write.contents c.args.output.now) c.new-output.result c.write_samples-outcome.new.output
-    c.in_ok-flac.ensures.sound c.new-output.ensures.contents_are c.new-output.ensures.none_pending c.write_samples-outcome.result c.write_samples-outcome.ensures.ok in
+    c.in_ok-flac.ensures.sound (ap g.W.Write.contents c.new-output.ensures.writer_is.writer) c.new-output.ensures.none_pending c.write_samples-outcome.result c.write_samples-outcome.ensures.ok in
     let w = c.into_inner.ensures.writer in
     let j = rw (← w) at k in
     search rules
 
 pub returns-clause-err : goal.returns-clause-err
 returns-clause-err g c =
-    let same = c.into_inner.ensures.same_reference ∙ (c.write_samples-outcome.ensures.same_reference ∙ c.new-output.ensures.same_reference) in
+    let same = c.into_inner.ensures.same_reference ∙ (c.write_samples-outcome.ensures.same_reference ∙ c.new-output.ensures.writer_is.same_reference) in
     let e = sym same in
     let k = stopped g.W.Write.contents (flac_head c.in_ok-flac.flac) (unread (g.R.Read.remaining c.args.input)) (flac_bytes g.R.Read.remaining c.in_ok-flac.flac) _ (g.W.Write.contents c.args.output.now) c.new-output.result c.write_samples-outcome.new.output
-    c.in_ok-flac.ensures.sound c.new-output.ensures.contents_are c.new-output.ensures.none_pending c.write_samples-outcome.result c.write_samples-outcome.ensures.err in
+    c.in_ok-flac.ensures.sound (ap g.W.Write.contents c.new-output.ensures.writer_is.writer) c.new-output.ensures.none_pending c.write_samples-outcome.result c.write_samples-outcome.ensures.err in
     let w = c.into_inner.ensures.writer in
     let j = rw (← w) at k in
     search rules
 
 pub returns-clause-prefix : goal.returns-clause-prefix
 returns-clause-prefix g c =
-    let same = c.into_inner.ensures.same_reference ∙ (c.write_samples-outcome.ensures.same_reference ∙ c.new-output.ensures.same_reference) in
+    let same = c.into_inner.ensures.same_reference ∙ (c.write_samples-outcome.ensures.same_reference ∙ c.new-output.ensures.writer_is.same_reference) in
     let e = sym same in
     let k = prefixes g.W.Write.contents (flac_head c.in_ok-flac.flac) (unread (g.R.Read.remaining c.args.input)) (flac_bytes g.R.Read.remaining c.in_ok-flac.flac) _ (g.W.Write.contents c.args.output.now) c.new-output.result c.write_samples-outcome.new.output
-    c.in_ok-flac.ensures.sound c.new-output.ensures.contents_are c.new-output.ensures.none_pending c.write_samples-outcome.result c.write_samples-outcome.ensures.err in
+    c.in_ok-flac.ensures.sound (ap g.W.Write.contents c.new-output.ensures.writer_is.writer) c.new-output.ensures.none_pending c.write_samples-outcome.result c.write_samples-outcome.ensures.err in
     let w = c.into_inner.ensures.writer in
     let j = rw (← w) at k in
     search rules

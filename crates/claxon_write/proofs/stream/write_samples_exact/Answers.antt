@@ -8,7 +8,7 @@ pub returns-clause-ok : goal.returns-clause-ok
 returns-clause-ok g c =
     let k = c.in_ok-end.ensures.ok in
     let f = c.flush_writer-flushed.ensures in
-    let all = all_flushed (buffered_source g.R.Read.remaining) c.streaminfo-info.ensures.value c.input.ensures.input c.in_ok-end.end.count c.write_blocks.new.input c.flush_writer-flushed.result c.in_default.is k.0 k.1 c.in_ok-end.ensures.unflushed f.kept f.pending f.succeeded f.failed f.flushed f.io in
+    let all = all_flushed (buffered_source g.R.Read.remaining) c.streaminfo-info.ensures.value c.input.ensures.input c.in_ok-end.end.count c.write_blocks.new.input c.flush_writer-flushed.result c.flush_writer-flushed.new.self c.in_default.is k.0 k.1 c.in_ok-end.ensures.unflushed f.kept f.pending f.succeeded f.failed f.flushed f.io in
     let j = all.0 in
     rw c.and.ensures (search rules)
 
@@ -16,7 +16,7 @@ pub returns-clause-err : goal.returns-clause-err
 returns-clause-err g c =
     let k = c.in_ok-end.ensures.ok in
     let f = c.flush_writer-flushed.ensures in
-    let all = all_flushed (buffered_source g.R.Read.remaining) c.streaminfo-info.ensures.value c.input.ensures.input c.in_ok-end.end.count c.write_blocks.new.input c.flush_writer-flushed.result c.in_default.is k.0 k.1 c.in_ok-end.ensures.unflushed f.kept f.pending f.succeeded f.failed f.flushed f.io in
+    let all = all_flushed (buffered_source g.R.Read.remaining) c.streaminfo-info.ensures.value c.input.ensures.input c.in_ok-end.end.count c.write_blocks.new.input c.flush_writer-flushed.result c.flush_writer-flushed.new.self c.in_default.is k.0 k.1 c.in_ok-end.ensures.unflushed f.kept f.pending f.succeeded f.failed f.flushed f.io in
     let j = all.1 in
     rw c.and.ensures (search rules)
 

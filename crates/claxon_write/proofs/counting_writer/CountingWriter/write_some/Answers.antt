@@ -1,5 +1,5 @@
 use Rattle.std.proofs.Common.{rules}
-use Rattle.claxon_write.proofs.output.CountingWriter.write_some.Goals as goal
+use Rattle.claxon_write.proofs.counting_writer.CountingWriter.write_some.Goals as goal
 
 pub returns-in-Ok-eq0-clause-ok : goal.returns-in-Ok-eq0-clause-ok
 returns-in-Ok-eq0-clause-ok g c = search rules
