@@ -1,7 +1,7 @@
 -- Reads through a mutable reference are reads of its target.
 use Rattle.std.specs.Borrow.{GName, MutBor}
 use Rattle.claxon.specs.Source.{Source, through_loan}
-use Rattle.std.proofs.Common.{◌≡◌, inl, inr, ℕ, ◌+◌, List, [], ◌∷◌, ◌++◌, Option, None, Some, ap, subst, ◌∙◌, append-nil, arith}
+use Rattle.std.proofs.Common.{◌≡◌, inl, inr, ℕ, ◌+◌, true, List, [], ◌∷◌, ◌++◌, Option, None, Some, ap, subst, ◌∙◌, append-nil, arith}
 use Rattle.std.specs.Prelude.{IfErr, IfOk, OnErr, OnOk, ◌⊎◌, Result, Ok, Err}
 use Rattle.std.specs.Result.{result_and}
 use Rattle.claxon.specs.Frame.{StreamFormat, Block}
@@ -10,14 +10,14 @@ use Rattle.claxon.specs.read.Reading.{Reading}
 use Rattle.claxon.specs.Errors.{Error}
 use Rattle.claxon.specs.Errors.TheVariants.{IoError, FormatError, Unsupported, OutOfMemory}
 use Rattle.claxon.specs.Gives.{FailedOr, Stops, FailureOr, Consumes, ReachedEof, GivesOrEofOrOutOfMemory}
-use Rattle.claxon.specs.Error.{IsIo}
+use Rattle.claxon.specs.Error.{IsIo, is_io}
 use Rattle.claxon.specs.State.{State, bytes_in}
-use Rattle.claxon.specs.Promises.{Remains, NoneIsEof}
+use Rattle.claxon.specs.Promises.{IsOutOfMemory, Remains, NoneIsEof}
 use Rattle.claxon.specs.Block.{BlockValue}
 use Rattle.claxon.specs.FrameReader.{ReadsFrame, block_view, stream_with}
 use Rattle.claxon.specs.StreamInfos.{StreamInfo}
 use Rattle.claxon.specs.SampleRuns.{ConsumesFrames, ReadsFrames, samples_of}
-use Rattle.claxon_write.specs.Decoded.{EndsAfter, Gathers, Decodes, DecodesToEof, FailsToDecode, FailsToWrite, StopsDecoding, ConsumesFramesOrEnd, last_bytes}
+use Rattle.claxon_write.specs.Decoded.{EndsAfter, Gathers, Decodes, DecodesToEof, FailsToDecode, FailsToWrite, StopsAtLargerBlock, StopsDecoding, ConsumesFramesOrEnd, last_bytes}
 use Rattle.claxon_write.specs.SampleBytes.{bytes_of_samples}
 use Rattle.claxon_write.specs.Capacity.{capacity}
 use Rattle.claxon_write.specs.Written.{AppendsAllBut, FailsToPut, FlushFailed, IsFlushed, IsUnflushed, KeepsContents, NonePending, NothingFailed, Puts, writer_contents, contents_with_pending, pending}
@@ -109,6 +109,10 @@ blocks_unborrowed : (stream : Option StreamFormat) (blocks : List Block) (a b : 
 blocks_unborrowed stream blocks a b (inl h) = inl (takes_unborrowed h)
 blocks_unborrowed stream blocks a b (inr h) = inr (h.0, ends_unborrowed stream blocks h.0 a b h.1)
 
+larger_unborrowed : {stream : Option StreamFormat} {a b : State ℕ} → StopsAtLargerBlock stream a b → StopsAtLargerBlock stream (unborrowed a) (unborrowed b)
+unfolding unborrowed
+larger_unborrowed h = record { blocks = h.blocks; size = h.size; between = unborrowed h.between; frames = takes_unborrowed h.frames; at_most = h.at_most; header = h.header }
+
 -- ---- all gathered bytes were written
 
 module _ {W : Type 0} {contents : W → Option (List ℕ)} {stream : Option StreamFormat} where
@@ -139,6 +143,14 @@ same_name source r s q e h =
     let n : q.ghost_name ≡ s.ghost_name = cc in
     n ∙ ap (λ (x : MutBor _). x.ghost_name) e
 
+-- memory was refused at a larger block
+pub larger_through : {R : Type 0} (source : R → Source ℕ) {stream known : Option StreamFormat} (r s q : MutBor R) → s ≡ r → stream ≡ known → (end : End) (o : Result (Unit {0}) Error)
+    → (end.fault ≡ Some OutOfMemory → StopsAtLargerBlock stream (bytes_in (lent source) s) (bytes_in (lent source) q))
+    → IfOk (result_and o (Ok end)) (λ end. end.fault ≡ Some OutOfMemory → StopsAtLargerBlock known (bytes_in source r.now) (bytes_in source q.now))
+unfolding unborrowed bytes_in rest_of
+larger_through source r s q at same end (Ok done) h = λ out. rw (← at, ← same) (larger_unborrowed (h out))
+larger_through source r s q at same end (Err e) h = tt
+
 module _ {R W : Type 0} (source : R → Source ℕ) {contents : W → Option (List ℕ)} {stream known : Option StreamFormat} (r s q : MutBor R) (at : s ≡ r) (same : stream ≡ known) where
   -- the gathered bytes are written, and then the end is returned
   pub written_through : (end : End) (o : Result (Unit {0}) Error) (x y z : Output W) → Gathers contents stream end.fault end.count (bytes_in (lent source) s) (bytes_in (lent source) q) x y → OnOk o (Puts contents [] y z) → IfErr o (λ e. FailsToPut contents [] e y z)
@@ -155,9 +167,29 @@ module _ {R W : Type 0} (source : R → Source ℕ) {contents : W → Option (Li
 
 -- ---- the flush at the end
 
+-- an `IoError` is not `OutOfMemory`
+pub io_not_memory : (e : Error) → IsIo e → e ≡ OutOfMemory → ⊥
+io_not_memory e i m = let q : is_io OutOfMemory ≡ true = subst IsIo m i in cc
+
+pub io_not_refused : (e : Error) → IsIo e → IsOutOfMemory (let r : Result ℕ Error = Err e in r) → ⊥
+io_not_refused e i out = io_not_memory e i (let k : e ≡ OutOfMemory = cc in k)
+
+pub flush_not_refused : (r : Result (Unit {0}) Error) (n : ℕ) → IfErr r (λ e. IsIo e) → IsOutOfMemory (result_and r (Ok n)) → ⊥
+flush_not_refused (Ok done) n i out = cc
+flush_not_refused (Err e) n i out = io_not_refused e i out
+
 either_failed : {W : Type 0} (x z w : Output W) (r : Result (Unit {0}) Error) → NothingFailed x z → OnOk r (NothingFailed z w) → OnErr r (FlushFailed z w) → NothingFailed x w ⊎ FlushFailed x w
 either_failed x z w (Ok u) h k l = inl (none_failed_both h k)
 either_failed x z w (Err e) h k l = inr (flush_failed_after h l)
+
+-- for equal streaminfos and readers
+pub larger_shown : {R : Type 0} (source : R → Source ℕ) {info shown : StreamInfo} {u v : R} → info ≡ shown → u ≡ v → {end : Option Error} {error : Error} (q : R)
+    → (end ≡ Some OutOfMemory → StopsAtLargerBlock (Some (stream_with info)) (bytes_in source u) (bytes_in source q)) → end ≡ Some error → IsOutOfMemory (let r : Result ℕ Error = Err error in r)
+    → StopsAtLargerBlock (Some (stream_with shown)) (bytes_in source v) (bytes_in source q)
+larger_shown {R} source {info = info} {v = v} head at {error = error} q h is out =
+    let refused : error ≡ OutOfMemory = cc in
+    subst (λ (i : StreamInfo). StopsAtLargerBlock (Some (stream_with i)) (bytes_in source v) (bytes_in source q)) head
+    (subst (λ (r : R). StopsAtLargerBlock (Some (stream_with info)) (bytes_in source r) (bytes_in source q)) at (h (is ∙ ap (λ (z : Error). Some z) refused)))
 
 module _ {W : Type 0} {contents : W → Option (List ℕ)} where
   flushed : {stream : Option StreamFormat} {end : Option Error} {n : ℕ} {a b : State ℕ} {x z w : Output W} → Decodes contents stream end n a b x z → KeepsContents contents z w → pending w ≡ pending z → Decodes contents stream end n a b x w

@@ -8,7 +8,7 @@ use Rattle.claxon.specs.Heads.{Head, HeadCode, HeadFault}
 use Rattle.claxon.specs.Streams.{stream_of, with_samples}
 use Rattle.claxon.specs.Errors.{Error}
 use Rattle.claxon.specs.Errors.TheVariants.{OutOfMemory}
-use Rattle.claxon.specs.Error.{IsFault, IsIo, is_io}
+use Rattle.claxon.specs.Error.{IsFault, IsIo}
 use Rattle.claxon.specs.Gives.{Consumes}
 use Rattle.claxon.specs.Promises.{Remains, IsExcused, Consumed}
 use Rattle.claxon.specs.State.{State, RemainingIsKnown}
@@ -22,6 +22,7 @@ use Rattle.claxon_write.specs.Run.{DecoderStops, HasFrameFault, IsHeadAndFrames,
 use Rattle.claxon_write.specs.WriteSamples.{EofAfterBlocks, FaultAfterBlocks, StreamFaultIsComplete, StreamIsComplete, flac_stream}
 use Rattle.claxon_write.specs.Written.{AppendsPrefix, NonePending, writer_contents, pending}
 use Rattle.claxon_write.specs.declared.output.Output.{Output}
+use Rattle.claxon_write.proofs.Borrowed.{io_not_memory}
 use Rattle.claxon_write.proofs.Puts.{prefix_all}
 
 -- ---- the frames at the start
@@ -43,9 +44,6 @@ nothing_pending : (o p : Option (List ℕ)) (w bytes : List ℕ) → w ≡ [] �
 nothing_pending None p w bytes e h = tt
 nothing_pending (Some s) None w bytes e h = absurd h
 nothing_pending (Some s) (Some t) w bytes e h = h ∙ ap (λ (z : List ℕ). z ++ bytes) (ap (λ (z : List ℕ). s ++ z) e ∙ append-nil s)
-
-io_not_memory : (e : Error) → IsIo e → e ≡ OutOfMemory → ⊥
-io_not_memory e i m = let q : is_io OutOfMemory ≡ true = subst IsIo m i in cc
 
 -- ---- after the head
 

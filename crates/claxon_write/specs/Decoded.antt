@@ -1,9 +1,11 @@
 -- Streams that are decoded into an `Output`.
-use Rattle.std.specs.Prelude.{◌≡◌, ◌≤◌, ◌⊎◌, ℕ, ◌+◌, ◌^◌, List, [], ◌∷◌, ◌++◌, length, codes, Option, None, Some, IsErrAnd, Result, Ok, Err}
+use Rattle.std.specs.Prelude.{All, ◌≡◌, ◌≤◌, ◌⊎◌, ℕ, ◌+◌, ◌^◌, List, [], ◌∷◌, ◌++◌, length, codes, Option, None, Some, IsErrAnd, Result, Ok, Err}
 use Rattle.std.specs.Io.KnownBytes.{Appends}
 use Rattle.claxon.specs.Frame.{StreamFormat, Block}
 use Rattle.claxon.specs.Streams.{interleave}
 use Rattle.claxon.specs.Error.{IsIo}
+use Rattle.claxon.specs.FrameReader.{HeaderOfLargerBlock}
+use Rattle.claxon.specs.Promises.{Consumed}
 use Rattle.claxon.specs.State.{State}
 use Rattle.claxon.specs.Errors.{Error}
 use Rattle.claxon.specs.Errors.TheVariants.{Unsupported}
@@ -26,6 +28,20 @@ pub record TooManySamples (stream : Option StreamFormat) (blocks : List Block) (
   pub last : Block
   pub frames : ConsumesFrames stream (blocks ++ last ∷ []) old new
   pub many : 2 ^ 64 ≤ length (samples_of (blocks ++ last ∷ []))
+
+-- The block has at most n samples.
+abbrev pub HasAtMost : ℕ → Block → Type 0
+HasAtMost n b = length (interleave b.channels) ≤ n
+
+-- Exactly the frames of some blocks were consumed, and the header of one more. Each of these has at most `size` samples, and
+-- the block of the header has more.
+pub record StopsAtLargerBlock (stream : Option StreamFormat) (old new : State ℕ) : Type 0 where
+  pub blocks : List Block
+  pub size : ℕ
+  pub between : State ℕ
+  pub frames : ConsumesFrames stream blocks old between
+  pub at_most : All (HasAtMost size) blocks
+  pub header : Consumed between new (HeaderOfLargerBlock stream size)
 
 -- What ended the blocks: None is the end of the stream.
 abbrev pub EndsAfter : Option StreamFormat → List Block → Option Error → State ℕ → State ℕ → Type 0

@@ -6,13 +6,13 @@ use Rattle.claxon.specs.FrameReader.{stream_with}
 use Rattle.claxon.specs.Errors.{Error}
 use Rattle.claxon.specs.Error.{IsFault}
 use Rattle.claxon.specs.Gives.{IsRest}
-use Rattle.claxon.specs.Promises.{IsExcused}
+use Rattle.claxon.specs.Promises.{IsExcused, IsOutOfMemory}
 use Rattle.claxon.specs.State.{State, RemainingIsKnown}
 use Rattle.claxon.specs.FlacReader.{flac_head, flac_metadata_only, flac_streaminfo}
 use Rattle.claxon.specs.Opening.{flac_bytes}
 use Rattle.claxon.specs.SampleRuns.{samples_of}
 use Rattle.claxon.specs.declared.reader.FlacReader.{FlacReader}
-use Rattle.claxon_write.specs.Decoded.{DecodesToEof, FailsToDecode, WriteHasFailed, WriterHasFailed}
+use Rattle.claxon_write.specs.Decoded.{DecodesToEof, FailsToDecode, StopsAtLargerBlock, WriteHasFailed, WriterHasFailed}
 use Rattle.claxon_write.specs.declared.output.Output.{Output}
 
 -- The head stays as it was, and so does whether the reader is for metadata only.
@@ -70,6 +70,16 @@ module _ {R A W : Type 0} (contents : W → Option (List ℕ)) (remaining : R �
   StreamFaultIsSound =
       IfErr result (λ error. FailsToDecode contents (flac_stream old) error
       (flac_bytes remaining old) (flac_bytes remaining new) before after)
+
+-- ---- memory
+
+-- `OutOfMemory` is returned only after the header of a block that has more samples than each before it in this call: their
+-- memory is used again.
+abbrev pub StreamOutOfMemoryForLargerBlock : {R A : Type 0} → (R → Option (List ℕ))
+    → Result ℕ Error → FlacReader R A → FlacReader R A → Type 0
+StreamOutOfMemoryForLargerBlock remaining result old new =
+    IsOutOfMemory result → StopsAtLargerBlock (flac_stream old)
+    (flac_bytes remaining old) (flac_bytes remaining new)
 
 -- ---- completeness
 

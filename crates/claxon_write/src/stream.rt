@@ -5,8 +5,8 @@ ghost use Rattle.claxon.specs.FlacReader.{flac_metadata_only, flac_streaminfo};
 ghost use Rattle.claxon.specs.FrameReader.{frame_bytes};
 ghost use Rattle.claxon_write.specs.InnerWriter.{SameWriter};
 ghost use Rattle.claxon_write.specs.Run.{RunFaultIsComplete, RunIsComplete, RunFaultIsSound, RunWritesPrefix, RunIsSound};
-ghost use Rattle.claxon_write.specs.WriteBlocks.{GatherBlocksFaultIsSound, WriteBlocksFaultIsSound, GatherBlocksIsSound, WriteBlocksIsSound};
-ghost use Rattle.claxon_write.specs.WriteSamples.{StreamFaultIsComplete, StreamIsComplete, StreamLeavesRest, KeepsHead, StreamIsSound, StreamFaultIsSound};
+ghost use Rattle.claxon_write.specs.WriteBlocks.{GatherBlocksFaultIsSound, WriteBlocksFaultIsSound, GatherBlocksIsSound, GatherOutOfMemoryForLargerBlock, WriteBlocksIsSound, WriteOutOfMemoryForLargerBlock};
+ghost use Rattle.claxon_write.specs.WriteSamples.{StreamFaultIsComplete, StreamIsComplete, StreamLeavesRest, KeepsHead, StreamIsSound, StreamFaultIsSound, StreamOutOfMemoryForLargerBlock};
 ghost use Rattle.claxon_write.specs.Written.{IsUnflushed};
 
 use crate::output::Output;
@@ -73,6 +73,8 @@ pub fn write_samples<R: Read + Drop, W: Write, A: Allocator + Copy>(
     // All samples before a decoder's error were written, and then flushed, or the writer failed.
     ensures err { StreamFaultIsSound W.contents R.remaining result
         flac.old flac.new output.old output.new }
+    // Blocks that are no larger than earlier ones need no more memory.
+    ensures memory { StreamOutOfMemoryForLargerBlock R.remaining result flac.old flac.new }
     ensures complete { StreamIsComplete R.remaining result flac.old flac.new output.old output.new }
     ensures named { StreamFaultIsComplete R.remaining result
         flac.old flac.new output.old output.new }
@@ -95,6 +97,7 @@ fn write_samples_exact<R: Read + Drop, W: Write, A: Allocator + Copy>(
         flac.old flac.new output.old output.new }
     ensures err { StreamFaultIsSound W.contents R.remaining result
         flac.old flac.new output.old output.new }
+    ensures memory { StreamOutOfMemoryForLargerBlock R.remaining result flac.old flac.new }
 {
     let info = flac.streaminfo();
     let end = write_blocks(alloc, flac.input(), info, output)?;
@@ -130,6 +133,7 @@ fn write_blocks<R: ReadBytes, W: Write, A: Allocator + Copy>(
     ensures unflushed { IsUnflushed output.old output.new }
     ensures err { WriteBlocksFaultIsSound W.contents R.source info result
         input.old input.new output.old output.new }
+    ensures memory { WriteOutOfMemoryForLargerBlock R.source info result input.old input.new }
 {
     let mut frames = FrameReader::with_streaminfo(input, info);
     let end = gather_blocks(alloc, &mut frames, output)?;
@@ -151,6 +155,7 @@ fn gather_blocks<R: ReadBytes, W: Write, A: Allocator + Copy>(
     ensures unflushed { IsUnflushed output.old output.new }
     ensures err { GatherBlocksFaultIsSound W.contents R.source result
         frames.old frames.new output.old output.new }
+    ensures memory { GatherOutOfMemoryForLargerBlock R.source result frames.old frames.new }
 {
     let mut count = 0u64;
     let mut buffer = Vec::new(alloc);

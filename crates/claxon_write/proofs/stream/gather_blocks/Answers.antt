@@ -1,25 +1,26 @@
-use Rattle.std.proofs.Common.{◌≤◌, ◌+◌, ◌^◌, Ok, Option, refl, ap, ◌∙◌, arith, rules}
+use Rattle.std.proofs.Common.{◌≤◌, ◌+◌, ◌^◌, Ok, Option, refl, ap, ◌∙◌, arith, rules, vec_capacity}
 use Rattle.std.proofs.lemmas.Result.{err_from_is_err_and}
 use Rattle.claxon.specs.Block.{BlockValue}
 use Rattle.claxon.specs.FrameReader.{frame_bytes}
 use Rattle.claxon.proofs.SamplesInTurn.{reads_frame}
-use Rattle.claxon_write.proofs.Gathering.{reads_with, reads_loans, gathered_none, gathered_as, gathered_more, gathered_end, gathered_fault, gathered_limit, gathered_fails}
+use Rattle.claxon_write.proofs.Gathering.{gathered_memory, reads_with, reads_loans, gathered_none, gathered_as, gathered_more, gathered_end, gathered_fault, gathered_limit, gathered_fails}
 use Rattle.claxon_write.proofs.stream.gather_blocks.Goals as goal
 
 pub loop-block-init : goal.loop-block-init
-loop-block-init g c = record { reference = refl; unflushed = refl; stream = refl; loans = refl; so_far = gathered_none (frame_bytes g.R.ReadBytes.source c.args.frames.now) c.args.output.now }
+loop-block-init g c = record { reference = refl; unflushed = refl; stream = refl; loans = refl; so_far = gathered_none (vec_capacity c.new-buffer.result) (frame_bytes g.R.ReadBytes.source c.args.frames.now) c.args.output.now }
 
 pub loop-block-preserved : goal.loop-block-preserved
 loop-block-preserved g c =
     let e = c.read_next_or_eof.ensures in
     let v = c.loop-block.invariant in
     let reads = reads_with v.stream (c.in-Ok-Some.is ∙ ap (λ (z : Option BlockValue). Ok z) c.in-Ok-Some.field-0-is) (reads_frame _ e.sound e.complete e.none_is_eof e.eof_is_none e.no_failure e.fault e.named e.io e.front e.memory e.gives) in
+    let kept = rw (c.in-Ok-Some.is ∙ ap (λ (z : Option BlockValue). Ok z) c.in-Ok-Some.field-0-is) at e.kept_capacity in
     record {
       reference = c.in_ok-put_block.ensures.same_reference ∙ v.reference;
       unflushed = c.in_ok-put_block.ensures.unflushed ∙ v.unflushed;
       stream = e.stream ∙ v.stream;
       loans = reads_loans reads ∙ v.loans;
-      so_far = gathered_as {n = c.loop-block.count + c.len.result} (omega (arith, c.from.ensures, c.in-Some.ensures)) (gathered_more c.in-Ok-Some.block c.len.ensures v.so_far reads c.in_ok-put_block.ensures.ok);
+      so_far = gathered_as {n = c.loop-block.count + c.len.result} (omega (arith, c.from.ensures, c.in-Some.ensures)) (gathered_more c.in-Ok-Some.block c.len.ensures v.so_far reads c.in_ok-put_block.ensures.ok (rw c.into_buffer-buffer.ensures.capacity kept));
     }
 
 pub returns-in-Ok-None-clause-ok : goal.returns-in-Ok-None-clause-ok
@@ -34,6 +35,11 @@ returns-in-Err-clause-ok g c =
     let v = c.loop-block.invariant in
     let k = gathered_fault v.so_far (reads_with v.stream c.in-Err.is (reads_frame _ e.sound e.complete e.none_is_eof e.eof_is_none e.no_failure e.fault e.named e.io e.front e.memory e.gives)) in
     search rules
+
+pub returns-in-Err-clause-memory : goal.returns-in-Err-clause-memory
+returns-in-Err-clause-memory g c =
+    let v = c.loop-block.invariant in
+    λ out. gathered_memory v.stream c.read_next_or_eof.ensures.memory c.in-Err.is v.so_far out
 
 pub returns-in-Err-clause-err : goal.returns-in-Err-clause-err
 returns-in-Err-clause-err g c = search rules

@@ -1,7 +1,7 @@
 use Rattle.std.proofs.Common.{rules, sym, ◌∙◌}
 use Rattle.std.proofs.lemmas.Result.{err_from_is_err_and}
 use Rattle.claxon.specs.FrameReader.{frame_input}
-use Rattle.claxon_write.proofs.Borrowed.{same_name, fails_through, written_through}
+use Rattle.claxon_write.proofs.Borrowed.{same_name, fails_through, larger_through, written_through}
 use Rattle.claxon_write.proofs.stream.write_blocks.Goals as goal
 
 pub returns-clause-ok : goal.returns-clause-ok
@@ -24,6 +24,15 @@ returns-clause-err g c =
     let w = c.write_gathered-written.ensures in
     let k = written_through g.R.ReadBytes.source _ s q at c.with_streaminfo-frames.ensures.stream c.in_ok-end.end c.write_gathered-written.result c.args.output.now c.gather_blocks.new.output c.write_gathered-written.new.self c.in_ok-end.ensures.ok w.ok w.err w.none_pending (w.unflushed ∙ c.in_ok-end.ensures.unflushed) in
     let j = k.1 in
+    rw c.and.ensures (search rules)
+
+pub returns-clause-memory : goal.returns-clause-memory
+returns-clause-memory g c =
+    let at = c.with_streaminfo-frames.ensures.input in
+    let q = frame_input c.gather_blocks.new.frames in
+    let s = frame_input c.with_streaminfo-frames.result in
+    let e = sym (same_name g.R.ReadBytes.source _ s q at c.in_ok-end.ensures.loans) in
+    let j = larger_through g.R.ReadBytes.source _ s q at c.with_streaminfo-frames.ensures.stream c.in_ok-end.end c.write_gathered-written.result c.in_ok-end.ensures.memory in
     rw c.and.ensures (search rules)
 
 pub returns-in_err-end-clause-err : goal.returns-in_err-end-clause-err

@@ -1,7 +1,7 @@
-use Rattle.std.proofs.Common.{inl, inr, rules}
+use Rattle.std.proofs.Common.{inl, inr, rules, sym, ◌∙◌}
 use Rattle.std.proofs.lemmas.Result.{err_from_is_err_and}
 use Rattle.claxon.specs.BufferedReader.{buffered_source}
-use Rattle.claxon_write.proofs.Borrowed.{all_flushed, fails_shown, stops_flushed}
+use Rattle.claxon_write.proofs.Borrowed.{all_flushed, fails_shown, flush_not_refused, io_not_refused, larger_shown, stops_flushed}
 use Rattle.claxon_write.proofs.stream.write_samples_exact.Goals as goal
 
 pub returns-clause-ok : goal.returns-clause-ok
@@ -25,6 +25,17 @@ returns-in-Some-clause-err g c =
     let k = c.in_ok-end.ensures.ok in
     let f = c.flush_writer-flushed.ensures in
     inl (stops_flushed (buffered_source g.R.Read.remaining) c.streaminfo-info.ensures.value c.input.ensures.input c.write_blocks.new.input c.flush_writer-flushed.result c.in-Some.is k.0 k.1 c.in_ok-end.ensures.unflushed f.kept f.pending f.succeeded f.failed f.flushed)
+
+pub returns-clause-memory : goal.returns-clause-memory
+returns-clause-memory g c out = absurd (flush_not_refused c.flush_writer-flushed.result c.in_ok-end.end.count c.flush_writer-flushed.ensures.io (sym c.and.ensures ∙ out))
+
+pub returns-in-Some-clause-memory : goal.returns-in-Some-clause-memory
+returns-in-Some-clause-memory g c out = larger_shown (buffered_source g.R.Read.remaining) c.streaminfo-info.ensures.value c.input.ensures.input c.write_blocks.new.input c.in_ok-end.ensures.memory c.in-Some.is out
+
+pub returns-in_err-end-clause-memory : goal.returns-in_err-end-clause-memory
+returns-in_err-end-clause-memory g c out =
+    let p = err_from_is_err_and c.from_residual.result c.from_residual.ensures.1 in
+    absurd (io_not_refused p.0 (rw p.2 c.in_err-end.ensures.err.is_io) (rw p.1 at out))
 
 pub returns-in_err-end-clause-err : goal.returns-in_err-end-clause-err
 returns-in_err-end-clause-err g c =
