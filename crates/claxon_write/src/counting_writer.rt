@@ -1,8 +1,9 @@
 //! A writer whose failed calls and flushes are counted.
 //!
-//! Only the calls here reach the writer, and only they change the counts. These few lines have to be read for what their clauses
-//! can't say: that each call asks the writer, just once, and counts a failure only where the writer's call failed. A failed call
-//! leaves the contents as they were, and so does a flush, of which std says nothing else.
+//! Only the calls here reach the writer, and only they change the counts. Their few lines have to be read, since clauses don't
+//! refuse all that could go wrong in them: a failure might be counted though the writer wasn't called, a call be made again after
+//! an Err that wasn't counted, and a flush be counted that never was. Std says of a flush, and of an Err, only that what the
+//! writer holds stays.
 ghost use Rattle.std.specs.Prelude.{◌≡◌, ◌<◌, IfErr, OnErr, OnOk, length};
 ghost use Rattle.claxon.specs.Error.{IsIo};
 ghost use Rattle.claxon_write.specs.CountingWriter.{inner_writer};

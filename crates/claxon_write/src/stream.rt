@@ -56,6 +56,8 @@ pub fn run<R: Read + Drop, W: Write, A: Allocator + Copy>(
 /// and the output was flushed; a flush that fails then is ignored. After a failed write a prefix of the samples so far was
 /// written, and there is no flush. `Unsupported` if there are 2^64 samples or more.
 ///
+/// Blocks are read into the same memory, so `OutOfMemory` is returned only at one with more samples than each before it.
+///
 /// Only the frames of the blocks that were handed on are consumed, or also the end or the fault after them, so the reader
 /// can go on with what follows.
 pub fn write_samples<R: Read + Drop, W: Write, A: Allocator + Copy>(
