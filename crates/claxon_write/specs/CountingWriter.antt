@@ -2,8 +2,7 @@
 use Rattle.std.specs.Borrow.{GName, MutBor}
 use Rattle.std.specs.Prelude.{◌≡◌, ℕ, ◌+◌, ◌%◌, ◌^◌, ◌<◌, ◌≤◌, Bool, true, false, List, length, take, Option, Result, IfOk}
 use Rattle.std.specs.Io.KnownBytes.{Appends, Keeps}
-use Rattle.std.specs.Io.Seek.{SeekMoves}
-use Rattle.std.specs.declared.io.traits.SeekFrom.{SeekFrom}
+use Rattle.std.specs.Io.Seek.{MovesTo}
 use Rattle.claxon.specs.Errors.{Error}
 use Rattle.claxon_write.specs.declared.counting_writer.CountingWriter.{CountingWriter}
 
@@ -112,14 +111,13 @@ WritesSome contents bytes r old new =
     IfOk r (λ n. (0 < n) × (n ≤ length bytes)
     × Appends (inner_contents contents old) (inner_contents contents new) (take n bytes))
 
--- A known position moved to the one that was asked for, which an Ok is, and stayed after an Err.
-abbrev pub SeekMovesPosition : {W : Type 0} → (W → Option ℕ) → (W → Option (List ℕ)) → SeekFrom
-    → Result ℕ Error → CountingWriter W → CountingWriter W → Type 0
-SeekMovesPosition position bytes to r old new =
-    SeekMoves (position (inner_writer old)) (position (inner_writer new)) (bytes (inner_writer old))
-    to r
+-- A known position moved to the start, and stayed after an Err.
+abbrev pub RewindMovesToStart : {W : Type 0} → (W → Option ℕ) → Result (Unit {0}) Error
+    → CountingWriter W → CountingWriter W → Type 0
+RewindMovesToStart position r old new =
+    MovesTo (position (inner_writer old)) (position (inner_writer new)) 0 r
 
 -- All the bytes of the writer, where they are known, stay the same.
-abbrev pub SeekKeepsBytes : {W : Type 0} → (W → Option (List ℕ)) → CountingWriter W
+abbrev pub RewindKeepsBytes : {W : Type 0} → (W → Option (List ℕ)) → CountingWriter W
     → CountingWriter W → Type 0
-SeekKeepsBytes bytes old new = Keeps (bytes (inner_writer old)) (bytes (inner_writer new))
+RewindKeepsBytes bytes old new = Keeps (bytes (inner_writer old)) (bytes (inner_writer new))

@@ -10,7 +10,7 @@ ghost use Rattle.claxon_write.specs.CountingWriter.{inner_writer};
 
 use claxon::{Error, Result};
 use std::io;
-use std::io::{ErrorKind, Seek, SeekFrom, Write};
+use std::io::{ErrorKind, Seek, Write};
 
 /// A writer that counts its failed calls and its flushes. The counts wrap.
 pub struct CountingWriter<'w, W> {
@@ -125,26 +125,25 @@ impl<'w, W: Write> CountingWriter<'w, W> {
 }
 
 impl<'w, W: Write + Seek> CountingWriter<'w, W> {
-    ghost use Rattle.claxon_write.specs.CountingWriter.{CountsFailedSeek, CountsNoFailure, CountsOtherCall, SameInner, SeekKeepsBytes, SeekMovesPosition};
+    ghost use Rattle.claxon_write.specs.CountingWriter.{CountsFailedSeek, CountsNoFailure, CountsOtherCall, RewindKeepsBytes, RewindMovesToStart, SameInner};
 
-    /// Moves to a position, and returns it. It is the only call of the writer's `seek`.
+    /// Seeks to the start. It is the only seek: a caller that chose the position could make one fail.
     ///
     /// # Errors
     ///
     /// An `IoError` if the seek fails.
-    pub fn seek(&mut self, to: SeekFrom) -> Result<u64>
+    pub fn rewind(&mut self) -> Result<()>
         ensures same_reference { SameInner self.old self.new }
-        ensures moves { SeekMovesPosition W.stream_position W.stream_bytes to result
-            self.old self.new }
-        ensures bytes { SeekKeepsBytes W.stream_bytes self.old self.new }
+        ensures moves { RewindMovesToStart W.stream_position result self.old self.new }
+        ensures bytes { RewindKeepsBytes W.stream_bytes self.old self.new }
         ensures io { IfErr result (λ error. IsIo error) }
         ensures succeeded { OnOk result (CountsNoFailure self.old self.new) }
         ensures failed { OnErr result (CountsFailedSeek self.old self.new) }
         ensures unflushed { CountsOtherCall self.old self.new }
     {
         self.is_flushed = false;
-        match self.inner.seek(to) {
-            Ok(at) => Ok(at),
+        match self.inner.rewind() {
+            Ok(()) => Ok(()),
             Err(error) => {
                 self.failed_seeks = self.failed_seeks.wrapping_add(1);
                 Err(Error::IoError(error))
