@@ -142,12 +142,10 @@ impl<'w, W: Write + Seek> CountingWriter<'w, W> {
         ensures unflushed { CountsOtherCall self.old self.new }
     {
         self.is_flushed = false;
-        match self.inner.rewind() {
-            Ok(()) => Ok(()),
-            Err(error) => {
-                self.failed_seeks = self.failed_seeks.wrapping_add(1);
-                Err(Error::IoError(error))
-            }
+        if let Err(error) = self.inner.rewind() {
+            self.failed_seeks = self.failed_seeks.wrapping_add(1);
+            return Err(Error::IoError(error));
         }
+        Ok(())
     }
 }
