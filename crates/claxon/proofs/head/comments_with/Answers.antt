@@ -27,6 +27,6 @@ returns-in-VorbisComment-clause-gives g c here =
 
 pub returns : goal.returns
 returns g c = record {
-  places = c.requires.found;
-  gives = λ here. consumes_none _ _ (comments_kept (found_view c.args.found) c.args.block _ c.in_default.not-StreamInfo c.in_default.not-VorbisComment);
+  places = search (rules, c.requires.found);
+  gives = λ here. consumes_none _ _ (search (rules, comments_kept (found_view c.args.found) c.args.block here.remaining c.in_default.not-StreamInfo c.in_default.not-VorbisComment));
 }
