@@ -1,6 +1,8 @@
-use Rattle.std.proofs.Common.{sym}
+use Rattle.std.proofs.Common.{◌≡◌, length, arith}
 use Rattle.claxon_frame.proofs.Chunks.{length-chunks}
 use Rattle.claxon_frame.proofs.frame.block.Block.channels.Goals as goal
 
 pub returns-clause-value : goal.returns-clause-value
-returns-clause-value g c = rw (← c.self.view_is) (sym (length-chunks _ _ _))
+returns-clause-value g c =
+    let n : length c.args.self.now.channels ≡ c.self.inside.channels = rw (← c.self.view_is) (length-chunks _ _ _) in
+    omega (arith, n)
