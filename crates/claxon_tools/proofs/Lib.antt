@@ -9,3 +9,4 @@ pub mod Parts
 pub mod BlockReads
 pub mod Counting
 pub mod Verified
+pub mod Showing

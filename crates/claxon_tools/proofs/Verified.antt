@@ -1,7 +1,7 @@
 -- A whole stream: its head, and what was counted after it.
 use Rattle.std.specs.Borrow.{MutBor}
-use Rattle.std.proofs.Common.{◌≡◌, ◌⊎◌, ◌<◌, ◌+◌, ◌%◌, ◌^◌, ℕ, true, false, List, ◌∷◌, ◌++◌, length, inl, inr, refl, sym, ap, arith, subst, ◌∙◌, length-append}
-use Rattle.std.specs.Prelude.{Bool, IsTrue, IsOkAnd, Option, None, Some, Result, Ok, Err, ◌↔◌}
+use Rattle.std.proofs.Common.{◌≡◌, ◌⊎◌, ◌<◌, ◌+◌, ◌%◌, ◌^◌, ℕ, zero, suc, true, false, List, ◌∷◌, ◌++◌, length, inl, inr, refl, sym, ap, arith, subst, ◌∙◌, length-append}
+use Rattle.std.specs.Prelude.{Bool, IfSome, IsTrue, IsOkAnd, Option, None, Some, Result, Ok, Err, ◌↔◌}
 use Rattle.std.specs.List.{sum_by}
 use Rattle.std.proofs.lemmas.Bool.{false≢true}
 use Rattle.claxon.specs.Error.{IsIo}
@@ -26,7 +26,7 @@ use Rattle.claxon.proofs.OutOfMemory.{not_out_of_memory, same_out_of_memory}
 use Rattle.claxon.proofs.SampleRuns.{short_no_frame}
 use Rattle.claxon_input.specs.CrcReader.{crc_inner}
 use Rattle.claxon_input.specs.declared.crc.CrcReader.{CrcReader}
-use Rattle.claxon_tools.specs.Verify.{AreTooMany, Counted, CountsParts, EndsAt, FirstIs, HasParts, IsRightStream, IsTooMany, IsVerified, Part, Parts, RightIsComplete, RightIsSound, SameReport, StopsCounting, VerifyIsComplete, VerifyIsSound, VerifyPromises, block_samples, counted_bytes, cut_faults}
+use Rattle.claxon_tools.specs.Verify.{AreTooMany, Counted, CountsParts, EndsAt, FirstIs, HasParts, IsExpected, IsRightStream, IsTooMany, IsVerified, Part, Parts, RightIsComplete, RightIsSound, SameReport, StopsCounting, VerifyIsComplete, VerifyIsSound, VerifyPromises, block_samples, counted_bytes, cut_faults}
 use Rattle.claxon_tools.specs.declared.verify.FirstFault.{FirstFault}
 use Rattle.claxon_tools.specs.declared.verify.Found.{Found}
 use Rattle.claxon_tools.specs.declared.verify.Position.{Position}
@@ -103,10 +103,33 @@ right_stream {failed = failed} s report v is_right =
       total = elim answer.1 [ inl n ↦ inl n | inr n ↦ inr (n ∙ c.counts.samples ∙ k.2) ];
     }
 
+-- the number of samples in a streaminfo, as it is expected
+abbrev known_samples : ℕ → Option ℕ
+known_samples zero = None
+known_samples (suc n) = Some (suc n)
+
+known_expected : (n : ℕ) → IsExpected n (known_samples n)
+known_expected zero = refl
+known_expected (suc n) = (refl, omega arith)
+
+same_expected : (n : ℕ) (o p : Option ℕ) → IsExpected n o → IsExpected n p → o ≡ p
+same_expected n None None h k = refl
+same_expected n None (Some m) h k = absurd (omega (arith, h, k.1))
+same_expected n (Some m) None h k = absurd (omega (arith, k, h.1))
+same_expected n (Some m) (Some l) h k = ap (λ (z : ℕ). Some z) (h.0 ∙ sym k.0)
+
+zero_expected : (n : ℕ) (o : Option ℕ) → IsExpected n o → or_zero o ≡ n
+zero_expected n None h = sym h
+zero_expected n (Some m) h = h.0
+
+pub expected_of : (o : Option ℕ) → IfSome o (λ n. 0 < n) → IsExpected (or_zero o) o
+expected_of None h = refl
+expected_of (Some m) h = (refl, h)
+
 right_report : (s : List ℕ) → IsRightStream s → Report
 right_report s r = record {
   found = record { frames = length r.blocks; faults = 0; samples = sum_by block_samples r.blocks; first_fault = None };
-  expected = Some r.head.info.samples;
+  expected = known_samples r.head.info.samples;
   is_right = true;
 }
 
@@ -129,7 +152,7 @@ right_verified s r =
         counts = record { frames = sym k.3; faults = omega (arith, k.2); samples = sym k.4 };
         first = refl;
       };
-      expected = refl;
+      expected = known_expected r.head.info.samples;
       right = (λ t. (refl, r.total), λ t. refl);
     }
 
@@ -257,9 +280,9 @@ module _ {a m : State ℕ} (b : State ℕ) {head : Head} {stream : Option Stream
       }
 
   -- all was counted
-  pub all_counted : (found : Found) (expected : Option ℕ) (is_right : Bool) → CountsParts stream start m b found → or_zero expected ≡ head.info.samples → (IsTrue is_right ↔ ((found.faults ≡ 0) × ((or_zero expected ≡ 0) ⊎ (or_zero expected ≡ found.samples))))
+  pub all_counted : (found : Found) (expected : Option ℕ) (is_right : Bool) → CountsParts stream start m b found → IsExpected head.info.samples expected → (IsTrue is_right ↔ ((found.faults ≡ 0) × ((or_zero expected ≡ 0) ⊎ (or_zero expected ≡ found.samples))))
       → VerifyPromises a (Ok (report_of found expected is_right)) b
-  all_counted found expected is_right counts samples right = record {
+  all_counted found expected is_right counts is_expected right = record {
     sound = verified;
     complete = complete;
     right = right_sound a (Ok (report_of found expected is_right)) b verified;
@@ -269,6 +292,9 @@ module _ {a m : State ℕ} (b : State ℕ) {head : Head} {stream : Option Stream
     memory = λ n known. absurd (not_out_of_memory (report_of found expected is_right) n);
   }
     where
+      samples : or_zero expected ≡ head.info.samples
+      samples = zero_expected head.info.samples expected is_expected
+
       counted : (known : RemainingIsKnown a) → Counted (FailedIn a b) stream (length (h.is known).0) m.remaining found
       counted known = counted_from failed_since (length (h.is known).0) start (h.is known).3 m.remaining found (counts (h.known known))
 
@@ -282,7 +308,7 @@ module _ {a m : State ℕ} (b : State ℕ) {head : Head} {stream : Option Stream
             code = s.1;
             joined = s.2;
             counted = subst (λ (z : Option StreamFormat). Counted (FailedIn a b) z (length s.0) m.remaining found) h.stream_is (counted known);
-            expected = samples;
+            expected = is_expected;
             right = subst (λ (n : ℕ). IsTrue is_right ↔ ((found.faults ≡ 0) × ((n ≡ 0) ⊎ (n ≡ found.samples)))) samples right;
           }
 
@@ -300,7 +326,7 @@ module _ {a m : State ℕ} (b : State ℕ) {head : Head} {stream : Option Stream
               faults = same.1;
               samples = same.2;
               first = same.3;
-              expected = of_samples ∙ sym v.expected;
+              expected = same_expected v.head.info.samples expected other.expected (subst (λ (z : Head). IsExpected z.info.samples expected) q.0 is_expected) v.expected;
               is_right = same_answer is_right other.is_right theirs v.right;
             }
             )

@@ -10,3 +10,5 @@ pub mod Samples
 pub mod Writer
 pub mod Facts
 pub mod Verify
+pub mod WavCommand
+pub mod WavError

@@ -24,3 +24,8 @@ WritesOnlyChanges old new before after = new.percent ≡ old.percent → after �
 -- Nothing is written if there was no line.
 abbrev pub EndsOnlyLine : {E : Type 0} → Progress → E → E → Type 0
 EndsOnlyLine p before after = p.percent ≡ None → after ≡ before
+
+-- Without a total nothing is written, and no percentage is shown.
+abbrev pub StaysQuiet : {E : Type 0} → Progress → Progress → E → E → Type 0
+StaysQuiet old new before after =
+    old.total ≡ None → (new.percent ≡ old.percent) × (after ≡ before)

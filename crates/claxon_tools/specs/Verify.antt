@@ -7,7 +7,6 @@ use Rattle.claxon.specs.Frame.{Block, Frame, FrameBytesFault, StreamFormat}
 use Rattle.claxon.specs.FrameReader.{FrameAnswer, HeaderOfLargerBlock, block_view}
 use Rattle.claxon.specs.Gives.{FailedIn}
 use Rattle.claxon.specs.Heads.{Head, HeadCode, HeadFault, Marker, stream_marker}
-use Rattle.claxon.specs.MetadataBlock.{or_zero}
 use Rattle.claxon.specs.Prefix.{BeginsWith}
 use Rattle.claxon.specs.Promises.{Consumed, FaultIsSound, FoundIsSound, HasNeither, IsOutOfMemory}
 use Rattle.claxon.specs.ReadHead.{MemoryMayBeNeeded}
@@ -131,6 +130,11 @@ IsRight head report =
     IsTrue report.is_right ↔ ((report.found.faults ≡ 0)
     × ((head.info.samples ≡ 0) ⊎ (head.info.samples ≡ report.found.samples)))
 
+-- the number of samples in the streaminfo, or None where it is 0, which stands for an unknown one
+abbrev pub IsExpected : ℕ → Option ℕ → Type 0
+IsExpected samples None = samples ≡ 0
+IsExpected samples (Some expected) = (expected ≡ samples) × (0 < samples)
+
 -- s is a head and parts up to the end, and the report is about them.
 pub record IsVerified (failed : Type 0) (s : List ℕ) (report : Report) : Type 0 where
   pub head : Head
@@ -139,7 +143,7 @@ pub record IsVerified (failed : Type 0) (s : List ℕ) (report : Report) : Type 
   pub code : HeadCode (with_samples true) head front
   pub joined : s ≡ front ++ frames
   pub counted : Counted failed (Some (stream_of head.info)) (length front) frames report.found
-  pub expected : or_zero report.expected ≡ head.info.samples
+  pub expected : IsExpected head.info.samples report.expected
   pub right : IsRight head report
 
 -- the number of samples of each channel of a block
@@ -280,7 +284,7 @@ pub record SameReport (a b : Report) : Type 0 where
   pub faults : a.found.faults ≡ b.found.faults
   pub samples : a.found.samples ≡ b.found.samples
   pub first : SameFirst a.found.first_fault b.found.first_fault
-  pub expected : or_zero a.expected ≡ or_zero b.expected
+  pub expected : a.expected ≡ b.expected
   pub is_right : a.is_right ≡ b.is_right
 
 -- `old` and `new` are the input before and after the call.
@@ -344,3 +348,8 @@ module _ (old : State ℕ) (result : Result Report Error) (new : State ℕ) wher
     pub fault : VerifyFaultIsSound
     pub named : VerifyHeadFaultIsComplete
     pub memory : VerifyOutOfMemoryAfterHeader
+
+-- Nothing is written where no progress is to be shown, or the streaminfo doesn't say how many samples there are.
+abbrev pub VerifyIsQuiet : {E : Type 0} → Bool → Result Report Error → E → E → Type 0
+VerifyIsQuiet shows_progress result before after =
+    (shows_progress ≡ false) ⊎ IsOkAnd result (λ report. report.expected ≡ None) → after ≡ before

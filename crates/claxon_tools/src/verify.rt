@@ -4,7 +4,8 @@ ghost use Rattle.claxon.specs.Error.{is_io, is_out_of_memory};
 ghost use Rattle.claxon.specs.FrameReader.{stream_with};
 ghost use Rattle.claxon.specs.MetadataBlock.{or_zero};
 ghost use Rattle.claxon.specs.State.{bytes_in};
-ghost use Rattle.claxon_tools.specs.Verify.{BlockIsRead, CannotCountFault, CountsFault, CountsFrame, CountsParts, ExceedsCount, IsTooMany, RightIsComplete, RightIsSound, StopsCounting, VerifyFaultIsSound, VerifyHeadFaultIsComplete, VerifyIsComplete, VerifyIsSound, VerifyOutOfMemoryAfterHeader, VerifyPromises, counted_bytes, position_of, update_position};
+ghost use Rattle.claxon_tools.specs.Progress.{StaysQuiet};
+ghost use Rattle.claxon_tools.specs.Verify.{BlockIsRead, CannotCountFault, CountsFault, CountsFrame, CountsParts, ExceedsCount, IsTooMany, RightIsComplete, RightIsSound, StopsCounting, VerifyFaultIsSound, VerifyHeadFaultIsComplete, VerifyIsComplete, VerifyIsQuiet, VerifyIsSound, VerifyOutOfMemoryAfterHeader, VerifyPromises, counted_bytes, position_of, update_position};
 
 use crate::progress::Progress;
 use claxon::frame::{FrameReader, FrameResult};
@@ -108,6 +109,7 @@ pub fn verify<R: ReadBytes, A: Allocator + Copy, E: Write>(
         (bytes_in R.source input.new) }
     ensures memory { VerifyOutOfMemoryAfterHeader (bytes_in R.source input.old) result
         (bytes_in R.source input.new) }
+    ensures quiet { VerifyIsQuiet shows_progress result errors.old errors.new }
 {
     verify_exact(alloc, input, shows_progress, errors)
 }
@@ -119,7 +121,9 @@ fn verify_exact<R: ReadBytes, A: Allocator + Copy, E: Write>(
     shows_progress: bool,
     errors: &mut E,
 ) -> Result<Report>
-    ensures { VerifyPromises (bytes_in R.source input.old) result (bytes_in R.source input.new) }
+    ensures promises { VerifyPromises (bytes_in R.source input.old) result
+        (bytes_in R.source input.new) }
+    ensures quiet { VerifyIsQuiet shows_progress result errors.old errors.new }
 {
     let mut input = CrcReader::new(input);
     verify_counted(alloc, &mut input, shows_progress, errors)
@@ -135,6 +139,7 @@ fn verify_counted<R: ReadBytes, A: Allocator + Copy, E: Write>(
     requires { position_of input.old ≡ 0 }
     ensures promises { VerifyPromises (counted_bytes R.source input.old) result
         (counted_bytes R.source input.new) }
+    ensures quiet { VerifyIsQuiet shows_progress result errors.old errors.new }
     ensures loans { (counted_bytes R.source input.new).source.loans
         ≡ (counted_bytes R.source input.old).source.loans }
 {
@@ -178,6 +183,7 @@ fn count_parts<R: ReadBytes, A: Allocator + Copy, E: Write>(
         (counted_bytes R.source input.old) (counted_bytes R.source input.new)) }
     ensures err { IfErr result (StopsCounting (Some (stream_with info))
         (counted_bytes R.source input.old)) }
+    ensures quiet { StaysQuiet progress.old progress.new errors.old errors.new }
     ensures loans { (counted_bytes R.source input.new).source.loans
         ≡ (counted_bytes R.source input.old).source.loans }
 {

@@ -4,11 +4,12 @@ use Rattle.claxon.specs.Block.{BlockValue}
 use Rattle.claxon_tools.specs.Verify.{counted_bytes}
 use Rattle.claxon_tools.specs.declared.verify.Position.{Position}
 use Rattle.claxon_tools.proofs.Counting.{none_so_far, position_after, frame_counted, fault_counted, cut_counted, eof_counted, fault_exceeds, frame_exceeds, many_counted, read_as}
+use Rattle.claxon_tools.proofs.Showing.{shown_quietly}
 use Rattle.claxon_tools.proofs.verify.count_parts.Goals.{in-Ok-Some+in_ok-found-in-Ok-Some, in-Err+in_ok-found-in-Err+else-is_last}
 use Rattle.claxon_tools.proofs.verify.count_parts.Goals as goal
 
 pub loop-init : goal.loop-init
-loop-init g c = record { count = refl; so_far = none_so_far _ _ _ }
+loop-init g c = record { count = refl; so_far = none_so_far _ _ _; quiet = λ none. (refl, refl); total = refl }
 
 pub loop-preserved : goal.loop-preserved
 loop-preserved g c =
@@ -31,6 +32,14 @@ loop-preserved g c =
             let small = rw byte at w.with_fault.ensures.fits in
             rw w.found-is (fault_counted h (λ known front e. byte ∙ position_after g.R.ReadBytes.source c.args.input.now c.loop.input known (h.known known) (h.crcs known) small front e) w.in-Err.error b (read_as {b = b} w.in-Err.is read) (sym w.is_io_error-is_last.ensures ∙ w.if-is_last.false) k.0 k.1)
             )
+      ];
+      quiet = elim c.match-read_block.branch [
+        | in-Ok-Some+in_ok-found-in-Ok-Some w ↦ rw (w.progress-is, w.errors-is) (shown_quietly _ c.loop.invariant.quiet c.loop.invariant.total w.show.ensures.percentage w.show.ensures.quiet)
+        | in-Err+in_ok-found-in-Err+else-is_last w ↦ rw (w.progress-is, w.errors-is) c.loop.invariant.quiet
+      ];
+      total = elim c.match-read_block.branch [
+        | in-Ok-Some+in_ok-found-in-Ok-Some w ↦ rw w.progress-is (w.show.ensures.percentage.total_is ∙ c.loop.invariant.total)
+        | in-Err+in_ok-found-in-Err+else-is_last w ↦ rw w.progress-is c.loop.invariant.total
       ];
     }
 

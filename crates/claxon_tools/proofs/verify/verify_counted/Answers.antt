@@ -1,22 +1,34 @@
-use Rattle.std.proofs.Common.{◌+◌, ◌%◌, ◌^◌, ℕ, ap, length, refl, ◌∙◌, zero-add}
+use Rattle.std.proofs.lemmas.Bool.{false≢true}
+use Rattle.std.proofs.Common.{sym, inl, inr, ◌+◌, ◌%◌, ◌^◌, ℕ, ap, length, refl, ◌∙◌, zero-add}
 use Rattle.std.proofs.lemmas.Result.{err_from_is_err_and}
 use Rattle.claxon_tools.specs.Verify.{counted_bytes, position_of}
 use Rattle.claxon_tools.proofs.Counting.{position_modulo}
-use Rattle.claxon_tools.proofs.Verified.{all_counted, head_consumed, no_head, not_counted}
+use Rattle.claxon_tools.proofs.Verified.{all_counted, expected_of, head_consumed, no_head, not_counted}
+use Rattle.claxon_tools.proofs.Showing.{ended_quietly}
+use Rattle.claxon_tools.proofs.verify.verify_counted.Goals.{then-shows_progress, else-shows_progress}
 use Rattle.claxon_tools.proofs.verify.verify_counted.Goals as goal
 
-pub returns : goal.returns
-returns g c =
+pub returns-clause-promises : goal.returns-clause-promises
+returns-clause-promises g c =
     let e = c.in_ok-info.ensures in
     let source = g.R.ReadBytes.source in
     let a = counted_bytes source c.args.input.now in
     let m = counted_bytes source c.read_head.new.input in
     let b = counted_bytes source c.count_parts-counted.new.input in
     let h = head_consumed a m (c.in_ok-info.info, c.in_ok-info._comment) (position_of c.read_head.new.input) e.sound e.complete e.named e.gives e.bounds (λ known after crcs front is. position_modulo source c.args.input.now c.read_head.new.input known after crcs front is ∙ ap (λ (n : ℕ). n % 2 ^ 64) (ap (λ (n : ℕ). n + length front) c.requires ∙ zero-add (length front))) in
-    record {
-      promises = all_counted b h c.in_ok-found.found c.in_ok-info.info.samples c.has_no_fault-is_right.result c.in_ok-found.ensures.ok refl c.has_no_fault-is_right.ensures;
-      loans = c.in_ok-found.ensures.loans ∙ e.gives.loans;
-    }
+    all_counted b h c.in_ok-found.found c.in_ok-info.info.samples c.has_no_fault-is_right.result c.in_ok-found.ensures.ok (expected_of c.in_ok-info.info.samples e.bounds.samples) c.has_no_fault-is_right.ensures
+
+pub returns-clause-loans : goal.returns-clause-loans
+returns-clause-loans g c = c.in_ok-found.ensures.loans ∙ c.in_ok-info.ensures.gives.loans
+
+pub returns-clause-quiet : goal.returns-clause-quiet
+returns-clause-quiet g c is =
+    let begins = c.new-progress.ensures in
+    let quiet = c.count_parts-counted.ensures.quiet in
+    elim c.if-shows_progress.branch [
+      | then-shows_progress w ↦ elim is [ inl e ↦ absurd (false≢true (sym e ∙ w.if-shows_progress.true)) | inr none ↦ ended_quietly c.count_parts-counted.new.progress (begins.total_is ∙ w.new-is ∙ none) begins.none_shown quiet c.end.ensures.quiet ]
+      | else-shows_progress w ↦ ended_quietly c.count_parts-counted.new.progress (begins.total_is ∙ w.new-is) begins.none_shown quiet c.end.ensures.quiet
+    ]
 
 pub returns-in_err-info-clause-promises : goal.returns-in_err-info-clause-promises
 returns-in_err-info-clause-promises g c =

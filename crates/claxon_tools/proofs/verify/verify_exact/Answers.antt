@@ -2,8 +2,8 @@ use Rattle.std.proofs.Common.{rules}
 use Rattle.claxon_tools.proofs.Verified.{promised_through, same_input}
 use Rattle.claxon_tools.proofs.verify.verify_exact.Goals as goal
 
-pub returns : goal.returns
-returns g c =
+pub returns-clause-promises : goal.returns-clause-promises
+returns-clause-promises g c =
     let at = c.new-input.ensures.inner in
     let n = same_input g.R.ReadBytes.source _ c.new-input.result c.verify_counted.new.input at c.verify_counted.ensures.loans in
     let k = promised_through g.R.ReadBytes.source _ c.new-input.result c.verify_counted.new.input at c.verify_counted.result c.verify_counted.ensures.promises in
