@@ -10,6 +10,8 @@ use Rattle.std.specs.declared.string.String.{String}
 use Rattle.claxon.specs.Error.{error_text}
 use Rattle.claxon.specs.Errors.{Error}
 use Rattle.claxon.specs.Errors.TheVariants.{IoError}
+use Rattle.claxon_write.specs.Written.{IsFlushed, NonePending, Puts}
+use Rattle.claxon_write.specs.declared.output.Output.{Output as Sink}
 use Rattle.claxon_tools.specs.Text.{IsText}
 use Rattle.claxon_tools.specs.declared.arguments.Notice.{Notice}
 use Rattle.claxon_tools.specs.declared.arguments.Notice.TheVariants.{Help, UnknownOption, Usage, Version}
@@ -29,11 +31,12 @@ help_text p =
 abbrev pub version_text : Program → List ℕ → List ℕ
 version_text p version = p.name.now ++ codes " " ++ version ++ codes "\n"
 
--- An Ok wrote exactly this text.
+-- An Ok wrote exactly this text after the pending bytes, and then flushed. Nothing is pending any more.
 abbrev pub WritesText : {A W : Type 0} → (W → Option (List ℕ)) → Result (String A) AllocError
-    → Result (Unit {0}) Error → W → W → Type 0
+    → Result (Unit {0}) Error → Sink W → Sink W → Type 0
 WritesText contents text r old new =
-    OnOk r (IsOkAnd text (λ t. Appends (contents old) (contents new) (string_bytes t)))
+    OnOk r (IsOkAnd text (λ t. Puts contents (string_bytes t) old new) × NonePending new
+    × IsFlushed old new)
 
 -- The status 0 says that exactly this text was written.
 abbrev pub PrintsText : {A W : Type 0} → (W → Option (List ℕ)) → Result (String A) AllocError → ℕ

@@ -2,31 +2,39 @@
 ghost use Rattle.std.specs.Prelude.{◌≡◌};
 ghost use Rattle.std.specs.Option.{option_map};
 ghost use Rattle.claxon.specs.Tags.{remaining_tags};
-ghost use Rattle.claxon_tools.specs.Facts.{FactsAreSound, WriteFactsIsSound, format_text, line, numbers_text, sizes_text, tag_text, tags_text, vendor_text};
+ghost use Rattle.claxon_write.specs.InnerWriter.{SameWriter};
+ghost use Rattle.claxon_tools.specs.Facts.{FactsAreSound, WriteFactsFaultIsSound, WriteFactsIsSound, format_text, line, numbers_text, sizes_text, tag_text, tags_text, vendor_text};
 ghost use Rattle.claxon_tools.specs.Text.{Adds};
 
 use crate::text::{escaped_text, length_text, md5_text, number_text};
 use claxon::FlacReader;
 use claxon::metadata::{StreamInfo, Tags};
+use claxon_write::Output;
 use std::alloc::{AllocError, Allocator};
 use std::io::{Read, Write};
 
 /// Writes the lines `NAME: value` of a stream, and flushes: those of its streaminfo, one for the vendor, and one for each
-/// tag, in order. After an error a prefix of them may have been written.
+/// tag, in order.
 ///
 /// A value that the head doesn't give is `unknown`. A vendor or a tag takes one line, whatever its text contains: see
 /// `escaped_text`.
+///
+/// # Errors
+///
+/// `OutOfMemory`, and then nothing was written. An `IoError` if a write fails, after a prefix of the lines and without a flush;
+/// or if the flush fails, after all of them.
 pub fn write_facts<R: Read, W: Write, A: Allocator + Copy>(
     alloc: A,
     flac: &FlacReader<R, A>,
-    output: &mut W,
+    output: &mut Output<'_, W>,
 ) -> claxon::Result<()>
-    ensures { WriteFactsIsSound W.contents flac.now result output.old output.new }
+    ensures same_reference { SameWriter output.old output.new }
+    ensures ok { WriteFactsIsSound W.contents flac.now result output.old output.new }
+    ensures err { WriteFactsFaultIsSound W.contents flac.now result output.old output.new }
 {
     let text = facts(alloc, flac)?;
-    output.write_all(text.as_bytes())?;
-    output.flush()?;
-    Ok(())
+    output.put(text.as_bytes())?;
+    output.flush()
 }
 
 // The lines.

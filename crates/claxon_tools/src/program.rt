@@ -1,5 +1,6 @@
 //! What the programs other than `claxon_raw` share: texts about themselves, their input, and lines about faults.
 ghost use Rattle.std.specs.Prelude.{◌≡◌};
+ghost use Rattle.claxon_write.specs.InnerWriter.{SameWriter};
 ghost use Rattle.claxon_tools.specs.Facts.{line};
 ghost use Rattle.claxon_tools.specs.Program.{ErrorTextIsSound, IoTextIsSound, IsShownName, OpensInput, PrintsText, WritesText};
 ghost use Rattle.claxon_tools.specs.Text.{IsText, escaped_text};
@@ -8,7 +9,7 @@ use crate::arguments::{Notice, text_words};
 use crate::text::escaped_text;
 use claxon::Error;
 use claxon::metadata::StreamInfo;
-use claxon_write::status;
+use claxon_write::{Output, status};
 use std::alloc::{AllocError, Allocator, Global};
 use std::fs;
 use std::io::{self, ErrorKind, Read, Write};
@@ -114,7 +115,10 @@ fn print_text<W: Write, E: Write>(
 ) -> u8
     ensures { PrintsText W.contents text result output.old output.new }
 {
-    match write_text(text, output) {
+    let mut output = Output::new(output);
+    let outcome = write_text(text, &mut output);
+    let _ = output.into_inner();
+    match outcome {
         Ok(()) => 0,
         Err(error) => {
             report(alloc, STANDARD, Part::Output, &error, errors);
@@ -123,13 +127,16 @@ fn print_text<W: Write, E: Write>(
     }
 }
 
-fn write_text<W: Write>(text: Result<String, AllocError>, output: &mut W) -> claxon::Result<()>
-    ensures { WritesText W.contents text result output.old output.new }
+fn write_text<W: Write>(
+    text: Result<String, AllocError>,
+    output: &mut Output<'_, W>,
+) -> claxon::Result<()>
+    ensures same_reference { SameWriter output.old output.new }
+    ensures text { WritesText W.contents text result output.old output.new }
 {
     let text = text?;
-    output.write_all(text.as_bytes())?;
-    output.flush()?;
-    Ok(())
+    output.put(text.as_bytes())?;
+    output.flush()
 }
 
 /// The input of a program.

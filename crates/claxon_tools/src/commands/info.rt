@@ -3,6 +3,7 @@ use crate::arguments::Names;
 use crate::facts::write_facts;
 use crate::program::{Input, Part, Program, STANDARD, line, open_input, report};
 use claxon::{FlacReader, FlacReaderOptions, Result};
+use claxon_write::Output;
 use std::alloc::Global;
 use std::io::{Read, Write};
 use std::rt::Files;
@@ -123,8 +124,9 @@ fn write_lines<R: Read, W: Write>(
     flac: &FlacReader<R>,
     output: &mut W,
 ) -> Result<()> {
+    let mut output = Output::new(output);
     if has_heading {
-        output.write_all(line(alloc, "file", name)?.as_bytes())?;
+        output.put(line(alloc, "file", name)?.as_bytes())?;
     }
-    write_facts(alloc, flac, output)
+    write_facts(alloc, flac, &mut output)
 }

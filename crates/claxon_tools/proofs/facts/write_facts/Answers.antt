@@ -1,5 +1,14 @@
-use Rattle.std.proofs.Common.{rules}
+use Rattle.std.proofs.Common.{List, ℕ, subst, ◌∙◌}
+use Rattle.claxon_write.specs.Written.{Puts}
+use Rattle.claxon_tools.proofs.Printing.{put_and_flushed, put_not_flushed}
 use Rattle.claxon_tools.proofs.facts.write_facts.Goals as goal
 
-pub returns : goal.returns
-returns g c = search rules
+pub returns-clause-ok : goal.returns-clause-ok
+returns-clause-ok g c =
+    let put = subst (λ (z : List ℕ). Puts g.W.Write.contents z c.args.output.now c.put.new.self) (c.as_bytes.ensures.value ∙ c.in_ok-text.ensures) c.in_ok-put.ensures.ok in
+    put_and_flushed c.flush.new.self put c.in_ok-put.ensures.unflushed c.flush.result c.flush.ensures.ok c.flush.ensures.none_pending
+
+pub returns-clause-err : goal.returns-clause-err
+returns-clause-err g c =
+    let put = subst (λ (z : List ℕ). Puts g.W.Write.contents z c.args.output.now c.put.new.self) (c.as_bytes.ensures.value ∙ c.in_ok-text.ensures) c.in_ok-put.ensures.ok in
+    put_not_flushed c.flush.new.self put c.in_ok-put.ensures.unflushed c.flush.result c.flush.ensures.err
