@@ -47,7 +47,7 @@ io_not_fault f (Unsupported text) io h = absurd cc
 io_not_fault f OutOfMemory io h = h
 
 module _ (stream : Option StreamFormat) (a b : State ℕ) where
-  block_io : (r : FrameAnswer) → ReadsFrame stream r a b → IfErr r (λ e. IsIo e → RemainingIsKnown a → IsNotWhole stream a.remaining ⊎ FailedIn a b)
+  pub block_io : (r : FrameAnswer) → ReadsFrame stream r a b → IfErr r (λ e. IsIo e → RemainingIsKnown a → IsNotWhole stream a.remaining ⊎ FailedIn a b)
   block_io (Ok found) h = tt
   block_io (Err e) h = λ io known. elim (decide_failed a b) [
     | inl f ↦ inr f

@@ -1,38 +1,42 @@
 -- Blocks that are written one after another, and the file that they make.
 use Rattle.std.specs.Borrow.{MutBor}
-use Rattle.std.proofs.Common.{◌≡◌, inl, inr, ℕ, ◌+◌, ◌-◌, ◌*◌, ◌<◌, ◌≤◌, ℤ, w32, zero, suc, take, Bool, false, cond, ◌==◌, List, [], ◌∷◌, ◌++◌, length, Option, None, Some, refl, sym, ap, subst, ◌∙◌, arith, append-nil, eq-eqb, length-append}
-use Rattle.std.specs.Prelude.{All, Result, Ok, Err}
+use Rattle.std.proofs.Common.{◌≡◌, ◌≢◌, ◌⊎◌, inl, inr, ℕ, ◌+◌, ◌-◌, ◌*◌, ◌%◌, ◌^◌, ◌<◌, ◌≤◌, ℤ, w32, zero, suc, take, Bool, false, cond, ◌==◌, List, [], ◌∷◌, ◌++◌, length, Option, None, Some, refl, sym, ap, subst, ◌∙◌, arith, append-nil, eq-eqb, length-append}
+use Rattle.std.specs.Prelude.{All, Result, Ok, Err, IfErr, IsErrAnd, IsOk, OnOk}
 use Rattle.std.specs.Io.KnownBytes.{Appends}
 use Rattle.std.proofs.KnownBytes.{Appends-nil, Appends-trans}
 use Rattle.std.proofs.lemmas.Bool.Decides.{nat_tests}
 use Rattle.std.proofs.lemmas.Grind.{flat_map-append}
-use Rattle.std.proofs.lemmas.List.Elements.{All-append, All-drop, All-nil, All-push}
-use Rattle.std.proofs.lemmas.List.{drop_at, get_or_push, length-take}
+use Rattle.std.proofs.lemmas.List.Elements.{All-append, All-drop, All-nil, All-push, All-take}
+use Rattle.std.proofs.lemmas.List.{drop_at, get_or_push, length-take, take_at}
 use Rattle.std.specs.Int.{to_le_bytes}
 use Rattle.claxon.specs.Bits.{FitsIn}
-use Rattle.claxon.specs.Frame.{Block, Frame, FrameBytesFault, Frames, StreamFormat}
+use Rattle.claxon.specs.Fault.{Fault}
+use Rattle.claxon.specs.Frame.{Block, FrameBytesFault, Frames, IsWidth, NoFrameLeft, StreamFormat, known_width}
 use Rattle.claxon.specs.Streams.{interleave}
 use Rattle.claxon.specs.Block.{BlockValue, duration_of}
-use Rattle.claxon.specs.FrameReader.{FrameAnswer, block_view, frame_bytes, frame_input, frame_stream}
-use Rattle.claxon.specs.FrameReaders.{FrameReader}
-use Rattle.claxon.specs.BufferedReader.{buffered_source}
+use Rattle.claxon.specs.Error.{IsFault, IsIo}
 use Rattle.claxon.specs.Errors.{Error as Cause}
-use Rattle.claxon.specs.BufferedReaders.{BufferedReader}
-use Rattle.claxon.specs.Promises.{NoneIsEof, FaultIsSound, FoundIsSound, Consumed}
-use Rattle.claxon.specs.State.{State, RemainingIsKnown}
-use Rattle.claxon.specs.FlacReader.{flac_input}
-use Rattle.claxon.specs.Opening.{flac_bytes}
-use Rattle.claxon.specs.SampleRuns.{lent, samples_of}
-use Rattle.claxon.specs.declared.reader.FlacReader.{FlacReader}
-use Rattle.claxon.proofs.SampleRuns.{after_loan, samples_add}
+use Rattle.claxon.specs.Errors.TheVariants.{OutOfMemory}
+use Rattle.claxon.specs.FrameReader.{FrameAnswer, ReadsFrame, block_view, stream_with}
+use Rattle.claxon.specs.Gives.{Consumes, FailedIn}
+use Rattle.claxon.specs.Promises.{Remains}
+use Rattle.claxon.specs.Promises.{IsExcused as ReadIsExcused}
+use Rattle.claxon.specs.SampleRuns.{ConsumesFrames, samples_of}
+use Rattle.claxon.specs.Source.{Source}
+use Rattle.claxon.specs.State.{State, RemainingIsKnown, bytes_in}
+use Rattle.claxon.specs.StreamInfos.{StreamInfo}
+use Rattle.claxon.proofs.SampleRuns.{all_frames_read, excused_after, fault_no_frame, frames_left, samples_add, short_no_frame, takes_more, takes_none}
 use Rattle.claxon.proofs.SamplesInTurn.{same_duration}
 use Rattle.claxon.proofs.Streams.{length-interleave}
-use Rattle.claxon_write.specs.WriteSamples.{flac_stream}
-use Rattle.claxon_tools.specs.Convert.{ConvertIsSound, ConvertToStreamIsSound, HoldsFile, HoldsUnknown, PutsSamples, PutsStream, ExplainsError, ExplainsErrorIfKnown, packed_blocks}
+use Rattle.claxon_write.proofs.Borrowed.{lent, runs_through, takes_through}
+use Rattle.claxon_write.proofs.Counts.{flushed_after, none_failed, none_failed_both}
+use Rattle.claxon_tools.proofs.BlockReads.{block_io}
+use Rattle.claxon_tools.specs.Convert.{CanBeConverted, CanBeConvertedTo, CanBePut, Converts, ConvertsToStream, ExplainsError, HoldsFile, HoldsUnknown, IsExcused, IsWholeStream, OutputHasFailed, PutBlocksFaultIsSound, PutBlocksIsSound, PutsBlocks, PutsSamples, StopsAtBlock, StopsPutting, WriteHasFailed, packed_blocks}
 use Rattle.claxon_tools.specs.Samples.{bytes_of_sample, packed_block, packed_samples, shifted_sample, silence}
+use Rattle.claxon_tools.specs.WavError.{IsInput, IsMemory, IsOutput, NamesFault}
 use Rattle.claxon_tools.specs.WaveFile.{pad, sample_size, unknown_header}
 use Rattle.claxon_tools.specs.DataSize.{max_data_size}
-use Rattle.claxon_tools.specs.Writer.{ExplainsBlockError, FinishIsSound, FinishStreamIsSound, SameHeader, SamplesFit, stream_pad}
+use Rattle.claxon_tools.specs.Writer.{BlockErrorKeeps, CallsFailed, ExplainsBlockError, FewWritesFailed, FinishFaultIsSound, FinishFlushes, FinishIsSound, FinishStreamIsSound, NoneFailed, PutsBlock, SameHeader, SamplesFit, Unflushed, WritesFailed, output_contents, stream_pad}
 use Rattle.claxon_tools.specs.declared.wav.error.Error.{Error}
 use Rattle.claxon_tools.specs.declared.wav.error.Error.TheVariants.{Claxon, Exists, OtherChannels, Output, SameFile, TooLong, WideSample}
 use Rattle.claxon_tools.specs.declared.wav.header.Layout.{Layout}
@@ -58,15 +62,10 @@ block_takes valid_bits block some channels long =
     let n : 1 ≤ length (interleave block.channels) = rw (length-interleave block.channels, d) (grind (arith, channels, long)) in
     samples_take valid_bits some (interleave block.channels) n
 
--- one frame more
-frames_push : (stream : Option StreamFormat) (blocks : List Block) (b : Block) (s m t r : List ℕ) → Frames stream s blocks m → Frame stream b t → m ≡ t ++ r → Frames stream s (blocks ++ b ∷ []) r
-frames_push stream [] b s m t r f c e = (t, r, c, f ∙ e, refl)
-frames_push stream (x ∷ blocks) b s m t r f c e = (f.0, f.1, f.2, f.3, frames_push stream blocks b f.1 m t r f.4 c e)
-
 -- So far exactly the frames of these blocks were consumed, and their samples written.
 pub record PutSoFar {W : Type 0} (contents : W → Option (List ℕ)) (stream : Option StreamFormat) (a b : State ℕ) (x y : WavWriter W) : Type 0 where
   pub blocks : List Block
-  pub consumed : RemainingIsKnown a → RemainingIsKnown b × Frames stream a.remaining blocks b.remaining
+  pub frames : ConsumesFrames stream blocks a b
   pub puts : PutsSamples contents blocks x y
 
 module _ {W : Type 0} {contents : W → Option (List ℕ)} where
@@ -74,47 +73,69 @@ module _ {W : Type 0} {contents : W → Option (List ℕ)} where
   puts_none x = record {
     channels = All-nil (λ (b : Block). length b.channels ≡ x.layout.channels);
     fit = All-nil (FitsIn x.layout.valid_bits);
-    bytes_are = Appends-nil (contents x.output);
+    bytes_are = Appends-nil (output_contents contents x);
     written_is = omega arith;
     announced_is = refl;
     layout_is = refl;
+    none_failed = none_failed x.output;
+    unflushed = refl;
   }
 
-  puts_more : {blocks : List Block} {x y z : WavWriter W} (block : BlockValue) → PutsSamples contents blocks x y
-      → Appends (contents y.output) (contents z.output) (packed_block y.layout.valid_bits block) × (length block.channels ≡ y.layout.channels) × (z.written ≡ y.written + length (packed_block y.layout.valid_bits block))
-      → SamplesFit block y → SameHeader y z → PutsSamples contents (blocks ++ block_view block ∷ []) x z
-  puts_more {blocks = blocks} {x = x} {y = y} {z = z} block h put fits same =
+  puts_more : {blocks : List Block} {x y z : WavWriter W} (block : BlockValue) → PutsSamples contents blocks x y → PutsBlock contents block y z → SamplesFit block y → SameHeader y z → Unflushed y z → PutsSamples contents (blocks ++ block_view block ∷ []) x z
+  puts_more {blocks = blocks} {x = x} {y = y} {z = z} block h put fits same unflushed =
       let valid_bits : y.layout.valid_bits ≡ x.layout.valid_bits = ap (λ (l : Layout). l.valid_bits) h.layout_is in
       let all = packed_more x.layout.valid_bits blocks block in
-      let more : Appends (contents y.output) (contents z.output) (packed_block x.layout.valid_bits block) = subst (λ (n : ℕ). Appends (contents y.output) (contents z.output) (packed_block n block)) valid_bits put.0 in
-      let counted : z.written ≡ y.written + length (packed_block x.layout.valid_bits block) = subst (λ (n : ℕ). z.written ≡ y.written + length (packed_block n block)) valid_bits put.2 in
+      let more : Appends (output_contents contents y) (output_contents contents z) (packed_block x.layout.valid_bits block) = subst (λ (n : ℕ). Appends (output_contents contents y) (output_contents contents z) (packed_block n block)) valid_bits put.bytes_are in
+      let counted : z.written ≡ y.written + length (packed_block x.layout.valid_bits block) = subst (λ (n : ℕ). z.written ≡ y.written + length (packed_block n block)) valid_bits put.written_is in
       record {
-        channels = All-push (λ (b : Block). length b.channels ≡ x.layout.channels) blocks (block_view block) h.channels (put.1 ∙ ap (λ (l : Layout). l.channels) h.layout_is);
+        channels = All-push (λ (b : Block). length b.channels ≡ x.layout.channels) blocks (block_view block) h.channels (put.channels ∙ ap (λ (l : Layout). l.channels) h.layout_is);
         fit = subst (All (FitsIn x.layout.valid_bits)) (sym (samples_add blocks (block_view block))) (All-append (FitsIn x.layout.valid_bits) (samples_of blocks) (interleave block.channels) h.fit (subst (λ (n : ℕ). All (FitsIn n) (interleave block.channels)) valid_bits fits));
-        bytes_are = subst (λ (s : List ℕ). Appends (contents x.output) (contents z.output) s) all (Appends-trans (contents x.output) (contents y.output) (contents z.output) (packed_blocks x.layout.valid_bits blocks) (packed_block x.layout.valid_bits block) h.bytes_are more);
+        bytes_are = subst (λ (s : List ℕ). Appends (output_contents contents x) (output_contents contents z) s) all (Appends-trans (output_contents contents x) (output_contents contents y) (output_contents contents z) (packed_blocks x.layout.valid_bits blocks) (packed_block x.layout.valid_bits block) h.bytes_are more);
         written_is = omega (arith, counted, h.written_is, length-append (packed_blocks x.layout.valid_bits blocks) (packed_block x.layout.valid_bits block)) ∙ ap (λ (s : List ℕ). x.written + length s) all;
         announced_is = same.announced_is ∙ h.announced_is;
         layout_is = same.layout_is ∙ h.layout_is;
+        none_failed = none_failed_both h.none_failed put.none_failed;
+        unflushed = unflushed ∙ h.unflushed;
       }
 
   module _ {stream : Option StreamFormat} where
     pub put_none : (a : State ℕ) (x : WavWriter W) → PutSoFar contents stream a a x x
-    put_none a x = record { blocks = []; consumed = λ known. (known, refl); puts = puts_none x }
+    put_none a x = record { blocks = []; frames = takes_none stream a; puts = puts_none x }
 
-    pub put_more : {a b : State ℕ} (c : State ℕ) {x y z : WavWriter W} (block : BlockValue) → PutSoFar contents stream a b x y → Consumed b c (Frame stream (block_view block))
-        → Appends (contents y.output) (contents z.output) (packed_block y.layout.valid_bits block) × (length block.channels ≡ y.layout.channels) × (z.written ≡ y.written + length (packed_block y.layout.valid_bits block))
-        → SamplesFit block y → SameHeader y z → PutSoFar contents stream a c x z
-    put_more {a = a} {b = b} c block h frame put fits same = record {
-      blocks = h.blocks ++ block_view block ∷ [];
-      consumed = λ known. let k = h.consumed known in let t = frame k.0 in (t.0, frames_push stream h.blocks (block_view block) a.remaining b.remaining t.1.0 c.remaining k.1 t.1.1 t.1.2);
-      puts = puts_more block h.puts put fits same;
-    }
+    pub put_more : {a b c : State ℕ} {x y z : WavWriter W} (block : BlockValue) → PutSoFar contents stream a b x y → ReadsFrame stream (Ok (Some block)) b c → PutsBlock contents block y z → SamplesFit block y → SameHeader y z → Unflushed y z → PutSoFar contents stream a c x z
+    put_more block h reads put fits same unflushed = record { blocks = h.blocks ++ block_view block ∷ []; frames = takes_more block h.frames reads; puts = puts_more block h.puts put fits same unflushed }
 
-    -- the end
-    pub put_all : {a b : State ℕ} (c : State ℕ) {x y : WavWriter W} → PutSoFar contents stream a b x y → NoneIsEof 2 (let r : FrameAnswer = Ok None in r) b c → PutsStream contents stream a x y
-    put_all {b = b} c h end = record { blocks = h.blocks; all = λ known. (let k = h.consumed known in (b.remaining, k.1, (end refl k.0).0)); puts = h.puts }
+    -- an answer without a block
+    pub put_all : {answer : FrameAnswer} {a b c : State ℕ} {x y : WavWriter W} → PutSoFar contents stream a b x y → ReadsFrame stream answer b c → PutsBlocks contents stream answer a c x y
+    put_all {b = b} h reads = record { blocks = h.blocks; reads = record { between = b; blocks_are = h.frames; last = reads }; puts = h.puts }
 
--- ---- errors
+    pub stops_at_fault : {cause : Cause} {a b c : State ℕ} {x y : WavWriter W} → PutSoFar contents stream a b x y → ReadsFrame stream (Err cause) b c → StopsPutting contents stream (Claxon cause) a c x y
+    stops_at_fault {cause = cause} h reads = inl (cause, refl, put_all h reads)
+
+    -- a block that was not written
+    pub stops_at_block : {e : Error} {a b c : State ℕ} {x y z : WavWriter W} (block : BlockValue) → PutSoFar contents stream a b x y → ReadsFrame stream (Ok (Some block)) b c → ExplainsBlockError block y e → BlockErrorKeeps contents block e y z → StopsPutting contents stream e a c x z
+    stops_at_block {y = y} block h reads explains keeps = inr (record { blocks = h.blocks; block = block; frames = takes_more block h.frames reads; put = y; puts = h.puts; explains = explains; keeps = keeps })
+
+-- ---- through a reference to the reader
+
+module _ {R W : Type 0} (source : R → Source ℕ) (contents : W → Option (List ℕ)) {stream known : Option StreamFormat} (r s q : MutBor R) (at : s ≡ r) (same : stream ≡ known) where
+  blocks_through : {answer : FrameAnswer} {x y : WavWriter W} → PutsBlocks contents stream answer (bytes_in (lent source) s) (bytes_in (lent source) q) x y → PutsBlocks contents known answer (bytes_in source r.now) (bytes_in source q.now) x y
+  blocks_through h = record { blocks = h.blocks; reads = runs_through source r s q at same h.reads; puts = h.puts }
+
+  pub put_through : (result : Result (Unit {0}) Error) (x y : WavWriter W) → PutBlocksIsSound contents stream result (bytes_in (lent source) s) (bytes_in (lent source) q) x y → PutBlocksIsSound contents known result (bytes_in source r.now) (bytes_in source q.now) x y
+  put_through (Err e) x y h = tt
+  put_through (Ok done) x y h = blocks_through h
+
+  pub stops_through : (result : Result (Unit {0}) Error) (x y : WavWriter W) → PutBlocksFaultIsSound contents stream result (bytes_in (lent source) s) (bytes_in (lent source) q) x y → PutBlocksFaultIsSound contents known result (bytes_in source r.now) (bytes_in source q.now) x y
+  stops_through (Ok done) x y h = tt
+  stops_through (Err e) x y (inl h) = inl (h.0, h.1, blocks_through h.2)
+  stops_through (Err e) x y (inr h) = inr (record { blocks = h.blocks; block = h.block; frames = takes_through source r s q at same h.frames; put = h.put; puts = h.puts; explains = h.explains; keeps = h.keeps })
+
+-- for equal streaminfos and readers
+pub shown_as : {R : Type 0} (source : R → Source ℕ) {info shown : StreamInfo} {u v : R} (P : Option StreamFormat → State ℕ → Type 0) → info ≡ shown → u ≡ v → P (Some (stream_with info)) (bytes_in source u) → P (Some (stream_with shown)) (bytes_in source v)
+shown_as {R = R} source {info = info} {shown = shown} {u = u} {v = v} P head at h = subst (λ (i : StreamInfo). P (Some (stream_with i)) (bytes_in source v)) head (subst (λ (r : R). P (Some (stream_with info)) (bytes_in source r)) at h)
+
+-- ---- lists
 
 -- the last element
 all_last : {X : Type 0} (P : X → Type 0) (xs : List X) (x : X) → All P (xs ++ x ∷ []) → P x
@@ -124,61 +145,190 @@ all_last P xs x h = subst P (get_or_push xs x x (length xs) refl) (h (length xs)
 all_after : {X : Type 0} (P : X → Type 0) (xs ys : List X) → All P (xs ++ ys) → All P ys
 all_after P xs ys h = subst (All P) (drop_at xs ys (length xs) refl) (All-drop P (length xs) (xs ++ ys) h)
 
-module _ {W : Type 0} {contents : W → Option (List ℕ)} {stream : Option StreamFormat} {a b : State ℕ} (c : State ℕ) {x y : WavWriter W} (h : PutSoFar contents stream a b x y) where
-  -- an error of the decoder
-  pub stops_at_fault : (e : Cause) → FaultIsSound (let r : FrameAnswer = Err e in r) (FrameBytesFault stream) b c → ExplainsErrorIfKnown stream x a (Claxon e)
-  stops_at_fault e bad known = elim bad [
-    | inl m ↦ inl m
-    | inr (inl i) ↦ inr (inl i)
-    | inr (inr k) ↦ (
-        let so_far = h.consumed known in
-        let f = k so_far.0 in
-        let t = (f.2 so_far.0).1 in
-        inr (inr (f.0, f.1, (h.blocks, t.0, c.remaining, subst (λ (s : List ℕ). Frames stream a.remaining h.blocks s) t.2 so_far.1, t.1)))
-        )
+-- the elements before others
+all_before : {X : Type 0} (P : X → Type 0) (xs ys : List X) → All P (xs ++ ys) → All P xs
+all_before P xs ys h = subst (All P) (take_at xs ys (length xs) refl) (All-take P (length xs) (xs ++ ys) h)
+
+-- the samples of blocks one after another
+samples_both : (xs ys : List Block) → samples_of (xs ++ ys) ≡ samples_of xs ++ samples_of ys
+samples_both xs ys = flat_map-append (λ (b : Block). interleave b.channels) xs ys
+
+-- ---- counts
+
+-- a write failed, and then two at most
+more_writes : (n m k l : ℕ) → m ≡ n → k ≡ (m + 1) % 2 ^ 64 → (l ≡ k) ⊎ ((l ≡ (k + 1) % 2 ^ 64) ⊎ (l ≡ (k + 2) % 2 ^ 64)) → l ≢ n
+more_writes n m k l e f (inl g) h = omega arith
+more_writes n m k l e f (inr (inl g)) h = omega arith
+more_writes n m k l e f (inr (inr g)) h = omega arith
+
+calls_failed_after : {W : Type 0} (x y z : WavWriter W) → NoneFailed x y → CallsFailed y z → CallsFailed x z
+calls_failed_after x y z n (inl f) = inl (λ e. f (e ∙ sym n.writes))
+calls_failed_after x y z n (inr (inl f)) = inr (inl (λ e. f (e ∙ sym n.flushes)))
+calls_failed_after x y z n (inr (inr f)) = inr (inr (λ e. f (e ∙ sym n.seeks)))
+
+failed_after : {P : List ℕ → List ℕ → Type 0} {a b : State ℕ} (c : State ℕ) → Consumes a b P → FailedIn b c → FailedIn a c
+failed_after c w (inl f) = inl (λ p. f (p ∙ sym w.errors))
+failed_after c w (inr f) = inr ((λ p. f.0 (p ∙ sym w.empty_reads)), f.1)
+
+-- ---- what an error says
+
+module _ {W : Type 0} {contents : W → Option (List ℕ)} {stream : Option StreamFormat} {a b : State ℕ} {x y : WavWriter W} (z : WavWriter W) where
+  fault_explained : (cause : Cause) → PutsBlocks contents stream (Err cause) a b x y → ExplainsError stream a b x z (Claxon cause)
+  fault_explained cause h =
+      let w = h.reads.blocks_are.consumed in
+      elim h.reads.last.promises.fault [
+        | inl m ↦ inl m
+        | inr (inl io) ↦ inr (inl (
+          io,
+          λ known. elim (block_io stream h.reads.between b (Err cause) h.reads.last io (w.known known).known) [
+            | inl n ↦ inl (h.blocks, h.reads.between.remaining, (w.known known).is, n)
+            | inr f ↦ inr (failed_after b w f)
+          ],
+        ))
+        | inr (inr k) ↦ inr (inr (λ known. (
+            let f = k (w.known known).known in
+            let t = (f.2 (w.known known).known).1 in
+            (f.0, f.1, (h.blocks, t.0, b.remaining, subst (λ (s : List ℕ). Frames stream a.remaining h.blocks s) t.2 (w.known known).is, t.1))
+            )))
+      ]
+
+  -- a failed write of a block was counted, also where the end of the file fails too
+  block_write_failed : (e : Error) (h : StopsAtBlock contents stream e a b x y) → IsOutput e → FewWritesFailed y z → WritesFailed x z
+  block_write_failed (Output cause) h is few = more_writes _ _ _ _ h.puts.none_failed.writes h.keeps.1.writes few
+  block_write_failed (Claxon cause) h is few = absurd is
+  block_write_failed TooLong h is few = absurd is
+  block_write_failed OtherChannels h is few = absurd is
+  block_write_failed WideSample h is few = absurd is
+  block_write_failed SameFile h is few = absurd is
+  block_write_failed Exists h is few = absurd is
+
+  block_explained : (e : Error) (h : StopsAtBlock contents stream e a b x y) → FewWritesFailed y z → ExplainsError stream a b x z e
+  block_explained (Claxon cause) h few = elim h.explains [ inl m ↦ inl m | inr f ↦ absurd f ]
+  block_explained (Output cause) h few = inl (block_write_failed (Output cause) h tt few)
+  block_explained SameFile h few = elim h.explains [ inl m ↦ m | inr f ↦ f ]
+  block_explained Exists h few = elim h.explains [ inl m ↦ m | inr f ↦ f ]
+  block_explained TooLong h few = λ known.
+      let valid_bits = x.layout.valid_bits in
+      let all = packed_more valid_bits h.blocks h.block in
+      let more = subst (λ (l : Layout). max_data_size < h.put.written + length (packed_block l.valid_bits h.block)) h.puts.layout_is h.explains in
+      let both = length-append (packed_blocks valid_bits h.blocks) (packed_block valid_bits h.block) in
+      (h.blocks ++ block_view h.block ∷ [], b.remaining, (h.frames.consumed.known known).is, omega (arith, more, h.puts.written_is, both, ap length all))
+  block_explained OtherChannels h few = λ known. (
+    h.blocks ++ block_view h.block ∷ [],
+    b.remaining,
+    (h.frames.consumed.known known).is,
+    λ all. h.explains (all_last (λ (k : Block). length k.channels ≡ x.layout.channels) h.blocks (block_view h.block) all ∙ sym (ap (λ (l : Layout). l.channels) h.puts.layout_is)),
+  )
+  block_explained WideSample h few = λ known. (
+    h.blocks ++ block_view h.block ∷ [],
+    b.remaining,
+    (h.frames.consumed.known known).is,
+    λ all. h.explains (
+        subst (λ (l : Layout). All (FitsIn l.valid_bits) (interleave h.block.channels)) (sym h.puts.layout_is)
+        (all_after (FitsIn x.layout.valid_bits) (samples_of h.blocks) (interleave h.block.channels) (subst (All (FitsIn x.layout.valid_bits)) (samples_add h.blocks (block_view h.block)) all))
+        ),
+  )
+
+  pub stop_explained : (e : Error) → StopsPutting contents stream e a b x y → FewWritesFailed y z → ExplainsError stream a b x z e
+  stop_explained e (inl h) few = subst (ExplainsError stream a b x z) (sym h.1) (fault_explained h.0 h.2)
+  stop_explained e (inr h) few = block_explained e h few
+
+-- all blocks were written, and then the end of the file failed
+pub end_explained : (stream : Option StreamFormat) (a b : State ℕ) {W : Type 0} (x y z : WavWriter W) (r : Result (Unit {0}) Error) → NoneFailed x y → FinishFaultIsSound r y z → IfErr r (ExplainsError stream a b x z)
+end_explained stream a b x y z (Ok done) none f = tt
+end_explained stream a b x y z (Err (Claxon cause)) none f = elim f [ inl m ↦ inl m | inr k ↦ absurd k.0 ]
+end_explained stream a b x y z (Err (Output cause)) none f = elim f [ inl m ↦ absurd m | inr k ↦ calls_failed_after x y z none k.1 ]
+end_explained stream a b x y z (Err TooLong) none f = elim f [ inl m ↦ absurd m | inr k ↦ absurd k.0 ]
+end_explained stream a b x y z (Err OtherChannels) none f = elim f [ inl m ↦ absurd m | inr k ↦ absurd k.0 ]
+end_explained stream a b x y z (Err WideSample) none f = elim f [ inl m ↦ absurd m | inr k ↦ absurd k.0 ]
+end_explained stream a b x y z (Err SameFile) none f = elim f [ inl m ↦ m | inr k ↦ k.0 ]
+end_explained stream a b x y z (Err Exists) none f = elim f [ inl m ↦ m | inr k ↦ k.0 ]
+
+-- ---- completeness
+
+-- an excuse of the decoder
+as_excused : {A : Type 0} (a b : State ℕ) (e : Error) (cause : Cause) → e ≡ Claxon cause → ReadIsExcused (let r : Result A Cause = Err cause in r) a b → IsExcused (Err e) a b
+as_excused a b e cause is (inl m) = inl (let k : cause ≡ OutOfMemory = cc in subst IsMemory (sym is) k)
+as_excused a b e cause is (inr f) = inr (subst IsInput (sym is) f.0, f.1)
+
+module _ (stream : Option StreamFormat) (width : IsWidth (known_width stream)) {W : Type 0} {contents : W → Option (List ℕ)} {a b : State ℕ} {x y : WavWriter W} (z : WavWriter W) (few : FewWritesFailed y z) where
+  module _ (blocks : List Block) (m : List ℕ) (known : RemainingIsKnown a) (f : Frames stream a.remaining blocks m) (none : NoFrameLeft stream m) (can : CanBePut blocks x) where
+    -- a block that can be written is written, or memory was refused or a write failed
+    block_excused : (e : Error) → StopsAtBlock contents stream e a b x y → IsErrAnd (let r : Result (Unit {0}) Error = Err e in r) IsMemory ⊎ WriteHasFailed (Err e) x z
+    block_excused e h = go e h.explains (λ is. block_write_failed z e h is few)
+      where
+        all : List Block
+        all = h.blocks ++ block_view h.block ∷ []
+
+        left : (others : List Block) × (blocks ≡ all ++ others) × Frames stream b.remaining others m
+        left = frames_left stream width a.remaining b.remaining m all blocks (h.frames.consumed.known known).is f none
+
+        channels : length h.block.channels ≡ h.put.layout.channels
+        channels = all_last (λ (k : Block). length k.channels ≡ x.layout.channels) h.blocks (block_view h.block) (all_before (λ (k : Block). length k.channels ≡ x.layout.channels) all left.0 (subst (All (λ (k : Block). length k.channels ≡ x.layout.channels)) left.1 can.channels)) ∙ sym (ap (λ (l : Layout). l.channels) h.puts.layout_is)
+
+        fit : SamplesFit h.block h.put
+        fit =
+            let both = subst (λ (s : List Block). All (FitsIn x.layout.valid_bits) (samples_of s)) left.1 can.fit in
+            let first = all_before (FitsIn x.layout.valid_bits) (samples_of all) (samples_of left.0) (subst (All (FitsIn x.layout.valid_bits)) (samples_both all left.0) both) in
+            subst (λ (l : Layout). All (FitsIn l.valid_bits) (interleave h.block.channels)) (sym h.puts.layout_is)
+            (all_after (FitsIn x.layout.valid_bits) (samples_of h.blocks) (interleave h.block.channels) (subst (All (FitsIn x.layout.valid_bits)) (samples_add h.blocks (block_view h.block)) first))
+
+        size : max_data_size < h.put.written + length (packed_block h.put.layout.valid_bits h.block) → ⊥
+        size more =
+            let valid_bits = x.layout.valid_bits in
+            let over = subst (λ (l : Layout). max_data_size < h.put.written + length (packed_block l.valid_bits h.block)) h.puts.layout_is more in
+            let first = length-append (packed_blocks valid_bits h.blocks) (packed_block valid_bits h.block) in
+            let whole : length (packed_blocks valid_bits blocks) ≡ length (packed_blocks valid_bits all) + length (packed_blocks valid_bits left.0) = ap (λ (s : List Block). length (packed_blocks valid_bits s)) left.1 ∙ ap (λ (s : List ℤ). length (packed_samples valid_bits s)) (samples_both all left.0)
+            ∙ ap length (flat_map-append (bytes_of_sample (sample_size valid_bits) valid_bits) (samples_of all) (samples_of left.0)) ∙ length-append (packed_blocks valid_bits all) (packed_blocks valid_bits left.0) in
+            omega (arith, over, first, ap length (packed_more valid_bits h.blocks h.block), whole, can.size, h.puts.written_is)
+
+        go : (e : Error) → ExplainsBlockError h.block h.put e → (IsOutput e → WritesFailed x z) → IsErrAnd (let r : Result (Unit {0}) Error = Err e in r) IsMemory ⊎ WriteHasFailed (Err e) x z
+        go (Claxon cause) s w = elim s [ inl m ↦ inl m | inr k ↦ absurd k ]
+        go (Output cause) s w = inr (tt, w tt)
+        go TooLong s w = absurd (size s)
+        go OtherChannels s w = absurd (s channels)
+        go WideSample s w = absurd (s fit)
+        go SameFile s w = elim s [ inl m ↦ absurd m | inr k ↦ absurd k ]
+        go Exists s w = elim s [ inl m ↦ absurd m | inr k ↦ absurd k ]
+
+  -- a stream that can be converted doesn't stop early without an excuse
+  pub stop_complete : (e : Error) → StopsPutting contents stream e a b x y → CanBeConverted stream a x → IsExcused (Err e) a b ⊎ OutputHasFailed (Err e) x z
+  stop_complete e (inr h) can = elim (block_excused can.blocks can.rest can.known can.frames (short_no_frame stream can.rest can.eof) can.can e h) [ inl m ↦ inl (inl m) | inr w ↦ inr (w.0, inl w.1) ]
+  stop_complete e (inl h) can = let reads = h.2.reads in elim (all_frames_read stream width (Some h.0) h.2.blocks can.blocks can.rest reads can.known can.frames (short_no_frame stream can.rest can.eof)) [
+    | inr k ↦ inl (as_excused a b e h.0 h.1 k)
+    | inl p ↦ elim (reads.last.promises.eof_is_none can.rest p.1 can.eof) [
+      | inl k ↦ absurd (let w = k.0 in cc)
+      | inr k ↦ inl (as_excused a b e h.0 h.1 (excused_after b (Err h.0) reads.blocks_are.consumed k))
+    ]
   ]
 
-  module _ (block : BlockValue) (frame : Consumed b c (Frame stream (block_view block))) where
-    -- the frames of all blocks, with this one
-    all_frames : RemainingIsKnown a → Frames stream a.remaining (h.blocks ++ block_view block ∷ []) c.remaining
-    all_frames known = let k = h.consumed known in let t = (frame k.0).1 in frames_push stream h.blocks (block_view block) a.remaining b.remaining t.0 c.remaining k.1 t.1 t.2
+  -- a fault there is named
+  pub stop_named : (f : Fault) (e : Error) → StopsPutting contents stream e a b x y → CanBeConvertedTo stream a f x → IsErrAnd (let r : Result (Unit {0}) Error = Err e in r) (NamesFault f) ⊎ (IsExcused (Err e) a b ⊎ WriteHasFailed (Err e) x z)
+  stop_named f e (inr h) can = elim (block_excused can.blocks (can.fault ++ can.rest) can.known can.frames (fault_no_frame stream width f (can.fault ++ can.rest) can.fault can.rest can.bad refl) can.can e h) [ inl m ↦ inr (inl (inl m)) | inr w ↦ inr (inr w) ]
+  stop_named f e (inl h) can = let reads = h.2.reads in elim (all_frames_read stream width (Some h.0) h.2.blocks can.blocks (can.fault ++ can.rest) reads can.known can.frames (fault_no_frame stream width f (can.fault ++ can.rest) can.fault can.rest can.bad refl)) [
+    | inr k ↦ inr (inl (as_excused a b e h.0 h.1 k))
+    | inl p ↦ elim (reads.last.promises.named f can.fault can.rest can.bad p.1) [
+      | inl k ↦ inl (subst (NamesFault f) (sym h.1) k.0)
+      | inr k ↦ inr (inl (as_excused a b e h.0 h.1 (excused_after b (Err h.0) reads.blocks_are.consumed k)))
+    ]
+  ]
 
-    -- an error of the writer
-    pub stops_at_block : (e : Error) → ExplainsBlockError block y e → ExplainsErrorIfKnown stream x a e
-    stops_at_block (Claxon e) m known = inl m
-    stops_at_block (Output e) m known = tt
-    stops_at_block TooLong r known =
-        let all = packed_more x.layout.valid_bits h.blocks block in
-        let more = subst (λ (l : Layout). max_data_size < y.written + length (packed_block l.valid_bits block)) h.puts.layout_is r in
-        let both = length-append (packed_blocks x.layout.valid_bits h.blocks) (packed_block x.layout.valid_bits block) in
-        (h.blocks ++ block_view block ∷ [], c.remaining, all_frames known, omega (arith, more, h.puts.written_is, both, ap length all))
-    stops_at_block SameFile r known = r
-    stops_at_block Exists r known = r
-    stops_at_block OtherChannels r known = (
-      h.blocks ++ block_view block ∷ [],
-      c.remaining,
-      all_frames known,
-      λ all. r (all_last (λ (k : Block). length k.channels ≡ x.layout.channels) h.blocks (block_view block) all ∙ sym (ap (λ (l : Layout). l.channels) h.puts.layout_is)),
-    )
-    stops_at_block WideSample r known = (
-      h.blocks ++ block_view block ∷ [],
-      c.remaining,
-      all_frames known,
-      λ all. r (
-          subst (λ (l : Layout). All (FitsIn l.valid_bits) (interleave block.channels)) (sym h.puts.layout_is)
-          (all_after (FitsIn x.layout.valid_bits) (samples_of h.blocks) (interleave block.channels) (subst (All (FitsIn x.layout.valid_bits)) (samples_add h.blocks (block_view block)) all))
-          ),
-    )
+-- all blocks were written: the file is finished, or memory was refused or the output failed
+pub end_complete : {W : Type 0} (a b : State ℕ) (x y z : WavWriter W) (r : Result (Unit {0}) Error) → NoneFailed x y → FinishFaultIsSound r y z → IsOk r ⊎ (IsExcused r a b ⊎ OutputHasFailed r x z)
+end_complete a b x y z (Ok done) none f = inl refl
+end_complete a b x y z (Err e) none (inl m) = inr (inl (inl m))
+end_complete a b x y z (Err e) none (inr k) = inr (inr (k.0, calls_failed_after x y z none k.1))
 
--- the clauses of a result for an equal result and an equal stream
-pub frame_consumed : {known stream : Option StreamFormat} → known ≡ stream → {r : FrameAnswer} (a b : State ℕ) (block : BlockValue) → r ≡ Ok (Some block) → FoundIsSound block_view r (Frame known) a b → Consumed a b (Frame stream (block_view block))
-frame_consumed {known} e a b block is h = subst (λ (s : Option StreamFormat). Consumed a b (Frame s (block_view block))) e (subst (λ (q : FrameAnswer). FoundIsSound block_view q (Frame known) a b) is h)
+ok_unexcused : {A : Type 0} (a b : State ℕ) (x : A) → ReadIsExcused (let q : Result A Cause = Ok x in q) a b → ⊥
+ok_unexcused a b x (inl m) = cc
+ok_unexcused a b x (inr f) = f.0
 
-pub fault_as : {known stream : Option StreamFormat} → known ≡ stream → {r : FrameAnswer} (a b : State ℕ) (e : Cause) → r ≡ Err e → FaultIsSound r (FrameBytesFault known) a b → FaultIsSound (let q : FrameAnswer = Err e in q) (FrameBytesFault stream) a b
-fault_as {known} same a b e is h = subst (λ (s : Option StreamFormat). FaultIsSound (let q : FrameAnswer = Err e in q) (FrameBytesFault s) a b) same (subst (λ (q : FrameAnswer). FaultIsSound q (FrameBytesFault known) a b) is h)
-
-pub eof_met : {r : FrameAnswer} (a b : State ℕ) → r ≡ Ok None → NoneIsEof 2 r a b → NoneIsEof 2 (let q : FrameAnswer = Ok None in q) a b
-eof_met a b is h = subst (λ (q : FrameAnswer). NoneIsEof 2 q a b) is h
+-- where a fault stands the end is not met
+pub not_eof : (stream : Option StreamFormat) → IsWidth (known_width stream) → {W : Type 0} {contents : W → Option (List ℕ)} {a b : State ℕ} {x y : WavWriter W} (f : Fault) → PutsBlocks contents stream (Ok None) a b x y → CanBeConvertedTo stream a f x → ⊥
+not_eof stream width {a = a} {b = b} f h can = elim (all_frames_read stream width None h.blocks can.blocks (can.fault ++ can.rest) h.reads can.known can.frames (fault_no_frame stream width f (can.fault ++ can.rest) can.fault can.rest can.bad refl)) [
+  | inr k ↦ ok_unexcused a b None k
+  | inl p ↦ elim (h.reads.last.promises.named f can.fault can.rest can.bad p.1) [ inl k ↦ k.0 | inr k ↦ ok_unexcused h.reads.between b None k ]
+]
 
 -- ---- a whole file
 
@@ -191,83 +341,71 @@ no_pad (suc n) announced e =
 
 module _ {W : Type 0} (contents : W → Option (List ℕ)) where
   -- the header, the samples and the pad byte
-  pub file : (blocks : List Block) (old put new : WavWriter W) → PutsSamples contents blocks old put → (put.announced ≡ put.written → Appends (contents put.output) (contents new.output) (pad put.written)) → HoldsFile contents blocks old new
+  pub file : (blocks : List Block) (old put new : WavWriter W) → PutsSamples contents blocks old put → (put.announced ≡ put.written → Appends (output_contents contents put) (output_contents contents new) (pad put.written)) → HoldsFile contents blocks old new
   file blocks old put new h ends layout announced output begins is =
       let size = length (packed_blocks layout.valid_bits blocks) in
       let valid_bits : old.layout.valid_bits ≡ layout.valid_bits = ap (λ (l : Layout). l.valid_bits) begins.layout_is in
       let samples = packed_blocks layout.valid_bits blocks in
-      let bytes : Appends (contents old.output) (contents put.output) samples = subst (λ (n : ℕ). Appends (contents old.output) (contents put.output) (packed_blocks n blocks)) valid_bits h.bytes_are in
+      let bytes : Appends (output_contents contents old) (output_contents contents put) samples = subst (λ (n : ℕ). Appends (output_contents contents old) (output_contents contents put) (packed_blocks n blocks)) valid_bits h.bytes_are in
       let counted : put.written ≡ old.written + size = subst (λ (n : ℕ). put.written ≡ old.written + length (packed_blocks n blocks)) valid_bits h.written_is in
       let written : put.written ≡ announced = omega (arith, counted, begins.none_so_far, is) in
       let right : put.announced ≡ put.written = h.announced_is ∙ begins.announced_is ∙ sym written in
-      let padded : Appends (contents put.output) (contents new.output) (pad announced) = subst (λ (n : ℕ). Appends (contents put.output) (contents new.output) (pad n)) written (ends right) in
-      let front = Appends-trans (contents output) (contents old.output) (contents put.output) begins.header samples begins.written bytes in
-      let whole = Appends-trans (contents output) (contents put.output) (contents new.output) (begins.header ++ samples) (pad announced) front padded in
-      subst (λ (s : List ℕ). Appends (contents output) (contents new.output) s) (sym (begins.is_header samples (sym is))) whole
+      let padded : Appends (output_contents contents put) (output_contents contents new) (pad announced) = subst (λ (n : ℕ). Appends (output_contents contents put) (output_contents contents new) (pad n)) written (ends right) in
+      let front = Appends-trans (contents output.now) (output_contents contents old) (output_contents contents put) begins.header samples begins.written bytes in
+      let whole = Appends-trans (contents output.now) (output_contents contents put) (output_contents contents new) (begins.header ++ samples) (pad announced) front padded in
+      subst (λ (s : List ℕ). Appends (contents output.now) (output_contents contents new) s) (sym (begins.is_header samples (sym is))) whole
 
--- all blocks, and then the end
-pub converted : {R A W : Type 0} (contents : W → Option (List ℕ)) (position : W → Option ℕ) (remaining : R → Option (List ℕ)) (flac : FlacReader R A) (frames : FrameReader (MutBor (BufferedReader R A))) (r : Result (Unit {0}) Error) (old put new : WavWriter W)
-    → (frame_input frames).now ≡ flac_input flac → frame_stream frames ≡ flac_stream flac → PutsStream contents (frame_stream frames) (frame_bytes (lent (buffered_source remaining)) frames) old put → FinishIsSound contents position r put new
-    → ConvertIsSound contents position remaining flac r old new
-converted contents position remaining flac frames (Err e) old put new input stream puts finishes = tt
-converted contents position remaining flac frames (Ok done) old put new input stream puts finishes =
-    let here = after_loan remaining flac (frame_input frames) input in
-    record {
-      blocks = puts.blocks;
-      all = λ known. (
-          let k = puts.all (here.1 known) in
-          (k.0, subst (λ (s : Option StreamFormat). Frames s (flac_bytes remaining flac).remaining puts.blocks k.0) stream (subst (λ (s : List ℕ). Frames (frame_stream frames) s puts.blocks k.0) here.0 k.1), k.2)
-          );
-      put = put;
-      puts = puts.puts;
-      ends = finishes.0;
-      right = finishes.1;
-      file = file contents puts.blocks old put new puts.puts finishes.0.right;
-    }
+-- all blocks up to the end
+whole : {W : Type 0} {contents : W → Option (List ℕ)} {stream : Option StreamFormat} {a b : State ℕ} {old put : WavWriter W} (h : PutsBlocks contents stream (Ok None) a b old put) → IsWholeStream stream h.blocks a
+whole h known = let w = h.reads.blocks_are.consumed.known known in (h.reads.between.remaining, w.is, (h.reads.last.promises.none_is_eof refl w.known).0)
+
+-- and then the end of the file
+pub converted : {W : Type 0} {contents : W → Option (List ℕ)} (position : W → Option ℕ) {stream : Option StreamFormat} {a b : State ℕ} {old put : WavWriter W} (new : WavWriter W) (r : Result (Unit {0}) Error) → PutsBlocks contents stream (Ok None) a b old put → FinishIsSound contents position r put new → FinishFlushes r put new
+    → OnOk r (Converts contents position stream a old new)
+converted position new (Err e) h finishes flushes = tt
+converted {contents = contents} position {old = old} {put = put} new (Ok done) h finishes flushes = record {
+  blocks = h.blocks;
+  all = whole h;
+  put = put;
+  puts = h.puts;
+  ends = finishes.0;
+  right = finishes.1;
+  file = file contents h.blocks old put new h.puts finishes.0.right;
+  none_failed = none_failed_both h.puts.none_failed flushes.0;
+  flushed = flushed_after h.puts.unflushed flushes.1;
+}
 
 -- The pad byte is that of a file whose header announced the right number of bytes. After the header for an unknown number it
 -- isn't written.
-module _ {W : Type 0} (contents : W → Option (List ℕ)) (put new : WavWriter W) (h : Appends (contents put.output) (contents new.output) (stream_pad put)) where
-  padded_where_right : put.announced ≡ put.written → Appends (contents put.output) (contents new.output) (pad put.written)
-  padded_where_right e = subst (λ (b : Bool). Appends (contents put.output) (contents new.output) (cond b (pad put.written) [])) (eq-eqb put.written put.announced (sym e)) h
+module _ {W : Type 0} (contents : W → Option (List ℕ)) (put new : WavWriter W) (h : Appends (output_contents contents put) (output_contents contents new) (stream_pad put)) where
+  padded_where_right : put.announced ≡ put.written → Appends (output_contents contents put) (output_contents contents new) (pad put.written)
+  padded_where_right e = subst (λ (b : Bool). Appends (output_contents contents put) (output_contents contents new) (cond b (pad put.written) [])) (eq-eqb put.written put.announced (sym e)) h
 
-  padded_where_none_announced : put.announced ≡ 0 → Appends (contents put.output) (contents new.output) []
-  padded_where_none_announced e = subst (λ (s : List ℕ). Appends (contents put.output) (contents new.output) s) (no_pad put.written put.announced e) h
+  padded_where_none_announced : put.announced ≡ 0 → Appends (output_contents contents put) (output_contents contents new) []
+  padded_where_none_announced e = subst (λ (s : List ℕ). Appends (output_contents contents put) (output_contents contents new) s) (no_pad put.written put.announced e) h
 
   where_unknown : (blocks : List Block) (old : WavWriter W) → PutsSamples contents blocks old put → HoldsUnknown contents blocks old new
   where_unknown blocks old h layout output begins =
       let valid_bits : old.layout.valid_bits ≡ layout.valid_bits = ap (λ (l : Layout). l.valid_bits) begins.layout_is in
       let samples = packed_blocks layout.valid_bits blocks in
-      let bytes : Appends (contents old.output) (contents put.output) samples = subst (λ (n : ℕ). Appends (contents old.output) (contents put.output) (packed_blocks n blocks)) valid_bits h.bytes_are in
-      let front = Appends-trans (contents output) (contents old.output) (contents put.output) (unknown_header layout) samples begins.written bytes in
+      let bytes : Appends (output_contents contents old) (output_contents contents put) samples = subst (λ (n : ℕ). Appends (output_contents contents old) (output_contents contents put) (packed_blocks n blocks)) valid_bits h.bytes_are in
+      let front = Appends-trans (contents output.now) (output_contents contents old) (output_contents contents put) (unknown_header layout) samples begins.written bytes in
       let none : put.announced ≡ 0 = h.announced_is ∙ begins.none_announced in
-      let whole = Appends-trans (contents output) (contents put.output) (contents new.output) (unknown_header layout ++ samples) [] front (padded_where_none_announced none) in
-      subst (λ (s : List ℕ). Appends (contents output) (contents new.output) s) (append-nil (unknown_header layout ++ samples)) whole
+      let whole = Appends-trans (contents output.now) (output_contents contents put) (output_contents contents new) (unknown_header layout ++ samples) [] front (padded_where_none_announced none) in
+      subst (λ (s : List ℕ). Appends (contents output.now) (output_contents contents new) s) (append-nil (unknown_header layout ++ samples)) whole
 
--- all blocks, and then the end of an output that can't seek
-pub converted_to_stream : {R A W : Type 0} (contents : W → Option (List ℕ)) (remaining : R → Option (List ℕ)) (flac : FlacReader R A) (frames : FrameReader (MutBor (BufferedReader R A))) (r : Result (Unit {0}) Error) (old put new : WavWriter W)
-    → (frame_input frames).now ≡ flac_input flac → frame_stream frames ≡ flac_stream flac → PutsStream contents (frame_stream frames) (frame_bytes (lent (buffered_source remaining)) frames) old put → FinishStreamIsSound contents r put new
-    → ConvertToStreamIsSound contents remaining flac r old new
-converted_to_stream contents remaining flac frames (Err e) old put new input stream puts finishes = tt
-converted_to_stream contents remaining flac frames (Ok done) old put new input stream puts finishes =
-    let here = after_loan remaining flac (frame_input frames) input in
-    record {
-      blocks = puts.blocks;
-      all = λ known. (
-          let k = puts.all (here.1 known) in
-          (k.0, subst (λ (s : Option StreamFormat). Frames s (flac_bytes remaining flac).remaining puts.blocks k.0) stream (subst (λ (s : List ℕ). Frames (frame_stream frames) s puts.blocks k.0) here.0 k.1), k.2)
-          );
-      put = put;
-      puts = puts.puts;
-      written_is = finishes.1;
-      file = file contents puts.blocks old put new puts.puts (padded_where_right contents put new finishes.0);
-      unknown = where_unknown contents put new finishes.0 puts.blocks old puts.puts;
-    }
-
--- the same for the errors
-pub not_converted : {R A W : Type 0} (remaining : R → Option (List ℕ)) (flac : FlacReader R A) (frames : FrameReader (MutBor (BufferedReader R A))) (old : WavWriter W) (e : Error)
-    → (frame_input frames).now ≡ flac_input flac → frame_stream frames ≡ flac_stream flac → ExplainsErrorIfKnown (frame_stream frames) old (frame_bytes (lent (buffered_source remaining)) frames) e
-    → ExplainsErrorIfKnown (flac_stream flac) old (flac_bytes remaining flac) e
-not_converted remaining flac frames old e input stream stops known =
-    let here = after_loan remaining flac (frame_input frames) input in
-    subst (λ (s : Option StreamFormat). ExplainsError s old (flac_bytes remaining flac).remaining e) stream (subst (λ (s : List ℕ). ExplainsError (frame_stream frames) old s e) here.0 (stops (here.1 known)))
+-- the end of an output that can't seek
+pub converted_to_stream : {W : Type 0} {contents : W → Option (List ℕ)} {stream : Option StreamFormat} {a b : State ℕ} {old put : WavWriter W} (new : WavWriter W) (r : Result (Unit {0}) Error) → PutsBlocks contents stream (Ok None) a b old put → FinishStreamIsSound contents r put new → FinishFlushes r put new
+    → OnOk r (ConvertsToStream contents stream a old new)
+converted_to_stream new (Err e) h finishes flushes = tt
+converted_to_stream {contents = contents} {old = old} {put = put} new (Ok done) h finishes flushes = record {
+  blocks = h.blocks;
+  all = whole h;
+  put = put;
+  puts = h.puts;
+  written_is = finishes.1;
+  file = file contents h.blocks old put new h.puts (padded_where_right contents put new finishes.0);
+  unknown = where_unknown contents put new finishes.0 h.blocks old h.puts;
+  none_failed = none_failed_both h.puts.none_failed flushes.0;
+  flushed = flushed_after h.puts.unflushed flushes.1;
+}

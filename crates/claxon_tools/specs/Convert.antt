@@ -1,24 +1,27 @@
 -- The clauses of `put_blocks` and `convert`.
-use Rattle.std.specs.Prelude.{All, ◌≡◌, ◌⊎◌, ℕ, ◌+◌, ◌<◌, List, ◌++◌, length, Option, Result, IfErr, OnOk}
+use Rattle.std.specs.Prelude.{All, ◌≡◌, ◌⊎◌, ℕ, ◌+◌, ◌<◌, ◌≤◌, List, [], ◌∷◌, ◌++◌, length, None, Ok, Err, Option, Result, IfErr, IsErrAnd, IsOk, OnOk}
+use Rattle.std.specs.Borrow.{MutBor}
 use Rattle.std.specs.Io.KnownBytes.{Appends}
 use Rattle.claxon.specs.Bits.{FitsIn}
+use Rattle.claxon.specs.Block.{BlockValue}
 use Rattle.claxon.specs.Fault.{Fault}
 use Rattle.claxon.specs.Frame.{Block, FrameBytesFault, Frames, StreamFormat}
-use Rattle.claxon.specs.FrameReader.{frame_bytes, frame_stream}
-use Rattle.claxon.specs.FrameReaders.{FrameReader}
+use Rattle.claxon.specs.FrameReader.{FrameAnswer, block_view}
 use Rattle.claxon.specs.Error.{IsFault, IsIo}
-use Rattle.claxon.specs.Source.{Source}
+use Rattle.claxon.specs.Gives.{FailedIn}
 use Rattle.claxon.specs.State.{State, RemainingIsKnown}
 use Rattle.claxon.specs.Errors.{Error as Cause}
 use Rattle.claxon.specs.Errors.TheVariants.{OutOfMemory}
 use Rattle.claxon.specs.Opening.{flac_bytes}
-use Rattle.claxon.specs.SampleRuns.{samples_of}
+use Rattle.claxon.specs.SampleRuns.{ConsumesFrames, ReadsFrames, samples_of}
 use Rattle.claxon.specs.declared.reader.FlacReader.{FlacReader}
 use Rattle.claxon_write.specs.WriteSamples.{flac_stream}
 use Rattle.claxon_tools.specs.DataSize.{max_data_size}
 use Rattle.claxon_tools.specs.Samples.{packed_samples}
+use Rattle.claxon_tools.specs.Verify.{IsNotWhole}
+use Rattle.claxon_tools.specs.WavError.{IsInput, IsMemory, IsOutput, NamesFault}
 use Rattle.claxon_tools.specs.WaveFile.{unknown_header, wave_file}
-use Rattle.claxon_tools.specs.Writer.{Begins, BeginsUnknown, Ends, HeaderIsRight}
+use Rattle.claxon_tools.specs.Writer.{Begins, BeginsUnknown, BlockErrorKeeps, CallsFailed, Ends, ExplainsBlockError, FlushedLast, HeaderIsRight, NoneFailed, Unflushed, WritesFailed, output_contents}
 use Rattle.claxon_tools.specs.declared.wav.error.Error.{Error}
 use Rattle.claxon_tools.specs.declared.wav.error.Error.TheVariants.{Claxon, Exists, OtherChannels, Output, SameFile, TooLong, WideSample}
 use Rattle.claxon_tools.specs.declared.wav.header.Layout.{Layout}
@@ -29,96 +32,88 @@ abbrev pub packed_blocks : ℕ → List Block → List ℕ
 packed_blocks valid_bits blocks = packed_samples valid_bits (samples_of blocks)
 
 -- Exactly the samples of these blocks were written after all earlier bytes, and their bytes were counted. Each block has the
--- channels of the layout, and each sample fits in its valid bits.
+-- channels of the layout, and each sample fits in its valid bits. No call of the output failed, and none was a flush.
 pub record PutsSamples {W : Type 0} (contents : W → Option (List ℕ)) (blocks : List Block)
     (old new : WavWriter W) : Type 0 where
   pub channels : All (λ b. length b.channels ≡ old.layout.channels) blocks
   pub fit : All (FitsIn old.layout.valid_bits) (samples_of blocks)
-  pub bytes_are : Appends (contents old.output) (contents new.output)
+  pub bytes_are : Appends (output_contents contents old) (output_contents contents new)
       (packed_blocks old.layout.valid_bits blocks)
   pub written_is : new.written ≡ old.written + length (packed_blocks old.layout.valid_bits blocks)
   pub announced_is : new.announced ≡ old.announced
   pub layout_is : new.layout ≡ old.layout
+  pub none_failed : NoneFailed old new
+  pub unflushed : Unflushed old new
+
+-- ---- block after block
+
+-- The frames of blocks were read up to this answer without a block, and exactly their samples were written.
+pub record PutsBlocks {W : Type 0} (contents : W → Option (List ℕ)) (stream : Option StreamFormat)
+    (answer : FrameAnswer) (a b : State ℕ) (old new : WavWriter W) : Type 0 where
+  pub blocks : List Block
+  pub reads : ReadsFrames stream blocks answer a b
+  pub puts : PutsSamples contents blocks old new
+
+-- The frames of blocks were read, and exactly the samples of all but the last one were written. The error says why that
+-- one was not.
+pub record StopsAtBlock {W : Type 0} (contents : W → Option (List ℕ)) (stream : Option StreamFormat)
+    (error : Error) (a b : State ℕ) (old new : WavWriter W) : Type 0 where
+  pub blocks : List Block
+  pub block : BlockValue
+  pub frames : ConsumesFrames stream (blocks ++ block_view block ∷ []) a b
+  pub put : WavWriter W
+  pub puts : PutsSamples contents blocks old put
+  pub explains : ExplainsBlockError block put error
+  pub keeps : BlockErrorKeeps contents block error put new
+
+-- The error is the decoder's, after the samples before it were written, or says why a block was not written.
+abbrev pub StopsPutting : {W : Type 0} → (W → Option (List ℕ)) → Option StreamFormat → Error
+    → State ℕ → State ℕ → WavWriter W → WavWriter W → Type 0
+StopsPutting contents stream error a b old new =
+    ((cause : Cause) × (error ≡ Claxon cause) × PutsBlocks contents stream (Err cause) a b old new)
+    ⊎ StopsAtBlock contents stream error a b old new
+
+-- `a` and `b` are the input before and after the call.
+module _ {W : Type 0} (contents : W → Option (List ℕ)) (stream : Option StreamFormat)
+    (result : Result (Unit {0}) Error) (a b : State ℕ) (old new : WavWriter W) where
+  -- An Ok wrote all blocks up to the end of the stream.
+  abbrev pub PutBlocksIsSound : Type 0
+  PutBlocksIsSound = OnOk result (PutsBlocks contents stream (Ok None) a b old new)
+
+  -- An Err says why not all blocks were written.
+  abbrev pub PutBlocksFaultIsSound : Type 0
+  PutBlocksFaultIsSound = IfErr result (λ error. StopsPutting contents stream error a b old new)
+
+-- ---- a whole stream
 
 -- The remaining input is the frames of these blocks, one after another, and fewer than two bytes.
 abbrev pub IsWholeStream : Option StreamFormat → List Block → State ℕ → Type 0
 IsWholeStream stream blocks s =
     RemainingIsKnown s → (rest : List ℕ) × Frames stream s.remaining blocks rest × (length rest < 2)
 
--- Exactly the samples of all blocks up to the end of the stream were written.
-pub record PutsStream {W : Type 0} (contents : W → Option (List ℕ)) (stream : Option StreamFormat)
-    (s : State ℕ) (old new : WavWriter W) : Type 0 where
-  pub blocks : List Block
-  pub all : IsWholeStream stream blocks s
-  pub puts : PutsSamples contents blocks old new
-
--- An Ok wrote all blocks up to the end of the stream.
-abbrev pub PutBlocksIsSound : {R W : Type 0} → (W → Option (List ℕ)) → (R → Source ℕ)
-    → FrameReader R → Result (Unit {0}) Error → WavWriter W → WavWriter W → Type 0
-PutBlocksIsSound contents source blocks r old new =
-    OnOk r (PutsStream contents (frame_stream blocks) (frame_bytes source blocks) old new)
-
--- s begins with the frames of such blocks.
-abbrev pub HasBlocks : Option StreamFormat → List ℕ → (List Block → Type 0) → Type 0
-HasBlocks stream s P =
-    (blocks : List Block) × (rest : List ℕ) × Frames stream s blocks rest × P blocks
-
--- s is the frames of blocks, followed by a fault that the error names.
-abbrev pub HasFault : Option StreamFormat → List ℕ → Cause → Type 0
-HasFault stream s error =
-    (f : Fault) × IsFault f error × ((blocks : List Block) × (t : List ℕ) × (rest : List ℕ)
-    × Frames stream s blocks (t ++ rest) × FrameBytesFault stream f t)
-
--- What an error says of s: it is `OutOfMemory`, an `IoError` or a fault in s, or a failed call of the output; or s begins with blocks of which one has other
--- channels than the layout, a sample doesn't fit in its valid bits, or the bytes, with those written before, are more than a
--- WAV file holds.
-abbrev pub ExplainsError : {W : Type 0} → Option StreamFormat → WavWriter W → List ℕ → Error
-    → Type 0
-ExplainsError stream old s (Claxon error) =
-    (error ≡ OutOfMemory) ⊎ (IsIo error ⊎ HasFault stream s error)
-ExplainsError stream old s OtherChannels =
-    HasBlocks stream s (λ blocks. All (λ b. length b.channels ≡ old.layout.channels) blocks → ⊥)
-ExplainsError stream old s WideSample =
-    HasBlocks stream s (λ blocks. All (FitsIn old.layout.valid_bits) (samples_of blocks) → ⊥)
-ExplainsError stream old s TooLong =
-    HasBlocks stream s (λ blocks. max_data_size
-    < old.written + length (packed_blocks old.layout.valid_bits blocks))
-ExplainsError stream old s (Output error) = Unit {0}
-ExplainsError stream old s SameFile = ⊥
-ExplainsError stream old s Exists = ⊥
-
--- The same for the remaining input, where it is known.
-abbrev pub ExplainsErrorIfKnown : {W : Type 0} → Option StreamFormat → WavWriter W → State ℕ → Error
-    → Type 0
-ExplainsErrorIfKnown stream old s error =
-    RemainingIsKnown s → ExplainsError stream old s.remaining error
-
--- An Err says why not all blocks were written.
-abbrev pub PutBlocksFaultIsSound : {R W : Type 0} → (R → Source ℕ) → FrameReader R
-    → Result (Unit {0}) Error → WavWriter W → Type 0
-PutBlocksFaultIsSound source blocks r old =
-    IfErr r (ExplainsErrorIfKnown (frame_stream blocks) old (frame_bytes source blocks))
-
 -- The output has, after what it contained when the writer was started, a complete WAV file of these samples, if the first
 -- header announced the right number of bytes.
 abbrev pub HoldsFile : {W : Type 0} → (W → Option (List ℕ)) → List Block → WavWriter W → WavWriter W
     → Type 0
 HoldsFile {W} contents blocks old new =
-    (layout : Layout) (announced : ℕ) (output : W) → Begins contents layout announced output old
+    (layout : Layout) (announced : ℕ) (output : MutBor W) → Begins contents layout announced output old
     → announced ≡ length (packed_blocks layout.valid_bits blocks)
-    → Appends (contents output) (contents new.output)
+    → Appends (contents output.now) (output_contents contents new)
     (wave_file layout (packed_blocks layout.valid_bits blocks))
 
--- Exactly the samples of all blocks up to the end of the stream were written, and then the file was finished.
+-- Exactly the samples of all blocks up to the end of the stream were written, and then the file was finished. No call of the
+-- output failed, and the last one was the only flush.
 pub record Converts {W : Type 0} (contents : W → Option (List ℕ)) (position : W → Option ℕ)
     (stream : Option StreamFormat) (s : State ℕ) (old new : WavWriter W) : Type 0 where
   pub blocks : List Block
   pub all : IsWholeStream stream blocks s
   pub put : WavWriter W
   pub puts : PutsSamples contents blocks old put
-  pub ends : Ends contents position put new.output
+  pub ends : Ends contents position put new
   pub right : HeaderIsRight put new
   pub file : HoldsFile contents blocks old new
+  pub none_failed : NoneFailed old new
+  pub flushed : FlushedLast old new
 
 -- An Ok converted the whole stream.
 abbrev pub ConvertIsSound : {R A W : Type 0} → (W → Option (List ℕ)) → (W → Option ℕ)
@@ -132,11 +127,12 @@ ConvertIsSound contents position remaining flac r old new =
 abbrev pub HoldsUnknown : {W : Type 0} → (W → Option (List ℕ)) → List Block → WavWriter W
     → WavWriter W → Type 0
 HoldsUnknown {W} contents blocks old new =
-    (layout : Layout) (output : W) → BeginsUnknown contents layout output old
-    → Appends (contents output) (contents new.output)
+    (layout : Layout) (output : MutBor W) → BeginsUnknown contents layout output old
+    → Appends (contents output.now) (output_contents contents new)
     (unknown_header layout ++ packed_blocks layout.valid_bits blocks)
 
--- Exactly the samples of all blocks up to the end of the stream were written, after a header that was not corrected.
+-- Exactly the samples of all blocks up to the end of the stream were written, after a header that was not corrected. No call
+-- of the output failed, and the last one was the only flush.
 pub record ConvertsToStream {W : Type 0} (contents : W → Option (List ℕ))
     (stream : Option StreamFormat) (s : State ℕ) (old new : WavWriter W) : Type 0 where
   pub blocks : List Block
@@ -146,6 +142,8 @@ pub record ConvertsToStream {W : Type 0} (contents : W → Option (List ℕ))
   pub written_is : new.written ≡ put.written
   pub file : HoldsFile contents blocks old new
   pub unknown : HoldsUnknown contents blocks old new
+  pub none_failed : NoneFailed old new
+  pub flushed : FlushedLast old new
 
 -- An Ok converted the whole stream.
 abbrev pub ConvertToStreamIsSound : {R A W : Type 0} → (W → Option (List ℕ))
@@ -154,8 +152,109 @@ abbrev pub ConvertToStreamIsSound : {R A W : Type 0} → (W → Option (List ℕ
 ConvertToStreamIsSound contents remaining flac r old new =
     OnOk r (ConvertsToStream contents (flac_stream flac) (flac_bytes remaining flac) old new)
 
--- An Err says why the stream was not converted completely.
-abbrev pub ConvertFaultIsSound : {R A W : Type 0} → (R → Option (List ℕ)) → FlacReader R A
-    → Result (Unit {0}) Error → WavWriter W → Type 0
-ConvertFaultIsSound remaining flac r old =
-    IfErr r (ExplainsErrorIfKnown (flac_stream flac) old (flac_bytes remaining flac))
+-- ---- errors
+
+-- s begins with the frames of such blocks.
+abbrev pub HasBlocks : Option StreamFormat → List ℕ → (List Block → Type 0) → Type 0
+HasBlocks stream s P =
+    (blocks : List Block) × (rest : List ℕ) × Frames stream s blocks rest × P blocks
+
+-- s is the frames of blocks, followed by a fault that the error names.
+abbrev pub HasFault : Option StreamFormat → List ℕ → Cause → Type 0
+HasFault stream s error =
+    (f : Fault) × IsFault f error × ((blocks : List Block) × (t : List ℕ) × (rest : List ℕ)
+    × Frames stream s blocks (t ++ rest) × FrameBytesFault stream f t)
+
+-- s is the frames of blocks, followed by one that isn't whole.
+abbrev pub IsCut : Option StreamFormat → List ℕ → Type 0
+IsCut stream s =
+    (blocks : List Block) × (rest : List ℕ) × Frames stream s blocks rest × IsNotWhole stream rest
+
+-- What an error says of the remaining input, where it is known, and of the output. It is `OutOfMemory`, a fault in the input,
+-- an `IoError` where the input is cut or its source failed, or a failed call of the output, which was counted. Or the input
+-- begins with blocks of which one has other channels than the layout, a sample doesn't fit in its valid bits, or the bytes,
+-- with those written before, are more than a WAV file holds.
+abbrev pub ExplainsError : {W : Type 0} → Option StreamFormat → State ℕ → State ℕ → WavWriter W
+    → WavWriter W → Error → Type 0
+ExplainsError stream a b old new (Claxon error) =
+    (error ≡ OutOfMemory)
+    ⊎ ((IsIo error × (RemainingIsKnown a → IsCut stream a.remaining ⊎ FailedIn a b))
+    ⊎ (RemainingIsKnown a → HasFault stream a.remaining error))
+ExplainsError stream a b old new OtherChannels =
+    RemainingIsKnown a → HasBlocks stream a.remaining (λ blocks. All (λ b. length b.channels ≡ old.layout.channels) blocks → ⊥)
+ExplainsError stream a b old new WideSample =
+    RemainingIsKnown a → HasBlocks stream a.remaining (λ blocks. All (FitsIn old.layout.valid_bits) (samples_of blocks) → ⊥)
+ExplainsError stream a b old new TooLong =
+    RemainingIsKnown a → HasBlocks stream a.remaining (λ blocks. max_data_size
+    < old.written + length (packed_blocks old.layout.valid_bits blocks))
+ExplainsError stream a b old new (Output cause) = CallsFailed old new
+ExplainsError stream a b old new SameFile = ⊥
+ExplainsError stream a b old new Exists = ⊥
+
+-- ---- completeness
+
+-- Each of these blocks has the channels of the layout, each sample fits in its valid bits, and a WAV file holds the bytes
+-- with those written before.
+pub record CanBePut {W : Type 0} (blocks : List Block) (file : WavWriter W) : Type 0 where
+  pub channels : All (λ b. length b.channels ≡ file.layout.channels) blocks
+  pub fit : All (FitsIn file.layout.valid_bits) (samples_of blocks)
+  pub size : file.written + length (packed_blocks file.layout.valid_bits blocks) ≤ max_data_size
+
+-- The remaining input is the frames of blocks that can be written to this file, and fewer than two bytes.
+pub record CanBeConverted {W : Type 0} (stream : Option StreamFormat) (s : State ℕ)
+    (file : WavWriter W) : Type 0 where
+  pub blocks : List Block
+  pub rest : List ℕ
+  pub known : RemainingIsKnown s
+  pub frames : Frames stream s.remaining blocks rest
+  pub eof : length rest < 2
+  pub can : CanBePut blocks file
+
+-- The remaining input begins with the frames of blocks that can be written to this file, and this fault of a frame.
+pub record CanBeConvertedTo {W : Type 0} (stream : Option StreamFormat) (s : State ℕ) (f : Fault)
+    (file : WavWriter W) : Type 0 where
+  pub blocks : List Block
+  pub fault : List ℕ
+  pub rest : List ℕ
+  pub known : RemainingIsKnown s
+  pub frames : Frames stream s.remaining blocks (fault ++ rest)
+  pub bad : FrameBytesFault stream f fault
+  pub can : CanBePut blocks file
+
+-- Memory was refused, or the result is an `IoError` and the source failed in the call.
+abbrev pub IsExcused : Result (Unit {0}) Error → State ℕ → State ℕ → Type 0
+IsExcused r a b = IsErrAnd r IsMemory ⊎ (IsErrAnd r IsInput × FailedIn a b)
+
+-- The result is a failed call of the output, and one was counted.
+abbrev pub OutputHasFailed : {W : Type 0} → Result (Unit {0}) Error → WavWriter W → WavWriter W
+    → Type 0
+OutputHasFailed r old new = IsErrAnd r IsOutput × CallsFailed old new
+
+-- The same of a write.
+abbrev pub WriteHasFailed : {W : Type 0} → Result (Unit {0}) Error → WavWriter W → WavWriter W
+    → Type 0
+WriteHasFailed r old new = IsErrAnd r IsOutput × WritesFailed old new
+
+module _ {R A W : Type 0} (remaining : R → Option (List ℕ)) (result : Result (Unit {0}) Error)
+    (before after : FlacReader R A) (old new : WavWriter W) where
+  -- An Err says why the stream was not converted completely.
+  abbrev pub ConvertFaultIsSound : Type 0
+  ConvertFaultIsSound =
+      IfErr result (ExplainsError (flac_stream before) (flac_bytes remaining before)
+      (flac_bytes remaining after) old new)
+
+  -- Where a stream remains that can be converted, the result is an Ok, or memory was refused, or the source or the output
+  -- failed.
+  abbrev pub ConvertIsComplete : Type 0
+  ConvertIsComplete =
+      CanBeConverted (flac_stream before) (flac_bytes remaining before) old
+      → IsOk result ⊎ (IsExcused result (flac_bytes remaining before) (flac_bytes remaining after)
+      ⊎ OutputHasFailed result old new)
+
+  -- A fault after the frames of blocks that can be written is named, or memory was refused, or the source or a write failed.
+  abbrev pub ConvertFaultIsComplete : Type 0
+  ConvertFaultIsComplete =
+      (f : Fault) → CanBeConvertedTo (flac_stream before) (flac_bytes remaining before) f old
+      → IsErrAnd result (NamesFault f)
+      ⊎ (IsExcused result (flac_bytes remaining before) (flac_bytes remaining after)
+      ⊎ WriteHasFailed result old new)

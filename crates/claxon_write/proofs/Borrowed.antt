@@ -151,6 +151,16 @@ unfolding unborrowed bytes_in rest_of
 larger_through source r s q at same end (Ok done) h = λ out. rw (← at, ← same) (larger_unborrowed (h out))
 larger_through source r s q at same end (Err e) h = tt
 
+module _ {R : Type 0} (source : R → Source ℕ) {stream known : Option StreamFormat} {blocks : List Block} (r s q : MutBor R) (at : s ≡ r) (same : stream ≡ known) where
+  -- frames that were read through the reference
+  pub takes_through : ConsumesFrames stream blocks (bytes_in (lent source) s) (bytes_in (lent source) q) → ConsumesFrames known blocks (bytes_in source r.now) (bytes_in source q.now)
+  unfolding unborrowed bytes_in rest_of
+  takes_through h = rw (← at, ← same) (takes_unborrowed h)
+
+  pub runs_through : {answer : Result (Option BlockValue) Error} → ReadsFrames stream blocks answer (bytes_in (lent source) s) (bytes_in (lent source) q) → ReadsFrames known blocks answer (bytes_in source r.now) (bytes_in source q.now)
+  unfolding unborrowed bytes_in rest_of
+  runs_through h = rw (← at, ← same) (runs_unborrowed h)
+
 module _ {R W : Type 0} (source : R → Source ℕ) {contents : W → Option (List ℕ)} {stream known : Option StreamFormat} (r s q : MutBor R) (at : s ≡ r) (same : stream ≡ known) where
   -- the gathered bytes are written, and then the end is returned
   pub written_through : (end : End) (o : Result (Unit {0}) Error) (x y z : Output W) → Gathers contents stream end.fault end.count (bytes_in (lent source) s) (bytes_in (lent source) q) x y → OnOk o (Puts contents [] y z) → IfErr o (λ e. FailsToPut contents [] e y z)

@@ -2,6 +2,7 @@
 ghost use Rattle.std.specs.Prelude.{◌≡◌, ◌≤◌, IfOk, IfSome, false};
 ghost use Rattle.claxon.specs.FlacReader.{flac_metadata_only};
 ghost use Rattle.claxon_tools.specs.DataSize.{max_data_size};
+ghost use Rattle.claxon_tools.specs.WavCommand.{status_after};
 
 use crate::arguments::{Argument, Arguments, Notice};
 use crate::program::{Part, Program, STANDARD, open_input, report, report_frame, report_text};
@@ -218,7 +219,7 @@ fn announced_size(layout: &Layout, info: &StreamInfo) -> Result<Option<u32>>
 fn write_file<R: Read + Drop, W: Write + Seek + Drop, E: Write>(
     alloc: Global,
     flac: &mut FlacReader<R>,
-    file: W,
+    mut file: W,
     layout: Layout,
     announced: Option<u32>,
     progress: &mut Progress,
@@ -227,7 +228,7 @@ fn write_file<R: Read + Drop, W: Write + Seek + Drop, E: Write>(
     requires reads_frames { flac_metadata_only flac.old ≡ false }
     requires fits { IfSome announced (λ n. n ≤ max_data_size) }
 {
-    let mut wav = WavWriter::start(alloc, file, layout, announced.unwrap_or(0))?;
+    let mut wav = WavWriter::start(alloc, &mut file, layout, announced.unwrap_or(0))?;
     let outcome = convert(alloc, flac, &mut wav, progress, errors);
     with_samples(wav.samples(), outcome)
 }
@@ -236,7 +237,7 @@ fn write_file<R: Read + Drop, W: Write + Seek + Drop, E: Write>(
 fn write_stream<R: Read + Drop, W: Write + Drop, E: Write>(
     alloc: Global,
     flac: &mut FlacReader<R>,
-    output: W,
+    mut output: W,
     layout: Layout,
     announced: Option<u32>,
     progress: &mut Progress,
@@ -246,8 +247,8 @@ fn write_stream<R: Read + Drop, W: Write + Drop, E: Write>(
     requires fits { IfSome announced (λ n. n ≤ max_data_size) }
 {
     let mut wav = match announced {
-        Some(size) => WavWriter::start(alloc, output, layout, size)?,
-        None => WavWriter::start_unknown(alloc, output, layout)?,
+        Some(size) => WavWriter::start(alloc, &mut output, layout, size)?,
+        None => WavWriter::start_unknown(alloc, &mut output, layout)?,
     };
     let outcome = convert_to_stream(alloc, flac, &mut wav, progress, errors);
     with_samples(wav.samples(), outcome)
@@ -274,7 +275,9 @@ fn status_of<E: Write>(
     info: &StreamInfo,
     outcome: result::Result<u32, Failure>,
     errors: &mut E,
-) -> u8 {
+) -> u8
+    ensures { result ≡ status_after info.now.samples outcome }
+{
     match outcome {
         Ok(found) => match info.samples {
             Some(known) if known != u64::from(found) => {

@@ -1,7 +1,11 @@
 //! The blocks of a stream, written to a WAV file.
-ghost use Rattle.std.specs.Prelude.{◌≡◌, false};
+ghost use Rattle.std.specs.Prelude.{◌≡◌, ◌≤◌, false, Some};
 ghost use Rattle.claxon.specs.FlacReader.{flac_metadata_only};
-ghost use Rattle.claxon_tools.specs.Convert.{ConvertIsSound, ConvertFaultIsSound, ConvertToStreamIsSound, PutBlocksIsSound, PutBlocksFaultIsSound};
+ghost use Rattle.claxon.specs.FrameReader.{frame_bytes, frame_stream, stream_with};
+ghost use Rattle.claxon.specs.State.{bytes_in};
+ghost use Rattle.claxon_tools.specs.Convert.{ConvertFaultIsComplete, ConvertFaultIsSound, ConvertIsComplete, ConvertIsSound, ConvertToStreamIsSound, PutBlocksFaultIsSound, PutBlocksIsSound};
+ghost use Rattle.claxon_tools.specs.Progress.{StaysQuiet};
+ghost use Rattle.claxon_tools.specs.Writer.{SameOutput};
 
 use crate::progress::Progress;
 use crate::wav::error::Result;
@@ -9,23 +13,33 @@ use crate::wav::writer::WavWriter;
 use claxon::FlacReader;
 use claxon::frame::FrameReader;
 use claxon::input::ReadBytes;
+use claxon::metadata::StreamInfo;
 use std::alloc::Global;
 use std::io::{Read, Seek, Write};
 
 /// Writes all samples of the stream, and finishes the file. After an error the samples before it are in a valid file too.
+///
+/// # Errors
+///
+/// The first one: the decoder's, or that of `WavWriter::put_block` or `WavWriter::finish`.
 pub fn convert<R: Read + Drop, W: Write + Seek, E: Write>(
     alloc: Global,
     flac: &mut FlacReader<R>,
-    wav: &mut WavWriter<W>,
+    wav: &mut WavWriter<'_, W>,
     progress: &mut Progress,
     errors: &mut E,
 ) -> Result<()>
     requires { flac_metadata_only flac.old ≡ false }
+    ensures same_reference { SameOutput wav.old wav.new }
     ensures ok { ConvertIsSound W.contents W.stream_position R.remaining
         flac.old result wav.old wav.new }
-    ensures err { ConvertFaultIsSound R.remaining flac.old result wav.old }
+    ensures err { ConvertFaultIsSound R.remaining result flac.old flac.new wav.old wav.new }
+    ensures complete { ConvertIsComplete R.remaining result flac.old flac.new wav.old wav.new }
+    ensures named { ConvertFaultIsComplete R.remaining result flac.old flac.new wav.old wav.new }
+    ensures quiet { StaysQuiet progress.old progress.new errors.old errors.new }
 {
-    let outcome = put_blocks(alloc, flac.blocks(), wav, progress, errors);
+    let info = flac.streaminfo();
+    let outcome = put_blocks(alloc, flac.input(), info, wav, progress, errors);
     let finished = wav.finish();
     outcome?;
     finished
@@ -33,38 +47,74 @@ pub fn convert<R: Read + Drop, W: Write + Seek, E: Write>(
 
 /// Writes all samples of the stream to an output that can't seek, after a header that stays as it is. After an error the
 /// samples before it are written too.
+///
+/// # Errors
+///
+/// The first one: the decoder's, or that of `WavWriter::put_block` or `WavWriter::finish_stream`.
 pub fn convert_to_stream<R: Read + Drop, W: Write, E: Write>(
     alloc: Global,
     flac: &mut FlacReader<R>,
-    wav: &mut WavWriter<W>,
+    wav: &mut WavWriter<'_, W>,
     progress: &mut Progress,
     errors: &mut E,
 ) -> Result<()>
     requires { flac_metadata_only flac.old ≡ false }
+    ensures same_reference { SameOutput wav.old wav.new }
     ensures ok { ConvertToStreamIsSound W.contents R.remaining flac.old result wav.old wav.new }
-    ensures err { ConvertFaultIsSound R.remaining flac.old result wav.old }
+    ensures err { ConvertFaultIsSound R.remaining result flac.old flac.new wav.old wav.new }
+    ensures complete { ConvertIsComplete R.remaining result flac.old flac.new wav.old wav.new }
+    ensures named { ConvertFaultIsComplete R.remaining result flac.old flac.new wav.old wav.new }
+    ensures quiet { StaysQuiet progress.old progress.new errors.old errors.new }
 {
-    let outcome = put_blocks(alloc, flac.blocks(), wav, progress, errors);
+    let info = flac.streaminfo();
+    let outcome = put_blocks(alloc, flac.input(), info, wav, progress, errors);
     let ended = wav.finish_stream();
     outcome?;
     ended
 }
 
-// Writes block after block up to the end of the stream. Each has samples, so the size of a WAV file bounds their number.
-fn put_blocks<R: ReadBytes + Drop, W: Write, E: Write>(
+// Writes block after block of the stream with this streaminfo.
+fn put_blocks<R: ReadBytes, W: Write, E: Write>(
     alloc: Global,
-    blocks: FrameReader<R>,
-    wav: &mut WavWriter<W>,
+    input: &mut R,
+    info: StreamInfo,
+    wav: &mut WavWriter<'_, W>,
     progress: &mut Progress,
     errors: &mut E,
 ) -> Result<()>
-    ensures ok { PutBlocksIsSound W.contents R.source blocks result wav.old wav.new }
-    ensures err { PutBlocksFaultIsSound R.source blocks result wav.old }
+    requires min_bits { 1 ≤ info.bits_per_sample }
+    requires max_bits { info.bits_per_sample ≤ 32 }
+    ensures same_reference { SameOutput wav.old wav.new }
+    ensures ok { PutBlocksIsSound W.contents (Some (stream_with info)) result
+        (bytes_in R.source input.old) (bytes_in R.source input.new) wav.old wav.new }
+    ensures err { PutBlocksFaultIsSound W.contents (Some (stream_with info)) result
+        (bytes_in R.source input.old) (bytes_in R.source input.new) wav.old wav.new }
+    ensures quiet { StaysQuiet progress.old progress.new errors.old errors.new }
 {
-    let mut reader = blocks;
+    let mut frames = FrameReader::with_streaminfo(input, info);
+    put_frames(alloc, &mut frames, wav, progress, errors)
+}
+
+// The same of a reader's frames. Each block has samples, so the size of a WAV file bounds their number.
+fn put_frames<R: ReadBytes, W: Write, E: Write>(
+    alloc: Global,
+    frames: &mut FrameReader<R>,
+    wav: &mut WavWriter<'_, W>,
+    progress: &mut Progress,
+    errors: &mut E,
+) -> Result<()>
+    ensures same_reference { SameOutput wav.old wav.new }
+    ensures loans { (frame_bytes R.source frames.new).source.loans
+        ≡ (frame_bytes R.source frames.old).source.loans }
+    ensures ok { PutBlocksIsSound W.contents (frame_stream frames.old) result
+        (frame_bytes R.source frames.old) (frame_bytes R.source frames.new) wav.old wav.new }
+    ensures err { PutBlocksFaultIsSound W.contents (frame_stream frames.old) result
+        (frame_bytes R.source frames.old) (frame_bytes R.source frames.new) wav.old wav.new }
+    ensures quiet { StaysQuiet progress.old progress.new errors.old errors.new }
+{
     let mut buffer = Vec::new(alloc);
     let mut done = 0u64;
-    while let Some(block) = reader.read_next_or_eof(buffer)? {
+    while let Some(block) = frames.read_next_or_eof(buffer)? {
         wav.put_block(&block)?;
         done = done.saturating_add(u64::from(block.duration()));
         progress.show(done, errors);

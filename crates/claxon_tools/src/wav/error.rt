@@ -1,6 +1,8 @@
 //! The errors of a conversion to a WAV file.
-ghost use Rattle.std.specs.Prelude.{◌≡◌};
+ghost use Rattle.std.specs.Prelude.{◌≡◌, IfErr};
+ghost use Rattle.claxon.specs.Error.{IsIo};
 ghost use Rattle.claxon.specs.Errors.TheVariants.{OutOfMemory};
+ghost use Rattle.claxon_tools.specs.WavError.{IsOutputResult};
 ghost use Rattle.claxon_tools.specs.declared.wav.error.Error.TheVariants.{Claxon, Output};
 
 use std::alloc::AllocError;
@@ -33,6 +35,18 @@ pub enum Error {
 
 /// A result of a conversion.
 pub type Result<T> = result::Result<T, Error>;
+
+// The result of a call of an output, whose error is `Output`.
+pub(crate) fn of_output<T>(answer: claxon::Result<T>) -> Result<T>
+    requires { IfErr answer IsIo }
+    ensures { IsOutputResult answer result }
+{
+    match answer {
+        Ok(value) => Ok(value),
+        Err(claxon::Error::IoError(cause)) => Err(Error::Output(cause)),
+        Err(error) => Err(Error::Claxon(error)),
+    }
+}
 
 impl fmt::Display for Error {
     fn fmt<W: fmt::Write>(&self, f: &mut fmt::Formatter<W>) -> fmt::Result {

@@ -2,17 +2,18 @@
 ghost use Rattle.std.specs.Prelude.{◌≡◌, ◌≤◌, IfErr};
 ghost use Rattle.claxon_tools.specs.DataSize.{max_data_size};
 
-use crate::wav::error::{Error, Result};
+use crate::wav::error::{Error, Result, of_output};
 use crate::wav::header::{Layout, MAX_DATA_SIZE};
 use crate::wav::samples::pack;
 use claxon::Block;
+use claxon_write::CountingWriter;
 use std::alloc::{Allocator, Global};
 use std::io::{Seek, SeekFrom, Write};
 
 /// A WAV file in an output, with the samples written so far.
 #[derive(Drop)]
-pub struct WavWriter<W> {
-    output: W,
+pub struct WavWriter<'w, W> {
+    output: CountingWriter<'w, W>,
     layout: Layout,
     // The number of bytes of samples that the header announces, and the number written.
     announced: u32,
@@ -25,26 +26,35 @@ pub struct WavWriter<W> {
     ghost written_fits: { written ≤ max_data_size },
 }
 
-impl<W: Write> WavWriter<W> {
-    ghost use Rattle.claxon_tools.specs.Writer.{BeginIsSound, FinishFaultIsSound, FinishStreamIsSound, IsMemoryOrOutput, PadIsSound, PutBlockFaultIsSound, PutBlockFits, PutBlockIsSound, SameHeader, StartIsSound, StartUnknownIsSound, samples_written};
+impl<'w, W: Write> WavWriter<'w, W> {
+    ghost use Rattle.claxon_tools.specs.Writer.{BeginIsSound, FewWritesFailed, FailsToPad, FinishFaultIsSound, FinishFlushes, FinishStreamIsSound, PadIsSound, PutBlockFaultIsSound, PutBlockFaultKeeps, PutBlockFits, PutBlockIsSound, SameHeader, SameOutput, StartFaultIsSound, StartIsSound, StartUnknownIsSound, Unflushed, samples_written};
 
-    /// Writes a header that announces this number of bytes of samples. If there are others, `finish` corrects it.
-    pub fn start(alloc: Global, output: W, layout: Layout, announced: u32) -> Result<WavWriter<W>>
-    where
-        W: Drop,
+    /// Borrows the output, and writes a header that announces this number of bytes of samples. If there are others, `finish`
+    /// corrects it.
+    pub fn start(
+        alloc: Global,
+        output: &'w mut W,
+        layout: Layout,
+        announced: u32,
+    ) -> Result<WavWriter<'w, W>>
         requires { announced ≤ max_data_size }
-        ensures { StartIsSound W.contents layout announced output result }
+        ensures ok { StartIsSound W.contents layout announced output.entry result }
+        ensures err { StartFaultIsSound result }
     {
         let mut header = Vec::new(alloc);
         layout.put_header(announced, &mut header)?;
         WavWriter::begin(alloc, output, layout, announced, header)
     }
 
-    /// Writes a header for samples of unknown number. It is never corrected: `finish_stream` ends the file.
-    pub fn start_unknown(alloc: Global, output: W, layout: Layout) -> Result<WavWriter<W>>
-    where
-        W: Drop,
-        ensures { StartUnknownIsSound W.contents layout output result }
+    /// Borrows the output, and writes a header for samples of unknown number. It is never corrected: `finish_stream` ends the
+    /// file.
+    pub fn start_unknown(
+        alloc: Global,
+        output: &'w mut W,
+        layout: Layout,
+    ) -> Result<WavWriter<'w, W>>
+        ensures ok { StartUnknownIsSound W.contents layout output.entry result }
+        ensures err { StartFaultIsSound result }
     {
         let mut header = Vec::new(alloc);
         layout.put_unknown_header(&mut header)?;
@@ -54,18 +64,17 @@ impl<W: Write> WavWriter<W> {
     // Writes a header.
     fn begin(
         alloc: Global,
-        output: W,
+        output: &'w mut W,
         layout: Layout,
         announced: u32,
         header: Vec<u8>,
-    ) -> Result<WavWriter<W>>
-    where
-        W: Drop,
+    ) -> Result<WavWriter<'w, W>>
         requires { announced ≤ max_data_size }
-        ensures { BeginIsSound W.contents header.items layout announced output result }
+        ensures ok { BeginIsSound W.contents header.items layout announced output.entry result }
+        ensures err { StartFaultIsSound result }
     {
-        let mut output = output;
-        output.write_all(header.as_slice())?;
+        let mut output = CountingWriter::new(output);
+        of_output(output.write_whole(header.as_slice()))?;
         Ok(WavWriter {
             output,
             layout,
@@ -78,11 +87,19 @@ impl<W: Write> WavWriter<W> {
     }
 
     /// Writes the samples of a block.
+    ///
+    /// # Errors
+    ///
+    /// `OtherChannels`, `WideSample`, `TooLong` or `OutOfMemory`, and then nothing was written. `Output` if a write fails, and
+    /// then a prefix of the block's bytes was written. The samples of the block aren't counted.
     pub fn put_block<A: Allocator>(&mut self, block: &Block<A>) -> Result<()>
+        ensures same_reference { SameOutput self.old self.new }
         ensures ok { PutBlockIsSound W.contents block.now result self.old self.new }
         ensures fits { PutBlockFits block.now result self.old }
         ensures err { PutBlockFaultIsSound block.now result self.old }
+        ensures kept { PutBlockFaultKeeps W.contents block.now result self.old self.new }
         ensures header { SameHeader self.old self.new }
+        ensures unflushed { Unflushed self.old self.new }
     {
         if block.channels() != self.layout.channels() {
             return Err(Error::OtherChannels);
@@ -94,7 +111,7 @@ impl<W: Write> WavWriter<W> {
         if size > free {
             return Err(Error::TooLong);
         }
-        self.output.write_all(self.bytes.as_slice())?;
+        of_output(self.output.write_whole(self.bytes.as_slice()))?;
         self.written += size as u32;
         Ok(())
     }
@@ -109,37 +126,44 @@ impl<W: Write> WavWriter<W> {
     /// Finishes the file of an output that can't seek, so the header stays as it is. Where it announced the bytes that were
     /// written, the pad byte is written.
     pub fn finish_stream(&mut self) -> Result<()>
+        ensures same_reference { SameOutput self.old self.new }
         ensures ok { FinishStreamIsSound W.contents result self.old self.new }
-        ensures err { FinishFaultIsSound result }
+        ensures flushes { FinishFlushes result self.old self.new }
+        ensures err { FinishFaultIsSound result self.old self.new }
+        ensures writes { FewWritesFailed self.old self.new }
     {
         if self.written == self.announced {
             self.pad()?;
         }
-        self.output.flush()?;
-        Ok(())
+        of_output(self.output.flush())
     }
 
     // The pad byte after an odd number of bytes.
     fn pad(&mut self) -> Result<()>
+        ensures same_reference { SameOutput self.old self.new }
         ensures bytes { PadIsSound W.contents result self.old self.new }
         ensures same { SameHeader self.old self.new }
         ensures count { self.new.written ≡ self.old.written }
-        ensures err { IfErr result IsMemoryOrOutput }
+        ensures err { IfErr result (FailsToPad self.old self.new) }
+        ensures unflushed { Unflushed self.old self.new }
     {
         if self.written % 2 == 1 {
-            self.output.write_all(&[0])?;
+            of_output(self.output.write_whole(&[0]))?;
         }
         Ok(())
     }
 }
 
-impl<W: Write + Seek> WavWriter<W> {
-    ghost use Rattle.claxon_tools.specs.Writer.{FinishFaultIsSound, FinishIsSound, IsMemoryOrOutput, UpdateHeaderIsSound};
+impl<'w, W: Write + Seek> WavWriter<'w, W> {
+    ghost use Rattle.claxon_tools.specs.Writer.{FewWritesFailed, FinishFaultIsSound, FinishFlushes, FinishIsSound, SameOutput, UpdateFaultIsSound, UpdateHeaderIsSound};
 
     /// Finishes the file with the samples written so far. There is no seek if the header was right.
     pub fn finish(&mut self) -> Result<()>
+        ensures same_reference { SameOutput self.old self.new }
         ensures ok { FinishIsSound W.contents W.stream_position result self.old self.new }
-        ensures err { FinishFaultIsSound result }
+        ensures flushes { FinishFlushes result self.old self.new }
+        ensures err { FinishFaultIsSound result self.old self.new }
+        ensures writes { FewWritesFailed self.old self.new }
     {
         let padded = self.pad();
         let updated = self.update_header();
@@ -148,16 +172,17 @@ impl<W: Write + Seek> WavWriter<W> {
     }
 
     fn update_header(&mut self) -> Result<()>
+        ensures same_reference { SameOutput self.old self.new }
         ensures ok { UpdateHeaderIsSound W.contents W.stream_position result self.old self.new }
-        ensures err { IfErr result IsMemoryOrOutput }
+        ensures flushes { FinishFlushes result self.old self.new }
+        ensures err { UpdateFaultIsSound result self.old self.new }
     {
         if self.written != self.announced {
             self.layout.put_header(self.written, &mut self.header)?;
-            self.output.seek(SeekFrom::Start(0))?;
-            self.output.write_all(self.header.as_slice())?;
+            of_output(self.output.seek(SeekFrom::Start(0)))?;
+            of_output(self.output.write_whole(self.header.as_slice()))?;
             self.announced = self.written;
         }
-        self.output.flush()?;
-        Ok(())
+        of_output(self.output.flush())
     }
 }
