@@ -6,6 +6,7 @@ use crate::commands::owned;
 use crate::doubles::sinks::Sink;
 use crate::files::{file_of, path_of};
 use claxon::FlacReader;
+use claxon::frame::FrameReader;
 use claxon_tools::commands::wav::command;
 use claxon_tools::progress::Progress;
 use claxon_tools::wav::{Layout, Result, WavWriter, convert};
@@ -33,7 +34,7 @@ const FIRST_BLOCK: &[u8] =
 fn fills<R: Read + Drop, W: Write + Seek>(
     alloc: Global,
     flac: &mut FlacReader<R>,
-    wav: &mut WavWriter<W>,
+    wav: &mut WavWriter<'_, W>,
     errors: &mut Vec<u8>,
 ) -> bool
     requires { flac_metadata_only flac.old ≡ false }
@@ -57,7 +58,8 @@ fn is_converted(
     }
     let info = flac.streaminfo();
     let layout = Layout::new(info.channels, info.bits_per_sample, info.sample_rate, None);
-    let mut wav = WavWriter::start(alloc, Cursor::new(bytes), layout, 1)?;
+    let mut output = Cursor::new(bytes);
+    let mut wav = WavWriter::start(alloc, &mut output, layout, 1)?;
     Ok(fills(alloc, &mut flac, &mut wav, errors))
 }
 
@@ -83,6 +85,60 @@ fn in_memory(rt: HostRuntime) -> result::Result<(), Fail> {
             gives(rt.alloc(), &stream[..len], is_whole, want, shown)?,
             "{len} {last}"
         );
+    }
+    Ok(())
+}
+
+// The text of the error of STREAM's first block, whose samples are 1, -2 and 3, in a file of this layout; and the number of
+// samples that are counted after it.
+fn first_block_into(alloc: Global, layout: Layout, output: &mut Sink) -> Result<(String, u32)> {
+    let mut wav = WavWriter::start(alloc, output, layout, 3)?;
+    let mut text = String::new(alloc);
+    if let Some(block) = FrameReader::new(Cursor::new(&STREAM[42..])).read_next_or_eof(Vec::new(
+        alloc,
+    ))?
+        && let Err(error) = wav.put_block(&block)
+    {
+        text = format!(in alloc; "{error}")?;
+    }
+    Ok((text, wav.samples()))
+}
+
+// Layouts of other channels and of fewer bits: only the header was written.
+#[test]
+fn blocks_that_do_not_fit(rt: HostRuntime) -> result::Result<(), Fail> {
+    let rows = [
+        (
+            Layout::new(2, 8, 44100, None),
+            44,
+            "the number of channels changes within the stream",
+        ),
+        (
+            Layout::new(1, 2, 44100, None),
+            68,
+            "a sample has more bits than the streaminfo says",
+        ),
+    ];
+    for (layout, len, want) in rows {
+        let mut output = Sink::new(2, 99, false, ErrorKind::StorageFull);
+        let (text, samples) = first_block_into(rt.alloc(), layout, &mut output)?;
+        assert!(rt; text.as_str() == want && samples == 0, "{want}");
+        assert!(rt; output.written().len() == len, "{want}");
+    }
+    Ok(())
+}
+
+// The output takes two bytes at each write, 44 of them for the header. After a failed write a prefix of the block's bytes is
+// there, and none of its samples is counted.
+#[test]
+fn failed_writes_of_a_block(rt: HostRuntime) -> result::Result<(), Fail> {
+    let full = "no storage space";
+    for (writes, len, want, count) in [(22, 44, full, 0), (23, 46, full, 0), (24, 47, "", 3)] {
+        let mut output = Sink::new(2, writes, false, ErrorKind::StorageFull);
+        let layout = Layout::new(1, 8, 44100, None);
+        let (text, samples) = first_block_into(rt.alloc(), layout, &mut output)?;
+        assert!(rt; text.as_str() == want && samples == count, "{writes}");
+        assert!(rt; output.written() == front(FIRST_BLOCK, len), "{writes}");
     }
     Ok(())
 }
@@ -288,6 +344,26 @@ const DEEP: &str =
     "standard input: Ill-formed FLAC stream: invalid frame header, encountered reserved value
 standard input: 32-bit samples are not supported
 ";
+
+// The flush fails, after all was written.
+#[test]
+fn a_failed_flush(rt: HostRuntime) -> result::Result<(), Fail> {
+    let words = owned(rt.alloc(), &["-"])?;
+    let stream = with_samples(5);
+    let mut output = Sink::new(64, 9, true, ErrorKind::StorageFull);
+    let mut errors = Vec::new(rt.alloc());
+    let status = command(
+        &rt,
+        &words,
+        stream.as_slice(),
+        &mut output,
+        false,
+        &mut errors,
+    );
+    assert!(rt; status == 1 && output.written() == WHOLE && output.flushes() == 1);
+    assert!(rt; errors.as_slice() == b"standard output: no storage space\n".as_slice());
+    Ok(())
+}
 
 // The output fails at each write.
 #[test]

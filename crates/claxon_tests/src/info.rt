@@ -113,26 +113,29 @@ fn several_files(rt: HostRuntime) -> Result<(), Fail> {
 }
 
 // Whether this text is lost, and nothing more is said or read.
-fn is_lost(rt: &HostRuntime, words: &[&str], most: usize, writes: u32) -> Result<bool, Fail> {
+fn is_lost(rt: &HostRuntime, words: &[&str], writes: u32, fails: bool) -> Result<bool, Fail> {
     let words = owned(rt.alloc(), words)?;
-    let mut output = Sink::new(most, writes, false, ErrorKind::BrokenPipe);
+    let mut output = Sink::new(2, writes, fails, ErrorKind::BrokenPipe);
     let mut errors = Vec::new(rt.alloc());
     let stream = joined(rt.alloc(), &[&head(0x80), &FRAME])?;
     let status = command(rt, &words, stream.as_slice(), &mut output, &mut errors);
     Ok(status == 1 && errors.as_slice() == b"standard output: broken pipe\n".as_slice())
 }
 
+// A write fails, or the flush.
 #[test]
 fn lost_output(rt: HostRuntime) -> Result<(), Fail> {
-    let rows: [(&[&str], u32); 5] = [
-        (&["-"], 0),
-        (&["-"], 3),
-        (&["-", "-", "none"], 0),
-        (&["--help"], 1),
-        (&["--version"], 0),
+    let rows: [(&[&str], u32, bool); 7] = [
+        (&["-"], 0, false),
+        (&["-"], 3, false),
+        (&["-"], 999, true),
+        (&["-", "-", "none"], 0, false),
+        (&["--help"], 1, false),
+        (&["--version"], 0, false),
+        (&["--version"], 999, true),
     ];
-    for (words, writes) in rows {
-        assert!(rt; is_lost(&rt, words, 2, writes)?, "{words:?}");
+    for (words, writes, fails_at_flush) in rows {
+        assert!(rt; is_lost(&rt, words, writes, fails_at_flush)?, "{words:?}");
     }
     Ok(())
 }

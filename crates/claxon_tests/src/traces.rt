@@ -100,21 +100,23 @@ fn command_lines(rt: HostRuntime) -> Result<(), Fail> {
 }
 
 // Whether a command line only says that the output failed.
-fn is_lost(rt: &HostRuntime, words: &[&str], writes: u32) -> Result<bool, Fail> {
+fn is_lost(rt: &HostRuntime, words: &[&str], writes: u32, fails: bool) -> Result<bool, Fail> {
     let words = owned(rt.alloc(), words)?;
     let input = bytes_of(rt.alloc(), Given::Garbage)?;
-    let mut output = Sink::new(8, writes, false, ErrorKind::BrokenPipe);
+    let mut output = Sink::new(8, writes, fails, ErrorKind::BrokenPipe);
     let mut errors = Vec::new(rt.alloc());
     let status = command(rt, &words, input.as_slice(), &mut output, &mut errors);
     Ok(status == 1 && errors.as_slice() == b"standard output: broken pipe\n".as_slice())
 }
 
+// A write fails, or the flush.
 #[test]
 fn lost_output(rt: HostRuntime) -> Result<(), Fail> {
     for writes in [0, 1, 3] {
-        assert!(rt; is_lost(&rt, &["-"], writes)?, "{writes}");
-        assert!(rt; is_lost(&rt, &["--brief", "-"], writes)?, "{writes}");
-        assert!(rt; is_lost(&rt, &["--help"], writes)?, "{writes}");
+        assert!(rt; is_lost(&rt, &["-"], writes, false)?, "{writes}");
+        assert!(rt; is_lost(&rt, &["--brief", "-"], writes, false)?, "{writes}");
+        assert!(rt; is_lost(&rt, &["--help"], writes, false)?, "{writes}");
     }
+    assert!(rt; is_lost(&rt, &["-"], 999, true)? && is_lost(&rt, &["--version"], 999, true)?);
     Ok(())
 }

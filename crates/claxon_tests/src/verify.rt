@@ -214,7 +214,11 @@ fn several_files(rt: HostRuntime) -> Result<(), Fail> {
 #[test]
 fn lost_output(rt: HostRuntime) -> Result<(), Fail> {
     let bytes = damaged([false; 2]);
-    let rows: [(&[&str], u32, bool); 2] = [(&["-", "-"], 0, false), (&["--version"], 9, true)];
+    let rows: [(&[&str], u32, bool); 3] = [
+        (&["-", "-"], 0, false),
+        (&["-", "-"], 9, true),
+        (&["--version"], 9, true),
+    ];
     for (words, writes_left, fails_at_flush) in rows {
         let words = owned(rt.alloc(), words)?;
         let mut output = Sink::new(64, writes_left, fails_at_flush, ErrorKind::StorageFull);

@@ -4,25 +4,25 @@ ghost use Rattle.std.specs.Prelude.{◌≤◌};
 use std::io;
 use std::io::{ErrorKind, Write};
 
-/// A writer for up to 32 bytes. It takes a limited number of bytes per call, and fails from some write on, and perhaps at each
+/// A writer for up to 512 bytes. It takes a limited number of bytes per call, and fails from some write on, and perhaps at each
 /// flush.
 #[derive(Drop)]
 pub struct Sink {
-    bytes: [u8; 32],
+    bytes: [u8; 512],
     used: usize,
     most: usize,
     writes_left: u32,
     fails_at_flush: bool,
     kind: ErrorKind,
     flushes: u32,
-    ghost in_bounds: { used ≤ 32 },
+    ghost in_bounds: { used ≤ 512 },
 }
 
 impl Sink {
     /// Takes at most `most` bytes per write, and `writes_left` writes before one fails. Failures are of this kind.
     pub const fn new(most: usize, writes_left: u32, fails_at_flush: bool, kind: ErrorKind) -> Sink {
         Sink {
-            bytes: [0; 32],
+            bytes: [0; 512],
             used: 0,
             most,
             writes_left,
@@ -49,7 +49,7 @@ impl Write for Sink {
             return Err(io::Error::from(self.kind));
         }
         self.writes_left -= 1;
-        let count = buf.len().min(self.most).min(32 - self.used);
+        let count = buf.len().min(self.most).min(512 - self.used);
         self.bytes[self.used..self.used + count].copy_from_slice(&buf[..count]);
         self.used += count;
         Ok(count)
