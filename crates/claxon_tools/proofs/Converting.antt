@@ -11,15 +11,13 @@ use Rattle.std.proofs.lemmas.List.{drop_at, get_or_push, length-take, take_at}
 use Rattle.std.specs.Int.{to_le_bytes}
 use Rattle.claxon.specs.Bits.{FitsIn}
 use Rattle.claxon.specs.Fault.{Fault}
-use Rattle.claxon.specs.Frame.{Block, FrameBytesFault, Frames, IsWidth, NoFrameLeft, StreamFormat, known_width}
+use Rattle.claxon.specs.Frame.{Block, Frames, IsWidth, NoFrameLeft, StreamFormat, known_width}
 use Rattle.claxon.specs.Streams.{interleave}
 use Rattle.claxon.specs.Block.{BlockValue, duration_of}
-use Rattle.claxon.specs.Error.{IsFault, IsIo}
 use Rattle.claxon.specs.Errors.{Error as Cause}
 use Rattle.claxon.specs.Errors.TheVariants.{OutOfMemory}
 use Rattle.claxon.specs.FrameReader.{FrameAnswer, ReadsFrame, block_view, stream_with}
 use Rattle.claxon.specs.Gives.{Consumes, FailedIn}
-use Rattle.claxon.specs.Promises.{Remains}
 use Rattle.claxon.specs.Promises.{IsExcused as ReadIsExcused}
 use Rattle.claxon.specs.SampleRuns.{ConsumesFrames, samples_of}
 use Rattle.claxon.specs.Source.{Source}

@@ -1,6 +1,6 @@
 -- The clauses of the methods of `WavWriter`.
 use Rattle.std.specs.Borrow.{MutBor}
-use Rattle.std.specs.Prelude.{All, ◌≡◌, ◌≢◌, ◌⊎◌, ◌==◌, ◌<◌, ℕ, ◌+◌, ◌/◌, ◌%◌, ◌^◌, List, [], cond, length, Option, Some, Result, IfErr, IfOk, IfSome, IsErrAnd, OnOk}
+use Rattle.std.specs.Prelude.{All, ◌≡◌, ◌≢◌, ◌⊎◌, ◌==◌, ◌<◌, ℕ, ◌+◌, ◌/◌, ◌%◌, ◌^◌, List, [], cond, length, Option, Some, Result, IfErr, IfOk, IfSome, OnOk}
 use Rattle.std.specs.Io.KnownBytes.{Appends, Keeps}
 use Rattle.claxon.specs.Bits.{FitsIn}
 use Rattle.claxon.specs.Streams.{interleave}

@@ -135,7 +135,8 @@ impl<'w, W: Write> WavWriter<'w, W> {
         if self.written == self.announced {
             self.pad()?;
         }
-        of_output(self.output.flush())
+        let flushed = self.output.flush();
+        of_output(flushed)
     }
 
     // The pad byte after an odd number of bytes.

@@ -1,5 +1,5 @@
 use Rattle.std.proofs.lemmas.Bool.{false≢true}
-use Rattle.std.proofs.Common.{sym, inl, inr, ◌+◌, ◌%◌, ◌^◌, ℕ, ap, length, refl, ◌∙◌, zero-add}
+use Rattle.std.proofs.Common.{sym, inl, inr, ◌+◌, ◌%◌, ◌^◌, ℕ, ap, length, ◌∙◌, zero-add}
 use Rattle.std.proofs.lemmas.Result.{err_from_is_err_and}
 use Rattle.claxon_tools.specs.Verify.{counted_bytes, position_of}
 use Rattle.claxon_tools.proofs.Counting.{position_modulo}

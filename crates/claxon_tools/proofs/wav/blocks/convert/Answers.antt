@@ -1,4 +1,4 @@
-use Rattle.std.proofs.Common.{◌≡◌, None, Ok, Option, Some, inr, subst}
+use Rattle.std.proofs.Common.{None, Ok, Option, Some, inr, subst}
 use Rattle.std.proofs.lemmas.Result.{err_from_is_err_and}
 use Rattle.claxon.specs.BufferedReader.{buffered_source}
 use Rattle.claxon.specs.Frame.{IsWidth, StreamFormat, known_width}
