@@ -1,9 +1,8 @@
 -- The end of a file: the pad byte, and the right header.
-use Rattle.std.proofs.Common.{◌≡◌, ◌⊎◌, inl, inr, ℕ, List, Option, None, Some, ap, refl, subst, sym, ◌∙◌}
+use Rattle.std.proofs.Common.{◌≡◌, ◌⊎◌, inl, inr, ℕ, List, Option, None, Some, refl, subst, sym, ◌∙◌}
 use Rattle.std.specs.Prelude.{IfErr, IfSome, IsErrAnd, OnErr, OnOk, Result, Ok, Err}
 use Rattle.std.specs.Io.KnownBytes.{Appends}
-use Rattle.std.specs.Io.Seek.{SeekMoves}
-use Rattle.std.specs.declared.io.traits.SeekFrom.TheVariants.{Start}
+use Rattle.std.specs.Io.Seek.{MovesTo}
 use Rattle.std.proofs.KnownBytes.{Appends-kept}
 use Rattle.claxon.specs.Errors.{Error as Cause}
 use Rattle.claxon_write.specs.CountingWriter.{CountsFailedFlush, CountsFailedSeek, CountsFailedWrite, CountsFlush, CountsNoFailure, CountsNoFlush}
@@ -45,10 +44,10 @@ module _ {A : Type 0} where
     flush_fails (Err e) h f = let k = output_failed answer (Err e) e h refl f in inr (k.0, inr (inl (flush_failed_after none k.1)))
 
 -- a seek to the start
-pub at_start : (old new : Option ℕ) (bytes : Option (List ℕ)) (answer : Result ℕ Cause) (r : Result ℕ Error) (n : ℕ) → IsOutputResult answer r → r ≡ Ok n → SeekMoves old new bytes (Start 0) answer → IfSome old (λ _. new ≡ Some 0)
-at_start None new bytes answer r n h is m = tt
-at_start (Some at) new bytes (Ok k) r n h is m = m.1 ∙ ap (λ (z : ℕ). Some z) m.0
-at_start (Some at) new bytes (Err cause) r n h is m = absurd (subst (λ (z : Result ℕ Error). IsErrAnd z IsOutput) is h)
+pub at_start : {A : Type 0} (old new : Option ℕ) (answer : Result A Cause) (r : Result A Error) (value : A) → IsOutputResult answer r → r ≡ Ok value → MovesTo old new 0 answer → IfSome old (λ _. new ≡ Some 0)
+at_start None new answer r value h is m = tt
+at_start (Some at) new (Ok moved) r value h is m = m
+at_start {A} (Some at) new (Err cause) r value h is m = absurd (subst (λ (z : Result A Error). IsErrAnd z IsOutput) is h)
 
 -- ---- the end of a file
 

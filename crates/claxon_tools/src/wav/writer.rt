@@ -8,7 +8,7 @@ use crate::wav::samples::pack;
 use claxon::Block;
 use claxon_write::CountingWriter;
 use std::alloc::{Allocator, Global};
-use std::io::{Seek, SeekFrom, Write};
+use std::io::{Seek, Write};
 
 /// A WAV file in an output, with the samples written so far.
 #[derive(Drop)]
@@ -180,7 +180,7 @@ impl<'w, W: Write + Seek> WavWriter<'w, W> {
     {
         if self.written != self.announced {
             self.layout.put_header(self.written, &mut self.header)?;
-            of_output(self.output.seek(SeekFrom::Start(0)))?;
+            of_output(self.output.rewind())?;
             of_output(self.output.write_whole(self.header.as_slice()))?;
             self.announced = self.written;
         }

@@ -14,13 +14,13 @@ use Rattle.claxon_tools.proofs.wav.writer.WavWriter.update_header.Goals as goal
 pub returns-in_err-of_output-clause-err : goal.returns-in_err-of_output-clause-err
 returns-in_err-of_output-clause-err g c =
     let p = err_from_is_err_and c.from_residual-in_err-of_output.result c.from_residual-in_err-of_output.ensures.1 in
-    let k = output_failed c.seek.result c.of_output.result c.in_err-of_output.field-0.0 c.of_output.ensures c.in_err-of_output.was c.seek.ensures.failed in
+    let k = output_failed c.rewind.result c.of_output.result c.in_err-of_output.field-0.0 c.of_output.ensures c.in_err-of_output.was c.rewind.ensures.failed in
     rw (p.1, p.2) (inr (k.0, inr (inr k.1)))
 
 pub returns-in_err-of_output-2-clause-err : goal.returns-in_err-of_output-2-clause-err
 returns-in_err-of_output-2-clause-err g c =
     let p = err_from_is_err_and c.from_residual-in_err-of_output-2.result c.from_residual-in_err-of_output-2.ensures.1 in
-    let moved = output_succeeded c.seek.result c.of_output.result c.in_ok-of_output.field-0 c.of_output.ensures c.in_ok-of_output.was c.seek.ensures.succeeded in
+    let moved = output_succeeded c.rewind.result c.of_output.result c.in_ok-of_output.field-0 c.of_output.ensures c.in_ok-of_output.was c.rewind.ensures.succeeded in
     let k = output_failed c.write_whole.result c.of_output-then-self.result c.in_err-of_output-2.field-0.0 c.of_output-then-self.ensures c.in_err-of_output-2.was c.write_whole.ensures.failed in
     rw (p.1, p.2) (inr (k.0, inl (write_failed_after moved k.1)))
 
@@ -29,9 +29,9 @@ none_before : (g : Over) (c : goal.After-of_output-2 g) → CountsNoFailure c.ar
 none_before g c = elim c.if-self.branch [
   | then-self+in_ok-put_header+in_ok-of_output+in_ok-of_output-2 w ↦ (
       let output : c.if-self.self.1.0 ≡ w.write_whole.new.self = rw w.self-is refl in
-      let moved = output_succeeded w.seek.result w.of_output.result w.in_ok-of_output.field-0 w.of_output.ensures w.in_ok-of_output.was w.seek.ensures.succeeded in
+      let moved = output_succeeded w.rewind.result w.of_output.result w.in_ok-of_output.field-0 w.of_output.ensures w.in_ok-of_output.was w.rewind.ensures.succeeded in
       let written = output_succeeded w.write_whole.result w.of_output-then-self.result w.in_ok-of_output-2.field-0 w.of_output-then-self.ensures w.in_ok-of_output-2.was w.write_whole.ensures.succeeded in
-      rw output (none_failed_both moved written, w.write_whole.ensures.unflushed ∙ w.seek.ensures.unflushed.none)
+      rw output (none_failed_both moved written, w.write_whole.ensures.unflushed ∙ w.rewind.ensures.unflushed.none)
       )
   | else-self w ↦ (let output : c.if-self.self.1.0 ≡ c.args.self.now.output = rw w.self-is refl in rw output (none_failed c.args.self.now.output, refl))
 ]
@@ -56,7 +56,7 @@ returns-clause-ok g c =
           let written = output_succeeded w.write_whole.result w.of_output-then-self.result w.in_ok-of_output-2.field-0 w.of_output-then-self.ensures w.in_ok-of_output-2.was w.write_whole.ensures.ok in (
             record {
               right = λ e. absurd (w.if-self.true (sym e));
-              wrong = λ differ. record { header = w.put_header.new.bytes.items; is_header = w.in_ok-put_header.ensures; start = w.seek.new.self; at_start = at_start _ _ (g.W.Seek.stream_bytes c.args.self.now.output.inner.now) w.seek.result w.of_output.result w.in_ok-of_output.field-0 w.of_output.ensures w.in_ok-of_output.was w.seek.ensures.moves; written = subst (λ (z : List ℕ). Appends (inner_contents contents w.seek.new.self) (inner_contents contents c.flush.new.self) z) bytes (Appends-kept _ _ _ _ written kept) };
+              wrong = λ differ. record { header = w.put_header.new.bytes.items; is_header = w.in_ok-put_header.ensures; start = w.rewind.new.self; at_start = at_start _ _ w.rewind.result w.of_output.result w.in_ok-of_output.field-0 w.of_output.ensures w.in_ok-of_output.was w.rewind.ensures.moves; written = subst (λ (z : List ℕ). Appends (inner_contents contents w.rewind.new.self) (inner_contents contents c.flush.new.self) z) bytes (Appends-kept _ _ _ _ written kept) };
             },
             record { announced_is = announced; written_is = refl; layout_is = layout },
           )
