@@ -2,7 +2,7 @@
 ghost use Rattle.std.specs.Prelude.{◌≡◌, ◌≤◌, IfOk, IfSome, false};
 ghost use Rattle.claxon.specs.FlacReader.{flac_metadata_only};
 ghost use Rattle.claxon_tools.specs.DataSize.{max_data_size};
-ghost use Rattle.claxon_tools.specs.WavCommand.{status_after};
+ghost use Rattle.claxon_tools.specs.WavCommand.{IsAnnounced, status_after};
 
 use crate::arguments::{Argument, Arguments, Notice};
 use crate::program::{Part, Program, STANDARD, open_input, report, report_frame, report_text};
@@ -204,7 +204,8 @@ fn write_wav<Q: Files + AllocGlobal, R: Read + Drop, W: Write + Drop, E: Write>(
 
 // The number of bytes of the samples that the streaminfo tells.
 fn announced_size(layout: &Layout, info: &StreamInfo) -> Result<Option<u32>>
-    ensures { IfOk result (λ size. IfSome size (λ n. n ≤ max_data_size)) }
+    ensures announced { IsAnnounced layout.now info.now.samples result }
+    ensures fits { IfOk result (λ size. IfSome size (λ n. n ≤ max_data_size)) }
 {
     match info.samples {
         Some(samples) => match layout.data_size(samples) {
