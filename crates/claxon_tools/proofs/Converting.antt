@@ -18,7 +18,7 @@ use Rattle.claxon.specs.Errors.{Error as Cause}
 use Rattle.claxon.specs.Errors.TheVariants.{OutOfMemory}
 use Rattle.claxon.specs.FrameReader.{FrameAnswer, ReadsFrame, block_view, stream_with}
 use Rattle.claxon.specs.Gives.{Consumes, FailedIn}
-use Rattle.claxon.specs.Promises.{IsExcused as ReadIsExcused}
+use Rattle.claxon.specs.Promises.{IsExcused}
 use Rattle.claxon.specs.SampleRuns.{ConsumesFrames, samples_of}
 use Rattle.claxon.specs.Source.{Source}
 use Rattle.claxon.specs.State.{State, RemainingIsKnown, bytes_in}
@@ -29,7 +29,7 @@ use Rattle.claxon.proofs.Streams.{length-interleave}
 use Rattle.claxon_write.proofs.Borrowed.{lent, runs_through, takes_through}
 use Rattle.claxon_write.proofs.Counts.{flushed_after, none_failed, none_failed_both}
 use Rattle.claxon_tools.proofs.BlockReads.{block_io}
-use Rattle.claxon_tools.specs.Convert.{CanBeConverted, CanBeConvertedTo, CanBePut, Converts, ConvertsToStream, ExplainsError, HoldsFile, HoldsUnknown, IsExcused, IsWholeStream, OutputHasFailed, PutBlocksFaultIsSound, PutBlocksIsSound, PutsBlocks, PutsSamples, StopsAtBlock, StopsPutting, WriteHasFailed, packed_blocks}
+use Rattle.claxon_tools.specs.Convert.{CanBeConverted, CanBeConvertedTo, CanBePut, Converts, ConvertsToStream, ExplainsError, HoldsFile, HoldsUnknown, ConvertIsExcused, IsWholeStream, OutputHasFailed, PutBlocksFaultIsSound, PutBlocksIsSound, PutsBlocks, PutsSamples, StopsAtBlock, StopsPutting, OutputWriteHasFailed, packed_blocks}
 use Rattle.claxon_tools.specs.Samples.{bytes_of_sample, packed_block, packed_samples, shifted_sample, silence}
 use Rattle.claxon_tools.specs.WavError.{IsInput, IsMemory, IsOutput, NamesFault}
 use Rattle.claxon_tools.specs.WaveFile.{pad, sample_size, unknown_header}
@@ -245,14 +245,14 @@ end_explained stream a b x y z (Err Exists) none f = elim f [ inl m ↦ m | inr 
 -- ---- completeness
 
 -- an excuse of the decoder
-as_excused : {A : Type 0} (a b : State ℕ) (e : Error) (cause : Cause) → e ≡ Claxon cause → ReadIsExcused (let r : Result A Cause = Err cause in r) a b → IsExcused (Err e) a b
+as_excused : {A : Type 0} (a b : State ℕ) (e : Error) (cause : Cause) → e ≡ Claxon cause → IsExcused (let r : Result A Cause = Err cause in r) a b → ConvertIsExcused (Err e) a b
 as_excused a b e cause is (inl m) = inl (let k : cause ≡ OutOfMemory = cc in subst IsMemory (sym is) k)
 as_excused a b e cause is (inr f) = inr (subst IsInput (sym is) f.0, f.1)
 
 module _ (stream : Option StreamFormat) (width : IsWidth (known_width stream)) {W : Type 0} {contents : W → Option (List ℕ)} {a b : State ℕ} {x y : WavWriter W} (z : WavWriter W) (few : FewWritesFailed y z) where
   module _ (blocks : List Block) (m : List ℕ) (known : RemainingIsKnown a) (f : Frames stream a.remaining blocks m) (none : NoFrameLeft stream m) (can : CanBePut blocks x) where
     -- a block that can be written is written, or memory was refused or a write failed
-    block_excused : (e : Error) → StopsAtBlock contents stream e a b x y → IsErrAnd (let r : Result (Unit {0}) Error = Err e in r) IsMemory ⊎ WriteHasFailed (Err e) x z
+    block_excused : (e : Error) → StopsAtBlock contents stream e a b x y → IsErrAnd (let r : Result (Unit {0}) Error = Err e in r) IsMemory ⊎ OutputWriteHasFailed (Err e) x z
     block_excused e h = go e h.explains (λ is. block_write_failed z e h is few)
       where
         all : List Block
@@ -280,7 +280,7 @@ module _ (stream : Option StreamFormat) (width : IsWidth (known_width stream)) {
             ∙ ap length (flat_map-append (bytes_of_sample (sample_size valid_bits) valid_bits) (samples_of all) (samples_of left.0)) ∙ length-append (packed_blocks valid_bits all) (packed_blocks valid_bits left.0) in
             omega (arith, over, first, ap length (packed_more valid_bits h.blocks h.block), whole, can.size, h.puts.written_is)
 
-        go : (e : Error) → ExplainsBlockError h.block h.put e → (IsOutput e → WritesFailed x z) → IsErrAnd (let r : Result (Unit {0}) Error = Err e in r) IsMemory ⊎ WriteHasFailed (Err e) x z
+        go : (e : Error) → ExplainsBlockError h.block h.put e → (IsOutput e → WritesFailed x z) → IsErrAnd (let r : Result (Unit {0}) Error = Err e in r) IsMemory ⊎ OutputWriteHasFailed (Err e) x z
         go (Claxon cause) s w = elim s [ inl m ↦ inl m | inr k ↦ absurd k ]
         go (Output cause) s w = inr (tt, w tt)
         go TooLong s w = absurd (size s)
@@ -290,7 +290,7 @@ module _ (stream : Option StreamFormat) (width : IsWidth (known_width stream)) {
         go Exists s w = elim s [ inl m ↦ absurd m | inr k ↦ absurd k ]
 
   -- a stream that can be converted doesn't stop early without an excuse
-  pub stop_complete : (e : Error) → StopsPutting contents stream e a b x y → CanBeConverted stream a x → IsExcused (Err e) a b ⊎ OutputHasFailed (Err e) x z
+  pub stop_complete : (e : Error) → StopsPutting contents stream e a b x y → CanBeConverted stream a x → ConvertIsExcused (Err e) a b ⊎ OutputHasFailed (Err e) x z
   stop_complete e (inr h) can = elim (block_excused can.blocks can.rest can.known can.frames (short_no_frame stream can.rest can.eof) can.can e h) [ inl m ↦ inl (inl m) | inr w ↦ inr (w.0, inl w.1) ]
   stop_complete e (inl h) can = let reads = h.2.reads in elim (all_frames_read stream width (Some h.0) h.2.blocks can.blocks can.rest reads can.known can.frames (short_no_frame stream can.rest can.eof)) [
     | inr k ↦ inl (as_excused a b e h.0 h.1 k)
@@ -301,7 +301,7 @@ module _ (stream : Option StreamFormat) (width : IsWidth (known_width stream)) {
   ]
 
   -- a fault there is named
-  pub stop_named : (f : Fault) (e : Error) → StopsPutting contents stream e a b x y → CanBeConvertedTo stream a f x → IsErrAnd (let r : Result (Unit {0}) Error = Err e in r) (NamesFault f) ⊎ (IsExcused (Err e) a b ⊎ WriteHasFailed (Err e) x z)
+  pub stop_named : (f : Fault) (e : Error) → StopsPutting contents stream e a b x y → CanBeConvertedTo stream a f x → IsErrAnd (let r : Result (Unit {0}) Error = Err e in r) (NamesFault f) ⊎ (ConvertIsExcused (Err e) a b ⊎ OutputWriteHasFailed (Err e) x z)
   stop_named f e (inr h) can = elim (block_excused can.blocks (can.fault ++ can.rest) can.known can.frames (fault_no_frame stream width f (can.fault ++ can.rest) can.fault can.rest can.bad refl) can.can e h) [ inl m ↦ inr (inl (inl m)) | inr w ↦ inr (inr w) ]
   stop_named f e (inl h) can = let reads = h.2.reads in elim (all_frames_read stream width (Some h.0) h.2.blocks can.blocks (can.fault ++ can.rest) reads can.known can.frames (fault_no_frame stream width f (can.fault ++ can.rest) can.fault can.rest can.bad refl)) [
     | inr k ↦ inr (inl (as_excused a b e h.0 h.1 k))
@@ -312,12 +312,12 @@ module _ (stream : Option StreamFormat) (width : IsWidth (known_width stream)) {
   ]
 
 -- all blocks were written: the file is finished, or memory was refused or the output failed
-pub end_complete : {W : Type 0} (a b : State ℕ) (x y z : WavWriter W) (r : Result (Unit {0}) Error) → NoneFailed x y → FinishFaultIsSound r y z → IsOk r ⊎ (IsExcused r a b ⊎ OutputHasFailed r x z)
+pub end_complete : {W : Type 0} (a b : State ℕ) (x y z : WavWriter W) (r : Result (Unit {0}) Error) → NoneFailed x y → FinishFaultIsSound r y z → IsOk r ⊎ (ConvertIsExcused r a b ⊎ OutputHasFailed r x z)
 end_complete a b x y z (Ok done) none f = inl refl
 end_complete a b x y z (Err e) none (inl m) = inr (inl (inl m))
 end_complete a b x y z (Err e) none (inr k) = inr (inr (k.0, calls_failed_after x y z none k.1))
 
-ok_unexcused : {A : Type 0} (a b : State ℕ) (x : A) → ReadIsExcused (let q : Result A Cause = Ok x in q) a b → ⊥
+ok_unexcused : {A : Type 0} (a b : State ℕ) (x : A) → IsExcused (let q : Result A Cause = Ok x in q) a b → ⊥
 ok_unexcused a b x (inl m) = cc
 ok_unexcused a b x (inr f) = f.0
 

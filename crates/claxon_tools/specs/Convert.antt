@@ -222,8 +222,8 @@ pub record CanBeConvertedTo {W : Type 0} (stream : Option StreamFormat) (s : Sta
   pub can : CanBePut blocks file
 
 -- Memory was refused, or the result is an `IoError` and the source failed in the call.
-abbrev pub IsExcused : Result (Unit {0}) Error → State ℕ → State ℕ → Type 0
-IsExcused r a b = IsErrAnd r IsMemory ⊎ (IsErrAnd r IsInput × FailedIn a b)
+abbrev pub ConvertIsExcused : Result (Unit {0}) Error → State ℕ → State ℕ → Type 0
+ConvertIsExcused r a b = IsErrAnd r IsMemory ⊎ (IsErrAnd r IsInput × FailedIn a b)
 
 -- The result is a failed call of the output, and one was counted.
 abbrev pub OutputHasFailed : {W : Type 0} → Result (Unit {0}) Error → WavWriter W → WavWriter W
@@ -231,9 +231,9 @@ abbrev pub OutputHasFailed : {W : Type 0} → Result (Unit {0}) Error → WavWri
 OutputHasFailed r old new = IsErrAnd r IsOutput × CallsFailed old new
 
 -- The same of a write.
-abbrev pub WriteHasFailed : {W : Type 0} → Result (Unit {0}) Error → WavWriter W → WavWriter W
+abbrev pub OutputWriteHasFailed : {W : Type 0} → Result (Unit {0}) Error → WavWriter W → WavWriter W
     → Type 0
-WriteHasFailed r old new = IsErrAnd r IsOutput × WritesFailed old new
+OutputWriteHasFailed r old new = IsErrAnd r IsOutput × WritesFailed old new
 
 module _ {R A W : Type 0} (remaining : R → Option (List ℕ)) (result : Result (Unit {0}) Error)
     (before after : FlacReader R A) (old new : WavWriter W) where
@@ -248,7 +248,7 @@ module _ {R A W : Type 0} (remaining : R → Option (List ℕ)) (result : Result
   abbrev pub ConvertIsComplete : Type 0
   ConvertIsComplete =
       CanBeConverted (flac_stream before) (flac_bytes remaining before) old
-      → IsOk result ⊎ (IsExcused result (flac_bytes remaining before) (flac_bytes remaining after)
+      → IsOk result ⊎ (ConvertIsExcused result (flac_bytes remaining before) (flac_bytes remaining after)
       ⊎ OutputHasFailed result old new)
 
   -- A fault after the frames of blocks that can be written is named, or memory was refused, or the source or a write failed.
@@ -256,5 +256,5 @@ module _ {R A W : Type 0} (remaining : R → Option (List ℕ)) (result : Result
   ConvertFaultIsComplete =
       (f : Fault) → CanBeConvertedTo (flac_stream before) (flac_bytes remaining before) f old
       → IsErrAnd result (NamesFault f)
-      ⊎ (IsExcused result (flac_bytes remaining before) (flac_bytes remaining after)
-      ⊎ WriteHasFailed result old new)
+      ⊎ (ConvertIsExcused result (flac_bytes remaining before) (flac_bytes remaining after)
+      ⊎ OutputWriteHasFailed result old new)

@@ -1,5 +1,5 @@
 //! A writer with a buffer for bytes and interleaved samples.
-ghost use Rattle.std.specs.Prelude.{◌≡◌, ◌≤◌, ◌<◌, ◌+◌, ◌*◌, ◌-◌, ◌%◌, ◌^◌, ◌++◌, IfErr, OnOk, OnErr, [], false, length, take, true};
+ghost use Rattle.std.specs.Prelude.{◌≡◌, ◌≤◌, ◌<◌, ◌+◌, ◌*◌, ◌-◌, ◌++◌, IfErr, OnOk, OnErr, [], length, take};
 ghost use Rattle.claxon.specs.Error.{IsIo};
 ghost use Rattle.claxon.specs.Block.{duration_of};
 ghost use Rattle.claxon_write.specs.Capacity.{capacity};
