@@ -3,7 +3,7 @@ ghost use Rattle.std.specs.Prelude.{◌≡◌, false};
 ghost use Rattle.claxon.specs.FlacReader.{flac_metadata_only};
 
 use crate::commands::owned;
-use crate::doubles::sinks::Sink;
+use crate::doubles::sinks::{ByteCounter, Sink};
 use crate::files::{file_of, path_of};
 use claxon::FlacReader;
 use claxon::frame::FrameReader;
@@ -140,6 +140,40 @@ fn failed_writes_of_a_block(rt: HostRuntime) -> result::Result<(), Fail> {
         assert!(rt; text.as_str() == want && samples == count, "{writes}");
         assert!(rt; output.written() == front(FIRST_BLOCK, len), "{writes}");
     }
+    Ok(())
+}
+
+// A frame of two channels of 24 bits, with 65,535 samples in each, all of them 5.
+const LARGE: [u8; 18] = [
+    0xff, 0xf8, 0x70, 0x1c, 0x00, 0xff, 0xfe, 0x06, 0x00, 0x00, 0x00, 0x05, 0x00, 0x00, 0x00, 0x05,
+    0x64, 0x85,
+];
+
+// How often the block of LARGE can be written, how many samples are counted then, and the text of the error that follows.
+fn most_blocks(alloc: Global, output: &mut ByteCounter) -> Result<(u32, u32, String)> {
+    let mut wav = WavWriter::start(alloc, output, Layout::new(2, 24, 44100, None), 0)?;
+    let mut text = String::new(alloc);
+    let mut count = 0;
+    if let Some(block) = FrameReader::new(Cursor::new(&LARGE)).read_next_or_eof(Vec::new(alloc))? {
+        for blocks in 0..11_000 {
+            if let Err(error) = wav.put_block(&block) {
+                text = format!(in alloc; "{error}")?;
+                count = blocks;
+                break;
+            }
+        }
+    }
+    Ok((count, wav.samples(), text))
+}
+
+// The block takes 393,210 bytes, and the header 68. A file holds 4,294,967,234 bytes of samples at most.
+#[test]
+fn more_than_a_file_holds(rt: HostRuntime) -> result::Result<(), Fail> {
+    let mut output = ByteCounter { bytes: 0 };
+    let (count, samples, text) = most_blocks(rt.alloc(), &mut output)?;
+    assert!(rt; count == 10_922 && samples == 715_773_270);
+    assert!(rt; output.bytes == 4_294_639_688);
+    assert!(rt; text.as_str() == "the samples are more than a WAV file holds, 4 GiB");
     Ok(())
 }
 

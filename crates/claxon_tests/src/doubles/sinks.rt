@@ -63,3 +63,20 @@ impl Write for Sink {
         Ok(())
     }
 }
+
+/// A writer that keeps no byte, and counts them.
+#[derive(Drop)]
+pub struct ByteCounter {
+    pub bytes: u64,
+}
+
+impl Write for ByteCounter {
+    fn write(&mut self, buf: &[u8]) -> io::Result<usize> {
+        self.bytes = self.bytes.wrapping_add(buf.len() as u64);
+        Ok(buf.len())
+    }
+
+    fn flush(&mut self) -> io::Result<()> {
+        Ok(())
+    }
+}
