@@ -5,12 +5,12 @@ use Rattle.std.proofs.lemmas.List.{drop_more, drop_all}
 use Rattle.std.proofs.lemmas.Option.{get_or_from_slice_get, slice_get-get_or}
 use Rattle.claxon_format.specs.Frame.{StreamFormat, Frame, FrameBytesFault}
 use Rattle.claxon_format.specs.read.Frame.{frame_bytes_at}
-use Rattle.claxon_format.specs.Streams.{duration, interleave}
+use Rattle.claxon_format.specs.Streams.{duration_of, interleave}
 use Rattle.claxon_format.proofs.Streams.{interleaved, length-interleave}
 use Rattle.claxon_input.specs.declared.error.Error.{Error}
 use Rattle.claxon_input.specs.State.{State}
 use Rattle.claxon_input.specs.Promises.{FoundIsComplete, Remains, ElseIoErrorFrom, HasFailed, LeavesRest, FaultIsComplete, NoneIsEof, FaultIsSound, FoundIsSound}
-use Rattle.claxon_frame.specs.Block.{BlockValue, duration_of}
+use Rattle.claxon_frame.specs.Block.{BlockValue}
 use Rattle.claxon_input.specs.Gives.{GivesOrEofOrOutOfMemory}
 use Rattle.claxon_frame.specs.FrameReader.{FrameAnswer, OutOfMemoryBeyondCapacity, ReadsFrame, block_view}
 
@@ -48,10 +48,6 @@ reads_as {stream = stream} {a = a} {b = b} e h = subst (λ (z : Result (Option B
 
 -- ---- the index of a sample
 
-pub same_duration : (channels : List (List ℤ)) → duration channels ≡ duration_of channels
-same_duration [] = refl
-same_duration (c ∷ channels) = refl
-
 index_inside : (i k d n : ℕ) → i < d → k < n → i * n + k < d * n
 index_inside i k d n lt small = grind arith
 
@@ -60,12 +56,10 @@ pub next_sample : (channels : List (List ℤ)) (i k n : ℕ) (x : ℤ) → i < d
     → IfSome (slice_get channels k) (λ samples. slice_get samples i ≡ Some x) → drop (i * length channels + k) (interleave channels) ≡ x ∷ drop n (interleave channels)
 next_sample channels i k n x lt small n-is h =
     let l = length-interleave channels in
-    let d = same_duration channels in
-    let in_time : i < duration channels = omega arith in
-    let inside : i * length channels + k < length (interleave channels) = rw l (index_inside i k (duration channels) (length channels) in_time small) in
+    let inside : i * length channels + k < length (interleave channels) = rw l (index_inside i k (duration_of channels) (length channels) lt small) in
     let g : slice_get channels k ≡ Some (get_or channels k []) = slice_get-get_or channels k [] small in
     let s : slice_get (get_or channels k []) i ≡ Some x = rw g at h in
-    let v : get_or (interleave channels) (i * length channels + k) (pos 0) ≡ x = interleaved channels i k in_time small ∙ get_or_from_slice_get (get_or channels k []) i x (pos 0) s in
+    let v : get_or (interleave channels) (i * length channels + k) (pos 0) ≡ x = interleaved channels i k lt small ∙ get_or_from_slice_get (get_or channels k []) i x (pos 0) s in
     drop_more (interleave channels) (i * length channels + k) (pos 0) inside ∙ ap (λ (z : ℤ). z ∷ drop (i * length channels + k + 1) (interleave channels)) v
     ∙ ap (λ (z : ℕ). x ∷ drop z (interleave channels)) (sym n-is)
 
@@ -73,8 +67,7 @@ next_sample channels i k n x lt small n-is h =
 pub none_left : (channels : List (List ℤ)) (i k : ℕ) → duration_of channels ≤ i → drop (i * length channels + k) (interleave channels) ≡ []
 none_left channels i k le =
     let l = length-interleave channels in
-    let d = same_duration channels in
-    let past : length (interleave channels) ≤ i * length channels + k = rw l (past_end i k (duration channels) (length channels) (omega arith)) in
+    let past : length (interleave channels) ≤ i * length channels + k = rw l (past_end i k (duration_of channels) (length channels) le) in
     drop_all (i * length channels + k) (interleave channels) past
   where
     past_end : (i k d n : ℕ) → d ≤ i → d * n ≤ i * n + k

@@ -48,6 +48,11 @@ pub mod input {
     pub use claxon_input::input::{Bitstream, BufferedBits, BufferedReader, ReadBytes};
 }
 
+/// Readers that compute the CRC of the bytes that are read through them.
+pub mod crc {
+    pub use claxon_input::crc::{Crc8Reader, Crc16Reader, CrcReader, RunningCrc};
+}
+
 /// Frames: blocks of samples, one after another.
 pub mod frame {
     pub use claxon_frame::frame::{Block, BlockInfo, FrameReader, FrameResult, StereoSamples};

@@ -1,7 +1,6 @@
 //! Interleaved samples.
 ghost use Rattle.std.specs.Prelude.{◌≡◌, ◌≤◌, ◌<◌, ◌*◌, length};
-ghost use Rattle.claxon.specs.Streams.{samples_at};
-ghost use Rattle.claxon.specs.Block.{duration_of};
+ghost use Rattle.claxon.specs.Streams.{samples_at, duration_of};
 ghost use Rattle.claxon_c.specs.NextBlock.{InterleavedArePut};
 
 use claxon::Block;

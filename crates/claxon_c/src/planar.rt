@@ -1,6 +1,6 @@
 //! Planar samples: one channel after another.
 ghost use Rattle.std.specs.Prelude.{◌≤◌, ◌*◌, length};
-ghost use Rattle.claxon.specs.Block.{duration_of};
+ghost use Rattle.claxon.specs.Streams.{duration_of};
 ghost use Rattle.claxon_c.specs.NextBlock.{PlanarArePut};
 
 use claxon::Block;

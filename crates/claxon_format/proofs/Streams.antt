@@ -11,7 +11,7 @@ use Rattle.claxon_format.specs.MetadataBlocks.{Content, Info, Padding, Comments,
 use Rattle.claxon_format.specs.Frame.{Block, IsWidth, Frames, NoFrameLeft}
 use Rattle.claxon_format.specs.Heads.{Options, Head, HeadCode, HeadFault}
 use Rattle.claxon_format.specs.read.Heads.{head_at}
-use Rattle.claxon_format.specs.Streams.{duration, samples_at, interleave, stream_of, with_samples, IsStream}
+use Rattle.claxon_format.specs.Streams.{duration_of, samples_at, interleave, stream_of, with_samples, IsStream}
 use Rattle.claxon_format.proofs.Laws.{one_reading}
 use Rattle.claxon_format.proofs.Heads.{Reads-head}
 use Rattle.claxon_format.proofs.FrameBytes.{one_block_list}
@@ -47,9 +47,9 @@ get_map f [] k c d lt = absurd (omega arith)
 get_map f (x ∷ xs) zero c d lt = refl
 get_map f (x ∷ xs) (suc k) c d lt = get_map f xs k c d (omega arith)
 
-pub interleaved : (channels : List (List ℤ)) (i k : ℕ) → i < duration channels → k < length channels → get_or (interleave channels) (i * length channels + k) (pos 0) ≡ get_or (get_or channels k []) i (pos 0)
+pub interleaved : (channels : List (List ℤ)) (i k : ℕ) → i < duration_of channels → k < length channels → get_or (interleave channels) (i * length channels + k) (pos 0) ≡ get_or (get_or channels k []) i (pos 0)
 interleaved channels i k lt small =
-    get_place (samples_at channels) (length channels) (pos 0) (λ j. length-map channels (λ c. get_or c j (pos 0))) (duration channels) 0 i k lt small
+    get_place (samples_at channels) (length channels) (pos 0) (λ j. length-map channels (λ c. get_or c j (pos 0))) (duration_of channels) 0 i k lt small
     ∙ get_map (λ c. get_or c (0 + i) (pos 0)) channels k [] (pos 0) small ∙ ap (λ (q : ℕ). get_or (get_or channels k []) q (pos 0)) (omega arith)
 
 length-places : {X : Type 0} (f : ℕ → List X) (m : ℕ) → ((i : ℕ) → length (f i) ≡ m) → (n a : ℕ) → length (flat_map f (range_with_len a n)) ≡ n * m
@@ -59,8 +59,8 @@ length-places f m len (suc n) a =
     let k = length-places f m len n (a + 1) in
     length-append (f a) (flat_map f (range_with_len (a + 1) n)) ∙ omega arith
 
-pub length-interleave : (channels : List (List ℤ)) → length (interleave channels) ≡ duration channels * length channels
-length-interleave channels = length-places (samples_at channels) (length channels) (λ j. length-map channels (λ c. get_or c j (pos 0))) (duration channels) 0
+pub length-interleave : (channels : List (List ℤ)) → length (interleave channels) ≡ duration_of channels * length channels
+length-interleave channels = length-places (samples_at channels) (length channels) (λ j. length-map channels (λ c. get_or c j (pos 0))) (duration_of channels) 0
 
 -- ---- a stream has one reading
 

@@ -6,9 +6,9 @@ use Rattle.claxon_format.specs.Frame.{StreamFormat, Block, Frames, NoFrameLeft}
 use Rattle.claxon_format.specs.Heads.{Options, Head, HeadCode}
 
 -- how many samples each channel has
-abbrev pub duration : List (List ℤ) → ℕ
-duration [] = 0
-duration (c ∷ channels) = length c
+abbrev pub duration_of : List (List ℤ) → ℕ
+duration_of [] = 0
+duration_of (c ∷ channels) = length c
 
 -- sample i of each channel, in the order of the channels
 abbrev pub samples_at : List (List ℤ) → ℕ → List ℤ
@@ -16,7 +16,7 @@ samples_at channels i = map (λ c. get_or c i (pos 0)) channels
 
 -- the first sample of each channel, the second of each, and so on
 abbrev pub interleave : List (List ℤ) → List ℤ
-interleave channels = flat_map (samples_at channels) (range_with_len 0 (duration channels))
+interleave channels = flat_map (samples_at channels) (range_with_len 0 (duration_of channels))
 
 -- what frames need to know of their stream
 abbrev pub stream_of : Streaminfo → StreamFormat

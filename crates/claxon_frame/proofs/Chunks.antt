@@ -2,7 +2,8 @@ use Rattle.std.proofs.Common.{Some, ◌≡◌, ℕ, zero, suc, ℤ, ◌+◌, ◌
 use Rattle.std.specs.Prelude.{slice_get}
 use Rattle.std.proofs.lemmas.List.{take-append-drop, length-take-le, drop_all}
 use Rattle.std.proofs.lemmas.Grind.{common_steps}
-use Rattle.claxon_frame.specs.Block.{AreOfLength, chunks, duration_of, joined}
+use Rattle.claxon_frame.specs.Block.{AreOfLength, chunks, joined}
+use Rattle.claxon_format.specs.Streams.{duration_of}
 
 pub length-chunks : (k n : ℕ) (xs : List ℤ) → length (chunks k n xs) ≡ k
 length-chunks zero n xs = refl

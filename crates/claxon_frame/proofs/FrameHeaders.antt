@@ -9,7 +9,7 @@ use Rattle.claxon_format.specs.Frame.{Block, Frame, FrameBytesFault, StreamForma
 use Rattle.claxon_format.specs.FrameWriter.{channel_count}
 use Rattle.claxon_format.specs.Header.{Header, HeaderCode}
 use Rattle.claxon_format.specs.Stereo.{DecorrelatedChannels, DecorrelatedPair, EachSamplePair, widths}
-use Rattle.claxon_format.specs.Streams.{duration}
+use Rattle.claxon_format.specs.Streams.{duration_of}
 use Rattle.claxon_format.specs.Subframe.{Subframe}
 use Rattle.claxon_format.specs.read.Bytes.{left_bytes, whole}
 use Rattle.claxon_format.specs.read.Frame.{start_at, start_of}
@@ -26,7 +26,7 @@ use Rattle.claxon_frame.specs.declared.frame.info.BlockInfo.{BlockInfo}
 pub record SaysBlock (info : BlockInfo) (b : Block) : Type 0 where
   pub time : info.time ≡ b.time
   pub channels : info.channels ≡ length b.channels
-  pub duration_is : info.duration ≡ duration b.channels
+  pub duration_is : info.duration ≡ duration_of b.channels
 
 -- ---- the number of channels, and their length
 
@@ -35,7 +35,7 @@ count_of n [] [] t c = refl
 count_of n (w ∷ ws) (a ∷ others) t c = omega (arith, count_of n ws others c.1 c.3)
 count_of n _ _ t c = absurd c
 
-duration_is : (n : ℕ) (ws : List ℕ) (coded : List (List ℤ)) (t : Bits) → 1 ≤ length ws → EachWith (λ w. Subframe w n) ws coded t → duration coded ≡ n
+duration_is : (n : ℕ) (ws : List ℕ) (coded : List (List ℤ)) (t : Bits) → 1 ≤ length ws → EachWith (λ w. Subframe w n) ws coded t → duration_of coded ≡ n
 duration_is n [] coded t some c = absurd (omega (arith, some))
 duration_is n (w ∷ ws) [] t some c = absurd c
 duration_is n (w ∷ ws) (a ∷ others) t some c = (subframe_fits w n a c.0 c.2).1
@@ -45,16 +45,16 @@ length_of_left code [] [] [] [] c = refl
 length_of_left code (a ∷ xs) (b ∷ ys) (l ∷ ls) (r ∷ rs) c = omega (arith, length_of_left code xs ys ls rs c.1)
 length_of_left code _ _ _ _ c = absurd c
 
-pair_shape : (n code : ℕ) (ws : List ℕ) (coded channels : List (List ℤ)) (t : Bits) → EachWith (λ w. Subframe w n) ws coded t → DecorrelatedPair code coded channels → (length channels ≡ 2) × (duration channels ≡ n)
+pair_shape : (n code : ℕ) (ws : List ℕ) (coded channels : List (List ℤ)) (t : Bits) → EachWith (λ w. Subframe w n) ws coded t → DecorrelatedPair code coded channels → (length channels ≡ 2) × (duration_of channels ≡ n)
 pair_shape n code ws (xs ∷ ys ∷ []) (ls ∷ rs ∷ []) t c d =
     let some : 1 ≤ length ws = omega (arith, count_of n ws (xs ∷ ys ∷ []) t c) in
     (refl, length_of_left code xs ys ls rs d ∙ duration_is n ws (xs ∷ ys ∷ []) t some c)
 pair_shape n code ws _ _ t c d = absurd d
 
-shape_of : (n code w : ℕ) (coded channels : List (List ℤ)) (t : Bits) → EachWith (λ w. Subframe w n) (widths code w) coded t → DecorrelatedChannels code coded channels → (channel_count code ≡ length channels) × (n ≡ duration channels)
+shape_of : (n code w : ℕ) (coded channels : List (List ℤ)) (t : Bits) → EachWith (λ w. Subframe w n) (widths code w) coded t → DecorrelatedChannels code coded channels → (channel_count code ≡ length channels) × (n ≡ duration_of channels)
 shape_of n code w coded channels t c d = go (ltb code 8) _ c d
   where
-    go : (b : Bool) (pair : List ℕ) → EachWith (λ w. Subframe w n) (cond b (replicate (code + 1) w) pair) coded t → cond b (channels ≡ coded) (DecorrelatedPair code coded channels) → (cond b (code + 1) 2 ≡ length channels) × (n ≡ duration channels)
+    go : (b : Bool) (pair : List ℕ) → EachWith (λ w. Subframe w n) (cond b (replicate (code + 1) w) pair) coded t → cond b (channels ≡ coded) (DecorrelatedPair code coded channels) → (cond b (code + 1) 2 ≡ length channels) × (n ≡ duration_of channels)
     go true pair c e =
         let count = count_of n (replicate (code + 1) w) coded t c in
         let size : length (replicate (code + 1) w) ≡ code + 1 = length-replicate (code + 1) w in

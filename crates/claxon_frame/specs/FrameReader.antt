@@ -13,7 +13,8 @@ use Rattle.claxon_input.specs.Source.{Source}
 use Rattle.claxon_input.specs.State.{State, bytes_in}
 use Rattle.claxon_input.specs.Promises.{FoundIsComplete, Remains, EofPromises, ElseIoErrorFrom, HasFailed, IsOutOfMemory, LeavesRest, FaultIsComplete, NoneIsEof, FaultIsSound, FoundIsSound, Consumed}
 use Rattle.claxon_input.specs.Gives.{Consumes, GivesOrEofOrOutOfMemory}
-use Rattle.claxon_frame.specs.Block.{BlockValue, duration_of, max_block_samples}
+use Rattle.claxon_frame.specs.Block.{BlockValue, max_block_samples}
+use Rattle.claxon_format.specs.Streams.{duration_of}
 use Rattle.claxon_frame.specs.FrameStart.{stream_format_view}
 use Rattle.claxon_frame.specs.declared.frame.FrameReader.{FrameReader}
 use Rattle.claxon_metadata.specs.declared.metadata.StreamInfo.{StreamInfo}

@@ -7,15 +7,15 @@ use Rattle.claxon.specs.read.Reading.{Done, bind, done}
 use Rattle.claxon.proofs.Laws.{Reads-then, Reads-map}
 use Rattle.claxon.proofs.Numbers.{Reads-number}
 use Rattle.claxon.proofs.CrcBytes.{with_crc_in_bytes}
-use Rattle.claxon_input.specs.CrcReader.{crc_source, crc_state}
-use Rattle.claxon_input.specs.CrcUpdate.{update_crc16}
-use Rattle.claxon_input.specs.Source.{Source}
-use Rattle.claxon_input.specs.State.{bytes_in}
-use Rattle.claxon_input.specs.Gives.{Consumes}
-use Rattle.claxon_input.specs.declared.crc.CrcReader.{CrcReader}
-use Rattle.claxon_input.proofs.CrcReaders.{crc_of_taken, consumes_with_crc}
-use Rattle.claxon_input.proofs.CrcUpdate.{determines_crc16}
-use Rattle.claxon_input.proofs.ConsecutiveCalls.{consumes_map}
+use Rattle.claxon.specs.CrcReader.{crc_source, crc_state}
+use Rattle.claxon.specs.CrcUpdate.{update_crc16}
+use Rattle.claxon.specs.Source.{Source}
+use Rattle.claxon.specs.State.{bytes_in}
+use Rattle.claxon.specs.Gives.{Consumes}
+use Rattle.claxon.specs.CrcReaders.{CrcReader}
+use Rattle.claxon.proofs.CrcReaders.{crc_of_taken, consumes_with_crc}
+use Rattle.claxon.proofs.CrcUpdate.{determines_crc16}
+use Rattle.claxon.proofs.ConsecutiveCalls.{consumes_map}
 use Rattle.claxon_tests.specs.PairWithCrc.{pair_at, pair_with_crc_at}
 
 pub pair_is : (s : List ℕ) → pair_with_crc_at s ≡ with_crc_bytes_at 2 crc16 FrameCrc (by_bytes pair_at) s

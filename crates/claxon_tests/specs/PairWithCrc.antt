@@ -7,10 +7,10 @@ use Rattle.claxon.specs.read.Crc.{byte_aligned_at, with_crc_at}
 use Rattle.claxon.specs.Crc.{crc16}
 use Rattle.claxon.specs.read.Reading.{Reading, and_then, done}
 use Rattle.claxon.specs.read.Bits.{number_at}
-use Rattle.claxon_input.specs.Gives.{Gives}
-use Rattle.claxon_input.specs.Source.{Source}
-use Rattle.claxon_input.specs.State.{bytes_in}
-use Rattle.claxon_input.specs.declared.error.Error.{Error}
+use Rattle.claxon.specs.Gives.{Gives}
+use Rattle.claxon.specs.Source.{Source}
+use Rattle.claxon.specs.State.{bytes_in}
+use Rattle.claxon.specs.Errors.{Error}
 
 -- two numbers, of 5 and of 9 bits
 unfoldable pub pair_at : Bits → Reading Bool (ℕ × ℕ)

@@ -1,4 +1,4 @@
-//! Tests that cross crates: bytes and bits; sequences of metadata blocks and the proved examples; frames and whole streams,
+//! Tests that cross crates: bytes and bits; sequences of metadata blocks; frames and whole streams,
 //! from files and over readers that give few bytes, pause and fail; runs of some 2^32 zeros; runs into writers of all kinds; the
 //! programs' command lines; values as text and headers of WAV files; refused memory; and vectors of upstream's tests. Rows of
 //! bytes with their results are lines of `claxon_cases`.
@@ -10,8 +10,6 @@ mod answers;
 mod block_headers;
 #[cfg(test)]
 mod buffers;
-#[cfg(test)]
-mod callers;
 #[cfg(test)]
 mod commands;
 #[cfg(test)]

@@ -12,8 +12,8 @@ use Rattle.std.specs.Int.{to_le_bytes}
 use Rattle.claxon.specs.Bits.{FitsIn}
 use Rattle.claxon.specs.Fault.{Fault}
 use Rattle.claxon.specs.Frame.{Block, Frames, IsWidth, NoFrameLeft, StreamFormat, known_width}
-use Rattle.claxon.specs.Streams.{interleave}
-use Rattle.claxon.specs.Block.{BlockValue, duration_of}
+use Rattle.claxon.specs.Streams.{interleave, duration_of}
+use Rattle.claxon.specs.Block.{BlockValue}
 use Rattle.claxon.specs.Errors.{Error as Cause}
 use Rattle.claxon.specs.Errors.TheVariants.{OutOfMemory}
 use Rattle.claxon.specs.FrameReader.{FrameAnswer, ReadsFrame, block_view, stream_with}
@@ -24,7 +24,6 @@ use Rattle.claxon.specs.Source.{Source}
 use Rattle.claxon.specs.State.{State, RemainingIsKnown, bytes_in}
 use Rattle.claxon.specs.StreamInfos.{StreamInfo}
 use Rattle.claxon.proofs.SampleRuns.{all_frames_read, excused_after, fault_no_frame, frames_left, samples_add, short_no_frame, takes_more, takes_none}
-use Rattle.claxon.proofs.SamplesInTurn.{same_duration}
 use Rattle.claxon.proofs.Streams.{length-interleave}
 use Rattle.claxon_write.proofs.Borrowed.{lent, runs_through, takes_through}
 use Rattle.claxon_write.proofs.Counts.{flushed_after, none_failed, none_failed_both}
@@ -56,8 +55,7 @@ samples_take valid_bits some (x ∷ xs) h =
 -- and so does a block
 pub block_takes : (valid_bits : ℕ) (block : BlockValue) → 1 ≤ valid_bits → 1 ≤ length block.channels → 1 ≤ duration_of block.channels → 1 ≤ length (packed_block valid_bits block)
 block_takes valid_bits block some channels long =
-    let d = same_duration block.channels in
-    let n : 1 ≤ length (interleave block.channels) = rw (length-interleave block.channels, d) (grind (arith, channels, long)) in
+    let n : 1 ≤ length (interleave block.channels) = rw (length-interleave block.channels) (grind (arith, channels, long)) in
     samples_take valid_bits some (interleave block.channels) n
 
 -- So far exactly the frames of these blocks were consumed, and their samples written.

@@ -3,7 +3,8 @@ use Rattle.std.proofs.Common.{◌≡◌, ◌⊎◌, ◌<◌, ◌≤◌, ◌+◌,
 use Rattle.std.specs.Prelude.{Option, None, Some, Ok, Err}
 use Rattle.std.proofs.lemmas.List.{append-nil}
 use Rattle.std.proofs.lemmas.List.Sums.{sum_by_push}
-use Rattle.claxon.specs.Block.{BlockValue, duration_of}
+use Rattle.claxon.specs.Block.{BlockValue}
+use Rattle.claxon.specs.Streams.{duration_of}
 use Rattle.claxon.specs.Error.{IsFault, IsIo, is_io, is_out_of_memory}
 use Rattle.claxon.specs.Errors.{Error}
 use Rattle.claxon.specs.Errors.TheVariants.{FormatError, IoError, OutOfMemory, Unsupported}
@@ -14,9 +15,8 @@ use Rattle.claxon.specs.Gives.{FailedIn}
 use Rattle.claxon.specs.Promises.{Consumed}
 use Rattle.claxon.specs.Source.{IsKnown, Source}
 use Rattle.claxon.specs.State.{State, bytes_in, crcs_at_eof, remaining_as, RemainingIsKnown, final_crcs}
-use Rattle.claxon.proofs.SamplesInTurn.{same_duration}
-use Rattle.claxon_input.specs.CrcReader.{crc_inner}
-use Rattle.claxon_input.specs.declared.crc.CrcReader.{CrcReader}
+use Rattle.claxon.specs.CrcReader.{crc_inner}
+use Rattle.claxon.specs.CrcReaders.{CrcReader}
 use Rattle.claxon_tools.specs.Verify.{AreCounted, AreTooMany, BlockIsRead, CannotCountFault, CountsFault, CountsFrame, CountsParts, ExceedsCount, FirstIs, IfConsumed, IsFaultAt, IsFirst, IsNotWhole, IsTooMany, Part, PartBytes, Parts, StopsCounting, counted_bytes, first_of, part_faults, part_frames, part_samples, position_of}
 use Rattle.claxon_tools.specs.declared.verify.FirstFault.{FirstFault}
 use Rattle.claxon_tools.specs.declared.verify.Found.{Found}
@@ -131,7 +131,7 @@ module _ {stream : Option StreamFormat} {start : ℕ} {a b : State ℕ} {found :
   pub frame_counted : {more : Found} (block : BlockValue) (n : ℕ) (c : State ℕ) → BlockIsRead stream (Ok (Some block)) b c → n ≡ duration_of block.channels → CountsFrame n found more → CountedSoFar stream start a c more
   frame_counted {more} block n c read is counts =
       let part : Part = Ok (block_view block) in
-      let d : n ≡ part_samples part = is ∙ sym (same_duration block.channels) in
+      let d : n ≡ part_samples part = is in
       record {
         errors = read.kept.0 ∙ h.errors;
         empty_reads = read.kept.1 ∙ h.empty_reads;
@@ -263,7 +263,7 @@ module _ {stream : Option StreamFormat} {start : ℕ} {a b : State ℕ} {found :
         let frames = sum_by_push part_frames p.parts part in
         let faults = sum_by_push part_faults p.parts part in
         let samples = sum_by_push part_samples p.parts part in
-        let d : n ≡ part_samples part = is ∙ sym (same_duration block.channels) in (
+        let d : n ≡ part_samples part = is in (
           p.parts ++ part ∷ [],
           c.remaining,
           w.1,

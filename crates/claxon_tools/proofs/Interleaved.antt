@@ -8,9 +8,7 @@ use Rattle.std.proofs.lemmas.Slice.{take-put_mid}
 use Rattle.std.proofs.lemmas.Option.{get_or_from_slice_get, slice_get_within}
 use Rattle.std.proofs.lemmas.Grind.{flat_map-append, take-set_at}
 use borrow.Rule.Slice.PartMut.{put_mid}
-use Rattle.claxon.specs.Streams.{interleave, samples_at}
-use Rattle.claxon.specs.Block.{duration_of}
-use Rattle.claxon.proofs.SamplesInTurn.{same_duration}
+use Rattle.claxon.specs.Streams.{interleave, samples_at, duration_of}
 use Rattle.claxon_tools.specs.Samples.{bytes_of_sample, shifted_sample, silence}
 use Rattle.claxon_write.specs.SampleBytes.{interleave_range}
 use Rattle.claxon_write.proofs.Interleaving.{alone, both_of}
@@ -86,7 +84,7 @@ pub range_whole : (channels : List (List ℤ)) (i n d : ℕ) (buffer : List ℤ)
 range_whole channels i n d buffer i-is d-is len so_far =
     let all : i * n ≡ n * d = ap (λ (k : ℕ). k * n) i-is ∙ swap d n in
     let whole : length buffer ≤ i * n = omega (arith, len, all) in
-    sym (take_all (i * n) buffer whole) ∙ so_far ∙ ap (interleave_range channels 0) (i-is ∙ d-is ∙ sym (same_duration channels)) ∙ range_all channels
+    sym (take_all (i * n) buffer whole) ∙ so_far ∙ ap (interleave_range channels 0) (i-is ∙ d-is) ∙ range_all channels
 
 -- ---- bytes
 

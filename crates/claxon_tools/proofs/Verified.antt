@@ -24,8 +24,8 @@ use Rattle.claxon.specs.Streams.{stream_of, with_samples}
 use Rattle.claxon.specs.VorbisComments.{VorbisComment}
 use Rattle.claxon.proofs.OutOfMemory.{not_out_of_memory, same_out_of_memory}
 use Rattle.claxon.proofs.SampleRuns.{short_no_frame}
-use Rattle.claxon_input.specs.CrcReader.{crc_inner}
-use Rattle.claxon_input.specs.declared.crc.CrcReader.{CrcReader}
+use Rattle.claxon.specs.CrcReader.{crc_inner}
+use Rattle.claxon.specs.CrcReaders.{CrcReader}
 use Rattle.claxon_tools.specs.Verify.{AreTooMany, Counted, CountsParts, EndsAt, FirstIs, HasParts, IsExpected, IsRightStream, IsTooMany, IsVerified, Part, Parts, RightIsComplete, RightIsSound, SameReport, StopsCounting, VerifyIsComplete, VerifyIsSound, VerifyPromises, block_samples, counted_bytes, cut_faults}
 use Rattle.claxon_tools.specs.declared.verify.FirstFault.{FirstFault}
 use Rattle.claxon_tools.specs.declared.verify.Found.{Found}

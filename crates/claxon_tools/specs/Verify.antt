@@ -12,11 +12,11 @@ use Rattle.claxon.specs.Promises.{Consumed, FaultIsSound, FoundIsSound, HasNeith
 use Rattle.claxon.specs.ReadHead.{MemoryMayBeNeeded}
 use Rattle.claxon.specs.Source.{Source}
 use Rattle.claxon.specs.State.{State, bytes_in, RemainingIsKnown, final_crcs}
-use Rattle.claxon.specs.Streams.{IsStream, duration, stream_of, with_samples}
+use Rattle.claxon.specs.Streams.{IsStream, duration_of, stream_of, with_samples}
 use Rattle.claxon.specs.Errors.{Error}
 use Rattle.claxon.specs.Errors.TheVariants.{FormatError, OutOfMemory, Unsupported}
-use Rattle.claxon_input.specs.CrcReader.{crc_source, crc_state}
-use Rattle.claxon_input.specs.declared.crc.CrcReader.{CrcReader}
+use Rattle.claxon.specs.CrcReader.{crc_source, crc_state}
+use Rattle.claxon.specs.CrcReaders.{CrcReader}
 use Rattle.claxon_tools.specs.declared.verify.FirstFault.{FirstFault}
 use Rattle.claxon_tools.specs.declared.verify.Found.{Found}
 use Rattle.claxon_tools.specs.declared.verify.Position.{Position}
@@ -55,7 +55,7 @@ part_faults (Err f) = 1
 
 -- of each channel
 abbrev pub part_samples : Part → ℕ
-part_samples (Ok block) = duration block.channels
+part_samples (Ok block) = duration_of block.channels
 part_samples (Err f) = 0
 
 -- A frame that isn't whole is one fault more.
@@ -148,7 +148,7 @@ pub record IsVerified (failed : Type 0) (s : List ℕ) (report : Report) : Type 
 
 -- the number of samples of each channel of a block
 abbrev pub block_samples : Block → ℕ
-block_samples block = duration block.channels
+block_samples block = duration_of block.channels
 
 -- s is a head and frames, and then fewer than two bytes; there are as many samples as the streaminfo says, where it doesn't
 -- say 0.

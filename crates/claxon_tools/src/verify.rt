@@ -12,7 +12,7 @@ use claxon::frame::{FrameReader, FrameResult};
 use claxon::input::ReadBytes;
 use claxon::metadata::StreamInfo;
 use claxon::{Error, FlacReaderOptions, Result, read_head};
-use claxon_input::crc::{CrcReader, RunningCrc};
+use claxon::crc::{CrcReader, RunningCrc};
 use std::alloc::Allocator;
 use std::io::Write;
 

@@ -7,6 +7,9 @@ mod samples;
 mod streams;
 mod tags;
 
+#[cfg(test)]
+mod tests;
+
 pub use blocks::{block_peak, peak};
 pub use frames::{decode_one, decode_packet};
 pub use samples::first_samples;

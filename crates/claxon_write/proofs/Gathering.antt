@@ -5,18 +5,18 @@ use Rattle.std.proofs.lemmas.List.Elements.{All-nil, All-push, All-weaker}
 use Rattle.claxon.specs.Frame.{StreamFormat, Block}
 use Rattle.claxon.specs.read.Frame.{frame_bytes_at}
 use Rattle.claxon.specs.read.Reading.{Reading}
-use Rattle.claxon.specs.Streams.{interleave}
+use Rattle.claxon.specs.Streams.{interleave, duration_of}
 use Rattle.claxon.proofs.Streams.{length-interleave}
 use Rattle.claxon.specs.State.{State}
 use Rattle.claxon.specs.Errors.{Error}
 use Rattle.claxon.specs.Errors.TheVariants.{IoError, FormatError, Unsupported, OutOfMemory}
 use Rattle.claxon.proofs.ConsecutiveCalls.{stops_loans}
 use Rattle.claxon.specs.Gives.{GivesOrEofOrOutOfMemory, or_eof}
-use Rattle.claxon.specs.Block.{BlockValue, duration_of}
+use Rattle.claxon.specs.Block.{BlockValue}
 use Rattle.claxon.specs.FrameReader.{HeaderOfLargerBlock, OutOfMemoryBeyondCapacity, ReadsFrame, block_view}
 use Rattle.claxon.specs.Promises.{Consumed}
 use Rattle.claxon.specs.SampleRuns.{ConsumesFrames, samples_of}
-use Rattle.claxon.proofs.SamplesInTurn.{reads_as, same_duration}
+use Rattle.claxon.proofs.SamplesInTurn.{reads_as}
 use Rattle.claxon.proofs.SampleRuns.{samples_add, takes_none, takes_more}
 use Rattle.claxon_write.specs.Decoded.{IsLimit, Gathers, FailsToWrite, HasAtMost, StopsAtLargerBlock, last_bytes}
 use Rattle.claxon_write.specs.SampleBytes.{bytes_of_samples}
@@ -61,16 +61,14 @@ last_more (x ∷ y ∷ blocks) b = last_more (y ∷ blocks) b
 size_at_most : (block : BlockValue) {size : ℕ} → length block.channels * duration_of block.channels ≤ size → HasAtMost size (block_view block)
 size_at_most block {size = size} fits =
     let l = length-interleave block.channels in
-    let d = same_duration block.channels in
-    let k : length (interleave block.channels) ≡ length block.channels * duration_of block.channels = l ∙ ap (λ (z : ℕ). z * length block.channels) d ∙ omega arith in
+    let k : length (interleave block.channels) ≡ length block.channels * duration_of block.channels = l ∙ omega arith in
     omega (arith, k, fits)
 
 more_count : (blocks : List Block) (block : BlockValue) (n len : ℕ) → n ≡ length (samples_of blocks) → len ≡ length block.channels * duration_of block.channels → n + len ≡ length (samples_of (blocks ++ block_view block ∷ []))
 more_count blocks block n len e f =
     let l = length-interleave block.channels in
-    let d = same_duration block.channels in
     let m : length (samples_of blocks ++ interleave block.channels) ≡ length (samples_of blocks) + length (interleave block.channels) = length-append (samples_of blocks) (interleave block.channels) in
-    let k : length (interleave block.channels) ≡ len = l ∙ ap (λ (z : ℕ). z * length block.channels) d ∙ omega (arith, f) in
+    let k : length (interleave block.channels) ≡ len = l ∙ omega (arith, f) in
     omega (arith, e, k) ∙ sym (ap length (samples_add blocks (block_view block)) ∙ m)
 
 -- a block in a buffer of this capacity, after blocks in smaller ones

@@ -4,7 +4,7 @@ use Rattle.std.specs.Prelude.{IfErr, OnOk, OnErr, Result, Ok, Err}
 use Rattle.std.specs.Io.KnownBytes.{Appends, Keeps, append_known}
 use Rattle.std.proofs.Math.Seq.{take-add}
 use Rattle.std.proofs.lemmas.List.{append-nil, append_cancel_left, take_at, drop_at, length-take, take_all, take-append-drop}
-use Rattle.claxon.specs.Streams.{interleave}
+use Rattle.claxon.specs.Streams.{interleave, duration_of}
 use Rattle.claxon.specs.Error.{IsIo}
 use Rattle.claxon.specs.Errors.{Error}
 use Rattle.claxon_write.specs.SampleBytes.{bytes_of_samples, interleave_range}
@@ -14,8 +14,6 @@ use Rattle.claxon_write.specs.Capacity.{capacity}
 use Rattle.claxon_write.specs.CountingWriter.{failed_flushes_of, failed_seeks_of, failed_writes_of, inner_contents}
 use Rattle.claxon_write.specs.Written.{AppendsAllBut, AppendsPrefix, FailsToPut, FlushFailed, IsFlushed, IsUnflushed, KeepsContents, NonePending, NothingFailed, Puts, WriteFailed, writer_contents, contents_with_pending, pending}
 use Rattle.claxon_write.proofs.Counts.{none_failed, none_failed_both, write_failed_after, flush_failed_after, flushed_after}
-use Rattle.claxon.specs.Block.{duration_of}
-use Rattle.claxon.proofs.SamplesInTurn.{same_duration}
 use Rattle.claxon_write.specs.declared.counting_writer.CountingWriter.{CountingWriter}
 use Rattle.claxon_write.specs.declared.output.Output.{Output}
 
@@ -233,4 +231,4 @@ module _ {W : Type 0} (contents : W → Option (List ℕ)) where
 -- ---- samples as bytes
 
 pub bytes_all : (channels : List (List ℤ)) (n : ℕ) → n ≡ duration_of channels → bytes_of_samples (interleave_range channels 0 n) ≡ bytes_of_samples (interleave channels)
-bytes_all channels n e = ap (λ (j : ℕ). bytes_of_samples (interleave_range channels 0 j)) (e ∙ sym (same_duration channels)) ∙ ap bytes_of_samples (range_all channels)
+bytes_all channels n e = ap (λ (j : ℕ). bytes_of_samples (interleave_range channels 0 j)) e ∙ ap bytes_of_samples (range_all channels)

@@ -1,7 +1,7 @@
 //! A writer with a buffer for bytes and interleaved samples.
 ghost use Rattle.std.specs.Prelude.{◌≡◌, ◌≤◌, ◌<◌, ◌+◌, ◌*◌, ◌-◌, ◌++◌, IfErr, OnOk, OnErr, [], length, take};
 ghost use Rattle.claxon.specs.Error.{IsIo};
-ghost use Rattle.claxon.specs.Block.{duration_of};
+ghost use Rattle.claxon.specs.Streams.{duration_of};
 ghost use Rattle.claxon_write.specs.Capacity.{capacity};
 ghost use Rattle.claxon_write.specs.SampleBytes.{bytes_between};
 

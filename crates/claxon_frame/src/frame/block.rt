@@ -1,7 +1,8 @@
 //! Blocks: the samples of a frame.
 ghost use Rattle.std.specs.Prelude.{Option, Some, ◌≡◌, ◌<◌, ◌≤◌, ◌+◌, ◌*◌, [], length, slice_get, vec_capacity, IfSome};
 ghost use Rattle.std.specs.Iterator.{YieldsFirst, item_count};
-ghost use Rattle.claxon_frame.specs.Block.{AreOfLength, BlockValue, chunks, duration_of, joined};
+ghost use Rattle.claxon_frame.specs.Block.{AreOfLength, BlockValue, chunks, joined};
+ghost use Rattle.claxon_format.specs.Streams.{duration_of};
 ghost use Rattle.claxon_frame.specs.Decorrelation.{remaining_pairs};
 
 use std::alloc::{Allocator, Global};

@@ -1,7 +1,7 @@
 //! Bits, bytes and CRCs of known bytes.
 use crate::input::crc_pair::read_pair_with_crc;
-use claxon_input::crc::{Crc8Reader, Crc16Reader};
-use claxon_input::input::{Bitstream, BufferedReader, ReadBytes};
+use claxon::crc::{Crc8Reader, Crc16Reader};
+use claxon::input::{Bitstream, BufferedReader, ReadBytes};
 use std::io;
 use std::io::Cursor;
 use std::test::Fail;

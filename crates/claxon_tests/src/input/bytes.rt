@@ -1,7 +1,7 @@
 //! Bytes, bits and CRCs from readers that end or whose contents are unknown, and errors.
-use claxon_input::Error;
-use claxon_input::crc::Crc16Reader;
-use claxon_input::input::{Bitstream, BufferedReader, ReadBytes};
+use claxon::Error;
+use claxon::crc::Crc16Reader;
+use claxon::input::{Bitstream, BufferedReader, ReadBytes};
 use std::io;
 use std::io::{Cursor, Read};
 use std::test::Fail;

@@ -2,15 +2,15 @@
 ghost use Rattle.std.specs.Prelude.{◌≡◌};
 ghost use Rattle.claxon.specs.Fault.{FrameCrc};
 ghost use Rattle.claxon.specs.read.Bytes.{by_bytes, crc_at};
-ghost use Rattle.claxon_input.specs.CrcReader.{crc_source, crc_state};
-ghost use Rattle.claxon_input.specs.CrcUpdate.{update_crc16};
-ghost use Rattle.claxon_input.specs.State.{bytes_in, bits_in};
-ghost use Rattle.claxon_input.specs.Gives.{Gives};
+ghost use Rattle.claxon.specs.CrcReader.{crc_source, crc_state};
+ghost use Rattle.claxon.specs.CrcUpdate.{update_crc16};
+ghost use Rattle.claxon.specs.State.{bytes_in, bits_in};
+ghost use Rattle.claxon.specs.Gives.{Gives};
 ghost use Rattle.claxon_tests.specs.PairWithCrc.{PairIsRead, pair_at, pair_with_crc_at};
 
-use claxon_input::crc::Crc16Reader;
-use claxon_input::input::{Bitstream, ReadBytes};
-use claxon_input::{Error, Result};
+use claxon::crc::Crc16Reader;
+use claxon::input::{Bitstream, ReadBytes};
+use claxon::{Error, Result};
 
 /// Reads two numbers, of 5 and of 9 bits, the padding up to byte alignment, and the CRC-16 of these bytes.
 pub fn read_pair_with_crc<R: ReadBytes>(input: &mut R) -> Result<(u32, u32)>

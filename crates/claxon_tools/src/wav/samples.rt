@@ -3,8 +3,7 @@ ghost use Rattle.std.specs.Prelude.{◌≡◌, ◌≤◌, ◌*◌, ◌<◌, ◌�
 ghost use Rattle.std.specs.Int.{to_le_bytes, w32};
 ghost use Rattle.std.specs.List.{flat_map};
 ghost use Rattle.claxon.specs.Bits.{FitsIn};
-ghost use Rattle.claxon.specs.Streams.{interleave, samples_at};
-ghost use Rattle.claxon.specs.Block.{duration_of};
+ghost use Rattle.claxon.specs.Streams.{interleave, samples_at, duration_of};
 ghost use Rattle.claxon_tools.specs.Samples.{IsTooWide, packed_block, bytes_of_sample, shifted_sample, silence};
 ghost use Rattle.claxon_tools.specs.WaveFile.{sample_size};
 ghost use Rattle.claxon_write.specs.SampleBytes.{interleave_range};

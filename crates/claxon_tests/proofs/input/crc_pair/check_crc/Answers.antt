@@ -2,9 +2,9 @@ use Rattle.std.proofs.Common.{◌≡◌, rules, refl}
 use Rattle.std.proofs.lemmas.Result.{err_from_is_err_and}
 use Rattle.claxon.specs.Fault.{FrameCrc, fault_text}
 use Rattle.claxon.proofs.CrcBytes.{crc_at_done, crc_at_fault, crc_at_incomplete}
-use Rattle.claxon_input.proofs.ConsecutiveCalls.{consumes_map, consumes_none, io_exit, failure_or_after}
-use Rattle.claxon_input.proofs.ByteFields.{consumes_big, failure_or_big}
-use Rattle.claxon_input.proofs.Faults.{stops_fault}
+use Rattle.claxon.proofs.ConsecutiveCalls.{consumes_map, consumes_none, io_exit, failure_or_after}
+use Rattle.claxon.proofs.ByteFields.{consumes_big, failure_or_big}
+use Rattle.claxon.proofs.Faults.{stops_fault}
 use Rattle.claxon_tests.proofs.input.crc_pair.check_crc.Goals as goal
 
 pub returns-in_err-read_be_u16 : goal.returns-in_err-read_be_u16

@@ -1,5 +1,5 @@
 use Rattle.std.proofs.Common.{rules}
-use Rattle.claxon_input.proofs.ByteAlignment.{gives_through, name_through}
+use Rattle.claxon.proofs.ByteAlignment.{gives_through, name_through}
 use Rattle.claxon_tests.proofs.input.crc_pair.read_pair.Goals as goal
 
 pub returns : goal.returns

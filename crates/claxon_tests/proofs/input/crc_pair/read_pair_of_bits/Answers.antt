@@ -1,6 +1,6 @@
 use Rattle.std.proofs.Common.{refl}
 use Rattle.std.proofs.lemmas.Result.{err_from_is_err_and}
-use Rattle.claxon_input.proofs.ConsecutiveCalls.{io_exit, failure_or_after, failure_or_known, consumes_then}
+use Rattle.claxon.proofs.ConsecutiveCalls.{io_exit, failure_or_after, failure_or_known, consumes_then}
 use Rattle.claxon_tests.specs.PairWithCrc.{pair_at}
 use Rattle.claxon_tests.proofs.input.crc_pair.read_pair_of_bits.Goals as goal
 

@@ -1,6 +1,6 @@
 use Rattle.std.proofs.Common.{◌∙◌, rules, refl}
 use Rattle.std.proofs.lemmas.Result.{err_from_is_err_and}
-use Rattle.claxon_input.proofs.ConsecutiveCalls.{exit, stops_after, consumes_then, consumes_none}
+use Rattle.claxon.proofs.ConsecutiveCalls.{exit, stops_after, consumes_then, consumes_none}
 use Rattle.claxon_tests.proofs.PairWithCrc.{pair_is, after_pair}
 use Rattle.claxon_tests.proofs.input.crc_pair.read_pair_through_crc.Goals as goal
 

@@ -1,5 +1,5 @@
 use Rattle.std.proofs.Common.{◌≡◌, ◌*◌, ◌∙◌, ℕ, sym, ap, take, arith}
-use Rattle.claxon.specs.Block.{duration_of}
+use Rattle.claxon.specs.Streams.{duration_of}
 use Rattle.claxon_write.proofs.SampleBytes.{range_none}
 use Rattle.claxon_tools.proofs.Interleaved.{range_whole, before_index, mono, range_next, stereo}
 use Rattle.claxon_tools.proofs.wav.samples.interleave.Goals as goal
