@@ -54,7 +54,7 @@ def run(command, limits):
 
 @dataclasses.dataclass
 class Trace:
-    """The trace of `claxon_trace` up to its first fault. `wrong` is what no run may do, or None."""
+    """The trace of `claxon trace` up to its first fault. `wrong` is what no run may do, or None."""
     head: tuple = None
     blocks: list = dataclasses.field(default_factory=list)
     fault: str = None
@@ -90,8 +90,8 @@ def read_line(line, trace):
 
 
 def claxon(program, path, limits):
-    """Runs `claxon_trace`."""
-    finished = run([program, path], limits)
+    """Runs `claxon trace`."""
+    finished = run([program, 'trace', path], limits)
     trace = Trace(wrong=finished.failure)
     if trace.wrong:
         return trace

@@ -49,7 +49,7 @@ class Folder(FolderCase):
         shutil.copy(claxon._library._name, self.folder / "c" / "out" / "libclaxon.so.0")
         shutil.copytree(VERIFY.parent, self.folder / "python" / "examples")
         shutil.copy(PYTHON / "claxon.py", self.folder / "python")
-        song = bytearray((TOP / "crates" / "claxon_info" / "data" / "tagged.flac").read_bytes())
+        song = bytearray((TOP / "examples" / "tagged.flac").read_bytes())
         (self.folder / "song.flac").write_bytes(song)
         song[3000] ^= 1  # in the second of three frames
         (self.folder / "damaged.flac").write_bytes(song)

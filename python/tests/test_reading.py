@@ -24,7 +24,7 @@ import claxon
 from tests import DATA, FRAME_OF_5, MARKER, STREAMINFO, TOP, FolderCase, Trickle, comments
 from tests import crc, decode, frame_header, head, metadata_block, result_of, verbatim_frame
 
-SONG = TOP / "crates" / "claxon_info" / "data" / "tagged.flac"
+SONG = TOP / "examples" / "tagged.flac"
 MOST_FRAME_BYTES = 16777215
 
 
@@ -51,8 +51,8 @@ class Zeros:
 
 class Objects(unittest.TestCase):
     def test_info_tags_and_vendor(self) -> None:
-        """Those that crates/claxon_info/stdout has for this file."""
-        expected = (TOP / "crates" / "claxon_info" / "stdout").read_text().splitlines()
+        """Those that examples/tagged.txt has for this file."""
+        expected = (TOP / "examples" / "tagged.txt").read_text().splitlines()
         with claxon.Flac(SONG) as flac:
             info = flac.info
             fields = {
@@ -161,7 +161,7 @@ class Objects(unittest.TestCase):
 
     def test_version(self) -> None:
         """The library's is that of the header, whose interface is the one that the module has."""
-        self.assertEqual(claxon.library_version(), (TOP / "c" / "VERSION").read_text().strip())
+        self.assertEqual(claxon.library_version(), (TOP / "VERSION").read_text().strip())
         header = (TOP / "c" / "claxon.h").read_text()
         [declared] = re.findall(r"^#define CLAXON_VERSION (\d+)$", header, re.M)
         self.assertEqual(claxon._library.claxon_version(), int(declared))

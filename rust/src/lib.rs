@@ -10,7 +10,7 @@
 //!
 //! ```
 //! # fn main() -> claxon::Result<()> {
-//! let mut flac = claxon::FlacReader::open("../samples/worked.flac")?;
+//! let mut flac = claxon::FlacReader::open("../examples/worked.flac")?;
 //! let (mut sum, mut count) = (0.0, 0.0);
 //! for sample in flac.samples() {
 //!     sum += f64::from(sample?).powi(2);
@@ -26,7 +26,7 @@
 //! ```
 //! # fn main() -> claxon::Result<()> {
 //! # let mut peak = 0;
-//! let mut flac = claxon::FlacReader::open("../samples/worked.flac")?;
+//! let mut flac = claxon::FlacReader::open("../examples/worked.flac")?;
 //! let mut blocks = flac.blocks();
 //! let mut buffer = Vec::new();
 //! while let Some(block) = blocks.read_next_or_eof(buffer)? {
@@ -44,7 +44,7 @@
 //! ```
 //! # fn main() -> claxon::Result<()> {
 //! let options = claxon::FlacReaderOptions { metadata_only: true, read_vorbis_comment: true };
-//! let flac = claxon::FlacReader::open_ext("../samples/worked.flac", options)?;
+//! let flac = claxon::FlacReader::open_ext("../examples/worked.flac", options)?;
 //! for artist in flac.get_tag("artist") {
 //!     println!("{artist}");
 //! }
