@@ -18,13 +18,14 @@ use Rattle.claxon_input.proofs.States.{state_of_bits, consumed, failure}
 
 -- ---- the buffered bits come first
 
-pub is_buffer_of : (left : Bits) (o : Option (List ℕ)) (bytes part : List ℕ) (most : ℕ) → IsFront bytes o → part ≡ take most bytes → IsKnown o → (rest : Bits) × (remaining_as (bits_after left) o ≡ (left ++ bits_of (drop 0 part)) ++ rest)
-is_buffer_of left None bytes part most h p t = absurd t
-is_buffer_of left (Some all) bytes part most h p t =
-    let whole : all ≡ take most bytes ++ (drop most bytes ++ h.0) = h.1 ∙ ap (λ (x : List ℕ). x ++ h.0) (sym (take-append-drop most bytes)) ∙ append_assoc (take most bytes) (drop most bytes) h.0 in (
-      bits_of (drop most bytes ++ h.0),
-      ap (λ (x : List ℕ). left ++ bits_of x) whole ∙ ap (λ (x : Bits). left ++ x) (bits_of-append (take most bytes) (drop most bytes ++ h.0))
-          ∙ sym (append_assoc left (bits_of (take most bytes)) (bits_of (drop most bytes ++ h.0))) ∙ ap (λ (x : List ℕ). (left ++ bits_of x) ++ bits_of (drop most bytes ++ h.0)) (sym p),
+pub is_buffer_of : (left : Bits) (o : Option (List ℕ)) (bytes : List ℕ) → IsFront bytes o → IsKnown o → (rest : Bits) × (remaining_as (bits_after left) o ≡ (left ++ bits_of (take 65536 bytes)) ++ rest)
+is_buffer_of left None bytes h t = absurd t
+is_buffer_of left (Some all) bytes h t =
+    let part = take 65536 bytes in
+    let others = drop 65536 bytes ++ h.0 in
+    let whole : all ≡ part ++ others = h.1 ∙ ap (λ (x : List ℕ). x ++ h.0) (sym (take-append-drop 65536 bytes)) ∙ append_assoc part (drop 65536 bytes) h.0 in (
+      bits_of others,
+      ap (λ (x : List ℕ). left ++ bits_of x) whole ∙ ap (λ (x : Bits). left ++ x) (bits_of-append part others) ∙ sym (append_assoc left (bits_of part) (bits_of others)),
     )
 
 -- ---- bits that are skipped

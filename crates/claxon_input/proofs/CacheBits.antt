@@ -316,8 +316,5 @@ taken_fits_as x count n e h l d = rw e (taken_fits x count n h l d)
 pub moved_bits_as : {x : ℕ} (cache count : ℕ) → x ≡ cache → cache < 2 ^ count → count < 64 → take count (bits 64 (x * 2 ^ (63 - count) % 18446744073709551616 * 2 % 18446744073709551616)) ≡ bits count cache
 moved_bits_as cache count e h l = rw e (moved_bits cache count h l)
 
-pub moved_fits_as : {x : ℕ} (cache count : ℕ) → x ≡ cache → cache < 2 ^ count → count < 64 → x * 2 ^ (63 - count) % 18446744073709551616 * 2 % 18446744073709551616 % 2 ^ (64 - count) ≡ 0
-moved_fits_as cache count e h l = rw e (moved_fits cache count h l)
-
 pub done_as : {X A : Type 0} {x y : A} {s t : List X} → x ≡ y → s ≡ t → Done x s ≡ Done y t
 done_as e f = rw (e, f) refl

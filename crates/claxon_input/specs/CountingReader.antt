@@ -1,5 +1,6 @@
 -- What clauses say of a `CountingReader`.
-use Rattle.std.specs.Prelude.{◌≡◌, ℕ, zero, suc, MatchResult, Result}
+use Rattle.std.specs.Io.KnownBytes.{ReadConsumes}
+use Rattle.std.specs.Prelude.{◌≡◌, ℕ, zero, suc, List, MatchResult, Option, Result}
 use Rattle.claxon_input.specs.Source.{IsOneMore}
 use Rattle.claxon_input.specs.declared.input.counting_reader.CountingReader.{CountingReader}
 
@@ -30,3 +31,9 @@ CountsRead old result new =
     MatchResult result
     (λ n. (errors_of new ≡ errors_of old) × CountsBytes old n new)
     (λ _. IsOneMore (errors_of old) (errors_of new) × (empty_reads_of new ≡ empty_reads_of old))
+
+-- The bytes that were read into the buffer, and these alone, were consumed of the wrapped reader.
+abbrev pub ReadConsumesInner : {R E : Type 0} → (R → Option (List ℕ)) → CountingReader R
+    → Result ℕ E → CountingReader R → List ℕ → Type 0
+ReadConsumesInner remaining old result new buffer =
+    ReadConsumes (remaining (counted_inner old)) (remaining (counted_inner new)) result buffer

@@ -1,11 +1,7 @@
 //! Buffered bits: those that a `Bitstream` has without asking its source, which are read without being consumed.
-ghost use Rattle.std.specs.Prelude.{◌≡◌, ◌+◌, ◌*◌, ◌-◌, ◌%◌, ◌^◌, ◌<◌, ◌≤◌, IfSome, length, take, drop};
+ghost use Rattle.std.specs.Prelude.{◌≡◌, ◌+◌, ◌*◌, ◌-◌, ◌%◌, ◌^◌, ◌<◌, ◌≤◌, ◌++◌, IfSome, length, take, drop};
 ghost use Rattle.claxon_format.specs.Bits.{bits, bits_of};
 ghost use Rattle.claxon_format.specs.read.Bits.{number_at, unary_at};
-
-use super::Bitstream;
-use crate::input::ReadBytes;
-use std::io;
 
 /// Buffered bits, the first ones in the cache and the others in whole bytes.
 ///
@@ -31,6 +27,22 @@ pub struct BufferedBits<'a> {
 
 impl BufferedBits<'_> {
     ghost use Rattle.claxon_input.specs.BufferedBits.{GivesBufferedOrNone, PeeksBits, bits_in_buffer, in_cache};
+
+    // The `count` low bits of the cache, and then those of the first 65536 bytes.
+    #[inline(always)]
+    pub(super) fn new(cache: u64, count: u32, bytes: &[u8]) -> BufferedBits<'_>
+        requires few { count < 8 }
+        requires fits { cache < 2 ^ count }
+        ensures { bits_in_buffer result ≡ bits count cache ++ bits_of (take 65536 bytes.now) }
+    {
+        let most = bytes.len().min(65536);
+        BufferedBits {
+            bytes: &bytes[..most],
+            at: 0,
+            cache: (cache << (63 - count)) << 1,
+            count,
+        }
+    }
 
     /// How many bits are left.
     pub fn len(&self) -> u32
@@ -137,47 +149,4 @@ fn eight_bytes(bytes: &[u8], at: usize) -> u64
         bytes[at + 6],
         bytes[at + 7],
     ])
-}
-
-impl<R: ReadBytes> Bitstream<R> {
-    ghost use Rattle.claxon_input.specs.BufferedBits.{IsBufferOf};
-    ghost use Rattle.claxon_input.specs.ReadBits.{BitsAreSkipped, FewAreLeft, SkipDropsBits};
-    ghost use Rattle.claxon_input.specs.State.{bits_in};
-
-    /// The buffered bits. None of them is consumed.
-    pub fn buffered(&self) -> BufferedBits<'_>
-        ensures { IsBufferOf result (bits_in R.source self.now) }
-    {
-        let bytes = self.reader.buffered();
-        let most = bytes.len().min(65536);
-        BufferedBits {
-            bytes: &bytes[..most],
-            at: 0,
-            cache: (self.cache << (63 - self.count)) << 1,
-            count: self.count,
-        }
-    }
-
-    /// Skips this many bits. After an error none is left over.
-    #[tactic(auto, using(crate::proofs::BitSteps::few_bits))]
-    pub fn skip_bits(&mut self, amount: u32) -> io::Result<()>
-        ensures gives { BitsAreSkipped R.source amount self.old result self.new }
-        ensures err { SkipDropsBits R.source amount self.old result self.new }
-        ensures few { FewAreLeft self.new }
-    {
-        if amount <= self.count {
-            self.count -= amount;
-            self.cache &= (1 << self.count) - 1;
-            return Ok(());
-        }
-        let past_first = amount - self.count - 1;
-        self.cache = 0;
-        self.count = 0;
-        self.reader.skip(past_first / 8)?;
-        let last = self.reader.read_u8()? as u64;
-        let left = 7 - past_first % 8;
-        self.cache = last & ((1 << left) - 1);
-        self.count = left;
-        Ok(())
-    }
 }

@@ -4,8 +4,7 @@
 //! few lines have to be read.
 ghost use Rattle.std.specs.Prelude.{◌≡◌, ◌<◌, length};
 ghost use Rattle.std.specs.Io.{ReadsAtMost};
-ghost use Rattle.std.specs.Io.KnownBytes.{ReadConsumes};
-ghost use Rattle.claxon_input.specs.CountingReader.{CountsRead, NothingIsCounted, counted_inner};
+ghost use Rattle.claxon_input.specs.CountingReader.{CountsRead, NothingIsCounted, ReadConsumesInner, counted_inner};
 
 use std::io;
 use std::io::Read;
@@ -43,8 +42,7 @@ impl<R: io::Read> CountingReader<R> {
     pub fn read(&mut self, buf: &mut [u8]) -> io::Result<usize>
         requires { 0 < length buf.old }
         ensures bound { ReadsAtMost result buf.new }
-        ensures bytes { ReadConsumes (R.remaining (counted_inner self.old))
-            (R.remaining (counted_inner self.new)) result buf.new }
+        ensures bytes { ReadConsumesInner R.remaining self.old result self.new buf.new }
         ensures counts { CountsRead self.old result self.new }
     {
         match self.inner.read(buf) {
