@@ -16,7 +16,7 @@ use Rattle.claxon_input.proofs.ConsecutiveCalls.{consumes_then, consumes_map, St
 use Rattle.claxon_metadata.specs.MetadataBlock.{metadata_block_view, content_view, info_view}
 use Rattle.claxon.specs.ReadHead.{comments_at, found_view, max_other_blocks, other_at}
 use Rattle.claxon.proofs.HeadMemory.{ConsumesBlocks, consumes_blocks_both, consumes_other_block}
-use Rattle.claxon_metadata.specs.declared.metadata.StreamInfo.{StreamInfo}
+use Rattle.claxon_metadata.specs.declared.metadata.streaminfo.StreamInfo.{StreamInfo}
 use Rattle.claxon_metadata.specs.declared.metadata.VorbisComment.{VorbisComment}
 use Rattle.claxon_metadata.specs.declared.metadata.MetadataBlock.{MetadataBlock}
 use Rattle.claxon_metadata.specs.declared.metadata.MetadataBlock.TheVariants.{StreamInfo as InfoBlock, Padding as PaddingBlock, Application as ApplicationBlock, SeekTable, VorbisComment as CommentBlock, CueSheet, Picture, Reserved as ReservedBlock}

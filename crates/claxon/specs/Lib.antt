@@ -23,7 +23,7 @@ pub use Rattle.claxon_input.specs.declared.input.BufferedReader as BufferedReade
 pub use Rattle.claxon_input.specs.State
 pub use Rattle.claxon_input.specs.Gives
 pub use Rattle.claxon_input.specs.Promises
-pub use Rattle.claxon_metadata.specs.declared.metadata.StreamInfo as StreamInfos
+pub use Rattle.claxon_metadata.specs.declared.metadata.streaminfo.StreamInfo as StreamInfos
 pub use Rattle.claxon_metadata.specs.VorbisComment
 pub use Rattle.claxon_metadata.specs.TagEntries
 pub use Rattle.claxon_metadata.specs.Tags

@@ -21,7 +21,7 @@ use Rattle.claxon_metadata.specs.VorbisComment.{comment_view}
 use Rattle.claxon_metadata.specs.TagEntries.{HaveSeparatorIndices}
 use Rattle.claxon.specs.declared.head.FlacReaderOptions.{FlacReaderOptions}
 use Rattle.claxon_metadata.specs.declared.metadata.MetadataBlock.{MetadataBlock}
-use Rattle.claxon_metadata.specs.declared.metadata.StreamInfo.{StreamInfo}
+use Rattle.claxon_metadata.specs.declared.metadata.streaminfo.StreamInfo.{StreamInfo}
 use Rattle.claxon_metadata.specs.declared.metadata.VorbisComment.{VorbisComment}
 
 -- the options, as the format has them

@@ -17,7 +17,7 @@ use Rattle.claxon_frame.specs.Block.{BlockValue, max_block_samples}
 use Rattle.claxon_format.specs.Streams.{duration_of}
 use Rattle.claxon_frame.specs.FrameStart.{stream_format_view}
 use Rattle.claxon_frame.specs.declared.frame.FrameReader.{FrameReader}
-use Rattle.claxon_metadata.specs.declared.metadata.StreamInfo.{StreamInfo}
+use Rattle.claxon_metadata.specs.declared.metadata.streaminfo.StreamInfo.{StreamInfo}
 
 -- the wrapped reader
 abbrev pub frame_input : {R : Type 0} → FrameReader R → R

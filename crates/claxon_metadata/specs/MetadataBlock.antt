@@ -10,9 +10,9 @@ use Rattle.claxon_format.specs.read.Streaminfo.{StreaminfoSizes, StreaminfoForma
 use Rattle.claxon_input.specs.declared.error.Error.{Error}
 use Rattle.claxon_input.specs.Promises.{IsOutOfMemory}
 use Rattle.claxon_input.specs.State.{State, RemainingIsKnown}
-use Rattle.claxon_metadata.specs.declared.metadata.StreamInfo.{StreamInfo}
-use Rattle.claxon_metadata.specs.declared.metadata.SizeBounds.{SizeBounds}
-use Rattle.claxon_metadata.specs.declared.metadata.SampleFormat.{SampleFormat}
+use Rattle.claxon_metadata.specs.declared.metadata.streaminfo.StreamInfo.{StreamInfo}
+use Rattle.claxon_metadata.specs.declared.metadata.streaminfo.SizeBounds.{SizeBounds}
+use Rattle.claxon_metadata.specs.declared.metadata.streaminfo.SampleFormat.{SampleFormat}
 use Rattle.claxon_metadata.specs.declared.metadata.MetadataBlockHeader.{MetadataBlockHeader}
 use Rattle.claxon_metadata.specs.declared.metadata.MetadataBlock.{MetadataBlock}
 use Rattle.claxon_metadata.specs.declared.metadata.MetadataBlock.TheVariants.{StreamInfo as InfoBlock, Padding as PaddingBlock, Application as ApplicationBlock, SeekTable, VorbisComment as CommentBlock, CueSheet, Picture, Reserved as ReservedBlock}

@@ -1,7 +1,7 @@
 use Rattle.std.proofs.Common.{rules}
 use Rattle.claxon_format.specs.read.Streaminfo.{info_fields_at, md5_at}
 use Rattle.claxon_input.proofs.ByteFields.{consumes_whole, failure_or_whole}
-use Rattle.claxon_metadata.proofs.metadata.read_streaminfo_fields.Goals as goal
+use Rattle.claxon_metadata.proofs.metadata.streaminfo.read_streaminfo_fields.Goals as goal
 
 pub returns-in_err-read_into-clause-gives : goal.returns-in_err-read_into-clause-gives
 unfolding info_fields_at md5_at

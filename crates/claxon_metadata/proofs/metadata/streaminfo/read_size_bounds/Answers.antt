@@ -1,7 +1,7 @@
 use Rattle.std.proofs.Common.{rules}
 use Rattle.claxon_format.specs.read.Streaminfo.{sizes_at}
 use Rattle.claxon_input.proofs.ByteFields.{consumes_big, failure_or_big}
-use Rattle.claxon_metadata.proofs.metadata.read_size_bounds.Goals as goal
+use Rattle.claxon_metadata.proofs.metadata.streaminfo.read_size_bounds.Goals as goal
 
 pub returns-in_err-min_block_size-clause-gives : goal.returns-in_err-min_block_size-clause-gives
 unfolding sizes_at

@@ -3,7 +3,7 @@ use Rattle.std.proofs.lemmas.Grind.{common_steps}
 use Rattle.claxon_format.specs.read.Streaminfo.{format_at}
 use Rattle.claxon_input.proofs.ByteFields.{consumes_big}
 use Rattle.claxon_input.proofs.ConsecutiveCalls.{consumes_then}
-use Rattle.claxon_metadata.proofs.metadata.read_sample_format.Goals as goal
+use Rattle.claxon_metadata.proofs.metadata.streaminfo.read_sample_format.Goals as goal
 
 pub returns-clause-gives : goal.returns-clause-gives
 unfolding format_at

@@ -1,7 +1,7 @@
 use Rattle.std.proofs.Common.{◌≡◌, ◌%◌, ◌<◌, ℕ, suc, List, [], ◌∷◌, get_or, map, refl, ap₂, arith}
 use Rattle.claxon_metadata.specs.MetadataBlock.{or_zero}
-use Rattle.claxon_metadata.proofs.metadata.stream_info.Goals.{then-format-eq0, else-format-eq0}
-use Rattle.claxon_metadata.proofs.metadata.stream_info.Goals as goal
+use Rattle.claxon_metadata.proofs.metadata.streaminfo.stream_info.Goals.{then-format-eq0, else-format-eq0}
+use Rattle.claxon_metadata.proofs.metadata.streaminfo.stream_info.Goals as goal
 
 low_bytes : (ys : List ℕ) → ((i : ℕ) → get_or ys i 0 < 256) → map (λ y. y % 256) ys ≡ ys
 low_bytes [] h = refl

@@ -2,7 +2,7 @@ use Rattle.std.proofs.Common.{◌≡◌, refl, arith}
 use Rattle.claxon_format.specs.read.MetadataBlocks.{info_body_at}
 use Rattle.claxon_format.specs.read.Streaminfo.{streaminfo_at}
 use Rattle.claxon_input.proofs.ConsecutiveCalls.{consumes_none, gives_after}
-use Rattle.claxon_metadata.proofs.metadata.read_streaminfo_block.Goals as goal
+use Rattle.claxon_metadata.proofs.metadata.streaminfo.read_streaminfo_block.Goals as goal
 
 pub returns-clause-gives : goal.returns-clause-gives
 unfolding info_body_at
