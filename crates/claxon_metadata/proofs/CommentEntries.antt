@@ -1,15 +1,22 @@
 -- The loop that reads the entries of a Vorbis comment block.
-use Rattle.std.proofs.Common.{◌≡◌, ℕ, zero, suc, ◌+◌, ◌-◌, ◌<◌, ◌≤◌, true, false, ltb, List, [], ◌∷◌, ◌++◌, Some, None, Option, refl, sym, ap, ◌∙◌, append_assoc, arith, String}
+use Rattle.std.proofs.Common.{◌≡◌, ℕ, zero, suc, ◌+◌, ◌-◌, ◌<◌, ◌≤◌, true, false, ltb, List, [], ◌∷◌, ◌++◌, Some, None, Option, refl, sym, ap, ◌∙◌, append_assoc, arith, inl, inr, String}
+use Rattle.std.specs.Prelude.{Err, Result}
 use Rattle.std.proofs.lemmas.Bool.{lt-ltb, le-ltb}
 use Rattle.std.proofs.lemmas.List.{append-nil, map-append}
 use Rattle.claxon_format.specs.Comments.{Entry}
-use Rattle.claxon_format.specs.read.Comments.{entry_length_at, entry_or_empty_at, entries_end_at, entries_at}
+use Rattle.claxon_format.specs.Fault.{NameByte, SeparatorMissing, fault_text}
+use Rattle.claxon_format.specs.read.Bytes.{bytes_at}
+use Rattle.claxon_format.specs.read.Comments.{entry_at, entry_length_at, entry_or_empty_at, entries_end_at, entries_at}
 use Rattle.claxon_format.specs.read.Reading.{Reading, Done, Faulty, Incomplete, bind}
 use Rattle.claxon_input.specs.State.{State}
-use Rattle.claxon_input.specs.Gives.{Consumes}
+use Rattle.claxon_input.specs.Error.{IsFault, is_io, is_named}
+use Rattle.claxon_input.specs.Gives.{Consumes, GivesOrOutOfMemory, Stops}
+use Rattle.claxon_input.specs.declared.error.Error.{Error}
+use Rattle.claxon_input.specs.declared.error.Error.TheVariants.{IoError, FormatError, Unsupported, OutOfMemory}
+use Rattle.claxon_input.proofs.Faults.{stops_fault}
 use Rattle.claxon_input.proofs.FieldLoops.{with_front}
-use Rattle.claxon_input.proofs.ConsecutiveCalls.{consumes_then, consumes_map, StopsAs}
-use Rattle.claxon_metadata.specs.VorbisComment.{entry_or_empty_view}
+use Rattle.claxon_input.proofs.ConsecutiveCalls.{consumes_then, consumes_map, gives_never_out_of_memory, StopsAs}
+use Rattle.claxon_metadata.specs.VorbisComment.{HasSeparatorFault, entry_or_empty_view}
 use Rattle.claxon_metadata.specs.TagEntries.{entry_view, entries_view}
 
 -- some of `count` entries were read; `missing` more are to follow in `left` bytes
@@ -89,3 +96,31 @@ pub entries_end : {count length missing left : ℕ} {kept : List Entry} {a b : S
     → Consumes b b (λ s m. entries_end_at missing left s ≡ Done [] m) → Consumes a b (λ s m. entries_at count length s ≡ Done kept m)
 entries_end {missing = missing} {left = left} {kept = kept} {b = b} last h k =
     consumes_then _ h.so_far k (λ p q. p ∙ rw (no_more_entries missing left b.remaining last, q) (ap (λ (z : List Entry). Done z b.remaining) (append-nil kept)))
+
+-- ---- the first `=` of an entry
+
+named_separator : (e : Error) → IsFault SeparatorMissing e → (is_io e ≡ false) × (is_named e ≡ true)
+unfolding fault_text
+named_separator (IoError cause) h = absurd h
+named_separator (FormatError text) h = (refl, rw h.0 refl)
+named_separator (Unsupported text) h = absurd (cc h.1)
+named_separator OutOfMemory h = absurd h
+
+named_byte : (e : Error) → IsFault NameByte e → (is_io e ≡ false) × (is_named e ≡ true)
+unfolding fault_text
+named_byte (IoError cause) h = absurd h
+named_byte (FormatError text) h = (refl, rw h.0 refl)
+named_byte (Unsupported text) h = absurd (cc h.1)
+named_byte OutOfMemory h = absurd h
+
+-- without one, or with an invalid byte before it, the text is no entry
+separator_stops : (n : ℕ) {bytes : List ℕ} {e : Error} {a b : State ℕ} → Consumes a b (λ s m. bytes_at n s ≡ Done bytes m) → HasSeparatorFault bytes e → Stops e (entry_at n) a b
+unfolding entry_at
+separator_stops n h (inl (none, fault)) =
+    let named = named_separator _ fault in stops_fault SeparatorMissing named.0 named.1 fault (consumes_map _ h (λ p. rw (p, none) refl))
+separator_stops n h (inr (some, byte, fault)) =
+    let named = named_byte _ fault in stops_fault NameByte named.0 named.1 fault (consumes_map _ h (λ p. rw (p, some, byte) refl))
+
+pub separator_err : {A : Type 0} (view : A → Entry) (n : ℕ) {bytes : List ℕ} {r : Result A Error} {e : Error} {a b : State ℕ} → (y : Error) × (r ≡ Err y) × (y ≡ e) → Consumes a b (λ s m. bytes_at n s ≡ Done bytes m)
+    → HasSeparatorFault bytes e → GivesOrOutOfMemory view r (entry_at n) a b
+separator_err view n {e = e} {a = a} {b = b} p h k = rw (p.1, p.2) (gives_never_out_of_memory view (Err e) (entry_at n) a b (separator_stops n h k))

@@ -1,8 +1,9 @@
 -- Vorbis comments (RFC 9639, section 8.6) in the code.
-use Rattle.std.specs.Prelude.{◌≡◌, ℕ, true, nat_lt, Option, None, Some, Result, List, [], ◌∷◌, ◌++◌, string_bytes}
+use Rattle.std.specs.Prelude.{◌≡◌, ◌⊎◌, ℕ, true, false, nat_lt, Option, None, Some, MatchResult, Result, List, [], ◌∷◌, ◌++◌, string_bytes}
+use Rattle.std.specs.List.{position_or_len}
 use Rattle.std.specs.declared.string.String.{String}
-use Rattle.claxon_format.specs.Comments.{Entry, Comment, TextLength}
-use Rattle.claxon_format.specs.Fault.{Fault}
+use Rattle.claxon_format.specs.Comments.{Entry, Comment, TextLength, has_name, has_separator, is_separator}
+use Rattle.claxon_format.specs.Fault.{Fault, NameByte, SeparatorMissing}
 use Rattle.claxon_format.specs.read.Reading.{checked_at}
 use Rattle.claxon_format.specs.read.Bytes.{little_at}
 use Rattle.claxon_format.specs.read.Comments.{entries_end_at}
@@ -46,3 +47,17 @@ LengthIsRead source most too_long old r new =
 abbrev pub EndIsChecked : {A : Type 0} → ℕ → ℕ → Result A Error → Type 0
 EndIsChecked missing left r =
     (here : State ℕ) → Gives (λ x. []) r (entries_end_at missing left) here here
+
+-- no `=`, or else an invalid byte in the name before it
+abbrev pub HasSeparatorFault : List ℕ → Error → Type 0
+HasSeparatorFault entry error =
+    ((has_separator entry ≡ false) × IsFault SeparatorMissing error)
+    ⊎ ((has_separator entry ≡ true) × (has_name entry ≡ false) × IsFault NameByte error)
+
+-- The index of the first `=` is returned, and the name before it is valid.
+abbrev pub SeparatorIsFound : List ℕ → Result ℕ Error → Type 0
+SeparatorIsFound entry result =
+    MatchResult result
+    (λ place. (place ≡ position_or_len is_separator entry) × (has_separator entry ≡ true)
+    × (has_name entry ≡ true))
+    (HasSeparatorFault entry)

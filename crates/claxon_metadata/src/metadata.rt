@@ -12,6 +12,7 @@ ghost use Rattle.claxon_metadata.specs.ReadMetadataBlock.{AtMostIsConsumed, AtMo
 ghost use Rattle.claxon_metadata.specs.MetadataBlock.{BlockHasBounds, OutOfMemoryAfterBlockHeader, content_at, content_view, header_view};
 
 mod comment;
+pub mod comment_checks;
 mod streaminfo;
 mod tags;
 

@@ -1,8 +1,6 @@
 //! Reads Vorbis comments.
-ghost use Rattle.std.specs.Prelude.{◌≡◌, ◌≤◌, ◌-◌, ◌/◌, true, false, not, string_bytes, IfOk, IfSome, MatchResult};
-ghost use Rattle.std.specs.List.{list_all, position};
-ghost use Rattle.claxon_format.specs.Comments as comments;
-ghost use Rattle.claxon_format.specs.Comments.{is_separator, not_utf8};
+ghost use Rattle.std.specs.Prelude.{◌≡◌, ◌≤◌, ◌-◌, ◌/◌, true, false, string_bytes, IfOk, IfSome, MatchResult};
+ghost use Rattle.claxon_format.specs.Comments.{not_utf8};
 ghost use Rattle.claxon_format.specs.read.Comments.{entry_at, entry_or_empty_at, entries_at, vendor_at, count_at, comment_at};
 ghost use Rattle.claxon_format.specs.Fault.{EntryNotUtf8};
 ghost use Rattle.claxon_format.specs.Metadata.{max_content_bytes};
@@ -15,6 +13,9 @@ ghost use Rattle.claxon_metadata.specs.ReadMetadataBlock.{AtMostIsConsumed, Comm
 ghost use Rattle.claxon_metadata.specs.VorbisComment.{EndIsChecked, LengthIsRead, OutOfMemoryAfterVendorLength, entry_or_empty_view};
 ghost use Rattle.claxon_metadata.specs.TagEntries.{HaveSeparatorIndices, IsSeparatorIndex, entry_view, entries_view};
 
+use super::comment_checks::{
+    BLOCK_TOO_SHORT, ENTRY_TOO_LONG, EXCESS_DATA, NOT_UTF8, VENDOR_TOO_LONG, separator_of,
+};
 use super::{MAX_BLOCK_LENGTH, VorbisComment, read_bytes};
 use claxon_input::error::{Error, Result};
 use claxon_input::input::ReadBytes;
@@ -36,14 +37,14 @@ pub fn read_vorbis_comment_block<R: ReadBytes, A: Allocator + Copy>(
     ensures within { AtMostIsConsumed R.source length input.old input.new }
 {
     if length < 8 {
-        return Err(Error::FormatError("Vorbis comment block is too short"));
+        return Err(Error::FormatError(BLOCK_TOO_SHORT));
     }
     if length > MAX_BLOCK_LENGTH {
         return Err(Error::Unsupported(
             "Vorbis comment blocks larger than 10 MiB are not supported",
         ));
     }
-    let vendor_length = read_length(input, length - 8, "vendor string too long")?;
+    let vendor_length = read_length(input, length - 8, VENDOR_TOO_LONG)?;
     let vendor = read_vendor(alloc, input, vendor_length)?;
     let count = read_count(input, length / 4)?;
     let comments = read_entries(alloc, input, count, length - 8 - vendor_length)?;
@@ -86,7 +87,7 @@ fn text_of<A: Allocator>(bytes: Vec<u8, A>) -> Result<String<A>>
         (λ error. IsFault EntryNotUtf8 error × (not_utf8 bytes.items ≡ true)) }
 {
     let Ok(text) = String::from_utf8(bytes) else {
-        return Err(Error::FormatError("Vorbis comment or vendor string is not valid UTF-8"));
+        return Err(Error::FormatError(NOT_UTF8));
     };
     Ok(text)
 }
@@ -121,11 +122,7 @@ fn read_entries<R: ReadBytes, A: Allocator + Copy>(
     let mut missing = count;
     let mut bytes_left = length;
     while missing > 0 && bytes_left >= 4 {
-        let entry_length = read_length(
-            input,
-            bytes_left - 4,
-            "Vorbis comment too long for Vorbis comment block",
-        )?;
+        let entry_length = read_length(input, bytes_left - 4, ENTRY_TOO_LONG)?;
         if let Some(entry) = read_entry_or_empty(alloc, input, entry_length)? {
             comments.push(entry)?;
         }
@@ -142,7 +139,7 @@ fn check_end(missing: u32, bytes_left: u32) -> Result<()>
     ensures { EndIsChecked missing bytes_left result }
 {
     if bytes_left > 0 {
-        return Err(Error::FormatError("Vorbis comment block has excess data"));
+        return Err(Error::FormatError(EXCESS_DATA));
     }
     if missing > 0 {
         return Err(Error::FormatError("Vorbis comment block contains wrong number of entries"));
@@ -182,30 +179,6 @@ fn read_entry<R: ReadBytes, A: Allocator>(
     ensures within { AtMostIsConsumed R.source length input.old input.new }
 {
     let bytes = read_bytes(alloc, input, length)?;
-    let Some(place) = first_separator(&bytes) else {
-        return Err(Error::FormatError("Vorbis comment does not contain '='"));
-    };
-    if !is_name(&bytes[..place]) {
-        return Err(Error::FormatError("Vorbis comment field name contains invalid byte"));
-    }
+    let place = separator_of(&bytes)?;
     Ok((text_of(bytes)?, place))
-}
-
-fn first_separator(bytes: &[u8]) -> Option<usize>
-    ensures { result ≡ position is_separator bytes.now }
-{
-    bytes.iter().position(|byte| *byte == b'=')
-}
-
-// Whether all bytes are valid in a field name.
-fn is_name(bytes: &[u8]) -> bool
-    ensures { result ≡ list_all comments.is_name_byte bytes.now }
-{
-    bytes.iter().all(|byte| is_name_byte(*byte))
-}
-
-fn is_name_byte(byte: u8) -> bool
-    ensures { result ≡ comments.is_name_byte byte }
-{
-    (0x20..=0x7d).contains(&byte)
 }

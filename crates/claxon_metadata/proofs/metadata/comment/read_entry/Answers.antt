@@ -1,12 +1,15 @@
-use Rattle.std.proofs.Common.{◌≡◌, ℕ, List, Some, sym, subst}
-use Rattle.std.specs.List.{position}
-use Rattle.claxon_format.specs.Comments.{is_separator}
-use Rattle.claxon_metadata.specs.TagEntries.{IsSeparatorIndex}
+use Rattle.std.proofs.Common.{sym, subst, ℕ, List}
+use Rattle.std.proofs.lemmas.Result.{err_from_is_err_and}
+use Rattle.claxon_metadata.specs.TagEntries.{IsSeparatorIndex, entry_view}
+use Rattle.claxon_metadata.proofs.CommentEntries.{separator_err}
 use Rattle.claxon_metadata.proofs.CommentTexts.{separator_is_index}
 use Rattle.claxon_metadata.proofs.metadata.comment.read_entry.Goals as goal
 
+pub returns-in_err-place-clause-gives : goal.returns-in_err-place-clause-gives
+returns-in_err-place-clause-gives g c =
+    separator_err (entry_view {A = g.row.A.Denot}) c.args.length (err_from_is_err_and c.from_residual-in_err-place.result c.from_residual-in_err-place.ensures.1) c.in_ok-bytes.ensures.gives (rw c.deref.ensures.value at c.in_err-place.ensures)
+
 pub returns-clause-place : goal.returns-clause-place
 returns-clause-place g c =
-    let e : position is_separator c.in_ok-bytes.bytes.items ≡ Some c.in-Some.place = cc in
-    let t = c.in_ok-text_of.ensures in
-    subst (λ (b : List ℕ). IsSeparatorIndex b c.in-Some.place) (sym t.0) (separator_is_index c.in_ok-bytes.bytes.items c.in-Some.place e)
+    let found = rw c.deref.ensures.value at c.in_ok-place.ensures in
+    subst (λ (b : List ℕ). IsSeparatorIndex b c.in_ok-place.place) (sym c.in_ok-text_of.ensures.0) (separator_is_index c.in_ok-bytes.bytes.items c.in_ok-place.place found.0 found.1)
