@@ -41,20 +41,13 @@ module _ (s t : Source ℕ) (j k : GName) (f g : List ℕ → ℕ) where
 
 -- what was read through a CRC reader that was made over a reference
 module _ {R S : Type 0} (source : R → Source ℕ) (update : S → List ℕ → ℕ) (x : R) (j : GName) (f : List ℕ → ℕ) (b c : CrcReader (MutBor R) S) (made : crc_source (over_borrow source) update b ≡ with_crc f (through_loan j (source x))) where
-  pub frame_through : {A Y : Type 0} (count : ℕ) (view : A → Y) (r : Result (Option A) Error) (read : List ℕ → Reading ℕ Y)
-      → GivesOrEofOrOutOfMemory count view r read (bytes_in (crc_source (over_borrow source) update) b) (bytes_in (crc_source (over_borrow source) update) c) → GivesOrEofOrOutOfMemory count view r read (bytes_in source x) (bytes_in source (crc_inner c).now)
+  -- and the reference is still the same
+  pub frame_through : {A Y : Type 0} (count : ℕ) (view : A → Y) (r : Result (Option A) Error) (read : List ℕ → Reading ℕ Y) → GivesOrEofOrOutOfMemory count view r read (bytes_in (crc_source (over_borrow source) update) b) (bytes_in (crc_source (over_borrow source) update) c)
+      → (j ≡ (crc_inner c).ghost_name) × GivesOrEofOrOutOfMemory count view r read (bytes_in source x) (bytes_in source (crc_inner c).now)
   unfolding bytes_in
   frame_through count view r read h =
-      frame_borrowed (source x) (source (crc_inner c).now) j (crc_inner c).ghost_name f (update (crc_state c)) count view r read
-      (subst (λ z. GivesOrEofOrOutOfMemory count view r read (bytes_of_source z) (bytes_of_source (crc_source (over_borrow source) update c))) made h)
-
-  -- and the reference is still the same
-  pub frame_same_borrow : {A Y : Type 0} (count : ℕ) (view : A → Y) (r : Result (Option A) Error) (read : List ℕ → Reading ℕ Y)
-      → GivesOrEofOrOutOfMemory count view r read (bytes_in (crc_source (over_borrow source) update) b) (bytes_in (crc_source (over_borrow source) update) c) → j ≡ (crc_inner c).ghost_name
-  unfolding bytes_in
-  frame_same_borrow count view r read h =
-      frame_borrow_name (source x) (source (crc_inner c).now) j (crc_inner c).ghost_name f (update (crc_state c)) count view r read
-      (subst (λ z. GivesOrEofOrOutOfMemory count view r read (bytes_of_source z) (bytes_of_source (crc_source (over_borrow source) update c))) made h)
+      let k = subst (λ z. GivesOrEofOrOutOfMemory count view r read (bytes_of_source z) (bytes_of_source (crc_source (over_borrow source) update c))) made h in
+      (frame_borrow_name (source x) (source (crc_inner c).now) j (crc_inner c).ghost_name f (update (crc_state c)) count view r read k, frame_borrowed (source x) (source (crc_inner c).now) j (crc_inner c).ghost_name f (update (crc_state c)) count view r read k)
 
   too_small_through : (stream : Option StreamFormat) (capacity : ℕ) → BufferTooSmall stream capacity (bytes_in (crc_source (over_borrow source) update) b) (bytes_in (crc_source (over_borrow source) update) c) → BufferTooSmall stream capacity (bytes_in source x) (bytes_in source (crc_inner c).now)
   unfolding bytes_in

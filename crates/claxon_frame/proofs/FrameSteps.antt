@@ -1,9 +1,9 @@
 -- The calls that read a frame, one after another.
 use Rattle.std.proofs.lemmas.Bool.{lt-ltb}
-use Rattle.std.proofs.Common.{◌≡◌, ℕ, ◌-◌, ◌*◌, ◌≤◌, arith, ◌<◌, inl, inr, true, false, ltb, List, [], length, refl, subst, ◌∙◌, ℤ}
+use Rattle.std.proofs.Common.{◌≡◌, ℕ, ◌-◌, ◌*◌, ◌≤◌, arith, ◌<◌, true, false, ltb, List, length, refl, subst, ◌∙◌, ℤ}
 use Rattle.std.specs.Prelude.{Result, Err, Option, None, Some}
 use Rattle.claxon_format.specs.Fault.{FrameCrc}
-use Rattle.claxon_format.specs.Frame.{Block, IsWidth, StreamFormat, known_width}
+use Rattle.claxon_format.specs.Frame.{IsWidth, StreamFormat, known_width}
 use Rattle.claxon_format.specs.read.Frame.{frame_bytes_at, block_from, subframes_at, Start, start_at}
 use Rattle.claxon_format.specs.read.Bytes.{crc_at}
 use Rattle.claxon_format.specs.FrameWriter.{channel_count}
@@ -14,11 +14,11 @@ use Rattle.claxon_input.specs.declared.error.Error.TheVariants.{IoError, FormatE
 use Rattle.claxon_input.specs.CrcUpdate.{update_crc16}
 use Rattle.claxon_input.specs.Source.{Source, with_crc}
 use Rattle.claxon_input.specs.State.{State}
-use Rattle.claxon_input.specs.Gives.{Consumes, Stops, GivesOrOutOfMemory, or_eof, GivesOrEofOrOutOfMemory}
+use Rattle.claxon_input.specs.Gives.{Consumes, Stops, or_eof, GivesOrEofOrOutOfMemory}
 use Rattle.claxon_input.proofs.CrcReaders.{source_crc_of_taken}
 use Rattle.claxon_input.proofs.CrcUpdate.{determines_crc16}
 use Rattle.claxon_input.proofs.States.{bytes_of_source}
-use Rattle.claxon_input.proofs.ConsecutiveCalls.{consumes_none, consumes_map, consumes_then, stops_as, out_of_memory_or_gives, out_of_memory_later}
+use Rattle.claxon_input.proofs.ConsecutiveCalls.{consumes_map, consumes_then, stops_as}
 use Rattle.claxon_input.specs.Error.{is_out_of_memory}
 use Rattle.claxon_frame.specs.FrameStart.{stream_format_view}
 use Rattle.claxon_frame.specs.FrameReader.{BufferTooSmall}
@@ -27,17 +27,7 @@ use Rattle.claxon_frame.specs.declared.frame.header.parts.ChannelAssignment.{Cha
 use Rattle.claxon_frame.specs.declared.frame.header.parts.ChannelAssignment.TheVariants.{Independent, LeftSideStereo, RightSideStereo, MidSideStereo}
 use Rattle.claxon_frame.specs.declared.frame.header.parts.KnownStreamFormat.{KnownStreamFormat}
 use Rattle.claxon_frame.proofs.FrameParts.{start_stops, channels_stop, footer_is}
-use Rattle.claxon_input.proofs.FieldOrEof.{found, first_stops, some_read, exit_no_memory_or_eof, exit_out_of_memory_or_eof}
-
--- out of memory before anything was read
-pub out_of_memory_at_once : {X A Y : Type 0} (view : A → Y) {r : Result A Error} (read : List X → Reading X Y) (a : State X) {e : Error} → (y : Error) × (r ≡ Err y) × (y ≡ e) → is_out_of_memory e ≡ true → GivesOrOutOfMemory view r read a a
-out_of_memory_at_once view read a {e} p m = rw (p.1, p.2) (go e m)
-  where
-    go : (e : Error) → is_out_of_memory e ≡ true → GivesOrOutOfMemory view (Err e) read a a
-    go OutOfMemory m = record { consumed = consumes_none a (λ s m. Unit {0}) tt }
-    go (IoError cause) m = absurd cc
-    go (FormatError text) m = absurd cc
-    go (Unsupported text) m = absurd cc
+use Rattle.claxon_input.proofs.FieldOrEof.{found, first_stops, some_read, exit_out_of_memory_or_eof}
 
 -- ---- a frame through a CRC-16 reader, whose CRC starts with the frame
 
@@ -121,25 +111,21 @@ channel_count_is LeftSideStereo some few = refl
 channel_count_is RightSideStereo some few = refl
 channel_count_is MidSideStereo some few = refl
 
-error_is_out_of_memory : {A : Type 0} (x : Result A Error) (e : Error) → x ≡ Err e → x ≡ Err OutOfMemory → e ≡ OutOfMemory
-error_is_out_of_memory x e h k = cc
+-- there is no memory for the samples
+pub memory_refused : {X A Y : Type 0} (view : A → Y) {r : Result (Option A) Error} (read : List X → Reading X Y) {e : Error} {a b : State X} {P : List X → List X → Type 0} → (y : Error) × (r ≡ Err y) × (y ≡ e) → is_out_of_memory e ≡ true → Consumes a b P
+    → GivesOrEofOrOutOfMemory 2 view r read a b
+memory_refused view read {e} {a} {b} p m h = exit_out_of_memory_or_eof 2 view read (p.0, p.1, p.2 ∙ go e m) (record { consumed = consumes_map (λ s m. Unit {0}) h (λ p. tt) })
+  where
+    go : (e : Error) → is_out_of_memory e ≡ true → e ≡ OutOfMemory
+    go OutOfMemory m = refl
+    go (IoError cause) m = absurd cc
+    go (FormatError text) m = absurd cc
+    go (Unsupported text) m = absurd cc
 
-abbrev pub nothing : Unit {0} → List (List ℤ)
-nothing u = []
-
-module _ (stream : Option StreamFormat) (width : IsWidth (known_width stream)) where
-  -- the subframes are invalid or incomplete, or there is no memory for the samples
-  pub channels_failed : {A : Type 0} (view : A → Block) {r : Result (Option A) Error} {e : Error} {start : Start} {a b : State ℕ} (c : State ℕ) → (y : Error) × (r ≡ Err y) × (y ≡ e)
-      → Consumes a b (λ s m. or_eof 2 (start_at stream) s ≡ Done (Some start) m) → GivesOrOutOfMemory nothing (Err e) (subframes_at start.size (widths start.channels start.width)) b c → GivesOrEofOrOutOfMemory 2 view r (frame_bytes_at stream) a c
-  channels_failed view {e = e} {start = start} {b = b} c p h k = elim (out_of_memory_or_gives nothing (Err e) (subframes_at start.size (widths start.channels start.width)) b c k) [
-    | inl q ↦ exit_out_of_memory_or_eof 2 view (frame_bytes_at stream) (p.0, p.1, p.2 ∙ error_is_out_of_memory (Err e) e refl q.0) (out_of_memory_later h q.1)
-    | inr q ↦ exit_no_memory_or_eof 2 view (frame_bytes_at stream) p (channels_stopped stream width h q)
-  ]
-
-  -- and then just the header was consumed
-  pub buffer_too_small : {start : Start} {a b c : State ℕ} (capacity n : ℕ) → Consumes a b (λ s m. or_eof 2 (start_at stream) s ≡ Done (Some start) m) → Consumes b c (λ s m. s ≡ m) → n ≡ channel_count start.channels → capacity < n * start.size → BufferTooSmall stream capacity a c
-  buffer_too_small {start = start} {a = a} {b = b} {c = c} capacity n h k e small = record {
-    start = start;
-    header = consumes_then _ h k (λ p q. subst (λ z. start_at stream a.remaining ≡ Done start z) q (some_read 2 (start_at stream) a.remaining start b.remaining p).1);
-    small = rw (← e) small;
-  }
+-- and then just the header was consumed
+pub buffer_too_small : (stream : Option StreamFormat) {start : Start} {a b : State ℕ} (capacity n : ℕ) → Consumes a b (λ s m. or_eof 2 (start_at stream) s ≡ Done (Some start) m) → n ≡ channel_count start.channels → capacity < n * start.size → BufferTooSmall stream capacity a b
+buffer_too_small stream {start = start} {a = a} {b = b} capacity n h e small = record {
+  start = start;
+  header = consumes_map _ h (λ p. (some_read 2 (start_at stream) a.remaining start b.remaining p).1);
+  small = rw (← e) small;
+}

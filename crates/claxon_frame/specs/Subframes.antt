@@ -1,12 +1,10 @@
 -- The clauses of the calls that read the subframes of a frame into a buffer, one channel after another (RFC 9639, section 9.2).
-use Rattle.std.specs.Prelude.{ℕ, ◌*◌, List, ℤ, Bool, Result}
-use Rattle.claxon_format.specs.Bits.{Bits}
+use Rattle.std.specs.Prelude.{ℕ, ◌*◌, List, ℤ, Result}
 use Rattle.claxon_format.specs.read.Reading.{Reading}
-use Rattle.claxon_format.specs.read.Frame.{coded_channels_at, subframes_at}
+use Rattle.claxon_format.specs.read.Frame.{subframes_at}
 use Rattle.claxon_input.specs.Gives.{Gives}
 use Rattle.claxon_input.specs.Source.{Source}
-use Rattle.claxon_input.specs.State.{bits_in, bytes_in}
-use Rattle.claxon_input.specs.declared.bits.Bitstream.{Bitstream}
+use Rattle.claxon_input.specs.State.{bytes_in}
 use Rattle.claxon_input.specs.declared.error.Error.{Error}
 use Rattle.claxon_frame.specs.Block.{chunks}
 use Rattle.claxon_frame.specs.FrameHeader.{channels_of, subframe_bit_depths}
@@ -20,27 +18,14 @@ sample_count header = channels_of header.channel_assignment * header.block_size
 abbrev pub channels_in : FrameHeader → List ℤ → List (List ℤ)
 channels_in header buffer = chunks (channels_of header.channel_assignment) header.block_size buffer
 
--- the reader of the coded channels after this header
-abbrev pub coded_channels_after : FrameHeader → Bits → Reading Bool (List (List ℤ))
-coded_channels_after header =
-    coded_channels_at header.block_size
-    (subframe_bit_depths header.channel_assignment header.bits_per_sample)
-
 -- the reader of the subframes after this header: the coded channels, and the padding to the next byte
 abbrev pub subframes_after : FrameHeader → List ℕ → Reading ℕ (List (List ℤ))
 subframes_after header =
     subframes_at header.block_size
     (subframe_bit_depths header.channel_assignment header.bits_per_sample)
 
--- After an Ok the buffer holds the coded channels after this header, and just their bits were consumed. An Err is the fault of
--- the bits that were consumed, or an `IoError` where the source failed or the input ended.
-abbrev pub CodedChannelsAreRead : {R A : Type 0} {g : _} → (R → Source ℕ) → FrameHeader
-    → Bitstream R g → Result A Error → Bitstream R g → List ℤ → Type 0
-CodedChannelsAreRead source header old result new buffer =
-    Gives (λ x. channels_in header buffer) result (coded_channels_after header)
-    (bits_in source old) (bits_in source new)
-
--- The same of the subframes, with their padding.
+-- After an Ok the buffer holds the coded channels after this header, and just the subframes and the padding were consumed. An Err
+-- is the fault of the bytes that were consumed, or an `IoError` where the source failed or the input ended.
 abbrev pub SubframesAreRead : {R A : Type 0} → (R → Source ℕ) → FrameHeader → R → Result A Error
     → R → List ℤ → Type 0
 SubframesAreRead source header old result new buffer =

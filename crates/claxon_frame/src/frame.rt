@@ -8,12 +8,12 @@ ghost use Rattle.claxon_format.specs.Fault.{Fault, FrameCrc};
 ghost use Rattle.claxon_format.specs.read.Bytes.{crc_at};
 ghost use Rattle.claxon_input.specs.CrcReader.{crc_state};
 ghost use Rattle.claxon_input.specs.State.{bytes_in};
-ghost use Rattle.claxon_input.specs.Gives.{Gives, GivesOrOutOfMemory, Consumes, GivesOrEofOrOutOfMemory};
+ghost use Rattle.claxon_input.specs.Gives.{Gives, GivesOrEofOrOutOfMemory};
 ghost use Rattle.claxon_input.specs.Promises.{IfOutOfMemory};
 ghost use Rattle.claxon_frame.specs.FrameCrc.{crc16_bytes};
 ghost use Rattle.claxon_frame.specs.FrameStart.{stream_format_view, start_view};
 ghost use Rattle.claxon_frame.specs.FrameReader.{BlockHasSamples, BlockKeepsCapacity, BufferTooSmall, block_view};
-ghost use Rattle.claxon_frame.specs.Subframes.{CodedChannelsAreRead, SubframesAreRead, channels_in, sample_count, subframes_after};
+ghost use Rattle.claxon_frame.specs.Subframes.{SubframesAreRead, channels_in, sample_count};
 
 mod block;
 mod header;
@@ -159,8 +159,7 @@ impl<R: ReadBytes> FrameReader<R> {
     }
 }
 
-// The CRC-16 reader is made here, and `read_frame_or_eof` reads through a reference to it: if two wrappers are made in one
-// function the prover loses the shape of the inner one.
+// `read_next_or_eof`, with its exact clause.
 fn read_next_or_eof_exact<R: ReadBytes, A: Allocator>(
     input: &mut R,
     stream: Option<KnownStreamFormat>,
@@ -177,56 +176,15 @@ fn read_next_or_eof_exact<R: ReadBytes, A: Allocator>(
     ensures max_capacity { IfOutOfMemory result (vec_capacity buffer < max_block_samples) }
 {
     let mut input = Crc16Reader::new(input);
-    read_frame_or_eof(&mut input, stream, buffer)
-}
-
-// Reads a frame through a CRC-16 reader, whose CRC starts with the frame.
-fn read_frame_or_eof<R: ReadBytes, A: Allocator>(
-    input: &mut Crc16Reader<R>,
-    stream: Option<KnownStreamFormat>,
-    buffer: Vec<i32, A>,
-) -> FrameResult<A>
-    requires { crc_state input.old ≡ 0 }
-    ensures gives { GivesOrEofOrOutOfMemory 2 block_view result
-        (frame_bytes_at (stream_format_view stream))
-        (crc16_bytes R.source input.old) (crc16_bytes R.source input.new) }
-    ensures some { BlockHasSamples result }
-    ensures kept_capacity { BlockKeepsCapacity (vec_capacity buffer) result }
-    ensures buffer_too_small { IfOutOfMemory result
-        (BufferTooSmall (stream_format_view stream) (vec_capacity buffer)
-        (crc16_bytes R.source input.old) (crc16_bytes R.source input.new)) }
-    ensures max_capacity { IfOutOfMemory result (vec_capacity buffer < max_block_samples) }
-{
-    let Some(header) = read_frame_header_or_eof(input, stream)? else {
+    let Some(header) = read_frame_header_or_eof(&mut input, stream)? else {
         return Ok(None);
     };
-    let buffer = read_channels(input, &header, buffer)?;
-    check_footer(input)?;
-    Ok(Some(to_block(header, buffer)))
-}
-
-// The subframes of all channels, in the buffer's memory if it is large enough.
-fn read_channels<R: ReadBytes, A: Allocator>(
-    input: &mut R,
-    header: &FrameHeader,
-    buffer: Vec<i32, A>,
-) -> Result<Vec<i32, A>>
-    ensures len { IfOk result (λ filled. vec_len filled ≡ sample_count header.now) }
-    ensures kept_capacity { IfOk result (λ filled. vec_capacity buffer ≤ vec_capacity filled) }
-    ensures gives { GivesOrOutOfMemory (λ filled. channels_in header.now filled.items) result
-        (subframes_after header.now)
-        (bytes_in R.source input.old) (bytes_in R.source input.new) }
-    ensures buffer_too_small { IfOutOfMemory result
-        (vec_capacity buffer < sample_count header.now) }
-    ensures max_capacity { IfOutOfMemory result (vec_capacity buffer < max_block_samples) }
-    ensures none_consumed { IfOutOfMemory result
-        (Consumes (bytes_in R.source input.old) (bytes_in R.source input.new) (λ s m. s ≡ m)) }
-{
     let samples = usize::from(header.channel_assignment.channels())
         * usize::from(header.block_size);
     let mut buffer = ensure_buffer_len(buffer, samples)?;
-    decode_subframes(input, header, buffer.as_mut_slice())?;
-    Ok(buffer)
+    decode_subframes(&mut input, &header, buffer.as_mut_slice())?;
+    check_footer(&mut input)?;
+    Ok(Some(to_block(header, buffer)))
 }
 
 // The block of the decoded subframes in the buffer: decorrelation is still to be undone.
@@ -260,7 +218,12 @@ fn ensure_buffer_len<A: Allocator>(buffer: Vec<i32, A>, new_len: usize) -> Resul
     Ok(buffer)
 }
 
-// The subframes of all channels, and the padding up to the next byte boundary, whose bits may have any value.
+// The subframes of all channels, decoded into the buffer one after another, and the padding up to the next byte boundary, whose
+// bits may have any value.
+//
+// The `Bitstream` is made here, since the prover loses the shape of a wrapper around another one that is made in the same function,
+// and the caller makes the frame's CRC-16 reader.
+#[tactic(auto, using(crate::proofs::SubframesInBuffer::channels_fit))]
 fn decode_subframes<R: ReadBytes>(
     input: &mut R,
     header: &FrameHeader,
@@ -270,25 +233,12 @@ fn decode_subframes<R: ReadBytes>(
     ensures { SubframesAreRead R.source header.now input.old result input.new buffer.new }
 {
     let mut bits = Bitstream::new(input);
-    decode_channels(&mut bits, header, buffer)
-}
-
-// The subframes of all channels, decoded into the buffer one after another.
-#[tactic(auto, using(crate::proofs::SubframesInBuffer::channels_fit))]
-fn decode_channels<R: ReadBytes>(
-    input: &mut Bitstream<R>,
-    header: &FrameHeader,
-    buffer: &mut [i32],
-) -> Result<()>
-    requires { length buffer.old ≡ sample_count header.now }
-    ensures { CodedChannelsAreRead R.source header.now input.old result input.new buffer.new }
-{
     let assignment = header.channel_assignment;
     let size = usize::from(header.block_size);
     let mut start = 0;
     for ch in 0..assignment.channels() {
         let bit_depth = assignment.bit_depth(header.bits_per_sample, ch);
-        subframe::decode(input, bit_depth, &mut buffer[start..start + size])?;
+        subframe::decode(&mut bits, bit_depth, &mut buffer[start..start + size])?;
         start += size;
     }
     Ok(())
@@ -303,8 +253,9 @@ fn check_footer<R: ReadBytes>(input: &mut Crc16Reader<R>) -> Result<()>
 {
     let computed = input.crc();
     let stored = input.read_be_u16()?;
-    if stored != computed {
-        return Err(Error::FormatError("frame CRC mismatch"));
+    if stored == computed {
+        Ok(())
+    } else {
+        Err(Error::FormatError("frame CRC mismatch"))
     }
-    Ok(())
 }

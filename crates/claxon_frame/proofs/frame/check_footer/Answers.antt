@@ -6,10 +6,10 @@ use Rattle.claxon_input.specs.CrcUpdate.{update_crc16}
 use Rattle.claxon_input.proofs.ByteFields.{consumes_big}
 use Rattle.claxon_frame.proofs.frame.check_footer.Goals as goal
 
-pub returns-clause-gives : goal.returns-clause-gives
-unfolding crc_at fault_text
-returns-clause-gives g c = search (rules, consumes_big (crc_source g.R.ReadBytes.source update_crc16) 2 c.in_ok-stored.stored (search rules) c.in_ok-stored.ensures.ok)
-
 pub returns-then-stored-computed-clause-gives : goal.returns-then-stored-computed-clause-gives
 unfolding crc_at fault_text
 returns-then-stored-computed-clause-gives g c = search (rules, consumes_big (crc_source g.R.ReadBytes.source update_crc16) 2 c.in_ok-stored.stored (search rules) c.in_ok-stored.ensures.ok)
+
+pub returns-else-stored-computed-clause-gives : goal.returns-else-stored-computed-clause-gives
+unfolding crc_at fault_text
+returns-else-stored-computed-clause-gives g c = search (rules, consumes_big (crc_source g.R.ReadBytes.source update_crc16) 2 c.in_ok-stored.stored (search rules) c.in_ok-stored.ensures.ok)
