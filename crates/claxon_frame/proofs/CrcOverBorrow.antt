@@ -42,16 +42,10 @@ module _ (s t : Source ℕ) (j k : GName) (f g : List ℕ → ℕ) where
   gives_or_eof_borrow_name count view r read h = let e : k ∷ t.loans ≡ j ∷ s.loans = gives_or_eof_loans count view r read _ _ h in cc
 
 module _ {R A Y : Type 0} (source : R → Source ℕ) (x : R) (j : GName) (b c : CrcReader (MutBor R) ℕ) (count : ℕ) (view : A → Y) (r : Result (Option A) Error) (read : List ℕ → Reading ℕ Y) where
+  -- and the reference is still the same
   pub gives_or_eof_through : crc_source (over_borrow source) update_crc8 b ≡ with_crc (update_crc8 0) (through_loan j (source x))
-      → GivesOrEof count view r read (bytes_in (crc_source (over_borrow source) update_crc8) b) (bytes_in (crc_source (over_borrow source) update_crc8) c) → GivesOrEof count view r read (bytes_in source x) (bytes_in source (crc_inner c).now)
+      → GivesOrEof count view r read (bytes_in (crc_source (over_borrow source) update_crc8) b) (bytes_in (crc_source (over_borrow source) update_crc8) c) → (j ≡ (crc_inner c).ghost_name) × GivesOrEof count view r read (bytes_in source x) (bytes_in source (crc_inner c).now)
   unfolding bytes_in
   gives_or_eof_through e h =
-      gives_or_eof_borrowed (source x) (source (crc_inner c).now) j (crc_inner c).ghost_name (update_crc8 0) (update_crc8 (crc_state c)) count view r read
-      (subst (λ z. GivesOrEof count view r read (bytes_of_source z) (bytes_of_source (crc_source (over_borrow source) update_crc8 c))) e h)
-
-  pub gives_or_eof_name : crc_source (over_borrow source) update_crc8 b ≡ with_crc (update_crc8 0) (through_loan j (source x))
-      → GivesOrEof count view r read (bytes_in (crc_source (over_borrow source) update_crc8) b) (bytes_in (crc_source (over_borrow source) update_crc8) c) → j ≡ (crc_inner c).ghost_name
-  unfolding bytes_in
-  gives_or_eof_name e h =
-      gives_or_eof_borrow_name (source x) (source (crc_inner c).now) j (crc_inner c).ghost_name (update_crc8 0) (update_crc8 (crc_state c)) count view r read
-      (subst (λ z. GivesOrEof count view r read (bytes_of_source z) (bytes_of_source (crc_source (over_borrow source) update_crc8 c))) e h)
+      let k = subst (λ z. GivesOrEof count view r read (bytes_of_source z) (bytes_of_source (crc_source (over_borrow source) update_crc8 c))) e h in
+      (gives_or_eof_borrow_name (source x) (source (crc_inner c).now) j (crc_inner c).ghost_name (update_crc8 0) (update_crc8 (crc_state c)) count view r read k, gives_or_eof_borrowed (source x) (source (crc_inner c).now) j (crc_inner c).ghost_name (update_crc8 0) (update_crc8 (crc_state c)) count view r read k)

@@ -1,14 +1,10 @@
--- What remains of the readers that compute the CRCs of a frame and of its header (RFC 9639, sections 9.1.8 and 9.3).
+-- What remains of the reader that computes the CRC of a frame (RFC 9639, section 9.3).
 use Rattle.std.specs.Prelude.{ℕ}
 use Rattle.claxon_input.specs.CrcReader.{crc_source}
-use Rattle.claxon_input.specs.CrcUpdate.{update_crc8, update_crc16}
+use Rattle.claxon_input.specs.CrcUpdate.{update_crc16}
 use Rattle.claxon_input.specs.Source.{Source}
 use Rattle.claxon_input.specs.State.{State, bytes_in}
 use Rattle.claxon_input.specs.declared.crc.CrcReader.{CrcReader}
-
--- what remains of a CRC-8 reader, over a reader with this source
-abbrev pub crc8_bytes : {R : Type 0} → (R → Source ℕ) → CrcReader R ℕ → State ℕ
-crc8_bytes source reader = bytes_in (crc_source source update_crc8) reader
 
 -- what remains of a CRC-16 reader, over a reader with this source
 abbrev pub crc16_bytes : {R : Type 0} → (R → Source ℕ) → CrcReader R ℕ → State ℕ

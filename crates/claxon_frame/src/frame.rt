@@ -221,8 +221,8 @@ fn ensure_buffer_len<A: Allocator>(buffer: Vec<i32, A>, new_len: usize) -> Resul
 // The subframes of all channels, decoded into the buffer one after another, and the padding up to the next byte boundary, whose
 // bits may have any value.
 //
-// The `Bitstream` is made here, since the prover loses the shape of a wrapper around another one that is made in the same function,
-// and the caller makes the frame's CRC-16 reader.
+// The `Bitstream` is made here: the prover loses the shape of a wrapper around another one that is made in the same function, and
+// the other one is the frame's CRC-16 reader.
 #[tactic(auto, using(crate::proofs::SubframesInBuffer::channels_fit))]
 fn decode_subframes<R: ReadBytes>(
     input: &mut R,

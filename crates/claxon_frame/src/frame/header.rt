@@ -1,16 +1,13 @@
 //! The header of a frame (RFC 9639, section 9.1).
 ghost use Rattle.std.specs.Prelude.{◌≡◌, ℕ, ◌+◌, ◌*◌, ◌<◌, ◌≤◌, IfOk, IfErr, false};
 ghost use Rattle.std.specs.Option.{ForSome};
-ghost use Rattle.claxon_format.specs.CodedNumber.{bad_first};
 ghost use Rattle.claxon_format.specs.Fault.{HeaderCrc, BitDepthReserved};
 ghost use Rattle.claxon_format.specs.Frame.{block_step, known_width, time_of};
 ghost use Rattle.claxon_format.specs.read.Bytes.{crc_at, big_at};
 ghost use Rattle.claxon_format.specs.Header.{rate_bytes, bit_depth_reserved};
 ghost use Rattle.claxon_format.specs.read.Reading.{done, test};
-ghost use Rattle.claxon_input.specs.CrcReader.{crc_state};
 ghost use Rattle.claxon_input.specs.State.{State, bytes_in};
 ghost use Rattle.claxon_input.specs.Gives.{Gives, GivesOrEof};
-ghost use Rattle.claxon_frame.specs.FrameCrc.{crc8_bytes};
 ghost use Rattle.claxon_frame.specs.FrameHeader.{HasBitDepthCode, channel_code, channels_of, is_variable, least_size, block_time_view, max_bit_depth, bit_depth_code};
 ghost use Rattle.claxon_input.specs.Error.{is_out_of_memory};
 ghost use Rattle.claxon_format.specs.read.Header.{fields_at, blocking_at, channels_at, codes_at, fields_after, fields_with_crc_at, number_in, rate_at, size_coding, size_at, sync_at, width_at};
@@ -98,27 +95,20 @@ fn resolve_bit_depth(fields: &HeaderFields, stream: Option<KnownStreamFormat>) -
     }
 }
 
-// The CRC-8 reader is made here, and `read_and_check_fields` reads through a reference to it: the prover loses the shape of a
-// wrapper around another one that is made in the same function, and here the other one is the frame's CRC-16 reader.
+// The fields, and then the CRC-8 of their bytes.
+//
+// The CRC-8 reader is made here: the prover loses the shape of a wrapper around another one that is made in the same function,
+// and the other one is the frame's CRC-16 reader.
 fn read_fields_with_crc<R: ReadBytes>(input: &mut R) -> Result<Option<HeaderFields>>
     ensures { GivesOrEof 2 fields_view result fields_with_crc_at
         (bytes_in R.source input.old) (bytes_in R.source input.new) }
 {
     let mut input = Crc8Reader::new(input);
-    read_and_check_fields(&mut input)
-}
-
-// Reads the fields through a CRC-8 reader, whose CRC starts with them, and then checks the CRC.
-fn read_and_check_fields<R: ReadBytes>(input: &mut Crc8Reader<R>) -> Result<Option<HeaderFields>>
-    requires { crc_state input.old ≡ 0 }
-    ensures { GivesOrEof 2 fields_view result fields_with_crc_at
-        (crc8_bytes R.source input.old) (crc8_bytes R.source input.new) }
-{
-    let Some(fields) = read_fields_or_eof(input)? else {
+    let Some(fields) = read_fields_or_eof(&mut input)? else {
         return Ok(None);
     };
     let computed = input.crc();
-    check_header_crc(input, computed)?;
+    check_header_crc(&mut input, computed)?;
     Ok(Some(fields))
 }
 
@@ -310,17 +300,11 @@ fn read_var_length_int<R: ReadBytes>(input: &mut R) -> Result<u64>
     if ones == 0 {
         return Ok(u64::from(first));
     }
-    if is_invalid_first_byte(first) {
+    // A byte 10xxxxxx is a continuation byte, and 11111111 is in no number.
+    if matches!(first, 0x80..=0xbf | 0xff) {
         return Err(Error::FormatError("invalid variable-length integer"));
     }
     read_continuation_bytes(input, ones - 1, u64::from(first & (0x7f >> ones)))
-}
-
-// A byte 10xxxxxx is a continuation byte, and 11111111 is in no number.
-fn is_invalid_first_byte(first: u8) -> bool
-    ensures { result ≡ bad_first first }
-{
-    matches!(first, 0x80..=0xbf | 0xff)
 }
 
 // `count` continuation bytes of a number, six bits each.

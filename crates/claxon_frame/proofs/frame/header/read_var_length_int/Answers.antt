@@ -1,26 +1,22 @@
-use Rattle.std.proofs.Common.{refl, sym, ◌∙◌, rules}
-use Rattle.claxon_format.specs.Fault.{NumberFirst, fault_text}
+use Rattle.std.proofs.Common.{◌≡◌, false, rules}
+use Rattle.claxon_format.specs.CodedNumber.{bad_first}
 use Rattle.claxon_input.proofs.ByteFields.{consumes_byte}
 use Rattle.claxon_input.proofs.ConsecutiveCalls.{gives_after, consumes_map}
-use Rattle.claxon_input.proofs.Faults.{stops_fault}
-use Rattle.claxon_frame.proofs.ContinuationBytes.{one_byte, more_bytes, coded_good, coded_one, coded_bad}
+use Rattle.claxon_frame.proofs.ContinuationBytes.{one_byte, more_bytes, coded_good, coded_one}
 use Rattle.claxon_frame.proofs.frame.header.read_var_length_int.Goals as goal
 
 pub returns-then-ones-eq0 : goal.returns-then-ones-eq0
 returns-then-ones-eq0 g c =
     rw c.from.ensures (consumes_map _ (consumes_byte g.R.ReadBytes.source c.in_ok-first.first (search rules) c.in_ok-first.ensures.ok) (λ p. coded_one _ _ (one_byte c.in_ok-first.first c.leading_ones-ones.result (search rules) c.leading_ones-ones.ensures c.if-ones-eq0.true) p))
 
-pub returns-then-is_invalid_first_byte : goal.returns-then-is_invalid_first_byte
-unfolding fault_text
-returns-then-is_invalid_first_byte g c =
-    stops_fault NumberFirst refl refl (refl, refl) (consumes_map _ (consumes_byte g.R.ReadBytes.source c.in_ok-first.first (search rules) c.in_ok-first.ensures.ok) (λ p. coded_bad c.in_ok-first.first _ _ (sym c.is_invalid_first_byte.ensures ∙ c.if-is_invalid_first_byte.true) p))
-
 pub read_continuation_bytes-requires-clause-number : goal.read_continuation_bytes-requires-clause-number
 read_continuation_bytes-requires-clause-number g c =
-    let m = more_bytes c.in_ok-first.first c.leading_ones-ones.result (search rules) c.leading_ones-ones.ensures c.if-ones-eq0.false (sym c.is_invalid_first_byte.ensures ∙ c.if-is_invalid_first_byte.false) in
+    let good : bad_first c.in_ok-first.first ≡ false = search rules in
+    let m = more_bytes c.in_ok-first.first c.leading_ones-ones.result (search rules) c.leading_ones-ones.ensures c.if-ones-eq0.false good in
     rw c.from-2.ensures m.1.0
 
 pub returns : goal.returns
 returns g c =
-    let m = more_bytes c.in_ok-first.first c.leading_ones-ones.result (search rules) c.leading_ones-ones.ensures c.if-ones-eq0.false (sym c.is_invalid_first_byte.ensures ∙ c.if-is_invalid_first_byte.false) in
+    let good : bad_first c.in_ok-first.first ≡ false = search rules in
+    let m = more_bytes c.in_ok-first.first c.leading_ones-ones.result (search rules) c.leading_ones-ones.ensures c.if-ones-eq0.false good in
     gives_after _ c.read_continuation_bytes.result _ (consumes_map _ (consumes_byte g.R.ReadBytes.source c.in_ok-first.first (search rules) c.in_ok-first.ensures.ok) (λ p. rw c.from-2.ensures (coded_good _ _ m.0 p))) c.read_continuation_bytes.ensures
