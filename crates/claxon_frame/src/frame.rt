@@ -1,10 +1,10 @@
 //! Frames: blocks of samples, one after another.
-ghost use Rattle.std.specs.Prelude.{◌≡◌, ◌+◌, ◌*◌, ◌<◌, ◌≤◌, true, IfOk, IfErr, Ok, Some, None, length, vec_len, vec_capacity};
+ghost use Rattle.std.specs.Prelude.{◌≡◌, ◌*◌, ◌<◌, ◌≤◌, true, IfOk, IfErr, Some, None, length, vec_len, vec_capacity};
 ghost use Rattle.claxon_format.specs.read.Frame.{block_from, frame_bytes_at};
 ghost use Rattle.claxon_frame.specs.Block.{max_block_samples};
 ghost use Rattle.claxon_format.specs.Streams.{duration_of};
 ghost use Rattle.claxon_input.specs.Error.{is_out_of_memory};
-ghost use Rattle.claxon_format.specs.Fault.{Fault, FrameCrc};
+ghost use Rattle.claxon_format.specs.Fault.{FrameCrc};
 ghost use Rattle.claxon_format.specs.read.Bytes.{crc_at};
 ghost use Rattle.claxon_input.specs.CrcReader.{crc_state};
 ghost use Rattle.claxon_input.specs.State.{bytes_in};

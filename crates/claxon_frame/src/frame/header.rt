@@ -1,5 +1,5 @@
 //! The header of a frame (RFC 9639, section 9.1).
-ghost use Rattle.std.specs.Prelude.{◌≡◌, ℕ, ◌+◌, ◌*◌, ◌<◌, ◌≤◌, IfOk, IfErr, false};
+ghost use Rattle.std.specs.Prelude.{◌≡◌, ℕ, ◌<◌, ◌≤◌, IfOk, IfErr, false};
 ghost use Rattle.std.specs.Option.{ForSome};
 ghost use Rattle.claxon_format.specs.Fault.{HeaderCrc, BitDepthReserved};
 ghost use Rattle.claxon_format.specs.Frame.{block_step, known_width, time_of};

@@ -30,7 +30,7 @@ returns-in_err-decode g c =
 pub loop-ch-preserved : goal.loop-ch-preserved
 loop-ch-preserved g c =
     let lt : c.loop-ch.ch < channels_of c.args.header.now.channel_assignment = omega (arith, c.channels-ch-end.ensures) in
-    channels_next c.bit_depth-bit_depth.result c.decode.new.buffer lt (sym (c.bit_depth-bit_depth.ensures.value c.args.header.now.max_channels lt)) c.loop-ch.invariant c.decode.auto.buffer c.in_ok-decode.ensures.gives
+    channels_next {ws = subframe_bit_depths c.args.header.now.channel_assignment c.args.header.now.bits_per_sample} c.bit_depth-bit_depth.result c.decode.new.buffer lt (sym (c.bit_depth-bit_depth.ensures.value c.args.header.now.max_channels lt)) c.loop-ch.invariant c.decode.auto.buffer c.in_ok-decode.ensures.gives
 
 pub returns : goal.returns
 unfolding subframes_at
