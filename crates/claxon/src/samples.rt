@@ -1,5 +1,6 @@
 //! Samples one by one.
 ghost use Rattle.std.specs.Prelude.{◌≡◌, ◌≤◌, ◌<◌, ◌∷◌, true, false, IfOk, IsTrue, length, Some};
+ghost use Rattle.claxon_format.specs.Streams.{duration_of};
 
 use crate::error::Result;
 use crate::input::ReadBytes;
@@ -29,7 +30,7 @@ pub struct FlacSamples<R, A: Allocator = Global> {
 
 impl<R: ReadBytes, A: Allocator + Copy> FlacSamples<R, A> {
     ghost use Rattle.std.specs.Prelude.{[]};
-    ghost use Rattle.claxon_format.specs.Streams.{interleave, duration_of};
+    ghost use Rattle.claxon_format.specs.Streams.{interleave};
     ghost use Rattle.claxon.specs.FlacReader.{samples_input};
     ghost use Rattle.claxon_frame.specs.FrameReader.{BlockKeepsCapacity, MaxCapacityIsEnough, stream_with};
     ghost use Rattle.claxon.specs.FlacSamples.{NextBlock, NextSample, NextBlockIsRead, OutOfMemoryForLargerBlock, block_answer, have_failed, samples_left, samples_capacity, samples_stream};
