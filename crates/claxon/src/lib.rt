@@ -64,6 +64,13 @@ pub mod metadata {
         GetTag, MetadataBlock, MetadataBlockReader, MetadataBlockResult, SeekPoint, SeekTable,
         StreamInfo, Tags, VorbisComment, read_metadata_block, read_metadata_block_with_header,
     };
+
+    /// Checks of Vorbis comments, for code that looks at the bytes of a block in memory, as `claxon_c` does.
+    pub mod comment_checks {
+        pub use claxon_metadata::metadata::comment_checks::{
+            BLOCK_TOO_SHORT, ENTRY_TOO_LONG, EXCESS_DATA, NOT_UTF8, VENDOR_TOO_LONG, separator_of,
+        };
+    }
 }
 
 /// Subframes: the samples of a channel.
