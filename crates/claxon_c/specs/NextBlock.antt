@@ -2,7 +2,7 @@
 use Rattle.std.specs.Prelude.{◌≡◌, ◌≢◌, ◌⊎◌, ◌↔◌, ℕ, ℤ, ◌+◌, ◌*◌, ◌<◌, ◌≤◌, List, ◌++◌, length, drop, Result, Ok, Err, None, Some}
 use Rattle.claxon.specs.Fault.{Fault}
 use Rattle.claxon.specs.Frame.{Block, Frame, FrameBytesFault}
-use Rattle.claxon.specs.Streams.{duration, interleave}
+use Rattle.claxon.specs.Streams.{duration_of, interleave}
 use Rattle.claxon.specs.Promises.{HasNeither}
 use Rattle.claxon.specs.Errors.{Error}
 use Rattle.claxon.specs.Block.{BlockValue, joined}
@@ -23,18 +23,18 @@ Layout = List (List ℤ) → List ℤ → List ℤ → Type 0
 -- The buffer begins with the interleaved samples, and its rest is unchanged.
 abbrev pub InterleavedArePut : Layout
 InterleavedArePut channels old new =
-    new ≡ interleave channels ++ drop (length channels * duration channels) old
+    new ≡ interleave channels ++ drop (length channels * duration_of channels) old
 
 -- The buffer begins with the samples of one channel after another, and its rest is unchanged.
 abbrev pub PlanarArePut : Layout
 PlanarArePut channels old new =
-    new ≡ joined channels ++ drop (length channels * duration channels) old
+    new ≡ joined channels ++ drop (length channels * duration_of channels) old
 
 -- It shows this block.
 pub record ShowsBlock (b : Block) (shown : ClaxonBlock) : Type 0 where
   pub time : shown.time ≡ b.time
   pub channels : shown.channels ≡ length b.channels
-  pub duration_is : shown.duration ≡ duration b.channels
+  pub duration_is : shown.duration ≡ duration_of b.channels
 
 -- It shows what a header says of its block.
 pub record ShowsInfo (info : BlockInfo) (shown : ClaxonBlock) : Type 0 where
@@ -45,9 +45,9 @@ pub record ShowsInfo (info : BlockInfo) (shown : ClaxonBlock) : Type 0 where
 -- The samples of the block are written where they fit, else the status is `buffer_short`.
 abbrev pub GivesSamples : Layout → Block → ℕ → List ℤ → List ℤ → Type 0
 GivesSamples Put b status old new =
-    ((status ≡ ok) × (length b.channels * duration b.channels ≤ length old)
+    ((status ≡ ok) × (length b.channels * duration_of b.channels ≤ length old)
     × Put b.channels old new)
-    ⊎ ((status ≡ buffer_short) × (length old < length b.channels * duration b.channels))
+    ⊎ ((status ≡ buffer_short) × (length old < length b.channels * duration_of b.channels))
 
 -- the status says that there is a frame, or its header
 abbrev pub IsBlockStatus : ℕ → Type 0
@@ -162,7 +162,7 @@ module _ (info : ClaxonInfo) (bytes : List ℕ) (from capacity : ℕ) where
   -- A frame was decoded whose samples fit, and the position is after it.
   pub record IsDecoded (found : BlockValue) (to : ℕ) (shown : ClaxonBlock) : Type 0 where
     pub not_larger : IsLarger info bytes from capacity → ⊥
-    pub fits : length found.channels * duration found.channels ≤ capacity
+    pub fits : length found.channels * duration_of found.channels ≤ capacity
     pub count : ℕ
     pub frame : FrameAtStart (known_stream info) (drop from bytes) (Ok (Some found)) count
     pub after : to ≡ from + count
