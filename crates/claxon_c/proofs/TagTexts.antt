@@ -1,20 +1,21 @@
 -- Texts of Vorbis comments in memory, one by one.
 use Rattle.std.proofs.Common.{◌≡◌, ℕ, zero, suc, ◌+◌, ◌*◌, ◌-◌, ◌<◌, ◌≤◌, Bool, true, false, not, ltb, cond, List, [], ◌∷◌, ◌++◌, length, take, drop, get_or, refl, sym, ap, ◌∙◌, inl, inr, arith, append-nil, append_assoc, min}
-use Rattle.std.specs.Prelude.{IsUtf8, None, Some}
-use Rattle.std.specs.List.{list_all, position, position_or_len}
+use Rattle.std.specs.Prelude.{IsUtf8}
 use Rattle.std.specs.Str.{is_utf8}
 use Rattle.std.proofs.Math.Dec.{eqb-suc-zero}
 use Rattle.std.proofs.lemmas.Bool.{cases_lt, le-ltb, lt-ltb}
 use Rattle.std.proofs.lemmas.Str.{is_utf8-from_IsUtf8, IsUtf8-from_is_utf8}
 use Rattle.std.proofs.lemmas.List.{drop-drop, drop_more, length-drop, length-take, take-append-drop}
-use Rattle.claxon.specs.Comments.{Entry, has_name, has_separator, is_name_byte, is_separator}
+use Rattle.claxon.specs.Comments.{Entry, has_name, has_separator}
 use Rattle.claxon.specs.Fault.{CommentShort, EntryLong, EntryNotUtf8, ExcessData, Fault, NameByte, SeparatorMissing, VendorLong}
 use Rattle.claxon.specs.read.Bytes.{bytes_at, little_at, little_endian}
 use Rattle.claxon.specs.read.Comments.{entry_at, entry_length_at, entry_of, entry_or_empty_at, vendor_length_at}
 use Rattle.claxon.specs.read.Reading.{Done, Faulty, Reading, bind, done, test}
+use Rattle.claxon.specs.Errors.{Error}
+use Rattle.claxon.specs.VorbisComment.{HasSeparatorFault}
 use Rattle.claxon.proofs.Comments.{Reads-entry}
 use Rattle.claxon.proofs.Metadata.{Reads-bytes}
-use Rattle.claxon_c.specs.TagReader.{first_entry_at, front_at, front_length_at, tag_at, text_at, text_length_at}
+use Rattle.claxon_c.specs.TagReader.{ReadsFault, first_entry_at, front_at, front_length_at, tag_at, text_at, text_length_at}
 
 -- ---- a length
 
@@ -42,23 +43,6 @@ length_read bytes i n h small e =
 
 -- ---- an entry
 
-pub no_separator : (text : List ℕ) → position is_separator text ≡ None → has_separator text ≡ false
-no_separator text e = go (has_separator text) e
-  where
-    go : (b : Bool) → cond b (Some (position_or_len is_separator text)) None ≡ None → b ≡ false
-    go true e = absurd cc
-    go false e = refl
-
-pub separator_found : (text : List ℕ) (n : ℕ) → position is_separator text ≡ Some n → (has_separator text ≡ true) × (n ≡ position_or_len is_separator text)
-separator_found text n e = go (has_separator text) e
-  where
-    go : (b : Bool) → cond b (Some (position_or_len is_separator text)) None ≡ Some n → (b ≡ true) × (n ≡ position_or_len is_separator text)
-    go true e = (refl, cc)
-    go false e = absurd cc
-
-pub name_is : (text : List ℕ) (n : ℕ) (b : Bool) → n ≡ position_or_len is_separator text → b ≡ list_all is_name_byte (take n text) → has_name text ≡ b
-name_is text n b e is = ap (λ (m : ℕ). list_all is_name_byte (take m text)) (sym e) ∙ sym is
-
 pub utf8_is : (text : List ℕ) → IsUtf8 text → is_utf8 text ≡ true
 utf8_is text u = is_utf8-from_IsUtf8 text u
 
@@ -75,6 +59,11 @@ unfolding entry_at
 entry_read text a b d p q r =
     let all : bytes_at (length text) text ≡ Done text [] = ap (bytes_at (length text)) (sym (append-nil text)) ∙ (Reads-bytes (length text)).again text text [] (refl, refl) in
     rw (all, p, q, r) refl
+
+-- without an `=`, or with an invalid byte before it, the text is no entry
+pub separator_fault : (text : List ℕ) (e : Error) → HasSeparatorFault text e → ReadsFault (entry_at (length text) text) e
+separator_fault text e (inl (none, fault)) = (SeparatorMissing, [], fault, entry_read text false (has_name text) (is_utf8 text) none refl refl)
+separator_fault text e (inr (some, byte, fault)) = (NameByte, [], fault, entry_read text true false (is_utf8 text) some byte refl)
 
 -- ---- the length of a text, and the text
 

@@ -1,14 +1,14 @@
 //! Tags, one after another.
 ghost use Rattle.std.specs.Prelude.{◌≡◌, ◌≤◌, ◌<◌, ◌+◌, [], ◌∷◌, drop, length};
-ghost use Rattle.std.specs.List.{list_all, position};
-ghost use Rattle.claxon.specs.Comments as comments;
-ghost use Rattle.claxon.specs.Comments.{is_separator};
 ghost use Rattle.claxon.specs.read.Bytes.{little_at};
 ghost use Rattle.claxon.specs.read.Reading.{Done};
 ghost use Rattle.claxon_c.specs.NextTag.{CTagFaultIsComplete, CTagFaultIsSound, CTagIsComplete, CTagIsSound, CTagNoMoreIffEnd, CTagStatusIsKnown, CTagsAreInOrder, TagIsKept};
 ghost use Rattle.claxon_c.specs.TagReader.{FirstTextIsRead, NameIsRead, TagIsRead, TextEndIsRead, TextIsRead, first_entry_at, tag_at};
 
 use crate::status::{NO_MORE, OK, report};
+use claxon::metadata::comment_checks::{
+    BLOCK_TOO_SHORT, ENTRY_TOO_LONG, EXCESS_DATA, NOT_UTF8, VENDOR_TOO_LONG, separator_of,
+};
 use claxon::{Error, Result};
 use std::str;
 
@@ -85,11 +85,11 @@ fn first_text(content: &[u8], place: usize) -> Result<usize>
         return Ok(content.len().min(place));
     }
     if content.len() < 2 * LENGTH_BYTES {
-        return Err(Error::FormatError("Vorbis comment block is too short"));
+        return Err(Error::FormatError(BLOCK_TOO_SHORT));
     }
     let vendor_length = length_at(content, 0) as usize;
     if vendor_length > content.len() - 2 * LENGTH_BYTES {
-        return Err(Error::FormatError("vendor string too long"));
+        return Err(Error::FormatError(VENDOR_TOO_LONG));
     }
     Ok(vendor_length + 2 * LENGTH_BYTES)
 }
@@ -142,11 +142,11 @@ fn end_of_text(content: &[u8], at: usize) -> Result<usize>
 {
     let left = content.len() - at;
     if left < LENGTH_BYTES {
-        return Err(Error::FormatError("Vorbis comment block has excess data"));
+        return Err(Error::FormatError(EXCESS_DATA));
     }
     let length = length_at(content, at) as usize;
     if length > left - LENGTH_BYTES {
-        return Err(Error::FormatError("Vorbis comment too long for Vorbis comment block"));
+        return Err(Error::FormatError(ENTRY_TOO_LONG));
     }
     Ok(at + LENGTH_BYTES + length)
 }
@@ -168,33 +168,9 @@ fn length_at(content: &[u8], at: usize) -> u32
 fn length_of_name(text: &[u8]) -> Result<usize>
     ensures { NameIsRead text.now result }
 {
-    let Some(count) = first_separator(text) else {
-        return Err(Error::FormatError("Vorbis comment does not contain '='"));
-    };
-    if !is_name(&text[..count]) {
-        return Err(Error::FormatError("Vorbis comment field name contains invalid byte"));
-    }
+    let count = separator_of(text)?;
     let Ok(_) = str::from_utf8(text) else {
-        return Err(Error::FormatError("Vorbis comment or vendor string is not valid UTF-8"));
+        return Err(Error::FormatError(NOT_UTF8));
     };
     Ok(count)
-}
-
-fn first_separator(text: &[u8]) -> Option<usize>
-    ensures { result ≡ position is_separator text.now }
-{
-    text.iter().position(|byte| *byte == b'=')
-}
-
-// Whether all bytes are valid in a name.
-fn is_name(bytes: &[u8]) -> bool
-    ensures { result ≡ list_all comments.is_name_byte bytes.now }
-{
-    bytes.iter().all(|byte| is_name_byte(*byte))
-}
-
-fn is_name_byte(byte: u8) -> bool
-    ensures { result ≡ comments.is_name_byte byte }
-{
-    (0x20..=0x7d).contains(&byte)
 }

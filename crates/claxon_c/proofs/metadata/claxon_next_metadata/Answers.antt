@@ -1,4 +1,4 @@
-use Rattle.std.proofs.Common.{arith, rules, refl, ◌<◌, drop, length}
+use Rattle.std.proofs.Common.{arith, rules, ◌<◌, drop, length}
 use Rattle.std.proofs.lemmas.List.{length-drop}
 use Rattle.claxon_c.specs.NextMetadata.{header_length}
 use Rattle.claxon_c.proofs.NextMetadata.{header_is_left, metadata_complete, metadata_sound}

@@ -1,4 +1,4 @@
-use Rattle.std.proofs.Common.{arith, ◌≡◌, ◌≤◌, ◌+◌, ◌-◌, None, Some, refl, rules, subst}
+use Rattle.std.proofs.Common.{arith, ◌+◌, ◌-◌, refl, rules, subst}
 use Rattle.claxon_c.specs.TagReader.{IsTagOf, tag_at}
 use Rattle.claxon_c.proofs.TagCalls.{faulty_complete, faulty_in_order, faulty_named, faulty_no_more, faulty_sound, found_complete, found_in_order, found_named, found_no_more, found_sound, none_complete, none_in_order, none_named, none_no_more, found_tag}
 use Rattle.claxon_c.proofs.tags.claxon_next_tag.Goals as goal
