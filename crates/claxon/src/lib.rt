@@ -65,7 +65,7 @@ pub mod metadata {
         StreamInfo, Tags, VorbisComment, read_metadata_block, read_metadata_block_with_header,
     };
 
-    /// Checks of Vorbis comments, for code that looks at the bytes of a block in memory, as `claxon_c` does.
+    /// Checks of Vorbis comments, which `claxon_c` makes of bytes in memory. Upstream has no such calls.
     pub mod comment_checks {
         pub use claxon_metadata::metadata::comment_checks::{
             BLOCK_TOO_SHORT, ENTRY_TOO_LONG, EXCESS_DATA, NOT_UTF8, VENDOR_TOO_LONG, separator_of,
