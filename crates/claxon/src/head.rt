@@ -1,8 +1,7 @@
 //! The head of a stream: its marker and metadata blocks (RFC 9639, sections 6 and 8).
-ghost use Rattle.std.specs.Prelude.{◌≡◌, IfOk, IfSome, true, false, None, ◌&&◌, ◌||◌};
-ghost use Rattle.std.specs.Option.{is_some};
+ghost use Rattle.std.specs.Prelude.{◌≡◌, IfOk, IfSome, true, false, None};
 ghost use Rattle.claxon_format.specs.read.Heads.{head_at, marker_at, others_at};
-ghost use Rattle.claxon_format.specs.Heads.{streaminfo_ends_head, stream_marker};
+ghost use Rattle.claxon_format.specs.Heads.{stream_marker};
 ghost use Rattle.claxon_input.specs.State.{bytes_in};
 ghost use Rattle.claxon_input.specs.Gives.{Gives, GivesOrOutOfMemory};
 ghost use Rattle.claxon_metadata.specs.MetadataBlock.{BlockHasBounds, OutOfMemoryAfterBlockHeader};
@@ -43,15 +42,6 @@ impl Default for FlacReaderOptions {
             metadata_only: false,
             read_vorbis_comment: true,
         }
-    }
-}
-
-impl FlacReaderOptions {
-    // Whether only the streaminfo is requested, or it is the last block.
-    fn ends_with_streaminfo(self, is_last: bool) -> bool
-        ensures { result ≡ streaminfo_ends_head (options_view self) is_last }
-    {
-        is_last || (self.metadata_only && !self.read_vorbis_comment)
     }
 }
 
@@ -104,7 +94,7 @@ fn read_head_exact<R: ReadBytes, A: Allocator + Copy>(
     let MetadataBlock::StreamInfo(info) = first else {
         return Err(Error::FormatError("streaminfo block missing"));
     };
-    if options.ends_with_streaminfo(is_last) {
+    if is_last || (options.metadata_only && !options.read_vorbis_comment) {
         return Ok((info, None));
     }
     let comment = read_other_blocks(alloc, input, options.metadata_only)?;
@@ -148,23 +138,12 @@ fn read_other_blocks<R: ReadBytes, A: Allocator + Copy>(
     while most > 0 {
         let (is_last, with_block) = read_other_block(alloc, input, found)?;
         found = with_block;
-        if are_enough(is_last, comments_suffice, &found) {
+        if is_last || (comments_suffice && found.is_some()) {
             return Ok(found);
         }
         most -= 1;
     }
     Err(Error::Unsupported("more than 65536 metadata blocks are not supported"))
-}
-
-// Whether no further block is needed.
-fn are_enough<A: Allocator>(
-    is_last: bool,
-    comments_suffice: bool,
-    found: &Option<VorbisComment<A>>,
-) -> bool
-    ensures { result ≡ (is_last || (comments_suffice && is_some found.now)) }
-{
-    is_last || (comments_suffice && found.is_some())
 }
 
 // One of these blocks: whether it is marked as last, and the comments found so far.

@@ -1,8 +1,8 @@
-use Rattle.std.proofs.Common.{Bool, Err, refl, sym, ap, ◌∙◌, arith, rules}
+use Rattle.std.proofs.Common.{◌≡◌, Bool, true, false, Err, refl, ap, arith, rules}
 use Rattle.std.proofs.lemmas.Result.{err_from_is_err_and}
 use Rattle.std.proofs.lemmas.Grind.{common_steps}
 use Rattle.claxon_format.specs.Fault.{fault_text, StreaminfoMissing}
-use Rattle.claxon_format.specs.Heads.{stream_marker}
+use Rattle.claxon_format.specs.Heads.{stream_marker, streaminfo_ends_head}
 use Rattle.claxon_input.specs.declared.error.Error.{Error}
 use Rattle.claxon_input.proofs.ConsecutiveCalls.{consumes_none, consumes_map, consumes_then}
 use Rattle.claxon_metadata.specs.MetadataBlock.{metadata_block_view}
@@ -37,9 +37,10 @@ returns-in_default-clause-gives g c =
     stops_fault StreaminfoMissing refl refl (refl, refl)
     (consumes_then _ c.in_ok-read_stream_header.ensures c.in_ok-is_last.ensures.gives (λ p q. no_streaminfo (options_view c.args.options) stream_marker c.in_ok-is_last.is_last c.in_ok-is_last.first _ _ _ c.in_default.not-StreamInfo p q))
 
-pub returns-then-ends_with_streaminfo-clause-gives : goal.returns-then-ends_with_streaminfo-clause-gives
-returns-then-ends_with_streaminfo-clause-gives g c =
-    begun_short (options_view c.args.options) (sym c.ends_with_streaminfo.ensures ∙ c.if-ends_with_streaminfo.true) (head_begun c.in-StreamInfo.info c.in-StreamInfo.is c.in_ok-read_stream_header.ensures c.in_ok-is_last.ensures.gives)
+pub returns-then-is_last-clause-gives : goal.returns-then-is_last-clause-gives
+returns-then-is_last-clause-gives g c =
+    let ends : streaminfo_ends_head (options_view c.args.options) c.in_ok-is_last.is_last ≡ true = search rules in
+    begun_short (options_view c.args.options) ends (head_begun c.in-StreamInfo.info c.in-StreamInfo.is c.in_ok-read_stream_header.ensures c.in_ok-is_last.ensures.gives)
 
 pub returns-in_err-comment-clause-memory : goal.returns-in_err-comment-clause-memory
 returns-in_err-comment-clause-memory g c =
@@ -48,18 +49,21 @@ returns-in_err-comment-clause-memory g c =
 
 pub returns-in_err-comment-clause-gives : goal.returns-in_err-comment-clause-gives
 returns-in_err-comment-clause-gives g c =
+    let goes_on : streaminfo_ends_head (options_view c.args.options) c.in_ok-is_last.is_last ≡ false = search rules in
     exit_with_memory (head_view {A = g.row.A.Denot}) (found_view {A = g.row.A.Denot}) _ (err_from_is_err_and c.from_residual-in_err-comment.result c.from_residual-in_err-comment.ensures.1)
-    (begun_stops (options_view c.args.options) (sym c.ends_with_streaminfo.ensures ∙ c.if-ends_with_streaminfo.false) (head_begun c.in-StreamInfo.info c.in-StreamInfo.is c.in_ok-read_stream_header.ensures c.in_ok-is_last.ensures.gives))
+    (begun_stops (options_view c.args.options) goes_on (head_begun c.in-StreamInfo.info c.in-StreamInfo.is c.in_ok-read_stream_header.ensures c.in_ok-is_last.ensures.gives))
     c.in_err-comment.ensures.gives
 
-pub returns-then-options-clause-gives : goal.returns-then-options-clause-gives
-returns-then-options-clause-gives g c =
-    begun_with (options_view c.args.options) (found_view c.in_ok-comment.comment) (sym c.ends_with_streaminfo.ensures ∙ c.if-ends_with_streaminfo.false) c.if-options.true
+pub returns-then-options-2-clause-gives : goal.returns-then-options-2-clause-gives
+returns-then-options-2-clause-gives g c =
+    let goes_on : streaminfo_ends_head (options_view c.args.options) c.in_ok-is_last.is_last ≡ false = search rules in
+    begun_with (options_view c.args.options) (found_view c.in_ok-comment.comment) goes_on c.if-options-2.true
     (head_begun c.in-StreamInfo.info c.in-StreamInfo.is c.in_ok-read_stream_header.ensures c.in_ok-is_last.ensures.gives) c.in_ok-comment.ensures.gives
 
-pub returns-else-options-clause-gives : goal.returns-else-options-clause-gives
-returns-else-options-clause-gives g c =
-    begun_without (options_view c.args.options) (found_view c.in_ok-comment.comment) (sym c.ends_with_streaminfo.ensures ∙ c.if-ends_with_streaminfo.false) c.if-options.false
+pub returns-else-options-2-clause-gives : goal.returns-else-options-2-clause-gives
+returns-else-options-2-clause-gives g c =
+    let goes_on : streaminfo_ends_head (options_view c.args.options) c.in_ok-is_last.is_last ≡ false = search rules in
+    begun_without (options_view c.args.options) (found_view c.in_ok-comment.comment) goes_on c.if-options-2.false
     (head_begun c.in-StreamInfo.info c.in-StreamInfo.is c.in_ok-read_stream_header.ensures c.in_ok-is_last.ensures.gives) c.in_ok-comment.ensures.gives
 
 pub returns-in_default-clause-bounds : goal.returns-in_default-clause-bounds
@@ -71,32 +75,32 @@ returns-in_default-clause-places g c = grind (arith, common_steps)
 pub returns-in_default-clause-memory : goal.returns-in_default-clause-memory
 returns-in_default-clause-memory g c = grind (arith, common_steps)
 
-pub returns-then-ends_with_streaminfo-clause-bounds : goal.returns-then-ends_with_streaminfo-clause-bounds
-returns-then-ends_with_streaminfo-clause-bounds g c = grind (arith, common_steps)
+pub returns-then-is_last-clause-bounds : goal.returns-then-is_last-clause-bounds
+returns-then-is_last-clause-bounds g c = grind (arith, common_steps)
 
-pub returns-then-ends_with_streaminfo-clause-places : goal.returns-then-ends_with_streaminfo-clause-places
-returns-then-ends_with_streaminfo-clause-places g c = grind (arith, common_steps)
+pub returns-then-is_last-clause-places : goal.returns-then-is_last-clause-places
+returns-then-is_last-clause-places g c = grind (arith, common_steps)
 
-pub returns-then-ends_with_streaminfo-clause-memory : goal.returns-then-ends_with_streaminfo-clause-memory
-returns-then-ends_with_streaminfo-clause-memory g c = grind (arith, common_steps)
+pub returns-then-is_last-clause-memory : goal.returns-then-is_last-clause-memory
+returns-then-is_last-clause-memory g c = grind (arith, common_steps)
 
-pub returns-then-options-clause-bounds : goal.returns-then-options-clause-bounds
-returns-then-options-clause-bounds g c = grind (arith, common_steps)
+pub returns-then-options-2-clause-bounds : goal.returns-then-options-2-clause-bounds
+returns-then-options-2-clause-bounds g c = grind (arith, common_steps)
 
-pub returns-then-options-clause-places : goal.returns-then-options-clause-places
-returns-then-options-clause-places g c = grind (arith, common_steps)
+pub returns-then-options-2-clause-places : goal.returns-then-options-2-clause-places
+returns-then-options-2-clause-places g c = grind (arith, common_steps)
 
-pub returns-then-options-clause-memory : goal.returns-then-options-clause-memory
-returns-then-options-clause-memory g c = grind (arith, common_steps)
+pub returns-then-options-2-clause-memory : goal.returns-then-options-2-clause-memory
+returns-then-options-2-clause-memory g c = grind (arith, common_steps)
 
-pub returns-else-options-clause-bounds : goal.returns-else-options-clause-bounds
-returns-else-options-clause-bounds g c = grind (arith, common_steps)
+pub returns-else-options-2-clause-bounds : goal.returns-else-options-2-clause-bounds
+returns-else-options-2-clause-bounds g c = grind (arith, common_steps)
 
-pub returns-else-options-clause-places : goal.returns-else-options-clause-places
-returns-else-options-clause-places g c = grind (arith, common_steps)
+pub returns-else-options-2-clause-places : goal.returns-else-options-2-clause-places
+returns-else-options-2-clause-places g c = grind (arith, common_steps)
 
-pub returns-else-options-clause-memory : goal.returns-else-options-clause-memory
-returns-else-options-clause-memory g c = grind (arith, common_steps)
+pub returns-else-options-2-clause-memory : goal.returns-else-options-2-clause-memory
+returns-else-options-2-clause-memory g c = grind (arith, common_steps)
 
-pub returns-else-options-clause-comment : goal.returns-else-options-clause-comment
-returns-else-options-clause-comment g c = search rules
+pub returns-else-options-2-clause-comment : goal.returns-else-options-2-clause-comment
+returns-else-options-2-clause-comment g c = search rules

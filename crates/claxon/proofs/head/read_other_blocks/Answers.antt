@@ -1,5 +1,6 @@
-use Rattle.std.proofs.Common.{Bool, Err, refl, sym, ap, ◌∙◌, arith, rules}
+use Rattle.std.proofs.Common.{◌≡◌, Bool, true, false, Err, refl, ap, ◌∙◌, arith, rules}
 use Rattle.std.specs.Prelude.{◌&&◌, ◌||◌}
+use Rattle.std.specs.Option.{is_some}
 use Rattle.std.proofs.lemmas.Result.{err_from_is_err_and}
 use Rattle.claxon_format.specs.Fault.{fault_text, TooManyBlocks}
 use Rattle.claxon_input.specs.declared.error.Error.{Error}
@@ -19,14 +20,16 @@ returns-in_err-is_last-clause-gives g c =
     exit_with_memory (found_view {A = g.row.A.Denot}) (other_view {A = g.row.A.Denot}) _ (err_from_is_err_and c.from_residual.result c.from_residual.ensures.1)
     (others_stop (omega (arith, c.loop-most-test.true)) c.loop-most.invariant.read) c.in_err-is_last.ensures.gives
 
-pub returns-then-are_enough-clause-gives : goal.returns-then-are_enough-clause-gives
-returns-then-are_enough-clause-gives g c =
-    let e = ap (λ (z : Bool). c.in_ok-is_last.is_last || (c.args.comments_suffice && z)) (is_found c.in_ok-is_last.with_block) ∙ sym c.are_enough.ensures ∙ c.if-are_enough.true in
+pub returns-then-is_last-clause-gives : goal.returns-then-is_last-clause-gives
+returns-then-is_last-clause-gives g c =
+    let enough : (c.in_ok-is_last.is_last || (c.args.comments_suffice && is_some c.in_ok-is_last.with_block)) ≡ true = search rules in
+    let e = ap (λ (z : Bool). c.in_ok-is_last.is_last || (c.args.comments_suffice && z)) (is_found c.in_ok-is_last.with_block) ∙ enough in
     others_done c.in_ok-is_last.is_last (found_view c.in_ok-is_last.with_block) (omega (arith, c.loop-most-test.true)) e c.loop-most.invariant.read c.in_ok-is_last.ensures.gives
 
 pub loop-most-preserved : goal.loop-most-preserved
 loop-most-preserved g c =
-    let e = ap (λ (z : Bool). c.in_ok-is_last.is_last || (c.args.comments_suffice && z)) (is_found c.in_ok-is_last.with_block) ∙ sym c.are_enough.ensures ∙ c.if-are_enough.false in
+    let more : (c.in_ok-is_last.is_last || (c.args.comments_suffice && is_some c.in_ok-is_last.with_block)) ≡ false = search rules in
+    let e = ap (λ (z : Bool). c.in_ok-is_last.is_last || (c.args.comments_suffice && z)) (is_found c.in_ok-is_last.with_block) ∙ more in
     record {
       places = c.in_ok-is_last.ensures.places;
       read = others_next c.in_ok-is_last.is_last (found_view c.in_ok-is_last.with_block) (omega (arith, c.loop-most-test.true)) e c.loop-most.invariant.read c.in_ok-is_last.ensures.gives;
