@@ -1,7 +1,7 @@
 -- Consecutive fields of one type, decoded from the buffered bits.
-use Rattle.std.proofs.Common.{◌≡◌, Bool, ℕ, ◌+◌, ◌-◌, ◌<◌, ◌≤◌, List, [], ◌++◌, length, take, drop, set, refl, sym, ap, subst, ◌∙◌, arith, ℤ, take-add, of_z, to_z, w32, FitsSigned}
+use Rattle.std.proofs.Common.{◌≡◌, Bool, ℕ, ◌+◌, ◌-◌, ◌<◌, ◌≤◌, List, ◌++◌, length, take, drop, set, refl, sym, ap, ap₂, ◌∙◌, arith, ℤ, of_z, to_z, w32, FitsSigned}
 use Rattle.std.proofs.lemmas.Int.{to_z-of_z}
-use Rattle.std.proofs.lemmas.List.{take_more_set, take_at, drop_at, take_all, length-set, length-take, length-take-le, length-drop}
+use Rattle.std.proofs.lemmas.List.{take_more_set, take_all, length-set, length-take, length-drop}
 use Rattle.std.proofs.lemmas.Slice.{take-put_mid}
 use borrow.Rule.Slice.PartMut.{put_mid, same_len_mid}
 use Rattle.claxon_format.specs.Bits.{Bits}
@@ -12,6 +12,7 @@ use Rattle.claxon_input.specs.BufferedBits.{bits_in_buffer, GivesBuffered, IsBuf
 use Rattle.claxon_input.specs.declared.bits.buffered.BufferedBits.{BufferedBits}
 use Rattle.claxon_input.specs.State.{State}
 use Rattle.claxon_input.specs.Gives.{Consumes}
+use Rattle.claxon_subframe.proofs.PartitionLoop.{front_replaced, length-range}
 use Rattle.claxon_subframe.proofs.SkippedBits.{read_consumes}
 use Rattle.claxon_input.proofs.FieldLoops.{TimesSoFar, with_front, times_add, times_next, times_push, times_several}
 
@@ -29,35 +30,22 @@ fields_next {read = read} {xs = xs} {count = count} x {a = a} {b = b} {c = c} lt
       ∙ ap (λ (t : List _). Done t (bits_in_buffer c ++ rest)) (sym (take_more_set xs count x lt));
 }
 
--- one field, or none, where the buffered bits are those of a
-pub one_field : (read : Bits → Reading Bool ℤ) (xs : List ℤ) (x : ℤ) (a b c : BufferedBits) → 0 < length xs → bits_in_buffer b ≡ bits_in_buffer a → GivesBuffered b c read x → GivesBuffered a c (times_at 1 read) (take 1 (set xs 0 x))
-one_field read xs x a b c lt same e rest = ap (λ (t : Bits). times_at 1 read (t ++ rest)) (sym same) ∙ (fields_next {read = read} {xs = xs} {count = 0} x {a = b} {b = b} {c = c} lt (fields_begin read xs b) e).so_far rest
+-- a group of fields, decoded behind them
+pub fields_group : {read : Bits → Reading Bool ℤ} {xs : List ℤ} {count : ℕ} (group : ℕ) (ys : List ℤ) {a b c : BufferedBits} → count + group ≤ length xs → length ys ≡ length (take (count + group - count) (drop count xs)) → FieldsSoFar read xs count a b
+    → GivesBuffered b c (times_at (length ys) read) ys → (count + group ≤ length (put_mid count (count + group - count) xs ys)) × FieldsSoFar read (put_mid count (count + group - count) xs ys) (count + group) a c
+fields_group {read = read} {xs = xs} {count = count} group ys {a = a} {b = b} {c = c} capacity same h e =
+    let len : length ys ≡ group = same ∙ length-range count group xs capacity in
+    let whole : length (put_mid count (count + group - count) xs ys) ≡ length xs = same_len_mid count (count + group - count) xs ys same in (
+      omega arith,
+      record {
+        so_far = λ rest. times_add read count group (bits_in_buffer a ++ rest) (bits_in_buffer b ++ rest) (take count xs) (h.so_far rest) ∙ ap (with_front (take count xs)) (ap (λ (n : ℕ). times_at n read (bits_in_buffer b ++ rest)) (sym len) ∙ e rest)
+            ∙ ap (λ (t : List ℤ). Done t (bits_in_buffer c ++ rest)) (sym (front_replaced count group xs ys capacity same));
+      },
+    )
 
-pub no_field : (read : Bits → Reading Bool ℤ) (a c : BufferedBits) → bits_in_buffer c ≡ bits_in_buffer a → GivesBuffered a c (times_at 0 read) []
-unfolding times_at each_at
-no_field read a c same rest = ap (λ (t : Bits). Done [] (t ++ rest)) (sym same)
-
--- more fields, decoded to the rest of xs
-pub fields_more : (read : Bits → Reading Bool ℤ) (xs ys : List ℤ) (count more : ℕ) (a b c : BufferedBits) → count ≤ length xs → more ≤ length ys → length ys ≡ length (take (length xs - count) (drop count xs)) → FieldsSoFar read xs count a b
-    → GivesBuffered b c (times_at more read) (take more ys) → FieldsSoFar read (put_mid count (length xs - count) xs ys) (count + more) a c
-fields_more read xs ys count more a b c le few same h e =
-    let front : length (take count xs) ≡ count = length-take-le count xs le in
-    let whole : length (put_mid count (length xs - count) xs ys) ≡ length xs = same_len_mid count (length xs - count) xs ys same in
-    let capacity : length ys ≡ length xs - count = same ∙ omega (arith, length-take (length xs - count) (drop count xs), length-drop count xs) in
-    let full : put_mid count (length xs - count) xs ys ≡ take count xs ++ ys
-    = sym (take_all (count + (length xs - count)) (put_mid count (length xs - count) xs ys) (omega arith)) ∙ take-put_mid count (length xs - count) xs ys (count + (length xs - count)) (omega arith) (omega arith) in
-    let part : take (count + more) (put_mid count (length xs - count) xs ys) ≡ take count xs ++ take more ys
-    = ap (take (count + more)) full ∙ take-add count more (take count xs ++ ys) ∙ (rw (take_at (take count xs) ys count front, drop_at (take count xs) ys count front) refl) in
-    record {
-      so_far = λ rest. times_add read count more (bits_in_buffer a ++ rest) (bits_in_buffer b ++ rest) (take count xs) (h.so_far rest) ∙ ap (with_front (take count xs)) (e rest)
-          ∙ ap (λ (t : List ℤ). Done t (bits_in_buffer c ++ rest)) (sym part);
-    }
-
--- no more
-pub fields_end : (read : Bits → Reading Bool ℤ) (xs : List ℤ) (count more : ℕ) (a c : BufferedBits) → more ≡ 0 → FieldsSoFar read xs (count + more) a c → GivesBuffered a c (times_at count read) (take count xs)
-fields_end read xs count more a c none h =
-    let e : count + more ≡ count = omega arith in
-    subst (λ (n : ℕ). GivesBuffered a c (times_at n read) (take n xs)) e h.so_far
+-- what lies behind them doesn't matter, and of the buffered bits only which they are
+pub fields_same : {read : Bits → Reading Bool ℤ} {xs ys : List ℤ} {count : ℕ} {a b c : BufferedBits} → take count ys ≡ take count xs → bits_in_buffer c ≡ bits_in_buffer b → FieldsSoFar read xs count a b → FieldsSoFar read ys count a c
+fields_same front bits h = record { so_far = λ rest. h.so_far rest ∙ ap₂ (λ (l : List ℤ) (t : Bits). Done l (t ++ rest)) (sym front) (sym bits) }
 
 -- ---- fields read into the rest of a slice
 

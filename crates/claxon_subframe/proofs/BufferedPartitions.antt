@@ -16,7 +16,8 @@ use Rattle.claxon_format.specs.read.Bits.{number_at, rice_code_at}
 use Rattle.claxon_format.specs.read.Residual.{joined_at, partition_at}
 use Rattle.claxon_input.specs.BufferedBits.{bits_in_buffer, GivesBuffered}
 use Rattle.claxon_input.specs.declared.bits.buffered.BufferedBits.{BufferedBits}
-use Rattle.claxon_subframe.specs.RiceCodes.{EncodedCodesAreRead, decoded}
+use Rattle.claxon_subframe.specs.BufferedValues.{BufferedValuesAreRead}
+use Rattle.claxon_subframe.specs.RiceCodes.{decoded, encoded_code_at}
 use Rattle.claxon_subframe.specs.SubframeFields.{method_of}
 use Rattle.claxon_subframe.specs.declared.subframe.RicePartitionType.{RicePartitionType}
 use Rattle.claxon_subframe.proofs.JoinedPartitions.{joined_push}
@@ -85,7 +86,7 @@ least_bits n k lt le = let p : n * (k + 1) ≤ n * 31 = grind (arith, le) in ome
 
 -- a Rice parameter, and the encoded numbers of as many Rice codes as there are residual samples
 pub rice_codes_partition : (method k n codes : ℕ) (xs : List ℤ) (a b c : BufferedBits) → n ≡ 4 + method → eqb k (escape method) ≡ false → length xs ≤ codes → codes ≤ length xs → GivesBuffered a b (number_at n) k
-    → EncodedCodesAreRead k b codes c xs → GivesBuffered a c (partition_at method (length xs)) (map decoded xs)
+    → BufferedValuesAreRead (encoded_code_at k) b codes c xs → GivesBuffered a c (partition_at method (length xs)) (map decoded xs)
 rice_codes_partition method k n codes xs a b c is not_escape all few number h rest =
     let whole : codes ≡ length xs = omega arith in
     let codes_are : times_at (length xs) (rice_code_at k) (bits_in_buffer b ++ rest) ≡ Done (map decoded xs) (bits_in_buffer c ++ rest) = ap (λ (j : ℕ). times_at j (rice_code_at k) (bits_in_buffer b ++ rest)) (sym whole) ∙ codes_decoded k codes (bits_in_buffer b ++ rest) ∙ ap (mapped (map decoded)) (h rest)

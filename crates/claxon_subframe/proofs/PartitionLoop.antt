@@ -1,5 +1,5 @@
 -- Consecutive partitions read into one slice.
-use Rattle.std.proofs.Common.{◌≡◌, ℕ, zero, suc, ◌+◌, ◌-◌, ◌*◌, ◌<◌, ◌≤◌, Bool, List, ◌++◌, length, take, drop, replicate, refl, sym, ap, subst, ◌∙◌, take-add, arith, ℤ}
+use Rattle.std.proofs.Common.{◌≡◌, ℕ, zero, suc, ◌+◌, ◌-◌, ◌*◌, ◌<◌, ◌≤◌, Bool, List, [], ◌++◌, length, take, drop, replicate, refl, sym, ap, subst, ◌∙◌, take-add, arith, ℤ}
 use Rattle.std.proofs.lemmas.List.{append-nil, take_all, take_at, drop_at, length-take, length-take-le, length-drop}
 use Rattle.std.proofs.lemmas.Slice.{take-put_mid}
 use borrow.Rule.Slice.PartMut.{put_mid, same_len_mid}
@@ -8,8 +8,8 @@ use Rattle.claxon_format.specs.read.Reading.{Reading, Done, each_at}
 use Rattle.claxon_input.specs.declared.error.Error.{Error}
 use Rattle.claxon_input.specs.State.{State}
 use Rattle.claxon_input.specs.Gives.{Consumes, Stops}
-use Rattle.claxon_input.proofs.FieldLoops.{with_front, front_both}
-use Rattle.claxon_input.proofs.ConsecutiveCalls.{consumes_then, consumes_map, stops_after, StopsWith}
+use Rattle.claxon_input.proofs.FieldLoops.{front_both, front_none, with_front}
+use Rattle.claxon_input.proofs.ConsecutiveCalls.{consumes_none, consumes_then, consumes_map, stops_after, StopsWith}
 use Rattle.claxon_format.specs.read.Residual.{joined_at}
 use Rattle.claxon_subframe.specs.Partitions.{lengths, total}
 use Rattle.claxon_subframe.proofs.JoinedPartitions.{joined_first, joined_add}
@@ -55,6 +55,12 @@ front_replaced a k xs ys le e = let p = length-range a k xs le in take-put_mid a
 pub record PartitionsSoFar (read : ℕ → Bits → Reading Bool (List ℤ)) (all : List ℕ) (partitions i start len each : ℕ) (xs : List ℤ) (old new : State Bool) : Type 0 where
   pub so_far : Consumes old new (λ s m. joined_at read all s ≡ with_front (take start xs) (joined_at read (lengths (partitions - i) len each) m))
   pub rest : start + total (lengths (partitions - i) len each) ≡ length xs
+
+pub partitions_begin : {a : State Bool} (read : ℕ → Bits → Reading Bool (List ℤ)) (partitions first each : ℕ) (xs : List ℤ) → total (lengths partitions first each) ≡ length xs → PartitionsSoFar read (lengths partitions first each) partitions 0 0 first each xs a a
+partitions_begin {a = a} read partitions first each xs fit =
+    let all : partitions - 0 ≡ partitions = omega arith in
+    let front : take 0 xs ≡ [] = take_at [] xs 0 refl in
+    record { so_far = rw (all, front) (consumes_none a _ (sym (front_none (joined_at read (lengths partitions first each) a.remaining)))); rest = rw all (omega (arith, fit)) }
 
 -- the next partition fits
 pub partition_fits : {read : ℕ → Bits → Reading Bool (List ℤ)} {all : List ℕ} {partitions i start len each : ℕ} {xs : List ℤ} {a b : State Bool} → i < partitions → PartitionsSoFar read all partitions i start len each xs a b → start + len ≤ length xs

@@ -1,5 +1,5 @@
 -- A Rice code's number by shifts and an or, and zigzag decoding.
-use Rattle.std.proofs.Common.{◌≡◌, ℕ, zero, suc, Bool, List, ◌∷◌, ◌++◌, length, take, drop, map, ◌+◌, ◌-◌, ◌*◌, ◌/◌, ◌%◌, ◌^◌, ◌<◌, ◌≤◌, ltb, false, refl, sym, ap, ◌∙◌, arith, inl, inr, ◌⊎◌, ℤ, pos, negsuc, to_z, of_z, w32, FitsSigned, bit_or, bit_xor}
+use Rattle.std.proofs.Common.{◌≡◌, ℕ, zero, suc, Bool, List, ◌∷◌, ◌++◌, length, take, drop, map, ◌+◌, ◌-◌, ◌*◌, ◌/◌, ◌%◌, ◌^◌, ◌<◌, ◌≤◌, ltb, false, refl, sym, ap, ◌∙◌, arith, inl, inr, ◌⊎◌, ℤ, pos, negsuc, to_z, of_z, w32, bit_or, bit_xor}
 use Rattle.std.proofs.lemmas.Bool.{le-ltb}
 use Rattle.std.proofs.lemmas.Nat.{and_mask, div-mul-add, mod-mul-add, mod_below, pow_pos, shl-shr, or_shifted}
 use Rattle.std.proofs.lemmas.List.{length-map, length-take-le, take_at}
@@ -10,10 +10,9 @@ use Rattle.claxon_format.specs.Bits.{Bits}
 use Rattle.claxon_format.specs.read.Bits.{zigzag_decode, zigzag_encoded, number_at, unary_at, rice_code_at}
 use Rattle.claxon_format.specs.read.Reading.{Reading, Done, Faulty, Incomplete, and_then, bind, done, each_at, times_at}
 use Rattle.claxon_format.proofs.Numbers.{Reads-number}
-use Rattle.claxon_format.proofs.RiceCodes.{parts, zigzag_decode-fits}
-use Rattle.claxon_input.specs.BufferedBits.{bits_in_buffer, GivesBuffered}
-use Rattle.claxon_input.specs.declared.bits.buffered.BufferedBits.{BufferedBits}
-use Rattle.claxon_subframe.specs.RiceCodes.{EncodedCodesAreRead, decoded, encoded_code_at}
+use Rattle.claxon_format.proofs.RiceCodes.{parts}
+use Rattle.claxon_input.proofs.ConsecutiveCalls.{StopsWith}
+use Rattle.claxon_subframe.specs.RiceCodes.{decoded, encoded_code_at}
 
 -- the quotient shifted, or the low bits
 pub or_folded : (k q r : ℕ) → k ≤ 32 → r < 2 ^ k → bit_or (q * 2 ^ k % 4294967296) r ≡ zigzag_encoded k q r
@@ -26,15 +25,6 @@ or_folded k q r le small =
   where
     mod_whole : (q k : ℕ) → q * 2 ^ k % 2 ^ k ≡ 0
     mod_whole q k = ap (λ (m : ℕ). m % 2 ^ k) (omega arith) ∙ mod-mul-add q (2 ^ k) 0 (pow_pos k)
-
--- the value of the call and the remaining bits
-pub rice_code_is : (k q r : ℕ) (e : ℤ) (s m left : Bits) → k ≤ 30 → unary_at s ≡ Done q m → number_at k m ≡ Done r left → e ≡ zigzag_decode (bit_or (q * 2 ^ k % 4294967296) r) → (rice_code_at k s ≡ Done e left) × FitsSigned w32 e
-unfolding rice_code_at
-rice_code_is k q r e s m left le first second e-is =
-    let small : r < 2 ^ k = ((Reads-number k).takes m r left second).1.0 in
-    let whole : e ≡ zigzag_decode (zigzag_encoded k q r) = e-is ∙ ap zigzag_decode (or_folded k q r (omega arith) small) in
-    let fits : FitsSigned w32 e = rw whole (zigzag_decode-fits (zigzag_encoded k q r) (mod_below (q * 2 ^ k + r) 4294967296 (omega arith))) in
-    (rw (first, second) (ap (λ (y : ℤ). done y left) (sym whole)), fits)
 
 -- the zigzag-encoded number of the call and the remaining bits
 pub encoded_code_from : (k q r : ℕ) (v : ℤ) (s m left : Bits) → k ≤ 30 → unary_at s ≡ Done q m → number_at k m ≡ Done r left → v ≡ to_z w32 (bit_or (q * 2 ^ k % 4294967296) r) → encoded_code_at k s ≡ Done v left
@@ -112,10 +102,15 @@ codes_decoded k (suc n) s = rw (rice_code_decoded k s) (first (λ m. codes_decod
     first others (Faulty f m) = refl
     first others Incomplete = refl
 
--- the codes of the buffer, once the encoded numbers at its front are decoded
-pub codes_read : (k codes : ℕ) (xs ys : List ℤ) (a b : BufferedBits) → take codes ys ≡ map decoded (take codes xs) → EncodedCodesAreRead k a codes b xs → GivesBuffered a b (times_at codes (rice_code_at k)) (take codes ys)
-codes_read k codes xs ys a b e h rest =
-    codes_decoded k codes (bits_in_buffer a ++ rest) ∙ ap (mapped (map decoded)) (h rest) ∙ ap (λ (t : List ℤ). Done t (bits_in_buffer b ++ rest)) (sym e)
+pub codes_then_decoded : (k n : ℕ) (s : Bits) {m : Bits} {xs ys : List ℤ} → times_at n (encoded_code_at k) s ≡ Done xs m → ys ≡ map decoded xs → times_at n (rice_code_at k) s ≡ Done ys m
+codes_then_decoded k n s {m = m} e is = codes_decoded k n s ∙ ap (mapped (map decoded)) e ∙ ap (λ (l : List ℤ). Done l m) (sym is)
+
+-- and they stop where their encoded numbers do
+pub codes_stop : (k n : ℕ) → StopsWith (times_at n (encoded_code_at k)) (times_at n (rice_code_at k))
+codes_stop k n = record {
+  fault = λ s f rest e. codes_decoded k n s ∙ ap (mapped (map decoded)) e;
+  incomplete = λ s e. codes_decoded k n s ∙ ap (mapped (map decoded)) e;
+}
 
 -- the encoded numbers at the front of the buffer, decoded in their place
 pub decoded_front : {n : ℕ} (codes : ℕ) (xs ys : List ℤ) → n ≡ codes → codes ≤ length xs → ys ≡ map decoded (take n xs) → take codes (ys ++ drop n xs) ≡ map decoded (take codes xs)

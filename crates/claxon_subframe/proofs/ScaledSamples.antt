@@ -4,7 +4,7 @@ use Rattle.std.proofs.lemmas.Bool.{ltb-true, lt-ltb}
 use Rattle.std.proofs.lemmas.Int.{ints, int_wrap_fits}
 use Rattle.claxon_format.specs.Bits.{Bits, Signed}
 use Rattle.claxon_format.specs.Predict.{wrap}
-use Rattle.claxon_format.specs.read.Reading.{Done}
+use Rattle.claxon_format.specs.read.Reading.{Done, and_then, done}
 use Rattle.claxon_format.specs.Codes.{Mapped}
 use Rattle.claxon_format.specs.read.Subframe.{subframe_body_at, SubframeFields, subframe_header_at, subframe_at}
 use Rattle.claxon_format.specs.Subframe.{AllFit, Samples, Fixed, Linear, scaled}
@@ -13,8 +13,9 @@ use Rattle.claxon_format.proofs.PredictorSubframes.{fit_each, signed_fits, Reads
 use Rattle.claxon_format.proofs.Residuals.{Reads-times}
 use Rattle.claxon_format.proofs.SignedIntegers.{Reads-signed}
 use Rattle.claxon_input.specs.State.{State}
-use Rattle.claxon_input.specs.Gives.{Consumes}
-use Rattle.claxon_input.proofs.ConsecutiveCalls.{consumes_then}
+use Rattle.claxon_input.specs.Gives.{Consumes, Stops}
+use Rattle.claxon_input.proofs.ConsecutiveCalls.{consumes_map, consumes_then, stops_after}
+use Rattle.claxon_input.specs.declared.error.Error.{Error}
 
 replicate_fits : (n : ℕ) (x : ℤ) → FitsSigned w32 x → AllFit (replicate n x)
 replicate_fits zero x h = tt
@@ -52,3 +53,10 @@ channel_consumes w n header u v lt most first second same =
     consumes_then _ first second (λ e f.
     let fits = samples_fit (w - header.wasted_bits) n header.type _ _ u (omega arith) (omega arith) f in
     rw (e, lt-ltb header.wasted_bits w lt, f, same fits) refl)
+
+-- a header, then a fault of the samples, or the end of input
+pub channel_stops : {a b c : State Bool} {e : Error} (w n : ℕ) (header : SubframeFields) → header.wasted_bits < w → Consumes a b (λ s m. subframe_header_at s ≡ Done header m) → Stops e (subframe_body_at (w - header.wasted_bits) n header.type) b c → Stops e (subframe_at w n) a c
+unfolding subframe_at
+channel_stops w n header lt first second =
+    stops_after {read = subframe_body_at (w - header.wasted_bits) n header.type} {next = and_then (subframe_body_at (w - header.wasted_bits) n header.type) (λ u. done (map (scaled header.wasted_bits) u))}
+    (consumes_map _ first (λ e. rw (e, lt-ltb header.wasted_bits w lt) refl)) (record { fault = λ s f rest e. rw e refl; incomplete = λ s e. rw e refl }) second

@@ -21,12 +21,13 @@ mod predictor;
 mod rice;
 mod verbatim;
 
+use buffered::read_values;
 use claxon_input::error::{Error, Result};
 use claxon_input::input::{Bitstream, ReadBytes};
 use partitions::read_buffered_partitions;
 use predictor::fixed::predict_fixed;
 use predictor::predict_lpc;
-use rice::read_rice_codes;
+use rice::{RiceCode, decode_zigzag};
 use verbatim::decode_verbatim;
 
 /// How the samples of a subframe are coded.
@@ -163,33 +164,17 @@ fn decode_exact<R: ReadBytes>(input: &mut Bitstream<R>, bps: u32, buffer: &mut [
     if wasted >= bps {
         return Err(Error::FormatError("subframe has no non-wasted bits"));
     }
-    decode_samples(input, header.sf_type, bps - wasted, buffer)?;
-    if wasted > 0 {
-        restore_wasted_bits(wasted, buffer);
-    }
-    Ok(())
-}
-
-fn decode_samples<R: ReadBytes>(
-    input: &mut Bitstream<R>,
-    sf_type: SubframeType,
-    bps: u32,
-    buffer: &mut [i32],
-) -> Result<()>
-    requires fixed { fixed_order sf_type ≤ 4 }
-    requires lpc { lpc_order sf_type ≤ 32 }
-    requires some { 0 < bps }
-    requires width { bps ≤ 32 }
-    requires block { length buffer.old < 65536 }
-    ensures { FillsBuffer R.source (subframe_body_at bps (length buffer.old) (type_number sf_type))
-        input.old result input.new buffer.new }
-{
-    match sf_type {
+    let bps = bps - wasted;
+    match header.sf_type {
         SubframeType::Constant => decode_constant(input, bps, buffer),
         SubframeType::Verbatim => decode_verbatim(input, bps, buffer),
         SubframeType::Fixed(order) => decode_fixed(input, bps, order, buffer),
         SubframeType::Lpc(order) => decode_lpc(input, bps, order, buffer),
+    }?;
+    if wasted > 0 {
+        restore_wasted_bits(wasted, buffer);
     }
+    Ok(())
 }
 
 // Appends the wasted bits to each sample, as zeros, modulo 2^32.
@@ -400,43 +385,19 @@ fn decode_residual<R: ReadBytes>(
     if n_warm_up > n_samples_per_partition {
         return Err(Error::FormatError("invalid residual"));
     }
-    decode_partitions(
-        input,
-        partition_type,
-        n_partitions,
-        n_samples_per_partition - n_warm_up,
-        n_samples_per_partition,
-        buffer,
-    )
-}
-
-// Partitions: the first of `first` residual samples, the others of `each`.
-fn decode_partitions<R: ReadBytes>(
-    input: &mut Bitstream<R>,
-    partition_type: RicePartitionType,
-    n_partitions: u32,
-    first: u16,
-    each: u16,
-    buffer: &mut [i32],
-) -> Result<()>
-    requires { total (lengths n_partitions first each) ≡ length buffer.old }
-    ensures { FillsBuffer R.source
-        (joined_at (partition_at (method_of partition_type)) (lengths n_partitions first each))
-        input.old result input.new buffer.new }
-{
     let mut start = 0;
-    let mut len = first;
+    let mut len = n_samples_per_partition - n_warm_up;
     let mut read = 0;
     while read < n_partitions {
         let end = start + len as usize;
         decode_partition(input, partition_type, &mut buffer[start..end])?;
         start = end;
-        len = each;
+        len = n_samples_per_partition;
         read += 1;
         let most = n_partitions - read;
         let rest = &mut buffer[start..];
-        let whole = read_buffered_partitions(input, partition_type, each, most, rest)?;
-        start += whole as usize * each as usize;
+        let whole = read_buffered_partitions(input, partition_type, len, most, rest)?;
+        start += whole as usize * len as usize;
         read += whole;
     }
     Ok(())
@@ -458,7 +419,9 @@ fn decode_partition<R: ReadBytes>(
     if parameter == escape {
         return decode_escape_partition(input, buffer);
     }
-    read_rice_codes(input, parameter, buffer)
+    read_values(input, RiceCode { parameter }, buffer)?;
+    decode_zigzag(buffer);
+    Ok(())
 }
 
 // An escaped partition: 5 bits give the bits per residual sample, then each residual sample follows unencoded. With 0 bits

@@ -25,8 +25,8 @@ pub trait GroupCode: Copy {
         ensures { GivesBufferedOrNone (value_at self) buffered.old result buffered.new };
 }
 
-/// Decodes the values that are completely buffered, in groups of `group` values where these fit into 64 bits, and returns how
-/// many there are.
+/// Decodes the values that are completely buffered, in groups of `group` values where these fit into 64 bits, else one by one,
+/// and returns how many there are.
 #[inline(always)]
 pub fn decode_by_groups<C: GroupCode>(
     code: C,
@@ -41,37 +41,21 @@ pub fn decode_by_groups<C: GroupCode>(
 {
     let mut values = 0;
     while values < buffer.len() {
-        let more = decode_group_or_value(code, group, buffered, &mut buffer[values..]);
-        if more == 0 {
-            break;
+        let end = values + group;
+        if 0 < group
+            && end <= buffer.len()
+            && decode_group(code, buffered, &mut buffer[values..end])
+        {
+            values = end;
+            continue;
         }
-        values += more;
+        let Some(value) = code.decode_value(buffered) else {
+            break;
+        };
+        buffer[values] = value;
+        values += 1;
     }
     values
-}
-
-// Decodes a group of values, or one value, or none, and returns their number.
-#[inline(always)]
-fn decode_group_or_value<C: GroupCode>(
-    code: C,
-    group: usize,
-    buffered: &mut BufferedBits,
-    buffer: &mut [i32],
-) -> usize
-    requires group { group ≤ 6 }
-    requires capacity { 0 < length buffer.now }
-    ensures few { result ≤ length buffer.new }
-    ensures values { BufferedValuesAreRead (C.value_at code)
-        buffered.old result buffered.new buffer.new }
-{
-    if group <= buffer.len() && decode_group(code, buffered, &mut buffer[..group]) {
-        return group;
-    }
-    let Some(value) = code.decode_value(buffered) else {
-        return 0;
-    };
-    buffer[0] = value;
-    1
 }
 
 // Decodes a group of values, where these fit into the next 64 bits. Otherwise the contents of the group are unspecified.

@@ -11,7 +11,8 @@ ghost use Rattle.claxon_subframe.specs.RiceCodes.{decoded};
 ghost use Rattle.claxon_subframe.specs.SubframeFields.{method_of};
 
 use super::RicePartitionType;
-use super::rice::{decode_buffered_codes, decode_zigzag};
+use super::buffered::ValueCode;
+use super::rice::{RiceCode, decode_zigzag};
 use claxon_input::error::Result;
 use claxon_input::input::{Bitstream, BufferedBits, ReadBytes};
 
@@ -34,38 +35,22 @@ pub fn read_buffered_partitions<R: ReadBytes>(
 {
     let mut buffered = input.buffered();
     let bits = buffered.len();
-    let whole = decode_buffered_partitions(&mut buffered, partition_type, each, most, buffer);
-    let consumed = bits - buffered.len();
-    input.skip_bits(consumed)?;
-    Ok(whole)
-}
-
-// Decodes these partitions from the buffered bits. All are zigzag-decoded at once, since vectors gain little on short ones.
-fn decode_buffered_partitions(
-    buffered: &mut BufferedBits,
-    partition_type: RicePartitionType,
-    each: u16,
-    most: u32,
-    buffer: &mut [i32],
-) -> u32
-    requires capacity { most * each ≤ length buffer.old }
-    ensures few { result ≤ most }
-    ensures read { GivesBuffered buffered.old buffered.new
-        (joined_at (partition_at (method_of partition_type)) (replicate result each))
-        (take (result * each) buffer.new) }
-{
     let each = each as usize;
     let mut whole = 0;
     let mut start = 0;
     while whole < most {
-        if !decode_buffered_partition(buffered, partition_type, &mut buffer[start..start + each]) {
+        let end = start + each;
+        if !decode_buffered_partition(&mut buffered, partition_type, &mut buffer[start..end]) {
             break;
         }
         whole += 1;
-        start += each;
+        start = end;
     }
+    // All at once, since vectors gain little on short partitions.
     decode_zigzag(&mut buffer[..start]);
-    whole
+    let consumed = bits - buffered.len();
+    input.skip_bits(consumed)?;
+    Ok(whole)
 }
 
 // The zigzag-encoded numbers of a partition of Rice codes, where it is completely buffered. Otherwise the contents of the
@@ -91,7 +76,8 @@ fn decode_buffered_partition(
     if parameter == escape || next.len() < buffer.len() as u32 * (parameter + 1) {
         return false;
     }
-    if decode_buffered_codes(&mut next, parameter, buffer) < buffer.len() {
+    let code = RiceCode { parameter };
+    if code.decode_buffered(&mut next, buffer) < buffer.len() {
         return false;
     }
     *buffered = next;

@@ -1,9 +1,13 @@
 //! The Rice codes of a partition: most of a stream's bits, and of the time to decode it.
-ghost use Rattle.std.specs.Prelude.{◌≡◌, ◌≤◌, length, map};
-ghost use Rattle.claxon_format.specs.read.Bits.{zigzag_decode, rice_code_at};
-ghost use Rattle.claxon_subframe.specs.RiceCodes.{RiceCodesAreRead, EncodedCodesAreRead, decoded, encoded_code_at};
+//!
+//! A code is read to its zigzag-encoded number in one of three ways: from 64 peeked bits, which begin with several codes
+//! (`first_value`), from the buffered bits (`decode_value`), or unbuffered, where it isn't completely buffered (`read_value`).
+//! Then `decode_zigzag` makes residual samples of all the numbers.
+ghost use Rattle.std.specs.Prelude.{◌≡◌, ◌≤◌, map};
+ghost use Rattle.claxon_format.specs.read.Bits.{zigzag_decode};
+ghost use Rattle.claxon_subframe.specs.RiceCodes.{decoded, encoded_code_at, EncodedCode};
 
-use super::buffered::{SampleCode, read_samples};
+use super::buffered::ValueCode;
 use super::groups::{GroupCode, decode_by_groups};
 use claxon_input::error::Result;
 use claxon_input::input::{Bitstream, BufferedBits, ReadBytes};
@@ -12,41 +16,56 @@ use claxon_input::input::{Bitstream, BufferedBits, ReadBytes};
 mod tests;
 
 /// The Rice codes with this parameter: the quotient by 2^parameter in unary, as zeros and a one, then the remainder in
-/// `parameter` bits. The number is taken modulo 2^32.
+/// `parameter` bits. The zigzag-encoded number is taken modulo 2^32.
 #[derive(Clone, Copy)]
-struct RiceCode {
-    parameter: u32,
+pub struct RiceCode {
+    pub parameter: u32,
     ghost bound: { parameter ≤ 30 },
 }
 
-impl SampleCode for RiceCode {
-    ghost use Rattle.claxon_format.specs.Bits.{RiceCode as RiceCodeOf};
-    ghost use Rattle.claxon_format.proofs.RiceCodes.{Reads-rice_code};
-    ghost use Rattle.std.proofs.Common.{rules};
+impl ValueCode for RiceCode {
+    ghost use Rattle.claxon_subframe.specs.RiceCodes.{Reads-encoded_code};
 
-    ghost sample_at = { λ c. rice_code_at c.parameter };
+    ghost code = { λ c. EncodedCode c.parameter };
 
-    ghost code = { λ c. RiceCodeOf c.parameter };
+    ghost reads = { λ c. Reads-encoded_code c.parameter };
 
-    ghost reads = { λ c. Reads-rice_code c.parameter (Prim.search rules) };
-
-    #[inline(always)]
+    #[inline(never)]
     fn decode_buffered(self, buffered: &mut BufferedBits, buffer: &mut [i32]) -> usize {
-        let codes = decode_buffered_codes(buffered, self.parameter, buffer);
-        decode_zigzag(&mut buffer[..codes]);
+        // A copy stays in registers: the reference might alias the buffer, and would be loaded again after each code.
+        let mut next = *buffered;
+        // The compiler makes code of its own for each of the parameters that are frequent.
+        let codes = match self.parameter {
+            0 => decode_by_groups(RiceCode { parameter: 0 }, 6, &mut next, buffer),
+            1 => decode_by_groups(RiceCode { parameter: 1 }, 6, &mut next, buffer),
+            2 => decode_by_groups(RiceCode { parameter: 2 }, 6, &mut next, buffer),
+            3 => decode_by_groups(RiceCode { parameter: 3 }, 6, &mut next, buffer),
+            4 => decode_by_groups(RiceCode { parameter: 4 }, 6, &mut next, buffer),
+            5 => decode_by_groups(RiceCode { parameter: 5 }, 5, &mut next, buffer),
+            6 => decode_by_groups(RiceCode { parameter: 6 }, 5, &mut next, buffer),
+            7 => decode_by_groups(RiceCode { parameter: 7 }, 5, &mut next, buffer),
+            8 => decode_by_groups(RiceCode { parameter: 8 }, 4, &mut next, buffer),
+            9 => decode_by_groups(RiceCode { parameter: 9 }, 4, &mut next, buffer),
+            10 => decode_by_groups(RiceCode { parameter: 10 }, 3, &mut next, buffer),
+            11 => decode_by_groups(RiceCode { parameter: 11 }, 3, &mut next, buffer),
+            12 => decode_by_groups(RiceCode { parameter: 12 }, 3, &mut next, buffer),
+            13 => decode_by_groups(RiceCode { parameter: 13 }, 3, &mut next, buffer),
+            14 => decode_by_groups(RiceCode { parameter: 14 }, 3, &mut next, buffer),
+            _ => decode_by_groups(self, 2, &mut next, buffer),
+        };
+        *buffered = next;
         codes
     }
 
     #[inline(always)]
-    #[tactic(auto, unfolding(claxon_format::specs::read::Bits::rice_code_at))]
-    fn read_sample<R: ReadBytes>(self, input: &mut Bitstream<R>) -> Result<i32> {
+    #[tactic(auto, unfolding(crate::specs::RiceCodes::encoded_code_at))]
+    fn read_value<R: ReadBytes>(self, input: &mut Bitstream<R>) -> Result<i32> {
         let quotient = input.read_unary()?;
         let low = input.read_leq_u32(self.parameter)?;
-        Ok(rice_to_signed((quotient << self.parameter) | low))
+        Ok(((quotient << self.parameter) | low).cast_signed())
     }
 }
 
-// The zigzag-encoded numbers, as they are before zigzag decoding.
 impl GroupCode for RiceCode {
     ghost value_at = { λ c. encoded_code_at c.parameter };
 
@@ -71,55 +90,6 @@ impl GroupCode for RiceCode {
         *buffered = next;
         Some(((quotient << self.parameter) | low).cast_signed())
     }
-}
-
-/// Reads as many Rice codes as the buffer is long.
-#[inline(always)]
-pub fn read_rice_codes<R: ReadBytes>(
-    input: &mut Bitstream<R>,
-    parameter: u32,
-    buffer: &mut [i32],
-) -> Result<()>
-    requires { parameter ≤ 30 }
-    ensures { RiceCodesAreRead R.source parameter input.old result input.new buffer.old buffer.new }
-{
-    read_samples(input, RiceCode { parameter }, buffer)
-}
-
-/// Decodes the Rice codes that are completely buffered to their zigzag-encoded numbers, and returns how many there are.
-#[inline(never)]
-pub fn decode_buffered_codes(
-    buffered: &mut BufferedBits,
-    parameter: u32,
-    buffer: &mut [i32],
-) -> usize
-    requires { parameter ≤ 30 }
-    ensures few { result ≤ length buffer.new }
-    ensures codes { EncodedCodesAreRead parameter buffered.old result buffered.new buffer.new }
-{
-    // A copy stays in registers: the reference might alias the buffer, and would be loaded again after each code.
-    let mut next = *buffered;
-    // The compiler makes code of its own for each of the parameters that are frequent.
-    let codes = match parameter {
-        0 => decode_by_groups(RiceCode { parameter: 0 }, 6, &mut next, buffer),
-        1 => decode_by_groups(RiceCode { parameter: 1 }, 6, &mut next, buffer),
-        2 => decode_by_groups(RiceCode { parameter: 2 }, 6, &mut next, buffer),
-        3 => decode_by_groups(RiceCode { parameter: 3 }, 6, &mut next, buffer),
-        4 => decode_by_groups(RiceCode { parameter: 4 }, 6, &mut next, buffer),
-        5 => decode_by_groups(RiceCode { parameter: 5 }, 5, &mut next, buffer),
-        6 => decode_by_groups(RiceCode { parameter: 6 }, 5, &mut next, buffer),
-        7 => decode_by_groups(RiceCode { parameter: 7 }, 5, &mut next, buffer),
-        8 => decode_by_groups(RiceCode { parameter: 8 }, 4, &mut next, buffer),
-        9 => decode_by_groups(RiceCode { parameter: 9 }, 4, &mut next, buffer),
-        10 => decode_by_groups(RiceCode { parameter: 10 }, 3, &mut next, buffer),
-        11 => decode_by_groups(RiceCode { parameter: 11 }, 3, &mut next, buffer),
-        12 => decode_by_groups(RiceCode { parameter: 12 }, 3, &mut next, buffer),
-        13 => decode_by_groups(RiceCode { parameter: 13 }, 3, &mut next, buffer),
-        14 => decode_by_groups(RiceCode { parameter: 14 }, 3, &mut next, buffer),
-        _ => decode_by_groups(RiceCode { parameter }, 2, &mut next, buffer),
-    };
-    *buffered = next;
-    codes
 }
 
 /// Zigzag-decodes each number. No number waits for another here, so the compiler decodes several at once, in vectors.

@@ -3,7 +3,7 @@ ghost use Rattle.std.specs.Prelude.{◌<◌, ◌≤◌};
 ghost use Rattle.claxon_format.specs.read.Bits.{signed_at};
 ghost use Rattle.claxon_subframe.specs.Samples.{SamplesAreRead};
 
-use super::buffered::{SampleCode, read_samples};
+use super::buffered::{ValueCode, read_values};
 use super::groups::{GroupCode, decode_by_groups};
 use super::{extend_sign_u32, read_sample};
 use claxon_input::error::Result;
@@ -17,11 +17,9 @@ struct Verbatim {
     ghost width: { bps ≤ 32 },
 }
 
-impl SampleCode for Verbatim {
+impl ValueCode for Verbatim {
     ghost use Rattle.claxon_format.specs.Bits.{Signed};
     ghost use Rattle.claxon_format.proofs.SignedIntegers.{Reads-signed};
-
-    ghost sample_at = { λ c. signed_at c.bps };
 
     ghost code = { λ c. Signed c.bps };
 
@@ -44,7 +42,7 @@ impl SampleCode for Verbatim {
     }
 
     #[inline(always)]
-    fn read_sample<R: ReadBytes>(self, input: &mut Bitstream<R>) -> Result<i32> {
+    fn read_value<R: ReadBytes>(self, input: &mut Bitstream<R>) -> Result<i32> {
         read_sample(input, self.bps)
     }
 }
@@ -77,5 +75,5 @@ pub fn decode_verbatim<R: ReadBytes>(
     requires width { bps ≤ 32 }
     ensures { SamplesAreRead R.source bps input.old result input.new buffer.old buffer.new }
 {
-    read_samples(input, Verbatim { bps }, buffer)
+    read_values(input, Verbatim { bps }, buffer)
 }

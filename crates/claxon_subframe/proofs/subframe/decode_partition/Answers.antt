@@ -1,6 +1,7 @@
-use Rattle.std.proofs.Common.{length, arith}
+use Rattle.std.proofs.Common.{◌∙◌, arith, length}
 use Rattle.std.proofs.lemmas.Result.{err_from_is_err_and}
-use Rattle.claxon_input.proofs.ConsecutiveCalls.{gives_after, io_exit, failure_or_known, consumes_map}
+use Rattle.claxon_input.proofs.ConsecutiveCalls.{consumes_then, exit, gives_after, io_exit, failure_or_known, consumes_map, stops_after}
+use Rattle.claxon_subframe.proofs.RiceCodeShifts.{codes_stop, codes_then_decoded}
 use Rattle.claxon_subframe.specs.SubframeFields.{method_of}
 use Rattle.claxon_subframe.proofs.PartitionParameter.{escape_of, rice_parameter_of, partition_incomplete, partition_escaped, partition_rice}
 use Rattle.claxon_subframe.proofs.subframe.decode_partition.Goals as goal
@@ -15,7 +16,16 @@ returns-then-parameter-escape g c =
     let escaped = escape_of c.args.partition_type c.parameter_bits-bits.result c.in_ok-read_leq_u8.field-0 c.parameter_bits-bits.ensures (omega arith) in
     gives_after _ c.decode_escape_partition.result _ (consumes_map _ c.in_ok-read_leq_u8.ensures.gives (partition_escaped (method_of c.args.partition_type) _ (length c.args.buffer.now) _ c.parameter_bits-bits.ensures escaped)) c.decode_escape_partition.ensures
 
+pub returns-in_err-read_values : goal.returns-in_err-read_values
+returns-in_err-read_values g c =
+    let not_escape = (rice_parameter_of c.args.partition_type c.parameter_bits-bits.result c.from-parameter.result c.parameter_bits-bits.ensures (omega (arith, c.in_ok-read_leq_u8.ensures.value)) c.if-parameter-escape.false).not_escape in
+    exit _ (err_from_is_err_and c.from_residual-in_err-read_values.result c.from_residual-in_err-read_values.ensures.1)
+    (stops_after (consumes_map _ c.in_ok-read_leq_u8.ensures.gives (λ p. partition_rice (method_of c.args.partition_type) _ (length c.args.buffer.now) _ c.parameter_bits-bits.ensures not_escape (rw c.from-parameter.ensures p)))
+    (codes_stop c.from-parameter.result (length c.args.buffer.now)) c.in_err-read_values.ensures)
+
 pub returns : goal.returns
 returns g c =
     let not_escape = (rice_parameter_of c.args.partition_type c.parameter_bits-bits.result c.from-parameter.result c.parameter_bits-bits.ensures (omega (arith, c.in_ok-read_leq_u8.ensures.value)) c.if-parameter-escape.false).not_escape in
-    gives_after _ c.read_rice_codes.result _ (consumes_map _ c.in_ok-read_leq_u8.ensures.gives (λ p. partition_rice (method_of c.args.partition_type) _ (length c.args.buffer.now) _ c.parameter_bits-bits.ensures not_escape (rw c.from-parameter.ensures p))) c.read_rice_codes.ensures
+    consumes_then _ c.in_ok-read_leq_u8.ensures.gives c.in_ok-read_values.ensures (λ p q.
+    partition_rice (method_of c.args.partition_type) _ (length c.args.buffer.now) _ c.parameter_bits-bits.ensures not_escape (rw c.from-parameter.ensures p)
+    ∙ codes_then_decoded c.from-parameter.result (length c.args.buffer.now) _ q c.decode_zigzag.ensures)

@@ -1,4 +1,4 @@
-use Rattle.std.proofs.Common.{◌≡◌, ◌≢◌, ◌/◌, ◌%◌, ◌^◌, ◌-◌, ◌*◌, ◌<◌, ℕ, List, true, false, ltb, length, refl, arith}
+use Rattle.std.proofs.Common.{◌≡◌, ◌≢◌, ◌/◌, ◌%◌, ◌^◌, ◌-◌, ◌*◌, ◌<◌, ◌≤◌, ◌∙◌, Bool, ℕ, List, true, false, ltb, length, refl, arith}
 use Rattle.std.proofs.lemmas.Bool.{lt-ltb, le-ltb}
 use Rattle.std.proofs.lemmas.Result.{err_from_is_err_and}
 use Rattle.claxon_format.specs.Fault.{fault_text, PartitionOrder, PartitionShort}
@@ -7,10 +7,12 @@ use Rattle.claxon_format.specs.Bits.{Bits}
 use Rattle.claxon_format.specs.Residual.{partition_lengths}
 use Rattle.claxon_format.specs.read.Bits.{number_at}
 use Rattle.claxon_format.specs.read.Residual.{partition_at, residual_at, method_at, partitions_at, joined_at}
+use Rattle.claxon_input.specs.Gives.{Consumes}
+use Rattle.claxon_input.specs.State.{State}
 use Rattle.claxon_input.proofs.ConsecutiveCalls.{consumes_then, consumes_none, exit, io_exit, failure_or_after, stops_after, gives_after}
-use Rattle.claxon_subframe.specs.SubframeFields.{method_of}
 use Rattle.claxon_subframe.specs.Partitions.{lengths}
 use Rattle.claxon_input.proofs.Faults.{stops_fault}
+use Rattle.claxon_subframe.proofs.PartitionLoop.{partitions_begin, partitions_next, partitions_several, rest_fits, partitions_err, partitions_end}
 use Rattle.claxon_subframe.proofs.PartitionLengths.{mask_is, total_is, lengths_are}
 use Rattle.claxon_subframe.proofs.subframe.decode_residual.Goals as goal
 
@@ -18,6 +20,13 @@ whole_is : (n order : ℕ) (ls : List ℕ) (method p r : ℕ) (s m k : Bits) →
     → residual_at n order s ≡ joined_at (partition_at method) ls k
 unfolding residual_at partitions_at
 whole_is n order ls method p r s m k a b e none fits l = rw (a, b, ← e, none, fits, l) refl
+
+residual_begins : {a b c : State Bool} (n order method p r : ℕ) → p < 16 → p ≡ r → n % 2 ^ p ≡ 0 → order ≤ n / 2 ^ p → Consumes a b (λ s m. method_at s ≡ Done method m) → Consumes b c (λ s m. number_at 4 s ≡ Done r m)
+    → Consumes a c (λ s m. residual_at n order s ≡ joined_at (partition_at method) (lengths (1 * 2 ^ p % 4294967296) (n / 2 ^ p - order) (n / 2 ^ p)) m)
+residual_begins n order method p r small is whole fits first second =
+    let none : ltb 0 (n % 2 ^ p) ≡ false = le-ltb _ _ (omega arith) in
+    let long : ltb (n / 2 ^ p) order ≡ false = le-ltb _ _ fits in
+    consumes_then _ first second (λ e f. whole_is n order _ method p r _ _ _ e f is none long (lengths_are n order p small))
 
 pub returns-in_err-partition_type : goal.returns-in_err-partition_type
 unfolding residual_at
@@ -54,21 +63,38 @@ returns-then-n_warm_up-n_samples_per_partition g c =
     let short : ltb (c.args.block_size / 2 ^ c.in_ok-read_leq_u8.field-0) (c.args.block_size - length c.args.buffer.now) ≡ true = lt-ltb _ _ few in
     stops_fault PartitionShort refl refl (refl, refl) (consumes_then _ c.in_ok-partition_type.ensures c.in_ok-read_leq_u8.ensures.gives (λ p q. rw (p, q, none, short) refl))
 
-pub decode_partitions-requires : goal.decode_partitions-requires
-decode_partitions-requires g c =
+pub loop-read-init : goal.loop-read-init
+loop-read-init g c =
     let small : c.from-order.result < 16 = omega (arith, c.in_ok-read_leq_u8.ensures.value) in
     let m = mask_is c.args.block_size c.from-order.result small in
-    let t = total_is c.args.block_size (c.args.block_size - length c.args.buffer.now) c.from-order.result small (grind arith) (omega arith) in omega arith
+    let t = total_is c.args.block_size (c.args.block_size - length c.args.buffer.now) c.from-order.result small (grind arith) (omega arith) in
+    partitions_begin _ _ _ _ c.args.buffer.now (omega arith)
+
+pub returns-in_err-decode_partition : goal.returns-in_err-decode_partition
+returns-in_err-decode_partition g c =
+    let small : c.from-order.result < 16 = omega (arith, c.in_ok-read_leq_u8.ensures.value) in
+    let m = mask_is c.args.block_size c.from-order.result small in
+    let begun = residual_begins c.args.block_size (c.args.block_size - length c.args.buffer.now) _ c.from-order.result c.in_ok-read_leq_u8.field-0 small c.from-order.ensures (grind arith) (omega arith) c.in_ok-partition_type.ensures c.in_ok-read_leq_u8.ensures.gives in
+    gives_after _ c.from_residual-in_err-decode_partition.result _ begun
+    (exit _ (err_from_is_err_and c.from_residual-in_err-decode_partition.result c.from_residual-in_err-decode_partition.ensures.1) (partitions_err (omega arith) c.loop-read.invariant c.in_err-decode_partition.ensures))
+
+pub read_buffered_partitions-requires : goal.read_buffered_partitions-requires
+read_buffered_partitions-requires g c =
+    let one = partitions_next c.decode_partition.new.buffer (omega arith) c.loop-read.invariant c.decode_partition.auto.buffer c.in_ok-decode_partition.ensures in
+    record { capacity = rest_fits one }
+
+pub loop-read-smaller : goal.loop-read-smaller
+loop-read-smaller g c = let few = c.in_ok-whole.ensures.few in omega arith
+
+pub loop-read-preserved : goal.loop-read-preserved
+loop-read-preserved g c =
+    let one = partitions_next c.decode_partition.new.buffer (omega arith) c.loop-read.invariant c.decode_partition.auto.buffer c.in_ok-decode_partition.ensures in
+    let few = c.in_ok-whole.ensures.few in
+    partitions_several c.in_ok-whole.whole c.read_buffered_partitions.new.buffer (omega arith) one c.read_buffered_partitions.auto.buffer c.in_ok-whole.ensures.ok
 
 pub returns : goal.returns
 returns g c =
     let small : c.from-order.result < 16 = omega (arith, c.in_ok-read_leq_u8.ensures.value) in
     let m = mask_is c.args.block_size c.from-order.result small in
-    let whole : c.args.block_size % 2 ^ c.from-order.result ≡ 0 = grind arith in
-    let none : ltb 0 (c.args.block_size % 2 ^ c.from-order.result) ≡ false = le-ltb _ _ (omega arith) in
-    let fits : ltb (c.args.block_size / 2 ^ c.from-order.result) (c.args.block_size - length c.args.buffer.now) ≡ false = le-ltb _ _ (omega arith) in
-    let l = lengths_are c.args.block_size (c.args.block_size - length c.args.buffer.now) c.from-order.result small in
-    let partitions = lengths (1 * 2 ^ c.from-order.result % 4294967296) (c.args.block_size / 2 ^ c.from-order.result - (c.args.block_size - length c.args.buffer.now)) (c.args.block_size / 2 ^ c.from-order.result) in
-    gives_after _ c.decode_partitions.result _ (consumes_then (λ s m. residual_at c.args.block_size (c.args.block_size - length c.args.buffer.now) s ≡ joined_at (partition_at (method_of c.in_ok-partition_type.partition_type)) partitions m)
-    c.in_ok-partition_type.ensures c.in_ok-read_leq_u8.ensures.gives (λ p q.
-    whole_is c.args.block_size (c.args.block_size - length c.args.buffer.now) partitions (method_of c.in_ok-partition_type.partition_type) c.from-order.result c.in_ok-read_leq_u8.field-0 _ _ _ p q c.from-order.ensures none fits l)) c.decode_partitions.ensures
+    let begun = residual_begins c.args.block_size (c.args.block_size - length c.args.buffer.now) _ c.from-order.result c.in_ok-read_leq_u8.field-0 small c.from-order.ensures (grind arith) (omega arith) c.in_ok-partition_type.ensures c.in_ok-read_leq_u8.ensures.gives in
+    consumes_then _ begun (partitions_end (omega arith) c.loop-read.invariant) (λ p q. p ∙ q)

@@ -13,12 +13,12 @@ overflow_mul-buffer c =
     let p = buffered_rice_parameter c.args.partition_type c.args.buffered.now c.number.new.self c.parameter_bits-bits.ensures c.in-Some.ensures c.if-parameter-escape.false in
     let few : length c.args.buffer.now * (c.in-Some.parameter + 1) < 4294967296 = least_bits (length c.args.buffer.now) c.in-Some.parameter c.requires p.few in omega arith
 
-pub decode_buffered_codes-requires : goal.decode_buffered_codes-requires
-decode_buffered_codes-requires c =
-    (buffered_rice_parameter c.args.partition_type c.args.buffered.now c.number.new.self c.parameter_bits-bits.ensures c.in-Some.ensures c.if-parameter-escape.false).few
+pub invariant_of-code : goal.invariant_of-code
+invariant_of-code c =
+    let p = buffered_rice_parameter c.args.partition_type c.args.buffered.now c.number.new.self c.parameter_bits-bits.ensures c.in-Some.ensures c.if-parameter-escape.false in record { bound = p.few }
 
 pub returns : goal.returns
 returns c =
     let p = buffered_rice_parameter c.args.partition_type c.args.buffered.now c.number.new.self c.parameter_bits-bits.ensures c.in-Some.ensures c.if-parameter-escape.false in
-    rice_codes_partition (method_of c.args.partition_type) c.in-Some.parameter c.parameter_bits-bits.result c.decode_buffered_codes.result c.decode_buffered_codes.new.buffer c.args.buffered.now c.number.new.self c.decode_buffered_codes.new.buffered c.parameter_bits-bits.ensures p.not_escape (omega arith)
-    c.decode_buffered_codes.ensures.few c.in-Some.ensures c.decode_buffered_codes.ensures.codes
+    rice_codes_partition (method_of c.args.partition_type) c.in-Some.parameter c.parameter_bits-bits.result c.decode_buffered.result c.decode_buffered.new.buffer c.args.buffered.now c.number.new.self c.decode_buffered.new.buffered c.parameter_bits-bits.ensures p.not_escape (omega arith)
+    c.decode_buffered.ensures.few c.in-Some.ensures c.decode_buffered.ensures.values

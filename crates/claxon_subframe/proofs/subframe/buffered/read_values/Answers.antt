@@ -5,12 +5,12 @@ use Rattle.claxon_input.proofs.ConsecutiveCalls.{exit, io_exit, failure_or_after
 use Rattle.claxon_input.proofs.FieldLoops.{times_end, times_err}
 use Rattle.claxon_subframe.proofs.BufferedFields.{fields_skipped, fields_fit, filled_one}
 use Rattle.claxon_subframe.proofs.SkippedBits.{read_skipped, never_incomplete}
-use Rattle.claxon_subframe.proofs.subframe.buffered.read_samples.Goals as goal
+use Rattle.claxon_subframe.proofs.subframe.buffered.read_values.Goals as goal
 
 pub overflow_sub-consumed : goal.overflow_sub-consumed
 overflow_sub-consumed g c =
-    (read_skipped (Reads-times c.decode_buffered.result (g.met.C.SampleCode.reads c.args.code)) c.len-bits.result c.len.result (take c.decode_buffered.result c.decode_buffered.new.buffer) c.buffered-buffered.result c.decode_buffered.new.buffered []
-    c.len-bits.ensures.value c.len.ensures.value (c.decode_buffered.ensures.samples [])).fewer
+    (read_skipped (Reads-times c.decode_buffered.result (g.met.C.ValueCode.reads c.args.code)) c.len-bits.result c.len.result (take c.decode_buffered.result c.decode_buffered.new.buffer) c.buffered-buffered.result c.decode_buffered.new.buffered []
+    c.len-bits.ensures.value c.len.ensures.value (c.decode_buffered.ensures.values [])).fewer
 
 pub returns-in_err-skip_bits : goal.returns-in_err-skip_bits
 returns-in_err-skip_bits g c =
@@ -20,21 +20,21 @@ returns-in_err-skip_bits g c =
 pub returns-in_err-buffer : goal.returns-in_err-buffer
 returns-in_err-buffer g c =
     let l = c.loop-start in
-    let put = fields_skipped (g.met.C.SampleCode.reads c.args.code) c.len-bits.result c.len.result c.decode_buffered.result c.decode_buffered.new.buffer c.buffered-buffered.result c.decode_buffered.new.buffered c.len-bits.ensures.value c.len.ensures.value c.decode_buffered.ensures.samples c.buffered-buffered.ensures l.invariant.0 c.decode_buffered.ensures.few c.decode_buffered.auto.buffer l.invariant.1 c.in_ok-skip_bits.ensures.gives in
+    let put = fields_skipped (g.met.C.ValueCode.reads c.args.code) c.len-bits.result c.len.result c.decode_buffered.result c.decode_buffered.new.buffer c.buffered-buffered.result c.decode_buffered.new.buffered c.len-bits.ensures.value c.len.ensures.value c.decode_buffered.ensures.values c.buffered-buffered.ensures l.invariant.0 c.decode_buffered.ensures.few c.decode_buffered.auto.buffer l.invariant.1 c.in_ok-skip_bits.ensures.gives in
     exit _ (err_from_is_err_and c.from_residual-in_err-buffer.result c.from_residual-in_err-buffer.ensures.1) (times_err (omega arith) put c.in_err-buffer.ensures)
 
 pub loop-start-preserved-then-start-buffer : goal.loop-start-preserved-then-start-buffer
 loop-start-preserved-then-start-buffer g c =
     let l = c.loop-start in
     let f : FitsSigned w32 c.in_ok-buffer.field-0 = search rules in
-    let put = fields_skipped (g.met.C.SampleCode.reads c.args.code) c.len-bits.result c.len.result c.decode_buffered.result c.decode_buffered.new.buffer c.buffered-buffered.result c.decode_buffered.new.buffered c.len-bits.ensures.value c.len.ensures.value c.decode_buffered.ensures.samples c.buffered-buffered.ensures l.invariant.0 c.decode_buffered.ensures.few c.decode_buffered.auto.buffer l.invariant.1 c.in_ok-skip_bits.ensures.gives in
+    let put = fields_skipped (g.met.C.ValueCode.reads c.args.code) c.len-bits.result c.len.result c.decode_buffered.result c.decode_buffered.new.buffer c.buffered-buffered.result c.decode_buffered.new.buffered c.len-bits.ensures.value c.len.ensures.value c.decode_buffered.ensures.values c.buffered-buffered.ensures l.invariant.0 c.decode_buffered.ensures.few c.decode_buffered.auto.buffer l.invariant.1 c.in_ok-skip_bits.ensures.gives in
     filled_one c.in_ok-buffer.field-0 f (omega arith) put c.in_ok-buffer.ensures
 
 pub loop-start-preserved : goal.loop-start-preserved
 loop-start-preserved g c =
     let l = c.loop-start in
     let ys = c.decode_buffered.new.buffer in
-    let put = fields_skipped (g.met.C.SampleCode.reads c.args.code) c.len-bits.result c.len.result c.decode_buffered.result ys c.buffered-buffered.result c.decode_buffered.new.buffered c.len-bits.ensures.value c.len.ensures.value c.decode_buffered.ensures.samples c.buffered-buffered.ensures l.invariant.0 c.decode_buffered.ensures.few c.decode_buffered.auto.buffer l.invariant.1 c.in_ok-skip_bits.ensures.gives in
+    let put = fields_skipped (g.met.C.ValueCode.reads c.args.code) c.len-bits.result c.len.result c.decode_buffered.result ys c.buffered-buffered.result c.decode_buffered.new.buffered c.len-bits.ensures.value c.len.ensures.value c.decode_buffered.ensures.values c.buffered-buffered.ensures l.invariant.0 c.decode_buffered.ensures.few c.decode_buffered.auto.buffer l.invariant.1 c.in_ok-skip_bits.ensures.gives in
     (fields_fit l.start c.decode_buffered.result l.buffer ys l.invariant.0 c.decode_buffered.ensures.few c.decode_buffered.auto.buffer, put)
 
 pub returns : goal.returns

@@ -1,0 +1,16 @@
+use Rattle.std.proofs.Common.{◌≡◌, sym, w32, rules}
+use Rattle.std.proofs.lemmas.Int.{to_z-of_z}
+use Rattle.claxon_format.specs.read.Reading.{Done}
+use Rattle.claxon_input.specs.Gives.{Consumes}
+use Rattle.claxon_input.specs.State.{bits_in}
+use Rattle.claxon_input.proofs.ConsecutiveCalls.{consumes_then}
+use Rattle.claxon_subframe.specs.RiceCodes.{encoded_code_at}
+use Rattle.claxon_subframe.proofs.ConsecutiveFields.{consumes_as}
+use Rattle.claxon_subframe.proofs.RiceCodeShifts.{encoded_code_from}
+use Rattle.claxon_subframe.proofs.subframe.rice.RiceCodeValueCode.read_value.Goals as goal
+
+pub returns : goal.returns
+returns g c =
+    let w : Consumes (bits_in g.R.ReadBytes.source c.args.input.now) (bits_in g.R.ReadBytes.source c.read_leq_u32.new.self) (λ s m. encoded_code_at c.args.self.parameter s ≡ Done c.cast_signed.result m)
+    = consumes_then _ c.in_ok-quotient.ensures.gives c.in_ok-low.ensures.gives (λ p q. encoded_code_from c.args.self.parameter c.in_ok-quotient.quotient c.in_ok-low.low c.cast_signed.result _ _ _ c.args.self.bound p q c.cast_signed.ensures) in
+    consumes_as (sym (to_z-of_z w32 c.cast_signed.result (search rules))) w
