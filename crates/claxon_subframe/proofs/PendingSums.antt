@@ -5,7 +5,6 @@ use Rattle.std.specs.Int.Signed.{shr_z}
 use borrow.Rule.Simd.Lanes.{act2}
 use borrow.Table.Row.{s_int}
 use mir.Syntax.{wrap_add, shl}
-use lib.Lanes.{zip2}
 use Rattle.std.proofs.Math.IntN.{+ℤ_idl, +ℤ_comm, suc_ℤ-*ℤ, *ℤ_comm, zero-*ℤ, *ℤ-zero, *ℤ-negsuc}
 use Rattle.std.proofs.Math.Nat.{div-div-eq-div-mul, mul-div_cancel, suc-mul, pow-le-pow_right}
 use Rattle.std.proofs.lemmas.Bool.{cases_lt, lt-ltb, le-ltb}
@@ -408,22 +407,19 @@ lane_scaled_up x u y r z t fx fr ht eu ex ey =
     let all = represents_add (represents_mul rep_x (represents_fits (pos (2 ^ (32 - t))) (power_fits t))) (represents_mul (represents_fits r fr64) (represents_fits (pos 4294967296) fc)) in
     rw (eu, ey) (ap (λ (v : ℤ). to_z w64 (of_z w64 v)) all.value ∙ to_z-of_z w64 (scaled_up z r t) (SFits-int_wrap w64 _))
 
--- four lanes scaled up, with their residual samples
-abbrev pub lanes_scaled_up : List ℤ → ℤ → List ℤ → List ℤ
-lanes_scaled_up xs u rs =
-    map (to_z w64) (zip2 (act2 wrap_add (s_int w64) (s_int w64) (s_int w64))
-    (zip2 (act2 shl (s_int w64) (s_int w64) (s_int w64)) (map (of_z w64) xs) (of_z w64 u ∷ of_z w64 u ∷ of_z w64 u ∷ of_z w64 u ∷ []))
-    (zip2 (act2 shl (s_int w64) (s_int w64) (s_int w64)) (map (of_z w64) rs) (32 ∷ 32 ∷ 32 ∷ 32 ∷ [])))
+-- the last two lanes scaled up, each with its residual sample
+abbrev lane_with_residual : List ℤ → ℕ → ℤ → ℤ → ℤ
+lane_with_residual sums lane u residual =
+    to_z w64 (of_z w64 (to_z w64 (act2 wrap_add (s_int w64) (s_int w64) (s_int w64) (act2 shl (s_int w64) (s_int w64) (s_int w64) (get_or (map (of_z w64) sums ++ map (of_z w64) sums) lane 0) (of_z w64 u))
+    (of_z w64 (to_z w32 (of_z w32 residual)) * 4294967296 % 18446744073709551616))))
 
-pub nearest_scaled_up : (xs rs : List ℤ) (u nearest z : ℤ) (t : ℕ) → LanesFit64 xs → LanesFit64 rs → FitsSigned w32 nearest → t ≤ 15 → u ≡ pos (32 - t) → get_or xs 0 (pos 0) ≡ wrap_64 z → get_or rs 0 (pos 0) ≡ nearest
-    → to_z w64 (of_z w64 (get_or (lanes_scaled_up xs u rs) 0 (pos 0))) ≡ scaled_up z nearest t
-nearest_scaled_up (a ∷ b ∷ c ∷ d ∷ []) (e ∷ f ∷ g ∷ h ∷ []) u nearest z t wx wr fits ht eu ex er = lane_scaled_up a u e nearest z t wx.each.0 fits ht eu ex er
-nearest_scaled_up xs rs u nearest z t wx wr fits ht eu ex er = absurd (omega (arith, wx.four, wr.four))
+pub nearest_scaled_up : (sums : List ℤ) (u nearest z : ℤ) (t : ℕ) → LanesFit64 sums → FitsSigned w32 nearest → t ≤ 15 → u ≡ pos (32 - t) → get_or sums 3 (pos 0) ≡ wrap_64 z → lane_with_residual sums 3 u nearest ≡ scaled_up z nearest t
+nearest_scaled_up (a ∷ b ∷ c ∷ d ∷ []) u nearest z t lanes fits ht eu ex = lane_scaled_up d u (to_z w32 (of_z w32 nearest)) nearest z t lanes.each.1.1.1.0 fits ht eu ex (to_z-of_z w32 nearest fits)
+nearest_scaled_up sums u nearest z t lanes fits ht eu ex = absurd (omega (arith, lanes.four))
 
-pub farther_scaled_up : (xs rs : List ℤ) (u farther z : ℤ) (t : ℕ) → LanesFit64 xs → LanesFit64 rs → FitsSigned w32 farther → t ≤ 15 → u ≡ pos (32 - t) → get_or xs 1 (pos 0) ≡ wrap_64 z → get_or rs 1 (pos 0) ≡ farther
-    → to_z w64 (of_z w64 (get_or (lanes_scaled_up xs u rs) 1 (pos 0))) ≡ scaled_up z farther t
-farther_scaled_up (a ∷ b ∷ c ∷ d ∷ []) (e ∷ f ∷ g ∷ h ∷ []) u farther z t wx wr fits ht eu ex er = lane_scaled_up b u f farther z t wx.each.1.0 fits ht eu ex er
-farther_scaled_up xs rs u farther z t wx wr fits ht eu ex er = absurd (omega (arith, wx.four, wr.four))
+pub farther_scaled_up : (sums : List ℤ) (u farther z : ℤ) (t : ℕ) → LanesFit64 sums → FitsSigned w32 farther → t ≤ 15 → u ≡ pos (32 - t) → get_or sums 2 (pos 0) ≡ wrap_64 z → lane_with_residual sums 2 u farther ≡ scaled_up z farther t
+farther_scaled_up (a ∷ b ∷ c ∷ d ∷ []) u farther z t lanes fits ht eu ex = lane_scaled_up c u (to_z w32 (of_z w32 farther)) farther z t lanes.each.1.1.0 fits ht eu ex (to_z-of_z w32 farther fits)
+farther_scaled_up sums u farther z t lanes fits ht eu ex = absurd (omega (arith, lanes.four))
 
 -- ---- the coefficients, as the code makes them of 32 numbers
 

@@ -156,19 +156,17 @@ floor_is (negsuc n) s = refl
 pub shifted_fits : (z : ℤ) (s : ℕ) → FitsSigned w64 z → FitsSigned w64 (shr_z z (2 ^ s))
 shifted_fits z s h = record { sfits = omega (arith, h.sfits, mag_shr z (2 ^ s)) }
 
-pub shift_is : (r : ℤ) (s t : ℕ) → t ≡ s → FitsSigned w64 r → to_z w64 (of_z w64 (shr_z (to_z w64 (of_z w64 r)) (2 ^ t))) ≡ floor_shift r s
-shift_is r s t e fr =
-    ap (λ (y : ℤ). to_z w64 (of_z w64 (shr_z y (2 ^ t)))) (to_z-of_z w64 r fr) ∙ to_z-of_z w64 (shr_z r (2 ^ t)) (shifted_fits r t fr) ∙ floor_is r t ∙ ap (λ (n : ℕ). floor_shift r n) e
+shift_is : (r : ℤ) (s : ℕ) → FitsSigned w64 r → to_z w64 (of_z w64 (shr_z (to_z w64 (of_z w64 r)) (2 ^ s))) ≡ floor_shift r s
+shift_is r s fr = ap (λ (y : ℤ). to_z w64 (of_z w64 (shr_z y (2 ^ s)))) (to_z-of_z w64 r fr) ∙ to_z-of_z w64 (shr_z r (2 ^ s)) (shifted_fits r s fr) ∙ floor_is r s
 
 -- the low 32 bits of the prediction
-pub linear_value : (cs xs : List ℤ) (i s : ℕ) (l p r : ℤ) → length cs ≤ i → i ≤ length xs → FitsSigned w64 r → FitsSigned w64 p
-    → r ≡ dot cs (take (i - (i - length cs)) (drop (i - length cs) xs)) → p ≡ floor_shift (to_z w64 (of_z w64 r)) s → l ≡ wrap (to_z w64 (of_z w64 p))
+pub linear_value : (cs xs : List ℤ) (i s : ℕ) (l r : ℤ) → length cs ≤ i → i ≤ length xs → FitsSigned w64 r → r ≡ dot cs (take (i - (i - length cs)) (drop (i - length cs) xs)) → l ≡ wrap (to_z w64 (of_z w64 (shr_z (to_z w64 (of_z w64 r)) (2 ^ s))))
     → l ≡ wrap (linear (reverse cs) s (reverse (take i xs)))
-linear_value cs xs i s l p r le lt fr fp er ep el =
+linear_value cs xs i s l r le lt fr er el =
     let part : take (i - (i - length cs)) (drop (i - length cs) xs) ≡ drop (i - length cs) (take i xs)
     = sym (drop-take (i - length cs) (i - (i - length cs)) xs) ∙ ap (λ (n : ℕ). drop (i - length cs) (take n xs)) (omega arith) in
     let r-is : r ≡ dot (reverse cs) (reverse (take i xs)) = er ∙ ap (dot cs) part ∙ dot_window cs xs i le lt in
-    el ∙ ap wrap (to_z-of_z w64 p fp ∙ ep ∙ ap (λ (y : ℤ). floor_shift y s) (to_z-of_z w64 r fr ∙ r-is))
+    el ∙ ap wrap (shift_is r s fr ∙ ap (λ (y : ℤ). floor_shift y s) r-is)
 
 -- that plus a residual sample
 pub linear_sum : (x l v d : ℤ) → l ≡ wrap v → x ≡ wrap (l +ℤ d) → x ≡ wrap (v +ℤ d)

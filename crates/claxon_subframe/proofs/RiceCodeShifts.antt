@@ -102,15 +102,16 @@ codes_decoded k (suc n) s = rw (rice_code_decoded k s) (first (λ m. codes_decod
     first others (Faulty f m) = refl
     first others Incomplete = refl
 
-pub codes_then_decoded : (k n : ℕ) (s : Bits) {m : Bits} {xs ys : List ℤ} → times_at n (encoded_code_at k) s ≡ Done xs m → ys ≡ map decoded xs → times_at n (rice_code_at k) s ≡ Done ys m
-codes_then_decoded k n s {m = m} e is = codes_decoded k n s ∙ ap (mapped (map decoded)) e ∙ ap (λ (l : List ℤ). Done l m) (sym is)
+pub codes_then_decoded : {read : ℕ} (k n : ℕ) (s : Bits) {m : Bits} {xs ys : List ℤ} → read ≡ k → times_at n (encoded_code_at read) s ≡ Done xs m → ys ≡ map decoded xs → times_at n (rice_code_at k) s ≡ Done ys m
+codes_then_decoded k n s {m = m} same e is =
+    codes_decoded k n s ∙ ap (λ (j : ℕ). mapped (map decoded) (times_at n (encoded_code_at j) s)) (sym same) ∙ ap (mapped (map decoded)) e ∙ ap (λ (l : List ℤ). Done l m) (sym is)
 
 -- and they stop where their encoded numbers do
-pub codes_stop : (k n : ℕ) → StopsWith (times_at n (encoded_code_at k)) (times_at n (rice_code_at k))
-codes_stop k n = record {
+pub codes_stop : {read : ℕ} (k n : ℕ) → read ≡ k → StopsWith (times_at n (encoded_code_at read)) (times_at n (rice_code_at k))
+codes_stop k n same = rw same (record {
   fault = λ s f rest e. codes_decoded k n s ∙ ap (mapped (map decoded)) e;
   incomplete = λ s e. codes_decoded k n s ∙ ap (mapped (map decoded)) e;
-}
+})
 
 -- the encoded numbers at the front of the buffer, decoded in their place
 pub decoded_front : {n : ℕ} (codes : ℕ) (xs ys : List ℤ) → n ≡ codes → codes ≤ length xs → ys ≡ map decoded (take n xs) → take codes (ys ++ drop n xs) ≡ map decoded (take codes xs)

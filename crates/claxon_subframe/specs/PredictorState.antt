@@ -1,5 +1,5 @@
 -- What a predictor keeps from one pair of samples to the next.
-use Rattle.std.specs.Prelude.{◌≡◌, ℕ, ℤ, List, Result, IfOk, IfErr, FitsSigned, length, take, reverse}
+use Rattle.std.specs.Prelude.{◌≡◌, ℕ, ◌+◌, ℤ, List, Result, IfOk, IfErr, FitsSigned, length, take, reverse}
 use Rattle.std.specs.Int.{w32}
 use Rattle.claxon_format.specs.Predict.{linear}
 use Rattle.claxon_format.specs.read.Predict.{restored}
@@ -28,6 +28,16 @@ abbrev pub RestoresSamples : {S : Type 0} → (List ℤ → Type 0) → (List �
 RestoresSamples Coefficients Pending last shift old i before new j result =
     (coefficients : List ℤ) → Coefficients coefficients → AreNewest coefficients last
     → StandsAt (Pending coefficients) old i before → AreRestoredOrStop (Pending coefficients) (linear coefficients shift) old i new j result
+
+-- the same for the two samples at place i and after it
+abbrev pub RestoresPair : {S : Type 0} → (List ℤ → Type 0) → (List ℤ → List ℤ → S → Type 0) → NewestFive → ℕ → List ℤ → ℕ → PredictorState S → List ℤ → Result (PredictorState S) ℕ → Type 0
+RestoresPair Coefficients Pending last shift old i before new result =
+    RestoresSamples Coefficients Pending last shift old i before new (i + 2) result
+
+-- the same for ten samples
+abbrev pub RestoresTen : {S : Type 0} → (List ℤ → Type 0) → (List ℤ → List ℤ → S → Type 0) → NewestFive → ℕ → List ℤ → ℕ → PredictorState S → List ℤ → Result (PredictorState S) ℕ → Type 0
+RestoresTen Coefficients Pending last shift old i before new result =
+    RestoresSamples Coefficients Pending last shift old i before new (i + 10) result
 
 -- the samples from place i to place j are restored, with such coefficients
 abbrev pub RestoresFront : {S : Type 0} → (List ℤ → Type 0) → (List ℤ → List ℤ → S → Type 0) → NewestFive → ℕ → List ℤ → ℕ → PredictorState S → List ℤ → ℕ → Type 0

@@ -285,21 +285,10 @@ fn read_coefficients<R: ReadBytes>(
         input.old result input.new coefficients.new }
 {
     for coefficient in coefficients.iter_mut() {
-        *coefficient = read_coefficient(input, precision)?;
+        let number = input.read_leq_u16(precision)?;
+        *coefficient = extend_sign_u16(number, precision);
     }
     Ok(())
-}
-
-#[inline(always)]
-#[tactic(auto, unfolding(claxon_format::specs::read::Bits::signed_at))]
-fn read_coefficient<R: ReadBytes>(input: &mut Bitstream<R>, precision: u32) -> Result<i16>
-    requires some { 0 < precision }
-    requires most { precision ≤ 16 }
-    ensures { Gives (λ x. x) result (signed_at precision)
-        (bits_in R.source input.old) (bits_in R.source input.new) }
-{
-    let number = input.read_leq_u16(precision)?;
-    Ok(extend_sign_u16(number, precision))
 }
 
 fn decode_lpc<R: ReadBytes>(

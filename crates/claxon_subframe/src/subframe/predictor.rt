@@ -49,7 +49,8 @@ fn predict_plain(coefficients: &[i16], shift: u32, buffer: &mut [i32])
     let order = coefficients.len();
     for i in order..buffer.len() {
         let sum = inner_product(coefficients, &buffer[i - order..i]);
-        let prediction = shifted_down(sum, shift);
+        // The sum divided by 2^shift, rounded down.
+        let prediction = sum >> shift;
         buffer[i] = low_bits(prediction).wrapping_add(buffer[i]);
     }
 }
@@ -66,15 +67,6 @@ fn inner_product(coefficients: &[i16], samples: &[i32]) -> i64
         sum += i64::from(*coefficient) * i64::from(samples[i]);
     }
     sum
-}
-
-// The sum divided by 2^shift, rounded down.
-#[inline(always)]
-fn shifted_down(sum: i64, shift: u32) -> i64
-    requires { shift ≤ 15 }
-    ensures { result ≡ floor_shift sum shift }
-{
-    sum >> shift
 }
 
 // The low 32 bits of a number, as a signed number.

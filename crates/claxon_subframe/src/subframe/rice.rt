@@ -1,8 +1,9 @@
 //! The Rice codes of a partition: most of a stream's bits, and of the time to decode it.
 //!
-//! A code is read to its zigzag-encoded number in one of three ways: from 64 peeked bits, which begin with several codes
-//! (`first_value`), from the buffered bits (`decode_value`), or unbuffered, where it isn't completely buffered (`read_value`).
-//! Then `decode_zigzag` makes residual samples of all the numbers.
+//! A code is read in one of three ways: from 64 peeked bits, which begin with several codes (`RiceCode::first_value`); from
+//! buffered bits, where the 64 bits don't hold a group of codes (`RiceCode::decode_value`); or unbuffered, where the code isn't
+//! completely buffered (`RiceCode::read_value`). Each gives the zigzag-encoded number. `decode_zigzag` makes residual samples of
+//! these numbers, many at once.
 ghost use Rattle.std.specs.Prelude.{◌≡◌, ◌≤◌, map};
 ghost use Rattle.claxon_format.specs.read.Bits.{zigzag_decode};
 ghost use Rattle.claxon_subframe.specs.RiceCodes.{decoded, encoded_code_at, EncodedCode};

@@ -1,4 +1,5 @@
-use Rattle.std.proofs.Common.{◌∙◌, arith, length}
+use Rattle.std.proofs.Common.{◌∙◌, arith, length, rules}
+use Rattle.std.proofs.lemmas.Grind.{common_steps}
 use Rattle.std.proofs.lemmas.Result.{err_from_is_err_and}
 use Rattle.claxon_input.proofs.ConsecutiveCalls.{consumes_then, exit, gives_after, io_exit, failure_or_known, consumes_map, stops_after}
 use Rattle.claxon_subframe.proofs.RiceCodeShifts.{codes_stop, codes_then_decoded}
@@ -18,14 +19,16 @@ returns-then-parameter-escape g c =
 
 pub returns-in_err-read_values : goal.returns-in_err-read_values
 returns-in_err-read_values g c =
-    let not_escape = (rice_parameter_of c.args.partition_type c.parameter_bits-bits.result c.from-parameter.result c.parameter_bits-bits.ensures (omega (arith, c.in_ok-read_leq_u8.ensures.value)) c.if-parameter-escape.false).not_escape in
+    let p = rice_parameter_of c.args.partition_type c.parameter_bits-bits.result c.from-parameter.result c.parameter_bits-bits.ensures (omega (arith, c.in_ok-read_leq_u8.ensures.value)) c.if-parameter-escape.false in
+    let few = p.few in
     exit _ (err_from_is_err_and c.from_residual-in_err-read_values.result c.from_residual-in_err-read_values.ensures.1)
-    (stops_after (consumes_map _ c.in_ok-read_leq_u8.ensures.gives (λ p. partition_rice (method_of c.args.partition_type) _ (length c.args.buffer.now) _ c.parameter_bits-bits.ensures not_escape (rw c.from-parameter.ensures p)))
-    (codes_stop c.from-parameter.result (length c.args.buffer.now)) c.in_err-read_values.ensures)
+    (stops_after (consumes_map _ c.in_ok-read_leq_u8.ensures.gives (λ e. partition_rice (method_of c.args.partition_type) _ (length c.args.buffer.now) _ c.parameter_bits-bits.ensures p.not_escape (rw c.from-parameter.ensures e)))
+    (codes_stop c.from-parameter.result (length c.args.buffer.now) (grind arith)) c.in_err-read_values.ensures)
 
 pub returns : goal.returns
 returns g c =
-    let not_escape = (rice_parameter_of c.args.partition_type c.parameter_bits-bits.result c.from-parameter.result c.parameter_bits-bits.ensures (omega (arith, c.in_ok-read_leq_u8.ensures.value)) c.if-parameter-escape.false).not_escape in
-    consumes_then _ c.in_ok-read_leq_u8.ensures.gives c.in_ok-read_values.ensures (λ p q.
-    partition_rice (method_of c.args.partition_type) _ (length c.args.buffer.now) _ c.parameter_bits-bits.ensures not_escape (rw c.from-parameter.ensures p)
-    ∙ codes_then_decoded c.from-parameter.result (length c.args.buffer.now) _ q c.decode_zigzag.ensures)
+    let p = rice_parameter_of c.args.partition_type c.parameter_bits-bits.result c.from-parameter.result c.parameter_bits-bits.ensures (omega (arith, c.in_ok-read_leq_u8.ensures.value)) c.if-parameter-escape.false in
+    let few = p.few in
+    consumes_then _ c.in_ok-read_leq_u8.ensures.gives c.in_ok-read_values.ensures (λ e f.
+    partition_rice (method_of c.args.partition_type) _ (length c.args.buffer.now) _ c.parameter_bits-bits.ensures p.not_escape (rw c.from-parameter.ensures e)
+    ∙ codes_then_decoded c.from-parameter.result (length c.args.buffer.now) _ (grind arith) f (search (rules, common_steps)))

@@ -199,27 +199,6 @@ pub struct PredictorState<S> {
     pub sums: S,
 }
 
-// The residual samples of the next two samples in the first two lanes, in the order of the buffer, so that one load reads both.
-#[inline(always)]
-fn residuals_in_lanes(nearest: i32, farther: i32) -> i64x4
-    ensures nearest { get_or result 0 (pos 0) ≡ nearest }
-    ensures farther { get_or result 1 (pos 0) ≡ farther }
-    ensures fits { LanesFit64 result }
-{
-    i32x4::from_array([nearest, farther, 0, 0]).cast::<i64>()
-}
-
-// The pending sums of the next two samples, the last two lanes, in the same order.
-#[inline(always)]
-fn sums_of_next_two(sums: i64x4) -> i64x4
-    requires { LanesFit64 sums }
-    ensures nearest { get_or result 0 (pos 0) ≡ get_or sums 3 (pos 0) }
-    ensures farther { get_or result 1 (pos 0) ≡ get_or sums 2 (pos 0) }
-    ensures fits { LanesFit64 result }
-{
-    sums.swizzle([3, 2, 3, 2])
-}
-
 // The pending sums of the next two samples, each with its residual sample. All is scaled up so that one shift by 32 drops the
 // bits that `shift` would drop, and leaves a number of 32 bits.
 #[inline(always)]
@@ -230,8 +209,9 @@ fn scaled_up(sums: i64x4, nearest: i32, farther: i32, shift: u32) -> (i64, i64)
     ensures farther { IsScaledUp (get_or sums 2 (pos 0)) farther shift result.1 }
 {
     let up = i64x4::splat(i64::from(32 - shift));
-    let residuals = residuals_in_lanes(nearest, farther);
-    let pending = sums_of_next_two(sums);
+    // In the order of the buffer, so that one load reads both.
+    let residuals = i32x4::from_array([nearest, farther, 0, 0]).cast::<i64>();
+    let pending = sums.swizzle([3, 2, 3, 2]);
     let [first, second, _, _] = ((pending << up) + (residuals << i64x4::splat(32))).to_array();
     (first, second)
 }

@@ -179,16 +179,6 @@ fn advance_lanes(has_taps: bool, before: i32x4, sums: i32x4, taps: i16x8, pair: 
     add_pairs(shift_two_lanes(before, sums), taps, pair)
 }
 
-// The same lanes in 64 bits.
-#[inline(always)]
-fn widened(lanes: i32x4) -> i64x4
-    requires { LanesFit32 lanes }
-    ensures value { result ≡ lanes }
-    ensures fits { LanesFit64 result }
-{
-    lanes.cast::<i64>()
-}
-
 // These coefficients, where the oldest 28 - 4 * `VECTORS` of the 32 are zeros.
 #[derive(Clone, Copy)]
 struct PairTaps<const VECTORS: usize> {
@@ -230,7 +220,7 @@ impl<const VECTORS: usize> LaneTaps for PairTaps<VECTORS> {
 
     #[inline(always)]
     fn next_four(self, sums: PendingSums<i32x4>) -> i64x4 {
-        widened(sums.at_0)
+        sums.at_0.cast::<i64>()
     }
 
     #[inline(always)]

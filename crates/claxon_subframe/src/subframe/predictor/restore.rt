@@ -1,14 +1,14 @@
 //! Samples restored two at a time, with pending sums of later samples: one body for lanes of each width.
 //!
-//! A sample's products are added to the pending sums of later samples as soon as it is known, two samples at a time, so that the
-//! lanes shift by half a vector. The products of the newest samples, four for the first of two and five for the second, are
+//! A sample's products are added to the pending sums of later samples as soon as it is known, two samples at a time, so that
+//! the lanes shift by half a vector. The products of the newest samples, four for the first of two and five for the second, are
 //! added last, one by one, so that a sample depends on the one just before it only by one product, and on no pending sum that
 //! was just computed.
 ghost use Rattle.std.specs.Prelude.{◌≡◌, ◌+◌, ◌%◌, ◌<◌, ◌≤◌, ◌↔◌, ◌∷◌, [], List, ℤ, IfErr, IfOk, IfSome, IsSome, IsTrue, length, FitsSigned};
 ghost use Rattle.std.specs.Int.{w32};
 ghost use Rattle.claxon_subframe.specs.Lanes.{LanesFit64};
 ghost use Rattle.claxon_subframe.specs.PendingSums.{ArePendingSumsOf, four_pending};
-ghost use Rattle.claxon_subframe.specs.PredictorState.{EachFits, RestoresFront, RestoresSamples};
+ghost use Rattle.claxon_subframe.specs.PredictorState.{EachFits, RestoresFront, RestoresPair, RestoresTen};
 
 use super::lanes::{NewestFive, PredictorState};
 use super::low_bits;
@@ -100,8 +100,8 @@ pub fn restore_pair<T: LaneTaps>(
     requires sums { T.fit state.sums }
     requires within { i + 2 ≤ length buffer.old }
     ensures kept { length buffer.new ≡ length buffer.old }
-    ensures restored { RestoresSamples (T.coefficients taps) T.pending last shift buffer.old i state
-        buffer.new (i + 2) result }
+    ensures restored { RestoresPair (T.coefficients taps) T.pending last shift buffer.old i state
+        buffer.new result }
     ensures fits { IfOk result (λ next. T.fit next.sums) }
     ensures place { IfErr result (λ place. place ≡ i) }
     ensures all { EachFits T.sample_fits → IfErr result (λ place. ⊥) }
@@ -119,8 +119,8 @@ pub fn restore_pair<T: LaneTaps>(
     Ok(PredictorState { newest, sums })
 }
 
-// Restores ten residual samples from `i` on while they fit. An Err is the place of the first pair that doesn't. A pair moves each
-// name of `NewestFive` on by two samples, and five pairs by ten, to where it was, so that the compiler moves no registers.
+// Restores ten residual samples from `i` on while they fit. An Err is the place of the first pair that doesn't. A pair moves
+// each name of `NewestFive` on by two samples, and five pairs by ten, to where it was, so that the compiler moves no registers.
 #[inline(always)]
 fn restore_ten<T: LaneTaps>(
     last: NewestFive,
@@ -135,8 +135,8 @@ fn restore_ten<T: LaneTaps>(
     requires sums { T.fit state.sums }
     requires within { i + 10 ≤ length buffer.old }
     ensures kept { length buffer.new ≡ length buffer.old }
-    ensures restored { RestoresSamples (T.coefficients taps) T.pending last shift buffer.old i state
-        buffer.new (i + 10) result }
+    ensures restored { RestoresTen (T.coefficients taps) T.pending last shift buffer.old i state
+        buffer.new result }
     ensures fits { IfOk result (λ next. T.fit next.sums) }
     ensures place { IfErr result (λ place. (i ≤ place) × (place ≤ i + 8)) }
     ensures all { EachFits T.sample_fits → IfErr result (λ place. ⊥) }

@@ -11,7 +11,9 @@ pub loop-values-init : goal.loop-values-init
 loop-values-init g c = (omega arith, fields_begin (g.C.GroupCode.value_at c.args.code) c.args.buffer.now c.args.buffered.now)
 
 pub loop-values-preserved-then-decode_group : goal.loop-values-preserved-then-decode_group
-loop-values-preserved-then-decode_group g c = fields_group c.args.group c.decode_group.new.group c.if-end-buffer.true c.decode_group.auto.group c.loop-values.invariant.1 c.if-decode_group.ensures
+loop-values-preserved-then-decode_group g c =
+    let group = fields_group c.args.group c.decode_group.new.group {a = c.args.buffered.now} {b = c.loop-values.buffered} {c = c.decode_group.new.buffered} c.if-end-buffer.true c.decode_group.auto.group c.loop-values.invariant.1 c.if-decode_group.ensures in
+    (grind (arith, group.0), record { so_far = λ rest. let e = group.1.so_far rest in grind (arith, e) })
 
 pub loop-values-preserved : goal.loop-values-preserved
 loop-values-preserved g c =

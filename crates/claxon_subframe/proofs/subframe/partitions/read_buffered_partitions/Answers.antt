@@ -1,4 +1,4 @@
-use Rattle.std.proofs.Common.{[], arith, drop, length, map, take, ◌*◌, ◌++◌, ◌-◌, ◌+◌, ◌≤◌, ◌∙◌}
+use Rattle.std.proofs.Common.{[], arith, length, map, take, ◌*◌, ◌-◌, ◌+◌, ◌≤◌, ◌∙◌}
 use Rattle.claxon_input.proofs.Sources.{on_err}
 use Rattle.claxon_subframe.specs.RiceCodes.{decoded}
 use Rattle.claxon_subframe.specs.SubframeFields.{method_of}
@@ -56,5 +56,5 @@ returns-clause-ok g c =
           (buffered_partitions_stay method c.args.each l.whole l.start (l.start + c.args.each - l.start) l.buffer w.decode_buffered_partition.new.buffer c.buffered-buffered.result l.buffered w.decode_buffered_partition.new.buffered l.invariant.0 fit w.if-not-decode_buffered_partition.ensures l.invariant.2)
     ] in
     let samples = buffered_partitions_decoded method c.args.each l.whole after.buffer c.decode_zigzag.new.numbers c.buffered-buffered.result after.buffered (omega (arith, l.invariant.0)) (omega (arith, fit, l.invariant.0, after.auto.buffer)) c.decode_zigzag.ensures so_far in
-    read_consumes (Reads-joined method l.whole c.args.each (method_small c.args.partition_type)) c.len-bits.result c.len.result (take (l.whole * c.args.each) (c.decode_zigzag.new.numbers ++ drop l.start after.buffer)) c.buffered-buffered.result after.buffered
+    read_consumes (Reads-joined method l.whole c.args.each (method_small c.args.partition_type)) c.len-bits.result c.len.result _ c.buffered-buffered.result after.buffered
     c.len-bits.ensures.value c.len.ensures.value samples c.buffered-buffered.ensures c.in_ok-skip_bits.ensures.gives

@@ -9,9 +9,8 @@ pub loop-i-preserved : goal.loop-i-preserved
 loop-i-preserved c =
     let d : FitsSigned w32 (get_or c.loop-i.buffer c.loop-i.i (pos 0)) = search rules in
     let r : FitsSigned w64 c.inner_product-sum.result = search rules in
-    let q : FitsSigned w64 c.shifted_down-prediction.result = search rules in
     let p = linear (reverse c.args.coefficients.now) c.args.shift in
-    let predicted = linear_value c.args.coefficients.now c.loop-i.buffer c.loop-i.i c.args.shift c.low_bits.result c.shifted_down-prediction.result c.inner_product-sum.result (omega arith) (omega arith) r q c.inner_product-sum.ensures c.shifted_down-prediction.ensures c.low_bits.ensures in
+    let predicted = linear_value c.args.coefficients.now c.loop-i.buffer c.loop-i.i c.args.shift c.low_bits.result c.inner_product-sum.result (omega arith) (omega arith) r c.inner_product-sum.ensures (grind arith) in
     let l : FitsSigned w32 c.low_bits.result = wrap_fits _ _ predicted in
     record {
       kept = length-set c.loop-i.buffer c.loop-i.i _ ∙ c.loop-i.invariant.kept;

@@ -1,5 +1,4 @@
-use Rattle.std.proofs.Common.{◌≡◌, sym, w32, rules}
-use Rattle.std.proofs.lemmas.Int.{to_z-of_z}
+use Rattle.std.proofs.Common.{◌≡◌, ℤ, rules}
 use Rattle.claxon_format.specs.read.Reading.{Done}
 use Rattle.claxon_input.specs.Gives.{Consumes}
 use Rattle.claxon_input.specs.State.{bits_in}
@@ -13,4 +12,5 @@ pub returns : goal.returns
 returns g c =
     let w : Consumes (bits_in g.R.ReadBytes.source c.args.input.now) (bits_in g.R.ReadBytes.source c.read_leq_u32.new.self) (λ s m. encoded_code_at c.args.self.parameter s ≡ Done c.cast_signed.result m)
     = consumes_then _ c.in_ok-quotient.ensures.gives c.in_ok-low.ensures.gives (λ p q. encoded_code_from c.args.self.parameter c.in_ok-quotient.quotient c.in_ok-low.low c.cast_signed.result _ _ _ c.args.self.bound p q c.cast_signed.ensures) in
-    consumes_as (sym (to_z-of_z w32 c.cast_signed.result (search rules))) w
+    let k : (v : ℤ) → c.cast_signed.result ≡ v → Consumes (bits_in g.R.ReadBytes.source c.args.input.now) (bits_in g.R.ReadBytes.source c.read_leq_u32.new.self) (λ s m. encoded_code_at c.args.self.parameter s ≡ Done v m) = λ v e. consumes_as e w in
+    search (rules, k)
