@@ -41,6 +41,7 @@ pub fn decode_by_groups<C: GroupCode>(
 {
     let mut values = 0;
     while values < buffer.len() {
+        // A group of 0 values would get no further.
         let end = values + group;
         if 0 < group
             && end <= buffer.len()
