@@ -25,3 +25,4 @@ pub mod Opening
 pub mod OutOfMemory
 pub mod SampleRuns
 pub mod FramesInMemory
+pub mod Interleaving

@@ -44,4 +44,5 @@ pub mod FlacSamples
 pub mod SampleRuns
 pub mod OtherErrors
 pub mod Prefix
+pub mod Interleave
 pub mod FramesInMemory

@@ -35,6 +35,7 @@
 #![tactic(auto)]
 
 mod head;
+pub mod interleave;
 mod laws;
 mod reader;
 mod samples;

@@ -3,7 +3,6 @@ pub mod BlockCalls
 pub mod BlockContents
 pub mod ContentCalls
 pub mod HeadCalls
-pub mod InterleavedSamples
 pub mod NextMetadata
 pub mod Reports
 pub mod HeadersAtStart

@@ -2,7 +2,7 @@ mod Digits
 pub mod Chunks
 pub mod Converting
 pub mod Ending
-pub mod Interleaved
+pub mod PackedSamples
 pub mod SamplesFit
 mod Printing
 pub mod Parts

@@ -8,4 +8,3 @@ pub mod CompleteStreams
 pub mod Runs
 pub mod RestOfInput
 pub mod SampleBytes
-pub mod Interleaving

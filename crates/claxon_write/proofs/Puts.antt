@@ -7,8 +7,9 @@ use Rattle.std.proofs.lemmas.List.{append-nil, append_cancel_left, take_at, drop
 use Rattle.claxon.specs.Streams.{interleave, duration_of}
 use Rattle.claxon.specs.Error.{IsIo}
 use Rattle.claxon.specs.Errors.{Error}
-use Rattle.claxon_write.specs.SampleBytes.{bytes_of_samples, interleave_range}
-use Rattle.claxon_write.proofs.SampleBytes.{range_all}
+use Rattle.claxon.specs.Interleave.{interleave_range}
+use Rattle.claxon_write.specs.SampleBytes.{bytes_of_samples}
+use Rattle.claxon.proofs.Interleaving.{range_all}
 use Rattle.claxon_write.specs.Output.{FlushFaultIsSound, FlushIsSound}
 use Rattle.claxon_write.specs.Capacity.{capacity}
 use Rattle.claxon_write.specs.CountingWriter.{failed_flushes_of, failed_seeks_of, failed_writes_of, inner_contents}

@@ -2,7 +2,6 @@
 #![tactic(auto)]
 
 mod arguments;
-mod bytes;
 mod counting_writer;
 mod output;
 mod program;

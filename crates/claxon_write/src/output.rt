@@ -5,8 +5,8 @@ ghost use Rattle.claxon.specs.Streams.{duration_of};
 ghost use Rattle.claxon_write.specs.Capacity.{capacity};
 ghost use Rattle.claxon_write.specs.SampleBytes.{bytes_between};
 
-use crate::bytes::{put_channel, put_mono, put_stereo};
 use crate::counting_writer::CountingWriter;
+use claxon::interleave::interleave;
 use claxon::{Block, Result};
 use std::alloc::Allocator;
 use std::io::Write;
@@ -230,49 +230,5 @@ impl<'w, W: Write> Output<'w, W> {
             from += count;
         }
         Ok(())
-    }
-}
-
-// Fills the buffer with the bytes of the interchannel samples from index `from` up to `to`.
-fn interleave<A: Allocator>(block: &Block<A>, from: usize, to: usize, buffer: &mut [u8])
-    requires order { from ≤ to }
-    requires in_block { to ≤ duration_of block.now.channels }
-    requires buffer { length buffer.old ≡ (to - from) * (4 * length block.now.channels) }
-    ensures { buffer.new ≡ bytes_between block.now.channels from to }
-{
-    match block.channels() {
-        // An empty block has no samples, so the buffer is empty too.
-        0 => {}
-        1 => put_mono(&block.channel(0)[from..to], buffer),
-        2 => put_stereo(
-            &block.channel(0)[from..to],
-            &block.channel(1)[from..to],
-            buffer,
-        ),
-        3 => put_channels::<3, A>(block, from, to, buffer),
-        4 => put_channels::<4, A>(block, from, to, buffer),
-        5 => put_channels::<5, A>(block, from, to, buffer),
-        6 => put_channels::<6, A>(block, from, to, buffer),
-        7 => put_channels::<7, A>(block, from, to, buffer),
-        _ => put_channels::<8, A>(block, from, to, buffer),
-    }
-}
-
-// The same for a block of `CHANNELS` channels, one channel at a time.
-fn put_channels<const CHANNELS: usize, A: Allocator>(
-    block: &Block<A>,
-    from: usize,
-    to: usize,
-    buffer: &mut [u8],
-)
-    requires channels { length block.now.channels ≡ CHANNELS }
-    requires few { CHANNELS ≤ 8 }
-    requires order { from ≤ to }
-    requires in_block { to ≤ duration_of block.now.channels }
-    requires buffer { length buffer.old ≡ (to - from) * (4 * length block.now.channels) }
-    ensures { buffer.new ≡ bytes_between block.now.channels from to }
-{
-    for ch in 0..CHANNELS {
-        put_channel::<CHANNELS>(&block.channel(ch as u32)[from..to], ch, buffer);
     }
 }

@@ -3,13 +3,13 @@ ghost use Rattle.std.specs.Prelude.{◌≡◌, ◌≤◌, ◌*◌, ◌<◌, ◌�
 ghost use Rattle.std.specs.Int.{to_le_bytes, w32};
 ghost use Rattle.std.specs.List.{flat_map};
 ghost use Rattle.claxon.specs.Bits.{FitsIn};
-ghost use Rattle.claxon.specs.Streams.{interleave, samples_at, duration_of};
+ghost use Rattle.claxon.specs.Streams.{interleave};
 ghost use Rattle.claxon_tools.specs.Samples.{IsTooWide, packed_block, bytes_of_sample, shifted_sample, silence};
 ghost use Rattle.claxon_tools.specs.WaveFile.{sample_size};
-ghost use Rattle.claxon_write.specs.SampleBytes.{interleave_range};
 
 use crate::wav::error::{Error, Result};
 use claxon::Block;
+use claxon::interleave::interleave;
 use std::alloc::Allocator;
 
 /// Replaces the bytes by those of a block's samples. A sample that doesn't fit in the valid bits is an error. The contents of
@@ -28,7 +28,12 @@ pub fn pack<A: Allocator>(
         IsTooWide valid_bits error (interleave block.now.channels)) }
 {
     interleaved.resize(block.len() as usize, 0)?;
-    interleave(block, interleaved.as_mut_slice());
+    interleave(
+        block,
+        0,
+        block.duration() as usize,
+        interleaved.as_mut_slice(),
+    );
     if !all_fit_in(interleaved.as_slice(), valid_bits) {
         return Err(Error::WideSample);
     }
@@ -41,46 +46,6 @@ pub fn pack<A: Allocator>(
         _ => put_samples::<4>(samples, valid_bits, buffer),
     }
     Ok(())
-}
-
-// The interleaved samples of a block.
-fn interleave<A: Allocator>(block: &Block<A>, buffer: &mut [i32])
-    requires { length buffer.old ≡ length block.now.channels * duration_of block.now.channels }
-    ensures { buffer.new ≡ interleave block.now.channels }
-{
-    match block.channels() {
-        1 => buffer.copy_from_slice(block.channel(0)),
-        2 => pair(block.channel(0), block.channel(1), buffer),
-        channels => {
-            let channels = channels as usize;
-            for index in 0..block.duration() {
-                let at = index as usize * channels;
-                put_samples_at(block, index, &mut buffer[at..at + channels]);
-            }
-        }
-    }
-}
-
-#[inline(never)]
-fn pair(left: &[i32], right: &[i32], buffer: &mut [i32])
-    requires same { length right.now ≡ length left.now }
-    requires buffer { length buffer.old ≡ 2 * length left.now }
-    ensures { buffer.new ≡ interleave_range (left.now ∷ right.now ∷ []) 0 (length left.now) }
-{
-    for i in 0..left.len() {
-        buffer[2 * i] = left[i];
-        buffer[2 * i + 1] = right[i];
-    }
-}
-
-fn put_samples_at<A: Allocator>(block: &Block<A>, index: u32, buffer: &mut [i32])
-    requires here { index < duration_of block.now.channels }
-    requires buffer { length buffer.old ≡ length block.now.channels }
-    ensures { buffer.new ≡ samples_at block.now.channels index }
-{
-    for ch in 0..block.channels() {
-        buffer[ch as usize] = block.channel(ch)[index as usize];
-    }
 }
 
 // Whether each sample fits in this number of bits in two's complement.

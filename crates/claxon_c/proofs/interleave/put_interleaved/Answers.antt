@@ -1,10 +1,11 @@
-use Rattle.std.proofs.Common.{arith, rules, ◌≡◌, ◌+◌, ◌-◌, ◌*◌}
-use Rattle.claxon_c.proofs.InterleavedSamples.{next_interchannel_sample}
+use Rattle.std.proofs.Common.{◌*◌, ◌++◌, ℕ, ℤ, List, length, drop, ap, ◌∙◌}
+use Rattle.claxon.proofs.Interleaving.{all_interleaved}
+use Rattle.claxon.specs.Streams.{interleave}
 use Rattle.claxon_c.proofs.interleave.put_interleaved.Goals as goal
 
-pub loop-index-preserved : goal.loop-index-preserved
-loop-index-preserved c =
-    let size = c.channels-channels.result in
-    let from = c.loop-index.from in
-    let next : from + size ≡ (c.loop-index.index + 1) * size = grind (arith, c.loop-index.invariant.0) in
-    (next, next_interchannel_sample c.args.block.now.channels c.loop-index.index from size (from + size - from) c.loop-index.samples c.args.samples.now c.put_interchannel_sample.new.samples (search rules) c.loop-index.invariant.0 (omega arith) (search rules) c.put_interchannel_sample.ensures c.loop-index.invariant.1)
+pub returns : goal.returns
+returns c =
+    let channels = c.args.block.now.channels in
+    let samples = c.args.samples.now in
+    ap (λ (z : List ℤ). z ++ drop (c.channels.result * c.duration-duration.result) samples) (c.interleave.ensures ∙ all_interleaved channels c.duration-duration.result c.duration-duration.ensures.value)
+    ∙ ap (λ (k : ℕ). interleave channels ++ drop (k * c.duration-duration.result) samples) c.channels.ensures.value ∙ ap (λ (k : ℕ). interleave channels ++ drop (length channels * k) samples) c.duration-duration.ensures.value

@@ -2,7 +2,8 @@ use Rattle.std.proofs.Common.{◌≡◌, ◌+◌, ◌-◌, ◌++◌, List, ℕ, 
 use Rattle.std.proofs.lemmas.List.{append-nil}
 use Rattle.std.proofs.lemmas.Result.{err_from_is_err_and}
 use Rattle.std.proofs.lemmas.Grind.{common_steps}
-use Rattle.claxon_write.specs.SampleBytes.{bytes_of_samples, interleave_range}
+use Rattle.claxon.specs.Interleave.{interleave_range}
+use Rattle.claxon_write.specs.SampleBytes.{bytes_of_samples}
 use Rattle.claxon_write.proofs.Puts.{puts_none, puts_both, puts_as, puts_pending, fails_after, fails_more, fails_as, bytes_all}
 use Rattle.claxon_write.proofs.SampleBytes.{bytes_more, bytes_none}
 use Rattle.claxon_write.proofs.output.Output.put_block.Goals as goal

@@ -1,6 +1,7 @@
 use Rattle.std.proofs.Common.{◌-◌, ◌≡◌, ◌≤◌}
 use Rattle.claxon_write.specs.InnerWriter.{output_name}
-use Rattle.claxon_write.specs.SampleBytes.{bytes_of_samples, interleave_range}
+use Rattle.claxon.specs.Interleave.{interleave_range}
+use Rattle.claxon_write.specs.SampleBytes.{bytes_of_samples}
 use Rattle.claxon_write.specs.Written.{IsUnflushed, Puts}
 use Rattle.claxon_write.proofs.output.Output.put_block.Given as goal
 
