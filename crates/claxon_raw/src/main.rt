@@ -6,6 +6,6 @@ use std::process::ExitCode;
 
 fn main(rt: HostRuntime) -> ExitCode {
     run_command(&rt, &mut rt.stderr(), |words, errors| {
-        command(&rt, words, &mut rt.stdout(), errors)
+        command(&rt, words.unwrap_or(&[]), &mut rt.stdout(), errors)
     })
 }

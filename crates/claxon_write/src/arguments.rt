@@ -8,17 +8,17 @@ use std::env;
 use std::io::ErrorKind;
 use std::rt::Env;
 
-/// The arguments after the program's name, or none if one of them isn't UTF-8.
+/// The arguments after the program's name, or None if one of them isn't UTF-8.
 ///
 /// # Errors
 ///
 /// Only `OutOfMemory`.
-pub fn words<Q: Env + Alloc>(rt: &Q) -> Result<Vec<String<Q::A>, Q::A>>
+pub fn words<Q: Env + Alloc>(rt: &Q) -> Result<Option<Vec<String<Q::A>, Q::A>>>
     ensures { IsOkUnless result OutOfMemory }
 {
     match env::args(rt) {
-        Ok(words) => Ok(words.skip(1).collect(rt.alloc())?),
-        Err(error) if error.kind() == ErrorKind::InvalidData => Ok(Vec::new(rt.alloc())),
+        Ok(words) => Ok(Some(words.skip(1).collect(rt.alloc())?)),
+        Err(error) if error.kind() == ErrorKind::InvalidData => Ok(None),
         Err(_) => Err(Error::OutOfMemory),
     }
 }

@@ -1,17 +1,17 @@
-//! What the programs share: arguments, opening a file for its head, and exit status.
+//! What the programs share: arguments, reading a head, and exit status.
 ghost use Rattle.std.specs.Prelude.{◌≡◌, OnErr, OnOk};
 
 use crate::arguments::words;
 use claxon::{FlacReader, FlacReaderOptions};
 use std::fmt::Display;
-use std::fs;
+use std::alloc::Global;
 use std::io::{Read, Write};
 use std::process::ExitCode;
-use std::rt::{Env, Files};
+use std::rt::Env;
 
-/// Passes the arguments after the program's name to a command, and returns its status; if memory for them is refused, the
-/// status of that fault.
-pub fn run_command<Q: Env + AllocGlobal, E: Write, C: FnOnce(&[String], &mut E) -> u8>(
+/// Passes the arguments after the program's name to a command, or None if one of them isn't UTF-8, and returns its status; if
+/// memory for them is refused, the status of that fault.
+pub fn run_command<Q: Env + AllocGlobal, E: Write, C: FnOnce(Option<&[String]>, &mut E) -> u8>(
     rt: &Q,
     errors: &mut E,
     command: C,
@@ -19,21 +19,19 @@ pub fn run_command<Q: Env + AllocGlobal, E: Write, C: FnOnce(&[String], &mut E) 
     requires { C.IsAlwaysCallable command }
 {
     ExitCode::from(match words(rt) {
-        Ok(words) => command(&words, errors),
+        Ok(Some(words)) => command(Some(&words), errors),
+        Ok(None) => command(None, errors),
         Err(error) => status(Err(error), errors),
     })
 }
 
-/// Opens a file for its metadata only, with its tags.
-pub fn open_head<Q: Files + AllocGlobal>(rt: &Q, name: &str) -> claxon::Result<FlacReader<Q::File>>
-where
-    Q::File: Read,
-{
+/// Reads the head of an open file, with its tags, and none of its frames.
+pub fn open_head<R: Read + Drop>(alloc: Global, input: R) -> claxon::Result<FlacReader<R>> {
     let options = FlacReaderOptions {
         metadata_only: true,
         read_vorbis_comment: true,
     };
-    FlacReader::new_ext(rt.alloc(), fs::open(rt, name)?, options)
+    FlacReader::new_ext(alloc, input, options)
 }
 
 /// The exit status for an outcome: 0, or 1 for a fault, whose text goes to `errors`. A failed write to `errors` is ignored.

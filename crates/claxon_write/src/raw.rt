@@ -44,7 +44,8 @@ fn print_tags<Q: Files + AllocGlobal, W: Write>(rt: &Q, name: &str, output: &mut
 where
     Q::File: Read,
 {
-    put_tags(open_head(rt, name)?.tags(), output)
+    let input = fs::open(rt, name)?;
+    put_tags(open_head(rt.alloc(), input)?.tags(), output)
 }
 
 // A line `NAME=value` for each tag.
