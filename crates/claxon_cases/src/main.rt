@@ -9,7 +9,7 @@ mod streams;
 mod subframes;
 
 use claxon::Result;
-use claxon_tools::status;
+use claxon_write::status;
 use replay::{Kind, replay};
 use samples::print_tally;
 use std::io::{Read, Write};

@@ -39,9 +39,9 @@ fn fills<R: Read + Drop, W: Write + Seek>(
 ) -> bool
     requires { flac_metadata_only flac.old ≡ false }
 {
-    let mut progress = Progress::new(Some(5));
-    let outcome = convert(alloc, flac, wav, &mut progress, errors);
-    progress.end(errors);
+    let mut progress = Progress::new(errors, Some(5));
+    let outcome = convert(alloc, flac, wav, &mut progress);
+    progress.end();
     outcome.is_ok()
 }
 
@@ -345,6 +345,37 @@ fn to_standard_output(rt: HostRuntime) -> result::Result<(), Fail> {
     Ok(())
 }
 
+// Three channels of 16 bits with six samples each, in frames of three, one and two, and their file.
+#[rattlefmt::skip]
+const THREE_CHANNELS: [u8; 112] = [
+    0x66, 0x4c, 0x61, 0x43, 0x80, 0x00, 0x00, 0x22, 0x00, 0x10, 0x00, 0x10, 0x00, 0x00, 0x00, 0x00, 0x00, 0x00, 0x0a, 0xc4, 0x44, 0xf0, 0x00, 0x00,
+    0x00, 0x06, 0x00, 0x00, 0x00, 0x00, 0x00, 0x00, 0x00, 0x00, 0x00, 0x00, 0x00, 0x00, 0x00, 0x00, 0x00, 0x00, 0xff, 0xf8, 0x69, 0x28, 0x00, 0x02,
+    0x50, 0x02, 0x00, 0x01, 0xff, 0xfe, 0x01, 0x2c, 0x02, 0x80, 0x00, 0x7f, 0xff, 0x00, 0x00, 0x02, 0x01, 0x00, 0xfe, 0xff, 0x00, 0x04, 0xee, 0x53,
+    0xff, 0xf8, 0x69, 0x28, 0x01, 0x00, 0x4b, 0x00, 0x00, 0x07, 0x00, 0xff, 0xf8, 0x00, 0x00, 0x09, 0xb5, 0xa2, 0xff, 0xf8, 0x69, 0x28, 0x02, 0x01,
+    0x73, 0x02, 0x00, 0x0a, 0xff, 0xf5, 0x00, 0x00, 0x0c, 0x02, 0xff, 0xff, 0x01, 0x02, 0x1e, 0xb8,
+];
+
+const THREE_CHANNELS_FILE: &[u8] =
+    b"RIFF\x60\x00\x00\x00WAVEfmt \x28\x00\x00\x00\xfe\xff\x03\x00\x44\xac\x00\x00\x98\x09\x04\x00\x06\x00\x10\x00\x16\x00\x10\x00\x07\x00\x00\x00\
+\x01\x00\x00\x00\x00\x00\x10\x00\x80\x00\x00\xaa\x00\x38\x9b\x71data\x24\x00\x00\x00\x01\x00\x00\x80\x00\x01\xfe\xff\xff\x7f\xff\xfe\x2c\x01\x00\x00\x04\x00\
+\x07\x00\xf8\xff\x09\x00\x0a\x00\x0c\x00\xff\xff\xf5\xff\x0c\x00\x02\x01";
+
+#[test]
+fn three_channels(rt: HostRuntime) -> result::Result<(), Fail> {
+    let words = owned(rt.alloc(), &["-"])?;
+    let (mut output, mut errors): (Vec<u8>, Vec<u8>) = (Vec::new(rt.alloc()), Vec::new(rt.alloc()));
+    let status = command(
+        &rt,
+        &words,
+        THREE_CHANNELS.as_slice(),
+        &mut output,
+        false,
+        &mut errors,
+    );
+    assert!(rt; status == 0 && errors.is_empty() && output.as_slice() == THREE_CHANNELS_FILE);
+    Ok(())
+}
+
 // Whether a command line prints this text, has this status, and writes nothing.
 fn is_refused(
     rt: &HostRuntime,
@@ -369,10 +400,10 @@ fn deep_stream() -> [u8; 47] {
     stream
 }
 
-const USAGE: &str = "usage: claxon_wav [-f] FILE [OUT.wav]\n";
+const USAGE: &str = "usage: claxon wav [-f] FILE [OUT.wav]\n";
 
 const UNKNOWN_OPTION: &str =
-    "claxon_wav: unknown option -x\nusage: claxon_wav [-f] FILE [OUT.wav]\n";
+    "claxon wav: unknown option -x\nusage: claxon wav [-f] FILE [OUT.wav]\n";
 
 const DEEP: &str =
     "standard input: Ill-formed FLAC stream: invalid frame header, encountered reserved value

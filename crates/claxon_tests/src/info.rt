@@ -1,4 +1,4 @@
-//! Command lines of `claxon_info`.
+//! Command lines of `claxon info`.
 use crate::answers::{FRAME, head, joined};
 use crate::commands::owned;
 use crate::doubles::sinks::Sink;
@@ -36,13 +36,13 @@ fn is(outcome: &Outcome, status: u8, output: &str, errors: &str) -> bool {
 }
 
 // Command lines that open no file, what is in standard input, and what they come to.
-const USAGE: &str = "usage: claxon_info FILE..\n";
+const USAGE: &str = "usage: claxon info FILE..\n";
 
 const CUT: &str = "standard input: the file is cut: it ends inside the head\n";
 
 #[test]
 fn command_lines_without_a_stream(rt: HostRuntime) -> Result<(), Fail> {
-    let unknown = "claxon_info: unknown option -x\nusage: claxon_info FILE..\n";
+    let unknown = "claxon info: unknown option -x\nusage: claxon info FILE..\n";
     let other = "standard input: Ill-formed FLAC stream: invalid stream header\n";
     let rows: [(&[&str], &[u8], u8, &str); 8] = [
         (&[], b"", 2, USAGE),
@@ -68,7 +68,7 @@ fn command_lines_without_a_stream(rt: HostRuntime) -> Result<(), Fail> {
 
 #[test]
 fn version_and_help(rt: HostRuntime) -> Result<(), Fail> {
-    let version = format!(in rt.alloc(); "claxon_info {VERSION}\n")?;
+    let version = format!(in rt.alloc(); "claxon info {VERSION}\n")?;
     let outcome = outcome_of(&rt, &["a", "--version", "-x"], b"")?;
     assert!(rt; is(&outcome, 0, version.as_str(), ""));
     let help = outcome_of(&rt, &["--help"], b"")?;

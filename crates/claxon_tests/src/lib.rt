@@ -11,6 +11,8 @@ mod block_headers;
 #[cfg(test)]
 mod buffers;
 #[cfg(test)]
+mod cli;
+#[cfg(test)]
 mod commands;
 #[cfg(test)]
 mod conversions;

@@ -1,4 +1,4 @@
-//! Command lines of `claxon_trace`.
+//! Command lines of `claxon trace`.
 use crate::answers::{FRAME, head, joined};
 use crate::commands::owned;
 use crate::doubles::sinks::Sink;
@@ -13,6 +13,8 @@ enum Given {
     Whole,
     // Ten zeros are after the head, of which two at a time are no frame header, and then a frame.
     Garbage,
+    // Five zeros are after the frame.
+    GarbageAfter,
     CutHead,
     CutFrame,
 }
@@ -22,6 +24,7 @@ fn bytes_of(alloc: Global, given: Given) -> Result<Vec<u8>, Fail> {
     Ok(match given {
         Given::Whole => joined(alloc, &[&head, &FRAME])?,
         Given::Garbage => joined(alloc, &[&head, &[0; 10], &FRAME])?,
+        Given::GarbageAfter => joined(alloc, &[&head, &FRAME, &[0; 5]])?,
         Given::CutHead => joined(alloc, &[&head[..20]])?,
         Given::CutFrame => joined(alloc, &[&head, &FRAME[..9]])?,
     })
@@ -42,16 +45,19 @@ const HEAD: &str =
 // The FNV-1a hash of the bytes 5, 0, 0, 0, computed by a script.
 const BLOCK: &str = "block time 0 channels 1 duration 1 fnv 2d401a55eec16520\n";
 
-const USAGE: &str = "usage: claxon_trace [--brief] [--faults N] FILE\n";
+const USAGE: &str = "usage: claxon trace [--brief] [--faults N] FILE\n";
 
 #[rattlefmt::skip]
-const ROWS: [Row; 11] = [
+const ROWS: [Row; 12] = [
     Row { words: &["-"], given: Given::Whole, status: 0, lines: "head\nblock\nend\n", errors: "" },
     Row { words: &["--brief", "-"], given: Given::Whole, status: 0, lines: "head\nblock\nend\n", errors: "" },
     Row { words: &["-", "--brief"], given: Given::Garbage, status: 1,
         lines: "head\nfault Ill-formed FLAC stream: frame sync code missing, 5 times\nblock\nend\n", errors: "" },
     Row { words: &["--faults", "2", "-"], given: Given::Garbage, status: 1,
         lines: "head\nfault Ill-formed FLAC stream: frame sync code missing\nfault Ill-formed FLAC stream: frame sync code missing\n",
+        errors: "standard input: stopped after 2 faults\n" },
+    Row { words: &["--faults", "2", "-"], given: Given::GarbageAfter, status: 1,
+        lines: "head\nblock\nfault Ill-formed FLAC stream: frame sync code missing\nfault Ill-formed FLAC stream: frame sync code missing\n",
         errors: "standard input: stopped after 2 faults\n" },
     Row { words: &["--faults", "3", "--brief", "--", "-"], given: Given::Garbage, status: 1,
         lines: "head\nfault Ill-formed FLAC stream: frame sync code missing, 3 times\n", errors: "standard input: stopped after 3 faults\n" },

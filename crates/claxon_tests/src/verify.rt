@@ -1,4 +1,4 @@
-//! Streams that are verified, and command lines of `claxon_verify`.
+//! Streams that are verified, and command lines of `claxon verify`.
 use crate::answers::{Fault, fault_of, two_frames};
 use crate::commands::owned;
 use crate::doubles::sinks::Sink;
@@ -240,8 +240,8 @@ fn lost_output(rt: HostRuntime) -> Result<(), Fail> {
 
 #[test]
 fn command_lines(rt: HostRuntime) -> Result<(), Fail> {
-    let usage = "usage: claxon_verify FILE..\n";
-    let other = "claxon_verify: unknown option -t\nusage: claxon_verify FILE..\n";
+    let usage = "usage: claxon verify FILE..\n";
+    let other = "claxon verify: unknown option -t\nusage: claxon verify FILE..\n";
     let rows: [(&[&str], &str); 3] = [(&[], usage), (&["--"], usage), (&["-t", "-"], other)];
     for (words, text) in rows {
         let words = owned(rt.alloc(), words)?;

@@ -4,12 +4,12 @@ use Rattle.claxon_tools.specs.Progress.{EndsOnlyLine, ShowsPercentage, StaysQuie
 use Rattle.claxon_tools.specs.declared.progress.Progress.{Progress}
 
 -- one percentage more
-pub shown_quietly : {E : Type 0} {old mid new : Progress} {a b c : E} (done : ℕ) → StaysQuiet old mid a b → mid.total ≡ old.total → ShowsPercentage done mid new → WritesOnlyChanges mid new b c → StaysQuiet old new a c
-shown_quietly {mid = mid} {new = new} done h total shows writes none =
+pub shown_quietly : {E : Type 0} (old mid new : Progress E) (done : ℕ) → StaysQuiet old mid → mid.total ≡ old.total → ShowsPercentage done mid new → WritesOnlyChanges mid new → StaysQuiet old new
+shown_quietly old mid new done h total shows writes none =
     let q = h none in
     let same : new.percent ≡ mid.percent = shows.percent_is ∙ ap (λ (z : Option ℕ). percent_at z mid.percent done) (total ∙ none) in
     (same ∙ q.0, writes same ∙ q.1)
 
 -- the end of the line
-pub ended_quietly : {E : Type 0} {old : Progress} (new : Progress) {a b c : E} → old.total ≡ None → old.percent ≡ None → StaysQuiet old new a b → EndsOnlyLine new b c → c ≡ a
-ended_quietly new total none h ends = let q = h total in ends (q.0 ∙ none) ∙ q.1
+pub ended_quietly : {E : Type 0} (old new : Progress E) {after : E} → old.total ≡ None → old.percent ≡ None → StaysQuiet old new → EndsOnlyLine new after → after ≡ old.errors.now
+ended_quietly old new total none h ends = let q = h total in ends (q.0 ∙ none) ∙ q.1

@@ -8,7 +8,7 @@ use Rattle.claxon_tools.specs.declared.arguments.Argument.TheVariants.{Operand, 
 use Rattle.claxon_tools.specs.declared.arguments.Arguments.{Arguments}
 use Rattle.claxon_tools.specs.declared.arguments.Names.{Names}
 use Rattle.claxon_tools.specs.declared.arguments.Notice.{Notice}
-use Rattle.claxon_tools.specs.declared.arguments.Notice.TheVariants.{Help, UnknownOption, Usage, Version}
+use Rattle.claxon_tools.specs.declared.arguments.Notice.TheVariants.{Help, NotUtf8, UnknownCommand, UnknownOption, Usage, Version}
 
 -- the words that are left
 abbrev pub words_of : Arguments → List (List ℕ)
@@ -65,10 +65,12 @@ names_total names = names.count
 abbrev pub ParseIsSound : Result Names Notice → Type 0
 ParseIsSound r = IfOk r (λ names. 1 ≤ names_total names)
 
--- `--help` and `--version` are options of each program, and any other is unknown.
+-- `--help` and `--version` are options of each command, and any other is unknown.
 abbrev pub IsNoticeOf : List ℕ → Notice → Type 0
 IsNoticeOf option Help = option ≡ codes "--help"
 IsNoticeOf option Version = option ≡ codes "--version"
 IsNoticeOf option (UnknownOption name) =
     (name.now ≡ option) × (option ≡ codes "--help" → ⊥) × (option ≡ codes "--version" → ⊥)
+IsNoticeOf option (UnknownCommand name) = ⊥
+IsNoticeOf option NotUtf8 = ⊥
 IsNoticeOf option Usage = ⊥

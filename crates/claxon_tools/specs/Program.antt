@@ -1,9 +1,11 @@
--- What programs print about themselves, and of errors.
-use Rattle.std.specs.Prelude.{◌≡◌, ℕ, List, ◌++◌, codes, Option, Result, IfOk, IfSome, IsOkAnd, OnOk}
+-- What the program and its commands print about themselves, and of errors.
+use Rattle.std.specs.Prelude.{◌≡◌, ℕ, ◌-◌, ◌^◌, List, ◌++◌, codes, flat_map, Option, Result, IfOk, IfSome, IsOkAnd, OnOk}
 use Rattle.std.specs.declared.alloc.AllocError.{AllocError}
 use Rattle.std.specs.declared.io.Error.{Error as Failure}
 use Rattle.std.specs.declared.io.ErrorKind.TheVariants.{UnexpectedEof}
 use Rattle.std.specs.IoError.{error_kind}
+use Rattle.std.specs.Borrow.{Bor}
+use Rattle.std.specs.Fmt.{format_spec, padded}
 use Rattle.std.specs.Io.KnownBytes.{Appends}
 use Rattle.std.specs.String.{string_bytes}
 use Rattle.std.specs.declared.string.String.{String}
@@ -14,7 +16,7 @@ use Rattle.claxon_write.specs.Written.{IsFlushed, NonePending, Puts}
 use Rattle.claxon_write.specs.declared.output.Output.{Output as Sink}
 use Rattle.claxon_tools.specs.Text.{IsText}
 use Rattle.claxon_tools.specs.declared.arguments.Notice.{Notice}
-use Rattle.claxon_tools.specs.declared.arguments.Notice.TheVariants.{Help, UnknownOption, Usage, Version}
+use Rattle.claxon_tools.specs.declared.arguments.Notice.TheVariants.{Help, NotUtf8, UnknownCommand, UnknownOption, Usage, Version}
 use Rattle.claxon_tools.specs.declared.program.Input.{Input}
 use Rattle.claxon_tools.specs.declared.program.Input.TheVariants.{File, Standard}
 use Rattle.claxon_tools.specs.declared.program.Part.{Part}
@@ -22,10 +24,20 @@ use Rattle.claxon_tools.specs.declared.program.Part.TheVariants.{Frame, Head, Ou
 use Rattle.claxon_tools.specs.declared.program.Program.{Program}
 use Rattle.claxon_tools.specs.declared.program.TheConstants.{STANDARD, VERSION}
 
--- the usage line, an empty line, and what the program does
+-- the name of a command, in a column of eleven characters, and what it does
+unfoldable pub command_text : List ℕ → List ℕ → List ℕ
+command_text name summary =
+    codes "  " ++ padded (format_spec 32 1 0 11 (2 ^ 64 - 1)) name ++ summary ++ codes "\n"
+
+-- a line for each command
+abbrev pub commands_text : List (Bor (List ℕ) × Bor (List ℕ)) → List ℕ
+commands_text commands = flat_map (λ c. command_text c.0.now c.1.now) commands
+
+-- the usage line, an empty line, the commands, and what the program does
 abbrev pub help_text : Program → List ℕ
 help_text p =
-    codes "usage: " ++ p.name.now ++ codes " " ++ p.arguments.now ++ codes "\n\n" ++ p.help.now
+    codes "usage: " ++ p.name.now ++ codes " " ++ p.arguments.now ++ codes "\n\n"
+    ++ commands_text p.commands.now ++ p.help.now
 
 -- the program's name and the version of the product
 abbrev pub version_text : Program → List ℕ → List ℕ
@@ -54,6 +66,8 @@ abbrev pub PrintIsSound : {W : Type 0} → (W → Option (List ℕ)) → Program
 PrintIsSound contents p Help status old new = Prints contents (help_text p) status old new
 PrintIsSound contents p Version status old new = Prints contents (version_text p VERSION.now) status old new
 PrintIsSound contents p (UnknownOption option) status old new = (status ≡ 2) × (new ≡ old)
+PrintIsSound contents p (UnknownCommand name) status old new = (status ≡ 2) × (new ≡ old)
+PrintIsSound contents p NotUtf8 status old new = (status ≡ 2) × (new ≡ old)
 PrintIsSound contents p Usage status old new = (status ≡ 2) × (new ≡ old)
 
 -- `-` opens standard input, and any other name a file.

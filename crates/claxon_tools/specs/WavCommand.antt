@@ -1,4 +1,4 @@
--- The command of `claxon_wav`.
+-- The command `wav`.
 use Rattle.std.specs.Prelude.{◌≡◌, ◌==◌, ℕ, Err, None, Ok, Option, Result, Some, cond}
 use Rattle.claxon_tools.specs.WaveFile.{IsSizeOf}
 use Rattle.claxon_tools.specs.declared.commands.wav.Failure.{Failure}

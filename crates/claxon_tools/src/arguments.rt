@@ -1,10 +1,5 @@
-//! The arguments of a program: options, and names of files.
-ghost use Rattle.std.specs.Prelude.{◌≡◌, ◌≤◌, IsOkUnless};
-ghost use Rattle.claxon.specs.Errors.TheVariants.{OutOfMemory};
-
-use std::env;
-use std::io::ErrorKind;
-use std::rt::Env;
+//! The arguments of a command: options, and names of files.
+ghost use Rattle.std.specs.Prelude.{◌≡◌, ◌≤◌};
 
 /// An argument.
 pub enum Argument<'a> {
@@ -23,7 +18,9 @@ pub struct Arguments<'a> {
 }
 
 impl<'a> Arguments<'a> {
-    ghost use Rattle.claxon_tools.specs.Arguments.{AreArgumentsOf, NextIsSound, TakesWord, ValueIsSound, words_left};
+    ghost use Rattle.std.specs.Prelude.{map};
+    ghost use Rattle.std.specs.String.{string_bytes};
+    ghost use Rattle.claxon_tools.specs.Arguments.{AreArgumentsOf, NextIsSound, TakesWord, ValueIsSound, words_left, words_of};
 
     /// All arguments of these words.
     pub fn new(words: &'a [String]) -> Arguments<'a>
@@ -64,9 +61,16 @@ impl<'a> Arguments<'a> {
         self.words = others;
         Some(first.as_str())
     }
+
+    /// The words that are left.
+    pub fn rest(&self) -> &'a [String]
+        ensures { map string_bytes result.now ≡ words_of self.now }
+    {
+        self.words
+    }
 }
 
-/// What a program prints in place of its work.
+/// What is printed in place of work.
 pub enum Notice<'a> {
     /// What it does, its arguments and its statuses, for `--help`.
     Help,
@@ -74,8 +78,14 @@ pub enum Notice<'a> {
     /// The version of the product, for `--version`.
     Version,
 
-    /// The usage line, after the name of an option that it doesn't have.
+    /// The usage line, after the name of an option that there isn't.
     UnknownOption(&'a str),
+
+    /// The usage line, after the name of a command that there isn't.
+    UnknownCommand(&'a str),
+
+    /// The usage line, after the words that an argument isn't UTF-8.
+    NotUtf8,
 
     /// The usage line.
     Usage,
@@ -84,7 +94,7 @@ pub enum Notice<'a> {
 impl<'a> Notice<'a> {
     ghost use Rattle.claxon_tools.specs.Arguments.{IsNoticeOf};
 
-    /// What is printed for an option that each program has, or for one that it doesn't have.
+    /// What is printed for an option that each command has, or for one that it doesn't have.
     pub fn of_option(option: &'a str) -> Notice<'a>
         ensures { IsNoticeOf option.now result }
     {
@@ -149,20 +159,5 @@ impl<'a> Iterator for Names<'a> {
         match self.arguments.next()? {
             Argument::Option(name) | Argument::Operand(name) => Some(name),
         }
-    }
-}
-
-/// The words after the program's name, or None if one of them isn't UTF-8.
-///
-/// # Errors
-///
-/// Only `OutOfMemory`.
-pub fn text_words<Q: Env + AllocGlobal>(rt: &Q) -> claxon::Result<Option<Vec<String>>>
-    ensures { IsOkUnless result OutOfMemory }
-{
-    match env::args(rt) {
-        Ok(words) => Ok(Some(words.skip(1).collect(rt.alloc())?)),
-        Err(error) if error.kind() == ErrorKind::InvalidData => Ok(None),
-        Err(_) => Err(claxon::Error::OutOfMemory),
     }
 }

@@ -83,8 +83,8 @@ fn push_sizes<A: Allocator + Copy>(
     let numbers = [
         ("min_block_size", Some(u64::from(info.min_block_size))),
         ("max_block_size", Some(u64::from(info.max_block_size))),
-        ("min_frame_size", widened(info.min_frame_size)),
-        ("max_frame_size", widened(info.max_frame_size)),
+        ("min_frame_size", info.min_frame_size.map(u64::from)),
+        ("max_frame_size", info.max_frame_size.map(u64::from)),
     ];
     push_numbers(alloc, text, &numbers)?;
     push_line(text, "md5sum", md5_text(alloc, &info.md5sum)?.as_str())
@@ -149,13 +149,4 @@ fn push_line<A: Allocator>(text: &mut String<A>, name: &str, value: &str) -> Res
     ensures { Adds (line name.now value.now) result text.old text.new }
 {
     writeln!(text, "{name}: {value}")
-}
-
-fn widened(size: Option<u32>) -> Option<u64>
-    ensures { result ≡ size }
-{
-    match size {
-        Some(size) => Some(u64::from(size)),
-        None => None,
-    }
 }

@@ -1,5 +1,5 @@
-//! What the programs other than `claxon_raw` need: arguments, messages, WAV files, values as text, the facts of a head, results
-//! of the decoder as text, progress, and the programs' commands.
+//! The program `claxon` and its commands, and what they need: arguments, messages, WAV files, values as text, the facts of a
+//! head, results of the decoder as text, and progress.
 #![tactic(auto)]
 
 pub mod answer;
@@ -13,5 +13,6 @@ pub mod text;
 pub mod verify;
 pub mod wav;
 
-pub use claxon_write::status;
+pub use claxon_write::run_command;
+pub use commands::command;
 pub use facts::write_facts;

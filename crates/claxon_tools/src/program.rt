@@ -1,20 +1,19 @@
-//! What the programs other than `claxon_raw` share: texts about themselves, their input, and lines about faults.
+//! What the commands of `claxon` share: texts about themselves, their input, and lines about faults.
 ghost use Rattle.std.specs.Prelude.{◌≡◌};
 ghost use Rattle.claxon_write.specs.InnerWriter.{SameWriter};
 ghost use Rattle.claxon_tools.specs.Facts.{line};
-ghost use Rattle.claxon_tools.specs.Program.{ErrorTextIsSound, IoTextIsSound, IsShownName, OpensInput, PrintsText, WritesText};
-ghost use Rattle.claxon_tools.specs.Text.{IsText, escaped_text};
+ghost use Rattle.claxon_tools.specs.Program.{ErrorTextIsSound, IoTextIsSound, IsShownName, OpensInput, PrintsText, WritesText, command_text, commands_text};
+ghost use Rattle.claxon_tools.specs.Text.{Adds, IsText, escaped_text};
 
-use crate::arguments::{Notice, text_words};
+use crate::arguments::Notice;
 use crate::text::escaped_text;
 use claxon::Error;
 use claxon::metadata::StreamInfo;
-use claxon_write::{Output, status};
+use claxon_write::Output;
 use std::alloc::{AllocError, Allocator, Global};
 use std::fs;
 use std::io::{self, ErrorKind, Read, Write};
-use std::process::ExitCode;
-use std::rt::{Env, Files};
+use std::rt::Files;
 
 /// The version of the product.
 pub const VERSION: &str = "0.1.0";
@@ -22,13 +21,17 @@ pub const VERSION: &str = "0.1.0";
 /// The name that stands for standard input or output.
 pub const STANDARD: &str = "-";
 
-/// What a program says about itself.
+/// What the program, or one of its commands, says about itself.
+#[derive(Clone, Copy)]
 pub struct Program {
-    /// Its name.
+    /// Its name; that of a command is after the program's.
     pub name: &'static str,
 
     /// Its arguments, as in the usage line.
     pub arguments: &'static str,
+
+    /// The name of each of its commands, and what that does, in a line.
+    pub commands: &'static [(&'static str, &'static str)],
 
     /// What it does, its options and its statuses, in lines.
     pub help: &'static str,
@@ -56,6 +59,14 @@ impl Program {
                 let _ = writeln!(errors, "{}: unknown option {option}", self.name);
                 self.refuse(errors)
             }
+            Notice::UnknownCommand(name) => {
+                let _ = writeln!(errors, "{}: unknown command {name}", self.name);
+                self.refuse(errors)
+            }
+            Notice::NotUtf8 => {
+                let _ = writeln!(errors, "{}: the name isn't UTF-8", self.name);
+                self.refuse(errors)
+            }
             Notice::Usage => self.refuse(errors),
         }
     }
@@ -71,8 +82,11 @@ impl Program {
     fn help_text(&self, alloc: Global) -> Result<String, AllocError>
         ensures { IsText (help_text self.now) result }
     {
-        let (name, arguments, help) = (self.name, self.arguments, self.help);
-        format!(in alloc; "usage: {name} {arguments}\n\n{help}")
+        let (name, arguments) = (self.name, self.arguments);
+        let mut text = format!(in alloc; "usage: {name} {arguments}\n\n")?;
+        push_commands(&mut text, self.commands)?;
+        text.push_str(self.help)?;
+        Ok(text)
     }
 
     fn version_text(&self, alloc: Global, version: &str) -> Result<String, AllocError>
@@ -84,26 +98,23 @@ impl Program {
         text.push_str("\n")?;
         Ok(text)
     }
+}
 
-    /// Passes the arguments after the program's name to a command, and returns its status. If one of them isn't UTF-8, or
-    /// memory for them is refused, the status is 1, and a line on `errors` says so.
-    pub fn run<Q: Env + AllocGlobal, E: Write, C: FnOnce(&[String], &mut E) -> u8>(
-        &self,
-        rt: &Q,
-        errors: &mut E,
-        command: C,
-    ) -> ExitCode
-        requires { C.IsAlwaysCallable command }
-    {
-        ExitCode::from(match text_words(rt) {
-            Ok(Some(words)) => command(&words, errors),
-            Ok(None) => {
-                let _ = writeln!(errors, "{}: the name isn't UTF-8", self.name);
-                1
-            }
-            Err(error) => status(Err(error), errors),
-        })
+// A line for each command.
+fn push_commands(text: &mut String, commands: &[(&str, &str)]) -> Result<(), AllocError>
+    ensures { Adds (commands_text commands.now) result text.old text.new }
+{
+    for (name, summary) in commands {
+        push_command(text, *name, *summary)?;
     }
+    Ok(())
+}
+
+#[tactic(auto, unfolding(crate::specs::Program::command_text))]
+fn push_command(text: &mut String, name: &str, summary: &str) -> Result<(), AllocError>
+    ensures { Adds (command_text name.now summary.now) result text.old text.new }
+{
+    writeln!(text, "  {name:<11}{summary}")
 }
 
 // Prints a text on standard output, and returns the exit status.
@@ -139,7 +150,7 @@ fn write_text<W: Write>(
     output.flush()
 }
 
-/// The input of a program.
+/// The input of a command.
 #[derive(Drop)]
 pub enum Input<F, I> {
     /// An open file.

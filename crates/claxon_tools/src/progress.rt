@@ -1,31 +1,33 @@
 //! The progress of a conversion.
 use std::io::Write;
 
-/// A line with the percentage of samples that are done, which is written again when it changes.
-#[derive(Drop)]
-pub struct Progress {
+/// A line with the percentage of samples that are done, which is written again when it changes. `end` has to be called.
+pub struct Progress<'e, E> {
+    errors: &'e mut E,
     // None where no line is shown.
     total: Option<u64>,
     percent: Option<u64>,
 }
 
-impl Progress {
-    ghost use Rattle.claxon_tools.specs.Progress.{EndsOnlyLine, IsNewProgress, ShowsPercentage, WritesOnlyChanges};
+impl<'e, E: Write> Progress<'e, E> {
+    ghost use Rattle.claxon_tools.specs.Progress.{EndsOnlyLine, IsNewProgress, SameErrors, ShowsPercentage, WritesOnlyChanges};
 
-    /// A line that isn't written yet. Without a total it never is.
-    pub fn new(total: Option<u64>) -> Progress
-        ensures { IsNewProgress total result }
+    /// A line on `errors` that isn't written yet. Without a total it never is.
+    pub fn new(errors: &'e mut E, total: Option<u64>) -> Progress<'e, E>
+        ensures { IsNewProgress errors.entry total result }
     {
         Progress {
+            errors,
             total,
             percent: None,
         }
     }
 
     /// Writes the line if the percentage has changed. A failed write is ignored.
-    pub fn show<E: Write>(&mut self, done: u64, errors: &mut E)
+    pub fn show(&mut self, done: u64)
+        ensures same_reference { SameErrors self.old self.new }
         ensures percentage { ShowsPercentage done self.old self.new }
-        ensures quiet { WritesOnlyChanges self.old self.new errors.old errors.new }
+        ensures quiet { WritesOnlyChanges self.old self.new }
     {
         let Some(total) = self.total else {
             return;
@@ -33,15 +35,20 @@ impl Progress {
         let percent = (done.saturating_mul(100) / total.max(1)).min(100);
         if self.percent != Some(percent) {
             self.percent = Some(percent);
-            let _ = write!(errors, "\r{percent} %");
+            let _ = write!(self.errors, "\r{percent} %");
         }
     }
 
     /// Ends the line, if there is one.
-    pub fn end<E: Write>(&mut self, errors: &mut E)
-        ensures quiet { EndsOnlyLine self.old errors.old errors.new }
+    pub fn end(self)
+        ensures quiet { EndsOnlyLine self.entry self.exit.0.now }
     {
-        if self.percent.is_some() {
+        let Progress {
+            errors,
+            total: _,
+            percent,
+        } = self;
+        if percent.is_some() {
             let _ = writeln!(errors);
         }
     }

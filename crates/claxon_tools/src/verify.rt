@@ -4,15 +4,15 @@ ghost use Rattle.claxon.specs.Error.{is_io, is_out_of_memory};
 ghost use Rattle.claxon.specs.FrameReader.{stream_with};
 ghost use Rattle.claxon.specs.MetadataBlock.{or_zero};
 ghost use Rattle.claxon.specs.State.{bytes_in};
-ghost use Rattle.claxon_tools.specs.Progress.{StaysQuiet};
+ghost use Rattle.claxon_tools.specs.Progress.{SameErrors, StaysQuiet};
 ghost use Rattle.claxon_tools.specs.Verify.{BlockIsRead, CannotCountFault, CountsFault, CountsFrame, CountsParts, ExceedsCount, IsTooMany, RightIsComplete, RightIsSound, StopsCounting, VerifyFaultIsSound, VerifyHeadFaultIsComplete, VerifyIsComplete, VerifyIsQuiet, VerifyIsSound, VerifyOutOfMemoryAfterHeader, VerifyPromises, counted_bytes, position_of, update_position};
 
 use crate::progress::Progress;
+use claxon::crc::{CrcReader, RunningCrc};
 use claxon::frame::{FrameReader, FrameResult};
 use claxon::input::ReadBytes;
 use claxon::metadata::StreamInfo;
 use claxon::{Error, FlacReaderOptions, Result, read_head};
-use claxon::crc::{CrcReader, RunningCrc};
 use std::alloc::Allocator;
 use std::io::Write;
 
@@ -148,9 +148,10 @@ fn verify_counted<R: ReadBytes, A: Allocator + Copy, E: Write>(
         read_vorbis_comment: true,
     };
     let (info, _comment) = read_head(alloc, input, options)?;
-    let mut progress = Progress::new(if shows_progress { info.samples } else { None });
-    let counted = count_parts(alloc, input, info, &mut progress, errors);
-    progress.end(errors);
+    let total = if shows_progress { info.samples } else { None };
+    let mut progress = Progress::new(errors, total);
+    let counted = count_parts(alloc, input, info, &mut progress);
+    progress.end();
     let found = counted?;
     let is_right = has_no_fault(&found, info.samples);
     Ok(Report {
@@ -174,8 +175,7 @@ fn count_parts<R: ReadBytes, A: Allocator + Copy, E: Write>(
     alloc: A,
     input: &mut CrcReader<R, Position>,
     info: StreamInfo,
-    progress: &mut Progress,
-    errors: &mut E,
+    progress: &mut Progress<'_, E>,
 ) -> Result<Found>
     requires min_bits { 1 ≤ info.bits_per_sample }
     requires max_bits { info.bits_per_sample ≤ 32 }
@@ -183,7 +183,8 @@ fn count_parts<R: ReadBytes, A: Allocator + Copy, E: Write>(
         (counted_bytes R.source input.old) (counted_bytes R.source input.new)) }
     ensures err { IfErr result (StopsCounting (Some (stream_with info))
         (counted_bytes R.source input.old)) }
-    ensures quiet { StaysQuiet progress.old progress.new errors.old errors.new }
+    ensures same_errors { SameErrors progress.old progress.new }
+    ensures quiet { StaysQuiet progress.old progress.new }
     ensures loans { (counted_bytes R.source input.new).source.loans
         ≡ (counted_bytes R.source input.old).source.loans }
 {
@@ -199,7 +200,7 @@ fn count_parts<R: ReadBytes, A: Allocator + Copy, E: Write>(
         match read_block(input, info, buffer) {
             Ok(Some(block)) => {
                 found = with_frame(found, block.duration())?;
-                progress.show(found.samples, errors);
+                progress.show(found.samples);
                 buffer = block.into_buffer();
             }
             Ok(None) => return Ok(found),

@@ -1,17 +1,18 @@
-//! The command of `claxon_info`: the facts in the head of FLAC files.
+//! The command `info`: the facts in the head of FLAC files.
 use crate::arguments::Names;
 use crate::facts::write_facts;
-use crate::program::{Input, Part, Program, STANDARD, line, open_input, report};
-use claxon::{FlacReader, FlacReaderOptions, Result};
-use claxon_write::Output;
+use crate::program::{Part, Program, STANDARD, line, open_input, report};
+use claxon::{Error, FlacReader, Result};
+use claxon_write::{Output, open_head};
 use std::alloc::Global;
 use std::io::{Read, Write};
 use std::rt::Files;
 
-/// What the program says about itself.
+/// What the command says about itself.
 pub const PROGRAM: Program = Program {
-    name: "claxon_info",
+    name: "claxon info",
     arguments: "FILE..",
+    commands: &[],
     help: "Shows the streaminfo and the tags of FLAC files, a line `NAME: value` for each. No frame is read.
 Where there are several files, a line `file: NAME` is before those of each.
 
@@ -85,7 +86,11 @@ fn show_file<Q: Files + AllocGlobal, I: Read + Copy, W: Write, E: Write>(
 where
     Q::File: Read,
 {
-    let flac = match open_head(rt, name, input) {
+    let opened = match open_input(rt, name, input) {
+        Ok(input) => open_head(rt.alloc(), input),
+        Err(error) => Err(Error::IoError(error)),
+    };
+    let flac = match opened {
         Ok(flac) => flac,
         Err(error) => {
             report(rt.alloc(), name, Part::Head, &error, errors);
@@ -99,22 +104,6 @@ where
             Outcome::Lost
         }
     }
-}
-
-// Opens a file for its metadata only, with its tags.
-fn open_head<Q: Files + AllocGlobal, I: Read + Copy>(
-    rt: &Q,
-    name: &str,
-    input: I,
-) -> Result<FlacReader<Input<Q::File, I>>>
-where
-    Q::File: Read,
-{
-    let options = FlacReaderOptions {
-        metadata_only: true,
-        read_vorbis_comment: true,
-    };
-    FlacReader::new_ext(rt.alloc(), open_input(rt, name, input)?, options)
 }
 
 fn write_lines<R: Read, W: Write>(

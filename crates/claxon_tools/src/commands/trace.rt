@@ -1,4 +1,4 @@
-//! The command of `claxon_trace`: the result of each call of the decoder for a file, going on after errors.
+//! The command `trace`: the result of each call of the decoder for a file, going on after errors.
 ghost use Rattle.std.specs.Prelude.{◌≤◌};
 
 use crate::answer::Answer;
@@ -15,10 +15,11 @@ use std::io::{BufWriter, Read, Write};
 use std::result;
 use std::rt::Files;
 
-/// What the program says about itself.
+/// What the command says about itself.
 pub const PROGRAM: Program = Program {
-    name: "claxon_trace",
+    name: "claxon trace",
     arguments: "[--brief] [--faults N] FILE",
+    commands: &[],
     help: "Shows what each frame of a FLAC file is decoded to, for bug reports: a line for the
 head, and one for the result of each call for a block, a fault too, after which
 the next call is made.

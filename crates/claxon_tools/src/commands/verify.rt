@@ -1,4 +1,4 @@
-//! The command of `claxon_verify`: whether FLAC files are right.
+//! The command `verify`: whether FLAC files are right.
 use crate::arguments::Names;
 use crate::program::{Part, Program, STANDARD, error_text, line, open_input, report, shown_name};
 use crate::text::count_text;
@@ -9,10 +9,11 @@ use std::alloc::{AllocError, Global};
 use std::io::{ErrorKind, Read, Write};
 use std::rt::Files;
 
-/// What the program says about itself.
+/// What the command says about itself.
 pub const PROGRAM: Program = Program {
-    name: "claxon_verify",
+    name: "claxon verify",
     arguments: "FILE..",
+    commands: &[],
     help: "Decodes FLAC files to their ends and says of each, in a line, whether it is right: that it has no fault, and as many
 samples as its streaminfo says. For a file that isn't right the line has the first fault, the byte at which its frame
 begins and the number of samples before it, and the numbers of faults and frames in all. After a fault decoding goes on

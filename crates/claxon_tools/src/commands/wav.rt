@@ -1,4 +1,4 @@
-//! The command of `claxon_wav`: a FLAC file as a WAV file.
+//! The command `wav`: a FLAC file as a WAV file.
 ghost use Rattle.std.specs.Prelude.{◌≡◌, ◌≤◌, IfOk, IfSome, false};
 ghost use Rattle.claxon.specs.FlacReader.{flac_metadata_only};
 ghost use Rattle.claxon_tools.specs.DataSize.{max_data_size};
@@ -19,10 +19,11 @@ use std::path::Path;
 use std::rt::Files;
 use std::{fs, result};
 
-/// What the program says about itself.
+/// What the command says about itself.
 pub const PROGRAM: Program = Program {
-    name: "claxon_wav",
+    name: "claxon wav",
     arguments: "[-f] FILE [OUT.wav]",
+    commands: &[],
     help: "Converts a FLAC file to a WAV file.
 
   FILE       the FLAC file; - is standard input
@@ -51,7 +52,7 @@ pub fn command<Q: Files + AllocGlobal, I: Read + Copy, W: Write + Drop, E: Write
     errors: &mut E,
 ) -> u8 {
     match parse(words) {
-        Ok(request) => run(rt, request, input, output, shows_progress, errors),
+        Ok(job) => convert_file(rt, job, input, output, shows_progress, errors),
         Err(notice) => {
             let mut output = output;
             PROGRAM.print(rt.alloc(), notice, &mut output, errors)
@@ -59,15 +60,15 @@ pub fn command<Q: Files + AllocGlobal, I: Read + Copy, W: Write + Drop, E: Write
     }
 }
 
-// What a command line asks for.
+// What a command line asks for: the name of the input, that of the output if it is given, and whether the output may exist.
 #[derive(Clone, Copy)]
-struct Request<'a> {
+struct Job<'a> {
     from: &'a str,
     to: Option<&'a str>,
     replaces: bool,
 }
 
-fn parse<'a>(words: &'a [String]) -> result::Result<Request<'a>, Notice<'a>> {
+fn parse<'a>(words: &'a [String]) -> result::Result<Job<'a>, Notice<'a>> {
     let mut arguments = Arguments::new(words);
     let (mut from, mut to, mut replaces) = (None, None, false);
     while let Some(argument) = arguments.next() {
@@ -80,52 +81,20 @@ fn parse<'a>(words: &'a [String]) -> result::Result<Request<'a>, Notice<'a>> {
         }
     }
     match from {
-        Some(from) => Ok(Request { from, to, replaces }),
+        Some(from) => Ok(Job { from, to, replaces }),
         None => Err(Notice::Usage),
     }
 }
 
-// The names of the input and the output, and whether the output may exist.
-#[derive(Clone, Copy)]
-struct Job<'a> {
-    from: &'a str,
-    to: &'a str,
-    replaces: bool,
-}
-
-fn run<Q: Files + AllocGlobal, I: Read + Copy, W: Write + Drop, E: Write>(
-    rt: &Q,
-    request: Request<'_>,
-    input: I,
-    output: W,
-    shows_progress: bool,
-    errors: &mut E,
-) -> u8 {
-    let (from, replaces) = (request.from, request.replaces);
-    match output_name(rt.alloc(), from, request.to) {
-        Ok(to) => {
-            let to = to.as_str();
-            let job = Job { from, to, replaces };
-            convert_file(rt, job, input, output, shows_progress, errors)
-        }
-        Err(error) => {
-            let error = claxon::Error::from(error);
-            report(rt.alloc(), from, Part::Head, &error, errors);
-            1
-        }
-    }
-}
-
-// The name that is given, or that of the input with another extension.
-fn output_name(alloc: Global, from: &str, to: Option<&str>) -> result::Result<String, AllocError> {
-    match to {
-        Some(to) => String::from_str(alloc, to),
-        None if from == STANDARD => String::from_str(alloc, STANDARD),
-        None => {
-            let path = Path::new(from).with_extension(alloc, "wav")?;
-            Ok(path.into_string())
-        }
-    }
+// The name of the output: the one that is given, or that of the input with another extension.
+fn output_name(alloc: Global, job: Job<'_>) -> Result<String> {
+    Ok(match job.to {
+        Some(to) => String::from_str(alloc, to)?,
+        None if job.from == STANDARD => String::from_str(alloc, STANDARD)?,
+        None => Path::new(job.from)
+            .with_extension(alloc, "wav")?
+            .into_string(),
+    })
 }
 
 // The output is created after the head is read, so that a fault there leaves an existing file as it is.
@@ -144,9 +113,10 @@ fn convert_file<Q: Files + AllocGlobal, I: Read + Copy, W: Write + Drop, E: Writ
     match opened {
         Ok(mut flac) => {
             let info = flac.streaminfo();
-            let mut progress = Progress::new(if shows_progress { info.samples } else { None });
-            let outcome = write_wav(rt, job, &mut flac, output, &mut progress, errors);
-            progress.end(errors);
+            let total = if shows_progress { info.samples } else { None };
+            let mut progress = Progress::new(errors, total);
+            let outcome = write_wav(rt, job, &mut flac, output, &mut progress);
+            progress.end();
             status_of(rt.alloc(), job, &info, outcome, errors)
         }
         Err(error) => {
@@ -175,8 +145,7 @@ fn write_wav<Q: Files + AllocGlobal, R: Read + Drop, W: Write + Drop, E: Write>(
     job: Job<'_>,
     flac: &mut FlacReader<R>,
     output: W,
-    progress: &mut Progress,
-    errors: &mut E,
+    progress: &mut Progress<'_, E>,
 ) -> result::Result<u32, Failure>
     requires { flac_metadata_only flac.old ≡ false }
 {
@@ -184,22 +153,15 @@ fn write_wav<Q: Files + AllocGlobal, R: Read + Drop, W: Write + Drop, E: Write>(
     let (channels, bits) = (info.channels, info.bits_per_sample);
     let layout = Layout::new(channels, bits, info.sample_rate, channel_mask(flac));
     let announced = announced_size(&layout, &info)?;
-    if job.to == STANDARD {
-        return write_stream(
-            rt.alloc(),
-            flac,
-            output,
-            layout,
-            announced,
-            progress,
-            errors,
-        );
+    let to = output_name(rt.alloc(), job)?;
+    if to.as_str() == STANDARD {
+        return write_stream(rt.alloc(), flac, output, layout, announced, progress);
     }
-    let file = create(rt, job)?;
+    let file = create(rt, job, to.as_str())?;
     if is_regular(&file) {
-        return write_file(rt.alloc(), flac, file, layout, announced, progress, errors);
+        return write_file(rt.alloc(), flac, file, layout, announced, progress);
     }
-    write_stream(rt.alloc(), flac, file, layout, announced, progress, errors)
+    write_stream(rt.alloc(), flac, file, layout, announced, progress)
 }
 
 // The number of bytes of the samples that the streaminfo tells.
@@ -223,14 +185,13 @@ fn write_file<R: Read + Drop, W: Write + Seek + Drop, E: Write>(
     mut file: W,
     layout: Layout,
     announced: Option<u32>,
-    progress: &mut Progress,
-    errors: &mut E,
+    progress: &mut Progress<'_, E>,
 ) -> result::Result<u32, Failure>
     requires reads_frames { flac_metadata_only flac.old ≡ false }
     requires fits { IfSome announced (λ n. n ≤ max_data_size) }
 {
     let mut wav = WavWriter::start(alloc, &mut file, layout, announced.unwrap_or(0))?;
-    let outcome = convert(alloc, flac, &mut wav, progress, errors);
+    let outcome = convert(alloc, flac, &mut wav, progress);
     with_samples(wav.samples(), outcome)
 }
 
@@ -241,8 +202,7 @@ fn write_stream<R: Read + Drop, W: Write + Drop, E: Write>(
     mut output: W,
     layout: Layout,
     announced: Option<u32>,
-    progress: &mut Progress,
-    errors: &mut E,
+    progress: &mut Progress<'_, E>,
 ) -> result::Result<u32, Failure>
     requires reads_frames { flac_metadata_only flac.old ≡ false }
     requires fits { IfSome announced (λ n. n ≤ max_data_size) }
@@ -251,7 +211,7 @@ fn write_stream<R: Read + Drop, W: Write + Drop, E: Write>(
         Some(size) => WavWriter::start(alloc, &mut output, layout, size)?,
         None => WavWriter::start_unknown(alloc, &mut output, layout)?,
     };
-    let outcome = convert_to_stream(alloc, flac, &mut wav, progress, errors);
+    let outcome = convert_to_stream(alloc, flac, &mut wav, progress);
     with_samples(wav.samples(), outcome)
 }
 
@@ -302,6 +262,9 @@ fn report_failure<E: Write>(
     failure: Failure,
     errors: &mut E,
 ) {
+    let Ok(to) = output_name(alloc, job) else {
+        return;
+    };
     match failure.error {
         Error::Claxon(error) => {
             let samples = u64::from(failure.samples);
@@ -309,11 +272,11 @@ fn report_failure<E: Write>(
         }
         Error::Output(cause) => {
             let error = claxon::Error::IoError(cause);
-            report(alloc, job.to, Part::Output, &error, errors);
+            report(alloc, to.as_str(), Part::Output, &error, errors);
         }
         error => {
             let (name, part) = match error {
-                Error::SameFile | Error::Exists => (job.to, Part::Output),
+                Error::SameFile | Error::Exists => (to.as_str(), Part::Output),
                 _ => (job.from, Part::Frame),
             };
             report_text(alloc, name, part, format!(in alloc; "{error}"), errors);
@@ -332,14 +295,14 @@ fn channel_mask<R: Read>(flac: &FlacReader<R>) -> Option<u32> {
 }
 
 // Creates the output. A device or a pipe holds nothing that could be lost, so its name may exist.
-fn create<Q: Files>(rt: &Q, job: Job<'_>) -> Result<Q::File> {
-    if is_same_file(rt, job.from, job.to) {
+fn create<Q: Files>(rt: &Q, job: Job<'_>, to: &str) -> Result<Q::File> {
+    if is_same_file(rt, job.from, to) {
         return Err(Error::SameFile);
     }
-    if !job.replaces && Path::new(job.to).is_file(rt) {
+    if !job.replaces && Path::new(to).is_file(rt) {
         return Err(Error::Exists);
     }
-    Ok(fs::create(rt, job.to)?)
+    Ok(fs::create(rt, to)?)
 }
 
 // Whether an open file can seek, as far as its type tells.

@@ -4,7 +4,7 @@ ghost use Rattle.claxon.specs.FlacReader.{flac_metadata_only};
 ghost use Rattle.claxon.specs.FrameReader.{frame_bytes, frame_stream, stream_with};
 ghost use Rattle.claxon.specs.State.{bytes_in};
 ghost use Rattle.claxon_tools.specs.Convert.{ConvertFaultIsComplete, ConvertFaultIsSound, ConvertIsComplete, ConvertIsSound, ConvertToStreamIsSound, PutBlocksFaultIsSound, PutBlocksIsSound};
-ghost use Rattle.claxon_tools.specs.Progress.{StaysQuiet};
+ghost use Rattle.claxon_tools.specs.Progress.{SameErrors, StaysQuiet};
 ghost use Rattle.claxon_tools.specs.Writer.{SameOutput};
 
 use crate::progress::Progress;
@@ -26,8 +26,7 @@ pub fn convert<R: Read + Drop, W: Write + Seek, E: Write>(
     alloc: Global,
     flac: &mut FlacReader<R>,
     wav: &mut WavWriter<'_, W>,
-    progress: &mut Progress,
-    errors: &mut E,
+    progress: &mut Progress<'_, E>,
 ) -> Result<()>
     requires { flac_metadata_only flac.old ≡ false }
     ensures same_reference { SameOutput wav.old wav.new }
@@ -36,10 +35,11 @@ pub fn convert<R: Read + Drop, W: Write + Seek, E: Write>(
     ensures err { ConvertFaultIsSound R.remaining result flac.old flac.new wav.old wav.new }
     ensures complete { ConvertIsComplete R.remaining result flac.old flac.new wav.old wav.new }
     ensures named { ConvertFaultIsComplete R.remaining result flac.old flac.new wav.old wav.new }
-    ensures quiet { StaysQuiet progress.old progress.new errors.old errors.new }
+    ensures same_errors { SameErrors progress.old progress.new }
+    ensures quiet { StaysQuiet progress.old progress.new }
 {
     let info = flac.streaminfo();
-    let outcome = put_blocks(alloc, flac.input(), info, wav, progress, errors);
+    let outcome = put_blocks(alloc, flac.input(), info, wav, progress);
     let finished = wav.finish();
     outcome?;
     finished
@@ -55,8 +55,7 @@ pub fn convert_to_stream<R: Read + Drop, W: Write, E: Write>(
     alloc: Global,
     flac: &mut FlacReader<R>,
     wav: &mut WavWriter<'_, W>,
-    progress: &mut Progress,
-    errors: &mut E,
+    progress: &mut Progress<'_, E>,
 ) -> Result<()>
     requires { flac_metadata_only flac.old ≡ false }
     ensures same_reference { SameOutput wav.old wav.new }
@@ -64,10 +63,11 @@ pub fn convert_to_stream<R: Read + Drop, W: Write, E: Write>(
     ensures err { ConvertFaultIsSound R.remaining result flac.old flac.new wav.old wav.new }
     ensures complete { ConvertIsComplete R.remaining result flac.old flac.new wav.old wav.new }
     ensures named { ConvertFaultIsComplete R.remaining result flac.old flac.new wav.old wav.new }
-    ensures quiet { StaysQuiet progress.old progress.new errors.old errors.new }
+    ensures same_errors { SameErrors progress.old progress.new }
+    ensures quiet { StaysQuiet progress.old progress.new }
 {
     let info = flac.streaminfo();
-    let outcome = put_blocks(alloc, flac.input(), info, wav, progress, errors);
+    let outcome = put_blocks(alloc, flac.input(), info, wav, progress);
     let ended = wav.finish_stream();
     outcome?;
     ended
@@ -79,8 +79,7 @@ fn put_blocks<R: ReadBytes, W: Write, E: Write>(
     input: &mut R,
     info: StreamInfo,
     wav: &mut WavWriter<'_, W>,
-    progress: &mut Progress,
-    errors: &mut E,
+    progress: &mut Progress<'_, E>,
 ) -> Result<()>
     requires min_bits { 1 ≤ info.bits_per_sample }
     requires max_bits { info.bits_per_sample ≤ 32 }
@@ -89,10 +88,11 @@ fn put_blocks<R: ReadBytes, W: Write, E: Write>(
         (bytes_in R.source input.old) (bytes_in R.source input.new) wav.old wav.new }
     ensures err { PutBlocksFaultIsSound W.contents (Some (stream_with info)) result
         (bytes_in R.source input.old) (bytes_in R.source input.new) wav.old wav.new }
-    ensures quiet { StaysQuiet progress.old progress.new errors.old errors.new }
+    ensures same_errors { SameErrors progress.old progress.new }
+    ensures quiet { StaysQuiet progress.old progress.new }
 {
     let mut frames = FrameReader::with_streaminfo(input, info);
-    put_frames(alloc, &mut frames, wav, progress, errors)
+    put_frames(alloc, &mut frames, wav, progress)
 }
 
 // The same of a reader's frames. Each block has samples, so the size of a WAV file bounds their number.
@@ -100,8 +100,7 @@ fn put_frames<R: ReadBytes, W: Write, E: Write>(
     alloc: Global,
     frames: &mut FrameReader<R>,
     wav: &mut WavWriter<'_, W>,
-    progress: &mut Progress,
-    errors: &mut E,
+    progress: &mut Progress<'_, E>,
 ) -> Result<()>
     ensures same_reference { SameOutput wav.old wav.new }
     ensures loans { (frame_bytes R.source frames.new).source.loans
@@ -110,14 +109,15 @@ fn put_frames<R: ReadBytes, W: Write, E: Write>(
         (frame_bytes R.source frames.old) (frame_bytes R.source frames.new) wav.old wav.new }
     ensures err { PutBlocksFaultIsSound W.contents (frame_stream frames.old) result
         (frame_bytes R.source frames.old) (frame_bytes R.source frames.new) wav.old wav.new }
-    ensures quiet { StaysQuiet progress.old progress.new errors.old errors.new }
+    ensures same_errors { SameErrors progress.old progress.new }
+    ensures quiet { StaysQuiet progress.old progress.new }
 {
     let mut buffer = Vec::new(alloc);
     let mut done = 0u64;
     while let Some(block) = frames.read_next_or_eof(buffer)? {
         wav.put_block(&block)?;
         done = done.saturating_add(u64::from(block.duration()));
-        progress.show(done, errors);
+        progress.show(done);
         buffer = block.into_buffer();
     }
     Ok(())

@@ -131,6 +131,7 @@ impl<'w, W: Write> WavWriter<'w, W> {
         ensures flushes { FinishFlushes result self.old self.new }
         ensures err { FinishFaultIsSound result self.old self.new }
         ensures writes { FewWritesFailed self.old self.new }
+        ensures header { SameHeader self.old self.new }
     {
         if self.written == self.announced {
             self.pad()?;

@@ -9,7 +9,7 @@ use Rattle.claxon_tools.proofs.verify.count_parts.Goals.{in-Ok-Some+in_ok-found-
 use Rattle.claxon_tools.proofs.verify.count_parts.Goals as goal
 
 pub loop-init : goal.loop-init
-loop-init g c = record { count = refl; so_far = none_so_far _ _ _; quiet = λ none. (refl, refl); total = refl }
+loop-init g c = record { count = refl; so_far = none_so_far _ _ _; errors = refl; quiet = λ none. (refl, refl); total = refl }
 
 pub loop-preserved : goal.loop-preserved
 loop-preserved g c =
@@ -33,9 +33,13 @@ loop-preserved g c =
             rw w.found-is (fault_counted h (λ known front e. byte ∙ position_after g.R.ReadBytes.source c.args.input.now c.loop.input known (h.known known) (h.crcs known) small front e) w.in-Err.error b (read_as {b = b} w.in-Err.is read) (sym w.is_io_error-is_last.ensures ∙ w.if-is_last.false) k.0 k.1)
             )
       ];
+      errors = elim c.match-read_block.branch [
+        | in-Ok-Some+in_ok-found-in-Ok-Some w ↦ rw w.progress-is (w.show.ensures.same_reference ∙ c.loop.invariant.errors)
+        | in-Err+in_ok-found-in-Err+else-is_last w ↦ rw w.progress-is c.loop.invariant.errors
+      ];
       quiet = elim c.match-read_block.branch [
-        | in-Ok-Some+in_ok-found-in-Ok-Some w ↦ rw (w.progress-is, w.errors-is) (shown_quietly _ c.loop.invariant.quiet c.loop.invariant.total w.show.ensures.percentage w.show.ensures.quiet)
-        | in-Err+in_ok-found-in-Err+else-is_last w ↦ rw (w.progress-is, w.errors-is) c.loop.invariant.quiet
+        | in-Ok-Some+in_ok-found-in-Ok-Some w ↦ rw w.progress-is (shown_quietly c.args.progress.now c.loop.progress w.show.new.self _ c.loop.invariant.quiet c.loop.invariant.total w.show.ensures.percentage w.show.ensures.quiet)
+        | in-Err+in_ok-found-in-Err+else-is_last w ↦ rw w.progress-is c.loop.invariant.quiet
       ];
       total = elim c.match-read_block.branch [
         | in-Ok-Some+in_ok-found-in-Ok-Some w ↦ rw w.progress-is (w.show.ensures.percentage.total_is ∙ c.loop.invariant.total)

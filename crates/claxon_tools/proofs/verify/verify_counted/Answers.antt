@@ -1,5 +1,5 @@
 use Rattle.std.proofs.lemmas.Bool.{false≢true}
-use Rattle.std.proofs.Common.{sym, inl, inr, ◌+◌, ◌%◌, ◌^◌, ℕ, ap, length, ◌∙◌, zero-add}
+use Rattle.std.proofs.Common.{rules, sym, inl, inr, ◌+◌, ◌%◌, ◌^◌, ℕ, ap, length, ◌∙◌, zero-add}
 use Rattle.std.proofs.lemmas.Result.{err_from_is_err_and}
 use Rattle.claxon_tools.specs.Verify.{counted_bytes, position_of}
 use Rattle.claxon_tools.proofs.Counting.{position_modulo}
@@ -25,9 +25,12 @@ pub returns-clause-quiet : goal.returns-clause-quiet
 returns-clause-quiet g c is =
     let begins = c.new-progress.ensures in
     let quiet = c.count_parts-counted.ensures.quiet in
+    let same = sym (c.count_parts-counted.ensures.same_errors ∙ begins.same_reference) in
+    let shown = c.new-progress.result in
+    let ended = c.count_parts-counted.new.progress in
     elim c.if-shows_progress.branch [
-      | then-shows_progress w ↦ elim is [ inl e ↦ absurd (false≢true (sym e ∙ w.if-shows_progress.true)) | inr none ↦ ended_quietly c.count_parts-counted.new.progress (begins.total_is ∙ w.new-is ∙ none) begins.none_shown quiet c.end.ensures.quiet ]
-      | else-shows_progress w ↦ ended_quietly c.count_parts-counted.new.progress (begins.total_is ∙ w.new-is) begins.none_shown quiet c.end.ensures.quiet
+      | then-shows_progress w ↦ elim is [ inl e ↦ absurd (false≢true (sym e ∙ w.if-shows_progress.true)) | inr none ↦ (let k = ended_quietly shown ended (begins.total_is ∙ w.total-is ∙ none) begins.none_shown quiet c.end.ensures.quiet ∙ begins.errors_are in search rules) ]
+      | else-shows_progress w ↦ (let k = ended_quietly shown ended (begins.total_is ∙ w.total-is) begins.none_shown quiet c.end.ensures.quiet ∙ begins.errors_are in search rules)
     ]
 
 pub returns-in_err-info-clause-promises : goal.returns-in_err-info-clause-promises

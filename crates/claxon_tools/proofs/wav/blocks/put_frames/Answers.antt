@@ -9,7 +9,7 @@ use Rattle.claxon_tools.proofs.Showing.{shown_quietly}
 use Rattle.claxon_tools.proofs.wav.blocks.put_frames.Goals as goal
 
 pub loop-block-init : goal.loop-block-init
-loop-block-init g c = record { reference = refl; stream = refl; loans = refl; so_far = put_none (frame_bytes g.R.ReadBytes.source c.args.frames.now) c.args.wav.now; quiet = λ none. (refl, refl); total = refl }
+loop-block-init g c = record { reference = refl; stream = refl; loans = refl; so_far = put_none (frame_bytes g.R.ReadBytes.source c.args.frames.now) c.args.wav.now; errors = refl; quiet = λ none. (refl, refl); total = refl }
 
 pub loop-block-preserved : goal.loop-block-preserved
 loop-block-preserved g c =
@@ -22,7 +22,8 @@ loop-block-preserved g c =
       stream = e.stream ∙ v.stream;
       loans = reads_loans reads ∙ v.loans;
       so_far = put_more c.in-Some.block v.so_far reads p.ok p.fits p.header p.unflushed;
-      quiet = shown_quietly _ v.quiet v.total c.show.ensures.percentage c.show.ensures.quiet;
+      errors = c.show.ensures.same_reference ∙ v.errors;
+      quiet = shown_quietly c.args.progress.now c.loop-block.progress c.show.new.self _ v.quiet v.total c.show.ensures.percentage c.show.ensures.quiet;
       total = c.show.ensures.percentage.total_is ∙ v.total;
     }
 
