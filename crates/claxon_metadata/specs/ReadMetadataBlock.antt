@@ -4,16 +4,17 @@ use Rattle.std.specs.Prelude.{◌≡◌, ◌+◌, ◌-◌, ◌++◌, ℕ, Bool, 
 use Rattle.claxon_format.specs.read.Comments.{comment_at}
 use Rattle.claxon_format.specs.Metadata.{BlockHeader, BlockHeaderCode}
 use Rattle.claxon_format.specs.MetadataBlocks.{BlockFault, Body, BodyFault}
-use Rattle.claxon_format.specs.read.MetadataBlocks.{block_at, body_at}
-use Rattle.claxon_input.specs.Gives.{GivesOrOutOfMemory}
+use Rattle.claxon_format.specs.read.MetadataBlocks.{block_at, body_at, info_body_at}
+use Rattle.claxon_input.specs.Gives.{Gives, GivesOrOutOfMemory}
 use Rattle.claxon_input.specs.Promises.{CodeIsComplete, Remains, ElseIoError, IsOutOfMemory, LeavesRest, FaultIsComplete, ConsumesAtMost, CodeIsSound, FaultIsSound}
 use Rattle.claxon_input.specs.Source.{Source}
 use Rattle.claxon_input.specs.State.{bytes_in}
 use Rattle.claxon_input.specs.declared.error.Error.{Error}
-use Rattle.claxon_metadata.specs.MetadataBlock.{ContentCode, BlockHasBounds, MayAllocate, content_at, content_view, metadata_block_view}
+use Rattle.claxon_metadata.specs.MetadataBlock.{ContentCode, BlockHasBounds, MayAllocate, content_at, content_view, info_view, metadata_block_view}
 use Rattle.claxon_metadata.specs.VorbisComment.{OutOfMemoryAfterVendorLength, comment_view}
 use Rattle.claxon_metadata.specs.declared.metadata.MetadataBlock.{MetadataBlock}
 use Rattle.claxon_metadata.specs.declared.metadata.VorbisComment.{VorbisComment}
+use Rattle.claxon_metadata.specs.declared.metadata.streaminfo.StreamInfo.{StreamInfo}
 
 -- what a call returns
 abbrev pub MetadataAnswer : Type 0 → Type 0
@@ -124,6 +125,11 @@ abbrev pub MetadataBlockAndFlagIsRead : {R A : Type 0} → (R → Source ℕ) �
 MetadataBlockAndFlagIsRead source old result new =
     GivesOrOutOfMemory (λ found. metadata_block_view found.0 found.1) result block_at
     (bytes_in source old) (bytes_in source new)
+
+-- A streaminfo: the result and the consumed bytes are those of the format's reader.
+abbrev pub StreaminfoIsRead : {R : Type 0} → (R → Source ℕ) → ℕ → R → Result StreamInfo Error → R → Type 0
+StreaminfoIsRead source length old result new =
+    Gives info_view result (info_body_at length) (bytes_in source old) (bytes_in source new)
 
 -- A Vorbis comment: the result and the consumed bytes are those of the format's reader.
 abbrev pub CommentIsRead : {R A : Type 0} → (R → Source ℕ) → ℕ → R → Result (VorbisComment A) Error

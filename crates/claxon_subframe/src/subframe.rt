@@ -4,15 +4,14 @@ ghost use Rattle.claxon_format.specs.Bits.{FitsIn, residue};
 ghost use Rattle.claxon_format.specs.read.Bits.{twos_complement, signed_at};
 ghost use Rattle.claxon_format.specs.Fault.{Fault};
 ghost use Rattle.claxon_format.specs.read.Reading.{and_then, done, times_at};
-ghost use Rattle.claxon_format.specs.read.Residual.{partition_at, residual_at, escaped_partition_at, joined_at, method_at};
-ghost use Rattle.claxon_format.specs.read.Subframe.{fixed_at, subframe_at, type_at, wasted_bits_to_31_at, subframe_header_at, parameters_at, linear_at, subframe_body_at};
+ghost use Rattle.claxon_format.specs.read.Residual.{partition_at, residual_at, escaped_partition_at, method_at};
+ghost use Rattle.claxon_format.specs.read.Subframe.{fixed_at, subframe_at, type_at, wasted_bits_to_31_at, subframe_header_at, parameters_at, linear_at};
 ghost use Rattle.claxon_format.specs.Subframe.{scaled};
 ghost use Rattle.claxon_input.specs.State.{bits_in};
 ghost use Rattle.claxon_input.specs.Gives.{Gives};
 ghost use Rattle.claxon_subframe.specs.Buffer.{FillsBuffer};
 ghost use Rattle.claxon_subframe.specs.Decode.{SubframeFaultIsComplete, SubframeIsComplete, KeepsReaderLoans, SubframeElseIoError, SubframeFaultIsSound, SubframeIsRead, SubframeIsUnambiguous, SubframeLeavesRest, SubframeIsSound, NeverOutOfMemory};
 ghost use Rattle.claxon_subframe.specs.SubframeFields.{fixed_order, lpc_order, type_number, subframe_view, parameters_of, method_of};
-ghost use Rattle.claxon_subframe.specs.Partitions.{lengths, total};
 
 mod buffered;
 mod groups;

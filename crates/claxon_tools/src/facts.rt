@@ -1,5 +1,4 @@
 //! The lines that are printed about a stream.
-ghost use Rattle.std.specs.Prelude.{◌≡◌};
 ghost use Rattle.std.specs.Option.{option_map};
 ghost use Rattle.claxon.specs.Tags.{remaining_tags};
 ghost use Rattle.claxon_write.specs.InnerWriter.{SameWriter};

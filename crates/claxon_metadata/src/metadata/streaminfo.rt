@@ -1,11 +1,10 @@
 //! Reads streaminfo blocks.
 ghost use Rattle.std.specs.Prelude.{◌≡◌, ◌<◌, ◌≤◌, ◌%◌, map, IfOk, IfSome};
-ghost use Rattle.claxon_format.specs.read.MetadataBlocks.{info_body_at};
 ghost use Rattle.claxon_format.specs.Streaminfo.{frame_sizes_inconsistent};
 ghost use Rattle.claxon_format.specs.read.Streaminfo.{sizes_at, format_at, info_of, info_fields_at, streaminfo_at};
 ghost use Rattle.claxon_input.specs.State.{bytes_in};
 ghost use Rattle.claxon_input.specs.Gives.{Gives};
-ghost use Rattle.claxon_metadata.specs.ReadMetadataBlock.{AtMostIsConsumed};
+ghost use Rattle.claxon_metadata.specs.ReadMetadataBlock.{AtMostIsConsumed, StreaminfoIsRead};
 ghost use Rattle.claxon_metadata.specs.MetadataBlock.{HasBounds, format_view, info_view, or_zero, sizes_view};
 
 use claxon_input::error::{Error, Result};
@@ -133,8 +132,7 @@ fn stream_info(sizes: SizeBounds, format: SampleFormat, md5sum: &[u8; 16]) -> St
 #[tactic(auto, unfolding(claxon_format::specs::read::MetadataBlocks::info_body_at, claxon_format::specs::Fault::fault_text))]
 pub fn read_streaminfo_block<R: ReadBytes>(input: &mut R, length: u32) -> Result<StreamInfo>
     ensures bounds { IfOk result (λ info. HasBounds info) }
-    ensures gives { Gives info_view result (info_body_at length)
-        (bytes_in R.source input.old) (bytes_in R.source input.new) }
+    ensures gives { StreaminfoIsRead R.source length input.old result input.new }
     ensures within { AtMostIsConsumed R.source length input.old input.new }
 {
     if length != 34 {

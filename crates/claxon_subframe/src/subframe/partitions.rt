@@ -1,7 +1,7 @@
 //! Partitions that are completely buffered. Their bits are skipped in one call, so that short partitions cost little.
-ghost use Rattle.std.specs.Prelude.{◌≡◌, ◌+◌, ◌*◌, ◌≤◌, ◌<◌, IfOk, IfErr, OnErr, length, map, take, replicate};
+ghost use Rattle.std.specs.Prelude.{◌≡◌, ◌+◌, ◌*◌, ◌≤◌, ◌<◌, IfOk, IfErr, OnErr, length, map};
 ghost use Rattle.std.specs.Bool.{MatchBool};
-ghost use Rattle.claxon_format.specs.read.Residual.{joined_at, partition_at};
+ghost use Rattle.claxon_format.specs.read.Residual.{partition_at};
 ghost use Rattle.claxon_input.specs.BufferedBits.{bits_in_buffer, GivesBuffered};
 ghost use Rattle.claxon_input.specs.State.{bits_in};
 ghost use Rattle.claxon_input.specs.Gives.{FailureOr};

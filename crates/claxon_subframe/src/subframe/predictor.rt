@@ -1,6 +1,6 @@
 //! Predictors: samples from the warm-up samples and the residual, in place. Samples are modulo 2^32.
 ghost use Rattle.std.specs.Prelude.{◌≡◌, ◌≤◌, length};
-ghost use Rattle.claxon_format.specs.Predict.{wrap, dot, floor_shift, linear};
+ghost use Rattle.claxon_format.specs.Predict.{wrap, dot, linear};
 ghost use Rattle.claxon_format.specs.read.Predict.{restored};
 ghost use Rattle.claxon_subframe.specs.Predictor.{SamplesAreRestored};
 

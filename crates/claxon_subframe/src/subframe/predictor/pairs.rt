@@ -4,7 +4,6 @@
 ghost use Rattle.std.specs.Prelude.{◌≡◌, ◌+◌, ◌*◌, ◌-◌, ◌^◌, ◌<◌, ◌≤◌, ◌↔◌, ◌++◌, IsTrue, true, false, length, take, drop, reverse, replicate, pos, FitsSigned};
 ghost use Rattle.std.specs.Int.{w16};
 ghost use Rattle.claxon_subframe.specs.Predictor.{FrontIsRestored};
-ghost use Rattle.claxon_subframe.specs.Lanes.{LanesFit64};
 ghost use Rattle.claxon_subframe.specs.PendingSums.{AreNewest};
 ghost use Rattle.claxon_subframe.specs.Pairs.{ArePairTaps, LanesFit16, LanesFit32, SmallPairTaps, SumsFit32, advanced_by_pair, magnitude, pair_of, plus_pairs};
 
