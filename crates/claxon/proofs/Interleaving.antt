@@ -3,7 +3,7 @@ use Rattle.std.proofs.Common.{◌≡◌, ◌⊎◌, inl, inr, ℕ, zero, suc, �
 use Rattle.std.specs.Prelude.{Some, slice_get, slice_set}
 use Rattle.std.specs.Int.{to_le_bytes, w32, w64}
 use Rattle.std.specs.List.{between, flat_map, range_with_len}
-use Rattle.std.proofs.lemmas.List.{append-nil, length-map, map_more, take-map, take_all, take_more, take-append-drop, take-take, drop-drop, drop-take, drop-append-le, length-take, length-drop}
+use Rattle.std.proofs.lemmas.List.{append-nil, length-map, map_more, take-map, take_all, take_more, drop_all, take-append-drop, take-take, drop-drop, drop-take, drop-append-le, length-take, length-drop}
 use Rattle.std.proofs.lemmas.Slice.{take-put_mid, take-put_mid_below, drop-put_mid}
 use Rattle.std.proofs.lemmas.Grind.{flat_map-append}
 use Rattle.std.proofs.lemmas.List.Edits.{get_or-between}
@@ -112,6 +112,10 @@ two_places [] y z x w len first second = absurd (omega (arith, len))
 two_places (a ∷ []) y z x w len first second = absurd (omega (arith, len))
 two_places (a ∷ b ∷ []) y z x w len first second = ap (λ (k : ℤ). k ∷ z ∷ []) first ∙ ap (λ (k : ℤ). x ∷ k ∷ []) second
 two_places (a ∷ b ∷ c ∷ place) y z x w len first second = absurd (omega (arith, len))
+
+-- all of a place is replaced
+pub whole_place : {U : Type 0} (place put units : List U) (n : ℕ) → length place ≡ n → put ≡ units → put ++ drop n place ≡ units
+whole_place place put units n len is = ap (λ z. put ++ z) (drop_all n place (omega (arith, len))) ∙ append-nil put ∙ is
 
 -- two 32-bit numbers as one 64-bit number
 pub pair_bytes : (low high n : ℕ) → low < 2 ^ 32 → high < 2 ^ 32 → n ≡ high * 2 ^ 32 + low → to_le_bytes w64 n ≡ to_le_bytes w32 low ++ to_le_bytes w32 high

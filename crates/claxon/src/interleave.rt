@@ -69,17 +69,15 @@ impl SampleUnit for u8 {
 
     const SIZE: usize = 4;
 
-    #[inline(always)]
     fn put(sample: i32, place: &mut [u8]) {
-        place.copy_from_slice(&sample.cast_unsigned().to_le_bytes());
+        place[..4].copy_from_slice(&sample.cast_unsigned().to_le_bytes());
     }
 
     // As one 64-bit number, so that one store writes both.
-    #[inline(always)]
     fn put_pair(first: i32, second: i32, place: &mut [u8]) {
         let low = u64::from(first.cast_unsigned());
         let high = u64::from(second.cast_unsigned());
-        place.copy_from_slice(&((high << 32) + low).to_le_bytes());
+        place[..8].copy_from_slice(&((high << 32) + low).to_le_bytes());
     }
 
     #[inline(never)]

@@ -1,7 +1,4 @@
-use Rattle.std.proofs.Common.{◌+◌, ◌*◌, ◌∙◌, ℕ, length, get_or, pos, ap, arith, rules}
-use Rattle.std.specs.Int.{w32}
-use mir.Val.{SFits}
-use Rattle.std.proofs.lemmas.Int.{to_z-of_z}
+use Rattle.std.proofs.Common.{◌≡◌, ◌+◌, ◌*◌, ◌∙◌, ℕ, length, get_or, pos, ap, arith, rules}
 use Rattle.claxon.proofs.Interleaving.{channel_none, channel_more, chunk_in_bounds, offset_fits, place_in_chunk}
 use Rattle.claxon.proofs.interleave.put_channel.Goals as goal
 
@@ -22,8 +19,7 @@ loop-i-preserved g c =
     let i = c.loop-i.i in
     let size = g.U.SampleUnit.SIZE in
     let width = size * g.row.CHANNELS in
-    let f : SFits w32 (get_or s i (pos 0)) = search rules in
-    let put = c.put.ensures ∙ ap g.U.SampleUnit.units (to_z-of_z w32 _ f) in
+    let put : c.put.new.place ≡ g.U.SampleUnit.units (get_or s i (pos 0)) = c.put.ensures ∙ ap g.U.SampleUnit.units (search rules) in
     let here = chunk_in_bounds width i (length s) (length c.loop-i.buffer) c.loop-i-test.true (c.loop-i.auto.buffer ∙ c.requires.buffer) in
     let len = ap length put ∙ g.met.U.SampleUnit.size (get_or s i (pos 0)) in
     let n = c.SIZE-in-loop-i-2.ensures in

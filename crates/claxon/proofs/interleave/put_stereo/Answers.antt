@@ -1,7 +1,4 @@
-use Rattle.std.proofs.Common.{◌*◌, ◌∷◌, ◌∙◌, [], ℕ, length, get_or, pos, refl, ap, arith, rules}
-use Rattle.std.specs.Int.{w32}
-use mir.Val.{SFits}
-use Rattle.std.proofs.lemmas.Int.{to_z-of_z}
+use Rattle.std.proofs.Common.{◌*◌, ◌∷◌, ◌∙◌, [], ℕ, length, refl, ap, arith, rules}
 use Rattle.claxon.proofs.Interleaving.{all_ranges, chunk_in_bounds, no_range, stereo_more}
 use Rattle.claxon.proofs.interleave.put_stereo.Goals as goal
 
@@ -14,10 +11,8 @@ loop-i-preserved g c =
     let t = c.args.right.now in
     let i = c.loop-i.i in
     let size = g.U.SampleUnit.SIZE in
-    let f : SFits w32 (get_or s i (pos 0)) = search rules in
-    let h : SFits w32 (get_or t i (pos 0)) = search rules in
     let here = chunk_in_bounds (2 * size) i (length s) (length c.loop-i.buffer) c.loop-i-test.true (c.loop-i.auto.buffer ∙ c.requires.buffer) in
-    stereo_more g.U.SampleUnit.units size g.met.U.SampleUnit.size s t i (2 * size) _ c.loop-i.buffer c.put_pair.new.place refl (omega (arith, here)) c.put_pair.ensures (to_z-of_z w32 _ f) (to_z-of_z w32 _ h) (ap (λ (k : ℕ). i * (2 * k)) c.SIZE.ensures) c.loop-i.invariant
+    stereo_more g.U.SampleUnit.units size g.met.U.SampleUnit.size s t i (2 * size) _ c.loop-i.buffer c.put_pair.new.place refl (omega (arith, here)) c.put_pair.ensures (search rules) (search rules) (ap (λ (k : ℕ). i * (2 * k)) c.SIZE.ensures) c.loop-i.invariant
 
 pub returns : goal.returns
 returns g c = all_ranges g.U.SampleUnit.units (c.args.left.now ∷ c.args.right.now ∷ []) (2 * g.U.SampleUnit.SIZE) (length c.args.left.now) c.loop-i.i c.loop-i.buffer (c.loop-i.auto.buffer ∙ c.requires.buffer) (omega arith) c.loop-i.invariant

@@ -1,7 +1,4 @@
 use Rattle.std.proofs.Common.{◌≡◌, ◌∙◌, ap, get_or, pos, length, arith, rules}
-use Rattle.std.specs.Int.{w32}
-use mir.Val.{SFits}
-use Rattle.std.proofs.lemmas.Int.{to_z-of_z}
 use Rattle.claxon.specs.Interleave.{length-sample_bytes, sample_bytes}
 use Rattle.claxon.proofs.Interleaving.{all_stored, stored_more}
 use Rattle.claxon.proofs.interleave.U8SampleUnit.put_all.Goals as goal
@@ -11,8 +8,7 @@ loop-i-preserved c =
     let samples = c.args.samples.now in
     let i = c.loop-i.i in
     let x = get_or samples i (pos 0) in
-    let f : SFits w32 x = search rules in
-    let is : c.put.new.place ≡ sample_bytes x = c.put.ensures ∙ ap sample_bytes (to_z-of_z w32 x f) in
+    let is : c.put.new.place ≡ sample_bytes x = c.put.ensures ∙ ap sample_bytes (search rules) in
     stored_more sample_bytes samples i 4 _ c.loop-i.buffer c.put.new.place c.loop-i-test.true (omega arith) (ap length is ∙ length-sample_bytes x) is c.loop-i.invariant
 
 pub returns : goal.returns
