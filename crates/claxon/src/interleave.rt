@@ -69,6 +69,7 @@ impl SampleUnit for u8 {
 
     const SIZE: usize = 4;
 
+    // Both lengths are constants, so that the copy is one store.
     fn put(sample: i32, place: &mut [u8]) {
         place[..4].copy_from_slice(&sample.cast_unsigned().to_le_bytes());
     }

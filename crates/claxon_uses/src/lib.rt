@@ -6,7 +6,6 @@ mod frames;
 mod samples;
 mod streams;
 mod tags;
-
 #[cfg(test)]
 mod tests;
 

@@ -1,5 +1,6 @@
 //! The examples on streams in memory and in a file.
-use crate::{first_samples, list_tags, peak};
+use crate::{decode_one, first_samples, list_tags, peak};
+use claxon::interleave::interleave;
 use std::alloc::Global;
 use std::io::Cursor;
 use std::test::Fail;
@@ -23,6 +24,17 @@ const FRAME: [u8; 11] = [
     0xff, 0xf8, 0x69, 0x02, 0x00, 0x00, 0x9a, 0x00, 0x05, 0x34, 0x58,
 ];
 
+// A frame of two channels with two samples each, 3 and -2.
+const PAIRS: [u8; 13] = [
+    0xff, 0xf8, 0x69, 0x12, 0x00, 0x01, 0x3f, 0x00, 0x03, 0x00, 0xfe, 0x71, 0x51,
+];
+
+// A frame of three channels with three samples each.
+const TRIPLES: [u8; 30] = [
+    0xff, 0xf8, 0x69, 0x28, 0x00, 0x02, 0x50, 0x02, 0x00, 0x01, 0xff, 0xfe, 0x01, 0x2c, 0x02, 0x80,
+    0x00, 0x7f, 0xff, 0x00, 0x00, 0x02, 0x01, 0x00, 0xfe, 0xff, 0x00, 0x04, 0xee, 0x53,
+];
+
 // The parts, one after another.
 fn joined(alloc: Global, parts: &[&[u8]]) -> Result<Vec<u8>, Fail> {
     let mut bytes = Vec::new(alloc);
@@ -44,7 +56,10 @@ fn begins_with(alloc: Global, bytes: &[u8], requested: usize, count: usize) -> b
 fn as_many_samples_as_requested(rt: HostRuntime) -> Result<(), Fail> {
     let bytes = joined(rt.alloc(), &[b"fLaC\x80", &HEAD, &FRAME, &FRAME])?;
     for (requested, count) in [(0, 0), (1, 1), (2, 2), (3, 2)] {
-        assert!(rt; begins_with(rt.alloc(), &bytes, requested, count), "{requested}");
+        assert!(rt;
+            begins_with(rt.alloc(), &bytes, requested, count),
+            "{requested}"
+        );
     }
     Ok(())
 }
@@ -83,5 +98,26 @@ fn of_a_file(rt: HostRuntime) -> Result<(), Fail> {
     let (lines, greatest) = found_in_file(&rt, &bytes)?;
     assert!(rt; are_example_tags(&lines?));
     assert!(rt; greatest? == 5);
+    Ok(())
+}
+
+// The interleaved samples of a frame.
+fn samples_of(alloc: Global, frame: &[u8]) -> Result<Vec<i32>, Fail> {
+    let mut samples = Vec::new(alloc);
+    if let Some(block) = decode_one(alloc, frame)? {
+        samples.resize(block.len() as usize, 0)?;
+        interleave(&block, 0, block.duration() as usize, samples.as_mut_slice());
+    }
+    Ok(samples)
+}
+
+#[test]
+fn samples_of_one_to_three_channels(rt: HostRuntime) -> Result<(), Fail> {
+    let alone = samples_of(rt.alloc(), &FRAME)?;
+    let pairs = samples_of(rt.alloc(), &PAIRS)?;
+    let triples = samples_of(rt.alloc(), &TRIPLES)?;
+    assert!(rt; alone.as_slice() == [5].as_slice());
+    assert!(rt; pairs.as_slice() == [3, -2, 3, -2].as_slice());
+    assert!(rt; triples.as_slice() == [1, -32_768, 256, -2, 32_767, -257, 300, 0, 4].as_slice());
     Ok(())
 }
