@@ -70,7 +70,7 @@ const HELP: &str = "usage: claxon COMMAND ..
   info       shows the streaminfo and the tags of FLAC files
   wav        converts a FLAC file to a WAV file
   verify     says of FLAC files whether they are right
-  trace      shows what each frame of a FLAC file is decoded to
+  trace      shows what each frame of a FLAC file decodes to
 
   --help     shows this text
   --version  shows the version
