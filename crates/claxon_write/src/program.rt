@@ -3,8 +3,8 @@ ghost use Rattle.std.specs.Prelude.{◌≡◌, OnErr, OnOk};
 
 use crate::arguments::words;
 use claxon::{FlacReader, FlacReaderOptions};
-use std::fmt::Display;
 use std::alloc::Global;
+use std::fmt::Display;
 use std::io::{Read, Write};
 use std::process::ExitCode;
 use std::rt::Env;
