@@ -167,7 +167,7 @@ const LINES: [(usize, [bool; 2], u8, &str); 8] = [
 fn has_line(rt: &HostRuntime, bytes: &[u8], status: u8, text: &str) -> Result<bool, Fail> {
     let words = owned(rt.alloc(), &["-"])?;
     let (mut output, mut errors): (Vec<u8>, Vec<u8>) = (Vec::new(rt.alloc()), Vec::new(rt.alloc()));
-    let got = command(rt, &words, bytes, false, &mut output, &mut errors);
+    let got = command(rt, &words, bytes, &mut output, false, &mut errors);
     let line = format!(in rt.alloc(); "standard input: {text}\n")?;
     Ok(got == status && output.as_slice() == line.as_bytes() && errors.is_empty())
 }
@@ -203,7 +203,7 @@ fn several_files(rt: HostRuntime) -> Result<(), Fail> {
     let all = format!(in rt.alloc(); "{one}{wrong}{one}")?;
     let missing = format!(in rt.alloc(); "{none}: No such file or directory\n")?;
     let (mut output, mut errors): (Vec<u8>, Vec<u8>) = (Vec::new(rt.alloc()), Vec::new(rt.alloc()));
-    let status = command(&rt, &words, b"".as_slice(), false, &mut output, &mut errors);
+    let status = command(&rt, &words, b"".as_slice(), &mut output, false, &mut errors);
     fs::remove_file(&rt, right)?;
     assert!(rt; status == 1 && output.as_slice() == all.as_bytes());
     assert!(rt; errors.as_slice() == missing.as_bytes());
@@ -227,8 +227,8 @@ fn lost_output(rt: HostRuntime) -> Result<(), Fail> {
             &rt,
             &words,
             front(&bytes, 53),
-            false,
             &mut output,
+            false,
             &mut errors,
         );
         let failure = io::Error::from(ErrorKind::StorageFull);
@@ -249,7 +249,7 @@ fn command_lines(rt: HostRuntime) -> Result<(), Fail> {
             Vec::new(rt.alloc()),
             Vec::new(rt.alloc()),
         );
-        let status = command(&rt, &words, b"".as_slice(), false, &mut output, &mut errors);
+        let status = command(&rt, &words, b"".as_slice(), &mut output, false, &mut errors);
         assert!(rt; status == 2 && output.is_empty() && errors.as_slice() == text.as_bytes());
     }
     Ok(())

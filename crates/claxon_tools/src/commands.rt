@@ -45,11 +45,13 @@ where
     Q::File: Read,
 {
     match parse(words) {
-        Ok(Request::Run(name, words)) => {
-            run(rt, name, words, input, output, shows_progress, errors)
-        }
+        Ok(Request::Run(call)) => run(rt, call, input, output, shows_progress, errors),
         Ok(Request::Help(name)) => match help_option(rt.alloc()) {
-            Ok(words) => run(rt, name, &words, input, output, shows_progress, errors),
+            Ok(words) => {
+                let words = words.as_slice();
+                let call = Call { name, words };
+                run(rt, call, input, output, shows_progress, errors)
+            }
             Err(error) => status(Err(claxon::Error::from(error)), errors),
         },
         Err(notice) => {
@@ -59,11 +61,18 @@ where
     }
 }
 
+// The name of a command, and its arguments.
+#[derive(Clone, Copy)]
+struct Call<'a> {
+    name: &'a str,
+    words: &'a [String],
+}
+
 // What a command line asks for.
 #[derive(Clone, Copy)]
 enum Request<'a> {
-    // A command, with these arguments.
-    Run(&'a str, &'a [String]),
+    // A command.
+    Run(Call<'a>),
     // What a command says about itself.
     Help(&'a str),
 }
@@ -72,25 +81,31 @@ fn parse<'a>(words: Option<&'a [String]>) -> Result<Request<'a>, Notice<'a>> {
     let Some(words) = words else {
         return Err(Notice::NotUtf8);
     };
-    let (name, words) = split_name(words)?;
-    if name != "help" {
-        return Ok(Request::Run(name, words));
+    let call = split_name(words)?;
+    if call.name != "help" {
+        return Ok(Request::Run(call));
     }
-    if words.is_empty() {
+    if call.words.is_empty() {
         return Err(Notice::Help);
     }
-    match split_name(words)? {
-        ("help", []) => Err(Notice::Help),
-        (name, []) => Ok(Request::Help(name)),
-        _ => Err(Notice::Usage),
+    let asked = split_name(call.words)?;
+    if !asked.words.is_empty() {
+        return Err(Notice::Usage);
+    }
+    match asked.name {
+        "help" => Err(Notice::Help),
+        name => Ok(Request::Help(name)),
     }
 }
 
-// The name of a command, and the words after it.
-fn split_name<'a>(words: &'a [String]) -> Result<(&'a str, &'a [String]), Notice<'a>> {
+// The first word as the name of a command.
+fn split_name<'a>(words: &'a [String]) -> Result<Call<'a>, Notice<'a>> {
     let mut arguments = Arguments::new(words);
     match arguments.next() {
-        Some(Argument::Operand(name)) => Ok((name, arguments.rest())),
+        Some(Argument::Operand(name)) => {
+            let words = arguments.rest();
+            Ok(Call { name, words })
+        }
         Some(Argument::Option(option)) => Err(Notice::of_option(option)),
         None => Err(Notice::Usage),
     }
@@ -102,8 +117,7 @@ fn help_option(alloc: Global) -> Result<[String; 1], AllocError> {
 
 fn run<Q: Files + AllocGlobal, I: Read + Copy, W: Write + Drop, E: Write>(
     rt: &Q,
-    name: &str,
-    words: &[String],
+    call: Call<'_>,
     input: I,
     output: W,
     shows_progress: bool,
@@ -112,13 +126,14 @@ fn run<Q: Files + AllocGlobal, I: Read + Copy, W: Write + Drop, E: Write>(
 where
     Q::File: Read,
 {
+    let words = call.words;
     let mut output = output;
-    match name {
+    match call.name {
         "info" => info::command(rt, words, input, &mut output, errors),
         "wav" => wav::command(rt, words, input, output, shows_progress, errors),
-        "verify" => verify::command(rt, words, input, shows_progress, &mut output, errors),
+        "verify" => verify::command(rt, words, input, &mut output, shows_progress, errors),
         "trace" => trace::command(rt, words, input, output, errors),
-        _ => PROGRAM.print(
+        name => PROGRAM.print(
             rt.alloc(),
             Notice::UnknownCommand(name),
             &mut output,

@@ -35,15 +35,15 @@ pub fn command<Q: Files + AllocGlobal, I: Read + Copy, W: Write, E: Write>(
     rt: &Q,
     words: &[String],
     input: I,
-    shows_progress: bool,
     output: &mut W,
+    shows_progress: bool,
     errors: &mut E,
 ) -> u8
 where
     Q::File: Read,
 {
     match Names::parse(words) {
-        Ok(names) => verify_files(rt, names, input, shows_progress, output, errors),
+        Ok(names) => verify_files(rt, names, input, output, shows_progress, errors),
         Err(notice) => PROGRAM.print(rt.alloc(), notice, output, errors),
     }
 }
@@ -61,8 +61,8 @@ fn verify_files<Q: Files + AllocGlobal, I: Read + Copy, W: Write, E: Write>(
     rt: &Q,
     names: Names<'_>,
     input: I,
-    shows_progress: bool,
     output: &mut W,
+    shows_progress: bool,
     errors: &mut E,
 ) -> u8
 where
