@@ -5,8 +5,8 @@ use Rattle.std.specs.declared.io.Cursor.{Cursor}
 use Rattle.std.specs.Io.Cursor.{cursor_position, cursor_inner}
 use Rattle.claxon.specs.Frame.{StreamFormat, Frame, FrameBytesFault}
 use Rattle.claxon.specs.Cursor.{cursor_source}
-use Rattle.claxon.specs.Gives.{FailedIn}
-use Rattle.claxon.specs.Promises.{FoundIsComplete, Remains, HasFailed, FaultIsComplete, NoneIsEof, FaultIsSound, FoundIsSound, Consumed}
+use Rattle.claxon.specs.Gives.{ReadFailedIn}
+use Rattle.claxon.specs.Promises.{FoundIsComplete, Remains, ReadFailed, FaultIsComplete, NoneIsEof, FaultIsSound, FoundIsSound, Consumed}
 use Rattle.claxon.specs.State.{State, bytes_in}
 use Rattle.claxon.specs.FrameReader.{FrameAnswer, ReadsFrame, block_view, frame_bytes, frame_input}
 use Rattle.claxon.specs.FrameReaders.{FrameReader}
@@ -28,7 +28,7 @@ pub record SliceFramePromises (stream : Option StreamFormat) (bytes : List ℕ) 
 pub begins_with_consumed : {C : List ℕ → Type 0} (a b : State ℕ) (bytes : List ℕ) → Remains a bytes → Consumed a b C → BeginsWith C bytes
 begins_with_consumed a b bytes c h = let k = (h c.known).1 in (k.0, b.remaining, k.1, sym c.are ∙ k.2)
 
-module _ (stream : Option StreamFormat) (bytes : List ℕ) (a b : State ℕ) (remains : Remains a bytes) (never : FailedIn a b → ⊥) where
+module _ (stream : Option StreamFormat) (bytes : List ℕ) (a b : State ℕ) (remains : Remains a bytes) (never : ReadFailedIn a b → ⊥) where
   there : (t rest : List ℕ) → bytes ≡ t ++ rest → Remains a (t ++ rest)
   there t rest e = record { known = remains.known; are = remains.are ∙ e }
 
@@ -59,19 +59,19 @@ module _ (stream : Option StreamFormat) (bytes : List ℕ) (a b : State ℕ) (re
     | inr (inr x) ↦ absurd (never x.1)
   ]
 
-  slice_none_iff_eof : (r : FrameAnswer) → NoneIsEof 2 r a b → ((xs : List ℕ) → Remains a xs → length xs < 2 → ((r ≡ Ok None) × Remains b []) ⊎ HasFailed r a b) → SliceFrameNoneIffEof bytes r
+  slice_none_iff_eof : (r : FrameAnswer) → NoneIsEof 2 r a b → ((xs : List ℕ) → Remains a xs → length xs < 2 → ((r ≡ Ok None) × Remains b []) ⊎ ReadFailed r a b) → SliceFrameNoneIffEof bytes r
   slice_none_iff_eof r h k = (λ e. only_few r h e, λ few. elim (k bytes remains few) [ inl p ↦ p.0 | inr f ↦ absurd (never f.1) ])
     where
       only_few : (r : FrameAnswer) → NoneIsEof 2 r a b → r ≡ Ok None → length bytes < 2
       only_few r h e = let n : None ≡ None → RemainingIsKnown a → (length a.remaining < 2) × Remains b [] = rw e at h in subst (λ (s : List ℕ). length s < 2) remains.are (n refl remains.known).0
 
-  pub slice_frame_promises : (r : FrameAnswer) → ReadsFrame stream r a b → ((xs : List ℕ) → Remains a xs → length xs < 2 → ((r ≡ Ok None) × Remains b []) ⊎ HasFailed r a b) → SliceFramePromises stream bytes r
+  pub slice_frame_promises : (r : FrameAnswer) → ReadsFrame stream r a b → ((xs : List ℕ) → Remains a xs → length xs < 2 → ((r ≡ Ok None) × Remains b []) ⊎ ReadFailed r a b) → SliceFramePromises stream bytes r
   slice_frame_promises r h eof_is_none = record {
-    sound = slice_frame_sound r h.promises.sound;
-    complete = slice_frame_complete r h.promises.complete;
+    sound = slice_frame_sound r h.promises.is_sound;
+    complete = slice_frame_complete r h.promises.is_complete;
     eof = slice_none_iff_eof r h.promises.none_is_eof eof_is_none;
-    fault = slice_fault_sound r h.promises.fault;
-    named = slice_fault_complete r h.promises.named;
+    fault = slice_fault_sound r h.promises.fault_is_sound;
+    named = slice_fault_complete r h.promises.fault_is_complete;
     memory = λ s. begins_with_consumed a b bytes remains (h.memory s);
   }
 
@@ -97,7 +97,7 @@ slice_remains reader c slice e at is =
     new_cursor_remains (λ (s : Bor (List ℕ)). s.now) (frame_input reader) slice (ap (λ (z : Cursor (Bor (List ℕ))). cursor_position z) e ∙ at) (ap (λ (z : Cursor (Bor (List ℕ))). cursor_inner z) e ∙ is)
 
 -- and no read of it fails
-pub slice_never_fails : (old new : SliceFrames) → FailedIn (slice_bytes old) (slice_bytes new) → ⊥
+pub slice_never_fails : (old new : SliceFrames) → ReadFailedIn (slice_bytes old) (slice_bytes new) → ⊥
 slice_never_fails old new = cursor_never_fails (λ (s : Bor (List ℕ)). s.now) (frame_input old) (frame_input new)
 
 -- the bytes that its cursor didn't consume remain

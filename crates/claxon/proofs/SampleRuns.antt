@@ -5,7 +5,7 @@ use Rattle.std.specs.Prelude.{Bool, IsOkAnd, IsSomeAnd, MatchBool, Option, None,
 use Rattle.std.proofs.lemmas.List.{append-nil, append_cancel_left, length-append}
 use Rattle.claxon_format.specs.Bits.{bits, bits_of}
 use Rattle.claxon_format.specs.Fault.{Fault}
-use Rattle.claxon_format.specs.Frame.{StreamFormat, Block, Frame, FrameBytesFault, Frames, NoFrameLeft, IsWidth, known_width}
+use Rattle.claxon_format.specs.Frame.{StreamFormat, Block, Frame, FrameBytesFault, Frames, NoFrameLeft, IsBitDepth, known_bit_depth}
 use Rattle.claxon_format.specs.Crc.{crc16}
 use Rattle.claxon_format.specs.Heads.{HeadCode}
 use Rattle.claxon_format.specs.read.Reading.{Faulty, Incomplete}
@@ -20,7 +20,7 @@ use Rattle.claxon_input.specs.declared.input.BufferedReader.{BufferedReader}
 use Rattle.claxon_input.specs.BufferedReader.{buffered_source}
 use Rattle.claxon_input.specs.Source.{Source}
 use Rattle.claxon_input.specs.State.{State, bytes_in, RemainingIsKnown}
-use Rattle.claxon_input.specs.Gives.{FailedIn, Consumes}
+use Rattle.claxon_input.specs.Gives.{ReadFailedIn, Consumes}
 use Rattle.claxon_input.specs.Promises.{Remains, IsExcused, Consumed}
 use Rattle.claxon_input.proofs.ConsecutiveCalls.{consumes_none, consumes_then, consumes_known}
 use Rattle.claxon_frame.specs.Block.{BlockValue}
@@ -47,7 +47,7 @@ takes_none stream a = record { consumed = consumes_none a _ refl }
 
 pub takes_more : {stream : Option StreamFormat} {blocks : List Block} (block : BlockValue) {a b c : State ℕ} → ConsumesFrames stream blocks a b → ReadsFrame stream (Ok (Some block)) b c → ConsumesFrames stream (blocks ++ block_view block ∷ []) a c
 takes_more {stream = stream} {blocks = blocks} block h k =
-    let w = consumes_known (λ s m. (t : List ℕ) × Frame stream (block_view block) t × (s ≡ t ++ m)) k.gives (λ is_known p. (k.promises.sound is_known).1) in
+    let w = consumes_known (λ s m. (t : List ℕ) × Frame stream (block_view block) t × (s ≡ t ++ m)) k.gives (λ is_known p. (k.promises.is_sound is_known).1) in
     record { consumed = consumes_then _ h.consumed w (λ p q. frames_add stream blocks (block_view block) _ _ _ q.0 p q.1 q.2) }
 
 -- ---- calls for samples
@@ -171,8 +171,8 @@ short_no_frame stream r short b t u c e =
     omega arith
 
 -- nor with a fault
-pub short_no_fault : (stream : Option StreamFormat) → IsWidth (known_width stream) → (r : List ℕ) → length r < 2 → (f : Fault) (t u : List ℕ) → FrameBytesFault stream f t → r ≡ t ++ u → ⊥
-short_no_fault stream width r short f t u bad e = let q : Faulty f u ≡ Incomplete = sym ((Reads-frame_bytes stream width).bad_again f t u bad) ∙ ap (frame_bytes_at stream) (sym e) ∙ incomplete_frame stream r short in cc
+pub short_no_fault : (stream : Option StreamFormat) → IsBitDepth (known_bit_depth stream) → (r : List ℕ) → length r < 2 → (f : Fault) (t u : List ℕ) → FrameBytesFault stream f t → r ≡ t ++ u → ⊥
+short_no_fault stream bit_depth r short f t u bad e = let q : Faulty f u ≡ Incomplete = sym ((Reads-frame_bytes stream bit_depth).bad_again f t u bad) ∙ ap (frame_bytes_at stream) (sym e) ∙ incomplete_frame stream r short in cc
 
 -- after the last frame fewer than two bytes remain
 few_left : {stream : Option StreamFormat} {blocks : List Block} {a b : State ℕ} (h : ReadsFrames stream blocks (Ok None) a b) → RemainingIsKnown a → length h.between.remaining < 2
@@ -181,7 +181,7 @@ few_left h is_known = (h.last.promises.none_is_eof refl (h.blocks_are.consumed.k
 -- ---- where the frames of blocks remain, and then no frame
 
 -- where a source failed after consuming something, it failed
-failed_after : {X : Type 0} {P : List X → List X → Type 0} {a b : State X} (c : State X) → Consumes a b P → FailedIn b c → FailedIn a c
+failed_after : {X : Type 0} {P : List X → List X → Type 0} {a b : State X} (c : State X) → Consumes a b P → ReadFailedIn b c → ReadFailedIn a c
 failed_after c w (inl f) = inl (λ p. f (p ∙ sym w.errors))
 failed_after c w (inr f) = inr ((λ p. f.0 (p ∙ sym w.empty_reads)), f.1)
 
@@ -193,10 +193,10 @@ not_found : (P : BlockValue → Type 0) (end : Option Error) → IsOkAnd (end_fo
 not_found P None h = h
 not_found P (Some e) h = h
 
-module _ (stream : Option StreamFormat) (width : IsWidth (known_width stream)) where
+module _ (stream : Option StreamFormat) (bit_depth : IsBitDepth (known_bit_depth stream)) where
   -- where the bytes begin with a fault they begin with no frame
   pub fault_no_frame : (f : Fault) (s t rest : List ℕ) → FrameBytesFault stream f t → s ≡ t ++ rest → NoFrameLeft stream s
-  fault_no_frame f s t rest bad e block u v c p = (frames_unambiguous stream width).no_fault block f u t v rest c bad (sym p ∙ e)
+  fault_no_frame f s t rest bad e block u v c p = (frames_unambiguous stream bit_depth).no_fault block f u t v rest c bad (sym p ∙ e)
 
   -- of two runs of frames one continues where the other ends
   pub frames_either : (s m n : List ℕ) (done blocks : List Block) → Frames stream s done m → Frames stream s blocks n
@@ -204,7 +204,7 @@ module _ (stream : Option StreamFormat) (width : IsWidth (known_width stream)) w
   frames_either s m n [] blocks d f = inl (blocks, refl, subst (λ (z : List ℕ). Frames stream z blocks n) d f)
   frames_either s m n (x ∷ done) [] d f = inr (x ∷ done, refl, subst (λ (z : List ℕ). Frames stream z (x ∷ done) m) f d)
   frames_either s m n (x ∷ done) (y ∷ blocks) d f =
-      let p = one_block stream width x y d.0 f.0 d.1 f.1 d.2 f.2 (sym d.3 ∙ f.3) in
+      let p = one_block stream bit_depth x y d.0 f.0 d.1 f.1 d.2 f.2 (sym d.3 ∙ f.3) in
       let l : d.1 ≡ f.1 = append_cancel_left d.0 d.1 f.1 (sym d.3 ∙ f.3 ∙ ap (λ (z : List ℕ). z ++ f.1) (sym p.1)) in
       elim (frames_either f.1 m n done blocks (subst (λ (z : List ℕ). Frames stream z done m) l d.4) f.4) [
         | inl q ↦ inl (q.0, ap₂ (λ (z : Block) (zs : List Block). z ∷ zs) (sym p.0) q.1, q.2)
@@ -229,7 +229,7 @@ module _ (stream : Option StreamFormat) (width : IsWidth (known_width stream)) w
     where
       go : (others : List Block) → blocks ≡ done ++ others → Frames stream h.between.remaining others m → ((blocks ≡ done) × Remains h.between m) ⊎ IsExcused (end_found end) a b
       go [] e g = inl (e ∙ append-nil done, record { known = (h.blocks_are.consumed.known is_known).known; are = g })
-      go (o ∷ others) e g = elim (h.last.promises.complete o g.0 g.1 g.2 (record { known = (h.blocks_are.consumed.known is_known).known; are = g.3 })) [
+      go (o ∷ others) e g = elim (h.last.promises.is_complete o g.0 g.1 g.2 (record { known = (h.blocks_are.consumed.known is_known).known; are = g.3 })) [
         | inl p ↦ absurd (not_found _ end p.0)
         | inr x ↦ inr (excused_after b (end_found end) h.blocks_are.consumed x)
       ]

@@ -9,7 +9,7 @@ use Rattle.claxon_format.specs.Streams.{duration_of, interleave}
 use Rattle.claxon_format.proofs.Streams.{interleaved, length-interleave}
 use Rattle.claxon_input.specs.declared.error.Error.{Error}
 use Rattle.claxon_input.specs.State.{State}
-use Rattle.claxon_input.specs.Promises.{FoundIsComplete, Remains, ElseIoErrorFrom, HasFailed, LeavesRest, FaultIsComplete, NoneIsEof, FaultIsSound, FoundIsSound}
+use Rattle.claxon_input.specs.Promises.{FoundIsComplete, Remains, ElseIoErrorFrom, ReadFailed, LeavesRest, FaultIsComplete, NoneIsEof, FaultIsSound, FoundIsSound}
 use Rattle.claxon_frame.specs.Block.{BlockValue}
 use Rattle.claxon_input.specs.Gives.{GivesOrEofOrOutOfMemory}
 use Rattle.claxon_frame.specs.FrameReader.{FrameAnswer, OutOfMemoryBeyondCapacity, ReadsFrame, block_view}
@@ -24,19 +24,19 @@ any_capacity stream capacity r a b h out_of_memory is_known =
     (k.0, (t.0, (t.1.0, t.1.1, omega arith), t.2))
 
 pub reads_frame : {stream : Option StreamFormat} {r : FrameAnswer} {a b : State ℕ} (capacity : ℕ) → FoundIsSound block_view r (Frame stream) a b → FoundIsComplete block_view r (Frame stream) a b → NoneIsEof 2 r a b
-    → ((xs : List ℕ) → Remains a xs → length xs < 2 → ((r ≡ Ok None) × Remains b []) ⊎ HasFailed r a b) → IfOk r (λ found. b.source.errors ≡ a.source.errors) → FaultIsSound r (FrameBytesFault stream) a b → FaultIsComplete r (FrameBytesFault stream) a b
+    → ((xs : List ℕ) → Remains a xs → length xs < 2 → ((r ≡ Ok None) × Remains b []) ⊎ ReadFailed r a b) → IfOk r (λ found. b.source.errors ≡ a.source.errors) → FaultIsSound r (FrameBytesFault stream) a b → FaultIsComplete r (FrameBytesFault stream) a b
     → ElseIoErrorFrom 2 r (Frame stream) (FrameBytesFault stream) a b → LeavesRest r a b → OutOfMemoryBeyondCapacity stream capacity r a b → GivesOrEofOrOutOfMemory 2 block_view r (frame_bytes_at stream) a b → ReadsFrame stream r a b
 reads_frame {stream = stream} {r = r} {a = a} {b = b} capacity sound complete none_is_eof eof_is_none no_failure fault named io front memory gives = record {
   promises = record {
-    sound = sound;
-    complete = complete;
+    is_sound = sound;
+    is_complete = complete;
     none_is_eof = none_is_eof;
     eof_is_none = λ xs c few. elim (eof_is_none xs c few) [ inl h ↦ inl h | inr f ↦ inr (inr f) ];
-    no_failure = no_failure;
-    fault = fault;
-    named = named;
-    io = io;
-    front = front;
+    failure_is_err = no_failure;
+    fault_is_sound = fault;
+    fault_is_complete = named;
+    else_io_error = io;
+    leaves_rest = front;
   };
   memory = any_capacity stream capacity r a b memory;
   gives = gives;

@@ -11,7 +11,7 @@ use Rattle.claxon_frame.specs.FrameReader.{frame_input}
 use Rattle.claxon_metadata.specs.declared.metadata.streaminfo.StreamInfo.{StreamInfo}
 use Rattle.claxon_format.specs.Comments.{Comment}
 use Rattle.claxon_format.specs.Heads.{Head}
-use Rattle.claxon_format.specs.Pairs.{pairs}
+use Rattle.claxon_format.specs.Tags.{tags_of_entries}
 use Rattle.claxon.specs.ReadHead.{head_view}
 use Rattle.claxon.specs.contracts.reader.FlacReader.{the_row}
 
@@ -38,7 +38,7 @@ comment_vendor (Some comment) = Some comment.vendor
 
 abbrev pub comment_tags : Option Comment → List (List ℕ × List ℕ)
 comment_tags None = []
-comment_tags (Some comment) = pairs comment.entries
+comment_tags (Some comment) = tags_of_entries comment.entries
 
 -- the vendor string that is shown
 abbrev pub vendor_of : {R A : Type 0} → FlacReader R A → Option (List ℕ)

@@ -1,6 +1,22 @@
--- The answer of a call for the frame that bytes in memory begin with. No read of them fails, so the only excuse is
--- `OutOfMemory`, and that only after a frame header.
-use Rattle.std.specs.Prelude.{◌≡◌, ◌⊎◌, ◌↔◌, ◌<◌, ℕ, List, length, Option, None, IfOk, IfSome, IsOkAnd, IsErrAnd, IsSomeAnd, Ok}
+-- The answer of a call for the frame that bytes in memory begin with. No read of them fails, so the
+-- only excuse is `OutOfMemory`, and that only after a frame header.
+use Rattle.std.specs.Prelude.{
+  ◌≡◌,
+  ◌⊎◌,
+  ◌↔◌,
+  ◌<◌,
+  ℕ,
+  List,
+  length,
+  Option,
+  None,
+  IfOk,
+  IfSome,
+  IsOkAnd,
+  IsErrAnd,
+  IsSomeAnd,
+  Ok,
+}
 use Rattle.claxon.specs.Fault.{Fault}
 use Rattle.claxon.specs.Frame.{StreamFormat, Block, Frame, FrameBytesFault}
 use Rattle.claxon.specs.Error.{IsFault}

@@ -1,5 +1,23 @@
 -- Samples that are stored interleaved.
-use Rattle.std.specs.Prelude.{◌≡◌, ℕ, ◌+◌, ◌-◌, ◌*◌, ◌<◌, ℤ, pos, List, [], ◌∷◌, ◌++◌, length, take, drop, get_or, refl}
+use Rattle.std.specs.Prelude.{
+  ◌≡◌,
+  ℕ,
+  ◌+◌,
+  ◌-◌,
+  ◌*◌,
+  ◌<◌,
+  ℤ,
+  pos,
+  List,
+  [],
+  ◌∷◌,
+  ◌++◌,
+  length,
+  take,
+  drop,
+  get_or,
+  refl,
+}
 use Rattle.std.specs.Int.{cast_unsigned, to_le_bytes, w32}
 use Rattle.std.specs.List.{flat_map, range_with_len}
 use Rattle.claxon_format.specs.Streams.{samples_at}
@@ -20,7 +38,8 @@ length-sample_bytes x = refl
 unfoldable pub interleave_range : List (List ℤ) → ℕ → ℕ → List ℤ
 interleave_range channels from count = flat_map (samples_at channels) (range_with_len from count)
 
--- the units of the interchannel samples from index `from` up to `to`, where `units` are those of a sample
+-- the units of the interchannel samples from index `from` up to `to`, where `units` are those of
+-- a sample
 abbrev pub stored_between : {U : Type 0} → (ℤ → List U) → List (List ℤ) → ℕ → ℕ → List U
 stored_between units channels from to =
     flat_map units (interleave_range channels from (to - from))
@@ -34,8 +53,8 @@ abbrev pub PutAfter : {U : Type 0} → ℕ → ℕ → ℕ → List U → List U
 PutAfter size at i put old new =
     take (at + length put) (nth_chunk size i new) ≡ take at (nth_chunk size i old) ++ put
 
--- In each interchannel sample the sample of channel `ch` is put after those of the channels before it. A sample has `size`
--- units.
+-- In each interchannel sample the sample of channel `ch` is put after those of the channels before
+-- it. A sample has `size` units.
 abbrev pub PutsChannel : {U : Type 0} → (ℤ → List U) → ℕ → List ℤ → ℕ → ℕ → List U → List U → Type 0
 PutsChannel units size samples ch channels old new =
     (i : ℕ) → i < length samples → PutAfter (size * channels) (size * ch) i

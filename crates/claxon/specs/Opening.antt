@@ -1,5 +1,21 @@
--- What opening a stream does to the reader that is passed in, which is kept, or dropped after an Err.
-use Rattle.std.specs.Prelude.{◌≡◌, ℕ, Bool, false, ◌⊎◌, List, [], ◌++◌, Option, None, IfOk, IsOkAnd, IsErrAnd, Result}
+-- What opening a stream does to the reader that is passed in, which is kept, or dropped after an
+-- Err.
+use Rattle.std.specs.Prelude.{
+  ◌≡◌,
+  ℕ,
+  Bool,
+  false,
+  ◌⊎◌,
+  List,
+  [],
+  ◌++◌,
+  Option,
+  None,
+  IfOk,
+  IsOkAnd,
+  IsErrAnd,
+  Result,
+}
 use Rattle.std.specs.declared.fs.File.{File}
 use Rattle.claxon_format.specs.Fault.{Fault}
 use Rattle.claxon_input.specs.declared.error.Error.{Error}
@@ -58,12 +74,14 @@ NoReadFailed remaining result =
     IfOk result (λ flac. ((flac_bytes remaining flac).source.errors ≡ 0)
     × ((flac_bytes remaining flac).source.empty_reads ≡ 0))
 
--- The answer is `OutOfMemory` or an `IoError`. The reader was dropped, so its counts of failed reads are gone.
+-- The answer is `OutOfMemory` or an `IoError`. The reader was dropped, so its counts of failed
+-- reads are gone.
 abbrev pub IsMemoryOrIoError : {X : Type 0} → Result X Error → Type 0
 IsMemoryOrIoError result = IsOutOfMemory result ⊎ IsErrAnd result IsIo
 
 -- `reader` is the one that was passed in.
-module _ {R A : Type 0} (remaining : R → Option (List ℕ)) (o : Options) (reader : R) (result : OpenAnswer R A) where
+module _ {R A : Type 0} (remaining : R → Option (List ℕ)) (o : Options) (reader : R)
+    (result : OpenAnswer R A) where
   -- The head that is shown is one under these options, and its bytes alone were consumed.
   abbrev pub OpenIsSound : Type 0
   OpenIsSound =
@@ -71,7 +89,8 @@ module _ {R A : Type 0} (remaining : R → Option (List ℕ)) (o : Options) (rea
       Consumed (unread (remaining reader)) (flac_bytes remaining flac)
       (HeadCode o (flac_head flac)))
 
-  -- Where the bytes begin with a head, whatever follows, it is shown and alone consumed, or there is one of these errors.
+  -- Where the bytes begin with a head, whatever follows, it is shown and alone consumed, or
+  -- there is one of these errors.
   abbrev pub OpenIsComplete : Type 0
   OpenIsComplete =
       (h : Head) (t rest : List ℕ) → HeadCode o h t

@@ -1,9 +1,34 @@
--- The head of a stream (RFC 9639, sections 6 and 8) as the code returns it, and its reader split as the code is split.
-use Rattle.std.specs.Prelude.{◌≡◌, ◌++◌, ℕ, Bool, false, List, [], Option, Some, None, Result, IfOk, IfSome}
+-- The head of a stream (RFC 9639, sections 6 and 8) as the code returns it, and its reader split
+-- as the code is split.
+use Rattle.std.specs.Prelude.{
+  ◌≡◌,
+  ◌++◌,
+  ℕ,
+  Bool,
+  false,
+  List,
+  [],
+  Option,
+  Some,
+  None,
+  Result,
+  IfOk,
+  IfSome,
+}
 use Rattle.claxon_format.specs.read.MetadataBlocks.{block_at}
 use Rattle.claxon_format.specs.Comments.{Comment}
 use Rattle.claxon_format.specs.Fault.{SecondComment, SecondStreaminfo}
-use Rattle.claxon_format.specs.Heads.{Options, Head, HeadCode, HeadFault, Marker, is_info, is_second, found_with, stream_marker}
+use Rattle.claxon_format.specs.Heads.{
+  Options,
+  Head,
+  HeadCode,
+  HeadFault,
+  Marker,
+  is_info,
+  is_second,
+  found_with,
+  stream_marker,
+}
 use Rattle.claxon_format.specs.read.Heads.{head_at}
 use Rattle.claxon_format.specs.Metadata.{BlockHeader, BlockHeaderCode}
 use Rattle.claxon_format.specs.MetadataBlocks.{MetadataBlock as Block, BlockCode, Content}
@@ -13,10 +38,23 @@ use Rattle.claxon_input.specs.declared.error.Error.{Error}
 use Rattle.claxon_input.specs.declared.input.BufferedReader.{BufferedReader}
 use Rattle.claxon_input.specs.BufferedReader.{buffered_source}
 use Rattle.claxon_input.specs.Gives.{Gives, GivesOrOutOfMemory}
-use Rattle.claxon_input.specs.Promises.{IsOutOfMemory, CodeIsSound, CodeIsComplete, FaultIsSound, FaultIsComplete, ElseIoError, LeavesRest}
+use Rattle.claxon_input.specs.Promises.{
+  IsOutOfMemory,
+  CodeIsSound,
+  CodeIsComplete,
+  FaultIsSound,
+  FaultIsComplete,
+  ElseIoError,
+  LeavesRest,
+}
 use Rattle.claxon_input.specs.Source.{Source}
 use Rattle.claxon_input.specs.State.{State, bytes_in, RemainingIsKnown}
-use Rattle.claxon_metadata.specs.MetadataBlock.{HasBounds, MayRunOutOfMemory, content_view, info_view}
+use Rattle.claxon_metadata.specs.MetadataBlock.{
+  HasBounds,
+  MayRunOutOfMemory,
+  content_view,
+  info_view,
+}
 use Rattle.claxon_metadata.specs.VorbisComment.{comment_view}
 use Rattle.claxon_metadata.specs.TagEntries.{HaveSeparatorIndices}
 use Rattle.claxon.specs.declared.head.FlacReaderOptions.{FlacReaderOptions}
@@ -45,7 +83,9 @@ other_view other = (other.0, found_view other.1)
 -- a block after the streaminfo, where these comments were found before it
 unfoldable pub other_at : Option Comment → List ℕ → Reading ℕ (Bool × Option Comment)
 other_at found =
-    and_then block_at (λ b. test (is_info b.content) SecondStreaminfo (test (is_second found b.content) SecondComment (done (b.is_last, found_with found b.content))))
+    and_then block_at (λ b.
+    test (is_info b.content) SecondStreaminfo (
+    test (is_second found b.content) SecondComment (done (b.is_last, found_with found b.content))))
 
 -- the comments found so far, with those of this content
 abbrev pub comments_at : Option Comment → Content → List ℕ → Reading ℕ (Option Comment)
@@ -53,15 +93,17 @@ comments_at found c =
     test (is_info c) SecondStreaminfo
     (test (is_second found c) SecondComment (done (found_with found c)))
 
--- What is returned for a block is what the format's reader gives for its content, and nothing is consumed.
+-- What is returned for a block is what the format's reader gives for its content, and nothing is
+-- consumed.
 abbrev pub CommentsAreFound : {A : Type 0} → Option (VorbisComment A) → MetadataBlock A
     → Result (Option (VorbisComment A)) Error → Type 0
 CommentsAreFound found block result =
     (here : State ℕ)
     → Gives found_view result (comments_at (found_view found) (content_view block)) here here
 
--- Memory may be needed for s: it begins with a front of this kind, then whole blocks, and then the header of an application
--- or comment block of valid length, in a comment block followed by a vendor length that fits.
+-- Memory may be needed for s: it begins with a front of this kind, then whole blocks, and then the
+-- header of an application or comment block of valid length, in a comment block followed by a
+-- vendor length that fits.
 pub record MemoryMayBeNeeded (Front : List ℕ → Type 0) (s : List ℕ) : Type 0 where
   pub front : List ℕ
   pub blocks : List Block
@@ -107,8 +149,8 @@ CommentHasSeparatorIndices result =
 abbrev pub HeadHasCommentIfRead : {A : Type 0} → Bool → HeadAnswer A → Type 0
 HeadHasCommentIfRead read result = IfOk result (λ shown. read ≡ false → shown.1 ≡ None)
 
--- `OutOfMemory` only after the marker, whole blocks and the header of an application or comment block of valid length, in a
--- comment block only after a vendor length that fits.
+-- `OutOfMemory` only after the marker, whole blocks and the header of an application or comment
+-- block of valid length, in a comment block only after a vendor length that fits.
 abbrev pub HeadOutOfMemoryAfterHeader : {R A : Type 0} → (R → Source ℕ) → R → Result A Error
     → Type 0
 HeadOutOfMemoryAfterHeader source old result =
@@ -120,14 +162,16 @@ abbrev pub HeadLeavesRest : {R Z : Type 0} → (R → Source ℕ) → R → Head
 HeadLeavesRest source old result new = LeavesRest result (bytes_in source old) (bytes_in source new)
 
 -- `old` and `new` are the reader before and after the call.
-module _ {R Z : Type 0} (source : R → Source ℕ) (options : FlacReaderOptions) (old : R) (result : HeadAnswer Z) (new : R) where
+module _ {R Z : Type 0} (source : R → Source ℕ) (options : FlacReaderOptions) (old : R)
+    (result : HeadAnswer Z) (new : R) where
   -- What was consumed is a head under these options, and it is returned.
   abbrev pub HeadIsSound : Type 0
   HeadIsSound =
       CodeIsSound head_view result (HeadCode (options_view options)) (bytes_in source old)
       (bytes_in source new)
 
-  -- Where the bytes begin with a head, whatever follows, it is returned and alone consumed, or memory or the source failed.
+  -- Where the bytes begin with a head, whatever follows, it is returned and alone consumed, or
+  -- memory or the source failed.
   abbrev pub HeadIsComplete : Type 0
   HeadIsComplete =
       CodeIsComplete head_view result (HeadCode (options_view options)) (bytes_in source old)
@@ -139,7 +183,8 @@ module _ {R Z : Type 0} (source : R → Source ℕ) (options : FlacReaderOptions
       FaultIsSound result (HeadFault (options_view options)) (bytes_in source old)
       (bytes_in source new)
 
-  -- Where the bytes begin with a fault it is named and alone consumed, or memory or the source failed.
+  -- Where the bytes begin with a fault it is named and alone consumed, or memory or the source
+  -- failed.
   abbrev pub HeadFaultIsComplete : Type 0
   HeadFaultIsComplete =
       FaultIsComplete result (HeadFault (options_view options)) (bytes_in source old)

@@ -6,7 +6,27 @@ ghost use Rattle.claxon_input.specs.State.{bytes_in};
 ghost use Rattle.claxon_input.specs.Gives.{Gives, GivesOrOutOfMemory};
 ghost use Rattle.claxon_metadata.specs.MetadataBlock.{BlockHasBounds, OutOfMemoryAfterBlockHeader};
 ghost use Rattle.claxon_metadata.specs.TagEntries.{HaveSeparatorIndices};
-ghost use Rattle.claxon.specs.ReadHead.{CommentHasSeparatorIndices, CommentsAreFound, HeadFaultIsComplete, HeadIsComplete, HeadFaultIsSound, HeadHasCommentIfRead, HeadIsRead, HeadLeavesRest, HeadOutOfMemoryAfterHeader, HeadIsSound, InfoHasBounds, HeadElseIoError, OutOfMemoryAfterBlocks, found_view, head_view, max_other_blocks, other_at, other_view, options_view};
+ghost use Rattle.claxon.specs.ReadHead.{
+  CommentHasSeparatorIndices,
+  CommentsAreFound,
+  HeadFaultIsComplete,
+  HeadIsComplete,
+  HeadFaultIsSound,
+  HeadHasCommentIfRead,
+  HeadIsRead,
+  HeadLeavesRest,
+  HeadOutOfMemoryAfterHeader,
+  HeadIsSound,
+  InfoHasBounds,
+  HeadElseIoError,
+  OutOfMemoryAfterBlocks,
+  found_view,
+  head_view,
+  max_other_blocks,
+  other_at,
+  other_view,
+  options_view,
+};
 
 use crate::error::{Error, Result};
 use crate::input::ReadBytes;
@@ -61,17 +81,21 @@ pub fn read_head<R: ReadBytes, A: Allocator + Copy>(
     input: &mut R,
     options: FlacReaderOptions,
 ) -> Result<(StreamInfo, Option<VorbisComment<A>>)>
-    ensures bounds { InfoHasBounds result }
-    ensures places { CommentHasSeparatorIndices result }
-    ensures comment { HeadHasCommentIfRead options.read_vorbis_comment result }
-    ensures memory { HeadOutOfMemoryAfterHeader R.source input.old result }
-    ensures sound { HeadIsSound R.source options input.old result input.new }
-    ensures complete { HeadIsComplete R.source options input.old result input.new }
-    ensures fault { HeadFaultIsSound R.source options input.old result input.new }
-    ensures named { HeadFaultIsComplete R.source options input.old result input.new }
-    ensures io { HeadElseIoError R.source options input.old result input.new }
-    ensures front { HeadLeavesRest R.source input.old result input.new }
-    ensures gives { HeadIsRead R.source options input.old result input.new }
+    // What it returns, and consumes.
+    ensures is_sound { HeadIsSound R.source options input.old result input.new }
+    ensures is_complete { HeadIsComplete R.source options input.old result input.new }
+    ensures fault_is_sound { HeadFaultIsSound R.source options input.old result input.new }
+    ensures fault_is_complete { HeadFaultIsComplete R.source options input.old result input.new }
+    ensures else_io_error { HeadElseIoError R.source options input.old result input.new }
+    ensures leaves_rest { HeadLeavesRest R.source input.old result input.new }
+    // What holds of it.
+    ensures has_bounds { InfoHasBounds result }
+    ensures has_separator_indices { CommentHasSeparatorIndices result }
+    ensures has_comment_if_read { HeadHasCommentIfRead options.read_vorbis_comment result }
+    // Memory.
+    ensures out_of_memory_after_header { HeadOutOfMemoryAfterHeader R.source input.old result }
+    // What callers' proofs need.
+    ensures is_read { HeadIsRead R.source options input.old result input.new }
 {
     read_head_exact(alloc, input, options)
 }
@@ -82,10 +106,10 @@ fn read_head_exact<R: ReadBytes, A: Allocator + Copy>(
     input: &mut R,
     options: FlacReaderOptions,
 ) -> Result<(StreamInfo, Option<VorbisComment<A>>)>
-    ensures bounds { InfoHasBounds result }
-    ensures places { CommentHasSeparatorIndices result }
-    ensures comment { HeadHasCommentIfRead options.read_vorbis_comment result }
-    ensures memory { HeadOutOfMemoryAfterHeader R.source input.old result }
+    ensures has_bounds { InfoHasBounds result }
+    ensures has_separator_indices { CommentHasSeparatorIndices result }
+    ensures has_comment_if_read { HeadHasCommentIfRead options.read_vorbis_comment result }
+    ensures out_of_memory_after_header { HeadOutOfMemoryAfterHeader R.source input.old result }
     ensures gives { GivesOrOutOfMemory head_view result (head_at (options_view options))
         (bytes_in R.source input.old) (bytes_in R.source input.new) }
 {
@@ -128,7 +152,7 @@ fn read_other_blocks<R: ReadBytes, A: Allocator + Copy>(
 ) -> Result<Option<VorbisComment<A>>>
     ensures places { IfOk result (λ found.
         IfSome found (λ comment. HaveSeparatorIndices comment.comments.items)) }
-    ensures memory { OutOfMemoryAfterBlocks result (bytes_in R.source input.old) }
+    ensures out_of_memory_after_blocks { OutOfMemoryAfterBlocks result (bytes_in R.source input.old) }
     ensures gives { GivesOrOutOfMemory found_view result
         (others_at comments_suffice max_other_blocks None)
         (bytes_in R.source input.old) (bytes_in R.source input.new) }
@@ -155,7 +179,8 @@ fn read_other_block<R: ReadBytes, A: Allocator + Copy>(
     requires { IfSome found (λ comment. HaveSeparatorIndices comment.comments.items) }
     ensures places { IfOk result (λ other.
         IfSome other.1 (λ comment. HaveSeparatorIndices comment.comments.items)) }
-    ensures memory { OutOfMemoryAfterBlockHeader result (bytes_in R.source input.old) }
+    ensures out_of_memory_after_block_header { OutOfMemoryAfterBlockHeader result
+        (bytes_in R.source input.old) }
     ensures gives { GivesOrOutOfMemory other_view result (other_at (found_view found))
         (bytes_in R.source input.old) (bytes_in R.source input.new) }
 {
@@ -168,11 +193,11 @@ fn comments_with<A: Allocator>(
     block: MetadataBlock<A>,
     found: Option<VorbisComment<A>>,
 ) -> Result<Option<VorbisComment<A>>>
-    requires block { BlockHasBounds block }
+    requires block_has_bounds { BlockHasBounds block }
     requires found { IfSome found (λ comment. HaveSeparatorIndices comment.comments.items) }
     ensures places { IfOk result (λ known.
         IfSome known (λ comment. HaveSeparatorIndices comment.comments.items)) }
-    ensures gives { CommentsAreFound found block result }
+    ensures are_found { CommentsAreFound found block result }
 {
     match block {
         MetadataBlock::StreamInfo(_) => {

@@ -1,8 +1,30 @@
 //! Interleaved samples: the first of each channel, the second of each, and so on.
-ghost use Rattle.std.specs.Prelude.{◌≡◌, ℕ, ℤ, List, ◌≤◌, ◌<◌, ◌+◌, ◌-◌, ◌*◌, ◌∷◌, ◌++◌, [], length, refl};
+ghost use Rattle.std.specs.Prelude.{
+  ◌≡◌,
+  ℕ,
+  ℤ,
+  List,
+  ◌≤◌,
+  ◌<◌,
+  ◌+◌,
+  ◌-◌,
+  ◌*◌,
+  ◌∷◌,
+  ◌++◌,
+  [],
+  length,
+  refl,
+};
 ghost use Rattle.std.specs.List.{flat_map};
 ghost use Rattle.claxon_format.specs.Streams.{duration_of};
-ghost use Rattle.claxon.specs.Interleave.{PutsChannel, interleave_range, length-sample_bytes, sample_bytes, sample_itself, stored_between};
+ghost use Rattle.claxon.specs.Interleave.{
+  PutsChannel,
+  interleave_range,
+  length-sample_bytes,
+  sample_bytes,
+  sample_itself,
+  stored_between,
+};
 
 use crate::frame::Block;
 use std::alloc::Allocator;

@@ -2,7 +2,7 @@
 ghost use Rattle.std.specs.Prelude.{Option, Some, ◌≡◌, ◌≤◌, true, false, []};
 ghost use Rattle.std.specs.Option.{ForSome, option_map};
 ghost use Rattle.std.proofs.Props.{props};
-ghost use Rattle.claxon_format.specs.Pairs.{values};
+ghost use Rattle.claxon_format.specs.Tags.{values};
 ghost use Rattle.claxon_metadata.specs.MetadataBlock.{HasBounds};
 ghost use Rattle.claxon_metadata.specs.TagEntries.{HaveSeparatorIndices};
 
@@ -51,11 +51,32 @@ impl<R: Read, A: Allocator + Copy> FlacReader<R, A> {
     ghost use Rattle.std.specs.Borrow.{sem};
     ghost use Rattle.claxon_format.specs.Streams.{with_samples};
     ghost use Rattle.claxon.specs.ReadHead.{options_view};
-    ghost use Rattle.claxon.specs.Opening.{OpenFaultIsComplete, OpenIsComplete, ErrNamesFault, OpenFaultIsSound, OpenIsSound, OpenElseIoError, NoReadFailed, ShowsCommentIfRead, ShowsMetadataOnly};
+    ghost use Rattle.claxon.specs.Opening.{
+      OpenFaultIsComplete,
+      OpenIsComplete,
+      ErrNamesFault,
+      OpenFaultIsSound,
+      OpenIsSound,
+      OpenElseIoError,
+      NoReadFailed,
+      ShowsCommentIfRead,
+      ShowsMetadataOnly,
+    };
     ghost use Rattle.claxon_frame.specs.FrameReader.{frame_input, frame_stream, stream_with};
     ghost use Rattle.claxon_input.specs.BufferedReader.{buffered_inner};
     ghost use Rattle.claxon.specs.FlacSamples.{have_failed, samples_left, samples_stream};
-    ghost use Rattle.claxon.specs.FlacReader.{HasBitDepth, LendsInput, LendsBlocks, LendsSamples, flac_input, flac_metadata_only, flac_streaminfo, samples_input, tags_of, vendor_of};
+    ghost use Rattle.claxon.specs.FlacReader.{
+      HasBitDepth,
+      LendsInput,
+      LendsBlocks,
+      LendsSamples,
+      flac_input,
+      flac_metadata_only,
+      flac_streaminfo,
+      samples_input,
+      tags_of,
+      vendor_of,
+    };
     ghost use Rattle.claxon_metadata.specs.Tags.{remaining_tags, remaining_values};
 
     /// Reads the head of a stream, with the default options.
@@ -76,14 +97,15 @@ impl<R: Read, A: Allocator + Copy> FlacReader<R, A> {
     where
         R: Drop,
         // Its blocks and samples can be read.
-        ensures full { ShowsMetadataOnly false result }
-        ensures text { ErrNamesFault result }
-        ensures no_failure { NoReadFailed R.remaining result }
-        ensures sound { OpenIsSound R.remaining (with_samples true) reader result }
-        ensures complete { OpenIsComplete R.remaining (with_samples true) reader result }
-        ensures fault { OpenFaultIsSound R.remaining (with_samples true) reader result }
-        ensures named { OpenFaultIsComplete R.remaining (with_samples true) reader result }
-        ensures io { OpenElseIoError R.remaining (with_samples true) reader result }
+        ensures shows_metadata_only { ShowsMetadataOnly false result }
+        ensures err_names_fault { ErrNamesFault result }
+        ensures no_read_failed { NoReadFailed R.remaining result }
+        ensures is_sound { OpenIsSound R.remaining (with_samples true) reader result }
+        ensures is_complete { OpenIsComplete R.remaining (with_samples true) reader result }
+        ensures fault_is_sound { OpenFaultIsSound R.remaining (with_samples true) reader result }
+        ensures fault_is_complete { OpenFaultIsComplete R.remaining (with_samples true) reader
+            result }
+        ensures else_io_error { OpenElseIoError R.remaining (with_samples true) reader result }
     {
         FlacReader::new_ext(alloc, reader, FlacReaderOptions::default())
     }
@@ -96,15 +118,16 @@ impl<R: Read, A: Allocator + Copy> FlacReader<R, A> {
     pub fn new_ext(alloc: A, reader: R, options: FlacReaderOptions) -> Result<FlacReader<R, A>>
     where
         R: Drop,
-        ensures metadata_only { ShowsMetadataOnly options.metadata_only result }
-        ensures comment { ShowsCommentIfRead options.read_vorbis_comment result }
-        ensures text { ErrNamesFault result }
-        ensures no_failure { NoReadFailed R.remaining result }
-        ensures sound { OpenIsSound R.remaining (options_view options) reader result }
-        ensures complete { OpenIsComplete R.remaining (options_view options) reader result }
-        ensures fault { OpenFaultIsSound R.remaining (options_view options) reader result }
-        ensures named { OpenFaultIsComplete R.remaining (options_view options) reader result }
-        ensures io { OpenElseIoError R.remaining (options_view options) reader result }
+        ensures shows_metadata_only { ShowsMetadataOnly options.metadata_only result }
+        ensures shows_comment_if_read { ShowsCommentIfRead options.read_vorbis_comment result }
+        ensures err_names_fault { ErrNamesFault result }
+        ensures no_read_failed { NoReadFailed R.remaining result }
+        ensures is_sound { OpenIsSound R.remaining (options_view options) reader result }
+        ensures is_complete { OpenIsComplete R.remaining (options_view options) reader result }
+        ensures fault_is_sound { OpenFaultIsSound R.remaining (options_view options) reader result }
+        ensures fault_is_complete { OpenFaultIsComplete R.remaining (options_view options) reader
+            result }
+        ensures else_io_error { OpenElseIoError R.remaining (options_view options) reader result }
     {
         let mut input = BufferedReader::new(alloc, reader)?;
         let (streaminfo, vorbis_comment) = read_head(alloc, &mut input, options)?;
@@ -125,9 +148,9 @@ impl<R: Read, A: Allocator + Copy> FlacReader<R, A> {
     /// Frames aren't compared with it, and the sum isn't computed.
     pub fn streaminfo(&self) -> StreamInfo
         ensures value { result ≡ flac_streaminfo self.now }
-        ensures bounds { HasBounds result }
+        ensures has_bounds { HasBounds result }
         ensures channels { (1 ≤ result.channels) × (result.channels ≤ 8) }
-        ensures width { HasBitDepth result }
+        ensures has_bit_depth { HasBitDepth result }
     {
         self.head.streaminfo
     }
@@ -243,7 +266,13 @@ impl<R: Read, A: Allocator + Copy> FlacReader<R, A> {
 }
 
 impl FlacReader<File> {
-    ghost use Rattle.claxon.specs.Opening.{ErrNamesFault, NoReadFailed, ShowsCommentIfRead, ShowsMetadataOnly, file_remaining};
+    ghost use Rattle.claxon.specs.Opening.{
+      ErrNamesFault,
+      NoReadFailed,
+      ShowsCommentIfRead,
+      ShowsMetadataOnly,
+      file_remaining,
+    };
 
     /// Opens a file and reads its head, with the default options. The file needs no `BufReader`.
     ///
@@ -259,9 +288,9 @@ impl FlacReader<File> {
         filename: P,
     ) -> Result<FlacReader<File>>
         // Its blocks and samples can be read.
-        ensures full { ShowsMetadataOnly false result }
-        ensures text { ErrNamesFault result }
-        ensures no_failure { NoReadFailed file_remaining result }
+        ensures shows_metadata_only { ShowsMetadataOnly false result }
+        ensures err_names_fault { ErrNamesFault result }
+        ensures no_read_failed { NoReadFailed file_remaining result }
     {
         FlacReader::open_ext(rt, filename, FlacReaderOptions::default())
     }
@@ -276,10 +305,10 @@ impl FlacReader<File> {
         filename: P,
         options: FlacReaderOptions,
     ) -> Result<FlacReader<File>>
-        ensures metadata_only { ShowsMetadataOnly options.metadata_only result }
-        ensures comment { ShowsCommentIfRead options.read_vorbis_comment result }
-        ensures text { ErrNamesFault result }
-        ensures no_failure { NoReadFailed file_remaining result }
+        ensures shows_metadata_only { ShowsMetadataOnly options.metadata_only result }
+        ensures shows_comment_if_read { ShowsCommentIfRead options.read_vorbis_comment result }
+        ensures err_names_fault { ErrNamesFault result }
+        ensures no_read_failed { NoReadFailed file_remaining result }
     {
         let file = File::open(rt, filename)?;
         FlacReader::new_ext(rt.alloc(), file, options)

@@ -32,13 +32,27 @@ impl<R: ReadBytes, A: Allocator + Copy> FlacSamples<R, A> {
     ghost use Rattle.std.specs.Prelude.{[]};
     ghost use Rattle.claxon_format.specs.Streams.{interleave};
     ghost use Rattle.claxon.specs.FlacReader.{samples_input};
-    ghost use Rattle.claxon_frame.specs.FrameReader.{BlockKeepsCapacity, MaxCapacityIsEnough, stream_with};
-    ghost use Rattle.claxon.specs.FlacSamples.{NextBlock, NextSample, NextBlockIsRead, OutOfMemoryForLargerBlock, block_answer, have_failed, samples_left, samples_capacity, samples_stream};
+    ghost use Rattle.claxon_frame.specs.FrameReader.{
+      BlockKeepsCapacity,
+      MaxCapacityIsEnough,
+      stream_with,
+    };
+    ghost use Rattle.claxon.specs.FlacSamples.{
+      NextBlock,
+      NextSample,
+      NextBlockIsRead,
+      OutOfMemoryForLargerBlock,
+      block_answer,
+      have_failed,
+      samples_left,
+      samples_capacity,
+      samples_stream,
+    };
 
     /// The samples of the frames of the stream with this streaminfo, whose bits per sample are 1 to 32.
     pub fn new(alloc: A, input: R, info: StreamInfo) -> FlacSamples<R, A>
-        requires some { 1 ≤ info.bits_per_sample }
-        requires most { info.bits_per_sample ≤ 32 }
+        requires min_bit_depth { 1 ≤ info.bits_per_sample }
+        requires max_bit_depth { info.bits_per_sample ≤ 32 }
         ensures input { samples_input result ≡ input }
         ensures stream { samples_stream result ≡ Some (stream_with info) }
         ensures none_left { samples_left result ≡ [] }
@@ -60,12 +74,12 @@ impl<R: ReadBytes, A: Allocator + Copy> FlacSamples<R, A> {
             (λ more. IsTrue more → self.new.sample < duration_of self.new.block.channels) }
         ensures stream { samples_stream self.new ≡ samples_stream self.old }
         ensures has_failed { have_failed self.new ≡ have_failed self.old }
-        ensures reads { NextBlockIsRead R.source self.old result self.new }
-        ensures memory { OutOfMemoryForLargerBlock R.source self.old
+        ensures is_read { NextBlockIsRead R.source self.old result self.new }
+        ensures out_of_memory_for_larger_block { OutOfMemoryForLargerBlock R.source self.old
             (block_answer result self.new) self.new }
-        ensures enough { MaxCapacityIsEnough (samples_capacity self.old)
+        ensures max_capacity_is_enough { MaxCapacityIsEnough (samples_capacity self.old)
             (block_answer result self.new) }
-        ensures capacity { BlockKeepsCapacity (samples_capacity self.old)
+        ensures keeps_capacity { BlockKeepsCapacity (samples_capacity self.old)
             (block_answer result self.new) }
         ensures none_left { IfOk result (λ more. more ≡ false → samples_left self.new ≡ []) }
         ensures left { IfOk result

@@ -17,13 +17,13 @@ use Rattle.claxon_c.specs.declared.heads.ClaxonInfo.{ClaxonInfo}
 use Rattle.claxon_c.specs.declared.next_block.ClaxonBlock.{ClaxonBlock}
 use Rattle.claxon_c.specs.AtStart.{FrameAtStart, LargerBlockAtStart}
 use Rattle.claxon_c.specs.Info.{known_stream}
-use Rattle.claxon_c.specs.NextBlock.{BlockIsKept, CBlockElseIoError, CBlockFaultIsComplete, CBlockFaultIsSound, CBlockIsComplete, CBlockIsShown, CBlockIsSound, CBlockNoMoreIffEof, CBlockOutOfMemoryAfterHeader, CFrameHeaderFaultIsComplete, CHeaderIsShown, CSamplesAreGiven, CShortIffLarger, IsAtEnd, IsBlockStatus, IsDecoded, IsRefused, IsShort, Layout, NextBlock, PositionIsKept, ShowsBlock, ShowsInfo, TextIsKept}
+use Rattle.claxon_c.specs.NextBlock.{BlockIsKept, CBlockElseIoError, CBlockFaultIsComplete, CBlockFaultIsSound, CBlockIsComplete, CBlockIsShown, CBlockIsSound, CBlockNoMoreIffEof, CBlockOutOfMemoryAfterHeader, CFrameHeaderFaultIsComplete, CHeaderIsShown, CSamplesAreGiven, CShortIffLarger, IsAtEnd, IsBlockStatus, IsDecoded, IsRefused, IsShort, SampleOrder, NextBlock, PositionIsKept, ShowsBlock, ShowsInfo, TextIsKept}
 use Rattle.claxon_c.specs.Status.{TextIsReported, ok}
 use Rattle.claxon_c.proofs.HeadersAtStart.{larger_says, says_larger}
 use Rattle.claxon_c.proofs.Reports.{each_fault_reported, io_error_reported, fault_reported, just_error, error_out_of_memory, out_of_memory_reported, text_reported}
 
 -- all clauses of it
-pub record CBlockPromises (Put : Layout) (info : ClaxonInfo) (bytes : List ℕ) (status from to : ℕ) (old new : List ℤ) (block shown : ClaxonBlock) (before after : List ℕ) : Type 0 where
+pub record CBlockPromises (Put : SampleOrder) (info : ClaxonInfo) (bytes : List ℕ) (status from to : ℕ) (old new : List ℤ) (block shown : ClaxonBlock) (before after : List ℕ) : Type 0 where
   pub sound : CBlockIsSound info bytes from status to
   pub shown_is : CBlockIsShown info bytes from status shown
   pub header : CHeaderIsShown info bytes from status shown
@@ -84,7 +84,7 @@ module _ (stream : Option StreamFormat) (rest : List ℕ) where
 
 -- ---- what is returned
 
-module _ (Put : Layout) (info : ClaxonInfo) (bytes : List ℕ) (from : ℕ) (old : List ℤ) (block shown : ClaxonBlock) (before after : List ℕ) where
+module _ (Put : SampleOrder) (info : ClaxonInfo) (bytes : List ℕ) (from : ℕ) (old : List ℤ) (block shown : ClaxonBlock) (before after : List ℕ) where
   abbrev stream : Option StreamFormat
   stream = known_stream info
 

@@ -55,7 +55,7 @@ pub known : (found : StreamInfo) (info : ClaxonInfo) (tags taken : ℕ) → Info
 known found info tags taken shows bounds =
     let some : nat_le 1 found.bits_per_sample ≡ true = search (rules, bounds.some_bits) in
     let most : nat_le found.bits_per_sample 32 ≡ true = search (rules, bounds.bits) in
-    rw (shows.width, shows.min_block_size, shows.max_block_size, some, most) refl
+    rw (shows.bit_depth, shows.min_block_size, shows.max_block_size, some, most) refl
 
 pub shows_head : (found : StreamInfo) (comment : Option (VorbisComment Global)) (info : ClaxonInfo) (tags taken : ℕ) → InfoShows found tags taken info → tags ≡ tag_count (found_view comment) → HasBounds found
     → ShowsHead (head_view (found, comment)) info.first_frame info
@@ -65,7 +65,7 @@ shows_head found comment info tags taken shows count bounds = record {
   samples = shows.samples;
   rate = shows.rate;
   channels = shows.channels;
-  width = shows.width;
+  bit_depth = shows.bit_depth;
   min_block_size = shows.min_block_size;
   max_block_size = shows.max_block_size;
   min_frame_size = shows.min_frame_size;

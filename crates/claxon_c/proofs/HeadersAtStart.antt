@@ -5,7 +5,7 @@ use Rattle.claxon.specs.BlockInfo.{HeaderAnswer, HeaderOf, block_info}
 use Rattle.claxon.specs.BlockInfos.{BlockInfo}
 use Rattle.claxon.specs.Frame.{StreamFormat}
 use Rattle.claxon.specs.FrameReader.{HeaderOfLargerBlock}
-use Rattle.claxon.specs.Gives.{FailedIn}
+use Rattle.claxon.specs.Gives.{ReadFailedIn}
 use Rattle.claxon.specs.Promises.{FoundIsComplete, FoundIsSound, IsOutOfMemory, Remains}
 use Rattle.claxon.specs.State.{State}
 use Rattle.claxon.specs.Prefix.{BeginsWith}
@@ -34,7 +34,7 @@ module _ (stream : Option StreamFormat) (capacity : ℕ) (bytes : List ℕ) wher
     not_both (Ok None) info larger fits is = is
     not_both (Err e) info larger fits is = is
 
-    pub none_larger_at_start : (r : HeaderAnswer) → (FailedIn a b → ⊥) → (IsOutOfMemory r → ⊥) → FoundIsComplete (λ (x : BlockInfo). x) r (HeaderOf known) a b → IfOk r (λ found. IfSome found (FitsIn capacity)) → LargerBlockAtStart stream capacity bytes None
+    pub none_larger_at_start : (r : HeaderAnswer) → (ReadFailedIn a b → ⊥) → (IsOutOfMemory r → ⊥) → FoundIsComplete (λ (x : BlockInfo). x) r (HeaderOf known) a b → IfOk r (λ found. IfSome found (FitsIn capacity)) → LargerBlockAtStart stream capacity bytes None
     none_larger_at_start r never no_memory complete fits begins =
         let k = larger_says begins in
         let h = subst (λ (s : Option StreamFormat). FoundIsComplete (λ (x : BlockInfo). x) r (HeaderOf s) a b) same complete in

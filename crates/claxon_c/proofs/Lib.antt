@@ -1,12 +1,24 @@
+-- What bytes in memory begin with, and how many bytes it has.
 pub mod AtStart
+-- What a call returns for the frame at a position.
 pub mod BlockCalls
+-- The content of a metadata block in memory.
 pub mod BlockContents
+-- What calls return that are passed the content of a metadata block.
 pub mod ContentCalls
+-- What calls return for the head at the start of bytes.
 pub mod HeadCalls
+-- The header of a metadata block, as a number of 32 bits.
 pub mod NextMetadata
+-- The status and the text that report an error.
 pub mod Reports
+-- The header of a frame that bytes in memory begin with.
 pub mod HeadersAtStart
+-- Samples of one channel after another.
 pub mod PlanarSamples
+-- What calls return for the next tag in the content of a Vorbis comment block.
 pub mod TagCalls
+-- Texts of Vorbis comments in memory, one by one.
 pub mod TagTexts
+-- The reader of the next tag takes just what the definitions say.
 pub mod TagsRead

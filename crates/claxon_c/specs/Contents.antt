@@ -1,5 +1,20 @@
--- What calls return that are passed the content of a metadata block, and nothing else: of a streaminfo or of Vorbis comments.
-use Rattle.std.specs.Prelude.{◌≡◌, ◌≢◌, ◌⊎◌, ℕ, List, length, take, drop, None, Result, IfOk, IsErrAnd, IsOkAnd}
+-- What calls return that are passed the content of a metadata block, and nothing else: of a
+-- streaminfo or of Vorbis comments.
+use Rattle.std.specs.Prelude.{
+  ◌≡◌,
+  ◌≢◌,
+  ◌⊎◌,
+  ℕ,
+  List,
+  length,
+  take,
+  drop,
+  None,
+  Result,
+  IfOk,
+  IsErrAnd,
+  IsOkAnd,
+}
 use Rattle.claxon.specs.Fault.{Fault}
 use Rattle.claxon.specs.Comments.{Comment, CommentCode}
 use Rattle.claxon.specs.MetadataBlocks.{Body, BodyFault, Content}
@@ -23,7 +38,8 @@ comment_type = 4
 
 -- ---- what the calls return
 
--- It shows this streaminfo. A streaminfo block says nothing of a first frame or of tags: both are 0.
+-- It shows this streaminfo. A streaminfo block says nothing of a first frame or of tags: both
+-- are 0.
 abbrev pub ShowsStreaminfo : Streaminfo → ClaxonInfo → Type 0
 ShowsStreaminfo i info = ShowsHead (record { info = i; comment = None }) 0 info
 
@@ -31,7 +47,8 @@ ShowsStreaminfo i info = ShowsHead (record { info = i; comment = None }) 0 info
 abbrev pub vendor_position : ℕ
 vendor_position = 4
 
--- The numbers are those of these comments: where the vendor string is, its length, and how many tags there are.
+-- The numbers are those of these comments: where the vendor string is, its length, and how many
+-- tags there are.
 pub record ShowsVendor (c : Comment) (content : List ℕ) (at count tags : ℕ) : Type 0 where
   pub at_is : at ≡ vendor_position
   pub count_is : count ≡ length c.vendor
@@ -77,7 +94,8 @@ module _ (content : List ℕ) (status : ℕ) where
 -- ---- what both calls return for faults
 
 module _ (type : ℕ) (content : List ℕ) (status : ℕ) where
-  -- The status of a fault reports one of the content, as a block of this type; its text is written to `new`.
+  -- The status of a fault reports one of the content, as a block of this type; its text is
+  -- written to `new`.
   abbrev pub CContentFaultIsSound : List ℕ → List ℕ → Type 0
   CContentFaultIsSound old new =
       IsFaultStatus status
@@ -98,11 +116,14 @@ module _ (type : ℕ) (content : List ℕ) (status : ℕ) where
 
 -- ---- private calls
 
--- What is returned is what the content is, where `Code` is the code of its values, and `Bad` has its faults; memory is refused only
--- where `MayAllocate` holds.
-pub record ContentIsRead {A Y : Type 0} (view : A → Y) (Code : Y → List ℕ → Type 0) (Bad : Fault → List ℕ → Type 0) (MayAllocate : Type 0) (content : List ℕ) (r : Result A Error) : Type 0 where
+-- What is returned is what the content is, where `Code` is the code of its values, and `Bad` has
+-- its faults; memory is refused only where `MayAllocate` holds.
+pub record ContentIsRead {A Y : Type 0} (view : A → Y) (Code : Y → List ℕ → Type 0)
+    (Bad : Fault → List ℕ → Type 0) (MayAllocate : Type 0) (content : List ℕ) (r : Result A Error) :
+    Type 0 where
   pub sound : IfOk r (λ x. BeginsWith (Code (view x)) content)
-  pub complete : (y : Y) → BeginsWith (Code y) content → IsOkAnd r (λ x. view x ≡ y) ⊎ IsOutOfMemory r
+  pub complete : (y : Y) → BeginsWith (Code y) content
+      → IsOkAnd r (λ x. view x ≡ y) ⊎ IsOutOfMemory r
   pub fault : IfOtherErr r (λ e. (f : Fault) × IsFault f e × BeginsWith (Bad f) content)
   pub named : (f : Fault) → BeginsWith (Bad f) content → IsErrAnd r (IsFault f) ⊎ IsOutOfMemory r
   pub memory : IsOutOfMemory r → MayAllocate
@@ -110,5 +131,6 @@ pub record ContentIsRead {A Y : Type 0} (view : A → Y) (Code : Y → List ℕ 
 -- The content of a block of this type is read.
 abbrev pub BodyIsRead : {A : Type 0} → (A → Content) → ℕ → List ℕ → Result A Error → Type 0
 BodyIsRead view type content =
-    ContentIsRead view (Body type (length content)) (BodyFault type (length content)) (MayRunOutOfMemory type (length content) content)
+    ContentIsRead view (Body type (length content)) (BodyFault type (length content)) (
+    MayRunOutOfMemory type (length content) content)
     content

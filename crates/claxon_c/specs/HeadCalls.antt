@@ -1,4 +1,5 @@
--- What calls return that read the head at the start of bytes. No read of bytes in memory fails, so the only excuse is `out_of_memory`.
+-- What calls return that read the head at the start of bytes. No read of bytes in memory fails,
+-- so the only excuse is `out_of_memory`.
 use Rattle.std.specs.Prelude.{◌≡◌, ◌≢◌, ◌⊎◌, ℕ, true, List, length, Option, None, Some}
 use Rattle.claxon.specs.Comments.{Comment}
 use Rattle.claxon.specs.Fault.{Fault}
@@ -24,7 +25,7 @@ pub record ShowsHead (h : Head) (count : ℕ) (info : ClaxonInfo) : Type 0 where
   pub samples : info.samples ≡ h.info.samples
   pub rate : info.sample_rate ≡ h.info.rate
   pub channels : info.channels ≡ h.info.channels
-  pub width : info.bits_per_sample ≡ h.info.width
+  pub bit_depth : info.bits_per_sample ≡ h.info.bit_depth
   pub min_block_size : info.min_block_size ≡ h.info.min_block_size
   pub max_block_size : info.max_block_size ≡ h.info.max_block_size
   pub min_frame_size : info.min_frame_size ≡ h.info.min_frame_size

@@ -12,7 +12,7 @@ pub record InfoShows (found : StreamInfo) (tags first_frame : ℕ) (info : Claxo
   pub samples : info.samples ≡ or_zero found.samples
   pub rate : info.sample_rate ≡ found.sample_rate
   pub channels : info.channels ≡ found.channels
-  pub width : info.bits_per_sample ≡ found.bits_per_sample
+  pub bit_depth : info.bits_per_sample ≡ found.bits_per_sample
   pub min_block_size : info.min_block_size ≡ found.min_block_size
   pub max_block_size : info.max_block_size ≡ found.max_block_size
   pub min_frame_size : info.min_frame_size ≡ or_zero found.min_frame_size
@@ -22,6 +22,8 @@ pub record InfoShows (found : StreamInfo) (tags first_frame : ℕ) (info : Claxo
 -- What it says of the stream: nothing, where the bit depth is out of range.
 abbrev pub known_stream : ClaxonInfo → Option StreamFormat
 known_stream info =
-    cond (nat_le 1 info.bits_per_sample && nat_le info.bits_per_sample 32)
-    (Some (record { width = info.bits_per_sample; min_block_size = info.min_block_size; max_block_size = info.max_block_size }))
-    None
+    cond (nat_le 1 info.bits_per_sample && nat_le info.bits_per_sample 32) (Some (record {
+      bit_depth = info.bits_per_sample;
+      min_block_size = info.min_block_size;
+      max_block_size = info.max_block_size;
+    })) None

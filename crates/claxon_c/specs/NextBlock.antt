@@ -1,5 +1,25 @@
 -- What a call returns for the frame at a position in bytes.
-use Rattle.std.specs.Prelude.{◌≡◌, ◌≢◌, ◌⊎◌, ◌↔◌, ℕ, ℤ, ◌+◌, ◌*◌, ◌<◌, ◌≤◌, List, ◌++◌, length, drop, Result, Ok, Err, None, Some}
+use Rattle.std.specs.Prelude.{
+  ◌≡◌,
+  ◌≢◌,
+  ◌⊎◌,
+  ◌↔◌,
+  ℕ,
+  ℤ,
+  ◌+◌,
+  ◌*◌,
+  ◌<◌,
+  ◌≤◌,
+  List,
+  ◌++◌,
+  length,
+  drop,
+  Result,
+  Ok,
+  Err,
+  None,
+  Some,
+}
 use Rattle.claxon.specs.Fault.{Fault}
 use Rattle.claxon.specs.Frame.{Block, Frame, FrameBytesFault}
 use Rattle.claxon.specs.Streams.{duration_of, interleave}
@@ -14,19 +34,28 @@ use Rattle.claxon_c.specs.declared.heads.ClaxonInfo.{ClaxonInfo}
 use Rattle.claxon_c.specs.declared.next_block.ClaxonBlock.{ClaxonBlock}
 use Rattle.claxon_c.specs.AtStart.{FrameAtStart}
 use Rattle.claxon_c.specs.Info.{known_stream}
-use Rattle.claxon_c.specs.Status.{ErrorIsReported, FaultIsReported, IsFaultStatus, buffer_short, input_ends, no_more, ok, out_of_memory}
+use Rattle.claxon_c.specs.Status.{
+  ErrorIsReported,
+  FaultIsReported,
+  IsFaultStatus,
+  buffer_short,
+  input_ends,
+  no_more,
+  ok,
+  out_of_memory,
+}
 
 -- how the samples of channels are put into a buffer: its contents before and after
-abbrev pub Layout : Type 1
-Layout = List (List ℤ) → List ℤ → List ℤ → Type 0
+abbrev pub SampleOrder : Type 1
+SampleOrder = List (List ℤ) → List ℤ → List ℤ → Type 0
 
 -- The buffer begins with the interleaved samples, and its rest is unchanged.
-abbrev pub InterleavedArePut : Layout
+abbrev pub InterleavedArePut : SampleOrder
 InterleavedArePut channels old new =
     new ≡ interleave channels ++ drop (length channels * duration_of channels) old
 
 -- The buffer begins with the samples of one channel after another, and its rest is unchanged.
-abbrev pub PlanarArePut : Layout
+abbrev pub PlanarArePut : SampleOrder
 PlanarArePut channels old new =
     new ≡ joined channels ++ drop (length channels * duration_of channels) old
 
@@ -43,7 +72,7 @@ pub record ShowsInfo (info : BlockInfo) (shown : ClaxonBlock) : Type 0 where
   pub duration_is : shown.duration ≡ info.duration
 
 -- The samples of the block are written where they fit, else the status is `buffer_short`.
-abbrev pub GivesSamples : Layout → Block → ℕ → List ℤ → List ℤ → Type 0
+abbrev pub GivesSamples : SampleOrder → Block → ℕ → List ℤ → List ℤ → Type 0
 GivesSamples Put b status old new =
     ((status ≡ ok) × (length b.channels * duration_of b.channels ≤ length old)
     × Put b.channels old new)
@@ -70,7 +99,8 @@ abbrev pub IsLarger : ClaxonInfo → List ℕ → ℕ → ℕ → Type 0
 IsLarger info bytes from capacity =
     BeginsWith (HeaderOfLargerBlock (known_stream info) capacity) (drop from bytes)
 
--- `from` is the position before the call, and `capacity` the number of samples that the buffer holds.
+-- `from` is the position before the call, and `capacity` the number of samples that the buffer
+-- holds.
 module _ (info : ClaxonInfo) (bytes : List ℕ) (from status : ℕ) where
   -- With `ok` a frame begins at the position, which is after it now.
   abbrev pub CBlockIsSound : ℕ → Type 0
@@ -92,7 +122,7 @@ module _ (info : ClaxonInfo) (bytes : List ℕ) (from status : ℕ) where
       → BeginsWith (HeaderOf (known_stream info) said) (drop from bytes) → ShowsInfo said shown
 
   -- The samples are written where they fit, else the status is `buffer_short`.
-  abbrev pub CSamplesAreGiven : Layout → List ℤ → List ℤ → Type 0
+  abbrev pub CSamplesAreGiven : SampleOrder → List ℤ → List ℤ → Type 0
   CSamplesAreGiven Put old new =
       IsBlockStatus status → (b : Block)
       → BeginsWith (Frame (known_stream info) b) (drop from bytes)
@@ -112,7 +142,8 @@ module _ (info : ClaxonInfo) (bytes : List ℕ) (from status : ℕ) where
       (b : Block) → BeginsWith (Frame (known_stream info) b) (drop from bytes)
       → IsBlockStatus status ⊎ (status ≡ out_of_memory)
 
-  -- The status is `buffer_short` exactly where a header stands whose block has more samples, whatever follows the header.
+  -- The status is `buffer_short` exactly where a header stands whose block has more samples,
+  -- whatever follows the header.
   abbrev pub CShortIffLarger : ℕ → Type 0
   CShortIffLarger capacity = (status ≡ buffer_short) ↔ IsLarger info bytes from capacity
 
@@ -123,7 +154,8 @@ module _ (info : ClaxonInfo) (bytes : List ℕ) (from status : ℕ) where
       → (f : Fault) × BeginsWith (FrameBytesFault (known_stream info) f) (drop from bytes)
       × FaultIsReported f status old new
 
-  -- Unless the samples don't fit, a fault that stands at the position is reported, or the status is `out_of_memory`.
+  -- Unless the samples don't fit, a fault that stands at the position is reported, or the
+  -- status is `out_of_memory`.
   abbrev pub CBlockFaultIsComplete : ℕ → List ℕ → List ℕ → Type 0
   CBlockFaultIsComplete capacity old new =
       (IsLarger info bytes from capacity → ⊥)
@@ -136,8 +168,8 @@ module _ (info : ClaxonInfo) (bytes : List ℕ) (from status : ℕ) where
       (f : Fault) → BeginsWith (HeaderBytesFault (known_stream info) f) (drop from bytes)
       → FaultIsReported f status old new
 
-  -- Unless the samples don't fit, the status is `input_ends` or `out_of_memory` where two bytes or more are left, and neither
-  -- stands there.
+  -- Unless the samples don't fit, the status is `input_ends` or `out_of_memory` where two bytes or
+  -- more are left, and neither stands there.
   abbrev pub CBlockElseIoError : ℕ → Type 0
   CBlockElseIoError capacity =
       (IsLarger info bytes from capacity → ⊥)
@@ -191,9 +223,10 @@ module _ (info : ClaxonInfo) (bytes : List ℕ) (from capacity : ℕ) where
     pub refused : FrameAtStart (known_stream info) (drop from bytes) (Err error) count
     pub reported : ErrorIsReported error status before after
 
-  -- The block of the frame at the position, or the status. `old` and `shown` are what is shown of a block before and after the
-  -- call, `before` and `after` the text.
-  abbrev pub NextBlock : Result BlockValue ℕ → ℕ → ClaxonBlock → ClaxonBlock → List ℕ → List ℕ → Type 0
+  -- The block of the frame at the position, or the status. `old` and `shown` are what is shown of a
+  -- block before and after the call, `before` and `after` the text.
+  abbrev pub NextBlock : Result BlockValue ℕ → ℕ → ClaxonBlock → ClaxonBlock → List ℕ → List ℕ
+      → Type 0
   NextBlock (Ok found) to old shown before after = IsDecoded found to shown × (after ≡ before)
   NextBlock (Err status) to old shown before after =
       (to ≡ from) × ((IsShort status shown × (after ≡ before))

@@ -1,14 +1,45 @@
 -- What a call returns for the next tag in the content of a Vorbis comment block.
-use Rattle.std.specs.Prelude.{◌≡◌, ◌≢◌, ◌⊎◌, ◌↔◌, ℕ, zero, suc, ◌+◌, ◌-◌, ◌<◌, nat_lt, List, [], ◌∷◌, ◌++◌, length, take, drop, replicate}
+use Rattle.std.specs.Prelude.{
+  ◌≡◌,
+  ◌≢◌,
+  ◌⊎◌,
+  ◌↔◌,
+  ℕ,
+  zero,
+  suc,
+  ◌+◌,
+  ◌-◌,
+  ◌<◌,
+  nat_lt,
+  List,
+  [],
+  ◌∷◌,
+  ◌++◌,
+  length,
+  take,
+  drop,
+  replicate,
+}
 use Rattle.claxon.specs.Codes.{Each, MeetsOr, ThenFault}
-use Rattle.claxon.specs.Comments.{Comment, CommentCode, EntriesOf, Entry, EntryOrEmptyFault, IsEntry, LengthPrefixed, TextLength, TextLengthFault}
+use Rattle.claxon.specs.Comments.{
+  Comment,
+  CommentCode,
+  EntriesOf,
+  Entry,
+  EntryOrEmptyFault,
+  IsEntry,
+  LengthPrefixed,
+  TextLength,
+  TextLengthFault,
+}
 use Rattle.claxon.specs.Fault.{CommentShort, EntryLong, ExcessData, Fault, VendorLong}
 use Rattle.claxon.specs.Prefix.{BeginsWith}
 use Rattle.claxon_c.specs.Status.{FaultIsReported, IsFaultStatus, no_more, ok}
 
 -- ---- texts from a place on
 
--- The texts that stand from the place on: at place 0 those after the vendor string and the four bytes of their number.
+-- The texts that stand from the place on: at place 0 those after the vendor string and the four
+-- bytes of their number.
 abbrev pub TextsFrom : ℕ → List ℕ → List ℕ → Type 0
 TextsFrom zero content texts =
     (vendor : List ℕ) × (x : List ℕ) × (y : List ℕ) × LengthPrefixed vendor x × (length y ≡ 4)
@@ -27,7 +58,8 @@ NextTag e t =
 -- This is the next tag from the place on, and these bytes follow it.
 abbrev pub TagStands : ℕ → List ℕ → Entry → List ℕ → Type 0
 TagStands place content e rest =
-    (texts : List ℕ) × (t : List ℕ) × TextsFrom place content texts × NextTag e t × (texts ≡ t ++ rest)
+    (texts : List ℕ) × (t : List ℕ) × TextsFrom place content texts × NextTag e t
+    × (texts ≡ t ++ rest)
 
 -- No tag follows the place: just empty texts.
 abbrev pub NoTagIsLeft : ℕ → List ℕ → Type 0
@@ -35,7 +67,8 @@ NoTagIsLeft place content = (texts : List ℕ) × TextsFrom place content texts 
 
 -- ---- faults
 
--- of a text in the bytes that are left: it has no whole length, is longer than they are, or is no entry
+-- of a text in the bytes that are left: it has no whole length, is longer than they are, or is
+-- no entry
 abbrev pub TextFault : ℕ → Fault → List ℕ → Type 0
 TextFault left =
     MeetsOr (nat_lt left 4) ExcessData
@@ -60,8 +93,10 @@ TagFaultStands place content f =
 
 -- ---- what the call returns
 
--- It tells of this tag, which these bytes follow: the place after it, and where its name and its value are.
-pub record ShowsTag (content : List ℕ) (e : Entry) (rest : List ℕ) (to name_at name_length value_at value_length : ℕ) : Type 0 where
+-- It tells of this tag, which these bytes follow: the place after it, and where its name and its
+-- value are.
+pub record ShowsTag (content : List ℕ) (e : Entry) (rest : List ℕ)
+    (to name_at name_length value_at value_length : ℕ) : Type 0 where
   pub after : to + length rest ≡ length content
   pub from : name_at + length e.text ≡ to
   pub name : take name_length (drop name_at content) ≡ take e.place e.text
@@ -69,7 +104,8 @@ pub record ShowsTag (content : List ℕ) (e : Entry) (rest : List ℕ) (to name_
   pub value : take value_length (drop value_at content) ≡ drop (e.place + 1) e.text
   pub value_count : value_length + (e.place + 1) ≡ length e.text
 
--- The tags from the place on are these, up to the end of the content, and in place 0 the content is a whole comment block.
+-- The tags from the place on are these, up to the end of the content, and in place 0 the content
+-- is a whole comment block.
 abbrev pub TagsAre : ℕ → List ℕ → List Entry → Type 0
 TagsAre zero content entries =
     (c : Comment) × CommentCode (length content) c content × (entries ≡ c.entries)
@@ -110,14 +146,17 @@ module _ (content : List ℕ) (from status : ℕ) where
         (e : Entry) (rest : List ℕ) → TagStands from content e rest
         → (status ≡ ok) × ShowsTag content e rest to name_at name_length value_at value_length
 
-    -- The call for these tags: it shows the first, and the others follow the new place, or there is none.
+    -- The call for these tags: it shows the first, and the others follow the new place, or
+    -- there is none.
     abbrev pub ShowsFirst : List Entry → Type 0
     ShowsFirst [] = status ≡ no_more
     ShowsFirst (e ∷ others) =
         (status ≡ ok) × (rest : List ℕ)
-        × ShowsTag content e rest to name_at name_length value_at value_length × TagsAre to content others
+        × ShowsTag content e rest to name_at name_length value_at value_length
+        × TagsAre to content others
 
-    -- So in a comment block calls from place 0 on show its tags one after another, and then return `no_more`.
+    -- So in a comment block calls from place 0 on show its tags one after another, and then
+    -- return `no_more`.
     abbrev pub CTagsAreInOrder : Type 0
     CTagsAreInOrder = (entries : List Entry) → TagsAre from content entries → ShowsFirst entries
 

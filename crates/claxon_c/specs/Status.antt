@@ -1,5 +1,20 @@
 -- What calls return: a status, and a text that ends with a zero byte.
-use Rattle.std.specs.Prelude.{◌≡◌, ◌⊎◌, ℕ, ◌-◌, ◌<◌, cond, List, [], ◌∷◌, ◌++◌, codes, length, take, drop}
+use Rattle.std.specs.Prelude.{
+  ◌≡◌,
+  ◌⊎◌,
+  ℕ,
+  ◌-◌,
+  ◌<◌,
+  cond,
+  List,
+  [],
+  ◌∷◌,
+  ◌++◌,
+  codes,
+  length,
+  take,
+  drop,
+}
 use Rattle.claxon.specs.Fault.{Fault, fault_text, is_unsupported}
 use Rattle.claxon.specs.Errors.{Error}
 use Rattle.claxon.specs.Errors.TheVariants.{IoError, FormatError, Unsupported, OutOfMemory}

@@ -1,10 +1,36 @@
 -- The reader of the next tag in the content of a Vorbis comment block, for private calls.
-use Rattle.std.specs.Prelude.{◌≡◌, ℕ, zero, suc, ◌+◌, ◌-◌, ◌≤◌, nat_lt, cond, List, [], ◌∷◌, length, drop, Option, None, Some, Result, MatchResult}
+use Rattle.std.specs.Prelude.{
+  ◌≡◌,
+  ℕ,
+  zero,
+  suc,
+  ◌+◌,
+  ◌-◌,
+  ◌≤◌,
+  nat_lt,
+  cond,
+  List,
+  [],
+  ◌∷◌,
+  length,
+  drop,
+  Option,
+  None,
+  Some,
+  Result,
+  MatchResult,
+}
 use Rattle.std.specs.List.{position_or_len}
 use Rattle.claxon.specs.Comments.{Entry, is_separator}
 use Rattle.claxon.specs.Fault.{CommentShort, ExcessData, Fault}
 use Rattle.claxon.specs.read.Bytes.{bytes_at}
-use Rattle.claxon.specs.read.Comments.{entry_at, entry_length_at, entry_of, entry_or_empty_at, vendor_length_at}
+use Rattle.claxon.specs.read.Comments.{
+  entry_at,
+  entry_length_at,
+  entry_of,
+  entry_or_empty_at,
+  vendor_length_at,
+}
 use Rattle.claxon.specs.read.Reading.{Done, Faulty, Reading, and_then, bind, test}
 use Rattle.claxon.specs.Error.{IsFault}
 use Rattle.claxon.specs.Errors.{Error}
@@ -20,7 +46,8 @@ unfoldable pub text_at : ℕ → List ℕ → Reading ℕ (List Entry)
 text_at left = and_then (text_length_at left) entry_or_empty_at
 
 -- the first of these entries of a text, or what is read after it
-abbrev pub after_text : (List ℕ → Reading ℕ (Option Entry)) → List Entry → List ℕ → Reading ℕ (Option Entry)
+abbrev pub after_text : (List ℕ → Reading ℕ (Option Entry)) → List Entry → List ℕ
+    → Reading ℕ (Option Entry)
 after_text next [] rest = next rest
 after_text next (e ∷ others) rest = Done (Some e) rest
 
@@ -41,7 +68,8 @@ front_at n = and_then (front_length_at n) (λ v. bytes_at (v + 4))
 
 -- the next tag from a place on
 unfoldable pub tag_at : ℕ → List ℕ → Reading ℕ (Option Entry)
-tag_at zero content = bind (front_at (length content) content) (λ _. first_entry_at (length content))
+tag_at zero content =
+    bind (front_at (length content) content) (λ _. first_entry_at (length content))
 tag_at (suc n) content = first_entry_at (length content) (drop (suc n) content)
 
 -- ---- what private calls return
@@ -55,7 +83,8 @@ abbrev pub TextEndIsRead : List ℕ → ℕ → Result ℕ Error → Type 0
 TextEndIsRead content at result =
     MatchResult result
     (λ end. (at + 4 ≤ end) × (end ≤ length content)
-    × (text_length_at (length content - at) (drop at content) ≡ Done (end - at - 4) (drop (at + 4) content)))
+    × (text_length_at (length content - at) (drop at content)
+    ≡ Done (end - at - 4) (drop (at + 4) content)))
     (λ e. ReadsFault (text_length_at (length content - at) (drop at content)) e)
 
 -- The length of the name of an entry is returned.

@@ -4,7 +4,21 @@ ghost use Rattle.claxon.specs.MetadataBlocks.{Comments, Info};
 ghost use Rattle.claxon.specs.MetadataBlock.{HasBounds, content_view, info_view};
 ghost use Rattle.claxon.specs.ReadMetadataBlock.{ResultHasBounds};
 ghost use Rattle.claxon.specs.VorbisComment.{comment_view};
-ghost use Rattle.claxon_c.specs.Contents.{BodyIsRead, CContentElseIoError, CContentFaultIsComplete, CContentFaultIsSound, CStreaminfoIsComplete, CStreaminfoIsSound, CStreaminfoNeverOutOfMemory, CVendorIsComplete, CVendorIsSound, CVendorOutOfMemoryAfterLengths, VendorIsKept, comment_type, streaminfo_type};
+ghost use Rattle.claxon_c.specs.Contents.{
+  BodyIsRead,
+  CContentElseIoError,
+  CContentFaultIsComplete,
+  CContentFaultIsSound,
+  CStreaminfoIsComplete,
+  CStreaminfoIsSound,
+  CStreaminfoNeverOutOfMemory,
+  CVendorIsComplete,
+  CVendorIsSound,
+  CVendorOutOfMemoryAfterLengths,
+  VendorIsKept,
+  comment_type,
+  streaminfo_type,
+};
 ghost use Rattle.claxon_c.specs.HeadCalls.{InfoIsKept};
 ghost use Rattle.claxon_c.specs.Status.{TextIsReported};
 
@@ -30,14 +44,16 @@ pub extern "C" fn claxon_streaminfo(
     info: &mut ClaxonInfo,
     error: &mut [u8],
 ) -> u32
-    ensures sound { CStreaminfoIsSound content.now result info.new }
-    ensures complete { CStreaminfoIsComplete content.now result info.new }
-    ensures fault { CContentFaultIsSound streaminfo_type content.now result error.old error.new }
-    ensures named { CContentFaultIsComplete streaminfo_type content.now result error.old error.new }
-    ensures io { CContentElseIoError streaminfo_type content.now result }
-    ensures memory { CStreaminfoNeverOutOfMemory content.now result }
-    ensures text { TextIsReported result error.old error.new }
-    ensures kept { InfoIsKept result info.old info.new }
+    ensures is_sound { CStreaminfoIsSound content.now result info.new }
+    ensures is_complete { CStreaminfoIsComplete content.now result info.new }
+    ensures fault_is_sound { CContentFaultIsSound streaminfo_type content.now result error.old
+        error.new }
+    ensures fault_is_complete { CContentFaultIsComplete streaminfo_type content.now result error.old
+        error.new }
+    ensures else_io_error { CContentElseIoError streaminfo_type content.now result }
+    ensures never_out_of_memory { CStreaminfoNeverOutOfMemory content.now result }
+    ensures text_is_reported { TextIsReported result error.old error.new }
+    ensures info_is_kept { InfoIsKept result info.old info.new }
 {
     match read_streaminfo(alloc, content) {
         Ok(found) => {
@@ -58,15 +74,17 @@ pub extern "C" fn claxon_vendor(
     tags: &mut usize,
     error: &mut [u8],
 ) -> u32
-    ensures sound { CVendorIsSound content.now result vendor_at.new vendor_length.new tags.new }
-    ensures complete { CVendorIsComplete content.now result
+    ensures is_sound { CVendorIsSound content.now result vendor_at.new vendor_length.new tags.new }
+    ensures is_complete { CVendorIsComplete content.now result
         vendor_at.new vendor_length.new tags.new }
-    ensures fault { CContentFaultIsSound comment_type content.now result error.old error.new }
-    ensures named { CContentFaultIsComplete comment_type content.now result error.old error.new }
-    ensures io { CContentElseIoError comment_type content.now result }
-    ensures memory { CVendorOutOfMemoryAfterLengths content.now result }
-    ensures text { TextIsReported result error.old error.new }
-    ensures kept { VendorIsKept result (vendor_at.old, vendor_length.old, tags.old)
+    ensures fault_is_sound { CContentFaultIsSound comment_type content.now result error.old
+        error.new }
+    ensures fault_is_complete { CContentFaultIsComplete comment_type content.now result error.old
+        error.new }
+    ensures else_io_error { CContentElseIoError comment_type content.now result }
+    ensures out_of_memory_after_lengths { CVendorOutOfMemoryAfterLengths content.now result }
+    ensures text_is_reported { TextIsReported result error.old error.new }
+    ensures vendor_is_kept { VendorIsKept result (vendor_at.old, vendor_length.old, tags.old)
         (vendor_at.new, vendor_length.new, tags.new) }
 {
     match read_comment(alloc, content) {
@@ -82,7 +100,8 @@ pub extern "C" fn claxon_vendor(
 
 fn read_streaminfo(alloc: Global, content: &[u8]) -> Result<StreamInfo>
     ensures bounds { IfOk result (λ found. HasBounds found) }
-    ensures value { BodyIsRead (λ found. Info (info_view found)) streaminfo_type content.now result }
+    ensures is_read { BodyIsRead (λ found. Info (info_view found)) streaminfo_type content.now
+        result }
 {
     let block = read_body(alloc, STREAMINFO, content)?;
     if let MetadataBlock::StreamInfo(found) = block {
@@ -104,8 +123,8 @@ fn read_comment(alloc: Global, content: &[u8]) -> Result<VorbisComment>
 // The content of a block of one of these two types.
 fn read_body(alloc: Global, block_type: u8, content: &[u8]) -> Result<MetadataBlock>
     requires { (block_type ≡ streaminfo_type) ⊎ (block_type ≡ comment_type) }
-    ensures bounds { ResultHasBounds result }
-    ensures value { BodyIsRead content_view block_type content.now result }
+    ensures has_bounds { ResultHasBounds result }
+    ensures is_read { BodyIsRead content_view block_type content.now result }
 {
     // A greater length is refused like the greatest that is a u32.
     let length = content.len().min(u32::MAX as usize) as u32;

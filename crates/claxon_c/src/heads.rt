@@ -5,7 +5,16 @@ ghost use Rattle.claxon.specs.ReadHead.{found_view};
 ghost use Rattle.claxon.specs.FrameReader.{stream_with};
 ghost use Rattle.claxon.specs.FlacReader.{HasBitDepth};
 ghost use Rattle.claxon_c.specs.Info.{InfoShows, known_stream};
-ghost use Rattle.claxon_c.specs.HeadCalls.{CHeadFaultIsComplete, COpenIsComplete, CHeadFaultIsSound, COpenIsSound, InfoIsKept, CHeadElseIoError, CHeadOutOfMemoryAfterHeader, tag_count};
+ghost use Rattle.claxon_c.specs.HeadCalls.{
+  CHeadFaultIsComplete,
+  COpenIsComplete,
+  CHeadFaultIsSound,
+  COpenIsSound,
+  InfoIsKept,
+  CHeadElseIoError,
+  CHeadOutOfMemoryAfterHeader,
+  tag_count,
+};
 ghost use Rattle.claxon_c.specs.Status.{TextIsReported};
 
 use crate::at_start::head_at_start;
@@ -62,7 +71,7 @@ impl ClaxonInfo {
 
     // What frames need of it. A bit depth out of range says that nothing is known of the stream.
     pub(crate) fn known_stream(&self) -> Option<StreamInfo>
-        ensures width { IfSome result (λ info. HasBitDepth info) }
+        ensures bit_depth { IfSome result (λ info. HasBitDepth info) }
         ensures stream { option_map stream_with result ≡ known_stream self.now }
     {
         if self.bits_per_sample < 1 || self.bits_per_sample > 32 {
@@ -99,14 +108,14 @@ pub extern "C" fn claxon_open(
     info: &mut ClaxonInfo,
     error: &mut [u8],
 ) -> u32
-    ensures sound { COpenIsSound bytes.now result info.new }
-    ensures complete { COpenIsComplete bytes.now result info.new }
-    ensures fault { CHeadFaultIsSound bytes.now result error.old error.new }
-    ensures named { CHeadFaultIsComplete bytes.now result error.old error.new }
-    ensures io { CHeadElseIoError bytes.now result }
-    ensures memory { CHeadOutOfMemoryAfterHeader bytes.now result }
-    ensures text { TextIsReported result error.old error.new }
-    ensures kept { InfoIsKept result info.old info.new }
+    ensures is_sound { COpenIsSound bytes.now result info.new }
+    ensures is_complete { COpenIsComplete bytes.now result info.new }
+    ensures fault_is_sound { CHeadFaultIsSound bytes.now result error.old error.new }
+    ensures fault_is_complete { CHeadFaultIsComplete bytes.now result error.old error.new }
+    ensures else_io_error { CHeadElseIoError bytes.now result }
+    ensures out_of_memory_after_header { CHeadOutOfMemoryAfterHeader bytes.now result }
+    ensures text_is_reported { TextIsReported result error.old error.new }
+    ensures info_is_kept { InfoIsKept result info.old info.new }
 {
     let mut taken = 0;
     match head_at_start(alloc, bytes, &mut taken) {

@@ -1,7 +1,14 @@
 //! Metadata blocks, one after another.
 ghost use Rattle.std.specs.Prelude.{◌≡◌, ◌≤◌, ◌+◌, take, drop, length};
 ghost use Rattle.claxon.specs.Bits.{bits, bits_of};
-ghost use Rattle.claxon_c.specs.NextMetadata.{CMetadataIffHeaderIsLeft, CMetadataInputEndsElse, CMetadataIsComplete, CMetadataIsSound, MetadataIsKept, header_length};
+ghost use Rattle.claxon_c.specs.NextMetadata.{
+  CMetadataIffHeaderIsLeft,
+  CMetadataInputEndsElse,
+  CMetadataIsComplete,
+  CMetadataIsSound,
+  MetadataIsKept,
+  header_length,
+};
 
 use crate::status::{INPUT_ENDS, OK};
 
@@ -29,11 +36,11 @@ pub extern "C" fn claxon_next_metadata(
     at: &mut usize,
     metadata: &mut ClaxonMetadata,
 ) -> u32
-    ensures sound { CMetadataIsSound bytes.now at.old result at.new metadata.new }
-    ensures complete { CMetadataIsComplete bytes.now at.old result at.new metadata.new }
-    ensures found { CMetadataIffHeaderIsLeft bytes.now at.old result }
-    ensures ends { CMetadataInputEndsElse bytes.now at.old result }
-    ensures kept { MetadataIsKept result at.old at.new metadata.old metadata.new }
+    ensures is_sound { CMetadataIsSound bytes.now at.old result at.new metadata.new }
+    ensures is_complete { CMetadataIsComplete bytes.now at.old result at.new metadata.new }
+    ensures iff_header_is_left { CMetadataIffHeaderIsLeft bytes.now at.old result }
+    ensures input_ends_else { CMetadataInputEndsElse bytes.now at.old result }
+    ensures metadata_is_kept { MetadataIsKept result at.old at.new metadata.old metadata.new }
 {
     let from = *at;
     if bytes.len().saturating_sub(from) < HEADER_LENGTH {

@@ -1,7 +1,27 @@
 //! Blocks, one after another.
 ghost use Rattle.std.specs.Prelude.{length};
 ghost use Rattle.claxon.specs.FrameReader.{block_view};
-ghost use Rattle.claxon_c.specs.NextBlock.{BlockIsKept, CBlockElseIoError, CBlockFaultIsComplete, CBlockFaultIsSound, CBlockIsComplete, CBlockIsShown, CBlockIsSound, CBlockNoMoreIffEof, CBlockOutOfMemoryAfterHeader, CFrameHeaderFaultIsComplete, CHeaderIsShown, CSamplesAreInterleaved, CSamplesArePlanar, CShortIffLarger, NextBlock, PositionIsKept, ShowsBlock, ShowsInfo, TextIsKept};
+ghost use Rattle.claxon_c.specs.NextBlock.{
+  BlockIsKept,
+  CBlockElseIoError,
+  CBlockFaultIsComplete,
+  CBlockFaultIsSound,
+  CBlockIsComplete,
+  CBlockIsShown,
+  CBlockIsSound,
+  CBlockNoMoreIffEof,
+  CBlockOutOfMemoryAfterHeader,
+  CFrameHeaderFaultIsComplete,
+  CHeaderIsShown,
+  CSamplesAreInterleaved,
+  CSamplesArePlanar,
+  CShortIffLarger,
+  NextBlock,
+  PositionIsKept,
+  ShowsBlock,
+  ShowsInfo,
+  TextIsKept,
+};
 ghost use Rattle.claxon_c.specs.Status.{TextIsReported};
 
 use crate::at_start::{block_at_start, larger_block_at_start};
@@ -60,25 +80,30 @@ pub extern "C" fn claxon_next_block(
     block: &mut ClaxonBlock,
     error: &mut [u8],
 ) -> u32
-    ensures sound { CBlockIsSound info.now bytes.now at.old result at.new }
-    ensures shown { CBlockIsShown info.now bytes.now at.old result block.new }
-    ensures header { CHeaderIsShown info.now bytes.now at.old result block.new }
-    ensures samples { CSamplesAreInterleaved info.now bytes.now at.old result
+    // What it returns, shows and stores.
+    ensures is_sound { CBlockIsSound info.now bytes.now at.old result at.new }
+    ensures is_complete { CBlockIsComplete info.now bytes.now at.old result }
+    ensures no_more_iff_eof { CBlockNoMoreIffEof bytes.now at.old result }
+    ensures short_iff_larger { CShortIffLarger info.now bytes.now at.old result (length samples.old) }
+    ensures is_shown { CBlockIsShown info.now bytes.now at.old result block.new }
+    ensures header_is_shown { CHeaderIsShown info.now bytes.now at.old result block.new }
+    ensures are_interleaved { CSamplesAreInterleaved info.now bytes.now at.old result
         samples.old samples.new }
-    ensures complete { CBlockIsComplete info.now bytes.now at.old result }
-    ensures short { CShortIffLarger info.now bytes.now at.old result (length samples.old) }
-    ensures fault { CBlockFaultIsSound info.now bytes.now at.old result error.old error.new }
-    ensures named { CBlockFaultIsComplete info.now bytes.now at.old result (length samples.old)
+    // Faults, and their texts.
+    ensures fault_is_sound { CBlockFaultIsSound info.now bytes.now at.old result error.old error.new }
+    ensures fault_is_complete { CBlockFaultIsComplete info.now bytes.now at.old result
+        (length samples.old) error.old error.new }
+    ensures header_fault_is_complete { CFrameHeaderFaultIsComplete info.now bytes.now at.old result
         error.old error.new }
-    ensures header_named { CFrameHeaderFaultIsComplete info.now bytes.now at.old result
-        error.old error.new }
-    ensures eof { CBlockNoMoreIffEof bytes.now at.old result }
-    ensures io { CBlockElseIoError info.now bytes.now at.old result (length samples.old) }
-    ensures memory { CBlockOutOfMemoryAfterHeader info.now bytes.now at.old result }
-    ensures text { TextIsReported result error.old error.new }
-    ensures kept { PositionIsKept result at.old at.new samples.old samples.new }
-    ensures block_kept { BlockIsKept result block.old block.new }
-    ensures text_kept { TextIsKept result error.old error.new }
+    ensures else_io_error { CBlockElseIoError info.now bytes.now at.old result (length samples.old) }
+    ensures text_is_reported { TextIsReported result error.old error.new }
+    // Memory.
+    ensures out_of_memory_after_header { CBlockOutOfMemoryAfterHeader info.now bytes.now at.old
+        result }
+    // What stays as it was.
+    ensures position_is_kept { PositionIsKept result at.old at.new samples.old samples.new }
+    ensures block_is_kept { BlockIsKept result block.old block.new }
+    ensures text_is_kept { TextIsKept result error.old error.new }
 {
     match next_block(alloc, bytes, at, info, samples.len(), block, error) {
         Ok(found) => {
@@ -100,25 +125,30 @@ pub extern "C" fn claxon_next_block_planar(
     block: &mut ClaxonBlock,
     error: &mut [u8],
 ) -> u32
-    ensures sound { CBlockIsSound info.now bytes.now at.old result at.new }
-    ensures shown { CBlockIsShown info.now bytes.now at.old result block.new }
-    ensures header { CHeaderIsShown info.now bytes.now at.old result block.new }
-    ensures samples { CSamplesArePlanar info.now bytes.now at.old result
+    // What it returns, shows and stores.
+    ensures is_sound { CBlockIsSound info.now bytes.now at.old result at.new }
+    ensures is_complete { CBlockIsComplete info.now bytes.now at.old result }
+    ensures no_more_iff_eof { CBlockNoMoreIffEof bytes.now at.old result }
+    ensures short_iff_larger { CShortIffLarger info.now bytes.now at.old result (length samples.old) }
+    ensures is_shown { CBlockIsShown info.now bytes.now at.old result block.new }
+    ensures header_is_shown { CHeaderIsShown info.now bytes.now at.old result block.new }
+    ensures are_planar { CSamplesArePlanar info.now bytes.now at.old result
         samples.old samples.new }
-    ensures complete { CBlockIsComplete info.now bytes.now at.old result }
-    ensures short { CShortIffLarger info.now bytes.now at.old result (length samples.old) }
-    ensures fault { CBlockFaultIsSound info.now bytes.now at.old result error.old error.new }
-    ensures named { CBlockFaultIsComplete info.now bytes.now at.old result (length samples.old)
+    // Faults, and their texts.
+    ensures fault_is_sound { CBlockFaultIsSound info.now bytes.now at.old result error.old error.new }
+    ensures fault_is_complete { CBlockFaultIsComplete info.now bytes.now at.old result
+        (length samples.old) error.old error.new }
+    ensures header_fault_is_complete { CFrameHeaderFaultIsComplete info.now bytes.now at.old result
         error.old error.new }
-    ensures header_named { CFrameHeaderFaultIsComplete info.now bytes.now at.old result
-        error.old error.new }
-    ensures eof { CBlockNoMoreIffEof bytes.now at.old result }
-    ensures io { CBlockElseIoError info.now bytes.now at.old result (length samples.old) }
-    ensures memory { CBlockOutOfMemoryAfterHeader info.now bytes.now at.old result }
-    ensures text { TextIsReported result error.old error.new }
-    ensures kept { PositionIsKept result at.old at.new samples.old samples.new }
-    ensures block_kept { BlockIsKept result block.old block.new }
-    ensures text_kept { TextIsKept result error.old error.new }
+    ensures else_io_error { CBlockElseIoError info.now bytes.now at.old result (length samples.old) }
+    ensures text_is_reported { TextIsReported result error.old error.new }
+    // Memory.
+    ensures out_of_memory_after_header { CBlockOutOfMemoryAfterHeader info.now bytes.now at.old
+        result }
+    // What stays as it was.
+    ensures position_is_kept { PositionIsKept result at.old at.new samples.old samples.new }
+    ensures block_is_kept { BlockIsKept result block.old block.new }
+    ensures text_is_kept { TextIsKept result error.old error.new }
 {
     match next_block(alloc, bytes, at, info, samples.len(), block, error) {
         Ok(found) => {

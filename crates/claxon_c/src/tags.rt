@@ -2,8 +2,25 @@
 ghost use Rattle.std.specs.Prelude.{◌≡◌, ◌≤◌, ◌<◌, ◌+◌, [], ◌∷◌, drop, length};
 ghost use Rattle.claxon.specs.read.Bytes.{little_at};
 ghost use Rattle.claxon.specs.read.Reading.{Done};
-ghost use Rattle.claxon_c.specs.NextTag.{CTagFaultIsComplete, CTagFaultIsSound, CTagIsComplete, CTagIsSound, CTagNoMoreIffEnd, CTagStatusIsKnown, CTagsAreInOrder, TagIsKept};
-ghost use Rattle.claxon_c.specs.TagReader.{FirstTextIsRead, NameIsRead, TagIsRead, TextEndIsRead, TextIsRead, first_entry_at, tag_at};
+ghost use Rattle.claxon_c.specs.NextTag.{
+  CTagFaultIsComplete,
+  CTagFaultIsSound,
+  CTagIsComplete,
+  CTagIsSound,
+  CTagNoMoreIffEnd,
+  CTagStatusIsKnown,
+  CTagsAreInOrder,
+  TagIsKept,
+};
+ghost use Rattle.claxon_c.specs.TagReader.{
+  FirstTextIsRead,
+  NameIsRead,
+  TagIsRead,
+  TextEndIsRead,
+  TextIsRead,
+  first_entry_at,
+  tag_at,
+};
 
 use crate::status::{NO_MORE, OK, report};
 use claxon::metadata::comment_checks::{
@@ -26,17 +43,17 @@ pub extern "C" fn claxon_next_tag(
     value_length: &mut usize,
     error: &mut [u8],
 ) -> u32
-    ensures sound { CTagIsSound content.now place.old result place.new
+    ensures is_sound { CTagIsSound content.now place.old result place.new
         name_at.new name_length.new value_at.new value_length.new }
-    ensures complete { CTagIsComplete content.now place.old result place.new
+    ensures is_complete { CTagIsComplete content.now place.old result place.new
         name_at.new name_length.new value_at.new value_length.new }
-    ensures in_order { CTagsAreInOrder content.now place.old result place.new
+    ensures are_in_order { CTagsAreInOrder content.now place.old result place.new
         name_at.new name_length.new value_at.new value_length.new }
-    ensures no_more { CTagNoMoreIffEnd content.now place.old result }
-    ensures known { CTagStatusIsKnown content.now place.old result }
-    ensures fault { CTagFaultIsSound content.now place.old result error.old error.new }
-    ensures named { CTagFaultIsComplete content.now place.old result error.old error.new }
-    ensures kept { TagIsKept result
+    ensures no_more_iff_end { CTagNoMoreIffEnd content.now place.old result }
+    ensures status_is_known { CTagStatusIsKnown content.now place.old result }
+    ensures fault_is_sound { CTagFaultIsSound content.now place.old result error.old error.new }
+    ensures fault_is_complete { CTagFaultIsComplete content.now place.old result error.old error.new }
+    ensures tag_is_kept { TagIsKept result
         (place.old ∷ name_at.old ∷ name_length.old ∷ value_at.old ∷ value_length.old ∷ [])
         (place.new ∷ name_at.new ∷ name_length.new ∷ value_at.new ∷ value_length.new ∷ []) }
 {

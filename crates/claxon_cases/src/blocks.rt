@@ -2,12 +2,12 @@
 use crate::replay::Case;
 use claxon::metadata::{MetadataBlock, StreamInfo, VorbisComment, read_metadata_block};
 use claxon::{Error, Result};
-use claxon_tools::answer::Answer;
+use claxon_tools::result_text::ResultText;
 use std::alloc::Global;
 use std::io::Cursor;
 
 /// Adds `ok BYTES block`, `BYTES text` or `IO`.
-pub fn answer_of_block(alloc: Global, case: &Case, answer: &mut Answer) {
+pub fn answer_of_block(alloc: Global, case: &Case, answer: &mut ResultText) {
     let Ok(block_type) = u8::try_from(case.number) else {
         answer.text("no case");
         return;
@@ -17,7 +17,7 @@ pub fn answer_of_block(alloc: Global, case: &Case, answer: &mut Answer) {
     add_outcome(&outcome, input.position(), answer);
 }
 
-fn add_outcome(outcome: &Result<MetadataBlock>, taken: u64, answer: &mut Answer) {
+fn add_outcome(outcome: &Result<MetadataBlock>, taken: u64, answer: &mut ResultText) {
     match outcome {
         Ok(block) => {
             answer.counts(&[("ok ", taken)]);
@@ -33,7 +33,7 @@ fn add_outcome(outcome: &Result<MetadataBlock>, taken: u64, answer: &mut Answer)
     }
 }
 
-fn add_block(block: &MetadataBlock, answer: &mut Answer) {
+fn add_block(block: &MetadataBlock, answer: &mut ResultText) {
     match block {
         MetadataBlock::StreamInfo(info) => add_streaminfo(info, answer),
         MetadataBlock::Padding { length } => answer.counts(&[("padding ", u64::from(*length))]),
@@ -52,7 +52,7 @@ fn add_block(block: &MetadataBlock, answer: &mut Answer) {
     }
 }
 
-fn add_comment(comment: &VorbisComment, answer: &mut Answer) {
+fn add_comment(comment: &VorbisComment, answer: &mut ResultText) {
     answer.text("comment ");
     answer.quoted(&comment.vendor);
     answer.text(" ");
@@ -60,7 +60,7 @@ fn add_comment(comment: &VorbisComment, answer: &mut Answer) {
 }
 
 /// Adds the values of a streaminfo.
-pub fn add_streaminfo(info: &StreamInfo, answer: &mut Answer) {
+pub fn add_streaminfo(info: &StreamInfo, answer: &mut ResultText) {
     answer.text("streaminfo ");
     answer.streaminfo(info);
 }

@@ -6,7 +6,7 @@ use crate::streams::add_calls_that_disagree;
 use claxon::Block;
 use claxon::frame::{FrameReader, FrameResult};
 use claxon::metadata::StreamInfo;
-use claxon_tools::answer::Answer;
+use claxon_tools::result_text::ResultText;
 use std::alloc::Global;
 use std::io::Cursor;
 
@@ -23,7 +23,7 @@ const HEAD: [u8; 42] = [
 /// Adds the result of each of `calls` calls, with ` | ` between them: `BYTES block TIME CHANNELS DURATION samples..`,
 /// `BYTES end`, `BYTES text`, or `IO`, after which all bytes are consumed. Then follow different results into buffers with old
 /// samples, one and more than a block has, and the calls over a stream of these frames that disagree.
-pub fn answer_of_frames(alloc: Global, case: &Case, calls: usize, answer: &mut Answer) {
+pub fn answer_of_frames(alloc: Global, case: &Case, calls: usize, answer: &mut ResultText) {
     let one = answers_into(alloc, case, calls, (0, 0));
     answer.bytes(one.as_bytes());
     for old in USED_BUFFERS {
@@ -34,7 +34,7 @@ pub fn answer_of_frames(alloc: Global, case: &Case, calls: usize, answer: &mut A
 }
 
 // The frames after a head.
-fn add_as_a_stream(alloc: Global, frames: &[u8], answer: &mut Answer) {
+fn add_as_a_stream(alloc: Global, frames: &[u8], answer: &mut ResultText) {
     let mut bytes = Vec::new(alloc);
     if bytes.extend_from_slice(&HEAD).is_err() || bytes.extend_from_slice(frames).is_err() {
         answer.text("no memory for the stream");
@@ -44,8 +44,8 @@ fn add_as_a_stream(alloc: Global, frames: &[u8], answer: &mut Answer) {
 }
 
 // The results of the calls, each into a buffer of old samples.
-fn answers_into(alloc: Global, case: &Case, calls: usize, old: (i32, usize)) -> Answer {
-    let mut answer = Answer::new(alloc);
+fn answers_into(alloc: Global, case: &Case, calls: usize, old: (i32, usize)) -> ResultText {
+    let mut answer = ResultText::new(alloc);
     let (all, mut taken) = (case.bytes.len() as u64, 0);
     for call in 0..calls {
         if call > 0 {
@@ -86,7 +86,7 @@ fn next_block(
     Some((outcome, reader.into_inner().position()))
 }
 
-fn add_outcome(outcome: FrameResult, taken: u64, all: u64, answer: &mut Answer) {
+fn add_outcome(outcome: FrameResult, taken: u64, all: u64, answer: &mut ResultText) {
     match outcome {
         Ok(Some(block)) => {
             answer.value(&taken);
@@ -100,7 +100,7 @@ fn add_outcome(outcome: FrameResult, taken: u64, all: u64, answer: &mut Answer) 
     }
 }
 
-fn add_block(block: Block, answer: &mut Answer) {
+fn add_block(block: Block, answer: &mut ResultText) {
     answer.counts(&[
         (" block ", block.time()),
         (" ", u64::from(block.channels())),
@@ -110,7 +110,7 @@ fn add_block(block: Block, answer: &mut Answer) {
 }
 
 // Adds the samples; more than a hundred equal ones as ` VALUExCOUNT`.
-fn add_samples(samples: &[i32], answer: &mut Answer) {
+fn add_samples(samples: &[i32], answer: &mut ResultText) {
     match samples.first() {
         Some(first) if samples.len() > 100 && are_all(samples, *first) => {
             answer.text(" ");

@@ -5,7 +5,7 @@ use crate::frames::answer_of_frames;
 use crate::streams::answer_of_stream;
 use crate::subframes::answer_of_subframe;
 use claxon::Result;
-use claxon_tools::answer::Answer;
+use claxon_tools::result_text::ResultText;
 use std::alloc::Global;
 use std::io::Write;
 
@@ -38,7 +38,7 @@ pub fn replay<W: Write>(
     lines: &str,
     output: &mut W,
 ) -> Result<()> {
-    let mut report = Answer::new(alloc);
+    let mut report = ResultText::new(alloc);
     let agreeing = compare_lines(alloc, kind, name, lines, &mut report);
     output.write_all(report.as_bytes())?;
     writeln!(output, "{name} {agreeing} lines agree")?;
@@ -46,7 +46,13 @@ pub fn replay<W: Write>(
 }
 
 // Reports each line with another answer, and returns the number of lines that agree.
-fn compare_lines(alloc: Global, kind: Kind, name: &str, lines: &str, report: &mut Answer) -> u32 {
+fn compare_lines(
+    alloc: Global,
+    kind: Kind,
+    name: &str,
+    lines: &str,
+    report: &mut ResultText,
+) -> u32 {
     let mut agreeing = 0u32;
     for line in lines.lines() {
         if is_answered(alloc, kind, name, line, report) {
@@ -56,7 +62,7 @@ fn compare_lines(alloc: Global, kind: Kind, name: &str, lines: &str, report: &mu
     agreeing
 }
 
-fn is_answered(alloc: Global, kind: Kind, name: &str, line: &str, report: &mut Answer) -> bool {
+fn is_answered(alloc: Global, kind: Kind, name: &str, line: &str, report: &mut ResultText) -> bool {
     let Some((text, want)) = line.split_once(": ") else {
         report.parts(&[name, ": no answer: ", line, "\n"]);
         return false;
@@ -72,8 +78,8 @@ fn is_answered(alloc: Global, kind: Kind, name: &str, line: &str, report: &mut A
 }
 
 // The decoder's result, in the form of a line's answer.
-fn answer_of(alloc: Global, kind: Kind, text: &str, want: &str) -> Answer {
-    let mut answer = Answer::new(alloc);
+fn answer_of(alloc: Global, kind: Kind, text: &str, want: &str) -> ResultText {
+    let mut answer = ResultText::new(alloc);
     let Some(case) = read_case(alloc, text) else {
         answer.text("no case");
         return answer;

@@ -1,8 +1,8 @@
 //! Files by their samples.
 use claxon::input::ReadBytes;
 use claxon::{FlacReader, FlacSamples, Result};
-use claxon_tools::answer::Answer;
 use claxon_tools::fnv::{OFFSET_BASIS, hash_on};
+use claxon_tools::result_text::ResultText;
 use std::alloc::Global;
 use std::io::{Read, Write};
 
@@ -36,14 +36,14 @@ pub fn print_tally<R: Read + Drop, W: Write>(
     let mut samples = Vec::new(alloc);
     let outcome = decode(alloc, input, &mut samples);
     let hash = hash_on(OFFSET_BASIS, &samples);
-    let mut line = Answer::new(alloc);
+    let mut line = ResultText::new(alloc);
     add_outcome(&outcome, &mut line);
     write!(output, "{name} {} {hash:016x} ", samples.len())?;
     output.write_all(line.as_bytes())?;
     Ok(())
 }
 
-fn add_outcome(outcome: &Result<()>, line: &mut Answer) {
+fn add_outcome(outcome: &Result<()>, line: &mut ResultText) {
     match outcome {
         Ok(()) => line.text("ok"),
         Err(error) => line.fault(error),

@@ -5,7 +5,7 @@ use crate::samples::gather;
 use claxon::input::BufferedReader;
 use claxon::metadata::{StreamInfo, Tags};
 use claxon::{Block, FlacReader, FlacReaderOptions, Result, read_head};
-use claxon_tools::answer::Answer;
+use claxon_tools::result_text::ResultText;
 use claxon_write::{Output, run, write_samples};
 use std::alloc::Global;
 use std::io::{Cursor, Read};
@@ -14,7 +14,7 @@ type Opened<'a> = Result<FlacReader<Cursor<&'a [u8]>>>;
 
 /// Adds the head of the stream, and unless it was opened for its metadata only its samples, its blocks and how they end; then
 /// the calls that disagree, if any do.
-pub fn answer_of_stream(alloc: Global, case: &Case, answer: &mut Answer) {
+pub fn answer_of_stream(alloc: Global, case: &Case, answer: &mut ResultText) {
     if case.number > 3 {
         answer.text("no case");
         return;
@@ -27,7 +27,7 @@ pub fn answer_of_stream(alloc: Global, case: &Case, answer: &mut Answer) {
 }
 
 /// Adds the calls over a stream whose heads, results or output differ from those of the others.
-pub fn add_calls_that_disagree(alloc: Global, bytes: &[u8], answer: &mut Answer) {
+pub fn add_calls_that_disagree(alloc: Global, bytes: &[u8], answer: &mut ResultText) {
     add_other_heads(alloc, bytes, answer);
     add_other_runs(alloc, bytes, answer);
 }
@@ -51,7 +51,7 @@ fn has_contents(opened: &Opened<'_>) -> bool {
     }
 }
 
-fn add_opened(opened: &Opened<'_>, answer: &mut Answer) {
+fn add_opened(opened: &Opened<'_>, answer: &mut ResultText) {
     match opened {
         Ok(flac) => add_head(&flac.streaminfo(), flac.vendor(), flac.tags(), answer),
         Err(error) => answer.fault(error),
@@ -59,7 +59,7 @@ fn add_opened(opened: &Opened<'_>, answer: &mut Answer) {
 }
 
 // The vendor, or `-` if there is none, the tags, and the streaminfo.
-fn add_head(info: &StreamInfo, vendor: Option<&str>, tags: Tags<'_>, answer: &mut Answer) {
+fn add_head(info: &StreamInfo, vendor: Option<&str>, tags: Tags<'_>, answer: &mut ResultText) {
     match vendor {
         Some(vendor) => answer.parts(&["<", vendor, "> "]),
         None => answer.text("- "),
@@ -71,10 +71,10 @@ fn add_head(info: &StreamInfo, vendor: Option<&str>, tags: Tags<'_>, answer: &mu
 }
 
 // The number of samples, the first of them, the first blocks, and how both end.
-fn add_contents(alloc: Global, case: &Case, answer: &mut Answer) {
+fn add_contents(alloc: Global, case: &Case, answer: &mut ResultText) {
     let most = case.length as usize;
     let mut samples = Vec::new(alloc);
-    let (mut end, mut end_of_blocks) = (Answer::new(alloc), Answer::new(alloc));
+    let (mut end, mut end_of_blocks) = (ResultText::new(alloc), ResultText::new(alloc));
     end.end(&samples_of(open(alloc, case), &mut samples));
     answer.counts(&[("; ", samples.len() as u64)]);
     answer.text(" samples");
@@ -89,12 +89,17 @@ fn samples_of(opened: Opened<'_>, samples: &mut Vec<i32>) -> Result<()> {
     gather(&mut opened?, samples)
 }
 
-fn add_first(samples: &[i32], most: usize, answer: &mut Answer) {
+fn add_first(samples: &[i32], most: usize, answer: &mut ResultText) {
     answer.samples(samples.get(..most).unwrap_or(samples));
 }
 
 // Calls `blocks` again for each block.
-fn add_blocks(alloc: Global, opened: Opened<'_>, most: usize, answer: &mut Answer) -> Result<()> {
+fn add_blocks(
+    alloc: Global,
+    opened: Opened<'_>,
+    most: usize,
+    answer: &mut ResultText,
+) -> Result<()> {
     let mut flac = opened?;
     for count in 0..usize::MAX {
         let Some(block) = next_block(alloc, &mut flac)? else {
@@ -115,7 +120,7 @@ fn next_block<R: Read + Drop>(alloc: Global, flac: &mut FlacReader<R>) -> Result
 }
 
 // The time, the channels, the duration, and the first samples, channel after channel.
-fn add_block(block: Block, most: usize, answer: &mut Answer) {
+fn add_block(block: Block, most: usize, answer: &mut ResultText) {
     answer.counts(&[
         ("; block ", block.time()),
         (" ", u64::from(block.channels())),
@@ -125,20 +130,20 @@ fn add_block(block: Block, most: usize, answer: &mut Answer) {
 }
 
 // With each choice of options a reader has the head that `read_head` returns, and without options the default one.
-fn add_other_heads(alloc: Global, bytes: &[u8], answer: &mut Answer) {
+fn add_other_heads(alloc: Global, bytes: &[u8], answer: &mut ResultText) {
     for number in 0..4 {
         let one = shown(alloc, bytes, options_of(number));
         let alone = shown_alone(alloc, bytes, options_of(number));
         answer.difference(&one, &alone, "; read_head shows otherwise: ");
     }
     let one = shown(alloc, bytes, options_of(2));
-    let mut other = Answer::new(alloc);
+    let mut other = ResultText::new(alloc);
     add_opened(&FlacReader::new(alloc, Cursor::new(bytes)), &mut other);
     answer.difference(&one, &other, "; new shows otherwise: ");
 }
 
-fn shown(alloc: Global, bytes: &[u8], options: FlacReaderOptions) -> Answer {
-    let mut text = Answer::new(alloc);
+fn shown(alloc: Global, bytes: &[u8], options: FlacReaderOptions) -> ResultText {
+    let mut text = ResultText::new(alloc);
     add_opened(
         &FlacReader::new_ext(alloc, Cursor::new(bytes), options),
         &mut text,
@@ -146,8 +151,8 @@ fn shown(alloc: Global, bytes: &[u8], options: FlacReaderOptions) -> Answer {
     text
 }
 
-fn shown_alone(alloc: Global, bytes: &[u8], options: FlacReaderOptions) -> Answer {
-    let mut text = Answer::new(alloc);
+fn shown_alone(alloc: Global, bytes: &[u8], options: FlacReaderOptions) -> ResultText {
+    let mut text = ResultText::new(alloc);
     if let Err(error) = add_head_alone(alloc, bytes, options, &mut text) {
         text.fault(&error);
     }
@@ -158,7 +163,7 @@ fn add_head_alone(
     alloc: Global,
     bytes: &[u8],
     options: FlacReaderOptions,
-    answer: &mut Answer,
+    answer: &mut ResultText,
 ) -> Result<()> {
     let mut input = BufferedReader::new(alloc, Cursor::new(bytes))?;
     match read_head(alloc, &mut input, options)? {
@@ -172,7 +177,7 @@ fn add_head_alone(
 }
 
 // `run` has the result and the output of opening the stream and writing its samples.
-fn add_other_runs(alloc: Global, bytes: &[u8], answer: &mut Answer) {
+fn add_other_runs(alloc: Global, bytes: &[u8], answer: &mut ResultText) {
     let (mut one, mut other) = (Vec::new(alloc), Vec::new(alloc));
     let end = count_of(alloc, &run(alloc, Cursor::new(bytes), &mut one));
     let want = count_of(alloc, &open_and_write(alloc, bytes, &mut other));
@@ -182,8 +187,8 @@ fn add_other_runs(alloc: Global, bytes: &[u8], answer: &mut Answer) {
     }
 }
 
-fn count_of(alloc: Global, outcome: &Result<u64>) -> Answer {
-    let mut text = Answer::new(alloc);
+fn count_of(alloc: Global, outcome: &Result<u64>) -> ResultText {
+    let mut text = ResultText::new(alloc);
     match outcome {
         Ok(count) => text.value(count),
         Err(error) => text.fault(error),

@@ -2,12 +2,12 @@
 use crate::replay::Case;
 use claxon::input::{Bitstream, ReadBytes};
 use claxon::{Error, Result, subframe};
-use claxon_tools::answer::Answer;
+use claxon_tools::result_text::ResultText;
 use std::alloc::Global;
 use std::io::Cursor;
 
 /// Adds `ok BITS samples..`, `BITS text`, or `IO`, after which all bits are consumed.
-pub fn answer_of_subframe(alloc: Global, case: &Case, answer: &mut Answer) {
+pub fn answer_of_subframe(alloc: Global, case: &Case, answer: &mut ResultText) {
     let (bit_depth, length) = (case.number, case.length as usize);
     let mut buffer = Vec::new(alloc);
     if bit_depth > 32 || length > 65535 || buffer.resize(length, 13).is_err() {
@@ -21,7 +21,13 @@ pub fn answer_of_subframe(alloc: Global, case: &Case, answer: &mut Answer) {
     add_outcome(&outcome, &buffer, taken, all, answer);
 }
 
-fn add_outcome(outcome: &Result<()>, samples: &[i32], taken: u64, all: u64, answer: &mut Answer) {
+fn add_outcome(
+    outcome: &Result<()>,
+    samples: &[i32],
+    taken: u64,
+    all: u64,
+    answer: &mut ResultText,
+) {
     match outcome {
         Ok(()) => {
             answer.counts(&[("ok ", taken)]);

@@ -6,11 +6,11 @@ use Rattle.std.proofs.lemmas.Nat.{pow-add}
 use Rattle.std.proofs.Math.Nat.{pow-suc, mul_comm, add-mul}
 use Rattle.claxon_format.specs.Bits.{Bits, bits, bits_of, number}
 use Rattle.claxon_format.specs.read.Bits.{number_at}
-use Rattle.claxon_format.specs.read.Bytes.{bytes_at, big_at, by_bytes, big_endian}
+use Rattle.claxon_format.specs.read.Bytes.{bytes_at, big_at, big_endian}
 use Rattle.claxon_format.proofs.Numbers.{number-bits}
 use Rattle.claxon_format.specs.read.Reading.{Done, Incomplete, bind, done}
 use Rattle.claxon_format.proofs.Bytes.{bits_of-append, length-bits_of}
-use Rattle.claxon_format.proofs.WholeBytes.{Leaves, Whole, in_bits, whole_is}
+use Rattle.claxon_format.proofs.WholeBytes.{Leaves, Whole, in_bits}
 
 number-append : (s t : Bits) → number (s ++ t) ≡ number s * 2 ^ length t + number t
 unfolding number

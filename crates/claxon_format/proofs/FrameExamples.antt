@@ -10,14 +10,14 @@ use Rattle.claxon_format.specs.read.Subframe.{type_at, wasted_bits_at, wasted_bi
 use Rattle.claxon_format.specs.read.CodedNumber.{continuation_byte_at, continuation_bytes_at, coded_number_at}
 use Rattle.claxon_format.specs.read.Crc.{with_crc_at, byte_aligned_at}
 use Rattle.claxon_format.specs.Crc.{divide, divide_step, crc8, crc16}
-use Rattle.claxon_format.specs.read.Header.{blocking_at, sync_at, codes_at, channels_at, number_in, size_at, rate_at, fields_after, fields_at, width_at, header_at, fields_with_crc_at}
+use Rattle.claxon_format.specs.read.Header.{blocking_at, sync_at, codes_at, channels_at, number_in, size_at, rate_at, fields_after, fields_at, bit_depth_at, header_at, fields_with_crc_at}
 use Rattle.claxon_format.specs.read.Bytes.{by_bytes, bytes_at, big_at, big_endian}
 use Rattle.claxon_format.specs.Frame.{StreamFormat, Block}
 use Rattle.claxon_format.specs.read.Frame.{start_at, coded_channels_at, subframes_at, frame_without_crc_at, frame_bytes_at}
 use Rattle.std.specs.Int.{int_wrap}
 
 frame : Option StreamFormat → List ℕ → Reading ℕ Block
-unfolding bits number twos_complement residue each_at times_at number_at zeros_at unary_at rice_code_at signed_at escaped_sample_at escaped_partition_at partition_at method_at partitions_at residual_at bit_at type_at wasted_bits_at wasted_bits_to_31_at subframe_header_at parameters_at fixed_at linear_at subframe_body_at subframe_at continuation_byte_at continuation_bytes_at coded_number_at with_crc_at byte_aligned_at divide divide_step crc8 crc16 blocking_at sync_at codes_at channels_at number_in size_at rate_at fields_after fields_at width_at header_at start_at coded_channels_at subframes_at frame_without_crc_at fields_with_crc_at bytes_at big_at big_endian bits_of int_wrap
+unfolding bits number twos_complement residue each_at times_at number_at zeros_at unary_at rice_code_at signed_at escaped_sample_at escaped_partition_at partition_at method_at partitions_at residual_at bit_at type_at wasted_bits_at wasted_bits_to_31_at subframe_header_at parameters_at fixed_at linear_at subframe_body_at subframe_at continuation_byte_at continuation_bytes_at coded_number_at with_crc_at byte_aligned_at divide divide_step crc8 crc16 blocking_at sync_at codes_at channels_at number_in size_at rate_at fields_after fields_at bit_depth_at header_at start_at coded_channels_at subframes_at frame_without_crc_at fields_with_crc_at bytes_at big_at big_endian bits_of int_wrap
 frame stream s = frame_bytes_at stream s
 
 block : ℕ → List (List ℤ) → Block
@@ -58,10 +58,10 @@ escapes = refl
 
 -- streams of 8 and of 32 bits per sample
 stream_8 : Option StreamFormat
-stream_8 = Some (record { width = 8; min_block_size = 16; max_block_size = 16 })
+stream_8 = Some (record { bit_depth = 8; min_block_size = 16; max_block_size = 16 })
 
 stream_32 : Option StreamFormat
-stream_32 = Some (record { width = 32; min_block_size = 16; max_block_size = 16 })
+stream_32 = Some (record { bit_depth = 32; min_block_size = 16; max_block_size = 16 })
 
 left_side : frame stream_8 (0xff ∷ 0xf8 ∷ 0x69 ∷ 0x80 ∷ 0x00 ∷ 0x00 ∷ 0x47 ∷ 0x00 ∷ 0x03 ∷ 0x00 ∷ 0x02 ∷ 0x80 ∷ 0xc0 ∷ 0x8d ∷ []) ≡ Done (block 0 ((pos 3 ∷ []) ∷ (negsuc 1 ∷ []) ∷ [])) []
 unfolding frame block stream_8
@@ -158,7 +158,7 @@ frame_incomplete = refl
 -- ---- subframes
 
 subframe : ℕ → ℕ → List ℕ → Reading ℕ (List ℤ)
-unfolding bits number twos_complement residue each_at times_at number_at zeros_at unary_at rice_code_at signed_at escaped_sample_at escaped_partition_at partition_at method_at partitions_at residual_at bit_at type_at wasted_bits_at wasted_bits_to_31_at subframe_header_at parameters_at fixed_at linear_at subframe_body_at subframe_at continuation_byte_at continuation_bytes_at coded_number_at with_crc_at byte_aligned_at divide divide_step crc8 crc16 blocking_at sync_at codes_at channels_at number_in size_at rate_at fields_after fields_at width_at header_at start_at coded_channels_at subframes_at frame_without_crc_at fields_with_crc_at bytes_at big_at big_endian bits_of int_wrap
+unfolding bits number twos_complement residue each_at times_at number_at zeros_at unary_at rice_code_at signed_at escaped_sample_at escaped_partition_at partition_at method_at partitions_at residual_at bit_at type_at wasted_bits_at wasted_bits_to_31_at subframe_header_at parameters_at fixed_at linear_at subframe_body_at subframe_at continuation_byte_at continuation_bytes_at coded_number_at with_crc_at byte_aligned_at divide divide_step crc8 crc16 blocking_at sync_at codes_at channels_at number_in size_at rate_at fields_after fields_at bit_depth_at header_at start_at coded_channels_at subframes_at frame_without_crc_at fields_with_crc_at bytes_at big_at big_endian bits_of int_wrap
 subframe w n s = by_bytes (subframe_at w n) s
 
 floor_down : subframe 8 3 (0x40 ∷ 0xfb ∷ 0x10 ∷ 0xa0 ∷ 0x04 ∷ 0x80 ∷ []) ≡ Done (negsuc 4 ∷ negsuc 2 ∷ negsuc 0 ∷ []) []

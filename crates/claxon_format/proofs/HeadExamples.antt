@@ -40,7 +40,7 @@ one_pair : Comment
 one_pair = comment [] (entry (0x58 ∷ 0x3d ∷ 0x59 ∷ []) 1 ∷ [])
 
 info : Streaminfo
-info = record { min_block_size = 16; max_block_size = 16; min_frame_size = 0; max_frame_size = 0; rate = 44100; channels = 1; width = 8; samples = 1; md5 = 0 ∷ 0 ∷ 0 ∷ 0 ∷ 0 ∷ 0 ∷ 0 ∷ 0 ∷ 0 ∷ 0 ∷ 0 ∷ 0 ∷ 0 ∷ 0 ∷ 0 ∷ 0 ∷ [] }
+info = record { min_block_size = 16; max_block_size = 16; min_frame_size = 0; max_frame_size = 0; rate = 44100; channels = 1; bit_depth = 8; samples = 1; md5 = 0 ∷ 0 ∷ 0 ∷ 0 ∷ 0 ∷ 0 ∷ 0 ∷ 0 ∷ 0 ∷ 0 ∷ 0 ∷ 0 ∷ 0 ∷ 0 ∷ 0 ∷ 0 ∷ [] }
 
 shown : Option Comment → Head
 shown c = record { info = info; comment = c }
@@ -178,7 +178,7 @@ unfolding body
 rate_over = refl
 
 info_distinct : body 0 34 (0x00 ∷ 0x11 ∷ 0x01 ∷ 0x00 ∷ 0x00 ∷ 0x00 ∷ 0x07 ∷ 0x00 ∷ 0x10 ∷ 0x00 ∷ 0x0b ∷ 0xb8 ∷ 0x13 ∷ 0x75 ∷ 0x12 ∷ 0x34 ∷ 0x56 ∷ 0x78 ∷ 0x00 ∷ 0x01 ∷ 0x02 ∷ 0x03 ∷ 0x04 ∷ 0x05 ∷ 0x06 ∷ 0x07 ∷ 0x08 ∷ 0x09 ∷ 0x0a ∷ 0x0b ∷ 0x0c ∷ 0x0d ∷ 0x0e ∷ 0x0f ∷ [])
-    ≡ Done (Info (record { min_block_size = 17; max_block_size = 256; min_frame_size = 7; max_frame_size = 4096; rate = 48001; channels = 2; width = 24; samples = 21780256376; md5 = 0 ∷ 1 ∷ 2 ∷ 3 ∷ 4 ∷ 5 ∷ 6 ∷ 7 ∷ 8 ∷ 9 ∷ 10 ∷ 11 ∷ 12 ∷ 13 ∷ 14 ∷ 15 ∷ [] })) []
+    ≡ Done (Info (record { min_block_size = 17; max_block_size = 256; min_frame_size = 7; max_frame_size = 4096; rate = 48001; channels = 2; bit_depth = 24; samples = 21780256376; md5 = 0 ∷ 1 ∷ 2 ∷ 3 ∷ 4 ∷ 5 ∷ 6 ∷ 7 ∷ 8 ∷ 9 ∷ 10 ∷ 11 ∷ 12 ∷ 13 ∷ 14 ∷ 15 ∷ [] })) []
 unfolding body
 info_distinct = refl
 

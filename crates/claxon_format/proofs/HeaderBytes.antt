@@ -5,12 +5,12 @@ use Rattle.claxon_format.specs.CodedNumber.{bad_first, bad_continuation, continu
 use Rattle.claxon_format.specs.Fault.{SyncMissing, ReservedBit, SizeReserved, RateInvalid, ChannelsReserved, BitDepthReserved, SecondReservedBit, NumberFirst, NumberContinuation, NumberLarge, SizeLarge, HeaderCrc, BitDepthUnknown, SideTooWide}
 use Rattle.claxon_format.specs.Crc.{crc8}
 use Rattle.claxon_format.specs.read.Crc.{with_crc_at}
-use Rattle.claxon_format.specs.Header.{Fields, Header, side_too_wide, number_large, rate_bytes, width_of, bit_depth_reserved}
+use Rattle.claxon_format.specs.Header.{Fields, Header, side_too_wide, number_large, rate_bytes, bit_depth_of_code, bit_depth_reserved}
 use Rattle.claxon_format.specs.read.Bytes.{big_at}
 use Rattle.claxon_format.specs.read.Reading.{and_then, done, test}
 use Rattle.claxon_format.specs.read.Bits.{number_at}
 use Rattle.claxon_format.specs.read.CodedNumber.{in_bits, lead, continuation_byte_at, continuation_bytes_at, coded_number_at}
-use Rattle.claxon_format.specs.read.Header.{SizeCoding, ByCode, InByte, InTwoBytes, size_coding, blocking_at, sync_at, codes_at, channels_at, number_in, size_at, rate_at, fields_of, fields_after, fields_at, fields_with_crc_at, depth_at, width_at, with_width}
+use Rattle.claxon_format.specs.read.Header.{SizeCoding, ByCode, InByte, InTwoBytes, size_coding, blocking_at, sync_at, codes_at, channels_at, number_in, size_at, rate_at, fields_of, fields_after, fields_at, fields_with_crc_at, depth_at, bit_depth_at, with_bit_depth}
 use Rattle.claxon_format.proofs.ByteNumbers.{Whole-number}
 use Rattle.claxon_format.proofs.WholeBytes.{Whole, Whole-then, Whole-test, Whole-done, Whole-with}
 
@@ -54,7 +54,7 @@ Whole-depth channels None = Whole-test true BitDepthUnknown (Whole-done 0)
 Whole-depth channels (Some w) = Whole-test (side_too_wide channels w) SideTooWide (Whole-done w)
 
 -- a value that is made of a header
-pub Whole-header : {A : Type 0} (known : Option ℕ) (make : Header → A) → Whole A (with_width (with_crc_at 8 crc8 HeaderCrc (fields_at in_bits)) known make) (with_width fields_with_crc_at known make)
-unfolding width_at
+pub Whole-header : {A : Type 0} (known : Option ℕ) (make : Header → A) → Whole A (with_bit_depth (with_crc_at 8 crc8 HeaderCrc (fields_at in_bits)) known make) (with_bit_depth fields_with_crc_at known make)
+unfolding bit_depth_at
 Whole-header known make =
-    Whole-then Whole-fields_with_crc (λ f. Whole-then (Whole-depth f.channels (width_of known f.bit_depth_code)) (λ w. Whole-done (make (record { fields = f; width = w }))))
+    Whole-then Whole-fields_with_crc (λ f. Whole-then (Whole-depth f.channels (bit_depth_of_code known f.bit_depth_code)) (λ w. Whole-done (make (record { fields = f; bit_depth = w }))))

@@ -8,7 +8,7 @@ use Rattle.claxon_format.specs.Metadata.{Bytes}
 use Rattle.claxon_format.specs.Streaminfo.{Streaminfo, StreaminfoCode}
 use Rattle.claxon_format.specs.Comments.{CommentCode}
 use Rattle.claxon_format.specs.MetadataBlocks.{Content, Info, Padding, Comments, Reserved, ApplicationBody, skipped, is_padding, Body, InfoBody}
-use Rattle.claxon_format.specs.Frame.{Block, IsWidth, Frames, NoFrameLeft}
+use Rattle.claxon_format.specs.Frame.{Block, IsBitDepth, Frames, NoFrameLeft}
 use Rattle.claxon_format.specs.Heads.{Options, Head, HeadCode, HeadFault}
 use Rattle.claxon_format.specs.read.Heads.{head_at}
 use Rattle.claxon_format.specs.Streams.{duration_of, samples_at, interleave, stream_of, with_samples, IsStream}
@@ -65,8 +65,8 @@ length-interleave channels = length-places (samples_at channels) (length channel
 -- ---- a stream has one reading
 
 -- streaminfo has 1 to 32 bits per sample
-info_width : (i : Streaminfo) (t : List ℕ) → StreaminfoCode i t → (1 ≤ i.width) × (i.width ≤ 32)
-info_width i t c = (c.0.8, c.0.9)
+info_bit_depth : (i : Streaminfo) (t : List ℕ) → StreaminfoCode i t → (1 ≤ i.bit_depth) × (i.bit_depth ≤ 32)
+info_bit_depth i t c = (c.0.8, c.0.9)
 
 not_skipped : (b : Bool) (n : ℕ) (i : Streaminfo) → Info i ≡ cond b (Padding n) Reserved → ⊥
 not_skipped true n i e = cc
@@ -82,12 +82,12 @@ info_body type n i t c = go (eqb type 0) (eqb type 2) (eqb type 4) (eqb type 127
     go false false false true c = absurd c
     go false false false false c = absurd (not_skipped (is_padding type) n i c.2)
 
-head_width : (o : Options) (h : Head) (t : List ℕ) → HeadCode o h t → IsWidth (Some h.info.width)
-head_width o h t c =
+head_bit_depth : (o : Options) (h : Head) (t : List ℕ) → HeadCode o h t → IsBitDepth (Some h.info.bit_depth)
+head_bit_depth o h t c =
     let block = c.6 in
     let is = c.8 in
     let body : Body block.0.type block.0.length (Info h.info) block.2 = subst (λ (z : Content). Body block.0.type block.0.length z block.2) is.info block.4 in
-    info_width h.info block.2 (info_body block.0.type block.0.length h.info block.2 body)
+    info_bit_depth h.info block.2 (info_body block.0.type block.0.length h.info block.2 body)
 
 -- two complete readings of a stream are equal
 pub one_stream : (wants : Bool) (s : List ℕ) (h g : Head) (blocks others : List Block) (r q : List ℕ) → IsStream wants s h blocks r → IsStream wants s g others q → (h ≡ g) × (blocks ≡ others) × (r ≡ q)
@@ -97,5 +97,5 @@ one_stream wants s h g blocks others r q a b =
     let blocks_are : Frames (Some (stream_of h.info)) a.frames others q =
     subst (λ (z : Head). Frames (Some (stream_of z.info)) a.frames others q) (sym same.0) (subst (λ (z : List ℕ). Frames (Some (stream_of g.info)) z others q) (sym rest) b.blocks_are) in
     let complete : NoFrameLeft (Some (stream_of h.info)) q = subst (λ (z : Head). NoFrameLeft (Some (stream_of z.info)) q) (sym same.0) b.complete in
-    let run = one_block_list (Some (stream_of h.info)) (head_width (with_samples wants) h a.front a.head) a.frames r q blocks others a.blocks_are a.complete blocks_are complete in
+    let run = one_block_list (Some (stream_of h.info)) (head_bit_depth (with_samples wants) h a.front a.head) a.frames r q blocks others a.blocks_are a.complete blocks_are complete in
     (same.0, run.0, run.1)

@@ -6,14 +6,14 @@ use Rattle.claxon_format.specs.Residual.{escape, partition_lengths}
 use Rattle.claxon_format.specs.Subframe.{reserved}
 use Rattle.claxon_format.specs.CodedNumber.{bad_first, continuation_count, bad_continuation}
 use Rattle.claxon_format.specs.Crc.{padding_length}
-use Rattle.claxon_format.specs.Header.{size_of, rate_bits, width_of, bit_depth_reserved, side_too_wide, number_large}
-use Rattle.claxon_format.specs.Stereo.{widths}
+use Rattle.claxon_format.specs.Header.{size_of, rate_bits, bit_depth_of_code, bit_depth_reserved, says_32_bits, side_too_wide, number_large}
+use Rattle.claxon_format.specs.Stereo.{bit_depths}
 use Rattle.claxon_format.specs.Frame.{block_step}
 use Rattle.claxon_format.specs.FrameWriter.{channel_count}
 use Rattle.claxon_format.specs.MetadataBlocks.{Padding, Reserved, skipped}
 use Rattle.claxon_format.specs.read.Metadata.{block_header}
 use Rattle.claxon_format.specs.read.Bytes.{big_endian}
-use Rattle.claxon_format.specs.Pairs.{lower}
+use Rattle.claxon_format.specs.Tags.{lower}
 
 sizes : map size_of (1 ∷ 2 ∷ 3 ∷ 4 ∷ 5 ∷ 8 ∷ 9 ∷ 10 ∷ 11 ∷ 12 ∷ 13 ∷ 14 ∷ 15 ∷ []) ≡ map Some (192 ∷ 576 ∷ 1152 ∷ 2304 ∷ 4608 ∷ 256 ∷ 512 ∷ 1024 ∷ 2048 ∷ 4096 ∷ 8192 ∷ 16384 ∷ 32768 ∷ [])
 sizes = refl
@@ -25,16 +25,16 @@ no_sizes = refl
 rates : map rate_bits (0 ∷ 1 ∷ 2 ∷ 3 ∷ 4 ∷ 5 ∷ 6 ∷ 7 ∷ 8 ∷ 9 ∷ 10 ∷ 11 ∷ 12 ∷ 13 ∷ 14 ∷ []) ≡ 0 ∷ 0 ∷ 0 ∷ 0 ∷ 0 ∷ 0 ∷ 0 ∷ 0 ∷ 0 ∷ 0 ∷ 0 ∷ 0 ∷ 8 ∷ 16 ∷ 16 ∷ []
 rates = refl
 
-bit_depths_by_code : map (width_of None) (1 ∷ 2 ∷ 4 ∷ 5 ∷ 6 ∷ []) ≡ map Some (8 ∷ 12 ∷ 16 ∷ 20 ∷ 24 ∷ [])
+bit_depths_by_code : map (bit_depth_of_code None) (1 ∷ 2 ∷ 4 ∷ 5 ∷ 6 ∷ []) ≡ map Some (8 ∷ 12 ∷ 16 ∷ 20 ∷ 24 ∷ [])
 bit_depths_by_code = refl
 
 -- codes without a bit depth: unknown, or reserved
-no_widths : map (width_of None) (0 ∷ 3 ∷ 7 ∷ []) ≡ None ∷ None ∷ None ∷ []
-no_widths = refl
+no_bit_depths : map (bit_depth_of_code None) (0 ∷ 3 ∷ 7 ∷ []) ≡ None ∷ None ∷ None ∷ []
+no_bit_depths = refl
 
 -- a stream's bit depth is that of code 0 alone
-stream_widths : map (width_of (Some 32)) (0 ∷ 1 ∷ 2 ∷ 3 ∷ 4 ∷ 5 ∷ 6 ∷ 7 ∷ []) ≡ Some 32 ∷ Some 8 ∷ Some 12 ∷ None ∷ Some 16 ∷ Some 20 ∷ Some 24 ∷ None ∷ []
-stream_widths = refl
+stream_bit_depths : map (bit_depth_of_code (Some 32)) (0 ∷ 1 ∷ 2 ∷ 3 ∷ 4 ∷ 5 ∷ 6 ∷ 7 ∷ []) ≡ Some 32 ∷ Some 8 ∷ Some 12 ∷ None ∷ Some 16 ∷ Some 20 ∷ Some 24 ∷ None ∷ []
+stream_bit_depths = refl
 
 sides_too_wide : map (λ channels. side_too_wide channels 32) (0 ∷ 7 ∷ 8 ∷ 9 ∷ 10 ∷ []) ≡ false ∷ false ∷ true ∷ true ∷ true ∷ []
 sides_too_wide = refl
@@ -48,11 +48,11 @@ bit_depth_codes_reserved = refl
 channel_counts : map channel_count (0 ∷ 1 ∷ 2 ∷ 3 ∷ 4 ∷ 5 ∷ 6 ∷ 7 ∷ 8 ∷ 9 ∷ 10 ∷ []) ≡ 1 ∷ 2 ∷ 3 ∷ 4 ∷ 5 ∷ 6 ∷ 7 ∷ 8 ∷ 2 ∷ 2 ∷ 2 ∷ []
 channel_counts = refl
 
-eight_channels : widths 7 16 ≡ replicate 8 16
+eight_channels : bit_depths 7 16 ≡ replicate 8 16
 eight_channels = refl
 
-side_widths : map (λ code. widths code 16) (8 ∷ 9 ∷ 10 ∷ []) ≡ (16 ∷ 17 ∷ []) ∷ (17 ∷ 16 ∷ []) ∷ (16 ∷ 17 ∷ []) ∷ []
-side_widths = refl
+side_bit_depths : map (λ code. bit_depths code 16) (8 ∷ 9 ∷ 10 ∷ []) ≡ (16 ∷ 17 ∷ []) ∷ (17 ∷ 16 ∷ []) ∷ (16 ∷ 17 ∷ []) ∷ []
+side_bit_depths = refl
 
 numbers_large : map (number_large false) (2147483647 ∷ 2147483648 ∷ []) ≡ false ∷ true ∷ []
 numbers_large = refl
@@ -92,8 +92,16 @@ header_of_block : block_header (big_endian (0x84 ∷ [])) (big_endian (1 ∷ 2 �
 unfolding big_endian
 header_of_block = refl
 
-steps : map (λ greatest. block_step (Some (record { width = 8; min_block_size = 16; max_block_size = greatest })) 5) (16 ∷ 17 ∷ []) ≡ 16 ∷ 5 ∷ []
+steps : map (λ greatest. block_step (Some (record { bit_depth = 8; min_block_size = 16; max_block_size = greatest })) 5) (16 ∷ 17 ∷ []) ≡ 16 ∷ 5 ∷ []
 steps = refl
 
 letters : map lower (64 ∷ 65 ∷ 90 ∷ 91 ∷ 97 ∷ 193 ∷ []) ≡ 64 ∷ 97 ∷ 122 ∷ 91 ∷ 97 ∷ 193 ∷ []
 letters = refl
+
+-- four bytes of a header: code 7 of the bit depth says 32 bits, codes 3 and 4 don't, nor does it
+-- behind a reserved bit, a reserved block size, rate or number of channels
+headers_of_32_bits : map says_32_bits (0xfff8c91e ∷ 0xfff9c9ae ∷ 0xfff8c90f ∷ []) ≡ true ∷ true ∷ true ∷ []
+headers_of_32_bits = refl
+
+headers_of_fewer_bits : map says_32_bits (0xfff8c916 ∷ 0xfff8c918 ∷ 0xfffac91e ∷ 0xfff8091e ∷ 0xfff8cf1e ∷ 0xfff8c9be ∷ 0xffe8c91e ∷ []) ≡ replicate 7 false
+headers_of_fewer_bits = refl

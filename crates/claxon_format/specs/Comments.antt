@@ -1,9 +1,54 @@
 -- The content of a Vorbis comment block (RFC 9639, section 8.6).
-use Rattle.std.specs.Prelude.{◌≡◌, ℕ, zero, suc, ◌-◌, ◌/◌, ◌≤◌, Bool, true, false, cond, not, ◌==◌, ◌&&◌, nat_lt, nat_le, List, [], ◌∷◌, ◌++◌, length, IsUtf8}
+use Rattle.std.specs.Prelude.{
+  ◌≡◌,
+  ℕ,
+  zero,
+  suc,
+  ◌-◌,
+  ◌/◌,
+  ◌≤◌,
+  Bool,
+  true,
+  false,
+  cond,
+  not,
+  ◌==◌,
+  ◌&&◌,
+  nat_lt,
+  nat_le,
+  List,
+  [],
+  ◌∷◌,
+  ◌++◌,
+  length,
+  IsUtf8,
+}
 use Rattle.std.specs.List.{list_all, list_any, position_or_len, before_first}
 use Rattle.std.specs.Str.{is_utf8}
-use Rattle.claxon_format.specs.Fault.{Fault, CommentShort, CommentLarge, VendorLong, VendorNotUtf8, TooManyEntries, EntryLong, SeparatorMissing, NameByte, EntryNotUtf8, ExcessData, EntriesMissing}
-use Rattle.claxon_format.specs.Codes.{Each, ThenFault, MeetsOr, Never, Is, Mapped, Checked, CheckedFault}
+use Rattle.claxon_format.specs.Fault.{
+  Fault,
+  CommentShort,
+  CommentLarge,
+  VendorLong,
+  VendorNotUtf8,
+  TooManyEntries,
+  EntryLong,
+  SeparatorMissing,
+  NameByte,
+  EntryNotUtf8,
+  ExcessData,
+  EntriesMissing,
+}
+use Rattle.claxon_format.specs.Codes.{
+  Each,
+  ThenFault,
+  MeetsOr,
+  Never,
+  Is,
+  Mapped,
+  Checked,
+  CheckedFault,
+}
 use Rattle.claxon_format.specs.Metadata.{Bytes, Little, max_content_bytes}
 
 -- an entry: its text, and the position of its first '='
@@ -49,7 +94,8 @@ abbrev pub CommentCode : ℕ → Comment → List ℕ → Type 0
 CommentCode n c t =
     (texts : List (List ℕ)) × (x : List ℕ) × (y : List ℕ) × (z : List ℕ)
     × (n ≤ max_content_bytes) × (length t ≡ n) × LengthPrefixed c.vendor x × IsUtf8 c.vendor
-    × Little 4 (length texts) y × Each LengthPrefixed texts z × EntriesOf texts c.entries × (t ≡ x ++ (y ++ z))
+    × Little 4 (length texts) y × Each LengthPrefixed texts z × EntriesOf texts c.entries
+    × (t ≡ x ++ (y ++ z))
 
 -- ---- faults
 
@@ -64,7 +110,10 @@ not_utf8 text = not (is_utf8 text)
 
 -- a text of n bytes that is no entry
 abbrev pub EntryFault : ℕ → Fault → List ℕ → Type 0
-EntryFault n = ThenFault (Bytes n) Never (λ text. MeetsOr (not (has_separator text)) SeparatorMissing (MeetsOr (not (has_name text)) NameByte (MeetsOr (not_utf8 text) EntryNotUtf8 Never)))
+EntryFault n =
+    ThenFault (Bytes n) Never (λ text.
+    MeetsOr (not (has_separator text)) SeparatorMissing (
+    MeetsOr (not (has_name text)) NameByte (MeetsOr (not_utf8 text) EntryNotUtf8 Never)))
 
 -- a text of n bytes that is an entry
 abbrev pub EntryCode : ℕ → Entry → List ℕ → Type 0
@@ -104,17 +153,22 @@ CountFault limit = CheckedFault (nat_le limit) TooManyEntries (Little 4) Never
 
 -- after the last text: bytes are left over, or texts are missing
 abbrev pub EntriesEndFault : ℕ → ℕ → Fault → List ℕ → Type 0
-EntriesEndFault missing left = MeetsOr (nat_lt 0 left) ExcessData (MeetsOr (nat_lt 0 missing) EntriesMissing Never)
+EntriesEndFault missing left =
+    MeetsOr (nat_lt 0 left) ExcessData (MeetsOr (nat_lt 0 missing) EntriesMissing Never)
 
 -- the faults of the missing texts in the bytes that are left
 abbrev pub EntriesFault : ℕ → ℕ → Fault → List ℕ → Type 0
 EntriesFault zero left = EntriesEndFault zero left
 EntriesFault (suc missing) left = cond (nat_lt left 4) (EntriesEndFault (suc missing) left) (
-    ThenFault (TextLength (left - 4)) (TextLengthFault EntryLong (left - 4)) (λ n. ThenFault (EntryOrEmpty n) (EntryOrEmptyFault n) (λ entries. EntriesFault missing (left - 4 - n))))
+    ThenFault (TextLength (left - 4)) (TextLengthFault EntryLong (left - 4)) (λ n.
+    ThenFault (EntryOrEmpty n) (EntryOrEmptyFault n) (λ entries.
+    EntriesFault missing (left - 4 - n))))
 
 -- the faults of the fields, in order
 abbrev pub CommentFault : ℕ → Fault → List ℕ → Type 0
 CommentFault n =
-    MeetsOr (nat_lt n 8) CommentShort (MeetsOr (nat_lt max_content_bytes n) CommentLarge (
-    ThenFault (TextLength (n - 8)) (TextLengthFault VendorLong (n - 8)) (λ v. ThenFault (Vendor v) (VendorFault v) (λ vendor.
+    MeetsOr (nat_lt n 8) CommentShort (
+    MeetsOr (nat_lt max_content_bytes n) CommentLarge (
+    ThenFault (TextLength (n - 8)) (TextLengthFault VendorLong (n - 8)) (λ v.
+    ThenFault (Vendor v) (VendorFault v) (λ vendor.
     ThenFault (Count (n / 4)) (CountFault (n / 4)) (λ count. EntriesFault count (n - 8 - v))))))

@@ -1,5 +1,25 @@
 -- Division of polynomials over two elements, CRCs (RFC 9639, sections 9.1.8 and 9.3), and padding.
-use Rattle.std.specs.Prelude.{◌≡◌, ℕ, ◌+◌, ◌-◌, ◌*◌, ◌%◌, ◌^◌, ◌==◌, not, Bool, false, nat_lt, bit_xor, [], ◌∷◌, ◌++◌, length, replicate, cond}
+use Rattle.std.specs.Prelude.{
+  ◌≡◌,
+  ℕ,
+  ◌+◌,
+  ◌-◌,
+  ◌*◌,
+  ◌%◌,
+  ◌^◌,
+  ◌==◌,
+  not,
+  Bool,
+  false,
+  nat_lt,
+  bit_xor,
+  [],
+  ◌∷◌,
+  ◌++◌,
+  length,
+  replicate,
+  cond,
+}
 use Rattle.claxon_format.specs.Fault.{Fault}
 use Rattle.claxon_format.specs.Bits.{Bits, bits, Number}
 use Rattle.claxon_format.specs.Codes.{ThenFault, ThenWithFault, MeetsOr, Never}
@@ -8,9 +28,11 @@ use Rattle.claxon_format.specs.Codes.{ThenFault, ThenWithFault, MeetsOr, Never}
 abbrev pub bit : Bool → ℕ
 bit b = cond b 1 0
 
--- one step of long division: the next bit is appended to the remainder, and the polynomial is subtracted where it fits
+-- one step of long division: the next bit is appended to the remainder, and the polynomial is
+-- subtracted where it fits
 unfoldable pub divide_step : ℕ → ℕ → ℕ → Bool → ℕ
-divide_step degree poly r b = cond (nat_lt (r * 2 + bit b) (2 ^ degree)) (r * 2 + bit b) (bit_xor (r * 2 + bit b) poly)
+divide_step degree poly r b =
+    cond (nat_lt (r * 2 + bit b) (2 ^ degree)) (r * 2 + bit b) (bit_xor (r * 2 + bit b) poly)
 
 -- the remainder after more bits
 unfoldable pub divide : ℕ → ℕ → ℕ → Bits → ℕ
@@ -46,8 +68,11 @@ abbrev pub WithCrc : {A : Type 0} → ℕ → (Bits → ℕ) → (A → Bits →
 WithCrc w crc C a t = (x : Bits) × C a x × (t ≡ x ++ bits w (crc x))
 
 -- a fault of the code, or a number that is not its CRC
-abbrev pub WithCrcFault : {A : Type 0} → ℕ → (Bits → ℕ) → Fault → (A → Bits → Type 0) → (Fault → Bits → Type 0) → Fault → Bits → Type 0
-WithCrcFault w crc fault C F = ThenWithFault C F (λ a x. ThenFault (Number w) Never (λ n. MeetsOr (not (n == crc x)) fault Never))
+abbrev pub WithCrcFault : {A : Type 0} → ℕ → (Bits → ℕ) → Fault → (A → Bits → Type 0)
+    → (Fault → Bits → Type 0) → Fault → Bits → Type 0
+WithCrcFault w crc fault C F =
+    ThenWithFault C F (λ a x.
+    ThenFault (Number w) Never (λ n. MeetsOr (not (n == crc x)) fault Never))
 
 -- ---- padding up to a byte boundary (section 9.3): of any value, where the standard has zeros
 

@@ -1,12 +1,51 @@
 -- The head of a stream: its marker and metadata blocks (RFC 9639, sections 6 and 8).
-use Rattle.std.specs.Prelude.{◌≡◌, ℕ, zero, suc, ◌/◌, ◌<◌, ◌≤◌, Bool, true, false, cond, not, ◌==◌, ◌&&◌, ◌||◌, List, [], ◌∷◌, ◌++◌, length, Option, Some, None}
+use Rattle.std.specs.Prelude.{
+  ◌≡◌,
+  ℕ,
+  zero,
+  suc,
+  ◌/◌,
+  ◌<◌,
+  ◌≤◌,
+  Bool,
+  true,
+  false,
+  cond,
+  not,
+  ◌==◌,
+  ◌&&◌,
+  ◌||◌,
+  List,
+  [],
+  ◌∷◌,
+  ◌++◌,
+  length,
+  Option,
+  Some,
+  None,
+}
 use Rattle.std.specs.List.{list_any}
-use Rattle.claxon_format.specs.Fault.{Fault, Id3Header, StreamMarker, StreaminfoMissing, SecondComment, SecondStreaminfo, TooManyBlocks}
+use Rattle.claxon_format.specs.Fault.{
+  Fault,
+  Id3Header,
+  StreamMarker,
+  StreaminfoMissing,
+  SecondComment,
+  SecondStreaminfo,
+  TooManyBlocks,
+}
 use Rattle.claxon_format.specs.Codes.{Each, ThenFault, MeetsOr, Met, Never}
 use Rattle.claxon_format.specs.Metadata.{Big}
 use Rattle.claxon_format.specs.Streaminfo.{Streaminfo}
 use Rattle.claxon_format.specs.Comments.{Comment}
-use Rattle.claxon_format.specs.MetadataBlocks.{Content, Info, Comments, MetadataBlock, BlockCode, BlockFault}
+use Rattle.claxon_format.specs.MetadataBlocks.{
+  Content,
+  Info,
+  Comments,
+  MetadataBlock,
+  BlockCode,
+  BlockFault,
+}
 
 -- whether metadata alone is read, and whether comments are wanted
 pub record Options : Type 0 where
@@ -40,11 +79,13 @@ max_blocks = 65536
 
 -- ---- the code
 
--- a block after which no more metadata is wanted: the comments, or the streaminfo where comments are not wanted
+-- a block after which no more metadata is wanted: the comments, or the streaminfo where comments
+-- are not wanted
 abbrev pub is_enough : Options → Content → Bool
 is_enough o c = o.metadata_only && cond o.wants_comment (is_comment c) (is_info c)
 
--- the last block that is read: the last one of the head, or one after which no more metadata is wanted
+-- the last block that is read: the last one of the head, or one after which no more metadata is
+-- wanted
 abbrev pub is_end : Options → MetadataBlock → Bool
 is_end o b = b.is_last || is_enough o b.content
 
@@ -67,8 +108,10 @@ abbrev pub first : List Comment → Option Comment
 first [] = None
 first (c ∷ others) = Some c
 
--- the streaminfo comes first and nowhere else, at most one block has comments, and reading stops after the last block
-pub record IsHead (o : Options) (h : Head) (b : MetadataBlock) (others : List MetadataBlock) : Type 0 where
+-- the streaminfo comes first and nowhere else, at most one block has comments, and reading stops
+-- after the last block
+pub record IsHead (o : Options) (h : Head) (b : MetadataBlock) (others : List MetadataBlock) : Type
+    0 where
   pub info : b.content ≡ Info h.info
   pub no_info : list_any (λ b. is_info b.content) others ≡ false
   pub one_comment : length (comments_in others) ≤ 1
@@ -80,7 +123,8 @@ pub record IsHead (o : Options) (h : Head) (b : MetadataBlock) (others : List Me
 abbrev pub HeadCode : Options → Head → List ℕ → Type 0
 HeadCode o h t =
     (b : MetadataBlock) × (others : List MetadataBlock) × (x : List ℕ) × (y : List ℕ) × (z : List ℕ)
-    × Big 4 stream_marker x × BlockCode b y × Each BlockCode others z × IsHead o h b others × (t ≡ x ++ (y ++ z))
+    × Big 4 stream_marker x × BlockCode b y × Each BlockCode others z × IsHead o h b others
+    × (t ≡ x ++ (y ++ z))
 
 -- ---- faults, block by block
 
@@ -105,7 +149,9 @@ is_done suffices found b = b.is_last || (suffices && is_some (found_with found b
 abbrev pub OthersFault : Bool → ℕ → Option Comment → Fault → List ℕ → Type 0
 OthersFault suffices zero found = Met TooManyBlocks
 OthersFault suffices (suc k) found =
-    ThenFault BlockCode BlockFault (λ b. MeetsOr (is_info b.content) SecondStreaminfo (MeetsOr (is_second found b.content) SecondComment (
+    ThenFault BlockCode BlockFault (λ b.
+    MeetsOr (is_info b.content) SecondStreaminfo (
+    MeetsOr (is_second found b.content) SecondComment (
     cond (is_done suffices found b) Never (OthersFault suffices k (found_with found b.content)))))
 
 -- no block is read after the streaminfo
@@ -114,13 +160,18 @@ streaminfo_ends_head o is_last = is_last || (o.metadata_only && not o.wants_comm
 
 -- the first block must be a streaminfo; then the faults of the others
 abbrev pub FirstFault : Options → Bool → Content → Fault → List ℕ → Type 0
-FirstFault o is_last (Info i) = cond (streaminfo_ends_head o is_last) Never (OthersFault o.metadata_only 65535 None)
+FirstFault o is_last (Info i) =
+    cond (streaminfo_ends_head o is_last) Never (OthersFault o.metadata_only 65535 None)
 FirstFault o is_last _ = Met StreaminfoMissing
 
 -- an ID3 tag begins with 49 44 33
 abbrev pub MarkerFault : Fault → List ℕ → Type 0
-MarkerFault = ThenFault (Big 4) Never (λ m. MeetsOr (m / 256 == 0x494433) Id3Header (MeetsOr (not (m == stream_marker)) StreamMarker Never))
+MarkerFault =
+    ThenFault (Big 4) Never (λ m.
+    MeetsOr (m / 256 == 0x494433) Id3Header (MeetsOr (not (m == stream_marker)) StreamMarker Never))
 
 -- the faults of the fields, in order
 abbrev pub HeadFault : Options → Fault → List ℕ → Type 0
-HeadFault o = ThenFault Marker MarkerFault (λ m. ThenFault BlockCode BlockFault (λ b. FirstFault o b.is_last b.content))
+HeadFault o =
+    ThenFault Marker MarkerFault (λ m.
+    ThenFault BlockCode BlockFault (λ b. FirstFault o b.is_last b.content))

@@ -1,8 +1,20 @@
 -- Metadata blocks (RFC 9639, section 8).
 use Rattle.std.specs.Prelude.{◌≡◌, ℕ, ◌≤◌, Bool, cond, not, ◌==◌, ◌||◌, nat_lt, List, ◌++◌, length}
-use Rattle.claxon_format.specs.Fault.{Fault, StreaminfoLength, BlockType, ApplicationShort, ApplicationLarge}
+use Rattle.claxon_format.specs.Fault.{
+  Fault,
+  StreaminfoLength,
+  BlockType,
+  ApplicationShort,
+  ApplicationLarge,
+}
 use Rattle.claxon_format.specs.Codes.{ThenFault, MeetsOr, Never, Mapped}
-use Rattle.claxon_format.specs.Metadata.{Bytes, Big, max_content_bytes, BlockHeader, BlockHeaderCode}
+use Rattle.claxon_format.specs.Metadata.{
+  Bytes,
+  Big,
+  max_content_bytes,
+  BlockHeader,
+  BlockHeaderCode,
+}
 use Rattle.claxon_format.specs.Streaminfo.{Streaminfo, StreaminfoCode, StreaminfoFault}
 use Rattle.claxon_format.specs.Comments.{Comment, CommentCode, CommentFault}
 
@@ -22,9 +34,12 @@ InfoBody n b t = (n ≡ 34) × Mapped Info StreaminfoCode b t
 
 -- section 8.4: an application ID, and application data
 abbrev pub ApplicationBody : ℕ → Content → List ℕ → Type 0
-ApplicationBody n b t = (id : ℕ) × (x : List ℕ) × (bytes : List ℕ) × (n ≤ max_content_bytes) × (length t ≡ n) × Big 4 id x × (b ≡ Application id bytes) × (t ≡ x ++ bytes)
+ApplicationBody n b t =
+    (id : ℕ) × (x : List ℕ) × (bytes : List ℕ) × (n ≤ max_content_bytes) × (length t ≡ n)
+    × Big 4 id x × (b ≡ Application id bytes) × (t ≡ x ++ bytes)
 
--- padding (section 8.3), and seek tables, cue sheets and pictures (8.5, 8.7, 8.8), whose content is skipped
+-- padding (section 8.3), and seek tables, cue sheets and pictures (8.5, 8.7, 8.8), whose content
+-- is skipped
 abbrev pub is_padding : ℕ → Bool
 is_padding type = (type == 1) || (type == 3) || (type == 5) || (type == 6)
 
@@ -35,17 +50,23 @@ skipped type n = cond (is_padding type) (Padding n) Reserved
 -- types 0, 2 and 4 are read, type 127 is forbidden, and any other is skipped
 abbrev pub Body : ℕ → ℕ → Content → List ℕ → Type 0
 Body type n =
-    cond (type == 0) (InfoBody n) (cond (type == 2) (ApplicationBody n) (cond (type == 4) (Mapped Comments (CommentCode n)) (
+    cond (type == 0) (InfoBody n) (
+    cond (type == 2) (ApplicationBody n) (
+    cond (type == 4) (Mapped Comments (CommentCode n)) (
     cond (type == 127) (λ b t. ⊥) (Mapped (λ bytes. skipped type n) (Bytes n)))))
 
 -- the length is checked first
 abbrev pub ApplicationFault : ℕ → Fault → List ℕ → Type 0
-ApplicationFault n = MeetsOr (nat_lt n 4) ApplicationShort (MeetsOr (nat_lt max_content_bytes n) ApplicationLarge Never)
+ApplicationFault n =
+    MeetsOr (nat_lt n 4) ApplicationShort (
+    MeetsOr (nat_lt max_content_bytes n) ApplicationLarge Never)
 
 -- the faults of the type and the length, and then those of the content
 abbrev pub BodyFault : ℕ → ℕ → Fault → List ℕ → Type 0
 BodyFault type n =
-    cond (type == 0) (MeetsOr (not (n == 34)) StreaminfoLength StreaminfoFault) (cond (type == 2) (ApplicationFault n) (cond (type == 4) (CommentFault n) (
+    cond (type == 0) (MeetsOr (not (n == 34)) StreaminfoLength StreaminfoFault) (
+    cond (type == 2) (ApplicationFault n) (
+    cond (type == 4) (CommentFault n) (
     MeetsOr (type == 127) BlockType Never)))
 
 -- ---- a block with its header
@@ -57,7 +78,9 @@ pub record MetadataBlock : Type 0 where
 
 -- a header, and content of its type and length
 abbrev pub BlockCode : MetadataBlock → List ℕ → Type 0
-BlockCode b t = (h : BlockHeader) × (x : List ℕ) × (y : List ℕ) × BlockHeaderCode h x × Body h.type h.length b.content y × (b.is_last ≡ h.is_last) × (t ≡ x ++ y)
+BlockCode b t =
+    (h : BlockHeader) × (x : List ℕ) × (y : List ℕ) × BlockHeaderCode h x
+    × Body h.type h.length b.content y × (b.is_last ≡ h.is_last) × (t ≡ x ++ y)
 
 -- the faults of the content: a header has none
 abbrev pub BlockFault : Fault → List ℕ → Type 0

@@ -1,5 +1,20 @@
 -- Whole streams (RFC 9639, section 6): a head and frames. And the order in which samples are given.
-use Rattle.std.specs.Prelude.{◌≡◌, ℕ, Bool, false, List, [], ◌∷◌, ◌++◌, length, map, get_or, ℤ, pos, Some}
+use Rattle.std.specs.Prelude.{
+  ◌≡◌,
+  ℕ,
+  Bool,
+  false,
+  List,
+  [],
+  ◌∷◌,
+  ◌++◌,
+  length,
+  map,
+  get_or,
+  ℤ,
+  pos,
+  Some,
+}
 use Rattle.std.specs.List.{flat_map, range_with_len}
 use Rattle.claxon_format.specs.Streaminfo.{Streaminfo}
 use Rattle.claxon_format.specs.Frame.{StreamFormat, Block, Frames, NoFrameLeft}
@@ -20,14 +35,20 @@ interleave channels = flat_map (samples_at channels) (range_with_len 0 (duration
 
 -- what frames need to know of their stream
 abbrev pub stream_of : Streaminfo → StreamFormat
-stream_of i = record { width = i.width; min_block_size = i.min_block_size; max_block_size = i.max_block_size }
+stream_of i =
+    record {
+      bit_depth = i.bit_depth;
+      min_block_size = i.min_block_size;
+      max_block_size = i.max_block_size;
+    }
 
 -- all blocks up to the first frame are read
 abbrev pub with_samples : Bool → Options
 with_samples wants_comment = record { metadata_only = false; wants_comment = wants_comment }
 
 -- s is a head, the frames of these blocks, and r, which begins with no further frame
-pub record IsStream (wants_comment : Bool) (s : List ℕ) (h : Head) (blocks : List Block) (r : List ℕ) : Type 0 where
+pub record IsStream (wants_comment : Bool) (s : List ℕ) (h : Head) (blocks : List Block)
+    (r : List ℕ) : Type 0 where
   pub front : List ℕ
   pub frames : List ℕ
   pub head : HeadCode (with_samples wants_comment) h front

@@ -8,7 +8,7 @@ use Rattle.claxon_format.proofs.FrameBytes.{Reads-start}
 use Rattle.claxon_format.proofs.Laws.{Reads-map, Reads-same, unambiguous}
 use Rattle.claxon_input.specs.declared.error.Error.TheVariants.{OutOfMemory}
 use Rattle.claxon_input.specs.State.{State}
-use Rattle.claxon_input.specs.Promises.{Remains, EofPromises, HasFailed, IsOutOfMemory}
+use Rattle.claxon_input.specs.Promises.{Remains, EofPromises, ReadFailed, IsOutOfMemory}
 use Rattle.claxon_input.specs.Gives.{Consumes, GivesOrEof, or_eof}
 use Rattle.claxon_input.proofs.ConsecutiveCalls.{StopsWith, consumes_map}
 use Rattle.claxon_input.proofs.FieldOrEof.{enough, found, never_out_of_memory_or_eof, some_read}
@@ -60,7 +60,7 @@ module _ (stream : Option StreamFormat) (r : HeaderAnswer) (a b : State ℕ) (g 
   info_promises =
       eof_promises (Reads-info stream) 2 (incomplete_info stream) (λ info. info) r a b (never_out_of_memory_or_eof 2 (λ info. info) r (header_info_at stream) a b g)
 
-  pub info_eof_is_none : (xs : List ℕ) → Remains a xs → length xs < 2 → ((r ≡ Ok None) × Remains b []) ⊎ HasFailed r a b
+  pub info_eof_is_none : (xs : List ℕ) → Remains a xs → length xs < 2 → ((r ≡ Ok None) × Remains b []) ⊎ ReadFailed r a b
   info_eof_is_none xs o small = elim (info_promises.eof_is_none xs o small) [
     | inl p ↦ inl p
     | inr (inl e) ↦ absurd (info_never_out_of_memory stream r a b g e)

@@ -5,10 +5,10 @@ use Rattle.claxon_format.specs.Bits.{Bits, bits, bits_of}
 use Rattle.claxon_format.specs.Codes.{EachWith}
 use Rattle.claxon_format.specs.Crc.{crc16}
 use Rattle.claxon_format.specs.Fault.{Fault}
-use Rattle.claxon_format.specs.Frame.{Block, Frame, FrameBytesFault, StreamFormat, known_width}
+use Rattle.claxon_format.specs.Frame.{Block, Frame, FrameBytesFault, StreamFormat, known_bit_depth}
 use Rattle.claxon_format.specs.FrameWriter.{channel_count}
 use Rattle.claxon_format.specs.Header.{Header, HeaderCode}
-use Rattle.claxon_format.specs.Stereo.{DecorrelatedChannels, DecorrelatedPair, EachSamplePair, widths}
+use Rattle.claxon_format.specs.Stereo.{DecorrelatedChannels, DecorrelatedPair, EachSamplePair, bit_depths}
 use Rattle.claxon_format.specs.Streams.{duration_of}
 use Rattle.claxon_format.specs.Subframe.{Subframe}
 use Rattle.claxon_format.specs.read.Bytes.{left_bytes, whole}
@@ -51,7 +51,7 @@ pair_shape n code ws (xs ∷ ys ∷ []) (ls ∷ rs ∷ []) t c d =
     (refl, length_of_left code xs ys ls rs d ∙ duration_is n ws (xs ∷ ys ∷ []) t some c)
 pair_shape n code ws _ _ t c d = absurd d
 
-shape_of : (n code w : ℕ) (coded channels : List (List ℤ)) (t : Bits) → EachWith (λ w. Subframe w n) (widths code w) coded t → DecorrelatedChannels code coded channels → (channel_count code ≡ length channels) × (n ≡ duration_of channels)
+shape_of : (n code w : ℕ) (coded channels : List (List ℤ)) (t : Bits) → EachWith (λ w. Subframe w n) (bit_depths code w) coded t → DecorrelatedChannels code coded channels → (channel_count code ≡ length channels) × (n ≡ duration_of channels)
 shape_of n code w coded channels t c d = go (ltb code 8) _ c d
   where
     go : (b : Bool) (pair : List ℕ) → EachWith (λ w. Subframe w n) (cond b (replicate (code + 1) w) pair) coded t → cond b (channels ≡ coded) (DecorrelatedPair code coded channels) → (cond b (code + 1) 2 ≡ length channels) × (n ≡ duration_of channels)
@@ -65,9 +65,9 @@ shape_of n code w coded channels t c d = go (ltb code 8) _ c d
 
 -- ---- the header in bytes
 
-header_begins : (stream : Option StreamFormat) (h : Header) (x : Bits) (s : List ℕ) (z : Bits) → HeaderCode (known_width stream) h x → bits_of s ≡ x ++ z → (u : List ℕ) × (m : List ℕ) × HeaderOf stream (block_info stream h) u × (s ≡ u ++ m)
+header_begins : (stream : Option StreamFormat) (h : Header) (x : Bits) (s : List ℕ) (z : Bits) → HeaderCode (known_bit_depth stream) h x → bits_of s ≡ x ++ z → (u : List ℕ) × (m : List ℕ) × HeaderOf stream (block_info stream h) u × (s ≡ u ++ m)
 header_begins stream h x s z c e =
-    let known = known_width stream in
+    let known = known_bit_depth stream in
     let is : header_at known (bits_of s) ≡ Done h z = ap (header_at known) e ∙ (Reads-header known).again h x z c in
     let start : start_at stream s ≡ Done (start_of stream h) (left_bytes s z) = start_is stream s ∙ ap (λ (r : Reading Bool Header). whole s (bind r (λ h. done (start_of stream h)))) is in
     let k = (Reads-start stream).takes s (start_of stream h) (left_bytes s z) start in
@@ -81,7 +81,7 @@ frame_has_header stream b t rest (x, (y, p, (h, coded, front, after, header, sub
     let parts : bits_of (t ++ rest) ≡ front ++ (after ++ (p ++ (crc ++ r))) =
     bits_of-append t rest ∙ ap (λ (q : Bits). q ++ r) t-is ∙ ap (λ (q : Bits). (q ++ crc) ++ r) (x-is ∙ ap (λ (q : Bits). q ++ p) y-is)
     ∙ append_assoc ((front ++ after) ++ p) crc r ∙ append_assoc (front ++ after) p (crc ++ r) ∙ append_assoc front after (p ++ (crc ++ r)) in
-    let shape = shape_of h.fields.size h.fields.channels h.width coded b.channels after subframes decorrelation in
+    let shape = shape_of h.fields.size h.fields.channels h.bit_depth coded b.channels after subframes decorrelation in
     (block_info stream h, record { time = sym time; channels = shape.0; duration_is = shape.1 }, header_begins stream h front (t ++ rest) (after ++ (p ++ (crc ++ r))) header parts)
 
 -- the fault of a header is one of its frame

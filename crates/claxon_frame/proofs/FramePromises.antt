@@ -2,7 +2,7 @@
 use Rattle.std.proofs.Common.{◌≡◌, ◌⊎◌, inl, inr, ℕ, ◌*◌, ◌<◌, true, ltb, List, [], length, Option, None, refl, sym, subst, ◌∙◌}
 use Rattle.std.specs.Prelude.{Result, Ok}
 use Rattle.std.proofs.lemmas.Bool.{lt-ltb}
-use Rattle.claxon_format.specs.Frame.{Block, Frame, FrameBytesFault, IsWidth, StreamFormat, known_width}
+use Rattle.claxon_format.specs.Frame.{Block, Frame, FrameBytesFault, IsBitDepth, StreamFormat, known_bit_depth}
 use Rattle.claxon_format.specs.read.Frame.{frame_bytes_at, Start, start_at}
 use Rattle.claxon_format.specs.FrameWriter.{channel_count}
 use Rattle.claxon_format.specs.read.Header.{sync_at, fields_at, fields_with_crc_at}
@@ -11,7 +11,7 @@ use Rattle.claxon_format.specs.read.Reading.{Done, Incomplete}
 use Rattle.claxon_format.proofs.FrameBytes.{Reads-frame_bytes, Reads-start}
 use Rattle.claxon_input.specs.declared.error.Error.{Error}
 use Rattle.claxon_input.specs.State.{State, RemainingIsKnown}
-use Rattle.claxon_input.specs.Promises.{Remains, EofPromises, HasFailed, IfOutOfMemory, IsOutOfMemory, Consumed}
+use Rattle.claxon_input.specs.Promises.{Remains, EofPromises, ReadFailed, IfOutOfMemory, IsOutOfMemory, Consumed}
 use Rattle.claxon_input.specs.Gives.{GivesOrEofOrOutOfMemory}
 use Rattle.claxon_frame.specs.FrameReader.{BufferTooSmall, HeaderOfLargerBlock, OutOfMemoryBeyondCapacity}
 use Rattle.claxon_frame.proofs.FrameParts.{start_stops}
@@ -46,12 +46,12 @@ memory_is stream capacity r a b h e = only_header stream capacity a b (when_out_
 
 -- ---- all clauses
 
-module _ {A : Type 0} (view : A → Block) (stream : Option StreamFormat) (width : IsWidth (known_width stream)) (r : Result (Option A) Error) (a b : State ℕ) (g : GivesOrEofOrOutOfMemory 2 view r (frame_bytes_at stream) a b) where
+module _ {A : Type 0} (view : A → Block) (stream : Option StreamFormat) (bit_depth : IsBitDepth (known_bit_depth stream)) (r : Result (Option A) Error) (a b : State ℕ) (g : GivesOrEofOrOutOfMemory 2 view r (frame_bytes_at stream) a b) where
   pub frame_promises : EofPromises 2 view r (Frame stream) (FrameBytesFault stream) a b
-  frame_promises = eof_promises (Reads-frame_bytes stream width) 2 (incomplete_frame stream) view r a b g
+  frame_promises = eof_promises (Reads-frame_bytes stream bit_depth) 2 (incomplete_frame stream) view r a b g
 
   -- nothing is allocated at the end of the input
-  pub frame_eof_is_none : (capacity : ℕ) → IfOutOfMemory r (BufferTooSmall stream capacity a b) → (xs : List ℕ) → Remains a xs → length xs < 2 → ((r ≡ Ok None) × Remains b []) ⊎ HasFailed r a b
+  pub frame_eof_is_none : (capacity : ℕ) → IfOutOfMemory r (BufferTooSmall stream capacity a b) → (xs : List ℕ) → Remains a xs → length xs < 2 → ((r ≡ Ok None) × Remains b []) ⊎ ReadFailed r a b
   frame_eof_is_none capacity h xs o small = elim (frame_promises.eof_is_none xs o small) [
     | inl p ↦ inl p
     | inr (inl e) ↦ absurd (no_header stream capacity a b (when_out_of_memory r h e) o.known (rw o.are small))

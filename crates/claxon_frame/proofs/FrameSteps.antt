@@ -3,12 +3,12 @@ use Rattle.std.proofs.lemmas.Bool.{lt-ltb}
 use Rattle.std.proofs.Common.{◌≡◌, ℕ, ◌-◌, ◌*◌, ◌≤◌, arith, ◌<◌, true, false, ltb, List, length, refl, subst, ◌∙◌, ℤ}
 use Rattle.std.specs.Prelude.{Result, Err, Option, None, Some}
 use Rattle.claxon_format.specs.Fault.{FrameCrc}
-use Rattle.claxon_format.specs.Frame.{IsWidth, StreamFormat, known_width}
+use Rattle.claxon_format.specs.Frame.{IsBitDepth, StreamFormat, known_bit_depth}
 use Rattle.claxon_format.specs.read.Frame.{frame_bytes_at, block_from, subframes_at, Start, start_at}
 use Rattle.claxon_format.specs.read.Bytes.{crc_at}
 use Rattle.claxon_format.specs.FrameWriter.{channel_count}
 use Rattle.claxon_format.specs.read.Reading.{Reading, Done, Faulty, Incomplete, bind, done}
-use Rattle.claxon_format.specs.Stereo.{widths}
+use Rattle.claxon_format.specs.Stereo.{bit_depths}
 use Rattle.claxon_input.specs.declared.error.Error.{Error}
 use Rattle.claxon_input.specs.declared.error.Error.TheVariants.{IoError, FormatError, Unsupported, OutOfMemory}
 use Rattle.claxon_input.specs.CrcUpdate.{update_crc16}
@@ -38,13 +38,13 @@ bytes_with_crc16 crc s = bytes_of_source (with_crc (update_crc16 crc) s)
 or_found : {X A : Type 0} (k : ℕ) (read : List X → Reading X A) (s : List X) (x : Reading X A) → ltb (length s) k ≡ false → read s ≡ x → or_eof k read s ≡ found x
 or_found k read s x t e = rw (t, e) refl
 
-module _ (stream : Option StreamFormat) (width : IsWidth (known_width stream)) where
+module _ (stream : Option StreamFormat) (bit_depth : IsBitDepth (known_bit_depth stream)) where
   -- the header is invalid or incomplete
   pub header_stops : {e : Error} {a b : State ℕ} → Stops e (or_eof 2 (start_at stream)) a b → Stops e (or_eof 2 (frame_bytes_at stream)) a b
   header_stops h = first_stops 2 (start_at stream) (frame_bytes_at stream) (start_stops stream) h
 
   -- or the subframes are
-  pub channels_stopped : {e : Error} {start : Start} {a b c : State ℕ} → Consumes a b (λ s m. or_eof 2 (start_at stream) s ≡ Done (Some start) m) → Stops e (subframes_at start.size (widths start.channels start.width)) b c
+  pub channels_stopped : {e : Error} {start : Start} {a b c : State ℕ} → Consumes a b (λ s m. or_eof 2 (start_at stream) s ≡ Done (Some start) m) → Stops e (subframes_at start.size (bit_depths start.channels start.bit_depth)) b c
       → Stops e (or_eof 2 (frame_bytes_at stream)) a c
   channels_stopped {start = start} {a = a} {b = b} h k = stops_as (consumes_map _ h (λ p.
       let q = some_read 2 (start_at stream) a.remaining start b.remaining p in
@@ -60,7 +60,7 @@ module _ (stream : Option StreamFormat) (width : IsWidth (known_width stream)) w
     frame_is : frame_bytes_at stream s ≡ bind (crc_at 2 crc FrameCrc rest) (λ u. done (block_from start channels))
 
   before_crc : (start : Start) (channels : List (List ℤ)) (first crc : ℕ) (s t : Source ℕ) {b : State ℕ} → first ≡ 0 → crc < 65536 → Consumes (bytes_with_crc16 first s) b (λ s m. or_eof 2 (start_at stream) s ≡ Done (Some start) m)
-      → Consumes b (bytes_with_crc16 crc t) (λ s m. subframes_at start.size (widths start.channels start.width) s ≡ Done channels m) → Consumes (bytes_with_crc16 first s) (bytes_with_crc16 crc t) (BeforeCrc start channels crc)
+      → Consumes b (bytes_with_crc16 crc t) (λ s m. subframes_at start.size (bit_depths start.channels start.bit_depth) s ≡ Done channels m) → Consumes (bytes_with_crc16 first s) (bytes_with_crc16 crc t) (BeforeCrc start channels crc)
   before_crc start channels first crc s t {b = b} zero small h k =
       let all = consumes_then (λ s m. Unit {0}) h k (λ p q. tt) in
       record {
@@ -82,23 +82,23 @@ module _ (stream : Option StreamFormat) (width : IsWidth (known_width stream)) w
 
   -- the CRC is wrong or incomplete
   pub footer_stops : {e : Error} (start : Start) (channels : List (List ℤ)) (first crc : ℕ) (s t : Source ℕ) {b c : State ℕ} → first ≡ 0 → crc < 65536 → Consumes (bytes_with_crc16 first s) b (λ s m. or_eof 2 (start_at stream) s ≡ Done (Some start) m)
-      → Consumes b (bytes_with_crc16 crc t) (λ s m. subframes_at start.size (widths start.channels start.width) s ≡ Done channels m) → Stops e (crc_at 2 crc FrameCrc) (bytes_with_crc16 crc t) c → Stops e (or_eof 2 (frame_bytes_at stream)) (bytes_with_crc16 first s) c
+      → Consumes b (bytes_with_crc16 crc t) (λ s m. subframes_at start.size (bit_depths start.channels start.bit_depth) s ≡ Done channels m) → Stops e (crc_at 2 crc FrameCrc) (bytes_with_crc16 crc t) c → Stops e (or_eof 2 (frame_bytes_at stream)) (bytes_with_crc16 first s) c
   footer_stops start channels first crc s t zero small h k e = stops_as (consumes_map _ (before_crc start channels first crc s t zero small h k) (λ p. record {
     fault = λ f rest q. or_found 2 (frame_bytes_at stream) (bytes_with_crc16 first s).remaining (Faulty f rest) p.enough (p.frame_is ∙ rw q refl);
     incomplete = λ q. or_found 2 (frame_bytes_at stream) (bytes_with_crc16 first s).remaining Incomplete p.enough (p.frame_is ∙ rw q refl);
   })) e
 
   pub frame_consumes : (start : Start) (channels : List (List ℤ)) (first crc : ℕ) (s t : Source ℕ) {b c : State ℕ} → first ≡ 0 → crc < 65536 → Consumes (bytes_with_crc16 first s) b (λ s m. or_eof 2 (start_at stream) s ≡ Done (Some start) m)
-      → Consumes b (bytes_with_crc16 crc t) (λ s m. subframes_at start.size (widths start.channels start.width) s ≡ Done channels m) → Consumes (bytes_with_crc16 crc t) c (λ s m. crc_at 2 crc FrameCrc s ≡ Done tt m)
+      → Consumes b (bytes_with_crc16 crc t) (λ s m. subframes_at start.size (bit_depths start.channels start.bit_depth) s ≡ Done channels m) → Consumes (bytes_with_crc16 crc t) c (λ s m. crc_at 2 crc FrameCrc s ≡ Done tt m)
       → Consumes (bytes_with_crc16 first s) c (λ s m. or_eof 2 (frame_bytes_at stream) s ≡ Done (Some (block_from start channels)) m)
   frame_consumes start channels first crc s t {c = c} zero small h k f =
       consumes_then _ (before_crc start channels first crc s t zero small h k) f (λ p q. or_found 2 (frame_bytes_at stream) (bytes_with_crc16 first s).remaining (Done (block_from start channels) c.remaining) p.enough (p.frame_is ∙ rw q refl))
 
 -- ---- the bit depth of a stream
 
-pub stream_is_width : (format : Option KnownStreamFormat) → IsWidth (known_width (stream_format_view format))
-stream_is_width None = tt
-stream_is_width (Some format) = (format.min_bits, format.max_bits)
+pub stream_is_bit_depth : (format : Option KnownStreamFormat) → IsBitDepth (known_bit_depth (stream_format_view format))
+stream_is_bit_depth None = tt
+stream_is_bit_depth (Some format) = (format.min_bits, format.max_bits)
 
 -- ---- out of memory
 

@@ -16,7 +16,7 @@ use Rattle.claxon_format.specs.read.Frame.{coded_channels_at}
 use Rattle.claxon_frame.specs.Block.{chunks}
 use Rattle.claxon_frame.specs.declared.frame.header.parts.ChannelAssignment.{ChannelAssignment}
 use Rattle.claxon_frame.specs.declared.frame.header.parts.ChannelAssignment.TheVariants.{Independent, LeftSideStereo, RightSideStereo, MidSideStereo}
-use Rattle.claxon_frame.proofs.Chunks.{chunk_ends}
+use Rattle.claxon_frame.proofs.ChannelsInBuffer.{chunk_ends}
 use Rattle.claxon_subframe.proofs.PartitionLoop.{length-range, front_replaced}
 
 -- there is a bit depth for each channel

@@ -1,8 +1,23 @@
 -- What a frame header says of its block, and a call that reads a header alone.
-use Rattle.std.specs.Prelude.{◌≡◌, ◌⊎◌, ℕ, ◌<◌, ◌≤◌, List, [], length, Option, None, IfOk, IfSome, Result, Ok}
+use Rattle.std.specs.Prelude.{
+  ◌≡◌,
+  ◌⊎◌,
+  ℕ,
+  ◌<◌,
+  ◌≤◌,
+  List,
+  [],
+  length,
+  Option,
+  None,
+  IfOk,
+  IfSome,
+  Result,
+  Ok,
+}
 use Rattle.claxon_format.specs.Bits.{bits_of}
 use Rattle.claxon_format.specs.Fault.{Fault}
-use Rattle.claxon_format.specs.Frame.{StreamFormat, ByteAlignedFault, known_width, time_of}
+use Rattle.claxon_format.specs.Frame.{StreamFormat, ByteAlignedFault, known_bit_depth, time_of}
 use Rattle.claxon_format.specs.FrameWriter.{channel_count}
 use Rattle.claxon_format.specs.Header.{Header, HeaderCode, HeaderFault}
 use Rattle.claxon_format.specs.Unambiguous.{IsUnambiguous}
@@ -10,7 +25,17 @@ use Rattle.claxon_format.specs.read.Frame.{Start, start_at}
 use Rattle.claxon_format.specs.read.Reading.{Reading, and_then, done}
 use Rattle.claxon_input.specs.declared.error.Error.{Error}
 use Rattle.claxon_input.specs.Gives.{GivesOrEof}
-use Rattle.claxon_input.specs.Promises.{FoundIsComplete, Remains, ElseIoErrorFrom, HasFailed, LeavesRest, FaultIsComplete, NoneIsEof, FaultIsSound, FoundIsSound}
+use Rattle.claxon_input.specs.Promises.{
+  FoundIsComplete,
+  Remains,
+  ElseIoErrorFrom,
+  ReadFailed,
+  LeavesRest,
+  FaultIsComplete,
+  NoneIsEof,
+  FaultIsSound,
+  FoundIsSound,
+}
 use Rattle.claxon_input.specs.Source.{Source}
 use Rattle.claxon_input.specs.State.{bytes_in}
 use Rattle.claxon_frame.specs.FrameReader.{frame_bytes, frame_stream}
@@ -25,17 +50,17 @@ block_info stream h = record {
   time = time_of stream h.fields;
   channels = channel_count h.fields.channels;
   duration = h.fields.size;
-  bits_per_sample = h.width;
+  bit_depth = h.bit_depth;
 }
 
 -- The bytes of a header that says this of its block.
 abbrev pub HeaderOf : Option StreamFormat → BlockInfo → List ℕ → Type 0
 HeaderOf stream info t =
-    (h : Header) × HeaderCode (known_width stream) h (bits_of t) × (info ≡ block_info stream h)
+    (h : Header) × HeaderCode (known_bit_depth stream) h (bits_of t) × (info ≡ block_info stream h)
 
 -- the faults of a header, in bytes
 abbrev pub HeaderBytesFault : Option StreamFormat → Fault → List ℕ → Type 0
-HeaderBytesFault stream = ByteAlignedFault (HeaderFault (known_width stream))
+HeaderBytesFault stream = ByteAlignedFault (HeaderFault (known_bit_depth stream))
 
 -- what a call returns that reads a header
 abbrev pub HeaderAnswer : Type 0
@@ -54,7 +79,7 @@ info_of_start start = record {
   time = start.time;
   channels = channel_count start.channels;
   duration = start.size;
-  bits_per_sample = start.width;
+  bit_depth = start.bit_depth;
 }
 
 abbrev pub info_of_header : FrameHeader → BlockInfo
@@ -64,22 +89,27 @@ info_of_header header = info_of_start (start_view header)
 abbrev pub header_info_at : Option StreamFormat → List ℕ → Reading ℕ BlockInfo
 header_info_at stream = and_then (start_at stream) (λ start. done (info_of_start start))
 
--- The result and the consumed bytes are those of the format's reader, or fewer than two bytes were left, which are consumed.
+-- The result and the consumed bytes are those of the format's reader, or fewer than two bytes
+-- were left, which are consumed.
 abbrev pub HeaderInfoIsRead : {R : Type 0} → (R → Source ℕ) → Option StreamFormat → R
     → HeaderAnswer → R → Type 0
 HeaderInfoIsRead source stream old result new =
-    GivesOrEof 2 (λ info. info) result (header_info_at stream) (bytes_in source old) (bytes_in source new)
+    GivesOrEof 2 (λ info. info) result (header_info_at stream) (bytes_in source old) (
+    bytes_in source new)
 
--- ---- the clauses of `read_header_or_eof`. `old` and `new` are the reader before and after the call.
+-- ---- the clauses of `read_header_or_eof`. `old` and `new` are the reader before and after the
+-- call.
 
-module _ {R : Type 0} (source : R → Source ℕ) (old : FrameReader R) (result : HeaderAnswer) (new : FrameReader R) where
+module _ {R : Type 0} (source : R → Source ℕ) (old : FrameReader R) (result : HeaderAnswer)
+    (new : FrameReader R) where
   -- The consumed bytes are a header that says what is returned.
   abbrev pub HeaderIsSound : Type 0
   HeaderIsSound =
       FoundIsSound (λ info. info) result (HeaderOf (frame_stream old))
       (frame_bytes source old) (frame_bytes source new)
 
-  -- If the bytes begin with a header, what it says is returned and just its bytes are consumed, or the source failed.
+  -- If the bytes begin with a header, what it says is returned and just its bytes are
+  -- consumed, or the source failed.
   abbrev pub HeaderIsComplete : Type 0
   HeaderIsComplete =
       FoundIsComplete (λ info. info) result (HeaderOf (frame_stream old))
@@ -93,12 +123,13 @@ module _ {R : Type 0} (source : R → Source ℕ) (old : FrameReader R) (result 
   abbrev pub HeaderEofIsNone : Type 0
   HeaderEofIsNone = (xs : List ℕ) → Remains (frame_bytes source old) xs → length xs < 2
       → ((result ≡ Ok None) × Remains (frame_bytes source new) [])
-      ⊎ HasFailed result (frame_bytes source old) (frame_bytes source new)
+      ⊎ ReadFailed result (frame_bytes source old) (frame_bytes source new)
 
   -- If a read of the source fails, the result is an Err.
   abbrev pub HeaderFailureIsErr : Type 0
   HeaderFailureIsErr =
-      IfOk result (λ found. (frame_bytes source new).source.errors ≡ (frame_bytes source old).source.errors)
+      IfOk result (λ found.
+      (frame_bytes source new).source.errors ≡ (frame_bytes source old).source.errors)
 
   -- An Err other than `IoError` is a fault of the consumed bytes.
   abbrev pub HeaderFaultIsSound : Type 0
@@ -106,13 +137,15 @@ module _ {R : Type 0} (source : R → Source ℕ) (old : FrameReader R) (result 
       FaultIsSound result (HeaderBytesFault (frame_stream old))
       (frame_bytes source old) (frame_bytes source new)
 
-  -- If the bytes begin with a fault, its Err is returned and just its bytes are consumed, or the source failed.
+  -- If the bytes begin with a fault, its Err is returned and just its bytes are consumed, or
+  -- the source failed.
   abbrev pub HeaderFaultIsComplete : Type 0
   HeaderFaultIsComplete =
       FaultIsComplete result (HeaderBytesFault (frame_stream old))
       (frame_bytes source old) (frame_bytes source new)
 
-  -- If at least two bytes are left and they begin with neither, the input ends inside the header: the Err is an `IoError`.
+  -- If at least two bytes are left and they begin with neither, the input ends inside the
+  -- header: the Err is an `IoError`.
   abbrev pub HeaderElseIoError : Type 0
   HeaderElseIoError =
       ElseIoErrorFrom 2 result (HeaderOf (frame_stream old)) (HeaderBytesFault (frame_stream old))

@@ -1,15 +1,43 @@
 -- The parts of a frame header in the code (RFC 9639, section 9.1).
-use Rattle.std.specs.Prelude.{◌≡◌, ◌<◌, ◌≤◌, ℕ, ◌+◌, ◌-◌, List, get_or, Bool, true, false, cond, ◌==◌, Option, Some, None}
-use Rattle.claxon_format.specs.Header.{width_of}
-use Rattle.claxon_format.specs.Stereo.{widths}
+use Rattle.std.specs.Prelude.{
+  ◌≡◌,
+  ◌<◌,
+  ◌≤◌,
+  ℕ,
+  ◌+◌,
+  ◌-◌,
+  List,
+  get_or,
+  Bool,
+  true,
+  false,
+  cond,
+  ◌==◌,
+  Option,
+  Some,
+  None,
+}
+use Rattle.claxon_format.specs.Header.{bit_depth_of_code}
+use Rattle.claxon_format.specs.Stereo.{bit_depths}
 use Rattle.claxon_frame.specs.declared.frame.header.parts.BlockingStrategy.{BlockingStrategy}
-use Rattle.claxon_frame.specs.declared.frame.header.parts.BlockingStrategy.TheVariants.{Fixed, Variable}
+use Rattle.claxon_frame.specs.declared.frame.header.parts.BlockingStrategy.TheVariants.{
+  Fixed,
+  Variable,
+}
 use Rattle.claxon_frame.specs.declared.frame.header.parts.BlockTime.{BlockTime}
-use Rattle.claxon_frame.specs.declared.frame.header.parts.BlockTime.TheVariants.{FrameNumber, SampleNumber}
+use Rattle.claxon_frame.specs.declared.frame.header.parts.BlockTime.TheVariants.{
+  FrameNumber,
+  SampleNumber,
+}
 use Rattle.claxon_frame.specs.declared.frame.header.parts.BlockSize.{BlockSize}
 use Rattle.claxon_frame.specs.declared.frame.header.parts.BlockSize.TheVariants.{Known}
 use Rattle.claxon_frame.specs.declared.frame.header.parts.ChannelAssignment.{ChannelAssignment}
-use Rattle.claxon_frame.specs.declared.frame.header.parts.ChannelAssignment.TheVariants.{Independent, LeftSideStereo, RightSideStereo, MidSideStereo}
+use Rattle.claxon_frame.specs.declared.frame.header.parts.ChannelAssignment.TheVariants.{
+  Independent,
+  LeftSideStereo,
+  RightSideStereo,
+  MidSideStereo,
+}
 
 -- the smallest block size that a block size code can give
 abbrev pub least_size : BlockSize → ℕ
@@ -41,7 +69,7 @@ bit_depth_code (Some bits) =
 
 -- a bit depth that has a code
 abbrev pub HasBitDepthCode : ℕ → Type 0
-HasBitDepthCode bits = width_of None (bit_depth_code (Some bits)) ≡ Some bits
+HasBitDepthCode bits = bit_depth_of_code None (bit_depth_code (Some bits)) ≡ Some bits
 
 -- the blocking strategy bit
 abbrev pub is_variable : BlockingStrategy → Bool
@@ -55,7 +83,7 @@ block_time_view (SampleNumber n) = (true, n)
 
 -- the bit depths of the subframes of a frame
 abbrev pub subframe_bit_depths : ChannelAssignment → ℕ → List ℕ
-subframe_bit_depths assignment bits = widths (channel_code assignment) bits
+subframe_bit_depths assignment bits = bit_depths (channel_code assignment) bits
 
 -- The result is the bit depth of the subframe of channel ch, if there is such a channel.
 abbrev pub IsSubframeBitDepth : ChannelAssignment → ℕ → ℕ → ℕ → Type 0

@@ -9,11 +9,19 @@ use Rattle.claxon_input.specs.Source.{Source}
 use Rattle.claxon_input.specs.State.{bytes_in}
 use Rattle.claxon_input.specs.declared.error.Error.{Error}
 use Rattle.claxon_frame.specs.declared.frame.header.parts.BlockSize.{BlockSize}
-use Rattle.claxon_frame.specs.declared.frame.header.parts.BlockSize.TheVariants.{Known as KnownSize, Read8 as SizeOf8, Read16 as SizeOf16}
+use Rattle.claxon_frame.specs.declared.frame.header.parts.BlockSize.TheVariants.{
+  Known as KnownSize,
+  Read8 as SizeOf8,
+  Read16 as SizeOf16,
+}
 use Rattle.claxon_frame.specs.declared.frame.header.parts.FrameHeader.{FrameHeader}
 use Rattle.claxon_frame.specs.declared.frame.header.parts.HeaderFields.{HeaderFields}
 use Rattle.claxon_frame.specs.declared.frame.header.parts.SampleRate.{SampleRate}
-use Rattle.claxon_frame.specs.declared.frame.header.parts.SampleRate.TheVariants.{Known as NoRate, Read8 as RateOf8, Read16 as RateOf16}
+use Rattle.claxon_frame.specs.declared.frame.header.parts.SampleRate.TheVariants.{
+  Known as NoRate,
+  Read8 as RateOf8,
+  Read16 as RateOf16,
+}
 use Rattle.claxon_frame.specs.declared.frame.header.parts.KnownStreamFormat.{KnownStreamFormat}
 use Rattle.claxon_frame.specs.FrameHeader.{channel_code, block_time_view, bit_depth_code}
 
@@ -35,7 +43,7 @@ fields_view h = record {
   variable = (block_time_view h.block_time).0;
   size = h.block_size;
   channels = channel_code h.channel_assignment;
-  bit_depth_code = bit_depth_code h.bits_per_sample;
+  bit_depth_code = bit_depth_code h.bit_depth;
   number = (block_time_view h.block_time).1;
 }
 
@@ -45,21 +53,22 @@ start_view h = record {
   time = h.time;
   size = h.block_size;
   channels = channel_code h.channel_assignment;
-  width = h.bits_per_sample;
+  bit_depth = h.bit_depth;
 }
 
 -- what is known of the stream
 abbrev pub stream_format_view : Option KnownStreamFormat → Option StreamFormat
 stream_format_view None = None
 stream_format_view (Some format) = Some record {
-  width = format.bits_per_sample;
+  bit_depth = format.bit_depth;
   min_block_size = format.min_block_size;
   max_block_size = format.max_block_size;
 }
 
 -- ---- what the call that reads a header promises
 
--- The result and the consumed bytes are those of the format's reader, or fewer than two bytes were left, which are consumed.
+-- The result and the consumed bytes are those of the format's reader, or fewer than two bytes
+-- were left, which are consumed.
 abbrev pub FrameHeaderIsRead : {R : Type 0} → (R → Source ℕ) → Option StreamFormat → R
     → Result (Option FrameHeader) Error → R → Type 0
 FrameHeaderIsRead source stream old result new =

@@ -1,5 +1,18 @@
 //! Frames: blocks of samples, one after another.
-ghost use Rattle.std.specs.Prelude.{◌≡◌, ◌*◌, ◌<◌, ◌≤◌, true, IfOk, IfErr, Some, None, length, vec_len, vec_capacity};
+ghost use Rattle.std.specs.Prelude.{
+  ◌≡◌,
+  ◌*◌,
+  ◌<◌,
+  ◌≤◌,
+  true,
+  IfOk,
+  IfErr,
+  Some,
+  None,
+  length,
+  vec_len,
+  vec_capacity,
+};
 ghost use Rattle.claxon_format.specs.read.Frame.{block_from, frame_bytes_at};
 ghost use Rattle.claxon_frame.specs.Block.{max_block_samples};
 ghost use Rattle.claxon_format.specs.Streams.{duration_of};
@@ -12,7 +25,12 @@ ghost use Rattle.claxon_input.specs.Gives.{Gives, GivesOrEofOrOutOfMemory};
 ghost use Rattle.claxon_input.specs.Promises.{IfOutOfMemory};
 ghost use Rattle.claxon_frame.specs.FrameCrc.{crc16_bytes};
 ghost use Rattle.claxon_frame.specs.FrameStart.{stream_format_view, start_view};
-ghost use Rattle.claxon_frame.specs.FrameReader.{BlockHasSamples, BlockKeepsCapacity, BufferTooSmall, block_view};
+ghost use Rattle.claxon_frame.specs.FrameReader.{
+  BlockHasSamples,
+  BlockKeepsCapacity,
+  BufferTooSmall,
+  block_view,
+};
 ghost use Rattle.claxon_frame.specs.Subframes.{SubframesAreRead, channels_in, sample_count};
 
 mod block;
@@ -46,9 +64,43 @@ pub struct FrameReader<R> {
 pub type FrameResult<A = Global> = Result<Option<Block<A>>>;
 
 impl<R: ReadBytes> FrameReader<R> {
-    ghost use Rattle.claxon_frame.specs.BlockInfo.{HasBlockBounds, HeaderElseIoError, HeaderEofIsNone, HeaderFailureIsErr, HeaderFaultIsComplete, HeaderFaultIsSound, HeaderIsComplete, HeaderIsRead, HeaderIsSound, HeaderIsUnambiguous, HeaderLeavesRest, HeaderNoneIsEof};
+    ghost use Rattle.claxon_frame.specs.BlockInfo.{
+      HasBlockBounds,
+      HeaderElseIoError,
+      HeaderEofIsNone,
+      HeaderFailureIsErr,
+      HeaderFaultIsComplete,
+      HeaderFaultIsSound,
+      HeaderIsComplete,
+      HeaderIsRead,
+      HeaderIsSound,
+      HeaderIsUnambiguous,
+      HeaderLeavesRest,
+      HeaderNoneIsEof,
+    };
     ghost use Rattle.claxon_subframe.specs.Decode.{NeverOutOfMemory};
-    ghost use Rattle.claxon_frame.specs.FrameReader.{BlockHasSamples, BlockKeepsCapacity, FrameFaultIsComplete, FrameIsComplete, FailureIsErr, FrameFaultIsSound, FrameIsRead, FrameIsUnambiguous, FrameLeavesRest, FrameIsSound, FrameElseIoError, FrameNoneIsEof, PlansHaveBytes, PlansWriteFrames, FrameOutOfMemoryAfterHeader, MaxCapacityIsEnough, FrameEofIsNone, frame_input, frame_stream, stream_with};
+    ghost use Rattle.claxon_frame.specs.FrameReader.{
+      BlockHasSamples,
+      BlockKeepsCapacity,
+      FrameFaultIsComplete,
+      FrameIsComplete,
+      FailureIsErr,
+      FrameFaultIsSound,
+      FrameIsRead,
+      FrameIsUnambiguous,
+      FrameLeavesRest,
+      FrameIsSound,
+      FrameElseIoError,
+      FrameNoneIsEof,
+      PlansHaveBytes,
+      PlansWriteFrames,
+      FrameOutOfMemoryAfterHeader,
+      MaxCapacityIsEnough,
+      FrameEofIsNone,
+      frame_input,
+      frame_stream,
+      stream_with,
+    };
 
     /// A reader that knows nothing of the stream: each frame header has to give the bit depth.
     pub fn new(input: R) -> FrameReader<R>
@@ -63,15 +115,15 @@ impl<R: ReadBytes> FrameReader<R> {
 
     /// A reader of the frames of the stream with this streaminfo, which has 1 to 32 bits per sample.
     pub fn with_streaminfo(input: R, info: StreamInfo) -> FrameReader<R>
-        requires min_bits { 1 ≤ info.bits_per_sample }
-        requires max_bits { info.bits_per_sample ≤ 32 }
+        requires min_bit_depth { 1 ≤ info.bits_per_sample }
+        requires max_bit_depth { info.bits_per_sample ≤ 32 }
         ensures input { frame_input result ≡ input }
         ensures stream { frame_stream result ≡ Some (stream_with info) }
     {
         FrameReader {
             input,
             stream: Some(KnownStreamFormat {
-                bits_per_sample: info.bits_per_sample,
+                bit_depth: info.bits_per_sample,
                 min_block_size: info.min_block_size,
                 max_block_size: info.max_block_size,
             }),
@@ -97,25 +149,29 @@ impl<R: ReadBytes> FrameReader<R> {
     /// fails or ends inside the frame. `OutOfMemory`, after the header was consumed, if the buffer is too small and memory for
     /// a larger one is refused. After an error the next call starts at the first byte that wasn't consumed.
     pub fn read_next_or_eof<A: Allocator>(&mut self, buffer: Vec<i32, A>) -> FrameResult<A>
-        ensures stream { frame_stream self.new ≡ frame_stream self.old }
-        ensures some { BlockHasSamples result }
-        ensures sound { FrameIsSound R.source self.old result self.new }
-        ensures complete { FrameIsComplete R.source self.old result self.new }
-        ensures unambiguous { FrameIsUnambiguous (frame_stream self.old) }
-        ensures lossless { PlansWriteFrames (frame_stream self.old) }
-        ensures bytes_exist { PlansHaveBytes (frame_stream self.old) }
+        // What it returns, and consumes.
+        ensures is_sound { FrameIsSound R.source self.old result self.new }
+        ensures is_complete { FrameIsComplete R.source self.old result self.new }
         ensures none_is_eof { FrameNoneIsEof R.source self.old result self.new }
         ensures eof_is_none { FrameEofIsNone R.source self.old result self.new }
-        ensures no_failure { FailureIsErr R.source self.old result self.new }
-        ensures fault { FrameFaultIsSound R.source self.old result self.new }
-        ensures named { FrameFaultIsComplete R.source self.old result self.new }
-        ensures io { FrameElseIoError R.source self.old result self.new }
-        ensures front { FrameLeavesRest R.source self.old result self.new }
-        ensures memory { FrameOutOfMemoryAfterHeader R.source (vec_capacity buffer)
-            self.old result self.new }
-        ensures max_capacity { MaxCapacityIsEnough (vec_capacity buffer) result }
-        ensures kept_capacity { BlockKeepsCapacity (vec_capacity buffer) result }
-        ensures gives { FrameIsRead R.source self.old result self.new }
+        ensures failure_is_err { FailureIsErr R.source self.old result self.new }
+        ensures fault_is_sound { FrameFaultIsSound R.source self.old result self.new }
+        ensures fault_is_complete { FrameFaultIsComplete R.source self.old result self.new }
+        ensures else_io_error { FrameElseIoError R.source self.old result self.new }
+        ensures leaves_rest { FrameLeavesRest R.source self.old result self.new }
+        // What the definitions say.
+        ensures is_unambiguous { FrameIsUnambiguous (frame_stream self.old) }
+        ensures plans_write_frames { PlansWriteFrames (frame_stream self.old) }
+        ensures plans_have_bytes { PlansHaveBytes (frame_stream self.old) }
+        // Memory.
+        ensures out_of_memory_after_header { FrameOutOfMemoryAfterHeader R.source
+            (vec_capacity buffer) self.old result self.new }
+        ensures max_capacity_is_enough { MaxCapacityIsEnough (vec_capacity buffer) result }
+        ensures keeps_capacity { BlockKeepsCapacity (vec_capacity buffer) result }
+        // What callers' proofs need.
+        ensures stream { frame_stream self.new ≡ frame_stream self.old }
+        ensures has_samples { BlockHasSamples result }
+        ensures is_read { FrameIsRead R.source self.old result self.new }
     {
         read_next_or_eof_exact(&mut self.input, self.stream, buffer)
     }
@@ -133,19 +189,19 @@ impl<R: ReadBytes> FrameReader<R> {
     /// `OutOfMemory`. After an error the next call starts at the first byte that wasn't consumed.
     pub fn read_header_or_eof(&mut self) -> Result<Option<BlockInfo>>
         ensures stream { frame_stream self.new ≡ frame_stream self.old }
-        ensures bounds { HasBlockBounds result }
-        ensures sound { HeaderIsSound R.source self.old result self.new }
-        ensures complete { HeaderIsComplete R.source self.old result self.new }
-        ensures unambiguous { HeaderIsUnambiguous (frame_stream self.old) }
+        ensures has_block_bounds { HasBlockBounds result }
+        ensures is_sound { HeaderIsSound R.source self.old result self.new }
+        ensures is_complete { HeaderIsComplete R.source self.old result self.new }
+        ensures is_unambiguous { HeaderIsUnambiguous (frame_stream self.old) }
         ensures none_is_eof { HeaderNoneIsEof R.source self.old result self.new }
         ensures eof_is_none { HeaderEofIsNone R.source self.old result self.new }
-        ensures no_failure { HeaderFailureIsErr R.source self.old result self.new }
-        ensures fault { HeaderFaultIsSound R.source self.old result self.new }
-        ensures named { HeaderFaultIsComplete R.source self.old result self.new }
-        ensures io { HeaderElseIoError R.source self.old result self.new }
-        ensures front { HeaderLeavesRest R.source self.old result self.new }
-        ensures no_memory { NeverOutOfMemory result }
-        ensures gives { HeaderIsRead R.source self.old result self.new }
+        ensures failure_is_err { HeaderFailureIsErr R.source self.old result self.new }
+        ensures fault_is_sound { HeaderFaultIsSound R.source self.old result self.new }
+        ensures fault_is_complete { HeaderFaultIsComplete R.source self.old result self.new }
+        ensures else_io_error { HeaderElseIoError R.source self.old result self.new }
+        ensures leaves_rest { HeaderLeavesRest R.source self.old result self.new }
+        ensures never_out_of_memory { NeverOutOfMemory result }
+        ensures is_read { HeaderIsRead R.source self.old result self.new }
     {
         read_block_info_or_eof(&mut self.input, self.stream)
     }
@@ -168,8 +224,8 @@ fn read_next_or_eof_exact<R: ReadBytes, A: Allocator>(
     ensures gives { GivesOrEofOrOutOfMemory 2 block_view result
         (frame_bytes_at (stream_format_view stream))
         (bytes_in R.source input.old) (bytes_in R.source input.new) }
-    ensures some { BlockHasSamples result }
-    ensures kept_capacity { BlockKeepsCapacity (vec_capacity buffer) result }
+    ensures has_samples { BlockHasSamples result }
+    ensures keeps_capacity { BlockKeepsCapacity (vec_capacity buffer) result }
     ensures buffer_too_small { IfOutOfMemory result
         (BufferTooSmall (stream_format_view stream) (vec_capacity buffer)
         (bytes_in R.source input.old) (bytes_in R.source input.new)) }
@@ -237,7 +293,7 @@ fn decode_subframes<R: ReadBytes>(
     let size = usize::from(header.block_size);
     let mut start = 0;
     for ch in 0..assignment.channels() {
-        let bit_depth = assignment.bit_depth(header.bits_per_sample, ch);
+        let bit_depth = assignment.bit_depth(header.bit_depth, ch);
         subframe::decode(&mut bits, bit_depth, &mut buffer[start..start + size])?;
         start += size;
     }

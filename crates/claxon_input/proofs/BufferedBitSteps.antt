@@ -10,9 +10,9 @@ use Rattle.claxon_format.proofs.Bytes.{bits_of-append, length-bits_of}
 use Rattle.claxon_format.proofs.Numbers.{length-bits}
 use Rattle.claxon_input.specs.Bitstream.{BitState, left_in, TakesBits, BitsFailureOrEof}
 use Rattle.claxon_input.specs.BufferedBits.{skipped_bits_at}
-use Rattle.claxon_input.specs.Source.{Source, IsFront, IsKnown, Skips, Takes, FailureOrEof, Failed}
+use Rattle.claxon_input.specs.Source.{Source, IsFront, IsKnown, Skips, Takes, ReadFailedOrEof, SourceReadFailed}
 use Rattle.claxon_input.specs.State.{remaining_as, bits_after}
-use Rattle.claxon_input.specs.Gives.{Consumes, FailureOr}
+use Rattle.claxon_input.specs.Gives.{Consumes, ReadFailedOrRemaining}
 use Rattle.claxon_input.proofs.BitSteps.{bits_both, fetched, cut_in_cache, bits_failure_or_eof}
 use Rattle.claxon_input.proofs.States.{state_of_bits, consumed, failure}
 
@@ -65,9 +65,9 @@ incomplete_cause left (Some all) few n F e (inl h) = inl (omega (arith, length-a
 incomplete_cause left (Some all) few n F e (inr h) = inr h
 
 -- too few bytes remained for the skipped bits
-pub failure_or_skip : (a : BitState) (s : Source ℕ) (few n : ℕ) → length a.left + 8 * few ≤ n → FailureOrEof a.source s few → FailureOr (state_of_bits a) (state_of_bits (left_in 0 0 s)) (λ x. skipped_bits_at n x ≡ Incomplete)
+pub failure_or_skip : (a : BitState) (s : Source ℕ) (few n : ℕ) → length a.left + 8 * few ≤ n → ReadFailedOrEof a.source s few → ReadFailedOrRemaining (state_of_bits a) (state_of_bits (left_in 0 0 s)) (λ x. skipped_bits_at n x ≡ Incomplete)
 unfolding bits
-failure_or_skip a s few n e h = failure a (left_in 0 0 s) (λ x. skipped_bits_at n x ≡ Incomplete) (λ x. length x < n) h.rest (incomplete_cause a.left a.source.remaining few n (Failed a.source s) e h.cause) (too_few n)
+failure_or_skip a s few n e h = failure a (left_in 0 0 s) (λ x. skipped_bits_at n x ≡ Incomplete) (λ x. length x < n) h.rest (incomplete_cause a.left a.source.remaining few n (SourceReadFailed a.source s) e h.cause) (too_few n)
 
 -- the left-over bits and whole bytes were consumed
 pub bytes_skipped : (a : BitState) (s : Source ℕ) (few : ℕ) → Skips a.source s few → (t : Bits) × (length t ≡ length a.left + 8 * few) × TakesBits a (left_in 0 0 s) t
@@ -79,7 +79,7 @@ bytes_skipped a s few h =
     nothing [] = refl
     nothing (x ∷ xs) = ap (λ (l : Bits). x ∷ l) (nothing xs)
 
-pub failure_or_last : (a : BitState) (m s : Source ℕ) (few n : ℕ) → length a.left + 8 * few < n → Skips a.source m few → FailureOrEof m s 1 → FailureOr (state_of_bits a) (state_of_bits (left_in 0 0 s)) (λ x. skipped_bits_at n x ≡ Incomplete)
+pub failure_or_last : (a : BitState) (m s : Source ℕ) (few n : ℕ) → length a.left + 8 * few < n → Skips a.source m few → ReadFailedOrEof m s 1 → ReadFailedOrRemaining (state_of_bits a) (state_of_bits (left_in 0 0 s)) (λ x. skipped_bits_at n x ≡ Incomplete)
 unfolding bits
 failure_or_last a m s few n e h k =
     let p = bytes_skipped a m few h in

@@ -44,9 +44,3 @@ copied n m part s b e l = rw (e, take_at s b n l) refl
 
 pub cut_at : (items : List ℕ) (at to n : ℕ) (now : List ℕ) → to ≡ at + n → now ≡ items → drop at items ≡ take n (drop at items) ++ drop to now
 cut_at items at to n now e f = rw (e, f, ← drop-drop n at items) (sym (take-append-drop n (drop at items)))
-
--- a part of a part
-pub take_within : (n m : ℕ) (xs : List ℕ) → n ≤ m → m ≤ length xs → take n (take m xs) ≡ take n xs
-take_within n m xs h k =
-    let l : length (take m xs) ≡ m = length-front m xs k in
-    sym (ap (take n) (sym (take-append-drop m xs)) ∙ take-append-le n (take m xs) (drop m xs) (omega (arith, l)))

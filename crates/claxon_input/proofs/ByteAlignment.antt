@@ -10,7 +10,7 @@ use Rattle.claxon_format.specs.read.Reading.{Reading, Done, Faulty, Incomplete}
 use Rattle.claxon_format.proofs.Bytes.{length-bits_of}
 use Rattle.claxon_format.proofs.Numbers.{length-bits}
 use Rattle.claxon_input.specs.Source.{Source, IsKnown, through_loan}
-use Rattle.claxon_input.specs.Gives.{Consumes, FailureOr, Gives, IsRest}
+use Rattle.claxon_input.specs.Gives.{Consumes, ReadFailedOrRemaining, Gives, IsRest}
 use Rattle.claxon_input.specs.State.{bits_in, bytes_in, state_of, bits_after, remaining_as}
 use Rattle.claxon_input.specs.Bitstream.{bit_state}
 use Rattle.claxon_input.specs.declared.bits.Bitstream.{Bitstream}
@@ -64,7 +64,7 @@ module _ (s t : Source ℕ) (j k : GName) (left : Bits) (few : length left < 8) 
   }
 
   failure_or_aligned : (P : Bits → Type 0) (Q : List ℕ → Type 0) → ((z : List ℕ) → P (bits_of z) → Q z)
-      → FailureOr (state_of (bits_after []) (through_loan j s)) (state_of (bits_after left) (through_loan k t)) P → FailureOr (state_of (λ all. all) s) (state_of (λ all. all) t) Q
+      → ReadFailedOrRemaining (state_of (bits_after []) (through_loan j s)) (state_of (bits_after left) (through_loan k t)) P → ReadFailedOrRemaining (state_of (λ all. all) s) (state_of (λ all. all) t) Q
   failure_or_aligned P Q f h = record {
     loans = (let e : k ∷ t.loans ≡ j ∷ s.loans = h.loans in cc);
     known = λ e. let x = h.known e in record { known = x.known; why = elim x.why [ inl p ↦ inl (both_known (λ a b. P a) (λ a b. Q a) left s.remaining t.remaining (λ z m r. f z) e x.known x.rest p) | inr p ↦ inr p ]; rest = x.rest };

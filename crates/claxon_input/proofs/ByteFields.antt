@@ -10,16 +10,16 @@ use Rattle.claxon_input.specs.Bytes.{be_bytes, le_bytes}
 use Rattle.claxon_input.specs.declared.error.Error.{Error}
 use Rattle.claxon_input.specs.declared.error.Error.TheVariants.{IoError}
 use Rattle.claxon_input.specs.Promises.{ConsumesAtMost}
-use Rattle.claxon_input.specs.Source.{Source, MovesAtMost, Takes, FailureOrEof, Skips}
+use Rattle.claxon_input.specs.Source.{Source, MovesAtMost, Takes, ReadFailedOrEof, Skips}
 use Rattle.claxon_input.specs.State.{State, bytes_in, remaining_as}
-use Rattle.claxon_input.specs.Gives.{Consumes, FailureOr, Gives}
+use Rattle.claxon_input.specs.Gives.{Consumes, ReadFailedOrRemaining, Gives}
 use Rattle.claxon_input.proofs.BigEndian.{be_1, be_2, length-be_bytes, length-le_bytes, big_endian-bytes, little_endian-bytes}
 use Rattle.claxon_input.proofs.Sources.{most_front}
 use Rattle.claxon_input.proofs.States.{consumes_taken, failure_or_bytes}
 use Rattle.claxon_input.proofs.ConsecutiveCalls.{consumes_map, consumes_none, gives_after, failure_or_after, failure_or_known, io_exit}
 
 -- what is made of the bytes doesn't matter where the input ends
-incomplete_after : {X Y : Type 0} {a b : State X} {read : List X → Reading X Y} {Z : Type 0} (whole : List X → Reading X Z) → ((s : List X) → read s ≡ Incomplete → whole s ≡ Incomplete) → FailureOr a b (λ s. read s ≡ Incomplete) → FailureOr a b (λ s. whole s ≡ Incomplete)
+incomplete_after : {X Y : Type 0} {a b : State X} {read : List X → Reading X Y} {Z : Type 0} (whole : List X → Reading X Z) → ((s : List X) → read s ≡ Incomplete → whole s ≡ Incomplete) → ReadFailedOrRemaining a b (λ s. read s ≡ Incomplete) → ReadFailedOrRemaining a b (λ s. whole s ≡ Incomplete)
 incomplete_after {a = a} whole f k = failure_or_after (λ s. whole s ≡ Incomplete) (consumes_none a (λ s m. s ≡ m) refl) k (λ p q. f a.remaining q)
 
 most_known : (p q : Option (List ℕ)) (n : ℕ) → MovesAtMost p q n → length (remaining_as (λ all. all) p) ≤ n + length (remaining_as (λ all. all) q)
@@ -43,19 +43,19 @@ module _ {R : Type 0} (source : R → Source ℕ) {a b : R} where
   pub consumes_byte : (n : ℕ) → n < 256 → Takes (source a) (source b) (n ∷ []) → Consumes (bytes_in source a) (bytes_in source b) (λ s m. big_at 1 s ≡ Done n m)
   consumes_byte n small h = consumes_big 1 n small (rw (be_1 n small) h)
 
-  pub failure_or_big : (k : ℕ) → FailureOrEof (source a) (source b) k → FailureOr (bytes_in source a) (bytes_in source b) (λ s. big_at k s ≡ Incomplete)
+  pub failure_or_big : (k : ℕ) → ReadFailedOrEof (source a) (source b) k → ReadFailedOrRemaining (bytes_in source a) (bytes_in source b) (λ s. big_at k s ≡ Incomplete)
   unfolding bytes_in big_at
   failure_or_big k h = incomplete_after (big_at k) (λ s p. rw p refl) (failure_or_bytes k h)
 
   -- by a `?` on a call that reads the first number of several
-  pub exit_big : {A Y : Type 0} (view : A → Y) (r : Result A Error) (k : ℕ) (next : ℕ → List ℕ → Reading ℕ Y) (cause : io.Error) → IsErrAnd r (λ y. y ≡ IoError cause) → FailureOrEof (source a) (source b) k → Gives view r (and_then (big_at k) next) (bytes_in source a) (bytes_in source b)
+  pub exit_big : {A Y : Type 0} (view : A → Y) (r : Result A Error) (k : ℕ) (next : ℕ → List ℕ → Reading ℕ Y) (cause : io.Error) → IsErrAnd r (λ y. y ≡ IoError cause) → ReadFailedOrEof (source a) (source b) k → Gives view r (and_then (big_at k) next) (bytes_in source a) (bytes_in source b)
   exit_big view r k next cause p h = io_exit view (err_from_is_err_and r p) (failure_or_known _ (failure_or_big k h) (λ t q. rw q refl))
 
   pub consumes_little : (n : ℕ) → n < 2 ^ 32 → Takes (source a) (source b) (le_bytes 4 n) → Consumes (bytes_in source a) (bytes_in source b) (λ s m. little_at 4 s ≡ Done n m)
   unfolding bytes_in little_at
   consumes_little n small h = consumes_map _ (consumes_taken 4 (length-le_bytes 4 n) h) (λ p. rw (p, little_endian-bytes n small) refl)
 
-  pub failure_or_little : (k : ℕ) → FailureOrEof (source a) (source b) k → FailureOr (bytes_in source a) (bytes_in source b) (λ s. little_at k s ≡ Incomplete)
+  pub failure_or_little : (k : ℕ) → ReadFailedOrEof (source a) (source b) k → ReadFailedOrRemaining (bytes_in source a) (bytes_in source b) (λ s. little_at k s ≡ Incomplete)
   unfolding bytes_in little_at
   failure_or_little k h = incomplete_after (little_at k) (λ s p. rw p refl) (failure_or_bytes k h)
 
@@ -63,7 +63,7 @@ module _ {R : Type 0} (source : R → Source ℕ) {a b : R} where
   unfolding bytes_in
   consumes_whole k xs l h = consumes_taken k l h
 
-  pub failure_or_whole : (k : ℕ) → FailureOrEof (source a) (source b) k → FailureOr (bytes_in source a) (bytes_in source b) (λ s. bytes_at k s ≡ Incomplete)
+  pub failure_or_whole : (k : ℕ) → ReadFailedOrEof (source a) (source b) k → ReadFailedOrRemaining (bytes_in source a) (bytes_in source b) (λ s. bytes_at k s ≡ Incomplete)
   unfolding bytes_in
   failure_or_whole k h = failure_or_bytes k h
 
@@ -71,13 +71,13 @@ module _ {R : Type 0} (source : R → Source ℕ) {a b : R} where
   unfolding bytes_in skipped_at
   consumes_skipped k (xs, l, h) = consumes_map _ (consumes_taken k l h) (λ p. rw p refl)
 
-  pub failure_or_skipped : (k : ℕ) → FailureOrEof (source a) (source b) k → FailureOr (bytes_in source a) (bytes_in source b) (λ s. skipped_at k s ≡ Incomplete)
+  pub failure_or_skipped : (k : ℕ) → ReadFailedOrEof (source a) (source b) k → ReadFailedOrRemaining (bytes_in source a) (bytes_in source b) (λ s. skipped_at k s ≡ Incomplete)
   unfolding bytes_in skipped_at
   failure_or_skipped k h = incomplete_after (skipped_at k) (λ s p. rw p refl) (failure_or_bytes k h)
 
   -- ---- how many bytes were consumed
 
-  pub most_refused : (n : ℕ) → FailureOrEof (source a) (source b) n → ConsumesAtMost n (bytes_in source a) (bytes_in source b)
+  pub most_refused : (n : ℕ) → ReadFailedOrEof (source a) (source b) n → ConsumesAtMost n (bytes_in source a) (bytes_in source b)
   unfolding bytes_in
   most_refused n h = most_known (source a).remaining (source b).remaining n h.most
 
@@ -107,7 +107,7 @@ module _ {R : Type 0} (source : R → Source ℕ) {a b : R} where
   most_byte n h = most_taken source 1 (omega arith) h
 
   -- little-endian numbers, and buffers
-  pub exit_little : {A Y : Type 0} (view : A → Y) (r : Result A Error) (k : ℕ) (next : ℕ → List ℕ → Reading ℕ Y) (cause : io.Error) → IsErrAnd r (λ y. y ≡ IoError cause) → FailureOrEof (source a) (source b) k → Gives view r (and_then (little_at k) next) (bytes_in source a) (bytes_in source b)
+  pub exit_little : {A Y : Type 0} (view : A → Y) (r : Result A Error) (k : ℕ) (next : ℕ → List ℕ → Reading ℕ Y) (cause : io.Error) → IsErrAnd r (λ y. y ≡ IoError cause) → ReadFailedOrEof (source a) (source b) k → Gives view r (and_then (little_at k) next) (bytes_in source a) (bytes_in source b)
   exit_little view r k next cause p h = io_exit view (err_from_is_err_and r p) (failure_or_known _ (failure_or_little source k h) (λ t q. rw q refl))
 
   pub most_little : (n : ℕ) → Takes (source a) (source b) (le_bytes 4 n) → ConsumesAtMost 4 (bytes_in source a) (bytes_in source b)

@@ -7,7 +7,7 @@ use Rattle.claxon_format.specs.read.Reading.{Reading, Done, Faulty, Incomplete}
 use Rattle.claxon_input.specs.declared.error.Error.{Error}
 use Rattle.claxon_input.specs.declared.error.Error.TheVariants.{IoError, FormatError, Unsupported, OutOfMemory}
 use Rattle.claxon_input.specs.State.{State, RemainingIsKnown}
-use Rattle.claxon_input.specs.Gives.{Consumes, FailureOr, FailedIn, IsFaultOf, Stops, Gives, OutOfMemoryLeavesRest, GivesOrOutOfMemory}
+use Rattle.claxon_input.specs.Gives.{Consumes, ReadFailedOrRemaining, ReadFailedIn, IsFaultOf, Stops, Gives, OutOfMemoryLeavesRest, GivesOrOutOfMemory}
 use Rattle.claxon_input.specs.Error.{is_io}
 
 -- nothing was consumed
@@ -30,15 +30,15 @@ consumes_map T h f = record { errors = h.errors; empty_reads = h.empty_reads; lo
 pub consumes_known : {X : Type 0} {a b : State X} {P : List X → List X → Type 0} (T : List X → List X → Type 0) → Consumes a b P → (RemainingIsKnown a → P a.remaining b.remaining → T a.remaining b.remaining) → Consumes a b T
 consumes_known T h f = record { errors = h.errors; empty_reads = h.empty_reads; loans = h.loans; known = λ t. let x = h.known t in record { known = x.known; is = f t x.is; rest = x.rest; crcs = x.crcs } }
 
-pub failure_or_known : {X : Type 0} {a b : State X} {Q : List X → Type 0} (T : List X → Type 0) → FailureOr a b Q → (RemainingIsKnown a → Q a.remaining → T a.remaining) → FailureOr a b T
+pub failure_or_known : {X : Type 0} {a b : State X} {Q : List X → Type 0} (T : List X → Type 0) → ReadFailedOrRemaining a b Q → (RemainingIsKnown a → Q a.remaining → T a.remaining) → ReadFailedOrRemaining a b T
 failure_or_known T h f = record { loans = h.loans; known = λ t. let x = h.known t in record { known = x.known; why = elim x.why [ inl q ↦ inl (f t q) | inr q ↦ inr q ]; rest = x.rest } }
 
-failed_later : {X : Type 0} {a b : State X} (c : State X) {P : List X → List X → Type 0} → Consumes a b P → FailedIn b c → FailedIn a c
+failed_later : {X : Type 0} {a b : State X} (c : State X) {P : List X → List X → Type 0} → Consumes a b P → ReadFailedIn b c → ReadFailedIn a c
 failed_later c h (inl e) = inl (λ p. e (p ∙ sym h.errors))
 failed_later c h (inr e) = inr ((λ p. e.0 (p ∙ sym h.empty_reads)), e.1)
 
 -- a failure after something was consumed
-pub failure_or_after : {X : Type 0} {a b c : State X} {P : List X → List X → Type 0} {Q : List X → Type 0} (T : List X → Type 0) → Consumes a b P → FailureOr b c Q → (P a.remaining b.remaining → Q b.remaining → T a.remaining) → FailureOr a c T
+pub failure_or_after : {X : Type 0} {a b c : State X} {P : List X → List X → Type 0} {Q : List X → Type 0} (T : List X → Type 0) → Consumes a b P → ReadFailedOrRemaining b c Q → (P a.remaining b.remaining → Q b.remaining → T a.remaining) → ReadFailedOrRemaining a c T
 failure_or_after {c = c} T h k f = record {
   loans = k.loans ∙ h.loans;
   known = λ t. let x = h.known t in let y = k.known x.known in record { known = y.known; why = elim y.why [ inl q ↦ inl (f x.is q) | inr q ↦ inr (failed_later c h q) ]; rest = λ z e. y.rest z (x.rest z e) };
@@ -70,7 +70,7 @@ gives_after view (Err e) c h k = stops_after h (record { fault = λ s f rest q. 
 -- ---- exits
 
 -- by a `?` on a call of the stream
-pub io_exit : {X A Y : Type 0} (view : A → Y) {r : Result A Error} {read : List X → Reading X Y} {a c : State X} {cause : io.Error} → (y : Error) × (r ≡ Err y) × (y ≡ IoError cause) → FailureOr a c (λ s. read s ≡ Incomplete) → Gives view r read a c
+pub io_exit : {X A Y : Type 0} (view : A → Y) {r : Result A Error} {read : List X → Reading X Y} {a c : State X} {cause : io.Error} → (y : Error) × (r ≡ Err y) × (y ≡ IoError cause) → ReadFailedOrRemaining a c (λ s. read s ≡ Incomplete) → Gives view r read a c
 io_exit view p h = rw (p.1, p.2) (record { failure = λ i. h; fault = λ i. absurd cc; named = refl })
 
 -- by a `?` on a call that gives what reading gives

@@ -11,7 +11,7 @@ use Rattle.claxon_format.proofs.Bytes.{bits_of-append}
 use Rattle.claxon_format.proofs.Laws.{taken_is}
 use Rattle.claxon_input.specs.Source.{Source, IsKnown, through_loan, with_crc}
 use Rattle.claxon_input.specs.State.{State, bytes_in, crcs_at_eof, remaining_as, RemainingIsKnown}
-use Rattle.claxon_input.specs.Gives.{IsRest, Consumes, FailureOr, IsFaultOf, Stops, Gives, GivesOrOutOfMemory}
+use Rattle.claxon_input.specs.Gives.{IsRest, Consumes, ReadFailedOrRemaining, IsFaultOf, Stops, Gives, GivesOrOutOfMemory}
 use Rattle.claxon_input.specs.CrcReader.{crc_source, crc_state, crc_inner}
 use Rattle.claxon_input.specs.declared.crc.CrcReader.{CrcReader}
 use Rattle.claxon_input.specs.declared.error.Error.{Error}
@@ -77,7 +77,7 @@ module _ {X : Type 0} (a b : State X) (m n : GName) (f g : List ℕ → ℕ) whe
   pub consumes_below : (P : List X → List X → Type 0) → Consumes (under m f a) (under n g b) P → Consumes a b P
   consumes_below P h = record { errors = h.errors; empty_reads = h.empty_reads; loans = same_loans_below m n a.source.loans b.source.loans h.loans; known = λ t. let x = h.known t in record { known = x.known; is = x.is; rest = x.rest; crcs = same_crcs_below a.source.remaining b.source.remaining f g a.source.crcs b.source.crcs t x.known x.crcs } }
 
-  pub failure_or_below : (P : List X → Type 0) → FailureOr (under m f a) (under n g b) P → FailureOr a b P
+  pub failure_or_below : (P : List X → Type 0) → ReadFailedOrRemaining (under m f a) (under n g b) P → ReadFailedOrRemaining a b P
   failure_or_below P h = record { loans = same_loans_below m n a.source.loans b.source.loans h.loans; known = λ t. let x = h.known t in record { known = x.known; why = x.why; rest = x.rest } }
 
   pub stops_below : {Y : Type 0} (e : Error) (read : List X → Reading X Y) → Stops e read (under m f a) (under n g b) → Stops e read a b

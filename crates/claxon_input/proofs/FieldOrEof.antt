@@ -6,9 +6,9 @@ use Rattle.claxon_format.specs.Fault.{Fault}
 use Rattle.claxon_format.specs.read.Bytes.{bytes_at, big_at}
 use Rattle.claxon_format.specs.read.Reading.{Reading, Done, Faulty, Incomplete, done, bind}
 use Rattle.claxon_input.specs.Bytes.{be_bytes}
-use Rattle.claxon_input.specs.Source.{Source, Takes, MeetsEof, SourceFailure}
+use Rattle.claxon_input.specs.Source.{Source, Takes, MeetsEof, ReadFailedOnce}
 use Rattle.claxon_input.specs.State.{State, bytes_in}
-use Rattle.claxon_input.specs.Gives.{Consumes, FailureOr, Stops, OutOfMemoryLeavesRest, ReachedEof, or_eof, GivesOrEof, GivesOrEofOrOutOfMemory}
+use Rattle.claxon_input.specs.Gives.{Consumes, ReadFailedOrRemaining, Stops, OutOfMemoryLeavesRest, ReachedEof, or_eof, GivesOrEof, GivesOrEofOrOutOfMemory}
 use Rattle.std.specs.declared.io.Error as io
 use Rattle.claxon_input.specs.declared.error.Error.{Error}
 use Rattle.claxon_input.specs.declared.error.Error.TheVariants.{IoError, FormatError, Unsupported, OutOfMemory}
@@ -37,7 +37,7 @@ module _ {R : Type 0} (source : R → Source ℕ) {a b : R} where
   consumes_big_or_eof : (k n : ℕ) → n < 2 ^ (8 * k) → Takes (source a) (source b) (be_bytes k n) → Consumes (bytes_in source a) (bytes_in source b) (λ s m. or_eof k (big_at k) s ≡ Done (Some n) m)
   consumes_big_or_eof k n small h = consumes_map _ (consumes_big source k n small h) (λ p. big_or_eof k _ _ n p)
 
-  pub failure_or_any_in : {n : ℕ} (P : List ℕ → Type 0) → SourceFailure (source a) (source b) n → FailureOr (bytes_in source a) (bytes_in source b) P
+  pub failure_or_any_in : {n : ℕ} (P : List ℕ → Type 0) → ReadFailedOnce (source a) (source b) n → ReadFailedOrRemaining (bytes_in source a) (bytes_in source b) P
   unfolding bytes_in
   failure_or_any_in P h = failure_or_any P h
 
@@ -53,7 +53,7 @@ gives_big_or_eof source a b k (Some n) small h = consumes_big_or_eof source k n 
 -- ---- exits
 
 -- by a `?` on a call of the reader
-pub io_exit_or_eof : {X A Y : Type 0} (k : ℕ) (view : A → Y) {r : Result (Option A) Error} (read : List X → Reading X Y) {a c : State X} {cause : io.Error} → (y : Error) × (r ≡ Err y) × (y ≡ IoError cause) → FailureOr a c (λ s. or_eof k read s ≡ Incomplete) → GivesOrEof k view r read a c
+pub io_exit_or_eof : {X A Y : Type 0} (k : ℕ) (view : A → Y) {r : Result (Option A) Error} (read : List X → Reading X Y) {a c : State X} {cause : io.Error} → (y : Error) × (r ≡ Err y) × (y ≡ IoError cause) → ReadFailedOrRemaining a c (λ s. or_eof k read s ≡ Incomplete) → GivesOrEof k view r read a c
 io_exit_or_eof k view read p h = rw (p.1, p.2) (record { failure = λ i. h; fault = λ i. absurd cc; named = refl })
 
 -- by a `?` on a call that may reach the end of input, or gives what a reader gives

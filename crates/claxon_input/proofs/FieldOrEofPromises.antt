@@ -7,7 +7,7 @@ use Rattle.claxon_format.specs.read.Reading.{Reading, Reads, Done, Faulty, Incom
 use Rattle.claxon_input.specs.declared.error.Error.{Error}
 use Rattle.claxon_input.specs.declared.error.Error.TheVariants.{IoError, FormatError, Unsupported, OutOfMemory}
 use Rattle.claxon_input.specs.State.{State, RemainingIsKnown}
-use Rattle.claxon_input.specs.Gives.{FailedIn, Stops, IsFaultOf, GivesOrOutOfMemory, ReachedEof, or_eof, GivesOrEofOrOutOfMemory}
+use Rattle.claxon_input.specs.Gives.{ReadFailedIn, Stops, IsFaultOf, GivesOrOutOfMemory, ReachedEof, or_eof, GivesOrEofOrOutOfMemory}
 use Rattle.claxon_input.specs.Error.{IsIo, is_io}
 use Rattle.claxon_input.specs.Promises.{FoundIsComplete, Remains, EofIsNone, EofPromises, ElseIoErrorFrom, IsExcused, LeavesRest, FaultIsComplete, NoneIsEof, FaultIsSound, FoundIsSound}
 use Rattle.claxon_input.proofs.Promises.{fault_is, leaves_rest, promises}
@@ -81,7 +81,7 @@ no_failure k view (Ok None) read a b h = h.errors
 no_failure k view (Ok (Some x)) read a b h = h.errors
 no_failure k view (Err e) read a b h = tt
 
-stops_at_eof : {X Y : Type 0} (e : Error) (io : Bool) (k : ℕ) (read : List X → Reading X Y) (a b : State X) (xs : List X) → is_io e ≡ io → Stops e (or_eof k read) a b → Remains a xs → length xs < k → (io ≡ true) × FailedIn a b
+stops_at_eof : {X Y : Type 0} (e : Error) (io : Bool) (k : ℕ) (read : List X → Reading X Y) (a b : State X) (xs : List X) → is_io e ≡ io → Stops e (or_eof k read) a b → Remains a xs → length xs < k → (io ≡ true) × ReadFailedIn a b
 stops_at_eof e true k read a b xs i h o l = (refl, elim ((h.failure i).known o.known).why [ inl p ↦ (let q = (incomplete_read k read a.remaining p).0 in let t : ltb (length a.remaining) k ≡ true = lt-ltb _ _ (rw o.are l) in absurd (cc (t, q))) | inr f ↦ f ])
 stops_at_eof e false k read a b xs i h o l =
     let q = (enough_fault e k read a.remaining b.remaining ((h.fault i).known o.known).is).0 in
@@ -113,19 +113,19 @@ module _ {X Y : Type 0} {read : List X → Reading X Y} {C : Y → List X → Ty
   found_is_complete : {A : Type 0} (view : A → Y) (r : Result (Option A) Error) (a b : State X) → GivesOrEofOrOutOfMemory k view r read a b → FoundIsComplete view r C a b
   found_is_complete view r a b g y t rest c o = elim (eof_or k view r read a b g) [
     | inl p ↦ absurd (not_reached_eof a b (Done y rest) o.known (ap read o.are ∙ law.again y t rest c) (λ q. cc) p.1)
-    | inr p ↦ elim ((promises law view p.0 a b p.2).complete y t rest c o) [
+    | inr p ↦ elim ((promises law view p.0 a b p.2).is_complete y t rest c o) [
       | inl q ↦ inl (rw p.1 (some_ok_and _ p.0 q.0), q.1)
       | inr q ↦ inr (rw p.1 (some_excused a b p.0 q))
     ]
   ]
 
   found_fault_is_sound : {A : Type 0} (view : A → Y) (r : Result (Option A) Error) (a b : State X) → GivesOrEofOrOutOfMemory k view r read a b → FaultIsSound r F a b
-  found_fault_is_sound view r a b g = elim (eof_or k view r read a b g) [ inl p ↦ rw p.0 tt | inr p ↦ rw p.1 (some_err _ p.0 ((promises law view p.0 a b p.2).fault)) ]
+  found_fault_is_sound view r a b g = elim (eof_or k view r read a b g) [ inl p ↦ rw p.0 tt | inr p ↦ rw p.1 (some_err _ p.0 ((promises law view p.0 a b p.2).fault_is_sound)) ]
 
   found_fault_is_complete : {A : Type 0} (view : A → Y) (r : Result (Option A) Error) (a b : State X) → GivesOrEofOrOutOfMemory k view r read a b → FaultIsComplete r F a b
   found_fault_is_complete view r a b g f t rest c o = elim (eof_or k view r read a b g) [
     | inl p ↦ absurd (not_reached_eof a b (Faulty f rest) o.known (ap read o.are ∙ law.bad_again f t rest c) (λ q. cc) p.1)
-    | inr p ↦ elim ((promises law view p.0 a b p.2).named f t rest c o) [
+    | inr p ↦ elim ((promises law view p.0 a b p.2).fault_is_complete f t rest c o) [
       | inl q ↦ inl (rw p.1 (some_err_and _ p.0 q.0), q.1)
       | inr q ↦ inr (rw p.1 (some_excused a b p.0 q))
     ]
@@ -135,7 +135,7 @@ module _ {X Y : Type 0} {read : List X → Reading X Y} {C : Y → List X → Ty
   unfolding some_of
   found_else_io_error view r a b g l t n = elim (eof_or k view r read a b g) [
     | inl p ↦ absurd (let q = ltb-true _ _ (p.1.known t).is.0 in omega arith)
-    | inr p ↦ elim ((promises law view p.0 a b p.2).io t n) [
+    | inr p ↦ elim ((promises law view p.0 a b p.2).else_io_error t n) [
       | inl q ↦ inl (p.1 ∙ ap some_of q)
       | inr q ↦ inr (rw p.1 (some_err_and _ p.0 q))
     ]
@@ -146,13 +146,13 @@ module _ {X Y : Type 0} {read : List X → Reading X Y} {C : Y → List X → Ty
 
   pub eof_promises : {A : Type 0} (view : A → Y) (r : Result (Option A) Error) (a b : State X) → GivesOrEofOrOutOfMemory k view r read a b → EofPromises k view r C F a b
   eof_promises view r a b g = record {
-    sound = found_is_sound view r a b g;
-    complete = found_is_complete view r a b g;
+    is_sound = found_is_sound view r a b g;
+    is_complete = found_is_complete view r a b g;
     none_is_eof = none_is_eof k view r read a b g;
     eof_is_none = eof_gives_none k view r read a b g;
-    no_failure = no_failure k view r read a b g;
-    fault = found_fault_is_sound view r a b g;
-    named = found_fault_is_complete view r a b g;
-    io = found_else_io_error view r a b g;
-    front = found_rest view r a b g;
+    failure_is_err = no_failure k view r read a b g;
+    fault_is_sound = found_fault_is_sound view r a b g;
+    fault_is_complete = found_fault_is_complete view r a b g;
+    else_io_error = found_else_io_error view r a b g;
+    leaves_rest = found_rest view r a b g;
   }

@@ -7,7 +7,7 @@ use Rattle.std.specs.Io.Cursor.{cursor_position, cursor_inner}
 use Rattle.claxon_format.specs.Bits.{bits_of}
 use Rattle.claxon_input.specs.Bitstream.{left_over}
 use Rattle.claxon_input.specs.Cursor.{cursor_source}
-use Rattle.claxon_input.specs.Gives.{FailedIn}
+use Rattle.claxon_input.specs.Gives.{ReadFailedIn}
 use Rattle.claxon_input.specs.Promises.{Remains, IsExcused, IsOutOfMemory}
 use Rattle.claxon_input.specs.State.{State, bits_in, bytes_in}
 use Rattle.claxon_input.specs.declared.bits.Bitstream.{Bitstream}
@@ -16,7 +16,7 @@ use Rattle.claxon_input.specs.declared.error.Error.{Error}
 -- ---- any source whose counts of failed reads stay the same
 
 -- Where both counts are the same the source didn't fail.
-pub never_failed : {X : Type 0} (a b : State X) → b.source.errors ≡ a.source.errors → b.source.empty_reads ≡ a.source.empty_reads → FailedIn a b → ⊥
+pub never_failed : {X : Type 0} (a b : State X) → b.source.errors ≡ a.source.errors → b.source.empty_reads ≡ a.source.empty_reads → ReadFailedIn a b → ⊥
 never_failed a b e k (inl h) = h e
 never_failed a b e k (inr h) = h.0 k
 
@@ -40,7 +40,7 @@ module _ {T : Type 0} (items : T → List ℕ) where
       record { known = h.known; are = h.are ∙ ap (λ (n : ℕ). drop n (items (cursor_inner c))) at ∙ ap items is }
 
   -- Whatever calls were made in between, no read failed.
-  pub cursor_never_fails : (a b : Cursor T) → FailedIn (bytes_in (cursor_source items) a) (bytes_in (cursor_source items) b) → ⊥
+  pub cursor_never_fails : (a b : Cursor T) → ReadFailedIn (bytes_in (cursor_source items) a) (bytes_in (cursor_source items) b) → ⊥
   unfolding bytes_in
   cursor_never_fails a b f = never_failed (bytes_in (cursor_source items) a) (bytes_in (cursor_source items) b) refl refl f
 
@@ -57,6 +57,6 @@ module _ {T : Type 0} (items : T → List ℕ) where
   bits_remain b = record { known = tt; are = refl }
 
   -- No read of them fails.
-  pub bits_never_fail : {g h : _} (a : Bitstream (Cursor T) g) (b : Bitstream (Cursor T) h) → FailedIn (bits_in (cursor_source items) a) (bits_in (cursor_source items) b) → ⊥
+  pub bits_never_fail : {g h : _} (a : Bitstream (Cursor T) g) (b : Bitstream (Cursor T) h) → ReadFailedIn (bits_in (cursor_source items) a) (bits_in (cursor_source items) b) → ⊥
   unfolding bits_in
   bits_never_fail a b f = never_failed (bits_in (cursor_source items) a) (bits_in (cursor_source items) b) refl refl f

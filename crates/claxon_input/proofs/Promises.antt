@@ -6,7 +6,7 @@ use Rattle.claxon_format.specs.read.Reading.{Reading, Reads, Done, Faulty, Incom
 use Rattle.claxon_input.specs.declared.error.Error.{Error}
 use Rattle.claxon_input.specs.declared.error.Error.TheVariants.{IoError, FormatError, Unsupported, OutOfMemory}
 use Rattle.claxon_input.specs.Error.{IsFault, is_io}
-use Rattle.claxon_input.specs.Gives.{FailedIn, GivesOrOutOfMemory, IsFaultOf, IsRest, Stops, FailureOr, Consumes}
+use Rattle.claxon_input.specs.Gives.{ReadFailedIn, GivesOrOutOfMemory, IsFaultOf, IsRest, Stops, ReadFailedOrRemaining, Consumes}
 use Rattle.claxon_input.specs.Promises.{CodeIsComplete, Remains, ElseIoError, LeavesRest, FaultIsComplete, Promises, CodeIsSound, FaultIsSound, Consumed}
 use Rattle.claxon_input.specs.State.{State, RemainingIsKnown, source_bytes}
 
@@ -47,7 +47,7 @@ leaves_rest view (Err OutOfMemory) read a b g = λ t. let w = g.consumed.known t
 -- ---- by the laws of a reader
 
 -- an `IoError` where what remains is not incomplete says that the source failed
-failed : {X : Type 0} {P : List X → Type 0} {a b : State X} → FailureOr a b P → RemainingIsKnown a → (P a.remaining → ⊥) → FailedIn a b
+failed : {X : Type 0} {P : List X → Type 0} {a b : State X} → ReadFailedOrRemaining a b P → RemainingIsKnown a → (P a.remaining → ⊥) → ReadFailedIn a b
 failed k t n = elim (k.known t).why [ inl p ↦ absurd (n p) | inr f ↦ f ]
 
 module _ {X Y : Type 0} {read : List X → Reading X Y} {C : Y → List X → Type 0} {F : Fault → List X → Type 0} (law : Reads X Y read C F) where
@@ -109,10 +109,10 @@ module _ {X Y : Type 0} {read : List X → Reading X Y} {C : Y → List X → Ty
 
   pub promises : {A : Type 0} (view : A → Y) (r : Result A Error) (a b : State X) → GivesOrOutOfMemory view r read a b → Promises view r C F a b
   promises view r a b g = record {
-    sound = code_is_sound view r a b g;
-    complete = code_is_complete view r a b g;
-    fault = fault_is_sound view r a b g;
-    named = fault_is_complete view r a b g;
-    io = else_io_error view r a b g;
-    front = leaves_rest view r read a b g;
+    is_sound = code_is_sound view r a b g;
+    is_complete = code_is_complete view r a b g;
+    fault_is_sound = fault_is_sound view r a b g;
+    fault_is_complete = fault_is_complete view r a b g;
+    else_io_error = else_io_error view r a b g;
+    leaves_rest = leaves_rest view r read a b g;
   }

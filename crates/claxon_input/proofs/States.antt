@@ -13,10 +13,10 @@ use Rattle.claxon_format.specs.read.Bits.{number_at, zeros_at, one_more, in_u32,
 use Rattle.claxon_format.proofs.Bytes.{bits_of-append}
 use Rattle.claxon_format.proofs.Numbers.{Reads-number}
 use Rattle.claxon_format.proofs.RiceCodes.{Reads-unary, zeros_no_fault}
-use Rattle.claxon_input.specs.Source.{Source, TakesFront, IsKnown, Takes, FailureOrEof, SourceFailure, Failed, MovesPastSome, HasMore, MeetsEof}
+use Rattle.claxon_input.specs.Source.{Source, TakesFront, IsKnown, Takes, ReadFailedOrEof, ReadFailedOnce, SourceReadFailed, MovesPastSome, HasMore, MeetsEof}
 use Rattle.claxon_input.specs.Bitstream.{BitState, remaining_bits, TakesBits, TakesNumber, BitsFailureOrEof, HasNoOneBit, FailureOrNoOneBit}
 use Rattle.claxon_input.specs.State.{State, state_of, bits_after, crcs_at_eof, remaining_as}
-use Rattle.claxon_input.specs.Gives.{IsRest, Consumes, FailureOr, FailedIn, GivesIo, ReachedEof}
+use Rattle.claxon_input.specs.Gives.{IsRest, Consumes, ReadFailedOrRemaining, ReadFailedIn, GivesIo, ReachedEof}
 
 -- functions that agree are one
 pub same_function : {A B : Type 0} {f g : A → B} → ((x : A) → f x ≡ g x) → f ≡ g
@@ -107,15 +107,15 @@ reached_eof_bytes {a} {b} k h = record {
 
 record Failing {X : Type 0} (f g : List ℕ → List X) (a b : Source ℕ) (p q : Option (List ℕ)) (P : List X → Type 0) : Type 0 where
   known : IsKnown q
-  why : P (remaining_as f p) ⊎ FailedIn (state_of f a) (state_of g b)
+  why : P (remaining_as f p) ⊎ ReadFailedIn (state_of f a) (state_of g b)
   rest : (z : List ℕ) → IsRest z (remaining_as (λ all. all) p) → IsRest z (remaining_as (λ all. all) q)
 
-failed_in : {X : Type 0} (f g : List ℕ → List X) (a b : Source ℕ) (left : List ℕ) → b.remaining ≡ Some left → Failed a b → FailedIn (state_of f a) (state_of g b)
+failed_in : {X : Type 0} (f g : List ℕ → List X) (a b : Source ℕ) (left : List ℕ) → b.remaining ≡ Some left → SourceReadFailed a b → ReadFailedIn (state_of f a) (state_of g b)
 failed_in f g a b left e (inl h) = inl h
 failed_in f g a b left e (inr h) = inr (h.0, rw e (subst (λ (o : Option (List ℕ)). HasMore o) e h.1))
 
 is_failing : {X : Type 0} (f g : List ℕ → List X) (a b : Source ℕ) (p q : Option (List ℕ)) (moved : List ℕ) (P Q : List X → Type 0) → b.remaining ≡ q → TakesFront p q moved
-    → IfSome (option_map f p) (λ all. Q all ⊎ Failed a b) → ((s : List X) → Q s → P s) → IsKnown p → Failing f g a b p q P
+    → IfSome (option_map f p) (λ all. Q all ⊎ SourceReadFailed a b) → ((s : List X) → Q s → P s) → IsKnown p → Failing f g a b p q P
 is_failing f g a b None q moved P Q e l c h t = absurd t
 is_failing f g a b (Some all) None moved P Q e l c h t = absurd l
 is_failing f g a b (Some all) (Some left) moved P Q e l c h t = record {
@@ -125,14 +125,14 @@ is_failing f g a b (Some all) (Some left) moved P Q e l c h t = record {
 }
 
 failure_or_by : {X : Type 0} (f g : List ℕ → List X) {a b : Source ℕ} (P Q : List X → Type 0) → MovesPastSome a b
-    → IfSome (option_map f a.remaining) (λ all. Q all ⊎ Failed a b) → ((s : List X) → Q s → P s) → FailureOr (state_of f a) (state_of g b) P
+    → IfSome (option_map f a.remaining) (λ all. Q all ⊎ SourceReadFailed a b) → ((s : List X) → Q s → P s) → ReadFailedOrRemaining (state_of f a) (state_of g b) P
 failure_or_by f g {a = a} {b = b} P Q r c h = record {
   loans = r.loans;
   known = λ t. let w = is_failing f g a b a.remaining b.remaining r.moved P Q refl r.front c h t in record { known = w.known; why = w.why; rest = w.rest };
 }
 
-pub failure : (a b : BitState) (P Q : Bits → Type 0) → MovesPastSome a.source b.source → IfSome (remaining_bits a) (λ all. Q all ⊎ Failed a.source b.source) → ((s : Bits) → Q s → P s)
-    → FailureOr (state_of_bits a) (state_of_bits b) P
+pub failure : (a b : BitState) (P Q : Bits → Type 0) → MovesPastSome a.source b.source → IfSome (remaining_bits a) (λ all. Q all ⊎ SourceReadFailed a.source b.source) → ((s : Bits) → Q s → P s)
+    → ReadFailedOrRemaining (state_of_bits a) (state_of_bits b) P
 failure a b P Q r c h =
     failure_or_by (bits_after a.left) (bits_after b.left) P Q r c h
 
@@ -141,16 +141,16 @@ as_bytes : (p : Option (List ℕ)) (Q : List ℕ → Type 0) (F : Type 0) → If
 as_bytes None Q F h = h
 as_bytes (Some all) Q F h = h
 
-pub failure_or_in_bytes : (a b : Source ℕ) (P Q : List ℕ → Type 0) → MovesPastSome a b → IfSome a.remaining (λ all. Q all ⊎ Failed a b) → ((s : List ℕ) → Q s → P s) → FailureOr (bytes_of_source a) (bytes_of_source b) P
-failure_or_in_bytes a b P Q r c h = failure_or_by (λ all. all) (λ all. all) P Q r (as_bytes a.remaining Q (Failed a b) c) h
+pub failure_or_in_bytes : (a b : Source ℕ) (P Q : List ℕ → Type 0) → MovesPastSome a b → IfSome a.remaining (λ all. Q all ⊎ SourceReadFailed a b) → ((s : List ℕ) → Q s → P s) → ReadFailedOrRemaining (bytes_of_source a) (bytes_of_source b) P
+failure_or_in_bytes a b P Q r c h = failure_or_by (λ all. all) (λ all. all) P Q r (as_bytes a.remaining Q (SourceReadFailed a b) c) h
 
 only_failed : (p : Option (List ℕ)) (F : Type 0) → IfSome p (λ _. F) → IfSome p (λ _. ⊥ ⊎ F)
 only_failed None F h = tt
 only_failed (Some all) F h = inr h
 
 -- where the source failed, any reader may say so
-pub failure_or_any : {a b : Source ℕ} {n : ℕ} (P : List ℕ → Type 0) → SourceFailure a b n → FailureOr (bytes_of_source a) (bytes_of_source b) P
-failure_or_any {a} {b} P h = failure_or_in_bytes a b P (λ s. ⊥) h.rest (only_failed a.remaining (Failed a b) h.cause) (λ s q. absurd q)
+pub failure_or_any : {a b : Source ℕ} {n : ℕ} (P : List ℕ → Type 0) → ReadFailedOnce a b n → ReadFailedOrRemaining (bytes_of_source a) (bytes_of_source b) P
+failure_or_any {a} {b} P h = failure_or_in_bytes a b P (λ s. ⊥) h.rest (only_failed a.remaining (SourceReadFailed a b) h.cause) (λ s q. absurd q)
 
 -- ---- numbers
 
@@ -161,7 +161,7 @@ incomplete_number : (w : ℕ) (s : Bits) → length s < w → number_at w s ≡ 
 unfolding number_at
 incomplete_number w s h = let k : ltb (length s) w ≡ true = lt-ltb _ _ h in rw k refl
 
-pub failure_or_number : {a b : BitState} (w : ℕ) → BitsFailureOrEof a b w → FailureOr (state_of_bits a) (state_of_bits b) (λ s. number_at w s ≡ Incomplete)
+pub failure_or_number : {a b : BitState} (w : ℕ) → BitsFailureOrEof a b w → ReadFailedOrRemaining (state_of_bits a) (state_of_bits b) (λ s. number_at w s ≡ Incomplete)
 failure_or_number {a} {b} w h = failure a b (λ s. number_at w s ≡ Incomplete) (λ s. (length s < w) × (b.source.remaining ≡ Some [])) h.rest h.cause (λ s q. incomplete_number w s q.0)
 
 pub consumes_bit : {a b : BitState} (bit : Bool) → TakesBits a b (bit ∷ []) → Consumes (state_of_bits a) (state_of_bits b) (λ s m. bit_at s ≡ Done bit m)
@@ -173,7 +173,7 @@ unfolding bit_at
 incomplete_bit [] h = refl
 incomplete_bit (b ∷ s) h = absurd (omega arith)
 
-pub failure_or_bit : {a b : BitState} → BitsFailureOrEof a b 1 → FailureOr (state_of_bits a) (state_of_bits b) (λ s. bit_at s ≡ Incomplete)
+pub failure_or_bit : {a b : BitState} → BitsFailureOrEof a b 1 → ReadFailedOrRemaining (state_of_bits a) (state_of_bits b) (λ s. bit_at s ≡ Incomplete)
 failure_or_bit {a} {b} h = failure a b (λ s. bit_at s ≡ Incomplete) (λ s. (length s < 1) × (b.source.remaining ≡ Some [])) h.rest h.cause (λ s q. incomplete_bit s q.0)
 
 -- ---- bytes
@@ -188,7 +188,7 @@ incomplete_bytes : (n : ℕ) (s : List ℕ) → length s < n → bytes_at n s �
 unfolding bytes_at
 incomplete_bytes n s h = let k : ltb (length s) n ≡ true = lt-ltb _ _ h in rw k refl
 
-pub failure_or_bytes : {a b : Source ℕ} (n : ℕ) → FailureOrEof a b n → FailureOr (bytes_of_source a) (bytes_of_source b) (λ s. bytes_at n s ≡ Incomplete)
+pub failure_or_bytes : {a b : Source ℕ} (n : ℕ) → ReadFailedOrEof a b n → ReadFailedOrRemaining (bytes_of_source a) (bytes_of_source b) (λ s. bytes_at n s ≡ Incomplete)
 failure_or_bytes {a} {b} n h = failure_or_in_bytes a b (λ s. bytes_at n s ≡ Incomplete) (λ s. length s < n) h.rest h.cause (incomplete_bytes n)
 
 -- ---- unary numbers: zeros up to a one
@@ -230,12 +230,12 @@ unfolding unary_at
 incomplete_unary a b s (inl h) = rw (h.2, no_one h.0) refl
 incomplete_unary a b s (inr h) = rw (h.3, many_zeros h.0 h.1) (too_many h.0 (zeros_at h.1) (zeros_no_fault h.1) h.2)
 
-pub failure_or_unary : {a b : BitState} → FailureOrNoOneBit a b → FailureOr (state_of_bits a) (state_of_bits b) (λ s. unary_at s ≡ Incomplete)
+pub failure_or_unary : {a b : BitState} → FailureOrNoOneBit a b → ReadFailedOrRemaining (state_of_bits a) (state_of_bits b) (λ s. unary_at s ≡ Incomplete)
 failure_or_unary {a} {b} h = failure a b (λ s. unary_at s ≡ Incomplete) (λ s. HasNoOneBit a b s) h.rest h.cause (incomplete_unary a b)
 
 -- ---- the exit by a `?`
 
-pub gives_io_err : {X A Y E : Type 0} (view : A → Y) (r : Result A E) (read : List X → Reading X Y) (a b : State X) → IsErr r → FailureOr a b (λ s. read s ≡ Incomplete) → GivesIo view r read a b
+pub gives_io_err : {X A Y E : Type 0} (view : A → Y) (r : Result A E) (read : List X → Reading X Y) (a b : State X) → IsErr r → ReadFailedOrRemaining a b (λ s. read s ≡ Incomplete) → GivesIo view r read a b
 gives_io_err view (Ok x) read a b h k = absurd cc
 gives_io_err view (Err e) read a b h k = k
 

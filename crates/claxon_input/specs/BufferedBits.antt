@@ -1,5 +1,18 @@
 -- Buffered bits.
-use Rattle.std.specs.Prelude.{◌≡◌, ℕ, ◌≤◌, Bool, ◌++◌, length, take, drop, cond, nat_lt, Option, MatchOption}
+use Rattle.std.specs.Prelude.{
+  ◌≡◌,
+  ℕ,
+  ◌≤◌,
+  Bool,
+  ◌++◌,
+  length,
+  take,
+  drop,
+  cond,
+  nat_lt,
+  Option,
+  MatchOption,
+}
 use Rattle.claxon_format.specs.Bits.{Bits, bits, bits_of}
 use Rattle.claxon_format.specs.read.Reading.{Reading, Done, Incomplete}
 use Rattle.claxon_input.specs.State.{State, RemainingIsKnown}

@@ -4,7 +4,7 @@ use Rattle.std.specs.Io.KnownBytes.{prepend_known}
 use Rattle.std.specs.declared.option.Option.{Option}
 use Rattle.claxon_input.specs.declared.error.Error.{Error}
 use Rattle.claxon_input.specs.CountingReader.{counted_inner, empty_reads_of, errors_of}
-use Rattle.claxon_input.specs.Source.{Source, MeetsEof, Skips, SourceFailure, Takes}
+use Rattle.claxon_input.specs.Source.{Source, MeetsEof, Skips, ReadFailedOnce, Takes}
 use Rattle.claxon_input.specs.declared.input.BufferedReader.{BufferedReader}
 
 -- the buffered bytes that were not consumed yet
@@ -50,7 +50,7 @@ module _ {R A : Type 0} (remaining : R → Option (List ℕ)) (old new : Buffere
   abbrev pub FillFailed : Type 0
   FillFailed =
       (bytes_in_buffer new ≡ [])
-      × SourceFailure (buffered_source remaining old) (buffered_source remaining new) 0
+      × ReadFailedOnce (buffered_source remaining old) (buffered_source remaining new) 0
 
 -- Nothing was read from the inner reader, and no read failed.
 abbrev pub NothingWasRead : {R A : Type 0} → (R → Option (List ℕ)) → R

@@ -1,10 +1,25 @@
 -- CRCs that are updated byte by byte.
-use Rattle.std.specs.Prelude.{◌≡◌, ℕ, ◌-◌, ◌*◌, ◌%◌, ◌^◌, false, bit_xor, List, [], ◌∷◌, ◌++◌, replicate}
+use Rattle.std.specs.Prelude.{
+  ◌≡◌,
+  ℕ,
+  ◌-◌,
+  ◌*◌,
+  ◌%◌,
+  ◌^◌,
+  false,
+  bit_xor,
+  List,
+  [],
+  ◌∷◌,
+  ◌++◌,
+  replicate,
+}
 use Rattle.claxon_format.specs.Bits.{bits_of}
 use Rattle.claxon_format.specs.Crc.{divide, crc8, crc16}
 
--- The CRC c after more bytes: each byte is XORed into the highest bits, and the division goes on over eight zeros. So it is
--- always the remainder of the bytes with as many zeros after them as the polynomial's degree, which `crc8` and `crc16` append.
+-- The CRC c after more bytes: each byte is XORed into the highest bits, and the division goes on
+-- over eight zeros. So it is always the remainder of the bytes with as many zeros after them as the
+-- polynomial's degree, which `crc8` and `crc16` append.
 unfoldable pub update_crc : ℕ → ℕ → ℕ → List ℕ → ℕ
 update_crc degree poly c [] = c
 update_crc degree poly c (y ∷ ys) =

@@ -1,16 +1,38 @@
 -- What an `Error` shows, and which errors are equal.
-use Rattle.std.specs.Prelude.{◌≡◌, ℕ, Option, Bool, false, true, List, ◌++◌, None, Some, codes, ◌==◌, not, ◌&&◌}
+use Rattle.std.specs.Prelude.{
+  ◌≡◌,
+  ℕ,
+  Option,
+  Bool,
+  false,
+  true,
+  List,
+  ◌++◌,
+  None,
+  Some,
+  codes,
+  ◌==◌,
+  not,
+  ◌&&◌,
+}
 use Rattle.std.specs.List.{list_any}
 use Rattle.claxon_format.specs.Fault.{Fault, fault_text, faults, is_unsupported}
 use Rattle.std.specs.Cmp.Lexicographic.{pointwise}
 use Rattle.claxon_input.specs.declared.error.Error.{Error}
-use Rattle.claxon_input.specs.declared.error.Error.TheVariants.{IoError, FormatError, Unsupported, OutOfMemory}
+use Rattle.claxon_input.specs.declared.error.Error.TheVariants.{
+  IoError,
+  FormatError,
+  Unsupported,
+  OutOfMemory,
+}
 
 -- the text, where it is known: that of an `io::Error` is open
 abbrev pub error_text : Error → Option (List ℕ)
 error_text (IoError cause) = None
 error_text (FormatError reason) = Some (codes "Ill-formed FLAC stream: " ++ reason.now)
-error_text (Unsupported feature) = Some (codes "A currently unsupported feature of the FLAC format was encountered: " ++ feature.now)
+error_text (Unsupported feature) =
+    Some (codes "A currently unsupported feature of the FLAC format was encountered: "
+    ++ feature.now)
 error_text OutOfMemory = Some (codes "out of memory")
 
 -- equal variants with equal texts; an `IoError` equals nothing

@@ -1,6 +1,25 @@
--- What a call that reads a field returned and consumed, by a reader on lists. Proofs about calls one after another use these
--- clauses; what callers see of them stands in `Promises`.
-use Rattle.std.specs.Prelude.{◌≡◌, ◌≢◌, ℕ, Option, None, Some, ◌⊎◌, true, false, cond, nat_lt, List, [], ◌++◌, length, Result, Ok, Err}
+-- What a call that reads a field returned and consumed, by a reader on lists. Proofs about calls
+-- one after another use these clauses; what callers see of them stands in `Promises`.
+use Rattle.std.specs.Prelude.{
+  ◌≡◌,
+  ◌≢◌,
+  ℕ,
+  Option,
+  None,
+  Some,
+  ◌⊎◌,
+  true,
+  false,
+  cond,
+  nat_lt,
+  List,
+  [],
+  ◌++◌,
+  length,
+  Result,
+  Ok,
+  Err,
+}
 use Rattle.claxon_format.specs.read.Reading.{Reading, Done, Faulty, Incomplete, and_then, done}
 use Rattle.claxon_input.specs.Error.{IsFault, is_io, is_named}
 use Rattle.claxon_input.specs.State.{State, RemainingIsKnown, final_crcs, source_bytes}
@@ -13,8 +32,8 @@ use Rattle.claxon_input.specs.declared.error.Error.TheVariants.{OutOfMemory}
 unfoldable pub IsRest : {X : Type 0} → List X → List X → Type 0
 IsRest {X} s m = (t : List X) × (s ≡ t ++ m)
 
--- It is still known what remains, and P holds. The bytes in the source are a suffix of those before, and the CRCs at the end of
--- input are the same.
+-- It is still known what remains, and P holds. The bytes in the source are a suffix of those
+-- before, and the CRCs at the end of input are the same.
 pub record KnownAnd {X : Type 0} (old new : State X) (P : Type 0) : Type 0 where
   pub known : RemainingIsKnown new
   pub is : P
@@ -29,21 +48,22 @@ pub record Consumes {X : Type 0} (old new : State X) (P : List X → List X → 
   pub known : RemainingIsKnown old → KnownAnd old new (P old.remaining new.remaining)
 
 -- a read of the source returned an Err, or no bytes before the end of input
-abbrev pub FailedIn : {X : Type 0} → State X → State X → Type 0
-FailedIn old new =
+abbrev pub ReadFailedIn : {X : Type 0} → State X → State X → Type 0
+ReadFailedIn old new =
     (new.source.errors ≢ old.source.errors)
     ⊎ ((new.source.empty_reads ≢ old.source.empty_reads) × (source_bytes new ≢ []))
 
 -- It is still known what remains, P holds or the source failed, and a prefix was consumed.
-pub record FailedOr {X : Type 0} (old new : State X) (P : Type 0) : Type 0 where
+pub record ReadFailedOr {X : Type 0} (old new : State X) (P : Type 0) : Type 0 where
   pub known : RemainingIsKnown new
-  pub why : P ⊎ FailedIn old new
+  pub why : P ⊎ ReadFailedIn old new
   pub rest : (z : List ℕ) → IsRest z (source_bytes old) → IsRest z (source_bytes new)
 
 -- The source failed, or P holds of what remained.
-pub record FailureOr {X : Type 0} (old new : State X) (P : List X → Type 0) : Type 0 where
-  pub loans : new.source.loans ≡ old.source.loans
-  pub known : RemainingIsKnown old → FailedOr old new (P old.remaining)
+pub record ReadFailedOrRemaining {X : Type 0} (old new : State X) (P : List X → Type 0) : Type 0
+  where
+    pub loans : new.source.loans ≡ old.source.loans
+    pub known : RemainingIsKnown old → ReadFailedOr old new (P old.remaining)
 
 -- ---- what an Err says
 
@@ -52,11 +72,11 @@ abbrev pub IsFaultOf : {X Y : Type 0} → Error → Reading X Y → List X → T
 IsFaultOf e (Faulty f rest) m = IsFault f e × (rest ≡ m)
 IsFaultOf e _ m = ⊥
 
--- An `IoError` says that the source failed or that the input ended, and any other Err names the fault that was read. No other Err
--- is returned, whether it is known what remains or not.
+-- An `IoError` says that the source failed or that the input ended, and any other Err names the
+-- fault that was read. No other Err is returned, whether it is known what remains or not.
 pub record Stops {X Y : Type 0} (e : Error) (read : List X → Reading X Y)
     (old new : State X) : Type 0 where
-  pub failure : is_io e ≡ true → FailureOr old new (λ s. read s ≡ Incomplete)
+  pub failure : is_io e ≡ true → ReadFailedOrRemaining old new (λ s. read s ≡ Incomplete)
   pub fault : is_io e ≡ false → Consumes old new (λ s m. IsFaultOf e (read s) m)
   pub named : is_named e ≡ true
 
@@ -66,8 +86,8 @@ pub record OutOfMemoryLeavesRest {X : Type 0} (old new : State X) : Type 0 where
 
 -- ---- what a call gives
 
--- What the call returned, as view shows it, is what reading gives, and just what was read was consumed; or the source failed, or
--- the input ended.
+-- What the call returned, as view shows it, is what reading gives, and just what was read was
+-- consumed; or the source failed, or the input ended.
 abbrev pub Gives : {X A Y : Type 0} → (A → Y) → Result A Error → (List X → Reading X Y) → State X
     → State X → Type 0
 Gives view (Ok x) read old new = Consumes old new (λ s m. read s ≡ Done (view x) m)
@@ -84,7 +104,7 @@ GivesOrOutOfMemory view (Err e) read old new = Stops e read old new
 abbrev pub GivesIo : {X A Y E : Type 0} → (A → Y) → Result A E → (List X → Reading X Y) → State X
     → State X → Type 0
 GivesIo view (Ok x) read old new = Consumes old new (λ s m. read s ≡ Done (view x) m)
-GivesIo view (Err e) read old new = FailureOr old new (λ s. read s ≡ Incomplete)
+GivesIo view (Err e) read old new = ReadFailedOrRemaining old new (λ s. read s ≡ Incomplete)
 
 -- ---- a field, or the end of input
 
@@ -100,8 +120,8 @@ pub record ReachedEof {X : Type 0} (count : ℕ) (old new : State X) : Type 0 wh
   pub known : RemainingIsKnown old → KnownAnd old new
       ((nat_lt (length old.remaining) count ≡ true) × (new.remaining ≡ []))
 
--- What the call returned, as view shows it, is what reading gives, or None where fewer than count are left; and just that was
--- consumed, or the source failed.
+-- What the call returned, as view shows it, is what reading gives, or None where fewer than count
+-- are left; and just that was consumed, or the source failed.
 abbrev pub GivesOrEof : {X A Y : Type 0} → ℕ → (A → Y) → Result (Option A) Error
     → (List X → Reading X Y) → State X → State X → Type 0
 GivesOrEof count view (Ok (Some x)) read old new =

@@ -1,8 +1,32 @@
--- What callers see of a call that reads a field, and may allocate memory: its result by the codes of the field and their faults.
-use Rattle.std.specs.Prelude.{◌≡◌, ℕ, ◌+◌, ◌<◌, ◌≤◌, ◌⊎◌, true, List, [], ◌++◌, length, Option, None, Result, Ok, Err, IfOk, IfErr, IfSome, IsOkAnd, IsErrAnd, IsSomeAnd}
+-- What callers see of a call that reads a field, and may allocate memory: its result by the
+-- codes of the field and their faults.
+use Rattle.std.specs.Prelude.{
+  ◌≡◌,
+  ℕ,
+  ◌+◌,
+  ◌<◌,
+  ◌≤◌,
+  ◌⊎◌,
+  true,
+  List,
+  [],
+  ◌++◌,
+  length,
+  Option,
+  None,
+  Result,
+  Ok,
+  Err,
+  IfOk,
+  IfErr,
+  IfSome,
+  IsOkAnd,
+  IsErrAnd,
+  IsSomeAnd,
+}
 use Rattle.claxon_format.specs.Fault.{Fault}
 use Rattle.claxon_input.specs.Error.{IsFault, IsIo, is_out_of_memory}
-use Rattle.claxon_input.specs.Gives.{FailedIn, IsRest}
+use Rattle.claxon_input.specs.Gives.{ReadFailedIn, IsRest}
 use Rattle.claxon_input.specs.State.{State, RemainingIsKnown, source_bytes}
 use Rattle.claxon_input.specs.declared.error.Error.{Error}
 use Rattle.claxon_input.specs.declared.error.Error.TheVariants.{OutOfMemory}
@@ -34,13 +58,14 @@ IsOutOfMemory r = r ≡ Err OutOfMemory
 abbrev pub IfOutOfMemory : {A : Type 0} → Result A Error → Type 0 → Type 0
 IfOutOfMemory r P = IfErr r (λ e. is_out_of_memory e ≡ true → P)
 
--- The result is an `IoError`, and the source failed in the call: a read of it returned an Err, or no bytes before its end.
-abbrev pub HasFailed : {X A : Type 0} → Result A Error → State X → State X → Type 0
-HasFailed r old new = IsErrAnd r IsIo × FailedIn old new
+-- The result is an `IoError`, and the source failed in the call: a read of it returned an Err,
+-- or no bytes before its end.
+abbrev pub ReadFailed : {X A : Type 0} → Result A Error → State X → State X → Type 0
+ReadFailed r old new = IsErrAnd r IsIo × ReadFailedIn old new
 
 -- memory was refused, or the source failed
 abbrev pub IsExcused : {X A : Type 0} → Result A Error → State X → State X → Type 0
-IsExcused r old new = IsOutOfMemory r ⊎ HasFailed r old new
+IsExcused r old new = IsOutOfMemory r ⊎ ReadFailed r old new
 
 -- ---- codes
 
@@ -49,7 +74,8 @@ abbrev pub CodeIsSound : {X A Y : Type 0} → (A → Y) → Result A Error → (
     → State X → State X → Type 0
 CodeIsSound view r Code old new = IfOk r (λ x. Consumed old new (Code (view x)))
 
--- Where a code stands, whatever follows, it is returned and alone consumed, or the result is excused.
+-- Where a code stands, whatever follows, it is returned and alone consumed, or the result is
+-- excused.
 abbrev pub CodeIsComplete : {X A Y : Type 0} → (A → Y) → Result A Error → (Y → List X → Type 0)
     → State X → State X → Type 0
 CodeIsComplete {X} {A} {Y} view r Code old new =
@@ -89,17 +115,18 @@ ElseIoError {X} {A} {Y} r Code Bad old new =
 -- An Err leaves a suffix of the bytes that remained.
 abbrev pub LeavesRest : {X A : Type 0} → Result A Error → State X → State X → Type 0
 LeavesRest r old new =
-    IfErr r (λ e. RemainingIsKnown old → RemainingIsKnown new × IsRest (source_bytes old) (source_bytes new))
+    IfErr r (λ e.
+    RemainingIsKnown old → RemainingIsKnown new × IsRest (source_bytes old) (source_bytes new))
 
 -- all of it
 pub record Promises {X A Y : Type 0} (view : A → Y) (r : Result A Error)
     (Code : Y → List X → Type 0) (Bad : Fault → List X → Type 0) (old new : State X) : Type 0 where
-  pub sound : CodeIsSound view r Code old new
-  pub complete : CodeIsComplete view r Code old new
-  pub fault : FaultIsSound r Bad old new
-  pub named : FaultIsComplete r Bad old new
-  pub io : ElseIoError r Code Bad old new
-  pub front : LeavesRest r old new
+  pub is_sound : CodeIsSound view r Code old new
+  pub is_complete : CodeIsComplete view r Code old new
+  pub fault_is_sound : FaultIsSound r Bad old new
+  pub fault_is_complete : FaultIsComplete r Bad old new
+  pub else_io_error : ElseIoError r Code Bad old new
+  pub leaves_rest : LeavesRest r old new
 
 -- ---- a field, or the end of input, where fewer than count are left
 
@@ -109,7 +136,8 @@ abbrev pub FoundIsSound : {X A Y : Type 0} → (A → Y) → Result (Option A) E
 FoundIsSound view r Code old new =
     IfOk r (λ found. IfSome found (λ x. Consumed old new (Code (view x))))
 
--- Where a code stands, whatever follows, it is returned and alone consumed, or the result is excused.
+-- Where a code stands, whatever follows, it is returned and alone consumed, or the result is
+-- excused.
 abbrev pub FoundIsComplete : {X A Y : Type 0} → (A → Y) → Result (Option A) Error
     → (Y → List X → Type 0) → State X → State X → Type 0
 FoundIsComplete {X} {A} {Y} view r Code old new =
@@ -129,7 +157,8 @@ EofIsNone {X} count r old new =
     (xs : List X) → Remains old xs → length xs < count → ((r ≡ Ok None) × Remains new [])
     ⊎ IsExcused r old new
 
--- Where count or more remain and neither a code nor a fault stands, the result is an `IoError` or `OutOfMemory`.
+-- Where count or more remain and neither a code nor a fault stands, the result is an `IoError`
+-- or `OutOfMemory`.
 abbrev pub ElseIoErrorFrom : {X A Y : Type 0} → ℕ → Result A Error → (Y → List X → Type 0)
     → (Fault → List X → Type 0) → State X → State X → Type 0
 ElseIoErrorFrom count r Code Bad old new =
@@ -138,12 +167,12 @@ ElseIoErrorFrom count r Code Bad old new =
 -- all of it
 pub record EofPromises {X A Y : Type 0} (count : ℕ) (view : A → Y) (r : Result (Option A) Error)
     (Code : Y → List X → Type 0) (Bad : Fault → List X → Type 0) (old new : State X) : Type 0 where
-  pub sound : FoundIsSound view r Code old new
-  pub complete : FoundIsComplete view r Code old new
+  pub is_sound : FoundIsSound view r Code old new
+  pub is_complete : FoundIsComplete view r Code old new
   pub none_is_eof : NoneIsEof count r old new
   pub eof_is_none : EofIsNone count r old new
-  pub no_failure : IfOk r (λ found. new.source.errors ≡ old.source.errors)
-  pub fault : FaultIsSound r Bad old new
-  pub named : FaultIsComplete r Bad old new
-  pub io : ElseIoErrorFrom count r Code Bad old new
-  pub front : LeavesRest r old new
+  pub failure_is_err : IfOk r (λ found. new.source.errors ≡ old.source.errors)
+  pub fault_is_sound : FaultIsSound r Bad old new
+  pub fault_is_complete : FaultIsComplete r Bad old new
+  pub else_io_error : ElseIoErrorFrom count r Code Bad old new
+  pub leaves_rest : LeavesRest r old new

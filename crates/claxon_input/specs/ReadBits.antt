@@ -1,8 +1,33 @@
--- What the calls of a `Bitstream` promise, one word each; `old` and `new` are the stream of bits before and after the call.
-use Rattle.std.specs.Prelude.{ℕ, ◌<◌, Bool, true, false, [], ◌∷◌, ◌++◌, length, replicate, IfOk, OnErr, Result}
+-- What the calls of a `Bitstream` promise, one word each; `old` and `new` are the stream of bits
+-- before and after the call.
+use Rattle.std.specs.Prelude.{
+  ℕ,
+  ◌<◌,
+  Bool,
+  true,
+  false,
+  [],
+  ◌∷◌,
+  ◌++◌,
+  length,
+  replicate,
+  IfOk,
+  OnErr,
+  Result,
+}
 use Rattle.claxon_format.specs.read.Bits.{bit_at, number_at, unary_at}
 use Rattle.claxon_input.specs.BufferedBits.{skipped_bits_at}
-use Rattle.claxon_input.specs.Bitstream.{BitState, BitsFailureOrEof, DropsBits, FailureOrNoOneBit, TakesBits, TakesNumber, bit_state, left_in, left_over}
+use Rattle.claxon_input.specs.Bitstream.{
+  BitState,
+  BitsFailureOrEof,
+  DropsBits,
+  FailureOrNoOneBit,
+  TakesBits,
+  TakesNumber,
+  bit_state,
+  left_in,
+  left_over,
+}
 use Rattle.claxon_input.specs.Gives.{GivesIo}
 use Rattle.claxon_input.specs.Source.{Source}
 use Rattle.claxon_input.specs.State.{bits_in}
@@ -20,7 +45,8 @@ module _ {R E : Type 0} {g : _} (source : R → Source ℕ) (w : ℕ) (old : Bit
   abbrev pub NumberIsSound : Type 0
   NumberIsSound = IfOk result (λ n. TakesNumber (bit_state source old) (bit_state source new) w n)
 
-  -- An Err says that fewer bits remained and all were consumed, or that the source failed; none is left over.
+  -- An Err says that fewer bits remained and all were consumed, or that the source failed;
+  -- none is left over.
   abbrev pub NumberFailureOrEof : Type 0
   NumberFailureOrEof =
       OnErr result (BitsFailureOrEof (bit_state source old) (bit_state source new) w)
@@ -56,7 +82,8 @@ module _ {R E : Type 0} {g : _} (source : R → Source ℕ) (old : Bitstream R g
       IfOk result (λ q. TakesBits (bit_state source old) (bit_state source new)
       (replicate q false ++ true ∷ []))
 
-  -- An Err says that no one stands among the next 2^32 bits, or that the source failed; none is left over.
+  -- An Err says that no one stands among the next 2^32 bits, or that the source failed; none
+  -- is left over.
   abbrev pub UnaryFailureOrNoOne : Type 0
   UnaryFailureOrNoOne =
       OnErr result (FailureOrNoOneBit (bit_state source old) (bit_state source new))
@@ -65,7 +92,8 @@ module _ {R E : Type 0} {g : _} (source : R → Source ℕ) (old : Bitstream R g
   abbrev pub UnaryIsRead : Type 0
   UnaryIsRead = GivesIo (λ x. x) result unary_at (bits_in source old) (bits_in source new)
 
--- ---- the rest of a unary number: `taken` zeros were read before, and the count bits that are left over are zeros too
+-- ---- the rest of a unary number: `taken` zeros were read before, and the count bits that are
+-- left over are zeros too
 
 -- between these states just `taken` zeros were consumed
 abbrev pub TakesZeros : ℕ → BitState → BitState → Type 0
@@ -73,13 +101,15 @@ TakesZeros taken old new = TakesBits old new (replicate taken false)
 
 module _ {R E : Type 0} (source : R → Source ℕ) (taken count : ℕ) (old : R)
     (result : Result (ℕ × ℕ × ℕ) E) (new : R) where
-  -- An Ok says how many zeros were consumed with those read before, and which bits are left over: as a number, and how many.
+  -- An Ok says how many zeros were consumed with those read before, and which bits are left
+  -- over: as a number, and how many.
   abbrev pub SkipsZeros : Type 0
   SkipsZeros =
       IfOk result (λ r. (start : BitState) → TakesZeros taken start (left_in 0 count (source old))
       → TakesZeros r.0 start (left_in r.1 r.2 (source new)))
 
-  -- An Err says that no one stands among 2^32 bits, those read before with them, or that the source failed; none is left over.
+  -- An Err says that no one stands among 2^32 bits, those read before with them, or that the
+  -- source failed; none is left over.
   abbrev pub NoOneBitFollows : Type 0
   NoOneBitFollows =
       OnErr result ((start : BitState) → TakesZeros taken start (left_in 0 count (source old))
@@ -94,7 +124,8 @@ module _ {R E : Type 0} {g : _} (source : R → Source ℕ) (taken count : ℕ) 
       → TakesZeros taken start (left_in 0 count (source old.reader))
       → TakesBits start (bit_state source new) (replicate q false ++ true ∷ []))
 
-  -- An Err says that no one stands among 2^32 bits, those read before with them, or that the source failed; none is left over.
+  -- An Err says that no one stands among 2^32 bits, those read before with them, or that the
+  -- source failed; none is left over.
   abbrev pub RestOfUnaryFailureOrNoOne : Type 0
   RestOfUnaryFailureOrNoOne =
       OnErr result ((start : BitState)

@@ -1,7 +1,16 @@
--- What the calls of a `ReadBytes` promise, one word each; `old` and `new` are the reader before and after the call.
+-- What the calls of a `ReadBytes` promise, one word each; `old` and `new` are the reader before
+-- and after the call.
 use Rattle.std.specs.Prelude.{◌≡◌, ℕ, List, [], ◌∷◌, Option, MatchOption, Result, IfOk, OnOk, OnErr}
 use Rattle.claxon_input.specs.Bytes.{be_bytes, le_bytes}
-use Rattle.claxon_input.specs.Source.{Source, FailureOrEof, MeetsEof, Skips, SourceFailure, Takes, TakesAllOrFails}
+use Rattle.claxon_input.specs.Source.{
+  Source,
+  ReadFailedOrEof,
+  MeetsEof,
+  Skips,
+  ReadFailedOnce,
+  Takes,
+  TakesAllOrFails,
+}
 
 -- ---- a byte
 
@@ -35,8 +44,8 @@ module _ {R E : Type 0} (source : R → Source ℕ) (count : ℕ) (old : R) wher
   LittleEndianIsSound result new =
       IfOk result (λ n. Takes (source old) (source new) (le_bytes count n))
 
-  -- Just the bytes of the returned number were consumed, the high one first; None says that fewer than count remained, and that
-  -- these were consumed.
+  -- Just the bytes of the returned number were consumed, the high one first; None says that fewer
+  -- than count remained, and that these were consumed.
   abbrev pub BigEndianOrEofIsSound : Result (Option ℕ) E → R → Type 0
   BigEndianOrEofIsSound result new =
       IfOk result (λ found. MatchOption found (MeetsEof (source old) (source new) count)
@@ -65,10 +74,11 @@ module _ {R A E : Type 0} (source : R → Source ℕ) (count : ℕ) (old : R) (r
   abbrev pub BytesAreSkipped : Type 0
   BytesAreSkipped = OnOk result (Skips (source old) (source new) count)
 
-  -- An Err says that fewer than count remained, or that one read of the source failed; at most count were consumed.
+  -- An Err says that fewer than count remained, or that one read of the source failed; at most
+  -- count were consumed.
   abbrev pub BytesFailureOrEof : Type 0
-  BytesFailureOrEof = OnErr result (FailureOrEof (source old) (source new) count)
+  BytesFailureOrEof = OnErr result (ReadFailedOrEof (source old) (source new) count)
 
   -- An Err says that one read of the source failed; at most count were consumed.
   abbrev pub BytesFailure : Type 0
-  BytesFailure = OnErr result (SourceFailure (source old) (source new) count)
+  BytesFailure = OnErr result (ReadFailedOnce (source old) (source new) count)

@@ -1,4 +1,5 @@
--- The state of a reader: what remains of its source, as bits where X is Bool, or as bytes where it is ℕ.
+-- The state of a reader: what remains of its source, as bits where X is Bool, or as bytes where
+-- it is ℕ.
 use Rattle.std.specs.Prelude.{ℕ, Option, None, Some, Bool, List, [], ◌++◌}
 use Rattle.claxon_format.specs.Bits.{bits_of}
 use Rattle.claxon_input.specs.Source.{Source, IsKnown}

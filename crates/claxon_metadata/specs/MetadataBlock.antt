@@ -1,6 +1,31 @@
--- The metadata blocks of the code as values of the format, and what holds of each one that was read (RFC 9639, section 8).
-use Rattle.std.specs.Prelude.{◌≡◌, ◌⊎◌, ◌++◌, Bool, Result, ℕ, ◌-◌, ◌<◌, ◌≤◌, List, Option, None, Some, IfSome}
-use Rattle.claxon_format.specs.MetadataBlocks.{Content, Info, Padding, Application, Comments, Reserved, MetadataBlock as Block, BlockCode}
+-- The metadata blocks of the code as values of the format, and what holds of each one that was
+-- read (RFC 9639, section 8).
+use Rattle.std.specs.Prelude.{
+  ◌≡◌,
+  ◌⊎◌,
+  ◌++◌,
+  Bool,
+  Result,
+  ℕ,
+  ◌-◌,
+  ◌<◌,
+  ◌≤◌,
+  List,
+  Option,
+  None,
+  Some,
+  IfSome,
+}
+use Rattle.claxon_format.specs.MetadataBlocks.{
+  Content,
+  Info,
+  Padding,
+  Application,
+  Comments,
+  Reserved,
+  MetadataBlock as Block,
+  BlockCode,
+}
 use Rattle.claxon_format.specs.read.MetadataBlocks.{block_at}
 use Rattle.claxon_format.specs.Metadata.{BlockHeader, BlockHeaderCode, max_content_bytes}
 use Rattle.claxon_format.specs.read.Reading.{Reading, and_then, done}
@@ -15,7 +40,16 @@ use Rattle.claxon_metadata.specs.declared.metadata.streaminfo.SizeBounds.{SizeBo
 use Rattle.claxon_metadata.specs.declared.metadata.streaminfo.SampleFormat.{SampleFormat}
 use Rattle.claxon_metadata.specs.declared.metadata.MetadataBlockHeader.{MetadataBlockHeader}
 use Rattle.claxon_metadata.specs.declared.metadata.MetadataBlock.{MetadataBlock}
-use Rattle.claxon_metadata.specs.declared.metadata.MetadataBlock.TheVariants.{StreamInfo as InfoBlock, Padding as PaddingBlock, Application as ApplicationBlock, SeekTable, VorbisComment as CommentBlock, CueSheet, Picture, Reserved as ReservedBlock}
+use Rattle.claxon_metadata.specs.declared.metadata.MetadataBlock.TheVariants.{
+  StreamInfo as InfoBlock,
+  Padding as PaddingBlock,
+  Application as ApplicationBlock,
+  SeekTable,
+  VorbisComment as CommentBlock,
+  CueSheet,
+  Picture,
+  Reserved as ReservedBlock,
+}
 use Rattle.claxon_metadata.specs.VorbisComment.{HasVendorLength, comment_view}
 use Rattle.claxon_metadata.specs.TagEntries.{HaveSeparatorIndices}
 
@@ -33,7 +67,7 @@ info_view info = record {
   max_frame_size = or_zero info.max_frame_size;
   rate = info.sample_rate;
   channels = info.channels;
-  width = info.bits_per_sample;
+  bit_depth = info.bits_per_sample;
   samples = or_zero info.samples;
   md5 = info.md5sum;
 }
@@ -57,7 +91,7 @@ abbrev pub format_view : SampleFormat → StreaminfoFormat
 format_view format = record {
   rate = format.sample_rate;
   channels = format.channels;
-  width = format.bits_per_sample;
+  bit_depth = format.bits_per_sample;
   samples = format.samples;
 }
 
@@ -86,8 +120,8 @@ abbrev pub MayRunOutOfMemory : ℕ → ℕ → List ℕ → Type 0
 MayRunOutOfMemory type length s =
     MayAllocate type length × (type ≡ 4 → HasVendorLength (length - 8) s)
 
--- `OutOfMemory` is returned only after the header of an application or Vorbis comment block of a valid length; for a Vorbis
--- comment block only if a vendor length that fits follows.
+-- `OutOfMemory` is returned only after the header of an application or Vorbis comment block of a
+-- valid length; for a Vorbis comment block only if a vendor length that fits follows.
 abbrev pub OutOfMemoryAfterBlockHeader : {A : Type 0} → Result A Error → State ℕ → Type 0
 OutOfMemoryAfterBlockHeader r old =
     IsOutOfMemory r → RemainingIsKnown old → (h : BlockHeader) × (x : List ℕ) × (rest : List ℕ)
@@ -111,8 +145,8 @@ pub record HasBounds (info : StreamInfo) : Type 0 where
   pub max_frame_size : IfSome info.max_frame_size (λ n. 0 < n)
   pub samples : IfSome info.samples (λ n. 0 < n)
 
--- a streaminfo is in its bounds, and each comment entry has its separator; a seek table, a cue sheet or a picture is never
--- returned
+-- a streaminfo is in its bounds, and each comment entry has its separator; a seek table, a cue
+-- sheet or a picture is never returned
 abbrev pub BlockHasBounds : {A : Type 0} → MetadataBlock A → Type 0
 BlockHasBounds (InfoBlock info) = HasBounds info
 BlockHasBounds (CommentBlock comment) = HaveSeparatorIndices comment.comments.items

@@ -20,8 +20,10 @@ reader_input r = r.input
 abbrev pub has_ended : {R A : Type 0} → MetadataBlockReader R A → Bool
 has_ended r = r.done
 
--- A block with its header was read, or an Err was returned. Nothing follows an Err, nor a block with the last-block flag.
-pub record ReadsBlock {R A : Type 0} (source : R → Source ℕ) (old : MetadataBlockReader R A) (result : Result (MetadataBlock A) Error) (new : MetadataBlockReader R A) : Type 0 where
+-- A block with its header was read, or an Err was returned. Nothing follows an Err, nor a block
+-- with the last-block flag.
+pub record ReadsBlock {R A : Type 0} (source : R → Source ℕ) (old : MetadataBlockReader R A)
+    (result : Result (MetadataBlock A) Error) (new : MetadataBlockReader R A) : Type 0 where
   pub bounds : ResultHasBounds result
   pub memory : OutOfMemoryAfterBlockHeader result (bytes_in source (reader_input old))
   pub within : AtMostBlockIsConsumed source (reader_input old) (reader_input new)

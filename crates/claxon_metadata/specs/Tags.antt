@@ -2,12 +2,12 @@
 use Rattle.std.specs.Prelude.{ℕ, List}
 use Rattle.claxon_metadata.specs.declared.metadata.tags.Tags.{Tags}
 use Rattle.claxon_metadata.specs.declared.metadata.tags.GetTag.{GetTag}
-use Rattle.claxon_format.specs.Pairs.{pairs, values}
+use Rattle.claxon_format.specs.Tags.{tags_of_entries, values}
 use Rattle.claxon_metadata.specs.TagEntries.{entries_view}
 
--- the remaining pairs of a name and a value
+-- the remaining names and values
 abbrev pub remaining_tags : {A : Type 0} → Tags A → List (List ℕ × List ℕ)
-remaining_tags t = pairs (entries_view t.comments.now)
+remaining_tags t = tags_of_entries (entries_view t.comments.now)
 
 -- the remaining values of the name that is looked for
 abbrev pub remaining_values : {A : Type 0} → GetTag A → List (List ℕ)

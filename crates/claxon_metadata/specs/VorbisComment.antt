@@ -1,8 +1,32 @@
 -- Vorbis comments (RFC 9639, section 8.6) in the code.
-use Rattle.std.specs.Prelude.{◌≡◌, ◌⊎◌, ℕ, true, false, nat_lt, Option, None, Some, MatchResult, Result, List, [], ◌∷◌, ◌++◌, string_bytes}
+use Rattle.std.specs.Prelude.{
+  ◌≡◌,
+  ◌⊎◌,
+  ℕ,
+  true,
+  false,
+  nat_lt,
+  Option,
+  None,
+  Some,
+  MatchResult,
+  Result,
+  List,
+  [],
+  ◌∷◌,
+  ◌++◌,
+  string_bytes,
+}
 use Rattle.std.specs.List.{position_or_len}
 use Rattle.std.specs.declared.string.String.{String}
-use Rattle.claxon_format.specs.Comments.{Entry, Comment, TextLength, has_name, has_separator, is_separator}
+use Rattle.claxon_format.specs.Comments.{
+  Entry,
+  Comment,
+  TextLength,
+  has_name,
+  has_separator,
+  is_separator,
+}
 use Rattle.claxon_format.specs.Fault.{Fault, NameByte, SeparatorMissing}
 use Rattle.claxon_format.specs.read.Reading.{checked_at}
 use Rattle.claxon_format.specs.read.Bytes.{little_at}
@@ -23,7 +47,7 @@ comment_view comment =
 -- an entry, or none for an empty text
 abbrev pub entry_or_empty_view : {A : Type 0} → Option (String A × ℕ) → List Entry
 entry_or_empty_view None = []
-entry_or_empty_view (Some pair) = entry_view pair ∷ []
+entry_or_empty_view (Some tag_of_entry) = entry_view tag_of_entry ∷ []
 
 -- the bytes begin with a vendor length, which is at most `most`
 abbrev pub HasVendorLength : ℕ → List ℕ → Type 0

@@ -8,8 +8,33 @@ ghost use Rattle.claxon_format.specs.read.Metadata.{block_header_at};
 ghost use Rattle.claxon_input.specs.Promises.{IsOutOfMemory};
 ghost use Rattle.claxon_input.specs.State.{bytes_in};
 ghost use Rattle.claxon_input.specs.Gives.{Gives, GivesOrOutOfMemory};
-ghost use Rattle.claxon_metadata.specs.ReadMetadataBlock.{AtMostIsConsumed, AtMostBlockIsConsumed, MetadataBlockFaultIsSound, MetadataBlockIsRead, ResultHasBounds, MetadataBlockIsSound, ContentFaultIsSound, ContentIsRead, ContentOutOfMemoryAfterLengths, ContentIsSound, MetadataBlockFaultIsComplete, MetadataBlockIsComplete, ContentFaultIsComplete, ContentIsComplete, MetadataBlockAndFlagIsRead, MetadataBlockElseIoError, ContentElseIoError, MetadataBlockLeavesRest};
-ghost use Rattle.claxon_metadata.specs.MetadataBlock.{BlockHasBounds, OutOfMemoryAfterBlockHeader, content_at, content_view, header_view};
+ghost use Rattle.claxon_metadata.specs.ReadMetadataBlock.{
+  AtMostIsConsumed,
+  AtMostBlockIsConsumed,
+  MetadataBlockFaultIsSound,
+  MetadataBlockIsRead,
+  ResultHasBounds,
+  MetadataBlockIsSound,
+  ContentFaultIsSound,
+  ContentIsRead,
+  ContentOutOfMemoryAfterLengths,
+  ContentIsSound,
+  MetadataBlockFaultIsComplete,
+  MetadataBlockIsComplete,
+  ContentFaultIsComplete,
+  ContentIsComplete,
+  MetadataBlockAndFlagIsRead,
+  MetadataBlockElseIoError,
+  ContentElseIoError,
+  MetadataBlockLeavesRest,
+};
+ghost use Rattle.claxon_metadata.specs.MetadataBlock.{
+  BlockHasBounds,
+  OutOfMemoryAfterBlockHeader,
+  content_at,
+  content_view,
+  header_view,
+};
 
 mod comment;
 pub mod comment_checks;
@@ -101,7 +126,7 @@ pub type MetadataBlockResult<A = Global> = Result<MetadataBlock<A>>;
 fn read_metadata_block_header<R: ReadBytes>(input: &mut R) -> Result<MetadataBlockHeader>
     ensures gives { Gives header_view result block_header_at
         (bytes_in R.source input.old) (bytes_in R.source input.new) }
-    ensures within { AtMostIsConsumed R.source 4 input.old input.new }
+    ensures at_most_is_consumed { AtMostIsConsumed R.source 4 input.old input.new }
 {
     let first = input.read_u8()?;
     let length = input.read_be_u24()?;
@@ -119,9 +144,10 @@ pub fn read_metadata_block_and_flag<R: ReadBytes, A: Allocator + Copy>(
     input: &mut R,
 ) -> Result<(bool, MetadataBlock<A>)>
     ensures bounds { IfOk result (λ found. BlockHasBounds found.1) }
-    ensures memory { OutOfMemoryAfterBlockHeader result (bytes_in R.source input.old) }
-    ensures gives { MetadataBlockAndFlagIsRead R.source input.old result input.new }
-    ensures within { AtMostBlockIsConsumed R.source input.old input.new }
+    ensures out_of_memory_after_block_header { OutOfMemoryAfterBlockHeader result
+        (bytes_in R.source input.old) }
+    ensures is_read { MetadataBlockAndFlagIsRead R.source input.old result input.new }
+    ensures at_most_block_is_consumed { AtMostBlockIsConsumed R.source input.old input.new }
 {
     let header = read_metadata_block_header(input)?;
     let block = read_metadata_block_exact(alloc, input, header.block_type, header.length)?;
@@ -140,16 +166,17 @@ pub fn read_metadata_block_with_header<R: ReadBytes, A: Allocator + Copy>(
     alloc: A,
     input: &mut R,
 ) -> Result<MetadataBlock<A>>
-    ensures bounds { ResultHasBounds result }
-    ensures memory { OutOfMemoryAfterBlockHeader result (bytes_in R.source input.old) }
-    ensures sound { MetadataBlockIsSound R.source input.old result input.new }
-    ensures complete { MetadataBlockIsComplete R.source input.old result input.new }
-    ensures fault { MetadataBlockFaultIsSound R.source input.old result input.new }
-    ensures named { MetadataBlockFaultIsComplete R.source input.old result input.new }
-    ensures io { MetadataBlockElseIoError R.source input.old result input.new }
-    ensures front { MetadataBlockLeavesRest R.source input.old result input.new }
-    ensures gives { MetadataBlockIsRead R.source input.old result input.new }
-    ensures within { AtMostBlockIsConsumed R.source input.old input.new }
+    ensures has_bounds { ResultHasBounds result }
+    ensures out_of_memory_after_block_header { OutOfMemoryAfterBlockHeader result
+        (bytes_in R.source input.old) }
+    ensures is_sound { MetadataBlockIsSound R.source input.old result input.new }
+    ensures is_complete { MetadataBlockIsComplete R.source input.old result input.new }
+    ensures fault_is_sound { MetadataBlockFaultIsSound R.source input.old result input.new }
+    ensures fault_is_complete { MetadataBlockFaultIsComplete R.source input.old result input.new }
+    ensures else_io_error { MetadataBlockElseIoError R.source input.old result input.new }
+    ensures leaves_rest { MetadataBlockLeavesRest R.source input.old result input.new }
+    ensures is_read { MetadataBlockIsRead R.source input.old result input.new }
+    ensures at_most_block_is_consumed { AtMostBlockIsConsumed R.source input.old input.new }
 {
     read_metadata_block_with_header_exact(alloc, input)
 }
@@ -159,10 +186,11 @@ fn read_metadata_block_with_header_exact<R: ReadBytes, A: Allocator + Copy>(
     alloc: A,
     input: &mut R,
 ) -> Result<MetadataBlock<A>>
-    ensures bounds { ResultHasBounds result }
-    ensures memory { OutOfMemoryAfterBlockHeader result (bytes_in R.source input.old) }
-    ensures gives { MetadataBlockIsRead R.source input.old result input.new }
-    ensures within { AtMostBlockIsConsumed R.source input.old input.new }
+    ensures has_bounds { ResultHasBounds result }
+    ensures out_of_memory_after_block_header { OutOfMemoryAfterBlockHeader result
+        (bytes_in R.source input.old) }
+    ensures is_read { MetadataBlockIsRead R.source input.old result input.new }
+    ensures at_most_block_is_consumed { AtMostBlockIsConsumed R.source input.old input.new }
 {
     let (_, block) = read_metadata_block_and_flag(alloc, input)?;
     Ok(block)
@@ -184,16 +212,19 @@ pub fn read_metadata_block<R: ReadBytes, A: Allocator + Copy>(
     block_type: u8,
     length: u32,
 ) -> Result<MetadataBlock<A>>
-    ensures bounds { ResultHasBounds result }
-    ensures memory { ContentOutOfMemoryAfterLengths R.source block_type length input.old result }
-    ensures sound { ContentIsSound R.source block_type length input.old result input.new }
-    ensures complete { ContentIsComplete R.source block_type length input.old result input.new }
-    ensures fault { ContentFaultIsSound R.source block_type length input.old result input.new }
-    ensures named { ContentFaultIsComplete R.source block_type length input.old result input.new }
-    ensures io { ContentElseIoError R.source block_type length input.old result input.new }
-    ensures front { MetadataBlockLeavesRest R.source input.old result input.new }
-    ensures gives { ContentIsRead R.source block_type length input.old result input.new }
-    ensures within { AtMostIsConsumed R.source length input.old input.new }
+    ensures has_bounds { ResultHasBounds result }
+    ensures out_of_memory_after_lengths { ContentOutOfMemoryAfterLengths R.source block_type length
+        input.old result }
+    ensures is_sound { ContentIsSound R.source block_type length input.old result input.new }
+    ensures is_complete { ContentIsComplete R.source block_type length input.old result input.new }
+    ensures fault_is_sound { ContentFaultIsSound R.source block_type length input.old result
+        input.new }
+    ensures fault_is_complete { ContentFaultIsComplete R.source block_type length input.old result
+        input.new }
+    ensures else_io_error { ContentElseIoError R.source block_type length input.old result input.new }
+    ensures leaves_rest { MetadataBlockLeavesRest R.source input.old result input.new }
+    ensures is_read { ContentIsRead R.source block_type length input.old result input.new }
+    ensures at_most_is_consumed { AtMostIsConsumed R.source length input.old input.new }
 {
     read_metadata_block_exact(alloc, input, block_type, length)
 }
@@ -205,10 +236,11 @@ fn read_metadata_block_exact<R: ReadBytes, A: Allocator + Copy>(
     block_type: u8,
     length: u32,
 ) -> Result<MetadataBlock<A>>
-    ensures bounds { ResultHasBounds result }
-    ensures memory { ContentOutOfMemoryAfterLengths R.source block_type length input.old result }
-    ensures gives { ContentIsRead R.source block_type length input.old result input.new }
-    ensures within { AtMostIsConsumed R.source length input.old input.new }
+    ensures has_bounds { ResultHasBounds result }
+    ensures out_of_memory_after_lengths { ContentOutOfMemoryAfterLengths R.source block_type length
+        input.old result }
+    ensures is_read { ContentIsRead R.source block_type length input.old result input.new }
+    ensures at_most_is_consumed { AtMostIsConsumed R.source length input.old input.new }
 {
     match block_type {
         0 => Ok(MetadataBlock::StreamInfo(read_streaminfo_block(input, length)?)),
@@ -227,7 +259,7 @@ fn read_metadata_block_exact<R: ReadBytes, A: Allocator + Copy>(
 
 // What is returned for a block whose content is skipped.
 fn skipped_block<A: Allocator>(block_type: u8, length: u32) -> MetadataBlock<A>
-    ensures bounds { BlockHasBounds result }
+    ensures block_has_bounds { BlockHasBounds result }
     ensures value { content_view result ≡ skipped block_type length }
 {
     match block_type {
@@ -243,11 +275,11 @@ fn read_application_block<R: ReadBytes, A: Allocator>(
     input: &mut R,
     length: u32,
 ) -> Result<MetadataBlock<A>>
-    ensures bounds { ResultHasBounds result }
-    ensures memory { IsOutOfMemory result → (4 ≤ length) × (length ≤ max_content_bytes) }
+    ensures has_bounds { ResultHasBounds result }
+    ensures is_out_of_memory { IsOutOfMemory result → (4 ≤ length) × (length ≤ max_content_bytes) }
     ensures gives { GivesOrOutOfMemory content_view result (application_at length)
         (bytes_in R.source input.old) (bytes_in R.source input.new) }
-    ensures within { AtMostIsConsumed R.source length input.old input.new }
+    ensures at_most_is_consumed { AtMostIsConsumed R.source length input.old input.new }
 {
     if length < 4 {
         return Err(Error::FormatError("application block length must be at least 4 bytes"));
@@ -266,7 +298,7 @@ fn read_bytes<R: ReadBytes, A: Allocator>(alloc: A, input: &mut R, count: u32) -
     ensures length { IfOk result (λ bytes. vec_len bytes ≡ count) }
     ensures gives { GivesOrOutOfMemory (λ bytes. bytes.items) result (bytes_at count)
         (bytes_in R.source input.old) (bytes_in R.source input.new) }
-    ensures within { AtMostIsConsumed R.source count input.old input.new }
+    ensures at_most_is_consumed { AtMostIsConsumed R.source count input.old input.new }
 {
     let mut bytes = Vec::new(alloc);
     bytes.resize(count as usize, 0)?;
@@ -296,7 +328,11 @@ pub struct MetadataBlockReader<R: ReadBytes, A: Allocator = Global> {
 }
 
 impl<R: ReadBytes, A: Allocator + Copy> MetadataBlockReader<R, A> {
-    ghost use Rattle.claxon_metadata.specs.MetadataBlockReader.{ReadsBlock, reader_input, has_ended};
+    ghost use Rattle.claxon_metadata.specs.MetadataBlockReader.{
+      ReadsBlock,
+      reader_input,
+      has_ended,
+    };
 
     /// Reads blocks from the current position of the input, where a block's header is to be.
     pub fn new(alloc: A, input: R) -> MetadataBlockReader<R, A>

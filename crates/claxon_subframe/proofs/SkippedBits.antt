@@ -7,7 +7,7 @@ use Rattle.claxon_format.specs.Codes.{Never}
 use Rattle.claxon_input.specs.BufferedBits.{bits_in_buffer, GivesBuffered, IsBufferOf, skipped_bits_at}
 use Rattle.claxon_input.specs.declared.bits.buffered.BufferedBits.{BufferedBits}
 use Rattle.claxon_input.specs.State.{State}
-use Rattle.claxon_input.specs.Gives.{Consumes, FailureOr}
+use Rattle.claxon_input.specs.Gives.{Consumes, ReadFailedOrRemaining}
 use Rattle.claxon_input.proofs.BufferedBitSteps.{skipped_bits_is, not_skipped_bits}
 use Rattle.claxon_input.proofs.ConsecutiveCalls.{consumes_known, failure_or_known}
 
@@ -34,7 +34,7 @@ read_consumes {read = read} exact bits left x a b {new = new} p q e here h =
     ap read r.1 ∙ e r.0 ∙ ap (λ (z : Bits). Done x z) (sym m))
 
 -- buffered bits can be skipped
-pub never_incomplete : (bits left : ℕ) (a : BufferedBits) {old new : State Bool} → bits ≡ length (bits_in_buffer a) → IsBufferOf a old → FailureOr old new (λ s. skipped_bits_at (bits - left) s ≡ Incomplete) → FailureOr old new (λ s. ⊥)
+pub never_incomplete : (bits left : ℕ) (a : BufferedBits) {old new : State Bool} → bits ≡ length (bits_in_buffer a) → IsBufferOf a old → ReadFailedOrRemaining old new (λ s. skipped_bits_at (bits - left) s ≡ Incomplete) → ReadFailedOrRemaining old new (λ s. ⊥)
 never_incomplete bits left a {old = old} p here h =
     failure_or_known _ h (λ t incomplete.
     let r = here t in

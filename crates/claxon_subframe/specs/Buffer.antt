@@ -8,8 +8,8 @@ use Rattle.claxon_input.specs.State.{bits_in}
 use Rattle.claxon_input.specs.declared.bits.Bitstream.{Bitstream}
 use Rattle.claxon_input.specs.declared.error.Error.{Error}
 
--- After an Ok the buffer holds what reading gives, and just its bits were consumed. An Err is the fault of the bits that were
--- consumed, or an `IoError` where the source failed or the input ended.
+-- After an Ok the buffer holds what reading gives, and just its bits were consumed. An Err is the
+-- fault of the bits that were consumed, or an `IoError` where the source failed or the input ended.
 abbrev pub FillsBuffer : {R A : Type 0} {g : _} → (R → Source ℕ)
     → (Bits → Reading Bool (List ℤ)) → Bitstream R g → Result A Error → Bitstream R g → List ℤ
     → Type 0

@@ -1,5 +1,21 @@
 -- Vectors of four lanes.
-use Rattle.std.specs.Prelude.{◌≡◌, ℕ, ◌≤◌, ℤ, FitsSigned, ◌+ℤ◌, ◌*ℤ◌, List, [], ◌∷◌, ◌++◌, length, map, take, drop}
+use Rattle.std.specs.Prelude.{
+  ◌≡◌,
+  ℕ,
+  ◌≤◌,
+  ℤ,
+  FitsSigned,
+  ◌+ℤ◌,
+  ◌*ℤ◌,
+  List,
+  [],
+  ◌∷◌,
+  ◌++◌,
+  length,
+  map,
+  take,
+  drop,
+}
 use Rattle.std.specs.Int.{int_wrap, w64}
 use Rattle.std.specs.Simd.Lanes.{zip2}
 use Rattle.std.specs.Int.RustNames.{unsigned_abs}
@@ -36,7 +52,8 @@ pub record LanesFit64 (xs : List ℤ) : Type 0 where
 abbrev pub plus_products : List ℤ → List ℤ → List ℤ → List ℤ
 plus_products zs cs xs = map wrap_64 (zip2 ◌+ℤ◌ zs (zip2 ◌*ℤ◌ cs xs))
 
--- the lanes shifted by two, that is the last two numbers of before and the first two of zs, and two products added to each, modulo 2 ^ 64
+-- the lanes shifted by two, that is the last two numbers of before and the first two of zs, and
+-- two products added to each, modulo 2 ^ 64
 abbrev pub advanced_by_two : List ℤ → List ℤ → List ℤ → List ℤ → List ℤ → List ℤ → List ℤ
 advanced_by_two before zs cs xs ds ys =
     plus_products (plus_products (drop 2 before ++ take 2 zs) cs xs) ds ys

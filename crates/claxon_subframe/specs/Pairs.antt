@@ -1,5 +1,22 @@
 -- Pending sums in lanes of 32 bits, for samples of 16 bits.
-use Rattle.std.specs.Prelude.{◌≡◌, ℕ, ◌+◌, ◌^◌, ◌<◌, ℤ, ◌+ℤ◌, ◌*ℤ◌, FitsSigned, List, [], ◌∷◌, ◌++◌, length, take, drop}
+use Rattle.std.specs.Prelude.{
+  ◌≡◌,
+  ℕ,
+  ◌+◌,
+  ◌^◌,
+  ◌<◌,
+  ℤ,
+  ◌+ℤ◌,
+  ◌*ℤ◌,
+  FitsSigned,
+  List,
+  [],
+  ◌∷◌,
+  ◌++◌,
+  length,
+  take,
+  drop,
+}
 use Rattle.std.specs.Int.{int_wrap, w16, w32}
 use Rattle.std.specs.Int.RustNames.{unsigned_abs}
 use Rattle.claxon_subframe.specs.PendingSums.{ArePendingSums, FitVectors, four_taps}
@@ -47,10 +64,12 @@ in_turn (x ∷ xs) (y ∷ ys) = x ∷ y ∷ in_turn xs ys
 
 -- each number and the products of two coefficients and their samples, modulo 2 ^ 32
 abbrev pub plus_pairs : List ℤ → List ℤ → List ℤ → List ℤ
-plus_pairs (z ∷ zs) (c ∷ d ∷ cs) (x ∷ y ∷ xs) = int_wrap w32 (z +ℤ (c *ℤ x +ℤ d *ℤ y)) ∷ plus_pairs zs cs xs
+plus_pairs (z ∷ zs) (c ∷ d ∷ cs) (x ∷ y ∷ xs) =
+    int_wrap w32 (z +ℤ (c *ℤ x +ℤ d *ℤ y)) ∷ plus_pairs zs cs xs
 plus_pairs _ _ _ = []
 
--- the lanes shifted by two, that is the last two numbers of before and the first two of zs, and two products added to each
+-- the lanes shifted by two, that is the last two numbers of before and the first two of zs, and
+-- two products added to each
 abbrev pub advanced_by_pair : List ℤ → List ℤ → List ℤ → List ℤ → List ℤ
 advanced_by_pair before zs taps pair = plus_pairs (drop 2 before ++ take 2 zs) taps pair
 
@@ -94,12 +113,14 @@ pub record SumsFit32 (sums : PendingSums (List ℤ)) : Type 0 where
   pub later : LaterFit32 sums.later
 
 -- the pending sums of samples of 16 bits
-pub record ArePendingSums16 (coefficients past : List ℤ) (sums : PendingSums (List ℤ)) : Type 0 where
-  pub small : Fit16 past
-  pub pending : ArePendingSums coefficients past sums
+pub record ArePendingSums16 (coefficients past : List ℤ) (sums : PendingSums (List ℤ)) : Type 0
+  where
+    pub small : Fit16 past
+    pub pending : ArePendingSums coefficients past sums
 
 -- coefficients of which these are the taps, whose magnitudes add up to less than 2 ^ 16
-pub record ArePairCoefficients (vectors : ℕ) (taps : LaterLanes (List ℤ)) (coefficients : List ℤ) : Type 0 where
+pub record ArePairCoefficients (vectors : ℕ) (taps : LaterLanes (List ℤ)) (coefficients : List ℤ) :
+    Type 0 where
   pub pairs : ArePairTaps coefficients taps
   pub fit : FitVectors vectors coefficients
   pub small : magnitude coefficients < 2 ^ 16

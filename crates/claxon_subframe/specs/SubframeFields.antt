@@ -5,7 +5,12 @@ use Rattle.claxon_subframe.specs.declared.subframe.LpcParameters.{LpcParameters}
 use Rattle.claxon_subframe.specs.declared.subframe.RicePartitionType.{RicePartitionType}
 use Rattle.claxon_subframe.specs.declared.subframe.RicePartitionType.TheVariants.{Rice, Rice2}
 use Rattle.claxon_subframe.specs.declared.subframe.SubframeType.{SubframeType}
-use Rattle.claxon_subframe.specs.declared.subframe.SubframeType.TheVariants.{Constant, Verbatim, Fixed, Lpc}
+use Rattle.claxon_subframe.specs.declared.subframe.SubframeType.TheVariants.{
+  Constant,
+  Verbatim,
+  Fixed,
+  Lpc,
+}
 
 -- the order of a fixed predictor, and of a linear one
 abbrev pub fixed_order : SubframeType → ℕ

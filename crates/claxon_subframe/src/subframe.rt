@@ -1,17 +1,61 @@
 //! Subframes: one channel of a frame.
-ghost use Rattle.std.specs.Prelude.{◌≡◌, ◌+◌, ◌-◌, ◌*◌, ◌%◌, ◌^◌, ◌<◌, ◌≤◌, IfOk, length, map, replicate};
+ghost use Rattle.std.specs.Prelude.{
+  ◌≡◌,
+  ◌+◌,
+  ◌-◌,
+  ◌*◌,
+  ◌%◌,
+  ◌^◌,
+  ◌<◌,
+  ◌≤◌,
+  IfOk,
+  length,
+  map,
+  replicate,
+};
 ghost use Rattle.claxon_format.specs.Bits.{FitsIn, residue};
 ghost use Rattle.claxon_format.specs.read.Bits.{twos_complement, signed_at};
 ghost use Rattle.claxon_format.specs.Fault.{Fault};
 ghost use Rattle.claxon_format.specs.read.Reading.{and_then, done, times_at};
-ghost use Rattle.claxon_format.specs.read.Residual.{partition_at, residual_at, escaped_partition_at, method_at};
-ghost use Rattle.claxon_format.specs.read.Subframe.{fixed_at, subframe_at, type_at, wasted_bits_to_31_at, subframe_header_at, parameters_at, linear_at};
+ghost use Rattle.claxon_format.specs.read.Residual.{
+  partition_at,
+  residual_at,
+  escaped_partition_at,
+  method_at,
+};
+ghost use Rattle.claxon_format.specs.read.Subframe.{
+  fixed_at,
+  subframe_at,
+  type_at,
+  wasted_bits_to_31_at,
+  subframe_header_at,
+  parameters_at,
+  linear_at,
+};
 ghost use Rattle.claxon_format.specs.Subframe.{scaled};
 ghost use Rattle.claxon_input.specs.State.{bits_in};
 ghost use Rattle.claxon_input.specs.Gives.{Gives};
 ghost use Rattle.claxon_subframe.specs.Buffer.{FillsBuffer};
-ghost use Rattle.claxon_subframe.specs.Decode.{SubframeFaultIsComplete, SubframeIsComplete, KeepsReaderLoans, SubframeElseIoError, SubframeFaultIsSound, SubframeIsRead, SubframeIsUnambiguous, SubframeLeavesRest, SubframeIsSound, NeverOutOfMemory};
-ghost use Rattle.claxon_subframe.specs.SubframeFields.{fixed_order, lpc_order, type_number, subframe_view, parameters_of, method_of};
+ghost use Rattle.claxon_subframe.specs.Decode.{
+  SubframeFaultIsComplete,
+  SubframeIsComplete,
+  KeepsReaderLoans,
+  SubframeElseIoError,
+  SubframeFaultIsSound,
+  SubframeIsRead,
+  SubframeIsUnambiguous,
+  SubframeLeavesRest,
+  SubframeIsSound,
+  NeverOutOfMemory,
+};
+ghost use Rattle.claxon_subframe.specs.SubframeFields.{
+  fixed_order,
+  lpc_order,
+  type_number,
+  subframe_view,
+  parameters_of,
+  method_of,
+};
 
 mod buffered;
 mod groups;
@@ -88,8 +132,7 @@ fn read_wasted_bits<R: ReadBytes>(input: &mut Bitstream<R>) -> Result<u32>
 #[tactic(auto, unfolding(claxon_format::specs::read::Subframe::subframe_header_at))]
 fn read_subframe_header<R: ReadBytes>(input: &mut Bitstream<R>) -> Result<SubframeHeader>
     ensures { Gives (λ header. subframe_view header.sf_type header.wasted_bits_per_sample) result
-        subframe_header_at
-        (bits_in R.source input.old) (bits_in R.source input.new) }
+        subframe_header_at (bits_in R.source input.old) (bits_in R.source input.new) }
 {
     let sf_type = read_subframe_type(input)?;
     let wasted_bits_per_sample = read_wasted_bits(input)?;
@@ -120,55 +163,65 @@ pub fn extend_sign_u32(val: u32, bits: u32) -> i32
     (val << (32 - bits)).cast_signed() >> (32 - bits)
 }
 
-/// Decodes a subframe: one channel, with as many samples as the buffer is long, each of `bps` bits.
+/// Decodes a subframe: one channel, with as many samples as the buffer is long, each of `bit_depth` bits.
 ///
 /// Whatever the buffer held is overwritten. No memory is allocated. (RFC 9639, section 9.2.)
 ///
 /// # Errors
 ///
-/// `FormatError` where the bits aren't a subframe of this bit depth and length, or where `bps` is 0. `Unsupported` where the
+/// `FormatError` where the bits aren't a subframe of this bit depth and length, or where `bit_depth` is 0. `Unsupported` where the
 /// shift of a linear predictor is negative. `IoError` where the input ends or the source fails. The samples in the buffer are
 /// then unspecified.
-pub fn decode<R: ReadBytes>(input: &mut Bitstream<R>, bps: u32, buffer: &mut [i32]) -> Result<()>
-    requires width { bps ≤ 32 }
+pub fn decode<R: ReadBytes>(
+    input: &mut Bitstream<R>,
+    bit_depth: u32,
+    buffer: &mut [i32],
+) -> Result<()>
+    requires max_bit_depth { bit_depth ≤ 32 }
     requires block { length buffer.old < 65536 }
-    ensures sound { SubframeIsSound R.source bps (length buffer.old)
+    ensures is_sound { SubframeIsSound R.source bit_depth (length buffer.old)
         input.old result input.new buffer.new }
-    ensures complete { SubframeIsComplete R.source bps (length buffer.old)
+    ensures is_complete { SubframeIsComplete R.source bit_depth (length buffer.old)
         input.old result input.new buffer.new }
-    ensures unambiguous { SubframeIsUnambiguous bps (length buffer.old) }
-    ensures fault { SubframeFaultIsSound R.source bps (length buffer.old)
+    ensures is_unambiguous { SubframeIsUnambiguous bit_depth (length buffer.old) }
+    ensures fault_is_sound { SubframeFaultIsSound R.source bit_depth (length buffer.old)
         input.old result input.new }
-    ensures named { SubframeFaultIsComplete R.source bps (length buffer.old)
+    ensures fault_is_complete { SubframeFaultIsComplete R.source bit_depth (length buffer.old)
         input.old result input.new }
-    ensures io { SubframeElseIoError R.source bps (length buffer.old) input.old result input.new }
-    ensures front { SubframeLeavesRest R.source bps (length buffer.old) input.old result input.new }
-    ensures gives { SubframeIsRead R.source bps (length buffer.old)
+    ensures else_io_error { SubframeElseIoError R.source bit_depth (length buffer.old) input.old
+        result input.new }
+    ensures leaves_rest { SubframeLeavesRest R.source bit_depth (length buffer.old) input.old result
+        input.new }
+    ensures is_read { SubframeIsRead R.source bit_depth (length buffer.old)
         input.old result input.new buffer.new }
-    ensures no_memory { NeverOutOfMemory result }
-    ensures loans { KeepsReaderLoans R.source input.old input.new }
+    ensures never_out_of_memory { NeverOutOfMemory result }
+    ensures keeps_reader_loans { KeepsReaderLoans R.source input.old input.new }
 {
-    decode_exact(input, bps, buffer)
+    decode_exact(input, bit_depth, buffer)
 }
 
 #[tactic(auto, unfolding(claxon_format::specs::read::Subframe::subframe_at, claxon_format::specs::Fault::fault_text))]
-fn decode_exact<R: ReadBytes>(input: &mut Bitstream<R>, bps: u32, buffer: &mut [i32]) -> Result<()>
-    requires width { bps ≤ 32 }
+fn decode_exact<R: ReadBytes>(
+    input: &mut Bitstream<R>,
+    bit_depth: u32,
+    buffer: &mut [i32],
+) -> Result<()>
+    requires max_bit_depth { bit_depth ≤ 32 }
     requires block { length buffer.old < 65536 }
-    ensures { FillsBuffer R.source (subframe_at bps (length buffer.old))
+    ensures { FillsBuffer R.source (subframe_at bit_depth (length buffer.old))
         input.old result input.new buffer.new }
 {
     let header = read_subframe_header(input)?;
     let wasted = header.wasted_bits_per_sample;
-    if wasted >= bps {
+    if wasted >= bit_depth {
         return Err(Error::FormatError("subframe has no non-wasted bits"));
     }
-    let bps = bps - wasted;
+    let bit_depth = bit_depth - wasted;
     match header.sf_type {
-        SubframeType::Constant => decode_constant(input, bps, buffer),
-        SubframeType::Verbatim => decode_verbatim(input, bps, buffer),
-        SubframeType::Fixed(order) => decode_fixed(input, bps, order, buffer),
-        SubframeType::Lpc(order) => decode_lpc(input, bps, order, buffer),
+        SubframeType::Constant => decode_constant(input, bit_depth, buffer),
+        SubframeType::Verbatim => decode_verbatim(input, bit_depth, buffer),
+        SubframeType::Fixed(order) => decode_fixed(input, bit_depth, order, buffer),
+        SubframeType::Lpc(order) => decode_lpc(input, bit_depth, order, buffer),
     }?;
     if wasted > 0 {
         restore_wasted_bits(wasted, buffer);
@@ -188,43 +241,43 @@ fn restore_wasted_bits(wasted: u32, buffer: &mut [i32])
 
 #[inline(always)]
 #[tactic(auto, unfolding(claxon_format::specs::read::Bits::signed_at))]
-fn read_sample<R: ReadBytes>(input: &mut Bitstream<R>, bps: u32) -> Result<i32>
-    requires some { 0 < bps }
-    requires width { bps ≤ 32 }
-    ensures { Gives (λ x. x) result (signed_at bps)
+fn read_sample<R: ReadBytes>(input: &mut Bitstream<R>, bit_depth: u32) -> Result<i32>
+    requires min_bit_depth { 0 < bit_depth }
+    requires max_bit_depth { bit_depth ≤ 32 }
+    ensures { Gives (λ x. x) result (signed_at bit_depth)
         (bits_in R.source input.old) (bits_in R.source input.new) }
 {
-    let sample = input.read_leq_u32(bps)?;
-    Ok(extend_sign_u32(sample, bps))
+    let sample = input.read_leq_u32(bit_depth)?;
+    Ok(extend_sign_u32(sample, bit_depth))
 }
 
 fn decode_constant<R: ReadBytes>(
     input: &mut Bitstream<R>,
-    bps: u32,
+    bit_depth: u32,
     buffer: &mut [i32],
 ) -> Result<()>
-    requires some { 0 < bps }
-    requires width { bps ≤ 32 }
+    requires min_bit_depth { 0 < bit_depth }
+    requires max_bit_depth { bit_depth ≤ 32 }
     ensures { FillsBuffer R.source
-        (and_then (signed_at bps) (λ x. done (replicate (length buffer.old) x)))
+        (and_then (signed_at bit_depth) (λ x. done (replicate (length buffer.old) x)))
         input.old result input.new buffer.new }
 {
-    let sample = read_sample(input, bps)?;
+    let sample = read_sample(input, bit_depth)?;
     buffer.fill(sample);
     Ok(())
 }
 
 fn decode_fixed<R: ReadBytes>(
     input: &mut Bitstream<R>,
-    bps: u32,
+    bit_depth: u32,
     order: u32,
     buffer: &mut [i32],
 ) -> Result<()>
-    requires some { 0 < bps }
-    requires width { bps ≤ 32 }
+    requires min_bit_depth { 0 < bit_depth }
+    requires max_bit_depth { bit_depth ≤ 32 }
     requires order { order ≤ 4 }
     requires block { length buffer.old < 65536 }
-    ensures { FillsBuffer R.source (fixed_at bps (length buffer.old) order)
+    ensures { FillsBuffer R.source (fixed_at bit_depth (length buffer.old) order)
         input.old result input.new buffer.new }
 {
     if buffer.len() < order as usize {
@@ -235,7 +288,7 @@ fn decode_fixed<R: ReadBytes>(
     if order == 0 {
         return decode_residual(input, block_size, buffer);
     }
-    decode_verbatim(input, bps, &mut buffer[..order as usize])?;
+    decode_verbatim(input, bit_depth, &mut buffer[..order as usize])?;
     decode_residual(input, block_size, &mut buffer[order as usize..])?;
     predict_fixed(order, buffer);
     Ok(())
@@ -292,15 +345,15 @@ fn read_coefficients<R: ReadBytes>(
 
 fn decode_lpc<R: ReadBytes>(
     input: &mut Bitstream<R>,
-    bps: u32,
+    bit_depth: u32,
     order: u32,
     buffer: &mut [i32],
 ) -> Result<()>
-    requires some { 0 < bps }
-    requires width { bps ≤ 32 }
+    requires min_bit_depth { 0 < bit_depth }
+    requires max_bit_depth { bit_depth ≤ 32 }
     requires order { order ≤ 32 }
     requires block { length buffer.old < 65536 }
-    ensures { FillsBuffer R.source (linear_at bps (length buffer.old) order)
+    ensures { FillsBuffer R.source (linear_at bit_depth (length buffer.old) order)
         input.old result input.new buffer.new }
 {
     if buffer.len() < order as usize {
@@ -308,7 +361,7 @@ fn decode_lpc<R: ReadBytes>(
     }
     let block_size = buffer.len() as u16;
     let order = order as usize;
-    decode_verbatim(input, bps, &mut buffer[..order])?;
+    decode_verbatim(input, bit_depth, &mut buffer[..order])?;
     let lpc = read_lpc_parameters(input)?;
     let mut numbers = [0i16; 32];
     let coefficients = &mut numbers[..order];

@@ -9,7 +9,7 @@ use Rattle.claxon.specs.Errors.TheVariants.{FormatError, IoError, OutOfMemory, U
 use Rattle.claxon.specs.Fault.{Fault}
 use Rattle.claxon.specs.Frame.{StreamFormat}
 use Rattle.claxon.specs.FrameReader.{FrameAnswer, ReadsFrame, block_view}
-use Rattle.claxon.specs.Gives.{FailedIn, GivesOrEofOrOutOfMemory}
+use Rattle.claxon.specs.Gives.{ReadFailedIn, GivesOrEofOrOutOfMemory}
 use Rattle.claxon.specs.Promises.{IsExcused, NoneIsEof}
 use Rattle.claxon.specs.SampleRuns.{lent}
 use Rattle.claxon.specs.Source.{Source}
@@ -19,10 +19,10 @@ use Rattle.claxon.specs.read.Reading.{Reading}
 use Rattle.claxon_tools.specs.Verify.{BlockIsRead, IfConsumed, IsNotWhole}
 
 -- whether the source failed
-pub decide_failed : {X : Type 0} (a b : State X) → FailedIn a b ⊎ (FailedIn a b → ⊥)
+pub decide_failed : {X : Type 0} (a b : State X) → ReadFailedIn a b ⊎ (ReadFailedIn a b → ⊥)
 decide_failed a b = go (eqb b.source.errors a.source.errors) (eqb b.source.empty_reads a.source.empty_reads) (source_bytes b) refl refl refl
   where
-    go : (x y : Bool) (l : List ℕ) → eqb b.source.errors a.source.errors ≡ x → eqb b.source.empty_reads a.source.empty_reads ≡ y → source_bytes b ≡ l → FailedIn a b ⊎ (FailedIn a b → ⊥)
+    go : (x y : Bool) (l : List ℕ) → eqb b.source.errors a.source.errors ≡ x → eqb b.source.empty_reads a.source.empty_reads ≡ y → source_bytes b ≡ l → ReadFailedIn a b ⊎ (ReadFailedIn a b → ⊥)
     go false y l e f g = inl (inl (eqb-false b.source.errors a.source.errors e))
     go true true l e f g = inr (λ z. elim z [ inl n ↦ n (eqb-true b.source.errors a.source.errors e) | inr n ↦ n.0 (eqb-true b.source.empty_reads a.source.empty_reads f) ])
     go true false [] e f g = inr (λ z. elim z [ inl n ↦ n (eqb-true b.source.errors a.source.errors e) | inr n ↦ n.1 g ])
@@ -36,7 +36,7 @@ io_not_memory (Unsupported text) io m = absurd cc
 io_not_memory OutOfMemory io m = absurd cc
 
 -- where it didn't fail and the result is an `IoError`, there is no excuse
-pub not_excused : {X A : Type 0} (a b : State X) (e : Error) → IsIo e → (FailedIn a b → ⊥) → IsExcused (let r : Result A Error = Err e in r) a b → ⊥
+pub not_excused : {X A : Type 0} (a b : State X) (e : Error) → IsIo e → (ReadFailedIn a b → ⊥) → IsExcused (let r : Result A Error = Err e in r) a b → ⊥
 not_excused a b e io not_failed (inl m) = io_not_memory e io m
 not_excused a b e io not_failed (inr f) = not_failed f.1
 
@@ -47,7 +47,7 @@ io_not_fault f (Unsupported text) io h = absurd cc
 io_not_fault f OutOfMemory io h = h
 
 module _ (stream : Option StreamFormat) (a b : State ℕ) where
-  pub block_io : (r : FrameAnswer) → ReadsFrame stream r a b → IfErr r (λ e. IsIo e → RemainingIsKnown a → IsNotWhole stream a.remaining ⊎ FailedIn a b)
+  pub block_io : (r : FrameAnswer) → ReadsFrame stream r a b → IfErr r (λ e. IsIo e → RemainingIsKnown a → IsNotWhole stream a.remaining ⊎ ReadFailedIn a b)
   block_io (Ok found) h = tt
   block_io (Err e) h = λ io known. elim (decide_failed a b) [
     | inl f ↦ inr f
@@ -56,8 +56,8 @@ module _ (stream : Option StreamFormat) (a b : State ℕ) where
         inl (
           omega (arith, few),
           record {
-            no_code = λ y t rest c is. elim (h.promises.complete y t rest c (record { known = known; are = is })) [ inl p ↦ p.0 | inr x ↦ not_excused a b e io not_failed x ];
-            no_fault = λ f t rest c is. elim (h.promises.named f t rest c (record { known = known; are = is })) [ inl p ↦ io_not_fault f e io p.0 | inr x ↦ not_excused a b e io not_failed x ];
+            no_code = λ y t rest c is. elim (h.promises.is_complete y t rest c (record { known = known; are = is })) [ inl p ↦ p.0 | inr x ↦ not_excused a b e io not_failed x ];
+            no_fault = λ f t rest c is. elim (h.promises.fault_is_complete f t rest c (record { known = known; are = is })) [ inl p ↦ io_not_fault f e io p.0 | inr x ↦ not_excused a b e io not_failed x ];
           },
         )
         )
@@ -77,9 +77,9 @@ module _ (stream : Option StreamFormat) (a b : State ℕ) where
 
   block_read : (r : FrameAnswer) → b.source.loans ≡ a.source.loans → ReadsFrame stream r a b → BlockIsRead stream r a b
   block_read r loans h = record {
-    sound = h.promises.sound;
+    sound = h.promises.is_sound;
     eof = block_eof r h.promises.none_is_eof;
-    fault = h.promises.fault;
+    fault = h.promises.fault_is_sound;
     io = block_io r h;
     memory = h.memory;
     loans = loans;

@@ -11,13 +11,13 @@ use Rattle.std.proofs.lemmas.List.{drop_at, get_or_push, length-take, take_at}
 use Rattle.std.specs.Int.{to_le_bytes}
 use Rattle.claxon.specs.Bits.{FitsIn}
 use Rattle.claxon.specs.Fault.{Fault}
-use Rattle.claxon.specs.Frame.{Block, Frames, IsWidth, NoFrameLeft, StreamFormat, known_width}
+use Rattle.claxon.specs.Frame.{Block, Frames, IsBitDepth, NoFrameLeft, StreamFormat, known_bit_depth}
 use Rattle.claxon.specs.Streams.{interleave, duration_of}
 use Rattle.claxon.specs.Block.{BlockValue}
 use Rattle.claxon.specs.Errors.{Error as Cause}
 use Rattle.claxon.specs.Errors.TheVariants.{OutOfMemory}
 use Rattle.claxon.specs.FrameReader.{FrameAnswer, ReadsFrame, block_view, stream_with}
-use Rattle.claxon.specs.Gives.{Consumes, FailedIn}
+use Rattle.claxon.specs.Gives.{Consumes, ReadFailedIn}
 use Rattle.claxon.specs.Promises.{IsExcused}
 use Rattle.claxon.specs.SampleRuns.{ConsumesFrames, samples_of}
 use Rattle.claxon.specs.Source.{Source}
@@ -28,7 +28,7 @@ use Rattle.claxon.proofs.Streams.{length-interleave}
 use Rattle.claxon_write.proofs.Borrowed.{lent, runs_through, takes_through}
 use Rattle.claxon_write.proofs.Counts.{flushed_after, none_failed, none_failed_both}
 use Rattle.claxon_tools.proofs.BlockReads.{block_io}
-use Rattle.claxon_tools.specs.Convert.{CanBeConverted, CanBeConvertedTo, CanBePut, Converts, ConvertsToStream, ExplainsError, HoldsFile, HoldsUnknown, ConvertIsExcused, IsWholeStream, OutputHasFailed, PutBlocksFaultIsSound, PutBlocksIsSound, PutsBlocks, PutsSamples, StopsAtBlock, StopsPutting, OutputWriteHasFailed, packed_blocks}
+use Rattle.claxon_tools.specs.Convert.{CanBeConverted, CanBeConvertedTo, CanBePut, Converts, ConvertsToStream, ExplainsError, HoldsFile, HoldsUnknown, ConvertIsExcused, IsWholeStream, OutputFailed, PutBlocksFaultIsSound, PutBlocksIsSound, PutsBlocks, PutsSamples, StopsAtBlock, StopsPutting, OutputWriteFailed, packed_blocks}
 use Rattle.claxon_tools.specs.Samples.{bytes_of_sample, packed_block, packed_samples, shifted_sample, silence}
 use Rattle.claxon_tools.specs.WavError.{IsInput, IsMemory, IsOutput, NamesFault}
 use Rattle.claxon_tools.specs.WaveFile.{pad, sample_size, unknown_header}
@@ -162,7 +162,7 @@ calls_failed_after x y z n (inl f) = inl (λ e. f (e ∙ sym n.writes))
 calls_failed_after x y z n (inr (inl f)) = inr (inl (λ e. f (e ∙ sym n.flushes)))
 calls_failed_after x y z n (inr (inr f)) = inr (inr (λ e. f (e ∙ sym n.seeks)))
 
-failed_after : {P : List ℕ → List ℕ → Type 0} {a b : State ℕ} (c : State ℕ) → Consumes a b P → FailedIn b c → FailedIn a c
+failed_after : {P : List ℕ → List ℕ → Type 0} {a b : State ℕ} (c : State ℕ) → Consumes a b P → ReadFailedIn b c → ReadFailedIn a c
 failed_after c w (inl f) = inl (λ p. f (p ∙ sym w.errors))
 failed_after c w (inr f) = inr ((λ p. f.0 (p ∙ sym w.empty_reads)), f.1)
 
@@ -172,7 +172,7 @@ module _ {W : Type 0} {contents : W → Option (List ℕ)} {stream : Option Stre
   fault_explained : (cause : Cause) → PutsBlocks contents stream (Err cause) a b x y → ExplainsError stream a b x z (Claxon cause)
   fault_explained cause h =
       let w = h.reads.blocks_are.consumed in
-      elim h.reads.last.promises.fault [
+      elim h.reads.last.promises.fault_is_sound [
         | inl m ↦ inl m
         | inr (inl io) ↦ inr (inl (
           io,
@@ -247,17 +247,17 @@ as_excused : {A : Type 0} (a b : State ℕ) (e : Error) (cause : Cause) → e �
 as_excused a b e cause is (inl m) = inl (let k : cause ≡ OutOfMemory = cc in subst IsMemory (sym is) k)
 as_excused a b e cause is (inr f) = inr (subst IsInput (sym is) f.0, f.1)
 
-module _ (stream : Option StreamFormat) (width : IsWidth (known_width stream)) {W : Type 0} {contents : W → Option (List ℕ)} {a b : State ℕ} {x y : WavWriter W} (z : WavWriter W) (few : FewWritesFailed y z) where
+module _ (stream : Option StreamFormat) (bit_depth : IsBitDepth (known_bit_depth stream)) {W : Type 0} {contents : W → Option (List ℕ)} {a b : State ℕ} {x y : WavWriter W} (z : WavWriter W) (few : FewWritesFailed y z) where
   module _ (blocks : List Block) (m : List ℕ) (known : RemainingIsKnown a) (f : Frames stream a.remaining blocks m) (none : NoFrameLeft stream m) (can : CanBePut blocks x) where
     -- a block that can be written is written, or memory was refused or a write failed
-    block_excused : (e : Error) → StopsAtBlock contents stream e a b x y → IsErrAnd (let r : Result (Unit {0}) Error = Err e in r) IsMemory ⊎ OutputWriteHasFailed (Err e) x z
+    block_excused : (e : Error) → StopsAtBlock contents stream e a b x y → IsErrAnd (let r : Result (Unit {0}) Error = Err e in r) IsMemory ⊎ OutputWriteFailed (Err e) x z
     block_excused e h = go e h.explains (λ is. block_write_failed z e h is few)
       where
         all : List Block
         all = h.blocks ++ block_view h.block ∷ []
 
         left : (others : List Block) × (blocks ≡ all ++ others) × Frames stream b.remaining others m
-        left = frames_left stream width a.remaining b.remaining m all blocks (h.frames.consumed.known known).is f none
+        left = frames_left stream bit_depth a.remaining b.remaining m all blocks (h.frames.consumed.known known).is f none
 
         channels : length h.block.channels ≡ h.put.layout.channels
         channels = all_last (λ (k : Block). length k.channels ≡ x.layout.channels) h.blocks (block_view h.block) (all_before (λ (k : Block). length k.channels ≡ x.layout.channels) all left.0 (subst (All (λ (k : Block). length k.channels ≡ x.layout.channels)) left.1 can.channels)) ∙ sym (ap (λ (l : Layout). l.channels) h.puts.layout_is)
@@ -278,7 +278,7 @@ module _ (stream : Option StreamFormat) (width : IsWidth (known_width stream)) {
             ∙ ap length (flat_map-append (bytes_of_sample (sample_size valid_bits) valid_bits) (samples_of all) (samples_of left.0)) ∙ length-append (packed_blocks valid_bits all) (packed_blocks valid_bits left.0) in
             omega (arith, over, first, ap length (packed_more valid_bits h.blocks h.block), whole, can.size, h.puts.written_is)
 
-        go : (e : Error) → ExplainsBlockError h.block h.put e → (IsOutput e → WritesFailed x z) → IsErrAnd (let r : Result (Unit {0}) Error = Err e in r) IsMemory ⊎ OutputWriteHasFailed (Err e) x z
+        go : (e : Error) → ExplainsBlockError h.block h.put e → (IsOutput e → WritesFailed x z) → IsErrAnd (let r : Result (Unit {0}) Error = Err e in r) IsMemory ⊎ OutputWriteFailed (Err e) x z
         go (Claxon cause) s w = elim s [ inl m ↦ inl m | inr k ↦ absurd k ]
         go (Output cause) s w = inr (tt, w tt)
         go TooLong s w = absurd (size s)
@@ -288,9 +288,9 @@ module _ (stream : Option StreamFormat) (width : IsWidth (known_width stream)) {
         go Exists s w = elim s [ inl m ↦ absurd m | inr k ↦ absurd k ]
 
   -- a stream that can be converted doesn't stop early without an excuse
-  pub stop_complete : (e : Error) → StopsPutting contents stream e a b x y → CanBeConverted stream a x → ConvertIsExcused (Err e) a b ⊎ OutputHasFailed (Err e) x z
+  pub stop_complete : (e : Error) → StopsPutting contents stream e a b x y → CanBeConverted stream a x → ConvertIsExcused (Err e) a b ⊎ OutputFailed (Err e) x z
   stop_complete e (inr h) can = elim (block_excused can.blocks can.rest can.known can.frames (short_no_frame stream can.rest can.eof) can.can e h) [ inl m ↦ inl (inl m) | inr w ↦ inr (w.0, inl w.1) ]
-  stop_complete e (inl h) can = let reads = h.2.reads in elim (all_frames_read stream width (Some h.0) h.2.blocks can.blocks can.rest reads can.known can.frames (short_no_frame stream can.rest can.eof)) [
+  stop_complete e (inl h) can = let reads = h.2.reads in elim (all_frames_read stream bit_depth (Some h.0) h.2.blocks can.blocks can.rest reads can.known can.frames (short_no_frame stream can.rest can.eof)) [
     | inr k ↦ inl (as_excused a b e h.0 h.1 k)
     | inl p ↦ elim (reads.last.promises.eof_is_none can.rest p.1 can.eof) [
       | inl k ↦ absurd (let w = k.0 in cc)
@@ -299,18 +299,18 @@ module _ (stream : Option StreamFormat) (width : IsWidth (known_width stream)) {
   ]
 
   -- a fault there is named
-  pub stop_named : (f : Fault) (e : Error) → StopsPutting contents stream e a b x y → CanBeConvertedTo stream a f x → IsErrAnd (let r : Result (Unit {0}) Error = Err e in r) (NamesFault f) ⊎ (ConvertIsExcused (Err e) a b ⊎ OutputWriteHasFailed (Err e) x z)
-  stop_named f e (inr h) can = elim (block_excused can.blocks (can.fault ++ can.rest) can.known can.frames (fault_no_frame stream width f (can.fault ++ can.rest) can.fault can.rest can.bad refl) can.can e h) [ inl m ↦ inr (inl (inl m)) | inr w ↦ inr (inr w) ]
-  stop_named f e (inl h) can = let reads = h.2.reads in elim (all_frames_read stream width (Some h.0) h.2.blocks can.blocks (can.fault ++ can.rest) reads can.known can.frames (fault_no_frame stream width f (can.fault ++ can.rest) can.fault can.rest can.bad refl)) [
+  pub stop_named : (f : Fault) (e : Error) → StopsPutting contents stream e a b x y → CanBeConvertedTo stream a f x → IsErrAnd (let r : Result (Unit {0}) Error = Err e in r) (NamesFault f) ⊎ (ConvertIsExcused (Err e) a b ⊎ OutputWriteFailed (Err e) x z)
+  stop_named f e (inr h) can = elim (block_excused can.blocks (can.fault ++ can.rest) can.known can.frames (fault_no_frame stream bit_depth f (can.fault ++ can.rest) can.fault can.rest can.bad refl) can.can e h) [ inl m ↦ inr (inl (inl m)) | inr w ↦ inr (inr w) ]
+  stop_named f e (inl h) can = let reads = h.2.reads in elim (all_frames_read stream bit_depth (Some h.0) h.2.blocks can.blocks (can.fault ++ can.rest) reads can.known can.frames (fault_no_frame stream bit_depth f (can.fault ++ can.rest) can.fault can.rest can.bad refl)) [
     | inr k ↦ inr (inl (as_excused a b e h.0 h.1 k))
-    | inl p ↦ elim (reads.last.promises.named f can.fault can.rest can.bad p.1) [
+    | inl p ↦ elim (reads.last.promises.fault_is_complete f can.fault can.rest can.bad p.1) [
       | inl k ↦ inl (subst (NamesFault f) (sym h.1) k.0)
       | inr k ↦ inr (inl (as_excused a b e h.0 h.1 (excused_after b (Err h.0) reads.blocks_are.consumed k)))
     ]
   ]
 
 -- all blocks were written: the file is finished, or memory was refused or the output failed
-pub end_complete : {W : Type 0} (a b : State ℕ) (x y z : WavWriter W) (r : Result (Unit {0}) Error) → NoneFailed x y → FinishFaultIsSound r y z → IsOk r ⊎ (ConvertIsExcused r a b ⊎ OutputHasFailed r x z)
+pub end_complete : {W : Type 0} (a b : State ℕ) (x y z : WavWriter W) (r : Result (Unit {0}) Error) → NoneFailed x y → FinishFaultIsSound r y z → IsOk r ⊎ (ConvertIsExcused r a b ⊎ OutputFailed r x z)
 end_complete a b x y z (Ok done) none f = inl refl
 end_complete a b x y z (Err e) none (inl m) = inr (inl (inl m))
 end_complete a b x y z (Err e) none (inr k) = inr (inr (k.0, calls_failed_after x y z none k.1))
@@ -320,10 +320,10 @@ ok_unexcused a b x (inl m) = cc
 ok_unexcused a b x (inr f) = f.0
 
 -- where a fault stands the end is not met
-pub not_eof : (stream : Option StreamFormat) → IsWidth (known_width stream) → {W : Type 0} {contents : W → Option (List ℕ)} {a b : State ℕ} {x y : WavWriter W} (f : Fault) → PutsBlocks contents stream (Ok None) a b x y → CanBeConvertedTo stream a f x → ⊥
-not_eof stream width {a = a} {b = b} f h can = elim (all_frames_read stream width None h.blocks can.blocks (can.fault ++ can.rest) h.reads can.known can.frames (fault_no_frame stream width f (can.fault ++ can.rest) can.fault can.rest can.bad refl)) [
+pub not_eof : (stream : Option StreamFormat) → IsBitDepth (known_bit_depth stream) → {W : Type 0} {contents : W → Option (List ℕ)} {a b : State ℕ} {x y : WavWriter W} (f : Fault) → PutsBlocks contents stream (Ok None) a b x y → CanBeConvertedTo stream a f x → ⊥
+not_eof stream bit_depth {a = a} {b = b} f h can = elim (all_frames_read stream bit_depth None h.blocks can.blocks (can.fault ++ can.rest) h.reads can.known can.frames (fault_no_frame stream bit_depth f (can.fault ++ can.rest) can.fault can.rest can.bad refl)) [
   | inr k ↦ ok_unexcused a b None k
-  | inl p ↦ elim (h.reads.last.promises.named f can.fault can.rest can.bad p.1) [ inl k ↦ k.0 | inr k ↦ ok_unexcused h.reads.between b None k ]
+  | inl p ↦ elim (h.reads.last.promises.fault_is_complete f can.fault can.rest can.bad p.1) [ inl k ↦ k.0 | inr k ↦ ok_unexcused h.reads.between b None k ]
 ]
 
 -- ---- a whole file

@@ -11,17 +11,17 @@ use Rattle.claxon.specs.Errors.TheVariants.{FormatError, IoError, OutOfMemory, U
 use Rattle.claxon.specs.Fault.{Fault}
 use Rattle.claxon.specs.Frame.{FrameBytesFault, StreamFormat}
 use Rattle.claxon.specs.FrameReader.{FrameAnswer, block_view}
-use Rattle.claxon.specs.Gives.{FailedIn}
+use Rattle.claxon.specs.Gives.{ReadFailedIn}
 use Rattle.claxon.specs.Promises.{Consumed}
 use Rattle.claxon.specs.Source.{IsKnown, Source}
 use Rattle.claxon.specs.State.{State, bytes_in, crcs_at_eof, remaining_as, RemainingIsKnown, final_crcs}
 use Rattle.claxon.specs.CrcReader.{crc_inner}
 use Rattle.claxon.specs.CrcReaders.{CrcReader}
-use Rattle.claxon_tools.specs.Verify.{AreCounted, AreTooMany, BlockIsRead, CannotCountFault, CountsFault, CountsFrame, CountsParts, ExceedsCount, FirstIs, IfConsumed, IsFaultAt, IsFirst, IsNotWhole, IsTooMany, Part, PartBytes, Parts, StopsCounting, counted_bytes, first_of, part_faults, part_frames, part_samples, position_of}
+use Rattle.claxon_tools.specs.Verify.{AreCounted, AreTooMany, BlockIsRead, CannotCountFault, CountsFault, CountsFrame, CountsFramesAndFaults, ExceedsCount, FirstIs, IfConsumed, IsFaultAt, IsFirst, IsNotWhole, IsTooMany, FrameOrFault, FrameOrFaultBytes, FramesAndFaults, StopsCounting, counted_bytes, first_of, fault_count_of, frame_count_of, sample_count_of, position_of}
 use Rattle.claxon_tools.specs.declared.verify.FirstFault.{FirstFault}
 use Rattle.claxon_tools.specs.declared.verify.Found.{Found}
 use Rattle.claxon_tools.specs.declared.verify.Position.{Position}
-use Rattle.claxon_tools.proofs.Parts.{parts_push, parts_front}
+use Rattle.claxon_tools.proofs.FramesAndFaults.{parts_push, parts_front}
 
 -- ---- the position
 
@@ -88,8 +88,8 @@ read_as {stream = stream} {a = a} {b = b} e h = subst (λ (z : FrameAnswer). Blo
 
 -- So far no read of the source failed, and just parts were consumed, which were counted.
 pub record SoFar (stream : Option StreamFormat) (start : ℕ) (s m : List ℕ) (found : Found) : Type 0 where
-  pub parts : List Part
-  pub parts_are : Parts stream s parts m
+  pub parts : List FrameOrFault
+  pub parts_are : FramesAndFaults stream s parts m
   pub counts : AreCounted parts false found
   pub first : FirstIs ⊥ stream start s found.faults found.first_fault
 
@@ -119,35 +119,35 @@ kept_err (Unsupported text) io memory h = h
 kept_err OutOfMemory io memory h = absurd cc
 
 module _ {stream : Option StreamFormat} {start : ℕ} {a b : State ℕ} {found : Found} (h : CountedSoFar stream start a b found) where
-  with_part : (part : Part) (c : State ℕ) → Consumed b c (PartBytes stream part) → (k : RemainingIsKnown a) → (RemainingIsKnown c) × Parts stream a.remaining ((h.is k).parts ++ part ∷ []) c.remaining
-  with_part part c consumed k =
+  with_frame_or_fault : (part : FrameOrFault) (c : State ℕ) → Consumed b c (FrameOrFaultBytes stream part) → (k : RemainingIsKnown a) → (RemainingIsKnown c) × FramesAndFaults stream a.remaining ((h.is k).parts ++ part ∷ []) c.remaining
+  with_frame_or_fault part c consumed k =
       let w = consumed (h.known k) in
       (w.0, parts_push stream (h.is k).parts part a.remaining b.remaining w.1.0 c.remaining (h.is k).parts_are w.1.1 w.1.2)
 
   -- one frame more
-  frame_consumed : (block : BlockValue) (c : State ℕ) → BlockIsRead stream (Ok (Some block)) b c → Consumed b c (PartBytes stream (Ok (block_view block)))
+  frame_consumed : (block : BlockValue) (c : State ℕ) → BlockIsRead stream (Ok (Some block)) b c → Consumed b c (FrameOrFaultBytes stream (Ok (block_view block)))
   frame_consumed block c read = read.sound
 
   pub frame_counted : {more : Found} (block : BlockValue) (n : ℕ) (c : State ℕ) → BlockIsRead stream (Ok (Some block)) b c → n ≡ duration_of block.channels → CountsFrame n found more → CountedSoFar stream start a c more
   frame_counted {more} block n c read is counts =
-      let part : Part = Ok (block_view block) in
-      let d : n ≡ part_samples part = is in
+      let part : FrameOrFault = Ok (block_view block) in
+      let d : n ≡ sample_count_of part = is in
       record {
         errors = read.kept.0 ∙ h.errors;
         empty_reads = read.kept.1 ∙ h.empty_reads;
         loans = read.loans ∙ h.loans;
-        known = λ k. (with_part part c (frame_consumed block c read) k).0;
+        known = λ k. (with_frame_or_fault part c (frame_consumed block c read) k).0;
         crcs = λ k. read.kept.2 (h.known k) ∙ h.crcs k;
         is = λ k.
             let p = h.is k in
             let q = p.counts in
             record {
               parts = p.parts ++ part ∷ [];
-              parts_are = (with_part part c (frame_consumed block c read) k).1;
+              parts_are = (with_frame_or_fault part c (frame_consumed block c read) k).1;
               counts = record {
-                frames = counts.frames_are ∙ ap (λ (z : ℕ). z + 1) q.frames ∙ sym (sum_by_push part_frames p.parts part);
-                faults = counts.faults_are ∙ q.faults ∙ omega (arith, sum_by_push part_faults p.parts part);
-                samples = counts.samples_are ∙ omega (arith, q.samples, d, sum_by_push part_samples p.parts part);
+                frames = counts.frames_are ∙ ap (λ (z : ℕ). z + 1) q.frames ∙ sym (sum_by_push frame_count_of p.parts part);
+                faults = counts.faults_are ∙ q.faults ∙ omega (arith, sum_by_push fault_count_of p.parts part);
+                samples = counts.samples_are ∙ omega (arith, q.samples, d, sum_by_push sample_count_of p.parts part);
               };
               first = rw (counts.faults_are, counts.first_is) p.first;
             };
@@ -192,26 +192,26 @@ module _ {stream : Option StreamFormat} {start : ℕ} {a b : State ℕ} {found :
               let p = h.is k in
               let q = p.counts in
               let f = fault_consumed error c read io memory (h.known k) in
-              let part : Part = Err f.0 in
+              let part : FrameOrFault = Err f.0 in
               let w = (f.2 (h.known k)).1 in
               record {
                 parts = p.parts ++ part ∷ [];
-                parts_are = (with_part part c f.2 k).1;
+                parts_are = (with_frame_or_fault part c f.2 k).1;
                 counts = record {
-                  frames = counts.frames_are ∙ omega (arith, q.frames, sum_by_push part_frames p.parts part);
-                  faults = counts.faults_are ∙ omega (arith, q.faults, sum_by_push part_faults p.parts part);
-                  samples = counts.samples_are ∙ omega (arith, q.samples, sum_by_push part_samples p.parts part);
+                  frames = counts.frames_are ∙ omega (arith, q.frames, sum_by_push frame_count_of p.parts part);
+                  faults = counts.faults_are ∙ omega (arith, q.faults, sum_by_push fault_count_of p.parts part);
+                  samples = counts.samples_are ∙ omega (arith, q.samples, sum_by_push sample_count_of p.parts part);
                 };
                 first = rw counts.first_is (first_more stream start a.remaining ⊥ found.first_fault _ found.faults more.faults counts.faults_are p.first (new_first _ k (inl (f.0, f.1, (w.0, c.remaining, w.1, w.2))) refl (at k)));
               };
         }
 
     -- a frame that isn't whole is the last one
-    pub cut_counted : {more : Found} (error : Error) (c : State ℕ) → BlockIsRead stream (Err error) b c → IsIo error → CountsFault byte error found more → CountsParts stream start a c more
+    pub cut_counted : {more : Found} (error : Error) (c : State ℕ) → BlockIsRead stream (Err error) b c → IsIo error → CountsFault byte error found more → CountsFramesAndFaults stream start a c more
     cut_counted {more} error c read io counts k =
         let p = h.is k in
         let q = p.counts in
-        let why : IsNotWhole stream b.remaining ⊎ FailedIn a c = elim (read.io io (h.known k)) [
+        let why : IsNotWhole stream b.remaining ⊎ ReadFailedIn a c = elim (read.io io (h.known k)) [
           | inl n ↦ inl n
           | inr f ↦ inr (elim f [ inl n ↦ inl (λ e. n (e ∙ sym h.errors)) | inr n ↦ inr (λ e. n.0 (e ∙ sym h.empty_reads), n.1) ])
         ] in
@@ -226,11 +226,11 @@ module _ {stream : Option StreamFormat} {start : ℕ} {a b : State ℕ} {found :
             faults = counts.faults_are ∙ omega (arith, q.faults);
             samples = counts.samples_are ∙ q.samples;
           };
-          first = rw counts.first_is (first_more stream start a.remaining (FailedIn a c) found.first_fault _ found.faults more.faults counts.faults_are (first_weaker stream start a.remaining (λ (x : ⊥). absurd x) found.faults found.first_fault p.first) (new_first _ k (inr (io, why)) refl (at k)));
+          first = rw counts.first_is (first_more stream start a.remaining (ReadFailedIn a c) found.first_fault _ found.faults more.faults counts.faults_are (first_weaker stream start a.remaining (λ (x : ⊥). absurd x) found.faults found.first_fault p.first) (new_first _ k (inr (io, why)) refl (at k)));
         }
 
   -- the end
-  pub eof_counted : (c : State ℕ) → BlockIsRead stream (Ok None) b c → CountsParts stream start a c found
+  pub eof_counted : (c : State ℕ) → BlockIsRead stream (Ok None) b c → CountsFramesAndFaults stream start a c found
   eof_counted c read k =
       let p = h.is k in
       record {
@@ -245,25 +245,25 @@ module _ {stream : Option StreamFormat} {start : ℕ} {a b : State ℕ} {found :
 
   -- ---- what can't be counted
 
-  many_parts : (parts : List Part) (m : List ℕ) → AreCounted parts false found → (2 ^ 64 ≤ found.frames + found.faults + 1) ⊎ (2 ^ 64 ≤ found.samples) → AreTooMany parts
-  many_parts parts m q (inl n) = inr (omega (arith, n, q.frames, q.faults))
-  many_parts parts m q (inr n) = inl (omega (arith, n, q.samples))
+  many_frames_and_faults : (parts : List FrameOrFault) (m : List ℕ) → AreCounted parts false found → (2 ^ 64 ≤ found.frames + found.faults + 1) ⊎ (2 ^ 64 ≤ found.samples) → AreTooMany parts
+  many_frames_and_faults parts m q (inl n) = inr (omega (arith, n, q.frames, q.faults))
+  many_frames_and_faults parts m q (inr n) = inl (omega (arith, n, q.samples))
 
   pub many_counted : (e : Error) → IsTooMany e → 2 ^ 64 ≤ found.frames + found.faults + 1 → StopsCounting stream a e
-  many_counted e is n = inr (is, λ k. let p = h.is k in (p.parts, b.remaining, p.parts_are, many_parts p.parts b.remaining p.counts (inl n)))
+  many_counted e is n = inr (is, λ k. let p = h.is k in (p.parts, b.remaining, p.parts_are, many_frames_and_faults p.parts b.remaining p.counts (inl n)))
 
   pub frame_exceeds : (block : BlockValue) (n : ℕ) (c : State ℕ) → BlockIsRead stream (Ok (Some block)) b c → n ≡ duration_of block.channels → (e : Error) → ExceedsCount 1 0 n found e → StopsCounting stream a e
   frame_exceeds block n c read is e exceeds = inr (
     exceeds.0,
     λ k.
-        let part : Part = Ok (block_view block) in
+        let part : FrameOrFault = Ok (block_view block) in
         let p = h.is k in
         let q = p.counts in
-        let w = with_part part c (frame_consumed block c read) k in
-        let frames = sum_by_push part_frames p.parts part in
-        let faults = sum_by_push part_faults p.parts part in
-        let samples = sum_by_push part_samples p.parts part in
-        let d : n ≡ part_samples part = is in (
+        let w = with_frame_or_fault part c (frame_consumed block c read) k in
+        let frames = sum_by_push frame_count_of p.parts part in
+        let faults = sum_by_push fault_count_of p.parts part in
+        let samples = sum_by_push sample_count_of p.parts part in
+        let d : n ≡ sample_count_of part = is in (
           p.parts ++ part ∷ [],
           c.remaining,
           w.1,

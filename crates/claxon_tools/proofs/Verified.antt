@@ -8,9 +8,9 @@ use Rattle.claxon.specs.Error.{IsIo}
 use Rattle.claxon.specs.Errors.{Error}
 use Rattle.claxon.specs.Errors.TheVariants.{OutOfMemory}
 use Rattle.claxon.specs.Fault.{Fault}
-use Rattle.claxon.specs.Frame.{IsWidth, StreamFormat, known_width}
+use Rattle.claxon.specs.Frame.{IsBitDepth, StreamFormat, known_bit_depth}
 use Rattle.claxon.specs.FrameReader.{HeaderOfLargerBlock, stream_with}
-use Rattle.claxon.specs.Gives.{Consumes, FailedIn}
+use Rattle.claxon.specs.Gives.{Consumes, ReadFailedIn}
 use Rattle.claxon.specs.Heads.{Head, HeadCode, HeadFault, Marker, stream_marker}
 use Rattle.claxon.specs.MetadataBlock.{HasBounds, or_zero}
 use Rattle.claxon.specs.Prefix.{BeginsWith}
@@ -26,14 +26,14 @@ use Rattle.claxon.proofs.OutOfMemory.{not_out_of_memory, same_out_of_memory}
 use Rattle.claxon.proofs.SampleRuns.{short_no_frame}
 use Rattle.claxon.specs.CrcReader.{crc_inner}
 use Rattle.claxon.specs.CrcReaders.{CrcReader}
-use Rattle.claxon_tools.specs.Verify.{AreTooMany, Counted, CountsParts, EndsAt, FirstIs, HasParts, IsExpected, IsRightStream, IsTooMany, IsVerified, Part, Parts, RightIsComplete, RightIsSound, SameReport, StopsCounting, VerifyIsComplete, VerifyIsSound, VerifyPromises, block_samples, counted_bytes, cut_faults}
+use Rattle.claxon_tools.specs.Verify.{AreTooMany, Counted, CountsFramesAndFaults, EndsAt, FirstIs, HasFramesAndFaults, IsExpected, IsRightStream, IsTooMany, IsVerified, FrameOrFault, FramesAndFaults, RightIsComplete, RightIsSound, SameReport, StopsCounting, VerifyIsComplete, VerifyIsSound, VerifyPromises, block_samples, counted_bytes, cut_faults}
 use Rattle.claxon_tools.specs.declared.verify.FirstFault.{FirstFault}
 use Rattle.claxon_tools.specs.declared.verify.Found.{Found}
 use Rattle.claxon_tools.specs.declared.verify.Position.{Position}
 use Rattle.claxon_tools.specs.declared.verify.Report.{Report}
 use Rattle.claxon_tools.proofs.BlockReads.{decide_failed, io_not_fault, not_excused}
 use Rattle.claxon_tools.proofs.Counting.{first_weaker}
-use Rattle.claxon_tools.proofs.Parts.{frames_of_parts, not_too_many, parts_of_frames, same_counts}
+use Rattle.claxon_tools.proofs.FramesAndFaults.{frames_of_all, not_too_many, parts_of_frames, same_counts}
 
 -- ---- what was counted, as said of the whole stream
 
@@ -85,7 +85,7 @@ right_stream {failed = failed} s report v is_right =
     let answer = v.right.0 is_right in
     let c = v.counted in
     let stream : Option StreamFormat = Some (stream_of v.head.info) in
-    let k = frames_of_parts stream c.parts v.frames c.rest c.parts_are (omega (arith, c.counts.faults, answer.0)) in
+    let k = frames_of_all stream c.parts v.frames c.rest c.parts_are (omega (arith, c.counts.faults, answer.0)) in
     let few = not_cut failed stream c.is_cut c.rest c.ends (omega (arith, c.counts.faults, answer.0)) in
     record {
       head = v.head;
@@ -205,7 +205,7 @@ module _ {A : Type 0} (a m : State ℕ) where
       all : VerifyIsComplete a (Err e) m
       all report known v can = elim (complete v.head v.front v.frames v.code (record { known = known; are = v.joined })) [ inl p ↦ absurd p.0 | inr (inl n) ↦ inr (inl (same_out_of_memory e n)) | inr (inr x) ↦ inr (inr x.1) ]
 
-      neither : IsIo e → RemainingIsKnown a → HasNeither (HeadCode (with_samples true)) (HeadFault (with_samples true)) a.remaining ⊎ FailedIn a m
+      neither : IsIo e → RemainingIsKnown a → HasNeither (HeadCode (with_samples true)) (HeadFault (with_samples true)) a.remaining ⊎ ReadFailedIn a m
       neither io known = elim (decide_failed a m) [
         | inl f ↦ inr f
         | inr not_failed ↦ inl (record {
@@ -224,7 +224,7 @@ pub record HeadIsConsumed (a m : State ℕ) (head : Head) (stream : Option Strea
   pub is : RemainingIsKnown a → (front : List ℕ) × HeadCode (with_samples true) head front × (a.remaining ≡ front ++ m.remaining) × (start % 2 ^ 64 ≡ length front % 2 ^ 64)
   pub complete : (h : Head) (front rest : List ℕ) → HeadCode (with_samples true) h front → Remains a (front ++ rest) → (head ≡ h) × (m.remaining ≡ rest)
   pub no_fault : (f : Fault) → RemainingIsKnown a → BeginsWith (HeadFault (with_samples true) f) a.remaining → ⊥
-  pub width : IsWidth (known_width stream)
+  pub bit_depth : IsBitDepth (known_bit_depth stream)
   pub stream_is : stream ≡ Some (stream_of head.info)
 
 pub head_consumed : {A : Type 0} {P : List ℕ → List ℕ → Type 0} (a m : State ℕ) (shown : StreamInfo × Option (VorbisComment A)) (start : ℕ) → CodeIsSound head_view (let r : HeadAnswer A = Ok shown in r) (HeadCode (with_samples true)) a m
@@ -237,7 +237,7 @@ head_consumed a m shown start sound complete named consumed bounds at = record {
   is = λ k. let s = sound k in (s.1.0, s.1.1, s.1.2, at k s.0 (consumed.known k).crcs s.1.0 s.1.2);
   complete = λ h front rest code remains. elim (complete h front rest code remains) [ inl p ↦ (p.0, p.1.are) | inr x ↦ absurd (head_not_excused a m shown x) ];
   no_fault = λ f k begins. elim (named f begins.0 begins.1 begins.2 (record { known = k; are = begins.3 })) [ inl p ↦ p.0 | inr x ↦ head_not_excused a m shown x ];
-  width = (bounds.some_bits, bounds.bits);
+  bit_depth = (bounds.some_bits, bounds.bits);
   stream_is = refl;
 }
 
@@ -245,7 +245,7 @@ abbrev pub report_of : Found → Option ℕ → Bool → Report
 report_of found expected is_right = record { found = found; expected = expected; is_right = is_right }
 
 module _ {a m : State ℕ} (b : State ℕ) {head : Head} {stream : Option StreamFormat} {start : ℕ} (h : HeadIsConsumed a m head stream start) where
-  failed_since : FailedIn m b → FailedIn a b
+  failed_since : ReadFailedIn m b → ReadFailedIn a b
   failed_since f = elim f [ inl n ↦ inl (λ e. n (e ∙ sym h.errors)) | inr n ↦ inr (λ e. n.0 (e ∙ sym h.empty_reads), n.1) ]
 
   -- any head that the bytes begin with is the one that was read
@@ -264,8 +264,8 @@ module _ {a m : State ℕ} (b : State ℕ) {head : Head} {stream : Option Stream
       subst (λ (z : Option StreamFormat). Counted ⊥ z (length (h.is known).0) m.remaining report.found) of_stream
       (subst (λ (n : ℕ). Counted ⊥ (Some (stream_of v.head.info)) n m.remaining report.found) (sym q.2) (subst (λ (z : List ℕ). Counted ⊥ (Some (stream_of v.head.info)) (length v.front) z report.found) (sym q.1) v.counted))
 
-  has_parts : (known : RemainingIsKnown a) (P : Option StreamFormat → List Part → List ℕ → Type 0) (parts : List Part) (left : List ℕ) → Parts stream m.remaining parts left → P stream parts left → HasParts a.remaining P
-  has_parts known P parts left p q =
+  has_frames_and_faults : (known : RemainingIsKnown a) (P : Option StreamFormat → List FrameOrFault → List ℕ → Type 0) (parts : List FrameOrFault) (left : List ℕ) → FramesAndFaults stream m.remaining parts left → P stream parts left → HasFramesAndFaults a.remaining P
+  has_frames_and_faults known P parts left p q =
       let s = h.is known in
       record {
         head = head;
@@ -275,12 +275,12 @@ module _ {a m : State ℕ} (b : State ℕ) {head : Head} {stream : Option Stream
         left = left;
         code = s.1;
         joined = s.2;
-        parts_are = subst (λ (z : Option StreamFormat). Parts z m.remaining parts left) h.stream_is p;
+        parts_are = subst (λ (z : Option StreamFormat). FramesAndFaults z m.remaining parts left) h.stream_is p;
         what = subst (λ (z : Option StreamFormat). P z parts left) h.stream_is q;
       }
 
   -- all was counted
-  pub all_counted : (found : Found) (expected : Option ℕ) (is_right : Bool) → CountsParts stream start m b found → IsExpected head.info.samples expected → (IsTrue is_right ↔ ((found.faults ≡ 0) × ((or_zero expected ≡ 0) ⊎ (or_zero expected ≡ found.samples))))
+  pub all_counted : (found : Found) (expected : Option ℕ) (is_right : Bool) → CountsFramesAndFaults stream start m b found → IsExpected head.info.samples expected → (IsTrue is_right ↔ ((found.faults ≡ 0) × ((or_zero expected ≡ 0) ⊎ (or_zero expected ≡ found.samples))))
       → VerifyPromises a (Ok (report_of found expected is_right)) b
   all_counted found expected is_right counts is_expected right = record {
     sound = verified;
@@ -295,10 +295,10 @@ module _ {a m : State ℕ} (b : State ℕ) {head : Head} {stream : Option Stream
       samples : or_zero expected ≡ head.info.samples
       samples = zero_expected head.info.samples expected is_expected
 
-      counted : (known : RemainingIsKnown a) → Counted (FailedIn a b) stream (length (h.is known).0) m.remaining found
+      counted : (known : RemainingIsKnown a) → Counted (ReadFailedIn a b) stream (length (h.is known).0) m.remaining found
       counted known = counted_from failed_since (length (h.is known).0) start (h.is known).3 m.remaining found (counts (h.known known))
 
-      verified : RemainingIsKnown a → IsVerified (FailedIn a b) a.remaining (report_of found expected is_right)
+      verified : RemainingIsKnown a → IsVerified (ReadFailedIn a b) a.remaining (report_of found expected is_right)
       verified known =
           let s = h.is known in
           record {
@@ -307,13 +307,13 @@ module _ {a m : State ℕ} (b : State ℕ) {head : Head} {stream : Option Stream
             frames = m.remaining;
             code = s.1;
             joined = s.2;
-            counted = subst (λ (z : Option StreamFormat). Counted (FailedIn a b) z (length s.0) m.remaining found) h.stream_is (counted known);
+            counted = subst (λ (z : Option StreamFormat). Counted (ReadFailedIn a b) z (length s.0) m.remaining found) h.stream_is (counted known);
             expected = is_expected;
             right = subst (λ (n : ℕ). IsTrue is_right ↔ ((found.faults ≡ 0) × ((n ≡ 0) ⊎ (n ≡ found.samples)))) samples right;
           }
 
       complete : VerifyIsComplete a (Ok (report_of found expected is_right)) b
-      complete other known v can = elim (same_counts stream h.width (length (h.is known).0) m.remaining found other.found (counted known) (as_counted known other v)) [
+      complete other known v can = elim (same_counts stream h.bit_depth (length (h.is known).0) m.remaining found other.found (counted known) (as_counted known other v)) [
         | inr f ↦ inr (inr f)
         | inl same ↦ inl (
             let q = same_start known v.head v.front v.frames v.code v.joined in
@@ -341,11 +341,11 @@ module _ {a m : State ℕ} (b : State ℕ) {head : Head} {stream : Option Stream
     right_complete = right_complete a (Err e) b complete;
     fault = elim stops [
       | inl n ↦ inl n.0
-      | inr n ↦ inr (inr (λ known. let p = n.1 (h.known known) in inl (n.0, has_parts known (λ z parts left. AreTooMany parts) p.0 p.1 p.2 p.3)))
+      | inr n ↦ inr (inr (λ known. let p = n.1 (h.known known) in inl (n.0, has_frames_and_faults known (λ z parts left. AreTooMany parts) p.0 p.1 p.2 p.3)))
     ];
     named = λ f known begins. absurd (h.no_fault f known begins);
     memory = λ n known. inr (elim stops [
-      | inl k ↦ (let p = k.1 (h.known known) in has_parts known (λ z parts left. BeginsWith (HeaderOfLargerBlock z 0) left) p.0 p.1 p.2 p.3)
+      | inl k ↦ (let p = k.1 (h.known known) in has_frames_and_faults known (λ z parts left. BeginsWith (HeaderOfLargerBlock z 0) left) p.0 p.1 p.2 p.3)
       | inr k ↦ absurd (let is : e ≡ OutOfMemory = cc in subst IsTooMany is k.0)
     ]);
   }
@@ -353,7 +353,7 @@ module _ {a m : State ℕ} (b : State ℕ) {head : Head} {stream : Option Stream
       complete : VerifyIsComplete a (Err e) b
       complete report known v can = inr (elim stops [
         | inl n ↦ inl (ap (λ (z : Error). Err z) n.0)
-        | inr n ↦ (let p = n.1 (h.known known) in absurd (not_too_many stream h.width m.remaining p.1 p.0 report.found p.2 p.3 (as_counted known report v) can))
+        | inr n ↦ (let p = n.1 (h.known known) in absurd (not_too_many stream h.bit_depth m.remaining p.1 p.0 report.found p.2 p.3 (as_counted known report v) can))
       ])
 
 -- ---- through the reader that counts bytes

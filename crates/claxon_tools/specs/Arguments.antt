@@ -1,14 +1,45 @@
 -- The arguments of a command line.
-use Rattle.std.specs.Prelude.{◌≡◌, ◌⊎◌, ℕ, ◌<◌, ◌≤◌, true, false, List, [], ◌∷◌, codes, get_or, length, map, IfOk, Option, OnSome, Some, None, Result}
+use Rattle.std.specs.Prelude.{
+  ◌≡◌,
+  ◌⊎◌,
+  ℕ,
+  ◌<◌,
+  ◌≤◌,
+  true,
+  false,
+  List,
+  [],
+  ◌∷◌,
+  codes,
+  get_or,
+  length,
+  map,
+  IfOk,
+  Option,
+  OnSome,
+  Some,
+  None,
+  Result,
+}
 use Rattle.std.specs.Borrow.{Bor}
 use Rattle.std.specs.String.{string_bytes}
 use Rattle.std.specs.declared.string.String.{String}
 use Rattle.claxon_tools.specs.declared.arguments.Argument.{Argument}
-use Rattle.claxon_tools.specs.declared.arguments.Argument.TheVariants.{Operand, Option as OptionWord}
+use Rattle.claxon_tools.specs.declared.arguments.Argument.TheVariants.{
+  Operand,
+  Option as OptionWord,
+}
 use Rattle.claxon_tools.specs.declared.arguments.Arguments.{Arguments}
 use Rattle.claxon_tools.specs.declared.arguments.Names.{Names}
 use Rattle.claxon_tools.specs.declared.arguments.Notice.{Notice}
-use Rattle.claxon_tools.specs.declared.arguments.Notice.TheVariants.{Help, NotUtf8, UnknownCommand, UnknownOption, Usage, Version}
+use Rattle.claxon_tools.specs.declared.arguments.Notice.TheVariants.{
+  Help,
+  NotUtf8,
+  UnknownCommand,
+  UnknownOption,
+  Usage,
+  Version,
+}
 
 -- the words that are left
 abbrev pub words_of : Arguments → List (List ℕ)
@@ -40,11 +71,13 @@ AreArgumentsOf words a = (words_of a ≡ map string_bytes words) × (a.has_optio
 
 -- The next word is taken; None says that there is none.
 abbrev pub ValueIsSound : Arguments → Option (Bor (List ℕ)) → Arguments → Type 0
-ValueIsSound old None new = (words_of old ≡ []) × (words_of new ≡ []) × (new.has_options ≡ old.has_options)
+ValueIsSound old None new =
+    (words_of old ≡ []) × (words_of new ≡ []) × (new.has_options ≡ old.has_options)
 ValueIsSound old (Some word) new =
     (words_of old ≡ word.now ∷ words_of new) × (new.has_options ≡ old.has_options)
 
--- The next word is an option, where there may be one; or any other word but `--`, or that after `--`, is an operand.
+-- The next word is an option, where there may be one; or any other word but `--`, or that after
+-- `--`, is an operand.
 abbrev pub NextIsSound : Arguments → Option Argument → Arguments → Type 0
 NextIsSound old None new =
     (words_of old ≡ []) ⊎ ((old.has_options ≡ true) × (words_of old ≡ end_of_options ∷ []))

@@ -29,8 +29,8 @@ side_left = 0x200
 abbrev pub side_right : ℕ
 side_right = 0x400
 
--- The masks of one to eight channels, as FLAC assigns them: RFC 9639, section 9.1.3. For five and six channels the surround
--- channels are the side channels.
+-- The masks of one to eight channels, as FLAC assigns them: RFC 9639, section 9.1.3. For five and
+-- six channels the surround channels are the side channels.
 abbrev pub default_channel_masks : List ℕ
 default_channel_masks =
     front_center

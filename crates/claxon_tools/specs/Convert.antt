@@ -1,5 +1,27 @@
 -- The clauses of `put_blocks` and `convert`.
-use Rattle.std.specs.Prelude.{All, ◌≡◌, ◌⊎◌, ℕ, ◌+◌, ◌<◌, ◌≤◌, List, [], ◌∷◌, ◌++◌, length, None, Ok, Err, Option, Result, IfErr, IsErrAnd, IsOk, OnOk}
+use Rattle.std.specs.Prelude.{
+  All,
+  ◌≡◌,
+  ◌⊎◌,
+  ℕ,
+  ◌+◌,
+  ◌<◌,
+  ◌≤◌,
+  List,
+  [],
+  ◌∷◌,
+  ◌++◌,
+  length,
+  None,
+  Ok,
+  Err,
+  Option,
+  Result,
+  IfErr,
+  IsErrAnd,
+  IsOk,
+  OnOk,
+}
 use Rattle.std.specs.Borrow.{MutBor}
 use Rattle.std.specs.Io.KnownBytes.{Appends}
 use Rattle.claxon.specs.Bits.{FitsIn}
@@ -8,7 +30,7 @@ use Rattle.claxon.specs.Fault.{Fault}
 use Rattle.claxon.specs.Frame.{Block, FrameBytesFault, Frames, StreamFormat}
 use Rattle.claxon.specs.FrameReader.{FrameAnswer, block_view}
 use Rattle.claxon.specs.Error.{IsFault, IsIo}
-use Rattle.claxon.specs.Gives.{FailedIn}
+use Rattle.claxon.specs.Gives.{ReadFailedIn}
 use Rattle.claxon.specs.State.{State, RemainingIsKnown}
 use Rattle.claxon.specs.Errors.{Error as Cause}
 use Rattle.claxon.specs.Errors.TheVariants.{OutOfMemory}
@@ -21,9 +43,30 @@ use Rattle.claxon_tools.specs.Samples.{packed_samples}
 use Rattle.claxon_tools.specs.Verify.{IsNotWhole}
 use Rattle.claxon_tools.specs.WavError.{IsInput, IsMemory, IsOutput, NamesFault}
 use Rattle.claxon_tools.specs.WaveFile.{unknown_header, wave_file}
-use Rattle.claxon_tools.specs.Writer.{Begins, BeginsUnknown, BlockErrorKeeps, CallsFailed, Ends, ExplainsBlockError, FlushedLast, HeaderIsRight, NoneFailed, Unflushed, WritesFailed, output_contents}
+use Rattle.claxon_tools.specs.Writer.{
+  Begins,
+  BeginsUnknown,
+  BlockErrorKeeps,
+  CallsFailed,
+  Ends,
+  ExplainsBlockError,
+  FlushedLast,
+  HeaderIsRight,
+  NoneFailed,
+  Unflushed,
+  WritesFailed,
+  output_contents,
+}
 use Rattle.claxon_tools.specs.declared.wav.error.Error.{Error}
-use Rattle.claxon_tools.specs.declared.wav.error.Error.TheVariants.{Claxon, Exists, OtherChannels, Output, SameFile, TooLong, WideSample}
+use Rattle.claxon_tools.specs.declared.wav.error.Error.TheVariants.{
+  Claxon,
+  Exists,
+  OtherChannels,
+  Output,
+  SameFile,
+  TooLong,
+  WideSample,
+}
 use Rattle.claxon_tools.specs.declared.wav.header.Layout.{Layout}
 use Rattle.claxon_tools.specs.declared.wav.writer.WavWriter.{WavWriter}
 
@@ -31,8 +74,9 @@ use Rattle.claxon_tools.specs.declared.wav.writer.WavWriter.{WavWriter}
 abbrev pub packed_blocks : ℕ → List Block → List ℕ
 packed_blocks valid_bits blocks = packed_samples valid_bits (samples_of blocks)
 
--- Exactly the samples of these blocks were written after all earlier bytes, and their bytes were counted. Each block has the
--- channels of the layout, and each sample fits in its valid bits. No call of the output failed, and none was a flush.
+-- Exactly the samples of these blocks were written after all earlier bytes, and their bytes were
+-- counted. Each block has the channels of the layout, and each sample fits in its valid bits. No
+-- call of the output failed, and none was a flush.
 pub record PutsSamples {W : Type 0} (contents : W → Option (List ℕ)) (blocks : List Block)
     (old new : WavWriter W) : Type 0 where
   pub channels : All (λ b. length b.channels ≡ old.layout.channels) blocks
@@ -47,15 +91,16 @@ pub record PutsSamples {W : Type 0} (contents : W → Option (List ℕ)) (blocks
 
 -- ---- block after block
 
--- The frames of blocks were read up to this answer without a block, and exactly their samples were written.
+-- The frames of blocks were read up to this answer without a block, and exactly their samples
+-- were written.
 pub record PutsBlocks {W : Type 0} (contents : W → Option (List ℕ)) (stream : Option StreamFormat)
     (answer : FrameAnswer) (a b : State ℕ) (old new : WavWriter W) : Type 0 where
   pub blocks : List Block
   pub reads : ReadsFrames stream blocks answer a b
   pub puts : PutsSamples contents blocks old new
 
--- The frames of blocks were read, and exactly the samples of all but the last one were written. The error says why that
--- one was not.
+-- The frames of blocks were read, and exactly the samples of all but the last one were written. The
+-- error says why that one was not.
 pub record StopsAtBlock {W : Type 0} (contents : W → Option (List ℕ)) (stream : Option StreamFormat)
     (error : Error) (a b : State ℕ) (old new : WavWriter W) : Type 0 where
   pub blocks : List Block
@@ -66,7 +111,8 @@ pub record StopsAtBlock {W : Type 0} (contents : W → Option (List ℕ)) (strea
   pub explains : ExplainsBlockError block put error
   pub keeps : BlockErrorKeeps contents block error put new
 
--- The error is the decoder's, after the samples before it were written, or says why a block was not written.
+-- The error is the decoder's, after the samples before it were written, or says why a block was
+-- not written.
 abbrev pub StopsPutting : {W : Type 0} → (W → Option (List ℕ)) → Option StreamFormat → Error
     → State ℕ → State ℕ → WavWriter W → WavWriter W → Type 0
 StopsPutting contents stream error a b old new =
@@ -91,18 +137,19 @@ abbrev pub IsWholeStream : Option StreamFormat → List Block → State ℕ → 
 IsWholeStream stream blocks s =
     RemainingIsKnown s → (rest : List ℕ) × Frames stream s.remaining blocks rest × (length rest < 2)
 
--- The output has, after what it contained when the writer was started, a complete WAV file of these samples, if the first
--- header announced the right number of bytes.
+-- The output has, after what it contained when the writer was started, a complete WAV file of these
+-- samples, if the first header announced the right number of bytes.
 abbrev pub HoldsFile : {W : Type 0} → (W → Option (List ℕ)) → List Block → WavWriter W → WavWriter W
     → Type 0
 HoldsFile {W} contents blocks old new =
-    (layout : Layout) (announced : ℕ) (output : MutBor W) → Begins contents layout announced output old
+    (layout : Layout) (announced : ℕ) (output : MutBor W)
+    → Begins contents layout announced output old
     → announced ≡ length (packed_blocks layout.valid_bits blocks)
     → Appends (contents output.now) (output_contents contents new)
     (wave_file layout (packed_blocks layout.valid_bits blocks))
 
--- Exactly the samples of all blocks up to the end of the stream were written, and then the file was finished. No call of the
--- output failed, and the last one was the only flush.
+-- Exactly the samples of all blocks up to the end of the stream were written, and then the file was
+-- finished. No call of the output failed, and the last one was the only flush.
 pub record Converts {W : Type 0} (contents : W → Option (List ℕ)) (position : W → Option ℕ)
     (stream : Option StreamFormat) (s : State ℕ) (old new : WavWriter W) : Type 0 where
   pub blocks : List Block
@@ -122,8 +169,8 @@ abbrev pub ConvertIsSound : {R A W : Type 0} → (W → Option (List ℕ)) → (
 ConvertIsSound contents position remaining flac r old new =
     OnOk r (Converts contents position (flac_stream flac) (flac_bytes remaining flac) old new)
 
--- The output has, after what it contained when the writer was started for samples of unknown number, that header and these
--- samples.
+-- The output has, after what it contained when the writer was started for samples of unknown
+-- number, that header and these samples.
 abbrev pub HoldsUnknown : {W : Type 0} → (W → Option (List ℕ)) → List Block → WavWriter W
     → WavWriter W → Type 0
 HoldsUnknown {W} contents blocks old new =
@@ -131,8 +178,8 @@ HoldsUnknown {W} contents blocks old new =
     → Appends (contents output.now) (output_contents contents new)
     (unknown_header layout ++ packed_blocks layout.valid_bits blocks)
 
--- Exactly the samples of all blocks up to the end of the stream were written, after a header that was not corrected. No call
--- of the output failed, and the last one was the only flush.
+-- Exactly the samples of all blocks up to the end of the stream were written, after a header that
+-- was not corrected. No call of the output failed, and the last one was the only flush.
 pub record ConvertsToStream {W : Type 0} (contents : W → Option (List ℕ))
     (stream : Option StreamFormat) (s : State ℕ) (old new : WavWriter W) : Type 0 where
   pub blocks : List Block
@@ -170,20 +217,25 @@ abbrev pub IsCut : Option StreamFormat → List ℕ → Type 0
 IsCut stream s =
     (blocks : List Block) × (rest : List ℕ) × Frames stream s blocks rest × IsNotWhole stream rest
 
--- What an error says of the remaining input, where it is known, and of the output. It is `OutOfMemory`, a fault in the input,
--- an `IoError` where the input is cut or its source failed, or a failed call of the output, which was counted. Or the input
--- begins with blocks of which one has other channels than the layout, a sample doesn't fit in its valid bits, or the bytes,
--- with those written before, are more than a WAV file holds.
+-- What an error says of the remaining input, where it is known, and of the output. It is
+-- `OutOfMemory`, a fault in the input, an `IoError` where the input is cut or its source failed, or
+-- a failed call of the output, which was counted. Or the input begins with blocks of which one has
+-- other channels than the layout, a sample doesn't fit in its valid bits, or the bytes, with those
+-- written before, are more than a WAV file holds.
 abbrev pub ExplainsError : {W : Type 0} → Option StreamFormat → State ℕ → State ℕ → WavWriter W
     → WavWriter W → Error → Type 0
 ExplainsError stream a b old new (Claxon error) =
     (error ≡ OutOfMemory)
-    ⊎ ((IsIo error × (RemainingIsKnown a → IsCut stream a.remaining ⊎ FailedIn a b))
+    ⊎ ((IsIo error × (RemainingIsKnown a → IsCut stream a.remaining ⊎ ReadFailedIn a b))
     ⊎ (RemainingIsKnown a → HasFault stream a.remaining error))
 ExplainsError stream a b old new OtherChannels =
-    RemainingIsKnown a → HasBlocks stream a.remaining (λ blocks. All (λ b. length b.channels ≡ old.layout.channels) blocks → ⊥)
+    RemainingIsKnown a
+    → HasBlocks stream a.remaining (λ blocks.
+    All (λ b. length b.channels ≡ old.layout.channels) blocks → ⊥)
 ExplainsError stream a b old new WideSample =
-    RemainingIsKnown a → HasBlocks stream a.remaining (λ blocks. All (FitsIn old.layout.valid_bits) (samples_of blocks) → ⊥)
+    RemainingIsKnown a
+    → HasBlocks stream a.remaining (λ blocks.
+    All (FitsIn old.layout.valid_bits) (samples_of blocks) → ⊥)
 ExplainsError stream a b old new TooLong =
     RemainingIsKnown a → HasBlocks stream a.remaining (λ blocks. max_data_size
     < old.written + length (packed_blocks old.layout.valid_bits blocks))
@@ -193,14 +245,15 @@ ExplainsError stream a b old new Exists = ⊥
 
 -- ---- completeness
 
--- Each of these blocks has the channels of the layout, each sample fits in its valid bits, and a WAV file holds the bytes
--- with those written before.
+-- Each of these blocks has the channels of the layout, each sample fits in its valid bits, and a
+-- WAV file holds the bytes with those written before.
 pub record CanBePut {W : Type 0} (blocks : List Block) (file : WavWriter W) : Type 0 where
   pub channels : All (λ b. length b.channels ≡ file.layout.channels) blocks
   pub fit : All (FitsIn file.layout.valid_bits) (samples_of blocks)
   pub size : file.written + length (packed_blocks file.layout.valid_bits blocks) ≤ max_data_size
 
--- The remaining input is the frames of blocks that can be written to this file, and fewer than two bytes.
+-- The remaining input is the frames of blocks that can be written to this file, and fewer than
+-- two bytes.
 pub record CanBeConverted {W : Type 0} (stream : Option StreamFormat) (s : State ℕ)
     (file : WavWriter W) : Type 0 where
   pub blocks : List Block
@@ -210,7 +263,8 @@ pub record CanBeConverted {W : Type 0} (stream : Option StreamFormat) (s : State
   pub eof : length rest < 2
   pub can : CanBePut blocks file
 
--- The remaining input begins with the frames of blocks that can be written to this file, and this fault of a frame.
+-- The remaining input begins with the frames of blocks that can be written to this file, and
+-- this fault of a frame.
 pub record CanBeConvertedTo {W : Type 0} (stream : Option StreamFormat) (s : State ℕ) (f : Fault)
     (file : WavWriter W) : Type 0 where
   pub blocks : List Block
@@ -223,17 +277,17 @@ pub record CanBeConvertedTo {W : Type 0} (stream : Option StreamFormat) (s : Sta
 
 -- Memory was refused, or the result is an `IoError` and the source failed in the call.
 abbrev pub ConvertIsExcused : Result (Unit {0}) Error → State ℕ → State ℕ → Type 0
-ConvertIsExcused r a b = IsErrAnd r IsMemory ⊎ (IsErrAnd r IsInput × FailedIn a b)
+ConvertIsExcused r a b = IsErrAnd r IsMemory ⊎ (IsErrAnd r IsInput × ReadFailedIn a b)
 
 -- The result is a failed call of the output, and one was counted.
-abbrev pub OutputHasFailed : {W : Type 0} → Result (Unit {0}) Error → WavWriter W → WavWriter W
+abbrev pub OutputFailed : {W : Type 0} → Result (Unit {0}) Error → WavWriter W → WavWriter W
     → Type 0
-OutputHasFailed r old new = IsErrAnd r IsOutput × CallsFailed old new
+OutputFailed r old new = IsErrAnd r IsOutput × CallsFailed old new
 
 -- The same of a write.
-abbrev pub OutputWriteHasFailed : {W : Type 0} → Result (Unit {0}) Error → WavWriter W → WavWriter W
+abbrev pub OutputWriteFailed : {W : Type 0} → Result (Unit {0}) Error → WavWriter W → WavWriter W
     → Type 0
-OutputWriteHasFailed r old new = IsErrAnd r IsOutput × WritesFailed old new
+OutputWriteFailed r old new = IsErrAnd r IsOutput × WritesFailed old new
 
 module _ {R A W : Type 0} (remaining : R → Option (List ℕ)) (result : Result (Unit {0}) Error)
     (before after : FlacReader R A) (old new : WavWriter W) where
@@ -243,18 +297,20 @@ module _ {R A W : Type 0} (remaining : R → Option (List ℕ)) (result : Result
       IfErr result (ExplainsError (flac_stream before) (flac_bytes remaining before)
       (flac_bytes remaining after) old new)
 
-  -- Where a stream remains that can be converted, the result is an Ok, or memory was refused, or the source or the output
-  -- failed.
+  -- Where a stream remains that can be converted, the result is an Ok, or memory was refused, or
+  -- the source or the output failed.
   abbrev pub ConvertIsComplete : Type 0
   ConvertIsComplete =
       CanBeConverted (flac_stream before) (flac_bytes remaining before) old
-      → IsOk result ⊎ (ConvertIsExcused result (flac_bytes remaining before) (flac_bytes remaining after)
-      ⊎ OutputHasFailed result old new)
+      → IsOk result
+      ⊎ (ConvertIsExcused result (flac_bytes remaining before) (flac_bytes remaining after)
+      ⊎ OutputFailed result old new)
 
-  -- A fault after the frames of blocks that can be written is named, or memory was refused, or the source or a write failed.
+  -- A fault after the frames of blocks that can be written is named, or memory was refused, or
+  -- the source or a write failed.
   abbrev pub ConvertFaultIsComplete : Type 0
   ConvertFaultIsComplete =
       (f : Fault) → CanBeConvertedTo (flac_stream before) (flac_bytes remaining before) f old
       → IsErrAnd result (NamesFault f)
       ⊎ (ConvertIsExcused result (flac_bytes remaining before) (flac_bytes remaining after)
-      ⊎ OutputWriteHasFailed result old new)
+      ⊎ OutputWriteFailed result old new)

@@ -1,5 +1,19 @@
 -- The lines that are printed about a stream.
-use Rattle.std.specs.Prelude.{◌≡◌, ◌⊎◌, ℕ, Option, None, Some, Result, IfErr, OnOk, List, ◌++◌, flat_map, codes}
+use Rattle.std.specs.Prelude.{
+  ◌≡◌,
+  ◌⊎◌,
+  ℕ,
+  Option,
+  None,
+  Some,
+  Result,
+  IfErr,
+  OnOk,
+  List,
+  ◌++◌,
+  flat_map,
+  codes,
+}
 use Rattle.std.specs.Borrow.{Bor}
 use Rattle.std.specs.declared.alloc.AllocError.{AllocError}
 use Rattle.std.specs.Io.KnownBytes.{Appends}
@@ -10,9 +24,25 @@ use Rattle.claxon.specs.Error.{IsIo}
 use Rattle.claxon.specs.Errors.{Error}
 use Rattle.claxon.specs.Errors.TheVariants.{OutOfMemory}
 use Rattle.claxon.specs.StreamInfos.{StreamInfo}
-use Rattle.claxon_write.specs.Written.{FailsToPut, FlushFailed, IsFlushed, IsUnflushed, NonePending, Puts, contents_with_pending, writer_contents}
+use Rattle.claxon_write.specs.Written.{
+  FailsToPut,
+  OneFlushFailed,
+  IsFlushed,
+  IsUnflushed,
+  NonePending,
+  Puts,
+  contents_with_pending,
+  writer_contents,
+}
 use Rattle.claxon_write.specs.declared.output.Output.{Output}
-use Rattle.claxon_tools.specs.Text.{IsText, escaped_text, length_text, md5_text, number_text, unknown_text}
+use Rattle.claxon_tools.specs.Text.{
+  IsText,
+  escaped_text,
+  length_text,
+  md5_text,
+  number_text,
+  unknown_text,
+}
 
 -- `NAME: value`
 unfoldable pub line : List ℕ → List ℕ → List ℕ
@@ -62,7 +92,8 @@ facts_of flac = facts_text (flac_streaminfo flac) (vendor_of flac) (tags_of flac
 abbrev pub FactsAreSound : {R A : Type 0} → FlacReader R A → Result (String A) AllocError → Type 0
 FactsAreSound flac r = IsText (facts_of flac) r
 
--- An Ok wrote exactly those lines after the pending bytes, and then flushed. Nothing is pending any more.
+-- An Ok wrote exactly those lines after the pending bytes, and then flushed. Nothing is pending
+-- any more.
 abbrev pub WriteFactsIsSound : {R W A : Type 0} → (W → Option (List ℕ)) → FlacReader R A
     → Result (Unit {0}) Error → Output W → Output W → Type 0
 WriteFactsIsSound contents flac r old new =
@@ -72,11 +103,12 @@ WriteFactsIsSound contents flac r old new =
 pub record FailsToFlushAfter {W : Type 0} (contents : W → Option (List ℕ)) (bytes : List ℕ)
     (error : Error) (old new : Output W) : Type 0 where
   pub is_io : IsIo error
-  pub failed : FlushFailed old new
+  pub failed : OneFlushFailed old new
   pub flushed : IsFlushed old new
   pub written : Appends (contents_with_pending contents old) (writer_contents contents new) bytes
 
--- An Err is `OutOfMemory`, and nothing was put; a failed write, without a flush; or a failed flush after all was written.
+-- An Err is `OutOfMemory`, and nothing was put; a failed write, without a flush; or a failed
+-- flush after all was written.
 abbrev pub WriteFactsFaultIsSound : {R W A : Type 0} → (W → Option (List ℕ)) → FlacReader R A
     → Result (Unit {0}) Error → Output W → Output W → Type 0
 WriteFactsFaultIsSound contents flac r old new =

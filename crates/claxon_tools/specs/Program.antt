@@ -1,5 +1,20 @@
 -- What the program and its commands print about themselves, and of errors.
-use Rattle.std.specs.Prelude.{◌≡◌, ℕ, ◌-◌, ◌^◌, List, ◌++◌, codes, flat_map, Option, Result, IfOk, IfSome, IsOkAnd, OnOk}
+use Rattle.std.specs.Prelude.{
+  ◌≡◌,
+  ℕ,
+  ◌-◌,
+  ◌^◌,
+  List,
+  ◌++◌,
+  codes,
+  flat_map,
+  Option,
+  Result,
+  IfOk,
+  IfSome,
+  IsOkAnd,
+  OnOk,
+}
 use Rattle.std.specs.declared.alloc.AllocError.{AllocError}
 use Rattle.std.specs.declared.io.Error.{Error as Failure}
 use Rattle.std.specs.declared.io.ErrorKind.TheVariants.{UnexpectedEof}
@@ -16,7 +31,14 @@ use Rattle.claxon_write.specs.Written.{IsFlushed, NonePending, Puts}
 use Rattle.claxon_write.specs.declared.output.Output.{Output as Sink}
 use Rattle.claxon_tools.specs.Text.{IsText}
 use Rattle.claxon_tools.specs.declared.arguments.Notice.{Notice}
-use Rattle.claxon_tools.specs.declared.arguments.Notice.TheVariants.{Help, NotUtf8, UnknownCommand, UnknownOption, Usage, Version}
+use Rattle.claxon_tools.specs.declared.arguments.Notice.TheVariants.{
+  Help,
+  NotUtf8,
+  UnknownCommand,
+  UnknownOption,
+  Usage,
+  Version,
+}
 use Rattle.claxon_tools.specs.declared.program.Input.{Input}
 use Rattle.claxon_tools.specs.declared.program.Input.TheVariants.{File, Standard}
 use Rattle.claxon_tools.specs.declared.program.Part.{Part}
@@ -43,7 +65,8 @@ help_text p =
 abbrev pub version_text : Program → List ℕ → List ℕ
 version_text p version = p.name.now ++ codes " " ++ version ++ codes "\n"
 
--- An Ok wrote exactly this text after the pending bytes, and then flushed. Nothing is pending any more.
+-- An Ok wrote exactly this text after the pending bytes, and then flushed. Nothing is pending
+-- any more.
 abbrev pub WritesText : {A W : Type 0} → (W → Option (List ℕ)) → Result (String A) AllocError
     → Result (Unit {0}) Error → Sink W → Sink W → Type 0
 WritesText contents text r old new =
@@ -64,7 +87,8 @@ Prints contents text status old new = status ≡ 0 → Appends (contents old) (c
 abbrev pub PrintIsSound : {W : Type 0} → (W → Option (List ℕ)) → Program → Notice → ℕ → W → W
     → Type 0
 PrintIsSound contents p Help status old new = Prints contents (help_text p) status old new
-PrintIsSound contents p Version status old new = Prints contents (version_text p VERSION.now) status old new
+PrintIsSound contents p Version status old new =
+    Prints contents (version_text p VERSION.now) status old new
 PrintIsSound contents p (UnknownOption option) status old new = (status ≡ 2) × (new ≡ old)
 PrintIsSound contents p (UnknownCommand name) status old new = (status ≡ 2) × (new ≡ old)
 PrintIsSound contents p NotUtf8 status old new = (status ≡ 2) × (new ≡ old)

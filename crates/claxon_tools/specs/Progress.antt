@@ -3,13 +3,15 @@ use Rattle.std.specs.Borrow.{MutBor}
 use Rattle.std.specs.Prelude.{◌≡◌, ℕ, ◌*◌, ◌-◌, ◌^◌, ◌/◌, max, min, Option, None, Some}
 use Rattle.claxon_tools.specs.declared.progress.Progress.{Progress}
 
--- the percentage to show after `done` of `total` samples, at most 100; without a total it stays as it was
+-- the percentage to show after `done` of `total` samples, at most 100; without a total it stays
+-- as it was
 abbrev pub percent_at : Option ℕ → Option ℕ → ℕ → Option ℕ
 percent_at None shown done = shown
 percent_at (Some total) shown done = Some (min (min (done * 100) (2 ^ 64 - 1) / max total 1) 100)
 
 -- The line borrows this writer, which is as it was. It has this total, and isn't written yet.
-pub record IsNewProgress {E : Type 0} (errors : MutBor E) (total : Option ℕ) (p : Progress E) : Type 0 where
+pub record IsNewProgress {E : Type 0} (errors : MutBor E) (total : Option ℕ) (p : Progress E) : Type
+    0 where
   pub same_reference : p.errors.ghost_name ≡ errors.ghost_name
   pub errors_are : p.errors.now ≡ errors.now
   pub total_is : p.total ≡ total

@@ -1,5 +1,37 @@
 -- Values as text.
-use Rattle.std.specs.Prelude.{◌≡◌, Bool, false, ℕ, ◌+◌, ◌*◌, ◌/◌, ◌%◌, Option, None, Some, List, [], ◌∷◌, ◌++◌, ◌==◌, ◌||◌, ◌&&◌, if◌then◌else◌, nat_lt, nat_le, flat_map, replicate, bytes_eq, codes, decimal, encode_utf8, string_bytes, Result, IfOk, OnOk}
+use Rattle.std.specs.Prelude.{
+  ◌≡◌,
+  Bool,
+  false,
+  ℕ,
+  ◌+◌,
+  ◌*◌,
+  ◌/◌,
+  ◌%◌,
+  Option,
+  None,
+  Some,
+  List,
+  [],
+  ◌∷◌,
+  ◌++◌,
+  ◌==◌,
+  ◌||◌,
+  ◌&&◌,
+  if◌then◌else◌,
+  nat_lt,
+  nat_le,
+  flat_map,
+  replicate,
+  bytes_eq,
+  codes,
+  decimal,
+  encode_utf8,
+  string_bytes,
+  Result,
+  IfOk,
+  OnOk,
+}
 use Rattle.std.specs.declared.alloc.AllocError.{AllocError}
 use Rattle.std.specs.declared.string.String.{String}
 use Rattle.std.specs.Fmt.{digit_glyph, digits}
@@ -43,12 +75,13 @@ hex_byte b = digit_glyph false (b / 16) ∷ digit_glyph false (b % 16) ∷ []
 unfoldable pub md5_text : List ℕ → List ℕ
 md5_text md5 = if bytes_eq md5 (replicate 16 0) then unknown_text else flat_map hex_byte md5
 
--- a character that may begin a line or control a terminal: a control character, a line separator or a paragraph separator
+-- a character that may begin a line or control a terminal: a control character, a line separator
+-- or a paragraph separator
 abbrev pub is_control : ℕ → Bool
 is_control c = nat_lt c 32 || (nat_le 127 c && nat_lt c 160) || c == 0x2028 || c == 0x2029
 
--- a character in UTF-8, escaped for one line: a backslash, a line feed, a carriage return and a tab by a letter, another
--- control character by its number
+-- a character in UTF-8, escaped for one line: a backslash, a line feed, a carriage return and a tab
+-- by a letter, another control character by its number
 unfoldable pub escaped_char : ℕ → List ℕ
 escaped_char c =
     if c == 0x5C then codes "\\\\" else (if c == 0x0A then codes "\\n"

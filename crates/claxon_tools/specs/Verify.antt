@@ -1,11 +1,41 @@
 -- What is found in a stream: frames and faults, one after another, counted to its end.
-use Rattle.std.specs.Prelude.{◌≡◌, ◌⊎◌, ◌↔◌, ◌<◌, ◌≤◌, ◌+◌, ◌%◌, ◌^◌, ℕ, Bool, false, true, List, [], ◌∷◌, ◌++◌, codes, length, Option, None, Some, IfErr, IfOk, IsErrAnd, IsOkAnd, IsTrue, Ok, Err, Result}
+use Rattle.std.specs.Prelude.{
+  ◌≡◌,
+  ◌⊎◌,
+  ◌↔◌,
+  ◌<◌,
+  ◌≤◌,
+  ◌+◌,
+  ◌%◌,
+  ◌^◌,
+  ℕ,
+  Bool,
+  false,
+  true,
+  List,
+  [],
+  ◌∷◌,
+  ◌++◌,
+  codes,
+  length,
+  Option,
+  None,
+  Some,
+  IfErr,
+  IfOk,
+  IsErrAnd,
+  IsOkAnd,
+  IsTrue,
+  Ok,
+  Err,
+  Result,
+}
 use Rattle.std.specs.List.{sum_by}
 use Rattle.claxon.specs.Error.{IsFault, IsIo, is_out_of_memory}
 use Rattle.claxon.specs.Fault.{Fault}
 use Rattle.claxon.specs.Frame.{Block, Frame, FrameBytesFault, StreamFormat}
 use Rattle.claxon.specs.FrameReader.{FrameAnswer, HeaderOfLargerBlock, block_view}
-use Rattle.claxon.specs.Gives.{FailedIn}
+use Rattle.claxon.specs.Gives.{ReadFailedIn}
 use Rattle.claxon.specs.Heads.{Head, HeadCode, HeadFault, Marker, stream_marker}
 use Rattle.claxon.specs.Prefix.{BeginsWith}
 use Rattle.claxon.specs.Promises.{Consumed, FaultIsSound, FoundIsSound, HasNeither, IsOutOfMemory}
@@ -25,38 +55,40 @@ use Rattle.claxon_tools.specs.declared.verify.Report.{Report}
 -- ---- frames and faults
 
 -- the frame of a block, or a fault
-abbrev pub Part : Type 0
-Part = Result Block Fault
+abbrev pub FrameOrFault : Type 0
+FrameOrFault = Result Block Fault
 
 -- its bytes
-abbrev pub PartBytes : Option StreamFormat → Part → List ℕ → Type 0
-PartBytes stream (Ok block) t = Frame stream block t
-PartBytes stream (Err f) t = FrameBytesFault stream f t
+abbrev pub FrameOrFaultBytes : Option StreamFormat → FrameOrFault → List ℕ → Type 0
+FrameOrFaultBytes stream (Ok block) t = Frame stream block t
+FrameOrFaultBytes stream (Err f) t = FrameBytesFault stream f t
 
 -- s is these parts, one after another, and then r
-abbrev pub Parts : Option StreamFormat → List ℕ → List Part → List ℕ → Type 0
-Parts stream s [] r = s ≡ r
-Parts stream s (part ∷ parts) r =
-    (t : List ℕ) × (m : List ℕ) × PartBytes stream part t × (s ≡ t ++ m) × Parts stream m parts r
+abbrev pub FramesAndFaults : Option StreamFormat → List ℕ → List FrameOrFault → List ℕ → Type 0
+FramesAndFaults stream s [] r = s ≡ r
+FramesAndFaults stream s (part ∷ parts) r =
+    (t : List ℕ) × (m : List ℕ) × FrameOrFaultBytes stream part t × (s ≡ t ++ m)
+    × FramesAndFaults stream m parts r
 
--- m begins with neither a frame nor a fault: it ends inside the frame, or that has a run of 2^32 zero bits.
+-- m begins with neither a frame nor a fault: it ends inside the frame, or that has a run of 2^32
+-- zero bits.
 abbrev pub IsNotWhole : Option StreamFormat → List ℕ → Type 0
 IsNotWhole stream m = (2 ≤ length m) × HasNeither (Frame stream) (FrameBytesFault stream) m
 
 -- ---- how many there are
 
-abbrev pub part_frames : Part → ℕ
-part_frames (Ok block) = 1
-part_frames (Err f) = 0
+abbrev pub frame_count_of : FrameOrFault → ℕ
+frame_count_of (Ok block) = 1
+frame_count_of (Err f) = 0
 
-abbrev pub part_faults : Part → ℕ
-part_faults (Ok block) = 0
-part_faults (Err f) = 1
+abbrev pub fault_count_of : FrameOrFault → ℕ
+fault_count_of (Ok block) = 0
+fault_count_of (Err f) = 1
 
 -- of each channel
-abbrev pub part_samples : Part → ℕ
-part_samples (Ok block) = duration_of block.channels
-part_samples (Err f) = 0
+abbrev pub sample_count_of : FrameOrFault → ℕ
+sample_count_of (Ok block) = duration_of block.channels
+sample_count_of (Err f) = 0
 
 -- A frame that isn't whole is one fault more.
 abbrev pub cut_faults : Bool → ℕ
@@ -64,16 +96,16 @@ cut_faults false = 0
 cut_faults true = 1
 
 -- These are the numbers of all of them together.
-pub record AreCounted (parts : List Part) (is_cut : Bool) (found : Found) : Type 0 where
-  pub frames : found.frames ≡ sum_by part_frames parts
-  pub faults : found.faults ≡ sum_by part_faults parts + cut_faults is_cut
-  pub samples : found.samples ≡ sum_by part_samples parts
+pub record AreCounted (parts : List FrameOrFault) (is_cut : Bool) (found : Found) : Type 0 where
+  pub frames : found.frames ≡ sum_by frame_count_of parts
+  pub faults : found.faults ≡ sum_by fault_count_of parts + cut_faults is_cut
+  pub samples : found.samples ≡ sum_by sample_count_of parts
 
 -- They are too many to be counted: they have 2^64 samples, or there are 2^64 - 1 parts.
-abbrev pub AreTooMany : List Part → Type 0
+abbrev pub AreTooMany : List FrameOrFault → Type 0
 AreTooMany parts =
-    (2 ^ 64 ≤ sum_by part_samples parts)
-    ⊎ (2 ^ 64 ≤ sum_by part_frames parts + sum_by part_faults parts + 1)
+    (2 ^ 64 ≤ sum_by sample_count_of parts)
+    ⊎ (2 ^ 64 ≤ sum_by frame_count_of parts + sum_by fault_count_of parts + 1)
 
 -- Such numbers can be counted.
 abbrev pub CanBeCounted : Found → Type 0
@@ -96,13 +128,13 @@ IsFaultAt failed stream m e =
 pub record IsFirst (failed : Type 0) (stream : Option StreamFormat) (start : ℕ) (s : List ℕ)
     (first : FirstFault) : Type 0 where
   pub front : List ℕ
-  pub before : List Part
+  pub before : List FrameOrFault
   pub left : List ℕ
   pub joined : s ≡ front ++ left
-  pub parts_are : Parts stream s before left
-  pub only_frames : sum_by part_faults before ≡ 0
+  pub parts_are : FramesAndFaults stream s before left
+  pub only_frames : sum_by fault_count_of before ≡ 0
   pub byte_is : first.byte ≡ (start + length front) % 2 ^ 64
-  pub samples_are : first.samples ≡ sum_by part_samples before
+  pub samples_are : first.samples ≡ sum_by sample_count_of before
   pub fault : IsFaultAt failed stream left first.error
 
 -- There is one where there are faults.
@@ -111,20 +143,22 @@ FirstIs failed stream start s faults None = faults ≡ 0
 FirstIs failed stream start s faults (Some first) =
     (1 ≤ faults) × IsFirst failed stream start s first
 
--- s, which begins at the byte `start` of the stream, is parts up to the end, and these were counted.
+-- s, which begins at the byte `start` of the stream, is parts up to the end, and these were
+-- counted.
 pub record Counted (failed : Type 0) (stream : Option StreamFormat) (start : ℕ) (s : List ℕ)
     (found : Found) : Type 0 where
-  pub parts : List Part
+  pub parts : List FrameOrFault
   pub is_cut : Bool
   pub rest : List ℕ
-  pub parts_are : Parts stream s parts rest
+  pub parts_are : FramesAndFaults stream s parts rest
   pub ends : EndsAt failed stream is_cut rest
   pub counts : AreCounted parts is_cut found
   pub first : FirstIs failed stream start s found.faults found.first_fault
 
 -- ---- a whole stream
 
--- It is right where there is no fault, and as many samples as the streaminfo says, where it doesn't say 0.
+-- It is right where there is no fault, and as many samples as the streaminfo says, where it
+-- doesn't say 0.
 abbrev pub IsRight : Head → Report → Type 0
 IsRight head report =
     IsTrue report.is_right ↔ ((report.found.faults ≡ 0)
@@ -150,8 +184,8 @@ pub record IsVerified (failed : Type 0) (s : List ℕ) (report : Report) : Type 
 abbrev pub block_samples : Block → ℕ
 block_samples block = duration_of block.channels
 
--- s is a head and frames, and then fewer than two bytes; there are as many samples as the streaminfo says, where it doesn't
--- say 0.
+-- s is a head and frames, and then fewer than two bytes; there are as many samples as the
+-- streaminfo says, where it doesn't say 0.
 pub record IsRightStream (s : List ℕ) : Type 0 where
   pub head : Head
   pub blocks : List Block
@@ -161,15 +195,16 @@ pub record IsRightStream (s : List ℕ) : Type 0 where
   pub total : (head.info.samples ≡ 0) ⊎ (head.info.samples ≡ sum_by block_samples blocks)
 
 -- s begins with a head, parts, and then such bytes.
-pub record HasParts (s : List ℕ) (P : Option StreamFormat → List Part → List ℕ → Type 0) : Type 0 where
+pub record HasFramesAndFaults (s : List ℕ)
+    (P : Option StreamFormat → List FrameOrFault → List ℕ → Type 0) : Type 0 where
   pub head : Head
   pub front : List ℕ
   pub frames : List ℕ
-  pub parts : List Part
+  pub parts : List FrameOrFault
   pub left : List ℕ
   pub code : HeadCode (with_samples true) head front
   pub joined : s ≡ front ++ frames
-  pub parts_are : Parts (Some (stream_of head.info)) frames parts left
+  pub parts_are : FramesAndFaults (Some (stream_of head.info)) frames parts left
   pub what : P (Some (stream_of head.info)) parts left
 
 -- ---- what is too much to be counted
@@ -224,16 +259,19 @@ IfConsumed (Err (Unsupported text)) P = P
 IfConsumed (Err e) P = Unit {0}
 
 -- What a call that reads a block returned, and what it did to its input.
-pub record BlockIsRead (stream : Option StreamFormat) (r : FrameAnswer) (old new : State ℕ) : Type 0 where
-  pub sound : FoundIsSound block_view r (Frame stream) old new
-  pub eof : IfOk r (λ found. found ≡ None → RemainingIsKnown old → length old.remaining < 2)
-  pub fault : FaultIsSound r (FrameBytesFault stream) old new
-  pub io : IfErr r (λ e. IsIo e → RemainingIsKnown old → IsNotWhole stream old.remaining
-      ⊎ FailedIn old new)
-  pub memory : IsOutOfMemory r → Consumed old new (HeaderOfLargerBlock stream 0)
-  pub loans : new.source.loans ≡ old.source.loans
-  pub kept : IfConsumed r ((new.source.errors ≡ old.source.errors) × (new.source.empty_reads ≡ old.source.empty_reads)
-      × (RemainingIsKnown old → final_crcs new ≡ final_crcs old))
+pub record BlockIsRead (stream : Option StreamFormat) (r : FrameAnswer) (old new : State ℕ) : Type 0
+  where
+    pub sound : FoundIsSound block_view r (Frame stream) old new
+    pub eof : IfOk r (λ found. found ≡ None → RemainingIsKnown old → length old.remaining < 2)
+    pub fault : FaultIsSound r (FrameBytesFault stream) old new
+    pub io : IfErr r (λ e. IsIo e → RemainingIsKnown old → IsNotWhole stream old.remaining
+        ⊎ ReadFailedIn old new)
+    pub memory : IsOutOfMemory r → Consumed old new (HeaderOfLargerBlock stream 0)
+    pub loans : new.source.loans ≡ old.source.loans
+    pub kept :
+        IfConsumed r (
+        (new.source.errors ≡ old.source.errors) × (new.source.empty_reads ≡ old.source.empty_reads)
+        × (RemainingIsKnown old → final_crcs new ≡ final_crcs old))
 
 -- ---- a reader that counts bytes
 
@@ -252,22 +290,24 @@ position_of input = (crc_state input).bytes
 -- ---- what was counted
 
 -- The remaining bytes, which begin at the byte `start` of the stream, were counted.
-abbrev pub CountsParts : Option StreamFormat → ℕ → State ℕ → State ℕ → Found → Type 0
-CountsParts stream start old new found =
-    RemainingIsKnown old → Counted (FailedIn old new) stream start old.remaining found
+abbrev pub CountsFramesAndFaults : Option StreamFormat → ℕ → State ℕ → State ℕ → Found → Type 0
+CountsFramesAndFaults stream start old new found =
+    RemainingIsKnown old → Counted (ReadFailedIn old new) stream start old.remaining found
 
 -- s begins with parts, and then such bytes.
-abbrev pub BeginsWithParts : Option StreamFormat → List ℕ → (List Part → List ℕ → Type 0) → Type 0
-BeginsWithParts stream s P =
-    (parts : List Part) × (left : List ℕ) × Parts stream s parts left × P parts left
+abbrev pub BeginsWithFramesAndFaults : Option StreamFormat → List ℕ
+    → (List FrameOrFault → List ℕ → Type 0) → Type 0
+BeginsWithFramesAndFaults stream s P =
+    (parts : List FrameOrFault) × (left : List ℕ) × FramesAndFaults stream s parts left
+    × P parts left
 
--- The error is `OutOfMemory` after parts and the header of a frame, or says that more parts remain than can be counted, and so
--- it is.
+-- The error is `OutOfMemory` after parts and the header of a frame, or says that more parts remain
+-- than can be counted, and so it is.
 abbrev pub StopsCounting : Option StreamFormat → State ℕ → Error → Type 0
 StopsCounting stream old e =
-    ((e ≡ OutOfMemory) × (RemainingIsKnown old → BeginsWithParts stream old.remaining
+    ((e ≡ OutOfMemory) × (RemainingIsKnown old → BeginsWithFramesAndFaults stream old.remaining
     (λ parts left. BeginsWith (HeaderOfLargerBlock stream 0) left)))
-    ⊎ (IsTooMany e × (RemainingIsKnown old → BeginsWithParts stream old.remaining
+    ⊎ (IsTooMany e × (RemainingIsKnown old → BeginsWithFramesAndFaults stream old.remaining
     (λ parts left. AreTooMany parts)))
 
 -- ---- the contract of the call
@@ -291,12 +331,13 @@ pub record SameReport (a b : Report) : Type 0 where
 module _ (old : State ℕ) (result : Result Report Error) (new : State ℕ) where
   -- Memory was refused, or a read of the source failed.
   abbrev pub IsExcused : Type 0
-  IsExcused = IsOutOfMemory result ⊎ FailedIn old new
+  IsExcused = IsOutOfMemory result ⊎ ReadFailedIn old new
 
   -- The report is about the remaining bytes.
   abbrev pub VerifyIsSound : Type 0
   VerifyIsSound =
-      IfOk result (λ report. RemainingIsKnown old → IsVerified (FailedIn old new) old.remaining report)
+      IfOk result (λ report.
+      RemainingIsKnown old → IsVerified (ReadFailedIn old new) old.remaining report)
 
   -- For each stream that can be counted its report is returned, or memory or the source failed.
   abbrev pub VerifyIsComplete : Type 0
@@ -317,19 +358,22 @@ module _ (old : State ℕ) (result : Result Report Error) (new : State ℕ) wher
       → sum_by block_samples stream.blocks < 2 ^ 64 → length stream.blocks + 1 < 2 ^ 64
       → IsOkAnd result (λ report. IsTrue report.is_right) ⊎ IsExcused
 
-  -- An Err is `OutOfMemory`; an `IoError` where the bytes begin with neither a head nor a fault of one, or the source failed;
-  -- or it says that there are more parts than can be counted, or names the fault of a head, and so it is.
+  -- An Err is `OutOfMemory`; an `IoError` where the bytes begin with neither a head nor a fault of
+  -- one, or the source failed; or it says that there are more parts than can be counted, or names
+  -- the fault of a head, and so it is.
   abbrev pub VerifyFaultIsSound : Type 0
   VerifyFaultIsSound =
       IfErr result (λ e. (e ≡ OutOfMemory) ⊎ ((IsIo e × (RemainingIsKnown old
-      → HasNeither (HeadCode (with_samples true)) (HeadFault (with_samples true)) old.remaining ⊎ FailedIn old new))
-      ⊎ (RemainingIsKnown old → (IsTooMany e × HasParts old.remaining (λ stream parts left. AreTooMany parts))
+      → HasNeither (HeadCode (with_samples true)) (HeadFault (with_samples true)) old.remaining
+      ⊎ ReadFailedIn old new))
+      ⊎ (RemainingIsKnown old → (IsTooMany e × HasFramesAndFaults old.remaining (λ stream parts left. AreTooMany parts))
       ⊎ ((f : Fault) × IsFault f e × BeginsWith (HeadFault (with_samples true) f) old.remaining))))
 
   -- A fault of a head that they begin with is named, or memory or the source failed.
   abbrev pub VerifyHeadFaultIsComplete : Type 0
   VerifyHeadFaultIsComplete =
-      (f : Fault) → RemainingIsKnown old → BeginsWith (HeadFault (with_samples true) f) old.remaining
+      (f : Fault) → RemainingIsKnown old
+      → BeginsWith (HeadFault (with_samples true) f) old.remaining
       → IsErrAnd result (IsFault f) ⊎ IsExcused
 
   -- `OutOfMemory` is returned only after the header of a metadata block, or of a frame.
@@ -337,7 +381,8 @@ module _ (old : State ℕ) (result : Result Report Error) (new : State ℕ) wher
   VerifyOutOfMemoryAfterHeader =
       IsOutOfMemory result → RemainingIsKnown old
       → MemoryMayBeNeeded (Marker stream_marker) old.remaining
-      ⊎ HasParts old.remaining (λ stream parts left. BeginsWith (HeaderOfLargerBlock stream 0) left)
+      ⊎ HasFramesAndFaults old.remaining (λ stream parts left.
+      BeginsWith (HeaderOfLargerBlock stream 0) left)
 
   -- all of it
   pub record VerifyPromises : Type 0 where
@@ -349,7 +394,8 @@ module _ (old : State ℕ) (result : Result Report Error) (new : State ℕ) wher
     pub named : VerifyHeadFaultIsComplete
     pub memory : VerifyOutOfMemoryAfterHeader
 
--- Nothing is written where no progress is to be shown, or the streaminfo doesn't say how many samples there are.
+-- Nothing is written where no progress is to be shown, or the streaminfo doesn't say how many
+-- samples there are.
 abbrev pub VerifyIsQuiet : {E : Type 0} → Bool → Result Report Error → E → E → Type 0
 VerifyIsQuiet shows_progress result before after =
     (shows_progress ≡ false) ⊎ IsOkAnd result (λ report. report.expected ≡ None) → after ≡ before

@@ -1,5 +1,32 @@
 -- WAV files.
-use Rattle.std.specs.Prelude.{nat_lt, ◌≡◌, ◌==◌, ◌||◌, not, ℕ, ◌*◌, ◌<◌, ◌%◌, ◌^◌, ◌-◌, List, [], ◌∷◌, ◌++◌, Bool, cond, codes, length, replicate, ◌≤◌, Option, None, Some, Result, OnOk}
+use Rattle.std.specs.Prelude.{
+  nat_lt,
+  ◌≡◌,
+  ◌==◌,
+  ◌||◌,
+  not,
+  ℕ,
+  ◌*◌,
+  ◌<◌,
+  ◌%◌,
+  ◌^◌,
+  ◌-◌,
+  List,
+  [],
+  ◌∷◌,
+  ◌++◌,
+  Bool,
+  cond,
+  codes,
+  length,
+  replicate,
+  ◌≤◌,
+  Option,
+  None,
+  Some,
+  Result,
+  OnOk,
+}
 use Rattle.std.specs.declared.alloc.AllocError.{AllocError}
 use Rattle.std.specs.Int.{div_ceil, to_le_bytes, w16, w32}
 use Rattle.claxon_tools.specs.ChannelMask.{channel_mask_of}
@@ -22,8 +49,8 @@ pad size = replicate (size % 2) 0
 abbrev pub chunk : List ℕ → List ℕ → List ℕ
 chunk name body = name ++ to_le_bytes w32 (length body) ++ body ++ pad (length body)
 
--- More than two channels, valid bits other than 8 and 16, and channel masks other than mono and stereo need
--- WAVEFORMATEXTENSIBLE.
+-- More than two channels, valid bits other than 8 and 16, and channel masks other than mono and
+-- stereo need WAVEFORMATEXTENSIBLE.
 abbrev pub is_extensible : Layout → Bool
 is_extensible l =
     nat_lt 2 l.channels || (not ((l.valid_bits == 8) || (l.valid_bits == 16)) || not
@@ -57,7 +84,8 @@ extension l =
 unfoldable pub format : Layout → List ℕ
 format l = cond (is_extensible l) (base_format 65534 l ++ extension l) (base_format 1 l)
 
--- the bytes before the samples, for a format of these bytes, a size of all that follows it and one of the samples
+-- the bytes before the samples, for a format of these bytes, a size of all that follows it and
+-- one of the samples
 abbrev pub header_bytes : List ℕ → ℕ → ℕ → List ℕ
 header_bytes f all size =
     codes "RIFF" ++ to_le_bytes w32 all ++ codes "WAVEfmt " ++ to_le_bytes w32 (length f) ++ f
@@ -86,12 +114,14 @@ IsHeader l size header =
 abbrev pub PutHeaderIsSound : Layout → ℕ → Result (Unit {0}) AllocError → List ℕ → Type 0
 PutHeaderIsSound l size r bytes = OnOk r (IsHeader l size bytes)
 
--- the number of bytes of `count` samples per channel, or None if the file would be too large for its 32-bit size
+-- the number of bytes of `count` samples per channel, or None if the file would be too large for
+-- its 32-bit size
 abbrev pub IsSizeOf : Layout → ℕ → Option ℕ → Type 0
 IsSizeOf l count None = max_data_size < count * block_align l
 IsSizeOf l count (Some size) = (size ≡ count * block_align l) × (size ≤ max_data_size)
 
--- It has these channels, valid bits and sample rate, and the given channel mask or the default one of FLAC.
+-- It has these channels, valid bits and sample rate, and the given channel mask or the default
+-- one of FLAC.
 pub record IsLayoutOf (channels valid_bits sample_rate : ℕ) (channel_mask : Option ℕ)
     (l : Layout) : Type 0 where
   pub channels_are : l.channels ≡ channels

@@ -1,11 +1,48 @@
 -- The clauses of the methods of `WavWriter`.
 use Rattle.std.specs.Borrow.{MutBor}
-use Rattle.std.specs.Prelude.{All, ◌≡◌, ◌≢◌, ◌⊎◌, ◌==◌, ◌<◌, ℕ, ◌+◌, ◌/◌, ◌%◌, ◌^◌, List, [], cond, length, Option, Some, Result, IfErr, IfOk, IfSome, OnOk}
+use Rattle.std.specs.Prelude.{
+  All,
+  ◌≡◌,
+  ◌≢◌,
+  ◌⊎◌,
+  ◌==◌,
+  ◌<◌,
+  ℕ,
+  ◌+◌,
+  ◌/◌,
+  ◌%◌,
+  ◌^◌,
+  List,
+  [],
+  cond,
+  length,
+  Option,
+  Some,
+  Result,
+  IfErr,
+  IfOk,
+  IfSome,
+  OnOk,
+}
 use Rattle.std.specs.Io.KnownBytes.{Appends, Keeps}
 use Rattle.claxon.specs.Bits.{FitsIn}
 use Rattle.claxon.specs.Streams.{interleave}
 use Rattle.claxon.specs.Block.{BlockValue}
-use Rattle.claxon_write.specs.CountingWriter.{CountsFailedFlush, CountsFailedSeek, CountsFailedWrite, CountsFlush, CountsNoFailure, CountsNoFlush, SameInner, failed_flushes_of, failed_seeks_of, failed_writes_of, inner_contents, inner_name, inner_writer}
+use Rattle.claxon_write.specs.CountingWriter.{
+  CountsFailedFlush,
+  CountsFailedSeek,
+  CountsFailedWrite,
+  CountsFlush,
+  CountsNoFailure,
+  CountsNoFlush,
+  SameInner,
+  failed_flushes_of,
+  failed_seeks_of,
+  failed_writes_of,
+  inner_contents,
+  inner_name,
+  inner_writer,
+}
 use Rattle.claxon_write.specs.Written.{AppendsPrefix}
 use Rattle.claxon_write.specs.declared.counting_writer.CountingWriter.{CountingWriter}
 use Rattle.claxon_tools.specs.DataSize.{max_data_size}
@@ -13,7 +50,12 @@ use Rattle.claxon_tools.specs.Samples.{packed_block}
 use Rattle.claxon_tools.specs.WavError.{IsMemory, IsOutput}
 use Rattle.claxon_tools.specs.WaveFile.{IsHeader, block_align, pad, unknown_header}
 use Rattle.claxon_tools.specs.declared.wav.error.Error.{Error}
-use Rattle.claxon_tools.specs.declared.wav.error.Error.TheVariants.{OtherChannels, Output, TooLong, WideSample}
+use Rattle.claxon_tools.specs.declared.wav.error.Error.TheVariants.{
+  OtherChannels,
+  Output,
+  TooLong,
+  WideSample,
+}
 use Rattle.claxon_tools.specs.declared.wav.header.Layout.{Layout}
 use Rattle.claxon_tools.specs.declared.wav.writer.WavWriter.{WavWriter}
 
@@ -32,8 +74,8 @@ abbrev pub NoneFailed : {W : Type 0} → WavWriter W → WavWriter W → Type 0
 NoneFailed old new = CountsNoFailure old.output new.output
 
 -- A write, a flush or a seek failed.
-abbrev pub OneFailed : {W : Type 0} → WavWriter W → WavWriter W → Type 0
-OneFailed old new =
+abbrev pub OneCallFailed : {W : Type 0} → WavWriter W → WavWriter W → Type 0
+OneCallFailed old new =
     CountsFailedWrite old.output new.output
     ⊎ (CountsFailedFlush old.output new.output ⊎ CountsFailedSeek old.output new.output)
 
@@ -126,11 +168,13 @@ samples_written file = file.written / block_align file.layout
 abbrev pub wav_bytes : {W : Type 0} → WavWriter W → BlockValue → List ℕ
 wav_bytes file block = packed_block file.layout.valid_bits block
 
--- The samples of the block were written after all earlier bytes, and their bytes were counted. No call failed.
+-- The samples of the block were written after all earlier bytes, and their bytes were counted.
+-- No call failed.
 pub record PutsBlock {W : Type 0} (contents : W → Option (List ℕ)) (block : BlockValue)
     (old new : WavWriter W) : Type 0 where
   pub channels : length block.channels ≡ old.layout.channels
-  pub bytes_are : Appends (output_contents contents old) (output_contents contents new) (wav_bytes old block)
+  pub bytes_are :
+      Appends (output_contents contents old) (output_contents contents new) (wav_bytes old block)
   pub written_is : new.written ≡ old.written + length (wav_bytes old block)
   pub none_failed : NoneFailed old new
 
@@ -147,8 +191,9 @@ SamplesFit block file = All (FitsIn file.layout.valid_bits) (interleave block.ch
 abbrev pub PutBlockFits : {W : Type 0} → BlockValue → Result (Unit {0}) Error → WavWriter W → Type 0
 PutBlockFits block r old = OnOk r (SamplesFit block old)
 
--- The error says that the block has other channels than the layout, a sample doesn't fit in its valid bits, or the bytes are
--- more than a WAV file holds; or it is `OutOfMemory` or a failed call of the output.
+-- The error says that the block has other channels than the layout, a sample doesn't fit in its
+-- valid bits, or the bytes are more than a WAV file holds; or it is `OutOfMemory` or a failed call
+-- of the output.
 abbrev pub ExplainsBlockError : {W : Type 0} → BlockValue → WavWriter W → Error → Type 0
 ExplainsBlockError block old OtherChannels = length block.channels ≡ old.layout.channels → ⊥
 ExplainsBlockError block old WideSample = SamplesFit block old → ⊥
@@ -160,12 +205,13 @@ abbrev pub PutBlockFaultIsSound : {W : Type 0} → BlockValue → Result (Unit {
     → Type 0
 PutBlockFaultIsSound block r old = IfErr r (ExplainsBlockError block old)
 
--- A failed write, which was counted, wrote a prefix of the block's bytes. Before any other error there was no call of the
--- output.
+-- A failed write, which was counted, wrote a prefix of the block's bytes. Before any other error
+-- there was no call of the output.
 abbrev pub BlockErrorKeeps : {W : Type 0} → (W → Option (List ℕ)) → BlockValue → Error
     → WavWriter W → WavWriter W → Type 0
 BlockErrorKeeps contents block (Output cause) old new =
-    AppendsPrefix (output_contents contents old) (output_contents contents new) (wav_bytes old block)
+    AppendsPrefix (output_contents contents old) (output_contents contents new) (
+    wav_bytes old block)
     × CountsFailedWrite old.output new.output
 BlockErrorKeeps contents block error old new = new.output ≡ old.output
 
@@ -199,7 +245,8 @@ PadIsSound contents r old new =
 abbrev pub FailsToPad : {W : Type 0} → WavWriter W → WavWriter W → Error → Type 0
 FailsToPad old new error = IsOutput error × CountsFailedWrite old.output new.output
 
--- A header that announces `size` bytes was written after a seek to the start of the output, where the position is known.
+-- A header that announces `size` bytes was written after a seek to the start of the output,
+-- where the position is known.
 pub record WritesHeader {W : Type 0} (contents : W → Option (List ℕ)) (position : W → Option ℕ)
     (layout : Layout) (size : ℕ) (old new : CountingWriter W) : Type 0 where
   pub header : List ℕ
@@ -211,7 +258,8 @@ pub record WritesHeader {W : Type 0} (contents : W → Option (List ℕ)) (posit
 -- If the header was right, nothing was written, else the right one.
 pub record UpdatesHeader {W : Type 0} (contents : W → Option (List ℕ)) (position : W → Option ℕ)
     (old new : WavWriter W) : Type 0 where
-  pub right : old.announced ≡ old.written → Keeps (output_contents contents old) (output_contents contents new)
+  pub right : old.announced ≡ old.written
+      → Keeps (output_contents contents old) (output_contents contents new)
   pub wrong : (old.announced ≡ old.written → ⊥)
       → WritesHeader contents position old.layout old.written old.output new.output
 
@@ -221,14 +269,16 @@ abbrev pub UpdateHeaderIsSound : {W : Type 0} → (W → Option (List ℕ)) → 
 UpdateHeaderIsSound contents position r old new =
     OnOk r (UpdatesHeader contents position old new × HeaderIsRight old new)
 
--- An Err is `OutOfMemory`, without a failed call of the output; or a failed write, flush or seek, which was counted.
+-- An Err is `OutOfMemory`, without a failed call of the output; or a failed write, flush or
+-- seek, which was counted.
 abbrev pub UpdateFaultIsSound : {W : Type 0} → Result (Unit {0}) Error → WavWriter W → WavWriter W
     → Type 0
 UpdateFaultIsSound r old new =
-    IfErr r (λ error. (IsMemory error × NoneFailed old new) ⊎ (IsOutput error × OneFailed old new))
+    IfErr r (λ error.
+    (IsMemory error × NoneFailed old new) ⊎ (IsOutput error × OneCallFailed old new))
 
--- The pad byte was written after all earlier bytes. If the header was right, nothing else was written; else the right header
--- was.
+-- The pad byte was written after all earlier bytes. If the header was right, nothing else was
+-- written; else the right header was.
 pub record Ends {W : Type 0} (contents : W → Option (List ℕ)) (position : W → Option ℕ)
     (old new : WavWriter W) : Type 0 where
   pub right : old.announced ≡ old.written

@@ -20,7 +20,14 @@ pub struct Arguments<'a> {
 impl<'a> Arguments<'a> {
     ghost use Rattle.std.specs.Prelude.{map};
     ghost use Rattle.std.specs.String.{string_bytes};
-    ghost use Rattle.claxon_tools.specs.Arguments.{AreArgumentsOf, NextIsSound, TakesWord, ValueIsSound, words_left, words_of};
+    ghost use Rattle.claxon_tools.specs.Arguments.{
+      AreArgumentsOf,
+      NextIsSound,
+      TakesWord,
+      ValueIsSound,
+      words_left,
+      words_of,
+    };
 
     /// All arguments of these words.
     pub fn new(words: &'a [String]) -> Arguments<'a>
@@ -34,7 +41,7 @@ impl<'a> Arguments<'a> {
 
     /// The next argument.
     pub fn next(&mut self) -> Option<Argument<'a>>
-        ensures argument { NextIsSound self.old result self.new }
+        ensures next_is_sound { NextIsSound self.old result self.new }
         ensures shorter { TakesWord result self.old self.new }
     {
         let word = self.value()?;
@@ -53,7 +60,7 @@ impl<'a> Arguments<'a> {
 
     /// The next word, whatever it is, as the value of an option.
     pub fn value(&mut self) -> Option<&'a str>
-        ensures value { ValueIsSound self.old result self.new }
+        ensures value_is_sound { ValueIsSound self.old result self.new }
         ensures shorter { TakesWord result self.old self.new }
         ensures not_longer { words_left self.new ≤ words_left self.old }
     {

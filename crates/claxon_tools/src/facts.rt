@@ -2,7 +2,18 @@
 ghost use Rattle.std.specs.Option.{option_map};
 ghost use Rattle.claxon.specs.Tags.{remaining_tags};
 ghost use Rattle.claxon_write.specs.InnerWriter.{SameWriter};
-ghost use Rattle.claxon_tools.specs.Facts.{FactsAreSound, WriteFactsFaultIsSound, WriteFactsIsSound, format_text, line, numbers_text, sizes_text, tag_text, tags_text, vendor_text};
+ghost use Rattle.claxon_tools.specs.Facts.{
+  FactsAreSound,
+  WriteFactsFaultIsSound,
+  WriteFactsIsSound,
+  format_text,
+  line,
+  numbers_text,
+  sizes_text,
+  tag_text,
+  tags_text,
+  vendor_text,
+};
 ghost use Rattle.claxon_tools.specs.Text.{Adds};
 
 use crate::text::{escaped_text, length_text, md5_text, number_text};
@@ -27,9 +38,9 @@ pub fn write_facts<R: Read, W: Write, A: Allocator + Copy>(
     flac: &FlacReader<R, A>,
     output: &mut Output<'_, W>,
 ) -> claxon::Result<()>
-    ensures same_reference { SameWriter output.old output.new }
-    ensures ok { WriteFactsIsSound W.contents flac.now result output.old output.new }
-    ensures err { WriteFactsFaultIsSound W.contents flac.now result output.old output.new }
+    ensures same_writer { SameWriter output.old output.new }
+    ensures is_sound { WriteFactsIsSound W.contents flac.now result output.old output.new }
+    ensures fault_is_sound { WriteFactsFaultIsSound W.contents flac.now result output.old output.new }
 {
     let text = facts(alloc, flac)?;
     output.put(text.as_bytes())?;

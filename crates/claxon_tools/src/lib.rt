@@ -2,13 +2,13 @@
 //! head, results of the decoder as text, and progress.
 #![tactic(auto)]
 
-pub mod answer;
 pub mod arguments;
 pub mod commands;
 mod facts;
 pub mod fnv;
 pub mod program;
 pub mod progress;
+pub mod result_text;
 pub mod text;
 pub mod verify;
 pub mod wav;

@@ -2,7 +2,16 @@
 ghost use Rattle.std.specs.Prelude.{◌≡◌};
 ghost use Rattle.claxon_write.specs.InnerWriter.{SameWriter};
 ghost use Rattle.claxon_tools.specs.Facts.{line};
-ghost use Rattle.claxon_tools.specs.Program.{ErrorTextIsSound, IoTextIsSound, IsShownName, OpensInput, PrintsText, WritesText, command_text, commands_text};
+ghost use Rattle.claxon_tools.specs.Program.{
+  ErrorTextIsSound,
+  IoTextIsSound,
+  IsShownName,
+  OpensInput,
+  PrintsText,
+  WritesText,
+  command_text,
+  commands_text,
+};
 ghost use Rattle.claxon_tools.specs.Text.{Adds, IsText, escaped_text};
 
 use crate::arguments::Notice;
@@ -142,8 +151,8 @@ fn write_text<W: Write>(
     text: Result<String, AllocError>,
     output: &mut Output<'_, W>,
 ) -> claxon::Result<()>
-    ensures same_reference { SameWriter output.old output.new }
-    ensures text { WritesText W.contents text result output.old output.new }
+    ensures same_writer { SameWriter output.old output.new }
+    ensures writes_text { WritesText W.contents text result output.old output.new }
 {
     let text = text?;
     output.put(text.as_bytes())?;

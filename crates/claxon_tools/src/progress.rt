@@ -10,7 +10,13 @@ pub struct Progress<'e, E> {
 }
 
 impl<'e, E: Write> Progress<'e, E> {
-    ghost use Rattle.claxon_tools.specs.Progress.{EndsOnlyLine, IsNewProgress, SameErrors, ShowsPercentage, WritesOnlyChanges};
+    ghost use Rattle.claxon_tools.specs.Progress.{
+      EndsOnlyLine,
+      IsNewProgress,
+      SameErrors,
+      ShowsPercentage,
+      WritesOnlyChanges,
+    };
 
     /// A line on `errors` that isn't written yet. Without a total it never is.
     pub fn new(errors: &'e mut E, total: Option<u64>) -> Progress<'e, E>
@@ -25,9 +31,9 @@ impl<'e, E: Write> Progress<'e, E> {
 
     /// Writes the line if the percentage has changed. A failed write is ignored.
     pub fn show(&mut self, done: u64)
-        ensures same_reference { SameErrors self.old self.new }
-        ensures percentage { ShowsPercentage done self.old self.new }
-        ensures quiet { WritesOnlyChanges self.old self.new }
+        ensures same_errors { SameErrors self.old self.new }
+        ensures shows_percentage { ShowsPercentage done self.old self.new }
+        ensures writes_only_changes { WritesOnlyChanges self.old self.new }
     {
         let Some(total) = self.total else {
             return;
@@ -41,7 +47,7 @@ impl<'e, E: Write> Progress<'e, E> {
 
     /// Ends the line, if there is one.
     pub fn end(self)
-        ensures quiet { EndsOnlyLine self.entry self.exit.0.now }
+        ensures ends_only_line { EndsOnlyLine self.entry self.exit.0.now }
     {
         let Progress {
             errors,

@@ -1,5 +1,15 @@
 //! Values as text.
-ghost use Rattle.claxon_tools.specs.Text.{Adds, IsText, count_text, escaped_char, escaped_text, length_text, md5_text, number_text, time_text};
+ghost use Rattle.claxon_tools.specs.Text.{
+  Adds,
+  IsText,
+  count_text,
+  escaped_char,
+  escaped_text,
+  length_text,
+  md5_text,
+  number_text,
+  time_text,
+};
 
 use std::alloc::{AllocError, Allocator};
 

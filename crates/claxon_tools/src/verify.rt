@@ -1,11 +1,45 @@
 //! Whether a stream is right: its frames, faults and samples, counted to its end.
-ghost use Rattle.std.specs.Prelude.{◌≡◌, ◌⊎◌, ◌↔◌, ◌<◌, ◌≤◌, ◌+◌, ◌^◌, false, IfErr, IfOk, IsTrue, Some};
+ghost use Rattle.std.specs.Prelude.{
+  ◌≡◌,
+  ◌⊎◌,
+  ◌↔◌,
+  ◌<◌,
+  ◌≤◌,
+  ◌+◌,
+  ◌^◌,
+  false,
+  IfErr,
+  IfOk,
+  IsTrue,
+  Some,
+};
 ghost use Rattle.claxon.specs.Error.{is_io, is_out_of_memory};
 ghost use Rattle.claxon.specs.FrameReader.{stream_with};
 ghost use Rattle.claxon.specs.MetadataBlock.{or_zero};
 ghost use Rattle.claxon.specs.State.{bytes_in};
 ghost use Rattle.claxon_tools.specs.Progress.{SameErrors, StaysQuiet};
-ghost use Rattle.claxon_tools.specs.Verify.{BlockIsRead, CannotCountFault, CountsFault, CountsFrame, CountsParts, ExceedsCount, IsTooMany, RightIsComplete, RightIsSound, StopsCounting, VerifyFaultIsSound, VerifyHeadFaultIsComplete, VerifyIsComplete, VerifyIsQuiet, VerifyIsSound, VerifyOutOfMemoryAfterHeader, VerifyPromises, counted_bytes, position_of, update_position};
+ghost use Rattle.claxon_tools.specs.Verify.{
+  BlockIsRead,
+  CannotCountFault,
+  CountsFault,
+  CountsFrame,
+  CountsFramesAndFaults,
+  ExceedsCount,
+  IsTooMany,
+  RightIsComplete,
+  RightIsSound,
+  StopsCounting,
+  VerifyFaultIsSound,
+  VerifyHeadFaultIsComplete,
+  VerifyIsComplete,
+  VerifyIsQuiet,
+  VerifyIsSound,
+  VerifyOutOfMemoryAfterHeader,
+  VerifyPromises,
+  counted_bytes,
+  position_of,
+  update_position,
+};
 
 use crate::progress::Progress;
 use claxon::crc::{CrcReader, RunningCrc};
@@ -95,21 +129,21 @@ pub fn verify<R: ReadBytes, A: Allocator + Copy, E: Write>(
     shows_progress: bool,
     errors: &mut E,
 ) -> Result<Report>
-    ensures sound { VerifyIsSound (bytes_in R.source input.old) result
+    ensures is_sound { VerifyIsSound (bytes_in R.source input.old) result
         (bytes_in R.source input.new) }
-    ensures complete { VerifyIsComplete (bytes_in R.source input.old) result
+    ensures is_complete { VerifyIsComplete (bytes_in R.source input.old) result
         (bytes_in R.source input.new) }
-    ensures right { RightIsSound (bytes_in R.source input.old) result
+    ensures right_is_sound { RightIsSound (bytes_in R.source input.old) result
         (bytes_in R.source input.new) }
-    ensures right_complete { RightIsComplete (bytes_in R.source input.old) result
+    ensures right_is_complete { RightIsComplete (bytes_in R.source input.old) result
         (bytes_in R.source input.new) }
-    ensures fault { VerifyFaultIsSound (bytes_in R.source input.old) result
+    ensures fault_is_sound { VerifyFaultIsSound (bytes_in R.source input.old) result
         (bytes_in R.source input.new) }
-    ensures named { VerifyHeadFaultIsComplete (bytes_in R.source input.old) result
+    ensures head_fault_is_complete { VerifyHeadFaultIsComplete (bytes_in R.source input.old) result
         (bytes_in R.source input.new) }
-    ensures memory { VerifyOutOfMemoryAfterHeader (bytes_in R.source input.old) result
-        (bytes_in R.source input.new) }
-    ensures quiet { VerifyIsQuiet shows_progress result errors.old errors.new }
+    ensures out_of_memory_after_header { VerifyOutOfMemoryAfterHeader (bytes_in R.source input.old)
+        result (bytes_in R.source input.new) }
+    ensures is_quiet { VerifyIsQuiet shows_progress result errors.old errors.new }
 {
     verify_exact(alloc, input, shows_progress, errors)
 }
@@ -123,7 +157,7 @@ fn verify_exact<R: ReadBytes, A: Allocator + Copy, E: Write>(
 ) -> Result<Report>
     ensures promises { VerifyPromises (bytes_in R.source input.old) result
         (bytes_in R.source input.new) }
-    ensures quiet { VerifyIsQuiet shows_progress result errors.old errors.new }
+    ensures is_quiet { VerifyIsQuiet shows_progress result errors.old errors.new }
 {
     let mut input = CrcReader::new(input);
     verify_counted(alloc, &mut input, shows_progress, errors)
@@ -139,7 +173,7 @@ fn verify_counted<R: ReadBytes, A: Allocator + Copy, E: Write>(
     requires { position_of input.old ≡ 0 }
     ensures promises { VerifyPromises (counted_bytes R.source input.old) result
         (counted_bytes R.source input.new) }
-    ensures quiet { VerifyIsQuiet shows_progress result errors.old errors.new }
+    ensures is_quiet { VerifyIsQuiet shows_progress result errors.old errors.new }
     ensures loans { (counted_bytes R.source input.new).source.loans
         ≡ (counted_bytes R.source input.old).source.loans }
 {
@@ -150,7 +184,7 @@ fn verify_counted<R: ReadBytes, A: Allocator + Copy, E: Write>(
     let (info, _comment) = read_head(alloc, input, options)?;
     let total = if shows_progress { info.samples } else { None };
     let mut progress = Progress::new(errors, total);
-    let counted = count_parts(alloc, input, info, &mut progress);
+    let counted = count_frames_and_faults(alloc, input, info, &mut progress);
     progress.end();
     let found = counted?;
     let is_right = has_no_fault(&found, info.samples);
@@ -171,20 +205,21 @@ fn has_no_fault(found: &Found, expected: Option<u64>) -> bool
 }
 
 // Counts frames and faults up to the end, or to an `IoError`.
-fn count_parts<R: ReadBytes, A: Allocator + Copy, E: Write>(
+fn count_frames_and_faults<R: ReadBytes, A: Allocator + Copy, E: Write>(
     alloc: A,
     input: &mut CrcReader<R, Position>,
     info: StreamInfo,
     progress: &mut Progress<'_, E>,
 ) -> Result<Found>
-    requires min_bits { 1 ≤ info.bits_per_sample }
-    requires max_bits { info.bits_per_sample ≤ 32 }
-    ensures ok { IfOk result (CountsParts (Some (stream_with info)) (position_of input.old)
+    requires min_bit_depth { 1 ≤ info.bits_per_sample }
+    requires max_bit_depth { info.bits_per_sample ≤ 32 }
+    ensures ok { IfOk result (CountsFramesAndFaults (Some (stream_with info))
+        (position_of input.old)
         (counted_bytes R.source input.old) (counted_bytes R.source input.new)) }
     ensures err { IfErr result (StopsCounting (Some (stream_with info))
         (counted_bytes R.source input.old)) }
     ensures same_errors { SameErrors progress.old progress.new }
-    ensures quiet { StaysQuiet progress.old progress.new }
+    ensures stays_quiet { StaysQuiet progress.old progress.new }
     ensures loans { (counted_bytes R.source input.new).source.loans
         ≡ (counted_bytes R.source input.old).source.loans }
 {
@@ -229,8 +264,8 @@ fn read_block<R: ReadBytes, A: Allocator>(
     info: StreamInfo,
     buffer: Vec<i32, A>,
 ) -> FrameResult<A>
-    requires min_bits { 1 ≤ info.bits_per_sample }
-    requires max_bits { info.bits_per_sample ≤ 32 }
+    requires min_bit_depth { 1 ≤ info.bits_per_sample }
+    requires max_bit_depth { info.bits_per_sample ≤ 32 }
     ensures { BlockIsRead (Some (stream_with info)) result
         (bytes_in R.source input.old) (bytes_in R.source input.new) }
 {

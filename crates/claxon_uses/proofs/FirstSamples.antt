@@ -6,7 +6,7 @@ use Rattle.std.proofs.Math.Seq.{take-append_seam}
 use Rattle.std.proofs.lemmas.Grind.{flat_map-append}
 use Rattle.std.proofs.lemmas.List.{append-nil, take-append-le, take_all}
 use Rattle.claxon.specs.Fault.{Fault}
-use Rattle.claxon.specs.Frame.{Block, FrameBytesFault, Frames, NoFrameLeft, IsWidth, StreamFormat, known_width}
+use Rattle.claxon.specs.Frame.{Block, FrameBytesFault, Frames, NoFrameLeft, IsBitDepth, StreamFormat, known_bit_depth}
 use Rattle.claxon.specs.Heads.{Head}
 use Rattle.claxon.specs.Streams.{IsStream, interleave, stream_of, with_samples}
 use Rattle.claxon.specs.BufferedReader.{buffered_source}
@@ -38,9 +38,9 @@ grown stream count blocks (o ∷ others) m n (inr few) f = absurd (short_no_fram
 grown stream count blocks (o ∷ others) m n (inl many) f =
     sym (ap (λ (z : List ℤ). take count z) (flat_map-append (λ (b : Block). interleave b.channels) blocks (o ∷ others)) ∙ take-append-le count (samples_of blocks) (samples_of (o ∷ others)) many)
 
-module _ (count : ℕ) (stream : Option StreamFormat) (width : IsWidth (known_width stream)) (s : List ℕ) where
+module _ (count : ℕ) (stream : Option StreamFormat) (bit_depth : IsBitDepth (known_bit_depth stream)) (s : List ℕ) where
   one_first : (xs ys : List ℤ) → HasFirstSamples count stream s xs → HasFirstSamples count stream s ys → xs ≡ ys
-  one_first xs ys a b = elim (frames_either stream width s a.rest b.rest a.blocks b.blocks a.frames b.frames) [
+  one_first xs ys a b = elim (frames_either stream bit_depth s a.rest b.rest a.blocks b.blocks a.frames b.frames) [
     | inl q ↦ a.first ∙ grown stream count a.blocks q.0 a.rest b.rest a.enough q.2 ∙ ap (λ (z : List Block). take count (samples_of z)) (sym q.1) ∙ sym b.first
     | inr q ↦ sym (b.first ∙ grown stream count b.blocks q.0 b.rest a.rest b.enough q.2 ∙ ap (λ (z : List Block). take count (samples_of z)) (sym q.1) ∙ sym a.first)
   ]
@@ -49,14 +49,14 @@ module _ (count : ℕ) (stream : Option StreamFormat) (width : IsWidth (known_wi
   not_both xs blocks rest f a d less begins = go q.0 q.1 q.2 a.enough
     where
       q : (others : List Block) × (blocks ≡ a.blocks ++ others) × Frames stream a.rest others rest
-      q = frames_left stream width s a.rest rest a.blocks blocks a.frames d (fault_no_frame stream width f rest begins.0 begins.1 begins.2 begins.3)
+      q = frames_left stream bit_depth s a.rest rest a.blocks blocks a.frames d (fault_no_frame stream bit_depth f rest begins.0 begins.1 begins.2 begins.3)
 
       go : (others : List Block) → blocks ≡ a.blocks ++ others → Frames stream a.rest others rest → (count ≤ length (samples_of a.blocks)) ⊎ (length a.rest < 2) → ⊥
       go others e g (inl many) =
           let long : length (samples_of blocks) ≡ length (samples_of a.blocks) + length (samples_of others) =
           ap (λ (z : List Block). length (samples_of z)) e ∙ ap length (flat_map-append (λ (b : Block). interleave b.channels) a.blocks others) ∙ length-append (samples_of a.blocks) (samples_of others) in
           omega (arith, long, less, many)
-      go [] e g (inr few) = short_no_fault stream width a.rest few f begins.0 begins.1 begins.2 (g ∙ begins.3)
+      go [] e g (inr few) = short_no_fault stream bit_depth a.rest few f begins.0 begins.1 begins.2 (g ∙ begins.3)
       go (o ∷ others) e g (inr few) = short_no_frame stream a.rest few o g.0 g.1 g.2 g.3
 
 -- ---- all clauses
@@ -166,9 +166,9 @@ module _ {R A : Type 0} (count : ℕ) (remaining : R → Option (List ℕ)) (rea
       joined = (o.head is_known).1.2;
       first_samples_are = shown remaining reader flac o is_known (λ z l. HasFirstSamples count z l first.items) (has is_known);
     };
-    complete = λ ys is_known b. inl (one_first count stream o.width after_head first.items ys (has is_known) (any_first ys is_known b));
+    complete = λ ys is_known b. inl (one_first count stream o.bit_depth after_head first.items ys (has is_known) (any_first ys is_known b));
     fault = tt;
-    named = λ f is_known bad. let b = fault_after f is_known bad in absurd (not_both count stream o.width after_head first.items b.0 b.1 f (has is_known) b.2 b.4 b.5);
+    named = λ f is_known bad. let b = fault_after f is_known bad in absurd (not_both count stream o.bit_depth after_head first.items b.0 b.1 f (has is_known) b.2 b.4 b.5);
   }
     where
       has : RemainingIsKnown s → HasFirstSamples count stream after_head first.items
@@ -179,24 +179,24 @@ module _ {R A : Type 0} (count : ℕ) (remaining : R → Option (List ℕ)) (rea
   failed : (e : Error) (xs : List ℤ) (new : FlacSamples (MutBor (BufferedReader R A)) A) → GaveAll source old xs (Some e) new → length xs < count → FirstSamplesPromises {A = A} count remaining reader (Err e)
   failed e xs new h less = record {
     sound = tt;
-    complete = λ ys is_known b. inr (elim h.ends.last.promises.fault [
+    complete = λ ys is_known b. inr (elim h.ends.last.promises.fault_is_sound [
       | inl m ↦ inl (ap (λ (z : Error). Err z) m)
       | inr (inl i) ↦ inr i
       | inr (inr bad) ↦ (
           let f = stands is_known bad in
-          absurd (not_both count stream o.width after_head ys h.blocks h.ends.between.remaining f.0 (any_first ys is_known b) (frames is_known) fewer f.2)
+          absurd (not_both count stream o.bit_depth after_head ys h.blocks h.ends.between.remaining f.0 (any_first ys is_known b) (frames is_known) fewer f.2)
           )
     ]);
-    fault = elim h.ends.last.promises.fault [
+    fault = elim h.ends.last.promises.fault_is_sound [
       | inl m ↦ inl m
       | inr (inl i) ↦ inr (inl i)
       | inr (inr bad) ↦ inr (inr (λ is_known. let f = stands is_known bad in (f.0, f.1, inr (first_fault is_known f.0 f.2))))
     ];
     named = λ f is_known bad.
         let b = fault_after f is_known bad in
-        elim (all_frames_read stream o.width (Some e) h.blocks b.0 b.1 h.ends (after_known remaining reader flac o is_known) b.2 b.3) [
+        elim (all_frames_read stream o.bit_depth (Some e) h.blocks b.0 b.1 h.ends (after_known remaining reader flac o is_known) b.2 b.3) [
           | inr x ↦ inr (same_memory_or_io_error e (excused_memory_or_io_error (end_found (Some e)) (samples_bytes source old) (samples_bytes source new) x))
-          | inl p ↦ elim (h.ends.last.promises.named f b.5.0 b.5.1 b.5.2 (record { known = p.1.known; are = p.1.are ∙ b.5.3 })) [
+          | inl p ↦ elim (h.ends.last.promises.fault_is_complete f b.5.0 b.5.1 b.5.2 (record { known = p.1.known; are = p.1.are ∙ b.5.3 })) [
             | inl q ↦ inl q.0
             | inr x ↦ inr (same_memory_or_io_error e (excused_memory_or_io_error (end_found (Some e)) h.ends.between (samples_bytes source new) x))
           ]
@@ -220,7 +220,7 @@ module _ {R A : Type 0} (count : ℕ) (remaining : R → Option (List ℕ)) (rea
       first_fault : RemainingIsKnown s → (f : Fault) → BeginsWith (FrameBytesFault stream f) h.ends.between.remaining → (g : Head) × (blocks : List Block) × (rest : List ℕ) × IsStream true s.remaining g blocks rest × (length (samples_of blocks) < count) × BeginsWith (FrameBytesFault (Some (stream_of g.info)) f) rest
       first_fault is_known f b =
           let rest = h.ends.between.remaining in
-          let p = shown remaining reader flac o is_known (λ z l. Frames z l h.blocks rest × NoFrameLeft z rest × BeginsWith (FrameBytesFault z f) rest) (frames is_known, fault_no_frame stream o.width f rest b.0 b.1 b.2 b.3, b) in (
+          let p = shown remaining reader flac o is_known (λ z l. Frames z l h.blocks rest × NoFrameLeft z rest × BeginsWith (FrameBytesFault z f) rest) (frames is_known, fault_no_frame stream o.bit_depth f rest b.0 b.1 b.2 b.3, b) in (
             flac_head flac,
             h.blocks,
             rest,

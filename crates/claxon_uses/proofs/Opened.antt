@@ -8,7 +8,7 @@ use Rattle.claxon.specs.Error.{IsFault}
 use Rattle.claxon.specs.Errors.{Error}
 use Rattle.claxon.specs.Fault.{Fault}
 use Rattle.claxon.specs.FlacReader.{flac_head, flac_input, flac_streaminfo}
-use Rattle.claxon.specs.Frame.{IsWidth, StreamFormat, known_width}
+use Rattle.claxon.specs.Frame.{IsBitDepth, StreamFormat, known_bit_depth}
 use Rattle.claxon.specs.FrameReader.{stream_with}
 use Rattle.claxon.specs.Heads.{Head, HeadCode, HeadFault}
 use Rattle.claxon.specs.Opening.{OpenFaultIsComplete, OpenIsComplete, OpenIsSound, IsMemoryOrIoError, OpenAnswer, flac_bytes, unread}
@@ -41,7 +41,7 @@ pub record IsOpened {R A : Type 0} (remaining : R → Option (List ℕ)) (reader
   pub head : OpenIsSound remaining (with_samples true) reader (let r : OpenAnswer R A = Ok flac in r)
   pub complete : OpenIsComplete remaining (with_samples true) reader (let r : OpenAnswer R A = Ok flac in r)
   pub named : OpenFaultIsComplete remaining (with_samples true) reader (let r : OpenAnswer R A = Ok flac in r)
-  pub width : IsWidth (known_width stream)
+  pub bit_depth : IsBitDepth (known_bit_depth stream)
   pub stream_is : stream ≡ Some (stream_of (flac_head flac).info)
   pub remaining_is : after.remaining ≡ (flac_bytes remaining flac).remaining
   pub known_is : RemainingIsKnown (flac_bytes remaining flac) → RemainingIsKnown after
@@ -54,7 +54,7 @@ module _ {R A : Type 0} (remaining : R → Option (List ℕ)) (reader : R) (flac
     head = head;
     complete = complete;
     named = named;
-    width = subst (λ (z : Option StreamFormat). IsWidth (known_width z)) (sym stream_is) (flac.head.bounds.some_bits, flac.head.bounds.bits);
+    bit_depth = subst (λ (z : Option StreamFormat). IsBitDepth (known_bit_depth z)) (sym stream_is) (flac.head.bounds.some_bits, flac.head.bounds.bits);
     stream_is = stream_is;
     remaining_is = (after_loan remaining flac input input_is).0;
     known_is = (after_loan remaining flac input input_is).1;

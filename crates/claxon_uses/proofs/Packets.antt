@@ -58,7 +58,7 @@ module _ (stream : Option StreamFormat) (packet : List ℕ) where
   module _ (block : BlockValue) (slice : List ℕ) (at : ℕ) (a b : State ℕ) (start : Remains a packet) (left : Remains b (drop at slice)) (reads : ReadsFrame stream (Ok (Some block)) a b) (m : SliceFramePromises stream packet (Ok (Some block))) where
     -- what was consumed, and what is left
     taken : (t : List ℕ) × Frame stream (block_view block) t × (packet ≡ t ++ drop at slice)
-    taken = let k = (reads.promises.sound start.known).1 in (k.0, k.1, sym start.are ∙ k.2 ∙ ap (λ (z : List ℕ). k.0 ++ z) left.are)
+    taken = let k = (reads.promises.is_sound start.known).1 in (k.0, k.1, sym start.are ∙ k.2 ∙ ap (λ (z : List ℕ). k.0 ++ z) left.are)
 
     -- nothing follows the frame
     pub packet_whole : length slice ≤ at → PacketPromises stream packet (Ok block)
@@ -84,7 +84,7 @@ module _ (stream : Option StreamFormat) (packet : List ℕ) where
         let some : 0 < length (drop at slice) = omega (arith, length-drop at slice) in
         record {
           sound = tt;
-          complete = λ other c. absurd (elim (reads.promises.complete other packet [] c (record { known = start.known; are = start.are ∙ sym (append-nil packet) })) [
+          complete = λ other c. absurd (elim (reads.promises.is_complete other packet [] c (record { known = start.known; are = start.are ∙ sym (append-nil packet) })) [
             | inl p ↦ (let none : drop at slice ≡ [] = sym left.are ∙ p.1.are in omega (arith, ap length none))
             | inr (inl s) ↦ not_out_of_memory (Some block) s
             | inr (inr f) ↦ f.0

@@ -2,7 +2,7 @@
 use Rattle.std.proofs.Common.{◌≡◌, ◌⊎◌, inl, inr, ℕ, ℤ, ◌<◌, true, List, [], ◌∷◌, ◌++◌, length, Option, None, Some, refl, sym, ap, subst, ◌∙◌, Bor}
 use Rattle.std.specs.Prelude.{IfErr, IfOk, IsErrAnd, Result, Ok, Err}
 use Rattle.claxon.specs.Fault.{Fault}
-use Rattle.claxon.specs.Frame.{Block, Frame, FrameBytesFault, Frames, NoFrameLeft, IsWidth, StreamFormat}
+use Rattle.claxon.specs.Frame.{Block, Frame, FrameBytesFault, Frames, NoFrameLeft, IsBitDepth, StreamFormat}
 use Rattle.claxon.specs.Heads.{Head, HeadCode, HeadFault, Marker, stream_marker}
 use Rattle.claxon.specs.Streams.{IsStream, stream_of, with_samples}
 use Rattle.claxon.specs.Cursor.{cursor_source}
@@ -75,7 +75,7 @@ module _ {X Z : Type 0} (view : X → List ℤ) (show : Z → Head) (bytes : Lis
       ]
 
   -- a head was read
-  module _ (z : Z) (stream : StreamFormat) (is : stream ≡ stream_of (show z).info) (width : IsWidth (Some stream.width)) (consumed : Consumed (slice_state a) (slice_state b) (HeadCode (with_samples true) (show z)))
+  module _ (z : Z) (stream : StreamFormat) (is : stream ≡ stream_of (show z).info) (bit_depth : IsBitDepth (Some stream.bit_depth)) (consumed : Consumed (slice_state a) (slice_state b) (HeadCode (with_samples true) (show z)))
       (complete : CodeIsComplete show (let q : Result Z Error = Ok z in q) (HeadCode (with_samples true)) (slice_state a) (slice_state b)) (named : FaultIsComplete (let q : Result Z Error = Ok z in q) (HeadFault (with_samples true)) (slice_state a) (slice_state b)) where
     is_known : RemainingIsKnown (slice_state b)
     is_known = (consumed remains.known).0
@@ -133,14 +133,14 @@ module _ {X Z : Type 0} (view : X → List ℤ) (show : Z → Head) (bytes : Lis
     -- what follows the frames that were read
     module _ (end : Option Error) (xs : List ℤ) (h : Collects (cursor_source (λ (s : Bor (List ℕ)). s.now)) (Some stream) b end xs) where
       past : (g : Head) (blocks : List Block) (rest : List ℕ) → IsStream true bytes g blocks rest → ((blocks ≡ h.blocks) × Remains h.ends.between rest) ⊎ IsOutOfMemory (end_found end)
-      past g blocks rest st = let s = same_head g blocks rest st in elim (all_frames_read (Some stream) width end h.blocks blocks rest h.ends is_known s.1.0 s.1.1) [ inl p ↦ inl p | inr x ↦ inr (just_out_of_memory (end_found end) b h.after x) ]
+      past g blocks rest st = let s = same_head g blocks rest st in elim (all_frames_read (Some stream) bit_depth end h.blocks blocks rest h.ends is_known s.1.0 s.1.1) [ inl p ↦ inl p | inr x ↦ inr (just_out_of_memory (end_found end) b h.after x) ]
 
       fault_named_after : (f : Fault) (g : Head) (blocks : List Block) (rest : List ℕ) → IsStream true bytes g blocks rest → BeginsWith (FrameBytesFault (Some (stream_of g.info)) f) rest → IsErrAnd (end_found end) (IsFault f) ⊎ IsOutOfMemory (end_found end)
       fault_named_after f g blocks rest st begins = elim (past g blocks rest st) [
         | inr y ↦ inr y
         | inl p ↦ (
             let k = same_fault g f rest (same_head g blocks rest st).0 begins in
-            elim (h.ends.last.promises.named f k.0 k.1 k.2 (record { known = p.1.known; are = p.1.are ∙ k.3 })) [ inl q ↦ inl q.0 | inr x ↦ inr (out_of_memory_after_frames (end_found end) b h.after h.ends.between h.ends.blocks_are.consumed x) ]
+            elim (h.ends.last.promises.fault_is_complete f k.0 k.1 k.2 (record { known = p.1.known; are = p.1.are ∙ k.3 })) [ inl q ↦ inl q.0 | inr x ↦ inr (out_of_memory_after_frames (end_found end) b h.after h.ends.between h.ends.blocks_are.consumed x) ]
             )
       ]
 
@@ -168,13 +168,13 @@ module _ {X Z : Type 0} (view : X → List ℤ) (show : Z → Head) (bytes : Lis
             | inr y ↦ inr (same_out_of_memory e y)
             | inl p ↦ elim (h.ends.last.promises.eof_is_none rest p.1 few) [ inl q ↦ absurd (let k = q.0 in cc) | inr x ↦ inr (same_out_of_memory e (out_of_memory_after_frames (end_found (Some e)) b h.after h.ends.between h.ends.blocks_are.consumed x)) ]
           ];
-          fault = elim h.ends.last.promises.fault [
+          fault = elim h.ends.last.promises.fault_is_sound [
             | inl m ↦ inl m
             | inr (inl i) ↦ inr (inl i)
             | inr (inr bad) ↦ inr (inr (
                 let f = bad w.known in
                 let begins = begins_with_consumed h.ends.between (slice_state h.after) h.ends.between.remaining here f.2 in
-                let st = stands h.blocks h.ends.between.remaining w.is (fault_no_frame (Some stream) width f.0 h.ends.between.remaining begins.0 begins.1 begins.2 begins.3) in
+                let st = stands h.blocks h.ends.between.remaining w.is (fault_no_frame (Some stream) bit_depth f.0 h.ends.between.remaining begins.0 begins.1 begins.2 begins.3) in
                 (f.0, f.1, inr (show z, h.blocks, h.ends.between.remaining, st, subst (λ (q : StreamFormat). BeginsWith (FrameBytesFault (Some q) f.0) h.ends.between.remaining) is begins))
                 ))
           ];

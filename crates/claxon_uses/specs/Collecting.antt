@@ -9,19 +9,24 @@ use Rattle.claxon.specs.State.{bytes_in}
 use Rattle.claxon.specs.Errors.{Error}
 use Rattle.claxon.specs.Errors.TheVariants.{OutOfMemory}
 
--- These are the samples of blocks, after whose frames is the end, or what the error says. `after` is the reader then, which was dropped.
-pub record Collects {R : Type 0} (source : R → Source ℕ) (stream : Option StreamFormat) (before : R) (end : Option Error) (xs : List ℤ) : Type 0 where
+-- These are the samples of blocks, after whose frames is the end, or what the error says.
+-- `after` is the reader then, which was dropped.
+pub record Collects {R : Type 0} (source : R → Source ℕ) (stream : Option StreamFormat) (before : R)
+    (end : Option Error) (xs : List ℤ) : Type 0 where
   pub after : R
   pub blocks : List Block
-  pub ends : ReadsFrames stream blocks (end_found end) (bytes_in source before) (bytes_in source after)
+  pub ends :
+      ReadsFrames stream blocks (end_found end) (bytes_in source before) (bytes_in source after)
   pub samples : samples_of blocks ≡ xs
 
 -- There was no memory for the samples of frames that were read.
-pub record LacksMemory {R : Type 0} (source : R → Source ℕ) (stream : Option StreamFormat) (before : R) : Type 0 where
+pub record LacksMemory {R : Type 0} (source : R → Source ℕ) (stream : Option StreamFormat)
+    (before : R) : Type 0 where
   pub after : R
   pub first : Block
   pub others : List Block
-  pub frames : ConsumesFrames stream (first ∷ others) (bytes_in source before) (bytes_in source after)
+  pub frames :
+      ConsumesFrames stream (first ∷ others) (bytes_in source before) (bytes_in source after)
 
 -- the error is what ended the frames, or `OutOfMemory` for their samples
 abbrev pub StopsCollecting : {R : Type 0} → (R → Source ℕ) → Option StreamFormat → R → Error

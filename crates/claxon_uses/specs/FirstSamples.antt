@@ -1,5 +1,25 @@
 -- The first samples of a stream that a reader gives.
-use Rattle.std.specs.Prelude.{◌≡◌, ◌⊎◌, ◌<◌, ◌≤◌, ℕ, ℤ, true, List, ◌++◌, length, take, Option, None, Some, IfOk, IsOkAnd, IsErrAnd, Result, Vec}
+use Rattle.std.specs.Prelude.{
+  ◌≡◌,
+  ◌⊎◌,
+  ◌<◌,
+  ◌≤◌,
+  ℕ,
+  ℤ,
+  true,
+  List,
+  ◌++◌,
+  length,
+  take,
+  Option,
+  None,
+  Some,
+  IfOk,
+  IsOkAnd,
+  IsErrAnd,
+  Result,
+  Vec,
+}
 use Rattle.claxon.specs.Error.{IsFault}
 use Rattle.claxon.specs.Fault.{Fault}
 use Rattle.claxon.specs.Frame.{Block, FrameBytesFault, Frames, StreamFormat}
@@ -14,8 +34,10 @@ use Rattle.claxon.specs.declared.samples.FlacSamples.{FlacSamples}
 use Rattle.claxon.specs.OtherErrors.{IfOtherErr}
 use Rattle.claxon.specs.Prefix.{BeginsWith}
 
--- s begins with the frames of blocks, and these are their first samples, `count` of them; or all, and then fewer than two bytes follow.
-pub record HasFirstSamples (count : ℕ) (stream : Option StreamFormat) (s : List ℕ) (xs : List ℤ) : Type 0 where
+-- s begins with the frames of blocks, and these are their first samples, `count` of them; or
+-- all, and then fewer than two bytes follow.
+pub record HasFirstSamples (count : ℕ) (stream : Option StreamFormat) (s : List ℕ) (xs : List ℤ) :
+    Type 0 where
   pub blocks : List Block
   pub rest : List ℕ
   pub frames : Frames stream s blocks rest
@@ -31,7 +53,8 @@ pub record BeginsWithSamples (count : ℕ) (s : List ℕ) (xs : List ℤ) : Type
   pub joined : s ≡ front ++ frames
   pub first_samples_are : HasFirstSamples count (Some (stream_of head.info)) frames xs
 
--- s begins with a fault of a head, or with a head, all frames that follow, which have fewer samples, and then a fault of a frame.
+-- s begins with a fault of a head, or with a head, all frames that follow, which have fewer
+-- samples, and then a fault of a frame.
 abbrev pub HasFirstFault : ℕ → List ℕ → Fault → Type 0
 HasFirstFault count s f =
     BeginsWith (HeadFault (with_samples true) f) s
@@ -39,19 +62,22 @@ HasFirstFault count s f =
     × (length (samples_of blocks) < count)
     × BeginsWith (FrameBytesFault (Some (stream_of h.info)) f) rest)
 
-module _ {R A : Type 0} (count : ℕ) (remaining : R → Option (List ℕ)) (reader : R) (result : Result (Vec ℤ A) Error) where
+module _ {R A : Type 0} (count : ℕ) (remaining : R → Option (List ℕ)) (reader : R)
+    (result : Result (Vec ℤ A) Error) where
   -- What is returned are the first samples of the remaining stream.
   abbrev pub FirstSamplesAreSound : Type 0
   FirstSamplesAreSound =
       IfOk result (λ first. IfKnown remaining reader (λ s. BeginsWithSamples count s first.items))
 
-  -- Where the remaining bytes have first samples these are returned, or the answer is `OutOfMemory` or an `IoError`.
+  -- Where the remaining bytes have first samples these are returned, or the answer is
+  -- `OutOfMemory` or an `IoError`.
   abbrev pub FirstSamplesAreComplete : Type 0
   FirstSamplesAreComplete =
       (xs : List ℤ) → IfKnown remaining reader (λ s. BeginsWithSamples count s xs
       → IsOkAnd result (λ first. first.items ≡ xs) ⊎ IsMemoryOrIoError result)
 
-  -- An Err is `OutOfMemory`, an `IoError`, or the name of the first fault, before which there are too few samples.
+  -- An Err is `OutOfMemory`, an `IoError`, or the name of the first fault, before which there
+  -- are too few samples.
   abbrev pub FirstFaultIsSound : Type 0
   FirstFaultIsSound =
       IfOtherErr result (λ e. IfKnown remaining reader (λ s.

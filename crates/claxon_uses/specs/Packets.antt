@@ -1,5 +1,20 @@
 -- What a call returns for a packet that has to be exactly one frame.
-use Rattle.std.specs.Prelude.{◌≡◌, ◌⊎◌, ◌<◌, ℕ, List, ◌∷◌, ◌++◌, length, codes, Option, IfOk, IsOkAnd, IsErrAnd, Result}
+use Rattle.std.specs.Prelude.{
+  ◌≡◌,
+  ◌⊎◌,
+  ◌<◌,
+  ℕ,
+  List,
+  ◌∷◌,
+  ◌++◌,
+  length,
+  codes,
+  Option,
+  IfOk,
+  IsOkAnd,
+  IsErrAnd,
+  Result,
+}
 use Rattle.claxon.specs.Block.{BlockValue}
 use Rattle.claxon.specs.Fault.{Fault}
 use Rattle.claxon.specs.Frame.{StreamFormat, Block, Frame, FrameBytesFault}
@@ -17,7 +32,9 @@ HasNoFrame packet e = (length packet < 2) × IsFormatError e (codes "packet with
 -- Bytes follow its frame, and the error says so.
 abbrev pub HasMoreThanFrame : Option StreamFormat → List ℕ → Error → Type 0
 HasMoreThanFrame stream packet e =
-    ((block : Block) × (t : List ℕ) × (byte : ℕ) × (rest : List ℕ) × Frame stream block t × (packet ≡ t ++ byte ∷ rest)) × IsFormatError e (codes "packet of more than a frame")
+    ((block : Block) × (t : List ℕ) × (byte : ℕ) × (rest : List ℕ) × Frame stream block t
+    × (packet ≡ t ++ byte ∷ rest))
+    × IsFormatError e (codes "packet of more than a frame")
 
 module _ (stream : Option StreamFormat) (packet : List ℕ) (result : Result BlockValue Error) where
   -- The whole packet is a frame of the block that is returned.
@@ -30,7 +47,8 @@ module _ (stream : Option StreamFormat) (packet : List ℕ) (result : Result Blo
       (block : Block) → Frame stream block packet
       → IsOkAnd result (λ x. block_view x ≡ block) ⊎ IsOutOfMemory result
 
-  -- An Err is `OutOfMemory`, an `IoError`, the name of a fault that the packet begins with, or says that it has no frame or more than one.
+  -- An Err is `OutOfMemory`, an `IoError`, the name of a fault that the packet begins with, or
+  -- says that it has no frame or more than one.
   abbrev pub PacketFaultIsSound : Type 0
   PacketFaultIsSound =
       IfOtherErr result (λ e.

@@ -1,5 +1,21 @@
--- What a call returns for a whole stream in memory: a head, frames, and a rest that begins with no frame.
-use Rattle.std.specs.Prelude.{◌≡◌, ◌⊎◌, ◌<◌, ℕ, ℤ, true, List, ◌++◌, length, Some, IfOk, IsOkAnd, IsErrAnd, Result}
+-- What a call returns for a whole stream in memory: a head, frames, and a rest that begins with
+-- no frame.
+use Rattle.std.specs.Prelude.{
+  ◌≡◌,
+  ◌⊎◌,
+  ◌<◌,
+  ℕ,
+  ℤ,
+  true,
+  List,
+  ◌++◌,
+  length,
+  Some,
+  IfOk,
+  IsOkAnd,
+  IsErrAnd,
+  Result,
+}
 use Rattle.claxon.specs.Error.{IsFault}
 use Rattle.claxon.specs.Fault.{Fault}
 use Rattle.claxon.specs.Frame.{Block, Frame, FrameBytesFault}
@@ -13,7 +29,8 @@ use Rattle.claxon.specs.Errors.{Error}
 use Rattle.claxon.specs.OtherErrors.{IfOtherErr}
 use Rattle.claxon.specs.Prefix.{BeginsWith}
 
--- the bytes begin with a fault of a head, or with a head, all frames that follow, and then a fault of a frame
+-- the bytes begin with a fault of a head, or with a head, all frames that follow, and then a
+-- fault of a frame
 abbrev pub HasStreamFault : List ℕ → Fault → Type 0
 HasStreamFault bytes f =
     BeginsWith (HeadFault (with_samples true) f) bytes
@@ -23,7 +40,8 @@ HasStreamFault bytes f =
 -- the bytes begin with a head, and then the header of a frame
 abbrev pub HasSamples : List ℕ → Type 0
 HasSamples bytes =
-    (h : Head) × (front : List ℕ) × (frames : List ℕ) × HeadCode (with_samples true) h front × (bytes ≡ front ++ frames)
+    (h : Head) × (front : List ℕ) × (frames : List ℕ) × HeadCode (with_samples true) h front
+    × (bytes ≡ front ++ frames)
     × (BeginsWith (HeaderOfLargerBlock (Some (stream_of h.info)) 0) frames
     ⊎ ((block : Block) × BeginsWith (Frame (Some (stream_of h.info)) block) frames))
 

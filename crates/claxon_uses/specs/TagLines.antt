@@ -1,5 +1,22 @@
 -- Tags as text.
-use Rattle.std.specs.Prelude.{◌≡◌, ◌⊎◌, ℕ, true, List, ◌∷◌, ◌++◌, Option, String, Vec, map, string_bytes, IfOk, IsOkAnd, IsErrAnd, Result}
+use Rattle.std.specs.Prelude.{
+  ◌≡◌,
+  ◌⊎◌,
+  ℕ,
+  true,
+  List,
+  ◌∷◌,
+  ◌++◌,
+  Option,
+  String,
+  Vec,
+  map,
+  string_bytes,
+  IfOk,
+  IsOkAnd,
+  IsErrAnd,
+  Result,
+}
 use Rattle.claxon.specs.Error.{IsFault}
 use Rattle.claxon.specs.Errors.{Error}
 use Rattle.claxon.specs.Fault.{Fault}
@@ -27,14 +44,16 @@ AreTags flac lines = AreTagsOf (flac_head flac) lines
 abbrev pub metadata_alone : Options
 metadata_alone = record { metadata_only = true; wants_comment = true }
 
-module _ {R A : Type 0} (remaining : R → Option (List ℕ)) (reader : R) (result : Result (Vec (String A) A) Error) where
+module _ {R A : Type 0} (remaining : R → Option (List ℕ)) (reader : R)
+    (result : Result (Vec (String A) A) Error) where
   -- What is returned are the tags of a head that the bytes begin with.
   abbrev pub TagLinesAreSound : Type 0
   TagLinesAreSound =
       IfOk result (λ lines. IfKnown remaining reader (λ s.
       (h : Head) × BeginsWith (HeadCode metadata_alone h) s × AreTagsOf h lines))
 
-  -- The tags of a head that they begin with are returned, or the answer is `OutOfMemory` or an `IoError`.
+  -- The tags of a head that they begin with are returned, or the answer is `OutOfMemory` or an
+  -- `IoError`.
   abbrev pub TagLinesAreComplete : Type 0
   TagLinesAreComplete =
       (h : Head) → IfKnown remaining reader (λ s. BeginsWith (HeadCode metadata_alone h) s
@@ -46,7 +65,8 @@ module _ {R A : Type 0} (remaining : R → Option (List ℕ)) (reader : R) (resu
       IfOtherErr result (λ e. IfKnown remaining reader (λ s.
       (f : Fault) × IsFault f e × BeginsWith (HeadFault metadata_alone f) s))
 
-  -- A fault of a head that they begin with is named, or the answer is `OutOfMemory` or an `IoError`.
+  -- A fault of a head that they begin with is named, or the answer is `OutOfMemory` or an
+  -- `IoError`.
   abbrev pub TagFaultIsComplete : Type 0
   TagFaultIsComplete =
       (f : Fault) → IfKnown remaining reader (λ s. BeginsWith (HeadFault metadata_alone f) s

@@ -1,7 +1,14 @@
 //! The samples of a stream, one by one.
 ghost use Rattle.std.specs.Prelude.{◌≡◌, false, IfErr, IfOk};
 ghost use Rattle.claxon.specs.FlacSamples.{have_failed};
-ghost use Rattle.claxon_uses.specs.FirstSamples.{FirstFaultIsComplete, FirstFaultIsSound, FirstSamplesAreComplete, FirstSamplesAreSound, GivesFirstSamples, ErrBeforeCount};
+ghost use Rattle.claxon_uses.specs.FirstSamples.{
+  FirstFaultIsComplete,
+  FirstFaultIsSound,
+  FirstSamplesAreComplete,
+  FirstSamplesAreSound,
+  GivesFirstSamples,
+  ErrBeforeCount,
+};
 
 use claxon::input::ReadBytes;
 use claxon::{FlacReader, FlacSamples, Result};
@@ -16,10 +23,10 @@ pub fn first_samples<R: Read + Drop, A: Allocator + Copy>(
     reader: R,
     count: usize,
 ) -> Result<Vec<i32, A>>
-    ensures sound { FirstSamplesAreSound count R.remaining reader result }
-    ensures complete { FirstSamplesAreComplete count R.remaining reader result }
-    ensures fault { FirstFaultIsSound count R.remaining reader result }
-    ensures named { FirstFaultIsComplete count R.remaining reader result }
+    ensures are_sound { FirstSamplesAreSound count R.remaining reader result }
+    ensures are_complete { FirstSamplesAreComplete count R.remaining reader result }
+    ensures fault_is_sound { FirstFaultIsSound count R.remaining reader result }
+    ensures fault_is_complete { FirstFaultIsComplete count R.remaining reader result }
 {
     let mut flac = FlacReader::new(alloc, reader)?;
     first_of(alloc, flac.samples(), count)

@@ -1,8 +1,20 @@
 //! Whole streams in memory.
 ghost use Rattle.std.specs.Prelude.{◌≡◌, ◌≤◌, ◌+◌, IfOk, IfErr, IsTrue, Some, None, false, vec_len};
 ghost use Rattle.claxon.specs.FrameReader.{stream_with};
-ghost use Rattle.claxon_uses.specs.Collecting.{Collects, NoneIsAdded, SampleIsAdded, StopsAdding, StopsCollecting};
-ghost use Rattle.claxon_uses.specs.StreamsInMemory.{SliceStreamFaultIsComplete, SliceStreamIsComplete, SliceStreamOutOfMemoryAfterHeader, SliceStreamFaultIsSound, SliceStreamIsSound};
+ghost use Rattle.claxon_uses.specs.Collecting.{
+  Collects,
+  NoneIsAdded,
+  SampleIsAdded,
+  StopsAdding,
+  StopsCollecting,
+};
+ghost use Rattle.claxon_uses.specs.StreamsInMemory.{
+  SliceStreamFaultIsComplete,
+  SliceStreamIsComplete,
+  SliceStreamOutOfMemoryAfterHeader,
+  SliceStreamFaultIsSound,
+  SliceStreamIsSound,
+};
 
 use claxon::input::ReadBytes;
 use claxon::metadata::StreamInfo;
@@ -15,11 +27,11 @@ use std::io::Cursor;
 /// One byte more than the stream is ignored. An error names the first fault, of the head or of a frame; it is an
 /// `IoError` where the bytes end within one.
 pub fn decode_all<A: Allocator + Copy>(alloc: A, bytes: &[u8]) -> Result<Vec<i32, A>>
-    ensures sound { SliceStreamIsSound (λ all. all.items) bytes.now result }
-    ensures complete { SliceStreamIsComplete (λ all. all.items) bytes.now result }
-    ensures fault { SliceStreamFaultIsSound bytes.now result }
-    ensures named { SliceStreamFaultIsComplete bytes.now result }
-    ensures memory { SliceStreamOutOfMemoryAfterHeader bytes.now result }
+    ensures is_sound { SliceStreamIsSound (λ all. all.items) bytes.now result }
+    ensures is_complete { SliceStreamIsComplete (λ all. all.items) bytes.now result }
+    ensures fault_is_sound { SliceStreamFaultIsSound bytes.now result }
+    ensures fault_is_complete { SliceStreamFaultIsComplete bytes.now result }
+    ensures out_of_memory_after_header { SliceStreamOutOfMemoryAfterHeader bytes.now result }
 {
     let options = FlacReaderOptions {
         metadata_only: false,
@@ -36,8 +48,8 @@ fn collect_samples<R: ReadBytes + Drop, A: Allocator + Copy>(
     input: R,
     info: StreamInfo,
 ) -> Result<Vec<i32, A>>
-    requires some { 1 ≤ info.bits_per_sample }
-    requires most { info.bits_per_sample ≤ 32 }
+    requires min_bit_depth { 1 ≤ info.bits_per_sample }
+    requires max_bit_depth { info.bits_per_sample ≤ 32 }
     ensures ok { IfOk result (λ all.
         Collects R.source (Some (stream_with info)) input None all.items) }
     ensures err { IfErr result (λ error.

@@ -1,6 +1,12 @@
 //! Tags as text.
 ghost use Rattle.std.specs.Prelude.{◌≡◌, true, IfErr, IfOk};
-ghost use Rattle.claxon_uses.specs.TagLines.{AreTags, TagFaultIsComplete, TagFaultIsSound, TagLinesAreComplete, TagLinesAreSound};
+ghost use Rattle.claxon_uses.specs.TagLines.{
+  AreTags,
+  TagFaultIsComplete,
+  TagFaultIsSound,
+  TagLinesAreComplete,
+  TagLinesAreSound,
+};
 
 use claxon::{Error, FlacReader, FlacReaderOptions, Result};
 use std::alloc::Allocator;
@@ -21,10 +27,10 @@ pub fn stream_tags<R: Read + Drop, A: Allocator + Copy>(
     alloc: A,
     reader: R,
 ) -> Result<Vec<String<A>, A>>
-    ensures sound { TagLinesAreSound R.remaining reader result }
-    ensures complete { TagLinesAreComplete R.remaining reader result }
-    ensures fault { TagFaultIsSound R.remaining reader result }
-    ensures named { TagFaultIsComplete R.remaining reader result }
+    ensures are_sound { TagLinesAreSound R.remaining reader result }
+    ensures are_complete { TagLinesAreComplete R.remaining reader result }
+    ensures fault_is_sound { TagFaultIsSound R.remaining reader result }
+    ensures fault_is_complete { TagFaultIsComplete R.remaining reader result }
 {
     let flac = FlacReader::new_ext(alloc, reader, head_options())?;
     tag_lines(alloc, &flac)

@@ -9,7 +9,7 @@ use Rattle.claxon.specs.read.Frame.{frame_bytes_at}
 use Rattle.claxon.specs.read.Reading.{Reading}
 use Rattle.claxon.specs.Errors.{Error}
 use Rattle.claxon.specs.Errors.TheVariants.{IoError, FormatError, Unsupported, OutOfMemory}
-use Rattle.claxon.specs.Gives.{FailedOr, Stops, FailureOr, Consumes, ReachedEof, GivesOrEofOrOutOfMemory}
+use Rattle.claxon.specs.Gives.{ReadFailedOr, Stops, ReadFailedOrRemaining, Consumes, ReachedEof, GivesOrEofOrOutOfMemory}
 use Rattle.claxon.specs.Error.{IsIo, is_io}
 use Rattle.claxon.specs.State.{State, bytes_in}
 use Rattle.claxon.specs.Promises.{IsOutOfMemory, Remains, NoneIsEof}
@@ -20,7 +20,7 @@ use Rattle.claxon.specs.SampleRuns.{ConsumesFrames, ReadsFrames, samples_of}
 use Rattle.claxon_write.specs.Decoded.{EndsAfter, Gathers, Decodes, DecodesToEof, FailsToDecode, FailsToWrite, StopsAtLargerBlock, StopsDecoding, ConsumesFramesOrEnd, last_bytes}
 use Rattle.claxon_write.specs.SampleBytes.{bytes_of_samples}
 use Rattle.claxon_write.specs.Capacity.{capacity}
-use Rattle.claxon_write.specs.Written.{AppendsAllBut, FailsToPut, FlushFailed, IsFlushed, IsUnflushed, KeepsContents, NonePending, NothingFailed, Puts, writer_contents, contents_with_pending, pending}
+use Rattle.claxon_write.specs.Written.{AppendsAllBut, FailsToPut, OneFlushFailed, IsFlushed, IsUnflushed, KeepsContents, NonePending, NothingFailed, Puts, writer_contents, contents_with_pending, pending}
 use Rattle.claxon_write.specs.declared.output.Output.{Output}
 use Rattle.claxon_write.specs.declared.stream.End.{End}
 use Rattle.claxon_write.proofs.Counts.{flush_failed_after, flushed_after, none_failed_both}
@@ -39,11 +39,11 @@ module _ {X : Type 0} {a b : State X} where
   unfolding unborrowed
   consumes_unborrowed h = record { errors = h.errors; empty_reads = h.empty_reads; loans = ap rest_of h.loans; known = λ t. let x = h.known t in record { known = x.known; is = x.is; rest = x.rest; crcs = x.crcs } }
 
-  failed_or_unborrowed : {P : Type 0} → FailedOr a b P → FailedOr (unborrowed a) (unborrowed b) P
+  failed_or_unborrowed : {P : Type 0} → ReadFailedOr a b P → ReadFailedOr (unborrowed a) (unborrowed b) P
   unfolding unborrowed
   failed_or_unborrowed h = record { known = h.known; why = h.why; rest = h.rest }
 
-  failure_or_unborrowed : {P : List X → Type 0} → FailureOr a b P → FailureOr (unborrowed a) (unborrowed b) P
+  failure_or_unborrowed : {P : List X → Type 0} → ReadFailedOrRemaining a b P → ReadFailedOrRemaining (unborrowed a) (unborrowed b) P
   unfolding unborrowed
   failure_or_unborrowed h = record { loans = ap rest_of h.loans; known = λ t. failed_or_unborrowed (h.known t) }
 
@@ -80,15 +80,15 @@ reads_unborrowed : {stream : Option StreamFormat} {r : Result (Option BlockValue
 unfolding unborrowed
 reads_unborrowed {stream = stream} {r = r} {a = a} {b = b} h = let p = h.promises in record {
   promises = record {
-    sound = p.sound;
-    complete = λ y t rest c o. elim (p.complete y t rest c (remains_borrowed o)) [ inl q ↦ inl (q.0, remains_unborrowed q.1) | inr q ↦ inr q ];
+    is_sound = p.is_sound;
+    is_complete = λ y t rest c o. elim (p.is_complete y t rest c (remains_borrowed o)) [ inl q ↦ inl (q.0, remains_unborrowed q.1) | inr q ↦ inr q ];
     none_is_eof = at_eof_unborrowed a b r p.none_is_eof;
     eof_is_none = λ xs o few. elim (p.eof_is_none xs (remains_borrowed o) few) [ inl q ↦ inl (q.0, remains_unborrowed q.1) | inr q ↦ inr q ];
-    no_failure = p.no_failure;
-    fault = p.fault;
-    named = λ f t rest c o. elim (p.named f t rest c (remains_borrowed o)) [ inl q ↦ inl (q.0, remains_unborrowed q.1) | inr q ↦ inr q ];
-    io = p.io;
-    front = p.front;
+    failure_is_err = p.failure_is_err;
+    fault_is_sound = p.fault_is_sound;
+    fault_is_complete = λ f t rest c o. elim (p.fault_is_complete f t rest c (remains_borrowed o)) [ inl q ↦ inl (q.0, remains_unborrowed q.1) | inr q ↦ inr q ];
+    else_io_error = p.else_io_error;
+    leaves_rest = p.leaves_rest;
   };
   memory = h.memory;
   gives = gives_unborrowed 2 block_view r (frame_bytes_at stream) a b h.gives;
@@ -188,7 +188,7 @@ pub flush_not_refused : (r : Result (Unit {0}) Error) (n : ℕ) → IfErr r (λ 
 flush_not_refused (Ok done) n i out = cc
 flush_not_refused (Err e) n i out = io_not_refused e i out
 
-either_failed : {W : Type 0} (x z w : Output W) (r : Result (Unit {0}) Error) → NothingFailed x z → OnOk r (NothingFailed z w) → OnErr r (FlushFailed z w) → NothingFailed x w ⊎ FlushFailed x w
+either_failed : {W : Type 0} (x z w : Output W) (r : Result (Unit {0}) Error) → NothingFailed x z → OnOk r (NothingFailed z w) → OnErr r (OneFlushFailed z w) → NothingFailed x w ⊎ OneFlushFailed x w
 either_failed x z w (Ok u) h k l = inl (none_failed_both h k)
 either_failed x z w (Err e) h k l = inr (flush_failed_after h l)
 
@@ -216,14 +216,14 @@ module _ {W : Type 0} {contents : W → Option (List ℕ)} where
         (subst (λ (f : Option Error). Decodes contents (Some (stream_with info)) f n (bytes_in source u) (bytes_in source q) x w) e (flushed h k l)))
 
     pub stops_flushed : {end : Option Error} {error : Error} {n : ℕ} (q : R) (r : Result (Unit {0}) Error) {x z w : Output W} → end ≡ Some error → Decodes contents (Some (stream_with info)) end n (bytes_in source u) (bytes_in source q) x z → NothingFailed x z → IsUnflushed x z
-        → KeepsContents contents z w → pending w ≡ pending z → OnOk r (NothingFailed z w) → OnErr r (FlushFailed z w) → IsFlushed z w
+        → KeepsContents contents z w → pending w ≡ pending z → OnOk r (NothingFailed z w) → OnErr r (OneFlushFailed z w) → IsFlushed z w
         → StopsDecoding contents (Some (stream_with shown)) error (bytes_in source v) (bytes_in source q) x w
     stops_flushed {n = n} q r {x = x} {z = z} {w = w} e h none unflushed k l succeeded failed flushed =
         record { count = n; decoded = decodes_flushed q e h k l; flushed = flushed_after unflushed flushed; failed = either_failed x z w r none succeeded failed }
 
     -- the stream ended, and all samples were written and flushed, or the flush failed
     pub all_flushed : {end : Option Error} (n : ℕ) (q : R) (r : Result (Unit {0}) Error) {x z : Output W} (w : Output W) → end ≡ None → Decodes contents (Some (stream_with info)) end n (bytes_in source u) (bytes_in source q) x z → NothingFailed x z → IsUnflushed x z
-        → KeepsContents contents z w → pending w ≡ pending z → OnOk r (NothingFailed z w) → OnErr r (FlushFailed z w) → IsFlushed z w → IfErr r (λ e. IsIo e)
+        → KeepsContents contents z w → pending w ≡ pending z → OnOk r (NothingFailed z w) → OnErr r (OneFlushFailed z w) → IsFlushed z w → IfErr r (λ e. IsIo e)
         → IfOk (result_and r (Ok n)) (λ n. DecodesToEof contents (Some (stream_with shown)) n (bytes_in source v) (bytes_in source q) x w)
         × IfErr (result_and r (Ok n)) (λ error. FailsToDecode contents (Some (stream_with shown)) error (bytes_in source v) (bytes_in source q) x w)
     all_flushed n q (Ok done) w e h none unflushed k l succeeded failed flushed io = ((decodes_flushed q e h k l, none_failed_both none succeeded, flushed_after unflushed flushed), tt)

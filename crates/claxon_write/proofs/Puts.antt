@@ -13,7 +13,7 @@ use Rattle.claxon.proofs.Interleaving.{range_all}
 use Rattle.claxon_write.specs.Output.{FlushFaultIsSound, FlushIsSound}
 use Rattle.claxon_write.specs.Capacity.{capacity}
 use Rattle.claxon_write.specs.CountingWriter.{failed_flushes_of, failed_seeks_of, failed_writes_of, inner_contents}
-use Rattle.claxon_write.specs.Written.{AppendsAllBut, AppendsPrefix, FailsToPut, FlushFailed, IsFlushed, IsUnflushed, KeepsContents, NonePending, NothingFailed, Puts, WriteFailed, writer_contents, contents_with_pending, pending}
+use Rattle.claxon_write.specs.Written.{AppendsAllBut, AppendsPrefix, FailsToPut, OneFlushFailed, IsFlushed, IsUnflushed, KeepsContents, NonePending, NothingFailed, Puts, OneWriteFailed, writer_contents, contents_with_pending, pending}
 use Rattle.claxon_write.proofs.Counts.{none_failed, none_failed_both, write_failed_after, flush_failed_after, flushed_after}
 use Rattle.claxon_write.specs.declared.counting_writer.CountingWriter.{CountingWriter}
 use Rattle.claxon_write.specs.declared.output.Output.{Output}
@@ -181,7 +181,7 @@ module _ {W : Type 0} (contents : W → Option (List ℕ)) where
       }
 
   pub gathered_err : (r : Result (Unit {0}) Error) (a b : Output W) (bytes : List ℕ) → bytes ≡ pending a → NonePending b → IfErr r (λ e. IsIo e) → OnErr r (AppendsPrefix (writer_contents contents a) (writer_contents contents b) bytes)
-      → OnErr r (WriteFailed a b) → length bytes ≤ capacity → IfErr r (λ e. FailsToPut contents [] e a b)
+      → OnErr r (OneWriteFailed a b) → length bytes ≤ capacity → IfErr r (λ e. FailsToPut contents [] e a b)
   gathered_err (Ok x) a b bytes same none i h k few = tt
   gathered_err (Err e) a b bytes same none i h k few = record {
     is_io = i;
@@ -206,10 +206,10 @@ module _ {W : Type 0} (contents : W → Option (List ℕ)) where
           flushed_after u f,
         )
 
-    pub flushed_err : NonePending b → NonePending c → IfErr r (λ e. IsIo e) → OnErr r (FlushFailed b c) → FlushFaultIsSound contents r a c
+    pub flushed_err : NonePending b → NonePending c → IfErr r (λ e. IsIo e) → OnErr r (OneFlushFailed b c) → FlushFaultIsSound contents r a c
     flushed_err none w i t = go r i t
       where
-        go : (r : Result (Unit {0}) Error) → IfErr r (λ e. IsIo e) → OnErr r (FlushFailed b c) → FlushFaultIsSound contents r a c
+        go : (r : Result (Unit {0}) Error) → IfErr r (λ e. IsIo e) → OnErr r (OneFlushFailed b c) → FlushFaultIsSound contents r a c
         go (Ok x) i t = tt
         go (Err e) i t = inr (record {
           is_io = i;

@@ -32,7 +32,7 @@ consumes_leaves {a = a} h known = let k = h.known known in (k.known, k.rest (sou
 frame_leaves : (stream : Option StreamFormat) (r : Result (Option BlockValue) Error) (a b : State ℕ) → ReadsFrame stream r a b → KeepsRest a b
 frame_leaves stream (Ok (Some x)) a b h = consumes_leaves h.gives
 frame_leaves stream (Ok None) a b h = λ known. let k = h.gives.known known in (k.known, k.rest (source_bytes a) (rest_self (source_bytes a)))
-frame_leaves stream (Err e) a b h = h.promises.front
+frame_leaves stream (Err e) a b h = h.promises.leaves_rest
 
 runs_leave : {stream : Option StreamFormat} {blocks : List Block} (r : Result (Option BlockValue) Error) {a b : State ℕ} → ReadsFrames stream blocks r a b → KeepsRest a b
 runs_leave {stream = stream} r {a = a} {b = b} h = leaves_both a h.between b (consumes_leaves h.blocks_are.consumed) (frame_leaves stream r h.between b h.last)

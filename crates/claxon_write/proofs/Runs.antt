@@ -90,7 +90,7 @@ module _ {W : Type 0} (contents : W → Option (List ℕ)) (h : Head) (s a b : S
       where
         go : EndsAfter (Some (stream_of h.info)) d.blocks (Some e) a b → (e ≡ OutOfMemory) ⊎ (IsIo e ⊎ DecoderStops e s o (writer_contents contents y))
         go (inr limit) = inr (inr (at_limit limit))
-        go (inl reads) = elim reads.last.promises.fault [
+        go (inl reads) = elim reads.last.promises.fault_is_sound [
           | inl m ↦ inl m
           | inr (inl i) ↦ inr (inl i)
           | inr (inr bad) ↦ inr (inr (at_fault reads.between reads.blocks_are.consumed bad))

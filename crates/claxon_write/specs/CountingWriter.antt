@@ -1,6 +1,23 @@
 -- A `CountingWriter`: its writer and its counts, and the clauses of its methods.
 use Rattle.std.specs.Borrow.{GName, MutBor}
-use Rattle.std.specs.Prelude.{◌≡◌, ℕ, ◌+◌, ◌%◌, ◌^◌, ◌<◌, ◌≤◌, Bool, true, false, List, length, take, Option, Result, IfOk}
+use Rattle.std.specs.Prelude.{
+  ◌≡◌,
+  ℕ,
+  ◌+◌,
+  ◌%◌,
+  ◌^◌,
+  ◌<◌,
+  ◌≤◌,
+  Bool,
+  true,
+  false,
+  List,
+  length,
+  take,
+  Option,
+  Result,
+  IfOk,
+}
 use Rattle.std.specs.Io.KnownBytes.{Appends, Keeps}
 use Rattle.std.specs.Io.Seek.{MovesTo}
 use Rattle.claxon.specs.Errors.{Error}
@@ -15,7 +32,8 @@ abbrev pub inner_writer : {W : Type 0} → CountingWriter W → W
 inner_writer w = w.inner.now
 
 -- the contents of the writer, where they are known
-abbrev pub inner_contents : {W : Type 0} → (W → Option (List ℕ)) → CountingWriter W → Option (List ℕ)
+abbrev pub inner_contents : {W : Type 0} → (W → Option (List ℕ)) → CountingWriter W
+    → Option (List ℕ)
 inner_contents contents w = contents (inner_writer w)
 
 -- the number of failed writes, modulo 2^64, as the next three

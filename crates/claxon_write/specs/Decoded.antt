@@ -1,5 +1,26 @@
 -- Streams that are decoded into an `Output`.
-use Rattle.std.specs.Prelude.{All, ◌≡◌, ◌≤◌, ◌⊎◌, ℕ, ◌+◌, ◌^◌, List, [], ◌∷◌, ◌++◌, length, codes, Option, None, Some, IsErrAnd, Result, Ok, Err}
+use Rattle.std.specs.Prelude.{
+  All,
+  ◌≡◌,
+  ◌≤◌,
+  ◌⊎◌,
+  ℕ,
+  ◌+◌,
+  ◌^◌,
+  List,
+  [],
+  ◌∷◌,
+  ◌++◌,
+  length,
+  codes,
+  Option,
+  None,
+  Some,
+  IsErrAnd,
+  Result,
+  Ok,
+  Err,
+}
 use Rattle.std.specs.Io.KnownBytes.{Appends}
 use Rattle.claxon.specs.Frame.{StreamFormat, Block}
 use Rattle.claxon.specs.Streams.{interleave}
@@ -12,7 +33,19 @@ use Rattle.claxon.specs.Errors.TheVariants.{Unsupported}
 use Rattle.claxon.specs.SampleRuns.{ReadsFrames, ConsumesFrames, samples_of}
 use Rattle.claxon_write.specs.SampleBytes.{bytes_of_samples}
 use Rattle.claxon_write.specs.Capacity.{capacity}
-use Rattle.claxon_write.specs.Written.{AppendsAllBut, FlushFailed, IsFlushed, IsUnflushed, NonePending, NothingFailed, Puts, WriteFailed, writer_contents, contents_with_pending, pending}
+use Rattle.claxon_write.specs.Written.{
+  AppendsAllBut,
+  OneFlushFailed,
+  IsFlushed,
+  IsUnflushed,
+  NonePending,
+  NothingFailed,
+  Puts,
+  OneWriteFailed,
+  writer_contents,
+  contents_with_pending,
+  pending,
+}
 use Rattle.claxon_write.specs.declared.output.Output.{Output}
 
 -- The error says that there are 2^64 samples or more.
@@ -21,7 +54,8 @@ IsLimit (Unsupported text) =
     text.now ≡ codes "more than 18446744073709551615 samples are not supported"
 IsLimit _ = ⊥
 
--- After the frames of these blocks one more frame was consumed, with which there are 2^64 samples or more.
+-- After the frames of these blocks one more frame was consumed, with which there are 2^64
+-- samples or more.
 pub record TooManySamples (stream : Option StreamFormat) (blocks : List Block) (error : Error)
     (old new : State ℕ) : Type 0 where
   pub is_limit : IsLimit error
@@ -33,8 +67,8 @@ pub record TooManySamples (stream : Option StreamFormat) (blocks : List Block) (
 abbrev pub HasAtMost : ℕ → Block → Type 0
 HasAtMost n b = length (interleave b.channels) ≤ n
 
--- Exactly the frames of some blocks were consumed, and the header of one more. Each of these has at most `size` samples, and
--- the block of the header has more.
+-- Exactly the frames of some blocks were consumed, and the header of one more. Each of these has at
+-- most `size` samples, and the block of the header has more.
 pub record StopsAtLargerBlock (stream : Option StreamFormat) (old new : State ℕ) : Type 0 where
   pub blocks : List Block
   pub size : ℕ
@@ -49,7 +83,8 @@ EndsAfter stream blocks None old new = ReadsFrames stream blocks (Ok None) old n
 EndsAfter stream blocks (Some error) old new =
     ReadsFrames stream blocks (Err error) old new ⊎ TooManySamples stream blocks error old new
 
--- The n samples of these blocks were written after the pending bytes, or are pending after them, and nothing failed.
+-- The n samples of these blocks were written after the pending bytes, or are pending after them,
+-- and nothing failed.
 pub record Gathers {W : Type 0} (contents : W → Option (List ℕ)) (stream : Option StreamFormat)
     (end : Option Error) (n : ℕ) (old new : State ℕ) (before after : Output W) : Type 0 where
   pub blocks : List Block
@@ -57,7 +92,8 @@ pub record Gathers {W : Type 0} (contents : W → Option (List ℕ)) (stream : O
   pub count : n ≡ length (samples_of blocks)
   pub puts : Puts contents (bytes_of_samples (samples_of blocks)) before after
 
--- Exactly the n samples of these blocks were written after the pending bytes, and nothing is pending any more.
+-- Exactly the n samples of these blocks were written after the pending bytes, and nothing is
+-- pending any more.
 pub record Decodes {W : Type 0} (contents : W → Option (List ℕ)) (stream : Option StreamFormat)
     (end : Option Error) (n : ℕ) (old new : State ℕ) (before after : Output W) : Type 0 where
   pub blocks : List Block
@@ -79,13 +115,13 @@ last_bytes [] = 0
 last_bytes (b ∷ []) = length (bytes_of_samples (interleave b.channels))
 last_bytes (b ∷ c ∷ blocks) = last_bytes (c ∷ blocks)
 
--- A write failed, which was counted, and there was no flush. A prefix of the pending bytes and the samples of these
--- blocks was written, and nothing is pending any more. The frames of the blocks were consumed, and at most the capacity and
--- the bytes of the last block are missing.
+-- A write failed, which was counted, and there was no flush. A prefix of the pending bytes and the
+-- samples of these blocks was written, and nothing is pending any more. The frames of the blocks
+-- were consumed, and at most the capacity and the bytes of the last block are missing.
 pub record FailsToWrite {W : Type 0} (contents : W → Option (List ℕ)) (stream : Option StreamFormat)
     (error : Error) (old new : State ℕ) (before after : Output W) : Type 0 where
   pub is_io : IsIo error
-  pub failed : WriteFailed before after
+  pub failed : OneWriteFailed before after
   pub unflushed : IsUnflushed before after
   pub blocks : List Block
   pub takes : ConsumesFramesOrEnd stream blocks old new
@@ -93,25 +129,26 @@ pub record FailsToWrite {W : Type 0} (contents : W → Option (List ℕ)) (strea
       (writer_contents contents after) (pending before ++ bytes_of_samples (samples_of blocks))
   pub none_pending : NonePending after
 
--- The stream ended and all its samples were written, and then the one flush failed, which was counted.
+-- The stream ended and all its samples were written, and then the one flush failed, which was
+-- counted.
 pub record FailsToFlushAll {W : Type 0} (contents : W → Option (List ℕ))
     (stream : Option StreamFormat) (error : Error) (old new : State ℕ)
     (before after : Output W) : Type 0 where
   pub is_io : IsIo error
-  pub failed : FlushFailed before after
+  pub failed : OneFlushFailed before after
   pub flushed : IsFlushed before after
   pub count : ℕ
   pub decoded : Decodes contents stream None count old new before after
 
--- The decoder stopped, and all samples before that were written. No write failed. The last call of the writer was the one
--- flush; if it failed, that was only counted.
+-- The decoder stopped, and all samples before that were written. No write failed. The last call of
+-- the writer was the one flush; if it failed, that was only counted.
 pub record StopsDecoding {W : Type 0} (contents : W → Option (List ℕ))
     (stream : Option StreamFormat) (error : Error) (old new : State ℕ)
     (before after : Output W) : Type 0 where
   pub count : ℕ
   pub decoded : Decodes contents stream (Some error) count old new before after
   pub flushed : IsFlushed before after
-  pub failed : NothingFailed before after ⊎ FlushFailed before after
+  pub failed : NothingFailed before after ⊎ OneFlushFailed before after
 
 -- The stream ended, exactly its n samples were written and then flushed, and nothing failed.
 abbrev pub DecodesToEof : {W : Type 0} → (W → Option (List ℕ)) → Option StreamFormat → ℕ
@@ -129,10 +166,10 @@ FailsToDecode contents stream error old new before after =
     ⊎ FailsToFlushAll contents stream error old new before after)
 
 -- The result is an `IoError`, and a write failed, which was counted.
-abbrev pub WriteHasFailed : {A W : Type 0} → Result A Error → Output W → Output W → Type 0
-WriteHasFailed r before after = IsErrAnd r IsIo × WriteFailed before after
+abbrev pub WriteFailed : {A W : Type 0} → Result A Error → Output W → Output W → Type 0
+WriteFailed r before after = IsErrAnd r IsIo × OneWriteFailed before after
 
 -- The result is an `IoError`, and a write or a flush failed, which was counted.
-abbrev pub WriterHasFailed : {A W : Type 0} → Result A Error → Output W → Output W → Type 0
-WriterHasFailed r before after =
-    IsErrAnd r IsIo × (WriteFailed before after ⊎ FlushFailed before after)
+abbrev pub WriteOrFlushFailed : {A W : Type 0} → Result A Error → Output W → Output W → Type 0
+WriteOrFlushFailed r before after =
+    IsErrAnd r IsIo × (OneWriteFailed before after ⊎ OneFlushFailed before after)

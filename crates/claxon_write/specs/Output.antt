@@ -6,7 +6,14 @@ use Rattle.claxon.specs.Block.{BlockValue}
 use Rattle.claxon.specs.Errors.{Error}
 use Rattle.claxon_write.specs.SampleBytes.{bytes_of_samples}
 use Rattle.claxon_write.specs.CountingWriter.{IsNewCountingWriter}
-use Rattle.claxon_write.specs.Written.{FailsToFlush, FailsToPut, IsFlushed, IsUnflushed, NonePending, Puts}
+use Rattle.claxon_write.specs.Written.{
+  FailsToFlush,
+  FailsToPut,
+  IsFlushed,
+  IsUnflushed,
+  NonePending,
+  Puts,
+}
 use Rattle.claxon_write.specs.declared.output.Output.{Output}
 
 -- The output borrows this writer, which is as it was. No bytes are pending, and all counts are 0.
@@ -30,7 +37,8 @@ abbrev pub FlushIsSound : {W : Type 0} → (W → Option (List ℕ)) → Result 
     → Output W → Type 0
 FlushIsSound contents r old new = OnOk r (Puts contents [] old new × IsFlushed old new)
 
--- An Err is a failed write, without a flush, or a failed flush after all pending bytes were written.
+-- An Err is a failed write, without a flush, or a failed flush after all pending bytes were
+-- written.
 abbrev pub FlushFaultIsSound : {W : Type 0} → (W → Option (List ℕ)) → Result (Unit {0}) Error
     → Output W → Output W → Type 0
 FlushFaultIsSound contents r old new =

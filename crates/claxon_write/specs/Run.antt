@@ -1,5 +1,26 @@
--- The clauses of `run`, about the bytes of its input, where they are known, and the contents of the writer before and after.
-use Rattle.std.specs.Prelude.{◌≡◌, ◌⊎◌, ◌<◌, ◌≤◌, ℕ, ◌^◌, true, List, [], ◌∷◌, ◌++◌, length, Option, Some, Result, Ok, IfErr, IfOk, IsErrAnd}
+-- The clauses of `run`, about the bytes of its input, where they are known, and the contents of
+-- the writer before and after.
+use Rattle.std.specs.Prelude.{
+  ◌≡◌,
+  ◌⊎◌,
+  ◌<◌,
+  ◌≤◌,
+  ℕ,
+  ◌^◌,
+  true,
+  List,
+  [],
+  ◌∷◌,
+  ◌++◌,
+  length,
+  Option,
+  Some,
+  Result,
+  Ok,
+  IfErr,
+  IfOk,
+  IsErrAnd,
+}
 use Rattle.std.specs.Io.KnownBytes.{Appends}
 use Rattle.claxon.specs.Fault.{Fault}
 use Rattle.claxon.specs.Frame.{Block, Frame, FrameBytesFault, Frames}
@@ -27,7 +48,8 @@ pub record IsHeadAndFrames (s : List ℕ) (head : Head) (blocks : List Block)
 
 -- ---- an Ok
 
--- Exactly the n samples of some blocks were written. The input is a head, the frames of these blocks and fewer than two bytes.
+-- Exactly the n samples of some blocks were written. The input is a head, the frames of these
+-- blocks and fewer than two bytes.
 pub record RunWritesAll (n : ℕ) (s : State ℕ) (old new : Option (List ℕ)) : Type 0 where
   pub blocks : List Block
   pub count : n ≡ length (samples_of blocks)
@@ -35,7 +57,8 @@ pub record RunWritesAll (n : ℕ) (s : State ℕ) (old new : Option (List ℕ)) 
   pub input_is : RemainingIsKnown s → (head : Head) × (rest : List ℕ)
       × IsHeadAndFrames s.remaining head blocks rest × (length rest < 2)
 
--- An Ok is the number of samples: the input was a whole stream, and exactly its samples were written.
+-- An Ok is the number of samples: the input was a whole stream, and exactly its samples were
+-- written.
 abbrev pub RunIsSound : {W : Type 0} → (W → Option (List ℕ)) → Result ℕ Error → Option (List ℕ) → W
     → W → Type 0
 RunIsSound contents r input old new =
@@ -73,8 +96,8 @@ pub record HasFrameFault (head : Head) (error : Error) (s : List ℕ) : Type 0 w
   pub bad : FrameBytesFault (Some (stream_of head.info)) fault prefix
   pub joined : s ≡ prefix ++ rest
 
--- The input is a head, the frames of blocks, and then the fault of a frame or the limit of samples; exactly the samples of
--- these blocks were written.
+-- The input is a head, the frames of blocks, and then the fault of a frame or the limit of samples;
+-- exactly the samples of these blocks were written.
 pub record StopsAfterFrames (error : Error) (s : State ℕ) (old new : Option (List ℕ)) : Type 0 where
   pub blocks : List Block
   pub head : Head
@@ -92,15 +115,15 @@ DecoderStops error s old new =
 pub record RunStopsEarly (error : Error) (s : State ℕ) (old new : Option (List ℕ)) : Type 0 where
   pub why : (error ≡ OutOfMemory) ⊎ (IsIo error ⊎ DecoderStops error s old new)
 
--- An Err other than `OutOfMemory` and `IoError` is the decoder's: the input has that fault, and exactly the samples before it
--- were written.
+-- An Err other than `OutOfMemory` and `IoError` is the decoder's: the input has that fault, and
+-- exactly the samples before it were written.
 abbrev pub RunFaultIsSound : {W : Type 0} → (W → Option (List ℕ)) → Result ℕ Error
     → Option (List ℕ) → W → W → Type 0
 RunFaultIsSound contents r input old new =
     IfErr r (λ error. RunStopsEarly error (unread input) (contents old) (contents new))
 
--- The input is a head, the frames of these blocks and a rest. A prefix of the bytes of their samples was written, and all of
--- them if the error is `OutOfMemory`.
+-- The input is a head, the frames of these blocks and a rest. A prefix of the bytes of their
+-- samples was written, and all of them if the error is `OutOfMemory`.
 pub record WritesPrefixOfSamples (error : Error) (s : State ℕ)
     (old new : Option (List ℕ)) : Type 0 where
   pub blocks : List Block
@@ -110,12 +133,14 @@ pub record WritesPrefixOfSamples (error : Error) (s : State ℕ)
   pub prefix : AppendsPrefix old new (bytes_of_samples (samples_of blocks))
   pub all : error ≡ OutOfMemory → Appends old new (bytes_of_samples (samples_of blocks))
 
--- Where the input is known, nothing was written, or a prefix of the samples of blocks whose frames follow a head.
+-- Where the input is known, nothing was written, or a prefix of the samples of blocks whose
+-- frames follow a head.
 pub record WritesPrefixAtMost (error : Error) (s : State ℕ)
     (old new : Option (List ℕ)) : Type 0 where
   pub written : RemainingIsKnown s → (new ≡ old) ⊎ WritesPrefixOfSamples error s old new
 
--- Whatever the Err, only a prefix of the samples of blocks whose frames follow the head was written.
+-- Whatever the Err, only a prefix of the samples of blocks whose frames follow the head was
+-- written.
 abbrev pub RunWritesPrefix : {W : Type 0} → (W → Option (List ℕ)) → Result ℕ Error
     → Option (List ℕ) → W → W → Type 0
 RunWritesPrefix contents r input old new =
@@ -123,7 +148,8 @@ RunWritesPrefix contents r input old new =
 
 -- ---- completeness
 
--- The input is a head, the frames of blocks with n samples in all, fewer than 2^64, and then fewer than two bytes.
+-- The input is a head, the frames of blocks with n samples in all, fewer than 2^64, and then
+-- fewer than two bytes.
 pub record EofAfterHeadAndBlocks (s : State ℕ) (n : ℕ) : Type 0 where
   pub head : Head
   pub blocks : List Block
@@ -141,7 +167,8 @@ pub record FaultInHead (s : State ℕ) (f : Fault) : Type 0 where
   pub bad : HeadFault (with_samples true) f fault
   pub remains : Remains s (fault ++ rest)
 
--- The input is a head, the frames of blocks with fewer than 2^64 samples in all, and then this fault of a frame.
+-- The input is a head, the frames of blocks with fewer than 2^64 samples in all, and then this
+-- fault of a frame.
 pub record FaultAfterHeadAndBlocks (s : State ℕ) (f : Fault) : Type 0 where
   pub head : Head
   pub blocks : List Block
@@ -157,7 +184,8 @@ abbrev pub RunIsComplete : Result ℕ Error → Option (List ℕ) → Type 0
 RunIsComplete r input =
     (n : ℕ) → EofAfterHeadAndBlocks (unread input) n → (r ≡ Ok n) ⊎ IsMemoryOrIoError r
 
--- A fault of the head, or of a frame after it, is the result, or it is `OutOfMemory` or an `IoError`.
+-- A fault of the head, or of a frame after it, is the result, or it is `OutOfMemory` or an
+-- `IoError`.
 abbrev pub RunFaultIsComplete : Result ℕ Error → Option (List ℕ) → Type 0
 RunFaultIsComplete r input =
     (f : Fault) → FaultInHead (unread input) f ⊎ FaultAfterHeadAndBlocks (unread input) f

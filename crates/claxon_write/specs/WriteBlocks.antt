@@ -12,7 +12,8 @@ use Rattle.claxon_write.specs.Written.{NothingFailed}
 use Rattle.claxon_write.specs.declared.output.Output.{Output}
 use Rattle.claxon_write.specs.declared.stream.End.{End}
 
--- An Ok has the number of samples and what ended the blocks: exactly their samples were written, and nothing failed.
+-- An Ok has the number of samples and what ended the blocks: exactly their samples were written,
+-- and nothing failed.
 abbrev pub WriteBlocksIsSound : {R W : Type 0} → (W → Option (List ℕ)) → (R → Source ℕ) → StreamInfo
     → Result End Error → R → R → Output W → Output W → Type 0
 WriteBlocksIsSound contents source info r old new before after =
@@ -33,7 +34,8 @@ WriteOutOfMemoryForLargerBlock source info r old new =
     IfOk r (λ end. end.fault ≡ Some OutOfMemory
     → StopsAtLargerBlock (Some (stream_with info)) (bytes_in source old) (bytes_in source new))
 
--- An Ok has the number of samples and what ended the blocks: their samples were written or are pending.
+-- An Ok has the number of samples and what ended the blocks: their samples were written or are
+-- pending.
 abbrev pub GatherBlocksIsSound : {R W : Type 0} → (W → Option (List ℕ)) → (R → Source ℕ)
     → Result End Error → FrameReader R → FrameReader R → Output W → Output W → Type 0
 GatherBlocksIsSound contents source r old new before after =

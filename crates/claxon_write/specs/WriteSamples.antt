@@ -1,5 +1,22 @@
--- The clauses of `write_samples`, about the remaining input and the contents of the writer before and after.
-use Rattle.std.specs.Prelude.{◌≡◌, ◌⊎◌, ℕ, ◌<◌, ◌^◌, List, ◌++◌, length, Option, Some, Result, Ok, IfOk, IfErr, IsErrAnd}
+-- The clauses of `write_samples`, about the remaining input and the contents of the writer
+-- before and after.
+use Rattle.std.specs.Prelude.{
+  ◌≡◌,
+  ◌⊎◌,
+  ℕ,
+  ◌<◌,
+  ◌^◌,
+  List,
+  ◌++◌,
+  length,
+  Option,
+  Some,
+  Result,
+  Ok,
+  IfOk,
+  IfErr,
+  IsErrAnd,
+}
 use Rattle.claxon.specs.Fault.{Fault}
 use Rattle.claxon.specs.Frame.{Block, FrameBytesFault, Frames, StreamFormat}
 use Rattle.claxon.specs.FrameReader.{stream_with}
@@ -12,7 +29,13 @@ use Rattle.claxon.specs.FlacReader.{flac_head, flac_metadata_only, flac_streamin
 use Rattle.claxon.specs.Opening.{flac_bytes}
 use Rattle.claxon.specs.SampleRuns.{samples_of}
 use Rattle.claxon.specs.declared.reader.FlacReader.{FlacReader}
-use Rattle.claxon_write.specs.Decoded.{DecodesToEof, FailsToDecode, StopsAtLargerBlock, WriteHasFailed, WriterHasFailed}
+use Rattle.claxon_write.specs.Decoded.{
+  DecodesToEof,
+  FailsToDecode,
+  StopsAtLargerBlock,
+  WriteFailed,
+  WriteOrFlushFailed,
+}
 use Rattle.claxon_write.specs.declared.output.Output.{Output}
 
 -- The head stays as it was, and so does whether the reader is for metadata only.
@@ -34,7 +57,8 @@ StreamLeavesRest remaining old new =
 
 -- ---- what remains
 
--- The remaining bytes are the frames of blocks with n samples in all, fewer than 2^64, and then fewer than two bytes.
+-- The remaining bytes are the frames of blocks with n samples in all, fewer than 2^64, and then
+-- fewer than two bytes.
 pub record EofAfterBlocks (stream : Option StreamFormat) (s : State ℕ) (n : ℕ) : Type 0 where
   pub blocks : List Block
   pub rest : List ℕ
@@ -44,7 +68,8 @@ pub record EofAfterBlocks (stream : Option StreamFormat) (s : State ℕ) (n : �
   pub count : n ≡ length (samples_of blocks)
   pub few : length (samples_of blocks) < 2 ^ 64
 
--- The remaining bytes are the frames of blocks with fewer than 2^64 samples in all, and then this fault of a frame.
+-- The remaining bytes are the frames of blocks with fewer than 2^64 samples in all, and then
+-- this fault of a frame.
 pub record FaultAfterBlocks (stream : Option StreamFormat) (s : State ℕ) (f : Fault) : Type 0 where
   pub blocks : List Block
   pub fault : List ℕ
@@ -58,14 +83,15 @@ pub record FaultAfterBlocks (stream : Option StreamFormat) (s : State ℕ) (f : 
 
 module _ {R A W : Type 0} (contents : W → Option (List ℕ)) (remaining : R → Option (List ℕ))
     (result : Result ℕ Error) (old new : FlacReader R A) (before after : Output W) where
-  -- An Ok is the number of samples: the stream ended, exactly its samples were written and then flushed, and nothing failed.
+  -- An Ok is the number of samples: the stream ended, exactly its samples were written and
+  -- then flushed, and nothing failed.
   abbrev pub StreamIsSound : Type 0
   StreamIsSound =
       IfOk result (λ n. DecodesToEof contents (flac_stream old) n
       (flac_bytes remaining old) (flac_bytes remaining new) before after)
 
-  -- An Err is the decoder's, and all samples before it were written; or it is a failed write, or a failed flush at the end
-  -- of the stream.
+  -- An Err is the decoder's, and all samples before it were written; or it is a failed write, or a
+  -- failed flush at the end of the stream.
   abbrev pub StreamFaultIsSound : Type 0
   StreamFaultIsSound =
       IfErr result (λ error. FailsToDecode contents (flac_stream old) error
@@ -73,8 +99,8 @@ module _ {R A W : Type 0} (contents : W → Option (List ℕ)) (remaining : R �
 
 -- ---- memory
 
--- `OutOfMemory` is returned only after the header of a block that has more samples than each before it in this call: their
--- memory is used again.
+-- `OutOfMemory` is returned only after the header of a block that has more samples than each before
+-- it in this call: their memory is used again.
 abbrev pub StreamOutOfMemoryForLargerBlock : {R A : Type 0} → (R → Option (List ℕ))
     → Result ℕ Error → FlacReader R A → FlacReader R A → Type 0
 StreamOutOfMemoryForLargerBlock remaining result old new =
@@ -89,14 +115,16 @@ module _ {R A W : Type 0} (remaining : R → Option (List ℕ)) (result : Result
   abbrev StreamIsExcused : Type 0
   StreamIsExcused = IsExcused result (flac_bytes remaining old) (flac_bytes remaining new)
 
-  -- If a stream of n samples remains, the result is n; or memory was refused, or the source or the writer failed.
+  -- If a stream of n samples remains, the result is n; or memory was refused, or the source or
+  -- the writer failed.
   abbrev pub StreamIsComplete : Type 0
   StreamIsComplete =
       (n : ℕ) → EofAfterBlocks (flac_stream old) (flac_bytes remaining old) n
-      → (result ≡ Ok n) ⊎ (StreamIsExcused ⊎ WriterHasFailed result before after)
+      → (result ≡ Ok n) ⊎ (StreamIsExcused ⊎ WriteOrFlushFailed result before after)
 
-  -- A fault after the frames of blocks is the result; or memory was refused, or the source or a write failed.
+  -- A fault after the frames of blocks is the result; or memory was refused, or the source or
+  -- a write failed.
   abbrev pub StreamFaultIsComplete : Type 0
   StreamFaultIsComplete =
       (f : Fault) → FaultAfterBlocks (flac_stream old) (flac_bytes remaining old) f
-      → IsErrAnd result (IsFault f) ⊎ (StreamIsExcused ⊎ WriteHasFailed result before after)
+      → IsErrAnd result (IsFault f) ⊎ (StreamIsExcused ⊎ WriteFailed result before after)

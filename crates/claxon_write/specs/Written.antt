@@ -4,7 +4,15 @@ use Rattle.std.specs.Io.KnownBytes.{Appends, append_known}
 use Rattle.claxon.specs.Error.{IsIo}
 use Rattle.claxon.specs.Errors.{Error}
 use Rattle.claxon_write.specs.Capacity.{capacity}
-use Rattle.claxon_write.specs.CountingWriter.{CountsFailedFlush, CountsFailedWrite, CountsFlush, CountsNoFailure, CountsNoFlush, KeepsInner, inner_contents}
+use Rattle.claxon_write.specs.CountingWriter.{
+  CountsFailedFlush,
+  CountsFailedWrite,
+  CountsFlush,
+  CountsNoFailure,
+  CountsNoFlush,
+  KeepsInner,
+  inner_contents,
+}
 use Rattle.claxon_write.specs.declared.output.Gathered.{Gathered}
 use Rattle.claxon_write.specs.declared.output.Output.{Output}
 
@@ -24,12 +32,12 @@ abbrev pub NothingFailed : {W : Type 0} → Output W → Output W → Type 0
 NothingFailed old new = CountsNoFailure old.writer new.writer
 
 -- One write failed, and no other call.
-abbrev pub WriteFailed : {W : Type 0} → Output W → Output W → Type 0
-WriteFailed old new = CountsFailedWrite old.writer new.writer
+abbrev pub OneWriteFailed : {W : Type 0} → Output W → Output W → Type 0
+OneWriteFailed old new = CountsFailedWrite old.writer new.writer
 
 -- One flush failed, and no other call.
-abbrev pub FlushFailed : {W : Type 0} → Output W → Output W → Type 0
-FlushFailed old new = CountsFailedFlush old.writer new.writer
+abbrev pub OneFlushFailed : {W : Type 0} → Output W → Output W → Type 0
+OneFlushFailed old new = CountsFailedFlush old.writer new.writer
 
 -- There was no flush.
 abbrev pub IsUnflushed : {W : Type 0} → Output W → Output W → Type 0
@@ -68,12 +76,12 @@ pub record Puts {W : Type 0} (contents : W → Option (List ℕ)) (bytes : List 
       bytes
   pub nothing_failed : NothingFailed old new
 
--- A write failed, which was counted. A prefix of the pending bytes and these was written, and nothing is pending any more. At
--- most the capacity and these are missing.
+-- A write failed, which was counted. A prefix of the pending bytes and these was written, and
+-- nothing is pending any more. At most the capacity and these are missing.
 pub record FailsToPut {W : Type 0} (contents : W → Option (List ℕ)) (bytes : List ℕ) (error : Error)
     (old new : Output W) : Type 0 where
   pub is_io : IsIo error
-  pub failed : WriteFailed old new
+  pub failed : OneWriteFailed old new
   pub prefix : AppendsAllBut (capacity + length bytes) (writer_contents contents old)
       (writer_contents contents new) (pending old ++ bytes)
   pub none_pending : NonePending new
@@ -82,7 +90,7 @@ pub record FailsToPut {W : Type 0} (contents : W → Option (List ℕ)) (bytes :
 pub record FailsToFlush {W : Type 0} (contents : W → Option (List ℕ)) (error : Error)
     (old new : Output W) : Type 0 where
   pub is_io : IsIo error
-  pub failed : FlushFailed old new
+  pub failed : OneFlushFailed old new
   pub flushed : IsFlushed old new
   pub written : Appends (contents_with_pending contents old) (writer_contents contents new) []
   pub none_pending : NonePending new

@@ -39,7 +39,18 @@ impl<'w, W> Drop for CountingWriter<'w, W> {
 }
 
 impl<'w, W: Write> CountingWriter<'w, W> {
-    ghost use Rattle.claxon_write.specs.CountingWriter.{CountsFailedFlush, CountsFailedWrite, CountsFlush, CountsNoFailure, CountsOtherCall, IsInnerOf, IsNewCountingWriter, KeepsInner, SameInner, WritesSome};
+    ghost use Rattle.claxon_write.specs.CountingWriter.{
+      CountsFailedFlush,
+      CountsFailedWrite,
+      CountsFlush,
+      CountsNoFailure,
+      CountsOtherCall,
+      IsInnerOf,
+      IsNewCountingWriter,
+      KeepsInner,
+      SameInner,
+      WritesSome,
+    };
 
     /// Borrows the writer. All counts are 0.
     pub fn new(inner: &'w mut W) -> CountingWriter<'w, W>
@@ -77,13 +88,13 @@ impl<'w, W: Write> CountingWriter<'w, W> {
     /// An `IoError` if the write fails, or writes nothing.
     pub fn write_some(&mut self, bytes: &[u8]) -> Result<usize>
         requires some { 0 < length bytes.now }
-        ensures same_reference { SameInner self.old self.new }
-        ensures ok { WritesSome W.contents bytes.now result self.old self.new }
+        ensures same_inner { SameInner self.old self.new }
+        ensures writes_some { WritesSome W.contents bytes.now result self.old self.new }
         ensures kept { OnErr result (KeepsInner W.contents self.old self.new) }
         ensures io { IfErr result (λ error. IsIo error) }
         ensures succeeded { OnOk result (CountsNoFailure self.old self.new) }
         ensures failed { OnErr result (CountsFailedWrite self.old self.new) }
-        ensures unflushed { CountsOtherCall self.old self.new }
+        ensures counts_other_call { CountsOtherCall self.old self.new }
     {
         self.is_flushed = false;
         match self.inner.write(bytes) {
@@ -105,12 +116,12 @@ impl<'w, W: Write> CountingWriter<'w, W> {
     ///
     /// An `IoError` if the flush fails.
     pub fn flush(&mut self) -> Result<()>
-        ensures same_reference { SameInner self.old self.new }
-        ensures kept { KeepsInner W.contents self.old self.new }
+        ensures same_inner { SameInner self.old self.new }
+        ensures keeps_inner { KeepsInner W.contents self.old self.new }
         ensures io { IfErr result (λ error. IsIo error) }
         ensures succeeded { OnOk result (CountsNoFailure self.old self.new) }
         ensures failed { OnErr result (CountsFailedFlush self.old self.new) }
-        ensures flushed { CountsFlush self.old self.new }
+        ensures counts_flush { CountsFlush self.old self.new }
     {
         self.flushes = self.flushes.wrapping_add(1);
         self.is_flushed = true;
@@ -125,7 +136,14 @@ impl<'w, W: Write> CountingWriter<'w, W> {
 }
 
 impl<'w, W: Write + Seek> CountingWriter<'w, W> {
-    ghost use Rattle.claxon_write.specs.CountingWriter.{CountsFailedSeek, CountsNoFailure, CountsOtherCall, RewindKeepsBytes, RewindMovesToStart, SameInner};
+    ghost use Rattle.claxon_write.specs.CountingWriter.{
+      CountsFailedSeek,
+      CountsNoFailure,
+      CountsOtherCall,
+      RewindKeepsBytes,
+      RewindMovesToStart,
+      SameInner,
+    };
 
     /// Seeks to the start. It is the only seek: a caller that chose the position could make one fail.
     ///
@@ -133,13 +151,13 @@ impl<'w, W: Write + Seek> CountingWriter<'w, W> {
     ///
     /// An `IoError` if the seek fails.
     pub fn rewind(&mut self) -> Result<()>
-        ensures same_reference { SameInner self.old self.new }
-        ensures moves { RewindMovesToStart W.stream_position result self.old self.new }
-        ensures bytes { RewindKeepsBytes W.stream_bytes self.old self.new }
+        ensures same_inner { SameInner self.old self.new }
+        ensures moves_to_start { RewindMovesToStart W.stream_position result self.old self.new }
+        ensures keeps_bytes { RewindKeepsBytes W.stream_bytes self.old self.new }
         ensures io { IfErr result (λ error. IsIo error) }
         ensures succeeded { OnOk result (CountsNoFailure self.old self.new) }
         ensures failed { OnErr result (CountsFailedSeek self.old self.new) }
-        ensures unflushed { CountsOtherCall self.old self.new }
+        ensures counts_other_call { CountsOtherCall self.old self.new }
     {
         self.is_flushed = false;
         if let Err(error) = self.inner.rewind() {

@@ -1,5 +1,19 @@
 //! A writer with a buffer for bytes and interleaved samples.
-ghost use Rattle.std.specs.Prelude.{◌≡◌, ◌≤◌, ◌<◌, ◌+◌, ◌*◌, ◌-◌, ◌++◌, IfErr, OnOk, OnErr, [], length, take};
+ghost use Rattle.std.specs.Prelude.{
+  ◌≡◌,
+  ◌≤◌,
+  ◌<◌,
+  ◌+◌,
+  ◌*◌,
+  ◌-◌,
+  ◌++◌,
+  IfErr,
+  OnOk,
+  OnErr,
+  [],
+  length,
+  take,
+};
 ghost use Rattle.claxon.specs.Error.{IsIo};
 ghost use Rattle.claxon.specs.Streams.{duration_of};
 ghost use Rattle.claxon_write.specs.Capacity.{capacity};
@@ -18,7 +32,12 @@ const CAPACITY: usize = 16384;
 const MAX_PER_CHANNEL: usize = 512;
 
 impl<'w, W: Write> CountingWriter<'w, W> {
-    ghost use Rattle.claxon_write.specs.CountingWriter.{CountsFailedWrite, CountsNoFailure, CountsNoFlush, SameInner};
+    ghost use Rattle.claxon_write.specs.CountingWriter.{
+      CountsFailedWrite,
+      CountsNoFailure,
+      CountsNoFlush,
+      SameInner,
+    };
     ghost use Rattle.claxon_write.specs.WriteWhole.{WritesAll, WritesPrefix};
 
     /// Writes all of the bytes.
@@ -27,13 +46,13 @@ impl<'w, W: Write> CountingWriter<'w, W> {
     ///
     /// Those of `write_some`, `Interrupted` too. Then a prefix of the bytes was written.
     pub fn write_whole(&mut self, bytes: &[u8]) -> Result<()>
-        ensures same_reference { SameInner self.old self.new }
-        ensures ok { WritesAll W.contents bytes.now result self.old self.new }
-        ensures prefix { WritesPrefix W.contents bytes.now result self.old self.new }
+        ensures same_inner { SameInner self.old self.new }
+        ensures writes_all { WritesAll W.contents bytes.now result self.old self.new }
+        ensures writes_prefix { WritesPrefix W.contents bytes.now result self.old self.new }
         ensures io { IfErr result (λ error. IsIo error) }
         ensures succeeded { OnOk result (CountsNoFailure self.old self.new) }
         ensures failed { OnErr result (CountsFailedWrite self.old self.new) }
-        ensures unflushed { CountsNoFlush self.old self.new }
+        ensures counts_no_flush { CountsNoFlush self.old self.new }
     {
         let mut at = 0;
         while at < bytes.len() {
@@ -100,8 +119,23 @@ pub struct Output<'w, W> {
 
 impl<'w, W: Write> Output<'w, W> {
     ghost use Rattle.claxon_write.specs.InnerWriter.{IsWriterOf, SameWriter};
-    ghost use Rattle.claxon_write.specs.Output.{FlushFaultIsSound, FlushIsSound, IsNewOutput, PutFaultIsSound, PutIsSound, block_bytes};
-    ghost use Rattle.claxon_write.specs.Written.{FlushFailed, IsFlushed, IsUnflushed, KeepsContents, NonePending, NothingFailed, pending};
+    ghost use Rattle.claxon_write.specs.Output.{
+      FlushFaultIsSound,
+      FlushIsSound,
+      IsNewOutput,
+      PutFaultIsSound,
+      PutIsSound,
+      block_bytes,
+    };
+    ghost use Rattle.claxon_write.specs.Written.{
+      OneFlushFailed,
+      IsFlushed,
+      IsUnflushed,
+      KeepsContents,
+      NonePending,
+      NothingFailed,
+      pending,
+    };
 
     /// Borrows the writer. No bytes are gathered yet, and all counts are 0.
     pub fn new(inner: &'w mut W) -> Output<'w, W>
@@ -134,11 +168,11 @@ impl<'w, W: Write> Output<'w, W> {
     /// An `IoError` if a write fails, or writes nothing. Then a prefix of the gathered bytes was written, and the others are
     /// lost.
     pub fn write_gathered(&mut self) -> Result<()>
-        ensures same_reference { SameWriter self.old self.new }
+        ensures same_writer { SameWriter self.old self.new }
         ensures none_pending { NonePending self.new }
-        ensures unflushed { IsUnflushed self.old self.new }
-        ensures ok { PutIsSound W.contents [] result self.old self.new }
-        ensures err { PutFaultIsSound W.contents [] result self.old self.new }
+        ensures is_unflushed { IsUnflushed self.old self.new }
+        ensures is_sound { PutIsSound W.contents [] result self.old self.new }
+        ensures fault_is_sound { PutFaultIsSound W.contents [] result self.old self.new }
     {
         let outcome = self.writer.write_whole(self.gathered.pending());
         self.gathered.used = 0;
@@ -147,13 +181,13 @@ impl<'w, W: Write> Output<'w, W> {
 
     // Flushes the writer. Pending bytes stay pending.
     pub(crate) fn flush_writer(&mut self) -> Result<()>
-        ensures same_reference { SameWriter self.old self.new }
+        ensures same_writer { SameWriter self.old self.new }
         ensures pending { pending self.new ≡ pending self.old }
-        ensures kept { KeepsContents W.contents self.old self.new }
+        ensures keeps_contents { KeepsContents W.contents self.old self.new }
         ensures io { IfErr result (λ error. IsIo error) }
         ensures succeeded { OnOk result (NothingFailed self.old self.new) }
-        ensures failed { OnErr result (FlushFailed self.old self.new) }
-        ensures flushed { IsFlushed self.old self.new }
+        ensures failed { OnErr result (OneFlushFailed self.old self.new) }
+        ensures is_flushed { IsFlushed self.old self.new }
     {
         self.writer.flush()
     }
@@ -164,10 +198,10 @@ impl<'w, W: Write> Output<'w, W> {
     ///
     /// Those of `write_gathered`, without a flush; or an `IoError` if the flush fails, after all bytes were written.
     pub fn flush(&mut self) -> Result<()>
-        ensures same_reference { SameWriter self.old self.new }
+        ensures same_writer { SameWriter self.old self.new }
         ensures none_pending { NonePending self.new }
-        ensures ok { FlushIsSound W.contents result self.old self.new }
-        ensures err { FlushFaultIsSound W.contents result self.old self.new }
+        ensures is_sound { FlushIsSound W.contents result self.old self.new }
+        ensures fault_is_sound { FlushFaultIsSound W.contents result self.old self.new }
     {
         self.write_gathered()?;
         self.flush_writer()
@@ -176,11 +210,11 @@ impl<'w, W: Write> Output<'w, W> {
     // Writes the gathered bytes if `size` more would not fit.
     fn reserve(&mut self, size: usize) -> Result<()>
         requires { size ≤ capacity }
-        ensures same_reference { SameWriter self.old self.new }
+        ensures same_writer { SameWriter self.old self.new }
         ensures fits { OnOk result (length (pending self.new) + size ≤ capacity) }
-        ensures unflushed { IsUnflushed self.old self.new }
-        ensures ok { PutIsSound W.contents [] result self.old self.new }
-        ensures err { PutFaultIsSound W.contents [] result self.old self.new }
+        ensures is_unflushed { IsUnflushed self.old self.new }
+        ensures is_sound { PutIsSound W.contents [] result self.old self.new }
+        ensures fault_is_sound { PutFaultIsSound W.contents [] result self.old self.new }
     {
         if CAPACITY - self.gathered.used < size {
             return self.write_gathered();
@@ -194,10 +228,10 @@ impl<'w, W: Write> Output<'w, W> {
     ///
     /// Those of `write_gathered`.
     pub fn put(&mut self, bytes: &[u8]) -> Result<()>
-        ensures same_reference { SameWriter self.old self.new }
-        ensures unflushed { IsUnflushed self.old self.new }
-        ensures ok { PutIsSound W.contents bytes.now result self.old self.new }
-        ensures err { PutFaultIsSound W.contents bytes.now result self.old self.new }
+        ensures same_writer { SameWriter self.old self.new }
+        ensures is_unflushed { IsUnflushed self.old self.new }
+        ensures is_sound { PutIsSound W.contents bytes.now result self.old self.new }
+        ensures fault_is_sound { PutFaultIsSound W.contents bytes.now result self.old self.new }
     {
         let mut from = 0;
         while from < bytes.len() {
@@ -214,10 +248,11 @@ impl<'w, W: Write> Output<'w, W> {
     /// Those of `write_gathered`.
     #[tactic(auto, using(crate::proofs::BufferBounds::bytes_fit))]
     pub fn put_block<A: Allocator>(&mut self, block: &Block<A>) -> Result<()>
-        ensures same_reference { SameWriter self.old self.new }
-        ensures unflushed { IsUnflushed self.old self.new }
-        ensures ok { PutIsSound W.contents (block_bytes block.now) result self.old self.new }
-        ensures err { PutFaultIsSound W.contents (block_bytes block.now) result self.old self.new }
+        ensures same_writer { SameWriter self.old self.new }
+        ensures is_unflushed { IsUnflushed self.old self.new }
+        ensures is_sound { PutIsSound W.contents (block_bytes block.now) result self.old self.new }
+        ensures fault_is_sound { PutFaultIsSound W.contents (block_bytes block.now) result self.old
+            self.new }
     {
         let duration = block.duration() as usize;
         let channels = block.channels() as usize;

@@ -1,12 +1,33 @@
 //! The samples of a stream, written as bytes.
 ghost use Rattle.std.specs.Prelude.{◌≡◌, ◌≤◌, false, Some};
-ghost use Rattle.claxon.specs.Frame.{IsWidth};
+ghost use Rattle.claxon.specs.Frame.{IsBitDepth};
 ghost use Rattle.claxon.specs.FlacReader.{flac_metadata_only, flac_streaminfo};
 ghost use Rattle.claxon.specs.FrameReader.{frame_bytes};
 ghost use Rattle.claxon_write.specs.InnerWriter.{SameWriter};
-ghost use Rattle.claxon_write.specs.Run.{RunFaultIsComplete, RunIsComplete, RunFaultIsSound, RunWritesPrefix, RunIsSound};
-ghost use Rattle.claxon_write.specs.WriteBlocks.{GatherBlocksFaultIsSound, WriteBlocksFaultIsSound, GatherBlocksIsSound, GatherOutOfMemoryForLargerBlock, WriteBlocksIsSound, WriteOutOfMemoryForLargerBlock};
-ghost use Rattle.claxon_write.specs.WriteSamples.{StreamFaultIsComplete, StreamIsComplete, StreamLeavesRest, KeepsHead, StreamIsSound, StreamFaultIsSound, StreamOutOfMemoryForLargerBlock};
+ghost use Rattle.claxon_write.specs.Run.{
+  RunFaultIsComplete,
+  RunIsComplete,
+  RunFaultIsSound,
+  RunWritesPrefix,
+  RunIsSound,
+};
+ghost use Rattle.claxon_write.specs.WriteBlocks.{
+  GatherBlocksFaultIsSound,
+  WriteBlocksFaultIsSound,
+  GatherBlocksIsSound,
+  GatherOutOfMemoryForLargerBlock,
+  WriteBlocksIsSound,
+  WriteOutOfMemoryForLargerBlock,
+};
+ghost use Rattle.claxon_write.specs.WriteSamples.{
+  StreamFaultIsComplete,
+  StreamIsComplete,
+  StreamLeavesRest,
+  KeepsHead,
+  StreamIsSound,
+  StreamFaultIsSound,
+  StreamOutOfMemoryForLargerBlock,
+};
 ghost use Rattle.claxon_write.specs.Written.{IsUnflushed};
 
 use crate::output::Output;
@@ -33,13 +54,15 @@ pub fn run<R: Read + Drop, W: Write, A: Allocator + Copy>(
     output: &mut W,
 ) -> Result<u64>
     // The input is a head, frames and fewer than two bytes, and exactly the samples of these frames were written.
-    ensures ok { RunIsSound W.contents result (R.remaining input) output.old output.new }
+    ensures is_sound { RunIsSound W.contents result (R.remaining input) output.old output.new }
     // The input has that fault, and exactly the samples before it were written; else it is an `IoError` or `OutOfMemory`.
-    ensures err { RunFaultIsSound W.contents result (R.remaining input) output.old output.new }
+    ensures fault_is_sound { RunFaultIsSound W.contents result (R.remaining input) output.old
+        output.new }
     // Holds after an `IoError` or `OutOfMemory` too.
-    ensures prefix { RunWritesPrefix W.contents result (R.remaining input) output.old output.new }
-    ensures complete { RunIsComplete result (R.remaining input) }
-    ensures named { RunFaultIsComplete result (R.remaining input) }
+    ensures writes_prefix { RunWritesPrefix W.contents result (R.remaining input) output.old
+        output.new }
+    ensures is_complete { RunIsComplete result (R.remaining input) }
+    ensures fault_is_complete { RunFaultIsComplete result (R.remaining input) }
 {
     let mut flac = FlacReader::new(alloc, input)?;
     let mut output = Output::new(output);
@@ -66,19 +89,21 @@ pub fn write_samples<R: Read + Drop, W: Write, A: Allocator + Copy>(
     output: &mut Output<'_, W>,
 ) -> Result<u64>
     requires { flac_metadata_only flac.old ≡ false }
-    ensures same_reference { SameWriter output.old output.new }
-    ensures head { KeepsHead flac.old flac.new }
-    ensures rest { StreamLeavesRest R.remaining flac.old flac.new }
+    ensures same_writer { SameWriter output.old output.new }
+    ensures keeps_head { KeepsHead flac.old flac.new }
+    ensures leaves_rest { StreamLeavesRest R.remaining flac.old flac.new }
     // Exactly the samples up to the end of the stream were written, and then flushed.
-    ensures ok { StreamIsSound W.contents R.remaining result
+    ensures is_sound { StreamIsSound W.contents R.remaining result
         flac.old flac.new output.old output.new }
     // All samples before a decoder's error were written, and then flushed, or the writer failed.
-    ensures err { StreamFaultIsSound W.contents R.remaining result
+    ensures fault_is_sound { StreamFaultIsSound W.contents R.remaining result
         flac.old flac.new output.old output.new }
     // Blocks that are no larger than earlier ones need no more memory.
-    ensures memory { StreamOutOfMemoryForLargerBlock R.remaining result flac.old flac.new }
-    ensures complete { StreamIsComplete R.remaining result flac.old flac.new output.old output.new }
-    ensures named { StreamFaultIsComplete R.remaining result
+    ensures out_of_memory_for_larger_block { StreamOutOfMemoryForLargerBlock R.remaining result
+        flac.old flac.new }
+    ensures is_complete { StreamIsComplete R.remaining result flac.old flac.new output.old
+        output.new }
+    ensures fault_is_complete { StreamFaultIsComplete R.remaining result
         flac.old flac.new output.old output.new }
 {
     write_samples_exact(alloc, flac, output)
@@ -92,14 +117,15 @@ fn write_samples_exact<R: Read + Drop, W: Write, A: Allocator + Copy>(
     output: &mut Output<'_, W>,
 ) -> Result<u64>
     requires { flac_metadata_only flac.old ≡ false }
-    ensures same_reference { SameWriter output.old output.new }
-    ensures head { KeepsHead flac.old flac.new }
-    ensures width { IsWidth (Some (flac_streaminfo flac.old).bits_per_sample) }
-    ensures ok { StreamIsSound W.contents R.remaining result
+    ensures same_writer { SameWriter output.old output.new }
+    ensures keeps_head { KeepsHead flac.old flac.new }
+    ensures bit_depth { IsBitDepth (Some (flac_streaminfo flac.old).bits_per_sample) }
+    ensures is_sound { StreamIsSound W.contents R.remaining result
         flac.old flac.new output.old output.new }
-    ensures err { StreamFaultIsSound W.contents R.remaining result
+    ensures fault_is_sound { StreamFaultIsSound W.contents R.remaining result
         flac.old flac.new output.old output.new }
-    ensures memory { StreamOutOfMemoryForLargerBlock R.remaining result flac.old flac.new }
+    ensures out_of_memory_for_larger_block { StreamOutOfMemoryForLargerBlock R.remaining result
+        flac.old flac.new }
 {
     let info = flac.streaminfo();
     let end = write_blocks(alloc, flac.input(), info, output)?;
@@ -127,15 +153,16 @@ fn write_blocks<R: ReadBytes, W: Write, A: Allocator + Copy>(
     info: StreamInfo,
     output: &mut Output<'_, W>,
 ) -> Result<End>
-    requires some { 1 ≤ info.bits_per_sample }
-    requires most { info.bits_per_sample ≤ 32 }
-    ensures same_reference { SameWriter output.old output.new }
-    ensures ok { WriteBlocksIsSound W.contents R.source info result
+    requires min_bit_depth { 1 ≤ info.bits_per_sample }
+    requires max_bit_depth { info.bits_per_sample ≤ 32 }
+    ensures same_writer { SameWriter output.old output.new }
+    ensures is_sound { WriteBlocksIsSound W.contents R.source info result
         input.old input.new output.old output.new }
-    ensures unflushed { IsUnflushed output.old output.new }
-    ensures err { WriteBlocksFaultIsSound W.contents R.source info result
+    ensures is_unflushed { IsUnflushed output.old output.new }
+    ensures fault_is_sound { WriteBlocksFaultIsSound W.contents R.source info result
         input.old input.new output.old output.new }
-    ensures memory { WriteOutOfMemoryForLargerBlock R.source info result input.old input.new }
+    ensures out_of_memory_for_larger_block { WriteOutOfMemoryForLargerBlock R.source info result
+        input.old input.new }
 {
     let mut frames = FrameReader::with_streaminfo(input, info);
     let end = gather_blocks(alloc, &mut frames, output)?;
@@ -149,15 +176,16 @@ fn gather_blocks<R: ReadBytes, W: Write, A: Allocator + Copy>(
     frames: &mut FrameReader<R>,
     output: &mut Output<'_, W>,
 ) -> Result<End>
-    ensures same_reference { SameWriter output.old output.new }
+    ensures same_writer { SameWriter output.old output.new }
     ensures loans { (frame_bytes R.source frames.new).source.loans
         ≡ (frame_bytes R.source frames.old).source.loans }
-    ensures ok { GatherBlocksIsSound W.contents R.source result
+    ensures is_sound { GatherBlocksIsSound W.contents R.source result
         frames.old frames.new output.old output.new }
-    ensures unflushed { IsUnflushed output.old output.new }
-    ensures err { GatherBlocksFaultIsSound W.contents R.source result
+    ensures is_unflushed { IsUnflushed output.old output.new }
+    ensures fault_is_sound { GatherBlocksFaultIsSound W.contents R.source result
         frames.old frames.new output.old output.new }
-    ensures memory { GatherOutOfMemoryForLargerBlock R.source result frames.old frames.new }
+    ensures out_of_memory_for_larger_block { GatherOutOfMemoryForLargerBlock R.source result
+        frames.old frames.new }
 {
     let mut count = 0u64;
     let mut buffer = Vec::new(alloc);

@@ -1,4 +1,4 @@
-use Rattle.claxon_format.proofs.Pairs.{names_same as law}
+use Rattle.claxon_format.proofs.Tags.{names_same as law}
 use Rattle.claxon_format.proofs.names_same.Goals as goal
 
 pub returns : goal.returns

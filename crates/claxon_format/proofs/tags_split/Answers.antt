@@ -1,4 +1,4 @@
-use Rattle.claxon_format.proofs.Pairs.{tags_split as law}
+use Rattle.claxon_format.proofs.Tags.{tags_split as law}
 use Rattle.claxon_format.proofs.tags_split.Goals as goal
 
 pub returns : goal.returns

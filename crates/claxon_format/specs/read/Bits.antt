@@ -1,5 +1,28 @@
 -- Readers of bits and numbers (RFC 9639, section 5), and of Rice codes (section 9.2.7.2).
-use Rattle.std.specs.Prelude.{ℕ, suc, ◌+◌, ◌-◌, ◌*◌, ◌/◌, ◌%◌, ◌^◌, Bool, true, false, cond, ◌==◌, nat_lt, [], ◌∷◌, length, take, drop, ℤ, pos, negsuc}
+use Rattle.std.specs.Prelude.{
+  ℕ,
+  suc,
+  ◌+◌,
+  ◌-◌,
+  ◌*◌,
+  ◌/◌,
+  ◌%◌,
+  ◌^◌,
+  Bool,
+  true,
+  false,
+  cond,
+  ◌==◌,
+  nat_lt,
+  [],
+  ◌∷◌,
+  length,
+  take,
+  drop,
+  ℤ,
+  pos,
+  negsuc,
+}
 use Rattle.claxon_format.specs.Bits.{Bits, number}
 use Rattle.claxon_format.specs.read.Reading.{Reading, Done, Faulty, Incomplete, and_then, done}
 
@@ -51,4 +74,6 @@ zigzag_decode n = cond (n % 2 == 0) (pos (n / 2)) (negsuc (n / 2))
 
 -- a Rice code under the Rice parameter k
 unfoldable pub rice_code_at : ℕ → Bits → Reading Bool ℤ
-rice_code_at k = and_then unary_at (λ q. and_then (number_at k) (λ r. done (zigzag_decode (zigzag_encoded k q r))))
+rice_code_at k =
+    and_then unary_at (λ q.
+    and_then (number_at k) (λ r. done (zigzag_decode (zigzag_encoded k q r))))

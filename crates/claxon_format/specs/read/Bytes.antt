@@ -1,10 +1,39 @@
 -- Readers of bytes and of numbers in bytes (RFC 9639, section 5), and of bits from bytes.
-use Rattle.std.specs.Prelude.{ℕ, ◌+◌, ◌*◌, ◌%◌, ◌^◌, [], ◌∷◌, ◌-◌, ◌/◌, Bool, cond, not, ◌==◌, nat_lt, List, length, take, drop}
+use Rattle.std.specs.Prelude.{
+  ℕ,
+  ◌+◌,
+  ◌*◌,
+  ◌%◌,
+  ◌^◌,
+  [],
+  ◌∷◌,
+  ◌-◌,
+  ◌/◌,
+  Bool,
+  cond,
+  not,
+  ◌==◌,
+  nat_lt,
+  List,
+  length,
+  take,
+  drop,
+}
 use Rattle.claxon_format.specs.Bits.{Bits, bits_of}
 use Rattle.claxon_format.specs.Fault.{Fault}
-use Rattle.claxon_format.specs.read.Reading.{Reading, Done, Faulty, Incomplete, and_then, and_with, done, test}
+use Rattle.claxon_format.specs.read.Reading.{
+  Reading,
+  Done,
+  Faulty,
+  Incomplete,
+  and_then,
+  and_with,
+  done,
+  test,
+}
 
--- the number that bytes stand for, big-endian and little-endian; as in `bits_of` a byte counts modulo 256
+-- the number that bytes stand for, big-endian and little-endian; as in `bits_of` a byte counts
+-- modulo 256
 unfoldable pub big_endian : List ℕ → ℕ
 big_endian [] = 0
 big_endian (y ∷ ys) = y % 256 * 256 ^ length ys + big_endian ys
@@ -52,5 +81,7 @@ unfoldable pub crc_at : ℕ → ℕ → Fault → List ℕ → Reading ℕ (Unit
 crc_at w crc f = and_then (big_at w) (λ n. test (not (n == crc)) f (done tt))
 
 -- what r reads, and then the CRC of its bits
-abbrev pub with_crc_bytes_at : {A : Type 0} → ℕ → (Bits → ℕ) → Fault → (List ℕ → Reading ℕ A) → List ℕ → Reading ℕ A
-with_crc_bytes_at w crc f r = and_with r (λ a x. and_then (big_at w) (λ n. test (not (n == crc (bits_of x))) f (done a)))
+abbrev pub with_crc_bytes_at : {A : Type 0} → ℕ → (Bits → ℕ) → Fault → (List ℕ → Reading ℕ A)
+    → List ℕ → Reading ℕ A
+with_crc_bytes_at w crc f r =
+    and_with r (λ a x. and_then (big_at w) (λ n. test (not (n == crc (bits_of x))) f (done a)))

@@ -1,4 +1,5 @@
--- The reader of coded numbers (RFC 9639, section 9.1.5). They are whole bytes, and are read from bits and from bytes alike.
+-- The reader of coded numbers (RFC 9639, section 9.1.5). They are whole bytes, and are read from
+-- bits and from bytes alike.
 use Rattle.std.specs.Prelude.{ℕ, zero, suc, ◌+◌, ◌-◌, ◌*◌, ◌%◌, ◌^◌, Bool, cond, nat_lt, List}
 use Rattle.claxon_format.specs.Bits.{Bits}
 use Rattle.claxon_format.specs.CodedNumber.{bad_first, bad_continuation, continuation_count}
@@ -20,16 +21,20 @@ lead b = cond (nat_lt b 128) b (b % 2 ^ (6 - continuation_count b))
 
 -- six bits of the number
 unfoldable pub continuation_byte_at : {X : Type 0} → Numbers X → List X → Reading X ℕ
-continuation_byte_at number = and_then (number 1) (λ c. test (bad_continuation c) NumberContinuation (done (c % 64)))
+continuation_byte_at number =
+    and_then (number 1) (λ c. test (bad_continuation c) NumberContinuation (done (c % 64)))
 
 -- k continuation bytes: six bits each, after the bits of x
 unfoldable pub continuation_bytes_at : {X : Type 0} → Numbers X → ℕ → ℕ → List X → Reading X ℕ
 continuation_bytes_at number zero x = done x
-continuation_bytes_at number (suc k) x = and_then (continuation_byte_at number) (λ c. continuation_bytes_at number k (x * 64 + c))
+continuation_bytes_at number (suc k) x =
+    and_then (continuation_byte_at number) (λ c. continuation_bytes_at number k (x * 64 + c))
 
 -- a first byte and its continuation bytes
 unfoldable pub coded_number_at : {X : Type 0} → Numbers X → List X → Reading X ℕ
-coded_number_at number = and_then (number 1) (λ b. test (bad_first b) NumberFirst (continuation_bytes_at number (continuation_count b) (lead b)))
+coded_number_at number =
+    and_then (number 1) (λ b.
+    test (bad_first b) NumberFirst (continuation_bytes_at number (continuation_count b) (lead b)))
 
 -- from bits
 abbrev pub coded_number_bits_at : Bits → Reading Bool ℕ

@@ -7,8 +7,10 @@ use Rattle.claxon_format.specs.read.Reading.{Reading, and_then, and_with, done, 
 use Rattle.claxon_format.specs.read.Bits.{number_at}
 
 -- what r reads, and then its CRC of w bits
-unfoldable pub with_crc_at : {A : Type 0} → ℕ → (Bits → ℕ) → Fault → (Bits → Reading Bool A) → Bits → Reading Bool A
-with_crc_at w crc f r = and_with r (λ a x. and_then (number_at w) (λ n. test (not (n == crc x)) f (done a)))
+unfoldable pub with_crc_at : {A : Type 0} → ℕ → (Bits → ℕ) → Fault → (Bits → Reading Bool A) → Bits
+    → Reading Bool A
+with_crc_at w crc f r =
+    and_with r (λ a x. and_then (number_at w) (λ n. test (not (n == crc x)) f (done a)))
 
 -- what r reads, and padding up to a byte boundary
 unfoldable pub byte_aligned_at : {A : Type 0} → (Bits → Reading Bool A) → Bits → Reading Bool A

@@ -2,14 +2,14 @@
 use Rattle.std.specs.Prelude.{ℕ, Bool, List, ℤ, Option}
 use Rattle.claxon_format.specs.Bits.{Bits}
 use Rattle.claxon_format.specs.Fault.{FrameCrc}
-use Rattle.claxon_format.specs.Frame.{StreamFormat, Block, known_width, time_of}
+use Rattle.claxon_format.specs.Frame.{StreamFormat, Block, known_bit_depth, time_of}
 use Rattle.claxon_format.specs.Crc.{crc16}
 use Rattle.claxon_format.specs.Header.{Header}
 use Rattle.claxon_format.specs.read.Reading.{Reading, and_then, done, each_at}
-use Rattle.claxon_format.specs.Stereo.{widths}
+use Rattle.claxon_format.specs.Stereo.{bit_depths}
 use Rattle.claxon_format.specs.read.Stereo.{decoded_channels}
 use Rattle.claxon_format.specs.read.Bytes.{by_bytes, with_crc_bytes_at}
-use Rattle.claxon_format.specs.read.Header.{fields_with_crc_at, with_width}
+use Rattle.claxon_format.specs.read.Header.{fields_with_crc_at, with_bit_depth}
 use Rattle.claxon_format.specs.read.Subframe.{subframe_at}
 
 -- what a header says of the block of its frame
@@ -17,30 +17,40 @@ pub record Start : Type 0 where
   pub time : ℕ
   pub size : ℕ
   pub channels : ℕ
-  pub width : ℕ
+  pub bit_depth : ℕ
 
 abbrev pub start_of : Option StreamFormat → Header → Start
-start_of stream h = record { time = time_of stream h.fields; size = h.fields.size; channels = h.fields.channels; width = h.width }
+start_of stream h =
+    record {
+      time = time_of stream h.fields;
+      size = h.fields.size;
+      channels = h.fields.channels;
+      bit_depth = h.bit_depth;
+    }
 
 -- a header and its CRC
 unfoldable pub start_at : Option StreamFormat → List ℕ → Reading ℕ Start
-start_at stream = with_width fields_with_crc_at (known_width stream) (start_of stream)
+start_at stream = with_bit_depth fields_with_crc_at (known_bit_depth stream) (start_of stream)
 
 -- a subframe of this block size for each bit depth
 unfoldable pub coded_channels_at : ℕ → List ℕ → Bits → Reading Bool (List (List ℤ))
-coded_channels_at size widths = each_at (λ w. subframe_at w size) widths
+coded_channels_at size bit_depths = each_at (λ w. subframe_at w size) bit_depths
 
 -- the subframes, and the padding up to a byte boundary
 unfoldable pub subframes_at : ℕ → List ℕ → List ℕ → Reading ℕ (List (List ℤ))
-subframes_at size widths = by_bytes (coded_channels_at size widths)
+subframes_at size bit_depths = by_bytes (coded_channels_at size bit_depths)
 
 -- the block of a header and the channels coded after it
 abbrev pub block_from : Start → List (List ℤ) → Block
-block_from start coded = record { time = start.time; channels = decoded_channels start.channels coded }
+block_from start coded =
+    record { time = start.time; channels = decoded_channels start.channels coded }
 
 -- a header and its subframes
 unfoldable pub frame_without_crc_at : Option StreamFormat → List ℕ → Reading ℕ Block
-frame_without_crc_at stream = and_then (start_at stream) (λ start. and_then (subframes_at start.size (widths start.channels start.width)) (λ coded. done (block_from start coded)))
+frame_without_crc_at stream =
+    and_then (start_at stream) (λ start.
+    and_then (subframes_at start.size (bit_depths start.channels start.bit_depth)) (λ coded.
+    done (block_from start coded)))
 
 -- and their CRC (section 9.3)
 abbrev pub frame_bytes_at : Option StreamFormat → List ℕ → Reading ℕ Block

@@ -1,27 +1,50 @@
 -- Readers of the head of a stream and of its parts (RFC 9639, sections 6 and 8).
 use Rattle.std.specs.Prelude.{ℕ, zero, suc, ◌/◌, Bool, cond, not, ◌==◌, List, Option, None}
-use Rattle.claxon_format.specs.Fault.{Id3Header, StreamMarker, StreaminfoMissing, SecondComment, SecondStreaminfo, TooManyBlocks}
+use Rattle.claxon_format.specs.Fault.{
+  Id3Header,
+  StreamMarker,
+  StreaminfoMissing,
+  SecondComment,
+  SecondStreaminfo,
+  TooManyBlocks,
+}
 use Rattle.claxon_format.specs.read.Reading.{Reading, and_then, done, test, fails}
 use Rattle.claxon_format.specs.read.Bytes.{big_at}
 use Rattle.claxon_format.specs.Comments.{Comment}
 use Rattle.claxon_format.specs.MetadataBlocks.{Content, Info}
 use Rattle.claxon_format.specs.read.MetadataBlocks.{block_at}
-use Rattle.claxon_format.specs.Heads.{Options, Head, is_info, stream_marker, found_with, is_second, is_done, streaminfo_ends_head}
+use Rattle.claxon_format.specs.Heads.{
+  Options,
+  Head,
+  is_info,
+  stream_marker,
+  found_with,
+  is_second,
+  is_done,
+  streaminfo_ends_head,
+}
 
 unfoldable pub marker_at : List ℕ → Reading ℕ ℕ
-marker_at = and_then (big_at 4) (λ m. test (m / 256 == 0x494433) Id3Header (test (not (m == stream_marker)) StreamMarker (done m)))
+marker_at =
+    and_then (big_at 4) (λ m.
+    test (m / 256 == 0x494433) Id3Header (test (not (m == stream_marker)) StreamMarker (done m)))
 
 -- the blocks after the streaminfo, up to a limit of blocks
 unfoldable pub others_at : Bool → ℕ → Option Comment → List ℕ → Reading ℕ (Option Comment)
 others_at suffices zero found = fails TooManyBlocks
 others_at suffices (suc k) found =
-    and_then block_at (λ b. test (is_info b.content) SecondStreaminfo (test (is_second found b.content) SecondComment (
-    cond (is_done suffices found b) (done (found_with found b.content)) (others_at suffices k (found_with found b.content)))))
+    and_then block_at (λ b.
+    test (is_info b.content) SecondStreaminfo (
+    test (is_second found b.content) SecondComment (
+    cond (is_done suffices found b) (done (found_with found b.content)) (
+    others_at suffices k (found_with found b.content)))))
 
 -- what is read after the first block
 unfoldable pub after_first : Options → Bool → Content → List ℕ → Reading ℕ Head
 after_first o is_last (Info i) =
-    and_then (cond (streaminfo_ends_head o is_last) (done None) (others_at o.metadata_only 65535 None)) (λ found. done (record { info = i; comment = cond o.wants_comment found None }))
+    and_then
+    (cond (streaminfo_ends_head o is_last) (done None) (others_at o.metadata_only 65535 None))
+    (λ found. done (record { info = i; comment = cond o.wants_comment found None }))
 after_first o is_last _ = fails StreaminfoMissing
 
 unfoldable pub head_at : Options → List ℕ → Reading ℕ Head

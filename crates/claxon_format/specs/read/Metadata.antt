@@ -9,4 +9,5 @@ abbrev pub block_header : ℕ → ℕ → BlockHeader
 block_header first size = record { is_last = nat_lt 127 first; type = first % 128; length = size }
 
 unfoldable pub block_header_at : List ℕ → Reading ℕ BlockHeader
-block_header_at = and_then (big_at 1) (λ first. and_then (big_at 3) (λ size. done (block_header first size)))
+block_header_at =
+    and_then (big_at 1) (λ first. and_then (big_at 3) (λ size. done (block_header first size)))

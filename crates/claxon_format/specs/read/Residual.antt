@@ -1,9 +1,32 @@
 -- Readers of a residual and of its parts (RFC 9639, section 9.2.7).
-use Rattle.std.specs.Prelude.{ℕ, zero, suc, ◌+◌, ◌/◌, ◌%◌, ◌^◌, Bool, cond, ◌==◌, nat_lt, List, ℤ, pos}
+use Rattle.std.specs.Prelude.{
+  ℕ,
+  zero,
+  suc,
+  ◌+◌,
+  ◌/◌,
+  ◌%◌,
+  ◌^◌,
+  Bool,
+  cond,
+  ◌==◌,
+  nat_lt,
+  List,
+  ℤ,
+  pos,
+}
 use Rattle.std.specs.List.{flat_map}
 use Rattle.claxon_format.specs.Bits.{Bits}
 use Rattle.claxon_format.specs.Fault.{MethodReserved, PartitionOrder, PartitionShort}
-use Rattle.claxon_format.specs.read.Reading.{Reading, and_then, done, each_at, times_at, test, checked_at}
+use Rattle.claxon_format.specs.read.Reading.{
+  Reading,
+  and_then,
+  done,
+  each_at,
+  times_at,
+  test,
+  checked_at,
+}
 use Rattle.claxon_format.specs.Residual.{escape, partition_lengths}
 use Rattle.claxon_format.specs.read.Bits.{number_at, signed_at, rice_code_at}
 
@@ -18,7 +41,9 @@ escaped_partition_at l = and_then (number_at 5) (λ b. times_at l (escaped_sampl
 
 -- a partition of l residual samples: a Rice parameter and Rice codes, or the escape
 unfoldable pub partition_at : ℕ → ℕ → Bits → Reading Bool (List ℤ)
-partition_at method l = and_then (number_at (4 + method)) (λ k. cond (k == escape method) (escaped_partition_at l) (times_at l (rice_code_at k)))
+partition_at method l =
+    and_then (number_at (4 + method)) (λ k.
+    cond (k == escape method) (escaped_partition_at l) (times_at l (rice_code_at k)))
 
 -- the residual samples of partitions, one after another
 abbrev pub joined_at : (ℕ → Bits → Reading Bool (List ℤ)) → List ℕ → Bits → Reading Bool (List ℤ)
@@ -30,7 +55,11 @@ method_at = checked_at (nat_lt 1) MethodReserved (number_at 2)
 
 -- the partitions of n samples less the warm-up samples
 unfoldable pub partitions_at : ℕ → ℕ → ℕ → Bits → Reading Bool (List ℤ)
-partitions_at n order method = and_then (number_at 4) (λ p. test (nat_lt 0 (n % 2 ^ p)) PartitionOrder (test (nat_lt (n / 2 ^ p) order) PartitionShort (joined_at (partition_at method) (partition_lengths n order p))))
+partitions_at n order method =
+    and_then (number_at 4) (λ p.
+    test (nat_lt 0 (n % 2 ^ p)) PartitionOrder (
+    test (nat_lt (n / 2 ^ p) order) PartitionShort (
+    joined_at (partition_at method) (partition_lengths n order p))))
 
 unfoldable pub residual_at : ℕ → ℕ → Bits → Reading Bool (List ℤ)
 residual_at n order = and_then method_at (partitions_at n order)

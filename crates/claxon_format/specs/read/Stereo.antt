@@ -5,11 +5,15 @@ use Rattle.claxon_format.specs.Stereo.{parity, zipped}
 
 -- the left sample of two coded samples
 abbrev pub left_of : ℕ → ℤ → ℤ → ℤ
-left_of code a b = cond (code == 8) a (cond (code == 9) (wrap (a +ℤ b)) (floor_shift (wrap ((pos 2 *ℤ a +ℤ parity b) +ℤ b)) 1))
+left_of code a b =
+    cond (code == 8) a (
+    cond (code == 9) (wrap (a +ℤ b)) (floor_shift (wrap ((pos 2 *ℤ a +ℤ parity b) +ℤ b)) 1))
 
 -- the right sample of two coded samples
 abbrev pub right_of : ℕ → ℤ → ℤ → ℤ
-right_of code a b = cond (code == 8) (wrap (a -ℤ b)) (cond (code == 9) b (floor_shift (wrap ((pos 2 *ℤ a +ℤ parity b) -ℤ b)) 1))
+right_of code a b =
+    cond (code == 8) (wrap (a -ℤ b)) (
+    cond (code == 9) b (floor_shift (wrap ((pos 2 *ℤ a +ℤ parity b) -ℤ b)) 1))
 
 -- left and right from two coded channels
 abbrev pub decoded_pair : ℕ → List (List ℤ) → List (List ℤ)

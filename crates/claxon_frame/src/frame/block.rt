@@ -1,5 +1,16 @@
 //! Blocks: the samples of a frame.
-ghost use Rattle.std.specs.Prelude.{Some, ◌≡◌, ◌<◌, ◌≤◌, ◌*◌, [], length, slice_get, vec_capacity, IfSome};
+ghost use Rattle.std.specs.Prelude.{
+  Some,
+  ◌≡◌,
+  ◌<◌,
+  ◌≤◌,
+  ◌*◌,
+  [],
+  length,
+  slice_get,
+  vec_capacity,
+  IfSome,
+};
 ghost use Rattle.std.specs.Iterator.{YieldsFirst, item_count};
 ghost use Rattle.claxon_frame.specs.Block.{AreOfLength, BlockValue, chunks, joined};
 ghost use Rattle.claxon_format.specs.Streams.{duration_of};

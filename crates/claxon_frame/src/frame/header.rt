@@ -2,17 +2,49 @@
 ghost use Rattle.std.specs.Prelude.{◌≡◌, ℕ, ◌<◌, ◌≤◌, IfOk, IfErr, false};
 ghost use Rattle.std.specs.Option.{ForSome};
 ghost use Rattle.claxon_format.specs.Fault.{HeaderCrc, BitDepthReserved};
-ghost use Rattle.claxon_format.specs.Frame.{block_step, known_width, time_of};
+ghost use Rattle.claxon_format.specs.Frame.{block_step, known_bit_depth, time_of};
 ghost use Rattle.claxon_format.specs.read.Bytes.{crc_at, big_at};
 ghost use Rattle.claxon_format.specs.Header.{rate_bytes, bit_depth_reserved};
 ghost use Rattle.claxon_format.specs.read.Reading.{done, test};
 ghost use Rattle.claxon_input.specs.State.{State, bytes_in};
 ghost use Rattle.claxon_input.specs.Gives.{Gives, GivesOrEof};
-ghost use Rattle.claxon_frame.specs.FrameHeader.{HasBitDepthCode, channel_code, channels_of, is_variable, least_size, block_time_view, max_bit_depth, bit_depth_code};
+ghost use Rattle.claxon_frame.specs.FrameHeader.{
+  HasBitDepthCode,
+  channel_code,
+  channels_of,
+  is_variable,
+  least_size,
+  block_time_view,
+  max_bit_depth,
+  bit_depth_code,
+};
 ghost use Rattle.claxon_input.specs.Error.{is_out_of_memory};
-ghost use Rattle.claxon_format.specs.read.Header.{fields_at, blocking_at, channels_at, codes_at, fields_after, fields_with_crc_at, number_in, rate_at, size_coding, size_at, sync_at, width_at};
-ghost use Rattle.claxon_format.specs.read.CodedNumber.{coded_number_at, continuation_bytes_at, continuation_byte_at};
-ghost use Rattle.claxon_frame.specs.FrameStart.{FrameHeaderIsRead, fields_view, rate_view, stream_format_view, size_view};
+ghost use Rattle.claxon_format.specs.read.Header.{
+  fields_at,
+  blocking_at,
+  channels_at,
+  codes_at,
+  fields_after,
+  fields_with_crc_at,
+  number_in,
+  rate_at,
+  size_coding,
+  size_at,
+  sync_at,
+  bit_depth_at,
+};
+ghost use Rattle.claxon_format.specs.read.CodedNumber.{
+  coded_number_at,
+  continuation_bytes_at,
+  continuation_byte_at,
+};
+ghost use Rattle.claxon_frame.specs.FrameStart.{
+  FrameHeaderIsRead,
+  fields_view,
+  rate_view,
+  stream_format_view,
+  size_view,
+};
 ghost use Rattle.claxon_input.specs.Source.{KeepsLoans};
 
 mod parts;
@@ -32,20 +64,20 @@ pub fn read_frame_header_or_eof<R: ReadBytes>(
     input: &mut R,
     stream: Option<KnownStreamFormat>,
 ) -> Result<Option<FrameHeader>>
-    ensures gives { FrameHeaderIsRead R.source (stream_format_view stream)
+    ensures is_read { FrameHeaderIsRead R.source (stream_format_view stream)
         input.old result input.new }
     ensures no_memory { IfErr result (λ error. is_out_of_memory error ≡ false) }
-    ensures loans { KeepsLoans (R.source input.old) (R.source input.new) }
+    ensures keeps_loans { KeepsLoans (R.source input.old) (R.source input.new) }
 {
     let Some(fields) = read_fields_with_crc(input)? else {
         return Ok(None);
     };
-    let bits_per_sample = resolve_bit_depth(&fields, stream)?;
+    let bit_depth = resolve_bit_depth(&fields, stream)?;
     Ok(Some(FrameHeader {
         time: time_of_block(&fields, stream),
         block_size: fields.block_size,
         channel_assignment: fields.channel_assignment,
-        bits_per_sample,
+        bit_depth,
     }))
 }
 
@@ -75,19 +107,19 @@ fn previous_block_size(block_size: u16, stream: Option<KnownStreamFormat>) -> u1
 }
 
 // The bit depth of the header, or that of the stream if the header gives none.
-#[tactic(auto, unfolding(claxon_format::specs::read::Header::width_at, claxon_format::specs::Fault::fault_text))]
+#[tactic(auto, unfolding(claxon_format::specs::read::Header::bit_depth_at, claxon_format::specs::Fault::fault_text))]
 fn resolve_bit_depth(fields: &HeaderFields, stream: Option<KnownStreamFormat>) -> Result<u32>
     ensures max_bits { IfOk result (λ bits. max_bit_depth fields.now.channel_assignment bits ≤ 32) }
     ensures gives { (here : State ℕ) → Gives (λ x. x) result
-        (width_at (known_width (stream_format_view stream)) (fields_view fields.now)) here here }
+        (bit_depth_at (known_bit_depth (stream_format_view stream)) (fields_view fields.now)) here here }
 {
-    if let Some(bits) = fields.bits_per_sample {
+    if let Some(bits) = fields.bit_depth {
         return Ok(bits);
     }
     let Some(format) = stream else {
         return Err(Error::Unsupported("header without bits per sample info"));
     };
-    let bits = format.bits_per_sample;
+    let bits = format.bit_depth;
     match fields.channel_assignment {
         ChannelAssignment::Independent(_) => Ok(bits),
         _ if bits < 32 => Ok(bits),
@@ -139,7 +171,7 @@ fn read_fields<R: ReadBytes>(input: &mut R, blocking: BlockingStrategy) -> Resul
         (bytes_in R.source input.old) (bytes_in R.source input.new) }
 {
     let (size, rate) = read_size_and_rate(input)?;
-    let (channel_assignment, bits_per_sample) = read_channels_and_bit_depth(input)?;
+    let (channel_assignment, bit_depth) = read_channels_and_bit_depth(input)?;
     let block_time = read_block_time(input, blocking)?;
     let block_size = read_block_size(input, size)?;
     skip_rate(input, rate)?;
@@ -147,7 +179,7 @@ fn read_fields<R: ReadBytes>(input: &mut R, blocking: BlockingStrategy) -> Resul
         block_time,
         block_size,
         channel_assignment,
-        bits_per_sample,
+        bit_depth,
     })
 }
 
@@ -241,11 +273,11 @@ fn read_channels_and_bit_depth<R: ReadBytes>(
         10 => ChannelAssignment::MidSideStereo,
         _ => return Err(Error::FormatError("invalid frame header, encountered reserved value")),
     };
-    let bits_per_sample = bit_depth_of((codes >> 1) & 0b111)?;
+    let bit_depth = bit_depth_of((codes >> 1) & 0b111)?;
     if codes & 1 == 1 {
         return Err(Error::FormatError("invalid frame header, encountered reserved value"));
     }
-    Ok((channel_assignment, bits_per_sample))
+    Ok((channel_assignment, bit_depth))
 }
 
 // The bit depth of a code, None for that of the stream. Whether the stream's is known is checked only after the header's CRC.

@@ -23,7 +23,7 @@ pub struct BlockInfo {
     pub duration: u32,
 
     /// The bit depth: that of the stream where the header gives none.
-    pub bits_per_sample: u32,
+    pub bit_depth: u32,
 }
 
 impl BlockInfo {
@@ -34,7 +34,7 @@ impl BlockInfo {
             time: header.time,
             channels: u32::from(header.channel_assignment.channels()),
             duration: u32::from(header.block_size),
-            bits_per_sample: header.bits_per_sample,
+            bit_depth: header.bit_depth,
         }
     }
 }
@@ -44,9 +44,9 @@ pub(super) fn read_block_info_or_eof<R: ReadBytes>(
     input: &mut R,
     stream: Option<KnownStreamFormat>,
 ) -> Result<Option<BlockInfo>>
-    ensures gives { HeaderInfoIsRead R.source (stream_format_view stream)
+    ensures is_read { HeaderInfoIsRead R.source (stream_format_view stream)
         input.old result input.new }
-    ensures bounds { HasBlockBounds result }
+    ensures has_block_bounds { HasBlockBounds result }
 {
     let Some(header) = read_frame_header_or_eof(input, stream)? else {
         return Ok(None);

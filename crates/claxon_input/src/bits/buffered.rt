@@ -1,5 +1,19 @@
 //! Buffered bits: those that a `Bitstream` has without asking its source, which are read without being consumed.
-ghost use Rattle.std.specs.Prelude.{◌≡◌, ◌+◌, ◌*◌, ◌-◌, ◌%◌, ◌^◌, ◌<◌, ◌≤◌, ◌++◌, IfSome, length, take, drop};
+ghost use Rattle.std.specs.Prelude.{
+  ◌≡◌,
+  ◌+◌,
+  ◌*◌,
+  ◌-◌,
+  ◌%◌,
+  ◌^◌,
+  ◌<◌,
+  ◌≤◌,
+  ◌++◌,
+  IfSome,
+  length,
+  take,
+  drop,
+};
 ghost use Rattle.claxon_format.specs.Bits.{bits, bits_of};
 ghost use Rattle.claxon_format.specs.read.Bits.{number_at, unary_at};
 
@@ -26,7 +40,12 @@ pub struct BufferedBits<'a> {
 }
 
 impl BufferedBits<'_> {
-    ghost use Rattle.claxon_input.specs.BufferedBits.{GivesBufferedOrNone, PeeksBits, bits_in_buffer, in_cache};
+    ghost use Rattle.claxon_input.specs.BufferedBits.{
+      GivesBufferedOrNone,
+      PeeksBits,
+      bits_in_buffer,
+      in_cache,
+    };
 
     // The `count` low bits of the cache, and then those of the first 65536 bytes.
     #[inline(always)]

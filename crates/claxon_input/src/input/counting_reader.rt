@@ -4,7 +4,12 @@
 //! few lines have to be read.
 ghost use Rattle.std.specs.Prelude.{◌≡◌, ◌<◌, length};
 ghost use Rattle.std.specs.Io.{ReadsAtMost};
-ghost use Rattle.claxon_input.specs.CountingReader.{CountsRead, NothingIsCounted, ReadConsumesInner, counted_inner};
+ghost use Rattle.claxon_input.specs.CountingReader.{
+  CountsRead,
+  NothingIsCounted,
+  ReadConsumesInner,
+  counted_inner,
+};
 
 use std::io;
 use std::io::Read;
@@ -21,7 +26,7 @@ impl<R: io::Read> CountingReader<R> {
     /// Wraps the reader. All counts are 0.
     pub fn new(inner: R) -> CountingReader<R>
         ensures inner { counted_inner result ≡ inner }
-        ensures counts { NothingIsCounted result }
+        ensures nothing_is_counted { NothingIsCounted result }
     {
         CountingReader {
             inner,
@@ -41,9 +46,9 @@ impl<R: io::Read> CountingReader<R> {
     /// would count as a read of no bytes, so there has to be some.
     pub fn read(&mut self, buf: &mut [u8]) -> io::Result<usize>
         requires { 0 < length buf.old }
-        ensures bound { ReadsAtMost result buf.new }
-        ensures bytes { ReadConsumesInner R.remaining self.old result self.new buf.new }
-        ensures counts { CountsRead self.old result self.new }
+        ensures reads_at_most { ReadsAtMost result buf.new }
+        ensures consumes_inner { ReadConsumesInner R.remaining self.old result self.new buf.new }
+        ensures counts_read { CountsRead self.old result self.new }
     {
         match self.inner.read(buf) {
             Ok(0) => {

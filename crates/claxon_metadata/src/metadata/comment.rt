@@ -1,7 +1,25 @@
 //! Reads Vorbis comments.
-ghost use Rattle.std.specs.Prelude.{◌≡◌, ◌≤◌, ◌-◌, ◌/◌, true, false, string_bytes, IfOk, IfSome, MatchResult};
+ghost use Rattle.std.specs.Prelude.{
+  ◌≡◌,
+  ◌≤◌,
+  ◌-◌,
+  ◌/◌,
+  true,
+  false,
+  string_bytes,
+  IfOk,
+  IfSome,
+  MatchResult,
+};
 ghost use Rattle.claxon_format.specs.Comments.{not_utf8};
-ghost use Rattle.claxon_format.specs.read.Comments.{entry_at, entry_or_empty_at, entries_at, vendor_at, count_at, comment_at};
+ghost use Rattle.claxon_format.specs.read.Comments.{
+  entry_at,
+  entry_or_empty_at,
+  entries_at,
+  vendor_at,
+  count_at,
+  comment_at,
+};
 ghost use Rattle.claxon_format.specs.Fault.{EntryNotUtf8};
 ghost use Rattle.claxon_format.specs.Metadata.{max_content_bytes};
 ghost use Rattle.claxon_input.specs.Promises.{IsOutOfMemory};
@@ -10,8 +28,18 @@ ghost use Rattle.claxon_input.specs.Gives.{Gives, GivesOrOutOfMemory};
 ghost use Rattle.claxon_input.specs.Error.{IsFault};
 ghost use Rattle.claxon_input.specs.declared.error.Error.TheVariants.{FormatError};
 ghost use Rattle.claxon_metadata.specs.ReadMetadataBlock.{AtMostIsConsumed, CommentIsRead};
-ghost use Rattle.claxon_metadata.specs.VorbisComment.{EndIsChecked, LengthIsRead, OutOfMemoryAfterVendorLength, entry_or_empty_view};
-ghost use Rattle.claxon_metadata.specs.TagEntries.{HaveSeparatorIndices, IsSeparatorIndex, entry_view, entries_view};
+ghost use Rattle.claxon_metadata.specs.VorbisComment.{
+  EndIsChecked,
+  LengthIsRead,
+  OutOfMemoryAfterVendorLength,
+  entry_or_empty_view,
+};
+ghost use Rattle.claxon_metadata.specs.TagEntries.{
+  HaveSeparatorIndices,
+  IsSeparatorIndex,
+  entry_view,
+  entries_view,
+};
 
 use super::comment_checks::{
     BLOCK_TOO_SHORT, ENTRY_TOO_LONG, EXCESS_DATA, NOT_UTF8, VENDOR_TOO_LONG, separator_of,
@@ -30,11 +58,11 @@ pub fn read_vorbis_comment_block<R: ReadBytes, A: Allocator + Copy>(
 ) -> Result<VorbisComment<A>>
     ensures separators { IfOk result (λ comment. HaveSeparatorIndices comment.comments.items) }
     // Memory is allocated only after the lengths of the block and of its vendor string were checked.
-    ensures memory { IsOutOfMemory result → (8 ≤ length) × (length ≤ max_content_bytes) }
-    ensures vendor { OutOfMemoryAfterVendorLength (length - 8) result
+    ensures is_out_of_memory { IsOutOfMemory result → (8 ≤ length) × (length ≤ max_content_bytes) }
+    ensures out_of_memory_after_vendor_length { OutOfMemoryAfterVendorLength (length - 8) result
         (bytes_in R.source input.old) }
-    ensures gives { CommentIsRead R.source length input.old result input.new }
-    ensures within { AtMostIsConsumed R.source length input.old input.new }
+    ensures is_read { CommentIsRead R.source length input.old result input.new }
+    ensures at_most_is_consumed { AtMostIsConsumed R.source length input.old input.new }
 {
     if length < 8 {
         return Err(Error::FormatError(BLOCK_TOO_SHORT));
@@ -55,9 +83,9 @@ pub fn read_vorbis_comment_block<R: ReadBytes, A: Allocator + Copy>(
 #[tactic(auto, using(claxon_input::proofs::ByteFields::little_numbers))]
 fn read_length<R: ReadBytes>(input: &mut R, most: u32, too_long: &'static str) -> Result<u32>
     ensures most { IfOk result (λ length. length ≤ most) }
-    ensures gives { LengthIsRead R.source most (FormatError too_long.entry)
+    ensures is_read { LengthIsRead R.source most (FormatError too_long.entry)
         input.old result input.new }
-    ensures within { AtMostIsConsumed R.source 4 input.old input.new }
+    ensures at_most_is_consumed { AtMostIsConsumed R.source 4 input.old input.new }
 {
     let length = input.read_le_u32()?;
     if length > most {
@@ -74,7 +102,7 @@ fn read_vendor<R: ReadBytes, A: Allocator>(
 ) -> Result<String<A>>
     ensures gives { GivesOrOutOfMemory string_bytes result (vendor_at length)
         (bytes_in R.source input.old) (bytes_in R.source input.new) }
-    ensures within { AtMostIsConsumed R.source length input.old input.new }
+    ensures at_most_is_consumed { AtMostIsConsumed R.source length input.old input.new }
 {
     let bytes = read_bytes(alloc, input, length)?;
     text_of(bytes)
@@ -97,7 +125,7 @@ fn text_of<A: Allocator>(bytes: Vec<u8, A>) -> Result<String<A>>
 fn read_count<R: ReadBytes>(input: &mut R, limit: u32) -> Result<u32>
     ensures gives { Gives (λ x. x) result (count_at limit)
         (bytes_in R.source input.old) (bytes_in R.source input.new) }
-    ensures within { AtMostIsConsumed R.source 4 input.old input.new }
+    ensures at_most_is_consumed { AtMostIsConsumed R.source 4 input.old input.new }
 {
     let count = input.read_le_u32()?;
     if count >= limit {
@@ -116,7 +144,7 @@ fn read_entries<R: ReadBytes, A: Allocator + Copy>(
     ensures separators { IfOk result (λ comments. HaveSeparatorIndices comments.items) }
     ensures gives { GivesOrOutOfMemory (λ comments. entries_view comments.items) result
         (entries_at count length) (bytes_in R.source input.old) (bytes_in R.source input.new) }
-    ensures within { AtMostIsConsumed R.source length input.old input.new }
+    ensures at_most_is_consumed { AtMostIsConsumed R.source length input.old input.new }
 {
     let mut comments = Vec::new(alloc);
     let mut missing = count;
@@ -158,7 +186,7 @@ fn read_entry_or_empty<R: ReadBytes, A: Allocator>(
         (λ found. IfSome found (λ entry. IsSeparatorIndex (string_bytes entry.0) entry.1)) }
     ensures gives { GivesOrOutOfMemory entry_or_empty_view result (entry_or_empty_at length)
         (bytes_in R.source input.old) (bytes_in R.source input.new) }
-    ensures within { AtMostIsConsumed R.source length input.old input.new }
+    ensures at_most_is_consumed { AtMostIsConsumed R.source length input.old input.new }
 {
     if length == 0 {
         return Ok(None);
@@ -176,7 +204,7 @@ fn read_entry<R: ReadBytes, A: Allocator>(
     ensures place { IfOk result (λ entry. IsSeparatorIndex (string_bytes entry.0) entry.1) }
     ensures gives { GivesOrOutOfMemory entry_view result (entry_at length)
         (bytes_in R.source input.old) (bytes_in R.source input.new) }
-    ensures within { AtMostIsConsumed R.source length input.old input.new }
+    ensures at_most_is_consumed { AtMostIsConsumed R.source length input.old input.new }
 {
     let bytes = read_bytes(alloc, input, length)?;
     let place = separator_of(&bytes)?;

@@ -1,11 +1,23 @@
 //! Reads streaminfo blocks.
 ghost use Rattle.std.specs.Prelude.{◌≡◌, ◌<◌, ◌≤◌, ◌%◌, map, IfOk, IfSome};
 ghost use Rattle.claxon_format.specs.Streaminfo.{frame_sizes_inconsistent};
-ghost use Rattle.claxon_format.specs.read.Streaminfo.{sizes_at, format_at, info_of, info_fields_at, streaminfo_at};
+ghost use Rattle.claxon_format.specs.read.Streaminfo.{
+  sizes_at,
+  format_at,
+  info_of,
+  info_fields_at,
+  streaminfo_at,
+};
 ghost use Rattle.claxon_input.specs.State.{bytes_in};
 ghost use Rattle.claxon_input.specs.Gives.{Gives};
 ghost use Rattle.claxon_metadata.specs.ReadMetadataBlock.{AtMostIsConsumed, StreaminfoIsRead};
-ghost use Rattle.claxon_metadata.specs.MetadataBlock.{HasBounds, format_view, info_view, or_zero, sizes_view};
+ghost use Rattle.claxon_metadata.specs.MetadataBlock.{
+  HasBounds,
+  format_view,
+  info_view,
+  or_zero,
+  sizes_view,
+};
 
 use claxon_input::error::{Error, Result};
 use claxon_input::input::ReadBytes;
@@ -46,7 +58,7 @@ struct SizeBounds {
 fn read_size_bounds<R: ReadBytes>(input: &mut R) -> Result<SizeBounds>
     ensures gives { Gives sizes_view result sizes_at
         (bytes_in R.source input.old) (bytes_in R.source input.new) }
-    ensures within { AtMostIsConsumed R.source 10 input.old input.new }
+    ensures at_most_is_consumed { AtMostIsConsumed R.source 10 input.old input.new }
 {
     let min_block_size = input.read_be_u16()?;
     let max_block_size = input.read_be_u16()?;
@@ -73,11 +85,11 @@ struct SampleFormat {
 #[tactic(auto, using(claxon_input::proofs::ByteFields::numbers), unfolding(claxon_format::specs::read::Streaminfo::format_at))]
 fn read_sample_format<R: ReadBytes>(input: &mut R) -> Result<SampleFormat>
     ensures channels { IfOk result (λ format. (1 ≤ format.channels) × (format.channels ≤ 8)) }
-    ensures width { IfOk result
+    ensures bit_depth { IfOk result
         (λ format. (1 ≤ format.bits_per_sample) × (format.bits_per_sample ≤ 32)) }
     ensures gives { Gives format_view result format_at
         (bytes_in R.source input.old) (bytes_in R.source input.new) }
-    ensures within { AtMostIsConsumed R.source 8 input.old input.new }
+    ensures at_most_is_consumed { AtMostIsConsumed R.source 8 input.old input.new }
 {
     let high = input.read_be_u32()?;
     let low = input.read_be_u32()?;
@@ -95,7 +107,7 @@ fn read_streaminfo_fields<R: ReadBytes>(input: &mut R) -> Result<StreamInfo>
     ensures bounds { IfOk result (λ info. HasBounds info) }
     ensures gives { Gives info_view result info_fields_at
         (bytes_in R.source input.old) (bytes_in R.source input.new) }
-    ensures within { AtMostIsConsumed R.source 34 input.old input.new }
+    ensures at_most_is_consumed { AtMostIsConsumed R.source 34 input.old input.new }
 {
     let sizes = read_size_bounds(input)?;
     let format = read_sample_format(input)?;
@@ -106,8 +118,8 @@ fn read_streaminfo_fields<R: ReadBytes>(input: &mut R) -> Result<StreamInfo>
 
 fn stream_info(sizes: SizeBounds, format: SampleFormat, md5sum: &[u8; 16]) -> StreamInfo
     requires channels { (1 ≤ format.channels) × (format.channels ≤ 8) }
-    requires width { (1 ≤ format.bits_per_sample) × (format.bits_per_sample ≤ 32) }
-    ensures bounds { HasBounds result }
+    requires bit_depth { (1 ≤ format.bits_per_sample) × (format.bits_per_sample ≤ 32) }
+    ensures has_bounds { HasBounds result }
     ensures value { info_view result ≡ info_of (sizes_view sizes) (format_view format)
         (map (λ byte. byte % 256) md5sum.now) }
 {
@@ -132,8 +144,8 @@ fn stream_info(sizes: SizeBounds, format: SampleFormat, md5sum: &[u8; 16]) -> St
 #[tactic(auto, unfolding(claxon_format::specs::read::MetadataBlocks::info_body_at, claxon_format::specs::Fault::fault_text))]
 pub fn read_streaminfo_block<R: ReadBytes>(input: &mut R, length: u32) -> Result<StreamInfo>
     ensures bounds { IfOk result (λ info. HasBounds info) }
-    ensures gives { StreaminfoIsRead R.source length input.old result input.new }
-    ensures within { AtMostIsConsumed R.source length input.old input.new }
+    ensures is_read { StreaminfoIsRead R.source length input.old result input.new }
+    ensures at_most_is_consumed { AtMostIsConsumed R.source length input.old input.new }
 {
     if length != 34 {
         return Err(Error::FormatError("invalid streaminfo metadata block length"));
@@ -146,7 +158,7 @@ fn read_streaminfo<R: ReadBytes>(input: &mut R) -> Result<StreamInfo>
     ensures bounds { IfOk result (λ info. HasBounds info) }
     ensures gives { Gives info_view result streaminfo_at
         (bytes_in R.source input.old) (bytes_in R.source input.new) }
-    ensures within { AtMostIsConsumed R.source 34 input.old input.new }
+    ensures at_most_is_consumed { AtMostIsConsumed R.source 34 input.old input.new }
 {
     let info = read_streaminfo_fields(input)?;
     if info.min_block_size > info.max_block_size {

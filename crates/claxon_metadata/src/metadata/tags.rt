@@ -2,8 +2,14 @@
 ghost use Rattle.std.specs.Prelude.{◌≡◌, Some, IfSome, length, string_bytes};
 ghost use Rattle.std.specs.Iterator.{UpTo, YieldsFirstBy, YieldsFirstRef, item_count};
 ghost use Rattle.std.specs.Iterator.SizeHint.{IsWithinCount};
-ghost use Rattle.claxon_format.specs.Pairs.{pair, pairs, values};
-ghost use Rattle.claxon_metadata.specs.TagEntries.{HaveSeparatorIndices, IsSeparatorIndex, entry_view, entries_view, pair_view};
+ghost use Rattle.claxon_format.specs.Tags.{tag_of_entry, tags_of_entries, values};
+ghost use Rattle.claxon_metadata.specs.TagEntries.{
+  HaveSeparatorIndices,
+  IsSeparatorIndex,
+  entry_view,
+  entries_view,
+  pair_view,
+};
 
 use std::alloc::{Allocator, Global};
 
@@ -21,7 +27,7 @@ impl<'a, A: Allocator> Tags<'a, A> {
     /// its value.
     pub fn new(comments: &'a [(String<A>, usize)]) -> Tags<'a, A>
         requires { HaveSeparatorIndices comments.now }
-        ensures { remaining_tags result ≡ pairs (entries_view comments.now) }
+        ensures { remaining_tags result ≡ tags_of_entries (entries_view comments.now) }
     {
         Tags { comments }
     }
@@ -30,7 +36,7 @@ impl<'a, A: Allocator> Tags<'a, A> {
 // The name before the separator and the value after it.
 fn split<A: Allocator>(comment: &(String<A>, usize)) -> (&str, &str)
     requires { IsSeparatorIndex (string_bytes comment.now.0) comment.now.1 }
-    ensures { pair_view result ≡ pair (entry_view comment.now) }
+    ensures { pair_view result ≡ tag_of_entry (entry_view comment.now) }
 {
     let text = comment.0.as_str();
     let place = comment.1;
@@ -87,7 +93,7 @@ impl<'a, A: Allocator> GetTag<'a, A> {
     pub fn new(vorbis_comments: &'a [(String<A>, usize)], needle: &'a str) -> GetTag<'a, A>
         requires { HaveSeparatorIndices vorbis_comments.now }
         ensures { remaining_values result ≡ values needle.now
-            (pairs (entries_view vorbis_comments.now)) }
+            (tags_of_entries (entries_view vorbis_comments.now)) }
     {
         GetTag {
             tags: Tags::new(vorbis_comments),

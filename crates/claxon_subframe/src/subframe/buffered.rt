@@ -21,7 +21,7 @@ pub trait ValueCode: GroupCode {
     /// Decodes the values that are completely buffered, and returns their number.
     fn decode_buffered(self, buffered: &mut BufferedBits, buffer: &mut [i32]) -> usize
         ensures few { result ≤ length buffer.new }
-        ensures values { BufferedValuesAreRead (Self.value_at self)
+        ensures are_read { BufferedValuesAreRead (Self.value_at self)
             buffered.old result buffered.new buffer.new };
 
     /// Reads a value.

@@ -3,7 +3,11 @@ ghost use Rattle.std.specs.Prelude.{◌<◌, ◌≤◌, ℤ, Bool, length};
 ghost use Rattle.claxon_format.specs.Bits.{Bits};
 ghost use Rattle.claxon_format.specs.read.Reading.{Reading};
 ghost use Rattle.claxon_input.specs.BufferedBits.{GivesBufferedOrNone};
-ghost use Rattle.claxon_subframe.specs.BufferedValues.{BufferedValuesAreRead, GroupIsRead, IsFirstValue};
+ghost use Rattle.claxon_subframe.specs.BufferedValues.{
+  BufferedValuesAreRead,
+  GroupIsRead,
+  IsFirstValue,
+};
 
 use claxon_input::input::BufferedBits;
 
@@ -36,7 +40,7 @@ pub fn decode_by_groups<C: GroupCode>(
 ) -> usize
     requires { group ≤ 6 }
     ensures few { result ≤ length buffer.new }
-    ensures values { BufferedValuesAreRead (C.value_at code)
+    ensures are_read { BufferedValuesAreRead (C.value_at code)
         buffered.old result buffered.new buffer.new }
 {
     let mut values = 0;

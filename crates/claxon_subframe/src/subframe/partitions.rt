@@ -1,12 +1,10 @@
 //! Partitions that are completely buffered. Their bits are skipped in one call, so that short partitions cost little.
-ghost use Rattle.std.specs.Prelude.{◌≡◌, ◌+◌, ◌*◌, ◌≤◌, ◌<◌, IfOk, IfErr, OnErr, length, map};
+ghost use Rattle.std.specs.Prelude.{◌≡◌, ◌+◌, ◌*◌, ◌≤◌, ◌<◌, IfOk, IfErr, length, map};
 ghost use Rattle.std.specs.Bool.{MatchBool};
 ghost use Rattle.claxon_format.specs.read.Residual.{partition_at};
 ghost use Rattle.claxon_input.specs.BufferedBits.{bits_in_buffer, GivesBuffered};
-ghost use Rattle.claxon_input.specs.State.{bits_in};
-ghost use Rattle.claxon_input.specs.Gives.{FailureOr};
 ghost use Rattle.claxon_input.specs.Error.{IsIo};
-ghost use Rattle.claxon_subframe.specs.Partitions.{PartitionsAreRead};
+ghost use Rattle.claxon_subframe.specs.Partitions.{PartitionsAreRead, PartitionsReadFailed};
 ghost use Rattle.claxon_subframe.specs.RiceCodes.{decoded};
 ghost use Rattle.claxon_subframe.specs.SubframeFields.{method_of};
 
@@ -27,11 +25,10 @@ pub fn read_buffered_partitions<R: ReadBytes>(
 ) -> Result<u32>
     requires capacity { most * each ≤ length buffer.old }
     ensures few { IfOk result (λ whole. whole ≤ most) }
-    ensures ok { PartitionsAreRead R.source (method_of partition_type) each
+    ensures are_read { PartitionsAreRead R.source (method_of partition_type) each
         input.old result input.new buffer.new }
     ensures io { IfErr result IsIo }
-    ensures err { OnErr result
-        (FailureOr (bits_in R.source input.old) (bits_in R.source input.new) (λ s. ⊥)) }
+    ensures read_failed { PartitionsReadFailed R.source input.old result input.new }
 {
     let mut buffered = input.buffered();
     let bits = buffered.len();

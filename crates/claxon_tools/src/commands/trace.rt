@@ -1,10 +1,10 @@
 //! The command `trace`: the result of each call of the decoder for a file, going on after errors.
 ghost use Rattle.std.specs.Prelude.{◌≤◌};
 
-use crate::answer::Answer;
 use crate::arguments::{Argument, Arguments, Notice};
 use crate::fnv::{OFFSET_BASIS, hash_on};
 use crate::program::{Part, Program, STANDARD, open_input, report, report_text};
+use crate::result_text::ResultText;
 use crate::text::count_text;
 use claxon::frame::FrameReader;
 use claxon::input::ReadBytes;
@@ -228,7 +228,7 @@ fn trace_frames<R: ReadBytes, W: Write>(
     faults: &mut Faults,
     output: &mut W,
 ) -> Result<Ending>
-    requires some { 1 ≤ info.bits_per_sample }
+    requires min_bit_depth { 1 ≤ info.bits_per_sample }
     requires max_bit_depth { info.bits_per_sample ≤ 32 }
 {
     let mut frames = FrameReader::with_streaminfo(input, info);
@@ -263,7 +263,7 @@ struct Faults {
     count: u64,
     // Whether a run of the same fault takes one line: the last text, and how often it came without being written yet.
     is_brief: bool,
-    last: Answer,
+    last: ResultText,
     repeats: u64,
 }
 
@@ -272,19 +272,19 @@ impl Faults {
         Faults {
             count: 0,
             is_brief,
-            last: Answer::new(alloc),
+            last: ResultText::new(alloc),
             repeats: 0,
         }
     }
 
     // Writes a line that isn't a fault's.
-    fn write_line<W: Write>(&mut self, line: Answer, output: &mut W) -> Result<()> {
+    fn write_line<W: Write>(&mut self, line: ResultText, output: &mut W) -> Result<()> {
         self.write_last(output)?;
         line.write_to(output)
     }
 
     // Counts a fault, and writes its text, or keeps it until another line comes.
-    fn write_fault<W: Write>(&mut self, text: Answer, output: &mut W) -> Result<()> {
+    fn write_fault<W: Write>(&mut self, text: ResultText, output: &mut W) -> Result<()> {
         self.count = self.count.saturating_add(1);
         if self.is_brief && self.repeats > 0 && self.last.as_bytes() == text.as_bytes() {
             self.repeats = self.repeats.saturating_add(1);
@@ -314,33 +314,33 @@ impl Faults {
     }
 }
 
-fn end_line(alloc: Global) -> Answer {
-    let mut line = Answer::new(alloc);
+fn end_line(alloc: Global) -> ResultText {
+    let mut line = ResultText::new(alloc);
     line.text("end\n");
     line
 }
 
-fn fault_text(alloc: Global, error: &Error) -> Answer {
-    let mut text = Answer::new(alloc);
+fn fault_text(alloc: Global, error: &Error) -> ResultText {
+    let mut text = ResultText::new(alloc);
     text.text("fault ");
     text.fault(error);
     text
 }
 
-fn head_line(alloc: Global, info: &StreamInfo) -> Answer {
-    let mut line = Answer::new(alloc);
+fn head_line(alloc: Global, info: &StreamInfo) -> ResultText {
+    let mut line = ResultText::new(alloc);
     line.text("head ");
     line.streaminfo(info);
     line.text("\n");
     line
 }
 
-fn block_line<A: Allocator>(alloc: Global, block: &Block<A>) -> Answer {
+fn block_line<A: Allocator>(alloc: Global, block: &Block<A>) -> ResultText {
     let mut hash = OFFSET_BASIS;
     for ch in 0..block.channels() {
         hash = hash_on(hash, block.channel(ch));
     }
-    let mut line = Answer::new(alloc);
+    let mut line = ResultText::new(alloc);
     line.counts(&[
         ("block time ", block.time()),
         (" channels ", u64::from(block.channels())),

@@ -166,7 +166,7 @@ fn write_wav<Q: Files + AllocGlobal, R: Read + Drop, W: Write + Drop, E: Write>(
 
 // The number of bytes of the samples that the streaminfo tells.
 fn announced_size(layout: &Layout, info: &StreamInfo) -> Result<Option<u32>>
-    ensures announced { IsAnnounced layout.now info.now.samples result }
+    ensures is_announced { IsAnnounced layout.now info.now.samples result }
     ensures fits { IfOk result (λ size. IfSome size (λ n. n ≤ max_data_size)) }
 {
     match info.samples {

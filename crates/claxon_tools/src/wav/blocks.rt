@@ -3,7 +3,15 @@ ghost use Rattle.std.specs.Prelude.{◌≡◌, ◌≤◌, false, Some};
 ghost use Rattle.claxon.specs.FlacReader.{flac_metadata_only};
 ghost use Rattle.claxon.specs.FrameReader.{frame_bytes, frame_stream, stream_with};
 ghost use Rattle.claxon.specs.State.{bytes_in};
-ghost use Rattle.claxon_tools.specs.Convert.{ConvertFaultIsComplete, ConvertFaultIsSound, ConvertIsComplete, ConvertIsSound, ConvertToStreamIsSound, PutBlocksFaultIsSound, PutBlocksIsSound};
+ghost use Rattle.claxon_tools.specs.Convert.{
+  ConvertFaultIsComplete,
+  ConvertFaultIsSound,
+  ConvertIsComplete,
+  ConvertIsSound,
+  ConvertToStreamIsSound,
+  PutBlocksFaultIsSound,
+  PutBlocksIsSound,
+};
 ghost use Rattle.claxon_tools.specs.Progress.{SameErrors, StaysQuiet};
 ghost use Rattle.claxon_tools.specs.Writer.{SameOutput};
 
@@ -29,14 +37,16 @@ pub fn convert<R: Read + Drop, W: Write + Seek, E: Write>(
     progress: &mut Progress<'_, E>,
 ) -> Result<()>
     requires { flac_metadata_only flac.old ≡ false }
-    ensures same_reference { SameOutput wav.old wav.new }
-    ensures ok { ConvertIsSound W.contents W.stream_position R.remaining
+    ensures same_output { SameOutput wav.old wav.new }
+    ensures is_sound { ConvertIsSound W.contents W.stream_position R.remaining
         flac.old result wav.old wav.new }
-    ensures err { ConvertFaultIsSound R.remaining result flac.old flac.new wav.old wav.new }
-    ensures complete { ConvertIsComplete R.remaining result flac.old flac.new wav.old wav.new }
-    ensures named { ConvertFaultIsComplete R.remaining result flac.old flac.new wav.old wav.new }
+    ensures fault_is_sound { ConvertFaultIsSound R.remaining result flac.old flac.new wav.old
+        wav.new }
+    ensures is_complete { ConvertIsComplete R.remaining result flac.old flac.new wav.old wav.new }
+    ensures fault_is_complete { ConvertFaultIsComplete R.remaining result flac.old flac.new wav.old
+        wav.new }
     ensures same_errors { SameErrors progress.old progress.new }
-    ensures quiet { StaysQuiet progress.old progress.new }
+    ensures stays_quiet { StaysQuiet progress.old progress.new }
 {
     let info = flac.streaminfo();
     let outcome = put_blocks(alloc, flac.input(), info, wav, progress);
@@ -58,13 +68,15 @@ pub fn convert_to_stream<R: Read + Drop, W: Write, E: Write>(
     progress: &mut Progress<'_, E>,
 ) -> Result<()>
     requires { flac_metadata_only flac.old ≡ false }
-    ensures same_reference { SameOutput wav.old wav.new }
-    ensures ok { ConvertToStreamIsSound W.contents R.remaining flac.old result wav.old wav.new }
-    ensures err { ConvertFaultIsSound R.remaining result flac.old flac.new wav.old wav.new }
-    ensures complete { ConvertIsComplete R.remaining result flac.old flac.new wav.old wav.new }
-    ensures named { ConvertFaultIsComplete R.remaining result flac.old flac.new wav.old wav.new }
+    ensures same_output { SameOutput wav.old wav.new }
+    ensures is_sound { ConvertToStreamIsSound W.contents R.remaining flac.old result wav.old wav.new }
+    ensures fault_is_sound { ConvertFaultIsSound R.remaining result flac.old flac.new wav.old
+        wav.new }
+    ensures is_complete { ConvertIsComplete R.remaining result flac.old flac.new wav.old wav.new }
+    ensures fault_is_complete { ConvertFaultIsComplete R.remaining result flac.old flac.new wav.old
+        wav.new }
     ensures same_errors { SameErrors progress.old progress.new }
-    ensures quiet { StaysQuiet progress.old progress.new }
+    ensures stays_quiet { StaysQuiet progress.old progress.new }
 {
     let info = flac.streaminfo();
     let outcome = put_blocks(alloc, flac.input(), info, wav, progress);
@@ -81,15 +93,15 @@ fn put_blocks<R: ReadBytes, W: Write, E: Write>(
     wav: &mut WavWriter<'_, W>,
     progress: &mut Progress<'_, E>,
 ) -> Result<()>
-    requires min_bits { 1 ≤ info.bits_per_sample }
-    requires max_bits { info.bits_per_sample ≤ 32 }
-    ensures same_reference { SameOutput wav.old wav.new }
-    ensures ok { PutBlocksIsSound W.contents (Some (stream_with info)) result
+    requires min_bit_depth { 1 ≤ info.bits_per_sample }
+    requires max_bit_depth { info.bits_per_sample ≤ 32 }
+    ensures same_output { SameOutput wav.old wav.new }
+    ensures is_sound { PutBlocksIsSound W.contents (Some (stream_with info)) result
         (bytes_in R.source input.old) (bytes_in R.source input.new) wav.old wav.new }
-    ensures err { PutBlocksFaultIsSound W.contents (Some (stream_with info)) result
+    ensures fault_is_sound { PutBlocksFaultIsSound W.contents (Some (stream_with info)) result
         (bytes_in R.source input.old) (bytes_in R.source input.new) wav.old wav.new }
     ensures same_errors { SameErrors progress.old progress.new }
-    ensures quiet { StaysQuiet progress.old progress.new }
+    ensures stays_quiet { StaysQuiet progress.old progress.new }
 {
     let mut frames = FrameReader::with_streaminfo(input, info);
     put_frames(alloc, &mut frames, wav, progress)
@@ -102,15 +114,15 @@ fn put_frames<R: ReadBytes, W: Write, E: Write>(
     wav: &mut WavWriter<'_, W>,
     progress: &mut Progress<'_, E>,
 ) -> Result<()>
-    ensures same_reference { SameOutput wav.old wav.new }
+    ensures same_output { SameOutput wav.old wav.new }
     ensures loans { (frame_bytes R.source frames.new).source.loans
         ≡ (frame_bytes R.source frames.old).source.loans }
-    ensures ok { PutBlocksIsSound W.contents (frame_stream frames.old) result
+    ensures is_sound { PutBlocksIsSound W.contents (frame_stream frames.old) result
         (frame_bytes R.source frames.old) (frame_bytes R.source frames.new) wav.old wav.new }
-    ensures err { PutBlocksFaultIsSound W.contents (frame_stream frames.old) result
+    ensures fault_is_sound { PutBlocksFaultIsSound W.contents (frame_stream frames.old) result
         (frame_bytes R.source frames.old) (frame_bytes R.source frames.new) wav.old wav.new }
     ensures same_errors { SameErrors progress.old progress.new }
-    ensures quiet { StaysQuiet progress.old progress.new }
+    ensures stays_quiet { StaysQuiet progress.old progress.new }
 {
     let mut buffer = Vec::new(alloc);
     let mut done = 0u64;

@@ -26,7 +26,21 @@ pub struct Layout {
 
 impl Layout {
     ghost use Rattle.claxon_tools.specs.DataSize.{max_data_size};
-    ghost use Rattle.claxon_tools.specs.WaveFile.{IsLayoutOf, IsSizeOf, PutHeaderIsSound, base_format, block_align, extension, format, header_bytes, is_extensible, layout_channels, layout_valid_bits, sample_size, unknown_header};
+    ghost use Rattle.claxon_tools.specs.WaveFile.{
+      IsLayoutOf,
+      IsSizeOf,
+      PutHeaderIsSound,
+      base_format,
+      block_align,
+      extension,
+      format,
+      header_bytes,
+      is_extensible,
+      layout_channels,
+      layout_valid_bits,
+      sample_size,
+      unknown_header,
+    };
 
     /// A layout with this number of channels, of bits per sample, and of samples per second and channel. The channel mask has
     /// a bit for each channel's position; without one the channels are assigned as in a FLAC stream.

@@ -4,7 +4,13 @@ ghost use Rattle.std.specs.Int.{to_le_bytes, w32};
 ghost use Rattle.std.specs.List.{flat_map};
 ghost use Rattle.claxon.specs.Bits.{FitsIn};
 ghost use Rattle.claxon.specs.Streams.{interleave};
-ghost use Rattle.claxon_tools.specs.Samples.{IsTooWide, packed_block, bytes_of_sample, shifted_sample, silence};
+ghost use Rattle.claxon_tools.specs.Samples.{
+  IsTooWide,
+  packed_block,
+  bytes_of_sample,
+  shifted_sample,
+  silence,
+};
 ghost use Rattle.claxon_tools.specs.WaveFile.{sample_size};
 
 use crate::wav::error::{Error, Result};

@@ -27,7 +27,26 @@ pub struct WavWriter<'w, W> {
 }
 
 impl<'w, W: Write> WavWriter<'w, W> {
-    ghost use Rattle.claxon_tools.specs.Writer.{BeginIsSound, FewWritesFailed, FailsToPad, FinishFaultIsSound, FinishFlushes, FinishStreamIsSound, PadIsSound, PutBlockFaultIsSound, PutBlockFaultKeeps, PutBlockFits, PutBlockIsSound, SameHeader, SameOutput, StartFaultIsSound, StartIsSound, StartUnknownIsSound, Unflushed, samples_written};
+    ghost use Rattle.claxon_tools.specs.Writer.{
+      BeginIsSound,
+      FewWritesFailed,
+      FailsToPad,
+      FinishFaultIsSound,
+      FinishFlushes,
+      FinishStreamIsSound,
+      PadIsSound,
+      PutBlockFaultIsSound,
+      PutBlockFaultKeeps,
+      PutBlockFits,
+      PutBlockIsSound,
+      SameHeader,
+      SameOutput,
+      StartFaultIsSound,
+      StartIsSound,
+      StartUnknownIsSound,
+      Unflushed,
+      samples_written,
+    };
 
     /// Borrows the output, and writes a header that announces this number of bytes of samples. If there are others, `finish`
     /// corrects it.
@@ -38,8 +57,8 @@ impl<'w, W: Write> WavWriter<'w, W> {
         announced: u32,
     ) -> Result<WavWriter<'w, W>>
         requires { announced ≤ max_data_size }
-        ensures ok { StartIsSound W.contents layout announced output.entry result }
-        ensures err { StartFaultIsSound result }
+        ensures is_sound { StartIsSound W.contents layout announced output.entry result }
+        ensures fault_is_sound { StartFaultIsSound result }
     {
         let mut header = Vec::new(alloc);
         layout.put_header(announced, &mut header)?;
@@ -53,8 +72,8 @@ impl<'w, W: Write> WavWriter<'w, W> {
         output: &'w mut W,
         layout: Layout,
     ) -> Result<WavWriter<'w, W>>
-        ensures ok { StartUnknownIsSound W.contents layout output.entry result }
-        ensures err { StartFaultIsSound result }
+        ensures is_sound { StartUnknownIsSound W.contents layout output.entry result }
+        ensures fault_is_sound { StartFaultIsSound result }
     {
         let mut header = Vec::new(alloc);
         layout.put_unknown_header(&mut header)?;
@@ -70,8 +89,8 @@ impl<'w, W: Write> WavWriter<'w, W> {
         header: Vec<u8>,
     ) -> Result<WavWriter<'w, W>>
         requires { announced ≤ max_data_size }
-        ensures ok { BeginIsSound W.contents header.items layout announced output.entry result }
-        ensures err { StartFaultIsSound result }
+        ensures is_sound { BeginIsSound W.contents header.items layout announced output.entry result }
+        ensures fault_is_sound { StartFaultIsSound result }
     {
         let mut output = CountingWriter::new(output);
         of_output(output.write_whole(header.as_slice()))?;
@@ -93,12 +112,12 @@ impl<'w, W: Write> WavWriter<'w, W> {
     /// `OtherChannels`, `WideSample`, `TooLong` or `OutOfMemory`, and then nothing was written. `Output` if a write fails, and
     /// then a prefix of the block's bytes was written. The samples of the block aren't counted.
     pub fn put_block<A: Allocator>(&mut self, block: &Block<A>) -> Result<()>
-        ensures same_reference { SameOutput self.old self.new }
-        ensures ok { PutBlockIsSound W.contents block.now result self.old self.new }
+        ensures same_output { SameOutput self.old self.new }
+        ensures is_sound { PutBlockIsSound W.contents block.now result self.old self.new }
         ensures fits { PutBlockFits block.now result self.old }
-        ensures err { PutBlockFaultIsSound block.now result self.old }
-        ensures kept { PutBlockFaultKeeps W.contents block.now result self.old self.new }
-        ensures header { SameHeader self.old self.new }
+        ensures fault_is_sound { PutBlockFaultIsSound block.now result self.old }
+        ensures fault_keeps { PutBlockFaultKeeps W.contents block.now result self.old self.new }
+        ensures same_header { SameHeader self.old self.new }
         ensures unflushed { Unflushed self.old self.new }
     {
         if block.channels() != self.layout.channels() {
@@ -126,12 +145,12 @@ impl<'w, W: Write> WavWriter<'w, W> {
     /// Finishes the file of an output that can't seek, so the header stays as it is. Where it announced the bytes that were
     /// written, the pad byte is written.
     pub fn finish_stream(&mut self) -> Result<()>
-        ensures same_reference { SameOutput self.old self.new }
-        ensures ok { FinishStreamIsSound W.contents result self.old self.new }
+        ensures same_output { SameOutput self.old self.new }
+        ensures is_sound { FinishStreamIsSound W.contents result self.old self.new }
         ensures flushes { FinishFlushes result self.old self.new }
-        ensures err { FinishFaultIsSound result self.old self.new }
-        ensures writes { FewWritesFailed self.old self.new }
-        ensures header { SameHeader self.old self.new }
+        ensures fault_is_sound { FinishFaultIsSound result self.old self.new }
+        ensures few_writes_failed { FewWritesFailed self.old self.new }
+        ensures same_header { SameHeader self.old self.new }
     {
         if self.written == self.announced {
             self.pad()?;
@@ -142,9 +161,9 @@ impl<'w, W: Write> WavWriter<'w, W> {
 
     // The pad byte after an odd number of bytes.
     fn pad(&mut self) -> Result<()>
-        ensures same_reference { SameOutput self.old self.new }
-        ensures bytes { PadIsSound W.contents result self.old self.new }
-        ensures same { SameHeader self.old self.new }
+        ensures same_output { SameOutput self.old self.new }
+        ensures is_sound { PadIsSound W.contents result self.old self.new }
+        ensures same_header { SameHeader self.old self.new }
         ensures count { self.new.written ≡ self.old.written }
         ensures err { IfErr result (FailsToPad self.old self.new) }
         ensures unflushed { Unflushed self.old self.new }
@@ -157,15 +176,23 @@ impl<'w, W: Write> WavWriter<'w, W> {
 }
 
 impl<'w, W: Write + Seek> WavWriter<'w, W> {
-    ghost use Rattle.claxon_tools.specs.Writer.{FewWritesFailed, FinishFaultIsSound, FinishFlushes, FinishIsSound, SameOutput, UpdateFaultIsSound, UpdateHeaderIsSound};
+    ghost use Rattle.claxon_tools.specs.Writer.{
+      FewWritesFailed,
+      FinishFaultIsSound,
+      FinishFlushes,
+      FinishIsSound,
+      SameOutput,
+      UpdateFaultIsSound,
+      UpdateHeaderIsSound,
+    };
 
     /// Finishes the file with the samples written so far. There is no seek if the header was right.
     pub fn finish(&mut self) -> Result<()>
-        ensures same_reference { SameOutput self.old self.new }
-        ensures ok { FinishIsSound W.contents W.stream_position result self.old self.new }
+        ensures same_output { SameOutput self.old self.new }
+        ensures is_sound { FinishIsSound W.contents W.stream_position result self.old self.new }
         ensures flushes { FinishFlushes result self.old self.new }
-        ensures err { FinishFaultIsSound result self.old self.new }
-        ensures writes { FewWritesFailed self.old self.new }
+        ensures fault_is_sound { FinishFaultIsSound result self.old self.new }
+        ensures few_writes_failed { FewWritesFailed self.old self.new }
     {
         let padded = self.pad();
         let updated = self.update_header();
@@ -174,10 +201,10 @@ impl<'w, W: Write + Seek> WavWriter<'w, W> {
     }
 
     fn update_header(&mut self) -> Result<()>
-        ensures same_reference { SameOutput self.old self.new }
-        ensures ok { UpdateHeaderIsSound W.contents W.stream_position result self.old self.new }
+        ensures same_output { SameOutput self.old self.new }
+        ensures is_sound { UpdateHeaderIsSound W.contents W.stream_position result self.old self.new }
         ensures flushes { FinishFlushes result self.old self.new }
-        ensures err { UpdateFaultIsSound result self.old self.new }
+        ensures fault_is_sound { UpdateFaultIsSound result self.old self.new }
     {
         if self.written != self.announced {
             self.layout.put_header(self.written, &mut self.header)?;

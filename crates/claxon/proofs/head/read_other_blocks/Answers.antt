@@ -11,9 +11,9 @@ use Rattle.claxon.proofs.HeadParts.{is_found, others_next, others_done, others_s
 use Rattle.claxon_input.proofs.Memory.{exit_with_memory}
 use Rattle.claxon.proofs.head.read_other_blocks.Goals as goal
 
-pub returns-in_err-is_last-clause-memory : goal.returns-in_err-is_last-clause-memory
-returns-in_err-is_last-clause-memory g c =
-    out_of_memory_after_blocks _ _ (err_from_is_err_and c.from_residual.result c.from_residual.ensures.1) c.loop-most.invariant.read.consumed_blocks (λ q. c.in_err-is_last.ensures.memory (ap (λ (z : Error). Err z) q))
+pub returns-in_err-is_last-clause-out_of_memory_after_blocks : goal.returns-in_err-is_last-clause-out_of_memory_after_blocks
+returns-in_err-is_last-clause-out_of_memory_after_blocks g c =
+    out_of_memory_after_blocks _ _ (err_from_is_err_and c.from_residual.result c.from_residual.ensures.1) c.loop-most.invariant.read.consumed_blocks (λ q. c.in_err-is_last.ensures.out_of_memory_after_block_header (ap (λ (z : Error). Err z) q))
 
 pub returns-in_err-is_last-clause-gives : goal.returns-in_err-is_last-clause-gives
 returns-in_err-is_last-clause-gives g c =

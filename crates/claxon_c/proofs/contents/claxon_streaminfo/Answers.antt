@@ -11,17 +11,17 @@ returns-in-Ok c =
     let content = c.args.content.now in
     let found = c.in-Ok.found in
     let old = c.args.error.now in
-    let h = c.in-Ok.ensures.value in
+    let h = c.in-Ok.ensures.is_read in
     let shows = shows_streaminfo found c.new.result _ _ c.new.ensures (omega arith) (omega arith) c.in-Ok.ensures.bounds in
     record {
-      sound = streaminfo_sound content found c.new.result h shows;
-      complete = streaminfo_complete content found c.new.result h shows;
-      fault = λ says. absurd (elim says [ inl p ↦ absurd cc | inr p ↦ absurd cc ]);
-      named = no_content_fault info_content streaminfo_type content 0 old old found h;
-      io = content_io_ok info_content streaminfo_type content 0 old old found h;
-      memory = λ is. absurd cc;
-      text = (λ is. absurd cc, λ is. absurd cc);
-      kept = λ no. absurd (no refl);
+      is_sound = streaminfo_sound content found c.new.result h shows;
+      is_complete = streaminfo_complete content found c.new.result h shows;
+      fault_is_sound = λ says. absurd (elim says [ inl p ↦ absurd cc | inr p ↦ absurd cc ]);
+      fault_is_complete = no_content_fault info_content streaminfo_type content 0 old old found h;
+      else_io_error = content_io_ok info_content streaminfo_type content 0 old old found h;
+      never_out_of_memory = λ is. absurd cc;
+      text_is_reported = (λ is. absurd cc, λ is. absurd cc);
+      info_is_kept = λ no. absurd (no refl);
     }
 
 pub returns-in-Err : goal.returns-in-Err
@@ -31,16 +31,16 @@ returns-in-Err c =
     let old = c.args.error.now in
     let new = c.report.new.output in
     let e = c.in-Err.fault in
-    let h = c.in-Err.ensures.value in
+    let h = c.in-Err.ensures.is_read in
     let reported = c.report.ensures in
     let memory : status ≡ out_of_memory → ⊥ = λ is. no_streaminfo_memory content (content_memory info_content streaminfo_type content status old new e h reported is) in
     record {
-      sound = λ says. absurd ((just_error status old new e reported).0 says);
-      complete = λ i code. absurd (memory (content_out_of_memory info_content streaminfo_type content status old new e h reported (Info i) (streaminfo_begins i content code)));
-      fault = content_fault info_content streaminfo_type content status old new e h reported;
-      named = content_named info_content streaminfo_type content status old new e h reported;
-      io = content_io info_content streaminfo_type content status old new e h reported;
-      memory = memory;
-      text = text_reported status old new e reported;
-      kept = λ no. refl;
+      is_sound = λ says. absurd ((just_error status old new e reported).0 says);
+      is_complete = λ i code. absurd (memory (content_out_of_memory info_content streaminfo_type content status old new e h reported (Info i) (streaminfo_begins i content code)));
+      fault_is_sound = content_fault info_content streaminfo_type content status old new e h reported;
+      fault_is_complete = content_named info_content streaminfo_type content status old new e h reported;
+      else_io_error = content_io info_content streaminfo_type content status old new e h reported;
+      never_out_of_memory = memory;
+      text_is_reported = text_reported status old new e reported;
+      info_is_kept = λ no. refl;
     }

@@ -15,14 +15,14 @@ returns-in-Ok c =
     let count-is : c.len.result ≡ length (string_bytes found.vendor) = search rules in
     let tags-are : c.len-in-Ok.result ≡ length found.comments.items = search rules in
     record {
-      sound = vendor_sound content found c.len.result c.len-in-Ok.result h count-is tags-are;
-      complete = vendor_complete content found c.len.result c.len-in-Ok.result h count-is tags-are;
-      fault = λ says. absurd (elim says [ inl p ↦ absurd cc | inr p ↦ absurd cc ]);
-      named = no_content_fault comment_content comment_type content 0 old old found h;
-      io = content_io_ok comment_content comment_type content 0 old old found h;
-      memory = λ is. absurd cc;
-      text = (λ is. absurd cc, λ is. absurd cc);
-      kept = λ no. absurd (no refl);
+      is_sound = vendor_sound content found c.len.result c.len-in-Ok.result h count-is tags-are;
+      is_complete = vendor_complete content found c.len.result c.len-in-Ok.result h count-is tags-are;
+      fault_is_sound = λ says. absurd (elim says [ inl p ↦ absurd cc | inr p ↦ absurd cc ]);
+      fault_is_complete = no_content_fault comment_content comment_type content 0 old old found h;
+      else_io_error = content_io_ok comment_content comment_type content 0 old old found h;
+      out_of_memory_after_lengths = λ is. absurd cc;
+      text_is_reported = (λ is. absurd cc, λ is. absurd cc);
+      vendor_is_kept = λ no. absurd (no refl);
     }
 
 pub returns-in-Err : goal.returns-in-Err
@@ -35,12 +35,12 @@ returns-in-Err c =
     let h = c.in-Err.ensures in
     let reported = c.report.ensures in
     record {
-      sound = λ says. absurd ((just_error status old new e reported).0 says);
-      complete = λ d code. inr (content_out_of_memory comment_content comment_type content status old new e h reported (Comments d) (comment_begins d content code));
-      fault = content_fault comment_content comment_type content status old new e h reported;
-      named = content_named comment_content comment_type content status old new e h reported;
-      io = content_io comment_content comment_type content status old new e h reported;
-      memory = content_memory comment_content comment_type content status old new e h reported;
-      text = text_reported status old new e reported;
-      kept = λ no. refl;
+      is_sound = λ says. absurd ((just_error status old new e reported).0 says);
+      is_complete = λ d code. inr (content_out_of_memory comment_content comment_type content status old new e h reported (Comments d) (comment_begins d content code));
+      fault_is_sound = content_fault comment_content comment_type content status old new e h reported;
+      fault_is_complete = content_named comment_content comment_type content status old new e h reported;
+      else_io_error = content_io comment_content comment_type content status old new e h reported;
+      out_of_memory_after_lengths = content_memory comment_content comment_type content status old new e h reported;
+      text_is_reported = text_reported status old new e reported;
+      vendor_is_kept = λ no. refl;
     }

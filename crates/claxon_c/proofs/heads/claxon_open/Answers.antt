@@ -20,14 +20,14 @@ returns-in-Ok c =
     let first : c.new.result.first_frame ≡ taken = search rules in
     let shows = shows_head c.in-Ok.found c.in-Ok.comment c.new.result c.count_tags.result taken c.new.ensures c.count_tags.ensures h.bounds in
     record {
-      sound = λ says. (view z, head_at_first_frame c.in-Ok.found c.in-Ok.comment bytes c.new.result taken h first, shows);
-      complete = λ head begins. inl (refl, subst (λ (x : Head). ShowsHead x c.new.result.first_frame c.new.result) (same_head view bytes taken 0 old old z h head begins) shows);
-      fault = λ says. absurd (elim says [ inl p ↦ absurd cc | inr p ↦ absurd cc ]);
-      named = no_head_fault view bytes taken 0 old old z h;
-      io = head_io_ok view bytes taken 0 old old z h;
-      memory = λ is. absurd cc;
-      text = (λ is. absurd cc, λ is. absurd cc);
-      kept = λ no. absurd (no refl);
+      is_sound = λ says. (view z, head_at_first_frame c.in-Ok.found c.in-Ok.comment bytes c.new.result taken h first, shows);
+      is_complete = λ head begins. inl (refl, subst (λ (x : Head). ShowsHead x c.new.result.first_frame c.new.result) (same_head view bytes taken 0 old old z h head begins) shows);
+      fault_is_sound = λ says. absurd (elim says [ inl p ↦ absurd cc | inr p ↦ absurd cc ]);
+      fault_is_complete = no_head_fault view bytes taken 0 old old z h;
+      else_io_error = head_io_ok view bytes taken 0 old old z h;
+      out_of_memory_after_header = λ is. absurd cc;
+      text_is_reported = (λ is. absurd cc, λ is. absurd cc);
+      info_is_kept = λ no. absurd (no refl);
     }
 
 pub returns-in-Err : goal.returns-in-Err
@@ -42,12 +42,12 @@ returns-in-Err c =
     let h = c.in-Err.ensures in
     let reported = c.report.ensures in
     record {
-      sound = λ says. absurd ((just_error status old new e reported).0 says);
-      complete = λ head begins. inr (head_out_of_memory view bytes taken status old new e h reported head begins);
-      fault = head_fault view bytes taken status old new e h reported;
-      named = head_named view bytes taken status old new e h reported;
-      io = head_io view bytes taken status old new e h reported;
-      memory = head_memory view bytes taken status old new e h reported;
-      text = text_reported status old new e reported;
-      kept = λ no. refl;
+      is_sound = λ says. absurd ((just_error status old new e reported).0 says);
+      is_complete = λ head begins. inr (head_out_of_memory view bytes taken status old new e h reported head begins);
+      fault_is_sound = head_fault view bytes taken status old new e h reported;
+      fault_is_complete = head_named view bytes taken status old new e h reported;
+      else_io_error = head_io view bytes taken status old new e h reported;
+      out_of_memory_after_header = head_memory view bytes taken status old new e h reported;
+      text_is_reported = text_reported status old new e reported;
+      info_is_kept = λ no. refl;
     }

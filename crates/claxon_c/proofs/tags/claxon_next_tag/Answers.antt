@@ -18,66 +18,66 @@ overflow_sub-value_length c =
     let t = found_tag c.args.place.now c.args.content.now _ _ c.in-Ok-Some.field-0-is c.in-Ok-Some.ensures in
     t.inside
 
-pub returns-in-Ok-Some-clause-sound : goal.returns-in-Ok-Some-clause-sound
-returns-in-Ok-Some-clause-sound c =
+pub returns-in-Ok-Some-clause-is_sound : goal.returns-in-Ok-Some-clause-is_sound
+returns-in-Ok-Some-clause-is_sound c =
     let t = found_tag c.args.place.now c.args.content.now _ _ c.in-Ok-Some.field-0-is c.in-Ok-Some.ensures in
     found_sound c.args.place.now c.args.content.now t _ _ _ _ _ (omega (arith, t.after, t.inside)) (omega (arith, t.from, t.inside)) t.count (omega arith) (omega (arith, t.inside))
 
-pub returns-in-Ok-Some-clause-complete : goal.returns-in-Ok-Some-clause-complete
-returns-in-Ok-Some-clause-complete c =
+pub returns-in-Ok-Some-clause-is_complete : goal.returns-in-Ok-Some-clause-is_complete
+returns-in-Ok-Some-clause-is_complete c =
     let t = found_tag c.args.place.now c.args.content.now _ _ c.in-Ok-Some.field-0-is c.in-Ok-Some.ensures in
     found_complete c.args.place.now c.args.content.now t _ _ _ _ _ (omega (arith, t.after, t.inside)) (omega (arith, t.from, t.inside)) t.count (omega arith) (omega (arith, t.inside))
 
-pub returns-in-Ok-Some-clause-in_order : goal.returns-in-Ok-Some-clause-in_order
-returns-in-Ok-Some-clause-in_order c =
+pub returns-in-Ok-Some-clause-are_in_order : goal.returns-in-Ok-Some-clause-are_in_order
+returns-in-Ok-Some-clause-are_in_order c =
     let t = found_tag c.args.place.now c.args.content.now _ _ c.in-Ok-Some.field-0-is c.in-Ok-Some.ensures in
     found_in_order c.args.place.now c.args.content.now t _ _ _ _ _ (omega (arith, t.after, t.inside)) (omega (arith, t.from, t.inside)) t.count (omega arith) (omega (arith, t.inside))
 
-pub returns-in-Ok-Some-clause-no_more : goal.returns-in-Ok-Some-clause-no_more
-returns-in-Ok-Some-clause-no_more c =
+pub returns-in-Ok-Some-clause-no_more_iff_end : goal.returns-in-Ok-Some-clause-no_more_iff_end
+returns-in-Ok-Some-clause-no_more_iff_end c =
     let t = found_tag c.args.place.now c.args.content.now _ _ c.in-Ok-Some.field-0-is c.in-Ok-Some.ensures in
     let tag = c.in-Ok-Some.tag in
     let value_at = tag.name_at + tag.name_length + 1 in
     found_no_more c.args.place.now c.args.content.now t tag.end tag.name_at tag.name_length value_at (tag.end - value_at) t.after t.from t.count refl refl
 
-pub returns-in-Ok-Some-clause-named : goal.returns-in-Ok-Some-clause-named
-returns-in-Ok-Some-clause-named c =
+pub returns-in-Ok-Some-clause-fault_is_complete : goal.returns-in-Ok-Some-clause-fault_is_complete
+returns-in-Ok-Some-clause-fault_is_complete c =
     let t = found_tag c.args.place.now c.args.content.now _ _ c.in-Ok-Some.field-0-is c.in-Ok-Some.ensures in
     let tag = c.in-Ok-Some.tag in
     let value_at = tag.name_at + tag.name_length + 1 in
     found_named c.args.place.now c.args.content.now t tag.end tag.name_at tag.name_length value_at (tag.end - value_at) t.after t.from t.count refl refl c.args.error.now c.args.error.now
 
-pub returns-in-Ok-None-clause-complete : goal.returns-in-Ok-None-clause-complete
-returns-in-Ok-None-clause-complete c =
+pub returns-in-Ok-None-clause-is_complete : goal.returns-in-Ok-None-clause-is_complete
+returns-in-Ok-None-clause-is_complete c =
     let (rest, read) = subst (IsTagOf c.args.content.now (tag_at c.args.place.now c.args.content.now)) c.in-Ok-None.field-0-is c.in-Ok-None.ensures in
     none_complete c.args.place.now c.args.content.now rest read c.args.place.now c.args.name_at.now c.args.name_length.now c.args.value_at.now c.args.value_length.now
 
-pub returns-in-Ok-None-clause-in_order : goal.returns-in-Ok-None-clause-in_order
-returns-in-Ok-None-clause-in_order c =
+pub returns-in-Ok-None-clause-are_in_order : goal.returns-in-Ok-None-clause-are_in_order
+returns-in-Ok-None-clause-are_in_order c =
     let (rest, read) = subst (IsTagOf c.args.content.now (tag_at c.args.place.now c.args.content.now)) c.in-Ok-None.field-0-is c.in-Ok-None.ensures in
     none_in_order c.args.place.now c.args.content.now rest read c.args.place.now c.args.name_at.now c.args.name_length.now c.args.value_at.now c.args.value_length.now
 
-pub returns-in-Ok-None-clause-no_more : goal.returns-in-Ok-None-clause-no_more
-returns-in-Ok-None-clause-no_more c =
+pub returns-in-Ok-None-clause-no_more_iff_end : goal.returns-in-Ok-None-clause-no_more_iff_end
+returns-in-Ok-None-clause-no_more_iff_end c =
     let (rest, read) = subst (IsTagOf c.args.content.now (tag_at c.args.place.now c.args.content.now)) c.in-Ok-None.field-0-is c.in-Ok-None.ensures in
     none_no_more c.args.place.now c.args.content.now rest read c.args.place.now c.args.name_at.now c.args.name_length.now c.args.value_at.now c.args.value_length.now
 
-pub returns-in-Ok-None-clause-named : goal.returns-in-Ok-None-clause-named
-returns-in-Ok-None-clause-named c =
+pub returns-in-Ok-None-clause-fault_is_complete : goal.returns-in-Ok-None-clause-fault_is_complete
+returns-in-Ok-None-clause-fault_is_complete c =
     let (rest, read) = subst (IsTagOf c.args.content.now (tag_at c.args.place.now c.args.content.now)) c.in-Ok-None.field-0-is c.in-Ok-None.ensures in
     none_named c.args.place.now c.args.content.now rest read c.args.place.now c.args.name_at.now c.args.name_length.now c.args.value_at.now c.args.value_length.now c.args.error.now c.args.error.now
 
-pub returns-in-Err-clause-complete : goal.returns-in-Err-clause-complete
-returns-in-Err-clause-complete c = faulty_complete c.args.place.now c.args.content.now c.in-Err.fault c.in-Err.ensures c.report.result c.args.error.now c.report.new.output c.report.ensures c.args.place.now c.args.name_at.now c.args.name_length.now c.args.value_at.now c.args.value_length.now
+pub returns-in-Err-clause-is_complete : goal.returns-in-Err-clause-is_complete
+returns-in-Err-clause-is_complete c = faulty_complete c.args.place.now c.args.content.now c.in-Err.fault c.in-Err.ensures c.report.result c.args.error.now c.report.new.output c.report.ensures c.args.place.now c.args.name_at.now c.args.name_length.now c.args.value_at.now c.args.value_length.now
 
-pub returns-in-Err-clause-in_order : goal.returns-in-Err-clause-in_order
-returns-in-Err-clause-in_order c = faulty_in_order c.args.place.now c.args.content.now c.in-Err.fault c.in-Err.ensures c.report.result c.args.error.now c.report.new.output c.report.ensures c.args.place.now c.args.name_at.now c.args.name_length.now c.args.value_at.now c.args.value_length.now
+pub returns-in-Err-clause-are_in_order : goal.returns-in-Err-clause-are_in_order
+returns-in-Err-clause-are_in_order c = faulty_in_order c.args.place.now c.args.content.now c.in-Err.fault c.in-Err.ensures c.report.result c.args.error.now c.report.new.output c.report.ensures c.args.place.now c.args.name_at.now c.args.name_length.now c.args.value_at.now c.args.value_length.now
 
-pub returns-in-Err-clause-no_more : goal.returns-in-Err-clause-no_more
-returns-in-Err-clause-no_more c = faulty_no_more c.args.place.now c.args.content.now c.in-Err.fault c.in-Err.ensures c.report.result c.args.error.now c.report.new.output c.report.ensures c.args.place.now c.args.name_at.now c.args.name_length.now c.args.value_at.now c.args.value_length.now
+pub returns-in-Err-clause-no_more_iff_end : goal.returns-in-Err-clause-no_more_iff_end
+returns-in-Err-clause-no_more_iff_end c = faulty_no_more c.args.place.now c.args.content.now c.in-Err.fault c.in-Err.ensures c.report.result c.args.error.now c.report.new.output c.report.ensures c.args.place.now c.args.name_at.now c.args.name_length.now c.args.value_at.now c.args.value_length.now
 
-pub returns-in-Err-clause-fault : goal.returns-in-Err-clause-fault
-returns-in-Err-clause-fault c = faulty_sound c.args.place.now c.args.content.now c.in-Err.fault c.in-Err.ensures c.report.result c.args.error.now c.report.new.output c.report.ensures c.args.place.now c.args.name_at.now c.args.name_length.now c.args.value_at.now c.args.value_length.now
+pub returns-in-Err-clause-fault_is_sound : goal.returns-in-Err-clause-fault_is_sound
+returns-in-Err-clause-fault_is_sound c = faulty_sound c.args.place.now c.args.content.now c.in-Err.fault c.in-Err.ensures c.report.result c.args.error.now c.report.new.output c.report.ensures c.args.place.now c.args.name_at.now c.args.name_length.now c.args.value_at.now c.args.value_length.now
 
-pub returns-in-Err-clause-named : goal.returns-in-Err-clause-named
-returns-in-Err-clause-named c = faulty_named c.args.place.now c.args.content.now c.in-Err.fault c.in-Err.ensures c.report.result c.args.error.now c.report.new.output c.report.ensures c.args.place.now c.args.name_at.now c.args.name_length.now c.args.value_at.now c.args.value_length.now
+pub returns-in-Err-clause-fault_is_complete : goal.returns-in-Err-clause-fault_is_complete
+returns-in-Err-clause-fault_is_complete c = faulty_named c.args.place.now c.args.content.now c.in-Err.fault c.in-Err.ensures c.report.result c.args.error.now c.report.new.output c.report.ensures c.args.place.now c.args.name_at.now c.args.name_length.now c.args.value_at.now c.args.value_length.now

@@ -8,8 +8,8 @@ use Rattle.claxon_frame.proofs.frame.check_footer.Goals as goal
 
 pub returns-then-stored-computed-clause-gives : goal.returns-then-stored-computed-clause-gives
 unfolding crc_at fault_text
-returns-then-stored-computed-clause-gives g c = search (rules, consumes_big (crc_source g.R.ReadBytes.source update_crc16) 2 c.in_ok-stored.stored (search rules) c.in_ok-stored.ensures.ok)
+returns-then-stored-computed-clause-gives g c = search (rules, consumes_big (crc_source g.R.ReadBytes.source update_crc16) 2 c.in_ok-stored.stored (search rules) c.in_ok-stored.ensures.is_sound)
 
 pub returns-else-stored-computed-clause-gives : goal.returns-else-stored-computed-clause-gives
 unfolding crc_at fault_text
-returns-else-stored-computed-clause-gives g c = search (rules, consumes_big (crc_source g.R.ReadBytes.source update_crc16) 2 c.in_ok-stored.stored (search rules) c.in_ok-stored.ensures.ok)
+returns-else-stored-computed-clause-gives g c = search (rules, consumes_big (crc_source g.R.ReadBytes.source update_crc16) 2 c.in_ok-stored.stored (search rules) c.in_ok-stored.ensures.is_sound)

@@ -13,14 +13,14 @@ pub loop-ch-init : goal.loop-ch-init
 loop-ch-init g c =
     let header = c.args.header.now in
     let e : length c.args.buffer.now ≡ channels_of header.channel_assignment * c.from-size.result = rw c.from-size.ensures c.requires in
-    channels_begin (subframe_bit_depths header.channel_assignment header.bits_per_sample) _ _ c.args.buffer.now _ (length-subframe_bit_depths header.channel_assignment header.bits_per_sample header.min_channels header.max_channels) e
+    channels_begin (subframe_bit_depths header.channel_assignment header.bit_depth) _ _ c.args.buffer.now _ (length-subframe_bit_depths header.channel_assignment header.bit_depth header.min_channels header.max_channels) e
 
 pub returns-in_err-decode : goal.returns-in_err-decode
 unfolding subframes_at
 returns-in_err-decode g c =
     let p = err_from_is_err_and c.from_residual.result c.from_residual.ensures.1 in
     let lt : c.loop-ch.ch < channels_of c.args.header.now.channel_assignment = omega (arith, c.channels-ch-end.ensures) in
-    let s = channels_err c.bit_depth-bit_depth.result lt (sym (c.bit_depth-bit_depth.ensures.value c.args.header.now.max_channels lt)) c.loop-ch.invariant c.in_err-decode.ensures.gives in
+    let s = channels_err c.bit_depth-bit_depth.result lt (sym (c.bit_depth-bit_depth.ensures.is_subframe_bit_depth c.args.header.now.max_channels lt)) c.loop-ch.invariant c.in_err-decode.ensures.is_read in
     let none : List (List ℤ) = [] in
     let r : Result (Unit {0}) Error = Err c.in_err-decode.field-0.0 in
     let e = name_through g.R.ReadBytes.source c.args.input.now _ c.new-bits.result c.decode.new.input (λ x. none) r _ c.new-bits.ensures s in
@@ -30,7 +30,7 @@ returns-in_err-decode g c =
 pub loop-ch-preserved : goal.loop-ch-preserved
 loop-ch-preserved g c =
     let lt : c.loop-ch.ch < channels_of c.args.header.now.channel_assignment = omega (arith, c.channels-ch-end.ensures) in
-    channels_next {ws = subframe_bit_depths c.args.header.now.channel_assignment c.args.header.now.bits_per_sample} c.bit_depth-bit_depth.result c.decode.new.buffer lt (sym (c.bit_depth-bit_depth.ensures.value c.args.header.now.max_channels lt)) c.loop-ch.invariant c.decode.auto.buffer c.in_ok-decode.ensures.gives
+    channels_next {ws = subframe_bit_depths c.args.header.now.channel_assignment c.args.header.now.bit_depth} c.bit_depth-bit_depth.result c.decode.new.buffer lt (sym (c.bit_depth-bit_depth.ensures.is_subframe_bit_depth c.args.header.now.max_channels lt)) c.loop-ch.invariant c.decode.auto.buffer c.in_ok-decode.ensures.is_read
 
 pub returns : goal.returns
 unfolding subframes_at

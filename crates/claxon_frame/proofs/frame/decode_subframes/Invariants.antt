@@ -6,5 +6,5 @@ use Rattle.claxon_frame.proofs.frame.decode_subframes.Given as goal
 
 abbrev pub invariant-loop-ch : goal.invariant-loop-ch
 invariant-loop-ch g l =
-    ChannelsSoFar (subframe_bit_depths l.assignment l.header.bits_per_sample) (channels_of l.assignment) l.size l.ch l.start l.buffer
+    ChannelsSoFar (subframe_bit_depths l.assignment l.header.bit_depth) (channels_of l.assignment) l.size l.ch l.start l.buffer
     (bits_in (over_borrow g.R.ReadBytes.source) l.initial.bits) (bits_in (over_borrow g.R.ReadBytes.source) l.bits)

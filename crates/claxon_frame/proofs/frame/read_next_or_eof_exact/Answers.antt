@@ -12,14 +12,14 @@ use Rattle.claxon_frame.specs.FrameReader.{block_view}
 use Rattle.claxon_frame.specs.FrameStart.{start_view, stream_format_view}
 use Rattle.claxon_frame.specs.Subframes.{sample_count}
 use Rattle.claxon_frame.proofs.FrameCrcOverBorrow.{frame_through, out_of_memory_through}
-use Rattle.claxon_frame.proofs.FrameSteps.{stream_is_width, channel_count_is, header_stops, channels_stopped, memory_refused, buffer_too_small, footer_stops, frame_consumes}
+use Rattle.claxon_frame.proofs.FrameSteps.{stream_is_bit_depth, channel_count_is, header_stops, channels_stopped, memory_refused, buffer_too_small, footer_stops, frame_consumes}
 use Rattle.claxon_frame.proofs.frame.read_next_or_eof_exact.Goals as goal
 
 pub returns-in_err-header-clause-gives : goal.returns-in_err-header-clause-gives
 returns-in_err-header-clause-gives g c =
     let read = frame_bytes_at (stream_format_view c.args.stream) in
     let p = err_from_is_err_and c.from_residual.result c.from_residual.ensures.1 in
-    let h = exit_no_memory_or_eof 2 block_view read p (header_stops _ (stream_is_width c.args.stream) c.in_err-header.ensures.gives) in
+    let h = exit_no_memory_or_eof 2 block_view read p (header_stops _ (stream_is_bit_depth c.args.stream) c.in_err-header.ensures.is_read) in
     let k = frame_through g.R.ReadBytes.source update_crc16 c.args.input.now _ _ c.new-input.result c.read_frame_header_or_eof.new.input c.new-input.ensures.source 2 block_view c.from_residual.result read h in
     search (rules, k.0, k.1)
 
@@ -27,7 +27,7 @@ pub returns-in_default-clause-gives : goal.returns-in_default-clause-gives
 returns-in_default-clause-gives g c =
     let read = frame_bytes_at (stream_format_view c.args.stream) in
     let none : Result (Option BlockValue) Error = Ok None in
-    let h = rw c.in_default.is at c.in_ok-header.ensures.gives in
+    let h = rw c.in_default.is at c.in_ok-header.ensures.is_read in
     let k = frame_through g.R.ReadBytes.source update_crc16 c.args.input.now _ _ c.new-input.result c.read_frame_header_or_eof.new.input c.new-input.ensures.source 2 block_view none read h in
     search (rules, k.0, k.1)
 
@@ -35,7 +35,7 @@ pub returns-in_err-buffer-clause-gives : goal.returns-in_err-buffer-clause-gives
 returns-in_err-buffer-clause-gives g c =
     let read = frame_bytes_at (stream_format_view c.args.stream) in
     let p = err_from_is_err_and c.from_residual-in_err-buffer.result c.from_residual-in_err-buffer.ensures.1 in
-    let start = rw c.in-Some.is at c.in_ok-header.ensures.gives in
+    let start = rw c.in-Some.is at c.in_ok-header.ensures.is_read in
     let h = memory_refused block_view read p c.in_err-buffer.ensures.refused start in
     let k = frame_through g.R.ReadBytes.source update_crc16 c.args.input.now _ _ c.new-input.result c.read_frame_header_or_eof.new.input c.new-input.ensures.source 2 block_view c.from_residual-in_err-buffer.result read h in
     search (rules, k.0, k.1)
@@ -44,7 +44,7 @@ pub returns-in_err-buffer-clause-buffer_too_small : goal.returns-in_err-buffer-c
 returns-in_err-buffer-clause-buffer_too_small g c =
     let read = frame_bytes_at (stream_format_view c.args.stream) in
     let p = err_from_is_err_and c.from_residual-in_err-buffer.result c.from_residual-in_err-buffer.ensures.1 in
-    let start = rw c.in-Some.is at c.in_ok-header.ensures.gives in
+    let start = rw c.in-Some.is at c.in_ok-header.ensures.is_read in
     let h = memory_refused block_view read p c.in_err-buffer.ensures.refused start in
     let same = (frame_through g.R.ReadBytes.source update_crc16 c.args.input.now _ _ c.new-input.result c.read_frame_header_or_eof.new.input c.new-input.ensures.source 2 block_view c.from_residual-in_err-buffer.result read h).0 in
     let header = c.in-Some.header in
@@ -61,8 +61,8 @@ pub returns-in_err-decode_subframes-clause-gives : goal.returns-in_err-decode_su
 returns-in_err-decode_subframes-clause-gives g c =
     let read = frame_bytes_at (stream_format_view c.args.stream) in
     let p = err_from_is_err_and c.from_residual-in_err-decode_subframes.result c.from_residual-in_err-decode_subframes.ensures.1 in
-    let start = rw c.in-Some.is at c.in_ok-header.ensures.gives in
-    let h = exit_no_memory_or_eof 2 block_view read p (channels_stopped _ (stream_is_width c.args.stream) {start = start_view c.in-Some.header} start c.in_err-decode_subframes.ensures) in
+    let start = rw c.in-Some.is at c.in_ok-header.ensures.is_read in
+    let h = exit_no_memory_or_eof 2 block_view read p (channels_stopped _ (stream_is_bit_depth c.args.stream) {start = start_view c.in-Some.header} start c.in_err-decode_subframes.ensures) in
     let k = frame_through g.R.ReadBytes.source update_crc16 c.args.input.now _ _ c.new-input.result c.decode_subframes.new.input c.new-input.ensures.source 2 block_view c.from_residual-in_err-decode_subframes.result read h in
     search (rules, k.0, k.1)
 
@@ -71,8 +71,8 @@ unfolding bytes_in
 returns-in_err-check_footer-clause-gives g c =
     let read = frame_bytes_at (stream_format_view c.args.stream) in
     let p = err_from_is_err_and c.from_residual-in_err-check_footer.result c.from_residual-in_err-check_footer.ensures.1 in
-    let start = rw c.in-Some.is at c.in_ok-header.ensures.gives in
-    let h = exit_no_memory_or_eof 2 block_view read p (footer_stops _ (stream_is_width c.args.stream) (start_view c.in-Some.header) _ _ _ _ _ c.new-input.ensures.state c.check_footer.ensures.fits start c.in_ok-decode_subframes.ensures c.in_err-check_footer.ensures.gives) in
+    let start = rw c.in-Some.is at c.in_ok-header.ensures.is_read in
+    let h = exit_no_memory_or_eof 2 block_view read p (footer_stops _ (stream_is_bit_depth c.args.stream) (start_view c.in-Some.header) _ _ _ _ _ c.new-input.ensures.state c.check_footer.ensures.fits start c.in_ok-decode_subframes.ensures c.in_err-check_footer.ensures.gives) in
     let k = frame_through g.R.ReadBytes.source update_crc16 c.args.input.now _ _ c.new-input.result c.check_footer.new.input c.new-input.ensures.source 2 block_view c.from_residual-in_err-check_footer.result read h in
     search (rules, k.0, k.1)
 
@@ -80,8 +80,8 @@ pub returns-clause-gives : goal.returns-clause-gives
 unfolding bytes_in
 returns-clause-gives g c =
     let read = frame_bytes_at (stream_format_view c.args.stream) in
-    let start = rw c.in-Some.is at c.in_ok-header.ensures.gives in
-    let whole = frame_consumes _ (stream_is_width c.args.stream) (start_view c.in-Some.header) _ _ _ _ _ c.new-input.ensures.state c.check_footer.ensures.fits start c.in_ok-decode_subframes.ensures c.in_ok-check_footer.ensures.gives in
+    let start = rw c.in-Some.is at c.in_ok-header.ensures.is_read in
+    let whole = frame_consumes _ (stream_is_bit_depth c.args.stream) (start_view c.in-Some.header) _ _ _ _ _ c.new-input.ensures.state c.check_footer.ensures.fits start c.in_ok-decode_subframes.ensures c.in_ok-check_footer.ensures.gives in
     let r : Result (Option BlockValue) Error = Ok (Some c.to_block.result) in
     let vec = c.in_ok-buffer.buffer in
     let samples = c.decode_subframes.new.buffer in

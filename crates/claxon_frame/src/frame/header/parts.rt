@@ -1,19 +1,24 @@
 //! The parts of a frame header.
 ghost use Rattle.std.specs.Prelude.{◌≡◌, ◌≤◌};
 ghost use Rattle.std.specs.Option.{ForSome};
-ghost use Rattle.claxon_frame.specs.FrameHeader.{HasBitDepthCode, IsSubframeBitDepth, channels_of, max_bit_depth};
+ghost use Rattle.claxon_frame.specs.FrameHeader.{
+  HasBitDepthCode,
+  IsSubframeBitDepth,
+  channels_of,
+  max_bit_depth,
+};
 
 /// What is known of the frames from the streaminfo.
 #[derive(Clone, Copy)]
 pub struct KnownStreamFormat {
     /// The bit depth where a frame header gives none, 1 to 32.
-    pub bits_per_sample: u32,
+    pub bit_depth: u32,
 
     /// The minimum and the maximum block size. If they are equal all blocks but the last have this size.
     pub min_block_size: u16,
     pub max_block_size: u16,
-    ghost min_bits: { 1 ≤ bits_per_sample },
-    ghost max_bits: { bits_per_sample ≤ 32 },
+    ghost min_bits: { 1 ≤ bit_depth },
+    ghost max_bits: { bit_depth ≤ 32 },
 }
 
 /// Whether all blocks but the last have the same size.
@@ -64,11 +69,11 @@ pub struct FrameHeader {
     /// The number of samples of each channel in this frame.
     pub block_size: u16,
     pub channel_assignment: ChannelAssignment,
-    pub bits_per_sample: u32,
+    pub bit_depth: u32,
     ghost min_size: { 1 ≤ block_size },
     ghost min_channels: { 1 ≤ channels_of channel_assignment },
     ghost max_channels: { channels_of channel_assignment ≤ 8 },
-    ghost max_bits: { max_bit_depth channel_assignment bits_per_sample ≤ 32 },
+    ghost max_bits: { max_bit_depth channel_assignment bit_depth ≤ 32 },
 }
 
 /// The fields of a header before its CRC.
@@ -77,11 +82,11 @@ pub struct HeaderFields {
     pub block_time: BlockTime,
     pub block_size: u16,
     pub channel_assignment: ChannelAssignment,
-    pub bits_per_sample: Option<u32>,
+    pub bit_depth: Option<u32>,
     ghost min_size: { 1 ≤ block_size },
     ghost min_channels: { 1 ≤ channels_of channel_assignment },
     ghost max_channels: { channels_of channel_assignment ≤ 8 },
-    ghost has_code: { ForSome bits_per_sample HasBitDepthCode },
+    ghost has_code: { ForSome bit_depth HasBitDepthCode },
 }
 
 impl ChannelAssignment {
@@ -97,16 +102,16 @@ impl ChannelAssignment {
     }
 
     /// The bit depth of a subframe: that of a side channel has one bit more.
-    pub fn bit_depth(self, bits_per_sample: u32, ch: u8) -> u32
-        requires { max_bit_depth self bits_per_sample ≤ 32 }
+    pub fn bit_depth(self, bit_depth: u32, ch: u8) -> u32
+        requires { max_bit_depth self bit_depth ≤ 32 }
         ensures max_bits { result ≤ 32 }
-        ensures value { IsSubframeBitDepth self bits_per_sample ch result }
+        ensures is_subframe_bit_depth { IsSubframeBitDepth self bit_depth ch result }
     {
         let is_side = match self {
             ChannelAssignment::Independent(_) => false,
             ChannelAssignment::RightSideStereo => ch == 0,
             _ => ch == 1,
         };
-        bits_per_sample + u32::from(is_side)
+        bit_depth + u32::from(is_side)
     }
 }

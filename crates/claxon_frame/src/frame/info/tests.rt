@@ -17,7 +17,7 @@ fn header_alone(rt: HostRuntime) {
             time: 0,
             channels: 2,
             duration: 1,
-            bits_per_sample: 16,
+            bit_depth: 16,
         }))
     );
     assert!(rt; is_that_block);

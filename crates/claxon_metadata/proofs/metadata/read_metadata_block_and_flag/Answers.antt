@@ -8,33 +8,33 @@ use Rattle.claxon_metadata.proofs.ContentByType.{header_is}
 use Rattle.claxon_format.specs.read.MetadataBlocks.{block_at}
 use Rattle.claxon_metadata.proofs.metadata.read_metadata_block_and_flag.Goals as goal
 
-pub returns-in_err-block-clause-memory : goal.returns-in_err-block-clause-memory
-returns-in_err-block-clause-memory g c out_of_memory known =
+pub returns-in_err-block-clause-out_of_memory_after_block_header : goal.returns-in_err-block-clause-out_of_memory_after_block_header
+returns-in_err-block-clause-out_of_memory_after_block_header g c out_of_memory known =
     let e = err_from_is_err_and c.from_residual-in_err-block.result c.from_residual-in_err-block.ensures.1 in
     let both : Err e.0 ≡ Err OutOfMemory = sym e.1 ∙ out_of_memory in
     let same : e.0 ≡ OutOfMemory = cc both in
     let read = c.in_ok-header.ensures.gives.known known in
     let again = ap (λ (z : Error). Err z) (sym e.2 ∙ same) in
-    let may = c.in_err-block.ensures.memory in
+    let may = c.in_err-block.ensures.out_of_memory_after_lengths in
     let t = Reads-block_header.takes _ (header_view c.in_ok-header.header) _ read.is in
     (header_view c.in_ok-header.header, t.0, _, t.1, (may.0 again, λ four. may.1 four again read.known), t.2)
 
-pub returns-in_err-header-clause-within : goal.returns-in_err-header-clause-within
-returns-in_err-header-clause-within g c h x rest code remains = omega (arith, c.in_err-header.ensures.within)
+pub returns-in_err-header-clause-at_most_block_is_consumed : goal.returns-in_err-header-clause-at_most_block_is_consumed
+returns-in_err-header-clause-at_most_block_is_consumed g c h x rest code remains = omega (arith, c.in_err-header.ensures.at_most_is_consumed)
 
-pub returns-in_err-block-clause-within : goal.returns-in_err-block-clause-within
-returns-in_err-block-clause-within g c h x rest code remains =
+pub returns-in_err-block-clause-at_most_block_is_consumed : goal.returns-in_err-block-clause-at_most_block_is_consumed
+returns-in_err-block-clause-at_most_block_is_consumed g c h x rest code remains =
     let same = header_is _ h x rest code remains.are (c.in_ok-header.ensures.gives.known remains.known).is in
-    omega (arith, same, c.in_ok-header.ensures.within, c.in_err-block.ensures.within)
+    omega (arith, same, c.in_ok-header.ensures.at_most_is_consumed, c.in_err-block.ensures.at_most_is_consumed)
 
-pub returns-clause-within : goal.returns-clause-within
-returns-clause-within g c h x rest code remains =
+pub returns-clause-at_most_block_is_consumed : goal.returns-clause-at_most_block_is_consumed
+returns-clause-at_most_block_is_consumed g c h x rest code remains =
     let same = header_is _ h x rest code remains.are (c.in_ok-header.ensures.gives.known remains.known).is in
-    omega (arith, same, c.in_ok-header.ensures.within, c.in_ok-block.ensures.within)
+    omega (arith, same, c.in_ok-header.ensures.at_most_is_consumed, c.in_ok-block.ensures.at_most_is_consumed)
 
-pub returns-clause-memory : goal.returns-clause-memory
-returns-clause-memory g c = search rules
+pub returns-clause-out_of_memory_after_block_header : goal.returns-clause-out_of_memory_after_block_header
+returns-clause-out_of_memory_after_block_header g c = search rules
 
-pub returns-clause-gives : goal.returns-clause-gives
+pub returns-clause-is_read : goal.returns-clause-is_read
 unfolding block_at
-returns-clause-gives g c = search rules
+returns-clause-is_read g c = search rules

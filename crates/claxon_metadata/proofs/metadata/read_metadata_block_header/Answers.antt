@@ -6,4 +6,4 @@ use Rattle.claxon_metadata.proofs.metadata.read_metadata_block_header.Goals as g
 pub returns-clause-gives : goal.returns-clause-gives
 unfolding block_header_at
 returns-clause-gives g c =
-    search (rules, consumes_byte g.R.ReadBytes.source c.in_ok-first.first (search rules) c.in_ok-first.ensures.ok, consumes_big g.R.ReadBytes.source 3 c.in_ok-length.length (search rules) c.in_ok-length.ensures.ok)
+    search (rules, consumes_byte g.R.ReadBytes.source c.in_ok-first.first (search rules) c.in_ok-first.ensures.is_sound, consumes_big g.R.ReadBytes.source 3 c.in_ok-length.length (search rules) c.in_ok-length.ensures.is_sound)

@@ -19,18 +19,18 @@ promised view r w n a b few g = promises (Reads-subframe w n few) view r a b (gi
 pub returns : goal.returns
 unfolding bits_in
 returns g c =
-    let few = c.requires.width in
+    let few = c.requires.max_bit_depth in
     let gives = c.decode_exact.ensures in
-    let p = promised (λ x. c.decode_exact.new.buffer) c.decode_exact.result c.args.bps (length c.args.buffer.now) _ _ few gives in
+    let p = promised (λ x. c.decode_exact.new.buffer) c.decode_exact.result c.args.bit_depth (length c.args.buffer.now) _ _ few gives in
     record {
-      sound = p.sound;
-      complete = p.complete;
-      unambiguous = subframes_unambiguous c.args.bps (length c.args.buffer.now) few;
-      fault = p.fault;
-      named = p.named;
-      io = p.io;
-      front = p.front;
-      gives = gives;
-      no_memory = gives_not_out_of_memory (λ x. c.decode_exact.new.buffer) c.decode_exact.result _ _ _ gives;
-      loans = gives_loans (λ x. c.decode_exact.new.buffer) c.decode_exact.result _ _ _ gives;
+      is_sound = p.is_sound;
+      is_complete = p.is_complete;
+      is_unambiguous = subframes_unambiguous c.args.bit_depth (length c.args.buffer.now) few;
+      fault_is_sound = p.fault_is_sound;
+      fault_is_complete = p.fault_is_complete;
+      else_io_error = p.else_io_error;
+      leaves_rest = p.leaves_rest;
+      is_read = gives;
+      never_out_of_memory = gives_not_out_of_memory (λ x. c.decode_exact.new.buffer) c.decode_exact.result _ _ _ gives;
+      keeps_reader_loans = gives_loans (λ x. c.decode_exact.new.buffer) c.decode_exact.result _ _ _ gives;
     }

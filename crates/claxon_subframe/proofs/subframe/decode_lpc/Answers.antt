@@ -19,26 +19,26 @@ pub returns-in_err-decode_verbatim : goal.returns-in_err-decode_verbatim
 returns-in_err-decode_verbatim g c =
     let warm_up = length-take-le c.args.order c.args.buffer.now (omega arith) in
     exit _ (err_from_is_err_and c.from_residual.result c.from_residual.ensures.1)
-    (then_stops _ (linear_begins c.args.bps (length c.args.buffer.now) c.args.order _ (omega arith)) (times_stops warm_up _ c.in_err-decode_verbatim.ensures))
+    (then_stops _ (linear_begins c.args.bit_depth (length c.args.buffer.now) c.args.order _ (omega arith)) (times_stops warm_up _ c.in_err-decode_verbatim.ensures))
 
 pub returns-in_err-lpc : goal.returns-in_err-lpc
 returns-in_err-lpc g c =
     let warm_up = length-take-le c.args.order c.args.buffer.now (omega arith) in
     exit _ (err_from_is_err_and c.from_residual-in_err-lpc.result c.from_residual-in_err-lpc.ensures.1)
-    (then_stops _ (linear_warm_up c.args.bps (length c.args.buffer.now) c.args.order _ (omega arith) warm_up c.in_ok-decode_verbatim.ensures) c.in_err-lpc.ensures.gives)
+    (then_stops _ (linear_warm_up c.args.bit_depth (length c.args.buffer.now) c.args.order _ (omega arith) warm_up c.in_ok-decode_verbatim.ensures) c.in_err-lpc.ensures.gives)
 
 pub returns-in_err-read_coefficients : goal.returns-in_err-read_coefficients
 returns-in_err-read_coefficients g c =
     let warm_up = length-take-le c.args.order c.args.buffer.now (omega arith) in
     exit _ (err_from_is_err_and c.from_residual-in_err-read_coefficients.result c.from_residual-in_err-read_coefficients.ensures.1)
-    (then_stops _ (then_consumes _ (linear_warm_up c.args.bps (length c.args.buffer.now) c.args.order _ (omega arith) warm_up c.in_ok-decode_verbatim.ensures) c.in_ok-lpc.ensures.gives)
+    (then_stops _ (then_consumes _ (linear_warm_up c.args.bit_depth (length c.args.buffer.now) c.args.order _ (omega arith) warm_up c.in_ok-decode_verbatim.ensures) c.in_ok-lpc.ensures.gives)
     (times_stops (table_front c.args.order c.requires.order) _ c.in_err-read_coefficients.ensures))
 
 pub returns-in_err-decode_residual : goal.returns-in_err-decode_residual
 returns-in_err-decode_residual g c =
     let warm_up = length-take-le c.args.order c.args.buffer.now (omega arith) in
     exit _ (err_from_is_err_and c.from_residual-in_err-decode_residual.result c.from_residual-in_err-decode_residual.ensures.1)
-    (then_stops _ (then_consumes _ (then_consumes _ (linear_warm_up c.args.bps (length c.args.buffer.now) c.args.order _ (omega arith) warm_up c.in_ok-decode_verbatim.ensures) c.in_ok-lpc.ensures.gives)
+    (then_stops _ (then_consumes _ (then_consumes _ (linear_warm_up c.args.bit_depth (length c.args.buffer.now) c.args.order _ (omega arith) warm_up c.in_ok-decode_verbatim.ensures) c.in_ok-lpc.ensures.gives)
     (times_consumes (table_front c.args.order c.requires.order) _ c.in_ok-read_coefficients.ensures))
     (residual_stops (omega arith) _ c.in_err-decode_residual.ensures))
 
@@ -48,7 +48,7 @@ returns g c =
     consumes_as
     (in_place (linear c.read_coefficients.new.coefficients c.in_ok-lpc.lpc.shift) c.args.order c.decode_verbatim.new.buffer _ c.decode_residual.new.buffer c.predict_lpc.new.buffer
     (c.read_coefficients.auto.coefficients ∙ table_front c.args.order c.requires.order) (c.decode_verbatim.auto.buffer ∙ warm_up) c.decode_residual.auto.buffer c.predict_lpc.ensures)
-    (then_consumes _ (then_consumes _ (then_consumes _ (linear_warm_up c.args.bps (length c.args.buffer.now) c.args.order _ (omega arith) warm_up c.in_ok-decode_verbatim.ensures) c.in_ok-lpc.ensures.gives)
+    (then_consumes _ (then_consumes _ (then_consumes _ (linear_warm_up c.args.bit_depth (length c.args.buffer.now) c.args.order _ (omega arith) warm_up c.in_ok-decode_verbatim.ensures) c.in_ok-lpc.ensures.gives)
     (times_consumes (table_front c.args.order c.requires.order) _ c.in_ok-read_coefficients.ensures))
     (residual_consumes (omega arith) _ c.in_ok-decode_residual.ensures))
 

@@ -12,7 +12,7 @@ unfolding parameters_at
 returns-in_err-read_leq_u8-2-clause-gives g c =
     let fine : eqb c.in_ok-read_leq_u8.field-0 15 ≡ false = grind (arith, nat_tests) in
     io_exit parameters_of (err_from_is_err_and c.from_residual-in_err-read_leq_u8-2.result c.from_residual-in_err-read_leq_u8-2.ensures.1)
-    (failure_or_after _ c.in_ok-read_leq_u8.ensures.gives c.in_err-read_leq_u8-2.ensures.gives (λ p q. rw (p, fine, q) refl))
+    (failure_or_after _ c.in_ok-read_leq_u8.ensures.is_read c.in_err-read_leq_u8-2.ensures.is_read (λ p q. rw (p, fine, q) refl))
 
 pub returns-clause-gives : goal.returns-clause-gives
 unfolding parameters_at fault_text

@@ -7,6 +7,6 @@ use Rattle.claxon_subframe.proofs.subframe.read_sample.Goals as goal
 pub returns : goal.returns
 unfolding signed_at
 returns g c =
-    let k : c.extend_sign_u32.result ≡ twos_complement c.args.bps c.in_ok-sample.sample
-    = c.extend_sign_u32.ensures.value ∙ ap (twos_complement c.args.bps) (mod_small c.in_ok-sample.sample (2 ^ c.args.bps) c.in_ok-sample.ensures.value) in
+    let k : c.extend_sign_u32.result ≡ twos_complement c.args.bit_depth c.in_ok-sample.sample
+    = c.extend_sign_u32.ensures.value ∙ ap (twos_complement c.args.bit_depth) (mod_small c.in_ok-sample.sample (2 ^ c.args.bit_depth) c.in_ok-sample.ensures.value) in
     grind (arith, common_steps)

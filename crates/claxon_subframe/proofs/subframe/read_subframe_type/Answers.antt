@@ -13,4 +13,4 @@ pub returns-in_err-read_leq_u8-clause-gives : goal.returns-in_err-read_leq_u8-cl
 unfolding type_at
 returns-in_err-read_leq_u8-clause-gives g c =
     io_exit _ (err_from_is_err_and c.from_residual-in_err-read_leq_u8.result c.from_residual-in_err-read_leq_u8.ensures.1)
-    (failure_or_after _ c.in_ok-read_bit.ensures.gives c.in_err-read_leq_u8.ensures.gives (λ p q. rw (p, c.if-branch.false, q) refl))
+    (failure_or_after _ c.in_ok-read_bit.ensures.is_read c.in_err-read_leq_u8.ensures.is_read (λ p q. rw (p, c.if-branch.false, q) refl))

@@ -1,5 +1,19 @@
 //! Linear predictors of more than twelve coefficients.
-ghost use Rattle.std.specs.Prelude.{◌≡◌, ◌+◌, ◌-◌, ◌*◌, ◌^◌, ◌<◌, ◌≤◌, length, take, reverse, replicate, pos, FitsSigned};
+ghost use Rattle.std.specs.Prelude.{
+  ◌≡◌,
+  ◌+◌,
+  ◌-◌,
+  ◌*◌,
+  ◌^◌,
+  ◌<◌,
+  ◌≤◌,
+  length,
+  take,
+  reverse,
+  replicate,
+  pos,
+  FitsSigned,
+};
 ghost use Rattle.std.specs.Int.{w32};
 ghost use Rattle.claxon_format.specs.Predict.{linear};
 ghost use Rattle.claxon_format.specs.read.Predict.{restored};

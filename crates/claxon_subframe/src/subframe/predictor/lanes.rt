@@ -1,9 +1,40 @@
 //! What the linear predictors share: the sums of products that later samples still wait for, in vectors of four lanes, and the
 //! newest five samples, whose products come last.
-ghost use Rattle.std.specs.Prelude.{◌≡◌, ◌+◌, ◌-◌, ◌^◌, ◌≤◌, true, false, ◌++◌, length, take, drop, reverse, replicate, get_or, pos, FitsSigned};
+ghost use Rattle.std.specs.Prelude.{
+  ◌≡◌,
+  ◌+◌,
+  ◌-◌,
+  ◌^◌,
+  ◌≤◌,
+  true,
+  false,
+  ◌++◌,
+  length,
+  take,
+  drop,
+  reverse,
+  replicate,
+  get_or,
+  pos,
+  FitsSigned,
+};
 ghost use Rattle.std.specs.Int.{w32};
-ghost use Rattle.claxon_subframe.specs.Lanes.{Within, Lanes, LanesFit64, plus_products, advanced_by_two};
-ghost use Rattle.claxon_subframe.specs.PendingSums.{IsScaledUp, AddsProduct, IsSample, IsButFifth, IsFollowed, AreNewest, IsFollowedByTwo};
+ghost use Rattle.claxon_subframe.specs.Lanes.{
+  Within,
+  Lanes,
+  LanesFit64,
+  plus_products,
+  advanced_by_two,
+};
+ghost use Rattle.claxon_subframe.specs.PendingSums.{
+  IsScaledUp,
+  AddsProduct,
+  IsSample,
+  IsButFifth,
+  IsFollowed,
+  AreNewest,
+  IsFollowedByTwo,
+};
 
 use std::simd::prelude::*;
 

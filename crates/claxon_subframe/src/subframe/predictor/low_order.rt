@@ -1,12 +1,35 @@
 //! Linear predictors of at most twelve coefficients. Most are of this kind.
-ghost use Rattle.std.specs.Prelude.{◌≡◌, ◌+◌, ◌-◌, ◌*◌, ◌<◌, ◌≤◌, ◌++◌, List, ℤ, length, take, reverse, replicate, pos, FitsSigned};
+ghost use Rattle.std.specs.Prelude.{
+  ◌≡◌,
+  ◌+◌,
+  ◌-◌,
+  ◌*◌,
+  ◌<◌,
+  ◌≤◌,
+  ◌++◌,
+  List,
+  ℤ,
+  length,
+  take,
+  reverse,
+  replicate,
+  pos,
+  FitsSigned,
+};
 ghost use Rattle.std.specs.Int.{w32};
 ghost use Rattle.claxon_format.specs.Predict.{linear};
 ghost use Rattle.claxon_format.specs.read.Predict.{restored};
 ghost use Rattle.claxon_subframe.specs.Predictor.{SamplesAreRestored};
 ghost use Rattle.claxon_subframe.specs.PendingSums.{AreNewest, FitVectors};
 ghost use Rattle.claxon_subframe.specs.PredictorState.{StandsAt};
-ghost use Rattle.claxon_subframe.specs.TwelveLanes.{numbers, SmallTwelve, TwelveFit64, AreTwelvePending, AreTwelveTaps, SmallTwelveTaps};
+ghost use Rattle.claxon_subframe.specs.TwelveLanes.{
+  numbers,
+  SmallTwelve,
+  TwelveFit64,
+  AreTwelvePending,
+  AreTwelveTaps,
+  SmallTwelveTaps,
+};
 
 use super::lanes::{
     NewestFive, PredictorState, advance_lanes, broadcast, padded_coefficients, shift_two_lanes,
@@ -245,8 +268,8 @@ fn predict_12_taps<const VECTORS: usize>(
     ensures least { 12 ≤ result }
     ensures few { result ≤ length buffer.new }
     ensures all { length buffer.new < result + 10 }
-    ensures restored { restored (linear (reverse (numbers coefficients.now)) shift) result buffer.new
-        ≡ restored (linear (reverse (numbers coefficients.now)) shift) 12 buffer.old }
+    ensures restored { restored (linear (reverse (numbers coefficients.now)) shift) result
+        buffer.new ≡ restored (linear (reverse (numbers coefficients.now)) shift) 12 buffer.old }
 {
     let last = newest_of_twelve(coefficients);
     let taps = LowOrderTaps::<VECTORS> {

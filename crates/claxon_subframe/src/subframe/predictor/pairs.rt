@@ -1,11 +1,41 @@
 //! Linear predictors over samples of 16 bits. One instruction multiplies two samples by their coefficients in each of four
 //! lanes, and adds the two products. The lanes have 32 bits: where the magnitudes of the coefficients add up to less than 2^16,
 //! the pending sums of samples of 16 bits fit.
-ghost use Rattle.std.specs.Prelude.{◌≡◌, ◌+◌, ◌*◌, ◌-◌, ◌^◌, ◌<◌, ◌≤◌, ◌↔◌, ◌++◌, IsTrue, true, false, length, take, drop, reverse, replicate, pos, FitsSigned};
+ghost use Rattle.std.specs.Prelude.{
+  ◌≡◌,
+  ◌+◌,
+  ◌*◌,
+  ◌-◌,
+  ◌^◌,
+  ◌<◌,
+  ◌≤◌,
+  ◌↔◌,
+  ◌++◌,
+  IsTrue,
+  true,
+  false,
+  length,
+  take,
+  drop,
+  reverse,
+  replicate,
+  pos,
+  FitsSigned,
+};
 ghost use Rattle.std.specs.Int.{w16};
 ghost use Rattle.claxon_subframe.specs.Predictor.{FrontIsRestored};
 ghost use Rattle.claxon_subframe.specs.PendingSums.{AreNewest};
-ghost use Rattle.claxon_subframe.specs.Pairs.{ArePairTaps, LanesFit16, LanesFit32, SmallPairTaps, SumsFit32, advanced_by_pair, magnitude, pair_of, plus_pairs};
+ghost use Rattle.claxon_subframe.specs.Pairs.{
+  ArePairTaps,
+  LanesFit16,
+  LanesFit32,
+  SmallPairTaps,
+  SumsFit32,
+  advanced_by_pair,
+  magnitude,
+  pair_of,
+  plus_pairs,
+};
 
 use super::lanes::{LaterLanes, NewestFive, PendingSums, PredictorState};
 use super::predict_plain;

@@ -4,11 +4,34 @@
 //! the lanes shift by half a vector. The products of the newest samples, four for the first of two and five for the second, are
 //! added last, one by one, so that a sample depends on the one just before it only by one product, and on no pending sum that
 //! was just computed.
-ghost use Rattle.std.specs.Prelude.{◌≡◌, ◌+◌, ◌%◌, ◌<◌, ◌≤◌, ◌↔◌, ◌∷◌, [], List, ℤ, IfErr, IfOk, IfSome, IsSome, IsTrue, length, FitsSigned};
+ghost use Rattle.std.specs.Prelude.{
+  ◌≡◌,
+  ◌+◌,
+  ◌%◌,
+  ◌<◌,
+  ◌≤◌,
+  ◌↔◌,
+  ◌∷◌,
+  [],
+  List,
+  ℤ,
+  IfErr,
+  IfOk,
+  IfSome,
+  IsSome,
+  IsTrue,
+  length,
+  FitsSigned,
+};
 ghost use Rattle.std.specs.Int.{w32};
 ghost use Rattle.claxon_subframe.specs.Lanes.{LanesFit64};
 ghost use Rattle.claxon_subframe.specs.PendingSums.{ArePendingSumsOf, four_pending};
-ghost use Rattle.claxon_subframe.specs.PredictorState.{EachFits, RestoresFront, RestoresPair, RestoresTen};
+ghost use Rattle.claxon_subframe.specs.PredictorState.{
+  EachFits,
+  RestoresFront,
+  RestoresPair,
+  RestoresTen,
+};
 
 use super::lanes::{NewestFive, PredictorState};
 use super::low_bits;
@@ -167,8 +190,8 @@ pub fn restore_front<T: LaneTaps>(
     ensures least { start ≤ result }
     ensures few { result ≤ length buffer.new }
     ensures all { EachFits T.sample_fits → length buffer.new < result + 10 }
-    ensures restored { RestoresFront (T.coefficients taps) T.pending last shift buffer.old start state
-        buffer.new result }
+    ensures restored { RestoresFront (T.coefficients taps) T.pending last shift buffer.old start
+        state buffer.new result }
 {
     let mut current = state;
     let tens = (buffer.len() - start) / 10;

@@ -3,12 +3,12 @@ use Rattle.claxon_write.specs.Written.{Puts}
 use Rattle.claxon_tools.proofs.Printing.{put_and_flushed, put_not_flushed}
 use Rattle.claxon_tools.proofs.facts.write_facts.Goals as goal
 
-pub returns-clause-ok : goal.returns-clause-ok
-returns-clause-ok g c =
-    let put = subst (λ (z : List ℕ). Puts g.W.Write.contents z c.args.output.now c.put.new.self) (c.as_bytes.ensures.value ∙ c.in_ok-text.ensures) c.in_ok-put.ensures.ok in
-    put_and_flushed c.flush.new.self put c.in_ok-put.ensures.unflushed c.flush.result c.flush.ensures.ok c.flush.ensures.none_pending
+pub returns-clause-is_sound : goal.returns-clause-is_sound
+returns-clause-is_sound g c =
+    let put = subst (λ (z : List ℕ). Puts g.W.Write.contents z c.args.output.now c.put.new.self) (c.as_bytes.ensures.value ∙ c.in_ok-text.ensures) c.in_ok-put.ensures.is_sound in
+    put_and_flushed c.flush.new.self put c.in_ok-put.ensures.is_unflushed c.flush.result c.flush.ensures.is_sound c.flush.ensures.none_pending
 
-pub returns-clause-err : goal.returns-clause-err
-returns-clause-err g c =
-    let put = subst (λ (z : List ℕ). Puts g.W.Write.contents z c.args.output.now c.put.new.self) (c.as_bytes.ensures.value ∙ c.in_ok-text.ensures) c.in_ok-put.ensures.ok in
-    put_not_flushed c.flush.new.self put c.in_ok-put.ensures.unflushed c.flush.result c.flush.ensures.err
+pub returns-clause-fault_is_sound : goal.returns-clause-fault_is_sound
+returns-clause-fault_is_sound g c =
+    let put = subst (λ (z : List ℕ). Puts g.W.Write.contents z c.args.output.now c.put.new.self) (c.as_bytes.ensures.value ∙ c.in_ok-text.ensures) c.in_ok-put.ensures.is_sound in
+    put_not_flushed c.flush.new.self put c.in_ok-put.ensures.is_unflushed c.flush.result c.flush.ensures.fault_is_sound

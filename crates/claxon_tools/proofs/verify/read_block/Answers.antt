@@ -14,7 +14,7 @@ returns g c =
     let q = frame_input c.read_next_or_eof.new.self in
     let s = frame_input c.with_streaminfo-frames.result in
     let b = frame_bytes (lent g.R.ReadBytes.source) c.read_next_or_eof.new.self in
-    let reads = reads_frame _ e.sound e.complete e.none_is_eof e.eof_is_none e.no_failure e.fault e.named e.io e.front e.memory e.gives in
+    let reads = reads_frame _ e.is_sound e.is_complete e.none_is_eof e.eof_is_none e.failure_is_err e.fault_is_sound e.fault_is_complete e.else_io_error e.leaves_rest e.out_of_memory_after_header e.is_read in
     let n = sym (same_name g.R.ReadBytes.source _ s q at (reads_loans {b = b} reads)) in
     let k = read_through g.R.ReadBytes.source _ c.read_next_or_eof.result s q _ _ at c.with_streaminfo-frames.ensures.stream (reads_loans {b = b} reads) reads in
     search rules

@@ -12,11 +12,11 @@ returns-in_err-block g c =
     let old = c.with_streaminfo-frames.result in
     let new = c.read_next_or_eof.new.self in
     let remains = slice_remains old c.new.result c.args.packet c.with_streaminfo-frames.ensures.input c.new.ensures.position c.new.ensures.inner in
-    let reads = known_as {a = slice_bytes old} {b = slice_bytes new} c.with_streaminfo-frames.ensures.stream (reads_frame _ e.sound e.complete e.none_is_eof e.eof_is_none e.no_failure e.fault e.named e.io e.front e.memory e.gives) in
+    let reads = known_as {a = slice_bytes old} {b = slice_bytes new} c.with_streaminfo-frames.ensures.stream (reads_frame _ e.is_sound e.is_complete e.none_is_eof e.eof_is_none e.failure_is_err e.fault_is_sound e.fault_is_complete e.else_io_error e.leaves_rest e.out_of_memory_after_header e.is_read) in
     let m = slice_frame_promises (Some (stream_with c.args.info)) c.args.packet.now (slice_bytes old) (slice_bytes new) remains (slice_never_fails old new) _ reads e.eof_is_none in
     let p = err_from_is_err_and c.from_residual.result c.from_residual.ensures.1 in
     let k = packet_failed (Some (stream_with c.args.info)) c.args.packet.now _ m in
-    rw (p.1, p.2) (record { sound = k.sound; complete = k.complete; refused = k.refused; named = k.named; memory = k.memory })
+    rw (p.1, p.2) (record { is_sound = k.sound; is_complete = k.complete; fault_is_sound = k.refused; fault_is_complete = k.named; out_of_memory_after_header = k.memory })
 
 pub returns-in_default : goal.returns-in_default
 returns-in_default g c =
@@ -24,10 +24,10 @@ returns-in_default g c =
     let old = c.with_streaminfo-frames.result in
     let new = c.read_next_or_eof.new.self in
     let remains = slice_remains old c.new.result c.args.packet c.with_streaminfo-frames.ensures.input c.new.ensures.position c.new.ensures.inner in
-    let reads = known_as {a = slice_bytes old} {b = slice_bytes new} c.with_streaminfo-frames.ensures.stream (reads_frame _ e.sound e.complete e.none_is_eof e.eof_is_none e.no_failure e.fault e.named e.io e.front e.memory e.gives) in
+    let reads = known_as {a = slice_bytes old} {b = slice_bytes new} c.with_streaminfo-frames.ensures.stream (reads_frame _ e.is_sound e.is_complete e.none_is_eof e.eof_is_none e.failure_is_err e.fault_is_sound e.fault_is_complete e.else_io_error e.leaves_rest e.out_of_memory_after_header e.is_read) in
     let m = slice_frame_promises (Some (stream_with c.args.info)) c.args.packet.now (slice_bytes old) (slice_bytes new) remains (slice_never_fails old new) (Ok c.in_ok-block.field-0) reads e.eof_is_none in
     let k = packet_without (Some (stream_with c.args.info)) c.args.packet.now _ (rw c.in_default.is at m) refl in
-    record { sound = k.sound; complete = k.complete; refused = k.refused; named = k.named; memory = k.memory }
+    record { is_sound = k.sound; is_complete = k.complete; fault_is_sound = k.refused; fault_is_complete = k.named; out_of_memory_after_header = k.memory }
 
 pub returns-then-position-slice : goal.returns-then-position-slice
 returns-then-position-slice g c =
@@ -36,10 +36,10 @@ returns-then-position-slice g c =
     let remains = slice_remains old c.new.result c.args.packet c.with_streaminfo-frames.ensures.input c.new.ensures.position c.new.ensures.inner in
     let left = slice_left new c.into_inner-cursor.result _ c.position.result c.into_inner-cursor.ensures c.get_ref-slice.ensures c.position.ensures in
     let e = c.in_ok-block.ensures in
-    let reads = known_as {a = slice_bytes old} {b = slice_bytes new} c.with_streaminfo-frames.ensures.stream (rw c.in-Some.is at (reads_frame _ e.sound e.complete e.none_is_eof e.eof_is_none e.no_failure e.fault e.named e.io e.front e.memory e.gives)) in
+    let reads = known_as {a = slice_bytes old} {b = slice_bytes new} c.with_streaminfo-frames.ensures.stream (rw c.in-Some.is at (reads_frame _ e.is_sound e.is_complete e.none_is_eof e.eof_is_none e.failure_is_err e.fault_is_sound e.fault_is_complete e.else_io_error e.leaves_rest e.out_of_memory_after_header e.is_read)) in
     let m = slice_frame_promises (Some (stream_with c.args.info)) c.args.packet.now (slice_bytes old) (slice_bytes new) remains (slice_never_fails old new) _ reads (rw c.in-Some.is at e.eof_is_none) in
     let k = packet_of_more (Some (stream_with c.args.info)) c.args.packet.now c.in-Some.block _ c.position.result (slice_bytes old) (slice_bytes new) remains left reads m (omega (arith, c.if-position-slice.true)) _ refl in
-    record { sound = k.sound; complete = k.complete; refused = k.refused; named = k.named; memory = k.memory }
+    record { is_sound = k.sound; is_complete = k.complete; fault_is_sound = k.refused; fault_is_complete = k.named; out_of_memory_after_header = k.memory }
 
 pub returns : goal.returns
 returns g c =
@@ -48,7 +48,7 @@ returns g c =
     let remains = slice_remains old c.new.result c.args.packet c.with_streaminfo-frames.ensures.input c.new.ensures.position c.new.ensures.inner in
     let left = slice_left new c.into_inner-cursor.result _ c.position.result c.into_inner-cursor.ensures c.get_ref-slice.ensures c.position.ensures in
     let e = c.in_ok-block.ensures in
-    let reads = known_as {a = slice_bytes old} {b = slice_bytes new} c.with_streaminfo-frames.ensures.stream (rw c.in-Some.is at (reads_frame _ e.sound e.complete e.none_is_eof e.eof_is_none e.no_failure e.fault e.named e.io e.front e.memory e.gives)) in
+    let reads = known_as {a = slice_bytes old} {b = slice_bytes new} c.with_streaminfo-frames.ensures.stream (rw c.in-Some.is at (reads_frame _ e.is_sound e.is_complete e.none_is_eof e.eof_is_none e.failure_is_err e.fault_is_sound e.fault_is_complete e.else_io_error e.leaves_rest e.out_of_memory_after_header e.is_read)) in
     let m = slice_frame_promises (Some (stream_with c.args.info)) c.args.packet.now (slice_bytes old) (slice_bytes new) remains (slice_never_fails old new) _ reads (rw c.in-Some.is at e.eof_is_none) in
     let k = packet_whole (Some (stream_with c.args.info)) c.args.packet.now c.in-Some.block _ c.position.result (slice_bytes old) (slice_bytes new) remains left reads m (omega (arith, c.if-position-slice.false)) in
-    record { sound = k.sound; complete = k.complete; refused = k.refused; named = k.named; memory = k.memory }
+    record { is_sound = k.sound; is_complete = k.complete; fault_is_sound = k.refused; fault_is_complete = k.named; out_of_memory_after_header = k.memory }

@@ -9,13 +9,13 @@ returns-in_err-flac g c =
     let e = c.in_err-flac.ensures in
     let options = c.head_options.result in
     let alone = options_alone options c.head_options.ensures.only c.head_options.ensures.comment in
-    let k = no_tags {A = g.row.A.Denot} g.R.Read.remaining c.args.reader (options_view options) alone c.in_err-flac.field-0.0 e.complete e.fault e.named in
-    rw (p.1, p.2) (record { sound = k.sound; complete = k.complete; fault = k.fault; named = k.named })
+    let k = no_tags {A = g.row.A.Denot} g.R.Read.remaining c.args.reader (options_view options) alone c.in_err-flac.field-0.0 e.is_complete e.fault_is_sound e.fault_is_complete in
+    rw (p.1, p.2) (record { are_sound = k.sound; are_complete = k.complete; fault_is_sound = k.fault; fault_is_complete = k.named })
 
 pub returns : goal.returns
 returns g c =
     let e = c.in_ok-flac.ensures in
     let options = c.head_options.result in
     let alone = options_alone options c.head_options.ensures.only c.head_options.ensures.comment in
-    let k = tags_answered g.R.Read.remaining c.args.reader (options_view options) alone c.in_ok-flac.flac e.sound e.complete e.named c.tag_lines.result c.tag_lines.ensures.lines c.tag_lines.ensures.memory in
-    record { sound = k.sound; complete = k.complete; fault = k.fault; named = k.named }
+    let k = tags_answered g.R.Read.remaining c.args.reader (options_view options) alone c.in_ok-flac.flac e.is_sound e.is_complete e.fault_is_complete c.tag_lines.result c.tag_lines.ensures.lines c.tag_lines.ensures.memory in
+    record { are_sound = k.sound; are_complete = k.complete; fault_is_sound = k.fault; fault_is_complete = k.named }

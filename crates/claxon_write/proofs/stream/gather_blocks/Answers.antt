@@ -13,69 +13,69 @@ pub loop-block-preserved : goal.loop-block-preserved
 loop-block-preserved g c =
     let e = c.read_next_or_eof.ensures in
     let v = c.loop-block.invariant in
-    let reads = reads_with v.stream (c.in-Ok-Some.is ∙ ap (λ (z : Option BlockValue). Ok z) c.in-Ok-Some.field-0-is) (reads_frame _ e.sound e.complete e.none_is_eof e.eof_is_none e.no_failure e.fault e.named e.io e.front e.memory e.gives) in
-    let kept = rw (c.in-Ok-Some.is ∙ ap (λ (z : Option BlockValue). Ok z) c.in-Ok-Some.field-0-is) at e.kept_capacity in
+    let reads = reads_with v.stream (c.in-Ok-Some.is ∙ ap (λ (z : Option BlockValue). Ok z) c.in-Ok-Some.field-0-is) (reads_frame _ e.is_sound e.is_complete e.none_is_eof e.eof_is_none e.failure_is_err e.fault_is_sound e.fault_is_complete e.else_io_error e.leaves_rest e.out_of_memory_after_header e.is_read) in
+    let kept = rw (c.in-Ok-Some.is ∙ ap (λ (z : Option BlockValue). Ok z) c.in-Ok-Some.field-0-is) at e.keeps_capacity in
     record {
-      reference = c.in_ok-put_block.ensures.same_reference ∙ v.reference;
-      unflushed = c.in_ok-put_block.ensures.unflushed ∙ v.unflushed;
+      reference = c.in_ok-put_block.ensures.same_writer ∙ v.reference;
+      unflushed = c.in_ok-put_block.ensures.is_unflushed ∙ v.unflushed;
       stream = e.stream ∙ v.stream;
       loans = reads_loans reads ∙ v.loans;
-      so_far = gathered_as {n = c.loop-block.count + c.len.result} (omega (arith, c.from.ensures, c.in-Some.ensures)) (gathered_more c.in-Ok-Some.block c.len.ensures v.so_far reads c.in_ok-put_block.ensures.ok (rw c.into_buffer-buffer.ensures.capacity kept));
+      so_far = gathered_as {n = c.loop-block.count + c.len.result} (omega (arith, c.from.ensures, c.in-Some.ensures)) (gathered_more c.in-Ok-Some.block c.len.ensures v.so_far reads c.in_ok-put_block.ensures.is_sound (rw c.into_buffer-buffer.ensures.capacity kept));
     }
 
-pub returns-in-Ok-None-clause-ok : goal.returns-in-Ok-None-clause-ok
-returns-in-Ok-None-clause-ok g c =
+pub returns-in-Ok-None-clause-is_sound : goal.returns-in-Ok-None-clause-is_sound
+returns-in-Ok-None-clause-is_sound g c =
     let e = c.read_next_or_eof.ensures in
     let v = c.loop-block.invariant in
-    gathered_end v.so_far (reads_with v.stream (c.in-Ok-None.is ∙ ap (λ (z : Option BlockValue). Ok z) c.in-Ok-None.field-0-is) (reads_frame _ e.sound e.complete e.none_is_eof e.eof_is_none e.no_failure e.fault e.named e.io e.front e.memory e.gives))
+    gathered_end v.so_far (reads_with v.stream (c.in-Ok-None.is ∙ ap (λ (z : Option BlockValue). Ok z) c.in-Ok-None.field-0-is) (reads_frame _ e.is_sound e.is_complete e.none_is_eof e.eof_is_none e.failure_is_err e.fault_is_sound e.fault_is_complete e.else_io_error e.leaves_rest e.out_of_memory_after_header e.is_read))
 
-pub returns-in-Err-clause-ok : goal.returns-in-Err-clause-ok
-returns-in-Err-clause-ok g c =
+pub returns-in-Err-clause-is_sound : goal.returns-in-Err-clause-is_sound
+returns-in-Err-clause-is_sound g c =
     let e = c.read_next_or_eof.ensures in
     let v = c.loop-block.invariant in
-    let k = gathered_fault v.so_far (reads_with v.stream c.in-Err.is (reads_frame _ e.sound e.complete e.none_is_eof e.eof_is_none e.no_failure e.fault e.named e.io e.front e.memory e.gives)) in
+    let k = gathered_fault v.so_far (reads_with v.stream c.in-Err.is (reads_frame _ e.is_sound e.is_complete e.none_is_eof e.eof_is_none e.failure_is_err e.fault_is_sound e.fault_is_complete e.else_io_error e.leaves_rest e.out_of_memory_after_header e.is_read)) in
     search rules
 
-pub returns-in-Err-clause-memory : goal.returns-in-Err-clause-memory
-returns-in-Err-clause-memory g c =
+pub returns-in-Err-clause-out_of_memory_for_larger_block : goal.returns-in-Err-clause-out_of_memory_for_larger_block
+returns-in-Err-clause-out_of_memory_for_larger_block g c =
     let v = c.loop-block.invariant in
-    λ out. gathered_memory v.stream c.read_next_or_eof.ensures.memory c.in-Err.is v.so_far out
+    λ out. gathered_memory v.stream c.read_next_or_eof.ensures.out_of_memory_after_header c.in-Err.is v.so_far out
 
-pub returns-in-Err-clause-err : goal.returns-in-Err-clause-err
-returns-in-Err-clause-err g c = search rules
+pub returns-in-Err-clause-fault_is_sound : goal.returns-in-Err-clause-fault_is_sound
+returns-in-Err-clause-fault_is_sound g c = search rules
 
-pub returns-in_default-clause-ok : goal.returns-in_default-clause-ok
-returns-in_default-clause-ok g c =
+pub returns-in_default-clause-is_sound : goal.returns-in_default-clause-is_sound
+returns-in_default-clause-is_sound g c =
     let e = c.read_next_or_eof.ensures in
     let v = c.loop-block.invariant in
-    let reads = reads_with v.stream (c.in-Ok-Some.is ∙ ap (λ (z : Option BlockValue). Ok z) c.in-Ok-Some.field-0-is) (reads_frame _ e.sound e.complete e.none_is_eof e.eof_is_none e.no_failure e.fault e.named e.io e.front e.memory e.gives) in
+    let reads = reads_with v.stream (c.in-Ok-Some.is ∙ ap (λ (z : Option BlockValue). Ok z) c.in-Ok-Some.field-0-is) (reads_frame _ e.is_sound e.is_complete e.none_is_eof e.eof_is_none e.failure_is_err e.fault_is_sound e.fault_is_complete e.else_io_error e.leaves_rest e.out_of_memory_after_header e.is_read) in
     let many : 2 ^ 64 ≤ c.loop-block.count + c.len.result = omega (arith, c.from.ensures, c.in_default.ensures) in
     gathered_limit c.in-Ok-Some.block refl c.len.ensures many v.so_far reads
 
-pub returns-in_err-put_block-clause-err : goal.returns-in_err-put_block-clause-err
-returns-in_err-put_block-clause-err g c =
+pub returns-in_err-put_block-clause-fault_is_sound : goal.returns-in_err-put_block-clause-fault_is_sound
+returns-in_err-put_block-clause-fault_is_sound g c =
     let e = c.read_next_or_eof.ensures in
     let v = c.loop-block.invariant in
-    let reads = reads_with v.stream (c.in-Ok-Some.is ∙ ap (λ (z : Option BlockValue). Ok z) c.in-Ok-Some.field-0-is) (reads_frame _ e.sound e.complete e.none_is_eof e.eof_is_none e.no_failure e.fault e.named e.io e.front e.memory e.gives) in
+    let reads = reads_with v.stream (c.in-Ok-Some.is ∙ ap (λ (z : Option BlockValue). Ok z) c.in-Ok-Some.field-0-is) (reads_frame _ e.is_sound e.is_complete e.none_is_eof e.eof_is_none e.failure_is_err e.fault_is_sound e.fault_is_complete e.else_io_error e.leaves_rest e.out_of_memory_after_header e.is_read) in
     let p = err_from_is_err_and c.from_residual.result c.from_residual.ensures.1 in
-    rw (p.1, p.2) (gathered_fails c.in-Ok-Some.block v.so_far reads c.in_err-put_block.ensures.err (c.in_err-put_block.ensures.unflushed ∙ v.unflushed))
+    rw (p.1, p.2) (gathered_fails c.in-Ok-Some.block v.so_far reads c.in_err-put_block.ensures.fault_is_sound (c.in_err-put_block.ensures.is_unflushed ∙ v.unflushed))
 
 pub returns-in-Ok-None-clause-loans : goal.returns-in-Ok-None-clause-loans
 returns-in-Ok-None-clause-loans g c =
     let e = c.read_next_or_eof.ensures in
-    reads_loans (reads_frame _ e.sound e.complete e.none_is_eof e.eof_is_none e.no_failure e.fault e.named e.io e.front e.memory e.gives) ∙ c.loop-block.invariant.loans
+    reads_loans (reads_frame _ e.is_sound e.is_complete e.none_is_eof e.eof_is_none e.failure_is_err e.fault_is_sound e.fault_is_complete e.else_io_error e.leaves_rest e.out_of_memory_after_header e.is_read) ∙ c.loop-block.invariant.loans
 
 pub returns-in-Err-clause-loans : goal.returns-in-Err-clause-loans
 returns-in-Err-clause-loans g c =
     let e = c.read_next_or_eof.ensures in
-    reads_loans (reads_frame _ e.sound e.complete e.none_is_eof e.eof_is_none e.no_failure e.fault e.named e.io e.front e.memory e.gives) ∙ c.loop-block.invariant.loans
+    reads_loans (reads_frame _ e.is_sound e.is_complete e.none_is_eof e.eof_is_none e.failure_is_err e.fault_is_sound e.fault_is_complete e.else_io_error e.leaves_rest e.out_of_memory_after_header e.is_read) ∙ c.loop-block.invariant.loans
 
 pub returns-in_default-clause-loans : goal.returns-in_default-clause-loans
 returns-in_default-clause-loans g c =
     let e = c.read_next_or_eof.ensures in
-    reads_loans (reads_frame _ e.sound e.complete e.none_is_eof e.eof_is_none e.no_failure e.fault e.named e.io e.front e.memory e.gives) ∙ c.loop-block.invariant.loans
+    reads_loans (reads_frame _ e.is_sound e.is_complete e.none_is_eof e.eof_is_none e.failure_is_err e.fault_is_sound e.fault_is_complete e.else_io_error e.leaves_rest e.out_of_memory_after_header e.is_read) ∙ c.loop-block.invariant.loans
 
 pub returns-in_err-put_block-clause-loans : goal.returns-in_err-put_block-clause-loans
 returns-in_err-put_block-clause-loans g c =
     let e = c.read_next_or_eof.ensures in
-    reads_loans (reads_frame _ e.sound e.complete e.none_is_eof e.eof_is_none e.no_failure e.fault e.named e.io e.front e.memory e.gives) ∙ c.loop-block.invariant.loans
+    reads_loans (reads_frame _ e.is_sound e.is_complete e.none_is_eof e.eof_is_none e.failure_is_err e.fault_is_sound e.fault_is_complete e.else_io_error e.leaves_rest e.out_of_memory_after_header e.is_read) ∙ c.loop-block.invariant.loans

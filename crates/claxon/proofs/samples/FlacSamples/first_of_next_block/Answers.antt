@@ -9,8 +9,8 @@ use Rattle.claxon.proofs.samples.FlacSamples.first_of_next_block.Goals as goal
 pub returns-then-more-clause-step : goal.returns-then-more-clause-step
 returns-then-more-clause-step g c =
     let mid = c.read_block.new.self in
-    let read = rw c.if-more.true at c.in-Ok.ensures.reads in
-    let capacity = rw c.if-more.true at c.in-Ok.ensures.capacity in
+    let read = rw c.if-more.true at c.in-Ok.ensures.is_read in
+    let capacity = rw c.if-more.true at c.in-Ok.ensures.keeps_capacity in
     let same = to_z-of_z w32 c.give.result (record { sfits = c.give.type_inv }) in
     rw same (record {
       found = Ok (Some mid.block);
@@ -28,12 +28,12 @@ pub returns-else-more-clause-step : goal.returns-else-more-clause-step
 returns-else-more-clause-step g c =
     record {
       found = Ok None;
-      reads = rw c.if-more.false at c.in-Ok.ensures.reads;
+      reads = rw c.if-more.false at c.in-Ok.ensures.is_read;
       answer = (refl, c.in-Ok.ensures.none_left c.if-more.false, search rules);
       memory = λ out_of_memory. absurd cc;
       enough = λ out_of_memory. absurd cc;
-      capacity = rw c.if-more.false at c.in-Ok.ensures.capacity;
+      capacity = rw c.if-more.false at c.in-Ok.ensures.keeps_capacity;
     }
 
 pub returns-in-Err-clause-step : goal.returns-in-Err-clause-step
-returns-in-Err-clause-step g c = record { found = Err c.in-Err.error; reads = c.in-Err.ensures.reads; answer = (refl, refl); memory = c.in-Err.ensures.memory; enough = c.in-Err.ensures.enough; capacity = tt }
+returns-in-Err-clause-step g c = record { found = Err c.in-Err.error; reads = c.in-Err.ensures.is_read; answer = (refl, refl); memory = c.in-Err.ensures.out_of_memory_for_larger_block; enough = c.in-Err.ensures.max_capacity_is_enough; capacity = tt }

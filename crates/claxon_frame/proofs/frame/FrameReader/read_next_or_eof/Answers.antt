@@ -1,71 +1,32 @@
-use Rattle.std.proofs.Common.{[]}
+use Rattle.std.proofs.Common.{[], refl}
 use Rattle.claxon_format.proofs.FormatLaws.{frames_lossless, frames_unambiguous, plans_written}
 use Rattle.claxon_frame.specs.FrameReader.{block_view, frame_stream}
-use Rattle.claxon_frame.proofs.FrameSteps.{stream_is_width}
+use Rattle.claxon_frame.proofs.FrameSteps.{stream_is_bit_depth}
 use Rattle.claxon_frame.proofs.FramePromises.{frame_promises, frame_eof_is_none, memory_is, when_out_of_memory}
 use Rattle.claxon_frame.proofs.frame.FrameReader.read_next_or_eof.Goals as goal
 
-pub returns-clause-sound : goal.returns-clause-sound
-returns-clause-sound g c =
-    let e = (frame_promises block_view _ (stream_is_width c.args.self.now.stream) c.read_next_or_eof_exact.result _ _ c.read_next_or_eof_exact.ensures.gives).sound in
-    search depth 1
-
-pub returns-clause-complete : goal.returns-clause-complete
-returns-clause-complete g c =
-    let e = (frame_promises block_view _ (stream_is_width c.args.self.now.stream) c.read_next_or_eof_exact.result _ _ c.read_next_or_eof_exact.ensures.gives).complete in
-    search depth 1
-
-pub returns-clause-unambiguous : goal.returns-clause-unambiguous
-returns-clause-unambiguous g c = frames_unambiguous _ (stream_is_width c.args.self.now.stream)
-
-pub returns-clause-lossless : goal.returns-clause-lossless
-returns-clause-lossless g c f header plans channels fits suits =
-    (frames_lossless (frame_stream c.args.self.now) f header plans channels [] (stream_is_width c.args.self.now.stream) fits suits).0
-
-pub returns-clause-bytes_exist : goal.returns-clause-bytes_exist
-returns-clause-bytes_exist g c f header plans channels fits suits =
-    plans_written (frame_stream c.args.self.now) f header plans channels (stream_is_width c.args.self.now.stream) fits suits
-
-pub returns-clause-none_is_eof : goal.returns-clause-none_is_eof
-returns-clause-none_is_eof g c =
-    let e = (frame_promises block_view _ (stream_is_width c.args.self.now.stream) c.read_next_or_eof_exact.result _ _ c.read_next_or_eof_exact.ensures.gives).none_is_eof in
-    search depth 1
-
-pub returns-clause-eof_is_none : goal.returns-clause-eof_is_none
-returns-clause-eof_is_none g c = frame_eof_is_none block_view _ (stream_is_width c.args.self.now.stream) c.read_next_or_eof_exact.result _ _ c.read_next_or_eof_exact.ensures.gives _ c.read_next_or_eof_exact.ensures.buffer_too_small
-
-pub returns-clause-no_failure : goal.returns-clause-no_failure
-returns-clause-no_failure g c =
-    let e = (frame_promises block_view _ (stream_is_width c.args.self.now.stream) c.read_next_or_eof_exact.result _ _ c.read_next_or_eof_exact.ensures.gives).no_failure in
-    search depth 1
-
-pub returns-clause-fault : goal.returns-clause-fault
-returns-clause-fault g c =
-    let e = (frame_promises block_view _ (stream_is_width c.args.self.now.stream) c.read_next_or_eof_exact.result _ _ c.read_next_or_eof_exact.ensures.gives).fault in
-    search depth 1
-
-pub returns-clause-named : goal.returns-clause-named
-returns-clause-named g c = (frame_promises block_view _ (stream_is_width c.args.self.now.stream) c.read_next_or_eof_exact.result _ _ c.read_next_or_eof_exact.ensures.gives).named
-
-pub returns-clause-io : goal.returns-clause-io
-returns-clause-io g c =
-    let e = (frame_promises block_view _ (stream_is_width c.args.self.now.stream) c.read_next_or_eof_exact.result _ _ c.read_next_or_eof_exact.ensures.gives).io in
-    search depth 1
-
-pub returns-clause-front : goal.returns-clause-front
-returns-clause-front g c =
-    let e = (frame_promises block_view _ (stream_is_width c.args.self.now.stream) c.read_next_or_eof_exact.result _ _ c.read_next_or_eof_exact.ensures.gives).front in
-    search depth 1
-
-pub returns-clause-memory : goal.returns-clause-memory
-returns-clause-memory g c =
-    let e = memory_is _ _ c.read_next_or_eof_exact.result _ _ c.read_next_or_eof_exact.ensures.buffer_too_small in
-    search depth 1
-
-pub returns-clause-max_capacity : goal.returns-clause-max_capacity
-returns-clause-max_capacity g c =
-    let e = when_out_of_memory c.read_next_or_eof_exact.result c.read_next_or_eof_exact.ensures.max_capacity in
-    search depth 1
-
-pub returns-clause-gives : goal.returns-clause-gives
-returns-clause-gives g c = c.read_next_or_eof_exact.ensures.gives
+pub returns : goal.returns
+returns g c =
+    let exact = c.read_next_or_eof_exact in
+    let is_bit_depth = stream_is_bit_depth c.args.self.now.stream in
+    let p = frame_promises block_view _ is_bit_depth exact.result _ _ exact.ensures.gives in
+    record {
+      is_sound = p.is_sound;
+      is_complete = p.is_complete;
+      none_is_eof = p.none_is_eof;
+      eof_is_none = frame_eof_is_none block_view _ is_bit_depth exact.result _ _ exact.ensures.gives _ exact.ensures.buffer_too_small;
+      failure_is_err = p.failure_is_err;
+      fault_is_sound = p.fault_is_sound;
+      fault_is_complete = p.fault_is_complete;
+      else_io_error = p.else_io_error;
+      leaves_rest = p.leaves_rest;
+      is_unambiguous = frames_unambiguous _ is_bit_depth;
+      plans_write_frames = λ f header plans channels fits suits. (frames_lossless (frame_stream c.args.self.now) f header plans channels [] is_bit_depth fits suits).0;
+      plans_have_bytes = λ f header plans channels fits suits. plans_written (frame_stream c.args.self.now) f header plans channels is_bit_depth fits suits;
+      out_of_memory_after_header = memory_is _ _ exact.result _ _ exact.ensures.buffer_too_small;
+      max_capacity_is_enough = when_out_of_memory exact.result exact.ensures.max_capacity;
+      keeps_capacity = exact.ensures.keeps_capacity;
+      stream = refl;
+      has_samples = exact.ensures.has_samples;
+      is_read = exact.ensures.gives;
+    }

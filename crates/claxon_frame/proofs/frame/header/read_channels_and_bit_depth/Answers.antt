@@ -26,13 +26,13 @@ checked_codes c {a = a} h = then_consumes _ (consumes_none a _ refl) h
 
 pub returns-in_err-codes-clause-gives : goal.returns-in_err-codes-clause-gives
 unfolding channels_at
-returns-in_err-codes-clause-gives g c = exit_big g.R.ReadBytes.source _ _ _ _ _ c.from_residual.ensures.1 c.in_err-codes.ensures.err
+returns-in_err-codes-clause-gives g c = exit_big g.R.ReadBytes.source _ _ _ _ _ c.from_residual.ensures.1 c.in_err-codes.ensures.failure_or_eof
 
 pub returns-in_default-2-clause-gives : goal.returns-in_default-2-clause-gives
 unfolding fault_text
 returns-in_default-2-clause-gives g c =
     let reserved : ltb 10 (c.in_ok-codes.codes / 16) ≡ true = lt-ltb _ _ (omega arith) in
-    stops_fault ChannelsReserved refl refl (refl, refl) (consumes_map _ (checked_codes c.in_ok-codes.codes (consumes_byte g.R.ReadBytes.source c.in_ok-codes.codes (search rules) c.in_ok-codes.ensures.ok)) (λ p. rw (p, reserved) refl))
+    stops_fault ChannelsReserved refl refl (refl, refl) (consumes_map _ (checked_codes c.in_ok-codes.codes (consumes_byte g.R.ReadBytes.source c.in_ok-codes.codes (search rules) c.in_ok-codes.ensures.is_sound)) (λ p. rw (p, reserved) refl))
 
 -- the bit depth code follows the channel code
 bit_depth_next : (c code : ℕ) {a b : State ℕ} → code ≡ c / 2 % 8 → ltb 10 (c / 16) ≡ false → Consumes a b (λ s m. big_at 1 s ≡ Done c m)
@@ -43,8 +43,8 @@ bit_depth_next c code {b = b} low not_reserved h = consumes_map _ (checked_codes
     split true = refl
     split false = refl
 
-pub returns-in_err-bits_per_sample-clause-gives : goal.returns-in_err-bits_per_sample-clause-gives
-returns-in_err-bits_per_sample-clause-gives g c =
+pub returns-in_err-bit_depth-clause-gives : goal.returns-in_err-bit_depth-clause-gives
+returns-in_err-bit_depth-clause-gives g c =
     let not_reserved : ltb 10 (c.in_ok-codes.codes / 16) ≡ false = elim c.if-n-lt8.branch [
       | then-n-lt8 w ↦ le-ltb _ _ (omega arith)
       | else-n-lt8+in-8 w ↦ le-ltb _ _ (omega arith)
@@ -52,8 +52,8 @@ returns-in_err-bits_per_sample-clause-gives g c =
       | else-n-lt8+in-10 w ↦ le-ltb _ _ (omega arith)
     ] in
     let low : bit_and (c.in_ok-codes.codes / 2) 7 ≡ c.in_ok-codes.codes / 2 % 8 = and_mask (c.in_ok-codes.codes / 2) 3 in
-    exit _ (err_from_is_err_and c.from_residual-in_err-bits_per_sample.result c.from_residual-in_err-bits_per_sample.ensures.1)
-    (then_stops _ (bit_depth_next c.in_ok-codes.codes _ low not_reserved (consumes_byte g.R.ReadBytes.source c.in_ok-codes.codes (search rules) c.in_ok-codes.ensures.ok)) (c.in_err-bits_per_sample.ensures.gives _))
+    exit _ (err_from_is_err_and c.from_residual-in_err-bit_depth.result c.from_residual-in_err-bit_depth.ensures.1)
+    (then_stops _ (bit_depth_next c.in_ok-codes.codes _ low not_reserved (consumes_byte g.R.ReadBytes.source c.in_ok-codes.codes (search rules) c.in_ok-codes.ensures.is_sound)) (c.in_err-bit_depth.ensures.gives _))
 
 pub returns-then-codes-eq1-clause-gives : goal.returns-then-codes-eq1-clause-gives
 unfolding fault_text
@@ -66,7 +66,7 @@ returns-then-codes-eq1-clause-gives g c =
     ] in
     let low : bit_and (c.in_ok-codes.codes / 2) 7 ≡ c.in_ok-codes.codes / 2 % 8 = and_mask (c.in_ok-codes.codes / 2) 3 in
     let odd : c.in_ok-codes.codes % 2 ≡ 1 = sym (and_mask c.in_ok-codes.codes 1) ∙ c.if-codes-eq1.true in
-    stops_fault SecondReservedBit refl refl (refl, refl) (consumes_map _ (then_consumes _ (bit_depth_next c.in_ok-codes.codes _ low not_reserved (consumes_byte g.R.ReadBytes.source c.in_ok-codes.codes (search rules) c.in_ok-codes.ensures.ok)) (c.in_ok-bits_per_sample.ensures.gives _)) (λ p. rw (p, odd) refl))
+    stops_fault SecondReservedBit refl refl (refl, refl) (consumes_map _ (then_consumes _ (bit_depth_next c.in_ok-codes.codes _ low not_reserved (consumes_byte g.R.ReadBytes.source c.in_ok-codes.codes (search rules) c.in_ok-codes.ensures.is_sound)) (c.in_ok-bit_depth.ensures.gives _)) (λ p. rw (p, odd) refl))
 
 pub returns-clause-gives : goal.returns-clause-gives
 returns-clause-gives g c =
@@ -78,4 +78,4 @@ returns-clause-gives g c =
     ] in
     let low : bit_and (c.in_ok-codes.codes / 2) 7 ≡ c.in_ok-codes.codes / 2 % 8 = and_mask (c.in_ok-codes.codes / 2) 3 in
     let even : eqb (c.in_ok-codes.codes % 2) 1 ≡ false = (let k : bit_and c.in_ok-codes.codes 1 ≡ c.in_ok-codes.codes % 2 = and_mask c.in_ok-codes.codes 1 in grind (arith, nat_tests)) in
-    consumes_map _ (then_consumes _ (bit_depth_next c.in_ok-codes.codes _ low channels.0 (consumes_byte g.R.ReadBytes.source c.in_ok-codes.codes (search rules) c.in_ok-codes.ensures.ok)) (c.in_ok-bits_per_sample.ensures.gives _)) (λ p. rw (p, even, channels.1) refl)
+    consumes_map _ (then_consumes _ (bit_depth_next c.in_ok-codes.codes _ low channels.0 (consumes_byte g.R.ReadBytes.source c.in_ok-codes.codes (search rules) c.in_ok-codes.ensures.is_sound)) (c.in_ok-bit_depth.ensures.gives _)) (λ p. rw (p, even, channels.1) refl)

@@ -1,12 +1,12 @@
 use Rattle.std.proofs.Common.{◌≡◌, ℕ, ◌+◌, ◌-◌, ◌<◌, ◌≤◌, Bool, true, false, not, ◌&&◌, List, Option, None, Some, ltb, refl, arith}
 use Rattle.std.proofs.lemmas.Bool.{le-ltb, lt-ltb}
-use Rattle.claxon_format.specs.Frame.{StreamFormat, known_width}
+use Rattle.claxon_format.specs.Frame.{StreamFormat, known_bit_depth}
 use Rattle.claxon_format.specs.Header.{Fields}
 use Rattle.claxon_format.specs.read.Reading.{Done}
 use Rattle.claxon_input.proofs.ConsecutiveCalls.{consumes_none}
 use Rattle.claxon_frame.specs.FrameHeader.{HasBitDepthCode, max_bit_depth, bit_depth_code}
 use Rattle.claxon_frame.specs.FrameStart.{fields_view, stream_format_view}
-use Rattle.claxon_format.specs.read.Header.{width_at}
+use Rattle.claxon_format.specs.read.Header.{bit_depth_at}
 use Rattle.claxon_frame.specs.declared.frame.header.parts.ChannelAssignment.{ChannelAssignment}
 use Rattle.claxon_frame.specs.declared.frame.header.parts.ChannelAssignment.TheVariants.{Independent, LeftSideStereo, RightSideStereo, MidSideStereo}
 use Rattle.claxon_frame.specs.declared.frame.header.parts.HeaderFields.{HeaderFields}
@@ -19,10 +19,10 @@ and_false true = refl
 and_false false = refl
 
 -- the bit depth that the header gives
-named_read : (stream : Option StreamFormat) (f : Fields) (bits : ℕ) (s : List ℕ) → f.bit_depth_code ≡ bit_depth_code (Some bits) → HasBitDepthCode bits → width_at (known_width stream) f s ≡ Done bits s
-unfolding width_at
+named_read : (stream : Option StreamFormat) (f : Fields) (bits : ℕ) (s : List ℕ) → f.bit_depth_code ≡ bit_depth_code (Some bits) → HasBitDepthCode bits → bit_depth_at (known_bit_depth stream) f s ≡ Done bits s
+unfolding bit_depth_at
 named_read stream f bits s e h =
-    let n = code_names (known_width stream) bits h in
+    let n = code_names (known_bit_depth stream) bits h in
     let few = n.few in
     let k : ltb 32 (bits + 1) ≡ false = le-ltb _ _ (omega arith) in
     rw (e, n.value, k, and_false (not (ltb f.channels 8))) refl
@@ -43,12 +43,12 @@ returns-in-Some-clause-gives c here =
     consumes_none here _ (named_read (stream_format_view c.args.stream) (fields_view c.args.fields.now) c.in-Some.bits here.remaining (rw c.in-Some.is refl) (c.args.fields.now.has_code c.in-Some.bits c.in-Some.is))
 
 -- the bit depth of the stream, if there is no side channel
-stream_read : (width : ℕ) (f : Fields) (s : List ℕ) → f.bit_depth_code ≡ 0 → f.channels < 8 → width_at (Some width) f s ≡ Done width s
-unfolding width_at
-stream_read width f s e lt = let k : ltb f.channels 8 ≡ true = lt-ltb _ _ lt in rw (e, k) refl
+stream_read : (bit_depth : ℕ) (f : Fields) (s : List ℕ) → f.bit_depth_code ≡ 0 → f.channels < 8 → bit_depth_at (Some bit_depth) f s ≡ Done bit_depth s
+unfolding bit_depth_at
+stream_read bit_depth f s e lt = let k : ltb f.channels 8 ≡ true = lt-ltb _ _ lt in rw (e, k) refl
 
-independent_read : (stream : Option KnownStreamFormat) (fields : HeaderFields) (format : KnownStreamFormat) (n : ℕ) (s : List ℕ) → stream ≡ Some format → fields.bits_per_sample ≡ None → fields.channel_assignment ≡ Independent n → n ≤ 8
-    → width_at (known_width (stream_format_view stream)) (fields_view fields) s ≡ Done format.bits_per_sample s
+independent_read : (stream : Option KnownStreamFormat) (fields : HeaderFields) (format : KnownStreamFormat) (n : ℕ) (s : List ℕ) → stream ≡ Some format → fields.bit_depth ≡ None → fields.channel_assignment ≡ Independent n → n ≤ 8
+    → bit_depth_at (known_bit_depth (stream_format_view stream)) (fields_view fields) s ≡ Done format.bit_depth s
 independent_read stream fields format n s e w a few =
     let low : n - 1 < 8 = omega arith in
     rw e (stream_read _ (fields_view fields) s (rw w refl) (rw a low))

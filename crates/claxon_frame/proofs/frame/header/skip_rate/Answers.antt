@@ -17,6 +17,6 @@ unfolding rate_at
 returns g c =
     elim c.match-rate.branch [
       | in-Known w ↦ rw w.input-is (consumes_none _ _ (rw w.in-Known.is (no_rate _)))
-      | in-Read8+in_ok-read_u8-in-Read8 w ↦ rw w.input-is (consumes_map _ (consumes_byte g.R.ReadBytes.source w.in_ok-read_u8-in-Read8.field-0 (search rules) w.in_ok-read_u8-in-Read8.ensures.ok) (λ p. rw (w.in-Read8.is, p) refl))
-      | in-Read16+in_ok-read_be_u16-in-Read16 w ↦ rw w.input-is (consumes_map _ (consumes_big g.R.ReadBytes.source 2 w.in_ok-read_be_u16-in-Read16.field-0 (search rules) w.in_ok-read_be_u16-in-Read16.ensures.ok) (λ p. rw (w.in-Read16.is, p) refl))
+      | in-Read8+in_ok-read_u8-in-Read8 w ↦ rw w.input-is (consumes_map _ (consumes_byte g.R.ReadBytes.source w.in_ok-read_u8-in-Read8.field-0 (search rules) w.in_ok-read_u8-in-Read8.ensures.is_sound) (λ p. rw (w.in-Read8.is, p) refl))
+      | in-Read16+in_ok-read_be_u16-in-Read16 w ↦ rw w.input-is (consumes_map _ (consumes_big g.R.ReadBytes.source 2 w.in_ok-read_be_u16-in-Read16.field-0 (search rules) w.in_ok-read_be_u16-in-Read16.ensures.is_sound) (λ p. rw (w.in-Read16.is, p) refl))
     ]

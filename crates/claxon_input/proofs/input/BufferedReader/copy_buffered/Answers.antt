@@ -3,8 +3,8 @@ use Rattle.std.proofs.lemmas.Grind.{common_steps}
 use Rattle.claxon_input.proofs.BufferedBytes.{advances, copied, length-part}
 use Rattle.claxon_input.proofs.input.BufferedReader.copy_buffered.Goals as goal
 
-pub returns-clause-bytes : goal.returns-clause-bytes
-returns-clause-bytes g c =
+pub returns-clause-buffer_takes : goal.returns-clause-buffer_takes
+returns-clause-buffer_takes g c =
     let e : c.args.self.now.pos + c.min-count.result - c.args.self.now.pos ≡ c.min-count.result = omega arith in
     let part : c.copy_from_slice.new.self ≡ take c.min-count.result (drop c.args.self.now.pos c.args.self.now.buf.items) = cc in
     record {

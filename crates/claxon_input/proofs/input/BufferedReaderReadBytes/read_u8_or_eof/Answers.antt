@@ -1,5 +1,5 @@
 use Rattle.std.proofs.Common.{rules}
 use Rattle.claxon_input.proofs.input.BufferedReaderReadBytes.read_u8_or_eof.Goals as goal
 
-pub returns-clause-ok : goal.returns-clause-ok
-returns-clause-ok g c = search rules
+pub returns-clause-eof_is_sound : goal.returns-clause-eof_is_sound
+returns-clause-eof_is_sound g c = search rules

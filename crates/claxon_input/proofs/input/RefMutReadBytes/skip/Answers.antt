@@ -1,5 +1,5 @@
 use Rattle.std.proofs.Common.{rules}
 use Rattle.claxon_input.proofs.input.RefMutReadBytes.skip.Goals as goal
 
-pub returns-clause-ok : goal.returns-clause-ok
-returns-clause-ok g c = search rules
+pub returns-clause-are_skipped : goal.returns-clause-are_skipped
+returns-clause-are_skipped g c = search rules

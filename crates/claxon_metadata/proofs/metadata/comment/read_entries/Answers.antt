@@ -13,13 +13,13 @@ use Rattle.claxon_metadata.proofs.metadata.comment.read_entries.Goals.{in-Some+i
 pub returns-in_err-entry_length-clause-gives : goal.returns-in_err-entry_length-clause-gives
 unfolding entry_length_at fault_text
 returns-in_err-entry_length-clause-gives g c =
-    exit_no_memory _ (err_from_is_err_and c.from_residual.result c.from_residual.ensures.1) (length_err (omega arith) (omega arith) c.loop-missing.invariant.read) (c.in_err-entry_length.ensures.gives EntryLong (refl, refl) refl)
+    exit_no_memory _ (err_from_is_err_and c.from_residual.result c.from_residual.ensures.1) (length_err (omega arith) (omega arith) c.loop-missing.invariant.read) (c.in_err-entry_length.ensures.is_read EntryLong (refl, refl) refl)
 
 pub returns-in_err-entry-clause-gives : goal.returns-in_err-entry-clause-gives
 unfolding entry_length_at fault_text
 returns-in_err-entry-clause-gives g c =
     exit_with_memory _ (entry_or_empty_view {A = g.row.A.Denot}) _ (err_from_is_err_and c.from_residual-in_err-entry.result c.from_residual-in_err-entry.ensures.1)
-    (entry_err (omega arith) (omega arith) c.loop-missing.invariant.read (c.in_ok-entry_length.ensures.gives EntryLong (refl, refl) refl)) c.in_err-entry.ensures.gives
+    (entry_err (omega arith) (omega arith) c.loop-missing.invariant.read (c.in_ok-entry_length.ensures.is_read EntryLong (refl, refl) refl)) c.in_err-entry.ensures.gives
 
 pub loop-missing-preserved : goal.loop-missing-preserved
 unfolding entry_length_at fault_text
@@ -31,15 +31,15 @@ loop-missing-preserved g c =
           (let e : c.match-branch-3.comments.items ≡ c.loop-missing.comments.items ++ w.in-Some.entry ∷ [] = ap (λ (v : Vec (String g.row.A.Denot × ℕ) g.row.A.Denot). v.items) w.comments-is ∙ w.in_ok-push.ensures.items in
           record {
             separators = separators_push here all w.in-Some.entry e c.loop-missing.invariant.separators (rw w.in-Some.is at c.in_ok-entry.ensures.place);
-            within = omega (arith, c.loop-missing.invariant.within, c.in_ok-entry_length.ensures.most, c.in_ok-entry_length.ensures.within, c.in_ok-entry.ensures.within);
-            read = entries_next (omega arith) (omega arith) (entries_view_more here all w.in-Some.entry c.in_ok-entry.field-0 w.in-Some.is e) c.loop-missing.invariant.read (c.in_ok-entry_length.ensures.gives EntryLong (refl, refl) refl) c.in_ok-entry.ensures.gives;
+            within = omega (arith, c.loop-missing.invariant.within, c.in_ok-entry_length.ensures.most, c.in_ok-entry_length.ensures.at_most_is_consumed, c.in_ok-entry.ensures.at_most_is_consumed);
+            read = entries_next (omega arith) (omega arith) (entries_view_more here all w.in-Some.entry c.in_ok-entry.field-0 w.in-Some.is e) c.loop-missing.invariant.read (c.in_ok-entry_length.ensures.is_read EntryLong (refl, refl) refl) c.in_ok-entry.ensures.gives;
           })
       | in_default w ↦
           (let e : c.match-branch-3.comments.items ≡ c.loop-missing.comments.items = ap (λ (v : Vec (String g.row.A.Denot × ℕ) g.row.A.Denot). v.items) w.comments-is in
           record {
             separators = rw w.comments-is c.loop-missing.invariant.separators;
-            within = omega (arith, c.loop-missing.invariant.within, c.in_ok-entry_length.ensures.most, c.in_ok-entry_length.ensures.within, c.in_ok-entry.ensures.within);
-            read = entries_next (omega arith) (omega arith) (entries_view_same here all c.in_ok-entry.field-0 w.in_default.is e) c.loop-missing.invariant.read (c.in_ok-entry_length.ensures.gives EntryLong (refl, refl) refl) c.in_ok-entry.ensures.gives;
+            within = omega (arith, c.loop-missing.invariant.within, c.in_ok-entry_length.ensures.most, c.in_ok-entry_length.ensures.at_most_is_consumed, c.in_ok-entry.ensures.at_most_is_consumed);
+            read = entries_next (omega arith) (omega arith) (entries_view_same here all c.in_ok-entry.field-0 w.in_default.is e) c.loop-missing.invariant.read (c.in_ok-entry_length.ensures.is_read EntryLong (refl, refl) refl) c.in_ok-entry.ensures.gives;
           })
     ]
 
@@ -59,5 +59,5 @@ pub returns-in_err-push-clause-gives : goal.returns-in_err-push-clause-gives
 unfolding entry_length_at fault_text
 returns-in_err-push-clause-gives g c =
     let p = err_from_is_err_and c.from_residual-in_err-push.result c.from_residual-in_err-push.ensures.1 in
-    let read = consumes_then (λ s m. Unit {0}) (c.in_ok-entry_length.ensures.gives EntryLong (refl, refl) refl) c.in_ok-entry.ensures.gives (λ x y. tt) in
+    let read = consumes_then (λ s m. Unit {0}) (c.in_ok-entry_length.ensures.is_read EntryLong (refl, refl) refl) c.in_ok-entry.ensures.gives (λ x y. tt) in
     rw (p.1, p.2) (record { consumed = consumes_then (λ s m. Unit {0}) c.loop-missing.invariant.read.so_far read (λ x y. tt) })

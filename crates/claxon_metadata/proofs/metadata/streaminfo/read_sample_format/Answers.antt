@@ -8,5 +8,5 @@ use Rattle.claxon_metadata.proofs.metadata.streaminfo.read_sample_format.Goals a
 pub returns-clause-gives : goal.returns-clause-gives
 unfolding format_at
 returns-clause-gives g c =
-    consumes_then _ (consumes_big g.R.ReadBytes.source 4 c.in_ok-high.high (search rules) c.in_ok-high.ensures.ok) (consumes_big g.R.ReadBytes.source 4 c.in_ok-low.low (search rules) c.in_ok-low.ensures.ok)
+    consumes_then _ (consumes_big g.R.ReadBytes.source 4 c.in_ok-high.high (search rules) c.in_ok-high.ensures.is_sound) (consumes_big g.R.ReadBytes.source 4 c.in_ok-low.low (search rules) c.in_ok-low.ensures.is_sound)
     (λ p q. rw (p, q) (grind (arith, common_steps)))

@@ -29,8 +29,8 @@ loop-values-preserved g c =
     let more : l.values < length c.else-group-gt0.buffer = omega (arith, c.else-group-gt0.auto.buffer) in
     rw (to_z-of_z w32 c.in-Some.value f) (omega (arith, length-set c.else-group-gt0.buffer l.values c.in-Some.value), fields_next c.in-Some.value more same c.in-Some.ensures)
 
-pub returns-in_default-clause-values : goal.returns-in_default-clause-values
-returns-in_default-clause-values g c =
+pub returns-in_default-clause-are_read : goal.returns-in_default-clause-are_read
+returns-in_default-clause-are_read g c =
     let l = c.loop-values in
     let same : FieldsSoFar (g.C.GroupCode.value_at c.args.code) c.else-group-gt0.buffer l.values c.args.buffered.now c.decode_value.new.buffered =
     elim c.else-group-gt0.branch [
@@ -40,5 +40,5 @@ returns-in_default-clause-values g c =
       | else-group-gt0-via-else-group-gt0 w ↦ rw w.buffer-is (fields_same refl (c.in_default.ensures ∙ ap bits_in_buffer w.buffered-is) l.invariant.1)
     ] in same.so_far
 
-pub returns-after-loop-values-clause-values : goal.returns-after-loop-values-clause-values
-returns-after-loop-values-clause-values g c = c.loop-values.invariant.1.so_far
+pub returns-after-loop-values-clause-are_read : goal.returns-after-loop-values-clause-are_read
+returns-after-loop-values-clause-are_read g c = c.loop-values.invariant.1.so_far

@@ -21,4 +21,4 @@ pub returns : goal.returns
 returns c =
     let p = buffered_rice_parameter c.args.partition_type c.args.buffered.now c.number.new.self c.parameter_bits-bits.ensures c.in-Some.ensures c.if-parameter-escape.false in
     rice_codes_partition (method_of c.args.partition_type) c.in-Some.parameter c.parameter_bits-bits.result c.decode_buffered.result c.decode_buffered.new.buffer c.args.buffered.now c.number.new.self c.decode_buffered.new.buffered c.parameter_bits-bits.ensures p.not_escape (omega arith)
-    c.decode_buffered.ensures.few c.in-Some.ensures c.decode_buffered.ensures.values
+    c.decode_buffered.ensures.few c.in-Some.ensures c.decode_buffered.ensures.are_read

@@ -20,20 +20,20 @@ loop-at-init g c = record {
 pub loop-at-preserved : goal.loop-at-preserved
 loop-at-preserved g c =
     let inv = c.loop-at.invariant in
-    let w = c.in_ok-at.ensures.ok in
+    let w = c.in_ok-at.ensures.writes_some in
     let n = c.in_ok-at.field-0 in
     let at = c.loop-at.at in
     let l = c.args.bytes.now in
     let P : List ℕ → Type 0 = λ s. Appends (inner_contents g.W.Write.contents c.args.self.now) (inner_contents g.W.Write.contents c.write_some.new.self) s in record {
       inside = omega (arith, w.1, length-take (length l - at) (drop at l), length-drop at l);
       written = subst P (sym (take_piece at n l inv.inside)) (appends_more _ _ _ _ _ inv.written w.2);
-      reference = c.in_ok-at.ensures.same_reference ∙ inv.reference;
+      reference = c.in_ok-at.ensures.same_inner ∙ inv.reference;
       none_failed = none_failed_both inv.none_failed c.in_ok-at.ensures.succeeded;
-      unflushed = c.in_ok-at.ensures.unflushed.none ∙ inv.unflushed;
+      unflushed = c.in_ok-at.ensures.counts_other_call.none ∙ inv.unflushed;
     }
 
-pub returns-in_err-at-clause-prefix : goal.returns-in_err-at-clause-prefix
-returns-in_err-at-clause-prefix g c =
+pub returns-in_err-at-clause-writes_prefix : goal.returns-in_err-at-clause-writes_prefix
+returns-in_err-at-clause-writes_prefix g c =
     let p = err_from_is_err_and c.from_residual.result c.from_residual.ensures.1 in
     rw p.1 (prefix_kept _ _ _ c.loop-at.at _ c.loop-at.invariant.written c.in_err-at.ensures.kept)
 
@@ -42,8 +42,8 @@ returns-in_err-at-clause-failed g c =
     let p = err_from_is_err_and c.from_residual.result c.from_residual.ensures.1 in
     rw p.1 (write_failed_after c.loop-at.invariant.none_failed c.in_err-at.ensures.failed)
 
-pub returns-clause-ok : goal.returns-clause-ok
-returns-clause-ok g c = grind (arith, common_steps)
+pub returns-clause-writes_all : goal.returns-clause-writes_all
+returns-clause-writes_all g c = grind (arith, common_steps)
 
 pub write_some-requires : goal.write_some-requires
 write_some-requires g c = grind (arith, common_steps)

@@ -1,5 +1,5 @@
 use Rattle.std.proofs.Common.{sym, ◌∙◌, ap, ◌*◌, ◌<◌, ◌≡◌, length, arith}
-use Rattle.claxon_frame.proofs.Chunks.{length-chunks, get-chunks, chunk_ends, duration-chunks, same_part, length-part}
+use Rattle.claxon_frame.proofs.ChannelsInBuffer.{length-chunks, get-chunks, chunk_ends, duration-chunks, same_part, length-part}
 use Rattle.claxon_frame.proofs.frame.block.Block.channel.Goals as goal
 
 pub slice_bounds-result-end : goal.slice_bounds-result-end

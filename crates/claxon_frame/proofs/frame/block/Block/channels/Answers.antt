@@ -1,5 +1,5 @@
 use Rattle.std.proofs.Common.{◌≡◌, length, arith}
-use Rattle.claxon_frame.proofs.Chunks.{length-chunks}
+use Rattle.claxon_frame.proofs.ChannelsInBuffer.{length-chunks}
 use Rattle.claxon_frame.proofs.frame.block.Block.channels.Goals as goal
 
 pub returns-clause-value : goal.returns-clause-value

@@ -1,5 +1,5 @@
 use Rattle.std.proofs.Common.{sym}
-use Rattle.claxon_frame.proofs.Chunks.{duration-chunks, lengths-chunks}
+use Rattle.claxon_frame.proofs.ChannelsInBuffer.{duration-chunks, lengths-chunks}
 use Rattle.claxon_frame.proofs.frame.block.Block.duration.Goals as goal
 
 pub returns-clause-value : goal.returns-clause-value

@@ -1,5 +1,5 @@
 use Rattle.std.proofs.Common.{sym}
-use Rattle.claxon_frame.proofs.Chunks.{joined-chunks}
+use Rattle.claxon_frame.proofs.ChannelsInBuffer.{joined-chunks}
 use Rattle.claxon_frame.proofs.frame.block.Block.into_buffer.Goals as goal
 
 pub returns-clause-items : goal.returns-clause-items

@@ -1,4 +1,4 @@
-use Rattle.claxon_frame.proofs.Chunks.{length-chunks, duration-chunks}
+use Rattle.claxon_frame.proofs.ChannelsInBuffer.{length-chunks, duration-chunks}
 use Rattle.claxon_frame.proofs.frame.block.Block.len.Goals as goal
 
 pub returns : goal.returns

@@ -1,5 +1,5 @@
 use Rattle.std.proofs.Common.{arith}
-use Rattle.claxon_frame.proofs.Chunks.{length-chunks, duration-chunks}
+use Rattle.claxon_frame.proofs.ChannelsInBuffer.{length-chunks, duration-chunks}
 use Rattle.claxon_frame.proofs.frame.block.Block.new.Goals as goal
 
 pub returns-clause-channels : goal.returns-clause-channels

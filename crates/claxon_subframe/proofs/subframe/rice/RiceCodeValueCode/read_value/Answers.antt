@@ -11,6 +11,6 @@ use Rattle.claxon_subframe.proofs.subframe.rice.RiceCodeValueCode.read_value.Goa
 pub returns : goal.returns
 returns g c =
     let w : Consumes (bits_in g.R.ReadBytes.source c.args.input.now) (bits_in g.R.ReadBytes.source c.read_leq_u32.new.self) (λ s m. encoded_code_at c.args.self.parameter s ≡ Done c.cast_signed.result m)
-    = consumes_then _ c.in_ok-quotient.ensures.gives c.in_ok-low.ensures.gives (λ p q. encoded_code_from c.args.self.parameter c.in_ok-quotient.quotient c.in_ok-low.low c.cast_signed.result _ _ _ c.args.self.bound p q c.cast_signed.ensures) in
+    = consumes_then _ c.in_ok-quotient.ensures.is_read c.in_ok-low.ensures.is_read (λ p q. encoded_code_from c.args.self.parameter c.in_ok-quotient.quotient c.in_ok-low.low c.cast_signed.result _ _ _ c.args.self.bound p q c.cast_signed.ensures) in
     let k : (v : ℤ) → c.cast_signed.result ≡ v → Consumes (bits_in g.R.ReadBytes.source c.args.input.now) (bits_in g.R.ReadBytes.source c.read_leq_u32.new.self) (λ s m. encoded_code_at c.args.self.parameter s ≡ Done v m) = λ v e. consumes_as e w in
     search (rules, k)

@@ -1,5 +1,5 @@
 use Rattle.std.proofs.Common.{sym, ap, ◌∙◌, length}
-use Rattle.claxon_tools.proofs.Chunks.{extensible_format, pcm_format}
+use Rattle.claxon_tools.proofs.RiffChunks.{extensible_format, pcm_format}
 use Rattle.claxon_tools.proofs.wav.header.Layout.format_size.Goals as goal
 
 pub returns-then-is_extensible-clause-size : goal.returns-then-is_extensible-clause-size

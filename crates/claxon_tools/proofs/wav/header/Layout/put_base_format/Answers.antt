@@ -2,7 +2,7 @@ use Rattle.std.proofs.Common.{rules, ◌≡◌, ◌*◌, ◌%◌, ◌^◌, [], s
 use Rattle.std.specs.Int.{to_le_bytes, w16}
 use Rattle.std.proofs.lemmas.List.{append-nil}
 use Rattle.claxon_tools.specs.WaveFile.{block_align, sample_size}
-use Rattle.claxon_tools.proofs.Chunks.{by, more}
+use Rattle.claxon_tools.proofs.RiffChunks.{by, more}
 use Rattle.claxon_tools.proofs.wav.header.Layout.put_base_format.Goals as goal
 
 pub returns : goal.returns

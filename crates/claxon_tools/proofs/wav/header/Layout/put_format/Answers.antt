@@ -1,6 +1,6 @@
 use Rattle.std.proofs.Common.{◌++◌, List, ℕ, sym, ap, ◌∙◌, append_assoc}
 use Rattle.claxon_tools.specs.WaveFile.{extension, base_format}
-use Rattle.claxon_tools.proofs.Chunks.{extensible_format, pcm_format}
+use Rattle.claxon_tools.proofs.RiffChunks.{extensible_format, pcm_format}
 use Rattle.claxon_tools.proofs.wav.header.Layout.put_format.Goals as goal
 
 pub returns-then-not-is_extensible : goal.returns-then-not-is_extensible

@@ -1,6 +1,6 @@
 use Rattle.std.proofs.Common.{◌≡◌, ◌+◌, ◌%◌, length, refl, sym}
 use Rattle.claxon_tools.specs.WaveFile.{format}
-use Rattle.claxon_tools.proofs.Chunks.{header_is}
+use Rattle.claxon_tools.proofs.RiffChunks.{header_is}
 use Rattle.claxon_tools.proofs.wav.header.Layout.put_header.Goals as goal
 
 pub returns : goal.returns

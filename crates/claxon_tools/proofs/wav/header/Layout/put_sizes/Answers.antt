@@ -2,7 +2,7 @@ use Rattle.std.proofs.Common.{rules, ◌≡◌, ◌++◌, [], length, refl, ap, 
 use Rattle.std.specs.Prelude.{codes}
 use Rattle.std.specs.Int.{to_le_bytes}
 use Rattle.claxon_tools.specs.WaveFile.{format}
-use Rattle.claxon_tools.proofs.Chunks.{by, more}
+use Rattle.claxon_tools.proofs.RiffChunks.{by, more}
 use Rattle.claxon_tools.proofs.wav.header.Layout.put_sizes.Goals as goal
 
 pub returns : goal.returns

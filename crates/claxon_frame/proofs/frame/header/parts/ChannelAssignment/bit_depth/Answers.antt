@@ -2,5 +2,5 @@ use Rattle.std.proofs.Common.{arith}
 use Rattle.std.proofs.lemmas.Grind.{common_steps}
 use Rattle.claxon_frame.proofs.frame.header.parts.ChannelAssignment.bit_depth.Goals as goal
 
-pub returns-clause-value : goal.returns-clause-value
-returns-clause-value c = grind (arith, common_steps)
+pub returns-clause-is_subframe_bit_depth : goal.returns-clause-is_subframe_bit_depth
+returns-clause-is_subframe_bit_depth c = grind (arith, common_steps)

@@ -3,7 +3,7 @@ use Rattle.claxon.specs.FrameReader.{stream_with}
 use Rattle.claxon_tools.specs.Progress.{SameErrors, StaysQuiet}
 use Rattle.claxon_tools.specs.Verify.{counted_bytes, position_of}
 use Rattle.claxon_tools.proofs.Counting.{CountedSoFar}
-use Rattle.claxon_tools.proofs.verify.count_parts.Given as goal
+use Rattle.claxon_tools.proofs.verify.count_frames_and_faults.Given as goal
 
 abbrev pub invariant-loop : goal.invariant-loop
 invariant-loop g l = record {

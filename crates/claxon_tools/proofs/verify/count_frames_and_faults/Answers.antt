@@ -5,8 +5,8 @@ use Rattle.claxon_tools.specs.Verify.{counted_bytes}
 use Rattle.claxon_tools.specs.declared.verify.Position.{Position}
 use Rattle.claxon_tools.proofs.Counting.{none_so_far, position_after, frame_counted, fault_counted, cut_counted, eof_counted, fault_exceeds, frame_exceeds, many_counted, read_as}
 use Rattle.claxon_tools.proofs.Showing.{shown_quietly}
-use Rattle.claxon_tools.proofs.verify.count_parts.Goals.{in-Ok-Some+in_ok-found-in-Ok-Some, in-Err+in_ok-found-in-Err+else-is_last}
-use Rattle.claxon_tools.proofs.verify.count_parts.Goals as goal
+use Rattle.claxon_tools.proofs.verify.count_frames_and_faults.Goals.{in-Ok-Some+in_ok-found-in-Ok-Some, in-Err+in_ok-found-in-Err+else-is_last}
+use Rattle.claxon_tools.proofs.verify.count_frames_and_faults.Goals as goal
 
 pub loop-init : goal.loop-init
 loop-init g c = record { count = refl; so_far = none_so_far _ _ _; errors = refl; quiet = λ none. (refl, refl); total = refl }
@@ -34,15 +34,15 @@ loop-preserved g c =
             )
       ];
       errors = elim c.match-read_block.branch [
-        | in-Ok-Some+in_ok-found-in-Ok-Some w ↦ rw w.progress-is (w.show.ensures.same_reference ∙ c.loop.invariant.errors)
+        | in-Ok-Some+in_ok-found-in-Ok-Some w ↦ rw w.progress-is (w.show.ensures.same_errors ∙ c.loop.invariant.errors)
         | in-Err+in_ok-found-in-Err+else-is_last w ↦ rw w.progress-is c.loop.invariant.errors
       ];
       quiet = elim c.match-read_block.branch [
-        | in-Ok-Some+in_ok-found-in-Ok-Some w ↦ rw w.progress-is (shown_quietly c.args.progress.now c.loop.progress w.show.new.self _ c.loop.invariant.quiet c.loop.invariant.total w.show.ensures.percentage w.show.ensures.quiet)
+        | in-Ok-Some+in_ok-found-in-Ok-Some w ↦ rw w.progress-is (shown_quietly c.args.progress.now c.loop.progress w.show.new.self _ c.loop.invariant.quiet c.loop.invariant.total w.show.ensures.shows_percentage w.show.ensures.writes_only_changes)
         | in-Err+in_ok-found-in-Err+else-is_last w ↦ rw w.progress-is c.loop.invariant.quiet
       ];
       total = elim c.match-read_block.branch [
-        | in-Ok-Some+in_ok-found-in-Ok-Some w ↦ rw w.progress-is (w.show.ensures.percentage.total_is ∙ c.loop.invariant.total)
+        | in-Ok-Some+in_ok-found-in-Ok-Some w ↦ rw w.progress-is (w.show.ensures.shows_percentage.total_is ∙ c.loop.invariant.total)
         | in-Err+in_ok-found-in-Err+else-is_last w ↦ rw w.progress-is c.loop.invariant.total
       ];
     }

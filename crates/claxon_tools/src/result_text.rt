@@ -8,15 +8,15 @@ use std::io::Write;
 /// The text of a result, gathered in memory and written at once. If memory is refused the text is lost; the methods that add
 /// to it have no errors.
 #[derive(Drop)]
-pub struct Answer {
+pub struct ResultText {
     text: Vec<u8>,
     is_lost: bool,
 }
 
-impl Answer {
+impl ResultText {
     /// An empty text.
-    pub fn new(alloc: Global) -> Answer {
-        Answer {
+    pub fn new(alloc: Global) -> ResultText {
+        ResultText {
             text: Vec::new(alloc),
             is_lost: false,
         }
@@ -154,7 +154,7 @@ impl Answer {
     }
 
     /// Adds the other answer after the heading, if it differs from the first.
-    pub fn difference(&mut self, one: &Answer, other: &Answer, heading: &str) {
+    pub fn difference(&mut self, one: &ResultText, other: &ResultText, heading: &str) {
         if one.as_bytes() != other.as_bytes() {
             self.text(heading);
             self.bytes(other.as_bytes());

@@ -4,12 +4,12 @@ use Rattle.std.specs.Cmp.Lexicographic.{pointwise}
 use Rattle.claxon_format.specs.Comments.{Entry}
 
 -- the name before the first '=', and the value after it
-abbrev pub pair : Entry → List ℕ × List ℕ
-pair e = (take e.place e.text, drop (e.place + 1) e.text)
+abbrev pub tag_of_entry : Entry → List ℕ × List ℕ
+tag_of_entry e = (take e.place e.text, drop (e.place + 1) e.text)
 
 -- the names and values of all entries
-abbrev pub pairs : List Entry → List (List ℕ × List ℕ)
-pairs entries = map pair entries
+abbrev pub tags_of_entries : List Entry → List (List ℕ × List ℕ)
+tags_of_entries entries = map tag_of_entry entries
 
 -- the letters A to Z, 0x41 to 0x5a, as a to z
 abbrev pub lower : ℕ → ℕ
@@ -23,6 +23,6 @@ Same a b = map lower a ≡ map lower b
 abbrev pub same : List ℕ → List ℕ → Bool
 same a b = pointwise ◌==◌ (map lower a) (map lower b)
 
--- the values of the pairs with this name, in order
+-- the values of the tags with this name, in order
 abbrev pub values : List ℕ → List (List ℕ × List ℕ) → List (List ℕ)
 values name ps = map (λ p. p.1) (filter (λ p. same p.0 name) ps)

@@ -5,10 +5,10 @@ use Rattle.std.specs.Cmp.Lexicographic.{pointwise, same_text, other_text}
 use Rattle.std.specs.List.{list_any}
 use Rattle.std.proofs.lemmas.List.{take_at, drop_at, length-append}
 use Rattle.claxon_format.specs.Comments.{Entry, is_separator, IsEntry}
-use Rattle.claxon_format.specs.Pairs.{pair, lower, same}
+use Rattle.claxon_format.specs.Tags.{tag_of_entry, lower, same}
 use Rattle.claxon_format.specs.Laws.{NamesSame}
 
-pub tags_split : (e : Entry) → IsEntry e → (e.text ≡ (pair e).0 ++ (0x3d ∷ (pair e).1)) × (list_any is_separator (pair e).0 ≡ false)
+pub tags_split : (e : Entry) → IsEntry e → (e.text ≡ (tag_of_entry e).0 ++ (0x3d ∷ (tag_of_entry e).1)) × (list_any is_separator (tag_of_entry e).0 ≡ false)
 tags_split e (name, value, joined, place, none, allowed, utf8) =
     let front : take e.place e.text ≡ name = rw (place, joined) (take_at name (0x3d ∷ value) (length name) refl) in
     let len : length (name ++ (0x3d ∷ [])) ≡ length name + 1 = length-append name (0x3d ∷ []) in
