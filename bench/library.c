@@ -13,14 +13,14 @@
 #endif
 
 static int add(const uint8_t *bytes, size_t length, uint64_t *sum) {
-    static int32_t samples[CLAXON_MOST_SAMPLES];
+    static int32_t samples[CLAXON_MAX_SAMPLES];
     struct claxon_info info = {0};
     struct claxon_block block;
     char error[128] = "";
     uint32_t status = claxon_open(bytes, length, &info, error, sizeof error);
     size_t at = info.first_frame;
     while (status == CLAXON_OK) {
-        status = NEXT_BLOCK(bytes, length, &at, &info, samples, CLAXON_MOST_SAMPLES, &block, error, sizeof error);
+        status = NEXT_BLOCK(bytes, length, &at, &info, samples, CLAXON_MAX_SAMPLES, &block, error, sizeof error);
         if (status == CLAXON_OK) {
             uint64_t total = 0;
             for (size_t i = 0; i < (size_t)block.channels * block.duration; i++) {

@@ -18,7 +18,7 @@ extern "C" {
 #endif
 
 /* The version of this header: 10000 * major + 100 * minor + patch. */
-#define CLAXON_VERSION 100
+#define CLAXON_VERSION 200
 
 /* The version of the library. */
 uint32_t claxon_version(void);
@@ -26,20 +26,20 @@ uint32_t claxon_version(void);
 /* What a call returns. */
 enum claxon_status {
     CLAXON_OK = 0,
-    CLAXON_FORMAT_ERROR = 1,  /* the stream is ill-formed: `error` says how */
-    CLAXON_UNSUPPORTED = 2,   /* the stream has something that isn't supported: `error` says what */
-    CLAXON_INPUT_ENDS = 3,    /* the bytes end too early: call again with these and more */
-    CLAXON_OUT_OF_MEMORY = 4, /* malloc failed */
-    CLAXON_NO_MORE = 5,       /* no further block, or no further tag */
-    CLAXON_BUFFER_SHORT = 6   /* the samples don't fit */
+    CLAXON_FORMAT_ERROR = 1,    /* the stream is ill-formed: `error` says how */
+    CLAXON_UNSUPPORTED = 2,     /* the stream has something that isn't supported: `error` says what */
+    CLAXON_INPUT_ENDS = 3,      /* the bytes end too early: call again with these and more */
+    CLAXON_OUT_OF_MEMORY = 4,   /* malloc failed */
+    CLAXON_NO_MORE = 5,         /* no further block, or no further tag */
+    CLAXON_BUFFER_TOO_SMALL = 6 /* the samples don't fit */
 };
 
 /* The maximum number of samples in a block, of all channels together. */
-#define CLAXON_MOST_SAMPLES (8 * 65535)
+#define CLAXON_MAX_SAMPLES (8 * 65535)
 
-/* The most bytes of a frame that a streaminfo can give. A window over a stream need never be larger: where a frame doesn't
- * stand in as many bytes, the stream is damaged. */
-#define CLAXON_MOST_FRAME_BYTES 16777215
+/* The maximum number of bytes of a frame that a streaminfo can give. A window over a stream need never be larger: where a
+ * frame doesn't stand in as many bytes, the stream is damaged. */
+#define CLAXON_MAX_FRAME_BYTES 16777215
 
 /* What the head of a stream says. All zeros mean that nothing is known of the stream. */
 struct claxon_info {
@@ -75,6 +75,14 @@ enum claxon_block_type {
     CLAXON_PICTURE = 6
 };
 
+/* Where a tag is in the content of a Vorbis comment block. */
+struct claxon_tag {
+    size_t name_at;      /* the position of its name: ASCII, of which upper and lower case mean the same */
+    size_t name_length;  /* the length of its name in bytes */
+    size_t value_at;     /* the position of its value: UTF-8 */
+    size_t value_length; /* the length of its value in bytes */
+};
+
 /* The properties of a block. */
 struct claxon_block {
     uint64_t time;     /* the number of samples of each channel before it */
@@ -95,6 +103,10 @@ static_assert(sizeof(struct claxon_metadata) == 16 && offsetof(struct claxon_met
                   offsetof(struct claxon_metadata, length) == 8 && offsetof(struct claxon_metadata, type) == 12 &&
                   offsetof(struct claxon_metadata, is_last) == 13,
               "claxon is for x86-64 Linux: struct claxon_metadata has another layout here");
+static_assert(sizeof(struct claxon_tag) == 32 && offsetof(struct claxon_tag, name_at) == 0 &&
+                  offsetof(struct claxon_tag, name_length) == 8 && offsetof(struct claxon_tag, value_at) == 16 &&
+                  offsetof(struct claxon_tag, value_length) == 24,
+              "claxon is for x86-64 Linux: struct claxon_tag has another layout here");
 static_assert(sizeof(struct claxon_block) == 16 && offsetof(struct claxon_block, time) == 0 &&
                   offsetof(struct claxon_block, channels) == 8 && offsetof(struct claxon_block, duration) == 12,
               "claxon is for x86-64 Linux: struct claxon_block has another layout here");
@@ -120,16 +132,15 @@ uint32_t claxon_streaminfo(const uint8_t *content, size_t length, struct claxon_
 uint32_t claxon_vendor(const uint8_t *content, size_t length, size_t *vendor_at, size_t *vendor_length, size_t *tags,
                        char *error, size_t error_size);
 
-/* Finds the next tag in the content of a Vorbis comment block. *place is 0 for the first one, and is moved after the tag.
- * With CLAXON_OK, its name (ASCII, of which upper and lower case mean the same) and its value (UTF-8) are at `name_at` and
- * `value_at` in the content. NO_MORE: no tag is left. FORMAT_ERROR: what stands at *place is no tag, `error` gets a text.
+/* Finds the next tag in the content of a Vorbis comment block. *at is 0 for the first one. With CLAXON_OK, `tag` is filled,
+ * and *at is moved after the tag. NO_MORE: no tag is left. FORMAT_ERROR: what stands at *at is no tag, `error` gets a text.
  * With any status but OK nothing else is changed. claxon_vendor tells whether the whole block is well-formed. */
-uint32_t claxon_next_tag(const uint8_t *content, size_t length, size_t *place, size_t *name_at, size_t *name_length,
-                         size_t *value_at, size_t *value_length, char *error, size_t error_size);
+uint32_t claxon_next_tag(const uint8_t *content, size_t length, size_t *at, struct claxon_tag *tag, char *error,
+                         size_t error_size);
 
 /* Decodes the frame at the position *at. With CLAXON_OK, `block` is filled, channels * duration samples are written,
  * interleaved, and *at is moved after the frame. With any other status *at and the samples are unchanged:
- * NO_MORE: fewer than two bytes are left. INPUT_ENDS: the bytes end within the frame. BUFFER_SHORT: a frame's header is
+ * NO_MORE: fewer than two bytes are left. INPUT_ENDS: the bytes end within the frame. BUFFER_TOO_SMALL: a frame's header is
  * there, `block` is filled from it, and its samples don't fit; no more than the header was read. FORMAT_ERROR, UNSUPPORTED,
  * OUT_OF_MEMORY, INPUT_ENDS: `error` gets a text. */
 uint32_t claxon_next_block(const uint8_t *bytes, size_t length, size_t *at, const struct claxon_info *info, int32_t *samples,

@@ -9,11 +9,12 @@
  *     .. stream.error says what is wrong, and is "" at the end of the stream
  *     claxon_stream_free(&stream);
  *
- * It holds 64 KiB of the stream, and twice as much where a frame doesn't fit, up to CLAXON_MOST_FRAME_BYTES; the samples of
+ * It holds 64 KiB of the stream, and twice as much where a frame doesn't fit, up to CLAXON_MAX_FRAME_BYTES; the samples of
  * one block; and the Vorbis comments. Any other metadata block is passed over without being held.
  *
  * Calls return an enum claxon_status. OUT_OF_MEMORY between frames: the call may be repeated. INPUT_ENDS: the bytes end
- * within the head or a frame, or reading failed. BUFFER_SHORT is never returned. Streams are independent of one another. */
+ * within the head or a frame, or reading failed. BUFFER_TOO_SMALL is never returned. Streams are independent of one
+ * another. */
 #ifndef CLAXON_STREAM_H
 #define CLAXON_STREAM_H
 
@@ -74,7 +75,7 @@ static inline uint32_t claxon_stream_open(struct claxon_stream *stream);
 
 /* Decodes the next frame into `block` and `samples`, interleaved. It opens the stream first where that wasn't done.
  * NO_MORE: the stream is at its end. FORMAT_ERROR, UNSUPPORTED, INPUT_ENDS: there is no frame at `position`, which stays,
- * as claxon_next_block says it; or it has more than CLAXON_MOST_FRAME_BYTES. */
+ * as claxon_next_block says it; or it has more than CLAXON_MAX_FRAME_BYTES. */
 static inline uint32_t claxon_stream_next_block(struct claxon_stream *stream);
 
 /* As claxon_stream_next_block, with the samples of one channel after those of another. */
@@ -94,15 +95,15 @@ static inline size_t claxon_stream_fread(void *file, uint8_t *bytes, size_t leng
 #define CLAXON_STREAM_STEP 65536
 
 /* The metadata blocks of a head, and the length of an application block, as claxon_open limits them. */
-#define CLAXON_STREAM_MOST_BLOCKS 65536
-#define CLAXON_STREAM_MOST_APPLICATION (10 * 1024 * 1024)
+#define CLAXON_STREAM_MAX_BLOCKS 65536
+#define CLAXON_STREAM_MAX_APPLICATION (10 * 1024 * 1024)
 
-/* The most bytes of a frame's header. */
-#define CLAXON_STREAM_MOST_HEADER 16
+/* The maximum number of bytes of a frame's header. */
+#define CLAXON_STREAM_MAX_HEADER 16
 
 /* How much work may lead to no frame, in bytes and samples, before resync passes over sync codes untried; how much of it a
  * byte that is passed makes good; and what a call costs in any case. */
-#define CLAXON_STREAM_MOST_WASTED (2 * (uint64_t)CLAXON_MOST_FRAME_BYTES)
+#define CLAXON_STREAM_MAX_WASTED (2 * (uint64_t)CLAXON_MAX_FRAME_BYTES)
 #define CLAXON_STREAM_WASTED_OF_A_BYTE 4
 #define CLAXON_STREAM_WASTED_BY_A_CALL 64
 
@@ -270,7 +271,7 @@ static inline uint32_t claxon_stream_metadata_header(struct claxon_stream *strea
     if (stream->is_last) {
         return CLAXON_NO_MORE;
     }
-    if (stream->metadata_blocks == CLAXON_STREAM_MOST_BLOCKS) {
+    if (stream->metadata_blocks == CLAXON_STREAM_MAX_BLOCKS) {
         return claxon_stream_fault(stream, CLAXON_UNSUPPORTED, "more than 65536 metadata blocks are not supported");
     }
     status = claxon_stream_hold(stream, 4);
@@ -350,7 +351,7 @@ static inline uint32_t claxon_stream_try_metadata(struct claxon_stream *stream, 
     struct claxon_info info;
     uint8_t *header = stream->head + stream->head_length;
     uint32_t status, length = metadata->length;
-    if (metadata->type == CLAXON_APPLICATION && length >= 4 && length <= CLAXON_STREAM_MOST_APPLICATION) {
+    if (metadata->type == CLAXON_APPLICATION && length >= 4 && length <= CLAXON_STREAM_MAX_APPLICATION) {
         length = 4; /* claxon_open allocates memory for all of it */
     }
     header[0] = (uint8_t)(0x80 | metadata->type);
@@ -419,8 +420,8 @@ static inline uint32_t claxon_stream_hold_samples(struct claxon_stream *stream, 
 
 /* Reads more of a frame. The bytes that are held are doubled, so that the time is linear although each try begins anew. */
 static inline uint32_t claxon_stream_hold_more(struct claxon_stream *stream) {
-    size_t count = 2 * stream->held < CLAXON_MOST_FRAME_BYTES ? 2 * stream->held : CLAXON_MOST_FRAME_BYTES;
-    if (stream->held >= CLAXON_MOST_FRAME_BYTES) {
+    size_t count = 2 * stream->held < CLAXON_MAX_FRAME_BYTES ? 2 * stream->held : CLAXON_MAX_FRAME_BYTES;
+    if (stream->held >= CLAXON_MAX_FRAME_BYTES) {
         return claxon_stream_fault(stream, CLAXON_FORMAT_ERROR, "frame longer than 16777215 bytes");
     }
     return claxon_stream_hold(stream, count);
@@ -452,7 +453,7 @@ static inline uint32_t claxon_stream_decode(struct claxon_stream *stream, int pl
             stream->block = block;
             return claxon_stream_no_fault(stream, status);
         }
-        if (status == CLAXON_BUFFER_SHORT) {
+        if (status == CLAXON_BUFFER_TOO_SMALL) {
             status = claxon_stream_hold_samples(stream, (size_t)block.channels * block.duration);
         } else if (status == CLAXON_NO_MORE) {
             return stream->has_failed ? claxon_stream_read_failed(stream) : claxon_stream_no_fault(stream, status);
@@ -465,7 +466,7 @@ static inline uint32_t claxon_stream_decode(struct claxon_stream *stream, int pl
     return status;
 }
 
-/* Reads the header at the start of the window. BUFFER_SHORT: there is one, and `block` is filled. */
+/* Reads the header at the start of the window. BUFFER_TOO_SMALL: there is one, and `block` is filled. */
 static inline uint32_t claxon_stream_frame_header(struct claxon_stream *stream, struct claxon_block *block) {
     int32_t samples;
     size_t at = 0;
@@ -477,7 +478,7 @@ static inline uint32_t claxon_stream_frame_header(struct claxon_stream *stream, 
 static inline void claxon_stream_refuse(struct claxon_stream *stream, uint32_t header, const struct claxon_block *block) {
     stream->is_refused = 1;
     stream->wasted += CLAXON_STREAM_WASTED_BY_A_CALL;
-    if (header == CLAXON_BUFFER_SHORT) {
+    if (header == CLAXON_BUFFER_TOO_SMALL) {
         stream->wasted += stream->held + (uint64_t)block->channels * block->duration;
     }
 }
@@ -511,7 +512,7 @@ static inline uint32_t claxon_stream_next_sync(struct claxon_stream *stream) {
     for (;;) {
         const uint8_t *bytes;
         size_t at = 0;
-        uint32_t status = claxon_stream_hold(stream, CLAXON_STREAM_MOST_HEADER);
+        uint32_t status = claxon_stream_hold(stream, CLAXON_STREAM_MAX_HEADER);
         if (status != CLAXON_OK) {
             return status;
         }
@@ -523,7 +524,7 @@ static inline uint32_t claxon_stream_next_sync(struct claxon_stream *stream) {
             at++;
         }
         claxon_stream_pass(stream, at);
-        if (stream->held >= CLAXON_STREAM_MOST_HEADER || (stream->held >= 2 && stream->has_ended)) {
+        if (stream->held >= CLAXON_STREAM_MAX_HEADER || (stream->held >= 2 && stream->has_ended)) {
             return CLAXON_OK;
         }
     }
@@ -542,7 +543,7 @@ static inline uint32_t claxon_stream_resync(struct claxon_stream *stream) {
         if (status != CLAXON_OK) {
             return status;
         }
-        if (stream->wasted <= CLAXON_STREAM_MOST_WASTED) {
+        if (stream->wasted <= CLAXON_STREAM_MAX_WASTED) {
             header = claxon_stream_frame_header(stream, &block);
             if (header != CLAXON_FORMAT_ERROR && header != CLAXON_UNSUPPORTED) {
                 status = claxon_stream_decode(stream, 0, &length);

@@ -37,19 +37,20 @@ __all__ = [
 ]
 
 # What the header claxon.h has.
-_OK, _FORMAT_ERROR, _UNSUPPORTED, _INPUT_ENDS, _OUT_OF_MEMORY, _NO_MORE, _BUFFER_SHORT = range(7)
+_OK, _FORMAT_ERROR, _UNSUPPORTED, _INPUT_ENDS = range(4)
+_OUT_OF_MEMORY, _NO_MORE, _BUFFER_TOO_SMALL = range(4, 7)
 _STREAMINFO, _VORBIS_COMMENT = 0, 4
-_MOST_FRAME_BYTES = 16777215
-_INTERFACE = 1  # the minor version of the library, below 1.0.0
+_MAX_FRAME_BYTES = 16777215
+_INTERFACE = 2  # the minor version of the library, below 1.0.0
 
-_MOST_BLOCKS = 65536  # of metadata, that claxon_open reads
+_MAX_BLOCKS = 65536  # of metadata, that claxon_open reads
 _STEP = 1 << 16  # bytes that are read and dropped at once
 _FIRST_WINDOW = 1 << 18  # bytes
 _ERROR_SIZE = 128  # more than any text of the library takes
 
 # The number of samples that may be decoded for frames in which a fault is found, before `resync`
 # passes over headers, and how many more for each byte that is passed.
-_MOST_WASTED, _WASTED_PER_BYTE = 1 << 25, 4
+_MAX_WASTED, _WASTED_PER_BYTE = 1 << 25, 4
 
 
 class Error(Exception):
@@ -149,6 +150,15 @@ class _Metadata(ctypes.Structure):
     ]
 
 
+class _Tag(ctypes.Structure):
+    _fields_ = [
+        ("name_at", ctypes.c_size_t),
+        ("name_length", ctypes.c_size_t),
+        ("value_at", ctypes.c_size_t),
+        ("value_length", ctypes.c_size_t),
+    ]
+
+
 class _Block(ctypes.Structure):
     _fields_ = [
         ("time", ctypes.c_uint64),
@@ -164,7 +174,7 @@ def _find_library() -> str:
         return named
     here = pathlib.Path(__file__).resolve().parent
     for folder in (here, here.parent / "c" / "out"):
-        for name in ("libclaxon.so", "libclaxon.so.0"):
+        for name in ("libclaxon.so", "libclaxon.so.0.2"):
             if (folder / name).exists():
                 return str(folder / name)
     found = ctypes.util.find_library("claxon")
@@ -172,8 +182,8 @@ def _find_library() -> str:
         return found
     raise ImportError(
         "the shared library of claxon wasn't found: build it by `make -C c` in claxon's repository,"
-        " and put c/out/libclaxon.so.0 beside claxon.py, or its path into the environment variable"
-        " CLAXON_LIBRARY"
+        " and put c/out/libclaxon.so.0.2 beside claxon.py, or its path into the environment"
+        " variable CLAXON_LIBRARY"
     )
 
 
@@ -200,7 +210,7 @@ def _load_library() -> ctypes.CDLL:
         "claxon_streaminfo": [text, size, info, text, size],
         "claxon_next_metadata": [text, size, to_size, ctypes.POINTER(_Metadata)],
         "claxon_vendor": [text, size] + 3 * [to_size] + [text, size],
-        "claxon_next_tag": [text, size] + 5 * [to_size] + [text, size],
+        "claxon_next_tag": [text, size, to_size, ctypes.POINTER(_Tag), text, size],
         "claxon_next_block_planar": [memory, size, to_size, info, memory, size, block, text, size],
     }
     for call, types in arguments.items():
@@ -217,7 +227,7 @@ _library = _load_library()
 
 
 def library_version() -> str:
-    """The version of the library for C that was loaded, such as "0.1.0"."""
+    """The version of the library for C that was loaded, such as "0.2.0"."""
     return _version_text(_library.claxon_version())
 
 
@@ -300,7 +310,7 @@ class _Window:
             self.at.value = 0
             self.end -= at
         elif self.end == len(self._bytes):
-            self._bytes.frombytes(bytes(min(self.end, _MOST_FRAME_BYTES - self.end)))
+            self._bytes.frombytes(bytes(min(self.end, _MAX_FRAME_BYTES - self.end)))
             self.address = self._bytes.buffer_info()[0]
         before = self.end
         with memoryview(self._bytes) as view:
@@ -417,7 +427,7 @@ class Flac:
         start = self._window.position()
         while self._window.find(_SYNC):
             place = self._window.position()
-            if self._wasted > _MOST_WASTED + _WASTED_PER_BYTE * place:
+            if self._wasted > _MAX_WASTED + _WASTED_PER_BYTE * place:
                 continue
             self._samples, self._capacity = None, 1
             status = self._decode()
@@ -439,7 +449,7 @@ class Flac:
         head = source.take(4)
         self._expect_no_fault(head, len(head) == 4, 0)
         streaminfo, comments = b"", b""
-        for _ in range(_MOST_BLOCKS):
+        for _ in range(_MAX_BLOCKS):
             position = source.position
             header = source.take(4)
             self._expect_no_fault(head + streaminfo + header, len(header) == 4, position)
@@ -462,7 +472,7 @@ class Flac:
                 break
         else:
             # Too many blocks: as many empty ones have the same fault.
-            others = (_MOST_BLOCKS - 1) * _SKIPPED
+            others = (_MAX_BLOCKS - 1) * _SKIPPED
             self._expect_no_fault(head + streaminfo + others, False, source.position)
         self.vendor = self._read_vendor() if comments else None
 
@@ -503,26 +513,18 @@ class Flac:
 
     def _read_tags(self) -> Dict[str, List[str]]:
         content, tags = self._comments, {}  # type: Tuple[bytes, Dict[str, List[str]]]
-        place, name, name_length, value, value_length = (ctypes.c_size_t() for _ in range(5))
+        at, tag = ctypes.c_size_t(), _Tag()
         while content:
             status = _library.claxon_next_tag(
-                content,
-                len(content),
-                place,
-                name,
-                name_length,
-                value,
-                value_length,
-                self._error,
-                _ERROR_SIZE,
+                content, len(content), at, tag, self._error, _ERROR_SIZE
             )
             if status == _NO_MORE:
                 break
             if status != _OK:
                 raise self._fault(status, None)
-            key = content[name.value : name.value + name_length.value].decode("ascii").upper()
-            text = content[value.value : value.value + value_length.value].decode("utf-8")
-            tags.setdefault(key, []).append(text)
+            name = content[tag.name_at : tag.name_at + tag.name_length].decode("ascii").upper()
+            value = content[tag.value_at : tag.value_at + tag.value_length].decode("utf-8")
+            tags.setdefault(name, []).append(value)
         return tags
 
     # ---- frames
@@ -545,7 +547,7 @@ class Flac:
                 self._error,
                 _ERROR_SIZE,
             )
-            if status == _BUFFER_SHORT:
+            if status == _BUFFER_TOO_SMALL:
                 self._samples = None
                 self._capacity = self._found.channels * self._found.duration
             elif status not in (_INPUT_ENDS, _NO_MORE) or not window.fill():
@@ -571,7 +573,7 @@ class Flac:
     def _frame_fault(self, status: int) -> Error:
         position = self._window.position()
         if status == _INPUT_ENDS and not self._window.file_ends:
-            return FormatError(f"frame longer than {_MOST_FRAME_BYTES} bytes", position)
+            return FormatError(f"frame longer than {_MAX_FRAME_BYTES} bytes", position)
         return self._fault(status, position)
 
     def _fault(self, status: int, position: Optional[int]) -> Error:

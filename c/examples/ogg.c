@@ -11,7 +11,7 @@ struct ogg {
     size_t segments, next;
     int has_ended; /* whether nothing was left where a page could begin */
     size_t length; /* of the packet */
-    uint8_t packet[CLAXON_MOST_FRAME_BYTES];
+    uint8_t packet[CLAXON_MAX_FRAME_BYTES];
 };
 
 static int next_page(struct ogg *ogg) {
@@ -58,7 +58,7 @@ static uint32_t refuse(char error[128], const char *text) {
 
 /* The first packet has the content of the streaminfo block at 17. Then a packet is a metadata block or a frame. */
 static uint32_t play_packets(struct ogg *ogg, char error[128]) {
-    static int32_t samples[CLAXON_MOST_SAMPLES];
+    static int32_t samples[CLAXON_MAX_SAMPLES];
     struct claxon_info info;
     struct claxon_block block;
     if (!next_packet(ogg) || ogg->length < 17 || memcmp(ogg->packet, "\177FLAC", 5) != 0) {
@@ -68,7 +68,7 @@ static uint32_t play_packets(struct ogg *ogg, char error[128]) {
     while (status == CLAXON_OK && next_packet(ogg)) {
         size_t at = 0;
         if (ogg->length > 0 && ogg->packet[0] == 0xff) {
-            status = claxon_next_block(ogg->packet, ogg->length, &at, &info, samples, CLAXON_MOST_SAMPLES, &block, error, 128);
+            status = claxon_next_block(ogg->packet, ogg->length, &at, &info, samples, CLAXON_MAX_SAMPLES, &block, error, 128);
             if (status == CLAXON_OK) {
                 fwrite(samples, 4, (size_t)block.channels * block.duration, stdout);
             }

@@ -16,7 +16,7 @@ static void raise_peaks(const int32_t *samples, const struct claxon_block *block
 }
 
 static int print_peaks(const uint8_t *bytes, size_t length) {
-    static int32_t samples[CLAXON_MOST_SAMPLES];
+    static int32_t samples[CLAXON_MAX_SAMPLES];
     int64_t peaks[8] = {0};
     struct claxon_info info = {0};
     struct claxon_block block;
@@ -24,7 +24,7 @@ static int print_peaks(const uint8_t *bytes, size_t length) {
     uint32_t status = claxon_open(bytes, length, &info, error, sizeof error);
     size_t at = info.first_frame;
     while (status == CLAXON_OK) {
-        status = claxon_next_block_planar(bytes, length, &at, &info, samples, CLAXON_MOST_SAMPLES, &block, error, sizeof error);
+        status = claxon_next_block_planar(bytes, length, &at, &info, samples, CLAXON_MAX_SAMPLES, &block, error, sizeof error);
         if (status == CLAXON_OK) {
             raise_peaks(samples, &block, peaks);
         }

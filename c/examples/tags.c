@@ -2,13 +2,13 @@
 #include "claxon_stream.h"
 
 static void print_tags(const uint8_t *comments, size_t length) {
-    size_t place = 0, name_at, name_length, value_at, value_length;
+    struct claxon_tag tag;
+    size_t at = 0;
     char error[128];
-    while (claxon_next_tag(comments, length, &place, &name_at, &name_length, &value_at, &value_length, error, sizeof error) ==
-           CLAXON_OK) {
-        fwrite(comments + name_at, 1, name_length, stdout);
+    while (claxon_next_tag(comments, length, &at, &tag, error, sizeof error) == CLAXON_OK) {
+        fwrite(comments + tag.name_at, 1, tag.name_length, stdout);
         putchar('=');
-        fwrite(comments + value_at, 1, value_length, stdout);
+        fwrite(comments + tag.value_at, 1, tag.value_length, stdout);
         putchar('\n');
     }
 }

@@ -1,6 +1,6 @@
 /* cases FOLDER < LINES: decodes each file that a line `NAME COUNT HASH RESULT` names, passed whole and piece by piece, and
  * compares the number of its samples, the FNV-1a hash of their little-endian bytes, and the result: `ok`, the error, or `IO`
- * where the bytes end too early. It also tests planar samples, buffers that are too short, and the calls for metadata blocks:
+ * where the bytes end too early. It also tests planar samples, buffers that are too small, and the calls for metadata blocks:
  * by the lines of FOLDER/blocks.txt whose bytes are a whole content, by headers worked out by hand, and on the files. */
 #include <ctype.h>
 #include <stdarg.h>
@@ -9,7 +9,7 @@
 
 #define UNTOUCHED 0x55
 
-static int32_t samples[CLAXON_MOST_SAMPLES + 1];
+static int32_t samples[CLAXON_MAX_SAMPLES + 1];
 
 static void add_samples(struct tally *tally, size_t count) {
     for (size_t i = 0; i < count; i++) {
@@ -54,7 +54,7 @@ static void expect_status(next_block *call, const struct frame *frame, const uin
     memset(samples, UNTOUCHED, sample_count(frame) * sizeof *samples);
     expect(call(bytes, length, &at, frame->info, samples, capacity, &block, error, sizeof error) == status, frame->name, what);
     expect(at == 0 && is_untouched(samples, sample_count(frame) * sizeof *samples), frame->name, what);
-    if (status == CLAXON_BUFFER_SHORT) {
+    if (status == CLAXON_BUFFER_TOO_SMALL) {
         expect(block.time == frame->block.time && block.channels == frame->block.channels && block.duration == frame->block.duration, frame->name, what);
         expect(is_untouched(error, sizeof error), frame->name, what);
     } else {
@@ -63,12 +63,12 @@ static void expect_status(next_block *call, const struct frame *frame, const uin
     }
 }
 
-/* The length of the header: of no fewer bytes does a short buffer tell the size of the block. */
+/* The length of the header: of no fewer bytes does a small buffer tell the size of the block. */
 static size_t test_truncated_header(next_block *call, const struct frame *frame) {
     size_t length = 0, at = 0;
     struct claxon_block block;
     char error[1];
-    while (length < frame->length && call(frame->bytes, length, &at, frame->info, samples, 0, &block, error, 0) != CLAXON_BUFFER_SHORT) {
+    while (length < frame->length && call(frame->bytes, length, &at, frame->info, samples, 0, &block, error, 0) != CLAXON_BUFFER_TOO_SMALL) {
         expect_status(call, frame, frame->bytes, length, 0, length < 2 ? CLAXON_NO_MORE : CLAXON_INPUT_ENDS, "a truncated header");
         length++;
     }
@@ -76,22 +76,22 @@ static size_t test_truncated_header(next_block *call, const struct frame *frame)
     return length;
 }
 
-/* A buffer is too short before the subframes are read: whole, truncated or damaged. */
-static void test_short_buffer(next_block *call, const struct frame *frame) {
+/* A buffer is too small before the subframes are read: whole, truncated or damaged. */
+static void test_small_buffer(next_block *call, const struct frame *frame) {
     size_t count = sample_count(frame);
     size_t header = test_truncated_header(call, frame);
     size_t lengths[] = {header, frame->length - 1, frame->length};
     uint8_t *damaged = malloc(frame->length);
     for (size_t i = 0; i < 3; i++) {
-        expect_status(call, frame, frame->bytes, lengths[i], 0, CLAXON_BUFFER_SHORT, "an empty buffer");
-        expect_status(call, frame, frame->bytes, lengths[i], count - 1, CLAXON_BUFFER_SHORT, "a short buffer");
+        expect_status(call, frame, frame->bytes, lengths[i], 0, CLAXON_BUFFER_TOO_SMALL, "an empty buffer");
+        expect_status(call, frame, frame->bytes, lengths[i], count - 1, CLAXON_BUFFER_TOO_SMALL, "a small buffer");
     }
     expect_status(call, frame, frame->bytes, frame->length - 1, count, CLAXON_INPUT_ENDS, "a truncated frame");
     expect(damaged != NULL, frame->name, "malloc");
     if (damaged) {
         memcpy(damaged, frame->bytes, frame->length);
         damaged[frame->length - 1] ^= 1; /* the CRC of the frame */
-        expect_status(call, frame, damaged, frame->length, count - 1, CLAXON_BUFFER_SHORT, "a short buffer for a damaged frame");
+        expect_status(call, frame, damaged, frame->length, count - 1, CLAXON_BUFFER_TOO_SMALL, "a small buffer for a damaged frame");
         expect_status(call, frame, damaged, frame->length, count, CLAXON_FORMAT_ERROR, "a damaged frame");
         damaged[header - 1] ^= 1; /* the CRC of its header */
         expect_status(call, frame, damaged, frame->length, 0, CLAXON_FORMAT_ERROR, "a damaged header");
@@ -118,9 +118,9 @@ static void test_planar(const struct frame *frame, const int32_t *interleaved) {
     expect(equal == channels * duration, frame->name, "the order of planar samples");
 }
 
-/* A buffer of exactly the size of the block, planar samples, and buffers that are too short. */
+/* A buffer of exactly the size of the block, planar samples, and buffers that are too small. */
 static void test_frame(const struct frame *frame) {
-    static int32_t interleaved[CLAXON_MOST_SAMPLES];
+    static int32_t interleaved[CLAXON_MAX_SAMPLES];
     struct claxon_block block;
     char error[1];
     size_t at = 0, count = sample_count(frame);
@@ -130,8 +130,8 @@ static void test_frame(const struct frame *frame) {
     expect(is_untouched(&samples[count], sizeof *samples), frame->name, "after the samples");
     memcpy(interleaved, samples, count * sizeof *samples);
     test_planar(frame, interleaved);
-    test_short_buffer(claxon_next_block, frame);
-    test_short_buffer(claxon_next_block_planar, frame);
+    test_small_buffer(claxon_next_block, frame);
+    test_small_buffer(claxon_next_block_planar, frame);
 }
 
 /* The text of an error in a small buffer: a prefix of it, a 0, and nothing after the buffer. */
@@ -166,7 +166,7 @@ static uint32_t decode(const char *name, const uint8_t *bytes, size_t length, si
     for (;;) {
         size_t before = at;
         /* The bytes before `start` aren't passed any more. */
-        status = claxon_next_block(bytes + start, end - start, &at, &info, samples, CLAXON_MOST_SAMPLES, &block, error, error_size);
+        status = claxon_next_block(bytes + start, end - start, &at, &info, samples, CLAXON_MAX_SAMPLES, &block, error, error_size);
         if (status == CLAXON_OK) {
             add_samples(tally, (size_t)block.channels * block.duration);
             if (piece == SIZE_MAX) {
@@ -270,19 +270,20 @@ static void add_streaminfo(struct text *text, const uint8_t *content, size_t len
 
 /* Adds the tags to the text, counts them, and returns the last status. */
 static uint32_t add_tags(struct text *text, const uint8_t *content, size_t length, size_t *tags, char *error, size_t error_size) {
-    size_t place = 0;
+    size_t at = 0;
     for (*tags = 0;; ++*tags) {
-        size_t before = place;
-        size_t name = UNTOUCHED, name_length = UNTOUCHED, value = UNTOUCHED, value_length = UNTOUCHED;
-        uint32_t status = claxon_next_tag(content, length, &place, &name, &name_length, &value, &value_length, error, error_size);
+        size_t before = at;
+        struct claxon_tag tag;
+        memset(&tag, UNTOUCHED, sizeof tag);
+        uint32_t status = claxon_next_tag(content, length, &at, &tag, error, error_size);
         if (status != CLAXON_OK) {
-            expect(place == before && name == UNTOUCHED && name_length == UNTOUCHED && value == UNTOUCHED && value_length == UNTOUCHED, text->chars, "numbers without a tag");
+            expect(at == before && is_untouched(&tag, sizeof tag), text->chars, "a position or a struct without a tag");
             return status;
         }
-        expect(place > before && value == name + name_length + 1 && value + value_length == place && place <= length && content[value - 1] == '=', text->chars, "where a tag is");
+        expect(at > before && tag.value_at == tag.name_at + tag.name_length + 1 && tag.value_at + tag.value_length == at && at <= length && content[tag.value_at - 1] == '=', text->chars, "where a tag is");
         add(text, *tags ? ", (" : "(");
-        add_quoted(text, content + name, place - name);
-        add(text, ", %zu)", name_length);
+        add_quoted(text, content + tag.name_at, at - tag.name_at);
+        add(text, ", %zu)", tag.name_length);
     }
 }
 
@@ -362,7 +363,7 @@ static int test_contents(const char *folder) {
     return tested;
 }
 
-/* Headers worked out by hand, at each place, and cut at each byte. */
+/* Headers worked out by hand, at each position, and cut at each byte. */
 static void test_headers(void) {
     const struct {
         uint8_t bytes[4];
@@ -391,11 +392,11 @@ static void test_headers(void) {
     }
 }
 
-/* A place past the end, and one that isn't where a tag begins. */
-static void test_places(void) {
+/* A position past the end, and one at which no tag begins. */
+static void test_positions(void) {
     const uint8_t content[] = {0, 0, 0, 0, 2, 0, 0, 0, 3, 0, 0, 0, 'A', '=', 'b', 2, 0, 0, 0, 'C', '='};
     const struct {
-        size_t place;
+        size_t at;
         uint32_t status;
         size_t after;
         const char *error;
@@ -403,10 +404,11 @@ static void test_places(void) {
         {4, CLAXON_FORMAT_ERROR, 4, "Vorbis comment does not contain '='"}, {12, CLAXON_FORMAT_ERROR, 12, "Vorbis comment too long for Vorbis comment block"},
         {18, CLAXON_FORMAT_ERROR, 18, "Vorbis comment block has excess data"}};
     for (size_t i = 0; i < sizeof rows / sizeof *rows; i++) {
-        size_t place = rows[i].place, name, name_length, value, value_length;
+        size_t at = rows[i].at;
+        struct claxon_tag tag;
         char error[128] = "";
-        uint32_t status = claxon_next_tag(content, sizeof content, &place, &name, &name_length, &value, &value_length, error, sizeof error);
-        expect(status == rows[i].status && place == rows[i].after && strcmp(error, rows[i].error) == 0, "a place", error);
+        uint32_t status = claxon_next_tag(content, sizeof content, &at, &tag, error, sizeof error);
+        expect(status == rows[i].status && at == rows[i].after && strcmp(error, rows[i].error) == 0, "a position", error);
     }
 }
 
@@ -446,7 +448,7 @@ int main(int argc, char **argv) {
     struct known known;
     int files = 0, contents = argc == 2 ? test_contents(argv[1]) : 0;
     test_headers();
-    test_places();
+    test_positions();
     expect(claxon_version() == CLAXON_VERSION, "claxon_version", "not that of claxon.h");
     expect(contents > 0, "blocks.txt", "no line");
     while (argc == 2 && next_known(&known)) {

@@ -197,10 +197,10 @@ static const struct kind kinds[] = {
 
 /* Reads each tag. Returns their number. */
 static size_t read_tags(const struct claxon_stream *stream) {
-    size_t place = 0, name_at, name_length, value_at, value_length, tags = 0;
+    struct claxon_tag tag;
+    size_t at = 0, tags = 0;
     char error[1];
-    while (claxon_next_tag(stream->comments, stream->comments_length, &place, &name_at, &name_length, &value_at, &value_length,
-                           error, sizeof error) == CLAXON_OK) {
+    while (claxon_next_tag(stream->comments, stream->comments_length, &at, &tag, error, sizeof error) == CLAXON_OK) {
         tags++;
     }
     return tags;

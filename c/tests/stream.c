@@ -132,7 +132,7 @@ static void test_known(const struct known *known, const uint8_t *bytes, size_t l
 
 /* Any bytes: the same as of the whole of them in memory. */
 
-static int32_t samples[CLAXON_MOST_SAMPLES];
+static int32_t samples[CLAXON_MAX_SAMPLES];
 
 struct whole {
     const uint8_t *bytes;
@@ -144,7 +144,7 @@ struct whole {
 };
 
 static uint32_t next_of_whole(struct whole *whole) {
-    return claxon_next_block(whole->bytes, whole->length, &whole->at, &whole->info, samples, CLAXON_MOST_SAMPLES, &whole->block,
+    return claxon_next_block(whole->bytes, whole->length, &whole->at, &whole->info, samples, CLAXON_MAX_SAMPLES, &whole->block,
                              whole->error, sizeof whole->error);
 }
 
@@ -279,7 +279,7 @@ struct made {
     size_t size;
 };
 
-/* Makes room for so many bytes at the end, and returns their place. */
+/* Makes room for so many bytes at the end, and returns where they are. */
 static uint8_t *put_space(struct made *made, size_t length) {
     if (made->size - made->length < length) {
         made->size = 2 * (made->size + length);
@@ -549,19 +549,19 @@ static void test_content(struct claxon_stream *stream, const uint8_t *bytes, con
 }
 
 static void test_tags(const uint8_t *comments, size_t length, size_t count) {
-    size_t place = 0, vendor_at, vendor_length, tags, name_at, name_length, value_at, value_length;
+    size_t at = 0, vendor_at, vendor_length, tags;
+    struct claxon_tag tag;
     char error[128];
     uint32_t status = claxon_vendor(comments, length, &vendor_at, &vendor_length, &tags, error, sizeof error);
     expect(status == CLAXON_OK && tags == count, "comments", "the number of tags");
     expect(vendor_length == (count ? 3u : 0u) && memcmp(comments + vendor_at, "abc", vendor_length) == 0, "comments",
            "the vendor");
     for (size_t i = 0; i < count; i++) {
-        status =
-            claxon_next_tag(comments, length, &place, &name_at, &name_length, &value_at, &value_length, error, sizeof error);
-        expect(status == CLAXON_OK && name_length == 1 && value_length == 1, "comments", "a tag");
-        expect(comments[name_at] == 'X' && comments[value_at] == 'Y', "comments", "the text of a tag");
+        status = claxon_next_tag(comments, length, &at, &tag, error, sizeof error);
+        expect(status == CLAXON_OK && tag.name_length == 1 && tag.value_length == 1, "comments", "a tag");
+        expect(comments[tag.name_at] == 'X' && comments[tag.value_at] == 'Y', "comments", "the text of a tag");
     }
-    status = claxon_next_tag(comments, length, &place, &name_at, &name_length, &value_at, &value_length, error, sizeof error);
+    status = claxon_next_tag(comments, length, &at, &tag, error, sizeof error);
     expect(status == CLAXON_NO_MORE, "comments", "the end of the tags");
 }
 
@@ -577,7 +577,7 @@ static void test_walk(const struct made *made, size_t every, size_t piece) {
     while (claxon_stream_next_metadata(&stream, &metadata) == CLAXON_OK) {
         claxon_next_metadata(made->bytes, made->length, &at, &expected);
         expect(i < BLOCKS && metadata.type == blocks[i].type && metadata.length == blocks[i].length, "a head", "a block");
-        expect(metadata.is_last == (i + 1 == BLOCKS) && metadata.content == expected.content, "a head", "the place of a block");
+        expect(metadata.is_last == (i + 1 == BLOCKS) && metadata.content == expected.content, "a head", "the position of a block");
         test_tags(stream.comments, stream.comments_length, i >= 3);
         expect(stream.info.first_frame == 0, "a head", "the first frame, before the head has ended");
         expect(stream.info.channels == 2 && stream.info.samples == 4 && stream.info.tags == (i >= 3), "a head",
@@ -806,8 +806,8 @@ static void test_endless_frame(void) {
     expect(claxon_stream_next_block(&stream) == CLAXON_FORMAT_ERROR, "an endless frame", "its status");
     expect(strcmp(stream.error, "frame longer than 16777215 bytes") == 0, "an endless frame", "its text");
     expect(stream.position == 4 + 38, "an endless frame", "its position");
-    expect(greatest_request == CLAXON_MOST_FRAME_BYTES, "an endless frame", "memory for it");
-    expect(source.at <= 4 + 38 + CLAXON_MOST_FRAME_BYTES, "an endless frame", "reading ahead");
+    expect(greatest_request == CLAXON_MAX_FRAME_BYTES, "an endless frame", "memory for it");
+    expect(source.at <= 4 + 38 + CLAXON_MAX_FRAME_BYTES, "an endless frame", "reading ahead");
     expect(claxon_stream_resync(&stream) == CLAXON_OK, "an endless frame", "resync");
     expect(claxon_stream_next_block(&stream) == CLAXON_OK && stream.samples[15] == 0x1234, "an endless frame",
            "the frame after it");

@@ -7,7 +7,7 @@
 #include "claxon.h"
 
 static uint8_t bytes[1 << 26];
-static int32_t samples[CLAXON_MOST_SAMPLES];
+static int32_t samples[CLAXON_MAX_SAMPLES];
 
 /* A page. */
 static uint8_t lengths[255];
@@ -16,9 +16,9 @@ static size_t most_segments, segments, content_length;
 static uint32_t page_number;
 static int is_continued;
 
-static void put_number(uint8_t *place, uint32_t number) {
+static void put_number(uint8_t *to, uint32_t number) {
     for (int i = 0; i < 4; i++) {
-        place[i] = (uint8_t)(number >> 8 * i);
+        to[i] = (uint8_t)(number >> 8 * i);
     }
 }
 
@@ -93,7 +93,7 @@ int main(int argc, char **argv) {
         return 2;
     }
     size_t start = put_head(length), at = start;
-    while (claxon_next_block(bytes, length, &at, &info, samples, CLAXON_MOST_SAMPLES, &block, error, sizeof error) ==
+    while (claxon_next_block(bytes, length, &at, &info, samples, CLAXON_MAX_SAMPLES, &block, error, sizeof error) ==
            CLAXON_OK) {
         put_packet(bytes + start, at - start);
         start = at;

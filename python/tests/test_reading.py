@@ -25,7 +25,7 @@ from tests import DATA, FRAME_OF_5, MARKER, STREAMINFO, TOP, FolderCase, Trickle
 from tests import crc, decode, frame_header, head, metadata_block, result_of, verbatim_frame
 
 SONG = TOP / "examples" / "tagged.flac"
-MOST_FRAME_BYTES = 16777215
+MAX_FRAME_BYTES = 16777215
 
 
 class Zeros:
@@ -261,7 +261,7 @@ class Windows(unittest.TestCase):
     def test_no_end_of_a_frame(self) -> None:
         """A number whose zeros have no end: refused where the largest frame would have ended."""
         content = head() + frame_header(1, 16) + b"\x10\x00"
-        half = MOST_FRAME_BYTES // 2
+        half = MAX_FRAME_BYTES // 2
         for zeros, kind in ((half, claxon.InputEnds), (1 << 40, claxon.FormatError)):
             file = Zeros(content, zeros)
             start = time.process_time()
@@ -269,7 +269,7 @@ class Windows(unittest.TestCase):
             with self.assertRaises(kind) as raised:
                 next(flac.blocks())
             self.assertEqual(raised.exception.position, len(head()))
-            self.assertLess(file.given, len(head()) + MOST_FRAME_BYTES + 1)
+            self.assertLess(file.given, len(head()) + MAX_FRAME_BYTES + 1)
             self.assertLess(time.process_time() - start, 10)
         self.assertEqual(str(raised.exception), "frame longer than 16777215 bytes")
 
@@ -545,7 +545,7 @@ class Library(FolderCase):
 
     def test_places(self) -> None:
         self.assertEqual(self.imported(CLAXON_LIBRARY=str(self.built)), str(self.built))
-        for place in ("c/out/libclaxon.so", "python/libclaxon.so.0", "python/libclaxon.so"):
+        for place in ("c/out/libclaxon.so", "python/libclaxon.so.0.2", "python/libclaxon.so"):
             path = self.folder.resolve() / place
             path.parent.mkdir(parents=True, exist_ok=True)
             shutil.copy(self.built, path)
@@ -572,7 +572,7 @@ class Library(FolderCase):
             self.skipTest("there is no C compiler to make a library of another version with")
         calls = [f"claxon_{name}" for name in CALLS]
         code = "".join(f"unsigned {call}(void) {{ return 0; }}\n" for call in calls)
-        for version, text in ((199, None), (99, "0.0.99"), (200, "0.2.0"), (10100, "1.1.0")):
+        for version, text in ((299, None), (199, "0.1.99"), (300, "0.3.0"), (10200, "1.2.0")):
             path = self.folder / f"{version}.so"
             source = path.with_suffix(".c")
             source.write_text(f"{code}unsigned claxon_version(void) {{ return {version}; }}\n")
@@ -581,4 +581,4 @@ class Library(FolderCase):
             if text is None:
                 self.assertEqual(found, str(path))
             else:
-                self.assertIn(f"{path} has version {text}, and claxon.py needs 0.1:", found)
+                self.assertIn(f"{path} has version {text}, and claxon.py needs 0.2:", found)

@@ -3,6 +3,7 @@
 //! Each pointer below is that of a slice or of a reference, with the slice's own length. So it isn't null, even for a
 //! length of 0; what it leads to is initialized and lives as long as the call; and what is written to is borrowed
 //! mutably, so that nothing else of the call overlaps it. The calls keep no pointer, and are safe for any bytes.
+use std::mem::size_of;
 use std::ops::Range;
 
 pub const OK: u32 = 0;
@@ -11,14 +12,14 @@ pub const UNSUPPORTED: u32 = 2;
 pub const INPUT_ENDS: u32 = 3;
 pub const OUT_OF_MEMORY: u32 = 4;
 pub const NO_MORE: u32 = 5;
-pub const BUFFER_SHORT: u32 = 6;
+pub const BUFFER_TOO_SMALL: u32 = 6;
 
 /// The version of the interface that is declared here.
 #[cfg(test)]
-pub const VERSION: u32 = 100;
+pub const VERSION: u32 = 200;
 
-/// The most bytes of a frame that a streaminfo can give.
-pub const MOST_FRAME_BYTES: usize = 16_777_215;
+/// The maximum number of bytes of a frame that a streaminfo can give.
+pub const MAX_FRAME_BYTES: usize = 16_777_215;
 
 /// `struct claxon_info`. All zeros mean that nothing is known of the stream.
 #[repr(C)]
@@ -37,6 +38,16 @@ pub struct Info {
     pub md5: [u8; 16],
 }
 
+/// `struct claxon_tag`.
+#[repr(C)]
+#[derive(Clone, Copy, Debug, Default)]
+struct Tag {
+    name_at: usize,
+    name_length: usize,
+    value_at: usize,
+    value_length: usize,
+}
+
 /// `struct claxon_block`.
 #[repr(C)]
 #[derive(Clone, Copy, Debug, Default)]
@@ -53,8 +64,8 @@ impl Block {
     }
 }
 
-// The layout that `claxon.h` asserts.
-const _: () = assert!(std::mem::size_of::<Info>() == 64 && std::mem::size_of::<Block>() == 16);
+// The sizes that `claxon.h` asserts.
+const _: () = assert!(size_of::<Info>() == 64 && size_of::<Tag>() == 32 && size_of::<Block>() == 16);
 
 /// A text that the library writes. Its longest one has 92 bytes.
 pub type Text = [u8; 112];
@@ -78,11 +89,8 @@ extern "C" {
     fn claxon_next_tag(
         content: *const u8,
         length: usize,
-        place: *mut usize,
-        name_at: *mut usize,
-        name_length: *mut usize,
-        value_at: *mut usize,
-        value_length: *mut usize,
+        at: *mut usize,
+        tag: *mut Tag,
         error: *mut u8,
         error_size: usize,
     ) -> u32;
@@ -136,7 +144,7 @@ pub fn streaminfo(content: &[u8]) -> Result<Info, Failure> {
     checked(status, info, text)
 }
 
-/// The place of the vendor string in the whole content of a block of Vorbis comments, and the number of tags.
+/// Where the vendor string is in the whole content of a block of Vorbis comments, and the number of tags.
 pub fn vendor(content: &[u8]) -> Result<(Range<usize>, usize), Failure> {
     let (mut at, mut length, mut tags, mut text) = (0, 0, 0, NO_TEXT);
     // SAFETY: as the module says.
@@ -146,24 +154,15 @@ pub fn vendor(content: &[u8]) -> Result<(Range<usize>, usize), Failure> {
     checked(status, (at..at + length, tags), text)
 }
 
-/// The places of the name and the value of the next tag in that content. `place` is 0 at first.
-pub fn next_tag(content: &[u8], place: &mut usize) -> Result<(Range<usize>, Range<usize>), Failure> {
-    let (mut name_at, mut name_length, mut value_at, mut value_length, mut text) = (0, 0, 0, 0, NO_TEXT);
+/// Where the name and the value of the next tag are in that content. `at` is 0 at first.
+pub fn next_tag(content: &[u8], at: &mut usize) -> Result<(Range<usize>, Range<usize>), Failure> {
+    let (mut tag, mut text) = (Tag::default(), NO_TEXT);
     // SAFETY: as the module says.
-    let status = unsafe {
-        claxon_next_tag(
-            content.as_ptr(),
-            content.len(),
-            place,
-            &mut name_at,
-            &mut name_length,
-            &mut value_at,
-            &mut value_length,
-            text.as_mut_ptr(),
-            text.len(),
-        )
-    };
-    checked(status, (name_at..name_at + name_length, value_at..value_at + value_length), text)
+    let status =
+        unsafe { claxon_next_tag(content.as_ptr(), content.len(), at, &mut tag, text.as_mut_ptr(), text.len()) };
+    let name = tag.name_at..tag.name_at + tag.name_length;
+    let value = tag.value_at..tag.value_at + tag.value_length;
+    checked(status, (name, value), text)
 }
 
 /// What stands where a frame may begin.
@@ -174,7 +173,7 @@ pub enum NextBlock {
         length: usize,
     },
     /// The header of a frame whose samples don't fit.
-    BufferShort(Block),
+    BufferTooSmall(Block),
     Failed(Failure),
 }
 
@@ -197,7 +196,7 @@ pub fn next_block(bytes: &[u8], info: &Info, samples: &mut [i32]) -> NextBlock {
     };
     match status {
         OK => NextBlock::Found { block, length },
-        BUFFER_SHORT => NextBlock::BufferShort(block),
+        BUFFER_TOO_SMALL => NextBlock::BufferTooSmall(block),
         _ => NextBlock::Failed(Failure { status, text }),
     }
 }
@@ -221,9 +220,9 @@ mod tests {
     #[test]
     fn the_header_has_the_numbers_that_are_declared_here() {
         assert_eq!(number_in_header("#define CLAXON_VERSION "), VERSION as usize);
-        assert_eq!(number_in_header("#define CLAXON_MOST_FRAME_BYTES "), MOST_FRAME_BYTES);
-        let names = ["OK", "FORMAT_ERROR", "UNSUPPORTED", "INPUT_ENDS", "OUT_OF_MEMORY", "NO_MORE", "BUFFER_SHORT"];
-        let numbers = [OK, FORMAT_ERROR, UNSUPPORTED, INPUT_ENDS, OUT_OF_MEMORY, NO_MORE, BUFFER_SHORT];
+        assert_eq!(number_in_header("#define CLAXON_MAX_FRAME_BYTES "), MAX_FRAME_BYTES);
+        let names = ["OK", "FORMAT_ERROR", "UNSUPPORTED", "INPUT_ENDS", "OUT_OF_MEMORY", "NO_MORE", "BUFFER_TOO_SMALL"];
+        let numbers = [OK, FORMAT_ERROR, UNSUPPORTED, INPUT_ENDS, OUT_OF_MEMORY, NO_MORE, BUFFER_TOO_SMALL];
         assert_eq!(names.map(|name| number_in_header(&format!(" CLAXON_{name} = ")) as u32), numbers);
     }
 }

@@ -1,6 +1,6 @@
 //! Frames, and the blocks of samples that they have.
 use crate::error::{end_of_input, format_error, unsupported, Error, Result};
-use crate::ffi::{self, Failure, Info, NextBlock, MOST_FRAME_BYTES};
+use crate::ffi::{self, Failure, Info, NextBlock, MAX_FRAME_BYTES};
 use crate::input::ReadBytes;
 use crate::metadata::StreamInfo;
 use crate::source::FRAME_CAPACITY;
@@ -195,7 +195,7 @@ impl<R: ReadBytes> FrameReader<R> {
     // The bytes that a frame may have.
     fn bytes(&self) -> &[u8] {
         let bytes = self.input.buffered();
-        &bytes[..bytes.len().min(MOST_FRAME_BYTES)]
+        &bytes[..bytes.len().min(MAX_FRAME_BYTES)]
     }
 
     // Whether the next two bytes are no sync code. The library refuses them too, by themselves. It isn't asked, so that
@@ -216,7 +216,7 @@ impl<R: ReadBytes> FrameReader<R> {
                     self.input.consume(length);
                     return Ok(block);
                 }
-                NextBlock::BufferShort(block) => buffer.resize(block.samples(), 0),
+                NextBlock::BufferTooSmall(block) => buffer.resize(block.samples(), 0),
                 NextBlock::Failed(failure) => return Err(failure),
             }
         }
@@ -227,7 +227,7 @@ impl<R: ReadBytes> FrameReader<R> {
     fn buffer_more(&mut self, tries: u32) -> Option<Stop> {
         let tried = self.input.buffered().len();
         loop {
-            if self.input.buffered().len() >= MOST_FRAME_BYTES {
+            if self.input.buffered().len() >= MAX_FRAME_BYTES {
                 return Some(Stop::TooLong);
             }
             match self.input.fill(FRAME_CAPACITY) {
@@ -321,7 +321,7 @@ mod tests {
                 let fewest = (0..bytes.len()).find(|length| !step_of_library(&bytes[..*length], samples).0);
                 (false, (Error::from(failure).to_string(), fewest.unwrap_or(bytes.len())))
             }
-            NextBlock::BufferShort(_) => panic!("a block of more samples than any block has"),
+            NextBlock::BufferTooSmall(_) => panic!("a block of more samples than any block has"),
         }
     }
 

@@ -332,9 +332,9 @@ fn read_vorbis_comment<R: ReadBytes>(input: &mut R, length: u32) -> Result<Vorbi
 // The library has judged the whole block, so that each of these tags is there.
 fn read_comments(content: &[u8], count: usize) -> Result<Vec<(String, usize)>> {
     let mut comments = Vec::with_capacity(count);
-    let mut place = 0;
+    let mut at = 0;
     while comments.len() < count {
-        let (name, value) = ffi::next_tag(content, &mut place)?;
+        let (name, value) = ffi::next_tag(content, &mut at)?;
         comments.push((text(&content[name.start..value.end])?, name.len()));
     }
     Ok(comments)

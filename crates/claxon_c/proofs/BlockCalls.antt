@@ -17,7 +17,7 @@ use Rattle.claxon_c.specs.declared.heads.ClaxonInfo.{ClaxonInfo}
 use Rattle.claxon_c.specs.declared.next_block.ClaxonBlock.{ClaxonBlock}
 use Rattle.claxon_c.specs.AtStart.{FrameAtStart, LargerBlockAtStart}
 use Rattle.claxon_c.specs.Info.{known_stream}
-use Rattle.claxon_c.specs.NextBlock.{BlockIsKept, CBlockElseIoError, CBlockFaultIsComplete, CBlockFaultIsSound, CBlockIsComplete, CBlockIsShown, CBlockIsSound, CBlockNoMoreIffEof, CBlockOutOfMemoryAfterHeader, CFrameHeaderFaultIsComplete, CHeaderIsShown, CSamplesAreGiven, CShortIffLarger, IsAtEnd, IsBlockStatus, IsDecoded, IsRefused, IsShort, SampleOrder, NextBlock, PositionIsKept, ShowsBlock, ShowsInfo, TextIsKept}
+use Rattle.claxon_c.specs.NextBlock.{BlockIsKept, CBlockElseIoError, CBlockFaultIsComplete, CBlockFaultIsSound, CBlockIsComplete, CBlockIsShown, CBlockIsSound, CBlockNoMoreIffEof, CBlockOutOfMemoryAfterHeader, CFrameHeaderFaultIsComplete, CHeaderIsShown, CSamplesAreGiven, CTooSmallIffLarger, IsAtEnd, IsBlockStatus, IsDecoded, IsRefused, IsTooSmall, SampleOrder, NextBlock, PositionIsKept, ShowsBlock, ShowsInfo, TextIsKept}
 use Rattle.claxon_c.specs.Status.{TextIsReported, ok}
 use Rattle.claxon_c.proofs.HeadersAtStart.{larger_says, says_larger}
 use Rattle.claxon_c.proofs.Reports.{each_fault_reported, io_error_reported, fault_reported, just_error, error_out_of_memory, out_of_memory_reported, text_reported}
@@ -29,7 +29,7 @@ pub record CBlockPromises (Put : SampleOrder) (info : ClaxonInfo) (bytes : List 
   pub header : CHeaderIsShown info bytes from status shown
   pub samples : CSamplesAreGiven info bytes from status Put old new
   pub complete : CBlockIsComplete info bytes from status
-  pub short : CShortIffLarger info bytes from status (length old)
+  pub too_small : CTooSmallIffLarger info bytes from status (length old)
   pub fault : CBlockFaultIsSound info bytes from status before after
   pub named : CBlockFaultIsComplete info bytes from status (length old) before after
   pub header_named : CFrameHeaderFaultIsComplete info bytes from status before after
@@ -106,7 +106,7 @@ module _ (Put : SampleOrder) (info : ClaxonInfo) (bytes : List ℕ) (from : ℕ)
         header = λ says x begins. absurd (no_frame says);
         samples = λ says b begins. absurd (no_frame says);
         complete = λ b begins. inr (elim (h.complete b begins) [ inl p ↦ absurd p | inr s ↦ out_of_memory_reported status before after rest Bad e reported s ]);
-        short = (λ p. absurd (no.1.1 p), λ larger. absurd (r.not_larger larger));
+        too_small = (λ p. absurd (no.1.1 p), λ larger. absurd (r.not_larger larger));
         fault = fault_reported status before after rest Bad e reported h.fault;
         named = λ fits f begins. each_fault_reported status before after rest Bad e reported {A = Option BlockValue} f (h.named f begins);
         header_named = λ f begins. elim (each_fault_reported status before after rest Bad e reported {A = Option BlockValue} f (h.named f (fault_of_frame stream rest f begins))) [
@@ -134,7 +134,7 @@ module _ (Put : SampleOrder) (info : ClaxonInfo) (bytes : List ℕ) (from : ℕ)
         header = λ says x begins. absurd (no_frame says);
         samples = λ says b begins. absurd (no_frame says);
         complete = λ b begins. absurd (elim (h.complete b begins) [ inl p ↦ p | inr s ↦ not_out_of_memory None s ]);
-        short = (λ p. absurd cc, λ larger. absurd (r.not_larger larger));
+        too_small = (λ p. absurd cc, λ larger. absurd (r.not_larger larger));
         fault = λ says. absurd (elim says [ inl p ↦ absurd cc | inr p ↦ absurd cc ]);
         named = λ fits f begins. absurd (elim (h.named f begins) [ inl p ↦ p | inr s ↦ not_out_of_memory None s ]);
         header_named = λ f begins. absurd (elim (h.named f (fault_of_frame stream rest f begins)) [ inl p ↦ p | inr s ↦ not_out_of_memory None s ]);
@@ -148,8 +148,8 @@ module _ (Put : SampleOrder) (info : ClaxonInfo) (bytes : List ℕ) (from : ℕ)
       }
 
   -- its samples don't fit
-  short : (status : ℕ) → IsShort info bytes from (length old) status shown → after ≡ before → CBlockPromises Put info bytes status from from old old block shown before after
-  short status r same =
+  too_small : (status : ℕ) → IsTooSmall info bytes from (length old) status shown → after ≡ before → CBlockPromises Put info bytes status from from old old block shown before after
+  too_small status r same =
       let is = r.status_is in
       let says = λ (b : Block) (begins : BeginsWith (Frame stream b) rest). says_block stream rest r.said b r.header begins in
       let larger = says_larger stream (length old) rest r.said r.header r.larger in
@@ -159,7 +159,7 @@ module _ (Put : SampleOrder) (info : ClaxonInfo) (bytes : List ℕ) (from : ℕ)
         header = λ q x begins. subst (λ (y : BlockInfo). ShowsInfo y shown) (same_said stream rest r.said x r.header begins) r.shows;
         samples = λ q b begins. (let k = says b begins in inr (is, rw (← k.channels, ← k.duration_is) r.larger));
         complete = λ b begins. inl (inr is);
-        short = (λ p. larger, λ p. is);
+        too_small = (λ p. larger, λ p. is);
         fault = λ q. absurd (elim q [ inl p ↦ absurd cc | inr p ↦ absurd cc ]);
         named = λ fits f begins. absurd (fits larger);
         header_named = λ f begins. absurd (no_header_fault stream rest r.said f r.header begins);
@@ -184,7 +184,7 @@ module _ (Put : SampleOrder) (info : ClaxonInfo) (bytes : List ℕ) (from : ℕ)
         header = λ q x begins. (let k = says_block stream rest x (block_view found) begins there in record { time = r.shows.time ∙ sym k.time; channels = r.shows.channels ∙ sym k.channels; duration_is = r.shows.duration_is ∙ sym k.duration_is });
         samples = λ q b begins. inl (rw (← same_block b begins) (refl, r.fits, put));
         complete = λ b begins. inl (inl refl);
-        short = (λ p. absurd cc, λ larger. absurd (r.not_larger larger));
+        too_small = (λ p. absurd cc, λ larger. absurd (r.not_larger larger));
         fault = λ q. absurd (elim q [ inl p ↦ absurd cc | inr p ↦ absurd cc ]);
         named = λ fits f begins. absurd (elim (h.named f begins) [ inl p ↦ p | inr q ↦ not_out_of_memory (Some found) q ]);
         header_named = λ f begins. absurd (elim (h.named f (fault_of_frame stream rest f begins)) [ inl p ↦ p | inr q ↦ not_out_of_memory (Some found) q ]);
@@ -202,7 +202,7 @@ module _ (Put : SampleOrder) (info : ClaxonInfo) (bytes : List ℕ) (from : ℕ)
 
   pub not_given : (status to : ℕ) → NextBlock info bytes from (length old) (Err status) to block shown before after → CBlockPromises Put info bytes status from to old old block shown before after
   not_given status to (same, why) = rw same (elim why [
-    | inl h ↦ short status h.0 h.1
+    | inl h ↦ too_small status h.0 h.1
     | inr (inl h) ↦ at_end status h.0 h.1 h.2
     | inr (inr h) ↦ refused status h.0 h.1
   ])

@@ -18,7 +18,7 @@ pub mod HeadersAtStart
 pub mod PlanarSamples
 -- What calls return for the next tag in the content of a Vorbis comment block.
 pub mod TagCalls
--- Texts of Vorbis comments in memory, one by one.
-pub mod TagTexts
+-- Entries of Vorbis comments in memory, one by one.
+pub mod TagEntries
 -- The reader of the next tag takes just what the definitions say.
 pub mod TagsRead

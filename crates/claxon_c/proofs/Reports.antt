@@ -7,7 +7,7 @@ use Rattle.claxon.specs.Promises.{HasNeither, IsOutOfMemory}
 use Rattle.claxon.specs.Errors.{Error}
 use Rattle.claxon.specs.Errors.TheVariants.{IoError, FormatError, Unsupported, OutOfMemory}
 use Rattle.claxon.specs.Prefix.{BeginsWith}
-use Rattle.claxon_c.specs.Status.{ErrorIsReported, FaultIsReported, IsFaultStatus, TextIsPut, TextIsReported, buffer_short, input_ends, no_more, ok, out_of_memory}
+use Rattle.claxon_c.specs.Status.{ErrorIsReported, FaultIsReported, IsFaultStatus, TextIsPut, TextIsReported, buffer_too_small, input_ends, no_more, ok, out_of_memory}
 
 module _ (status : ℕ) (old new : List ℕ) where
   pub reported_fault : (f : Fault) (e : Error) → IsFault f e → ErrorIsReported e status old new → FaultIsReported f status old new
@@ -41,7 +41,7 @@ module _ (status : ℕ) (old new : List ℕ) where
   no_fault s (inr a) (inr b) = absurd cc
 
   -- an error has no other status
-  pub just_error : (e : Error) → ErrorIsReported e status old new → (status ≢ ok) × ((status ≢ no_more) × (status ≢ buffer_short))
+  pub just_error : (e : Error) → ErrorIsReported e status old new → (status ≢ ok) × ((status ≢ no_more) × (status ≢ buffer_too_small))
   just_error (FormatError reason) t = (λ p. absurd cc, (λ p. absurd cc, λ p. absurd cc))
   just_error (Unsupported feature) t = (λ p. absurd cc, (λ p. absurd cc, λ p. absurd cc))
   just_error (IoError cause) t = (λ p. absurd cc, (λ p. absurd cc, λ p. absurd cc))

@@ -38,7 +38,7 @@ use Rattle.claxon_c.specs.Status.{
   ErrorIsReported,
   FaultIsReported,
   IsFaultStatus,
-  buffer_short,
+  buffer_too_small,
   input_ends,
   no_more,
   ok,
@@ -71,26 +71,26 @@ pub record ShowsInfo (info : BlockInfo) (shown : ClaxonBlock) : Type 0 where
   pub channels : shown.channels ≡ info.channels
   pub duration_is : shown.duration ≡ info.duration
 
--- The samples of the block are written where they fit, else the status is `buffer_short`.
+-- The samples of the block are written where they fit, else the status is `buffer_too_small`.
 abbrev pub GivesSamples : SampleOrder → Block → ℕ → List ℤ → List ℤ → Type 0
 GivesSamples Put b status old new =
     ((status ≡ ok) × (length b.channels * duration_of b.channels ≤ length old)
     × Put b.channels old new)
-    ⊎ ((status ≡ buffer_short) × (length old < length b.channels * duration_of b.channels))
+    ⊎ ((status ≡ buffer_too_small) × (length old < length b.channels * duration_of b.channels))
 
 -- the status says that there is a frame, or its header
 abbrev pub IsBlockStatus : ℕ → Type 0
-IsBlockStatus status = (status ≡ ok) ⊎ (status ≡ buffer_short)
+IsBlockStatus status = (status ≡ ok) ⊎ (status ≡ buffer_too_small)
 
 -- The position and the samples are changed by `ok` alone.
 abbrev pub PositionIsKept : ℕ → ℕ → ℕ → List ℤ → List ℤ → Type 0
 PositionIsKept status from to old new = status ≢ ok → (to ≡ from) × (new ≡ old)
 
--- The block is changed by `ok` and `buffer_short` alone.
+-- The block is changed by `ok` and `buffer_too_small` alone.
 abbrev pub BlockIsKept : ℕ → ClaxonBlock → ClaxonBlock → Type 0
 BlockIsKept status old new = (IsBlockStatus status → ⊥) → new ≡ old
 
--- The buffer of the text isn't changed by `ok`, `buffer_short` and `no_more`.
+-- The buffer of the text isn't changed by `ok`, `buffer_too_small` and `no_more`.
 abbrev pub TextIsKept : ℕ → List ℕ → List ℕ → Type 0
 TextIsKept status old new = IsBlockStatus status ⊎ (status ≡ no_more) → new ≡ old
 
@@ -121,7 +121,7 @@ module _ (info : ClaxonInfo) (bytes : List ℕ) (from status : ℕ) where
       IsBlockStatus status → (said : BlockInfo)
       → BeginsWith (HeaderOf (known_stream info) said) (drop from bytes) → ShowsInfo said shown
 
-  -- The samples are written where they fit, else the status is `buffer_short`.
+  -- The samples are written where they fit, else the status is `buffer_too_small`.
   abbrev pub CSamplesAreGiven : SampleOrder → List ℤ → List ℤ → Type 0
   CSamplesAreGiven Put old new =
       IsBlockStatus status → (b : Block)
@@ -136,16 +136,16 @@ module _ (info : ClaxonInfo) (bytes : List ℕ) (from status : ℕ) where
   abbrev pub CSamplesArePlanar : List ℤ → List ℤ → Type 0
   CSamplesArePlanar = CSamplesAreGiven PlanarArePut
 
-  -- Where a frame begins there the status is `ok` or `buffer_short`, or it is `out_of_memory`.
+  -- Where a frame begins there the status is `ok` or `buffer_too_small`, or it is `out_of_memory`.
   abbrev pub CBlockIsComplete : Type 0
   CBlockIsComplete =
       (b : Block) → BeginsWith (Frame (known_stream info) b) (drop from bytes)
       → IsBlockStatus status ⊎ (status ≡ out_of_memory)
 
-  -- The status is `buffer_short` exactly where a header stands whose block has more samples,
+  -- The status is `buffer_too_small` exactly where a header stands whose block has more samples,
   -- whatever follows the header.
-  abbrev pub CShortIffLarger : ℕ → Type 0
-  CShortIffLarger capacity = (status ≡ buffer_short) ↔ IsLarger info bytes from capacity
+  abbrev pub CTooSmallIffLarger : ℕ → Type 0
+  CTooSmallIffLarger capacity = (status ≡ buffer_too_small) ↔ IsLarger info bytes from capacity
 
   -- The status of a fault reports one that stands at the position; its text is written to `new`.
   abbrev pub CBlockFaultIsSound : List ℕ → List ℕ → Type 0
@@ -201,8 +201,8 @@ module _ (info : ClaxonInfo) (bytes : List ℕ) (from capacity : ℕ) where
     pub shows : ShowsBlock (block_view found) shown
 
   -- A header stands at the position whose block has more samples than the capacity.
-  pub record IsShort (status : ℕ) (shown : ClaxonBlock) : Type 0 where
-    pub status_is : status ≡ buffer_short
+  pub record IsTooSmall (status : ℕ) (shown : ClaxonBlock) : Type 0 where
+    pub status_is : status ≡ buffer_too_small
     pub said : BlockInfo
     pub header : BeginsWith (HeaderOf (known_stream info) said) (drop from bytes)
     pub larger : capacity < said.channels * said.duration
@@ -229,6 +229,6 @@ module _ (info : ClaxonInfo) (bytes : List ℕ) (from capacity : ℕ) where
       → Type 0
   NextBlock (Ok found) to old shown before after = IsDecoded found to shown × (after ≡ before)
   NextBlock (Err status) to old shown before after =
-      (to ≡ from) × ((IsShort status shown × (after ≡ before))
+      (to ≡ from) × ((IsTooSmall status shown × (after ≡ before))
       ⊎ ((IsAtEnd status × (shown ≡ old) × (after ≡ before))
       ⊎ (IsRefused status before after × (shown ≡ old))))

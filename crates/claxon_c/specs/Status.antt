@@ -37,8 +37,8 @@ out_of_memory = 4
 abbrev pub no_more : ℕ
 no_more = 5
 
-abbrev pub buffer_short : ℕ
-buffer_short = 6
+abbrev pub buffer_too_small : ℕ
+buffer_too_small = 6
 
 -- as much of a text as the capacity allows, and a zero byte
 abbrev pub zero_terminated : List ℕ → ℕ → List ℕ

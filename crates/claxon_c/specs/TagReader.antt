@@ -34,39 +34,40 @@ use Rattle.claxon.specs.read.Comments.{
 use Rattle.claxon.specs.read.Reading.{Done, Faulty, Reading, and_then, bind, test}
 use Rattle.claxon.specs.Error.{IsFault}
 use Rattle.claxon.specs.Errors.{Error}
+use Rattle.claxon_c.specs.declared.tags.FoundEntry.{FoundEntry}
 use Rattle.claxon_c.specs.declared.tags.Tag.{Tag}
-use Rattle.claxon_c.specs.declared.tags.Text.{Text}
 
--- the length of a text, where `left` bytes are left
-unfoldable pub text_length_at : ℕ → List ℕ → Reading ℕ ℕ
-text_length_at left = test (nat_lt left 4) ExcessData (entry_length_at (left - 4))
+-- the length before an entry, where `left` bytes are left
+unfoldable pub length_prefix_at : ℕ → List ℕ → Reading ℕ ℕ
+length_prefix_at left = test (nat_lt left 4) ExcessData (entry_length_at (left - 4))
 
--- a text, and the entry that it is unless it is empty
-unfoldable pub text_at : ℕ → List ℕ → Reading ℕ (List Entry)
-text_at left = and_then (text_length_at left) entry_or_empty_at
+-- an entry after its length, or none where it is empty
+unfoldable pub prefixed_entry_at : ℕ → List ℕ → Reading ℕ (List Entry)
+prefixed_entry_at left = and_then (length_prefix_at left) entry_or_empty_at
 
--- the first of these entries of a text, or what is read after it
-abbrev pub after_text : (List ℕ → Reading ℕ (Option Entry)) → List Entry → List ℕ
+-- this entry, or what is read after an empty one
+abbrev pub after_entry : (List ℕ → Reading ℕ (Option Entry)) → List Entry → List ℕ
     → Reading ℕ (Option Entry)
-after_text next [] rest = next rest
-after_text next (e ∷ others) rest = Done (Some e) rest
+after_entry next [] rest = next rest
+after_entry next (e ∷ others) rest = Done (Some e) rest
 
--- the first entry of at most `most` texts
+-- of at most `most` entries the first one that isn't empty
 unfoldable pub first_entry_at : ℕ → List ℕ → Reading ℕ (Option Entry)
 first_entry_at zero s = Done None s
 first_entry_at (suc most) s =
-    cond (nat_lt 0 (length s)) (bind (text_at (length s) s) (after_text (first_entry_at most)))
+    cond (nat_lt 0 (length s))
+    (bind (prefixed_entry_at (length s) s) (after_entry (first_entry_at most)))
     (Done None s)
 
 -- the length of the vendor string in a content of n bytes
 unfoldable pub front_length_at : ℕ → List ℕ → Reading ℕ ℕ
 front_length_at n = test (nat_lt n 8) CommentShort (vendor_length_at (n - 8))
 
--- what stands before the texts
+-- what stands before the entries
 unfoldable pub front_at : ℕ → List ℕ → Reading ℕ (List ℕ)
 front_at n = and_then (front_length_at n) (λ v. bytes_at (v + 4))
 
--- the next tag from a place on
+-- the next tag from a position on
 unfoldable pub tag_at : ℕ → List ℕ → Reading ℕ (Option Entry)
 tag_at zero content =
     bind (front_at (length content) content) (λ _. first_entry_at (length content))
@@ -78,14 +79,14 @@ tag_at (suc n) content = first_entry_at (length content) (drop (suc n) content)
 abbrev pub ReadsFault : {A : Type 0} → Reading ℕ A → Error → Type 0
 ReadsFault read e = (f : Fault) × (rest : List ℕ) × IsFault f e × (read ≡ Faulty f rest)
 
--- The end of the text at this place is returned.
-abbrev pub TextEndIsRead : List ℕ → ℕ → Result ℕ Error → Type 0
-TextEndIsRead content at result =
+-- The end of the entry whose length is at this position is returned.
+abbrev pub EntryEndIsRead : List ℕ → ℕ → Result ℕ Error → Type 0
+EntryEndIsRead content at result =
     MatchResult result
     (λ end. (at + 4 ≤ end) × (end ≤ length content)
-    × (text_length_at (length content - at) (drop at content)
+    × (length_prefix_at (length content - at) (drop at content)
     ≡ Done (end - at - 4) (drop (at + 4) content)))
-    (λ e. ReadsFault (text_length_at (length content - at) (drop at content)) e)
+    (λ e. ReadsFault (length_prefix_at (length content - at) (drop at content)) e)
 
 -- The length of the name of an entry is returned.
 abbrev pub NameIsRead : List ℕ → Result ℕ Error → Type 0
@@ -101,14 +102,15 @@ IsEntryOf None count entries = entries ≡ []
 IsEntryOf (Some n) count entries =
     (e : Entry) × (entries ≡ e ∷ []) × (length e.text ≡ count) × (e.place ≡ n)
 
--- The text at this place is returned.
-abbrev pub TextIsRead : List ℕ → ℕ → Result Text Error → Type 0
-TextIsRead content at result =
+-- The entry whose length is at this position is returned.
+abbrev pub EntryIsRead : List ℕ → ℕ → Result FoundEntry Error → Type 0
+EntryIsRead content at result =
     MatchResult result
-    (λ text. (at + 4 ≤ text.end) × (text.end ≤ length content) × ((entries : List Entry)
-    × IsEntryOf text.name_length (text.end - at - 4) entries
-    × (text_at (length content - at) (drop at content) ≡ Done entries (drop text.end content))))
-    (λ e. ReadsFault (text_at (length content - at) (drop at content)) e)
+    (λ found. (at + 4 ≤ found.end) × (found.end ≤ length content) × ((entries : List Entry)
+    × IsEntryOf found.name_length (found.end - at - 4) entries
+    × (prefixed_entry_at (length content - at) (drop at content)
+    ≡ Done entries (drop found.end content))))
+    (λ e. ReadsFault (prefixed_entry_at (length content - at) (drop at content)) e)
 
 -- The tag is that of the entry that was read.
 abbrev pub IsTagOf : List ℕ → Reading ℕ (Option Entry) → Option Tag → Type 0
@@ -123,10 +125,10 @@ abbrev pub TagIsRead : List ℕ → Reading ℕ (Option Entry) → Result (Optio
 TagIsRead content read result =
     MatchResult result (λ found. IsTagOf content read found) (λ e. ReadsFault read e)
 
--- The place of the first text is returned, where `read` reads what stands before it.
-abbrev pub FirstTextIsRead : ℕ → List ℕ → Result ℕ Error → Type 0
-FirstTextIsRead place content result =
+-- The position that entries are read from is returned.
+abbrev pub EntriesStartIsRead : ℕ → List ℕ → Result ℕ Error → Type 0
+EntriesStartIsRead at content result =
     MatchResult result
-    (λ first. (first ≤ length content)
-    × (tag_at place content ≡ first_entry_at (length content) (drop first content)))
-    (λ e. ReadsFault (tag_at place content) e)
+    (λ start. (start ≤ length content)
+    × (tag_at at content ≡ first_entry_at (length content) (drop start content)))
+    (λ e. ReadsFault (tag_at at content) e)

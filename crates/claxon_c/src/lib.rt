@@ -17,3 +17,4 @@ mod version;
 pub use heads::ClaxonInfo;
 pub use metadata::ClaxonMetadata;
 pub use next_block::ClaxonBlock;
+pub use tags::ClaxonTag;

@@ -15,7 +15,7 @@ ghost use Rattle.claxon_c.specs.NextBlock.{
   CHeaderIsShown,
   CSamplesAreInterleaved,
   CSamplesArePlanar,
-  CShortIffLarger,
+  CTooSmallIffLarger,
   NextBlock,
   PositionIsKept,
   ShowsBlock,
@@ -28,7 +28,7 @@ use crate::at_start::{block_at_start, larger_block_at_start};
 use crate::heads::ClaxonInfo;
 use crate::interleave::put_interleaved;
 use crate::planar::put_planar;
-use crate::status::{BUFFER_SHORT, NO_MORE, OK, report};
+use crate::status::{BUFFER_TOO_SMALL, NO_MORE, OK, report};
 use claxon::Block;
 use claxon::frame::BlockInfo;
 use std::alloc::Global;
@@ -84,7 +84,8 @@ pub extern "C" fn claxon_next_block(
     ensures is_sound { CBlockIsSound info.now bytes.now at.old result at.new }
     ensures is_complete { CBlockIsComplete info.now bytes.now at.old result }
     ensures no_more_iff_eof { CBlockNoMoreIffEof bytes.now at.old result }
-    ensures short_iff_larger { CShortIffLarger info.now bytes.now at.old result (length samples.old) }
+    ensures too_small_iff_larger { CTooSmallIffLarger info.now bytes.now at.old result
+        (length samples.old) }
     ensures is_shown { CBlockIsShown info.now bytes.now at.old result block.new }
     ensures header_is_shown { CHeaderIsShown info.now bytes.now at.old result block.new }
     ensures are_interleaved { CSamplesAreInterleaved info.now bytes.now at.old result
@@ -129,7 +130,8 @@ pub extern "C" fn claxon_next_block_planar(
     ensures is_sound { CBlockIsSound info.now bytes.now at.old result at.new }
     ensures is_complete { CBlockIsComplete info.now bytes.now at.old result }
     ensures no_more_iff_eof { CBlockNoMoreIffEof bytes.now at.old result }
-    ensures short_iff_larger { CShortIffLarger info.now bytes.now at.old result (length samples.old) }
+    ensures too_small_iff_larger { CTooSmallIffLarger info.now bytes.now at.old result
+        (length samples.old) }
     ensures is_shown { CBlockIsShown info.now bytes.now at.old result block.new }
     ensures header_is_shown { CHeaderIsShown info.now bytes.now at.old result block.new }
     ensures are_planar { CSamplesArePlanar info.now bytes.now at.old result
@@ -177,7 +179,7 @@ fn next_block(
     let known = info.known_stream();
     if let Some(larger) = larger_block_at_start(rest, known, capacity) {
         *block = ClaxonBlock::from_header(&larger);
-        return Err(BUFFER_SHORT);
+        return Err(BUFFER_TOO_SMALL);
     }
     let mut count = 0;
     match block_at_start(alloc, rest, known, &mut count) {

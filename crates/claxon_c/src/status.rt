@@ -15,7 +15,7 @@ pub(crate) const OUT_OF_MEMORY: u32 = 4;
 
 pub(crate) const NO_MORE: u32 = 5;
 
-pub(crate) const BUFFER_SHORT: u32 = 6;
+pub(crate) const BUFFER_TOO_SMALL: u32 = 6;
 
 // Writes as much of the text as fits, and a zero byte after it.
 pub(crate) fn put_text(text: &str, output: &mut [u8])

@@ -1,5 +1,5 @@
 //! Tags, one after another.
-ghost use Rattle.std.specs.Prelude.{◌≡◌, ◌≤◌, ◌<◌, ◌+◌, [], ◌∷◌, drop, length};
+ghost use Rattle.std.specs.Prelude.{◌≡◌, ◌≤◌, ◌+◌, drop, length};
 ghost use Rattle.claxon.specs.read.Bytes.{little_at};
 ghost use Rattle.claxon.specs.read.Reading.{Done};
 ghost use Rattle.claxon_c.specs.NextTag.{
@@ -13,11 +13,11 @@ ghost use Rattle.claxon_c.specs.NextTag.{
   TagIsKept,
 };
 ghost use Rattle.claxon_c.specs.TagReader.{
-  FirstTextIsRead,
+  EntriesStartIsRead,
+  EntryEndIsRead,
+  EntryIsRead,
   NameIsRead,
   TagIsRead,
-  TextEndIsRead,
-  TextIsRead,
   first_entry_at,
   tag_at,
 };
@@ -29,41 +29,50 @@ use claxon::metadata::comment_checks::{
 use claxon::{Error, Result};
 use std::str;
 
-// The number of bytes of the length of a text.
+// The number of bytes of the length of an entry.
 const LENGTH_BYTES: usize = 4;
 
-/// Finds the next tag in the content of a Vorbis comment block, and moves the place after it.
+/// Where the name and the value of a tag are in a content.
+#[repr(C)]
+#[derive(Clone, Copy, Debug)]
+pub struct ClaxonTag {
+    /// The position of the name.
+    pub name_at: usize,
+    /// The number of bytes of the name.
+    pub name_length: usize,
+    /// The position of the value.
+    pub value_at: usize,
+    /// The number of bytes of the value.
+    pub value_length: usize,
+}
+
+/// Finds the next tag in the content of a Vorbis comment block, and moves the position after it.
 #[unsafe(no_mangle)]
 pub extern "C" fn claxon_next_tag(
     content: &[u8],
-    place: &mut usize,
-    name_at: &mut usize,
-    name_length: &mut usize,
-    value_at: &mut usize,
-    value_length: &mut usize,
+    at: &mut usize,
+    tag: &mut ClaxonTag,
     error: &mut [u8],
 ) -> u32
-    ensures is_sound { CTagIsSound content.now place.old result place.new
-        name_at.new name_length.new value_at.new value_length.new }
-    ensures is_complete { CTagIsComplete content.now place.old result place.new
-        name_at.new name_length.new value_at.new value_length.new }
-    ensures are_in_order { CTagsAreInOrder content.now place.old result place.new
-        name_at.new name_length.new value_at.new value_length.new }
-    ensures no_more_iff_end { CTagNoMoreIffEnd content.now place.old result }
-    ensures status_is_known { CTagStatusIsKnown content.now place.old result }
-    ensures fault_is_sound { CTagFaultIsSound content.now place.old result error.old error.new }
-    ensures fault_is_complete { CTagFaultIsComplete content.now place.old result error.old error.new }
-    ensures tag_is_kept { TagIsKept result
-        (place.old ∷ name_at.old ∷ name_length.old ∷ value_at.old ∷ value_length.old ∷ [])
-        (place.new ∷ name_at.new ∷ name_length.new ∷ value_at.new ∷ value_length.new ∷ []) }
+    ensures is_sound { CTagIsSound content.now at.old result at.new tag.new }
+    ensures is_complete { CTagIsComplete content.now at.old result at.new tag.new }
+    ensures are_in_order { CTagsAreInOrder content.now at.old result at.new tag.new }
+    ensures no_more_iff_end { CTagNoMoreIffEnd content.now at.old result }
+    ensures status_is_known { CTagStatusIsKnown content.now at.old result }
+    ensures fault_is_sound { CTagFaultIsSound content.now at.old result error.old error.new }
+    ensures fault_is_complete { CTagFaultIsComplete content.now at.old result error.old error.new }
+    ensures tag_is_kept { TagIsKept result at.old at.new tag.old tag.new }
 {
-    match find_tag(content, *place) {
-        Ok(Some(tag)) => {
-            *name_at = tag.name_at;
-            *name_length = tag.name_length;
-            *value_at = tag.name_at + tag.name_length + 1;
-            *value_length = tag.end - *value_at;
-            *place = tag.end;
+    match find_tag(content, *at) {
+        Ok(Some(found)) => {
+            let value_at = found.name_at + found.name_length + 1;
+            *tag = ClaxonTag {
+                name_at: found.name_at,
+                name_length: found.name_length,
+                value_at,
+                value_length: found.end - value_at,
+            };
+            *at = found.end;
             OK
         }
         Ok(None) => NO_MORE,
@@ -79,27 +88,27 @@ struct Tag {
     end: usize,
 }
 
-// The end of a text in a content, and the length of its name, unless it is empty.
+// The end of an entry in a content, and the length of its name, unless it is empty.
 #[derive(Clone, Copy)]
-struct Text {
+struct FoundEntry {
     end: usize,
     name_length: Option<usize>,
 }
 
-// The next tag from the place on.
-fn find_tag(content: &[u8], place: usize) -> Result<Option<Tag>>
-    ensures { TagIsRead content.now (tag_at place content.now) result }
+// The next tag from the position on.
+fn find_tag(content: &[u8], at: usize) -> Result<Option<Tag>>
+    ensures { TagIsRead content.now (tag_at at content.now) result }
 {
-    let first = first_text(content, place)?;
-    first_tag(content, first)
+    let start = start_of_entries(content, at)?;
+    first_tag(content, start)
 }
 
-// The place of the first text: after the vendor string and the number of texts where the place is 0.
-fn first_text(content: &[u8], place: usize) -> Result<usize>
-    ensures { FirstTextIsRead place content.now result }
+// Where entries are read from: at 0 after the vendor string and the number of entries, else at the position itself.
+fn start_of_entries(content: &[u8], at: usize) -> Result<usize>
+    ensures { EntriesStartIsRead at content.now result }
 {
-    if place > 0 {
-        return Ok(content.len().min(place));
+    if at > 0 {
+        return Ok(content.len().min(at));
     }
     if content.len() < 2 * LENGTH_BYTES {
         return Err(Error::FormatError(BLOCK_TOO_SHORT));
@@ -111,51 +120,51 @@ fn first_text(content: &[u8], place: usize) -> Result<usize>
     Ok(vendor_length + 2 * LENGTH_BYTES)
 }
 
-// The first tag among the texts from this place on. Empty texts are skipped.
-fn first_tag(content: &[u8], first: usize) -> Result<Option<Tag>>
-    requires { first ≤ length content.now }
+// The first tag among the entries from this position on. Empty entries are skipped.
+fn first_tag(content: &[u8], start: usize) -> Result<Option<Tag>>
+    requires { start ≤ length content.now }
     ensures { TagIsRead content.now
-        (first_entry_at (length content.now) (drop first content.now)) result }
+        (first_entry_at (length content.now) (drop start content.now)) result }
 {
-    let mut at = first;
+    let mut at = start;
     while at < content.len() {
-        let text = text_at(content, at)?;
-        if let Some(name_length) = text.name_length {
+        let entry = entry_at(content, at)?;
+        if let Some(name_length) = entry.name_length {
             return Ok(Some(Tag {
                 name_at: at + LENGTH_BYTES,
                 name_length,
-                end: text.end,
+                end: entry.end,
             }));
         }
-        at = text.end;
+        at = entry.end;
     }
     Ok(None)
 }
 
-// The text whose length is at this place.
-fn text_at(content: &[u8], at: usize) -> Result<Text>
+// The entry whose length is at this position.
+fn entry_at(content: &[u8], at: usize) -> Result<FoundEntry>
     requires { at ≤ length content.now }
-    ensures { TextIsRead content.now at result }
+    ensures { EntryIsRead content.now at result }
 {
-    let end = end_of_text(content, at)?;
-    let text = &content[at + LENGTH_BYTES..end];
-    if text.is_empty() {
-        return Ok(Text {
+    let end = end_of_entry(content, at)?;
+    let entry = &content[at + LENGTH_BYTES..end];
+    if entry.is_empty() {
+        return Ok(FoundEntry {
             end,
             name_length: None,
         });
     }
-    let count = length_of_name(text)?;
-    Ok(Text {
+    let count = length_of_name(entry)?;
+    Ok(FoundEntry {
         end,
         name_length: Some(count),
     })
 }
 
-// The end of the text whose length is at this place.
-fn end_of_text(content: &[u8], at: usize) -> Result<usize>
+// The end of the entry whose length is at this position.
+fn end_of_entry(content: &[u8], at: usize) -> Result<usize>
     requires { at ≤ length content.now }
-    ensures { TextEndIsRead content.now at result }
+    ensures { EntryEndIsRead content.now at result }
 {
     let left = content.len() - at;
     if left < LENGTH_BYTES {
@@ -182,11 +191,11 @@ fn length_at(content: &[u8], at: usize) -> u32
 }
 
 // The length of the name of an entry, which has its first `=` after it.
-fn length_of_name(text: &[u8]) -> Result<usize>
-    ensures { NameIsRead text.now result }
+fn length_of_name(entry: &[u8]) -> Result<usize>
+    ensures { NameIsRead entry.now result }
 {
-    let count = separator_of(text)?;
-    let Ok(_) = str::from_utf8(text) else {
+    let count = separator_of(entry)?;
+    let Ok(_) = str::from_utf8(entry) else {
         return Err(Error::FormatError(NOT_UTF8));
     };
     Ok(count)

@@ -25,7 +25,7 @@ use std::io::{self, ErrorKind, Read, Write};
 use std::rt::Files;
 
 /// The version of the product.
-pub const VERSION: &str = "0.1.0";
+pub const VERSION: &str = "0.2.0";
 
 /// The name that stands for standard input or output.
 pub const STANDARD: &str = "-";

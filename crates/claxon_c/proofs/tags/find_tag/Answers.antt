@@ -7,14 +7,14 @@ use Rattle.claxon_c.specs.declared.tags.Tag.{Tag}
 use Rattle.claxon_c.specs.TagReader.{TagIsRead, tag_at}
 use Rattle.claxon_c.proofs.tags.find_tag.Goals as goal
 
-pub returns-in_err-first : goal.returns-in_err-first
-returns-in_err-first c =
+pub returns-in_err-start : goal.returns-in_err-start
+returns-in_err-start c =
     let content = c.args.content.now in
-    let e = c.in_err-first.field-0.0 in
+    let e = c.in_err-start.field-0.0 in
     let is : c.from_residual.result ≡ Err e = search rules in
-    subst (λ (r : Result (Option Tag) Error). TagIsRead content (tag_at c.args.place content) r) (sym is) c.in_err-first.ensures
+    subst (λ (r : Result (Option Tag) Error). TagIsRead content (tag_at c.args.at content) r) (sym is) c.in_err-start.ensures
 
 pub returns : goal.returns
 returns c =
     let content = c.args.content.now in
-    subst (λ (read : Reading ℕ (Option Entry)). TagIsRead content read c.first_tag.result) (sym c.in_ok-first.ensures.1) c.first_tag.ensures
+    subst (λ (read : Reading ℕ (Option Entry)). TagIsRead content read c.first_tag.result) (sym c.in_ok-start.ensures.1) c.first_tag.ensures

@@ -1,5 +1,5 @@
 use Rattle.std.proofs.Common.{arith}
-use Rattle.claxon_c.proofs.TagTexts.{length_read}
+use Rattle.claxon_c.proofs.TagEntries.{length_read}
 use Rattle.claxon_c.proofs.tags.length_at.Goals as goal
 
 pub returns : goal.returns

@@ -1,4 +1,4 @@
--- Texts of Vorbis comments in memory, one by one.
+-- Entries of Vorbis comments in memory, one by one.
 use Rattle.std.proofs.Common.{◌≡◌, ℕ, zero, suc, ◌+◌, ◌*◌, ◌-◌, ◌<◌, ◌≤◌, Bool, true, false, not, ltb, cond, List, [], ◌∷◌, ◌++◌, length, take, drop, get_or, refl, sym, ap, ◌∙◌, inl, inr, arith, append-nil, append_assoc, min}
 use Rattle.std.specs.Prelude.{IsUtf8}
 use Rattle.std.specs.Str.{is_utf8}
@@ -15,7 +15,7 @@ use Rattle.claxon.specs.Errors.{Error}
 use Rattle.claxon.specs.VorbisComment.{HasSeparatorFault}
 use Rattle.claxon.proofs.Comments.{Reads-entry}
 use Rattle.claxon.proofs.Metadata.{Reads-bytes}
-use Rattle.claxon_c.specs.TagReader.{ReadsFault, first_entry_at, front_at, front_length_at, tag_at, text_at, text_length_at}
+use Rattle.claxon_c.specs.TagReader.{ReadsFault, first_entry_at, front_at, front_length_at, length_prefix_at, prefixed_entry_at, tag_at}
 
 -- ---- a length
 
@@ -65,29 +65,29 @@ pub separator_fault : (text : List ℕ) (e : Error) → HasSeparatorFault text e
 separator_fault text e (inl (none, fault)) = (SeparatorMissing, [], fault, entry_read text false (has_name text) (is_utf8 text) none refl refl)
 separator_fault text e (inr (some, byte, fault)) = (NameByte, [], fault, entry_read text true false (is_utf8 text) some byte refl)
 
--- ---- the length of a text, and the text
+-- ---- the length of an entry, and the entry
 
-pub length_missing : (left : ℕ) (s : List ℕ) → left < 4 → text_length_at left s ≡ Faulty ExcessData s
-unfolding text_length_at
+pub length_missing : (left : ℕ) (s : List ℕ) → left < 4 → length_prefix_at left s ≡ Faulty ExcessData s
+unfolding length_prefix_at
 length_missing left s few = rw (lt-ltb left 4 few) refl
 
-pub length_tested : (left n : ℕ) (b : Bool) (s rest : List ℕ) → 4 ≤ left → little_at 4 s ≡ Done n rest → ltb (left - 4) n ≡ b → text_length_at left s ≡ cond b (Faulty EntryLong rest) (Done n rest)
-unfolding text_length_at entry_length_at
+pub length_tested : (left n : ℕ) (b : Bool) (s rest : List ℕ) → 4 ≤ left → little_at 4 s ≡ Done n rest → ltb (left - 4) n ≡ b → length_prefix_at left s ≡ cond b (Faulty EntryLong rest) (Done n rest)
+unfolding length_prefix_at entry_length_at
 length_tested left n b s rest enough read e = rw (le-ltb left 4 enough, read, e) refl
 
-pub length_stops : (left : ℕ) (f : Fault) (s rest : List ℕ) → text_length_at left s ≡ Faulty f rest → text_at left s ≡ Faulty f rest
-unfolding text_at
+pub length_stops : (left : ℕ) (f : Fault) (s rest : List ℕ) → length_prefix_at left s ≡ Faulty f rest → prefixed_entry_at left s ≡ Faulty f rest
+unfolding prefixed_entry_at
 length_stops left f s rest e = rw e refl
 
-after_length : (left n : ℕ) (s rest : List ℕ) → text_length_at left s ≡ Done n rest → text_at left s ≡ entry_or_empty_at n rest
-unfolding text_at
+after_length : (left n : ℕ) (s rest : List ℕ) → length_prefix_at left s ≡ Done n rest → prefixed_entry_at left s ≡ entry_or_empty_at n rest
+unfolding prefixed_entry_at
 after_length left n s rest e = rw e refl
 
 zero_read : (rest : List ℕ) → entry_or_empty_at 0 rest ≡ Done [] rest
 unfolding entry_or_empty_at
 zero_read rest = refl
 
-pub empty_read : (left n : ℕ) (s rest : List ℕ) → text_length_at left s ≡ Done n rest → n ≡ 0 → text_at left s ≡ Done [] rest
+pub empty_read : (left n : ℕ) (s rest : List ℕ) → length_prefix_at left s ≡ Done n rest → n ≡ 0 → prefixed_entry_at left s ≡ Done [] rest
 empty_read left n s rest e none = after_length left n s rest e ∙ ap (λ (m : ℕ). entry_or_empty_at m rest) none ∙ zero_read rest
 
 not_empty : (n : ℕ) (s : List ℕ) → 0 < n → entry_or_empty_at n s ≡ bind (entry_at n s) (λ e rest. Done (e ∷ []) rest)
@@ -96,31 +96,31 @@ not_empty zero s some = absurd (omega arith)
 not_empty (suc n) s some = rw (eqb-suc-zero n) refl
 
 -- `more` follows the text
-module _ (left n : ℕ) (s text more : List ℕ) (length-is : text_length_at left s ≡ Done n (text ++ more)) (len : length text ≡ n) (some : 0 < n) where
-  pub entry_found : (e : Entry) → entry_at (length text) text ≡ Done e [] → text_at left s ≡ Done (e ∷ []) more
+module _ (left n : ℕ) (s text more : List ℕ) (length-is : length_prefix_at left s ≡ Done n (text ++ more)) (len : length text ≡ n) (some : 0 < n) where
+  pub entry_found : (e : Entry) → entry_at (length text) text ≡ Done e [] → prefixed_entry_at left s ≡ Done (e ∷ []) more
   entry_found e read =
       let k = (Reads-entry n).takes text e [] (ap (λ (m : ℕ). entry_at m text) (sym len) ∙ read) in
       let again = (Reads-entry n).again e k.0 more k.1 in
       let same : text ≡ k.0 = k.2 ∙ append-nil k.0 in
       after_length left n s (text ++ more) length-is ∙ not_empty n (text ++ more) some ∙ ap (λ (r : Reading ℕ Entry). bind r (λ e rest. Done (e ∷ []) rest)) (ap (λ (t : List ℕ). entry_at n (t ++ more)) same ∙ again)
 
-  pub entry_faulty : (f : Fault) (rest : List ℕ) → entry_at (length text) text ≡ Faulty f rest → text_at left s ≡ Faulty f (rest ++ more)
+  pub entry_faulty : (f : Fault) (rest : List ℕ) → entry_at (length text) text ≡ Faulty f rest → prefixed_entry_at left s ≡ Faulty f (rest ++ more)
   entry_faulty f rest read =
       let k = (Reads-entry n).bad text f rest (ap (λ (m : ℕ). entry_at m text) (sym len) ∙ read) in
       let again = (Reads-entry n).bad_again f k.0 (rest ++ more) k.1 in
       let same : text ++ more ≡ k.0 ++ (rest ++ more) = ap (λ (t : List ℕ). t ++ more) k.2 ∙ append_assoc k.0 rest more in
       after_length left n s (text ++ more) length-is ∙ not_empty n (text ++ more) some ∙ ap (λ (r : Reading ℕ Entry). bind r (λ e rest. Done (e ∷ []) rest)) (ap (entry_at n) same ∙ again)
 
--- the text is between its length and its end
-pub text_split : (content : List ℕ) (from end : ℕ) → from ≤ end → drop from content ≡ take (end - from) (drop from content) ++ drop end content
-text_split content from end le =
+-- an entry is between its length and its end
+pub entry_split : (content : List ℕ) (from end : ℕ) → from ≤ end → drop from content ≡ take (end - from) (drop from content) ++ drop end content
+entry_split content from end le =
     let sum : from + (end - from) ≡ end = omega arith in
     sym (take-append-drop (end - from) (drop from content)) ∙ ap (λ (t : List ℕ). take (end - from) (drop from content) ++ t) (drop-drop (end - from) from content ∙ ap (λ (m : ℕ). drop m content) sum)
 
-pub text_length : (content : List ℕ) (from end : ℕ) → from ≤ end → end ≤ length content → length (take (end - from) (drop from content)) ≡ end - from
-text_length content from end le inside = omega (arith, length-take (end - from) (drop from content), length-drop from content)
+pub entry_length : (content : List ℕ) (from end : ℕ) → from ≤ end → end ≤ length content → length (take (end - from) (drop from content)) ≡ end - from
+entry_length content from end le inside = omega (arith, length-take (end - from) (drop from content), length-drop from content)
 
--- ---- what stands before the texts
+-- ---- what stands before the entries
 
 pub front_missing : (content : List ℕ) → length content < 8 → tag_at 0 content ≡ Faulty CommentShort content
 unfolding tag_at front_at front_length_at
@@ -137,10 +137,10 @@ vendor_passed content v enough read fits =
     let after : drop (v + 4) (drop 4 content) ≡ drop (v + 8) content = drop-drop (v + 4) 4 content ∙ ap (λ (n : ℕ). drop n content) (omega arith) in
     rw (le-ltb (length content) 8 enough, read, le-ltb (length content - 8) v fits, inside, after) refl
 
-pub place_passed : (place : ℕ) (content : List ℕ) → 0 < place → tag_at place content ≡ first_entry_at (length content) (drop (min (length content) place) content)
+pub start_passed : (at : ℕ) (content : List ℕ) → 0 < at → tag_at at content ≡ first_entry_at (length content) (drop (min (length content) at) content)
 unfolding tag_at
-place_passed zero content some = absurd (omega arith)
-place_passed (suc n) content some = ap (first_entry_at (length content)) (elim (cases_lt (length content) (suc n)) [
+start_passed zero content some = absurd (omega arith)
+start_passed (suc n) content some = ap (first_entry_at (length content)) (elim (cases_lt (length content) (suc n)) [
   | inl past ↦ (let e : min (length content) (suc n) ≡ length content = omega arith in no_bytes (drop (suc n) content) (omega (arith, length-drop (suc n) content)) ∙ sym (no_bytes (drop (min (length content) (suc n)) content) (omega (arith, length-drop (min (length content) (suc n)) content, e))))
   | inr inside ↦ (let e : suc n ≡ min (length content) (suc n) = omega arith in ap (λ (m : ℕ). drop m content) e)
 ])

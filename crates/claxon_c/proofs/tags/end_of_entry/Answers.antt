@@ -2,8 +2,8 @@ use Rattle.std.proofs.Common.{◌≡◌, ◌≤◌, ◌+◌, ◌-◌, arith, rul
 use Rattle.std.proofs.lemmas.Bool.{le-ltb, lt-ltb}
 use Rattle.claxon.specs.Fault.{EntryLong, ExcessData, fault_text}
 use Rattle.claxon.specs.read.Reading.{Done}
-use Rattle.claxon_c.proofs.TagTexts.{length_missing, length_tested}
-use Rattle.claxon_c.proofs.tags.end_of_text.Goals as goal
+use Rattle.claxon_c.proofs.TagEntries.{length_missing, length_tested}
+use Rattle.claxon_c.proofs.tags.end_of_entry.Goals as goal
 
 pub returns-then-left-lt-LENGTH_BYTES : goal.returns-then-left-lt-LENGTH_BYTES
 unfolding fault_text
