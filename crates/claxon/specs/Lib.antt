@@ -9,6 +9,7 @@ pub use Rattle.claxon_format.specs.read
 pub use Rattle.claxon_metadata.specs.declared.metadata.VorbisComment as VorbisComments
 pub use Rattle.claxon_format.specs.Fault
 pub use Rattle.claxon_format.specs.Frame
+pub use Rattle.claxon_format.specs.Header
 pub use Rattle.claxon_format.specs.Heads
 pub use Rattle.claxon_format.specs.Streams
 pub use Rattle.claxon_input.specs.Source
