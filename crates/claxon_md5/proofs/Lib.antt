@@ -1,0 +1,4 @@
+mod Vectors
+pub mod Steps
+pub mod Words
+pub mod Rounds

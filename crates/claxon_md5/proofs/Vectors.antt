@@ -1,0 +1,11 @@
+-- Vectors of the test suite of RFC 1321 (appendix A.5), computed from the definition.
+use Rattle.std.proofs.Common.{◌≡◌, [], ◌∷◌, codes, refl}
+use Rattle.claxon_md5.specs.Md5.{step, process, words_after, md5}
+
+md5_of_nothing : md5 [] ≡ 0xd4 ∷ 0x1d ∷ 0x8c ∷ 0xd9 ∷ 0x8f ∷ 0x00 ∷ 0xb2 ∷ 0x04 ∷ 0xe9 ∷ 0x80 ∷ 0x09 ∷ 0x98 ∷ 0xec ∷ 0xf8 ∷ 0x42 ∷ 0x7e ∷ []
+unfolding step process words_after md5
+md5_of_nothing = refl
+
+md5_of_abc : md5 (codes "abc") ≡ 0x90 ∷ 0x01 ∷ 0x50 ∷ 0x98 ∷ 0x3c ∷ 0xd2 ∷ 0x4f ∷ 0xb0 ∷ 0xd6 ∷ 0x96 ∷ 0x3f ∷ 0x7d ∷ 0x28 ∷ 0xe1 ∷ 0x7f ∷ 0x72 ∷ []
+unfolding step process words_after md5
+md5_of_abc = refl

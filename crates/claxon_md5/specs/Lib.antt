@@ -1,0 +1,3 @@
+pub mod Md5
+pub mod Sums
+pub mod HasHashed
