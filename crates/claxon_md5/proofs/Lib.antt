@@ -2,3 +2,5 @@ mod Vectors
 pub mod Steps
 pub mod Words
 pub mod Rounds
+pub mod Blocks
+pub mod Hashing
