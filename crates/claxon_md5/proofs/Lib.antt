@@ -1,4 +1,5 @@
 mod Vectors
+pub mod Padding
 pub mod Steps
 pub mod Words
 pub mod Rounds
