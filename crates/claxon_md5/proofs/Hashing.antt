@@ -1,9 +1,9 @@
 -- A hasher that is given more bytes.
-use Rattle.std.proofs.Common.{◌≡◌, ℕ, ◌+◌, ◌-◌, ◌*◌, ◌/◌, ◌%◌, ◌^◌, ◌<◌, ◌≤◌, List, [], ◌∷◌, ◌++◌, length, take, drop, fold, refl, sym, ap, ap₂, ◌∙◌, arith, append_assoc}
+use Rattle.std.proofs.Common.{◌≡◌, ℕ, ◌+◌, ◌%◌, ◌^◌, ◌<◌, ◌≤◌, List, [], ◌++◌, length, take, drop, fold, refl, sym, ap, ap₂, ◌∙◌, arith, append_assoc}
 use Rattle.std.proofs.lemmas.List.{append-nil, length-append, length-drop, length-take-le, take_at, drop_all}
 use Rattle.std.proofs.lemmas.Slice.{take-put_mid}
 use borrow.Rule.Slice.PartMut.{put_mid, post_of}
-use Rattle.claxon_md5.specs.Md5.{process, blocks, bytes_left, words_after}
+use Rattle.claxon_md5.specs.Md5.{process, blocks, bytes_left}
 use Rattle.claxon_md5.specs.HasHashed.{HasHashed}
 use Rattle.claxon_md5.specs.declared.Md5.{Md5}
 use Rattle.claxon_md5.proofs.Blocks.{blocks_of_few, bytes_left_of_few, blocks-append_block, bytes_left-append_block, bytes_left-append, words_after-append, length-bytes_left}

@@ -1,5 +1,5 @@
 -- The padding of a message.
-use Rattle.std.proofs.Common.{◌≡◌, ℕ, ◌+◌, ◌-◌, ◌*◌, ◌%◌, ◌^◌, ◌<◌, ◌≤◌, List, [], ◌∷◌, ◌++◌, length, take, replicate, refl, sym, ap, ap₂, ◌∙◌, arith, append_assoc, add-one}
+use Rattle.std.proofs.Common.{◌≡◌, ℕ, ◌+◌, ◌*◌, ◌%◌, ◌^◌, ◌<◌, ◌≤◌, List, ◌∷◌, ◌++◌, length, take, replicate, refl, ap, ap₂, ◌∙◌, arith, append_assoc, add-one}
 use Rattle.std.proofs.lemmas.List.{take-replicate, length-append, length-replicate}
 use Rattle.std.specs.Int.{w64, to_le_bytes}
 use Rattle.claxon_md5.specs.Md5.{zero_count, padding, padded}

@@ -1,5 +1,5 @@
 -- The sums of a step.
-use Rattle.std.proofs.Common.{◌≡◌, ℕ, ◌+◌, ◌-◌, ◌%◌, ◌^◌, ◌<◌, ◌≤◌, bit_and, bit_or, refl, sym, ap, ◌∙◌, arith}
+use Rattle.std.proofs.Common.{◌≡◌, ℕ, ◌+◌, ◌-◌, ◌^◌, ◌<◌, bit_and, refl, sym, ap, ◌∙◌, arith}
 use Rattle.std.proofs.lemmas.Nat.{or_disjoint, and_comm, and_assoc}
 use Rattle.std.proofs.lemmas.Grind.{and-not_self}
 use Rattle.std.specs.Int.{w32, bit_not}

@@ -1,5 +1,5 @@
 -- The words of a block, and their sums with the constants of a round.
-use Rattle.std.proofs.Common.{◌≡◌, ◌≢◌, ℕ, zero, suc, ◌+◌, ◌/◌, ◌<◌, List, length, drop, get_or, set, slice_index, map, below_more, refl, sym, ap, ◌∙◌, arith}
+use Rattle.std.proofs.Common.{◌≡◌, ◌≢◌, ℕ, zero, suc, ◌+◌, ◌/◌, ◌<◌, List, length, drop, get_or, set, slice_index, below_more, refl, sym, ap, ◌∙◌, arith}
 use Rattle.std.proofs.lemmas.List.{get_or-map, get_or-set_same, get_or-set_other}
 use Rattle.std.specs.Int.{w32, from_le_bytes}
 use Rattle.std.specs.Simd.{first_chunks}

@@ -1,4 +1,4 @@
-use Rattle.std.proofs.Common.{◌≡◌, ◌∙◌, List, ℕ, [], get_or, fold, ap, refl}
+use Rattle.std.proofs.Common.{◌∙◌, [], get_or, fold, ap, refl}
 use Rattle.claxon_md5.specs.declared.block.TheConstants.{SINES}
 use Rattle.claxon_md5.specs.Md5.{words_of, auxiliary_f, auxiliary_g, auxiliary_h, auxiliary_i, operation, round_1, round_2, round_3, round_4, added, process}
 use Rattle.claxon_md5.proofs.Rounds.{over_sums}

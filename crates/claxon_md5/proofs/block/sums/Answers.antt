@@ -1,4 +1,4 @@
-use Rattle.std.proofs.Common.{◌+◌, ◌≡◌, ◌∙◌, ◌/◌, ap, slice_index, length, sym, arith}
+use Rattle.std.proofs.Common.{◌∙◌, ap, slice_index, sym, arith}
 use Rattle.std.proofs.lemmas.List.{length-set}
 use Rattle.claxon_md5.specs.Md5.{add, words_of}
 use Rattle.claxon_md5.proofs.Words.{word_at, sum_put}
