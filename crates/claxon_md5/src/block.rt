@@ -1,8 +1,13 @@
 //! The words after a block of 64 bytes (RFC 1321, section 3.4).
 ghost use Rattle.std.specs.Prelude.{◌≡◌, fold};
 ghost use Rattle.std.specs.Int.{w32, rotate_left};
-ghost use Rattle.claxon_md5.specs.Md5.{add, words_of, auxiliary_f, auxiliary_g, auxiliary_h, auxiliary_i, step, round_1, round_2, round_3, round_4, process};
+ghost use Rattle.claxon_md5.specs.Md5.{add, words_of_bytes, process, step};
+ghost use Rattle.claxon_md5.specs.Md5.{auxiliary_f, auxiliary_g, auxiliary_h, auxiliary_i};
+ghost use Rattle.claxon_md5.specs.Md5.{round_1, round_2, round_3, round_4};
 ghost use Rattle.claxon_md5.specs.Sums.{AreSums, operation_over};
+
+/// The number of bytes of a block.
+pub const BLOCK_LEN: usize = 64;
 
 // The constants of each round, in the order of the words to which they are added.
 #[rattlefmt::skip]
@@ -34,7 +39,7 @@ const SINES: [[u32; 16]; 4] = [
 ];
 
 /// The words after a block.
-pub fn process(state: [u32; 4], block: &[u8; 64]) -> [u32; 4]
+pub fn process(state: [u32; 4], block: &[u8; BLOCK_LEN]) -> [u32; 4]
     ensures { result ≡ process state block.now }
 {
     let sines = &SINES;
@@ -50,11 +55,11 @@ pub fn process(state: [u32; 4], block: &[u8; 64]) -> [u32; 4]
     ]
 }
 
-// The words of a block, with a constant added to each. Apart from the steps this is done in vectors, and early: in a step the
-// compiler would add the constant after what the step waits for.
+// The words of a block, with a constant added to each. Here this is done in vectors, and before it
+// is waited for. In the steps the compiler would add the constant last.
 #[inline(never)]
-fn sums(block: &[u8; 64], sines: &[u32; 16]) -> [u32; 16]
-    ensures { AreSums (words_of block.now) sines.now result }
+fn sums(block: &[u8; BLOCK_LEN], sines: &[u32; 16]) -> [u32; 16]
+    ensures { AreSums (words_of_bytes block.now) sines.now result }
 {
     let (words, _) = block.as_chunks::<4>();
     let mut sums = [0; 16];
@@ -76,7 +81,9 @@ fn step_f(abcd: [u32; 4], sum: u32, shift: u32) -> [u32; 4]
     [d, rotated_sum(a, b, f, sum, shift), b, c]
 }
 
-// The two parts of G have no bit in common. The one that doesn't depend on the step before is added to the sum.
+// The two parts of G have no bit in common, so both can be added. The one that doesn't depend on
+// the step before is added to the sum.
+#[tactic(auto, using(crate::proofs::Steps::g_added), unfolding(crate::specs::Md5::step))]
 #[inline(always)]
 fn step_g(abcd: [u32; 4], sum: u32, shift: u32) -> [u32; 4]
     ensures { result ≡ step auxiliary_g abcd sum shift }

@@ -1,29 +1,30 @@
 //! The MD5 message-digest algorithm (RFC 1321).
 //!
-//! A message is given in pieces of any length. Whole blocks of 64 bytes are taken from a piece where they are: only the bytes
-//! after the last whole block are copied. MD5 protects against nobody who wants two messages with one digest.
+//! A message is given in pieces of any length. Its whole blocks of 64 bytes are hashed where they
+//! are, and only the bytes before and after them are copied. A digest shows that data was damaged.
+//! It doesn't show who made the data: other messages with the same digest can be made.
 #![tactic(auto)]
 
-ghost use Rattle.std.specs.Prelude.{◌≡◌, ℕ, ◌<◌, List, [], ◌++◌, fold, take};
-ghost use Rattle.claxon_md5.specs.Md5.{bytes_of, process, zero_count};
+ghost use Rattle.std.specs.Prelude.{◌≡◌, ℕ, List, [], ◌++◌, fold};
+ghost use Rattle.claxon_md5.specs.Md5.{bytes_of_words, length_bytes, process, zero_count};
+
+use block::BLOCK_LEN;
 
 mod block;
 #[cfg(test)]
 mod tests;
 
-const BLOCK_LEN: usize = 64;
-
 // The words before the first block (RFC 1321, section 3.3).
 const INITIAL_WORDS: [u32; 4] = [0x6745_2301, 0xefcd_ab89, 0x98ba_dcfe, 0x1032_5476];
 
-// What is appended to a message before its length is a prefix of this.
-const ONE_AND_ZEROS: [u8; 64] = [
+// A prefix of this is appended to a message, and then its length.
+const ONE_AND_ZEROS: [u8; BLOCK_LEN] = [
     0x80, 0, 0, 0, 0, 0, 0, 0, 0, 0, 0, 0, 0, 0, 0, 0, 0, 0, 0, 0, 0, 0, 0, 0, 0, 0, 0, 0, 0, 0, 0,
     0, 0, 0, 0, 0, 0, 0, 0, 0, 0, 0, 0, 0, 0, 0, 0, 0, 0, 0, 0, 0, 0, 0, 0, 0, 0, 0, 0, 0, 0, 0, 0,
     0,
 ];
 
-/// A hasher, which has hashed the pieces that it was given, one behind another.
+/// A hasher. It has hashed the pieces that it was given, one behind another.
 #[derive(Drop)]
 pub struct Md5 {
     // The words after the whole blocks.
@@ -31,7 +32,7 @@ pub struct Md5 {
     // The number of bytes, modulo 2^64.
     length: u64,
     // It begins with the bytes after the whole blocks.
-    buffer: [u8; 64],
+    buffer: [u8; BLOCK_LEN],
 }
 
 impl Md5 {
@@ -45,7 +46,7 @@ impl Md5 {
         Md5 {
             state: INITIAL_WORDS,
             length: 0,
-            buffer: [0; 64],
+            buffer: [0; BLOCK_LEN],
         }
     }
 
@@ -53,9 +54,10 @@ impl Md5 {
     pub fn update(&mut self, bytes: &[u8])
         ensures { (xs : List ℕ) → HasHashed self.old xs → HasHashed self.new (xs ++ bytes.now) }
     {
-        let left = (self.length % 64) as usize;
+        let left = (self.length % BLOCK_LEN as u64) as usize;
         self.length = self.length.wrapping_add(bytes.len() as u64);
         let mut rest = bytes;
+        // Bytes that are left of earlier pieces become a block first.
         if 0 < left {
             let missing = BLOCK_LEN - left;
             if bytes.len() < missing {
@@ -68,7 +70,7 @@ impl Md5 {
             self.state = state;
             rest = back;
         }
-        let (blocks, rest) = rest.as_chunks::<64>();
+        let (blocks, rest) = rest.as_chunks::<BLOCK_LEN>();
         let state = process_all(self.state, blocks);
         self.state = state;
         self.buffer[..rest.len()].copy_from_slice(rest);
@@ -79,24 +81,32 @@ impl Md5 {
         ensures { (xs : List ℕ) → HasHashed self xs → result ≡ md5 xs }
     {
         let mut hasher = self;
-        let zeros = zero_count(hasher.length);
-        let bits = hasher.length.wrapping_mul(8);
+        let length = hasher.length;
+        let zeros = zero_count(length);
         hasher.update(&ONE_AND_ZEROS[..zeros + 1]);
-        hasher.update(&bits.to_le_bytes());
-        bytes_of(hasher.state)
+        hasher.update(&length_bytes(length));
+        bytes_of_words(hasher.state)
     }
 }
 
-// How many bytes of zeros follow the byte 0x80 after a message of this length.
+// How many bytes of zeros are between the byte 0x80 and the length. These take 9 bytes, so 55 of a
+// block or 119 of two blocks remain for the bytes after the whole blocks and for zeros.
 fn zero_count(length: u64) -> usize
     ensures { result ≡ zero_count length }
 {
-    let left = (length % 64) as usize;
+    let left = (length % BLOCK_LEN as u64) as usize;
     if left <= 55 { 55 - left } else { 119 - left }
 }
 
+// The number of bits, modulo 2^64, in 8 bytes.
+fn length_bytes(length: u64) -> [u8; 8]
+    ensures { result ≡ length_bytes length }
+{
+    length.wrapping_mul(8).to_le_bytes()
+}
+
 // The words after these blocks.
-fn process_all(state: [u32; 4], blocks: &[[u8; 64]]) -> [u32; 4]
+fn process_all(state: [u32; 4], blocks: &[[u8; BLOCK_LEN]]) -> [u32; 4]
     ensures { result ≡ fold process state blocks.now }
 {
     let mut state = state;
@@ -108,8 +118,8 @@ fn process_all(state: [u32; 4], blocks: &[[u8; 64]]) -> [u32; 4]
 }
 
 // The bytes of these words, the low-order byte first.
-fn bytes_of(words: [u32; 4]) -> [u8; 16]
-    ensures { result ≡ bytes_of words }
+fn bytes_of_words(words: [u32; 4]) -> [u8; 16]
+    ensures { result ≡ bytes_of_words words }
 {
     let mut bytes = [0; 16];
     for i in 0..4 {

@@ -1,4 +1,5 @@
-//! Digests of other programs: the test suite of RFC 1321, and messages whose lengths are around the ends of blocks.
+//! Digests of other programs: the test suite of RFC 1321, and messages that end around the end of a
+//! block.
 ghost use Rattle.std.specs.Prelude.{◌<◌};
 
 use crate::Md5;
@@ -36,7 +37,8 @@ fn test_suite(rt: HostRuntime) {
     for (text, want) in rows {
         for piece_len in [1, 7, 64, 1000] {
             assert!(rt; 0 < piece_len);
-            assert!(rt; digest_of_pieces(text.as_bytes(), piece_len) == want, "{text} by {piece_len}");
+            let digest = digest_of_pieces(text.as_bytes(), piece_len);
+            assert!(rt; digest == want, "{text} by {piece_len}");
         }
     }
 }
@@ -62,10 +64,8 @@ fn ends_of_blocks(rt: HostRuntime) {
     for (len, want) in rows {
         for piece_len in [1, 7, 64, 1000] {
             assert!(rt; len <= 128 && 0 < piece_len);
-            assert!(rt;
-                digest_of_pieces(&bytes[..len], piece_len) == want,
-                "{len} by {piece_len}"
-            );
+            let digest = digest_of_pieces(&bytes[..len], piece_len);
+            assert!(rt; digest == want, "{len} by {piece_len}");
         }
     }
 }

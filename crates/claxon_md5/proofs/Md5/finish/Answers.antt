@@ -1,11 +1,14 @@
-use Rattle.std.proofs.Common.{◌∙◌, ap, refl}
-use Rattle.claxon_md5.specs.Md5.{bytes_of, words_after, md5}
+use Rattle.std.proofs.Common.{◌∙◌, ap, refl, arith}
+use Rattle.claxon_md5.specs.Md5.{zero_count, length_bytes, bytes_of_words, words_after, md5}
 use Rattle.claxon_md5.proofs.Padding.{appended}
 use Rattle.claxon_md5.proofs.Md5.finish.Goals as goal
 
 pub returns : goal.returns
 unfolding md5
 returns c = λ xs h.
+    let zeros = c.zero_count-zeros.result in
     let hashed = c.update-2.ensures _ (c.update.ensures xs h) in
-    let all = appended xs _ _ c.args.self.length c.zero_count-zeros.result _ h.count c.zero_count-zeros.ensures refl refl c.to_le_bytes.ensures in
-    c.bytes_of.ensures ∙ ap bytes_of (hashed.words ∙ ap words_after all)
+    let zeros_are = c.zero_count-zeros.ensures ∙ ap zero_count (omega arith) in
+    let last_is = c.length_bytes.ensures ∙ ap length_bytes (omega arith) in
+    let all = appended xs _ _ c.args.self.length zeros h.count zeros_are refl last_is in
+    c.bytes_of_words.ensures ∙ ap bytes_of_words (hashed.words ∙ ap words_after all)
