@@ -259,8 +259,8 @@ const ROWS: [Row; 8] = [
     Row { words: &["in", "out"], name: "out", status: 1, text: "the output exists; -f replaces it", left: b"old" },
     Row { words: &["in", "-f", "out"], name: "out", status: 0, text: "", left: WHOLE },
     Row { words: &["in", "none/out"], name: "none/out", status: 1, text: "No such file or directory", left: WHOLE },
-    Row { words: &["cut", "-f", "--", "out"], name: "cut", status: 1, text: "the file is cut: it ends inside a frame", left: FIRST_BLOCK },
-    Row { words: &["other", "out", "-f"], name: "other", status: 1, text: "the head tells 1 sample, 5 were found", left: WHOLE },
+    Row { words: &["cut", "-f", "--", "out"], name: "cut", status: 1, text: "truncated: the file ends inside a frame", left: FIRST_BLOCK },
+    Row { words: &["other", "out", "-f"], name: "other", status: 1, text: "5 samples were found, but the streaminfo says 1", left: WHOLE },
 ];
 
 // The first bytes.
@@ -336,7 +336,7 @@ fn pipes(
 
 #[test]
 fn to_standard_output(rt: HostRuntime) -> result::Result<(), Fail> {
-    let other = "standard input: the head tells 1 sample, 5 were found\n";
+    let other = "standard input: 5 samples were found, but the streaminfo says 1\n";
     assert!(rt; pipes(&rt, &["-", "-"], 5, 0, WHOLE, "")?);
     assert!(rt; pipes(&rt, &["-"], 0, 0, UNKNOWN, "")?);
     assert!(rt; pipes(&rt, &["--", "-", "-"], 1, 1, ANNOUNCED, other)?);

@@ -38,7 +38,7 @@ fn is(outcome: &Outcome, status: u8, output: &str, errors: &str) -> bool {
 // Command lines that open no file, what is in standard input, and what they come to.
 const USAGE: &str = "usage: claxon info FILE..\n";
 
-const CUT: &str = "standard input: the file is cut: it ends inside the head\n";
+const CUT: &str = "standard input: truncated: the file ends inside the metadata\n";
 
 #[test]
 fn command_lines_without_a_stream(rt: HostRuntime) -> Result<(), Fail> {

@@ -123,19 +123,19 @@ const LINES: [(usize, [bool; 2], u8, &str); 8] = [
         42,
         [false, false],
         1,
-        "wrong, 0 frames, 0 samples, the head tells 1",
+        "wrong, 0 frames, 0 samples, but the streaminfo says 1",
     ),
     (
         64,
         [false, false],
         1,
-        "wrong, 2 frames, 2 samples, the head tells 1",
+        "wrong, 2 frames, 2 samples, but the streaminfo says 1",
     ),
     (
         63,
         [false, false],
         1,
-        "wrong, 1 frame, 1 sample, 1 fault at byte 53 after 1 sample: the file is cut: it ends inside a frame",
+        "wrong, 1 frame, 1 sample, 1 fault at byte 53 after 1 sample: truncated: the file ends inside a frame",
     ),
     (
         64,
@@ -147,19 +147,19 @@ const LINES: [(usize, [bool; 2], u8, &str); 8] = [
         64,
         [true, true],
         1,
-        "wrong, 0 frames, 0 samples, the head tells 1, 2 faults, the first at byte 42 after 0 samples: Ill-formed FLAC stream: frame CRC mismatch",
+        "wrong, 0 frames, 0 samples, but the streaminfo says 1, 2 faults, the first at byte 42 after 0 samples: Ill-formed FLAC stream: frame CRC mismatch",
     ),
     (
         41,
         [false, false],
         1,
-        "wrong, the file is cut: it ends inside the head",
+        "wrong, truncated: the file ends inside the metadata",
     ),
     (
         0,
         [false, false],
         1,
-        "wrong, the file is cut: it ends inside the head",
+        "wrong, truncated: the file ends inside the metadata",
     ),
 ];
 
@@ -199,7 +199,7 @@ fn several_files(rt: HostRuntime) -> Result<(), Fail> {
     let (right, none) = (right.as_str(), none.as_str());
     let words = owned(rt.alloc(), &[right, none, "-", right])?;
     let one = format!(in rt.alloc(); "{right}: ok, 1 frame, 1 sample\n")?;
-    let wrong = "standard input: wrong, the file is cut: it ends inside the head\n";
+    let wrong = "standard input: wrong, truncated: the file ends inside the metadata\n";
     let all = format!(in rt.alloc(); "{one}{wrong}{one}")?;
     let missing = format!(in rt.alloc(); "{none}: No such file or directory\n")?;
     let (mut output, mut errors): (Vec<u8>, Vec<u8>) = (Vec::new(rt.alloc()), Vec::new(rt.alloc()));

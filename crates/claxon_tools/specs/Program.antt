@@ -116,11 +116,11 @@ pub record IsShownName (name : List ℕ) (part : Part) (shown : List ℕ) : Type
 
 -- where an input ends too early
 abbrev pub cut_text : List ℕ → List ℕ
-cut_text where_ = codes "the file is cut: it ends inside " ++ where_
+cut_text where_ = codes "truncated: the file ends inside " ++ where_
 
--- An Ok says that an input that ends inside its head or a frame is cut.
+-- An Ok says that an input that ends inside its metadata or a frame is truncated.
 abbrev pub IoTextIsSound : {A : Type 0} → Part → Failure → Result (String A) AllocError → Type 0
-IoTextIsSound Head cause r = error_kind cause ≡ UnexpectedEof → IsText (cut_text (codes "the head")) r
+IoTextIsSound Head cause r = error_kind cause ≡ UnexpectedEof → IsText (cut_text (codes "the metadata")) r
 IoTextIsSound Frame cause r = error_kind cause ≡ UnexpectedEof → IsText (cut_text (codes "a frame")) r
 IoTextIsSound Output cause r = Unit {0}
 

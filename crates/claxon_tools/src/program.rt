@@ -73,7 +73,7 @@ impl Program {
                 self.refuse(errors)
             }
             Notice::NotUtf8 => {
-                let _ = writeln!(errors, "{}: the name isn't UTF-8", self.name);
+                let _ = writeln!(errors, "{}: an argument isn't valid UTF-8", self.name);
                 self.refuse(errors)
             }
             Notice::Usage => self.refuse(errors),
@@ -206,7 +206,7 @@ pub enum Part {
 }
 
 /// Prints a line `NAME: TEXT` for an error. The name is on one line, as `escaped_text` has it. Where an input ends inside
-/// its head or a frame, the text says that it is cut. A failed write to `errors` is ignored, and so is memory that is refused.
+/// its metadata or a frame, the text says that it is truncated. A failed write to `errors` is ignored, and so is memory that is refused.
 pub fn report<E: Write>(alloc: Global, name: &str, part: Part, error: &Error, errors: &mut E) {
     let text = error_text(alloc, part, error);
     report_text(alloc, name, part, text, errors);
@@ -293,10 +293,10 @@ fn io_text<A: Allocator + Copy>(
     let is_eof = cause.kind() == ErrorKind::UnexpectedEof;
     match part {
         Part::Head if is_eof => {
-            String::from_str(alloc, "the file is cut: it ends inside the head")
+            String::from_str(alloc, "truncated: the file ends inside the metadata")
         }
         Part::Frame if is_eof => {
-            String::from_str(alloc, "the file is cut: it ends inside a frame")
+            String::from_str(alloc, "truncated: the file ends inside a frame")
         }
         _ => {
             let text = format!(in alloc; "{cause}")?;

@@ -189,11 +189,11 @@ fn report_text(alloc: Global, report: &Report) -> Result<String, AllocError> {
     Ok(text)
 }
 
-// The number of samples in the head, if it is another one.
+// The number of samples in the streaminfo, if it is another one.
 fn push_expected(text: &mut String, report: &Report) -> Result<(), AllocError> {
     match report.expected {
         Some(expected) if expected != report.found.samples => {
-            write!(text, ", the head tells {expected}")
+            write!(text, ", but the streaminfo says {expected}")
         }
         _ => Ok(()),
     }

@@ -164,7 +164,7 @@ fn write_wav<Q: Files + AllocGlobal, R: Read + Drop, W: Write + Drop, E: Write>(
     write_stream(rt.alloc(), flac, file, layout, announced, progress)
 }
 
-// The number of bytes of the samples that the streaminfo tells.
+// The number of bytes of as many samples as the streaminfo says.
 fn announced_size(layout: &Layout, info: &StreamInfo) -> Result<Option<u32>>
     ensures is_announced { IsAnnounced layout.now info.now.samples result }
     ensures fits { IfOk result (λ size. IfSome size (λ n. n ≤ max_data_size)) }
@@ -222,11 +222,11 @@ fn with_samples(samples: u32, outcome: Result<()>) -> result::Result<u32, Failur
     }
 }
 
-// That other samples were found than the streaminfo tells.
+// That another number of samples was found than the streaminfo says.
 fn samples_text(alloc: Global, known: u64, found: u32) -> result::Result<String, AllocError> {
-    let counted = count_text(alloc, known, "sample")?;
+    let counted = count_text(alloc, u64::from(found), "sample")?;
     let were = if found == 1 { "was" } else { "were" };
-    format!(in alloc; "the head tells {counted}, {found} {were} found")
+    format!(in alloc; "{counted} {were} found, but the streaminfo says {known}")
 }
 
 // Prints what went wrong, and returns the exit status.
