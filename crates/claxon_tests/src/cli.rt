@@ -49,7 +49,7 @@ fn no_command(rt: HostRuntime) -> Result<(), Fail> {
         (&["-"], "claxon: unknown command -\n"),
     ];
     for (words, line) in rows {
-        let errors = format!(in rt.alloc(); "{line}usage: claxon COMMAND ..\n")?;
+        let errors = format!(in rt.alloc(); "{line}usage: claxon info|wav|verify|trace|help ..\n")?;
         let outcome = outcome_of(&rt, words, b"")?;
         assert!(rt; is(&outcome, 2, "", errors.as_str()), "{words:?}");
     }
@@ -61,11 +61,11 @@ fn an_argument_that_is_not_utf8(rt: HostRuntime) {
     let mut errors: Vec<u8> = Vec::new(rt.alloc());
     let mut output = Sink::new(1, 0, false, ErrorKind::Other);
     let status = command(&rt, None, b"".as_slice(), &mut output, false, &mut errors);
-    let want = b"claxon: an argument isn't valid UTF-8\nusage: claxon COMMAND ..\n".as_slice();
+    let want = b"claxon: an argument isn't valid UTF-8\nusage: claxon info|wav|verify|trace|help ..\n".as_slice();
     assert!(rt; status == 2 && errors.as_slice() == want);
 }
 
-const HELP: &str = "usage: claxon COMMAND ..
+const HELP: &str = "usage: claxon info|wav|verify|trace|help ..
 
   info       shows the streaminfo and the tags of FLAC files
   wav        converts a FLAC file to a WAV file

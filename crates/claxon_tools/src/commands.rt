@@ -14,7 +14,7 @@ use std::rt::Files;
 /// What the program says about itself.
 pub const PROGRAM: Program = Program {
     name: "claxon",
-    arguments: "COMMAND ..",
+    arguments: "info|wav|verify|trace|help ..",
     commands: &[
         ("info", "shows the streaminfo and the tags of FLAC files"),
         ("wav", "converts a FLAC file to a WAV file"),
