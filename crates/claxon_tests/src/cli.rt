@@ -61,7 +61,8 @@ fn an_argument_that_is_not_utf8(rt: HostRuntime) {
     let mut errors: Vec<u8> = Vec::new(rt.alloc());
     let mut output = Sink::new(1, 0, false, ErrorKind::Other);
     let status = command(&rt, None, b"".as_slice(), &mut output, false, &mut errors);
-    let want = b"claxon: an argument isn't valid UTF-8\nusage: claxon info|wav|verify|trace|help ..\n".as_slice();
+    let want =
+        b"claxon: an argument isn't valid UTF-8\nusage: claxon info|wav|verify|trace|help ..\n".as_slice();
     assert!(rt; status == 2 && errors.as_slice() == want);
 }
 

@@ -2,6 +2,7 @@
 ghost use Rattle.std.specs.Prelude.{◌≡◌, false};
 ghost use Rattle.claxon.specs.FlacReader.{flac_metadata_only};
 
+use crate::answers::{DEEP_FRAME, joined};
 use crate::commands::owned;
 use crate::doubles::sinks::{ByteCounter, Sink};
 use crate::files::{file_of, path_of};
@@ -391,13 +392,22 @@ fn is_refused(
     Ok(found == status && errors.as_slice() == said.as_bytes() && output.written().is_empty())
 }
 
-// The smallest head, for samples of 32 bits, and a frame header with the bit depth code for 32 bits.
-fn deep_stream() -> [u8; 47] {
-    let mut stream = [0; 47];
-    stream[..42].copy_from_slice(&STREAM[..42]);
-    stream[20..22].copy_from_slice(&[0x41, 0xf0]);
-    stream[42..].copy_from_slice(&[0xff, 0xf8, 0x69, 0x0e, 0x00]);
-    stream
+// The smallest head, for samples of 32 bits.
+fn deep_head() -> [u8; 42] {
+    let mut head = [0; 42];
+    head.copy_from_slice(&STREAM[..42]);
+    head[20..22].copy_from_slice(&[0x41, 0xf0]);
+    head
+}
+
+// The fourth byte of a header with the bit depth code for 32 bits, and with the reserved one.
+const CODE_OF_32_BITS: u8 = 0x0e;
+
+const RESERVED_CODE: u8 = 0x06;
+
+// These bytes, and the first five of a header of which this is the fourth.
+fn with_header(alloc: Global, front: &[u8], fourth: u8) -> result::Result<Vec<u8>, Fail> {
+    Ok(joined(alloc, &[front, &[0xff, 0xf8, 0x69, fourth, 0x00]])?)
 }
 
 const USAGE: &str = "usage: claxon wav [-f] FILE [OUT.wav]\n";
@@ -405,10 +415,10 @@ const USAGE: &str = "usage: claxon wav [-f] FILE [OUT.wav]\n";
 const UNKNOWN_OPTION: &str =
     "claxon wav: unknown option -x\nusage: claxon wav [-f] FILE [OUT.wav]\n";
 
-const DEEP: &str =
-    "standard input: Ill-formed FLAC stream: invalid frame header, encountered reserved value
-standard input: 32-bit samples are not supported
-";
+const DEEP: &str = "standard input: 32-bit samples are not supported\n";
+
+const RESERVED: &str =
+    "standard input: Ill-formed FLAC stream: invalid frame header, encountered reserved value\n";
 
 // The flush fails, after all was written.
 #[test]
@@ -441,6 +451,46 @@ fn what_writes_nothing(rt: HostRuntime) -> result::Result<(), Fail> {
     assert!(rt; is_refused(&rt, &["--help"], b"", 1, full)?);
     assert!(rt; is_refused(&rt, &["--version"], b"", 1, full)?);
     assert!(rt; is_refused(&rt, &["-"], stream.as_slice(), 1, full)?);
-    assert!(rt; is_refused(&rt, &["-", "/dev/null"], &deep_stream(), 1, DEEP)?);
+    Ok(())
+}
+
+// The code alone says that samples have 32 bits, after any number of blocks, and not the streaminfo.
+#[test]
+fn refused_bit_depth_codes(rt: HostRuntime) -> result::Result<(), Fail> {
+    let rows: [(&[u8], u8, &str); 6] = [
+        (&deep_head(), CODE_OF_32_BITS, DEEP),
+        (&STREAM[..42], CODE_OF_32_BITS, DEEP),
+        (&STREAM[..55], CODE_OF_32_BITS, DEEP),
+        (&deep_head(), RESERVED_CODE, RESERVED),
+        (&STREAM[..42], RESERVED_CODE, RESERVED),
+        (&STREAM[..55], RESERVED_CODE, RESERVED),
+    ];
+    for (front, fourth, said) in rows {
+        let stream = with_header(rt.alloc(), front, fourth)?;
+        let stream = stream.as_slice();
+        assert!(rt;
+            is_refused(&rt, &["-", "/dev/null"], stream, 1, said)?,
+            "{fourth}"
+        );
+    }
+    Ok(())
+}
+
+// One sample of 32 bits, 0x12345678, in a frame that leaves the bit depth to the streaminfo.
+#[test]
+fn samples_of_32_bits(rt: HostRuntime) -> result::Result<(), Fail> {
+    let (words, alloc) = (owned(rt.alloc(), &["-"])?, rt.alloc());
+    let stream = joined(alloc, &[&deep_head(), &DEEP_FRAME])?;
+    let (mut output, mut errors): (Vec<u8>, Vec<u8>) = (Vec::new(alloc), Vec::new(alloc));
+    let status = command(
+        &rt,
+        &words,
+        stream.as_slice(),
+        &mut output,
+        false,
+        &mut errors,
+    );
+    assert!(rt; status == 0 && errors.is_empty());
+    assert!(rt; output.as_slice().ends_with(&[0x78, 0x56, 0x34, 0x12]));
     Ok(())
 }

@@ -39,7 +39,7 @@ fn of_the_decoder(rt: HostRuntime) -> Result<(), Fail> {
 }
 
 #[rattlefmt::skip]
-const WAV_ERRORS: [(wav::Error, &str); 7] = [
+const WAV_ERRORS: [(wav::Error, &str); 8] = [
     (wav::Error::Claxon(Error::FormatError("invalid residual")), "Ill-formed FLAC stream: invalid residual"),
     (
         wav::Error::Claxon(Error::Unsupported("application blocks larger than 10 MiB are not supported")),
@@ -49,6 +49,7 @@ const WAV_ERRORS: [(wav::Error, &str); 7] = [
     (wav::Error::TooLong, "the samples are more than a WAV file holds, 4 GiB"),
     (wav::Error::OtherChannels, "the number of channels changes within the stream"),
     (wav::Error::WideSample, "a sample has more bits than the streaminfo says"),
+    (wav::Error::Unsupported32Bit, "32-bit samples are not supported"),
     (wav::Error::SameFile, "the output is the input"),
 ];
 

@@ -1,5 +1,5 @@
 //! Streams that are verified, and command lines of `claxon verify`.
-use crate::answers::{Fault, fault_of, two_frames};
+use crate::answers::{DEEP_FRAME, Fault, fault_of, head, joined, two_frames};
 use crate::commands::owned;
 use crate::doubles::sinks::Sink;
 use crate::files::{file_of, path_of};
@@ -181,6 +181,52 @@ fn lines(rt: HostRuntime) -> Result<(), Fail> {
             "{len}"
         );
     }
+    Ok(())
+}
+
+// The smallest head, for samples of 32 bits.
+fn deep_head() -> [u8; 42] {
+    let mut bytes = head(0x80);
+    bytes[20..22].copy_from_slice(&[0x41, 0xf0]);
+    bytes
+}
+
+const RESERVED: &str = "Ill-formed FLAC stream: invalid frame header, encountered reserved value";
+
+// Headers that are refused at their fourth byte: with the bit depth code for 32 bits, with the reserved one, and with a reserved
+// code before it.
+const REFUSED: [([u8; 4], &str); 3] = [
+    ([0xff, 0xf9, 0xc9, 0xae], "32-bit samples are not supported"),
+    ([0xff, 0xf8, 0x69, 0x06], RESERVED),
+    ([0xff, 0xf8, 0x69, 0xbe], RESERVED),
+];
+
+#[test]
+fn bit_depth_codes(rt: HostRuntime) -> Result<(), Fail> {
+    let (alloc, before) = (rt.alloc(), two_frames(0x58));
+    for (header, what) in REFUSED {
+        let bytes = joined(alloc, &[front(&before, 53), &header])?;
+        let text = format!(in alloc;
+            "wrong, 1 frame, 1 sample, 1 fault at byte 53 after 1 sample: {what}"
+        )?;
+        assert!(rt;
+            has_line(&rt, bytes.as_slice(), 1, text.as_str())?,
+            "{what}"
+        );
+    }
+    Ok(())
+}
+
+// A streaminfo of 32 bits: a frame that leaves the bit depth to it, and the code.
+#[test]
+fn samples_of_32_bits(rt: HostRuntime) -> Result<(), Fail> {
+    let (alloc, head) = (rt.alloc(), deep_head());
+    let right = joined(alloc, &[&head, &DEEP_FRAME])?;
+    assert!(rt; has_line(&rt, right.as_slice(), 0, "ok, 1 frame, 1 sample")?);
+    let wrong = joined(alloc, &[&head, &[0xff, 0xf8, 0x69, 0x0e]])?;
+    let text =
+        "wrong, 0 frames, 0 samples, but the streaminfo says 1, 1 fault at byte 42 after 0 samples: 32-bit samples are not supported";
+    assert!(rt; has_line(&rt, wrong.as_slice(), 1, text)?);
     Ok(())
 }
 

@@ -1,22 +1,42 @@
 -- A call that reads a block.
-use Rattle.std.specs.Borrow.{MutBor}
-use Rattle.std.proofs.Common.{◌≡◌, ◌⊎◌, ◌<◌, ℕ, true, List, [], ◌∷◌, length, inl, inr, refl, sym, arith, subst, ◌∙◌, Bool, eqb, false}
+use Rattle.std.proofs.Common.{◌≡◌, ◌⊎◌, ◌<◌, ℕ, true, List, [], ◌∷◌, length, inl, inr, refl, sym, arith, ◌∙◌, Bool, eqb, false}
 use Rattle.std.proofs.lemmas.Bool.{eqb-false, eqb-true}
 use Rattle.std.specs.Prelude.{IfErr, IfOk, Option, None, Some, Result, Ok, Err}
 use Rattle.claxon.specs.Error.{IsFault, IsIo}
 use Rattle.claxon.specs.Errors.{Error}
 use Rattle.claxon.specs.Errors.TheVariants.{FormatError, IoError, OutOfMemory, Unsupported}
 use Rattle.claxon.specs.Fault.{Fault}
-use Rattle.claxon.specs.Frame.{StreamFormat}
-use Rattle.claxon.specs.FrameReader.{FrameAnswer, ReadsFrame, block_view}
+use Rattle.claxon.specs.Frame.{Frame, FrameBytesFault, StreamFormat}
+use Rattle.claxon.specs.FrameReader.{FrameAnswer, HeaderOfLargerBlock, ReadsFrame, block_view}
 use Rattle.claxon.specs.Gives.{ReadFailedIn, GivesOrEofOrOutOfMemory}
-use Rattle.claxon.specs.Promises.{IsExcused, NoneIsEof}
-use Rattle.claxon.specs.SampleRuns.{lent}
-use Rattle.claxon.specs.Source.{Source}
-use Rattle.claxon.specs.State.{State, bytes_in, RemainingIsKnown, final_crcs, source_bytes}
+use Rattle.claxon.specs.Promises.{Consumed, FaultIsSound, FoundIsSound, IsExcused, IsOutOfMemory, NoneIsEof}
+use Rattle.claxon.specs.State.{State, RemainingIsKnown, final_crcs, source_bytes}
 use Rattle.claxon.specs.read.Frame.{frame_bytes_at}
 use Rattle.claxon.specs.read.Reading.{Reading}
-use Rattle.claxon_tools.specs.Verify.{BlockIsRead, IfConsumed, IsNotWhole}
+use Rattle.claxon_tools.specs.Verify.{IsNotWhole}
+
+-- P after a block, or after an Err other than `OutOfMemory` and `IoError`
+abbrev pub IfConsumed : FrameAnswer → Type 0 → Type 0
+IfConsumed (Ok (Some block)) P = P
+IfConsumed (Ok None) P = Unit {0}
+IfConsumed (Err (FormatError text)) P = P
+IfConsumed (Err (Unsupported text)) P = P
+IfConsumed (Err e) P = Unit {0}
+
+-- What a call that reads a block returned, and what it did to its input.
+pub record BlockIsRead (stream : Option StreamFormat) (r : FrameAnswer) (old new : State ℕ) : Type 0
+  where
+    pub sound : FoundIsSound block_view r (Frame stream) old new
+    pub eof : IfOk r (λ found. found ≡ None → RemainingIsKnown old → length old.remaining < 2)
+    pub fault : FaultIsSound r (FrameBytesFault stream) old new
+    pub io : IfErr r (λ e. IsIo e → RemainingIsKnown old → IsNotWhole stream old.remaining
+        ⊎ ReadFailedIn old new)
+    pub memory : IsOutOfMemory r → Consumed old new (HeaderOfLargerBlock stream 0)
+    pub loans : new.source.loans ≡ old.source.loans
+    pub kept :
+        IfConsumed r (
+        (new.source.errors ≡ old.source.errors) × (new.source.empty_reads ≡ old.source.empty_reads)
+        × (RemainingIsKnown old → final_crcs new ≡ final_crcs old))
 
 -- whether the source failed
 pub decide_failed : {X : Type 0} (a b : State X) → ReadFailedIn a b ⊎ (ReadFailedIn a b → ⊥)
@@ -75,7 +95,7 @@ module _ (stream : Option StreamFormat) (a b : State ℕ) where
   block_eof (Ok found) h = λ e known. (h e known).0
   block_eof (Err e) h = tt
 
-  block_read : (r : FrameAnswer) → b.source.loans ≡ a.source.loans → ReadsFrame stream r a b → BlockIsRead stream r a b
+  pub block_read : (r : FrameAnswer) → b.source.loans ≡ a.source.loans → ReadsFrame stream r a b → BlockIsRead stream r a b
   block_read r loans h = record {
     sound = h.promises.is_sound;
     eof = block_eof r h.promises.none_is_eof;
@@ -85,22 +105,3 @@ module _ (stream : Option StreamFormat) (a b : State ℕ) where
     loans = loans;
     kept = block_kept r (frame_bytes_at stream) h.gives;
   }
-
--- a block that was read through a reference
-module _ {R : Type 0} (source : R → Source ℕ) (stream : Option StreamFormat) (r : FrameAnswer) (s q : MutBor R) where
-  unborrowed : BlockIsRead stream r (bytes_in (lent source) s) (bytes_in (lent source) q) → BlockIsRead stream r (bytes_in source s.now) (bytes_in source q.now)
-  unfolding bytes_in
-  unborrowed h = record {
-    sound = h.sound;
-    eof = h.eof;
-    fault = h.fault;
-    io = h.io;
-    memory = h.memory;
-    loans = (let k : q.ghost_name ∷ (source q.now).loans ≡ s.ghost_name ∷ (source s.now).loans = h.loans in cc);
-    kept = h.kept;
-  }
-
-  pub read_through : (known : Option StreamFormat) (x : MutBor R) → s ≡ x → stream ≡ known → (bytes_in (lent source) q).source.loans ≡ (bytes_in (lent source) s).source.loans → ReadsFrame stream r (bytes_in (lent source) s) (bytes_in (lent source) q) → BlockIsRead known r (bytes_in source x.now) (bytes_in source q.now)
-  read_through known x at same loans h =
-      subst (λ (z : MutBor R). BlockIsRead known r (bytes_in source z.now) (bytes_in source q.now)) at
-      (subst (λ (z : Option StreamFormat). BlockIsRead z r (bytes_in source s.now) (bytes_in source q.now)) same (unborrowed (block_read stream (bytes_in (lent source) s) (bytes_in (lent source) q) r loans h)))

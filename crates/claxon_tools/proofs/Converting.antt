@@ -1,17 +1,18 @@
 -- Blocks that are written one after another, and the file that they make.
-use Rattle.std.specs.Borrow.{MutBor}
 use Rattle.std.proofs.Common.{◌≡◌, ◌≢◌, ◌⊎◌, inl, inr, ℕ, ◌+◌, ◌-◌, ◌*◌, ◌%◌, ◌^◌, ◌<◌, ◌≤◌, ℤ, w32, zero, suc, take, Bool, false, cond, ◌==◌, List, [], ◌∷◌, ◌++◌, length, Option, None, Some, refl, sym, ap, subst, ◌∙◌, arith, append-nil, eq-eqb, length-append}
-use Rattle.std.specs.Prelude.{All, Result, Ok, Err, IfErr, IsErrAnd, IsOk, OnOk}
+use Rattle.std.specs.Prelude.{All, IsTrue, Result, Ok, Err, IfErr, IsErrAnd, IsOk, OnOk, ◌↔◌}
 use Rattle.std.specs.Io.KnownBytes.{Appends}
 use Rattle.std.proofs.KnownBytes.{Appends-nil, Appends-trans}
+use Rattle.std.proofs.lemmas.Bool.{false≢true}
 use Rattle.std.proofs.lemmas.Bool.Decides.{nat_tests}
 use Rattle.std.proofs.lemmas.Grind.{flat_map-append}
 use Rattle.std.proofs.lemmas.List.Elements.{All-append, All-drop, All-nil, All-push, All-take}
 use Rattle.std.proofs.lemmas.List.{drop_at, get_or_push, length-take, take_at}
 use Rattle.std.specs.Int.{to_le_bytes}
 use Rattle.claxon.specs.Bits.{FitsIn}
-use Rattle.claxon.specs.Fault.{Fault}
-use Rattle.claxon.specs.Frame.{Block, Frames, IsBitDepth, NoFrameLeft, StreamFormat, known_bit_depth}
+use Rattle.claxon.specs.Error.{IsFault, IsIo}
+use Rattle.claxon.specs.Fault.{BitDepthReserved, Fault}
+use Rattle.claxon.specs.Frame.{Block, FrameBytesFault, Frames, IsBitDepth, NoFrameLeft, StreamFormat, known_bit_depth}
 use Rattle.claxon.specs.Streams.{interleave, duration_of}
 use Rattle.claxon.specs.Block.{BlockValue}
 use Rattle.claxon.specs.Errors.{Error as Cause}
@@ -23,19 +24,22 @@ use Rattle.claxon.specs.SampleRuns.{ConsumesFrames, samples_of}
 use Rattle.claxon.specs.Source.{Source}
 use Rattle.claxon.specs.State.{State, RemainingIsKnown, bytes_in}
 use Rattle.claxon.specs.StreamInfos.{StreamInfo}
+use Rattle.claxon.proofs.FormatLaws.{frames_unambiguous}
 use Rattle.claxon.proofs.SampleRuns.{all_frames_read, excused_after, fault_no_frame, frames_left, samples_add, short_no_frame, takes_more, takes_none}
 use Rattle.claxon.proofs.Streams.{length-interleave}
-use Rattle.claxon_write.proofs.Borrowed.{lent, runs_through, takes_through}
 use Rattle.claxon_write.proofs.Counts.{flushed_after, none_failed, none_failed_both}
-use Rattle.claxon_tools.proofs.BlockReads.{block_io}
-use Rattle.claxon_tools.specs.Convert.{CanBeConverted, CanBeConvertedTo, CanBePut, Converts, ConvertsToStream, ExplainsError, HoldsFile, HoldsUnknown, ConvertIsExcused, IsWholeStream, OutputFailed, PutBlocksFaultIsSound, PutBlocksIsSound, PutsBlocks, PutsSamples, StopsAtBlock, StopsPutting, OutputWriteFailed, packed_blocks}
+use Rattle.claxon_tools.proofs.BlockReads.{block_io, io_not_fault}
+use Rattle.claxon_tools.proofs.FirstBytes.{fault_not_memory, refused}
+use Rattle.claxon_tools.specs.Convert.{CanBeConverted, CanBeConvertedTo, CanBePut, Converts, ConvertsToStream, ExplainsError, HoldsFile, HoldsUnknown, ConvertIsExcused, IsErrorAt, IsWholeStream, OutputFailed, PutsBlocks, PutsSamples, StopsAtBlock, StopsPutting, OutputWriteFailed, packed_blocks}
+use Rattle.claxon_tools.specs.Frames.{Is32BitFault}
 use Rattle.claxon_tools.specs.Samples.{bytes_of_sample, packed_block, packed_samples, shifted_sample, silence}
-use Rattle.claxon_tools.specs.WavError.{IsInput, IsMemory, IsOutput, NamesFault}
+use Rattle.claxon_tools.specs.WavError.{IsFrameError, IsMemory, IsOutput, NamesFault}
 use Rattle.claxon_tools.specs.WaveFile.{pad, sample_size, unknown_header}
 use Rattle.claxon_tools.specs.DataSize.{max_data_size}
 use Rattle.claxon_tools.specs.Writer.{BlockErrorKeeps, CallsFailed, ExplainsBlockError, FewWritesFailed, FinishFaultIsSound, FinishFlushes, FinishIsSound, FinishStreamIsSound, NoneFailed, PutsBlock, SameHeader, SamplesFit, Unflushed, WritesFailed, output_contents, stream_pad}
+use Rattle.claxon_tools.specs.declared.frames.FrameError.{FrameError}
 use Rattle.claxon_tools.specs.declared.wav.error.Error.{Error}
-use Rattle.claxon_tools.specs.declared.wav.error.Error.TheVariants.{Claxon, Exists, OtherChannels, Output, SameFile, TooLong, WideSample}
+use Rattle.claxon_tools.specs.declared.wav.error.Error.TheVariants.{Claxon, Exists, OtherChannels, Output, SameFile, TooLong, Unsupported32Bit, WideSample}
 use Rattle.claxon_tools.specs.declared.wav.header.Layout.{Layout}
 use Rattle.claxon_tools.specs.declared.wav.writer.WavWriter.{WavWriter}
 
@@ -57,6 +61,17 @@ pub block_takes : (valid_bits : ℕ) (block : BlockValue) → 1 ≤ valid_bits �
 block_takes valid_bits block some channels long =
     let n : 1 ≤ length (interleave block.channels) = rw (length-interleave block.channels) (grind (arith, channels, long)) in
     samples_take valid_bits some (interleave block.channels) n
+
+-- what the error of a frame says of the bytes where that begins
+error_at : (b : State ℕ) (cause : FrameError) (e : Error) → (RemainingIsKnown b → IsTrue cause.is_32_bit ↔ Is32BitFault b.remaining cause.error) → IsFrameError cause e → IsErrorAt b cause.error e
+error_at b cause (Claxon error) tells is = (is.0, λ known deep. false≢true (sym is.1 ∙ (tells known).1 deep))
+error_at b cause Unsupported32Bit tells is = λ known. (tells known).0 is
+error_at b cause (Output error) tells is = is
+error_at b cause TooLong tells is = is
+error_at b cause OtherChannels tells is = is
+error_at b cause WideSample tells is = is
+error_at b cause SameFile tells is = is
+error_at b cause Exists tells is = is
 
 -- So far exactly the frames of these blocks were consumed, and their samples written.
 pub record PutSoFar {W : Type 0} (contents : W → Option (List ℕ)) (stream : Option StreamFormat) (a b : State ℕ) (x y : WavWriter W) : Type 0 where
@@ -105,27 +120,13 @@ module _ {W : Type 0} {contents : W → Option (List ℕ)} where
     pub put_all : {answer : FrameAnswer} {a b c : State ℕ} {x y : WavWriter W} → PutSoFar contents stream a b x y → ReadsFrame stream answer b c → PutsBlocks contents stream answer a c x y
     put_all {b = b} h reads = record { blocks = h.blocks; reads = record { between = b; blocks_are = h.frames; last = reads }; puts = h.puts }
 
-    pub stops_at_fault : {cause : Cause} {a b c : State ℕ} {x y : WavWriter W} → PutSoFar contents stream a b x y → ReadsFrame stream (Err cause) b c → StopsPutting contents stream (Claxon cause) a c x y
-    stops_at_fault {cause = cause} h reads = inl (cause, refl, put_all h reads)
+    pub stops_at_fault : (cause : FrameError) (e : Error) {a b c : State ℕ} {x y : WavWriter W} → PutSoFar contents stream a b x y → ReadsFrame stream (Err cause.error) b c → (RemainingIsKnown b → IsTrue cause.is_32_bit ↔ Is32BitFault b.remaining cause.error)
+        → IsFrameError cause e → StopsPutting contents stream e a c x y
+    stops_at_fault cause e {b = b} h reads tells is = inl (record { cause = cause.error; put = record { blocks = h.blocks; reads = record { between = b; blocks_are = h.frames; last = reads }; puts = h.puts }; is = error_at b cause e tells is })
 
     -- a block that was not written
     pub stops_at_block : {e : Error} {a b c : State ℕ} {x y z : WavWriter W} (block : BlockValue) → PutSoFar contents stream a b x y → ReadsFrame stream (Ok (Some block)) b c → ExplainsBlockError block y e → BlockErrorKeeps contents block e y z → StopsPutting contents stream e a c x z
     stops_at_block {y = y} block h reads explains keeps = inr (record { blocks = h.blocks; block = block; frames = takes_more block h.frames reads; put = y; puts = h.puts; explains = explains; keeps = keeps })
-
--- ---- through a reference to the reader
-
-module _ {R W : Type 0} (source : R → Source ℕ) (contents : W → Option (List ℕ)) {stream known : Option StreamFormat} (r s q : MutBor R) (at : s ≡ r) (same : stream ≡ known) where
-  blocks_through : {answer : FrameAnswer} {x y : WavWriter W} → PutsBlocks contents stream answer (bytes_in (lent source) s) (bytes_in (lent source) q) x y → PutsBlocks contents known answer (bytes_in source r.now) (bytes_in source q.now) x y
-  blocks_through h = record { blocks = h.blocks; reads = runs_through source r s q at same h.reads; puts = h.puts }
-
-  pub put_through : (result : Result (Unit {0}) Error) (x y : WavWriter W) → PutBlocksIsSound contents stream result (bytes_in (lent source) s) (bytes_in (lent source) q) x y → PutBlocksIsSound contents known result (bytes_in source r.now) (bytes_in source q.now) x y
-  put_through (Err e) x y h = tt
-  put_through (Ok done) x y h = blocks_through h
-
-  pub stops_through : (result : Result (Unit {0}) Error) (x y : WavWriter W) → PutBlocksFaultIsSound contents stream result (bytes_in (lent source) s) (bytes_in (lent source) q) x y → PutBlocksFaultIsSound contents known result (bytes_in source r.now) (bytes_in source q.now) x y
-  stops_through (Ok done) x y h = tt
-  stops_through (Err e) x y (inl h) = inl (h.0, h.1, blocks_through h.2)
-  stops_through (Err e) x y (inr h) = inr (record { blocks = h.blocks; block = h.block; frames = takes_through source r s q at same h.frames; put = h.put; puts = h.puts; explains = h.explains; keeps = h.keeps })
 
 -- for equal streaminfos and readers
 pub shown_as : {R : Type 0} (source : R → Source ℕ) {info shown : StreamInfo} {u v : R} (P : Option StreamFormat → State ℕ → Type 0) → info ≡ shown → u ≡ v → P (Some (stream_with info)) (bytes_in source u) → P (Some (stream_with shown)) (bytes_in source v)
@@ -169,10 +170,10 @@ failed_after c w (inr f) = inr ((λ p. f.0 (p ∙ sym w.empty_reads)), f.1)
 -- ---- what an error says
 
 module _ {W : Type 0} {contents : W → Option (List ℕ)} {stream : Option StreamFormat} {a b : State ℕ} {x y : WavWriter W} (z : WavWriter W) where
-  fault_explained : (cause : Cause) → PutsBlocks contents stream (Err cause) a b x y → ExplainsError stream a b x z (Claxon cause)
-  fault_explained cause h =
+  fault_explained : (e : Error) (cause : Cause) (h : PutsBlocks contents stream (Err cause) a b x y) → IsErrorAt h.reads.between cause e → ExplainsError stream a b x z e
+  fault_explained (Claxon error) cause h is =
       let w = h.reads.blocks_are.consumed in
-      elim h.reads.last.promises.fault_is_sound [
+      subst (λ (k : Cause). ExplainsError stream a b x z (Claxon k)) (sym is.0) (elim h.reads.last.promises.fault_is_sound [
         | inl m ↦ inl m
         | inr (inl io) ↦ inr (inl (
           io,
@@ -184,9 +185,17 @@ module _ {W : Type 0} {contents : W → Option (List ℕ)} {stream : Option Stre
         | inr (inr k) ↦ inr (inr (λ known. (
             let f = k (w.known known).known in
             let t = (f.2 (w.known known).known).1 in
-            (f.0, f.1, (h.blocks, t.0, b.remaining, subst (λ (s : List ℕ). Frames stream a.remaining h.blocks s) t.2 (w.known known).is, t.1))
+            let frames = subst (λ (s : List ℕ). Frames stream a.remaining h.blocks s) t.2 (w.known known).is in
+            (f.0, f.1, (h.blocks, t.0, b.remaining, frames, t.1, subst (λ (s : List ℕ). Is32BitFault s cause → ⊥) t.2 (is.1 (w.known known).known)))
             )))
-      ]
+      ])
+  fault_explained Unsupported32Bit cause h is = λ known. let k = h.reads.blocks_are.consumed.known known in (h.blocks, h.reads.between.remaining, k.is, (is k.known).1)
+  fault_explained (Output error) cause h is = absurd is
+  fault_explained TooLong cause h is = absurd is
+  fault_explained OtherChannels cause h is = absurd is
+  fault_explained WideSample cause h is = absurd is
+  fault_explained SameFile cause h is = absurd is
+  fault_explained Exists cause h is = absurd is
 
   -- a failed write of a block was counted, also where the end of the file fails too
   block_write_failed : (e : Error) (h : StopsAtBlock contents stream e a b x y) → IsOutput e → FewWritesFailed y z → WritesFailed x z
@@ -195,12 +204,14 @@ module _ {W : Type 0} {contents : W → Option (List ℕ)} {stream : Option Stre
   block_write_failed TooLong h is few = absurd is
   block_write_failed OtherChannels h is few = absurd is
   block_write_failed WideSample h is few = absurd is
+  block_write_failed Unsupported32Bit h is few = absurd is
   block_write_failed SameFile h is few = absurd is
   block_write_failed Exists h is few = absurd is
 
   block_explained : (e : Error) (h : StopsAtBlock contents stream e a b x y) → FewWritesFailed y z → ExplainsError stream a b x z e
   block_explained (Claxon cause) h few = elim h.explains [ inl m ↦ inl m | inr f ↦ absurd f ]
   block_explained (Output cause) h few = inl (block_write_failed (Output cause) h tt few)
+  block_explained Unsupported32Bit h few = absurd (elim h.explains [ inl m ↦ m | inr f ↦ f ])
   block_explained SameFile h few = elim h.explains [ inl m ↦ m | inr f ↦ f ]
   block_explained Exists h few = elim h.explains [ inl m ↦ m | inr f ↦ f ]
   block_explained TooLong h few = λ known.
@@ -226,7 +237,7 @@ module _ {W : Type 0} {contents : W → Option (List ℕ)} {stream : Option Stre
   )
 
   pub stop_explained : (e : Error) → StopsPutting contents stream e a b x y → FewWritesFailed y z → ExplainsError stream a b x z e
-  stop_explained e (inl h) few = subst (ExplainsError stream a b x z) (sym h.1) (fault_explained h.0 h.2)
+  stop_explained e (inl h) few = fault_explained e h.cause h.put h.is
   stop_explained e (inr h) few = block_explained e h few
 
 -- all blocks were written, and then the end of the file failed
@@ -237,15 +248,38 @@ end_explained stream a b x y z (Err (Output cause)) none f = elim f [ inl m ↦ 
 end_explained stream a b x y z (Err TooLong) none f = elim f [ inl m ↦ absurd m | inr k ↦ absurd k.0 ]
 end_explained stream a b x y z (Err OtherChannels) none f = elim f [ inl m ↦ absurd m | inr k ↦ absurd k.0 ]
 end_explained stream a b x y z (Err WideSample) none f = elim f [ inl m ↦ absurd m | inr k ↦ absurd k.0 ]
+end_explained stream a b x y z (Err Unsupported32Bit) none f = elim f [ inl m ↦ absurd m | inr k ↦ absurd k.0 ]
 end_explained stream a b x y z (Err SameFile) none f = elim f [ inl m ↦ m | inr k ↦ k.0 ]
 end_explained stream a b x y z (Err Exists) none f = elim f [ inl m ↦ m | inr k ↦ k.0 ]
 
 -- ---- completeness
 
 -- an excuse of the decoder
-as_excused : {A : Type 0} (a b : State ℕ) (e : Error) (cause : Cause) → e ≡ Claxon cause → IsExcused (let r : Result A Cause = Err cause in r) a b → ConvertIsExcused (Err e) a b
-as_excused a b e cause is (inl m) = inl (let k : cause ≡ OutOfMemory = cc in subst IsMemory (sym is) k)
-as_excused a b e cause is (inr f) = inr (subst IsInput (sym is) f.0, f.1)
+as_excused : {A : Type 0} (a b at : State ℕ) (e : Error) (cause : Cause) → IsErrorAt at cause e → RemainingIsKnown at → IsExcused (let r : Result A Cause = Err cause in r) a b → ConvertIsExcused (Err e) a b
+as_excused a b at (Claxon error) cause is known (inl m) = inl (let k : cause ≡ OutOfMemory = cc in is.0 ∙ k)
+as_excused a b at (Claxon error) cause is known (inr f) = inr (subst IsIo (sym is.0) f.0, f.1)
+as_excused a b at Unsupported32Bit cause is known (inl m) = absurd (fault_not_memory cause (is known).0 m)
+as_excused a b at Unsupported32Bit cause is known (inr f) = absurd (io_not_fault BitDepthReserved cause f.0 (is known).0)
+as_excused a b at (Output error) cause is known k = absurd is
+as_excused a b at TooLong cause is known k = absurd is
+as_excused a b at OtherChannels cause is known k = absurd is
+as_excused a b at WideSample cause is known k = absurd is
+as_excused a b at SameFile cause is known k = absurd is
+as_excused a b at Exists cause is known k = absurd is
+
+-- a fault of the decoder is named
+named : (stream : Option StreamFormat) → IsBitDepth (known_bit_depth stream) → (f : Fault) (t rest : List ℕ) (at : State ℕ) (e : Error) (cause : Cause) → IsErrorAt at cause e → RemainingIsKnown at → at.remaining ≡ t ++ rest → FrameBytesFault stream f t → IsFault f cause
+    → IsErrAnd (let r : Result (Unit {0}) Error = Err e in r) (NamesFault f)
+named stream bit_depth f t rest at (Claxon error) cause is known are bad h = subst (IsFault f) (sym is.0) h
+named stream bit_depth f t rest at Unsupported32Bit cause is known are bad h =
+    let s = (is known).1 in
+    ((frames_unambiguous stream bit_depth).one_fault f BitDepthReserved t s.0 rest s.1 bad (refused stream s.0 s.2.0 s.2.1) (sym are ∙ s.3)).0
+named stream bit_depth f t rest at (Output error) cause is known are bad h = absurd is
+named stream bit_depth f t rest at TooLong cause is known are bad h = absurd is
+named stream bit_depth f t rest at OtherChannels cause is known are bad h = absurd is
+named stream bit_depth f t rest at WideSample cause is known are bad h = absurd is
+named stream bit_depth f t rest at SameFile cause is known are bad h = absurd is
+named stream bit_depth f t rest at Exists cause is known are bad h = absurd is
 
 module _ (stream : Option StreamFormat) (bit_depth : IsBitDepth (known_bit_depth stream)) {W : Type 0} {contents : W → Option (List ℕ)} {a b : State ℕ} {x y : WavWriter W} (z : WavWriter W) (few : FewWritesFailed y z) where
   module _ (blocks : List Block) (m : List ℕ) (known : RemainingIsKnown a) (f : Frames stream a.remaining blocks m) (none : NoFrameLeft stream m) (can : CanBePut blocks x) where
@@ -284,30 +318,37 @@ module _ (stream : Option StreamFormat) (bit_depth : IsBitDepth (known_bit_depth
         go TooLong s w = absurd (size s)
         go OtherChannels s w = absurd (s channels)
         go WideSample s w = absurd (s fit)
+        go Unsupported32Bit s w = elim s [ inl m ↦ absurd m | inr k ↦ absurd k ]
         go SameFile s w = elim s [ inl m ↦ absurd m | inr k ↦ absurd k ]
         go Exists s w = elim s [ inl m ↦ absurd m | inr k ↦ absurd k ]
 
   -- a stream that can be converted doesn't stop early without an excuse
   pub stop_complete : (e : Error) → StopsPutting contents stream e a b x y → CanBeConverted stream a x → ConvertIsExcused (Err e) a b ⊎ OutputFailed (Err e) x z
   stop_complete e (inr h) can = elim (block_excused can.blocks can.rest can.known can.frames (short_no_frame stream can.rest can.eof) can.can e h) [ inl m ↦ inl (inl m) | inr w ↦ inr (w.0, inl w.1) ]
-  stop_complete e (inl h) can = let reads = h.2.reads in elim (all_frames_read stream bit_depth (Some h.0) h.2.blocks can.blocks can.rest reads can.known can.frames (short_no_frame stream can.rest can.eof)) [
-    | inr k ↦ inl (as_excused a b e h.0 h.1 k)
-    | inl p ↦ elim (reads.last.promises.eof_is_none can.rest p.1 can.eof) [
-      | inl k ↦ absurd (let w = k.0 in cc)
-      | inr k ↦ inl (as_excused a b e h.0 h.1 (excused_after b (Err h.0) reads.blocks_are.consumed k))
-    ]
-  ]
+  stop_complete e (inl h) can =
+      let reads = h.put.reads in
+      let known = (reads.blocks_are.consumed.known can.known).known in
+      elim (all_frames_read stream bit_depth (Some h.cause) h.put.blocks can.blocks can.rest reads can.known can.frames (short_no_frame stream can.rest can.eof)) [
+        | inr k ↦ inl (as_excused a b reads.between e h.cause h.is known k)
+        | inl p ↦ elim (reads.last.promises.eof_is_none can.rest p.1 can.eof) [
+          | inl k ↦ absurd (let w = k.0 in cc)
+          | inr k ↦ inl (as_excused a b reads.between e h.cause h.is known (excused_after b (Err h.cause) reads.blocks_are.consumed k))
+        ]
+      ]
 
   -- a fault there is named
   pub stop_named : (f : Fault) (e : Error) → StopsPutting contents stream e a b x y → CanBeConvertedTo stream a f x → IsErrAnd (let r : Result (Unit {0}) Error = Err e in r) (NamesFault f) ⊎ (ConvertIsExcused (Err e) a b ⊎ OutputWriteFailed (Err e) x z)
   stop_named f e (inr h) can = elim (block_excused can.blocks (can.fault ++ can.rest) can.known can.frames (fault_no_frame stream bit_depth f (can.fault ++ can.rest) can.fault can.rest can.bad refl) can.can e h) [ inl m ↦ inr (inl (inl m)) | inr w ↦ inr (inr w) ]
-  stop_named f e (inl h) can = let reads = h.2.reads in elim (all_frames_read stream bit_depth (Some h.0) h.2.blocks can.blocks (can.fault ++ can.rest) reads can.known can.frames (fault_no_frame stream bit_depth f (can.fault ++ can.rest) can.fault can.rest can.bad refl)) [
-    | inr k ↦ inr (inl (as_excused a b e h.0 h.1 k))
-    | inl p ↦ elim (reads.last.promises.fault_is_complete f can.fault can.rest can.bad p.1) [
-      | inl k ↦ inl (subst (NamesFault f) (sym h.1) k.0)
-      | inr k ↦ inr (inl (as_excused a b e h.0 h.1 (excused_after b (Err h.0) reads.blocks_are.consumed k)))
-    ]
-  ]
+  stop_named f e (inl h) can =
+      let reads = h.put.reads in
+      let known = (reads.blocks_are.consumed.known can.known).known in
+      elim (all_frames_read stream bit_depth (Some h.cause) h.put.blocks can.blocks (can.fault ++ can.rest) reads can.known can.frames (fault_no_frame stream bit_depth f (can.fault ++ can.rest) can.fault can.rest can.bad refl)) [
+        | inr k ↦ inr (inl (as_excused a b reads.between e h.cause h.is known k))
+        | inl p ↦ elim (reads.last.promises.fault_is_complete f can.fault can.rest can.bad p.1) [
+          | inl k ↦ inl (named stream bit_depth f can.fault can.rest reads.between e h.cause h.is known p.1.are can.bad k.0)
+          | inr k ↦ inr (inl (as_excused a b reads.between e h.cause h.is known (excused_after b (Err h.cause) reads.blocks_are.consumed k)))
+        ]
+      ]
 
 -- all blocks were written: the file is finished, or memory was refused or the output failed
 pub end_complete : {W : Type 0} (a b : State ℕ) (x y z : WavWriter W) (r : Result (Unit {0}) Error) → NoneFailed x y → FinishFaultIsSound r y z → IsOk r ⊎ (ConvertIsExcused r a b ⊎ OutputFailed r x z)

@@ -1,6 +1,6 @@
 -- Frames and faults that are counted, one after another.
 use Rattle.std.proofs.Common.{◌≡◌, ◌⊎◌, ◌<◌, ◌≤◌, ◌+◌, ◌%◌, ◌^◌, ℕ, true, false, List, [], ◌∷◌, ◌++◌, length, inl, inr, refl, sym, ap, arith, subst, ◌∙◌, length-append}
-use Rattle.std.specs.Prelude.{Option, None, Some, Ok, Err}
+use Rattle.std.specs.Prelude.{IsTrue, Option, None, Some, Ok, Err, ◌↔◌}
 use Rattle.std.proofs.lemmas.List.{append-nil}
 use Rattle.std.proofs.lemmas.List.Sums.{sum_by_push}
 use Rattle.claxon.specs.Block.{BlockValue}
@@ -10,17 +10,21 @@ use Rattle.claxon.specs.Errors.{Error}
 use Rattle.claxon.specs.Errors.TheVariants.{FormatError, IoError, OutOfMemory, Unsupported}
 use Rattle.claxon.specs.Fault.{Fault}
 use Rattle.claxon.specs.Frame.{FrameBytesFault, StreamFormat}
-use Rattle.claxon.specs.FrameReader.{FrameAnswer, block_view}
+use Rattle.claxon.specs.FrameReader.{FrameAnswer, ReadsFrame, block_view}
 use Rattle.claxon.specs.Gives.{ReadFailedIn}
 use Rattle.claxon.specs.Promises.{Consumed}
 use Rattle.claxon.specs.Source.{IsKnown, Source}
 use Rattle.claxon.specs.State.{State, bytes_in, crcs_at_eof, remaining_as, RemainingIsKnown, final_crcs}
 use Rattle.claxon.specs.CrcReader.{crc_inner}
 use Rattle.claxon.specs.CrcReaders.{CrcReader}
-use Rattle.claxon_tools.specs.Verify.{AreCounted, AreTooMany, BlockIsRead, CannotCountFault, CountsFault, CountsFrame, CountsFramesAndFaults, ExceedsCount, FirstIs, IfConsumed, IsFaultAt, IsFirst, IsNotWhole, IsTooMany, FrameOrFault, FrameOrFaultBytes, FramesAndFaults, StopsCounting, counted_bytes, first_of, fault_count_of, frame_count_of, sample_count_of, position_of}
+use Rattle.claxon_write.proofs.Gathering.{reads_loans}
+use Rattle.claxon_tools.specs.Frames.{Is32BitFault}
+use Rattle.claxon_tools.specs.Verify.{AreCounted, AreTooMany, CannotCountFault, CountsFault, CountsFrame, CountsFramesAndFaults, ExceedsCount, FirstIs, IsFaultAt, IsFirst, IsNotWhole, IsTooMany, FrameOrFault, FrameOrFaultBytes, FramesAndFaults, StopsCounting, counted_bytes, first_of, fault_count_of, frame_count_of, sample_count_of, position_of}
+use Rattle.claxon_tools.specs.declared.frames.FrameError.{FrameError}
 use Rattle.claxon_tools.specs.declared.verify.FirstFault.{FirstFault}
 use Rattle.claxon_tools.specs.declared.verify.Found.{Found}
 use Rattle.claxon_tools.specs.declared.verify.Position.{Position}
+use Rattle.claxon_tools.proofs.BlockReads.{BlockIsRead, IfConsumed, block_read}
 use Rattle.claxon_tools.proofs.FramesAndFaults.{parts_push, parts_front}
 
 -- ---- the position
@@ -73,6 +77,7 @@ module _ (stream : Option StreamFormat) (start : ℕ) (s : List ℕ) where
       byte_is = f.byte_is;
       samples_are = f.samples_are;
       fault = weaker stream f.left first.error w f.fault;
+      is_32_bit = f.is_32_bit;
     },
   )
 
@@ -82,9 +87,9 @@ module _ (stream : Option StreamFormat) (start : ℕ) (s : List ℕ) where
 
 -- ---- the loop
 
--- the same of an equal answer
-pub read_as : {stream : Option StreamFormat} {r q : FrameAnswer} {a b : State ℕ} → r ≡ q → BlockIsRead stream r a b → BlockIsRead stream q a b
-read_as {stream = stream} {a = a} {b = b} e h = subst (λ (z : FrameAnswer). BlockIsRead stream z a b) e h
+-- of an equal answer
+pub read_as : {stream : Option StreamFormat} {r q : FrameAnswer} {a b : State ℕ} → r ≡ q → ReadsFrame stream r a b → BlockIsRead stream q a b
+read_as {stream = stream} {r = r} {a = a} {b = b} e h = subst (λ (z : FrameAnswer). BlockIsRead stream z a b) e (block_read stream a b r (reads_loans h) h)
 
 -- So far no read of the source failed, and just parts were consumed, which were counted.
 pub record SoFar (stream : Option StreamFormat) (start : ℕ) (s m : List ℕ) (found : Found) : Type 0 where
@@ -162,8 +167,8 @@ module _ {stream : Option StreamFormat} {start : ℕ} {a b : State ℕ} {found :
   ]
 
   -- it is the first one
-  new_first : {failed : Type 0} (first : FirstFault) (k : RemainingIsKnown a) → IsFaultAt failed stream b.remaining first.error → first.samples ≡ found.samples → ((front : List ℕ) → a.remaining ≡ front ++ b.remaining → first.byte ≡ (start + length front) % 2 ^ 64) → found.faults ≡ 0 → IsFirst failed stream start a.remaining first
-  new_first first k fault samples at none =
+  new_first : {failed : Type 0} (first : FirstFault) (k : RemainingIsKnown a) → IsFaultAt failed stream b.remaining first.error → (IsTrue first.is_32_bit ↔ Is32BitFault b.remaining first.error) → first.samples ≡ found.samples → ((front : List ℕ) → a.remaining ≡ front ++ b.remaining → first.byte ≡ (start + length front) % 2 ^ 64) → found.faults ≡ 0 → IsFirst failed stream start a.remaining first
+  new_first first k fault is_32_bit samples at none =
       let p = h.is k in
       let q = parts_front stream p.parts a.remaining b.remaining p.parts_are in
       record {
@@ -176,11 +181,14 @@ module _ {stream : Option StreamFormat} {start : ℕ} {a b : State ℕ} {found :
         byte_is = at q.0 q.1;
         samples_are = samples ∙ p.counts.samples;
         fault = fault;
+        is_32_bit = is_32_bit;
       }
 
   module _ {byte : ℕ} (at : RemainingIsKnown a → (front : List ℕ) → a.remaining ≡ front ++ b.remaining → byte ≡ (start + length front) % 2 ^ 64) where
-    pub fault_counted : {more : Found} (error : Error) (c : State ℕ) → BlockIsRead stream (Err error) b c → is_io error ≡ false → is_out_of_memory error ≡ false → CountsFault byte error found more → CountedSoFar stream start a c more
-    fault_counted {more} error c read io memory counts =
+    pub fault_counted : {more : Found} (fault : FrameError) (c : State ℕ) → BlockIsRead stream (Err fault.error) b c → (RemainingIsKnown b → IsTrue fault.is_32_bit ↔ Is32BitFault b.remaining fault.error) → is_io fault.error ≡ false → is_out_of_memory fault.error ≡ false
+        → CountsFault byte fault found more → CountedSoFar stream start a c more
+    fault_counted {more} fault c read is_32_bit io memory counts =
+        let error = fault.error in
         let kept = kept_err error io memory read.kept in
         record {
           errors = kept.0 ∙ h.errors;
@@ -202,13 +210,13 @@ module _ {stream : Option StreamFormat} {start : ℕ} {a b : State ℕ} {found :
                   faults = counts.faults_are ∙ omega (arith, q.faults, sum_by_push fault_count_of p.parts part);
                   samples = counts.samples_are ∙ omega (arith, q.samples, sum_by_push sample_count_of p.parts part);
                 };
-                first = rw counts.first_is (first_more stream start a.remaining ⊥ found.first_fault _ found.faults more.faults counts.faults_are p.first (new_first _ k (inl (f.0, f.1, (w.0, c.remaining, w.1, w.2))) refl (at k)));
+                first = rw counts.first_is (first_more stream start a.remaining ⊥ found.first_fault _ found.faults more.faults counts.faults_are p.first (new_first _ k (inl (f.0, f.1, (w.0, c.remaining, w.1, w.2))) (is_32_bit (h.known k)) refl (at k)));
               };
         }
 
     -- a frame that isn't whole is the last one
-    pub cut_counted : {more : Found} (error : Error) (c : State ℕ) → BlockIsRead stream (Err error) b c → IsIo error → CountsFault byte error found more → CountsFramesAndFaults stream start a c more
-    cut_counted {more} error c read io counts k =
+    pub cut_counted : {more : Found} (fault : FrameError) (c : State ℕ) → BlockIsRead stream (Err fault.error) b c → (RemainingIsKnown b → IsTrue fault.is_32_bit ↔ Is32BitFault b.remaining fault.error) → IsIo fault.error → CountsFault byte fault found more → CountsFramesAndFaults stream start a c more
+    cut_counted {more} fault c read is_32_bit io counts k =
         let p = h.is k in
         let q = p.counts in
         let why : IsNotWhole stream b.remaining ⊎ ReadFailedIn a c = elim (read.io io (h.known k)) [
@@ -226,7 +234,7 @@ module _ {stream : Option StreamFormat} {start : ℕ} {a b : State ℕ} {found :
             faults = counts.faults_are ∙ omega (arith, q.faults);
             samples = counts.samples_are ∙ q.samples;
           };
-          first = rw counts.first_is (first_more stream start a.remaining (ReadFailedIn a c) found.first_fault _ found.faults more.faults counts.faults_are (first_weaker stream start a.remaining (λ (x : ⊥). absurd x) found.faults found.first_fault p.first) (new_first _ k (inr (io, why)) refl (at k)));
+          first = rw counts.first_is (first_more stream start a.remaining (ReadFailedIn a c) found.first_fault _ found.faults more.faults counts.faults_are (first_weaker stream start a.remaining (λ (x : ⊥). absurd x) found.faults found.first_fault p.first) (new_first _ k (inr (io, why)) (is_32_bit (h.known k)) refl (at k)));
         }
 
   -- the end

@@ -1,17 +1,21 @@
 -- Frames and faults, one after another.
 use Rattle.std.proofs.Common.{◌≡◌, ◌⊎◌, ◌<◌, ◌+◌, ◌^◌, ◌%◌, ℕ, true, false, List, [], ◌∷◌, ◌++◌, length, inl, inr, refl, sym, ap, ap₂, arith, subst, ◌∙◌, append_assoc, length-append}
-use Rattle.std.specs.Prelude.{Bool, Option, None, Some, Ok, Err}
+use Rattle.std.specs.Prelude.{Bool, IsTrue, Option, None, Some, Ok, Err, ◌↔◌}
 use Rattle.std.specs.List.{sum_by}
+use Rattle.std.proofs.lemmas.Bool.{false≢true}
 use Rattle.std.proofs.lemmas.List.{append-nil, append_cancel_left}
 use Rattle.std.proofs.lemmas.List.Sums.{sum_by-append, sum_by-cons}
 use Rattle.claxon.specs.Errors.{Error}
-use Rattle.claxon.specs.Fault.{Fault}
+use Rattle.claxon.specs.Error.{IsFault}
+use Rattle.claxon.specs.Fault.{BitDepthReserved, Fault}
 use Rattle.claxon.specs.Frame.{Block, Frames, IsBitDepth, NoFrameLeft, StreamFormat, known_bit_depth}
 use Rattle.claxon.proofs.FormatLaws.{frames_unambiguous}
 use Rattle.claxon.proofs.SampleRuns.{short_no_frame, short_no_fault}
+use Rattle.claxon_tools.specs.Frames.{Is32BitFault, Says32Bits}
 use Rattle.claxon_tools.specs.Verify.{AreTooMany, CanBeCounted, Counted, EndsAt, FirstIs, IsFaultAt, IsFirst, IsNotWhole, FrameOrFault, FrameOrFaultBytes, FramesAndFaults, SameFirst, block_samples, cut_faults, fault_count_of, frame_count_of, sample_count_of}
 use Rattle.claxon_tools.specs.declared.verify.FirstFault.{FirstFault}
 use Rattle.claxon_tools.specs.declared.verify.Found.{Found}
+use Rattle.claxon_tools.proofs.FirstBytes.{refused}
 
 -- one part more
 pub parts_push : (stream : Option StreamFormat) (parts : List FrameOrFault) (part : FrameOrFault) (s m t r : List ℕ) → FramesAndFaults stream s parts m → FrameOrFaultBytes stream part t → m ≡ t ++ r → FramesAndFaults stream s (parts ++ part ∷ []) r
@@ -22,6 +26,13 @@ parts_push stream (x ∷ parts) part s m t r p c e = (p.0, p.1, p.2, p.3, parts_
 pub parts_front : (stream : Option StreamFormat) (parts : List FrameOrFault) (s m : List ℕ) → FramesAndFaults stream s parts m → (front : List ℕ) × (s ≡ front ++ m)
 parts_front stream [] s m p = ([], p)
 parts_front stream (x ∷ parts) s m p = let k = parts_front stream parts p.1 m p.4 in (p.0 ++ k.0, p.3 ∙ ap (λ (z : List ℕ). p.0 ++ z) k.1 ∙ sym (append_assoc p.0 k.0 m))
+
+-- two answers of one meaning are equal
+pub same_answer : {P : Type 0} (b c : Bool) → (IsTrue b ↔ P) → (IsTrue c ↔ P) → b ≡ c
+same_answer true true p q = refl
+same_answer false false p q = refl
+same_answer true false p q = absurd (false≢true (q.1 (p.0 refl)))
+same_answer false true p q = absurd (false≢true (p.1 (q.0 refl)))
 
 -- ---- frames alone
 
@@ -131,6 +142,20 @@ module _ (stream : Option StreamFormat) (bit_depth : IsBitDepth (known_bit_depth
   fault_no_frame e m (inl h) = inl (λ block t u c is. (frames_unambiguous stream bit_depth).no_fault block h.0 t h.2.0 u h.2.1 c h.2.2 (sym is ∙ h.2.3))
   fault_no_frame e m (inr h) = elim h.1 [ inl n ↦ inl (λ block t u c is. n.1.no_code block t u c is) | inr f ↦ inr f ]
 
+  -- where the bytes say 32 bits the error names that fault
+  names_32_bits : {failed : Type 0} (e : Error) (m : List ℕ) → IsFaultAt failed stream m e → Says32Bits m → IsFault BitDepthReserved e ⊎ failed
+  names_32_bits e m (inl h) s = inl (subst (λ (f : Fault). IsFault f e) ((frames_unambiguous stream bit_depth).one_fault h.0 BitDepthReserved h.2.0 s.0 h.2.1 s.1 h.2.2 (refused stream s.0 s.2.0 s.2.1) (sym h.2.3 ∙ s.3)).0 h.1)
+  names_32_bits e m (inr h) s = elim h.1 [ inl n ↦ absurd (n.1.no_fault BitDepthReserved s.0 s.1 (refused stream s.0 s.2.0 s.2.1) s.3) | inr f ↦ inr f ]
+
+  same_32_bits : {failed : Type 0} (m : List ℕ) (a b : FirstFault) → IsFaultAt failed stream m a.error → IsFaultAt ⊥ stream m b.error → (IsTrue a.is_32_bit ↔ Is32BitFault m a.error) → (IsTrue b.is_32_bit ↔ Is32BitFault m b.error) → (a.is_32_bit ≡ b.is_32_bit) ⊎ failed
+  same_32_bits {failed = failed} m a b x y p q = go a.is_32_bit b.is_32_bit p q
+    where
+      go : (i j : Bool) → (IsTrue i ↔ Is32BitFault m a.error) → (IsTrue j ↔ Is32BitFault m b.error) → (i ≡ j) ⊎ failed
+      go true true p q = inl refl
+      go false false p q = inl refl
+      go true false p q = let s = (p.0 refl).1 in elim (names_32_bits b.error m y s) [ inl f ↦ absurd (false≢true (q.1 (f, s))) | inr f ↦ absurd f ]
+      go false true p q = let s = (q.0 refl).1 in elim (names_32_bits a.error m x s) [ inl f ↦ absurd (false≢true (p.1 (f, s))) | inr f ↦ inr f ]
+
   same_ends : (is_cut cut : Bool) (rest : List ℕ) → EndsAt ⊥ stream is_cut rest → EndsAt ⊥ stream cut rest → cut_faults is_cut ≡ cut_faults cut
   same_ends false false rest a b = refl
   same_ends true true rest a b = refl
@@ -138,7 +163,7 @@ module _ (stream : Option StreamFormat) (bit_depth : IsBitDepth (known_bit_depth
   same_ends true false rest a b = absurd (elim a [ inl n ↦ omega (arith, b, n.0) | inr f ↦ f ])
 
   module _ {failed : Type 0} (start : ℕ) (s : List ℕ) where
-    same_first : (a b : FirstFault) → IsFirst failed stream start s a → IsFirst ⊥ stream start s b → ((a.byte ≡ b.byte) × (a.samples ≡ b.samples)) ⊎ failed
+    same_first : (a b : FirstFault) → IsFirst failed stream start s a → IsFirst ⊥ stream start s b → ((a.byte ≡ b.byte) × (a.samples ≡ b.samples) × (a.is_32_bit ≡ b.is_32_bit)) ⊎ failed
     same_first a b x y = elim (fault_no_frame a.error x.left x.fault) [
       | inr f ↦ inr f
       | inl none ↦ elim (fault_no_frame b.error y.left y.fault) [
@@ -148,7 +173,12 @@ module _ (stream : Option StreamFormat) (bit_depth : IsBitDepth (known_bit_depth
             let l : length x.front + length x.left ≡ length y.front + length y.left = sym (length-append x.front x.left) ∙ ap length (sym x.joined ∙ y.joined) ∙ length-append y.front y.left in
             let r : length x.left ≡ length y.left = ap length k.1 in
             let n : length x.front ≡ length y.front = omega arith in
-            inl (x.byte_is ∙ ap (λ (z : ℕ). (start + z) % 2 ^ 64) n ∙ sym y.byte_is, x.samples_are ∙ ap (sum_by sample_count_of) k.0 ∙ sym y.samples_are)
+            let fault = subst (λ (z : List ℕ). IsFaultAt failed stream z a.error) k.1 x.fault in
+            let is_32_bit = subst (λ (z : List ℕ). IsTrue a.is_32_bit ↔ Is32BitFault z a.error) k.1 x.is_32_bit in
+            elim (same_32_bits y.left a b fault y.fault is_32_bit y.is_32_bit) [
+              | inr f ↦ inr f
+              | inl same ↦ inl (x.byte_is ∙ ap (λ (z : ℕ). (start + z) % 2 ^ 64) n ∙ sym y.byte_is, x.samples_are ∙ ap (sum_by sample_count_of) k.0 ∙ sym y.samples_are, same)
+            ]
             )
       ]
     ]

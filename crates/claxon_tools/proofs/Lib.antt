@@ -16,6 +16,12 @@ mod Printing
 pub mod FramesAndFaults
 -- A call that reads a block.
 pub mod BlockReads
+-- A block that was read through a reader that keeps a CRC, over a mutable reference, in terms of
+-- the borrowed reader.
+pub mod ReadsBelow
+-- The first four bytes that a reader gave, and the fault of a frame whose header has the bit depth
+-- code for 32 bits.
+pub mod FirstBytes
 -- Frames and faults that are counted, one after another.
 pub mod Counting
 -- A whole stream: its head, and what was counted after it.

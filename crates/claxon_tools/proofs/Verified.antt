@@ -3,7 +3,6 @@ use Rattle.std.specs.Borrow.{MutBor}
 use Rattle.std.proofs.Common.{◌≡◌, ◌⊎◌, ◌<◌, ◌+◌, ◌%◌, ◌^◌, ℕ, zero, suc, true, false, List, ◌∷◌, ◌++◌, length, inl, inr, refl, sym, ap, arith, subst, ◌∙◌, length-append}
 use Rattle.std.specs.Prelude.{Bool, IfSome, IsTrue, IsOkAnd, Option, None, Some, Result, Ok, Err, ◌↔◌}
 use Rattle.std.specs.List.{sum_by}
-use Rattle.std.proofs.lemmas.Bool.{false≢true}
 use Rattle.claxon.specs.Error.{IsIo}
 use Rattle.claxon.specs.Errors.{Error}
 use Rattle.claxon.specs.Errors.TheVariants.{OutOfMemory}
@@ -33,7 +32,7 @@ use Rattle.claxon_tools.specs.declared.verify.Position.{Position}
 use Rattle.claxon_tools.specs.declared.verify.Report.{Report}
 use Rattle.claxon_tools.proofs.BlockReads.{decide_failed, io_not_fault, not_excused}
 use Rattle.claxon_tools.proofs.Counting.{first_weaker}
-use Rattle.claxon_tools.proofs.FramesAndFaults.{frames_of_all, not_too_many, parts_of_frames, same_counts}
+use Rattle.claxon_tools.proofs.FramesAndFaults.{frames_of_all, not_too_many, parts_of_frames, same_answer, same_counts}
 
 -- ---- what was counted, as said of the whole stream
 
@@ -56,6 +55,7 @@ module _ (failed : Type 0) (stream : Option StreamFormat) (p q : ℕ) (at : q % 
       byte_is = restart p q (length f.front) first.byte at f.byte_is;
       samples_are = f.samples_are;
       fault = f.fault;
+      is_32_bit = f.is_32_bit;
     },
   )
 
@@ -168,13 +168,6 @@ right_complete a result b h = λ known r few short.
     is_right : (other : Report) (q : Result Report Error) → IsOkAnd q (λ answer. SameReport answer other) → other.is_right ≡ true → IsOkAnd q (λ answer. IsTrue answer.is_right)
     is_right other (Ok answer) p e = p.is_right ∙ e
     is_right other (Err e) p t = p
-
--- two answers of one meaning are equal
-same_answer : {P : Type 0} (b c : Bool) → (IsTrue b ↔ P) → (IsTrue c ↔ P) → b ≡ c
-same_answer true true p q = refl
-same_answer false false p q = refl
-same_answer true false p q = absurd (false≢true (q.1 (p.0 refl)))
-same_answer false true p q = absurd (false≢true (p.1 (q.0 refl)))
 
 -- ---- no head was read
 

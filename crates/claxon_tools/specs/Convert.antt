@@ -39,6 +39,7 @@ use Rattle.claxon.specs.SampleRuns.{ConsumesFrames, ReadsFrames, samples_of}
 use Rattle.claxon.specs.declared.reader.FlacReader.{FlacReader}
 use Rattle.claxon_write.specs.WriteSamples.{flac_stream}
 use Rattle.claxon_tools.specs.DataSize.{max_data_size}
+use Rattle.claxon_tools.specs.Frames.{Is32BitFault, Says32Bits}
 use Rattle.claxon_tools.specs.Samples.{packed_samples}
 use Rattle.claxon_tools.specs.Verify.{IsNotWhole}
 use Rattle.claxon_tools.specs.WavError.{IsInput, IsMemory, IsOutput, NamesFault}
@@ -65,6 +66,7 @@ use Rattle.claxon_tools.specs.declared.wav.error.Error.TheVariants.{
   Output,
   SameFile,
   TooLong,
+  Unsupported32Bit,
   WideSample,
 }
 use Rattle.claxon_tools.specs.declared.wav.header.Layout.{Layout}
@@ -111,12 +113,26 @@ pub record StopsAtBlock {W : Type 0} (contents : W → Option (List ℕ)) (strea
   pub explains : ExplainsBlockError block put error
   pub keeps : BlockErrorKeeps contents block error put new
 
--- The error is the decoder's, after the samples before it were written, or says why a block was
--- not written.
+-- The error is the decoder's, or says exactly where it is so that the bytes where the frame begins
+-- say 32 bits.
+abbrev pub IsErrorAt : State ℕ → Cause → Error → Type 0
+IsErrorAt at cause (Claxon error) =
+    (error ≡ cause) × (RemainingIsKnown at → Is32BitFault at.remaining cause → ⊥)
+IsErrorAt at cause Unsupported32Bit = RemainingIsKnown at → Is32BitFault at.remaining cause
+IsErrorAt at cause _ = ⊥
+
+-- The decoder's error came after the samples before it were written.
+pub record StopsAtFault {W : Type 0} (contents : W → Option (List ℕ)) (stream : Option StreamFormat)
+    (error : Error) (a b : State ℕ) (old new : WavWriter W) : Type 0 where
+  pub cause : Cause
+  pub put : PutsBlocks contents stream (Err cause) a b old new
+  pub is : IsErrorAt put.reads.between cause error
+
+-- The error is that of a frame, or says why a block was not written.
 abbrev pub StopsPutting : {W : Type 0} → (W → Option (List ℕ)) → Option StreamFormat → Error
     → State ℕ → State ℕ → WavWriter W → WavWriter W → Type 0
 StopsPutting contents stream error a b old new =
-    ((cause : Cause) × (error ≡ Claxon cause) × PutsBlocks contents stream (Err cause) a b old new)
+    StopsAtFault contents stream error a b old new
     ⊎ StopsAtBlock contents stream error a b old new
 
 -- `a` and `b` are the input before and after the call.
@@ -206,11 +222,18 @@ abbrev pub HasBlocks : Option StreamFormat → List ℕ → (List Block → Type
 HasBlocks stream s P =
     (blocks : List Block) × (rest : List ℕ) × Frames stream s blocks rest × P blocks
 
--- s is the frames of blocks, followed by a fault that the error names.
+-- s is the frames of blocks, followed by a fault that the error names, and that doesn't come of the
+-- bit depth code for 32 bits.
 abbrev pub HasFault : Option StreamFormat → List ℕ → Cause → Type 0
 HasFault stream s error =
     (f : Fault) × IsFault f error × ((blocks : List Block) × (t : List ℕ) × (rest : List ℕ)
-    × Frames stream s blocks (t ++ rest) × FrameBytesFault stream f t)
+    × Frames stream s blocks (t ++ rest) × FrameBytesFault stream f t
+    × (Is32BitFault (t ++ rest) error → ⊥))
+
+-- s is the frames of blocks, followed by bytes that begin a header with that code.
+abbrev pub Has32Bits : Option StreamFormat → List ℕ → Type 0
+Has32Bits stream s =
+    (blocks : List Block) × (rest : List ℕ) × Frames stream s blocks rest × Says32Bits rest
 
 -- s is the frames of blocks, followed by one that isn't whole.
 abbrev pub IsCut : Option StreamFormat → List ℕ → Type 0
@@ -219,7 +242,7 @@ IsCut stream s =
 
 -- What an error says of the remaining input, where it is known, and of the output. It is
 -- `OutOfMemory`, a fault in the input, an `IoError` where the input is cut or its source failed, or
--- a failed call of the output, which was counted. Or the input begins with blocks of which one has
+-- a failed call of the output, which was counted. Or a frame has the bit depth code for 32 bits. Or the input begins with blocks of which one has
 -- other channels than the layout, a sample doesn't fit in its valid bits, or the bytes, with those
 -- written before, are more than a WAV file holds.
 abbrev pub ExplainsError : {W : Type 0} → Option StreamFormat → State ℕ → State ℕ → WavWriter W
@@ -228,6 +251,7 @@ ExplainsError stream a b old new (Claxon error) =
     (error ≡ OutOfMemory)
     ⊎ ((IsIo error × (RemainingIsKnown a → IsCut stream a.remaining ⊎ ReadFailedIn a b))
     ⊎ (RemainingIsKnown a → HasFault stream a.remaining error))
+ExplainsError stream a b old new Unsupported32Bit = RemainingIsKnown a → Has32Bits stream a.remaining
 ExplainsError stream a b old new OtherChannels =
     RemainingIsKnown a
     → HasBlocks stream a.remaining (λ blocks.

@@ -9,6 +9,7 @@ pub mod Convert
 pub mod Samples
 pub mod Writer
 pub mod Facts
+pub mod Frames
 pub mod Verify
 pub mod WavCommand
 pub mod WavError

@@ -34,19 +34,21 @@ use Rattle.std.specs.List.{sum_by}
 use Rattle.claxon.specs.Error.{IsFault, IsIo, is_out_of_memory}
 use Rattle.claxon.specs.Fault.{Fault}
 use Rattle.claxon.specs.Frame.{Block, Frame, FrameBytesFault, StreamFormat}
-use Rattle.claxon.specs.FrameReader.{FrameAnswer, HeaderOfLargerBlock, block_view}
+use Rattle.claxon.specs.FrameReader.{HeaderOfLargerBlock}
 use Rattle.claxon.specs.Gives.{ReadFailedIn}
 use Rattle.claxon.specs.Heads.{Head, HeadCode, HeadFault, Marker, stream_marker}
 use Rattle.claxon.specs.Prefix.{BeginsWith}
-use Rattle.claxon.specs.Promises.{Consumed, FaultIsSound, FoundIsSound, HasNeither, IsOutOfMemory}
+use Rattle.claxon.specs.Promises.{HasNeither, IsOutOfMemory}
 use Rattle.claxon.specs.ReadHead.{MemoryMayBeNeeded}
 use Rattle.claxon.specs.Source.{Source}
-use Rattle.claxon.specs.State.{State, bytes_in, RemainingIsKnown, final_crcs}
+use Rattle.claxon.specs.State.{State, bytes_in, RemainingIsKnown}
 use Rattle.claxon.specs.Streams.{IsStream, duration_of, stream_of, with_samples}
 use Rattle.claxon.specs.Errors.{Error}
-use Rattle.claxon.specs.Errors.TheVariants.{FormatError, OutOfMemory, Unsupported}
+use Rattle.claxon.specs.Errors.TheVariants.{OutOfMemory, Unsupported}
 use Rattle.claxon.specs.CrcReader.{crc_source, crc_state}
 use Rattle.claxon.specs.CrcReaders.{CrcReader}
+use Rattle.claxon_tools.specs.Frames.{Is32BitFault}
+use Rattle.claxon_tools.specs.declared.frames.FrameError.{FrameError}
 use Rattle.claxon_tools.specs.declared.verify.FirstFault.{FirstFault}
 use Rattle.claxon_tools.specs.declared.verify.Found.{Found}
 use Rattle.claxon_tools.specs.declared.verify.Position.{Position}
@@ -124,7 +126,8 @@ IsFaultAt failed stream m e =
     ((f : Fault) × IsFault f e × BeginsWith (FrameBytesFault stream f) m)
     ⊎ (IsIo e × (IsNotWhole stream m ⊎ failed))
 
--- After just frames the fault stands in s, which begins at the byte `start` of the stream.
+-- After just frames the fault stands in s, which begins at the byte `start` of the stream. It says
+-- exactly where it is so that the frame is refused because its samples have 32 bits.
 pub record IsFirst (failed : Type 0) (stream : Option StreamFormat) (start : ℕ) (s : List ℕ)
     (first : FirstFault) : Type 0 where
   pub front : List ℕ
@@ -136,6 +139,7 @@ pub record IsFirst (failed : Type 0) (stream : Option StreamFormat) (start : ℕ
   pub byte_is : first.byte ≡ (start + length front) % 2 ^ 64
   pub samples_are : first.samples ≡ sum_by sample_count_of before
   pub fault : IsFaultAt failed stream left first.error
+  pub is_32_bit : IsTrue first.is_32_bit ↔ Is32BitFault left first.error
 
 -- There is one where there are faults.
 abbrev pub FirstIs : Type 0 → Option StreamFormat → ℕ → List ℕ → ℕ → Option FirstFault → Type 0
@@ -237,41 +241,23 @@ pub record CountsFrame (samples : ℕ) (old new : Found) : Type 0 where
   pub samples_are : new.samples ≡ old.samples + samples
   pub first_is : new.first_fault ≡ old.first_fault
 
+-- a fault at this byte, after so many samples
+abbrev pub first_fault_of : ℕ → ℕ → FrameError → FirstFault
+first_fault_of byte samples fault =
+    record { byte = byte; samples = samples; error = fault.error; is_32_bit = fault.is_32_bit }
+
 -- the first fault, after one more
 abbrev pub first_of : Option FirstFault → FirstFault → Option FirstFault
 first_of None fault = Some fault
 first_of (Some first) fault = Some first
 
 -- One fault more is counted.
-pub record CountsFault (byte : ℕ) (error : Error) (old new : Found) : Type 0 where
+pub record CountsFault (byte : ℕ) (fault : FrameError) (old new : Found) : Type 0 where
   pub frames_are : new.frames ≡ old.frames
   pub faults_are : new.faults ≡ old.faults + 1
   pub samples_are : new.samples ≡ old.samples
   pub first_is : new.first_fault
-      ≡ first_of old.first_fault (record { byte = byte; samples = old.samples; error = error })
-
--- P after a block, or after an Err other than `OutOfMemory` and `IoError`
-abbrev pub IfConsumed : FrameAnswer → Type 0 → Type 0
-IfConsumed (Ok (Some block)) P = P
-IfConsumed (Ok None) P = Unit {0}
-IfConsumed (Err (FormatError text)) P = P
-IfConsumed (Err (Unsupported text)) P = P
-IfConsumed (Err e) P = Unit {0}
-
--- What a call that reads a block returned, and what it did to its input.
-pub record BlockIsRead (stream : Option StreamFormat) (r : FrameAnswer) (old new : State ℕ) : Type 0
-  where
-    pub sound : FoundIsSound block_view r (Frame stream) old new
-    pub eof : IfOk r (λ found. found ≡ None → RemainingIsKnown old → length old.remaining < 2)
-    pub fault : FaultIsSound r (FrameBytesFault stream) old new
-    pub io : IfErr r (λ e. IsIo e → RemainingIsKnown old → IsNotWhole stream old.remaining
-        ⊎ ReadFailedIn old new)
-    pub memory : IsOutOfMemory r → Consumed old new (HeaderOfLargerBlock stream 0)
-    pub loans : new.source.loans ≡ old.source.loans
-    pub kept :
-        IfConsumed r (
-        (new.source.errors ≡ old.source.errors) × (new.source.empty_reads ≡ old.source.empty_reads)
-        × (RemainingIsKnown old → final_crcs new ≡ final_crcs old))
+      ≡ first_of old.first_fault (first_fault_of byte old.samples fault)
 
 -- ---- a reader that counts bytes
 
@@ -312,10 +298,11 @@ StopsCounting stream old e =
 
 -- ---- the contract of the call
 
--- Both have a first fault at the same place, or none.
+-- Both have a first fault at the same place, and say the same of 32 bits, or have none.
 abbrev pub SameFirst : Option FirstFault → Option FirstFault → Type 0
 SameFirst None None = Unit {0}
-SameFirst (Some a) (Some b) = (a.byte ≡ b.byte) × (a.samples ≡ b.samples)
+SameFirst (Some a) (Some b) =
+    (a.byte ≡ b.byte) × (a.samples ≡ b.samples) × (a.is_32_bit ≡ b.is_32_bit)
 SameFirst _ _ = ⊥
 
 -- Both say the same.

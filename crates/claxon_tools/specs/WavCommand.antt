@@ -1,15 +1,14 @@
 -- The command `wav`.
 use Rattle.std.specs.Prelude.{◌≡◌, ◌==◌, ℕ, Err, None, Ok, Option, Result, Some, cond}
 use Rattle.claxon_tools.specs.WaveFile.{IsSizeOf}
-use Rattle.claxon_tools.specs.declared.commands.wav.Failure.{Failure}
 use Rattle.claxon_tools.specs.declared.wav.error.Error.{Error}
 use Rattle.claxon_tools.specs.declared.wav.error.Error.TheVariants.{TooLong}
 use Rattle.claxon_tools.specs.declared.wav.header.Layout.{Layout}
 
 -- The exit status: 0 where all was converted, and the number of samples is the known one or none
 -- is known.
-abbrev pub status_after : Option ℕ → Result ℕ Failure → ℕ
-status_after known (Err failure) = 1
+abbrev pub status_after : Option ℕ → Result ℕ Error → ℕ
+status_after known (Err error) = 1
 status_after None (Ok found) = 0
 status_after (Some known) (Ok found) = cond (known == found) 0 1
 

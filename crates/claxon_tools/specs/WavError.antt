@@ -1,11 +1,16 @@
 -- The errors of a conversion to a WAV file.
-use Rattle.std.specs.Prelude.{◌≡◌, Err, IsErrAnd, Ok, Result}
+use Rattle.std.specs.Prelude.{◌≡◌, Err, IsErrAnd, IsTrue, Ok, Result, false}
 use Rattle.claxon.specs.Error.{IsFault, IsIo}
 use Rattle.claxon.specs.Errors.{Error as Cause}
 use Rattle.claxon.specs.Errors.TheVariants.{OutOfMemory}
-use Rattle.claxon.specs.Fault.{Fault}
+use Rattle.claxon.specs.Fault.{BitDepthReserved, Fault}
 use Rattle.claxon_tools.specs.declared.wav.error.Error.{Error}
-use Rattle.claxon_tools.specs.declared.wav.error.Error.TheVariants.{Claxon, Output}
+use Rattle.claxon_tools.specs.declared.frames.FrameError.{FrameError}
+use Rattle.claxon_tools.specs.declared.wav.error.Error.TheVariants.{
+  Claxon,
+  Output,
+  Unsupported32Bit,
+}
 
 -- a failed call of the output
 abbrev pub IsOutput : Error → Type 0
@@ -25,7 +30,14 @@ IsMemory _ = ⊥
 -- The error names this fault of the stream.
 abbrev pub NamesFault : Fault → Error → Type 0
 NamesFault f (Claxon cause) = IsFault f cause
+NamesFault f Unsupported32Bit = f ≡ BitDepthReserved
 NamesFault f _ = ⊥
+
+-- It is the decoder's error, or says that the frame's samples have 32 bits, where they do.
+abbrev pub IsFrameError : FrameError → Error → Type 0
+IsFrameError cause (Claxon error) = (error ≡ cause.error) × (cause.is_32_bit ≡ false)
+IsFrameError cause Unsupported32Bit = IsTrue cause.is_32_bit
+IsFrameError cause _ = ⊥
 
 -- The same Ok, or an error of the output.
 abbrev pub IsOutputResult : {A : Type 0} → Result A Cause → Result A Error → Type 0

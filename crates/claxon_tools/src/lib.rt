@@ -6,6 +6,7 @@ pub mod arguments;
 pub mod commands;
 mod facts;
 pub mod fnv;
+mod frames;
 pub mod program;
 pub mod progress;
 pub mod result_text;

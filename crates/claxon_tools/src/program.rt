@@ -17,7 +17,6 @@ ghost use Rattle.claxon_tools.specs.Text.{Adds, IsText, escaped_text};
 use crate::arguments::Notice;
 use crate::text::escaped_text;
 use claxon::Error;
-use claxon::metadata::StreamInfo;
 use claxon_write::Output;
 use std::alloc::{AllocError, Allocator, Global};
 use std::fs;
@@ -211,27 +210,6 @@ pub fn report<E: Write>(alloc: Global, name: &str, part: Part, error: &Error, er
     let text = error_text(alloc, part, error);
     report_text(alloc, name, part, text, errors);
 }
-
-/// Prints the line of an error in the frames of a stream with this streaminfo, after `samples` samples per channel. Where the
-/// first frame is refused because of the bit depth code for 32 bits, which was reserved before, a second line says so.
-pub fn report_frame<E: Write>(
-    alloc: Global,
-    name: &str,
-    info: &StreamInfo,
-    samples: u64,
-    error: &Error,
-    errors: &mut E,
-) {
-    report(alloc, name, Part::Frame, error, errors);
-    if info.bits_per_sample == 32 && samples == 0 && *error == RESERVED_VALUE {
-        let text = String::from_str(alloc, "32-bit samples are not supported");
-        report_text(alloc, name, Part::Frame, text, errors);
-    }
-}
-
-const RESERVED_VALUE: Error = Error::FormatError(
-    "invalid frame header, encountered reserved value",
-);
 
 /// Prints a line `NAME: TEXT`, as `report` does.
 pub fn report_text<E: Write>(

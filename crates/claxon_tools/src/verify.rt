@@ -19,7 +19,6 @@ ghost use Rattle.claxon.specs.MetadataBlock.{or_zero};
 ghost use Rattle.claxon.specs.State.{bytes_in};
 ghost use Rattle.claxon_tools.specs.Progress.{SameErrors, StaysQuiet};
 ghost use Rattle.claxon_tools.specs.Verify.{
-  BlockIsRead,
   CannotCountFault,
   CountsFault,
   CountsFrame,
@@ -41,9 +40,9 @@ ghost use Rattle.claxon_tools.specs.Verify.{
   update_position,
 };
 
+use crate::frames::{FrameError, read_block};
 use crate::progress::Progress;
 use claxon::crc::{CrcReader, RunningCrc};
-use claxon::frame::{FrameReader, FrameResult};
 use claxon::input::ReadBytes;
 use claxon::metadata::StreamInfo;
 use claxon::{Error, FlacReaderOptions, Result, read_head};
@@ -83,6 +82,8 @@ pub struct FirstFault {
     pub samples: u64,
     /// What is wrong: an `IoError` if the input ends inside the frame, or if its source failed there.
     pub error: Error,
+    /// The frame is refused because of the bit depth code for 32 bits, which was reserved in earlier editions of the format.
+    pub is_32_bit: bool,
 }
 
 // The number of bytes that were read, modulo 2^64. A reader keeps it as it keeps a CRC.
@@ -239,9 +240,9 @@ fn count_frames_and_faults<R: ReadBytes, A: Allocator + Copy, E: Write>(
                 buffer = block.into_buffer();
             }
             Ok(None) => return Ok(found),
-            Err(error) => {
-                let is_last = is_io_error(&error);
-                found = with_fault(found, byte, error)?;
+            Err(fault) => {
+                let is_last = is_io_error(&fault.error);
+                found = with_fault(found, byte, fault)?;
                 if is_last {
                     return Ok(found);
                 }
@@ -258,21 +259,6 @@ fn is_io_error(error: &Error) -> bool
     matches!(error, Error::IoError(_))
 }
 
-// Reads the next block of the stream with this streaminfo.
-fn read_block<R: ReadBytes, A: Allocator>(
-    input: &mut R,
-    info: StreamInfo,
-    buffer: Vec<i32, A>,
-) -> FrameResult<A>
-    requires min_bit_depth { 1 ≤ info.bits_per_sample }
-    requires max_bit_depth { info.bits_per_sample ≤ 32 }
-    ensures { BlockIsRead (Some (stream_with info)) result
-        (bytes_in R.source input.old) (bytes_in R.source input.new) }
-{
-    let mut frames = FrameReader::with_streaminfo(input, info);
-    frames.read_next_or_eof(buffer)
-}
-
 // One frame more.
 fn with_frame(found: Found, duration: u32) -> Result<Found>
     ensures ok { IfOk result (CountsFrame duration found) }
@@ -286,12 +272,13 @@ fn with_frame(found: Found, duration: u32) -> Result<Found>
 }
 
 // One fault more, unless memory was refused.
-fn with_fault(found: Found, byte: u64, error: Error) -> Result<Found>
+fn with_fault(found: Found, byte: u64, fault: FrameError) -> Result<Found>
     ensures fits { byte < 2 ^ 64 }
     ensures ok { IfOk result
-        (λ more. (is_out_of_memory error ≡ false) × CountsFault byte error found more) }
-    ensures err { IfErr result (CannotCountFault error found) }
+        (λ more. (is_out_of_memory fault.error ≡ false) × CountsFault byte fault found more) }
+    ensures err { IfErr result (CannotCountFault fault.error found) }
 {
+    let FrameError { error, is_32_bit } = fault;
     if matches!(&error, Error::OutOfMemory) {
         return Err(error);
     }
@@ -309,6 +296,7 @@ fn with_fault(found: Found, byte: u64, error: Error) -> Result<Found>
             byte,
             samples,
             error,
+            is_32_bit,
         })),
     })
 }

@@ -1,5 +1,8 @@
 //! The command `verify`: whether FLAC files are right.
+ghost use Rattle.claxon_tools.specs.Program.{FaultTextIsSound};
+
 use crate::arguments::Names;
+use crate::frames::UNSUPPORTED_32_BIT;
 use crate::program::{Part, Program, STANDARD, error_text, line, open_input, report, shown_name};
 use crate::text::count_text;
 use crate::verify::{FirstFault, Report, verify};
@@ -213,10 +216,20 @@ fn push_faults(alloc: Global, text: &mut String, report: &Report) -> Result<(), 
 
 fn push_fault(alloc: Global, text: &mut String, first: &FirstFault) -> Result<(), AllocError> {
     let byte = first.byte;
-    let what = error_text(alloc, Part::Frame, &first.error)?;
+    let what = fault_text(alloc, first)?;
     write!(text, " at byte {byte}")?;
     push_count(alloc, text, " after ", first.samples, "sample")?;
     write!(text, ": {what}")
+}
+
+// What is wrong with a frame.
+fn fault_text(alloc: Global, first: &FirstFault) -> Result<String, AllocError>
+    ensures { FaultTextIsSound first.now result }
+{
+    if first.is_32_bit {
+        return String::from_str(alloc, UNSUPPORTED_32_BIT);
+    }
+    error_text(alloc, Part::Frame, &first.error)
 }
 
 fn push_count(

@@ -5,7 +5,7 @@ ghost use Rattle.claxon_tools.specs.DataSize.{max_data_size};
 ghost use Rattle.claxon_tools.specs.WavCommand.{IsAnnounced, status_after};
 
 use crate::arguments::{Argument, Arguments, Notice};
-use crate::program::{Part, Program, STANDARD, open_input, report, report_frame, report_text};
+use crate::program::{Part, Program, STANDARD, open_input, report, report_text};
 use crate::progress::Progress;
 use crate::text::count_text;
 use crate::wav::{Error, Layout, Result, WavWriter, convert, convert_to_stream};
@@ -52,7 +52,7 @@ pub fn command<Q: Files + AllocGlobal, I: Read + Copy, W: Write + Drop, E: Write
     errors: &mut E,
 ) -> u8 {
     match parse(words) {
-        Ok(job) => convert_file(rt, job, input, output, shows_progress, errors),
+        Ok(request) => convert_request(rt, request, input, output, shows_progress, errors),
         Err(notice) => {
             let mut output = output;
             PROGRAM.print(rt.alloc(), notice, &mut output, errors)
@@ -62,13 +62,21 @@ pub fn command<Q: Files + AllocGlobal, I: Read + Copy, W: Write + Drop, E: Write
 
 // What a command line asks for: the name of the input, that of the output if it is given, and whether the output may exist.
 #[derive(Clone, Copy)]
-struct Job<'a> {
+struct Request<'a> {
     from: &'a str,
     to: Option<&'a str>,
     replaces: bool,
 }
 
-fn parse<'a>(words: &'a [String]) -> result::Result<Job<'a>, Notice<'a>> {
+// The same, where the output has a name.
+#[derive(Clone, Copy)]
+struct Job<'a> {
+    from: &'a str,
+    to: &'a str,
+    replaces: bool,
+}
+
+fn parse<'a>(words: &'a [String]) -> result::Result<Request<'a>, Notice<'a>> {
     let mut arguments = Arguments::new(words);
     let (mut from, mut to, mut replaces) = (None, None, false);
     while let Some(argument) = arguments.next() {
@@ -81,20 +89,46 @@ fn parse<'a>(words: &'a [String]) -> result::Result<Job<'a>, Notice<'a>> {
         }
     }
     match from {
-        Some(from) => Ok(Job { from, to, replaces }),
+        Some(from) => Ok(Request { from, to, replaces }),
         None => Err(Notice::Usage),
     }
 }
 
+// Names the output, and converts.
+fn convert_request<Q: Files + AllocGlobal, I: Read + Copy, W: Write + Drop, E: Write>(
+    rt: &Q,
+    request: Request<'_>,
+    input: I,
+    output: W,
+    shows_progress: bool,
+    errors: &mut E,
+) -> u8 {
+    let Request { from, replaces, .. } = request;
+    match output_name(rt.alloc(), request) {
+        Ok(to) => {
+            let to = to.as_str();
+            let job = Job { from, to, replaces };
+            convert_file(rt, job, input, output, shows_progress, errors)
+        }
+        Err(error) => {
+            let error = claxon::Error::from(error);
+            report(rt.alloc(), from, Part::Head, &error, errors);
+            1
+        }
+    }
+}
+
 // The name of the output: the one that is given, or that of the input with another extension.
-fn output_name(alloc: Global, job: Job<'_>) -> Result<String> {
-    Ok(match job.to {
-        Some(to) => String::from_str(alloc, to)?,
-        None if job.from == STANDARD => String::from_str(alloc, STANDARD)?,
-        None => Path::new(job.from)
-            .with_extension(alloc, "wav")?
-            .into_string(),
-    })
+fn output_name(alloc: Global, request: Request<'_>) -> result::Result<String, AllocError> {
+    match request.to {
+        Some(to) => String::from_str(alloc, to),
+        None if request.from == STANDARD => String::from_str(alloc, STANDARD),
+        None => Ok(
+            Path::new(request.from)
+                .with_extension(alloc, "wav")?
+                .into_string(),
+        ),
+    }
 }
 
 // The output is created after the head is read, so that a fault there leaves an existing file as it is.
@@ -126,19 +160,6 @@ fn convert_file<Q: Files + AllocGlobal, I: Read + Copy, W: Write + Drop, E: Writ
     }
 }
 
-// An error, and the number of samples per channel that were written before it.
-#[derive(Drop)]
-struct Failure {
-    error: Error,
-    samples: u32,
-}
-
-impl From<Error> for Failure {
-    fn from(error: Error) -> Failure {
-        Failure { error, samples: 0 }
-    }
-}
-
 // Writes the WAV file, and returns the number of samples per channel.
 fn write_wav<Q: Files + AllocGlobal, R: Read + Drop, W: Write + Drop, E: Write>(
     rt: &Q,
@@ -146,18 +167,17 @@ fn write_wav<Q: Files + AllocGlobal, R: Read + Drop, W: Write + Drop, E: Write>(
     flac: &mut FlacReader<R>,
     output: W,
     progress: &mut Progress<'_, E>,
-) -> result::Result<u32, Failure>
+) -> Result<u32>
     requires { flac_metadata_only flac.old ≡ false }
 {
     let info = flac.streaminfo();
     let (channels, bits) = (info.channels, info.bits_per_sample);
     let layout = Layout::new(channels, bits, info.sample_rate, channel_mask(flac));
     let announced = announced_size(&layout, &info)?;
-    let to = output_name(rt.alloc(), job)?;
-    if to.as_str() == STANDARD {
+    if job.to == STANDARD {
         return write_stream(rt.alloc(), flac, output, layout, announced, progress);
     }
-    let file = create(rt, job, to.as_str())?;
+    let file = create(rt, job)?;
     if is_regular(&file) {
         return write_file(rt.alloc(), flac, file, layout, announced, progress);
     }
@@ -186,13 +206,13 @@ fn write_file<R: Read + Drop, W: Write + Seek + Drop, E: Write>(
     layout: Layout,
     announced: Option<u32>,
     progress: &mut Progress<'_, E>,
-) -> result::Result<u32, Failure>
+) -> Result<u32>
     requires reads_frames { flac_metadata_only flac.old ≡ false }
     requires fits { IfSome announced (λ n. n ≤ max_data_size) }
 {
     let mut wav = WavWriter::start(alloc, &mut file, layout, announced.unwrap_or(0))?;
-    let outcome = convert(alloc, flac, &mut wav, progress);
-    with_samples(wav.samples(), outcome)
+    convert(alloc, flac, &mut wav, progress)?;
+    Ok(wav.samples())
 }
 
 // To an output that can't seek.
@@ -203,7 +223,7 @@ fn write_stream<R: Read + Drop, W: Write + Drop, E: Write>(
     layout: Layout,
     announced: Option<u32>,
     progress: &mut Progress<'_, E>,
-) -> result::Result<u32, Failure>
+) -> Result<u32>
     requires reads_frames { flac_metadata_only flac.old ≡ false }
     requires fits { IfSome announced (λ n. n ≤ max_data_size) }
 {
@@ -211,15 +231,8 @@ fn write_stream<R: Read + Drop, W: Write + Drop, E: Write>(
         Some(size) => WavWriter::start(alloc, &mut output, layout, size)?,
         None => WavWriter::start_unknown(alloc, &mut output, layout)?,
     };
-    let outcome = convert_to_stream(alloc, flac, &mut wav, progress);
-    with_samples(wav.samples(), outcome)
-}
-
-fn with_samples(samples: u32, outcome: Result<()>) -> result::Result<u32, Failure> {
-    match outcome {
-        Ok(()) => Ok(samples),
-        Err(error) => Err(Failure { error, samples }),
-    }
+    convert_to_stream(alloc, flac, &mut wav, progress)?;
+    Ok(wav.samples())
 }
 
 // That another number of samples was found than the streaminfo says.
@@ -234,7 +247,7 @@ fn status_of<E: Write>(
     alloc: Global,
     job: Job<'_>,
     info: &StreamInfo,
-    outcome: result::Result<u32, Failure>,
+    outcome: Result<u32>,
     errors: &mut E,
 ) -> u8
     ensures { result ≡ status_after info.now.samples outcome }
@@ -248,35 +261,23 @@ fn status_of<E: Write>(
             }
             _ => 0,
         },
-        Err(failure) => {
-            report_failure(alloc, job, info, failure, errors);
+        Err(error) => {
+            report_error(alloc, job, error, errors);
             1
         }
     }
 }
 
-fn report_failure<E: Write>(
-    alloc: Global,
-    job: Job<'_>,
-    info: &StreamInfo,
-    failure: Failure,
-    errors: &mut E,
-) {
-    let Ok(to) = output_name(alloc, job) else {
-        return;
-    };
-    match failure.error {
-        Error::Claxon(error) => {
-            let samples = u64::from(failure.samples);
-            report_frame(alloc, job.from, info, samples, &error, errors);
-        }
+fn report_error<E: Write>(alloc: Global, job: Job<'_>, error: Error, errors: &mut E) {
+    match error {
+        Error::Claxon(error) => report(alloc, job.from, Part::Frame, &error, errors),
         Error::Output(cause) => {
             let error = claxon::Error::IoError(cause);
-            report(alloc, to.as_str(), Part::Output, &error, errors);
+            report(alloc, job.to, Part::Output, &error, errors);
         }
         error => {
             let (name, part) = match error {
-                Error::SameFile | Error::Exists => (to.as_str(), Part::Output),
+                Error::SameFile | Error::Exists => (job.to, Part::Output),
                 _ => (job.from, Part::Frame),
             };
             report_text(alloc, name, part, format!(in alloc; "{error}"), errors);
@@ -295,14 +296,14 @@ fn channel_mask<R: Read>(flac: &FlacReader<R>) -> Option<u32> {
 }
 
 // Creates the output. A device or a pipe holds nothing that could be lost, so its name may exist.
-fn create<Q: Files>(rt: &Q, job: Job<'_>, to: &str) -> Result<Q::File> {
-    if is_same_file(rt, job.from, to) {
+fn create<Q: Files>(rt: &Q, job: Job<'_>) -> Result<Q::File> {
+    if is_same_file(rt, job.from, job.to) {
         return Err(Error::SameFile);
     }
-    if !job.replaces && Path::new(to).is_file(rt) {
+    if !job.replaces && Path::new(job.to).is_file(rt) {
         return Err(Error::Exists);
     }
-    Ok(fs::create(rt, to)?)
+    Ok(fs::create(rt, job.to)?)
 }
 
 // Whether an open file can seek, as far as its type tells.

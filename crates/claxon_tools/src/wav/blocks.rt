@@ -1,7 +1,7 @@
 //! The blocks of a stream, written to a WAV file.
 ghost use Rattle.std.specs.Prelude.{◌≡◌, ◌≤◌, false, Some};
 ghost use Rattle.claxon.specs.FlacReader.{flac_metadata_only};
-ghost use Rattle.claxon.specs.FrameReader.{frame_bytes, frame_stream, stream_with};
+ghost use Rattle.claxon.specs.FrameReader.{stream_with};
 ghost use Rattle.claxon.specs.State.{bytes_in};
 ghost use Rattle.claxon_tools.specs.Convert.{
   ConvertFaultIsComplete,
@@ -15,11 +15,11 @@ ghost use Rattle.claxon_tools.specs.Convert.{
 ghost use Rattle.claxon_tools.specs.Progress.{SameErrors, StaysQuiet};
 ghost use Rattle.claxon_tools.specs.Writer.{SameOutput};
 
+use crate::frames::read_block;
 use crate::progress::Progress;
 use crate::wav::error::Result;
 use crate::wav::writer::WavWriter;
 use claxon::FlacReader;
-use claxon::frame::FrameReader;
 use claxon::input::ReadBytes;
 use claxon::metadata::StreamInfo;
 use std::alloc::Global;
@@ -85,7 +85,8 @@ pub fn convert_to_stream<R: Read + Drop, W: Write, E: Write>(
     ended
 }
 
-// Writes block after block of the stream with this streaminfo.
+// Writes block after block of the stream with this streaminfo. Each block has samples, so the size of a WAV file bounds their
+// number.
 fn put_blocks<R: ReadBytes, W: Write, E: Write>(
     alloc: Global,
     input: &mut R,
@@ -103,30 +104,9 @@ fn put_blocks<R: ReadBytes, W: Write, E: Write>(
     ensures same_errors { SameErrors progress.old progress.new }
     ensures stays_quiet { StaysQuiet progress.old progress.new }
 {
-    let mut frames = FrameReader::with_streaminfo(input, info);
-    put_frames(alloc, &mut frames, wav, progress)
-}
-
-// The same of a reader's frames. Each block has samples, so the size of a WAV file bounds their number.
-fn put_frames<R: ReadBytes, W: Write, E: Write>(
-    alloc: Global,
-    frames: &mut FrameReader<R>,
-    wav: &mut WavWriter<'_, W>,
-    progress: &mut Progress<'_, E>,
-) -> Result<()>
-    ensures same_output { SameOutput wav.old wav.new }
-    ensures loans { (frame_bytes R.source frames.new).source.loans
-        ≡ (frame_bytes R.source frames.old).source.loans }
-    ensures is_sound { PutBlocksIsSound W.contents (frame_stream frames.old) result
-        (frame_bytes R.source frames.old) (frame_bytes R.source frames.new) wav.old wav.new }
-    ensures fault_is_sound { PutBlocksFaultIsSound W.contents (frame_stream frames.old) result
-        (frame_bytes R.source frames.old) (frame_bytes R.source frames.new) wav.old wav.new }
-    ensures same_errors { SameErrors progress.old progress.new }
-    ensures stays_quiet { StaysQuiet progress.old progress.new }
-{
     let mut buffer = Vec::new(alloc);
     let mut done = 0u64;
-    while let Some(block) = frames.read_next_or_eof(buffer)? {
+    while let Some(block) = read_block(input, info, buffer)? {
         wav.put_block(&block)?;
         done = done.saturating_add(u64::from(block.duration()));
         progress.show(done);

@@ -2,9 +2,10 @@
 ghost use Rattle.std.specs.Prelude.{◌≡◌, IfErr};
 ghost use Rattle.claxon.specs.Error.{IsIo};
 ghost use Rattle.claxon.specs.Errors.TheVariants.{OutOfMemory};
-ghost use Rattle.claxon_tools.specs.WavError.{IsOutputResult};
+ghost use Rattle.claxon_tools.specs.WavError.{IsFrameError, IsOutputResult};
 ghost use Rattle.claxon_tools.specs.declared.wav.error.Error.TheVariants.{Claxon, Output};
 
+use crate::frames::{FrameError, UNSUPPORTED_32_BIT};
 use std::alloc::AllocError;
 use std::{fmt, io, result};
 
@@ -25,6 +26,9 @@ pub enum Error {
 
     /// A sample has more bits than the streaminfo says.
     WideSample,
+
+    /// A frame is refused because of the bit depth code for 32 bits, which was reserved in earlier editions of the format.
+    Unsupported32Bit,
 
     /// The output is the input, and creating it would empty the input.
     SameFile,
@@ -56,6 +60,7 @@ impl fmt::Display for Error {
             Error::TooLong => write!(f, "the samples are more than a WAV file holds, 4 GiB"),
             Error::OtherChannels => write!(f, "the number of channels changes within the stream"),
             Error::WideSample => write!(f, "a sample has more bits than the streaminfo says"),
+            Error::Unsupported32Bit => write!(f, "{UNSUPPORTED_32_BIT}"),
             Error::SameFile => write!(f, "the output is the input"),
             Error::Exists => write!(f, "the output exists; -f replaces it"),
         }
@@ -67,6 +72,18 @@ impl From<claxon::Error> for Error {
 
     fn from(cause: claxon::Error) -> Error {
         Error::Claxon(cause)
+    }
+}
+
+impl From<FrameError> for Error {
+    ghost from_gives = { IsFrameError };
+
+    fn from(cause: FrameError) -> Error {
+        if cause.is_32_bit {
+            Error::Unsupported32Bit
+        } else {
+            Error::Claxon(cause.error)
+        }
     }
 }
 
