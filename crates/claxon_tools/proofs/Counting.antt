@@ -91,7 +91,7 @@ module _ (stream : Option StreamFormat) (start : ℕ) (s : List ℕ) where
 pub read_as : {stream : Option StreamFormat} {r q : FrameAnswer} {a b : State ℕ} → r ≡ q → ReadsFrame stream r a b → BlockIsRead stream q a b
 read_as {stream = stream} {r = r} {a = a} {b = b} e h = subst (λ (z : FrameAnswer). BlockIsRead stream z a b) e (block_read stream a b r (reads_loans h) h)
 
--- So far no read of the source failed, and just parts were consumed, which were counted.
+-- So far no read of the source failed, and just frames and faults were consumed, which were counted.
 pub record SoFar (stream : Option StreamFormat) (start : ℕ) (s m : List ℕ) (found : Found) : Type 0 where
   pub parts : List FrameOrFault
   pub parts_are : FramesAndFaults stream s parts m

@@ -17,7 +17,7 @@ use Rattle.claxon_tools.specs.declared.verify.FirstFault.{FirstFault}
 use Rattle.claxon_tools.specs.declared.verify.Found.{Found}
 use Rattle.claxon_tools.proofs.FirstBytes.{refused}
 
--- one part more
+-- one frame or fault more
 pub parts_push : (stream : Option StreamFormat) (parts : List FrameOrFault) (part : FrameOrFault) (s m t r : List ℕ) → FramesAndFaults stream s parts m → FrameOrFaultBytes stream part t → m ≡ t ++ r → FramesAndFaults stream s (parts ++ part ∷ []) r
 parts_push stream [] part s m t r p c e = (t, r, c, p ∙ e, refl)
 parts_push stream (x ∷ parts) part s m t r p c e = (p.0, p.1, p.2, p.3, parts_push stream parts part p.1 m t r p.4 c e)
@@ -63,7 +63,7 @@ frames_of_all stream (Ok b ∷ parts) s m p none =
     (b ∷ k.0, (p.0, p.1, p.2, p.3, k.1), sum_by-cons sample_count_of part parts ∙ ap (λ (z : ℕ). block_samples b + z) k.2 ∙ sym (sum_by-cons block_samples b k.0))
 frames_of_all stream (Err f ∷ parts) s m p none = absurd (fault_counts f parts none)
 
--- ---- bytes are one list of parts
+-- ---- bytes are one list of frames and faults
 
 module _ (stream : Option StreamFormat) (bit_depth : IsBitDepth (known_bit_depth stream)) where
   one_frame_or_fault : (p q : FrameOrFault) (t u x y : List ℕ) → FrameOrFaultBytes stream p t → FrameOrFaultBytes stream q u → t ++ x ≡ u ++ y → (p ≡ q) × (t ≡ u)
@@ -72,7 +72,7 @@ module _ (stream : Option StreamFormat) (bit_depth : IsBitDepth (known_bit_depth
   one_frame_or_fault (Err f) (Ok b) t u x y c d e = absurd ((frames_unambiguous stream bit_depth).no_fault b f u t y x d c (sym e))
   one_frame_or_fault (Err f) (Err g) t u x y c d e = let k = (frames_unambiguous stream bit_depth).one_fault f g t u x y c d e in (ap (λ (z : Fault). Err z) k.0, k.1)
 
-  -- m begins with no part
+  -- m begins with no frame and no fault
   NoFrameNorFault : List ℕ → Type 0
   NoFrameNorFault m = (part : FrameOrFault) (t u : List ℕ) → FrameOrFaultBytes stream part t → m ≡ t ++ u → ⊥
 
@@ -86,7 +86,7 @@ module _ (stream : Option StreamFormat) (bit_depth : IsBitDepth (known_bit_depth
   not_whole_no_frame m h (Ok block) t u c e = h.1.no_code block t u c e
   not_whole_no_frame m h (Err f) t u c e = h.1.no_fault f t u c e
 
-  -- parts that were read are the first of all that there are
+  -- those that were read are the first of all that there are
   parts_left : (s m n : List ℕ) (parts all : List FrameOrFault) → FramesAndFaults stream s parts m → FramesAndFaults stream s all n → NoFrameNorFault n → (others : List FrameOrFault) × (all ≡ parts ++ others) × FramesAndFaults stream m others n
   unfolding NoFrameNorFault
   parts_left s m n [] all d f none = (all, refl, subst (λ (z : List ℕ). FramesAndFaults stream z all n) d f)
@@ -109,7 +109,7 @@ module _ (stream : Option StreamFormat) (bit_depth : IsBitDepth (known_bit_depth
   ends_no_frame false rest h = few_no_frame rest h
   ends_no_frame true rest h = not_whole_no_frame rest (elim h [ inl n ↦ n | inr b ↦ absurd b ])
 
-  -- parts that can be counted don't begin with parts that can't
+  -- a list that can be counted doesn't begin with one that can't
   pub not_too_many : {start : ℕ} (s m : List ℕ) (parts : List FrameOrFault) (found : Found) → FramesAndFaults stream s parts m → AreTooMany parts → Counted ⊥ stream start s found → CanBeCounted found → ⊥
   not_too_many s m parts found d many all can =
       let q = parts_left s m all.rest parts all.parts d all.parts_are (ends_no_frame all.is_cut all.rest all.ends) in

@@ -242,16 +242,17 @@ IsCut stream s =
 
 -- What an error says of the remaining input, where it is known, and of the output. It is
 -- `OutOfMemory`, a fault in the input, an `IoError` where the input is cut or its source failed, or
--- a failed call of the output, which was counted. Or a frame has the bit depth code for 32 bits. Or the input begins with blocks of which one has
--- other channels than the layout, a sample doesn't fit in its valid bits, or the bytes, with those
--- written before, are more than a WAV file holds.
+-- a failed call of the output, which was counted. Or a frame has the bit depth code for 32 bits. Or
+-- the input begins with blocks of which one has other channels than the layout, a sample doesn't
+-- fit in its valid bits, or the bytes, with those written before, are more than a WAV file holds.
 abbrev pub ExplainsError : {W : Type 0} → Option StreamFormat → State ℕ → State ℕ → WavWriter W
     → WavWriter W → Error → Type 0
 ExplainsError stream a b old new (Claxon error) =
     (error ≡ OutOfMemory)
     ⊎ ((IsIo error × (RemainingIsKnown a → IsCut stream a.remaining ⊎ ReadFailedIn a b))
     ⊎ (RemainingIsKnown a → HasFault stream a.remaining error))
-ExplainsError stream a b old new Unsupported32Bit = RemainingIsKnown a → Has32Bits stream a.remaining
+ExplainsError stream a b old new Unsupported32Bit =
+    RemainingIsKnown a → Has32Bits stream a.remaining
 ExplainsError stream a b old new OtherChannels =
     RemainingIsKnown a
     → HasBlocks stream a.remaining (λ blocks.

@@ -122,8 +122,10 @@ cut_text where_ = codes "truncated: the file ends inside " ++ where_
 
 -- An Ok says that an input that ends inside its metadata or a frame is truncated.
 abbrev pub IoTextIsSound : {A : Type 0} → Part → Failure → Result (String A) AllocError → Type 0
-IoTextIsSound Head cause r = error_kind cause ≡ UnexpectedEof → IsText (cut_text (codes "the metadata")) r
-IoTextIsSound Frame cause r = error_kind cause ≡ UnexpectedEof → IsText (cut_text (codes "a frame")) r
+IoTextIsSound Head cause r =
+    error_kind cause ≡ UnexpectedEof → IsText (cut_text (codes "the metadata")) r
+IoTextIsSound Frame cause r =
+    error_kind cause ≡ UnexpectedEof → IsText (cut_text (codes "a frame")) r
 IoTextIsSound Output cause r = Unit {0}
 
 -- The same, and any other error has its own text.

@@ -65,7 +65,7 @@ abbrev pub FrameOrFaultBytes : Option StreamFormat → FrameOrFault → List ℕ
 FrameOrFaultBytes stream (Ok block) t = Frame stream block t
 FrameOrFaultBytes stream (Err f) t = FrameBytesFault stream f t
 
--- s is these parts, one after another, and then r
+-- s is these frames and faults, one after another, and then r
 abbrev pub FramesAndFaults : Option StreamFormat → List ℕ → List FrameOrFault → List ℕ → Type 0
 FramesAndFaults stream s [] r = s ≡ r
 FramesAndFaults stream s (part ∷ parts) r =
@@ -103,7 +103,7 @@ pub record AreCounted (parts : List FrameOrFault) (is_cut : Bool) (found : Found
   pub faults : found.faults ≡ sum_by fault_count_of parts + cut_faults is_cut
   pub samples : found.samples ≡ sum_by sample_count_of parts
 
--- They are too many to be counted: they have 2^64 samples, or there are 2^64 - 1 parts.
+-- They are too many to be counted: they have 2^64 samples, or there are 2^64 - 1 of them.
 abbrev pub AreTooMany : List FrameOrFault → Type 0
 AreTooMany parts =
     (2 ^ 64 ≤ sum_by sample_count_of parts)
@@ -147,8 +147,8 @@ FirstIs failed stream start s faults None = faults ≡ 0
 FirstIs failed stream start s faults (Some first) =
     (1 ≤ faults) × IsFirst failed stream start s first
 
--- s, which begins at the byte `start` of the stream, is parts up to the end, and these were
--- counted.
+-- s, which begins at the byte `start` of the stream, is frames and faults up to the end, and these
+-- were counted.
 pub record Counted (failed : Type 0) (stream : Option StreamFormat) (start : ℕ) (s : List ℕ)
     (found : Found) : Type 0 where
   pub parts : List FrameOrFault
@@ -173,7 +173,7 @@ abbrev pub IsExpected : ℕ → Option ℕ → Type 0
 IsExpected samples None = samples ≡ 0
 IsExpected samples (Some expected) = (expected ≡ samples) × (0 < samples)
 
--- s is a head and parts up to the end, and the report is about them.
+-- s is a head, frames and faults up to the end, and the report is about them.
 pub record IsVerified (failed : Type 0) (s : List ℕ) (report : Report) : Type 0 where
   pub head : Head
   pub front : List ℕ
@@ -198,7 +198,7 @@ pub record IsRightStream (s : List ℕ) : Type 0 where
   pub few : length rest < 2
   pub total : (head.info.samples ≡ 0) ⊎ (head.info.samples ≡ sum_by block_samples blocks)
 
--- s begins with a head, parts, and then such bytes.
+-- s begins with a head, frames and faults, and then such bytes.
 pub record HasFramesAndFaults (s : List ℕ)
     (P : Option StreamFormat → List FrameOrFault → List ℕ → Type 0) : Type 0 where
   pub head : Head
@@ -219,7 +219,7 @@ IsTooMany (Unsupported text) =
     text.now ≡ codes "more than 18446744073709551615 frames, faults or samples"
 IsTooMany _ = ⊥
 
--- The error says that one part more is too much, and it is.
+-- The error says that one frame or fault more is too much, and it is.
 abbrev pub ExceedsCount : ℕ → ℕ → ℕ → Found → Error → Type 0
 ExceedsCount frames faults samples found e =
     IsTooMany e
@@ -232,7 +232,7 @@ CannotCountFault fault found e =
     ((fault ≡ OutOfMemory) × (e ≡ OutOfMemory))
     ⊎ ((is_out_of_memory fault ≡ false) × ExceedsCount 0 1 0 found e)
 
--- ---- one part more
+-- ---- one frame or fault more
 
 -- One frame more is counted.
 pub record CountsFrame (samples : ℕ) (old new : Found) : Type 0 where
@@ -280,15 +280,15 @@ abbrev pub CountsFramesAndFaults : Option StreamFormat → ℕ → State ℕ →
 CountsFramesAndFaults stream start old new found =
     RemainingIsKnown old → Counted (ReadFailedIn old new) stream start old.remaining found
 
--- s begins with parts, and then such bytes.
+-- s begins with frames and faults, and then such bytes.
 abbrev pub BeginsWithFramesAndFaults : Option StreamFormat → List ℕ
     → (List FrameOrFault → List ℕ → Type 0) → Type 0
 BeginsWithFramesAndFaults stream s P =
     (parts : List FrameOrFault) × (left : List ℕ) × FramesAndFaults stream s parts left
     × P parts left
 
--- The error is `OutOfMemory` after parts and the header of a frame, or says that more parts remain
--- than can be counted, and so it is.
+-- The error is `OutOfMemory` after frames and faults and the header of a frame, or says that more
+-- remain than can be counted, and so it is.
 abbrev pub StopsCounting : Option StreamFormat → State ℕ → Error → Type 0
 StopsCounting stream old e =
     ((e ≡ OutOfMemory) × (RemainingIsKnown old → BeginsWithFramesAndFaults stream old.remaining
@@ -346,14 +346,15 @@ module _ (old : State ℕ) (result : Result Report Error) (new : State ℕ) wher
       → IsOkAnd result (λ report. IsTrue report.is_right) ⊎ IsExcused
 
   -- An Err is `OutOfMemory`; an `IoError` where the bytes begin with neither a head nor a fault of
-  -- one, or the source failed; or it says that there are more parts than can be counted, or names
-  -- the fault of a head, and so it is.
+  -- one, or the source failed; or it says that there are more frames and faults than can be
+  -- counted, or names the fault of a head, and so it is.
   abbrev pub VerifyFaultIsSound : Type 0
   VerifyFaultIsSound =
       IfErr result (λ e. (e ≡ OutOfMemory) ⊎ ((IsIo e × (RemainingIsKnown old
       → HasNeither (HeadCode (with_samples true)) (HeadFault (with_samples true)) old.remaining
       ⊎ ReadFailedIn old new))
-      ⊎ (RemainingIsKnown old → (IsTooMany e × HasFramesAndFaults old.remaining (λ stream parts left. AreTooMany parts))
+      ⊎ (RemainingIsKnown old
+      → (IsTooMany e × HasFramesAndFaults old.remaining (λ stream parts left. AreTooMany parts))
       ⊎ ((f : Fault) × IsFault f e × BeginsWith (HeadFault (with_samples true) f) old.remaining))))
 
   -- A fault of a head that they begin with is named, or memory or the source failed.
