@@ -1,3 +1,4 @@
 pub mod Md5
 pub mod Sums
 pub mod HasHashed
+pub mod Samples

@@ -3,14 +3,18 @@
 //! A message is given in pieces of any length. Its whole blocks of 64 bytes are hashed where they
 //! are, and only the bytes before and after them are copied. A digest shows that data was damaged.
 //! It doesn't show who made the data: other messages with the same digest can be made.
+//!
+//! Samples are hashed as the MD5 sum of a FLAC stream has them (RFC 9639, section 8.2).
 #![tactic(auto)]
 
-ghost use Rattle.std.specs.Prelude.{◌≡◌, ℕ, List, [], ◌++◌, fold};
+ghost use Rattle.std.specs.Prelude.{◌≡◌, ◌≤◌, ℕ, List, [], ◌++◌, fold};
 ghost use Rattle.claxon_md5.specs.Md5.{bytes_of_words, length_bytes, process, zero_count};
 
 use block::BLOCK_LEN;
+use packing::{BUFFER_LEN, MAX_SAMPLES};
 
 mod block;
+mod packing;
 #[cfg(test)]
 mod tests;
 
@@ -38,6 +42,7 @@ pub struct Md5 {
 impl Md5 {
     ghost use Rattle.claxon_md5.specs.HasHashed.{HasHashed};
     ghost use Rattle.claxon_md5.specs.Md5.{md5};
+    ghost use Rattle.claxon_md5.specs.Samples.{samples_bytes};
 
     /// A hasher that was given no bytes.
     pub fn new() -> Md5
@@ -74,6 +79,24 @@ impl Md5 {
         let state = process_all(self.state, blocks);
         self.state = state;
         self.buffer[..rest.len()].copy_from_slice(rest);
+    }
+
+    /// Hashes the bytes of interleaved samples too. Of a sample that doesn't fit the bit depth only
+    /// the low bytes are hashed.
+    pub fn update_samples(&mut self, samples: &[i32], bit_depth: u32)
+        requires min_bit_depth { 1 ≤ bit_depth }
+        requires max_bit_depth { bit_depth ≤ 32 }
+        ensures { (xs : List ℕ) → HasHashed self.old xs
+            → HasHashed self.new (xs ++ samples_bytes bit_depth samples.now) }
+    {
+        let mut buffer = [0; BUFFER_LEN];
+        let mut at = 0;
+        while at < samples.len() {
+            let end = at + MAX_SAMPLES.min(samples.len() - at);
+            let count = packing::pack(&samples[at..end], bit_depth, &mut buffer);
+            self.update(&buffer[..count]);
+            at = end;
+        }
     }
 
     /// The digest of the bytes that were hashed.

@@ -1,6 +1,6 @@
-//! Digests of other programs: the test suite of RFC 1321, and messages that end around the end of a
-//! block.
-ghost use Rattle.std.specs.Prelude.{◌<◌};
+//! Digests of other programs: the test suite of RFC 1321, messages that end around the end of a
+//! block, and samples.
+ghost use Rattle.std.specs.Prelude.{◌<◌, ◌≤◌};
 
 use crate::Md5;
 
@@ -66,6 +66,75 @@ fn ends_of_blocks(rt: HostRuntime) {
             assert!(rt; len <= 128 && 0 < piece_len);
             let digest = digest_of_pieces(&bytes[..len], piece_len);
             assert!(rt; digest == want, "{len} by {piece_len}");
+        }
+    }
+}
+
+// The digest of samples that are given in pieces of this length.
+fn digest_of_samples(samples: &[i32], bit_depth: u32, piece_len: usize) -> u128
+    requires some { 0 < piece_len }
+    requires min_bit_depth { 1 ≤ bit_depth }
+    requires max_bit_depth { bit_depth ≤ 32 }
+{
+    let mut hasher = Md5::new();
+    for piece in samples.chunks(piece_len) {
+        hasher.update_samples(piece, bit_depth);
+    }
+    u128::from_be_bytes(hasher.finish())
+}
+
+// The digests are those of Python's `hashlib`, over bytes that its `struct` packed.
+#[rattlefmt::skip]
+#[test]
+fn bit_depths(rt: HostRuntime) {
+    let rows = [
+        (4, [0, 1, -1, 7, -8, 5, -6], 0xba8248ff10d1e5537a299f14dfe63bd5),
+        (8, [0, 1, -1, 127, -128, 100, -77], 0xcfd8c8c1a59277ce2b10dcece880243f),
+        (12, [0, 1, -1, 2047, -2048, 1000, -777], 0xf295de09ca5d74edf31be8e7d8e740ea),
+        (16, [0, 1, -1, 32767, -32768, 12345, -23456], 0x1f13d0e7be54e29b38814bbe35728828),
+        (20, [0, 1, -1, 524287, -524288, 123456, -234567], 0xa8c979af7758fa994d975bbfe21a7f88),
+        (24, [0, 1, -1, 8388607, -8388608, 1234567, -7654321], 0x91a30b1557a0b02e116c84dcfd6e3a1b),
+        (
+            32,
+            [0, 1, -1, 2147483647, -2147483648, 123456789, -1987654321],
+            0xb9e5acd02f153532eaae37678d56152e,
+        ),
+    ];
+    for (bit_depth, samples, want) in rows {
+        for piece_len in [1, 3, 7] {
+            assert!(rt; 1 <= bit_depth && bit_depth <= 32 && 0 < piece_len);
+            let digest = digest_of_samples(&samples, bit_depth, piece_len);
+            assert!(rt; digest == want, "{bit_depth} bits by {piece_len}");
+        }
+    }
+}
+
+// More samples than are packed at once: sample i is 7919i, modulo 65536, less 32768. In 8 bits they
+// don't fit, and their low bytes are hashed.
+#[test]
+fn many_samples(rt: HostRuntime) {
+    let mut samples = [0; 3000];
+    for i in 0..3000 {
+        samples[i] = (7919 * i % 65536) as i32 - 32768;
+    }
+    let rows = [
+        (16, 0, 0xd41d8cd98f00b204e9800998ecf8427e),
+        (16, 1023, 0xe7f3b413d6bdd528f25e097490538927),
+        (16, 1024, 0x95956bdd6ef9999e66fdd0065413cb24),
+        (16, 1025, 0x03b3814b375aa1067bca91d0d90ac876),
+        (8, 3000, 0x3f3abce5f1b0cfdfba97f3d05f36c15f),
+        (16, 3000, 0x8b49d1cbec221ef6dafc8e97bf7137fd),
+        (24, 3000, 0xa01c7931cb0ccf92b27dfe19a9fe0068),
+        (32, 3000, 0x5b15180973379a3f0af2259b70d4037e),
+    ];
+    for (bit_depth, len, want) in rows {
+        for piece_len in [1, 1000, 3000] {
+            assert!(rt; 1 <= bit_depth && bit_depth <= 32 && len <= 3000 && 0 < piece_len);
+            let digest = digest_of_samples(&samples[..len], bit_depth, piece_len);
+            assert!(rt;
+                digest == want,
+                "{len} samples of {bit_depth} bits by {piece_len}"
+            );
         }
     }
 }

@@ -1,0 +1,26 @@
+//! Samples as bytes (RFC 9639, section 8.2).
+ghost use Rattle.std.specs.Prelude.{◌≡◌, ◌≤◌, length, take};
+ghost use Rattle.claxon_md5.specs.Samples.{samples_bytes};
+
+/// The most samples that are packed at once.
+pub const MAX_SAMPLES: usize = 1024;
+
+/// The number of bytes of a buffer that holds as many samples of 32 bits.
+pub const BUFFER_LEN: usize = 4096;
+
+/// Writes the bytes of the samples to the front of the buffer, and returns how many they are.
+pub fn pack(samples: &[i32], bit_depth: u32, buffer: &mut [u8; BUFFER_LEN]) -> usize
+    requires max_bit_depth { bit_depth ≤ 32 }
+    requires few { length samples.now ≤ 1024 }
+    ensures fits { result ≤ 4096 }
+    ensures packed { take result buffer.new ≡ samples_bytes bit_depth samples.now }
+{
+    let width = (bit_depth as usize + 7) / 8;
+    let mut at = 0;
+    for sample in samples {
+        // Always four bytes, in one store. The next sample is written over those that are too many.
+        buffer[at..at + 4].copy_from_slice(&sample.to_le_bytes());
+        at += width;
+    }
+    at
+}
