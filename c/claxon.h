@@ -90,6 +90,14 @@ struct claxon_block {
     uint32_t duration; /* the number of samples of each channel, 1 to 65535 */
 };
 
+/* The MD5 sum of samples, as far as they were hashed. Its fields are for the calls alone. It needs no end, and may be
+ * copied. */
+struct claxon_md5 {
+    uint32_t state[4];
+    uint64_t length;
+    uint8_t buffer[64];
+};
+
 /* The layout that the library has: that of x86-64 Linux, which it is built for. */
 #ifdef CLAXON_HAS_STATIC_ASSERT
 static_assert(sizeof(struct claxon_info) == 64 && offsetof(struct claxon_info, first_frame) == 0 &&
@@ -110,6 +118,9 @@ static_assert(sizeof(struct claxon_tag) == 32 && offsetof(struct claxon_tag, nam
 static_assert(sizeof(struct claxon_block) == 16 && offsetof(struct claxon_block, time) == 0 &&
                   offsetof(struct claxon_block, channels) == 8 && offsetof(struct claxon_block, duration) == 12,
               "claxon is for x86-64 Linux: struct claxon_block has another layout here");
+static_assert(sizeof(struct claxon_md5) == 88 && offsetof(struct claxon_md5, state) == 0 &&
+                  offsetof(struct claxon_md5, length) == 16 && offsetof(struct claxon_md5, buffer) == 24,
+              "claxon is for x86-64 Linux: struct claxon_md5 has another layout here");
 #endif
 
 /* Reads the head that the bytes begin with. With CLAXON_OK, `info` is filled.
@@ -151,6 +162,16 @@ uint32_t claxon_next_block(const uint8_t *bytes, size_t length, size_t *at, cons
 uint32_t claxon_next_block_planar(const uint8_t *bytes, size_t length, size_t *at, const struct claxon_info *info,
                                   int32_t *samples, size_t capacity, struct claxon_block *block, char *error,
                                   size_t error_size);
+
+/* Begins an MD5 sum of samples, for comparison with the one in the head. No samples are hashed yet. */
+void claxon_md5_start(struct claxon_md5 *md5);
+
+/* Hashes `count` interleaved samples, after those that were hashed before. `bits_per_sample` is that of the stream; of a
+ * sample with more bits the low bytes are hashed. UNSUPPORTED: it isn't 1 to 32; nothing is changed. Else OK. */
+uint32_t claxon_md5_samples(struct claxon_md5 *md5, const int32_t *samples, size_t count, uint32_t bits_per_sample);
+
+/* Fills `sum` with the sum of the samples that were hashed. More may be hashed after it. */
+void claxon_md5_finish(const struct claxon_md5 *md5, uint8_t sum[16]);
 
 #ifdef __cplusplus
 }

@@ -1,7 +1,8 @@
 /* cases FOLDER < LINES: decodes each file that a line `NAME COUNT HASH RESULT` names, passed whole and piece by piece, and
  * compares the number of its samples, the FNV-1a hash of their little-endian bytes, and the result: `ok`, the error, or `IO`
  * where the bytes end too early. It also tests planar samples, buffers that are too small, and the calls for metadata blocks:
- * by the lines of FOLDER/blocks.txt whose bytes are a whole content, by headers worked out by hand, and on the files. */
+ * by the lines of FOLDER/blocks.txt whose bytes are a whole content, by headers worked out by hand, and on the files. And it
+ * tests the MD5 sums of samples, by those of another program and of the files' encoders. */
 #include <ctype.h>
 #include <stdarg.h>
 
@@ -444,11 +445,97 @@ static void test_blocks_of(const char *name, const uint8_t *bytes, size_t length
     expect(at == info.first_frame && tags == info.tags, name, "the end of the head");
 }
 
+/* ---- the MD5 sum of samples */
+
+#define SUMMED 7
+
+/* The sums are those of Python's hashlib, over bytes that its struct packed. */
+static const struct {
+    uint32_t bits;
+    int32_t samples[SUMMED];
+    const char *sum;
+} sums[] = {
+    {4, {0, 1, -1, 7, -8, 5, -6}, "ba8248ff10d1e5537a299f14dfe63bd5"},
+    {8, {0, 1, -1, 127, -128, 100, -77}, "cfd8c8c1a59277ce2b10dcece880243f"},
+    {12, {0, 1, -1, 2047, -2048, 1000, -777}, "f295de09ca5d74edf31be8e7d8e740ea"},
+    {16, {0, 1, -1, 32767, -32768, 12345, -23456}, "1f13d0e7be54e29b38814bbe35728828"},
+    {20, {0, 1, -1, 524287, -524288, 123456, -234567}, "a8c979af7758fa994d975bbfe21a7f88"},
+    {24, {0, 1, -1, 8388607, -8388608, 1234567, -7654321}, "91a30b1557a0b02e116c84dcfd6e3a1b"},
+    {32, {0, 1, -1, INT32_MAX, INT32_MIN, 123456789, -1987654321}, "b9e5acd02f153532eaae37678d56152e"},
+};
+
+static void expect_sum(const struct claxon_md5 *md5, const char *sum, const char *what) {
+    uint8_t found[16];
+    char text[33];
+    claxon_md5_finish(md5, found);
+    for (int i = 0; i < 16; i++) {
+        snprintf(text + 2 * i, 3, "%02x", found[i]);
+    }
+    expect(strcmp(text, sum) == 0, "claxon_md5_finish", what);
+}
+
+/* Whatever the struct holds before. Samples are passed whole and one by one. */
+static void test_bit_depths(void) {
+    struct claxon_md5 md5;
+    memset(&md5, UNTOUCHED, sizeof md5);
+    for (size_t row = 0; row < sizeof sums / sizeof *sums; row++) {
+        claxon_md5_start(&md5);
+        expect_sum(&md5, "d41d8cd98f00b204e9800998ecf8427e", "of nothing");
+        expect(claxon_md5_samples(&md5, sums[row].samples, SUMMED, sums[row].bits) == CLAXON_OK, "claxon_md5_samples", "a bit depth");
+        expect_sum(&md5, sums[row].sum, "of samples");
+        claxon_md5_start(&md5);
+        for (size_t i = 0; i < SUMMED; i++) {
+            claxon_md5_samples(&md5, sums[row].samples + i, 1, sums[row].bits);
+            claxon_md5_samples(&md5, sums[row].samples, 0, sums[row].bits);
+        }
+        expect_sum(&md5, sums[row].sum, "of samples one by one");
+    }
+}
+
+static void test_other_depths(void) {
+    const uint32_t others[] = {0, 33, 40, UINT32_MAX};
+    struct claxon_md5 md5, before;
+    memset(&md5, UNTOUCHED, sizeof md5);
+    before = md5;
+    for (size_t i = 0; i < sizeof others / sizeof *others; i++) {
+        expect(claxon_md5_samples(&md5, sums->samples, SUMMED, others[i]) == CLAXON_UNSUPPORTED, "claxon_md5_samples", "another bit depth");
+        expect(memcmp(&md5, &before, sizeof md5) == 0, "claxon_md5_samples", "a sum after another bit depth");
+    }
+}
+
+/* A file of a real encoder has the sum that this encoder gave it. */
+static int test_sum_of(const char *name, const uint8_t *bytes, size_t length) {
+    const char *names[] = {"eight_bits.flac", "escapes_of_a_real_encoder.flac", "left_channel_alone.flac",
+                           "other_encoder_speech.flac", "quiet_noise.flac", "wasted_bits_of_24.flac"};
+    size_t i = 0, count = sizeof names / sizeof *names;
+    while (i < count && strcmp(name, names[i]) != 0) {
+        i++;
+    }
+    if (i == count) {
+        return 0;
+    }
+    struct claxon_info info = {0};
+    struct claxon_block block;
+    struct claxon_md5 md5;
+    uint8_t sum[16];
+    char error[64];
+    claxon_md5_start(&md5);
+    expect(claxon_open(bytes, length, &info, error, sizeof error) == CLAXON_OK, name, "the head");
+    for (size_t at = info.first_frame; claxon_next_block(bytes, length, &at, &info, samples, CLAXON_MAX_SAMPLES, &block, error, sizeof error) == CLAXON_OK;) {
+        claxon_md5_samples(&md5, samples, (size_t)block.channels * block.duration, info.bits_per_sample);
+    }
+    claxon_md5_finish(&md5, sum);
+    expect(memcmp(sum, info.md5, 16) == 0, name, "the MD5 sum");
+    return 1;
+}
+
 int main(int argc, char **argv) {
     struct known known;
-    int files = 0, contents = argc == 2 ? test_contents(argv[1]) : 0;
+    int files = 0, files_with_sum = 0, contents = argc == 2 ? test_contents(argv[1]) : 0;
     test_headers();
     test_positions();
+    test_bit_depths();
+    test_other_depths();
     expect(claxon_version() == CLAXON_VERSION, "claxon_version", "not that of claxon.h");
     expect(contents > 0, "blocks.txt", "no line");
     while (argc == 2 && next_known(&known)) {
@@ -457,10 +544,12 @@ int main(int argc, char **argv) {
         if (bytes) {
             test_file(&known, bytes, length);
             test_blocks_of(known.name, bytes, length);
+            files_with_sum += test_sum_of(known.name, bytes, length);
             files++;
         }
         free(bytes);
     }
-    printf("cases: %d files, %d contents of blocks, %d failures\n", files, contents, failures);
+    expect(files_with_sum == 6, "cases", "not all files with an MD5 sum");
+    printf("cases: %d files, %d contents of blocks, %d MD5 sums, %d failures\n", files, contents, files_with_sum, failures);
     return failures != 0 || files == 0;
 }

@@ -7,4 +7,5 @@ pub mod NextMetadata
 pub mod NextBlock
 pub mod NextTag
 pub mod TagReader
+pub mod HashCalls
 pub mod Version

@@ -7,6 +7,7 @@ mod at_start;
 mod contents;
 mod heads;
 mod interleave;
+mod md5;
 mod metadata;
 mod next_block;
 mod planar;
@@ -14,6 +15,7 @@ mod status;
 mod tags;
 mod version;
 
+pub use claxon_md5::Md5;
 pub use heads::ClaxonInfo;
 pub use metadata::ClaxonMetadata;
 pub use next_block::ClaxonBlock;

@@ -29,7 +29,10 @@ const ONE_AND_ZEROS: [u8; BLOCK_LEN] = [
 ];
 
 /// A hasher. It has hashed the pieces that it was given, one behind another.
-#[derive(Drop)]
+///
+/// A copy hashes on by itself. In memory a hasher is laid out as the same struct in C.
+#[repr(C)]
+#[derive(Clone, Copy)]
 pub struct Md5 {
     // The words after the whole blocks.
     state: [u32; 4],

@@ -1,0 +1,42 @@
+//! The MD5 sum of samples.
+ghost use Rattle.std.specs.Prelude.{[]};
+ghost use Rattle.claxon_md5.specs.HasHashed.{HasHashed};
+ghost use Rattle.claxon_c.specs.HashCalls.{
+  COtherDepthIsUnsupported,
+  CSamplesAreHashed,
+  CSumIsFound,
+  HasherIsKept,
+};
+
+use crate::status::{OK, UNSUPPORTED};
+use claxon_md5::Md5;
+
+/// Begins a sum: no samples are hashed yet.
+#[unsafe(no_mangle)]
+pub extern "C" fn claxon_md5_start(hasher: &mut Md5)
+    ensures { HasHashed hasher.new [] }
+{
+    *hasher = Md5::new();
+}
+
+/// Hashes interleaved samples, after those that were hashed before.
+#[unsafe(no_mangle)]
+pub extern "C" fn claxon_md5_samples(hasher: &mut Md5, samples: &[i32], bits_per_sample: u32) -> u32
+    ensures are_hashed { CSamplesAreHashed bits_per_sample samples.now result hasher.old hasher.new }
+    ensures other_depth_is_unsupported { COtherDepthIsUnsupported bits_per_sample result }
+    ensures hasher_is_kept { HasherIsKept result hasher.old hasher.new }
+{
+    if bits_per_sample < 1 || 32 < bits_per_sample {
+        return UNSUPPORTED;
+    }
+    hasher.update_samples(samples, bits_per_sample);
+    OK
+}
+
+/// The sum of the samples that were hashed. More may be hashed after it.
+#[unsafe(no_mangle)]
+pub extern "C" fn claxon_md5_finish(hasher: &Md5, sum: &mut [u8; 16])
+    ensures sum_is_found { CSumIsFound hasher.now sum.new }
+{
+    *sum = hasher.finish();
+}
