@@ -29,6 +29,7 @@ __all__ = [
     "Flac",
     "FormatError",
     "InputEnds",
+    "Md5",
     "OutOfMemory",
     "StreamInfo",
     "Unsupported",
@@ -167,6 +168,14 @@ class _Block(ctypes.Structure):
     ]
 
 
+class _Md5(ctypes.Structure):
+    _fields_ = [
+        ("state", ctypes.c_uint32 * 4),
+        ("length", ctypes.c_uint64),
+        ("buffer", ctypes.c_uint8 * 64),
+    ]
+
+
 def _find_library() -> str:
     """The name to load the library by."""
     named = os.environ.get("CLAXON_LIBRARY")
@@ -205,6 +214,7 @@ def _load_library() -> ctypes.CDLL:
     size, to_size = ctypes.c_size_t, ctypes.POINTER(ctypes.c_size_t)
     text, memory = ctypes.c_char_p, ctypes.c_void_p
     info, block = ctypes.POINTER(_Info), ctypes.POINTER(_Block)
+    md5, digest = ctypes.POINTER(_Md5), ctypes.POINTER(ctypes.c_uint8 * 16)
     arguments: Dict[str, List[Any]] = {
         "claxon_open": [text, size, info, text, size],
         "claxon_streaminfo": [text, size, info, text, size],
@@ -212,10 +222,20 @@ def _load_library() -> ctypes.CDLL:
         "claxon_vendor": [text, size] + 3 * [to_size] + [text, size],
         "claxon_next_tag": [text, size, to_size, ctypes.POINTER(_Tag), text, size],
         "claxon_next_block_planar": [memory, size, to_size, info, memory, size, block, text, size],
+        "claxon_md5_start": [md5],
+        "claxon_md5_samples": [md5, memory, size, ctypes.c_uint32],
+        "claxon_md5_finish": [md5, digest],
     }
-    for call, types in arguments.items():
-        getattr(library, call).argtypes = types
-        getattr(library, call).restype = ctypes.c_uint32
+    try:
+        for call, types in arguments.items():
+            getattr(library, call).argtypes = types
+            getattr(library, call).restype = ctypes.c_uint32
+        for call in ("claxon_md5_start", "claxon_md5_finish"):
+            getattr(library, call).restype = None
+    except AttributeError as error:
+        raise ImportError(
+            f"{name} hasn't all calls that claxon.py needs ({error}): build it by `make -C c`"
+        ) from error
     return library
 
 
@@ -579,6 +599,38 @@ class Flac:
     def _fault(self, status: int, position: Optional[int]) -> Error:
         """What was reported, as an exception."""
         return _ERRORS.get(status, Error)(self._error.value.decode("utf-8"), position)
+
+
+class Md5:
+    """The MD5 sum of samples of so many bits, for comparison with `StreamInfo.md5`.
+
+    Raises ValueError where there aren't 1 to 32 bits per sample.
+    """
+
+    def __init__(self, bits_per_sample: int) -> None:
+        if not 1 <= bits_per_sample <= 32:
+            raise ValueError("an MD5 sum is of samples of 1 to 32 bits")
+        self._bits_per_sample = bits_per_sample
+        self._hasher = _Md5()
+        self._interleaved = array("i", bytes(4))
+        _library.claxon_md5_start(self._hasher)
+
+    def update(self, block: Block) -> None:
+        """Hashes the samples of a block, after those that were hashed before."""
+        count = len(block.planar)
+        if len(self._interleaved) < count:
+            self._interleaved = array("i", bytes(4 * count))
+        with memoryview(self._interleaved) as places:
+            for channel, samples in enumerate(block.samples):
+                places[channel : count : block.channels] = samples
+        address = self._interleaved.buffer_info()[0]
+        _library.claxon_md5_samples(self._hasher, address, count, self._bits_per_sample)
+
+    def digest(self) -> bytes:
+        """The sum of the samples that were hashed. More may be hashed after it."""
+        found = (ctypes.c_uint8 * 16)()
+        _library.claxon_md5_finish(self._hasher, found)
+        return bytes(found)
 
 
 def _next_metadata(header: bytes) -> _Metadata:

@@ -8,17 +8,12 @@ the next frame.
 
 The status is 0 where all files are right, 1 where one isn't, and 2 for wrong arguments.
 """
-import hashlib
 import pathlib
 import sys
-from array import array
 from typing import List
 
 sys.path.insert(0, str(pathlib.Path(__file__).resolve().parent.parent))
 import claxon  # noqa: E402
-
-# For a sample of so many bytes, a type of array and the number of its items.
-ITEMS = {1: ("b", 1), 2: ("h", 1), 3: ("b", 3), 4: ("i", 1)}
 
 KINDS = {
     claxon.FormatError: "ill-formed",
@@ -26,18 +21,6 @@ KINDS = {
     claxon.InputEnds: "cut",
     claxon.OutOfMemory: "out of memory",
 }
-
-
-def sample_bytes(block: claxon.Block, width: int) -> bytes:
-    """The samples as the MD5 sum takes them: interleaved, each in `width` bytes, little-endian."""
-    kind, count = ITEMS[width]
-    output = array(kind, bytes(width * len(block.planar)))
-    for channel, samples in enumerate(block.samples):
-        items = array(kind, samples.tobytes())
-        step = len(items) // block.duration
-        for item in range(count):
-            output[channel * count + item :: count * block.channels] = items[item::step]
-    return output.tobytes()
 
 
 def describe(error: claxon.Error, samples: int = 0) -> str:
@@ -57,7 +40,7 @@ class Verification:
         self.frames = self.samples = 0
         self.faults: List[str] = []
         self.channels = {flac.info.channels}
-        self.md5 = hashlib.md5()
+        self.md5 = claxon.Md5(flac.info.bits_per_sample)
         is_over = False
         while not is_over:
             try:
@@ -68,13 +51,12 @@ class Verification:
                 is_over = flac.resync() is None
 
     def add_blocks(self, flac: claxon.Flac) -> None:
-        width = (self.info.bits_per_sample + 7) // 8
         for block in flac.blocks():
             self.frames += 1
             self.samples += block.duration
             self.channels.add(block.channels)
             if self.info.md5 is not None:
-                self.md5.update(sample_bytes(block, width))
+                self.md5.update(block)
 
     def wrong(self) -> List[str]:
         """What isn't right."""

@@ -17,7 +17,7 @@ import unittest
 import warnings
 from array import array
 from subprocess import PIPE
-from typing import Optional, Tuple
+from typing import List, Optional, Tuple
 from unittest import mock
 
 import claxon
@@ -526,6 +526,7 @@ class Damage(unittest.TestCase):
 
 # The calls of the library that the module needs, but for that of its version.
 CALLS = ["open", "streaminfo", "next_metadata", "vendor", "next_tag", "next_block_planar"]
+CALLS += ["md5_start", "md5_samples", "md5_finish"]
 
 
 class Library(FolderCase):
@@ -565,18 +566,28 @@ class Library(FolderCase):
         libc = ctypes.util.find_library("c")
         self.assertIn("isn't the library", self.imported(CLAXON_LIBRARY=str(libc)))
 
-    def test_other_versions(self) -> None:
-        """Another patch of the interface is taken; another interface is refused by its version."""
+    def made(self, version: int, calls: List[str]) -> pathlib.Path:
+        """A library of this version that has just these calls, which do nothing."""
         compiler = shutil.which("cc")
         if not compiler:
             self.skipTest("there is no C compiler to make a library of another version with")
-        calls = [f"claxon_{name}" for name in CALLS]
-        code = "".join(f"unsigned {call}(void) {{ return 0; }}\n" for call in calls)
+        code = "".join(f"unsigned claxon_{name}(void) {{ return 0; }}\n" for name in calls)
+        path = self.folder / f"{version}.so"
+        source = path.with_suffix(".c")
+        source.write_text(f"{code}unsigned claxon_version(void) {{ return {version}; }}\n")
+        subprocess.check_call([compiler, "-shared", "-fPIC", str(source), "-o", str(path)])
+        return path
+
+    def test_missing_call(self) -> None:
+        path = self.made(200, CALLS[:-1])
+        found = self.imported(CLAXON_LIBRARY=str(path))
+        self.assertIn(f"ImportError: {path} hasn't all calls that claxon.py needs (", found)
+        self.assertIn("claxon_md5_finish", found)
+
+    def test_other_versions(self) -> None:
+        """Another patch of the interface is taken; another interface is refused by its version."""
         for version, text in ((299, None), (199, "0.1.99"), (300, "0.3.0"), (10200, "1.2.0")):
-            path = self.folder / f"{version}.so"
-            source = path.with_suffix(".c")
-            source.write_text(f"{code}unsigned claxon_version(void) {{ return {version}; }}\n")
-            subprocess.check_call([compiler, "-shared", "-fPIC", str(source), "-o", str(path)])
+            path = self.made(version, CALLS)
             found = self.imported(CLAXON_LIBRARY=str(path))
             if text is None:
                 self.assertEqual(found, str(path))

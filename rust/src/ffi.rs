@@ -64,8 +64,18 @@ impl Block {
     }
 }
 
+/// `struct claxon_md5`.
+#[repr(C)]
+#[derive(Clone, Copy, Debug)]
+pub struct Md5 {
+    state: [u32; 4],
+    length: u64,
+    buffer: [u8; 64],
+}
+
 // The sizes that `claxon.h` asserts.
 const _: () = assert!(size_of::<Info>() == 64 && size_of::<Tag>() == 32 && size_of::<Block>() == 16);
+const _: () = assert!(size_of::<Md5>() == 88);
 
 /// A text that the library writes. Its longest one has 92 bytes.
 pub type Text = [u8; 112];
@@ -105,6 +115,9 @@ extern "C" {
         error: *mut u8,
         error_size: usize,
     ) -> u32;
+    fn claxon_md5_start(md5: *mut Md5);
+    fn claxon_md5_samples(md5: *mut Md5, samples: *const i32, count: usize, bits_per_sample: u32) -> u32;
+    fn claxon_md5_finish(md5: *const Md5, sum: *mut [u8; 16]);
 }
 
 /// A status other than `OK`, and the text of an error.
@@ -198,6 +211,31 @@ pub fn next_block(bytes: &[u8], info: &Info, samples: &mut [i32]) -> NextBlock {
         OK => NextBlock::Found { block, length },
         BUFFER_TOO_SMALL => NextBlock::BufferTooSmall(block),
         _ => NextBlock::Failed(Failure { status, text }),
+    }
+}
+
+impl Md5 {
+    /// A sum of no samples yet.
+    pub fn start() -> Md5 {
+        let mut md5 = Md5 { state: [0; 4], length: 0, buffer: [0; 64] };
+        // SAFETY: as the module says.
+        unsafe { claxon_md5_start(&mut md5) };
+        md5
+    }
+
+    /// Hashes interleaved samples of 1 to 32 bits.
+    pub fn add_samples(&mut self, samples: &[i32], bits_per_sample: u32) {
+        // SAFETY: as the module says.
+        let status = unsafe { claxon_md5_samples(self, samples.as_ptr(), samples.len(), bits_per_sample) };
+        debug_assert_eq!(status, OK);
+    }
+
+    /// The sum of the samples that were hashed.
+    pub fn finish(&self) -> [u8; 16] {
+        let mut sum = [0; 16];
+        // SAFETY: as the module says.
+        unsafe { claxon_md5_finish(self, &mut sum) };
+        sum
     }
 }
 

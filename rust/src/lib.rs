@@ -60,12 +60,14 @@ mod ffi;
 pub mod frame;
 mod head;
 pub mod input;
+mod md5;
 pub mod metadata;
 mod samples;
 mod source;
 
 pub use error::{Error, Result};
 pub use frame::Block;
+pub use md5::Md5;
 pub use samples::FlacSamples;
 
 #[cfg(doctest)]
