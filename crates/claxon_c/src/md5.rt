@@ -26,7 +26,7 @@ pub extern "C" fn claxon_md5_samples(hasher: &mut Md5, samples: &[i32], bits_per
     ensures other_depth_is_unsupported { COtherDepthIsUnsupported bits_per_sample result }
     ensures hasher_is_kept { HasherIsKept result hasher.old hasher.new }
 {
-    if bits_per_sample < 1 || 32 < bits_per_sample {
+    if bits_per_sample == 0 || bits_per_sample > 32 {
         return UNSUPPORTED;
     }
     hasher.update_samples(samples, bits_per_sample);
