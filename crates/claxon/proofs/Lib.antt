@@ -7,7 +7,9 @@ pub use Rattle.claxon_input.proofs.CrcUpdate
 pub use Rattle.claxon_input.proofs.Faults
 pub use Rattle.claxon_format.proofs.Streams
 pub use Rattle.claxon_format.proofs.FormatLaws
+pub use Rattle.claxon_format.proofs.FrameLengths
 pub use Rattle.claxon_format.proofs.Bytes
+pub use Rattle.claxon_format.proofs.ByteNumbers
 pub use Rattle.claxon_format.proofs.CodedNumber
 pub use Rattle.claxon_format.proofs.Comments
 pub use Rattle.claxon_format.proofs.CrcBytes

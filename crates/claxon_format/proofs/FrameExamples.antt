@@ -1,5 +1,5 @@
 -- Examples: what the reader gives for the bytes of some frames and subframes.
-use Rattle.std.proofs.Common.{◌≡◌, ℕ, List, [], ◌∷◌, refl, ℤ, pos, negsuc}
+use Rattle.std.proofs.Common.{◌≡◌, ℕ, false, List, [], ◌∷◌, refl, ℤ, pos, negsuc}
 use Rattle.std.specs.Prelude.{Option, Some, None}
 use Rattle.claxon_format.specs.Fault.{SyncMissing, SizeReserved, NumberContinuation, SizeLarge, BitDepthUnknown, SideTooWide, SubframePadding, HeaderCrc, FrameCrc, NumberFirst, NumberLarge, FixedOrder, NoBitsLeft, WastedBitsLarge, PartitionOrder, PartitionShort, MethodReserved, LinearOrder, PrecisionInvalid, ShiftNegative, SubframeTypeReserved}
 use Rattle.claxon_format.specs.Bits.{bits, bits_of, number, residue}
@@ -10,6 +10,7 @@ use Rattle.claxon_format.specs.read.Subframe.{type_at, wasted_bits_at, wasted_bi
 use Rattle.claxon_format.specs.read.CodedNumber.{continuation_byte_at, continuation_bytes_at, coded_number_at}
 use Rattle.claxon_format.specs.read.Crc.{with_crc_at, byte_aligned_at}
 use Rattle.claxon_format.specs.Crc.{divide, divide_step, crc8, crc16}
+use Rattle.claxon_format.specs.Header.{Fields}
 use Rattle.claxon_format.specs.read.Header.{blocking_at, sync_at, codes_at, channels_at, number_in, size_at, rate_at, fields_after, fields_at, bit_depth_at, header_at, fields_with_crc_at}
 use Rattle.claxon_format.specs.read.Bytes.{by_bytes, bytes_at, big_at, big_endian}
 use Rattle.claxon_format.specs.Frame.{StreamFormat, Block}
@@ -30,6 +31,15 @@ first_frame = refl
 rate_field : frame None (0xff ∷ 0xf8 ∷ 0x6c ∷ 0x02 ∷ 0x00 ∷ 0x00 ∷ 0x2c ∷ 0xe6 ∷ 0x00 ∷ 0x05 ∷ 0x23 ∷ 0x75 ∷ 0x77 ∷ []) ≡ Done (block 0 ((pos 5 ∷ []) ∷ [])) (0x77 ∷ [])
 unfolding frame block
 rate_field = refl
+
+-- the fields of that header, whose rate is 44 kHz
+fields : List ℕ → Reading ℕ Fields
+unfolding bits number number_at continuation_byte_at continuation_bytes_at coded_number_at divide divide_step crc8 blocking_at sync_at codes_at channels_at number_in size_at rate_at fields_after fields_at fields_with_crc_at bytes_at big_at big_endian bits_of
+fields s = fields_with_crc_at s
+
+rate_in_kilohertz : fields (0xff ∷ 0xf8 ∷ 0x6c ∷ 0x02 ∷ 0x00 ∷ 0x00 ∷ 0x2c ∷ 0xe6 ∷ []) ≡ Done (record { variable = false; size = 1; sample_rate = Some 44000; channels = 0; bit_depth_code = 1; number = 0 }) []
+unfolding fields
+rate_in_kilohertz = refl
 
 sync : frame None (0xfe ∷ 0xf8 ∷ 0x01 ∷ []) ≡ Faulty SyncMissing (0x01 ∷ [])
 unfolding frame

@@ -5,7 +5,7 @@ use Rattle.claxon_format.specs.CodedNumber.{bad_first, bad_continuation, continu
 use Rattle.claxon_format.specs.Fault.{SyncMissing, ReservedBit, SizeReserved, RateInvalid, ChannelsReserved, BitDepthReserved, SecondReservedBit, NumberFirst, NumberContinuation, NumberLarge, SizeLarge, HeaderCrc, BitDepthUnknown, SideTooWide}
 use Rattle.claxon_format.specs.Crc.{crc8}
 use Rattle.claxon_format.specs.read.Crc.{with_crc_at}
-use Rattle.claxon_format.specs.Header.{Fields, Header, side_too_wide, number_large, rate_bytes, bit_depth_of_code, bit_depth_reserved}
+use Rattle.claxon_format.specs.Header.{Fields, Header, side_too_wide, number_large, rate_bytes, rate_of, bit_depth_of_code, bit_depth_reserved}
 use Rattle.claxon_format.specs.read.Bytes.{big_at}
 use Rattle.claxon_format.specs.read.Reading.{and_then, done, test}
 use Rattle.claxon_format.specs.read.Bits.{number_at}
@@ -33,10 +33,10 @@ Whole-size InTwoBytes = Whole-then (Whole-number 2) (λ n. Whole-test (eqb n 655
 Whole-after : (v : Bool) → Whole Fields (fields_after in_bits v) (fields_after big_at v)
 unfolding fields_after codes_at channels_at number_in rate_at
 Whole-after v =
-    Whole-then (Whole-then (Whole-number 1) (λ b. Whole-test (eqb (b / 16) 0) SizeReserved (Whole-test (eqb (b % 16) 15) RateInvalid (Whole-done (size_coding (b / 16), rate_bytes (b % 16)))))) (λ size_and_rate.
+    Whole-then (Whole-then (Whole-number 1) (λ b. Whole-test (eqb (b / 16) 0) SizeReserved (Whole-test (eqb (b % 16) 15) RateInvalid (Whole-done (size_coding (b / 16), b % 16))))) (λ size_and_rate.
     Whole-then (Whole-then (Whole-number 1) (λ c. Whole-test (ltb 10 (c / 16)) ChannelsReserved (Whole-test (bit_depth_reserved (c / 2 % 8)) BitDepthReserved (Whole-test (eqb (c % 2) 1) SecondReservedBit (Whole-done (c / 16, c / 2 % 8)))))) (λ codes.
     Whole-then (Whole-then Whole-coded_number (λ n. Whole-test (number_large v n) NumberLarge (Whole-done (v, n)))) (λ time.
-    Whole-then (Whole-size size_and_rate.0) (λ size. Whole-then (Whole-then (Whole-number size_and_rate.1) (λ n. Whole-done tt)) (λ rate. Whole-done (fields_of time codes size))))))
+    Whole-then (Whole-size size_and_rate.0) (λ size. Whole-then (Whole-then (Whole-number (rate_bytes size_and_rate.1)) (λ n. Whole-done (rate_of size_and_rate.1 n))) (λ rate. Whole-done (fields_of time codes size rate))))))
 
 Whole-fields : Whole Fields (fields_at in_bits) (fields_at big_at)
 unfolding fields_at sync_at blocking_at

@@ -6,7 +6,7 @@ use Rattle.claxon_format.specs.Residual.{escape, partition_lengths}
 use Rattle.claxon_format.specs.Subframe.{reserved}
 use Rattle.claxon_format.specs.CodedNumber.{bad_first, continuation_count, bad_continuation}
 use Rattle.claxon_format.specs.Crc.{padding_length}
-use Rattle.claxon_format.specs.Header.{size_of, rate_bits, bit_depth_of_code, bit_depth_reserved, says_32_bits, side_too_wide, number_large}
+use Rattle.claxon_format.specs.Header.{size_of, common_rate, rate_bits, rate_of, bit_depth_of_code, bit_depth_reserved, says_32_bits, side_too_wide, number_large}
 use Rattle.claxon_format.specs.Stereo.{bit_depths}
 use Rattle.claxon_format.specs.Frame.{block_step}
 use Rattle.claxon_format.specs.FrameWriter.{channel_count}
@@ -22,8 +22,27 @@ sizes = refl
 no_sizes : map size_of (0 ∷ 6 ∷ 7 ∷ 16 ∷ []) ≡ None ∷ None ∷ None ∷ None ∷ []
 no_sizes = refl
 
-rates : map rate_bits (0 ∷ 1 ∷ 2 ∷ 3 ∷ 4 ∷ 5 ∷ 6 ∷ 7 ∷ 8 ∷ 9 ∷ 10 ∷ 11 ∷ 12 ∷ 13 ∷ 14 ∷ []) ≡ 0 ∷ 0 ∷ 0 ∷ 0 ∷ 0 ∷ 0 ∷ 0 ∷ 0 ∷ 0 ∷ 0 ∷ 0 ∷ 0 ∷ 8 ∷ 16 ∷ 16 ∷ []
-rates = refl
+rate_lengths : map rate_bits (0 ∷ 1 ∷ 2 ∷ 3 ∷ 4 ∷ 5 ∷ 6 ∷ 7 ∷ 8 ∷ 9 ∷ 10 ∷ 11 ∷ 12 ∷ 13 ∷ 14 ∷ []) ≡ 0 ∷ 0 ∷ 0 ∷ 0 ∷ 0 ∷ 0 ∷ 0 ∷ 0 ∷ 0 ∷ 0 ∷ 0 ∷ 0 ∷ 8 ∷ 16 ∷ 16 ∷ []
+rate_lengths = refl
+
+common_rates : map (λ code. rate_of code 0) (1 ∷ 2 ∷ 3 ∷ 4 ∷ 5 ∷ 6 ∷ 7 ∷ 8 ∷ 9 ∷ 10 ∷ 11 ∷ []) ≡ map Some (88200 ∷ 176400 ∷ 192000 ∷ 8000 ∷ 16000 ∷ 22050 ∷ 24000 ∷ 32000 ∷ 44100 ∷ 48000 ∷ 96000 ∷ [])
+common_rates = refl
+
+-- codes without a common rate: that of the streaminfo, with a field for it, or invalid
+no_rates : map common_rate (0 ∷ 12 ∷ 13 ∷ 14 ∷ 15 ∷ []) ≡ replicate 5 None
+no_rates = refl
+
+streaminfo_rate : rate_of 0 0 ≡ None
+streaminfo_rate = refl
+
+rates_in_kilohertz : map (rate_of 12) (0 ∷ 11 ∷ 255 ∷ []) ≡ Some 0 ∷ Some 11000 ∷ Some 255000 ∷ []
+rates_in_kilohertz = refl
+
+rates_in_hertz : map (rate_of 13) (0 ∷ 11025 ∷ 65535 ∷ []) ≡ Some 0 ∷ Some 11025 ∷ Some 65535 ∷ []
+rates_in_hertz = refl
+
+rates_in_tens_of_hertz : map (rate_of 14) (0 ∷ 35280 ∷ 65535 ∷ []) ≡ Some 0 ∷ Some 352800 ∷ Some 655350 ∷ []
+rates_in_tens_of_hertz = refl
 
 bit_depths_by_code : map (bit_depth_of_code None) (1 ∷ 2 ∷ 4 ∷ 5 ∷ 6 ∷ []) ≡ map Some (8 ∷ 12 ∷ 16 ∷ 20 ∷ 24 ∷ [])
 bit_depths_by_code = refl

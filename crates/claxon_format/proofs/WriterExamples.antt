@@ -1,6 +1,6 @@
 -- Examples: what a writer writes for some frames under plans.
 use Rattle.std.proofs.Common.{◌≡◌, ℕ, false, true, List, [], ◌∷◌, refl, ℤ, pos, negsuc}
-use Rattle.std.specs.Prelude.{Option, None}
+use Rattle.std.specs.Prelude.{Option, Some, None}
 use Rattle.std.specs.Int.{int_wrap}
 use Rattle.claxon_format.specs.Bits.{Bits, bits, number, residue}
 use Rattle.claxon_format.specs.Frame.{StreamFormat}
@@ -13,9 +13,9 @@ write : Option StreamFormat → Fields → HeaderPlan → List SubframePlan → 
 unfolding bits number residue bytes_of divide divide_step crc8 crc16 int_wrap
 write stream f header plans channels = write_bytes stream f header plans channels
 
--- the fields of a frame of one sample, with a fixed block size, which is coded in a byte
+-- the fields of a frame of one sample at 44,100 Hz, with a fixed block size, which is coded in a byte
 fields : ℕ → ℕ → Fields
-fields channels bit_depth_code = record { variable = false; size = 1; channels = channels; bit_depth_code = bit_depth_code; number = 0 }
+fields channels bit_depth_code = record { variable = false; size = 1; sample_rate = Some 44100; channels = channels; bit_depth_code = bit_depth_code; number = 0 }
 
 codes : Bits → HeaderPlan
 codes padding = record { size_code = 6; rate_code = 9; rate = []; continuation_count = 0; padding = padding }

@@ -37,7 +37,7 @@ use Rattle.claxon_format.specs.Header.{
   bit_depth_of_code,
   side_too_wide,
   size_of,
-  rate_bits,
+  Rate,
   bit_depth_reserved,
   number_large,
 }
@@ -104,7 +104,7 @@ write_frame f w x p plans channels =
 
 -- ---- headers
 
--- the codes of a header, the bits of its sample rate, the count of continuation bytes of its
+-- the codes of a header, the field of its sample rate, the count of continuation bytes of its
 -- number, and the padding of its frame, of any value
 pub record HeaderPlan : Type 0 where
   pub size_code : ℕ
@@ -152,7 +152,7 @@ SuitsHeader f plan =
     × (f.bit_depth_code < 8) × (bit_depth_reserved f.bit_depth_code ≡ false)
     × (plan.continuation_count ≤ 6) × (f.number < coded_number_limit plan.continuation_count)
     × (number_large f.variable f.number ≡ false) × SuitsSize plan.size_code f.size
-    × (length plan.rate ≡ rate_bits plan.rate_code)
+    × Rate plan.rate_code f.sample_rate plan.rate
 
 -- ---- plans without quotients
 

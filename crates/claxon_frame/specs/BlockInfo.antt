@@ -51,6 +51,9 @@ block_info stream h = record {
   channels = channel_count h.fields.channels;
   duration = h.fields.size;
   bit_depth = h.bit_depth;
+  sample_rate = h.fields.sample_rate;
+  is_variable = h.fields.variable;
+  number = h.fields.number;
 }
 
 -- The bytes of a header that says this of its block.
@@ -80,6 +83,9 @@ info_of_start start = record {
   channels = channel_count start.channels;
   duration = start.size;
   bit_depth = start.bit_depth;
+  sample_rate = start.sample_rate;
+  is_variable = start.variable;
+  number = start.number;
 }
 
 abbrev pub info_of_header : FrameHeader → BlockInfo

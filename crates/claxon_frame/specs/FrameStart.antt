@@ -16,12 +16,6 @@ use Rattle.claxon_frame.specs.declared.frame.header.parts.BlockSize.TheVariants.
 }
 use Rattle.claxon_frame.specs.declared.frame.header.parts.FrameHeader.{FrameHeader}
 use Rattle.claxon_frame.specs.declared.frame.header.parts.HeaderFields.{HeaderFields}
-use Rattle.claxon_frame.specs.declared.frame.header.parts.SampleRate.{SampleRate}
-use Rattle.claxon_frame.specs.declared.frame.header.parts.SampleRate.TheVariants.{
-  Known as NoRate,
-  Read8 as RateOf8,
-  Read16 as RateOf16,
-}
 use Rattle.claxon_frame.specs.declared.frame.header.parts.KnownStreamFormat.{KnownStreamFormat}
 use Rattle.claxon_frame.specs.FrameHeader.{channel_code, block_time_view, bit_depth_code}
 
@@ -31,29 +25,27 @@ size_view (KnownSize n) = ByCode n
 size_view SizeOf8 = InByte
 size_view SizeOf16 = InTwoBytes
 
--- the number of bytes of an uncommon sample rate
-abbrev pub rate_view : SampleRate → ℕ
-rate_view NoRate = 0
-rate_view RateOf8 = 1
-rate_view RateOf16 = 2
-
 -- the fields of a header
 abbrev pub fields_view : HeaderFields → Fields
 fields_view h = record {
   variable = (block_time_view h.block_time).0;
   size = h.block_size;
+  sample_rate = h.sample_rate;
   channels = channel_code h.channel_assignment;
   bit_depth_code = bit_depth_code h.bit_depth;
   number = (block_time_view h.block_time).1;
 }
 
--- what the subframes need of it
+-- what it says of its block
 abbrev pub start_view : FrameHeader → Start
 start_view h = record {
   time = h.time;
   size = h.block_size;
   channels = channel_code h.channel_assignment;
   bit_depth = h.bit_depth;
+  sample_rate = h.sample_rate;
+  variable = (block_time_view h.block_time).0;
+  number = (block_time_view h.block_time).1;
 }
 
 -- what is known of the stream

@@ -18,6 +18,9 @@ pub record Start : Type 0 where
   pub size : ℕ
   pub channels : ℕ
   pub bit_depth : ℕ
+  pub sample_rate : Option ℕ
+  pub variable : Bool
+  pub number : ℕ
 
 abbrev pub start_of : Option StreamFormat → Header → Start
 start_of stream h =
@@ -26,6 +29,9 @@ start_of stream h =
       size = h.fields.size;
       channels = h.fields.channels;
       bit_depth = h.bit_depth;
+      sample_rate = h.fields.sample_rate;
+      variable = h.fields.variable;
+      number = h.fields.number;
     }
 
 -- a header and its CRC

@@ -39,6 +39,7 @@ use Rattle.claxon_format.specs.Header.{
   Header,
   number_large,
   rate_bytes,
+  rate_of,
   side_too_wide,
   size_of,
   bit_depth_of_code,
@@ -67,12 +68,12 @@ abbrev pub size_coding : ℕ → SizeCoding
 size_coding code =
     cond (code == 6) InByte (cond (code == 7) InTwoBytes (ByCode (unwrap_or (size_of code) 0)))
 
--- how the block size is coded, and the number of bytes of the sample rate
+-- how the block size is coded, and the code of the sample rate
 unfoldable pub codes_at : {X : Type 0} → Numbers X → List X → Reading X (SizeCoding × ℕ)
 codes_at number =
     and_then (number 1) (λ b.
     test (b / 16 == 0) SizeReserved (
-    test (b % 16 == 15) RateInvalid (done (size_coding (b / 16), rate_bytes (b % 16)))))
+    test (b % 16 == 15) RateInvalid (done (size_coding (b / 16), b % 16))))
 
 -- the codes of the channels and of the bit depth (sections 9.1.3 and 9.1.4)
 unfoldable pub channels_at : {X : Type 0} → Numbers X → List X → Reading X (ℕ × ℕ)
@@ -94,15 +95,16 @@ size_at number (ByCode n) = done n
 size_at number InByte = and_then (number 1) (λ n. done (n + 1))
 size_at number InTwoBytes = and_then (number 2) (λ n. test (n == 65535) SizeLarge (done (n + 1)))
 
--- the sample rate in this number of bytes, of any value
-unfoldable pub rate_at : {X : Type 0} → Numbers X → ℕ → List X → Reading X (Unit {0})
-rate_at number k = and_then (number k) (λ n. done tt)
+-- the sample rate of this code: its field can have any value
+unfoldable pub rate_at : {X : Type 0} → Numbers X → ℕ → List X → Reading X (Option ℕ)
+rate_at number code = and_then (number (rate_bytes code)) (λ n. done (rate_of code n))
 
-abbrev pub fields_of : Bool × ℕ → ℕ × ℕ → ℕ → Fields
-fields_of time codes size =
+abbrev pub fields_of : Bool × ℕ → ℕ × ℕ → ℕ → Option ℕ → Fields
+fields_of time codes size rate =
     record {
       variable = time.0;
       size = size;
+      sample_rate = rate;
       channels = codes.0;
       bit_depth_code = codes.1;
       number = time.1;
@@ -115,7 +117,7 @@ fields_after number variable =
     and_then (channels_at number) (λ codes.
     and_then (number_in number variable) (λ time.
     and_then (size_at number size_and_rate.0) (λ size.
-    and_then (rate_at number size_and_rate.1) (λ rate. done (fields_of time codes size))))))
+    and_then (rate_at number size_and_rate.1) (λ rate. done (fields_of time codes size rate))))))
 
 -- all fields before the CRC
 unfoldable pub fields_at : {X : Type 0} → Numbers X → List X → Reading X Fields

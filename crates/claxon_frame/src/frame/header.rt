@@ -4,7 +4,7 @@ ghost use Rattle.std.specs.Option.{ForSome};
 ghost use Rattle.claxon_format.specs.Fault.{HeaderCrc, BitDepthReserved};
 ghost use Rattle.claxon_format.specs.Frame.{block_step, known_bit_depth, time_of};
 ghost use Rattle.claxon_format.specs.read.Bytes.{crc_at, big_at};
-ghost use Rattle.claxon_format.specs.Header.{rate_bytes, bit_depth_reserved};
+ghost use Rattle.claxon_format.specs.Header.{common_rate, bit_depth_reserved};
 ghost use Rattle.claxon_format.specs.read.Reading.{done, test};
 ghost use Rattle.claxon_input.specs.State.{State, bytes_in};
 ghost use Rattle.claxon_input.specs.Gives.{Gives, GivesOrEof};
@@ -41,7 +41,6 @@ ghost use Rattle.claxon_format.specs.read.CodedNumber.{
 ghost use Rattle.claxon_frame.specs.FrameStart.{
   FrameHeaderIsRead,
   fields_view,
-  rate_view,
   stream_format_view,
   size_view,
 };
@@ -52,12 +51,12 @@ mod parts;
 use claxon_input::crc::Crc8Reader;
 use claxon_input::error::{Error, Result};
 use claxon_input::input::ReadBytes;
-use parts::{BlockSize, BlockTime, BlockingStrategy, HeaderFields, SampleRate};
+use parts::{BlockSize, BlockingStrategy, HeaderFields};
 
 #[cfg(test)]
 mod tests;
 
-pub use parts::{ChannelAssignment, FrameHeader, KnownStreamFormat};
+pub use parts::{BlockTime, ChannelAssignment, FrameHeader, KnownStreamFormat};
 
 /// Reads the header of the next frame with its CRC-8. None if fewer than two bytes were left, which are consumed.
 pub fn read_frame_header_or_eof<R: ReadBytes>(
@@ -78,6 +77,8 @@ pub fn read_frame_header_or_eof<R: ReadBytes>(
         block_size: fields.block_size,
         channel_assignment: fields.channel_assignment,
         bit_depth,
+        sample_rate: fields.sample_rate,
+        block_time: fields.block_time,
     }))
 }
 
@@ -170,14 +171,15 @@ fn read_fields<R: ReadBytes>(input: &mut R, blocking: BlockingStrategy) -> Resul
     ensures { Gives fields_view result (fields_after big_at (is_variable blocking))
         (bytes_in R.source input.old) (bytes_in R.source input.new) }
 {
-    let (size, rate) = read_size_and_rate(input)?;
+    let (size, rate_code) = read_size_and_rate(input)?;
     let (channel_assignment, bit_depth) = read_channels_and_bit_depth(input)?;
     let block_time = read_block_time(input, blocking)?;
     let block_size = read_block_size(input, size)?;
-    skip_rate(input, rate)?;
+    let sample_rate = read_rate(input, rate_code)?;
     Ok(HeaderFields {
         block_time,
         block_size,
+        sample_rate,
         channel_assignment,
         bit_depth,
     })
@@ -212,10 +214,12 @@ fn blocking_strategy(sync: u16) -> Result<BlockingStrategy>
     }
 }
 
+// How the block size is coded, and the code of the sample rate.
 #[tactic(auto, using(claxon_input::proofs::ByteFields::first_number), unfolding(claxon_format::specs::read::Header::codes_at, claxon_format::specs::Fault::fault_text))]
-fn read_size_and_rate<R: ReadBytes>(input: &mut R) -> Result<(BlockSize, SampleRate)>
+fn read_size_and_rate<R: ReadBytes>(input: &mut R) -> Result<(BlockSize, u8)>
     ensures min_size { IfOk result (λ codes. 1 ≤ least_size codes.0) }
-    ensures gives { Gives (λ codes. (size_view codes.0, rate_view codes.1)) result (codes_at big_at)
+    ensures max_rate { IfOk result (λ codes. codes.1 ≤ 14) }
+    ensures gives { Gives (λ codes. (size_view codes.0, codes.1)) result (codes_at big_at)
         (bytes_in R.source input.old) (bytes_in R.source input.new) }
 {
     let codes = input.read_u8()?;
@@ -225,7 +229,7 @@ fn read_size_and_rate<R: ReadBytes>(input: &mut R) -> Result<(BlockSize, SampleR
     if codes & 0b1111 == 15 {
         return Err(Error::FormatError("invalid frame header"));
     }
-    Ok((block_size_of(codes >> 4), sample_rate_of(codes & 0b1111)))
+    Ok((block_size_of(codes >> 4), codes & 0b1111))
 }
 
 // The block size of a code from 1 to 15 (RFC 9639, section 9.1.1).
@@ -241,16 +245,6 @@ fn block_size_of(code: u8) -> BlockSize
         6 => BlockSize::Read8,
         7 => BlockSize::Read16,
         n => BlockSize::Known(256 << (n - 8)),
-    }
-}
-
-fn sample_rate_of(code: u8) -> SampleRate
-    ensures { rate_view result ≡ rate_bytes code }
-{
-    match code {
-        n if n < 12 => SampleRate::Known,
-        12 => SampleRate::Read8,
-        _ => SampleRate::Read16,
     }
 }
 
@@ -388,19 +382,37 @@ fn read_block_size<R: ReadBytes>(input: &mut R, size: BlockSize) -> Result<u16>
     }
 }
 
+// The sample rate in Hz. Under the codes from 12 on it is read, in kHz, Hz and tens of Hz (RFC 9639, section 9.1.7).
 #[tactic(auto, using(claxon_input::proofs::ByteFields::first_number), unfolding(claxon_format::specs::read::Header::rate_at))]
-fn skip_rate<R: ReadBytes>(input: &mut R, rate: SampleRate) -> Result<()>
-    ensures { Gives (λ x. tt) result (rate_at big_at (rate_view rate))
+fn read_rate<R: ReadBytes>(input: &mut R, code: u8) -> Result<Option<u32>>
+    requires { code ≤ 14 }
+    ensures { Gives (λ x. x) result (rate_at big_at code)
         (bytes_in R.source input.old) (bytes_in R.source input.new) }
 {
-    match rate {
-        SampleRate::Known => {}
-        SampleRate::Read8 => {
-            input.read_u8()?;
-        }
-        SampleRate::Read16 => {
-            input.read_be_u16()?;
-        }
+    match code {
+        12 => Ok(Some(u32::from(input.read_u8()?) * 1000)),
+        13 => Ok(Some(u32::from(input.read_be_u16()?))),
+        14 => Ok(Some(u32::from(input.read_be_u16()?) * 10)),
+        _ => Ok(common_rate_of(code)),
     }
-    Ok(())
+}
+
+// The sample rate in Hz of a code up to 11, None for that of the streaminfo (RFC 9639, section 9.1.2).
+fn common_rate_of(code: u8) -> Option<u32>
+    ensures { result ≡ common_rate code }
+{
+    match code {
+        1 => Some(88_200),
+        2 => Some(176_400),
+        3 => Some(192_000),
+        4 => Some(8_000),
+        5 => Some(16_000),
+        6 => Some(22_050),
+        7 => Some(24_000),
+        8 => Some(32_000),
+        9 => Some(44_100),
+        10 => Some(48_000),
+        11 => Some(96_000),
+        _ => None,
+    }
 }

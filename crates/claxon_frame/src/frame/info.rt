@@ -3,7 +3,7 @@ ghost use Rattle.std.specs.Prelude.{◌≡◌};
 ghost use Rattle.claxon_frame.specs.BlockInfo.{HasBlockBounds, HeaderInfoIsRead, info_of_header};
 ghost use Rattle.claxon_frame.specs.FrameStart.{stream_format_view};
 
-use crate::frame::header::{FrameHeader, KnownStreamFormat, read_frame_header_or_eof};
+use crate::frame::header::{BlockTime, FrameHeader, KnownStreamFormat, read_frame_header_or_eof};
 use claxon_input::error::Result;
 use claxon_input::input::ReadBytes;
 
@@ -24,17 +24,33 @@ pub struct BlockInfo {
 
     /// The bit depth: that of the stream where the header gives none.
     pub bit_depth: u32,
+
+    /// The sample rate in Hz, if the header gives one; else it is that of the stream.
+    pub sample_rate: Option<u32>,
+
+    /// Whether the block size may vary: the blocking strategy.
+    pub is_variable: bool,
+
+    /// The coded number: that of the frame, or with a variable block size that of its first sample.
+    pub number: u64,
 }
 
 impl BlockInfo {
     fn new(header: &FrameHeader) -> BlockInfo
         ensures { result ≡ info_of_header header.now }
     {
+        let (is_variable, number) = match header.block_time {
+            BlockTime::FrameNumber(number) => (false, u64::from(number)),
+            BlockTime::SampleNumber(number) => (true, number),
+        };
         BlockInfo {
             time: header.time,
             channels: u32::from(header.channel_assignment.channels()),
             duration: u32::from(header.block_size),
             bit_depth: header.bit_depth,
+            sample_rate: header.sample_rate,
+            is_variable,
+            number,
         }
     }
 }

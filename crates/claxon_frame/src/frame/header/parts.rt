@@ -52,14 +52,6 @@ pub enum BlockSize {
     Read16,
 }
 
-/// The number of bits after the block size that give the sample rate. The rate isn't returned.
-#[derive(Clone, Copy)]
-pub enum SampleRate {
-    Known,
-    Read8,
-    Read16,
-}
-
 /// A frame header.
 #[derive(Clone, Copy)]
 pub struct FrameHeader {
@@ -70,6 +62,10 @@ pub struct FrameHeader {
     pub block_size: u16,
     pub channel_assignment: ChannelAssignment,
     pub bit_depth: u32,
+
+    /// The sample rate in Hz, if the header gives one.
+    pub sample_rate: Option<u32>,
+    pub block_time: BlockTime,
     ghost min_size: { 1 ≤ block_size },
     ghost min_channels: { 1 ≤ channels_of channel_assignment },
     ghost max_channels: { channels_of channel_assignment ≤ 8 },
@@ -81,6 +77,7 @@ pub struct FrameHeader {
 pub struct HeaderFields {
     pub block_time: BlockTime,
     pub block_size: u16,
+    pub sample_rate: Option<u32>,
     pub channel_assignment: ChannelAssignment,
     pub bit_depth: Option<u32>,
     ghost min_size: { 1 ≤ block_size },

@@ -11,7 +11,7 @@ use Rattle.claxon_subframe.proofs.ConsecutiveFields.{then_consumes, then_stops}
 use Rattle.claxon_frame.proofs.frame.header.read_fields.Goals as goal
 
 begins : (variable : Bool) (a : State ℕ) → Consumes a a (λ s m. fields_after big_at variable s ≡ and_then (codes_at big_at) (λ codings. and_then (channels_at big_at) (λ codes. and_then (number_in big_at variable) (λ time.
-    and_then (size_at big_at codings.0) (λ size. and_then (rate_at big_at codings.1) (λ rate. done (fields_of time codes size)))))) m)
+    and_then (size_at big_at codings.0) (λ size. and_then (rate_at big_at codings.1) (λ rate. done (fields_of time codes size rate)))))) m)
 unfolding fields_after
 begins variable a = consumes_none a _ refl
 
@@ -33,13 +33,13 @@ returns-in_err-block_size g c =
     exit _ (err_from_is_err_and c.from_residual-in_err-block_size.result c.from_residual-in_err-block_size.ensures.1)
     (then_stops _ (then_consumes _ (then_consumes _ (then_consumes _ (begins (is_variable c.args.blocking) _) c.in_ok-size.ensures.gives) c.in_ok-channel_assignment.ensures.gives) c.in_ok-block_time.ensures) c.in_err-block_size.ensures.gives)
 
-pub returns-in_err-skip_rate : goal.returns-in_err-skip_rate
-returns-in_err-skip_rate g c =
-    exit _ (err_from_is_err_and c.from_residual-in_err-skip_rate.result c.from_residual-in_err-skip_rate.ensures.1)
+pub returns-in_err-sample_rate : goal.returns-in_err-sample_rate
+returns-in_err-sample_rate g c =
+    exit _ (err_from_is_err_and c.from_residual-in_err-sample_rate.result c.from_residual-in_err-sample_rate.ensures.1)
     (then_stops _ (then_consumes _ (then_consumes _ (then_consumes _ (then_consumes _ (begins (is_variable c.args.blocking) _) c.in_ok-size.ensures.gives) c.in_ok-channel_assignment.ensures.gives) c.in_ok-block_time.ensures) c.in_ok-block_size.ensures.gives)
-    c.in_err-skip_rate.ensures)
+    c.in_err-sample_rate.ensures)
 
 pub returns : goal.returns
 returns g c =
     then_consumes _ (then_consumes _ (then_consumes _ (then_consumes _ (then_consumes _ (begins (is_variable c.args.blocking) _) c.in_ok-size.ensures.gives) c.in_ok-channel_assignment.ensures.gives) c.in_ok-block_time.ensures) c.in_ok-block_size.ensures.gives)
-    c.in_ok-skip_rate.ensures
+    c.in_ok-sample_rate.ensures
