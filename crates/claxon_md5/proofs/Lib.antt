@@ -6,4 +6,4 @@ pub mod Words
 pub mod Rounds
 pub mod Blocks
 pub mod Hashing
-pub mod PackedSamples
+pub mod WholeBytes

@@ -1,4 +1,5 @@
 pub mod Md5
 pub mod Sums
 pub mod HasHashed
-pub mod Samples
+pub mod WholeBytes
+pub mod HasherCalls

@@ -7,7 +7,7 @@
 //! Samples are hashed as the MD5 sum of a FLAC stream has them (RFC 9639, section 8.2).
 #![tactic(auto)]
 
-ghost use Rattle.std.specs.Prelude.{◌≡◌, ◌≤◌, ℕ, List, [], ◌++◌, fold};
+ghost use Rattle.std.specs.Prelude.{◌≡◌, ◌≤◌, [], fold};
 ghost use Rattle.claxon_md5.specs.Md5.{bytes_of_words, length_bytes, process, zero_count};
 
 use block::BLOCK_LEN;
@@ -44,8 +44,7 @@ pub struct Md5 {
 
 impl Md5 {
     ghost use Rattle.claxon_md5.specs.HasHashed.{HasHashed};
-    ghost use Rattle.claxon_md5.specs.Md5.{md5};
-    ghost use Rattle.claxon_md5.specs.Samples.{samples_bytes};
+    ghost use Rattle.claxon_md5.specs.HasherCalls.{HashesBytes, HashesSamples, IsDigest};
 
     /// A hasher that was given no bytes.
     pub fn new() -> Md5
@@ -60,7 +59,7 @@ impl Md5 {
 
     /// Hashes these bytes too.
     pub fn update(&mut self, bytes: &[u8])
-        ensures { (xs : List ℕ) → HasHashed self.old xs → HasHashed self.new (xs ++ bytes.now) }
+        ensures hashes_bytes { HashesBytes bytes.now self.old self.new }
     {
         let left = (self.length % BLOCK_LEN as u64) as usize;
         self.length = self.length.wrapping_add(bytes.len() as u64);
@@ -84,13 +83,13 @@ impl Md5 {
         self.buffer[..rest.len()].copy_from_slice(rest);
     }
 
-    /// Hashes the bytes of interleaved samples too. Of a sample that doesn't fit the bit depth only
-    /// the low bytes are hashed.
+    /// Hashes interleaved samples too, each in the fewest whole bytes that hold the bit depth, the
+    /// low-order byte first. Of a sample that doesn't fit the bit depth only the low bytes are
+    /// hashed.
     pub fn update_samples(&mut self, samples: &[i32], bit_depth: u32)
         requires min_bit_depth { 1 ≤ bit_depth }
         requires max_bit_depth { bit_depth ≤ 32 }
-        ensures { (xs : List ℕ) → HasHashed self.old xs
-            → HasHashed self.new (xs ++ samples_bytes bit_depth samples.now) }
+        ensures hashes_samples { HashesSamples bit_depth samples.now self.old self.new }
     {
         let mut buffer = [0; BUFFER_LEN];
         let mut at = 0;
@@ -104,7 +103,7 @@ impl Md5 {
 
     /// The digest of the bytes that were hashed.
     pub fn finish(self) -> [u8; 16]
-        ensures { (xs : List ℕ) → HasHashed self xs → result ≡ md5 xs }
+        ensures is_digest { IsDigest self result }
     {
         let mut hasher = self;
         let length = hasher.length;

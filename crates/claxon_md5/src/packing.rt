@@ -1,6 +1,6 @@
 //! Samples as bytes (RFC 9639, section 8.2).
 ghost use Rattle.std.specs.Prelude.{◌≡◌, ◌≤◌, length, take};
-ghost use Rattle.claxon_md5.specs.Samples.{samples_bytes};
+ghost use Rattle.claxon_md5.specs.WholeBytes.{whole_bytes_of_samples};
 
 /// The most samples that are packed at once.
 pub const MAX_SAMPLES: usize = 1024;
@@ -13,7 +13,7 @@ pub fn pack(samples: &[i32], bit_depth: u32, buffer: &mut [u8; BUFFER_LEN]) -> u
     requires max_bit_depth { bit_depth ≤ 32 }
     requires few { length samples.now ≤ 1024 }
     ensures fits { result ≤ 4096 }
-    ensures packed { take result buffer.new ≡ samples_bytes bit_depth samples.now }
+    ensures packed { take result buffer.new ≡ whole_bytes_of_samples bit_depth samples.now }
 {
     let width = (bit_depth as usize + 7) / 8;
     let mut at = 0;

@@ -13,8 +13,10 @@ returns-then-bytes-missing c =
     let put = c.copy_from_slice.new.self in
     let same = c.copy_from_slice.ensures.after in
     let size : length old.buffer ≡ 64 = search rules in
-    continued _ _ _
-    (few_kept old _ c.args.bytes.now put _ _ size refl (omega arith) same refl refl (omega arith))
+    let bytes = c.args.bytes.now in record {
+      hashes_bytes = continued _ _ _
+          (few_kept old _ bytes put _ _ size refl (omega arith) same refl refl (omega arith));
+    }
 
 pub returns : goal.returns
 returns c =
@@ -48,4 +50,7 @@ returns c =
     let left = c.copy_from_slice-2.ensures.after ∙ c.as_chunks.ensures.back in
     let words = c.process_all-state.ensures
     ∙ ap (fold process emptied.state) c.as_chunks.ensures.front in
-    continued _ _ _ (rest_kept old emptied _ bytes rest put _ size is_emptied left words refl refl)
+    record {
+      hashes_bytes = continued _ _ _
+          (rest_kept old emptied _ bytes rest put _ size is_emptied left words refl refl);
+    }

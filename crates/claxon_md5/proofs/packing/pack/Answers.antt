@@ -1,15 +1,15 @@
 use Rattle.std.proofs.Common.{◌≡◌, ◌≤◌, ◌∙◌, ◌+◌, length, pos, get_or, ap, sym, arith, rules}
 use Rattle.std.proofs.Math.Nat.{mul-le-mul_right}
 use Rattle.std.specs.Int.{w32, cast_unsigned, to_le_bytes}
-use Rattle.claxon_md5.specs.Samples.{sample_width}
-use Rattle.claxon_md5.proofs.PackedSamples.{samples_bytes-none, same_size, put}
+use Rattle.claxon_md5.specs.WholeBytes.{sample_width}
+use Rattle.claxon_md5.proofs.WholeBytes.{whole_bytes_of_samples-none, same_size, put}
 use Rattle.claxon_md5.proofs.packing.pack.Goals as goal
 
 pub loop-sample-init : goal.loop-sample-init
 loop-sample-init c = record {
   size = search rules;
   place = omega arith;
-  packed = sym (samples_bytes-none c.args.bit_depth);
+  packed = sym (whole_bytes_of_samples-none c.args.bit_depth);
 }
 
 pub loop-sample-preserved : goal.loop-sample-preserved
