@@ -3,7 +3,6 @@
 use Rattle.std.specs.Borrow.{GName, MutBor}
 use Rattle.std.proofs.Common.{◌≡◌, ℕ, List, ◌∷◌, inl, inr, sym, ap, subst, ◌∙◌}
 use Rattle.std.specs.Prelude.{IsTrue, Option, None, Some, Result, Ok, Err, ◌↔◌}
-use Rattle.claxon.specs.Block.{BlockValue}
 use Rattle.claxon.specs.Errors.{Error}
 use Rattle.claxon.specs.Errors.TheVariants.{FormatError, IoError, OutOfMemory, Unsupported}
 use Rattle.claxon.specs.Frame.{Block, StreamFormat}
@@ -112,7 +111,7 @@ module _ {R S : Type 0} (source : R → Source ℕ) (update_crc : S → List ℕ
       (reads_in (bytes_in source p.now) (bytes_in source q.now) (p.ghost_name ∷ a.loans) (q.ghost_name ∷ b.loans) (λ xs. f xs ∷ a.crcs xs) (λ xs. g xs ∷ b.crcs xs) (same_loans_below p.ghost_name q.ghost_name a.loans b.loans) (same_crcs_below a.remaining b.remaining f g a.crcs b.crcs) h)
 
 -- what is said of the bytes
-pub tells_below : {R S : Type 0} (source : R → Source ℕ) (update_crc : S → List ℕ → ℕ) (input : MutBor R) (x : CrcReader (MutBor R) S) → crc_inner x ≡ input → (q : Result (Option BlockValue) FrameError) → TellsOf32Bits q (bytes_in (crc_source (lent source) update_crc) x)
+pub tells_below : {R S A : Type 0} (source : R → Source ℕ) (update_crc : S → List ℕ → ℕ) (input : MutBor R) (x : CrcReader (MutBor R) S) → crc_inner x ≡ input → (q : Result (Option A) FrameError) → TellsOf32Bits q (bytes_in (crc_source (lent source) update_crc) x)
     → TellsOf32Bits q (bytes_in source input.now)
 unfolding bytes_in
 tells_below source update_crc input x at (Ok found) h = tt

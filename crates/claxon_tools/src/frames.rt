@@ -1,19 +1,35 @@
-//! Reading frames, and whether one is refused because its samples have 32 bits.
+//! Reading frames: their blocks, what their headers say, and whether one is refused because its samples have 32 bits.
 ghost use Rattle.std.specs.Prelude.{◌≡◌, ◌≤◌, ◌↔◌, IsTrue, Some};
 ghost use Rattle.claxon.specs.Error.{IsFault};
 ghost use Rattle.claxon.specs.Fault.{BitDepthReserved};
 ghost use Rattle.claxon.specs.FrameReader.{BlockHasSamples, ReadsFrame, stream_with};
 ghost use Rattle.claxon.specs.Header.{says_32_bits};
 ghost use Rattle.claxon.specs.State.{bytes_in};
-ghost use Rattle.claxon_tools.specs.Frames.{TellsOf32Bits, answer_of, update_first};
+ghost use Rattle.claxon_tools.specs.Frames.{
+  FourSay32Bits,
+  HasHeader,
+  KeepsFirstBytes,
+  KeepsHeader,
+  TellsOf32Bits,
+  answer_of,
+  decoder_answer,
+  frame_block,
+  kept_block,
+};
 
-use claxon::crc::{CrcReader, RunningCrc};
-use claxon::frame::{FrameReader, FrameResult};
+use claxon::crc::CrcReader;
+use claxon::frame::{BlockInfo, FrameReader, FrameResult};
 use claxon::input::ReadBytes;
 use claxon::metadata::StreamInfo;
 use claxon::{Block, Error};
 use std::alloc::Allocator;
 use std::result;
+
+mod first_bytes;
+#[cfg(test)]
+mod tests;
+
+pub use first_bytes::FirstBytes;
 
 /// What is said of a frame whose samples have 32 bits.
 pub const UNSUPPORTED_32_BIT: &str = "32-bit samples are not supported";
@@ -25,60 +41,52 @@ pub struct FrameError {
     pub error: Error,
     /// It is refused because of the bit depth code for 32 bits, which was reserved in earlier editions of the format.
     pub is_32_bit: bool,
+    /// The first bytes that the decoder read.
+    pub first: FirstBytes,
 }
 
-// The first four bytes that were read. A reader keeps them as it keeps a CRC.
-#[derive(Clone, Copy, Drop)]
-struct FirstBytes {
-    // How many of them were read so far, and the number that they are, big-endian.
-    seen: u8,
-    number: u32,
-    // How many bytes were read after them, modulo 2^64.
-    others: u64,
+/// A decoded frame.
+#[derive(Drop)]
+pub struct DecodedFrame<A: Allocator> {
+    /// What its header says.
+    pub info: BlockInfo,
+    /// Its samples.
+    pub block: Block<A>,
 }
 
-impl RunningCrc for FirstBytes {
-    ghost update_crc = { update_first };
+// A block, and the first bytes of its frame.
+#[derive(Drop)]
+struct KeptBlock<A: Allocator> {
+    block: Block<A>,
+    first: FirstBytes,
+}
 
-    ghost start = { record { seen = 0; number = 0; others = 0 } };
-
-    fn zero() -> FirstBytes {
-        FirstBytes {
-            seen: 0,
-            number: 0,
-            others: 0,
-        }
-    }
-
-    #[inline(always)]
-    fn next(self, byte: u8) -> FirstBytes {
-        if self.seen >= 4 {
-            return FirstBytes {
-                others: self.others.wrapping_add(1),
-                ..self
-            };
-        }
-        FirstBytes {
-            seen: self.seen + 1,
-            number: self.number % 0x100_0000 * 256 + u32::from(byte),
-            others: 0,
-        }
-    }
-
-    fn after(self, bytes: &[u8]) -> FirstBytes {
-        let mut first = self;
-        for at in 0..bytes.len() {
-            if first.seen >= 4 {
-                let more = (bytes.len() - at) as u64;
-                return FirstBytes {
-                    others: first.others.wrapping_add(more),
-                    ..first
-                };
-            }
-            first = first.next(bytes[at]);
-        }
-        first
-    }
+/// Reads the next frame of the stream with this streaminfo, as `FrameReader::read_next_or_eof` does.
+pub(crate) fn read_frame<R: ReadBytes, A: Allocator>(
+    input: &mut R,
+    info: StreamInfo,
+    buffer: Vec<i32, A>,
+) -> result::Result<Option<DecodedFrame<A>>, FrameError>
+    requires min_bit_depth { 1 ≤ info.bits_per_sample }
+    requires max_bit_depth { info.bits_per_sample ≤ 32 }
+    ensures is_read { ReadsFrame (Some (stream_with info)) (decoder_answer frame_block result)
+        (bytes_in R.source input.old) (bytes_in R.source input.new) }
+    ensures has_header { HasHeader (Some (stream_with info)) result
+        (bytes_in R.source input.old) (bytes_in R.source input.new) }
+    ensures tells_of_32_bits { TellsOf32Bits result (bytes_in R.source input.old) }
+    ensures keeps_first { KeepsFirstBytes result
+        (bytes_in R.source input.old) (bytes_in R.source input.new) }
+    ensures has_samples { BlockHasSamples (decoder_answer frame_block result) }
+{
+    let Some(kept) = read_kept(input, info, buffer)? else {
+        return Ok(None);
+    };
+    // There is one: it was read to decode the block.
+    let Some(info) = kept.first.header(info) else {
+        return Ok(None);
+    };
+    let block = kept.block;
+    Ok(Some(DecodedFrame { info, block }))
 }
 
 /// Reads the next block of the stream with this streaminfo, as `FrameReader::read_next_or_eof` does.
@@ -92,14 +100,46 @@ pub(crate) fn read_block<R: ReadBytes, A: Allocator>(
     ensures is_read { ReadsFrame (Some (stream_with info)) (answer_of result)
         (bytes_in R.source input.old) (bytes_in R.source input.new) }
     ensures tells_of_32_bits { TellsOf32Bits result (bytes_in R.source input.old) }
+    ensures keeps_first { KeepsFirstBytes result
+        (bytes_in R.source input.old) (bytes_in R.source input.new) }
     ensures has_samples { BlockHasSamples (answer_of result) }
 {
+    match read_kept(input, info, buffer)? {
+        Some(kept) => Ok(Some(kept.block)),
+        None => Ok(None),
+    }
+}
+
+// The next block, and the first bytes of its frame.
+fn read_kept<R: ReadBytes, A: Allocator>(
+    input: &mut R,
+    info: StreamInfo,
+    buffer: Vec<i32, A>,
+) -> result::Result<Option<KeptBlock<A>>, FrameError>
+    requires min_bit_depth { 1 ≤ info.bits_per_sample }
+    requires max_bit_depth { info.bits_per_sample ≤ 32 }
+    ensures is_read { ReadsFrame (Some (stream_with info)) (decoder_answer kept_block result)
+        (bytes_in R.source input.old) (bytes_in R.source input.new) }
+    ensures keeps_header { KeepsHeader (Some (stream_with info)) result
+        (bytes_in R.source input.old) (bytes_in R.source input.new) }
+    ensures tells_of_32_bits { TellsOf32Bits result (bytes_in R.source input.old) }
+    ensures keeps_first { KeepsFirstBytes result
+        (bytes_in R.source input.old) (bytes_in R.source input.new) }
+    ensures has_samples { BlockHasSamples (decoder_answer kept_block result) }
+{
     let mut input = CrcReader::new(input);
-    match read_from(&mut input, info, buffer) {
-        Ok(found) => Ok(found),
+    let found = read_from(&mut input, info, buffer);
+    let first = input.crc();
+    match found {
+        Ok(Some(block)) => Ok(Some(KeptBlock { block, first })),
+        Ok(None) => Ok(None),
         Err(error) => {
-            let is_32_bit = is_32_bit_fault(&error, input.crc());
-            Err(FrameError { error, is_32_bit })
+            let is_32_bit = is_32_bit_fault(&error, first);
+            Err(FrameError {
+                error,
+                is_32_bit,
+                first,
+            })
         }
     }
 }
@@ -124,10 +164,9 @@ fn read_from<R: ReadBytes, A: Allocator>(
 
 // Whether a value is reserved, and the first four bytes begin a header with the bit depth code for 32 bits.
 fn is_32_bit_fault(error: &Error, first: FirstBytes) -> bool
-    ensures { IsTrue result ↔ (IsFault BitDepthReserved error.now
-        × ((4 ≤ first.seen) × IsTrue (says_32_bits first.number))) }
+    ensures { IsTrue result ↔ (IsFault BitDepthReserved error.now × FourSay32Bits first) }
 {
-    is_reserved_value(error) && first.seen >= 4 && says_32_bits(first.number)
+    is_reserved_value(error) && first.has_four() && says_32_bits(first.first_four())
 }
 
 // Whether the error says of a frame's header that a value in it is reserved.
