@@ -1,5 +1,5 @@
 -- Blocks that are written one after another, and the file that they make.
-use Rattle.std.proofs.Common.{◌≡◌, ◌≢◌, ◌⊎◌, inl, inr, ℕ, ◌+◌, ◌-◌, ◌*◌, ◌%◌, ◌^◌, ◌<◌, ◌≤◌, ℤ, w32, zero, suc, take, Bool, false, cond, ◌==◌, List, [], ◌∷◌, ◌++◌, length, Option, None, Some, refl, sym, ap, subst, ◌∙◌, arith, append-nil, eq-eqb, length-append}
+use Rattle.std.proofs.Common.{◌≡◌, ◌≢◌, ◌⊎◌, inl, inr, ℕ, ◌+◌, ◌-◌, ◌*◌, ◌%◌, ◌^◌, ◌<◌, ◌≤◌, ℤ, w32, zero, suc, take, Bool, false, true, cond, ◌==◌, List, [], ◌∷◌, ◌++◌, length, Option, None, Some, refl, sym, ap, subst, ◌∙◌, arith, append-nil, eq-eqb, length-append}
 use Rattle.std.specs.Prelude.{All, IsTrue, Result, Ok, Err, IfErr, IsErrAnd, IsOk, OnOk, ◌↔◌}
 use Rattle.std.specs.Io.KnownBytes.{Appends}
 use Rattle.std.proofs.KnownBytes.{Appends-nil, Appends-trans}
@@ -19,6 +19,7 @@ use Rattle.claxon.specs.Errors.{Error as Cause}
 use Rattle.claxon.specs.Errors.TheVariants.{OutOfMemory}
 use Rattle.claxon.specs.FrameReader.{FrameAnswer, ReadsFrame, block_view, stream_with}
 use Rattle.claxon.specs.Gives.{Consumes, ReadFailedIn}
+use Rattle.claxon.specs.MetadataBlock.{info_view}
 use Rattle.claxon.specs.Promises.{IsExcused}
 use Rattle.claxon.specs.SampleRuns.{ConsumesFrames, samples_of}
 use Rattle.claxon.specs.Source.{Source}
@@ -27,17 +28,23 @@ use Rattle.claxon.specs.StreamInfos.{StreamInfo}
 use Rattle.claxon.proofs.FormatLaws.{frames_unambiguous}
 use Rattle.claxon.proofs.SampleRuns.{all_frames_read, excused_after, fault_no_frame, frames_left, samples_add, short_no_frame, takes_more, takes_none}
 use Rattle.claxon.proofs.Streams.{length-interleave}
+use Rattle.claxon_md5.proofs.WholeBytes.{hashes_more, hashes_none}
+use Rattle.claxon_md5.specs.WholeBytes.{whole_bytes_of_samples}
+use Rattle.claxon_md5.specs.declared.Md5.{Md5}
 use Rattle.claxon_write.proofs.Counts.{flushed_after, none_failed, none_failed_both}
 use Rattle.claxon_tools.proofs.BlockReads.{block_io, io_not_fault}
 use Rattle.claxon_tools.proofs.FirstBytes.{fault_not_memory, refused}
-use Rattle.claxon_tools.specs.Convert.{CanBeConverted, CanBeConvertedTo, CanBePut, Converts, ConvertsToStream, ExplainsError, HoldsFile, HoldsUnknown, ConvertIsExcused, IsErrorAt, IsWholeStream, OutputFailed, PutsBlocks, PutsSamples, StopsAtBlock, StopsPutting, OutputWriteFailed, packed_blocks}
+use Rattle.claxon_tools.specs.Convert.{CanBeConverted, CanBeConvertedTo, CanBePut, Converts, ConvertsToStream, ExplainsError, HashesBlocks, HoldsFile, HoldsUnknown, ConvertIsExcused, IsErrorAt, IsWholeStream, OutputFailed, PutsAndHashes, PutsBlocks, PutsSamples, StopsAtBlock, StopsPutting, OutputWriteFailed, packed_blocks}
 use Rattle.claxon_tools.specs.Frames.{Is32BitFault}
 use Rattle.claxon_tools.specs.Samples.{bytes_of_sample, packed_block, packed_samples, shifted_sample, silence}
+use Rattle.claxon_tools.specs.WavCommand.{IsVerdictOn}
 use Rattle.claxon_tools.specs.WavError.{IsFrameError, IsMemory, IsOutput, NamesFault}
 use Rattle.claxon_tools.specs.WaveFile.{pad, sample_size, unknown_header}
 use Rattle.claxon_tools.specs.DataSize.{max_data_size}
+use Rattle.claxon_tools.specs.Walk.{HasHashedBytes, HashesToo, Md5IsJudged}
 use Rattle.claxon_tools.specs.Writer.{BlockErrorKeeps, CallsFailed, ExplainsBlockError, FewWritesFailed, FinishFaultIsSound, FinishFlushes, FinishIsSound, FinishStreamIsSound, NoneFailed, PutsBlock, SameHeader, SamplesFit, Unflushed, WritesFailed, output_contents, stream_pad}
 use Rattle.claxon_tools.specs.declared.frames.FrameError.{FrameError}
+use Rattle.claxon_tools.specs.declared.report.Md5Verdict.{Md5Verdict}
 use Rattle.claxon_tools.specs.declared.wav.error.Error.{Error}
 use Rattle.claxon_tools.specs.declared.wav.error.Error.TheVariants.{Claxon, Exists, OtherChannels, Output, SameFile, TooLong, Unsupported32Bit, WideSample}
 use Rattle.claxon_tools.specs.declared.wav.header.Layout.{Layout}
@@ -127,6 +134,44 @@ module _ {W : Type 0} {contents : W → Option (List ℕ)} where
     -- a block that was not written
     pub stops_at_block : {e : Error} {a b c : State ℕ} {x y z : WavWriter W} (block : BlockValue) → PutSoFar contents stream a b x y → ReadsFrame stream (Ok (Some block)) b c → ExplainsBlockError block y e → BlockErrorKeeps contents block e y z → StopsPutting contents stream e a c x z
     stops_at_block {y = y} block h reads explains keeps = inr (record { blocks = h.blocks; block = block; frames = takes_more block h.frames reads; put = y; puts = h.puts; explains = explains; keeps = keeps })
+
+-- ---- the hasher
+
+-- So far exactly the frames of these blocks were consumed, and their samples written and hashed.
+pub record HashedSoFar {W : Type 0} (contents : W → Option (List ℕ)) (stream : Option StreamFormat) (bit_depth : ℕ) (a b : State ℕ) (x y : WavWriter W) (hasher hashed : Option Md5) : Type 0 where
+  pub put : PutSoFar contents stream a b x y
+  pub hashes : HashesBlocks bit_depth put.blocks hasher hashed
+
+no_block_hashed : (n : ℕ) (hasher : Option Md5) → HashesBlocks n [] hasher hasher
+no_block_hashed n None = refl
+no_block_hashed n (Some hasher) = hashes_none n hasher
+
+-- the samples of one block more
+block_hashed : (n : ℕ) (blocks : List Block) (block : BlockValue) (x y z : Option Md5) → HashesBlocks n blocks x y → HashesToo n block y z → HashesBlocks n (blocks ++ block_view block ∷ []) x z
+block_hashed n blocks block None None z before more = more
+block_hashed n blocks block None (Some y) z before more = absurd cc
+block_hashed n blocks block (Some x) None z before more = absurd before
+block_hashed n blocks block (Some x) (Some y) None before more = absurd more
+block_hashed n blocks block (Some x) (Some y) (Some z) before more = hashes_more n (samples_of blocks) (interleave block.channels) (samples_of (blocks ++ block_view block ∷ [])) x y z (samples_add blocks (block_view block)) before more
+
+module _ {W : Type 0} {contents : W → Option (List ℕ)} {stream : Option StreamFormat} where
+  pub hashed_none : (bit_depth : ℕ) (a : State ℕ) (x : WavWriter W) (hasher : Option Md5) → HashedSoFar contents stream bit_depth a a x x hasher hasher
+  unfolding put_none
+  hashed_none bit_depth a x hasher = record { put = put_none a x; hashes = no_block_hashed bit_depth hasher }
+
+  -- one block more, which was written and hashed
+  pub hashed_more : {bit_depth : ℕ} {a b c : State ℕ} {x y z : WavWriter W} {hasher hashed more : Option Md5} (block : BlockValue) (h : HashedSoFar contents stream bit_depth a b x y hasher hashed) → ReadsFrame stream (Ok (Some block)) b c → PutsBlock contents block y z → SamplesFit block y → SameHeader y z → Unflushed y z
+      → HashesToo bit_depth block hashed more → HashedSoFar contents stream bit_depth a c x z hasher more
+  unfolding put_more
+  hashed_more {bit_depth = bit_depth} {hasher = hasher} {hashed = hashed} {more = more} block h reads put fits same unflushed hashes = record {
+    put = put_more block h.put reads put fits same unflushed;
+    hashes = block_hashed bit_depth h.put.blocks block hasher hashed more h.hashes hashes;
+  }
+
+  -- an answer without a block
+  pub hashed_all : {bit_depth : ℕ} {a b c : State ℕ} {x y : WavWriter W} {hasher hashed : Option Md5} → HashedSoFar contents stream bit_depth a b x y hasher hashed → ReadsFrame stream (Ok None) b c → PutsAndHashes contents stream bit_depth a c x y hasher hashed
+  unfolding put_all
+  hashed_all h reads = record { put = put_all h.put reads; hashes = h.hashes }
 
 -- for equal streaminfos and readers
 pub shown_as : {R : Type 0} (source : R → Source ℕ) {info shown : StreamInfo} {u v : R} (P : Option StreamFormat → State ℕ → Type 0) → info ≡ shown → u ≡ v → P (Some (stream_with info)) (bytes_in source u) → P (Some (stream_with shown)) (bytes_in source v)
@@ -397,14 +442,15 @@ whole : {W : Type 0} {contents : W → Option (List ℕ)} {stream : Option Strea
 whole h known = let w = h.reads.blocks_are.consumed.known known in (h.reads.between.remaining, w.is, (h.reads.last.promises.none_is_eof refl w.known).0)
 
 -- and then the end of the file
-pub converted : {W : Type 0} {contents : W → Option (List ℕ)} (position : W → Option ℕ) {stream : Option StreamFormat} {a b : State ℕ} {old put : WavWriter W} (new : WavWriter W) (r : Result (Unit {0}) Error) → PutsBlocks contents stream (Ok None) a b old put → FinishIsSound contents position r put new → FinishFlushes r put new
-    → OnOk r (Converts contents position stream a old new)
-converted position new (Err e) h finishes flushes = tt
-converted {contents = contents} position {old = old} {put = put} new (Ok done) h finishes flushes = record {
+pub converted : {W : Type 0} {contents : W → Option (List ℕ)} (position : W → Option ℕ) {stream : Option StreamFormat} {a b : State ℕ} {old put : WavWriter W} {bit_depth : ℕ} {x y : Option Md5} (new : WavWriter W) (r : Result (Unit {0}) Error) → PutsAndHashes contents stream bit_depth a b old put x y → FinishIsSound contents position r put new → FinishFlushes r put new
+    → OnOk r (Converts contents position stream bit_depth a old new x y)
+converted position new (Err e) k finishes flushes = tt
+converted {contents = contents} position {old = old} {put = put} new (Ok done) k finishes flushes = let h = k.put in record {
   blocks = h.blocks;
   all = whole h;
   put = put;
   puts = h.puts;
+  hashes = k.hashes;
   ends = finishes.0;
   right = finishes.1;
   file = file contents h.blocks old put new h.puts finishes.0.right;
@@ -432,17 +478,28 @@ module _ {W : Type 0} (contents : W → Option (List ℕ)) (put new : WavWriter 
       subst (λ (s : List ℕ). Appends (contents output.now) (output_contents contents new) s) (append-nil (unknown_header layout ++ samples)) whole
 
 -- the end of an output that can't seek
-pub converted_to_stream : {W : Type 0} {contents : W → Option (List ℕ)} {stream : Option StreamFormat} {a b : State ℕ} {old put : WavWriter W} (new : WavWriter W) (r : Result (Unit {0}) Error) → PutsBlocks contents stream (Ok None) a b old put → FinishStreamIsSound contents r put new → FinishFlushes r put new
-    → OnOk r (ConvertsToStream contents stream a old new)
-converted_to_stream new (Err e) h finishes flushes = tt
-converted_to_stream {contents = contents} {old = old} {put = put} new (Ok done) h finishes flushes = record {
+pub converted_to_stream : {W : Type 0} {contents : W → Option (List ℕ)} {stream : Option StreamFormat} {a b : State ℕ} {old put : WavWriter W} {bit_depth : ℕ} {x y : Option Md5} (new : WavWriter W) (r : Result (Unit {0}) Error) → PutsAndHashes contents stream bit_depth a b old put x y → FinishStreamIsSound contents r put new → FinishFlushes r put new
+    → OnOk r (ConvertsToStream contents stream bit_depth a old new x y)
+converted_to_stream new (Err e) k finishes flushes = tt
+converted_to_stream {contents = contents} {old = old} {put = put} new (Ok done) k finishes flushes = let h = k.put in record {
   blocks = h.blocks;
   all = whole h;
   put = put;
   puts = h.puts;
+  hashes = k.hashes;
   written_is = finishes.1;
   file = file contents h.blocks old put new h.puts (padded_where_right contents put new finishes.0);
   unknown = where_unknown contents put new finishes.0 h.blocks old h.puts;
   none_failed = none_failed_both h.puts.none_failed flushes.0;
   flushed = flushed_after h.puts.unflushed flushes.1;
 }
+
+-- ---- what a hasher tells
+
+pub judged : (computes_md5 : Bool) (info : StreamInfo) (blocks : List Block) (hasher hashed : Option Md5) (verdict : Md5Verdict) → HasHashedBytes computes_md5 [] hasher → HashesBlocks info.bits_per_sample blocks hasher hashed → Md5IsJudged (info_view info) hashed verdict → IsVerdictOn computes_md5 (info_view info) blocks verdict
+judged false info blocks None None verdict new hashes is = is
+judged false info blocks None (Some y) verdict new hashes is = absurd cc
+judged false info blocks (Some x) hashed verdict new hashes is = absurd (let z : Some x ≡ None = new in cc)
+judged true info blocks None hashed verdict new hashes is = absurd new
+judged true info blocks (Some x) None verdict new hashes is = absurd hashes
+judged true info blocks (Some x) (Some y) verdict new hashes is = is (whole_bytes_of_samples info.bits_per_sample (samples_of blocks)) (hashes [] new)

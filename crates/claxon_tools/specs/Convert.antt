@@ -20,7 +20,9 @@ use Rattle.std.specs.Prelude.{
   IfErr,
   IsErrAnd,
   IsOk,
+  IsSomeAnd,
   OnOk,
+  Some,
 }
 use Rattle.std.specs.Borrow.{MutBor}
 use Rattle.std.specs.Io.KnownBytes.{Appends}
@@ -30,6 +32,7 @@ use Rattle.claxon.specs.Fault.{Fault}
 use Rattle.claxon.specs.Frame.{Block, FrameBytesFault, Frames, StreamFormat}
 use Rattle.claxon.specs.FrameReader.{FrameAnswer, block_view}
 use Rattle.claxon.specs.Error.{IsFault, IsIo}
+use Rattle.claxon.specs.FlacReader.{flac_streaminfo}
 use Rattle.claxon.specs.Gives.{ReadFailedIn}
 use Rattle.claxon.specs.State.{State, RemainingIsKnown}
 use Rattle.claxon.specs.Errors.{Error as Cause}
@@ -37,6 +40,8 @@ use Rattle.claxon.specs.Errors.TheVariants.{OutOfMemory}
 use Rattle.claxon.specs.Opening.{flac_bytes}
 use Rattle.claxon.specs.SampleRuns.{ConsumesFrames, ReadsFrames, samples_of}
 use Rattle.claxon.specs.declared.reader.FlacReader.{FlacReader}
+use Rattle.claxon_md5.specs.HasherCalls.{HashesSamples}
+use Rattle.claxon_md5.specs.declared.Md5.{Md5}
 use Rattle.claxon_write.specs.WriteSamples.{flac_stream}
 use Rattle.claxon_tools.specs.DataSize.{max_data_size}
 use Rattle.claxon_tools.specs.Frames.{Is32BitFault, Says32Bits}
@@ -91,6 +96,13 @@ pub record PutsSamples {W : Type 0} (contents : W → Option (List ℕ)) (blocks
   pub none_failed : NoneFailed old new
   pub unflushed : Unflushed old new
 
+-- The interleaved samples of these blocks are hashed too, those of one block behind those of
+-- another, if there is a hasher.
+abbrev pub HashesBlocks : ℕ → List Block → Option Md5 → Option Md5 → Type 0
+HashesBlocks bit_depth blocks None new = new ≡ None
+HashesBlocks bit_depth blocks (Some old) new =
+    IsSomeAnd new (HashesSamples bit_depth (samples_of blocks) old)
+
 -- ---- block after block
 
 -- The frames of blocks were read up to this answer without a block, and exactly their samples
@@ -135,12 +147,21 @@ StopsPutting contents stream error a b old new =
     StopsAtFault contents stream error a b old new
     ⊎ StopsAtBlock contents stream error a b old new
 
+-- All blocks up to the end of the stream were written, and the samples of the same blocks were
+-- hashed. `hasher` and `hashed` are the hasher before and after.
+pub record PutsAndHashes {W : Type 0} (contents : W → Option (List ℕ))
+    (stream : Option StreamFormat) (bit_depth : ℕ) (a b : State ℕ) (old new : WavWriter W)
+    (hasher hashed : Option Md5) : Type 0 where
+  pub put : PutsBlocks contents stream (Ok None) a b old new
+  pub hashes : HashesBlocks bit_depth put.blocks hasher hashed
+
 -- `a` and `b` are the input before and after the call.
 module _ {W : Type 0} (contents : W → Option (List ℕ)) (stream : Option StreamFormat)
     (result : Result (Unit {0}) Error) (a b : State ℕ) (old new : WavWriter W) where
-  -- An Ok wrote all blocks up to the end of the stream.
-  abbrev pub PutBlocksIsSound : Type 0
-  PutBlocksIsSound = OnOk result (PutsBlocks contents stream (Ok None) a b old new)
+  -- An Ok wrote and hashed all blocks up to the end of the stream.
+  abbrev pub PutBlocksIsSound : ℕ → Option Md5 → Option Md5 → Type 0
+  PutBlocksIsSound bit_depth hasher hashed =
+      OnOk result (PutsAndHashes contents stream bit_depth a b old new hasher hashed)
 
   -- An Err says why not all blocks were written.
   abbrev pub PutBlocksFaultIsSound : Type 0
@@ -165,9 +186,11 @@ HoldsFile {W} contents blocks old new =
     (wave_file layout (packed_blocks layout.valid_bits blocks))
 
 -- Exactly the samples of all blocks up to the end of the stream were written, and then the file was
--- finished. No call of the output failed, and the last one was the only flush.
+-- finished. No call of the output failed, and the last one was the only flush. The samples of the
+-- same blocks were hashed, in this bit depth.
 pub record Converts {W : Type 0} (contents : W → Option (List ℕ)) (position : W → Option ℕ)
-    (stream : Option StreamFormat) (s : State ℕ) (old new : WavWriter W) : Type 0 where
+    (stream : Option StreamFormat) (bit_depth : ℕ) (s : State ℕ) (old new : WavWriter W)
+    (hasher hashed : Option Md5) : Type 0 where
   pub blocks : List Block
   pub all : IsWholeStream stream blocks s
   pub put : WavWriter W
@@ -177,13 +200,19 @@ pub record Converts {W : Type 0} (contents : W → Option (List ℕ)) (position 
   pub file : HoldsFile contents blocks old new
   pub none_failed : NoneFailed old new
   pub flushed : FlushedLast old new
+  pub hashes : HashesBlocks bit_depth blocks hasher hashed
+
+-- the bit depth that the streaminfo says
+abbrev pub flac_bit_depth : {R A : Type 0} → FlacReader R A → ℕ
+flac_bit_depth flac = (flac_streaminfo flac).bits_per_sample
 
 -- An Ok converted the whole stream.
 abbrev pub ConvertIsSound : {R A W : Type 0} → (W → Option (List ℕ)) → (W → Option ℕ)
     → (R → Option (List ℕ)) → FlacReader R A → Result (Unit {0}) Error → WavWriter W → WavWriter W
-    → Type 0
-ConvertIsSound contents position remaining flac r old new =
-    OnOk r (Converts contents position (flac_stream flac) (flac_bytes remaining flac) old new)
+    → Option Md5 → Option Md5 → Type 0
+ConvertIsSound contents position remaining flac r old new hasher hashed =
+    OnOk r (Converts contents position (flac_stream flac) (flac_bit_depth flac)
+    (flac_bytes remaining flac) old new hasher hashed)
 
 -- The output has, after what it contained when the writer was started for samples of unknown
 -- number, that header and these samples.
@@ -195,9 +224,11 @@ HoldsUnknown {W} contents blocks old new =
     (unknown_header layout ++ packed_blocks layout.valid_bits blocks)
 
 -- Exactly the samples of all blocks up to the end of the stream were written, after a header that
--- was not corrected. No call of the output failed, and the last one was the only flush.
+-- was not corrected. No call of the output failed, and the last one was the only flush. The samples
+-- of the same blocks were hashed, in this bit depth.
 pub record ConvertsToStream {W : Type 0} (contents : W → Option (List ℕ))
-    (stream : Option StreamFormat) (s : State ℕ) (old new : WavWriter W) : Type 0 where
+    (stream : Option StreamFormat) (bit_depth : ℕ) (s : State ℕ) (old new : WavWriter W)
+    (hasher hashed : Option Md5) : Type 0 where
   pub blocks : List Block
   pub all : IsWholeStream stream blocks s
   pub put : WavWriter W
@@ -207,13 +238,15 @@ pub record ConvertsToStream {W : Type 0} (contents : W → Option (List ℕ))
   pub unknown : HoldsUnknown contents blocks old new
   pub none_failed : NoneFailed old new
   pub flushed : FlushedLast old new
+  pub hashes : HashesBlocks bit_depth blocks hasher hashed
 
 -- An Ok converted the whole stream.
 abbrev pub ConvertToStreamIsSound : {R A W : Type 0} → (W → Option (List ℕ))
     → (R → Option (List ℕ)) → FlacReader R A → Result (Unit {0}) Error → WavWriter W → WavWriter W
-    → Type 0
-ConvertToStreamIsSound contents remaining flac r old new =
-    OnOk r (ConvertsToStream contents (flac_stream flac) (flac_bytes remaining flac) old new)
+    → Option Md5 → Option Md5 → Type 0
+ConvertToStreamIsSound contents remaining flac r old new hasher hashed =
+    OnOk r (ConvertsToStream contents (flac_stream flac) (flac_bit_depth flac)
+    (flac_bytes remaining flac) old new hasher hashed)
 
 -- ---- errors
 

@@ -1,16 +1,20 @@
 //! The command `wav`: a FLAC file as a WAV file.
-ghost use Rattle.std.specs.Prelude.{◌≡◌, ◌≤◌, IfOk, IfSome, false};
+ghost use Rattle.std.specs.Prelude.{◌≡◌, ◌≤◌, [], IfOk, IfSome, false};
 ghost use Rattle.claxon.specs.FlacReader.{flac_metadata_only};
 ghost use Rattle.claxon_tools.specs.DataSize.{max_data_size};
-ghost use Rattle.claxon_tools.specs.WavCommand.{IsAnnounced, status_after};
+ghost use Rattle.claxon_tools.specs.Walk.{HasHashedBytes};
+ghost use Rattle.claxon_tools.specs.WavCommand.{IsAnnounced, VerdictIsSound, status_after};
 
 use crate::arguments::{Argument, Arguments, Notice};
 use crate::program::{Part, Program, STANDARD, open_input, report, report_text};
 use crate::progress::Progress;
+use crate::report::Md5Verdict;
 use crate::text::count_text;
+use crate::verify::judge_md5;
 use crate::wav::{Error, Layout, Result, WavWriter, convert, convert_to_stream};
 use claxon::FlacReader;
 use claxon::metadata::StreamInfo;
+use claxon_md5::Md5;
 use std::alloc::{AllocError, Global};
 use std::fs::OpenFile;
 use std::io::{Read, Seek, Write};
@@ -22,7 +26,7 @@ use std::{fs, result};
 /// What the command says about itself.
 pub const PROGRAM: Program = Program {
     name: "claxon wav",
-    arguments: "[-f] FILE [OUT.wav]",
+    arguments: "[-f] [--no-md5] FILE [OUT.wav]",
     commands: &[],
     help: "Converts a FLAC file to a WAV file.
 
@@ -30,14 +34,16 @@ pub const PROGRAM: Program = Program {
   OUT.wav    the WAV file; - is standard output. Without it: FILE with .wav as its
              extension, or standard output for standard input
   -f         replaces OUT.wav if it exists
+  --no-md5   doesn't compute the MD5 sum, which takes less time
   --         ends the options
   --help     shows this text
   --version  shows the version
 
 Samples before a fault are written too. Another number of samples than in the
-streaminfo is a fault.
+streaminfo is a fault, and so is another MD5 sum, if the streaminfo has one. All
+samples are written then.
 
-Status: 0 if all was converted, 1 if not, 2 for other arguments.
+Status: 0 if there was no fault, 1 if there was one, 2 for other arguments.
 ",
 };
 
@@ -60,12 +66,14 @@ pub fn command<Q: Files + AllocGlobal, I: Read + Copy, W: Write + Drop, E: Write
     }
 }
 
-// What a command line asks for: the name of the input, that of the output if it is given, and whether the output may exist.
+// What a command line asks for: the name of the input, that of the output if it is given, whether the output may exist, and
+// whether the MD5 sum of the samples is computed.
 #[derive(Clone, Copy)]
 struct Request<'a> {
     from: &'a str,
     to: Option<&'a str>,
     replaces: bool,
+    computes_md5: bool,
 }
 
 // The same, where the output has a name.
@@ -74,14 +82,23 @@ struct Job<'a> {
     from: &'a str,
     to: &'a str,
     replaces: bool,
+    computes_md5: bool,
+}
+
+// What was converted: the number of samples per channel, and what became of their MD5 sum.
+struct Conversion {
+    samples: u32,
+    md5: Md5Verdict,
 }
 
 fn parse<'a>(words: &'a [String]) -> result::Result<Request<'a>, Notice<'a>> {
     let mut arguments = Arguments::new(words);
-    let (mut from, mut to, mut replaces) = (None, None, false);
+    let (mut from, mut to) = (None, None);
+    let (mut replaces, mut computes_md5) = (false, true);
     while let Some(argument) = arguments.next() {
         match argument {
             Argument::Option("-f") => replaces = true,
+            Argument::Option("--no-md5") => computes_md5 = false,
             Argument::Option(option) => return Err(Notice::of_option(option)),
             Argument::Operand(name) if from.is_none() => from = Some(name),
             Argument::Operand(name) if to.is_none() => to = Some(name),
@@ -89,7 +106,12 @@ fn parse<'a>(words: &'a [String]) -> result::Result<Request<'a>, Notice<'a>> {
         }
     }
     match from {
-        Some(from) => Ok(Request { from, to, replaces }),
+        Some(from) => Ok(Request {
+            from,
+            to,
+            replaces,
+            computes_md5,
+        }),
         None => Err(Notice::Usage),
     }
 }
@@ -103,11 +125,21 @@ fn convert_request<Q: Files + AllocGlobal, I: Read + Copy, W: Write + Drop, E: W
     shows_progress: bool,
     errors: &mut E,
 ) -> u8 {
-    let Request { from, replaces, .. } = request;
+    let Request {
+        from,
+        replaces,
+        computes_md5,
+        ..
+    } = request;
     match output_name(rt.alloc(), request) {
         Ok(to) => {
             let to = to.as_str();
-            let job = Job { from, to, replaces };
+            let job = Job {
+                from,
+                to,
+                replaces,
+                computes_md5,
+            };
             convert_file(rt, job, input, output, shows_progress, errors)
         }
         Err(error) => {
@@ -160,28 +192,38 @@ fn convert_file<Q: Files + AllocGlobal, I: Read + Copy, W: Write + Drop, E: Writ
     }
 }
 
-// Writes the WAV file, and returns the number of samples per channel.
+// Writes the WAV file.
 fn write_wav<Q: Files + AllocGlobal, R: Read + Drop, W: Write + Drop, E: Write>(
     rt: &Q,
     job: Job<'_>,
     flac: &mut FlacReader<R>,
     output: W,
     progress: &mut Progress<'_, E>,
-) -> Result<u32>
+) -> Result<Conversion>
     requires { flac_metadata_only flac.old ≡ false }
+    ensures verdict_is_sound { VerdictIsSound job.entry.computes_md5 R.remaining flac.old result }
 {
     let info = flac.streaminfo();
     let (channels, bits) = (info.channels, info.bits_per_sample);
     let layout = Layout::new(channels, bits, info.sample_rate, channel_mask(flac));
     let announced = announced_size(&layout, &info)?;
+    let (alloc, computes_md5) = (rt.alloc(), job.computes_md5);
     if job.to == STANDARD {
-        return write_stream(rt.alloc(), flac, output, layout, announced, progress);
+        return write_stream(
+            alloc,
+            flac,
+            output,
+            layout,
+            announced,
+            computes_md5,
+            progress,
+        );
     }
     let file = create(rt, job)?;
     if is_regular(&file) {
-        return write_file(rt.alloc(), flac, file, layout, announced, progress);
+        return write_file(alloc, flac, file, layout, announced, computes_md5, progress);
     }
-    write_stream(rt.alloc(), flac, file, layout, announced, progress)
+    write_stream(alloc, flac, file, layout, announced, computes_md5, progress)
 }
 
 // The number of bytes of as many samples as the streaminfo says.
@@ -205,14 +247,21 @@ fn write_file<R: Read + Drop, W: Write + Seek + Drop, E: Write>(
     mut file: W,
     layout: Layout,
     announced: Option<u32>,
+    computes_md5: bool,
     progress: &mut Progress<'_, E>,
-) -> Result<u32>
+) -> Result<Conversion>
     requires reads_frames { flac_metadata_only flac.old ≡ false }
     requires fits { IfSome announced (λ n. n ≤ max_data_size) }
+    ensures verdict_is_sound { VerdictIsSound computes_md5 R.remaining flac.old result }
 {
+    let info = flac.streaminfo();
+    let mut md5 = new_hasher(computes_md5);
     let mut wav = WavWriter::start(alloc, &mut file, layout, announced.unwrap_or(0))?;
-    convert(alloc, flac, &mut wav, progress)?;
-    Ok(wav.samples())
+    convert(alloc, flac, &mut wav, &mut md5, progress)?;
+    Ok(Conversion {
+        samples: wav.samples(),
+        md5: judge_md5(&info, md5),
+    })
 }
 
 // To an output that can't seek.
@@ -222,18 +271,35 @@ fn write_stream<R: Read + Drop, W: Write + Drop, E: Write>(
     mut output: W,
     layout: Layout,
     announced: Option<u32>,
+    computes_md5: bool,
     progress: &mut Progress<'_, E>,
-) -> Result<u32>
+) -> Result<Conversion>
     requires reads_frames { flac_metadata_only flac.old ≡ false }
     requires fits { IfSome announced (λ n. n ≤ max_data_size) }
+    ensures verdict_is_sound { VerdictIsSound computes_md5 R.remaining flac.old result }
 {
+    let info = flac.streaminfo();
+    let mut md5 = new_hasher(computes_md5);
     let mut wav = match announced {
         Some(size) => WavWriter::start(alloc, &mut output, layout, size)?,
         None => WavWriter::start_unknown(alloc, &mut output, layout)?,
     };
-    convert_to_stream(alloc, flac, &mut wav, progress)?;
-    Ok(wav.samples())
+    convert_to_stream(alloc, flac, &mut wav, &mut md5, progress)?;
+    Ok(Conversion {
+        samples: wav.samples(),
+        md5: judge_md5(&info, md5),
+    })
 }
+
+// A hasher of no samples, if the MD5 sum is computed.
+fn new_hasher(computes_md5: bool) -> Option<Md5>
+    ensures { HasHashedBytes computes_md5 [] result }
+{
+    if computes_md5 { Some(Md5::new()) } else { None }
+}
+
+// That the MD5 sum of the samples is another one.
+const OTHER_MD5: &str = "the MD5 sum of the samples isn't that of the streaminfo";
 
 // That another number of samples was found than the streaminfo says.
 fn samples_text(alloc: Global, known: u64, found: u32) -> result::Result<String, AllocError> {
@@ -247,15 +313,20 @@ fn status_of<E: Write>(
     alloc: Global,
     job: Job<'_>,
     info: &StreamInfo,
-    outcome: Result<u32>,
+    outcome: Result<Conversion>,
     errors: &mut E,
 ) -> u8
     ensures { result ≡ status_after info.now.samples outcome }
 {
     match outcome {
-        Ok(found) => match info.samples {
-            Some(known) if known != u64::from(found) => {
-                let text = samples_text(alloc, known, found);
+        Ok(Conversion { samples, md5 }) => match (info.samples, md5) {
+            (Some(known), _) if known != u64::from(samples) => {
+                let text = samples_text(alloc, known, samples);
+                report_text(alloc, job.from, Part::Head, text, errors);
+                1
+            }
+            (_, Md5Verdict::Wrong) => {
+                let text = String::from_str(alloc, OTHER_MD5);
                 report_text(alloc, job.from, Part::Head, text, errors);
                 1
             }

@@ -7,12 +7,12 @@ use Rattle.claxon.specs.State.{bytes_in}
 use Rattle.claxon.proofs.SamplesInTurn.{reads_as}
 use Rattle.claxon_tools.specs.Frames.{TellsOf32Bits, answer_of}
 use Rattle.claxon_tools.specs.declared.frames.FrameError.{FrameError}
-use Rattle.claxon_tools.proofs.Converting.{block_takes, put_all, put_more, put_none, stops_at_block, stops_at_fault}
+use Rattle.claxon_tools.proofs.Converting.{block_takes, hashed_all, hashed_more, hashed_none, stops_at_block, stops_at_fault}
 use Rattle.claxon_tools.proofs.Showing.{shown_quietly}
 use Rattle.claxon_tools.proofs.wav.blocks.put_blocks.Goals as goal
 
 pub loop-block-init : goal.loop-block-init
-loop-block-init g c = record { reference = refl; so_far = put_none (bytes_in g.R.ReadBytes.source c.args.input.now) c.args.wav.now; errors = refl; quiet = λ none. (refl, refl); total = refl }
+loop-block-init g c = record { reference = refl; so_far = hashed_none c.args.info.bits_per_sample (bytes_in g.R.ReadBytes.source c.args.input.now) c.args.wav.now c.args.md5.now; errors = refl; quiet = λ none. (refl, refl); total = refl }
 
 pub loop-block-preserved : goal.loop-block-preserved
 loop-block-preserved g c =
@@ -21,7 +21,7 @@ loop-block-preserved g c =
     let is = ap answer_of (c.in_ok-block.was ∙ ap (λ (z : Option BlockValue). Ok z) c.in-Some.is) in
     record {
       reference = p.same_output ∙ v.reference;
-      so_far = put_more c.in-Some.block v.so_far (reads_as is c.read_block.ensures.is_read) p.is_sound p.fits p.same_header p.unflushed;
+      so_far = hashed_more c.in-Some.block v.so_far (reads_as is c.read_block.ensures.is_read) p.is_sound p.fits p.same_header p.unflushed c.hash.ensures.hashes_too;
       errors = c.show.ensures.same_errors ∙ v.errors;
       quiet = shown_quietly c.args.progress.now c.loop-block.progress c.show.new.self _ v.quiet v.total c.show.ensures.shows_percentage c.show.ensures.writes_only_changes;
       total = c.show.ensures.shows_percentage.total_is ∙ v.total;
@@ -43,7 +43,7 @@ returns-in_err-block-clause-fault_is_sound g c =
     let reads = reads_as (ap answer_of c.in_err-block.was) c.read_block.ensures.is_read in
     let tells = subst (λ (r : Result (Option BlockValue) FrameError). TellsOf32Bits r a) c.in_err-block.was c.read_block.ensures.tells_of_32_bits in
     let p = err_from_is_err_and c.from_residual.result c.from_residual.ensures.1 in
-    rw p.1 (stops_at_fault cause p.0 v.so_far reads tells p.2)
+    rw p.1 (stops_at_fault cause p.0 v.so_far.put reads tells p.2)
 
 pub returns-in_err-put_block-clause-fault_is_sound : goal.returns-in_err-put_block-clause-fault_is_sound
 returns-in_err-put_block-clause-fault_is_sound g c =
@@ -51,9 +51,9 @@ returns-in_err-put_block-clause-fault_is_sound g c =
     let b = c.in_err-put_block.ensures in
     let is = ap answer_of (c.in_ok-block.was ∙ ap (λ (z : Option BlockValue). Ok z) c.in-Some.is) in
     let p = err_from_is_err_and c.from_residual-in_err-put_block.result c.from_residual-in_err-put_block.ensures.1 in
-    rw (p.1, p.2) (stops_at_block c.in-Some.block v.so_far (reads_as is c.read_block.ensures.is_read) b.fault_is_sound b.fault_keeps.1)
+    rw (p.1, p.2) (stops_at_block c.in-Some.block v.so_far.put (reads_as is c.read_block.ensures.is_read) b.fault_is_sound b.fault_keeps.1)
 
 pub returns-clause-is_sound : goal.returns-clause-is_sound
 returns-clause-is_sound g c =
     let is = ap answer_of (c.in_ok-block.was ∙ ap (λ (z : Option BlockValue). Ok z) c.in_default.is) in
-    put_all c.loop-block.invariant.so_far (reads_as is c.read_block.ensures.is_read)
+    hashed_all c.loop-block.invariant.so_far (reads_as is c.read_block.ensures.is_read)
