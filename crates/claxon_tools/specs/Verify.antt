@@ -1,6 +1,7 @@
 -- What is found in a stream: frames and faults, one after another, counted to its end.
 use Rattle.std.specs.Prelude.{
   ◌≡◌,
+  ◌≢◌,
   ◌⊎◌,
   ◌↔◌,
   ◌<◌,
@@ -18,6 +19,7 @@ use Rattle.std.specs.Prelude.{
   ◌++◌,
   codes,
   length,
+  not,
   Option,
   None,
   Some,
@@ -31,38 +33,74 @@ use Rattle.std.specs.Prelude.{
   Result,
 }
 use Rattle.std.specs.List.{sum_by}
-use Rattle.claxon.specs.Error.{IsFault, IsIo, is_out_of_memory}
+use Rattle.claxon.specs.BlockInfos.{BlockInfo}
+use Rattle.claxon.specs.Error.{IsFault, IsIo}
 use Rattle.claxon.specs.Fault.{Fault}
-use Rattle.claxon.specs.Frame.{Block, Frame, FrameBytesFault, StreamFormat}
+use Rattle.claxon.specs.Frame.{Frame, FrameBytesFault, StreamFormat}
 use Rattle.claxon.specs.FrameReader.{HeaderOfLargerBlock}
 use Rattle.claxon.specs.Gives.{ReadFailedIn}
 use Rattle.claxon.specs.Heads.{Head, HeadCode, HeadFault, Marker, stream_marker}
+use Rattle.claxon.specs.MetadataBlock.{info_view}
 use Rattle.claxon.specs.Prefix.{BeginsWith}
 use Rattle.claxon.specs.Promises.{HasNeither, IsOutOfMemory}
 use Rattle.claxon.specs.ReadHead.{MemoryMayBeNeeded}
 use Rattle.claxon.specs.Source.{Source}
 use Rattle.claxon.specs.State.{State, bytes_in, RemainingIsKnown}
-use Rattle.claxon.specs.Streams.{IsStream, duration_of, stream_of, with_samples}
+use Rattle.claxon.specs.Streaminfo.{Streaminfo}
+use Rattle.claxon.specs.Streams.{stream_of, with_samples}
 use Rattle.claxon.specs.Errors.{Error}
 use Rattle.claxon.specs.Errors.TheVariants.{OutOfMemory, Unsupported}
 use Rattle.claxon.specs.CrcReader.{crc_source, crc_state}
 use Rattle.claxon.specs.CrcReaders.{CrcReader}
+use Rattle.claxon_md5.specs.Md5.{md5}
 use Rattle.claxon_tools.specs.Frames.{Is32BitFault}
-use Rattle.claxon_tools.specs.declared.frames.FrameError.{FrameError}
-use Rattle.claxon_tools.specs.declared.verify.FirstFault.{FirstFault}
-use Rattle.claxon_tools.specs.declared.verify.Found.{Found}
+use Rattle.claxon_tools.specs.RightStream.{
+  AgreesWithInfo,
+  AreInOrder,
+  DecodedFrames,
+  FrameValue,
+  FrameValueBytes,
+  HasStrategy,
+  IsNext,
+  IsRightStream,
+  bytes_of_frames,
+  frame_duration,
+  no_md5,
+  number_after,
+  strategy_after,
+}
+use Rattle.claxon_tools.specs.declared.progress.files.FileProgress.{FileProgress}
+use Rattle.claxon_tools.specs.declared.report.Damage.{Damage}
+use Rattle.claxon_tools.specs.declared.report.Damage.TheVariants.{
+  BitDepth,
+  BlockingStrategy,
+  Channels,
+  Fault as FaultDamage,
+  Missing,
+  Repeated,
+  SampleRate,
+}
+use Rattle.claxon_tools.specs.declared.report.Gap.{Gap}
+use Rattle.claxon_tools.specs.declared.report.Md5Verdict.{Md5Verdict}
+use Rattle.claxon_tools.specs.declared.report.Md5Verdict.TheVariants.{
+  Missing as NoMd5,
+  NotComputed,
+  Right,
+  Wrong,
+}
+use Rattle.claxon_tools.specs.declared.report.Place.{Place}
+use Rattle.claxon_tools.specs.declared.report.Report.{Report}
 use Rattle.claxon_tools.specs.declared.verify.Position.{Position}
-use Rattle.claxon_tools.specs.declared.verify.Report.{Report}
 
 -- ---- frames and faults
 
--- the frame of a block, or a fault
+-- a frame, or a fault
 abbrev pub FrameOrFault : Type 0
-FrameOrFault = Result Block Fault
+FrameOrFault = Result FrameValue Fault
 
 -- its bytes
 abbrev pub FrameOrFaultBytes : Option StreamFormat → FrameOrFault → List ℕ → Type 0
-FrameOrFaultBytes stream (Ok block) t = Frame stream block t
+FrameOrFaultBytes stream (Ok frame) t = FrameValueBytes stream frame t
 FrameOrFaultBytes stream (Err f) t = FrameBytesFault stream f t
 
 -- s is these frames and faults, one after another, and then r
@@ -80,28 +118,23 @@ IsNotWhole stream m = (2 ≤ length m) × HasNeither (Frame stream) (FrameBytesF
 -- ---- how many there are
 
 abbrev pub frame_count_of : FrameOrFault → ℕ
-frame_count_of (Ok block) = 1
+frame_count_of (Ok frame) = 1
 frame_count_of (Err f) = 0
 
 abbrev pub fault_count_of : FrameOrFault → ℕ
-fault_count_of (Ok block) = 0
+fault_count_of (Ok frame) = 0
 fault_count_of (Err f) = 1
 
 -- of each channel
 abbrev pub sample_count_of : FrameOrFault → ℕ
-sample_count_of (Ok block) = duration_of block.channels
+sample_count_of (Ok frame) = frame_duration frame
 sample_count_of (Err f) = 0
 
--- A frame that isn't whole is one fault more.
-abbrev pub cut_faults : Bool → ℕ
-cut_faults false = 0
-cut_faults true = 1
-
--- These are the numbers of all of them together.
-pub record AreCounted (parts : List FrameOrFault) (is_cut : Bool) (found : Found) : Type 0 where
-  pub frames : found.frames ≡ sum_by frame_count_of parts
-  pub faults : found.faults ≡ sum_by fault_count_of parts + cut_faults is_cut
-  pub samples : found.samples ≡ sum_by sample_count_of parts
+-- the frames among them
+abbrev pub frames_of : List FrameOrFault → List FrameValue
+frames_of [] = []
+frames_of (Ok frame ∷ parts) = frame ∷ frames_of parts
+frames_of (Err f ∷ parts) = frames_of parts
 
 -- They are too many to be counted: they have 2^64 samples, or there are 2^64 - 1 of them.
 abbrev pub AreTooMany : List FrameOrFault → Type 0
@@ -110,10 +143,12 @@ AreTooMany parts =
     ⊎ (2 ^ 64 ≤ sum_by frame_count_of parts + sum_by fault_count_of parts + 1)
 
 -- Such numbers can be counted.
-abbrev pub CanBeCounted : Found → Type 0
-CanBeCounted found = (found.samples < 2 ^ 64) × (found.frames + found.faults + 1 < 2 ^ 64)
+abbrev pub CanBeCounted : List FrameOrFault → Type 0
+CanBeCounted parts =
+    (sum_by sample_count_of parts < 2 ^ 64)
+    × (sum_by frame_count_of parts + sum_by fault_count_of parts + 1 < 2 ^ 64)
 
--- ---- the end, and the first fault. `failed` says that a read of the source failed.
+-- ---- the end, and the first thing that is wrong. `failed` says that a read of the source failed.
 
 -- Fewer than two bytes are left, or a frame that isn't whole.
 abbrev pub EndsAt : Type 0 → Option StreamFormat → Bool → List ℕ → Type 0
@@ -126,89 +161,167 @@ IsFaultAt failed stream m e =
     ((f : Fault) × IsFault f e × BeginsWith (FrameBytesFault stream f) m)
     ⊎ (IsIo e × (IsNotWhole stream m ⊎ failed))
 
--- After just frames the fault stands in s, which begins at the byte `start` of the stream. It says
--- exactly where it is so that the frame is refused because its samples have 32 bits.
-pub record IsFirst (failed : Type 0) (stream : Option StreamFormat) (start : ℕ) (s : List ℕ)
-    (first : FirstFault) : Type 0 where
+-- Frames or samples are missing before the frame: its number is greater.
+pub record IsMissing (number : ℕ) (frame : BlockInfo) (gap : Gap) : Type 0 where
+  pub count : frame.number ≡ number + gap.count
+  pub some : 0 < gap.count
+  pub unit : gap.is_variable ≡ frame.is_variable
+
+-- They are there twice, from the frame on: its number is less.
+pub record IsRepeated (number : ℕ) (frame : BlockInfo) (gap : Gap) : Type 0 where
+  pub count : number ≡ frame.number + gap.count
+  pub some : 0 < gap.count
+  pub unit : gap.is_variable ≡ frame.is_variable
+
+-- The frame has this number, or this is how it differs.
+abbrev pub IsNumbered : ℕ → BlockInfo → Option Damage → Type 0
+IsNumbered number frame None = frame.number ≡ number
+IsNumbered number frame (Some (Missing gap)) = IsMissing number frame gap
+IsNumbered number frame (Some (Repeated gap)) = IsRepeated number frame gap
+IsNumbered number frame (Some _) = ⊥
+
+-- The frame isn't the next one, and this is why: of its channels, its bit depth, its sample rate,
+-- its blocking strategy and its coded number the first that isn't right.
+abbrev pub IsNotNext : Streaminfo → Option Bool → ℕ → BlockInfo → Damage → Type 0
+IsNotNext info strategy number frame (FaultDamage e) = ⊥
+IsNotNext info strategy number frame (Channels n) = (n ≡ frame.channels) × (n ≢ info.channels)
+IsNotNext info strategy number frame (BitDepth n) =
+    (frame.channels ≡ info.channels) × (n ≡ frame.bit_depth) × (n ≢ info.bit_depth)
+IsNotNext info strategy number frame (SampleRate n) =
+    (frame.channels ≡ info.channels) × (frame.bit_depth ≡ info.bit_depth)
+    × (frame.sample_rate ≡ Some n) × (n ≢ info.rate)
+IsNotNext info strategy number frame BlockingStrategy =
+    AgreesWithInfo info frame × (strategy ≡ Some (not frame.is_variable))
+IsNotNext info strategy number frame (Missing gap) =
+    AgreesWithInfo info frame × HasStrategy strategy frame × IsMissing number frame gap
+IsNotNext info strategy number frame (Repeated gap) =
+    AgreesWithInfo info frame × HasStrategy strategy frame × IsRepeated number frame gap
+
+-- It is the next one, or this is why it isn't.
+abbrev pub IsJudged : Streaminfo → Option Bool → ℕ → BlockInfo → Option Damage → Type 0
+IsJudged info strategy number frame None = IsNext info strategy number frame
+IsJudged info strategy number frame (Some damage) = IsNotNext info strategy number frame damage
+
+-- After these frames the bytes begin with what is wrong. It says of a fault exactly where it is so
+-- that the frame is refused because its samples have 32 bits.
+abbrev pub IsDamageAt : Type 0 → Option StreamFormat → Streaminfo → List FrameValue → List ℕ
+    → Damage → Type 0
+IsDamageAt failed stream info before m (FaultDamage e) =
+    IsFaultAt failed stream m e.error × (IsTrue e.is_32_bit ↔ Is32BitFault m e.error)
+IsDamageAt failed stream info before m damage =
+    (frame : FrameValue) × BeginsWith (FrameValueBytes stream frame) m
+    × IsNotNext info (strategy_after before) (number_after before) frame.info damage
+
+-- It stands in s, which begins at the byte `start` of the stream, after just frames in order.
+pub record IsFirst (failed : Type 0) (stream : Option StreamFormat) (info : Streaminfo) (start : ℕ)
+    (s : List ℕ) (place : Place) : Type 0 where
   pub front : List ℕ
-  pub before : List FrameOrFault
+  pub before : List FrameValue
   pub left : List ℕ
   pub joined : s ≡ front ++ left
-  pub parts_are : FramesAndFaults stream s before left
-  pub only_frames : sum_by fault_count_of before ≡ 0
-  pub byte_is : first.byte ≡ (start + length front) % 2 ^ 64
-  pub samples_are : first.samples ≡ sum_by sample_count_of before
-  pub fault : IsFaultAt failed stream left first.error
-  pub is_32_bit : IsTrue first.is_32_bit ↔ Is32BitFault left first.error
+  pub frames_are : DecodedFrames stream s before left
+  pub in_order : AreInOrder info before
+  pub byte_is : place.start_byte ≡ (start + length front) % 2 ^ 64
+  pub sample_is : place.start_sample ≡ sum_by frame_duration before
+  pub damage : IsDamageAt failed stream info before left place.damage
 
--- There is one where there are faults.
-abbrev pub FirstIs : Type 0 → Option StreamFormat → ℕ → List ℕ → ℕ → Option FirstFault → Type 0
-FirstIs failed stream start s faults None = faults ≡ 0
-FirstIs failed stream start s faults (Some first) =
-    (1 ≤ faults) × IsFirst failed stream start s first
+-- There are just frames, in order.
+abbrev pub AreRight : Streaminfo → List FrameOrFault → Type 0
+AreRight info parts = (sum_by fault_count_of parts ≡ 0) × AreInOrder info (frames_of parts)
+
+-- There is a first place where something is wrong.
+abbrev pub FirstIs : Type 0 → Option StreamFormat → Streaminfo → ℕ → List ℕ → List FrameOrFault
+    → Bool → Option Place → Type 0
+FirstIs failed stream info start s parts is_cut None = (is_cut ≡ false) × AreRight info parts
+FirstIs failed stream info start s parts is_cut (Some place) =
+    IsFirst failed stream info start s place
+
+-- what was counted: frames, samples of each channel, and the first place
+pub record Counts : Type 0 where
+  pub frames : ℕ
+  pub samples : ℕ
+  pub first : Option Place
 
 -- s, which begins at the byte `start` of the stream, is frames and faults up to the end, and these
 -- were counted.
-pub record Counted (failed : Type 0) (stream : Option StreamFormat) (start : ℕ) (s : List ℕ)
-    (found : Found) : Type 0 where
+pub record Counted (failed : Type 0) (stream : Option StreamFormat) (info : Streaminfo) (start : ℕ)
+    (s : List ℕ) (counts : Counts) : Type 0 where
   pub parts : List FrameOrFault
   pub is_cut : Bool
   pub rest : List ℕ
   pub parts_are : FramesAndFaults stream s parts rest
   pub ends : EndsAt failed stream is_cut rest
-  pub counts : AreCounted parts is_cut found
-  pub first : FirstIs failed stream start s found.faults found.first_fault
+  pub frames : counts.frames ≡ sum_by frame_count_of parts
+  pub samples : counts.samples ≡ sum_by sample_count_of parts
+  pub first : FirstIs failed stream info start s parts is_cut counts.first
 
 -- ---- a whole stream
 
--- It is right where there is no fault, and as many samples as the streaminfo says, where it
--- doesn't say 0.
-abbrev pub IsRight : Head → Report → Type 0
-IsRight head report =
-    IsTrue report.is_right ↔ ((report.found.faults ≡ 0)
-    × ((head.info.samples ≡ 0) ⊎ (head.info.samples ≡ report.found.samples)))
+-- Whether the MD5 sum of these bytes is that of the streaminfo, if it has one.
+abbrev pub IsMd5Verdict : Streaminfo → List ℕ → Md5Verdict → Type 0
+IsMd5Verdict info bytes NotComputed = ⊥
+IsMd5Verdict info bytes NoMd5 = info.md5 ≡ no_md5
+IsMd5Verdict info bytes Right = (info.md5 ≢ no_md5) × (info.md5 ≡ md5 bytes)
+IsMd5Verdict info bytes Wrong = (info.md5 ≢ no_md5) × (info.md5 ≢ md5 bytes)
 
--- the number of samples in the streaminfo, or None where it is 0, which stands for an unknown one
-abbrev pub IsExpected : ℕ → Option ℕ → Type 0
-IsExpected samples None = samples ≡ 0
-IsExpected samples (Some expected) = (expected ≡ samples) × (0 < samples)
+-- The verdict is on the samples of these frames, if it is wanted.
+abbrev pub Md5Is : Bool → Streaminfo → List FrameValue → Md5Verdict → Type 0
+Md5Is false info frames verdict = verdict ≡ NotComputed
+Md5Is true info frames verdict = IsMd5Verdict info (bytes_of_frames info.bit_depth frames) verdict
+
+-- a report, as its callers see it: the streaminfo, what was counted, what became of the MD5 sum,
+-- and whether the stream is right
+pub record ReportValue : Type 0 where
+  pub info : Streaminfo
+  pub counts : Counts
+  pub md5 : Md5Verdict
+  pub is_right : Bool
+
+abbrev pub report_view : {A : Type 0} → Report A → ReportValue
+report_view report = record {
+  info = info_view report.info;
+  counts = record {
+    frames = report.found.frames;
+    samples = report.found.samples;
+    first = report.found.places.first;
+  };
+  md5 = report.md5;
+  is_right = report.is_right;
+}
+
+-- A stream is right where there is no place, there are as many samples as the streaminfo says,
+-- where it doesn't say 0, and the MD5 sum isn't another one.
+abbrev pub IsRight : ReportValue → Type 0
+IsRight report =
+    IsTrue report.is_right ↔ ((report.counts.first ≡ None)
+    × ((report.info.samples ≡ 0) ⊎ (report.info.samples ≡ report.counts.samples))
+    × (report.md5 ≢ Wrong))
 
 -- s is a head, frames and faults up to the end, and the report is about them.
-pub record IsVerified (failed : Type 0) (s : List ℕ) (report : Report) : Type 0 where
+pub record IsVerified (failed : Type 0) (computes_md5 : Bool) (s : List ℕ) (report : ReportValue)
+    : Type 0 where
   pub head : Head
   pub front : List ℕ
-  pub frames : List ℕ
+  pub bytes : List ℕ
   pub code : HeadCode (with_samples true) head front
-  pub joined : s ≡ front ++ frames
-  pub counted : Counted failed (Some (stream_of head.info)) (length front) frames report.found
-  pub expected : IsExpected head.info.samples report.expected
-  pub right : IsRight head report
-
--- the number of samples of each channel of a block
-abbrev pub block_samples : Block → ℕ
-block_samples block = duration_of block.channels
-
--- s is a head and frames, and then fewer than two bytes; there are as many samples as the
--- streaminfo says, where it doesn't say 0.
-pub record IsRightStream (s : List ℕ) : Type 0 where
-  pub head : Head
-  pub blocks : List Block
-  pub rest : List ℕ
-  pub stream : IsStream true s head blocks rest
-  pub few : length rest < 2
-  pub total : (head.info.samples ≡ 0) ⊎ (head.info.samples ≡ sum_by block_samples blocks)
+  pub joined : s ≡ front ++ bytes
+  pub info : report.info ≡ head.info
+  pub counted : Counted failed (Some (stream_of head.info)) head.info (length front) bytes
+      report.counts
+  pub md5_is : Md5Is computes_md5 head.info (frames_of counted.parts) report.md5
+  pub right : IsRight report
 
 -- s begins with a head, frames and faults, and then such bytes.
 pub record HasFramesAndFaults (s : List ℕ)
     (P : Option StreamFormat → List FrameOrFault → List ℕ → Type 0) : Type 0 where
   pub head : Head
   pub front : List ℕ
-  pub frames : List ℕ
+  pub bytes : List ℕ
   pub parts : List FrameOrFault
   pub left : List ℕ
   pub code : HeadCode (with_samples true) head front
-  pub joined : s ≡ front ++ frames
-  pub parts_are : FramesAndFaults (Some (stream_of head.info)) frames parts left
+  pub joined : s ≡ front ++ bytes
+  pub parts_are : FramesAndFaults (Some (stream_of head.info)) bytes parts left
   pub what : P (Some (stream_of head.info)) parts left
 
 -- ---- what is too much to be counted
@@ -218,46 +331,6 @@ abbrev pub IsTooMany : Error → Type 0
 IsTooMany (Unsupported text) =
     text.now ≡ codes "more than 18446744073709551615 frames, faults or samples"
 IsTooMany _ = ⊥
-
--- The error says that one frame or fault more is too much, and it is.
-abbrev pub ExceedsCount : ℕ → ℕ → ℕ → Found → Error → Type 0
-ExceedsCount frames faults samples found e =
-    IsTooMany e
-    × ((2 ^ 64 ≤ found.frames + frames)
-    ⊎ ((2 ^ 64 ≤ found.faults + faults) ⊎ (2 ^ 64 ≤ found.samples + samples)))
-
--- The fault is `OutOfMemory`, which is returned, or one fault more is too much.
-abbrev pub CannotCountFault : Error → Found → Error → Type 0
-CannotCountFault fault found e =
-    ((fault ≡ OutOfMemory) × (e ≡ OutOfMemory))
-    ⊎ ((is_out_of_memory fault ≡ false) × ExceedsCount 0 1 0 found e)
-
--- ---- one frame or fault more
-
--- One frame more is counted.
-pub record CountsFrame (samples : ℕ) (old new : Found) : Type 0 where
-  pub frames_are : new.frames ≡ old.frames + 1
-  pub faults_are : new.faults ≡ old.faults
-  pub samples_are : new.samples ≡ old.samples + samples
-  pub first_is : new.first_fault ≡ old.first_fault
-
--- a fault at this byte, after so many samples
-abbrev pub first_fault_of : ℕ → ℕ → FrameError → FirstFault
-first_fault_of byte samples fault =
-    record { byte = byte; samples = samples; error = fault.error; is_32_bit = fault.is_32_bit }
-
--- the first fault, after one more
-abbrev pub first_of : Option FirstFault → FirstFault → Option FirstFault
-first_of None fault = Some fault
-first_of (Some first) fault = Some first
-
--- One fault more is counted.
-pub record CountsFault (byte : ℕ) (fault : FrameError) (old new : Found) : Type 0 where
-  pub frames_are : new.frames ≡ old.frames
-  pub faults_are : new.faults ≡ old.faults + 1
-  pub samples_are : new.samples ≡ old.samples
-  pub first_is : new.first_fault
-      ≡ first_of old.first_fault (first_fault_of byte old.samples fault)
 
 -- ---- a reader that counts bytes
 
@@ -274,11 +347,6 @@ abbrev pub position_of : {R : Type 0} → CrcReader R Position → ℕ
 position_of input = (crc_state input).bytes
 
 -- ---- what was counted
-
--- The remaining bytes, which begin at the byte `start` of the stream, were counted.
-abbrev pub CountsFramesAndFaults : Option StreamFormat → ℕ → State ℕ → State ℕ → Found → Type 0
-CountsFramesAndFaults stream start old new found =
-    RemainingIsKnown old → Counted (ReadFailedIn old new) stream start old.remaining found
 
 -- s begins with frames and faults, and then such bytes.
 abbrev pub BeginsWithFramesAndFaults : Option StreamFormat → List ℕ
@@ -298,52 +366,39 @@ StopsCounting stream old e =
 
 -- ---- the contract of the call
 
--- Both have a first fault at the same place, and say the same of 32 bits, or have none.
-abbrev pub SameFirst : Option FirstFault → Option FirstFault → Type 0
+-- Both are the same damage. Of two faults nothing but that is compared.
+abbrev pub SameDamage : Damage → Damage → Type 0
+SameDamage (FaultDamage a) (FaultDamage b) = a.is_32_bit ≡ b.is_32_bit
+SameDamage (Channels a) (Channels b) = a ≡ b
+SameDamage (BitDepth a) (BitDepth b) = a ≡ b
+SameDamage (SampleRate a) (SampleRate b) = a ≡ b
+SameDamage BlockingStrategy BlockingStrategy = Unit {0}
+SameDamage (Missing a) (Missing b) = a ≡ b
+SameDamage (Repeated a) (Repeated b) = a ≡ b
+SameDamage _ _ = ⊥
+
+-- Both begin at the same place, with the same damage, or there is none.
+abbrev pub SameFirst : Option Place → Option Place → Type 0
 SameFirst None None = Unit {0}
 SameFirst (Some a) (Some b) =
-    (a.byte ≡ b.byte) × (a.samples ≡ b.samples) × (a.is_32_bit ≡ b.is_32_bit)
+    (a.start_byte ≡ b.start_byte) × (a.start_sample ≡ b.start_sample)
+    × SameDamage a.damage b.damage
 SameFirst _ _ = ⊥
 
 -- Both say the same.
-pub record SameReport (a b : Report) : Type 0 where
-  pub frames : a.found.frames ≡ b.found.frames
-  pub faults : a.found.faults ≡ b.found.faults
-  pub samples : a.found.samples ≡ b.found.samples
-  pub first : SameFirst a.found.first_fault b.found.first_fault
-  pub expected : a.expected ≡ b.expected
+pub record SameReport (a b : ReportValue) : Type 0 where
+  pub info : a.info ≡ b.info
+  pub frames : a.counts.frames ≡ b.counts.frames
+  pub samples : a.counts.samples ≡ b.counts.samples
+  pub first : SameFirst a.counts.first b.counts.first
+  pub md5_is : a.md5 ≡ b.md5
   pub is_right : a.is_right ≡ b.is_right
 
 -- `old` and `new` are the input before and after the call.
-module _ (old : State ℕ) (result : Result Report Error) (new : State ℕ) where
+module _ {A : Type 0} (old : State ℕ) (result : Result (Report A) Error) (new : State ℕ) where
   -- Memory was refused, or a read of the source failed.
   abbrev pub IsExcused : Type 0
   IsExcused = IsOutOfMemory result ⊎ ReadFailedIn old new
-
-  -- The report is about the remaining bytes.
-  abbrev pub VerifyIsSound : Type 0
-  VerifyIsSound =
-      IfOk result (λ report.
-      RemainingIsKnown old → IsVerified (ReadFailedIn old new) old.remaining report)
-
-  -- For each stream that can be counted its report is returned, or memory or the source failed.
-  abbrev pub VerifyIsComplete : Type 0
-  VerifyIsComplete =
-      (report : Report) → RemainingIsKnown old → IsVerified ⊥ old.remaining report
-      → CanBeCounted report.found → IsOkAnd result (λ answer. SameReport answer report) ⊎ IsExcused
-
-  -- `is_right` is true only of a head and frames without a fault, with the right number of samples.
-  abbrev pub RightIsSound : Type 0
-  RightIsSound =
-      IfOk result (λ report. IsTrue report.is_right → RemainingIsKnown old
-      → IsRightStream old.remaining)
-
-  -- It is true of each such stream that can be counted, or memory or the source failed.
-  abbrev pub RightIsComplete : Type 0
-  RightIsComplete =
-      RemainingIsKnown old → (stream : IsRightStream old.remaining)
-      → sum_by block_samples stream.blocks < 2 ^ 64 → length stream.blocks + 1 < 2 ^ 64
-      → IsOkAnd result (λ report. IsTrue report.is_right) ⊎ IsExcused
 
   -- An Err is `OutOfMemory`; an `IoError` where the bytes begin with neither a head nor a fault of
   -- one, or the source failed; or it says that there are more frames and faults than can be
@@ -372,18 +427,49 @@ module _ (old : State ℕ) (result : Result Report Error) (new : State ℕ) wher
       ⊎ HasFramesAndFaults old.remaining (λ stream parts left.
       BeginsWith (HeaderOfLargerBlock stream 0) left)
 
+module _ {A : Type 0} (computes_md5 : Bool) (old : State ℕ) (result : Result (Report A) Error)
+    (new : State ℕ) where
+  -- The report is about the remaining bytes.
+  abbrev pub VerifyIsSound : Type 0
+  VerifyIsSound =
+      IfOk result (λ report.
+      RemainingIsKnown old
+      → IsVerified (ReadFailedIn old new) computes_md5 old.remaining (report_view report))
+
+  -- For each stream that can be counted its report is returned, or memory or the source failed.
+  abbrev pub VerifyIsComplete : Type 0
+  VerifyIsComplete =
+      (report : ReportValue) → RemainingIsKnown old
+      → (is : IsVerified ⊥ computes_md5 old.remaining report) → CanBeCounted is.counted.parts
+      → IsOkAnd result (λ answer. SameReport (report_view answer) report) ⊎ IsExcused old result new
+
+  -- `is_right` is true only of a right stream.
+  abbrev pub RightIsSound : Type 0
+  RightIsSound =
+      IfOk result (λ report. IsTrue report.is_right → RemainingIsKnown old
+      → IsRightStream computes_md5 old.remaining)
+
+  -- It is true of each right stream that can be counted, or memory or the source failed.
+  abbrev pub RightIsComplete : Type 0
+  RightIsComplete =
+      RemainingIsKnown old → (stream : IsRightStream computes_md5 old.remaining)
+      → sum_by frame_duration stream.frames < 2 ^ 64 → length stream.frames + 1 < 2 ^ 64
+      → IsOkAnd result (λ report. IsTrue report.is_right) ⊎ IsExcused old result new
+
   -- all of it
   pub record VerifyPromises : Type 0 where
     pub sound : VerifyIsSound
     pub complete : VerifyIsComplete
     pub right : RightIsSound
     pub right_complete : RightIsComplete
-    pub fault : VerifyFaultIsSound
-    pub named : VerifyHeadFaultIsComplete
-    pub memory : VerifyOutOfMemoryAfterHeader
+    pub fault : VerifyFaultIsSound old result new
+    pub named : VerifyHeadFaultIsComplete old result new
+    pub memory : VerifyOutOfMemoryAfterHeader old result new
 
--- Nothing is written where no progress is to be shown, or the streaminfo doesn't say how many
--- samples there are.
-abbrev pub VerifyIsQuiet : {E : Type 0} → Bool → Result Report Error → E → E → Type 0
-VerifyIsQuiet shows_progress result before after =
-    (shows_progress ≡ false) ⊎ IsOkAnd result (λ report. report.expected ≡ None) → after ≡ before
+-- Nothing is written where the line has no label, or the streaminfo doesn't say how many samples
+-- there are.
+abbrev pub VerifyIsQuiet : {A E : Type 0} → Result (Report A) Error → FileProgress E
+    → FileProgress E → Type 0
+VerifyIsQuiet result old new =
+    (old.label ≡ None) ⊎ IsOkAnd result (λ report. report.info.samples ≡ None)
+    → new.errors.now ≡ old.errors.now

@@ -1,30 +1,11 @@
-//! Whether a stream is right: its frames, faults and samples, counted to its end.
-ghost use Rattle.std.specs.Prelude.{
-  ◌≡◌,
-  ◌⊎◌,
-  ◌↔◌,
-  ◌<◌,
-  ◌≤◌,
-  ◌+◌,
-  ◌^◌,
-  false,
-  IfErr,
-  IfOk,
-  IsTrue,
-  Some,
-};
-ghost use Rattle.claxon.specs.Error.{is_io, is_out_of_memory};
+//! Whether a stream is right: its frames, their order, and the MD5 sum of their samples.
+ghost use Rattle.std.specs.Prelude.{◌≡◌, ◌⊎◌, ◌↔◌, ◌≢◌, ◌<◌, ◌≤◌, IfErr, IfOk, IsTrue, None, Some};
+ghost use Rattle.claxon.specs.Error.{is_io};
 ghost use Rattle.claxon.specs.FrameReader.{stream_with};
-ghost use Rattle.claxon.specs.MetadataBlock.{or_zero};
+ghost use Rattle.claxon.specs.MetadataBlock.{info_view, or_zero};
 ghost use Rattle.claxon.specs.State.{bytes_in};
-ghost use Rattle.claxon_tools.specs.Progress.{SameErrors, StaysQuiet};
+ghost use Rattle.claxon_tools.specs.FileProgress.{NothingIsShown};
 ghost use Rattle.claxon_tools.specs.Verify.{
-  CannotCountFault,
-  CountsFault,
-  CountsFrame,
-  CountsFramesAndFaults,
-  ExceedsCount,
-  IsTooMany,
   RightIsComplete,
   RightIsSound,
   StopsCounting,
@@ -39,86 +20,60 @@ ghost use Rattle.claxon_tools.specs.Verify.{
   position_of,
   update_position,
 };
+ghost use Rattle.claxon_tools.specs.Walk.{Md5IsJudged, WalksToEnd, first_place};
 
-use crate::frames::{FrameError, read_block};
-use crate::progress::Progress;
+use crate::frames::read_frame;
+use crate::progress::files::FileProgress;
+use crate::report::{Found, Md5Verdict, Report};
 use claxon::crc::{CrcReader, RunningCrc};
 use claxon::input::ReadBytes;
 use claxon::metadata::StreamInfo;
 use claxon::{Error, FlacReaderOptions, Result, read_head};
+use claxon_md5::Md5;
 use std::alloc::Allocator;
 use std::io::Write;
+use walk::{Span, Walk, at_end, too_many, trailing, with_fault, with_frame};
 
-/// What was found in a stream.
-#[derive(Debug, Drop)]
-pub struct Report {
-    /// What was counted.
-    pub found: Found,
-    /// How many samples of each channel the streaminfo says that there are; None if it doesn't say.
-    pub expected: Option<u64>,
-    /// There is no fault, and the number of samples is the expected one, if there is one.
-    pub is_right: bool,
-}
-
-/// What was counted in a stream.
-#[derive(Debug, Drop)]
-pub struct Found {
-    /// How many frames were decoded.
-    pub frames: u64,
-    /// How many faults there are: each is a frame that can't be decoded. The end of the input inside a frame is one.
-    pub faults: u64,
-    /// How many samples of each channel the decoded frames have.
-    pub samples: u64,
-    /// The first of the faults.
-    pub first_fault: Option<FirstFault>,
-}
-
-/// The first fault, and where it is.
-#[derive(Debug, Drop)]
-pub struct FirstFault {
-    /// The byte at which the frame begins that can't be decoded, modulo 2^64. The first byte of the stream is 0.
-    pub byte: u64,
-    /// How many samples of each channel the frames before it have.
-    pub samples: u64,
-    /// What is wrong: an `IoError` if the input ends inside the frame, or if its source failed there.
-    pub error: Error,
-    /// The frame is refused because of the bit depth code for 32 bits, which was reserved in earlier editions of the format.
-    pub is_32_bit: bool,
-}
+mod order;
+mod places;
+mod trailing;
+mod walk;
 
 // The number of bytes that were read, modulo 2^64. A reader keeps it as it keeps a CRC.
 #[derive(Clone, Copy, Drop)]
 struct Position {
     bytes: u64,
+    // The last of them, if there is one.
+    last: u8,
 }
 
 impl RunningCrc for Position {
     ghost update_crc = { update_position };
 
-    ghost start = { record { bytes = 0 } };
+    ghost start = { record { bytes = 0; last = 0 } };
 
     fn zero() -> Position {
-        Position { bytes: 0 }
+        Position { bytes: 0, last: 0 }
     }
 
     #[inline(always)]
-    fn next(self, _byte: u8) -> Position {
+    fn next(self, byte: u8) -> Position {
         Position {
             bytes: self.bytes.wrapping_add(1),
+            last: byte,
         }
     }
 
     fn after(self, bytes: &[u8]) -> Position {
         Position {
             bytes: self.bytes.wrapping_add(bytes.len() as u64),
+            last: bytes.last().copied().unwrap_or(self.last),
         }
     }
 }
 
-/// Decodes all frames of a stream, and goes on after each fault but an `IoError`. If `shows_progress` is true and the
-/// streaminfo says how many samples there are, a line with the percentage is written to `errors`; failed writes are ignored.
-///
-/// Fewer than two bytes after the last frame are ignored. No MD5 sum is computed.
+/// Decodes all frames of a stream, and goes on after each fault but an `IoError`. The MD5 sum of the samples is computed if
+/// `computes_md5` is true. If the streaminfo says how many samples there are, `progress` shows how many are done.
 ///
 /// # Errors
 ///
@@ -127,16 +82,16 @@ impl RunningCrc for Position {
 pub fn verify<R: ReadBytes, A: Allocator + Copy, E: Write>(
     alloc: A,
     input: &mut R,
-    shows_progress: bool,
-    errors: &mut E,
-) -> Result<Report>
-    ensures is_sound { VerifyIsSound (bytes_in R.source input.old) result
+    computes_md5: bool,
+    progress: &mut FileProgress<'_, '_, E>,
+) -> Result<Report<A>>
+    ensures is_sound { VerifyIsSound computes_md5 (bytes_in R.source input.old) result
         (bytes_in R.source input.new) }
-    ensures is_complete { VerifyIsComplete (bytes_in R.source input.old) result
+    ensures is_complete { VerifyIsComplete computes_md5 (bytes_in R.source input.old) result
         (bytes_in R.source input.new) }
-    ensures right_is_sound { RightIsSound (bytes_in R.source input.old) result
+    ensures right_is_sound { RightIsSound computes_md5 (bytes_in R.source input.old) result
         (bytes_in R.source input.new) }
-    ensures right_is_complete { RightIsComplete (bytes_in R.source input.old) result
+    ensures right_is_complete { RightIsComplete computes_md5 (bytes_in R.source input.old) result
         (bytes_in R.source input.new) }
     ensures fault_is_sound { VerifyFaultIsSound (bytes_in R.source input.old) result
         (bytes_in R.source input.new) }
@@ -144,37 +99,37 @@ pub fn verify<R: ReadBytes, A: Allocator + Copy, E: Write>(
         (bytes_in R.source input.new) }
     ensures out_of_memory_after_header { VerifyOutOfMemoryAfterHeader (bytes_in R.source input.old)
         result (bytes_in R.source input.new) }
-    ensures is_quiet { VerifyIsQuiet shows_progress result errors.old errors.new }
+    ensures is_quiet { VerifyIsQuiet result progress.old progress.new }
 {
-    verify_exact(alloc, input, shows_progress, errors)
+    verify_exact(alloc, input, computes_md5, progress)
 }
 
 // `verify`, with all its clauses in one.
 fn verify_exact<R: ReadBytes, A: Allocator + Copy, E: Write>(
     alloc: A,
     input: &mut R,
-    shows_progress: bool,
-    errors: &mut E,
-) -> Result<Report>
-    ensures promises { VerifyPromises (bytes_in R.source input.old) result
+    computes_md5: bool,
+    progress: &mut FileProgress<'_, '_, E>,
+) -> Result<Report<A>>
+    ensures promises { VerifyPromises computes_md5 (bytes_in R.source input.old) result
         (bytes_in R.source input.new) }
-    ensures is_quiet { VerifyIsQuiet shows_progress result errors.old errors.new }
+    ensures is_quiet { VerifyIsQuiet result progress.old progress.new }
 {
     let mut input = CrcReader::new(input);
-    verify_counted(alloc, &mut input, shows_progress, errors)
+    verify_counted(alloc, &mut input, computes_md5, progress)
 }
 
 // Verifies a stream of which nothing was read.
 fn verify_counted<R: ReadBytes, A: Allocator + Copy, E: Write>(
     alloc: A,
     input: &mut CrcReader<R, Position>,
-    shows_progress: bool,
-    errors: &mut E,
-) -> Result<Report>
+    computes_md5: bool,
+    progress: &mut FileProgress<'_, '_, E>,
+) -> Result<Report<A>>
     requires { position_of input.old ≡ 0 }
-    ensures promises { VerifyPromises (counted_bytes R.source input.old) result
+    ensures promises { VerifyPromises computes_md5 (counted_bytes R.source input.old) result
         (counted_bytes R.source input.new) }
-    ensures is_quiet { VerifyIsQuiet shows_progress result errors.old errors.new }
+    ensures is_quiet { VerifyIsQuiet result progress.old progress.new }
     ensures loans { (counted_bytes R.source input.new).source.loans
         ≡ (counted_bytes R.source input.old).source.loans }
 {
@@ -183,68 +138,114 @@ fn verify_counted<R: ReadBytes, A: Allocator + Copy, E: Write>(
         read_vorbis_comment: true,
     };
     let (info, _comment) = read_head(alloc, input, options)?;
-    let total = if shows_progress { info.samples } else { None };
-    let mut progress = Progress::new(errors, total);
-    let counted = count_frames_and_faults(alloc, input, info, &mut progress);
-    progress.end();
-    let found = counted?;
-    let is_right = has_no_fault(&found, info.samples);
-    Ok(Report {
-        found,
-        expected: info.samples,
-        is_right,
-    })
+    progress.start(info.samples);
+    let walk = walk_frames(alloc, input, info, computes_md5, progress)?;
+    Ok(report_of(info, walk))
 }
 
-// Whether there is no fault, and the expected number of samples, if there is one.
-fn has_no_fault(found: &Found, expected: Option<u64>) -> bool
-    ensures { IsTrue result ↔ ((found.now.faults ≡ 0)
-        × ((or_zero expected ≡ 0) ⊎ (or_zero expected ≡ found.now.samples))) }
+// What was found in a stream with this streaminfo.
+fn report_of<A: Allocator>(info: StreamInfo, walk: Walk<A>) -> Report<A>
+    ensures info { result.info ≡ info }
+    ensures frames { result.found.frames ≡ walk.frames }
+    ensures samples { result.found.samples ≡ walk.samples }
+    ensures first { result.found.places.first ≡ first_place walk.places }
+    ensures md5 { Md5IsJudged (info_view info) walk.md5 result.md5 }
+    ensures is_right { IsTrue result.is_right ↔ ((result.found.places.first ≡ None)
+        × (((or_zero info.samples ≡ 0) ⊎ (or_zero info.samples ≡ result.found.samples))
+        × (result.md5 ≢ Md5Verdict.Wrong))) }
+{
+    let trailing = trailing(&walk, &info);
+    let Walk {
+        frames,
+        samples,
+        places,
+        notes,
+        md5,
+        ..
+    } = walk;
+    let found = Found {
+        frames,
+        samples,
+        places: places.finish(),
+        notes,
+    };
+    let md5 = judge_md5(&info, md5);
+    let is_right = has_nothing_wrong(&found, info.samples, md5);
+    Report {
+        info,
+        found,
+        md5,
+        trailing,
+        is_right,
+    }
+}
+
+// What became of the MD5 sum of the samples that were hashed.
+pub(crate) fn judge_md5(info: &StreamInfo, md5: Option<Md5>) -> Md5Verdict
+    ensures { Md5IsJudged (info_view info.now) md5 result }
+{
+    let Some(md5) = md5 else {
+        return Md5Verdict::NotComputed;
+    };
+    if info.md5sum == [0; 16] {
+        return Md5Verdict::Missing;
+    }
+    if info.md5sum == md5.finish() {
+        Md5Verdict::Right
+    } else {
+        Md5Verdict::Wrong
+    }
+}
+
+// Whether there is no place, the expected number of samples, if there is one, and no other MD5 sum.
+fn has_nothing_wrong<A: Allocator>(found: &Found<A>, expected: Option<u64>, md5: Md5Verdict) -> bool
+    ensures { IsTrue result ↔ ((found.now.places.first ≡ None)
+        × (((or_zero expected ≡ 0) ⊎ (or_zero expected ≡ found.now.samples))
+        × (md5 ≢ Md5Verdict.Wrong))) }
 {
     let expected = expected.unwrap_or(0);
-    found.faults == 0 && (expected == 0 || expected == found.samples)
+    found.places.first.is_none()
+        && (expected == 0 || expected == found.samples)
+        && !matches!(md5, Md5Verdict::Wrong)
 }
 
-// Counts frames and faults up to the end, or to an `IoError`.
-fn count_frames_and_faults<R: ReadBytes, A: Allocator + Copy, E: Write>(
+// Finds frames and faults up to the end, or to an `IoError`.
+fn walk_frames<R: ReadBytes, A: Allocator + Copy, E: Write>(
     alloc: A,
     input: &mut CrcReader<R, Position>,
     info: StreamInfo,
-    progress: &mut Progress<'_, E>,
-) -> Result<Found>
+    computes_md5: bool,
+    progress: &mut FileProgress<'_, '_, E>,
+) -> Result<Walk<A>>
     requires min_bit_depth { 1 ≤ info.bits_per_sample }
     requires max_bit_depth { info.bits_per_sample ≤ 32 }
-    ensures ok { IfOk result (CountsFramesAndFaults (Some (stream_with info))
+    ensures ok { IfOk result (WalksToEnd computes_md5 (Some (stream_with info)) (info_view info)
         (position_of input.old)
         (counted_bytes R.source input.old) (counted_bytes R.source input.new)) }
     ensures err { IfErr result (StopsCounting (Some (stream_with info))
         (counted_bytes R.source input.old)) }
-    ensures same_errors { SameErrors progress.old progress.new }
-    ensures stays_quiet { StaysQuiet progress.old progress.new }
+    ensures stays_quiet { NothingIsShown progress.old progress.new }
     ensures loans { (counted_bytes R.source input.new).source.loans
         ≡ (counted_bytes R.source input.old).source.loans }
 {
-    let mut found = Found {
-        frames: 0,
-        faults: 0,
-        samples: 0,
-        first_fault: None,
-    };
+    let mut walk = Walk::new(alloc, computes_md5);
     let mut buffer = Vec::new(alloc);
     for _ in 0..u64::MAX {
-        let byte = input.crc().bytes;
-        match read_block(input, info, buffer) {
-            Ok(Some(block)) => {
-                found = with_frame(found, block.duration())?;
-                progress.show(found.samples);
-                buffer = block.into_buffer();
+        let start = input.crc().bytes;
+        let read = read_frame(input, info, buffer);
+        let end = input.crc().bytes;
+        match read {
+            Ok(Some(frame)) => {
+                walk = with_frame(walk, info, &frame, Span { start, end })?;
+                progress.show(walk.samples);
+                buffer = frame.block.into_buffer();
             }
-            Ok(None) => return Ok(found),
+            Ok(None) => return Ok(at_end(walk, Span { start, end }, input.crc().last)),
             Err(fault) => {
                 let is_last = is_io_error(&fault.error);
-                found = with_fault(found, byte, fault)?;
+                walk = with_fault(walk, fault, Span { start, end })?;
                 if is_last {
-                    return Ok(found);
+                    return Ok(walk);
                 }
                 buffer = Vec::new(alloc);
             }
@@ -257,62 +258,4 @@ fn is_io_error(error: &Error) -> bool
     ensures { result ≡ is_io error.now }
 {
     matches!(error, Error::IoError(_))
-}
-
-// One frame more.
-fn with_frame(found: Found, duration: u32) -> Result<Found>
-    ensures ok { IfOk result (CountsFrame duration found) }
-    ensures err { IfErr result (ExceedsCount 1 0 duration found) }
-{
-    Ok(Found {
-        frames: sum(found.frames, 1)?,
-        samples: sum(found.samples, u64::from(duration))?,
-        ..found
-    })
-}
-
-// One fault more, unless memory was refused.
-fn with_fault(found: Found, byte: u64, fault: FrameError) -> Result<Found>
-    ensures fits { byte < 2 ^ 64 }
-    ensures ok { IfOk result
-        (λ more. (is_out_of_memory fault.error ≡ false) × CountsFault byte fault found more) }
-    ensures err { IfErr result (CannotCountFault fault.error found) }
-{
-    let FrameError { error, is_32_bit } = fault;
-    if matches!(&error, Error::OutOfMemory) {
-        return Err(error);
-    }
-    let Found {
-        frames,
-        faults,
-        samples,
-        first_fault,
-    } = found;
-    Ok(Found {
-        frames,
-        faults: sum(faults, 1)?,
-        samples,
-        first_fault: first_fault.or(Some(FirstFault {
-            byte,
-            samples,
-            error,
-            is_32_bit,
-        })),
-    })
-}
-
-fn sum(a: u64, b: u64) -> Result<u64>
-    ensures ok { IfOk result (λ all. all ≡ a + b) }
-    ensures err { IfErr result (λ e. IsTooMany e × (2 ^ 64 ≤ a + b)) }
-{
-    match a.checked_add(b) {
-        Some(all) => Ok(all),
-        None => Err(too_many()),
-    }
-}
-
-fn too_many() -> Error
-    ensures { IsTooMany result }
-{
-    Error::Unsupported("more than 18446744073709551615 frames, faults or samples")
 }

@@ -6,5 +6,5 @@ pub returns-clause-promises : goal.returns-clause-promises
 returns-clause-promises g c =
     let at = c.new-input.ensures.inner in
     let n = same_input g.R.ReadBytes.source _ c.new-input.result c.verify_counted.new.input at c.verify_counted.ensures.loans in
-    let k = promised_through g.R.ReadBytes.source _ c.new-input.result c.verify_counted.new.input at c.verify_counted.result c.verify_counted.ensures.promises in
+    let k = promised_through g.R.ReadBytes.source _ c.new-input.result c.verify_counted.new.input at c.args.computes_md5 c.verify_counted.result c.verify_counted.ensures.promises in
     search rules
