@@ -19,12 +19,23 @@ pub mod BlockReads
 -- A block that was read through a reader that keeps a CRC, over a mutable reference, in terms of
 -- the borrowed reader.
 pub mod ReadsBelow
--- The first four bytes that a reader gave, and the fault of a frame whose header has the bit depth
--- code for 32 bits.
+-- The first 16 bytes that a reader keeps, and the bytes that it gave.
+pub mod KeptBytes
+-- The fault of a frame whose header has the bit depth code for 32 bits, and the bytes that say so.
 pub mod FirstBytes
--- Frames and faults that are counted, one after another.
-pub mod Counting
--- A whole stream: its head, and what was counted after it.
-pub mod Verified
+-- The header of a decoded frame, among the bytes that are kept.
+pub mod KeptHeaders
 -- Progress that is shown only where there is a total.
 pub mod Showing
+-- The order of the frames of a stream.
+pub mod Order
+-- Frames and faults that are found, one after another.
+pub mod Walking
+-- A whole stream: its head, and what was found after it.
+pub mod Verified
+-- The interleaved samples of blocks, which are hashed one range after another.
+pub mod HashedBlocks
+-- The escaped text of a name, part by part.
+mod EscapedNames
+-- The bytes of a name, one after another.
+mod ListedNames

@@ -1,7 +1,11 @@
 -- Progress that is shown only where there is a total.
-use Rattle.std.proofs.Common.{◌≡◌, ℕ, None, Option, ap, ◌∙◌}
+use Rattle.std.specs.Borrow.{Bor}
+use Rattle.std.specs.Prelude.{option_and_then}
+use Rattle.std.proofs.Common.{◌≡◌, ◌⊎◌, ℕ, List, None, Some, Option, ap, inl, inr, refl, sym, ◌∙◌}
 use Rattle.claxon_tools.specs.Progress.{EndsOnlyLine, ShowsPercentage, StaysQuiet, WritesOnlyChanges, percent_at}
+use Rattle.claxon_tools.specs.FileProgress.{FileShowsPercentage, NothingIsShown, FileTotalIsSet, FileWritesOnlyChanges, shown_total}
 use Rattle.claxon_tools.specs.declared.progress.Progress.{Progress}
+use Rattle.claxon_tools.specs.declared.progress.files.FileProgress.{FileProgress}
 
 -- one percentage more
 pub shown_quietly : {E : Type 0} (old mid new : Progress E) (done : ℕ) → StaysQuiet old mid → mid.total ≡ old.total → ShowsPercentage done mid new → WritesOnlyChanges mid new → StaysQuiet old new
@@ -10,6 +14,26 @@ shown_quietly old mid new done h total shows writes none =
     let same : new.percent ≡ mid.percent = shows.percent_is ∙ ap (λ (z : Option ℕ). percent_at z mid.percent done) (total ∙ none) in
     (same ∙ q.0, writes same ∙ q.1)
 
--- the end of the line
-pub ended_quietly : {E : Type 0} (old new : Progress E) {after : E} → old.total ≡ None → old.percent ≡ None → StaysQuiet old new → EndsOnlyLine new after → after ≡ old.errors.now
-ended_quietly old new total none h ends = let q = h total in ends (q.0 ∙ none) ∙ q.1
+-- ---- of a file
+
+-- where there is no label, or no total
+no_total : (label : Option (Bor (List ℕ))) (total : Option ℕ) → (label ≡ None) ⊎ (total ≡ None) → option_and_then (λ l. total) label ≡ None
+no_total None total none = refl
+no_total (Some l) total (inl none) = absurd cc
+no_total (Some l) total (inr none) = none
+
+-- one percentage more
+pub shown_total_same : {E : Type 0} (mid new : FileProgress E) (done : ℕ) → FileShowsPercentage done mid new → shown_total new ≡ shown_total mid
+shown_total_same mid new done shows = ap (λ (t : Option ℕ). option_and_then (λ l. t) new.label) shows.total_is ∙ ap (option_and_then (λ l. mid.total)) shows.label_is
+
+pub file_shown_quietly : {E : Type 0} (old mid new : FileProgress E) (done : ℕ) → NothingIsShown old mid → shown_total mid ≡ shown_total old → FileShowsPercentage done mid new → FileWritesOnlyChanges mid new → NothingIsShown old new
+file_shown_quietly old mid new done h total shows writes none =
+    let q = h none in
+    let same : new.percent ≡ mid.percent = shows.percent_is ∙ ap (λ (z : Option ℕ). percent_at z mid.percent done) (total ∙ none) in
+    (same ∙ q.0, writes same ∙ q.1)
+
+-- from before the total was set
+pub file_started_quietly : {E : Type 0} (total : Option ℕ) (old mid new : FileProgress E) → FileTotalIsSet total old mid → NothingIsShown mid new → (old.label ≡ None) ⊎ (total ≡ None) → new.errors.now ≡ old.errors.now
+file_started_quietly total old mid new set quiet none =
+    let at : shown_total mid ≡ None = ap (λ (t : Option ℕ). option_and_then (λ l. t) mid.label) set.total_is ∙ ap (option_and_then (λ l. total)) set.label_is ∙ no_total old.label total none in
+    (quiet at).1 ∙ set.errors_are

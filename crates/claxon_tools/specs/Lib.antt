@@ -1,7 +1,10 @@
 pub mod Program
 pub mod Arguments
 pub mod Progress
+pub mod FileProgress
 pub mod Text
+pub mod Json
+pub mod Names
 pub mod ChannelMask
 pub mod DataSize
 pub mod WaveFile
@@ -9,7 +12,13 @@ pub mod Convert
 pub mod Samples
 pub mod Writer
 pub mod Facts
+pub mod FirstBytes
+pub mod HeaderAtStart
 pub mod Frames
+pub mod HashBlock
+pub mod RightStream
 pub mod Verify
+pub mod Walk
 pub mod WavCommand
+pub mod VerifyCommand
 pub mod WavError

@@ -7,7 +7,6 @@ use Rattle.std.specs.Prelude.{
   List,
   ◌++◌,
   codes,
-  cond,
   flat_map,
   Option,
   Result,
@@ -46,7 +45,6 @@ use Rattle.claxon_tools.specs.declared.program.Part.{Part}
 use Rattle.claxon_tools.specs.declared.program.Part.TheVariants.{Frame, Head, Output}
 use Rattle.claxon_tools.specs.declared.program.Program.{Program}
 use Rattle.claxon_tools.specs.declared.program.TheConstants.{STANDARD, VERSION}
-use Rattle.claxon_tools.specs.declared.verify.FirstFault.{FirstFault}
 
 -- the name of a command, in a column of eleven characters, and what it does
 unfoldable pub command_text : List ℕ → List ℕ → List ℕ
@@ -132,10 +130,3 @@ IoTextIsSound Output cause r = Unit {0}
 abbrev pub ErrorTextIsSound : {A : Type 0} → Part → Error → Result (String A) AllocError → Type 0
 ErrorTextIsSound part (IoError cause) r = IoTextIsSound part cause r
 ErrorTextIsSound part error r = IfSome (error_text error) (λ text. IsText text r)
-
--- Of a first fault an Ok says that 32-bit samples aren't supported where the frame is refused for
--- them, or else has the error's text.
-abbrev pub FaultTextIsSound : {A : Type 0} → FirstFault → Result (String A) AllocError → Type 0
-FaultTextIsSound first r =
-    cond first.is_32_bit (IsText (codes "32-bit samples are not supported") r)
-    (ErrorTextIsSound Frame first.error r)

@@ -91,7 +91,7 @@ pub enum Notice<'a> {
     /// The usage line, after the name of a command that there isn't.
     UnknownCommand(&'a str),
 
-    /// The usage line, after the words that an argument isn't UTF-8.
+    /// The usage line, after the words that an argument isn't UTF-8, and what to do then.
     NotUtf8,
 
     /// The usage line.

@@ -26,6 +26,9 @@ use std::rt::Files;
 /// The version of the product.
 pub const VERSION: &str = "0.2.0";
 
+// What to do with a file whose name isn't UTF-8.
+const NOT_UTF8_HELP: &str = "use claxon verify - < FILE, or --files0-from";
+
 /// The name that stands for standard input or output.
 pub const STANDARD: &str = "-";
 
@@ -73,6 +76,7 @@ impl Program {
             }
             Notice::NotUtf8 => {
                 let _ = writeln!(errors, "{}: an argument isn't valid UTF-8", self.name);
+                let _ = writeln!(errors, "{}: {NOT_UTF8_HELP}", self.name);
                 self.refuse(errors)
             }
             Notice::Usage => self.refuse(errors),

@@ -1,4 +1,6 @@
 //! The progress of a conversion.
+pub mod files;
+
 use std::io::Write;
 
 /// A line with the percentage of samples that are done, which is written again when it changes. `end` has to be called.
