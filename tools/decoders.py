@@ -1,5 +1,6 @@
 """Runs decoders over a file, with limits of time and memory, and reads their results."""
 import dataclasses
+import json
 import os
 import re
 import resource
@@ -102,6 +103,23 @@ def claxon(program, path, limits):
             return trace
     trace.wrong = check_ending(finished, path, lines, trace)
     return trace
+
+
+STATUSES = {'ok': 0, 'wrong': 1, 'not supported': 3}
+
+
+def verdict(program, path, limits):
+    """Runs `claxon verify --json`: the object that it prints, or None, and what no run may do, or None."""
+    finished = run([program, 'verify', '--json', path], limits)
+    if finished.failure or finished.errors:
+        return None, finished.failure or 'errors: %s' % finished.errors.split('\n')[0]
+    try:
+        found = json.loads(finished.output)
+    except ValueError:
+        return None, 'no JSON: %s' % finished.output[:80]
+    if finished.status != STATUSES.get(found['verdict']) or finished.output.count(b'\n') != 1:
+        return None, 'status %d with the verdict %s' % (finished.status, found['verdict'])
+    return found, None
 
 
 @dataclasses.dataclass

@@ -1,9 +1,13 @@
 //! Results of calls in a form that can be compared, and bytes that many tests use.
+use crate::doubles::sinks::Sink;
 use claxon::frame::{FrameReader, FrameResult};
 use claxon::input::ReadBytes;
 use claxon::{Error, FlacReader, FlacSamples};
+use claxon_tools::progress::files::FileProgress;
+use claxon_tools::report::Report;
+use claxon_tools::verify::verify;
 use std::alloc::{AllocError, AllocFailed, Allocator, Global};
-use std::io::Read;
+use std::io::{ErrorKind, Read};
 
 /// An error, without the cause of an `IoError`.
 #[derive(PartialEq, Clone, Copy)]
@@ -149,6 +153,11 @@ pub const FRAME: [u8; 11] = [
     0xff, 0xf8, 0x69, 0x02, 0x00, 0x00, 0x9a, 0x00, 0x05, 0x34, 0x58,
 ];
 
+/// The frame after it: number 1, and the same sample.
+pub const SECOND: [u8; 11] = [
+    0xff, 0xf8, 0x69, 0x02, 0x01, 0x00, 0x8f, 0x00, 0x05, 0x35, 0x24,
+];
+
 /// A frame of number 0 with one sample, 0x12345678, that leaves the bit depth to the streaminfo.
 pub const DEEP_FRAME: [u8; 14] = [
     0xff, 0xf8, 0x69, 0x00, 0x00, 0x00, 0x4c, 0x00, 0x12, 0x34, 0x56, 0x78, 0x95, 0x0e,
@@ -175,6 +184,13 @@ pub fn two_frames(last: u8) -> [u8; 64] {
     bytes
 }
 
+/// The smallest head and two frames of one sample, 5, whose numbers are 0 and 1.
+pub fn frames_in_order() -> [u8; 64] {
+    let mut bytes = two_frames(0x24);
+    bytes[53..64].copy_from_slice(&SECOND);
+    bytes
+}
+
 /// The samples of the two frames as bytes.
 pub const FIVES: [u8; 8] = [5, 0, 0, 0, 5, 0, 0, 0];
 
@@ -183,6 +199,19 @@ pub const COMMENT: [u8; 19] = [
     0x00, 0x00, 0x00, 0x00, 0x02, 0x00, 0x00, 0x00, 0x00, 0x00, 0x00, 0x00, 0x03, 0x00, 0x00, 0x00,
     0x58, 0x3d, 0x59,
 ];
+
+/// The report of a stream, without a line of progress.
+pub fn report_of<R: ReadBytes, A: Allocator + Copy>(
+    alloc: A,
+    input: &mut R,
+    computes_md5: bool,
+) -> claxon::Result<Report<A>> {
+    let mut errors = Sink::new(0, 0, false, ErrorKind::Other);
+    let mut progress = FileProgress::new(&mut errors, None);
+    let report = verify(alloc, input, computes_md5, &mut progress);
+    progress.clear();
+    report
+}
 
 /// The parts, one after another.
 pub fn joined(alloc: Global, parts: &[&[u8]]) -> Result<Vec<u8>, AllocError> {

@@ -62,7 +62,7 @@ fn an_argument_that_is_not_utf8(rt: HostRuntime) {
     let mut output = Sink::new(1, 0, false, ErrorKind::Other);
     let status = command(&rt, None, b"".as_slice(), &mut output, false, &mut errors);
     let want =
-        b"claxon: an argument isn't valid UTF-8\nusage: claxon info|wav|verify|trace|help ..\n".as_slice();
+        b"claxon: an argument isn't valid UTF-8\nclaxon: use claxon verify - < FILE, or --files0-from\nusage: claxon info|wav|verify|trace|help ..\n".as_slice();
     assert!(rt; status == 2 && errors.as_slice() == want);
 }
 
@@ -141,7 +141,7 @@ fn commands(rt: HostRuntime) -> Result<(), Fail> {
         (&["wav", "-"], b"RIFF"),
         (
             &["verify", "--", "-"],
-            b"standard input: ok, 1 frame, 1 sample\n",
+            b"standard input: ok, 1 frame, 1 sample, no MD5 sum\n",
         ),
         (&["trace", "-"], b"head blocks 16-16 "),
         (&["--", "trace", "--brief", "-"], b"head blocks 16-16 "),

@@ -41,7 +41,8 @@ fn fills<R: Read + Drop, W: Write + Seek>(
     requires { flac_metadata_only flac.old ≡ false }
 {
     let mut progress = Progress::new(errors, Some(5));
-    let outcome = convert(alloc, flac, wav, &mut progress);
+    let mut md5 = None;
+    let outcome = convert(alloc, flac, wav, &mut md5, &mut progress);
     progress.end();
     outcome.is_ok()
 }
@@ -204,6 +205,23 @@ fn with_samples(samples: u32) -> [u8; 67] {
     stream
 }
 
+// The MD5 sum of the samples of STREAM, 01 fe 03 80 7f.
+const MD5_SUM: [u8; 16] = [
+    0xd2, 0xb4, 0x96, 0x70, 0xd3, 0x2d, 0xed, 0x66, 0xf7, 0x8e, 0x1b, 0x95, 0xbf, 0xe5, 0x68, 0xc5,
+];
+
+// The same with one bit changed.
+const OTHER_SUM: [u8; 16] = [
+    0xd2, 0xb4, 0x96, 0x70, 0xd3, 0x2d, 0xed, 0x66, 0xf7, 0x8e, 0x1b, 0x95, 0xbf, 0xe5, 0x68, 0xc4,
+];
+
+// STREAM with this number of samples and this MD5 sum in its streaminfo.
+fn with_sum(samples: u32, sum: &[u8; 16]) -> [u8; 67] {
+    let mut stream = with_samples(samples);
+    stream[26..42].copy_from_slice(sum);
+    stream
+}
+
 // STREAM with 2^36 - 1 samples by its streaminfo.
 fn long_stream() -> [u8; 67] {
     let mut stream = STREAM;
@@ -234,8 +252,10 @@ fn line_of(rt: &HostRuntime, name: &str, text: &str) -> result::Result<String, F
     Ok(format!(in rt.alloc(); "{path}: {text}\n")?)
 }
 
-// Whether a command line has this status, prints this text on one of its files, and leaves these bytes in that of `out`.
+// Whether a command line has this status, prints this text on one of its files, and leaves these bytes in that of `out`, which
+// held others.
 fn leaves(rt: &HostRuntime, row: &Row) -> result::Result<bool, Fail> {
+    put(rt, "out", b"old")?;
     let words = paths_of(rt, row.words)?;
     let line = line_of(rt, row.name, row.text)?;
     let (mut output, mut errors): (Vec<u8>, Vec<u8>) = (Vec::new(rt.alloc()), Vec::new(rt.alloc()));
@@ -252,16 +272,23 @@ struct Row {
     left: &'static [u8],
 }
 
+const OTHER_MD5: &str = "the MD5 sum of the samples isn't that of the streaminfo";
+
+// The streaminfo of `in` has no MD5 sum, and that of `both` has another one and another number of samples.
 #[rattlefmt::skip]
-const ROWS: [Row; 8] = [
+const ROWS: [Row; 12] = [
     Row { words: &["-f", "in", "in"], name: "in", status: 1, text: "the output is the input", left: b"old" },
     Row { words: &["-f", "none", "out"], name: "none", status: 1, text: "No such file or directory", left: b"old" },
     Row { words: &["-f", "long", "out"], name: "long", status: 1, text: "the samples are more than a WAV file holds, 4 GiB", left: b"old" },
     Row { words: &["in", "out"], name: "out", status: 1, text: "the output exists; -f replaces it", left: b"old" },
     Row { words: &["in", "-f", "out"], name: "out", status: 0, text: "", left: WHOLE },
-    Row { words: &["in", "none/out"], name: "none/out", status: 1, text: "No such file or directory", left: WHOLE },
+    Row { words: &["in", "none/out"], name: "none/out", status: 1, text: "No such file or directory", left: b"old" },
     Row { words: &["cut", "-f", "--", "out"], name: "cut", status: 1, text: "truncated: the file ends inside a frame", left: FIRST_BLOCK },
     Row { words: &["other", "out", "-f"], name: "other", status: 1, text: "5 samples were found, but the streaminfo says 1", left: WHOLE },
+    Row { words: &["right", "out", "-f"], name: "right", status: 0, text: "", left: WHOLE },
+    Row { words: &["wrong", "out", "-f"], name: "wrong", status: 1, text: OTHER_MD5, left: WHOLE },
+    Row { words: &["--no-md5", "wrong", "out", "-f"], name: "wrong", status: 0, text: "", left: WHOLE },
+    Row { words: &["both", "out", "-f"], name: "both", status: 1, text: "5 samples were found, but the streaminfo says 1", left: WHOLE },
 ];
 
 // The first bytes.
@@ -276,12 +303,16 @@ fn with_files(rt: HostRuntime) -> result::Result<(), Fail> {
     put(&rt, "cut", front(&stream, 60))?;
     put(&rt, "other", &STREAM)?;
     put(&rt, "long", &long_stream())?;
-    put(&rt, "out", b"old")?;
+    put(&rt, "right", &with_sum(5, &MD5_SUM))?;
+    put(&rt, "wrong", &with_sum(5, &OTHER_SUM))?;
+    put(&rt, "both", &with_sum(1, &OTHER_SUM))?;
     for row in &ROWS {
         assert!(rt; leaves(&rt, row)?, "{:?}", row.words);
     }
     assert!(rt; holds(&rt, "in", &stream)?);
-    for name in ["in", "cut", "other", "long", "out"] {
+    for name in [
+        "in", "cut", "other", "long", "right", "wrong", "both", "out",
+    ] {
         remove(&rt, name)?;
     }
     Ok(())
@@ -311,26 +342,18 @@ const UNKNOWN: &[u8] =
 const ANNOUNCED: &[u8] =
     b"RIFF\x26\x00\x00\x00WAVEfmt \x10\x00\x00\x00\x01\x00\x01\x00\x44\xac\x00\x00\x44\xac\x00\x00\x01\x00\x08\x00data\x01\x00\x00\x00\x81\x7e\x83\x00\xff";
 
-// Whether STREAM with this number of samples in its streaminfo, in standard input, comes to this.
+// Whether a stream in standard input comes to this.
 fn pipes(
     rt: &HostRuntime,
     words: &[&str],
-    samples: u32,
+    stream: &[u8],
     status: u8,
     left: &[u8],
     said: &str,
 ) -> result::Result<bool, Fail> {
     let words = owned(rt.alloc(), words)?;
-    let stream = with_samples(samples);
     let (mut output, mut errors): (Vec<u8>, Vec<u8>) = (Vec::new(rt.alloc()), Vec::new(rt.alloc()));
-    let found = command(
-        rt,
-        &words,
-        stream.as_slice(),
-        &mut output,
-        false,
-        &mut errors,
-    );
+    let found = command(rt, &words, stream, &mut output, false, &mut errors);
     let is_said = errors.as_slice() == said.as_bytes();
     Ok(found == status && is_said && output.as_slice() == left)
 }
@@ -338,13 +361,41 @@ fn pipes(
 #[test]
 fn to_standard_output(rt: HostRuntime) -> result::Result<(), Fail> {
     let other = "standard input: 5 samples were found, but the streaminfo says 1\n";
-    assert!(rt; pipes(&rt, &["-", "-"], 5, 0, WHOLE, "")?);
-    assert!(rt; pipes(&rt, &["-"], 0, 0, UNKNOWN, "")?);
-    assert!(rt; pipes(&rt, &["--", "-", "-"], 1, 1, ANNOUNCED, other)?);
-    assert!(rt; pipes(&rt, &["-", "/dev/null"], 5, 0, b"", "")?);
-    assert!(rt; pipes(&rt, &["-", "/dev/null"], 0, 0, b"", "")?);
+    let rows: [(&[&str], [u8; 67], u8, &[u8], &str); 10] = [
+        (&["-", "-"], with_samples(5), 0, WHOLE, ""),
+        (&["-"], with_samples(0), 0, UNKNOWN, ""),
+        (&["--", "-", "-"], with_samples(1), 1, ANNOUNCED, other),
+        (&["-", "/dev/null"], with_samples(5), 0, b"", ""),
+        (&["-", "/dev/null"], with_samples(0), 0, b"", ""),
+        (&["-"], with_sum(5, &MD5_SUM), 0, WHOLE, ""),
+        (&["-"], with_sum(0, &MD5_SUM), 0, UNKNOWN, ""),
+        (
+            &["-"],
+            with_sum(5, &OTHER_SUM),
+            1,
+            WHOLE,
+            OTHER_MD5_OF_INPUT,
+        ),
+        (
+            &["-"],
+            with_sum(0, &OTHER_SUM),
+            1,
+            UNKNOWN,
+            OTHER_MD5_OF_INPUT,
+        ),
+        (&["-", "--no-md5"], with_sum(0, &OTHER_SUM), 0, UNKNOWN, ""),
+    ];
+    for (words, stream, status, left, said) in rows {
+        assert!(rt;
+            pipes(&rt, words, &stream, status, left, said)?,
+            "{words:?} {said}"
+        );
+    }
     Ok(())
 }
+
+const OTHER_MD5_OF_INPUT: &str =
+    "standard input: the MD5 sum of the samples isn't that of the streaminfo\n";
 
 // Three channels of 16 bits with six samples each, in frames of three, one and two, and their file.
 #[rattlefmt::skip]
@@ -410,10 +461,10 @@ fn with_header(alloc: Global, front: &[u8], fourth: u8) -> result::Result<Vec<u8
     Ok(joined(alloc, &[front, &[0xff, 0xf8, 0x69, fourth, 0x00]])?)
 }
 
-const USAGE: &str = "usage: claxon wav [-f] FILE [OUT.wav]\n";
+const USAGE: &str = "usage: claxon wav [-f] [--no-md5] FILE [OUT.wav]\n";
 
 const UNKNOWN_OPTION: &str =
-    "claxon wav: unknown option -x\nusage: claxon wav [-f] FILE [OUT.wav]\n";
+    "claxon wav: unknown option -x\nusage: claxon wav [-f] [--no-md5] FILE [OUT.wav]\n";
 
 const DEEP: &str = "standard input: 32-bit samples are not supported\n";
 

@@ -1,9 +1,11 @@
 //! Frames, samples and whole runs over readers that give few bytes, fail or pause.
 use crate::answers::{
-    FIVES, FRAME, Fault, Run, Step, answers_each, end_of, joined, run_of, two_frames,
+    FIVES, FRAME, Fault, Run, Step, answers_each, end_of, fault_of, frames_in_order, joined,
+    report_of, run_of, two_frames,
 };
 use claxon::frame::FrameReader;
 use claxon::input::BufferedReader;
+use claxon_tools::report::Damage;
 use claxon_write::run;
 use std::alloc::Global;
 use std::io::{self, ErrorKind, Read};
@@ -157,6 +159,52 @@ fn samples_with_a_failed_read(rt: HostRuntime) {
         };
         for kind in FAILURES {
             assert!(rt; is_cut_after(rt.alloc(), reads, kind, count), "{reads}");
+        }
+    }
+}
+
+// The number of frames that are verified, and the byte at which reading failed, if the read after this number of reads fails. The
+// stream has two frames in order, and each read gives one byte.
+fn verified_after(
+    alloc: Global,
+    reads: u32,
+    kind: ErrorKind,
+) -> claxon::Result<(u64, Option<u64>)> {
+    let bytes = frames_in_order();
+    let source = Interrupts {
+        bytes: &bytes,
+        piece: 1,
+        reads_left: reads,
+        trouble: Some(Trouble::Failure(kind)),
+    };
+    let mut input = BufferedReader::new(alloc, source)?;
+    let report = report_of(alloc, &mut input, true)?;
+    let failed_at = match &report.found.places.first {
+        Some(first) if !report.is_right => match &first.damage {
+            Damage::Fault(fault) if fault_of(&fault.error) == Fault::Io => Some(first.start_byte),
+            _ => None,
+        },
+        _ => None,
+    };
+    Ok((report.found.frames, failed_at))
+}
+
+// A failed read is the only place, in the frame in which it is.
+#[test]
+fn verified_with_a_failed_read(rt: HostRuntime) {
+    for reads in 0..65 {
+        let want = match reads {
+            0..42 => Err(Fault::Io),
+            42..53 => Ok((0, Some(42))),
+            53..64 => Ok((1, Some(53))),
+            _ => Ok((2, Some(64))),
+        };
+        for kind in FAILURES {
+            let found = match verified_after(rt.alloc(), reads, kind) {
+                Ok(found) => Ok(found),
+                Err(error) => Err(fault_of(&error)),
+            };
+            assert!(rt; found == want, "{reads}");
         }
     }
 }

@@ -1,13 +1,13 @@
 //! Refused memory, for each request in turn.
 use crate::answers::{
-    COMMENT, FIVES, FRAME, Fault, Step, answers_each, fault_of, head, joined, run_of, two_frames,
+    COMMENT, FIVES, FRAME, Fault, SECOND, Step, answers_each, fault_of, head, joined, report_of,
+    run_of, two_frames,
 };
 use crate::doubles::RefusesOne;
 use crate::doubles::sinks::Sink;
 use claxon::FlacReader;
 use claxon::frame::FrameReader;
 use claxon::metadata::{MetadataBlock, VorbisComment, read_metadata_block_with_header};
-use claxon_tools::verify::verify;
 use claxon_write::run;
 use linked_list_allocator::LocalHeap;
 use std::alloc::{Allocator, Global};
@@ -69,8 +69,7 @@ fn written<A: Allocator + Copy>(heap: A, bytes: &[u8]) -> Result<(), Fault> {
 
 // A stream of two samples in two frames.
 fn verified<A: Allocator + Copy>(heap: A, bytes: &[u8]) -> Result<(), Fault> {
-    let mut errors = Sink::new(0, 0, false, ErrorKind::Other);
-    match verify(heap, &mut Cursor::new(bytes), false, &mut errors) {
+    match report_of(heap, &mut Cursor::new(bytes), false) {
         Ok(report) if report.found.frames == 2 && report.found.samples == 2 => Ok(()),
         Ok(_) => OTHER,
         Err(error) => Err(fault_of(&error)),
@@ -156,6 +155,28 @@ fn streams(rt: HostRuntime) -> Result<(), Fail> {
     check(&rt, Call::Samples, &with_a_frame, 4)?;
     check(&rt, Call::Run, &two_frames(0x58), 2)?;
     check(&rt, Call::Verify, &two_frames(0x58), 1)
+}
+
+// The number of places of a stream that are there, and of those that are left out, if the request after `granted` ones is refused.
+fn places_of(alloc: Global, bytes: &[u8], granted: u64) -> Result<(usize, u64), Fault> {
+    let heap = RefusesOne::new(alloc, granted);
+    match report_of(&heap, &mut Cursor::new(bytes), false) {
+        Ok(report) => {
+            let places = &report.found.places;
+            Ok((places.more.len(), places.left_out))
+        }
+        Err(error) => Err(fault_of(&error)),
+    }
+}
+
+// The buffer of the blocks is requested first, and then memory for the places after the first. A place is left out without it.
+#[test]
+fn places(rt: HostRuntime) -> Result<(), Fail> {
+    let bytes = joined(rt.alloc(), &[&head(0x80), &SECOND, &FRAME])?;
+    for (granted, want) in [(0, Err(Fault::Memory)), (1, Ok((0, 1))), (2, Ok((1, 0)))] {
+        assert!(rt; places_of(rt.alloc(), &bytes, granted) == want);
+    }
+    Ok(())
 }
 
 // The vendor `ab` and a number of entries `X=Y`.
