@@ -1,0 +1,12 @@
+-- What bytes in memory begin with, and how many bytes it has.
+pub mod AtStart
+-- The header of a frame that bytes in memory begin with.
+pub mod HeadersAtStart
+-- A frame header begins with a sync code and a reserved bit of 0.
+pub mod SyncCode
+-- A search for a frame, position by position.
+pub mod Searches
+-- The clauses of a search, from all that it answers.
+pub mod FindCalls
+-- A window on a source, and the blocks and samples that a reader finds in it.
+pub mod Readers

@@ -1,0 +1,5 @@
+use Rattle.claxon_seek.proofs.Searches.{Searched}
+use Rattle.claxon_seek.proofs.find.find.Given as goal
+
+abbrev pub invariant-loop-position : goal.invariant-loop-position
+invariant-loop-position l = Searched l.known l.sample l.bytes l.from l.fn.budget l.budget l.undecided l.position

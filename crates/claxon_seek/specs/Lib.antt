@@ -1,0 +1,7 @@
+pub mod AtStart
+pub mod Attempt
+pub mod Find
+pub mod Likely
+pub mod Seek
+pub mod SeekableReader
+pub mod Window

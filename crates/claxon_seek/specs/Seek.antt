@@ -1,0 +1,85 @@
+-- What a call answers that seeks to a sample.
+use Rattle.std.specs.Prelude.{
+  ◌≡◌,
+  ◌⊎◌,
+  ℕ,
+  ◌≤◌,
+  List,
+  drop,
+  Option,
+  Some,
+  Result,
+  Ok,
+  Err,
+  IfErr,
+}
+use Rattle.claxon.specs.BlockInfos.{BlockInfo}
+use Rattle.claxon.specs.Errors.{Error}
+use Rattle.claxon.specs.Errors.TheVariants.{OutOfMemory}
+use Rattle.claxon.specs.Promises.{IsOutOfMemory}
+use Rattle.claxon.specs.StreamInfos.{StreamInfo}
+use Rattle.claxon_seek.specs.Find.{
+  IfFound,
+  IfNotFound,
+  IsFoundAnd,
+  IsNotFound,
+  NoFrameBetween,
+  NoFrameFrom,
+  PassesBudget,
+  WantedFrame,
+  WantedHeader,
+}
+use Rattle.claxon_seek.specs.declared.search.Search.{Search}
+use Rattle.claxon_seek.specs.declared.search.Search.TheVariants.{Found, NotFound, OverBudget}
+
+-- of the frames from this position on whose block has the sample
+module _ (known : Option StreamInfo) (bytes : List ℕ) (first sample budget : ℕ) where
+  -- all that it answers
+  abbrev pub SeekGives : Result Search Error → Type 0
+  SeekGives (Ok (Found at)) =
+      (first ≤ at.position) × WantedFrame known (Some sample) (drop at.position bytes) at.block
+  SeekGives (Ok (NotFound undecided)) = NoFrameFrom known (Some sample) bytes first
+  SeekGives (Ok (OverBudget to)) =
+      NoFrameBetween known (Some sample) bytes first to
+      × PassesBudget known (Some sample) bytes first budget to
+  SeekGives (Err e) =
+      IsOutOfMemory {A = Search} (Err e) × ((at : ℕ) × (info : BlockInfo) × (first ≤ at)
+      × WantedHeader known (Some sample) (drop at bytes) info)
+
+  module _ (result : Result Search Error) where
+    -- A frame of which the position is returned begins there, and its block has the sample.
+    abbrev pub SeekIsSound : Type 0
+    SeekIsSound = IfFound result (λ at.
+        (first ≤ at.position)
+        × WantedFrame known (Some sample) (drop at.position bytes) at.block)
+
+    -- If there is such a frame one is found, or headers up to it pass the budget, or memory was
+    -- refused.
+    abbrev pub SeekIsComplete : Type 0
+    SeekIsComplete = (at : ℕ) (info : BlockInfo) → first ≤ at
+        → WantedFrame known (Some sample) (drop at bytes) info → IsFoundAnd result (λ x. Unit {0})
+        ⊎ (((to : ℕ) × (to ≤ at) × PassesBudget known (Some sample) bytes first budget to)
+        ⊎ IsOutOfMemory result)
+
+    -- `NotFound` says that there is none.
+    abbrev pub SeekNotFoundIsNone : Type 0
+    SeekNotFoundIsNone =
+        IfNotFound result (λ undecided. NoFrameFrom known (Some sample) bytes first)
+
+    -- If there is none, that is said, or headers pass the budget, or memory was refused.
+    abbrev pub SeekNoneIsNotFound : Type 0
+    SeekNoneIsNotFound = NoFrameFrom known (Some sample) bytes first → IsNotFound result
+        ⊎ (((to : ℕ) × PassesBudget known (Some sample) bytes first budget to)
+        ⊎ IsOutOfMemory result)
+
+    -- At a position that is over budget the headers pass it, and no such frame begins before.
+    abbrev pub SeekStopsOverBudget : Type 0
+    SeekStopsOverBudget = (to : ℕ) → result ≡ Ok (OverBudget to)
+        → NoFrameBetween known (Some sample) bytes first to
+        × PassesBudget known (Some sample) bytes first budget to
+
+    -- An Err is `OutOfMemory`, for a frame whose header is there.
+    abbrev pub SeekOutOfMemoryAfterHeader : Type 0
+    SeekOutOfMemoryAfterHeader = IfErr result (λ e. (e ≡ OutOfMemory)
+        × ((at : ℕ) × (info : BlockInfo) × (first ≤ at)
+        × WantedHeader known (Some sample) (drop at bytes) info))

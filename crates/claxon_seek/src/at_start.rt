@@ -1,0 +1,108 @@
+//! What bytes in memory begin with: a head, a frame's header, a frame.
+ghost use Rattle.std.specs.Prelude.{◌≡◌, IfSome};
+ghost use Rattle.std.specs.Option.{option_map};
+ghost use Rattle.std.specs.Io.Cursor.{cursor_inner, cursor_position};
+ghost use Rattle.claxon.specs.Cursor.{cursor_left};
+ghost use Rattle.claxon.specs.ReadHead.{head_view};
+ghost use Rattle.claxon.specs.FlacReader.{HasBitDepth};
+ghost use Rattle.claxon.specs.FrameReader.{frame_input, frame_stream, stream_with};
+ghost use Rattle.claxon.specs.Promises.{IsOutOfMemory};
+ghost use Rattle.claxon_seek.specs.AtStart.{FrameAtStart, HeadAtStart, HeaderAtStart};
+
+use claxon::frame::{BlockInfo, FrameReader, FrameResult};
+use claxon::metadata::{StreamInfo, VorbisComment};
+use claxon::{FlacReaderOptions, Result, read_head};
+use std::alloc::Global;
+use std::io::Cursor;
+
+/// The head that the bytes begin with, and in `taken` its number of bytes.
+///
+/// # Errors
+///
+/// Those of `read_head`.
+pub fn head_at_start(
+    alloc: Global,
+    bytes: &[u8],
+    taken: &mut usize,
+) -> Result<(StreamInfo, Option<VorbisComment>)>
+    ensures { HeadAtStart head_view bytes.now result taken.new }
+{
+    let options = FlacReaderOptions {
+        metadata_only: false,
+        read_vorbis_comment: true,
+    };
+    let mut input = Cursor::new(bytes);
+    let head = read_head(alloc, &mut input, options);
+    *taken = bytes.len().saturating_sub(left_in(&input));
+    head
+}
+
+/// The block of the frame that the bytes begin with, and in `taken` the frame's number of bytes.
+///
+/// # Errors
+///
+/// Those of `FrameReader::read_next_or_eof`.
+pub fn block_at_start(
+    alloc: Global,
+    bytes: &[u8],
+    known: Option<StreamInfo>,
+    taken: &mut usize,
+) -> FrameResult
+    requires { IfSome known (λ info. HasBitDepth info) }
+    ensures { FrameAtStart (option_map stream_with known) bytes.now result taken.new }
+{
+    block_in_buffer(Vec::new(alloc), bytes, known, taken)
+}
+
+// `block_at_start`, into the buffer's memory if it is large enough.
+pub(crate) fn block_in_buffer(
+    buffer: Vec<i32>,
+    bytes: &[u8],
+    known: Option<StreamInfo>,
+    taken: &mut usize,
+) -> FrameResult
+    requires { IfSome known (λ info. HasBitDepth info) }
+    ensures { FrameAtStart (option_map stream_with known) bytes.now result taken.new }
+{
+    let mut frames = frames_of(bytes, known);
+    let found = frames.read_next_or_eof(buffer);
+    *taken = bytes.len().saturating_sub(left_in(&frames.into_inner()));
+    found
+}
+
+/// What the frame header says that the bytes begin with.
+///
+/// # Errors
+///
+/// Those of `FrameReader::read_header_or_eof`.
+pub fn header_at_start(bytes: &[u8], known: Option<StreamInfo>) -> Result<Option<BlockInfo>>
+    requires { IfSome known (λ info. HasBitDepth info) }
+    ensures at_start { HeaderAtStart (option_map stream_with known) bytes.now result }
+    ensures never_out_of_memory { IsOutOfMemory result → ⊥ }
+{
+    frames_of(bytes, known).read_header_or_eof()
+}
+
+// A reader of the frames in the bytes.
+fn frames_of(bytes: &[u8], known: Option<StreamInfo>) -> FrameReader<Cursor<&[u8]>>
+    requires { IfSome known (λ info. HasBitDepth info) }
+    ensures position { cursor_position (frame_input result) ≡ 0 }
+    ensures inner { cursor_inner (frame_input result) ≡ bytes.entry }
+    ensures stream { frame_stream result ≡ option_map stream_with known }
+{
+    let input = Cursor::new(bytes);
+    match known {
+        Some(info) => FrameReader::with_streaminfo(input, info),
+        None => FrameReader::new(input),
+    }
+}
+
+// The number of bytes that it hasn't given.
+fn left_in(input: &Cursor<&[u8]>) -> usize
+    ensures { result ≡ cursor_left (λ slice. slice.now) input.now }
+{
+    input
+        .get_ref()
+        .len()
+        .saturating_sub(input.position() as usize)
+}

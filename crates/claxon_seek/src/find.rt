@@ -1,0 +1,210 @@
+//! The next position at which a frame begins.
+ghost use Rattle.std.specs.Prelude.{◌↔◌, IfSome, IsTrue};
+ghost use Rattle.claxon.specs.FlacReader.{HasBitDepth};
+ghost use Rattle.claxon_seek.specs.AtStart.{NoHeaderAtStart};
+ghost use Rattle.claxon_seek.specs.Find.{
+  BudgetIsSpent,
+  FindGives,
+  FindOutOfMemoryAfterHeader,
+  FirstIsFound,
+  FoundIsFirst,
+  FrameIsAtStart,
+  HasFormat,
+  HoldsSample,
+  NoneIsNotFound,
+  NotFoundIsNone,
+  StopsOverBudget,
+  UndecidedIsFirst,
+  WantedHeaderAtStart,
+};
+
+use crate::at_start::{block_at_start, header_at_start};
+use crate::search::{FoundFrame, Search};
+use claxon::frame::BlockInfo;
+use claxon::metadata::StreamInfo;
+use claxon::{Error, Result};
+use std::alloc::Global;
+
+/// Finds the first frame from the position `from` on, and what its header says of its block.
+///
+/// The frame has the number of channels and the bit depth of the streaminfo where that is known. Its header is read first, with its
+/// CRC-8, so samples are decoded only where a header is. (RFC 9639, section 9.)
+///
+/// The samples of the blocks whose headers are found are taken from the budget. `OverBudget` is returned at the position of a header
+/// whose block has more samples than are left: bytes that were
+/// made on purpose can have a header of a large block every few bytes. A search from that position on, with a budget of at least
+/// 524,280 samples, goes on.
+///
+/// # Errors
+///
+/// `OutOfMemory` alone, where memory for the samples of a block is refused.
+pub fn find_frame(
+    alloc: Global,
+    bytes: &[u8],
+    from: usize,
+    known: Option<StreamInfo>,
+    budget: &mut u64,
+) -> Result<Search>
+    requires { IfSome known (λ info. HasBitDepth info) }
+    ensures found_is_first { FoundIsFirst known bytes.now from budget.old result budget.new }
+    ensures first_is_found { FirstIsFound known bytes.now from budget.old result budget.new }
+    ensures not_found_is_none { NotFoundIsNone known bytes.now from budget.old result budget.new }
+    ensures none_is_not_found { NoneIsNotFound known bytes.now from budget.old result budget.new }
+    ensures stops_over_budget { StopsOverBudget known bytes.now from budget.old result budget.new }
+    ensures undecided_is_first { UndecidedIsFirst known bytes.now from budget.old result budget.new }
+    ensures budget_is_spent { BudgetIsSpent known bytes.now from budget.old result budget.new }
+    ensures out_of_memory_after_header { FindOutOfMemoryAfterHeader known bytes.now from
+        budget.old result budget.new }
+{
+    find(alloc, bytes, from, known, None, budget)
+}
+
+// What a search knows of the header that bytes begin with.
+#[derive(Clone, Copy)]
+pub(crate) enum HeaderThere {
+    // Its frame is one that is searched for.
+    Wanted(BlockInfo),
+    // There is none of such a frame, whatever follows.
+    NotWanted,
+    // The bytes end within it.
+    CutHeader,
+}
+
+// What a search knows of the frame that bytes begin with.
+#[derive(Clone, Copy)]
+pub(crate) enum FrameThere {
+    Whole,
+    // There is none, whatever follows.
+    Faulty,
+    // The bytes end within it.
+    CutFrame,
+}
+
+// The first frame from this position on that has the streaminfo's format and, if one is asked for, this sample.
+pub(crate) fn find(
+    alloc: Global,
+    bytes: &[u8],
+    from: usize,
+    known: Option<StreamInfo>,
+    sample: Option<u64>,
+    budget: &mut u64,
+) -> Result<Search>
+    requires { IfSome known (λ info. HasBitDepth info) }
+    ensures { FindGives known sample bytes.now from budget.old result budget.new }
+{
+    let mut undecided = from.max(bytes.len());
+    for position in from..bytes.len() {
+        let rest = &bytes[position..];
+        let block = match wanted_header(rest, &known, sample) {
+            HeaderThere::Wanted(block) => block,
+            HeaderThere::NotWanted => continue,
+            HeaderThere::CutHeader => {
+                undecided = undecided.min(position);
+                continue;
+            }
+        };
+        let samples = u64::from(block.channels) * u64::from(block.duration);
+        if samples > *budget {
+            return Ok(Search::OverBudget(position));
+        }
+        *budget -= samples;
+        match frame_at_start(alloc, rest, known)? {
+            FrameThere::Whole => return Ok(Search::Found(FoundFrame { position, block })),
+            FrameThere::Faulty => continue,
+            FrameThere::CutFrame => undecided = undecided.min(position),
+        }
+    }
+    Ok(Search::NotFound(undecided))
+}
+
+// The header that the bytes begin with, if its frame is one that is searched for. The streaminfo is lent, as it is asked for at
+// each position.
+#[inline(always)]
+pub(crate) fn wanted_header(
+    bytes: &[u8],
+    known: &Option<StreamInfo>,
+    sample: Option<u64>,
+) -> HeaderThere
+    requires { IfSome known.now (λ info. HasBitDepth info) }
+    ensures { WantedHeaderAtStart known.now sample bytes.now result }
+{
+    if lacks_sync_code(bytes) || has_invalid_rate(bytes) {
+        return HeaderThere::NotWanted;
+    }
+    read_wanted_header(bytes, known, sample)
+}
+
+#[inline(never)]
+fn read_wanted_header(bytes: &[u8], known: &Option<StreamInfo>, sample: Option<u64>) -> HeaderThere
+    requires { IfSome known.now (λ info. HasBitDepth info) }
+    ensures { WantedHeaderAtStart known.now sample bytes.now result }
+{
+    match header_at_start(bytes, *known) {
+        Ok(Some(block)) => {
+            if has_format(&block, *known) && holds_sample(&block, sample) {
+                HeaderThere::Wanted(block)
+            } else {
+                HeaderThere::NotWanted
+            }
+        }
+        Ok(None) => HeaderThere::CutHeader,
+        Err(Error::IoError(_)) => HeaderThere::CutHeader,
+        Err(Error::FormatError(_)) => HeaderThere::NotWanted,
+        Err(Error::Unsupported(_)) => HeaderThere::NotWanted,
+        Err(Error::OutOfMemory) => HeaderThere::NotWanted,
+    }
+}
+
+// Whether the bytes have two bytes that aren't a sync code and a reserved bit of 0, with which each frame header begins.
+#[inline(always)]
+fn lacks_sync_code(bytes: &[u8]) -> bool
+    ensures { IsTrue result → NoHeaderAtStart bytes.now }
+{
+    bytes.len() >= 2 && (bytes[0] != 0xff || bytes[1] / 2 != 0x7c)
+}
+
+// Whether the third byte of a header has the invalid code of the sample rate, as it has in bytes that are sync codes alone.
+#[inline(always)]
+fn has_invalid_rate(bytes: &[u8]) -> bool
+    ensures { IsTrue result → NoHeaderAtStart bytes.now }
+{
+    bytes.len() >= 3 && bytes[2] % 16 == 15
+}
+
+fn has_format(block: &BlockInfo, known: Option<StreamInfo>) -> bool
+    ensures { IsTrue result ↔ HasFormat known block.now }
+{
+    match known {
+        Some(info) => { block.channels == info.channels && block.bit_depth == info.bits_per_sample }
+        None => true,
+    }
+}
+
+pub(crate) fn holds_sample(block: &BlockInfo, sample: Option<u64>) -> bool
+    ensures { IsTrue result ↔ HoldsSample sample block.now }
+{
+    match sample {
+        Some(sample) => block.time <= sample && sample - block.time < u64::from(block.duration),
+        None => true,
+    }
+}
+
+// The frame that the bytes begin with.
+pub(crate) fn frame_at_start(
+    alloc: Global,
+    bytes: &[u8],
+    known: Option<StreamInfo>,
+) -> Result<FrameThere>
+    requires { IfSome known (λ info. HasBitDepth info) }
+    ensures { FrameIsAtStart known bytes.now result }
+{
+    let mut taken = 0;
+    match block_at_start(alloc, bytes, known, &mut taken) {
+        Ok(Some(_)) => Ok(FrameThere::Whole),
+        Ok(None) => Ok(FrameThere::CutFrame),
+        Err(Error::IoError(_)) => Ok(FrameThere::CutFrame),
+        Err(Error::FormatError(_)) => Ok(FrameThere::Faulty),
+        Err(Error::Unsupported(_)) => Ok(FrameThere::Faulty),
+        Err(Error::OutOfMemory) => Err(Error::OutOfMemory),
+    }
+}

@@ -1,0 +1,18 @@
+//! Finds frames in bytes, and seeks to a sample.
+#![tactic(auto)]
+
+mod at_start;
+mod find;
+mod likely;
+mod reader;
+mod search;
+mod seeking;
+#[cfg(test)]
+mod tests;
+mod window;
+
+pub use at_start::{block_at_start, head_at_start, header_at_start};
+pub use find::find_frame;
+pub use reader::SeekableReader;
+pub use search::{FoundFrame, Search};
+pub use seeking::seek;
