@@ -26,12 +26,13 @@ uint32_t claxon_version(void);
 /* What a call returns. */
 enum claxon_status {
     CLAXON_OK = 0,
-    CLAXON_FORMAT_ERROR = 1,    /* the stream is ill-formed: `error` says how */
-    CLAXON_UNSUPPORTED = 2,     /* the stream has something that isn't supported: `error` says what */
-    CLAXON_INPUT_ENDS = 3,      /* the bytes end too early: call again with these and more */
-    CLAXON_OUT_OF_MEMORY = 4,   /* malloc failed */
-    CLAXON_NO_MORE = 5,         /* no further block, or no further tag */
-    CLAXON_BUFFER_TOO_SMALL = 6 /* the samples don't fit */
+    CLAXON_FORMAT_ERROR = 1,     /* the stream is ill-formed: `error` says how */
+    CLAXON_UNSUPPORTED = 2,      /* the stream has something that isn't supported: `error` says what */
+    CLAXON_INPUT_ENDS = 3,       /* the bytes end too early: call again with these and more */
+    CLAXON_OUT_OF_MEMORY = 4,    /* malloc failed */
+    CLAXON_NO_MORE = 5,          /* no further block, no further tag, no such frame */
+    CLAXON_BUFFER_TOO_SMALL = 6, /* the samples don't fit */
+    CLAXON_OVER_BUDGET = 7       /* a search stopped, as headers say more samples than its budget */
 };
 
 /* The maximum number of samples in a block, of all channels together. */
@@ -98,7 +99,7 @@ struct claxon_md5 {
     uint8_t buffer[64];
 };
 
-/* The layout that the library has: that of x86-64 Linux, which it is built for. */
+/* The layout that the library has: that of Linux on x86-64 and 64-bit ARM, which it is built for. */
 #ifdef CLAXON_HAS_STATIC_ASSERT
 static_assert(sizeof(struct claxon_info) == 64 && offsetof(struct claxon_info, first_frame) == 0 &&
                   offsetof(struct claxon_info, tags) == 8 && offsetof(struct claxon_info, samples) == 16 &&
@@ -106,21 +107,21 @@ static_assert(sizeof(struct claxon_info) == 64 && offsetof(struct claxon_info, f
                   offsetof(struct claxon_info, bits_per_sample) == 32 && offsetof(struct claxon_info, min_frame_size) == 36 &&
                   offsetof(struct claxon_info, max_frame_size) == 40 && offsetof(struct claxon_info, min_block_size) == 44 &&
                   offsetof(struct claxon_info, max_block_size) == 46 && offsetof(struct claxon_info, md5) == 48,
-              "claxon is for x86-64 Linux: struct claxon_info has another layout here");
+              "claxon is for Linux on x86-64 and 64-bit ARM: struct claxon_info has another layout here");
 static_assert(sizeof(struct claxon_metadata) == 16 && offsetof(struct claxon_metadata, content) == 0 &&
                   offsetof(struct claxon_metadata, length) == 8 && offsetof(struct claxon_metadata, type) == 12 &&
                   offsetof(struct claxon_metadata, is_last) == 13,
-              "claxon is for x86-64 Linux: struct claxon_metadata has another layout here");
+              "claxon is for Linux on x86-64 and 64-bit ARM: struct claxon_metadata has another layout here");
 static_assert(sizeof(struct claxon_tag) == 32 && offsetof(struct claxon_tag, name_at) == 0 &&
                   offsetof(struct claxon_tag, name_length) == 8 && offsetof(struct claxon_tag, value_at) == 16 &&
                   offsetof(struct claxon_tag, value_length) == 24,
-              "claxon is for x86-64 Linux: struct claxon_tag has another layout here");
+              "claxon is for Linux on x86-64 and 64-bit ARM: struct claxon_tag has another layout here");
 static_assert(sizeof(struct claxon_block) == 16 && offsetof(struct claxon_block, time) == 0 &&
                   offsetof(struct claxon_block, channels) == 8 && offsetof(struct claxon_block, duration) == 12,
-              "claxon is for x86-64 Linux: struct claxon_block has another layout here");
+              "claxon is for Linux on x86-64 and 64-bit ARM: struct claxon_block has another layout here");
 static_assert(sizeof(struct claxon_md5) == 88 && offsetof(struct claxon_md5, state) == 0 &&
                   offsetof(struct claxon_md5, length) == 16 && offsetof(struct claxon_md5, buffer) == 24,
-              "claxon is for x86-64 Linux: struct claxon_md5 has another layout here");
+              "claxon is for Linux on x86-64 and 64-bit ARM: struct claxon_md5 has another layout here");
 #endif
 
 /* Reads the head that the bytes begin with. With CLAXON_OK, `info` is filled.
@@ -163,6 +164,10 @@ uint32_t claxon_next_block_planar(const uint8_t *bytes, size_t length, size_t *a
                                   int32_t *samples, size_t capacity, struct claxon_block *block, char *error,
                                   size_t error_size);
 
+/* The CRC of a frame (RFC 9639, section 9.3), as far as its bytes are there: `crc` is that of the bytes before these, 0 at
+ * first, and the result that of all of them. Behind a whole frame it is 0: its last two bytes are the CRC of the others. */
+uint16_t claxon_crc16(uint16_t crc, const uint8_t *bytes, size_t length);
+
 /* Begins an MD5 sum of samples, for comparison with the one in the head. No samples are hashed yet. */
 void claxon_md5_start(struct claxon_md5 *md5);
 
@@ -172,6 +177,23 @@ uint32_t claxon_md5_samples(struct claxon_md5 *md5, const int32_t *samples, size
 
 /* Fills `sum` with the sum of the samples that were hashed. More may be hashed after it. */
 void claxon_md5_finish(const struct claxon_md5 *md5, uint8_t sum[16]);
+
+/* Finds the first frame of the stream from the position *at on: one with the number of channels and the bit depth of `info`,
+ * or any frame where `info` is all zeros. With CLAXON_OK, *at is moved to the frame, and `block` is filled from its header.
+ * NO_MORE: there is none; *at is moved to where a search goes on once there are more bytes: before it none can begin, whatever
+ * follows. OVER_BUDGET: *at is moved to a header whose block has more samples than *budget, and no frame begins before it; a
+ * search from there goes on, with a budget of CLAXON_MAX_SAMPLES or more. OUT_OF_MEMORY: nothing is changed.
+ * `block` is changed with CLAXON_OK alone. The samples, of all channels, of each block whose header is found are taken from
+ * *budget, whether its frame stands there or not: so hostile bytes cost no more time than it allows. UINT64_MAX is no limit. */
+uint32_t claxon_find_frame(const uint8_t *bytes, size_t length, size_t *at, const struct claxon_info *info, uint64_t *budget,
+                           struct claxon_block *block);
+
+/* Finds a frame from info->first_frame on whose block has the sample: block.time <= sample < block.time + block.duration. With
+ * CLAXON_OK, *at is the frame's position, from which claxon_next_block decodes it, and `block` is filled from its header.
+ * NO_MORE: there is none. OVER_BUDGET: in a stream that is damaged or hostile, headers whose blocks would have the sample have
+ * more samples than `budget`. OUT_OF_MEMORY. With any status but OK nothing is changed. */
+uint32_t claxon_seek(const uint8_t *bytes, size_t length, const struct claxon_info *info, uint64_t sample, uint64_t budget,
+                     size_t *at, struct claxon_block *block);
 
 #ifdef __cplusplus
 }

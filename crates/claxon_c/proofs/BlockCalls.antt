@@ -13,11 +13,11 @@ use Rattle.claxon.specs.Prefix.{BeginsWith}
 use Rattle.claxon.proofs.BlockInfo.{header_has_two_bytes, headers_unambiguous}
 use Rattle.claxon.proofs.FrameHeaders.{SaysBlock, frame_has_header, header_fault_is_frames}
 use Rattle.claxon.proofs.OutOfMemory.{not_out_of_memory}
+use Rattle.claxon_seek.specs.AtStart.{FrameAtStart}
 use Rattle.claxon_c.specs.declared.heads.ClaxonInfo.{ClaxonInfo}
 use Rattle.claxon_c.specs.declared.next_block.ClaxonBlock.{ClaxonBlock}
-use Rattle.claxon_c.specs.AtStart.{FrameAtStart, LargerBlockAtStart}
 use Rattle.claxon_c.specs.Info.{known_stream}
-use Rattle.claxon_c.specs.NextBlock.{BlockIsKept, CBlockElseIoError, CBlockFaultIsComplete, CBlockFaultIsSound, CBlockIsComplete, CBlockIsShown, CBlockIsSound, CBlockNoMoreIffEof, CBlockOutOfMemoryAfterHeader, CFrameHeaderFaultIsComplete, CHeaderIsShown, CSamplesAreGiven, CTooSmallIffLarger, IsAtEnd, IsBlockStatus, IsDecoded, IsRefused, IsTooSmall, SampleOrder, NextBlock, PositionIsKept, ShowsBlock, ShowsInfo, TextIsKept}
+use Rattle.claxon_c.specs.NextBlock.{BlockIsKept, CBlockElseIoError, CBlockFaultIsComplete, CBlockFaultIsSound, CBlockIsComplete, CBlockIsShown, CBlockIsSound, CBlockNoMoreIffEof, CBlockOutOfMemoryAfterHeader, CFrameHeaderFaultIsComplete, CHeaderIsShown, CSamplesAreGiven, CTooSmallIffLarger, IsAtEnd, IsBlockStatus, IsDecoded, IsRefused, IsTooSmall, LargerBlockAtStart, SampleOrder, NextBlock, PositionIsKept, ShowsBlock, ShowsInfo, TextIsKept}
 use Rattle.claxon_c.specs.Status.{TextIsReported, ok}
 use Rattle.claxon_c.proofs.HeadersAtStart.{larger_says, says_larger}
 use Rattle.claxon_c.proofs.Reports.{each_fault_reported, io_error_reported, fault_reported, just_error, error_out_of_memory, out_of_memory_reported, text_reported}

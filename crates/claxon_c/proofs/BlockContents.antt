@@ -16,7 +16,7 @@ use Rattle.claxon.specs.OtherErrors.{IfOtherErr}
 use Rattle.claxon.specs.Prefix.{BeginsWith}
 use Rattle.claxon.proofs.FramesInMemory.{Slice, begins_with_consumed, slice_state}
 use Rattle.claxon_c.specs.Contents.{BodyIsRead, comment_type, streaminfo_type}
-use Rattle.claxon_c.proofs.AtStart.{shown_bytes}
+use Rattle.claxon_seek.proofs.AtStart.{shown_bytes}
 
 -- ---- a length above the greatest u32 is like it
 

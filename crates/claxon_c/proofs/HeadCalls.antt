@@ -10,8 +10,8 @@ use Rattle.claxon.specs.VorbisComments.{VorbisComment}
 use Rattle.claxon.specs.ReadHead.{found_view, head_view}
 use Rattle.claxon.specs.Prefix.{BeginsWith}
 use Rattle.claxon.proofs.OutOfMemory.{not_out_of_memory}
+use Rattle.claxon_seek.specs.AtStart.{BeginsWithLength, HeadAtStart}
 use Rattle.claxon_c.specs.declared.heads.ClaxonInfo.{ClaxonInfo}
-use Rattle.claxon_c.specs.AtStart.{BeginsWithLength, HeadAtStart}
 use Rattle.claxon_c.specs.HeadCalls.{CHeadFaultIsComplete, CHeadFaultIsSound, CHeadElseIoError, ShowsHead, CHeadOutOfMemoryAfterHeader, tag_count}
 use Rattle.claxon_c.specs.Info.{InfoShows, known_stream}
 use Rattle.claxon_c.specs.Status.{ErrorIsReported, out_of_memory}

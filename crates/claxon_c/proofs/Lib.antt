@@ -1,5 +1,3 @@
--- What bytes in memory begin with, and how many bytes it has.
-pub mod AtStart
 -- What a call returns for the frame at a position.
 pub mod BlockCalls
 -- The content of a metadata block in memory.
@@ -8,12 +6,16 @@ pub mod BlockContents
 pub mod ContentCalls
 -- What calls return for the head at the start of bytes.
 pub mod HeadCalls
+-- The CRC of bytes after others.
+pub mod CrcCalls
 -- The header of a metadata block, as a number of 32 bits.
 pub mod NextMetadata
 -- The status and the text that report an error.
 pub mod Reports
 -- The header of a frame that bytes in memory begin with.
 pub mod HeadersAtStart
+-- What the calls return that find a frame in bytes, or seek to a sample.
+pub mod SeekCalls
 -- Samples of one channel after another.
 pub mod PlanarSamples
 -- What calls return for the next tag in the content of a Vorbis comment block.

@@ -8,8 +8,8 @@ use Rattle.claxon.specs.Streams.{stream_of, with_samples}
 use Rattle.claxon.specs.Promises.{HasNeither}
 use Rattle.claxon.specs.ReadHead.{MemoryMayBeNeeded}
 use Rattle.claxon.specs.Prefix.{BeginsWith}
+use Rattle.claxon_seek.specs.AtStart.{BeginsWithLength}
 use Rattle.claxon_c.specs.declared.heads.ClaxonInfo.{ClaxonInfo}
-use Rattle.claxon_c.specs.AtStart.{BeginsWithLength}
 use Rattle.claxon_c.specs.Info.{known_stream}
 use Rattle.claxon_c.specs.Status.{FaultIsReported, IsFaultStatus, input_ends, ok, out_of_memory}
 

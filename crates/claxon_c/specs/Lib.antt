@@ -1,11 +1,12 @@
 pub mod Status
-pub mod AtStart
 pub mod Info
 pub mod HeadCalls
 pub mod Contents
 pub mod NextMetadata
 pub mod NextBlock
+pub mod Seek
 pub mod NextTag
 pub mod TagReader
+pub mod CrcCall
 pub mod HashCalls
 pub mod Version

@@ -14,6 +14,7 @@ use Rattle.std.specs.Prelude.{
   ◌++◌,
   length,
   drop,
+  Option,
   Result,
   Ok,
   Err,
@@ -21,7 +22,7 @@ use Rattle.std.specs.Prelude.{
   Some,
 }
 use Rattle.claxon.specs.Fault.{Fault}
-use Rattle.claxon.specs.Frame.{Block, Frame, FrameBytesFault}
+use Rattle.claxon.specs.Frame.{Block, Frame, FrameBytesFault, StreamFormat}
 use Rattle.claxon.specs.Streams.{duration_of, interleave}
 use Rattle.claxon.specs.Promises.{HasNeither}
 use Rattle.claxon.specs.Errors.{Error}
@@ -30,9 +31,9 @@ use Rattle.claxon.specs.BlockInfo.{HeaderBytesFault, HeaderOf}
 use Rattle.claxon.specs.BlockInfos.{BlockInfo}
 use Rattle.claxon.specs.FrameReader.{HeaderOfLargerBlock, block_view}
 use Rattle.claxon.specs.Prefix.{BeginsWith}
+use Rattle.claxon_seek.specs.AtStart.{FrameAtStart}
 use Rattle.claxon_c.specs.declared.heads.ClaxonInfo.{ClaxonInfo}
 use Rattle.claxon_c.specs.declared.next_block.ClaxonBlock.{ClaxonBlock}
-use Rattle.claxon_c.specs.AtStart.{FrameAtStart}
 use Rattle.claxon_c.specs.Info.{known_stream}
 use Rattle.claxon_c.specs.Status.{
   ErrorIsReported,
@@ -189,6 +190,14 @@ abbrev pub CBlockNoMoreIffEof : List ℕ → ℕ → ℕ → Type 0
 CBlockNoMoreIffEof bytes from status = (status ≡ no_more) ↔ (length (drop from bytes) < 2)
 
 -- ---- the call that both share
+
+-- The bytes begin with the header of a block that has more samples than the capacity, which says
+-- what is returned. Or they don't.
+abbrev pub LargerBlockAtStart : Option StreamFormat → ℕ → List ℕ → Option BlockInfo → Type 0
+LargerBlockAtStart stream capacity bytes None =
+    BeginsWith (HeaderOfLargerBlock stream capacity) bytes → ⊥
+LargerBlockAtStart stream capacity bytes (Some info) =
+    BeginsWith (HeaderOf stream info) bytes × (capacity < info.channels * info.duration)
 
 module _ (info : ClaxonInfo) (bytes : List ℕ) (from capacity : ℕ) where
   -- A frame was decoded whose samples fit, and the position is after it.

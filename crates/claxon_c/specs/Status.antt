@@ -40,6 +40,9 @@ no_more = 5
 abbrev pub buffer_too_small : ℕ
 buffer_too_small = 6
 
+abbrev pub over_budget : ℕ
+over_budget = 7
+
 -- as much of a text as the capacity allows, and a zero byte
 abbrev pub zero_terminated : List ℕ → ℕ → List ℕ
 zero_terminated text capacity = take (capacity - 1) text ++ 0 ∷ []

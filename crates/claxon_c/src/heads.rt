@@ -1,10 +1,8 @@
 //! The head of a stream.
 ghost use Rattle.std.specs.Prelude.{◌≡◌, IfSome};
-ghost use Rattle.std.specs.Option.{option_map};
 ghost use Rattle.claxon.specs.ReadHead.{found_view};
-ghost use Rattle.claxon.specs.FrameReader.{stream_with};
 ghost use Rattle.claxon.specs.FlacReader.{HasBitDepth};
-ghost use Rattle.claxon_c.specs.Info.{InfoShows, known_stream};
+ghost use Rattle.claxon_c.specs.Info.{InfoShows, known_info};
 ghost use Rattle.claxon_c.specs.HeadCalls.{
   CHeadFaultIsComplete,
   COpenIsComplete,
@@ -17,9 +15,9 @@ ghost use Rattle.claxon_c.specs.HeadCalls.{
 };
 ghost use Rattle.claxon_c.specs.Status.{TextIsReported};
 
-use crate::at_start::head_at_start;
 use crate::status::{OK, report};
 use claxon::metadata::{StreamInfo, VorbisComment};
+use claxon_seek::head_at_start;
 use std::alloc::Global;
 
 /// What the head of a stream says, and where its first frame begins.
@@ -69,10 +67,10 @@ impl ClaxonInfo {
         }
     }
 
-    // What frames need of it. A bit depth out of range says that nothing is known of the stream.
+    // What it says of the stream. A bit depth out of range says that nothing is known of the stream.
     pub(crate) fn known_stream(&self) -> Option<StreamInfo>
         ensures bit_depth { IfSome result (λ info. HasBitDepth info) }
-        ensures stream { option_map stream_with result ≡ known_stream self.now }
+        ensures is_known { result ≡ known_info self.now }
     {
         if self.bits_per_sample < 1 || self.bits_per_sample > 32 {
             return None;
@@ -85,8 +83,12 @@ impl ClaxonInfo {
             sample_rate: self.sample_rate,
             channels: self.channels,
             bits_per_sample: self.bits_per_sample,
-            samples: None,
-            md5sum: [0; 16],
+            samples: if self.samples == 0 {
+                None
+            } else {
+                Some(self.samples)
+            },
+            md5sum: self.md5,
         })
     }
 }

@@ -3,14 +3,15 @@
 //! No call keeps anything: the caller holds the bytes, and the position in them.
 #![tactic(auto)]
 
-mod at_start;
 mod contents;
+mod crc;
 mod heads;
 mod interleave;
 mod md5;
 mod metadata;
 mod next_block;
 mod planar;
+mod seek;
 mod status;
 mod tags;
 mod version;

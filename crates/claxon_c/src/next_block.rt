@@ -1,6 +1,8 @@
 //! Blocks, one after another.
-ghost use Rattle.std.specs.Prelude.{length};
-ghost use Rattle.claxon.specs.FrameReader.{block_view};
+ghost use Rattle.std.specs.Prelude.{IfSome, length};
+ghost use Rattle.std.specs.Option.{option_map};
+ghost use Rattle.claxon.specs.FlacReader.{HasBitDepth};
+ghost use Rattle.claxon.specs.FrameReader.{block_view, stream_with};
 ghost use Rattle.claxon_c.specs.NextBlock.{
   BlockIsKept,
   CBlockElseIoError,
@@ -16,6 +18,7 @@ ghost use Rattle.claxon_c.specs.NextBlock.{
   CSamplesAreInterleaved,
   CSamplesArePlanar,
   CTooSmallIffLarger,
+  LargerBlockAtStart,
   NextBlock,
   PositionIsKept,
   ShowsBlock,
@@ -24,13 +27,14 @@ ghost use Rattle.claxon_c.specs.NextBlock.{
 };
 ghost use Rattle.claxon_c.specs.Status.{TextIsReported};
 
-use crate::at_start::{block_at_start, larger_block_at_start};
 use crate::heads::ClaxonInfo;
 use crate::interleave::put_interleaved;
 use crate::planar::put_planar;
 use crate::status::{BUFFER_TOO_SMALL, NO_MORE, OK, report};
 use claxon::Block;
 use claxon::frame::BlockInfo;
+use claxon::metadata::StreamInfo;
+use claxon_seek::{block_at_start, header_at_start};
 use std::alloc::Global;
 
 /// The properties of a block.
@@ -57,7 +61,7 @@ impl ClaxonBlock {
     }
 
     // As the header of its frame says.
-    fn from_header(info: &BlockInfo) -> ClaxonBlock
+    pub(crate) fn from_header(info: &BlockInfo) -> ClaxonBlock
         ensures { ShowsInfo info.now result }
     {
         ClaxonBlock {
@@ -190,5 +194,28 @@ fn next_block(
         }
         Ok(None) => Err(NO_MORE),
         Err(fault) => Err(report(&fault, error)),
+    }
+}
+
+// What the header says that the bytes begin with, if its block has more samples than this capacity. Else None, also where
+// there is no header.
+fn larger_block_at_start(
+    bytes: &[u8],
+    known: Option<StreamInfo>,
+    capacity: usize,
+) -> Option<BlockInfo>
+    requires { IfSome known (λ info. HasBitDepth info) }
+    ensures { LargerBlockAtStart (option_map stream_with known) capacity bytes.now result }
+{
+    match header_at_start(bytes, known) {
+        Ok(Some(info)) => {
+            if info.channels as usize * info.duration as usize > capacity {
+                Some(info)
+            } else {
+                None
+            }
+        }
+        Ok(None) => None,
+        Err(_) => None,
     }
 }

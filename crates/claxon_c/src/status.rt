@@ -17,6 +17,8 @@ pub(crate) const NO_MORE: u32 = 5;
 
 pub(crate) const BUFFER_TOO_SMALL: u32 = 6;
 
+pub(crate) const OVER_BUDGET: u32 = 7;
+
 // Writes as much of the text as fits, and a zero byte after it.
 pub(crate) fn put_text(text: &str, output: &mut [u8])
     ensures { TextIsPut text.now output.old output.new }

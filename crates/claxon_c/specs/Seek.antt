@@ -1,0 +1,165 @@
+-- What the calls return that find a frame in bytes, or seek to a sample.
+use Rattle.std.specs.Prelude.{
+  ◌≡◌,
+  ◌≢◌,
+  ◌⊎◌,
+  ℕ,
+  ◌+◌,
+  ◌-◌,
+  ◌≤◌,
+  List,
+  drop,
+  length,
+  Option,
+  None,
+  Some,
+}
+use Rattle.claxon.specs.BlockInfos.{BlockInfo}
+use Rattle.claxon_seek.specs.Find.{
+  IsSpent,
+  IsUndecided,
+  NoFrameBetween,
+  NoFrameFrom,
+  NoneWhateverFollows,
+  PassesBudget,
+  WantedFrame,
+  WantedHeader,
+}
+use Rattle.claxon_c.specs.declared.heads.ClaxonInfo.{ClaxonInfo}
+use Rattle.claxon_c.specs.declared.next_block.ClaxonBlock.{ClaxonBlock}
+use Rattle.claxon_c.specs.Info.{known_info}
+use Rattle.claxon_c.specs.NextBlock.{ShowsInfo}
+use Rattle.claxon_c.specs.Status.{no_more, ok, out_of_memory, over_budget}
+
+-- The bytes begin with a frame of the stream, which is shown. Its block has this sample, if one is
+-- asked for.
+pub record ShowsFrame (info : ClaxonInfo) (sample : Option ℕ) (bytes : List ℕ) (shown : ClaxonBlock)
+    : Type 0 where
+  pub said : BlockInfo
+  pub frame : WantedFrame (known_info info) sample bytes said
+  pub shows : ShowsInfo said shown
+
+-- the status says that a search didn't come to its end
+abbrev pub IsGivenUp : ℕ → Type 0
+IsGivenUp status = (status ≡ over_budget) ⊎ (status ≡ out_of_memory)
+
+-- the status is one that a search returns
+abbrev pub IsSearchStatus : ℕ → Type 0
+IsSearchStatus status = (status ≡ ok) ⊎ ((status ≡ no_more) ⊎ IsGivenUp status)
+
+-- The block is changed by `ok` alone.
+abbrev pub FoundBlockIsKept : ℕ → ClaxonBlock → ClaxonBlock → Type 0
+FoundBlockIsKept status old new = status ≢ ok → new ≡ old
+
+-- The position and the budget aren't changed by `out_of_memory`.
+abbrev pub SearchIsKept : ℕ → ℕ → ℕ → ℕ → ℕ → Type 0
+SearchIsKept status from to budget left = status ≡ out_of_memory → (to ≡ from) × (left ≡ budget)
+
+-- The position and the block are changed by `ok` alone.
+abbrev pub SeekIsKept : ℕ → ℕ → ℕ → ClaxonBlock → ClaxonBlock → Type 0
+SeekIsKept status from to old new = status ≢ ok → (to ≡ from) × (new ≡ old)
+
+-- ---- the first frame of the stream
+
+-- `from` is the position before the call.
+module _ (info : ClaxonInfo) (bytes : List ℕ) (from status : ℕ) where
+  -- With `ok` a frame begins at the position, which is moved to the first one.
+  abbrev pub CFoundIsFirst : ℕ → ClaxonBlock → Type 0
+  CFoundIsFirst to shown =
+      status ≡ ok
+      → (from ≤ to) × ShowsFrame info None (drop to bytes) shown
+      × NoFrameBetween (known_info info) None bytes from to
+
+  -- The first one is found, or the status is `over_budget` or `out_of_memory`.
+  abbrev pub CFirstIsFound : ℕ → ClaxonBlock → Type 0
+  CFirstIsFound to shown =
+      (at : ℕ) (said : BlockInfo) → from ≤ at
+      → WantedFrame (known_info info) None (drop at bytes) said
+      → NoFrameBetween (known_info info) None bytes from at
+      → ((status ≡ ok) × (to ≡ at) × ShowsInfo said shown) ⊎ IsGivenUp status
+
+  -- `no_more` says that there is none.
+  abbrev pub CNoMoreIsNone : Type 0
+  CNoMoreIsNone = status ≡ no_more → NoFrameFrom (known_info info) None bytes from
+
+  -- If there is none the status is `no_more`, or `over_budget` or `out_of_memory`.
+  abbrev pub CNoneIsNoMore : Type 0
+  CNoneIsNoMore =
+      NoFrameFrom (known_info info) None bytes from → (status ≡ no_more) ⊎ IsGivenUp status
+
+  -- Then the position is moved to the end, or to where the bytes end within a header or a frame.
+  -- Before it none begins, whatever follows.
+  abbrev pub CUndecidedIsFirst : ℕ → Type 0
+  CUndecidedIsFirst to =
+      status ≡ no_more
+      → (from ≤ to) × NoneWhateverFollows (known_info info) None bytes from to
+      × ((length bytes ≤ to) ⊎ IsUndecided (known_info info) bytes to)
+
+  -- With `over_budget` the headers up to the new position pass the budget, and no frame begins
+  -- before it.
+  abbrev pub CStopsOverBudget : ℕ → ℕ → Type 0
+  CStopsOverBudget to budget =
+      status ≡ over_budget
+      → NoFrameBetween (known_info info) None bytes from to
+      × PassesBudget (known_info info) None bytes from budget to
+
+  -- What is taken from the budget are the samples of the blocks of the headers up to the frame that
+  -- is found, or before the position that is over budget, or of all.
+  pub record CBudgetIsSpent (to budget left : ℕ) : Type 0 where
+    pub found : status ≡ ok → IsSpent (known_info info) None bytes from (to + 1 - from) budget left
+    pub stopped :
+        status ≡ over_budget
+        → IsSpent (known_info info) None bytes from (to - from) budget left
+    pub none :
+        status ≡ no_more
+        → IsSpent (known_info info) None bytes from (length bytes - from) budget left
+
+  -- `out_of_memory` only for a frame whose header is there, and no frame begins before it.
+  abbrev pub CFindOutOfMemoryAfterHeader : Type 0
+  CFindOutOfMemoryAfterHeader =
+      status ≡ out_of_memory
+      → (at : ℕ) × (said : BlockInfo) × (from ≤ at)
+      × WantedHeader (known_info info) None (drop at bytes) said
+      × NoFrameBetween (known_info info) None bytes from at
+
+-- ---- a frame whose block has the sample, from the first frame on
+
+module _ (info : ClaxonInfo) (bytes : List ℕ) (sample status : ℕ) where
+  -- With `ok` such a frame begins at the position, and it is shown.
+  abbrev pub CSeekIsSound : ℕ → ClaxonBlock → Type 0
+  CSeekIsSound to shown =
+      status ≡ ok
+      → (info.first_frame ≤ to) × ShowsFrame info (Some sample) (drop to bytes) shown
+
+  -- If there is one the status is `ok`, or `over_budget` or `out_of_memory`.
+  abbrev pub CSeekIsComplete : Type 0
+  CSeekIsComplete =
+      (at : ℕ) (said : BlockInfo) → info.first_frame ≤ at
+      → WantedFrame (known_info info) (Some sample) (drop at bytes) said
+      → (status ≡ ok) ⊎ IsGivenUp status
+
+  -- `no_more` says that there is none.
+  abbrev pub CSeekNoMoreIsNone : Type 0
+  CSeekNoMoreIsNone =
+      status ≡ no_more → NoFrameFrom (known_info info) (Some sample) bytes info.first_frame
+
+  -- If there is none the status is `no_more`, or `over_budget` or `out_of_memory`.
+  abbrev pub CSeekNoneIsNoMore : Type 0
+  CSeekNoneIsNoMore =
+      NoFrameFrom (known_info info) (Some sample) bytes info.first_frame
+      → (status ≡ no_more) ⊎ IsGivenUp status
+
+  -- `over_budget` only where the headers of such frames pass the budget at a position, and no such
+  -- frame begins before it.
+  abbrev pub CSeekStopsOverBudget : ℕ → Type 0
+  CSeekStopsOverBudget budget =
+      status ≡ over_budget
+      → (at : ℕ) × NoFrameBetween (known_info info) (Some sample) bytes info.first_frame at
+      × PassesBudget (known_info info) (Some sample) bytes info.first_frame budget at
+
+  -- `out_of_memory` only for such a frame whose header is there.
+  abbrev pub CSeekOutOfMemoryAfterHeader : Type 0
+  CSeekOutOfMemoryAfterHeader =
+      status ≡ out_of_memory
+      → (at : ℕ) × (said : BlockInfo) × (info.first_frame ≤ at)
+      × WantedHeader (known_info info) (Some sample) (drop at bytes) said

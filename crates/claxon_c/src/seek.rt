@@ -1,0 +1,112 @@
+//! The next frame in bytes, and a frame whose block has a sample.
+ghost use Rattle.claxon_c.specs.Seek.{
+  CBudgetIsSpent,
+  CFindOutOfMemoryAfterHeader,
+  CFirstIsFound,
+  CFoundIsFirst,
+  CNoMoreIsNone,
+  CNoneIsNoMore,
+  CSeekIsComplete,
+  CSeekIsSound,
+  CSeekNoMoreIsNone,
+  CSeekNoneIsNoMore,
+  CSeekOutOfMemoryAfterHeader,
+  CSeekStopsOverBudget,
+  CStopsOverBudget,
+  CUndecidedIsFirst,
+  FoundBlockIsKept,
+  IsSearchStatus,
+  SearchIsKept,
+  SeekIsKept,
+};
+
+use crate::heads::ClaxonInfo;
+use crate::next_block::ClaxonBlock;
+use crate::status::{NO_MORE, OK, OUT_OF_MEMORY, OVER_BUDGET};
+use claxon_seek::{Search, find_frame, seek};
+use std::alloc::Global;
+
+/// Finds the first frame of the stream from the position on, and moves the position to it. Where there is none, it is moved to
+/// where more bytes can make one.
+#[unsafe(no_mangle)]
+pub extern "C" fn claxon_find_frame(
+    alloc: Global,
+    bytes: &[u8],
+    at: &mut usize,
+    info: &ClaxonInfo,
+    budget: &mut u64,
+    block: &mut ClaxonBlock,
+) -> u32
+    // What it returns, shows and where it stops.
+    ensures found_is_first { CFoundIsFirst info.now bytes.now at.old result at.new block.new }
+    ensures first_is_found { CFirstIsFound info.now bytes.now at.old result at.new block.new }
+    ensures no_more_is_none { CNoMoreIsNone info.now bytes.now at.old result }
+    ensures none_is_no_more { CNoneIsNoMore info.now bytes.now at.old result }
+    ensures undecided_is_first { CUndecidedIsFirst info.now bytes.now at.old result at.new }
+    ensures status_is_known { IsSearchStatus result }
+    // The budget, and memory.
+    ensures stops_over_budget { CStopsOverBudget info.now bytes.now at.old result
+        at.new budget.old }
+    ensures budget_is_spent { CBudgetIsSpent info.now bytes.now at.old result
+        at.new budget.old budget.new }
+    ensures out_of_memory_after_header { CFindOutOfMemoryAfterHeader info.now bytes.now at.old
+        result }
+    // What stays as it was.
+    ensures block_is_kept { FoundBlockIsKept result block.old block.new }
+    ensures search_is_kept { SearchIsKept result at.old at.new budget.old budget.new }
+{
+    let mut left = *budget;
+    let Ok(found) = find_frame(alloc, bytes, *at, info.known_stream(), &mut left) else {
+        return OUT_OF_MEMORY;
+    };
+    *budget = left;
+    match found {
+        Search::Found(frame) => {
+            *at = frame.position;
+            *block = ClaxonBlock::from_header(&frame.block);
+            OK
+        }
+        Search::NotFound(undecided) => {
+            *at = undecided;
+            NO_MORE
+        }
+        Search::OverBudget(position) => {
+            *at = position;
+            OVER_BUDGET
+        }
+    }
+}
+
+/// Finds a frame from the first frame on whose block has the sample, and moves the position to it.
+#[unsafe(no_mangle)]
+pub extern "C" fn claxon_seek(
+    alloc: Global,
+    bytes: &[u8],
+    info: &ClaxonInfo,
+    sample: u64,
+    budget: u64,
+    at: &mut usize,
+    block: &mut ClaxonBlock,
+) -> u32
+    ensures is_sound { CSeekIsSound info.now bytes.now sample result at.new block.new }
+    ensures is_complete { CSeekIsComplete info.now bytes.now sample result }
+    ensures no_more_is_none { CSeekNoMoreIsNone info.now bytes.now sample result }
+    ensures none_is_no_more { CSeekNoneIsNoMore info.now bytes.now sample result }
+    ensures status_is_known { IsSearchStatus result }
+    ensures stops_over_budget { CSeekStopsOverBudget info.now bytes.now sample result budget }
+    ensures out_of_memory_after_header { CSeekOutOfMemoryAfterHeader info.now bytes.now sample
+        result }
+    ensures is_kept { SeekIsKept result at.old at.new block.old block.new }
+{
+    let known = info.known_stream();
+    match seek(alloc, bytes, known, info.first_frame, sample, budget) {
+        Ok(Search::Found(found)) => {
+            *at = found.position;
+            *block = ClaxonBlock::from_header(&found.block);
+            OK
+        }
+        Ok(Search::NotFound(_)) => NO_MORE,
+        Ok(Search::OverBudget(_)) => OVER_BUDGET,
+        Err(_) => OUT_OF_MEMORY,
+    }
+}
