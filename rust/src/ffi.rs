@@ -13,6 +13,7 @@ pub const INPUT_ENDS: u32 = 3;
 pub const OUT_OF_MEMORY: u32 = 4;
 pub const NO_MORE: u32 = 5;
 pub const BUFFER_TOO_SMALL: u32 = 6;
+pub const OVER_BUDGET: u32 = 7;
 
 /// The version of the interface that is declared here.
 #[cfg(test)]
@@ -115,6 +116,15 @@ extern "C" {
         error: *mut u8,
         error_size: usize,
     ) -> u32;
+    fn claxon_find_frame(
+        bytes: *const u8,
+        length: usize,
+        at: *mut usize,
+        info: *const Info,
+        budget: *mut u64,
+        block: *mut Block,
+    ) -> u32;
+    fn claxon_crc16(crc: u16, bytes: *const u8, length: usize) -> u16;
     fn claxon_md5_start(md5: *mut Md5);
     fn claxon_md5_samples(md5: *mut Md5, samples: *const i32, count: usize, bits_per_sample: u32) -> u32;
     fn claxon_md5_finish(md5: *const Md5, sum: *mut [u8; 16]);
@@ -214,6 +224,35 @@ pub fn next_block(bytes: &[u8], info: &Info, samples: &mut [i32]) -> NextBlock {
     }
 }
 
+/// What a search for a frame of the stream finds in bytes.
+pub enum Search {
+    Frame(usize),
+    /// The header of a block of more samples than the budget has left. No frame begins before it.
+    Header(usize),
+    /// Neither. More bytes can make a frame from this position on.
+    Nothing(usize),
+    Failed(Failure),
+}
+
+/// Searches for the first frame. The blocks whose headers are found on the way have no more samples than the budget.
+pub fn find_frame(bytes: &[u8], info: &Info, mut budget: u64) -> Search {
+    let (mut at, mut block) = (0, Block::default());
+    // SAFETY: as the module says.
+    let status = unsafe { claxon_find_frame(bytes.as_ptr(), bytes.len(), &mut at, info, &mut budget, &mut block) };
+    match status {
+        OK => Search::Frame(at),
+        OVER_BUDGET => Search::Header(at),
+        NO_MORE => Search::Nothing(at),
+        _ => Search::Failed(Failure { status, text: NO_TEXT }),
+    }
+}
+
+/// The CRC of a frame after these bytes, from what it was before them.
+pub fn crc16(crc: u16, bytes: &[u8]) -> u16 {
+    // SAFETY: as the module says.
+    unsafe { claxon_crc16(crc, bytes.as_ptr(), bytes.len()) }
+}
+
 impl Md5 {
     /// A sum of no samples yet.
     pub fn start() -> Md5 {
@@ -259,8 +298,11 @@ mod tests {
     fn the_header_has_the_numbers_that_are_declared_here() {
         assert_eq!(number_in_header("#define CLAXON_VERSION "), VERSION as usize);
         assert_eq!(number_in_header("#define CLAXON_MAX_FRAME_BYTES "), MAX_FRAME_BYTES);
-        let names = ["OK", "FORMAT_ERROR", "UNSUPPORTED", "INPUT_ENDS", "OUT_OF_MEMORY", "NO_MORE", "BUFFER_TOO_SMALL"];
-        let numbers = [OK, FORMAT_ERROR, UNSUPPORTED, INPUT_ENDS, OUT_OF_MEMORY, NO_MORE, BUFFER_TOO_SMALL];
+        let names = ["OK", "FORMAT_ERROR", "UNSUPPORTED", "INPUT_ENDS", "OUT_OF_MEMORY", "NO_MORE"];
+        let numbers = [OK, FORMAT_ERROR, UNSUPPORTED, INPUT_ENDS, OUT_OF_MEMORY, NO_MORE];
+        assert_eq!(names.map(|name| number_in_header(&format!(" CLAXON_{name} = ")) as u32), numbers);
+        let names = ["BUFFER_TOO_SMALL", "OVER_BUDGET"];
+        let numbers = [BUFFER_TOO_SMALL, OVER_BUDGET];
         assert_eq!(names.map(|name| number_in_header(&format!(" CLAXON_{name} = ")) as u32), numbers);
     }
 }

@@ -126,8 +126,8 @@ pub struct FrameReader<R: ReadBytes> {
     info: Info,
 }
 
-// A frame is tried after each of so many reads, so that it doesn't wait for bytes after it.
-const TRIES_AT_ONCE: u32 = 16;
+// Where so many bytes and samples were tried in vain, frames aren't tried for their CRC any more.
+const MAX_WASTED: u64 = 2 * MAX_FRAME_BYTES as u64;
 
 // The 14 bits of a sync code, before two that tell more of the frame, and which bits they are.
 const SYNC_CODE: u16 = 0xfff8;
@@ -136,6 +136,7 @@ const SYNC_CODE_BITS: u16 = 0xfffc;
 // Why no more bytes are buffered.
 enum Stop {
     EndOfInput,
+    NotReady(io::Error),
     Failed(io::Error),
     TooLong,
 }
@@ -165,14 +166,23 @@ impl<R: ReadBytes> FrameReader<R> {
     /// had to be read to see that; it doesn't search for the next frame. `IoError` where the reader fails, or its bytes
     /// end within the frame. Where it fails the bytes before are kept, and the next call begins with the same frame.
     pub fn read_next_or_eof(&mut self, mut buffer: Vec<i32>) -> FrameResult {
-        let (mut tries, mut stop) = (0, None);
+        if let Some(decoded) = self.input.take_decoded() {
+            self.input.consume(decoded.length);
+            return Ok(Some(Block::new(decoded.block, decoded.samples)));
+        }
+        let mut is_tried = false;
         loop {
+            let stop = self.buffer_frame(is_tried);
+            if let Some(Stop::NotReady(error)) = stop {
+                return Err(Error::IoError(error));
+            }
             if self.lacks_sync_code() {
                 self.input.consume(2);
                 return format_error("frame sync code missing");
             }
             match self.try_block(&mut buffer) {
                 Err(failure) if is_cut(&failure) => {
+                    self.note_try(buffer.len());
                     if let Some(stop) = stop {
                         return self.stopped(stop, failure.status);
                     }
@@ -182,8 +192,7 @@ impl<R: ReadBytes> FrameReader<R> {
                     return self.finished(tried, buffer);
                 }
             }
-            tries += 1;
-            stop = self.buffer_more(tries);
+            is_tried = true;
         }
     }
 
@@ -222,30 +231,67 @@ impl<R: ReadBytes> FrameReader<R> {
         }
     }
 
-    // Buffers bytes until the frame is worth another try. After some tries that is where an eighth more bytes are
-    // there: so a reader that gives a byte at a time costs a multiple of the frame's length, and not its square.
-    fn buffer_more(&mut self, tries: u32) -> Option<Stop> {
-        let tried = self.input.buffered().len();
-        loop {
-            if self.input.buffered().len() >= MAX_FRAME_BYTES {
+    // Buffers bytes until the frame is worth a try: more, where those that are buffered were tried.
+    fn buffer_frame(&mut self, is_tried: bool) -> Option<Stop> {
+        let mut needs_more = is_tried;
+        while needs_more || !self.is_worth_a_try() {
+            if self.bytes().len() == MAX_FRAME_BYTES {
                 return Some(Stop::TooLong);
             }
             match self.input.fill(FRAME_CAPACITY) {
                 Ok(0) => return Some(Stop::EndOfInput),
-                Ok(_) => {}
+                Ok(_) => needs_more = false,
+                Err(error) if error.kind() == io::ErrorKind::WouldBlock => return Some(Stop::NotReady(error)),
                 Err(error) => return Some(Stop::Failed(error)),
             }
-            if tries <= TRIES_AT_ONCE || self.input.buffered().len() - tried >= tried / 8 {
-                return None;
-            }
         }
+        None
+    }
+
+    // Each try begins anew. So that the time is linear, the bytes are doubled between two of them, but where they seem to
+    // have a footer. Where very many of such tries led to no block, as in a stream that is made for it, no more are made.
+    fn is_worth_a_try(&mut self) -> bool {
+        let (held, tried) = (self.bytes().len(), self.input.tried());
+        if held < 2 || held == tried.bytes {
+            return false;
+        }
+        held >= 2 * tried.bytes || (tried.wasted <= MAX_WASTED && self.has_footer())
+    }
+
+    // Whether the frame may end in the bytes that weren't tried: behind its footer the CRC of all its bytes is 0, and by
+    // chance at one place of 65,536.
+    fn has_footer(&mut self) -> bool {
+        let mut tried = self.input.tried();
+        let bytes = self.bytes();
+        if tried.summed < tried.bytes {
+            tried.crc = ffi::crc16(tried.crc, &bytes[tried.summed..tried.bytes]);
+            tried.summed = tried.bytes;
+        }
+        let mut is_found = false;
+        while !is_found && tried.summed < bytes.len() {
+            tried.crc = ffi::crc16(tried.crc, &bytes[tried.summed..tried.summed + 1]);
+            tried.summed += 1;
+            is_found = tried.crc == 0;
+        }
+        self.input.note(tried);
+        is_found
+    }
+
+    // Notes that the bytes aren't a whole frame. A try for their CRC was in vain.
+    fn note_try(&mut self, samples: usize) {
+        let (held, mut tried) = (self.bytes().len(), self.input.tried());
+        if held < 2 * tried.bytes {
+            tried.wasted += (held + samples) as u64;
+        }
+        tried.bytes = held;
+        self.input.note(tried);
     }
 
     // What stopped the last read is for the next call, where this one didn't need it.
     fn put_back(&mut self, stop: Option<Stop>) {
         match stop {
             Some(Stop::EndOfInput) => self.input.put_back(Ok(0)),
-            Some(Stop::Failed(error)) => self.input.put_back(Err(error)),
+            Some(Stop::Failed(error) | Stop::NotReady(error)) => self.input.put_back(Err(error)),
             Some(Stop::TooLong) | None => {}
         }
     }
@@ -299,7 +345,7 @@ impl<R: ReadBytes> FrameReader<R> {
 }
 
 // Whether the bytes ended before the frame did.
-fn is_cut(failure: &Failure) -> bool {
+pub(crate) fn is_cut(failure: &Failure) -> bool {
     failure.status == ffi::INPUT_ENDS || failure.status == ffi::NO_MORE
 }
 

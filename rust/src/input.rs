@@ -1,7 +1,7 @@
 //! Readers of bytes.
 use crate::error::end_of_input;
-use crate::source::{Source, METADATA_CAPACITY};
-use std::io;
+use crate::source::{Decoded, Source, Tried, FRAME_CAPACITY, METADATA_CAPACITY};
+use std::io::{self, SeekFrom};
 
 /// A reader with a buffer, for any `io::Read`.
 ///
@@ -15,12 +15,35 @@ pub struct BufferedReader<R: io::Read> {
     end: usize,
     // What the next `fill` returns in place of a read.
     put_back: Option<io::Result<usize>>,
+    tried: Tried,
+    // The position of the next byte that is read, from where the wrapped reader stood at first.
+    next: u64,
+    // Where it stood, once it is asked, and how it goes to another position.
+    began: Option<(u64, SeekCall<R>)>,
+    // Whether it stands elsewhere than at `next`.
+    is_moved: bool,
+    // The frame that the buffered bytes begin with, where it was decoded already.
+    decoded: Option<Decoded>,
 }
+
+// As a read has no bound that the reader can seek.
+type SeekCall<R> = fn(&mut R, SeekFrom) -> io::Result<u64>;
 
 impl<R: io::Read> BufferedReader<R> {
     /// Wraps a reader.
     pub fn new(inner: R) -> BufferedReader<R> {
-        BufferedReader { inner, buffer: Vec::new(), start: 0, end: 0, put_back: None }
+        BufferedReader {
+            inner,
+            buffer: Vec::new(),
+            start: 0,
+            end: 0,
+            put_back: None,
+            tried: Tried::default(),
+            next: 0,
+            began: None,
+            is_moved: false,
+            decoded: None,
+        }
     }
 
     /// The wrapped reader. Buffered bytes are lost.
@@ -42,6 +65,65 @@ impl<R: io::Read> BufferedReader<R> {
             self.buffer.resize(2 * self.end, 0);
         }
     }
+
+    // Reads once, as many bytes at most.
+    fn read(&mut self, most: usize) -> io::Result<usize> {
+        if let (true, Some((began, seek))) = (self.is_moved, self.began) {
+            seek(&mut self.inner, SeekFrom::Start(began + self.next))?;
+            self.is_moved = false;
+        }
+        let free = self.buffer.len() - self.end;
+        let free = &mut self.buffer[self.end..][..free.min(most)];
+        let count = self.inner.read(free)?;
+        assert!(count <= free.len(), "a reader that says it read more than it can have read");
+        self.end += count;
+        self.next += count as u64;
+        Ok(count)
+    }
+
+    /// The position of the next byte, from where the wrapped reader stood at first.
+    pub(crate) fn position(&self) -> u64 {
+        self.next - (self.end - self.start) as u64
+    }
+
+    /// Reads once, as many bytes at most, into a buffer for frames.
+    pub(crate) fn fill_some(&mut self, most: usize) -> io::Result<usize> {
+        self.make_space(FRAME_CAPACITY);
+        self.read(most)
+    }
+
+    /// Goes to this position: one that was read and is buffered, or any one after `length` was called. The wrapped
+    /// reader is moved when the next byte is read.
+    pub(crate) fn go_to(&mut self, position: u64) {
+        let buffered = self.next - self.end as u64..=self.next;
+        if buffered.contains(&position) {
+            self.start = (position - buffered.start()) as usize;
+        } else {
+            (self.start, self.end, self.next) = (0, 0, position);
+            self.is_moved = true;
+        }
+        self.put_back = None;
+        self.tried = Tried::default();
+        self.decoded = None;
+    }
+
+    /// Keeps the frame that the buffered bytes begin with.
+    pub(crate) fn keep(&mut self, decoded: Decoded) {
+        self.decoded = Some(decoded);
+    }
+}
+
+impl<R: io::Read + io::Seek> BufferedReader<R> {
+    /// The number of bytes from where the wrapped reader stood at first.
+    pub(crate) fn length(&mut self) -> io::Result<u64> {
+        let began = match self.began {
+            Some((began, _)) => began,
+            None => self.inner.stream_position()?.checked_sub(self.next).ok_or(io::ErrorKind::InvalidInput)?,
+        };
+        self.began = Some((began, R::seek));
+        self.is_moved = true;
+        Ok(self.inner.seek(SeekFrom::End(0))?.saturating_sub(began))
+    }
 }
 
 impl<R: io::Read> Source for BufferedReader<R> {
@@ -52,6 +134,8 @@ impl<R: io::Read> Source for BufferedReader<R> {
     fn consume(&mut self, count: usize) {
         assert!(count <= self.end - self.start);
         self.start += count;
+        self.tried.consume(count);
+        self.decoded = None;
     }
 
     fn fill(&mut self, capacity: usize) -> io::Result<usize> {
@@ -59,15 +143,23 @@ impl<R: io::Read> Source for BufferedReader<R> {
             return read;
         }
         self.make_space(capacity);
-        let free = &mut self.buffer[self.end..];
-        let count = self.inner.read(free)?;
-        assert!(count <= free.len(), "a reader that says it read more than it can have read");
-        self.end += count;
-        Ok(count)
+        self.read(usize::MAX)
     }
 
     fn put_back(&mut self, read: io::Result<usize>) {
         self.put_back = Some(read);
+    }
+
+    fn take_decoded(&mut self) -> Option<Decoded> {
+        self.decoded.take()
+    }
+
+    fn tried(&self) -> Tried {
+        self.tried
+    }
+
+    fn note(&mut self, tried: Tried) {
+        self.tried = tried;
     }
 }
 
@@ -170,6 +262,18 @@ impl<R: ReadBytes> Source for &mut R {
     fn put_back(&mut self, read: io::Result<usize>) {
         (**self).put_back(read)
     }
+
+    fn take_decoded(&mut self) -> Option<Decoded> {
+        (**self).take_decoded()
+    }
+
+    fn tried(&self) -> Tried {
+        (**self).tried()
+    }
+
+    fn note(&mut self, tried: Tried) {
+        (**self).note(tried)
+    }
 }
 
 impl<R: ReadBytes> ReadBytes for &mut R {
@@ -200,6 +304,16 @@ impl<T: AsRef<[u8]>> Source for io::Cursor<T> {
     }
 
     fn put_back(&mut self, _: io::Result<usize>) {}
+
+    fn take_decoded(&mut self) -> Option<Decoded> {
+        None
+    }
+
+    fn tried(&self) -> Tried {
+        Tried::default()
+    }
+
+    fn note(&mut self, _: Tried) {}
 }
 
 impl<T: AsRef<[u8]>> ReadBytes for io::Cursor<T> {

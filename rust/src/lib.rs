@@ -63,6 +63,7 @@ pub mod input;
 mod md5;
 pub mod metadata;
 mod samples;
+mod seek;
 mod source;
 
 pub use error::{Error, Result};
@@ -78,7 +79,7 @@ use frame::FrameReader;
 use input::BufferedReader;
 use metadata::{GetTag, StreamInfo, Tags, VorbisComment};
 use std::fs::File;
-use std::io::Read;
+use std::io::{Read, Seek};
 use std::path::Path;
 
 /// Which metadata a [`FlacReader`] reads when it is made.
@@ -110,6 +111,7 @@ pub struct FlacReader<R: Read> {
     vorbis_comment: Option<VorbisComment>,
     metadata_only: bool,
     input: BufferedReader<R>,
+    first_frame: u64,
 }
 
 impl<R: Read> FlacReader<R> {
@@ -134,7 +136,8 @@ impl<R: Read> FlacReader<R> {
     pub fn new_ext(reader: R, options: FlacReaderOptions) -> Result<FlacReader<R>> {
         let mut input = BufferedReader::new(reader);
         let (streaminfo, vorbis_comment) = head::read_head(&mut input, options)?;
-        Ok(FlacReader { streaminfo, vorbis_comment, metadata_only: options.metadata_only, input })
+        let first_frame = input.position();
+        Ok(FlacReader { streaminfo, vorbis_comment, metadata_only: options.metadata_only, input, first_frame })
     }
 
     /// What the streaminfo block says.
@@ -192,6 +195,52 @@ impl<R: Read> FlacReader<R> {
     /// The wrapped reader. Buffered bytes are lost.
     pub fn into_inner(self) -> R {
         self.input.into_inner()
+    }
+}
+
+impl<R: Read + Seek> FlacReader<R> {
+    /// Goes to a frame whose block has this sample of each channel, of which the first is 0. The next block of
+    /// [`FlacReader::blocks`] is that one.
+    ///
+    /// It returns how many samples of the block come before the one that is sought: those are the caller's to pass. It
+    /// returns `None` where no block has the sample. The frame is found by the times that frames have, in few reads; a
+    /// seek table isn't looked at. Where the stream is damaged or hasn't the sample, all its bytes are searched. Where
+    /// very many headers with the sample have led to no frame, as only in a stream that is made for it, some are passed
+    /// without a try.
+    ///
+    /// After `None` or an error the reader goes on where it stood before.
+    ///
+    /// # Errors
+    ///
+    /// An `IoError` where the reader fails to read or to seek.
+    ///
+    /// # Panics
+    ///
+    /// Where the reader was made with `metadata_only`.
+    pub fn seek(&mut self, sample: u64) -> Result<Option<u32>> {
+        assert!(!self.metadata_only, "a reader that was made with metadata_only has no seek()");
+        let position = self.input.position();
+        let found = seek::seek(&mut self.input, &self.streaminfo, self.first_frame, sample);
+        if !matches!(found, Ok(Some(_))) {
+            self.input.go_to(position);
+        }
+        found
+    }
+
+    /// As [`FlacReader::samples`], from this sample of each channel on. `None` where no block has it.
+    ///
+    /// # Errors
+    ///
+    /// Those of [`FlacReader::seek`].
+    ///
+    /// # Panics
+    ///
+    /// Where the reader was made with `metadata_only`.
+    pub fn samples_from(&mut self, sample: u64) -> Result<Option<FlacSamples<&mut BufferedReader<R>>>> {
+        let Some(before) = self.seek(sample)? else { return Ok(None) };
+        let mut samples = self.samples();
+        samples.pass(before)?;
+        Ok(Some(samples))
     }
 }
 

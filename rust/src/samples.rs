@@ -21,6 +21,13 @@ impl<R: ReadBytes> FlacSamples<R> {
         FlacSamples { frame_reader, block: Block::empty(), sample: 0, channel: 0, has_failed: false }
     }
 
+    /// Reads the next block, and passes over as many of its samples of each channel.
+    pub(crate) fn pass(&mut self, count: u32) -> Result<()> {
+        self.read_block()?;
+        self.sample = count;
+        Ok(())
+    }
+
     // Whether there is a next block.
     fn read_block(&mut self) -> Result<bool> {
         (self.sample, self.channel) = (0, 0);

@@ -3,7 +3,6 @@ mod common;
 
 use claxon::frame::FrameReader;
 use claxon::input::{BufferedReader, ReadBytes};
-use claxon::metadata::MetadataBlockReader;
 use claxon::{Error, FlacReader};
 use common::*;
 use std::cell::Cell;
@@ -139,18 +138,6 @@ fn a_reader_that_pauses() {
     assert_eq!(samples.map(Result::unwrap).collect::<Vec<_>>(), [3, -2, 10, 11, 11, 9]);
 }
 
-// The place of the first frame, and where each frame ends.
-fn frame_ends(stream: &[u8]) -> Vec<usize> {
-    let mut input = Cursor::new(stream);
-    input.skip(4).unwrap();
-    assert!(MetadataBlockReader::new(&mut input).all(|block| block.is_ok()));
-    let mut ends = vec![input.position() as usize];
-    while FrameReader::new(&mut input).read_next_or_eof(Vec::new()).unwrap().is_some() {
-        ends.push(input.position() as usize);
-    }
-    ends
-}
-
 /// A block is returned as soon as the frame's last byte was read: no byte after it is waited for. Frames that are some KB
 /// long are given in a few pieces, the last of which is short.
 #[test]
@@ -174,15 +161,14 @@ fn no_frame_is_delayed() {
     }
 }
 
-/// That holds for up to 16 reads, of which the last can give little. After more reads up to an eighth of the frame is read
-/// after it.
+/// That holds for any number of reads, of which the last can give little.
 #[test]
 fn a_frame_in_many_reads() {
     let stream = bytes_of("quiet_noise.flac");
     let ends = frame_ends(&stream);
     let (head, frame, rest) = (&stream[..ends[0]], &stream[ends[0]..ends[1]], &stream[ends[1]..]);
     let first = frame.len() - 15;
-    for (piece, most) in [(first, 0), (1, frame.len() / 8 + 1)] {
+    for piece in [first, 1000, 7, 1] {
         let (front, back) = frame.split_at(first);
         let pieces = [head]
             .into_iter()
@@ -191,8 +177,7 @@ fn a_frame_in_many_reads() {
         let input = Steps::new(pieces.map(|piece| Step::Gives(piece.to_vec())).collect());
         let reads = input.reads.clone();
         assert!(FlacReader::new(input).unwrap().blocks().read_next_or_eof(Vec::new()).unwrap().is_some());
-        let least = 1 + first.div_ceil(piece) + back.len();
-        assert!((least..=least + most).contains(&reads.get()), "{} reads, by {piece}", reads.get());
+        assert_eq!(reads.get(), 1 + first.div_ceil(piece) + back.len(), "by {piece}");
     }
 }
 
@@ -264,7 +249,7 @@ fn long_zeros_in_memory() {
 }
 
 /// A frame of 400,000 bytes, which doesn't fit into the first buffer: two channels of 24 bits, 65,535 samples, verbatim, as
-/// they are. Byte by byte it is tried some 100 times, and not after each byte, which would take minutes.
+/// they are. Byte by byte it is tried some 20 times, and not after each byte, which would take minutes.
 #[test]
 fn a_frame_larger_than_the_first_buffer() {
     let start = Instant::now();
@@ -284,17 +269,6 @@ fn a_frame_larger_than_the_first_buffer() {
         assert!(samples == expected, "by {piece}");
     }
     assert!(start.elapsed().as_secs() < 30);
-}
-
-// Of RFC 9639, sections 9.1.8 and 9.3.
-fn crc8(bytes: &[u8]) -> u8 {
-    let step = |crc: u8| if crc & 0x80 != 0 { crc << 1 ^ 0x07 } else { crc << 1 };
-    bytes.iter().fold(0, |crc, byte| (0..8).fold(crc ^ byte, |crc, _| step(crc)))
-}
-
-fn crc16(bytes: &[u8]) -> u16 {
-    let step = |crc: u16| if crc & 0x8000 != 0 { crc << 1 ^ 0x8005 } else { crc << 1 };
-    bytes.iter().fold(0, |crc, byte| (0..8).fold(crc ^ u16::from(*byte) << 8, |crc, _| step(crc)))
 }
 
 /// After a fault the next call continues where it showed.

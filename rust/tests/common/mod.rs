@@ -1,11 +1,13 @@
 //! What the tests share: stored cases, readers that give little or fail, and results as text.
 #![allow(dead_code)]
-use claxon::metadata::StreamInfo;
+use claxon::frame::FrameReader;
+use claxon::input::ReadBytes;
+use claxon::metadata::{MetadataBlockReader, StreamInfo};
 use claxon::{Error, FlacReader, FlacReaderOptions, Result};
 use std::cell::Cell;
 use std::fmt::Write as _;
 use std::fs;
-use std::io::{self, Read};
+use std::io::{self, Cursor, Read};
 use std::path::{Path, PathBuf};
 use std::rc::Rc;
 
@@ -167,6 +169,29 @@ fn add_blocks<R: Read>(reader: R, found: &mut Vec<i32>) -> Result<()> {
         buffer = block.into_buffer();
     }
     Ok(())
+}
+
+/// Of RFC 9639, sections 9.1.8 and 9.3.
+pub fn crc8(bytes: &[u8]) -> u8 {
+    let step = |crc: u8| if crc & 0x80 != 0 { crc << 1 ^ 0x07 } else { crc << 1 };
+    bytes.iter().fold(0, |crc, byte| (0..8).fold(crc ^ byte, |crc, _| step(crc)))
+}
+
+pub fn crc16(bytes: &[u8]) -> u16 {
+    let step = |crc: u16| if crc & 0x8000 != 0 { crc << 1 ^ 0x8005 } else { crc << 1 };
+    bytes.iter().fold(0, |crc, byte| (0..8).fold(crc ^ u16::from(*byte) << 8, |crc, _| step(crc)))
+}
+
+/// The place of the first frame, and where each frame ends.
+pub fn frame_ends(stream: &[u8]) -> Vec<usize> {
+    let mut input = Cursor::new(stream);
+    input.skip(4).unwrap();
+    assert!(MetadataBlockReader::new(&mut input).all(|block| block.is_ok()));
+    let mut ends = vec![input.position() as usize];
+    while let Ok(Some(_)) = FrameReader::new(&mut input).read_next_or_eof(Vec::new()) {
+        ends.push(input.position() as usize);
+    }
+    ends
 }
 
 /// Gives at most as many bytes a read.

@@ -1,0 +1,209 @@
+//! Sources that send bytes as they come: each block is returned when its last byte was read.
+mod common;
+
+use claxon::{Error, FlacReader};
+use common::*;
+use std::cell::Cell;
+use std::io::{self, Read, Write};
+use std::os::unix::net::UnixStream;
+use std::sync::mpsc::{channel, Receiver};
+use std::thread;
+use std::time::{Duration, Instant};
+
+const FRAMES: usize = 149;
+const TIMEOUT: Duration = Duration::from_secs(60);
+
+/// A stream, where its frames end, and the samples of each, one channel after another.
+struct Stream {
+    bytes: Vec<u8>,
+    ends: Vec<usize>,
+    samples: Vec<Vec<i32>>,
+}
+
+impl Stream {
+    fn frames_within(&self, end: usize) -> usize {
+        self.ends.iter().filter(|place| **place <= end).count()
+    }
+
+    /// Its first frames alone.
+    fn first(&self, count: usize) -> Stream {
+        Stream {
+            bytes: self.bytes[..self.ends[count - 1]].to_vec(),
+            ends: self.ends[..count].to_vec(),
+            samples: self.samples[..count].to_vec(),
+        }
+    }
+}
+
+/// The frame with this number, of samples of 8 bits: each channel is verbatim, or constant.
+fn frame(number: usize, channels: &[Vec<u8>]) -> Vec<u8> {
+    let mut frame = vec![0xff, 0xf8, 0x79, (channels.len() as u8 - 1) << 4];
+    match number {
+        0..=0x7f => frame.push(number as u8),
+        _ => frame.extend([0xc0 | (number >> 6) as u8, 0x80 | (number & 0x3f) as u8]),
+    }
+    frame.extend_from_slice(&(channels[0].len() as u16 - 1).to_be_bytes());
+    frame.push(crc8(&frame));
+    for channel in channels {
+        if channel.iter().all(|sample| *sample == channel[0]) {
+            frame.extend([0, channel[0]]);
+        } else {
+            frame.push(2);
+            frame.extend_from_slice(channel);
+        }
+    }
+    frame.extend_from_slice(&crc16(&frame).to_be_bytes());
+    frame
+}
+
+/// 149 frames of 4096 samples that look random, of one to three channels. Each tenth is constant.
+fn stream() -> Stream {
+    let mut stream = Stream { bytes: bytes(HEAD), ends: Vec::new(), samples: Vec::new() };
+    let mut state = 1_u64;
+    let mut noise = || {
+        state = state.wrapping_mul(6_364_136_223_846_793_005).wrapping_add(1_442_695_040_888_963_407);
+        (state >> 56) as u8
+    };
+    for number in 0..FRAMES {
+        let channels: Vec<Vec<u8>> = (0..1 + number % 3)
+            .map(|_| if number % 10 == 9 { vec![noise(); 4096] } else { (0..4096).map(|_| noise()).collect() })
+            .collect();
+        stream.bytes.extend(frame(number, &channels));
+        stream.ends.push(stream.bytes.len());
+        stream.samples.push(channels.concat().into_iter().map(|sample| i32::from(sample as i8)).collect());
+    }
+    stream
+}
+
+/// Gives pieces of this length, and would wait for ever where a block is to be returned before.
+struct Limited<'a> {
+    bytes: &'a [u8],
+    at: usize,
+    piece: usize,
+    limit: &'a Cell<usize>,
+}
+
+impl Read for Limited<'_> {
+    fn read(&mut self, buffer: &mut [u8]) -> io::Result<usize> {
+        assert!(self.at < self.limit.get(), "a read before a block is returned");
+        let count = (&self.bytes[self.at..]).read(buffer)?.min(self.piece);
+        self.at += count;
+        Ok(count)
+    }
+}
+
+/// No byte is read while a block can be returned of those that were read.
+#[test]
+fn pieces_of_any_size() {
+    let made = stream();
+    let few = made.first(12);
+    let mut streams =
+        vec![(made.bytes, made.ends, vec![1460, 4096, usize::MAX]), (few.bytes, few.ends, vec![1, 2, 7, 100])];
+    for name in ["quiet_noise.flac", "eight_bits.flac", "wasted_bits_of_24.flac", "escapes_of_a_real_encoder.flac"] {
+        let bytes = bytes_of(name);
+        let ends = frame_ends(&bytes)[1..].to_vec();
+        assert!(ends.len() > 1, "{name}");
+        streams.push((bytes, ends, vec![1, 7, 1460]));
+    }
+    for (bytes, ends, pieces) in streams {
+        for piece in pieces {
+            let limit = Cell::new(ends[0]);
+            let mut flac = FlacReader::new(Limited { bytes: &bytes, at: 0, piece, limit: &limit }).unwrap();
+            for end in &ends {
+                limit.set(*end);
+                assert!(flac.blocks().read_next_or_eof(Vec::new()).unwrap().is_some());
+            }
+        }
+    }
+}
+
+/// Sends the stream in pieces, and waits for each block before it goes on.
+fn send(stream: &Stream, piece: usize, mut socket: UnixStream, given: Receiver<()>) {
+    let (mut at, mut count) = (0, 0);
+    for bytes in stream.bytes.chunks(piece) {
+        socket.write_all(bytes).unwrap();
+        at += bytes.len();
+        while count < stream.frames_within(at) {
+            given.recv_timeout(TIMEOUT).expect("a block is held back");
+            count += 1;
+        }
+    }
+}
+
+#[test]
+fn a_writer_that_waits_for_each_block() {
+    let made = stream();
+    let few = made.first(20);
+    for (stream, piece) in [(&made, 1460), (&few, 1)] {
+        let (near, far) = UnixStream::pair().unwrap();
+        far.set_read_timeout(Some(TIMEOUT)).unwrap();
+        let (give, given) = channel();
+        thread::scope(|scope| {
+            scope.spawn(|| send(stream, piece, near, given));
+            let mut flac = FlacReader::new(far).unwrap();
+            let (mut blocks, mut count) = (flac.blocks(), 0);
+            while let Some(block) = blocks.read_next_or_eof(Vec::new()).unwrap() {
+                assert!(block.into_buffer() == stream.samples[count]);
+                count += 1;
+                give.send(()).unwrap();
+            }
+            assert_eq!(count, stream.ends.len());
+        });
+    }
+}
+
+/// Gives a byte, and says that none is there: an event loop calls again when one is.
+struct NotReady<'a> {
+    bytes: &'a [u8],
+    is_ready: bool,
+}
+
+impl Read for NotReady<'_> {
+    fn read(&mut self, buffer: &mut [u8]) -> io::Result<usize> {
+        self.is_ready = !self.is_ready;
+        if !self.is_ready && !self.bytes.is_empty() {
+            return Err(io::ErrorKind::WouldBlock.into());
+        }
+        let count = buffer.len().min(1);
+        self.bytes.read(&mut buffer[..count])
+    }
+}
+
+/// In an event loop no byte is lost, no block comes late, and the time is linear in the length of a frame: this one has
+/// 200,000 bytes, which would take minutes if each call began anew.
+#[test]
+fn an_event_loop() {
+    let start = Instant::now();
+    let channels: Vec<Vec<u8>> =
+        (0..3_u32).map(|ch| (0..65535_u32).map(|at| ((at * at) >> ch) as u8).collect()).collect();
+    let frame = frame(0, &channels);
+    let (head, mut pauses) = (bytes(HEAD), 0);
+    let mut flac = FlacReader::new(head.chain(NotReady { bytes: &frame, is_ready: false })).unwrap();
+    let block = loop {
+        match flac.blocks().read_next_or_eof(Vec::new()) {
+            Ok(block) => break block.unwrap(),
+            Err(Error::IoError(error)) if error.kind() == io::ErrorKind::WouldBlock => pauses += 1,
+            Err(error) => panic!("{error}"),
+        }
+    };
+    assert_eq!(pauses, frame.len() - 1);
+    assert!(block.channel(2).iter().zip(&channels[2]).all(|(sample, byte)| *sample == i32::from(*byte as i8)));
+    assert!(start.elapsed().as_secs() < 30);
+}
+
+/// Where the CRC is 0 at each byte, few of them are tried.
+#[test]
+fn footers_everywhere() {
+    let start = Instant::now();
+    let mut frame = frame(0, &[(0..65535_u32).map(|at| u8::from(at == 0)).collect()]);
+    let crc = crc16(&frame[..9]).to_be_bytes();
+    let end = frame.len() - 2;
+    frame[9..11].copy_from_slice(&crc);
+    frame[end..].fill(0);
+    assert_eq!(crc16(&frame), 0);
+    let (head, frames) = (bytes(HEAD), frame.repeat(20));
+    let (samples, result) = decode(Pieces(head.chain(&frames[..]), 1));
+    assert!(result.is_ok());
+    assert_eq!(samples.len(), 20 * 65535);
+    assert!(start.elapsed().as_secs() < 30);
+}
