@@ -2,7 +2,8 @@
  * compares the number of its samples, the FNV-1a hash of their little-endian bytes, and the result: `ok`, the error, or `IO`
  * where the bytes end too early. It also tests planar samples, buffers that are too small, and the calls for metadata blocks:
  * by the lines of FOLDER/blocks.txt whose bytes are a whole content, by headers worked out by hand, and on the files. And it
- * tests the MD5 sums of samples, by those of another program and of the files' encoders. */
+ * tests the MD5 sums of samples, by those of another program and of the files' encoders, and the CRC of frames, by values that
+ * are known of CRC-16/UMTS, and by the last two bytes of each frame. */
 #include <ctype.h>
 #include <stdarg.h>
 
@@ -135,6 +136,39 @@ static void test_frame(const struct frame *frame) {
     test_small_buffer(claxon_next_block_planar, frame);
 }
 
+/* Values of CRC-16/UMTS, which has the same polynomial and begins with 0 too: of the text "123456789", that of the catalogue of
+ * CRCs; of "abc"; of a byte, the polynomial without its highest power. */
+static void test_crc(void) {
+    const struct {
+        const char *bytes;
+        size_t length;
+        uint16_t crc;
+    } rows[] = {{"123456789", 9, 0xfee8}, {"abc", 3, 0xcadb}, {"\x01", 1, 0x8005}, {"\0\0\0", 3, 0}, {"", 0, 0}};
+    for (size_t row = 0; row < sizeof rows / sizeof *rows; row++) {
+        const uint8_t *bytes = (const uint8_t *)rows[row].bytes;
+        for (size_t at = 0; at <= rows[row].length; at++) {
+            uint16_t first = claxon_crc16(0, bytes, at);
+            expect(claxon_crc16(first, bytes + at, rows[row].length - at) == rows[row].crc, "claxon_crc16", rows[row].bytes);
+        }
+        expect(claxon_crc16(rows[row].crc, bytes, 0) == rows[row].crc, "claxon_crc16", "of no more bytes");
+    }
+    expect(claxon_crc16(0xffff, (const uint8_t *)"123456789", 9) == 0xaee7, "claxon_crc16", "from all ones, as CRC-16/CMS");
+}
+
+/* A frame ends with the CRC of what comes before: so it is 0 of all, one byte after another, and parted at any place. */
+static void test_crc_of_frame(const char *name, const uint8_t *bytes, size_t length) {
+    uint16_t crc = 0;
+    size_t step = length < 300 ? 1 : length / 300;
+    expect(claxon_crc16(0, bytes, length - 2) == (bytes[length - 2] << 8 | bytes[length - 1]), name, "the CRC of a frame");
+    for (size_t i = 0; i < length; i++) {
+        crc = claxon_crc16(crc, bytes + i, 1);
+    }
+    expect(crc == 0, name, "the CRC of a frame, byte by byte");
+    for (size_t at = 0; at <= length; at += step) {
+        expect(claxon_crc16(claxon_crc16(0, bytes, at), bytes + at, length - at) == 0, name, "the CRC of a frame in two parts");
+    }
+}
+
 /* The text of an error in a small buffer: a prefix of it, a 0, and nothing after the buffer. */
 static void test_truncated_text(const char *name, const uint8_t *bytes, size_t length, const char *text) {
     struct claxon_info info;
@@ -171,6 +205,7 @@ static uint32_t decode(const char *name, const uint8_t *bytes, size_t length, si
         if (status == CLAXON_OK) {
             add_samples(tally, (size_t)block.channels * block.duration);
             if (piece == SIZE_MAX) {
+                test_crc_of_frame(name, bytes + start + before, at - before);
                 test_frame(&(struct frame){name, bytes + start + before, at - before, &info, block});
             }
             continue;
@@ -536,6 +571,7 @@ int main(int argc, char **argv) {
     test_positions();
     test_bit_depths();
     test_other_depths();
+    test_crc();
     expect(claxon_version() == CLAXON_VERSION, "claxon_version", "not that of claxon.h");
     expect(contents > 0, "blocks.txt", "no line");
     while (argc == 2 && next_known(&known)) {

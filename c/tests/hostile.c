@@ -1,6 +1,7 @@
 /* hostile MEGABYTES SECONDS: reads streams of so many megabytes that are made to cost time or memory, by claxon_stream.h, and
  * goes on after each fault up to the end. It prints the processor time of each, and fails where one takes more than so many
- * seconds, or where the frame at the end, after 8 megabytes of zeros, isn't found. */
+ * seconds, or where the frame at the end, after 8 megabytes of zeros, isn't found. So it is of searches in memory, of a frame
+ * and of a sample, whose budget is a sample for each byte: they have to find that frame, or to stop. */
 #include <stdio.h>
 #include <stdlib.h>
 #include <string.h>
@@ -22,17 +23,22 @@ static size_t read_bytes(void *from, uint8_t *bytes, size_t length) {
     size_t count = source->length - source->at;
     count = count < length ? count : length;
     count = count < source->piece ? count : source->piece;
-    memcpy(bytes, source->start + source->at, count);
+    if (count > 0) {
+        memcpy(bytes, source->start + source->at, count);
+    }
     source->at += count;
     return count;
 }
 
-/* A head without comments: one channel of 16 bits. */
+/* A head without comments: 16 bits, and one channel until put_head says another number. */
 static const uint8_t head[42] = {'f',  'L', 'a', 'C', 0x80, 0, 0, 34,   0,    16,   0xff,
                                  0xff, 0,   0,   0,   0,    0, 0, 0x0a, 0xc4, 0x40, 0xf0};
 
-/* A frame of 16 samples of 16 bits, each 0x1234. */
-static const uint8_t frame[] = {0xff, 0xf8, 0x69, 0x08, 0x00, 0x0f, 0x30, 0x00, 0x12, 0x34, 0xaa, 0x3b};
+static void put_head(uint8_t *bytes, unsigned channels, int is_last) {
+    memcpy(bytes, head, sizeof head);
+    bytes[4] = is_last ? 0x80 : 0;
+    bytes[20] = (uint8_t)(0x40 | (channels - 1) << 1);
+}
 
 static uint8_t crc8(const uint8_t *bytes, size_t length) {
     unsigned crc = 0;
@@ -52,6 +58,28 @@ static size_t put_frame_header(uint8_t *bytes, unsigned channels, unsigned durat
     memcpy(bytes, header, 7);
     bytes[7] = crc8(header, 7);
     return 8;
+}
+
+/* Appends the CRC of so many bytes, so that it is 0 behind it, and stays 0 over zeros. Returns the length with it. */
+static size_t put_crc(uint8_t *bytes, size_t length) {
+    uint16_t crc = claxon_crc16(0, bytes, length);
+    bytes[length] = (uint8_t)(crc >> 8);
+    bytes[length + 1] = (uint8_t)crc;
+    return length + 2;
+}
+
+/* The length of a small frame of eight channels. */
+#define FRAME_OF_8 (8 + 3 * 8 + 2)
+
+/* A frame of 16 samples, each 0x1234. Returns its length. */
+static size_t put_small_frame(uint8_t *bytes, unsigned channels) {
+    static const uint8_t constant[3] = {0x00, 0x12, 0x34};
+    size_t at = put_frame_header(bytes, channels, 16);
+    for (; channels > 0; channels--) {
+        memcpy(bytes + at, constant, sizeof constant);
+        at += sizeof constant;
+    }
+    return put_crc(bytes, at);
 }
 
 /* Fills the bytes with copies of a pattern. */
@@ -118,11 +146,74 @@ static void constant_frames(uint8_t *bytes, size_t length) {
 
 /* Frames that decode, and between them such that don't. */
 static void good_and_bad_frames(uint8_t *bytes, size_t length) {
-    uint8_t pattern[sizeof frame + 46] = {0};
-    memcpy(pattern, frame, sizeof frame);
-    put_frame_header(pattern + sizeof frame, 8, 65535);
-    pattern[sizeof frame + 8 + 24] = 0xff;
+    uint8_t pattern[FRAME_OF_8 + 46] = {0};
+    put_small_frame(pattern, 8);
+    put_frame_header(pattern + FRAME_OF_8, 8, 65535);
+    pattern[FRAME_OF_8 + 8 + 24] = 0xff;
     fill(bytes, length, pattern, sizeof pattern);
+}
+
+/* A frame's header, a sample that is the CRC before it, and zeros, which are one long Rice code: the CRC is 0 at each byte. */
+static void endless_footers(uint8_t *bytes, size_t length) {
+    size_t at = put_frame_header(bytes, 1, 65535);
+    memset(bytes + at, 0, length - at);
+    bytes[at] = 0x12;
+    put_crc(bytes, at + 1);
+}
+
+/* Good frames of 65535 samples as they are. The first one makes the CRC 0, and it is 0 at each byte after it. */
+static void footers_in_zeros(uint8_t *bytes, size_t length) {
+    const size_t frame_length = 8 + 1 + 2 * 65535 + 2;
+    memset(bytes, 0, length);
+    for (; length >= frame_length; length -= frame_length, bytes += frame_length) {
+        bytes[put_frame_header(bytes, 1, 65535)] = 0x02;
+        put_crc(bytes, 9);
+    }
+}
+
+static unsigned ones_of(unsigned byte) {
+    unsigned count = 0;
+    for (; byte > 0; byte >>= 1) {
+        count += byte & 1;
+    }
+    return count;
+}
+
+/* A good frame of 65535 samples, in Rice codes of some bits, with a CRC of 0 at each fourth byte. Returns its length. */
+static size_t put_frame_of_footers(uint8_t *bytes) {
+    size_t at = put_frame_header(bytes, 1, 65535), last;
+    unsigned samples = 65535, byte;
+    bytes[at] = 0x12; /* a predictor of order 1, whose sample is the CRC; then ten bits of 0, and Rice codes of 0 */
+    at = put_crc(bytes, at + 1);
+    bytes[at] = 0x00;
+    bytes[at + 1] = 0x3f;
+    last = put_crc(bytes, at + 2);
+    for (samples -= 1; at + 1 < last; at++) {
+        samples -= ones_of(bytes[at + 1]);
+    }
+    for (at = last; samples >= 64; at = last) {
+        bytes[at] = bytes[at + 1] = 0x11;
+        last = put_crc(bytes, at + 2);
+        for (; at < last; at++) {
+            samples -= ones_of(bytes[at]);
+        }
+    }
+    for (; samples > 0; samples -= ones_of(byte)) {
+        byte = samples < 8 ? (1u << samples) - 1 : 0xff;
+        bytes[at++] = (uint8_t)byte;
+    }
+    return put_crc(bytes, at);
+}
+
+/* They have some 250 million samples in half of the bytes. */
+static void frames_of_footers(uint8_t *bytes, size_t length) {
+    const size_t most = 3 * 65535;
+    memset(bytes, 0, length);
+    for (length /= 2; length >= most;) {
+        size_t frame_length = put_frame_of_footers(bytes);
+        bytes += frame_length;
+        length -= frame_length;
+    }
 }
 
 static void put_block_header(uint8_t *bytes, unsigned type, size_t length) {
@@ -170,29 +261,57 @@ static void applications(uint8_t *bytes, size_t length) {
     pictures(bytes + whole, length - whole);
 }
 
+/* Headers of frames of 65535 samples, every 16 bytes. Zeros are between them. */
+static void many_headers(uint8_t *bytes, size_t length) {
+    uint8_t pattern[16] = {0};
+    put_frame_header(pattern, 1, 65535);
+    fill(bytes, length, pattern, sizeof pattern);
+}
+
+/* So with eight channels, of equal samples. */
+static void many_large_headers(uint8_t *bytes, size_t length) {
+    uint8_t pattern[16] = {0};
+    put_frame_header(pattern, 8, 65535);
+    fill(bytes, length, pattern, sizeof pattern);
+}
+
 struct kind {
     const char *name;
     void (*fill)(uint8_t *bytes, size_t length);
-    int is_head; /* whether these are metadata blocks */
+    unsigned channels; /* of the stream; 0: these are metadata blocks */
     size_t piece;
+    int is_fed; /* whether the pieces are handed in */
 };
 
 static const struct kind kinds[] = {
-    {"zeros after a frame's header", endless_frame, 0, SIZE_MAX},
-    {"the same, in pieces of 100 bytes", endless_frame, 0, 100},
-    {"zeros after many headers", endless_frames, 0, SIZE_MAX},
-    {"garbage", garbage, 0, SIZE_MAX},
-    {"bytes ff", all_ff, 0, SIZE_MAX},
-    {"sync codes", sync_codes, 0, SIZE_MAX},
-    {"headers with a wrong CRC", wrong_headers, 0, SIZE_MAX},
-    {"frames within frames", nested_frames, 0, SIZE_MAX},
-    {"the same, in pieces of 100 bytes", nested_frames, 0, 100},
-    {"constant frames with a wrong CRC", constant_frames, 0, SIZE_MAX},
-    {"good frames and bad ones", good_and_bad_frames, 0, SIZE_MAX},
-    {"pictures", pictures, 1, SIZE_MAX},
-    {"pictures, in pieces of 100 bytes", pictures, 1, 100},
-    {"tags and pictures", many_tags, 1, SIZE_MAX},
-    {"application data", applications, 1, SIZE_MAX},
+    {"zeros after a frame's header", endless_frame, 1, SIZE_MAX, 0},
+    {"the same, in pieces of 100 bytes", endless_frame, 1, 100, 0},
+    {"zeros after many headers", endless_frames, 1, SIZE_MAX, 0},
+    {"garbage", garbage, 1, SIZE_MAX, 0},
+    {"bytes ff", all_ff, 1, SIZE_MAX, 0},
+    {"sync codes", sync_codes, 1, SIZE_MAX, 0},
+    {"headers with a wrong CRC", wrong_headers, 1, SIZE_MAX, 0},
+    {"frames within frames", nested_frames, 1, SIZE_MAX, 0},
+    {"the same, in pieces of 100 bytes", nested_frames, 1, 100, 0},
+    {"the same, handed in whole", nested_frames, 1, SIZE_MAX, 1},
+    {"the same, handed in by 100 bytes", nested_frames, 1, 100, 1},
+    {"a CRC of 0 at each byte of an endless frame", endless_footers, 1, SIZE_MAX, 0},
+    {"the same, in pieces of 100 bytes", endless_footers, 1, 100, 0},
+    {"the same, in pieces of 3 bytes", endless_footers, 1, 3, 0},
+    {"the same, handed in by 3 bytes", endless_footers, 1, 3, 1},
+    {"a CRC of 0 at each byte of good frames, in pieces of 100 bytes", footers_in_zeros, 1, 100, 0},
+    {"the same, in pieces of 3 bytes", footers_in_zeros, 1, 3, 0},
+    {"a CRC of 0 at each fourth byte of good frames, in pieces of 4 bytes", frames_of_footers, 1, 4, 0},
+    {"constant frames with a wrong CRC", constant_frames, 8, SIZE_MAX, 0},
+    {"the same, of more channels than the stream", constant_frames, 1, SIZE_MAX, 0},
+    {"good frames and bad ones", good_and_bad_frames, 8, SIZE_MAX, 0},
+    {"the same, in pieces of 3 bytes", good_and_bad_frames, 8, 3, 0},
+    {"pictures", pictures, 0, SIZE_MAX, 0},
+    {"pictures, in pieces of 100 bytes", pictures, 0, 100, 0},
+    {"pictures, handed in by 3 bytes", pictures, 0, 3, 1},
+    {"tags and pictures", many_tags, 0, SIZE_MAX, 0},
+    {"tags and pictures, handed in by 3 bytes", many_tags, 0, 3, 1},
+    {"application data", applications, 0, SIZE_MAX, 0},
 };
 
 /* Reads each tag. Returns their number. */
@@ -206,22 +325,39 @@ static size_t read_tags(const struct claxon_stream *stream) {
     return tags;
 }
 
+/* Hands in the next piece, or the end. */
+static void feed(struct claxon_stream *stream, struct bytes *source) {
+    size_t count = source->length - source->at;
+    count = count < source->piece ? count : source->piece;
+    if (count == 0) {
+        claxon_stream_feed_end(stream);
+    } else if (claxon_stream_feed(stream, source->start + source->at, count) != CLAXON_OK) {
+        exit(2);
+    }
+    source->at += count;
+}
+
 /* Reads the stream to its end. Returns whether its last frame was decoded. */
-static int read_stream(struct bytes *source) {
+static int read_stream(struct bytes *source, int is_fed) {
     struct claxon_stream stream;
     uint64_t end = 0;
     int is_found;
     uint32_t status;
-    claxon_stream_init(&stream, read_bytes, source);
-    status = claxon_stream_open(&stream);
+    if (is_fed) {
+        claxon_stream_init_push(&stream);
+    } else {
+        claxon_stream_init(&stream, read_bytes, source);
+    }
+    while ((status = claxon_stream_open(&stream)) == CLAXON_NEED_MORE) {
+        feed(&stream, source);
+    }
     is_found = status == CLAXON_OK && read_tags(&stream) == stream.info.tags;
-    while (status == CLAXON_OK) {
-        status = claxon_stream_next_block(&stream);
-        if (status == CLAXON_OK) {
-            end = stream.position;
-        } else if (status != CLAXON_NO_MORE) {
-            status = claxon_stream_resync(&stream);
+    while (status != CLAXON_NO_MORE && status != CLAXON_OUT_OF_MEMORY) {
+        int is_lost = status != CLAXON_OK;
+        while ((status = (is_lost ? claxon_stream_resync : claxon_stream_next_block)(&stream)) == CLAXON_NEED_MORE) {
+            feed(&stream, source);
         }
+        end = !is_lost && status == CLAXON_OK ? stream.position : end;
     }
     claxon_stream_free(&stream);
     return is_found && end == source->length;
@@ -229,15 +365,16 @@ static int read_stream(struct bytes *source) {
 
 /* Returns whether it was read in so many seconds. */
 static int test_kind(const struct kind *kind, struct bytes *source, size_t length, double most) {
-    memset(source->start, 0, source->length);
-    memcpy(source->start, head, sizeof head);
-    source->start[4] = kind->is_head ? 0 : 0x80;
+    unsigned channels = kind->channels ? kind->channels : 1;
+    size_t before_last = sizeof head + length + 8 * MEGABYTE;
+    memset(source->start, 0, before_last);
+    put_head(source->start, channels, kind->channels > 0);
     kind->fill(source->start + sizeof head, length);
-    memcpy(source->start + source->length - sizeof frame, frame, sizeof frame);
+    source->length = before_last + put_small_frame(source->start + before_last, channels);
     source->at = 0;
     source->piece = kind->piece;
     clock_t start = clock();
-    int is_found = read_stream(source);
+    int is_found = read_stream(source, kind->is_fed);
     double seconds = (double)(clock() - start) / CLOCKS_PER_SEC;
     printf("hostile: %6.3f s, %s%s%s\n", seconds, kind->name, is_found ? "" : ": the last frame isn't found",
            seconds <= most ? "" : ": too slow");
@@ -245,16 +382,84 @@ static int test_kind(const struct kind *kind, struct bytes *source, size_t lengt
     return is_found && seconds <= most;
 }
 
+/* Searches in memory. */
+static const struct kind searched[] = {
+    {"sync codes", sync_codes, 1, SIZE_MAX, 0},
+    {"headers every 16 bytes", many_headers, 1, SIZE_MAX, 0},
+    {"headers of eight channels every 16 bytes", many_large_headers, 1, SIZE_MAX, 0},
+    {"zeros after many headers", endless_frames, 1, SIZE_MAX, 0},
+    {"headers with a wrong CRC", wrong_headers, 1, SIZE_MAX, 0},
+    {"frames within frames", nested_frames, 1, SIZE_MAX, 0},
+    {"constant frames with a wrong CRC", constant_frames, 1, SIZE_MAX, 0},
+    {"bytes ff", all_ff, 1, SIZE_MAX, 0},
+    {"garbage", garbage, 1, SIZE_MAX, 0},
+};
+
+/* Prints the time, and returns whether it is within the limit and the search found the last frame or stopped. */
+static int is_ended(const char *what, const char *name, clock_t start, uint32_t status, int is_last, double most) {
+    double seconds = (double)(clock() - start) / CLOCKS_PER_SEC;
+    int is_right = status == CLAXON_OVER_BUDGET || (status == CLAXON_OK && is_last);
+    printf("hostile: %6.3f s, %s %s: %s%s\n", seconds, what, name, status == CLAXON_OK ? "found" : "stopped",
+           !is_right ? ": not the last frame" : seconds > most ? ": too slow" : "");
+    fflush(stdout);
+    return is_right && seconds <= most;
+}
+
+static int64_t seek_bytes(void *from, int64_t offset, int whence) {
+    struct bytes *source = from;
+    source->at = (size_t)offset + (whence == SEEK_CUR ? source->at : whence == SEEK_END ? source->length : 0);
+    return (int64_t)source->at;
+}
+
+/* A seek by claxon_stream.h, in a stream whose head was left. */
+static int test_stream_seek(const char *name, struct bytes *source, size_t last, double most) {
+    struct claxon_stream stream;
+    clock_t start;
+    uint32_t status;
+    source->at = 0;
+    source->piece = SIZE_MAX;
+    claxon_stream_init(&stream, read_bytes, source);
+    claxon_stream_set_seek(&stream, seek_bytes);
+    claxon_stream_resync(&stream);
+    start = clock();
+    status = claxon_stream_seek(&stream, 7);
+    int is_found = is_ended("seek in a stream of", name, start, status, stream.position == last, most);
+    claxon_stream_free(&stream);
+    return is_found;
+}
+
+/* The last frame is the only one, of samples 0 to 15. Returns whether both searches end in so many seconds. */
+static int test_search(const struct kind *kind, struct bytes *source, double most) {
+    const struct claxon_info info = {.first_frame = sizeof head, .channels = 1, .bits_per_sample = 16};
+    size_t at = 0, last;
+    uint64_t budget = source->length;
+    struct claxon_block block;
+    memset(source->start, 0, source->length);
+    last = source->length - put_small_frame(source->start, 1);
+    put_small_frame(source->start + last, 1);
+    kind->fill(source->start, last);
+    clock_t start = clock();
+    uint32_t status = claxon_find_frame(source->start, source->length, &at, &info, &budget, &block);
+    int is_found = is_ended("find in", kind->name, start, status, at == last, most);
+    start = clock();
+    status = claxon_seek(source->start, source->length, &info, 7, source->length, &at, &block);
+    is_found &= is_ended("seek in", kind->name, start, status, at == last, most);
+    return test_stream_seek(kind->name, source, last, most) && is_found;
+}
+
 int main(int argc, char **argv) {
     size_t length = argc == 3 ? strtoul(argv[1], NULL, 10) * MEGABYTE : 0;
-    struct bytes source = {NULL, sizeof head + length + 8 * MEGABYTE + sizeof frame, 0, 0};
+    struct bytes source = {NULL, 0, 0, 0};
     int failures = 0;
-    if (length < 20 * MEGABYTE || !(source.start = malloc(source.length))) {
+    if (length < 20 * MEGABYTE || !(source.start = malloc(sizeof head + length + 8 * MEGABYTE + FRAME_OF_8))) {
         fprintf(stderr, "usage: hostile MEGABYTES SECONDS, with 20 megabytes or more\n");
         return 2;
     }
     for (size_t i = 0; i < sizeof kinds / sizeof *kinds; i++) {
         failures += !test_kind(&kinds[i], &source, length, strtod(argv[2], NULL));
+    }
+    for (size_t i = 0; i < sizeof searched / sizeof *searched; i++) {
+        failures += !test_search(&searched[i], &source, strtod(argv[2], NULL));
     }
     printf("hostile: %zu streams of %s megabytes, %d failures\n", sizeof kinds / sizeof *kinds, argv[1], failures);
     free(source.start);

@@ -5,6 +5,7 @@
  * - What a stream gives is compared with what claxon_open and claxon_next_block give for the whole bytes: of files that are
  *   cut, or damaged in ROUNDS ways each, of heads that are made up, and of heads at each limit.
  * - Reading fails, memory is refused, a frame has no end.
+ * - All but failing reads is tried with bytes that are handed in, too.
  *
  * With 0 ROUNDS small files are read alone, for tools that make it slow.
  * It is linked with --wrap for malloc and realloc, so that it can refuse memory and sees how much is asked for at once. */
@@ -73,6 +74,48 @@ static struct source pieces_of(const uint8_t *bytes, size_t length, size_t piece
     return source;
 }
 
+/* Begins a stream that reads from the source, or to which its bytes are handed in. */
+static void begin(struct claxon_stream *stream, struct source *source, int is_push) {
+    if (is_push) {
+        claxon_stream_init_push(stream);
+    } else {
+        claxon_stream_init(stream, read_source, source);
+    }
+}
+
+/* Hands in the next piece, or the end, where a call needs it. Returns whether it is to be repeated. */
+static int feeds(struct claxon_stream *stream, struct source *source, uint32_t status) {
+    size_t count = source->length - source->at;
+    count = count < source->piece ? count : source->piece;
+    if (status != CLAXON_NEED_MORE) {
+        return 0;
+    }
+    expect(!stream->read && !source->has_ended && !stream->error[0], "feed", "more is needed");
+    if (count > 0) {
+        /* A copy, so that what is read after its end is seen. */
+        uint8_t *piece = malloc(count);
+        memcpy(piece, source->bytes + source->at, count);
+        expect(claxon_stream_feed(stream, piece, count) == CLAXON_OK, "feed", "its status");
+        free(piece);
+    } else {
+        claxon_stream_feed_end(stream);
+        source->has_ended = 1;
+    }
+    source->at += count;
+    return 1;
+}
+
+typedef uint32_t stream_call(struct claxon_stream *);
+
+/* Calls until no more is needed. */
+static uint32_t call(stream_call *next, struct claxon_stream *stream, struct source *source) {
+    uint32_t status;
+    do {
+        status = next(stream);
+    } while (feeds(stream, source, status));
+    return status;
+}
+
 /* Samples. */
 
 /* Adds samples in the order of time. In memory the next channel is at a distance of `step`, and the next time of `next`. */
@@ -104,15 +147,15 @@ static int is_same_info(const struct claxon_info *a, const struct claxon_info *b
 
 static void test_known(const struct known *known, const uint8_t *bytes, size_t length) {
     static const size_t pieces[] = {SIZE_MAX, 4099, 997, 61, 7, 1};
-    for (size_t i = 0; i < 12; i++) {
+    for (size_t i = 0; i < 24; i++) {
         struct claxon_stream stream;
-        struct source source = pieces_of(bytes, length, pieces[i / 2]);
+        struct source source = pieces_of(bytes, length, pieces[i / 4]);
         struct tally tally = no_samples;
         int planar = i % 2;
         char text[256];
         uint32_t status;
-        claxon_stream_init(&stream, read_source, &source);
-        while ((status = (planar ? claxon_stream_next_block_planar : claxon_stream_next_block)(&stream)) == CLAXON_OK) {
+        begin(&stream, &source, i / 2 % 2);
+        while ((status = call(planar ? claxon_stream_next_block_planar : claxon_stream_next_block, &stream, &source)) == CLAXON_OK) {
             size_t channels = stream.block.channels, duration = stream.block.duration;
             add_samples(&tally, stream.samples, &stream.block, planar ? duration : 1, planar ? 1 : channels);
         }
@@ -148,15 +191,26 @@ static uint32_t next_of_whole(struct whole *whole) {
                              whole->error, sizeof whole->error);
 }
 
-/* Goes to the next byte 0xff from which a frame decodes, after the present one. */
+/* Whether a frame of the stream begins there: with its number of channels and its bit depth, if these are known. */
+static int is_frame_at(struct whole *whole, size_t at) {
+    static const uint32_t bits[8] = {0, 8, 12, 0, 16, 20, 24, 32}; /* RFC 9639, section 9.1.4; 0: that of the stream */
+    whole->at = at;
+    if (at + 4 > whole->length || whole->bytes[at] != 0xff || next_of_whole(whole) != CLAXON_OK) {
+        return 0;
+    }
+    if (whole->info.bits_per_sample > 0 && bits[whole->bytes[at + 3] >> 1 & 7] > 0 &&
+        bits[whole->bytes[at + 3] >> 1 & 7] != whole->info.bits_per_sample) {
+        return 0;
+    }
+    return whole->info.channels == 0 || whole->block.channels == whole->info.channels;
+}
+
+/* Goes to the next position at which a frame of the stream begins, after the present one. */
 static uint32_t resync_of_whole(struct whole *whole) {
-    for (size_t at = whole->at + 1; at + 1 < whole->length; at++) {
-        if (whole->bytes[at] == 0xff) {
+    for (size_t at = whole->at + 1; at < whole->length; at++) {
+        if (is_frame_at(whole, at)) {
             whole->at = at;
-            if (next_of_whole(whole) == CLAXON_OK) {
-                whole->at = at;
-                return CLAXON_OK;
-            }
+            return CLAXON_OK;
         }
     }
     return CLAXON_NO_MORE;
@@ -167,12 +221,12 @@ static int is_fault(uint32_t status) {
 }
 
 /* Compares block after block, and goes on after each fault. Returns the number of blocks. */
-static size_t compare_frames(const char *name, struct claxon_stream *stream, struct whole *whole) {
+static size_t compare_frames(const char *name, struct claxon_stream *stream, struct source *source, struct whole *whole) {
     size_t blocks = 0;
     uint32_t status, expected;
     do {
         size_t before = whole->at;
-        status = claxon_stream_next_block(stream);
+        status = call(claxon_stream_next_block, stream, source);
         expected = next_of_whole(whole);
         expect(status == expected, name, "the status of a block");
         expect(!is_fault(expected) || strcmp(stream->error, whole->error) == 0, name, "the text of a frame's fault");
@@ -183,7 +237,7 @@ static size_t compare_frames(const char *name, struct claxon_stream *stream, str
             expect(memcmp(stream->samples, samples, count * sizeof *samples) == 0, name, "the samples of a block");
             blocks++;
         } else if (is_fault(expected)) {
-            status = claxon_stream_resync(stream);
+            status = call(claxon_stream_resync, stream, source);
             expected = resync_of_whole(whole);
             expect(status == expected, name, "the status of resync");
             expect(expected != CLAXON_OK || stream->position == whole->at, name, "the position after resync");
@@ -193,20 +247,21 @@ static size_t compare_frames(const char *name, struct claxon_stream *stream, str
 }
 
 /* Returns the number of blocks, and leaves the text of the head's fault, or "", in `text`. */
-static size_t compare(const char *name, const uint8_t *bytes, size_t length, size_t piece, char *text, size_t size) {
+static size_t compare_form(const char *name, const uint8_t *bytes, size_t length, size_t piece, int is_push, char *text,
+                           size_t size) {
     struct claxon_stream stream;
     struct source source = pieces_of(bytes, length, piece);
     struct whole whole = {bytes, length, 0, {0}, {0}, ""};
     size_t blocks = 0;
     uint32_t status, expected = claxon_open(bytes, length, &whole.info, whole.error, sizeof whole.error);
-    claxon_stream_init(&stream, read_source, &source);
-    status = claxon_stream_open(&stream);
+    begin(&stream, &source, is_push);
+    status = call(claxon_stream_open, &stream, &source);
     expect(status == expected, name, "the status of a head");
     snprintf(text, size, "%s", stream.error);
     if (expected == CLAXON_OK && status == CLAXON_OK) {
         expect(is_same_info(&stream.info, &whole.info), name, "the info of a head");
         whole.at = whole.info.first_frame;
-        blocks = compare_frames(name, &stream, &whole);
+        blocks = compare_frames(name, &stream, &source, &whole);
     } else {
         expect(strcmp(stream.error, whole.error) == 0, name, "the text of a head's fault");
         expect(claxon_stream_next_block(&stream) == status && claxon_stream_open(&stream) == status, name,
@@ -215,6 +270,11 @@ static size_t compare(const char *name, const uint8_t *bytes, size_t length, siz
     }
     claxon_stream_free(&stream);
     return blocks;
+}
+
+static size_t compare(const char *name, const uint8_t *bytes, size_t length, size_t piece, char *text, size_t size) {
+    compare_form(name, bytes, length, piece, 1, text, size);
+    return compare_form(name, bytes, length, piece, 0, text, size);
 }
 
 /* Numbers that look random, the same in each run. */
@@ -310,9 +370,9 @@ static void put_header(struct made *made, unsigned type, int is_last, size_t len
     put_byte(made, (unsigned)(length & 0xff));
 }
 
-/* Two channels of 8 bits, 4 samples of each. */
+/* One channel of 16 bits, 4 samples. */
 static void put_streaminfo(struct made *made, int is_last) {
-    static const uint8_t content[34] = {0, 16, 0, 16, 0, 0, 1, 0, 1, 0, 0x0a, 0xc4, 0x42, 0x70, 0, 0, 0, 4};
+    static const uint8_t content[34] = {0, 16, 0, 16, 0, 0, 1, 0, 1, 0, 0x0a, 0xc4, 0x40, 0xf0, 0, 0, 0, 4};
     put_header(made, CLAXON_STREAMINFO, is_last, 34);
     put(made, content, 34);
 }
@@ -537,14 +597,15 @@ static struct made make_pictures(void) {
 }
 
 /* Reads the content of a block in pieces, and compares it with the bytes. */
-static void test_content(struct claxon_stream *stream, const uint8_t *bytes, const struct claxon_metadata *metadata,
-                         size_t piece) {
+static void test_content(struct claxon_stream *stream, struct source *source, const uint8_t *bytes,
+                         const struct claxon_metadata *metadata, size_t piece) {
     static uint8_t content[4096];
     size_t done = 0, got;
-    while ((got = claxon_stream_content(stream, content, piece)) > 0) {
+    do {
+        got = claxon_stream_content(stream, content, piece);
         expect(memcmp(content, bytes + metadata->content + done, got) == 0, "a metadata block", "its content");
         done += got;
-    }
+    } while (got > 0 || (done < metadata->length && feeds(stream, source, stream->read ? CLAXON_OK : CLAXON_NEED_MORE)));
     expect(done == metadata->length, "a metadata block", "the length of its content");
 }
 
@@ -565,25 +626,33 @@ static void test_tags(const uint8_t *comments, size_t length, size_t count) {
     expect(status == CLAXON_NO_MORE, "comments", "the end of the tags");
 }
 
+static uint32_t next_metadata(struct claxon_stream *stream, struct source *source, struct claxon_metadata *metadata) {
+    uint32_t status;
+    do {
+        status = claxon_stream_next_metadata(stream, metadata);
+    } while (feeds(stream, source, status));
+    return status;
+}
+
 /* Reads every `every`-th block, in pieces of `piece` bytes, and passes over the others. */
-static void test_walk(const struct made *made, size_t every, size_t piece) {
+static void test_walk(const struct made *made, size_t every, size_t piece, int is_push) {
     struct claxon_stream stream;
     struct source source = pieces_of(made->bytes, made->length, 10000);
     struct claxon_metadata metadata, expected;
     size_t at = 4, i = 0;
     greatest_request = 0;
-    claxon_stream_init(&stream, read_source, &source);
+    begin(&stream, &source, is_push);
     test_tags(stream.comments, stream.comments_length, 0);
-    while (claxon_stream_next_metadata(&stream, &metadata) == CLAXON_OK) {
+    while (next_metadata(&stream, &source, &metadata) == CLAXON_OK) {
         claxon_next_metadata(made->bytes, made->length, &at, &expected);
         expect(i < BLOCKS && metadata.type == blocks[i].type && metadata.length == blocks[i].length, "a head", "a block");
         expect(metadata.is_last == (i + 1 == BLOCKS) && metadata.content == expected.content, "a head", "the position of a block");
         test_tags(stream.comments, stream.comments_length, i >= 3);
         expect(stream.info.first_frame == 0, "a head", "the first frame, before the head has ended");
-        expect(stream.info.channels == 2 && stream.info.samples == 4 && stream.info.tags == (i >= 3), "a head",
+        expect(stream.info.channels == 1 && stream.info.samples == 4 && stream.info.tags == (i >= 3), "a head",
                "the info so far");
         if (i % every == 0) {
-            test_content(&stream, made->bytes, &metadata, piece);
+            test_content(&stream, &source, made->bytes, &metadata, piece);
         }
         i++;
     }
@@ -591,9 +660,10 @@ static void test_walk(const struct made *made, size_t every, size_t piece) {
     expect(greatest_request == 65536, "a head", "memory for pictures");
     expect(claxon_stream_next_metadata(&stream, &metadata) == CLAXON_NO_MORE, "a head", "a block after the end");
     expect(claxon_stream_content(&stream, made->bytes, 1) == 0, "a head", "content after the end");
-    expect(claxon_stream_next_block(&stream) == CLAXON_OK && stream.samples[15] == 0x1234, "a head", "the frame after it");
+    expect(call(claxon_stream_next_block, &stream, &source) == CLAXON_OK && stream.samples[15] == 0x1234, "a head",
+           "the frame after it");
     expect(greatest_request == 65536, "a head", "memory for the samples of a small block");
-    expect(claxon_stream_next_block(&stream) == CLAXON_NO_MORE, "a head", "the end of the stream");
+    expect(call(claxon_stream_next_block, &stream, &source) == CLAXON_NO_MORE, "a head", "the end of the stream");
     claxon_stream_free(&stream);
 }
 
@@ -618,32 +688,103 @@ static void test_resync_in_content(const struct made *made) {
 static void test_metadata(void) {
     struct made made = make_pictures();
     test_resync_in_content(&made);
-    test_walk(&made, 1, 4096);
-    test_walk(&made, 1, 4095);
-    test_walk(&made, 3, 1);
-    test_walk(&made, BLOCKS + 1, 1);
+    for (int is_push = 0; is_push <= 1; is_push++) {
+        test_walk(&made, 1, 4096, is_push);
+        test_walk(&made, 1, 4095, is_push);
+        test_walk(&made, 3, 1, is_push);
+        test_walk(&made, BLOCKS + 1, 1, is_push);
+    }
     free(made.bytes);
 }
 
 /* Frames without a head, after a head that is damaged, and after other bytes. */
 
-static void test_resync_to(const char *name, const struct made *made, uint32_t head, uint64_t first, size_t count) {
+static void test_resync_form(const char *name, const struct made *made, uint32_t head, uint64_t first, size_t count,
+                             int is_push) {
     struct claxon_stream stream;
     struct source source = pieces_of(made->bytes, made->length, 7);
-    claxon_stream_init(&stream, read_source, &source);
+    begin(&stream, &source, is_push);
     if (head != CLAXON_OK) {
-        expect(claxon_stream_next_block(&stream) == head, name, "the head");
+        expect(call(claxon_stream_next_block, &stream, &source) == head, name, "the head");
     }
     for (int i = 0; i < 2; i++) { /* a second time it stays where it is */
-        expect(claxon_stream_resync(&stream) == (count ? CLAXON_OK : CLAXON_NO_MORE), name, "resync");
+        expect(call(claxon_stream_resync, &stream, &source) == (count ? CLAXON_OK : CLAXON_NO_MORE), name, "resync");
         expect(!count || stream.position == first, name, "the position after resync");
     }
     for (size_t i = 0; i < count; i++) {
-        expect(claxon_stream_next_block(&stream) == CLAXON_OK && stream.samples[15] == 0x1234, name, "a frame after resync");
+        expect(call(claxon_stream_next_block, &stream, &source) == CLAXON_OK && stream.samples[15] == 0x1234, name,
+               "a frame after resync");
     }
-    expect(claxon_stream_next_block(&stream) == CLAXON_NO_MORE && !stream.error[0], name, "the end after resync");
+    expect(call(claxon_stream_next_block, &stream, &source) == CLAXON_NO_MORE && !stream.error[0], name,
+           "the end after resync");
     expect(claxon_stream_resync(&stream) == CLAXON_NO_MORE, name, "resync at the end");
     claxon_stream_free(&stream);
+}
+
+static void test_resync_to(const char *name, const struct made *made, uint32_t head, uint64_t first, size_t count) {
+    test_resync_form(name, made, head, first, count, 0);
+    test_resync_form(name, made, head, first, count, 1);
+}
+
+static void put_with_crc(struct made *made, const uint8_t *bytes, size_t length) {
+    uint16_t crc = claxon_crc16(0, bytes, length);
+    put(made, bytes, length);
+    put_byte(made, crc >> 8);
+    put_byte(made, crc & 0xff);
+}
+
+/* Goes to this frame from the bytes before it, in pieces of any size. */
+static void test_resync_at(const char *name, const struct made *made, size_t at) {
+    for (size_t piece = 1; piece <= made->length; piece++) {
+        struct claxon_stream stream;
+        struct source source = pieces_of(made->bytes, made->length, piece);
+        begin(&stream, &source, piece % 2);
+        do {
+            expect(call(claxon_stream_resync, &stream, &source) == CLAXON_OK, name, "resync");
+        } while (stream.position < at && call(claxon_stream_next_block, &stream, &source) == CLAXON_OK);
+        expect(stream.position == at, name, "the position after resync");
+        claxon_stream_free(&stream);
+    }
+}
+
+/* Frames of another number of channels or another bit depth are passed over, behind a head that is known. */
+static void test_resync_of_others(void) {
+    static const uint8_t two_channels[] = {0xff, 0xf8, 0x69, 0x18, 0x00, 0x0f, 0x92, 0x00, 0x12, 0x34, 0x00, 0x12, 0x34};
+    static const uint8_t eight_bits[] = {0xff, 0xf8, 0x69, 0x02, 0x00, 0x0f, 0xb7, 0x00, 0x12};
+    struct made made = {NULL, 0, 0};
+    put(&made, "fLaC", 4);
+    put_streaminfo(&made, 1);
+    put_many(&made, 0x55, 10);
+    put_with_crc(&made, two_channels, sizeof two_channels);
+    put_with_crc(&made, eight_bits, sizeof eight_bits);
+    put(&made, frame, sizeof frame);
+    for (int is_push = 0; is_push <= 1; is_push++) {
+        struct claxon_stream stream;
+        struct source source = pieces_of(made.bytes, made.length, 5);
+        begin(&stream, &source, is_push);
+        expect(call(claxon_stream_next_block, &stream, &source) == CLAXON_FORMAT_ERROR, "other frames", "no frame");
+        expect(call(claxon_stream_resync, &stream, &source) == CLAXON_OK, "other frames", "resync");
+        expect(stream.position == made.length - sizeof frame, "other frames", "the position after resync");
+        claxon_stream_free(&stream);
+    }
+    memcpy(made.bytes, "none", 4);
+    made.length -= sizeof frame;
+    test_resync_at("a frame of two channels, without a head", &made, 4 + 38 + 10);
+    test_resync_at("a frame of 8 bits, without a head", &made, 4 + 38 + 10 + sizeof two_channels + 2);
+    free(made.bytes);
+}
+
+/* A frame within the samples of another one, as they are: the outer one is first, also where the inner one was read first. */
+static void test_resync_of_nested(void) {
+    uint8_t outer[40] = {0xff, 0xf8, 0x69, 0x08, 0x00, 0x0f, 0x30, 0x02};
+    struct made made = {NULL, 0, 0};
+    memcpy(outer + 16, frame, sizeof frame);
+    put_many(&made, 0x55, 10);
+    put_with_crc(&made, outer, sizeof outer);
+    test_resync_at("a frame in a frame", &made, 10);
+    made.bytes[made.length - 1] ^= 1;
+    test_resync_at("a frame in a frame with a wrong CRC", &made, 10 + 16);
+    free(made.bytes);
 }
 
 static void test_resync(void) {
@@ -729,7 +870,19 @@ static void test_failing_file(void) {
 
 /* Memory that is refused. */
 
-/* Where memory was refused for a frame, resync is still at it. */
+/* Whether a frame of the stream begins there, with memory for it. */
+static int is_frame_with_memory(const uint8_t *bytes, size_t length, uint64_t position) {
+    struct whole whole = {bytes, length, 0, {0}, {0}, ""};
+    size_t every = refused_every;
+    int found;
+    refused_every = 0;
+    found = claxon_open(bytes, length, &whole.info, whole.error, sizeof whole.error) == CLAXON_OK &&
+            is_frame_at(&whole, (size_t)position);
+    refused_every = every;
+    return found;
+}
+
+/* Where memory was refused for a frame of the stream, resync is still at it. */
 static void test_resync_refused(struct claxon_stream *stream) {
     uint64_t position = stream->position;
     uint32_t status = claxon_stream_resync(stream);
@@ -738,7 +891,8 @@ static void test_resync_refused(struct claxon_stream *stream) {
 }
 
 /* Decodes, and calls again where memory was refused. */
-static uint32_t decode_refused(struct claxon_stream *stream, struct tally *tally, size_t *refusals) {
+static uint32_t decode_refused(struct claxon_stream *stream, const uint8_t *bytes, size_t length, struct tally *tally,
+                               size_t *refusals) {
     uint32_t status;
     do {
         status = claxon_stream_next_block(stream);
@@ -747,7 +901,7 @@ static uint32_t decode_refused(struct claxon_stream *stream, struct tally *tally
         } else if (status == CLAXON_OUT_OF_MEMORY) {
             expect(strcmp(stream->error, "out of memory") == 0, "memory", "the text");
             refused_request = 0;
-            if (++*refusals % 2 == 0) {
+            if (++*refusals % 2 == 0 && is_frame_with_memory(bytes, length, stream->position)) {
                 test_resync_refused(stream);
             }
         }
@@ -771,7 +925,7 @@ static size_t test_refused(const char *name, const uint8_t *bytes, size_t length
         refusals++;
     } else {
         refused_every = every;
-        status = decode_refused(&stream, &tally, &refusals);
+        status = decode_refused(&stream, bytes, length, &tally, &refusals);
         expect(status == CLAXON_NO_MORE && is_same_tally(tally, known), name, "what is decoded after memory was refused");
     }
     refused_request = refused_every = 0;
@@ -789,8 +943,30 @@ static void test_memory(const char *name, const uint8_t *bytes, size_t length, s
     expect(test_refused(name, bytes, length, known, 0, 2) > 0, name, "each second request refused");
 }
 
-/* A frame that has no end. */
-static void test_endless_frame(void) {
+/* Bytes that are handed in while each second request is refused: none is taken, and they are handed in again. */
+static void test_memory_of_feed(const char *name, const uint8_t *bytes, size_t length, struct tally known) {
+    struct claxon_stream stream;
+    struct tally tally = no_samples;
+    size_t refusals = 0, refusals_of_feed = 0;
+    claxon_stream_init_push(&stream);
+    requests = 1; /* so that the first one is refused */
+    refused_every = 2;
+    for (size_t at = 0; at < length; at++) {
+        while (claxon_stream_feed(&stream, bytes + at, 1) == CLAXON_OUT_OF_MEMORY) {
+            refusals_of_feed++;
+        }
+    }
+    claxon_stream_feed_end(&stream);
+    refused_every = 0;
+    expect(claxon_stream_open(&stream) == CLAXON_OK, name, "the head after memory was refused for bytes");
+    expect(decode_refused(&stream, bytes, length, &tally, &refusals) == CLAXON_NO_MORE && is_same_tally(tally, known), name,
+           "what is decoded after memory was refused for bytes");
+    expect(refusals_of_feed > 0, name, "memory that was refused for bytes");
+    claxon_stream_free(&stream);
+}
+
+/* A frame that has no end. What is asked for at once is at most `most` bytes. */
+static void test_endless_frame(int is_push, size_t most) {
     struct claxon_stream stream;
     struct made made = {NULL, 0, 0};
     struct source source;
@@ -802,16 +978,16 @@ static void test_endless_frame(void) {
     put(&made, frame, sizeof frame);
     source = pieces_of(made.bytes, made.length, 65536);
     greatest_request = 0;
-    claxon_stream_init(&stream, read_source, &source);
-    expect(claxon_stream_next_block(&stream) == CLAXON_FORMAT_ERROR, "an endless frame", "its status");
+    begin(&stream, &source, is_push);
+    expect(call(claxon_stream_next_block, &stream, &source) == CLAXON_FORMAT_ERROR, "an endless frame", "its status");
     expect(strcmp(stream.error, "frame longer than 16777215 bytes") == 0, "an endless frame", "its text");
     expect(stream.position == 4 + 38, "an endless frame", "its position");
-    expect(greatest_request == CLAXON_MAX_FRAME_BYTES, "an endless frame", "memory for it");
-    expect(source.at <= 4 + 38 + CLAXON_MAX_FRAME_BYTES, "an endless frame", "reading ahead");
-    expect(claxon_stream_resync(&stream) == CLAXON_OK, "an endless frame", "resync");
-    expect(claxon_stream_next_block(&stream) == CLAXON_OK && stream.samples[15] == 0x1234, "an endless frame",
+    expect(greatest_request >= CLAXON_MAX_FRAME_BYTES && greatest_request <= most, "an endless frame", "memory for it");
+    expect(source.at <= 4 + 38 + most, "an endless frame", "reading ahead");
+    expect(call(claxon_stream_resync, &stream, &source) == CLAXON_OK, "an endless frame", "resync");
+    expect(call(claxon_stream_next_block, &stream, &source) == CLAXON_OK && stream.samples[15] == 0x1234, "an endless frame",
            "the frame after it");
-    expect(claxon_stream_next_block(&stream) == CLAXON_NO_MORE, "an endless frame", "the end");
+    expect(call(claxon_stream_next_block, &stream, &source) == CLAXON_NO_MORE, "an endless frame", "the end");
     claxon_stream_free(&stream);
     free(made.bytes);
 }
@@ -823,6 +999,9 @@ static void test_file(const struct known *known, const uint8_t *bytes, size_t le
     const char *name = known->name;
     int is_ok = strcmp(known->result, "ok") == 0;
     test_known(known, bytes, length);
+    if (is_ok) {
+        test_memory_of_feed(name, bytes, length, known->tally);
+    }
     if (length <= SMALL) {
         test_cut(name, bytes, length);
         for (size_t i = 0; i < length && is_ok; i += 1 + below(40)) {
@@ -857,6 +1036,8 @@ int main(int argc, char **argv) {
     expect(files > 0, "stream", "no files");
     test_heads(rounds > 0 ? 20000 : 200);
     test_resync();
+    test_resync_of_others();
+    test_resync_of_nested();
     test_missing_comments();
     test_failing_file();
     if (rounds > 0) {
@@ -864,7 +1045,8 @@ int main(int argc, char **argv) {
         test_long_blocks();
         test_all_seen();
         test_metadata();
-        test_endless_frame();
+        test_endless_frame(0, CLAXON_MAX_FRAME_BYTES);
+        test_endless_frame(1, CLAXON_MAX_FRAME_BYTES + 65536);
         expect(damaged_blocks > 0, "stream", "no blocks of damaged files");
     }
     printf("stream: %d files, %zu blocks of damaged files, %d failures\n", files, damaged_blocks, failures);
