@@ -1,10 +1,11 @@
-"""Tests of claxon.py: `python3 -m unittest` in the folder above runs them.
+"""Tests of the module: `run_tests` in the folder above runs them.
 
 Expected values are those of crates/claxon_cases, which were made without this decoder, or stand in
 the streams that are written here.
 """
 import io
 import pathlib
+import shutil
 import tempfile
 import unittest
 from array import array
@@ -83,6 +84,13 @@ class FolderCase(unittest.TestCase):
         folder = tempfile.TemporaryDirectory()
         self.addCleanup(folder.cleanup)
         self.folder = pathlib.Path(folder.name)
+
+
+def copy_module(folder: pathlib.Path) -> None:
+    """Copies the module that is tested into a folder, without the library that it may have inside."""
+    package = pathlib.Path(claxon.__file__).parent
+    ignored = shutil.ignore_patterns("libclaxon*", "__pycache__")
+    shutil.copytree(package, folder / "claxon", ignore=ignored)
 
 
 class Trickle:

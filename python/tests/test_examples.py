@@ -17,10 +17,10 @@ from types import ModuleType
 from typing import List, Tuple
 
 import claxon
-from tests import DATA, FRAME_OF_5, MARKER, STREAMINFO, TOP, FolderCase, metadata_block
-from tests import verbatim_frame
+from tests import DATA, FRAME_OF_5, MARKER, STREAMINFO, TOP, FolderCase, copy_module
+from tests import metadata_block, verbatim_frame
 
-PYTHON = pathlib.Path(claxon.__file__).resolve().parent
+PYTHON = TOP / "python"
 VERIFY = PYTHON / "examples" / "verify.py"
 
 # The indented examples of the text, each with the heading that it stands under.
@@ -48,7 +48,7 @@ class Folder(FolderCase):
         (self.folder / "c" / "out").mkdir(parents=True)
         shutil.copy(claxon._library._name, self.folder / "c" / "out" / "libclaxon.so.0.2")
         shutil.copytree(VERIFY.parent, self.folder / "python" / "examples")
-        shutil.copy(PYTHON / "claxon.py", self.folder / "python")
+        copy_module(self.folder / "python")
         song = bytearray((TOP / "examples" / "tagged.flac").read_bytes())
         (self.folder / "song.flac").write_bytes(song)
         song[3000] ^= 1  # in the second of three frames
@@ -80,7 +80,7 @@ class Readme(Folder):
                 runner.run(test, out=report.append, clear_globs=False)
                 self.assertEqual("".join(report), "")
                 tried += 1
-        self.assertEqual(tried, 5 if has_numpy else 4)
+        self.assertEqual(tried, 8 if has_numpy else 7)
         if not has_numpy:
             self.skipTest("numpy isn't installed: its example wasn't run, the others passed")
 
@@ -97,7 +97,7 @@ class Readme(Folder):
     def test_all_are_run(self) -> None:
         for _, text in examples():
             self.assertTrue(text.startswith((">>> ", "$ ")), text)
-        self.assertEqual(len(examples()), 7)
+        self.assertEqual(len(examples()), 10)
 
 
 def loaded_verify() -> ModuleType:
@@ -182,13 +182,13 @@ class Verify(Folder):
         song, damaged = "song.flac", "damaged.flac"
         command = [sys.executable, "python/examples/verify.py"]
         self.assertEqual(self.run_command([*command, song])[0], 0)
-        names = [damaged, "missing.flac", "c", "python/claxon.py", song]
+        names = [damaged, "missing.flac", "c", "python/claxon/__init__.py", song]
         status, found = self.run_command([*command, *names])
         self.assertEqual(status, 1)
         lines = found.splitlines()
         self.assertEqual(lines[1], "missing.flac: No such file or directory")
         self.assertEqual(lines[2], "c: Is a directory")
-        self.assertEqual(lines[3], "python/claxon.py: ill-formed at byte 0: invalid stream header")
+        self.assertEqual(lines[3], "python/claxon/__init__.py: ill-formed at byte 0: invalid stream header")
         self.assertEqual(lines[4], "song.flac: ok, 3 frames, 9876 samples")
         self.assertEqual(self.run_command(command), (2, "usage: verify.py FILE..\n"))
         os.rename(self.folder / song, os.fsencode(self.folder) + b"/\xff.flac")

@@ -17,12 +17,13 @@ import unittest
 import warnings
 from array import array
 from subprocess import PIPE
-from typing import List, Optional, Tuple
+from typing import ContextManager, List, Optional, Tuple
 from unittest import mock
 
 import claxon
 from tests import DATA, FRAME_OF_5, MARKER, STREAMINFO, TOP, FolderCase, Trickle, comments
-from tests import crc, decode, frame_header, head, metadata_block, result_of, verbatim_frame
+from tests import copy_module, crc, decode, frame_header, head, metadata_block, result_of
+from tests import verbatim_frame
 
 SONG = TOP / "examples" / "tagged.flac"
 MAX_FRAME_BYTES = 16777215
@@ -172,7 +173,7 @@ class Objects(unittest.TestCase):
         header = (TOP / "c" / "claxon.h").read_text()
         statuses = header[header.index("enum claxon_status") : header.index("};")]
         found = {name: int(number) for name, number in re.findall(r"CLAXON_(\w+) = (\d)", statuses)}
-        self.assertEqual(len(found), 7)
+        self.assertEqual(len(found), 8)
         for name, number in found.items():
             self.assertEqual(getattr(claxon, "_" + name), number)
         classes = {
@@ -453,19 +454,22 @@ class Damage(unittest.TestCase):
     def test_memory_that_is_refused(self) -> None:
         """The calls may be repeated."""
         stream = head() + FRAME_OF_5 + b"damage" + FRAME_OF_5
-        refused = mock.patch.object(
-            claxon._library, "claxon_next_block_planar", return_value=claxon._OUT_OF_MEMORY
-        )
-        with claxon.Flac(io.BytesIO(stream)) as flac:
-            with refused:
+
+        def refused(call: str) -> ContextManager[object]:
+            return mock.patch.object(claxon._library, call, return_value=claxon._OUT_OF_MEMORY)
+
+        with claxon.Flac(Trickle(stream, 1)) as flac:  # type: ignore[arg-type]
+            with refused("claxon_next_block_planar"):
                 self.assertRaises(claxon.OutOfMemory, list, flac.blocks())
             blocks = flac.blocks()
             self.assertEqual(next(blocks).planar.tolist(), [5])
             self.assertRaises(claxon.FormatError, next, blocks)
-            with refused, self.assertRaises(claxon.OutOfMemory) as raised:
-                flac.resync()
-            place = len(stream) - len(FRAME_OF_5)
-            self.assertEqual(raised.exception.position, place)
+            place = len(head()) + len(FRAME_OF_5)
+            for call in ("claxon_find_frame", "claxon_next_block_planar"):
+                with refused(call), self.assertRaises(claxon.OutOfMemory) as raised:
+                    flac.resync()
+                self.assertEqual(raised.exception.position, place + 1)
+            self.assertEqual(flac.resync(), len(b"damage"))
             self.assertEqual([block.planar.tolist() for block in flac.blocks()], [[5]])
 
     def test_resync_to_the_next_byte(self) -> None:
@@ -526,7 +530,7 @@ class Damage(unittest.TestCase):
 
 # The calls of the library that the module needs, but for that of its version.
 CALLS = ["open", "streaminfo", "next_metadata", "vendor", "next_tag", "next_block_planar"]
-CALLS += ["md5_start", "md5_samples", "md5_finish"]
+CALLS += ["find_frame", "seek", "crc16", "md5_start", "md5_samples", "md5_finish"]
 
 
 class Library(FolderCase):
@@ -534,8 +538,7 @@ class Library(FolderCase):
 
     def setUp(self) -> None:
         super().setUp()
-        (self.folder / "python").mkdir()
-        shutil.copy(claxon.__file__, self.folder / "python")
+        copy_module(self.folder / "python")
         self.built = pathlib.Path(claxon._library._name)
 
     def imported(self, **variables: str) -> str:
@@ -546,7 +549,8 @@ class Library(FolderCase):
 
     def test_places(self) -> None:
         self.assertEqual(self.imported(CLAXON_LIBRARY=str(self.built)), str(self.built))
-        for place in ("c/out/libclaxon.so", "python/libclaxon.so.0.2", "python/libclaxon.so"):
+        beside = "python/claxon/libclaxon.so"
+        for place in ("lib/libclaxon.so.0.2", "c/out/libclaxon.so", f"{beside}.0.2", beside):
             path = self.folder.resolve() / place
             path.parent.mkdir(parents=True, exist_ok=True)
             shutil.copy(self.built, path)
@@ -581,7 +585,7 @@ class Library(FolderCase):
     def test_missing_call(self) -> None:
         path = self.made(200, CALLS[:-1])
         found = self.imported(CLAXON_LIBRARY=str(path))
-        self.assertIn(f"ImportError: {path} hasn't all calls that claxon.py needs (", found)
+        self.assertIn(f"ImportError: {path} hasn't all calls that this module needs (", found)
         self.assertIn("claxon_md5_finish", found)
 
     def test_other_versions(self) -> None:
@@ -592,4 +596,4 @@ class Library(FolderCase):
             if text is None:
                 self.assertEqual(found, str(path))
             else:
-                self.assertIn(f"{path} has version {text}, and claxon.py needs 0.2:", found)
+                self.assertIn(f"{path} has version {text}, and this module needs 0.2:", found)
