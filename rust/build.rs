@@ -1,4 +1,5 @@
-//! Finds the library for C: in the folder that CLAXON_LIB_DIR names, else where `make -C c` puts it, else by pkg-config.
+//! Finds the library for C: in the folder that CLAXON_LIB_DIR names, else where `make -C c` puts it, else beside this crate in
+//! an archive, else by pkg-config. The static library is taken where there are both.
 use std::env;
 use std::path::{Path, PathBuf};
 use std::process::{exit, Command};
@@ -6,6 +7,7 @@ use std::process::{exit, Command};
 const HELP: &str = "\
 claxon: the library for C wasn't found. One of these helps:
   make -C c                        in the repository, of which this crate is the folder rust/
+  an archive of claxon             whose folder rust/ is this crate, beside lib/
   CLAXON_LIB_DIR=FOLDER            the folder that has libclaxon.a or libclaxon.so
   PKG_CONFIG_PATH=PREFIX/lib/pkgconfig   where it was installed below PREFIX";
 
@@ -15,8 +17,12 @@ const SHARED: &str = "libclaxon.so";
 fn main() {
     println!("cargo:rerun-if-env-changed=CLAXON_LIB_DIR");
     println!("cargo:rerun-if-env-changed=PKG_CONFIG_PATH");
+    // Documentation is built without the library.
+    if env::var_os("DOCS_RS").is_some() {
+        return;
+    }
     if !is_supported() {
-        fail("claxon: the library for C is for x86-64 Linux");
+        fail("claxon: the library for C is for Linux on x86-64 and 64-bit ARM");
     }
     match library_folder() {
         Some(folder) => link(&folder),
@@ -29,9 +35,12 @@ fn fail(reason: &str) -> ! {
     exit(1);
 }
 
+fn target(name: &str) -> String {
+    env::var(format!("CARGO_CFG_TARGET_{name}")).unwrap_or_default()
+}
+
 fn is_supported() -> bool {
-    let target = |name: &str| env::var(name).unwrap_or_default();
-    target("CARGO_CFG_TARGET_OS") == "linux" && target("CARGO_CFG_TARGET_ARCH") == "x86_64"
+    target("OS") == "linux" && ["x86_64", "aarch64"].contains(&target("ARCH").as_str())
 }
 
 fn library_folder() -> Option<PathBuf> {
@@ -43,8 +52,10 @@ fn library_folder() -> Option<PathBuf> {
         return Some(folder);
     }
     // Cargo sets it for each build script.
-    let built = Path::new(&env::var_os("CARGO_MANIFEST_DIR")?).join("../c/out");
-    Some(built).filter(|folder| has_library(folder)).or_else(installed)
+    let crate_folder = env::var_os("CARGO_MANIFEST_DIR")?;
+    let built = if target("ARCH") == "aarch64" { "../c/out/aarch64" } else { "../c/out" };
+    let folders = [built, "../lib"].map(|folder| Path::new(&crate_folder).join(folder));
+    folders.into_iter().find(|folder| has_library(folder)).or_else(installed)
 }
 
 fn has_library(folder: &Path) -> bool {
