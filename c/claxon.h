@@ -18,7 +18,7 @@ extern "C" {
 #endif
 
 /* The version of this header: 10000 * major + 100 * minor + patch. */
-#define CLAXON_VERSION 200
+#define CLAXON_VERSION 300
 
 /* The version of the library. */
 uint32_t claxon_version(void);

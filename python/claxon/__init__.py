@@ -53,7 +53,7 @@ _OUT_OF_MEMORY, _NO_MORE, _BUFFER_TOO_SMALL, _OVER_BUDGET = range(4, 8)
 _NEED_MORE = -1  # no status of the library: more bytes have to be handed in
 _STREAMINFO, _VORBIS_COMMENT = 0, 4
 _MAX_FRAME_BYTES = 16777215
-_INTERFACE = 2  # the minor version of the library, below 1.0.0
+_INTERFACE = 3  # the minor version of the library, below 1.0.0
 _LIBRARY = f"libclaxon.so.0.{_INTERFACE}"
 
 _MAX_BLOCKS = 65536  # of metadata, that claxon_open reads
@@ -283,7 +283,7 @@ _CRC_OF_BYTE = [_library.claxon_crc16(0, bytes([byte]), 1) for byte in range(256
 
 
 def library_version() -> str:
-    """The version of the library for C that was loaded, such as "0.2.0"."""
+    """The version of the library for C that was loaded, such as "0.3.0"."""
     return _version_text(_library.claxon_version())
 
 

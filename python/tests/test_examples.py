@@ -46,7 +46,7 @@ class Folder(FolderCase):
         super().setUp()
         (self.folder / "player").mkdir()
         (self.folder / "c" / "out").mkdir(parents=True)
-        shutil.copy(claxon._library._name, self.folder / "c" / "out" / "libclaxon.so.0.2")
+        shutil.copy(claxon._library._name, self.folder / "c" / "out" / "libclaxon.so.0.3")
         shutil.copytree(VERIFY.parent, self.folder / "python" / "examples")
         copy_module(self.folder / "python")
         song = bytearray((TOP / "examples" / "tagged.flac").read_bytes())

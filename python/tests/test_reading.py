@@ -550,7 +550,7 @@ class Library(FolderCase):
     def test_places(self) -> None:
         self.assertEqual(self.imported(CLAXON_LIBRARY=str(self.built)), str(self.built))
         beside = "python/claxon/libclaxon.so"
-        for place in ("lib/libclaxon.so.0.2", "c/out/libclaxon.so", f"{beside}.0.2", beside):
+        for place in ("lib/libclaxon.so.0.3", "c/out/libclaxon.so", f"{beside}.0.3", beside):
             path = self.folder.resolve() / place
             path.parent.mkdir(parents=True, exist_ok=True)
             shutil.copy(self.built, path)
@@ -583,17 +583,17 @@ class Library(FolderCase):
         return path
 
     def test_missing_call(self) -> None:
-        path = self.made(200, CALLS[:-1])
+        path = self.made(300, CALLS[:-1])
         found = self.imported(CLAXON_LIBRARY=str(path))
         self.assertIn(f"ImportError: {path} hasn't all calls that this module needs (", found)
         self.assertIn("claxon_md5_finish", found)
 
     def test_other_versions(self) -> None:
         """Another patch of the interface is taken; another interface is refused by its version."""
-        for version, text in ((299, None), (199, "0.1.99"), (300, "0.3.0"), (10200, "1.2.0")):
+        for version, text in ((399, None), (299, "0.2.99"), (400, "0.4.0"), (10300, "1.3.0")):
             path = self.made(version, CALLS)
             found = self.imported(CLAXON_LIBRARY=str(path))
             if text is None:
                 self.assertEqual(found, str(path))
             else:
-                self.assertIn(f"{path} has version {text}, and this module needs 0.2:", found)
+                self.assertIn(f"{path} has version {text}, and this module needs 0.3:", found)

@@ -17,7 +17,7 @@ pub const OVER_BUDGET: u32 = 7;
 
 /// The version of the interface that is declared here.
 #[cfg(test)]
-pub const VERSION: u32 = 200;
+pub const VERSION: u32 = 300;
 
 /// The maximum number of bytes of a frame that a streaminfo can give.
 pub const MAX_FRAME_BYTES: usize = 16_777_215;

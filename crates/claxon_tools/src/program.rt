@@ -24,7 +24,7 @@ use std::io::{self, ErrorKind, Read, Write};
 use std::rt::Files;
 
 /// The version of the product.
-pub const VERSION: &str = "0.2.0";
+pub const VERSION: &str = "0.3.0";
 
 // What to do with a file whose name isn't UTF-8.
 const NOT_UTF8_HELP: &str = "use claxon verify - < FILE, or --files0-from";
