@@ -1,6 +1,6 @@
 -- What a call returns for the frame at a position.
 use Rattle.std.proofs.Common.{◌≡◌, inl, inr, ℕ, ℤ, ◌+◌, ◌-◌, ◌*◌, ◌<◌, List, length, take, drop, min, Option, None, Some, refl, sym, ap, subst, ◌∙◌, arith}
-use Rattle.std.specs.Prelude.{Ok, Err}
+use Rattle.std.specs.Prelude.{Ok, Err, IfSome}
 use Rattle.std.proofs.lemmas.List.{drop_all, length-drop, take_all}
 use Rattle.std.proofs.lemmas.Bool.{cases_lt}
 use Rattle.claxon.specs.Fault.{Fault}
@@ -17,9 +17,10 @@ use Rattle.claxon_seek.specs.AtStart.{FrameAtStart}
 use Rattle.claxon_c.specs.declared.heads.ClaxonInfo.{ClaxonInfo}
 use Rattle.claxon_c.specs.declared.next_block.ClaxonBlock.{ClaxonBlock}
 use Rattle.claxon_c.specs.Info.{known_stream}
-use Rattle.claxon_c.specs.NextBlock.{BlockIsKept, CBlockElseIoError, CBlockFaultIsComplete, CBlockFaultIsSound, CBlockIsComplete, CBlockIsShown, CBlockIsSound, CBlockNoMoreIffEof, CBlockOutOfMemoryAfterHeader, CFrameHeaderFaultIsComplete, CHeaderIsShown, CSamplesAreGiven, CTooSmallIffLarger, IsAtEnd, IsBlockStatus, IsDecoded, IsRefused, IsTooSmall, LargerBlockAtStart, SampleOrder, NextBlock, PositionIsKept, ShowsBlock, ShowsInfo, TextIsKept}
-use Rattle.claxon_c.specs.Status.{TextIsReported, ok}
-use Rattle.claxon_c.proofs.HeadersAtStart.{larger_says, says_larger}
+use Rattle.claxon_c.specs.NextBlock.{BlockIsKept, CBlockElseIoError, CBlockFaultIsComplete, CBlockFaultIsSound, CBlockIsComplete, CBlockIsShown, CBlockIsSound, CBlockNoMoreIffEof, CBlockOutOfMemoryAfterHeader, CFrameHeaderFaultIsComplete, CHeaderIsShown, CSamplesAreGiven, CTooSmallIffLarger, IsAtEnd, IsBlockStatus, IsDecoded, IsRefused, IsTooSmall, HasLarger, HeaderOrNone, SampleOrder, NextBlock, PositionIsKept, ShowsBlock, ShowsBytes, ShowsHeader, TextIsKept}
+use Rattle.claxon_c.specs.Status.{TextIsReported, buffer_too_small, ok}
+use Rattle.claxon_c.proofs.BitDepthCode.{shows_header}
+use Rattle.claxon_c.proofs.HeadersAtStart.{larger_says, not_larger_there, same_said, says_larger}
 use Rattle.claxon_c.proofs.Reports.{each_fault_reported, io_error_reported, fault_reported, just_error, error_out_of_memory, out_of_memory_reported, text_reported}
 
 -- all clauses of it
@@ -60,10 +61,6 @@ at_position known stream bytes from start r count e s h =
 -- ---- a header, and the frame that it begins
 
 module _ (stream : Option StreamFormat) (rest : List ℕ) where
-  -- what is said of a block there is said of it by each header
-  same_said : (x y : BlockInfo) → BeginsWith (HeaderOf stream x) rest → BeginsWith (HeaderOf stream y) rest → x ≡ y
-  same_said x y (t, m, c, e) (u, n, d, f) = ((headers_unambiguous stream).one_code x y t u m n c d (sym e ∙ f)).0
-
   -- a header has no fault
   no_header_fault : (x : BlockInfo) (f : Fault) → BeginsWith (HeaderOf stream x) rest → BeginsWith (HeaderBytesFault stream f) rest → ⊥
   no_header_fault x f (t, m, c, e) (u, n, d, g) = (headers_unambiguous stream).no_fault x f t u m n c d (sym e ∙ g)
@@ -77,7 +74,7 @@ module _ (stream : Option StreamFormat) (rest : List ℕ) where
   says_block x b header (t, m, c, e) =
       let k = frame_has_header stream b t m c in
       let there : BeginsWith (HeaderOf stream k.0) rest = (k.2.0, k.2.1, k.2.2, e ∙ k.2.3) in
-      subst (λ (y : BlockInfo). SaysBlock y b) (same_said k.0 x there header) k.1
+      subst (λ (y : BlockInfo). SaysBlock y b) (same_said stream rest k.0 x there header) k.1
 
   two_bytes : (x : BlockInfo) → BeginsWith (HeaderOf stream x) rest → length rest < 2 → ⊥
   two_bytes x (t, m, c, e) few = header_has_two_bytes stream x t m c (subst (λ (s : List ℕ). length s < 2) e few)
@@ -111,7 +108,7 @@ module _ (Put : SampleOrder) (info : ClaxonInfo) (bytes : List ℕ) (from : ℕ)
         named = λ fits f begins. each_fault_reported status before after rest Bad e reported {A = Option BlockValue} f (h.named f begins);
         header_named = λ f begins. elim (each_fault_reported status before after rest Bad e reported {A = Option BlockValue} f (h.named f (fault_of_frame stream rest f begins))) [
           | inl p ↦ p
-          | inr s ↦ (let k = larger_says stream 0 rest (h.memory (error_out_of_memory status before after rest Bad e reported s)) in absurd (no_header_fault stream rest k.0 f k.1 begins))
+          | inr s ↦ (let k = larger_says stream rest 0 (h.memory (error_out_of_memory status before after rest Bad e reported s)) in absurd (no_header_fault stream rest k.0 f k.1 begins))
         ];
         eof = (λ p. absurd (no.1.0 p), λ few. absurd (let q = h.eof.1 few in cc));
         io = λ fits some n. io_error_reported status before after rest Bad e reported h.fault n;
@@ -152,11 +149,11 @@ module _ (Put : SampleOrder) (info : ClaxonInfo) (bytes : List ℕ) (from : ℕ)
   too_small status r same =
       let is = r.status_is in
       let says = λ (b : Block) (begins : BeginsWith (Frame stream b) rest). says_block stream rest r.said b r.header begins in
-      let larger = says_larger stream (length old) rest r.said r.header r.larger in
+      let larger = says_larger stream rest (length old) r.said r.header r.larger in
       record {
         sound = λ p. absurd cc;
         shown_is = λ q b begins. (let k = says b begins in record { time = r.shows.time ∙ k.time; channels = r.shows.channels ∙ k.channels; duration_is = r.shows.duration_is ∙ k.duration_is });
-        header = λ q x begins. subst (λ (y : BlockInfo). ShowsInfo y shown) (same_said stream rest r.said x r.header begins) r.shows;
+        header = λ q x begins. subst (λ (y : BlockInfo). ShowsHeader stream rest y shown) (same_said stream rest r.said x r.header begins) r.shows;
         samples = λ q b begins. (let k = says b begins in inr (is, rw (← k.channels, ← k.duration_is) r.larger));
         complete = λ b begins. inl (inr is);
         too_small = (λ p. larger, λ p. is);
@@ -180,8 +177,8 @@ module _ (Put : SampleOrder) (info : ClaxonInfo) (bytes : List ℕ) (from : ℕ)
       let there : BeginsWith (Frame stream (block_view found)) rest = (h.sound.0, h.sound.1, h.sound.2, h.sound.3) in
       record {
         sound = λ q. (block_view found, h.sound.0, h.sound.1, h.sound.2, h.sound.3, r.after ∙ ap (λ (n : ℕ). from + n) h.sound.4);
-        shown_is = λ q b begins. subst (λ (z : Block). ShowsBlock z shown) (same_block b begins) r.shows;
-        header = λ q x begins. (let k = says_block stream rest x (block_view found) begins there in record { time = r.shows.time ∙ sym k.time; channels = r.shows.channels ∙ sym k.channels; duration_is = r.shows.duration_is ∙ sym k.duration_is });
+        shown_is = λ q b begins. (let k = says_block stream rest r.said b r.header begins in record { time = r.shows.time ∙ k.time; channels = r.shows.channels ∙ k.channels; duration_is = r.shows.duration_is ∙ k.duration_is });
+        header = λ q x begins. subst (λ (y : BlockInfo). ShowsHeader stream rest y shown) (same_said stream rest r.said x r.header begins) r.shows;
         samples = λ q b begins. inl (rw (← same_block b begins) (refl, r.fits, put));
         complete = λ b begins. inl (inl refl);
         too_small = (λ p. absurd cc, λ larger. absurd (r.not_larger larger));
@@ -210,21 +207,43 @@ module _ (Put : SampleOrder) (info : ClaxonInfo) (bytes : List ℕ) (from : ℕ)
 -- ---- the call that both share
 
 module _ (info : ClaxonInfo) (bytes : List ℕ) (from capacity start : ℕ) (is : start ≡ min (length bytes) from) where
+  -- of the bytes from the position on
+  pub header_at_position : (known stream : Option StreamFormat) (header : Option BlockInfo) → known ≡ stream → HeaderOrNone known (take (length bytes - start) (drop start bytes)) header → HeaderOrNone stream (drop from bytes) header
+  header_at_position known stream header same h =
+      subst (λ (z : List ℕ). HeaderOrNone stream z header) (rest_there from start bytes is) (subst (λ (z : Option StreamFormat). HeaderOrNone z (take (length bytes - start) (drop start bytes)) header) same h)
+
+  pub shown_there : (header : Option BlockInfo) (shown : ClaxonBlock) → IfSome header (λ said. ShowsBytes (take (length bytes - start) (drop start bytes)) said shown) → IfSome header (λ said. ShowsBytes (drop from bytes) said shown)
+  shown_there header shown shows = subst (λ (z : List ℕ). IfSome header (λ said. ShowsBytes z said shown)) (rest_there from start bytes is) shows
+
+  -- a header whose samples don't fit
+  pub too_small_there : (header : Option BlockInfo) (shown : ClaxonBlock) → HeaderOrNone (known_stream info) (drop from bytes) header → HasLarger capacity header → IfSome header (λ said. ShowsBytes (drop from bytes) said shown) → IsTooSmall info bytes from capacity buffer_too_small shown
+  too_small_there None shown none larger shows = absurd larger
+  too_small_there (Some said) shown there larger shows = record {
+    status_is = refl;
+    said = said;
+    header = there;
+    larger = larger;
+    shows = shows_header (known_stream info) (drop from bytes) said shown shows;
+  }
+
   -- the position after the frame
-  pub decoded_there : (found : BlockValue) (count : ℕ) (shown : ClaxonBlock) → FrameAtStart (known_stream info) (drop from bytes) (Ok (Some found)) count → LargerBlockAtStart (known_stream info) capacity (drop from bytes) None → ShowsBlock (block_view found) shown
-      → IsDecoded info bytes from capacity found (start + count) shown
-  decoded_there found count shown h none shows =
+  pub decoded_there : (found : BlockValue) (count : ℕ) (header : Option BlockInfo) (shown : ClaxonBlock) → FrameAtStart (known_stream info) (drop from bytes) (Ok (Some found)) count → HeaderOrNone (known_stream info) (drop from bytes) header → (HasLarger capacity header → ⊥)
+      → IfSome header (λ said. ShowsBytes (drop from bytes) said shown) → IsDecoded info bytes from capacity found (start + count) shown
+  decoded_there found count None shown h none fits shows =
+      let t = h.sound in
+      let k = frame_has_header (known_stream info) (block_view found) t.0 t.1 t.2 in
+      absurd (none k.0 (k.2.0, k.2.1, k.2.2, t.3 ∙ k.2.3))
+  decoded_there found count (Some said) shown h there fits shows =
       let stream = known_stream info in
       let rest = drop from bytes in
       let enough : length rest < 2 → ⊥ = λ few. (let q = h.eof.1 few in cc) in
       let t = h.sound in
-      let k = frame_has_header stream (block_view found) t.0 t.1 t.2 in
-      let there : BeginsWith (HeaderOf stream k.0) rest = (k.2.0, k.2.1, k.2.2, t.3 ∙ k.2.3) in
+      let k = says_block stream rest said (block_view found) there (t.0, t.1, t.2, t.3) in
       record {
-        not_larger = none;
-        fits = elim (cases_lt capacity (k.0.channels * k.0.duration)) [
-          | inl lt ↦ absurd (none (says_larger stream capacity rest k.0 there lt))
-          | inr le ↦ rw (← k.1.channels, ← k.1.duration_is) le
+        not_larger = not_larger_there stream rest capacity (Some said) there fits;
+        fits = elim (cases_lt capacity (said.channels * said.duration)) [
+          | inl lt ↦ absurd (fits lt)
+          | inr le ↦ rw (← k.channels, ← k.duration_is) le
         ];
         count = count;
         frame = h;
@@ -232,10 +251,7 @@ module _ (info : ClaxonInfo) (bytes : List ℕ) (from capacity start : ℕ) (is 
           | inr le ↦ omega (arith, is, le, length-drop from bytes)
           | inl lt ↦ absurd (enough lt)
         ];
-        shows = shows;
+        said = said;
+        header = there;
+        shows = shows_header stream rest said shown shows;
       }
-
-  -- of the bytes from the position on
-  pub larger_there : (known stream : Option StreamFormat) (r : Option BlockInfo) → known ≡ stream → LargerBlockAtStart known capacity (take (length bytes - start) (drop start bytes)) r → LargerBlockAtStart stream capacity (drop from bytes) r
-  larger_there known stream r same h =
-      subst (λ (z : List ℕ). LargerBlockAtStart stream capacity z r) (rest_there from start bytes is) (subst (λ (z : Option StreamFormat). LargerBlockAtStart z capacity (take (length bytes - start) (drop start bytes)) r) same h)

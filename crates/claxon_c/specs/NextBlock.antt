@@ -8,21 +8,29 @@ use Rattle.std.specs.Prelude.{
   ℤ,
   ◌+◌,
   ◌*◌,
+  ◌/◌,
+  ◌%◌,
   ◌<◌,
   ◌≤◌,
+  ◌==◌,
+  cond,
   List,
   ◌++◌,
   length,
   drop,
+  slice_index,
   Option,
   Result,
   Ok,
   Err,
   None,
   Some,
+  IsSomeAnd,
 }
+use Rattle.claxon.specs.Bits.{bits_of}
 use Rattle.claxon.specs.Fault.{Fault}
-use Rattle.claxon.specs.Frame.{Block, Frame, FrameBytesFault, StreamFormat}
+use Rattle.claxon.specs.Frame.{Block, Frame, FrameBytesFault, StreamFormat, known_bit_depth}
+use Rattle.claxon.specs.Header.{Header, HeaderCode}
 use Rattle.claxon.specs.Streams.{duration_of, interleave}
 use Rattle.claxon.specs.Promises.{HasNeither}
 use Rattle.claxon.specs.Errors.{Error}
@@ -30,6 +38,7 @@ use Rattle.claxon.specs.Block.{BlockValue, joined}
 use Rattle.claxon.specs.BlockInfo.{HeaderBytesFault, HeaderOf}
 use Rattle.claxon.specs.BlockInfos.{BlockInfo}
 use Rattle.claxon.specs.FrameReader.{HeaderOfLargerBlock, block_view}
+use Rattle.claxon.specs.MetadataBlock.{or_zero}
 use Rattle.claxon.specs.Prefix.{BeginsWith}
 use Rattle.claxon_seek.specs.AtStart.{FrameAtStart}
 use Rattle.claxon_c.specs.declared.heads.ClaxonInfo.{ClaxonInfo}
@@ -66,11 +75,26 @@ pub record ShowsBlock (b : Block) (shown : ClaxonBlock) : Type 0 where
   pub channels : shown.channels ≡ length b.channels
   pub duration_is : shown.duration ≡ duration_of b.channels
 
--- It shows what a header says of its block.
-pub record ShowsInfo (info : BlockInfo) (shown : ClaxonBlock) : Type 0 where
+-- The bytes begin with a header that has this code of the bit depth (RFC 9639, section 9.1.4).
+abbrev pub HasBitDepthCode : Option StreamFormat → ℕ → List ℕ → Type 0
+HasBitDepthCode stream code =
+    BeginsWith (λ t. (h : Header) × HeaderCode (known_bit_depth stream) h (bits_of t)
+    × (code ≡ h.fields.bit_depth_code))
+
+-- the bit depth that is shown: 0 under the code 0, which leaves it to the streaminfo
+abbrev pub shown_bit_depth : ℕ → ℕ → ℕ
+shown_bit_depth code bit_depth = cond (code == 0) 0 bit_depth
+
+-- It shows what the header says with which the bytes begin.
+pub record ShowsHeader (stream : Option StreamFormat) (bytes : List ℕ) (info : BlockInfo)
+    (shown : ClaxonBlock) : Type 0 where
   pub time : shown.time ≡ info.time
   pub channels : shown.channels ≡ info.channels
   pub duration_is : shown.duration ≡ info.duration
+  pub sample_rate : shown.sample_rate ≡ or_zero info.sample_rate
+  pub bits_per_sample :
+      (code : ℕ) → HasBitDepthCode stream code bytes
+      → shown.bits_per_sample ≡ shown_bit_depth code info.bit_depth
 
 -- The samples of the block are written where they fit, else the status is `buffer_too_small`.
 abbrev pub GivesSamples : SampleOrder → Block → ℕ → List ℤ → List ℤ → Type 0
@@ -120,7 +144,8 @@ module _ (info : ClaxonInfo) (bytes : List ℕ) (from status : ℕ) where
   abbrev pub CHeaderIsShown : ClaxonBlock → Type 0
   CHeaderIsShown shown =
       IsBlockStatus status → (said : BlockInfo)
-      → BeginsWith (HeaderOf (known_stream info) said) (drop from bytes) → ShowsInfo said shown
+      → BeginsWith (HeaderOf (known_stream info) said) (drop from bytes)
+      → ShowsHeader (known_stream info) (drop from bytes) said shown
 
   -- The samples are written where they fit, else the status is `buffer_too_small`.
   abbrev pub CSamplesAreGiven : SampleOrder → List ℤ → List ℤ → Type 0
@@ -191,13 +216,27 @@ CBlockNoMoreIffEof bytes from status = (status ≡ no_more) ↔ (length (drop fr
 
 -- ---- the call that both share
 
--- The bytes begin with the header of a block that has more samples than the capacity, which says
--- what is returned. Or they don't.
-abbrev pub LargerBlockAtStart : Option StreamFormat → ℕ → List ℕ → Option BlockInfo → Type 0
-LargerBlockAtStart stream capacity bytes None =
-    BeginsWith (HeaderOfLargerBlock stream capacity) bytes → ⊥
-LargerBlockAtStart stream capacity bytes (Some info) =
-    BeginsWith (HeaderOf stream info) bytes × (capacity < info.channels * info.duration)
+-- The bytes begin with a header, which says what is returned. Or they don't.
+abbrev pub HeaderOrNone : Option StreamFormat → List ℕ → Option BlockInfo → Type 0
+HeaderOrNone stream bytes None = (info : BlockInfo) → BeginsWith (HeaderOf stream info) bytes → ⊥
+HeaderOrNone stream bytes (Some info) = BeginsWith (HeaderOf stream info) bytes
+
+-- The block of a header has more samples than the capacity.
+abbrev pub HasLarger : ℕ → Option BlockInfo → Type 0
+HasLarger capacity header = IsSomeAnd header (λ info. capacity < info.channels * info.duration)
+
+-- the code of the bit depth, by the fourth byte
+abbrev pub code_in_bytes : List ℕ → ℕ
+code_in_bytes bytes = slice_index bytes 3 / 2 % 8
+
+-- It shows what a header says, and the bit depth by the fourth of these bytes.
+pub record ShowsBytes (bytes : List ℕ) (info : BlockInfo) (shown : ClaxonBlock) : Type 0 where
+  pub time : shown.time ≡ info.time
+  pub channels : shown.channels ≡ info.channels
+  pub duration_is : shown.duration ≡ info.duration
+  pub sample_rate : shown.sample_rate ≡ or_zero info.sample_rate
+  pub bits_per_sample :
+      shown.bits_per_sample ≡ shown_bit_depth (code_in_bytes bytes) info.bit_depth
 
 module _ (info : ClaxonInfo) (bytes : List ℕ) (from capacity : ℕ) where
   -- A frame was decoded whose samples fit, and the position is after it.
@@ -207,7 +246,9 @@ module _ (info : ClaxonInfo) (bytes : List ℕ) (from capacity : ℕ) where
     pub count : ℕ
     pub frame : FrameAtStart (known_stream info) (drop from bytes) (Ok (Some found)) count
     pub after : to ≡ from + count
-    pub shows : ShowsBlock (block_view found) shown
+    pub said : BlockInfo
+    pub header : BeginsWith (HeaderOf (known_stream info) said) (drop from bytes)
+    pub shows : ShowsHeader (known_stream info) (drop from bytes) said shown
 
   -- A header stands at the position whose block has more samples than the capacity.
   pub record IsTooSmall (status : ℕ) (shown : ClaxonBlock) : Type 0 where
@@ -215,7 +256,7 @@ module _ (info : ClaxonInfo) (bytes : List ℕ) (from capacity : ℕ) where
     pub said : BlockInfo
     pub header : BeginsWith (HeaderOf (known_stream info) said) (drop from bytes)
     pub larger : capacity < said.channels * said.duration
-    pub shows : ShowsInfo said shown
+    pub shows : ShowsHeader (known_stream info) (drop from bytes) said shown
 
   -- Too few bytes are left for a frame.
   pub record IsAtEnd (status : ℕ) : Type 0 where

@@ -1,8 +1,8 @@
 //! Blocks, one after another.
-ghost use Rattle.std.specs.Prelude.{IfSome, length};
+ghost use Rattle.std.specs.Prelude.{◌≡◌, ◌↔◌, IfSome, IsTrue, drop, length};
 ghost use Rattle.std.specs.Option.{option_map};
 ghost use Rattle.claxon.specs.FlacReader.{HasBitDepth};
-ghost use Rattle.claxon.specs.FrameReader.{block_view, stream_with};
+ghost use Rattle.claxon.specs.FrameReader.{stream_with};
 ghost use Rattle.claxon_c.specs.NextBlock.{
   BlockIsKept,
   CBlockElseIoError,
@@ -18,12 +18,13 @@ ghost use Rattle.claxon_c.specs.NextBlock.{
   CSamplesAreInterleaved,
   CSamplesArePlanar,
   CTooSmallIffLarger,
-  LargerBlockAtStart,
+  HasLarger,
+  HeaderOrNone,
   NextBlock,
   PositionIsKept,
-  ShowsBlock,
-  ShowsInfo,
+  ShowsBytes,
   TextIsKept,
+  code_in_bytes,
 };
 ghost use Rattle.claxon_c.specs.Status.{TextIsReported};
 
@@ -47,29 +48,45 @@ pub struct ClaxonBlock {
     pub channels: u32,
     /// The number of samples of each channel.
     pub duration: u32,
+    /// The sample rate in Hz, or 0 where the frame header leaves it to the streaminfo.
+    pub sample_rate: u32,
+    /// The bit depth, or 0 where the frame header leaves it to the streaminfo.
+    pub bits_per_sample: u32,
 }
 
 impl ClaxonBlock {
-    fn new(block: &Block) -> ClaxonBlock
-        ensures { ShowsBlock (block_view block.now) result }
-    {
-        ClaxonBlock {
-            time: block.time(),
-            channels: block.channels(),
-            duration: block.duration(),
-        }
-    }
-
-    // As the header of its frame says.
-    pub(crate) fn from_header(info: &BlockInfo) -> ClaxonBlock
-        ensures { ShowsInfo info.now result }
+    // What the header says with which the bytes begin.
+    pub(crate) fn from_header(info: &BlockInfo, bytes: &[u8]) -> ClaxonBlock
+        ensures { ShowsBytes bytes.now info.now result }
     {
         ClaxonBlock {
             time: info.time,
             channels: info.channels,
             duration: info.duration,
+            sample_rate: info.sample_rate.unwrap_or(0),
+            bits_per_sample: match bit_depth_code(bytes) {
+                0 => 0,
+                _ => info.bit_depth,
+            },
         }
     }
+}
+
+// The code of the bit depth in the bytes of a header. (RFC 9639, section 9.1.4.)
+fn bit_depth_code(bytes: &[u8]) -> u8
+    ensures { result ≡ code_in_bytes bytes.now }
+{
+    match bytes.get(3) {
+        Some(byte) => *byte / 2 % 8,
+        None => 0,
+    }
+}
+
+// The bytes from the position on.
+pub(crate) fn bytes_from(bytes: &[u8], at: usize) -> &[u8]
+    ensures { result.now ≡ drop at bytes.now }
+{
+    &bytes[bytes.len().min(at)..]
 }
 
 /// Decodes the frame at the position into interleaved samples, and moves the position after it. Where the samples don't fit, no
@@ -181,14 +198,15 @@ fn next_block(
     let start = bytes.len().min(*at);
     let rest = &bytes[start..];
     let known = info.known_stream();
-    if let Some(larger) = larger_block_at_start(rest, known, capacity) {
-        *block = ClaxonBlock::from_header(&larger);
+    let header = header_there(rest, known);
+    if has_larger(&header, capacity) {
+        show(&header, rest, block);
         return Err(BUFFER_TOO_SMALL);
     }
     let mut count = 0;
     match block_at_start(alloc, rest, known, &mut count) {
         Ok(Some(found)) => {
-            *block = ClaxonBlock::new(&found);
+            show(&header, rest, block);
             *at = start + count;
             Ok(found)
         }
@@ -197,25 +215,32 @@ fn next_block(
     }
 }
 
-// What the header says that the bytes begin with, if its block has more samples than this capacity. Else None, also where
-// there is no header.
-fn larger_block_at_start(
-    bytes: &[u8],
-    known: Option<StreamInfo>,
-    capacity: usize,
-) -> Option<BlockInfo>
+// What the header says with which the bytes begin, if there is one.
+fn header_there(bytes: &[u8], known: Option<StreamInfo>) -> Option<BlockInfo>
     requires { IfSome known (λ info. HasBitDepth info) }
-    ensures { LargerBlockAtStart (option_map stream_with known) capacity bytes.now result }
+    ensures { HeaderOrNone (option_map stream_with known) bytes.now result }
 {
     match header_at_start(bytes, known) {
-        Ok(Some(info)) => {
-            if info.channels as usize * info.duration as usize > capacity {
-                Some(info)
-            } else {
-                None
-            }
-        }
-        Ok(None) => None,
+        Ok(header) => header,
         Err(_) => None,
+    }
+}
+
+// Whether the header's block has more samples than this capacity.
+fn has_larger(header: &Option<BlockInfo>, capacity: usize) -> bool
+    ensures { IsTrue result ↔ HasLarger capacity header.now }
+{
+    match header {
+        Some(info) => info.channels as usize * info.duration as usize > capacity,
+        None => false,
+    }
+}
+
+// Shows what the header says, if there is one.
+fn show(header: &Option<BlockInfo>, bytes: &[u8], block: &mut ClaxonBlock)
+    ensures { IfSome header.now (λ info. ShowsBytes bytes.now info block.new) }
+{
+    if let Some(info) = header {
+        *block = ClaxonBlock::from_header(info, bytes);
     }
 }

@@ -21,7 +21,7 @@ ghost use Rattle.claxon_c.specs.Seek.{
 };
 
 use crate::heads::ClaxonInfo;
-use crate::next_block::ClaxonBlock;
+use crate::next_block::{ClaxonBlock, bytes_from};
 use crate::status::{NO_MORE, OK, OUT_OF_MEMORY, OVER_BUDGET};
 use claxon_seek::{Search, find_frame, seek};
 use std::alloc::Global;
@@ -63,7 +63,7 @@ pub extern "C" fn claxon_find_frame(
     match found {
         Search::Found(frame) => {
             *at = frame.position;
-            *block = ClaxonBlock::from_header(&frame.block);
+            *block = ClaxonBlock::from_header(&frame.block, bytes_from(bytes, frame.position));
             OK
         }
         Search::NotFound(undecided) => {
@@ -102,7 +102,7 @@ pub extern "C" fn claxon_seek(
     match seek(alloc, bytes, known, info.first_frame, sample, budget) {
         Ok(Search::Found(found)) => {
             *at = found.position;
-            *block = ClaxonBlock::from_header(&found.block);
+            *block = ClaxonBlock::from_header(&found.block, bytes_from(bytes, found.position));
             OK
         }
         Ok(Search::NotFound(_)) => NO_MORE,

@@ -187,7 +187,35 @@ pub(crate) fn likely_header(
     ensures before_end { IfSome result (λ found. found.position < span.now.end) }
     ensures at_most { IfSome result (λ found. found.position < from + length bytes.now) }
 {
-    for i in 0..span.end.saturating_sub(from).min(bytes.len()) {
+    let len = span.end.saturating_sub(from).min(bytes.len());
+    for eight in 0..=len / 8 {
+        let start = 8 * eight;
+        if has_no_ff(&bytes[start..]) {
+            continue;
+        }
+        let found = header_in_eight(bytes, start, from, span, known);
+        if found.is_some() {
+            return found;
+        }
+    }
+    None
+}
+
+// The first such header that begins at one of eight positions from `start` on.
+fn header_in_eight(
+    bytes: &[u8],
+    start: usize,
+    from: usize,
+    span: &Span,
+    known: Option<StreamInfo>,
+) -> Option<FoundFrame>
+    requires { IfSome known (λ info. HasBitDepth info) }
+    ensures at_least { IfSome result (λ found. from ≤ found.position) }
+    ensures before_end { IfSome result (λ found. found.position < span.now.end) }
+    ensures at_most { IfSome result (λ found. found.position < from + length bytes.now) }
+{
+    let len = span.end.saturating_sub(from).min(bytes.len());
+    for i in start..len.min(start.saturating_add(8)) {
         if let HeaderThere::Wanted(block) = wanted_header(&bytes[i..], &known, None) {
             if span.is_likely(&block) {
                 return Some(FoundFrame {
@@ -199,3 +227,21 @@ pub(crate) fn likely_header(
     }
     None
 }
+
+// Whether there are eight bytes, and none of them is 0xff, with which each header begins.
+#[inline(always)]
+fn has_no_ff(bytes: &[u8]) -> bool {
+    match bytes.first_chunk::<8>() {
+        // Without a byte 0xff no subtraction borrows, so none sets a highest bit that `!word` lacks.
+        Some(eight) => {
+            let word = u64::from_le_bytes(*eight);
+            (!word).wrapping_sub(LOWEST_BITS) & word & HIGHEST_BITS == 0
+        }
+        None => false,
+    }
+}
+
+// The lowest and the highest bit of each of eight bytes.
+const LOWEST_BITS: u64 = 0x0101_0101_0101_0101;
+
+const HIGHEST_BITS: u64 = 0x8080_8080_8080_8080;

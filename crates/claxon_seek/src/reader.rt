@@ -51,6 +51,12 @@ const MAX_FRAME_BYTES: usize = 1 << 24;
 // How often a frame is read at most, of twice as many bytes each time: up to `MAX_FRAME_BYTES`.
 const MAX_ATTEMPTS: u32 = 11;
 
+// How many samples the blocks of headers may have that lead a search to no frame, and how many more for each byte that is passed.
+// So its time is linear in the bytes.
+const MAX_WASTED: u64 = 1 << 25;
+
+const WASTED_OF_A_BYTE: u64 = 4;
+
 /// What is shown of a stream's head.
 #[derive(Drop)]
 struct Head {
@@ -207,11 +213,12 @@ impl<R: Read + Seek> SeekableReader<R> {
     /// table isn't read.
     ///
     /// None if no frame was found. The reader is then where it was, and so it is after an error. That a frame is found wherever
-    /// there is one is tested, not promised. Bytes that were made on purpose can take the square of their number in time.
+    /// there is one is tested, not promised. The time is linear in the bytes.
     ///
     /// # Errors
     ///
-    /// `IoError` if a read or a seek of the source fails, `OutOfMemory` if memory is refused. The call can be made again.
+    /// `IoError` if a read or a seek of the source fails, or if very many headers of blocks with the sample lead to no frame, as in
+    /// bytes that were made on purpose. `OutOfMemory` if memory is refused. The call can be made again.
     pub fn seek(&mut self, sample: u64) -> Result<Option<BlockInfo>>
         ensures goes_to_sample { GoesToSample sample self.old result self.new }
         ensures goes_to_frames { GoesToFrames sample self.old result self.new }
@@ -416,9 +423,10 @@ impl<R: Read + Seek> SeekableReader<R> {
         ensures keeps_stream { KeepsStream self.old self.new }
     {
         let mut wanted = USUAL_BYTES;
+        let mut budget = MAX_WASTED;
         for _ in 0..u64::MAX {
             let is_full = self.window.fill(wanted)?;
-            match self.search_pending(sample)? {
+            match self.search_pending(sample, &mut budget)? {
                 Some(block) => return Ok(Some(block)),
                 None if !is_full => return Ok(None),
                 None => wanted = self.more_bytes(),
@@ -427,8 +435,9 @@ impl<R: Read + Seek> SeekableReader<R> {
         Ok(None)
     }
 
-    // Goes to the first such frame in the pending bytes, or else to the first that may be one with more bytes.
-    fn search_pending(&mut self, sample: u64) -> Result<Option<BlockInfo>>
+    // Goes to the first such frame in the pending bytes, or else to the first that may be one with more bytes. The samples of the
+    // blocks of headers with the sample are taken from the budget, and each byte that is passed adds to it.
+    fn search_pending(&mut self, sample: u64, budget: &mut u64) -> Result<Option<BlockInfo>>
         ensures goes_to_sample { GoesToSample sample self.old result self.new }
         ensures goes_on { reader_position self.old ≤ reader_position self.new }
         ensures is_io_or_memory { IfErr result IsIoOrMemory }
@@ -437,18 +446,18 @@ impl<R: Read + Seek> SeekableReader<R> {
         let pending = self.window.pending();
         let len = pending.len();
         let known = Some(self.head.streaminfo);
-        let mut budget = u64::MAX;
-        let passed = match find(self.alloc, pending, 0, known, Some(sample), &mut budget)? {
+        let passed = match find(self.alloc, pending, 0, known, Some(sample), budget)? {
             Search::Found(found) => {
                 self.window.pass(found.position);
                 return Ok(Some(found.block));
             }
             Search::NotFound(undecided) => undecided,
-            Search::OverBudget(position) => position,
+            Search::OverBudget(_) => return Err(too_many_headers()),
         };
         // A frame that has more bytes than one may have is passed.
-        let least = usize::from(len >= MAX_FRAME_BYTES);
-        self.window.pass(passed.max(least));
+        let passed = passed.max(usize::from(len >= MAX_FRAME_BYTES));
+        self.window.pass(passed);
+        *budget = budget.saturating_add(WASTED_OF_A_BYTE.saturating_mul(passed as u64));
         Ok(None)
     }
 }
@@ -468,5 +477,12 @@ fn too_large() -> Error
     ensures { IsIo result }
 {
     let cause = "a frame of more than 16 MiB";
+    Error::IoError(io::Error::new(io::ErrorKind::InvalidData, cause))
+}
+
+fn too_many_headers() -> Error
+    ensures { IsIo result }
+{
+    let cause = "too many headers lead to no frame";
     Error::IoError(io::Error::new(io::ErrorKind::InvalidData, cause))
 }

@@ -205,3 +205,43 @@ fn shows_its_head(rt: HostRuntime) -> std::result::Result<(), Fail> {
     assert_eq!(rt; flac.into_inner().get_ref().len(), 158);
     Ok(())
 }
+
+// A streaminfo of eight channels of 8 bits, and a frame of the largest block, whose last byte should be 0x40.
+#[rattlefmt::skip]
+const HEAD_OF_8_CHANNELS: [u8; 42] = [
+    0x66, 0x4c, 0x61, 0x43, 0x80, 0x00, 0x00, 0x22, 0xff, 0xff, 0xff, 0xff, 0x00, 0x00, 0x00, 0x00, 0x00, 0x00,
+    0x0a, 0xc4, 0x4e, 0x70, 0x00, 0x00, 0x00, 0x00, 0x00, 0x00, 0x00, 0x00, 0x00, 0x00, 0x00, 0x00, 0x00, 0x00,
+    0x00, 0x00, 0x00, 0x00, 0x00, 0x00,
+];
+
+#[rattlefmt::skip]
+const WRONG_FOOTER: [u8; 26] = [
+    0xff, 0xf8, 0x79, 0x72, 0x00, 0xff, 0xfe, 0xec, 0x00, 0x07, 0x00, 0x07, 0x00, 0x07, 0x00, 0x07, 0x00, 0x07,
+    0x00, 0x07, 0x00, 0x07, 0x00, 0x07, 0x04, 0x41,
+];
+
+// Headers of blocks with the sample that lead to no frame: 64 are searched, and after 65 the search gives up.
+#[test]
+fn headers_without_frames(rt: HostRuntime) -> std::result::Result<(), Fail> {
+    let alloc = rt.alloc();
+    for (count, gives_up) in [(64u32, false), (65, true)] {
+        let mut bytes = Vec::new(alloc);
+        bytes.extend_from_slice(&HEAD_OF_8_CHANNELS)?;
+        for _ in 0..count {
+            bytes.extend_from_slice(&WRONG_FOOTER)?;
+        }
+        let mut flac = SeekableReader::new(alloc, Cursor::new(bytes.as_slice()))
+            .ok()
+            .ok_or("head")?;
+        match flac.seek(5) {
+            Ok(found) => assert!(rt; !gives_up && found.is_none()),
+            Err(Error::IoError(error)) => {
+                assert!(rt; gives_up);
+                assert_eq!(rt; error.kind(), ErrorKind::InvalidData);
+            }
+            Err(_) => return Err("another error".into()),
+        }
+        assert_eq!(rt; flac.position(), 42);
+    }
+    Ok(())
+}
