@@ -188,20 +188,20 @@ pub(crate) fn likely_header(
     ensures at_most { IfSome result (λ found. found.position < from + length bytes.now) }
 {
     let len = span.end.saturating_sub(from).min(bytes.len());
-    for eight in 0..=len / 8 {
-        let start = 8 * eight;
-        if has_no_ff(&bytes[start..]) {
-            continue;
-        }
+    let mut start = 0;
+    while start < len {
+        start += bytes_without_ff(&bytes[start..len]);
         let found = header_in_eight(bytes, start, from, span, known);
         if found.is_some() {
             return found;
         }
+        start = start.saturating_add(8);
     }
     None
 }
 
 // The first such header that begins at one of eight positions from `start` on.
+#[inline(never)]
 fn header_in_eight(
     bytes: &[u8],
     start: usize,
@@ -228,17 +228,24 @@ fn header_in_eight(
     None
 }
 
-// Whether there are eight bytes, and none of them is 0xff, with which each header begins.
-#[inline(always)]
-fn has_no_ff(bytes: &[u8]) -> bool {
-    match bytes.first_chunk::<8>() {
-        // Without a byte 0xff no subtraction borrows, so none sets a highest bit that `!word` lacks.
-        Some(eight) => {
-            let word = u64::from_le_bytes(*eight);
-            (!word).wrapping_sub(LOWEST_BITS) & word & HIGHEST_BITS == 0
+// How many bytes there are, in steps of eight, before eight that may have a byte 0xff, with which each header begins.
+#[inline(never)]
+fn bytes_without_ff(bytes: &[u8]) -> usize
+    ensures { result ≤ length bytes.now }
+{
+    let (eights, _) = bytes.as_chunks::<8>();
+    for (i, eight) in eights.iter().enumerate() {
+        if may_have_ff(u64::from_le_bytes(*eight)) {
+            return 8 * i;
         }
-        None => false,
     }
+    8 * eights.len()
+}
+
+// Without a byte 0xff no subtraction borrows, so none sets a highest bit that `!word` lacks.
+#[inline(always)]
+fn may_have_ff(word: u64) -> bool {
+    (!word).wrapping_sub(LOWEST_BITS) & word & HIGHEST_BITS != 0
 }
 
 // The lowest and the highest bit of each of eight bytes.
