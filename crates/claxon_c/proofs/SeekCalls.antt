@@ -60,7 +60,7 @@ module _ (info : ClaxonInfo) (bytes : List ℕ) (from budget left : ℕ) (block 
       record {
         found_is_first = λ is. (g.0, record { said = at.block; frame = g.1; shows = is_shown }, g.2);
         first_is_found = λ n said after frame none. (let one = one_first (known_info info) bytes from at.position n at.block said g.1 frame g.0 g.2 after none in
-        inl (refl, one.0, subst (λ (k : ℕ). ShowsHeader stream (drop k bytes) said shown) one.0 (subst (λ (x : BlockInfo). ShowsHeader stream (drop at.position bytes) x shown) one.1 is_shown)));
+            inl (refl, one.0, subst (λ (k : ℕ). ShowsHeader stream (drop k bytes) said shown) one.0 (subst (λ (x : BlockInfo). ShowsHeader stream (drop at.position bytes) x shown) one.1 is_shown)));
         no_more_is_none = λ is. absurd cc;
         none_is_no_more = λ none. absurd (none at.position g.0 at.block g.1);
         undecided_is_first = λ is. absurd cc;
