@@ -1,6 +1,5 @@
 -- The code of the bit depth is in the fourth byte of a header.
-use Rattle.std.proofs.Common.{◌≡◌, ℕ, ◌+◌, ◌*◌, ◌/◌, ◌%◌, ◌^◌, ◌<◌, Bool, true, false, List, [], ◌∷◌, ◌++◌, take, drop, Option, refl, sym, ap, ◌∙◌, append_assoc, arith}
-use Rattle.std.specs.Prelude.{slice_index}
+use Rattle.std.proofs.Common.{◌≡◌, ℕ, ◌*◌, ◌%◌, ◌^◌, ◌<◌, Bool, true, false, List, [], ◌∷◌, ◌++◌, take, drop, Option, refl, sym, ap, ◌∙◌, append_assoc, arith}
 use Rattle.claxon.specs.Bits.{Bits, bits, bits_of, number}
 use Rattle.claxon.specs.Crc.{bit, crc8}
 use Rattle.claxon.specs.Frame.{StreamFormat}

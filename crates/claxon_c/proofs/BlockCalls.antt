@@ -17,7 +17,7 @@ use Rattle.claxon_seek.specs.AtStart.{FrameAtStart}
 use Rattle.claxon_c.specs.declared.heads.ClaxonInfo.{ClaxonInfo}
 use Rattle.claxon_c.specs.declared.next_block.ClaxonBlock.{ClaxonBlock}
 use Rattle.claxon_c.specs.Info.{known_stream}
-use Rattle.claxon_c.specs.NextBlock.{BlockIsKept, CBlockElseIoError, CBlockFaultIsComplete, CBlockFaultIsSound, CBlockIsComplete, CBlockIsShown, CBlockIsSound, CBlockNoMoreIffEof, CBlockOutOfMemoryAfterHeader, CFrameHeaderFaultIsComplete, CHeaderIsShown, CSamplesAreGiven, CTooSmallIffLarger, IsAtEnd, IsBlockStatus, IsDecoded, IsRefused, IsTooSmall, HasLarger, HeaderOrNone, SampleOrder, NextBlock, PositionIsKept, ShowsBlock, ShowsBytes, ShowsHeader, TextIsKept}
+use Rattle.claxon_c.specs.NextBlock.{BlockIsKept, CBlockElseIoError, CBlockFaultIsComplete, CBlockFaultIsSound, CBlockIsComplete, CBlockIsShown, CBlockIsSound, CBlockNoMoreIffEof, CBlockOutOfMemoryAfterHeader, CFrameHeaderFaultIsComplete, CHeaderIsShown, CSamplesAreGiven, CTooSmallIffLarger, IsAtEnd, IsBlockStatus, IsDecoded, IsRefused, IsTooSmall, HasLarger, HeaderOrNone, SampleOrder, NextBlock, PositionIsKept, ShowsBytes, ShowsHeader, TextIsKept}
 use Rattle.claxon_c.specs.Status.{TextIsReported, buffer_too_small, ok}
 use Rattle.claxon_c.proofs.BitDepthCode.{shows_header}
 use Rattle.claxon_c.proofs.HeadersAtStart.{larger_says, not_larger_there, same_said, says_larger}

@@ -1,6 +1,6 @@
 -- The header that bytes in memory begin with.
 use Rattle.std.proofs.Common.{◌≡◌, ℕ, ◌*◌, ◌<◌, List, Option, None, Some, refl, sym, subst, ◌∙◌}
-use Rattle.std.specs.Prelude.{IsOkAnd, IsSomeAnd, Ok, Err}
+use Rattle.std.specs.Prelude.{Ok, Err}
 use Rattle.claxon.specs.BlockInfo.{HeaderAnswer, HeaderOf, block_info}
 use Rattle.claxon.specs.BlockInfos.{BlockInfo}
 use Rattle.claxon.specs.Errors.{Error}

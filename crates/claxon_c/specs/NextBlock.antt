@@ -37,7 +37,7 @@ use Rattle.claxon.specs.Errors.{Error}
 use Rattle.claxon.specs.Block.{BlockValue, joined}
 use Rattle.claxon.specs.BlockInfo.{HeaderBytesFault, HeaderOf}
 use Rattle.claxon.specs.BlockInfos.{BlockInfo}
-use Rattle.claxon.specs.FrameReader.{HeaderOfLargerBlock, block_view}
+use Rattle.claxon.specs.FrameReader.{HeaderOfLargerBlock}
 use Rattle.claxon.specs.MetadataBlock.{or_zero}
 use Rattle.claxon.specs.Prefix.{BeginsWith}
 use Rattle.claxon_seek.specs.AtStart.{FrameAtStart}
