@@ -84,11 +84,13 @@ struct claxon_tag {
     size_t value_length; /* the length of its value in bytes */
 };
 
-/* The properties of a block. */
+/* The properties of a block, from the header of its frame. */
 struct claxon_block {
-    uint64_t time;     /* the number of samples of each channel before it */
-    uint32_t channels; /* 1 to 8 */
-    uint32_t duration; /* the number of samples of each channel, 1 to 65535 */
+    uint64_t time;            /* the number of samples of each channel before it */
+    uint32_t channels;        /* 1 to 8 */
+    uint32_t duration;        /* the number of samples of each channel, 1 to 65535 */
+    uint32_t sample_rate;     /* in Hz, or 0 where the header leaves it to the streaminfo */
+    uint32_t bits_per_sample; /* or 0 where the header leaves it to the streaminfo */
 };
 
 /* The MD5 sum of samples, as far as they were hashed. Its fields are for the calls alone. It needs no end, and may be
@@ -116,8 +118,9 @@ static_assert(sizeof(struct claxon_tag) == 32 && offsetof(struct claxon_tag, nam
                   offsetof(struct claxon_tag, name_length) == 8 && offsetof(struct claxon_tag, value_at) == 16 &&
                   offsetof(struct claxon_tag, value_length) == 24,
               "claxon is for Linux on x86-64 and 64-bit ARM: struct claxon_tag has another layout here");
-static_assert(sizeof(struct claxon_block) == 16 && offsetof(struct claxon_block, time) == 0 &&
-                  offsetof(struct claxon_block, channels) == 8 && offsetof(struct claxon_block, duration) == 12,
+static_assert(sizeof(struct claxon_block) == 24 && offsetof(struct claxon_block, time) == 0 &&
+                  offsetof(struct claxon_block, channels) == 8 && offsetof(struct claxon_block, duration) == 12 &&
+                  offsetof(struct claxon_block, sample_rate) == 16 && offsetof(struct claxon_block, bits_per_sample) == 20,
               "claxon is for Linux on x86-64 and 64-bit ARM: struct claxon_block has another layout here");
 static_assert(sizeof(struct claxon_md5) == 88 && offsetof(struct claxon_md5, state) == 0 &&
                   offsetof(struct claxon_md5, length) == 16 && offsetof(struct claxon_md5, buffer) == 24,

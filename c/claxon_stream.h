@@ -12,15 +12,16 @@
  * Or the bytes are handed in as they come, by claxon_stream_init_push and claxon_stream_feed in place of the callback.
  * claxon_stream_seek goes to a sample, where another callback seeks.
  *
- * A block is given when the last byte of its frame was read, whatever the size of the pieces: nothing is read while a block
- * can be given of the bytes that are held. A frame of more than some 100 KB may wait for up to as many bytes again.
+ * A block is given when the last byte of its frame was read, whatever the size of the frame and of the pieces: nothing is read
+ * while a block can be given of the bytes that are held. Where the CRC of a frame is wrong, and in a stream that is made to cost
+ * time, up to as many bytes again may be read. So may they behind a frame of more than 100 KB, after which none begins.
  *
  * It holds 64 KiB of the stream, and twice as much where a frame doesn't fit, up to CLAXON_MAX_FRAME_BYTES; what is handed
  * in at once; the samples of one block; and the Vorbis comments. Any other metadata block is passed over without being held.
  *
- * Calls return an enum claxon_status, or CLAXON_NEED_MORE. OUT_OF_MEMORY between frames: the call may be repeated.
- * INPUT_ENDS: the bytes end within the head or a frame, or reading failed. BUFFER_TOO_SMALL is never returned. Streams are
- * independent of one another. */
+ * Calls return an enum claxon_status, CLAXON_NEED_MORE or CLAXON_READ_FAILED. OUT_OF_MEMORY between frames: the call may be
+ * repeated. INPUT_ENDS: the bytes end within the head or a frame. BUFFER_TOO_SMALL is never returned. Streams are independent of
+ * one another. */
 #ifndef CLAXON_STREAM_H
 #define CLAXON_STREAM_H
 
@@ -32,9 +33,18 @@
 
 #include "claxon.h"
 
+/* What each call here is. In C89 `inline` is no word, and a function that isn't called brings a warning. */
+#if defined(__cplusplus) || (defined(__STDC_VERSION__) && __STDC_VERSION__ >= 199901L)
+#define CLAXON_STATIC static inline
+#elif defined(__GNUC__)
+#define CLAXON_STATIC static __inline__
+#else
+#define CLAXON_STATIC static
+#endif
+
 /* Reads at most `length` bytes, at least one, and returns their number, or 0 at the end. What is there is to be returned, as
  * read(2) does it, without waiting for more. More than `length` says that reading failed, so that the -1 of read(2) may be
- * returned as it is. It isn't called again after the end or a failure. */
+ * returned as it is. It isn't called again after the end or a failure, unless a seek has succeeded. */
 typedef size_t claxon_stream_read(void *source, uint8_t *bytes, size_t length);
 
 /* Moves the source as lseek(2) does: by `offset` from its start (SEEK_SET), from where it is (SEEK_CUR) or from its end
@@ -45,6 +55,11 @@ typedef int64_t claxon_stream_seek_to(void *source, int64_t offset, int whence);
 /* What a call returns where the bytes are handed in and those that are there don't suffice: nothing is lost, and the call is
  * to be repeated after claxon_stream_feed or claxon_stream_feed_end. It is far from the numbers of enum claxon_status. */
 #define CLAXON_NEED_MORE 100
+
+/* What a call returns where a callback failed, of the source and not of the stream: `error` is "reading failed" or "seeking
+ * failed". A later call gives the blocks that are held whole, and then returns it again: neither callback is called until a seek
+ * is. After a seek that has succeeded the stream goes on from there. */
+#define CLAXON_READ_FAILED 101
 
 /* What a stream has shown so far. */
 struct claxon_stream {
@@ -66,9 +81,10 @@ struct claxon_stream {
     uint8_t *window;
     size_t window_size, start, held;
     size_t trial, tried, summed; /* bytes of the frame: in the last try, in vain, and those whose CRC is `crc` */
+    size_t longest;              /* as many of them as an encoder may write, where the header is known */
     size_t ready;                /* the length of the frame that is decoded already, or 0 */
     size_t samples_size;
-    uint64_t wasted;
+    uint64_t wasted, in_vain; /* work of resync, and of tries where the CRC is 0, that led to no frame */
     uint8_t *made_head; /* as far as it was read: `made_length` bytes of content, and space for `made_size` */
     size_t made_length, made_size;
     uint8_t *kept_head;
@@ -83,70 +99,71 @@ struct claxon_stream {
 };
 
 /* Begins a stream. Nothing is read, and no memory is taken yet. `source` is handed to `read`. */
-static inline void claxon_stream_init(struct claxon_stream *stream, claxon_stream_read *read, void *source);
+CLAXON_STATIC void claxon_stream_init(struct claxon_stream *stream, claxon_stream_read *read, void *source);
 
 /* Begins a stream whose bytes are handed in. */
-static inline void claxon_stream_init_push(struct claxon_stream *stream);
+CLAXON_STATIC void claxon_stream_init_push(struct claxon_stream *stream);
 
 /* Hands in the next bytes, which are copied. OUT_OF_MEMORY: none was taken. Else OK. What isn't a whole block yet is held, as
  * are the blocks that aren't taken: take all of them before the next bytes. */
-static inline uint32_t claxon_stream_feed(struct claxon_stream *stream, const uint8_t *bytes, size_t length);
+CLAXON_STATIC uint32_t claxon_stream_feed(struct claxon_stream *stream, const uint8_t *bytes, size_t length);
 
 /* Says that all bytes were handed in. No call returns CLAXON_NEED_MORE after it. */
-static inline void claxon_stream_feed_end(struct claxon_stream *stream);
+CLAXON_STATIC void claxon_stream_feed_end(struct claxon_stream *stream);
 
 /* Gives its memory back. */
-static inline void claxon_stream_free(struct claxon_stream *stream);
+CLAXON_STATIC void claxon_stream_free(struct claxon_stream *stream);
 
 /* Goes to the next metadata block, whose content may then be read. NO_MORE: the head is complete. A streaminfo block is in
  * `info` then, and Vorbis comments are in `comments`. Faults and their texts are those of claxon_open for the same bytes; a
  * head that has one is at its end. */
-static inline uint32_t claxon_stream_next_metadata(struct claxon_stream *stream, struct claxon_metadata *metadata);
+CLAXON_STATIC uint32_t claxon_stream_next_metadata(struct claxon_stream *stream, struct claxon_metadata *metadata);
 
 /* Reads the next bytes of the content of that block. Returns their number: less than `length` where its content, the stream
  * or what was handed in ends. */
-static inline size_t claxon_stream_content(struct claxon_stream *stream, uint8_t *bytes, size_t length);
+CLAXON_STATIC size_t claxon_stream_content(struct claxon_stream *stream, uint8_t *bytes, size_t length);
 
 /* Reads the head, or what is left of it. With CLAXON_OK, the stream is at its first frame or after it. Else as
  * claxon_stream_next_metadata. */
-static inline uint32_t claxon_stream_open(struct claxon_stream *stream);
+CLAXON_STATIC uint32_t claxon_stream_open(struct claxon_stream *stream);
 
 /* Decodes the next frame into `block` and `samples`, interleaved. It opens the stream first where that wasn't done.
  * NO_MORE: the stream is at its end. FORMAT_ERROR, UNSUPPORTED, INPUT_ENDS: there is no frame at `position`, which stays,
  * as claxon_next_block says it; or it has more than CLAXON_MAX_FRAME_BYTES. */
-static inline uint32_t claxon_stream_next_block(struct claxon_stream *stream);
+CLAXON_STATIC uint32_t claxon_stream_next_block(struct claxon_stream *stream);
 
 /* As claxon_stream_next_block, with the samples of one channel after those of another. */
-static inline uint32_t claxon_stream_next_block_planar(struct claxon_stream *stream);
+CLAXON_STATIC uint32_t claxon_stream_next_block_planar(struct claxon_stream *stream);
 
 /* Goes to the next position at which a frame of the stream begins: one with the number of channels and the bit depth of `info`,
  * or any frame where a fault in the head left that unknown. It goes on after what was refused, in the head too.
  * claxon_stream_next_block gives that frame, whose block.time says how much is missing before it. NO_MORE: there is none. The
  * time is linear in the bytes: where very many headers have led to no frame, as in a stream that was made for it, some bytes are
  * passed over unsearched. */
-static inline uint32_t claxon_stream_resync(struct claxon_stream *stream);
+CLAXON_STATIC uint32_t claxon_stream_resync(struct claxon_stream *stream);
 
 /* Lets a stream with a callback that reads seek too. */
-static inline void claxon_stream_set_seek(struct claxon_stream *stream, claxon_stream_seek_to *seek);
+CLAXON_STATIC void claxon_stream_set_seek(struct claxon_stream *stream, claxon_stream_seek_to *seek);
 
 /* Goes to a frame of the stream whose block has the sample, counted in each channel: claxon_stream_next_block gives that block,
  * whose first sample - block.time samples come before it. It opens the stream first where that wasn't done. Headers lead there:
  * neither they nor the number of samples in the head are believed, and a seek table isn't read. Where they don't lead to such a
  * frame, all frames are searched. NO_MORE: none has the sample; the stream is at its end. UNSUPPORTED: no callback seeks; the
- * stream stays where it is. INPUT_ENDS, OUT_OF_MEMORY: reading or seeking failed, or memory was refused. OVER_BUDGET: none was
- * found, and some bytes were passed over unsearched, as by resync. After these three no block is given until a seek has
- * succeeded; it may be repeated. After a fault of the head it is returned. */
-static inline uint32_t claxon_stream_seek(struct claxon_stream *stream, uint64_t sample);
+ * stream stays where it is, as it does after READ_FAILED where the source doesn't say where it is, as a pipe. READ_FAILED,
+ * OUT_OF_MEMORY: reading or seeking failed, or memory was refused. OVER_BUDGET: none was found, and some bytes were passed over
+ * unsearched, as by resync. After these three a call for a block returns READ_FAILED until a seek has succeeded; it may be
+ * repeated. After a fault of the head it is returned. */
+CLAXON_STATIC uint32_t claxon_stream_seek(struct claxon_stream *stream, uint64_t sample);
 
 /* A claxon_stream_read whose source is a FILE *. It waits for all bytes that it is asked for, as fread does. */
-static inline size_t claxon_stream_fread(void *file, uint8_t *bytes, size_t length);
+CLAXON_STATIC size_t claxon_stream_fread(void *file, uint8_t *bytes, size_t length);
 
 /* A claxon_stream_read whose source is an int *, a file descriptor. Of a pipe or a socket it returns what is there. */
-static inline size_t claxon_stream_read_fd(void *fd, uint8_t *bytes, size_t length);
+CLAXON_STATIC size_t claxon_stream_read_fd(void *fd, uint8_t *bytes, size_t length);
 
 /* The callbacks that seek for these two. A pipe or a socket can't be sought. */
-static inline int64_t claxon_stream_fseek(void *file, int64_t offset, int whence);
-static inline int64_t claxon_stream_seek_fd(void *fd, int64_t offset, int whence);
+CLAXON_STATIC int64_t claxon_stream_fseek(void *file, int64_t offset, int whence);
+CLAXON_STATIC int64_t claxon_stream_seek_fd(void *fd, int64_t offset, int whence);
 
 /* The code of these calls. */
 
@@ -157,19 +174,30 @@ static inline int64_t claxon_stream_seek_fd(void *fd, int64_t offset, int whence
 #define CLAXON_STREAM_MAX_BLOCKS 65536
 #define CLAXON_STREAM_MAX_APPLICATION (10 * 1024 * 1024)
 
-/* How much work may lead to no frame, in bytes and samples, before some is left out: resync passes over bytes that it doesn't
- * search, and no frame is tried for its CRC. How much of it a byte that is passed makes good; what a call costs in any case; and
- * what it costs to read a header that is none. */
+/* How much work of resync may lead to no frame, in bytes and samples, before it passes over bytes that it doesn't search; how
+ * much of it a byte that is passed makes good; what a call costs in any case; and what a header costs that is none. */
 #define CLAXON_STREAM_MAX_WASTED (2 * (uint64_t)CLAXON_MAX_FRAME_BYTES)
 #define CLAXON_STREAM_WASTED_OF_A_BYTE 4
 #define CLAXON_STREAM_WASTED_BY_A_CALL 64
 #define CLAXON_STREAM_WASTED_BY_A_SYNC_CODE 16
 
+/* How much work of tries where the CRC is 0 may lead to no block, in bytes and samples, before such tries are left out: all of
+ * them, and those behind which no frame seems to begin. How much of it a read makes good, and each byte that was read. And how
+ * many bytes an encoder may write for a sample, but for CLAXON_STREAM_STEP more.
+ * By chance the CRC is 0 at one place of 65536. So byte by byte a frame of L bytes and S samples takes (L / 2 + S) / 65536 for
+ * each read, which is 24 for eight channels of 65535 samples of 32 bits. In larger pieces the bytes behind such a place mostly
+ * show that no frame begins there. */
+#define CLAXON_STREAM_MAX_IN_VAIN (4 * (uint64_t)CLAXON_MAX_FRAME_BYTES)
+#define CLAXON_STREAM_MAX_UNLIKELY (2 * (uint64_t)CLAXON_MAX_FRAME_BYTES)
+#define CLAXON_STREAM_MADE_GOOD_BY_A_READ 28
+#define CLAXON_STREAM_MADE_GOOD_BY_A_BYTE 2
+#define CLAXON_STREAM_BYTES_OF_A_SAMPLE 4
+
 /* What has_failed says. */
 #define CLAXON_STREAM_READ_FAILED 1
 #define CLAXON_STREAM_SEEK_FAILED 2
 
-static inline void claxon_stream_init(struct claxon_stream *stream, claxon_stream_read *read, void *source) {
+CLAXON_STATIC void claxon_stream_init(struct claxon_stream *stream, claxon_stream_read *read, void *source) {
     static const uint8_t no_comments[8] = {0, 0, 0, 0, 0, 0, 0, 0};
     memset(stream, 0, sizeof *stream);
     stream->comments = no_comments;
@@ -177,23 +205,24 @@ static inline void claxon_stream_init(struct claxon_stream *stream, claxon_strea
     stream->read = read;
     stream->source = source;
     stream->at_once = SIZE_MAX;
+    stream->longest = CLAXON_MAX_FRAME_BYTES;
     memcpy(stream->head, "fLaC", 4);
     stream->head_length = 4;
 }
 
-static inline void claxon_stream_init_push(struct claxon_stream *stream) {
+CLAXON_STATIC void claxon_stream_init_push(struct claxon_stream *stream) {
     claxon_stream_init(stream, NULL, NULL);
 }
 
 /* Forgets the head that is made for claxon_open. */
-static inline void claxon_stream_drop_made_head(struct claxon_stream *stream) {
+CLAXON_STATIC void claxon_stream_drop_made_head(struct claxon_stream *stream) {
     free(stream->made_head);
     stream->made_head = NULL;
     stream->made_length = 0;
     stream->made_size = 0;
 }
 
-static inline void claxon_stream_free(struct claxon_stream *stream) {
+CLAXON_STATIC void claxon_stream_free(struct claxon_stream *stream) {
     claxon_stream_drop_made_head(stream);
     free(stream->window);
     free(stream->samples);
@@ -203,12 +232,12 @@ static inline void claxon_stream_free(struct claxon_stream *stream) {
     stream->kept_head = NULL;
 }
 
-static inline size_t claxon_stream_fread(void *file, uint8_t *bytes, size_t length) {
+CLAXON_STATIC size_t claxon_stream_fread(void *file, uint8_t *bytes, size_t length) {
     size_t count = fread(bytes, 1, length, (FILE *)file);
     return count == 0 && ferror((FILE *)file) ? (size_t)-1 : count;
 }
 
-static inline size_t claxon_stream_read_fd(void *fd, uint8_t *bytes, size_t length) {
+CLAXON_STATIC size_t claxon_stream_read_fd(void *fd, uint8_t *bytes, size_t length) {
     ssize_t count;
     do {
         count = read(*(int *)fd, bytes, length);
@@ -216,38 +245,49 @@ static inline size_t claxon_stream_read_fd(void *fd, uint8_t *bytes, size_t leng
     return (size_t)count;
 }
 
-static inline int64_t claxon_stream_fseek(void *file, int64_t offset, int whence) {
+CLAXON_STATIC int64_t claxon_stream_fseek(void *file, int64_t offset, int whence) {
     if (fseek((FILE *)file, (long)offset, whence) != 0) {
         return -1;
     }
     return whence == SEEK_SET ? offset : (int64_t)ftell((FILE *)file);
 }
 
-static inline int64_t claxon_stream_seek_fd(void *fd, int64_t offset, int whence) {
+CLAXON_STATIC int64_t claxon_stream_seek_fd(void *fd, int64_t offset, int whence) {
     return (int64_t)lseek(*(int *)fd, offset, whence);
 }
 
-static inline uint32_t claxon_stream_fault(struct claxon_stream *stream, uint32_t status, const char *text) {
+CLAXON_STATIC uint32_t claxon_stream_fault(struct claxon_stream *stream, uint32_t status, const char *text) {
     strcpy(stream->error, text);
     return status;
 }
 
-static inline uint32_t claxon_stream_out_of_memory(struct claxon_stream *stream) {
+CLAXON_STATIC uint32_t claxon_stream_out_of_memory(struct claxon_stream *stream) {
     return claxon_stream_fault(stream, CLAXON_OUT_OF_MEMORY, "out of memory");
 }
 
 /* A status that isn't a fault. */
-static inline uint32_t claxon_stream_no_fault(struct claxon_stream *stream, uint32_t status) {
+CLAXON_STATIC uint32_t claxon_stream_no_fault(struct claxon_stream *stream, uint32_t status) {
     return claxon_stream_fault(stream, status, "");
 }
 
-static inline uint32_t claxon_stream_read_failed(struct claxon_stream *stream) {
+CLAXON_STATIC uint32_t claxon_stream_read_failed(struct claxon_stream *stream) {
     int is_seek = stream->has_failed == CLAXON_STREAM_SEEK_FAILED;
-    return claxon_stream_fault(stream, CLAXON_INPUT_ENDS, is_seek ? "seeking failed" : "reading failed");
+    return claxon_stream_fault(stream, CLAXON_READ_FAILED, is_seek ? "seeking failed" : "reading failed");
+}
+
+CLAXON_STATIC uint64_t claxon_stream_less(uint64_t wasted, uint64_t made_good) {
+    return made_good < wasted ? wasted - made_good : 0;
+}
+
+/* Notes that so many bytes were read at once. */
+CLAXON_STATIC void claxon_stream_note_read(struct claxon_stream *stream, size_t count) {
+    uint64_t made_good = CLAXON_STREAM_MADE_GOOD_BY_A_READ + CLAXON_STREAM_MADE_GOOD_BY_A_BYTE * (uint64_t)count;
+    stream->held += count;
+    stream->in_vain = claxon_stream_less(stream->in_vain, made_good);
 }
 
 /* Moves the bytes that are held to the front of a window of this size, a new one where it is larger. */
-static inline uint32_t claxon_stream_resize(struct claxon_stream *stream, size_t size) {
+CLAXON_STATIC uint32_t claxon_stream_resize(struct claxon_stream *stream, size_t size) {
     if (size > stream->window_size) {
         uint8_t *window = (uint8_t *)malloc(size);
         if (!window) {
@@ -268,7 +308,7 @@ static inline uint32_t claxon_stream_resize(struct claxon_stream *stream, size_t
 
 /* Calls the callback once. It gets space for at least one byte: the window is doubled where it is full. OUT_OF_MEMORY,
  * NEED_MORE: nothing is changed. */
-static inline uint32_t claxon_stream_read_more(struct claxon_stream *stream) {
+CLAXON_STATIC uint32_t claxon_stream_read_more(struct claxon_stream *stream) {
     size_t size = stream->window_size < CLAXON_STREAM_STEP ? CLAXON_STREAM_STEP : stream->window_size;
     size_t length, got;
     uint32_t status;
@@ -286,12 +326,14 @@ static inline uint32_t claxon_stream_read_more(struct claxon_stream *stream) {
     got = stream->read(stream->source, stream->window + stream->held, length);
     stream->has_failed = got > length ? CLAXON_STREAM_READ_FAILED : 0;
     stream->has_ended = got == 0 || got > length;
-    stream->held += stream->has_ended ? 0 : got;
+    if (!stream->has_ended) {
+        claxon_stream_note_read(stream, got);
+    }
     return CLAXON_OK;
 }
 
 /* Reads until `count` bytes are held, or the stream ends. */
-static inline uint32_t claxon_stream_hold(struct claxon_stream *stream, size_t count) {
+CLAXON_STATIC uint32_t claxon_stream_hold(struct claxon_stream *stream, size_t count) {
     uint32_t status = CLAXON_OK;
     while (status == CLAXON_OK && stream->held < count && !stream->has_ended) {
         status = claxon_stream_read_more(stream);
@@ -302,7 +344,7 @@ static inline uint32_t claxon_stream_hold(struct claxon_stream *stream, size_t c
 /* Makes room for so many bytes after those that are held. What is held is moved where that is at most half of the window, so
  * that the time is linear; else the window is doubled. While less than a frame is held, it has no more than
  * CLAXON_MAX_FRAME_BYTES and what is handed in. */
-static inline uint32_t claxon_stream_make_room(struct claxon_stream *stream, size_t length) {
+CLAXON_STATIC uint32_t claxon_stream_make_room(struct claxon_stream *stream, size_t length) {
     size_t count = stream->held + length;
     size_t size = 2 * count;
     if (count < length || size < count) {
@@ -317,30 +359,30 @@ static inline uint32_t claxon_stream_make_room(struct claxon_stream *stream, siz
     return claxon_stream_resize(stream, size < CLAXON_STREAM_STEP ? CLAXON_STREAM_STEP : size);
 }
 
-static inline uint32_t claxon_stream_feed(struct claxon_stream *stream, const uint8_t *bytes, size_t length) {
+CLAXON_STATIC uint32_t claxon_stream_feed(struct claxon_stream *stream, const uint8_t *bytes, size_t length) {
     uint32_t status = length > 0 ? claxon_stream_make_room(stream, length) : (uint32_t)CLAXON_OK;
     if (status == CLAXON_OK && length > 0) {
         memcpy(stream->window + stream->start + stream->held, bytes, length);
-        stream->held += length;
+        claxon_stream_note_read(stream, length);
     }
     return status;
 }
 
-static inline void claxon_stream_feed_end(struct claxon_stream *stream) {
+CLAXON_STATIC void claxon_stream_feed_end(struct claxon_stream *stream) {
     stream->has_ended = 1;
 }
 
 /* Forgets what is known of a frame at the start of the window. */
-static inline void claxon_stream_begin_frame(struct claxon_stream *stream) {
+CLAXON_STATIC void claxon_stream_begin_frame(struct claxon_stream *stream) {
     stream->tried = 0;
     stream->summed = 0;
+    stream->longest = CLAXON_MAX_FRAME_BYTES;
     stream->crc = 0;
 }
 
 /* Passes over so many of the bytes that are held. */
-static inline void claxon_stream_pass(struct claxon_stream *stream, size_t count) {
-    uint64_t made_good = (uint64_t)count * CLAXON_STREAM_WASTED_OF_A_BYTE;
-    stream->wasted -= made_good < stream->wasted ? made_good : stream->wasted;
+CLAXON_STATIC void claxon_stream_pass(struct claxon_stream *stream, size_t count) {
+    stream->wasted = claxon_stream_less(stream->wasted, CLAXON_STREAM_WASTED_OF_A_BYTE * (uint64_t)count);
     stream->start += count;
     stream->held -= count;
     stream->position += count;
@@ -350,7 +392,7 @@ static inline void claxon_stream_pass(struct claxon_stream *stream, size_t count
 }
 
 /* The status and the text of a head that ends too early. */
-static inline uint32_t claxon_stream_head_ends(struct claxon_stream *stream) {
+CLAXON_STATIC uint32_t claxon_stream_head_ends(struct claxon_stream *stream) {
     struct claxon_info info;
     if (stream->has_failed) {
         return claxon_stream_read_failed(stream);
@@ -358,7 +400,7 @@ static inline uint32_t claxon_stream_head_ends(struct claxon_stream *stream) {
     return claxon_open(stream->head, 4, &info, stream->error, sizeof stream->error);
 }
 
-static inline uint32_t claxon_stream_marker(struct claxon_stream *stream) {
+CLAXON_STATIC uint32_t claxon_stream_marker(struct claxon_stream *stream) {
     struct claxon_info info;
     uint32_t status = claxon_stream_hold(stream, 4);
     if (status != CLAXON_OK) {
@@ -375,7 +417,7 @@ static inline uint32_t claxon_stream_marker(struct claxon_stream *stream) {
     return CLAXON_OK;
 }
 
-static inline size_t claxon_stream_content(struct claxon_stream *stream, uint8_t *bytes, size_t length) {
+CLAXON_STATIC size_t claxon_stream_content(struct claxon_stream *stream, uint8_t *bytes, size_t length) {
     size_t done = 0;
     if (length > stream->content_left) {
         length = stream->content_left;
@@ -400,7 +442,7 @@ static inline size_t claxon_stream_content(struct claxon_stream *stream, uint8_t
 }
 
 /* Passes over what is left of the content of a metadata block. */
-static inline uint32_t claxon_stream_skip_content(struct claxon_stream *stream) {
+CLAXON_STATIC uint32_t claxon_stream_skip_content(struct claxon_stream *stream) {
     while (stream->content_left > 0 && !stream->content) {
         size_t count;
         uint32_t status = claxon_stream_hold(stream, 1);
@@ -420,7 +462,7 @@ static inline uint32_t claxon_stream_skip_content(struct claxon_stream *stream) 
 }
 
 /* The header of the next metadata block. */
-static inline uint32_t claxon_stream_metadata_header(struct claxon_stream *stream, struct claxon_metadata *metadata) {
+CLAXON_STATIC uint32_t claxon_stream_metadata_header(struct claxon_stream *stream, struct claxon_metadata *metadata) {
     size_t at = 0;
     uint32_t status = stream->position == 0 ? claxon_stream_marker(stream) : claxon_stream_skip_content(stream);
     if (status != CLAXON_OK) {
@@ -448,7 +490,7 @@ static inline uint32_t claxon_stream_metadata_header(struct claxon_stream *strea
 }
 
 /* Keeps a streaminfo block without a fault, or Vorbis comments, which the head that was made for claxon_open ends with. */
-static inline void claxon_stream_keep(struct claxon_stream *stream, const struct claxon_info *info) {
+CLAXON_STATIC void claxon_stream_keep(struct claxon_stream *stream, const struct claxon_info *info) {
     static const uint8_t empty[12] = {CLAXON_VORBIS_COMMENT, 0, 0, 8, 0, 0, 0, 0, 0, 0, 0, 0};
     if (stream->metadata.type == CLAXON_STREAMINFO) {
         stream->info = *info;
@@ -471,7 +513,7 @@ static inline void claxon_stream_keep(struct claxon_stream *stream, const struct
 }
 
 /* Makes space for more of the content in the head that is made for claxon_open, where all of it is used. */
-static inline uint32_t claxon_stream_grow_made_head(struct claxon_stream *stream) {
+CLAXON_STATIC uint32_t claxon_stream_grow_made_head(struct claxon_stream *stream) {
     size_t size = stream->made_size, length = stream->metadata.length;
     uint8_t *grown;
     if (stream->made_head && stream->made_length < size) {
@@ -488,7 +530,7 @@ static inline uint32_t claxon_stream_grow_made_head(struct claxon_stream *stream
 }
 
 /* Reads the content of a block that claxon_open looks into, after the head that is made for it. */
-static inline uint32_t claxon_stream_make_head(struct claxon_stream *stream) {
+CLAXON_STATIC uint32_t claxon_stream_make_head(struct claxon_stream *stream) {
     size_t before = stream->head_length + 4, got;
     do {
         uint32_t status = claxon_stream_grow_made_head(stream);
@@ -507,7 +549,7 @@ static inline uint32_t claxon_stream_make_head(struct claxon_stream *stream) {
 }
 
 /* Asks claxon_open for the head that ends with the block. */
-static inline uint32_t claxon_stream_try_content(struct claxon_stream *stream) {
+CLAXON_STATIC uint32_t claxon_stream_try_content(struct claxon_stream *stream) {
     struct claxon_info info;
     uint32_t status = claxon_stream_make_head(stream);
     if (status == CLAXON_NEED_MORE) {
@@ -526,7 +568,7 @@ static inline uint32_t claxon_stream_try_content(struct claxon_stream *stream) {
 
 /* Finds what is wrong with a block's header by claxon_open: of a head that is made of the marker, the streaminfo block, an
  * empty block for the Vorbis comments, as far as they were there, and this block as the last one. */
-static inline uint32_t claxon_stream_try_header(struct claxon_stream *stream) {
+CLAXON_STATIC uint32_t claxon_stream_try_header(struct claxon_stream *stream) {
     struct claxon_info info;
     uint8_t *header = stream->head + stream->head_length;
     uint32_t status, length = stream->metadata.length;
@@ -543,7 +585,7 @@ static inline uint32_t claxon_stream_try_header(struct claxon_stream *stream) {
 }
 
 /* Finds what is wrong with the content of a block whose header has no fault. */
-static inline uint32_t claxon_stream_try_block(struct claxon_stream *stream) {
+CLAXON_STATIC uint32_t claxon_stream_try_block(struct claxon_stream *stream) {
     static const uint8_t no_streaminfo[8] = {'f', 'L', 'a', 'C', 0x80 | CLAXON_PADDING, 0, 0, 0};
     struct claxon_info info;
     uint8_t type = stream->metadata.type;
@@ -557,7 +599,7 @@ static inline uint32_t claxon_stream_try_block(struct claxon_stream *stream) {
     return CLAXON_OK;
 }
 
-static inline uint32_t claxon_stream_next_metadata(struct claxon_stream *stream, struct claxon_metadata *metadata) {
+CLAXON_STATIC uint32_t claxon_stream_next_metadata(struct claxon_stream *stream, struct claxon_metadata *metadata) {
     uint32_t status = CLAXON_OK;
     if (stream->in_frames) {
         return claxon_stream_no_fault(stream, CLAXON_NO_MORE);
@@ -590,7 +632,7 @@ static inline uint32_t claxon_stream_next_metadata(struct claxon_stream *stream,
     return claxon_stream_no_fault(stream, status);
 }
 
-static inline uint32_t claxon_stream_open(struct claxon_stream *stream) {
+CLAXON_STATIC uint32_t claxon_stream_open(struct claxon_stream *stream) {
     struct claxon_metadata metadata;
     uint32_t status;
     do {
@@ -600,7 +642,7 @@ static inline uint32_t claxon_stream_open(struct claxon_stream *stream) {
 }
 
 /* Makes room for so many samples. */
-static inline uint32_t claxon_stream_hold_samples(struct claxon_stream *stream, size_t count) {
+CLAXON_STATIC uint32_t claxon_stream_hold_samples(struct claxon_stream *stream, size_t count) {
     if (count > stream->samples_size) {
         size_t size = count < 2 * stream->samples_size ? 2 * stream->samples_size : count;
         int32_t *samples = (int32_t *)malloc(size * sizeof *samples);
@@ -615,15 +657,22 @@ static inline uint32_t claxon_stream_hold_samples(struct claxon_stream *stream, 
 }
 
 /* How many bytes are held of those that a frame may have. */
-static inline size_t claxon_stream_frame_bytes(const struct claxon_stream *stream) {
+CLAXON_STATIC size_t claxon_stream_frame_bytes(const struct claxon_stream *stream) {
     return stream->held < CLAXON_MAX_FRAME_BYTES ? stream->held : CLAXON_MAX_FRAME_BYTES;
+}
+
+/* Whether a frame that seems to end before these bytes is worth a try: they begin another one, or nothing is there yet; or few
+ * of the other tries were in vain. */
+CLAXON_STATIC int claxon_stream_may_end(const struct claxon_stream *stream, const uint8_t *after, size_t count) {
+    int is_likely = count == 0 || (after[0] == 0xff && (count == 1 || after[1] >> 1 == 0x7c));
+    return stream->in_vain <= (is_likely ? CLAXON_STREAM_MAX_IN_VAIN : CLAXON_STREAM_MAX_UNLIKELY);
 }
 
 /* Whether the frame may end in the bytes that weren't tried: behind its footer the CRC of all its bytes is 0, and by chance
  * at one place of 65536. It is summed up to the first such place. */
-static inline int claxon_stream_has_footer(struct claxon_stream *stream) {
+CLAXON_STATIC int claxon_stream_has_footer(struct claxon_stream *stream) {
     const uint8_t *bytes = stream->window + stream->start;
-    size_t end = claxon_stream_frame_bytes(stream);
+    size_t end = stream->held < stream->longest ? stream->held : stream->longest;
     if (stream->summed < stream->tried) {
         stream->crc = claxon_crc16(stream->crc, bytes + stream->summed, stream->tried - stream->summed);
         stream->summed = stream->tried;
@@ -631,7 +680,7 @@ static inline int claxon_stream_has_footer(struct claxon_stream *stream) {
     while (stream->summed < end) {
         stream->crc = claxon_crc16(stream->crc, bytes + stream->summed, 1);
         stream->summed++;
-        if (stream->crc == 0) {
+        if (stream->crc == 0 && claxon_stream_may_end(stream, bytes + stream->summed, stream->held - stream->summed)) {
             return 1;
         }
     }
@@ -639,9 +688,9 @@ static inline int claxon_stream_has_footer(struct claxon_stream *stream) {
 }
 
 /* Whether the frame at the start of the window is worth a try. Each try begins anew. So that the time is linear, the bytes
- * are doubled between two tries, but where they seem to have a footer. Such a try that leads to no block is wasted work, and
- * after very much of that, as in a stream that is made for it, none is made. */
-static inline int claxon_stream_is_worth_a_try(struct claxon_stream *stream) {
+ * are doubled between two tries, but where they seem to have a footer. Such tries that lead to no block are wasted work, and
+ * after very much of that, as in a stream that is made for it, none are made. */
+CLAXON_STATIC int claxon_stream_is_worth_a_try(struct claxon_stream *stream) {
     size_t held = claxon_stream_frame_bytes(stream);
     if (stream->has_ended || held == CLAXON_MAX_FRAME_BYTES) {
         return 1;
@@ -649,11 +698,11 @@ static inline int claxon_stream_is_worth_a_try(struct claxon_stream *stream) {
     if (held < 2 || held == stream->tried) {
         return 0;
     }
-    return held >= 2 * stream->tried || (stream->wasted <= CLAXON_STREAM_MAX_WASTED && claxon_stream_has_footer(stream));
+    return held >= 2 * stream->tried || (stream->in_vain <= CLAXON_STREAM_MAX_IN_VAIN && claxon_stream_has_footer(stream));
 }
 
 /* Reads until the frame at the start of the window is worth a try. */
-static inline uint32_t claxon_stream_hold_frame(struct claxon_stream *stream) {
+CLAXON_STATIC uint32_t claxon_stream_hold_frame(struct claxon_stream *stream) {
     uint32_t status = CLAXON_OK;
     while (status == CLAXON_OK && !claxon_stream_is_worth_a_try(stream)) {
         status = claxon_stream_read_more(stream);
@@ -662,7 +711,7 @@ static inline uint32_t claxon_stream_hold_frame(struct claxon_stream *stream) {
 }
 
 /* How many of them are tried. Much may have been handed in, and what is tried in vain counts as wasted. */
-static inline size_t claxon_stream_trial(const struct claxon_stream *stream) {
+CLAXON_STATIC size_t claxon_stream_trial(const struct claxon_stream *stream) {
     size_t held = claxon_stream_frame_bytes(stream);
     size_t most = 2 * stream->tried < CLAXON_STREAM_STEP ? CLAXON_STREAM_STEP : 2 * stream->tried;
     return stream->read || held < most ? held : most;
@@ -670,7 +719,7 @@ static inline size_t claxon_stream_trial(const struct claxon_stream *stream) {
 
 /* Decodes the frame at the start of the window, if the bytes that are tried and the samples suffice. With CLAXON_OK, `length`
  * is its length in bytes. */
-static inline uint32_t claxon_stream_try_frame(struct claxon_stream *stream, int planar, size_t *length,
+CLAXON_STATIC uint32_t claxon_stream_try_frame(struct claxon_stream *stream, int planar, size_t *length,
                                                struct claxon_block *block) {
     const uint8_t *bytes = stream->window + stream->start;
     stream->trial = claxon_stream_trial(stream);
@@ -687,7 +736,7 @@ static inline uint32_t claxon_stream_try_frame(struct claxon_stream *stream, int
 }
 
 /* The same with as much memory for samples as it takes. */
-static inline uint32_t claxon_stream_try(struct claxon_stream *stream, int planar, size_t *length, struct claxon_block *block) {
+CLAXON_STATIC uint32_t claxon_stream_try(struct claxon_stream *stream, int planar, size_t *length, struct claxon_block *block) {
     uint32_t status = claxon_stream_try_frame(stream, planar, length, block);
     if (status == CLAXON_BUFFER_TOO_SMALL) {
         status = claxon_stream_hold_samples(stream, (size_t)block->channels * block->duration);
@@ -699,36 +748,44 @@ static inline uint32_t claxon_stream_try(struct claxon_stream *stream, int plana
 }
 
 /* Reads the header at the start of the window. BUFFER_TOO_SMALL: there is one, and `block` is filled. */
-static inline uint32_t claxon_stream_frame_header(struct claxon_stream *stream, struct claxon_block *block) {
+CLAXON_STATIC uint32_t claxon_stream_frame_header(struct claxon_stream *stream, struct claxon_block *block) {
     int32_t samples;
     size_t at = 0;
     return claxon_next_block(stream->window + stream->start, stream->held, &at, &stream->info, &samples, 0, block,
                              stream->error, 0);
 }
 
-/* Notes what it cost at most to find no frame at the start of the window, in bytes and samples. */
-static inline void claxon_stream_waste(struct claxon_stream *stream, uint32_t header, const struct claxon_block *block) {
-    stream->wasted += CLAXON_STREAM_WASTED_BY_A_CALL;
-    if (header == CLAXON_BUFFER_TOO_SMALL) {
-        stream->wasted += stream->trial + (uint64_t)block->channels * block->duration;
-    }
+/* The number of samples, of all channels, of the frame at the start of the window, or 0 where its header isn't there. */
+CLAXON_STATIC uint64_t claxon_stream_frame_samples(struct claxon_stream *stream) {
+    struct claxon_block block;
+    uint32_t status = claxon_stream_frame_header(stream, &block);
+    return status == CLAXON_BUFFER_TOO_SMALL ? (uint64_t)block.channels * block.duration : 0;
+}
+
+/* What it cost at most to find no frame of so many samples at the start of the window, in bytes and samples. */
+CLAXON_STATIC uint64_t claxon_stream_cost(const struct claxon_stream *stream, uint64_t samples) {
+    return CLAXON_STREAM_WASTED_BY_A_CALL + (samples > 0 ? stream->trial + samples : 0);
 }
 
 /* Notes that no whole frame is in the bytes that were tried. Returns whether more can be tried. */
-static inline int claxon_stream_is_cut(struct claxon_stream *stream) {
+CLAXON_STATIC int claxon_stream_is_cut(struct claxon_stream *stream) {
+    uint64_t samples;
     if (stream->trial == CLAXON_MAX_FRAME_BYTES || (stream->trial == stream->held && stream->has_ended)) {
         return 0;
     }
+    samples = claxon_stream_frame_samples(stream);
+    if (samples > 0) {
+        stream->longest = CLAXON_STREAM_STEP + CLAXON_STREAM_BYTES_OF_A_SAMPLE * (size_t)samples;
+    }
     if (stream->trial < 2 * stream->tried) {
-        struct claxon_block block;
-        claxon_stream_waste(stream, claxon_stream_frame_header(stream, &block), &block);
+        stream->in_vain += claxon_stream_cost(stream, samples);
     }
     stream->tried = stream->trial;
     return 1;
 }
 
 /* The status and the text where no block was decoded. */
-static inline uint32_t claxon_stream_no_block(struct claxon_stream *stream, uint32_t status) {
+CLAXON_STATIC uint32_t claxon_stream_no_block(struct claxon_stream *stream, uint32_t status) {
     if (status == CLAXON_NEED_MORE) {
         return status;
     }
@@ -744,7 +801,7 @@ static inline uint32_t claxon_stream_no_block(struct claxon_stream *stream, uint
 
 /* Decodes the frame at the start of the window, for which it reads what it takes. With CLAXON_OK, `length` is its length in
  * bytes. */
-static inline uint32_t claxon_stream_decode(struct claxon_stream *stream, int planar, size_t *length) {
+CLAXON_STATIC uint32_t claxon_stream_decode(struct claxon_stream *stream, int planar, size_t *length) {
     struct claxon_block block;
     uint32_t status = claxon_stream_hold_samples(stream, 8192);
     while (status == CLAXON_OK) {
@@ -766,18 +823,17 @@ static inline uint32_t claxon_stream_decode(struct claxon_stream *stream, int pl
 }
 
 /* Notes that no frame begins at the start of the window. */
-static inline void claxon_stream_refuse(struct claxon_stream *stream, uint32_t header, const struct claxon_block *block) {
+CLAXON_STATIC void claxon_stream_refuse(struct claxon_stream *stream) {
     stream->is_refused = 1;
-    claxon_stream_waste(stream, header, block);
+    stream->wasted += claxon_stream_cost(stream, claxon_stream_frame_samples(stream));
 }
 
 /* Whether a call that returned this status is done: a block was found, or the call may be repeated. */
-static inline int claxon_stream_is_done(uint32_t status) {
+CLAXON_STATIC int claxon_stream_is_done(uint32_t status) {
     return status == CLAXON_OK || status == CLAXON_OUT_OF_MEMORY || status == CLAXON_NEED_MORE;
 }
 
-static inline uint32_t claxon_stream_next(struct claxon_stream *stream, int planar) {
-    struct claxon_block block;
+CLAXON_STATIC uint32_t claxon_stream_next(struct claxon_stream *stream, int planar) {
     size_t length;
     uint32_t status = claxon_stream_open(stream);
     if (status != CLAXON_OK) {
@@ -793,21 +849,21 @@ static inline uint32_t claxon_stream_next(struct claxon_stream *stream, int plan
     if (status == CLAXON_OK) {
         claxon_stream_pass(stream, length);
     } else if (status != CLAXON_NO_MORE && !claxon_stream_is_done(status)) {
-        claxon_stream_refuse(stream, claxon_stream_frame_header(stream, &block), &block);
+        claxon_stream_refuse(stream);
     }
     return status;
 }
 
-static inline uint32_t claxon_stream_next_block(struct claxon_stream *stream) {
+CLAXON_STATIC uint32_t claxon_stream_next_block(struct claxon_stream *stream) {
     return claxon_stream_next(stream, 0);
 }
 
-static inline uint32_t claxon_stream_next_block_planar(struct claxon_stream *stream) {
+CLAXON_STATIC uint32_t claxon_stream_next_block_planar(struct claxon_stream *stream) {
     return claxon_stream_next(stream, 1);
 }
 
 /* Passes over what is held up to the next byte 0xff, with which each frame begins. */
-static inline void claxon_stream_pass_to_sync(struct claxon_stream *stream) {
+CLAXON_STATIC void claxon_stream_pass_to_sync(struct claxon_stream *stream) {
     const uint8_t *bytes = stream->window + stream->start, *found;
     if (stream->held > 0 && bytes[0] != 0xff) {
         found = (const uint8_t *)memchr(bytes, 0xff, stream->held);
@@ -817,7 +873,7 @@ static inline void claxon_stream_pass_to_sync(struct claxon_stream *stream) {
 
 /* Passes over bytes that aren't searched: up to a byte 0xff; and where very much work has led to no frame, as many as make it
  * good. */
-static inline void claxon_stream_pass_unsearched(struct claxon_stream *stream) {
+CLAXON_STATIC void claxon_stream_pass_unsearched(struct claxon_stream *stream) {
     if (stream->wasted > CLAXON_STREAM_MAX_WASTED && stream->held > 0) {
         uint64_t count = (stream->wasted - CLAXON_STREAM_MAX_WASTED) / CLAXON_STREAM_WASTED_OF_A_BYTE + 1;
         claxon_stream_pass(stream, count < stream->held ? (size_t)count : stream->held);
@@ -827,7 +883,7 @@ static inline void claxon_stream_pass_unsearched(struct claxon_stream *stream) {
 }
 
 /* Passes over bytes that were searched. Each sync code in them took a little work. */
-static inline void claxon_stream_pass_searched(struct claxon_stream *stream, size_t count) {
+CLAXON_STATIC void claxon_stream_pass_searched(struct claxon_stream *stream, size_t count) {
     const uint8_t *bytes = stream->window + stream->start;
     size_t i, sync_codes = 0;
     for (i = 0; i + 1 < count; i++) {
@@ -841,7 +897,7 @@ static inline void claxon_stream_pass_searched(struct claxon_stream *stream, siz
 
 /* Searches what is held for the next header of a frame of the stream, and goes to it. NO_MORE: there is none. What can't become
  * one by more bytes is passed over. */
-static inline uint32_t claxon_stream_search_header(struct claxon_stream *stream) {
+CLAXON_STATIC uint32_t claxon_stream_search_header(struct claxon_stream *stream) {
     struct claxon_block block;
     uint64_t budget = 0; /* so that it stops at a header, and decodes no frame */
     size_t at = 0;
@@ -858,7 +914,7 @@ static inline uint32_t claxon_stream_search_header(struct claxon_stream *stream)
 }
 
 /* Goes to the next header of a frame of the stream, and reads what it takes. NO_MORE: none is left. */
-static inline uint32_t claxon_stream_next_header(struct claxon_stream *stream) {
+CLAXON_STATIC uint32_t claxon_stream_next_header(struct claxon_stream *stream) {
     for (;;) {
         uint32_t status = claxon_stream_search_header(stream);
         if (status != CLAXON_NO_MORE) {
@@ -876,19 +932,18 @@ static inline uint32_t claxon_stream_next_header(struct claxon_stream *stream) {
 }
 
 /* Decodes the frame whose header is at the start of the window, and doesn't pass it. NO_MORE: there is no such frame. */
-static inline uint32_t claxon_stream_try_found(struct claxon_stream *stream) {
-    struct claxon_block block;
+CLAXON_STATIC uint32_t claxon_stream_try_found(struct claxon_stream *stream) {
     size_t length;
     uint32_t status = claxon_stream_decode(stream, stream->is_planar, &length);
     if (!claxon_stream_is_done(status)) {
-        claxon_stream_refuse(stream, claxon_stream_frame_header(stream, &block), &block);
+        claxon_stream_refuse(stream);
         return CLAXON_NO_MORE;
     }
     stream->ready = status == CLAXON_OK ? length : 0;
     return status;
 }
 
-static inline uint32_t claxon_stream_resync(struct claxon_stream *stream) {
+CLAXON_STATIC uint32_t claxon_stream_resync(struct claxon_stream *stream) {
     stream->in_frames = 1;
     stream->content_left = 0;
     claxon_stream_drop_made_head(stream);
@@ -930,13 +985,13 @@ struct claxon_stream_span {
     uint64_t stride;            /* how far the next guess goes where the end isn't known */
 };
 
-static inline void claxon_stream_set_seek(struct claxon_stream *stream, claxon_stream_seek_to *seek) {
+CLAXON_STATIC void claxon_stream_set_seek(struct claxon_stream *stream, claxon_stream_seek_to *seek) {
     stream->seek = seek;
     stream->is_located = 0;
 }
 
 /* Forgets what is held. No block is given until a seek has succeeded. */
-static inline uint32_t claxon_stream_lose(struct claxon_stream *stream) {
+CLAXON_STATIC uint32_t claxon_stream_lose(struct claxon_stream *stream) {
     stream->start = 0;
     stream->held = 0;
     stream->ready = 0;
@@ -948,14 +1003,14 @@ static inline uint32_t claxon_stream_lose(struct claxon_stream *stream) {
 }
 
 /* Asks the source where it is and where it ends, once. */
-static inline uint32_t claxon_stream_locate(struct claxon_stream *stream) {
+CLAXON_STATIC uint32_t claxon_stream_locate(struct claxon_stream *stream) {
     int64_t at, end;
     if (stream->is_located) {
         return CLAXON_OK;
     }
     at = stream->seek(stream->source, 0, SEEK_CUR);
     if (at < 0 || (uint64_t)at < stream->position + stream->held) {
-        return claxon_stream_fault(stream, CLAXON_INPUT_ENDS, "seeking failed");
+        return claxon_stream_fault(stream, CLAXON_READ_FAILED, "seeking failed");
     }
     stream->origin = at - (int64_t)(stream->position + stream->held);
     end = stream->seek(stream->source, 0, SEEK_END);
@@ -965,7 +1020,7 @@ static inline uint32_t claxon_stream_locate(struct claxon_stream *stream) {
 }
 
 /* Goes to a position of the stream. */
-static inline uint32_t claxon_stream_go_to(struct claxon_stream *stream, uint64_t position) {
+CLAXON_STATIC uint32_t claxon_stream_go_to(struct claxon_stream *stream, uint64_t position) {
     int64_t at;
     if (!stream->has_failed && position >= stream->position && position - stream->position <= stream->held) {
         if (position > stream->position) {
@@ -987,12 +1042,12 @@ static inline uint32_t claxon_stream_go_to(struct claxon_stream *stream, uint64_
     return claxon_stream_no_fault(stream, CLAXON_OK);
 }
 
-static inline int claxon_stream_has_sample(const struct claxon_block *block, uint64_t sample) {
+CLAXON_STATIC int claxon_stream_has_sample(const struct claxon_block *block, uint64_t sample) {
     return block->time <= sample && sample - block->time < block->duration;
 }
 
 /* Reads the header at the start of the window. Returns whether the span can have it. */
-static inline int claxon_stream_is_likely(struct claxon_stream *stream, const struct claxon_stream_span *span,
+CLAXON_STATIC int claxon_stream_is_likely(struct claxon_stream *stream, const struct claxon_stream_span *span,
                                           struct claxon_block *block) {
     const uint8_t *bytes = stream->window + stream->start;
     return stream->held >= 2 && bytes[1] >> 1 == 0x7c &&
@@ -1002,7 +1057,7 @@ static inline int claxon_stream_is_likely(struct claxon_stream *stream, const st
 }
 
 /* Goes to the first header from here on that the span can have. NO_MORE: there is none. */
-static inline uint32_t claxon_stream_next_likely(struct claxon_stream *stream, const struct claxon_stream_span *span,
+CLAXON_STATIC uint32_t claxon_stream_next_likely(struct claxon_stream *stream, const struct claxon_stream_span *span,
                                                  struct claxon_block *block) {
     uint64_t from = stream->position;
     for (;;) {
@@ -1026,7 +1081,7 @@ static inline uint32_t claxon_stream_next_likely(struct claxon_stream *stream, c
 }
 
 /* The position to read on from: that of the block before the sample's, if all samples took as many bytes. */
-static inline uint64_t claxon_stream_guess(struct claxon_stream_span *span, unsigned step, uint64_t sample, uint64_t duration) {
+CLAXON_STATIC uint64_t claxon_stream_guess(struct claxon_stream_span *span, unsigned step, uint64_t sample, uint64_t duration) {
     uint64_t width = span->end - span->start, ahead = sample - span->start_time;
     uint64_t times = span->end_time - span->start_time;
     if (ahead <= 2 * duration || width <= CLAXON_STREAM_SEEK_STEP) {
@@ -1043,7 +1098,7 @@ static inline uint64_t claxon_stream_guess(struct claxon_stream_span *span, unsi
 }
 
 /* Decodes the frame whose header is at the start of the window, if it is one of the stream. NO_MORE: it isn't. */
-static inline uint32_t claxon_stream_try_sought(struct claxon_stream *stream) {
+CLAXON_STATIC uint32_t claxon_stream_try_sought(struct claxon_stream *stream) {
     size_t most = stream->info.max_frame_size, at = 0;
     struct claxon_block block;
     uint64_t budget = 0; /* so that it stops at a header */
@@ -1060,9 +1115,9 @@ static inline uint32_t claxon_stream_try_sought(struct claxon_stream *stream) {
 }
 
 /* Goes to the frame with the sample by headers between known times. NO_MORE: they don't lead to one. */
-static inline uint32_t claxon_stream_seek_by_times(struct claxon_stream *stream, uint64_t sample) {
+CLAXON_STATIC uint32_t claxon_stream_seek_by_times(struct claxon_stream *stream, uint64_t sample) {
     struct claxon_stream_span span = {0, 0, 0, UINT64_MAX, CLAXON_STREAM_STEP};
-    struct claxon_block block = {0, 0, 0};
+    struct claxon_block block = {0, 0, 0, 0, 0};
     uint64_t passed = 0;
     unsigned step;
     span.start = stream->info.first_frame;
@@ -1095,7 +1150,7 @@ static inline uint32_t claxon_stream_seek_by_times(struct claxon_stream *stream,
 }
 
 /* Goes to the first frame with the sample from the first frame on. */
-static inline uint32_t claxon_stream_seek_by_search(struct claxon_stream *stream, uint64_t sample) {
+CLAXON_STATIC uint32_t claxon_stream_seek_by_search(struct claxon_stream *stream, uint64_t sample) {
     uint32_t status = claxon_stream_go_to(stream, stream->info.first_frame);
     stream->wasted = 0;
     stream->has_skipped = 0;
@@ -1121,7 +1176,7 @@ static inline uint32_t claxon_stream_seek_by_search(struct claxon_stream *stream
     return status;
 }
 
-static inline uint32_t claxon_stream_seek(struct claxon_stream *stream, uint64_t sample) {
+CLAXON_STATIC uint32_t claxon_stream_seek(struct claxon_stream *stream, uint64_t sample) {
     uint32_t status;
     if (!stream->read || !stream->seek) {
         return claxon_stream_fault(stream, CLAXON_UNSUPPORTED, "no callback seeks");
@@ -1139,7 +1194,7 @@ static inline uint32_t claxon_stream_seek(struct claxon_stream *stream, uint64_t
     if (status == CLAXON_NO_MORE) {
         status = claxon_stream_seek_by_search(stream, sample);
     }
-    if (status == CLAXON_INPUT_ENDS || status == CLAXON_OUT_OF_MEMORY || status == CLAXON_OVER_BUDGET) {
+    if (status == CLAXON_READ_FAILED || status == CLAXON_OUT_OF_MEMORY || status == CLAXON_OVER_BUDGET) {
         char text[sizeof stream->error];
         memcpy(text, stream->error, sizeof text);
         claxon_stream_lose(stream);

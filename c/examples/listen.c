@@ -18,15 +18,19 @@ static uint32_t take(struct claxon_stream *stream, const uint8_t *bytes, size_t 
 int main(void) {
     struct claxon_stream stream;
     uint8_t bytes[4096];
-    uint32_t status;
+    uint32_t status = CLAXON_READ_FAILED;
     ssize_t count;
     claxon_stream_init_push(&stream);
     do { /* an event loop would do this where there is something to read */
         count = read(STDIN_FILENO, bytes, sizeof bytes);
-        if (count <= 0) {
+        if (count < 0) {
+            perror("listen");
+            break;
+        }
+        if (count == 0) {
             claxon_stream_feed_end(&stream);
         }
-        status = take(&stream, bytes, count > 0 ? (size_t)count : 0);
+        status = take(&stream, bytes, (size_t)count);
     } while (status == CLAXON_NEED_MORE);
     if (stream.error[0]) {
         fprintf(stderr, "%s\n", stream.error);

@@ -1,8 +1,8 @@
 /* cases FOLDER < LINES: decodes each file that a line `NAME COUNT HASH RESULT` names, passed whole and piece by piece, and
  * compares the number of its samples, the FNV-1a hash of their little-endian bytes, and the result: `ok`, the error, or `IO`
  * where the bytes end too early. It also tests planar samples, buffers that are too small, and the calls for metadata blocks:
- * by the lines of FOLDER/blocks.txt whose bytes are a whole content, by headers worked out by hand, and on the files. And it
- * tests the MD5 sums of samples, by those of another program and of the files' encoders, and the CRC of frames, by values that
+ * by the lines of FOLDER/blocks.txt whose bytes are a whole content, by headers worked out by hand, and on the files. It tests
+ * the sample rate and the bit depth of blocks, by each code of them. And it tests the MD5 sums of samples, by those of another program and of the files' encoders, and the CRC of frames, by values that
  * are known of CRC-16/UMTS, and by the last two bytes of each frame. */
 #include <ctype.h>
 #include <stdarg.h>
@@ -57,7 +57,7 @@ static void expect_status(next_block *call, const struct frame *frame, const uin
     expect(call(bytes, length, &at, frame->info, samples, capacity, &block, error, sizeof error) == status, frame->name, what);
     expect(at == 0 && is_untouched(samples, sample_count(frame) * sizeof *samples), frame->name, what);
     if (status == CLAXON_BUFFER_TOO_SMALL) {
-        expect(block.time == frame->block.time && block.channels == frame->block.channels && block.duration == frame->block.duration, frame->name, what);
+        expect(is_same_block(&block, &frame->block), frame->name, what);
         expect(is_untouched(error, sizeof error), frame->name, what);
     } else {
         expect(is_untouched(&block, sizeof block), frame->name, what);
@@ -110,7 +110,7 @@ static void test_planar(const struct frame *frame, const int32_t *interleaved) {
     memset(&samples[channels * duration], UNTOUCHED, sizeof *samples);
     uint32_t status = claxon_next_block_planar(frame->bytes, frame->length, &at, frame->info, samples, channels * duration, &block, error, 0);
     expect(status == CLAXON_OK && at == frame->length, frame->name, "planar samples");
-    expect(block.time == frame->block.time && block.channels == channels && block.duration == duration, frame->name, "the block of planar samples");
+    expect(is_same_block(&block, &frame->block), frame->name, "the block of planar samples");
     expect(is_untouched(&samples[channels * duration], sizeof *samples), frame->name, "after planar samples");
     for (size_t ch = 0; ch < channels; ch++) {
         for (size_t i = 0; i < duration; i++) {
@@ -129,11 +129,115 @@ static void test_frame(const struct frame *frame) {
     memset(&samples[count], UNTOUCHED, sizeof *samples);
     uint32_t status = claxon_next_block(frame->bytes, frame->length, &at, frame->info, samples, count, &block, error, 0);
     expect(status == CLAXON_OK && at == frame->length, frame->name, "a buffer of exactly that size");
+    expect(is_same_block(&block, &frame->block), frame->name, "the block of a buffer of exactly that size");
+    expect_format(frame->name, &block, frame->bytes);
     expect(is_untouched(&samples[count], sizeof *samples), frame->name, "after the samples");
     memcpy(interleaved, samples, count * sizeof *samples);
     test_planar(frame, interleaved);
     test_small_buffer(claxon_next_block, frame);
     test_small_buffer(claxon_next_block_planar, frame);
+}
+
+/* ---- the sample rate and the bit depth of blocks */
+
+/* The remainder of the bytes, followed by zeros, by the polynomial of a header's CRC. */
+static uint8_t crc8(const uint8_t *bytes, size_t length) {
+    unsigned crc = 0;
+    for (size_t i = 0; i < length; i++) {
+        crc ^= bytes[i];
+        for (int bit = 0; bit < 8; bit++) {
+            crc = crc & 0x80 ? (crc << 1 ^ 0x07) & 0xff : crc << 1;
+        }
+    }
+    return (uint8_t)crc;
+}
+
+/* A frame with these codes of its block size, its sample rate and its bit depth, and these bytes behind them: a constant channel
+ * of zeros. Returns its length. */
+static size_t put_frame(uint8_t *bytes, unsigned codes, unsigned depth_code, const char *fields, size_t fields_length) {
+    size_t at = 4 + fields_length;
+    uint16_t crc;
+    memset(bytes, 0, 32);
+    bytes[0] = 0xff;
+    bytes[1] = 0xf8;
+    bytes[2] = (uint8_t)codes;
+    bytes[3] = (uint8_t)(depth_code << 1);
+    memcpy(bytes + 4, fields, fields_length);
+    bytes[at] = crc8(bytes, at);
+    at += 2 + (depth_code == 0 || depth_code == 4 ? 2 : depth_code == 1 ? 1 : depth_code == 2 ? 2 : 3);
+    crc = claxon_crc16(0, bytes, at);
+    bytes[at] = (uint8_t)(crc >> 8);
+    bytes[at + 1] = (uint8_t)crc;
+    return at + 2;
+}
+
+/* All calls that fill a block say the same of this frame. */
+static void expect_block(const char *name, const uint8_t *bytes, size_t length, const struct claxon_block *expected) {
+    const uint32_t depth = expected->bits_per_sample ? expected->bits_per_sample : 16;
+    const struct claxon_info info = {.channels = 1, .bits_per_sample = depth, .min_block_size = 16, .max_block_size = 65535};
+    next_block *const calls[2] = {claxon_next_block, claxon_next_block_planar};
+    uint64_t budget = UINT64_MAX;
+    struct claxon_block block;
+    char error[64] = "";
+    size_t at;
+    for (int i = 0; i < 4; i++) {
+        size_t capacity = i % 2 ? CLAXON_MAX_SAMPLES : 0;
+        at = 0;
+        memset(&block, UNTOUCHED, sizeof block);
+        uint32_t status = calls[i / 2](bytes, length, &at, &info, samples, capacity, &block, error, sizeof error);
+        expect(status == (capacity ? CLAXON_OK : CLAXON_BUFFER_TOO_SMALL) && is_same_block(&block, expected), name, "next_block");
+    }
+    at = 0;
+    memset(&block, UNTOUCHED, sizeof block);
+    expect(claxon_find_frame(bytes, length, &at, &info, &budget, &block) == CLAXON_OK && is_same_block(&block, expected), name, "find_frame");
+    memset(&block, UNTOUCHED, sizeof block);
+    expect(claxon_seek(bytes, length, &info, expected->time, UINT64_MAX, &at, &block) == CLAXON_OK && is_same_block(&block, expected), name, "seek");
+}
+
+/* Each code of a sample rate, behind a coded number of one byte or more, and a block size with and without a field. */
+static const struct {
+    unsigned codes;
+    const char *fields;
+    size_t length;
+    struct claxon_block block;
+} formats[] = {
+    {0x10, "\0", 1, {0, 1, 192, 0, 0}},
+    {0x11, "\0", 1, {0, 1, 192, 88200, 0}},
+    {0x12, "\0", 1, {0, 1, 192, 176400, 0}},
+    {0x13, "\0", 1, {0, 1, 192, 192000, 0}},
+    {0x14, "\0", 1, {0, 1, 192, 8000, 0}},
+    {0x15, "\0", 1, {0, 1, 192, 16000, 0}},
+    {0x16, "\0", 1, {0, 1, 192, 22050, 0}},
+    {0x17, "\0", 1, {0, 1, 192, 24000, 0}},
+    {0x18, "\0", 1, {0, 1, 192, 32000, 0}},
+    {0x19, "\0", 1, {0, 1, 192, 44100, 0}},
+    {0x1a, "\0", 1, {0, 1, 192, 48000, 0}},
+    {0x1b, "\0", 1, {0, 1, 192, 96000, 0}},
+    {0x1c, "\0\xff", 2, {0, 1, 192, 255000, 0}},
+    {0x1d, "\0\xac\x45", 3, {0, 1, 192, 44101, 0}},
+    {0x1e, "\0\xff\xff", 3, {0, 1, 192, 655350, 0}},
+    {0x6c, "\0\x0f\x03", 3, {0, 1, 16, 3000, 0}},
+    {0x7d, "\0\x01\x01\x01\x02", 5, {0, 1, 258, 258, 0}},
+    {0x7e, "\xc2\x80\xff\xfe\x03\xe8", 6, {128 * 65535, 1, 65535, 10000, 0}},
+    {0x6d, "\xe0\xa0\x80\x0f\x00\x01", 6, {2048 * 16, 1, 16, 1, 0}},
+};
+
+static void test_formats(void) {
+    static const uint32_t depths[8] = {0, 8, 12, 0, 16, 20, 24, 0};
+    for (size_t row = 0; row < sizeof formats / sizeof *formats; row++) {
+        for (unsigned depth_code = 0; depth_code < 7; depth_code++) {
+            uint8_t bytes[32];
+            char name[64];
+            struct claxon_block block = formats[row].block;
+            size_t length = put_frame(bytes, formats[row].codes, depth_code, formats[row].fields, formats[row].length);
+            block.bits_per_sample = depths[depth_code];
+            snprintf(name, sizeof name, "the codes %02x and %u", formats[row].codes, depth_code);
+            if (depth_code != 3) {
+                expect_block(name, bytes, length, &block);
+                expect_format(name, &block, bytes);
+            }
+        }
+    }
 }
 
 /* Values of CRC-16/UMTS, which has the same polynomial and begins with 0 too: of the text "123456789", that of the catalogue of
@@ -572,6 +676,7 @@ int main(int argc, char **argv) {
     test_bit_depths();
     test_other_depths();
     test_crc();
+    test_formats();
     expect(claxon_version() == CLAXON_VERSION, "claxon_version", "not that of claxon.h");
     expect(contents > 0, "blocks.txt", "no line");
     while (argc == 2 && next_known(&known)) {

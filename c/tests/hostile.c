@@ -216,6 +216,38 @@ static void frames_of_footers(uint8_t *bytes, size_t length) {
     }
 }
 
+/* A good frame of eight channels of 65535 samples in a megabyte. Seven channels are constant. The last one is in Rice codes of 0
+ * bits, of which 120 are runs of 8 KB of zeros, in which the CRC is 0 at each byte. Returns its length. */
+static size_t put_large_frame_of_footers(uint8_t *bytes) {
+    size_t at = put_frame_header(bytes, 8, 65535) + 7 * 3;
+    unsigned samples = 65535 - 1, code, byte;
+    bytes[at] = 0x12; /* a predictor of order 1, whose sample is 0; then ten bits of 0, and Rice codes of 0 */
+    bytes[at + 4] = 0x3f;
+    samples -= ones_of(bytes[at + 4]);
+    for (at += 5, code = 0; code < 120; code++) {
+        size_t last = put_crc(bytes, at);
+        samples -= ones_of(bytes[at]) + ones_of(bytes[at + 1]);
+        at = last + 8000;
+        bytes[at++] = 0x01;
+        samples--;
+    }
+    for (; samples > 0; samples -= ones_of(byte)) {
+        byte = samples < 8 ? (1u << samples) - 1 : 0xff;
+        bytes[at++] = (uint8_t)byte;
+    }
+    return put_crc(bytes, at);
+}
+
+static void large_frames_of_footers(uint8_t *bytes, size_t length) {
+    const size_t most = 1100000;
+    memset(bytes, 0, length);
+    while (length >= most) {
+        size_t frame_length = put_large_frame_of_footers(bytes);
+        bytes += frame_length;
+        length -= frame_length;
+    }
+}
+
 static void put_block_header(uint8_t *bytes, unsigned type, size_t length) {
     bytes[0] = (uint8_t)type;
     bytes[1] = (uint8_t)(length >> 16);
@@ -302,6 +334,8 @@ static const struct kind kinds[] = {
     {"a CRC of 0 at each byte of good frames, in pieces of 100 bytes", footers_in_zeros, 1, 100, 0},
     {"the same, in pieces of 3 bytes", footers_in_zeros, 1, 3, 0},
     {"a CRC of 0 at each fourth byte of good frames, in pieces of 4 bytes", frames_of_footers, 1, 4, 0},
+    {"a CRC of 0 at most bytes of good frames of a megabyte, in pieces of 100 bytes", large_frames_of_footers, 8, 100, 0},
+    {"the same, in pieces of 3 bytes", large_frames_of_footers, 8, 3, 0},
     {"constant frames with a wrong CRC", constant_frames, 8, SIZE_MAX, 0},
     {"the same, of more channels than the stream", constant_frames, 1, SIZE_MAX, 0},
     {"good frames and bad ones", good_and_bad_frames, 8, SIZE_MAX, 0},

@@ -1,5 +1,5 @@
-/* known.h: what tests of files whose results are known share: failures, samples as a number and a hash, results as text, and
- * the files and lines themselves. */
+/* known.h: what tests of files whose results are known share: failures, samples as a number and a hash, results as text, what a
+ * frame's header says, and the files and lines themselves. */
 #ifndef KNOWN_H
 #define KNOWN_H
 
@@ -45,6 +45,34 @@ static inline const char *result_of(uint32_t status, const char *error, char *te
                                                         : "";
     snprintf(text, size, "%s%s", prefix, status == CLAXON_NO_MORE ? "ok" : status == CLAXON_INPUT_ENDS ? "IO" : error);
     return text;
+}
+
+/* The sample rate in Hz that the header of a frame says, or 0 where it leaves that to the streaminfo (RFC 9639, sections 9.1.2 and
+ * 9.1.5 to 9.1.7): behind four bytes are the coded number and the block size, where it has a field, and the field of the rate. */
+static inline uint32_t rate_in_header(const uint8_t *header) {
+    static const uint32_t rates[12] = {0, 88200, 176400, 192000, 8000, 16000, 22050, 24000, 32000, 44100, 48000, 96000};
+    unsigned size = header[2] >> 4, rate = header[2] & 15, bit = 0x40;
+    const uint8_t *field = header + 5;
+    if (rate < 12) {
+        return rates[rate];
+    }
+    for (; header[4] & 0x80 && header[4] & bit; bit >>= 1) {
+        field++;
+    }
+    field += size == 6 ? 1 : size == 7 ? 2 : 0;
+    return rate == 12 ? 1000u * field[0] : (rate == 13 ? 1u : 10u) * ((uint32_t)field[0] << 8 | field[1]);
+}
+
+/* The block has the rate and the bit depth (RFC 9639, section 9.1.4) that the header of its frame says. */
+static inline void expect_format(const char *name, const struct claxon_block *block, const uint8_t *header) {
+    static const uint32_t depths[8] = {0, 8, 12, 0, 16, 20, 24, 32};
+    expect(block->sample_rate == rate_in_header(header), name, "the sample rate of a block");
+    expect(block->bits_per_sample == depths[header[3] >> 1 & 7], name, "the bit depth of a block");
+}
+
+static inline int is_same_block(const struct claxon_block *a, const struct claxon_block *b) {
+    return a->time == b->time && a->channels == b->channels && a->duration == b->duration && a->sample_rate == b->sample_rate &&
+           a->bits_per_sample == b->bits_per_sample;
 }
 
 /* A line `NAME COUNT HASH RESULT`. */

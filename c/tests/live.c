@@ -1,8 +1,9 @@
 /* live FOLDER ROUNDS < LINES: tests that claxon_stream.h gives a block when the last byte of its frame was read.
  *
  * - The callback isn't called while a whole frame is held, and of bytes that are handed in each whole frame is given at once:
- *   of a stream of 149 frames of 4096 samples, of one with large frames, and of each file that a line `NAME COUNT HASH RESULT`
+ *   of a stream of 149 frames of 4096 samples, of some with large frames, and of each file that a line `NAME COUNT HASH RESULT`
  *   names, in pieces of several sizes.
+ * - Frames of one and a half megabytes are no exception, and what is tried in vain stays in proportion to the bytes and reads.
  * - Another process sends the first stream through a pipe, and waits for each block before it goes on. Where a block is held
  *   back, both wait for ever: they are ended after two minutes.
  *
@@ -12,6 +13,19 @@
 #include <sys/wait.h>
 #include <unistd.h>
 
+#include "claxon.h"
+
+/* How many bytes were tried in vain. */
+static uint64_t bytes_in_vain;
+
+static uint32_t next_block(const uint8_t *bytes, size_t length, size_t *at, const struct claxon_info *info, int32_t *samples,
+                           size_t capacity, struct claxon_block *block, char *error, size_t error_size) {
+    uint32_t status = claxon_next_block(bytes, length, at, info, samples, capacity, block, error, error_size);
+    bytes_in_vain += status == CLAXON_INPUT_ENDS ? length : 0;
+    return status;
+}
+
+#define claxon_next_block next_block
 #include "claxon_stream.h"
 #include "known.h"
 
@@ -42,13 +56,13 @@ static void put(struct live *live, const uint8_t *bytes, size_t length) {
     }
 }
 
-/* Two channels of so many bits per sample. A block of padding follows the streaminfo. */
-static void put_head(struct live *live, unsigned bits) {
+/* A block of padding follows the streaminfo. */
+static void put_head(struct live *live, unsigned channels, unsigned bits) {
     uint8_t head[42] = {'f', 'L', 'a', 'C', 0, 0, 0, 34, 16, 0, 0xff, 0xff};
     const uint8_t padding[7] = {0x80 | CLAXON_PADDING, 0, 0, 3, 0, 0, 0};
     head[18] = 0x0a;
     head[19] = 0xc4;
-    head[20] = (uint8_t)(0x42 | (bits - 1) >> 4);
+    head[20] = (uint8_t)(0x40 | (channels - 1) << 1 | (bits - 1) >> 4);
     head[21] = (uint8_t)((bits - 1) << 4);
     put(live, head, sizeof head);
     put(live, padding, sizeof padding);
@@ -68,14 +82,15 @@ static unsigned crc_of(const uint8_t *bytes, size_t length, unsigned polynomial,
     return crc;
 }
 
-/* What a frame has: its number, how many samples of each channel, and of how many bits those are; 0: each channel is constant. */
+/* What a frame has: its number, how many samples of each channel, and of how many bits those are; 0: each channel is constant.
+ * Frames of other seeds have other samples. */
 struct frame {
-    unsigned number, duration, bits;
+    unsigned number, duration, bits, channels, seed;
 };
 
 /* A number of the frame's bits that looks random. */
 static int32_t sample_of(const struct frame *frame, unsigned channel, unsigned i) {
-    uint32_t x = (frame->number * 2 + channel) * 0x10000u + (frame->bits ? i : 0);
+    uint32_t x = ((frame->seed * 100 + frame->number) * 8 + channel) * 0x10000u + (frame->bits ? i : 0);
     x = (x ^ x >> 15) * UINT32_C(2654435769);
     x = (x ^ x >> 13) * UINT32_C(2246822519);
     x = (x ^ x >> 16) >> (32 - (frame->bits ? frame->bits : 8));
@@ -97,17 +112,21 @@ static void put_bits(struct bits *to, uint32_t number, unsigned count) {
     }
 }
 
-/* A constant channel; or one partition of samples as they are, behind a predictor of order 0. */
+/* A constant channel; one of samples as they are; or one partition of them, behind a predictor of order 0. */
 static void put_channel(struct bits *to, const struct frame *frame, unsigned depth, unsigned channel) {
     if (frame->bits == 0) {
         put_bits(to, 0x00, 8);
         put_bits(to, (uint32_t)sample_of(frame, channel, 0), depth);
         return;
     }
-    put_bits(to, 0x10, 8);
-    put_bits(to, 0x00, 6);
-    put_bits(to, 0x0f, 4);
-    put_bits(to, frame->bits, 5);
+    if (frame->channels > 2) {
+        put_bits(to, 0x02, 8);
+    } else {
+        put_bits(to, 0x10, 8);
+        put_bits(to, 0x00, 6);
+        put_bits(to, 0x0f, 4);
+        put_bits(to, frame->bits, 5);
+    }
     for (unsigned i = 0; i < frame->duration; i++) {
         put_bits(to, (uint32_t)sample_of(frame, channel, i), frame->bits);
     }
@@ -116,8 +135,8 @@ static void put_channel(struct bits *to, const struct frame *frame, unsigned dep
 static void put_frame(struct live *live, const struct frame *frame, unsigned depth) {
     size_t start = live->length;
     struct bits to = {live, 0, 0};
-    uint8_t header[4] = {0xff, 0xf8, 0x79, 0x10};
-    unsigned crc;
+    uint8_t header[4] = {0xff, 0xf8, 0x79, (uint8_t)((frame->channels - 1) << 4)};
+    unsigned crc, channel;
     put(live, header, 4);
     if (frame->number < 0x80) {
         put_byte(live, frame->number);
@@ -128,8 +147,9 @@ static void put_frame(struct live *live, const struct frame *frame, unsigned dep
     put_byte(live, (frame->duration - 1) >> 8);
     put_byte(live, (frame->duration - 1) & 0xff);
     put_byte(live, crc_of(live->bytes + start, live->length - start, 0x107, 8));
-    put_channel(&to, frame, depth, 0);
-    put_channel(&to, frame, depth, 1);
+    for (channel = 0; channel < frame->channels; channel++) {
+        put_channel(&to, frame, depth, channel);
+    }
     put_bits(&to, 0, (8 - to.count) % 8);
     crc = crc_of(live->bytes + start, live->length - start, 0x18005, 16);
     put_byte(live, crc >> 8);
@@ -139,25 +159,38 @@ static void put_frame(struct live *live, const struct frame *frame, unsigned dep
 
 /* Each tenth frame is constant, in some 15 bytes; the others have up to 16 KiB. */
 static struct frame frame_of(size_t number) {
-    struct frame frame = {(unsigned)number, FRAME_SAMPLES, number % 10 == 9 ? 0 : 1 + (unsigned)number * 7 % 16};
+    struct frame frame = {(unsigned)number, FRAME_SAMPLES, number % 10 == 9 ? 0 : 1 + (unsigned)number * 7 % 16, 2, 0};
     return frame;
 }
 
 /* Frames of 65535 samples, of nearly 400,000 bytes each. */
 static struct frame large_frame_of(size_t number) {
-    struct frame frame = {(unsigned)number, 65535, 24};
+    struct frame frame = {(unsigned)number, 65535, 24, 2, 0};
     return frame;
 }
 
 /* Constant frames of 65535 samples, in 15 bytes. */
 static struct frame constant_frame_of(size_t number) {
-    struct frame frame = {200 + (unsigned)number, 65535, 0};
+    struct frame frame = {200 + (unsigned)number, 65535, 0, 2, 0};
+    return frame;
+}
+
+/* Each seed gives other frames of eight channels of 65535 samples: of a megabyte, or of one and a half. */
+static unsigned seed;
+
+static struct frame huge_frame_of_16(size_t number) {
+    struct frame frame = {(unsigned)number, 65535, 16, 8, seed};
+    return frame;
+}
+
+static struct frame huge_frame_of_24(size_t number) {
+    struct frame frame = {(unsigned)number, 65535, 24, 8, seed};
     return frame;
 }
 
 static struct live make(struct frame frame_at(size_t), size_t frames, unsigned depth) {
     struct live live = {NULL, 0, 0, 0, {0}, 0};
-    put_head(&live, depth);
+    put_head(&live, frame_at(0).channels, depth);
     for (size_t i = 0; i < frames; i++) {
         struct frame frame = frame_at(i);
         put_frame(&live, &frame, depth);
@@ -369,6 +402,26 @@ static void test_live(const char *name, const struct live *live) {
     }
 }
 
+/* Byte by byte, as the CRC is 0 by chance at one place of 65536, about L / 2 / 65536 bytes are tried in vain for each byte of a
+ * frame of L bytes: here 8 or 12; and up to two, as the bytes are doubled. In larger pieces the next bytes mostly show that no
+ * frame ends there, and such tries soon stop. */
+static void test_huge(unsigned depth) {
+    struct live live = make(depth == 16 ? huge_frame_of_16 : huge_frame_of_24, 3, depth);
+    const size_t pieces[2] = {1, 1460};
+    const uint64_t most[2] = {20 * live.length, 2 * live.length + CLAXON_STREAM_MAX_UNLIKELY};
+    expect(live.ends[0] - live.first_frame > 65535u * depth, "huge frames", "their size");
+    for (size_t i = 0; i < 2; i++) {
+        test_callback("huge frames", &live, pieces[i], 1);
+        bytes_in_vain = 0;
+        test_callback("huge frames", &live, pieces[i], 0);
+        expect(bytes_in_vain <= most[i], "huge frames", "the bytes that are tried in vain");
+        bytes_in_vain = 0;
+        test_feed("huge frames", &live, pieces[i]);
+        expect(bytes_in_vain <= most[i], "huge frames", "the bytes that are tried in vain of those that are handed in");
+    }
+    free(live.bytes);
+}
+
 /* The head and the frames that a file begins with. */
 static struct live live_of(uint8_t *bytes, size_t length) {
     static int32_t samples[CLAXON_MAX_SAMPLES];
@@ -412,6 +465,10 @@ int main(int argc, char **argv) {
         test_live("149 frames", &live);
         test_live("large frames", &large);
         test_live("constant frames", &constant);
+        for (seed = 1; seed <= 3; seed++) {
+            test_huge(16);
+            test_huge(24);
+        }
         test_feed_of_damaged_frames(&live);
         alarm(120);
         for (size_t piece = 1; piece <= 1460; piece += 1459) {

@@ -58,7 +58,7 @@ static int has_format(const struct claxon_info *info, const uint8_t *header, con
 
 static struct place place_at(const struct stream *stream, size_t position) {
     static int32_t samples[CLAXON_MAX_SAMPLES];
-    struct place place = {0, 0, 0, {0, 0, 0}};
+    struct place place = {0, 0, 0, {0, 0, 0, 0, 0}};
     struct claxon_block block;
     char error[1];
     size_t at = position;
@@ -67,6 +67,7 @@ static struct place place_at(const struct stream *stream, size_t position) {
     int is_header = status == CLAXON_BUFFER_TOO_SMALL;
     place.has_header = is_header && has_format(&stream->info, stream->bytes + position, &place.block);
     if (is_header) {
+        expect_format(stream->name, &place.block, stream->bytes + position);
         status = claxon_next_block(stream->bytes, stream->length, &at, &stream->info, samples, CLAXON_MAX_SAMPLES, &block, error,
                                    sizeof error);
     }
@@ -85,10 +86,6 @@ static void read_places(struct stream *stream) {
 
 static uint64_t samples_of(const struct claxon_block *block) {
     return (uint64_t)block->channels * block->duration;
-}
-
-static int is_same_block(const struct claxon_block *a, const struct claxon_block *b) {
-    return a->time == b->time && a->channels == b->channels && a->duration == b->duration;
 }
 
 static int has_sample(const struct claxon_block *block, uint64_t sample) {
@@ -111,14 +108,14 @@ struct found {
 };
 
 static struct found find(const struct stream *stream, size_t from, uint64_t budget) {
-    struct found found = {0, from, budget, {0, 0, 0}};
+    struct found found = {0, from, budget, {0, 0, 0, 0, 0}};
     memset(&found.block, UNTOUCHED, sizeof found.block);
     found.status = claxon_find_frame(stream->bytes, stream->length, &found.at, &stream->info, &found.left, &found.block);
     return found;
 }
 
 static struct found seek(const struct stream *stream, uint64_t sample, uint64_t budget) {
-    struct found found = {0, UNTOUCHED, budget, {0, 0, 0}};
+    struct found found = {0, UNTOUCHED, budget, {0, 0, 0, 0, 0}};
     memset(&found.block, UNTOUCHED, sizeof found.block);
     found.status =
         claxon_seek(stream->bytes, stream->length, &stream->info, sample, budget, &found.at, &found.block);
@@ -148,7 +145,7 @@ static struct found find_place(const struct stream *stream, size_t from, uint64_
         }
         undecided = place->is_undecided && undecided == end ? at : undecided;
     }
-    return (struct found){CLAXON_NO_MORE, undecided, budget, {0, 0, 0}};
+    return (struct found){CLAXON_NO_MORE, undecided, budget, {0, 0, 0, 0, 0}};
 }
 
 static void test_find(const struct stream *stream, size_t from, uint64_t budget) {
@@ -333,7 +330,7 @@ static void test_row(const char *folder, size_t row) {
     } else {
         expect(seek(&stream, end, 0).at > at, stream.name, "the sample behind a row");
     }
-    expect_found(&stream, find(&stream, at, samples_of(&(struct claxon_block){0, stream.info.channels, rows[row].duration})),
+    expect_found(&stream, find(&stream, at, samples_of(&(struct claxon_block){0, stream.info.channels, rows[row].duration, 0, 0})),
                  CLAXON_OK, at, 0, "a frame at its position");
     expect(find(&stream, at + 1, UINT64_MAX).at > at, stream.name, "a frame at the next position");
     free(bytes);

@@ -132,10 +132,6 @@ static void add_interleaved(struct tally *tally, const int32_t *samples, const s
     add_samples(tally, samples, block, 1, block->channels);
 }
 
-static int is_same_block(const struct claxon_block *a, const struct claxon_block *b) {
-    return a->time == b->time && a->channels == b->channels && a->duration == b->duration;
-}
-
 static int is_same_info(const struct claxon_info *a, const struct claxon_info *b) {
     return a->first_frame == b->first_frame && a->tags == b->tags && a->samples == b->samples &&
            a->sample_rate == b->sample_rate && a->channels == b->channels && a->bits_per_sample == b->bits_per_sample &&
@@ -234,6 +230,7 @@ static size_t compare_frames(const char *name, struct claxon_stream *stream, str
         if (status == CLAXON_OK && expected == CLAXON_OK) {
             size_t count = (size_t)whole->block.channels * whole->block.duration;
             expect(is_same_block(&stream->block, &whole->block), name, "a block");
+            expect_format(name, &stream->block, whole->bytes + before);
             expect(memcmp(stream->samples, samples, count * sizeof *samples) == 0, name, "the samples of a block");
             blocks++;
         } else if (is_fault(expected)) {
@@ -837,21 +834,70 @@ static size_t frames_before(const uint8_t *bytes, size_t length, size_t end) {
     return count;
 }
 
-static void test_failing(const char *name, const uint8_t *bytes, size_t length, size_t fails_at) {
+/* A call after the failure says the same, and reads no more. */
+static void expect_failure(struct claxon_stream *stream, struct source *source, uint32_t status, const char *name, const char *what) {
+    expect(status == CLAXON_READ_FAILED && strcmp(stream->error, "reading failed") == 0, name, what);
+    expect(source->has_ended, name, what);
+}
+
+/* The number of blocks of a stream that ends there, which is no failure. */
+static size_t blocks_of_cut(const char *name, const uint8_t *bytes, size_t length) {
     struct claxon_stream stream;
-    struct source source = pieces_of(bytes, length, any_piece());
+    struct source source = pieces_of(bytes, length, 100);
     size_t count = 0;
+    uint32_t status;
+    claxon_stream_init(&stream, read_source, &source);
+    while ((status = claxon_stream_next_block(&stream)) == CLAXON_OK) {
+        count++;
+    }
+    expect(status == CLAXON_INPUT_ENDS || status == CLAXON_NO_MORE, name, "the status where the stream is cut");
+    claxon_stream_free(&stream);
+    return count;
+}
+
+static void test_failing(const char *name, const uint8_t *bytes, size_t length, size_t fails_at, size_t piece) {
+    struct claxon_stream stream;
+    struct source source = pieces_of(bytes, length, piece);
+    size_t count = 0;
+    uint64_t position;
     uint32_t status;
     source.fails_at = fails_at;
     claxon_stream_init(&stream, read_source, &source);
     while ((status = claxon_stream_next_block(&stream)) == CLAXON_OK) {
         count++;
     }
-    expect(status == CLAXON_INPUT_ENDS && strcmp(stream.error, "reading failed") == 0, name, "the status where reading fails");
+    position = stream.position;
+    expect_failure(&stream, &source, status, name, "the status where reading fails");
     expect(count == frames_before(bytes, length, fails_at), name, "the frames before reading fails");
-    status = claxon_stream_resync(&stream);
-    expect(status == CLAXON_INPUT_ENDS && strcmp(stream.error, "reading failed") == 0, name, "resync where reading fails");
+    expect(count == blocks_of_cut(name, bytes, fails_at), name, "the frames of a stream that is cut");
+    expect_failure(&stream, &source, claxon_stream_next_block(&stream), name, "a block after reading failed");
+    expect_failure(&stream, &source, claxon_stream_next_block_planar(&stream), name, "a planar block after reading failed");
+    expect(stream.position == position, name, "the position after reading failed");
+    expect_failure(&stream, &source, claxon_stream_resync(&stream), name, "resync where reading fails");
+    expect_failure(&stream, &source, claxon_stream_next_block(&stream), name, "a block after resync where reading fails");
     claxon_stream_free(&stream);
+}
+
+/* In the content of a metadata block, and after it. */
+static void test_failing_content(void) {
+    struct made made = make_pictures();
+    struct claxon_stream stream;
+    struct source source = pieces_of(made.bytes, made.length, 1);
+    struct claxon_metadata metadata;
+    uint8_t content[100];
+    const char *name = "content where reading fails";
+    source.fails_at = 4 + 38 + 4 + 10;
+    claxon_stream_init(&stream, read_source, &source);
+    expect(claxon_stream_next_metadata(&stream, &metadata) == CLAXON_OK, name, "the streaminfo");
+    expect(claxon_stream_next_metadata(&stream, &metadata) == CLAXON_OK && metadata.type == CLAXON_PICTURE, name, "a picture");
+    expect(claxon_stream_content(&stream, content, sizeof content) == 10, name, "what was read of it");
+    for (int i = 0; i < 2; i++) {
+        expect_failure(&stream, &source, claxon_stream_next_metadata(&stream, &metadata), name, "the next metadata block");
+        expect_failure(&stream, &source, claxon_stream_open(&stream), name, "the head");
+        expect_failure(&stream, &source, claxon_stream_next_block(&stream), name, "a block");
+    }
+    claxon_stream_free(&stream);
+    free(made.bytes);
 }
 
 /* A folder can be opened as a file, but not read. */
@@ -861,7 +907,7 @@ static void test_failing_file(void) {
     expect(folder != NULL, "a folder", "it can't be opened");
     if (folder) {
         claxon_stream_init(&stream, claxon_stream_fread, folder);
-        expect(claxon_stream_next_block(&stream) == CLAXON_INPUT_ENDS, "a folder", "the status");
+        expect(claxon_stream_next_block(&stream) == CLAXON_READ_FAILED, "a folder", "the status");
         expect(strcmp(stream.error, "reading failed") == 0, "a folder", "the text");
         claxon_stream_free(&stream);
         fclose(folder);
@@ -1005,7 +1051,10 @@ static void test_file(const struct known *known, const uint8_t *bytes, size_t le
     if (length <= SMALL) {
         test_cut(name, bytes, length);
         for (size_t i = 0; i < length && is_ok; i += 1 + below(40)) {
-            test_failing(name, bytes, length, i);
+            test_failing(name, bytes, length, i, any_piece());
+        }
+        for (size_t i = 0; i < length && is_ok; i += 61) {
+            test_failing(name, bytes, length, i, 61);
         }
         if (is_ok) {
             test_memory(name, bytes, length, known->tally);
@@ -1045,6 +1094,7 @@ int main(int argc, char **argv) {
         test_long_blocks();
         test_all_seen();
         test_metadata();
+        test_failing_content();
         test_endless_frame(0, CLAXON_MAX_FRAME_BYTES);
         test_endless_frame(1, CLAXON_MAX_FRAME_BYTES + 65536);
         expect(damaged_blocks > 0, "stream", "no blocks of damaged files");

@@ -126,7 +126,7 @@ static void find_frames(struct frames *frames) {
     frames->count = 0;
     frames->frames = malloc((frames->length / 8 + 1) * sizeof *frames->frames);
     for (size_t at = frames->info.first_frame; at + 8 < frames->length; at++) {
-        struct frame frame = {at, {0, 0, 0}};
+        struct frame frame = {at, {0, 0, 0, 0, 0}};
         size_t end = at;
         if (frames->bytes[at] == 0xff && decode(frames, &end, 0, &frame.block) == CLAXON_BUFFER_TOO_SMALL &&
             has_format(&frames->info, frames->bytes + at, &frame.block) &&
@@ -158,7 +158,8 @@ static void expect_block(struct claxon_stream *stream, const struct frames *fram
     expect(status == CLAXON_OK && decode(frames, &end, CLAXON_MAX_SAMPLES, &block) == CLAXON_OK, frames->name, "the next block");
     count = (size_t)block.channels * block.duration;
     if (status == CLAXON_OK) {
-        expect(memcmp(&stream->block, &block, sizeof block) == 0 && stream->position == end, frames->name, "what it shows");
+        expect(is_same_block(&stream->block, &block) && stream->position == end, frames->name, "what it shows");
+        expect_format(frames->name, &stream->block, frames->bytes + frame->at);
         expect(memcmp(stream->samples, samples, count * sizeof *samples) == 0, frames->name, "its samples");
     }
     while (end < frames->length && below(2)) {
@@ -336,12 +337,14 @@ static int test_failing_call(const char *name, const uint8_t *bytes, size_t leng
     if (status == CLAXON_OK) {
         expect(!was_called || call == 2, name, "a seek whose call failed");
     } else {
-        expect(was_called && status == CLAXON_INPUT_ENDS && strcmp(stream->error, attempt.source.failure) == 0, name,
+        expect(was_called && status == CLAXON_READ_FAILED && strcmp(stream->error, attempt.source.failure) == 0, name,
                "the status of a seek whose call failed");
         if (call > 1) {
-            expect(claxon_stream_next_block(stream) == CLAXON_INPUT_ENDS, name, "a block after a call failed");
+            size_t calls = attempt.source.calls;
+            expect(claxon_stream_next_block(stream) == CLAXON_READ_FAILED, name, "a block after a call failed");
             expect(strcmp(stream->error, "seeking failed") == 0, name, "its text");
-            expect(claxon_stream_resync(stream) == CLAXON_INPUT_ENDS, name, "resync after a call failed");
+            expect(claxon_stream_resync(stream) == CLAXON_READ_FAILED, name, "resync after a call failed");
+            expect(attempt.source.calls == calls, name, "a call of a callback after one failed");
         }
     }
     expect_sample(stream, sample, name);
@@ -363,7 +366,7 @@ static int test_refused(const char *name, const uint8_t *bytes, size_t length, u
     expect(status == (was_refused ? CLAXON_OUT_OF_MEMORY : CLAXON_OK), name, "the status where memory was refused");
     if (was_refused) {
         expect(strcmp(stream->error, "out of memory") == 0, name, "the text where memory was refused");
-        expect(claxon_stream_next_block(stream) == CLAXON_INPUT_ENDS, name, "a block where memory was refused");
+        expect(claxon_stream_next_block(stream) == CLAXON_READ_FAILED, name, "a block where memory was refused");
     }
     expect_sample(stream, sample, name);
     claxon_stream_free(stream);
@@ -459,7 +462,7 @@ static void test_files(const char *name, const uint8_t *bytes, size_t length) {
         expect(write(ends[1], bytes, 3000) == 3000, name, "a pipe");
         claxon_stream_init(&stream, claxon_stream_read_fd, &ends[0]);
         claxon_stream_set_seek(&stream, claxon_stream_seek_fd);
-        expect(claxon_stream_seek(&stream, 4096) == CLAXON_INPUT_ENDS, name, "seek in a pipe");
+        expect(claxon_stream_seek(&stream, 4096) == CLAXON_READ_FAILED, name, "seek in a pipe");
         expect(strcmp(stream.error, "seeking failed") == 0, name, "the text of seek in a pipe");
         expect(claxon_stream_next_block(&stream) == CLAXON_OK && stream.block.time == 0, name, "the block of a pipe");
         claxon_stream_free(&stream);
