@@ -57,8 +57,8 @@ typedef int64_t claxon_stream_seek_to(void *source, int64_t offset, int whence);
 #define CLAXON_NEED_MORE 100
 
 /* What a call returns where a callback failed, of the source and not of the stream: `error` is "reading failed" or "seeking
- * failed". A later call gives the blocks that are held whole, and then returns it again: neither callback is called until a seek
- * is. After a seek that has succeeded the stream goes on from there. */
+ * failed". A later call returns it again, once it has given what it can of the bytes that are held, and calls no callback but for
+ * a seek. After a seek that has succeeded the stream goes on from there. */
 #define CLAXON_READ_FAILED 101
 
 /* What a stream has shown so far. */
