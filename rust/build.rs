@@ -1,5 +1,6 @@
 //! Finds the library for C: in the folder that CLAXON_LIB_DIR names, else where `make -C c` puts it, else beside this crate in
-//! an archive, else by pkg-config. The static library is taken where there are both.
+//! an archive, else by pkg-config. The static library is taken where there are both. Where there is the shared library alone, a
+//! program has to find it when it runs: the tests and examples of this crate do, and for others a warning says how.
 use std::env;
 use std::path::{Path, PathBuf};
 use std::process::{exit, Command};
@@ -13,6 +14,8 @@ claxon: the library for C wasn't found. One of these helps:
 
 const STATIC: &str = "libclaxon.a";
 const SHARED: &str = "libclaxon.so";
+// The name by which a program that is linked with the shared library looks for it. c/Makefile has it too.
+const AT_RUN_TIME: &str = "libclaxon.so.0.3";
 
 fn main() {
     println!("cargo:rerun-if-env-changed=CLAXON_LIB_DIR");
@@ -73,4 +76,17 @@ fn link(folder: &Path) {
     println!("cargo:rerun-if-changed={}", folder.join(name).display());
     println!("cargo:rustc-link-search=native={}", folder.display());
     println!("cargo:rustc-link-lib={kind}=claxon");
+    if kind == "dylib" {
+        let folder = folder.canonicalize().unwrap_or_else(|_| folder.to_path_buf());
+        println!("cargo:rustc-link-arg=-Wl,-rpath,{}", folder.display());
+        println!("cargo:warning={}", at_run_time(&folder));
+    }
+}
+
+fn at_run_time(folder: &Path) -> String {
+    let folder = folder.display();
+    format!(
+        "there is no {STATIC} in {folder}: a program that uses claxon has to find {AT_RUN_TIME} when it runs, as with \
+         LD_LIBRARY_PATH={folder}, after ldconfig, or built with RUSTFLAGS=-Clink-arg=-Wl,-rpath,{folder}"
+    )
 }

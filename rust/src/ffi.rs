@@ -56,6 +56,9 @@ pub struct Block {
     pub time: u64,
     pub channels: u32,
     pub duration: u32,
+    /// Or 0, as the next one, where the frame's header leaves it to the streaminfo.
+    pub sample_rate: u32,
+    pub bits_per_sample: u32,
 }
 
 impl Block {
@@ -75,7 +78,7 @@ pub struct Md5 {
 }
 
 // The sizes that `claxon.h` asserts.
-const _: () = assert!(size_of::<Info>() == 64 && size_of::<Tag>() == 32 && size_of::<Block>() == 16);
+const _: () = assert!(size_of::<Info>() == 64 && size_of::<Tag>() == 32 && size_of::<Block>() == 24);
 const _: () = assert!(size_of::<Md5>() == 88);
 
 /// A text that the library writes. Its longest one has 92 bytes.
@@ -221,6 +224,14 @@ pub fn next_block(bytes: &[u8], info: &Info, samples: &mut [i32]) -> NextBlock {
         OK => NextBlock::Found { block, length },
         BUFFER_TOO_SMALL => NextBlock::BufferTooSmall(block),
         _ => NextBlock::Failed(Failure { status, text }),
+    }
+}
+
+/// What the frame's header says of its block with which the bytes begin.
+pub fn header_of(bytes: &[u8], info: &Info) -> Option<Block> {
+    match next_block(bytes, info, &mut []) {
+        NextBlock::BufferTooSmall(block) => Some(block),
+        NextBlock::Found { .. } | NextBlock::Failed(_) => None,
     }
 }
 

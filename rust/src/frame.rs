@@ -3,7 +3,7 @@ use crate::error::{end_of_input, format_error, unsupported, Error, Result};
 use crate::ffi::{self, Failure, Info, NextBlock, MAX_FRAME_BYTES};
 use crate::input::ReadBytes;
 use crate::metadata::StreamInfo;
-use crate::source::FRAME_CAPACITY;
+use crate::source::{FRAME_CAPACITY, MAX_IN_VAIN};
 use std::{io, iter, result, slice};
 
 /// A block of samples: of each channel the same number.
@@ -11,6 +11,9 @@ pub struct Block {
     time: u64,
     channels: u32,
     duration: u32,
+    // What the frame's header says, or 0.
+    sample_rate: u32,
+    bits_per_sample: u32,
     // The channels, one after another.
     samples: Vec<i32>,
 }
@@ -19,12 +22,13 @@ impl Block {
     // The buffer has at least its samples.
     fn new(block: ffi::Block, mut samples: Vec<i32>) -> Block {
         samples.truncate(block.samples());
-        Block { time: block.time, channels: block.channels, duration: block.duration, samples }
+        let ffi::Block { time, channels, duration, sample_rate, bits_per_sample } = block;
+        Block { time, channels, duration, sample_rate, bits_per_sample, samples }
     }
 
     /// A block of no channels and no samples.
     pub fn empty() -> Block {
-        Block { time: 0, channels: 0, duration: 0, samples: Vec::new() }
+        Block::new(ffi::Block::default(), Vec::new())
     }
 
     /// The number of samples of each channel that come before the block.
@@ -54,6 +58,20 @@ impl Block {
     #[inline]
     pub fn channels(&self) -> u32 {
         self.channels
+    }
+
+    /// The sample rate in Hz that the frame's own header says. `None` where that leaves it to the streaminfo.
+    ///
+    /// Who joins a stream in the middle has no other source of it.
+    #[inline]
+    pub fn sample_rate(&self) -> Option<u32> {
+        Some(self.sample_rate).filter(|rate| *rate > 0)
+    }
+
+    /// The number of bits of a sample that the frame's own header says. `None` where that leaves it to the streaminfo.
+    #[inline]
+    pub fn bits_per_sample(&self) -> Option<u32> {
+        Some(self.bits_per_sample).filter(|bits| *bits > 0)
     }
 
     /// The samples of channel `ch`, of which the first is 0.
@@ -126,9 +144,6 @@ pub struct FrameReader<R: ReadBytes> {
     info: Info,
 }
 
-// Where so many bytes and samples were tried in vain, frames aren't tried for their CRC any more.
-const MAX_WASTED: u64 = 2 * MAX_FRAME_BYTES as u64;
-
 // The 14 bits of a sync code, before two that tell more of the frame, and which bits they are.
 const SYNC_CODE: u16 = 0xfff8;
 const SYNC_CODE_BITS: u16 = 0xfffc;
@@ -182,7 +197,7 @@ impl<R: ReadBytes> FrameReader<R> {
             }
             match self.try_block(&mut buffer) {
                 Err(failure) if is_cut(&failure) => {
-                    self.note_try(buffer.len());
+                    self.note_try();
                     if let Some(stop) = stop {
                         return self.stopped(stop, failure.status);
                     }
@@ -255,33 +270,35 @@ impl<R: ReadBytes> FrameReader<R> {
         if held < 2 || held == tried.bytes {
             return false;
         }
-        held >= 2 * tried.bytes || (tried.wasted <= MAX_WASTED && self.has_footer())
+        held >= 2 * tried.bytes || (tried.in_vain <= MAX_IN_VAIN && self.has_footer())
     }
 
     // Whether the frame may end in the bytes that weren't tried: behind its footer the CRC of all its bytes is 0, and by
     // chance at one place of 65,536.
     fn has_footer(&mut self) -> bool {
         let mut tried = self.input.tried();
-        let bytes = self.bytes();
+        let bytes = self.input.buffered();
+        let end = bytes.len().min(tried.longest());
         if tried.summed < tried.bytes {
             tried.crc = ffi::crc16(tried.crc, &bytes[tried.summed..tried.bytes]);
             tried.summed = tried.bytes;
         }
         let mut is_found = false;
-        while !is_found && tried.summed < bytes.len() {
+        while !is_found && tried.summed < end {
             tried.crc = ffi::crc16(tried.crc, &bytes[tried.summed..tried.summed + 1]);
             tried.summed += 1;
-            is_found = tried.crc == 0;
+            is_found = tried.crc == 0 && tried.may_end_before(&bytes[tried.summed..]);
         }
         self.input.note(tried);
         is_found
     }
 
     // Notes that the bytes aren't a whole frame. A try for their CRC was in vain.
-    fn note_try(&mut self, samples: usize) {
+    fn note_try(&mut self) {
         let (held, mut tried) = (self.bytes().len(), self.input.tried());
+        tried.samples = ffi::header_of(self.bytes(), &self.info).map_or(0, |block| block.samples());
         if held < 2 * tried.bytes {
-            tried.wasted += (held + samples) as u64;
+            tried.in_vain += (held + tried.samples) as u64;
         }
         tried.bytes = held;
         self.input.note(tried);

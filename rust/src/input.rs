@@ -78,6 +78,7 @@ impl<R: io::Read> BufferedReader<R> {
         assert!(count <= free.len(), "a reader that says it read more than it can have read");
         self.end += count;
         self.next += count as u64;
+        self.tried.read(count);
         Ok(count)
     }
 

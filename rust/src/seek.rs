@@ -103,7 +103,7 @@ impl<R: Read> Seeker<'_, R> {
                 return Ok(None);
             }
             if is_header {
-                return Ok(header_of(self.input.buffered(), &self.info));
+                return Ok(ffi::header_of(self.input.buffered(), &self.info));
             }
             if self.input.fill_some(STEP)? == 0 {
                 return Ok(None);
@@ -148,14 +148,6 @@ impl<R: Read> Seeker<'_, R> {
             }
         }
         Ok(true)
-    }
-}
-
-// What the frame's header says of its block with which the bytes begin.
-fn header_of(bytes: &[u8], info: &Info) -> Option<Block> {
-    match ffi::next_block(bytes, info, &mut []) {
-        NextBlock::BufferTooSmall(block) => Some(block),
-        NextBlock::Found { .. } | NextBlock::Failed(_) => None,
     }
 }
 

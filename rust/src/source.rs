@@ -1,5 +1,5 @@
 //! What a frame is decoded from.
-use crate::ffi::Block;
+use crate::ffi::{Block, MAX_FRAME_BYTES};
 use std::io;
 
 /// The capacity of a buffer for metadata: tags mostly fit, and where they alone are read little else is.
@@ -18,20 +18,55 @@ pub struct Tried {
     pub summed: usize,
     pub crc: u16,
 
-    /// The bytes and samples of tries that led to no block, less what bytes that were consumed make good.
-    pub wasted: u64,
+    /// The number of its samples, of all channels, where that isn't 0.
+    pub samples: usize,
+
+    /// The bytes and samples of tries where the CRC is 0 that led to no block, less what reads make good.
+    pub in_vain: u64,
 }
 
 impl Tried {
     /// Of the frame after so many bytes nothing is known.
     pub fn consume(&mut self, count: usize) {
         if count > 0 {
-            *self = Tried { wasted: self.wasted.saturating_sub(WASTED_OF_A_BYTE * count as u64), ..Tried::default() };
+            *self = Tried { in_vain: self.in_vain, ..Tried::default() };
         }
+    }
+
+    /// So many bytes were read at once.
+    pub fn read(&mut self, count: usize) {
+        self.in_vain = self.in_vain.saturating_sub(MADE_GOOD_BY_A_READ + MADE_GOOD_BY_A_BYTE * count as u64);
+    }
+
+    /// As many bytes as an encoder may write for the frame.
+    pub fn longest(&self) -> usize {
+        match self.samples {
+            0 => MAX_FRAME_BYTES,
+            samples => MORE_BYTES + BYTES_OF_A_SAMPLE * samples,
+        }
+    }
+
+    /// Whether the frame is worth a try where its CRC is 0. After it are these bytes: they begin another frame, or nothing
+    /// was read yet; or few of the other tries were in vain.
+    pub fn may_end_before(&self, after: &[u8]) -> bool {
+        let is_likely = matches!(after, [] | [0xff] | [0xff, 0xf8 | 0xf9, ..]);
+        self.in_vain <= if is_likely { MAX_IN_VAIN } else { MAX_UNLIKELY }
     }
 }
 
-const WASTED_OF_A_BYTE: u64 = 4;
+// How much work of tries where the CRC is 0 may lead to no block, in bytes and samples: before no more are made; and before
+// those are left out behind which no frame seems to begin. How much of it a read makes good, and each byte that was read.
+// By chance the CRC is 0 at one place of 65,536. So byte by byte a frame of L bytes and S samples takes
+// (L / 2 + S) / 65,536 for each read, which is 24 for eight channels of 65,535 samples of 32 bits. In larger pieces the
+// bytes behind such a place mostly show that no frame begins there.
+pub const MAX_IN_VAIN: u64 = 4 * MAX_FRAME_BYTES as u64;
+const MAX_UNLIKELY: u64 = 2 * MAX_FRAME_BYTES as u64;
+const MADE_GOOD_BY_A_READ: u64 = 28;
+const MADE_GOOD_BY_A_BYTE: u64 = 2;
+
+// How many bytes an encoder may write for a sample, and how many more.
+const BYTES_OF_A_SAMPLE: usize = 4;
+const MORE_BYTES: usize = 1 << 16;
 
 /// A frame that was decoded.
 pub struct Decoded {

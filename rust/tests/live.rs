@@ -37,15 +37,21 @@ impl Stream {
 
 /// The frame with this number, of samples of 8 bits: each channel is verbatim, or constant.
 fn frame(number: usize, channels: &[Vec<u8>]) -> Vec<u8> {
-    let mut frame = vec![0xff, 0xf8, 0x79, (channels.len() as u8 - 1) << 4];
+    frame_of_depth(number, 1, channels)
+}
+
+/// The same of samples of one to three bytes, big-endian. Constant are those of one byte alone.
+fn frame_of_depth(number: usize, depth: usize, channels: &[Vec<u8>]) -> Vec<u8> {
+    let depth_code = [1, 4, 6][depth - 1];
+    let mut frame = vec![0xff, 0xf8, 0x79, (channels.len() as u8 - 1) << 4 | depth_code << 1];
     match number {
         0..=0x7f => frame.push(number as u8),
         _ => frame.extend([0xc0 | (number >> 6) as u8, 0x80 | (number & 0x3f) as u8]),
     }
-    frame.extend_from_slice(&(channels[0].len() as u16 - 1).to_be_bytes());
+    frame.extend_from_slice(&((channels[0].len() / depth) as u16 - 1).to_be_bytes());
     frame.push(crc8(&frame));
     for channel in channels {
-        if channel.iter().all(|sample| *sample == channel[0]) {
+        if depth == 1 && channel.iter().all(|sample| *sample == channel[0]) {
             frame.extend([0, channel[0]]);
         } else {
             frame.push(2);
@@ -56,14 +62,19 @@ fn frame(number: usize, channels: &[Vec<u8>]) -> Vec<u8> {
     frame
 }
 
+/// Bytes that look random.
+fn noise_of(seed: u64) -> impl FnMut() -> u8 {
+    let mut state = seed;
+    move || {
+        state = state.wrapping_mul(6_364_136_223_846_793_005).wrapping_add(1_442_695_040_888_963_407);
+        (state >> 56) as u8
+    }
+}
+
 /// 149 frames of 4096 samples that look random, of one to three channels. Each tenth is constant.
 fn stream() -> Stream {
     let mut stream = Stream { bytes: bytes(HEAD), ends: Vec::new(), samples: Vec::new() };
-    let mut state = 1_u64;
-    let mut noise = || {
-        state = state.wrapping_mul(6_364_136_223_846_793_005).wrapping_add(1_442_695_040_888_963_407);
-        (state >> 56) as u8
-    };
+    let mut noise = noise_of(1);
     for number in 0..FRAMES {
         let channels: Vec<Vec<u8>> = (0..1 + number % 3)
             .map(|_| if number % 10 == 9 { vec![noise(); 4096] } else { (0..4096).map(|_| noise()).collect() })
@@ -86,7 +97,8 @@ struct Limited<'a> {
 impl Read for Limited<'_> {
     fn read(&mut self, buffer: &mut [u8]) -> io::Result<usize> {
         assert!(self.at < self.limit.get(), "a read before a block is returned");
-        let count = (&self.bytes[self.at..]).read(buffer)?.min(self.piece);
+        let most = buffer.len().min(self.piece);
+        let count = (&self.bytes[self.at..]).read(&mut buffer[..most])?;
         self.at += count;
         Ok(count)
     }
@@ -113,6 +125,40 @@ fn pieces_of_any_size() {
                 limit.set(*end);
                 assert!(flac.blocks().read_next_or_eof(Vec::new()).unwrap().is_some());
             }
+        }
+    }
+}
+
+/// Two frames of eight channels of 65,535 samples of so many bytes, as they are.
+fn huge(depth: usize, seed: u64) -> Stream {
+    let mut stream = Stream { bytes: bytes(HEAD), ends: Vec::new(), samples: Vec::new() };
+    let mut noise = noise_of(seed);
+    for number in 0..2 {
+        let channels: Vec<Vec<u8>> = (0..8).map(|_| (0..depth * 65535).map(|_| noise()).collect()).collect();
+        let sample_of = |bytes: &[u8]| match *bytes {
+            [high, low] => i32::from(i16::from_be_bytes([high, low])),
+            [high, middle, low] => i32::from_be_bytes([high, middle, low, 0]) >> 8,
+            _ => panic!("samples of two or three bytes"),
+        };
+        stream.bytes.extend(frame_of_depth(number, depth, &channels));
+        stream.ends.push(stream.bytes.len());
+        stream.samples.push(channels.concat().chunks(depth).map(sample_of).collect());
+    }
+    stream
+}
+
+/// Frames of a megabyte and a half are no exception, though their CRC is 0 by chance at more than twenty places.
+#[test]
+fn frames_of_any_size() {
+    for (depth, seed, piece) in [(3, 1, 1), (2, 2, 1), (3, 3, 1460)] {
+        let made = huge(depth, seed);
+        assert!(made.ends[0] > 8 * 65535 * depth);
+        let limit = Cell::new(made.ends[0]);
+        let mut flac = FlacReader::new(Limited { bytes: &made.bytes, at: 0, piece, limit: &limit }).unwrap();
+        for (end, samples) in made.ends.iter().zip(&made.samples) {
+            limit.set(*end);
+            let block = flac.blocks().read_next_or_eof(Vec::new()).unwrap().unwrap();
+            assert!(block.into_buffer() == *samples);
         }
     }
 }

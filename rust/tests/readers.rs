@@ -87,6 +87,39 @@ fn a_reader_that_fails_once() {
     }
 }
 
+/// The reader's own error, whatever its kind, and not that of a stream that ends there.
+#[test]
+fn a_failure_is_told_apart_from_an_early_end() {
+    struct Failing<'a>(&'a [u8]);
+
+    impl Read for Failing<'_> {
+        fn read(&mut self, buffer: &mut [u8]) -> io::Result<usize> {
+            match self.0.read(buffer)? {
+                0 => Err(io::Error::new(io::ErrorKind::UnexpectedEof, "no disk")),
+                count => Ok(count),
+            }
+        }
+    }
+
+    let (stream, ends) = stream();
+    for place in 0..=stream.len() {
+        let (before, failed) = decode(Failing(&stream[..place]));
+        assert!(matches!(failed, Err(Error::IoError(error)) if error.to_string() == "no disk"), "{place}");
+        let (cut, ended) = decode(&stream[..place]);
+        assert_eq!(before, cut);
+        match ended {
+            Ok(()) => assert!(ends.contains(&place) || ends.contains(&(place - 1)), "{place}"),
+            Err(Error::IoError(error)) => {
+                assert_eq!(
+                    (error.kind(), &*error.to_string()),
+                    (io::ErrorKind::UnexpectedEof, "the bytes end too early")
+                );
+            }
+            Err(error) => panic!("{error}"),
+        }
+    }
+}
+
 #[test]
 fn samples_end_at_a_failure() {
     let (stream, ends) = stream();

@@ -26,14 +26,61 @@ fn blocks() {
     assert_eq!(block.stereo_samples().size_hint(), (2, Some(2)));
     assert_eq!(block.stereo_samples().collect::<Vec<_>>(), [(3, -2), (3, -2)]);
     assert!(!block.is_empty());
+    assert_eq!((block.sample_rate(), block.bits_per_sample()), (Some(44_100), Some(8)));
     assert_eq!(block.into_buffer(), [3, 3, -2, -2]);
     let block = block_of(ONE_CHANNEL);
     assert_eq!(block.channel(0), [10, 11, 11, 9]);
     assert_eq!(block.into_buffer().len(), 4);
     let block = Block::empty();
     assert_eq!((block.time(), block.channels(), block.duration(), block.len()), (0, 0, 0, 0));
+    assert_eq!((block.sample_rate(), block.bits_per_sample()), (None, None));
     assert!(block.is_empty());
     assert!(block.into_buffer().is_empty());
+}
+
+/// A frame of a constant channel of zeros, with these codes of its block size and sample rate and of its bit depth, and with
+/// these bytes behind them: the coded number, and the fields of the block size and the sample rate.
+fn frame_of(codes: u8, depth_code: u8, fields: &[u8]) -> Vec<u8> {
+    let mut frame = [&[0xff, 0xf8, codes, depth_code << 1], fields].concat();
+    frame.push(crc8(&frame));
+    frame.extend(vec![0; [3, 2, 3, 0, 3, 4, 4][usize::from(depth_code)]]);
+    frame.extend(crc16(&frame).to_be_bytes());
+    frame
+}
+
+/// Each code of a sample rate and of a bit depth (RFC 9639, sections 9.1.2, 9.1.4 and 9.1.7), in a stream of 16 bits at
+/// 48,000 Hz.
+#[test]
+fn the_rate_and_the_depth_of_a_header() {
+    let rates = [
+        (0x10, &[0][..], None),
+        (0x11, &[0], Some(88_200)),
+        (0x12, &[0], Some(176_400)),
+        (0x13, &[0], Some(192_000)),
+        (0x14, &[0], Some(8000)),
+        (0x15, &[0], Some(16_000)),
+        (0x16, &[0], Some(22_050)),
+        (0x17, &[0], Some(24_000)),
+        (0x18, &[0], Some(32_000)),
+        (0x19, &[0], Some(44_100)),
+        (0x1a, &[0], Some(48_000)),
+        (0x1b, &[0], Some(96_000)),
+        (0x1c, &[0, 0xff], Some(255_000)),
+        (0x1d, &[0, 0xac, 0x45], Some(44_101)),
+        (0x6e, &[0xc2, 0x80, 0x0f, 0xff, 0xff], Some(655_350)),
+        (0x7c, &[0, 1, 1, 3], Some(3000)),
+    ];
+    let depths = [(0, None), (1, Some(8)), (2, Some(12)), (4, Some(16)), (5, Some(20)), (6, Some(24))];
+    let mut head = bytes(HEAD);
+    head[18..22].copy_from_slice(&[0x0b, 0xb8, 0x00, 0xf0]);
+    for (codes, fields, rate) in rates {
+        for (depth_code, depth) in depths {
+            let stream = [&head[..], &frame_of(codes, depth_code, fields)].concat();
+            let mut flac = FlacReader::new(&stream[..]).unwrap();
+            let block = flac.blocks().read_next_or_eof(Vec::new()).unwrap().unwrap();
+            assert_eq!((block.sample_rate(), block.bits_per_sample()), (rate, depth), "{codes:02x} {depth_code}");
+        }
+    }
 }
 
 #[test]

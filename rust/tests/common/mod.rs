@@ -179,7 +179,8 @@ pub fn crc8(bytes: &[u8]) -> u8 {
 
 pub fn crc16(bytes: &[u8]) -> u16 {
     let step = |crc: u16| if crc & 0x8000 != 0 { crc << 1 ^ 0x8005 } else { crc << 1 };
-    bytes.iter().fold(0, |crc, byte| (0..8).fold(crc ^ u16::from(*byte) << 8, |crc, _| step(crc)))
+    let of_byte: [u16; 256] = std::array::from_fn(|byte| (0..8).fold((byte as u16) << 8, |crc, _| step(crc)));
+    bytes.iter().fold(0, |crc, byte| crc << 8 ^ of_byte[usize::from((crc >> 8) as u8 ^ byte)])
 }
 
 /// The place of the first frame, and where each frame ends.
