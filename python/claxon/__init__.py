@@ -74,6 +74,10 @@ _PASSED_OVER_BUDGET = 64
 # To go on with a CRC over one byte takes as long here as to decode so many bytes.
 _BYTES_PER_CRC = 16
 
+# By chance the CRC is 0 at one place of 65536. A frame may be tried in vain at twice as many places
+# before that counts as wasted: so a frame of any size is given at its end, in linear time.
+_BYTES_PER_GUESS = 1 << 15
+
 
 class Error(Exception):
     """A stream can't be decoded. The text is the library's.
@@ -360,6 +364,7 @@ class _Window:
         self.start = 0  # the position in the file of its first byte
         self.has_ended = False  # whether no more bytes come
         self.tried = 0  # so many bytes of the next frame aren't a whole one
+        self.guesses = 0  # how often it was tried in vain for its CRC
         self._summed, self._crc = 0, 0  # the CRC of so many of its bytes
 
     def position(self) -> int:
@@ -372,7 +377,7 @@ class _Window:
 
     def begin_frame(self) -> None:
         """Forgets what is known of the next frame."""
-        self.tried, self._summed, self._crc = 0, 0, 0
+        self.tried, self.guesses, self._summed, self._crc = 0, 0, 0, 0
 
     def fill(self, most: int) -> bool:
         """Reads once, at most so many bytes. False where none come, or not from a file."""
@@ -746,7 +751,7 @@ class _Stream:
             if window.has_ended and trial == window.held():
                 break
             if not self._is_linear(trial):
-                self._wasted += trial + self._capacity
+                self._note_guess(trial)
             window.tried = trial
         window.begin_frame()
         if status not in (_OK, _NO_MORE):
@@ -761,13 +766,25 @@ class _Stream:
             return True
         if held < 2 or held == window.tried:
             return False
+        if self._is_linear(held):
+            return True
         most = _MAX_WASTED + _WASTED_PER_BYTE * window.position()
-        return self._is_linear(held) or (self._wasted <= most and window.has_footer())
+        return (self._wasted <= most or self._is_expected(held)) and window.has_footer()
 
     def _is_linear(self, trial: int) -> bool:
         """Whether to try so many bytes takes no longer than twice the bytes or their CRCs would."""
         tried = self._window.tried
         return trial >= 2 * tried or _BYTES_PER_CRC * (trial - tried) >= trial + self._capacity
+
+    def _is_expected(self, trial: int) -> bool:
+        """Whether so many bytes have one more place at which the CRC is 0, and no frame ends."""
+        return (self._window.guesses + 1) * _BYTES_PER_GUESS <= trial
+
+    def _note_guess(self, trial: int) -> None:
+        """Notes that so many bytes were tried for their CRC in vain."""
+        if not self._is_expected(trial):
+            self._wasted += trial + self._capacity
+        self._window.guesses += 1
 
     def _try_frame(self) -> Tuple[int, int]:
         """Decodes the next frame, if its bytes are there: the status, and how many were tried.
@@ -811,6 +828,7 @@ class _Stream:
         planar = memoryview(self._samples)[: channels * duration]
         self._samples = None
         self._capacity = len(planar)
+        self._wasted = max(0, self._wasted - len(planar))  # time is linear in the samples too
         samples = tuple(planar[at : at + duration] for at in range(0, len(planar), duration))
         return Block(time, channels, duration, samples, planar)
 

@@ -1,4 +1,5 @@
 """Sources that send bytes as they come: each block is given when its last byte was read."""
+import functools
 import io
 import itertools
 import os
@@ -8,6 +9,7 @@ import socket
 import threading
 import time
 import unittest
+from array import array
 from types import FrameType
 from typing import Any, BinaryIO, Callable, Iterator, List, NamedTuple, Optional, Tuple
 from unittest import mock
@@ -251,6 +253,94 @@ class Pieces(unittest.TestCase):
             found += len(list(feed.blocks()))
         feed.close()
         self.assertEqual(found + len(list(feed.blocks())), 3)
+        self.assertLess(time.process_time() - start, 60)
+
+
+def large_frame(number: int, channels: List[bytes]) -> bytes:
+    """A verbatim frame of samples of 16 bits, of which these are the bytes."""
+    duration = len(channels[0]) // 2
+    frame = bytes([0xFF, 0xF8, 0x79, len(channels) - 1 << 4, number])
+    frame += (duration - 1).to_bytes(2, "big")
+    frame += bytes([crc(0x07, 8, frame)]) + b"".join(b"\x02" + channel for channel in channels)
+    return frame + crc(0x8005, 16, frame).to_bytes(2, "big")
+
+
+@functools.lru_cache(maxsize=1)
+def stream_of_large_frames() -> Stream:
+    """Eight frames of 8 channels of 65,535 samples of noise: 1 MB each."""
+    source = random.Random(7)
+    fields = 44100 << 44 | 7 << 41 | 15 << 36
+    streaminfo = STREAMINFO[:10] + fields.to_bytes(8, "big") + bytes(16)
+    content, ends, samples = MARKER + metadata_block(0, streaminfo, True), [], []
+    for number in range(8):
+        noise = source.getrandbits(8 * 16 * 65535).to_bytes(16 * 65535, "big")
+        channels = [noise[at : at + 2 * 65535] for at in range(0, len(noise), 2 * 65535)]
+        content += large_frame(number, channels)
+        ends.append(len(content))
+        found = array("h", noise)
+        found.byteswap()
+        samples.append(found.tolist())
+    return Stream(content, ends, samples)
+
+
+class LargeFrames(unittest.TestCase):
+    """By chance the CRC is 0 some 16 times within each."""
+
+    def expect_fed(self, stream: Stream, piece: int) -> claxon.Feed:
+        """Each block is given with the last byte of its frame."""
+        feed, given = claxon.Feed(), 0
+        for at in range(0, stream.ends[-1], piece):
+            end = min(at + piece, stream.ends[-1])
+            feed.feed(stream.content[at:end])
+            for block in feed.blocks():
+                self.assertEqual(block.planar.tolist(), stream.samples[given])
+                given += 1
+            self.assertEqual(given, stream.frames_within(end))
+        return feed
+
+    def test_pieces(self) -> None:
+        stream = stream_of_large_frames()
+        self.assertGreater(stream.ends[0], 1 << 20)
+        for piece in (1460, 4099, 65536):
+            self.expect_fed(stream, piece)
+        self.expect_fed(first_frames(stream, 1), 61)
+
+    @mock.patch.object(claxon, "_MAX_WASTED", 1 << 21)
+    def test_little_is_wasted(self) -> None:
+        """What is tried in vain is made good by the bytes and samples of each frame."""
+        feed = self.expect_fed(stream_of_large_frames(), 1460)
+        self.assertLess(feed._wasted, 1 << 21)
+
+    def test_file_objects(self) -> None:
+        """A read before a block is given would wait for ever."""
+        stream = stream_of_large_frames()
+        file = Limited(stream.content, 1460, len(stream.content))
+        flac = claxon.Flac(file)  # type: ignore[arg-type]
+        blocks = flac.blocks()
+        for end, samples in zip(stream.ends, stream.samples):
+            file.limit = end
+            self.assertEqual(next(blocks).planar.tolist(), samples)
+
+    def test_hostile(self) -> None:
+        """The CRC is 0 at nearly each byte: the time is linear, with few tries for each frame."""
+        stream = stream_of_large_frames()
+        channel = crc(0x8005, 16, b"\x02").to_bytes(2, "big") + bytes(2 * 65535 - 2)
+        header = large_frame(0, [bytes(2 * 65535)] * 8)[:8]
+        first = crc(0x8005, 16, header + b"\x02").to_bytes(2, "big") + bytes(2 * 65535 - 2)
+        frame = large_frame(0, [first] + 7 * [channel])
+        self.assertEqual(frame[-2:], bytes(2))
+        content = stream.content[: stream.ends[0] - len(frame)] + 12 * frame
+        name = "claxon_next_block_planar"
+        start, call = time.process_time(), getattr(claxon._library, name)
+        with mock.patch.object(claxon._library, name, side_effect=call) as tries:
+            for piece in (100, 1460):
+                feed, found = claxon.Feed(), 0
+                for at in range(0, len(content), piece):
+                    feed.feed(content[at : at + piece])
+                    found += len(list(feed.blocks()))
+                feed.close()
+                self.assertEqual(found + len(list(feed.blocks())), 12)
+        self.assertLess(tries.call_count, 2 * 12 * 100)
         self.assertLess(time.process_time() - start, 60)
 
 
