@@ -1,9 +1,9 @@
-"""FLAC files: samples, streaminfo and tags, decoded exactly.
+"""FLAC files: samples, streaminfo, tags and pictures, decoded exactly.
 
     samples, rate = claxon.read("song.flac")
 
     with claxon.Flac("song.flac") as flac:
-        print(flac.info, flac.tags)
+        print(flac.info, flac.duration, flac.tags)
         for block in flac.blocks():
             left = block.samples[0]
         before = flac.seek(441000)
@@ -25,11 +25,18 @@ import ctypes
 import io
 import os
 import pathlib
+import warnings
 from array import array
 from dataclasses import dataclass
 from types import TracebackType
-from typing import Any, BinaryIO, Dict, Generator, Iterator, List, NamedTuple, Optional, Tuple
-from typing import Type, Union
+from typing import Any, BinaryIO, Dict, Generator, Iterator, List, Literal, NamedTuple, Optional
+from typing import Tuple, Type, Union, overload
+
+from claxon._pictures import Picture, picture_of
+from claxon._samples import LETTERS, converted
+from claxon._tags import Tags
+
+__version__ = "0.3.0"
 
 __all__ = [
     "Block",
@@ -41,7 +48,11 @@ __all__ = [
     "Md5",
     "NoSuchSample",
     "OutOfMemory",
+    "Picture",
+    "ReadFailed",
     "StreamInfo",
+    "Tags",
+    "TrailingDataWarning",
     "Unsupported",
     "library_version",
     "read",
@@ -51,7 +62,7 @@ __all__ = [
 _OK, _FORMAT_ERROR, _UNSUPPORTED, _INPUT_ENDS = range(4)
 _OUT_OF_MEMORY, _NO_MORE, _BUFFER_TOO_SMALL, _OVER_BUDGET = range(4, 8)
 _NEED_MORE = -1  # no status of the library: more bytes have to be handed in
-_STREAMINFO, _VORBIS_COMMENT = 0, 4
+_STREAMINFO, _VORBIS_COMMENT, _PICTURE = 0, 4, 6
 _MAX_FRAME_BYTES = 16777215
 _INTERFACE = 3  # the minor version of the library, below 1.0.0
 _LIBRARY = f"libclaxon.so.0.{_INTERFACE}"
@@ -111,6 +122,18 @@ class NoSuchSample(Error):
     """No block has the sample that was sought."""
 
 
+class ReadFailed(OSError):
+    """The file could not be read, or not be moved to a place.
+
+    It has the number and the text of the exception that the file raised, which is its `__cause__`.
+    The stream goes on where it stood.
+    """
+
+
+class TrailingDataWarning(UserWarning):
+    """Behind its last sample a stream goes on with what is no frame, such as a tag."""
+
+
 _ERRORS: Dict[int, Type[Error]] = {
     _FORMAT_ERROR: FormatError,
     _UNSUPPORTED: Unsupported,
@@ -133,13 +156,18 @@ class StreamInfo:
     samples: Optional[int]  # of each channel
     md5: Optional[bytes]  # of the samples, interleaved, each little-endian in whole bytes
 
+    @property
+    def duration(self) -> Optional[float]:
+        """The length in seconds."""
+        return None if self.samples is None else self.samples / self.sample_rate
+
 
 class Block(NamedTuple):
-    """The samples of a frame: signed numbers of the stream's bit depth, four bytes each.
+    """The samples of a frame: signed numbers of its bit depth, four bytes each, or as `dtype` says.
 
     `planar` has all of them, channel after channel, and `samples[ch]` those of one channel. Both
-    are views, of format "i", of memory that belongs to this block alone. It isn't written again,
-    and stays as long as there is a view of it.
+    are views, of format "i", "h" or "f", of memory that belongs to this block alone. It isn't
+    written again, and stays as long as there is a view of it.
     """
 
     time: int  # the number of samples of each channel before it
@@ -147,10 +175,13 @@ class Block(NamedTuple):
     duration: int  # the number of samples of each channel
     samples: Tuple[memoryview, ...]
     planar: memoryview
+    sample_rate: Optional[int] = None  # in Hz; None where the frame leaves it to the streaminfo
+    bits_per_sample: Optional[int] = None  # 1 to 32; None as for the sample rate
 
 
 _File = Union[str, bytes, "os.PathLike[str]", "os.PathLike[bytes]", BinaryIO]
 _Bytes = Union[bytes, bytearray, memoryview]
+_Dtype = Literal["i2", "i4", "f4"]
 
 
 # ---- the library
@@ -195,6 +226,8 @@ class _Block(ctypes.Structure):
         ("time", ctypes.c_uint64),
         ("channels", ctypes.c_uint32),
         ("duration", ctypes.c_uint32),
+        ("sample_rate", ctypes.c_uint32),
+        ("bits_per_sample", ctypes.c_uint32),
     ]
 
 
@@ -294,6 +327,46 @@ def library_version() -> str:
 # ---- bytes from a file
 
 
+class _Failures:
+    """Raises what a file raises where it fails as ReadFailed. Of a file that has no bytes yet, or
+    can't be used so at all, the exception stays.
+    """
+
+    def __enter__(self) -> None:
+        pass
+
+    def __exit__(
+        self,
+        kind: Optional[Type[BaseException]],
+        error: Optional[BaseException],
+        trace: Optional[TracebackType],
+    ) -> None:
+        if isinstance(error, OSError) and not isinstance(
+            error, (BlockingIOError, io.UnsupportedOperation, ReadFailed)
+        ):
+            failed = ReadFailed(*error.args)
+            if error.filename is not None:
+                failed.filename = error.filename
+            raise failed from error
+
+
+_failures = _Failures()
+
+
+def _opened(file: _File) -> Optional[BinaryIO]:
+    """The file that a path names. None of a file object."""
+    if hasattr(file, "read"):
+        return None
+    is_data = isinstance(file, (bytearray, memoryview))
+    if isinstance(file, bytes):  # no path has a zero byte, and each head has some
+        is_data = b"\0" in file or (file[:4] == b"fLaC" and not os.path.exists(file))
+    if is_data:
+        raise TypeError(
+            "a path or a file object is needed: bytes of a FLAC stream go in by io.BytesIO(data)"
+        )
+    return open(file, "rb", buffering=0)
+
+
 class _Source:
     """Bytes from a file object, one after another."""
 
@@ -307,12 +380,13 @@ class _Source:
 
     def read(self, most: int) -> bytes:
         """At least one byte and at most this number of them; none where the file ends."""
-        if self._next is not None and self._began is not None:
-            self._file.seek(self._began + self._next)
-            self._next = None
-        found = self._read1(most) if self._read1 else None
-        if not found:  # `read1` gives no byte where the file ends, and also where none is there yet
-            found = self._file.read(1 if self._read1 else most)
+        with _failures:
+            if self._next is not None and self._began is not None:
+                self._file.seek(self._began + self._next)
+                self._next = None
+            found = self._read1(most) if self._read1 else None
+            if not found:  # `read1` gives no byte at the end, and also where none is there yet
+                found = self._file.read(1 if self._read1 else most)
         if found is None:
             raise BlockingIOError("the file object has no bytes yet: it has to wait for them")
         if isinstance(found, str):
@@ -329,11 +403,12 @@ class _Source:
         """
         if not self.can_seek():
             raise io.UnsupportedOperation("the file can't seek")
-        if self._began is None:
-            self._began = self._file.tell() - position
-        self._next = position
-        self._file.seek(0, io.SEEK_END)
-        return self._file.tell() - self._began
+        with _failures:
+            if self._began is None:
+                self._began = self._file.tell() - position
+            self._next = position
+            self._file.seek(0, io.SEEK_END)
+            return self._file.tell() - self._began
 
     def go_to(self, position: int) -> None:
         """Gives the bytes from here on next. The file is moved when they are read."""
@@ -343,7 +418,8 @@ class _Source:
         """Whether it passed this number of bytes without reading them."""
         if count < _STEP or not self.can_seek():
             return False
-        self._file.seek(count, io.SEEK_CUR)
+        with _failures:
+            self._file.seek(count, io.SEEK_CUR)
         return True
 
 
@@ -416,6 +492,12 @@ class _Window:
         if size > len(self._bytes):
             self._bytes.frombytes(bytes(size - len(self._bytes)))
             self.address = self._bytes.buffer_info()[0]
+
+    def show(self, count: int) -> Generator[int, None, bytes]:
+        """The same bytes as `take`, which aren't passed."""
+        while self.held() < count and not self.has_ended:
+            yield count - self.held()
+        return self._bytes[self.at.value : min(self.at.value + count, self.end)].tobytes()
 
     def take(self, count: int) -> Generator[int, None, bytes]:
         """This number of bytes; fewer where they end. Yields how many more are needed."""
@@ -523,13 +605,16 @@ class _Stream:
 
     vendor: Optional[str] = None  # the encoder's name; None where there are no comments
 
-    def __init__(self, source: Optional[_Source]) -> None:
+    def __init__(self, source: Optional[_Source], pictures: bool) -> None:
         self._error = ctypes.create_string_buffer(_ERROR_SIZE)
         self._info = _Info()
         self._found = _Block()
         self._streaminfo: Optional[StreamInfo] = None
         self._comments = b""
-        self._tags: Optional[Dict[str, List[str]]] = None
+        self._tags: Optional[Tags] = None
+        self._has_pictures = pictures
+        self._pictures: List[Picture] = []
+        self._picture_blocks: List[Tuple[int, bytes]] = []  # where they begin, and their content
         self._samples: Optional["array[int]"] = None
         self._capacity = 1  # a pointer to no samples would be null
         self._wasted = 0  # samples, and bytes that were tried in vain, at most
@@ -539,8 +624,8 @@ class _Stream:
         self._decoded: Optional[int] = None  # the length of the next frame, if `seek` decoded it
 
     @property
-    def tags(self) -> Dict[str, List[str]]:
-        """The tags: each name, in upper case, and its values in the order in which they stand."""
+    def tags(self) -> Tags:
+        """The tags: `tags["title"]` is the first value of a name, in upper or lower case."""
         if self._tags is None:
             tags = self._read_tags()
             if self._head is not None:
@@ -548,11 +633,36 @@ class _Stream:
             self._tags, self._comments = tags, b""
         return self._tags
 
-    def blocks(self) -> Iterator[Block]:
+    @property
+    def pictures(self) -> List[Picture]:
+        """The pictures in the head, if the stream was opened with `pictures=True`.
+
+        Raises FormatError where one is ill-formed, which isn't a fault of the stream's samples.
+        """
+        if not self._has_pictures:
+            raise ValueError("pictures are kept only of a stream that is opened with pictures=True")
+        while self._picture_blocks:
+            position, content = self._picture_blocks[0]
+            try:
+                self._pictures.append(picture_of(content))
+            except ValueError as error:
+                raise FormatError(str(error), position) from None
+            del self._picture_blocks[0]
+        return list(self._pictures)
+
+    def blocks(self, dtype: Optional[_Dtype] = None) -> Iterator[Block]:
         """The blocks after those that were read before.
+
+        With a `dtype` the samples are of full scale, as soundfile has them: "i2" or "i4", of which
+        the upper bits are the stream's, or as many of these as there is space for; or "f4", the
+        stream's numbers divided by 2 to the power of their bit depth less 1, from -1 to 1.
 
         Raises Error where no block can be decoded. Then `resync` goes on after the fault.
         """
+        _expect_dtype(dtype)
+        return self._blocks(dtype)
+
+    def _blocks(self, dtype: Optional[_Dtype]) -> Iterator[Block]:
         while True:
             status = self._decode()
             if status in (_NO_MORE, _NEED_MORE):
@@ -560,7 +670,7 @@ class _Stream:
             self._lost_at = None
             if status != _OK:
                 raise self._frame_fault(status)
-            yield self._take_block()
+            yield self._take_block(dtype)
 
     def resync(self) -> Optional[int]:
         """Goes to the next frame of the stream, for `blocks`, after a fault.
@@ -571,11 +681,12 @@ class _Stream:
         are passed without a try.
         """
         self._expect_open()
-        self._head = self._decoded = None
         window = self._window
         if self._lost_at is None:
             self._lost_at = window.position()
-            self._pass(1)
+            if self._head is None:  # else no frame was tried yet
+                self._pass(1)
+        self._head = self._decoded = None
         while True:
             status = _NO_MORE if window.tried else self._find_frame()
             if status == _NO_MORE and (window.tried or not window.has_ended):
@@ -638,8 +749,9 @@ class _Stream:
         the comments alone, so that no other content has to be kept.
         """
         window = self._window
-        head = yield from window.take(4)
+        head = yield from window.show(4)
         self._expect_no_fault(head, len(head) == 4, 0)
+        window.at.value += len(head)
         streaminfo, comments = b"", b""
         for _ in range(_MAX_BLOCKS):
             position = window.position()
@@ -647,7 +759,7 @@ class _Stream:
             self._expect_no_fault(head + streaminfo + header, len(header) == 4, position)
             metadata = _next_metadata(header)
             if metadata.type not in (_STREAMINFO, _VORBIS_COMMENT):
-                is_whole = yield from window.skip(metadata.length)
+                is_whole = yield from self._pass_metadata(metadata, position)
                 before, block = streaminfo, _SKIPPED if is_whole else header
             else:
                 content = yield from window.take(metadata.length)
@@ -667,6 +779,16 @@ class _Stream:
             # Too many blocks: as many empty ones have the same fault.
             others = (_MAX_BLOCKS - 1) * _SKIPPED
             self._expect_no_fault(head + streaminfo + others, False, window.position())
+
+    def _pass_metadata(self, metadata: _Metadata, position: int) -> Generator[int, None, bool]:
+        """Passes the content of a metadata block, which is kept of a picture that is wanted."""
+        if metadata.type != _PICTURE or not self._has_pictures:
+            return (yield from self._window.skip(metadata.length))
+        content = yield from self._window.take(metadata.length)
+        if len(content) < metadata.length:
+            return False
+        self._picture_blocks.append((position, content))
+        return True
 
     def _go_on_with_head(self) -> bool:
         """Reads the head as far as its bytes are there. Returns whether it is complete."""
@@ -713,7 +835,7 @@ class _Stream:
             raise self._fault(status, None)
         return content[at.value : at.value + length.value].decode("utf-8")
 
-    def _read_tags(self) -> Dict[str, List[str]]:
+    def _read_tags(self) -> Tags:
         content, tags = self._comments, {}  # type: Tuple[bytes, Dict[str, List[str]]]
         at, tag = ctypes.c_size_t(), _Tag()
         while content:
@@ -727,7 +849,7 @@ class _Stream:
             name = content[tag.name_at : tag.name_at + tag.name_length].decode("ascii").upper()
             value = content[tag.value_at : tag.value_at + tag.value_length].decode("utf-8")
             tags.setdefault(name, []).append(value)
-        return tags
+        return Tags(tags)
 
     # ---- frames
 
@@ -821,16 +943,20 @@ class _Stream:
     def _expect_open(self) -> None:
         """Raises ValueError where no block can be read any more."""
 
-    def _take_block(self) -> Block:
+    def _take_block(self, dtype: Optional[_Dtype]) -> Block:
         """The block that was decoded. The next one gets other memory, at first of the same size."""
         assert self._samples is not None
-        time, channels, duration = self._found.time, self._found.channels, self._found.duration
+        found = self._found
+        time, channels, duration = found.time, found.channels, found.duration
+        rate, bits = found.sample_rate or None, found.bits_per_sample or None
         planar = memoryview(self._samples)[: channels * duration]
-        self._samples = None
         self._capacity = len(planar)
         self._wasted = max(0, self._wasted - len(planar))  # time is linear in the samples too
+        if dtype is not None:
+            planar = converted(planar, bits or self._info.bits_per_sample, dtype)
+        self._samples = None
         samples = tuple(planar[at : at + duration] for at in range(0, len(planar), duration))
-        return Block(time, channels, duration, samples, planar)
+        return Block(time, channels, duration, samples, planar, rate, bits)
 
     def _frame_fault(self, status: int) -> Error:
         position = self._window.position()
@@ -847,20 +973,22 @@ class Flac(_Stream):
     """A FLAC stream: a path, or a file object that gives bytes, from where it stands.
 
     The file is read as it is decoded, and never held as a whole. Of its head only the streaminfo
-    and the comments are kept. A block is given when the last byte of its frame was read. A file
-    object isn't closed, and is read past the frames that are decoded.
-    One stream mustn't be used by two threads at once.
+    and the comments are kept, and the pictures if they are asked for. A block is given when the
+    last byte of its frame was read. A file object isn't closed, and is read past the frames that
+    are decoded. One stream mustn't be used by two threads at once; several run side by side.
 
-    Raises Error where the head can't be decoded, and OSError where the file can't be read.
+    Raises Error where the head can't be decoded, OSError where the file can't be opened, and
+    ReadFailed, which is one, where it can't be read.
     """
 
     info: StreamInfo
 
-    def __init__(self, file: _File) -> None:
-        self._owned = None if hasattr(file, "read") else open(file, "rb", buffering=0)
+    def __init__(self, file: _File, pictures: bool = False) -> None:
+        self._owned = _opened(file)
         self._closed = False
         try:
-            super().__init__(_Source(self._owned or file))  # type: ignore[arg-type]
+            source = _Source(self._owned or file)  # type: ignore[arg-type]
+            super().__init__(source, pictures)
             self._go_on_with_head()
             assert self._streaminfo is not None
             self.info = self._streaminfo
@@ -890,6 +1018,11 @@ class Flac(_Stream):
         if self._closed:
             raise ValueError("the stream is closed")
 
+    @property
+    def duration(self) -> Optional[float]:
+        """The length in seconds. None where the streaminfo leaves it unknown."""
+        return self.info.duration
+
     # ---- seeking
 
     def can_seek(self) -> bool:
@@ -902,8 +1035,8 @@ class Flac(_Stream):
         The next block of `blocks` is that one. Returns how many of its samples come before this
         one. The frame is found by the times that frames have; a seek table isn't looked at.
 
-        Raises NoSuchSample where no block has it, ValueError where it is negative, and OSError
-        where the file can't seek, as a pipe, or where a read fails. After an exception the stream
+        Raises NoSuchSample where no block has it, ValueError where it is negative, OSError where
+        the file can't seek, as a pipe, and ReadFailed where it fails. After an exception the stream
         goes on where it stood. The time is linear in the bytes where the stream is damaged, or
         hasn't the sample, and else far less.
         """
@@ -925,7 +1058,7 @@ class Flac(_Stream):
             window.go_to(position)
             raise NoSuchSample(f"no block has the sample {sample}")
         self._lost_at = None
-        return sample - self._found.time
+        return sample - int(self._found.time)
 
     def _finds_likely(self, sample: int, length: int) -> bool:
         """Goes to a frame with the sample, by headers between times that are known. False headers
@@ -1003,7 +1136,7 @@ class Flac(_Stream):
 
     def _has_sample(self, sample: int) -> bool:
         """Whether the block has it whose header was found."""
-        return 0 <= sample - self._found.time < self._found.duration
+        return 0 <= sample - int(self._found.time) < int(self._found.duration)
 
     def _is_frame(self) -> bool:
         """Whether the header that was found is that of a whole frame."""
@@ -1028,8 +1161,8 @@ class Feed(_Stream):
     `resync` goes on, and returns None as long as the bytes that are there have no frame.
     """
 
-    def __init__(self) -> None:
-        super().__init__(None)
+    def __init__(self, pictures: bool = False) -> None:
+        super().__init__(None, pictures)
         self._head_fault: Optional[Error] = None
 
     @property
@@ -1052,8 +1185,7 @@ class Feed(_Stream):
         """Says that all bytes were handed in. `blocks` then raises InputEnds if they are cut."""
         self._window.has_ended = True
 
-    def blocks(self) -> Iterator[Block]:
-        """The blocks that are whole, after those that were given before."""
+    def _blocks(self, dtype: Optional[_Dtype]) -> Iterator[Block]:
         if self._head_fault is not None and self._head is not None:
             raise self._head_fault.with_traceback(None)
         try:
@@ -1062,7 +1194,7 @@ class Feed(_Stream):
             self._head_fault = fault
             raise
         if is_complete:
-            yield from super().blocks()
+            yield from super()._blocks(dtype)
 
 
 class Md5:
@@ -1080,7 +1212,9 @@ class Md5:
         _library.claxon_md5_start(self._hasher)
 
     def update(self, block: Block) -> None:
-        """Hashes the samples of a block, after those that were hashed before."""
+        """Hashes the samples of a block, after those that were hashed before. Raises ValueError
+        where they were taken with a `dtype`.
+        """
         count = len(block.planar)
         if len(self._interleaved) < count:
             self._interleaved = array("i", bytes(4 * count))
@@ -1104,30 +1238,60 @@ def _next_metadata(header: bytes) -> _Metadata:
     return metadata
 
 
-def read(file: _File, start: int = 0, stop: Optional[int] = None) -> Tuple[List["array[int]"], int]:
+def _expect_dtype(dtype: Optional[str]) -> None:
+    if dtype is not None and dtype not in LETTERS:
+        raise ValueError(f"dtype is one of {', '.join(LETTERS)}, or None")
+
+
+@overload
+def read(
+    file: _File, start: int = 0, stop: Optional[int] = None, *, dtype: Literal["f4"]
+) -> Tuple[List["array[float]"], int]: ...
+
+
+@overload
+def read(
+    file: _File,
+    start: int = 0,
+    stop: Optional[int] = None,
+    *,
+    dtype: Optional[Literal["i2", "i4"]] = None,
+) -> Tuple[List["array[int]"], int]: ...
+
+
+def read(
+    file: _File, start: int = 0, stop: Optional[int] = None, *, dtype: Optional[_Dtype] = None
+) -> Tuple[List["array[Any]"], int]:
     """The samples of a file from `start` to before `stop`, or all of them, and the sample rate in
     Hz.
 
     The samples are a list of one array('i') for each channel. They are signed numbers of the
-    stream's bit depth: for 16 bits -32768 to 32767. `start` and `stop` count the samples of each
-    channel, and are as those of a slice where the streaminfo says how many there are, but can't be
-    negative. In a file that can't seek, those before `start` are decoded too.
+    stream's bit depth: for 16 bits -32768 to 32767. With a `dtype` they are of full scale, as those
+    of `Flac.blocks`, in an array('h'), array('i') or array('f').
+
+    `start` and `stop` count the samples of each channel, and are as those of a slice where the
+    streaminfo says how many there are, but can't be negative. In a file that can't seek, those
+    before `start` are decoded too.
 
     Raises Error where a frame can't be decoded, where there are fewer samples than the streaminfo
-    says, and where the number of channels changes. NoSuchSample is one: no block has `start`.
+    says, and where the number of channels changes. NoSuchSample is one: no block has `start`. Warns
+    by TrailingDataWarning where all samples that the streaminfo says are followed by other data.
     """
     if start < 0 or (stop is not None and stop < 0):
         raise ValueError("start and stop can't be negative")
+    _expect_dtype(dtype)
     with Flac(file) as flac:
-        samples = [array("i") for _ in range(flac.info.channels)]
+        samples = [array(LETTERS[dtype or "i4"]) for _ in range(flac.info.channels)]
         total = flac.info.samples
         if total is not None:
             start, stop = min(start, total), stop if stop is None else min(stop, total)
-        for block, first, last in _blocks_between(flac, start, stop):
-            if block.channels != len(samples):
-                raise Unsupported("the number of channels changes within the stream")
-            for channel, found in zip(samples, block.samples):
-                channel.frombytes(found[first:last].cast("B"))
+        try:
+            _read_into(samples, _blocks_between(flac, start, stop, dtype))
+        except (FormatError, Unsupported, InputEnds) as error:
+            if error.position is None or start + len(samples[0]) != total:
+                raise
+            text = f"the last sample is followed by what is no frame, at byte {error.position}"
+            warnings.warn(f"{text}: {error}", TrailingDataWarning, stacklevel=2)
         end = total if stop is None else stop
         count = start + len(samples[0])
         if total is not None and end is not None and count < end:
@@ -1135,14 +1299,23 @@ def read(file: _File, start: int = 0, stop: Optional[int] = None) -> Tuple[List[
     return samples, flac.info.sample_rate
 
 
+def _read_into(samples: List["array[Any]"], blocks: Iterator[Tuple[Block, int, int]]) -> None:
+    """Appends these samples of the blocks to those of each channel."""
+    for block, first, last in blocks:
+        if block.channels != len(samples):
+            raise Unsupported("the number of channels changes within the stream")
+        for channel, found in zip(samples, block.samples):
+            channel.frombytes(found[first:last].cast("B"))
+
+
 def _blocks_between(
-    flac: Flac, start: int, stop: Optional[int]
+    flac: Flac, start: int, stop: Optional[int], dtype: Optional[_Dtype]
 ) -> Iterator[Tuple[Block, int, int]]:
     """The blocks that have these samples, and which of each."""
     if stop is not None and stop <= start or start == flac.info.samples:
         return
     at = start - flac.seek(start) if start and flac.can_seek() else 0
-    for block in flac.blocks():
+    for block in flac.blocks(dtype):
         first, last = max(start - at, 0), block.duration
         at += last
         if stop is not None and at >= stop:

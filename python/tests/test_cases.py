@@ -121,13 +121,13 @@ def unescaped(text: str) -> str:
     return ESCAPE.sub(character, text)
 
 
-def grouped(tags: Iterable[str]) -> Dict[str, List[str]]:
+def grouped(tags: Iterable[str]) -> claxon.Tags:
     """The tags by their names."""
     result: Dict[str, List[str]] = {}
     for tag in tags:
         name, value = tag.split("=", 1)
         result.setdefault(name.upper(), []).append(value)
-    return result
+    return claxon.Tags(result)
 
 
 class Lines(unittest.TestCase):

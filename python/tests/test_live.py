@@ -352,13 +352,34 @@ class Feeds(unittest.TestCase):
         feed = claxon.Feed()
         for at, byte in enumerate(content):
             self.assertEqual(feed.info is not None, at >= 42)
-            self.assertEqual(feed.tags, {"TITLE": ["a"]} if at >= 42 + len(tagged) else {})
+            self.assertEqual(feed.tags, {"TITLE": "a"} if at >= 42 + len(tagged) else {})
             feed.feed(bytes([byte]))
             found = list(feed.blocks())
         self.assertEqual([block.planar.tolist() for block in found], [[5]])
-        self.assertEqual((feed.vendor, feed.tags), ("v", {"TITLE": ["a"]}))
+        self.assertEqual((feed.vendor, feed.tags), ("v", {"TITLE": "a"}))
         assert feed.info is not None
         self.assertEqual((feed.info.channels, feed.info.sample_rate), (1, 44100))
+
+    def test_joined_within(self) -> None:
+        """Who has no head learns the rate and the depth from the blocks alone."""
+        content = head() + 3 * FRAME_OF_5
+        for missing in range(1, len(head()) + 2 * len(FRAME_OF_5) + 1):
+            lost = -(-max(0, missing - len(head())) // len(FRAME_OF_5))
+            start = len(head()) + lost * len(FRAME_OF_5)
+            for piece in (1, len(content)):
+                feed, blocks = claxon.Feed(), []
+                feed.feed(content[missing : missing + 4])
+                self.assertRaises(claxon.FormatError, list, feed.blocks())
+                skipped = feed.resync()
+                for at in range(missing + 4, len(content), piece):
+                    feed.feed(content[at : at + piece])
+                    skipped = feed.resync() if skipped is None else skipped
+                    blocks += feed.blocks() if skipped is not None else []
+                self.assertEqual((skipped, len(blocks)), (start - missing, 3 - lost))
+                self.assertIsNone(feed.info)
+                for block in blocks:
+                    self.assertEqual(block.planar.tolist(), [5])
+                    self.assertEqual((block.sample_rate, block.bits_per_sample), (44100, 8))
 
     def test_kinds_of_bytes(self) -> None:
         feed = claxon.Feed()

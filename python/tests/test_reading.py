@@ -3,6 +3,7 @@ import ctypes
 import ctypes.util
 import gc
 import io
+import itertools
 import os
 import pathlib
 import pickle
@@ -17,7 +18,7 @@ import unittest
 import warnings
 from array import array
 from subprocess import PIPE
-from typing import ContextManager, List, Optional, Tuple
+from typing import ContextManager, Dict, List, Optional, Tuple
 from unittest import mock
 
 import claxon
@@ -70,12 +71,15 @@ class Objects(unittest.TestCase):
             }
             for name, value in fields.items():
                 self.assertIn(f"{name}: {value}", expected)
-            self.assertEqual(flac.tags["TITLE"], ["C:\\music\ttab"])
-            self.assertEqual(flac.tags["ARTIST"], ["Björk \u2028\u2029\x85\x1b", "\U0001d11e"])
-            self.assertEqual(flac.tags["A:B C"], ["d=e"])
-            self.assertEqual(flac.tags["EMPTY"], [""])
-            self.assertEqual(flac.tags["LYRICS"], ["a line\nCOMMENT=no tag"])
+            self.assertEqual(flac.tags["TITLE"], "C:\\music\ttab")
+            artists = ["Björk \u2028\u2029\x85\x1b", "\U0001d11e"]
+            self.assertEqual(flac.tags.get_all("ARTIST"), artists)
+            self.assertEqual(flac.tags["A:B C"], "d=e")
+            self.assertEqual(flac.tags["EMPTY"], "")
+            self.assertEqual(flac.tags["LYRICS"], "a line\nCOMMENT=no tag")
             self.assertEqual(len(flac.tags), 5)
+            self.assertEqual(flac.duration, 9876 / 8000)
+            self.assertEqual(info.duration, 9876 / 8000)
 
     def test_unknown(self) -> None:
         unknown = bytearray(STREAMINFO)
@@ -85,6 +89,7 @@ class Objects(unittest.TestCase):
         self.assertEqual(flac.info.md5, None)
         self.assertEqual((flac.info.min_frame_size, flac.info.max_frame_size), (None, None))
         self.assertEqual((flac.vendor, flac.tags), (None, {}))
+        self.assertEqual((flac.duration, flac.info.duration), (None, None))
         self.assertEqual(list(flac.blocks()), [])
 
     def test_names(self) -> None:
@@ -119,23 +124,6 @@ class Objects(unittest.TestCase):
 
         self.assertRaises(BlockingIOError, claxon.Flac, NotReady())
 
-    def test_failing_read(self) -> None:
-        """The exception of the file object is raised, and reading can go on after it."""
-        content = head() + FRAME_OF_5
-
-        class FailsOnce(Trickle):
-            failed = False
-
-            def read(self, most: int) -> bytes:
-                if self._content.tell() >= len(head()) + 4 and not self.failed:
-                    self.failed = True
-                    raise ConnectionResetError
-                return super().read(most)
-
-        flac = claxon.Flac(FailsOnce(content, 1))  # type: ignore[arg-type]
-        self.assertRaises(ConnectionResetError, next, flac.blocks())
-        self.assertEqual([block.planar.tolist() for block in flac.blocks()], [[5]])
-
     def test_close(self) -> None:
         with claxon.Flac(SONG) as flac:
             blocks = flac.blocks()
@@ -143,7 +131,7 @@ class Objects(unittest.TestCase):
         self.assertRaises(ValueError, next, blocks)
         self.assertRaises(ValueError, flac.resync)
         flac.close()
-        self.assertEqual(flac.tags["EMPTY"], [""])
+        self.assertEqual(flac.tags["EMPTY"], "")
         # A file whose head is refused is closed too.
         with warnings.catch_warnings(record=True) as caught:
             warnings.simplefilter("always", ResourceWarning)
@@ -163,6 +151,7 @@ class Objects(unittest.TestCase):
     def test_version(self) -> None:
         """The library's is that of the header, whose interface is the one that the module has."""
         self.assertEqual(claxon.library_version(), (TOP / "VERSION").read_text().strip())
+        self.assertEqual(claxon.__version__, (TOP / "VERSION").read_text().strip())
         header = (TOP / "c" / "claxon.h").read_text()
         [declared] = re.findall(r"^#define CLAXON_VERSION (\d+)$", header, re.M)
         self.assertEqual(claxon._library.claxon_version(), int(declared))
@@ -223,6 +212,25 @@ class Blocks(unittest.TestCase):
                     self.assertTrue(numpy.shares_memory(numpy.asarray(samples), channel))
                 planar[0, 0] = 12345
                 self.assertEqual(block.samples[0][0], 12345)
+
+    def test_rates_and_depths(self) -> None:
+        """Those that a frame's header says itself, by the codes of the format."""
+        rates: Dict[int, Tuple[bytes, Optional[int]]] = {
+            0: (b"", None), 1: (b"", 88200), 4: (b"", 8000), 9: (b"", 44100), 11: (b"", 96000),
+            12: (b"\x60", 96000), 13: (b"\xac\x45", 44101), 14: (b"\xff\xff", 655350),
+        }  # fmt: skip
+        depths = {0: None, 1: 8, 2: 12, 4: 16, 5: 20, 6: 24}
+        for (code, (field, rate)), (number, bits) in itertools.product(
+            rates.items(), depths.items()
+        ):
+            header = bytes([0xFF, 0xF8, 0x60 | code, number << 1, 0, 0]) + field
+            header += bytes([crc(0x07, 8, header)])
+            frame = header + b"\0" + bytes(((bits or 8) + 7) // 8)  # a constant: 0
+            frame += crc(0x8005, 16, frame).to_bytes(2, "big")
+            with self.subTest(code=code, number=number):
+                [block] = claxon.Flac(io.BytesIO(head() + frame)).blocks()
+                self.assertEqual((block.sample_rate, block.bits_per_sample), (rate, bits))
+                self.assertEqual(block[:3], (0, 1, 1))
 
     def test_blocks_go_on(self) -> None:
         """A second call goes on after the blocks of the first one."""
@@ -390,7 +398,7 @@ class Heads(unittest.TestCase):
         tags = [f"N{at % 7}={at}" for at in range(100000)]
         start = time.process_time()
         flac = claxon.Flac(io.BytesIO(head(metadata_block(4, comments("", *tags), True))))
-        self.assertEqual(flac.tags["N3"], [str(at) for at in range(3, 100000, 7)])
+        self.assertEqual(flac.tags.get_all("N3"), [str(at) for at in range(3, 100000, 7)])
         self.assertLess(time.process_time() - start, 20)
 
     def test_positions(self) -> None:

@@ -330,8 +330,9 @@ class Damage(SeekCase):
                     else:
                         self.expect_none(flac, sample)
                     is_done = True
-                except OSError as error:
+                except claxon.ReadFailed as error:
                     self.assertEqual(str(error), "a failure that is made")
+                    self.assertIs(type(error.__cause__), OSError)
                     is_done = False
                 file.failing = -1
                 block = next(flac.blocks())
@@ -438,7 +439,7 @@ class Read(unittest.TestCase):
                 start = source.choice([0, 250, 1000, source.randrange(3000)])
                 stop = source.choice([None, 250, 1000, 2999, 3000, source.randrange(3000)])
                 for file in (io.BytesIO(stream.content()), Trickle(stream.content(), 999)):
-                    found, rate = claxon.read(file, start, stop)  # type: ignore[arg-type]
+                    found, rate = claxon.read(file, start, stop)  # type: ignore[call-overload]
                     self.expect(found, stream.samples[start:stop])
                     self.assertEqual(rate, 44100)
 
@@ -453,7 +454,7 @@ class Read(unittest.TestCase):
         for start in (3000, 3001):
             for file in (io.BytesIO(unknown.content()), Trickle(unknown.content(), 999)):
                 with self.assertRaises(claxon.NoSuchSample):
-                    claxon.read(file, start)  # type: ignore[arg-type]
+                    claxon.read(file, start)  # type: ignore[call-overload]
         for start, stop in ((-1, None), (0, -1)):
             self.assertRaises(ValueError, claxon.read, io.BytesIO(stream.content()), start, stop)
 
