@@ -367,7 +367,7 @@ class Feeds(unittest.TestCase):
             lost = -(-max(0, missing - len(head())) // len(FRAME_OF_5))
             start = len(head()) + lost * len(FRAME_OF_5)
             for piece in (1, len(content)):
-                feed, blocks = claxon.Feed(), []
+                feed, blocks = claxon.Feed(), []  # type: Tuple[claxon.Feed, List[claxon.Block]]
                 feed.feed(content[missing : missing + 4])
                 self.assertRaises(claxon.FormatError, list, feed.blocks())
                 skipped = feed.resync()

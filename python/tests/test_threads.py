@@ -1,77 +1,77 @@
-"""Threads that decode side by side, each a stream of its own."""
+"""Threads that read side by side, each a stream of its own."""
 import io
-import os
 import threading
 import time
 import unittest
 from typing import List
+from unittest import mock
 
 import claxon
-from tests import crc
+from tests import FRAME_OF_5, crc, frame_header, head
+from tests.test_live import numbered_frame
 from tests.test_seeking import made_head
 
-DURATION = 65535
-FRAMES = 25
 
-
-def slow_frame(number: int) -> bytes:
-    """A frame that takes long to decode: 8 channels, each predicted by 32 coefficients."""
-    header = bytes([0xFF, 0xF8, 0x70, 0x70, number]) + (DURATION - 1).to_bytes(2, "big")
-    header += bytes([crc(0x07, 8, header)])
-    # The type, 32 samples of 8 bits, coefficients of 15 bits and no shift, of which one is 1; and
-    # residual samples that are 0: the bit 1 for each.
+def slow_frame() -> bytes:
+    """A frame that takes long to decode, as each sample is predicted from 32, and that is damaged."""
+    # The type, 32 samples of 8 bits, a precision of 15 bits, no shift, the coefficients, and the
+    # residual: the bit 1 for each sample, which stands for 0.
     samples = "".join(f"{at:08b}" for at in range(1, 33))
     coefficients = 31 * f"{0:015b}" + f"{1:015b}"
-    residual = "00" + "0000" + "0000" + (DURATION - 32) * "1"
+    residual = "00" + "0000" + "0000" + (65535 - 32) * "1"
     bits = 8 * ("0" + "111111" + "0" + samples + "1110" + "00000" + coefficients + residual)
     bits += "0" * (-len(bits) % 8)
-    frame = header + int(bits, 2).to_bytes(len(bits) // 8, "big")
-    return frame + crc(0x8005, 16, frame).to_bytes(2, "big")
+    frame = frame_header(8, 65535) + int(bits, 2).to_bytes(len(bits) // 8, "big")
+    return frame + (crc(0x8005, 16, frame) ^ 1).to_bytes(2, "big")
 
 
-class Decoder(threading.Thread):
-    """Decodes a stream of its own."""
+class Searcher(threading.Thread):
+    """Goes to the frame behind all damaged ones, by one long call of the library."""
 
     def __init__(self, content: bytes) -> None:
         super().__init__()
-        self._flac = claxon.Flac(io.BytesIO(content))
-        self.times: List[int] = []
-        self.last: List[int] = []
+        self._feed = claxon.Feed()  # all bytes are searched at once
+        self._feed.feed(content)
+        self.began = self.ended = 0.0
+        self.samples: List[List[int]] = []
 
     def run(self) -> None:
-        for block in self._flac.blocks():
-            self.times.append(block.time)
-        self.last = block.samples[7][-64:].tolist()
+        try:
+            next(self._feed.blocks())
+        except claxon.FormatError:
+            self.began = time.perf_counter()
+            self._feed.resync()
+            self.ended = time.perf_counter()
+        self.samples = [block.planar.tolist() for block in self._feed.blocks()]
 
 
 class Threads(unittest.TestCase):
-    def overlap(self, content: bytes) -> float:
-        """How many processors two threads took at once, on average."""
-        threads = [Decoder(content), Decoder(content)]
-        start, processors = time.perf_counter(), time.process_time()
-        for thread in threads:
-            thread.start()
-        for thread in threads:
-            thread.join()
-        took = (time.process_time() - processors) / (time.perf_counter() - start)
-        for thread in threads:
-            self.assertEqual(thread.times, [DURATION * number for number in range(FRAMES)])
-            # The 32 samples again and again: the sample 32 before each is the prediction.
-            numbers = list(range(1, 33))
-            self.assertEqual(thread.last, [numbers[(DURATION - 64 + at) % 32] for at in range(64)])
-        return took
-
-    def test_two_at_once(self) -> None:
-        """Together they take more processor time than there is for one of them: each call of the
-        library lets the other thread run. Other programs may take it, so the best of many counts.
+    @mock.patch.object(claxon, "_MAX_WASTED", 1 << 40)
+    def given_meanwhile(self, frames: int) -> int:
+        """How many blocks another stream gave in the middle half of the time that the call took: with
+        Python's lock held it would give none.
         """
-        if len(os.sched_getaffinity(0)) < 2:
-            self.skipTest("there is one processor alone")
-        content = made_head(DURATION, FRAMES * DURATION, 8)
-        content += b"".join(slow_frame(number) for number in range(FRAMES))
-        best = 0.0
-        for _ in range(40):
-            best = max(best, self.overlap(content))
-            if best > 1.4:
+        behind = numbered_frame(1, 8 * [[1, 2, 3]])
+        thread = Searcher(made_head(65535, 0, 8) + frames * slow_frame() + behind)
+        flac = claxon.Flac(io.BytesIO(head() + 200000 * FRAME_OF_5))
+        times: List[float] = []
+        thread.start()
+        for block in flac.blocks():
+            self.assertEqual(block.planar.tolist(), [5])
+            times.append(time.perf_counter())
+            if not thread.is_alive():
+                break
+        thread.join()
+        self.assertEqual(thread.samples, [8 * [1, 2, 3]])
+        quarter = (thread.ended - thread.began) / 4
+        return sum(thread.began + quarter < at < thread.ended - quarter for at in times)
+
+    def test_side_by_side(self) -> None:
+        """A call of the library lets other threads run. Where the machine is busy they may not run
+        at once, so longer calls are tried.
+        """
+        for frames in (50, 100, 200):
+            given = self.given_meanwhile(frames)
+            if given > 100:
                 return
-        self.fail(f"two threads took {best:.2f} processors at the most")
+        self.fail(f"{given} blocks were given by one thread while another one was in a call")
