@@ -327,10 +327,17 @@ def library_version() -> str:
 # ---- bytes from a file
 
 
-class _Failures:
-    """Raises what a file raises where it fails as ReadFailed. Of a file that has no bytes yet, or
-    can't be used so at all, the exception stays.
+def _is_failure(error: OSError) -> bool:
+    """Whether a file failed. It didn't where no byte came yet, or in time, as a socket or a handler
+    of a signal says it, nor where it can't be used so at all.
     """
+    if isinstance(error, TimeoutError) and error.errno is None:
+        return False
+    return not isinstance(error, (BlockingIOError, io.UnsupportedOperation, ReadFailed))
+
+
+class _Failures:
+    """Raises what a file raises where it fails as ReadFailed."""
 
     def __enter__(self) -> None:
         pass
@@ -341,9 +348,7 @@ class _Failures:
         error: Optional[BaseException],
         trace: Optional[TracebackType],
     ) -> None:
-        if isinstance(error, OSError) and not isinstance(
-            error, (BlockingIOError, io.UnsupportedOperation, ReadFailed)
-        ):
+        if isinstance(error, OSError) and _is_failure(error):
             failed = ReadFailed(*error.args)
             if error.filename is not None:
                 failed.filename = error.filename

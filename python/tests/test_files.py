@@ -98,7 +98,7 @@ class Failures(FolderCase):
             OSError(),
             OSError(errno.EIO, "Input/output error"),
             OSError(errno.EIO, "Input/output error", "name"),
-            TimeoutError("timed out"),
+            TimeoutError(errno.ETIMEDOUT, "Connection timed out"),
             InterruptedError(errno.EINTR, "Interrupted system call"),
         ]
         for error in made_errors:
@@ -121,10 +121,11 @@ class Failures(FolderCase):
             self.assertEqual(raised.exception.errno, errno.EIO)
 
     def test_others_stay(self) -> None:
-        """No bytes yet, and a file that isn't for reading or that can't be opened."""
+        """No bytes yet, or not in time, and a file that isn't for reading or can't be opened."""
         missing = self.folder / "missing.flac"
         for call in CALLS:
-            for error in (BlockingIOError("not yet"), io.UnsupportedOperation("not readable")):
+            others = BlockingIOError("not yet"), TimeoutError(), io.UnsupportedOperation("no reads")
+            for error in others:
                 with self.assertRaises(type(error)) as raised:
                     call(FailsOnce(head(), error, 9))
                 self.assertIs(raised.exception, error)
@@ -147,8 +148,8 @@ class Data(FolderCase):
 
     def test_paths(self) -> None:
         """Paths of bytes stay paths, also one that begins as a stream does."""
+        self.addCleanup(os.chdir, os.getcwd())
         os.chdir(self.folder)
-        self.addCleanup(os.chdir, TOP)
         for name in (b"song.flac", b"fLaC", b"fLaC \xff"):
             with open(name, "wb") as file:
                 file.write(SONG.read_bytes())
