@@ -1,5 +1,6 @@
 """Samples of other types, of full scale, as libsndfile and so soundfile have them."""
 import importlib
+import struct
 from array import array
 from typing import Dict
 
@@ -42,7 +43,9 @@ def _floats(planar: memoryview, bits: int) -> memoryview:
     try:
         numpy = importlib.import_module("numpy")
     except ImportError:
-        return memoryview(array("f", map(scale.__mul__, planar)))
+        # A list is read faster than a view, and `pack` is faster than an array.
+        numbers = map(scale.__mul__, planar.tolist())
+        return memoryview(array("f", struct.pack(f"{len(planar)}f", *numbers)))
     floats = numpy.frombuffer(planar, "i4").astype("f4")
     floats *= numpy.float32(scale)
     return memoryview(floats)
