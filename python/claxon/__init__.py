@@ -86,8 +86,9 @@ _PASSED_OVER_BUDGET = 64
 _BYTES_PER_CRC = 16
 
 # By chance the CRC is 0 at one place of 65536. A frame may be tried in vain at twice as many places
-# before that counts as wasted: so a frame of any size is given at its end, in linear time.
-_BYTES_PER_GUESS = 1 << 15
+# before that counts as wasted: so each is given at its end, in linear time. A frame has more bytes
+# than eight channels of 65535 verbatim samples of 32 bits only if it was made to have them.
+_BYTES_PER_GUESS, _MAX_WRITTEN = 1 << 15, 1 << 21
 
 
 class Error(Exception):
@@ -904,8 +905,9 @@ class _Stream:
         return trial >= 2 * tried or _BYTES_PER_CRC * (trial - tried) >= trial + self._capacity
 
     def _is_expected(self, trial: int) -> bool:
-        """Whether so many bytes have one more place at which the CRC is 0, and no frame ends."""
-        return (self._window.guesses + 1) * _BYTES_PER_GUESS <= trial
+        """Whether so many bytes may have one more place at which the CRC is 0 by chance."""
+        guesses = self._window.guesses + 1
+        return guesses * _BYTES_PER_GUESS <= trial <= _MAX_WRITTEN
 
     def _note_guess(self, trial: int) -> None:
         """Notes that so many bytes were tried for their CRC in vain."""
