@@ -1,0 +1,303 @@
+"""What the searches of the library for C have to answer, by the slow decoder at each position of a stream."""
+import collections
+import ctypes
+import dataclasses
+import os
+import pickle
+import resource
+import sys
+import typing
+
+import mutation
+import reading
+
+sys.path.insert(0, os.path.join(os.path.dirname(os.path.abspath(__file__)), '../python'))
+import claxon  # noqa: E402
+
+OK, NO_MORE, OVER_BUDGET = 0, 5, 7
+ANSWERS = {OK: 'found', NO_MORE: 'no more', OVER_BUDGET: 'over budget'}
+MAX_HEADER = 16
+MAX_SIZE = 1 << 14
+UNLIMITED = (1 << 64) - 1
+UNTOUCHED = (0x123456789ABCDEF, 99, 98, 97, 96)
+
+
+@dataclasses.dataclass
+class Place:
+    """A position at which a header of the stream's frames stands, or the bytes end within what may be one."""
+    at: int
+    header: typing.Optional[reading.FrameHeader]  # None where the bytes end within it
+    length: int = 0  # the number of bytes of the frame, if it is there
+    is_cut: bool = False  # whether the bytes end within the header or the frame
+    may_follow: bool = False  # whether more bytes can make a frame of the stream
+
+
+def has_format(header, streaminfo):
+    """Whether the header is one of the stream's frames. Without a streaminfo it has to say the bit depth itself."""
+    has_wide_side = header.channel_code >= 8 and header.bit_depth == 32
+    if header.bit_depth == 0 or has_wide_side:
+        return False
+    return streaminfo is None or (header.channels, header.bit_depth) == (streaminfo.channels, streaminfo.bits_per_sample)
+
+
+def completed(data, streaminfo, bit_depth):
+    """A header that begins with these bytes, which end within it, or None: its fields are those that are refused least."""
+    first = bytes([0xFF, 0xF8, 0x10, streaminfo.channels - 1 << 4 if streaminfo else 2, 0])
+    if not first.startswith(data[:1]):
+        return None
+    data += first[len(data):]
+    for _ in range(2 * MAX_HEADER):
+        try:
+            length = reading.header_of(data, bit_depth).length
+            return reading.read_header(data[:length - 1] + bytes([reading.crc8(data[:length - 1])]), bit_depth)
+        except reading.Incomplete as fault:
+            data += b'\x80' if str(fault) == 'incomplete coded number' else b'\0'
+        except reading.Fault:
+            return None
+    raise AssertionError('a header without an end')
+
+
+def cut_place(data, at, streaminfo, bit_depth):
+    """The place where the bytes end within a header."""
+    header = completed(data[at:], streaminfo, bit_depth)
+    return Place(at, None, is_cut=True, may_follow=header is not None and has_format(header, streaminfo))
+
+
+def place_at(data, at, streaminfo):
+    """What begins at the position, or None: neither a header of the stream's frames nor what may be one."""
+    bit_depth = streaminfo.bits_per_sample if streaminfo else 0
+    try:
+        header = reading.read_header(data[at:at + 2 * MAX_HEADER], bit_depth)
+    except reading.Incomplete:
+        return cut_place(data, at, streaminfo, bit_depth)
+    except reading.Fault:
+        return None
+    if not has_format(header, streaminfo):
+        return None
+    try:
+        return Place(at, header, reading.read_frame(data[at:], bit_depth).length)
+    except reading.Incomplete:
+        return Place(at, header, is_cut=True, may_follow=True)
+    except reading.Fault:
+        return Place(at, header)
+
+
+def places_of(data, streaminfo):
+    found = (place_at(data, at, streaminfo) for at in range(len(data)))
+    return [place for place in found if place]
+
+
+def samples_of(header):
+    return header.channels * header.block_size
+
+
+def block_of(place, data, streaminfo):
+    """What a search says of the block."""
+    header = place.header
+    if streaminfo:
+        time = reading.time_of(streaminfo, header)
+    else:
+        time = header.coded_number * (1 if header.is_variable else header.block_size)
+    bits = header.bit_depth if data[place.at + 3] >> 1 & 7 else 0
+    return time, header.channels, header.block_size, header.sample_rate or 0, bits
+
+
+def walk(places, budget):
+    """The status of a search through these places, the place where it ends, and what is left of the budget."""
+    for place in places:
+        if place.header is None:
+            continue
+        if samples_of(place.header) > budget:
+            return OVER_BUDGET, place, budget
+        budget -= samples_of(place.header)
+        if place.length:
+            return OK, place, budget
+    return NO_MORE, None, budget
+
+
+def fields_of(block):
+    return block.time, block.channels, block.duration, block.sample_rate, block.bits_per_sample
+
+
+@dataclasses.dataclass
+class Searched:
+    """A stream that is searched: its bytes, what is known of it for the library and the model, and its places."""
+    data: bytes
+    info: claxon._Info
+    streaminfo: typing.Optional[reading.StreamInfo]
+    places: list
+    outcomes: collections.Counter = dataclasses.field(default_factory=collections.Counter)
+
+    def find(self, start, budget):
+        """The answer of claxon_find_frame: status, position, budget and block."""
+        at, left, block = ctypes.c_size_t(start), ctypes.c_uint64(budget), claxon._Block(*UNTOUCHED)
+        status = claxon._library.claxon_find_frame(self.data, len(self.data), at, self.info, left, block)
+        self.outcomes['claxon_find_frame: %s' % ANSWERS.get(status, status)] += 1
+        return status, at.value, left.value, fields_of(block)
+
+    def seek(self, sample, budget):
+        """The answer of claxon_seek: status, position and block."""
+        at, block = ctypes.c_size_t(UNLIMITED - 1), claxon._Block(*UNTOUCHED)
+        status = claxon._library.claxon_seek(self.data, len(self.data), self.info, sample, budget, at, block)
+        self.outcomes['claxon_seek: %s' % ANSWERS.get(status, status)] += 1
+        return status, at.value, fields_of(block)
+
+    def against_find(self, start, budget):
+        """How the answer of claxon_find_frame differs, or None."""
+        places = [place for place in self.places if place.at >= start]
+        status, place, left = walk(places, budget)
+        found, at, found_left, block = self.find(start, budget)
+        if found != status:
+            return 'find: status %d, expected %d' % (found, status)
+        if found_left != left:
+            return 'find: another budget'
+        if status != NO_MORE and at != place.at:
+            return 'find: another position, status %d' % status
+        if block != (block_of(place, self.data, self.streaminfo) if status == OK else UNTOUCHED):
+            return 'find: another block, status %d' % status
+        return self.against_end(places, start, at) if status == NO_MORE else None
+
+    def against_end(self, places, start, at):
+        """How the position differs at which a search that found none goes on: before it no frame can begin, and it is the
+        end, or the bytes end within what begins there."""
+        length = len(self.data)
+        if at < start or at > min([place.at for place in places if place.may_follow], default=length):
+            return 'find: goes on where a frame was passed'
+        if at not in [length, *(place.at for place in places if place.is_cut)]:
+            return 'find: goes on too early'
+        return None
+
+    def against_seek(self, sample, budget):
+        """How the answer of claxon_seek differs, or None. It may find any frame with the sample, whatever the budget is."""
+        places = [place for place in self.places if place.at >= self.info.first_frame and self.has_sample(place, sample)]
+        frames = {place.at: place for place in places if place.length}
+        status = walk(places, budget)[0]
+        found, at, block = self.seek(sample, budget)
+        if found != OK:
+            if (at, block) != (UNLIMITED - 1, UNTOUCHED):
+                return 'seek: something was changed, status %d' % found
+            return None if found == status else 'seek: status %d, expected %d' % (found, status)
+        if at not in frames:
+            return 'seek: no such frame'
+        return None if block == block_of(frames[at], self.data, self.streaminfo) else 'seek: another block'
+
+    def has_sample(self, place, sample):
+        if place.header is None:
+            return False
+        time, _, duration, _, _ = block_of(place, self.data, self.streaminfo)
+        return time <= sample < time + duration
+
+
+def head_of(data):
+    """The streaminfo and the position of the first frame, by the slow decoder, or two None."""
+    try:
+        streaminfo, _, first_frame = reading.read_head(data)
+    except reading.Fault:
+        return None, None
+    return streaminfo, first_frame
+
+
+def opened(data):
+    """What claxon_open and the slow decoder say of a stream, two None where both refuse it, and how they differ, or None."""
+    info, error = claxon._Info(), ctypes.create_string_buffer(128)
+    status = claxon._library.claxon_open(data, len(data), info, error, 128)
+    streaminfo, first_frame = head_of(data)
+    if (status == OK) != (streaminfo is not None):
+        return None, None, 'another head: status %d' % status
+    if streaminfo is None:
+        return None, None, None
+    if (info.first_frame, info.channels, info.bits_per_sample) != (first_frame, streaminfo.channels,
+                                                                   streaminfo.bits_per_sample):
+        return None, None, 'another head'
+    return info, streaminfo, None
+
+
+def budgets_of(rng, places):
+    """No limit, none at all, and as many samples as some headers have, or one less."""
+    total, sums = 0, []
+    for place in places:
+        if place.header is not None:
+            total += samples_of(place.header)
+            sums += [total, total - 1]
+    return [UNLIMITED, 0, *rng.sample(sums, min(4, len(sums)))]
+
+
+def tries_of(rng, searched):
+    """Each search that is tried in a stream, as how its answer differs."""
+    places, length = searched.places, len(searched.data)
+    near = [max(0, place.at + offset) for place in places for offset in (0, 1)]
+    starts = {0, length, max(0, length - 1), rng.randrange(length + 1), *rng.sample(near, min(4, len(near)))}
+    for start in sorted(starts):
+        for budget in budgets_of(rng, [place for place in places if place.at >= start]):
+            yield searched.against_find(start, budget)
+    times = [block_of(place, searched.data, searched.streaminfo) for place in places if place.header is not None]
+    samples = [max(0, time + offset) for time, _, duration, _, _ in times for offset in (0, duration - 1, duration, -1)]
+    for sample in {0, rng.getrandbits(16), UNLIMITED, *rng.sample(samples, min(8, len(samples)))}:
+        with_sample = [place for place in places if searched.has_sample(place, sample)]
+        for budget in budgets_of(rng, with_sample):
+            yield searched.against_seek(sample, budget)
+
+
+def piece_of(rng, data, places, streaminfo):
+    """A header, a frame, a part of one, or a frame with another number."""
+    place = rng.choice(places)
+    choice, whole = rng.random(), data[place.at:place.at + (place.length or 40)]
+    if choice < 0.4:
+        return whole[:place.header.length]
+    if choice < 0.6:
+        return whole[:rng.randrange(len(whole) + 1)]
+    if choice < 0.8 or not place.length or not streaminfo:
+        return whole
+    return mutation.with_number(whole, streaminfo, place.header.is_variable, rng.getrandbits(rng.choice((3, 7, 12))))
+
+
+def crowded(rng, data):
+    """The stream with headers and frames of it between and within its frames, or cut."""
+    streaminfo = head_of(data)[0]
+    places = [place for place in places_of(data, streaminfo) if place.header is not None]
+    count = rng.choice((0, 1, 2, 4, 8)) if places else 0
+    for piece in [piece_of(rng, data, places, streaminfo) for _ in range(count)]:
+        at = rng.randrange(len(data) + 1)
+        data = data[:at] + piece + data[at:]
+    return data[:rng.randrange(len(data) + 1)] if rng.random() < 0.2 else data
+
+
+def made(rng, pick):
+    """A small stream; `pick` returns a source."""
+    data = mutation.make(rng, pick)[:MAX_SIZE]
+    return crowded(rng, data) if rng.random() < 0.7 else data
+
+
+def compare(rng, data):
+    """The kinds of difference in the searches of a stream, as one of its kind and as one of which nothing is known, and how
+    many had which outcome."""
+    info, streaminfo, wrong = opened(data)
+    kinds, outcomes = {wrong} if wrong else set(), collections.Counter()
+    for known, says in ((info, streaminfo), (claxon._Info(), None)):
+        if known is None:
+            continue
+        searched = Searched(data, known, says, places_of(data, says))
+        kinds.update(answer for answer in tries_of(rng, searched) if answer)
+        outcomes.update(searched.outcomes)
+        outcomes['frames'] += sum(place.length > 0 for place in searched.places)
+        outcomes['headers without a whole frame'] += sum(place.length == 0 for place in searched.places)
+    return sorted(kinds), outcomes
+
+
+def compare_in_child(rng, data, seconds):
+    """The same in a process of its own, which the library may end."""
+    readable, writable = os.pipe()
+    child = os.fork()
+    if child == 0:
+        os.close(readable)
+        resource.setrlimit(resource.RLIMIT_CPU, (seconds, seconds))
+        with os.fdopen(writable, 'wb') as pipe:
+            pickle.dump(compare(rng, data), pipe)
+        os._exit(0)
+    os.close(writable)
+    with os.fdopen(readable, 'rb') as pipe:
+        result = pipe.read()
+    status = os.waitpid(child, 0)[1]
+    if status != 0:
+        return ['wrong: signal %d, status %d' % (os.WTERMSIG(status), os.WEXITSTATUS(status))], {}
+    return pickle.loads(result)
