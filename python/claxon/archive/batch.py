@@ -5,7 +5,6 @@ It imports Python's own modules alone, as it is sent to the workers of a cluster
 import json
 import os
 import shutil
-import socket
 import stat
 import subprocess
 import tempfile
@@ -48,7 +47,7 @@ def find_program(beside: Optional[str]) -> str:
         found = beside
     if found is None:
         raise FileNotFoundError(
-            f"the program `claxon` wasn't found on {socket.gethostname()}: it isn't on the PATH, and"
+            f"the program `claxon` wasn't found on {os.uname().nodename}: it isn't on the PATH, and"
             f" the environment variable {_PROGRAM} doesn't name it"
         )
     return found
@@ -156,17 +155,27 @@ def _run(program: str, arguments: List[str], given: IO[bytes]) -> Tuple[List[Dic
         )
         output.seek(0)
         errors.seek(0)
+        told = _objects(program, output.read())
         lines = [line for line in errors.read().decode("utf-8", "replace").split("\n") if line]
-        decoder = json.JSONDecoder()
-        told = [_object(program, decoder, line) for line in output if line.endswith(b"\n")]
     how = f"ended with status {status}" if status >= 0 else f"was ended by signal {-status}"
     return told, ": ".join([f"claxon {how} before it told a verdict", *lines[-1:]])
 
 
-def _object(program: str, decoder: json.JSONDecoder, line: bytes) -> Dict[str, Any]:
+def _objects(program: str, output: bytes) -> List[Dict[str, Any]]:
+    """The objects of the lines that are whole. To decode them as one array takes less time."""
+    lines = output.split(b"\n")[:-1]
     try:
-        found: Dict[str, Any] = decoder.raw_decode(line.decode())[0]
+        found: List[Dict[str, Any]] = json.loads((b"[" + b",".join(lines) + b"]").decode())
     except ValueError:
+        found = [_object(program, line) for line in lines]
+    return found
+
+
+def _object(program: str, line: bytes) -> Dict[str, Any]:
+    try:
+        found: Dict[str, Any] = json.loads(line.decode())
+    except ValueError:
+        line += b"\n"
         raise OSError(f"{program} printed what isn't JSON: {line!r}") from None
     return found
 
@@ -179,7 +188,10 @@ def unread_row(path: bytes, why: str, version: Optional[str]) -> Row:
 
 def _row(file: File, told: Dict[str, Any], version: str) -> Row:
     path, size, changed = file
-    verdict = told["verdict"]
+    verdict, now = told["verdict"], int(time.time())
+    if verdict == "ok":
+        samples, md5 = told["samples"], told["md5"]
+        return (path, size, changed, now, "ok", samples, md5, None, None, None, None, None, version)
     if verdict == "not read":
         return unread_row(path, told["reason"], version)
     places = told.get("places", []) if verdict == "wrong" else []
@@ -188,13 +200,13 @@ def _row(file: File, told: Dict[str, Any], version: str) -> Row:
         path,
         size,
         changed,
-        int(time.time()),
+        now,
         verdict,
         told.get("samples"),
         told.get("md5"),
         first.get("start_byte"),
         first.get("start_sample"),
-        None if verdict == "ok" else _what_is_wrong(told),
+        _what_is_wrong(told),
         len(places) + told.get("left_out", 0) if verdict == "wrong" else None,
         _parts(places, size) if places else None,
         version,

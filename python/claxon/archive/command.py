@@ -6,9 +6,7 @@ import sys
 from typing import Dict, List, Optional
 
 from .engines import EngineError, processors_here
-from .page import write_page
 from .progress import open_progress, size_text
-from .report import WRITERS
 from .results import ALL, VERDICTS, Due, Lock, Ranges, Results, ResultsError, outermost, ranges_of
 from .run import Wanted, run
 
@@ -20,6 +18,8 @@ stopped at any time; the next run goes on. Without a FOLDER it reports what the 
 _STATUSES = """\
 Status: 0 if all files are right, 1 if one isn't, 3 if none is wrong, but a file or folder couldn't
 be read or is missing, or the results couldn't be used; 2 for other arguments."""
+
+_FORMS = ("text", "csv", "json")
 
 
 def _parser() -> argparse.ArgumentParser:
@@ -44,9 +44,9 @@ def _parser() -> argparse.ArgumentParser:
     )
     parser.add_argument(
         "--report",
-        choices=list(WRITERS),
+        choices=_FORMS,
         metavar="FORM",
-        help="print what isn't right: " + ", ".join(WRITERS),
+        help="print what isn't right: " + ", ".join(_FORMS),
     )
     parser.add_argument("--html", metavar="FILE", help="write a page of what isn't right")
     return parser
@@ -122,10 +122,14 @@ def _report(options: argparse.Namespace, ranges: Ranges, results: Results) -> in
     """Prints the table or what isn't right, and returns the status."""
     counts = results.counts(ranges)
     if options.html:
+        from .page import write_page
+
         with open(options.html, "w", encoding="utf-8") as page:
             write_page(page, counts, results.last_run(), results.not_right(ranges))
     table = sys.stdout
     if options.report:
+        from .report import WRITERS
+
         WRITERS[options.report](results.not_right(ranges), sys.stdout.buffer)
         sys.stdout.buffer.flush()
         table = sys.stderr

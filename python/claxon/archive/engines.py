@@ -1,7 +1,4 @@
 """What verifies batches: threads of this process, or the workers of a Dask scheduler."""
-import asyncio
-import concurrent.futures
-import logging
 import os
 import sys
 import time
@@ -51,8 +48,10 @@ def processors_here() -> int:
 def open_engine(jobs: int, scheduler: Optional[str], beside: Optional[str]) -> Iterator[Engine]:
     """`beside` is where the program is if no other is named."""
     if scheduler is None:
+        from concurrent.futures import ThreadPoolExecutor
+
         # A thread waits for its process of `claxon verify` alone.
-        with concurrent.futures.ThreadPoolExecutor(jobs) as executor:
+        with ThreadPoolExecutor(jobs) as executor:
             verify = partial(executor.submit, batch.verify_batch, beside=beside)
             yield Engine(verify, lambda: jobs, ())
         return
@@ -62,6 +61,9 @@ def open_engine(jobs: int, scheduler: Optional[str], beside: Optional[str]) -> I
 
 @contextmanager
 def _open_cluster(scheduler: str, beside: Optional[str]) -> Iterator[Engine]:
+    import asyncio
+    import logging
+
     try:
         import cloudpickle
         import distributed

@@ -2,7 +2,6 @@
 import fcntl
 import itertools
 import os
-import socket
 import sqlite3
 import time
 from contextlib import contextmanager
@@ -31,10 +30,17 @@ COLUMNS = (
 
 VERDICTS = ("ok", "wrong", "not supported", "not read", "missing")
 
-_PUT = f"INSERT OR REPLACE INTO files VALUES ({', '.join('?' * len(COLUMNS))})"
+# SQLite may allow no more values in a statement.
+_MOST_VALUES = 999
+
+_PUT = "INSERT OR REPLACE INTO files VALUES {}"
+_ROW = f"({', '.join('?' * len(COLUMNS))})"
+
+# Most rows are those of right files. A statement with many rows and few values is faster than many.
+_RIGHT_ROW = "(?, ?, ?, ?, 'ok', ?, ?, NULL, NULL, NULL, NULL, NULL, ?)"
 
 # Adds to the files that are due those of a chunk that are new, were changed, weren't read the last
-# time, or were verified before some time. SQLite may allow no more than 999 values.
+# time, or were verified before some time.
 _CHUNK = 300
 _PUT_DUE = """
 INSERT INTO due SELECT found.column1, found.column2, files.verdict
@@ -42,6 +48,9 @@ FROM (VALUES {}) AS found LEFT JOIN files ON files.path = found.column1
 WHERE files.size IS NOT found.column2 OR files.changed IS NOT found.column3
     OR files.verdict IN ('not read', 'missing') OR files.verified < ?
 """
+
+# Paths are bytes, for which the module would look for an adapter each time, in vain.
+sqlite3.register_adapter(bytes, bytes)
 
 # How long a write waits for another program that reads the results, in seconds.
 _PATIENCE = 600
@@ -112,7 +121,7 @@ class Lock:
             is_there = False
         if is_there:
             self._file.truncate(0)
-            self._file.write(f"process {os.getpid()} on {socket.gethostname()}\n")
+            self._file.write(f"process {os.getpid()} on {os.uname().nodename}\n")
             self._file.flush()
         return is_there
 
@@ -281,11 +290,20 @@ class Results:
         """Keeps these rows, all or none."""
         size = sum(row[1] or 0 for row in rows)
         with self.transaction():
-            self._database.executemany(_PUT, rows)
+            self._put_right([row[:4] + row[5:7] + row[12:] for row in rows if row[4] == "ok"])
+            self._database.executemany(_PUT.format(_ROW), (row for row in rows if row[4] != "ok"))
             self._database.execute(
                 "UPDATE runs SET ended = ?, files = files + ?, bytes = bytes + ? WHERE id = ?",
                 (time.time(), len(rows), size, self._run),
             )
+
+    def _put_right(self, rows: List[Tuple[Any, ...]]) -> None:
+        """Puts rows of right files, without the values that are the same for all."""
+        most = _MOST_VALUES // _RIGHT_ROW.count("?")
+        for start in range(0, len(rows), most):
+            chunk = rows[start : start + most]
+            put = _PUT.format(", ".join([_RIGHT_ROW] * len(chunk)))
+            self._database.execute(put, list(itertools.chain.from_iterable(chunk)))
 
     def last_run(self) -> Optional[Run]:
         """The last run that verified something."""

@@ -2,7 +2,6 @@
 import os
 import queue
 import time
-from pathlib import Path
 from typing import Any, Callable, Dict, Iterator, List, NamedTuple, Optional, Tuple
 
 from .batch import Row, check_program, find_program, unread_row
@@ -11,9 +10,10 @@ from .finding import find
 from .progress import Progress
 from .results import Due, Results, outermost, ranges_of
 
-# A batch ends at so many bytes or files, so that a process has work for some tenths of a second.
-# With more processors batches are larger: a scheduler hands out no more than some hundreds a second.
-_BYTES, _FILES = 16 << 20, 500
+# A batch ends at so many bytes or files, so that a process has work for some tenths of a second. The
+# last batches are smaller, so that all processors have work until the end. With many processors
+# batches are larger: a scheduler hands out no more than some hundreds a second.
+_BYTES, _LEAST_BYTES, _FILES = 64 << 20, 16 << 20, 500
 _BYTES_A_PROCESSOR, _FILES_A_PROCESSOR, _MOST_FILES = 1 << 20, 10, 5000
 
 
@@ -30,10 +30,12 @@ class Wanted(NamedTuple):
 def program_beside() -> Optional[str]:
     """The program in the folders in which this package may lie: of the repository, or of an archive
     of the built programs."""
-    top = Path(__file__).resolve().parent.parent.parent.parent
-    for path in (top / "bin" / "claxon", top / "claxon"):
-        if path.is_file() and os.access(path, os.X_OK):
-            return str(path)
+    top = os.path.realpath(__file__)
+    for _ in range(4):
+        top = os.path.dirname(top)
+    for path in (os.path.join(top, "bin", "claxon"), os.path.join(top, "claxon")):
+        if os.path.isfile(path) and os.access(path, os.X_OK):
+            return path
     return None
 
 
@@ -48,7 +50,7 @@ def run(wanted: Wanted, results: Results, progress: Progress) -> None:
     results.start_run()
     progress.start(due)
     with open_engine(wanted.jobs, wanted.scheduler, beside) as engine:
-        Verification(engine, results, progress).verify()
+        Verification(engine, results, progress).verify(due.size)
 
 
 def list_due(wanted: Wanted, results: Results, progress: Progress) -> Due:
@@ -78,9 +80,10 @@ class Verification:
         self._running: Dict[Any, bytes] = {}  # the names of each future
         self._done: "queue.SimpleQueue[Any]" = queue.SimpleQueue()
 
-    def verify(self) -> None:
+    def verify(self, size: int) -> None:
+        """Verifies the files that are due, which have this size together."""
         try:
-            for names in batches(self._results.due(), self._engine.processors):
+            for names in batches(self._results.due(), size, self._engine.processors):
                 while len(self._running) >= 4 + self._engine.processors() * 5 // 4:
                     self._keep(self._done.get())
                 self._submit(names)
@@ -121,23 +124,27 @@ class Verification:
             return [unread_row(name, str(error), None) for name in names]
 
 
-def batches(files: Iterator[Tuple[bytes, int]], processors: Callable[[], int]) -> Iterator[bytes]:
-    """The paths of the files in batches, each ended by a zero byte."""
+def batches(
+    files: Iterator[Tuple[bytes, int]], size: int, processors: Callable[[], int]
+) -> Iterator[bytes]:
+    """The paths of the files in batches, each ended by a zero byte. `size` is that of all files."""
     paths: List[bytes] = []
-    files_left, bytes_left = _limits(processors())
-    for path, size in files:
+    files_left, bytes_left = _limits(size, processors())
+    for path, file_size in files:
         paths.append(path + b"\0")
         files_left -= 1
-        bytes_left -= size
+        bytes_left -= file_size
+        size -= file_size
         if files_left <= 0 or bytes_left <= 0:
             yield b"".join(paths)
             paths = []
-            files_left, bytes_left = _limits(processors())
+            files_left, bytes_left = _limits(size, processors())
     if paths:
         yield b"".join(paths)
 
 
-def _limits(processors: int) -> Tuple[int, int]:
-    """The number of files and of bytes at which a batch ends."""
+def _limits(size: int, processors: int) -> Tuple[int, int]:
+    """The number of files and of bytes at which a batch ends. Files of `size` bytes are left."""
     files = min(max(_FILES, processors * _FILES_A_PROCESSOR), _MOST_FILES)
-    return files, max(_BYTES, processors * _BYTES_A_PROCESSOR)
+    least = max(_LEAST_BYTES, processors * _BYTES_A_PROCESSOR)
+    return files, max(least, min(_BYTES, size // (2 * max(1, processors))))
