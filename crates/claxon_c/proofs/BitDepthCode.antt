@@ -7,7 +7,7 @@ use Rattle.claxon.proofs.Bytes.{bits_of-append}
 use Rattle.claxon.proofs.Numbers.{number-bits}
 use Rattle.claxon.specs.BlockInfos.{BlockInfo}
 use Rattle.claxon_c.specs.declared.next_block.ClaxonBlock.{ClaxonBlock}
-use Rattle.claxon_c.specs.NextBlock.{HasBitDepthCode, ShowsBytes, ShowsHeader, code_in_bytes, shown_bit_depth}
+use Rattle.claxon_c.specs.NextBlock.{BeginsWithBitDepthCode, ShowsBytes, ShowsInfo, code_in_bytes, shown_bit_depth}
 
 -- the fields up to the code of the bit depth and a reserved bit, and what follows them
 abbrev fields_then : Bool → ℕ → ℕ → ℕ → ℕ → Bits → Bits → Bits
@@ -44,7 +44,7 @@ fourth_byte (b ∷ c ∷ d ∷ f ∷ u) variable size_code rate_code channels co
     omega (arith, n, small)
 
 -- and so has any header with which the bytes begin
-pub code_of_header : (stream : Option StreamFormat) (code : ℕ) (bytes : List ℕ) → HasBitDepthCode stream code bytes → code_in_bytes bytes ≡ code
+pub code_of_header : (stream : Option StreamFormat) (code : ℕ) (bytes : List ℕ) → BeginsWithBitDepthCode stream code bytes → code_in_bytes bytes ≡ code
 code_of_header stream code bytes (t, rest, (h, ((x, (size_code, rate_code, count, number_bits, size_bits, rate_bits, least, most, rate, channels, depth, reserved, coded, large, size, rate_is, x-is), t-is), bit_depth, side), is), e) =
     let codes = bits 4 size_code ++ bits 4 rate_code in
     let after = (bits 4 h.fields.channels ++ (bits 3 h.fields.bit_depth_code ++ bits 1 0)) ++ (number_bits ++ (size_bits ++ rate_bits)) in
@@ -56,7 +56,7 @@ code_of_header stream code bytes (t, rest, (h, ((x, (size_code, rate_code, count
     fourth_byte bytes h.fields.variable size_code rate_code h.fields.channels h.fields.bit_depth_code (number_bits ++ (size_bits ++ rate_bits)) (crc ++ bits_of rest) depth parts ∙ sym is
 
 -- what is shown by it is what the header says
-pub shows_header : (stream : Option StreamFormat) (bytes : List ℕ) (info : BlockInfo) (shown : ClaxonBlock) → ShowsBytes bytes info shown → ShowsHeader stream bytes info shown
+pub shows_header : (stream : Option StreamFormat) (bytes : List ℕ) (info : BlockInfo) (shown : ClaxonBlock) → ShowsBytes bytes info shown → ShowsInfo stream bytes info shown
 shows_header stream bytes info shown s = record {
   time = s.time;
   channels = s.channels;

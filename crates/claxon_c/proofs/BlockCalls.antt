@@ -17,7 +17,7 @@ use Rattle.claxon_seek.specs.AtStart.{FrameAtStart}
 use Rattle.claxon_c.specs.declared.heads.ClaxonInfo.{ClaxonInfo}
 use Rattle.claxon_c.specs.declared.next_block.ClaxonBlock.{ClaxonBlock}
 use Rattle.claxon_c.specs.Info.{known_stream}
-use Rattle.claxon_c.specs.NextBlock.{BlockIsKept, CBlockElseIoError, CBlockFaultIsComplete, CBlockFaultIsSound, CBlockIsComplete, CBlockIsShown, CBlockIsSound, CBlockNoMoreIffEof, CBlockOutOfMemoryAfterHeader, CFrameHeaderFaultIsComplete, CHeaderIsShown, CSamplesAreGiven, CTooSmallIffLarger, IsAtEnd, IsBlockStatus, IsDecoded, IsRefused, IsTooSmall, HasLarger, HeaderOrNone, SampleOrder, NextBlock, PositionIsKept, ShowsBytes, ShowsHeader, TextIsKept}
+use Rattle.claxon_c.specs.NextBlock.{BlockIsKept, CBlockElseIoError, CBlockFaultIsComplete, CBlockFaultIsSound, CBlockIsComplete, CBlockIsShown, CBlockIsSound, CBlockNoMoreIffEof, CBlockOutOfMemoryAfterHeader, CFrameHeaderFaultIsComplete, CHeaderIsShown, CSamplesAreGiven, CTooSmallIffLarger, IsAtEnd, IsBlockStatus, IsDecoded, IsRefused, IsTooSmall, HasLarger, HeaderOrNone, SampleOrder, NextBlock, PositionIsKept, ShowsBytes, ShowsInfo, TextIsKept}
 use Rattle.claxon_c.specs.Status.{TextIsReported, buffer_too_small, ok}
 use Rattle.claxon_c.proofs.BitDepthCode.{shows_header}
 use Rattle.claxon_c.proofs.HeadersAtStart.{larger_says, not_larger_there, same_said, says_larger}
@@ -153,7 +153,7 @@ module _ (Put : SampleOrder) (info : ClaxonInfo) (bytes : List ℕ) (from : ℕ)
       record {
         sound = λ p. absurd cc;
         shown_is = λ q b begins. (let k = says b begins in record { time = r.shows.time ∙ k.time; channels = r.shows.channels ∙ k.channels; duration_is = r.shows.duration_is ∙ k.duration_is });
-        header = λ q x begins. subst (λ (y : BlockInfo). ShowsHeader stream rest y shown) (same_said stream rest r.said x r.header begins) r.shows;
+        header = λ q x begins. subst (λ (y : BlockInfo). ShowsInfo stream rest y shown) (same_said stream rest r.said x r.header begins) r.shows;
         samples = λ q b begins. (let k = says b begins in inr (is, rw (← k.channels, ← k.duration_is) r.larger));
         complete = λ b begins. inl (inr is);
         too_small = (λ p. larger, λ p. is);
@@ -178,7 +178,7 @@ module _ (Put : SampleOrder) (info : ClaxonInfo) (bytes : List ℕ) (from : ℕ)
       record {
         sound = λ q. (block_view found, h.sound.0, h.sound.1, h.sound.2, h.sound.3, r.after ∙ ap (λ (n : ℕ). from + n) h.sound.4);
         shown_is = λ q b begins. (let k = says_block stream rest r.said b r.header begins in record { time = r.shows.time ∙ k.time; channels = r.shows.channels ∙ k.channels; duration_is = r.shows.duration_is ∙ k.duration_is });
-        header = λ q x begins. subst (λ (y : BlockInfo). ShowsHeader stream rest y shown) (same_said stream rest r.said x r.header begins) r.shows;
+        header = λ q x begins. subst (λ (y : BlockInfo). ShowsInfo stream rest y shown) (same_said stream rest r.said x r.header begins) r.shows;
         samples = λ q b begins. inl (rw (← same_block b begins) (refl, r.fits, put));
         complete = λ b begins. inl (inl refl);
         too_small = (λ p. absurd cc, λ larger. absurd (r.not_larger larger));

@@ -14,7 +14,7 @@ use Rattle.claxon_seek.proofs.Searches.{same_header}
 use Rattle.claxon_c.specs.declared.heads.ClaxonInfo.{ClaxonInfo}
 use Rattle.claxon_c.specs.declared.next_block.ClaxonBlock.{ClaxonBlock}
 use Rattle.claxon_c.specs.Info.{known_info, known_stream}
-use Rattle.claxon_c.specs.NextBlock.{ShowsBytes, ShowsHeader}
+use Rattle.claxon_c.specs.NextBlock.{ShowsBytes, ShowsInfo}
 use Rattle.claxon_c.proofs.BitDepthCode.{shows_header}
 use Rattle.claxon_c.specs.Seek.{CBudgetIsSpent, CFindOutOfMemoryAfterHeader, CFirstIsFound, CFoundIsFirst, CNoMoreIsNone, CNoneIsNoMore, CSeekIsComplete, CSeekIsSound, CSeekNoMoreIsNone, CSeekNoneIsNoMore, CSeekOutOfMemoryAfterHeader, CSeekStopsOverBudget, CStopsOverBudget, CUndecidedIsFirst, FoundBlockIsKept, IsSearchStatus, SearchIsKept, SeekIsKept}
 use Rattle.claxon_c.specs.Status.{no_more, ok, out_of_memory, over_budget}
@@ -60,7 +60,7 @@ module _ (info : ClaxonInfo) (bytes : List ℕ) (from budget left : ℕ) (block 
       record {
         found_is_first = λ is. (g.0, record { said = at.block; frame = g.1; shows = is_shown }, g.2);
         first_is_found = λ n said after frame none. (let one = one_first (known_info info) bytes from at.position n at.block said g.1 frame g.0 g.2 after none in
-            inl (refl, one.0, subst (λ (k : ℕ). ShowsHeader stream (drop k bytes) said shown) one.0 (subst (λ (x : BlockInfo). ShowsHeader stream (drop at.position bytes) x shown) one.1 is_shown)));
+            inl (refl, one.0, subst (λ (k : ℕ). ShowsInfo stream (drop k bytes) said shown) one.0 (subst (λ (x : BlockInfo). ShowsInfo stream (drop at.position bytes) x shown) one.1 is_shown)));
         no_more_is_none = λ is. absurd cc;
         none_is_no_more = λ none. absurd (none at.position g.0 at.block g.1);
         undecided_is_first = λ is. absurd cc;

@@ -76,8 +76,8 @@ pub record ShowsBlock (b : Block) (shown : ClaxonBlock) : Type 0 where
   pub duration_is : shown.duration ≡ duration_of b.channels
 
 -- The bytes begin with a header that has this code of the bit depth (RFC 9639, section 9.1.4).
-abbrev pub HasBitDepthCode : Option StreamFormat → ℕ → List ℕ → Type 0
-HasBitDepthCode stream code =
+abbrev pub BeginsWithBitDepthCode : Option StreamFormat → ℕ → List ℕ → Type 0
+BeginsWithBitDepthCode stream code =
     BeginsWith (λ t. (h : Header) × HeaderCode (known_bit_depth stream) h (bits_of t)
     × (code ≡ h.fields.bit_depth_code))
 
@@ -86,14 +86,14 @@ abbrev pub shown_bit_depth : ℕ → ℕ → ℕ
 shown_bit_depth code bit_depth = cond (code == 0) 0 bit_depth
 
 -- It shows what the header says with which the bytes begin.
-pub record ShowsHeader (stream : Option StreamFormat) (bytes : List ℕ) (info : BlockInfo)
+pub record ShowsInfo (stream : Option StreamFormat) (bytes : List ℕ) (info : BlockInfo)
     (shown : ClaxonBlock) : Type 0 where
   pub time : shown.time ≡ info.time
   pub channels : shown.channels ≡ info.channels
   pub duration_is : shown.duration ≡ info.duration
   pub sample_rate : shown.sample_rate ≡ or_zero info.sample_rate
   pub bits_per_sample :
-      (code : ℕ) → HasBitDepthCode stream code bytes
+      (code : ℕ) → BeginsWithBitDepthCode stream code bytes
       → shown.bits_per_sample ≡ shown_bit_depth code info.bit_depth
 
 -- The samples of the block are written where they fit, else the status is `buffer_too_small`.
@@ -145,7 +145,7 @@ module _ (info : ClaxonInfo) (bytes : List ℕ) (from status : ℕ) where
   CHeaderIsShown shown =
       IsBlockStatus status → (said : BlockInfo)
       → BeginsWith (HeaderOf (known_stream info) said) (drop from bytes)
-      → ShowsHeader (known_stream info) (drop from bytes) said shown
+      → ShowsInfo (known_stream info) (drop from bytes) said shown
 
   -- The samples are written where they fit, else the status is `buffer_too_small`.
   abbrev pub CSamplesAreGiven : SampleOrder → List ℤ → List ℤ → Type 0
@@ -248,7 +248,7 @@ module _ (info : ClaxonInfo) (bytes : List ℕ) (from capacity : ℕ) where
     pub after : to ≡ from + count
     pub said : BlockInfo
     pub header : BeginsWith (HeaderOf (known_stream info) said) (drop from bytes)
-    pub shows : ShowsHeader (known_stream info) (drop from bytes) said shown
+    pub shows : ShowsInfo (known_stream info) (drop from bytes) said shown
 
   -- A header stands at the position whose block has more samples than the capacity.
   pub record IsTooSmall (status : ℕ) (shown : ClaxonBlock) : Type 0 where
@@ -256,7 +256,7 @@ module _ (info : ClaxonInfo) (bytes : List ℕ) (from capacity : ℕ) where
     pub said : BlockInfo
     pub header : BeginsWith (HeaderOf (known_stream info) said) (drop from bytes)
     pub larger : capacity < said.channels * said.duration
-    pub shows : ShowsHeader (known_stream info) (drop from bytes) said shown
+    pub shows : ShowsInfo (known_stream info) (drop from bytes) said shown
 
   -- Too few bytes are left for a frame.
   pub record IsAtEnd (status : ℕ) : Type 0 where

@@ -28,7 +28,7 @@ use Rattle.claxon_seek.specs.Find.{
 use Rattle.claxon_c.specs.declared.heads.ClaxonInfo.{ClaxonInfo}
 use Rattle.claxon_c.specs.declared.next_block.ClaxonBlock.{ClaxonBlock}
 use Rattle.claxon_c.specs.Info.{known_info, known_stream}
-use Rattle.claxon_c.specs.NextBlock.{ShowsHeader}
+use Rattle.claxon_c.specs.NextBlock.{ShowsInfo}
 use Rattle.claxon_c.specs.Status.{no_more, ok, out_of_memory, over_budget}
 
 -- The bytes begin with a frame of the stream, which is shown. Its block has this sample, if one is
@@ -37,7 +37,7 @@ pub record ShowsFrame (info : ClaxonInfo) (sample : Option ℕ) (bytes : List �
     : Type 0 where
   pub said : BlockInfo
   pub frame : WantedFrame (known_info info) sample bytes said
-  pub shows : ShowsHeader (known_stream info) bytes said shown
+  pub shows : ShowsInfo (known_stream info) bytes said shown
 
 -- the status says that a search didn't come to its end
 abbrev pub IsGivenUp : ℕ → Type 0
@@ -76,7 +76,7 @@ module _ (info : ClaxonInfo) (bytes : List ℕ) (from status : ℕ) where
       (at : ℕ) (said : BlockInfo) → from ≤ at
       → WantedFrame (known_info info) None (drop at bytes) said
       → NoFrameBetween (known_info info) None bytes from at
-      → ((status ≡ ok) × (to ≡ at) × ShowsHeader (known_stream info) (drop at bytes) said shown)
+      → ((status ≡ ok) × (to ≡ at) × ShowsInfo (known_stream info) (drop at bytes) said shown)
       ⊎ IsGivenUp status
 
   -- `no_more` says that there is none.
