@@ -3,7 +3,8 @@ use crate::error::{end_of_input, format_error, unsupported, Error, Result};
 use crate::ffi::{self, Failure, Info, NextBlock, MAX_FRAME_BYTES};
 use crate::input::ReadBytes;
 use crate::metadata::StreamInfo;
-use crate::source::{FRAME_CAPACITY, MAX_IN_VAIN};
+use crate::seek::pass_to_header;
+use crate::source::{Decoded, Lost, FRAME_CAPACITY, MAX_IN_VAIN};
 use std::{io, iter, result, slice};
 
 /// A block of samples: of each channel the same number.
@@ -142,6 +143,7 @@ pub type FrameResult = Result<Option<Block>>;
 pub struct FrameReader<R: ReadBytes> {
     input: R,
     info: Info,
+    lost: Lost,
 }
 
 // The 14 bits of a sync code, before two that tell more of the frame, and which bits they are.
@@ -156,16 +158,26 @@ enum Stop {
     TooLong,
 }
 
+// What the buffered bytes begin with.
+enum Attempt {
+    // A frame of so many bytes.
+    Frame(ffi::Block, usize),
+    LacksSyncCode,
+    Fault(Failure),
+    // A part of a frame, with what the library says of it.
+    Part(Stop, u32),
+}
+
 impl<R: ReadBytes> FrameReader<R> {
     /// A reader of the frames of an unknown stream. A frame has to give its bit depth.
     pub fn new(input: R) -> FrameReader<R> {
-        FrameReader { input, info: Info::default() }
+        FrameReader { lost: input.lost(), input, info: Info::default() }
     }
 
     /// A reader of the frames of a stream with this streaminfo. A frame may leave its bit depth to the streaminfo; and
     /// where that gives one size for all blocks, the time of a block is a multiple of it.
     pub fn with_streaminfo(input: R, streaminfo: StreamInfo) -> FrameReader<R> {
-        FrameReader { input, info: streaminfo.info() }
+        FrameReader { lost: input.lost(), input, info: streaminfo.info() }
     }
 
     /// Reads the next block into this buffer, or into a larger one where that is too short.
@@ -178,37 +190,60 @@ impl<R: ReadBytes> FrameReader<R> {
     /// # Errors
     ///
     /// `FormatError` and `Unsupported` for what is wrong with the frame. The next call continues after the bytes that
-    /// had to be read to see that; it doesn't search for the next frame. `IoError` where the reader fails, or its bytes
-    /// end within the frame. Where it fails the bytes before are kept, and the next call begins with the same frame.
+    /// had to be read to see that; [`FrameReader::resync`] goes to the next frame. `IoError` where the reader fails, or
+    /// its bytes end within the frame. Where it fails the bytes before are kept, and the next call begins with the same
+    /// frame.
     pub fn read_next_or_eof(&mut self, mut buffer: Vec<i32>) -> FrameResult {
+        self.change_lost(Lost::forget);
         if let Some(decoded) = self.input.take_decoded() {
             self.input.consume(decoded.length);
             return Ok(Some(Block::new(decoded.block, decoded.samples)));
         }
-        let mut is_tried = false;
-        loop {
-            let stop = self.buffer_frame(is_tried);
-            if let Some(Stop::NotReady(error)) = stop {
-                return Err(Error::IoError(error));
+        match self.attempt(&mut buffer) {
+            Attempt::Frame(block, length) => {
+                self.input.consume(length);
+                Ok(Some(Block::new(block, buffer)))
             }
-            if self.lacks_sync_code() {
-                self.input.consume(2);
-                return format_error("frame sync code missing");
+            Attempt::LacksSyncCode => {
+                self.refuse(2);
+                format_error("frame sync code missing")
             }
-            match self.try_block(&mut buffer) {
-                Err(failure) if is_cut(&failure) => {
-                    self.note_try();
-                    if let Some(stop) = stop {
-                        return self.stopped(stop, failure.status);
-                    }
-                }
-                tried => {
-                    self.put_back(stop);
-                    return self.finished(tried, buffer);
-                }
+            Attempt::Fault(failure) => {
+                self.refuse(self.length_of_fault(&mut buffer));
+                Err(failure.into())
             }
-            is_tried = true;
+            Attempt::Part(stop, status) => self.stopped(stop, status),
         }
+    }
+
+    /// Goes to the next frame of the stream, after a fault or where the reader joins a stream.
+    ///
+    /// It is one with the number of channels and the bit depth of the streaminfo, where that is known, and the next call
+    /// of [`FrameReader::read_next_or_eof`] returns its block. After a fault it may be any that begins after the faulty
+    /// frame's first byte; so none is lost that begins within the bytes that had to be read to see the fault.
+    ///
+    /// It returns how many bytes are skipped, from the beginning of the faulty frame on, or `None` where no frame is
+    /// left. The time is linear in the bytes: where very many headers have led to no frame, as only in a stream that is
+    /// made for it, some are passed without a try.
+    ///
+    /// # Errors
+    ///
+    /// An `IoError` where the reader fails. The next call goes on there.
+    pub fn resync(&mut self) -> Result<Option<u64>> {
+        let refused = self.lost.refused;
+        if refused > 0 {
+            self.input.go_back(refused);
+            self.pass_one();
+        }
+        while self.go_to_header()? {
+            if self.keep_frame()? {
+                let skipped = self.lost.skipped;
+                self.change_lost(Lost::forget);
+                return Ok(Some(skipped));
+            }
+            self.pass_one();
+        }
+        Ok(None)
     }
 
     /// The wrapped reader.
@@ -232,14 +267,38 @@ impl<R: ReadBytes> FrameReader<R> {
         }
     }
 
-    // Decodes the frame that is buffered, and consumes it. The buffer is made as long as its samples need.
-    fn try_block(&mut self, buffer: &mut Vec<i32>) -> result::Result<ffi::Block, Failure> {
+    // Buffers the next frame, and decodes it.
+    fn attempt(&mut self, buffer: &mut Vec<i32>) -> Attempt {
+        let mut is_tried = false;
+        loop {
+            let stop = self.buffer_frame(is_tried);
+            if let Some(Stop::NotReady(error)) = stop {
+                return Attempt::Part(Stop::NotReady(error), ffi::INPUT_ENDS);
+            }
+            if self.lacks_sync_code() {
+                return Attempt::LacksSyncCode;
+            }
+            match self.try_block(buffer) {
+                Err(failure) if is_cut(&failure) => {
+                    self.note_try();
+                    if let Some(stop) = stop {
+                        return Attempt::Part(stop, failure.status);
+                    }
+                }
+                tried => {
+                    self.put_back(stop);
+                    return tried.map_or_else(Attempt::Fault, |(block, length)| Attempt::Frame(block, length));
+                }
+            }
+            is_tried = true;
+        }
+    }
+
+    // Decodes the frame that is buffered. The buffer is made as long as its samples need.
+    fn try_block(&self, buffer: &mut Vec<i32>) -> result::Result<(ffi::Block, usize), Failure> {
         loop {
             match ffi::next_block(self.bytes(), &self.info, buffer) {
-                NextBlock::Found { block, length } => {
-                    self.input.consume(length);
-                    return Ok(block);
-                }
+                NextBlock::Found { block, length } => return Ok((block, length)),
                 NextBlock::BufferTooSmall(block) => buffer.resize(block.samples(), 0),
                 NextBlock::Failed(failure) => return Err(failure),
             }
@@ -313,23 +372,12 @@ impl<R: ReadBytes> FrameReader<R> {
         }
     }
 
-    // The result where the frame is whole, or has a fault.
-    fn finished(&mut self, tried: result::Result<ffi::Block, Failure>, mut buffer: Vec<i32>) -> FrameResult {
-        match tried {
-            Ok(block) => Ok(Some(Block::new(block, buffer))),
-            Err(failure) => {
-                self.consume_fault(&mut buffer);
-                Err(failure.into())
-            }
-        }
-    }
-
     // The result where the frame isn't whole, and no more bytes are buffered.
     fn stopped(&mut self, stop: Stop, status: u32) -> FrameResult {
-        if let Stop::Failed(error) = stop {
+        if let Stop::Failed(error) | Stop::NotReady(error) = stop {
             return Err(Error::IoError(error));
         }
-        self.input.consume(self.bytes().len());
+        self.refuse(self.bytes().len());
         match stop {
             Stop::TooLong => unsupported("frames of more than 16777215 bytes are not supported"),
             _ if status == ffi::NO_MORE => Ok(None),
@@ -337,27 +385,96 @@ impl<R: ReadBytes> FrameReader<R> {
         }
     }
 
-    // Consumes the bytes up to the one where the fault shows: the fewest that aren't the beginning of a frame. The
-    // buffer has the length that the frame's samples need.
-    fn consume_fault(&mut self, buffer: &mut [i32]) {
-        let bytes = self.bytes();
-        let mut shows = |length: usize| match ffi::next_block(&bytes[..length], &self.info, buffer) {
-            NextBlock::Failed(failure) => !is_cut(&failure),
-            _ => true,
-        };
-        let (mut without, mut with) = (0, 2.min(bytes.len()));
-        while with < bytes.len() && !shows(with) {
-            (without, with) = (with, bytes.len().min(2 * with));
-        }
+    // How many bytes show the fault: the fewest that aren't the beginning of a frame. The buffer has the length that the
+    // frame's samples need.
+    fn length_of_fault(&self, buffer: &mut [i32]) -> usize {
+        let mut with = self.length_with_fault(buffer);
+        let mut without = if with > 2 { with / 2 } else { 0 };
         while with - without > 1 {
             let middle = without + (with - without) / 2;
-            if shows(middle) {
+            if self.shows_fault(middle, buffer) {
                 with = middle;
             } else {
                 without = middle;
             }
         }
-        self.input.consume(with);
+        with
+    }
+
+    // As many bytes, or at most twice as many. Half of them don't show it, where they are more than two.
+    fn length_with_fault(&self, buffer: &mut [i32]) -> usize {
+        let all = self.bytes().len();
+        let mut length = 2;
+        while length < all && !self.shows_fault(length, buffer) {
+            length *= 2;
+        }
+        length.min(all)
+    }
+
+    // Whether as many bytes aren't the beginning of a frame.
+    fn shows_fault(&self, length: usize, buffer: &mut [i32]) -> bool {
+        match ffi::next_block(&self.bytes()[..length], &self.info, buffer) {
+            NextBlock::Failed(failure) => !is_cut(&failure),
+            NextBlock::Found { .. } | NextBlock::BufferTooSmall(_) => true,
+        }
+    }
+
+    // Consumes as many bytes of a frame with a fault.
+    fn refuse(&mut self, count: usize) {
+        self.input.consume(count);
+        self.change_lost(|lost| lost.refused = count);
+    }
+
+    fn change_lost(&mut self, change: impl FnOnce(&mut Lost)) {
+        change(&mut self.lost);
+        self.input.note_lost(self.lost);
+    }
+
+    // Passes the first byte of what is no frame.
+    fn pass_one(&mut self) {
+        self.input.consume(1);
+        self.change_lost(|lost| {
+            lost.refused = 0;
+            lost.pass(1);
+        });
+    }
+
+    // Goes to the next header of a frame of the stream, or to the end. Returns whether there is one.
+    fn go_to_header(&mut self) -> Result<bool> {
+        loop {
+            let held = self.input.buffered().len();
+            let is_there = pass_to_header(&mut self.input, &self.info)?;
+            let passed = held - self.input.buffered().len();
+            self.change_lost(|lost| lost.pass(passed));
+            if is_there {
+                return Ok(true);
+            }
+            if self.input.fill(FRAME_CAPACITY)? == 0 {
+                self.input.consume(self.input.buffered().len());
+                return Ok(false);
+            }
+        }
+    }
+
+    // Decodes the frame whose header is buffered, and keeps it for the next call of `read_next_or_eof`. Returns whether
+    // there is one.
+    fn keep_frame(&mut self) -> Result<bool> {
+        if self.lost.is_spent() {
+            return Ok(false);
+        }
+        let mut samples = Vec::new();
+        let tried = match self.attempt(&mut samples) {
+            Attempt::Frame(block, length) => {
+                self.input.keep(Decoded { block, samples, length });
+                return Ok(true);
+            }
+            Attempt::Part(Stop::NotReady(error) | Stop::Failed(error), _) => return Err(Error::IoError(error)),
+            Attempt::Fault(failure) if failure.status == ffi::OUT_OF_MEMORY => return Err(failure.into()),
+            Attempt::Fault(_) => self.length_with_fault(&mut samples),
+            Attempt::Part(..) | Attempt::LacksSyncCode => self.bytes().len(),
+        };
+        self.change_lost(|lost| lost.wasted += (tried + samples.len()) as u64);
+        Ok(false)
     }
 }
 

@@ -1,6 +1,6 @@
 //! Readers of bytes.
 use crate::error::end_of_input;
-use crate::source::{Decoded, Source, Tried, FRAME_CAPACITY, METADATA_CAPACITY};
+use crate::source::{Decoded, Lost, Source, Tried, FRAME_CAPACITY, METADATA_CAPACITY};
 use std::io::{self, SeekFrom};
 
 /// A reader with a buffer, for any `io::Read`.
@@ -16,6 +16,7 @@ pub struct BufferedReader<R: io::Read> {
     // What the next `fill` returns in place of a read.
     put_back: Option<io::Result<usize>>,
     tried: Tried,
+    lost: Lost,
     // The position of the next byte that is read, from where the wrapped reader stood at first.
     next: u64,
     // Where it stood, once it is asked, and how it goes to another position.
@@ -39,6 +40,7 @@ impl<R: io::Read> BufferedReader<R> {
             end: 0,
             put_back: None,
             tried: Tried::default(),
+            lost: Lost::default(),
             next: 0,
             began: None,
             is_moved: false,
@@ -53,6 +55,7 @@ impl<R: io::Read> BufferedReader<R> {
 
     // Moves the buffered bytes to the front of a buffer of at least this capacity, which has more than them.
     fn make_space(&mut self, capacity: usize) {
+        self.lost.refused = 0;
         if self.start > 0 {
             self.buffer.copy_within(self.start..self.end, 0);
             self.end -= self.start;
@@ -105,12 +108,8 @@ impl<R: io::Read> BufferedReader<R> {
         }
         self.put_back = None;
         self.tried = Tried::default();
+        self.lost.forget();
         self.decoded = None;
-    }
-
-    /// Keeps the frame that the buffered bytes begin with.
-    pub(crate) fn keep(&mut self, decoded: Decoded) {
-        self.decoded = Some(decoded);
     }
 }
 
@@ -136,6 +135,13 @@ impl<R: io::Read> Source for BufferedReader<R> {
         assert!(count <= self.end - self.start);
         self.start += count;
         self.tried.consume(count);
+        self.lost.refused = 0;
+        self.decoded = None;
+    }
+
+    fn go_back(&mut self, count: usize) {
+        self.start -= count;
+        self.tried.consume(count);
         self.decoded = None;
     }
 
@@ -151,6 +157,10 @@ impl<R: io::Read> Source for BufferedReader<R> {
         self.put_back = Some(read);
     }
 
+    fn keep(&mut self, decoded: Decoded) {
+        self.decoded = Some(decoded);
+    }
+
     fn take_decoded(&mut self) -> Option<Decoded> {
         self.decoded.take()
     }
@@ -161,6 +171,14 @@ impl<R: io::Read> Source for BufferedReader<R> {
 
     fn note(&mut self, tried: Tried) {
         self.tried = tried;
+    }
+
+    fn lost(&self) -> Lost {
+        self.lost
+    }
+
+    fn note_lost(&mut self, lost: Lost) {
+        self.lost = lost;
     }
 }
 
@@ -256,12 +274,20 @@ impl<R: ReadBytes> Source for &mut R {
         (**self).consume(count)
     }
 
+    fn go_back(&mut self, count: usize) {
+        (**self).go_back(count)
+    }
+
     fn fill(&mut self, capacity: usize) -> io::Result<usize> {
         (**self).fill(capacity)
     }
 
     fn put_back(&mut self, read: io::Result<usize>) {
         (**self).put_back(read)
+    }
+
+    fn keep(&mut self, decoded: Decoded) {
+        (**self).keep(decoded)
     }
 
     fn take_decoded(&mut self) -> Option<Decoded> {
@@ -274,6 +300,14 @@ impl<R: ReadBytes> Source for &mut R {
 
     fn note(&mut self, tried: Tried) {
         (**self).note(tried)
+    }
+
+    fn lost(&self) -> Lost {
+        (**self).lost()
+    }
+
+    fn note_lost(&mut self, lost: Lost) {
+        (**self).note_lost(lost)
     }
 }
 
@@ -299,12 +333,18 @@ impl<T: AsRef<[u8]>> Source for io::Cursor<T> {
         self.set_position(self.position() + count as u64);
     }
 
+    fn go_back(&mut self, count: usize) {
+        self.set_position(self.position() - count as u64);
+    }
+
     // All there is was buffered from the beginning.
     fn fill(&mut self, _: usize) -> io::Result<usize> {
         Ok(0)
     }
 
     fn put_back(&mut self, _: io::Result<usize>) {}
+
+    fn keep(&mut self, _: Decoded) {}
 
     fn take_decoded(&mut self) -> Option<Decoded> {
         None
@@ -315,6 +355,12 @@ impl<T: AsRef<[u8]>> Source for io::Cursor<T> {
     }
 
     fn note(&mut self, _: Tried) {}
+
+    fn lost(&self) -> Lost {
+        Lost::default()
+    }
+
+    fn note_lost(&mut self, _: Lost) {}
 }
 
 impl<T: AsRef<[u8]>> ReadBytes for io::Cursor<T> {

@@ -68,6 +68,42 @@ const MADE_GOOD_BY_A_BYTE: u64 = 2;
 const BYTES_OF_A_SAMPLE: usize = 4;
 const MORE_BYTES: usize = 1 << 16;
 
+/// What a search for the next frame has to know.
+#[derive(Clone, Copy, Default)]
+pub struct Lost {
+    /// As many bytes were consumed last, of a frame with a fault.
+    pub refused: usize,
+
+    /// As many were skipped from its beginning on.
+    pub skipped: u64,
+
+    /// As many were searched, and the bytes and samples of tries that led to no frame.
+    pub searched: u64,
+    pub wasted: u64,
+}
+
+impl Lost {
+    /// No fault was read, or a frame after it.
+    pub fn forget(&mut self) {
+        (self.refused, self.skipped) = (0, 0);
+    }
+
+    /// As many bytes were searched, and are skipped.
+    pub fn pass(&mut self, count: usize) {
+        self.skipped += count as u64;
+        self.searched += count as u64;
+    }
+
+    /// Whether very many headers have led to no frame.
+    pub fn is_spent(&self) -> bool {
+        self.wasted > MAX_WASTED + WASTED_OF_A_BYTE * self.searched
+    }
+}
+
+// The bytes and samples of tries that may lead to no frame, and how many more for each byte that is searched.
+pub const MAX_WASTED: u64 = 2 * MAX_FRAME_BYTES as u64;
+pub const WASTED_OF_A_BYTE: u64 = 4;
+
 /// A frame that was decoded.
 pub struct Decoded {
     pub block: Block,
@@ -84,14 +120,20 @@ pub trait Source {
     /// Consumes as many of them.
     fn consume(&mut self, count: usize);
 
+    /// Takes back as many that were consumed since the last `fill`.
+    fn go_back(&mut self, count: usize);
+
     /// Reads once more bytes after them, into a buffer of at least this capacity, and returns how many; 0 at the end of
-    /// input. After an error they are as before.
+    /// input. After an error they are as before. Those that were consumed are lost.
     fn fill(&mut self, capacity: usize) -> io::Result<usize>;
 
     /// Lets the next `fill` return this again, an end of input or an error, and read nothing.
     fn put_back(&mut self, read: io::Result<usize>);
 
-    /// The frame that the buffered bytes begin with, if a search decoded it.
+    /// Keeps the frame that the buffered bytes begin with, until bytes are consumed. Bytes in memory are decoded again.
+    fn keep(&mut self, decoded: Decoded);
+
+    /// The frame that was kept.
     fn take_decoded(&mut self) -> Option<Decoded>;
 
     /// What was noted of the frame that the buffered bytes begin with. Bytes in memory are tried once: nothing is noted.
@@ -99,4 +141,10 @@ pub trait Source {
 
     /// Notes it, until bytes are consumed.
     fn note(&mut self, tried: Tried);
+
+    /// What was noted of the last fault. Of bytes in memory nothing is noted.
+    fn lost(&self) -> Lost;
+
+    /// Notes it.
+    fn note_lost(&mut self, lost: Lost);
 }

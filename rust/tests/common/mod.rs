@@ -1,5 +1,7 @@
 //! What the tests share: stored cases, readers that give little or fail, and results as text.
 #![allow(dead_code)]
+pub mod made;
+
 use claxon::frame::FrameReader;
 use claxon::input::ReadBytes;
 use claxon::metadata::{MetadataBlockReader, StreamInfo};
