@@ -1,5 +1,5 @@
 /* seek FILE PLACES: seeks to places by chance in a FLAC file, and prints the sum of the samples of the first channel there, and
-   the user time of the seeks. By claxon_seek and claxon_next_block_planar in memory; with -DLIBFLAC by libFLAC, with -DDR_FLAC
+   the user time of the seeks. By claxon_seek_block in memory; with -DLIBFLAC by libFLAC, with -DDR_FLAC
    by dr_flac, both from the file. */
 #include <inttypes.h>
 #include <stdio.h>
@@ -95,15 +95,12 @@ static uint64_t open_file(const char *path) {
 static int sample_at(uint64_t sample, int32_t *found) {
     static int32_t samples[CLAXON_MAX_SAMPLES];
     struct claxon_block block;
-    char error[128];
     size_t at;
-    if (claxon_seek(bytes, length, &info, sample, UINT64_MAX, &at, &block) != CLAXON_OK ||
-        claxon_next_block_planar(bytes, length, &at, &info, samples, CLAXON_MAX_SAMPLES, &block, error, sizeof error) !=
-            CLAXON_OK) {
-        return 0;
+    uint32_t status = claxon_seek_block(bytes, length, &info, sample, UINT64_MAX, &at, samples, CLAXON_MAX_SAMPLES, &block);
+    if (status == CLAXON_OK) {
+        *found = samples[(sample - block.time) * block.channels];
     }
-    *found = samples[sample - block.time];
-    return 1;
+    return status == CLAXON_OK;
 }
 #endif
 

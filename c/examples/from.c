@@ -16,14 +16,13 @@ static int play_from(uint64_t sample, const uint8_t *bytes, size_t length) {
         fprintf(stderr, "%s\n", error);
         return 1;
     }
-    uint32_t status = claxon_seek(bytes, length, &info, sample, UINT64_MAX, &at, &block);
+    uint32_t status =
+        claxon_seek_block(bytes, length, &info, sample, UINT64_MAX, &at, samples, CLAXON_MAX_SAMPLES, &block);
     size_t before = (size_t)(sample - block.time);
     while (status == CLAXON_OK) {
+        fwrite(samples + before * block.channels, 4, (block.duration - before) * block.channels, stdout);
         status = claxon_next_block(bytes, length, &at, &info, samples, CLAXON_MAX_SAMPLES, &block, error, sizeof error);
-        if (status == CLAXON_OK) {
-            fwrite(samples + before * block.channels, 4, (block.duration - before) * block.channels, stdout);
-            before = 0;
-        }
+        before = 0;
     }
     if (status != CLAXON_NO_MORE) {
         fprintf(stderr, "%s\n", error);

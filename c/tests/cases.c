@@ -192,6 +192,8 @@ static void expect_block(const char *name, const uint8_t *bytes, size_t length, 
     expect(claxon_find_frame(bytes, length, &at, &info, &budget, &block) == CLAXON_OK && is_same_block(&block, expected), name, "find_frame");
     memset(&block, UNTOUCHED, sizeof block);
     expect(claxon_seek(bytes, length, &info, expected->time, UINT64_MAX, &at, &block) == CLAXON_OK && is_same_block(&block, expected), name, "seek");
+    memset(&block, UNTOUCHED, sizeof block);
+    expect(claxon_seek_block(bytes, length, &info, expected->time, UINT64_MAX, &at, samples, CLAXON_MAX_SAMPLES, &block) == CLAXON_OK && is_same_block(&block, expected), name, "seek_block");
 }
 
 /* Each code of a sample rate, behind a coded number of one byte or more, and a block size with and without a field. */

@@ -1,4 +1,4 @@
-/* seek FOLDER ROUNDS < LINES: tests claxon_find_frame and claxon_seek.
+/* seek FOLDER ROUNDS < LINES: tests claxon_find_frame, claxon_seek and claxon_seek_block.
  *
  * - The positions and times of frames are those that `flac --analyze` prints of files in FOLDER.
  * - Of each file that a line names, whole and damaged in ROUNDS ways, and of bytes that are made up, claxon_next_block is asked
@@ -114,11 +114,49 @@ static struct found find(const struct stream *stream, size_t from, uint64_t budg
     return found;
 }
 
+/* What claxon_seek_block gives with room for as many samples: this status, position and block, and these samples alone. */
+static void expect_given(const struct stream *stream, uint64_t sample, size_t capacity, const struct found *expected,
+                         const int32_t *given, size_t count) {
+    static int32_t samples[CLAXON_MAX_SAMPLES + 1];
+    struct claxon_block block;
+    size_t at = UNTOUCHED;
+    int32_t untouched;
+    memset(&untouched, UNTOUCHED, sizeof untouched);
+    memset(&block, UNTOUCHED, sizeof block);
+    memset(samples, UNTOUCHED, (capacity + 1) * sizeof *samples);
+    uint32_t status = claxon_seek_block(stream->bytes, stream->length, &stream->info, sample, expected->left, &at, samples,
+                                        capacity, &block);
+    expect(status == expected->status && at == expected->at, stream->name, "the status and the position of seek_block");
+    expect(memcmp(&block, &expected->block, sizeof block) == 0, stream->name, "the block of seek_block");
+    expect(count == 0 || memcmp(samples, given, count * sizeof *samples) == 0, stream->name, "the samples of seek_block");
+    expect(samples[count] == untouched, stream->name, "the samples that seek_block leaves");
+}
+
+/* The same as of claxon_seek, and of claxon_next_block from there. */
+static void test_seek_block(const struct stream *stream, uint64_t sample, struct found found) {
+    static int32_t given[CLAXON_MAX_SAMPLES];
+    struct claxon_block block;
+    char error[1];
+    if (found.status != CLAXON_OK) {
+        expect_given(stream, sample, 0, &found, NULL, 0);
+        return;
+    }
+    size_t count = (size_t)samples_of(&found.block);
+    struct found larger = found;
+    larger.status = CLAXON_BUFFER_TOO_SMALL;
+    expect_given(stream, sample, count - 1, &larger, NULL, 0);
+    uint32_t status = claxon_next_block(stream->bytes, stream->length, &found.at, &stream->info, given, CLAXON_MAX_SAMPLES, &block,
+                                        error, sizeof error);
+    expect(status == CLAXON_OK, stream->name, "the frame that is found");
+    expect_given(stream, sample, count, &found, given, count);
+}
+
 static struct found seek(const struct stream *stream, uint64_t sample, uint64_t budget) {
     struct found found = {0, UNTOUCHED, budget, {0, 0, 0, 0, 0}};
     memset(&found.block, UNTOUCHED, sizeof found.block);
     found.status =
         claxon_seek(stream->bytes, stream->length, &stream->info, sample, budget, &found.at, &found.block);
+    test_seek_block(stream, sample, found);
     return found;
 }
 

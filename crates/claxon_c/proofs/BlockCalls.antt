@@ -70,7 +70,7 @@ module _ (stream : Option StreamFormat) (rest : List ℕ) where
   fault_of_frame f (t, m, c, e) = (t, m, header_fault_is_frames stream f t c, e)
 
   -- a header says how large the block of its frame is
-  says_block : (x : BlockInfo) (b : Block) → BeginsWith (HeaderOf stream x) rest → BeginsWith (Frame stream b) rest → SaysBlock x b
+  pub says_block : (x : BlockInfo) (b : Block) → BeginsWith (HeaderOf stream x) rest → BeginsWith (Frame stream b) rest → SaysBlock x b
   says_block x b header (t, m, c, e) =
       let k = frame_has_header stream b t m c in
       let there : BeginsWith (HeaderOf stream k.0) rest = (k.2.0, k.2.1, k.2.2, e ∙ k.2.3) in

@@ -18,6 +18,8 @@ pub mod Reports
 pub mod HeadersAtStart
 -- What the calls return that find a frame in bytes, or seek to a sample.
 pub mod SeekCalls
+-- What the call returns that seeks to a sample and decodes its block.
+pub mod SeekBlockCalls
 -- Samples of one channel after another.
 pub mod PlanarSamples
 -- What calls return for the next tag in the content of a Vorbis comment block.

@@ -4,8 +4,11 @@ use Rattle.std.specs.Prelude.{
   ◌≢◌,
   ◌⊎◌,
   ℕ,
+  ℤ,
   ◌+◌,
   ◌-◌,
+  ◌*◌,
+  ◌<◌,
   ◌≤◌,
   List,
   drop,
@@ -15,6 +18,9 @@ use Rattle.std.specs.Prelude.{
   Some,
 }
 use Rattle.claxon.specs.BlockInfos.{BlockInfo}
+use Rattle.claxon.specs.Frame.{Block, Frame}
+use Rattle.claxon.specs.Streams.{duration_of}
+use Rattle.claxon_seek.specs.AtStart.{BeginsWithLength}
 use Rattle.claxon_seek.specs.Find.{
   IsSpent,
   IsUndecided,
@@ -25,11 +31,12 @@ use Rattle.claxon_seek.specs.Find.{
   WantedFrame,
   WantedHeader,
 }
+use Rattle.claxon_seek.specs.declared.search.FoundBlock.{FoundBlock}
 use Rattle.claxon_c.specs.declared.heads.ClaxonInfo.{ClaxonInfo}
 use Rattle.claxon_c.specs.declared.next_block.ClaxonBlock.{ClaxonBlock}
 use Rattle.claxon_c.specs.Info.{known_info, known_stream}
-use Rattle.claxon_c.specs.NextBlock.{ShowsInfo}
-use Rattle.claxon_c.specs.Status.{no_more, ok, out_of_memory, over_budget}
+use Rattle.claxon_c.specs.NextBlock.{InterleavedArePut, IsBlockStatus, ShowsBytes, ShowsInfo}
+use Rattle.claxon_c.specs.Status.{buffer_too_small, no_more, ok, out_of_memory, over_budget}
 
 -- The bytes begin with a frame of the stream, which is shown. Its block has this sample, if one is
 -- asked for.
@@ -164,3 +171,63 @@ module _ (info : ClaxonInfo) (bytes : List ℕ) (sample status : ℕ) where
       status ≡ out_of_memory
       → (at : ℕ) × (said : BlockInfo) × (info.first_frame ≤ at)
       × WantedHeader (known_info info) (Some sample) (drop at bytes) said
+
+-- ---- such a frame, and its samples
+
+-- the status is one that a search returns whose samples are stored
+abbrev pub IsSeekBlockStatus : ℕ → Type 0
+IsSeekBlockStatus status = IsSearchStatus status ⊎ (status ≡ buffer_too_small)
+
+-- The position and the block are changed by `ok` and `buffer_too_small` alone, the samples by `ok`
+-- alone.
+pub record SeekBlockIsKept (status from to : ℕ) (old new : ClaxonBlock) (before after : List ℤ)
+    : Type 0 where
+  pub frame : (IsBlockStatus status → ⊥) → (to ≡ from) × (new ≡ old)
+  pub samples : status ≢ ok → after ≡ before
+
+module _ (info : ClaxonInfo) (bytes : List ℕ) (sample : ℕ) where
+  -- A frame with the sample is shown, the position is after it, and its samples are stored.
+  pub record GivesBlock (to : ℕ) (shown : ClaxonBlock) (old new : List ℤ) : Type 0 where
+    pub at : ℕ
+    pub after_first : info.first_frame ≤ at
+    pub shows : ShowsFrame info (Some sample) (drop at bytes) shown
+    pub block : Block
+    pub count : ℕ
+    pub frame : BeginsWithLength (Frame (known_stream info) block) (drop at bytes) count
+    pub after : to ≡ at + count
+    pub fits : length block.channels * duration_of block.channels ≤ length old
+    pub samples : InterleavedArePut block.channels old new
+
+  module _ (status : ℕ) where
+    -- So it is with `ok`.
+    abbrev pub CSeekBlockIsSound : ℕ → ClaxonBlock → List ℤ → List ℤ → Type 0
+    CSeekBlockIsSound to shown old new = status ≡ ok → GivesBlock to shown old new
+
+    -- With `buffer_too_small` such a frame begins at the position, and is shown. It has more samples
+    -- than the capacity.
+    abbrev pub CSeekBlockIsTooLarge : ℕ → ClaxonBlock → ℕ → Type 0
+    CSeekBlockIsTooLarge to shown capacity =
+        status ≡ buffer_too_small
+        → (info.first_frame ≤ to) × ShowsFrame info (Some sample) (drop to bytes) shown
+        × (capacity < shown.channels * shown.duration)
+
+    -- If there is one the status is `ok` or `buffer_too_small`, or `over_budget` or `out_of_memory`.
+    abbrev pub CSeekBlockIsComplete : Type 0
+    CSeekBlockIsComplete =
+        (at : ℕ) (said : BlockInfo) → info.first_frame ≤ at
+        → WantedFrame (known_info info) (Some sample) (drop at bytes) said
+        → IsBlockStatus status ⊎ IsGivenUp status
+
+-- ---- parts of it
+
+-- The block that was found is shown. Its samples are stored and the position is after its frame, or
+-- they don't fit and it is at the frame.
+pub record IsGiven (bytes : List ℕ) (found : FoundBlock) (status to : ℕ) (shown : ClaxonBlock)
+    (old new : List ℤ) : Type 0 where
+  pub shows : ShowsBytes (drop found.frame.position bytes) found.frame.block shown
+  pub fits_or_not :
+      ((status ≡ ok) × (to ≡ found.frame.position + found.len)
+      × (length found.block.channels * duration_of found.block.channels ≤ length old)
+      × InterleavedArePut found.block.channels old new)
+      ⊎ ((status ≡ buffer_too_small) × (to ≡ found.frame.position)
+      × (length old < found.frame.block.channels * found.frame.block.duration) × (new ≡ old))

@@ -227,7 +227,7 @@ fn header_there(bytes: &[u8], known: Option<StreamInfo>) -> Option<BlockInfo>
 }
 
 // Whether the header's block has more samples than this capacity.
-fn has_larger(header: &Option<BlockInfo>, capacity: usize) -> bool
+pub(crate) fn has_larger(header: &Option<BlockInfo>, capacity: usize) -> bool
     ensures { IsTrue result ↔ HasLarger capacity header.now }
 {
     match header {

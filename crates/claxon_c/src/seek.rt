@@ -1,4 +1,6 @@
 //! The next frame in bytes, and a frame whose block has a sample.
+ghost use Rattle.std.specs.Prelude.{◌≡◌, ◌+◌, ◌≤◌, length};
+ghost use Rattle.claxon.specs.Streams.{duration_of};
 ghost use Rattle.claxon_c.specs.Seek.{
   CBudgetIsSpent,
   CFindOutOfMemoryAfterHeader,
@@ -6,6 +8,9 @@ ghost use Rattle.claxon_c.specs.Seek.{
   CFoundIsFirst,
   CNoMoreIsNone,
   CNoneIsNoMore,
+  CSeekBlockIsComplete,
+  CSeekBlockIsSound,
+  CSeekBlockIsTooLarge,
   CSeekIsComplete,
   CSeekIsSound,
   CSeekNoMoreIsNone,
@@ -15,15 +20,19 @@ ghost use Rattle.claxon_c.specs.Seek.{
   CStopsOverBudget,
   CUndecidedIsFirst,
   FoundBlockIsKept,
+  IsGiven,
   IsSearchStatus,
+  IsSeekBlockStatus,
   SearchIsKept,
+  SeekBlockIsKept,
   SeekIsKept,
 };
 
 use crate::heads::ClaxonInfo;
-use crate::next_block::{ClaxonBlock, bytes_from};
-use crate::status::{NO_MORE, OK, OUT_OF_MEMORY, OVER_BUDGET};
-use claxon_seek::{Search, find_frame, seek};
+use crate::interleave::put_interleaved;
+use crate::next_block::{ClaxonBlock, bytes_from, has_larger};
+use crate::status::{BUFFER_TOO_SMALL, NO_MORE, OK, OUT_OF_MEMORY, OVER_BUDGET};
+use claxon_seek::{BlockSearch, FoundBlock, Search, find_frame, seek, seek_block};
 use std::alloc::Global;
 
 /// Finds the first frame of the stream from the position on, and moves the position to it. Where there is none, it is moved to
@@ -109,4 +118,76 @@ pub extern "C" fn claxon_seek(
         Ok(Search::OverBudget(_)) => OVER_BUDGET,
         Err(_) => OUT_OF_MEMORY,
     }
+}
+
+/// As `claxon_seek`, and decodes the frame as `claxon_next_block`: its samples are interleaved, and the position is moved after it.
+/// Where the samples don't fit, the position is moved to the frame.
+#[unsafe(no_mangle)]
+pub extern "C" fn claxon_seek_block(
+    alloc: Global,
+    bytes: &[u8],
+    info: &ClaxonInfo,
+    sample: u64,
+    budget: u64,
+    at: &mut usize,
+    samples: &mut [i32],
+    block: &mut ClaxonBlock,
+) -> u32
+    // What it returns, shows and stores.
+    ensures is_sound { CSeekBlockIsSound info.now bytes.now sample result at.new block.new
+        samples.old samples.new }
+    ensures is_too_large { CSeekBlockIsTooLarge info.now bytes.now sample result at.new block.new
+        (length samples.old) }
+    ensures is_complete { CSeekBlockIsComplete info.now bytes.now sample result }
+    ensures no_more_is_none { CSeekNoMoreIsNone info.now bytes.now sample result }
+    ensures none_is_no_more { CSeekNoneIsNoMore info.now bytes.now sample result }
+    ensures status_is_known { IsSeekBlockStatus result }
+    // The budget, and memory.
+    ensures stops_over_budget { CSeekStopsOverBudget info.now bytes.now sample result budget }
+    ensures out_of_memory_after_header { CSeekOutOfMemoryAfterHeader info.now bytes.now sample
+        result }
+    // What stays as it was.
+    ensures is_kept { SeekBlockIsKept result at.old at.new block.old block.new samples.old samples.new }
+{
+    match seek_block(
+        alloc,
+        bytes,
+        info.known_stream(),
+        info.first_frame,
+        sample,
+        budget,
+    ) {
+        Ok(BlockSearch::Found(found)) => give(found, bytes, at, samples, block),
+        Ok(BlockSearch::NotFound(_)) => NO_MORE,
+        Ok(BlockSearch::OverBudget(_)) => OVER_BUDGET,
+        Err(_) => OUT_OF_MEMORY,
+    }
+}
+
+// Shows the block and stores its samples, if they fit.
+fn give(
+    found: FoundBlock,
+    bytes: &[u8],
+    at: &mut usize,
+    samples: &mut [i32],
+    block: &mut ClaxonBlock,
+) -> u32
+    requires channels { length found.block.channels ≡ found.frame.block.channels }
+    requires duration { duration_of found.block.channels ≡ found.frame.block.duration }
+    requires inside { found.frame.position + found.len ≤ length bytes.now }
+    ensures { IsGiven bytes.now found result at.new block.new samples.old samples.new }
+{
+    let FoundBlock {
+        frame,
+        len,
+        block: decoded,
+    } = found;
+    *block = ClaxonBlock::from_header(&frame.block, bytes_from(bytes, frame.position));
+    if has_larger(&Some(frame.block), samples.len()) {
+        *at = frame.position;
+        return BUFFER_TOO_SMALL;
+    }
+    put_interleaved(&decoded, samples);
+    *at = frame.position + len;
+    OK
 }

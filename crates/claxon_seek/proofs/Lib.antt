@@ -6,6 +6,8 @@ pub mod HeadersAtStart
 pub mod SyncCode
 -- A search for a frame, position by position.
 pub mod Searches
+-- A frame with a sample at a position, and its block.
+pub mod BlockSearches
 -- The clauses of a search, from all that it answers.
 pub mod FindCalls
 -- A window on a source, and the blocks and samples that a reader finds in it.

@@ -55,7 +55,7 @@ module _ (known : Option StreamInfo) (bytes : List ℕ) (taken : ℕ) where
   whole_there block h = let k = h.sound in record { block = block_view block; frame = (k.0, k.1, k.2, k.3) }
 
   -- a result that is no block and not `OutOfMemory`
-  none_else : (r : FrameAnswer) → FrameAtStart stream bytes r taken → (IsOutOfMemory r → ⊥) → ((block : Block) → IsOkAnd r (λ found. IsSomeAnd found (λ x. block_view x ≡ block)) → ⊥) → BeginsWithFrame stream bytes → ⊥
+  pub none_else : (r : FrameAnswer) → FrameAtStart stream bytes r taken → (IsOutOfMemory r → ⊥) → ((block : Block) → IsOkAnd r (λ found. IsSomeAnd found (λ x. block_view x ≡ block)) → ⊥) → BeginsWithFrame stream bytes → ⊥
   none_else r h other no_block found = elim (h.complete found.block found.frame) [ inl p ↦ no_block found.block p | inr m ↦ other m ]
 
   -- a fault of the bytes is one whatever follows
@@ -145,11 +145,11 @@ module _ (known : Option StreamInfo) (sample : Option ℕ) where
         );
       }
 
-  frame_of_wanted : (bytes : List ℕ) (info : BlockInfo) → WantedFrame known sample bytes info → BeginsWithFrame (known_format known) bytes
+  pub frame_of_wanted : (bytes : List ℕ) (info : BlockInfo) → WantedFrame known sample bytes info → BeginsWithFrame (known_format known) bytes
   frame_of_wanted bytes info wanted = record { block = wanted.frame.0; frame = wanted.frame.1 }
 
   -- no header begins at the end
-  none_at_end : (bytes : List ℕ) (at : ℕ) (info : BlockInfo) → length bytes ≤ at → WantedHeader known sample (drop at bytes) info → ⊥
+  pub none_at_end : (bytes : List ℕ) (at : ℕ) (info : BlockInfo) → length bytes ≤ at → WantedHeader known sample (drop at bytes) info → ⊥
   none_at_end bytes at info past wanted =
       let h = wanted.header in
       let few : length (drop at bytes) < 2 = omega (arith, length-drop at bytes) in

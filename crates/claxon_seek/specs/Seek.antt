@@ -29,8 +29,22 @@ use Rattle.claxon_seek.specs.Find.{
   WantedFrame,
   WantedHeader,
 }
+use Rattle.claxon_seek.specs.declared.search.FoundFrame.{FoundFrame}
 use Rattle.claxon_seek.specs.declared.search.Search.{Search}
 use Rattle.claxon_seek.specs.declared.search.Search.TheVariants.{Found, NotFound, OverBudget}
+
+-- ---- the answers, by name
+
+abbrev pub found_at : FoundFrame → Search
+found_at at = Found at
+
+abbrev pub not_found : ℕ → Search
+not_found undecided = NotFound undecided
+
+abbrev pub stopped_at : ℕ → Search
+stopped_at to = OverBudget to
+
+-- ---- what is answered
 
 -- of the frames from this position on whose block has the sample
 module _ (known : Option StreamInfo) (bytes : List ℕ) (first sample budget : ℕ) where

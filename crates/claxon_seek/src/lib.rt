@@ -14,5 +14,5 @@ mod window;
 pub use at_start::{block_at_start, head_at_start, header_at_start};
 pub use find::find_frame;
 pub use reader::SeekableReader;
-pub use search::{FoundFrame, Search};
-pub use seeking::seek;
+pub use search::{BlockSearch, FoundBlock, FoundFrame, Search};
+pub use seeking::{seek, seek_block};

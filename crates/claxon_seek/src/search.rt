@@ -1,5 +1,6 @@
 //! What a search answers.
 
+use claxon::Block;
 use claxon::frame::BlockInfo;
 
 /// A frame in bytes.
@@ -19,5 +20,27 @@ pub enum Search {
     /// There is none. More bytes can make one that begins at this position, or after it, but none before it.
     NotFound(usize),
     /// The search stopped at this position, as the blocks of the headers up to it have more samples than the budget.
+    OverBudget(usize),
+}
+
+/// A frame in bytes, and its block.
+#[derive(Drop)]
+pub struct FoundBlock {
+    /// Where the frame is.
+    pub frame: FoundFrame,
+    /// The number of its bytes.
+    pub len: usize,
+    /// Its samples.
+    pub block: Block,
+}
+
+/// What a search for a frame answers that decodes it: as `Search`.
+#[derive(Drop)]
+pub enum BlockSearch {
+    /// A frame, and its block.
+    Found(FoundBlock),
+    /// There is none.
+    NotFound(usize),
+    /// The search stopped at this position.
     OverBudget(usize),
 }

@@ -1,5 +1,5 @@
 //! The frame with a sample.
-ghost use Rattle.std.specs.Prelude.{IfSome};
+ghost use Rattle.std.specs.Prelude.{◌≡◌, ◌≤◌, IfSome, length};
 ghost use Rattle.claxon.specs.FlacReader.{HasBitDepth};
 ghost use Rattle.claxon_seek.specs.Seek.{
   SeekGives,
@@ -10,12 +10,14 @@ ghost use Rattle.claxon_seek.specs.Seek.{
   SeekOutOfMemoryAfterHeader,
   SeekStopsOverBudget,
 };
+ghost use Rattle.claxon_seek.specs.SeekBlock.{BlockIsDecoded, BlockThere, searched};
 
-use crate::find::{FrameThere, HeaderThere, find, frame_at_start, wanted_header};
+use crate::at_start::block_at_start;
+use crate::find::{HeaderThere, find, wanted_header};
 use crate::likely::likely_position;
-use crate::search::{FoundFrame, Search};
-use claxon::Result;
+use crate::search::{BlockSearch, FoundBlock, FoundFrame, Search};
 use claxon::metadata::StreamInfo;
+use claxon::{Error, Result};
 use std::alloc::Global;
 
 /// Finds a frame whose block has the sample: `time <= sample < time + duration`.
@@ -49,10 +51,51 @@ pub fn seek(
     ensures out_of_memory_after_header { SeekOutOfMemoryAfterHeader known bytes.now first_frame
         sample budget result }
 {
+    without_block(seek_exact(alloc, bytes, known, first_frame, sample, budget))
+}
+
+/// As `seek`, and the block of the frame, which is decoded once where headers lead to it.
+///
+/// # Errors
+///
+/// `OutOfMemory` alone, where memory for the samples of a block is refused.
+pub fn seek_block(
+    alloc: Global,
+    bytes: &[u8],
+    known: Option<StreamInfo>,
+    first_frame: usize,
+    sample: u64,
+    budget: u64,
+) -> Result<BlockSearch>
+    requires { IfSome known (λ info. HasBitDepth info) }
+    ensures is_decoded { BlockIsDecoded known bytes.now result }
+    ensures is_sound { SeekIsSound known bytes.now first_frame sample budget (searched result) }
+    ensures is_complete { SeekIsComplete known bytes.now first_frame sample budget (searched result) }
+    ensures not_found_is_none { SeekNotFoundIsNone known bytes.now first_frame sample budget
+        (searched result) }
+    ensures none_is_not_found { SeekNoneIsNotFound known bytes.now first_frame sample budget
+        (searched result) }
+    ensures stops_over_budget { SeekStopsOverBudget known bytes.now first_frame sample budget
+        (searched result) }
+    ensures out_of_memory_after_header { SeekOutOfMemoryAfterHeader known bytes.now first_frame
+        sample budget (searched result) }
+{
     seek_exact(alloc, bytes, known, first_frame, sample, budget)
 }
 
-// `seek`, with its exact clause.
+// The same answer without the block.
+fn without_block(answer: Result<BlockSearch>) -> Result<Search>
+    ensures { result ≡ searched answer }
+{
+    match answer {
+        Ok(BlockSearch::Found(found)) => Ok(Search::Found(found.frame)),
+        Ok(BlockSearch::NotFound(undecided)) => Ok(Search::NotFound(undecided)),
+        Ok(BlockSearch::OverBudget(position)) => Ok(Search::OverBudget(position)),
+        Err(error) => Err(error),
+    }
+}
+
+// `seek_block`, with its exact clauses.
 fn seek_exact(
     alloc: Global,
     bytes: &[u8],
@@ -60,18 +103,56 @@ fn seek_exact(
     first_frame: usize,
     sample: u64,
     budget: u64,
-) -> Result<Search>
+) -> Result<BlockSearch>
     requires { IfSome known (λ info. HasBitDepth info) }
-    ensures { SeekGives known bytes.now first_frame sample budget result }
+    ensures gives { SeekGives known bytes.now first_frame sample budget (searched result) }
+    ensures is_decoded { BlockIsDecoded known bytes.now result }
 {
     if let Some(position) = likely_position(bytes, known, first_frame, sample) {
-        let rest = &bytes[position..];
-        if let HeaderThere::Wanted(block) = wanted_header(rest, &known, Some(sample)) {
-            if let FrameThere::Whole = frame_at_start(alloc, rest, known)? {
-                return Ok(Search::Found(FoundFrame { position, block }));
-            }
+        if let Some(found) = block_there(alloc, bytes, known, position, sample)? {
+            return Ok(BlockSearch::Found(found));
         }
     }
     let mut left = budget;
-    find(alloc, bytes, first_frame, known, Some(sample), &mut left)
+    match find(alloc, bytes, first_frame, known, Some(sample), &mut left)? {
+        Search::Found(frame) => {
+            let found = block_there(alloc, bytes, known, frame.position, sample)?;
+            Ok(BlockSearch::Found(found.unwrap()))
+        }
+        Search::NotFound(undecided) => Ok(BlockSearch::NotFound(undecided)),
+        Search::OverBudget(position) => Ok(BlockSearch::OverBudget(position)),
+    }
+}
+
+// The frame that begins at the position, if its block has the sample.
+fn block_there(
+    alloc: Global,
+    bytes: &[u8],
+    known: Option<StreamInfo>,
+    position: usize,
+    sample: u64,
+) -> Result<Option<FoundBlock>>
+    requires depth { IfSome known (λ info. HasBitDepth info) }
+    requires inside { position ≤ length bytes.now }
+    ensures { BlockThere known bytes.now position sample result }
+{
+    let rest = &bytes[position..];
+    let HeaderThere::Wanted(info) = wanted_header(rest, &known, Some(sample)) else {
+        return Ok(None);
+    };
+    let mut len = 0;
+    match block_at_start(alloc, rest, known, &mut len) {
+        Ok(Some(block)) => {
+            let frame = FoundFrame {
+                position,
+                block: info,
+            };
+            Ok(Some(FoundBlock { frame, len, block }))
+        }
+        Ok(None) => Ok(None),
+        Err(Error::IoError(_)) => Ok(None),
+        Err(Error::FormatError(_)) => Ok(None),
+        Err(Error::Unsupported(_)) => Ok(None),
+        Err(Error::OutOfMemory) => Err(Error::OutOfMemory),
+    }
 }

@@ -1,6 +1,6 @@
 //! Frames that are found, by rows. They have one channel of 8 bits and 16 samples of one value but where a row says so, and were
 //! made by the definitions of RFC 9639, section 9.
-use crate::{Search, find_frame, seek};
+use crate::{BlockSearch, Search, find_frame, seek, seek_block};
 use claxon::metadata::StreamInfo;
 
 // Four frames, one after another.
@@ -172,4 +172,39 @@ fn seeks_from_frames(rt: HostRuntime) {
         let found = seek(rt.alloc(), bytes, Some(info), first_frame, sample, budget);
         assert!(rt; is_wanted(&found, wanted));
     }
+}
+
+// The block, and the number of its frame's bytes: where headers lead to it, and where they don't.
+#[test]
+fn blocks_with_samples(rt: HostRuntime) {
+    let mut swapped = STREAM;
+    swapped[..11].copy_from_slice(&STREAM[33..]);
+    swapped[33..].copy_from_slice(&STREAM[..11]);
+    #[rattlefmt::skip]
+    let rows: [(&[u8], u64, usize, u64, i32); 4] = [
+        (&STREAM, 0, 0, 0, 1),
+        (&STREAM, 40, 22, 32, 3),
+        (&swapped, 15, 33, 0, 1),
+        (&swapped, 48, 0, 48, 4),
+    ];
+    for (bytes, sample, position, time, value) in rows {
+        match seek_block(rt.alloc(), bytes, Some(INFO), 0, sample, 1000) {
+            Ok(BlockSearch::Found(found)) => {
+                assert!(rt; found.frame.position == position && found.len == 11);
+                assert!(rt; found.frame.block.time == time && found.block.time() == time);
+                assert!(rt; found.block.into_buffer().as_slice() == [value; 16]);
+            }
+            _ => assert!(rt; false),
+        }
+    }
+}
+
+#[test]
+fn blocks_not_found(rt: HostRuntime) {
+    let mut damaged = STREAM;
+    damaged[30] = 0x04;
+    let found = seek_block(rt.alloc(), &STREAM, Some(INFO), 0, 64, 1000);
+    assert!(rt; matches!(found, Ok(BlockSearch::NotFound(43))));
+    let found = seek_block(rt.alloc(), &damaged, Some(INFO), 0, 40, 15);
+    assert!(rt; matches!(found, Ok(BlockSearch::OverBudget(22))));
 }

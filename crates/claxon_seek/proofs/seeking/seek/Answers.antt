@@ -1,11 +1,16 @@
+use Rattle.std.proofs.Common.{sym, subst}
+use Rattle.std.specs.Prelude.{Result}
+use Rattle.claxon.specs.Errors.{Error}
+use Rattle.claxon_seek.specs.Seek.{SeekGives}
+use Rattle.claxon_seek.specs.declared.search.Search.{Search}
 use Rattle.claxon_seek.proofs.FindCalls.{seek_is_complete, seek_is_sound, seek_none_is_not_found, seek_not_found_is_none, seek_out_of_memory, seek_stops_over_budget}
 use Rattle.claxon_seek.proofs.seeking.seek.Goals as goal
 
 pub returns : goal.returns
 returns c =
     let a = c.args in
-    let r = c.seek_exact.result in
-    let g = c.seek_exact.ensures in
+    let r = c.without_block.result in
+    let g = subst (λ (x : Result Search Error). SeekGives a.known a.bytes.now a.first_frame a.sample a.budget x) (sym c.without_block.ensures) c.seek_exact.ensures.gives in
     record {
       is_sound = seek_is_sound a.known a.bytes.now a.first_frame a.sample a.budget r g;
       is_complete = seek_is_complete a.known a.bytes.now a.first_frame a.sample a.budget r g;

@@ -1,18 +1,55 @@
-use Rattle.std.proofs.Common.{ℕ, List, drop, Some, subst}
-use Rattle.claxon_seek.specs.Find.{BeginsWithFrame, WantedHeader, known_format}
+use Rattle.std.specs.Prelude.{Ok, Err}
+use Rattle.std.proofs.lemmas.Result.{err_from_is_err_and}
+use Rattle.claxon_seek.specs.declared.search.Search.TheVariants.{NotFound, OverBudget}
+use Rattle.claxon_seek.proofs.BlockSearches.{frame_is_inside, gives_there, memory_there}
 use Rattle.claxon_seek.proofs.FindCalls.{first_will_do}
-use Rattle.claxon_seek.proofs.Searches.{frame_is_wanted, rest_is}
 use Rattle.claxon_seek.proofs.seeking.seek_exact.Goals as goal
 
-pub returns-in-Whole : goal.returns-in-Whole
-returns-in-Whole c =
-    let k = c.args.known in
-    let bytes = c.args.bytes.now in
-    let at = c.in-Some.position in
-    let info = c.in-Wanted.block in
-    let wanted : WantedHeader k (Some c.args.sample) (drop at bytes) info = subst (λ (s : List ℕ). WantedHeader k (Some c.args.sample) s info) (rest_is bytes at) (rw c.in-Wanted.is at c.wanted_header.ensures) in
-    let found : BeginsWithFrame (known_format k) (drop at bytes) = subst (λ (s : List ℕ). BeginsWithFrame (known_format k) s) (rest_is bytes at) (rw (c.in_ok-frame_at_start.was, c.in-Whole.is) at c.frame_at_start.ensures) in
-    (rw c.in-Some.is at c.likely_position.ensures.at_least, frame_is_wanted k (Some c.args.sample) (drop at bytes) info wanted found)
+-- headers lead to the frame
+pub returns-in-Some-2 : goal.returns-in-Some-2
+returns-in-Some-2 c =
+    let a = c.args in
+    let there = rw (c.in_ok-found.was, c.in-Some-2.is) at c.block_there.ensures in
+    record {
+      gives = gives_there a.known a.bytes.now c.in-Some.position a.sample a.first_frame a.budget (rw c.in-Some.is at c.likely_position.ensures.at_least) c.in-Some-2.found there;
+      is_decoded = there.2;
+    }
 
-pub returns : goal.returns
-returns c = first_will_do c.args.known c.args.bytes.now c.args.first_frame c.args.sample c.args.budget c.find.result c.find.new.budget c.find.ensures
+pub returns-in_err-found : goal.returns-in_err-found
+returns-in_err-found c =
+    let a = c.args in
+    let p = err_from_is_err_and c.from_residual.result c.from_residual.ensures.1 in
+    let there = rw c.in_err-found.was at c.block_there.ensures in
+    let gives = memory_there a.known a.bytes.now c.in-Some.position a.sample a.first_frame a.budget (rw c.in-Some.is at c.likely_position.ensures.at_least) c.in_err-found.field-0.0 there in
+    record { gives = rw (p.1, p.2) gives; is_decoded = rw p.1 tt }
+
+-- a search of all bytes
+pub returns-in-NotFound : goal.returns-in-NotFound
+returns-in-NotFound c =
+    let a = c.args in
+    record { gives = first_will_do a.known a.bytes.now a.first_frame a.sample a.budget (Ok (NotFound c.in-NotFound.undecided)) c.find.new.budget (rw (c.in_ok-frame.was, c.in-NotFound.is) at c.find.ensures); is_decoded = tt }
+
+pub returns-in-OverBudget : goal.returns-in-OverBudget
+returns-in-OverBudget c =
+    let a = c.args in
+    record { gives = first_will_do a.known a.bytes.now a.first_frame a.sample a.budget (Ok (OverBudget c.in-OverBudget.position)) c.find.new.budget (rw (c.in_ok-frame.was, c.in-OverBudget.is) at c.find.ensures); is_decoded = tt }
+
+pub returns-in_err-frame : goal.returns-in_err-frame
+returns-in_err-frame c =
+    let a = c.args in
+    let p = err_from_is_err_and c.from_residual-in_err-frame.result c.from_residual-in_err-frame.ensures.1 in
+    let gives = first_will_do a.known a.bytes.now a.first_frame a.sample a.budget (Err c.in_err-frame.field-0.0) c.find.new.budget (rw c.in_err-frame.was at c.find.ensures) in
+    record { gives = rw (p.1, p.2) gives; is_decoded = rw p.1 tt }
+
+pub block_there-requires-in-Found-clause-inside : goal.block_there-requires-in-Found-clause-inside
+block_there-requires-in-Found-clause-inside c =
+    let a = c.args in
+    let found = rw (c.in_ok-frame.was, c.in-Found.is) at c.find.ensures in
+    frame_is_inside a.known a.bytes.now c.in-Found.frame.position a.sample c.in-Found.frame.block found.1
+
+pub returns-in_ok-found-in-Found : goal.returns-in_ok-found-in-Found
+returns-in_ok-found-in-Found c =
+    let a = c.args in
+    let found = rw (c.in_ok-frame.was, c.in-Found.is) at c.find.ensures in
+    let there = rw (c.in_ok-found-in-Found.was, c.unwrap.ensures) at c.block_there-in-Found.ensures in
+    record { gives = gives_there a.known a.bytes.now c.in-Found.frame.position a.sample a.first_frame a.budget found.0 c.unwrap.result there; is_decoded = there.2 }
