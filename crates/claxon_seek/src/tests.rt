@@ -192,7 +192,8 @@ fn blocks_with_samples(rt: HostRuntime) {
             Ok(BlockSearch::Found(found)) => {
                 assert!(rt; found.frame.position == position && found.len == 11);
                 assert!(rt; found.frame.block.time == time && found.block.time() == time);
-                assert!(rt; found.block.into_buffer().as_slice() == [value; 16]);
+                let samples = found.block.into_buffer();
+                assert!(rt; samples.as_slice() == [value; 16].as_slice());
             }
             _ => assert!(rt; false),
         }

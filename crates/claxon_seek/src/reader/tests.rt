@@ -1,6 +1,7 @@
 //! Streams that are read from any sample on. Frame n has 16 samples of n + 1, of 8 bits; all was made by the definitions of RFC 9639,
 //! section 9, and is accepted by `flac`.
 use super::SeekableReader;
+use crate::head_at_start;
 use claxon::{Error, Result};
 use std::io;
 use std::io::{Cursor, ErrorKind, Read, Seek, SeekFrom};
@@ -203,6 +204,25 @@ fn shows_its_head(rt: HostRuntime) -> std::result::Result<(), Fail> {
     );
     assert_eq!(rt; flac.position(), 125);
     assert_eq!(rt; flac.into_inner().get_ref().len(), 158);
+    Ok(())
+}
+
+// The same head in memory, and the number of its bytes. One byte less is an error.
+#[test]
+fn head_in_memory(rt: HostRuntime) -> std::result::Result<(), Fail> {
+    let bytes = stream(11, 128);
+    let mut taken = 0;
+    let (info, comment) = head_at_start(rt.alloc(), &bytes, &mut taken)
+        .ok()
+        .ok_or("head")?;
+    assert_eq!(rt; taken, 70);
+    assert_eq!(rt; (info.sample_rate, info.channels), (44_100, 1));
+    assert_eq!(rt; (info.bits_per_sample, info.samples), (8, Some(128)));
+    let comment = comment.ok_or("comment")?;
+    assert_eq!(rt; comment.vendor.as_str(), "abc");
+    assert_eq!(rt; comment.comments.len(), 1);
+    let cut = head_at_start(rt.alloc(), &bytes[..69], &mut taken);
+    assert!(rt; matches!(cut, Err(Error::IoError(_))));
     Ok(())
 }
 
