@@ -16,8 +16,7 @@ static int play_from(uint64_t sample, const uint8_t *bytes, size_t length) {
         fprintf(stderr, "%s\n", error);
         return 1;
     }
-    uint32_t status =
-        claxon_seek_block(bytes, length, &info, sample, UINT64_MAX, &at, samples, CLAXON_MAX_SAMPLES, &block);
+    uint32_t status = claxon_seek_block(bytes, length, &info, sample, UINT64_MAX, &at, samples, CLAXON_MAX_SAMPLES, &block);
     size_t before = (size_t)(sample - block.time);
     while (status == CLAXON_OK) {
         fwrite(samples + before * block.channels, 4, (block.duration - before) * block.channels, stdout);
