@@ -24,7 +24,6 @@ libraries are. Importing raises ImportError where there is none.
 import ctypes
 import io
 import os
-import pathlib
 import warnings
 from array import array
 from dataclasses import dataclass
@@ -245,12 +244,13 @@ def _find_library() -> str:
     named = os.environ.get("CLAXON_LIBRARY")
     if named:
         return named
-    here = pathlib.Path(__file__).resolve().parent
-    top = here.parent.parent
-    for folder in (here, top / "c" / "out", top / "lib"):
+    here = os.path.dirname(os.path.realpath(__file__))
+    top = os.path.dirname(os.path.dirname(here))
+    for folder in (here, os.path.join(top, "c", "out"), os.path.join(top, "lib")):
         for name in ("libclaxon.so", _LIBRARY):
-            if (folder / name).exists():
-                return str(folder / name)
+            path = os.path.join(folder, name)
+            if os.path.exists(path):
+                return path
     try:
         ctypes.CDLL(_LIBRARY)
     except OSError as error:

@@ -24,6 +24,11 @@ import time
 import unittest
 from subprocess import DEVNULL, PIPE
 from typing import Any, Callable, Dict, Iterator, List, NamedTuple, Optional, Set
+from unittest import mock
+
+from claxon.archive.progress import Progress
+from claxon.archive.results import Results
+from claxon.archive.run import Wanted, run
 
 from tests import TOP, FolderCase
 
@@ -259,6 +264,55 @@ class Verdicts(Archive):
         self.write("3.flac", ROWS["another MD5 sum"])
         self.run_files()
         self.assertEqual([row["parts"] for row in self.kept()], ["706-853", "963-999", None])
+
+
+class WhileFinding(Archive):
+    """Batches that begin while other files are being found."""
+
+    def write_large(self, number: int) -> None:
+        """Right files of a mebibyte: padding in the head, which takes no space on disk."""
+        last, content = RIGHT.data[4] & 0x80, (1 << 20).to_bytes(3, "big")
+        for index in range(number):
+            path = self.write(f"large/{index}.flac", RIGHT)
+            with open(path, "wb") as file:
+                file.write(RIGHT.data[:4] + bytes([RIGHT.data[4] & 0x7F]) + RIGHT.data[5:42])
+                file.write(bytes([last | 1]) + content)
+                file.seek(1 << 20, os.SEEK_CUR)
+                file.write(RIGHT.data[42:])
+
+    def test_verdicts(self) -> None:
+        self.write_large(400)
+        large = set(self.rows)
+        self.rows.clear()
+        self.write_many(500)
+        self.wrap(LOG + GO_ON)
+        self.assertEqual(self.run_files("--jobs", "2").status, 1)
+        self.assertEqual(set(self.count_verified().values()), {1})
+        found = self.by_path()
+        self.assertEqual({found.pop(path)["verdict"] for path in large}, {"ok"})
+        self.assertEqual(sorted(found), sorted(self.rows))
+        for path, row in self.rows.items():
+            wanted = expected(row)
+            self.assertEqual({name: found[path][name] for name in wanted}, wanted)
+
+    def test_stopped(self) -> None:
+        """What is verified then isn't kept; the next run goes on."""
+        self.write_large(700)
+        self.wrap(LOG + GO_ON)
+        progress = Progress()
+        results = Results(str(self.results), is_new=True)
+        wanted = Wanted([os.fsencode(self.files)], 2, None, None, False)
+        with mock.patch.dict(os.environ, {"CLAXON_PROGRAM": self.program}):
+            with mock.patch.object(progress, "found", side_effect=[None, KeyboardInterrupt]):
+                self.assertRaises(KeyboardInterrupt, run, wanted, results, progress)
+        results.close()
+        self.assertEqual(self.kept(), [])
+        self.assertGreater(len(self.count_verified()), 0)
+        self.assertLess(len(self.count_verified()), 300)
+        self.assertEqual(self.run_files("--jobs", "2").status, 0)
+        self.assertEqual(set(self.count_verified()), set(self.rows))
+        self.assertEqual(set(self.count_verified().values()), {1, 2})
+        self.assertEqual({row["verdict"] for row in self.kept()}, {"ok"})
 
 
 class Again(Archive):

@@ -9,7 +9,8 @@ import stat
 import subprocess
 import tempfile
 import time
-from typing import IO, Any, Dict, List, Optional, Tuple
+from contextlib import nullcontext
+from typing import IO, Any, ContextManager, Dict, List, Optional, Tuple
 
 # What is known of a file, in the order of the columns of the results.
 Row = Tuple[
@@ -81,7 +82,11 @@ def check_program(program: str) -> None:
         )
 
 
-def verify_batch(names: bytes, beside: Optional[str]) -> List[Row]:
+# What a process of `claxon verify` runs in.
+Turn = ContextManager[object]
+
+
+def verify_batch(names: bytes, beside: Optional[str], turn: Turn = nullcontext()) -> List[Row]:
     """A row for each of the files whose paths are in `names`, each ended by a zero byte. A file that
     isn't a regular one any more has none."""
     program = find_program(beside)
@@ -100,8 +105,8 @@ def verify_batch(names: bytes, beside: Optional[str]) -> List[Row]:
         if is_text(path):
             listed.append(file)
         else:
-            rows.append(_verify_alone(program, version, file))
-    rows += _verify_listed(program, version, listed)
+            rows.append(_verify_alone(program, version, file, turn))
+    rows += _verify_listed(program, version, listed, turn)
     return rows
 
 
@@ -114,7 +119,7 @@ def is_text(path: bytes) -> bool:
     return True
 
 
-def _verify_listed(program: str, version: str, files: List[File]) -> List[Row]:
+def _verify_listed(program: str, version: str, files: List[File], turn: Turn) -> List[Row]:
     """Where the process ends early, the file that it was at isn't read, and a next one goes on."""
     rows: List[Row] = []
     while len(rows) < len(files):
@@ -122,37 +127,40 @@ def _verify_listed(program: str, version: str, files: List[File]) -> List[Row]:
         with tempfile.TemporaryFile() as names:
             names.write(b"".join(path + b"\0" for path, _, _ in left))
             names.seek(0)
-            told, why = _run(program, ["--files0-from", "-"], names)
+            told, why = _run(program, ["--files0-from", "-"], names, turn)
         rows += [_row(file, found, version) for file, found in zip(left, told)]
         if len(told) < len(left):
             rows.append(unread_row(left[len(told)][0], why, version))
     return rows
 
 
-def _verify_alone(program: str, version: str, file: File) -> Row:
+def _verify_alone(program: str, version: str, file: File, turn: Turn) -> Row:
     """Hands the file over as standard input."""
     try:
         with open(file[0], "rb", buffering=0) as content:
-            told, why = _run(program, ["-"], content)
+            told, why = _run(program, ["-"], content, turn)
     except OSError as error:
         return unread_row(file[0], error.strerror or str(error), version)
     return _row(file, told[0], version) if told else unread_row(file[0], why, version)
 
 
-def _run(program: str, arguments: List[str], given: IO[bytes]) -> Tuple[List[Dict[str, Any]], str]:
+def _run(
+    program: str, arguments: List[str], given: IO[bytes], turn: Turn
+) -> Tuple[List[Dict[str, Any]], str]:
     """What `claxon verify` tells of files, also of those before it was killed, and how it ended.
 
     It writes each object at once. They go to a file, since a pipe would wake this process for each.
     Its session is its own, so that Ctrl-C at a terminal doesn't end it.
     """
     with tempfile.TemporaryFile() as output, tempfile.TemporaryFile() as errors:
-        status = subprocess.call(
-            [program, "verify", "--json", *arguments],
-            stdin=given,
-            stdout=output,
-            stderr=errors,
-            start_new_session=True,
-        )
+        with turn:
+            status = subprocess.call(
+                [program, "verify", "--json", *arguments],
+                stdin=given,
+                stdout=output,
+                stderr=errors,
+                start_new_session=True,
+            )
         output.seek(0)
         errors.seek(0)
         told = _objects(program, output.read())

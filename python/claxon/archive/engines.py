@@ -49,10 +49,13 @@ def open_engine(jobs: int, scheduler: Optional[str], beside: Optional[str]) -> I
     """`beside` is where the program is if no other is named."""
     if scheduler is None:
         from concurrent.futures import ThreadPoolExecutor
+        from threading import Semaphore
 
-        # A thread waits for its process of `claxon verify` alone.
-        with ThreadPoolExecutor(jobs) as executor:
-            verify = partial(executor.submit, batch.verify_batch, beside=beside)
+        # So many processes of `claxon verify` run at once. The other threads have the next batch ready, or
+        # make rows of what a process told.
+        with ThreadPoolExecutor(2 * jobs) as executor:
+            turn = Semaphore(jobs)
+            verify = partial(executor.submit, batch.verify_batch, beside=beside, turn=turn)
             yield Engine(verify, lambda: jobs, ())
         return
     with _open_cluster(scheduler, beside) as engine:

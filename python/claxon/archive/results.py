@@ -140,6 +140,8 @@ class Results:
             raise ResultsError("no such file")
         self._database = sqlite3.connect(path, timeout=_PATIENCE, isolation_level=None)
         self._run: Optional[int] = None
+        # Where the power fails, the verdicts of the last batches can be lost, and are found again.
+        self._database.execute("PRAGMA synchronous = NORMAL")
         self._check_version()
 
     def close(self) -> None:
@@ -263,18 +265,18 @@ class Results:
                     (low, high),
                 )
 
-    def due(self) -> Iterator[Tuple[bytes, int]]:
-        """The paths and sizes of the files that are to be verified."""
-        last = 0
+    def due(self, last: int) -> Iterator[Tuple[int, bytes, int]]:
+        """The files that are to be verified, after this one of them: the number, the path and the
+        size of each. The first has the number 1."""
         while True:
             page = self._database.execute(
                 "SELECT rowid, path, size FROM due WHERE rowid > ? ORDER BY rowid LIMIT 1000",
                 (last,),
             ).fetchall()
-            for last, path, size in page:
-                yield path, size
+            yield from page
             if not page:
                 return
+            last = page[-1][0]
 
     # ---- verdicts
 
