@@ -140,18 +140,6 @@ static void test_frame(const struct frame *frame) {
 
 /* ---- the sample rate and the bit depth of blocks */
 
-/* The remainder of the bytes, followed by zeros, by the polynomial of a header's CRC. */
-static uint8_t crc8(const uint8_t *bytes, size_t length) {
-    unsigned crc = 0;
-    for (size_t i = 0; i < length; i++) {
-        crc ^= bytes[i];
-        for (int bit = 0; bit < 8; bit++) {
-            crc = crc & 0x80 ? (crc << 1 ^ 0x07) & 0xff : crc << 1;
-        }
-    }
-    return (uint8_t)crc;
-}
-
 /* A frame with these codes of its block size, its sample rate and its bit depth, and these bytes behind them: a constant channel
  * of zeros. Returns its length. */
 static size_t put_frame(uint8_t *bytes, unsigned codes, unsigned depth_code, const char *fields, size_t fields_length) {

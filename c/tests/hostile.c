@@ -9,6 +9,7 @@
 #include <time.h>
 
 #include "claxon_stream.h"
+#include "known.h"
 
 #define MEGABYTE 1000000
 
@@ -39,17 +40,6 @@ static void put_head(uint8_t *bytes, unsigned channels, int is_last) {
     memcpy(bytes, head, sizeof head);
     bytes[4] = is_last ? 0x80 : 0;
     bytes[20] = (uint8_t)(0x40 | (channels - 1) << 1);
-}
-
-static uint8_t crc8(const uint8_t *bytes, size_t length) {
-    unsigned crc = 0;
-    for (size_t i = 0; i < length; i++) {
-        crc ^= bytes[i];
-        for (int bit = 0; bit < 8; bit++) {
-            crc = crc & 0x80 ? (crc << 1 ^ 0x07) & 0xff : crc << 1;
-        }
-    }
-    return (uint8_t)crc;
 }
 
 /* The header of a frame of 16 bits with so many channels and samples of each. Returns its length. */

@@ -1,5 +1,5 @@
-/* known.h: what tests of files whose results are known share: failures, samples as a number and a hash, results as text, what a
- * frame's header says, and the files and lines themselves. */
+/* known.h: what tests of files whose results are known share: failures, CRCs, samples as a number and a hash, results as text,
+ * what a frame's header says, and the files and lines themselves. */
 #ifndef KNOWN_H
 #define KNOWN_H
 
@@ -17,6 +17,18 @@ static inline void expect(int holds, const char *name, const char *what) {
         printf("%s: %s\n", name, what);
         failures++;
     }
+}
+
+/* The CRC of a header: the remainder of its bytes, followed by zeros. (RFC 9639, section 9.1.8.) */
+static inline uint8_t crc8(const uint8_t *bytes, size_t length) {
+    unsigned crc = 0;
+    for (size_t i = 0; i < length; i++) {
+        crc ^= bytes[i];
+        for (int bit = 0; bit < 8; bit++) {
+            crc = crc & 0x80 ? (crc << 1 ^ 0x07) & 0xff : crc << 1;
+        }
+    }
+    return (uint8_t)crc;
 }
 
 /* The number of samples, and the FNV-1a hash of their little-endian bytes. */
