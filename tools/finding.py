@@ -14,12 +14,17 @@ import reading
 sys.path.insert(0, os.path.join(os.path.dirname(os.path.abspath(__file__)), '../python'))
 import claxon  # noqa: E402
 
-OK, NO_MORE, OVER_BUDGET = 0, 5, 7
-ANSWERS = {OK: 'found', NO_MORE: 'no more', OVER_BUDGET: 'over budget'}
+OK, NO_MORE, TOO_SMALL, OVER_BUDGET = 0, 5, 6, 7
+ANSWERS = {OK: 'found', NO_MORE: 'no more', TOO_SMALL: 'buffer too small', OVER_BUDGET: 'over budget'}
 MAX_HEADER = 16
 MAX_SIZE = 1 << 14
 UNLIMITED = (1 << 64) - 1
 UNTOUCHED = (0x123456789ABCDEF, 99, 98, 97, 96)
+UNTOUCHED_SAMPLE = 0x12345678
+
+# Those of claxon_seek, but for room for samples before the block.
+BLOCK_ARGUMENTS = [*claxon._library.claxon_seek.argtypes[:-1], ctypes.c_void_p, ctypes.c_size_t,
+                   ctypes.POINTER(claxon._Block)]
 
 
 @dataclasses.dataclass
@@ -28,6 +33,7 @@ class Place:
     at: int
     header: typing.Optional[reading.FrameHeader]  # None where the bytes end within it
     length: int = 0  # the number of bytes of the frame, if it is there
+    samples: tuple = ()  # then its samples, interleaved
     is_cut: bool = False  # whether the bytes end within the header or the frame
     may_follow: bool = False  # whether more bytes can make a frame of the stream
 
@@ -75,7 +81,9 @@ def place_at(data, at, streaminfo):
     if not has_format(header, streaminfo):
         return None
     try:
-        return Place(at, header, reading.read_frame(data[at:], bit_depth).length)
+        frame = reading.read_frame(data[at:], bit_depth)
+        samples = tuple(ctypes.c_int32(sample).value for at_once in zip(*frame.channels) for sample in at_once)
+        return Place(at, header, frame.length, samples)
     except reading.Incomplete:
         return Place(at, header, is_cut=True, may_follow=True)
     except reading.Fault:
@@ -142,6 +150,17 @@ class Searched:
         self.outcomes['claxon_seek: %s' % ANSWERS.get(status, status)] += 1
         return status, at.value, fields_of(block)
 
+    def seek_block(self, sample, budget, count):
+        """The answer of claxon_seek_block with room for so many samples: status, position, block and samples, of which one
+        more could be written."""
+        at, block = ctypes.c_size_t(UNLIMITED - 1), claxon._Block(*UNTOUCHED)
+        samples = (ctypes.c_int32 * (count + 1))(*(count + 1) * [UNTOUCHED_SAMPLE])
+        call = claxon._library.claxon_seek_block
+        call.argtypes, call.restype = BLOCK_ARGUMENTS, ctypes.c_uint32
+        status = call(self.data, len(self.data), self.info, sample, budget, at, samples, count, block)
+        self.outcomes['claxon_seek_block: %s' % ANSWERS.get(status, status)] += 1
+        return status, at.value, fields_of(block), tuple(samples)
+
     def against_find(self, start, budget):
         """How the answer of claxon_find_frame differs, or None."""
         places = [place for place in self.places if place.at >= start]
@@ -180,6 +199,19 @@ class Searched:
         if at not in frames:
             return 'seek: no such frame'
         return None if block == block_of(frames[at], self.data, self.streaminfo) else 'seek: another block'
+
+    def against_seek_block(self, sample, budget):
+        """How the answers of claxon_seek_block differ from that of claxon_seek and the samples of the frame that this finds,
+        or None: with just as much room as they need, and with room for one less."""
+        status, at, block = self.seek(sample, budget)
+        found = next((place for place in self.places if status == OK and place.at == at), Place(0, None))
+        count = len(found.samples)
+        at_end = at + found.length if found.length else at
+        if self.seek_block(sample, budget, count) != (status, at_end, block, (*found.samples, UNTOUCHED_SAMPLE)):
+            return 'seek_block: another answer, status %d' % status
+        if count and self.seek_block(sample, budget, count - 1) != (TOO_SMALL, at, block, count * (UNTOUCHED_SAMPLE,)):
+            return 'seek_block: another answer without room'
+        return None
 
     def has_sample(self, place, sample):
         if place.header is None:
@@ -236,6 +268,7 @@ def tries_of(rng, searched):
         with_sample = [place for place in places if searched.has_sample(place, sample)]
         for budget in budgets_of(rng, with_sample):
             yield searched.against_seek(sample, budget)
+            yield searched.against_seek_block(sample, budget)
 
 
 def piece_of(rng, data, places, streaminfo):
