@@ -145,8 +145,8 @@ static void test_seek_block(const struct stream *stream, uint64_t sample, struct
     struct found larger = found;
     larger.status = CLAXON_BUFFER_TOO_SMALL;
     expect_given(stream, sample, count - 1, &larger, NULL, 0);
-    uint32_t status = claxon_next_block(stream->bytes, stream->length, &found.at, &stream->info, given, CLAXON_MAX_SAMPLES, &block,
-                                        error, sizeof error);
+    uint32_t status = claxon_next_block(stream->bytes, stream->length, &found.at, &stream->info, given, CLAXON_MAX_SAMPLES,
+                                        &block, error, sizeof error);
     expect(status == CLAXON_OK, stream->name, "the frame that is found");
     expect_given(stream, sample, count, &found, given, count);
 }
