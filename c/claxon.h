@@ -198,10 +198,10 @@ uint32_t claxon_find_frame(const uint8_t *bytes, size_t length, size_t *at, cons
 uint32_t claxon_seek(const uint8_t *bytes, size_t length, const struct claxon_info *info, uint64_t sample, uint64_t budget,
                      size_t *at, struct claxon_block *block);
 
-/* As claxon_seek, and decodes the frame, as claxon_next_block does from its position; both of them decode it. With CLAXON_OK,
- * channels * duration samples are written, interleaved, of which the one that is sought is at
- * (sample - block.time) * block.channels, and *at is moved after the frame. BUFFER_TOO_SMALL: they don't fit; *at is the frame's
- * position, and `block` is filled. With any other status nothing is changed. */
+/* As claxon_seek and then claxon_next_block, which together decode the frame twice. With CLAXON_OK, channels * duration samples
+ * are written, interleaved, and *at is moved after the frame; the sample that is sought begins at
+ * (sample - block.time) * block.channels. BUFFER_TOO_SMALL: they don't fit; *at is the frame's position, and `block` is filled.
+ * With any other status nothing is changed. */
 uint32_t claxon_seek_block(const uint8_t *bytes, size_t length, const struct claxon_info *info, uint64_t sample,
                            uint64_t budget, size_t *at, int32_t *samples, size_t capacity, struct claxon_block *block);
 
