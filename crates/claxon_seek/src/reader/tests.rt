@@ -221,7 +221,7 @@ fn head_in_memory(rt: HostRuntime) -> std::result::Result<(), Fail> {
     let comment = comment.ok_or("comment")?;
     assert_eq!(rt; comment.vendor.as_str(), "abc");
     assert_eq!(rt; comment.comments.len(), 1);
-    let cut = head_at_start(rt.alloc(), &bytes[..69], &mut taken);
+    let cut = head_at_start(rt.alloc(), &HEAD[..69], &mut taken);
     assert!(rt; matches!(cut, Err(Error::IoError(_))));
     Ok(())
 }
