@@ -43,6 +43,11 @@ TAG = ROWS["an ID3v2 tag"]
 COLUMNS = "path, size, changed, verdict, samples, md5, byte, sample, damage, places, parts, version"
 
 
+def setUpModule() -> None:
+    # In the background of a shell it may be ignored, and then by the processes that are started too.
+    signal.signal(signal.SIGINT, signal.default_int_handler)
+
+
 class Ended(NamedTuple):
     status: int
     output: bytes
