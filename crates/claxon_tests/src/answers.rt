@@ -3,9 +3,9 @@ use crate::doubles::sinks::Sink;
 use claxon::frame::{FrameReader, FrameResult};
 use claxon::input::ReadBytes;
 use claxon::{Error, FlacReader, FlacSamples};
-use claxon_tools::progress::files::FileProgress;
-use claxon_tools::report::Report;
-use claxon_tools::verify::verify;
+use claxon_command_line::progress::Progress;
+use claxon_verify::report::Report;
+use claxon_verify::verify;
 use std::alloc::{AllocError, AllocFailed, Allocator, Global};
 use std::io::{ErrorKind, Read};
 
@@ -207,7 +207,7 @@ pub fn report_of<R: ReadBytes, A: Allocator + Copy>(
     computes_md5: bool,
 ) -> claxon::Result<Report<A>> {
     let mut errors = Sink::new(0, 0, false, ErrorKind::Other);
-    let mut progress = FileProgress::new(&mut errors, None);
+    let mut progress = Progress::new(&mut errors, None);
     let report = verify(alloc, input, computes_md5, &mut progress);
     progress.clear();
     report

@@ -1,0 +1,6 @@
+//! What is said of a stream that was verified: the verdict, lines of text and JSON objects.
+#![tactic(auto)]
+
+pub mod json_report;
+pub mod text;
+pub mod verdict;

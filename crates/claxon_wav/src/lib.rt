@@ -1,0 +1,15 @@
+//! WAV files, and FLAC streams that are converted to them.
+#![tactic(auto)]
+
+mod blocks;
+mod conversion;
+mod error;
+mod header;
+mod samples;
+mod writer;
+
+pub use blocks::{convert, convert_to_stream};
+pub use conversion::{Conversion, Plan, write_file, write_stream};
+pub use error::{Error, Result};
+pub use header::{Layout, MAX_DATA_SIZE};
+pub use writer::WavWriter;
