@@ -12,7 +12,7 @@ pub mod FirstBytes
 -- The header of a decoded frame, among the bytes that are kept.
 pub mod KeptHeaders
 -- The order of the frames of a stream.
-pub mod Order
+pub mod FrameOrder
 -- Frames and faults that are found, one after another.
 pub mod Walking
 -- A whole stream: its head, and what was found after it.

@@ -39,7 +39,7 @@ use Rattle.claxon_verify.specs.declared.order.Order.{Order}
 use Rattle.claxon_verify.specs.declared.walk.Walk.{Walk}
 use Rattle.claxon_verify.proofs.BlockReads.{BlockIsRead, IfConsumed, block_read}
 use Rattle.claxon_verify.proofs.FramesAndFaults.{frames_of_all, parts_front, parts_push}
-use Rattle.claxon_verify.proofs.Order.{IsOrderAfter, in_order_push, order_after}
+use Rattle.claxon_verify.proofs.FrameOrder.{IsOrderAfter, in_order_push, order_after}
 
 -- ---- the position
 
