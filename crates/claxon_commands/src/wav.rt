@@ -155,7 +155,7 @@ fn convert_file<Q: Files + AllocGlobal, I: Read + Copy, W: Write + Drop, E: Writ
         Ok(mut flac) => {
             let info = flac.streaminfo();
             let total = if request.shows_progress { info.samples } else { None };
-            let mut progress = Progress::new(errors, total);
+            let mut progress = Progress::new(errors, label);
             let outcome = write_wav(rt, request, to, &mut flac, output, &mut progress);
             progress.end();
             conversion_status(rt.alloc(), request.from, to, &info, outcome, errors)
@@ -174,7 +174,7 @@ fn write_wav<Q: Files + AllocGlobal, R: Read + Drop, W: Write + Drop, E: Write>(
     to: &str,
     flac: &mut FlacReader<R>,
     output: W,
-    progress: &mut Progress<'_, E>,
+    progress: &mut Progress<'_, '_, E>,
 ) -> Result<Conversion>
     requires { flac_metadata_only flac.old ≡ false }
     ensures verdict_is_sound { VerdictIsSound request.entry.computes_md5 R.remaining flac.old

@@ -1,11 +1,14 @@
 //! What is printed of a file that was verified, as JSON (RFC 8259).
 use crate::text::{notes, place_text};
 use crate::verdict::Verdict;
+use claxon::Error;
 use claxon_command_line::json::push_json_string;
 use claxon_command_line::messages::{Part, error_text};
 use claxon_verify::report::{Md5Verdict, Place, Report};
-use claxon::Error;
 use std::alloc::{AllocError, Global};
+
+#[cfg(test)]
+mod tests;
 
 /// The object of a file with a report, and a line feed.
 pub fn report_object(

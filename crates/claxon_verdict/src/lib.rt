@@ -2,5 +2,7 @@
 #![tactic(auto)]
 
 pub mod json_report;
+#[cfg(test)]
+mod reports;
 pub mod text;
 pub mod verdict;

@@ -1,9 +1,11 @@
 //! Reports for the tests of what is printed.
-use claxon_verify::frames::{FirstBytes, FrameError};
-use claxon_verify::report::{Damage, Found, Gap, Md5Verdict, Notes, Place, Places, Report, Trailing};
 use claxon::Error;
 use claxon::crc::RunningCrc;
 use claxon::metadata::StreamInfo;
+use claxon_verify::frames::{FirstBytes, FrameError};
+use claxon_verify::report::{
+    Damage, Found, Gap, Md5Verdict, Notes, Place, Places, Report, Trailing,
+};
 use std::alloc::{AllocError, Global};
 
 const INFO: StreamInfo = StreamInfo {

@@ -10,16 +10,23 @@ ghost use Rattle.claxon_verdict.specs.Verdict.{
 ghost use Rattle.claxon_command_line.specs.Text.{IsText};
 
 use crate::verdict::Verdict;
-use claxon_verify::frames::{FrameError, UNSUPPORTED_32_BIT};
-use claxon_command_line::messages::{Part, error_text};
-use claxon_verify::report::{Damage, Found, Gap, Md5Verdict, Place, Places, Report, Trailing};
-use claxon_command_line::text::count_text;
 use claxon::Error;
 use claxon::metadata::StreamInfo;
+use claxon_command_line::messages::{Part, error_text};
+use claxon_command_line::text::count_text;
+use claxon_verify::frames::{FrameError, UNSUPPORTED_32_BIT};
+use claxon_verify::report::{Damage, Found, Gap, Md5Verdict, Place, Places, Report, Trailing};
 use std::alloc::{AllocError, Global};
 
+#[cfg(test)]
+mod tests;
+
 /// The line of a file with a report, without its name.
-pub fn verdict_text(alloc: Global, report: &Report, verdict: Verdict) -> Result<String, AllocError> {
+pub fn verdict_text(
+    alloc: Global,
+    report: &Report,
+    verdict: Verdict,
+) -> Result<String, AllocError> {
     match verdict {
         Verdict::Right => right_text(alloc, report),
         Verdict::NotSupported(reason) => format!(in alloc; "not supported, {reason}"),

@@ -13,10 +13,10 @@ ghost use Rattle.claxon_verdict.specs.Verdict.{
   status_of,
 };
 
-use claxon_verify::frames::FrameError;
-use claxon_verify::report::{Damage, Report};
 use claxon::Error;
 use claxon::metadata::StreamInfo;
+use claxon_verify::frames::FrameError;
+use claxon_verify::report::{Damage, Report};
 use std::io::ErrorKind;
 
 /// What is said of a file.

@@ -3,14 +3,10 @@ use Rattle.std.specs.Prelude.{
   ◌≡◌,
   ℕ,
   Bool,
-  Err,
   IfOk,
   List,
-  None,
-  Ok,
   Option,
   Result,
-  Some,
   false,
   true,
 }
@@ -25,22 +21,11 @@ use Rattle.claxon_md5.specs.WholeBytes.{whole_bytes_of_samples}
 use Rattle.claxon_write.specs.WriteSamples.{flac_stream}
 use Rattle.claxon_wav.specs.Convert.{IsWholeStream}
 use Rattle.claxon_verify.specs.Verify.{IsMd5Verdict}
-use Rattle.claxon_wav.specs.WaveFile.{IsSizeOf}
 use Rattle.claxon_verify.specs.declared.report.Md5Verdict.{Md5Verdict}
 use Rattle.claxon_verify.specs.declared.report.Md5Verdict.TheVariants.{NotComputed}
 use Rattle.claxon_wav.specs.declared.conversion.Conversion.{Conversion}
-use Rattle.claxon_wav.specs.declared.conversion.Plan.{Plan}
+use Rattle.claxon_wav.specs.declared.plan.Plan.{Plan}
 use Rattle.claxon_wav.specs.declared.error.Error.{Error}
-use Rattle.claxon_wav.specs.declared.error.Error.TheVariants.{TooLong}
-use Rattle.claxon_wav.specs.declared.header.Layout.{Layout}
-
--- The number of bytes of this number of samples: none where that is unknown, and `TooLong` where
--- no WAV file holds them.
-abbrev pub IsAnnounced : Layout → Option ℕ → Result (Option ℕ) Error → Type 0
-IsAnnounced layout None result = result ≡ Ok None
-IsAnnounced layout (Some count) (Ok None) = ⊥
-IsAnnounced layout (Some count) (Ok (Some size)) = IsSizeOf layout count (Some size)
-IsAnnounced layout (Some count) (Err error) = IsSizeOf layout count None × (error ≡ TooLong)
 
 -- whether the MD5 sum is computed
 abbrev pub plan_computes_md5 : Plan → Bool

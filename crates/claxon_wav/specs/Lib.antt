@@ -4,5 +4,6 @@ pub mod WaveFile
 pub mod Convert
 pub mod Samples
 pub mod Writer
+pub mod AnnouncedSize
 pub mod Conversion
 pub mod WavError

@@ -16,15 +16,15 @@ ghost use Rattle.claxon_command_line.specs.Progress.{SameErrors, StaysQuiet};
 ghost use Rattle.claxon_verify.specs.Walk.{HashesToo};
 ghost use Rattle.claxon_wav.specs.Writer.{SameOutput};
 
-use claxon_verify::frames::read_block;
-use claxon_verify::hashing::hash_block;
-use claxon_command_line::progress::Progress;
 use crate::error::Result;
 use crate::writer::WavWriter;
 use claxon::input::ReadBytes;
 use claxon::metadata::StreamInfo;
 use claxon::{Block, FlacReader};
+use claxon_command_line::progress::Progress;
 use claxon_md5::Md5;
+use claxon_verify::frames::read_block;
+use claxon_verify::hashing::hash_block;
 use std::alloc::{Allocator, Global};
 use std::io::{Read, Seek, Write};
 
@@ -39,7 +39,7 @@ pub fn convert<R: Read + Drop, W: Write + Seek, E: Write>(
     flac: &mut FlacReader<R>,
     wav: &mut WavWriter<'_, W>,
     md5: &mut Option<Md5>,
-    progress: &mut Progress<'_, E>,
+    progress: &mut Progress<'_, '_, E>,
 ) -> Result<()>
     requires { flac_metadata_only flac.old ≡ false }
     ensures same_output { SameOutput wav.old wav.new }
@@ -71,7 +71,7 @@ pub fn convert_to_stream<R: Read + Drop, W: Write, E: Write>(
     flac: &mut FlacReader<R>,
     wav: &mut WavWriter<'_, W>,
     md5: &mut Option<Md5>,
-    progress: &mut Progress<'_, E>,
+    progress: &mut Progress<'_, '_, E>,
 ) -> Result<()>
     requires { flac_metadata_only flac.old ≡ false }
     ensures same_output { SameOutput wav.old wav.new }
@@ -100,7 +100,7 @@ fn put_blocks<R: ReadBytes, W: Write, E: Write>(
     info: StreamInfo,
     wav: &mut WavWriter<'_, W>,
     md5: &mut Option<Md5>,
-    progress: &mut Progress<'_, E>,
+    progress: &mut Progress<'_, '_, E>,
 ) -> Result<()>
     requires min_bit_depth { 1 ≤ info.bits_per_sample }
     requires max_bit_depth { info.bits_per_sample ≤ 32 }

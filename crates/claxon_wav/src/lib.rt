@@ -5,11 +5,13 @@ mod blocks;
 mod conversion;
 mod error;
 mod header;
+mod plan;
 mod samples;
 mod writer;
 
 pub use blocks::{convert, convert_to_stream};
-pub use conversion::{Conversion, Plan, write_file, write_stream};
+pub use conversion::{Conversion, write_file, write_stream};
 pub use error::{Error, Result};
 pub use header::{Layout, MAX_DATA_SIZE};
+pub use plan::Plan;
 pub use writer::WavWriter;

@@ -1,9 +1,9 @@
 //! The objects of files, as RFC 8259 has them.
-use super::super::samples::{more_places, other_sum, unusual, wide};
-use super::super::verdict::Verdict;
 use super::{end_text, error_object, object, report_object};
-use claxon_verify::report::{Report, Trailing};
+use crate::reports::{more_places, other_sum, unusual, wide};
+use crate::verdict::Verdict;
 use claxon::Error;
+use claxon_verify::report::{Report, Trailing};
 use std::alloc::{AllocError, Global};
 use std::test::Fail;
 

@@ -1,15 +1,15 @@
 //! The lines about files.
-use super::super::samples::{more_places, one_place, other_sum, right, short, unusual, wide};
-use super::super::verdict::Verdict;
-use super::{damage_text, head_text, left_out_line, place_line, report_text, trailing_text};
-use claxon_verify::report::{Damage, Gap, Report, Trailing};
+use super::{damage_text, head_text, left_out_line, place_line, trailing_text, verdict_text};
+use crate::reports::{more_places, one_place, other_sum, right, short, unusual, wide};
+use crate::verdict::Verdict;
 use claxon::Error;
+use claxon_verify::report::{Damage, Gap, Report, Trailing};
 use std::alloc::{AllocError, Global};
 use std::test::Fail;
 
 fn said(alloc: Global, report: Report) -> Result<String, AllocError> {
     let verdict = Verdict::of_report(&report);
-    report_text(alloc, &report, verdict)
+    verdict_text(alloc, &report, verdict)
 }
 
 #[test]

@@ -8,11 +8,11 @@ use Rattle.claxon.proofs.SamplesInTurn.{reads_as}
 use Rattle.claxon_verify.specs.Frames.{TellsOf32Bits, answer_of}
 use Rattle.claxon_verify.specs.declared.frames.FrameError.{FrameError}
 use Rattle.claxon_wav.proofs.Converting.{block_takes, hashed_all, hashed_more, hashed_none, stops_at_block, stops_at_fault}
-use Rattle.claxon_command_line.proofs.Showing.{shown_quietly}
+use Rattle.claxon_command_line.proofs.Showing.{shown_quietly, shown_total_same}
 use Rattle.claxon_wav.proofs.blocks.put_blocks.Goals as goal
 
 pub loop-block-init : goal.loop-block-init
-loop-block-init g c = record { reference = refl; so_far = hashed_none c.args.info.bits_per_sample (bytes_in g.R.ReadBytes.source c.args.input.now) c.args.wav.now c.args.md5.now; errors = refl; quiet = λ none. (refl, refl); total = refl }
+loop-block-init g c = record { reference = refl; so_far = hashed_none c.args.info.bits_per_sample (bytes_in g.R.ReadBytes.source c.args.input.now) c.args.wav.now c.args.md5.now; errors = refl; quiet = λ none. (refl, refl); shown = refl }
 
 pub loop-block-preserved : goal.loop-block-preserved
 loop-block-preserved g c =
@@ -23,8 +23,8 @@ loop-block-preserved g c =
       reference = p.same_output ∙ v.reference;
       so_far = hashed_more c.in-Some.block v.so_far (reads_as is c.read_block.ensures.is_read) p.is_sound p.fits p.same_header p.unflushed c.hash.ensures.hashes_too;
       errors = c.show.ensures.same_errors ∙ v.errors;
-      quiet = shown_quietly c.args.progress.now c.loop-block.progress c.show.new.self _ v.quiet v.total c.show.ensures.shows_percentage c.show.ensures.writes_only_changes;
-      total = c.show.ensures.shows_percentage.total_is ∙ v.total;
+      quiet = shown_quietly c.args.progress.now c.loop-block.progress c.show.new.self _ v.quiet v.shown c.show.ensures.shows_percentage c.show.ensures.writes_only_changes;
+      shown = shown_total_same c.loop-block.progress c.show.new.self _ c.show.ensures.shows_percentage ∙ v.shown;
     }
 
 pub loop-block-smaller : goal.loop-block-smaller
