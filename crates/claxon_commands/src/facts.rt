@@ -16,9 +16,9 @@ ghost use Rattle.claxon_commands.specs.Facts.{
 };
 ghost use Rattle.claxon_command_line.specs.Text.{Adds};
 
-use claxon_command_line::text::{escaped_text, length_text, md5_text, number_text};
 use claxon::FlacReader;
 use claxon::metadata::{StreamInfo, Tags};
+use claxon_command_line::text::{escaped_text, length_text, md5_text, number_text};
 use claxon_write::Output;
 use std::alloc::{AllocError, Allocator};
 use std::io::{Read, Write};

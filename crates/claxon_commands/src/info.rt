@@ -1,10 +1,10 @@
 //! The command `info`: the facts in the head of FLAC files.
-use claxon_command_line::arguments::Operands;
 use crate::facts::write_facts;
 use crate::program::Program;
+use claxon::{Error, FlacReader, Result};
+use claxon_command_line::arguments::Operands;
 use claxon_command_line::input::{STANDARD, open_input};
 use claxon_command_line::messages::{Part, line, print_error};
-use claxon::{Error, FlacReader, Result};
 use claxon_write::{Output, open_head};
 use std::alloc::Global;
 use std::io::{Read, Write};

@@ -8,8 +8,8 @@ pub mod trace;
 pub mod verify;
 pub mod wav;
 
-use claxon_command_line::arguments::{Argument, Arguments, Notice};
 use crate::program::Program;
+use claxon_command_line::arguments::{Argument, Arguments, Notice};
 use claxon_command_line::status;
 pub use facts::write_facts;
 use std::alloc::{AllocError, Global};

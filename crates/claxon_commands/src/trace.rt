@@ -1,17 +1,17 @@
 //! The command `trace`: the result of each call of the decoder for a file, going on after errors.
 ghost use Rattle.std.specs.Prelude.{◌≤◌};
 
-use claxon_command_line::arguments::{Argument, Arguments, Notice};
-use claxon_command_line::fnv::{OFFSET_BASIS, hash_on};
 use crate::program::Program;
-use claxon_command_line::input::{STANDARD, open_input};
-use claxon_command_line::messages::{Part, print_error, print_message};
-use claxon_command_line::result_text::ResultText;
-use claxon_command_line::text::count_text;
 use claxon::frame::FrameReader;
 use claxon::input::ReadBytes;
 use claxon::metadata::StreamInfo;
 use claxon::{Block, Error, FlacReader, Result};
+use claxon_command_line::arguments::{Argument, Arguments, Notice};
+use claxon_command_line::fnv::{OFFSET_BASIS, hash_on};
+use claxon_command_line::input::{STANDARD, open_input};
+use claxon_command_line::messages::{Part, print_error, print_message};
+use claxon_command_line::result_text::ResultText;
+use claxon_command_line::text::count_text;
 use std::alloc::{AllocError, Allocator, Global};
 use std::io::{BufWriter, Read, Write};
 use std::result;

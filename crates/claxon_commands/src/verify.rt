@@ -2,11 +2,12 @@
 use crate::program::Program;
 use claxon::Error;
 use claxon::input::BufferedReader;
+use claxon_command_line::arguments::Operands;
 use claxon_command_line::folders::{add_contents, is_folder, is_real_folder};
 use claxon_command_line::input::{Input, STANDARD, open_input};
 use claxon_command_line::messages::{Part, print_error, shown_name};
 use claxon_command_line::names::{escaped_bytes, read_name};
-use claxon_command_line::progress::{Progress, Position, file_label};
+use claxon_command_line::progress::{Position, Progress, file_label};
 use claxon_verdict::verdict::Outcome;
 use claxon_verify::report::Report;
 use claxon_verify::verify;
@@ -18,7 +19,7 @@ use std::str;
 pub mod options;
 mod print;
 
-use options::{NamedFiles, Operands, Options, VerifyRequest, parse};
+use options::{NamedFiles, Options, VerifyRequest, parse};
 use print::{print_failure, print_report, print_unread};
 
 /// What the command says about itself.
@@ -27,10 +28,10 @@ pub const PROGRAM: Program = Program {
     arguments: "[--no-md5] [--brief] [--json] [-q] [-r] [--files0-from FILE] [--] FILE..",
     commands: &[],
     help: "Decodes FLAC files to their ends and says of each, in a line, whether it is
-right: every frame can be decoded, none is missing or there twice, all agree
-with the streaminfo, and so do the number of samples and their MD5 sum. After
-a fault decoding goes on with the bytes behind it. A file that isn't right has
-a line for each place that isn't: its bytes, its samples and what is wrong. A
+right: every frame can be decoded, none is missing or repeated, all agree with
+the streaminfo, and so do the number of samples and their MD5 sum. After a
+fault decoding goes on with the bytes after it. A file that isn't right has a
+line for each place that isn't: its bytes, its samples and what is wrong. A
 file that the format allows and claxon doesn't decode, as one with an ID3v2 tag
 in front, is not supported, and not wrong.
 

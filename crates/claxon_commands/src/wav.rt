@@ -154,8 +154,13 @@ fn convert_file<Q: Files + AllocGlobal, I: Read + Copy, W: Write + Drop, E: Writ
     match opened {
         Ok(mut flac) => {
             let info = flac.streaminfo();
-            let total = if request.shows_progress { info.samples } else { None };
+            let label = if request.shows_progress {
+                Some("")
+            } else {
+                None
+            };
             let mut progress = Progress::new(errors, label);
+            progress.start(info.samples);
             let outcome = write_wav(rt, request, to, &mut flac, output, &mut progress);
             progress.end();
             conversion_status(rt.alloc(), request.from, to, &info, outcome, errors)
