@@ -40,7 +40,7 @@ rest_shorter bs faulty =
     let invalid = invalid_len_positive (drop n bs) (omega (arith, length-drop n bs)) in
     omega (arith, length-drop (n + utf8_invalid_len (drop n bs)) bs)
 
--- the front of a name, and the bytes behind it that aren't UTF-8
+-- the front of a name, and the bytes after it that aren't UTF-8
 abbrev front_text : List ℕ → List ℕ
 front_text bs = escaped_text (take (utf8_valid_len bs) bs)
 
@@ -88,8 +88,8 @@ part_with_fault bs valid invalid rest parts valid_len invalid_len some =
     let total = ap length parts ∙ length-append valid (invalid ++ rest) in
     let faulty : n ≡ length bs → ⊥ = omega (arith, length-append invalid rest) in
     let front : take n bs ≡ valid = ap (take n) parts ∙ take_at valid _ n valid_len in
-    let behind : drop n bs ≡ invalid ++ rest = ap (drop n) parts ∙ drop_at valid _ n valid_len in
-    let middle : take m (drop n bs) ≡ invalid = ap (take m) behind ∙ take_at invalid rest m invalid_len in
+    let after : drop n bs ≡ invalid ++ rest = ap (drop n) parts ∙ drop_at valid _ n valid_len in
+    let middle : take m (drop n bs) ≡ invalid = ap (take m) after ∙ take_at invalid rest m invalid_len in
     let both_len : length (valid ++ invalid) ≡ n + m = omega (arith, length-append valid invalid) in
     let back : after_first_chunk bs ≡ rest = ap (drop (n + m)) (parts ∙ sym (append_assoc valid invalid rest)) ∙ drop_at _ rest _ both_len in
     fault_step bs faulty ∙ (λ i. escaped_text (front i) ++ (hex_escapes (middle i) ++ escaped_bytes (back i)))

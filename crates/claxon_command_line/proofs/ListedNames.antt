@@ -32,7 +32,7 @@ takes_both {a} {b} {c} {xs} {ys} h k = record {
   empty_reads = k.empty_reads ∙ h.empty_reads;
 }
 
--- What was read: empty names, and the bytes of one behind them.
+-- What was read: empty names, and the bytes of one after them.
 pub record NameSoFar {A : Type 0} (source : A → Source ℕ) (old new : A) (name : List ℕ) : Type 0 where
   pub bytes : List ℕ
   pub begins : BeginsName bytes name
@@ -76,7 +76,7 @@ module _ {A : Type 0} (source : A → Source ℕ) (a : A) where
   pub input_ends : (b c : A) (name : List ℕ) → NameSoFar source a b name → MeetsEof (source b) (source c) 1 → EndsWithInput source a c name
   input_ends b c name h e = record { middle = source b; bytes = h.bytes; begins = h.begins; taken = h.taken; meets_eof = e }
 
-  -- the end of the input, behind a name or not
+  -- the end of the input, after a name or not
   pub at_end : (b c : A) (name : List ℕ) (is_empty : Bool) → is_empty ≡ (length name == 0) → NameSoFar source a b name → MeetsEof (source b) (source c) 1 → ListedNameIsRead source a (not is_empty) c name
   at_end b c [] is_empty is h e = subst (λ (z : Bool). ListedNameIsRead source a (not z) c []) (sym is) (refl, input_ends b c [] h e)
   at_end b c (x ∷ xs) is_empty is h e = subst (λ (z : Bool). ListedNameIsRead source a (not z) c (x ∷ xs)) (sym (is ∙ ne_eqb (length (x ∷ xs)) 0 (omega arith))) ((λ p. absurd cc), inr (input_ends b c (x ∷ xs) h e))

@@ -33,7 +33,7 @@ use Rattle.claxon_command_line.specs.Text.{escaped_text, hex_byte}
 abbrev pub HasNoZero : List ℕ → Type 0
 HasNoZero name = All (λ b. b ≢ 0) name
 
--- zero bytes, which end empty names, and the bytes of a name behind them
+-- zero bytes, which end empty names, and the bytes of a name after them
 pub record BeginsName (bytes name : List ℕ) : Type 0 where
   pub empty_names : ℕ
   pub bytes_are : bytes ≡ replicate empty_names 0 ++ name
@@ -71,7 +71,7 @@ ReadNameIsSound source old r new name = IfOk r (λ found. ListedNameIsRead sourc
 abbrev pub hex_escapes : List ℕ → List ℕ
 hex_escapes bytes = flat_map (λ b. codes "\\x" ++ hex_byte b) bytes
 
--- a name as text where it is UTF-8; or else its front as text, the bytes behind that, which aren't
+-- a name as text where it is UTF-8; or else its front as text, the bytes after that, which aren't
 -- UTF-8, by their numbers, and the rest in the same way, for at most k such parts
 abbrev pub escaped_within : ℕ → List ℕ → List ℕ
 escaped_within zero name = escaped_text name

@@ -1,22 +1,14 @@
 //! Command lines of `claxon`: its commands, its help, and what asks for none.
-use crate::answers::{FRAME, head, joined};
-use crate::commands::owned;
-use crate::doubles::sinks::Sink;
+use claxon_tests::answers::{FRAME, head, joined};
+use claxon_tests::command_lines::{Outcome, is_outcome, owned};
+use claxon_tests::doubles::sinks::Sink;
 use claxon_commands::command;
 use claxon_commands::PROGRAM;
 use claxon_commands::program::VERSION;
 use std::io::ErrorKind;
 use std::test::Fail;
 
-// What a command line came to.
-#[derive(Drop)]
-struct Outcome {
-    status: u8,
-    output: Vec<u8>,
-    errors: Vec<u8>,
-}
-
-// The same, with these bytes in standard input.
+// What a command line came to, with these bytes in standard input.
 fn outcome_of(rt: &HostRuntime, words: &[&str], input: &[u8]) -> Result<Outcome, Fail> {
     let words = owned(rt.alloc(), words)?;
     let (mut output, mut errors) = (Vec::new(rt.alloc()), Vec::new(rt.alloc()));
@@ -29,9 +21,7 @@ fn outcome_of(rt: &HostRuntime, words: &[&str], input: &[u8]) -> Result<Outcome,
 }
 
 fn is(outcome: &Outcome, status: u8, output: &str, errors: &str) -> bool {
-    outcome.status == status
-        && outcome.output.as_slice() == output.as_bytes()
-        && outcome.errors.as_slice() == errors.as_bytes()
+    is_outcome(outcome, status, output.as_bytes(), errors.as_bytes())
 }
 
 // Command lines that ask for no command, and the line before the usage line.

@@ -2,10 +2,10 @@
 ghost use Rattle.std.specs.Prelude.{◌≡◌, false};
 ghost use Rattle.claxon.specs.FlacReader.{flac_metadata_only};
 
-use crate::answers::{DEEP_FRAME, joined};
-use crate::commands::owned;
-use crate::doubles::sinks::{ByteCounter, Sink};
-use crate::files::{file_of, path_of};
+use claxon_tests::answers::{DEEP_FRAME, joined};
+use claxon_tests::command_lines::owned;
+use claxon_tests::doubles::sinks::{ByteCounter, Sink};
+use claxon_tests::temporary_files::{file_of, path_of};
 use claxon::FlacReader;
 use claxon::frame::FrameReader;
 use claxon_commands::wav::command;

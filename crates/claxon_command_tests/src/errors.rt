@@ -1,5 +1,5 @@
 //! Errors and values as `Display` and `Debug` print them.
-use crate::answers::two_frames;
+use claxon_tests::answers::two_frames;
 use claxon::{Error, FlacReader, FlacReaderOptions};
 use claxon_wav as wav;
 use std::alloc::{AllocError, Global};

@@ -1,23 +1,15 @@
 //! Command lines of `claxon info`.
-use crate::answers::{FRAME, head, joined};
-use crate::commands::owned;
-use crate::doubles::sinks::Sink;
-use crate::files::file_of;
+use claxon_tests::answers::{FRAME, head, joined};
+use claxon_tests::command_lines::{Outcome, is_outcome, owned};
+use claxon_tests::doubles::sinks::Sink;
+use claxon_tests::temporary_files::file_of;
 use claxon_commands::info::command;
 use claxon_commands::program::VERSION;
 use std::io::ErrorKind;
 use std::test::Fail;
 use std::{env, fs};
 
-// What a command line came to.
-#[derive(Drop)]
-struct Outcome {
-    status: u8,
-    output: Vec<u8>,
-    errors: Vec<u8>,
-}
-
-// The same, with these bytes in standard input.
+// What a command line came to, with these bytes in standard input.
 fn outcome_of(rt: &HostRuntime, words: &[&str], input: &[u8]) -> Result<Outcome, Fail> {
     let words = owned(rt.alloc(), words)?;
     let (mut output, mut errors) = (Vec::new(rt.alloc()), Vec::new(rt.alloc()));
@@ -30,9 +22,7 @@ fn outcome_of(rt: &HostRuntime, words: &[&str], input: &[u8]) -> Result<Outcome,
 }
 
 fn is(outcome: &Outcome, status: u8, output: &str, errors: &str) -> bool {
-    outcome.status == status
-        && outcome.output.as_slice() == output.as_bytes()
-        && outcome.errors.as_slice() == errors.as_bytes()
+    is_outcome(outcome, status, output.as_bytes(), errors.as_bytes())
 }
 
 // Command lines that open no file, what is in standard input, and what they come to.

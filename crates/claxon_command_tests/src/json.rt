@@ -1,5 +1,5 @@
 //! Strings of JSON, from RFC 8259, section 7.
-use super::push_json_string;
+use claxon_command_line::json::push_json_string;
 use std::test::Fail;
 
 const ROWS: [(&str, &str); 9] = [

@@ -1,5 +1,5 @@
 //! Names that end with zero bytes, and names that aren't UTF-8.
-use super::{escaped_bytes, read_name};
+use claxon_command_line::names::{escaped_bytes, read_name};
 use std::io::Cursor;
 use std::test::Fail;
 

@@ -1,5 +1,5 @@
 //! The lines of files that are verified.
-use super::{Progress, Position, file_label};
+use claxon_command_line::progress::{Position, Progress, file_label};
 use std::test::Fail;
 
 const LONG: &str = "0123456789/0123456789/0123456789/0123456789/0123456789/\u{e9}ab.flac";

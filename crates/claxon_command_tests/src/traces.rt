@@ -1,7 +1,7 @@
 //! Command lines of `claxon trace`.
-use crate::answers::{FRAME, head, joined};
-use crate::commands::owned;
-use crate::doubles::sinks::Sink;
+use claxon_tests::answers::{FRAME, head, joined};
+use claxon_tests::command_lines::owned;
+use claxon_tests::doubles::sinks::Sink;
 use claxon_commands::trace::command;
 use std::alloc::Global;
 use std::io::ErrorKind;

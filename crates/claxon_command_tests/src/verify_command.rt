@@ -1,5 +1,5 @@
 //! Command lines of `claxon verify` with an input in memory: what is printed, and the status.
-use super::command;
+use claxon_commands::verify::command;
 use std::alloc::{AllocError, Global};
 use std::test::Fail;
 

@@ -1,5 +1,5 @@
 //! Command lines of `claxon verify`.
-use super::{NamedFiles, Options, parse};
+use claxon_commands::verify::options::{NamedFiles, Options, parse};
 use claxon_command_line::arguments::Notice;
 use std::alloc::{AllocError, Global};
 use std::test::Fail;

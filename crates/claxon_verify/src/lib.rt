@@ -41,7 +41,7 @@ pub mod hashing;
 mod order;
 mod places;
 pub mod report;
-mod trailing;
+pub mod trailing;
 mod walk;
 
 // The number of bytes that were read, modulo 2^64. A reader keeps it as it keeps a CRC.

@@ -47,12 +47,12 @@ pub struct Places<A: Allocator = Global> {
 pub struct Place {
     /// The byte at which it begins, modulo 2^64. The first byte of the stream is 0.
     pub start_byte: u64,
-    /// The byte behind it: that of the next frame, or the length of the stream.
+    /// The byte after it: that of the next frame, or the length of the stream.
     pub end_byte: u64,
     /// The number of its first sample, in the stream that was encoded, as far as that is known: of the first place, how many
     /// samples of each channel are before it.
     pub start_sample: u64,
-    /// The number, in the stream that was encoded, of the first sample behind it, as far as that is known.
+    /// The number, in the stream that was encoded, of the first sample after it, as far as that is known.
     pub end_sample: u64,
     /// What is wrong.
     pub damage: Damage,

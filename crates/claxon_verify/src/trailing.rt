@@ -6,25 +6,25 @@ use std::io::ErrorKind;
 
 /// What is kept of bytes that are no frame: the first eight, and whether all are zeros.
 #[derive(Clone, Copy, Debug)]
-pub(crate) struct BytesBehind {
+pub struct BytesAfter {
     first: [u8; 8],
     seen: usize,
     are_zeros: bool,
 }
 
-impl BytesBehind {
+impl BytesAfter {
     /// No bytes.
-    pub fn new() -> BytesBehind {
-        BytesBehind {
+    pub fn new() -> BytesAfter {
+        BytesAfter {
             first: [0; 8],
             seen: 0,
             are_zeros: true,
         }
     }
 
-    /// The first of more bytes, behind the others.
-    pub fn with(self, more: FirstBytes) -> BytesBehind {
-        let BytesBehind {
+    /// The first of more bytes, after the others.
+    pub fn with(self, more: FirstBytes) -> BytesAfter {
+        let BytesAfter {
             mut first,
             mut seen,
             are_zeros,
@@ -35,16 +35,16 @@ impl BytesBehind {
                 seen += 1;
             }
         }
-        BytesBehind {
+        BytesAfter {
             first,
             seen,
             are_zeros: are_zeros && more.are_zeros(),
         }
     }
 
-    /// One byte more, behind the others.
-    pub fn with_byte(self, byte: u8) -> BytesBehind {
-        BytesBehind {
+    /// One byte more, after the others.
+    pub fn with_byte(self, byte: u8) -> BytesAfter {
+        BytesAfter {
             are_zeros: self.are_zeros && byte == 0,
             ..self
         }

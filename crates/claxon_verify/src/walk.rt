@@ -17,7 +17,7 @@ ghost use Rattle.claxon_verify.specs.Walk.{
 
 use crate::order::Order;
 use crate::places::PlacesSoFar;
-use crate::trailing::{BytesBehind, is_no_sync_code, is_of_bytes};
+use crate::trailing::{BytesAfter, is_no_sync_code, is_of_bytes};
 use crate::frames::{DecodedFrame, FrameError};
 use crate::hashing::hash_block;
 use crate::report::{Damage, Notes, Place, Trailing};
@@ -42,13 +42,13 @@ pub(crate) struct Walk<A: Allocator> {
     pub sample: u64,
     /// The hasher of the samples, if they are hashed.
     pub md5: Option<Md5>,
-    /// The position behind the last bytes that were read.
+    /// The position after the last bytes that were read.
     pub end: u64,
     /// What is kept of the bytes after the last frame.
-    pub behind: BytesBehind,
+    pub after: BytesAfter,
 }
 
-/// Bytes of a stream: the position of the first one, and that behind the last.
+/// Bytes of a stream: the position of the first one, and that after the last.
 #[derive(Clone, Copy)]
 pub(crate) struct ByteRange {
     pub start: u64,
@@ -77,7 +77,7 @@ impl<A: Allocator> Walk<A> {
             sample: 0,
             md5: if computes_md5 { Some(Md5::new()) } else { None },
             end: 0,
-            behind: BytesBehind::new(),
+            after: BytesAfter::new(),
         }
     }
 }
@@ -112,7 +112,7 @@ pub(crate) fn with_frame<A: Allocator, B: Allocator>(
         sample,
         md5,
         end: _,
-        behind: _,
+        after: _,
     } = walk;
     let damage = order.damage(&info, &frame.info);
     let start = sample_after(sample, &damage, &info, &frame.info);
@@ -127,7 +127,7 @@ pub(crate) fn with_frame<A: Allocator, B: Allocator>(
         sample: start.saturating_add(u64::from(duration)),
         md5: hashed(md5, &frame.block, info.bits_per_sample),
         end: span.end,
-        behind: BytesBehind::new(),
+        after: BytesAfter::new(),
     })
 }
 
@@ -243,11 +243,11 @@ pub(crate) fn with_fault<A: Allocator>(
     let Walk {
         places,
         sample,
-        behind,
+        after,
         ..
     } = walk;
     Ok(Walk {
-        behind: behind.with(fault.first),
+        after: after.with(fault.first),
         end: span.end,
         places: places.with(Place {
             start_byte: span.start,
@@ -268,22 +268,22 @@ pub(crate) fn at_end<A: Allocator>(walk: Walk<A>, span: ByteRange, last: u8) -> 
     let Walk {
         places,
         notes,
-        behind,
+        after,
         ..
     } = walk;
     let is_left = span.start != span.end;
-    let is_behind_fault = places.has_fault_before(span.start);
+    let is_after_fault = places.has_fault_before(span.start);
     Walk {
         places: places.longer(span.start, span.end),
         notes: Notes {
-            has_byte_left: is_left && !is_behind_fault,
+            has_byte_left: is_left && !is_after_fault,
             ..notes
         },
         end: span.end,
-        behind: if is_left {
-            behind.with_byte(last)
+        after: if is_left {
+            after.with_byte(last)
         } else {
-            behind
+            after
         },
         ..walk
     }
@@ -292,15 +292,15 @@ pub(crate) fn at_end<A: Allocator>(walk: Walk<A>, span: ByteRange, last: u8) -> 
 /// What stands after the last frame, if bytes do that are no frame.
 pub(crate) fn trailing<A: Allocator>(walk: &Walk<A>, info: &StreamInfo) -> Option<Trailing> {
     let last = walk.places.fault_before(walk.end)?;
-    let is_behind = match info.samples {
+    let is_after = match info.samples {
         Some(samples) => walk.sample == samples,
         None => is_no_sync_code(&last.damage),
     };
-    if !is_behind || !is_of_bytes(&last.damage) {
+    if !is_after || !is_of_bytes(&last.damage) {
         return None;
     }
     let count = walk.end.wrapping_sub(last.start_byte);
-    Some(walk.behind.kind(count))
+    Some(walk.after.kind(count))
 }
 
 fn sum(a: u64, b: u64) -> Result<u64>

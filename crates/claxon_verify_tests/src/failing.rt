@@ -1,7 +1,8 @@
 //! Frames, samples and whole runs over readers that give few bytes, fail or pause.
-use crate::answers::{
+use crate::reports::report_of;
+use claxon_tests::answers::{
     FIVES, FRAME, Fault, Run, Step, answers_each, end_of, fault_of, frames_in_order, joined,
-    report_of, run_of, two_frames,
+    run_of, two_frames,
 };
 use claxon::frame::FrameReader;
 use claxon::input::BufferedReader;

@@ -1,7 +1,7 @@
 //! The MD5 sums of blocks. They are those of Python's `hashlib`, over bytes that its `int.to_bytes` made.
 ghost use Rattle.std.specs.Prelude.{◌≡◌, ◌≤◌};
 
-use super::hash_block;
+use claxon_verify::hashing::hash_block;
 use claxon::Block;
 use claxon::crc::RunningCrc;
 use claxon::frame::FrameReader;

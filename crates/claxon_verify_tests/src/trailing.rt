@@ -1,4 +1,4 @@
-use super::BytesBehind;
+use claxon_verify::trailing::BytesAfter;
 use claxon_verify::frames::FirstBytes;
 use claxon_verify::report::Trailing;
 use claxon::crc::RunningCrc;
@@ -20,7 +20,7 @@ const ROWS: [(&[u8], &[u8], u64, Trailing); 9] = [
 fn kinds(rt: HostRuntime) {
     for (front, back, count, want) in ROWS {
         let [front, back] = [front, back].map(|bytes| FirstBytes::zero().after(bytes));
-        let got = BytesBehind::new().with(front).with(back).kind(count);
+        let got = BytesAfter::new().with(front).with(back).kind(count);
         assert!(rt; is_same(got, want));
     }
 }

@@ -1,10 +1,11 @@
 //! Streams that are verified, and command lines of `claxon verify`.
-use crate::answers::{
-    DEEP_FRAME, FRAME, Fault, PAIRS, SECOND, fault_of, frames_in_order, head, joined, report_of,
+use crate::reports::report_of;
+use claxon_tests::answers::{
+    DEEP_FRAME, FRAME, Fault, PAIRS, SECOND, fault_of, frames_in_order, head, joined,
 };
-use crate::commands::owned;
-use crate::doubles::sinks::Sink;
-use crate::files::{file_of, path_of};
+use claxon_tests::command_lines::owned;
+use claxon_tests::doubles::sinks::Sink;
+use claxon_tests::temporary_files::{file_of, path_of};
 use claxon_commands::verify::command;
 use claxon_command_line::progress::Progress;
 use claxon_verify::report::{Damage, Md5Verdict, Place, Report};
@@ -37,7 +38,7 @@ fn wrong_of(damage: &Damage) -> Wrong {
     }
 }
 
-// The first byte of a place and that behind it, its first sample and that behind it, and what is wrong.
+// The first byte of a place and that after it, its first sample and that after it, and what is wrong.
 type Found = (u64, u64, u64, u64, Wrong);
 
 fn found_of(place: &Place) -> Found {
@@ -153,7 +154,7 @@ const DEEPER: [u8; 12] = [
 
 const NO_SYNC: Wrong = Wrong::Fault(Fault::Format("frame sync code missing"));
 
-// Frames that are whole, but not in order, or disagree with the head or with one another. The last row has zeros behind a frame.
+// Frames that are whole, but not in order, or disagree with the head or with one another. The last row has zeros after a frame.
 const ORDERS: [(&[&[u8]], Said); 8] = [
     (
         &[&FRAME, &FRAME],
@@ -324,8 +325,8 @@ const LINES: [(usize, [bool; 2], u8, &str, &str); 8] = [
         63,
         [false, false],
         1,
-        "wrong, 1 frame, 1 sample, 1 place at byte 53 after 1 sample: 10 bytes behind the last frame",
-        "bytes 53 to 63, samples 1 to 1: 10 bytes behind the last frame",
+        "wrong, 1 frame, 1 sample, 1 place at byte 53 after 1 sample: 10 bytes after the last frame",
+        "bytes 53 to 63, samples 1 to 1: 10 bytes after the last frame",
     ),
     (
         52,
@@ -394,7 +395,7 @@ fn deep_head() -> [u8; 42] {
     bytes
 }
 
-// Headers that are refused at their fourth byte because of a reserved code, behind a frame.
+// Headers that are refused at their fourth byte because of a reserved code, after a frame.
 const REFUSED: [[u8; 4]; 2] = [[0xff, 0xf8, 0x69, 0x06], [0xff, 0xf8, 0x69, 0xbe]];
 
 #[test]

@@ -96,7 +96,7 @@ pub record PutsSamples {W : Type 0} (contents : W → Option (List ℕ)) (blocks
   pub none_failed : NoneFailed old new
   pub unflushed : Unflushed old new
 
--- The interleaved samples of these blocks are hashed too, those of one block behind those of
+-- The interleaved samples of these blocks are hashed too, those of one block after those of
 -- another, if there is a hasher.
 abbrev pub HashesBlocks : ℕ → List Block → Option Md5 → Option Md5 → Type 0
 HashesBlocks bit_depth blocks None new = new ≡ None

@@ -1,32 +1,16 @@
 //! The command of `claxon_raw`: samples and tags of files, and its arguments.
 use crate::answers::{FIVES, FRAME, PAIRS, head, joined, two_frames};
 use crate::doubles::sinks::Sink;
-use crate::files::{file_of, path_of};
-use claxon_write::{command, words};
+use crate::command_lines::{Outcome, is_outcome, owned};
+use crate::temporary_files::{file_of, path_of};
+use claxon_command_line::arguments::words;
+use claxon_write::command;
 use linked_list_allocator::LocalHeap;
-use std::alloc::{AllocError, Global};
 use std::env::FillError;
 use std::fs;
 use std::io::ErrorKind;
 use std::rt::Env;
 use std::test::Fail;
-
-// The outcome of a command line: its status, its output and its errors.
-#[derive(Drop)]
-struct Outcome {
-    status: u8,
-    output: Vec<u8>,
-    errors: Vec<u8>,
-}
-
-/// The arguments of a command line.
-pub fn owned(alloc: Global, words: &[&str]) -> Result<Vec<String>, AllocError> {
-    let mut owned = Vec::new(alloc);
-    for word in words {
-        owned.push(String::from_str(alloc, *word)?)?;
-    }
-    Ok(owned)
-}
 
 fn outcome_of(rt: &HostRuntime, words: &[&str]) -> claxon::Result<Outcome> {
     let owned = owned(rt.alloc(), words)?;
@@ -54,13 +38,6 @@ fn outcome_of_file(
     };
     fs::remove_file(rt, path.as_str())?;
     Ok(outcome?)
-}
-
-// Whether that is the outcome of a command line.
-fn gave(outcome: &Outcome, status: u8, output: &[u8], errors: &[u8]) -> bool {
-    outcome.status == status
-        && outcome.output.as_slice() == output
-        && outcome.errors.as_slice() == errors
 }
 
 // The frame of one sample twice.
@@ -94,7 +71,7 @@ const SAMPLES: [(&[u8], &[u8]); 4] = [
 fn gives_samples(rt: &HostRuntime, frames: &[u8], samples: &[u8]) -> Result<bool, Fail> {
     let bytes = joined(rt.alloc(), &[&head(0x80), frames])?;
     let clean = outcome_of_file(rt, "raw_whole", &bytes, false)?;
-    Ok(gave(&clean, 0, samples, b""))
+    Ok(is_outcome(&clean, 0, samples, b""))
 }
 
 #[test]
@@ -109,7 +86,7 @@ fn files_of_samples(rt: HostRuntime) -> Result<(), Fail> {
 fn damaged_files(rt: HostRuntime) -> Result<(), Fail> {
     let damaged = outcome_of_file(&rt, "raw_damaged", &two_frames(0x59), false)?;
     let text = "Ill-formed FLAC stream: frame CRC mismatch\n";
-    assert!(rt; gave(&damaged, 1, &FIVES[..4], text.as_bytes()));
+    assert!(rt; is_outcome(&damaged, 1, &FIVES[..4], text.as_bytes()));
     Ok(())
 }
 
@@ -152,7 +129,7 @@ fn tags_of_files(rt: HostRuntime) -> Result<(), Fail> {
     for (block, lines) in TAGS {
         let bytes = tagged(rt.alloc(), block)?;
         let tags = outcome_of_file(&rt, "raw_tags", &bytes, true)?;
-        assert!(rt; gave(&tags, 0, lines, b""));
+        assert!(rt; is_outcome(&tags, 0, lines, b""));
     }
     Ok(())
 }
@@ -162,7 +139,7 @@ fn other_arguments(rt: HostRuntime) -> Result<(), Fail> {
     let rows: [&[&str]; 4] = [&[], &["--tags"], &["a", "b"], &["--tags", "a", "b"]];
     for words in rows {
         let usage = outcome_of(&rt, words)?;
-        assert!(rt; gave(&usage, 2, b"", b"usage: claxon_raw [--tags] FILE\n"));
+        assert!(rt; is_outcome(&usage, 2, b"", b"usage: claxon_raw [--tags] FILE\n"));
     }
     Ok(())
 }
