@@ -82,4 +82,6 @@ padding_length x = (8 - length x % 8) % 8
 
 -- a code, and padding up to a byte boundary
 abbrev pub ByteAligned : {A : Type 0} → (A → Bits → Type 0) → A → Bits → Type 0
-ByteAligned C a t = (x : Bits) × (p : Bits) × C a x × (length p ≡ padding_length x) × (t ≡ x ++ p)
+ByteAligned C a t =
+    (x : Bits) × (padding : Bits) × C a x × (length padding ≡ padding_length x)
+    × (t ≡ x ++ padding)
