@@ -47,13 +47,13 @@ fourth_byte (b ∷ c ∷ d ∷ f ∷ u) variable size_code rate_code channels co
 pub code_of_header : (stream : Option StreamFormat) (code : ℕ) (bytes : List ℕ) → BeginsWithBitDepthCode stream code bytes → code_in_bytes bytes ≡ code
 code_of_header stream code bytes (t, rest, (h, ((x, (size_code, rate_code, count, number_bits, size_bits, rate_bits, least, most, rate, channels, depth, reserved, coded, large, size, rate_is, x-is), t-is), bit_depth, side), is), e) =
     let codes = bits 4 size_code ++ bits 4 rate_code in
-    let after = (bits 4 h.fields.channels ++ (bits 3 h.fields.bit_depth_code ++ bits 1 0)) ++ (number_bits ++ (size_bits ++ rate_bits)) in
+    let after = (bits 4 h.fields.channel_code ++ (bits 3 h.fields.bit_depth_code ++ bits 1 0)) ++ (number_bits ++ (size_bits ++ rate_bits)) in
     let start = bits 14 0x3ffe ++ (bits 1 0 ++ bits 1 (bit h.fields.variable)) in
     let crc = bits 8 (crc8 x) in
     let parts : bits_of bytes ≡ start ++ ((codes ++ after) ++ (crc ++ bits_of rest)) =
     ap bits_of e ∙ bits_of-append t rest ∙ ap (λ (q : Bits). q ++ bits_of rest) (t-is ∙ ap (λ (q : Bits). q ++ crc) x-is)
     ∙ append_assoc (start ++ (codes ++ after)) crc (bits_of rest) ∙ append_assoc start (codes ++ after) (crc ++ bits_of rest) in
-    fourth_byte bytes h.fields.variable size_code rate_code h.fields.channels h.fields.bit_depth_code (number_bits ++ (size_bits ++ rate_bits)) (crc ++ bits_of rest) depth parts ∙ sym is
+    fourth_byte bytes h.fields.variable size_code rate_code h.fields.channel_code h.fields.bit_depth_code (number_bits ++ (size_bits ++ rate_bits)) (crc ++ bits_of rest) depth parts ∙ sym is
 
 -- what is shown by it is what the header says
 pub shows_header : (stream : Option StreamFormat) (bytes : List ℕ) (info : BlockInfo) (shown : ClaxonBlock) → ShowsBytes bytes info shown → ShowsInfo stream bytes info shown

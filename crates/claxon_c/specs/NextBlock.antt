@@ -13,7 +13,7 @@ use Rattle.std.specs.Prelude.{
   ◌<◌,
   ◌≤◌,
   ◌==◌,
-  cond,
+  if◌then◌else◌,
   List,
   ◌++◌,
   length,
@@ -83,7 +83,7 @@ BeginsWithBitDepthCode stream code =
 
 -- the bit depth that is shown: 0 under the code 0, which leaves it to the streaminfo
 abbrev pub shown_bit_depth : ℕ → ℕ → ℕ
-shown_bit_depth code bit_depth = cond (code == 0) 0 bit_depth
+shown_bit_depth code bit_depth = if code == 0 then 0 else bit_depth
 
 -- It shows what the header says with which the bytes begin.
 pub record ShowsInfo (stream : Option StreamFormat) (bytes : List ℕ) (info : BlockInfo)

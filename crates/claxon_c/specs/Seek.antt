@@ -203,15 +203,16 @@ module _ (info : ClaxonInfo) (bytes : List ℕ) (sample : ℕ) where
     abbrev pub CSeekBlockIsSound : ℕ → ClaxonBlock → List ℤ → List ℤ → Type 0
     CSeekBlockIsSound to shown old new = status ≡ ok → GivesBlock to shown old new
 
-    -- With `buffer_too_small` such a frame begins at the position, and is shown. It has more samples
-    -- than the capacity.
+    -- With `buffer_too_small` such a frame begins at the position, and is shown. It has more
+    -- samples than the capacity.
     abbrev pub CSeekBlockIsTooLarge : ℕ → ClaxonBlock → ℕ → Type 0
     CSeekBlockIsTooLarge to shown capacity =
         status ≡ buffer_too_small
         → (info.first_frame ≤ to) × ShowsFrame info (Some sample) (drop to bytes) shown
         × (capacity < shown.channels * shown.duration)
 
-    -- If there is one the status is `ok` or `buffer_too_small`, or `over_budget` or `out_of_memory`.
+    -- If there is one the status is `ok` or `buffer_too_small`, or `over_budget` or
+    -- `out_of_memory`.
     abbrev pub CSeekBlockIsComplete : Type 0
     CSeekBlockIsComplete =
         (at : ℕ) (said : BlockInfo) → info.first_frame ≤ at

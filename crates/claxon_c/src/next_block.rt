@@ -112,12 +112,14 @@ pub extern "C" fn claxon_next_block(
     ensures are_interleaved { CSamplesAreInterleaved info.now bytes.now at.old result
         samples.old samples.new }
     // Faults, and their texts.
-    ensures fault_is_sound { CBlockFaultIsSound info.now bytes.now at.old result error.old error.new }
+    ensures fault_is_sound { CBlockFaultIsSound info.now bytes.now at.old result
+        error.old error.new }
     ensures fault_is_complete { CBlockFaultIsComplete info.now bytes.now at.old result
         (length samples.old) error.old error.new }
     ensures header_fault_is_complete { CFrameHeaderFaultIsComplete info.now bytes.now at.old result
         error.old error.new }
-    ensures else_io_error { CBlockElseIoError info.now bytes.now at.old result (length samples.old) }
+    ensures else_io_error { CBlockElseIoError info.now bytes.now at.old result
+        (length samples.old) }
     ensures text_is_reported { TextIsReported result error.old error.new }
     // Memory.
     ensures out_of_memory_after_header { CBlockOutOfMemoryAfterHeader info.now bytes.now at.old
@@ -158,12 +160,14 @@ pub extern "C" fn claxon_next_block_planar(
     ensures are_planar { CSamplesArePlanar info.now bytes.now at.old result
         samples.old samples.new }
     // Faults, and their texts.
-    ensures fault_is_sound { CBlockFaultIsSound info.now bytes.now at.old result error.old error.new }
+    ensures fault_is_sound { CBlockFaultIsSound info.now bytes.now at.old result
+        error.old error.new }
     ensures fault_is_complete { CBlockFaultIsComplete info.now bytes.now at.old result
         (length samples.old) error.old error.new }
     ensures header_fault_is_complete { CFrameHeaderFaultIsComplete info.now bytes.now at.old result
         error.old error.new }
-    ensures else_io_error { CBlockElseIoError info.now bytes.now at.old result (length samples.old) }
+    ensures else_io_error { CBlockElseIoError info.now bytes.now at.old result
+        (length samples.old) }
     ensures text_is_reported { TextIsReported result error.old error.new }
     // Memory.
     ensures out_of_memory_after_header { CBlockOutOfMemoryAfterHeader info.now bytes.now at.old

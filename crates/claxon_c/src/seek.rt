@@ -147,7 +147,8 @@ pub extern "C" fn claxon_seek_block(
     ensures out_of_memory_after_header { CSeekOutOfMemoryAfterHeader info.now bytes.now sample
         result }
     // What stays as it was.
-    ensures is_kept { SeekBlockIsKept result at.old at.new block.old block.new samples.old samples.new }
+    ensures is_kept { SeekBlockIsKept result at.old at.new block.old block.new
+        samples.old samples.new }
 {
     match seek_block(
         alloc,

@@ -81,7 +81,7 @@ frame_has_header stream b t rest (x, (y, p, (h, coded, front, after, header, sub
     let parts : bits_of (t ++ rest) ≡ front ++ (after ++ (p ++ (crc ++ r))) =
     bits_of-append t rest ∙ ap (λ (q : Bits). q ++ r) t-is ∙ ap (λ (q : Bits). (q ++ crc) ++ r) (x-is ∙ ap (λ (q : Bits). q ++ p) y-is)
     ∙ append_assoc ((front ++ after) ++ p) crc r ∙ append_assoc (front ++ after) p (crc ++ r) ∙ append_assoc front after (p ++ (crc ++ r)) in
-    let shape = shape_of h.fields.size h.fields.channels h.bit_depth coded b.channels after subframes decorrelation in
+    let shape = shape_of h.fields.size h.fields.channel_code h.bit_depth coded b.channels after subframes decorrelation in
     (block_info stream h, record { time = sym time; channels = shape.0; duration_is = shape.1 }, header_begins stream h front (t ++ rest) (after ++ (p ++ (crc ++ r))) header parts)
 
 -- the fault of a header is one of its frame

@@ -48,7 +48,7 @@ use Rattle.claxon_frame.specs.declared.frame.info.BlockInfo.{BlockInfo}
 abbrev pub block_info : Option StreamFormat → Header → BlockInfo
 block_info stream h = record {
   time = time_of stream h.fields;
-  channels = channel_count h.fields.channels;
+  channels = channel_count h.fields.channel_code;
   duration = h.fields.size;
   bit_depth = h.bit_depth;
   sample_rate = h.fields.sample_rate;
@@ -80,7 +80,7 @@ HasBlockBounds result =
 abbrev pub info_of_start : Start → BlockInfo
 info_of_start start = record {
   time = start.time;
-  channels = channel_count start.channels;
+  channels = channel_count start.channel_code;
   duration = start.size;
   bit_depth = start.bit_depth;
   sample_rate = start.sample_rate;

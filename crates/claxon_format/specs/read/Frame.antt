@@ -16,7 +16,7 @@ use Rattle.claxon_format.specs.read.Subframe.{subframe_at}
 pub record Start : Type 0 where
   pub time : ℕ
   pub size : ℕ
-  pub channels : ℕ
+  pub channel_code : ℕ
   pub bit_depth : ℕ
   pub sample_rate : Option ℕ
   pub variable : Bool
@@ -27,7 +27,7 @@ start_of stream h =
     record {
       time = time_of stream h.fields;
       size = h.fields.size;
-      channels = h.fields.channels;
+      channel_code = h.fields.channel_code;
       bit_depth = h.bit_depth;
       sample_rate = h.fields.sample_rate;
       variable = h.fields.variable;
@@ -49,13 +49,13 @@ subframes_at size bit_depths = by_bytes (coded_channels_at size bit_depths)
 -- the block of a header and the channels coded after it
 abbrev pub block_from : Start → List (List ℤ) → Block
 block_from start coded =
-    record { time = start.time; channels = decoded_channels start.channels coded }
+    record { time = start.time; channels = decoded_channels start.channel_code coded }
 
 -- a header and its subframes
 unfoldable pub frame_without_crc_at : Option StreamFormat → List ℕ → Reading ℕ Block
 frame_without_crc_at stream =
     and_then (start_at stream) (λ start.
-    and_then (subframes_at start.size (bit_depths start.channels start.bit_depth)) (λ coded.
+    and_then (subframes_at start.size (bit_depths start.channel_code start.bit_depth)) (λ coded.
     done (block_from start coded)))
 
 -- and their CRC (section 9.3)
