@@ -7,14 +7,13 @@ ghost use Rattle.claxon_commands.specs.Facts.{
   WriteFactsFaultIsSound,
   WriteFactsIsSound,
   format_text,
-  line,
   numbers_text,
   sizes_text,
   tag_text,
   tags_text,
   vendor_text,
 };
-ghost use Rattle.claxon_command_line.specs.Text.{Adds};
+ghost use Rattle.claxon_command_line.specs.Text.{Adds, line};
 
 use claxon::FlacReader;
 use claxon::metadata::{StreamInfo, Tags};
@@ -154,7 +153,7 @@ fn push_numbers<A: Allocator + Copy>(
     Ok(())
 }
 
-#[tactic(auto, unfolding(crate::specs::Facts::line))]
+#[tactic(auto, unfolding(claxon_command_line::specs::Text::line))]
 fn push_line<A: Allocator>(text: &mut String<A>, name: &str, value: &str) -> Result<(), AllocError>
     ensures { Adds (line name.now value.now) result text.old text.new }
 {
