@@ -17,11 +17,15 @@ use Rattle.claxon_command_line.specs.Text.{hex_byte}
 -- character below 32, which has a letter or its number in four hexadecimal digits
 unfoldable pub json_char : ℕ → List ℕ
 json_char c =
-    if c == 0x22 then codes "\\\"" else (if c == 0x5C then codes "\\\\"
-    else (if c == 0x0A then codes "\\n" else (if c == 0x0D then codes "\\r"
-    else (if c == 0x09 then codes "\\t" else (if c == 0x08 then codes "\\b"
-    else (if c == 0x0C then codes "\\f"
-    else (if nat_lt c 32 then codes "\\u00" ++ hex_byte c else encode_utf8 c)))))))
+    if c == 0x22 then codes "\\\""
+    else if c == 0x5C then codes "\\\\"
+    else if c == 0x0A then codes "\\n"
+    else if c == 0x0D then codes "\\r"
+    else if c == 0x09 then codes "\\t"
+    else if c == 0x08 then codes "\\b"
+    else if c == 0x0C then codes "\\f"
+    else if nat_lt c 32 then codes "\\u00" ++ hex_byte c
+    else encode_utf8 c
 
 -- each character of a text, in this way
 abbrev pub json_chars : List ℕ → List ℕ

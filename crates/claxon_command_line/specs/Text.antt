@@ -84,9 +84,12 @@ is_control c = nat_lt c 32 || (nat_le 127 c && nat_lt c 160) || c == 0x2028 || c
 -- by a letter, another control character by its number
 unfoldable pub escaped_char : ℕ → List ℕ
 escaped_char c =
-    if c == 0x5C then codes "\\\\" else (if c == 0x0A then codes "\\n"
-    else (if c == 0x0D then codes "\\r" else (if c == 0x09 then codes "\\t"
-    else (if is_control c then codes "\\u{" ++ digits 16 false c ++ codes "}" else encode_utf8 c))))
+    if c == 0x5C then codes "\\\\"
+    else if c == 0x0A then codes "\\n"
+    else if c == 0x0D then codes "\\r"
+    else if c == 0x09 then codes "\\t"
+    else if is_control c then codes "\\u{" ++ digits 16 false c ++ codes "}"
+    else encode_utf8 c
 
 -- each character escaped
 abbrev pub escaped_text : List ℕ → List ℕ

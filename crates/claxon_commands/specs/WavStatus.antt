@@ -8,7 +8,7 @@ use Rattle.std.specs.Prelude.{
   Option,
   Result,
   Some,
-  cond,
+  if◌then◌else◌,
 }
 use Rattle.claxon_verify.specs.declared.report.Md5Verdict.{Md5Verdict}
 use Rattle.claxon_verify.specs.declared.report.Md5Verdict.TheVariants.{Wrong}
@@ -25,4 +25,4 @@ md5_status verdict = 0
 abbrev pub status_after : Option ℕ → Result Conversion Error → ℕ
 status_after known (Err error) = 1
 status_after None (Ok found) = md5_status found.md5
-status_after (Some known) (Ok found) = cond (known == found.samples) (md5_status found.md5) 1
+status_after (Some known) (Ok found) = if known == found.samples then md5_status found.md5 else 1

@@ -19,14 +19,8 @@ use Rattle.claxon_format.proofs.Bytes.{bits_of-append}
 use Rattle.claxon_format.proofs.FrameBytes.{Reads-start, start_is}
 use Rattle.claxon_format.proofs.Frames.{subframe_fits}
 use Rattle.claxon_format.proofs.Headers.{Reads-header}
-use Rattle.claxon_frame.specs.BlockInfo.{HeaderBytesFault, HeaderOf, block_info, info_of_start}
+use Rattle.claxon_frame.specs.BlockInfo.{HeaderBytesFault, HeaderOf, SaysBlock, block_info, info_of_start}
 use Rattle.claxon_frame.specs.declared.frame.info.BlockInfo.{BlockInfo}
-
--- it says this of its block
-pub record SaysBlock (info : BlockInfo) (b : Block) : Type 0 where
-  pub time : info.time ≡ b.time
-  pub channels : info.channels ≡ length b.channels
-  pub duration_is : info.duration ≡ duration_of b.channels
 
 -- ---- the number of channels, and their length
 

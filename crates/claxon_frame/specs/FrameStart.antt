@@ -46,6 +46,7 @@ start_view h = record {
   sample_rate = h.sample_rate;
   variable = (block_time_view h.block_time).0;
   number = (block_time_view h.block_time).1;
+  header_bit_depth = h.header_bit_depth;
 }
 
 -- what is known of the stream

@@ -11,7 +11,7 @@ use Rattle.std.specs.Prelude.{
   List,
   ◌++◌,
   codes,
-  cond,
+  if◌then◌else◌,
   decimal,
   Option,
   None,
@@ -23,6 +23,7 @@ use Rattle.std.specs.declared.alloc.AllocError.{AllocError}
 use Rattle.std.specs.declared.io.ErrorKind.TheVariants.{UnexpectedEof}
 use Rattle.std.specs.declared.string.String.{String}
 use Rattle.std.specs.IoError.{error_kind}
+use Rattle.claxon.specs.Codes.{when◌then◌else◌}
 use Rattle.claxon.specs.Error.{IsFault}
 use Rattle.claxon.specs.Errors.{Error}
 use Rattle.claxon.specs.Errors.TheVariants.{FormatError, IoError, OutOfMemory, Unsupported}
@@ -137,18 +138,18 @@ status_of SomeNotSupported = 3
 -- for them, or else has the error's text.
 abbrev pub FrameErrorTextIsSound : {A : Type 0} → FrameError → Result (String A) AllocError → Type 0
 FrameErrorTextIsSound fault r =
-    cond fault.is_32_bit (IsText (codes "32-bit samples are not supported") r)
-    (ErrorTextIsSound Frame fault.error r)
+    when fault.is_32_bit then IsText (codes "32-bit samples are not supported") r
+    else ErrorTextIsSound Frame fault.error r
 
 -- frames, or samples where the block size is variable
 abbrev pub counted_thing : Bool → List ℕ
-counted_thing is_variable = cond is_variable (codes "sample") (codes "frame")
+counted_thing is_variable = if is_variable then codes "sample" else codes "frame"
 
 -- how many there are, and what they are
 abbrev pub gap_text : Gap → List ℕ → List ℕ
 gap_text gap what =
     count_text gap.count (counted_thing gap.is_variable) ++ codes " "
-    ++ cond (gap.count == 1) (codes "is") (codes "are") ++ what
+    ++ (if gap.count == 1 then codes "is" else codes "are") ++ what
 
 -- An Ok says what is wrong, and what the streaminfo says.
 abbrev pub DamageTextIsSound : {A : Type 0} → StreamInfo → Damage → Result (String A) AllocError

@@ -11,7 +11,7 @@ use Rattle.std.specs.Prelude.{
   ◌^◌,
   List,
   ◌++◌,
-  cond,
+  if◌then◌else◌,
   length,
   nat_lt,
   take,
@@ -34,7 +34,7 @@ kept_with first more = take 16 (kept_of first ++ more)
 
 -- how many bytes were read, of which those after the first 16 are counted modulo 2^64
 abbrev pub count_of : FirstBytes → ℕ
-count_of first = cond (nat_lt first.seen 16) first.seen (16 + first.others)
+count_of first = if nat_lt first.seen 16 then first.seen else 16 + first.others
 
 -- bytes, up to 16, as one number: their bits, and how many they are
 abbrev pub number_of_bytes : List ℕ → ℕ

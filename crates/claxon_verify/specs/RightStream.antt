@@ -10,7 +10,7 @@ use Rattle.std.specs.Prelude.{
   ℤ,
   Bool,
   true,
-  cond,
+  if◌then◌else◌,
   List,
   [],
   ◌∷◌,
@@ -72,7 +72,8 @@ strategy_after (first ∷ frames) = Some first.info.is_variable
 
 -- how many frames there are, or how many samples of each channel they have
 abbrev pub number_of : Bool → List FrameValue → ℕ
-number_of is_variable frames = cond is_variable (sum_by frame_duration frames) (length frames)
+number_of is_variable frames =
+    if is_variable then sum_by frame_duration frames else length frames
 
 -- the coded number of the frame after these: how many frames come before it, or how many samples
 -- of each channel where the block size is variable (section 9.1.5)

@@ -8,7 +8,7 @@ use Rattle.std.specs.Prelude.{
   ◌+◌,
   ◌^◌,
   Bool,
-  cond,
+  if◌then◌else◌,
   List,
   [],
   Option,
@@ -16,6 +16,7 @@ use Rattle.std.specs.Prelude.{
   Some,
   IsSomeAnd,
 }
+use Rattle.claxon.specs.Codes.{when◌then◌else◌}
 use Rattle.claxon.specs.Block.{BlockValue}
 use Rattle.claxon.specs.BlockInfos.{BlockInfo}
 use Rattle.claxon.specs.Errors.{Error}
@@ -88,8 +89,8 @@ AddsPlace place old new =
 -- of the first frame.
 pub record GoesOn (duration : ℕ) (frame : BlockInfo) (old new : Order) : Type 0 where
   pub strategy : new.is_variable ≡ or_else old.is_variable (Some frame.is_variable)
-  pub number : frame.number + cond frame.is_variable duration 1 < 2 ^ 64
-      → new.number ≡ frame.number + cond frame.is_variable duration 1
+  pub number : frame.number + (if frame.is_variable then duration else 1) < 2 ^ 64
+      → new.number ≡ frame.number + (if frame.is_variable then duration else 1)
 
 -- ---- the hasher
 
@@ -103,7 +104,7 @@ HashesToo bit_depth block (Some old) new = IsSomeAnd new (HashesBlock bit_depth 
 -- The hasher has hashed these bytes, if there is to be one.
 abbrev pub HasHashedBytes : Bool → List ℕ → Option Md5 → Type 0
 HasHashedBytes computes_md5 bytes md5 =
-    cond computes_md5 (IsSomeAnd md5 (λ hasher. HasHashed hasher bytes)) (md5 ≡ None)
+    when computes_md5 then IsSomeAnd md5 (λ hasher. HasHashed hasher bytes) else (md5 ≡ None)
 
 -- Nothing was found so far.
 pub record BeginsWalk {A : Type 0} (computes_md5 : Bool) (walk : Walk A) : Type 0 where

@@ -1,5 +1,19 @@
 -- The samples of a block as the bytes of a WAV file.
-use Rattle.std.specs.Prelude.{All, ◌≡◌, ◌==◌, ℕ, ◌+◌, ◌-◌, ◌*◌, ◌^◌, ◌%◌, ℤ, List, cond, take}
+use Rattle.std.specs.Prelude.{
+  All,
+  ◌≡◌,
+  ◌==◌,
+  ℕ,
+  ◌+◌,
+  ◌-◌,
+  ◌*◌,
+  ◌^◌,
+  ◌%◌,
+  ℤ,
+  List,
+  if◌then◌else◌,
+  take,
+}
 use Rattle.std.specs.Int.{cast_unsigned, to_le_bytes, w32}
 use Rattle.std.specs.List.{flat_map}
 use Rattle.claxon.specs.Bits.{FitsIn}
@@ -12,7 +26,7 @@ use Rattle.claxon_wav.specs.declared.error.Error.TheVariants.{Claxon, WideSample
 
 -- the value of silence: 8-bit samples are unsigned
 abbrev pub silence : ℕ → ℕ
-silence size = cond (size == 1) 128 0
+silence size = if size == 1 then 128 else 0
 
 -- a sample shifted up by `shift` bits, as a 32-bit number
 abbrev pub shifted_sample : ℕ → ℕ → ℤ → ℕ

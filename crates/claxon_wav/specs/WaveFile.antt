@@ -16,7 +16,7 @@ use Rattle.std.specs.Prelude.{
   ◌∷◌,
   ◌++◌,
   Bool,
-  cond,
+  if◌then◌else◌,
   codes,
   length,
   replicate,
@@ -82,7 +82,7 @@ extension l =
     ++ pcm_subformat
 
 unfoldable pub format : Layout → List ℕ
-format l = cond (is_extensible l) (base_format 65534 l ++ extension l) (base_format 1 l)
+format l = if is_extensible l then base_format 65534 l ++ extension l else base_format 1 l
 
 -- the bytes before the samples, for a format of these bytes, a size of all that follows it and
 -- one of the samples

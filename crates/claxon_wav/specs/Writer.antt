@@ -14,7 +14,7 @@ use Rattle.std.specs.Prelude.{
   ◌^◌,
   List,
   [],
-  cond,
+  if◌then◌else◌,
   length,
   Option,
   Some,
@@ -306,7 +306,7 @@ FinishFaultIsSound r old new =
 
 -- the pad byte of a file whose header announced the bytes that were written
 abbrev pub stream_pad : {W : Type 0} → WavWriter W → List ℕ
-stream_pad file = cond (file.written == file.announced) (pad file.written) []
+stream_pad file = if file.written == file.announced then pad file.written else []
 
 -- An Ok wrote that pad byte after all earlier bytes, and nothing else.
 abbrev pub FinishStreamIsSound : {W : Type 0} → (W → Option (List ℕ)) → Result (Unit {0}) Error

@@ -1,10 +1,10 @@
 -- Readers of a frame and of its parts (RFC 9639, section 9).
-use Rattle.std.specs.Prelude.{ℕ, Bool, List, ℤ, Option}
+use Rattle.std.specs.Prelude.{ℕ, Bool, List, ℤ, Option, None}
 use Rattle.claxon_format.specs.Bits.{Bits}
 use Rattle.claxon_format.specs.Fault.{FrameCrc}
 use Rattle.claxon_format.specs.Frame.{StreamFormat, Block, known_bit_depth, time_of}
 use Rattle.claxon_format.specs.Crc.{crc16}
-use Rattle.claxon_format.specs.Header.{Header}
+use Rattle.claxon_format.specs.Header.{Header, bit_depth_of_code}
 use Rattle.claxon_format.specs.read.Reading.{Reading, and_then, done, each_at}
 use Rattle.claxon_format.specs.Stereo.{bit_depths}
 use Rattle.claxon_format.specs.read.Stereo.{decoded_channels}
@@ -21,6 +21,7 @@ pub record Start : Type 0 where
   pub sample_rate : Option ℕ
   pub variable : Bool
   pub number : ℕ
+  pub header_bit_depth : Option ℕ
 
 abbrev pub start_of : Option StreamFormat → Header → Start
 start_of stream h =
@@ -32,6 +33,7 @@ start_of stream h =
       sample_rate = h.fields.sample_rate;
       variable = h.fields.variable;
       number = h.fields.number;
+      header_bit_depth = bit_depth_of_code None h.fields.bit_depth_code;
     }
 
 -- a header and its CRC
