@@ -1,10 +1,9 @@
 //! Command lines of `claxon`: its commands, its help, and what asks for none.
+use claxon_commands::program::VERSION;
+use claxon_commands::{PROGRAM, command};
 use claxon_tests::answers::{FRAME, head, joined};
 use claxon_tests::command_lines::{Outcome, is_outcome, owned};
 use claxon_tests::doubles::sinks::Sink;
-use claxon_commands::command;
-use claxon_commands::PROGRAM;
-use claxon_commands::program::VERSION;
 use std::io::ErrorKind;
 use std::test::Fail;
 

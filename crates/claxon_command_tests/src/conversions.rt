@@ -2,14 +2,14 @@
 ghost use Rattle.std.specs.Prelude.{◌≡◌, false};
 ghost use Rattle.claxon.specs.FlacReader.{flac_metadata_only};
 
+use claxon::FlacReader;
+use claxon::frame::FrameReader;
+use claxon_command_line::progress::Progress;
+use claxon_commands::wav::command;
 use claxon_tests::answers::{DEEP_FRAME, joined};
 use claxon_tests::command_lines::owned;
 use claxon_tests::doubles::sinks::{ByteCounter, Sink};
 use claxon_tests::temporary_files::{file_of, path_of};
-use claxon::FlacReader;
-use claxon::frame::FrameReader;
-use claxon_commands::wav::command;
-use claxon_command_line::progress::Progress;
 use claxon_wav::{Layout, Result, WavWriter, convert};
 use std::alloc::Global;
 use std::io::{Cursor, ErrorKind, Read, Seek, Write};

@@ -1,7 +1,7 @@
 //! The command of `claxon_raw`: samples and tags of files, and its arguments.
 use crate::answers::{FIVES, FRAME, PAIRS, head, joined, two_frames};
-use crate::doubles::sinks::Sink;
 use crate::command_lines::{Outcome, is_outcome, owned};
+use crate::doubles::sinks::Sink;
 use crate::temporary_files::{file_of, path_of};
 use claxon_command_line::arguments::words;
 use claxon_write::command;

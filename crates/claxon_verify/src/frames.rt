@@ -26,6 +26,7 @@ use std::alloc::Allocator;
 use std::result;
 
 mod first_bytes;
+
 pub use first_bytes::FirstBytes;
 
 /// What is said of a frame whose samples have 32 bits.

@@ -1,11 +1,11 @@
 //! Frames, samples and whole runs over readers that give few bytes, fail or pause.
 use crate::reports::report_of;
+use claxon::frame::FrameReader;
+use claxon::input::BufferedReader;
 use claxon_tests::answers::{
     FIVES, FRAME, Fault, Run, Step, answers_each, end_of, fault_of, frames_in_order, joined,
     run_of, two_frames,
 };
-use claxon::frame::FrameReader;
-use claxon::input::BufferedReader;
 use claxon_verify::report::Damage;
 use claxon_write::run;
 use std::alloc::Global;

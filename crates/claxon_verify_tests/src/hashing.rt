@@ -1,12 +1,12 @@
 //! The MD5 sums of blocks. They are those of Python's `hashlib`, over bytes that its `int.to_bytes` made.
 ghost use Rattle.std.specs.Prelude.{◌≡◌, ◌≤◌};
 
-use claxon_verify::hashing::hash_block;
 use claxon::Block;
 use claxon::crc::RunningCrc;
 use claxon::frame::FrameReader;
 use claxon::metadata::StreamInfo;
 use claxon_md5::Md5;
+use claxon_verify::hashing::hash_block;
 use std::alloc::{AllocError, Global};
 use std::io::Cursor;
 use std::test::Fail;

@@ -1,7 +1,7 @@
-use claxon_verify::trailing::BytesAfter;
+use claxon::crc::RunningCrc;
 use claxon_verify::frames::FirstBytes;
 use claxon_verify::report::Trailing;
-use claxon::crc::RunningCrc;
+use claxon_verify::trailing::BytesAfter;
 
 // Bytes, in two parts, their number in all, and what they are.
 const ROWS: [(&[u8], &[u8], u64, Trailing); 9] = [

@@ -1,13 +1,13 @@
 //! Streams that are verified, and command lines of `claxon verify`.
 use crate::reports::report_of;
+use claxon_command_line::progress::Progress;
+use claxon_commands::verify::command;
 use claxon_tests::answers::{
     DEEP_FRAME, FRAME, Fault, PAIRS, SECOND, fault_of, frames_in_order, head, joined,
 };
 use claxon_tests::command_lines::owned;
 use claxon_tests::doubles::sinks::Sink;
 use claxon_tests::temporary_files::{file_of, path_of};
-use claxon_commands::verify::command;
-use claxon_command_line::progress::Progress;
 use claxon_verify::report::{Damage, Md5Verdict, Place, Report};
 use claxon_verify::verify;
 use std::fs;
