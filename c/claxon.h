@@ -168,7 +168,7 @@ uint32_t claxon_next_block_planar(const uint8_t *bytes, size_t length, size_t *a
                                   size_t error_size);
 
 /* The CRC of a frame (RFC 9639, section 9.3), as far as its bytes are there: `crc` is that of the bytes before these, 0 at
- * first, and the result that of all of them. Behind a whole frame it is 0: its last two bytes are the CRC of the others. */
+ * first, and the result that of all of them. After a whole frame it is 0: its last two bytes are the CRC of the others. */
 uint16_t claxon_crc16(uint16_t crc, const uint8_t *bytes, size_t length);
 
 /* Begins an MD5 sum of samples, for comparison with the one in the head. No samples are hashed yet. */

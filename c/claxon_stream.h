@@ -14,7 +14,7 @@
  *
  * A block is given when the last byte of its frame was read, whatever the size of the frame and of the pieces: nothing is read
  * while a block can be given of the bytes that are held. Where the CRC of a frame is wrong, and in a stream that is made to cost
- * time, up to as many bytes again may be read. So may they behind a frame of more than 100 KB, after which none begins.
+ * time, up to as many bytes again may be read. So may they after a frame of more than 100 KB, where no frame follows it.
  *
  * It holds 64 KiB of the stream, and twice as much where a frame doesn't fit, up to CLAXON_MAX_FRAME_BYTES; what is handed
  * in at once; the samples of one block; and the Vorbis comments. Any other metadata block is passed over without being held.
@@ -48,7 +48,7 @@
 typedef size_t claxon_stream_read(void *source, uint8_t *bytes, size_t length);
 
 /* Moves the source as lseek(2) does: by `offset` from its start (SEEK_SET), from where it is (SEEK_CUR) or from its end
- * (SEEK_END). Returns where it is then, in bytes from its start, or -1 where that fails. To move behind the end isn't a failure:
+ * (SEEK_END). Returns where it is then, in bytes from its start, or -1 where that fails. To move past the end isn't a failure:
  * reading there gives the end. Where the end isn't known, SEEK_END may fail. */
 typedef int64_t claxon_stream_seek_to(void *source, int64_t offset, int whence);
 
@@ -182,10 +182,10 @@ CLAXON_STATIC int64_t claxon_stream_seek_fd(void *fd, int64_t offset, int whence
 #define CLAXON_STREAM_WASTED_BY_A_SYNC_CODE 16
 
 /* How much work of tries where the CRC is 0 may lead to no block, in bytes and samples, before such tries are left out: all of
- * them, and those behind which no frame seems to begin. How much of it a read makes good, and each byte that was read. And how
+ * them, and those after which no frame seems to begin. How much of it a read makes good, and each byte that was read. And how
  * many bytes an encoder may write for a sample, but for CLAXON_STREAM_STEP more.
  * By chance the CRC is 0 at one place of 65536. So byte by byte a frame of L bytes and S samples takes (L / 2 + S) / 65536 for
- * each read, which is 24 for eight channels of 65535 samples of 32 bits. In larger pieces the bytes behind such a place mostly
+ * each read, which is 24 for eight channels of 65535 samples of 32 bits. In larger pieces the bytes after such a place mostly
  * show that no frame begins there. */
 #define CLAXON_STREAM_MAX_IN_VAIN (4 * (uint64_t)CLAXON_MAX_FRAME_BYTES)
 #define CLAXON_STREAM_MAX_UNLIKELY (2 * (uint64_t)CLAXON_MAX_FRAME_BYTES)
@@ -668,7 +668,7 @@ CLAXON_STATIC int claxon_stream_may_end(const struct claxon_stream *stream, cons
     return stream->in_vain <= (is_likely ? CLAXON_STREAM_MAX_IN_VAIN : CLAXON_STREAM_MAX_UNLIKELY);
 }
 
-/* Whether the frame may end in the bytes that weren't tried: behind its footer the CRC of all its bytes is 0, and by chance
+/* Whether the frame may end in the bytes that weren't tried: after its footer the CRC of all its bytes is 0, and by chance
  * at one place of 65536. It is summed up to the first such place. */
 CLAXON_STATIC int claxon_stream_has_footer(struct claxon_stream *stream) {
     const uint8_t *bytes = stream->window + stream->start;

@@ -140,7 +140,7 @@ static void test_frame(const struct frame *frame) {
 
 /* ---- the sample rate and the bit depth of blocks */
 
-/* A frame with these codes of its block size, its sample rate and its bit depth, and these bytes behind them: a constant channel
+/* A frame with these codes of its block size, its sample rate and its bit depth, and these bytes after them: a constant channel
  * of zeros. Returns its length. */
 static size_t put_frame(uint8_t *bytes, unsigned codes, unsigned depth_code, const char *fields, size_t fields_length) {
     size_t at = 4 + fields_length;
@@ -184,7 +184,7 @@ static void expect_block(const char *name, const uint8_t *bytes, size_t length, 
     expect(claxon_seek_block(bytes, length, &info, expected->time, UINT64_MAX, &at, samples, CLAXON_MAX_SAMPLES, &block) == CLAXON_OK && is_same_block(&block, expected), name, "seek_block");
 }
 
-/* Each code of a sample rate, behind a coded number of one byte or more, and a block size with and without a field. */
+/* Each code of a sample rate, after a coded number of one byte or more, and a block size with and without a field. */
 static const struct {
     unsigned codes;
     const char *fields;

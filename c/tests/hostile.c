@@ -51,7 +51,7 @@ static size_t put_frame_header(uint8_t *bytes, unsigned channels, unsigned durat
     return 8;
 }
 
-/* Appends the CRC of so many bytes, so that it is 0 behind it, and stays 0 over zeros. Returns the length with it. */
+/* Appends the CRC of so many bytes, so that it is 0 after it, and stays 0 over zeros. Returns the length with it. */
 static size_t put_crc(uint8_t *bytes, size_t length) {
     uint16_t crc = claxon_crc16(0, bytes, length);
     bytes[length] = (uint8_t)(crc >> 8);

@@ -364,9 +364,9 @@ static void test_row(const char *folder, size_t row) {
     }
     expect(time == 0 || seek(&stream, time - 1, 0).at < at, stream.name, "the sample before a row");
     if (is_last) {
-        expect_found(&stream, seek(&stream, end, 0), CLAXON_NO_MORE, UNTOUCHED, 0, "the sample behind the last");
+        expect_found(&stream, seek(&stream, end, 0), CLAXON_NO_MORE, UNTOUCHED, 0, "the sample after the last");
     } else {
-        expect(seek(&stream, end, 0).at > at, stream.name, "the sample behind a row");
+        expect(seek(&stream, end, 0).at > at, stream.name, "the sample after a row");
     }
     expect_found(&stream, find(&stream, at, samples_of(&(struct claxon_block){0, stream.info.channels, rows[row].duration, 0, 0})),
                  CLAXON_OK, at, 0, "a frame at its position");
@@ -448,7 +448,7 @@ static void test_infos(const uint8_t *bytes, size_t length) {
     expect_found(&stream, seek(&stream, 8191, 0), CLAXON_NO_MORE, UNTOUCHED, 0, "a frame before the first frame");
     expect_found(&stream, seek(&stream, 8192, 0), CLAXON_OK, noise[2], 0, "the first frame");
     stream.info.first_frame = SIZE_MAX;
-    expect_found(&stream, seek(&stream, 8192, 0), CLAXON_NO_MORE, UNTOUCHED, 0, "a first frame behind the end");
+    expect_found(&stream, seek(&stream, 8192, 0), CLAXON_NO_MORE, UNTOUCHED, 0, "a first frame past the end");
 }
 
 /* A frame of 16 samples of 16 bits, each 0x1234; and one whose samples as they are contain it, and a sync code. */
@@ -470,7 +470,7 @@ static void test_nested(void) {
     struct stream stream = {"a frame in a frame", outer, sizeof outer, {0}, NULL};
     expect_found(&stream, find(&stream, 0, 16), CLAXON_OK, 0, 0, "the outer one");
     expect_found(&stream, find(&stream, 1, 16), CLAXON_OK, 16, 0, "the inner one");
-    expect_found(&stream, find(&stream, 17, 16), CLAXON_NO_MORE, 41, 16, "behind them");
+    expect_found(&stream, find(&stream, 17, 16), CLAXON_NO_MORE, 41, 16, "after them");
     expect(test_places(&stream, 16) == 2, stream.name, "the number of frames");
     outer[41] ^= 1;
     expect_found(&stream, find(&stream, 0, 32), CLAXON_OK, 16, 0, "the inner one of a frame with a wrong CRC");

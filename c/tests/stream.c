@@ -744,7 +744,7 @@ static void test_resync_at(const char *name, const struct made *made, size_t at)
     }
 }
 
-/* Frames of another number of channels or another bit depth are passed over, behind a head that is known. */
+/* Frames of another number of channels or another bit depth are passed over, after a head that is known. */
 static void test_resync_of_others(void) {
     static const uint8_t two_channels[] = {0xff, 0xf8, 0x69, 0x18, 0x00, 0x0f, 0x92, 0x00, 0x12, 0x34, 0x00, 0x12, 0x34};
     static const uint8_t eight_bits[] = {0xff, 0xf8, 0x69, 0x02, 0x00, 0x0f, 0xb7, 0x00, 0x12};

@@ -495,7 +495,7 @@ class Ends(Archive):
     """Processes that end early."""
 
     def test_kill_9(self) -> None:
-        """Verdicts that were told are kept; the next run goes on behind them."""
+        """Verdicts that were told are kept; the next run goes on after them."""
         self.write_many(3000)
         self.wrap(LOG + "sleep 0.2\n" + GO_ON)
         kept: Set[bytes] = set()
@@ -641,7 +641,7 @@ class ResultsFile(Archive):
             self.check_refused(f"version {version}", "version 1")
 
     def test_damaged(self) -> None:
-        """Its pages behind the first are overwritten."""
+        """Its pages after the first are overwritten."""
         self.write_many(1000)
         self.run_files()
         with open(self.results, "r+b") as file:

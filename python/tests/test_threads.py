@@ -26,7 +26,7 @@ def slow_frame() -> bytes:
 
 
 class Searcher(threading.Thread):
-    """Goes to the frame behind all damaged ones, by one long call of the library."""
+    """Goes to the frame after all damaged ones, by one long call of the library."""
 
     def __init__(self, content: bytes) -> None:
         super().__init__()
@@ -51,8 +51,8 @@ class Threads(unittest.TestCase):
         """How many blocks another stream gave in the middle half of the time that the call took: with
         Python's lock held it would give none.
         """
-        behind = numbered_frame(1, 8 * [[1, 2, 3]])
-        thread = Searcher(made_head(65535, 0, 8) + frames * slow_frame() + behind)
+        after = numbered_frame(1, 8 * [[1, 2, 3]])
+        thread = Searcher(made_head(65535, 0, 8) + frames * slow_frame() + after)
         flac = claxon.Flac(io.BytesIO(head() + 200000 * FRAME_OF_5))
         times: List[float] = []
         thread.start()
