@@ -117,7 +117,7 @@ def real_files() -> Iterator[bytes]:
     names = [DATA / case.name for case in cases() if case.result == "ok"]
     for path in [*names, *(TOP / "examples").glob("*.flac")]:
         content = path.read_bytes()
-        blocks, end = walk(content), 0
+        blocks = walk(content)
         channels = claxon.Flac(io.BytesIO(content)).info.channels
         ends = [0, *(block.time + block.duration for block in blocks)]
         if all(b.channels == channels and b.time == end for b, end in zip(blocks, ends)):
