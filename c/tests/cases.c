@@ -449,7 +449,8 @@ static void test_faulty_tags(const uint8_t *content, size_t length, const char *
     }
 }
 
-/* `TYPE LENGTH BYTES: CONSUMED FAULT` or `TYPE LENGTH BYTES: ok CONSUMED BLOCK`: whether it is a whole content that was tested. */
+/* Tests a line `TYPE LENGTH BYTES: CONSUMED FAULT` or `TYPE LENGTH BYTES: ok CONSUMED BLOCK`. Returns whether it has a whole
+ * content: no other is tested. */
 static int test_content_line(char *line) {
     static uint8_t content[1 << 15];
     static struct text text;
