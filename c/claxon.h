@@ -54,15 +54,15 @@ struct claxon_info {
     uint32_t max_frame_size;  /* in bytes, or 0 if unknown */
     uint16_t min_block_size;  /* in samples of each channel; the last block may be smaller */
     uint16_t max_block_size;
-    uint8_t md5[16];          /* the MD5 sum of the samples, or zeros if unknown */
+    uint8_t md5[16]; /* the MD5 sum of the samples, or zeros if unknown */
 };
 
 /* A metadata block. */
 struct claxon_metadata {
-    size_t content;   /* the position of its content */
-    uint32_t length;  /* the length of its content in bytes */
-    uint8_t type;     /* one of enum claxon_block_type, or a reserved type */
-    uint8_t is_last;  /* 1 if the first frame follows it, else 0 */
+    size_t content;  /* the position of its content */
+    uint32_t length; /* the length of its content in bytes */
+    uint8_t type;    /* one of enum claxon_block_type, or a reserved type */
+    uint8_t is_last; /* 1 if the first frame follows it, else 0 */
 };
 
 /* The types of metadata blocks that have a name. */

@@ -155,7 +155,8 @@ static void expect_block(struct claxon_stream *stream, const struct frames *fram
     struct claxon_block block;
     size_t end = frame->at, count;
     uint32_t status = claxon_stream_next_block(stream);
-    expect(status == CLAXON_OK && decode(frames, &end, CLAXON_MAX_SAMPLES, &block) == CLAXON_OK, frames->name, "the next block");
+    expect(status == CLAXON_OK && decode(frames, &end, CLAXON_MAX_SAMPLES, &block) == CLAXON_OK, frames->name,
+           "the next block");
     count = (size_t)block.channels * block.duration;
     if (status == CLAXON_OK) {
         expect(is_same_block(&stream->block, &block) && stream->position == end, frames->name, "what it shows");
@@ -289,7 +290,8 @@ static void test_times(const char *name, const uint8_t *bytes, size_t length) {
         for (int i = 0; i < 3; i++) {
             sample = time + (i == 0 ? 0 : i == 1 ? walk.block.duration / 2 : walk.block.duration - 1);
             expect(claxon_stream_seek(&stream, sample) == CLAXON_OK, name, "seek to a block");
-            expect((i == 1 ? claxon_stream_next_block_planar : claxon_stream_next_block)(&stream) == CLAXON_OK, name, "a block");
+            expect((i == 1 ? claxon_stream_next_block_planar : claxon_stream_next_block)(&stream) == CLAXON_OK, name,
+                   "a block");
             expect(stream.block.time == time && stream.block.duration == walk.block.duration, name, "the block's time");
             expect(stream.samples[0] == walk.samples[0], name, "the block's first sample");
             expect(i == 1 || memcmp(stream.samples, walk.samples, count * sizeof *samples) == 0, name, "the block's samples");
@@ -319,12 +321,14 @@ static void begin(struct attempt *attempt, const uint8_t *bytes, size_t length, 
 }
 
 static void expect_sample(struct claxon_stream *stream, uint64_t sample, const char *name) {
-    expect(claxon_stream_seek(stream, sample) == CLAXON_OK && claxon_stream_next_block(stream) == CLAXON_OK, name, "a seek again");
+    expect(claxon_stream_seek(stream, sample) == CLAXON_OK && claxon_stream_next_block(stream) == CLAXON_OK, name,
+           "a seek again");
     expect(has_sample(&stream->block, sample), name, "the block of a seek again");
 }
 
 /* Returns whether there was such a call. A length that isn't told is no failure. */
-static int test_failing_call(const char *name, const uint8_t *bytes, size_t length, uint64_t sample, size_t call, int knows_end) {
+static int test_failing_call(const char *name, const uint8_t *bytes, size_t length, uint64_t sample, size_t call,
+                             int knows_end) {
     struct attempt attempt;
     struct claxon_stream *stream = &attempt.stream;
     int was_called;
@@ -489,7 +493,8 @@ static void test_noise(const char *folder, unsigned rounds) {
 
 /* Files of encoders: their blocks follow one another. */
 static int is_whole(const char *name) {
-    static const char *const names[] = {"quiet_noise.flac", "eight_bits.flac", "wasted_bits_of_24.flac", "left_channel_alone.flac",
+    static const char *const names[] = {"quiet_noise.flac",          "eight_bits.flac",
+                                        "wasted_bits_of_24.flac",    "left_channel_alone.flac",
                                         "other_encoder_speech.flac", "escapes_of_a_real_encoder.flac"};
     for (size_t i = 0; i < sizeof names / sizeof *names; i++) {
         if (strcmp(name, names[i]) == 0) {
