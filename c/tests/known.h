@@ -59,8 +59,9 @@ static inline const char *result_of(uint32_t status, const char *error, char *te
     return text;
 }
 
-/* The sample rate in Hz that the header of a frame says, or 0 where it leaves that to the streaminfo (RFC 9639, sections 9.1.2 and
- * 9.1.5 to 9.1.7): behind four bytes are the coded number and the block size, where it has a field, and the field of the rate. */
+/* The sample rate in Hz that the header of a frame says, or 0 where it leaves that to the streaminfo (RFC 9639, sections 9.1.2
+ * and 9.1.5 to 9.1.7): after four bytes are the coded number and the block size, where it has a field, and the field of the
+ * rate. */
 static inline uint32_t rate_in_header(const uint8_t *header) {
     static const uint32_t rates[12] = {0, 88200, 176400, 192000, 8000, 16000, 22050, 24000, 32000, 44100, 48000, 96000};
     unsigned size = header[2] >> 4, rate = header[2] & 15, bit = 0x40;

@@ -112,7 +112,7 @@ static void put_bits(struct bits *to, uint32_t number, unsigned count) {
     }
 }
 
-/* A constant channel; one of samples as they are; or one partition of them, behind a predictor of order 0. */
+/* A constant channel; one of samples as they are; or one partition of them, after a predictor of order 0. */
 static void put_channel(struct bits *to, const struct frame *frame, unsigned depth, unsigned channel) {
     if (frame->bits == 0) {
         put_bits(to, 0x00, 8);

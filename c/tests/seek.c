@@ -68,8 +68,8 @@ static struct place place_at(const struct stream *stream, size_t position) {
     place.has_header = is_header && has_format(&stream->info, stream->bytes + position, &place.block);
     if (is_header) {
         expect_format(stream->name, &place.block, stream->bytes + position);
-        status = claxon_next_block(stream->bytes, stream->length, &at, &stream->info, samples, CLAXON_MAX_SAMPLES, &block, error,
-                                   sizeof error);
+        status = claxon_next_block(stream->bytes, stream->length, &at, &stream->info, samples, CLAXON_MAX_SAMPLES, &block,
+                                   error, sizeof error);
     }
     place.has_frame = place.has_header && status == CLAXON_OK;
     place.is_undecided = (!is_header || place.has_header) && (status == CLAXON_INPUT_ENDS || status == CLAXON_NO_MORE);
@@ -124,8 +124,8 @@ static void expect_given(const struct stream *stream, uint64_t sample, size_t ca
     memset(&untouched, UNTOUCHED, sizeof untouched);
     memset(&block, UNTOUCHED, sizeof block);
     memset(samples, UNTOUCHED, (capacity + 1) * sizeof *samples);
-    uint32_t status = claxon_seek_block(stream->bytes, stream->length, &stream->info, sample, expected->left, &at, samples,
-                                        capacity, &block);
+    uint32_t status =
+        claxon_seek_block(stream->bytes, stream->length, &stream->info, sample, expected->left, &at, samples, capacity, &block);
     expect(status == expected->status && at == expected->at, stream->name, "the status and the position of seek_block");
     expect(memcmp(&block, &expected->block, sizeof block) == 0, stream->name, "the block of seek_block");
     expect(count == 0 || memcmp(samples, given, count * sizeof *samples) == 0, stream->name, "the samples of seek_block");
@@ -154,8 +154,7 @@ static void test_seek_block(const struct stream *stream, uint64_t sample, struct
 static struct found seek(const struct stream *stream, uint64_t sample, uint64_t budget) {
     struct found found = {0, UNTOUCHED, budget, {0, 0, 0, 0, 0}};
     memset(&found.block, UNTOUCHED, sizeof found.block);
-    found.status =
-        claxon_seek(stream->bytes, stream->length, &stream->info, sample, budget, &found.at, &found.block);
+    found.status = claxon_seek(stream->bytes, stream->length, &stream->info, sample, budget, &found.at, &found.block);
     test_seek_block(stream, sample, found);
     return found;
 }
@@ -190,7 +189,8 @@ static void test_find(const struct stream *stream, size_t from, uint64_t budget)
     struct found expected = find_place(stream, from, budget);
     struct found found = find(stream, from, budget);
     expect_found(stream, found, expected.status, expected.at, expected.left, "find_frame");
-    expect(expected.status != CLAXON_OK || is_same_block(&found.block, &expected.block), stream->name, "the block that is found");
+    expect(expected.status != CLAXON_OK || is_same_block(&found.block, &expected.block), stream->name,
+           "the block that is found");
 }
 
 /* Whether a frame with the sample begins at the position. */
@@ -364,11 +364,12 @@ static void test_row(const char *folder, size_t row) {
     }
     expect(time == 0 || seek(&stream, time - 1, 0).at < at, stream.name, "the sample before a row");
     if (is_last) {
-        expect_found(&stream, seek(&stream, end, 0), CLAXON_NO_MORE, UNTOUCHED, 0, "the sample behind the last");
+        expect_found(&stream, seek(&stream, end, 0), CLAXON_NO_MORE, UNTOUCHED, 0, "the sample after the last");
     } else {
-        expect(seek(&stream, end, 0).at > at, stream.name, "the sample behind a row");
+        expect(seek(&stream, end, 0).at > at, stream.name, "the sample after a row");
     }
-    expect_found(&stream, find(&stream, at, samples_of(&(struct claxon_block){0, stream.info.channels, rows[row].duration, 0, 0})),
+    expect_found(&stream,
+                 find(&stream, at, samples_of(&(struct claxon_block){0, stream.info.channels, rows[row].duration, 0, 0})),
                  CLAXON_OK, at, 0, "a frame at its position");
     expect(find(&stream, at + 1, UINT64_MAX).at > at, stream.name, "a frame at the next position");
     free(bytes);
@@ -448,7 +449,7 @@ static void test_infos(const uint8_t *bytes, size_t length) {
     expect_found(&stream, seek(&stream, 8191, 0), CLAXON_NO_MORE, UNTOUCHED, 0, "a frame before the first frame");
     expect_found(&stream, seek(&stream, 8192, 0), CLAXON_OK, noise[2], 0, "the first frame");
     stream.info.first_frame = SIZE_MAX;
-    expect_found(&stream, seek(&stream, 8192, 0), CLAXON_NO_MORE, UNTOUCHED, 0, "a first frame behind the end");
+    expect_found(&stream, seek(&stream, 8192, 0), CLAXON_NO_MORE, UNTOUCHED, 0, "a first frame past the end");
 }
 
 /* A frame of 16 samples of 16 bits, each 0x1234; and one whose samples as they are contain it, and a sync code. */
@@ -470,7 +471,7 @@ static void test_nested(void) {
     struct stream stream = {"a frame in a frame", outer, sizeof outer, {0}, NULL};
     expect_found(&stream, find(&stream, 0, 16), CLAXON_OK, 0, 0, "the outer one");
     expect_found(&stream, find(&stream, 1, 16), CLAXON_OK, 16, 0, "the inner one");
-    expect_found(&stream, find(&stream, 17, 16), CLAXON_NO_MORE, 41, 16, "behind them");
+    expect_found(&stream, find(&stream, 17, 16), CLAXON_NO_MORE, 41, 16, "after them");
     expect(test_places(&stream, 16) == 2, stream.name, "the number of frames");
     outer[41] ^= 1;
     expect_found(&stream, find(&stream, 0, 32), CLAXON_OK, 16, 0, "the inner one of a frame with a wrong CRC");

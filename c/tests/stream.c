@@ -151,7 +151,8 @@ static void test_known(const struct known *known, const uint8_t *bytes, size_t l
         char text[256];
         uint32_t status;
         begin(&stream, &source, i / 2 % 2);
-        while ((status = call(planar ? claxon_stream_next_block_planar : claxon_stream_next_block, &stream, &source)) == CLAXON_OK) {
+        while ((status = call(planar ? claxon_stream_next_block_planar : claxon_stream_next_block, &stream, &source)) ==
+               CLAXON_OK) {
             size_t channels = stream.block.channels, duration = stream.block.duration;
             add_samples(&tally, stream.samples, &stream.block, planar ? duration : 1, planar ? 1 : channels);
         }
@@ -643,7 +644,8 @@ static void test_walk(const struct made *made, size_t every, size_t piece, int i
     while (next_metadata(&stream, &source, &metadata) == CLAXON_OK) {
         claxon_next_metadata(made->bytes, made->length, &at, &expected);
         expect(i < BLOCKS && metadata.type == blocks[i].type && metadata.length == blocks[i].length, "a head", "a block");
-        expect(metadata.is_last == (i + 1 == BLOCKS) && metadata.content == expected.content, "a head", "the position of a block");
+        expect(metadata.is_last == (i + 1 == BLOCKS) && metadata.content == expected.content, "a head",
+               "the position of a block");
         test_tags(stream.comments, stream.comments_length, i >= 3);
         expect(stream.info.first_frame == 0, "a head", "the first frame, before the head has ended");
         expect(stream.info.channels == 1 && stream.info.samples == 4 && stream.info.tags == (i >= 3), "a head",
@@ -744,7 +746,7 @@ static void test_resync_at(const char *name, const struct made *made, size_t at)
     }
 }
 
-/* Frames of another number of channels or another bit depth are passed over, behind a head that is known. */
+/* Frames of another number of channels or another bit depth are passed over, after a head that is known. */
 static void test_resync_of_others(void) {
     static const uint8_t two_channels[] = {0xff, 0xf8, 0x69, 0x18, 0x00, 0x0f, 0x92, 0x00, 0x12, 0x34, 0x00, 0x12, 0x34};
     static const uint8_t eight_bits[] = {0xff, 0xf8, 0x69, 0x02, 0x00, 0x0f, 0xb7, 0x00, 0x12};
@@ -835,7 +837,8 @@ static size_t frames_before(const uint8_t *bytes, size_t length, size_t end) {
 }
 
 /* A call after the failure says the same, and reads no more. */
-static void expect_failure(struct claxon_stream *stream, struct source *source, uint32_t status, const char *name, const char *what) {
+static void expect_failure(struct claxon_stream *stream, struct source *source, uint32_t status, const char *name,
+                           const char *what) {
     expect(status == CLAXON_READ_FAILED && strcmp(stream->error, "reading failed") == 0, name, what);
     expect(source->has_ended, name, what);
 }

@@ -87,7 +87,7 @@ class FolderCase(unittest.TestCase):
 
 
 def copy_module(folder: pathlib.Path) -> None:
-    """Copies the module that is tested into a folder, without the library that it may have inside."""
+    """Copies the module under test into a folder, without the library that it may have inside."""
     package = pathlib.Path(claxon.__file__).parent
     ignored = shutil.ignore_patterns("libclaxon*", "__pycache__")
     shutil.copytree(package, folder / "claxon", ignore=ignored)

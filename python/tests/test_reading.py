@@ -410,7 +410,7 @@ class Heads(unittest.TestCase):
 
 class Damage(unittest.TestCase):
     def test_cut_anywhere(self) -> None:
-        """Whole frames are given, and then that the stream ends; behind a frame just its end."""
+        """Whole frames are given, and then that the stream ends; after a frame just its end."""
         stream = SONG.read_bytes()
         whole, _ = decode(SONG)
         ends = [len(stream)]

@@ -117,7 +117,7 @@ def real_files() -> Iterator[bytes]:
     names = [DATA / case.name for case in cases() if case.result == "ok"]
     for path in [*names, *(TOP / "examples").glob("*.flac")]:
         content = path.read_bytes()
-        blocks, end = walk(content), 0
+        blocks = walk(content)
         channels = claxon.Flac(io.BytesIO(content)).info.channels
         ends = [0, *(block.time + block.duration for block in blocks)]
         if all(b.channels == channels and b.time == end for b, end in zip(blocks, ends)):
@@ -126,7 +126,7 @@ def real_files() -> Iterator[bytes]:
 
 class Borders(SeekCase):
     def test_files(self) -> None:
-        """The first and the last sample of each block, and the one behind all."""
+        """The first and the last sample of each block, and the one after all."""
         tried = 0
         for content in real_files():
             blocks = walk(content)
@@ -172,7 +172,7 @@ class Borders(SeekCase):
                 self.expect_samples(flac, sample, stream)
             self.expect_none(flac, total)
 
-    def test_garbage_behind(self) -> None:
+    def test_garbage_after_frames(self) -> None:
         stream = made(60, 700)
         noise = bytes(random.Random(3).choices(range(256), k=100000))
         for garbage in (b"TAG" + bytes(125), bytes(200000), noise):
@@ -368,7 +368,7 @@ class Damage(SeekCase):
 
     def test_hostile(self) -> None:
         """Headers everywhere, of large blocks that have the sample or not; sync codes too. A frame
-        behind them is found where budget is left.
+        after them is found where budget is left.
         """
         start = time.process_time()
         header = frame_header(1, 65535)
@@ -414,7 +414,7 @@ class Resync(unittest.TestCase):
         self.assertEqual(next(feed.blocks()).planar.tolist(), [1, 1, 1, 2, 2, 2])
 
     def test_hostile(self) -> None:
-        """Headers of large blocks everywhere: linear, and the frame behind them is found."""
+        """Headers of large blocks everywhere: linear, and the frame after them is found."""
         start = time.process_time()
         for channels in (1, 8):
             hostile = (frame_header(channels, 65535) + b"\x02") * 200000
@@ -443,7 +443,7 @@ class Read(unittest.TestCase):
                     self.expect(found, stream.samples[start:stop])
                     self.assertEqual(rate, 44100)
 
-    def test_behind_the_end(self) -> None:
+    def test_past_the_end(self) -> None:
         stream = made(12, 250)
         for start, stop in ((3000, None), (9999, None), (2990, 9999), (5, 5), (7, 3), (0, 0)):
             found, _ = claxon.read(io.BytesIO(stream.content()), start, stop)

@@ -13,7 +13,7 @@ from tests.test_seeking import made_head
 
 
 def slow_frame() -> bytes:
-    """A frame that takes long to decode, as each sample is predicted from 32, and that is damaged."""
+    """A damaged frame that takes long to decode, as each sample is predicted from 32."""
     # The type, 32 samples of 8 bits, a precision of 15 bits, no shift, the coefficients, and the
     # residual: the bit 1 for each sample, which stands for 0.
     samples = "".join(f"{at:08b}" for at in range(1, 33))
@@ -26,7 +26,7 @@ def slow_frame() -> bytes:
 
 
 class Searcher(threading.Thread):
-    """Goes to the frame behind all damaged ones, by one long call of the library."""
+    """Goes to the frame after all damaged ones, by one long call of the library."""
 
     def __init__(self, content: bytes) -> None:
         super().__init__()
@@ -48,11 +48,11 @@ class Searcher(threading.Thread):
 class Threads(unittest.TestCase):
     @mock.patch.object(claxon, "_MAX_WASTED", 1 << 40)
     def given_meanwhile(self, frames: int) -> int:
-        """How many blocks another stream gave in the middle half of the time that the call took: with
-        Python's lock held it would give none.
+        """How many blocks another stream gave in the middle half of the time that the call took:
+        with Python's lock held it would give none.
         """
-        behind = numbered_frame(1, 8 * [[1, 2, 3]])
-        thread = Searcher(made_head(65535, 0, 8) + frames * slow_frame() + behind)
+        after = numbered_frame(1, 8 * [[1, 2, 3]])
+        thread = Searcher(made_head(65535, 0, 8) + frames * slow_frame() + after)
         flac = claxon.Flac(io.BytesIO(head() + 200000 * FRAME_OF_5))
         times: List[float] = []
         thread.start()
