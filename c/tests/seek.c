@@ -6,27 +6,10 @@
  * - Memory is refused.
  *
  * With 0 ROUNDS small files are read alone, for tools that make it slow. It is linked with --wrap for malloc and realloc. */
+#include "faults.h"
 #include "known.h"
 
 #define UNTOUCHED 0x55
-
-void *__real_malloc(size_t size);
-void *__real_realloc(void *old, size_t size);
-void *__wrap_malloc(size_t size);
-void *__wrap_realloc(void *old, size_t size);
-
-static int is_refusing;
-static size_t requests;
-
-void *__wrap_malloc(size_t size) {
-    requests++;
-    return is_refusing ? NULL : __real_malloc(size);
-}
-
-void *__wrap_realloc(void *old, size_t size) {
-    requests++;
-    return is_refusing ? NULL : __real_realloc(old, size);
-}
 
 /* ---- what stands at each position */
 
@@ -214,15 +197,6 @@ static void test_seek(const struct stream *stream, uint64_t sample) {
     }
 }
 
-/* Numbers that look random, the same in each run. */
-
-static uint64_t random_state = 1;
-
-static uint32_t below(uint32_t limit) {
-    random_state = random_state * UINT64_C(6364136223846793005) + UINT64_C(1442695040888963407);
-    return limit ? (uint32_t)((random_state >> 33) % limit) : 0;
-}
-
 /* Around the position of a header: with each budget that decides something. */
 static void test_around(const struct stream *stream, size_t at) {
     const struct claxon_block *block = &stream->places[at].block;
@@ -276,20 +250,6 @@ static struct stream stream_of(const char *name, const uint8_t *bytes, size_t le
 }
 
 /* ---- files */
-
-static void damage(uint8_t *bytes, size_t length) {
-    for (uint32_t changes = 1 + below(3); changes > 0; changes--) {
-        size_t at = below((uint32_t)length);
-        size_t count = 1 + below(40);
-        count = count < length - at ? count : length - at;
-        switch (below(4)) {
-        case 0: bytes[at] ^= (uint8_t)(1 << below(8)); break;
-        case 1: memset(bytes + at, below(2) ? 0 : 0xff, count); break;
-        case 2: memmove(bytes + at, bytes + at + count, length - at - count); break;
-        default: memmove(bytes + at, bytes + below((uint32_t)(length - count + 1)), count);
-        }
-    }
-}
 
 /* The file, with its streaminfo and with none; and damaged, of which a part is moved too, so that times are out of order. */
 static size_t test_file(const char *name, const uint8_t *bytes, size_t length, uint32_t rounds) {
@@ -456,16 +416,10 @@ static void test_infos(const uint8_t *bytes, size_t length) {
 static void test_nested(void) {
     static const uint8_t inner[12] = {0xff, 0xf8, 0x69, 0x08, 0x00, 0x0f, 0x30, 0x00, 0x12, 0x34, 0xaa, 0x3b};
     uint8_t outer[42] = {0xff, 0xf8, 0x69, 0x08, 0x00, 0x0f, 0x30, 0x02};
-    unsigned crc = 0;
     outer[10] = 0xff;
     outer[11] = 0xf8;
     memcpy(outer + 16, inner, sizeof inner);
-    for (size_t i = 0; i < 40; i++) {
-        crc ^= (unsigned)outer[i] << 8;
-        for (int bit = 0; bit < 8; bit++) {
-            crc = crc & 0x8000 ? (crc << 1 ^ 0x8005) & 0xffff : crc << 1;
-        }
-    }
+    unsigned crc = crc_of(outer, 40, 0x18005, 16);
     outer[40] = (uint8_t)(crc >> 8);
     outer[41] = (uint8_t)crc;
     struct stream stream = {"a frame in a frame", outer, sizeof outer, {0}, NULL};
@@ -482,10 +436,10 @@ static void test_nested(void) {
 static void test_memory(const uint8_t *bytes, size_t length) {
     struct stream stream = stream_of("no memory", bytes, length);
     requests = 0;
-    is_refusing = 1;
+    refused_from = 1;
     struct found first = find(&stream, 0, 10000), second = seek(&stream, 4096, 10000);
     struct found over = find(&stream, 0, 8191), none = seek(&stream, 44100, 10000);
-    is_refusing = 0;
+    refused_from = 0;
     expect(requests >= 2, stream.name, "no request");
     expect_found(&stream, first, CLAXON_OUT_OF_MEMORY, 0, 10000, "find_frame");
     expect_found(&stream, second, CLAXON_OUT_OF_MEMORY, UNTOUCHED, 10000, "seek");

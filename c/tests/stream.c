@@ -10,31 +10,9 @@
  * With 0 ROUNDS small files are read alone, for tools that make it slow.
  * It is linked with --wrap for malloc and realloc, so that it can refuse memory and sees how much is asked for at once. */
 #include "claxon_stream.h"
+
+#include "faults.h"
 #include "known.h"
-
-/* Memory. */
-
-void *__real_malloc(size_t size);
-void *__real_realloc(void *old, size_t size);
-void *__wrap_malloc(size_t size);
-void *__wrap_realloc(void *old, size_t size);
-
-static size_t requests, refused_request, greatest_request; /* each request from refused_request on is refused, if it isn't 0 */
-static size_t refused_every;                               /* each so many-th is refused, if it isn't 0 */
-
-static int is_refused(size_t size) {
-    requests++;
-    greatest_request = size > greatest_request ? size : greatest_request;
-    return (refused_request && requests >= refused_request) || (refused_every && requests % refused_every == 0);
-}
-
-void *__wrap_malloc(size_t size) {
-    return is_refused(size) ? NULL : __real_malloc(size);
-}
-
-void *__wrap_realloc(void *old, size_t size) {
-    return is_refused(size) ? NULL : __real_realloc(old, size);
-}
 
 /* Bytes that are read in pieces. */
 
@@ -275,35 +253,12 @@ static size_t compare(const char *name, const uint8_t *bytes, size_t length, siz
     return compare_form(name, bytes, length, piece, 0, text, size);
 }
 
-/* Numbers that look random, the same in each run. */
-
-static uint64_t random_state = 1;
-
-static uint32_t below(uint32_t limit) {
-    random_state = random_state * UINT64_C(6364136223846793005) + UINT64_C(1442695040888963407);
-    return limit ? (uint32_t)((random_state >> 33) % limit) : 0;
-}
-
 static size_t any_piece(void) {
     static const size_t pieces[] = {1, 2, 3, 5, 16, 100, 1000, SIZE_MAX};
     return pieces[below(8)];
 }
 
 /* Damaged files. */
-
-static void damage(uint8_t *bytes, size_t length) {
-    for (uint32_t changes = 1 + below(3); changes > 0 && length > 0; changes--) {
-        size_t at = below((uint32_t)length);
-        size_t count = 1 + below(40);
-        count = count < length - at ? count : length - at;
-        switch (below(4)) {
-        case 0: bytes[at] ^= (uint8_t)(1 << below(8)); break;
-        case 1: memset(bytes + at, below(2) ? 0 : 0xff, count); break;
-        case 2: memmove(bytes + at, bytes + at + count, length - at - count); break;
-        default: memmove(bytes + at, bytes + below((uint32_t)(length - count + 1)), count);
-        }
-    }
-}
 
 static size_t damaged_blocks;
 
@@ -949,7 +904,7 @@ static uint32_t decode_refused(struct claxon_stream *stream, const uint8_t *byte
             add_interleaved(tally, stream->samples, &stream->block);
         } else if (status == CLAXON_OUT_OF_MEMORY) {
             expect(strcmp(stream->error, "out of memory") == 0, "memory", "the text");
-            refused_request = 0;
+            refused_from = 0;
             if (++*refusals % 2 == 0 && is_frame_with_memory(bytes, length, stream->position)) {
                 test_resync_refused(stream);
             }
@@ -966,7 +921,7 @@ static size_t test_refused(const char *name, const uint8_t *bytes, size_t length
     size_t refusals = 0;
     uint32_t status;
     requests = 0;
-    refused_request = request;
+    refused_from = request;
     claxon_stream_init(&stream, read_source, &source);
     status = claxon_stream_open(&stream);
     if (status == CLAXON_OUT_OF_MEMORY) {
@@ -977,7 +932,7 @@ static size_t test_refused(const char *name, const uint8_t *bytes, size_t length
         status = decode_refused(&stream, bytes, length, &tally, &refusals);
         expect(status == CLAXON_NO_MORE && is_same_tally(tally, known), name, "what is decoded after memory was refused");
     }
-    refused_request = refused_every = 0;
+    refused_from = refused_every = 0;
     claxon_stream_free(&stream);
     return refusals;
 }

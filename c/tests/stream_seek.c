@@ -10,31 +10,9 @@
 #define _POSIX_C_SOURCE 200809L
 
 #include "claxon_stream.h"
+
+#include "faults.h"
 #include "known.h"
-
-void *__real_malloc(size_t size);
-void *__real_realloc(void *old, size_t size);
-void *__wrap_malloc(size_t size);
-void *__wrap_realloc(void *old, size_t size);
-
-static size_t requests, refused_request; /* this one alone is refused */
-
-void *__wrap_malloc(size_t size) {
-    return ++requests == refused_request ? NULL : __real_malloc(size);
-}
-
-void *__wrap_realloc(void *old, size_t size) {
-    return ++requests == refused_request ? NULL : __real_realloc(old, size);
-}
-
-/* Numbers that look random, the same in each run. */
-
-static uint64_t random_state = 1;
-
-static uint32_t below(uint32_t limit) {
-    random_state = random_state * UINT64_C(6364136223846793005) + UINT64_C(1442695040888963407);
-    return limit ? (uint32_t)((random_state >> 33) % limit) : 0;
-}
 
 /* A source that seeks. The stream begins after `origin` bytes of it, which are those of its own end. */
 
@@ -235,7 +213,7 @@ static void test_stream(const char *name, const uint8_t *bytes, size_t length, s
 }
 
 /* Damages the frames. Of some streams the halves change places, so that times are out of order. */
-static void damage(uint8_t *bytes, size_t length, uint8_t *spare) {
+static void move_and_damage(uint8_t *bytes, size_t length, uint8_t *spare) {
     if (below(2)) {
         size_t half = length / 2;
         memcpy(spare, bytes, half);
@@ -267,7 +245,7 @@ static void test_file(const char *name, const uint8_t *bytes, size_t length, uns
         memcpy(changed, bytes, length);
         put_samples(changed, counts[round % 5]);
         if (round >= 5) {
-            damage(changed + info.first_frame, length - info.first_frame, spare);
+            move_and_damage(changed + info.first_frame, length - info.first_frame, spare);
         }
         test_stream(name, changed, round < 5 ? length : length - below((uint32_t)(length - info.first_frame) / 4 + 1),
                     rounds > 0 ? 40 : 5);
