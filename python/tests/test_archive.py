@@ -1,7 +1,7 @@
 """`claxon-archive` over small files of each kind of wrong.
 
-What has to be said of each is in tools/damaged.py, worked by hand. The program `claxon` is the one
-at the top of the repository, or that of the environment variable CLAXON_PROGRAM.
+What has to be said of each is in tools/streams/damaged.py, worked by hand. The program `claxon`
+is the one at the top of the repository, or that of the environment variable CLAXON_PROGRAM.
 """
 import csv
 import html.parser
@@ -27,12 +27,8 @@ from unittest import mock
 from claxon.archive.progress import Progress
 from claxon.archive.results import Results
 from claxon.archive.run import Wanted, run
-
+from streams import damaged
 from tests import TOP, FolderCase
-
-sys.path.insert(0, str(TOP / "tools"))
-import damaged  # noqa: E402
-
 PROGRAM = os.environ.get("CLAXON_PROGRAM") or str(TOP / "claxon")
 PYTHON = TOP / "python"
 ROWS = {row.name: row for row in damaged.rows()}

@@ -15,8 +15,8 @@ from types import ModuleType
 from typing import List, Tuple
 
 import claxon
-from tests import DATA, FRAME_OF_5, MARKER, STREAMINFO, TOP, FolderCase, copy_module
-from tests import metadata_block, verbatim_frame
+from streams.frames import MARKER, metadata_block
+from tests import DATA, FRAME_OF_5, STREAMINFO, TOP, FolderCase, copy_module, verbatim_frame
 
 PYTHON = TOP / "python"
 VERIFY = PYTHON / "examples" / "verify.py"

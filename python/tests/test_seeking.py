@@ -11,7 +11,9 @@ from subprocess import PIPE
 from typing import BinaryIO, Iterator, List, NamedTuple, Optional, Sequence
 
 import claxon
-from tests import DATA, MARKER, TOP, Trickle, cases, crc, frame_header, metadata_block
+from streams import frames as writer
+from streams.frames import MARKER, constant, frame_header, metadata_block
+from tests import DATA, TOP, Trickle, cases
 from tests.test_live import numbered_frame
 
 SONG = TOP / "examples" / "tagged.flac"
@@ -371,7 +373,7 @@ class Damage(SeekCase):
         after them is found where budget is left.
         """
         start = time.process_time()
-        header = frame_header(1, 65535)
+        header = frame_header(65535)
         later = numbered_frame(77, [65535 * [0]])[:8]
         codes = (b"\xff\xf8", b"\xff", b"\xff\xf8\x69\x02")
         for repeated in (header + b"\x02", later + b"\x02", *codes):
@@ -406,9 +408,8 @@ class Resync(unittest.TestCase):
         self.assertEqual(flac.resync(), len(b"damage" + other))
         self.assertEqual(next(flac.blocks()).planar.tolist(), [1, 2, 3])
         feed = claxon.Feed()
-        header = frame_header(2, 3)[:3] + bytes([0x18, 0, 0, 2])
-        whole = header + bytes([crc(0x07, 8, header)]) + bytes([0, 0, 1, 0, 0, 2])
-        feed.feed(b"no head" + whole + crc(0x8005, 16, whole).to_bytes(2, "big"))
+        whole = writer.frame(frame_header(3, 1, 4), [constant(1, 16), constant(2, 16)])
+        feed.feed(b"no head" + whole)
         self.assertRaises(claxon.FormatError, next, feed.blocks())
         self.assertIsNotNone(feed.resync())
         self.assertEqual(next(feed.blocks()).planar.tolist(), [1, 1, 1, 2, 2, 2])
@@ -417,7 +418,7 @@ class Resync(unittest.TestCase):
         """Headers of large blocks everywhere: linear, and the frame after them is found."""
         start = time.process_time()
         for channels in (1, 8):
-            hostile = (frame_header(channels, 65535) + b"\x02") * 200000
+            hostile = (frame_header(65535, channels - 1) + b"\x02") * 200000
             frame = numbered_frame(1, channels * [[1, 2, 3]])
             content = made_head(16, 0, channels) + hostile + bytes(3000000) + frame
             flac = claxon.Flac(io.BytesIO(content))

@@ -7,7 +7,8 @@ from typing import List
 from unittest import mock
 
 import claxon
-from tests import FRAME_OF_5, crc, frame_header, head
+from streams.frames import frame, frame_header
+from tests import FRAME_OF_5, head
 from tests.test_live import numbered_frame
 from tests.test_seeking import made_head
 
@@ -20,9 +21,8 @@ def slow_frame() -> bytes:
     coefficients = 31 * f"{0:015b}" + f"{1:015b}"
     residual = "00" + "0000" + "0000" + (65535 - 32) * "1"
     bits = 8 * ("0" + "111111" + "0" + samples + "1110" + "00000" + coefficients + residual)
-    bits += "0" * (-len(bits) % 8)
-    frame = frame_header(8, 65535) + int(bits, 2).to_bytes(len(bits) // 8, "big")
-    return frame + (crc(0x8005, 16, frame) ^ 1).to_bytes(2, "big")
+    damaged = frame(frame_header(65535, 7), [bits])
+    return damaged[:-1] + bytes([damaged[-1] ^ 1])
 
 
 class Searcher(threading.Thread):

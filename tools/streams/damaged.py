@@ -520,8 +520,8 @@ def fault_rows() -> Iterator[Row]:
     yield Row(
         "ten flipped bits",
         flipped(numbered(range(21)), ten),
-        "wrong, 11 frames, 176 samples, but the streaminfo says 336, 10 places, the first at byte 53"
-        " after 16 samples: " + CRC,
+        "wrong, 11 frames, 176 samples, but the streaminfo says 336, 10 places, the first at byte"
+        " 53 after 16 samples: " + CRC,
         (11, 176),
         places,
         "wrong",
