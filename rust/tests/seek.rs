@@ -100,7 +100,7 @@ fn samples_from() {
     for (stream, _) in files() {
         let (all, channels) = (decode(&stream[..]).0, in_memory(&stream).streaminfo().channels as usize);
         let (mut flac, count) = (in_memory(&stream), all.len() / channels);
-        for at in [0, 1, count / 2, count - 1] {
+        for at in [0, (count - 1).min(1), count / 2, count - 1] {
             let samples = flac.samples_from(at as u64).unwrap().unwrap();
             assert!(samples.map(Result::unwrap).eq(all[at * channels..].iter().copied()));
         }
