@@ -30,8 +30,8 @@ int main(int argc, char **argv) {
         return 2;
     }
     FLAC__stream_decoder_set_md5_checking(decoder, false);
-    if (FLAC__stream_decoder_init_file(decoder, argv[1], add, NULL, fail, &sum) != FLAC__STREAM_DECODER_INIT_STATUS_OK
-        || !FLAC__stream_decoder_process_until_end_of_stream(decoder)) {
+    if (FLAC__stream_decoder_init_file(decoder, argv[1], add, NULL, fail, &sum) != FLAC__STREAM_DECODER_INIT_STATUS_OK ||
+        !FLAC__stream_decoder_process_until_end_of_stream(decoder)) {
         fprintf(stderr, "peer: %s can't be decoded\n", argv[1]);
         return 1;
     }

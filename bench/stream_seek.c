@@ -32,8 +32,8 @@ static int seek(FILE *file, unsigned long count, uint64_t *sum) {
     uint64_t state = 1, none = 0;
     int failed;
     FLAC__stream_decoder_set_md5_checking(decoder, false);
-    failed = FLAC__stream_decoder_init_FILE(decoder, file, add, NULL, fail, sum) != FLAC__STREAM_DECODER_INIT_STATUS_OK
-             || !FLAC__stream_decoder_process_until_end_of_metadata(decoder);
+    failed = FLAC__stream_decoder_init_FILE(decoder, file, add, NULL, fail, sum) != FLAC__STREAM_DECODER_INIT_STATUS_OK ||
+             !FLAC__stream_decoder_process_until_end_of_metadata(decoder);
     *sum = none;
     while (!failed && count-- > 0) {
         failed = !FLAC__stream_decoder_seek_absolute(decoder, place(&state, FLAC__stream_decoder_get_total_samples(decoder)));

@@ -54,15 +54,15 @@ struct claxon_info {
     uint32_t max_frame_size;  /* in bytes, or 0 if unknown */
     uint16_t min_block_size;  /* in samples of each channel; the last block may be smaller */
     uint16_t max_block_size;
-    uint8_t md5[16];          /* the MD5 sum of the samples, or zeros if unknown */
+    uint8_t md5[16]; /* the MD5 sum of the samples, or zeros if unknown */
 };
 
 /* A metadata block. */
 struct claxon_metadata {
-    size_t content;   /* the position of its content */
-    uint32_t length;  /* the length of its content in bytes */
-    uint8_t type;     /* one of enum claxon_block_type, or a reserved type */
-    uint8_t is_last;  /* 1 if the first frame follows it, else 0 */
+    size_t content;  /* the position of its content */
+    uint32_t length; /* the length of its content in bytes */
+    uint8_t type;    /* one of enum claxon_block_type, or a reserved type */
+    uint8_t is_last; /* 1 if the first frame follows it, else 0 */
 };
 
 /* The types of metadata blocks that have a name. */
@@ -168,7 +168,7 @@ uint32_t claxon_next_block_planar(const uint8_t *bytes, size_t length, size_t *a
                                   size_t error_size);
 
 /* The CRC of a frame (RFC 9639, section 9.3), as far as its bytes are there: `crc` is that of the bytes before these, 0 at
- * first, and the result that of all of them. Behind a whole frame it is 0: its last two bytes are the CRC of the others. */
+ * first, and the result that of all of them. After a whole frame it is 0: its last two bytes are the CRC of the others. */
 uint16_t claxon_crc16(uint16_t crc, const uint8_t *bytes, size_t length);
 
 /* Begins an MD5 sum of samples, for comparison with the one in the head. No samples are hashed yet. */

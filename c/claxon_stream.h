@@ -13,15 +13,15 @@
  * claxon_stream_seek goes to a sample, where another callback seeks.
  *
  * A block is given when the last byte of its frame was read, whatever the size of the frame and of the pieces: nothing is read
- * while a block can be given of the bytes that are held. Where the CRC of a frame is wrong, and in a stream that is made to cost
- * time, up to as many bytes again may be read. So may they behind a frame of more than 100 KB, after which none begins.
+ * while a block can be given of the bytes that are held. Where the CRC of a frame is wrong, and in a stream that is made to
+ * cost time, up to as many bytes again may be read. So may they after a frame of more than 100 KB, where no frame follows it.
  *
  * It holds 64 KiB of the stream, and twice as much where a frame doesn't fit, up to CLAXON_MAX_FRAME_BYTES; what is handed
  * in at once; the samples of one block; and the Vorbis comments. Any other metadata block is passed over without being held.
  *
  * Calls return an enum claxon_status, CLAXON_NEED_MORE or CLAXON_READ_FAILED. OUT_OF_MEMORY between frames: the call may be
- * repeated. INPUT_ENDS: the bytes end within the head or a frame. BUFFER_TOO_SMALL is never returned. Streams are independent of
- * one another. */
+ * repeated. INPUT_ENDS: the bytes end within the head or a frame. BUFFER_TOO_SMALL is never returned. Streams are independent
+ * of one another. */
 #ifndef CLAXON_STREAM_H
 #define CLAXON_STREAM_H
 
@@ -48,7 +48,7 @@
 typedef size_t claxon_stream_read(void *source, uint8_t *bytes, size_t length);
 
 /* Moves the source as lseek(2) does: by `offset` from its start (SEEK_SET), from where it is (SEEK_CUR) or from its end
- * (SEEK_END). Returns where it is then, in bytes from its start, or -1 where that fails. To move behind the end isn't a failure:
+ * (SEEK_END). Returns where it is then, in bytes from its start, or -1 where that fails. To move past the end isn't a failure:
  * reading there gives the end. Where the end isn't known, SEEK_END may fail. */
 typedef int64_t claxon_stream_seek_to(void *source, int64_t offset, int whence);
 
@@ -57,8 +57,8 @@ typedef int64_t claxon_stream_seek_to(void *source, int64_t offset, int whence);
 #define CLAXON_NEED_MORE 100
 
 /* What a call returns where a callback failed, of the source and not of the stream: `error` is "reading failed" or "seeking
- * failed". A later call returns it again, once it has given what it can of the bytes that are held, and calls no callback but for
- * a seek. After a seek that has succeeded the stream goes on from there. */
+ * failed". A later call returns it again, once it has given what it can of the bytes that are held, and calls no callback but
+ * for a seek. After a seek that has succeeded the stream goes on from there. */
 #define CLAXON_READ_FAILED 101
 
 /* What a stream has shown so far. */
@@ -85,7 +85,7 @@ struct claxon_stream {
     size_t ready;                /* the length of the frame that is decoded already, or 0 */
     size_t samples_size;
     uint64_t wasted, in_vain; /* work of resync, and of tries where the CRC is 0, that led to no frame */
-    uint8_t *made_head; /* as far as it was read: `made_length` bytes of content, and space for `made_size` */
+    uint8_t *made_head;       /* as far as it was read: `made_length` bytes of content, and space for `made_size` */
     size_t made_length, made_size;
     uint8_t *kept_head;
     const uint8_t *content;
@@ -138,8 +138,8 @@ CLAXON_STATIC uint32_t claxon_stream_next_block_planar(struct claxon_stream *str
 /* Goes to the next position at which a frame of the stream begins: one with the number of channels and the bit depth of `info`,
  * or any frame where a fault in the head left that unknown. It goes on after what was refused, in the head too.
  * claxon_stream_next_block gives that frame, whose block.time says how much is missing before it. NO_MORE: there is none. The
- * time is linear in the bytes: where very many headers have led to no frame, as in a stream that was made for it, some bytes are
- * passed over unsearched. */
+ * time is linear in the bytes: where very many headers have led to no frame, as in a stream that was made for it, some bytes
+ * are passed over unsearched. */
 CLAXON_STATIC uint32_t claxon_stream_resync(struct claxon_stream *stream);
 
 /* Lets a stream with a callback that reads seek too. */
@@ -182,10 +182,10 @@ CLAXON_STATIC int64_t claxon_stream_seek_fd(void *fd, int64_t offset, int whence
 #define CLAXON_STREAM_WASTED_BY_A_SYNC_CODE 16
 
 /* How much work of tries where the CRC is 0 may lead to no block, in bytes and samples, before such tries are left out: all of
- * them, and those behind which no frame seems to begin. How much of it a read makes good, and each byte that was read. And how
+ * them, and those after which no frame seems to begin. How much of it a read makes good, and each byte that was read. And how
  * many bytes an encoder may write for a sample, but for CLAXON_STREAM_STEP more.
  * By chance the CRC is 0 at one place of 65536. So byte by byte a frame of L bytes and S samples takes (L / 2 + S) / 65536 for
- * each read, which is 24 for eight channels of 65535 samples of 32 bits. In larger pieces the bytes behind such a place mostly
+ * each read, which is 24 for eight channels of 65535 samples of 32 bits. In larger pieces the bytes after such a place mostly
  * show that no frame begins there. */
 #define CLAXON_STREAM_MAX_IN_VAIN (4 * (uint64_t)CLAXON_MAX_FRAME_BYTES)
 #define CLAXON_STREAM_MAX_UNLIKELY (2 * (uint64_t)CLAXON_MAX_FRAME_BYTES)
@@ -668,7 +668,7 @@ CLAXON_STATIC int claxon_stream_may_end(const struct claxon_stream *stream, cons
     return stream->in_vain <= (is_likely ? CLAXON_STREAM_MAX_IN_VAIN : CLAXON_STREAM_MAX_UNLIKELY);
 }
 
-/* Whether the frame may end in the bytes that weren't tried: behind its footer the CRC of all its bytes is 0, and by chance
+/* Whether the frame may end in the bytes that weren't tried: after its footer the CRC of all its bytes is 0, and by chance
  * at one place of 65536. It is summed up to the first such place. */
 CLAXON_STATIC int claxon_stream_has_footer(struct claxon_stream *stream) {
     const uint8_t *bytes = stream->window + stream->start;
@@ -1050,8 +1050,7 @@ CLAXON_STATIC int claxon_stream_has_sample(const struct claxon_block *block, uin
 CLAXON_STATIC int claxon_stream_is_likely(struct claxon_stream *stream, const struct claxon_stream_span *span,
                                           struct claxon_block *block) {
     const uint8_t *bytes = stream->window + stream->start;
-    return stream->held >= 2 && bytes[1] >> 1 == 0x7c &&
-           claxon_stream_frame_header(stream, block) == CLAXON_BUFFER_TOO_SMALL &&
+    return stream->held >= 2 && bytes[1] >> 1 == 0x7c && claxon_stream_frame_header(stream, block) == CLAXON_BUFFER_TOO_SMALL &&
            (stream->info.channels == 0 || stream->info.channels == block->channels) && block->time >= span->start_time &&
            block->time < span->end_time;
 }

@@ -1,4 +1,4 @@
-/* The memory of the library on 64-bit ARM, over malloc. For x86-64 the toolchain has these three functions; for ARM it has none. */
+/* The memory of the library on 64-bit ARM, over malloc. The toolchain has these three functions for x86-64 alone. */
 #include <stddef.h>
 #include <stdlib.h>
 

@@ -1,7 +1,8 @@
-"""Makes a wheel with the shared library for C inside, named by the platform that the library is for.
+"""Makes a wheel with the shared library for C inside, named by the library's platform.
 
 The library is that in the environment variable CLAXON_LIBRARY, else that of `make -C c` in the
-repository, else that of the archive which has this folder. The version is in the file VERSION above.
+repository, else that of the archive which has this folder. The version is in the file VERSION
+above.
 """
 import os
 import pathlib

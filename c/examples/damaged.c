@@ -1,5 +1,5 @@
-/* damaged FILE: writes samples as play does, and goes on after damage: it prints what is wrong, and what is missing. Its status is
- * 1 where the file couldn't be read. */
+/* damaged FILE: writes samples as play does, and goes on after damage: it prints what is wrong, and what is missing. Its status
+ * is 1 where the file couldn't be read. */
 #include <inttypes.h>
 
 #include "claxon_stream.h"

@@ -1,5 +1,5 @@
-/* join < STREAM: joins a live FLAC stream in the middle, without its head: writes samples as play does, and prints the format that
- * the blocks have, where that is new. */
+/* join < STREAM: joins a live FLAC stream in the middle, without its head: writes samples as play does, and prints the format
+ * that the blocks have, where that is new. */
 #include <inttypes.h>
 
 #include "claxon_stream.h"

@@ -2,8 +2,9 @@
  * compares the number of its samples, the FNV-1a hash of their little-endian bytes, and the result: `ok`, the error, or `IO`
  * where the bytes end too early. It also tests planar samples, buffers that are too small, and the calls for metadata blocks:
  * by the lines of FOLDER/blocks.txt whose bytes are a whole content, by headers worked out by hand, and on the files. It tests
- * the sample rate and the bit depth of blocks, by each code of them. And it tests the MD5 sums of samples, by those of another program and of the files' encoders, and the CRC of frames, by values that
- * are known of CRC-16/UMTS, and by the last two bytes of each frame. */
+ * the sample rate and the bit depth of blocks, by each code of them. And it tests the MD5 sums of samples, by those of another
+ * program and of the files' encoders, and the CRC of frames, by values that are known of CRC-16/UMTS, and by the last two bytes
+ * of each frame. */
 #include <ctype.h>
 #include <stdarg.h>
 
@@ -70,8 +71,10 @@ static size_t test_truncated_header(next_block *call, const struct frame *frame)
     size_t length = 0, at = 0;
     struct claxon_block block;
     char error[1];
-    while (length < frame->length && call(frame->bytes, length, &at, frame->info, samples, 0, &block, error, 0) != CLAXON_BUFFER_TOO_SMALL) {
-        expect_status(call, frame, frame->bytes, length, 0, length < 2 ? CLAXON_NO_MORE : CLAXON_INPUT_ENDS, "a truncated header");
+    while (length < frame->length &&
+           call(frame->bytes, length, &at, frame->info, samples, 0, &block, error, 0) != CLAXON_BUFFER_TOO_SMALL) {
+        expect_status(call, frame, frame->bytes, length, 0, length < 2 ? CLAXON_NO_MORE : CLAXON_INPUT_ENDS,
+                      "a truncated header");
         length++;
     }
     expect(length >= 6 && length <= 16, frame->name, "the length of a header");
@@ -93,7 +96,8 @@ static void test_small_buffer(next_block *call, const struct frame *frame) {
     if (damaged) {
         memcpy(damaged, frame->bytes, frame->length);
         damaged[frame->length - 1] ^= 1; /* the CRC of the frame */
-        expect_status(call, frame, damaged, frame->length, count - 1, CLAXON_BUFFER_TOO_SMALL, "a small buffer for a damaged frame");
+        expect_status(call, frame, damaged, frame->length, count - 1, CLAXON_BUFFER_TOO_SMALL,
+                      "a small buffer for a damaged frame");
         expect_status(call, frame, damaged, frame->length, count, CLAXON_FORMAT_ERROR, "a damaged frame");
         damaged[header - 1] ^= 1; /* the CRC of its header */
         expect_status(call, frame, damaged, frame->length, 0, CLAXON_FORMAT_ERROR, "a damaged header");
@@ -108,7 +112,8 @@ static void test_planar(const struct frame *frame, const int32_t *interleaved) {
     char error[1];
     size_t at = 0, channels = frame->block.channels, duration = frame->block.duration, equal = 0;
     memset(&samples[channels * duration], UNTOUCHED, sizeof *samples);
-    uint32_t status = claxon_next_block_planar(frame->bytes, frame->length, &at, frame->info, samples, channels * duration, &block, error, 0);
+    uint32_t status =
+        claxon_next_block_planar(frame->bytes, frame->length, &at, frame->info, samples, channels * duration, &block, error, 0);
     expect(status == CLAXON_OK && at == frame->length, frame->name, "planar samples");
     expect(is_same_block(&block, &frame->block), frame->name, "the block of planar samples");
     expect(is_untouched(&samples[channels * duration], sizeof *samples), frame->name, "after planar samples");
@@ -140,7 +145,7 @@ static void test_frame(const struct frame *frame) {
 
 /* ---- the sample rate and the bit depth of blocks */
 
-/* A frame with these codes of its block size, its sample rate and its bit depth, and these bytes behind them: a constant channel
+/* A frame with these codes of its block size, its sample rate and its bit depth, and these bytes after them: a constant channel
  * of zeros. Returns its length. */
 static size_t put_frame(uint8_t *bytes, unsigned codes, unsigned depth_code, const char *fields, size_t fields_length) {
     size_t at = 4 + fields_length;
@@ -173,18 +178,25 @@ static void expect_block(const char *name, const uint8_t *bytes, size_t length, 
         at = 0;
         memset(&block, UNTOUCHED, sizeof block);
         uint32_t status = calls[i / 2](bytes, length, &at, &info, samples, capacity, &block, error, sizeof error);
-        expect(status == (capacity ? CLAXON_OK : CLAXON_BUFFER_TOO_SMALL) && is_same_block(&block, expected), name, "next_block");
+        expect(status == (capacity ? CLAXON_OK : CLAXON_BUFFER_TOO_SMALL) && is_same_block(&block, expected), name,
+               "next_block");
     }
     at = 0;
     memset(&block, UNTOUCHED, sizeof block);
-    expect(claxon_find_frame(bytes, length, &at, &info, &budget, &block) == CLAXON_OK && is_same_block(&block, expected), name, "find_frame");
+    expect(claxon_find_frame(bytes, length, &at, &info, &budget, &block) == CLAXON_OK && is_same_block(&block, expected), name,
+           "find_frame");
     memset(&block, UNTOUCHED, sizeof block);
-    expect(claxon_seek(bytes, length, &info, expected->time, UINT64_MAX, &at, &block) == CLAXON_OK && is_same_block(&block, expected), name, "seek");
+    expect(claxon_seek(bytes, length, &info, expected->time, UINT64_MAX, &at, &block) == CLAXON_OK &&
+               is_same_block(&block, expected),
+           name, "seek");
     memset(&block, UNTOUCHED, sizeof block);
-    expect(claxon_seek_block(bytes, length, &info, expected->time, UINT64_MAX, &at, samples, CLAXON_MAX_SAMPLES, &block) == CLAXON_OK && is_same_block(&block, expected), name, "seek_block");
+    expect(claxon_seek_block(bytes, length, &info, expected->time, UINT64_MAX, &at, samples, CLAXON_MAX_SAMPLES, &block) ==
+                   CLAXON_OK &&
+               is_same_block(&block, expected),
+           name, "seek_block");
 }
 
-/* Each code of a sample rate, behind a coded number of one byte or more, and a block size with and without a field. */
+/* Each code of a sample rate, after a coded number of one byte or more, and a block size with and without a field. */
 static const struct {
     unsigned codes;
     const char *fields;
@@ -270,13 +282,15 @@ static void test_truncated_text(const char *name, const uint8_t *bytes, size_t l
         char truncated[9];
         memset(truncated, UNTOUCHED, sizeof truncated);
         claxon_open(bytes, length, &info, truncated, capacity);
-        expect(capacity == 0 || (strlen(truncated) == capacity - 1 && strncmp(truncated, text, capacity - 1) == 0), name, "a truncated text");
+        expect(capacity == 0 || (strlen(truncated) == capacity - 1 && strncmp(truncated, text, capacity - 1) == 0), name,
+               "a truncated text");
         expect(truncated[capacity] == UNTOUCHED, name, "after a truncated text");
     }
 }
 
 /* Passes the file in pieces of `piece` bytes, and returns the last status. */
-static uint32_t decode(const char *name, const uint8_t *bytes, size_t length, size_t piece, struct tally *tally, char *error, size_t error_size) {
+static uint32_t decode(const char *name, const uint8_t *bytes, size_t length, size_t piece, struct tally *tally, char *error,
+                       size_t error_size) {
     struct claxon_info info;
     struct claxon_block block;
     size_t start = 0, at = 0, end = 0;
@@ -295,7 +309,8 @@ static uint32_t decode(const char *name, const uint8_t *bytes, size_t length, si
     for (;;) {
         size_t before = at;
         /* The bytes before `start` aren't passed any more. */
-        status = claxon_next_block(bytes + start, end - start, &at, &info, samples, CLAXON_MAX_SAMPLES, &block, error, error_size);
+        status =
+            claxon_next_block(bytes + start, end - start, &at, &info, samples, CLAXON_MAX_SAMPLES, &block, error, error_size);
         if (status == CLAXON_OK) {
             add_samples(tally, (size_t)block.channels * block.duration);
             if (piece == SIZE_MAX) {
@@ -399,7 +414,8 @@ static void add_streaminfo(struct text *text, const uint8_t *content, size_t len
 }
 
 /* Adds the tags to the text, counts them, and returns the last status. */
-static uint32_t add_tags(struct text *text, const uint8_t *content, size_t length, size_t *tags, char *error, size_t error_size) {
+static uint32_t add_tags(struct text *text, const uint8_t *content, size_t length, size_t *tags, char *error,
+                         size_t error_size) {
     size_t at = 0;
     for (*tags = 0;; ++*tags) {
         size_t before = at;
@@ -410,7 +426,9 @@ static uint32_t add_tags(struct text *text, const uint8_t *content, size_t lengt
             expect(at == before && is_untouched(&tag, sizeof tag), text->chars, "a position or a struct without a tag");
             return status;
         }
-        expect(at > before && tag.value_at == tag.name_at + tag.name_length + 1 && tag.value_at + tag.value_length == at && at <= length && content[tag.value_at - 1] == '=', text->chars, "where a tag is");
+        expect(at > before && tag.value_at == tag.name_at + tag.name_length + 1 && tag.value_at + tag.value_length == at &&
+                   at <= length && content[tag.value_at - 1] == '=',
+               text->chars, "where a tag is");
         add(text, *tags ? ", (" : "(");
         add_quoted(text, content + tag.name_at, at - tag.name_at);
         add(text, ", %zu)", tag.name_length);
@@ -423,7 +441,8 @@ static void add_comment(struct text *text, const uint8_t *content, size_t length
     uint32_t status = claxon_vendor(content, length, &vendor, &vendor_length, &tags, error, sizeof error);
     if (status != CLAXON_OK) {
         add_error(text, status, error);
-        expect(vendor == UNTOUCHED && vendor_length == UNTOUCHED && tags == UNTOUCHED, text->chars, "numbers without a vendor string");
+        expect(vendor == UNTOUCHED && vendor_length == UNTOUCHED && tags == UNTOUCHED, text->chars,
+               "numbers without a vendor string");
         return;
     }
     add(text, "comment ");
@@ -437,7 +456,8 @@ static void add_comment(struct text *text, const uint8_t *content, size_t length
 /* A fault of an entry, or of what stands before all entries but the vendor string's bytes, is also one of the tags. */
 static void test_faulty_tags(const uint8_t *content, size_t length, const char *expected) {
     static struct text text, ignored;
-    const char *faults[] = {"block is too short", "vendor string too long", "too long for Vorbis comment block", "does not contain '='", "field name contains invalid byte"};
+    const char *faults[] = {"block is too short", "vendor string too long", "too long for Vorbis comment block",
+                            "does not contain '='", "field name contains invalid byte"};
     for (size_t i = 0; i < sizeof faults / sizeof *faults; i++) {
         if (strstr(expected, faults[i])) {
             size_t tags;
@@ -449,7 +469,8 @@ static void test_faulty_tags(const uint8_t *content, size_t length, const char *
     }
 }
 
-/* `TYPE LENGTH BYTES: CONSUMED FAULT` or `TYPE LENGTH BYTES: ok CONSUMED BLOCK`: whether it is a whole content that was tested. */
+/* Tests a line `TYPE LENGTH BYTES: CONSUMED FAULT` or `TYPE LENGTH BYTES: ok CONSUMED BLOCK`. Returns whether it has a whole
+ * content: no other is tested. */
 static int test_content_line(char *line) {
     static uint8_t content[1 << 15];
     static struct text text;
@@ -499,7 +520,10 @@ static void test_headers(void) {
         uint8_t bytes[4];
         uint8_t type, is_last;
         uint32_t length;
-    } headers[] = {{{0x84, 0x00, 0x01, 0x02}, 4, 1, 258}, {{0x7f, 0xff, 0xff, 0xff}, 127, 0, 16777215}, {{0x80, 0x00, 0x00, 0x22}, 0, 1, 34}, {{0x06, 0x80, 0x00, 0x00}, 6, 0, 8388608}};
+    } headers[] = {{{0x84, 0x00, 0x01, 0x02}, 4, 1, 258},
+                   {{0x7f, 0xff, 0xff, 0xff}, 127, 0, 16777215},
+                   {{0x80, 0x00, 0x00, 0x22}, 0, 1, 34},
+                   {{0x06, 0x80, 0x00, 0x00}, 6, 0, 8388608}};
     for (size_t i = 0; i < sizeof headers / sizeof *headers; i++) {
         for (size_t start = 0; start < 3; start++) {
             uint8_t bytes[8] = {0xff, 0xff, 0xff, 0xff, 0xff, 0xff, 0xff, 0xff};
@@ -509,14 +533,20 @@ static void test_headers(void) {
             for (size_t length = 0; length < start + 4; length++) {
                 size_t at = start;
                 metadata = untouched;
-                expect(claxon_next_metadata(bytes, length, &at, &metadata) == CLAXON_INPUT_ENDS && at == start && memcmp(&metadata, &untouched, sizeof metadata) == 0, "a header", "less than four bytes");
+                expect(claxon_next_metadata(bytes, length, &at, &metadata) == CLAXON_INPUT_ENDS && at == start &&
+                           memcmp(&metadata, &untouched, sizeof metadata) == 0,
+                       "a header", "less than four bytes");
             }
             size_t at = start;
-            expect(claxon_next_metadata(bytes, start + 4, &at, &metadata) == CLAXON_OK && at == start + 4 + headers[i].length && metadata.content == start + 4 && metadata.length == headers[i].length && metadata.type == headers[i].type && metadata.is_last == headers[i].is_last, "a header", "its fields");
+            expect(claxon_next_metadata(bytes, start + 4, &at, &metadata) == CLAXON_OK && at == start + 4 + headers[i].length &&
+                       metadata.content == start + 4 && metadata.length == headers[i].length &&
+                       metadata.type == headers[i].type && metadata.is_last == headers[i].is_last,
+                   "a header", "its fields");
             for (int j = 0; j < 3; j++) {
                 const size_t past[] = {start + 4, start + 5, SIZE_MAX};
                 at = past[j];
-                expect(claxon_next_metadata(bytes, start + 4, &at, &metadata) == CLAXON_INPUT_ENDS && at == past[j], "a header", "a position past the end");
+                expect(claxon_next_metadata(bytes, start + 4, &at, &metadata) == CLAXON_INPUT_ENDS && at == past[j], "a header",
+                       "a position past the end");
             }
         }
     }
@@ -530,9 +560,15 @@ static void test_positions(void) {
         uint32_t status;
         size_t after;
         const char *error;
-    } rows[] = {{0, CLAXON_OK, 15, ""}, {8, CLAXON_OK, 15, ""}, {15, CLAXON_OK, 21, ""}, {21, CLAXON_NO_MORE, 21, ""}, {22, CLAXON_NO_MORE, 22, ""}, {SIZE_MAX, CLAXON_NO_MORE, SIZE_MAX, ""},
-        {4, CLAXON_FORMAT_ERROR, 4, "Vorbis comment does not contain '='"}, {12, CLAXON_FORMAT_ERROR, 12, "Vorbis comment too long for Vorbis comment block"},
-        {18, CLAXON_FORMAT_ERROR, 18, "Vorbis comment block has excess data"}};
+    } rows[] = {{0, CLAXON_OK, 15, ""},
+                {8, CLAXON_OK, 15, ""},
+                {15, CLAXON_OK, 21, ""},
+                {21, CLAXON_NO_MORE, 21, ""},
+                {22, CLAXON_NO_MORE, 22, ""},
+                {SIZE_MAX, CLAXON_NO_MORE, SIZE_MAX, ""},
+                {4, CLAXON_FORMAT_ERROR, 4, "Vorbis comment does not contain '='"},
+                {12, CLAXON_FORMAT_ERROR, 12, "Vorbis comment too long for Vorbis comment block"},
+                {18, CLAXON_FORMAT_ERROR, 18, "Vorbis comment block has excess data"}};
     for (size_t i = 0; i < sizeof rows / sizeof *rows; i++) {
         size_t at = rows[i].at;
         struct claxon_tag tag;
@@ -562,12 +598,15 @@ static void test_blocks_of(const char *name, const uint8_t *bytes, size_t length
         text.length = 0;
         if (metadata.type == CLAXON_STREAMINFO) {
             struct claxon_info alone;
-            expect(start == 4 && claxon_streaminfo(bytes + metadata.content, metadata.length, &alone, error, sizeof error) == CLAXON_OK, name, "the streaminfo");
+            expect(start == 4 &&
+                       claxon_streaminfo(bytes + metadata.content, metadata.length, &alone, error, sizeof error) == CLAXON_OK,
+                   name, "the streaminfo");
             alone.first_frame = info.first_frame;
             alone.tags = info.tags;
             expect(memcmp(&alone, &info, sizeof info) == 0, name, "the streaminfo alone");
         } else if (metadata.type == CLAXON_VORBIS_COMMENT) {
-            expect(add_tags(&text, bytes + metadata.content, metadata.length, &tags, error, sizeof error) == CLAXON_NO_MORE, name, "the tags");
+            expect(add_tags(&text, bytes + metadata.content, metadata.length, &tags, error, sizeof error) == CLAXON_NO_MORE,
+                   name, "the tags");
             add_comment(&text, bytes + metadata.content, metadata.length);
         }
     }
@@ -610,7 +649,8 @@ static void test_bit_depths(void) {
     for (size_t row = 0; row < sizeof sums / sizeof *sums; row++) {
         claxon_md5_start(&md5);
         expect_sum(&md5, "d41d8cd98f00b204e9800998ecf8427e", "of nothing");
-        expect(claxon_md5_samples(&md5, sums[row].samples, SUMMED, sums[row].bits) == CLAXON_OK, "claxon_md5_samples", "a bit depth");
+        expect(claxon_md5_samples(&md5, sums[row].samples, SUMMED, sums[row].bits) == CLAXON_OK, "claxon_md5_samples",
+               "a bit depth");
         expect_sum(&md5, sums[row].sum, "of samples");
         claxon_md5_start(&md5);
         for (size_t i = 0; i < SUMMED; i++) {
@@ -627,15 +667,17 @@ static void test_other_depths(void) {
     memset(&md5, UNTOUCHED, sizeof md5);
     before = md5;
     for (size_t i = 0; i < sizeof others / sizeof *others; i++) {
-        expect(claxon_md5_samples(&md5, sums->samples, SUMMED, others[i]) == CLAXON_UNSUPPORTED, "claxon_md5_samples", "another bit depth");
+        expect(claxon_md5_samples(&md5, sums->samples, SUMMED, others[i]) == CLAXON_UNSUPPORTED, "claxon_md5_samples",
+               "another bit depth");
         expect(memcmp(&md5, &before, sizeof md5) == 0, "claxon_md5_samples", "a sum after another bit depth");
     }
 }
 
 /* A file of a real encoder has the sum that this encoder gave it. */
 static int test_sum_of(const char *name, const uint8_t *bytes, size_t length) {
-    const char *names[] = {"eight_bits.flac", "escapes_of_a_real_encoder.flac", "left_channel_alone.flac",
-                           "other_encoder_speech.flac", "quiet_noise.flac", "wasted_bits_of_24.flac"};
+    const char *names[] = {"eight_bits.flac",         "escapes_of_a_real_encoder.flac",
+                           "left_channel_alone.flac", "other_encoder_speech.flac",
+                           "quiet_noise.flac",        "wasted_bits_of_24.flac"};
     size_t i = 0, count = sizeof names / sizeof *names;
     while (i < count && strcmp(name, names[i]) != 0) {
         i++;
@@ -650,7 +692,8 @@ static int test_sum_of(const char *name, const uint8_t *bytes, size_t length) {
     char error[64];
     claxon_md5_start(&md5);
     expect(claxon_open(bytes, length, &info, error, sizeof error) == CLAXON_OK, name, "the head");
-    for (size_t at = info.first_frame; claxon_next_block(bytes, length, &at, &info, samples, CLAXON_MAX_SAMPLES, &block, error, sizeof error) == CLAXON_OK;) {
+    for (size_t at = info.first_frame;
+         claxon_next_block(bytes, length, &at, &info, samples, CLAXON_MAX_SAMPLES, &block, error, sizeof error) == CLAXON_OK;) {
         claxon_md5_samples(&md5, samples, (size_t)block.channels * block.duration, info.bits_per_sample);
     }
     claxon_md5_finish(&md5, sum);

@@ -1,8 +1,8 @@
 /* hostile MEGABYTES SECONDS: reads streams of so many megabytes that are made to cost time or memory, by claxon_stream.h, and
  * goes on after each fault up to the end. It prints the processor time of each, and fails where one takes more than so many
- * seconds, or one kind more than twice as many, or where the frame at the end, after 8 megabytes of zeros, isn't found. So it is
- * of searches in memory, of a frame and of a sample, whose budget is a sample for each byte: they have to find that frame, or to
- * stop. */
+ * seconds, or one kind more than twice as many, or where the frame at the end, after 8 megabytes of zeros, isn't found. So it
+ * is of searches in memory, of a frame and of a sample, whose budget is a sample for each byte: they have to find that frame,
+ * or to stop. */
 #include <stdio.h>
 #include <stdlib.h>
 #include <string.h>
@@ -51,7 +51,7 @@ static size_t put_frame_header(uint8_t *bytes, unsigned channels, unsigned durat
     return 8;
 }
 
-/* Appends the CRC of so many bytes, so that it is 0 behind it, and stays 0 over zeros. Returns the length with it. */
+/* Appends the CRC of so many bytes, so that it is 0 after it, and stays 0 over zeros. Returns the length with it. */
 static size_t put_crc(uint8_t *bytes, size_t length) {
     uint16_t crc = claxon_crc16(0, bytes, length);
     bytes[length] = (uint8_t)(crc >> 8);
@@ -207,8 +207,8 @@ static void frames_of_footers(uint8_t *bytes, size_t length) {
     }
 }
 
-/* A good frame of eight channels of 65535 samples in a megabyte. Seven channels are constant. The last one is in Rice codes of 0
- * bits, of which 120 are runs of 8 KB of zeros, in which the CRC is 0 at each byte. Returns its length. */
+/* A good frame of eight channels of 65535 samples in a megabyte. Seven channels are constant. The last one is in Rice codes of
+ * 0 bits, of which 120 are runs of 8 KB of zeros, in which the CRC is 0 at each byte. Returns its length. */
 static size_t put_large_frame_of_footers(uint8_t *bytes) {
     size_t at = put_frame_header(bytes, 8, 65535) + 7 * 3;
     unsigned samples = 65535 - 1, code, byte;
@@ -388,8 +388,8 @@ static int read_stream(struct bytes *source, int is_fed) {
     return is_found && end == source->length;
 }
 
-/* Few bytes at a time, a stream may cost what real frames of a megabyte do in which the CRC is 0 by chance, and its runs of zeros
- * are decoded more slowly than those. */
+/* Few bytes at a time, a stream may cost what real frames of a megabyte do in which the CRC is 0 by chance, and its runs of
+ * zeros are decoded more slowly than those. */
 static double most_of(const struct kind *kind, double most) {
     return kind->fill == large_frames_of_footers && kind->piece < 10 ? 2 * most : most;
 }
@@ -431,7 +431,9 @@ static int is_ended(const char *what, const char *name, clock_t start, uint32_t 
     double seconds = (double)(clock() - start) / CLOCKS_PER_SEC;
     int is_right = status == CLAXON_OVER_BUDGET || (status == CLAXON_OK && is_last);
     printf("hostile: %6.3f s, %s %s: %s%s\n", seconds, what, name, status == CLAXON_OK ? "found" : "stopped",
-           !is_right ? ": not the last frame" : seconds > most ? ": too slow" : "");
+           !is_right        ? ": not the last frame"
+           : seconds > most ? ": too slow"
+                            : "");
     fflush(stdout);
     return is_right && seconds <= most;
 }

@@ -19,16 +19,22 @@ static inline void expect(int holds, const char *name, const char *what) {
     }
 }
 
-/* The CRC of a header: the remainder of its bytes, followed by zeros. (RFC 9639, section 9.1.8.) */
-static inline uint8_t crc8(const uint8_t *bytes, size_t length) {
+/* The remainder of the bytes, followed by zeros, by a polynomial of so many bits. */
+static inline unsigned crc_of(const uint8_t *bytes, size_t length, unsigned polynomial, int bits) {
     unsigned crc = 0;
     for (size_t i = 0; i < length; i++) {
-        crc ^= bytes[i];
+        crc ^= (unsigned)bytes[i] << (bits - 8);
         for (int bit = 0; bit < 8; bit++) {
-            crc = crc & 0x80 ? (crc << 1 ^ 0x07) & 0xff : crc << 1;
+            crc = crc >> (bits - 1) & 1 ? crc << 1 ^ polynomial : crc << 1;
         }
+        crc &= (1u << bits) - 1;
     }
-    return (uint8_t)crc;
+    return crc;
+}
+
+/* The CRC of a header (RFC 9639, section 9.1.8). */
+static inline uint8_t crc8(const uint8_t *bytes, size_t length) {
+    return (uint8_t)crc_of(bytes, length, 0x107, 8);
 }
 
 /* The number of samples, and the FNV-1a hash of their little-endian bytes. */
@@ -59,8 +65,9 @@ static inline const char *result_of(uint32_t status, const char *error, char *te
     return text;
 }
 
-/* The sample rate in Hz that the header of a frame says, or 0 where it leaves that to the streaminfo (RFC 9639, sections 9.1.2 and
- * 9.1.5 to 9.1.7): behind four bytes are the coded number and the block size, where it has a field, and the field of the rate. */
+/* The sample rate in Hz that the header of a frame says, or 0 where it leaves that to the streaminfo (RFC 9639, sections 9.1.2
+ * and 9.1.5 to 9.1.7): after four bytes are the coded number and the block size, where it has a field, and the field of the
+ * rate. */
 static inline uint32_t rate_in_header(const uint8_t *header) {
     static const uint32_t rates[12] = {0, 88200, 176400, 192000, 8000, 16000, 22050, 24000, 32000, 44100, 48000, 96000};
     unsigned size = header[2] >> 4, rate = header[2] & 15, bit = 0x40;

@@ -69,19 +69,6 @@ static void put_head(struct live *live, unsigned channels, unsigned bits) {
     live->first_frame = live->length;
 }
 
-/* The remainder of the bytes, followed by zeros, by a polynomial of so many bits. */
-static unsigned crc_of(const uint8_t *bytes, size_t length, unsigned polynomial, int bits) {
-    unsigned crc = 0;
-    for (size_t i = 0; i < length; i++) {
-        crc ^= (unsigned)bytes[i] << (bits - 8);
-        for (int bit = 0; bit < 8; bit++) {
-            crc = crc >> (bits - 1) & 1 ? crc << 1 ^ polynomial : crc << 1;
-        }
-        crc &= (1u << bits) - 1;
-    }
-    return crc;
-}
-
 /* What a frame has: its number, how many samples of each channel, and of how many bits those are; 0: each channel is constant.
  * Frames of other seeds have other samples. */
 struct frame {
@@ -112,7 +99,7 @@ static void put_bits(struct bits *to, uint32_t number, unsigned count) {
     }
 }
 
-/* A constant channel; one of samples as they are; or one partition of them, behind a predictor of order 0. */
+/* A constant channel; one of samples as they are; or one partition of them, after a predictor of order 0. */
 static void put_channel(struct bits *to, const struct frame *frame, unsigned depth, unsigned channel) {
     if (frame->bits == 0) {
         put_bits(to, 0x00, 8);

@@ -6,27 +6,10 @@
  * - Memory is refused.
  *
  * With 0 ROUNDS small files are read alone, for tools that make it slow. It is linked with --wrap for malloc and realloc. */
+#include "faults.h"
 #include "known.h"
 
 #define UNTOUCHED 0x55
-
-void *__real_malloc(size_t size);
-void *__real_realloc(void *old, size_t size);
-void *__wrap_malloc(size_t size);
-void *__wrap_realloc(void *old, size_t size);
-
-static int is_refusing;
-static size_t requests;
-
-void *__wrap_malloc(size_t size) {
-    requests++;
-    return is_refusing ? NULL : __real_malloc(size);
-}
-
-void *__wrap_realloc(void *old, size_t size) {
-    requests++;
-    return is_refusing ? NULL : __real_realloc(old, size);
-}
 
 /* ---- what stands at each position */
 
@@ -68,8 +51,8 @@ static struct place place_at(const struct stream *stream, size_t position) {
     place.has_header = is_header && has_format(&stream->info, stream->bytes + position, &place.block);
     if (is_header) {
         expect_format(stream->name, &place.block, stream->bytes + position);
-        status = claxon_next_block(stream->bytes, stream->length, &at, &stream->info, samples, CLAXON_MAX_SAMPLES, &block, error,
-                                   sizeof error);
+        status = claxon_next_block(stream->bytes, stream->length, &at, &stream->info, samples, CLAXON_MAX_SAMPLES, &block,
+                                   error, sizeof error);
     }
     place.has_frame = place.has_header && status == CLAXON_OK;
     place.is_undecided = (!is_header || place.has_header) && (status == CLAXON_INPUT_ENDS || status == CLAXON_NO_MORE);
@@ -124,8 +107,8 @@ static void expect_given(const struct stream *stream, uint64_t sample, size_t ca
     memset(&untouched, UNTOUCHED, sizeof untouched);
     memset(&block, UNTOUCHED, sizeof block);
     memset(samples, UNTOUCHED, (capacity + 1) * sizeof *samples);
-    uint32_t status = claxon_seek_block(stream->bytes, stream->length, &stream->info, sample, expected->left, &at, samples,
-                                        capacity, &block);
+    uint32_t status =
+        claxon_seek_block(stream->bytes, stream->length, &stream->info, sample, expected->left, &at, samples, capacity, &block);
     expect(status == expected->status && at == expected->at, stream->name, "the status and the position of seek_block");
     expect(memcmp(&block, &expected->block, sizeof block) == 0, stream->name, "the block of seek_block");
     expect(count == 0 || memcmp(samples, given, count * sizeof *samples) == 0, stream->name, "the samples of seek_block");
@@ -154,8 +137,7 @@ static void test_seek_block(const struct stream *stream, uint64_t sample, struct
 static struct found seek(const struct stream *stream, uint64_t sample, uint64_t budget) {
     struct found found = {0, UNTOUCHED, budget, {0, 0, 0, 0, 0}};
     memset(&found.block, UNTOUCHED, sizeof found.block);
-    found.status =
-        claxon_seek(stream->bytes, stream->length, &stream->info, sample, budget, &found.at, &found.block);
+    found.status = claxon_seek(stream->bytes, stream->length, &stream->info, sample, budget, &found.at, &found.block);
     test_seek_block(stream, sample, found);
     return found;
 }
@@ -190,7 +172,8 @@ static void test_find(const struct stream *stream, size_t from, uint64_t budget)
     struct found expected = find_place(stream, from, budget);
     struct found found = find(stream, from, budget);
     expect_found(stream, found, expected.status, expected.at, expected.left, "find_frame");
-    expect(expected.status != CLAXON_OK || is_same_block(&found.block, &expected.block), stream->name, "the block that is found");
+    expect(expected.status != CLAXON_OK || is_same_block(&found.block, &expected.block), stream->name,
+           "the block that is found");
 }
 
 /* Whether a frame with the sample begins at the position. */
@@ -212,15 +195,6 @@ static void test_seek(const struct stream *stream, uint64_t sample) {
         expect(found.status == CLAXON_OK && is_same_block(&found.block, &stream->places[found.at].block), stream->name,
                "the block of seek");
     }
-}
-
-/* Numbers that look random, the same in each run. */
-
-static uint64_t random_state = 1;
-
-static uint32_t below(uint32_t limit) {
-    random_state = random_state * UINT64_C(6364136223846793005) + UINT64_C(1442695040888963407);
-    return limit ? (uint32_t)((random_state >> 33) % limit) : 0;
 }
 
 /* Around the position of a header: with each budget that decides something. */
@@ -276,20 +250,6 @@ static struct stream stream_of(const char *name, const uint8_t *bytes, size_t le
 }
 
 /* ---- files */
-
-static void damage(uint8_t *bytes, size_t length) {
-    for (uint32_t changes = 1 + below(3); changes > 0; changes--) {
-        size_t at = below((uint32_t)length);
-        size_t count = 1 + below(40);
-        count = count < length - at ? count : length - at;
-        switch (below(4)) {
-        case 0: bytes[at] ^= (uint8_t)(1 << below(8)); break;
-        case 1: memset(bytes + at, below(2) ? 0 : 0xff, count); break;
-        case 2: memmove(bytes + at, bytes + at + count, length - at - count); break;
-        default: memmove(bytes + at, bytes + below((uint32_t)(length - count + 1)), count);
-        }
-    }
-}
 
 /* The file, with its streaminfo and with none; and damaged, of which a part is moved too, so that times are out of order. */
 static size_t test_file(const char *name, const uint8_t *bytes, size_t length, uint32_t rounds) {
@@ -364,11 +324,12 @@ static void test_row(const char *folder, size_t row) {
     }
     expect(time == 0 || seek(&stream, time - 1, 0).at < at, stream.name, "the sample before a row");
     if (is_last) {
-        expect_found(&stream, seek(&stream, end, 0), CLAXON_NO_MORE, UNTOUCHED, 0, "the sample behind the last");
+        expect_found(&stream, seek(&stream, end, 0), CLAXON_NO_MORE, UNTOUCHED, 0, "the sample after the last");
     } else {
-        expect(seek(&stream, end, 0).at > at, stream.name, "the sample behind a row");
+        expect(seek(&stream, end, 0).at > at, stream.name, "the sample after a row");
     }
-    expect_found(&stream, find(&stream, at, samples_of(&(struct claxon_block){0, stream.info.channels, rows[row].duration, 0, 0})),
+    expect_found(&stream,
+                 find(&stream, at, samples_of(&(struct claxon_block){0, stream.info.channels, rows[row].duration, 0, 0})),
                  CLAXON_OK, at, 0, "a frame at its position");
     expect(find(&stream, at + 1, UINT64_MAX).at > at, stream.name, "a frame at the next position");
     free(bytes);
@@ -448,29 +409,23 @@ static void test_infos(const uint8_t *bytes, size_t length) {
     expect_found(&stream, seek(&stream, 8191, 0), CLAXON_NO_MORE, UNTOUCHED, 0, "a frame before the first frame");
     expect_found(&stream, seek(&stream, 8192, 0), CLAXON_OK, noise[2], 0, "the first frame");
     stream.info.first_frame = SIZE_MAX;
-    expect_found(&stream, seek(&stream, 8192, 0), CLAXON_NO_MORE, UNTOUCHED, 0, "a first frame behind the end");
+    expect_found(&stream, seek(&stream, 8192, 0), CLAXON_NO_MORE, UNTOUCHED, 0, "a first frame past the end");
 }
 
 /* A frame of 16 samples of 16 bits, each 0x1234; and one whose samples as they are contain it, and a sync code. */
 static void test_nested(void) {
     static const uint8_t inner[12] = {0xff, 0xf8, 0x69, 0x08, 0x00, 0x0f, 0x30, 0x00, 0x12, 0x34, 0xaa, 0x3b};
     uint8_t outer[42] = {0xff, 0xf8, 0x69, 0x08, 0x00, 0x0f, 0x30, 0x02};
-    unsigned crc = 0;
     outer[10] = 0xff;
     outer[11] = 0xf8;
     memcpy(outer + 16, inner, sizeof inner);
-    for (size_t i = 0; i < 40; i++) {
-        crc ^= (unsigned)outer[i] << 8;
-        for (int bit = 0; bit < 8; bit++) {
-            crc = crc & 0x8000 ? (crc << 1 ^ 0x8005) & 0xffff : crc << 1;
-        }
-    }
+    unsigned crc = crc_of(outer, 40, 0x18005, 16);
     outer[40] = (uint8_t)(crc >> 8);
     outer[41] = (uint8_t)crc;
     struct stream stream = {"a frame in a frame", outer, sizeof outer, {0}, NULL};
     expect_found(&stream, find(&stream, 0, 16), CLAXON_OK, 0, 0, "the outer one");
     expect_found(&stream, find(&stream, 1, 16), CLAXON_OK, 16, 0, "the inner one");
-    expect_found(&stream, find(&stream, 17, 16), CLAXON_NO_MORE, 41, 16, "behind them");
+    expect_found(&stream, find(&stream, 17, 16), CLAXON_NO_MORE, 41, 16, "after them");
     expect(test_places(&stream, 16) == 2, stream.name, "the number of frames");
     outer[41] ^= 1;
     expect_found(&stream, find(&stream, 0, 32), CLAXON_OK, 16, 0, "the inner one of a frame with a wrong CRC");
@@ -481,10 +436,10 @@ static void test_nested(void) {
 static void test_memory(const uint8_t *bytes, size_t length) {
     struct stream stream = stream_of("no memory", bytes, length);
     requests = 0;
-    is_refusing = 1;
+    refused_from = 1;
     struct found first = find(&stream, 0, 10000), second = seek(&stream, 4096, 10000);
     struct found over = find(&stream, 0, 8191), none = seek(&stream, 44100, 10000);
-    is_refusing = 0;
+    refused_from = 0;
     expect(requests >= 2, stream.name, "no request");
     expect_found(&stream, first, CLAXON_OUT_OF_MEMORY, 0, 10000, "find_frame");
     expect_found(&stream, second, CLAXON_OUT_OF_MEMORY, UNTOUCHED, 10000, "seek");

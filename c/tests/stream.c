@@ -10,31 +10,9 @@
  * With 0 ROUNDS small files are read alone, for tools that make it slow.
  * It is linked with --wrap for malloc and realloc, so that it can refuse memory and sees how much is asked for at once. */
 #include "claxon_stream.h"
+
+#include "faults.h"
 #include "known.h"
-
-/* Memory. */
-
-void *__real_malloc(size_t size);
-void *__real_realloc(void *old, size_t size);
-void *__wrap_malloc(size_t size);
-void *__wrap_realloc(void *old, size_t size);
-
-static size_t requests, refused_request, greatest_request; /* each request from refused_request on is refused, if it isn't 0 */
-static size_t refused_every;                               /* each so many-th is refused, if it isn't 0 */
-
-static int is_refused(size_t size) {
-    requests++;
-    greatest_request = size > greatest_request ? size : greatest_request;
-    return (refused_request && requests >= refused_request) || (refused_every && requests % refused_every == 0);
-}
-
-void *__wrap_malloc(size_t size) {
-    return is_refused(size) ? NULL : __real_malloc(size);
-}
-
-void *__wrap_realloc(void *old, size_t size) {
-    return is_refused(size) ? NULL : __real_realloc(old, size);
-}
 
 /* Bytes that are read in pieces. */
 
@@ -151,7 +129,8 @@ static void test_known(const struct known *known, const uint8_t *bytes, size_t l
         char text[256];
         uint32_t status;
         begin(&stream, &source, i / 2 % 2);
-        while ((status = call(planar ? claxon_stream_next_block_planar : claxon_stream_next_block, &stream, &source)) == CLAXON_OK) {
+        while ((status = call(planar ? claxon_stream_next_block_planar : claxon_stream_next_block, &stream, &source)) ==
+               CLAXON_OK) {
             size_t channels = stream.block.channels, duration = stream.block.duration;
             add_samples(&tally, stream.samples, &stream.block, planar ? duration : 1, planar ? 1 : channels);
         }
@@ -274,35 +253,12 @@ static size_t compare(const char *name, const uint8_t *bytes, size_t length, siz
     return compare_form(name, bytes, length, piece, 0, text, size);
 }
 
-/* Numbers that look random, the same in each run. */
-
-static uint64_t random_state = 1;
-
-static uint32_t below(uint32_t limit) {
-    random_state = random_state * UINT64_C(6364136223846793005) + UINT64_C(1442695040888963407);
-    return limit ? (uint32_t)((random_state >> 33) % limit) : 0;
-}
-
 static size_t any_piece(void) {
     static const size_t pieces[] = {1, 2, 3, 5, 16, 100, 1000, SIZE_MAX};
     return pieces[below(8)];
 }
 
 /* Damaged files. */
-
-static void damage(uint8_t *bytes, size_t length) {
-    for (uint32_t changes = 1 + below(3); changes > 0 && length > 0; changes--) {
-        size_t at = below((uint32_t)length);
-        size_t count = 1 + below(40);
-        count = count < length - at ? count : length - at;
-        switch (below(4)) {
-        case 0: bytes[at] ^= (uint8_t)(1 << below(8)); break;
-        case 1: memset(bytes + at, below(2) ? 0 : 0xff, count); break;
-        case 2: memmove(bytes + at, bytes + at + count, length - at - count); break;
-        default: memmove(bytes + at, bytes + below((uint32_t)(length - count + 1)), count);
-        }
-    }
-}
 
 static size_t damaged_blocks;
 
@@ -643,7 +599,8 @@ static void test_walk(const struct made *made, size_t every, size_t piece, int i
     while (next_metadata(&stream, &source, &metadata) == CLAXON_OK) {
         claxon_next_metadata(made->bytes, made->length, &at, &expected);
         expect(i < BLOCKS && metadata.type == blocks[i].type && metadata.length == blocks[i].length, "a head", "a block");
-        expect(metadata.is_last == (i + 1 == BLOCKS) && metadata.content == expected.content, "a head", "the position of a block");
+        expect(metadata.is_last == (i + 1 == BLOCKS) && metadata.content == expected.content, "a head",
+               "the position of a block");
         test_tags(stream.comments, stream.comments_length, i >= 3);
         expect(stream.info.first_frame == 0, "a head", "the first frame, before the head has ended");
         expect(stream.info.channels == 1 && stream.info.samples == 4 && stream.info.tags == (i >= 3), "a head",
@@ -744,7 +701,7 @@ static void test_resync_at(const char *name, const struct made *made, size_t at)
     }
 }
 
-/* Frames of another number of channels or another bit depth are passed over, behind a head that is known. */
+/* Frames of another number of channels or another bit depth are passed over, after a head that is known. */
 static void test_resync_of_others(void) {
     static const uint8_t two_channels[] = {0xff, 0xf8, 0x69, 0x18, 0x00, 0x0f, 0x92, 0x00, 0x12, 0x34, 0x00, 0x12, 0x34};
     static const uint8_t eight_bits[] = {0xff, 0xf8, 0x69, 0x02, 0x00, 0x0f, 0xb7, 0x00, 0x12};
@@ -835,7 +792,8 @@ static size_t frames_before(const uint8_t *bytes, size_t length, size_t end) {
 }
 
 /* A call after the failure says the same, and reads no more. */
-static void expect_failure(struct claxon_stream *stream, struct source *source, uint32_t status, const char *name, const char *what) {
+static void expect_failure(struct claxon_stream *stream, struct source *source, uint32_t status, const char *name,
+                           const char *what) {
     expect(status == CLAXON_READ_FAILED && strcmp(stream->error, "reading failed") == 0, name, what);
     expect(source->has_ended, name, what);
 }
@@ -946,7 +904,7 @@ static uint32_t decode_refused(struct claxon_stream *stream, const uint8_t *byte
             add_interleaved(tally, stream->samples, &stream->block);
         } else if (status == CLAXON_OUT_OF_MEMORY) {
             expect(strcmp(stream->error, "out of memory") == 0, "memory", "the text");
-            refused_request = 0;
+            refused_from = 0;
             if (++*refusals % 2 == 0 && is_frame_with_memory(bytes, length, stream->position)) {
                 test_resync_refused(stream);
             }
@@ -963,7 +921,7 @@ static size_t test_refused(const char *name, const uint8_t *bytes, size_t length
     size_t refusals = 0;
     uint32_t status;
     requests = 0;
-    refused_request = request;
+    refused_from = request;
     claxon_stream_init(&stream, read_source, &source);
     status = claxon_stream_open(&stream);
     if (status == CLAXON_OUT_OF_MEMORY) {
@@ -974,7 +932,7 @@ static size_t test_refused(const char *name, const uint8_t *bytes, size_t length
         status = decode_refused(&stream, bytes, length, &tally, &refusals);
         expect(status == CLAXON_NO_MORE && is_same_tally(tally, known), name, "what is decoded after memory was refused");
     }
-    refused_request = refused_every = 0;
+    refused_from = refused_every = 0;
     claxon_stream_free(&stream);
     return refusals;
 }

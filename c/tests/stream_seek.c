@@ -1,7 +1,7 @@
 /* stream_seek FOLDER ROUNDS < LINES: tests claxon_stream_seek.
  *
  * - Of each file that a line names, claxon_next_block says at each position from the first frame on whether a frame of the
- *   stream begins there. A stream is sought at the borders of all blocks, to and fro: with short reads, behind other bytes in
+ *   stream begins there. A stream is sought at the borders of all blocks, to and fro: with short reads, after other bytes in
  *   its source, with an end that isn't known, with a wrong number of samples in the head; and damaged in ROUNDS ways.
  * - Blocks of whole files are those at their times.
  * - Each read and each call that seeks fails in turn, and memory is refused in turn.
@@ -10,33 +10,11 @@
 #define _POSIX_C_SOURCE 200809L
 
 #include "claxon_stream.h"
+
+#include "faults.h"
 #include "known.h"
 
-void *__real_malloc(size_t size);
-void *__real_realloc(void *old, size_t size);
-void *__wrap_malloc(size_t size);
-void *__wrap_realloc(void *old, size_t size);
-
-static size_t requests, refused_request; /* this one alone is refused */
-
-void *__wrap_malloc(size_t size) {
-    return ++requests == refused_request ? NULL : __real_malloc(size);
-}
-
-void *__wrap_realloc(void *old, size_t size) {
-    return ++requests == refused_request ? NULL : __real_realloc(old, size);
-}
-
-/* Numbers that look random, the same in each run. */
-
-static uint64_t random_state = 1;
-
-static uint32_t below(uint32_t limit) {
-    random_state = random_state * UINT64_C(6364136223846793005) + UINT64_C(1442695040888963407);
-    return limit ? (uint32_t)((random_state >> 33) % limit) : 0;
-}
-
-/* A source that seeks. The stream is behind `origin` bytes of it, which are those of its own end. */
+/* A source that seeks. The stream begins after `origin` bytes of it, which are those of its own end. */
 
 struct source {
     const uint8_t *bytes;
@@ -155,7 +133,8 @@ static void expect_block(struct claxon_stream *stream, const struct frames *fram
     struct claxon_block block;
     size_t end = frame->at, count;
     uint32_t status = claxon_stream_next_block(stream);
-    expect(status == CLAXON_OK && decode(frames, &end, CLAXON_MAX_SAMPLES, &block) == CLAXON_OK, frames->name, "the next block");
+    expect(status == CLAXON_OK && decode(frames, &end, CLAXON_MAX_SAMPLES, &block) == CLAXON_OK, frames->name,
+           "the next block");
     count = (size_t)block.channels * block.duration;
     if (status == CLAXON_OK) {
         expect(is_same_block(&stream->block, &block) && stream->position == end, frames->name, "what it shows");
@@ -234,7 +213,7 @@ static void test_stream(const char *name, const uint8_t *bytes, size_t length, s
 }
 
 /* Damages the frames. Of some streams the halves change places, so that times are out of order. */
-static void damage(uint8_t *bytes, size_t length, uint8_t *spare) {
+static void move_and_damage(uint8_t *bytes, size_t length, uint8_t *spare) {
     if (below(2)) {
         size_t half = length / 2;
         memcpy(spare, bytes, half);
@@ -266,7 +245,7 @@ static void test_file(const char *name, const uint8_t *bytes, size_t length, uns
         memcpy(changed, bytes, length);
         put_samples(changed, counts[round % 5]);
         if (round >= 5) {
-            damage(changed + info.first_frame, length - info.first_frame, spare);
+            move_and_damage(changed + info.first_frame, length - info.first_frame, spare);
         }
         test_stream(name, changed, round < 5 ? length : length - below((uint32_t)(length - info.first_frame) / 4 + 1),
                     rounds > 0 ? 40 : 5);
@@ -289,7 +268,8 @@ static void test_times(const char *name, const uint8_t *bytes, size_t length) {
         for (int i = 0; i < 3; i++) {
             sample = time + (i == 0 ? 0 : i == 1 ? walk.block.duration / 2 : walk.block.duration - 1);
             expect(claxon_stream_seek(&stream, sample) == CLAXON_OK, name, "seek to a block");
-            expect((i == 1 ? claxon_stream_next_block_planar : claxon_stream_next_block)(&stream) == CLAXON_OK, name, "a block");
+            expect((i == 1 ? claxon_stream_next_block_planar : claxon_stream_next_block)(&stream) == CLAXON_OK, name,
+                   "a block");
             expect(stream.block.time == time && stream.block.duration == walk.block.duration, name, "the block's time");
             expect(stream.samples[0] == walk.samples[0], name, "the block's first sample");
             expect(i == 1 || memcmp(stream.samples, walk.samples, count * sizeof *samples) == 0, name, "the block's samples");
@@ -297,7 +277,7 @@ static void test_times(const char *name, const uint8_t *bytes, size_t length) {
         time += walk.block.duration;
     }
     expect(time == walk.info.samples && !walk.error[0], name, "the number of samples");
-    expect(claxon_stream_seek(&stream, time) == CLAXON_NO_MORE, name, "the sample behind the last");
+    expect(claxon_stream_seek(&stream, time) == CLAXON_NO_MORE, name, "the sample after the last");
     claxon_stream_free(&walk);
     claxon_stream_free(&stream);
 }
@@ -319,12 +299,14 @@ static void begin(struct attempt *attempt, const uint8_t *bytes, size_t length, 
 }
 
 static void expect_sample(struct claxon_stream *stream, uint64_t sample, const char *name) {
-    expect(claxon_stream_seek(stream, sample) == CLAXON_OK && claxon_stream_next_block(stream) == CLAXON_OK, name, "a seek again");
+    expect(claxon_stream_seek(stream, sample) == CLAXON_OK && claxon_stream_next_block(stream) == CLAXON_OK, name,
+           "a seek again");
     expect(has_sample(&stream->block, sample), name, "the block of a seek again");
 }
 
 /* Returns whether there was such a call. A length that isn't told is no failure. */
-static int test_failing_call(const char *name, const uint8_t *bytes, size_t length, uint64_t sample, size_t call, int knows_end) {
+static int test_failing_call(const char *name, const uint8_t *bytes, size_t length, uint64_t sample, size_t call,
+                             int knows_end) {
     struct attempt attempt;
     struct claxon_stream *stream = &attempt.stream;
     int was_called;
@@ -429,16 +411,16 @@ static void test_damaged_head(const char *name, uint8_t *bytes, size_t length) {
     bytes[0] ^= 1;
     claxon_stream_init(&stream, read_source, &source);
     claxon_stream_set_seek(&stream, seek_source);
-    expect(claxon_stream_seek(&stream, 20000) == CLAXON_FORMAT_ERROR, name, "seek behind a damaged head");
-    expect(strcmp(stream.error, "invalid stream header") == 0, name, "the text of seek behind a damaged head");
-    expect(claxon_stream_resync(&stream) == CLAXON_OK, name, "resync behind a damaged head");
+    expect(claxon_stream_seek(&stream, 20000) == CLAXON_FORMAT_ERROR, name, "seek after a damaged head");
+    expect(strcmp(stream.error, "invalid stream header") == 0, name, "the text of seek after a damaged head");
+    expect(claxon_stream_resync(&stream) == CLAXON_OK, name, "resync after a damaged head");
     expect_sample(&stream, 20000, name);
     expect_sample(&stream, 0, name);
     claxon_stream_free(&stream);
     bytes[0] ^= 1;
 }
 
-/* By the callbacks for a FILE and for a file descriptor, behind other bytes; a pipe. */
+/* By the callbacks for a FILE and for a file descriptor, after other bytes; a pipe. */
 static void test_files(const char *name, const uint8_t *bytes, size_t length) {
     FILE *file = tmpfile();
     int fd = fileno(file), ends[2];
@@ -452,7 +434,7 @@ static void test_files(const char *name, const uint8_t *bytes, size_t length) {
         expect_sample(&stream, 44099, name);
         expect(claxon_stream_next_block(&stream) == CLAXON_NO_MORE, name, "the end of a file");
         expect_sample(&stream, 0, name);
-        expect(claxon_stream_seek(&stream, 44100) == CLAXON_NO_MORE, name, "the sample behind the last of a file");
+        expect(claxon_stream_seek(&stream, 44100) == CLAXON_NO_MORE, name, "the sample after the last of a file");
         expect_sample(&stream, 20000, name);
         claxon_stream_free(&stream);
     }
@@ -489,7 +471,8 @@ static void test_noise(const char *folder, unsigned rounds) {
 
 /* Files of encoders: their blocks follow one another. */
 static int is_whole(const char *name) {
-    static const char *const names[] = {"quiet_noise.flac", "eight_bits.flac", "wasted_bits_of_24.flac", "left_channel_alone.flac",
+    static const char *const names[] = {"quiet_noise.flac",          "eight_bits.flac",
+                                        "wasted_bits_of_24.flac",    "left_channel_alone.flac",
                                         "other_encoder_speech.flac", "escapes_of_a_real_encoder.flac"};
     for (size_t i = 0; i < sizeof names / sizeof *names; i++) {
         if (strcmp(name, names[i]) == 0) {

@@ -1,5 +1,5 @@
-/* user FILE NAME: prints `NAME: ok, FRAMES frames, SAMPLES samples` of a FLAC file whose samples have the MD5 sum of its head, as
- * `claxon verify` does. It is C89, later C and C++: tests/standards compiles it as each of them. */
+/* user FILE NAME: prints `NAME: ok, FRAMES frames, SAMPLES samples` of a FLAC file whose samples have the MD5 sum of its head,
+ * as `claxon verify` does. It is C89, later C and C++: tests/standards compiles it as each of them. */
 #include "claxon_stream.h"
 
 struct counts {
@@ -27,8 +27,8 @@ static int has_sample(struct claxon_stream *stream, uint64_t sample) {
     const struct claxon_block *block = &stream->block;
     claxon_stream_set_seek(stream, claxon_stream_fseek);
     return claxon_stream_seek(stream, sample) == CLAXON_OK && claxon_stream_next_block(stream) == CLAXON_OK &&
-           block->time <= sample && sample - block->time < block->duration &&
-           block->sample_rate == stream->info.sample_rate && block->bits_per_sample == stream->info.bits_per_sample;
+           block->time <= sample && sample - block->time < block->duration && block->sample_rate == stream->info.sample_rate &&
+           block->bits_per_sample == stream->info.bits_per_sample;
 }
 
 int main(int argc, char **argv) {

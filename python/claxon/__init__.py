@@ -131,7 +131,7 @@ class ReadFailed(OSError):
 
 
 class TrailingDataWarning(UserWarning):
-    """Behind its last sample a stream goes on with what is no frame, such as a tag."""
+    """After its last sample a stream goes on with what is no frame, such as a tag."""
 
 
 _ERRORS: Dict[int, Type[Error]] = {
@@ -434,7 +434,7 @@ class _Window:
 
     It is doubled where a frame doesn't fit, and a frame that isn't whole is tried again where twice
     the bytes are there, so that the time is linear in the number of bytes. A frame is tried too
-    where the CRC of its bytes is 0, as behind its last one.
+    where the CRC of its bytes is 0, as after its last one.
     """
 
     def __init__(self, source: Optional[_Source]) -> None:
@@ -536,7 +536,7 @@ class _Window:
         return True
 
     def has_footer(self) -> bool:
-        """Whether the CRC is 0 behind a byte that wasn't tried. It is summed up to there."""
+        """Whether the CRC is 0 after a byte that wasn't tried. It is summed up to there."""
         if self._summed < self.tried:
             start, count = self.address + self.at.value + self._summed, self.tried - self._summed
             self._crc = _library.claxon_crc16(self._crc, start, count)

@@ -20,7 +20,7 @@ def converted(planar: memoryview, bits: int, dtype: str) -> memoryview:
 
 
 def _upper_half(planar: memoryview, bits: int) -> bytes:
-    """The upper 16 bits of samples of so many bits, with zeros behind those of smaller ones."""
+    """The upper 16 bits of samples of so many bits, with zeros below those of smaller ones."""
     raw = planar.cast("B")
     skipped, rest = divmod(max(0, bits - 16), 8)
     if rest:

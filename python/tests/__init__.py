@@ -6,6 +6,7 @@ the streams that are written here.
 import io
 import pathlib
 import shutil
+import sys
 import tempfile
 import unittest
 from array import array
@@ -14,6 +15,9 @@ from typing import Iterator, NamedTuple, Optional, Sequence, Tuple
 import claxon
 
 TOP = pathlib.Path(__file__).resolve().parent.parent.parent
+sys.path.insert(0, str(TOP / "tools"))
+from streams.frames import MARKER, frame, frame_header, metadata_block, verbatim  # noqa: E402
+
 CASES = TOP / "crates" / "claxon_cases"
 DATA = CASES / "data"
 
@@ -23,8 +27,7 @@ PREFIXES = {
     claxon.Unsupported: "A currently unsupported feature of the FLAC format was encountered: ",
 }
 
-# The marker, and a streaminfo: blocks of 16 samples, 44100 Hz, one channel, 8 bits, 1 sample.
-MARKER = b"fLaC"
+# A streaminfo: blocks of 16 samples, 44100 Hz, one channel, 8 bits, 1 sample.
 STREAMINFO = bytes.fromhex(
     "0010" "0010" "000000" "000000" "0ac44070" "00000001" "00000000000000000000000000000000"
 )
@@ -87,7 +90,7 @@ class FolderCase(unittest.TestCase):
 
 
 def copy_module(folder: pathlib.Path) -> None:
-    """Copies the module that is tested into a folder, without the library that it may have inside."""
+    """Copies the module under test into a folder, without the library that it may have inside."""
     package = pathlib.Path(claxon.__file__).parent
     ignored = shutil.ignore_patterns("libclaxon*", "__pycache__")
     shutil.copytree(package, folder / "claxon", ignore=ignored)
@@ -104,16 +107,16 @@ class Trickle:
         return self._content.read(min(most, self._step))
 
 
-def metadata_block(kind: int, content: bytes, last: bool = False, length: int = -1) -> bytes:
-    """A metadata block, of another length than its content has if one is given."""
-    length = len(content) if length < 0 else length
-    return bytes([kind | last << 7]) + length.to_bytes(3, "big") + content
-
-
 def head(*blocks: bytes) -> bytes:
     """The marker, the streaminfo above and these metadata blocks, the last of which is marked."""
     first = metadata_block(0, STREAMINFO, not blocks)
     return MARKER + first + b"".join(blocks)
+
+
+def verbatim_frame(channels: Sequence[Sequence[int]], bits: int = 8) -> bytes:
+    """Frame 0 of these samples, each channel in a verbatim subframe."""
+    header = frame_header(len(channels[0]), len(channels) - 1)
+    return frame(header, [verbatim(channel, bits) for channel in channels])
 
 
 def comments(vendor: str, *tags: str) -> bytes:
@@ -121,36 +124,3 @@ def comments(vendor: str, *tags: str) -> bytes:
     texts = [text.encode() for text in (vendor, *tags)]
     fields = [len(text).to_bytes(4, "little") + text for text in texts]
     return fields[0] + len(tags).to_bytes(4, "little") + b"".join(fields[1:])
-
-
-def crc(polynomial: int, width: int, content: bytes) -> int:
-    """The remainder of the content's polynomial, most significant bits first, from 0."""
-    table = []
-    for byte in range(256):
-        rest = byte << width - 8
-        for _ in range(8):
-            rest = (rest << 1 ^ (polynomial if rest >> width - 1 else 0)) & (1 << width) - 1
-        table.append(rest)
-    rest = 0
-    for byte in content:
-        rest = (rest << 8 & (1 << width) - 1) ^ table[rest >> width - 8 ^ byte]
-    return rest
-
-
-def frame_header(channels: int, duration: int) -> bytes:
-    """The header of frame 0: independent channels, of the streaminfo's bit depth."""
-    fields = bytes([0xFF, 0xF8, 0x70, channels - 1 << 4, 0]) + (duration - 1).to_bytes(2, "big")
-    return fields + bytes([crc(0x07, 8, fields)])
-
-
-def verbatim_frame(channels: Sequence[Sequence[int]], bits: int = 8) -> bytes:
-    """Frame 0 of these samples, each channel in a verbatim subframe."""
-    mask = (1 << bits) - 1
-    digits = "".join(
-        "00000010" + "".join(f"{sample & mask:0{bits}b}" for sample in channel)
-        for channel in channels
-    )
-    digits += "0" * (-len(digits) % 8)
-    body = int(digits, 2).to_bytes(len(digits) // 8, "big")
-    frame = frame_header(len(channels), len(channels[0])) + body
-    return frame + crc(0x8005, 16, frame).to_bytes(2, "big")

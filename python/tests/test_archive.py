@@ -1,10 +1,9 @@
 """`claxon-archive` over small files of each kind of wrong.
 
-What has to be said of each is in tools/damaged.py, worked by hand. The program `claxon` is the one
-at the top of the repository, or that of the environment variable CLAXON_PROGRAM.
+What has to be said of each is in tools/streams/damaged.py, worked by hand. The program `claxon`
+is the one at the top of the repository, or that of the environment variable CLAXON_PROGRAM.
 """
 import csv
-import hashlib
 import html.parser
 import io
 import json
@@ -17,24 +16,19 @@ import shutil
 import signal
 import socket
 import sqlite3
-import stat
 import subprocess
 import sys
 import time
 import unittest
 from subprocess import DEVNULL, PIPE
-from typing import Any, Callable, Dict, Iterator, List, NamedTuple, Optional, Set
+from typing import Any, Callable, Dict, List, NamedTuple, Optional, Set, Tuple, Union
 from unittest import mock
 
 from claxon.archive.progress import Progress
 from claxon.archive.results import Results
 from claxon.archive.run import Wanted, run
-
+from streams import damaged
 from tests import TOP, FolderCase
-
-sys.path.insert(0, str(TOP / "tools"))
-import damaged  # noqa: E402
-
 PROGRAM = os.environ.get("CLAXON_PROGRAM") or str(TOP / "claxon")
 PYTHON = TOP / "python"
 ROWS = {row.name: row for row in damaged.rows()}
@@ -44,7 +38,7 @@ COLUMNS = "path, size, changed, verdict, samples, md5, byte, sample, damage, pla
 
 
 def setUpModule() -> None:
-    # In the background of a shell it may be ignored, and then by the processes that are started too.
+    # In the background of a shell it may be ignored, and then by processes that are started too.
     signal.signal(signal.SIGINT, signal.default_int_handler)
 
 
@@ -72,9 +66,9 @@ def damage_of(row: damaged.Row) -> Optional[str]:
     if row.verdict == "ok":
         return None
     if row.reason is not None:
-        return row.reason
+        return str(row.reason)
     if row.places:
-        return row.places[0][4]
+        return str(row.places[0][4])
     said = re.search(r"the streaminfo says (\d+)", row.line)
     if said:
         return f"{said[0]} sample" + ("" if said[1] == "1" else "s")
@@ -107,7 +101,7 @@ class Archive(FolderCase):
         self.program = PROGRAM
         self.rows: Dict[bytes, damaged.Row] = {}
 
-    def write(self, name: "str | bytes", row: damaged.Row) -> bytes:
+    def write(self, name: Union[str, bytes], row: damaged.Row) -> bytes:
         path = os.path.join(os.fsencode(self.files), os.fsencode(name))
         os.makedirs(os.path.dirname(path), exist_ok=True)
         with open(path, "wb") as file:
@@ -141,7 +135,8 @@ class Archive(FolderCase):
         process = subprocess.Popen(
             self.command(str(self.files), *words), env=self.environment(), stdout=PIPE, stderr=PIPE
         )
-        self.addCleanup(lambda: [process.kill(), process.communicate()])
+        self.addCleanup(process.communicate)
+        self.addCleanup(process.kill)
         return process
 
     def kept(self, columns: str = COLUMNS) -> List[Dict[str, Any]]:
@@ -366,7 +361,7 @@ class Again(Archive):
 
     def test_missing(self) -> None:
         """A file that is gone is missing until it comes back or is forgotten."""
-        gone = [os.fsencode(self.files) + b"/%d.flac" % index for index in (5, 6)]
+        gone = [os.fsencode(f"{self.files}/{index}.flac") for index in (5, 6)]
         for path in gone:
             os.unlink(path)
         for _ in range(2):
@@ -473,8 +468,8 @@ class Unreadable(Archive):
         server.close()
         os.symlink("/dev/zero", self.files / "device.flac")
         os.symlink("folder.flac", self.files / "link.flac")
-        for words in ([], ["--all"]):
-            self.assertEqual(self.run_files(*words).status, 0)
+        for words in ("", "--all"):
+            self.assertEqual(self.run_files(*words.split()).status, 0)
             self.check_kept()
 
     def test_all(self) -> None:
@@ -495,7 +490,7 @@ class Ends(Archive):
     """Processes that end early."""
 
     def test_kill_9(self) -> None:
-        """Verdicts that were told are kept; the next run goes on behind them."""
+        """Verdicts that were told are kept; the next run goes on after them."""
         self.write_many(3000)
         self.wrap(LOG + "sleep 0.2\n" + GO_ON)
         kept: Set[bytes] = set()
@@ -553,7 +548,7 @@ class Ends(Archive):
         """The file that it was at isn't read; what it told is kept, and the others are verified."""
         self.write_many(100)
         names = sorted(self.rows, key=lambda path: os.path.basename(path))
-        die = f'head -z -n 3 $given | "$real" verify --json --files0-from - \nkill -9 $$'
+        die = 'head -z -n 3 $given | "$real" verify --json --files0-from - \nkill -9 $$'
         first = f'if [ -e "${{given%/*}}/died" ]; then {GO_ON}; fi\ntouch "${{given%/*}}/died"\n'
         self.wrap(first + die)
         self.assertEqual(self.run_files("--jobs", "1").status, 1)
@@ -641,7 +636,7 @@ class ResultsFile(Archive):
             self.check_refused(f"version {version}", "version 1")
 
     def test_damaged(self) -> None:
-        """Its pages behind the first are overwritten."""
+        """Its pages after the first are overwritten."""
         self.write_many(1000)
         self.run_files()
         with open(self.results, "r+b") as file:
@@ -769,8 +764,8 @@ class Reports(Archive):
         self.assertEqual(
             self.run_archive("--report", "text").output.decode().splitlines(),
             [
-                f'{folder}/2 \\xff\\n<b>,".flac: wrong, 176 samples, 10 places, the first at byte 53 after 16'
-                " samples: Ill-formed FLAC stream: frame CRC mismatch",
+                f'{folder}/2 \\xff\\n<b>,".flac: wrong, 176 samples, 10 places, the first at byte'
+                " 53 after 16 samples: Ill-formed FLAC stream: frame CRC mismatch",
                 f"{folder}/3.flac: not supported, an ID3v2 tag in front of the stream",
                 f"{folder}/4.flac: wrong, 32 samples: {sums}",
                 f"{folder}/5.flac: missing, there is no such file any more",
@@ -859,13 +854,13 @@ class Page(html.parser.HTMLParser):
         self.bars: List[List[Dict[str, Optional[str]]]] = []
         self.text: List[str] = []
 
-    def handle_starttag(self, tag: str, attributes: "list[tuple[str, str | None]]") -> None:
+    def handle_starttag(self, tag: str, attributes: List[Tuple[str, Optional[str]]]) -> None:
         if tag not in self.OPTIONAL:
             self.open.append(tag)
         if tag == "svg":
             self.bars.append([])
 
-    def handle_startendtag(self, tag: str, attributes: "list[tuple[str, str | None]]") -> None:
+    def handle_startendtag(self, tag: str, attributes: List[Tuple[str, Optional[str]]]) -> None:
         if tag == "rect":
             self.bars[-1].append(dict(attributes))
 
@@ -879,7 +874,7 @@ class Page(html.parser.HTMLParser):
 
 class Arguments(Archive):
     def test_refused(self) -> None:
-        for words in (
+        commands: List[List[str]] = [
             [],
             ["--report", "text", "--results"],
             [str(self.files), "--jobs", "0"],
@@ -888,7 +883,8 @@ class Arguments(Archive):
             [str(self.files), "--older-than", "nan"],
             [str(self.files), "--report", "xml"],
             [str(self.files), "--jobs", "2", "--scheduler", "tcp://127.0.0.1:1"],
-        ):
+        ]
+        for words in commands:
             ended = self.run_archive(*words)
             self.assertEqual((ended.status, ended.output), (2, b""), words)
             self.assertTrue(ended.errors.startswith("usage: claxon-archive "), ended.errors)
@@ -947,7 +943,8 @@ class Shown(Archive):
         self.assertRegex(shown, r"^\r300 files found\x1b\[K")
         self.assertRegex(
             shown,
-            r"\r500 of 1,200 files, [\d.]+ kB of [\d.]+ kB, [\d.]+ k?B/s, 0:\d\d:\d\d left, \d+ wrong\x1b",
+            r"\r500 of 1,200 files, [\d.]+ kB of [\d.]+ kB, [\d.]+ k?B/s,"
+            r" 0:\d\d:\d\d left, \d+ wrong\x1b",
         )
         last = re.findall(r"\r(1,200 of 1,200) files, .* 0:00:00 left, (\d+) wrong\x1b\[K", shown)
         self.assertEqual(last, [("1,200 of 1,200", str(wrong))])
@@ -977,7 +974,7 @@ class Memory(Archive):
         _, status, usage = os.wait4(process.pid, 0)
         process.returncode = os.WEXITSTATUS(status)
         self.assertEqual(process.returncode, 0)
-        return usage.ru_maxrss
+        return int(usage.ru_maxrss)
 
     def test_many_rows(self) -> None:
         """It doesn't grow with the number of rows, found or made."""
@@ -989,7 +986,8 @@ class Memory(Archive):
             path.touch()
             status = path.stat()
             database.execute(
-                "INSERT INTO files (path, size, changed, verified, verdict) VALUES (?, 0, ?, ?, 'ok')",
+                "INSERT INTO files (path, size, changed, verified, verdict)"
+                " VALUES (?, 0, ?, ?, 'ok')",
                 (os.fsencode(path), status.st_mtime_ns, int(time.time())),
             )
         database.commit()
@@ -1012,7 +1010,7 @@ class Cluster(Archive):
     def serve(self, module: str, *words: str) -> "subprocess.Popen[bytes]":
         log = open(self.folder / f"{module}.log", "ab")
         process = subprocess.Popen(
-            [DASK, "-m", f"distributed.cli.{module}", *words, "--no-dashboard"],
+            [DASK or "", "-m", f"distributed.cli.{module}", *words, "--no-dashboard"],
             cwd=self.folder,
             env={**os.environ, "CLAXON_PROGRAM": self.program},
             stdin=DEVNULL,

@@ -5,8 +5,8 @@ import unittest
 from typing import Dict, Iterable, List, Sequence
 
 import claxon
-from tests import DATA, MARKER, Case, Trickle, cases, decode, head, interleaved, metadata_block
-from tests import result_of
+from streams.frames import MARKER, metadata_block
+from tests import DATA, Case, Trickle, cases, decode, head, interleaved, result_of
 
 
 def fnv1a(content: bytes) -> int:

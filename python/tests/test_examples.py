@@ -5,20 +5,18 @@ import hashlib
 import importlib.util
 import io
 import os
-import pathlib
 import random
 import re
 import shutil
 import subprocess
 import sys
-import unittest
 from subprocess import DEVNULL, PIPE, STDOUT
 from types import ModuleType
 from typing import List, Tuple
 
 import claxon
-from tests import DATA, FRAME_OF_5, MARKER, STREAMINFO, TOP, FolderCase, copy_module
-from tests import metadata_block, verbatim_frame
+from streams.frames import MARKER, metadata_block
+from tests import DATA, FRAME_OF_5, STREAMINFO, TOP, FolderCase, copy_module, verbatim_frame
 
 PYTHON = TOP / "python"
 VERIFY = PYTHON / "examples" / "verify.py"
@@ -188,7 +186,9 @@ class Verify(Folder):
         lines = found.splitlines()
         self.assertEqual(lines[1], "missing.flac: No such file or directory")
         self.assertEqual(lines[2], "c: Is a directory")
-        self.assertEqual(lines[3], "python/claxon/__init__.py: ill-formed at byte 0: invalid stream header")
+        self.assertEqual(
+            lines[3], "python/claxon/__init__.py: ill-formed at byte 0: invalid stream header"
+        )
         self.assertEqual(lines[4], "song.flac: ok, 3 frames, 9876 samples")
         self.assertEqual(self.run_command(command), (2, "usage: verify.py FILE..\n"))
         os.rename(self.folder / song, os.fsencode(self.folder) + b"/\xff.flac")

@@ -1,4 +1,4 @@
-"""Files: reads and seeks that fail, bytes in place of a path, and data behind the frames."""
+"""Files: reads and seeks that fail, bytes in place of a path, and data after the frames."""
 import errno
 import io
 import itertools
@@ -187,9 +187,9 @@ class TrailingData(unittest.TestCase):
             warnings.simplefilter("always")
             return claxon.read(io.BytesIO(content), start, stop)[0], caught
 
-    def expect_warning(self, stream: Made, behind: bytes, start: int = 0) -> None:
+    def expect_warning(self, stream: Made, after: bytes, start: int = 0) -> None:
         content = stream.content()
-        samples, caught = self.read(content + behind, start)
+        samples, caught = self.read(content + after, start)
         self.assertEqual(samples[0].tolist(), stream.samples[start:])
         [warning] = caught
         self.assertIs(warning.category, claxon.TrailingDataWarning)
@@ -201,19 +201,19 @@ class TrailingData(unittest.TestCase):
         """All samples are returned with a warning, as the streaminfo says how many there are."""
         self.assertEqual((len(ID3), len(APE)), (128, 32 + 20 + 16 + 32))
         stream = made(12, 250)
-        for behind in (ID3, APE, APE + ID3, bytes(1000), b"\xff\xf8", stream.frames[3][:-1]):
+        for after in (ID3, APE, APE + ID3, bytes(1000), b"\xff\xf8", stream.frames[3][:-1]):
             for start in (0, 1, 2750, 2999):
-                self.expect_warning(stream, behind, start)
+                self.expect_warning(stream, after, start)
 
     def test_frame_that_is_damaged(self) -> None:
-        """Behind the last sample it is no more than other data."""
+        """After the last sample it is no more than other data."""
         stream = made(12, 250)
         frame = bytearray(stream.frames[3])
         frame[-1] ^= 1
         self.expect_warning(stream, bytes(frame))
 
     def test_no_warning(self) -> None:
-        """Where nothing is behind the frames, or isn't looked at."""
+        """Where nothing follows the frames, or isn't looked at."""
         stream = made(12, 250)
         self.assertEqual(self.read(stream.content())[1], [])
         for start, stop in ((0, 3000), (0, 9999), (0, 2999), (3000, None), (5, 5)):

@@ -15,8 +15,10 @@ from typing import Any, BinaryIO, Callable, Iterator, List, NamedTuple, Optional
 from unittest import mock
 
 import claxon
-from tests import DATA, FRAME_OF_5, FolderCase, cases, crc, head, interleaved, metadata_block
-from tests import STREAMINFO, MARKER, comments, result_of, verbatim_frame
+from streams.frames import MARKER, constant, crc16, frame, frame_header, metadata_block, verbatim
+from streams.frames import with_crc16
+from tests import DATA, FRAME_OF_5, STREAMINFO, FolderCase, cases, comments, head, interleaved
+from tests import result_of, verbatim_frame
 
 FRAMES = 149
 PIECES = (1, 2, 7, 100, 1460, 4099, 1 << 30)
@@ -35,14 +37,12 @@ class Stream(NamedTuple):
 
 def numbered_frame(number: int, channels: List[List[int]]) -> bytes:
     """The frame with this number of these samples of 8 bits: verbatim, or a constant."""
-    digits = [number] if number < 128 else [0xC0 | number >> 6, 0x80 | number & 0x3F]
-    frame = bytes([0xFF, 0xF8, 0x79, len(channels) - 1 << 4, *digits])
-    frame += (len(channels[0]) - 1).to_bytes(2, "big")
-    frame += bytes([crc(0x07, 8, frame)])
-    for channel in channels:
-        content = bytes(sample & 0xFF for sample in channel)
-        frame += b"\x00" + content[:1] if len(set(channel)) == 1 else b"\x02" + content
-    return frame + crc(0x8005, 16, frame).to_bytes(2, "big")
+    header = frame_header(len(channels[0]), len(channels) - 1, rate_code=9, number=number)
+    subframes = [
+        constant(channel[0], 8) if len(set(channel)) == 1 else verbatim(channel, 8)
+        for channel in channels
+    ]
+    return frame(header, subframes)
 
 
 def made_stream(counts: Tuple[int, ...] = (1, 2, 3)) -> Stream:
@@ -242,9 +242,9 @@ class Pieces(unittest.TestCase):
         """It is linear: a frame of 130 KB a byte at a time, and one whose CRC is 0 at each byte."""
         large = verbatim_frame(2 * [65535 * [7]])
         zeros = bytearray(verbatim_frame([65535 * [0]]))
-        zeros[9:11] = crc(0x8005, 16, bytes(zeros[:9])).to_bytes(2, "big")
+        zeros[9:11] = crc16(bytes(zeros[:9])).to_bytes(2, "big")
         zeros[-2:] = bytes(2)
-        self.assertEqual(crc(0x8005, 16, bytes(zeros)), 0)
+        self.assertEqual(crc16(bytes(zeros)), 0)
         start = time.process_time()
         feed = claxon.Feed()
         found = 0
@@ -259,10 +259,8 @@ class Pieces(unittest.TestCase):
 def large_frame(number: int, channels: List[bytes]) -> bytes:
     """A verbatim frame of samples of 16 bits, of which these are the bytes."""
     duration = len(channels[0]) // 2
-    frame = bytes([0xFF, 0xF8, 0x79, len(channels) - 1 << 4, number])
-    frame += (duration - 1).to_bytes(2, "big")
-    frame += bytes([crc(0x07, 8, frame)]) + b"".join(b"\x02" + channel for channel in channels)
-    return frame + crc(0x8005, 16, frame).to_bytes(2, "big")
+    header = frame_header(duration, len(channels) - 1, rate_code=9, number=number)
+    return with_crc16(header + b"".join(b"\x02" + channel for channel in channels))
 
 
 @functools.lru_cache(maxsize=1)
@@ -324,9 +322,9 @@ class LargeFrames(unittest.TestCase):
     def test_hostile(self) -> None:
         """The CRC is 0 at nearly each byte: the time is linear, with few tries for each frame."""
         stream = stream_of_large_frames()
-        channel = crc(0x8005, 16, b"\x02").to_bytes(2, "big") + bytes(2 * 65535 - 2)
+        channel = crc16(b"\x02").to_bytes(2, "big") + bytes(2 * 65535 - 2)
         header = large_frame(0, [bytes(2 * 65535)] * 8)[:8]
-        first = crc(0x8005, 16, header + b"\x02").to_bytes(2, "big") + bytes(2 * 65535 - 2)
+        first = crc16(header + b"\x02").to_bytes(2, "big") + bytes(2 * 65535 - 2)
         frame = large_frame(0, [first] + 7 * [channel])
         self.assertEqual(frame[-2:], bytes(2))
         content = stream.content[: stream.ends[0] - len(frame)] + 12 * frame

@@ -9,7 +9,8 @@ import unittest
 from typing import List
 
 import claxon
-from tests import FRAME_OF_5, TOP, FolderCase, Trickle, comments, head, metadata_block
+from streams.frames import metadata_block
+from tests import FRAME_OF_5, TOP, FolderCase, Trickle, comments, head
 
 SONG = TOP / "examples" / "tagged.flac"
 MOST = (1 << 32) - 1

@@ -22,9 +22,9 @@ from typing import ContextManager, Dict, List, Optional, Tuple
 from unittest import mock
 
 import claxon
-from tests import DATA, FRAME_OF_5, MARKER, STREAMINFO, TOP, FolderCase, Trickle, comments
-from tests import copy_module, crc, decode, frame_header, head, metadata_block, result_of
-from tests import verbatim_frame
+from streams.frames import MARKER, constant, frame, frame_header, metadata_block
+from tests import DATA, FRAME_OF_5, STREAMINFO, TOP, FolderCase, Trickle, comments, copy_module
+from tests import decode, head, result_of, verbatim_frame
 
 SONG = TOP / "examples" / "tagged.flac"
 MAX_FRAME_BYTES = 16777215
@@ -223,12 +223,10 @@ class Blocks(unittest.TestCase):
         for (code, (field, rate)), (number, bits) in itertools.product(
             rates.items(), depths.items()
         ):
-            header = bytes([0xFF, 0xF8, 0x60 | code, number << 1, 0, 0]) + field
-            header += bytes([crc(0x07, 8, header)])
-            frame = header + b"\0" + bytes(((bits or 8) + 7) // 8)  # a constant: 0
-            frame += crc(0x8005, 16, frame).to_bytes(2, "big")
+            header = frame_header(1, 0, number, code, rate_field=field, is_small=True)
+            stream = head() + frame(header, [constant(0, bits or 8)])
             with self.subTest(code=code, number=number):
-                [block] = claxon.Flac(io.BytesIO(head() + frame)).blocks()
+                [block] = claxon.Flac(io.BytesIO(stream)).blocks()
                 self.assertEqual((block.sample_rate, block.bits_per_sample), (rate, bits))
                 self.assertEqual(block[:3], (0, 1, 1))
 
@@ -269,7 +267,7 @@ class Windows(unittest.TestCase):
 
     def test_no_end_of_a_frame(self) -> None:
         """A number whose zeros have no end: refused where the largest frame would have ended."""
-        content = head() + frame_header(1, 16) + b"\x10\x00"
+        content = head() + frame_header(16) + b"\x10\x00"
         half = MAX_FRAME_BYTES // 2
         for zeros, kind in ((half, claxon.InputEnds), (1 << 40, claxon.FormatError)):
             file = Zeros(content, zeros)
@@ -410,7 +408,7 @@ class Heads(unittest.TestCase):
 
 class Damage(unittest.TestCase):
     def test_cut_anywhere(self) -> None:
-        """Whole frames are given, and then that the stream ends; behind a frame just its end."""
+        """Whole frames are given, and then that the stream ends; after a frame just its end."""
         stream = SONG.read_bytes()
         whole, _ = decode(SONG)
         ends = [len(stream)]
@@ -451,10 +449,9 @@ class Damage(unittest.TestCase):
 
     def test_resync_to_blocks_of_several_sizes(self) -> None:
         """A frame of a stream whose blocks differ in size has another bit after its sync code."""
-        header = b"\xff\xf9" + FRAME_OF_5[2:6]
-        frame = header + bytes([crc(0x07, 8, header)]) + FRAME_OF_5[7:9]
-        frame += crc(0x8005, 16, frame).to_bytes(2, "big")
-        with claxon.Flac(io.BytesIO(head() + b"damage" + frame)) as flac:
+        header = frame_header(1, 0, 1, 9, is_variable=True, is_small=True)
+        other = frame(header, [constant(5, 8)])
+        with claxon.Flac(io.BytesIO(head() + b"damage" + other)) as flac:
             self.assertRaises(claxon.FormatError, list, flac.blocks())
             self.assertEqual(flac.resync(), len(b"damage"))
             self.assertEqual([block.planar.tolist() for block in flac.blocks()], [[5]])
@@ -503,7 +500,7 @@ class Damage(unittest.TestCase):
 
     def test_resync_is_linear(self) -> None:
         """Headers of the largest frames, one after another: without a limit they take 20 s."""
-        hostile = (frame_header(8, 65535) + b"\x02") * 30000
+        hostile = (frame_header(65535, 7) + b"\x02") * 30000
         stream = head() + hostile + bytes(200000) + FRAME_OF_5
         start = time.process_time()
         with claxon.Flac(io.BytesIO(stream)) as flac:
@@ -514,7 +511,7 @@ class Damage(unittest.TestCase):
 
     def test_resync_over_few_headers(self) -> None:
         """As many of them as damage makes don't hide the frame that follows at once."""
-        hostile = (frame_header(8, 65535) + b"\x02") * 60
+        hostile = (frame_header(65535, 7) + b"\x02") * 60
         with claxon.Flac(io.BytesIO(head() + hostile + FRAME_OF_5 + bytes(100000))) as flac:
             self.assertRaises(claxon.FormatError, next, flac.blocks())
             self.assertEqual(flac.resync(), len(hostile))

@@ -9,7 +9,8 @@ from typing import Any, Iterator, List, Tuple
 from unittest import mock
 
 import claxon
-from tests import DATA, MARKER, TOP, cases, metadata_block, verbatim_frame
+from streams.frames import MARKER, metadata_block
+from tests import DATA, TOP, cases, verbatim_frame
 
 SONG = TOP / "examples" / "tagged.flac"
 LETTERS = {"i2": "h", "i4": "i", "f4": "f"}

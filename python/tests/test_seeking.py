@@ -11,7 +11,9 @@ from subprocess import PIPE
 from typing import BinaryIO, Iterator, List, NamedTuple, Optional, Sequence
 
 import claxon
-from tests import DATA, MARKER, TOP, Trickle, cases, crc, frame_header, metadata_block
+from streams import frames as writer
+from streams.frames import MARKER, constant, frame_header, metadata_block
+from tests import DATA, TOP, Trickle, cases
 from tests.test_live import numbered_frame
 
 SONG = TOP / "examples" / "tagged.flac"
@@ -117,7 +119,7 @@ def real_files() -> Iterator[bytes]:
     names = [DATA / case.name for case in cases() if case.result == "ok"]
     for path in [*names, *(TOP / "examples").glob("*.flac")]:
         content = path.read_bytes()
-        blocks, end = walk(content), 0
+        blocks = walk(content)
         channels = claxon.Flac(io.BytesIO(content)).info.channels
         ends = [0, *(block.time + block.duration for block in blocks)]
         if all(b.channels == channels and b.time == end for b, end in zip(blocks, ends)):
@@ -126,7 +128,7 @@ def real_files() -> Iterator[bytes]:
 
 class Borders(SeekCase):
     def test_files(self) -> None:
-        """The first and the last sample of each block, and the one behind all."""
+        """The first and the last sample of each block, and the one after all."""
         tried = 0
         for content in real_files():
             blocks = walk(content)
@@ -172,7 +174,7 @@ class Borders(SeekCase):
                 self.expect_samples(flac, sample, stream)
             self.expect_none(flac, total)
 
-    def test_garbage_behind(self) -> None:
+    def test_garbage_after_frames(self) -> None:
         stream = made(60, 700)
         noise = bytes(random.Random(3).choices(range(256), k=100000))
         for garbage in (b"TAG" + bytes(125), bytes(200000), noise):
@@ -368,10 +370,10 @@ class Damage(SeekCase):
 
     def test_hostile(self) -> None:
         """Headers everywhere, of large blocks that have the sample or not; sync codes too. A frame
-        behind them is found where budget is left.
+        after them is found where budget is left.
         """
         start = time.process_time()
-        header = frame_header(1, 65535)
+        header = frame_header(65535)
         later = numbered_frame(77, [65535 * [0]])[:8]
         codes = (b"\xff\xf8", b"\xff", b"\xff\xf8\x69\x02")
         for repeated in (header + b"\x02", later + b"\x02", *codes):
@@ -406,18 +408,17 @@ class Resync(unittest.TestCase):
         self.assertEqual(flac.resync(), len(b"damage" + other))
         self.assertEqual(next(flac.blocks()).planar.tolist(), [1, 2, 3])
         feed = claxon.Feed()
-        header = frame_header(2, 3)[:3] + bytes([0x18, 0, 0, 2])
-        whole = header + bytes([crc(0x07, 8, header)]) + bytes([0, 0, 1, 0, 0, 2])
-        feed.feed(b"no head" + whole + crc(0x8005, 16, whole).to_bytes(2, "big"))
+        whole = writer.frame(frame_header(3, 1, 4), [constant(1, 16), constant(2, 16)])
+        feed.feed(b"no head" + whole)
         self.assertRaises(claxon.FormatError, next, feed.blocks())
         self.assertIsNotNone(feed.resync())
         self.assertEqual(next(feed.blocks()).planar.tolist(), [1, 1, 1, 2, 2, 2])
 
     def test_hostile(self) -> None:
-        """Headers of large blocks everywhere: linear, and the frame behind them is found."""
+        """Headers of large blocks everywhere: linear, and the frame after them is found."""
         start = time.process_time()
         for channels in (1, 8):
-            hostile = (frame_header(channels, 65535) + b"\x02") * 200000
+            hostile = (frame_header(65535, channels - 1) + b"\x02") * 200000
             frame = numbered_frame(1, channels * [[1, 2, 3]])
             content = made_head(16, 0, channels) + hostile + bytes(3000000) + frame
             flac = claxon.Flac(io.BytesIO(content))
@@ -443,7 +444,7 @@ class Read(unittest.TestCase):
                     self.expect(found, stream.samples[start:stop])
                     self.assertEqual(rate, 44100)
 
-    def test_behind_the_end(self) -> None:
+    def test_past_the_end(self) -> None:
         stream = made(12, 250)
         for start, stop in ((3000, None), (9999, None), (2990, 9999), (5, 5), (7, 3), (0, 0)):
             found, _ = claxon.read(io.BytesIO(stream.content()), start, stop)

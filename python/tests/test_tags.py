@@ -3,7 +3,8 @@ import io
 import unittest
 
 import claxon
-from tests import comments, head, metadata_block
+from streams.frames import metadata_block
+from tests import comments, head
 
 
 def tags_of(*tags: str) -> claxon.Tags:

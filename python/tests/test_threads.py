@@ -7,26 +7,26 @@ from typing import List
 from unittest import mock
 
 import claxon
-from tests import FRAME_OF_5, crc, frame_header, head
+from streams.frames import frame, frame_header
+from tests import FRAME_OF_5, head
 from tests.test_live import numbered_frame
 from tests.test_seeking import made_head
 
 
 def slow_frame() -> bytes:
-    """A frame that takes long to decode, as each sample is predicted from 32, and that is damaged."""
+    """A damaged frame that takes long to decode, as each sample is predicted from 32."""
     # The type, 32 samples of 8 bits, a precision of 15 bits, no shift, the coefficients, and the
     # residual: the bit 1 for each sample, which stands for 0.
     samples = "".join(f"{at:08b}" for at in range(1, 33))
     coefficients = 31 * f"{0:015b}" + f"{1:015b}"
     residual = "00" + "0000" + "0000" + (65535 - 32) * "1"
     bits = 8 * ("0" + "111111" + "0" + samples + "1110" + "00000" + coefficients + residual)
-    bits += "0" * (-len(bits) % 8)
-    frame = frame_header(8, 65535) + int(bits, 2).to_bytes(len(bits) // 8, "big")
-    return frame + (crc(0x8005, 16, frame) ^ 1).to_bytes(2, "big")
+    damaged = frame(frame_header(65535, 7), [bits])
+    return damaged[:-1] + bytes([damaged[-1] ^ 1])
 
 
 class Searcher(threading.Thread):
-    """Goes to the frame behind all damaged ones, by one long call of the library."""
+    """Goes to the frame after all damaged ones, by one long call of the library."""
 
     def __init__(self, content: bytes) -> None:
         super().__init__()
@@ -48,11 +48,11 @@ class Searcher(threading.Thread):
 class Threads(unittest.TestCase):
     @mock.patch.object(claxon, "_MAX_WASTED", 1 << 40)
     def given_meanwhile(self, frames: int) -> int:
-        """How many blocks another stream gave in the middle half of the time that the call took: with
-        Python's lock held it would give none.
+        """How many blocks another stream gave in the middle half of the time that the call took:
+        with Python's lock held it would give none.
         """
-        behind = numbered_frame(1, 8 * [[1, 2, 3]])
-        thread = Searcher(made_head(65535, 0, 8) + frames * slow_frame() + behind)
+        after = numbered_frame(1, 8 * [[1, 2, 3]])
+        thread = Searcher(made_head(65535, 0, 8) + frames * slow_frame() + after)
         flac = claxon.Flac(io.BytesIO(head() + 200000 * FRAME_OF_5))
         times: List[float] = []
         thread.start()

@@ -332,7 +332,7 @@ impl<R: ReadBytes> FrameReader<R> {
         held >= 2 * tried.bytes || (tried.in_vain <= MAX_IN_VAIN && self.has_footer())
     }
 
-    // Whether the frame may end in the bytes that weren't tried: behind its footer the CRC of all its bytes is 0, and by
+    // Whether the frame may end in the bytes that weren't tried: after its footer the CRC of all its bytes is 0, and by
     // chance at one place of 65,536.
     fn has_footer(&mut self) -> bool {
         let mut tried = self.input.tried();

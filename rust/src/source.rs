@@ -55,10 +55,10 @@ impl Tried {
 }
 
 // How much work of tries where the CRC is 0 may lead to no block, in bytes and samples: before no more are made; and before
-// those are left out behind which no frame seems to begin. How much of it a read makes good, and each byte that was read.
+// those are left out after which no frame seems to begin. How much of it a read makes good, and each byte that was read.
 // By chance the CRC is 0 at one place of 65,536. So byte by byte a frame of L bytes and S samples takes
 // (L / 2 + S) / 65,536 for each read, which is 24 for eight channels of 65,535 samples of 32 bits. In larger pieces the
-// bytes behind such a place mostly show that no frame begins there.
+// bytes after such a place mostly show that no frame begins there.
 pub const MAX_IN_VAIN: u64 = 4 * MAX_FRAME_BYTES as u64;
 const MAX_UNLIKELY: u64 = 2 * MAX_FRAME_BYTES as u64;
 const MADE_GOOD_BY_A_READ: u64 = 28;

@@ -58,7 +58,7 @@ fn expect_block<R: Read + Seek>(flac: &mut FlacReader<R>, sample: u64, expected:
     assert!((0..found.channels()).all(|ch| found.channel(ch) == expected.channel(ch)));
 }
 
-/// The first and the last sample of each block, and the one behind all, in reads of any size.
+/// The first and the last sample of each block, and the one after all, in reads of any size.
 #[test]
 fn borders() {
     for (stream, blocks) in files() {
@@ -121,7 +121,7 @@ fn from_where_the_reader_stands() {
     }
 }
 
-/// The number of samples may be unknown, too small or too large, and there may be bytes behind the frames.
+/// The number of samples may be unknown, too small or too large, and there may be bytes after the frames.
 #[test]
 fn lengths_that_are_unknown_or_wrong() {
     let made = Made::new(60, 700, 1);
@@ -129,8 +129,8 @@ fn lengths_that_are_unknown_or_wrong() {
     let mut noise = Noise(3);
     let garbage: Vec<u8> = (0..100_000).map(|_| noise.below(256) as u8).collect();
     for samples in [0, 1, total - 1, total, total + 1, 1 << 35] {
-        for behind in [&b""[..], &[0; 200_000], &garbage] {
-            let stream = [&made.stream_of(samples), behind].concat();
+        for after in [&b""[..], &[0; 200_000], &garbage] {
+            let stream = [&made.stream_of(samples), after].concat();
             let mut flac = in_memory(&stream);
             for sample in [0, 1, 699, 700, 20_000, total - 701, total - 700, total - 1] {
                 made.expect(&mut flac, sample);

@@ -39,7 +39,7 @@ fn blocks() {
 }
 
 /// A frame of a constant channel of zeros, with these codes of its block size and sample rate and of its bit depth, and with
-/// these bytes behind them: the coded number, and the fields of the block size and the sample rate.
+/// these bytes after them: the coded number, and the fields of the block size and the sample rate.
 fn frame_of(codes: u8, depth_code: u8, fields: &[u8]) -> Vec<u8> {
     let mut frame = [&[0xff, 0xf8, codes, depth_code << 1], fields].concat();
     frame.push(crc8(&frame));

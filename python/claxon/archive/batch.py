@@ -87,8 +87,8 @@ Turn = ContextManager[object]
 
 
 def verify_batch(names: bytes, beside: Optional[str], turn: Turn = nullcontext()) -> List[Row]:
-    """A row for each of the files whose paths are in `names`, each ended by a zero byte. A file that
-    isn't a regular one any more has none."""
+    """A row for each of the files whose paths are in `names`, each ended by a zero byte. A file
+    that isn't a regular one any more has none."""
     program = find_program(beside)
     version = version_of(program)
     rows: List[Row] = []

@@ -17,8 +17,8 @@ class EngineError(Exception):
 
 
 class Engine(NamedTuple):
-    """What gives a future for a batch, how many processors there are now, and which error a batch has
-    whose workers died. Futures are those of Python or of Dask, which have the same calls."""
+    """What gives a future for a batch, how many processors there are now, and which error a batch
+    has whose workers died. Futures are those of Python or of Dask, which have the same calls."""
 
     submit: Callable[[bytes], Any]
     processors: Callable[[], int]
@@ -51,8 +51,8 @@ def open_engine(jobs: int, scheduler: Optional[str], beside: Optional[str]) -> I
         from concurrent.futures import ThreadPoolExecutor
         from threading import Semaphore
 
-        # So many processes of `claxon verify` run at once. The other threads have the next batch ready, or
-        # make rows of what a process told.
+        # So many processes of `claxon verify` run at once. The other threads have the next batch
+        # ready, or make rows of what a process told.
         with ThreadPoolExecutor(2 * jobs) as executor:
             turn = Semaphore(jobs)
             verify = partial(executor.submit, batch.verify_batch, beside=beside, turn=turn)

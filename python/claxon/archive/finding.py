@@ -10,8 +10,8 @@ MARKER = b"fLaC"
 # The path of a file, its size, and the time of its last change in nanoseconds since 1970.
 Found = Tuple[bytes, int, int]
 
-# What lies in a folder is sorted, so that rows of neighbours are put together, which takes less time.
-# With more entries each of so many are sorted: all would take much memory.
+# What lies in a folder is sorted, so that rows of neighbours are put together, which takes less
+# time. With more entries each of so many are sorted: all would take much memory.
 _SORTED = 10000
 
 # What is called for a file or folder that can't be read. The path of a folder ends with a slash.

@@ -1,7 +1,7 @@
 """How far a run is, on standard error."""
 import sys
 import time
-from typing import Any, Optional
+from typing import Any
 
 from .results import Due
 

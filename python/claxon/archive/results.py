@@ -33,21 +33,14 @@ VERDICTS = ("ok", "wrong", "not supported", "not read", "missing")
 # SQLite may allow no more values in a statement.
 _MOST_VALUES = 999
 
-_PUT = "INSERT OR REPLACE INTO files VALUES {}"
+_PUT = "INSERT OR REPLACE INTO files VALUES "
 _ROW = f"({', '.join('?' * len(COLUMNS))})"
 
 # Most rows are those of right files. A statement with many rows and few values is faster than many.
 _RIGHT_ROW = "(?, ?, ?, ?, 'ok', ?, ?, NULL, NULL, NULL, NULL, NULL, ?)"
 
-# Adds to the files that are due those of a chunk that are new, were changed, weren't read the last
-# time, or were verified before some time.
+# How many files are looked up in the results by one statement.
 _CHUNK = 300
-_PUT_DUE = """
-INSERT INTO due SELECT found.column1, found.column2, files.verdict
-FROM (VALUES {}) AS found LEFT JOIN files ON files.path = found.column1
-WHERE files.size IS NOT found.column2 OR files.changed IS NOT found.column3
-    OR files.verdict IN ('not read', 'missing') OR files.verified < ?
-"""
 
 # Paths are bytes, for which the module would look for an adapter each time, in vain.
 sqlite3.register_adapter(bytes, bytes)
@@ -97,6 +90,18 @@ def ranges_of(paths: Iterable[bytes]) -> Ranges:
 
 
 ALL: Ranges = [(b"/", b"0")]
+
+
+def _put_due(number: int) -> str:
+    """The statement that adds to the files that are due those of so many files that are new, were
+    changed, weren't read the last time, or were verified before some time."""
+    return f"""
+INSERT INTO due SELECT found.column1, found.column2, files.verdict
+FROM (VALUES {', '.join(['(?, ?, ?)'] * number)}) AS found
+LEFT JOIN files ON files.path = found.column1
+WHERE files.size IS NOT found.column2 OR files.changed IS NOT found.column3
+    OR files.verdict IN ('not read', 'missing') OR files.verified < ?
+"""
 
 
 class Lock:
@@ -211,7 +216,7 @@ class Results:
             chunk = list(itertools.islice(found, _CHUNK))
             if not chunk:
                 return
-            put = _PUT_DUE.format(", ".join(["(?, ?, ?)"] * len(chunk)))
+            put = _put_due(len(chunk))
             self._database.execute(put, [*itertools.chain.from_iterable(chunk), before])
             yield len(chunk)
 
@@ -293,7 +298,7 @@ class Results:
         size = sum(row[1] or 0 for row in rows)
         with self.transaction():
             self._put_right([row[:4] + row[5:7] + row[12:] for row in rows if row[4] == "ok"])
-            self._database.executemany(_PUT.format(_ROW), (row for row in rows if row[4] != "ok"))
+            self._database.executemany(_PUT + _ROW, (row for row in rows if row[4] != "ok"))
             self._database.execute(
                 "UPDATE runs SET ended = ?, files = files + ?, bytes = bytes + ? WHERE id = ?",
                 (time.time(), len(rows), size, self._run),
@@ -304,7 +309,7 @@ class Results:
         most = _MOST_VALUES // _RIGHT_ROW.count("?")
         for start in range(0, len(rows), most):
             chunk = rows[start : start + most]
-            put = _PUT.format(", ".join([_RIGHT_ROW] * len(chunk)))
+            put = _PUT + ", ".join([_RIGHT_ROW] * len(chunk))
             self._database.execute(put, list(itertools.chain.from_iterable(chunk)))
 
     def last_run(self) -> Optional[Run]:

@@ -11,8 +11,8 @@ from .finding import find
 from .progress import Progress
 from .results import Due, Results, outermost, ranges_of
 
-# A batch ends at so many bytes or files, so that a process has work for some tenths of a second. The
-# last batches are smaller, so that all processors have work until the end. With many processors
+# A batch ends at so many bytes or files, so that a process has work for some tenths of a second.
+# The last batches are smaller, so that all processors have work until the end. With many processors
 # batches are larger: a scheduler hands out no more than some hundreds a second.
 _BYTES, _LEAST_BYTES, _FILES = 64 << 20, 4 << 20, 500
 _BYTES_A_PROCESSOR, _FILES_A_PROCESSOR, _MOST_FILES = 1 << 20, 10, 5000

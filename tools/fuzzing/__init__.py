@@ -1,0 +1,1 @@
+"""Unusual and damaged streams, and what decoders have to say of them."""

@@ -1,0 +1,1 @@
+"""Streams for tests, written without claxon's code."""
