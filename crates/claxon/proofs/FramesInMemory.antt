@@ -10,7 +10,7 @@ use Rattle.claxon.specs.Promises.{FoundIsComplete, Remains, ReadFailed, FaultIsC
 use Rattle.claxon.specs.State.{State, bytes_in}
 use Rattle.claxon.specs.FrameReader.{FrameAnswer, ReadsFrame, block_view, frame_bytes, frame_input}
 use Rattle.claxon.specs.FrameReaders.{FrameReader}
-use Rattle.claxon.specs.Prefix.{BeginsWith}
+use Rattle.claxon_frame.specs.Prefix.{BeginsWith}
 use Rattle.claxon.specs.FramesInMemory.{SliceFrameIsSound, SliceFrameIsComplete, SliceFrameFaultIsComplete, SliceFrameFaultIsSound, SliceFrameNoneIffEof, SliceFrameOutOfMemoryAfterHeader}
 use Rattle.claxon.proofs.InMemory.{cursor_remains, cursor_never_fails, new_cursor_remains}
 use Rattle.claxon_input.specs.State.{RemainingIsKnown}

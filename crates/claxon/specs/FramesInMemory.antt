@@ -23,7 +23,7 @@ use Rattle.claxon.specs.Error.{IsFault}
 use Rattle.claxon.specs.FrameReader.{FrameAnswer, HeaderOfLargerBlock, block_view}
 use Rattle.claxon.specs.Promises.{IsOutOfMemory}
 use Rattle.claxon.specs.OtherErrors.{IfOtherErr}
-use Rattle.claxon.specs.Prefix.{BeginsWith}
+use Rattle.claxon_frame.specs.Prefix.{BeginsWith}
 
 module _ (stream : Option StreamFormat) (bytes : List ℕ) (result : FrameAnswer) where
   -- The bytes begin with a frame of the block that is returned.

@@ -35,8 +35,11 @@ pub use Rattle.claxon_metadata.specs.MetadataBlockReader
 pub use Rattle.claxon_frame.specs.Block
 pub use Rattle.claxon_frame.specs.FrameReader
 pub use Rattle.claxon_frame.specs.BlockInfo
+pub use Rattle.claxon_frame.specs.Prefix
+pub use Rattle.claxon_frame.specs.DecodedFrame
 pub use Rattle.claxon_frame.specs.declared.frame.FrameReader as FrameReaders
 pub use Rattle.claxon_frame.specs.declared.frame.info.BlockInfo as BlockInfos
+pub use Rattle.claxon_frame.specs.declared.frame.decoded.DecodedFrame as DecodedFrames
 pub use Rattle.claxon_frame.specs.Decorrelation
 pub mod ReadHead
 pub mod FlacReader
@@ -44,6 +47,5 @@ pub mod Opening
 pub mod FlacSamples
 pub mod SampleRuns
 pub mod OtherErrors
-pub mod Prefix
 pub mod Interleave
 pub mod FramesInMemory

@@ -25,7 +25,7 @@ use Rattle.claxon_input.specs.Promises.{Remains, HasNeither, IsOutOfMemory, Cons
 use Rattle.claxon_format.specs.Heads.{Head, Options, HeadCode, HeadFault}
 use Rattle.claxon.specs.ReadHead.{buffered_bytes}
 use Rattle.claxon.specs.OtherErrors.{IfOtherErr}
-use Rattle.claxon.specs.Prefix.{BeginsWith}
+use Rattle.claxon_frame.specs.Prefix.{BeginsWith}
 use Rattle.claxon.specs.FlacReader.{flac_head, flac_input, flac_metadata_only}
 use Rattle.claxon.specs.declared.reader.FlacReader.{FlacReader}
 

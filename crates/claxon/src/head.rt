@@ -152,7 +152,8 @@ fn read_other_blocks<R: ReadBytes, A: Allocator + Copy>(
 ) -> Result<Option<VorbisComment<A>>>
     ensures places { IfOk result (λ found.
         IfSome found (λ comment. HaveSeparatorIndices comment.comments.items)) }
-    ensures out_of_memory_after_blocks { OutOfMemoryAfterBlocks result (bytes_in R.source input.old) }
+    ensures out_of_memory_after_blocks { OutOfMemoryAfterBlocks result
+        (bytes_in R.source input.old) }
     ensures gives { GivesOrOutOfMemory found_view result
         (others_at comments_suffice max_other_blocks None)
         (bytes_in R.source input.old) (bytes_in R.source input.new) }

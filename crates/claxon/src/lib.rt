@@ -56,7 +56,9 @@ pub mod crc {
 
 /// Frames: blocks of samples, one after another.
 pub mod frame {
-    pub use claxon_frame::frame::{Block, BlockInfo, FrameReader, FrameResult, StereoSamples};
+    pub use claxon_frame::frame::{
+        Block, BlockInfo, DecodedFrame, DecodedFrameResult, FrameReader, FrameResult, StereoSamples,
+    };
 }
 
 /// Metadata at the beginning of a stream.

@@ -6,20 +6,19 @@ use Rattle.std.proofs.lemmas.Bool.{cases_lt}
 use Rattle.claxon.specs.Fault.{Fault}
 use Rattle.claxon.specs.Frame.{StreamFormat, Block, Frame, FrameBytesFault}
 use Rattle.claxon.specs.Block.{BlockValue}
-use Rattle.claxon.specs.BlockInfo.{HeaderBytesFault, HeaderOf}
+use Rattle.claxon.specs.BlockInfo.{HeaderBytesFault, HeaderOf, SaysBlock}
 use Rattle.claxon.specs.BlockInfos.{BlockInfo}
 use Rattle.claxon.specs.FrameReader.{FrameAnswer, block_view}
 use Rattle.claxon.specs.Prefix.{BeginsWith}
 use Rattle.claxon.proofs.BlockInfo.{header_has_two_bytes, headers_unambiguous}
-use Rattle.claxon.proofs.FrameHeaders.{SaysBlock, frame_has_header, header_fault_is_frames}
+use Rattle.claxon.proofs.FrameHeaders.{frame_has_header, header_fault_is_frames}
 use Rattle.claxon.proofs.OutOfMemory.{not_out_of_memory}
 use Rattle.claxon_seek.specs.AtStart.{FrameAtStart}
 use Rattle.claxon_c.specs.declared.heads.ClaxonInfo.{ClaxonInfo}
 use Rattle.claxon_c.specs.declared.next_block.ClaxonBlock.{ClaxonBlock}
 use Rattle.claxon_c.specs.Info.{known_stream}
-use Rattle.claxon_c.specs.NextBlock.{BlockIsKept, CBlockElseIoError, CBlockFaultIsComplete, CBlockFaultIsSound, CBlockIsComplete, CBlockIsShown, CBlockIsSound, CBlockNoMoreIffEof, CBlockOutOfMemoryAfterHeader, CFrameHeaderFaultIsComplete, CHeaderIsShown, CSamplesAreGiven, CTooSmallIffLarger, IsAtEnd, IsBlockStatus, IsDecoded, IsRefused, IsTooSmall, HasLarger, HeaderOrNone, SampleOrder, NextBlock, PositionIsKept, ShowsBytes, ShowsInfo, TextIsKept}
+use Rattle.claxon_c.specs.NextBlock.{BlockIsKept, CBlockElseIoError, CBlockFaultIsComplete, CBlockFaultIsSound, CBlockIsComplete, CBlockIsShown, CBlockIsSound, CBlockNoMoreIffEof, CBlockOutOfMemoryAfterHeader, CFrameHeaderFaultIsComplete, CHeaderIsShown, CSamplesAreGiven, CTooSmallIffLarger, IsAtEnd, IsBlockStatus, IsDecoded, IsRefused, IsTooSmall, HasLarger, HeaderOrNone, SampleOrder, NextBlock, PositionIsKept, ShowsInfo, TextIsKept}
 use Rattle.claxon_c.specs.Status.{TextIsReported, buffer_too_small, ok}
-use Rattle.claxon_c.proofs.BitDepthCode.{shows_header}
 use Rattle.claxon_c.proofs.HeadersAtStart.{larger_says, not_larger_there, same_said, says_larger}
 use Rattle.claxon_c.proofs.Reports.{each_fault_reported, io_error_reported, fault_reported, just_error, error_out_of_memory, out_of_memory_reported, text_reported}
 
@@ -153,7 +152,7 @@ module _ (Put : SampleOrder) (info : ClaxonInfo) (bytes : List ℕ) (from : ℕ)
       record {
         sound = λ p. absurd cc;
         shown_is = λ q b begins. (let k = says b begins in record { time = r.shows.time ∙ k.time; channels = r.shows.channels ∙ k.channels; duration_is = r.shows.duration_is ∙ k.duration_is });
-        header = λ q x begins. subst (λ (y : BlockInfo). ShowsInfo stream rest y shown) (same_said stream rest r.said x r.header begins) r.shows;
+        header = λ q x begins. subst (λ (y : BlockInfo). ShowsInfo y shown) (same_said stream rest r.said x r.header begins) r.shows;
         samples = λ q b begins. (let k = says b begins in inr (is, rw (← k.channels, ← k.duration_is) r.larger));
         complete = λ b begins. inl (inr is);
         too_small = (λ p. larger, λ p. is);
@@ -178,7 +177,7 @@ module _ (Put : SampleOrder) (info : ClaxonInfo) (bytes : List ℕ) (from : ℕ)
       record {
         sound = λ q. (block_view found, h.sound.0, h.sound.1, h.sound.2, h.sound.3, r.after ∙ ap (λ (n : ℕ). from + n) h.sound.4);
         shown_is = λ q b begins. (let k = says_block stream rest r.said b r.header begins in record { time = r.shows.time ∙ k.time; channels = r.shows.channels ∙ k.channels; duration_is = r.shows.duration_is ∙ k.duration_is });
-        header = λ q x begins. subst (λ (y : BlockInfo). ShowsInfo stream rest y shown) (same_said stream rest r.said x r.header begins) r.shows;
+        header = λ q x begins. subst (λ (y : BlockInfo). ShowsInfo y shown) (same_said stream rest r.said x r.header begins) r.shows;
         samples = λ q b begins. inl (rw (← same_block b begins) (refl, r.fits, put));
         complete = λ b begins. inl (inl refl);
         too_small = (λ p. absurd cc, λ larger. absurd (r.not_larger larger));
@@ -212,23 +211,20 @@ module _ (info : ClaxonInfo) (bytes : List ℕ) (from capacity start : ℕ) (is 
   header_at_position known stream header same h =
       subst (λ (z : List ℕ). HeaderOrNone stream z header) (rest_there from start bytes is) (subst (λ (z : Option StreamFormat). HeaderOrNone z (take (length bytes - start) (drop start bytes)) header) same h)
 
-  pub shown_there : (header : Option BlockInfo) (shown : ClaxonBlock) → IfSome header (λ said. ShowsBytes (take (length bytes - start) (drop start bytes)) said shown) → IfSome header (λ said. ShowsBytes (drop from bytes) said shown)
-  shown_there header shown shows = subst (λ (z : List ℕ). IfSome header (λ said. ShowsBytes z said shown)) (rest_there from start bytes is) shows
-
   -- a header whose samples don't fit
-  pub too_small_there : (header : Option BlockInfo) (shown : ClaxonBlock) → HeaderOrNone (known_stream info) (drop from bytes) header → HasLarger capacity header → IfSome header (λ said. ShowsBytes (drop from bytes) said shown) → IsTooSmall info bytes from capacity buffer_too_small shown
+  pub too_small_there : (header : Option BlockInfo) (shown : ClaxonBlock) → HeaderOrNone (known_stream info) (drop from bytes) header → HasLarger capacity header → IfSome header (λ said. ShowsInfo said shown) → IsTooSmall info bytes from capacity buffer_too_small shown
   too_small_there None shown none larger shows = absurd larger
   too_small_there (Some said) shown there larger shows = record {
     status_is = refl;
     said = said;
     header = there;
     larger = larger;
-    shows = shows_header (known_stream info) (drop from bytes) said shown shows;
+    shows = shows;
   }
 
   -- the position after the frame
   pub decoded_there : (found : BlockValue) (count : ℕ) (header : Option BlockInfo) (shown : ClaxonBlock) → FrameAtStart (known_stream info) (drop from bytes) (Ok (Some found)) count → HeaderOrNone (known_stream info) (drop from bytes) header → (HasLarger capacity header → ⊥)
-      → IfSome header (λ said. ShowsBytes (drop from bytes) said shown) → IsDecoded info bytes from capacity found (start + count) shown
+      → IfSome header (λ said. ShowsInfo said shown) → IsDecoded info bytes from capacity found (start + count) shown
   decoded_there found count None shown h none fits shows =
       let t = h.sound in
       let k = frame_has_header (known_stream info) (block_view found) t.0 t.1 t.2 in
@@ -253,5 +249,5 @@ module _ (info : ClaxonInfo) (bytes : List ℕ) (from capacity start : ℕ) (is 
         ];
         said = said;
         header = there;
-        shows = shows_header stream rest said shown shows;
+        shows = shows;
       }

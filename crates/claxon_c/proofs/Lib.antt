@@ -1,5 +1,3 @@
--- The code of the bit depth is in the fourth byte of a header.
-pub mod BitDepthCode
 -- What a call returns for the frame at a position.
 pub mod BlockCalls
 -- The content of a metadata block in memory.

@@ -1,9 +1,7 @@
 -- What the call returns that seeks to a sample and decodes its block.
 use Rattle.std.proofs.Common.{◌≡◌, inl, inr, ℕ, ℤ, ◌+◌, ◌*◌, ◌<◌, ◌≤◌, List, drop, length, Option, Some, refl, sym, ap, subst, arith, length-append}
 use Rattle.std.proofs.lemmas.List.{length-drop}
-use Rattle.claxon.specs.Frame.{Frame}
 use Rattle.claxon.specs.FrameReader.{block_view}
-use Rattle.claxon.specs.Prefix.{BeginsWith}
 use Rattle.claxon.specs.StreamInfos.{StreamInfo}
 use Rattle.claxon.specs.Streams.{duration_of}
 use Rattle.claxon_seek.specs.Find.{WantedFrame}
@@ -12,11 +10,10 @@ use Rattle.claxon_seek.specs.declared.search.FoundBlock.{FoundBlock}
 use Rattle.claxon_seek.proofs.BlockSearches.{frame_is_inside}
 use Rattle.claxon_c.specs.declared.heads.ClaxonInfo.{ClaxonInfo}
 use Rattle.claxon_c.specs.declared.next_block.ClaxonBlock.{ClaxonBlock}
-use Rattle.claxon_c.specs.Info.{known_info, known_stream}
-use Rattle.claxon_c.specs.NextBlock.{InterleavedArePut, ShowsBytes}
+use Rattle.claxon_c.specs.Info.{known_info}
+use Rattle.claxon_c.specs.NextBlock.{InterleavedArePut, ShowsInfo}
 use Rattle.claxon_c.specs.Seek.{CSeekBlockIsComplete, CSeekBlockIsSound, CSeekBlockIsTooLarge, CSeekNoMoreIsNone, CSeekNoneIsNoMore, CSeekOutOfMemoryAfterHeader, CSeekStopsOverBudget, IsGiven, IsSeekBlockStatus, SeekBlockIsKept, ShowsFrame}
 use Rattle.claxon_c.specs.Status.{buffer_too_small, ok}
-use Rattle.claxon_c.proofs.BitDepthCode.{shows_header}
 use Rattle.claxon_c.proofs.BlockCalls.{says_block}
 use Rattle.claxon_c.proofs.SeekCalls.{CSeekPromises}
 
@@ -75,11 +72,11 @@ module _ (info : ClaxonInfo) (bytes : List ℕ) (sample budget from : ℕ) (bloc
     abbrev Promised : ℕ → ℕ → Type 0
     Promised status to = CSeekBlockPromises info bytes sample budget status from to block shown old new
 
-    shows_frame : ShowsBytes rest found.frame.block shown → ShowsFrame info (Some sample) rest shown
-    shows_frame shows = record { said = found.frame.block; frame = wanted; shows = shows_header (known_stream info) rest found.frame.block shown shows }
+    shows_frame : ShowsInfo found.frame.block shown → ShowsFrame info (Some sample) rest shown
+    shows_frame shows = record { said = found.frame.block; frame = wanted; shows = shows }
 
     -- its samples are stored
-    stored : (to : ℕ) → ShowsBytes rest found.frame.block shown → to ≡ found.frame.position + found.len → length found.block.channels * duration_of found.block.channels ≤ length old → InterleavedArePut found.block.channels old new → Promised ok to
+    stored : (to : ℕ) → ShowsInfo found.frame.block shown → to ≡ found.frame.position + found.len → length found.block.channels * duration_of found.block.channels ≤ length old → InterleavedArePut found.block.channels old new → Promised ok to
     stored to shows is fits put = record {
       is_sound = λ q. record {
         at = found.frame.position;
@@ -103,7 +100,7 @@ module _ (info : ClaxonInfo) (bytes : List ℕ) (sample budget from : ℕ) (bloc
     }
 
     -- they don't fit
-    too_large : (to : ℕ) → ShowsBytes rest found.frame.block shown → to ≡ found.frame.position → length old < found.frame.block.channels * found.frame.block.duration → new ≡ old → Promised buffer_too_small to
+    too_large : (to : ℕ) → ShowsInfo found.frame.block shown → to ≡ found.frame.position → length old < found.frame.block.channels * found.frame.block.duration → new ≡ old → Promised buffer_too_small to
     too_large to shows is larger same = record {
       is_sound = λ q. absurd cc;
       is_too_large = λ q. (
@@ -120,7 +117,7 @@ module _ (info : ClaxonInfo) (bytes : List ℕ) (sample budget from : ℕ) (bloc
       is_kept = record { frame = λ other. absurd (other (inr refl)); samples = λ other. same };
     }
 
-    pub block_given : (status to : ℕ) → IsGiven bytes found status to shown old new → Promised status to
+    pub block_given : (status to : ℕ) → IsGiven found status to shown old new → Promised status to
     block_given status to given = elim given.fits_or_not [
       | inl k ↦ subst (λ (s : ℕ). Promised s to) (sym k.0) (stored to given.shows k.1 k.2 k.3)
       | inr k ↦ subst (λ (s : ℕ). Promised s to) (sym k.0) (too_large to given.shows k.1 k.2 k.3)

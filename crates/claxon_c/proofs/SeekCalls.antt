@@ -13,9 +13,8 @@ use Rattle.claxon_seek.specs.declared.search.Search.TheVariants.{Found, NotFound
 use Rattle.claxon_seek.proofs.Searches.{same_header}
 use Rattle.claxon_c.specs.declared.heads.ClaxonInfo.{ClaxonInfo}
 use Rattle.claxon_c.specs.declared.next_block.ClaxonBlock.{ClaxonBlock}
-use Rattle.claxon_c.specs.Info.{known_info, known_stream}
-use Rattle.claxon_c.specs.NextBlock.{ShowsBytes, ShowsInfo}
-use Rattle.claxon_c.proofs.BitDepthCode.{shows_header}
+use Rattle.claxon_c.specs.Info.{known_info}
+use Rattle.claxon_c.specs.NextBlock.{ShowsInfo}
 use Rattle.claxon_c.specs.Seek.{CBudgetIsSpent, CFindOutOfMemoryAfterHeader, CFirstIsFound, CFoundIsFirst, CNoMoreIsNone, CNoneIsNoMore, CSeekIsComplete, CSeekIsSound, CSeekNoMoreIsNone, CSeekNoneIsNoMore, CSeekOutOfMemoryAfterHeader, CSeekStopsOverBudget, CStopsOverBudget, CUndecidedIsFirst, FoundBlockIsKept, IsSearchStatus, SearchIsKept, SeekIsKept}
 use Rattle.claxon_c.specs.Status.{no_more, ok, out_of_memory, over_budget}
 
@@ -52,15 +51,13 @@ module _ (info : ClaxonInfo) (bytes : List ℕ) (from budget left : ℕ) (block 
   there r g = subst (λ (k : Option StreamInfo). FindGives k None bytes from budget r left) same g
 
   -- it is this one
-  pub found : (at : FoundFrame) → FindGives known None bytes from budget (Ok (Found at)) left → ShowsBytes (drop at.position bytes) at.block shown → CFindPromises info bytes from ok at.position budget left block shown
+  pub found : (at : FoundFrame) → FindGives known None bytes from budget (Ok (Found at)) left → ShowsInfo at.block shown → CFindPromises info bytes from ok at.position budget left block shown
   found at gives shows =
       let g = there (Ok (Found at)) gives in
-      let stream = known_stream info in
-      let is_shown = shows_header stream (drop at.position bytes) at.block shown shows in
       record {
-        found_is_first = λ is. (g.0, record { said = at.block; frame = g.1; shows = is_shown }, g.2);
+        found_is_first = λ is. (g.0, record { said = at.block; frame = g.1; shows = shows }, g.2);
         first_is_found = λ n said after frame none. (let one = one_first (known_info info) bytes from at.position n at.block said g.1 frame g.0 g.2 after none in
-            inl (refl, one.0, subst (λ (k : ℕ). ShowsInfo stream (drop k bytes) said shown) one.0 (subst (λ (x : BlockInfo). ShowsInfo stream (drop at.position bytes) x shown) one.1 is_shown)));
+            inl (refl, one.0, subst (λ (x : BlockInfo). ShowsInfo x shown) one.1 shows));
         no_more_is_none = λ is. absurd cc;
         none_is_no_more = λ none. absurd (none at.position g.0 at.block g.1);
         undecided_is_first = λ is. absurd cc;
@@ -144,11 +141,11 @@ module _ (info : ClaxonInfo) (bytes : List ℕ) (sample budget from : ℕ) (bloc
   seeks_there r g = subst (λ (k : Option StreamInfo). SeekGives k bytes info.first_frame sample budget r) same g
 
   -- it is this one
-  pub seek_found : (at : FoundFrame) → SeekGives known bytes info.first_frame sample budget (Ok (Found at)) → ShowsBytes (drop at.position bytes) at.block shown → CSeekPromises info bytes sample budget ok from at.position block shown
+  pub seek_found : (at : FoundFrame) → SeekGives known bytes info.first_frame sample budget (Ok (Found at)) → ShowsInfo at.block shown → CSeekPromises info bytes sample budget ok from at.position block shown
   seek_found at gives shows =
       let g = seeks_there (Ok (Found at)) gives in
       record {
-        is_sound = λ is. (g.0, record { said = at.block; frame = g.1; shows = shows_header (known_stream info) (drop at.position bytes) at.block shown shows });
+        is_sound = λ is. (g.0, record { said = at.block; frame = g.1; shows = shows });
         is_complete = λ n said after frame. inl refl;
         no_more_is_none = λ is. absurd cc;
         none_is_no_more = λ none. absurd (none at.position g.0 at.block g.1);

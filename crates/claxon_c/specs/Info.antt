@@ -1,5 +1,5 @@
 -- A `ClaxonInfo` as the format has it.
-use Rattle.std.specs.Prelude.{◌≡◌, ℕ, nat_eq, nat_le, ◌&&◌, cond, Option, None, Some}
+use Rattle.std.specs.Prelude.{◌≡◌, ℕ, nat_eq, nat_le, ◌&&◌, if◌then◌else◌, Option, None, Some}
 use Rattle.std.specs.Option.{option_map}
 use Rattle.claxon.specs.Frame.{StreamFormat}
 use Rattle.claxon.specs.FrameReader.{stream_with}
@@ -23,12 +23,12 @@ pub record InfoShows (found : StreamInfo) (tags first_frame : ℕ) (info : Claxo
 
 -- a number that is unknown if it is 0
 abbrev pub unless_zero : ℕ → Option ℕ
-unless_zero n = cond (nat_eq n 0) None (Some n)
+unless_zero n = if nat_eq n 0 then None else Some n
 
 -- What it says of the stream: nothing, where the bit depth is out of range.
 abbrev pub known_info : ClaxonInfo → Option StreamInfo
 known_info info =
-    cond (nat_le 1 info.bits_per_sample && nat_le info.bits_per_sample 32) (Some (record {
+    if nat_le 1 info.bits_per_sample && nat_le info.bits_per_sample 32 then Some (record {
       min_block_size = info.min_block_size;
       max_block_size = info.max_block_size;
       min_frame_size = None;
@@ -38,7 +38,7 @@ known_info info =
       bits_per_sample = info.bits_per_sample;
       samples = unless_zero info.samples;
       md5sum = info.md5;
-    })) None
+    }) else None
 
 -- What its frames need of that.
 abbrev pub known_stream : ClaxonInfo → Option StreamFormat

@@ -8,17 +8,12 @@ use Rattle.std.specs.Prelude.{
   ℤ,
   ◌+◌,
   ◌*◌,
-  ◌/◌,
-  ◌%◌,
   ◌<◌,
   ◌≤◌,
-  ◌==◌,
-  cond,
   List,
   ◌++◌,
   length,
   drop,
-  slice_index,
   Option,
   Result,
   Ok,
@@ -27,10 +22,8 @@ use Rattle.std.specs.Prelude.{
   Some,
   IsSomeAnd,
 }
-use Rattle.claxon.specs.Bits.{bits_of}
 use Rattle.claxon.specs.Fault.{Fault}
-use Rattle.claxon.specs.Frame.{Block, Frame, FrameBytesFault, StreamFormat, known_bit_depth}
-use Rattle.claxon.specs.Header.{Header, HeaderCode}
+use Rattle.claxon.specs.Frame.{Block, Frame, FrameBytesFault, StreamFormat}
 use Rattle.claxon.specs.Streams.{duration_of, interleave}
 use Rattle.claxon.specs.Promises.{HasNeither}
 use Rattle.claxon.specs.Errors.{Error}
@@ -75,26 +68,14 @@ pub record ShowsBlock (b : Block) (shown : ClaxonBlock) : Type 0 where
   pub channels : shown.channels ≡ length b.channels
   pub duration_is : shown.duration ≡ duration_of b.channels
 
--- The bytes begin with a header that has this code of the bit depth (RFC 9639, section 9.1.4).
-abbrev pub BeginsWithBitDepthCode : Option StreamFormat → ℕ → List ℕ → Type 0
-BeginsWithBitDepthCode stream code =
-    BeginsWith (λ t. (h : Header) × HeaderCode (known_bit_depth stream) h (bits_of t)
-    × (code ≡ h.fields.bit_depth_code))
-
--- the bit depth that is shown: 0 under the code 0, which leaves it to the streaminfo
-abbrev pub shown_bit_depth : ℕ → ℕ → ℕ
-shown_bit_depth code bit_depth = cond (code == 0) 0 bit_depth
-
--- It shows what the header says with which the bytes begin.
-pub record ShowsInfo (stream : Option StreamFormat) (bytes : List ℕ) (info : BlockInfo)
-    (shown : ClaxonBlock) : Type 0 where
+-- It shows what a header says: a sample rate and a bit depth of 0 where it leaves them to the
+-- streaminfo.
+pub record ShowsInfo (info : BlockInfo) (shown : ClaxonBlock) : Type 0 where
   pub time : shown.time ≡ info.time
   pub channels : shown.channels ≡ info.channels
   pub duration_is : shown.duration ≡ info.duration
   pub sample_rate : shown.sample_rate ≡ or_zero info.sample_rate
-  pub bits_per_sample :
-      (code : ℕ) → BeginsWithBitDepthCode stream code bytes
-      → shown.bits_per_sample ≡ shown_bit_depth code info.bit_depth
+  pub bits_per_sample : shown.bits_per_sample ≡ or_zero info.header_bit_depth
 
 -- The samples of the block are written where they fit, else the status is `buffer_too_small`.
 abbrev pub GivesSamples : SampleOrder → Block → ℕ → List ℤ → List ℤ → Type 0
@@ -145,7 +126,7 @@ module _ (info : ClaxonInfo) (bytes : List ℕ) (from status : ℕ) where
   CHeaderIsShown shown =
       IsBlockStatus status → (said : BlockInfo)
       → BeginsWith (HeaderOf (known_stream info) said) (drop from bytes)
-      → ShowsInfo (known_stream info) (drop from bytes) said shown
+      → ShowsInfo said shown
 
   -- The samples are written where they fit, else the status is `buffer_too_small`.
   abbrev pub CSamplesAreGiven : SampleOrder → List ℤ → List ℤ → Type 0
@@ -225,19 +206,6 @@ HeaderOrNone stream bytes (Some info) = BeginsWith (HeaderOf stream info) bytes
 abbrev pub HasLarger : ℕ → Option BlockInfo → Type 0
 HasLarger capacity header = IsSomeAnd header (λ info. capacity < info.channels * info.duration)
 
--- the code of the bit depth, by the fourth byte
-abbrev pub code_in_bytes : List ℕ → ℕ
-code_in_bytes bytes = slice_index bytes 3 / 2 % 8
-
--- It shows what a header says, and the bit depth by the fourth of these bytes.
-pub record ShowsBytes (bytes : List ℕ) (info : BlockInfo) (shown : ClaxonBlock) : Type 0 where
-  pub time : shown.time ≡ info.time
-  pub channels : shown.channels ≡ info.channels
-  pub duration_is : shown.duration ≡ info.duration
-  pub sample_rate : shown.sample_rate ≡ or_zero info.sample_rate
-  pub bits_per_sample :
-      shown.bits_per_sample ≡ shown_bit_depth (code_in_bytes bytes) info.bit_depth
-
 module _ (info : ClaxonInfo) (bytes : List ℕ) (from capacity : ℕ) where
   -- A frame was decoded whose samples fit, and the position is after it.
   pub record IsDecoded (found : BlockValue) (to : ℕ) (shown : ClaxonBlock) : Type 0 where
@@ -248,7 +216,7 @@ module _ (info : ClaxonInfo) (bytes : List ℕ) (from capacity : ℕ) where
     pub after : to ≡ from + count
     pub said : BlockInfo
     pub header : BeginsWith (HeaderOf (known_stream info) said) (drop from bytes)
-    pub shows : ShowsInfo (known_stream info) (drop from bytes) said shown
+    pub shows : ShowsInfo said shown
 
   -- A header stands at the position whose block has more samples than the capacity.
   pub record IsTooSmall (status : ℕ) (shown : ClaxonBlock) : Type 0 where
@@ -256,7 +224,7 @@ module _ (info : ClaxonInfo) (bytes : List ℕ) (from capacity : ℕ) where
     pub said : BlockInfo
     pub header : BeginsWith (HeaderOf (known_stream info) said) (drop from bytes)
     pub larger : capacity < said.channels * said.duration
-    pub shows : ShowsInfo (known_stream info) (drop from bytes) said shown
+    pub shows : ShowsInfo said shown
 
   -- Too few bytes are left for a frame.
   pub record IsAtEnd (status : ℕ) : Type 0 where

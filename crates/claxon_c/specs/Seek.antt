@@ -35,7 +35,7 @@ use Rattle.claxon_seek.specs.declared.search.FoundBlock.{FoundBlock}
 use Rattle.claxon_c.specs.declared.heads.ClaxonInfo.{ClaxonInfo}
 use Rattle.claxon_c.specs.declared.next_block.ClaxonBlock.{ClaxonBlock}
 use Rattle.claxon_c.specs.Info.{known_info, known_stream}
-use Rattle.claxon_c.specs.NextBlock.{InterleavedArePut, IsBlockStatus, ShowsBytes, ShowsInfo}
+use Rattle.claxon_c.specs.NextBlock.{InterleavedArePut, IsBlockStatus, ShowsInfo}
 use Rattle.claxon_c.specs.Status.{buffer_too_small, no_more, ok, out_of_memory, over_budget}
 
 -- The bytes begin with a frame of the stream, which is shown. Its block has this sample, if one is
@@ -44,7 +44,7 @@ pub record ShowsFrame (info : ClaxonInfo) (sample : Option ℕ) (bytes : List �
     : Type 0 where
   pub said : BlockInfo
   pub frame : WantedFrame (known_info info) sample bytes said
-  pub shows : ShowsInfo (known_stream info) bytes said shown
+  pub shows : ShowsInfo said shown
 
 -- the status says that a search didn't come to its end
 abbrev pub IsGivenUp : ℕ → Type 0
@@ -83,7 +83,7 @@ module _ (info : ClaxonInfo) (bytes : List ℕ) (from status : ℕ) where
       (at : ℕ) (said : BlockInfo) → from ≤ at
       → WantedFrame (known_info info) None (drop at bytes) said
       → NoFrameBetween (known_info info) None bytes from at
-      → ((status ≡ ok) × (to ≡ at) × ShowsInfo (known_stream info) (drop at bytes) said shown)
+      → ((status ≡ ok) × (to ≡ at) × ShowsInfo said shown)
       ⊎ IsGivenUp status
 
   -- `no_more` says that there is none.
@@ -203,15 +203,16 @@ module _ (info : ClaxonInfo) (bytes : List ℕ) (sample : ℕ) where
     abbrev pub CSeekBlockIsSound : ℕ → ClaxonBlock → List ℤ → List ℤ → Type 0
     CSeekBlockIsSound to shown old new = status ≡ ok → GivesBlock to shown old new
 
-    -- With `buffer_too_small` such a frame begins at the position, and is shown. It has more samples
-    -- than the capacity.
+    -- With `buffer_too_small` such a frame begins at the position, and is shown. It has more
+    -- samples than the capacity.
     abbrev pub CSeekBlockIsTooLarge : ℕ → ClaxonBlock → ℕ → Type 0
     CSeekBlockIsTooLarge to shown capacity =
         status ≡ buffer_too_small
         → (info.first_frame ≤ to) × ShowsFrame info (Some sample) (drop to bytes) shown
         × (capacity < shown.channels * shown.duration)
 
-    -- If there is one the status is `ok` or `buffer_too_small`, or `over_budget` or `out_of_memory`.
+    -- If there is one the status is `ok` or `buffer_too_small`, or `over_budget` or
+    -- `out_of_memory`.
     abbrev pub CSeekBlockIsComplete : Type 0
     CSeekBlockIsComplete =
         (at : ℕ) (said : BlockInfo) → info.first_frame ≤ at
@@ -222,9 +223,9 @@ module _ (info : ClaxonInfo) (bytes : List ℕ) (sample : ℕ) where
 
 -- The block that was found is shown. Its samples are stored and the position is after its frame, or
 -- they don't fit and it is at the frame.
-pub record IsGiven (bytes : List ℕ) (found : FoundBlock) (status to : ℕ) (shown : ClaxonBlock)
+pub record IsGiven (found : FoundBlock) (status to : ℕ) (shown : ClaxonBlock)
     (old new : List ℤ) : Type 0 where
-  pub shows : ShowsBytes (drop found.frame.position bytes) found.frame.block shown
+  pub shows : ShowsInfo found.frame.block shown
   pub fits_or_not :
       ((status ≡ ok) × (to ≡ found.frame.position + found.len)
       × (length found.block.channels * duration_of found.block.channels ≤ length old)

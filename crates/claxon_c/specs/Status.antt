@@ -5,7 +5,7 @@ use Rattle.std.specs.Prelude.{
   ℕ,
   ◌-◌,
   ◌<◌,
-  cond,
+  if◌then◌else◌,
   List,
   [],
   ◌∷◌,
@@ -74,7 +74,8 @@ TextIsReported status old new =
 -- The status is that of the fault, and the fault's text is written.
 abbrev pub FaultIsReported : Fault → ℕ → List ℕ → List ℕ → Type 0
 FaultIsReported f status old new =
-    (status ≡ cond (is_unsupported f) unsupported format_error) × TextIsPut (fault_text f) old new
+    (status ≡ (if is_unsupported f then unsupported else format_error))
+    × TextIsPut (fault_text f) old new
 
 -- the status says that there is a fault
 abbrev pub IsFaultStatus : ℕ → Type 0

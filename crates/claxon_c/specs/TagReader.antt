@@ -8,7 +8,7 @@ use Rattle.std.specs.Prelude.{
   ◌-◌,
   ◌≤◌,
   nat_lt,
-  cond,
+  if◌then◌else◌,
   List,
   [],
   ◌∷◌,
@@ -55,9 +55,9 @@ after_entry next (e ∷ others) rest = Done (Some e) rest
 unfoldable pub first_entry_at : ℕ → List ℕ → Reading ℕ (Option Entry)
 first_entry_at zero s = Done None s
 first_entry_at (suc most) s =
-    cond (nat_lt 0 (length s))
-    (bind (prefixed_entry_at (length s) s) (after_entry (first_entry_at most)))
-    (Done None s)
+    if nat_lt 0 (length s) then
+    bind (prefixed_entry_at (length s) s) (after_entry (first_entry_at most))
+    else Done None s
 
 -- the length of the vendor string in a content of n bytes
 unfoldable pub front_length_at : ℕ → List ℕ → Reading ℕ ℕ

@@ -22,7 +22,8 @@ pub extern "C" fn claxon_md5_start(hasher: &mut Md5)
 /// Hashes interleaved samples, after those that were hashed before.
 #[unsafe(no_mangle)]
 pub extern "C" fn claxon_md5_samples(hasher: &mut Md5, samples: &[i32], bits_per_sample: u32) -> u32
-    ensures are_hashed { CSamplesAreHashed bits_per_sample samples.now result hasher.old hasher.new }
+    ensures are_hashed { CSamplesAreHashed bits_per_sample samples.now result
+        hasher.old hasher.new }
     ensures other_depth_is_unsupported { COtherDepthIsUnsupported bits_per_sample result }
     ensures hasher_is_kept { HasherIsKept result hasher.old hasher.new }
 {

@@ -1,5 +1,5 @@
 //! Blocks, one after another.
-ghost use Rattle.std.specs.Prelude.{◌≡◌, ◌↔◌, IfSome, IsTrue, drop, length};
+ghost use Rattle.std.specs.Prelude.{◌≡◌, ◌↔◌, IfSome, IsTrue, length};
 ghost use Rattle.std.specs.Option.{option_map};
 ghost use Rattle.claxon.specs.FlacReader.{HasBitDepth};
 ghost use Rattle.claxon.specs.FrameReader.{stream_with};
@@ -22,9 +22,8 @@ ghost use Rattle.claxon_c.specs.NextBlock.{
   HeaderOrNone,
   NextBlock,
   PositionIsKept,
-  ShowsBytes,
+  ShowsInfo,
   TextIsKept,
-  code_in_bytes,
 };
 ghost use Rattle.claxon_c.specs.Status.{TextIsReported};
 
@@ -55,38 +54,18 @@ pub struct ClaxonBlock {
 }
 
 impl ClaxonBlock {
-    // What the header says with which the bytes begin.
-    pub(crate) fn from_header(info: &BlockInfo, bytes: &[u8]) -> ClaxonBlock
-        ensures { ShowsBytes bytes.now info.now result }
+    // What the header says.
+    pub(crate) fn from_header(info: &BlockInfo) -> ClaxonBlock
+        ensures { ShowsInfo info.now result }
     {
         ClaxonBlock {
             time: info.time,
             channels: info.channels,
             duration: info.duration,
             sample_rate: info.sample_rate.unwrap_or(0),
-            bits_per_sample: match bit_depth_code(bytes) {
-                0 => 0,
-                _ => info.bit_depth,
-            },
+            bits_per_sample: info.header_bit_depth.unwrap_or(0),
         }
     }
-}
-
-// The code of the bit depth in the bytes of a header. (RFC 9639, section 9.1.4.)
-fn bit_depth_code(bytes: &[u8]) -> u8
-    ensures { result ≡ code_in_bytes bytes.now }
-{
-    match bytes.get(3) {
-        Some(byte) => *byte / 2 % 8,
-        None => 0,
-    }
-}
-
-// The bytes from the position on.
-pub(crate) fn bytes_from(bytes: &[u8], at: usize) -> &[u8]
-    ensures { result.now ≡ drop at bytes.now }
-{
-    &bytes[bytes.len().min(at)..]
 }
 
 /// Decodes the frame at the position into interleaved samples, and moves the position after it. Where the samples don't fit, no
@@ -112,12 +91,14 @@ pub extern "C" fn claxon_next_block(
     ensures are_interleaved { CSamplesAreInterleaved info.now bytes.now at.old result
         samples.old samples.new }
     // Faults, and their texts.
-    ensures fault_is_sound { CBlockFaultIsSound info.now bytes.now at.old result error.old error.new }
+    ensures fault_is_sound { CBlockFaultIsSound info.now bytes.now at.old result
+        error.old error.new }
     ensures fault_is_complete { CBlockFaultIsComplete info.now bytes.now at.old result
         (length samples.old) error.old error.new }
     ensures header_fault_is_complete { CFrameHeaderFaultIsComplete info.now bytes.now at.old result
         error.old error.new }
-    ensures else_io_error { CBlockElseIoError info.now bytes.now at.old result (length samples.old) }
+    ensures else_io_error { CBlockElseIoError info.now bytes.now at.old result
+        (length samples.old) }
     ensures text_is_reported { TextIsReported result error.old error.new }
     // Memory.
     ensures out_of_memory_after_header { CBlockOutOfMemoryAfterHeader info.now bytes.now at.old
@@ -158,12 +139,14 @@ pub extern "C" fn claxon_next_block_planar(
     ensures are_planar { CSamplesArePlanar info.now bytes.now at.old result
         samples.old samples.new }
     // Faults, and their texts.
-    ensures fault_is_sound { CBlockFaultIsSound info.now bytes.now at.old result error.old error.new }
+    ensures fault_is_sound { CBlockFaultIsSound info.now bytes.now at.old result
+        error.old error.new }
     ensures fault_is_complete { CBlockFaultIsComplete info.now bytes.now at.old result
         (length samples.old) error.old error.new }
     ensures header_fault_is_complete { CFrameHeaderFaultIsComplete info.now bytes.now at.old result
         error.old error.new }
-    ensures else_io_error { CBlockElseIoError info.now bytes.now at.old result (length samples.old) }
+    ensures else_io_error { CBlockElseIoError info.now bytes.now at.old result
+        (length samples.old) }
     ensures text_is_reported { TextIsReported result error.old error.new }
     // Memory.
     ensures out_of_memory_after_header { CBlockOutOfMemoryAfterHeader info.now bytes.now at.old
@@ -200,13 +183,13 @@ fn next_block(
     let known = info.known_stream();
     let header = header_there(rest, known);
     if has_larger(&header, capacity) {
-        show(&header, rest, block);
+        show(&header, block);
         return Err(BUFFER_TOO_SMALL);
     }
     let mut count = 0;
     match block_at_start(alloc, rest, known, &mut count) {
         Ok(Some(found)) => {
-            show(&header, rest, block);
+            show(&header, block);
             *at = start + count;
             Ok(found)
         }
@@ -237,10 +220,10 @@ pub(crate) fn has_larger(header: &Option<BlockInfo>, capacity: usize) -> bool
 }
 
 // Shows what the header says, if there is one.
-fn show(header: &Option<BlockInfo>, bytes: &[u8], block: &mut ClaxonBlock)
-    ensures { IfSome header.now (λ info. ShowsBytes bytes.now info block.new) }
+fn show(header: &Option<BlockInfo>, block: &mut ClaxonBlock)
+    ensures { IfSome header.now (λ info. ShowsInfo info block.new) }
 {
     if let Some(info) = header {
-        *block = ClaxonBlock::from_header(info, bytes);
+        *block = ClaxonBlock::from_header(info);
     }
 }

@@ -1,5 +1,5 @@
 //! The next frame in bytes, and a frame whose block has a sample.
-ghost use Rattle.std.specs.Prelude.{◌≡◌, ◌+◌, ◌≤◌, length};
+ghost use Rattle.std.specs.Prelude.{◌≡◌, ◌+◌, ◌^◌, ◌<◌, length};
 ghost use Rattle.claxon.specs.Streams.{duration_of};
 ghost use Rattle.claxon_c.specs.Seek.{
   CBudgetIsSpent,
@@ -30,7 +30,7 @@ ghost use Rattle.claxon_c.specs.Seek.{
 
 use crate::heads::ClaxonInfo;
 use crate::interleave::put_interleaved;
-use crate::next_block::{ClaxonBlock, bytes_from, has_larger};
+use crate::next_block::{ClaxonBlock, has_larger};
 use crate::status::{BUFFER_TOO_SMALL, NO_MORE, OK, OUT_OF_MEMORY, OVER_BUDGET};
 use claxon_seek::{BlockSearch, FoundBlock, Search, find_frame, seek, seek_block};
 use std::alloc::Global;
@@ -72,7 +72,7 @@ pub extern "C" fn claxon_find_frame(
     match found {
         Search::Found(frame) => {
             *at = frame.position;
-            *block = ClaxonBlock::from_header(&frame.block, bytes_from(bytes, frame.position));
+            *block = ClaxonBlock::from_header(&frame.block);
             OK
         }
         Search::NotFound(undecided) => {
@@ -111,7 +111,7 @@ pub extern "C" fn claxon_seek(
     match seek(alloc, bytes, known, info.first_frame, sample, budget) {
         Ok(Search::Found(found)) => {
             *at = found.position;
-            *block = ClaxonBlock::from_header(&found.block, bytes_from(bytes, found.position));
+            *block = ClaxonBlock::from_header(&found.block);
             OK
         }
         Ok(Search::NotFound(_)) => NO_MORE,
@@ -147,7 +147,8 @@ pub extern "C" fn claxon_seek_block(
     ensures out_of_memory_after_header { CSeekOutOfMemoryAfterHeader info.now bytes.now sample
         result }
     // What stays as it was.
-    ensures is_kept { SeekBlockIsKept result at.old at.new block.old block.new samples.old samples.new }
+    ensures is_kept { SeekBlockIsKept result at.old at.new block.old block.new
+        samples.old samples.new }
 {
     match seek_block(
         alloc,
@@ -157,7 +158,7 @@ pub extern "C" fn claxon_seek_block(
         sample,
         budget,
     ) {
-        Ok(BlockSearch::Found(found)) => give(found, bytes, at, samples, block),
+        Ok(BlockSearch::Found(found)) => give(found, at, samples, block),
         Ok(BlockSearch::NotFound(_)) => NO_MORE,
         Ok(BlockSearch::OverBudget(_)) => OVER_BUDGET,
         Err(_) => OUT_OF_MEMORY,
@@ -165,24 +166,18 @@ pub extern "C" fn claxon_seek_block(
 }
 
 // Shows the block and stores its samples, if they fit.
-fn give(
-    found: FoundBlock,
-    bytes: &[u8],
-    at: &mut usize,
-    samples: &mut [i32],
-    block: &mut ClaxonBlock,
-) -> u32
+fn give(found: FoundBlock, at: &mut usize, samples: &mut [i32], block: &mut ClaxonBlock) -> u32
     requires channels { length found.block.channels ≡ found.frame.block.channels }
     requires duration { duration_of found.block.channels ≡ found.frame.block.duration }
-    requires inside { found.frame.position + found.len ≤ length bytes.now }
-    ensures { IsGiven bytes.now found result at.new block.new samples.old samples.new }
+    requires inside { found.frame.position + found.len < 2 ^ 64 }
+    ensures { IsGiven found result at.new block.new samples.old samples.new }
 {
     let FoundBlock {
         frame,
         len,
         block: decoded,
     } = found;
-    *block = ClaxonBlock::from_header(&frame.block, bytes_from(bytes, frame.position));
+    *block = ClaxonBlock::from_header(&frame.block);
     if has_larger(&Some(frame.block), samples.len()) {
         *at = frame.position;
         return BUFFER_TOO_SMALL;

@@ -2,7 +2,7 @@
 use crate::replay::Case;
 use claxon::metadata::{MetadataBlock, StreamInfo, VorbisComment, read_metadata_block};
 use claxon::{Error, Result};
-use claxon_tools::result_text::ResultText;
+use claxon_command_line::result_text::ResultText;
 use std::alloc::Global;
 use std::io::Cursor;
 

@@ -6,7 +6,7 @@ use crate::streams::add_calls_that_disagree;
 use claxon::Block;
 use claxon::frame::{FrameReader, FrameResult};
 use claxon::metadata::StreamInfo;
-use claxon_tools::result_text::ResultText;
+use claxon_command_line::result_text::ResultText;
 use std::alloc::Global;
 use std::io::Cursor;
 

@@ -5,7 +5,7 @@ use crate::frames::answer_of_frames;
 use crate::streams::answer_of_stream;
 use crate::subframes::answer_of_subframe;
 use claxon::Result;
-use claxon_tools::result_text::ResultText;
+use claxon_command_line::result_text::ResultText;
 use std::alloc::Global;
 use std::io::Write;
 

@@ -1,8 +1,8 @@
 //! Files by their samples.
 use claxon::input::ReadBytes;
 use claxon::{FlacReader, FlacSamples, Result};
-use claxon_tools::fnv::{OFFSET_BASIS, hash_on};
-use claxon_tools::result_text::ResultText;
+use claxon_command_line::fnv::{OFFSET_BASIS, hash_on};
+use claxon_command_line::result_text::ResultText;
 use std::alloc::Global;
 use std::io::{Read, Write};
 

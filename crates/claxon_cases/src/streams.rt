@@ -5,7 +5,7 @@ use crate::samples::gather;
 use claxon::input::BufferedReader;
 use claxon::metadata::{StreamInfo, Tags};
 use claxon::{Block, FlacReader, FlacReaderOptions, Result, read_head};
-use claxon_tools::result_text::ResultText;
+use claxon_command_line::result_text::ResultText;
 use claxon_write::{Output, run, write_samples};
 use std::alloc::Global;
 use std::io::{Cursor, Read};

@@ -1,7 +1,8 @@
 //! Shows, converts, verifies and traces FLAC files.
 #![tactic(auto)]
 
-use claxon_tools::{command, run_command};
+use claxon_command_line::run_command;
+use claxon_commands::command;
 use std::io::IsTerminal;
 use std::process::ExitCode;
 

@@ -51,12 +51,12 @@ map_by_bytes f r s = go (r (bits_of s))
 -- ---- header and subframes
 
 subframes_in_bytes : (stream : Option StreamFormat) (h : Header) (s : List ℕ)
-    → by_bytes (and_then (coded_channels_at h.fields.size (bit_depths h.fields.channels h.bit_depth)) (λ coded. done (block_of stream h coded))) s ≡ and_then (subframes_at h.fields.size (bit_depths h.fields.channels h.bit_depth)) (λ coded. done (block_of stream h coded)) s
+    → by_bytes (and_then (coded_channels_at h.fields.size (bit_depths h.fields.channel_code h.bit_depth)) (λ coded. done (block_of stream h coded))) s ≡ and_then (subframes_at h.fields.size (bit_depths h.fields.channel_code h.bit_depth)) (λ coded. done (block_of stream h coded)) s
 unfolding subframes_at
-subframes_in_bytes stream h s = map_by_bytes (block_of stream h) (coded_channels_at h.fields.size (bit_depths h.fields.channels h.bit_depth)) s
+subframes_in_bytes stream h s = map_by_bytes (block_of stream h) (coded_channels_at h.fields.size (bit_depths h.fields.channel_code h.bit_depth)) s
 
 pub body_in_bytes : (stream : Option StreamFormat) {q : List ℕ → Reading ℕ Header} → IsBitDepth (known_bit_depth stream) → Whole Header (header_at (known_bit_depth stream)) q → (s : List ℕ)
-    → by_bytes (frame_body_at stream) s ≡ and_then (by_bytes (header_at (known_bit_depth stream))) (λ h. and_then (subframes_at h.fields.size (bit_depths h.fields.channels h.bit_depth)) (λ coded. done (block_of stream h coded))) s
+    → by_bytes (frame_body_at stream) s ≡ and_then (by_bytes (header_at (known_bit_depth stream))) (λ h. and_then (subframes_at h.fields.size (bit_depths h.fields.channel_code h.bit_depth)) (λ coded. done (block_of stream h coded))) s
 unfolding frame_body_at
 body_in_bytes stream k header s =
     by_bytes_then (Reads-header (known_bit_depth stream)) (fills_bytes (Reads-header (known_bit_depth stream)) header) (λ h t c. Reads-map (block_of stream h) (Reads-subframes (known_bit_depth stream) k h t c)) s
@@ -94,8 +94,8 @@ frame_without_crc_is : (stream : Option StreamFormat) → IsBitDepth (known_bit_
 unfolding frame_without_crc_at header_at
 frame_without_crc_is stream k s =
     body_in_bytes stream k (Whole-header (known_bit_depth stream) (λ h. h)) s
-    ∙ sym (ap (λ x. bind x (λ start. and_then (subframes_at start.size (bit_depths start.channels start.bit_depth)) (λ coded. done (block_from start coded)))) (start_is stream s ∙ map_by_bytes (start_of stream) (header_at (known_bit_depth stream)) s)
-    ∙ then_map (by_bytes (header_at (known_bit_depth stream)) s) (start_of stream) (λ start. and_then (subframes_at start.size (bit_depths start.channels start.bit_depth)) (λ coded. done (block_from start coded))))
+    ∙ sym (ap (λ x. bind x (λ start. and_then (subframes_at start.size (bit_depths start.channel_code start.bit_depth)) (λ coded. done (block_from start coded)))) (start_is stream s ∙ map_by_bytes (start_of stream) (header_at (known_bit_depth stream)) s)
+    ∙ then_map (by_bytes (header_at (known_bit_depth stream)) s) (start_of stream) (λ start. and_then (subframes_at start.size (bit_depths start.channel_code start.bit_depth)) (λ coded. done (block_from start coded))))
 
 frame_is : (stream : Option StreamFormat) → IsBitDepth (known_bit_depth stream) → (s : List ℕ) → by_bytes (frame_at stream) s ≡ frame_bytes_at stream s
 unfolding frame_at

@@ -37,7 +37,7 @@ fields : List ℕ → Reading ℕ Fields
 unfolding bits number number_at continuation_byte_at continuation_bytes_at coded_number_at divide divide_step crc8 blocking_at sync_at codes_at channels_at number_in size_at rate_at fields_after fields_at fields_with_crc_at bytes_at big_at big_endian bits_of
 fields s = fields_with_crc_at s
 
-rate_in_kilohertz : fields (0xff ∷ 0xf8 ∷ 0x6c ∷ 0x02 ∷ 0x00 ∷ 0x00 ∷ 0x2c ∷ 0xe6 ∷ []) ≡ Done (record { variable = false; size = 1; sample_rate = Some 44000; channels = 0; bit_depth_code = 1; number = 0 }) []
+rate_in_kilohertz : fields (0xff ∷ 0xf8 ∷ 0x6c ∷ 0x02 ∷ 0x00 ∷ 0x00 ∷ 0x2c ∷ 0xe6 ∷ []) ≡ Done (record { variable = false; size = 1; sample_rate = Some 44000; channel_code = 0; bit_depth_code = 1; number = 0 }) []
 unfolding fields
 rate_in_kilohertz = refl
 

@@ -72,7 +72,7 @@ fields_length f t (size_code, rate_code, k, x, y, z, some, most, rate, channels,
     let rate_is : length z ≡ rate_bits rate_code = ap length after.1.1 ∙ length-bits (rate_bits rate_code) after.0 in
     let yz = length-append y z in
     let xyz = length-append x (y ++ z) in
-    let e : length t ≡ 32 + length (x ++ (y ++ z)) = ap length is ∙ front_length (bit f.variable) size_code rate_code f.channels f.bit_depth_code (x ++ (y ++ z)) in
+    let e : length t ≡ 32 + length (x ++ (y ++ z)) = ap length is ∙ front_length (bit f.variable) size_code rate_code f.channel_code f.bit_depth_code (x ++ (y ++ z)) in
     (omega (arith, n, s.0, r, yz, xyz, e, rate_is), s.1)
 
 -- a header has at most 16 bytes
@@ -253,13 +253,13 @@ few_channels code w = go (ltb code 8) (eqb code 9) refl
 -- a frame has fewer than 2^51 bytes
 pub frame_length : (stream : Option StreamFormat) → IsBitDepth (known_bit_depth stream) → (b : Block) (t : List ℕ) → Frame stream b t → length t < 2 ^ 51
 frame_length stream known b t (x, (y, p, (h, coded, front, after, header, subframes, decorrelation, time, y-is), padding, x-is), t-is) =
-    let w = bit_depths_are (known_bit_depth stream) h.fields.channels h.fields.bit_depth_code h.bit_depth known header.1 header.2 in
-    let ws = bit_depths h.fields.channels h.bit_depth in
-    let few = narrow ws (bit_depths_fit h.fields.channels h.bit_depth w.at_most_32 w.at_most_31) in
+    let w = bit_depths_are (known_bit_depth stream) h.fields.channel_code h.fields.bit_depth_code h.bit_depth known header.1 header.2 in
+    let ws = bit_depths h.fields.channel_code h.bit_depth in
+    let few = narrow ws (bit_depths_fit h.fields.channel_code h.bit_depth w.at_most_32 w.at_most_31) in
     let size = (fields_length h.fields header.0.0 header.0.1).1 in
     let a = header_length (known_bit_depth stream) h front header in
     let c = subframes_length h.fields.size size ws few coded after subframes in
-    let d = few_channels h.fields.channels h.bit_depth in
+    let d = few_channels h.fields.channel_code h.bit_depth in
     let e : length y ≡ length front + length after = ap length y-is ∙ length-append front after in
     let f : length x ≡ length y + length p = ap length x-is ∙ length-append y p in
     let g : length (bits_of t) ≡ length x + 16 = ap length t-is ∙ length-append x (bits 16 (crc16 x)) ∙ ap (λ (n : ℕ). length x + n) (length-bits 16 (crc16 x)) in

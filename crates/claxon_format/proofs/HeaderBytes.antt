@@ -49,12 +49,12 @@ Whole-fields_with_crc =
     Whole-with (λ f x. and_then (number_at 8) (λ n. test (not (eqb n (crc8 x))) HeaderCrc (done f))) (λ f t. and_then (big_at 1) (λ n. test (not (eqb n (crc8 (bits_of t)))) HeaderCrc (done f)))
     Whole-fields (λ f t. Whole-then (Whole-number 1) (λ n. Whole-test (not (eqb n (crc8 (bits_of t)))) HeaderCrc (Whole-done f)))
 
-Whole-depth : (channels : ℕ) (x : Option ℕ) → Whole ℕ (depth_at channels x) (depth_at channels x)
-Whole-depth channels None = Whole-test true BitDepthUnknown (Whole-done 0)
-Whole-depth channels (Some w) = Whole-test (side_too_wide channels w) SideTooWide (Whole-done w)
+Whole-depth : (channel_code : ℕ) (x : Option ℕ) → Whole ℕ (depth_at channel_code x) (depth_at channel_code x)
+Whole-depth channel_code None = Whole-test true BitDepthUnknown (Whole-done 0)
+Whole-depth channel_code (Some w) = Whole-test (side_too_wide channel_code w) SideTooWide (Whole-done w)
 
 -- a value that is made of a header
 pub Whole-header : {A : Type 0} (known : Option ℕ) (make : Header → A) → Whole A (with_bit_depth (with_crc_at 8 crc8 HeaderCrc (fields_at in_bits)) known make) (with_bit_depth fields_with_crc_at known make)
 unfolding bit_depth_at
 Whole-header known make =
-    Whole-then Whole-fields_with_crc (λ f. Whole-then (Whole-depth f.channels (bit_depth_of_code known f.bit_depth_code)) (λ w. Whole-done (make (record { fields = f; bit_depth = w }))))
+    Whole-then Whole-fields_with_crc (λ f. Whole-then (Whole-depth f.channel_code (bit_depth_of_code known f.bit_depth_code)) (λ w. Whole-done (make (record { fields = f; bit_depth = w }))))

@@ -55,7 +55,7 @@ no_bit_depths = refl
 stream_bit_depths : map (bit_depth_of_code (Some 32)) (0 ∷ 1 ∷ 2 ∷ 3 ∷ 4 ∷ 5 ∷ 6 ∷ 7 ∷ []) ≡ Some 32 ∷ Some 8 ∷ Some 12 ∷ None ∷ Some 16 ∷ Some 20 ∷ Some 24 ∷ None ∷ []
 stream_bit_depths = refl
 
-sides_too_wide : map (λ channels. side_too_wide channels 32) (0 ∷ 7 ∷ 8 ∷ 9 ∷ 10 ∷ []) ≡ false ∷ false ∷ true ∷ true ∷ true ∷ []
+sides_too_wide : map (λ channel_code. side_too_wide channel_code 32) (0 ∷ 7 ∷ 8 ∷ 9 ∷ 10 ∷ []) ≡ false ∷ false ∷ true ∷ true ∷ true ∷ []
 sides_too_wide = refl
 
 widest_side : side_too_wide 8 31 ≡ false

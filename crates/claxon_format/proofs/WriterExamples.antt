@@ -15,7 +15,7 @@ write stream f header plans channels = write_bytes stream f header plans channel
 
 -- the fields of a frame of one sample at 44,100 Hz, with a fixed block size, which is coded in a byte
 fields : ℕ → ℕ → Fields
-fields channels bit_depth_code = record { variable = false; size = 1; sample_rate = Some 44100; channels = channels; bit_depth_code = bit_depth_code; number = 0 }
+fields channel_code bit_depth_code = record { variable = false; size = 1; sample_rate = Some 44100; channel_code = channel_code; bit_depth_code = bit_depth_code; number = 0 }
 
 codes : Bits → HeaderPlan
 codes padding = record { size_code = 6; rate_code = 9; rate = []; continuation_count = 0; padding = padding }

@@ -15,7 +15,7 @@ use Rattle.std.specs.Prelude.{
   Bool,
   true,
   false,
-  cond,
+  if◌then◌else◌,
   not,
   ◌==◌,
   ◌||◌,
@@ -54,12 +54,13 @@ bad_first b = (not (nat_lt b 128) && nat_lt b 192) || (b == 255)
 -- how many continuation bytes follow a first byte
 abbrev pub continuation_count : ℕ → ℕ
 continuation_count b =
-    cond (nat_lt b 128) 0 (
-    cond (nat_lt b 224) 1 (
-    cond (nat_lt b 240) 2 (
-    cond (nat_lt b 248) 3 (
-    cond (nat_lt b 252) 4 (
-    cond (nat_lt b 254) 5 6)))))
+    if nat_lt b 128 then 0
+    else if nat_lt b 224 then 1
+    else if nat_lt b 240 then 2
+    else if nat_lt b 248 then 3
+    else if nat_lt b 252 then 4
+    else if nat_lt b 254 then 5
+    else 6
 
 -- a byte other than 10xxxxxx
 abbrev pub bad_continuation : ℕ → Bool

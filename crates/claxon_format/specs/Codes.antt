@@ -1,7 +1,12 @@
 -- How codes, and faults, are put together from those of fields: of bits, where X is Bool, or of
 -- bytes, where it is ℕ.
-use Rattle.std.specs.Prelude.{◌≡◌, Bool, true, false, List, [], ◌∷◌, ◌++◌, ◌⊎◌}
+use Rattle.std.specs.Prelude.{◌≡◌, Bool, true, false, cond, List, [], ◌∷◌, ◌++◌, ◌⊎◌}
 use Rattle.claxon_format.specs.Fault.{Fault}
+
+-- one of two codes, faults or statements, where `if .. then .. else ..` is one of two values
+infix 5 when◌then◌else◌
+abbrev pub when◌then◌else◌ : {A : Type 1} → Bool → A → A → A
+when b then x else y = cond b x y
 
 -- the first field has the fault, or the first is a code and the second has the fault
 abbrev pub ThenFault : {X A : Type 0} → (A → List X → Type 0) → (Fault → List X → Type 0)

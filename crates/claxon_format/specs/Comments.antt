@@ -10,7 +10,6 @@ use Rattle.std.specs.Prelude.{
   Bool,
   true,
   false,
-  cond,
   not,
   ◌==◌,
   ◌&&◌,
@@ -40,6 +39,7 @@ use Rattle.claxon_format.specs.Fault.{
   EntriesMissing,
 }
 use Rattle.claxon_format.specs.Codes.{
+  when◌then◌else◌,
   Each,
   ThenFault,
   MeetsOr,
@@ -79,7 +79,8 @@ IsEntry e =
 
 -- the length of a text in four bytes, little-endian, and the text
 abbrev pub LengthPrefixed : List ℕ → List ℕ → Type 0
-LengthPrefixed text t = (x : List ℕ) × Little 4 (length text) x × (t ≡ x ++ text)
+LengthPrefixed text t =
+    (length_bytes : List ℕ) × Little 4 (length text) length_bytes × (t ≡ length_bytes ++ text)
 
 -- the entries of texts: an empty text has none, any other is one
 abbrev pub EntriesOf : List (List ℕ) → List Entry → Type 0
@@ -92,10 +93,10 @@ EntriesOf ((y ∷ ys) ∷ texts) (e ∷ entries) = (e.text ≡ y ∷ ys) × IsEn
 -- n bytes: the vendor string, the number of texts, and the texts
 abbrev pub CommentCode : ℕ → Comment → List ℕ → Type 0
 CommentCode n c t =
-    (texts : List (List ℕ)) × (x : List ℕ) × (y : List ℕ) × (z : List ℕ)
-    × (n ≤ max_content_bytes) × (length t ≡ n) × LengthPrefixed c.vendor x × IsUtf8 c.vendor
-    × Little 4 (length texts) y × Each LengthPrefixed texts z × EntriesOf texts c.entries
-    × (t ≡ x ++ (y ++ z))
+    (texts : List (List ℕ)) × (vendor : List ℕ) × (count : List ℕ) × (entries : List ℕ)
+    × (n ≤ max_content_bytes) × (length t ≡ n) × LengthPrefixed c.vendor vendor
+    × IsUtf8 c.vendor × Little 4 (length texts) count × Each LengthPrefixed texts entries
+    × EntriesOf texts c.entries × (t ≡ vendor ++ (count ++ entries))
 
 -- ---- faults
 
@@ -121,11 +122,11 @@ EntryCode n e t = (length t ≡ n) × (e.text ≡ t) × IsEntry e
 
 -- a text of n bytes and its entries: none if it is empty, or else one
 abbrev pub EntryOrEmpty : ℕ → List Entry → List ℕ → Type 0
-EntryOrEmpty n = cond (n == 0) (Is []) (Mapped (λ e. e ∷ []) (EntryCode n))
+EntryOrEmpty n = when n == 0 then Is [] else Mapped (λ e. e ∷ []) (EntryCode n)
 
 -- an empty text has no fault
 abbrev pub EntryOrEmptyFault : ℕ → Fault → List ℕ → Type 0
-EntryOrEmptyFault n = cond (n == 0) Never (EntryFault n)
+EntryOrEmptyFault n = when n == 0 then Never else EntryFault n
 
 -- the length of the vendor string or of an entry: at most the bytes that are left
 abbrev pub TextLength : ℕ → ℕ → List ℕ → Type 0
@@ -159,10 +160,11 @@ EntriesEndFault missing left =
 -- the faults of the missing texts in the bytes that are left
 abbrev pub EntriesFault : ℕ → ℕ → Fault → List ℕ → Type 0
 EntriesFault zero left = EntriesEndFault zero left
-EntriesFault (suc missing) left = cond (nat_lt left 4) (EntriesEndFault (suc missing) left) (
-    ThenFault (TextLength (left - 4)) (TextLengthFault EntryLong (left - 4)) (λ n.
+EntriesFault (suc missing) left =
+    when nat_lt left 4 then EntriesEndFault (suc missing) left
+    else ThenFault (TextLength (left - 4)) (TextLengthFault EntryLong (left - 4)) (λ n.
     ThenFault (EntryOrEmpty n) (EntryOrEmptyFault n) (λ entries.
-    EntriesFault missing (left - 4 - n))))
+    EntriesFault missing (left - 4 - n)))
 
 -- the faults of the fields, in order
 abbrev pub CommentFault : ℕ → Fault → List ℕ → Type 0

@@ -18,7 +18,7 @@ use Rattle.std.specs.Prelude.{
   ◌++◌,
   length,
   replicate,
-  cond,
+  if◌then◌else◌,
 }
 use Rattle.claxon_format.specs.Fault.{Fault}
 use Rattle.claxon_format.specs.Bits.{Bits, bits, Number}
@@ -26,13 +26,13 @@ use Rattle.claxon_format.specs.Codes.{ThenFault, ThenWithFault, MeetsOr, Never}
 
 -- the number of a bit
 abbrev pub bit : Bool → ℕ
-bit b = cond b 1 0
+bit b = if b then 1 else 0
 
 -- one step of long division: the next bit is appended to the remainder, and the polynomial is
 -- subtracted where it fits
 unfoldable pub divide_step : ℕ → ℕ → ℕ → Bool → ℕ
 divide_step degree poly r b =
-    cond (nat_lt (r * 2 + bit b) (2 ^ degree)) (r * 2 + bit b) (bit_xor (r * 2 + bit b) poly)
+    if nat_lt (r * 2 + bit b) (2 ^ degree) then r * 2 + bit b else bit_xor (r * 2 + bit b) poly
 
 -- the remainder after more bits
 unfoldable pub divide : ℕ → ℕ → ℕ → Bits → ℕ
@@ -82,4 +82,6 @@ padding_length x = (8 - length x % 8) % 8
 
 -- a code, and padding up to a byte boundary
 abbrev pub ByteAligned : {A : Type 0} → (A → Bits → Type 0) → A → Bits → Type 0
-ByteAligned C a t = (x : Bits) × (p : Bits) × C a x × (length p ≡ padding_length x) × (t ≡ x ++ p)
+ByteAligned C a t =
+    (x : Bits) × (padding : Bits) × C a x × (length padding ≡ padding_length x)
+    × (t ≡ x ++ padding)

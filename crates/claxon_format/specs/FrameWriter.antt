@@ -6,7 +6,7 @@ use Rattle.std.specs.Prelude.{
   suc,
   true,
   false,
-  cond,
+  if◌then◌else◌,
   List,
   length,
   take,
@@ -29,6 +29,7 @@ use Rattle.std.specs.Prelude.{
   ◌==◌,
   [],
 }
+use Rattle.claxon_format.specs.Codes.{when◌then◌else◌}
 use Rattle.claxon_format.specs.Bits.{Bits, bits, number}
 use Rattle.claxon_format.specs.Crc.{padding_length, crc8, crc16, bit}
 use Rattle.claxon_format.specs.CodedNumber.{continuation_bytes}
@@ -61,7 +62,7 @@ ChannelsFit n w (c ∷ cs) = (length c ≡ n) × AllFitIn w c × ChannelsFit n w
 
 -- the number of channels of a channel code
 abbrev pub channel_count : ℕ → ℕ
-channel_count code = cond (nat_lt code 8) (code + 1) 2
+channel_count code = if nat_lt code 8 then code + 1 else 2
 
 -- the two channels that are coded for left and right
 abbrev pub decorrelated_pair : ℕ → List (List ℤ) → List (List ℤ)
@@ -71,7 +72,8 @@ decorrelated_pair code other = other
 
 -- the channels that are coded: under codes from 8 on they are decorrelated (section 4.2)
 abbrev pub decorrelated : ℕ → List (List ℤ) → List (List ℤ)
-decorrelated code channels = cond (nat_lt code 8) channels (decorrelated_pair code channels)
+decorrelated code channels =
+    if nat_lt code 8 then channels else decorrelated_pair code channels
 
 -- one subframe after another
 abbrev pub write_each : ℕ → List ℕ → List SubframePlan → List (List ℤ) → Bits
@@ -99,8 +101,9 @@ append_crc w crc x = x ++ bits w (crc x)
 -- the fields of a header, written as x, the channels under plans, and padding of the bits p
 abbrev pub write_frame : Fields → ℕ → Bits → Bits → List SubframePlan → List (List ℤ) → Bits
 write_frame f w x p plans channels =
-    append_crc 16 crc16 (byte_aligned p (append_crc 8 crc8 x
-    ++ write_each f.size (bit_depths f.channels w) plans (decorrelated f.channels channels)))
+    let subframes = write_each f.size (bit_depths f.channel_code w) plans (
+    decorrelated f.channel_code channels) in
+    append_crc 16 crc16 (byte_aligned p (append_crc 8 crc8 x ++ subframes))
 
 -- ---- headers
 
@@ -128,27 +131,29 @@ coded_number_limit (suc j) = 2 ^ (5 * suc j + 6)
 
 -- the block size less one, under codes 6 and 7 (section 9.1.6)
 abbrev pub write_size : ℕ → ℕ → Bits
-write_size code n = cond (code == 6) (bits 8 (n - 1)) (cond (code == 7) (bits 16 (n - 1)) [])
+write_size code n =
+    if code == 6 then bits 8 (n - 1) else if code == 7 then bits 16 (n - 1) else []
 
 -- the fields of a header in order (section 9.1)
 abbrev pub write_fields : Fields → HeaderPlan → Bits
 write_fields f plan =
     (bits 14 0x3ffe ++ (bits 1 0 ++ bits 1 (bit f.variable)))
     ++ ((bits 4 plan.size_code ++ bits 4 plan.rate_code)
-    ++ ((bits 4 f.channels ++ (bits 3 f.bit_depth_code ++ bits 1 0))
+    ++ ((bits 4 f.channel_code ++ (bits 3 f.bit_depth_code ++ bits 1 0))
     ++ (write_coded_number plan.continuation_count f.number
     ++ (write_size plan.size_code f.size ++ plan.rate))))
 
 -- a block size that this code can stand for (section 9.1.1)
 abbrev pub SuitsSize : ℕ → ℕ → Type 0
 SuitsSize code n =
-    cond (code == 6) ((1 ≤ n) × (n ≤ 256)) (
-    cond (code == 7) ((1 ≤ n) × (n ≤ 65535)) (size_of code ≡ Some n))
+    when code == 6 then ((1 ≤ n) × (n ≤ 256))
+    else when code == 7 then ((1 ≤ n) × (n ≤ 65535))
+    else (size_of code ≡ Some n)
 
 -- codes that stand for these fields
 abbrev pub SuitsHeader : Fields → HeaderPlan → Type 0
 SuitsHeader f plan =
-    (1 ≤ plan.size_code) × (plan.size_code ≤ 15) × (plan.rate_code ≤ 14) × (f.channels ≤ 10)
+    (1 ≤ plan.size_code) × (plan.size_code ≤ 15) × (plan.rate_code ≤ 14) × (f.channel_code ≤ 10)
     × (f.bit_depth_code < 8) × (bit_depth_reserved f.bit_depth_code ≡ false)
     × (plan.continuation_count ≤ 6) × (f.number < coded_number_limit plan.continuation_count)
     × (number_large f.variable f.number ≡ false) × SuitsSize plan.size_code f.size
@@ -181,7 +186,7 @@ frame_bit_depth stream f = unwrap_or (bit_depth_of_code (known_bit_depth stream)
 
 -- the bit depth of each coded channel: a side channel has one bit more
 abbrev pub planned_bit_depths : Option StreamFormat → Fields → List ℕ
-planned_bit_depths stream f = bit_depths f.channels (frame_bit_depth stream f)
+planned_bit_depths stream f = bit_depths f.channel_code (frame_bit_depth stream f)
 
 -- the block that is written
 abbrev pub written_block : Option StreamFormat → Fields → List (List ℤ) → Block
@@ -201,6 +206,6 @@ pub record SuitsFrame (stream : Option StreamFormat) (f : Fields) (header : Head
   pub codes : SuitsHeader f header
   pub known : bit_depth_of_code (known_bit_depth stream) f.bit_depth_code
       ≡ Some (frame_bit_depth stream f)
-  pub not_too_wide : side_too_wide f.channels (frame_bit_depth stream f) ≡ false
-  pub count : length channels ≡ channel_count f.channels
+  pub not_too_wide : side_too_wide f.channel_code (frame_bit_depth stream f) ≡ false
+  pub count : length channels ≡ channel_count f.channel_code
   pub fit : ChannelsFit f.size (frame_bit_depth stream f) channels

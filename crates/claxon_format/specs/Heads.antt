@@ -10,7 +10,7 @@ use Rattle.std.specs.Prelude.{
   Bool,
   true,
   false,
-  cond,
+  if◌then◌else◌,
   not,
   ◌==◌,
   ◌&&◌,
@@ -34,7 +34,7 @@ use Rattle.claxon_format.specs.Fault.{
   SecondStreaminfo,
   TooManyBlocks,
 }
-use Rattle.claxon_format.specs.Codes.{Each, ThenFault, MeetsOr, Met, Never}
+use Rattle.claxon_format.specs.Codes.{when◌then◌else◌, Each, ThenFault, MeetsOr, Met, Never}
 use Rattle.claxon_format.specs.Metadata.{Big}
 use Rattle.claxon_format.specs.Streaminfo.{Streaminfo}
 use Rattle.claxon_format.specs.Comments.{Comment}
@@ -82,7 +82,7 @@ max_blocks = 65536
 -- a block after which no more metadata is wanted: the comments, or the streaminfo where comments
 -- are not wanted
 abbrev pub is_enough : Options → Content → Bool
-is_enough o c = o.metadata_only && cond o.wants_comment (is_comment c) (is_info c)
+is_enough o c = o.metadata_only && (if o.wants_comment then is_comment c else is_info c)
 
 -- the last block that is read: the last one of the head, or one after which no more metadata is
 -- wanted
@@ -117,14 +117,15 @@ pub record IsHead (o : Options) (h : Head) (b : MetadataBlock) (others : List Me
   pub one_comment : length (comments_in others) ≤ 1
   pub few : length others < max_blocks
   pub ends : EndsAtLast o b others
-  pub comment : h.comment ≡ cond o.wants_comment (first (comments_in others)) None
+  pub comment : h.comment ≡ (if o.wants_comment then first (comments_in others) else None)
 
 -- the marker and the blocks that are read
 abbrev pub HeadCode : Options → Head → List ℕ → Type 0
 HeadCode o h t =
-    (b : MetadataBlock) × (others : List MetadataBlock) × (x : List ℕ) × (y : List ℕ) × (z : List ℕ)
-    × Big 4 stream_marker x × BlockCode b y × Each BlockCode others z × IsHead o h b others
-    × (t ≡ x ++ (y ++ z))
+    (b : MetadataBlock) × (others : List MetadataBlock)
+    × (marker : List ℕ) × (first_block : List ℕ) × (other_blocks : List ℕ)
+    × Big 4 stream_marker marker × BlockCode b first_block × Each BlockCode others other_blocks
+    × IsHead o h b others × (t ≡ marker ++ (first_block ++ other_blocks))
 
 -- ---- faults, block by block
 
@@ -152,7 +153,8 @@ OthersFault suffices (suc k) found =
     ThenFault BlockCode BlockFault (λ b.
     MeetsOr (is_info b.content) SecondStreaminfo (
     MeetsOr (is_second found b.content) SecondComment (
-    cond (is_done suffices found b) Never (OthersFault suffices k (found_with found b.content)))))
+    when is_done suffices found b then Never
+    else OthersFault suffices k (found_with found b.content))))
 
 -- no block is read after the streaminfo
 abbrev pub streaminfo_ends_head : Options → Bool → Bool
@@ -161,7 +163,8 @@ streaminfo_ends_head o is_last = is_last || (o.metadata_only && not o.wants_comm
 -- the first block must be a streaminfo; then the faults of the others
 abbrev pub FirstFault : Options → Bool → Content → Fault → List ℕ → Type 0
 FirstFault o is_last (Info i) =
-    cond (streaminfo_ends_head o is_last) Never (OthersFault o.metadata_only 65535 None)
+    when streaminfo_ends_head o is_last then Never
+    else OthersFault o.metadata_only 65535 None
 FirstFault o is_last _ = Met StreaminfoMissing
 
 -- an ID3 tag begins with 49 44 33

@@ -1,5 +1,18 @@
 -- Metadata blocks (RFC 9639, section 8).
-use Rattle.std.specs.Prelude.{◌≡◌, ℕ, ◌≤◌, Bool, cond, not, ◌==◌, ◌||◌, nat_lt, List, ◌++◌, length}
+use Rattle.std.specs.Prelude.{
+  ◌≡◌,
+  ℕ,
+  ◌≤◌,
+  Bool,
+  if◌then◌else◌,
+  not,
+  ◌==◌,
+  ◌||◌,
+  nat_lt,
+  List,
+  ◌++◌,
+  length,
+}
 use Rattle.claxon_format.specs.Fault.{
   Fault,
   StreaminfoLength,
@@ -7,7 +20,7 @@ use Rattle.claxon_format.specs.Fault.{
   ApplicationShort,
   ApplicationLarge,
 }
-use Rattle.claxon_format.specs.Codes.{ThenFault, MeetsOr, Never, Mapped}
+use Rattle.claxon_format.specs.Codes.{when◌then◌else◌, ThenFault, MeetsOr, Never, Mapped}
 use Rattle.claxon_format.specs.Metadata.{
   Bytes,
   Big,
@@ -35,8 +48,8 @@ InfoBody n b t = (n ≡ 34) × Mapped Info StreaminfoCode b t
 -- section 8.4: an application ID, and application data
 abbrev pub ApplicationBody : ℕ → Content → List ℕ → Type 0
 ApplicationBody n b t =
-    (id : ℕ) × (x : List ℕ) × (bytes : List ℕ) × (n ≤ max_content_bytes) × (length t ≡ n)
-    × Big 4 id x × (b ≡ Application id bytes) × (t ≡ x ++ bytes)
+    (id : ℕ) × (id_bytes : List ℕ) × (bytes : List ℕ) × (n ≤ max_content_bytes)
+    × (length t ≡ n) × Big 4 id id_bytes × (b ≡ Application id bytes) × (t ≡ id_bytes ++ bytes)
 
 -- padding (section 8.3), and seek tables, cue sheets and pictures (8.5, 8.7, 8.8), whose content
 -- is skipped
@@ -45,15 +58,16 @@ is_padding type = (type == 1) || (type == 3) || (type == 5) || (type == 6)
 
 -- what is read of a block whose content is skipped
 abbrev pub skipped : ℕ → ℕ → Content
-skipped type n = cond (is_padding type) (Padding n) Reserved
+skipped type n = if is_padding type then Padding n else Reserved
 
 -- types 0, 2 and 4 are read, type 127 is forbidden, and any other is skipped
 abbrev pub Body : ℕ → ℕ → Content → List ℕ → Type 0
 Body type n =
-    cond (type == 0) (InfoBody n) (
-    cond (type == 2) (ApplicationBody n) (
-    cond (type == 4) (Mapped Comments (CommentCode n)) (
-    cond (type == 127) (λ b t. ⊥) (Mapped (λ bytes. skipped type n) (Bytes n)))))
+    when type == 0 then InfoBody n
+    else when type == 2 then ApplicationBody n
+    else when type == 4 then Mapped Comments (CommentCode n)
+    else when type == 127 then (λ b t. ⊥)
+    else Mapped (λ bytes. skipped type n) (Bytes n)
 
 -- the length is checked first
 abbrev pub ApplicationFault : ℕ → Fault → List ℕ → Type 0
@@ -64,10 +78,10 @@ ApplicationFault n =
 -- the faults of the type and the length, and then those of the content
 abbrev pub BodyFault : ℕ → ℕ → Fault → List ℕ → Type 0
 BodyFault type n =
-    cond (type == 0) (MeetsOr (not (n == 34)) StreaminfoLength StreaminfoFault) (
-    cond (type == 2) (ApplicationFault n) (
-    cond (type == 4) (CommentFault n) (
-    MeetsOr (type == 127) BlockType Never)))
+    when type == 0 then MeetsOr (not (n == 34)) StreaminfoLength StreaminfoFault
+    else when type == 2 then ApplicationFault n
+    else when type == 4 then CommentFault n
+    else MeetsOr (type == 127) BlockType Never
 
 -- ---- a block with its header
 
@@ -79,8 +93,8 @@ pub record MetadataBlock : Type 0 where
 -- a header, and content of its type and length
 abbrev pub BlockCode : MetadataBlock → List ℕ → Type 0
 BlockCode b t =
-    (h : BlockHeader) × (x : List ℕ) × (y : List ℕ) × BlockHeaderCode h x
-    × Body h.type h.length b.content y × (b.is_last ≡ h.is_last) × (t ≡ x ++ y)
+    (h : BlockHeader) × (header : List ℕ) × (body : List ℕ) × BlockHeaderCode h header
+    × Body h.type h.length b.content body × (b.is_last ≡ h.is_last) × (t ≡ header ++ body)
 
 -- the faults of the content: a header has none
 abbrev pub BlockFault : Fault → List ℕ → Type 0

@@ -1,5 +1,18 @@
 -- Names and values of Vorbis comments (RFC 9639, section 8.6).
-use Rattle.std.specs.Prelude.{◌≡◌, ℕ, ◌+◌, Bool, ◌==◌, cond, nat_lt, List, take, drop, map, filter}
+use Rattle.std.specs.Prelude.{
+  ◌≡◌,
+  ℕ,
+  ◌+◌,
+  Bool,
+  ◌==◌,
+  if◌then◌else◌,
+  nat_lt,
+  List,
+  take,
+  drop,
+  map,
+  filter,
+}
 use Rattle.std.specs.Cmp.Lexicographic.{pointwise}
 use Rattle.claxon_format.specs.Comments.{Entry}
 
@@ -13,7 +26,7 @@ tags_of_entries entries = map tag_of_entry entries
 
 -- the letters A to Z, 0x41 to 0x5a, as a to z
 abbrev pub lower : ℕ → ℕ
-lower y = cond (nat_lt y 0x41) y (cond (nat_lt y 0x5b) (y + 0x20) y)
+lower y = if nat_lt y 0x41 then y else if nat_lt y 0x5b then y + 0x20 else y
 
 -- two names are the same, ASCII case aside
 abbrev pub Same : List ℕ → List ℕ → Type 0

@@ -1,5 +1,6 @@
 -- Bit depths that have a code.
 use Rattle.std.proofs.Common.{◌≡◌, ℕ, ◌≤◌, Bool, true, false, cond, eqb, Option, None, Some, refl, arith}
+use Rattle.std.specs.Option.{ForSome}
 use Rattle.claxon_format.specs.Header.{bit_depth_of_code}
 use Rattle.claxon_frame.specs.FrameHeader.{HasBitDepthCode, bit_depth_code}
 
@@ -21,3 +22,8 @@ named known false false false false bits e = record { some = refl; value = e; fe
 -- such a bit depth is that of its code, whatever the stream's is
 pub code_names : (known : Option ℕ) (bits : ℕ) → HasBitDepthCode bits → Named known (bit_depth_code (Some bits)) bits
 code_names known bits h = named known (eqb bits 8) (eqb bits 12) (eqb bits 16) (eqb bits 20) bits h
+
+-- the bit depth that a header gives is that of its code
+pub given_by_code : (given : Option ℕ) → ForSome given HasBitDepthCode → bit_depth_of_code None (bit_depth_code given) ≡ given
+given_by_code None h = refl
+given_by_code (Some bits) h = h bits refl

@@ -49,6 +49,12 @@ module _ {R S : Type 0} (source : R → Source ℕ) (update : S → List ℕ →
       let k = subst (λ z. GivesOrEofOrOutOfMemory count view r read (bytes_of_source z) (bytes_of_source (crc_source (over_borrow source) update c))) made h in
       (frame_borrow_name (source x) (source (crc_inner c).now) j (crc_inner c).ghost_name f (update (crc_state c)) count view r read k, frame_borrowed (source x) (source (crc_inner c).now) j (crc_inner c).ghost_name f (update (crc_state c)) count view r read k)
 
+  pub consumes_through : (P : List ℕ → List ℕ → Type 0) → Consumes (bytes_in (crc_source (over_borrow source) update) b) (bytes_in (crc_source (over_borrow source) update) c) P → Consumes (bytes_in source x) (bytes_in source (crc_inner c).now) P
+  unfolding bytes_in
+  consumes_through P h =
+      consumes_borrowed (source x) (source (crc_inner c).now) j (crc_inner c).ghost_name f (update (crc_state c)) P
+      (subst (λ z. Consumes (bytes_of_source z) (bytes_of_source (crc_source (over_borrow source) update c)) P) made h)
+
   too_small_through : (stream : Option StreamFormat) (capacity : ℕ) → BufferTooSmall stream capacity (bytes_in (crc_source (over_borrow source) update) b) (bytes_in (crc_source (over_borrow source) update) c) → BufferTooSmall stream capacity (bytes_in source x) (bytes_in source (crc_inner c).now)
   unfolding bytes_in
   too_small_through stream capacity h =

@@ -19,14 +19,8 @@ use Rattle.claxon_format.proofs.Bytes.{bits_of-append}
 use Rattle.claxon_format.proofs.FrameBytes.{Reads-start, start_is}
 use Rattle.claxon_format.proofs.Frames.{subframe_fits}
 use Rattle.claxon_format.proofs.Headers.{Reads-header}
-use Rattle.claxon_frame.specs.BlockInfo.{HeaderBytesFault, HeaderOf, block_info, info_of_start}
+use Rattle.claxon_frame.specs.BlockInfo.{HeaderBytesFault, HeaderOf, SaysBlock, block_info, info_of_start}
 use Rattle.claxon_frame.specs.declared.frame.info.BlockInfo.{BlockInfo}
-
--- it says this of its block
-pub record SaysBlock (info : BlockInfo) (b : Block) : Type 0 where
-  pub time : info.time ≡ b.time
-  pub channels : info.channels ≡ length b.channels
-  pub duration_is : info.duration ≡ duration_of b.channels
 
 -- ---- the number of channels, and their length
 
@@ -81,7 +75,7 @@ frame_has_header stream b t rest (x, (y, p, (h, coded, front, after, header, sub
     let parts : bits_of (t ++ rest) ≡ front ++ (after ++ (p ++ (crc ++ r))) =
     bits_of-append t rest ∙ ap (λ (q : Bits). q ++ r) t-is ∙ ap (λ (q : Bits). (q ++ crc) ++ r) (x-is ∙ ap (λ (q : Bits). q ++ p) y-is)
     ∙ append_assoc ((front ++ after) ++ p) crc r ∙ append_assoc (front ++ after) p (crc ++ r) ∙ append_assoc front after (p ++ (crc ++ r)) in
-    let shape = shape_of h.fields.size h.fields.channels h.bit_depth coded b.channels after subframes decorrelation in
+    let shape = shape_of h.fields.size h.fields.channel_code h.bit_depth coded b.channels after subframes decorrelation in
     (block_info stream h, record { time = sym time; channels = shape.0; duration_is = shape.1 }, header_begins stream h front (t ++ rest) (after ++ (p ++ (crc ++ r))) header parts)
 
 -- the fault of a header is one of its frame

@@ -20,7 +20,7 @@ start_stops stream = record {
   incomplete = λ s e. rw e refl;
 }
 
-pub channels_stop : (stream : Option StreamFormat) → (start : Start) (s m : List ℕ) → start_at stream s ≡ Done start m → StopsAs (subframes_at start.size (bit_depths start.channels start.bit_depth) m) (frame_bytes_at stream s)
+pub channels_stop : (stream : Option StreamFormat) → (start : Start) (s m : List ℕ) → start_at stream s ≡ Done start m → StopsAs (subframes_at start.size (bit_depths start.channel_code start.bit_depth) m) (frame_bytes_at stream s)
 unfolding frame_without_crc_at
 channels_stop stream start s m h = record {
   fault = λ f rest e. rw (h, e) refl;
@@ -28,7 +28,7 @@ channels_stop stream start s m h = record {
 }
 
 -- after the subframes comes the CRC of the bytes before it
-pub footer_is : (stream : Option StreamFormat) → (start : Start) (channels : List (List ℤ)) (crc : ℕ) (s m rest : List ℕ) → start_at stream s ≡ Done start m → subframes_at start.size (bit_depths start.channels start.bit_depth) m ≡ Done channels rest
+pub footer_is : (stream : Option StreamFormat) → (start : Start) (channels : List (List ℤ)) (crc : ℕ) (s m rest : List ℕ) → start_at stream s ≡ Done start m → subframes_at start.size (bit_depths start.channel_code start.bit_depth) m ≡ Done channels rest
     → crc ≡ crc16 (bits_of (taken s rest)) → frame_bytes_at stream s ≡ bind (crc_at 2 crc FrameCrc rest) (λ u. done (block_from start channels))
 unfolding frame_without_crc_at
 footer_is stream start channels crc s m rest h e same =

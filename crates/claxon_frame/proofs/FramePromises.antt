@@ -30,7 +30,7 @@ incomplete_frame stream s h = (start_stops stream).incomplete s (incomplete_star
 only_header : (stream : Option StreamFormat) (capacity : ℕ) (a b : State ℕ) → BufferTooSmall stream capacity a b → Consumed a b (HeaderOfLargerBlock stream capacity)
 only_header stream capacity a b h known =
     let t = (Reads-start stream).takes a.remaining h.start b.remaining (h.header.known known).is in
-    ((h.header.known known).known, (t.0, (t.1.0, t.1.1, subst (λ (start : Start). capacity < channel_count start.channels * start.size) t.1.2 h.small), t.2))
+    ((h.header.known known).known, (t.0, (t.1.0, t.1.1, subst (λ (start : Start). capacity < channel_count start.channel_code * start.size) t.1.2 h.small), t.2))
 
 no_header : (stream : Option StreamFormat) (capacity : ℕ) (a b : State ℕ) → BufferTooSmall stream capacity a b → RemainingIsKnown a → length a.remaining < 2 → ⊥
 no_header stream capacity a b h known small = let e : Incomplete ≡ Done h.start b.remaining = sym (incomplete_start stream a.remaining small) ∙ (h.header.known known).is in cc

@@ -44,7 +44,7 @@ module _ (stream : Option StreamFormat) (bit_depth : IsBitDepth (known_bit_depth
   header_stops h = first_stops 2 (start_at stream) (frame_bytes_at stream) (start_stops stream) h
 
   -- or the subframes are
-  pub channels_stopped : {e : Error} {start : Start} {a b c : State ℕ} → Consumes a b (λ s m. or_eof 2 (start_at stream) s ≡ Done (Some start) m) → Stops e (subframes_at start.size (bit_depths start.channels start.bit_depth)) b c
+  pub channels_stopped : {e : Error} {start : Start} {a b c : State ℕ} → Consumes a b (λ s m. or_eof 2 (start_at stream) s ≡ Done (Some start) m) → Stops e (subframes_at start.size (bit_depths start.channel_code start.bit_depth)) b c
       → Stops e (or_eof 2 (frame_bytes_at stream)) a c
   channels_stopped {start = start} {a = a} {b = b} h k = stops_as (consumes_map _ h (λ p.
       let q = some_read 2 (start_at stream) a.remaining start b.remaining p in
@@ -60,7 +60,7 @@ module _ (stream : Option StreamFormat) (bit_depth : IsBitDepth (known_bit_depth
     frame_is : frame_bytes_at stream s ≡ bind (crc_at 2 crc FrameCrc rest) (λ u. done (block_from start channels))
 
   before_crc : (start : Start) (channels : List (List ℤ)) (first crc : ℕ) (s t : Source ℕ) {b : State ℕ} → first ≡ 0 → crc < 65536 → Consumes (bytes_with_crc16 first s) b (λ s m. or_eof 2 (start_at stream) s ≡ Done (Some start) m)
-      → Consumes b (bytes_with_crc16 crc t) (λ s m. subframes_at start.size (bit_depths start.channels start.bit_depth) s ≡ Done channels m) → Consumes (bytes_with_crc16 first s) (bytes_with_crc16 crc t) (BeforeCrc start channels crc)
+      → Consumes b (bytes_with_crc16 crc t) (λ s m. subframes_at start.size (bit_depths start.channel_code start.bit_depth) s ≡ Done channels m) → Consumes (bytes_with_crc16 first s) (bytes_with_crc16 crc t) (BeforeCrc start channels crc)
   before_crc start channels first crc s t {b = b} zero small h k =
       let all = consumes_then (λ s m. Unit {0}) h k (λ p q. tt) in
       record {
@@ -82,14 +82,14 @@ module _ (stream : Option StreamFormat) (bit_depth : IsBitDepth (known_bit_depth
 
   -- the CRC is wrong or incomplete
   pub footer_stops : {e : Error} (start : Start) (channels : List (List ℤ)) (first crc : ℕ) (s t : Source ℕ) {b c : State ℕ} → first ≡ 0 → crc < 65536 → Consumes (bytes_with_crc16 first s) b (λ s m. or_eof 2 (start_at stream) s ≡ Done (Some start) m)
-      → Consumes b (bytes_with_crc16 crc t) (λ s m. subframes_at start.size (bit_depths start.channels start.bit_depth) s ≡ Done channels m) → Stops e (crc_at 2 crc FrameCrc) (bytes_with_crc16 crc t) c → Stops e (or_eof 2 (frame_bytes_at stream)) (bytes_with_crc16 first s) c
+      → Consumes b (bytes_with_crc16 crc t) (λ s m. subframes_at start.size (bit_depths start.channel_code start.bit_depth) s ≡ Done channels m) → Stops e (crc_at 2 crc FrameCrc) (bytes_with_crc16 crc t) c → Stops e (or_eof 2 (frame_bytes_at stream)) (bytes_with_crc16 first s) c
   footer_stops start channels first crc s t zero small h k e = stops_as (consumes_map _ (before_crc start channels first crc s t zero small h k) (λ p. record {
     fault = λ f rest q. or_found 2 (frame_bytes_at stream) (bytes_with_crc16 first s).remaining (Faulty f rest) p.enough (p.frame_is ∙ rw q refl);
     incomplete = λ q. or_found 2 (frame_bytes_at stream) (bytes_with_crc16 first s).remaining Incomplete p.enough (p.frame_is ∙ rw q refl);
   })) e
 
   pub frame_consumes : (start : Start) (channels : List (List ℤ)) (first crc : ℕ) (s t : Source ℕ) {b c : State ℕ} → first ≡ 0 → crc < 65536 → Consumes (bytes_with_crc16 first s) b (λ s m. or_eof 2 (start_at stream) s ≡ Done (Some start) m)
-      → Consumes b (bytes_with_crc16 crc t) (λ s m. subframes_at start.size (bit_depths start.channels start.bit_depth) s ≡ Done channels m) → Consumes (bytes_with_crc16 crc t) c (λ s m. crc_at 2 crc FrameCrc s ≡ Done tt m)
+      → Consumes b (bytes_with_crc16 crc t) (λ s m. subframes_at start.size (bit_depths start.channel_code start.bit_depth) s ≡ Done channels m) → Consumes (bytes_with_crc16 crc t) c (λ s m. crc_at 2 crc FrameCrc s ≡ Done tt m)
       → Consumes (bytes_with_crc16 first s) c (λ s m. or_eof 2 (frame_bytes_at stream) s ≡ Done (Some (block_from start channels)) m)
   frame_consumes start channels first crc s t {c = c} zero small h k f =
       consumes_then _ (before_crc start channels first crc s t zero small h k) f (λ p q. or_found 2 (frame_bytes_at stream) (bytes_with_crc16 first s).remaining (Done (block_from start channels) c.remaining) p.enough (p.frame_is ∙ rw q refl))
@@ -123,7 +123,7 @@ memory_refused view read {e} {a} {b} p m h = exit_out_of_memory_or_eof 2 view re
     go (Unsupported text) m = absurd cc
 
 -- and then just the header was consumed
-pub buffer_too_small : (stream : Option StreamFormat) {start : Start} {a b : State ℕ} (capacity n : ℕ) → Consumes a b (λ s m. or_eof 2 (start_at stream) s ≡ Done (Some start) m) → n ≡ channel_count start.channels → capacity < n * start.size → BufferTooSmall stream capacity a b
+pub buffer_too_small : (stream : Option StreamFormat) {start : Start} {a b : State ℕ} (capacity n : ℕ) → Consumes a b (λ s m. or_eof 2 (start_at stream) s ≡ Done (Some start) m) → n ≡ channel_count start.channel_code → capacity < n * start.size → BufferTooSmall stream capacity a b
 buffer_too_small stream {start = start} {a = a} {b = b} capacity n h e small = record {
   start = start;
   header = consumes_map _ h (λ p. (some_read 2 (start_at stream) a.remaining start b.remaining p).1);

@@ -24,3 +24,5 @@ pub mod FramePromises
 pub mod BlockInfo
 -- The header that a frame begins with says how large its block is.
 pub mod FrameHeaders
+-- A frame that is read with its header.
+pub mod DecodedFrames

@@ -17,9 +17,16 @@ use Rattle.std.specs.Prelude.{
 }
 use Rattle.claxon_format.specs.Bits.{bits_of}
 use Rattle.claxon_format.specs.Fault.{Fault}
-use Rattle.claxon_format.specs.Frame.{StreamFormat, ByteAlignedFault, known_bit_depth, time_of}
+use Rattle.claxon_format.specs.Frame.{
+  Block,
+  StreamFormat,
+  ByteAlignedFault,
+  known_bit_depth,
+  time_of,
+}
 use Rattle.claxon_format.specs.FrameWriter.{channel_count}
-use Rattle.claxon_format.specs.Header.{Header, HeaderCode, HeaderFault}
+use Rattle.claxon_format.specs.Header.{Header, HeaderCode, HeaderFault, bit_depth_of_code}
+use Rattle.claxon_format.specs.Streams.{duration_of}
 use Rattle.claxon_format.specs.Unambiguous.{IsUnambiguous}
 use Rattle.claxon_format.specs.read.Frame.{Start, start_at}
 use Rattle.claxon_format.specs.read.Reading.{Reading, and_then, done}
@@ -48,13 +55,20 @@ use Rattle.claxon_frame.specs.declared.frame.info.BlockInfo.{BlockInfo}
 abbrev pub block_info : Option StreamFormat → Header → BlockInfo
 block_info stream h = record {
   time = time_of stream h.fields;
-  channels = channel_count h.fields.channels;
+  channels = channel_count h.fields.channel_code;
   duration = h.fields.size;
   bit_depth = h.bit_depth;
+  header_bit_depth = bit_depth_of_code None h.fields.bit_depth_code;
   sample_rate = h.fields.sample_rate;
   is_variable = h.fields.variable;
   number = h.fields.number;
 }
+
+-- It says this of the block.
+pub record SaysBlock (info : BlockInfo) (b : Block) : Type 0 where
+  pub time : info.time ≡ b.time
+  pub channels : info.channels ≡ length b.channels
+  pub duration_is : info.duration ≡ duration_of b.channels
 
 -- The bytes of a header that says this of its block.
 abbrev pub HeaderOf : Option StreamFormat → BlockInfo → List ℕ → Type 0
@@ -80,9 +94,10 @@ HasBlockBounds result =
 abbrev pub info_of_start : Start → BlockInfo
 info_of_start start = record {
   time = start.time;
-  channels = channel_count start.channels;
+  channels = channel_count start.channel_code;
   duration = start.size;
   bit_depth = start.bit_depth;
+  header_bit_depth = start.header_bit_depth;
   sample_rate = start.sample_rate;
   is_variable = start.variable;
   number = start.number;

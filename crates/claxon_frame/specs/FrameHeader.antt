@@ -11,7 +11,7 @@ use Rattle.std.specs.Prelude.{
   Bool,
   true,
   false,
-  cond,
+  if◌then◌else◌,
   ◌==◌,
   Option,
   Some,
@@ -65,7 +65,11 @@ max_bit_depth _ bits = bits + 1
 abbrev pub bit_depth_code : Option ℕ → ℕ
 bit_depth_code None = 0
 bit_depth_code (Some bits) =
-    cond (bits == 8) 1 (cond (bits == 12) 2 (cond (bits == 16) 4 (cond (bits == 20) 5 6)))
+    if bits == 8 then 1
+    else if bits == 12 then 2
+    else if bits == 16 then 4
+    else if bits == 20 then 5
+    else 6
 
 -- a bit depth that has a code
 abbrev pub HasBitDepthCode : ℕ → Type 0

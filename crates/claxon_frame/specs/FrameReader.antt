@@ -73,7 +73,7 @@ pub record BufferTooSmall (stream : Option StreamFormat) (capacity : ℕ) (old n
   where
     pub start : Start
     pub header : Consumes old new (λ s m. start_at stream s ≡ Done start m)
-    pub small : capacity < channel_count start.channels * start.size
+    pub small : capacity < channel_count start.channel_code * start.size
 
 -- what a reader of frames knows of its stream
 abbrev pub frame_stream : {R : Type 0} → FrameReader R → Option StreamFormat
@@ -95,7 +95,7 @@ frame_bytes source reader = bytes_in source (frame_input reader)
 abbrev pub HeaderOfLargerBlock : Option StreamFormat → ℕ → List ℕ → Type 0
 HeaderOfLargerBlock stream capacity t =
     (h : Header) × HeaderCode (known_bit_depth stream) h (bits_of t)
-    × (capacity < channel_count h.fields.channels * h.fields.size)
+    × (capacity < channel_count h.fields.channel_code * h.fields.size)
 
 -- ---- what a call that reads the next frame promises
 
@@ -217,7 +217,7 @@ abbrev pub PlansWriteFrames : Option StreamFormat → Type 0
 PlansWriteFrames stream =
     (f : Fields) (header : HeaderPlan) (plans : List SubframePlan) (channels : List (List ℤ))
     → SuitsFrame stream f header channels
-    → SuitsEach f.size (planned_bit_depths stream f) plans (decorrelated f.channels channels)
+    → SuitsEach f.size (planned_bit_depths stream f) plans (decorrelated f.channel_code channels)
     → Frame stream (written_block stream f channels) (write_bytes stream f header plans channels)
 
 -- Such bytes exist for any valid subframe types, predictor orders, coefficients, shifts and Rice
@@ -226,7 +226,8 @@ abbrev pub PlansHaveBytes : Option StreamFormat → Type 0
 PlansHaveBytes stream =
     (f : Fields) (header : HeaderPlan) (plans : List SubframePlan) (channels : List (List ℤ))
     → SuitsFrame stream f header channels
-    → SuitsEachShape f.size (planned_bit_depths stream f) plans (decorrelated f.channels channels)
+    → SuitsEachShape f.size (planned_bit_depths stream f) plans
+    (decorrelated f.channel_code channels)
     → Frame stream (written_block stream f channels)
     (write_bytes stream f header
-    (plans_with_quotients f.size plans (decorrelated f.channels channels)) channels)
+    (plans_with_quotients f.size plans (decorrelated f.channel_code channels)) channels)

@@ -31,7 +31,7 @@ fields_view h = record {
   variable = (block_time_view h.block_time).0;
   size = h.block_size;
   sample_rate = h.sample_rate;
-  channels = channel_code h.channel_assignment;
+  channel_code = channel_code h.channel_assignment;
   bit_depth_code = bit_depth_code h.bit_depth;
   number = (block_time_view h.block_time).1;
 }
@@ -41,11 +41,12 @@ abbrev pub start_view : FrameHeader → Start
 start_view h = record {
   time = h.time;
   size = h.block_size;
-  channels = channel_code h.channel_assignment;
+  channel_code = channel_code h.channel_assignment;
   bit_depth = h.bit_depth;
   sample_rate = h.sample_rate;
   variable = (block_time_view h.block_time).0;
   number = (block_time_view h.block_time).1;
+  header_bit_depth = h.header_bit_depth;
 }
 
 -- what is known of the stream

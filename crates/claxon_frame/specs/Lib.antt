@@ -1,6 +1,8 @@
 pub mod FrameStart
 pub mod FrameReader
 pub mod BlockInfo
+pub mod Prefix
+pub mod DecodedFrame
 pub mod FrameHeader
 pub mod Block
 pub mod Subframes

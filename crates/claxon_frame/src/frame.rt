@@ -23,6 +23,13 @@ ghost use Rattle.claxon_input.specs.CrcReader.{crc_state};
 ghost use Rattle.claxon_input.specs.State.{bytes_in};
 ghost use Rattle.claxon_input.specs.Gives.{Gives, GivesOrEofOrOutOfMemory};
 ghost use Rattle.claxon_input.specs.Promises.{IfOutOfMemory};
+ghost use Rattle.claxon_frame.specs.BlockInfo.{HasBlockBounds, SaysBlock, info_of_header};
+ghost use Rattle.claxon_frame.specs.DecodedFrame.{
+  DecodedSaysBlock,
+  InfoIsRead,
+  frame_answer,
+  header_answer,
+};
 ghost use Rattle.claxon_frame.specs.FrameCrc.{crc16_bytes};
 ghost use Rattle.claxon_frame.specs.FrameStart.{stream_format_view, start_view};
 ghost use Rattle.claxon_frame.specs.FrameReader.{
@@ -34,6 +41,7 @@ ghost use Rattle.claxon_frame.specs.FrameReader.{
 ghost use Rattle.claxon_frame.specs.Subframes.{SubframesAreRead, channels_in, sample_count};
 
 mod block;
+mod decoded;
 mod header;
 mod info;
 mod stereo;
@@ -44,6 +52,7 @@ use claxon_input::error::{Error, Result};
 use claxon_input::input::{Bitstream, ReadBytes};
 use claxon_metadata::metadata::StreamInfo;
 use claxon_subframe::subframe;
+pub use decoded::{DecodedFrame, DecodedFrameResult};
 use header::{FrameHeader, KnownStreamFormat, read_frame_header_or_eof};
 pub use info::BlockInfo;
 use info::read_block_info_or_eof;
@@ -77,6 +86,15 @@ impl<R: ReadBytes> FrameReader<R> {
       HeaderIsUnambiguous,
       HeaderLeavesRest,
       HeaderNoneIsEof,
+    };
+    ghost use Rattle.claxon_frame.specs.DecodedFrame.{
+      DecodedIsComplete,
+      DecodedIsSound,
+      DecodedIsUnambiguous,
+      DecodedReadsFrame,
+      DecodedSaysBlock,
+      frame_answer,
+      header_answer,
     };
     ghost use Rattle.claxon_subframe.specs.Decode.{NeverOutOfMemory};
     ghost use Rattle.claxon_frame.specs.FrameReader.{
@@ -173,7 +191,47 @@ impl<R: ReadBytes> FrameReader<R> {
         ensures has_samples { BlockHasSamples result }
         ensures is_read { FrameIsRead R.source self.old result self.new }
     {
-        read_next_or_eof_exact(&mut self.input, self.stream, buffer)
+        without_info(read_frame_exact(&mut self.input, self.stream, buffer))
+    }
+
+    /// Reads the next block as `read_next_or_eof` does, and gives what its header says with it.
+    ///
+    /// So the header is read once, where both are needed. (RFC 9639, section 9.)
+    ///
+    /// # Errors
+    ///
+    /// Those of `read_next_or_eof`.
+    pub fn read_next_with_info_or_eof<A: Allocator>(
+        &mut self,
+        buffer: Vec<i32, A>,
+    ) -> DecodedFrameResult<A>
+        // What it returns, and consumes.
+        ensures is_sound { DecodedIsSound R.source self.old result self.new }
+        ensures is_complete { DecodedIsComplete R.source self.old result self.new }
+        ensures none_is_eof { FrameNoneIsEof R.source self.old (frame_answer result) self.new }
+        ensures eof_is_none { FrameEofIsNone R.source self.old (frame_answer result) self.new }
+        ensures failure_is_err { FailureIsErr R.source self.old (frame_answer result) self.new }
+        ensures fault_is_sound { FrameFaultIsSound R.source self.old (frame_answer result) self.new }
+        ensures fault_is_complete { FrameFaultIsComplete R.source self.old (frame_answer result)
+            self.new }
+        ensures else_io_error { FrameElseIoError R.source self.old (frame_answer result) self.new }
+        ensures leaves_rest { FrameLeavesRest R.source self.old (frame_answer result) self.new }
+        // What the definitions say.
+        ensures is_unambiguous { DecodedIsUnambiguous (frame_stream self.old) }
+        // Memory.
+        ensures out_of_memory_after_header { FrameOutOfMemoryAfterHeader R.source
+            (vec_capacity buffer) self.old (frame_answer result) self.new }
+        ensures max_capacity_is_enough { MaxCapacityIsEnough (vec_capacity buffer)
+            (frame_answer result) }
+        ensures keeps_capacity { BlockKeepsCapacity (vec_capacity buffer) (frame_answer result) }
+        // What callers' proofs need.
+        ensures stream { frame_stream self.new ≡ frame_stream self.old }
+        ensures has_samples { BlockHasSamples (frame_answer result) }
+        ensures has_block_bounds { HasBlockBounds (header_answer result) }
+        ensures says_block { DecodedSaysBlock result }
+        ensures reads_frame { DecodedReadsFrame R.source self.old result self.new }
+    {
+        read_frame_exact(&mut self.input, self.stream, buffer)
     }
 
     /// Reads the header of the next frame alone, with its CRC-8, and says what it says of the block.
@@ -215,21 +273,26 @@ impl<R: ReadBytes> FrameReader<R> {
     }
 }
 
-// `read_next_or_eof`, with its exact clause.
-fn read_next_or_eof_exact<R: ReadBytes, A: Allocator>(
+// `read_next_with_info_or_eof`, with its exact clauses.
+fn read_frame_exact<R: ReadBytes, A: Allocator>(
     input: &mut R,
     stream: Option<KnownStreamFormat>,
     buffer: Vec<i32, A>,
-) -> FrameResult<A>
-    ensures gives { GivesOrEofOrOutOfMemory 2 block_view result
+) -> DecodedFrameResult<A>
+    ensures gives { GivesOrEofOrOutOfMemory 2 block_view (frame_answer result)
         (frame_bytes_at (stream_format_view stream))
         (bytes_in R.source input.old) (bytes_in R.source input.new) }
-    ensures has_samples { BlockHasSamples result }
-    ensures keeps_capacity { BlockKeepsCapacity (vec_capacity buffer) result }
-    ensures buffer_too_small { IfOutOfMemory result
+    ensures info_is_read { InfoIsRead (stream_format_view stream) result
+        (bytes_in R.source input.old) (bytes_in R.source input.new) }
+    ensures has_samples { BlockHasSamples (frame_answer result) }
+    ensures has_block_bounds { HasBlockBounds (header_answer result) }
+    ensures says_block { DecodedSaysBlock result }
+    ensures keeps_capacity { BlockKeepsCapacity (vec_capacity buffer) (frame_answer result) }
+    ensures buffer_too_small { IfOutOfMemory (frame_answer result)
         (BufferTooSmall (stream_format_view stream) (vec_capacity buffer)
         (bytes_in R.source input.old) (bytes_in R.source input.new)) }
-    ensures max_capacity { IfOutOfMemory result (vec_capacity buffer < max_block_samples) }
+    ensures max_capacity { IfOutOfMemory (frame_answer result)
+        (vec_capacity buffer < max_block_samples) }
 {
     let mut input = Crc16Reader::new(input);
     let Some(header) = read_frame_header_or_eof(&mut input, stream)? else {
@@ -240,7 +303,20 @@ fn read_next_or_eof_exact<R: ReadBytes, A: Allocator>(
     let mut buffer = ensure_buffer_len(buffer, samples)?;
     decode_subframes(&mut input, &header, buffer.as_mut_slice())?;
     check_footer(&mut input)?;
-    Ok(Some(to_block(header, buffer)))
+    let info = BlockInfo::new(&header);
+    let block = to_block(header, buffer);
+    Ok(Some(DecodedFrame { info, block }))
+}
+
+// The block alone.
+fn without_info<A: Allocator>(found: DecodedFrameResult<A>) -> FrameResult<A>
+    ensures { result ≡ frame_answer found }
+{
+    match found {
+        Ok(Some(frame)) => Ok(Some(frame.block)),
+        Ok(None) => Ok(None),
+        Err(error) => Err(error),
+    }
 }
 
 // The block of the decoded subframes in the buffer: decorrelation is still to be undone.
@@ -249,6 +325,7 @@ fn to_block<A: Allocator>(header: FrameHeader, buffer: Vec<i32, A>) -> Block<A>
     ensures some { (1 ≤ length result.channels) × (1 ≤ duration_of result.channels) }
     ensures fits { length result.channels * duration_of result.channels ≤ result.capacity }
     ensures kept_capacity { result.capacity ≡ vec_capacity buffer }
+    ensures says_block { SaysBlock (info_of_header header) (block_view result) }
     ensures value { block_view result
         ≡ block_from (start_view header) (channels_in header buffer.items) }
 {

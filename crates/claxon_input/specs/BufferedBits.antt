@@ -8,7 +8,7 @@ use Rattle.std.specs.Prelude.{
   length,
   take,
   drop,
-  cond,
+  if◌then◌else◌,
   nat_lt,
   Option,
   MatchOption,
@@ -38,7 +38,7 @@ IsBufferOf a s = RemainingIsKnown s → (rest : Bits) × (s.remaining ≡ bits_i
 
 -- n bits, whatever they are
 unfoldable pub skipped_bits_at : ℕ → Bits → Reading Bool (Unit {0})
-skipped_bits_at n s = cond (nat_lt (length s) n) Incomplete (Done tt (drop n s))
+skipped_bits_at n s = if nat_lt (length s) n then Incomplete else Done tt (drop n s)
 
 -- ---- what the calls of `BufferedBits` promise
 

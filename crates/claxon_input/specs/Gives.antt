@@ -10,7 +10,7 @@ use Rattle.std.specs.Prelude.{
   ◌⊎◌,
   true,
   false,
-  cond,
+  if◌then◌else◌,
   nat_lt,
   List,
   [],
@@ -111,7 +111,7 @@ GivesIo view (Err e) read old new = ReadFailedOrRemaining old new (λ s. read s 
 -- the field, or None where fewer than count are left
 abbrev pub or_eof : {X A : Type 0} → ℕ → (List X → Reading X A) → List X → Reading X (Option A)
 or_eof count read s =
-    cond (nat_lt (length s) count) (Done None []) (and_then read (λ a. done (Some a)) s)
+    if nat_lt (length s) count then Done None [] else and_then read (λ a. done (Some a)) s
 
 -- fewer than count were left, and all were consumed
 pub record ReachedEof {X : Type 0} (count : ℕ) (old new : State X) : Type 0 where

@@ -221,7 +221,8 @@ pub fn read_metadata_block<R: ReadBytes, A: Allocator + Copy>(
         input.new }
     ensures fault_is_complete { ContentFaultIsComplete R.source block_type length input.old result
         input.new }
-    ensures else_io_error { ContentElseIoError R.source block_type length input.old result input.new }
+    ensures else_io_error { ContentElseIoError R.source block_type length input.old result
+        input.new }
     ensures leaves_rest { MetadataBlockLeavesRest R.source input.old result input.new }
     ensures is_read { ContentIsRead R.source block_type length input.old result input.new }
     ensures at_most_is_consumed { AtMostIsConsumed R.source length input.old input.new }

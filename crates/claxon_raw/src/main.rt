@@ -1,7 +1,8 @@
 //! Writes the samples of a FLAC file as bytes, or prints its tags.
 #![tactic(auto)]
 
-use claxon_write::{command, run_command};
+use claxon_command_line::run_command;
+use claxon_write::command;
 use std::process::ExitCode;
 
 fn main(rt: HostRuntime) -> ExitCode {

@@ -146,7 +146,7 @@ next_has_sample info old r new g sample header wanted =
     let block = f.0 in
     let says = f.2 in
     let holds = wanted.wanted.holds in
-    let has : BlockHasSample sample block = (omega (arith, holds.0, says.time), omega (arith, holds.1, says.time, says.duration)) in
+    let has : BlockHasSample sample block = (omega (arith, holds.0, says.time), omega (arith, holds.1, says.time, says.duration_is)) in
     elim (next_is_complete (stream_with info) old r new g block f.1) [
       | inl p ↦ inl (same_block (BlockHasSample sample) block r has p)
       | inr memory ↦ inr memory

@@ -4,7 +4,7 @@ use Rattle.std.specs.Prelude.{Ok, Err, IfSome, IsErrAnd, IsOkAnd, IsSomeAnd}
 use Rattle.std.proofs.lemmas.Bool.{cases_lt}
 use Rattle.std.proofs.lemmas.List.{drop-append-le, length-drop, take_all}
 use Rattle.claxon.specs.Block.{BlockValue}
-use Rattle.claxon.specs.BlockInfo.{HeaderAnswer, HeaderOf}
+use Rattle.claxon.specs.BlockInfo.{HeaderAnswer, HeaderOf, SaysBlock}
 use Rattle.claxon.specs.BlockInfos.{BlockInfo}
 use Rattle.claxon.specs.Error.{IsFault, IsIo}
 use Rattle.claxon.specs.Errors.{Error}
@@ -137,11 +137,7 @@ module _ (known : Option StreamInfo) (sample : Option ℕ) where
         frame = (
           found.block,
           f,
-          record {
-            time = sym (ap (λ (x : BlockInfo). x.time) same) ∙ k.1.time;
-            channels = sym (ap (λ (x : BlockInfo). x.channels) same) ∙ k.1.channels;
-            duration = sym (ap (λ (x : BlockInfo). x.duration) same) ∙ k.1.duration_is;
-          },
+          subst (λ (x : BlockInfo). SaysBlock x found.block) same k.1,
         );
       }
 

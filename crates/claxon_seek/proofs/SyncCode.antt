@@ -58,7 +58,7 @@ sync_of (b ∷ c ∷ u) variable more long e =
 
 pub header_has_sync_code : (stream : Option StreamFormat) (info : BlockInfo) (bytes : List ℕ) → BeginsWith (HeaderOf stream info) bytes → HasSyncCode bytes
 header_has_sync_code stream info bytes (t, rest, (h, ((x, (size_code, rate_code, count, number_bits, size_bits, rate_bits, least, most, rate, channels, depth, reserved, coded, large, size, rate_is, x-is), t-is), bit_depth, side), is), e) =
-    let after = (bits 4 size_code ++ bits 4 rate_code) ++ ((bits 4 h.fields.channels ++ (bits 3 h.fields.bit_depth_code ++ bits 1 0)) ++ (number_bits ++ (size_bits ++ rate_bits))) in
+    let after = (bits 4 size_code ++ bits 4 rate_code) ++ ((bits 4 h.fields.channel_code ++ (bits 3 h.fields.bit_depth_code ++ bits 1 0)) ++ (number_bits ++ (size_bits ++ rate_bits))) in
     let start = sync_bits h.fields.variable in
     let crc = bits 8 (crc8 x) in
     let parts : bits_of bytes ≡ start ++ (after ++ (crc ++ bits_of rest)) =
@@ -84,7 +84,7 @@ third_byte b c d u variable size_code rate_code x y small e =
 rate_of : (stream : Option StreamFormat) (info : BlockInfo) (b c d : ℕ) (u : List ℕ) → BeginsWith (HeaderOf stream info) (b ∷ c ∷ d ∷ u) → d % 16 < 15
 rate_of stream info b c d u (t, rest, (h, ((x, (size_code, rate_code, count, number_bits, size_bits, rate_bits, least, most, rate, channels, depth, reserved, coded, large, size, rate_is, x-is), t-is), bit_depth, side), is), e) =
     let codes = bits 4 size_code ++ bits 4 rate_code in
-    let after = (bits 4 h.fields.channels ++ (bits 3 h.fields.bit_depth_code ++ bits 1 0)) ++ (number_bits ++ (size_bits ++ rate_bits)) in
+    let after = (bits 4 h.fields.channel_code ++ (bits 3 h.fields.bit_depth_code ++ bits 1 0)) ++ (number_bits ++ (size_bits ++ rate_bits)) in
     let start = sync_bits h.fields.variable in
     let crc = bits 8 (crc8 x) in
     let parts : bits_of (b ∷ c ∷ d ∷ u) ≡ start ++ ((codes ++ after) ++ (crc ++ bits_of rest)) =

@@ -1,5 +1,23 @@
 -- What bytes begin with, and how many bytes it has.
-use Rattle.std.specs.Prelude.{◌≡◌, ◌⊎◌, ◌<◌, ℕ, true, List, ◌++◌, length, Option, None, Result, IfErr, IfOk, IfSome, IsErrAnd, IsOkAnd, IsSomeAnd}
+use Rattle.std.specs.Prelude.{
+  ◌≡◌,
+  ◌⊎◌,
+  ◌<◌,
+  ℕ,
+  true,
+  List,
+  ◌++◌,
+  length,
+  Option,
+  None,
+  Result,
+  IfErr,
+  IfOk,
+  IfSome,
+  IsErrAnd,
+  IsOkAnd,
+  IsSomeAnd,
+}
 use Rattle.claxon.specs.Fault.{Fault}
 use Rattle.claxon.specs.Frame.{StreamFormat, Frame}
 use Rattle.claxon.specs.Heads.{Head, HeadCode, HeadFault, Marker, stream_marker}

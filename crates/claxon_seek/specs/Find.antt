@@ -24,7 +24,7 @@ use Rattle.std.specs.Prelude.{
   IfOk,
 }
 use Rattle.std.specs.Option.{option_map}
-use Rattle.claxon.specs.BlockInfo.{HeaderBytesFault, HeaderOf}
+use Rattle.claxon.specs.BlockInfo.{HeaderBytesFault, HeaderOf, SaysBlock}
 use Rattle.claxon.specs.BlockInfos.{BlockInfo}
 use Rattle.claxon.specs.Errors.{Error}
 use Rattle.claxon.specs.Errors.TheVariants.{OutOfMemory}
@@ -33,7 +33,6 @@ use Rattle.claxon.specs.FrameReader.{HeaderOfLargerBlock, stream_with}
 use Rattle.claxon.specs.Prefix.{BeginsWith}
 use Rattle.claxon.specs.Promises.{HasNeither, IsOutOfMemory}
 use Rattle.claxon.specs.StreamInfos.{StreamInfo}
-use Rattle.claxon.specs.Streams.{duration_of}
 use Rattle.claxon_seek.specs.declared.find.FrameThere.{FrameThere}
 use Rattle.claxon_seek.specs.declared.find.FrameThere.TheVariants.{CutFrame, Faulty, Whole}
 use Rattle.claxon_seek.specs.declared.find.HeaderThere.{HeaderThere}
@@ -58,12 +57,6 @@ HasFormat (Some info) block =
 abbrev pub HoldsSample : Option ℕ → BlockInfo → Type 0
 HoldsSample None block = Unit {0}
 HoldsSample (Some sample) block = (block.time ≤ sample) × (sample < block.time + block.duration)
-
--- The header says this of the block.
-pub record SaysBlock (info : BlockInfo) (block : Block) : Type 0 where
-  pub time : info.time ≡ block.time
-  pub channels : info.channels ≡ length block.channels
-  pub duration : info.duration ≡ duration_of block.channels
 
 -- ---- bytes that end too early
 

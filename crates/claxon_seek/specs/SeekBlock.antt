@@ -37,8 +37,8 @@ module _ (known : Option StreamInfo) (bytes : List ℕ) where
   -- `OutOfMemory`, and no other Err, is returned only where the header of one begins there.
   abbrev pub BlockThere : ℕ → ℕ → Result (Option FoundBlock) Error → Type 0
   BlockThere at sample (Ok (Some found)) =
-      (found.frame.position ≡ at) × WantedFrame known (Some sample) (drop at bytes) found.frame.block
-      × HasBlock found
+      (found.frame.position ≡ at)
+      × WantedFrame known (Some sample) (drop at bytes) found.frame.block × HasBlock found
   BlockThere at sample (Ok None) =
       (info : BlockInfo) → WantedFrame known (Some sample) (drop at bytes) info → ⊥
   BlockThere at sample (Err e) =

@@ -168,7 +168,8 @@ module _ {R : Type 0} (old : SeekableReader R) (result : FrameAnswer) (new : See
   -- The next block has the sample to which the reader went, or memory was refused.
   abbrev pub NextHasSample : Type 0
   NextHasSample = (sample : ℕ) (info : BlockInfo) → IsAtSample old sample info
-      → IsOkAnd result (λ found. IsSomeAnd found (λ block. BlockHasSample sample (block_view block)))
+      → IsOkAnd result (λ found.
+      IsSomeAnd found (λ block. BlockHasSample sample (block_view block)))
       ⊎ IsOutOfMemory result
 
   -- If the bytes that were read begin with a frame its block is returned, or memory was refused.

@@ -51,7 +51,8 @@ pub fn find_frame(
     ensures not_found_is_none { NotFoundIsNone known bytes.now from budget.old result budget.new }
     ensures none_is_not_found { NoneIsNotFound known bytes.now from budget.old result budget.new }
     ensures stops_over_budget { StopsOverBudget known bytes.now from budget.old result budget.new }
-    ensures undecided_is_first { UndecidedIsFirst known bytes.now from budget.old result budget.new }
+    ensures undecided_is_first { UndecidedIsFirst known bytes.now from
+        budget.old result budget.new }
     ensures budget_is_spent { BudgetIsSpent known bytes.now from budget.old result budget.new }
     ensures out_of_memory_after_header { FindOutOfMemoryAfterHeader known bytes.now from
         budget.old result budget.new }

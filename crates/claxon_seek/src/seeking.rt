@@ -44,8 +44,10 @@ pub fn seek(
     requires { IfSome known (λ info. HasBitDepth info) }
     ensures is_sound { SeekIsSound known bytes.now first_frame sample budget result }
     ensures is_complete { SeekIsComplete known bytes.now first_frame sample budget result }
-    ensures not_found_is_none { SeekNotFoundIsNone known bytes.now first_frame sample budget result }
-    ensures none_is_not_found { SeekNoneIsNotFound known bytes.now first_frame sample budget result }
+    ensures not_found_is_none { SeekNotFoundIsNone known bytes.now first_frame sample budget
+        result }
+    ensures none_is_not_found { SeekNoneIsNotFound known bytes.now first_frame sample budget
+        result }
     ensures stops_over_budget { SeekStopsOverBudget known bytes.now first_frame sample budget
         result }
     ensures out_of_memory_after_header { SeekOutOfMemoryAfterHeader known bytes.now first_frame
@@ -70,7 +72,8 @@ pub fn seek_block(
     requires { IfSome known (λ info. HasBitDepth info) }
     ensures is_decoded { BlockIsDecoded known bytes.now result }
     ensures is_sound { SeekIsSound known bytes.now first_frame sample budget (searched result) }
-    ensures is_complete { SeekIsComplete known bytes.now first_frame sample budget (searched result) }
+    ensures is_complete { SeekIsComplete known bytes.now first_frame sample budget
+        (searched result) }
     ensures not_found_is_none { SeekNotFoundIsNone known bytes.now first_frame sample budget
         (searched result) }
     ensures none_is_not_found { SeekNoneIsNotFound known bytes.now first_frame sample budget

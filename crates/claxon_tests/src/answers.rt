@@ -1,13 +1,9 @@
 //! Results of calls in a form that can be compared, and bytes that many tests use.
-use crate::doubles::sinks::Sink;
 use claxon::frame::{FrameReader, FrameResult};
 use claxon::input::ReadBytes;
 use claxon::{Error, FlacReader, FlacSamples};
-use claxon_tools::progress::files::FileProgress;
-use claxon_tools::report::Report;
-use claxon_tools::verify::verify;
 use std::alloc::{AllocError, AllocFailed, Allocator, Global};
-use std::io::{ErrorKind, Read};
+use std::io::Read;
 
 /// An error, without the cause of an `IoError`.
 #[derive(PartialEq, Clone, Copy)]
@@ -199,19 +195,6 @@ pub const COMMENT: [u8; 19] = [
     0x00, 0x00, 0x00, 0x00, 0x02, 0x00, 0x00, 0x00, 0x00, 0x00, 0x00, 0x00, 0x03, 0x00, 0x00, 0x00,
     0x58, 0x3d, 0x59,
 ];
-
-/// The report of a stream, without a line of progress.
-pub fn report_of<R: ReadBytes, A: Allocator + Copy>(
-    alloc: A,
-    input: &mut R,
-    computes_md5: bool,
-) -> claxon::Result<Report<A>> {
-    let mut errors = Sink::new(0, 0, false, ErrorKind::Other);
-    let mut progress = FileProgress::new(&mut errors, None);
-    let report = verify(alloc, input, computes_md5, &mut progress);
-    progress.clear();
-    report
-}
 
 /// The parts, one after another.
 pub fn joined(alloc: Global, parts: &[&[u8]]) -> Result<Vec<u8>, AllocError> {

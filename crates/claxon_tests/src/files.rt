@@ -1,24 +1,11 @@
 //! Streams in files.
 use crate::answers::{Fault, fault_of, head, joined, rest_of};
+use crate::temporary_files::{file_of, path_of};
 use claxon::{Error, FlacReader, FlacReaderOptions};
 use std::alloc::{AllocError, Global};
 use std::io::{Cursor, Read};
 use std::test::Fail;
 use std::{env, fs, process};
-
-/// A path for this process in the folder for temporary files.
-pub fn path_of(rt: &HostRuntime, name: &str) -> Result<String, Fail> {
-    let (folder, id) = (env::temp_dir(rt)?, process::id(rt.process()));
-    let folder = folder.as_str();
-    Ok(format!(in rt.alloc(); "{folder}/claxon_{name}_{id}")?)
-}
-
-/// The path of such a file with these bytes.
-pub fn file_of(rt: &HostRuntime, name: &str, bytes: &[u8]) -> Result<String, Fail> {
-    let path = path_of(rt, name)?;
-    fs::write(rt, path.as_str(), bytes)?;
-    Ok(path)
-}
 
 /// The number of tags and of samples of an open file, or the error of opening it.
 type Found = Result<(usize, usize), Fault>;

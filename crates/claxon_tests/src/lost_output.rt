@@ -1,8 +1,8 @@
 //! The command of `claxon_raw` with an output that fails.
 use crate::answers::{COMMENT, FIVES, head, joined, two_frames};
-use crate::commands::owned;
+use crate::command_lines::owned;
 use crate::doubles::sinks::Sink;
-use crate::files::file_of;
+use crate::temporary_files::file_of;
 use claxon_write::command;
 use std::fs;
 use std::io::{self, ErrorKind};

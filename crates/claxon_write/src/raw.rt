@@ -1,10 +1,10 @@
 //! The command of `claxon_raw`: the samples of a FLAC file as bytes, or its tags.
 use crate::output::Output;
-use crate::program::{open_head, status};
 use crate::stream::run;
-use claxon::Result;
 use claxon::metadata::Tags;
-use std::alloc::Allocator;
+use claxon::{FlacReader, FlacReaderOptions, Result};
+use claxon_command_line::status;
+use std::alloc::{Allocator, Global};
 use std::fs;
 use std::io::{Read, Write};
 use std::rt::Files;
@@ -38,6 +38,15 @@ where
     let input = fs::open(rt, name)?;
     run(rt.alloc(), input, output)?;
     Ok(())
+}
+
+/// Reads the head of an open file, with its tags, and none of its frames.
+pub fn open_head<R: Read + Drop>(alloc: Global, input: R) -> Result<FlacReader<R>> {
+    let options = FlacReaderOptions {
+        metadata_only: true,
+        read_vorbis_comment: true,
+    };
+    FlacReader::new_ext(alloc, input, options)
 }
 
 fn print_tags<Q: Files + AllocGlobal, W: Write>(rt: &Q, name: &str, output: &mut W) -> Result<()>

@@ -11,7 +11,7 @@ use Rattle.std.specs.Prelude.{
   Bool,
   true,
   false,
-  cond,
+  if◌then◌else◌,
   ◌==◌,
   nat_lt,
   [],
@@ -32,11 +32,12 @@ bit_at (b ∷ s) = Done b s
 
 -- a number of w bits
 unfoldable pub number_at : ℕ → Bits → Reading Bool ℕ
-number_at w s = cond (nat_lt (length s) w) Incomplete (Done (number (take w s)) (drop w s))
+number_at w s =
+    if nat_lt (length s) w then Incomplete else Done (number (take w s)) (drop w s)
 
 -- the integer of w bits that n stands for in two's complement
 unfoldable pub twos_complement : ℕ → ℕ → ℤ
-twos_complement w n = cond (nat_lt n (2 ^ (w - 1))) (pos n) (negsuc (2 ^ w - 1 - n))
+twos_complement w n = if nat_lt n (2 ^ (w - 1)) then pos n else negsuc (2 ^ w - 1 - n)
 
 -- an integer of w bits in two's complement
 unfoldable pub signed_at : ℕ → Bits → Reading Bool ℤ
@@ -56,7 +57,7 @@ zeros_at (false ∷ s) = one_more (zeros_at s)
 
 -- 2 ^ 32 zeros are answered as a list that ends too early
 abbrev pub in_u32 : Reading Bool ℕ → Reading Bool ℕ
-in_u32 (Done q s) = cond (nat_lt q (2 ^ 32)) (Done q s) Incomplete
+in_u32 (Done q s) = if nat_lt q (2 ^ 32) then Done q s else Incomplete
 in_u32 (Faulty f s) = Faulty f s
 in_u32 Incomplete = Incomplete
 
@@ -70,7 +71,7 @@ zigzag_encoded k q r = (q * 2 ^ k + r) % 2 ^ 32
 
 -- the integer that a zigzag-encoded number stands for
 abbrev pub zigzag_decode : ℕ → ℤ
-zigzag_decode n = cond (n % 2 == 0) (pos (n / 2)) (negsuc (n / 2))
+zigzag_decode n = if n % 2 == 0 then pos (n / 2) else negsuc (n / 2)
 
 -- a Rice code under the Rice parameter k
 unfoldable pub rice_code_at : ℕ → Bits → Reading Bool ℤ

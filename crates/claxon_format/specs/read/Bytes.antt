@@ -10,7 +10,7 @@ use Rattle.std.specs.Prelude.{
   ◌-◌,
   ◌/◌,
   Bool,
-  cond,
+  if◌then◌else◌,
   not,
   ◌==◌,
   nat_lt,
@@ -44,7 +44,7 @@ little_endian (y ∷ ys) = y % 256 + 256 * little_endian ys
 
 -- n bytes, as they are
 unfoldable pub bytes_at : ℕ → List ℕ → Reading ℕ (List ℕ)
-bytes_at n s = cond (nat_lt (length s) n) Incomplete (Done (take n s) (drop n s))
+bytes_at n s = if nat_lt (length s) n then Incomplete else Done (take n s) (drop n s)
 
 -- n bytes of any values, which are skipped (sections 8.3 and 8.5 to 8.8)
 unfoldable pub skipped_at : ℕ → List ℕ → Reading ℕ (Unit {0})

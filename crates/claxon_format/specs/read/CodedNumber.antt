@@ -1,6 +1,19 @@
 -- The reader of coded numbers (RFC 9639, section 9.1.5). They are whole bytes, and are read from
 -- bits and from bytes alike.
-use Rattle.std.specs.Prelude.{ℕ, zero, suc, ◌+◌, ◌-◌, ◌*◌, ◌%◌, ◌^◌, Bool, cond, nat_lt, List}
+use Rattle.std.specs.Prelude.{
+  ℕ,
+  zero,
+  suc,
+  ◌+◌,
+  ◌-◌,
+  ◌*◌,
+  ◌%◌,
+  ◌^◌,
+  Bool,
+  if◌then◌else◌,
+  nat_lt,
+  List,
+}
 use Rattle.claxon_format.specs.Bits.{Bits}
 use Rattle.claxon_format.specs.CodedNumber.{bad_first, bad_continuation, continuation_count}
 use Rattle.claxon_format.specs.Fault.{NumberFirst, NumberContinuation}
@@ -17,7 +30,7 @@ in_bits k = number_at (8 * k)
 
 -- the bits of the number that stand in a first byte
 abbrev pub lead : ℕ → ℕ
-lead b = cond (nat_lt b 128) b (b % 2 ^ (6 - continuation_count b))
+lead b = if nat_lt b 128 then b else b % 2 ^ (6 - continuation_count b)
 
 -- six bits of the number
 unfoldable pub continuation_byte_at : {X : Type 0} → Numbers X → List X → Reading X ℕ

@@ -1,6 +1,6 @@
 -- Readers of the content of a Vorbis comment block and of its fields (RFC 9639, section 8.6).
 use Rattle.std.specs.Prelude.{
-  cond,
+  if◌then◌else◌,
   ℕ,
   zero,
   suc,
@@ -53,7 +53,7 @@ entry_at n =
 
 -- an empty text has no entry
 unfoldable pub entry_or_empty_at : ℕ → List ℕ → Reading ℕ (List Entry)
-entry_or_empty_at n = cond (n == 0) (done []) (and_then (entry_at n) (λ e. done (e ∷ [])))
+entry_or_empty_at n = if n == 0 then done [] else and_then (entry_at n) (λ e. done (e ∷ []))
 
 unfoldable pub entry_length_at : ℕ → List ℕ → Reading ℕ ℕ
 entry_length_at most = checked_at (nat_lt most) EntryLong (little_at 4)
@@ -66,10 +66,11 @@ entries_end_at missing left =
 -- the missing texts in the bytes that are left
 unfoldable pub entries_at : ℕ → ℕ → List ℕ → Reading ℕ (List Entry)
 entries_at zero left = entries_end_at zero left
-entries_at (suc missing) left = cond (nat_lt left 4) (entries_end_at (suc missing) left) (
-    and_then (entry_length_at (left - 4)) (λ n.
+entries_at (suc missing) left =
+    if nat_lt left 4 then entries_end_at (suc missing) left
+    else and_then (entry_length_at (left - 4)) (λ n.
     and_then (entry_or_empty_at n) (λ entries.
-    and_then (entries_at missing (left - 4 - n)) (λ others. done (entries ++ others)))))
+    and_then (entries_at missing (left - 4 - n)) (λ others. done (entries ++ others))))
 
 unfoldable pub vendor_length_at : ℕ → List ℕ → Reading ℕ ℕ
 vendor_length_at most = checked_at (nat_lt most) VendorLong (little_at 4)

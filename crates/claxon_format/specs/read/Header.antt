@@ -6,7 +6,7 @@ use Rattle.std.specs.Prelude.{
   ◌/◌,
   ◌%◌,
   Bool,
-  cond,
+  if◌then◌else◌,
   not,
   ◌==◌,
   nat_lt,
@@ -66,7 +66,9 @@ pub data SizeCoding : Type 0 where
 
 abbrev pub size_coding : ℕ → SizeCoding
 size_coding code =
-    cond (code == 6) InByte (cond (code == 7) InTwoBytes (ByCode (unwrap_or (size_of code) 0)))
+    if code == 6 then InByte
+    else if code == 7 then InTwoBytes
+    else ByCode (unwrap_or (size_of code) 0)
 
 -- how the block size is coded, and the code of the sample rate
 unfoldable pub codes_at : {X : Type 0} → Numbers X → List X → Reading X (SizeCoding × ℕ)
@@ -105,7 +107,7 @@ fields_of time codes size rate =
       variable = time.0;
       size = size;
       sample_rate = rate;
-      channels = codes.0;
+      channel_code = codes.0;
       bit_depth_code = codes.1;
       number = time.1;
     }
@@ -130,12 +132,12 @@ fields_with_crc_at = with_crc_bytes_at 1 crc8 HeaderCrc (fields_at big_at)
 -- a bit depth that is known, and with which a side channel has at most 32 bits: no bits are
 -- consumed
 abbrev pub depth_at : {X : Type 0} → ℕ → Option ℕ → List X → Reading X ℕ
-depth_at channels None = fails BitDepthUnknown
-depth_at channels (Some w) = test (side_too_wide channels w) SideTooWide (done w)
+depth_at channel_code None = fails BitDepthUnknown
+depth_at channel_code (Some w) = test (side_too_wide channel_code w) SideTooWide (done w)
 
 -- the bit depth that the fields name, or that of the stream
 unfoldable pub bit_depth_at : {X : Type 0} → Option ℕ → Fields → List X → Reading X ℕ
-bit_depth_at known f = depth_at f.channels (bit_depth_of_code known f.bit_depth_code)
+bit_depth_at known f = depth_at f.channel_code (bit_depth_of_code known f.bit_depth_code)
 
 -- a value that is made of a header
 abbrev pub with_bit_depth : {X A : Type 0} → (List X → Reading X Fields) → Option ℕ → (Header → A)

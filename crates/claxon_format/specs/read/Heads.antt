@@ -1,5 +1,5 @@
 -- Readers of the head of a stream and of its parts (RFC 9639, sections 6 and 8).
-use Rattle.std.specs.Prelude.{ℕ, zero, suc, ◌/◌, Bool, cond, not, ◌==◌, List, Option, None}
+use Rattle.std.specs.Prelude.{ℕ, zero, suc, ◌/◌, Bool, if◌then◌else◌, not, ◌==◌, List, Option, None}
 use Rattle.claxon_format.specs.Fault.{
   Id3Header,
   StreamMarker,
@@ -36,15 +36,15 @@ others_at suffices (suc k) found =
     and_then block_at (λ b.
     test (is_info b.content) SecondStreaminfo (
     test (is_second found b.content) SecondComment (
-    cond (is_done suffices found b) (done (found_with found b.content)) (
-    others_at suffices k (found_with found b.content)))))
+    if is_done suffices found b then done (found_with found b.content)
+    else others_at suffices k (found_with found b.content))))
 
 -- what is read after the first block
 unfoldable pub after_first : Options → Bool → Content → List ℕ → Reading ℕ Head
 after_first o is_last (Info i) =
     and_then
-    (cond (streaminfo_ends_head o is_last) (done None) (others_at o.metadata_only 65535 None))
-    (λ found. done (record { info = i; comment = cond o.wants_comment found None }))
+    (if streaminfo_ends_head o is_last then done None else others_at o.metadata_only 65535 None)
+    (λ found. done (record { info = i; comment = if o.wants_comment then found else None }))
 after_first o is_last _ = fails StreaminfoMissing
 
 unfoldable pub head_at : Options → List ℕ → Reading ℕ Head

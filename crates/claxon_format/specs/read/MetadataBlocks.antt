@@ -1,5 +1,5 @@
 -- Readers of metadata blocks and of their content (RFC 9639, section 8).
-use Rattle.std.specs.Prelude.{ℕ, ◌-◌, cond, not, ◌==◌, nat_lt, List}
+use Rattle.std.specs.Prelude.{ℕ, ◌-◌, if◌then◌else◌, not, ◌==◌, nat_lt, List}
 use Rattle.claxon_format.specs.Fault.{
   StreaminfoLength,
   BlockType,
@@ -34,10 +34,10 @@ application_at n =
 -- the content of a block of this type and length
 unfoldable pub body_at : ℕ → ℕ → List ℕ → Reading ℕ Content
 body_at type n =
-    cond (type == 0) (and_then (info_body_at n) (λ i. done (Info i))) (
-    cond (type == 2) (application_at n) (
-    cond (type == 4) (and_then (comment_at n) (λ c. done (Comments c))) (
-    test (type == 127) BlockType (and_then (bytes_at n) (λ bytes. done (skipped type n))))))
+    if type == 0 then and_then (info_body_at n) (λ i. done (Info i))
+    else if type == 2 then application_at n
+    else if type == 4 then and_then (comment_at n) (λ c. done (Comments c))
+    else test (type == 127) BlockType (and_then (bytes_at n) (λ bytes. done (skipped type n)))
 
 unfoldable pub block_at : List ℕ → Reading ℕ MetadataBlock
 block_at =

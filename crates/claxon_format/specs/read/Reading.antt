@@ -1,6 +1,19 @@
 -- What reading a field gives, and how readers are put together. And the law that joins a reader,
 -- a code and its faults.
-use Rattle.std.specs.Prelude.{◌≡◌, ◌-◌, Bool, List, [], ◌∷◌, ◌++◌, length, take, ℕ, replicate, cond}
+use Rattle.std.specs.Prelude.{
+  ◌≡◌,
+  ◌-◌,
+  Bool,
+  List,
+  [],
+  ◌∷◌,
+  ◌++◌,
+  length,
+  take,
+  ℕ,
+  replicate,
+  if◌then◌else◌,
+}
 use Rattle.claxon_format.specs.Fault.{Fault}
 
 -- a value and what is left after it; a fault and what is left after the field that has it; or
@@ -44,7 +57,7 @@ fails f s = Faulty f s
 
 -- this fault where the test is true, or else what is read next
 abbrev pub test : {X A : Type 0} → Bool → Fault → (List X → Reading X A) → List X → Reading X A
-test b f r s = cond b (Faulty f s) (r s)
+test b f r s = if b then Faulty f s else r s
 
 -- a field whose value must not be bad
 abbrev pub checked_at : {X A : Type 0} → (A → Bool) → Fault → (List X → Reading X A) → List X

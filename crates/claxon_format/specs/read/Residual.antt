@@ -8,7 +8,7 @@ use Rattle.std.specs.Prelude.{
   ◌%◌,
   ◌^◌,
   Bool,
-  cond,
+  if◌then◌else◌,
   ◌==◌,
   nat_lt,
   List,
@@ -43,7 +43,7 @@ escaped_partition_at l = and_then (number_at 5) (λ b. times_at l (escaped_sampl
 unfoldable pub partition_at : ℕ → ℕ → Bits → Reading Bool (List ℤ)
 partition_at method l =
     and_then (number_at (4 + method)) (λ k.
-    cond (k == escape method) (escaped_partition_at l) (times_at l (rice_code_at k)))
+    if k == escape method then escaped_partition_at l else times_at l (rice_code_at k))
 
 -- the residual samples of partitions, one after another
 abbrev pub joined_at : (ℕ → Bits → Reading Bool (List ℤ)) → List ℕ → Bits → Reading Bool (List ℤ)

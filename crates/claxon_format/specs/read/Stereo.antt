@@ -1,19 +1,34 @@
 -- How stereo decorrelation is undone (RFC 9639, section 4.2).
-use Rattle.std.specs.Prelude.{ℕ, cond, ◌==◌, nat_lt, List, [], ◌∷◌, ℤ, pos, ◌+ℤ◌, ◌-ℤ◌, ◌*ℤ◌}
+use Rattle.std.specs.Prelude.{
+  ℕ,
+  if◌then◌else◌,
+  ◌==◌,
+  nat_lt,
+  List,
+  [],
+  ◌∷◌,
+  ℤ,
+  pos,
+  ◌+ℤ◌,
+  ◌-ℤ◌,
+  ◌*ℤ◌,
+}
 use Rattle.claxon_format.specs.Predict.{wrap, floor_shift}
 use Rattle.claxon_format.specs.Stereo.{parity, zipped}
 
 -- the left sample of two coded samples
 abbrev pub left_of : ℕ → ℤ → ℤ → ℤ
 left_of code a b =
-    cond (code == 8) a (
-    cond (code == 9) (wrap (a +ℤ b)) (floor_shift (wrap ((pos 2 *ℤ a +ℤ parity b) +ℤ b)) 1))
+    if code == 8 then a
+    else if code == 9 then wrap (a +ℤ b)
+    else floor_shift (wrap ((pos 2 *ℤ a +ℤ parity b) +ℤ b)) 1
 
 -- the right sample of two coded samples
 abbrev pub right_of : ℕ → ℤ → ℤ → ℤ
 right_of code a b =
-    cond (code == 8) (wrap (a -ℤ b)) (
-    cond (code == 9) b (floor_shift (wrap ((pos 2 *ℤ a +ℤ parity b) -ℤ b)) 1))
+    if code == 8 then wrap (a -ℤ b)
+    else if code == 9 then b
+    else floor_shift (wrap ((pos 2 *ℤ a +ℤ parity b) -ℤ b)) 1
 
 -- left and right from two coded channels
 abbrev pub decoded_pair : ℕ → List (List ℤ) → List (List ℤ)
@@ -22,4 +37,4 @@ decoded_pair code other = other
 
 -- under codes below 8 the channels are coded as they are
 abbrev pub decoded_channels : ℕ → List (List ℤ) → List (List ℤ)
-decoded_channels code coded = cond (nat_lt code 8) coded (decoded_pair code coded)
+decoded_channels code coded = if nat_lt code 8 then coded else decoded_pair code coded

@@ -5,7 +5,7 @@ use Rattle.std.specs.Prelude.{
   ◌+◌,
   ◌-◌,
   Bool,
-  cond,
+  if◌then◌else◌,
   ◌==◌,
   not,
   nat_lt,
@@ -46,7 +46,8 @@ type_at =
     test b SubframePadding (checked_at reserved SubframeTypeReserved (number_at 6)))
 
 unfoldable pub wasted_bits_at : Bits → Reading Bool ℕ
-wasted_bits_at = and_then bit_at (λ b. cond b (and_then unary_at (λ q. done (suc q))) (done 0))
+wasted_bits_at =
+    and_then bit_at (λ b. if b then and_then unary_at (λ q. done (suc q)) else done 0)
 
 -- at most 31 wasted bits
 unfoldable pub wasted_bits_to_31_at : Bits → Reading Bool ℕ
@@ -90,9 +91,10 @@ linear_at w n order =
 -- n samples of w bits, of this subframe type
 unfoldable pub subframe_body_at : ℕ → ℕ → ℕ → Bits → Reading Bool (List ℤ)
 subframe_body_at w n type =
-    cond (type == 0) (and_then (signed_at w) (λ x. done (replicate n x))) (
-    cond (type == 1) (times_at n (signed_at w)) (
-    cond (nat_lt type 13) (fixed_at w n (type - 8)) (linear_at w n (type - 31))))
+    if type == 0 then and_then (signed_at w) (λ x. done (replicate n x))
+    else if type == 1 then times_at n (signed_at w)
+    else if nat_lt type 13 then fixed_at w n (type - 8)
+    else linear_at w n (type - 31)
 
 -- n samples of w bits
 unfoldable pub subframe_at : ℕ → ℕ → Bits → Reading Bool (List ℤ)

@@ -77,6 +77,7 @@ pub fn read_frame_header_or_eof<R: ReadBytes>(
         block_size: fields.block_size,
         channel_assignment: fields.channel_assignment,
         bit_depth,
+        header_bit_depth: fields.bit_depth,
         sample_rate: fields.sample_rate,
         block_time: fields.block_time,
     }))

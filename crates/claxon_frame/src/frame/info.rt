@@ -25,6 +25,9 @@ pub struct BlockInfo {
     /// The bit depth: that of the stream where the header gives none.
     pub bit_depth: u32,
 
+    /// The bit depth, if the header gives one; else it is that of the stream.
+    pub header_bit_depth: Option<u32>,
+
     /// The sample rate in Hz, if the header gives one; else it is that of the stream.
     pub sample_rate: Option<u32>,
 
@@ -36,7 +39,7 @@ pub struct BlockInfo {
 }
 
 impl BlockInfo {
-    fn new(header: &FrameHeader) -> BlockInfo
+    pub(super) fn new(header: &FrameHeader) -> BlockInfo
         ensures { result ≡ info_of_header header.now }
     {
         let (is_variable, number) = match header.block_time {
@@ -48,6 +51,7 @@ impl BlockInfo {
             channels: u32::from(header.channel_assignment.channels()),
             duration: u32::from(header.block_size),
             bit_depth: header.bit_depth,
+            header_bit_depth: header.header_bit_depth,
             sample_rate: header.sample_rate,
             is_variable,
             number,

@@ -3,7 +3,7 @@ use Rattle.std.specs.Prelude.{Ok}
 use Rattle.std.specs.Option.{option_map}
 use Rattle.claxon.specs.FrameReader.{stream_with}
 use Rattle.claxon_c.specs.Info.{known_stream}
-use Rattle.claxon_c.proofs.BlockCalls.{at_position, decoded_there, header_at_position, shown_there, too_small_there}
+use Rattle.claxon_c.proofs.BlockCalls.{at_position, decoded_there, header_at_position, too_small_there}
 use Rattle.claxon_c.proofs.HeadersAtStart.{not_larger_there}
 use Rattle.claxon_c.proofs.next_block.next_block.Goals as goal
 
@@ -25,8 +25,7 @@ returns-then-has_larger c =
     let s : start ≡ min (length bytes) from = search rules in
     let there = header_at_position info bytes from capacity start s known stream header same c.header_there-header.ensures in
     let shown = c.show.new.block in
-    let shows = shown_there info bytes from capacity start s header shown c.show.ensures in
-    (refl, inl (too_small_there info bytes from capacity start s header shown there (c.if-has_larger.ensures.0 refl) shows, refl))
+    (refl, inl (too_small_there info bytes from capacity start s header shown there (c.if-has_larger.ensures.0 refl) c.show.ensures, refl))
 
 pub returns-in-Ok-Some : goal.returns-in-Ok-Some
 returns-in-Ok-Some c =
@@ -43,9 +42,8 @@ returns-in-Ok-Some c =
     let there = header_at_position info bytes from capacity start s known stream header same c.header_there-header.ensures in
     let found = c.in-Ok-Some.found in
     let shown = c.show-in-Ok-Some.new.block in
-    let shows = shown_there info bytes from capacity start s header shown c.show-in-Ok-Some.ensures in
     let h = at_position known stream bytes from start (Ok (Some found)) c.block_at_start.new.taken same s (rw (c.in-Ok-Some.is, c.in-Ok-Some.field-0-is) at c.block_at_start.ensures) in
-    (decoded_there info bytes from capacity start s found c.block_at_start.new.taken header shown h there (unless_true c.if-has_larger.ensures) shows, refl)
+    (decoded_there info bytes from capacity start s found c.block_at_start.new.taken header shown h there (unless_true c.if-has_larger.ensures) c.show-in-Ok-Some.ensures, refl)
 
 pub returns-in-Ok-None : goal.returns-in-Ok-None
 returns-in-Ok-None c =

@@ -1,5 +1,4 @@
-use Rattle.std.proofs.Common.{ℕ, List, refl, subst}
-use Rattle.claxon_c.specs.NextBlock.{ShowsBytes}
+use Rattle.std.proofs.Common.{refl}
 use Rattle.claxon_c.proofs.SeekCalls.{found, not_found, refused, stopped}
 use Rattle.claxon_c.proofs.seek.claxon_find_frame.Goals as goal
 
@@ -7,8 +6,7 @@ pub returns-in-Found : goal.returns-in-Found
 returns-in-Found c =
     let e = rw c.in-Found.is at c.in-Ok.ensures in
     let f = e.found_is_first in
-    let shows = subst (λ (z : List ℕ). ShowsBytes z c.in-Found.frame.block c.from_header.result) c.bytes_from.ensures c.from_header.ensures in
-    let k = found c.args.info.now c.args.bytes.now c.args.at.now c.args.budget.now c.find_frame.new.budget c.args.block.now c.from_header.result c.known_stream.result c.known_stream.ensures.is_known c.in-Found.frame (f.0, f.1, f.2, e.budget_is_spent) shows in
+    let k = found c.args.info.now c.args.bytes.now c.args.at.now c.args.budget.now c.find_frame.new.budget c.args.block.now c.from_header.result c.known_stream.result c.known_stream.ensures.is_known c.in-Found.frame (f.0, f.1, f.2, e.budget_is_spent) c.from_header.ensures in
     record { found_is_first = k.found_is_first; first_is_found = k.first_is_found; no_more_is_none = k.no_more_is_none; none_is_no_more = k.none_is_no_more; undecided_is_first = k.undecided_is_first; status_is_known = k.status_is_known; stops_over_budget = k.stops_over_budget; budget_is_spent = k.budget_is_spent; out_of_memory_after_header = k.out_of_memory_after_header; block_is_kept = k.block_is_kept; search_is_kept = k.search_is_kept }
 
 pub returns-in-NotFound : goal.returns-in-NotFound

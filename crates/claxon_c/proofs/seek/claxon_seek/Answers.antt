@@ -1,13 +1,11 @@
-use Rattle.std.proofs.Common.{ℕ, List, refl, subst}
-use Rattle.claxon_c.specs.NextBlock.{ShowsBytes}
+use Rattle.std.proofs.Common.{refl}
 use Rattle.claxon_c.proofs.SeekCalls.{seek_found, seek_not_found, seek_refused, seek_stopped}
 use Rattle.claxon_c.proofs.seek.claxon_seek.Goals as goal
 
 pub returns-in-Ok-Found : goal.returns-in-Ok-Found
 returns-in-Ok-Found c =
     let e = rw (c.in-Ok-Found.is, c.in-Ok-Found.field-0-is) at c.seek.ensures in
-    let shows = subst (λ (z : List ℕ). ShowsBytes z c.in-Ok-Found.found.block c.from_header.result) c.bytes_from.ensures c.from_header.ensures in
-    let k = seek_found c.args.info.now c.args.bytes.now c.args.sample c.args.budget c.args.at.now c.args.block.now c.from_header.result c.known_stream-known.result c.known_stream-known.ensures.is_known c.in-Ok-Found.found e.is_sound shows in
+    let k = seek_found c.args.info.now c.args.bytes.now c.args.sample c.args.budget c.args.at.now c.args.block.now c.from_header.result c.known_stream-known.result c.known_stream-known.ensures.is_known c.in-Ok-Found.found e.is_sound c.from_header.ensures in
     record { is_sound = k.is_sound; is_complete = k.is_complete; no_more_is_none = k.no_more_is_none; none_is_no_more = k.none_is_no_more; status_is_known = k.status_is_known; stops_over_budget = k.stops_over_budget; out_of_memory_after_header = k.out_of_memory_after_header; is_kept = k.is_kept }
 
 pub returns-in-Ok-NotFound : goal.returns-in-Ok-NotFound

@@ -1,4 +1,4 @@
-use Rattle.std.proofs.Common.{Option, Some, drop, refl, subst}
+use Rattle.std.proofs.Common.{Option, Some, drop, refl, rules, subst}
 use Rattle.claxon.specs.StreamInfos.{StreamInfo}
 use Rattle.claxon_seek.specs.Find.{WantedFrame}
 use Rattle.claxon_seek.specs.SeekBlock.{HasBlock}
@@ -19,7 +19,8 @@ give-requires-clause-duration c =
 pub give-requires-clause-inside : goal.give-requires-clause-inside
 give-requires-clause-inside c =
     let e = rw (c.in-Ok-Found.is, c.in-Ok-Found.field-0-is) at c.seek_block.ensures in
-    ends_inside c.known_stream.result c.args.bytes.now c.args.sample c.in-Ok-Found.found e.is_sound.1 e.is_decoded
+    let inside = ends_inside c.known_stream.result c.args.bytes.now c.args.sample c.in-Ok-Found.found e.is_sound.1 e.is_decoded in
+    search (rules, inside)
 
 pub returns-in-Ok-Found : goal.returns-in-Ok-Found
 returns-in-Ok-Found c =

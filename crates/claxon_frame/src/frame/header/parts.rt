@@ -63,6 +63,9 @@ pub struct FrameHeader {
     pub channel_assignment: ChannelAssignment,
     pub bit_depth: u32,
 
+    /// The bit depth, if the header gives one.
+    pub header_bit_depth: Option<u32>,
+
     /// The sample rate in Hz, if the header gives one.
     pub sample_rate: Option<u32>,
     pub block_time: BlockTime,

@@ -18,6 +18,7 @@ fn header_alone(rt: HostRuntime) {
             channels: 2,
             duration: 1,
             bit_depth: 16,
+            header_bit_depth: Some(16),
             sample_rate: Some(44_100),
             is_variable: false,
             number: 0,

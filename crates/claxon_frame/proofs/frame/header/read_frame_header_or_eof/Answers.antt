@@ -8,6 +8,7 @@ use Rattle.claxon_input.proofs.ConsecutiveCalls.{StopsWith, stops_after, consume
 use Rattle.claxon_format.specs.read.Frame.{Start, start_of, start_at}
 use Rattle.claxon_frame.specs.FrameStart.{fields_view, stream_format_view}
 use Rattle.claxon_format.specs.read.Header.{fields_with_crc_at, bit_depth_at}
+use Rattle.claxon_frame.proofs.BitDepthCodes.{given_by_code}
 use Rattle.claxon_frame.proofs.CrcOverBorrow.{gives_or_eof_loans}
 use Rattle.claxon_input.proofs.Memory.{stops_not_out_of_memory}
 use Rattle.claxon_input.proofs.FieldOrEof.{after_first, exit_or_eof, first_stops, some_ok, some_stops}
@@ -48,7 +49,7 @@ returns-clause-is_read g c =
     let stream = stream_format_view c.args.stream in
     let f = fields_view c.in-Some.fields in
     some_ok 2 (start_at stream) (start_after stream f) (after_first 2 fields_with_crc_at (start_at stream) (start_after stream f) (after_crc stream f) (rw c.in-Some.is at c.in_ok-fields.ensures))
-    (consumes_map _ (c.in_ok-bit_depth.ensures.gives _) (λ p. rw (p, c.time_of_block.ensures) refl))
+    (consumes_map _ (c.in_ok-bit_depth.ensures.gives _) (λ p. rw (p, c.time_of_block.ensures, given_by_code c.in-Some.fields.bit_depth c.in-Some.fields.has_code) refl))
 
 pub returns-in_err-bit_depth-clause-no_memory : goal.returns-in_err-bit_depth-clause-no_memory
 returns-in_err-bit_depth-clause-no_memory g c =

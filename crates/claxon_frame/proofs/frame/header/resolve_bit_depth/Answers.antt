@@ -25,7 +25,7 @@ named_read stream f bits s e h =
     let n = code_names (known_bit_depth stream) bits h in
     let few = n.few in
     let k : ltb 32 (bits + 1) ≡ false = le-ltb _ _ (omega arith) in
-    rw (e, n.value, k, and_false (not (ltb f.channels 8))) refl
+    rw (e, n.value, k, and_false (not (ltb f.channel_code 8))) refl
 
 -- a side channel has one bit more at most
 side_fits : (a : ChannelAssignment) (bits : ℕ) → bits ≤ 24 → max_bit_depth a bits ≤ 32
@@ -43,9 +43,9 @@ returns-in-Some-clause-gives c here =
     consumes_none here _ (named_read (stream_format_view c.args.stream) (fields_view c.args.fields.now) c.in-Some.bits here.remaining (rw c.in-Some.is refl) (c.args.fields.now.has_code c.in-Some.bits c.in-Some.is))
 
 -- the bit depth of the stream, if there is no side channel
-stream_read : (bit_depth : ℕ) (f : Fields) (s : List ℕ) → f.bit_depth_code ≡ 0 → f.channels < 8 → bit_depth_at (Some bit_depth) f s ≡ Done bit_depth s
+stream_read : (bit_depth : ℕ) (f : Fields) (s : List ℕ) → f.bit_depth_code ≡ 0 → f.channel_code < 8 → bit_depth_at (Some bit_depth) f s ≡ Done bit_depth s
 unfolding bit_depth_at
-stream_read bit_depth f s e lt = let k : ltb f.channels 8 ≡ true = lt-ltb _ _ lt in rw (e, k) refl
+stream_read bit_depth f s e lt = let k : ltb f.channel_code 8 ≡ true = lt-ltb _ _ lt in rw (e, k) refl
 
 independent_read : (stream : Option KnownStreamFormat) (fields : HeaderFields) (format : KnownStreamFormat) (n : ℕ) (s : List ℕ) → stream ≡ Some format → fields.bit_depth ≡ None → fields.channel_assignment ≡ Independent n → n ≤ 8
     → bit_depth_at (known_bit_depth (stream_format_view stream)) (fields_view fields) s ≡ Done format.bit_depth s

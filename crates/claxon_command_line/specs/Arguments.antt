@@ -1,0 +1,109 @@
+-- The arguments of a command line.
+use Rattle.std.specs.Prelude.{
+  ◌≡◌,
+  ◌⊎◌,
+  ℕ,
+  ◌<◌,
+  ◌≤◌,
+  true,
+  false,
+  List,
+  [],
+  ◌∷◌,
+  codes,
+  get_or,
+  length,
+  map,
+  IfOk,
+  Option,
+  OnSome,
+  Some,
+  None,
+  Result,
+}
+use Rattle.std.specs.Borrow.{Bor}
+use Rattle.std.specs.String.{string_bytes}
+use Rattle.std.specs.declared.string.String.{String}
+use Rattle.claxon_command_line.specs.declared.arguments.Argument.{Argument}
+use Rattle.claxon_command_line.specs.declared.arguments.Argument.TheVariants.{
+  Operand,
+  Option as OptionWord,
+}
+use Rattle.claxon_command_line.specs.declared.arguments.Arguments.{Arguments}
+use Rattle.claxon_command_line.specs.declared.arguments.Operands.{Operands}
+use Rattle.claxon_command_line.specs.declared.arguments.Notice.{Notice}
+use Rattle.claxon_command_line.specs.declared.arguments.Notice.TheVariants.{
+  Help,
+  NotUtf8,
+  UnknownCommand,
+  UnknownOption,
+  Usage,
+  Version,
+}
+
+-- the words that are left
+abbrev pub words_of : Arguments → List (List ℕ)
+words_of a = map string_bytes a.words.now
+
+-- their number
+abbrev pub words_left : Arguments → ℕ
+words_left a = length a.words.now
+
+-- Fewer words are left after an argument.
+abbrev pub TakesWord : {A : Type 0} → Option A → Arguments → Arguments → Type 0
+TakesWord r old new = OnSome r (words_left new < words_left old)
+
+-- the word that ends the options
+abbrev pub end_of_options : List ℕ
+end_of_options = codes "--"
+
+-- A word that begins with a hyphen, which isn't all of it.
+abbrev pub HasHyphen : List ℕ → Type 0
+HasHyphen word = (get_or word 0 0 ≡ 45) × (2 ≤ length word)
+
+-- Such a word other than `--`.
+abbrev pub IsOption : List ℕ → Type 0
+IsOption word = HasHyphen word × (word ≡ end_of_options → ⊥)
+
+-- All words are left, and options may be among them.
+abbrev pub AreArgumentsOf : {A : Type 0} → List (String A) → Arguments → Type 0
+AreArgumentsOf words a = (words_of a ≡ map string_bytes words) × (a.has_options ≡ true)
+
+-- The next word is taken; None says that there is none.
+abbrev pub ValueIsSound : Arguments → Option (Bor (List ℕ)) → Arguments → Type 0
+ValueIsSound old None new =
+    (words_of old ≡ []) × (words_of new ≡ []) × (new.has_options ≡ old.has_options)
+ValueIsSound old (Some word) new =
+    (words_of old ≡ word.now ∷ words_of new) × (new.has_options ≡ old.has_options)
+
+-- The next word is an option, where there may be one; or any other word but `--`, or that after
+-- `--`, is an operand.
+abbrev pub NextIsSound : Arguments → Option Argument → Arguments → Type 0
+NextIsSound old None new =
+    (words_of old ≡ []) ⊎ ((old.has_options ≡ true) × (words_of old ≡ end_of_options ∷ []))
+NextIsSound old (Some (OptionWord word)) new =
+    IsOption word.now × (old.has_options ≡ true) × (new.has_options ≡ true)
+    × (words_of old ≡ word.now ∷ words_of new)
+NextIsSound old (Some (Operand word)) new =
+    ((old.has_options ≡ true → HasHyphen word.now → ⊥) × (new.has_options ≡ old.has_options)
+    × (words_of old ≡ word.now ∷ words_of new))
+    ⊎ ((old.has_options ≡ true) × (new.has_options ≡ false)
+    × (words_of old ≡ end_of_options ∷ word.now ∷ words_of new))
+
+-- the number of operands in all
+abbrev pub operands_total : Operands → ℕ
+operands_total operands = operands.count
+
+-- There is one operand or more.
+abbrev pub ParseIsSound : Result Operands Notice → Type 0
+ParseIsSound r = IfOk r (λ operands. 1 ≤ operands_total operands)
+
+-- `--help` and `--version` are options of each command, and any other is unknown.
+abbrev pub IsNoticeOf : List ℕ → Notice → Type 0
+IsNoticeOf option Help = option ≡ codes "--help"
+IsNoticeOf option Version = option ≡ codes "--version"
+IsNoticeOf option (UnknownOption name) =
+    (name.now ≡ option) × (option ≡ codes "--help" → ⊥) × (option ≡ codes "--version" → ⊥)
+IsNoticeOf option (UnknownCommand name) = ⊥
+IsNoticeOf option NotUtf8 = ⊥
+IsNoticeOf option Usage = ⊥

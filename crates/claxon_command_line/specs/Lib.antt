@@ -1,0 +1,6 @@
+pub mod Arguments
+pub mod Progress
+pub mod Text
+pub mod Json
+pub mod Names
+pub mod Messages

@@ -1,0 +1,69 @@
+//! What lies in a folder.
+use crate::names::read_name;
+use claxon_input::error::Result;
+use claxon_input::input::BufferedReader;
+use std::alloc::{AllocError, Global};
+use std::rt::Files;
+use std::{fs, result};
+
+/// Whether this is the name of a folder, or of a symbolic link to one.
+pub fn is_folder<Q: Files>(rt: &Q, name: &str) -> bool {
+    match fs::metadata(rt, name) {
+        Ok(metadata) => metadata.is_dir(),
+        Err(_) => false,
+    }
+}
+
+/// Whether this is the name of a folder itself.
+pub fn is_real_folder<Q: Files>(rt: &Q, name: &str) -> bool {
+    match fs::symlink_metadata(rt, name) {
+        Ok(metadata) => metadata.is_dir(),
+        Err(_) => false,
+    }
+}
+
+/// Adds the paths of what lies in a folder, so that they are taken from the end in order of their names.
+///
+/// # Errors
+///
+/// An `IoError` if the folder can't be read, `OutOfMemory` if memory is refused.
+pub fn add_contents<Q: Files + AllocGlobal>(
+    rt: &Q,
+    folder: &str,
+    paths: &mut Vec<Vec<u8>>,
+) -> Result<()> {
+    let alloc = rt.alloc();
+    let mut front = Vec::new(alloc);
+    front.extend_from_slice(folder.as_bytes())?;
+    if !folder.ends_with('/') {
+        front.push(b'/')?;
+    }
+    let mut names = BufferedReader::new(alloc, rt.open_dir(folder)?)?;
+    let mut contents = Vec::new(alloc);
+    let mut name = Vec::new(alloc);
+    for _ in 0..u64::MAX {
+        if !read_name(&mut names, &mut name)? {
+            break;
+        }
+        if !is_dots(name.as_slice()) {
+            contents.push(joined(alloc, front.as_slice(), name.as_slice())?)?;
+        }
+    }
+    contents.sort_unstable_by(|a, b| b.as_slice().cmp(a.as_slice()));
+    for path in contents {
+        paths.push(path)?;
+    }
+    Ok(())
+}
+
+// Whether the name is that of the folder itself, or of the one above it.
+fn is_dots(name: &[u8]) -> bool {
+    matches!(name, b"." | b"..")
+}
+
+fn joined(alloc: Global, front: &[u8], back: &[u8]) -> result::Result<Vec<u8>, AllocError> {
+    let mut joined = Vec::new(alloc);
+    joined.extend_from_slice(front)?;
+    joined.extend_from_slice(back)?;
+    Ok(joined)
+}

@@ -1,0 +1,4 @@
+pub mod Program
+pub mod Facts
+pub mod VerifyOptions
+pub mod WavStatus

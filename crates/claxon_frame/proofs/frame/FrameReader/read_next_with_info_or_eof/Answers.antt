@@ -1,0 +1,34 @@
+use Rattle.std.proofs.Common.{refl}
+use Rattle.claxon_frame.specs.DecodedFrame.{frame_answer}
+use Rattle.claxon_frame.specs.FrameReader.{block_view}
+use Rattle.claxon_frame.proofs.DecodedFrames.{decoded_complete, decoded_sound, decoded_unambiguous, reads_frame}
+use Rattle.claxon_frame.proofs.FrameSteps.{stream_is_bit_depth}
+use Rattle.claxon_frame.proofs.FramePromises.{frame_promises, frame_eof_is_none, memory_is, when_out_of_memory}
+use Rattle.claxon_frame.proofs.frame.FrameReader.read_next_with_info_or_eof.Goals as goal
+
+pub returns : goal.returns
+returns g c =
+    let exact = c.read_frame_exact in
+    let r = frame_answer exact.result in
+    let is_bit_depth = stream_is_bit_depth c.args.self.now.stream in
+    let p = frame_promises block_view _ is_bit_depth r _ _ exact.ensures.gives in
+    record {
+      is_sound = decoded_sound _ is_bit_depth exact.result _ _ p.is_sound exact.ensures.info_is_read;
+      is_complete = decoded_complete _ is_bit_depth exact.result _ _ p.is_complete exact.ensures.info_is_read;
+      none_is_eof = p.none_is_eof;
+      eof_is_none = frame_eof_is_none block_view _ is_bit_depth r _ _ exact.ensures.gives _ exact.ensures.buffer_too_small;
+      failure_is_err = p.failure_is_err;
+      fault_is_sound = p.fault_is_sound;
+      fault_is_complete = p.fault_is_complete;
+      else_io_error = p.else_io_error;
+      leaves_rest = p.leaves_rest;
+      is_unambiguous = decoded_unambiguous _ is_bit_depth;
+      out_of_memory_after_header = memory_is _ _ r _ _ exact.ensures.buffer_too_small;
+      max_capacity_is_enough = when_out_of_memory r exact.ensures.max_capacity;
+      keeps_capacity = exact.ensures.keeps_capacity;
+      stream = refl;
+      has_samples = exact.ensures.has_samples;
+      has_block_bounds = exact.ensures.has_block_bounds;
+      says_block = exact.ensures.says_block;
+      reads_frame = reads_frame _ is_bit_depth _ r _ _ exact.ensures.gives exact.ensures.buffer_too_small;
+    }

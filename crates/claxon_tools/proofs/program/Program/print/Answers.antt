@@ -1,8 +1,0 @@
-use Rattle.claxon_tools.proofs.Printing.{prints}
-use Rattle.claxon_tools.proofs.program.Program.print.Goals as goal
-
-pub returns-in-Help : goal.returns-in-Help
-returns-in-Help g c = rw c.in-Help.is (prints g.W.Write.contents _ _ _ _ _ c.help_text.ensures c.print_text.ensures)
-
-pub returns-in-Version : goal.returns-in-Version
-returns-in-Version g c = rw c.in-Version.is (prints g.W.Write.contents _ _ _ _ _ c.version_text.ensures c.print_text-in-Version.ensures)

@@ -1,7 +1,0 @@
-use Rattle.std.proofs.Common.{rules}
-use Rattle.claxon_tools.specs.Text.{escaped_char}
-use Rattle.claxon_tools.proofs.text.push_escaped.Goals as goal
-
-pub returns-in-10 : goal.returns-in-10
-unfolding escaped_char
-returns-in-10 g c = search rules

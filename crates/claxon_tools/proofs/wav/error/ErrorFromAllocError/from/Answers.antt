@@ -1,5 +1,0 @@
-use Rattle.std.proofs.Common.{rules}
-use Rattle.claxon_tools.proofs.wav.error.ErrorFromAllocError.from.Goals as goal
-
-pub returns : goal.returns
-returns c = search rules

@@ -1,5 +1,0 @@
-use Rattle.std.proofs.Common.{rules}
-use Rattle.claxon_tools.proofs.wav.samples.silence.Goals as goal
-
-pub returns-then-size-eq1 : goal.returns-then-size-eq1
-returns-then-size-eq1 c = search rules

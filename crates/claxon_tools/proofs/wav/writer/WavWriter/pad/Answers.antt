@@ -1,5 +1,0 @@
-use Rattle.std.proofs.Common.{rules}
-use Rattle.claxon_tools.proofs.wav.writer.WavWriter.pad.Goals as goal
-
-pub returns-clause-is_sound : goal.returns-clause-is_sound
-returns-clause-is_sound g c = search rules

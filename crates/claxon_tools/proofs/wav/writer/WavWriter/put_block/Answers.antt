@@ -1,8 +1,0 @@
-use Rattle.std.proofs.Common.{rules}
-use Rattle.claxon_tools.proofs.wav.writer.WavWriter.put_block.Goals as goal
-
-pub returns-clause-is_sound : goal.returns-clause-is_sound
-returns-clause-is_sound g c = search rules
-
-pub returns-then-size-free-clause-fault_is_sound : goal.returns-then-size-free-clause-fault_is_sound
-returns-then-size-free-clause-fault_is_sound g c = search rules

@@ -1,0 +1,181 @@
+-- What is said of a stream that was verified, and the exit status.
+use Rattle.std.specs.Prelude.{
+  ◌≡◌,
+  ◌↔◌,
+  ◌⊎◌,
+  ◌==◌,
+  ℕ,
+  Bool,
+  true,
+  false,
+  List,
+  ◌++◌,
+  codes,
+  if◌then◌else◌,
+  decimal,
+  Option,
+  None,
+  Some,
+  Result,
+  IsTrue,
+}
+use Rattle.std.specs.declared.alloc.AllocError.{AllocError}
+use Rattle.std.specs.declared.io.ErrorKind.TheVariants.{UnexpectedEof}
+use Rattle.std.specs.declared.string.String.{String}
+use Rattle.std.specs.IoError.{error_kind}
+use Rattle.claxon.specs.Codes.{when◌then◌else◌}
+use Rattle.claxon.specs.Error.{IsFault}
+use Rattle.claxon.specs.Errors.{Error}
+use Rattle.claxon.specs.Errors.TheVariants.{FormatError, IoError, OutOfMemory, Unsupported}
+use Rattle.claxon.specs.Fault.{Id3Header, SampleRate as SampleRateFault, SideTooWide}
+use Rattle.claxon.specs.StreamInfos.{StreamInfo}
+use Rattle.claxon_command_line.specs.Messages.{ErrorTextIsSound}
+use Rattle.claxon_command_line.specs.Text.{IsText, count_text}
+use Rattle.claxon_verdict.specs.declared.verdict.Outcome.{Outcome}
+use Rattle.claxon_verdict.specs.declared.verdict.Outcome.TheVariants.{
+  NotSupported as SomeNotSupported,
+  Right as AllRight,
+  Wrong as SomeWrong,
+}
+use Rattle.claxon_verdict.specs.declared.verdict.Verdict.{Verdict}
+use Rattle.claxon_verdict.specs.declared.verdict.Verdict.TheVariants.{
+  NotRead,
+  NotSupported,
+  Right,
+  Wrong,
+}
+use Rattle.claxon_verify.specs.declared.frames.FrameError.{FrameError}
+use Rattle.claxon_command_line.specs.declared.messages.Part.TheVariants.{Frame}
+use Rattle.claxon_verify.specs.declared.report.Damage.{Damage}
+use Rattle.claxon_verify.specs.declared.report.Damage.TheVariants.{
+  BitDepth,
+  BlockingStrategy,
+  Channels,
+  Fault as NotDecoded,
+  Missing,
+  Repeated,
+  SampleRate,
+}
+use Rattle.claxon_verify.specs.declared.report.Place.{Place}
+use Rattle.claxon_verify.specs.declared.report.Gap.{Gap}
+use Rattle.claxon_verify.specs.declared.report.Report.{Report}
+use Rattle.claxon_verify.specs.declared.report.Trailing.{Trailing}
+use Rattle.claxon_verify.specs.declared.report.Trailing.TheVariants.{Ape, Id3v1, Other, Zeros}
+
+-- ---- what is said of a file
+
+-- An error of reading a file, or of memory, and not of its bytes.
+abbrev pub IsUnread : Error → Type 0
+IsUnread (IoError cause) = error_kind cause ≡ UnexpectedEof → ⊥
+IsUnread (FormatError text) = ⊥
+IsUnread (Unsupported text) = ⊥
+IsUnread OutOfMemory = Unit {0}
+
+-- an error that names a feature as unsupported
+abbrev pub is_unsupported_feature : Error → Bool
+is_unsupported_feature (Unsupported text) = true
+is_unsupported_feature error = false
+
+-- A head that the format allows and the decoder refuses: one with an ID3v2 tag in front, with a
+-- sample rate of 0 or above 655,350 Hz, or with a feature that it names as unsupported.
+abbrev pub IsUnsupportedHead : Error → Type 0
+IsUnsupportedHead error = IsFault Id3Header error
+    ⊎ (IsFault SampleRateFault error ⊎ (is_unsupported_feature error ≡ true))
+
+-- A file is wrong if an error of its bytes isn't one of these.
+abbrev pub ErrorVerdictIsSound : Error → Verdict → Type 0
+ErrorVerdictIsSound error Right = ⊥
+ErrorVerdictIsSound error Wrong = (IsUnread error → ⊥) × (IsUnsupportedHead error → ⊥)
+ErrorVerdictIsSound error (NotSupported reason) = (IsUnread error → ⊥) × IsUnsupportedHead error
+ErrorVerdictIsSound error NotRead = IsUnread error
+
+-- A frame that the format allows and the decoder refuses: one of a stream of 32 bits, with the code
+-- for these or a side channel of one bit more.
+abbrev pub IsUnsupportedFrame : StreamInfo → FrameError → Type 0
+IsUnsupportedFrame info fault =
+    (info.bits_per_sample ≡ 32) × (IsTrue fault.is_32_bit ⊎ IsFault SideTooWide fault.error)
+
+abbrev pub IsUnsupportedDamage : StreamInfo → Damage → Type 0
+IsUnsupportedDamage info (NotDecoded fault) = IsUnsupportedFrame info fault
+IsUnsupportedDamage info damage = ⊥
+
+-- The first place is such a frame.
+abbrev pub FirstIsUnsupported : StreamInfo → Option Place → Type 0
+FirstIsUnsupported info None = ⊥
+FirstIsUnsupported info (Some place) = IsUnsupportedDamage info place.damage
+
+-- A stream that isn't right is not supported if its first place is such a frame, and else wrong.
+abbrev pub ReportVerdictIsSound : {A : Type 0} → Report A → Verdict → Type 0
+ReportVerdictIsSound report Right = report.is_right ≡ true
+ReportVerdictIsSound report Wrong =
+    (report.is_right ≡ false) × (FirstIsUnsupported report.info report.found.places.first → ⊥)
+ReportVerdictIsSound report (NotSupported reason) =
+    (report.is_right ≡ false) × FirstIsUnsupported report.info report.found.places.first
+ReportVerdictIsSound report NotRead = ⊥
+
+-- ---- the exit status
+
+-- what a file adds to it
+abbrev pub outcome_of : Verdict → Outcome
+outcome_of Right = AllRight
+outcome_of Wrong = SomeWrong
+outcome_of (NotSupported reason) = SomeNotSupported
+outcome_of NotRead = SomeWrong
+
+-- One file that is wrong or can't be read is enough, and all are right only together.
+pub record IsWorst (one other all : Outcome) : Type 0 where
+  pub wrong : (all ≡ SomeWrong) ↔ ((one ≡ SomeWrong) ⊎ (other ≡ SomeWrong))
+  pub right : (all ≡ AllRight) ↔ ((one ≡ AllRight) × (other ≡ AllRight))
+
+abbrev pub status_of : Outcome → ℕ
+status_of AllRight = 0
+status_of SomeWrong = 1
+status_of SomeNotSupported = 3
+
+-- ---- what is wrong, as text
+
+-- Of a frame that isn't decoded an Ok says that 32-bit samples aren't supported where it is refused
+-- for them, or else has the error's text.
+abbrev pub FrameErrorTextIsSound : {A : Type 0} → FrameError → Result (String A) AllocError → Type 0
+FrameErrorTextIsSound fault r =
+    when fault.is_32_bit then IsText (codes "32-bit samples are not supported") r
+    else ErrorTextIsSound Frame fault.error r
+
+-- frames, or samples where the block size is variable
+abbrev pub counted_thing : Bool → List ℕ
+counted_thing is_variable = if is_variable then codes "sample" else codes "frame"
+
+-- how many there are, and what they are
+abbrev pub gap_text : Gap → List ℕ → List ℕ
+gap_text gap what =
+    count_text gap.count (counted_thing gap.is_variable) ++ codes " "
+    ++ (if gap.count == 1 then codes "is" else codes "are") ++ what
+
+-- An Ok says what is wrong, and what the streaminfo says.
+abbrev pub DamageTextIsSound : {A : Type 0} → StreamInfo → Damage → Result (String A) AllocError
+    → Type 0
+DamageTextIsSound info (NotDecoded fault) r = FrameErrorTextIsSound fault r
+DamageTextIsSound info (Channels count) r =
+    IsText (count_text count (codes "channel")
+    ++ (codes ", but the streaminfo says " ++ decimal info.channels)) r
+DamageTextIsSound info (BitDepth count) r =
+    IsText (count_text count (codes "bit")
+    ++ (codes " per sample, but the streaminfo says " ++ decimal info.bits_per_sample)) r
+DamageTextIsSound info (SampleRate rate) r =
+    IsText (decimal rate ++ (codes " Hz, but the streaminfo says " ++ decimal info.sample_rate)) r
+DamageTextIsSound info BlockingStrategy r =
+    IsText (codes "the blocking strategy differs from the first frame's") r
+DamageTextIsSound info (Missing gap) r = IsText (gap_text gap (codes " missing")) r
+DamageTextIsSound info (Repeated gap) r = IsText (gap_text gap (codes " repeated")) r
+
+-- what a tag or zeros after the last frame are
+abbrev pub trailing_name : Trailing → List ℕ
+trailing_name Id3v1 = codes ": an ID3v1 tag"
+trailing_name Ape = codes ": an APE tag"
+trailing_name Zeros = codes ": zeros"
+trailing_name Other = codes ""
+
+-- so many bytes after the last frame
+abbrev pub trailing_text : ℕ → Trailing → List ℕ
+trailing_text bytes trailing =
+    count_text bytes (codes "byte") ++ codes " after the last frame" ++ trailing_name trailing

@@ -1,0 +1,170 @@
+//! What is printed of a file that was verified, as JSON (RFC 8259).
+use crate::text::{notes, place_text};
+use crate::verdict::Verdict;
+use claxon::Error;
+use claxon_command_line::json::push_json_string;
+use claxon_command_line::messages::{Part, error_text};
+use claxon_verify::report::{Md5Verdict, Place, Report};
+use std::alloc::{AllocError, Global};
+
+#[cfg(test)]
+mod tests;
+
+/// The object of a file with a report, and a line feed.
+pub fn report_object(
+    alloc: Global,
+    name: &str,
+    report: &Report,
+    verdict: Verdict,
+) -> Result<String, AllocError> {
+    let mut text = start_text(alloc, name, report, verdict)?;
+    let places = &report.found.places;
+    if let Some(first) = &places.first {
+        text.push_str(place_object(alloc, report, 0, first)?.as_str())?;
+    }
+    for (index, place) in places.more.iter().enumerate() {
+        text.push_str(place_object(alloc, report, index + 1, place)?.as_str())?;
+    }
+    text.push_str(end_text(alloc, report, verdict)?.as_str())?;
+    Ok(text)
+}
+
+// The object up to its places.
+fn start_text(
+    alloc: Global,
+    name: &str,
+    report: &Report,
+    verdict: Verdict,
+) -> Result<String, AllocError> {
+    let mut text = name_text(alloc, name, verdict)?;
+    for (member, number) in numbers(report) {
+        write!(&mut text, ",\"{member}\":{number}")?;
+    }
+    if let Some(samples) = report.info.samples {
+        write!(&mut text, ",\"streaminfo_samples\":{samples}")?;
+    }
+    let md5 = md5_word(report.md5);
+    write!(&mut text, ",\"md5\":\"{md5}\",\"places\":[")?;
+    Ok(text)
+}
+
+fn numbers(report: &Report) -> [(&'static str, u64); 5] {
+    let info = &report.info;
+    [
+        ("frames", report.found.frames),
+        ("samples", report.found.samples),
+        ("sample_rate", u64::from(info.sample_rate)),
+        ("channels", u64::from(info.channels)),
+        ("bits_per_sample", u64::from(info.bits_per_sample)),
+    ]
+}
+
+fn md5_word(md5: Md5Verdict) -> &'static str {
+    match md5 {
+        Md5Verdict::NotComputed => "not computed",
+        Md5Verdict::Missing => "none",
+        Md5Verdict::Right => "ok",
+        Md5Verdict::Wrong => "wrong",
+    }
+}
+
+// A place, with a comma before it if it isn't the first: `index` places are before it.
+fn place_object(
+    alloc: Global,
+    report: &Report,
+    index: usize,
+    place: &Place,
+) -> Result<String, AllocError> {
+    let mut text = String::from_str(alloc, if index == 0 { "{" } else { ",{" })?;
+    let (start, end) = (place.start_byte, place.end_byte);
+    write!(&mut text, "\"start_byte\":{start},\"end_byte\":{end}")?;
+    let (first, last) = (place.start_sample, place.end_sample);
+    write!(
+        &mut text,
+        ",\"start_sample\":{first},\"end_sample\":{last},\"what\":"
+    )?;
+    let what = place_text(alloc, report, index, place)?;
+    push_json_string(&mut text, what.as_str())?;
+    text.push_str("}")?;
+    Ok(text)
+}
+
+// The object from the end of its places on, and a line feed.
+fn end_text(alloc: Global, report: &Report, verdict: Verdict) -> Result<String, AllocError> {
+    let mut text = String::from_str(alloc, "]")?;
+    let left_out = report.found.places.left_out;
+    if left_out > 0 {
+        write!(&mut text, ",\"left_out\":{left_out}")?;
+    }
+    push_notes(&mut text, report)?;
+    if let Verdict::NotSupported(reason) = verdict {
+        push_reason(&mut text, reason)?;
+    }
+    text.push_str("}\n")?;
+    Ok(text)
+}
+
+fn push_notes(text: &mut String, report: &Report) -> Result<(), AllocError> {
+    text.push_str(",\"notes\":[")?;
+    let mut before = "";
+    for (is_so, note) in notes(report) {
+        if is_so {
+            text.push_str(before)?;
+            push_json_string(text, note)?;
+            before = ",";
+        }
+    }
+    text.push_str("]")
+}
+
+/// The object of a file that gave this error in place of a report, and a line feed.
+pub fn error_object(
+    alloc: Global,
+    name: &str,
+    error: &Error,
+    verdict: Verdict,
+) -> Result<String, AllocError> {
+    match verdict {
+        Verdict::NotSupported(reason) => object(alloc, name, verdict, reason),
+        _ => {
+            let reason = error_text(alloc, Part::Head, error)?;
+            object(alloc, name, verdict, reason.as_str())
+        }
+    }
+}
+
+/// The object of a file of which nothing is known, but why, and a line feed.
+pub fn object(
+    alloc: Global,
+    name: &str,
+    verdict: Verdict,
+    reason: &str,
+) -> Result<String, AllocError> {
+    let mut text = name_text(alloc, name, verdict)?;
+    push_reason(&mut text, reason)?;
+    text.push_str("}\n")?;
+    Ok(text)
+}
+
+// The begin of an object.
+fn name_text(alloc: Global, name: &str, verdict: Verdict) -> Result<String, AllocError> {
+    let mut text = String::from_str(alloc, "{\"name\":")?;
+    push_json_string(&mut text, name)?;
+    let word = verdict_word(verdict);
+    write!(&mut text, ",\"verdict\":\"{word}\"")?;
+    Ok(text)
+}
+
+fn verdict_word(verdict: Verdict) -> &'static str {
+    match verdict {
+        Verdict::Right => "ok",
+        Verdict::Wrong => "wrong",
+        Verdict::NotSupported(_) => "not supported",
+        Verdict::NotRead => "not read",
+    }
+}
+
+fn push_reason(text: &mut String, reason: &str) -> Result<(), AllocError> {
+    text.push_str(",\"reason\":")?;
+    push_json_string(text, reason)
+}

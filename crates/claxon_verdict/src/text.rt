@@ -1,0 +1,253 @@
+//! What is printed of a file that was verified, as text.
+ghost use Rattle.std.specs.Prelude.{◌≡◌};
+ghost use Rattle.claxon_verdict.specs.Verdict.{
+  DamageTextIsSound,
+  FrameErrorTextIsSound,
+  gap_text,
+  trailing_name,
+  trailing_text,
+};
+ghost use Rattle.claxon_command_line.specs.Text.{IsText};
+
+use crate::verdict::Verdict;
+use claxon::Error;
+use claxon::metadata::StreamInfo;
+use claxon_command_line::messages::{Part, error_text};
+use claxon_command_line::text::count_text;
+use claxon_verify::frames::{FrameError, UNSUPPORTED_32_BIT};
+use claxon_verify::report::{Damage, Found, Gap, Md5Verdict, Place, Places, Report, Trailing};
+use std::alloc::{AllocError, Global};
+
+#[cfg(test)]
+mod tests;
+
+/// The line of a file with a report, without its name.
+pub fn verdict_text(
+    alloc: Global,
+    report: &Report,
+    verdict: Verdict,
+) -> Result<String, AllocError> {
+    match verdict {
+        Verdict::Right => right_text(alloc, report),
+        Verdict::NotSupported(reason) => format!(in alloc; "not supported, {reason}"),
+        Verdict::Wrong | Verdict::NotRead => wrong_text(alloc, report),
+    }
+}
+
+/// The line of a file whose head is refused, without its name.
+pub fn head_text(alloc: Global, error: &Error, verdict: Verdict) -> Result<String, AllocError> {
+    if let Verdict::NotSupported(reason) = verdict {
+        return format!(in alloc; "not supported, {reason}");
+    }
+    let text = error_text(alloc, Part::Head, error)?;
+    format!(in alloc; "wrong, {text}")
+}
+
+fn right_text(alloc: Global, report: &Report) -> Result<String, AllocError> {
+    let mut text = String::from_str(alloc, "ok")?;
+    push_counts(alloc, &mut text, &report.found)?;
+    for (is_so, note) in notes(report) {
+        if is_so {
+            write!(&mut text, ", {note}")?;
+        }
+    }
+    Ok(text)
+}
+
+/// What is unusual in a stream, but not wrong, and whether it is so.
+pub fn notes(report: &Report) -> [(bool, &'static str); 5] {
+    let notes = report.found.notes;
+    [
+        (matches!(report.md5, Md5Verdict::Missing), "no MD5 sum"),
+        (report.info.samples.is_none(), "unknown length"),
+        (
+            notes.has_other_block_size,
+            "a block size is out of the streaminfo's bounds",
+        ),
+        (
+            notes.has_other_frame_size,
+            "a frame size is out of the streaminfo's bounds",
+        ),
+        (notes.has_byte_left, "1 byte after the last frame"),
+    ]
+}
+
+fn wrong_text(alloc: Global, report: &Report) -> Result<String, AllocError> {
+    let mut text = String::from_str(alloc, "wrong")?;
+    push_counts(alloc, &mut text, &report.found)?;
+    let is_expected = push_expected(&mut text, report)?;
+    match &report.found.places.first {
+        Some(first) => push_places(alloc, &mut text, report, first)?,
+        None if is_expected && matches!(report.md5, Md5Verdict::Wrong) => {
+            text.push_str(", but their MD5 sum isn't that of the streaminfo")?;
+        }
+        None => {}
+    }
+    Ok(text)
+}
+
+fn push_counts(alloc: Global, text: &mut String, found: &Found) -> Result<(), AllocError> {
+    push_count(alloc, text, ", ", found.frames, "frame")?;
+    push_count(alloc, text, ", ", found.samples, "sample")
+}
+
+// Adds the number of samples in the streaminfo, if it is another one, and returns whether it isn't.
+fn push_expected(text: &mut String, report: &Report) -> Result<bool, AllocError> {
+    match report.info.samples {
+        Some(expected) if expected != report.found.samples => {
+            write!(text, ", but the streaminfo says {expected}")?;
+            Ok(false)
+        }
+        _ => Ok(true),
+    }
+}
+
+// Adds the number of places, and what the first of them is.
+fn push_places(
+    alloc: Global,
+    text: &mut String,
+    report: &Report,
+    first: &Place,
+) -> Result<(), AllocError> {
+    let total = places_total(&report.found.places);
+    push_count(alloc, text, ", ", total, "place")?;
+    if total > 1 {
+        text.push_str(", the first")?;
+    }
+    let (byte, what) = (first.start_byte, place_text(alloc, report, 0, first)?);
+    write!(text, " at byte {byte}")?;
+    push_count(alloc, text, " after ", first.start_sample, "sample")?;
+    write!(text, ": {what}")
+}
+
+// How many places there are, of which one is the first.
+fn places_total(places: &Places) -> u64 {
+    (places.more.len() as u64)
+        .saturating_add(1)
+        .saturating_add(places.left_out)
+}
+
+/// The line of a place, without the name of its file: `index` places are before it.
+pub fn place_line(
+    alloc: Global,
+    report: &Report,
+    index: usize,
+    place: &Place,
+) -> Result<String, AllocError> {
+    let what = place_text(alloc, report, index, place)?;
+    let (start, end) = (place.start_byte, place.end_byte);
+    let (first, last) = (place.start_sample, place.end_sample);
+    if start == end {
+        return format!(in alloc; "  byte {start}, samples {first} to {last}: {what}");
+    }
+    format!(in alloc; "  bytes {start} to {end}, samples {first} to {last}: {what}")
+}
+
+/// The line of the places that are left out, without the name of their file.
+pub fn left_out_line(alloc: Global, left_out: u64) -> Result<String, AllocError> {
+    let counted = count_text(alloc, left_out, "more place")?;
+    format!(in alloc; "  and {counted}")
+}
+
+/// What is wrong in a place: `index` places are before it. What stands after the last frame is the last of them.
+pub fn place_text(
+    alloc: Global,
+    report: &Report,
+    index: usize,
+    place: &Place,
+) -> Result<String, AllocError> {
+    let places = &report.found.places;
+    let is_last = index == places.more.len() && places.left_out == 0;
+    match report.trailing {
+        Some(trailing) if is_last => {
+            let bytes = place.end_byte.wrapping_sub(place.start_byte);
+            trailing_text(alloc, bytes, trailing)
+        }
+        _ => damage_text(alloc, &report.info, &place.damage),
+    }
+}
+
+// What stands after the last frame: so many bytes.
+fn trailing_text(alloc: Global, bytes: u64, trailing: Trailing) -> Result<String, AllocError>
+    ensures { IsText (trailing_text bytes trailing) result }
+{
+    let counted = count_text(alloc, bytes, "byte")?;
+    let name = trailing_name(trailing);
+    format!(in alloc; "{counted} after the last frame{name}")
+}
+
+fn trailing_name(trailing: Trailing) -> &'static str
+    ensures { result.now ≡ trailing_name trailing }
+{
+    match trailing {
+        Trailing::Id3v1 => ": an ID3v1 tag",
+        Trailing::Ape => ": an APE tag",
+        Trailing::Zeros => ": zeros",
+        Trailing::Other => "",
+    }
+}
+
+// What is wrong.
+fn damage_text(alloc: Global, info: &StreamInfo, damage: &Damage) -> Result<String, AllocError>
+    ensures { DamageTextIsSound info.now damage.now result }
+{
+    match damage {
+        Damage::Fault(fault) => frame_error_text(alloc, fault),
+        Damage::Channels(count) => {
+            let (counted, said) = (
+                count_text(alloc, u64::from(*count), "channel")?,
+                info.channels,
+            );
+            format!(in alloc; "{counted}, but the streaminfo says {said}")
+        }
+        Damage::BitDepth(bits) => {
+            let (counted, said) = (
+                count_text(alloc, u64::from(*bits), "bit")?,
+                info.bits_per_sample,
+            );
+            format!(in alloc; "{counted} per sample, but the streaminfo says {said}")
+        }
+        Damage::SampleRate(rate) => {
+            let (rate, said) = (*rate, info.sample_rate);
+            format!(in alloc; "{rate} Hz, but the streaminfo says {said}")
+        }
+        Damage::BlockingStrategy => String::from_str(
+            alloc,
+            "the blocking strategy differs from the first frame's",
+        ),
+        Damage::Missing(gap) => gap_text(alloc, *gap, " missing"),
+        Damage::Repeated(gap) => gap_text(alloc, *gap, " repeated"),
+    }
+}
+
+// A number of frames, or of samples where the block size is variable, and what they are.
+fn gap_text(alloc: Global, gap: Gap, what: &str) -> Result<String, AllocError>
+    ensures { IsText (gap_text gap what.now) result }
+{
+    let Gap { count, is_variable } = gap;
+    let thing = if is_variable { "sample" } else { "frame" };
+    let verb = if count == 1 { "is" } else { "are" };
+    let counted = count_text(alloc, count, thing)?;
+    format!(in alloc; "{counted} {verb}{what}")
+}
+
+// What is wrong with a frame.
+fn frame_error_text(alloc: Global, fault: &FrameError) -> Result<String, AllocError>
+    ensures { FrameErrorTextIsSound fault.now result }
+{
+    if fault.is_32_bit {
+        return String::from_str(alloc, UNSUPPORTED_32_BIT);
+    }
+    error_text(alloc, Part::Frame, &fault.error)
+}
+
+fn push_count(
+    alloc: Global,
+    text: &mut String,
+    before: &str,
+    count: u64,
+    thing: &str,
+) -> Result<(), AllocError> {
+    let counted = count_text(alloc, count, thing)?;
+    write!(text, "{before}{counted}")
+}

@@ -1,0 +1,13 @@
+use Rattle.claxon_verify.proofs.verify.Goals as goal
+
+pub returns-clause-is_complete : goal.returns-clause-is_complete
+returns-clause-is_complete g c = c.verify_exact.ensures.promises.complete
+
+pub returns-clause-right_is_complete : goal.returns-clause-right_is_complete
+returns-clause-right_is_complete g c = c.verify_exact.ensures.promises.right_complete
+
+pub returns-clause-head_fault_is_complete : goal.returns-clause-head_fault_is_complete
+returns-clause-head_fault_is_complete g c = c.verify_exact.ensures.promises.named
+
+pub returns-clause-out_of_memory_after_header : goal.returns-clause-out_of_memory_after_header
+returns-clause-out_of_memory_after_header g c = c.verify_exact.ensures.promises.memory

@@ -1,0 +1,10 @@
+use Rattle.std.proofs.Common.{rules}
+use Rattle.claxon_verify.proofs.Verified.{promised_through, same_input}
+use Rattle.claxon_verify.proofs.verify_exact.Goals as goal
+
+pub returns-clause-promises : goal.returns-clause-promises
+returns-clause-promises g c =
+    let at = c.new-input.ensures.inner in
+    let n = same_input g.R.ReadBytes.source _ c.new-input.result c.verify_counted.new.input at c.verify_counted.ensures.loans in
+    let k = promised_through g.R.ReadBytes.source _ c.new-input.result c.verify_counted.new.input at c.args.computes_md5 c.verify_counted.result c.verify_counted.ensures.promises in
+    search rules

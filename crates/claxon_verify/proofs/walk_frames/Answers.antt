@@ -1,0 +1,70 @@
+use Rattle.std.proofs.Common.{Option, ap, arith, refl, subst, sym, ◌∙◌}
+use Rattle.std.proofs.lemmas.Result.{err_from_is_err_and}
+use Rattle.std.specs.Prelude.{Ok, Result, Some}
+use Rattle.claxon.specs.FrameReader.{stream_with}
+use Rattle.claxon_verify.specs.Frames.{TellsOf32Bits, decoder_answer, frame_block}
+use Rattle.claxon_verify.specs.Verify.{counted_bytes}
+use Rattle.claxon_verify.specs.declared.frames.DecodedFrame.{DecodedFrame}
+use Rattle.claxon_verify.specs.declared.frames.FrameError.{FrameError}
+use Rattle.claxon_verify.specs.declared.BytesRead.{BytesRead}
+use Rattle.claxon_command_line.proofs.Showing.{shown_quietly, shown_total_same}
+use Rattle.claxon_verify.proofs.Walking.{cut_found, eof_found, fault_added, frame_added, frame_as, frame_exceeds, many_found, none_so_far, position_after, read_as}
+use Rattle.claxon_verify.proofs.walk_frames.Goals.{in-Ok-Some+in_ok-walk-in-Ok-Some, in-Err+in_ok-walk-in-Err+else-is_last}
+use Rattle.claxon_verify.proofs.walk_frames.Goals as goal
+
+pub loop-init : goal.loop-init
+loop-init g c = record { so_far = none_so_far _ _ _ _ _ _ c.new-walk.ensures; quiet = λ none. (refl, refl); total = refl }
+
+pub loop-preserved : goal.loop-preserved
+loop-preserved g c =
+    let h = c.loop.invariant.so_far in
+    let b = counted_bytes g.R.ReadBytes.source c.read_frame-read.new.input in
+    let a = counted_bytes g.R.ReadBytes.source c.loop.input in
+    let read = c.read_frame-read.ensures.is_read in
+    let byte = ap (λ (p : BytesRead). p.bytes) c.crc-start.ensures in
+    record {
+      so_far = elim c.match-read.branch [
+        | in-Ok-Some+in_ok-walk-in-Ok-Some w ↦ (
+            let found = w.in-Ok-Some.is ∙ ap (λ (z : Option (DecodedFrame _)). Ok z) w.in-Ok-Some.field-0-is in
+            let is = ap (decoder_answer frame_block) found in
+            let small = rw byte at w.with_frame.ensures.fits in
+            rw w.walk-is (frame_added h w.in-Ok-Some.frame _ b (λ known front e. byte ∙ position_after g.R.ReadBytes.source c.args.input.now c.loop.input known (h.known known) (h.crcs known) small front e) (read_as {b = b} is read) (frame_as (Some (stream_with c.args.info)) a b found c.read_frame-read.ensures.has_header) w.in_ok-walk-in-Ok-Some.ensures.ok)
+            )
+        | in-Err+in_ok-walk-in-Err+else-is_last w ↦ (
+            let k = w.in_ok-walk-in-Err.ensures.ok in
+            let small = rw byte at w.with_fault.ensures.fits in
+            rw w.walk-is (fault_added h (λ known front e. byte ∙ position_after g.R.ReadBytes.source c.args.input.now c.loop.input known (h.known known) (h.crcs known) small front e) w.in-Err.fault b (read_as {b = b} (ap (decoder_answer frame_block) w.in-Err.is) read) w.in-Err.ensures.tells_of_32_bits (sym w.is_io_error-is_last.ensures ∙ w.if-is_last.false) k.0 k.1)
+            )
+      ];
+      quiet = elim c.match-read.branch [
+        | in-Ok-Some+in_ok-walk-in-Ok-Some w ↦ rw w.progress-is (shown_quietly c.args.progress.now c.loop.progress w.show.new.self _ c.loop.invariant.quiet c.loop.invariant.total w.show.ensures.shows_percentage w.show.ensures.writes_only_changes)
+        | in-Err+in_ok-walk-in-Err+else-is_last w ↦ rw w.progress-is c.loop.invariant.quiet
+      ];
+      total = elim c.match-read.branch [
+        | in-Ok-Some+in_ok-walk-in-Ok-Some w ↦ rw w.progress-is (shown_total_same c.loop.progress w.show.new.self _ w.show.ensures.shows_percentage ∙ c.loop.invariant.total)
+        | in-Err+in_ok-walk-in-Err+else-is_last w ↦ rw w.progress-is c.loop.invariant.total
+      ];
+    }
+
+pub returns-in_err-walk-in-Ok-Some-clause-err : goal.returns-in_err-walk-in-Ok-Some-clause-err
+returns-in_err-walk-in-Ok-Some-clause-err g c =
+    let b = counted_bytes g.R.ReadBytes.source c.read_frame-read.new.input in
+    let a = counted_bytes g.R.ReadBytes.source c.loop.input in
+    let found = c.in-Ok-Some.is ∙ ap (λ (z : Option (DecodedFrame _)). Ok z) c.in-Ok-Some.field-0-is in
+    let p = err_from_is_err_and c.from_residual.result c.from_residual.ensures.1 in
+    rw (p.1, p.2) (frame_exceeds c.loop.invariant.so_far c.in-Ok-Some.frame b (frame_as (Some (stream_with c.args.info)) a b found c.read_frame-read.ensures.has_header) _ c.in_err-walk-in-Ok-Some.ensures.err)
+
+pub returns-in-Ok-None-clause-ok : goal.returns-in-Ok-None-clause-ok
+returns-in-Ok-None-clause-ok g c =
+    let b = counted_bytes g.R.ReadBytes.source c.read_frame-read.new.input in
+    let is = ap (decoder_answer frame_block) (c.in-Ok-None.is ∙ ap (λ (z : Option (DecodedFrame _)). Ok z) c.in-Ok-None.field-0-is) in
+    eof_found c.loop.invariant.so_far b (read_as {b = b} is c.read_frame-read.ensures.is_read) c.at_end.ensures
+
+pub returns-then-is_last-clause-ok : goal.returns-then-is_last-clause-ok
+returns-then-is_last-clause-ok g c =
+    let h = c.loop.invariant.so_far in
+    let b = counted_bytes g.R.ReadBytes.source c.read_frame-read.new.input in
+    let byte = ap (λ (p : BytesRead). p.bytes) c.crc-start.ensures in
+    let small = rw byte at c.with_fault.ensures.fits in
+    cut_found h (λ known front e. byte ∙ position_after g.R.ReadBytes.source c.args.input.now c.loop.input known (h.known known) (h.crcs known) small front e) c.in-Err.fault b (read_as {b = b} (ap (decoder_answer frame_block) c.in-Err.is) c.read_frame-read.ensures.is_read) c.in-Err.ensures.tells_of_32_bits
+    (sym c.is_io_error-is_last.ensures ∙ c.if-is_last.true) c.in_ok-walk-in-Err.ensures.ok.1

@@ -1,0 +1,106 @@
+-- A frame that is read, and whether it is refused because its samples have 32 bits.
+use Rattle.std.specs.Prelude.{
+  ◌≡◌,
+  ◌↔◌,
+  ◌≤◌,
+  ℕ,
+  List,
+  length,
+  take,
+  Option,
+  None,
+  Some,
+  IfErr,
+  IfOk,
+  IfSome,
+  IsTrue,
+  Ok,
+  Err,
+  Result,
+}
+use Rattle.claxon.specs.Bits.{bits_of, number}
+use Rattle.claxon.specs.Block.{BlockValue}
+use Rattle.claxon.specs.BlockInfo.{HeaderOf}
+use Rattle.claxon.specs.BlockInfos.{BlockInfo}
+use Rattle.claxon.specs.Error.{IsFault}
+use Rattle.claxon.specs.Errors.{Error}
+use Rattle.claxon.specs.Fault.{BitDepthReserved, Fault}
+use Rattle.claxon.specs.Frame.{Block, Frame, StreamFormat}
+use Rattle.claxon.specs.FrameReader.{FrameAnswer, block_view}
+use Rattle.claxon.specs.Header.{says_32_bits}
+use Rattle.claxon.specs.Prefix.{BeginsWith}
+use Rattle.claxon.specs.Promises.{Consumed}
+use Rattle.claxon.specs.State.{State, RemainingIsKnown}
+use Rattle.claxon.specs.read.Bytes.{big_endian}
+use Rattle.claxon_verify.specs.FirstBytes.{AreFirst}
+use Rattle.claxon_verify.specs.declared.frames.DecodedFrame.{DecodedFrame}
+use Rattle.claxon_verify.specs.declared.frames.FrameError.{FrameError}
+use Rattle.claxon_verify.specs.declared.frames.KeptBlock.{KeptBlock}
+use Rattle.claxon_verify.specs.declared.frames.first_bytes.FirstBytes.{FirstBytes}
+
+-- The bytes begin with four that begin a header with the bit depth code for 32 bits.
+abbrev pub Says32Bits : List ℕ → Type 0
+Says32Bits = BeginsWith (λ t. (length t ≡ 4) × IsTrue (says_32_bits (big_endian t)))
+
+-- The error says that a value in the header is reserved, and the bytes say that it is this code.
+abbrev pub Is32BitFault : List ℕ → Error → Type 0
+Is32BitFault s error = IsFault BitDepthReserved error × Says32Bits s
+
+-- The first four bytes were read, and begin such a header.
+abbrev pub FourSay32Bits : FirstBytes → Type 0
+FourSay32Bits first =
+    (4 ≤ first.seen) × IsTrue (says_32_bits (number (bits_of (take 4 first.bytes))))
+
+-- the decoder's answer, where `block` is the block of what was found
+abbrev pub decoder_answer : {A : Type 0} → (A → BlockValue) → Result (Option A) FrameError
+    → FrameAnswer
+decoder_answer block (Ok (Some found)) = Ok (Some (block found))
+decoder_answer block (Ok None) = Ok None
+decoder_answer block (Err e) = Err e.error
+
+-- the same, where the block itself was found
+abbrev pub answer_of : Result (Option BlockValue) FrameError → FrameAnswer
+answer_of (Ok found) = Ok found
+answer_of (Err e) = Err e.error
+
+-- An Err says exactly where it is so that a frame of 32-bit samples is refused.
+abbrev pub TellsOf32Bits : {A : Type 0} → Result (Option A) FrameError → State ℕ → Type 0
+TellsOf32Bits r old =
+    IfErr r (λ e. RemainingIsKnown old → IsTrue e.is_32_bit ↔ Is32BitFault old.remaining e.error)
+
+-- An Err that names a fault has the first of the bytes that are no frame.
+abbrev pub KeepsFirstBytes : {A : Type 0} → Result (Option A) FrameError → State ℕ → State ℕ → Type 0
+KeepsFirstBytes r old new =
+    IfErr r (λ e. (f : Fault) → IsFault f e.error → RemainingIsKnown old
+    → AreFirst e.first old.remaining new.remaining)
+
+-- ---- the header of a frame that is read
+
+-- the block of a decoded frame
+abbrev pub frame_block : {A : Type 0} → DecodedFrame A → BlockValue
+frame_block frame = frame.block
+
+-- The bytes of a frame of this block, which begin with a header that says this.
+abbrev pub DecodedFrameBytes : Option StreamFormat → BlockInfo → Block → List ℕ → Type 0
+DecodedFrameBytes stream info block t =
+    Frame stream block t × BeginsWith (HeaderOf stream info) t
+
+-- Of a frame just its bytes were consumed, and their header says what is returned.
+abbrev pub HasHeader : {A : Type 0} → Option StreamFormat
+    → Result (Option (DecodedFrame A)) FrameError → State ℕ → State ℕ → Type 0
+HasHeader stream r old new =
+    IfOk r (λ found. IfSome found (λ frame.
+    Consumed old new (DecodedFrameBytes stream frame.info (block_view frame.block))))
+
+-- the block of a frame whose first bytes are kept
+abbrev pub kept_block : {A : Type 0} → KeptBlock A → BlockValue
+kept_block kept = kept.block
+
+-- Of a block just the bytes of its frame were consumed, and the kept bytes begin with its header.
+abbrev pub KeepsHeader : {A : Type 0} → Option StreamFormat
+    → Result (Option (KeptBlock A)) FrameError → State ℕ → State ℕ → Type 0
+KeepsHeader stream r old new =
+    IfOk r (λ found. IfSome found (λ kept.
+    Consumed old new (λ t.
+    (info : BlockInfo) × DecodedFrameBytes stream info (block_view kept.block) t
+    × BeginsWith (HeaderOf stream info) kept.first.bytes)))

@@ -1,0 +1,7 @@
+pub mod FirstBytes
+pub mod HeaderAtStart
+pub mod Frames
+pub mod HashBlock
+pub mod RightStream
+pub mod Verify
+pub mod Walk

@@ -1,0 +1,139 @@
+//! The first bytes that a reader gave, and the frame header among them.
+ghost use Rattle.std.specs.Prelude.{All, ◌≡◌, ◌↔◌, ◌≤◌, IsTrue, Some, length, replicate, take};
+ghost use Rattle.claxon.specs.FrameReader.{stream_with};
+ghost use Rattle.claxon.specs.Bits.{bits_of, number};
+ghost use Rattle.claxon_verify.specs.HeaderAtStart.{SaysHeader};
+ghost use Rattle.claxon_verify.specs.FirstBytes.{update_first};
+
+use claxon::crc::RunningCrc;
+use claxon::frame::{BlockInfo, FrameReader};
+use claxon::metadata::StreamInfo;
+use std::io::Cursor;
+
+/// The first 16 bytes that were read, among which is the header of a frame. A reader keeps them as it keeps a CRC.
+#[derive(Clone, Copy, Debug)]
+pub struct FirstBytes {
+    // How many of them were read so far.
+    seen: usize,
+    // They, in the first places.
+    bytes: [u8; 16],
+    // How many bytes were read after them, modulo 2^64.
+    others: u64,
+}
+
+impl RunningCrc for FirstBytes {
+    ghost update_crc = { update_first };
+
+    ghost start = { record { seen = 0; bytes = replicate 16 0; others = 0 } };
+
+    fn zero() -> FirstBytes {
+        FirstBytes {
+            seen: 0,
+            bytes: [0; 16],
+            others: 0,
+        }
+    }
+
+    #[inline(always)]
+    fn next(self, byte: u8) -> FirstBytes {
+        if self.seen >= 16 {
+            return FirstBytes {
+                others: self.others.wrapping_add(1),
+                ..self
+            };
+        }
+        let mut bytes = self.bytes;
+        bytes[self.seen] = byte;
+        FirstBytes {
+            seen: self.seen + 1,
+            bytes,
+            others: 0,
+        }
+    }
+
+    fn after(self, bytes: &[u8]) -> FirstBytes {
+        let mut first = self;
+        for at in 0..bytes.len() {
+            if first.seen >= 16 {
+                let more = (bytes.len() - at) as u64;
+                return FirstBytes {
+                    others: first.others.wrapping_add(more),
+                    ..first
+                };
+            }
+            first = first.next(bytes[at]);
+        }
+        first
+    }
+}
+
+impl FirstBytes {
+    ghost use Rattle.claxon_verify.specs.FirstBytes.{AreZeros, kept_of};
+
+    /// They, as a slice.
+    pub(crate) fn as_slice(&self) -> &[u8]
+        ensures { result.now ≡ kept_of self.now }
+    {
+        &self.bytes[..self.seen.min(16)]
+    }
+
+    /// Whether each of them is 0.
+    pub(crate) fn are_zeros(&self) -> bool
+        ensures { IsTrue result ↔ AreZeros (kept_of self.now) }
+    {
+        are_zeros(self.as_slice())
+    }
+
+    // Whether at least four were read.
+    pub(crate) fn has_four(&self) -> bool
+        ensures { IsTrue result ↔ (4 ≤ self.now.seen) }
+    {
+        self.seen >= 4
+    }
+
+    // The first four of them, as a number.
+    pub(crate) fn first_four(&self) -> u32
+        ensures { result ≡ number (bits_of (take 4 self.now.bytes)) }
+    {
+        number_of_four(&self.bytes)
+    }
+
+    // What the header says that they begin with, in the stream with this streaminfo; None if there is none.
+    pub(crate) fn header(&self, info: StreamInfo) -> Option<BlockInfo>
+        requires min_bit_depth { 1 ≤ info.bits_per_sample }
+        requires max_bit_depth { info.bits_per_sample ≤ 32 }
+        ensures { SaysHeader (Some (stream_with info)) self.now.bytes result }
+    {
+        header_at_start(&self.bytes, info)
+    }
+}
+
+// Whether each byte is 0.
+fn are_zeros(bytes: &[u8]) -> bool
+    ensures { IsTrue result ↔ All (λ byte. byte ≡ 0) bytes.now }
+{
+    for byte in bytes {
+        if *byte != 0 {
+            return false;
+        }
+    }
+    true
+}
+
+// The first four bytes, as a number.
+fn number_of_four(bytes: &[u8]) -> u32
+    requires { 4 ≤ length bytes.now }
+    ensures { result ≡ number (bits_of (take 4 bytes.now)) }
+{
+    u32::from_be_bytes([bytes[0], bytes[1], bytes[2], bytes[3]])
+}
+
+// What the header says that the bytes begin with, in the stream with this streaminfo; None if there is none.
+fn header_at_start(bytes: &[u8], info: StreamInfo) -> Option<BlockInfo>
+    requires min_bit_depth { 1 ≤ info.bits_per_sample }
+    requires max_bit_depth { info.bits_per_sample ≤ 32 }
+    ensures { SaysHeader (Some (stream_with info)) bytes.now result }
+{
+    let mut frames = FrameReader::with_streaminfo(Cursor::new(bytes), info);
+    frames.read_header_or_eof().unwrap_or(None)
+}

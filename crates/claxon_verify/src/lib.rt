@@ -1,0 +1,266 @@
+//! Whether a whole stream is right: its frames, their order, and the MD5 sum of their samples.
+#![tactic(auto)]
+
+ghost use Rattle.std.specs.Prelude.{◌≡◌, ◌⊎◌, ◌↔◌, ◌≢◌, ◌<◌, ◌≤◌, IfErr, IfOk, IsTrue, None, Some};
+ghost use Rattle.claxon.specs.Error.{is_io};
+ghost use Rattle.claxon.specs.FrameReader.{stream_with};
+ghost use Rattle.claxon.specs.MetadataBlock.{info_view, or_zero};
+ghost use Rattle.claxon.specs.State.{bytes_in};
+ghost use Rattle.claxon_command_line.specs.Progress.{StaysQuiet};
+ghost use Rattle.claxon_verify.specs.Verify.{
+  RightIsComplete,
+  RightIsSound,
+  StopsCounting,
+  VerifyFaultIsSound,
+  VerifyHeadFaultIsComplete,
+  VerifyIsComplete,
+  VerifyIsQuiet,
+  VerifyIsSound,
+  VerifyOutOfMemoryAfterHeader,
+  VerifyPromises,
+  counted_bytes,
+  position_of,
+  update_position,
+};
+ghost use Rattle.claxon_verify.specs.Walk.{Md5IsJudged, WalksToEnd, first_place};
+
+use crate::frames::read_frame;
+use claxon_command_line::progress::Progress;
+use crate::report::{Found, Md5Verdict, Report};
+use claxon::crc::{CrcReader, RunningCrc};
+use claxon::input::ReadBytes;
+use claxon::metadata::StreamInfo;
+use claxon::{Error, FlacReaderOptions, Result, read_head};
+use claxon_md5::Md5;
+use std::alloc::Allocator;
+use std::io::Write;
+use walk::{ByteRange, Walk, at_end, too_many, trailing, with_fault, with_frame};
+
+pub mod frames;
+pub mod hashing;
+mod order;
+mod places;
+pub mod report;
+pub mod trailing;
+mod walk;
+
+// The number of bytes that were read, modulo 2^64. A reader keeps it as it keeps a CRC.
+#[derive(Clone, Copy, Drop)]
+struct BytesRead {
+    bytes: u64,
+    // The last of them, if there is one.
+    last: u8,
+}
+
+impl RunningCrc for BytesRead {
+    ghost update_crc = { update_position };
+
+    ghost start = { record { bytes = 0; last = 0 } };
+
+    fn zero() -> BytesRead {
+        BytesRead { bytes: 0, last: 0 }
+    }
+
+    #[inline(always)]
+    fn next(self, byte: u8) -> BytesRead {
+        BytesRead {
+            bytes: self.bytes.wrapping_add(1),
+            last: byte,
+        }
+    }
+
+    fn after(self, bytes: &[u8]) -> BytesRead {
+        BytesRead {
+            bytes: self.bytes.wrapping_add(bytes.len() as u64),
+            last: bytes.last().copied().unwrap_or(self.last),
+        }
+    }
+}
+
+/// Decodes all frames of a stream, and goes on after each fault but an `IoError`. The MD5 sum of the samples is computed if
+/// `computes_md5` is true. If the streaminfo says how many samples there are, `progress` shows how many are done.
+///
+/// # Errors
+///
+/// The error of `read_head`. `OutOfMemory` if memory for a block is refused. `Unsupported` if there are 2^64 samples or more,
+/// or 2^64 - 1 frames and faults or more.
+pub fn verify<R: ReadBytes, A: Allocator + Copy, E: Write>(
+    alloc: A,
+    input: &mut R,
+    computes_md5: bool,
+    progress: &mut Progress<'_, '_, E>,
+) -> Result<Report<A>>
+    ensures is_sound { VerifyIsSound computes_md5 (bytes_in R.source input.old) result
+        (bytes_in R.source input.new) }
+    ensures is_complete { VerifyIsComplete computes_md5 (bytes_in R.source input.old) result
+        (bytes_in R.source input.new) }
+    ensures right_is_sound { RightIsSound computes_md5 (bytes_in R.source input.old) result
+        (bytes_in R.source input.new) }
+    ensures right_is_complete { RightIsComplete computes_md5 (bytes_in R.source input.old) result
+        (bytes_in R.source input.new) }
+    ensures fault_is_sound { VerifyFaultIsSound (bytes_in R.source input.old) result
+        (bytes_in R.source input.new) }
+    ensures head_fault_is_complete { VerifyHeadFaultIsComplete (bytes_in R.source input.old) result
+        (bytes_in R.source input.new) }
+    ensures out_of_memory_after_header { VerifyOutOfMemoryAfterHeader (bytes_in R.source input.old)
+        result (bytes_in R.source input.new) }
+    ensures is_quiet { VerifyIsQuiet result progress.old progress.new }
+{
+    verify_exact(alloc, input, computes_md5, progress)
+}
+
+// `verify`, with all its clauses in one.
+fn verify_exact<R: ReadBytes, A: Allocator + Copy, E: Write>(
+    alloc: A,
+    input: &mut R,
+    computes_md5: bool,
+    progress: &mut Progress<'_, '_, E>,
+) -> Result<Report<A>>
+    ensures promises { VerifyPromises computes_md5 (bytes_in R.source input.old) result
+        (bytes_in R.source input.new) }
+    ensures is_quiet { VerifyIsQuiet result progress.old progress.new }
+{
+    let mut input = CrcReader::new(input);
+    verify_counted(alloc, &mut input, computes_md5, progress)
+}
+
+// Verifies a stream of which nothing was read.
+fn verify_counted<R: ReadBytes, A: Allocator + Copy, E: Write>(
+    alloc: A,
+    input: &mut CrcReader<R, BytesRead>,
+    computes_md5: bool,
+    progress: &mut Progress<'_, '_, E>,
+) -> Result<Report<A>>
+    requires { position_of input.old ≡ 0 }
+    ensures promises { VerifyPromises computes_md5 (counted_bytes R.source input.old) result
+        (counted_bytes R.source input.new) }
+    ensures is_quiet { VerifyIsQuiet result progress.old progress.new }
+    ensures loans { (counted_bytes R.source input.new).source.loans
+        ≡ (counted_bytes R.source input.old).source.loans }
+{
+    let options = FlacReaderOptions {
+        metadata_only: false,
+        read_vorbis_comment: true,
+    };
+    let (info, _comment) = read_head(alloc, input, options)?;
+    progress.start(info.samples);
+    let walk = walk_frames(alloc, input, info, computes_md5, progress)?;
+    Ok(report_of(info, walk))
+}
+
+// What was found in a stream with this streaminfo.
+fn report_of<A: Allocator>(info: StreamInfo, walk: Walk<A>) -> Report<A>
+    ensures info { result.info ≡ info }
+    ensures frames { result.found.frames ≡ walk.frames }
+    ensures samples { result.found.samples ≡ walk.samples }
+    ensures first { result.found.places.first ≡ first_place walk.places }
+    ensures md5 { Md5IsJudged (info_view info) walk.md5 result.md5 }
+    ensures is_right { IsTrue result.is_right ↔ ((result.found.places.first ≡ None)
+        × (((or_zero info.samples ≡ 0) ⊎ (or_zero info.samples ≡ result.found.samples))
+        × (result.md5 ≢ Md5Verdict.Wrong))) }
+{
+    let trailing = trailing(&walk, &info);
+    let Walk {
+        frames,
+        samples,
+        places,
+        notes,
+        md5,
+        ..
+    } = walk;
+    let found = Found {
+        frames,
+        samples,
+        places: places.finish(),
+        notes,
+    };
+    let md5 = judge_md5(&info, md5);
+    let is_right = has_nothing_wrong(&found, info.samples, md5);
+    Report {
+        info,
+        found,
+        md5,
+        trailing,
+        is_right,
+    }
+}
+
+/// What became of the MD5 sum of the samples that were hashed.
+pub fn judge_md5(info: &StreamInfo, md5: Option<Md5>) -> Md5Verdict
+    ensures { Md5IsJudged (info_view info.now) md5 result }
+{
+    let Some(md5) = md5 else {
+        return Md5Verdict::NotComputed;
+    };
+    if info.md5sum == [0; 16] {
+        return Md5Verdict::Missing;
+    }
+    if info.md5sum == md5.finish() {
+        Md5Verdict::Right
+    } else {
+        Md5Verdict::Wrong
+    }
+}
+
+// Whether there is no place, the expected number of samples, if there is one, and no other MD5 sum.
+fn has_nothing_wrong<A: Allocator>(found: &Found<A>, expected: Option<u64>, md5: Md5Verdict) -> bool
+    ensures { IsTrue result ↔ ((found.now.places.first ≡ None)
+        × (((or_zero expected ≡ 0) ⊎ (or_zero expected ≡ found.now.samples))
+        × (md5 ≢ Md5Verdict.Wrong))) }
+{
+    let expected = expected.unwrap_or(0);
+    found.places.first.is_none()
+        && (expected == 0 || expected == found.samples)
+        && !matches!(md5, Md5Verdict::Wrong)
+}
+
+// Finds frames and faults up to the end, or to an `IoError`.
+fn walk_frames<R: ReadBytes, A: Allocator + Copy, E: Write>(
+    alloc: A,
+    input: &mut CrcReader<R, BytesRead>,
+    info: StreamInfo,
+    computes_md5: bool,
+    progress: &mut Progress<'_, '_, E>,
+) -> Result<Walk<A>>
+    requires min_bit_depth { 1 ≤ info.bits_per_sample }
+    requires max_bit_depth { info.bits_per_sample ≤ 32 }
+    ensures ok { IfOk result (WalksToEnd computes_md5 (Some (stream_with info)) (info_view info)
+        (position_of input.old)
+        (counted_bytes R.source input.old) (counted_bytes R.source input.new)) }
+    ensures err { IfErr result (StopsCounting (Some (stream_with info))
+        (counted_bytes R.source input.old)) }
+    ensures stays_quiet { StaysQuiet progress.old progress.new }
+    ensures loans { (counted_bytes R.source input.new).source.loans
+        ≡ (counted_bytes R.source input.old).source.loans }
+{
+    let mut walk = Walk::new(alloc, computes_md5);
+    let mut buffer = Vec::new(alloc);
+    for _ in 0..u64::MAX {
+        let start = input.crc().bytes;
+        let read = read_frame(input, info, buffer);
+        let end = input.crc().bytes;
+        match read {
+            Ok(Some(frame)) => {
+                walk = with_frame(walk, info, &frame, ByteRange { start, end })?;
+                progress.show(walk.samples);
+                buffer = frame.block.into_buffer();
+            }
+            Ok(None) => return Ok(at_end(walk, ByteRange { start, end }, input.crc().last)),
+            Err(fault) => {
+                let is_last = is_io_error(&fault.error);
+                walk = with_fault(walk, fault, ByteRange { start, end })?;
+                if is_last {
+                    return Ok(walk);
+                }
+                buffer = Vec::new(alloc);
+            }
+        }
+    }
+    Err(too_many())
+}
+
+fn is_io_error(error: &Error) -> bool
+    ensures { result ≡ is_io error.now }
+{
+    matches!(error, Error::IoError(_))
+}

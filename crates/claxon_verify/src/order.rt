@@ -1,0 +1,83 @@
+//! Whether a frame is the next one of a stream.
+ghost use Rattle.claxon.specs.MetadataBlock.{info_view};
+ghost use Rattle.claxon_verify.specs.Verify.{IsJudged, IsNumbered};
+ghost use Rattle.claxon_verify.specs.Walk.{GoesOn};
+
+use crate::report::{Damage, Gap};
+use claxon::frame::BlockInfo;
+use claxon::metadata::StreamInfo;
+
+/// What the next frame of a stream has to be.
+#[derive(Clone, Copy, Debug)]
+pub(crate) struct Order {
+    /// Whether the block size is variable; None before the first frame.
+    pub is_variable: Option<bool>,
+    /// The coded number.
+    pub number: u64,
+}
+
+impl Order {
+    /// What is wrong with a frame; None if it is the next one.
+    pub fn damage(self, info: &StreamInfo, frame: &BlockInfo) -> Option<Damage>
+        ensures { IsJudged (info_view info.now) self.is_variable self.number frame.now result }
+    {
+        if frame.channels != info.channels {
+            return Some(Damage::Channels(frame.channels));
+        }
+        if frame.bit_depth != info.bits_per_sample {
+            return Some(Damage::BitDepth(frame.bit_depth));
+        }
+        let rate = frame.sample_rate.unwrap_or(info.sample_rate);
+        if rate != info.sample_rate {
+            return Some(Damage::SampleRate(rate));
+        }
+        if self.is_variable == Some(!frame.is_variable) {
+            return Some(Damage::BlockingStrategy);
+        }
+        self.gap(frame)
+    }
+
+    // What is missing before a frame, or there twice.
+    fn gap(self, frame: &BlockInfo) -> Option<Damage>
+        ensures { IsNumbered self.number frame.now result }
+    {
+        let is_variable = frame.is_variable;
+        if frame.number > self.number {
+            let count = frame.number - self.number;
+            return Some(Damage::Missing(Gap { count, is_variable }));
+        }
+        if frame.number < self.number {
+            let count = self.number - frame.number;
+            return Some(Damage::Repeated(Gap { count, is_variable }));
+        }
+        None
+    }
+
+    /// What the next frame has to be after one of another stream, with so many samples of each channel.
+    pub fn passed(self, frame: &BlockInfo, duration: u32) -> Order {
+        let step = if self.is_variable.unwrap_or(frame.is_variable) {
+            u64::from(duration)
+        } else {
+            1
+        };
+        Order {
+            is_variable: self.is_variable,
+            number: self.number.saturating_add(step),
+        }
+    }
+
+    /// The next frame after one with so many samples of each channel.
+    pub fn after(self, frame: &BlockInfo, duration: u32) -> Order
+        ensures { GoesOn duration frame.now self result }
+    {
+        let step = if frame.is_variable {
+            u64::from(duration)
+        } else {
+            1
+        };
+        Order {
+            is_variable: self.is_variable.or(Some(frame.is_variable)),
+            number: frame.number.saturating_add(step),
+        }
+    }
+}

@@ -1,0 +1,124 @@
+//! What `verify` finds in a stream.
+use crate::frames::FrameError;
+use claxon::metadata::StreamInfo;
+use std::alloc::{Allocator, Global};
+
+/// What was found in a stream.
+#[derive(Debug, Drop)]
+pub struct Report<A: Allocator = Global> {
+    /// What the stream says of itself.
+    pub info: StreamInfo,
+    /// What its frames are.
+    pub found: Found<A>,
+    /// What became of the MD5 sum of the samples.
+    pub md5: Md5Verdict,
+    /// What stands after the last frame, where two bytes or more do. They are then the last of the places.
+    pub trailing: Option<Trailing>,
+    /// Nothing is wrong: see `IsRightStream`.
+    pub is_right: bool,
+}
+
+/// What the frames of a stream are.
+#[derive(Debug, Drop)]
+pub struct Found<A: Allocator = Global> {
+    /// How many frames were decoded.
+    pub frames: u64,
+    /// How many samples of each channel they have.
+    pub samples: u64,
+    /// What isn't right.
+    pub places: Places<A>,
+    /// What is unusual, but not wrong.
+    pub notes: Notes,
+}
+
+/// The places of a stream that aren't right, in order.
+#[derive(Debug, Drop)]
+pub struct Places<A: Allocator = Global> {
+    /// The first of them.
+    pub first: Option<Place>,
+    /// Those after it, as far as there was memory for them.
+    pub more: Vec<Place, A>,
+    /// How many are left out because memory was refused.
+    pub left_out: u64,
+}
+
+/// A part of a stream that isn't right.
+#[derive(Debug, Drop)]
+pub struct Place {
+    /// The byte at which it begins, modulo 2^64. The first byte of the stream is 0.
+    pub start_byte: u64,
+    /// The byte after it: that of the next frame, or the length of the stream.
+    pub end_byte: u64,
+    /// The number of its first sample, in the stream that was encoded, as far as that is known: of the first place, how many
+    /// samples of each channel are before it.
+    pub start_sample: u64,
+    /// The number, in the stream that was encoded, of the first sample after it, as far as that is known.
+    pub end_sample: u64,
+    /// What is wrong.
+    pub damage: Damage,
+}
+
+/// What is wrong in a place.
+#[derive(Debug, Drop)]
+pub enum Damage {
+    /// No frame is decoded: what is wrong with the first.
+    Fault(FrameError),
+    /// Frames have this number of channels, which isn't that of the streaminfo.
+    Channels(u32),
+    /// Frames have this bit depth, which isn't that of the streaminfo.
+    BitDepth(u32),
+    /// Frames have this sample rate, which isn't that of the streaminfo.
+    SampleRate(u32),
+    /// Frames have another blocking strategy than the first frame.
+    BlockingStrategy,
+    /// Frames or samples are missing before a frame.
+    Missing(Gap),
+    /// Frames or samples are repeated, from a frame on.
+    Repeated(Gap),
+}
+
+/// A number of frames, or of samples of each channel where the block size is variable.
+#[derive(Clone, Copy, Debug)]
+pub struct Gap {
+    /// How many there are.
+    pub count: u64,
+    /// They are samples.
+    pub is_variable: bool,
+}
+
+/// What is unusual in a stream, but not wrong.
+#[derive(Clone, Copy, Debug)]
+pub struct Notes {
+    /// A block, but for a last one that is shorter, has a size out of the streaminfo's bounds.
+    pub has_other_block_size: bool,
+    /// A frame has a number of bytes out of the streaminfo's bounds.
+    pub has_other_frame_size: bool,
+    /// One byte stands after the last frame.
+    pub has_byte_left: bool,
+}
+
+/// What became of the MD5 sum of the samples.
+#[derive(Clone, Copy, Debug)]
+pub enum Md5Verdict {
+    /// It wasn't computed.
+    NotComputed,
+    /// The streaminfo has none.
+    Missing,
+    /// It is that of the streaminfo.
+    Right,
+    /// It is another one.
+    Wrong,
+}
+
+/// What stands after the last frame.
+#[derive(Clone, Copy, Debug)]
+pub enum Trailing {
+    /// An ID3v1 tag: 128 bytes that begin with `TAG`.
+    Id3v1,
+    /// An APE tag: bytes that begin with `APETAGEX`.
+    Ape,
+    /// Bytes of zeros.
+    Zeros,
+    /// Other bytes.
+    Other,
+}

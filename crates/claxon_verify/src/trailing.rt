@@ -1,0 +1,89 @@
+//! What stands after the last frame.
+use crate::frames::FirstBytes;
+use crate::report::{Damage, Trailing};
+use claxon::Error;
+use std::io::ErrorKind;
+
+/// What is kept of bytes that are no frame: the first eight, and whether all are zeros.
+#[derive(Clone, Copy, Debug)]
+pub struct BytesAfter {
+    first: [u8; 8],
+    seen: usize,
+    are_zeros: bool,
+}
+
+impl BytesAfter {
+    /// No bytes.
+    pub fn new() -> BytesAfter {
+        BytesAfter {
+            first: [0; 8],
+            seen: 0,
+            are_zeros: true,
+        }
+    }
+
+    /// The first of more bytes, after the others.
+    pub fn with(self, more: FirstBytes) -> BytesAfter {
+        let BytesAfter {
+            mut first,
+            mut seen,
+            are_zeros,
+        } = self;
+        for byte in more.as_slice() {
+            if seen < 8 {
+                first[seen] = *byte;
+                seen += 1;
+            }
+        }
+        BytesAfter {
+            first,
+            seen,
+            are_zeros: are_zeros && more.are_zeros(),
+        }
+    }
+
+    /// One byte more, after the others.
+    pub fn with_byte(self, byte: u8) -> BytesAfter {
+        BytesAfter {
+            are_zeros: self.are_zeros && byte == 0,
+            ..self
+        }
+    }
+
+    /// What so many bytes are, of which these are the first.
+    pub fn kind(self, count: u64) -> Trailing {
+        match self.first {
+            [b'T', b'A', b'G', ..] if count == 128 => Trailing::Id3v1,
+            [b'A', b'P', b'E', b'T', b'A', b'G', b'E', b'X'] => Trailing::Ape,
+            _ if self.are_zeros => Trailing::Zeros,
+            _ => Trailing::Other,
+        }
+    }
+}
+
+/// Whether the error is that of a failed read, and not of the bytes.
+pub(crate) fn is_failed_read(error: &Error) -> bool {
+    match error {
+        Error::IoError(cause) => cause.kind() != ErrorKind::UnexpectedEof,
+        _ => false,
+    }
+}
+
+/// Whether the bytes of this damage can be after the last frame: no read failed there.
+pub(crate) fn is_of_bytes(damage: &Damage) -> bool {
+    match damage {
+        Damage::Fault(fault) => !is_failed_read(&fault.error),
+        _ => false,
+    }
+}
+
+/// Whether no frame begins there, as far as its first two bytes tell.
+pub(crate) fn is_no_sync_code(damage: &Damage) -> bool {
+    match damage {
+        Damage::Fault(fault) => matches!(
+            &fault.error,
+            Error::FormatError("frame sync code missing")
+        ),
+        _ => false,
+    }
+}

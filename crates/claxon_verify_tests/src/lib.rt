@@ -1,0 +1,15 @@
+//! Tests of whole streams that are verified: reports, places, sums, readers that fail, and command lines of `claxon verify`.
+#![tactic(auto)]
+
+#[cfg(test)]
+mod failing;
+#[cfg(test)]
+mod frames;
+#[cfg(test)]
+mod hashing;
+#[cfg(test)]
+mod reports;
+#[cfg(test)]
+mod trailing;
+#[cfg(test)]
+mod verify;

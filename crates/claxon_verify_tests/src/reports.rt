@@ -1,0 +1,21 @@
+//! Reports of streams.
+use claxon::input::ReadBytes;
+use claxon_command_line::progress::Progress;
+use claxon_tests::doubles::sinks::Sink;
+use claxon_verify::report::Report;
+use claxon_verify::verify;
+use std::alloc::Allocator;
+use std::io::ErrorKind;
+
+/// The report of a stream, without a line of progress.
+pub fn report_of<R: ReadBytes, A: Allocator + Copy>(
+    alloc: A,
+    input: &mut R,
+    computes_md5: bool,
+) -> claxon::Result<Report<A>> {
+    let mut errors = Sink::new(0, 0, false, ErrorKind::Other);
+    let mut progress = Progress::new(&mut errors, None);
+    let report = verify(alloc, input, computes_md5, &mut progress);
+    progress.clear();
+    report
+}

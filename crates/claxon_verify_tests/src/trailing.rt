@@ -1,0 +1,36 @@
+use claxon_verify::trailing::BytesAfter;
+use claxon_verify::frames::FirstBytes;
+use claxon_verify::report::Trailing;
+use claxon::crc::RunningCrc;
+
+// Bytes, in two parts, their number in all, and what they are.
+const ROWS: [(&[u8], &[u8], u64, Trailing); 9] = [
+    (b"TA", b"G", 128, Trailing::Id3v1),
+    (b"TAG", b"Title", 127, Trailing::Other),
+    (b"TAg", b"", 128, Trailing::Other),
+    (b"APETAGEX", b"\xd0\x07", 64, Trailing::Ape),
+    (b"APET", b"AGEX", 128, Trailing::Ape),
+    (b"APETAGE", b"x", 64, Trailing::Other),
+    (b"\0\0", b"\0\0", 4, Trailing::Zeros),
+    (b"\0\0\0\0\0\0\0\0", b"\0\x01", 10, Trailing::Other),
+    (b"\x01\0", b"\0\0", 4, Trailing::Other),
+];
+
+#[test]
+fn kinds(rt: HostRuntime) {
+    for (front, back, count, want) in ROWS {
+        let [front, back] = [front, back].map(|bytes| FirstBytes::zero().after(bytes));
+        let got = BytesAfter::new().with(front).with(back).kind(count);
+        assert!(rt; is_same(got, want));
+    }
+}
+
+fn is_same(a: Trailing, b: Trailing) -> bool {
+    matches!(
+        (a, b),
+        (Trailing::Id3v1, Trailing::Id3v1)
+            | (Trailing::Ape, Trailing::Ape)
+            | (Trailing::Zeros, Trailing::Zeros)
+            | (Trailing::Other, Trailing::Other)
+    )
+}

@@ -1,0 +1,521 @@
+//! Streams that are verified, and command lines of `claxon verify`.
+use crate::reports::report_of;
+use claxon_tests::answers::{
+    DEEP_FRAME, FRAME, Fault, PAIRS, SECOND, fault_of, frames_in_order, head, joined,
+};
+use claxon_tests::command_lines::owned;
+use claxon_tests::doubles::sinks::Sink;
+use claxon_tests::temporary_files::{file_of, path_of};
+use claxon_commands::verify::command;
+use claxon_command_line::progress::Progress;
+use claxon_verify::report::{Damage, Md5Verdict, Place, Report};
+use claxon_verify::verify;
+use std::fs;
+use std::io::{self, Cursor, ErrorKind};
+use std::test::Fail;
+
+// What is wrong in a place. Of a gap it is the number of frames or samples, and whether they are samples.
+#[derive(PartialEq, Clone, Copy)]
+enum Wrong {
+    Fault(Fault),
+    Channels(u32),
+    BitDepth(u32),
+    SampleRate(u32),
+    BlockingStrategy,
+    Missing(u64, bool),
+    Repeated(u64, bool),
+}
+
+fn wrong_of(damage: &Damage) -> Wrong {
+    match damage {
+        Damage::Fault(fault) => Wrong::Fault(fault_of(&fault.error)),
+        Damage::Channels(count) => Wrong::Channels(*count),
+        Damage::BitDepth(bits) => Wrong::BitDepth(*bits),
+        Damage::SampleRate(rate) => Wrong::SampleRate(*rate),
+        Damage::BlockingStrategy => Wrong::BlockingStrategy,
+        Damage::Missing(gap) => Wrong::Missing(gap.count, gap.is_variable),
+        Damage::Repeated(gap) => Wrong::Repeated(gap.count, gap.is_variable),
+    }
+}
+
+// The first byte of a place and that after it, its first sample and that after it, and what is wrong.
+type Found = (u64, u64, u64, u64, Wrong);
+
+fn found_of(place: &Place) -> Found {
+    (
+        place.start_byte,
+        place.end_byte,
+        place.start_sample,
+        place.end_sample,
+        wrong_of(&place.damage),
+    )
+}
+
+// What a report says: the numbers of frames, of samples and of places after the first, the first place, and whether the stream is
+// right.
+type Said = ((u64, u64, usize), Option<Found>, bool);
+
+fn said(report: &Report) -> Said {
+    let (found, places) = (&report.found, &report.found.places);
+    let first = match &places.first {
+        Some(first) => Some(found_of(first)),
+        None => None,
+    };
+    (
+        (found.frames, found.samples, places.more.len()),
+        first,
+        report.is_right,
+    )
+}
+
+const CRC: Wrong = Wrong::Fault(Fault::Format("frame CRC mismatch"));
+
+const CUT: Wrong = Wrong::Fault(Fault::Io);
+
+// Numbers of bytes of two frames of one sample, after a head that says that there is one sample; which of the frames have a
+// wrong CRC; and what is said. The head has 42 bytes, and each frame 11. It says that blocks have 16 samples, so the second frame
+// begins at the sample 16 where the first isn't known.
+const ROWS: [(usize, [bool; 2], Said); 12] = [
+    (42, [false, false], ((0, 0, 0), None, false)),
+    (43, [false, false], ((0, 0, 0), None, false)),
+    (
+        44,
+        [false, false],
+        ((0, 0, 0), Some((42, 44, 0, 0, CUT)), false),
+    ),
+    (
+        52,
+        [false, false],
+        ((0, 0, 0), Some((42, 52, 0, 0, CUT)), false),
+    ),
+    (53, [false, false], ((1, 1, 0), None, true)),
+    (54, [false, false], ((1, 1, 0), None, true)),
+    (
+        55,
+        [false, false],
+        ((1, 1, 0), Some((53, 55, 1, 1, CUT)), false),
+    ),
+    (
+        63,
+        [false, true],
+        ((1, 1, 0), Some((53, 63, 1, 1, CUT)), false),
+    ),
+    (64, [false, false], ((2, 2, 0), None, false)),
+    (
+        64,
+        [true, false],
+        ((1, 1, 0), Some((42, 53, 0, 16, CRC)), false),
+    ),
+    (
+        64,
+        [false, true],
+        ((1, 1, 0), Some((53, 64, 1, 1, CRC)), false),
+    ),
+    (
+        64,
+        [true, true],
+        ((0, 0, 0), Some((42, 64, 0, 0, CRC)), false),
+    ),
+];
+
+// The bytes of a row.
+fn damaged(wrong: [bool; 2]) -> [u8; 64] {
+    let [first, second] = wrong;
+    let mut bytes = frames_in_order();
+    bytes[52] ^= u8::from(first);
+    bytes[63] ^= u8::from(second);
+    bytes
+}
+
+#[test]
+fn frames_and_faults(rt: HostRuntime) -> Result<(), Fail> {
+    for (len, wrong, want) in ROWS {
+        let bytes = damaged(wrong);
+        let report = report_of(rt.alloc(), &mut Cursor::new(&bytes[..len.min(64)]), false)?;
+        assert!(rt; said(&report) == want, "{len}");
+        assert!(rt; report.info.samples == Some(1));
+        assert!(rt; report.found.notes.has_byte_left == (len == 43 || len == 54));
+    }
+    Ok(())
+}
+
+// Frames of number 1 with the sample 5: of variable blocks, of 48,000 Hz, and of 16 bits.
+const VARIABLE: [u8; 11] = [
+    0xff, 0xf9, 0x69, 0x02, 0x01, 0x00, 0xed, 0x00, 0x05, 0xa2, 0x89,
+];
+
+const FASTER: [u8; 11] = [
+    0xff, 0xf8, 0x6a, 0x02, 0x01, 0x00, 0xb5, 0x00, 0x05, 0x35, 0x5c,
+];
+
+const DEEPER: [u8; 12] = [
+    0xff, 0xf8, 0x69, 0x08, 0x01, 0x00, 0x08, 0x00, 0x00, 0x05, 0x5c, 0x3c,
+];
+
+const NO_SYNC: Wrong = Wrong::Fault(Fault::Format("frame sync code missing"));
+
+// Frames that are whole, but not in order, or disagree with the head or with one another. The last row has zeros after a frame.
+const ORDERS: [(&[&[u8]], Said); 8] = [
+    (
+        &[&FRAME, &FRAME],
+        (
+            (2, 2, 0),
+            Some((53, 53, 1, 0, Wrong::Repeated(1, false))),
+            false,
+        ),
+    ),
+    (
+        &[&SECOND, &FRAME],
+        (
+            (2, 2, 1),
+            Some((42, 42, 0, 16, Wrong::Missing(1, false))),
+            false,
+        ),
+    ),
+    (
+        &[&VARIABLE],
+        (
+            (1, 1, 0),
+            Some((42, 42, 0, 1, Wrong::Missing(1, true))),
+            false,
+        ),
+    ),
+    (
+        &[&FRAME, &VARIABLE],
+        (
+            (2, 2, 0),
+            Some((53, 64, 1, 2, Wrong::BlockingStrategy)),
+            false,
+        ),
+    ),
+    (
+        &[&PAIRS],
+        ((1, 2, 0), Some((42, 55, 0, 2, Wrong::Channels(2))), false),
+    ),
+    (
+        &[&FRAME, &FASTER],
+        (
+            (2, 2, 0),
+            Some((53, 64, 1, 2, Wrong::SampleRate(48000))),
+            false,
+        ),
+    ),
+    (
+        &[&FRAME, &DEEPER],
+        ((2, 2, 0), Some((53, 65, 1, 2, Wrong::BitDepth(16))), false),
+    ),
+    (
+        &[&FRAME, &[0, 0, 0]],
+        ((1, 1, 0), Some((53, 56, 1, 1, NO_SYNC)), false),
+    ),
+];
+
+#[test]
+fn orders_of_frames(rt: HostRuntime) -> Result<(), Fail> {
+    for (row, (frames, want)) in ORDERS.iter().enumerate() {
+        let bytes = joined(rt.alloc(), *frames)?;
+        let bytes = joined(rt.alloc(), &[&head(0x80), &bytes])?;
+        let report = report_of(rt.alloc(), &mut Cursor::new(bytes.as_slice()), true)?;
+        assert!(rt; said(&report) == *want, "{row}");
+        assert!(rt; report.trailing.is_some() == (row == 7), "{row}");
+    }
+    Ok(())
+}
+
+fn verdict_name(md5: Md5Verdict) -> &'static str {
+    match md5 {
+        Md5Verdict::NotComputed => "not computed",
+        Md5Verdict::Missing => "missing",
+        Md5Verdict::Right => "right",
+        Md5Verdict::Wrong => "wrong",
+    }
+}
+
+// The MD5 sum of the byte 5.
+const SUM: [u8; 16] = [
+    0x8b, 0xb6, 0xc1, 0x78, 0x38, 0x64, 0x3f, 0x96, 0x91, 0xcc, 0x6a, 0x4d, 0xe6, 0xc5, 0x17, 0x09,
+];
+
+// Sums in the head of a frame with that sample, whether the sum is computed, and what becomes of it.
+const SUMS: [([u8; 16], bool, &str); 5] = [
+    (SUM, true, "right"),
+    (SUM, false, "not computed"),
+    ([1; 16], true, "wrong"),
+    ([1; 16], false, "not computed"),
+    ([0; 16], true, "missing"),
+];
+
+// The two frames, with this sum in the head.
+fn with_sum(sum: &[u8; 16]) -> [u8; 64] {
+    let mut bytes = frames_in_order();
+    bytes[26..42].copy_from_slice(sum);
+    bytes
+}
+
+#[test]
+fn md5_sums(rt: HostRuntime) -> Result<(), Fail> {
+    for (sum, computes_md5, want) in SUMS {
+        let bytes = with_sum(&sum);
+        let report = report_of(
+            rt.alloc(),
+            &mut Cursor::new(front(&bytes, 53)),
+            computes_md5,
+        )?;
+        assert!(rt; verdict_name(report.md5) == want, "{want}");
+        assert!(rt; report.is_right == (want != "wrong"), "{want}");
+    }
+    Ok(())
+}
+
+// A fault of the head, an end inside it, and no bytes.
+#[test]
+fn faults_of_heads(rt: HostRuntime) {
+    for (bytes, want) in [
+        (b"fLaD".as_slice(), Fault::Format("invalid stream header")),
+        (b"fLa".as_slice(), Fault::Io),
+        (b"".as_slice(), Fault::Io),
+    ] {
+        let answer = match report_of(rt.alloc(), &mut Cursor::new(bytes), true) {
+            Ok(_) => None,
+            Err(error) => Some(fault_of(&error)),
+        };
+        assert!(rt; answer == Some(want));
+    }
+}
+
+// The percentage of one expected sample, once, and nothing without a label.
+#[test]
+fn progress(rt: HostRuntime) {
+    let bytes = frames_in_order();
+    for (label, want) in [(Some("a  "), "\ra  100 %\r\x1b[K"), (None, "")] {
+        let mut errors: Vec<u8> = Vec::new(rt.alloc());
+        let mut progress = Progress::new(&mut errors, label);
+        let mut input = Cursor::new(bytes.as_slice());
+        let report = verify(rt.alloc(), &mut input, true, &mut progress);
+        progress.clear();
+        assert!(rt; report.is_ok_and(|report| report.found.frames == 2));
+        assert!(rt; errors.as_slice() == want.as_bytes());
+    }
+}
+
+// Lengths and wrong CRCs, as in `ROWS`, and the status, the text of the line, and that of the place.
+const LINES: [(usize, [bool; 2], u8, &str, &str); 8] = [
+    (
+        53,
+        [false, false],
+        0,
+        "ok, 1 frame, 1 sample, no MD5 sum",
+        "",
+    ),
+    (
+        42,
+        [false, false],
+        1,
+        "wrong, 0 frames, 0 samples, but the streaminfo says 1",
+        "",
+    ),
+    (
+        64,
+        [false, false],
+        1,
+        "wrong, 2 frames, 2 samples, but the streaminfo says 1",
+        "",
+    ),
+    (
+        63,
+        [false, false],
+        1,
+        "wrong, 1 frame, 1 sample, 1 place at byte 53 after 1 sample: 10 bytes after the last frame",
+        "bytes 53 to 63, samples 1 to 1: 10 bytes after the last frame",
+    ),
+    (
+        52,
+        [false, false],
+        1,
+        "wrong, 0 frames, 0 samples, but the streaminfo says 1, 1 place at byte 42 after 0 samples: truncated: the file ends inside a frame",
+        "bytes 42 to 52, samples 0 to 0: truncated: the file ends inside a frame",
+    ),
+    (
+        64,
+        [true, false],
+        1,
+        "wrong, 1 frame, 1 sample, 1 place at byte 42 after 0 samples: Ill-formed FLAC stream: frame CRC mismatch",
+        "bytes 42 to 53, samples 0 to 16: Ill-formed FLAC stream: frame CRC mismatch",
+    ),
+    (
+        41,
+        [false, false],
+        1,
+        "wrong, truncated: the file ends inside the metadata",
+        "",
+    ),
+    (
+        0,
+        [false, false],
+        1,
+        "wrong, truncated: the file ends inside the metadata",
+        "",
+    ),
+];
+
+// Whether standard input with these bytes has this status, a line with this text, and one of a place, if that isn't empty.
+fn has_lines(
+    rt: &HostRuntime,
+    bytes: &[u8],
+    status: u8,
+    text: &str,
+    place: &str,
+) -> Result<bool, Fail> {
+    let words = owned(rt.alloc(), &["-"])?;
+    let (mut output, mut errors): (Vec<u8>, Vec<u8>) = (Vec::new(rt.alloc()), Vec::new(rt.alloc()));
+    let got = command(rt, &words, bytes, &mut output, false, &mut errors);
+    let mut lines = format!(in rt.alloc(); "standard input: {text}\n")?;
+    if !place.is_empty() {
+        write!(&mut lines, "standard input:   {place}\n")?;
+    }
+    Ok(got == status && output.as_slice() == lines.as_bytes() && errors.is_empty())
+}
+
+#[test]
+fn lines(rt: HostRuntime) -> Result<(), Fail> {
+    for (len, wrong, status, text, place) in LINES {
+        let bytes = damaged(wrong);
+        assert!(rt;
+            has_lines(&rt, &bytes[..len.min(64)], status, text, place)?,
+            "{len}"
+        );
+    }
+    Ok(())
+}
+
+// The smallest head, for samples of 32 bits.
+fn deep_head() -> [u8; 42] {
+    let mut bytes = head(0x80);
+    bytes[20..22].copy_from_slice(&[0x41, 0xf0]);
+    bytes
+}
+
+// Headers that are refused at their fourth byte because of a reserved code, after a frame.
+const REFUSED: [[u8; 4]; 2] = [[0xff, 0xf8, 0x69, 0x06], [0xff, 0xf8, 0x69, 0xbe]];
+
+#[test]
+fn reserved_codes(rt: HostRuntime) -> Result<(), Fail> {
+    for header in REFUSED {
+        let bytes = joined(rt.alloc(), &[&head(0x80), &FRAME, &SECOND, &header])?;
+        assert!(rt;
+            has_lines(
+                &rt,
+                bytes.as_slice(),
+                1,
+                "wrong, 2 frames, 2 samples, but the streaminfo says 1, 1 place at byte 64 after 2 samples: Ill-formed FLAC stream: invalid frame header, encountered reserved value",
+                "bytes 64 to 68, samples 2 to 2: Ill-formed FLAC stream: invalid frame header, encountered reserved value",
+            )?
+        );
+    }
+    Ok(())
+}
+
+// A streaminfo of 32 bits: a frame that leaves the bit depth to it, and the code.
+#[test]
+fn samples_of_32_bits(rt: HostRuntime) -> Result<(), Fail> {
+    let (alloc, head) = (rt.alloc(), deep_head());
+    let right = joined(alloc, &[&head, &DEEP_FRAME])?;
+    assert!(rt;
+        has_lines(
+            &rt,
+            right.as_slice(),
+            0,
+            "ok, 1 frame, 1 sample, no MD5 sum",
+            "",
+        )?
+    );
+    let wide = joined(alloc, &[&head, &[0xff, 0xf8, 0x69, 0x0e]])?;
+    assert!(rt;
+        has_lines(
+            &rt,
+            wide.as_slice(),
+            3,
+            "not supported, 32-bit samples",
+            "",
+        )?
+    );
+    Ok(())
+}
+
+// The first bytes.
+fn front(bytes: &[u8], len: usize) -> &[u8] {
+    &bytes[..len.min(bytes.len())]
+}
+
+// A right file, one that isn't there, and standard input with a wrong stream. Only the last writes fail.
+#[test]
+fn several_files(rt: HostRuntime) -> Result<(), Fail> {
+    let (right, none) = (
+        file_of(&rt, "verify_right", front(&damaged([false; 2]), 53))?,
+        path_of(&rt, "verify_none")?,
+    );
+    let (right, none) = (right.as_str(), none.as_str());
+    let words = owned(rt.alloc(), &[right, none, "-", right])?;
+    let one = format!(in rt.alloc(); "{right}: ok, 1 frame, 1 sample, no MD5 sum\n")?;
+    let wrong = "standard input: wrong, truncated: the file ends inside the metadata\n";
+    let all = format!(in rt.alloc(); "{one}{wrong}{one}")?;
+    let missing = format!(in rt.alloc(); "{none}: No such file or directory\n")?;
+    let (mut output, mut errors): (Vec<u8>, Vec<u8>) = (Vec::new(rt.alloc()), Vec::new(rt.alloc()));
+    let status = command(&rt, &words, b"".as_slice(), &mut output, false, &mut errors);
+    fs::remove_file(&rt, right)?;
+    assert!(rt; status == 1 && output.as_slice() == all.as_bytes());
+    assert!(rt; errors.as_slice() == missing.as_bytes());
+    Ok(())
+}
+
+// A write fails, and the second file isn't read; or the flush.
+#[test]
+fn lost_output(rt: HostRuntime) -> Result<(), Fail> {
+    let bytes = damaged([false; 2]);
+    let rows: [(&[&str], u32, bool); 3] = [
+        (&["-", "-"], 0, false),
+        (&["-", "-"], 9, true),
+        (&["--version"], 9, true),
+    ];
+    for (words, writes_left, fails_at_flush) in rows {
+        let words = owned(rt.alloc(), words)?;
+        let mut output = Sink::new(64, writes_left, fails_at_flush, ErrorKind::StorageFull);
+        let mut errors: Vec<u8> = Vec::new(rt.alloc());
+        let status = command(
+            &rt,
+            &words,
+            front(&bytes, 53),
+            &mut output,
+            false,
+            &mut errors,
+        );
+        let failure = io::Error::from(ErrorKind::StorageFull);
+        let text = format!(in rt.alloc(); "standard output: {failure}\n")?;
+        assert!(rt; status == 1 && errors.as_slice() == text.as_bytes());
+    }
+    Ok(())
+}
+
+#[test]
+fn command_lines(rt: HostRuntime) -> Result<(), Fail> {
+    let usage =
+        "usage: claxon verify [--no-md5] [--brief] [--json] [-q] [-r] [--files0-from FILE] [--] FILE..\n";
+    let other =
+        "claxon verify: unknown option -t\nusage: claxon verify [--no-md5] [--brief] [--json] [-q] [-r] [--files0-from FILE] [--] FILE..\n";
+    let rows: [(&[&str], &str); 4] = [
+        (&[], usage),
+        (&["--"], usage),
+        (&["--files0-from", "-", "a.flac"], usage),
+        (&["-t", "-"], other),
+    ];
+    for (words, text) in rows {
+        let words = owned(rt.alloc(), words)?;
+        let (mut output, mut errors): (Vec<u8>, Vec<u8>) = (
+            Vec::new(rt.alloc()),
+            Vec::new(rt.alloc()),
+        );
+        let status = command(&rt, &words, b"".as_slice(), &mut output, false, &mut errors);
+        assert!(rt; status == 2 && output.is_empty() && errors.as_slice() == text.as_bytes());
+    }
+    Ok(())
+}

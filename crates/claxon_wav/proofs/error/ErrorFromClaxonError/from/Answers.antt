@@ -1,0 +1,5 @@
+use Rattle.std.proofs.Common.{rules}
+use Rattle.claxon_wav.proofs.error.ErrorFromClaxonError.from.Goals as goal
+
+pub returns : goal.returns
+returns c = search rules

@@ -1,0 +1,8 @@
+use Rattle.std.proofs.Common.{rules}
+use Rattle.claxon_wav.proofs.writer.WavWriter.put_block.Goals as goal
+
+pub returns-clause-is_sound : goal.returns-clause-is_sound
+returns-clause-is_sound g c = search rules
+
+pub returns-then-size-free-clause-fault_is_sound : goal.returns-then-size-free-clause-fault_is_sound
+returns-then-size-free-clause-fault_is_sound g c = search rules

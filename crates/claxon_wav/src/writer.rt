@@ -1,0 +1,217 @@
+//! Writing a WAV file.
+ghost use Rattle.std.specs.Prelude.{◌≡◌, ◌≤◌, IfErr};
+ghost use Rattle.claxon_wav.specs.DataSize.{max_data_size};
+
+use crate::error::{Error, Result, of_output};
+use crate::header::{Layout, MAX_DATA_SIZE};
+use crate::samples::pack;
+use claxon::Block;
+use claxon_write::CountingWriter;
+use std::alloc::{Allocator, Global};
+use std::io::{Seek, Write};
+
+/// A WAV file in an output, with the samples written so far.
+#[derive(Drop)]
+pub struct WavWriter<'w, W> {
+    output: CountingWriter<'w, W>,
+    layout: Layout,
+    // The number of bytes of samples that the header announces, and the number written.
+    announced: u32,
+    written: u32,
+    // These are kept to reuse their memory.
+    header: Vec<u8>,
+    interleaved: Vec<i32>,
+    bytes: Vec<u8>,
+    ghost announced_fits: { announced ≤ max_data_size },
+    ghost written_fits: { written ≤ max_data_size },
+}
+
+impl<'w, W: Write> WavWriter<'w, W> {
+    ghost use Rattle.claxon_wav.specs.Writer.{
+      BeginIsSound,
+      FewWritesFailed,
+      FailsToPad,
+      FinishFaultIsSound,
+      FinishFlushes,
+      FinishStreamIsSound,
+      PadIsSound,
+      PutBlockFaultIsSound,
+      PutBlockFaultKeeps,
+      PutBlockFits,
+      PutBlockIsSound,
+      SameHeader,
+      SameOutput,
+      StartFaultIsSound,
+      StartIsSound,
+      StartUnknownIsSound,
+      Unflushed,
+      samples_written,
+    };
+
+    /// Borrows the output, and writes a header that announces this number of bytes of samples. If there are others, `finish`
+    /// corrects it.
+    pub fn start(
+        alloc: Global,
+        output: &'w mut W,
+        layout: Layout,
+        announced: u32,
+    ) -> Result<WavWriter<'w, W>>
+        requires { announced ≤ max_data_size }
+        ensures is_sound { StartIsSound W.contents layout announced output.entry result }
+        ensures fault_is_sound { StartFaultIsSound result }
+    {
+        let mut header = Vec::new(alloc);
+        layout.put_header(announced, &mut header)?;
+        WavWriter::begin(alloc, output, layout, announced, header)
+    }
+
+    /// Borrows the output, and writes a header for samples of unknown number. It is never corrected: `finish_stream` ends the
+    /// file.
+    pub fn start_unknown(
+        alloc: Global,
+        output: &'w mut W,
+        layout: Layout,
+    ) -> Result<WavWriter<'w, W>>
+        ensures is_sound { StartUnknownIsSound W.contents layout output.entry result }
+        ensures fault_is_sound { StartFaultIsSound result }
+    {
+        let mut header = Vec::new(alloc);
+        layout.put_unknown_header(&mut header)?;
+        WavWriter::begin(alloc, output, layout, 0, header)
+    }
+
+    // Writes a header.
+    fn begin(
+        alloc: Global,
+        output: &'w mut W,
+        layout: Layout,
+        announced: u32,
+        header: Vec<u8>,
+    ) -> Result<WavWriter<'w, W>>
+        requires { announced ≤ max_data_size }
+        ensures is_sound { BeginIsSound W.contents header.items layout announced output.entry result }
+        ensures fault_is_sound { StartFaultIsSound result }
+    {
+        let mut output = CountingWriter::new(output);
+        of_output(output.write_whole(header.as_slice()))?;
+        Ok(WavWriter {
+            output,
+            layout,
+            announced,
+            written: 0,
+            header,
+            interleaved: Vec::new(alloc),
+            bytes: Vec::new(alloc),
+        })
+    }
+
+    /// Writes the samples of a block.
+    ///
+    /// # Errors
+    ///
+    /// `OtherChannels`, `WideSample`, `TooLong` or `OutOfMemory`, and then nothing was written. `Output` if a write fails, and
+    /// then a prefix of the block's bytes was written. The samples of the block aren't counted.
+    pub fn put_block<A: Allocator>(&mut self, block: &Block<A>) -> Result<()>
+        ensures same_output { SameOutput self.old self.new }
+        ensures is_sound { PutBlockIsSound W.contents block.now result self.old self.new }
+        ensures fits { PutBlockFits block.now result self.old }
+        ensures fault_is_sound { PutBlockFaultIsSound block.now result self.old }
+        ensures fault_keeps { PutBlockFaultKeeps W.contents block.now result self.old self.new }
+        ensures same_header { SameHeader self.old self.new }
+        ensures unflushed { Unflushed self.old self.new }
+    {
+        if block.channels() != self.layout.channels() {
+            return Err(Error::OtherChannels);
+        }
+        let valid_bits = self.layout.valid_bits();
+        pack(block, valid_bits, &mut self.interleaved, &mut self.bytes)?;
+        let free = (MAX_DATA_SIZE - self.written) as usize;
+        let size = self.bytes.len();
+        if size > free {
+            return Err(Error::TooLong);
+        }
+        of_output(self.output.write_whole(self.bytes.as_slice()))?;
+        self.written += size as u32;
+        Ok(())
+    }
+
+    /// The number of samples per channel written so far.
+    pub fn samples(&self) -> u32
+        ensures { result ≡ samples_written self.now }
+    {
+        self.written / self.layout.block_align()
+    }
+
+    /// Finishes the file of an output that can't seek, so the header stays as it is. Where it announced the bytes that were
+    /// written, the pad byte is written.
+    pub fn finish_stream(&mut self) -> Result<()>
+        ensures same_output { SameOutput self.old self.new }
+        ensures is_sound { FinishStreamIsSound W.contents result self.old self.new }
+        ensures flushes { FinishFlushes result self.old self.new }
+        ensures fault_is_sound { FinishFaultIsSound result self.old self.new }
+        ensures few_writes_failed { FewWritesFailed self.old self.new }
+        ensures same_header { SameHeader self.old self.new }
+    {
+        if self.written == self.announced {
+            self.pad()?;
+        }
+        let flushed = self.output.flush();
+        of_output(flushed)
+    }
+
+    // The pad byte after an odd number of bytes.
+    fn pad(&mut self) -> Result<()>
+        ensures same_output { SameOutput self.old self.new }
+        ensures is_sound { PadIsSound W.contents result self.old self.new }
+        ensures same_header { SameHeader self.old self.new }
+        ensures count { self.new.written ≡ self.old.written }
+        ensures err { IfErr result (FailsToPad self.old self.new) }
+        ensures unflushed { Unflushed self.old self.new }
+    {
+        if self.written % 2 == 1 {
+            of_output(self.output.write_whole(&[0]))?;
+        }
+        Ok(())
+    }
+}
+
+impl<'w, W: Write + Seek> WavWriter<'w, W> {
+    ghost use Rattle.claxon_wav.specs.Writer.{
+      FewWritesFailed,
+      FinishFaultIsSound,
+      FinishFlushes,
+      FinishIsSound,
+      SameOutput,
+      UpdateFaultIsSound,
+      UpdateHeaderIsSound,
+    };
+
+    /// Finishes the file with the samples written so far. There is no seek if the header was right.
+    pub fn finish(&mut self) -> Result<()>
+        ensures same_output { SameOutput self.old self.new }
+        ensures is_sound { FinishIsSound W.contents W.stream_position result self.old self.new }
+        ensures flushes { FinishFlushes result self.old self.new }
+        ensures fault_is_sound { FinishFaultIsSound result self.old self.new }
+        ensures few_writes_failed { FewWritesFailed self.old self.new }
+    {
+        let padded = self.pad();
+        let updated = self.update_header();
+        padded?;
+        updated
+    }
+
+    fn update_header(&mut self) -> Result<()>
+        ensures same_output { SameOutput self.old self.new }
+        ensures is_sound { UpdateHeaderIsSound W.contents W.stream_position result self.old self.new }
+        ensures flushes { FinishFlushes result self.old self.new }
+        ensures fault_is_sound { UpdateFaultIsSound result self.old self.new }
+    {
+        if self.written != self.announced {
+            self.layout.put_header(self.written, &mut self.header)?;
+            of_output(self.output.rewind())?;
+            of_output(self.output.write_whole(self.header.as_slice()))?;
+            self.announced = self.written;
+        }
+        of_output(self.output.flush())
+    }
+}
