@@ -40,7 +40,8 @@ fn fills<R: Read + Drop, W: Write + Seek>(
 ) -> bool
     requires { flac_metadata_only flac.old ≡ false }
 {
-    let mut progress = Progress::new(errors, Some(5));
+    let mut progress = Progress::new(errors, Some(""));
+    progress.start(Some(5));
     let mut md5 = None;
     let outcome = convert(alloc, flac, wav, &mut md5, &mut progress);
     progress.end();

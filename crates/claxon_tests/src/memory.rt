@@ -1,7 +1,6 @@
 //! Refused memory, for each request in turn.
 use crate::answers::{
-    COMMENT, FIVES, FRAME, Fault, SECOND, Step, answers_each, fault_of, head, joined, report_of,
-    run_of, two_frames,
+    COMMENT, FIVES, FRAME, Fault, Step, answers_each, fault_of, head, joined, run_of, two_frames,
 };
 use crate::doubles::RefusesOne;
 use crate::doubles::sinks::Sink;
@@ -21,7 +20,6 @@ enum Call {
     Open,
     Samples,
     Run,
-    Verify,
     Block,
 }
 
@@ -33,7 +31,6 @@ fn answer_of<A: Allocator + Copy>(heap: A, call: Call, bytes: &[u8]) -> Result<(
         Call::Open => opened(heap, bytes),
         Call::Samples => sampled(heap, bytes),
         Call::Run => written(heap, bytes),
-        Call::Verify => verified(heap, bytes),
         Call::Block => block_read(heap, bytes),
     }
 }
@@ -64,15 +61,6 @@ fn written<A: Allocator + Copy>(heap: A, bytes: &[u8]) -> Result<(), Fault> {
         Ok(2) if sink.written() == FIVES.as_slice() => Ok(()),
         Err(error) if sink.written().is_empty() => Err(fault_of(&error)),
         _ => OTHER,
-    }
-}
-
-// A stream of two samples in two frames.
-fn verified<A: Allocator + Copy>(heap: A, bytes: &[u8]) -> Result<(), Fault> {
-    match report_of(heap, &mut Cursor::new(bytes), false) {
-        Ok(report) if report.found.frames == 2 && report.found.samples == 2 => Ok(()),
-        Ok(_) => OTHER,
-        Err(error) => Err(fault_of(&error)),
     }
 }
 
@@ -153,30 +141,7 @@ fn streams(rt: HostRuntime) -> Result<(), Fail> {
     check(&rt, Call::Open, &tagged, 3)?;
     let with_a_frame = joined(rt.alloc(), &[&tagged, &FRAME])?;
     check(&rt, Call::Samples, &with_a_frame, 4)?;
-    check(&rt, Call::Run, &two_frames(0x58), 2)?;
-    check(&rt, Call::Verify, &two_frames(0x58), 1)
-}
-
-// The number of places of a stream that are there, and of those that are left out, if the request after `granted` ones is refused.
-fn places_of(alloc: Global, bytes: &[u8], granted: u64) -> Result<(usize, u64), Fault> {
-    let heap = RefusesOne::new(alloc, granted);
-    match report_of(&heap, &mut Cursor::new(bytes), false) {
-        Ok(report) => {
-            let places = &report.found.places;
-            Ok((places.more.len(), places.left_out))
-        }
-        Err(error) => Err(fault_of(&error)),
-    }
-}
-
-// The buffer of the blocks is requested first, and then memory for the places after the first. A place is left out without it.
-#[test]
-fn places(rt: HostRuntime) -> Result<(), Fail> {
-    let bytes = joined(rt.alloc(), &[&head(0x80), &SECOND, &FRAME])?;
-    for (granted, want) in [(0, Err(Fault::Memory)), (1, Ok((0, 1))), (2, Ok((1, 0)))] {
-        assert!(rt; places_of(rt.alloc(), &bytes, granted) == want);
-    }
-    Ok(())
+    check(&rt, Call::Run, &two_frames(0x58), 2)
 }
 
 // The vendor `ab` and a number of entries `X=Y`.

@@ -6,6 +6,7 @@ use crate::temporary_files::{file_of, path_of};
 use claxon_command_line::arguments::words;
 use claxon_write::command;
 use linked_list_allocator::LocalHeap;
+use std::alloc::Global;
 use std::env::FillError;
 use std::fs;
 use std::io::ErrorKind;

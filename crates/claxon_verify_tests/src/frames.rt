@@ -1,5 +1,6 @@
 //! Frames with the longest header and the shortest, and bytes that are no frame.
-use claxon_verify::frames::*;
+use claxon::metadata::StreamInfo;
+use claxon_verify::frames::{DecodedFrame, read_frame};
 use std::alloc::Global;
 use std::io::Cursor;
 

@@ -8,6 +8,8 @@ mod frames;
 #[cfg(test)]
 mod hashing;
 #[cfg(test)]
+mod memory;
+#[cfg(test)]
 mod reports;
 #[cfg(test)]
 mod trailing;

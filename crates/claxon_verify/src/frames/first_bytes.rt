@@ -71,14 +71,14 @@ impl FirstBytes {
     ghost use Rattle.claxon_verify.specs.FirstBytes.{AreZeros, kept_of};
 
     /// They, as a slice.
-    pub(crate) fn as_slice(&self) -> &[u8]
+    pub fn as_slice(&self) -> &[u8]
         ensures { result.now ≡ kept_of self.now }
     {
         &self.bytes[..self.seen.min(16)]
     }
 
     /// Whether each of them is 0.
-    pub(crate) fn are_zeros(&self) -> bool
+    pub fn are_zeros(&self) -> bool
         ensures { IsTrue result ↔ AreZeros (kept_of self.now) }
     {
         are_zeros(self.as_slice())

@@ -1,0 +1,59 @@
+//! Refused memory, for each request of a stream that is verified.
+use crate::reports::report_of;
+use claxon_tests::answers::{FRAME, Fault, SECOND, fault_of, head, joined, two_frames};
+use claxon_tests::doubles::RefusesOne;
+use linked_list_allocator::LocalHeap;
+use std::alloc::{Allocator, Global};
+use std::io::Cursor;
+use std::test::Fail;
+
+const OTHER: Result<(), Fault> = Err(Fault::Format("another answer"));
+
+// A stream of two samples in two frames.
+fn verified<A: Allocator + Copy>(heap: A, bytes: &[u8]) -> Result<(), Fault> {
+    match report_of(heap, &mut Cursor::new(bytes), false) {
+        Ok(report) if report.found.frames == 2 && report.found.samples == 2 => Ok(()),
+        Ok(_) => OTHER,
+        Err(error) => Err(fault_of(&error)),
+    }
+}
+
+// The result if the request after `granted` ones is refused, and how many more would have been granted.
+fn attempt(alloc: Global, granted: u64) -> Result<(Result<(), Fault>, u64), Fail> {
+    let heap = RefusesOne::new(LocalHeap::new(alloc, 8192)?, granted);
+    let answer = verified(&heap, &two_frames(0x58));
+    if heap.inner().used() > 0 {
+        return Err(Fail::new("memory that isn't given back"));
+    }
+    Ok((answer, heap.left()))
+}
+
+// One request, for the samples of a block.
+#[test]
+fn streams(rt: HostRuntime) -> Result<(), Fail> {
+    assert!(rt; attempt(rt.alloc(), 0)? == (Err(Fault::Memory), u64::MAX));
+    assert!(rt; attempt(rt.alloc(), 1)? == (Ok(()), 0));
+    Ok(())
+}
+
+// The number of places of a stream that are there, and of those that are left out, if the request after `granted` ones is refused.
+fn places_of(alloc: Global, bytes: &[u8], granted: u64) -> Result<(usize, u64), Fault> {
+    let heap = RefusesOne::new(alloc, granted);
+    match report_of(&heap, &mut Cursor::new(bytes), false) {
+        Ok(report) => {
+            let places = &report.found.places;
+            Ok((places.more.len(), places.left_out))
+        }
+        Err(error) => Err(fault_of(&error)),
+    }
+}
+
+// The buffer of the blocks is requested first, and then memory for the places after the first. A place is left out without it.
+#[test]
+fn places(rt: HostRuntime) -> Result<(), Fail> {
+    let bytes = joined(rt.alloc(), &[&head(0x80), &SECOND, &FRAME])?;
+    for (granted, want) in [(0, Err(Fault::Memory)), (1, Ok((0, 1))), (2, Ok((1, 0)))] {
+        assert!(rt; places_of(rt.alloc(), &bytes, granted) == want);
+    }
+    Ok(())
+}
