@@ -1,6 +1,7 @@
 //! Frames: the bytes consumed, and the blocks.
 ghost use Rattle.std.specs.Prelude.{◌≡◌};
 
+use crate::answers::AnswerText;
 use crate::replay::Case;
 use crate::streams::add_calls_that_disagree;
 use claxon::Block;

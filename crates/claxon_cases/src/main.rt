@@ -1,6 +1,7 @@
 //! Decodes files, and replays lines of subframes, metadata blocks, frames and streams with answers of another decoder.
 #![tactic(auto)]
 
+mod answers;
 mod blocks;
 mod frames;
 mod replay;
@@ -9,7 +10,7 @@ mod streams;
 mod subframes;
 
 use claxon::Result;
-use claxon_write::status;
+use claxon_command_line::status;
 use replay::{Kind, replay};
 use samples::print_tally;
 use std::io::{Read, Write};

@@ -1,5 +1,6 @@
 //! Lines `number length bytes: answer`, in which the number is a bit depth, a type or a choice of options, and the bytes are
 //! hexadecimal.
+use crate::answers::AnswerText;
 use crate::blocks::answer_of_block;
 use crate::frames::answer_of_frames;
 use crate::streams::answer_of_stream;

@@ -1,4 +1,5 @@
 //! Streams: their heads, samples and blocks, and whether the other calls agree.
+use crate::answers::AnswerText;
 use crate::blocks::add_streaminfo;
 use crate::replay::Case;
 use crate::samples::gather;

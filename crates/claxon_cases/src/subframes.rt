@@ -1,4 +1,5 @@
 //! Subframes: the bits consumed, and the samples.
+use crate::answers::AnswerText;
 use crate::replay::Case;
 use claxon::input::{Bitstream, ReadBytes};
 use claxon::{Error, Result, subframe};

@@ -56,13 +56,6 @@ impl ResultText {
         self.bytes(text.as_bytes());
     }
 
-    /// Adds these texts.
-    pub fn parts(&mut self, parts: &[&str]) {
-        for part in parts {
-            self.text(part);
-        }
-    }
-
     /// Adds a value as its text.
     pub fn value<T: fmt::Display>(&mut self, value: &T) {
         if write!(&mut self.text, "{value}").is_err() {
@@ -90,14 +83,6 @@ impl ResultText {
         for (text, count) in counts {
             self.text(text);
             self.value(count);
-        }
-    }
-
-    /// Adds each of the samples, after a space.
-    pub fn samples(&mut self, samples: &[i32]) {
-        for sample in samples {
-            self.text(" ");
-            self.value(sample);
         }
     }
 
@@ -138,34 +123,6 @@ impl ResultText {
         match error {
             Error::IoError(_) => self.text("IO"),
             _ => self.value(error),
-        }
-    }
-
-    /// Adds the number of bits or bytes consumed and the text of a fault, or `IO` for an `IoError` after all of them.
-    pub fn fault_after(&mut self, taken: u64, all: u64, error: &Error) {
-        match error {
-            Error::IoError(_) if taken == all => self.text("IO"),
-            _ => {
-                self.value(&taken);
-                self.text(" ");
-                self.value(error);
-            }
-        }
-    }
-
-    /// Adds the other answer after the heading, if it differs from the first.
-    pub fn difference(&mut self, one: &ResultText, other: &ResultText, heading: &str) {
-        if one.as_bytes() != other.as_bytes() {
-            self.text(heading);
-            self.bytes(other.as_bytes());
-        }
-    }
-
-    /// Adds `end` or the fault.
-    pub fn end(&mut self, outcome: &Result<()>) {
-        match outcome {
-            Ok(()) => self.text("end"),
-            Err(error) => self.fault(error),
         }
     }
 }
