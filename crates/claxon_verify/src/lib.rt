@@ -25,12 +25,12 @@ ghost use Rattle.claxon_verify.specs.Verify.{
 ghost use Rattle.claxon_verify.specs.Walk.{Md5IsJudged, WalksToEnd, first_place};
 
 use crate::frames::read_frame;
-use claxon_command_line::progress::Progress;
 use crate::report::{Found, Md5Verdict, Report};
 use claxon::crc::{CrcReader, RunningCrc};
 use claxon::input::ReadBytes;
 use claxon::metadata::StreamInfo;
 use claxon::{Error, FlacReaderOptions, Result, read_head};
+use claxon_command_line::progress::Progress;
 use claxon_md5::Md5;
 use std::alloc::Allocator;
 use std::io::Write;

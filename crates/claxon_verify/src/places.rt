@@ -2,8 +2,8 @@
 ghost use Rattle.std.specs.Prelude.{◌≡◌, ◌≢◌, IsTrue, None, Some};
 ghost use Rattle.claxon_verify.specs.Walk.{AddsPlace, KeepsFirstPlace, first_place, or_else};
 
-use crate::trailing::is_failed_read;
 use crate::report::{Damage, Place, Places};
+use crate::trailing::is_failed_read;
 use std::alloc::Allocator;
 
 /// The places so far. The last one may go on.

@@ -15,13 +15,13 @@ ghost use Rattle.claxon_verify.specs.Walk.{
   first_place,
 };
 
+use crate::frames::FrameError;
+use crate::hashing::hash_block;
 use crate::order::Order;
 use crate::places::PlacesSoFar;
-use crate::trailing::{BytesAfter, is_no_sync_code, is_of_bytes};
-use crate::frames::{DecodedFrame, FrameError};
-use crate::hashing::hash_block;
 use crate::report::{Damage, Notes, Place, Trailing};
-use claxon::frame::BlockInfo;
+use crate::trailing::{BytesAfter, is_no_sync_code, is_of_bytes};
+use claxon::frame::{BlockInfo, DecodedFrame};
 use claxon::metadata::StreamInfo;
 use claxon::{Block, Error, Result};
 use claxon_md5::Md5;
@@ -190,7 +190,13 @@ fn with_damage<A: Allocator>(
 }
 
 // The notes after one frame more. A last block may be short, so it is noted when a frame follows.
-fn with_sizes(notes: Notes, info: &StreamInfo, is_short: bool, duration: u32, span: ByteRange) -> Notes {
+fn with_sizes(
+    notes: Notes,
+    info: &StreamInfo,
+    is_short: bool,
+    duration: u32,
+    span: ByteRange,
+) -> Notes {
     let bytes = span.end.wrapping_sub(span.start);
     let is_small = match info.min_frame_size {
         Some(min) => bytes < u64::from(min),

@@ -1,4 +1,5 @@
 //! Frames with the longest header and the shortest, and bytes that are no frame.
+use claxon::frame::DecodedFrame;
 use claxon_verify::frames::*;
 use std::alloc::Global;
 use std::io::Cursor;
