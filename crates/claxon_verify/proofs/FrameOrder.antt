@@ -1,18 +1,13 @@
 -- The order of the frames of a stream.
-use Rattle.std.proofs.Common.{◌≡◌, ◌<◌, ◌+◌, ◌^◌, ℕ, zero, suc, true, false, not, cond, List, [], ◌∷◌, ◌++◌, length, refl, sym, ap, arith, subst, ◌∙◌, append_assoc, length-append}
-use Rattle.std.specs.Prelude.{Bool, IfSome, Option, None, Some, unwrap_or}
-use Rattle.std.specs.Option.{option_eq}
-use Rattle.std.proofs.Math.Bool.{beq}
+use Rattle.std.proofs.Common.{◌≡◌, ◌<◌, ◌+◌, ◌^◌, ℕ, true, false, cond, List, [], ◌∷◌, ◌++◌, length, refl, sym, ap, subst, ◌∙◌, append_assoc, length-append}
+use Rattle.std.specs.Prelude.{Bool, Option, Some}
 use Rattle.std.specs.List.{sum_by}
 use Rattle.std.proofs.lemmas.List.{append-nil}
-use Rattle.std.proofs.lemmas.List.Sums.{sum_by-append, sum_by_push}
-use Rattle.claxon.specs.BlockInfos.{BlockInfo}
+use Rattle.std.proofs.lemmas.List.Sums.{sum_by_push}
+use Rattle.claxon.specs.DecodedFrame.{FrameValue}
 use Rattle.claxon.specs.Streaminfo.{Streaminfo}
-use Rattle.claxon_verify.specs.RightStream.{AgreesWithInfo, AreNextAfter, FrameValue, HasStrategy, IsNextAfter, frame_duration, number_after, number_of, strategy_after}
-use Rattle.claxon_verify.specs.Verify.{IsJudged, IsNumbered}
+use Rattle.claxon_verify.specs.RightStream.{AreNextAfter, IsNextAfter, frame_duration, number_after, number_of, strategy_after}
 use Rattle.claxon_verify.specs.Walk.{GoesOn, or_else}
-use Rattle.claxon_verify.specs.declared.report.Damage.{Damage}
-use Rattle.claxon_verify.specs.declared.report.Damage.TheVariants.{BitDepth, BlockingStrategy, Channels, Fault, Missing, Repeated, SampleRate}
 use Rattle.claxon_verify.specs.declared.order.Order.{Order}
 
 -- ---- one frame more

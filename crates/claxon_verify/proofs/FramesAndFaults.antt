@@ -6,16 +6,17 @@ use Rattle.std.proofs.lemmas.Bool.{false≢true}
 use Rattle.std.proofs.lemmas.List.{append-nil, append_cancel_left}
 use Rattle.std.proofs.lemmas.List.Sums.{sum_by-append, sum_by-cons}
 use Rattle.claxon.specs.BlockInfos.{BlockInfo}
+use Rattle.claxon.specs.DecodedFrame.{FrameValue, FrameWithHeader}
 use Rattle.claxon.specs.Errors.{Error}
 use Rattle.claxon.specs.Error.{IsFault}
 use Rattle.claxon.specs.Fault.{BitDepthReserved, Fault}
-use Rattle.claxon.specs.Frame.{Block, IsBitDepth, NoFrameLeft, StreamFormat, known_bit_depth}
+use Rattle.claxon.specs.Frame.{IsBitDepth, NoFrameLeft, StreamFormat, known_bit_depth}
 use Rattle.claxon.specs.Prefix.{BeginsWith}
 use Rattle.claxon.specs.Streaminfo.{Streaminfo}
 use Rattle.claxon.proofs.FormatLaws.{frames_unambiguous}
 use Rattle.claxon.proofs.SampleRuns.{short_no_frame, short_no_fault}
 use Rattle.claxon_verify.specs.Frames.{Is32BitFault, Says32Bits}
-use Rattle.claxon_verify.specs.RightStream.{AreNextAfter, DecodedFrames, FrameValue, FrameValueBytes, IsNext, IsNextAfter, frame_duration, number_after, strategy_after}
+use Rattle.claxon_verify.specs.RightStream.{AreNextAfter, DecodedFrames, IsNext, IsNextAfter, frame_duration, number_after, strategy_after}
 use Rattle.claxon_verify.specs.Verify.{AreTooMany, CanBeCounted, Counted, Counts, EndsAt, FirstIs, IsDamageAt, IsFaultAt, IsFirst, IsNotNext, IsNotWhole, FrameOrFault, FrameOrFaultBytes, FramesAndFaults, SameDamage, SameFirst, fault_count_of, frame_count_of, frames_of, sample_count_of}
 use Rattle.claxon_verify.specs.declared.frames.FrameError.{FrameError}
 use Rattle.claxon_verify.specs.declared.report.Damage.{Damage}
@@ -23,7 +24,7 @@ use Rattle.claxon_verify.specs.declared.report.Damage.TheVariants.{BitDepth, Blo
 use Rattle.claxon_verify.specs.declared.report.Gap.{Gap}
 use Rattle.claxon_verify.specs.declared.report.Place.{Place}
 use Rattle.claxon_verify.proofs.FirstBytes.{refused}
-use Rattle.claxon_verify.proofs.KeptHeaders.{one_header}
+use Rattle.claxon.proofs.DecodedFrames.{decoded_unambiguous}
 
 -- one frame or fault more
 pub parts_push : (stream : Option StreamFormat) (parts : List FrameOrFault) (part : FrameOrFault) (s m t r : List ℕ) → FramesAndFaults stream s parts m → FrameOrFaultBytes stream part t → m ≡ t ++ r → FramesAndFaults stream s (parts ++ part ∷ []) r
@@ -158,14 +159,9 @@ module _ (info : Streaminfo) (strategy : Option Bool) (number : ℕ) (frame : Bl
 
 -- ---- bytes are one list of frames and faults
 
-same_frame : (a b : FrameValue) → a.info ≡ b.info → a.block ≡ b.block → a ≡ b
-same_frame a b e f = ap₂ (λ (i : BlockInfo) (z : Block). record { info = i; block = z }) e f
-
 module _ (stream : Option StreamFormat) (bit_depth : IsBitDepth (known_bit_depth stream)) where
-  one_frame : (a b : FrameValue) (t u x y : List ℕ) → FrameValueBytes stream a t → FrameValueBytes stream b u → t ++ x ≡ u ++ y → (a ≡ b) × (t ≡ u)
-  one_frame a b t u x y c d e =
-      let k = (frames_unambiguous stream bit_depth).one_code a.block b.block t u x y c.0 d.0 e in
-      (same_frame a b (one_header stream a.info b.info a.block b.block (t ++ x) t x u y c d refl e) k.0, k.1)
+  one_frame : (a b : FrameValue) (t u x y : List ℕ) → FrameWithHeader stream a t → FrameWithHeader stream b u → t ++ x ≡ u ++ y → (a ≡ b) × (t ≡ u)
+  one_frame = (decoded_unambiguous stream bit_depth).one_code
 
   one_frame_or_fault : (p q : FrameOrFault) (t u x y : List ℕ) → FrameOrFaultBytes stream p t → FrameOrFaultBytes stream q u → t ++ x ≡ u ++ y → (p ≡ q) × (t ≡ u)
   one_frame_or_fault (Ok a) (Ok b) t u x y c d e = let k = one_frame a b t u x y c d e in (ap (λ (z : FrameValue). Ok z) k.0, k.1)
@@ -247,7 +243,7 @@ module _ (stream : Option StreamFormat) (bit_depth : IsBitDepth (known_bit_depth
   module _ (info : Streaminfo) where
     -- a frame that isn't the next one after these
     abbrev IsOther : List FrameValue → List ℕ → Damage → Type 0
-    IsOther before m d = (frame : FrameValue) × BeginsWith (FrameValueBytes stream frame) m × IsNotNext info (strategy_after before) (number_after before) frame.info d
+    IsOther before m d = (frame : FrameValue) × BeginsWith (FrameWithHeader stream frame) m × IsNotNext info (strategy_after before) (number_after before) frame.info d
 
     -- a fault
     abbrev IsBad : Type 0 → List ℕ → Damage → Type 0
@@ -265,7 +261,7 @@ module _ (stream : Option StreamFormat) (bit_depth : IsBitDepth (known_bit_depth
 
     -- m begins with no frame that is the next one after these
     abbrev NoNext : List FrameValue → List ℕ → Type 0
-    NoNext before m = (frame : FrameValue) (t u : List ℕ) → FrameValueBytes stream frame t → m ≡ t ++ u → IsNextAfter info before frame.info → ⊥
+    NoNext before m = (frame : FrameValue) (t u : List ℕ) → FrameWithHeader stream frame t → m ≡ t ++ u → IsNextAfter info before frame.info → ⊥
 
     other_no_next : (before : List FrameValue) (m : List ℕ) (d : Damage) → IsOther before m d → NoNext before m
     other_no_next before m d h = λ frame t u c is next.

@@ -9,8 +9,6 @@ pub mod ReadsBelow
 pub mod KeptBytes
 -- The fault of a frame whose header has the bit depth code for 32 bits, and the bytes that say so.
 pub mod FirstBytes
--- The header of a decoded frame, among the bytes that are kept.
-pub mod KeptHeaders
 -- The order of the frames of a stream.
 pub mod FrameOrder
 -- Frames and faults that are found, one after another.

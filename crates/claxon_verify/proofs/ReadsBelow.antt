@@ -3,12 +3,14 @@
 use Rattle.std.specs.Borrow.{GName, MutBor}
 use Rattle.std.proofs.Common.{◌≡◌, ℕ, List, ◌∷◌, inl, inr, sym, ap, subst, ◌∙◌}
 use Rattle.std.specs.Prelude.{IsTrue, Option, None, Some, Result, Ok, Err, ◌↔◌}
+use Rattle.claxon.specs.DecodedFrame.{DecodedAnswer, FrameWithHeader, decoded_view}
 use Rattle.claxon.specs.Errors.{Error}
 use Rattle.claxon.specs.Errors.TheVariants.{FormatError, IoError, OutOfMemory, Unsupported}
 use Rattle.claxon.specs.Frame.{Block, StreamFormat}
 use Rattle.claxon.specs.FrameReader.{FrameAnswer, ReadsFrame, block_view}
 use Rattle.claxon.specs.Gives.{Consumes, GivesOrEofOrOutOfMemory, ReachedEof, ReadFailedOrRemaining, Stops, or_eof}
-use Rattle.claxon.specs.Promises.{NoneIsEof, Remains}
+use Rattle.claxon.specs.Fault.{Fault}
+use Rattle.claxon.specs.Promises.{FoundIsSound, NoneIsEof, Remains}
 use Rattle.claxon.specs.SampleRuns.{lent}
 use Rattle.claxon.specs.Source.{Source}
 use Rattle.claxon.specs.State.{State, RemainingIsKnown, bytes_in, crcs_at_eof, final_crcs}
@@ -18,8 +20,10 @@ use Rattle.claxon.specs.read.Frame.{frame_bytes_at}
 use Rattle.claxon.specs.read.Reading.{Reading, Done}
 use Rattle.claxon.proofs.CrcReaders.{name_below, same_crcs_below, same_loans_below}
 use Rattle.claxon_write.proofs.Gathering.{reads_loans}
+use Rattle.claxon_verify.specs.FirstBytes.{AreFirst}
 use Rattle.claxon_verify.specs.Frames.{Is32BitFault, TellsOf32Bits}
 use Rattle.claxon_verify.specs.declared.frames.FrameError.{FrameError}
+use Rattle.claxon_verify.specs.declared.frames.first_bytes.FirstBytes.{FirstBytes}
 
 -- the same state with other loans and CRCs
 abbrev wrapped : List GName → (List ℕ → List ℕ) → State ℕ → State ℕ
@@ -88,6 +92,14 @@ module _ {R : Type 0} (source : R → Source ℕ) {r : FrameAnswer} (s q : MutBo
       subst (λ (z : MutBor R). ReadsFrame known r (bytes_in source z.now) (bytes_in source q.now)) at
       (reads_lent (subst (λ (z : Option StreamFormat). ReadsFrame z r (bytes_in (lent source) s) (bytes_in (lent source) q)) same h))
 
+-- the frame and its header
+pub sound_borrowed : {R A : Type 0} (source : R → Source ℕ) (s q : MutBor R) {stream known : Option StreamFormat} (r : DecodedAnswer A) (x : MutBor R) → s ≡ x → stream ≡ known
+    → FoundIsSound decoded_view r (FrameWithHeader stream) (bytes_in (lent source) s) (bytes_in (lent source) q) → FoundIsSound decoded_view r (FrameWithHeader known) (bytes_in source x.now) (bytes_in source q.now)
+unfolding bytes_in
+sound_borrowed {R = R} source s q {known = known} r x at same h =
+    subst (λ (z : MutBor R). FoundIsSound decoded_view r (FrameWithHeader known) (bytes_in source z.now) (bytes_in source q.now)) at
+    (subst (λ (z : Option StreamFormat). FoundIsSound decoded_view r (FrameWithHeader z) (bytes_in source s.now) (bytes_in source q.now)) same h)
+
 -- ---- through a reader that keeps a CRC, over a reference
 
 module _ {R S : Type 0} (source : R → Source ℕ) (update_crc : S → List ℕ → ℕ) (input : MutBor R) (x y : CrcReader (MutBor R) S) (at : crc_inner x ≡ input) {stream : Option StreamFormat} {r : FrameAnswer} where
@@ -116,3 +128,16 @@ pub tells_below : {R S A : Type 0} (source : R → Source ℕ) (update_crc : S �
 unfolding bytes_in
 tells_below source update_crc input x at (Ok found) h = tt
 tells_below {R = R} source update_crc input x at (Err e) h = subst (λ (z : MutBor R). RemainingIsKnown (bytes_in source z.now) → IsTrue e.is_32_bit ↔ Is32BitFault (bytes_in source z.now).remaining e.error) at h
+
+-- the frame and its header, through a reader that keeps a CRC, over a reference
+pub sound_below : {R S A : Type 0} (source : R → Source ℕ) (update_crc : S → List ℕ → ℕ) (input : MutBor R) (x y : CrcReader (MutBor R) S) → crc_inner x ≡ input → (stream : Option StreamFormat) (r : DecodedAnswer A)
+    → FoundIsSound decoded_view r (FrameWithHeader stream) (bytes_in (crc_source (lent source) update_crc) x) (bytes_in (crc_source (lent source) update_crc) y) → FoundIsSound decoded_view r (FrameWithHeader stream) (bytes_in source input.now) (bytes_in source (crc_inner y).now)
+unfolding bytes_in
+sound_below {R = R} source update_crc input x y at stream r h = subst (λ (z : MutBor R). FoundIsSound decoded_view r (FrameWithHeader stream) (bytes_in source z.now) (bytes_in source (crc_inner y).now)) at h
+
+-- the first bytes of what is no frame
+pub first_below : {R S : Type 0} (source : R → Source ℕ) (update_crc : S → List ℕ → ℕ) (input : MutBor R) (x y : CrcReader (MutBor R) S) → crc_inner x ≡ input → (first : FirstBytes) (E : Fault → Type 0)
+    → ((f : Fault) → E f → RemainingIsKnown (bytes_in (crc_source (lent source) update_crc) x) → AreFirst first (bytes_in (crc_source (lent source) update_crc) x).remaining (bytes_in (crc_source (lent source) update_crc) y).remaining)
+    → (f : Fault) → E f → RemainingIsKnown (bytes_in source input.now) → AreFirst first (bytes_in source input.now).remaining (bytes_in source (crc_inner y).now).remaining
+unfolding bytes_in
+first_below {R = R} source update_crc input x y at first E h = subst (λ (z : MutBor R). (f : Fault) → E f → RemainingIsKnown (bytes_in source z.now) → AreFirst first (bytes_in source z.now).remaining (bytes_in source (crc_inner y).now).remaining) at h

@@ -6,6 +6,7 @@ use Rattle.std.specs.Bool.{Decides}
 use Rattle.std.specs.List.{sum_by}
 use Rattle.std.proofs.lemmas.Bool.{false≢true}
 use Rattle.std.proofs.lemmas.Slice.Eq.{bytes_eq-Decides}
+use Rattle.claxon.specs.DecodedFrame.{FrameValue}
 use Rattle.claxon.specs.Error.{IsIo}
 use Rattle.claxon.specs.Errors.{Error}
 use Rattle.claxon.specs.Errors.TheVariants.{OutOfMemory}
@@ -29,7 +30,7 @@ use Rattle.claxon.proofs.OutOfMemory.{not_out_of_memory, same_out_of_memory}
 use Rattle.claxon.specs.CrcReader.{crc_inner}
 use Rattle.claxon.specs.CrcReaders.{CrcReader}
 use Rattle.claxon_md5.specs.declared.Md5.{Md5}
-use Rattle.claxon_verify.specs.RightStream.{AreInOrder, FrameValue, HasMd5, IsRightStream, bytes_of_frames, frame_duration, no_md5}
+use Rattle.claxon_verify.specs.RightStream.{AreInOrder, HasMd5, IsRightStream, bytes_of_frames, frame_duration, no_md5}
 use Rattle.claxon_verify.specs.Verify.{AreTooMany, CanBeCounted, Counted, Counts, EndsAt, FirstIs, FrameOrFault, FramesAndFaults, HasFramesAndFaults, IsFirst, IsMd5Verdict, IsRight, IsTooMany, IsVerified, Md5Is, ReportValue, RightIsComplete, RightIsSound, SameFirst, SameReport, StopsCounting, VerifyIsComplete, VerifyIsSound, VerifyPromises, counted_bytes, fault_count_of, frame_count_of, frames_of, report_view, sample_count_of}
 use Rattle.claxon_verify.specs.Walk.{HasHashedBytes, Md5IsJudged, WalksToEnd, counts_of, first_place}
 use Rattle.claxon_verify.specs.declared.report.Md5Verdict.{Md5Verdict}

@@ -1,12 +1,14 @@
 -- Frames and faults that are found, one after another.
-use Rattle.std.proofs.Common.{◌≡◌, ◌⊎◌, ◌<◌, ◌≤◌, ◌+◌, ◌%◌, ◌^◌, ℕ, true, false, cond, List, [], ◌∷◌, ◌++◌, length, flat_map, inl, inr, refl, sym, ap, arith, subst, ◌∙◌, append_assoc, length-append}
-use Rattle.std.specs.Prelude.{Bool, IsSomeAnd, IsTrue, Option, None, Some, Ok, Err, Result, ◌↔◌}
+use Rattle.std.proofs.Common.{◌≡◌, ◌⊎◌, ◌<◌, ◌≤◌, ◌+◌, ◌%◌, ◌^◌, ℕ, true, false, List, [], ◌∷◌, ◌++◌, length, inl, inr, refl, sym, ap, arith, subst, ◌∙◌, length-append}
+use Rattle.std.specs.Prelude.{Bool, IsTrue, Option, None, Some, Ok, Err, Result, ◌↔◌}
 use Rattle.std.specs.List.{sum_by}
 use Rattle.std.proofs.lemmas.Grind.{flat_map-append}
 use Rattle.std.proofs.lemmas.List.{append-nil}
 use Rattle.std.proofs.lemmas.List.Sums.{sum_by_push}
+use Rattle.claxon.specs.DecodedFrame.{FrameValue, FrameWithHeader, decoded_view}
+use Rattle.claxon.specs.DecodedFrames.{DecodedFrame}
 use Rattle.claxon.specs.Block.{BlockValue}
-use Rattle.claxon.specs.Streams.{duration_of, interleave}
+use Rattle.claxon.specs.Streams.{interleave}
 use Rattle.claxon.specs.Error.{IsFault, IsIo, is_io, is_out_of_memory}
 use Rattle.claxon.specs.Errors.{Error}
 use Rattle.claxon.specs.Errors.TheVariants.{FormatError, IoError, OutOfMemory, Unsupported}
@@ -22,14 +24,12 @@ use Rattle.claxon.specs.Streaminfo.{Streaminfo}
 use Rattle.claxon.specs.CrcReader.{crc_inner}
 use Rattle.claxon.specs.CrcReaders.{CrcReader}
 use Rattle.claxon_write.proofs.Gathering.{reads_loans}
-use Rattle.claxon_md5.specs.HasHashed.{HasHashed}
 use Rattle.claxon_md5.specs.WholeBytes.{whole_bytes_of_samples}
 use Rattle.claxon_md5.specs.declared.Md5.{Md5}
 use Rattle.claxon_verify.specs.Frames.{HasHeader, Is32BitFault}
-use Rattle.claxon_verify.specs.RightStream.{AreInOrder, FrameValue, FrameValueBytes, IsNext, IsNextAfter, bytes_of_frames, frame_duration, number_after, samples_of_frames, strategy_after}
-use Rattle.claxon_verify.specs.Verify.{AreTooMany, Counted, EndsAt, FirstIs, FrameOrFault, FrameOrFaultBytes, FramesAndFaults, IsDamageAt, IsFaultAt, IsFirst, IsJudged, IsNotNext, IsNotWhole, IsTooMany, StopsCounting, counted_bytes, fault_count_of, frame_count_of, frames_of, position_of, sample_count_of}
-use Rattle.claxon_verify.specs.Walk.{AddsFault, AddsFrame, BeginAlike, PlaceBegins, BeginsWalk, EndsWalk, ExceedsCount, FirstBecomes, GoesOn, HasHashedBytes, HashesToo, KeepsFirstPlace, WalksToEnd, counts_of, first_place}
-use Rattle.claxon_verify.specs.declared.frames.DecodedFrame.{DecodedFrame}
+use Rattle.claxon_verify.specs.RightStream.{AreInOrder, IsNext, IsNextAfter, bytes_of_frames, frame_duration, number_after, samples_of_frames, strategy_after}
+use Rattle.claxon_verify.specs.Verify.{FirstIs, FrameOrFault, FrameOrFaultBytes, FramesAndFaults, IsDamageAt, IsFaultAt, IsFirst, IsJudged, IsNotNext, IsNotWhole, IsTooMany, StopsCounting, counted_bytes, fault_count_of, frame_count_of, frames_of, position_of, sample_count_of}
+use Rattle.claxon_verify.specs.Walk.{AddsFault, AddsFrame, BeginAlike, PlaceBegins, BeginsWalk, EndsWalk, ExceedsCount, FirstBecomes, GoesOn, HasHashedBytes, HashesToo, KeepsFirstPlace, WalksToEnd, first_place}
 use Rattle.claxon_verify.specs.declared.frames.FrameError.{FrameError}
 use Rattle.claxon_verify.specs.declared.report.Damage.{Damage}
 use Rattle.claxon_verify.specs.declared.report.Damage.TheVariants.{BitDepth, BlockingStrategy, Channels, Fault as FaultDamage, Missing, Repeated, SampleRate}
@@ -119,7 +119,7 @@ first_weaker stream info start s p w f = record {
 }
 
 -- a frame that isn't the next one
-frame_damage : (stream : Option StreamFormat) (info : Streaminfo) (before : List FrameValue) (m : List ℕ) (frame : FrameValue) (d : Damage) → BeginsWith (FrameValueBytes stream frame) m → IsNotNext info (strategy_after before) (number_after before) frame.info d → IsDamageAt ⊥ stream info before m d
+frame_damage : (stream : Option StreamFormat) (info : Streaminfo) (before : List FrameValue) (m : List ℕ) (frame : FrameValue) (d : Damage) → BeginsWith (FrameWithHeader stream frame) m → IsNotNext info (strategy_after before) (number_after before) frame.info d → IsDamageAt ⊥ stream info before m d
 frame_damage stream info before m frame (FaultDamage e) begins h = absurd h
 frame_damage stream info before m frame (Channels n) begins h = (frame, begins, h)
 frame_damage stream info before m frame (BitDepth n) begins h = (frame, begins, h)
@@ -134,7 +134,7 @@ frame_damage stream info before m frame (Repeated gap) begins h = (frame, begins
 pub read_as : {stream : Option StreamFormat} {r q : FrameAnswer} {a b : State ℕ} → r ≡ q → ReadsFrame stream r a b → BlockIsRead stream q a b
 read_as {stream = stream} {r = r} {a = a} {b = b} e h = subst (λ (z : FrameAnswer). BlockIsRead stream z a b) e (block_read stream a b r (reads_loans h) h)
 
-pub frame_as : {B : Type 0} (stream : Option StreamFormat) {r : Result (Option (DecodedFrame B)) FrameError} {frame : DecodedFrame B} (a b : State ℕ) → r ≡ Ok (Some frame) → HasHeader stream r a b → Consumed a b (FrameValueBytes stream (record { info = frame.info; block = block_view frame.block }))
+pub frame_as : {B : Type 0} (stream : Option StreamFormat) {r : Result (Option (DecodedFrame B)) FrameError} {frame : DecodedFrame B} (a b : State ℕ) → r ≡ Ok (Some frame) → HasHeader stream r a b → Consumed a b (FrameWithHeader stream (record { info = frame.info; block = block_view frame.block }))
 frame_as {B = B} stream a b e h = subst (λ (z : Result (Option (DecodedFrame B)) FrameError). HasHeader stream z a b) e h
 
 -- So far nothing is wrong, or this place is the first.
@@ -187,10 +187,6 @@ kept_err (FormatError text) io memory h = h
 kept_err (Unsupported text) io memory h = h
 kept_err OutOfMemory io memory h = absurd cc
 
--- a decoded frame
-abbrev pub frame_value : {B : Type 0} → DecodedFrame B → FrameValue
-frame_value frame = record { info = frame.info; block = block_view frame.block }
-
 -- ---- the samples of one frame more
 
 hashed_push : (computes_md5 : Bool) (bit_depth : ℕ) (block : BlockValue) (bytes : List ℕ) (old new : Option Md5) → HasHashedBytes computes_md5 bytes old → HashesToo bit_depth block old new → HasHashedBytes computes_md5 (bytes ++ whole_bytes_of_samples bit_depth (interleave block.channels)) new
@@ -238,8 +234,8 @@ module _ {A : Type 0} {computes_md5 : Bool} {stream : Option StreamFormat} {info
   keeps_first (Some new) old f keeps = (new, refl, alike stream info start a.remaining old new keeps f)
 
   -- what is first after a frame
-  first_after_frame : {B : Type 0} {more : Walk A} (frame : DecodedFrame B) (byte : ℕ) (k : RemainingIsKnown a) → ((front : List ℕ) → a.remaining ≡ front ++ b.remaining → byte ≡ (start + length front) % 2 ^ 64) → BeginsWith (FrameValueBytes stream (frame_value frame)) b.remaining → AddsFrame info frame byte walk more
-      → FirstSoFar stream info start a.remaining ((h.is k).parts ++ Ok (frame_value frame) ∷ []) more.order more.sample more.samples (first_place more.places)
+  first_after_frame : {B : Type 0} {more : Walk A} (frame : DecodedFrame B) (byte : ℕ) (k : RemainingIsKnown a) → ((front : List ℕ) → a.remaining ≡ front ++ b.remaining → byte ≡ (start + length front) % 2 ^ 64) → BeginsWith (FrameWithHeader stream (decoded_view frame)) b.remaining → AddsFrame info frame byte walk more
+      → FirstSoFar stream info start a.remaining ((h.is k).parts ++ Ok (decoded_view frame) ∷ []) more.order more.sample more.samples (first_place more.places)
   unfolding FirstSoFar
   first_after_frame {more = more} frame byte k at begins adds = go (first_place walk.places) adds.damage refl p.first adds.is_judged adds.first adds.goes_on adds.sample_is
     where
@@ -247,7 +243,7 @@ module _ {A : Type 0} {computes_md5 : Bool} {stream : Option StreamFormat} {info
       p = h.is k
 
       value : FrameValue
-      value = frame_value frame
+      value = decoded_view frame
 
       part : FrameOrFault
       part = Ok value
@@ -295,9 +291,9 @@ module _ {A : Type 0} {computes_md5 : Bool} {stream : Option StreamFormat} {info
       go (Some old) (Some damage) is so_far judged becomes goes sample = kept old so_far becomes
 
   pub frame_added : {B : Type 0} {more : Walk A} (frame : DecodedFrame B) (byte : ℕ) (c : State ℕ) → (RemainingIsKnown a → (front : List ℕ) → a.remaining ≡ front ++ b.remaining → byte ≡ (start + length front) % 2 ^ 64) → BlockIsRead stream (Ok (Some frame.block)) b c
-      → Consumed b c (FrameValueBytes stream (frame_value frame)) → AddsFrame info frame byte walk more → WalkedSoFar computes_md5 stream info start a c (count + 1) more
+      → Consumed b c (FrameWithHeader stream (decoded_view frame)) → AddsFrame info frame byte walk more → WalkedSoFar computes_md5 stream info start a c (count + 1) more
   frame_added {more = more} frame byte c at read consumed adds =
-      let part : FrameOrFault = Ok (frame_value frame) in
+      let part : FrameOrFault = Ok (decoded_view frame) in
       record {
         errors = read.kept.0 ∙ h.errors;
         empty_reads = read.kept.1 ∙ h.empty_reads;
@@ -312,9 +308,9 @@ module _ {A : Type 0} {computes_md5 : Bool} {stream : Option StreamFormat} {info
               parts_are = (with_frame_or_fault part c consumed k).1;
               count_is = omega (arith, p.count_is, sum_by_push frame_count_of p.parts part, sum_by_push fault_count_of p.parts part);
               frames = adds.frames_are ∙ ap (λ (z : ℕ). z + 1) p.frames ∙ sym (sum_by_push frame_count_of p.parts part);
-              samples = adds.samples_are ∙ ap (λ (z : ℕ). z + frame_duration (frame_value frame)) p.samples ∙ sym (sum_by_push sample_count_of p.parts part);
+              samples = adds.samples_are ∙ ap (λ (z : ℕ). z + frame_duration (decoded_view frame)) p.samples ∙ sym (sum_by_push sample_count_of p.parts part);
               first = first_after_frame frame byte k (at k) (w.0, c.remaining, w.1, w.2) adds;
-              hashed = subst (λ (bytes : List ℕ). HasHashedBytes computes_md5 bytes more.md5) (sym (ap (bytes_of_frames info.bit_depth) (frames_of-append p.parts (part ∷ [])) ∙ bytes_push info.bit_depth (frames_of p.parts) (frame_value frame)))
+              hashed = subst (λ (bytes : List ℕ). HasHashedBytes computes_md5 bytes more.md5) (sym (ap (bytes_of_frames info.bit_depth) (frames_of-append p.parts (part ∷ [])) ∙ bytes_push info.bit_depth (frames_of p.parts) (decoded_view frame)))
                   (hashed_push computes_md5 info.bit_depth frame.block (bytes_of_frames info.bit_depth (frames_of p.parts)) walk.md5 more.md5 p.hashed adds.hashes);
             };
       }
@@ -426,11 +422,11 @@ module _ {A : Type 0} {computes_md5 : Bool} {stream : Option StreamFormat} {info
   pub many_found : (e : Error) → IsTooMany e → 2 ^ 64 ≤ count + 1 → StopsCounting stream a e
   many_found e is n = inr (is, λ k. let p = h.is k in (p.parts, b.remaining, p.parts_are, inr (omega (arith, n, p.count_is))))
 
-  pub frame_exceeds : {B : Type 0} (frame : DecodedFrame B) (c : State ℕ) → Consumed b c (FrameValueBytes stream (frame_value frame)) → (e : Error) → ExceedsCount frame walk e → StopsCounting stream a e
+  pub frame_exceeds : {B : Type 0} (frame : DecodedFrame B) (c : State ℕ) → Consumed b c (FrameWithHeader stream (decoded_view frame)) → (e : Error) → ExceedsCount frame walk e → StopsCounting stream a e
   frame_exceeds frame c consumed e exceeds = inr (
     exceeds.0,
     λ k.
-        let part : FrameOrFault = Ok (frame_value frame) in
+        let part : FrameOrFault = Ok (decoded_view frame) in
         let p = h.is k in
         let w = with_frame_or_fault part c consumed k in
         let frames = sum_by_push frame_count_of p.parts part in

@@ -20,22 +20,20 @@ use Rattle.std.specs.Prelude.{
 }
 use Rattle.claxon.specs.Bits.{bits_of, number}
 use Rattle.claxon.specs.Block.{BlockValue}
-use Rattle.claxon.specs.BlockInfo.{HeaderOf}
-use Rattle.claxon.specs.BlockInfos.{BlockInfo}
+use Rattle.claxon.specs.DecodedFrame.{FrameWithHeader, decoded_view}
+use Rattle.claxon.specs.DecodedFrames.{DecodedFrame}
 use Rattle.claxon.specs.Error.{IsFault}
 use Rattle.claxon.specs.Errors.{Error}
 use Rattle.claxon.specs.Fault.{BitDepthReserved, Fault}
-use Rattle.claxon.specs.Frame.{Block, Frame, StreamFormat}
-use Rattle.claxon.specs.FrameReader.{FrameAnswer, block_view}
+use Rattle.claxon.specs.Frame.{StreamFormat}
+use Rattle.claxon.specs.FrameReader.{FrameAnswer}
 use Rattle.claxon.specs.Header.{says_32_bits}
 use Rattle.claxon.specs.Prefix.{BeginsWith}
 use Rattle.claxon.specs.Promises.{Consumed}
 use Rattle.claxon.specs.State.{State, RemainingIsKnown}
 use Rattle.claxon.specs.read.Bytes.{big_endian}
 use Rattle.claxon_verify.specs.FirstBytes.{AreFirst}
-use Rattle.claxon_verify.specs.declared.frames.DecodedFrame.{DecodedFrame}
 use Rattle.claxon_verify.specs.declared.frames.FrameError.{FrameError}
-use Rattle.claxon_verify.specs.declared.frames.KeptBlock.{KeptBlock}
 use Rattle.claxon_verify.specs.declared.frames.first_bytes.FirstBytes.{FirstBytes}
 
 -- The bytes begin with four that begin a header with the bit depth code for 32 bits.
@@ -80,27 +78,9 @@ KeepsFirstBytes r old new =
 abbrev pub frame_block : {A : Type 0} → DecodedFrame A → BlockValue
 frame_block frame = frame.block
 
--- The bytes of a frame of this block, which begin with a header that says this.
-abbrev pub DecodedFrameBytes : Option StreamFormat → BlockInfo → Block → List ℕ → Type 0
-DecodedFrameBytes stream info block t =
-    Frame stream block t × BeginsWith (HeaderOf stream info) t
-
 -- Of a frame just its bytes were consumed, and their header says what is returned.
 abbrev pub HasHeader : {A : Type 0} → Option StreamFormat
     → Result (Option (DecodedFrame A)) FrameError → State ℕ → State ℕ → Type 0
 HasHeader stream r old new =
     IfOk r (λ found. IfSome found (λ frame.
-    Consumed old new (DecodedFrameBytes stream frame.info (block_view frame.block))))
-
--- the block of a frame whose first bytes are kept
-abbrev pub kept_block : {A : Type 0} → KeptBlock A → BlockValue
-kept_block kept = kept.block
-
--- Of a block just the bytes of its frame were consumed, and the kept bytes begin with its header.
-abbrev pub KeepsHeader : {A : Type 0} → Option StreamFormat
-    → Result (Option (KeptBlock A)) FrameError → State ℕ → State ℕ → Type 0
-KeepsHeader stream r old new =
-    IfOk r (λ found. IfSome found (λ kept.
-    Consumed old new (λ t.
-    (info : BlockInfo) × DecodedFrameBytes stream info (block_view kept.block) t
-    × BeginsWith (HeaderOf stream info) kept.first.bytes)))
+    Consumed old new (FrameWithHeader stream (decoded_view frame))))

@@ -1,5 +1,4 @@
 pub mod FirstBytes
-pub mod HeaderAtStart
 pub mod Frames
 pub mod HashBlock
 pub mod RightStream

@@ -1,54 +1,22 @@
 -- What a right stream is: a head, and frames that agree with it and with one another.
-use Rattle.std.specs.Prelude.{
-  ◌≡◌,
-  ◌≢◌,
-  ◌⊎◌,
-  ℕ,
-  ◌+◌,
-  ◌<◌,
-  ◌≤◌,
-  ℤ,
-  Bool,
-  true,
-  if◌then◌else◌,
-  List,
-  [],
-  ◌∷◌,
-  ◌++◌,
-  flat_map,
-  length,
-  replicate,
-  Option,
-  None,
-  Some,
-  IfSome,
-}
+use Rattle.std.specs.Prelude.{◌≡◌, ◌⊎◌, ℕ, ◌<◌, ℤ, Bool, true, if◌then◌else◌, List, [], ◌∷◌, ◌++◌, flat_map, length, replicate, Option, None, Some, IfSome}
 use Rattle.std.specs.List.{sum_by}
 use Rattle.claxon.specs.BlockInfos.{BlockInfo}
-use Rattle.claxon.specs.Frame.{Block, StreamFormat}
+use Rattle.claxon.specs.DecodedFrame.{FrameValue, FrameWithHeader}
+use Rattle.claxon.specs.Frame.{StreamFormat}
 use Rattle.claxon.specs.Heads.{Head, HeadCode}
 use Rattle.claxon.specs.Streaminfo.{Streaminfo}
 use Rattle.claxon.specs.Streams.{duration_of, interleave, stream_of, with_samples}
 use Rattle.claxon_md5.specs.Md5.{md5}
 use Rattle.claxon_md5.specs.WholeBytes.{whole_bytes_of_samples}
-use Rattle.claxon_verify.specs.Frames.{DecodedFrameBytes}
 
 -- ---- frames, one after another
-
--- a frame: what its header says, and its block
-pub record FrameValue : Type 0 where
-  pub info : BlockInfo
-  pub block : Block
-
--- its bytes
-abbrev pub FrameValueBytes : Option StreamFormat → FrameValue → List ℕ → Type 0
-FrameValueBytes stream frame = DecodedFrameBytes stream frame.info frame.block
 
 -- s is these frames, one after another, and then r
 abbrev pub DecodedFrames : Option StreamFormat → List ℕ → List FrameValue → List ℕ → Type 0
 DecodedFrames stream s [] r = s ≡ r
 DecodedFrames stream s (frame ∷ frames) r =
-    (t : List ℕ) × (m : List ℕ) × FrameValueBytes stream frame t × (s ≡ t ++ m)
+    (t : List ℕ) × (m : List ℕ) × FrameWithHeader stream frame t × (s ≡ t ++ m)
     × DecodedFrames stream m frames r
 
 -- the number of samples of each channel of a frame

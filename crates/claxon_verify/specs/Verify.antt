@@ -34,6 +34,7 @@ use Rattle.std.specs.Prelude.{
 }
 use Rattle.std.specs.List.{sum_by}
 use Rattle.claxon.specs.BlockInfos.{BlockInfo}
+use Rattle.claxon.specs.DecodedFrame.{FrameValue, FrameWithHeader}
 use Rattle.claxon.specs.Error.{IsFault, IsIo}
 use Rattle.claxon.specs.Fault.{Fault}
 use Rattle.claxon.specs.Frame.{Frame, FrameBytesFault, StreamFormat}
@@ -58,8 +59,6 @@ use Rattle.claxon_verify.specs.RightStream.{
   AgreesWithInfo,
   AreInOrder,
   DecodedFrames,
-  FrameValue,
-  FrameValueBytes,
   HasStrategy,
   IsNext,
   IsRightStream,
@@ -100,7 +99,7 @@ FrameOrFault = Result FrameValue Fault
 
 -- its bytes
 abbrev pub FrameOrFaultBytes : Option StreamFormat → FrameOrFault → List ℕ → Type 0
-FrameOrFaultBytes stream (Ok frame) t = FrameValueBytes stream frame t
+FrameOrFaultBytes stream (Ok frame) t = FrameWithHeader stream frame t
 FrameOrFaultBytes stream (Err f) t = FrameBytesFault stream f t
 
 -- s is these frames and faults, one after another, and then r
@@ -209,7 +208,7 @@ abbrev pub IsDamageAt : Type 0 → Option StreamFormat → Streaminfo → List F
 IsDamageAt failed stream info before m (FaultDamage e) =
     IsFaultAt failed stream m e.error × (IsTrue e.is_32_bit ↔ Is32BitFault m e.error)
 IsDamageAt failed stream info before m damage =
-    (frame : FrameValue) × BeginsWith (FrameValueBytes stream frame) m
+    (frame : FrameValue) × BeginsWith (FrameWithHeader stream frame) m
     × IsNotNext info (strategy_after before) (number_after before) frame.info damage
 
 -- It stands in s, which begins at the byte `start` of the stream, after just frames in order.

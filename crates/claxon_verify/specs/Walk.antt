@@ -19,6 +19,7 @@ use Rattle.std.specs.Prelude.{
 use Rattle.claxon.specs.Codes.{when◌then◌else◌}
 use Rattle.claxon.specs.Block.{BlockValue}
 use Rattle.claxon.specs.BlockInfos.{BlockInfo}
+use Rattle.claxon.specs.DecodedFrames.{DecodedFrame}
 use Rattle.claxon.specs.Errors.{Error}
 use Rattle.claxon.specs.Streaminfo.{Streaminfo}
 use Rattle.claxon.specs.Frame.{StreamFormat}
@@ -30,7 +31,6 @@ use Rattle.claxon_md5.specs.declared.Md5.{Md5}
 use Rattle.claxon_verify.specs.HashBlock.{HashesBlock}
 use Rattle.claxon_verify.specs.RightStream.{bytes_of_frames}
 use Rattle.claxon_verify.specs.Verify.{Counted, Counts, IsJudged, IsMd5Verdict, IsTooMany, frames_of}
-use Rattle.claxon_verify.specs.declared.frames.DecodedFrame.{DecodedFrame}
 use Rattle.claxon_verify.specs.declared.frames.FrameError.{FrameError}
 use Rattle.claxon_verify.specs.declared.report.Damage.{Damage}
 use Rattle.claxon_verify.specs.declared.report.Damage.TheVariants.{Fault}

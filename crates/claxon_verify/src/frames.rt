@@ -1,24 +1,24 @@
 //! Reading frames: their blocks, what their headers say, and whether one is refused because its samples have 32 bits.
 ghost use Rattle.std.specs.Prelude.{◌≡◌, ◌≤◌, ◌↔◌, IsTrue, Some};
+ghost use Rattle.claxon.specs.DecodedFrame.{FrameWithHeader, decoded_view, frame_answer};
 ghost use Rattle.claxon.specs.Error.{IsFault};
 ghost use Rattle.claxon.specs.Fault.{BitDepthReserved};
 ghost use Rattle.claxon.specs.FrameReader.{BlockHasSamples, ReadsFrame, stream_with};
 ghost use Rattle.claxon.specs.Header.{says_32_bits};
+ghost use Rattle.claxon.specs.Promises.{FoundIsSound};
 ghost use Rattle.claxon.specs.State.{bytes_in};
 ghost use Rattle.claxon_verify.specs.Frames.{
   FourSay32Bits,
   HasHeader,
   KeepsFirstBytes,
-  KeepsHeader,
   TellsOf32Bits,
   answer_of,
   decoder_answer,
   frame_block,
-  kept_block,
 };
 
 use claxon::crc::CrcReader;
-use claxon::frame::{BlockInfo, FrameReader, FrameResult};
+use claxon::frame::{DecodedFrame, DecodedFrameResult, FrameReader};
 use claxon::input::ReadBytes;
 use claxon::metadata::StreamInfo;
 use claxon::{Block, Error};
@@ -43,23 +43,7 @@ pub struct FrameError {
     pub first: FirstBytes,
 }
 
-/// A decoded frame.
-#[derive(Drop)]
-pub struct DecodedFrame<A: Allocator> {
-    /// What its header says.
-    pub info: BlockInfo,
-    /// Its samples.
-    pub block: Block<A>,
-}
-
-// A block, and the first bytes of its frame.
-#[derive(Drop)]
-struct KeptBlock<A: Allocator> {
-    block: Block<A>,
-    first: FirstBytes,
-}
-
-/// Reads the next frame of the stream with this streaminfo, as `FrameReader::read_next_or_eof` does.
+/// Reads the next frame of the stream with this streaminfo, as `FrameReader::read_next_with_info_or_eof` does.
 pub fn read_frame<R: ReadBytes, A: Allocator>(
     input: &mut R,
     info: StreamInfo,
@@ -76,15 +60,20 @@ pub fn read_frame<R: ReadBytes, A: Allocator>(
         (bytes_in R.source input.old) (bytes_in R.source input.new) }
     ensures has_samples { BlockHasSamples (decoder_answer frame_block result) }
 {
-    let Some(kept) = read_kept(input, info, buffer)? else {
-        return Ok(None);
-    };
-    // There is one: it was read to decode the block.
-    let Some(info) = kept.first.header(info) else {
-        return Ok(None);
-    };
-    let block = kept.block;
-    Ok(Some(DecodedFrame { info, block }))
+    let mut input = CrcReader::new(input);
+    let found = read_from(&mut input, info, buffer);
+    let first = input.crc();
+    match found {
+        Ok(frame) => Ok(frame),
+        Err(error) => {
+            let is_32_bit = is_32_bit_fault(&error, first);
+            Err(FrameError {
+                error,
+                is_32_bit,
+                first,
+            })
+        }
+    }
 }
 
 /// Reads the next block of the stream with this streaminfo, as `FrameReader::read_next_or_eof` does.
@@ -102,62 +91,30 @@ pub fn read_block<R: ReadBytes, A: Allocator>(
         (bytes_in R.source input.old) (bytes_in R.source input.new) }
     ensures has_samples { BlockHasSamples (answer_of result) }
 {
-    match read_kept(input, info, buffer)? {
-        Some(kept) => Ok(Some(kept.block)),
+    match read_frame(input, info, buffer)? {
+        Some(frame) => Ok(Some(frame.block)),
         None => Ok(None),
     }
 }
 
-// The next block, and the first bytes of its frame.
-fn read_kept<R: ReadBytes, A: Allocator>(
-    input: &mut R,
-    info: StreamInfo,
-    buffer: Vec<i32, A>,
-) -> result::Result<Option<KeptBlock<A>>, FrameError>
-    requires min_bit_depth { 1 ≤ info.bits_per_sample }
-    requires max_bit_depth { info.bits_per_sample ≤ 32 }
-    ensures is_read { ReadsFrame (Some (stream_with info)) (decoder_answer kept_block result)
-        (bytes_in R.source input.old) (bytes_in R.source input.new) }
-    ensures keeps_header { KeepsHeader (Some (stream_with info)) result
-        (bytes_in R.source input.old) (bytes_in R.source input.new) }
-    ensures tells_of_32_bits { TellsOf32Bits result (bytes_in R.source input.old) }
-    ensures keeps_first { KeepsFirstBytes result
-        (bytes_in R.source input.old) (bytes_in R.source input.new) }
-    ensures has_samples { BlockHasSamples (decoder_answer kept_block result) }
-{
-    let mut input = CrcReader::new(input);
-    let found = read_from(&mut input, info, buffer);
-    let first = input.crc();
-    match found {
-        Ok(Some(block)) => Ok(Some(KeptBlock { block, first })),
-        Ok(None) => Ok(None),
-        Err(error) => {
-            let is_32_bit = is_32_bit_fault(&error, first);
-            Err(FrameError {
-                error,
-                is_32_bit,
-                first,
-            })
-        }
-    }
-}
-
-// The next block of this input.
+// The next frame of this input.
 //
 // The `FrameReader` is made here: the prover loses the shape of a wrapper around another one that is made in the same function.
 fn read_from<R: ReadBytes, A: Allocator>(
     input: &mut R,
     info: StreamInfo,
     buffer: Vec<i32, A>,
-) -> FrameResult<A>
+) -> DecodedFrameResult<A>
     requires min_bit_depth { 1 ≤ info.bits_per_sample }
     requires max_bit_depth { info.bits_per_sample ≤ 32 }
-    ensures is_read { ReadsFrame (Some (stream_with info)) result
+    ensures is_read { ReadsFrame (Some (stream_with info)) (frame_answer result)
         (bytes_in R.source input.old) (bytes_in R.source input.new) }
-    ensures has_samples { BlockHasSamples result }
+    ensures is_sound { FoundIsSound decoded_view result (FrameWithHeader (Some (stream_with info)))
+        (bytes_in R.source input.old) (bytes_in R.source input.new) }
+    ensures has_samples { BlockHasSamples (frame_answer result) }
 {
     let mut frames = FrameReader::with_streaminfo(input, info);
-    frames.read_next_or_eof(buffer)
+    frames.read_next_with_info_or_eof(buffer)
 }
 
 // Whether a value is reserved, and the first four bytes begin a header with the bit depth code for 32 bits.

@@ -15,13 +15,13 @@ ghost use Rattle.claxon_verify.specs.Walk.{
   first_place,
 };
 
-use crate::frames::{DecodedFrame, FrameError};
+use crate::frames::FrameError;
 use crate::hashing::hash_block;
 use crate::order::Order;
 use crate::places::PlacesSoFar;
 use crate::report::{Damage, Notes, Place, Trailing};
 use crate::trailing::{BytesAfter, is_no_sync_code, is_of_bytes};
-use claxon::frame::BlockInfo;
+use claxon::frame::{BlockInfo, DecodedFrame};
 use claxon::metadata::StreamInfo;
 use claxon::{Block, Error, Result};
 use claxon_md5::Md5;

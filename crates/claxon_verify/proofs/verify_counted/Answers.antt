@@ -1,4 +1,4 @@
-use Rattle.std.proofs.Common.{rules, sym, inl, inr, ◌+◌, ◌%◌, ◌^◌, ℕ, ap, length, refl, ◌∙◌, zero-add}
+use Rattle.std.proofs.Common.{sym, inl, inr, ◌+◌, ◌%◌, ◌^◌, ℕ, ap, length, refl, ◌∙◌, zero-add}
 use Rattle.std.proofs.lemmas.Result.{err_from_is_err_and}
 use Rattle.claxon.specs.StreamInfos.{StreamInfo}
 use Rattle.claxon_verify.specs.Verify.{counted_bytes, position_of}

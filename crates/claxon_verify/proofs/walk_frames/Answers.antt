@@ -1,14 +1,13 @@
-use Rattle.std.proofs.Common.{Option, ap, arith, refl, subst, sym, ◌∙◌}
+use Rattle.std.proofs.Common.{Option, ap, refl, sym, ◌∙◌}
 use Rattle.std.proofs.lemmas.Result.{err_from_is_err_and}
-use Rattle.std.specs.Prelude.{Ok, Result, Some}
+use Rattle.std.specs.Prelude.{Ok, Some}
+use Rattle.claxon.specs.DecodedFrames.{DecodedFrame}
 use Rattle.claxon.specs.FrameReader.{stream_with}
-use Rattle.claxon_verify.specs.Frames.{TellsOf32Bits, decoder_answer, frame_block}
+use Rattle.claxon_verify.specs.Frames.{decoder_answer, frame_block}
 use Rattle.claxon_verify.specs.Verify.{counted_bytes}
-use Rattle.claxon_verify.specs.declared.frames.DecodedFrame.{DecodedFrame}
-use Rattle.claxon_verify.specs.declared.frames.FrameError.{FrameError}
 use Rattle.claxon_verify.specs.declared.BytesRead.{BytesRead}
 use Rattle.claxon_command_line.proofs.Showing.{shown_quietly, shown_total_same}
-use Rattle.claxon_verify.proofs.Walking.{cut_found, eof_found, fault_added, frame_added, frame_as, frame_exceeds, many_found, none_so_far, position_after, read_as}
+use Rattle.claxon_verify.proofs.Walking.{cut_found, eof_found, fault_added, frame_added, frame_as, frame_exceeds, none_so_far, position_after, read_as}
 use Rattle.claxon_verify.proofs.walk_frames.Goals.{in-Ok-Some+in_ok-walk-in-Ok-Some, in-Err+in_ok-walk-in-Err+else-is_last}
 use Rattle.claxon_verify.proofs.walk_frames.Goals as goal
 

@@ -1,16 +1,11 @@
-//! The first bytes that a reader gave, and the frame header among them.
-ghost use Rattle.std.specs.Prelude.{All, ◌≡◌, ◌↔◌, ◌≤◌, IsTrue, Some, length, replicate, take};
-ghost use Rattle.claxon.specs.FrameReader.{stream_with};
+//! The first bytes that a reader gave.
+ghost use Rattle.std.specs.Prelude.{All, ◌≡◌, ◌↔◌, ◌≤◌, IsTrue, length, replicate, take};
 ghost use Rattle.claxon.specs.Bits.{bits_of, number};
-ghost use Rattle.claxon_verify.specs.HeaderAtStart.{SaysHeader};
 ghost use Rattle.claxon_verify.specs.FirstBytes.{update_first};
 
 use claxon::crc::RunningCrc;
-use claxon::frame::{BlockInfo, FrameReader};
-use claxon::metadata::StreamInfo;
-use std::io::Cursor;
 
-/// The first 16 bytes that were read, among which is the header of a frame. A reader keeps them as it keeps a CRC.
+/// The first 16 bytes that were read. A reader keeps them as it keeps a CRC.
 #[derive(Clone, Copy, Debug)]
 pub struct FirstBytes {
     // How many of them were read so far.
@@ -97,15 +92,6 @@ impl FirstBytes {
     {
         number_of_four(&self.bytes)
     }
-
-    // What the header says that they begin with, in the stream with this streaminfo; None if there is none.
-    pub(crate) fn header(&self, info: StreamInfo) -> Option<BlockInfo>
-        requires min_bit_depth { 1 ≤ info.bits_per_sample }
-        requires max_bit_depth { info.bits_per_sample ≤ 32 }
-        ensures { SaysHeader (Some (stream_with info)) self.now.bytes result }
-    {
-        header_at_start(&self.bytes, info)
-    }
 }
 
 // Whether each byte is 0.
@@ -126,14 +112,4 @@ fn number_of_four(bytes: &[u8]) -> u32
     ensures { result ≡ number (bits_of (take 4 bytes.now)) }
 {
     u32::from_be_bytes([bytes[0], bytes[1], bytes[2], bytes[3]])
-}
-
-// What the header says that the bytes begin with, in the stream with this streaminfo; None if there is none.
-fn header_at_start(bytes: &[u8], info: StreamInfo) -> Option<BlockInfo>
-    requires min_bit_depth { 1 ≤ info.bits_per_sample }
-    requires max_bit_depth { info.bits_per_sample ≤ 32 }
-    ensures { SaysHeader (Some (stream_with info)) bytes.now result }
-{
-    let mut frames = FrameReader::with_streaminfo(Cursor::new(bytes), info);
-    frames.read_header_or_eof().unwrap_or(None)
 }
