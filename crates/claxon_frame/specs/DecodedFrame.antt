@@ -11,6 +11,7 @@ use Rattle.claxon_input.specs.State.{State}
 use Rattle.claxon_frame.specs.BlockInfo.{HeaderAnswer, HeaderOf, SaysBlock, header_info_at}
 use Rattle.claxon_frame.specs.FrameReader.{
   FrameAnswer,
+  FrameOutOfMemoryAfterHeader,
   ReadsFrame,
   block_view,
   frame_bytes,
@@ -74,6 +75,13 @@ module _ {R A : Type 0} (source : R → Source ℕ) (old : FrameReader R) (resul
   DecodedReadsFrame =
       ReadsFrame (frame_stream old) (frame_answer result)
       (frame_bytes source old) (frame_bytes source new)
+
+-- `OutOfMemory` is returned only if just a header was consumed, whose block has more samples
+-- than the buffer's capacity.
+abbrev pub DecodedOutOfMemoryAfterHeader : {R A : Type 0} → (R → Source ℕ) → ℕ → FrameReader R
+    → DecodedAnswer A → FrameReader R → Type 0
+DecodedOutOfMemoryAfterHeader source capacity old result new =
+    FrameOutOfMemoryAfterHeader source capacity old (frame_answer result) new
 
 -- The header says this of the block.
 abbrev pub DecodedSaysBlock : {A : Type 0} → DecodedAnswer A → Type 0

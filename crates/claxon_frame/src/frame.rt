@@ -91,6 +91,7 @@ impl<R: ReadBytes> FrameReader<R> {
       DecodedIsComplete,
       DecodedIsSound,
       DecodedIsUnambiguous,
+      DecodedOutOfMemoryAfterHeader,
       DecodedReadsFrame,
       DecodedSaysBlock,
       frame_answer,
@@ -211,7 +212,8 @@ impl<R: ReadBytes> FrameReader<R> {
         ensures none_is_eof { FrameNoneIsEof R.source self.old (frame_answer result) self.new }
         ensures eof_is_none { FrameEofIsNone R.source self.old (frame_answer result) self.new }
         ensures failure_is_err { FailureIsErr R.source self.old (frame_answer result) self.new }
-        ensures fault_is_sound { FrameFaultIsSound R.source self.old (frame_answer result) self.new }
+        ensures fault_is_sound { FrameFaultIsSound R.source self.old (frame_answer result)
+            self.new }
         ensures fault_is_complete { FrameFaultIsComplete R.source self.old (frame_answer result)
             self.new }
         ensures else_io_error { FrameElseIoError R.source self.old (frame_answer result) self.new }
@@ -219,8 +221,8 @@ impl<R: ReadBytes> FrameReader<R> {
         // What the definitions say.
         ensures is_unambiguous { DecodedIsUnambiguous (frame_stream self.old) }
         // Memory.
-        ensures out_of_memory_after_header { FrameOutOfMemoryAfterHeader R.source
-            (vec_capacity buffer) self.old (frame_answer result) self.new }
+        ensures out_of_memory_after_header { DecodedOutOfMemoryAfterHeader R.source
+            (vec_capacity buffer) self.old result self.new }
         ensures max_capacity_is_enough { MaxCapacityIsEnough (vec_capacity buffer)
             (frame_answer result) }
         ensures keeps_capacity { BlockKeepsCapacity (vec_capacity buffer) (frame_answer result) }

@@ -26,11 +26,13 @@ use Rattle.claxon.specs.Error.{IsFault}
 use Rattle.claxon.specs.Errors.{Error}
 use Rattle.claxon.specs.Fault.{BitDepthReserved, Fault}
 use Rattle.claxon.specs.Frame.{StreamFormat}
-use Rattle.claxon.specs.FrameReader.{FrameAnswer}
+use Rattle.claxon.specs.FrameReader.{FrameAnswer, ReadsFrame, stream_with}
 use Rattle.claxon.specs.Header.{says_32_bits}
 use Rattle.claxon.specs.Prefix.{BeginsWith}
 use Rattle.claxon.specs.Promises.{Consumed}
-use Rattle.claxon.specs.State.{State, RemainingIsKnown}
+use Rattle.claxon.specs.Source.{Source}
+use Rattle.claxon.specs.State.{State, RemainingIsKnown, bytes_in}
+use Rattle.claxon.specs.StreamInfos.{StreamInfo}
 use Rattle.claxon.specs.read.Bytes.{big_endian}
 use Rattle.claxon_verify.specs.FirstBytes.{AreFirst}
 use Rattle.claxon_verify.specs.declared.frames.FrameError.{FrameError}
@@ -67,7 +69,8 @@ TellsOf32Bits r old =
     IfErr r (λ e. RemainingIsKnown old → IsTrue e.is_32_bit ↔ Is32BitFault old.remaining e.error)
 
 -- An Err that names a fault has the first of the bytes that are no frame.
-abbrev pub KeepsFirstBytes : {A : Type 0} → Result (Option A) FrameError → State ℕ → State ℕ → Type 0
+abbrev pub KeepsFirstBytes : {A : Type 0} → Result (Option A) FrameError → State ℕ → State ℕ
+    → Type 0
 KeepsFirstBytes r old new =
     IfErr r (λ e. (f : Fault) → IsFault f e.error → RemainingIsKnown old
     → AreFirst e.first old.remaining new.remaining)
@@ -84,3 +87,26 @@ abbrev pub HasHeader : {A : Type 0} → Option StreamFormat
 HasHeader stream r old new =
     IfOk r (λ found. IfSome found (λ frame.
     Consumed old new (FrameWithHeader stream (decoded_view frame))))
+
+-- ---- the clauses of `read_frame` and `read_block`, of the stream with this streaminfo. `old` and
+-- `new` are the input before and after the call.
+
+module _ {R : Type 0} (source : R → Source ℕ) (info : StreamInfo) (old : R) where
+  -- But for the header it is what `FrameReader::read_next_or_eof` returns and consumes.
+  abbrev pub StreamFrameIsRead : {A : Type 0} → Result (Option (DecodedFrame A)) FrameError → R
+      → Type 0
+  StreamFrameIsRead result new =
+      ReadsFrame (Some (stream_with info)) (decoder_answer frame_block result)
+      (bytes_in source old) (bytes_in source new)
+
+  -- It is what `FrameReader::read_next_or_eof` returns and consumes.
+  abbrev pub StreamBlockIsRead : Result (Option BlockValue) FrameError → R → Type 0
+  StreamBlockIsRead result new =
+      ReadsFrame (Some (stream_with info)) (answer_of result)
+      (bytes_in source old) (bytes_in source new)
+
+  -- Of a frame just its bytes were consumed, and their header says what is returned.
+  abbrev pub StreamFrameHasHeader : {A : Type 0} → Result (Option (DecodedFrame A)) FrameError → R
+      → Type 0
+  StreamFrameHasHeader result new =
+      HasHeader (Some (stream_with info)) result (bytes_in source old) (bytes_in source new)

@@ -30,7 +30,14 @@ use Rattle.claxon_md5.specs.HasHashed.{HasHashed}
 use Rattle.claxon_md5.specs.declared.Md5.{Md5}
 use Rattle.claxon_verify.specs.HashBlock.{HashesBlock}
 use Rattle.claxon_verify.specs.RightStream.{bytes_of_frames}
-use Rattle.claxon_verify.specs.Verify.{Counted, Counts, IsJudged, IsMd5Verdict, IsTooMany, frames_of}
+use Rattle.claxon_verify.specs.Verify.{
+  Counted,
+  Counts,
+  IsJudged,
+  IsMd5Verdict,
+  IsTooMany,
+  frames_of,
+}
 use Rattle.claxon_verify.specs.declared.frames.FrameError.{FrameError}
 use Rattle.claxon_verify.specs.declared.report.Damage.{Damage}
 use Rattle.claxon_verify.specs.declared.report.Damage.TheVariants.{Fault}

@@ -9,8 +9,10 @@ ghost use Rattle.claxon.specs.Promises.{FoundIsSound};
 ghost use Rattle.claxon.specs.State.{bytes_in};
 ghost use Rattle.claxon_verify.specs.Frames.{
   FourSay32Bits,
-  HasHeader,
   KeepsFirstBytes,
+  StreamBlockIsRead,
+  StreamFrameHasHeader,
+  StreamFrameIsRead,
   TellsOf32Bits,
   answer_of,
   decoder_answer,
@@ -51,10 +53,8 @@ pub fn read_frame<R: ReadBytes, A: Allocator>(
 ) -> result::Result<Option<DecodedFrame<A>>, FrameError>
     requires min_bit_depth { 1 ≤ info.bits_per_sample }
     requires max_bit_depth { info.bits_per_sample ≤ 32 }
-    ensures is_read { ReadsFrame (Some (stream_with info)) (decoder_answer frame_block result)
-        (bytes_in R.source input.old) (bytes_in R.source input.new) }
-    ensures has_header { HasHeader (Some (stream_with info)) result
-        (bytes_in R.source input.old) (bytes_in R.source input.new) }
+    ensures is_read { StreamFrameIsRead R.source info input.old result input.new }
+    ensures has_header { StreamFrameHasHeader R.source info input.old result input.new }
     ensures tells_of_32_bits { TellsOf32Bits result (bytes_in R.source input.old) }
     ensures keeps_first { KeepsFirstBytes result
         (bytes_in R.source input.old) (bytes_in R.source input.new) }
@@ -84,8 +84,7 @@ pub fn read_block<R: ReadBytes, A: Allocator>(
 ) -> result::Result<Option<Block<A>>, FrameError>
     requires min_bit_depth { 1 ≤ info.bits_per_sample }
     requires max_bit_depth { info.bits_per_sample ≤ 32 }
-    ensures is_read { ReadsFrame (Some (stream_with info)) (answer_of result)
-        (bytes_in R.source input.old) (bytes_in R.source input.new) }
+    ensures is_read { StreamBlockIsRead R.source info input.old result input.new }
     ensures tells_of_32_bits { TellsOf32Bits result (bytes_in R.source input.old) }
     ensures keeps_first { KeepsFirstBytes result
         (bytes_in R.source input.old) (bytes_in R.source input.new) }
