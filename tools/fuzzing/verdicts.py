@@ -28,11 +28,11 @@ def damage_of(
     if header.sample_rate not in (None, streaminfo.sample_rate):
         return f"{header.sample_rate} Hz, but the streaminfo says {streaminfo.sample_rate}"
     if strategy not in (None, header.is_variable):
-        return "the blocking strategy is another than in the first frame"
+        return "the blocking strategy differs from the first frame's"
     if header.coded_number > number:
         return gap_text(header.coded_number - number, header.is_variable, "missing")
     if header.coded_number < number:
-        return gap_text(number - header.coded_number, header.is_variable, "there twice")
+        return gap_text(number - header.coded_number, header.is_variable, "repeated")
     return None
 
 

@@ -16,8 +16,8 @@ CUT = "truncated: the file ends inside a frame"
 CUT_HEAD = "truncated: the file ends inside the metadata"
 BLOCK_NOTE = "a block size is out of the streaminfo's bounds"
 FRAME_NOTE = "a frame size is out of the streaminfo's bounds"
-BYTE_NOTE, MD5_NOTE, LENGTH_NOTE = "1 byte behind the last frame", "no MD5 sum", "unknown length"
-STRATEGY = "the blocking strategy is another than in the first frame"
+BYTE_NOTE, MD5_NOTE, LENGTH_NOTE = "1 byte after the last frame", "no MD5 sum", "unknown length"
+STRATEGY = "the blocking strategy differs from the first frame's"
 WRONG_MD5 = "but their MD5 sum isn't that of the streaminfo"
 # The first byte of a place and that after it, the first sample and that after it, and what is
 # wrong.
@@ -106,7 +106,7 @@ def flipped(data: bytes, positions: Iterable[int]) -> bytes:
 class Row:
     """A stream, and what is to be said of it: the line without the name, and the parts of the
     JSON object. Without `counts` there are no frames, but a reason. A place is its first byte
-    and that behind it, its first sample and that behind it, and what is wrong."""
+    and that after it, its first sample and that after it, and what is wrong."""
 
     name: str
     data: bytes
@@ -130,9 +130,9 @@ class Row:
         if self.verdict != "wrong":
             return []
         lines = []
-        for start, end, first, behind, what in self.places:
+        for start, end, first, after, what in self.places:
             where = f"byte {start}" if start == end else f"bytes {start} to {end}"
-            lines.append(f"  {where}, samples {first} to {behind}: {what}")
+            lines.append(f"  {where}, samples {first} to {after}: {what}")
         return lines
 
     def text(self, shown_name: str, is_brief: bool = False) -> str:
@@ -223,7 +223,7 @@ def right_rows() -> Iterator[Row]:
             line,
             (2, 32),
         )
-    yield Row("a byte behind", two + b"\xff", line + ", " + BYTE_NOTE, (2, 32), notes=(BYTE_NOTE,))
+    yield Row("a byte after", two + b"\xff", line + ", " + BYTE_NOTE, (2, 32), notes=(BYTE_NOTE,))
     all_notes = (
         numbered([0, 1], samples=0, md5=bytes(16), stream=Format(blocks=(17, 20), sizes=(12, 12)))
         + b"\0"
@@ -270,8 +270,8 @@ def one_place(
 
 def order_rows() -> Iterator[Row]:
     """Frames that are all right by themselves, and not where they have to be."""
-    missing, twice = "1 frame is missing", "1 frame is there twice"
-    swapped = (53, 53, 16, 32, missing), (64, 64, 48, 16, "2 frames are there twice"), (
+    missing, twice = "1 frame is missing", "1 frame is repeated"
+    swapped = (53, 53, 16, 32, missing), (64, 64, 48, 16, "2 frames are repeated"), (
         75, 75, 32, 48, missing
     )
     yield Row(
@@ -308,7 +308,7 @@ def order_rows() -> Iterator[Row]:
         "two frames twice",
         numbered([0, 1, 0, 1], of=2),
         (4, 64),
-        (64, 64, 32, 0, "2 frames are there twice"),
+        (64, 64, 32, 0, "2 frames are repeated"),
         32,
     )
     yield one_place(
@@ -324,7 +324,7 @@ def order_rows() -> Iterator[Row]:
     )
     back = head(32, md5_of([1, 2])) + frame(0, 1, is_variable=True) + frame(15, 2, is_variable=True)
     yield one_place(
-        "a sample twice", back, (2, 32), (53, 53, 16, 15, "1 sample is there twice"), md5="ok"
+        "a sample twice", back, (2, 32), (53, 53, 16, 15, "1 sample is repeated"), md5="ok"
     )
     unknown = numbered([0, 2], of=3, samples=0, md5=md5_of([1, 3]))
     yield one_place(
@@ -453,7 +453,7 @@ def sum_rows() -> Iterator[Row]:
 
 
 def trailing_rows() -> Iterator[Row]:
-    """Bytes behind the last frame."""
+    """Bytes after the last frame."""
     two = numbered([0, 1])
     ape = b"APETAGEX" + struct.pack("<IIII8x", 2000, 41, 1, 0x80000000) + bytes(9)
     for name, more, what in (
@@ -469,11 +469,11 @@ def trailing_rows() -> Iterator[Row]:
         ("129 bytes of a tag", b"TAG".ljust(129, b"a"), ""),
         ("7 bytes of a tag", b"APETAGE", ""),
     ):
-        said = f"{len(more)} bytes behind the last frame{what}"
+        said = f"{len(more)} bytes after the last frame{what}"
         yield one_place(
-            name + " behind", two + more, (2, 32), (64, 64 + len(more), 32, 32, said), md5="ok"
+            name + " after", two + more, (2, 32), (64, 64 + len(more), 32, 32, said), md5="ok"
         )
-    said = "128 bytes behind the last frame: an ID3v1 tag"
+    said = "128 bytes after the last frame: an ID3v1 tag"
     yield one_place(
         "a tag, unknown length",
         numbered([0, 1], samples=0) + b"TAG".ljust(128, b"\0"),
@@ -482,7 +482,7 @@ def trailing_rows() -> Iterator[Row]:
         md5="ok",
         notes=(LENGTH_NOTE,),
     )
-    what = "128 bytes behind the last frame: an ID3v1 tag"
+    what = "128 bytes after the last frame: an ID3v1 tag"
     yield Row(
         "a frame missing, and a tag",
         numbered([0, 2], of=3) + b"TAG".ljust(128, b"\0"),
@@ -499,9 +499,9 @@ def trailing_rows() -> Iterator[Row]:
         (64, 203, 32, 32, CRC),
         48,
     )
-    said = "4 bytes behind the last frame: zeros"
+    said = "4 bytes after the last frame: zeros"
     yield one_place(
-        "only zeros behind the head",
+        "only zeros after the head",
         head(0, bytes(16)) + bytes(4),
         (0, 0),
         (42, 46, 0, 0, said),

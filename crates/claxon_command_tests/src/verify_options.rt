@@ -40,9 +40,9 @@ fn letters(alloc: Global, options: Options) -> Result<String, AllocError> {
     let mut text = String::new(alloc);
     for (is_set, letter) in [
         (!options.computes_md5, "m"),
-        (options.is_brief, "b"),
-        (options.is_json, "j"),
-        (options.is_quiet, "q"),
+        (options.print.is_brief, "b"),
+        (options.print.is_json, "j"),
+        (options.print.is_quiet, "q"),
         (options.is_recursive, "r"),
     ] {
         if is_set {

@@ -8,6 +8,7 @@ use claxon_command_line::input::{Input, STANDARD, open_input};
 use claxon_command_line::messages::{Part, print_error, shown_name};
 use claxon_command_line::names::{escaped_bytes, read_name};
 use claxon_command_line::progress::{Position, Progress, file_label};
+use claxon_verdict::print::{PrintOptions, print_failure, print_report, print_unread};
 use claxon_verdict::verdict::Outcome;
 use claxon_verify::report::Report;
 use claxon_verify::verify;
@@ -17,10 +18,8 @@ use std::rt::Files;
 use std::str;
 
 pub mod options;
-mod print;
 
 use options::{NamedFiles, Options, VerifyRequest, parse};
-use print::{print_failure, print_report, print_unread};
 
 /// What the command says about itself.
 pub const PROGRAM: Program = Program {
@@ -163,7 +162,7 @@ where
                 rt.alloc(),
                 name.as_slice(),
                 reason,
-                job.options,
+                job.options.print,
                 output,
                 errors,
             ),
@@ -201,7 +200,7 @@ fn refuse_name<W: Write, E: Write>(
     alloc: Global,
     name: &[u8],
     reason: &str,
-    options: Options,
+    options: PrintOptions,
     output: &mut W,
     errors: &mut E,
 ) -> Option<Outcome> {
@@ -241,7 +240,7 @@ where
     Q::File: Read,
 {
     let mut paths = Vec::new(rt.alloc());
-    let mut outcome = list(rt, job.options, folder, &mut paths, output, errors)?;
+    let mut outcome = list(rt, job.options.print, folder, &mut paths, output, errors)?;
     let mut number = 0u64;
     for _ in 0..u64::MAX {
         let Some(path) = paths.pop() else {
@@ -253,14 +252,21 @@ where
         let path = path.as_slice();
         let one = match str::from_utf8(path) {
             Ok(name) if is_real_folder(rt, name) => {
-                list(rt, job.options, name, &mut paths, output, errors)
+                list(rt, job.options.print, name, &mut paths, output, errors)
             }
             Ok(name) if name.ends_with(".flac") => {
                 let file = NamedFile { name, position };
                 verify_one(rt, job, file, input, output, errors)
             }
             Ok(_) => Some(Outcome::Right),
-            Err(_) => refuse_name(rt.alloc(), path, NOT_UTF8, job.options, output, errors),
+            Err(_) => refuse_name(
+                rt.alloc(),
+                path,
+                NOT_UTF8,
+                job.options.print,
+                output,
+                errors,
+            ),
         };
         outcome = outcome.worst(one?);
     }
@@ -270,7 +276,7 @@ where
 // Adds what lies in a folder, or prints that it can't be read.
 fn list<Q: Files + AllocGlobal, W: Write, E: Write>(
     rt: &Q,
-    options: Options,
+    options: PrintOptions,
     folder: &str,
     paths: &mut Vec<Vec<u8>>,
     output: &mut W,
@@ -294,7 +300,7 @@ fn verify_one<Q: Files + AllocGlobal, I: Read + Copy, W: Write, E: Write>(
 where
     Q::File: Read,
 {
-    let (alloc, options) = (rt.alloc(), job.options);
+    let (alloc, options) = (rt.alloc(), job.options.print);
     match verify_shown(rt, job, file, input, errors) {
         Ok(report) => print_report(alloc, file.name, &report, options, output, errors),
         Err(error) => print_failure(alloc, file.name, &error, options, output, errors),

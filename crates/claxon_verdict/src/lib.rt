@@ -1,7 +1,8 @@
-//! What is said of a stream that was verified: the verdict, lines of text and JSON objects.
+//! What is said of a stream that was verified: the verdict, lines of text and JSON objects, and their printing.
 #![tactic(auto)]
 
 pub mod json_report;
+pub mod print;
 #[cfg(test)]
 mod reports;
 pub mod text;

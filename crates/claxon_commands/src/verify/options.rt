@@ -2,6 +2,7 @@
 ghost use Rattle.claxon_commands.specs.VerifyOptions.{FilesAre, RequestIsSound};
 
 use claxon_command_line::arguments::{Argument, Arguments, Notice, Operands};
+use claxon_verdict::print::PrintOptions;
 
 /// What a command line asks for.
 #[derive(Drop)]
@@ -26,12 +27,8 @@ pub enum NamedFiles<'a> {
 pub struct Options {
     /// The MD5 sum of the samples is computed.
     pub computes_md5: bool,
-    /// There is no line for a place that isn't right.
-    pub is_brief: bool,
-    /// The output is JSON.
-    pub is_json: bool,
-    /// Nothing is printed about a file that is right.
-    pub is_quiet: bool,
+    /// What is printed.
+    pub print: PrintOptions,
     /// A folder stands for the FLAC files below it.
     pub is_recursive: bool,
 }
@@ -43,9 +40,11 @@ pub fn parse<'a>(words: &'a [String]) -> Result<VerifyRequest<'a>, Notice<'a>>
     let mut arguments = Arguments::new(words);
     let mut options = Options {
         computes_md5: true,
-        is_brief: false,
-        is_json: false,
-        is_quiet: false,
+        print: PrintOptions {
+            is_brief: false,
+            is_json: false,
+            is_quiet: false,
+        },
         is_recursive: false,
     };
     let (mut list, mut count) = (None, 0usize);
@@ -66,29 +65,16 @@ pub fn parse<'a>(words: &'a [String]) -> Result<VerifyRequest<'a>, Notice<'a>>
 
 // The options, with one more.
 fn with_option<'a>(options: Options, option: &'a str) -> Result<Options, Notice<'a>> {
+    let mut options = options;
     match option {
-        "--no-md5" => Ok(Options {
-            computes_md5: false,
-            ..options
-        }),
-        "--brief" => Ok(Options {
-            is_brief: true,
-            ..options
-        }),
-        "--json" => Ok(Options {
-            is_json: true,
-            ..options
-        }),
-        "-q" | "--quiet" => Ok(Options {
-            is_quiet: true,
-            ..options
-        }),
-        "-r" | "--recursive" => Ok(Options {
-            is_recursive: true,
-            ..options
-        }),
-        _ => Err(Notice::of_option(option)),
+        "--no-md5" => options.computes_md5 = false,
+        "--brief" => options.print.is_brief = true,
+        "--json" => options.print.is_json = true,
+        "-q" | "--quiet" => options.print.is_quiet = true,
+        "-r" | "--recursive" => options.is_recursive = true,
+        _ => return Err(Notice::of_option(option)),
     }
+    Ok(options)
 }
 
 // The files, where there is a list or not, and this number of operands.

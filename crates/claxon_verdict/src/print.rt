@@ -1,21 +1,31 @@
 //! Printing what is said of files.
-use super::options::Options;
+use crate::json_report::{error_object, object, report_object};
+use crate::text::{head_text, left_out_line, place_line, verdict_text};
+use crate::verdict::{Outcome, Verdict};
 use claxon::Error;
 use claxon_command_line::input::STANDARD;
 use claxon_command_line::messages::{Part, line, print_error, shown_name};
-use claxon_verdict::json_report::{error_object, object, report_object};
-use claxon_verdict::text::{head_text, left_out_line, place_line, verdict_text};
-use claxon_verdict::verdict::{Outcome, Verdict};
 use claxon_verify::report::Report;
 use std::alloc::{AllocError, Global};
 use std::io::Write;
+
+/// What is printed.
+#[derive(Clone, Copy)]
+pub struct PrintOptions {
+    /// There is no line for a place that isn't right.
+    pub is_brief: bool,
+    /// The output is JSON.
+    pub is_json: bool,
+    /// Nothing is printed about a file that is right.
+    pub is_quiet: bool,
+}
 
 /// Prints what is said of a file with this report, and returns what became of it: None if the output fails.
 pub fn print_report<W: Write, E: Write>(
     alloc: Global,
     name: &str,
     report: &Report,
-    options: Options,
+    options: PrintOptions,
     output: &mut W,
     errors: &mut E,
 ) -> Option<Outcome> {
@@ -77,7 +87,7 @@ pub fn print_failure<W: Write, E: Write>(
     alloc: Global,
     name: &str,
     error: &Error,
-    options: Options,
+    options: PrintOptions,
     output: &mut W,
     errors: &mut E,
 ) -> Option<Outcome> {
@@ -98,7 +108,7 @@ pub fn print_unread<W: Write, E: Write>(
     alloc: Global,
     name: Result<String, AllocError>,
     reason: &str,
-    options: Options,
+    options: PrintOptions,
     output: &mut W,
     errors: &mut E,
 ) -> Option<Outcome> {
