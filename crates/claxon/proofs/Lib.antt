@@ -2,7 +2,7 @@
 pub use Rattle.claxon_input.proofs.ConsecutiveCalls
 pub use Rattle.claxon_input.proofs.ByteAlignment
 pub use Rattle.claxon_input.proofs.ByteFields
-pub use Rattle.claxon_input.proofs.CrcReaders
+pub use Rattle.claxon_input.proofs.RunningReaders
 pub use Rattle.claxon_input.proofs.CrcUpdate
 pub use Rattle.claxon_input.proofs.Faults
 pub use Rattle.claxon_format.proofs.Streams

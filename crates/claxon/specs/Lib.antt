@@ -14,9 +14,9 @@ pub use Rattle.claxon_format.specs.Heads
 pub use Rattle.claxon_format.specs.Streams
 pub use Rattle.claxon_input.specs.Source
 pub use Rattle.claxon_input.specs.Cursor
-pub use Rattle.claxon_input.specs.CrcReader
+pub use Rattle.claxon_input.specs.RunningReader
 pub use Rattle.claxon_input.specs.CrcUpdate
-pub use Rattle.claxon_input.specs.declared.crc.CrcReader as CrcReaders
+pub use Rattle.claxon_input.specs.declared.running.RunningReader as RunningReaders
 pub use Rattle.claxon_input.specs.BufferedReader
 pub use Rattle.claxon_input.specs.Error
 pub use Rattle.claxon_input.specs.declared.error.Error as Errors

@@ -51,7 +51,12 @@ pub mod input {
 
 /// Readers that compute the CRC of the bytes that are read through them.
 pub mod crc {
-    pub use claxon_input::crc::{Crc8Reader, Crc16Reader, CrcReader, RunningCrc};
+    pub use claxon_input::crc::{Crc8Reader, Crc16Reader};
+}
+
+/// Readers that keep a value of the bytes that are read through them.
+pub mod running {
+    pub use claxon_input::running::{Running, RunningReader};
 }
 
 /// Frames: blocks of samples, one after another.

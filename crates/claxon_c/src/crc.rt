@@ -1,7 +1,7 @@
 //! The CRC of frames.
 ghost use Rattle.claxon_c.specs.CrcCall.{CCrcBegins, CCrcContinues};
 
-use claxon::crc::RunningCrc;
+use claxon::running::Running;
 
 /// The CRC by x^16 + x^15 + x^2 + 1 (RFC 9639, section 9.3) after more bytes, from what it was before them: 0 at first.
 #[unsafe(no_mangle)]

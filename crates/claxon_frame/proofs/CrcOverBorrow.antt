@@ -3,14 +3,14 @@ use Rattle.std.proofs.Common.{◌≡◌, ℕ, Option, None, Some, List, ◌∷�
 use Rattle.std.specs.Borrow.{GName, MutBor}
 use Rattle.std.specs.Prelude.{Result, Ok, Err}
 use Rattle.claxon_format.specs.read.Reading.{Reading, Done}
-use Rattle.claxon_input.specs.CrcReader.{crc_inner, crc_source, crc_state}
+use Rattle.claxon_input.specs.RunningReader.{running_inner, running_source, running_value}
 use Rattle.claxon_input.specs.CrcUpdate.{update_crc8}
 use Rattle.claxon_input.specs.Source.{Source, through_loan, with_crc}
 use Rattle.claxon_input.specs.State.{State, bytes_in}
 use Rattle.claxon_input.specs.Error.{is_io}
-use Rattle.claxon_input.specs.declared.crc.CrcReader.{CrcReader}
+use Rattle.claxon_input.specs.declared.running.RunningReader.{RunningReader}
 use Rattle.claxon_input.specs.declared.error.Error.{Error}
-use Rattle.claxon_input.proofs.CrcReaders.{over_borrow, same_crcs_below, same_loans_below, stops_below, under, consumes_below}
+use Rattle.claxon_input.proofs.RunningReaders.{over_borrow, same_crcs_below, same_loans_below, stops_below, under, consumes_below}
 use Rattle.claxon_input.proofs.States.{bytes_of_source}
 use Rattle.claxon_input.proofs.ConsecutiveCalls.{stops_loans}
 use Rattle.claxon_input.specs.Gives.{ReachedEof, GivesOrEof, or_eof}
@@ -41,11 +41,11 @@ module _ (s t : Source ℕ) (j k : GName) (f g : List ℕ → ℕ) where
       → GivesOrEof count view r read (bytes_of_source (with_crc f (through_loan j s))) (bytes_of_source (with_crc g (through_loan k t))) → j ≡ k
   gives_or_eof_borrow_name count view r read h = let e : k ∷ t.loans ≡ j ∷ s.loans = gives_or_eof_loans count view r read _ _ h in cc
 
-module _ {R A Y : Type 0} (source : R → Source ℕ) (x : R) (j : GName) (b c : CrcReader (MutBor R) ℕ) (count : ℕ) (view : A → Y) (r : Result (Option A) Error) (read : List ℕ → Reading ℕ Y) where
+module _ {R A Y : Type 0} (source : R → Source ℕ) (x : R) (j : GName) (b c : RunningReader (MutBor R) ℕ) (count : ℕ) (view : A → Y) (r : Result (Option A) Error) (read : List ℕ → Reading ℕ Y) where
   -- and the reference is still the same
-  pub gives_or_eof_through : crc_source (over_borrow source) update_crc8 b ≡ with_crc (update_crc8 0) (through_loan j (source x))
-      → GivesOrEof count view r read (bytes_in (crc_source (over_borrow source) update_crc8) b) (bytes_in (crc_source (over_borrow source) update_crc8) c) → (j ≡ (crc_inner c).ghost_name) × GivesOrEof count view r read (bytes_in source x) (bytes_in source (crc_inner c).now)
+  pub gives_or_eof_through : running_source (over_borrow source) update_crc8 b ≡ with_crc (update_crc8 0) (through_loan j (source x))
+      → GivesOrEof count view r read (bytes_in (running_source (over_borrow source) update_crc8) b) (bytes_in (running_source (over_borrow source) update_crc8) c) → (j ≡ (running_inner c).ghost_name) × GivesOrEof count view r read (bytes_in source x) (bytes_in source (running_inner c).now)
   unfolding bytes_in
   gives_or_eof_through e h =
-      let k = subst (λ z. GivesOrEof count view r read (bytes_of_source z) (bytes_of_source (crc_source (over_borrow source) update_crc8 c))) e h in
-      (gives_or_eof_borrow_name (source x) (source (crc_inner c).now) j (crc_inner c).ghost_name (update_crc8 0) (update_crc8 (crc_state c)) count view r read k, gives_or_eof_borrowed (source x) (source (crc_inner c).now) j (crc_inner c).ghost_name (update_crc8 0) (update_crc8 (crc_state c)) count view r read k)
+      let k = subst (λ z. GivesOrEof count view r read (bytes_of_source z) (bytes_of_source (running_source (over_borrow source) update_crc8 c))) e h in
+      (gives_or_eof_borrow_name (source x) (source (running_inner c).now) j (running_inner c).ghost_name (update_crc8 0) (update_crc8 (running_value c)) count view r read k, gives_or_eof_borrowed (source x) (source (running_inner c).now) j (running_inner c).ghost_name (update_crc8 0) (update_crc8 (running_value c)) count view r read k)

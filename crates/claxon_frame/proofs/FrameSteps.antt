@@ -15,7 +15,7 @@ use Rattle.claxon_input.specs.CrcUpdate.{update_crc16}
 use Rattle.claxon_input.specs.Source.{Source, with_crc}
 use Rattle.claxon_input.specs.State.{State}
 use Rattle.claxon_input.specs.Gives.{Consumes, Stops, or_eof, GivesOrEofOrOutOfMemory}
-use Rattle.claxon_input.proofs.CrcReaders.{source_crc_of_taken}
+use Rattle.claxon_input.proofs.RunningReaders.{source_crc_of_taken}
 use Rattle.claxon_input.proofs.CrcUpdate.{determines_crc16}
 use Rattle.claxon_input.proofs.States.{bytes_of_source}
 use Rattle.claxon_input.proofs.ConsecutiveCalls.{consumes_map, consumes_then, stops_as}

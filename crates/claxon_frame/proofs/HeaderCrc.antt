@@ -11,7 +11,7 @@ use Rattle.claxon_input.specs.CrcUpdate.{update_crc8}
 use Rattle.claxon_input.specs.Source.{Source, with_crc}
 use Rattle.claxon_input.specs.State.{State}
 use Rattle.claxon_input.specs.Gives.{Consumes, or_eof}
-use Rattle.claxon_input.proofs.CrcReaders.{source_crc_of_taken}
+use Rattle.claxon_input.proofs.RunningReaders.{source_crc_of_taken}
 use Rattle.claxon_input.proofs.CrcUpdate.{determines_crc8}
 use Rattle.claxon_input.proofs.States.{bytes_of_source}
 use Rattle.claxon_format.specs.read.Header.{fields_at, fields_with_crc_at}

@@ -19,7 +19,7 @@ ghost use Rattle.claxon_format.specs.Streams.{duration_of};
 ghost use Rattle.claxon_input.specs.Error.{is_out_of_memory};
 ghost use Rattle.claxon_format.specs.Fault.{FrameCrc};
 ghost use Rattle.claxon_format.specs.read.Bytes.{crc_at};
-ghost use Rattle.claxon_input.specs.CrcReader.{crc_state};
+ghost use Rattle.claxon_input.specs.RunningReader.{running_value};
 ghost use Rattle.claxon_input.specs.State.{bytes_in};
 ghost use Rattle.claxon_input.specs.Gives.{Gives, GivesOrEofOrOutOfMemory};
 ghost use Rattle.claxon_input.specs.Promises.{IfOutOfMemory};
@@ -382,11 +382,11 @@ fn decode_subframes<R: ReadBytes>(
 // The frame footer: the CRC-16 of all bytes of the frame before it.
 #[tactic(auto, using(claxon_input::proofs::ByteFields::first_number), unfolding(claxon_format::specs::read::Bytes::crc_at, claxon_format::specs::Fault::fault_text))]
 fn check_footer<R: ReadBytes>(input: &mut Crc16Reader<R>) -> Result<()>
-    ensures fits { crc_state input.old < 65536 }
-    ensures gives { Gives (λ x. tt) result (crc_at 2 (crc_state input.old) FrameCrc)
+    ensures fits { running_value input.old < 65536 }
+    ensures gives { Gives (λ x. tt) result (crc_at 2 (running_value input.old) FrameCrc)
         (crc16_bytes R.source input.old) (crc16_bytes R.source input.new) }
 {
-    let computed = input.crc();
+    let computed = input.value();
     let stored = input.read_be_u16()?;
     if stored == computed {
         Ok(())

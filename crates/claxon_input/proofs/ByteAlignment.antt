@@ -15,7 +15,7 @@ use Rattle.claxon_input.specs.State.{bits_in, bytes_in, state_of, bits_after, re
 use Rattle.claxon_input.specs.Bitstream.{bit_state}
 use Rattle.claxon_input.specs.declared.bits.Bitstream.{Bitstream}
 use Rattle.claxon_input.specs.declared.error.Error.{Error}
-use Rattle.claxon_input.proofs.CrcReaders.{over_borrow}
+use Rattle.claxon_input.proofs.RunningReaders.{over_borrow}
 use Rattle.claxon_input.proofs.Promises.{fault_is}
 use Rattle.claxon_input.proofs.ConsecutiveCalls.{gives_loans}
 

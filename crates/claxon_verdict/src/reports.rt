@@ -1,7 +1,7 @@
 //! Reports for the tests of what is printed.
 use claxon::Error;
-use claxon::crc::RunningCrc;
 use claxon::metadata::StreamInfo;
+use claxon::running::Running;
 use claxon_verify::frames::{FirstBytes, FrameError};
 use claxon_verify::report::{
     Damage, Found, Gap, Md5Verdict, Notes, Place, Places, Report, Trailing,

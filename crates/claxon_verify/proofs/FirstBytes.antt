@@ -14,8 +14,8 @@ use Rattle.claxon.specs.FrameReader.{ReadsFrame}
 use Rattle.claxon.specs.Header.{bit_depth_reserved, says_32_bits}
 use Rattle.claxon.specs.Source.{Source}
 use Rattle.claxon.specs.State.{State, RemainingIsKnown, final_crcs}
-use Rattle.claxon.specs.CrcReader.{crc_state}
-use Rattle.claxon.specs.CrcReaders.{CrcReader}
+use Rattle.claxon.specs.RunningReader.{running_value}
+use Rattle.claxon.specs.RunningReaders.{RunningReader}
 use Rattle.claxon.specs.read.Bytes.{big_endian}
 use Rattle.claxon.proofs.CodedNumber.{bits-add}
 use Rattle.claxon.proofs.Numbers.{bits-same}
@@ -169,26 +169,26 @@ kept a b (Unsupported text) fault f h known = let k = (h.gives.fault refl).known
 kept a b (IoError cause) fault f h known = absurd f
 kept a b OutOfMemory fault f h known = absurd f
 
-module _ {R : Type 0} (source : R → Source ℕ) (x y : CrcReader R FirstBytes) (len : length (crc_state y).bytes ≡ 16) where
-  module _ {stream : Option StreamFormat} (e : Error) (start : crc_state x ≡ record { seen = 0; bytes = replicate 16 0; others = 0 }) (h : ReadsFrame stream (Err e) (before source x y) (after source x y)) (f : IsFault BitDepthReserved e) (known : RemainingIsKnown (before source x y)) where
-    keeps_four : Keeps (crc_state y) (after source x y).remaining (before source x y).remaining
+module _ {R : Type 0} (source : R → Source ℕ) (x y : RunningReader R FirstBytes) (len : length (running_value y).bytes ≡ 16) where
+  module _ {stream : Option StreamFormat} (e : Error) (start : running_value x ≡ record { seen = 0; bytes = replicate 16 0; others = 0 }) (h : ReadsFrame stream (Err e) (before source x y) (after source x y)) (f : IsFault BitDepthReserved e) (known : RemainingIsKnown (before source x y)) where
+    keeps_four : Keeps (running_value y) (after source x y).remaining (before source x y).remaining
     keeps_four = let k = kept (before source x y) (after source x y) e BitDepthReserved f h known in keeps_first source x y start known k.0 k.1
 
-    said : FourSay32Bits (crc_state y) → Says32Bits (before source x y).remaining
+    said : FourSay32Bits (running_value y) → Says32Bits (before source x y).remaining
     said p =
-        let k = four_are_first (crc_state y) (after source x y).remaining (before source x y).remaining len keeps_four p.0 in
+        let k = four_are_first (running_value y) (after source x y).remaining (before source x y).remaining len keeps_four p.0 in
         let t : List ℕ = take 4 (before source x y).remaining in
         (t, drop 4 (before source x y).remaining, (k.0, subst (λ (n : ℕ). says_32_bits n ≡ true) (ap number k.1 ∙ number-bits_of t) p.1), sym (take-append-drop 4 (before source x y).remaining))
 
-    seen : Says32Bits (before source x y).remaining → FourSay32Bits (crc_state y)
+    seen : Says32Bits (before source x y).remaining → FourSay32Bits (running_value y)
     seen (t, rest, (four, says), all) = elim (h.promises.fault_is_complete BitDepthReserved t rest (refused stream t four says) (record { known = known; are = all })) [
       | inl p ↦ (
           let left : (after source x y).remaining ≡ rest = p.1.are in
           let is : (before source x y).remaining ≡ t ++ (after source x y).remaining = all ∙ ap (λ (r : List ℕ). t ++ r) (sym left) in
           let short : length t < 2 ^ 64 = omega (arith, four) in
-          let enough = were_seen (crc_state y) (after source x y).remaining (before source x y).remaining t t [] len keeps_four is short (sym (append-nil t)) (omega (arith, four)) in
-          let same = are_kept (crc_state y) (after source x y).remaining (before source x y).remaining t t [] len keeps_four is short (sym (append-nil t)) (omega (arith, four)) in
-          let number_is : number (bits_of (take 4 (crc_state y).bytes)) ≡ big_endian t = ap (λ (n : ℕ). number (bits_of (take n (crc_state y).bytes))) (sym four) ∙ ap number same ∙ number-bits_of t in
+          let enough = were_seen (running_value y) (after source x y).remaining (before source x y).remaining t t [] len keeps_four is short (sym (append-nil t)) (omega (arith, four)) in
+          let same = are_kept (running_value y) (after source x y).remaining (before source x y).remaining t t [] len keeps_four is short (sym (append-nil t)) (omega (arith, four)) in
+          let number_is : number (bits_of (take 4 (running_value y).bytes)) ≡ big_endian t = ap (λ (n : ℕ). number (bits_of (take n (running_value y).bytes))) (sym four) ∙ ap number same ∙ number-bits_of t in
           (omega (arith, four, enough), subst (λ (n : ℕ). says_32_bits n ≡ true) (sym number_is) says)
           )
       | inr (inl m) ↦ absurd (fault_not_memory e f m)
@@ -196,13 +196,13 @@ module _ {R : Type 0} (source : R → Source ℕ) (x y : CrcReader R FirstBytes)
     ]
 
   -- the kept bytes are the first of those before
-  pub fault_keeps : {stream : Option StreamFormat} (e : Error) → crc_state x ≡ record { seen = 0; bytes = replicate 16 0; others = 0 } → ReadsFrame stream (Err e) (before source x y) (after source x y)
-      → (f : Fault) → IsFault f e → RemainingIsKnown (before source x y) → AreFirst (crc_state y) (before source x y).remaining (after source x y).remaining
+  pub fault_keeps : {stream : Option StreamFormat} (e : Error) → running_value x ≡ record { seen = 0; bytes = replicate 16 0; others = 0 } → ReadsFrame stream (Err e) (before source x y) (after source x y)
+      → (f : Fault) → IsFault f e → RemainingIsKnown (before source x y) → AreFirst (running_value y) (before source x y).remaining (after source x y).remaining
   fault_keeps e start h f is known =
       let k = kept (before source x y) (after source x y) e f is h known in
-      are_first (crc_state y) (after source x y).remaining (before source x y).remaining len (keeps_first source x y start known k.0 k.1)
+      are_first (running_value y) (after source x y).remaining (before source x y).remaining len (keeps_first source x y start known k.0 k.1)
 
   -- what was read says exactly whether the frame is refused because of that code
-  pub tells : {stream : Option StreamFormat} (e : Error) → crc_state x ≡ record { seen = 0; bytes = replicate 16 0; others = 0 } → ReadsFrame stream (Err e) (before source x y) (after source x y) → (is_32_bit : Bool)
-      → (IsTrue is_32_bit ↔ (IsFault BitDepthReserved e × FourSay32Bits (crc_state y))) → RemainingIsKnown (before source x y) → IsTrue is_32_bit ↔ Is32BitFault (before source x y).remaining e
+  pub tells : {stream : Option StreamFormat} (e : Error) → running_value x ≡ record { seen = 0; bytes = replicate 16 0; others = 0 } → ReadsFrame stream (Err e) (before source x y) (after source x y) → (is_32_bit : Bool)
+      → (IsTrue is_32_bit ↔ (IsFault BitDepthReserved e × FourSay32Bits (running_value y))) → RemainingIsKnown (before source x y) → IsTrue is_32_bit ↔ Is32BitFault (before source x y).remaining e
   tells e start h is_32_bit claim known = (λ t. let p = claim.0 t in (p.0, said e start h p.0 known p.1), λ q. claim.1 (q.0, seen e start h q.0 known q.1))

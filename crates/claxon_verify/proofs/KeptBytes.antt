@@ -5,8 +5,8 @@ use Rattle.std.proofs.lemmas.Bool.{ltb-false, ltb-true, le-ltb, lt-ltb}
 use Rattle.std.proofs.lemmas.List.{length-take, take-append-drop, take-append-le, take_all, take_at, take_more_set}
 use Rattle.std.proofs.Math.Seq.{take-append-add}
 use Rattle.claxon.specs.Bits.{bits, bits_of, number}
-use Rattle.claxon.specs.CrcReader.{crc_inner, crc_source, crc_state}
-use Rattle.claxon.specs.CrcReaders.{CrcReader}
+use Rattle.claxon.specs.RunningReader.{running_inner, running_source, running_value}
+use Rattle.claxon.specs.RunningReaders.{RunningReader}
 use Rattle.claxon.specs.Source.{IsKnown, Source}
 use Rattle.claxon.specs.State.{State, RemainingIsKnown, bytes_in, crcs_at_eof, final_crcs, remaining_as}
 use Rattle.claxon.proofs.Bytes.{bits_of-append, byte_split, length-bits_of}
@@ -161,20 +161,20 @@ head_of (Some all) (Some rest) f g u v k l e =
     let i : g (rest ++ []) ≡ f (all ++ []) = cc in
     rw (append-nil, append-nil) at i
 
-module _ {R : Type 0} (source : R → Source ℕ) (x y : CrcReader R FirstBytes) where
+module _ {R : Type 0} (source : R → Source ℕ) (x y : RunningReader R FirstBytes) where
   abbrev pub before : State ℕ
-  before = bytes_in (crc_source source update_first) x
+  before = bytes_in (running_source source update_first) x
 
   abbrev pub after : State ℕ
-  after = bytes_in (crc_source source update_first) y
+  after = bytes_in (running_source source update_first) y
 
-  updated : RemainingIsKnown before → RemainingIsKnown after → final_crcs after ≡ final_crcs before → update_first (crc_state y) after.remaining ≡ update_first (crc_state x) before.remaining
+  updated : RemainingIsKnown before → RemainingIsKnown after → final_crcs after ≡ final_crcs before → update_first (running_value y) after.remaining ≡ update_first (running_value x) before.remaining
   unfolding bytes_in
   updated k l crcs =
-      let a = source (crc_inner x) in
-      let b = source (crc_inner y) in
-      head_of a.remaining b.remaining (update_first (crc_state x)) (update_first (crc_state y)) a.crcs b.crcs k l crcs
+      let a = source (running_inner x) in
+      let b = source (running_inner y) in
+      head_of a.remaining b.remaining (update_first (running_value x)) (update_first (running_value y)) a.crcs b.crcs k l crcs
 
   -- where the CRCs were updated, the first 16 bytes are kept
-  pub keeps_first : crc_state x ≡ record { seen = 0; bytes = replicate 16 0; others = 0 } → RemainingIsKnown before → RemainingIsKnown after → final_crcs after ≡ final_crcs before → Keeps (crc_state y) after.remaining before.remaining
-  keeps_first start k l crcs = keeps (crc_state y) after.remaining before.remaining (updated k l crcs ∙ ap (λ (s : FirstBytes). update_first s before.remaining) start)
+  pub keeps_first : running_value x ≡ record { seen = 0; bytes = replicate 16 0; others = 0 } → RemainingIsKnown before → RemainingIsKnown after → final_crcs after ≡ final_crcs before → Keeps (running_value y) after.remaining before.remaining
+  keeps_first start k l crcs = keeps (running_value y) after.remaining before.remaining (updated k l crcs ∙ ap (λ (s : FirstBytes). update_first s before.remaining) start)

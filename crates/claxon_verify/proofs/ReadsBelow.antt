@@ -14,11 +14,11 @@ use Rattle.claxon.specs.Promises.{FoundIsSound, NoneIsEof, Remains}
 use Rattle.claxon.specs.SampleRuns.{lent}
 use Rattle.claxon.specs.Source.{Source}
 use Rattle.claxon.specs.State.{State, RemainingIsKnown, bytes_in, crcs_at_eof, final_crcs}
-use Rattle.claxon.specs.CrcReader.{crc_inner, crc_source, crc_state}
-use Rattle.claxon.specs.CrcReaders.{CrcReader}
+use Rattle.claxon.specs.RunningReader.{running_inner, running_source, running_value}
+use Rattle.claxon.specs.RunningReaders.{RunningReader}
 use Rattle.claxon.specs.read.Frame.{frame_bytes_at}
 use Rattle.claxon.specs.read.Reading.{Reading, Done}
-use Rattle.claxon.proofs.CrcReaders.{name_below, same_crcs_below, same_loans_below}
+use Rattle.claxon.proofs.RunningReaders.{name_below, same_crcs_below, same_loans_below}
 use Rattle.claxon_write.proofs.Gathering.{reads_loans}
 use Rattle.claxon_verify.specs.FirstBytes.{AreFirst}
 use Rattle.claxon_verify.specs.Frames.{Is32BitFault, TellsOf32Bits}
@@ -102,42 +102,42 @@ sound_borrowed {R = R} source s q {known = known} r x at same h =
 
 -- ---- through a reader that keeps a CRC, over a reference
 
-module _ {R S : Type 0} (source : R → Source ℕ) (update_crc : S → List ℕ → ℕ) (input : MutBor R) (x y : CrcReader (MutBor R) S) (at : crc_inner x ≡ input) {stream : Option StreamFormat} {r : FrameAnswer} where
+module _ {R S : Type 0} (source : R → Source ℕ) (update_crc : S → List ℕ → ℕ) (input : MutBor R) (x y : RunningReader (MutBor R) S) (at : running_inner x ≡ input) {stream : Option StreamFormat} {r : FrameAnswer} where
   -- the reference is still the same
-  pub same_reference : ReadsFrame stream r (bytes_in (crc_source (lent source) update_crc) x) (bytes_in (crc_source (lent source) update_crc) y) → input.ghost_name ≡ (crc_inner y).ghost_name
+  pub same_reference : ReadsFrame stream r (bytes_in (running_source (lent source) update_crc) x) (bytes_in (running_source (lent source) update_crc) y) → input.ghost_name ≡ (running_inner y).ghost_name
   unfolding bytes_in
   same_reference h =
-      ap (λ (z : MutBor R). z.ghost_name) (sym at) ∙ name_below (crc_inner x).ghost_name (crc_inner y).ghost_name (source (crc_inner x).now).loans (source (crc_inner y).now).loans (reads_loans h)
+      ap (λ (z : MutBor R). z.ghost_name) (sym at) ∙ name_below (running_inner x).ghost_name (running_inner y).ghost_name (source (running_inner x).now).loans (source (running_inner y).now).loans (reads_loans h)
 
   -- what was read
-  pub reads_below : ReadsFrame stream r (bytes_in (crc_source (lent source) update_crc) x) (bytes_in (crc_source (lent source) update_crc) y) → ReadsFrame stream r (bytes_in source input.now) (bytes_in source (crc_inner y).now)
+  pub reads_below : ReadsFrame stream r (bytes_in (running_source (lent source) update_crc) x) (bytes_in (running_source (lent source) update_crc) y) → ReadsFrame stream r (bytes_in source input.now) (bytes_in source (running_inner y).now)
   unfolding bytes_in
   reads_below h =
-      let p = crc_inner x in
-      let q = crc_inner y in
+      let p = running_inner x in
+      let q = running_inner y in
       let a = source p.now in
       let b = source q.now in
-      let f = update_crc (crc_state x) in
-      let g = update_crc (crc_state y) in
+      let f = update_crc (running_value x) in
+      let g = update_crc (running_value y) in
       subst (λ (z : MutBor R). ReadsFrame stream r (bytes_in source z.now) (bytes_in source q.now)) at
       (reads_in (bytes_in source p.now) (bytes_in source q.now) (p.ghost_name ∷ a.loans) (q.ghost_name ∷ b.loans) (λ xs. f xs ∷ a.crcs xs) (λ xs. g xs ∷ b.crcs xs) (same_loans_below p.ghost_name q.ghost_name a.loans b.loans) (same_crcs_below a.remaining b.remaining f g a.crcs b.crcs) h)
 
 -- what is said of the bytes
-pub tells_below : {R S A : Type 0} (source : R → Source ℕ) (update_crc : S → List ℕ → ℕ) (input : MutBor R) (x : CrcReader (MutBor R) S) → crc_inner x ≡ input → (q : Result (Option A) FrameError) → TellsOf32Bits q (bytes_in (crc_source (lent source) update_crc) x)
+pub tells_below : {R S A : Type 0} (source : R → Source ℕ) (update_crc : S → List ℕ → ℕ) (input : MutBor R) (x : RunningReader (MutBor R) S) → running_inner x ≡ input → (q : Result (Option A) FrameError) → TellsOf32Bits q (bytes_in (running_source (lent source) update_crc) x)
     → TellsOf32Bits q (bytes_in source input.now)
 unfolding bytes_in
 tells_below source update_crc input x at (Ok found) h = tt
 tells_below {R = R} source update_crc input x at (Err e) h = subst (λ (z : MutBor R). RemainingIsKnown (bytes_in source z.now) → IsTrue e.is_32_bit ↔ Is32BitFault (bytes_in source z.now).remaining e.error) at h
 
 -- the frame and its header, through a reader that keeps a CRC, over a reference
-pub sound_below : {R S A : Type 0} (source : R → Source ℕ) (update_crc : S → List ℕ → ℕ) (input : MutBor R) (x y : CrcReader (MutBor R) S) → crc_inner x ≡ input → (stream : Option StreamFormat) (r : DecodedAnswer A)
-    → FoundIsSound decoded_view r (FrameWithHeader stream) (bytes_in (crc_source (lent source) update_crc) x) (bytes_in (crc_source (lent source) update_crc) y) → FoundIsSound decoded_view r (FrameWithHeader stream) (bytes_in source input.now) (bytes_in source (crc_inner y).now)
+pub sound_below : {R S A : Type 0} (source : R → Source ℕ) (update_crc : S → List ℕ → ℕ) (input : MutBor R) (x y : RunningReader (MutBor R) S) → running_inner x ≡ input → (stream : Option StreamFormat) (r : DecodedAnswer A)
+    → FoundIsSound decoded_view r (FrameWithHeader stream) (bytes_in (running_source (lent source) update_crc) x) (bytes_in (running_source (lent source) update_crc) y) → FoundIsSound decoded_view r (FrameWithHeader stream) (bytes_in source input.now) (bytes_in source (running_inner y).now)
 unfolding bytes_in
-sound_below {R = R} source update_crc input x y at stream r h = subst (λ (z : MutBor R). FoundIsSound decoded_view r (FrameWithHeader stream) (bytes_in source z.now) (bytes_in source (crc_inner y).now)) at h
+sound_below {R = R} source update_crc input x y at stream r h = subst (λ (z : MutBor R). FoundIsSound decoded_view r (FrameWithHeader stream) (bytes_in source z.now) (bytes_in source (running_inner y).now)) at h
 
 -- the first bytes of what is no frame
-pub first_below : {R S : Type 0} (source : R → Source ℕ) (update_crc : S → List ℕ → ℕ) (input : MutBor R) (x y : CrcReader (MutBor R) S) → crc_inner x ≡ input → (first : FirstBytes) (E : Fault → Type 0)
-    → ((f : Fault) → E f → RemainingIsKnown (bytes_in (crc_source (lent source) update_crc) x) → AreFirst first (bytes_in (crc_source (lent source) update_crc) x).remaining (bytes_in (crc_source (lent source) update_crc) y).remaining)
-    → (f : Fault) → E f → RemainingIsKnown (bytes_in source input.now) → AreFirst first (bytes_in source input.now).remaining (bytes_in source (crc_inner y).now).remaining
+pub first_below : {R S : Type 0} (source : R → Source ℕ) (update_crc : S → List ℕ → ℕ) (input : MutBor R) (x y : RunningReader (MutBor R) S) → running_inner x ≡ input → (first : FirstBytes) (E : Fault → Type 0)
+    → ((f : Fault) → E f → RemainingIsKnown (bytes_in (running_source (lent source) update_crc) x) → AreFirst first (bytes_in (running_source (lent source) update_crc) x).remaining (bytes_in (running_source (lent source) update_crc) y).remaining)
+    → (f : Fault) → E f → RemainingIsKnown (bytes_in source input.now) → AreFirst first (bytes_in source input.now).remaining (bytes_in source (running_inner y).now).remaining
 unfolding bytes_in
-first_below {R = R} source update_crc input x y at first E h = subst (λ (z : MutBor R). (f : Fault) → E f → RemainingIsKnown (bytes_in source z.now) → AreFirst first (bytes_in source z.now).remaining (bytes_in source (crc_inner y).now).remaining) at h
+first_below {R = R} source update_crc input x y at first E h = subst (λ (z : MutBor R). (f : Fault) → E f → RemainingIsKnown (bytes_in source z.now) → AreFirst first (bytes_in source z.now).remaining (bytes_in source (running_inner y).now).remaining) at h

@@ -27,8 +27,8 @@ use Rattle.claxon.specs.Streaminfo.{Streaminfo}
 use Rattle.claxon.specs.Streams.{stream_of, with_samples}
 use Rattle.claxon.specs.VorbisComments.{VorbisComment}
 use Rattle.claxon.proofs.OutOfMemory.{not_out_of_memory, same_out_of_memory}
-use Rattle.claxon.specs.CrcReader.{crc_inner}
-use Rattle.claxon.specs.CrcReaders.{CrcReader}
+use Rattle.claxon.specs.RunningReader.{running_inner}
+use Rattle.claxon.specs.RunningReaders.{RunningReader}
 use Rattle.claxon_md5.specs.declared.Md5.{Md5}
 use Rattle.claxon_verify.specs.RightStream.{AreInOrder, HasMd5, IsRightStream, bytes_of_frames, frame_duration, no_md5}
 use Rattle.claxon_verify.specs.Verify.{AreTooMany, CanBeCounted, Counted, Counts, EndsAt, FirstIs, FrameOrFault, FramesAndFaults, HasFramesAndFaults, IsFirst, IsMd5Verdict, IsRight, IsTooMany, IsVerified, Md5Is, ReportValue, RightIsComplete, RightIsSound, SameFirst, SameReport, StopsCounting, VerifyIsComplete, VerifyIsSound, VerifyPromises, counted_bytes, fault_count_of, frame_count_of, frames_of, report_view, sample_count_of}
@@ -472,18 +472,18 @@ module _ {a m : State ℕ} (b : State ℕ) {head : Head} {stream : Option Stream
 
 -- ---- through the reader that counts bytes
 
-module _ {R : Type 0} (source : R → Source ℕ) (input : MutBor R) (x y : CrcReader (MutBor R) BytesRead) (at : crc_inner x ≡ input) where
-  pub same_input : (counted_bytes (lent source) y).source.loans ≡ (counted_bytes (lent source) x).source.loans → input.ghost_name ≡ (crc_inner y).ghost_name
+module _ {R : Type 0} (source : R → Source ℕ) (input : MutBor R) (x y : RunningReader (MutBor R) BytesRead) (at : running_inner x ≡ input) where
+  pub same_input : (counted_bytes (lent source) y).source.loans ≡ (counted_bytes (lent source) x).source.loans → input.ghost_name ≡ (running_inner y).ghost_name
   unfolding bytes_in
   same_input loans =
-      let k : (crc_inner y).ghost_name ∷ (source (crc_inner y).now).loans ≡ (crc_inner x).ghost_name ∷ (source (crc_inner x).now).loans = loans in
-      let n : (crc_inner y).ghost_name ≡ (crc_inner x).ghost_name = cc in
+      let k : (running_inner y).ghost_name ∷ (source (running_inner y).now).loans ≡ (running_inner x).ghost_name ∷ (source (running_inner x).now).loans = loans in
+      let n : (running_inner y).ghost_name ≡ (running_inner x).ghost_name = cc in
       sym (n ∙ ap (λ (z : MutBor R). z.ghost_name) at)
 
-  pub promised_through : {A : Type 0} (computes_md5 : Bool) (result : Result (Report A) Error) → VerifyPromises computes_md5 (counted_bytes (lent source) x) result (counted_bytes (lent source) y) → VerifyPromises computes_md5 (bytes_in source input.now) result (bytes_in source (crc_inner y).now)
+  pub promised_through : {A : Type 0} (computes_md5 : Bool) (result : Result (Report A) Error) → VerifyPromises computes_md5 (counted_bytes (lent source) x) result (counted_bytes (lent source) y) → VerifyPromises computes_md5 (bytes_in source input.now) result (bytes_in source (running_inner y).now)
   unfolding bytes_in
   promised_through computes_md5 result h =
-      subst (λ (z : MutBor R). VerifyPromises computes_md5 (bytes_in source z.now) result (bytes_in source (crc_inner y).now)) at
+      subst (λ (z : MutBor R). VerifyPromises computes_md5 (bytes_in source z.now) result (bytes_in source (running_inner y).now)) at
       (record {
         sound = h.sound;
         complete = h.complete;

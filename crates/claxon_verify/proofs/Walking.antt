@@ -21,8 +21,8 @@ use Rattle.claxon.specs.Promises.{Consumed}
 use Rattle.claxon.specs.Source.{IsKnown, Source}
 use Rattle.claxon.specs.State.{State, bytes_in, crcs_at_eof, remaining_as, RemainingIsKnown, final_crcs}
 use Rattle.claxon.specs.Streaminfo.{Streaminfo}
-use Rattle.claxon.specs.CrcReader.{crc_inner}
-use Rattle.claxon.specs.CrcReaders.{CrcReader}
+use Rattle.claxon.specs.RunningReader.{running_inner}
+use Rattle.claxon.specs.RunningReaders.{RunningReader}
 use Rattle.claxon_write.proofs.Gathering.{reads_loans}
 use Rattle.claxon_md5.specs.WholeBytes.{whole_bytes_of_samples}
 use Rattle.claxon_md5.specs.declared.Md5.{Md5}
@@ -56,12 +56,12 @@ end_of (Some all) (Some rest) m n u v k l e =
 after_bytes : (m n x y z : ℕ) → (n + y) % 2 ^ 64 ≡ (m + x) % 2 ^ 64 → x ≡ z + y → n % 2 ^ 64 ≡ (m + z) % 2 ^ 64
 after_bytes m n x y z e f = omega arith
 
-module _ {R : Type 0} (source : R → Source ℕ) (x y : CrcReader R BytesRead) (k : RemainingIsKnown (counted_bytes source x)) (l : RemainingIsKnown (counted_bytes source y)) (crcs : final_crcs (counted_bytes source y) ≡ final_crcs (counted_bytes source x)) where
+module _ {R : Type 0} (source : R → Source ℕ) (x y : RunningReader R BytesRead) (k : RemainingIsKnown (counted_bytes source x)) (l : RemainingIsKnown (counted_bytes source y)) (crcs : final_crcs (counted_bytes source y) ≡ final_crcs (counted_bytes source x)) where
   pub position_modulo : (front : List ℕ) → (counted_bytes source x).remaining ≡ front ++ (counted_bytes source y).remaining → position_of y % 2 ^ 64 ≡ (position_of x + length front) % 2 ^ 64
   unfolding bytes_in
   position_modulo front e =
-      let a = source (crc_inner x) in
-      let b = source (crc_inner y) in
+      let a = source (running_inner x) in
+      let b = source (running_inner y) in
       let i = end_of a.remaining b.remaining (position_of x) (position_of y) a.crcs b.crcs k l crcs in
       let rest : List ℕ = remaining_as (λ all. all) b.remaining in
       let f : length (remaining_as (λ all. all) a.remaining) ≡ length front + length rest = ap length e ∙ length-append front rest in

@@ -51,8 +51,8 @@ use Rattle.claxon.specs.Streaminfo.{Streaminfo}
 use Rattle.claxon.specs.Streams.{stream_of, with_samples}
 use Rattle.claxon.specs.Errors.{Error}
 use Rattle.claxon.specs.Errors.TheVariants.{OutOfMemory, Unsupported}
-use Rattle.claxon.specs.CrcReader.{crc_source, crc_state}
-use Rattle.claxon.specs.CrcReaders.{CrcReader}
+use Rattle.claxon.specs.RunningReader.{running_source, running_value}
+use Rattle.claxon.specs.RunningReaders.{RunningReader}
 use Rattle.claxon_md5.specs.Md5.{md5}
 use Rattle.claxon_verify.specs.Frames.{Is32BitFault}
 use Rattle.claxon_verify.specs.RightStream.{
@@ -338,12 +338,12 @@ abbrev pub update_position : BytesRead → List ℕ → ℕ
 update_position position more = (position.bytes + length more) % 2 ^ 64
 
 -- the bytes of such a reader
-abbrev pub counted_bytes : {R : Type 0} → (R → Source ℕ) → CrcReader R BytesRead → State ℕ
-counted_bytes source input = bytes_in (crc_source source update_position) input
+abbrev pub counted_bytes : {R : Type 0} → (R → Source ℕ) → RunningReader R BytesRead → State ℕ
+counted_bytes source input = bytes_in (running_source source update_position) input
 
 -- how many were read
-abbrev pub position_of : {R : Type 0} → CrcReader R BytesRead → ℕ
-position_of input = (crc_state input).bytes
+abbrev pub position_of : {R : Type 0} → RunningReader R BytesRead → ℕ
+position_of input = (running_value input).bytes
 
 -- ---- what was counted
 

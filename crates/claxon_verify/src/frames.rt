@@ -19,10 +19,10 @@ ghost use Rattle.claxon_verify.specs.Frames.{
   frame_block,
 };
 
-use claxon::crc::CrcReader;
 use claxon::frame::{DecodedFrame, DecodedFrameResult, FrameReader};
 use claxon::input::ReadBytes;
 use claxon::metadata::StreamInfo;
+use claxon::running::RunningReader;
 use claxon::{Block, Error};
 use std::alloc::Allocator;
 use std::result;
@@ -60,9 +60,9 @@ pub fn read_frame<R: ReadBytes, A: Allocator>(
         (bytes_in R.source input.old) (bytes_in R.source input.new) }
     ensures has_samples { BlockHasSamples (decoder_answer frame_block result) }
 {
-    let mut input = CrcReader::new(input);
+    let mut input = RunningReader::new(input);
     let found = read_from(&mut input, info, buffer);
-    let first = input.crc();
+    let first = input.value();
     match found {
         Ok(frame) => Ok(frame),
         Err(error) => {

@@ -26,9 +26,9 @@ ghost use Rattle.claxon_verify.specs.Walk.{Md5IsJudged, WalksToEnd, first_place}
 
 use crate::frames::read_frame;
 use crate::report::{Found, Md5Verdict, Report};
-use claxon::crc::{CrcReader, RunningCrc};
 use claxon::input::ReadBytes;
 use claxon::metadata::StreamInfo;
+use claxon::running::{Running, RunningReader};
 use claxon::{Error, FlacReaderOptions, Result, read_head};
 use claxon_command_line::progress::Progress;
 use claxon_md5::Md5;
@@ -52,8 +52,8 @@ struct BytesRead {
     last: u8,
 }
 
-impl RunningCrc for BytesRead {
-    ghost update_crc = { update_position };
+impl Running for BytesRead {
+    ghost update = { update_position };
 
     ghost start = { record { bytes = 0; last = 0 } };
 
@@ -120,14 +120,14 @@ fn verify_exact<R: ReadBytes, A: Allocator + Copy, E: Write>(
         (bytes_in R.source input.new) }
     ensures is_quiet { VerifyIsQuiet result progress.old progress.new }
 {
-    let mut input = CrcReader::new(input);
+    let mut input = RunningReader::new(input);
     verify_counted(alloc, &mut input, computes_md5, progress)
 }
 
 // Verifies a stream of which nothing was read.
 fn verify_counted<R: ReadBytes, A: Allocator + Copy, E: Write>(
     alloc: A,
-    input: &mut CrcReader<R, BytesRead>,
+    input: &mut RunningReader<R, BytesRead>,
     computes_md5: bool,
     progress: &mut Progress<'_, '_, E>,
 ) -> Result<Report<A>>
@@ -217,7 +217,7 @@ fn has_nothing_wrong<A: Allocator>(found: &Found<A>, expected: Option<u64>, md5:
 // Finds frames and faults up to the end, or to an `IoError`.
 fn walk_frames<R: ReadBytes, A: Allocator + Copy, E: Write>(
     alloc: A,
-    input: &mut CrcReader<R, BytesRead>,
+    input: &mut RunningReader<R, BytesRead>,
     info: StreamInfo,
     computes_md5: bool,
     progress: &mut Progress<'_, '_, E>,
@@ -236,16 +236,16 @@ fn walk_frames<R: ReadBytes, A: Allocator + Copy, E: Write>(
     let mut walk = Walk::new(alloc, computes_md5);
     let mut buffer = Vec::new(alloc);
     for _ in 0..u64::MAX {
-        let start = input.crc().bytes;
+        let start = input.value().bytes;
         let read = read_frame(input, info, buffer);
-        let end = input.crc().bytes;
+        let end = input.value().bytes;
         match read {
             Ok(Some(frame)) => {
                 walk = with_frame(walk, info, &frame, ByteRange { start, end })?;
                 progress.show(walk.samples);
                 buffer = frame.block.into_buffer();
             }
-            Ok(None) => return Ok(at_end(walk, ByteRange { start, end }, input.crc().last)),
+            Ok(None) => return Ok(at_end(walk, ByteRange { start, end }, input.value().last)),
             Err(fault) => {
                 let is_last = is_io_error(&fault.error);
                 walk = with_fault(walk, fault, ByteRange { start, end })?;

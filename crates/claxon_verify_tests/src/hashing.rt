@@ -2,9 +2,9 @@
 ghost use Rattle.std.specs.Prelude.{◌≡◌, ◌≤◌};
 
 use claxon::Block;
-use claxon::crc::RunningCrc;
 use claxon::frame::FrameReader;
 use claxon::metadata::StreamInfo;
+use claxon::running::Running;
 use claxon_md5::Md5;
 use claxon_verify::hashing::hash_block;
 use std::alloc::{AllocError, Global};

@@ -1,4 +1,4 @@
-use claxon::crc::RunningCrc;
+use claxon::running::Running;
 use claxon_verify::frames::FirstBytes;
 use claxon_verify::report::Trailing;
 use claxon_verify::trailing::BytesAfter;

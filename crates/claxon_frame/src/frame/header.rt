@@ -141,7 +141,7 @@ fn read_fields_with_crc<R: ReadBytes>(input: &mut R) -> Result<Option<HeaderFiel
     let Some(fields) = read_fields_or_eof(&mut input)? else {
         return Ok(None);
     };
-    let computed = input.crc();
+    let computed = input.value();
     check_header_crc(&mut input, computed)?;
     Ok(Some(fields))
 }

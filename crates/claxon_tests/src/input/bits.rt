@@ -167,14 +167,14 @@ fn crc8_of<R: ReadBytes>(input: &mut R, count: u32, buffer: &mut [u8]) -> io::Re
     let mut reader = Crc8Reader::new(input);
     reader.skip(count)?;
     reader.read_into(buffer)?;
-    Ok(reader.crc())
+    Ok(reader.value())
 }
 
 fn crc16_of<R: ReadBytes>(input: &mut R, count: u32, buffer: &mut [u8]) -> io::Result<u16> {
     let mut reader = Crc16Reader::new(input);
     reader.skip(count)?;
     reader.read_into(buffer)?;
-    Ok(reader.crc())
+    Ok(reader.value())
 }
 
 // Each byte is skipped or read: all or none are skipped, and of three bytes also only the first.

@@ -205,7 +205,7 @@ fn number_after_three<R: ReadBytes>(reader: &mut R) -> io::Result<u16> {
 fn number_and_crc<R: ReadBytes>(input: &mut R) -> io::Result<(u16, u16)> {
     let mut crc = Crc16Reader::new(input);
     let number = number_after_three(&mut crc)?;
-    Ok((number, crc.crc()))
+    Ok((number, crc.value()))
 }
 
 #[test]

@@ -2,7 +2,7 @@
 ghost use Rattle.std.specs.Prelude.{◌≡◌};
 ghost use Rattle.claxon.specs.Fault.{FrameCrc};
 ghost use Rattle.claxon.specs.read.Bytes.{by_bytes, crc_at};
-ghost use Rattle.claxon.specs.CrcReader.{crc_source, crc_state};
+ghost use Rattle.claxon.specs.RunningReader.{running_source, running_value};
 ghost use Rattle.claxon.specs.CrcUpdate.{update_crc16};
 ghost use Rattle.claxon.specs.State.{bytes_in, bits_in};
 ghost use Rattle.claxon.specs.Gives.{Gives};
@@ -21,13 +21,13 @@ pub fn read_pair_with_crc<R: ReadBytes>(input: &mut R) -> Result<(u32, u32)>
 }
 
 fn read_pair_through_crc<R: ReadBytes>(input: &mut Crc16Reader<R>) -> Result<(u32, u32)>
-    requires { crc_state input.old ≡ 0 }
+    requires { running_value input.old ≡ 0 }
     ensures { Gives (λ pair. pair) result pair_with_crc_at
-        (bytes_in (crc_source R.source update_crc16) input.old)
-        (bytes_in (crc_source R.source update_crc16) input.new) }
+        (bytes_in (running_source R.source update_crc16) input.old)
+        (bytes_in (running_source R.source update_crc16) input.new) }
 {
     let pair = read_pair(input)?;
-    let computed = input.crc();
+    let computed = input.value();
     check_crc(input, computed)?;
     Ok(pair)
 }

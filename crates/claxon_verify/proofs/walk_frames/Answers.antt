@@ -20,7 +20,7 @@ loop-preserved g c =
     let b = counted_bytes g.R.ReadBytes.source c.read_frame-read.new.input in
     let a = counted_bytes g.R.ReadBytes.source c.loop.input in
     let read = c.read_frame-read.ensures.is_read in
-    let byte = ap (λ (p : BytesRead). p.bytes) c.crc-start.ensures in
+    let byte = ap (λ (p : BytesRead). p.bytes) c.value-start.ensures in
     record {
       so_far = elim c.match-read.branch [
         | in-Ok-Some+in_ok-walk-in-Ok-Some w ↦ (
@@ -63,7 +63,7 @@ pub returns-then-is_last-clause-ok : goal.returns-then-is_last-clause-ok
 returns-then-is_last-clause-ok g c =
     let h = c.loop.invariant.so_far in
     let b = counted_bytes g.R.ReadBytes.source c.read_frame-read.new.input in
-    let byte = ap (λ (p : BytesRead). p.bytes) c.crc-start.ensures in
+    let byte = ap (λ (p : BytesRead). p.bytes) c.value-start.ensures in
     let small = rw byte at c.with_fault.ensures.fits in
     cut_found h (λ known front e. byte ∙ position_after g.R.ReadBytes.source c.args.input.now c.loop.input known (h.known known) (h.crcs known) small front e) c.in-Err.fault b (read_as {b = b} (ap (decoder_answer frame_block) c.in-Err.is) c.read_frame-read.ensures.is_read) c.in-Err.ensures.tells_of_32_bits
     (sym c.is_io_error-is_last.ensures ∙ c.if-is_last.true) c.in_ok-walk-in-Err.ensures.ok.1

@@ -3,7 +3,7 @@ ghost use Rattle.std.specs.Prelude.{All, ◌≡◌, ◌↔◌, ◌≤◌, IsTrue
 ghost use Rattle.claxon.specs.Bits.{bits_of, number};
 ghost use Rattle.claxon_verify.specs.FirstBytes.{update_first};
 
-use claxon::crc::RunningCrc;
+use claxon::running::Running;
 
 /// The first 16 bytes that were read. A reader keeps them as it keeps a CRC.
 #[derive(Clone, Copy, Debug)]
@@ -16,8 +16,8 @@ pub struct FirstBytes {
     others: u64,
 }
 
-impl RunningCrc for FirstBytes {
-    ghost update_crc = { update_first };
+impl Running for FirstBytes {
+    ghost update = { update_first };
 
     ghost start = { record { seen = 0; bytes = replicate 16 0; others = 0 } };
 

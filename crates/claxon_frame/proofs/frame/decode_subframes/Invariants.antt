@@ -1,5 +1,5 @@
 use Rattle.claxon_input.specs.State.{bits_in}
-use Rattle.claxon_input.proofs.CrcReaders.{over_borrow}
+use Rattle.claxon_input.proofs.RunningReaders.{over_borrow}
 use Rattle.claxon_frame.specs.FrameHeader.{channels_of, subframe_bit_depths}
 use Rattle.claxon_frame.proofs.SubframesInBuffer.{ChannelsSoFar}
 use Rattle.claxon_frame.proofs.frame.decode_subframes.Given as goal

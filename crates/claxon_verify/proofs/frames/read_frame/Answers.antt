@@ -2,7 +2,7 @@ use Rattle.std.proofs.Common.{◌≡◌, ℕ, length, Option, None, refl, rules,
 use Rattle.std.specs.Prelude.{IsTrue, Ok, Err, Some, Result, ◌↔◌}
 use Rattle.claxon.specs.DecodedFrame.{DecodedAnswer, frame_answer}
 use Rattle.claxon.specs.DecodedFrames.{DecodedFrame}
-use Rattle.claxon.specs.CrcReader.{crc_inner}
+use Rattle.claxon.specs.RunningReader.{running_inner}
 use Rattle.claxon.specs.Error.{IsFault}
 use Rattle.claxon.specs.Fault.{BitDepthReserved, Fault}
 use Rattle.claxon.specs.FrameReader.{BlockHasSamples, stream_with}
@@ -54,10 +54,10 @@ returns-in-Err-clause-tells_of_32_bits g c =
     let read = c.read_from-found in
     let error = c.in-Err.error in
     let is_32_bit = c.is_32_bit_fault-is_32_bit.result in
-    let first = c.crc-first.result in
+    let first = c.value-first.result in
     let known : length first.bytes ≡ 16 = search rules in
-    let size = subst (λ (s : FirstBytes). length s.bytes ≡ 16) c.crc-first.ensures known in
-    let said = subst (λ (s : FirstBytes). IsTrue is_32_bit ↔ (IsFault BitDepthReserved error × FourSay32Bits s)) c.crc-first.ensures c.is_32_bit_fault-is_32_bit.ensures in
+    let size = subst (λ (s : FirstBytes). length s.bytes ≡ 16) c.value-first.ensures known in
+    let said = subst (λ (s : FirstBytes). IsTrue is_32_bit ↔ (IsFault BitDepthReserved error × FourSay32Bits s)) c.value-first.ensures c.is_32_bit_fault-is_32_bit.ensures in
     let answer : Result (Option ℕ) FrameError = Err (record { error = error; is_32_bit = is_32_bit; first = first }) in
     tells_below g.R.ReadBytes.source update_first _ c.new-input.result c.new-input.ensures.inner answer
     (tells (lent g.R.ReadBytes.source) c.new-input.result read.new.input size error c.new-input.ensures.state c.in-Err.ensures.is_read is_32_bit said)
@@ -69,12 +69,12 @@ returns-in-Err-clause-keeps_first g c = λ f is before.
     let y = read.new.input in
     let source = g.R.ReadBytes.source in
     let error = c.in-Err.error in
-    let first = c.crc-first.result in
+    let first = c.value-first.result in
     let n = same_reference source update_first _ x y c.new-input.ensures.inner read.ensures.is_read in
     let known : length first.bytes ≡ 16 = search rules in
-    let size = subst (λ (s : FirstBytes). length s.bytes ≡ 16) c.crc-first.ensures known in
+    let size = subst (λ (s : FirstBytes). length s.bytes ≡ 16) c.value-first.ensures known in
     let keeps = fault_keeps (lent source) x y size error c.new-input.ensures.state c.in-Err.ensures.is_read in
     let below = first_below source update_first _ x y c.new-input.ensures.inner _ (λ f. IsFault f error) keeps in
-    let k = subst (λ (s : FirstBytes). (f : Fault) → IsFault f error → RemainingIsKnown (bytes_in source c.args.input.now) → AreFirst s (bytes_in source c.args.input.now).remaining (bytes_in source (crc_inner y).now).remaining) (sym c.crc-first.ensures) below in
-    let are : AreFirst first (bytes_in source c.args.input.now).remaining (bytes_in source (crc_inner y).now).remaining = k f is before in
+    let k = subst (λ (s : FirstBytes). (f : Fault) → IsFault f error → RemainingIsKnown (bytes_in source c.args.input.now) → AreFirst s (bytes_in source c.args.input.now).remaining (bytes_in source (running_inner y).now).remaining) (sym c.value-first.ensures) below in
+    let are : AreFirst first (bytes_in source c.args.input.now).remaining (bytes_in source (running_inner y).now).remaining = k f is before in
     search rules

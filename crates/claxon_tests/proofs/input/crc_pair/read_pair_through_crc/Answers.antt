@@ -12,7 +12,7 @@ returns-in_err-pair g c =
 pub returns-in_err-check_crc : goal.returns-in_err-check_crc
 returns-in_err-check_crc g c =
     exit _ (err_from_is_err_and c.from_residual-in_err-check_crc.result c.from_residual-in_err-check_crc.ensures.1)
-    (stops_after (after_pair g.R.ReadBytes.source _ _ c.crc-computed.result _ c.requires c.crc-computed.ensures (search rules) c.in_ok-pair.ensures) (record { fault = λ s f rest e. rw e refl; incomplete = λ s e. rw e refl }) c.in_err-check_crc.ensures)
+    (stops_after (after_pair g.R.ReadBytes.source _ _ c.value-computed.result _ c.requires c.value-computed.ensures (search rules) c.in_ok-pair.ensures) (record { fault = λ s f rest e. rw e refl; incomplete = λ s e. rw e refl }) c.in_err-check_crc.ensures)
 
 pub returns : goal.returns
-returns g c = consumes_then _ (after_pair g.R.ReadBytes.source _ _ c.crc-computed.result _ c.requires c.crc-computed.ensures (search rules) c.in_ok-pair.ensures) c.in_ok-check_crc.ensures (λ p q. p ∙ rw q refl)
+returns g c = consumes_then _ (after_pair g.R.ReadBytes.source _ _ c.value-computed.result _ c.requires c.value-computed.ensures (search rules) c.in_ok-pair.ensures) c.in_ok-check_crc.ensures (λ p q. p ∙ rw q refl)

@@ -1,6 +1,6 @@
 use Rattle.std.proofs.Common.{rules}
 use Rattle.claxon.specs.CrcUpdate.{update_crc16}
-use Rattle.claxon.proofs.CrcReaders.{gives_with_crc, name_with_crc}
+use Rattle.claxon.proofs.RunningReaders.{gives_with_crc, name_with_crc}
 use Rattle.claxon_tests.proofs.input.crc_pair.read_pair_with_crc.Goals as goal
 
 pub returns : goal.returns

@@ -1,5 +1,0 @@
-use Rattle.std.proofs.Common.{rules}
-use Rattle.claxon_input.proofs.crc.U16RunningCrc.zero.Goals as goal
-
-pub returns : goal.returns
-returns c = search rules
