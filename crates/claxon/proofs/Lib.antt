@@ -40,3 +40,5 @@ pub mod SampleRuns
 pub mod FramesInMemory
 -- Samples that are stored interleaved, by index.
 pub mod Interleaving
+-- Reads through a mutable reference.
+pub mod Loans

@@ -19,7 +19,7 @@ use Rattle.claxon.specs.RunningReaders.{RunningReader}
 use Rattle.claxon.specs.read.Frame.{frame_bytes_at}
 use Rattle.claxon.specs.read.Reading.{Reading, Done}
 use Rattle.claxon.proofs.RunningReaders.{name_below, same_crcs_below, same_loans_below}
-use Rattle.claxon_write.proofs.Gathering.{reads_loans}
+use Rattle.claxon.proofs.Loans.{reads_loans}
 use Rattle.claxon_verify.specs.FirstBytes.{AreFirst}
 use Rattle.claxon_verify.specs.Frames.{Is32BitFault, TellsOf32Bits}
 use Rattle.claxon_verify.specs.declared.frames.FrameError.{FrameError}

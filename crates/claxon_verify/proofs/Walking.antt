@@ -23,7 +23,7 @@ use Rattle.claxon.specs.State.{State, bytes_in, crcs_at_eof, remaining_as, Remai
 use Rattle.claxon.specs.Streaminfo.{Streaminfo}
 use Rattle.claxon.specs.RunningReader.{running_inner}
 use Rattle.claxon.specs.RunningReaders.{RunningReader}
-use Rattle.claxon_write.proofs.Gathering.{reads_loans}
+use Rattle.claxon.proofs.Loans.{reads_loans}
 use Rattle.claxon_md5.specs.WholeBytes.{whole_bytes_of_samples}
 use Rattle.claxon_md5.specs.declared.Md5.{Md5}
 use Rattle.claxon_verify.specs.Frames.{HasHeader, Is32BitFault}

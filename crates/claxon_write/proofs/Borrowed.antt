@@ -16,7 +16,7 @@ use Rattle.claxon.specs.Promises.{IsOutOfMemory, Remains, NoneIsEof}
 use Rattle.claxon.specs.Block.{BlockValue}
 use Rattle.claxon.specs.FrameReader.{ReadsFrame, block_view, stream_with}
 use Rattle.claxon.specs.StreamInfos.{StreamInfo}
-use Rattle.claxon.specs.SampleRuns.{ConsumesFrames, ReadsFrames, samples_of}
+use Rattle.claxon.specs.SampleRuns.{ConsumesFrames, ReadsFrames, lent, samples_of}
 use Rattle.claxon_write.specs.Decoded.{EndsAfter, Gathers, Decodes, DecodesToEof, FailsToDecode, FailsToWrite, StopsAtLargerBlock, StopsDecoding, ConsumesFramesOrEnd, last_bytes}
 use Rattle.claxon_write.specs.SampleBytes.{bytes_of_samples}
 use Rattle.claxon_write.specs.Capacity.{capacity}
@@ -130,18 +130,6 @@ module _ {W : Type 0} {contents : W → Option (List ℕ)} {stream : Option Stre
 
   pub fails_unborrowed_too : {error : Error} {a b : State ℕ} {x y : Output W} → FailsToWrite contents stream error a b x y → FailsToWrite contents stream error (unborrowed a) (unborrowed b) x y
   fails_unborrowed_too {a = a} {b = b} h = record { is_io = h.is_io; failed = h.failed; unflushed = h.unflushed; blocks = h.blocks; takes = blocks_unborrowed stream h.blocks a b h.takes; prefix = h.prefix; none_pending = h.none_pending }
-
--- the source of a mutable reference
-abbrev pub lent : {R : Type 0} → (R → Source ℕ) → MutBor R → Source ℕ
-lent source r = through_loan r.ghost_name (source r.now)
-
--- the reference stayed the same
-pub same_name : {R : Type 0} (source : R → Source ℕ) (r s q : MutBor R) → s ≡ r → (bytes_in (lent source) q).source.loans ≡ (bytes_in (lent source) s).source.loans → q.ghost_name ≡ r.ghost_name
-unfolding bytes_in
-same_name source r s q e h =
-    let k : q.ghost_name ∷ (source q.now).loans ≡ s.ghost_name ∷ (source s.now).loans = h in
-    let n : q.ghost_name ≡ s.ghost_name = cc in
-    n ∙ ap (λ (x : MutBor _). x.ghost_name) e
 
 -- memory was refused at a larger block
 pub larger_through : {R : Type 0} (source : R → Source ℕ) {stream known : Option StreamFormat} (r s q : MutBor R) → s ≡ r → stream ≡ known → (end : End) (o : Result (Unit {0}) Error)

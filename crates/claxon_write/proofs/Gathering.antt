@@ -37,18 +37,6 @@ pub record GatheredSoFar {W : Type 0} (contents : W → Option (List ℕ)) (stre
 pub reads_with : {stream known : Option StreamFormat} {r q : Result (Option BlockValue) Error} {a b : State ℕ} → stream ≡ known → r ≡ q → ReadsFrame stream r a b → ReadsFrame known q a b
 reads_with {q = q} {a = a} {b = b} e f h = subst (λ (z : Option StreamFormat). ReadsFrame z q a b) e (reads_as f h)
 
--- the reader's loans stay the same
-loans_stay : {A Y : Type 0} (count : ℕ) (view : A → Y) (r : Result (Option A) Error) (read : List ℕ → Reading ℕ Y) (a b : State ℕ) → GivesOrEofOrOutOfMemory count view r read a b → b.source.loans ≡ a.source.loans
-loans_stay count view (Ok (Some x)) read a b g = g.loans
-loans_stay count view (Ok None) read a b g = g.loans
-loans_stay count view (Err OutOfMemory) read a b g = g.consumed.loans
-loans_stay count view (Err (IoError cause)) read a b g = stops_loans (IoError cause) (or_eof count read) a b true refl g
-loans_stay count view (Err (FormatError text)) read a b g = stops_loans (FormatError text) (or_eof count read) a b false refl g
-loans_stay count view (Err (Unsupported text)) read a b g = stops_loans (Unsupported text) (or_eof count read) a b false refl g
-
-pub reads_loans : {stream : Option StreamFormat} {r : Result (Option BlockValue) Error} {a b : State ℕ} → ReadsFrame stream r a b → b.source.loans ≡ a.source.loans
-reads_loans {stream = stream} {r = r} {a = a} {b = b} h = loans_stay 2 block_view r (frame_bytes_at stream) a b h.gives
-
 more_bytes : (blocks : List Block) (block : BlockValue) → bytes_of_samples (samples_of blocks) ++ bytes_of_samples (interleave block.channels) ≡ bytes_of_samples (samples_of (blocks ++ block_view block ∷ []))
 more_bytes blocks block = sym (ap bytes_of_samples (samples_add blocks (block_view block)) ∙ bytes_append (samples_of blocks) (interleave block.channels))
 

@@ -1,8 +1,7 @@
 use Rattle.std.proofs.Common.{rules, sym}
 use Rattle.claxon.specs.FrameReader.{frame_bytes, frame_input}
 use Rattle.claxon.specs.SampleRuns.{lent}
-use Rattle.claxon_write.proofs.Borrowed.{same_name}
-use Rattle.claxon_write.proofs.Gathering.{reads_loans}
+use Rattle.claxon.proofs.Loans.{reads_loans, same_name}
 use Rattle.claxon_verify.proofs.ReadsBelow.{reads_borrowed, sound_borrowed}
 use Rattle.claxon_verify.proofs.frames.read_from.Goals as goal
 

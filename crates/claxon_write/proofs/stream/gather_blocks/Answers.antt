@@ -3,7 +3,8 @@ use Rattle.std.proofs.lemmas.Result.{err_from_is_err_and}
 use Rattle.claxon.specs.Block.{BlockValue}
 use Rattle.claxon.specs.FrameReader.{frame_bytes}
 use Rattle.claxon.proofs.SamplesInTurn.{reads_frame}
-use Rattle.claxon_write.proofs.Gathering.{gathered_memory, reads_with, reads_loans, gathered_none, gathered_as, gathered_more, gathered_end, gathered_fault, gathered_limit, gathered_fails}
+use Rattle.claxon.proofs.Loans.{reads_loans}
+use Rattle.claxon_write.proofs.Gathering.{gathered_memory, reads_with, gathered_none, gathered_as, gathered_more, gathered_end, gathered_fault, gathered_limit, gathered_fails}
 use Rattle.claxon_write.proofs.stream.gather_blocks.Goals as goal
 
 pub loop-block-init : goal.loop-block-init

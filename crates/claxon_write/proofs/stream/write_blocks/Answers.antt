@@ -1,7 +1,8 @@
 use Rattle.std.proofs.Common.{rules, sym, ◌∙◌}
 use Rattle.std.proofs.lemmas.Result.{err_from_is_err_and}
 use Rattle.claxon.specs.FrameReader.{frame_input}
-use Rattle.claxon_write.proofs.Borrowed.{same_name, fails_through, larger_through, written_through}
+use Rattle.claxon.proofs.Loans.{same_name}
+use Rattle.claxon_write.proofs.Borrowed.{fails_through, larger_through, written_through}
 use Rattle.claxon_write.proofs.stream.write_blocks.Goals as goal
 
 pub returns-clause-is_sound : goal.returns-clause-is_sound
