@@ -35,6 +35,9 @@ use claxon_metadata::metadata::{
 };
 use std::alloc::Allocator;
 
+/// The text of the error for a stream with an ID3v2 tag in front of it.
+pub const ID3_HEADER: &str = "stream starts with ID3 header rather than FLAC header";
+
 /// Which metadata a `FlacReader` reads when it is made.
 ///
 /// - To read the streaminfo alone, set `metadata_only` to true and `read_vorbis_comment` to false.
@@ -139,7 +142,7 @@ fn read_stream_header<R: ReadBytes>(input: &mut R) -> Result<()>
         return Ok(());
     }
     if marker >> 8 == 0x49_4433 {
-        return Err(Error::FormatError("stream starts with ID3 header rather than FLAC header"));
+        return Err(Error::FormatError(ID3_HEADER));
     }
     Err(Error::FormatError("invalid stream header"))
 }

@@ -81,6 +81,15 @@ pub mod metadata {
     }
 }
 
+/// Texts of errors, by which callers tell these faults from others.
+pub mod fault_texts {
+    pub use super::head::ID3_HEADER;
+    pub use claxon_frame::frame::{
+        FRAME_CRC_MISMATCH, RESERVED_HEADER_VALUE, SIDE_TOO_WIDE, SYNC_CODE_MISSING,
+    };
+    pub use claxon_metadata::metadata::INVALID_SAMPLE_RATE;
+}
+
 /// Subframes: the samples of a channel.
 pub mod subframe {
     pub use claxon_subframe::subframe::{decode, extend_sign_u32};

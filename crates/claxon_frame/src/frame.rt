@@ -53,11 +53,15 @@ use claxon_input::input::{Bitstream, ReadBytes};
 use claxon_metadata::metadata::StreamInfo;
 use claxon_subframe::subframe;
 pub use decoded::{DecodedFrame, DecodedFrameResult};
+pub use header::{RESERVED_HEADER_VALUE, SIDE_TOO_WIDE, SYNC_CODE_MISSING};
 use header::{FrameHeader, KnownStreamFormat, read_frame_header_or_eof};
 pub use info::BlockInfo;
 use info::read_block_info_or_eof;
 use std::alloc::{Allocator, Global};
 use stereo::undo_decorrelation;
+
+/// The text of the error for a frame whose CRC-16 is another than that of its bytes.
+pub const FRAME_CRC_MISMATCH: &str = "frame CRC mismatch";
 
 /// Reads frames one after another.
 ///
@@ -391,6 +395,6 @@ fn check_footer<R: ReadBytes>(input: &mut Crc16Reader<R>) -> Result<()>
     if stored == computed {
         Ok(())
     } else {
-        Err(Error::FormatError("frame CRC mismatch"))
+        Err(Error::FormatError(FRAME_CRC_MISMATCH))
     }
 }

@@ -45,7 +45,7 @@ use claxon_input::error::{Error, Result};
 use claxon_input::input::ReadBytes;
 use comment::read_vorbis_comment_block;
 use std::alloc::{Allocator, Global};
-pub use streaminfo::StreamInfo;
+pub use streaminfo::{INVALID_SAMPLE_RATE, StreamInfo};
 use streaminfo::read_streaminfo_block;
 pub use tags::{GetTag, Tags};
 

@@ -58,6 +58,15 @@ mod tests;
 
 pub use parts::{BlockTime, ChannelAssignment, FrameHeader, KnownStreamFormat};
 
+/// The text of the error where no frame begins, as its first two bytes tell.
+pub const SYNC_CODE_MISSING: &str = "frame sync code missing";
+
+/// The text of the error for a frame header with a reserved value.
+pub const RESERVED_HEADER_VALUE: &str = "invalid frame header, encountered reserved value";
+
+/// The text of the error for a frame whose side channel has 33 bits.
+pub const SIDE_TOO_WIDE: &str = "side channels of 33 bits are not supported";
+
 /// Reads the header of the next frame with its CRC-8. None if fewer than two bytes were left, which are consumed.
 pub fn read_frame_header_or_eof<R: ReadBytes>(
     input: &mut R,
@@ -113,7 +122,8 @@ fn previous_block_size(block_size: u16, stream: Option<KnownStreamFormat>) -> u1
 fn resolve_bit_depth(fields: &HeaderFields, stream: Option<KnownStreamFormat>) -> Result<u32>
     ensures max_bits { IfOk result (λ bits. max_bit_depth fields.now.channel_assignment bits ≤ 32) }
     ensures gives { (here : State ℕ) → Gives (λ x. x) result
-        (bit_depth_at (known_bit_depth (stream_format_view stream)) (fields_view fields.now)) here here }
+        (bit_depth_at (known_bit_depth (stream_format_view stream)) (fields_view fields.now))
+        here here }
 {
     if let Some(bits) = fields.bit_depth {
         return Ok(bits);
@@ -125,7 +135,7 @@ fn resolve_bit_depth(fields: &HeaderFields, stream: Option<KnownStreamFormat>) -
     match fields.channel_assignment {
         ChannelAssignment::Independent(_) => Ok(bits),
         _ if bits < 32 => Ok(bits),
-        _ => Err(Error::Unsupported("side channels of 33 bits are not supported")),
+        _ => Err(Error::Unsupported(SIDE_TOO_WIDE)),
     }
 }
 
@@ -203,10 +213,10 @@ fn blocking_strategy(sync: u16) -> Result<BlockingStrategy>
     ensures { (here : State ℕ) → Gives is_variable result (blocking_at sync) here here }
 {
     if sync >> 2 != 0x3ffe {
-        return Err(Error::FormatError("frame sync code missing"));
+        return Err(Error::FormatError(SYNC_CODE_MISSING));
     }
     if sync >> 1 & 1 == 1 {
-        return Err(Error::FormatError("invalid frame header, encountered reserved value"));
+        return Err(Error::FormatError(RESERVED_HEADER_VALUE));
     }
     if sync & 1 == 0 {
         Ok(BlockingStrategy::Fixed)
@@ -225,7 +235,7 @@ fn read_size_and_rate<R: ReadBytes>(input: &mut R) -> Result<(BlockSize, u8)>
 {
     let codes = input.read_u8()?;
     if codes >> 4 == 0 {
-        return Err(Error::FormatError("invalid frame header, encountered reserved value"));
+        return Err(Error::FormatError(RESERVED_HEADER_VALUE));
     }
     if codes & 0b1111 == 15 {
         return Err(Error::FormatError("invalid frame header"));
@@ -266,11 +276,11 @@ fn read_channels_and_bit_depth<R: ReadBytes>(
         8 => ChannelAssignment::LeftSideStereo,
         9 => ChannelAssignment::RightSideStereo,
         10 => ChannelAssignment::MidSideStereo,
-        _ => return Err(Error::FormatError("invalid frame header, encountered reserved value")),
+        _ => return Err(Error::FormatError(RESERVED_HEADER_VALUE)),
     };
     let bit_depth = bit_depth_of((codes >> 1) & 0b111)?;
     if codes & 1 == 1 {
-        return Err(Error::FormatError("invalid frame header, encountered reserved value"));
+        return Err(Error::FormatError(RESERVED_HEADER_VALUE));
     }
     Ok((channel_assignment, bit_depth))
 }
@@ -290,7 +300,7 @@ fn bit_depth_of(code: u8) -> Result<Option<u32>>
         4 => Ok(Some(16)),
         5 => Ok(Some(20)),
         6 => Ok(Some(24)),
-        _ => Err(Error::FormatError("invalid frame header, encountered reserved value")),
+        _ => Err(Error::FormatError(RESERVED_HEADER_VALUE)),
     }
 }
 

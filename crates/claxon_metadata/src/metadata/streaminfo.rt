@@ -22,6 +22,9 @@ ghost use Rattle.claxon_metadata.specs.MetadataBlock.{
 use claxon_input::error::{Error, Result};
 use claxon_input::input::ReadBytes;
 
+/// The text of the error for a sample rate of 0, or above 655,350 Hz.
+pub const INVALID_SAMPLE_RATE: &str = "invalid sample rate";
+
 /// The streaminfo metadata block, with important information about the stream.
 #[derive(Clone, Copy, Debug)]
 pub struct StreamInfo {
@@ -171,7 +174,7 @@ fn read_streaminfo<R: ReadBytes>(input: &mut R) -> Result<StreamInfo>
         return Err(Error::FormatError("inconsistent bounds, min frame size > max frame size"));
     }
     if info.sample_rate == 0 || info.sample_rate > 655_350 {
-        return Err(Error::FormatError("invalid sample rate"));
+        return Err(Error::FormatError(INVALID_SAMPLE_RATE));
     }
     Ok(info)
 }
