@@ -118,7 +118,7 @@ letters : map lower (64 ∷ 65 ∷ 90 ∷ 91 ∷ 97 ∷ 193 ∷ []) ≡ 64 ∷ 9
 letters = refl
 
 -- four bytes of a header: code 7 of the bit depth says 32 bits, codes 3 and 4 don't, nor does it
--- behind a reserved bit, a reserved block size, rate or number of channels
+-- after a reserved bit, a reserved block size, rate or number of channels
 headers_of_32_bits : map says_32_bits (0xfff8c91e ∷ 0xfff9c9ae ∷ 0xfff8c90f ∷ []) ≡ true ∷ true ∷ true ∷ []
 headers_of_32_bits = refl
 

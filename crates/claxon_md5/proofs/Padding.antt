@@ -29,7 +29,7 @@ padded_is_whole message =
     let all = length-append message (padding n) in
     omega (arith, zero_count_fills n, few, last, parts, all)
 
--- ---- what is given to the hasher behind a message
+-- ---- what is given to the hasher after a message
 
 -- the padding before the length is a prefix of that with the most zeros
 front : (zeros : ℕ) → zeros ≤ 63 → take (zeros + 1) (one_and_zeros 63) ≡ one_and_zeros zeros

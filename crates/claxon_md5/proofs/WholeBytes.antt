@@ -59,7 +59,7 @@ same_size buffer bytes at k within size four =
       length-take-le at buffer place,
     )
 
--- The bytes of one more sample are put there, with others behind them.
+-- The bytes of one more sample are put there, with others after them.
 pub put : (n : ℕ) (xs : List ℤ) (i : ℕ) (d : ℤ) (buffer bytes : List ℕ) (at k end : ℕ)
     → i < length xs
     → at ≤ length buffer

@@ -5,11 +5,11 @@ use Rattle.claxon_md5.specs.Md5.{md5}
 use Rattle.claxon_md5.specs.WholeBytes.{whole_bytes_of_samples}
 use Rattle.claxon_md5.specs.declared.Md5.{Md5}
 
--- Whatever bytes were hashed before, now these are hashed too, behind them.
+-- Whatever bytes were hashed before, now these are hashed too, after them.
 abbrev pub HashesBytes : List ℕ → Md5 → Md5 → Type 0
 HashesBytes bytes old new = (xs : List ℕ) → HasHashed old xs → HasHashed new (xs ++ bytes)
 
--- The samples are hashed too, one behind another, each in the fewest whole bytes that hold the bit
+-- The samples are hashed too, one after another, each in the fewest whole bytes that hold the bit
 -- depth.
 abbrev pub HashesSamples : ℕ → List ℤ → Md5 → Md5 → Type 0
 HashesSamples bit_depth samples old new =

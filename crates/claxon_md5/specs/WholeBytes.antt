@@ -12,6 +12,6 @@ abbrev pub whole_bytes_of_sample : ℕ → ℤ → List ℕ
 whole_bytes_of_sample bit_depth sample =
     take (sample_width bit_depth) (to_le_bytes w32 (cast_unsigned w32 sample))
 
--- the bytes of samples, one sample behind another
+-- the bytes of samples, one sample after another
 unfoldable pub whole_bytes_of_samples : ℕ → List ℤ → List ℕ
 whole_bytes_of_samples bit_depth samples = flat_map (whole_bytes_of_sample bit_depth) samples

@@ -59,7 +59,7 @@ pub fn process(state: [u32; 4], block: &[u8; BLOCK_LEN]) -> [u32; 4]
 // is waited for. In the steps the compiler would add the constant last.
 #[inline(never)]
 fn sums(block: &[u8; BLOCK_LEN], sines: &[u32; 16]) -> [u32; 16]
-    ensures { AreSums (words_of_bytes block.now) sines.now result }
+    ensures are_sums { AreSums (words_of_bytes block.now) sines.now result }
 {
     let (words, _) = block.as_chunks::<4>();
     let mut sums = [0; 16];

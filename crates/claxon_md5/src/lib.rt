@@ -28,7 +28,7 @@ const ONE_AND_ZEROS: [u8; BLOCK_LEN] = [
     0,
 ];
 
-/// A hasher. It has hashed the pieces that it was given, one behind another.
+/// A hasher. It has hashed the pieces that it was given, one after another.
 ///
 /// A copy hashes on by itself. In memory a hasher is laid out as the same struct in C.
 #[repr(C)]
@@ -48,7 +48,7 @@ impl Md5 {
 
     /// A hasher that was given no bytes.
     pub fn new() -> Md5
-        ensures { HasHashed result [] }
+        ensures has_hashed { HasHashed result [] }
     {
         Md5 {
             state: INITIAL_WORDS,

@@ -2,4 +2,4 @@ use Rattle.claxon_format.proofs.Numbers.{Reads-number as law}
 use Rattle.claxon_format.proofs.number_reads.Goals as goal
 
 pub returns : goal.returns
-returns c = law
+returns c = record { number_reads = law }

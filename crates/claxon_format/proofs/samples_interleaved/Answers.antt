@@ -2,4 +2,4 @@ use Rattle.claxon_format.proofs.FormatLaws.{samples_interleaved as law}
 use Rattle.claxon_format.proofs.samples_interleaved.Goals as goal
 
 pub returns : goal.returns
-returns c = law
+returns c = record { interleaved = law }

@@ -4,4 +4,4 @@ use Rattle.claxon_md5.proofs.Md5.new.Goals as goal
 
 pub returns : goal.returns
 unfolding words_after
-returns c = search rules
+returns c = record { has_hashed = search rules }
