@@ -45,8 +45,8 @@ use claxon_input::error::{Error, Result};
 use claxon_input::input::ReadBytes;
 use comment::read_vorbis_comment_block;
 use std::alloc::{Allocator, Global};
-pub use streaminfo::{INVALID_SAMPLE_RATE, StreamInfo};
 use streaminfo::read_streaminfo_block;
+pub use streaminfo::{INVALID_SAMPLE_RATE, StreamInfo};
 pub use tags::{GetTag, Tags};
 
 /// The length in bytes of the longest block that is read into memory.
@@ -348,7 +348,7 @@ impl<R: ReadBytes, A: Allocator + Copy> MetadataBlockReader<R, A> {
     }
 
     fn read_next(&mut self) -> MetadataBlockResult<A>
-        ensures { ReadsBlock R.source self.old result self.new }
+        ensures reads_block { ReadsBlock R.source self.old result self.new }
     {
         match read_metadata_block_and_flag(self.alloc, &mut self.input) {
             Ok((is_last, block)) => {

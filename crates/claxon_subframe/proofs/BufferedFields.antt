@@ -30,7 +30,7 @@ fields_next {read = read} {xs = xs} {count = count} x {a = a} {b = b} {c = c} lt
       ∙ ap (λ (t : List _). Done t (bits_in_buffer c ++ rest)) (sym (take_more_set xs count x lt));
 }
 
--- a group of fields, decoded behind them
+-- a group of fields, decoded after them
 pub fields_group : {read : Bits → Reading Bool ℤ} {xs : List ℤ} {count : ℕ} (group : ℕ) (ys : List ℤ) {a b c : BufferedBits} → count + group ≤ length xs → length ys ≡ length (take (count + group - count) (drop count xs)) → FieldsSoFar read xs count a b
     → GivesBuffered b c (times_at (length ys) read) ys → (count + group ≤ length (put_mid count (count + group - count) xs ys)) × FieldsSoFar read (put_mid count (count + group - count) xs ys) (count + group) a c
 fields_group {read = read} {xs = xs} {count = count} group ys {a = a} {b = b} {c = c} capacity same h e =
@@ -43,7 +43,7 @@ fields_group {read = read} {xs = xs} {count = count} group ys {a = a} {b = b} {c
       },
     )
 
--- what lies behind them doesn't matter, and of the buffered bits only which they are
+-- what lies after them doesn't matter, and of the buffered bits only which they are
 pub fields_same : {read : Bits → Reading Bool ℤ} {xs ys : List ℤ} {count : ℕ} {a b c : BufferedBits} → take count ys ≡ take count xs → bits_in_buffer c ≡ bits_in_buffer b → FieldsSoFar read xs count a b → FieldsSoFar read ys count a c
 fields_same front bits h = record { so_far = λ rest. h.so_far rest ∙ ap₂ (λ (l : List ℤ) (t : Bits). Done l (t ++ rest)) (sym front) (sym bits) }
 

@@ -10,7 +10,7 @@ SamplesAreRestored coefficients shift old new =
     new ≡ restored (linear (reverse coefficients) shift) (length coefficients) old
 
 -- The first `known` samples of `old` were restored before the call, and the first `count` of `new`
--- after it: the residual samples behind them still lead to the same samples.
+-- after it: the residual samples that follow them still lead to the same samples.
 abbrev pub FrontIsRestored : List ℤ → ℕ → ℕ → List ℤ → ℕ → List ℤ → Type 0
 FrontIsRestored coefficients shift known old count new =
     restored (linear (reverse coefficients) shift) count new

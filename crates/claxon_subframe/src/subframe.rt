@@ -131,8 +131,8 @@ fn read_wasted_bits<R: ReadBytes>(input: &mut Bitstream<R>) -> Result<u32>
 
 #[tactic(auto, unfolding(claxon_format::specs::read::Subframe::subframe_header_at))]
 fn read_subframe_header<R: ReadBytes>(input: &mut Bitstream<R>) -> Result<SubframeHeader>
-    ensures { Gives (λ header. subframe_view header.sf_type header.wasted_bits_per_sample) result
-        subframe_header_at (bits_in R.source input.old) (bits_in R.source input.new) }
+    ensures gives { Gives (λ header. subframe_view header.sf_type header.wasted_bits_per_sample)
+        result subframe_header_at (bits_in R.source input.old) (bits_in R.source input.new) }
 {
     let sf_type = read_subframe_type(input)?;
     let wasted_bits_per_sample = read_wasted_bits(input)?;
@@ -156,7 +156,7 @@ fn extend_sign_u16(val: u16, bits: u32) -> i16
 pub fn extend_sign_u32(val: u32, bits: u32) -> i32
     requires some { 0 < bits }
     requires most { bits ≤ 32 }
-    ensures fits { FitsIn bits result }
+    ensures fits_in { FitsIn bits result }
     ensures congruent { residue bits result ≡ val % 2 ^ bits }
     ensures value { result ≡ twos_complement bits (val % 2 ^ bits) }
 {
@@ -208,7 +208,7 @@ fn decode_exact<R: ReadBytes>(
 ) -> Result<()>
     requires max_bit_depth { bit_depth ≤ 32 }
     requires block { length buffer.old < 65536 }
-    ensures { FillsBuffer R.source (subframe_at bit_depth (length buffer.old))
+    ensures fills_buffer { FillsBuffer R.source (subframe_at bit_depth (length buffer.old))
         input.old result input.new buffer.new }
 {
     let header = read_subframe_header(input)?;
@@ -244,7 +244,7 @@ fn restore_wasted_bits(wasted: u32, buffer: &mut [i32])
 fn read_sample<R: ReadBytes>(input: &mut Bitstream<R>, bit_depth: u32) -> Result<i32>
     requires min_bit_depth { 0 < bit_depth }
     requires max_bit_depth { bit_depth ≤ 32 }
-    ensures { Gives (λ x. x) result (signed_at bit_depth)
+    ensures gives { Gives (λ x. x) result (signed_at bit_depth)
         (bits_in R.source input.old) (bits_in R.source input.new) }
 {
     let sample = input.read_leq_u32(bit_depth)?;
@@ -258,7 +258,7 @@ fn decode_constant<R: ReadBytes>(
 ) -> Result<()>
     requires min_bit_depth { 0 < bit_depth }
     requires max_bit_depth { bit_depth ≤ 32 }
-    ensures { FillsBuffer R.source
+    ensures fills_buffer { FillsBuffer R.source
         (and_then (signed_at bit_depth) (λ x. done (replicate (length buffer.old) x)))
         input.old result input.new buffer.new }
 {
@@ -277,7 +277,7 @@ fn decode_fixed<R: ReadBytes>(
     requires max_bit_depth { bit_depth ≤ 32 }
     requires order { order ≤ 4 }
     requires block { length buffer.old < 65536 }
-    ensures { FillsBuffer R.source (fixed_at bit_depth (length buffer.old) order)
+    ensures fills_buffer { FillsBuffer R.source (fixed_at bit_depth (length buffer.old) order)
         input.old result input.new buffer.new }
 {
     if buffer.len() < order as usize {
@@ -333,7 +333,8 @@ fn read_coefficients<R: ReadBytes>(
 ) -> Result<()>
     requires some { 0 < precision }
     requires most { precision ≤ 16 }
-    ensures { FillsBuffer R.source (times_at (length coefficients.old) (signed_at precision))
+    ensures fills_buffer { FillsBuffer R.source
+        (times_at (length coefficients.old) (signed_at precision))
         input.old result input.new coefficients.new }
 {
     for coefficient in coefficients.iter_mut() {
@@ -353,7 +354,7 @@ fn decode_lpc<R: ReadBytes>(
     requires max_bit_depth { bit_depth ≤ 32 }
     requires order { order ≤ 32 }
     requires block { length buffer.old < 65536 }
-    ensures { FillsBuffer R.source (linear_at bit_depth (length buffer.old) order)
+    ensures fills_buffer { FillsBuffer R.source (linear_at bit_depth (length buffer.old) order)
         input.old result input.new buffer.new }
 {
     if buffer.len() < order as usize {
@@ -391,7 +392,7 @@ impl RicePartitionType {
 
 #[tactic(auto, unfolding(claxon_format::specs::read::Residual::method_at, claxon_format::specs::Fault::fault_text))]
 fn read_partition_type<R: ReadBytes>(input: &mut Bitstream<R>) -> Result<RicePartitionType>
-    ensures { Gives method_of result method_at
+    ensures gives { Gives method_of result method_at
         (bits_in R.source input.old) (bits_in R.source input.new) }
 {
     match input.read_leq_u8(2)? {
@@ -412,7 +413,8 @@ fn decode_residual<R: ReadBytes>(
     buffer: &mut [i32],
 ) -> Result<()>
     requires { length buffer.old ≤ block_size }
-    ensures { FillsBuffer R.source (residual_at block_size (block_size - length buffer.old))
+    ensures fills_buffer { FillsBuffer R.source
+        (residual_at block_size (block_size - length buffer.old))
         input.old result input.new buffer.new }
 {
     let partition_type = read_partition_type(input)?;
@@ -451,7 +453,8 @@ fn decode_partition<R: ReadBytes>(
     partition_type: RicePartitionType,
     buffer: &mut [i32],
 ) -> Result<()>
-    ensures { FillsBuffer R.source (partition_at (method_of partition_type) (length buffer.old))
+    ensures fills_buffer { FillsBuffer R.source
+        (partition_at (method_of partition_type) (length buffer.old))
         input.old result input.new buffer.new }
 {
     let bits = partition_type.parameter_bits();
@@ -469,7 +472,7 @@ fn decode_partition<R: ReadBytes>(
 // all are 0.
 #[tactic(auto, unfolding(claxon_format::specs::read::Residual::escaped_partition_at, claxon_format::specs::read::Residual::escaped_sample_at))]
 fn decode_escape_partition<R: ReadBytes>(input: &mut Bitstream<R>, buffer: &mut [i32]) -> Result<()>
-    ensures { FillsBuffer R.source (escaped_partition_at (length buffer.old))
+    ensures fills_buffer { FillsBuffer R.source (escaped_partition_at (length buffer.old))
         input.old result input.new buffer.new }
 {
     let width = u32::from(input.read_leq_u8(5)?);

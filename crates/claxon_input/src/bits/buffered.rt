@@ -88,7 +88,7 @@ impl BufferedBits<'_> {
     /// The number of zeros before the next one bit, where the cache has it once it is refilled. That bit is consumed too.
     #[inline(always)]
     pub fn unary(&mut self) -> Option<u32>
-        ensures { GivesBufferedOrNone unary_at self.old result self.new }
+        ensures gives_buffered_or_none { GivesBufferedOrNone unary_at self.old result self.new }
     {
         self.fill(32);
         if self.cache == 0 {
@@ -103,7 +103,8 @@ impl BufferedBits<'_> {
     #[inline(always)]
     pub fn number(&mut self, bits: u32) -> Option<u32>
         requires { bits ≤ 32 }
-        ensures { GivesBufferedOrNone (number_at bits) self.old result self.new }
+        ensures gives_buffered_or_none { GivesBufferedOrNone (number_at bits) self.old result
+            self.new }
     {
         self.fill(bits);
         if self.count < bits {

@@ -164,7 +164,7 @@ fn read_entries<R: ReadBytes, A: Allocator + Copy>(
 // Checks that neither bytes nor entries are left.
 #[tactic(auto, unfolding(claxon_format::specs::Fault::fault_text))]
 fn check_end(missing: u32, bytes_left: u32) -> Result<()>
-    ensures { EndIsChecked missing bytes_left result }
+    ensures end_is_checked { EndIsChecked missing bytes_left result }
 {
     if bytes_left > 0 {
         return Err(Error::FormatError(EXCESS_DATA));

@@ -27,7 +27,7 @@ pub const EXCESS_DATA: &str = "Vorbis comment block has excess data";
 ///
 /// `FormatError` if there is no `=`, or if the name has an invalid byte.
 pub fn separator_of(entry: &[u8]) -> Result<usize>
-    ensures { SeparatorIsFound entry.now result }
+    ensures separator_is_found { SeparatorIsFound entry.now result }
 {
     let Some(place) = first_separator(entry) else {
         return Err(Error::FormatError("Vorbis comment does not contain '='"));

@@ -189,7 +189,7 @@ fn if_known(size: u32) -> Option<u32>
 
 // Whether both frame sizes are known, and the minimum is above the maximum.
 fn are_frame_sizes_inconsistent(info: &StreamInfo) -> bool
-    requires { HasBounds info.now }
+    requires has_bounds { HasBounds info.now }
     ensures { result ≡ frame_sizes_inconsistent (info_view info.now) }
 {
     match (info.min_frame_size, info.max_frame_size) {

@@ -26,7 +26,7 @@ impl<'a, A: Allocator> Tags<'a, A> {
     /// Iterates over texts, each with the index of the ASCII character that separates its name from
     /// its value.
     pub fn new(comments: &'a [(String<A>, usize)]) -> Tags<'a, A>
-        requires { HaveSeparatorIndices comments.now }
+        requires have_separator_indices { HaveSeparatorIndices comments.now }
         ensures { remaining_tags result ≡ tags_of_entries (entries_view comments.now) }
     {
         Tags { comments }
@@ -35,7 +35,7 @@ impl<'a, A: Allocator> Tags<'a, A> {
 
 // The name before the separator and the value after it.
 fn split<A: Allocator>(comment: &(String<A>, usize)) -> (&str, &str)
-    requires { IsSeparatorIndex (string_bytes comment.now.0) comment.now.1 }
+    requires is_separator_index { IsSeparatorIndex (string_bytes comment.now.0) comment.now.1 }
     ensures { pair_view result ≡ tag_of_entry (entry_view comment.now) }
 {
     let text = comment.0.as_str();
@@ -91,7 +91,7 @@ impl<'a, A: Allocator> GetTag<'a, A> {
     /// Looks for the name among texts, each with the index of the ASCII character that separates its
     /// name from its value.
     pub fn new(vorbis_comments: &'a [(String<A>, usize)], needle: &'a str) -> GetTag<'a, A>
-        requires { HaveSeparatorIndices vorbis_comments.now }
+        requires have_separator_indices { HaveSeparatorIndices vorbis_comments.now }
         ensures { remaining_values result ≡ values needle.now
             (tags_of_entries (entries_view vorbis_comments.now)) }
     {

@@ -26,7 +26,7 @@ pub trait ValueCode: GroupCode {
 
     /// Reads a value.
     fn read_value<R: ReadBytes>(self, input: &mut Bitstream<R>) -> Result<i32>
-        ensures { Gives (λ x. x) result (Self.value_at self)
+        ensures gives { Gives (λ x. x) result (Self.value_at self)
             (bits_in R.source input.old) (bits_in R.source input.new) };
 
     /// The reader accepts just these values with their bits, and finds no fault in any bits.
@@ -39,7 +39,7 @@ pub fn read_values<C: ValueCode, R: ReadBytes>(
     code: C,
     buffer: &mut [i32],
 ) -> Result<()>
-    ensures { ValuesAreReadBy R.source (C.value_at code)
+    ensures are_read_by { ValuesAreReadBy R.source (C.value_at code)
         input.old result input.new buffer.old buffer.new }
 {
     let mut start = 0;

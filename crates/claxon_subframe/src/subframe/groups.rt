@@ -21,12 +21,13 @@ pub trait GroupCode: Copy {
     fn first_value(self, peeked: u64) -> (i32, u32, u64)
         requires some { 0 < peeked }
         ensures few { result.1 ≤ 95 }
-        ensures first { IsFirstValue (value_at self) peeked result.0 result.1 result.2 }
+        ensures is_first_value { IsFirstValue (value_at self) peeked result.0 result.1 result.2 }
         ensures some { 0 < result.2 };
 
     /// A value, or `None` where it isn't completely buffered.
     fn decode_value(self, buffered: &mut BufferedBits) -> Option<i32>
-        ensures { GivesBufferedOrNone (value_at self) buffered.old result buffered.new };
+        ensures gives_buffered_or_none { GivesBufferedOrNone (value_at self)
+            buffered.old result buffered.new };
 }
 
 /// Decodes the values that are completely buffered, in groups of `group` values where these fit into 64 bits, else one by one,
@@ -67,7 +68,7 @@ pub fn decode_by_groups<C: GroupCode>(
 #[inline(always)]
 fn decode_group<C: GroupCode>(code: C, buffered: &mut BufferedBits, group: &mut [i32]) -> bool
     requires { length group.now ≤ 6 }
-    ensures { GroupIsRead (C.value_at code) buffered.old result buffered.new group.new }
+    ensures is_read { GroupIsRead (C.value_at code) buffered.old result buffered.new group.new }
 {
     let Some(first) = buffered.peek() else {
         return false;

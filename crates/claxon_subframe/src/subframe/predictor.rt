@@ -44,7 +44,7 @@ fn predict_plain(coefficients: &[i16], shift: u32, buffer: &mut [i32])
     requires few { length coefficients.now ≤ 32 }
     requires warm_up { length coefficients.now ≤ length buffer.old }
     requires shift { shift ≤ 15 }
-    ensures { SamplesAreRestored coefficients.now shift buffer.old buffer.new }
+    ensures samples_are_restored { SamplesAreRestored coefficients.now shift buffer.old buffer.new }
 {
     let order = coefficients.len();
     for i in order..buffer.len() {

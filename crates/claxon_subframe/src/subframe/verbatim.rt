@@ -77,7 +77,8 @@ pub fn decode_verbatim<R: ReadBytes>(
 ) -> Result<()>
     requires min_bit_depth { 0 < bit_depth }
     requires max_bit_depth { bit_depth ≤ 32 }
-    ensures { SamplesAreRead R.source bit_depth input.old result input.new buffer.old buffer.new }
+    ensures are_read { SamplesAreRead R.source bit_depth
+        input.old result input.new buffer.old buffer.new }
 {
     read_values(input, Verbatim { bit_depth }, buffer)
 }

@@ -20,7 +20,7 @@ pub returns : goal.returns
 unfolding bits_in
 returns g c =
     let few = c.requires.max_bit_depth in
-    let gives = c.decode_exact.ensures in
+    let gives = c.decode_exact.ensures.fills_buffer in
     let p = promised (λ x. c.decode_exact.new.buffer) c.decode_exact.result c.args.bit_depth (length c.args.buffer.now) _ _ few gives in
     record {
       is_sound = p.is_sound;

@@ -9,4 +9,4 @@ returns c =
     let e = extended_32 c.args.bits c.args.val c.cast_signed.result c.requires.some c.requires.most (record { sfits = c.cast_signed.type_inv }) c.cast_signed.ensures in
     let below : c.args.val % 2 ^ c.args.bits < 2 ^ c.args.bits = mod_below c.args.val (2 ^ c.args.bits) (pow_pos c.args.bits) in
     let is = twos_complement_cases c.args.bits (c.args.val % 2 ^ c.args.bits) c.requires.some below in
-    record { fits = rw e is.0; congruent = rw e is.1; value = e }
+    record { fits_in = rw e is.0; congruent = rw e is.1; value = e }

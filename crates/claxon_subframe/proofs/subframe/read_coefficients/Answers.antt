@@ -17,9 +17,11 @@ unfolding signed_at
 no_number bits s e = rw e refl
 
 pub returns-in_err-number : goal.returns-in_err-number
-returns-in_err-number g c =
-    let p = err_from_is_err_and c.from_residual.result c.from_residual.ensures.1 in
-    rw (p.1, p.2) (times_err (omega arith) c.loop-coefficient.invariant (io_exit (λ (x : ℤ). x) (_, refl, refl) (failure_or_known _ c.in_err-number.ensures.is_read (λ t. no_number c.args.precision _))))
+returns-in_err-number g c = record {
+  fills_buffer =
+      let p = err_from_is_err_and c.from_residual.result c.from_residual.ensures.1 in
+      rw (p.1, p.2) (times_err (omega arith) c.loop-coefficient.invariant (io_exit (λ (x : ℤ). x) (_, refl, refl) (failure_or_known _ c.in_err-number.ensures.is_read (λ t. no_number c.args.precision _))));
+}
 
 pub loop-coefficient-preserved : goal.loop-coefficient-preserved
 loop-coefficient-preserved g c =
@@ -27,4 +29,4 @@ loop-coefficient-preserved g c =
     rw (to_z-of_z w16 c.extend_sign_u16.result f) (times_next c.extend_sign_u16.result (omega arith) c.loop-coefficient.invariant (consumes_map _ c.in_ok-number.ensures.is_read (number_is c.args.precision c.in_ok-number.number c.extend_sign_u16.result _ _ c.extend_sign_u16.ensures)))
 
 pub returns : goal.returns
-returns g c = times_end (omega arith) c.loop-coefficient.invariant
+returns g c = record { fills_buffer = times_end (omega arith) c.loop-coefficient.invariant }

@@ -35,7 +35,7 @@ pub fn predict_lpc_high_order(coefficients: &[i16], shift: u32, buffer: &mut [i3
     requires few { length coefficients.now ≤ 32 }
     requires warm_up { length coefficients.now ≤ length buffer.old }
     requires shift { shift ≤ 15 }
-    ensures { SamplesAreRestored coefficients.now shift buffer.old buffer.new }
+    ensures samples_are_restored { SamplesAreRestored coefficients.now shift buffer.old buffer.new }
 {
     match coefficients.len() {
         ..=16 => predict_by_vectors::<3>(coefficients, shift, buffer),
@@ -55,7 +55,7 @@ fn predict_by_vectors<const VECTORS: usize>(coefficients: &[i16], shift: u32, bu
     requires few { length coefficients.now ≤ 4 * VECTORS + 4 }
     requires warm_up { length coefficients.now ≤ length buffer.old }
     requires shift { shift ≤ 15 }
-    ensures { SamplesAreRestored coefficients.now shift buffer.old buffer.new }
+    ensures samples_are_restored { SamplesAreRestored coefficients.now shift buffer.old buffer.new }
 {
     if buffer.len() < 4 * VECTORS + 14 {
         predict_plain(coefficients, shift, buffer);
@@ -80,9 +80,9 @@ struct Taps {
 
 #[inline(always)]
 fn taps_of(padded: &[i64; 32]) -> Taps
-    requires { Within (2 ^ 15) padded.now }
-    ensures value { AreTaps (reverse padded.now) result }
-    ensures small { SmallTaps result }
+    requires within { Within (2 ^ 15) padded.now }
+    ensures are_taps { AreTaps (reverse padded.now) result }
+    ensures small_taps { SmallTaps result }
 {
     Taps {
         second: LaterLanes {
@@ -236,7 +236,7 @@ fn predict_32_taps<const VECTORS: usize>(
 ) -> usize
     requires shift { shift ≤ 15 }
     requires warm_up { 4 * VECTORS + 4 ≤ length buffer.old }
-    requires small { Within (2 ^ 15) padded.now }
+    requires within { Within (2 ^ 15) padded.now }
     requires vectors { VECTORS ≤ 7 }
     requires some { 3 ≤ VECTORS }
     requires zeros { take (28 - 4 * VECTORS) padded.now ≡ replicate (28 - 4 * VECTORS) (pos 0) }

@@ -63,7 +63,7 @@ pub fn padded_coefficients<const COUNT: usize>(coefficients: &[i16]) -> [i64; CO
     requires { length coefficients.now ≤ COUNT }
     ensures value { result
         ≡ replicate (COUNT - length coefficients.now) (pos 0) ++ coefficients.now }
-    ensures small { Within (2 ^ 15) result }
+    ensures within { Within (2 ^ 15) result }
 {
     let mut padded = [0i64; COUNT];
     let start = COUNT - coefficients.len();
@@ -76,7 +76,7 @@ pub fn padded_coefficients<const COUNT: usize>(coefficients: &[i16]) -> [i64; CO
 // The same lanes. The shifts tell the compiler that they are sign-extended from 32 bits, so that it multiplies 32 bits by 32.
 #[inline(always)]
 fn sign_extended(lanes: i64x4) -> i64x4
-    requires { Lanes (2 ^ 15) lanes }
+    requires lanes { Lanes (2 ^ 15) lanes }
     ensures { result ≡ lanes }
 {
     (lanes << i64x4::splat(32)) >> i64x4::splat(32)
@@ -85,7 +85,7 @@ fn sign_extended(lanes: i64x4) -> i64x4
 /// A sample in each lane, sign-extended from 32 bits by shifts, as in `sign_extended`.
 #[inline(always)]
 pub fn broadcast(sample: i64) -> i64x4
-    requires { FitsSigned w32 sample }
+    requires fits_signed { FitsSigned w32 sample }
     ensures value { result ≡ replicate 4 sample }
     ensures lanes { Lanes (2 ^ 31) result }
 {
@@ -159,7 +159,7 @@ impl NewestFive {
     #[inline(always)]
     pub fn of(samples: &[i32]) -> NewestFive
         requires { length samples.now ≡ 5 }
-        ensures { AreNewest (reverse samples.now) result }
+        ensures are_newest { AreNewest (reverse samples.now) result }
     {
         NewestFive {
             fifth: i64::from(samples[0]),
@@ -173,7 +173,7 @@ impl NewestFive {
     // The newest five after one more sample.
     #[inline(always)]
     fn followed_by(self, sample: i64) -> NewestFive
-        ensures { IsFollowed self sample result }
+        ensures is_followed { IsFollowed self sample result }
     {
         NewestFive {
             fifth: self.fourth,
@@ -187,7 +187,7 @@ impl NewestFive {
     // These coefficients without that of the fifth sample.
     #[inline(always)]
     fn but_fifth(self) -> NewestFive
-        ensures { IsButFifth self result }
+        ensures is_but_fifth { IsButFifth self result }
     {
         NewestFive {
             fifth: 0,
@@ -209,9 +209,10 @@ impl NewestFive {
         farther: i32,
         shift: u32,
     ) -> NewestFive
-        requires pending { LanesFit64 pending }
+        requires lanes_fit64 { LanesFit64 pending }
         requires shift { shift ≤ 15 }
-        ensures value { IsFollowedByTwo self coefficients pending nearest farther shift result }
+        ensures is_followed_by_two { IsFollowedByTwo self coefficients pending nearest farther
+            shift result }
         ensures second { FitsSigned w32 result.second }
         ensures newest { FitsSigned w32 result.newest }
     {
@@ -234,7 +235,7 @@ pub struct PredictorState<S> {
 // bits that `shift` would drop, and leaves a number of 32 bits.
 #[inline(always)]
 fn scaled_up(sums: i64x4, nearest: i32, farther: i32, shift: u32) -> (i64, i64)
-    requires sums { LanesFit64 sums }
+    requires lanes_fit64 { LanesFit64 sums }
     requires shift { shift ≤ 15 }
     ensures nearest { IsScaledUp (get_or sums 3 (pos 0)) nearest shift result.0 }
     ensures farther { IsScaledUp (get_or sums 2 (pos 0)) farther shift result.1 }
@@ -251,7 +252,7 @@ fn scaled_up(sums: i64x4, nearest: i32, farther: i32, shift: u32) -> (i64, i64)
 #[inline(always)]
 fn add_product(scaled: i64, coefficient: i64, sample: i64, shift: u32) -> i64
     requires { shift ≤ 15 }
-    ensures { AddsProduct scaled coefficient sample shift result }
+    ensures adds_product { AddsProduct scaled coefficient sample shift result }
 {
     scaled.wrapping_add((coefficient << (32 - shift)).wrapping_mul(sample))
 }
@@ -261,8 +262,8 @@ fn add_product(scaled: i64, coefficient: i64, sample: i64, shift: u32) -> i64
 #[inline(always)]
 fn sample_of(scaled: i64, coefficients: NewestFive, samples: NewestFive, shift: u32) -> i64
     requires { shift ≤ 15 }
-    ensures value { IsSample scaled coefficients samples shift result }
-    ensures fits { FitsSigned w32 result }
+    ensures is_sample { IsSample scaled coefficients samples shift result }
+    ensures fits_signed { FitsSigned w32 result }
 {
     let five = add_product(scaled, coefficients.fifth, samples.fifth, shift);
     let four = add_product(five, coefficients.fourth, samples.fourth, shift);

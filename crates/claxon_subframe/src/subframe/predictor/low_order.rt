@@ -44,7 +44,7 @@ pub fn predict_lpc_low_order(coefficients: &[i16], shift: u32, buffer: &mut [i32
     requires few { length coefficients.now ≤ 12 }
     requires warm_up { length coefficients.now ≤ length buffer.old }
     requires shift { shift ≤ 15 }
-    ensures { SamplesAreRestored coefficients.now shift buffer.old buffer.new }
+    ensures samples_are_restored { SamplesAreRestored coefficients.now shift buffer.old buffer.new }
 {
     // The first twelve samples by their sums of products, all others in vectors.
     if buffer.len() <= 12 {
@@ -89,7 +89,7 @@ fn padded_to_twelve(coefficients: &[i16]) -> TwelveLanes
     requires { length coefficients.now ≤ 12 }
     ensures value { numbers result
         ≡ replicate (12 - length coefficients.now) (pos 0) ++ coefficients.now }
-    ensures small { SmallTwelve result }
+    ensures small_twelve { SmallTwelve result }
 {
     let padded = padded_coefficients::<12>(coefficients);
     TwelveLanes {
@@ -101,9 +101,9 @@ fn padded_to_twelve(coefficients: &[i16]) -> TwelveLanes
 
 #[inline(always)]
 fn taps_of_twelve(coefficients: &TwelveLanes) -> TwelveTaps
-    requires { SmallTwelve coefficients.now }
-    ensures value { AreTwelveTaps (reverse (numbers coefficients.now)) result }
-    ensures small { SmallTwelveTaps result }
+    requires small_twelve { SmallTwelve coefficients.now }
+    ensures are_twelve_taps { AreTwelveTaps (reverse (numbers coefficients.now)) result }
+    ensures small_twelve_taps { SmallTwelveTaps result }
 {
     let [oldest, second, third, fourth] = coefficients.at_8.to_array();
     let [fifth, sixth, seventh, _] = coefficients.at_4.to_array();
@@ -192,8 +192,8 @@ impl<const VECTORS: usize> LaneTaps for LowOrderTaps<VECTORS> {
 // The coefficients of the newest five samples.
 #[inline(always)]
 fn newest_of_twelve(coefficients: &TwelveLanes) -> NewestFive
-    requires { SmallTwelve coefficients.now }
-    ensures { AreNewest (reverse (numbers coefficients.now)) result }
+    requires small_twelve { SmallTwelve coefficients.now }
+    ensures are_newest { AreNewest (reverse (numbers coefficients.now)) result }
 {
     let [_, _, _, fifth] = coefficients.at_4.to_array();
     let [fourth, third, second, first] = coefficients.at_0.to_array();
@@ -215,7 +215,7 @@ fn state_after<const VECTORS: usize>(
     requires enough { 12 ≤ length samples.now }
     requires vectors { VECTORS ≤ 2 }
     requires taps { SmallTwelveTaps taps.taps }
-    ensures fit { TwelveFit64 result.sums }
+    ensures twelve_fit64 { TwelveFit64 result.sums }
     ensures newest { AreNewest (reverse samples.now) result.newest }
     ensures sums { (coefficients : List ℤ) → AreTwelveTaps coefficients taps.entry.taps
         → FitVectors VECTORS coefficients
@@ -236,7 +236,7 @@ fn predict_after_12<const VECTORS: usize>(
 )
     requires shift { shift ≤ 15 }
     requires warm_up { 12 ≤ length buffer.old }
-    requires small { SmallTwelve coefficients.now }
+    requires small_twelve { SmallTwelve coefficients.now }
     requires vectors { VECTORS ≤ 2 }
     requires some { 1 ≤ VECTORS }
     requires zeros { take (8 - 4 * VECTORS) (numbers coefficients.now)
@@ -260,7 +260,7 @@ fn predict_12_taps<const VECTORS: usize>(
 ) -> usize
     requires shift { shift ≤ 15 }
     requires warm_up { 12 ≤ length buffer.old }
-    requires small { SmallTwelve coefficients.now }
+    requires small_twelve { SmallTwelve coefficients.now }
     requires vectors { VECTORS ≤ 2 }
     requires some { 1 ≤ VECTORS }
     requires zeros { take (8 - 4 * VECTORS) (numbers coefficients.now)
@@ -291,7 +291,7 @@ fn predict_last<const VECTORS: usize>(
     requires shift { shift ≤ 15 }
     requires least { 12 ≤ known }
     requires few { known ≤ length buffer.old }
-    requires small { SmallTwelve coefficients.now }
+    requires small_twelve { SmallTwelve coefficients.now }
     requires vectors { VECTORS ≤ 2 }
     requires some { 1 ≤ VECTORS }
     requires zeros { take (8 - 4 * VECTORS) (numbers coefficients.now)
@@ -323,7 +323,7 @@ fn restore_one(
     i: usize,
 )
     requires shift { shift ≤ 15 }
-    requires sums { TwelveFit64 state.sums }
+    requires twelve_fit64 { TwelveFit64 state.sums }
     requires within { i < length buffer.old }
     ensures kept { length buffer.new ≡ length buffer.old }
     ensures restored { (coefficients : List ℤ) → AreNewest coefficients last

@@ -127,8 +127,8 @@ fn padded_to_32(coefficients: &[i16]) -> [i16; 32]
 // newest.
 #[inline(always)]
 fn pair_taps_of(padded: &[i16; 32]) -> LaterLanes<i16x8>
-    ensures value { ArePairTaps (reverse padded.now) result }
-    ensures small { SmallPairTaps result }
+    ensures are_pair_taps { ArePairTaps (reverse padded.now) result }
+    ensures small_pair_taps { SmallPairTaps result }
 {
     let p = padded;
     LaterLanes {
@@ -145,7 +145,7 @@ fn pair_taps_of(padded: &[i16; 32]) -> LaterLanes<i16x8>
 // The coefficients of the newest five samples.
 #[inline(always)]
 fn newest_coefficients(padded: &[i16; 32]) -> NewestFive
-    ensures { AreNewest (reverse padded.now) result }
+    ensures are_newest { AreNewest (reverse padded.now) result }
 {
     NewestFive {
         fifth: i64::from(padded[27]),

@@ -65,7 +65,7 @@ pub trait LaneTaps: Copy {
     /// The sums of the next four samples, the latest first.
     fn next_four(self, sums: Self::Sums) -> i64x4
         requires { fit sums }
-        ensures fit { LanesFit64 result }
+        ensures lanes_fit64 { LanesFit64 result }
         ensures pending { (coefficients past : List ℤ) → pending coefficients past sums
             → result ≡ four_pending coefficients past 0 };
 
@@ -123,8 +123,8 @@ pub fn restore_pair<T: LaneTaps>(
     requires sums { T.fit state.sums }
     requires within { i + 2 ≤ length buffer.old }
     ensures kept { length buffer.new ≡ length buffer.old }
-    ensures restored { RestoresPair (T.coefficients taps) T.pending last shift buffer.old i state
-        buffer.new result }
+    ensures restores_pair { RestoresPair (T.coefficients taps) T.pending last shift buffer.old i
+        state buffer.new result }
     ensures fits { IfOk result (λ next. T.fit next.sums) }
     ensures place { IfErr result (λ place. place ≡ i) }
     ensures all { EachFits T.sample_fits → IfErr result (λ place. ⊥) }
@@ -158,7 +158,7 @@ fn restore_ten<T: LaneTaps>(
     requires sums { T.fit state.sums }
     requires within { i + 10 ≤ length buffer.old }
     ensures kept { length buffer.new ≡ length buffer.old }
-    ensures restored { RestoresTen (T.coefficients taps) T.pending last shift buffer.old i state
+    ensures restores_ten { RestoresTen (T.coefficients taps) T.pending last shift buffer.old i state
         buffer.new result }
     ensures fits { IfOk result (λ next. T.fit next.sums) }
     ensures place { IfErr result (λ place. (i ≤ place) × (place ≤ i + 8)) }
@@ -190,8 +190,8 @@ pub fn restore_front<T: LaneTaps>(
     ensures least { start ≤ result }
     ensures few { result ≤ length buffer.new }
     ensures all { EachFits T.sample_fits → length buffer.new < result + 10 }
-    ensures restored { RestoresFront (T.coefficients taps) T.pending last shift buffer.old start
-        state buffer.new result }
+    ensures restores_front { RestoresFront (T.coefficients taps) T.pending last shift buffer.old
+        start state buffer.new result }
 {
     let mut current = state;
     let tens = (buffer.len() - start) / 10;

@@ -6,7 +6,9 @@ use Rattle.claxon_input.proofs.bits.Bitstream.buffered.Goals as goal
 
 pub returns : goal.returns
 unfolding bits_in
-returns g c t =
-    let b = c.args.self.now in
-    let h = is_buffer_of (bits b.count b.cache) (g.R.ReadBytes.source b.reader).remaining c.buffered.result.now c.buffered.ensures t in
-    (h.0, h.1 ∙ ap (λ (s : Bits). s ++ h.0) (sym {b = bits b.count b.cache ++ bits_of (take 65536 c.buffered.result.now)} c.new.ensures))
+returns g c = record {
+  is_buffer_of = λ t.
+      let b = c.args.self.now in
+      let h = is_buffer_of (bits b.count b.cache) (g.R.ReadBytes.source b.reader).remaining c.buffered.result.now c.buffered.ensures.is_front t in
+      (h.0, h.1 ∙ ap (λ (s : Bits). s ++ h.0) (sym {b = bits b.count b.cache ++ bits_of (take 65536 c.buffered.result.now)} c.new.ensures));
+}

@@ -9,5 +9,5 @@ overflow_cast-result-2 g c =
 pub returns-clause-value : goal.returns-clause-value
 returns-clause-value g c = top_lt c.args.cache c.args.count c.args.bits c.requires.enough c.requires.fits
 
-pub returns-clause-ok : goal.returns-clause-ok
-returns-clause-ok g c = cut_in_cache (g.R.ReadBytes.source c.args.self.now.reader) c.args.cache c.args.count c.args.bits c.requires.enough (omega arith)
+pub returns-clause-takes_number : goal.returns-clause-takes_number
+returns-clause-takes_number g c = cut_in_cache (g.R.ReadBytes.source c.args.self.now.reader) c.args.cache c.args.count c.args.bits c.requires.enough (omega arith)

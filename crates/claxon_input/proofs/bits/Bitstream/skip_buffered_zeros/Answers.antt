@@ -10,7 +10,7 @@ loop-cache-preserved g c =
       few = omega arith;
       bound = omega arith;
       fits = search rules;
-      taken = fetched (replicate (c.loop-cache.zeros + c.loop-cache.count) false) c.in-Some.byte (more_zeros (g.R.ReadBytes.source c.loop-cache.reader) c.loop-cache.zeros c.loop-cache.count t) c.in-Some.ensures;
+      taken = fetched (replicate (c.loop-cache.zeros + c.loop-cache.count) false) c.in-Some.byte (more_zeros (g.R.ReadBytes.source c.loop-cache.reader) c.loop-cache.zeros c.loop-cache.count t) c.in-Some.ensures.is_sound;
     }
 
 pub loop-cache-init : goal.loop-cache-init

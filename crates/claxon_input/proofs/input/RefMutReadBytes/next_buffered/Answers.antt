@@ -2,4 +2,4 @@ use Rattle.std.proofs.Common.{rules}
 use Rattle.claxon_input.proofs.input.RefMutReadBytes.next_buffered.Goals as goal
 
 pub returns : goal.returns
-returns g c = search rules
+returns g c = record { is_sound = search rules }

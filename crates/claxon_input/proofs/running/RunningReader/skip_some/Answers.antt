@@ -11,7 +11,7 @@ returns-clause-are_skipped g c =
       l,
       takes_with_crc (g.S.Running.update c.args.self.now.state) (g.S.Running.update c.after-state.result) t
           (λ known ys. c.after-state.ensures ys
-          ∙ ap (λ bytes. g.S.Running.update c.args.self.now.state (bytes ++ ys)) (sym (same_front_as old.remaining new.remaining c.buffered-bytes.result.now xs c.min-count.result (omega arith) c.buffered-bytes.ensures t.moved.front l (search rules) known))),
+          ∙ ap (λ bytes. g.S.Running.update c.args.self.now.state (bytes ++ ys)) (sym (same_front_as old.remaining new.remaining c.buffered-bytes.result.now xs c.min-count.result (omega arith) c.buffered-bytes.ensures.is_front t.moved.front l (search rules) known))),
     )
 
 pub returns-in_err-skip-clause-failure_or_eof : goal.returns-in_err-skip-clause-failure_or_eof

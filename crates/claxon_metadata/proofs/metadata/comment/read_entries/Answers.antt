@@ -47,13 +47,13 @@ pub returns-in_err-check_end-clause-gives : goal.returns-in_err-check_end-clause
 returns-in_err-check_end-clause-gives g c =
     let last : 0 < c.loop-missing.missing → c.loop-missing.bytes_left < 4
     = λ k. elim c.loop-missing-test.branch [ then-loop-missing-test+else-bytes_left-ge4 w ↦ omega arith | else-loop-missing-test w ↦ omega arith ] in
-    exit_no_memory _ (err_from_is_err_and c.from_residual-in_err-check_end.result c.from_residual-in_err-check_end.ensures.1) (end_err last c.loop-missing.invariant.read) (c.in_err-check_end.ensures _)
+    exit_no_memory _ (err_from_is_err_and c.from_residual-in_err-check_end.result c.from_residual-in_err-check_end.ensures.1) (end_err last c.loop-missing.invariant.read) (c.in_err-check_end.ensures.end_is_checked _)
 
 pub returns-clause-gives : goal.returns-clause-gives
 returns-clause-gives g c =
     let last : 0 < c.loop-missing.missing → c.loop-missing.bytes_left < 4
     = λ k. elim c.loop-missing-test.branch [ then-loop-missing-test+else-bytes_left-ge4 w ↦ omega arith | else-loop-missing-test w ↦ omega arith ] in
-    entries_end last c.loop-missing.invariant.read (c.in_ok-check_end.ensures _)
+    entries_end last c.loop-missing.invariant.read (c.in_ok-check_end.ensures.end_is_checked _)
 
 pub returns-in_err-push-clause-gives : goal.returns-in_err-push-clause-gives
 unfolding entry_length_at fault_text

@@ -12,7 +12,7 @@ loop-values-init g c = (omega arith, fields_begin (g.C.GroupCode.value_at c.args
 
 pub loop-values-preserved-then-decode_group : goal.loop-values-preserved-then-decode_group
 loop-values-preserved-then-decode_group g c =
-    let group = fields_group c.args.group c.decode_group.new.group {a = c.args.buffered.now} {b = c.loop-values.buffered} {c = c.decode_group.new.buffered} c.if-end-buffer.true c.decode_group.auto.group c.loop-values.invariant.1 c.if-decode_group.ensures in
+    let group = fields_group c.args.group c.decode_group.new.group {a = c.args.buffered.now} {b = c.loop-values.buffered} {c = c.decode_group.new.buffered} c.if-end-buffer.true c.decode_group.auto.group c.loop-values.invariant.1 c.if-decode_group.ensures.is_read in
     (grind (arith, group.0), record { so_far = λ rest. let e = group.1.so_far rest in grind (arith, e) })
 
 pub loop-values-preserved : goal.loop-values-preserved
@@ -22,12 +22,12 @@ loop-values-preserved g c =
     let same : FieldsSoFar (g.C.GroupCode.value_at c.args.code) c.else-group-gt0.buffer l.values c.args.buffered.now c.else-group-gt0.buffered =
     elim c.else-group-gt0.branch [
       | else-group-gt0-via-then-group-gt0+then-end-buffer+else-decode_group w ↦
-          rw (w.buffer-is, w.buffered-is) (fields_same (take-put_mid_below l.values (l.values + c.args.group - l.values) l.buffer w.decode_group.new.group l.values (omega arith) (omega arith)) w.if-decode_group.ensures l.invariant.1)
+          rw (w.buffer-is, w.buffered-is) (fields_same (take-put_mid_below l.values (l.values + c.args.group - l.values) l.buffer w.decode_group.new.group l.values (omega arith) (omega arith)) w.if-decode_group.ensures.is_read l.invariant.1)
       | else-group-gt0-via-then-group-gt0+else-end-buffer w ↦ rw (w.buffer-is, w.buffered-is) l.invariant.1
       | else-group-gt0-via-else-group-gt0 w ↦ rw (w.buffer-is, w.buffered-is) l.invariant.1
     ] in
     let more : l.values < length c.else-group-gt0.buffer = omega (arith, c.else-group-gt0.auto.buffer) in
-    rw (to_z-of_z w32 c.in-Some.value f) (omega (arith, length-set c.else-group-gt0.buffer l.values c.in-Some.value), fields_next c.in-Some.value more same c.in-Some.ensures)
+    rw (to_z-of_z w32 c.in-Some.value f) (omega (arith, length-set c.else-group-gt0.buffer l.values c.in-Some.value), fields_next c.in-Some.value more same c.in-Some.ensures.gives_buffered_or_none)
 
 pub returns-in_default-clause-are_read : goal.returns-in_default-clause-are_read
 returns-in_default-clause-are_read g c =
@@ -35,9 +35,9 @@ returns-in_default-clause-are_read g c =
     let same : FieldsSoFar (g.C.GroupCode.value_at c.args.code) c.else-group-gt0.buffer l.values c.args.buffered.now c.decode_value.new.buffered =
     elim c.else-group-gt0.branch [
       | else-group-gt0-via-then-group-gt0+then-end-buffer+else-decode_group w ↦
-          rw w.buffer-is (fields_same (take-put_mid_below l.values (l.values + c.args.group - l.values) l.buffer w.decode_group.new.group l.values (omega arith) (omega arith)) (c.in_default.ensures ∙ ap bits_in_buffer w.buffered-is ∙ w.if-decode_group.ensures) l.invariant.1)
-      | else-group-gt0-via-then-group-gt0+else-end-buffer w ↦ rw w.buffer-is (fields_same refl (c.in_default.ensures ∙ ap bits_in_buffer w.buffered-is) l.invariant.1)
-      | else-group-gt0-via-else-group-gt0 w ↦ rw w.buffer-is (fields_same refl (c.in_default.ensures ∙ ap bits_in_buffer w.buffered-is) l.invariant.1)
+          rw w.buffer-is (fields_same (take-put_mid_below l.values (l.values + c.args.group - l.values) l.buffer w.decode_group.new.group l.values (omega arith) (omega arith)) (c.in_default.ensures.gives_buffered_or_none ∙ ap bits_in_buffer w.buffered-is ∙ w.if-decode_group.ensures.is_read) l.invariant.1)
+      | else-group-gt0-via-then-group-gt0+else-end-buffer w ↦ rw w.buffer-is (fields_same refl (c.in_default.ensures.gives_buffered_or_none ∙ ap bits_in_buffer w.buffered-is) l.invariant.1)
+      | else-group-gt0-via-else-group-gt0 w ↦ rw w.buffer-is (fields_same refl (c.in_default.ensures.gives_buffered_or_none ∙ ap bits_in_buffer w.buffered-is) l.invariant.1)
     ] in same.so_far
 
 pub returns-after-loop-values-clause-are_read : goal.returns-after-loop-values-clause-are_read

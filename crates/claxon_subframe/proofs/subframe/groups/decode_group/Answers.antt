@@ -13,9 +13,11 @@ loop-place-preserved g c =
     let f : FitsSigned w32 value = search rules in
     let lt : l.place-index < length l.group = omega arith in
     rw (to_z-of_z w32 value f)
-    (group_next (g.C.GroupCode.value_at c.args.code) c.in-Some.first l.group l.place-index l.used l.peeked value c.first_value-value.result.1 c.first_value-value.result.2 lt l.invariant c.first_value-value.ensures.few c.first_value-value.ensures.some c.first_value-value.ensures.first)
+    (group_next (g.C.GroupCode.value_at c.args.code) c.in-Some.first l.group l.place-index l.used l.peeked value c.first_value-value.result.1 c.first_value-value.result.2 lt l.invariant c.first_value-value.ensures.few c.first_value-value.ensures.some c.first_value-value.ensures.is_first_value)
 
 pub returns : goal.returns
-returns g c =
-    let l = c.loop-place in
-    group_read (g.C.GroupCode.value_at c.args.code) c.in-Some.first l.group l.place-index l.used l.peeked c.args.buffered.now c.peek.new.self c.consume.new.self (omega arith) (omega arith) (omega arith) l.invariant c.in-Some.ensures.same c.in-Some.ensures.some c.consume.ensures
+returns g c = record {
+  is_read =
+      let l = c.loop-place in
+      group_read (g.C.GroupCode.value_at c.args.code) c.in-Some.first l.group l.place-index l.used l.peeked c.args.buffered.now c.peek.new.self c.consume.new.self (omega arith) (omega arith) (omega arith) l.invariant c.in-Some.ensures.same c.in-Some.ensures.some c.consume.ensures;
+}

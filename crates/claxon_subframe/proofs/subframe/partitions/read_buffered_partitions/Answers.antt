@@ -39,7 +39,7 @@ overflow_sub-consumed g c =
 
 pub returns-in_err-skip_bits-clause-read_failed : goal.returns-in_err-skip_bits-clause-read_failed
 returns-in_err-skip_bits-clause-read_failed g c =
-    on_err c.from_residual.result (never_incomplete c.len-bits.result c.len.result c.buffered-buffered.result c.len-bits.ensures.value c.buffered-buffered.ensures c.in_err-skip_bits.ensures.are_skipped)
+    on_err c.from_residual.result (never_incomplete c.len-bits.result c.len.result c.buffered-buffered.result c.len-bits.ensures.value c.buffered-buffered.ensures.is_buffer_of c.in_err-skip_bits.ensures.are_skipped)
 
 pub returns-clause-few : goal.returns-clause-few
 returns-clause-few g c = c.loop-whole.invariant.1
@@ -57,4 +57,4 @@ returns-clause-are_read g c =
     ] in
     let samples = buffered_partitions_decoded method c.args.each l.whole after.buffer c.decode_zigzag.new.numbers c.buffered-buffered.result after.buffered (omega (arith, l.invariant.0)) (omega (arith, fit, l.invariant.0, after.auto.buffer)) c.decode_zigzag.ensures so_far in
     read_consumes (Reads-joined method l.whole c.args.each (method_small c.args.partition_type)) c.len-bits.result c.len.result _ c.buffered-buffered.result after.buffered
-    c.len-bits.ensures.value c.len.ensures.value samples c.buffered-buffered.ensures c.in_ok-skip_bits.ensures.are_skipped
+    c.len-bits.ensures.value c.len.ensures.value samples c.buffered-buffered.ensures.is_buffer_of c.in_ok-skip_bits.ensures.are_skipped

@@ -9,8 +9,10 @@ overflow_cast-result c =
     let h = number_fits c.fill.new.self.cache c.args.bits c.requires (omega arith) in search rules
 
 pub returns : goal.returns
-returns c rest =
-    let a = c.fill.new.self in
-    ap (λ (s : Bits). number_at c.args.bits (s ++ rest)) (sym c.fill.ensures)
-    ∙ number_in_cache a.cache a.count c.args.bits (bits_of (drop a.at a.bytes.now)) rest c.requires (omega arith) (omega arith) (omega arith)
-    ∙ done_as (ap (λ (k : ℕ). a.cache / 2 / 2 ^ k) (omega arith)) (ap (λ (s : Bits). s ++ rest) (sym c.consume.ensures))
+returns c = record {
+  gives_buffered_or_none = λ rest.
+      let a = c.fill.new.self in
+      ap (λ (s : Bits). number_at c.args.bits (s ++ rest)) (sym c.fill.ensures)
+      ∙ number_in_cache a.cache a.count c.args.bits (bits_of (drop a.at a.bytes.now)) rest c.requires (omega arith) (omega arith) (omega arith)
+      ∙ done_as (ap (λ (k : ℕ). a.cache / 2 / 2 ^ k) (omega arith)) (ap (λ (s : Bits). s ++ rest) (sym c.consume.ensures));
+}

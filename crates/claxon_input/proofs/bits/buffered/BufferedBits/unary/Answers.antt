@@ -10,8 +10,10 @@ consume-requires c =
     one_in_cache a.cache a.count (omega arith) (omega arith) (omega arith) a.fits
 
 pub returns : goal.returns
-returns c rest =
-    let a = c.fill.new.self in
-    ap (λ (s : Bits). unary_at (s ++ rest)) (sym c.fill.ensures)
-    ∙ unary_in_cache a.cache a.count (bits_of (drop a.at a.bytes.now)) rest (omega arith) (omega arith) (omega arith) a.fits
-    ∙ done_as (omega arith) (ap (λ (s : Bits). s ++ rest) (sym c.consume.ensures))
+returns c = record {
+  gives_buffered_or_none = λ rest.
+      let a = c.fill.new.self in
+      ap (λ (s : Bits). unary_at (s ++ rest)) (sym c.fill.ensures)
+      ∙ unary_in_cache a.cache a.count (bits_of (drop a.at a.bytes.now)) rest (omega arith) (omega arith) (omega arith) a.fits
+      ∙ done_as (omega arith) (ap (λ (s : Bits). s ++ rest) (sym c.consume.ensures));
+}

@@ -6,4 +6,4 @@ pub invariant_of-self : goal.invariant_of-self
 invariant_of-self g c = record { separators = separators_rest c.args.self.now.comments.now c.in_ok-first.rest.now c.in_ok-first.first.now (search rules) c.args.self.now.separators }
 
 pub split-requires : goal.split-requires
-split-requires g c = separator_first c.args.self.now.comments.now c.in_ok-first.rest.now c.in_ok-first.first.now (search rules) c.args.self.now.separators
+split-requires g c = record { is_separator_index = separator_first c.args.self.now.comments.now c.in_ok-first.rest.now c.in_ok-first.first.now (search rules) c.args.self.now.separators }

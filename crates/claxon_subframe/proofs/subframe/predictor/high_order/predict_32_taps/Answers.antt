@@ -13,9 +13,9 @@ pub returns-clause-restored : goal.returns-clause-restored
 returns-clause-restored g c =
     let n = 4 * g.row.VECTORS + 4 in
     let fit = fit_vectors c.args.padded.now 32 g.row.VECTORS (28 - 4 * g.row.VECTORS) c.told-padded (omega arith) c.requires.zeros in
-    let are : AreTaps (reverse c.args.padded.now) c.taps_of.result × FitVectors g.row.VECTORS (reverse c.args.padded.now) = (c.taps_of.ensures.value, fit) in
+    let are : AreTaps (reverse c.args.padded.now) c.taps_of.result × FitVectors g.row.VECTORS (reverse c.args.padded.now) = (c.taps_of.ensures.are_taps, fit) in
     let stands : StandsAt (ArePendingSums (reverse c.args.padded.now)) c.args.buffer.now (4 * g.row.VECTORS + 4) (record { newest = c.of-newest.result; sums = c.in-Some.sums }) = record {
-      newest = newest_of c.args.buffer.now n _ _ _ c.of-newest.ensures (omega arith);
+      newest = newest_of c.args.buffer.now n _ _ _ c.of-newest.ensures.are_newest (omega arith);
       sums = c.in-Some.ensures.pending (reverse c.args.padded.now) are;
     } in
-    c.restore_front.ensures.restored (reverse c.args.padded.now) are (are_last c.args.padded.now c.told-padded c.requires.small) stands
+    c.restore_front.ensures.restores_front (reverse c.args.padded.now) are (are_last c.args.padded.now c.told-padded c.requires.within) stands

@@ -7,7 +7,7 @@ use Rattle.claxon_subframe.proofs.subframe.predictor.low_order.predict_12_taps.G
 pub returns-clause-restored : goal.returns-clause-restored
 returns-clause-restored g c =
     let ks = reverse (numbers c.args.coefficients.now) in
-    let taps = c.taps_of_twelve.ensures.value in
+    let taps = c.taps_of_twelve.ensures.are_twelve_taps in
     let state = c.state_after-state.ensures in
-    let fit = fit_vectors (numbers c.args.coefficients.now) 12 g.row.VECTORS (8 - 4 * g.row.VECTORS) (twelve_long c.args.coefficients.now c.requires.small) (omega arith) c.requires.zeros in
-    c.restore_front.ensures.restored ks (taps, fit) c.newest_of_twelve-last.ensures (record { newest = state.newest; sums = state.sums ks taps fit })
+    let fit = fit_vectors (numbers c.args.coefficients.now) 12 g.row.VECTORS (8 - 4 * g.row.VECTORS) (twelve_long c.args.coefficients.now c.requires.small_twelve) (omega arith) c.requires.zeros in
+    c.restore_front.ensures.restores_front ks (taps, fit) c.newest_of_twelve-last.ensures.are_newest (record { newest = state.newest; sums = state.sums ks taps fit })

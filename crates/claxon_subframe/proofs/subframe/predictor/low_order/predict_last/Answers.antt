@@ -11,23 +11,23 @@ pub loop-pair-init : goal.loop-pair-init
 loop-pair-init g c =
     let ks = reverse (numbers c.args.coefficients.now) in
     let state = c.state_after-state.ensures in
-    let fit = fit_vectors (numbers c.args.coefficients.now) 12 g.row.VECTORS (8 - 4 * g.row.VECTORS) (twelve_long c.args.coefficients.now c.requires.small) (omega arith) c.requires.zeros in
+    let fit = fit_vectors (numbers c.args.coefficients.now) 12 g.row.VECTORS (8 - 4 * g.row.VECTORS) (twelve_long c.args.coefficients.now c.requires.small_twelve) (omega arith) c.requires.zeros in
     record {
       kept = refl;
-      fits = state.fit;
-      restored = place_is (c.args.known + 0) (none_restored (record { newest = state.newest; sums = state.sums ks c.taps_of_twelve.ensures.value fit })) (omega arith);
+      fits = state.twelve_fit64;
+      restored = place_is (c.args.known + 0) (none_restored (record { newest = state.newest; sums = state.sums ks c.taps_of_twelve.ensures.are_twelve_taps fit })) (omega arith);
     }
 
 pub loop-pair-preserved : goal.loop-pair-preserved
 loop-pair-preserved g c =
     let ks = reverse (numbers c.args.coefficients.now) in
-    let fit = fit_vectors (numbers c.args.coefficients.now) 12 g.row.VECTORS (8 - 4 * g.row.VECTORS) (twelve_long c.args.coefficients.now c.requires.small) (omega arith) c.requires.zeros in
+    let fit = fit_vectors (numbers c.args.coefficients.now) 12 g.row.VECTORS (8 - 4 * g.row.VECTORS) (twelve_long c.args.coefficients.now c.requires.small_twelve) (omega arith) c.requires.zeros in
     record {
       kept = c.restore_pair.ensures.kept ∙ c.loop-pair.invariant.kept;
       fits = of_ok _ c.unwrap-state.ensures c.restore_pair.ensures.fits;
       restored = place_is (c.args.known + 2 * (c.loop-pair.pair + 1))
           (then_restored c.loop-pair.invariant.restored
-          (λ stands. of_ok _ c.unwrap-state.ensures (c.restore_pair.ensures.restored ks (c.taps_of_twelve.ensures.value, fit) c.newest_of_twelve-last.ensures stands).ok) refl) (omega arith);
+          (λ stands. of_ok _ c.unwrap-state.ensures (c.restore_pair.ensures.restores_pair ks (c.taps_of_twelve.ensures.are_twelve_taps, fit) c.newest_of_twelve-last.ensures.are_newest stands).ok) refl) (omega arith);
     }
 
 pub returns-then-known-pairs : goal.returns-then-known-pairs
@@ -36,4 +36,4 @@ returns-then-known-pairs g c =
     let i = c.args.known + 2 * ((length c.args.buffer.now - c.args.known) / 2) in
     let pairs = place_is i c.loop-pair.invariant.restored (omega arith) in
     sym (restored_all (linear ks c.args.shift) c.restore_one.new.buffer (i + 1) (omega (arith, c.restore_one.ensures.kept, c.loop-pair.invariant.kept)))
-    ∙ c.restore_one.ensures.restored ks c.newest_of_twelve-last.ensures pairs.stands ∙ pairs.same
+    ∙ c.restore_one.ensures.restored ks c.newest_of_twelve-last.ensures.are_newest pairs.stands ∙ pairs.same

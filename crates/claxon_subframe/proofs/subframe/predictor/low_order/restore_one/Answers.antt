@@ -6,8 +6,8 @@ use Rattle.claxon_subframe.proofs.RestoreLoopByTwo.{narrowed}
 use Rattle.claxon_subframe.proofs.PredictorState.{one_restored}
 use Rattle.claxon_subframe.proofs.subframe.predictor.low_order.restore_one.Goals as goal
 
-pub followed_by_two-newest-requires-clause-pending : goal.followed_by_two-newest-requires-clause-pending
-followed_by_two-newest-requires-clause-pending c = kept_fit_64 c.requires.sums.at_0
+pub followed_by_two-newest-requires-clause-lanes_fit64 : goal.followed_by_two-newest-requires-clause-lanes_fit64
+followed_by_two-newest-requires-clause-lanes_fit64 c = kept_fit_64 c.requires.twelve_fit64.at_0
 
 pub returns-clause-restored : goal.returns-clause-restored
 returns-clause-restored c = λ ks last stands.
@@ -16,5 +16,5 @@ returns-clause-restored c = λ ks last stands.
     let first : FitsSigned w32 (get_or c.args.buffer.now c.args.i (pos 0)) = search rules in
     let new = c.followed_by_two-newest.result in
     one_restored (AreTwelvePending ks) ks xs _ c.args.shift i _ _ _ c.args.last c.args.state new c.requires.within last stands
-    (same_fit_64 c.requires.sums.at_0 ∙ stands.sums.at_0) (to_z-of_z w32 _ first) c.followed_by_two-newest.ensures.value
+    (same_fit_64 c.requires.twelve_fit64.at_0 ∙ stands.sums.at_0) (to_z-of_z w32 _ first) c.followed_by_two-newest.ensures.is_followed_by_two
     (narrowed new.second c.low_bits.result c.followed_by_two-newest.ensures.second c.low_bits.ensures)

@@ -11,7 +11,7 @@ pub returns-clause-newest : goal.returns-clause-newest
 returns-clause-newest g c =
     let xs = c.args.samples.now in
     let n = length xs in
-    subst (λ (l : List ℤ). AreNewest (reverse l) c.of-newest.result) (take_all n xs (omega arith)) (newest_of xs n (n - 5) (n - (n - 5)) _ c.of-newest.ensures (omega arith))
+    subst (λ (l : List ℤ). AreNewest (reverse l) c.of-newest.result) (take_all n xs (omega arith)) (newest_of xs n (n - 5) (n - (n - 5)) _ c.of-newest.ensures.are_newest (omega arith))
 
 pub returns-clause-sums : goal.returns-clause-sums
 returns-clause-sums g c = λ ks are fit.

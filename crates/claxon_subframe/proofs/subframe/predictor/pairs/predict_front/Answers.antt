@@ -17,4 +17,4 @@ returns-clause-restored g c =
     let cs = c.args.coefficients.now in
     let same = λ (n : ℕ) (xs : List ℤ). padded_restored cs c.padded_to_32.result xs c.args.shift n (32 - length cs) c.padded_to_32.ensures in
     sym (same c.predict_pairs.result c.predict_pairs.new.buffer) ∙ c.predict_pairs.ensures.restored ∙ same (4 * g.row.VECTORS + 4) _
-    ∙ front_restored cs c.args.buffer.now c.predict_plain.new.buffer c.args.shift (4 * g.row.VECTORS + 4) (omega arith) (omega arith) c.predict_plain.ensures
+    ∙ front_restored cs c.args.buffer.now c.predict_plain.new.buffer c.args.shift (4 * g.row.VECTORS + 4) (omega arith) (omega arith) c.predict_plain.ensures.samples_are_restored

@@ -11,13 +11,13 @@ loop-ten-preserved g c = record {
   kept = c.restore_ten.ensures.kept ∙ c.loop-ten.invariant.kept;
   fits = c.in-Ok.ensures.fits;
   restored = λ ks are last stands.
-      place_is (c.args.start + 10 * (c.loop-ten.ten + 1)) (then_ok (c.loop-ten.invariant.restored ks are last stands) (c.in-Ok.ensures.restored ks are last) (omega arith)) (omega arith);
+      place_is (c.args.start + 10 * (c.loop-ten.ten + 1)) (then_ok (c.loop-ten.invariant.restored ks are last stands) (c.in-Ok.ensures.restores_ten ks are last) (omega arith)) (omega arith);
 }
 
-pub returns-in-Err-clause-restored : goal.returns-in-Err-clause-restored
-returns-in-Err-clause-restored g c = λ ks are last stands.
-    then_err (c.loop-ten.invariant.restored ks are last stands) (c.in-Err.ensures.restored ks are last) (omega arith)
+pub returns-in-Err-clause-restores_front : goal.returns-in-Err-clause-restores_front
+returns-in-Err-clause-restores_front g c = λ ks are last stands.
+    then_err (c.loop-ten.invariant.restored ks are last stands) (c.in-Err.ensures.restores_ten ks are last) (omega arith)
 
-pub returns-clause-restored : goal.returns-clause-restored
-returns-clause-restored g c = λ ks are last stands.
+pub returns-clause-restores_front : goal.returns-clause-restores_front
+returns-clause-restores_front g c = λ ks are last stands.
     place_restored (linear ks c.args.shift) c.loop-ten.buffer _ (c.args.start + 10 * c.loop-ten.ten) (omega arith) (c.loop-ten.invariant.restored ks are last stands).same

@@ -13,8 +13,8 @@ returns-clause-few c =
     let within : z < 64 = (highest c.args.peeked c.requires.some (omega arith)).within in
     rw (rice_code_bits z c.args.self.parameter within c.args.self.bound) (omega arith)
 
-pub returns-clause-first : goal.returns-clause-first
-returns-clause-first c =
+pub returns-clause-is_first_value : goal.returns-clause-is_first_value
+returns-clause-is_first_value c =
     let k = c.args.self.parameter in
     let z : ℕ = leading_zeros w64 c.args.peeked in
     let within : z < 64 = (highest c.args.peeked c.requires.some (omega arith)).within in
