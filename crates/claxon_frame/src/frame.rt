@@ -369,7 +369,7 @@ fn decode_subframes<R: ReadBytes>(
     buffer: &mut [i32],
 ) -> Result<()>
     requires { length buffer.old ≡ sample_count header.now }
-    ensures { SubframesAreRead R.source header.now input.old result input.new buffer.new }
+    ensures are_read { SubframesAreRead R.source header.now input.old result input.new buffer.new }
 {
     let mut bits = Bitstream::new(input);
     let assignment = header.channel_assignment;

@@ -100,7 +100,7 @@ impl<A: Allocator> Block<A> {
     /// The number of samples of each channel. Divided by the sample rate it is a duration in seconds.
     pub fn duration(&self) -> u32
         ensures value { result ≡ duration_of self.now.channels }
-        ensures each { AreOfLength result self.now.channels }
+        ensures are_of_length { AreOfLength result self.now.channels }
         ensures short { result < 65536 }
     {
         self.duration

@@ -144,7 +144,7 @@ fn resolve_bit_depth(fields: &HeaderFields, stream: Option<KnownStreamFormat>) -
 // The CRC-8 reader is made here: the prover loses the shape of a wrapper around another one that is made in the same function,
 // and the other one is the frame's CRC-16 reader.
 fn read_fields_with_crc<R: ReadBytes>(input: &mut R) -> Result<Option<HeaderFields>>
-    ensures { GivesOrEof 2 fields_view result fields_with_crc_at
+    ensures gives { GivesOrEof 2 fields_view result fields_with_crc_at
         (bytes_in R.source input.old) (bytes_in R.source input.new) }
 {
     let mut input = Crc8Reader::new(input);
@@ -158,7 +158,7 @@ fn read_fields_with_crc<R: ReadBytes>(input: &mut R) -> Result<Option<HeaderFiel
 
 #[tactic(auto, using(claxon_input::proofs::ByteFields::first_number), unfolding(claxon_format::specs::read::Bytes::crc_at, claxon_format::specs::Fault::fault_text))]
 fn check_header_crc<R: ReadBytes>(input: &mut R, computed: u8) -> Result<()>
-    ensures { Gives (λ x. tt) result (crc_at 1 computed HeaderCrc)
+    ensures gives { Gives (λ x. tt) result (crc_at 1 computed HeaderCrc)
         (bytes_in R.source input.old) (bytes_in R.source input.new) }
 {
     let stored = input.read_u8()?;
@@ -169,7 +169,7 @@ fn check_header_crc<R: ReadBytes>(input: &mut R, computed: u8) -> Result<()>
 }
 
 fn read_fields_or_eof<R: ReadBytes>(input: &mut R) -> Result<Option<HeaderFields>>
-    ensures { GivesOrEof 2 fields_view result (fields_at big_at)
+    ensures gives { GivesOrEof 2 fields_view result (fields_at big_at)
         (bytes_in R.source input.old) (bytes_in R.source input.new) }
 {
     let Some(blocking) = read_sync_or_eof(input)? else {
@@ -179,7 +179,7 @@ fn read_fields_or_eof<R: ReadBytes>(input: &mut R) -> Result<Option<HeaderFields
 }
 
 fn read_fields<R: ReadBytes>(input: &mut R, blocking: BlockingStrategy) -> Result<HeaderFields>
-    ensures { Gives fields_view result (fields_after big_at (is_variable blocking))
+    ensures gives { Gives fields_view result (fields_after big_at (is_variable blocking))
         (bytes_in R.source input.old) (bytes_in R.source input.new) }
 {
     let (size, rate_code) = read_size_and_rate(input)?;
@@ -198,7 +198,7 @@ fn read_fields<R: ReadBytes>(input: &mut R, blocking: BlockingStrategy) -> Resul
 
 #[tactic(auto, using(claxon_input::proofs::FieldOrEof::reached_eof))]
 fn read_sync_or_eof<R: ReadBytes>(input: &mut R) -> Result<Option<BlockingStrategy>>
-    ensures { GivesOrEof 2 is_variable result (sync_at big_at)
+    ensures gives { GivesOrEof 2 is_variable result (sync_at big_at)
         (bytes_in R.source input.old) (bytes_in R.source input.new) }
 {
     let Some(sync) = input.read_be_u16_or_eof()? else {
@@ -210,7 +210,7 @@ fn read_sync_or_eof<R: ReadBytes>(input: &mut R) -> Result<Option<BlockingStrate
 // The sync code, a reserved bit and the blocking strategy.
 #[tactic(auto, unfolding(claxon_format::specs::read::Header::blocking_at, claxon_format::specs::Fault::fault_text))]
 fn blocking_strategy(sync: u16) -> Result<BlockingStrategy>
-    ensures { (here : State ℕ) → Gives is_variable result (blocking_at sync) here here }
+    ensures gives { (here : State ℕ) → Gives is_variable result (blocking_at sync) here here }
 {
     if sync >> 2 != 0x3ffe {
         return Err(Error::FormatError(SYNC_CODE_MISSING));
@@ -306,7 +306,7 @@ fn bit_depth_of(code: u8) -> Result<Option<u32>>
 
 #[tactic(auto, unfolding(claxon_format::specs::read::Header::number_in, claxon_format::specs::Fault::fault_text))]
 fn read_block_time<R: ReadBytes>(input: &mut R, blocking: BlockingStrategy) -> Result<BlockTime>
-    ensures { Gives block_time_view result (number_in big_at (is_variable blocking))
+    ensures gives { Gives block_time_view result (number_in big_at (is_variable blocking))
         (bytes_in R.source input.old) (bytes_in R.source input.new) }
 {
     let number = read_var_length_int(input)?;
@@ -329,7 +329,7 @@ fn read_block_time<R: ReadBytes>(input: &mut R, blocking: BlockingStrategy) -> R
 // are the number, most significant first. Overlong numbers are accepted.
 #[tactic(auto, using(claxon_input::proofs::ByteFields::first_number), unfolding(claxon_format::specs::read::CodedNumber::coded_number_at, claxon_format::specs::Fault::fault_text))]
 fn read_var_length_int<R: ReadBytes>(input: &mut R) -> Result<u64>
-    ensures { Gives (λ x. x) result (coded_number_at big_at)
+    ensures gives { Gives (λ x. x) result (coded_number_at big_at)
         (bytes_in R.source input.old) (bytes_in R.source input.new) }
 {
     let first = input.read_u8()?;
@@ -348,7 +348,7 @@ fn read_var_length_int<R: ReadBytes>(input: &mut R) -> Result<u64>
 fn read_continuation_bytes<R: ReadBytes>(input: &mut R, count: u32, number: u64) -> Result<u64>
     requires count { count ≤ 6 }
     requires number { number < 64 }
-    ensures { Gives (λ x. x) result (continuation_bytes_at big_at count number)
+    ensures gives { Gives (λ x. x) result (continuation_bytes_at big_at count number)
         (bytes_in R.source input.old) (bytes_in R.source input.new) }
 {
     let mut number = number;
@@ -397,7 +397,7 @@ fn read_block_size<R: ReadBytes>(input: &mut R, size: BlockSize) -> Result<u16>
 #[tactic(auto, using(claxon_input::proofs::ByteFields::first_number), unfolding(claxon_format::specs::read::Header::rate_at))]
 fn read_rate<R: ReadBytes>(input: &mut R, code: u8) -> Result<Option<u32>>
     requires { code ≤ 14 }
-    ensures { Gives (λ x. x) result (rate_at big_at code)
+    ensures gives { Gives (λ x. x) result (rate_at big_at code)
         (bytes_in R.source input.old) (bytes_in R.source input.new) }
 {
     match code {

@@ -12,7 +12,7 @@ mod tests;
 /// channels stay as they are.
 pub fn undo_decorrelation(channel_assignment: ChannelAssignment, buffer: &mut [i32])
     requires { channels_of channel_assignment ≤ 8 }
-    ensures { ChannelsAreDecoded channel_assignment buffer.old buffer.new }
+    ensures channels_are_decoded { ChannelsAreDecoded channel_assignment buffer.old buffer.new }
 {
     match channel_assignment {
         ChannelAssignment::Independent(_) => {}
@@ -25,7 +25,7 @@ pub fn undo_decorrelation(channel_assignment: ChannelAssignment, buffer: &mut [i
 // Side is left minus right. If both channels are alike it is small, and takes few bits.
 #[inline(never)]
 fn decode_left_side(buffer: &mut [i32])
-    ensures { PairIsDecoded 8 buffer.old buffer.new }
+    ensures pair_is_decoded { PairIsDecoded 8 buffer.old buffer.new }
 {
     let half = buffer.len() / 2;
     let (left, side) = buffer.split_at_mut(half);
@@ -37,7 +37,7 @@ fn decode_left_side(buffer: &mut [i32])
 // The side channel comes first here.
 #[inline(never)]
 fn decode_right_side(buffer: &mut [i32])
-    ensures { PairIsDecoded 9 buffer.old buffer.new }
+    ensures pair_is_decoded { PairIsDecoded 9 buffer.old buffer.new }
 {
     let half = buffer.len() / 2;
     let (side, right) = buffer.split_at_mut(half);
@@ -51,7 +51,7 @@ fn decode_right_side(buffer: &mut [i32])
 // twice left, and sum minus difference is twice right.
 #[inline(never)]
 fn decode_mid_side(buffer: &mut [i32])
-    ensures { PairIsDecoded 10 buffer.old buffer.new }
+    ensures pair_is_decoded { PairIsDecoded 10 buffer.old buffer.new }
 {
     let half = buffer.len() / 2;
     let (mid, side) = buffer.split_at_mut(half);

@@ -17,15 +17,17 @@ loop-ch-init g c =
 
 pub returns-in_err-decode : goal.returns-in_err-decode
 unfolding subframes_at
-returns-in_err-decode g c =
-    let p = err_from_is_err_and c.from_residual.result c.from_residual.ensures.1 in
-    let lt : c.loop-ch.ch < channels_of c.args.header.now.channel_assignment = omega (arith, c.channels-ch-end.ensures) in
-    let s = channels_err c.bit_depth-bit_depth.result lt (sym (c.bit_depth-bit_depth.ensures.is_subframe_bit_depth c.args.header.now.max_channels lt)) c.loop-ch.invariant c.in_err-decode.ensures.is_read in
-    let none : List (List ℤ) = [] in
-    let r : Result (Unit {0}) Error = Err c.in_err-decode.field-0.0 in
-    let e = name_through g.R.ReadBytes.source c.args.input.now _ c.new-bits.result c.decode.new.input (λ x. none) r _ c.new-bits.ensures s in
-    let k = gives_through g.R.ReadBytes.source c.args.input.now _ c.new-bits.result c.decode.new.input (λ x. none) r _ c.new-bits.ensures s in
-    rw (p.1, p.2, ← c.from-size.ensures) (search (rules, e, k))
+returns-in_err-decode g c = record {
+  are_read =
+      let p = err_from_is_err_and c.from_residual.result c.from_residual.ensures.1 in
+      let lt : c.loop-ch.ch < channels_of c.args.header.now.channel_assignment = omega (arith, c.channels-ch-end.ensures) in
+      let s = channels_err c.bit_depth-bit_depth.result lt (sym (c.bit_depth-bit_depth.ensures.is_subframe_bit_depth c.args.header.now.max_channels lt)) c.loop-ch.invariant c.in_err-decode.ensures.is_read in
+      let none : List (List ℤ) = [] in
+      let r : Result (Unit {0}) Error = Err c.in_err-decode.field-0.0 in
+      let e = name_through g.R.ReadBytes.source c.args.input.now _ c.new-bits.result c.decode.new.input (λ x. none) r _ c.new-bits.ensures s in
+      let k = gives_through g.R.ReadBytes.source c.args.input.now _ c.new-bits.result c.decode.new.input (λ x. none) r _ c.new-bits.ensures s in
+      rw (p.1, p.2, ← c.from-size.ensures) (search (rules, e, k));
+}
 
 pub loop-ch-preserved : goal.loop-ch-preserved
 loop-ch-preserved g c =
@@ -34,10 +36,12 @@ loop-ch-preserved g c =
 
 pub returns : goal.returns
 unfolding subframes_at
-returns g c =
-    let s = channels_end (omega (arith, c.channels-ch-end.ensures)) c.loop-ch.invariant in
-    let r : Result (Unit {0}) Error = Ok tt in
-    let channels = chunks (channels_of c.args.header.now.channel_assignment) c.from-size.result c.loop-ch.buffer in
-    let e = name_through g.R.ReadBytes.source c.args.input.now _ c.new-bits.result c.loop-ch.bits (λ x. channels) r _ c.new-bits.ensures s in
-    let k = gives_through g.R.ReadBytes.source c.args.input.now _ c.new-bits.result c.loop-ch.bits (λ x. channels) r _ c.new-bits.ensures s in
-    rw (← c.from-size.ensures) (search (rules, e, k))
+returns g c = record {
+  are_read =
+      let s = channels_end (omega (arith, c.channels-ch-end.ensures)) c.loop-ch.invariant in
+      let r : Result (Unit {0}) Error = Ok tt in
+      let channels = chunks (channels_of c.args.header.now.channel_assignment) c.from-size.result c.loop-ch.buffer in
+      let e = name_through g.R.ReadBytes.source c.args.input.now _ c.new-bits.result c.loop-ch.bits (λ x. channels) r _ c.new-bits.ensures s in
+      let k = gives_through g.R.ReadBytes.source c.args.input.now _ c.new-bits.result c.loop-ch.bits (λ x. channels) r _ c.new-bits.ensures s in
+      rw (← c.from-size.ensures) (search (rules, e, k));
+}

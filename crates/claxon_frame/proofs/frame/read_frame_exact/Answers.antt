@@ -70,7 +70,7 @@ returns-in_err-decode_subframes-clause-gives g c =
     let read = frame_bytes_at (stream_format_view c.args.stream) in
     let p = err_answer (err_from_is_err_and c.from_residual-in_err-decode_subframes.result c.from_residual-in_err-decode_subframes.ensures.1) in
     let start = rw c.in-Some.is at c.in_ok-header.ensures.is_read in
-    let h = exit_no_memory_or_eof 2 block_view read p (channels_stopped _ (stream_is_bit_depth c.args.stream) {start = start_view c.in-Some.header} start c.in_err-decode_subframes.ensures) in
+    let h = exit_no_memory_or_eof 2 block_view read p (channels_stopped _ (stream_is_bit_depth c.args.stream) {start = start_view c.in-Some.header} start c.in_err-decode_subframes.ensures.are_read) in
     let k = frame_through g.R.ReadBytes.source update_crc16 c.args.input.now _ _ c.new-input.result c.decode_subframes.new.input c.new-input.ensures.source 2 block_view (frame_answer c.from_residual-in_err-decode_subframes.result) read h in
     search (rules, k.0, k.1)
 
@@ -80,7 +80,7 @@ returns-in_err-check_footer-clause-gives g c =
     let read = frame_bytes_at (stream_format_view c.args.stream) in
     let p = err_answer (err_from_is_err_and c.from_residual-in_err-check_footer.result c.from_residual-in_err-check_footer.ensures.1) in
     let start = rw c.in-Some.is at c.in_ok-header.ensures.is_read in
-    let h = exit_no_memory_or_eof 2 block_view read p (footer_stops _ (stream_is_bit_depth c.args.stream) (start_view c.in-Some.header) _ _ _ _ _ c.new-input.ensures.state c.check_footer.ensures.fits start c.in_ok-decode_subframes.ensures c.in_err-check_footer.ensures.gives) in
+    let h = exit_no_memory_or_eof 2 block_view read p (footer_stops _ (stream_is_bit_depth c.args.stream) (start_view c.in-Some.header) _ _ _ _ _ c.new-input.ensures.state c.check_footer.ensures.fits start c.in_ok-decode_subframes.ensures.are_read c.in_err-check_footer.ensures.gives) in
     let k = frame_through g.R.ReadBytes.source update_crc16 c.args.input.now _ _ c.new-input.result c.check_footer.new.input c.new-input.ensures.source 2 block_view (frame_answer c.from_residual-in_err-check_footer.result) read h in
     search (rules, k.0, k.1)
 
@@ -89,7 +89,7 @@ unfolding bytes_in
 returns-clause-gives g c =
     let read = frame_bytes_at (stream_format_view c.args.stream) in
     let start = rw c.in-Some.is at c.in_ok-header.ensures.is_read in
-    let whole = frame_consumes _ (stream_is_bit_depth c.args.stream) (start_view c.in-Some.header) _ _ _ _ _ c.new-input.ensures.state c.check_footer.ensures.fits start c.in_ok-decode_subframes.ensures c.in_ok-check_footer.ensures.gives in
+    let whole = frame_consumes _ (stream_is_bit_depth c.args.stream) (start_view c.in-Some.header) _ _ _ _ _ c.new-input.ensures.state c.check_footer.ensures.fits start c.in_ok-decode_subframes.ensures.are_read c.in_ok-check_footer.ensures.gives in
     let r : Result (Option BlockValue) Error = Ok (Some c.to_block-block.result) in
     let vec = c.in_ok-buffer.buffer in
     let samples = c.decode_subframes.new.buffer in
@@ -102,7 +102,7 @@ unfolding bytes_in
 returns-clause-info_is_read g c =
     let stream = stream_format_view c.args.stream in
     let start = rw c.in-Some.is at c.in_ok-header.ensures.is_read in
-    let whole = frame_consumes _ (stream_is_bit_depth c.args.stream) (start_view c.in-Some.header) _ _ _ _ _ c.new-input.ensures.state c.check_footer.ensures.fits start c.in_ok-decode_subframes.ensures c.in_ok-check_footer.ensures.gives in
+    let whole = frame_consumes _ (stream_is_bit_depth c.args.stream) (start_view c.in-Some.header) _ _ _ _ _ c.new-input.ensures.state c.check_footer.ensures.fits start c.in_ok-decode_subframes.ensures.are_read c.in_ok-check_footer.ensures.gives in
     let there = info_at_start stream (start_view c.in-Some.header) start whole in
     let k = consumes_through g.R.ReadBytes.source update_crc16 c.args.input.now _ _ c.new-input.result c.check_footer.new.input c.new-input.ensures.source (λ s m. InfoIsAt stream (info_of_start (start_view c.in-Some.header)) s) there in
     let r : Result (Option BlockValue) Error = Ok (Some c.to_block-block.result) in

@@ -5,4 +5,4 @@ use Rattle.claxon_frame.proofs.frame.header.blocking_strategy.Goals as goal
 
 pub returns-then-sync-ne16382 : goal.returns-then-sync-ne16382
 unfolding blocking_at fault_text
-returns-then-sync-ne16382 c = search rules
+returns-then-sync-ne16382 c = record { gives = search rules }

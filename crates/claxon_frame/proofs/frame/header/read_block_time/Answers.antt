@@ -5,4 +5,4 @@ use Rattle.claxon_frame.proofs.frame.header.read_block_time.Goals as goal
 
 pub returns-then-number-largest : goal.returns-then-number-largest
 unfolding number_in fault_text
-returns-then-number-largest g c = search rules
+returns-then-number-largest g c = record { gives = search rules }

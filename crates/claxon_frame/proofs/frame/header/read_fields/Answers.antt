@@ -16,30 +16,40 @@ unfolding fields_after
 begins variable a = consumes_none a _ refl
 
 pub returns-in_err-size : goal.returns-in_err-size
-returns-in_err-size g c = exit _ (err_from_is_err_and c.from_residual.result c.from_residual.ensures.1) (then_stops _ (begins (is_variable c.args.blocking) _) c.in_err-size.ensures.gives)
+returns-in_err-size g c = record { gives = exit _ (err_from_is_err_and c.from_residual.result c.from_residual.ensures.1) (then_stops _ (begins (is_variable c.args.blocking) _) c.in_err-size.ensures.gives) }
 
 pub returns-in_err-channel_assignment : goal.returns-in_err-channel_assignment
-returns-in_err-channel_assignment g c =
-    exit _ (err_from_is_err_and c.from_residual-in_err-channel_assignment.result c.from_residual-in_err-channel_assignment.ensures.1)
-    (then_stops _ (then_consumes _ (begins (is_variable c.args.blocking) _) c.in_ok-size.ensures.gives) c.in_err-channel_assignment.ensures.gives)
+returns-in_err-channel_assignment g c = record {
+  gives =
+      exit _ (err_from_is_err_and c.from_residual-in_err-channel_assignment.result c.from_residual-in_err-channel_assignment.ensures.1)
+      (then_stops _ (then_consumes _ (begins (is_variable c.args.blocking) _) c.in_ok-size.ensures.gives) c.in_err-channel_assignment.ensures.gives);
+}
 
 pub returns-in_err-block_time : goal.returns-in_err-block_time
-returns-in_err-block_time g c =
-    exit _ (err_from_is_err_and c.from_residual-in_err-block_time.result c.from_residual-in_err-block_time.ensures.1)
-    (then_stops _ (then_consumes _ (then_consumes _ (begins (is_variable c.args.blocking) _) c.in_ok-size.ensures.gives) c.in_ok-channel_assignment.ensures.gives) c.in_err-block_time.ensures)
+returns-in_err-block_time g c = record {
+  gives =
+      exit _ (err_from_is_err_and c.from_residual-in_err-block_time.result c.from_residual-in_err-block_time.ensures.1)
+      (then_stops _ (then_consumes _ (then_consumes _ (begins (is_variable c.args.blocking) _) c.in_ok-size.ensures.gives) c.in_ok-channel_assignment.ensures.gives) c.in_err-block_time.ensures.gives);
+}
 
 pub returns-in_err-block_size : goal.returns-in_err-block_size
-returns-in_err-block_size g c =
-    exit _ (err_from_is_err_and c.from_residual-in_err-block_size.result c.from_residual-in_err-block_size.ensures.1)
-    (then_stops _ (then_consumes _ (then_consumes _ (then_consumes _ (begins (is_variable c.args.blocking) _) c.in_ok-size.ensures.gives) c.in_ok-channel_assignment.ensures.gives) c.in_ok-block_time.ensures) c.in_err-block_size.ensures.gives)
+returns-in_err-block_size g c = record {
+  gives =
+      exit _ (err_from_is_err_and c.from_residual-in_err-block_size.result c.from_residual-in_err-block_size.ensures.1)
+      (then_stops _ (then_consumes _ (then_consumes _ (then_consumes _ (begins (is_variable c.args.blocking) _) c.in_ok-size.ensures.gives) c.in_ok-channel_assignment.ensures.gives) c.in_ok-block_time.ensures.gives) c.in_err-block_size.ensures.gives);
+}
 
 pub returns-in_err-sample_rate : goal.returns-in_err-sample_rate
-returns-in_err-sample_rate g c =
-    exit _ (err_from_is_err_and c.from_residual-in_err-sample_rate.result c.from_residual-in_err-sample_rate.ensures.1)
-    (then_stops _ (then_consumes _ (then_consumes _ (then_consumes _ (then_consumes _ (begins (is_variable c.args.blocking) _) c.in_ok-size.ensures.gives) c.in_ok-channel_assignment.ensures.gives) c.in_ok-block_time.ensures) c.in_ok-block_size.ensures.gives)
-    c.in_err-sample_rate.ensures)
+returns-in_err-sample_rate g c = record {
+  gives =
+      exit _ (err_from_is_err_and c.from_residual-in_err-sample_rate.result c.from_residual-in_err-sample_rate.ensures.1)
+      (then_stops _ (then_consumes _ (then_consumes _ (then_consumes _ (then_consumes _ (begins (is_variable c.args.blocking) _) c.in_ok-size.ensures.gives) c.in_ok-channel_assignment.ensures.gives) c.in_ok-block_time.ensures.gives) c.in_ok-block_size.ensures.gives)
+      c.in_err-sample_rate.ensures.gives);
+}
 
 pub returns : goal.returns
-returns g c =
-    then_consumes _ (then_consumes _ (then_consumes _ (then_consumes _ (then_consumes _ (begins (is_variable c.args.blocking) _) c.in_ok-size.ensures.gives) c.in_ok-channel_assignment.ensures.gives) c.in_ok-block_time.ensures) c.in_ok-block_size.ensures.gives)
-    c.in_ok-sample_rate.ensures
+returns g c = record {
+  gives =
+      then_consumes _ (then_consumes _ (then_consumes _ (then_consumes _ (then_consumes _ (begins (is_variable c.args.blocking) _) c.in_ok-size.ensures.gives) c.in_ok-channel_assignment.ensures.gives) c.in_ok-block_time.ensures.gives) c.in_ok-block_size.ensures.gives)
+      c.in_ok-sample_rate.ensures.gives;
+}

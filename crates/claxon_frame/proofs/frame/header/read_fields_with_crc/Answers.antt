@@ -17,34 +17,42 @@ use Rattle.claxon_frame.proofs.frame.header.read_fields_with_crc.Goals as goal
 
 pub returns-in_err-fields : goal.returns-in_err-fields
 unfolding fields_with_crc_at
-returns-in_err-fields g c =
-    let h = exit_or_eof 2 fields_view fields_with_crc_at (err_from_is_err_and c.from_residual.result c.from_residual.ensures.1)
-    (first_stops 2 (fields_at big_at) fields_with_crc_at (record { fault = λ s f rest e. rw e refl; incomplete = λ s e. rw e refl }) c.in_err-fields.ensures) in
-    let k = gives_or_eof_through g.R.ReadBytes.source c.args.input.now _ c.new-input.result c.read_fields_or_eof.new.input 2 fields_view c.from_residual.result fields_with_crc_at c.new-input.ensures.source h in
-    search (rules, k.0, k.1)
+returns-in_err-fields g c = record {
+  gives =
+      let h = exit_or_eof 2 fields_view fields_with_crc_at (err_from_is_err_and c.from_residual.result c.from_residual.ensures.1)
+      (first_stops 2 (fields_at big_at) fields_with_crc_at (record { fault = λ s f rest e. rw e refl; incomplete = λ s e. rw e refl }) c.in_err-fields.ensures.gives) in
+      let k = gives_or_eof_through g.R.ReadBytes.source c.args.input.now _ c.new-input.result c.read_fields_or_eof.new.input 2 fields_view c.from_residual.result fields_with_crc_at c.new-input.ensures.source h in
+      search (rules, k.0, k.1);
+}
 
 pub returns-in_default : goal.returns-in_default
-returns-in_default g c =
-    let none : Result (Option HeaderFields) Error = Ok None in
-    let k = gives_or_eof_through g.R.ReadBytes.source c.args.input.now _ c.new-input.result c.read_fields_or_eof.new.input 2 fields_view none fields_with_crc_at c.new-input.ensures.source (rw c.in_default.is at c.in_ok-fields.ensures) in
-    search (rules, k.0, k.1)
+returns-in_default g c = record {
+  gives =
+      let none : Result (Option HeaderFields) Error = Ok None in
+      let k = gives_or_eof_through g.R.ReadBytes.source c.args.input.now _ c.new-input.result c.read_fields_or_eof.new.input 2 fields_view none fields_with_crc_at c.new-input.ensures.source (rw c.in_default.is at c.in_ok-fields.ensures.gives) in
+      search (rules, k.0, k.1);
+}
 
 pub returns-in_err-check_header_crc : goal.returns-in_err-check_header_crc
 unfolding bytes_in
-returns-in_err-check_header_crc g c =
-    let h = exit_or_eof 2 fields_view fields_with_crc_at (err_from_is_err_and c.from_residual-in_err-check_header_crc.result c.from_residual-in_err-check_header_crc.ensures.1)
-    (some_stops 2 fields_with_crc_at (and_then (crc_at 1 c.value-computed.result HeaderCrc) (λ u. done (fields_view c.in-Some.fields)))
-    (header_crc_next _ _ _ _ c.value-computed.result (fields_view c.in-Some.fields) c.new-input.ensures.state c.value-computed.ensures c.value-computed.type_inv (rw c.in-Some.is at c.in_ok-fields.ensures))
-    (stops_after {next = and_then (crc_at 1 c.value-computed.result HeaderCrc) (λ u. done (fields_view c.in-Some.fields))} (consumes_none _ _ refl) (record { fault = λ s f rest e. rw e refl; incomplete = λ s e. rw e refl }) c.in_err-check_header_crc.ensures)) in
-    let k = gives_or_eof_through g.R.ReadBytes.source c.args.input.now _ c.new-input.result c.check_header_crc.new.input 2 fields_view c.from_residual-in_err-check_header_crc.result fields_with_crc_at c.new-input.ensures.source h in
-    search (rules, k.0, k.1)
+returns-in_err-check_header_crc g c = record {
+  gives =
+      let h = exit_or_eof 2 fields_view fields_with_crc_at (err_from_is_err_and c.from_residual-in_err-check_header_crc.result c.from_residual-in_err-check_header_crc.ensures.1)
+      (some_stops 2 fields_with_crc_at (and_then (crc_at 1 c.value-computed.result HeaderCrc) (λ u. done (fields_view c.in-Some.fields)))
+      (header_crc_next _ _ _ _ c.value-computed.result (fields_view c.in-Some.fields) c.new-input.ensures.state c.value-computed.ensures c.value-computed.type_inv (rw c.in-Some.is at c.in_ok-fields.ensures.gives))
+      (stops_after {next = and_then (crc_at 1 c.value-computed.result HeaderCrc) (λ u. done (fields_view c.in-Some.fields))} (consumes_none _ _ refl) (record { fault = λ s f rest e. rw e refl; incomplete = λ s e. rw e refl }) c.in_err-check_header_crc.ensures.gives)) in
+      let k = gives_or_eof_through g.R.ReadBytes.source c.args.input.now _ c.new-input.result c.check_header_crc.new.input 2 fields_view c.from_residual-in_err-check_header_crc.result fields_with_crc_at c.new-input.ensures.source h in
+      search (rules, k.0, k.1);
+}
 
 pub returns : goal.returns
 unfolding bytes_in
-returns g c =
-    let found : Result (Option HeaderFields) Error = Ok (Some c.in-Some.fields) in
-    let k = gives_or_eof_through g.R.ReadBytes.source c.args.input.now _ c.new-input.result c.check_header_crc.new.input 2 fields_view found fields_with_crc_at c.new-input.ensures.source
-    (some_ok 2 fields_with_crc_at (and_then (crc_at 1 c.value-computed.result HeaderCrc) (λ u. done (fields_view c.in-Some.fields)))
-    (header_crc_next _ _ _ _ c.value-computed.result (fields_view c.in-Some.fields) c.new-input.ensures.state c.value-computed.ensures c.value-computed.type_inv (rw c.in-Some.is at c.in_ok-fields.ensures))
-    (consumes_map _ c.in_ok-check_header_crc.ensures (λ p. rw p refl))) in
-    search (rules, k.0, k.1)
+returns g c = record {
+  gives =
+      let found : Result (Option HeaderFields) Error = Ok (Some c.in-Some.fields) in
+      let k = gives_or_eof_through g.R.ReadBytes.source c.args.input.now _ c.new-input.result c.check_header_crc.new.input 2 fields_view found fields_with_crc_at c.new-input.ensures.source
+      (some_ok 2 fields_with_crc_at (and_then (crc_at 1 c.value-computed.result HeaderCrc) (λ u. done (fields_view c.in-Some.fields)))
+      (header_crc_next _ _ _ _ c.value-computed.result (fields_view c.in-Some.fields) c.new-input.ensures.state c.value-computed.ensures c.value-computed.type_inv (rw c.in-Some.is at c.in_ok-fields.ensures.gives))
+      (consumes_map _ c.in_ok-check_header_crc.ensures.gives (λ p. rw p refl))) in
+      search (rules, k.0, k.1);
+}

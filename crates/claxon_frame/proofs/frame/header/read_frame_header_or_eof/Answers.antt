@@ -32,7 +32,7 @@ stops_with stream = record {
 pub returns-in_err-fields-clause-is_read : goal.returns-in_err-fields-clause-is_read
 returns-in_err-fields-clause-is_read g c =
     exit_or_eof 2 _ (start_at (stream_format_view c.args.stream)) (err_from_is_err_and c.from_residual.result c.from_residual.ensures.1)
-    (first_stops 2 fields_with_crc_at (start_at (stream_format_view c.args.stream)) (stops_with (stream_format_view c.args.stream)) c.in_err-fields.ensures)
+    (first_stops 2 fields_with_crc_at (start_at (stream_format_view c.args.stream)) (stops_with (stream_format_view c.args.stream)) c.in_err-fields.ensures.gives)
 
 pub returns-in_err-bit_depth-clause-is_read : goal.returns-in_err-bit_depth-clause-is_read
 unfolding start_after
@@ -40,7 +40,7 @@ returns-in_err-bit_depth-clause-is_read g c =
     let stream = stream_format_view c.args.stream in
     let f = fields_view c.in-Some.fields in
     exit_or_eof 2 _ (start_at stream) (err_from_is_err_and c.from_residual-in_err-bit_depth.result c.from_residual-in_err-bit_depth.ensures.1)
-    (some_stops 2 (start_at stream) (start_after stream f) (after_first 2 fields_with_crc_at (start_at stream) (start_after stream f) (after_crc stream f) (rw c.in-Some.is at c.in_ok-fields.ensures))
+    (some_stops 2 (start_at stream) (start_after stream f) (after_first 2 fields_with_crc_at (start_at stream) (start_after stream f) (after_crc stream f) (rw c.in-Some.is at c.in_ok-fields.ensures.gives))
     (stops_after {next = start_after stream f} (consumes_none _ _ refl) (record { fault = λ s x rest e. rw e refl; incomplete = λ s e. rw e refl }) (c.in_err-bit_depth.ensures.gives _)))
 
 pub returns-clause-is_read : goal.returns-clause-is_read
@@ -48,7 +48,7 @@ unfolding start_after
 returns-clause-is_read g c =
     let stream = stream_format_view c.args.stream in
     let f = fields_view c.in-Some.fields in
-    some_ok 2 (start_at stream) (start_after stream f) (after_first 2 fields_with_crc_at (start_at stream) (start_after stream f) (after_crc stream f) (rw c.in-Some.is at c.in_ok-fields.ensures))
+    some_ok 2 (start_at stream) (start_after stream f) (after_first 2 fields_with_crc_at (start_at stream) (start_after stream f) (after_crc stream f) (rw c.in-Some.is at c.in_ok-fields.ensures.gives))
     (consumes_map _ (c.in_ok-bit_depth.ensures.gives _) (λ p. rw (p, c.time_of_block.ensures, given_by_code c.in-Some.fields.bit_depth c.in-Some.fields.has_code) refl))
 
 pub returns-in_err-bit_depth-clause-no_memory : goal.returns-in_err-bit_depth-clause-no_memory
@@ -60,16 +60,16 @@ returns-in_err-bit_depth-clause-no_memory g c =
 
 pub returns-in_err-fields-clause-keeps_loans : goal.returns-in_err-fields-clause-keeps_loans
 unfolding bytes_in
-returns-in_err-fields-clause-keeps_loans g c = gives_or_eof_loans 2 fields_view c.read_fields_with_crc.result fields_with_crc_at _ _ c.read_fields_with_crc.ensures
+returns-in_err-fields-clause-keeps_loans g c = gives_or_eof_loans 2 fields_view c.read_fields_with_crc.result fields_with_crc_at _ _ c.read_fields_with_crc.ensures.gives
 
 pub returns-in_default-clause-keeps_loans : goal.returns-in_default-clause-keeps_loans
 unfolding bytes_in
-returns-in_default-clause-keeps_loans g c = gives_or_eof_loans 2 fields_view c.read_fields_with_crc.result fields_with_crc_at _ _ c.read_fields_with_crc.ensures
+returns-in_default-clause-keeps_loans g c = gives_or_eof_loans 2 fields_view c.read_fields_with_crc.result fields_with_crc_at _ _ c.read_fields_with_crc.ensures.gives
 
 pub returns-in_err-bit_depth-clause-keeps_loans : goal.returns-in_err-bit_depth-clause-keeps_loans
 unfolding bytes_in
-returns-in_err-bit_depth-clause-keeps_loans g c = gives_or_eof_loans 2 fields_view c.read_fields_with_crc.result fields_with_crc_at _ _ c.read_fields_with_crc.ensures
+returns-in_err-bit_depth-clause-keeps_loans g c = gives_or_eof_loans 2 fields_view c.read_fields_with_crc.result fields_with_crc_at _ _ c.read_fields_with_crc.ensures.gives
 
 pub returns-clause-keeps_loans : goal.returns-clause-keeps_loans
 unfolding bytes_in
-returns-clause-keeps_loans g c = gives_or_eof_loans 2 fields_view c.read_fields_with_crc.result fields_with_crc_at _ _ c.read_fields_with_crc.ensures
+returns-clause-keeps_loans g c = gives_or_eof_loans 2 fields_view c.read_fields_with_crc.result fields_with_crc_at _ _ c.read_fields_with_crc.ensures.gives

@@ -20,4 +20,4 @@ no_field code s small =
     rw (kilohertz, none, hertz, tens, whole) refl
 
 pub returns-in_default : goal.returns-in_default
-returns-in_default g c = rw c.common_rate_of.ensures (consumes_none _ _ (no_field c.args.code _ (omega arith)))
+returns-in_default g c = record { gives = rw c.common_rate_of.ensures (consumes_none _ _ (no_field c.args.code _ (omega arith))) }

@@ -6,8 +6,7 @@ use Rattle.claxon_frame.proofs.ContinuationBytes.{one_byte, more_bytes, coded_go
 use Rattle.claxon_frame.proofs.frame.header.read_var_length_int.Goals as goal
 
 pub returns-then-ones-eq0 : goal.returns-then-ones-eq0
-returns-then-ones-eq0 g c =
-    rw c.from.ensures (consumes_map _ (consumes_byte g.R.ReadBytes.source c.in_ok-first.first (search rules) c.in_ok-first.ensures.is_sound) (λ p. coded_one _ _ (one_byte c.in_ok-first.first c.leading_ones-ones.result (search rules) c.leading_ones-ones.ensures c.if-ones-eq0.true) p))
+returns-then-ones-eq0 g c = record { gives = rw c.from.ensures (consumes_map _ (consumes_byte g.R.ReadBytes.source c.in_ok-first.first (search rules) c.in_ok-first.ensures.is_sound) (λ p. coded_one _ _ (one_byte c.in_ok-first.first c.leading_ones-ones.result (search rules) c.leading_ones-ones.ensures c.if-ones-eq0.true) p)) }
 
 pub read_continuation_bytes-requires-clause-number : goal.read_continuation_bytes-requires-clause-number
 read_continuation_bytes-requires-clause-number g c =
@@ -16,7 +15,9 @@ read_continuation_bytes-requires-clause-number g c =
     rw c.from-2.ensures m.1.0
 
 pub returns : goal.returns
-returns g c =
-    let good : bad_first c.in_ok-first.first ≡ false = search rules in
-    let m = more_bytes c.in_ok-first.first c.leading_ones-ones.result (search rules) c.leading_ones-ones.ensures c.if-ones-eq0.false good in
-    gives_after _ c.read_continuation_bytes.result _ (consumes_map _ (consumes_byte g.R.ReadBytes.source c.in_ok-first.first (search rules) c.in_ok-first.ensures.is_sound) (λ p. rw c.from-2.ensures (coded_good _ _ m.0 p))) c.read_continuation_bytes.ensures
+returns g c = record {
+  gives =
+      let good : bad_first c.in_ok-first.first ≡ false = search rules in
+      let m = more_bytes c.in_ok-first.first c.leading_ones-ones.result (search rules) c.leading_ones-ones.ensures c.if-ones-eq0.false good in
+      gives_after _ c.read_continuation_bytes.result _ (consumes_map _ (consumes_byte g.R.ReadBytes.source c.in_ok-first.first (search rules) c.in_ok-first.ensures.is_sound) (λ p. rw c.from-2.ensures (coded_good _ _ m.0 p))) c.read_continuation_bytes.ensures.gives;
+}

@@ -15,10 +15,12 @@ loop-i-preserved c =
     zipped_next _ in_left in_side in_new in_side c.loop-i.invariant (left_side_is _ _ fl fs ∙ ap (right_of 8 _) (zipped_here in_new in_side c.loop-i.invariant))
 
 pub returns : goal.returns
-returns c n e =
-    let split = c.split_at_mut-left.ensures in
-    let left : length c.split_at_mut-left.result.0.now ≡ n = omega (arith, split.front_len) in
-    let side : length c.split_at_mut-left.result.1.now ≡ n = omega (arith, split.back_len) in
-    let new : length c.loop-i.side ≡ n = omega (arith, c.loop-i.auto.side) in
-    halves_are 8 n _ _ _ _ left side left new (zipped_first _ _ (left ∙ sym side)) (zipped_end (omega arith) (omega arith) (omega arith) c.loop-i.invariant)
-    ∙ ap (λ t. decoded_pair 8 (chunks 2 n t)) (sym split.value)
+returns c = record {
+  pair_is_decoded = λ n e.
+      let split = c.split_at_mut-left.ensures in
+      let left : length c.split_at_mut-left.result.0.now ≡ n = omega (arith, split.front_len) in
+      let side : length c.split_at_mut-left.result.1.now ≡ n = omega (arith, split.back_len) in
+      let new : length c.loop-i.side ≡ n = omega (arith, c.loop-i.auto.side) in
+      halves_are 8 n _ _ _ _ left side left new (zipped_first _ _ (left ∙ sym side)) (zipped_end (omega arith) (omega arith) (omega arith) c.loop-i.invariant)
+      ∙ ap (λ t. decoded_pair 8 (chunks 2 n t)) (sym split.value);
+}

@@ -21,11 +21,13 @@ loop-i-preserved c =
     }
 
 pub returns : goal.returns
-returns c n e =
-    let split = c.split_at_mut-mid.ensures in
-    let mid : length c.split_at_mut-mid.result.0.now ≡ n = omega (arith, split.front_len) in
-    let side : length c.split_at_mut-mid.result.1.now ≡ n = omega (arith, split.back_len) in
-    let new_mid : length c.loop-i.mid ≡ n = omega (arith, c.loop-i.auto.mid) in
-    let new_side : length c.loop-i.side ≡ n = omega (arith, c.loop-i.auto.side) in
-    halves_are 10 n _ _ _ _ mid side new_mid new_side (zipped_end (omega arith) (omega arith) (omega arith) c.loop-i.invariant.left) (zipped_end (omega arith) (omega arith) (omega arith) c.loop-i.invariant.right)
-    ∙ ap (λ t. decoded_pair 10 (chunks 2 n t)) (sym split.value)
+returns c = record {
+  pair_is_decoded = λ n e.
+      let split = c.split_at_mut-mid.ensures in
+      let mid : length c.split_at_mut-mid.result.0.now ≡ n = omega (arith, split.front_len) in
+      let side : length c.split_at_mut-mid.result.1.now ≡ n = omega (arith, split.back_len) in
+      let new_mid : length c.loop-i.mid ≡ n = omega (arith, c.loop-i.auto.mid) in
+      let new_side : length c.loop-i.side ≡ n = omega (arith, c.loop-i.auto.side) in
+      halves_are 10 n _ _ _ _ mid side new_mid new_side (zipped_end (omega arith) (omega arith) (omega arith) c.loop-i.invariant.left) (zipped_end (omega arith) (omega arith) (omega arith) c.loop-i.invariant.right)
+      ∙ ap (λ t. decoded_pair 10 (chunks 2 n t)) (sym split.value);
+}
