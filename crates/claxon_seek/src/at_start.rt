@@ -25,7 +25,7 @@ pub fn head_at_start(
     bytes: &[u8],
     taken: &mut usize,
 ) -> Result<(StreamInfo, Option<VorbisComment>)>
-    ensures { HeadAtStart head_view bytes.now result taken.new }
+    ensures at_start { HeadAtStart head_view bytes.now result taken.new }
 {
     let options = FlacReaderOptions {
         metadata_only: false,
@@ -49,7 +49,7 @@ pub fn block_at_start(
     taken: &mut usize,
 ) -> FrameResult
     requires { IfSome known (λ info. HasBitDepth info) }
-    ensures { FrameAtStart (option_map stream_with known) bytes.now result taken.new }
+    ensures at_start { FrameAtStart (option_map stream_with known) bytes.now result taken.new }
 {
     block_in_buffer(Vec::new(alloc), bytes, known, taken)
 }
@@ -62,7 +62,7 @@ pub(crate) fn block_in_buffer(
     taken: &mut usize,
 ) -> FrameResult
     requires { IfSome known (λ info. HasBitDepth info) }
-    ensures { FrameAtStart (option_map stream_with known) bytes.now result taken.new }
+    ensures at_start { FrameAtStart (option_map stream_with known) bytes.now result taken.new }
 {
     let mut frames = frames_of(bytes, known);
     let found = frames.read_next_or_eof(buffer);

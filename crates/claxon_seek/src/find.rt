@@ -91,7 +91,7 @@ pub(crate) fn find(
     budget: &mut u64,
 ) -> Result<Search>
     requires { IfSome known (λ info. HasBitDepth info) }
-    ensures { FindGives known sample bytes.now from budget.old result budget.new }
+    ensures gives { FindGives known sample bytes.now from budget.old result budget.new }
 {
     let mut undecided = from.max(bytes.len());
     for position in from..bytes.len() {
@@ -127,7 +127,7 @@ pub(crate) fn wanted_header(
     sample: Option<u64>,
 ) -> HeaderThere
     requires { IfSome known.now (λ info. HasBitDepth info) }
-    ensures { WantedHeaderAtStart known.now sample bytes.now result }
+    ensures at_start { WantedHeaderAtStart known.now sample bytes.now result }
 {
     if lacks_sync_code(bytes) || has_invalid_rate(bytes) {
         return HeaderThere::NotWanted;
@@ -138,7 +138,7 @@ pub(crate) fn wanted_header(
 #[inline(never)]
 fn read_wanted_header(bytes: &[u8], known: &Option<StreamInfo>, sample: Option<u64>) -> HeaderThere
     requires { IfSome known.now (λ info. HasBitDepth info) }
-    ensures { WantedHeaderAtStart known.now sample bytes.now result }
+    ensures at_start { WantedHeaderAtStart known.now sample bytes.now result }
 {
     match header_at_start(bytes, *known) {
         Ok(Some(block)) => {
@@ -197,7 +197,7 @@ pub(crate) fn frame_at_start(
     known: Option<StreamInfo>,
 ) -> Result<FrameThere>
     requires { IfSome known (λ info. HasBitDepth info) }
-    ensures { FrameIsAtStart known bytes.now result }
+    ensures is_at_start { FrameIsAtStart known bytes.now result }
 {
     let mut taken = 0;
     match block_at_start(alloc, bytes, known, &mut taken) {

@@ -119,7 +119,7 @@ impl Span {
         requires after_start { self.now.start ≤ from }
         requires before_end { from ≤ self.now.end }
         requires found { IfSome found (λ f. (from ≤ f.position) × (f.position < self.now.end)) }
-        ensures { StepsWithin self.now.start self.now.end from result }
+        ensures steps_within { StepsWithin self.now.start self.now.end from result }
     {
         match found {
             Some(found) if holds_sample(&found.block, Some(sample)) => Step::There(found.position),

@@ -474,14 +474,14 @@ fn is_cut(found: &FrameResult) -> bool
 }
 
 fn too_large() -> Error
-    ensures { IsIo result }
+    ensures is_io { IsIo result }
 {
     let cause = "a frame of more than 16 MiB";
     Error::IoError(io::Error::new(io::ErrorKind::InvalidData, cause))
 }
 
 fn too_many_headers() -> Error
-    ensures { IsIo result }
+    ensures is_io { IsIo result }
 {
     let cause = "too many headers lead to no frame";
     Error::IoError(io::Error::new(io::ErrorKind::InvalidData, cause))

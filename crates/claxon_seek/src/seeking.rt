@@ -137,7 +137,7 @@ fn block_there(
 ) -> Result<Option<FoundBlock>>
     requires depth { IfSome known (λ info. HasBitDepth info) }
     requires inside { position ≤ length bytes.now }
-    ensures { BlockThere known bytes.now position sample result }
+    ensures there { BlockThere known bytes.now position sample result }
 {
     let rest = &bytes[position..];
     let HeaderThere::Wanted(info) = wanted_header(rest, &known, Some(sample)) else {

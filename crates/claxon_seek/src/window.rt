@@ -125,7 +125,7 @@ impl<R: Read + Seek> Window<R> {
 
     // Reads on until so many bytes are pending. Returns whether there were so many.
     pub(crate) fn fill(&mut self, wanted: usize) -> Result<bool>
-        ensures pending { ReadsOn (pending self.old) (pending self.new) }
+        ensures reads_on { ReadsOn (pending self.old) (pending self.new) }
         ensures place { place self.new ≡ place self.old }
         ensures is_io_or_memory { IfErr result IsIoOrMemory }
     {
@@ -139,7 +139,7 @@ impl<R: Read + Seek> Window<R> {
 
     // Reads more bytes after those that are pending. Returns whether there were any.
     fn read_more(&mut self) -> Result<bool>
-        ensures pending { ReadsOn (pending self.old) (pending self.new) }
+        ensures reads_on { ReadsOn (pending self.old) (pending self.new) }
         ensures place { place self.new ≡ place self.old }
         ensures is_io_or_memory { IfErr result IsIoOrMemory }
         ensures more { IfOk result (λ more. IsTrue more →

@@ -15,4 +15,4 @@ returns c =
     let remains = slice_remains old (frame_input old) c.args.bytes refl c.frames_of-frames.ensures.position c.frames_of-frames.ensures.inner in
     let reads = known_as {a = slice_bytes old} {b = slice_bytes new} c.frames_of-frames.ensures.stream (reads_frame _ e.is_sound e.is_complete e.none_is_eof e.eof_is_none e.failure_is_err e.fault_is_sound e.fault_is_complete e.else_io_error e.leaves_rest e.out_of_memory_after_header e.is_read) in
     let m = slice_frame_promises stream c.args.bytes.now (slice_bytes old) (slice_bytes new) remains (slice_never_fails old new) c.read_next_or_eof-found.result reads e.eof_is_none in
-    frame_at_start c.args.bytes.now (slice_bytes old) (frame_input new) c.saturating_sub.result remains (search rules) stream c.read_next_or_eof-found.result reads.promises.is_sound m
+    record { at_start = frame_at_start c.args.bytes.now (slice_bytes old) (frame_input new) c.saturating_sub.result remains (search rules) stream c.read_next_or_eof-found.result reads.promises.is_sound m }

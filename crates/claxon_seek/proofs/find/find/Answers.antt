@@ -14,7 +14,7 @@ loop-position-preserved-in-NotWanted c =
     let bytes = c.args.bytes.now in
     let at = c.loop-position.position in
     not_wanted_there k smp bytes c.args.from c.args.budget.now c.loop-position.budget c.loop-position.undecided at c.loop-position.invariant c.loop-position-test.true
-    (subst (λ (s : List ℕ). WantedHeaderAtStart k smp s NotWanted) (rest_is bytes at) (rw c.in-NotWanted.is at c.wanted_header.ensures))
+    (subst (λ (s : List ℕ). WantedHeaderAtStart k smp s NotWanted) (rest_is bytes at) (rw c.in-NotWanted.is at c.wanted_header.ensures.at_start))
 
 pub loop-position-preserved-in-CutHeader : goal.loop-position-preserved-in-CutHeader
 loop-position-preserved-in-CutHeader c =
@@ -23,7 +23,7 @@ loop-position-preserved-in-CutHeader c =
     let bytes = c.args.bytes.now in
     let at = c.loop-position.position in
     rw c.min-undecided.ensures (cut_header_there k smp bytes c.args.from c.args.budget.now c.loop-position.budget c.loop-position.undecided at c.loop-position.invariant c.loop-position-test.true
-    (subst (λ (s : List ℕ). WantedHeaderAtStart k smp s CutHeader) (rest_is bytes at) (rw c.in-CutHeader.is at c.wanted_header.ensures)))
+    (subst (λ (s : List ℕ). WantedHeaderAtStart k smp s CutHeader) (rest_is bytes at) (rw c.in-CutHeader.is at c.wanted_header.ensures.at_start)))
 
 pub returns-in-Whole : goal.returns-in-Whole
 returns-in-Whole c =
@@ -32,10 +32,10 @@ returns-in-Whole c =
     let bytes = c.args.bytes.now in
     let at = c.loop-position.position in
     let info = c.in-Wanted.block in
-    let wanted : WantedHeader k smp (drop at bytes) info = subst (λ (s : List ℕ). WantedHeader k smp s info) (rest_is bytes at) (rw c.in-Wanted.is at c.wanted_header.ensures) in
+    let wanted : WantedHeader k smp (drop at bytes) info = subst (λ (s : List ℕ). WantedHeader k smp s info) (rest_is bytes at) (rw c.in-Wanted.is at c.wanted_header.ensures.at_start) in
     let fits : info.channels * info.duration ≤ c.loop-position.budget = grind (arith, nat_tests, rw (c.from.ensures, c.from-in-loop-position.ensures) at c.if-samples-budget.false) in
-    let there : FrameIsAtStart k (drop at bytes) (Ok Whole) = subst (λ (s : List ℕ). FrameIsAtStart k s (Ok Whole)) (rest_is bytes at) (rw (c.in_ok-frame_at_start.was, c.in-Whole.is) at c.frame_at_start.ensures) in
-    rw (c.from.ensures, c.from-in-loop-position.ensures) (whole_frame_there k smp bytes c.args.from c.args.budget.now c.loop-position.budget c.loop-position.undecided at c.loop-position.invariant c.loop-position-test.true info wanted fits there)
+    let there : FrameIsAtStart k (drop at bytes) (Ok Whole) = subst (λ (s : List ℕ). FrameIsAtStart k s (Ok Whole)) (rest_is bytes at) (rw (c.in_ok-frame_at_start.was, c.in-Whole.is) at c.frame_at_start.ensures.is_at_start) in
+    record { gives = rw (c.from.ensures, c.from-in-loop-position.ensures) (whole_frame_there k smp bytes c.args.from c.args.budget.now c.loop-position.budget c.loop-position.undecided at c.loop-position.invariant c.loop-position-test.true info wanted fits there) }
 
 pub loop-position-preserved-in-Faulty : goal.loop-position-preserved-in-Faulty
 loop-position-preserved-in-Faulty c =
@@ -44,9 +44,9 @@ loop-position-preserved-in-Faulty c =
     let bytes = c.args.bytes.now in
     let at = c.loop-position.position in
     let info = c.in-Wanted.block in
-    let wanted : WantedHeader k smp (drop at bytes) info = subst (λ (s : List ℕ). WantedHeader k smp s info) (rest_is bytes at) (rw c.in-Wanted.is at c.wanted_header.ensures) in
+    let wanted : WantedHeader k smp (drop at bytes) info = subst (λ (s : List ℕ). WantedHeader k smp s info) (rest_is bytes at) (rw c.in-Wanted.is at c.wanted_header.ensures.at_start) in
     let fits : info.channels * info.duration ≤ c.loop-position.budget = grind (arith, nat_tests, rw (c.from.ensures, c.from-in-loop-position.ensures) at c.if-samples-budget.false) in
-    let there : FrameIsAtStart k (drop at bytes) (Ok Faulty) = subst (λ (s : List ℕ). FrameIsAtStart k s (Ok Faulty)) (rest_is bytes at) (rw (c.in_ok-frame_at_start.was, c.in-Faulty.is) at c.frame_at_start.ensures) in
+    let there : FrameIsAtStart k (drop at bytes) (Ok Faulty) = subst (λ (s : List ℕ). FrameIsAtStart k s (Ok Faulty)) (rest_is bytes at) (rw (c.in_ok-frame_at_start.was, c.in-Faulty.is) at c.frame_at_start.ensures.is_at_start) in
     rw (c.from.ensures, c.from-in-loop-position.ensures) (faulty_frame_there k smp bytes c.args.from c.args.budget.now c.loop-position.budget c.loop-position.undecided at c.loop-position.invariant c.loop-position-test.true info wanted fits there)
 
 pub loop-position-preserved : goal.loop-position-preserved
@@ -56,10 +56,10 @@ loop-position-preserved c =
     let bytes = c.args.bytes.now in
     let at = c.loop-position.position in
     let info = c.in-Wanted.block in
-    let wanted : WantedHeader k smp (drop at bytes) info = subst (λ (s : List ℕ). WantedHeader k smp s info) (rest_is bytes at) (rw c.in-Wanted.is at c.wanted_header.ensures) in
+    let wanted : WantedHeader k smp (drop at bytes) info = subst (λ (s : List ℕ). WantedHeader k smp s info) (rest_is bytes at) (rw c.in-Wanted.is at c.wanted_header.ensures.at_start) in
     let fits : info.channels * info.duration ≤ c.loop-position.budget = grind (arith, nat_tests, rw (c.from.ensures, c.from-in-loop-position.ensures) at c.if-samples-budget.false) in
-    let there : FrameIsAtStart k (drop at bytes) (Ok CutFrame) = subst (λ (s : List ℕ). FrameIsAtStart k s (Ok CutFrame)) (rest_is bytes at) (rw (c.in_ok-frame_at_start.was, c.in-CutFrame.is) at c.frame_at_start.ensures) in
+    let there : FrameIsAtStart k (drop at bytes) (Ok CutFrame) = subst (λ (s : List ℕ). FrameIsAtStart k s (Ok CutFrame)) (rest_is bytes at) (rw (c.in_ok-frame_at_start.was, c.in-CutFrame.is) at c.frame_at_start.ensures.is_at_start) in
     rw (c.from.ensures, c.from-in-loop-position.ensures, c.min-undecided-in-CutFrame.ensures) (cut_frame_there k smp bytes c.args.from c.args.budget.now c.loop-position.budget c.loop-position.undecided at c.loop-position.invariant c.loop-position-test.true info wanted fits there)
 
 pub returns : goal.returns
-returns c = nothing_found c.args.known c.args.sample c.args.bytes.now c.args.from c.args.budget.now c.loop-position.budget c.loop-position.undecided c.loop-position.position c.loop-position.invariant (grind (arith, nat_tests, c.loop-position-test.false))
+returns c = record { gives = nothing_found c.args.known c.args.sample c.args.bytes.now c.args.from c.args.budget.now c.loop-position.budget c.loop-position.undecided c.loop-position.position c.loop-position.invariant (grind (arith, nat_tests, c.loop-position-test.false)) }

@@ -6,7 +6,7 @@ returns c =
     let a = c.args in
     let r = c.find.result in
     let left = c.find.new.budget in
-    let g = c.find.ensures in
+    let g = c.find.ensures.gives in
     record {
       found_is_first = found_is_first a.known a.bytes.now a.from a.budget.now r left g;
       first_is_found = first_is_found a.known a.bytes.now a.from a.budget.now r left g;

@@ -17,4 +17,4 @@ loop-preserved g c =
 
 pub returns-clause-gives : goal.returns-clause-gives
 returns-clause-gives g c =
-    refused (stream_with (shown_streaminfo c.args.self.now)) (bytes_read c.args.self.now) (bytes_read c.loop.self) c.too_large.result c.loop.invariant.0 c.loop.invariant.1 (inl c.too_large.ensures)
+    refused (stream_with (shown_streaminfo c.args.self.now)) (bytes_read c.args.self.now) (bytes_read c.loop.self) c.too_large.result c.loop.invariant.0 c.loop.invariant.1 (inl c.too_large.ensures.is_io)
