@@ -24,7 +24,7 @@ pub record CSeekBlockPromises (info : ClaxonInfo) (bytes : List ℕ) (sample bud
   pub is_complete : CSeekBlockIsComplete info bytes sample status
   pub no_more_is_none : CSeekNoMoreIsNone info bytes sample status
   pub none_is_no_more : CSeekNoneIsNoMore info bytes sample status
-  pub status_is_known : IsSeekBlockStatus status
+  pub is_seek_block_status : IsSeekBlockStatus status
   pub stops_over_budget : CSeekStopsOverBudget info bytes sample status budget
   pub out_of_memory_after_header : CSeekOutOfMemoryAfterHeader info bytes sample status
   pub is_kept : SeekBlockIsKept status from to block shown old new
@@ -58,7 +58,7 @@ module _ (info : ClaxonInfo) (bytes : List ℕ) (sample budget from : ℕ) (bloc
     is_complete = λ n said after frame. elim (k.is_complete n said after frame) [ inl is ↦ absurd (not_ok is) | inr up ↦ inr up ];
     no_more_is_none = k.no_more_is_none;
     none_is_no_more = k.none_is_no_more;
-    status_is_known = inl k.status_is_known;
+    is_seek_block_status = inl k.is_search_status;
     stops_over_budget = k.stops_over_budget;
     out_of_memory_after_header = k.out_of_memory_after_header;
     is_kept = record { frame = λ other. (refl, refl); samples = λ other. refl };
@@ -93,7 +93,7 @@ module _ (info : ClaxonInfo) (bytes : List ℕ) (sample budget from : ℕ) (bloc
       is_complete = λ n said later frame. inl (inl refl);
       no_more_is_none = λ q. absurd cc;
       none_is_no_more = λ none. absurd (none found.frame.position after found.frame.block wanted);
-      status_is_known = inl (inl refl);
+      is_seek_block_status = inl (inl refl);
       stops_over_budget = λ q. absurd cc;
       out_of_memory_after_header = λ q. absurd cc;
       is_kept = record { frame = λ other. absurd (other (inl refl)); samples = λ other. absurd (other refl) };
@@ -111,7 +111,7 @@ module _ (info : ClaxonInfo) (bytes : List ℕ) (sample budget from : ℕ) (bloc
       is_complete = λ n said later frame. inl (inr refl);
       no_more_is_none = λ q. absurd cc;
       none_is_no_more = λ none. absurd (none found.frame.position after found.frame.block wanted);
-      status_is_known = inr refl;
+      is_seek_block_status = inr refl;
       stops_over_budget = λ q. absurd cc;
       out_of_memory_after_header = λ q. absurd cc;
       is_kept = record { frame = λ other. absurd (other (inr refl)); samples = λ other. same };

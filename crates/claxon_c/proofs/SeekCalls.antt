@@ -27,7 +27,7 @@ pub record CFindPromises (info : ClaxonInfo) (bytes : List ℕ) (from status to 
   pub no_more_is_none : CNoMoreIsNone info bytes from status
   pub none_is_no_more : CNoneIsNoMore info bytes from status
   pub undecided_is_first : CUndecidedIsFirst info bytes from status to
-  pub status_is_known : IsSearchStatus status
+  pub is_search_status : IsSearchStatus status
   pub stops_over_budget : CStopsOverBudget info bytes from status to budget
   pub budget_is_spent : CBudgetIsSpent info bytes from status to budget left
   pub out_of_memory_after_header : CFindOutOfMemoryAfterHeader info bytes from status
@@ -61,7 +61,7 @@ module _ (info : ClaxonInfo) (bytes : List ℕ) (from budget left : ℕ) (block 
         no_more_is_none = λ is. absurd cc;
         none_is_no_more = λ none. absurd (none at.position g.0 at.block g.1);
         undecided_is_first = λ is. absurd cc;
-        status_is_known = inl refl;
+        is_search_status = inl refl;
         stops_over_budget = λ is. absurd cc;
         budget_is_spent = record { found = λ is. g.3; stopped = λ is. absurd cc; none = λ is. absurd cc };
         out_of_memory_after_header = λ is. absurd cc;
@@ -79,7 +79,7 @@ module _ (info : ClaxonInfo) (bytes : List ℕ) (from budget left : ℕ) (block 
         no_more_is_none = λ is. g.0;
         none_is_no_more = λ none. inl refl;
         undecided_is_first = λ is. (g.2, g.3, g.4);
-        status_is_known = inr (inl refl);
+        is_search_status = inr (inl refl);
         stops_over_budget = λ is. absurd cc;
         budget_is_spent = record { found = λ is. absurd cc; stopped = λ is. absurd cc; none = λ is. g.1 };
         out_of_memory_after_header = λ is. absurd cc;
@@ -97,7 +97,7 @@ module _ (info : ClaxonInfo) (bytes : List ℕ) (from budget left : ℕ) (block 
         no_more_is_none = λ is. absurd cc;
         none_is_no_more = λ none. inr (inl refl);
         undecided_is_first = λ is. absurd cc;
-        status_is_known = inr (inr (inl refl));
+        is_search_status = inr (inr (inl refl));
         stops_over_budget = λ is. (g.0, g.1);
         budget_is_spent = record { found = λ is. absurd cc; stopped = λ is. g.2; none = λ is. absurd cc };
         out_of_memory_after_header = λ is. absurd cc;
@@ -115,7 +115,7 @@ module _ (info : ClaxonInfo) (bytes : List ℕ) (from budget left : ℕ) (block 
         no_more_is_none = λ is. absurd cc;
         none_is_no_more = λ none. inr (inr refl);
         undecided_is_first = λ is. absurd cc;
-        status_is_known = inr (inr (inr refl));
+        is_search_status = inr (inr (inr refl));
         stops_over_budget = λ is. absurd cc;
         budget_is_spent = record { found = λ is. absurd cc; stopped = λ is. absurd cc; none = λ is. absurd cc };
         out_of_memory_after_header = λ is. g.1;
@@ -131,7 +131,7 @@ pub record CSeekPromises (info : ClaxonInfo) (bytes : List ℕ) (sample budget s
   pub is_complete : CSeekIsComplete info bytes sample status
   pub no_more_is_none : CSeekNoMoreIsNone info bytes sample status
   pub none_is_no_more : CSeekNoneIsNoMore info bytes sample status
-  pub status_is_known : IsSearchStatus status
+  pub is_search_status : IsSearchStatus status
   pub stops_over_budget : CSeekStopsOverBudget info bytes sample status budget
   pub out_of_memory_after_header : CSeekOutOfMemoryAfterHeader info bytes sample status
   pub is_kept : SeekIsKept status from to block shown
@@ -149,7 +149,7 @@ module _ (info : ClaxonInfo) (bytes : List ℕ) (sample budget from : ℕ) (bloc
         is_complete = λ n said after frame. inl refl;
         no_more_is_none = λ is. absurd cc;
         none_is_no_more = λ none. absurd (none at.position g.0 at.block g.1);
-        status_is_known = inl refl;
+        is_search_status = inl refl;
         stops_over_budget = λ is. absurd cc;
         out_of_memory_after_header = λ is. absurd cc;
         is_kept = λ no. absurd (no refl);
@@ -164,7 +164,7 @@ module _ (info : ClaxonInfo) (bytes : List ℕ) (sample budget from : ℕ) (bloc
         is_complete = λ n said after frame. absurd (g n after said frame);
         no_more_is_none = λ is. g;
         none_is_no_more = λ none. inl refl;
-        status_is_known = inr (inl refl);
+        is_search_status = inr (inl refl);
         stops_over_budget = λ is. absurd cc;
         out_of_memory_after_header = λ is. absurd cc;
         is_kept = λ no. (refl, refl);
@@ -179,7 +179,7 @@ module _ (info : ClaxonInfo) (bytes : List ℕ) (sample budget from : ℕ) (bloc
         is_complete = λ n said after frame. inr (inl refl);
         no_more_is_none = λ is. absurd cc;
         none_is_no_more = λ none. inr (inl refl);
-        status_is_known = inr (inr (inl refl));
+        is_search_status = inr (inr (inl refl));
         stops_over_budget = λ is. (to, g.0, g.1);
         out_of_memory_after_header = λ is. absurd cc;
         is_kept = λ no. (refl, refl);
@@ -194,7 +194,7 @@ module _ (info : ClaxonInfo) (bytes : List ℕ) (sample budget from : ℕ) (bloc
         is_complete = λ n said after frame. inr (inr refl);
         no_more_is_none = λ is. absurd cc;
         none_is_no_more = λ none. inr (inr refl);
-        status_is_known = inr (inr (inr refl));
+        is_search_status = inr (inr (inr refl));
         stops_over_budget = λ is. absurd cc;
         out_of_memory_after_header = λ is. g.1;
         is_kept = λ no. (refl, refl);

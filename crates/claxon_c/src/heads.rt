@@ -50,7 +50,7 @@ pub struct ClaxonInfo {
 
 impl ClaxonInfo {
     pub(crate) fn new(found: &StreamInfo, tags: usize, first_frame: usize) -> ClaxonInfo
-        ensures { InfoShows found.now tags first_frame result }
+        ensures shows { InfoShows found.now tags first_frame result }
     {
         ClaxonInfo {
             first_frame,

@@ -9,7 +9,7 @@ use claxon::interleave::interleave;
 // Writes all samples of the block, interleaved, to the front of the output.
 pub(crate) fn put_interleaved(block: &Block, samples: &mut [i32])
     requires { length block.now.channels * duration_of block.now.channels ≤ length samples.old }
-    ensures { InterleavedArePut block.now.channels samples.old samples.new }
+    ensures are_put { InterleavedArePut block.now.channels samples.old samples.new }
 {
     let duration = block.duration() as usize;
     let count = block.channels() as usize * duration;

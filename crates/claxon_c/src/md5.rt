@@ -14,7 +14,7 @@ use claxon_md5::Md5;
 /// Begins a sum: no samples are hashed yet.
 #[unsafe(no_mangle)]
 pub extern "C" fn claxon_md5_start(hasher: &mut Md5)
-    ensures { HasHashed hasher.new [] }
+    ensures has_hashed { HasHashed hasher.new [] }
 {
     *hasher = Md5::new();
 }

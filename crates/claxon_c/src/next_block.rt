@@ -1,5 +1,5 @@
 //! Blocks, one after another.
-ghost use Rattle.std.specs.Prelude.{◌≡◌, ◌↔◌, IfSome, IsTrue, length};
+ghost use Rattle.std.specs.Prelude.{◌↔◌, IfSome, IsTrue, length};
 ghost use Rattle.std.specs.Option.{option_map};
 ghost use Rattle.claxon.specs.FlacReader.{HasBitDepth};
 ghost use Rattle.claxon.specs.FrameReader.{stream_with};
@@ -56,7 +56,7 @@ pub struct ClaxonBlock {
 impl ClaxonBlock {
     // What the header says.
     pub(crate) fn from_header(info: &BlockInfo) -> ClaxonBlock
-        ensures { ShowsInfo info.now result }
+        ensures shows_info { ShowsInfo info.now result }
     {
         ClaxonBlock {
             time: info.time,
@@ -175,7 +175,7 @@ fn next_block(
     block: &mut ClaxonBlock,
     error: &mut [u8],
 ) -> Result<Block, u32>
-    ensures { NextBlock info.now bytes.now at.old capacity result at.new
+    ensures next_block { NextBlock info.now bytes.now at.old capacity result at.new
         block.old block.new error.old error.new }
 {
     let start = bytes.len().min(*at);
@@ -201,7 +201,7 @@ fn next_block(
 // What the header says with which the bytes begin, if there is one.
 fn header_there(bytes: &[u8], known: Option<StreamInfo>) -> Option<BlockInfo>
     requires { IfSome known (λ info. HasBitDepth info) }
-    ensures { HeaderOrNone (option_map stream_with known) bytes.now result }
+    ensures header_or_none { HeaderOrNone (option_map stream_with known) bytes.now result }
 {
     match header_at_start(bytes, known) {
         Ok(header) => header,

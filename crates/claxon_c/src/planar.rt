@@ -8,7 +8,7 @@ use claxon::Block;
 // Writes all samples of the block, one channel after another, to the front of the output.
 pub(crate) fn put_planar(block: Block, samples: &mut [i32])
     requires { length block.channels * duration_of block.channels ≤ length samples.old }
-    ensures { PlanarArePut block.channels samples.old samples.new }
+    ensures are_put { PlanarArePut block.channels samples.old samples.new }
 {
     let count = block.channels() as usize * block.duration() as usize;
     let buffer = block.into_buffer();

@@ -52,7 +52,7 @@ pub extern "C" fn claxon_find_frame(
     ensures no_more_is_none { CNoMoreIsNone info.now bytes.now at.old result }
     ensures none_is_no_more { CNoneIsNoMore info.now bytes.now at.old result }
     ensures undecided_is_first { CUndecidedIsFirst info.now bytes.now at.old result at.new }
-    ensures status_is_known { IsSearchStatus result }
+    ensures is_search_status { IsSearchStatus result }
     // The budget, and memory.
     ensures stops_over_budget { CStopsOverBudget info.now bytes.now at.old result
         at.new budget.old }
@@ -101,7 +101,7 @@ pub extern "C" fn claxon_seek(
     ensures is_complete { CSeekIsComplete info.now bytes.now sample result }
     ensures no_more_is_none { CSeekNoMoreIsNone info.now bytes.now sample result }
     ensures none_is_no_more { CSeekNoneIsNoMore info.now bytes.now sample result }
-    ensures status_is_known { IsSearchStatus result }
+    ensures is_search_status { IsSearchStatus result }
     ensures stops_over_budget { CSeekStopsOverBudget info.now bytes.now sample result budget }
     ensures out_of_memory_after_header { CSeekOutOfMemoryAfterHeader info.now bytes.now sample
         result }
@@ -141,7 +141,7 @@ pub extern "C" fn claxon_seek_block(
     ensures is_complete { CSeekBlockIsComplete info.now bytes.now sample result }
     ensures no_more_is_none { CSeekNoMoreIsNone info.now bytes.now sample result }
     ensures none_is_no_more { CSeekNoneIsNoMore info.now bytes.now sample result }
-    ensures status_is_known { IsSeekBlockStatus result }
+    ensures is_seek_block_status { IsSeekBlockStatus result }
     // The budget, and memory.
     ensures stops_over_budget { CSeekStopsOverBudget info.now bytes.now sample result budget }
     ensures out_of_memory_after_header { CSeekOutOfMemoryAfterHeader info.now bytes.now sample
@@ -170,7 +170,7 @@ fn give(found: FoundBlock, at: &mut usize, samples: &mut [i32], block: &mut Clax
     requires channels { length found.block.channels ≡ found.frame.block.channels }
     requires duration { duration_of found.block.channels ≡ found.frame.block.duration }
     requires inside { found.frame.position + found.len < 2 ^ 64 }
-    ensures { IsGiven found result at.new block.new samples.old samples.new }
+    ensures is_given { IsGiven found result at.new block.new samples.old samples.new }
 {
     let FoundBlock {
         frame,

@@ -21,7 +21,7 @@ pub(crate) const OVER_BUDGET: u32 = 7;
 
 // Writes as much of the text as fits, and a zero byte after it.
 pub(crate) fn put_text(text: &str, output: &mut [u8])
-    ensures { TextIsPut text.now output.old output.new }
+    ensures is_put { TextIsPut text.now output.old output.new }
 {
     let capacity = output.len();
     if capacity > 0 {
@@ -34,7 +34,7 @@ pub(crate) fn put_text(text: &str, output: &mut [u8])
 
 // The status of the error, whose text is written.
 pub(crate) fn report(error: &Error, output: &mut [u8]) -> u32
-    ensures { ErrorIsReported error.now result output.old output.new }
+    ensures is_reported { ErrorIsReported error.now result output.old output.new }
 {
     match error {
         Error::FormatError(reason) => {

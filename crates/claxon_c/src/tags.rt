@@ -97,7 +97,7 @@ struct FoundEntry {
 
 // The next tag from the position on.
 fn find_tag(content: &[u8], at: usize) -> Result<Option<Tag>>
-    ensures { TagIsRead content.now (tag_at at content.now) result }
+    ensures is_read { TagIsRead content.now (tag_at at content.now) result }
 {
     let start = start_of_entries(content, at)?;
     first_tag(content, start)
@@ -105,7 +105,7 @@ fn find_tag(content: &[u8], at: usize) -> Result<Option<Tag>>
 
 // Where entries are read from: at 0 after the vendor string and the number of entries, else at the position itself.
 fn start_of_entries(content: &[u8], at: usize) -> Result<usize>
-    ensures { EntriesStartIsRead at content.now result }
+    ensures is_read { EntriesStartIsRead at content.now result }
 {
     if at > 0 {
         return Ok(content.len().min(at));
@@ -123,7 +123,7 @@ fn start_of_entries(content: &[u8], at: usize) -> Result<usize>
 // The first tag among the entries from this position on. Empty entries are skipped.
 fn first_tag(content: &[u8], start: usize) -> Result<Option<Tag>>
     requires { start ≤ length content.now }
-    ensures { TagIsRead content.now
+    ensures is_read { TagIsRead content.now
         (first_entry_at (length content.now) (drop start content.now)) result }
 {
     let mut at = start;
@@ -144,7 +144,7 @@ fn first_tag(content: &[u8], start: usize) -> Result<Option<Tag>>
 // The entry whose length is at this position.
 fn entry_at(content: &[u8], at: usize) -> Result<FoundEntry>
     requires { at ≤ length content.now }
-    ensures { EntryIsRead content.now at result }
+    ensures is_read { EntryIsRead content.now at result }
 {
     let end = end_of_entry(content, at)?;
     let entry = &content[at + LENGTH_BYTES..end];
@@ -164,7 +164,7 @@ fn entry_at(content: &[u8], at: usize) -> Result<FoundEntry>
 // The end of the entry whose length is at this position.
 fn end_of_entry(content: &[u8], at: usize) -> Result<usize>
     requires { at ≤ length content.now }
-    ensures { EntryEndIsRead content.now at result }
+    ensures is_read { EntryEndIsRead content.now at result }
 {
     let left = content.len() - at;
     if left < LENGTH_BYTES {
@@ -192,7 +192,7 @@ fn length_at(content: &[u8], at: usize) -> u32
 
 // The length of the name of an entry, which has its first `=` after it.
 fn length_of_name(entry: &[u8]) -> Result<usize>
-    ensures { NameIsRead entry.now result }
+    ensures is_read { NameIsRead entry.now result }
 {
     let count = separator_of(entry)?;
     let Ok(_) = str::from_utf8(entry) else {

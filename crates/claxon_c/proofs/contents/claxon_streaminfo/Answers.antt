@@ -12,7 +12,7 @@ returns-in-Ok c =
     let found = c.in-Ok.found in
     let old = c.args.error.now in
     let h = c.in-Ok.ensures.is_read in
-    let shows = shows_streaminfo found c.new.result _ _ c.new.ensures (omega arith) (omega arith) c.in-Ok.ensures.bounds in
+    let shows = shows_streaminfo found c.new.result _ _ c.new.ensures.shows (omega arith) (omega arith) c.in-Ok.ensures.bounds in
     record {
       is_sound = streaminfo_sound content found c.new.result h shows;
       is_complete = streaminfo_complete content found c.new.result h shows;
@@ -32,7 +32,7 @@ returns-in-Err c =
     let new = c.report.new.output in
     let e = c.in-Err.fault in
     let h = c.in-Err.ensures.is_read in
-    let reported = c.report.ensures in
+    let reported = c.report.ensures.is_reported in
     let memory : status ≡ out_of_memory → ⊥ = λ is. no_streaminfo_memory content (content_memory info_content streaminfo_type content status old new e h reported is) in
     record {
       is_sound = λ says. absurd ((just_error status old new e reported).0 says);

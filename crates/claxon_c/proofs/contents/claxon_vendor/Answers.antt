@@ -11,7 +11,7 @@ returns-in-Ok c =
     let content = c.args.content.now in
     let found = c.in-Ok.found in
     let old = c.args.error.now in
-    let h = c.in-Ok.ensures in
+    let h = c.in-Ok.ensures.is_read in
     let count-is : c.len.result ≡ length (string_bytes found.vendor) = search rules in
     let tags-are : c.len-in-Ok.result ≡ length found.comments.items = search rules in
     record {
@@ -32,8 +32,8 @@ returns-in-Err c =
     let old = c.args.error.now in
     let new = c.report.new.output in
     let e = c.in-Err.fault in
-    let h = c.in-Err.ensures in
-    let reported = c.report.ensures in
+    let h = c.in-Err.ensures.is_read in
+    let reported = c.report.ensures.is_reported in
     record {
       is_sound = λ says. absurd ((just_error status old new e reported).0 says);
       is_complete = λ d code. inr (content_out_of_memory comment_content comment_type content status old new e h reported (Comments d) (comment_begins d content code));

@@ -15,8 +15,10 @@ returns-in_err-block c =
     let content = c.args.content.now in
     let n = length content in
     let is : c.from_residual.result ≡ Err e = search rules in
-    subst (λ (r : Result (VorbisComment Global) Error). BodyIsRead comment_content comment_type content r) (sym is)
-    (error_is_read (content_view {A = Global}) comment_content (Body comment_type n) (BodyFault comment_type n) (MayRunOutOfMemory comment_type n content) content e c.in_err-block.ensures.is_read)
+    record {
+      is_read = subst (λ (r : Result (VorbisComment Global) Error). BodyIsRead comment_content comment_type content r) (sym is)
+          (error_is_read (content_view {A = Global}) comment_content (Body comment_type n) (BodyFault comment_type n) (MayRunOutOfMemory comment_type n content) content e c.in_err-block.ensures.is_read);
+    }
 
 pub returns-in-VorbisComment : goal.returns-in-VorbisComment
 returns-in-VorbisComment c =
@@ -24,4 +26,4 @@ returns-in-VorbisComment c =
     let content = c.args.content.now in
     let n = length content in
     let is : content_view {A = Global} c.in_ok-block.block ≡ Comments (comment_view found) = search rules in
-    value_is_read (content_view {A = Global}) comment_content (Body comment_type n) (BodyFault comment_type n) (MayRunOutOfMemory comment_type n content) content c.in_ok-block.block found is c.in_ok-block.ensures.is_read
+    record { is_read = value_is_read (content_view {A = Global}) comment_content (Body comment_type n) (BodyFault comment_type n) (MayRunOutOfMemory comment_type n content) content c.in_ok-block.block found is c.in_ok-block.ensures.is_read }

@@ -16,9 +16,9 @@ returns-in-Ok c =
     let taken = c.head_at_start.new.taken in
     let old = c.args.error.now in
     let z : StreamInfo × Option (VorbisComment Global) = (c.in-Ok.found, c.in-Ok.comment) in
-    let h = c.in-Ok.ensures in
+    let h = c.in-Ok.ensures.at_start in
     let first : c.new.result.first_frame ≡ taken = search rules in
-    let shows = shows_head c.in-Ok.found c.in-Ok.comment c.new.result c.count_tags.result taken c.new.ensures c.count_tags.ensures h.bounds in
+    let shows = shows_head c.in-Ok.found c.in-Ok.comment c.new.result c.count_tags.result taken c.new.ensures.shows c.count_tags.ensures h.bounds in
     record {
       is_sound = λ says. (view z, head_at_first_frame c.in-Ok.found c.in-Ok.comment bytes c.new.result taken h first, shows);
       is_complete = λ head begins. inl (refl, subst (λ (x : Head). ShowsHead x c.new.result.first_frame c.new.result) (same_head view bytes taken 0 old old z h head begins) shows);
@@ -39,8 +39,8 @@ returns-in-Err c =
     let old = c.args.error.now in
     let new = c.report.new.output in
     let e = c.in-Err.fault in
-    let h = c.in-Err.ensures in
-    let reported = c.report.ensures in
+    let h = c.in-Err.ensures.at_start in
+    let reported = c.report.ensures.is_reported in
     record {
       is_sound = λ says. absurd ((just_error status old new e reported).0 says);
       is_complete = λ head begins. inr (head_out_of_memory view bytes taken status old new e h reported head begins);

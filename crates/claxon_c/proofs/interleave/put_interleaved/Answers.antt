@@ -7,5 +7,7 @@ pub returns : goal.returns
 returns c =
     let channels = c.args.block.now.channels in
     let samples = c.args.samples.now in
-    ap (λ (z : List ℤ). z ++ drop (c.channels.result * c.duration-duration.result) samples) (c.interleave.ensures ∙ all_interleaved channels c.duration-duration.result c.duration-duration.ensures.value)
-    ∙ ap (λ (k : ℕ). interleave channels ++ drop (k * c.duration-duration.result) samples) c.channels.ensures.value ∙ ap (λ (k : ℕ). interleave channels ++ drop (length channels * k) samples) c.duration-duration.ensures.value
+    record {
+      are_put = ap (λ (z : List ℤ). z ++ drop (c.channels.result * c.duration-duration.result) samples) (c.interleave.ensures ∙ all_interleaved channels c.duration-duration.result c.duration-duration.ensures.value)
+          ∙ ap (λ (k : ℕ). interleave channels ++ drop (k * c.duration-duration.result) samples) c.channels.ensures.value ∙ ap (λ (k : ℕ). interleave channels ++ drop (length channels * k) samples) c.duration-duration.ensures.value;
+    }

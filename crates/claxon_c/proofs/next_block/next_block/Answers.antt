@@ -23,9 +23,9 @@ returns-then-has_larger c =
     let header = c.header_there-header.result in
     let same : known ≡ stream = ap (option_map stream_with) c.known_stream-known.ensures.is_known in
     let s : start ≡ min (length bytes) from = search rules in
-    let there = header_at_position info bytes from capacity start s known stream header same c.header_there-header.ensures in
+    let there = header_at_position info bytes from capacity start s known stream header same c.header_there-header.ensures.header_or_none in
     let shown = c.show.new.block in
-    (refl, inl (too_small_there info bytes from capacity start s header shown there (c.if-has_larger.ensures.0 refl) c.show.ensures, refl))
+    record { next_block = (refl, inl (too_small_there info bytes from capacity start s header shown there (c.if-has_larger.ensures.0 refl) c.show.ensures, refl)) }
 
 pub returns-in-Ok-Some : goal.returns-in-Ok-Some
 returns-in-Ok-Some c =
@@ -39,11 +39,11 @@ returns-in-Ok-Some c =
     let header = c.header_there-header.result in
     let same : known ≡ stream = ap (option_map stream_with) c.known_stream-known.ensures.is_known in
     let s : start ≡ min (length bytes) from = search rules in
-    let there = header_at_position info bytes from capacity start s known stream header same c.header_there-header.ensures in
+    let there = header_at_position info bytes from capacity start s known stream header same c.header_there-header.ensures.header_or_none in
     let found = c.in-Ok-Some.found in
     let shown = c.show-in-Ok-Some.new.block in
-    let h = at_position known stream bytes from start (Ok (Some found)) c.block_at_start.new.taken same s (rw (c.in-Ok-Some.is, c.in-Ok-Some.field-0-is) at c.block_at_start.ensures) in
-    (decoded_there info bytes from capacity start s found c.block_at_start.new.taken header shown h there (unless_true c.if-has_larger.ensures) c.show-in-Ok-Some.ensures, refl)
+    let h = at_position known stream bytes from start (Ok (Some found)) c.block_at_start.new.taken same s (rw (c.in-Ok-Some.is, c.in-Ok-Some.field-0-is) at c.block_at_start.ensures.at_start) in
+    record { next_block = (decoded_there info bytes from capacity start s found c.block_at_start.new.taken header shown h there (unless_true c.if-has_larger.ensures) c.show-in-Ok-Some.ensures, refl) }
 
 pub returns-in-Ok-None : goal.returns-in-Ok-None
 returns-in-Ok-None c =
@@ -57,10 +57,10 @@ returns-in-Ok-None c =
     let header = c.header_there-header.result in
     let same : known ≡ stream = ap (option_map stream_with) c.known_stream-known.ensures.is_known in
     let s : start ≡ min (length bytes) from = search rules in
-    let there = header_at_position info bytes from capacity start s known stream header same c.header_there-header.ensures in
+    let there = header_at_position info bytes from capacity start s known stream header same c.header_there-header.ensures.header_or_none in
     let none = not_larger_there stream (drop from bytes) capacity header there (unless_true c.if-has_larger.ensures) in
-    let h = at_position known stream bytes from start (Ok None) c.block_at_start.new.taken same s (rw (c.in-Ok-None.is, c.in-Ok-None.field-0-is) at c.block_at_start.ensures) in
-    (refl, inr (inl (record { not_larger = none; status_is = refl; count = c.block_at_start.new.taken; none = h }, refl, refl)))
+    let h = at_position known stream bytes from start (Ok None) c.block_at_start.new.taken same s (rw (c.in-Ok-None.is, c.in-Ok-None.field-0-is) at c.block_at_start.ensures.at_start) in
+    record { next_block = (refl, inr (inl (record { not_larger = none; status_is = refl; count = c.block_at_start.new.taken; none = h }, refl, refl))) }
 
 pub returns-in-Err : goal.returns-in-Err
 returns-in-Err c =
@@ -74,7 +74,7 @@ returns-in-Err c =
     let header = c.header_there-header.result in
     let same : known ≡ stream = ap (option_map stream_with) c.known_stream-known.ensures.is_known in
     let s : start ≡ min (length bytes) from = search rules in
-    let there = header_at_position info bytes from capacity start s known stream header same c.header_there-header.ensures in
+    let there = header_at_position info bytes from capacity start s known stream header same c.header_there-header.ensures.header_or_none in
     let none = not_larger_there stream (drop from bytes) capacity header there (unless_true c.if-has_larger.ensures) in
-    let h = at_position known stream bytes from start _ c.block_at_start.new.taken same s c.in-Err.ensures in
-    (refl, inr (inr (record { not_larger = none; error = c.in-Err.fault; count = c.block_at_start.new.taken; refused = h; reported = c.report.ensures }, refl)))
+    let h = at_position known stream bytes from start _ c.block_at_start.new.taken same s c.in-Err.ensures.at_start in
+    record { next_block = (refl, inr (inr (record { not_larger = none; error = c.in-Err.fault; count = c.block_at_start.new.taken; refused = h; reported = c.report.ensures.is_reported }, refl))) }

@@ -12,9 +12,9 @@ returns-in_err-start c =
     let content = c.args.content.now in
     let e = c.in_err-start.field-0.0 in
     let is : c.from_residual.result ≡ Err e = search rules in
-    subst (λ (r : Result (Option Tag) Error). TagIsRead content (tag_at c.args.at content) r) (sym is) c.in_err-start.ensures
+    record { is_read = subst (λ (r : Result (Option Tag) Error). TagIsRead content (tag_at c.args.at content) r) (sym is) c.in_err-start.ensures.is_read }
 
 pub returns : goal.returns
 returns c =
     let content = c.args.content.now in
-    subst (λ (read : Reading ℕ (Option Entry)). TagIsRead content read c.first_tag.result) (sym c.in_ok-start.ensures.1) c.first_tag.ensures
+    record { is_read = subst (λ (read : Reading ℕ (Option Entry)). TagIsRead content read c.first_tag.result) (sym c.in_ok-start.ensures.is_read.1) c.first_tag.ensures.is_read }

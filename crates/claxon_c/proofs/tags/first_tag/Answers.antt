@@ -17,11 +17,11 @@ returns-in_err-entry c =
     let content = c.args.content.now in
     let at = c.loop-at.at in
     let (inside, (most, enough, same)) = c.loop-at.invariant in
-    let (f, rest, fault, read) = c.in_err-entry.ensures in
+    let (f, rest, fault, read) = c.in_err-entry.ensures.is_read in
     let e = c.in_err-entry.field-0.0 in
     let is : c.from_residual.result ≡ Err e = search rules in
     let less : at < length content = search rules in
-    subst (λ (r : Result (Option Tag) Error). TagIsRead content (first_entry_at (length content) (drop c.args.start content)) r) (sym is) (f, rest, fault, same ∙ at_fault content at most less enough f rest read)
+    record { is_read = subst (λ (r : Result (Option Tag) Error). TagIsRead content (first_entry_at (length content) (drop c.args.start content)) r) (sym is) (f, rest, fault, same ∙ at_fault content at most less enough f rest read) }
 
 pub returns-in-Some : goal.returns-in-Some
 returns-in-Some c =
@@ -29,12 +29,12 @@ returns-in-Some c =
     let at = c.loop-at.at in
     let end = c.in_ok-entry.entry.end in
     let (inside, (most, enough, same)) = c.loop-at.invariant in
-    let h = c.in_ok-entry.ensures in
+    let h = c.in_ok-entry.ensures.is_read in
     let is : c.in_ok-entry.entry.name_length ≡ Some c.in-Some.name_length = search rules in
     let k = subst (λ (o : Option ℕ). IsEntryOf o (end - at - 4) h.2.0) is h.2.1 in
     let less : at < length content = search rules in
     let read : prefixed_entry_at (length content - at) (drop at content) ≡ Done (k.0 ∷ []) (drop end content) = h.2.2 ∙ ap (λ (es : List Entry). Done es (drop end content)) k.1 in
-    (k.0, drop end content, same ∙ at_entry content at most less enough k.0 (drop end content) read, omega (arith, length-drop end content, h.1), omega (arith, k.2, h.0), sym k.3)
+    record { is_read = (k.0, drop end content, same ∙ at_entry content at most less enough k.0 (drop end content) read, omega (arith, length-drop end content, h.1), omega (arith, k.2, h.0), sym k.3) }
 
 pub loop-at-preserved : goal.loop-at-preserved
 loop-at-preserved c =
@@ -42,7 +42,7 @@ loop-at-preserved c =
     let at = c.loop-at.at in
     let end = c.in_ok-entry.entry.end in
     let (inside, (most, enough, same)) = c.loop-at.invariant in
-    let h = c.in_ok-entry.ensures in
+    let h = c.in_ok-entry.ensures.is_read in
     let is : c.in_ok-entry.entry.name_length ≡ None = search rules in
     let k = subst (λ (o : Option ℕ). IsEntryOf o (end - at - 4) h.2.0) is h.2.1 in
     let less : at < length content = search rules in
@@ -54,4 +54,4 @@ pub returns : goal.returns
 returns c =
     let content = c.args.content.now in
     let (inside, (most, enough, same)) = c.loop-at.invariant in
-    ([], same ∙ at_end content c.loop-at.at most (search rules))
+    record { is_read = ([], same ∙ at_end content c.loop-at.at most (search rules)) }
