@@ -1,5 +1,6 @@
 -- Views of a `FlacReader` for contracts, and what it lends.
-use Rattle.std.specs.Prelude.{◌≤◌, Bool, ℕ, Option, None, Some, List, []}
+pub use Rattle.claxon.specs.ShownHead.{HasBitDepth, comment_tags, comment_vendor}
+use Rattle.std.specs.Prelude.{Bool, ℕ, Option, List}
 use Rattle.std.specs.declared.alloc.Allocator.{Ghosts}
 use Rattle.std.specs.Borrow.{Lends, MutBor, Fml, RattleType}
 use Rattle.claxon_input.specs.declared.input.BufferedReader.{BufferedReader}
@@ -9,44 +10,29 @@ use Rattle.claxon.specs.declared.samples.FlacSamples.{FlacSamples}
 use Rattle.claxon_frame.specs.declared.frame.FrameReader.{FrameReader}
 use Rattle.claxon_frame.specs.FrameReader.{frame_input}
 use Rattle.claxon_metadata.specs.declared.metadata.streaminfo.StreamInfo.{StreamInfo}
-use Rattle.claxon_format.specs.Comments.{Comment}
 use Rattle.claxon_format.specs.Heads.{Head}
-use Rattle.claxon_format.specs.Tags.{tags_of_entries}
-use Rattle.claxon.specs.ReadHead.{head_view}
+use Rattle.claxon.specs.ShownHead.{head_streaminfo, head_tags, head_vendor, shown_view}
 use Rattle.claxon.specs.contracts.reader.FlacReader.{the_row}
 
 -- `flac.is_metadata_only()`
 abbrev pub flac_metadata_only : {R A : Type 0} → FlacReader R A → Bool
 flac_metadata_only s = s.metadata_only
 
--- a bit depth of 1 to 32
-abbrev pub HasBitDepth : StreamInfo → Type 0
-HasBitDepth info = (1 ≤ info.bits_per_sample) × (info.bits_per_sample ≤ 32)
-
 -- `flac.streaminfo()`
 abbrev pub flac_streaminfo : {R A : Type 0} → FlacReader R A → StreamInfo
-flac_streaminfo s = s.head.streaminfo
+flac_streaminfo s = head_streaminfo s.head
 
 -- the head of the stream, as far as it is shown
 abbrev pub flac_head : {R A : Type 0} → FlacReader R A → Head
-flac_head s = head_view (s.head.streaminfo, s.head.vorbis_comment)
-
--- of comments, if any: the vendor string; the names and values of the tags
-abbrev pub comment_vendor : Option Comment → Option (List ℕ)
-comment_vendor None = None
-comment_vendor (Some comment) = Some comment.vendor
-
-abbrev pub comment_tags : Option Comment → List (List ℕ × List ℕ)
-comment_tags None = []
-comment_tags (Some comment) = tags_of_entries comment.entries
+flac_head s = shown_view s.head
 
 -- the vendor string that is shown
 abbrev pub vendor_of : {R A : Type 0} → FlacReader R A → Option (List ℕ)
-vendor_of s = comment_vendor (flac_head s).comment
+vendor_of s = head_vendor s.head
 
 -- the names and values of the tags that are shown
 abbrev pub tags_of : {R A : Type 0} → FlacReader R A → List (List ℕ × List ℕ)
-tags_of s = comment_tags (flac_head s).comment
+tags_of s = head_tags s.head
 
 -- its byte buffer
 abbrev pub flac_input : {R A : Type 0} → FlacReader R A → BufferedReader R A

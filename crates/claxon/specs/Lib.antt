@@ -42,6 +42,7 @@ pub use Rattle.claxon_frame.specs.declared.frame.info.BlockInfo as BlockInfos
 pub use Rattle.claxon_frame.specs.declared.frame.decoded.DecodedFrame as DecodedFrames
 pub use Rattle.claxon_frame.specs.Decorrelation
 pub mod ReadHead
+pub mod ShownHead
 pub mod FlacReader
 pub mod Opening
 pub mod FlacSamples

@@ -28,11 +28,14 @@ ghost use Rattle.claxon.specs.ReadHead.{
   options_view,
 };
 
+mod shown;
+
 use crate::error::{Error, Result};
 use crate::input::ReadBytes;
 use claxon_metadata::metadata::{
     MetadataBlock, StreamInfo, VorbisComment, read_metadata_block_and_flag,
 };
+pub use shown::Head;
 use std::alloc::Allocator;
 
 /// The text of the error for a stream with an ID3v2 tag in front of it.

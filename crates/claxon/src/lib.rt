@@ -68,6 +68,7 @@ pub mod frame {
 
 /// Metadata at the beginning of a stream.
 pub mod metadata {
+    pub use crate::head::Head;
     pub use claxon_metadata::metadata::{
         GetTag, MetadataBlock, MetadataBlockReader, MetadataBlockResult, SeekPoint, SeekTable,
         StreamInfo, Tags, VorbisComment, read_metadata_block, read_metadata_block_with_header,

@@ -1,31 +1,20 @@
 //! Streams from their head to their last block.
 ghost use Rattle.std.specs.Prelude.{Option, Some, ◌≡◌, ◌≤◌, true, false, []};
-ghost use Rattle.std.specs.Option.{ForSome, option_map};
-ghost use Rattle.std.proofs.Props.{props};
+ghost use Rattle.std.specs.Option.{option_map};
 ghost use Rattle.claxon_format.specs.Tags.{values};
 ghost use Rattle.claxon_metadata.specs.MetadataBlock.{HasBounds};
-ghost use Rattle.claxon_metadata.specs.TagEntries.{HaveSeparatorIndices};
 
 use crate::error::Result;
-use crate::head::{FlacReaderOptions, read_head};
+use crate::head::{FlacReaderOptions, Head, read_head};
 use crate::input::BufferedReader;
 use crate::samples::FlacSamples;
 use claxon_frame::frame::FrameReader;
-use claxon_metadata::metadata::{GetTag, StreamInfo, Tags, VorbisComment};
+use claxon_metadata::metadata::{GetTag, StreamInfo, Tags};
 use std::alloc::{Allocator, Global};
 use std::fs::File;
 use std::io::Read;
 use std::path::AsPath;
 use std::rt::Files;
-
-/// What is shown of a stream's head.
-#[derive(Drop)]
-struct Head<A: Allocator = Global> {
-    streaminfo: StreamInfo,
-    vorbis_comment: Option<VorbisComment<A>>,
-    ghost bounds: { HasBounds streaminfo } by { Prim.hlevel props },
-    ghost places: { ForSome vorbis_comment (λ comment. HaveSeparatorIndices comment.comments.items) },
-}
 
 /// A FLAC stream whose head was read.
 ///
@@ -65,8 +54,8 @@ impl<R: Read, A: Allocator + Copy> FlacReader<R, A> {
     ghost use Rattle.claxon_frame.specs.FrameReader.{frame_input, frame_stream, stream_with};
     ghost use Rattle.claxon_input.specs.BufferedReader.{buffered_inner};
     ghost use Rattle.claxon.specs.FlacSamples.{have_failed, samples_left, samples_stream};
+    ghost use Rattle.claxon.specs.ShownHead.{HasBitDepth};
     ghost use Rattle.claxon.specs.FlacReader.{
-      HasBitDepth,
       LendsInput,
       LendsBlocks,
       LendsSamples,
@@ -132,10 +121,7 @@ impl<R: Read, A: Allocator + Copy> FlacReader<R, A> {
         let mut input = BufferedReader::new(alloc, reader)?;
         let (streaminfo, vorbis_comment) = read_head(alloc, &mut input, options)?;
         Ok(FlacReader {
-            head: Head {
-                streaminfo,
-                vorbis_comment,
-            },
+            head: Head::new(streaminfo, vorbis_comment),
             metadata_only: options.metadata_only,
             input,
             alloc,
@@ -152,17 +138,14 @@ impl<R: Read, A: Allocator + Copy> FlacReader<R, A> {
         ensures channels { (1 ≤ result.channels) × (result.channels ≤ 8) }
         ensures has_bit_depth { HasBitDepth result }
     {
-        self.head.streaminfo
+        self.head.streaminfo()
     }
 
     /// The name of the program that wrote the stream, as `reference libFLAC 1.4.2 20221022`, where comments are shown.
     pub fn vendor(&self) -> Option<&str>
         ensures { option_map (λ text. text.now) result ≡ vendor_of self.now }
     {
-        self.head
-            .vorbis_comment
-            .as_ref()
-            .map(|comment| comment.vendor.as_str())
+        self.head.vendor()
     }
 
     /// The names and values of all tags, in order.
@@ -172,10 +155,7 @@ impl<R: Read, A: Allocator + Copy> FlacReader<R, A> {
     pub fn tags<'a>(&'a self) -> Tags<'a, A>
         ensures { remaining_tags result ≡ tags_of self.now }
     {
-        match &self.head.vorbis_comment {
-            Some(comment) => Tags::new(comment.comments.as_slice()),
-            None => Tags::new(&[]),
-        }
+        self.head.tags()
     }
 
     /// The values of the tags of this name, in order. The letters A to Z match in upper and lower case, other letters
@@ -183,10 +163,7 @@ impl<R: Read, A: Allocator + Copy> FlacReader<R, A> {
     pub fn get_tag<'a>(&'a self, tag_name: &'a str) -> GetTag<'a, A>
         ensures { remaining_values result ≡ values tag_name.now (tags_of self.now) }
     {
-        match &self.head.vorbis_comment {
-            Some(comment) => GetTag::new(comment.comments.as_slice(), tag_name),
-            None => GetTag::new(&[], tag_name),
-        }
+        self.head.get_tag(tag_name)
     }
 
     /// Whether the reader was made with `metadata_only`, and so can't give samples.
@@ -224,7 +201,7 @@ impl<R: Read, A: Allocator + Copy> FlacReader<R, A> {
         ensures input { (frame_input result).now ≡ flac_input self.old }
         ensures stream { frame_stream result ≡ Some (stream_with (flac_streaminfo self.old)) }
     {
-        let info = self.head.streaminfo;
+        let info = self.head.streaminfo();
         FrameReader::with_streaminfo(&mut self.input, info)
     }
 
@@ -247,7 +224,7 @@ impl<R: Read, A: Allocator + Copy> FlacReader<R, A> {
         ensures none_left { samples_left result ≡ [] }
         ensures goes_on { have_failed result ≡ false }
     {
-        let (alloc, info) = (self.alloc, self.head.streaminfo);
+        let (alloc, info) = (self.alloc, self.head.streaminfo());
         FlacSamples::new(alloc, &mut self.input, info)
     }
 

@@ -1,8 +1,5 @@
 use Rattle.std.proofs.Common.{rules}
 use Rattle.claxon.proofs.reader.FlacReader.get_tag.Goals as goal
 
-pub returns-in-Some : goal.returns-in-Some
-returns-in-Some g c = search rules
-
-pub returns-in-None : goal.returns-in-None
-returns-in-None g c = search rules
+pub returns : goal.returns
+returns g c = search rules

@@ -1,4 +1,4 @@
-use Rattle.std.proofs.Common.{Ok, Err, refl, ◌∙◌}
+use Rattle.std.proofs.Common.{Ok, Err, refl, sym, ◌∙◌}
 use Rattle.std.proofs.lemmas.Result.{err_from_is_err_and}
 use Rattle.claxon_input.specs.BufferedReader.{buffered_source}
 use Rattle.claxon.specs.ReadHead.{head_view, options_view}
@@ -13,19 +13,19 @@ returns-clause-no_read_failed g c =
 
 pub returns-clause-is_sound : goal.returns-clause-is_sound
 returns-clause-is_sound g c =
-    is_sound g.R.Read.remaining c.args.reader (buffered_source g.R.Read.remaining) c.in_ok-input.input c.in_ok-input.ensures.nothing_was_read c.read_head.new.input (options_view c.args.options) _ c.in_ok-streaminfo.ensures.is_sound
+    rw c.new-2.ensures.view (is_sound g.R.Read.remaining c.args.reader (buffered_source g.R.Read.remaining) c.in_ok-input.input c.in_ok-input.ensures.nothing_was_read c.read_head.new.input (options_view c.args.options) _ c.in_ok-streaminfo.ensures.is_sound)
 
 pub returns-clause-is_complete : goal.returns-clause-is_complete
 returns-clause-is_complete g c =
-    is_opened g.R.Read.remaining (options_view c.args.options) c.args.reader (head_view {A = g.row.A.Denot}) (buffered_source g.R.Read.remaining) c.in_ok-input.input c.read_head.new.input c.in_ok-input.ensures.nothing_was_read (Ok (c.in_ok-streaminfo.streaminfo, c.in_ok-streaminfo.vorbis_comment)) _ (refl, refl) c.in_ok-streaminfo.ensures.is_complete
+    is_opened g.R.Read.remaining (options_view c.args.options) c.args.reader (head_view {A = g.row.A.Denot}) (buffered_source g.R.Read.remaining) c.in_ok-input.input c.read_head.new.input c.in_ok-input.ensures.nothing_was_read (Ok (c.in_ok-streaminfo.streaminfo, c.in_ok-streaminfo.vorbis_comment)) _ (sym c.new-2.ensures.view, refl) c.in_ok-streaminfo.ensures.is_complete
 
 pub returns-clause-fault_is_complete : goal.returns-clause-fault_is_complete
 returns-clause-fault_is_complete g c =
-    is_named g.R.Read.remaining (options_view c.args.options) c.args.reader (head_view {A = g.row.A.Denot}) (buffered_source g.R.Read.remaining) c.in_ok-input.input c.read_head.new.input c.in_ok-input.ensures.nothing_was_read (Ok (c.in_ok-streaminfo.streaminfo, c.in_ok-streaminfo.vorbis_comment)) _ (refl, refl) c.in_ok-streaminfo.ensures.fault_is_complete
+    is_named g.R.Read.remaining (options_view c.args.options) c.args.reader (head_view {A = g.row.A.Denot}) (buffered_source g.R.Read.remaining) c.in_ok-input.input c.read_head.new.input c.in_ok-input.ensures.nothing_was_read (Ok (c.in_ok-streaminfo.streaminfo, c.in_ok-streaminfo.vorbis_comment)) _ (sym c.new-2.ensures.view, refl) c.in_ok-streaminfo.ensures.fault_is_complete
 
 pub returns-clause-else_io_error : goal.returns-clause-else_io_error
 returns-clause-else_io_error g c =
-    is_io_error g.R.Read.remaining (options_view c.args.options) c.args.reader (head_view {A = g.row.A.Denot}) (buffered_source g.R.Read.remaining) c.in_ok-input.input c.read_head.new.input c.in_ok-input.ensures.nothing_was_read (Ok (c.in_ok-streaminfo.streaminfo, c.in_ok-streaminfo.vorbis_comment)) _ (refl, refl) c.in_ok-streaminfo.ensures.else_io_error
+    is_io_error g.R.Read.remaining (options_view c.args.options) c.args.reader (head_view {A = g.row.A.Denot}) (buffered_source g.R.Read.remaining) c.in_ok-input.input c.read_head.new.input c.in_ok-input.ensures.nothing_was_read (Ok (c.in_ok-streaminfo.streaminfo, c.in_ok-streaminfo.vorbis_comment)) _ (sym c.new-2.ensures.view, refl) c.in_ok-streaminfo.ensures.else_io_error
 
 pub returns-in_err-streaminfo-clause-is_complete : goal.returns-in_err-streaminfo-clause-is_complete
 returns-in_err-streaminfo-clause-is_complete g c =
