@@ -10,8 +10,8 @@ use Rattle.std.specs.Prelude.{
   Some,
   if◌then◌else◌,
 }
-use Rattle.claxon_verify.specs.declared.report.Md5Verdict.{Md5Verdict}
-use Rattle.claxon_verify.specs.declared.report.Md5Verdict.TheVariants.{Wrong}
+use Rattle.claxon_blocks.specs.declared.md5_verdict.Md5Verdict.{Md5Verdict}
+use Rattle.claxon_blocks.specs.declared.md5_verdict.Md5Verdict.TheVariants.{Wrong}
 use Rattle.claxon_wav.specs.declared.conversion.Conversion.{Conversion}
 use Rattle.claxon_wav.specs.declared.error.Error.{Error}
 

@@ -12,7 +12,7 @@ use claxon_command_line::input::{STANDARD, open_input};
 use claxon_command_line::messages::{Part, print_error, print_message};
 use claxon_command_line::progress::Progress;
 use claxon_command_line::text::count_text;
-use claxon_verify::report::Md5Verdict;
+use claxon_blocks::md5_verdict::Md5Verdict;
 use claxon_wav::{Conversion, Error, Plan, Result, write_file, write_stream};
 use std::alloc::{AllocError, Global};
 use std::fs::OpenFile;

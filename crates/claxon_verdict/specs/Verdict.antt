@@ -44,7 +44,7 @@ use Rattle.claxon_verdict.specs.declared.verdict.Verdict.TheVariants.{
   Right,
   Wrong,
 }
-use Rattle.claxon_verify.specs.declared.frames.FrameError.{FrameError}
+use Rattle.claxon_blocks.specs.declared.frames.FrameError.{FrameError}
 use Rattle.claxon_command_line.specs.declared.messages.Part.TheVariants.{Frame}
 use Rattle.claxon_verify.specs.declared.report.Damage.{Damage}
 use Rattle.claxon_verify.specs.declared.report.Damage.TheVariants.{

@@ -2,9 +2,10 @@
 use claxon::Error;
 use claxon::metadata::StreamInfo;
 use claxon::running::Running;
-use claxon_verify::frames::{FirstBytes, FrameError};
+use claxon_blocks::frames::{FirstBytes, FrameError};
+use claxon_blocks::md5_verdict::Md5Verdict;
 use claxon_verify::report::{
-    Damage, Found, Gap, Md5Verdict, Notes, Place, Places, Report, Trailing,
+    Damage, Found, Gap, Notes, Place, Places, Report, Trailing,
 };
 use std::alloc::{AllocError, Global};
 

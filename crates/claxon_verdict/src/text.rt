@@ -14,8 +14,9 @@ use claxon::Error;
 use claxon::metadata::StreamInfo;
 use claxon_command_line::messages::{Part, error_text};
 use claxon_command_line::text::count_text;
-use claxon_verify::frames::{FrameError, UNSUPPORTED_32_BIT};
-use claxon_verify::report::{Damage, Found, Gap, Md5Verdict, Place, Places, Report, Trailing};
+use claxon_blocks::frames::{FrameError, UNSUPPORTED_32_BIT};
+use claxon_blocks::md5_verdict::Md5Verdict;
+use claxon_verify::report::{Damage, Found, Gap, Place, Places, Report, Trailing};
 use std::alloc::{AllocError, Global};
 
 #[cfg(test)]

@@ -15,7 +15,7 @@ ghost use Rattle.claxon_verdict.specs.Verdict.{
 
 use claxon::Error;
 use claxon::metadata::StreamInfo;
-use claxon_verify::frames::FrameError;
+use claxon_blocks::frames::FrameError;
 use claxon_verify::report::{Damage, Report};
 use std::io::ErrorKind;
 

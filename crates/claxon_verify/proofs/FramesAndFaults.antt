@@ -15,15 +15,16 @@ use Rattle.claxon.specs.Prefix.{BeginsWith}
 use Rattle.claxon.specs.Streaminfo.{Streaminfo}
 use Rattle.claxon.proofs.FormatLaws.{frames_unambiguous}
 use Rattle.claxon.proofs.SampleRuns.{short_no_frame, short_no_fault}
-use Rattle.claxon_verify.specs.Frames.{Is32BitFault, Says32Bits}
+use Rattle.claxon_blocks.specs.Frames.{Is32BitFault, Says32Bits}
 use Rattle.claxon_verify.specs.RightStream.{AreNextAfter, DecodedFrames, IsNext, IsNextAfter, frame_duration, number_after, strategy_after}
-use Rattle.claxon_verify.specs.Verify.{AreTooMany, CanBeCounted, Counted, Counts, EndsAt, FirstIs, IsDamageAt, IsFaultAt, IsFirst, IsNotNext, IsNotWhole, FrameOrFault, FrameOrFaultBytes, FramesAndFaults, SameDamage, SameFirst, fault_count_of, frame_count_of, frames_of, sample_count_of}
-use Rattle.claxon_verify.specs.declared.frames.FrameError.{FrameError}
+use Rattle.claxon_verify.specs.Verify.{AreTooMany, CanBeCounted, Counted, Counts, EndsAt, FirstIs, IsDamageAt, IsFaultAt, IsFirst, IsNotNext, FrameOrFault, FrameOrFaultBytes, FramesAndFaults, SameDamage, SameFirst, fault_count_of, frame_count_of, frames_of, sample_count_of}
+use Rattle.claxon_blocks.specs.Frames.{IsNotWhole}
+use Rattle.claxon_blocks.specs.declared.frames.FrameError.{FrameError}
 use Rattle.claxon_verify.specs.declared.report.Damage.{Damage}
 use Rattle.claxon_verify.specs.declared.report.Damage.TheVariants.{BitDepth, BlockingStrategy, Channels, Fault as FaultDamage, Missing, Repeated, SampleRate}
 use Rattle.claxon_verify.specs.declared.report.Gap.{Gap}
 use Rattle.claxon_verify.specs.declared.report.Place.{Place}
-use Rattle.claxon_verify.proofs.FirstBytes.{refused}
+use Rattle.claxon_blocks.proofs.FirstBytes.{refused}
 use Rattle.claxon.proofs.DecodedFrames.{decoded_unambiguous}
 
 -- one frame or fault more

@@ -1,19 +1,8 @@
 -- Frames and faults, one after another.
 pub mod FramesAndFaults
--- A call that reads a block.
-pub mod BlockReads
--- A block that was read through a reader that keeps a CRC, over a mutable reference, in terms of
--- the borrowed reader.
-pub mod ReadsBelow
--- The first 16 bytes that a reader keeps, and the bytes that it gave.
-pub mod KeptBytes
--- The fault of a frame whose header has the bit depth code for 32 bits, and the bytes that say so.
-pub mod FirstBytes
 -- The order of the frames of a stream.
 pub mod FrameOrder
 -- Frames and faults that are found, one after another.
 pub mod Walking
 -- A whole stream: its head, and what was found after it.
 pub mod Verified
--- The interleaved samples of blocks, which are hashed one range after another.
-pub mod HashedBlocks

@@ -30,16 +30,18 @@ use Rattle.claxon.proofs.OutOfMemory.{not_out_of_memory, same_out_of_memory}
 use Rattle.claxon.specs.RunningReader.{running_inner}
 use Rattle.claxon.specs.RunningReaders.{RunningReader}
 use Rattle.claxon_md5.specs.declared.Md5.{Md5}
-use Rattle.claxon_verify.specs.RightStream.{AreInOrder, HasMd5, IsRightStream, bytes_of_frames, frame_duration, no_md5}
-use Rattle.claxon_verify.specs.Verify.{AreTooMany, CanBeCounted, Counted, Counts, EndsAt, FirstIs, FrameOrFault, FramesAndFaults, HasFramesAndFaults, IsFirst, IsMd5Verdict, IsRight, IsTooMany, IsVerified, Md5Is, ReportValue, RightIsComplete, RightIsSound, SameFirst, SameReport, StopsCounting, VerifyIsComplete, VerifyIsSound, VerifyPromises, counted_bytes, fault_count_of, frame_count_of, frames_of, report_view, sample_count_of}
-use Rattle.claxon_verify.specs.Walk.{HasHashedBytes, Md5IsJudged, WalksToEnd, counts_of, first_place}
-use Rattle.claxon_verify.specs.declared.report.Md5Verdict.{Md5Verdict}
-use Rattle.claxon_verify.specs.declared.report.Md5Verdict.TheVariants.{Missing, NotComputed, Right, Wrong}
+use Rattle.claxon_verify.specs.RightStream.{AreInOrder, HasMd5, IsRightStream, bytes_of_frames, frame_duration}
+use Rattle.claxon_verify.specs.Verify.{AreTooMany, CanBeCounted, Counted, Counts, EndsAt, FirstIs, FrameOrFault, FramesAndFaults, HasFramesAndFaults, IsFirst, IsRight, IsTooMany, IsVerified, Md5Is, ReportValue, RightIsComplete, RightIsSound, SameFirst, SameReport, StopsCounting, VerifyIsComplete, VerifyIsSound, VerifyPromises, counted_bytes, fault_count_of, frame_count_of, frames_of, report_view, sample_count_of}
+use Rattle.claxon_blocks.specs.Md5Verdict.{IsMd5Verdict, no_md5}
+use Rattle.claxon_verify.specs.Walk.{WalksToEnd, counts_of, first_place}
+use Rattle.claxon_blocks.specs.Md5Verdict.{HasHashedBytes, Md5IsJudged}
+use Rattle.claxon_blocks.specs.declared.md5_verdict.Md5Verdict.{Md5Verdict}
+use Rattle.claxon_blocks.specs.declared.md5_verdict.Md5Verdict.TheVariants.{Missing, NotComputed, Right, Wrong}
 use Rattle.claxon_verify.specs.declared.report.Place.{Place}
 use Rattle.claxon_verify.specs.declared.report.Report.{Report}
 use Rattle.claxon_verify.specs.declared.BytesRead.{BytesRead}
 use Rattle.claxon_verify.specs.declared.walk.Walk.{Walk}
-use Rattle.claxon_verify.proofs.BlockReads.{decide_failed, io_not_fault, not_excused}
+use Rattle.claxon_blocks.proofs.BlockReads.{decide_failed, io_not_fault, not_excused}
 use Rattle.claxon_verify.proofs.FramesAndFaults.{frames_of_all, not_cut, not_too_many, parts_of_frames, same_answer, same_counts}
 use Rattle.claxon_verify.proofs.Walking.{first_weaker}
 

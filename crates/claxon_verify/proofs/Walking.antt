@@ -26,18 +26,21 @@ use Rattle.claxon.specs.RunningReaders.{RunningReader}
 use Rattle.claxon.proofs.Loans.{reads_loans}
 use Rattle.claxon_md5.specs.WholeBytes.{whole_bytes_of_samples}
 use Rattle.claxon_md5.specs.declared.Md5.{Md5}
-use Rattle.claxon_verify.specs.Frames.{HasHeader, Is32BitFault}
+use Rattle.claxon_blocks.specs.Frames.{HasHeader, Is32BitFault}
 use Rattle.claxon_verify.specs.RightStream.{AreInOrder, IsNext, IsNextAfter, bytes_of_frames, frame_duration, number_after, samples_of_frames, strategy_after}
-use Rattle.claxon_verify.specs.Verify.{FirstIs, FrameOrFault, FrameOrFaultBytes, FramesAndFaults, IsDamageAt, IsFaultAt, IsFirst, IsJudged, IsNotNext, IsNotWhole, IsTooMany, StopsCounting, counted_bytes, fault_count_of, frame_count_of, frames_of, position_of, sample_count_of}
-use Rattle.claxon_verify.specs.Walk.{AddsFault, AddsFrame, BeginAlike, PlaceBegins, BeginsWalk, EndsWalk, ExceedsCount, FirstBecomes, GoesOn, HasHashedBytes, HashesToo, KeepsFirstPlace, WalksToEnd, first_place}
-use Rattle.claxon_verify.specs.declared.frames.FrameError.{FrameError}
+use Rattle.claxon_verify.specs.Verify.{FirstIs, FrameOrFault, FrameOrFaultBytes, FramesAndFaults, IsDamageAt, IsFaultAt, IsFirst, IsJudged, IsNotNext, IsTooMany, StopsCounting, counted_bytes, fault_count_of, frame_count_of, frames_of, position_of, sample_count_of}
+use Rattle.claxon_blocks.specs.Frames.{IsNotWhole}
+use Rattle.claxon_verify.specs.Walk.{AddsFault, AddsFrame, BeginAlike, PlaceBegins, BeginsWalk, EndsWalk, ExceedsCount, FirstBecomes, GoesOn, KeepsFirstPlace, WalksToEnd, first_place}
+use Rattle.claxon_blocks.specs.HashBlock.{HashesToo}
+use Rattle.claxon_blocks.specs.Md5Verdict.{HasHashedBytes}
+use Rattle.claxon_blocks.specs.declared.frames.FrameError.{FrameError}
 use Rattle.claxon_verify.specs.declared.report.Damage.{Damage}
 use Rattle.claxon_verify.specs.declared.report.Damage.TheVariants.{BitDepth, BlockingStrategy, Channels, Fault as FaultDamage, Missing, Repeated, SampleRate}
 use Rattle.claxon_verify.specs.declared.report.Place.{Place}
 use Rattle.claxon_verify.specs.declared.BytesRead.{BytesRead}
 use Rattle.claxon_verify.specs.declared.order.Order.{Order}
 use Rattle.claxon_verify.specs.declared.walk.Walk.{Walk}
-use Rattle.claxon_verify.proofs.BlockReads.{BlockIsRead, IfConsumed, block_read}
+use Rattle.claxon_blocks.proofs.BlockReads.{BlockIsRead, IfConsumed, block_read}
 use Rattle.claxon_verify.proofs.FramesAndFaults.{frames_of_all, parts_front, parts_push}
 use Rattle.claxon_verify.proofs.FrameOrder.{IsOrderAfter, in_order_push, order_after}
 

@@ -1,6 +1,3 @@
-pub mod FirstBytes
-pub mod Frames
-pub mod HashBlock
 pub mod RightStream
 pub mod Verify
 pub mod Walk

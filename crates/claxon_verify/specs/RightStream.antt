@@ -1,5 +1,5 @@
 -- What a right stream is: a head, and frames that agree with it and with one another.
-use Rattle.std.specs.Prelude.{◌≡◌, ◌⊎◌, ℕ, ◌<◌, ℤ, Bool, true, if◌then◌else◌, List, [], ◌∷◌, ◌++◌, flat_map, length, replicate, Option, None, Some, IfSome}
+use Rattle.std.specs.Prelude.{◌≡◌, ◌⊎◌, ℕ, ◌<◌, ℤ, Bool, true, if◌then◌else◌, List, [], ◌∷◌, ◌++◌, flat_map, length, Option, None, Some, IfSome}
 use Rattle.std.specs.List.{sum_by}
 use Rattle.claxon.specs.BlockInfos.{BlockInfo}
 use Rattle.claxon.specs.DecodedFrame.{FrameValue, FrameWithHeader}
@@ -9,6 +9,7 @@ use Rattle.claxon.specs.Streaminfo.{Streaminfo}
 use Rattle.claxon.specs.Streams.{duration_of, interleave, stream_of, with_samples}
 use Rattle.claxon_md5.specs.Md5.{md5}
 use Rattle.claxon_md5.specs.WholeBytes.{whole_bytes_of_samples}
+use Rattle.claxon_blocks.specs.Md5Verdict.{no_md5}
 
 -- ---- frames, one after another
 
@@ -82,10 +83,6 @@ samples_of_frames frames = flat_map (λ frame. interleave frame.block.channels) 
 -- the bytes of the samples of frames, each in the fewest whole bytes that hold the bit depth
 abbrev pub bytes_of_frames : ℕ → List FrameValue → List ℕ
 bytes_of_frames bit_depth frames = whole_bytes_of_samples bit_depth (samples_of_frames frames)
-
--- what stands for no MD5 sum
-abbrev pub no_md5 : List ℕ
-no_md5 = replicate 16 0
 
 -- The frames have as many samples of each channel as the streaminfo says, where it doesn't say 0,
 -- which stands for an unknown number.

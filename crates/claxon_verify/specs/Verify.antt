@@ -54,7 +54,7 @@ use Rattle.claxon.specs.Errors.TheVariants.{OutOfMemory, Unsupported}
 use Rattle.claxon.specs.RunningReader.{running_source, running_value}
 use Rattle.claxon.specs.RunningReaders.{RunningReader}
 use Rattle.claxon_md5.specs.Md5.{md5}
-use Rattle.claxon_verify.specs.Frames.{Is32BitFault}
+use Rattle.claxon_blocks.specs.Frames.{Is32BitFault}
 use Rattle.claxon_verify.specs.RightStream.{
   AgreesWithInfo,
   AreInOrder,
@@ -64,7 +64,6 @@ use Rattle.claxon_verify.specs.RightStream.{
   IsRightStream,
   bytes_of_frames,
   frame_duration,
-  no_md5,
   number_after,
   strategy_after,
 }
@@ -80,8 +79,8 @@ use Rattle.claxon_verify.specs.declared.report.Damage.TheVariants.{
   SampleRate,
 }
 use Rattle.claxon_verify.specs.declared.report.Gap.{Gap}
-use Rattle.claxon_verify.specs.declared.report.Md5Verdict.{Md5Verdict}
-use Rattle.claxon_verify.specs.declared.report.Md5Verdict.TheVariants.{
+use Rattle.claxon_blocks.specs.declared.md5_verdict.Md5Verdict.{Md5Verdict}
+use Rattle.claxon_blocks.specs.declared.md5_verdict.Md5Verdict.TheVariants.{
   Missing as NoMd5,
   NotComputed,
   Right,
@@ -108,11 +107,6 @@ FramesAndFaults stream s [] r = s ≡ r
 FramesAndFaults stream s (part ∷ parts) r =
     (t : List ℕ) × (m : List ℕ) × FrameOrFaultBytes stream part t × (s ≡ t ++ m)
     × FramesAndFaults stream m parts r
-
--- m begins with neither a frame nor a fault: it ends inside the frame, or that has a run of 2^32
--- zero bits.
-abbrev pub IsNotWhole : Option StreamFormat → List ℕ → Type 0
-IsNotWhole stream m = (2 ≤ length m) × HasNeither (Frame stream) (FrameBytesFault stream) m
 
 -- ---- how many there are
 
@@ -255,13 +249,6 @@ pub record Counted (failed : Type 0) (stream : Option StreamFormat) (info : Stre
   pub first : FirstIs failed stream info start s parts is_cut counts.first
 
 -- ---- a whole stream
-
--- Whether the MD5 sum of these bytes is that of the streaminfo, if it has one.
-abbrev pub IsMd5Verdict : Streaminfo → List ℕ → Md5Verdict → Type 0
-IsMd5Verdict info bytes NotComputed = ⊥
-IsMd5Verdict info bytes NoMd5 = info.md5 ≡ no_md5
-IsMd5Verdict info bytes Right = (info.md5 ≢ no_md5) × (info.md5 ≡ md5 bytes)
-IsMd5Verdict info bytes Wrong = (info.md5 ≢ no_md5) × (info.md5 ≢ md5 bytes)
 
 -- The verdict is on the samples of these frames, if it is wanted.
 abbrev pub Md5Is : Bool → Streaminfo → List FrameValue → Md5Verdict → Type 0

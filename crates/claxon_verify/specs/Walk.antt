@@ -28,21 +28,15 @@ use Rattle.claxon.specs.State.{State, RemainingIsKnown}
 use Rattle.claxon.specs.Streams.{duration_of}
 use Rattle.claxon_md5.specs.HasHashed.{HasHashed}
 use Rattle.claxon_md5.specs.declared.Md5.{Md5}
-use Rattle.claxon_verify.specs.HashBlock.{HashesBlock}
+use Rattle.claxon_blocks.specs.HashBlock.{HashesBlock}
 use Rattle.claxon_verify.specs.RightStream.{bytes_of_frames}
-use Rattle.claxon_verify.specs.Verify.{
-  Counted,
-  Counts,
-  IsJudged,
-  IsMd5Verdict,
-  IsTooMany,
-  frames_of,
-}
-use Rattle.claxon_verify.specs.declared.frames.FrameError.{FrameError}
+use Rattle.claxon_verify.specs.Verify.{Counted, Counts, IsJudged, IsTooMany, frames_of}
+use Rattle.claxon_blocks.specs.Md5Verdict.{IsMd5Verdict}
+use Rattle.claxon_blocks.specs.declared.frames.FrameError.{FrameError}
 use Rattle.claxon_verify.specs.declared.report.Damage.{Damage}
 use Rattle.claxon_verify.specs.declared.report.Damage.TheVariants.{Fault}
-use Rattle.claxon_verify.specs.declared.report.Md5Verdict.{Md5Verdict}
-use Rattle.claxon_verify.specs.declared.report.Md5Verdict.TheVariants.{NotComputed}
+use Rattle.claxon_blocks.specs.declared.md5_verdict.Md5Verdict.{Md5Verdict}
+use Rattle.claxon_blocks.specs.declared.md5_verdict.Md5Verdict.TheVariants.{NotComputed}
 use Rattle.claxon_verify.specs.declared.report.Place.{Place}
 use Rattle.claxon_verify.specs.declared.order.Order.{Order}
 use Rattle.claxon_verify.specs.declared.places.PlacesSoFar.{PlacesSoFar}
@@ -99,19 +93,7 @@ pub record GoesOn (duration : ℕ) (frame : BlockInfo) (old new : Order) : Type 
   pub number : frame.number + (if frame.is_variable then duration else 1) < 2 ^ 64
       → new.number ≡ frame.number + (if frame.is_variable then duration else 1)
 
--- ---- the hasher
-
--- The samples of a block are hashed too, if there is a hasher.
-abbrev pub HashesToo : ℕ → BlockValue → Option Md5 → Option Md5 → Type 0
-HashesToo bit_depth block None new = new ≡ None
-HashesToo bit_depth block (Some old) new = IsSomeAnd new (HashesBlock bit_depth block old)
-
 -- ---- the walk
-
--- The hasher has hashed these bytes, if there is to be one.
-abbrev pub HasHashedBytes : Bool → List ℕ → Option Md5 → Type 0
-HasHashedBytes computes_md5 bytes md5 =
-    when computes_md5 then IsSomeAnd md5 (λ hasher. HasHashed hasher bytes) else (md5 ≡ None)
 
 -- Nothing was found so far.
 pub record BeginsWalk {A : Type 0} (computes_md5 : Bool) (walk : Walk A) : Type 0 where
@@ -161,12 +143,6 @@ abbrev pub ExceedsCount : {A B : Type 0} → DecodedFrame B → Walk A → Error
 ExceedsCount frame walk e =
     IsTooMany e
     × ((2 ^ 64 ≤ walk.frames + 1) ⊎ (2 ^ 64 ≤ walk.samples + duration_of frame.block.channels))
-
--- What became of the MD5 sum of what was hashed.
-abbrev pub Md5IsJudged : Streaminfo → Option Md5 → Md5Verdict → Type 0
-Md5IsJudged info None verdict = verdict ≡ NotComputed
-Md5IsJudged info (Some hasher) verdict = (xs : List ℕ) → HasHashed hasher xs
-    → IsMd5Verdict info xs verdict
 
 -- ---- a walk to the end
 

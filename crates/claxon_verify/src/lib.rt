@@ -22,22 +22,22 @@ ghost use Rattle.claxon_verify.specs.Verify.{
   position_of,
   update_position,
 };
-ghost use Rattle.claxon_verify.specs.Walk.{Md5IsJudged, WalksToEnd, first_place};
+ghost use Rattle.claxon_blocks.specs.Md5Verdict.{Md5IsJudged};
+ghost use Rattle.claxon_verify.specs.Walk.{WalksToEnd, first_place};
 
-use crate::frames::read_frame;
-use crate::report::{Found, Md5Verdict, Report};
+use crate::report::{Found, Report};
 use claxon::input::ReadBytes;
 use claxon::metadata::StreamInfo;
 use claxon::running::{Running, RunningReader};
 use claxon::{Error, FlacReaderOptions, Result, read_head};
+use claxon_blocks::frames::read_frame;
+use claxon_blocks::md5_verdict::{Md5Verdict, judge_md5};
 use claxon_command_line::progress::Progress;
 use claxon_md5::Md5;
 use std::alloc::Allocator;
 use std::io::Write;
 use walk::{ByteRange, Walk, at_end, too_many, trailing, with_fault, with_frame};
 
-pub mod frames;
-pub mod hashing;
 mod order;
 mod places;
 pub mod report;
@@ -182,23 +182,6 @@ fn report_of<A: Allocator>(info: StreamInfo, walk: Walk<A>) -> Report<A>
         md5,
         trailing,
         is_right,
-    }
-}
-
-/// What became of the MD5 sum of the samples that were hashed.
-pub fn judge_md5(info: &StreamInfo, md5: Option<Md5>) -> Md5Verdict
-    ensures { Md5IsJudged (info_view info.now) md5 result }
-{
-    let Some(md5) = md5 else {
-        return Md5Verdict::NotComputed;
-    };
-    if info.md5sum == [0; 16] {
-        return Md5Verdict::Missing;
-    }
-    if info.md5sum == md5.finish() {
-        Md5Verdict::Right
-    } else {
-        Md5Verdict::Wrong
     }
 }
 

@@ -1,6 +1,7 @@
 //! What `verify` finds in a stream.
-use crate::frames::FrameError;
 use claxon::metadata::StreamInfo;
+use claxon_blocks::frames::FrameError;
+use claxon_blocks::md5_verdict::Md5Verdict;
 use std::alloc::{Allocator, Global};
 
 /// What was found in a stream.
@@ -95,19 +96,6 @@ pub struct Notes {
     pub has_other_frame_size: bool,
     /// One byte stands after the last frame.
     pub has_byte_left: bool,
-}
-
-/// What became of the MD5 sum of the samples.
-#[derive(Clone, Copy, Debug)]
-pub enum Md5Verdict {
-    /// It wasn't computed.
-    NotComputed,
-    /// The streaminfo has none.
-    Missing,
-    /// It is that of the streaminfo.
-    Right,
-    /// It is another one.
-    Wrong,
 }
 
 /// What stands after the last frame.

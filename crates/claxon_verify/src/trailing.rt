@@ -1,7 +1,7 @@
 //! What stands after the last frame.
-use crate::frames::FirstBytes;
 use crate::report::{Damage, Trailing};
 use claxon::Error;
+use claxon_blocks::frames::FirstBytes;
 use std::io::ErrorKind;
 
 /// What is kept of bytes that are no frame: the first eight, and whether all are zeros.

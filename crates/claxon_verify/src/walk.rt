@@ -3,20 +3,9 @@ ghost use Rattle.std.specs.Prelude.{◌≡◌, ◌<◌, ◌≤◌, ◌+◌, ◌^
 ghost use Rattle.claxon.specs.Error.{is_out_of_memory};
 ghost use Rattle.claxon.specs.MetadataBlock.{info_view};
 ghost use Rattle.claxon_verify.specs.Verify.{IsTooMany};
-ghost use Rattle.claxon_verify.specs.Walk.{
-  AddsFault,
-  AddsFrame,
-  BeginsWalk,
-  EndsWalk,
-  ExceedsCount,
-  FirstBecomes,
-  GoesOn,
-  HashesToo,
-  first_place,
-};
+ghost use Rattle.claxon_verify.specs.Walk.{AddsFault, AddsFrame, BeginsWalk, EndsWalk, ExceedsCount, FirstBecomes, GoesOn, first_place};
+ghost use Rattle.claxon_blocks.specs.HashBlock.{HashesToo};
 
-use crate::frames::FrameError;
-use crate::hashing::hash_block;
 use crate::order::Order;
 use crate::places::PlacesSoFar;
 use crate::report::{Damage, Notes, Place, Trailing};
@@ -24,6 +13,8 @@ use crate::trailing::{BytesAfter, is_no_sync_code, is_of_bytes};
 use claxon::frame::{BlockInfo, DecodedFrame};
 use claxon::metadata::StreamInfo;
 use claxon::{Block, Error, Result};
+use claxon_blocks::frames::FrameError;
+use claxon_blocks::hashing::hash_block;
 use claxon_md5::Md5;
 use std::alloc::Allocator;
 

@@ -1,7 +1,7 @@
 //! Frames with the longest header and the shortest, and bytes that are no frame.
 use claxon::frame::DecodedFrame;
 use claxon::metadata::StreamInfo;
-use claxon_verify::frames::read_frame;
+use claxon_blocks::frames::read_frame;
 use std::alloc::Global;
 use std::io::Cursor;
 

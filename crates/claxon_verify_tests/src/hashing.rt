@@ -6,7 +6,7 @@ use claxon::frame::FrameReader;
 use claxon::metadata::StreamInfo;
 use claxon::running::Running;
 use claxon_md5::Md5;
-use claxon_verify::hashing::hash_block;
+use claxon_blocks::hashing::hash_block;
 use std::alloc::{AllocError, Global};
 use std::io::Cursor;
 use std::test::Fail;

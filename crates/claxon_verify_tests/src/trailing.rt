@@ -1,5 +1,5 @@
 use claxon::running::Running;
-use claxon_verify::frames::FirstBytes;
+use claxon_blocks::frames::FirstBytes;
 use claxon_verify::report::Trailing;
 use claxon_verify::trailing::BytesAfter;
 

@@ -8,7 +8,8 @@ use claxon_tests::answers::{
 use claxon_tests::command_lines::owned;
 use claxon_tests::doubles::sinks::Sink;
 use claxon_tests::temporary_files::{file_of, path_of};
-use claxon_verify::report::{Damage, Md5Verdict, Place, Report};
+use claxon_blocks::md5_verdict::Md5Verdict;
+use claxon_verify::report::{Damage, Place, Report};
 use claxon_verify::verify;
 use std::fs;
 use std::io::{self, Cursor, ErrorKind};

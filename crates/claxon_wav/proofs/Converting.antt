@@ -32,19 +32,20 @@ use Rattle.claxon_md5.proofs.WholeBytes.{hashes_more, hashes_none}
 use Rattle.claxon_md5.specs.WholeBytes.{whole_bytes_of_samples}
 use Rattle.claxon_md5.specs.declared.Md5.{Md5}
 use Rattle.claxon_write.proofs.Counts.{flushed_after, none_failed, none_failed_both}
-use Rattle.claxon_verify.proofs.BlockReads.{block_io, io_not_fault}
-use Rattle.claxon_verify.proofs.FirstBytes.{fault_not_memory, refused}
+use Rattle.claxon_blocks.proofs.BlockReads.{block_io, io_not_fault}
+use Rattle.claxon_blocks.proofs.FirstBytes.{fault_not_memory, refused}
 use Rattle.claxon_wav.specs.Convert.{CanBeConverted, CanBeConvertedTo, CanBePut, Converts, ConvertsToStream, ExplainsError, HashesBlocks, HoldsFile, HoldsUnknown, ConvertIsExcused, IsErrorAt, IsWholeStream, OutputFailed, PutsAndHashes, PutsBlocks, PutsSamples, StopsAtBlock, StopsPutting, OutputWriteFailed, packed_blocks}
-use Rattle.claxon_verify.specs.Frames.{Is32BitFault}
+use Rattle.claxon_blocks.specs.Frames.{Is32BitFault}
 use Rattle.claxon_wav.specs.Samples.{bytes_of_sample, packed_block, packed_samples, shifted_sample, silence}
 use Rattle.claxon_wav.specs.Conversion.{IsVerdictOn}
 use Rattle.claxon_wav.specs.WavError.{IsFrameError, IsMemory, IsOutput, NamesFault}
 use Rattle.claxon_wav.specs.WaveFile.{pad, sample_size, unknown_header}
 use Rattle.claxon_wav.specs.DataSize.{max_data_size}
-use Rattle.claxon_verify.specs.Walk.{HasHashedBytes, HashesToo, Md5IsJudged}
+use Rattle.claxon_blocks.specs.HashBlock.{HashesToo}
+use Rattle.claxon_blocks.specs.Md5Verdict.{HasHashedBytes, Md5IsJudged}
 use Rattle.claxon_wav.specs.Writer.{BlockErrorKeeps, CallsFailed, ExplainsBlockError, FewWritesFailed, FinishFaultIsSound, FinishFlushes, FinishIsSound, FinishStreamIsSound, NoneFailed, PutsBlock, SameHeader, SamplesFit, Unflushed, WritesFailed, output_contents, stream_pad}
-use Rattle.claxon_verify.specs.declared.frames.FrameError.{FrameError}
-use Rattle.claxon_verify.specs.declared.report.Md5Verdict.{Md5Verdict}
+use Rattle.claxon_blocks.specs.declared.frames.FrameError.{FrameError}
+use Rattle.claxon_blocks.specs.declared.md5_verdict.Md5Verdict.{Md5Verdict}
 use Rattle.claxon_wav.specs.declared.error.Error.{Error}
 use Rattle.claxon_wav.specs.declared.error.Error.TheVariants.{Claxon, Exists, OtherChannels, Output, SameFile, TooLong, Unsupported32Bit, WideSample}
 use Rattle.claxon_wav.specs.declared.header.Layout.{Layout}

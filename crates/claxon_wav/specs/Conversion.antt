@@ -20,9 +20,9 @@ use Rattle.claxon.specs.declared.reader.FlacReader.{FlacReader}
 use Rattle.claxon_md5.specs.WholeBytes.{whole_bytes_of_samples}
 use Rattle.claxon_write.specs.WriteSamples.{flac_stream}
 use Rattle.claxon_wav.specs.Convert.{IsWholeStream}
-use Rattle.claxon_verify.specs.Verify.{IsMd5Verdict}
-use Rattle.claxon_verify.specs.declared.report.Md5Verdict.{Md5Verdict}
-use Rattle.claxon_verify.specs.declared.report.Md5Verdict.TheVariants.{NotComputed}
+use Rattle.claxon_blocks.specs.Md5Verdict.{IsMd5Verdict}
+use Rattle.claxon_blocks.specs.declared.md5_verdict.Md5Verdict.{Md5Verdict}
+use Rattle.claxon_blocks.specs.declared.md5_verdict.Md5Verdict.TheVariants.{NotComputed}
 use Rattle.claxon_wav.specs.declared.conversion.Conversion.{Conversion}
 use Rattle.claxon_wav.specs.declared.plan.Plan.{Plan}
 use Rattle.claxon_wav.specs.declared.error.Error.{Error}

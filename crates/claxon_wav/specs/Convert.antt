@@ -44,9 +44,9 @@ use Rattle.claxon_md5.specs.HasherCalls.{HashesSamples}
 use Rattle.claxon_md5.specs.declared.Md5.{Md5}
 use Rattle.claxon_write.specs.WriteSamples.{flac_stream}
 use Rattle.claxon_wav.specs.DataSize.{max_data_size}
-use Rattle.claxon_verify.specs.Frames.{Is32BitFault, Says32Bits}
+use Rattle.claxon_blocks.specs.Frames.{Is32BitFault, Says32Bits}
 use Rattle.claxon_wav.specs.Samples.{packed_samples}
-use Rattle.claxon_verify.specs.Verify.{IsNotWhole}
+use Rattle.claxon_blocks.specs.Frames.{IsNotWhole}
 use Rattle.claxon_wav.specs.WavError.{IsInput, IsMemory, IsOutput, NamesFault}
 use Rattle.claxon_wav.specs.WaveFile.{unknown_header, wave_file}
 use Rattle.claxon_wav.specs.Writer.{

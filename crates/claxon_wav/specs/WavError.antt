@@ -5,7 +5,7 @@ use Rattle.claxon.specs.Errors.{Error as Cause}
 use Rattle.claxon.specs.Errors.TheVariants.{OutOfMemory}
 use Rattle.claxon.specs.Fault.{BitDepthReserved, Fault}
 use Rattle.claxon_wav.specs.declared.error.Error.{Error}
-use Rattle.claxon_verify.specs.declared.frames.FrameError.{FrameError}
+use Rattle.claxon_blocks.specs.declared.frames.FrameError.{FrameError}
 use Rattle.claxon_wav.specs.declared.error.Error.TheVariants.{
   Claxon,
   Output,

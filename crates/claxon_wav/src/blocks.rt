@@ -13,7 +13,7 @@ ghost use Rattle.claxon_wav.specs.Convert.{
   PutBlocksIsSound,
 };
 ghost use Rattle.claxon_command_line.specs.Progress.{SameErrors, StaysQuiet};
-ghost use Rattle.claxon_verify.specs.Walk.{HashesToo};
+ghost use Rattle.claxon_blocks.specs.HashBlock.{HashesToo};
 ghost use Rattle.claxon_wav.specs.Writer.{SameOutput};
 
 use crate::error::Result;
@@ -23,8 +23,8 @@ use claxon::metadata::StreamInfo;
 use claxon::{Block, FlacReader};
 use claxon_command_line::progress::Progress;
 use claxon_md5::Md5;
-use claxon_verify::frames::read_block;
-use claxon_verify::hashing::hash_block;
+use claxon_blocks::frames::read_block;
+use claxon_blocks::hashing::hash_block;
 use std::alloc::{Allocator, Global};
 use std::io::{Read, Seek, Write};
 

@@ -1,7 +1,7 @@
 //! A whole stream, converted.
 ghost use Rattle.std.specs.Prelude.{◌≡◌, [], false};
 ghost use Rattle.claxon.specs.FlacReader.{flac_metadata_only};
-ghost use Rattle.claxon_verify.specs.Walk.{HasHashedBytes};
+ghost use Rattle.claxon_blocks.specs.Md5Verdict.{HasHashedBytes};
 ghost use Rattle.claxon_wav.specs.Conversion.{VerdictIsSound, plan_computes_md5};
 
 use crate::blocks::{convert, convert_to_stream};
@@ -11,8 +11,8 @@ use crate::writer::WavWriter;
 use claxon::FlacReader;
 use claxon_command_line::progress::Progress;
 use claxon_md5::Md5;
-use claxon_verify::judge_md5;
-use claxon_verify::report::Md5Verdict;
+use claxon_blocks::md5_verdict::judge_md5;
+use claxon_blocks::md5_verdict::Md5Verdict;
 use std::alloc::Global;
 use std::io::{Read, Seek, Write};
 

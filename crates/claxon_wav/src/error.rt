@@ -5,7 +5,7 @@ ghost use Rattle.claxon.specs.Errors.TheVariants.{OutOfMemory};
 ghost use Rattle.claxon_wav.specs.WavError.{IsFrameError, IsOutputResult};
 ghost use Rattle.claxon_wav.specs.declared.error.Error.TheVariants.{Claxon, Output};
 
-use claxon_verify::frames::{FrameError, UNSUPPORTED_32_BIT};
+use claxon_blocks::frames::{FrameError, UNSUPPORTED_32_BIT};
 use std::alloc::AllocError;
 use std::{fmt, io, result};
 

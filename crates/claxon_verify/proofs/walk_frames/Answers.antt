@@ -3,7 +3,7 @@ use Rattle.std.proofs.lemmas.Result.{err_from_is_err_and}
 use Rattle.std.specs.Prelude.{Ok, Some}
 use Rattle.claxon.specs.DecodedFrames.{DecodedFrame}
 use Rattle.claxon.specs.FrameReader.{stream_with}
-use Rattle.claxon_verify.specs.Frames.{decoder_answer, frame_block}
+use Rattle.claxon_blocks.specs.Frames.{decoder_answer, frame_block}
 use Rattle.claxon_verify.specs.Verify.{counted_bytes}
 use Rattle.claxon_verify.specs.declared.BytesRead.{BytesRead}
 use Rattle.claxon_command_line.proofs.Showing.{shown_quietly, shown_total_same}

@@ -5,8 +5,8 @@ use Rattle.claxon.specs.Block.{BlockValue}
 use Rattle.claxon.specs.FrameReader.{BlockHasSamples, FrameAnswer}
 use Rattle.claxon.specs.State.{bytes_in}
 use Rattle.claxon.proofs.SamplesInTurn.{reads_as}
-use Rattle.claxon_verify.specs.Frames.{TellsOf32Bits, answer_of}
-use Rattle.claxon_verify.specs.declared.frames.FrameError.{FrameError}
+use Rattle.claxon_blocks.specs.Frames.{TellsOf32Bits, answer_of}
+use Rattle.claxon_blocks.specs.declared.frames.FrameError.{FrameError}
 use Rattle.claxon_wav.proofs.Converting.{block_takes, hashed_all, hashed_more, hashed_none, stops_at_block, stops_at_fault}
 use Rattle.claxon_command_line.proofs.Showing.{shown_quietly, shown_total_same}
 use Rattle.claxon_wav.proofs.blocks.put_blocks.Goals as goal

@@ -1,7 +1,7 @@
 use Rattle.claxon.specs.FlacReader.{flac_streaminfo}
 use Rattle.claxon.specs.MetadataBlock.{info_view}
 use Rattle.claxon.specs.StreamInfos.{StreamInfo}
-use Rattle.claxon_verify.specs.Walk.{Md5IsJudged}
+use Rattle.claxon_blocks.specs.Md5Verdict.{Md5IsJudged}
 use Rattle.std.proofs.Common.{subst}
 use Rattle.claxon_wav.proofs.Converting.{judged}
 use Rattle.claxon_wav.proofs.conversion.write_stream.Goals as goal
