@@ -37,7 +37,7 @@ use Rattle.claxon.specs.BlockInfos.{BlockInfo}
 use Rattle.claxon.specs.DecodedFrame.{FrameValue, FrameWithHeader}
 use Rattle.claxon.specs.Error.{IsFault, IsIo}
 use Rattle.claxon.specs.Fault.{Fault}
-use Rattle.claxon.specs.Frame.{Frame, FrameBytesFault, StreamFormat}
+use Rattle.claxon.specs.Frame.{FrameBytesFault, StreamFormat}
 use Rattle.claxon.specs.FrameReader.{HeaderOfLargerBlock}
 use Rattle.claxon.specs.Gives.{ReadFailedIn}
 use Rattle.claxon.specs.Heads.{Head, HeadCode, HeadFault, Marker, stream_marker}
@@ -53,8 +53,8 @@ use Rattle.claxon.specs.Errors.{Error}
 use Rattle.claxon.specs.Errors.TheVariants.{OutOfMemory, Unsupported}
 use Rattle.claxon.specs.RunningReader.{running_source, running_value}
 use Rattle.claxon.specs.RunningReaders.{RunningReader}
-use Rattle.claxon_md5.specs.Md5.{md5}
-use Rattle.claxon_blocks.specs.Frames.{Is32BitFault}
+use Rattle.claxon_blocks.specs.Frames.{Is32BitFault, IsNotWhole}
+use Rattle.claxon_blocks.specs.Md5Verdict.{IsMd5Verdict}
 use Rattle.claxon_verify.specs.RightStream.{
   AgreesWithInfo,
   AreInOrder,
@@ -80,12 +80,7 @@ use Rattle.claxon_verify.specs.declared.report.Damage.TheVariants.{
 }
 use Rattle.claxon_verify.specs.declared.report.Gap.{Gap}
 use Rattle.claxon_blocks.specs.declared.md5_verdict.Md5Verdict.{Md5Verdict}
-use Rattle.claxon_blocks.specs.declared.md5_verdict.Md5Verdict.TheVariants.{
-  Missing as NoMd5,
-  NotComputed,
-  Right,
-  Wrong,
-}
+use Rattle.claxon_blocks.specs.declared.md5_verdict.Md5Verdict.TheVariants.{NotComputed, Wrong}
 use Rattle.claxon_verify.specs.declared.report.Place.{Place}
 use Rattle.claxon_verify.specs.declared.report.Report.{Report}
 use Rattle.claxon_verify.specs.declared.BytesRead.{BytesRead}

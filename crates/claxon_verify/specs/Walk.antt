@@ -1,23 +1,6 @@
 -- What is found in a stream, frame by frame.
-use Rattle.std.specs.Prelude.{
-  ◌≡◌,
-  ◌⊎◌,
-  ℕ,
-  ◌<◌,
-  ◌≤◌,
-  ◌+◌,
-  ◌^◌,
-  Bool,
-  if◌then◌else◌,
-  List,
-  [],
-  Option,
-  None,
-  Some,
-  IsSomeAnd,
-}
+use Rattle.std.specs.Prelude.{◌≡◌, ◌⊎◌, ℕ, ◌<◌, ◌≤◌, ◌+◌, ◌^◌, Bool, if◌then◌else◌, [], Option, None, Some, IsSomeAnd}
 use Rattle.claxon.specs.Codes.{when◌then◌else◌}
-use Rattle.claxon.specs.Block.{BlockValue}
 use Rattle.claxon.specs.BlockInfos.{BlockInfo}
 use Rattle.claxon.specs.DecodedFrames.{DecodedFrame}
 use Rattle.claxon.specs.Errors.{Error}
@@ -26,17 +9,13 @@ use Rattle.claxon.specs.Frame.{StreamFormat}
 use Rattle.claxon.specs.Gives.{ReadFailedIn}
 use Rattle.claxon.specs.State.{State, RemainingIsKnown}
 use Rattle.claxon.specs.Streams.{duration_of}
-use Rattle.claxon_md5.specs.HasHashed.{HasHashed}
-use Rattle.claxon_md5.specs.declared.Md5.{Md5}
-use Rattle.claxon_blocks.specs.HashBlock.{HashesBlock}
+use Rattle.claxon_blocks.specs.HashBlock.{HashesToo}
+use Rattle.claxon_blocks.specs.Md5Verdict.{HasHashedBytes}
 use Rattle.claxon_verify.specs.RightStream.{bytes_of_frames}
 use Rattle.claxon_verify.specs.Verify.{Counted, Counts, IsJudged, IsTooMany, frames_of}
-use Rattle.claxon_blocks.specs.Md5Verdict.{IsMd5Verdict}
 use Rattle.claxon_blocks.specs.declared.frames.FrameError.{FrameError}
 use Rattle.claxon_verify.specs.declared.report.Damage.{Damage}
 use Rattle.claxon_verify.specs.declared.report.Damage.TheVariants.{Fault}
-use Rattle.claxon_blocks.specs.declared.md5_verdict.Md5Verdict.{Md5Verdict}
-use Rattle.claxon_blocks.specs.declared.md5_verdict.Md5Verdict.TheVariants.{NotComputed}
 use Rattle.claxon_verify.specs.declared.report.Place.{Place}
 use Rattle.claxon_verify.specs.declared.order.Order.{Order}
 use Rattle.claxon_verify.specs.declared.places.PlacesSoFar.{PlacesSoFar}
