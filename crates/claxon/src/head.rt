@@ -137,7 +137,7 @@ fn read_head_exact<R: ReadBytes, A: Allocator + Copy>(
 
 #[tactic(auto, using(claxon_input::proofs::ByteFields::first_number), unfolding(claxon_format::specs::read::Heads::marker_at, claxon_format::specs::Fault::fault_text))]
 fn read_stream_header<R: ReadBytes>(input: &mut R) -> Result<()>
-    ensures { Gives (λ x. stream_marker) result marker_at
+    ensures gives { Gives (λ x. stream_marker) result marker_at
         (bytes_in R.source input.old) (bytes_in R.source input.new) }
 {
     let marker = input.read_be_u32()?;

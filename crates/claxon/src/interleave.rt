@@ -181,7 +181,8 @@ fn put_channels<const CHANNELS: usize, U: SampleUnit, A: Allocator>(
 fn put_channel<const CHANNELS: usize, U: SampleUnit>(samples: &[i32], ch: usize, buffer: &mut [U])
     requires here { ch < CHANNELS }
     requires buffer { length buffer.old ≡ length samples.now * (U.SIZE * CHANNELS) }
-    ensures { PutsChannel U.units U.SIZE samples.now ch CHANNELS buffer.old buffer.new }
+    ensures puts_channel { PutsChannel U.units U.SIZE samples.now ch CHANNELS
+        buffer.old buffer.new }
 {
     for i in 0..samples.len() {
         let at = i * (U::SIZE * CHANNELS) + U::SIZE * ch;

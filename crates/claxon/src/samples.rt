@@ -100,7 +100,7 @@ impl<R: ReadBytes, A: Allocator + Copy> FlacSamples<R, A> {
     // The next sample of the current block, or else the first one of the next block.
     fn next_sample(&mut self) -> Option<Result<i32>>
         requires { have_failed self.old ≡ false }
-        ensures { NextSample R.source self.old result self.new }
+        ensures next_sample { NextSample R.source self.old result self.new }
     {
         if self.sample < self.block.duration() {
             return Some(Ok(self.give()));
@@ -112,7 +112,7 @@ impl<R: ReadBytes, A: Allocator + Copy> FlacSamples<R, A> {
     fn first_of_next_block(&mut self) -> Option<Result<i32>>
         requires { have_failed self.old ≡ false }
         ensures stream { samples_stream self.new ≡ samples_stream self.old }
-        ensures step { NextBlock R.source self.old result self.new }
+        ensures next_block { NextBlock R.source self.old result self.new }
     {
         match self.read_block() {
             Ok(more) => { if more { Some(Ok(self.give())) } else { None } }

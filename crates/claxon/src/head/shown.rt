@@ -15,7 +15,8 @@ pub struct Head<A: Allocator = Global> {
     streaminfo: StreamInfo,
     vorbis_comment: Option<VorbisComment<A>>,
     ghost bounds: { HasBounds streaminfo } by { Prim.hlevel props },
-    ghost places: { ForSome vorbis_comment (λ comment. HaveSeparatorIndices comment.comments.items) },
+    ghost places: { ForSome vorbis_comment
+        (λ comment. HaveSeparatorIndices comment.comments.items) },
 }
 
 impl<A: Allocator> Head<A> {

@@ -16,55 +16,55 @@ use Rattle.claxon.proofs.head.read_head_exact.Goals as goal
 
 pub returns-in_err-read_stream_header-clause-gives : goal.returns-in_err-read_stream_header-clause-gives
 returns-in_err-read_stream_header-clause-gives g c =
-    exit_no_memory (head_view {A = g.row.A.Denot}) (err_from_is_err_and c.from_residual.result c.from_residual.ensures.1) (consumes_none _ _ (marker_stops (options_view c.args.options) _)) c.in_err-read_stream_header.ensures
+    exit_no_memory (head_view {A = g.row.A.Denot}) (err_from_is_err_and c.from_residual.result c.from_residual.ensures.1) (consumes_none _ _ (marker_stops (options_view c.args.options) _)) c.in_err-read_stream_header.ensures.gives
 
 pub returns-in_err-read_stream_header-clause-out_of_memory_after_header : goal.returns-in_err-read_stream_header-clause-out_of_memory_after_header
 returns-in_err-read_stream_header-clause-out_of_memory_after_header g c out_of_memory is_known =
-    absurd (never_out_of_memory_without_allocation (err_from_is_err_and c.from_residual.result c.from_residual.ensures.1) c.in_err-read_stream_header.ensures out_of_memory)
+    absurd (never_out_of_memory_without_allocation (err_from_is_err_and c.from_residual.result c.from_residual.ensures.1) c.in_err-read_stream_header.ensures.gives out_of_memory)
 
 pub returns-in_err-is_last-clause-out_of_memory_after_header : goal.returns-in_err-is_last-clause-out_of_memory_after_header
 returns-in_err-is_last-clause-out_of_memory_after_header g c =
-    out_of_memory_after_marker _ _ (err_from_is_err_and c.from_residual-in_err-is_last.result c.from_residual-in_err-is_last.ensures.1) c.in_ok-read_stream_header.ensures (λ q. c.in_err-is_last.ensures.out_of_memory_after_block_header (ap (λ (z : Error). Err z) q))
+    out_of_memory_after_marker _ _ (err_from_is_err_and c.from_residual-in_err-is_last.result c.from_residual-in_err-is_last.ensures.1) c.in_ok-read_stream_header.ensures.gives (λ q. c.in_err-is_last.ensures.out_of_memory_after_block_header (ap (λ (z : Error). Err z) q))
 
 pub returns-in_err-is_last-clause-gives : goal.returns-in_err-is_last-clause-gives
 returns-in_err-is_last-clause-gives g c =
     exit_with_memory (head_view {A = g.row.A.Denot}) (λ (found : Bool × MetadataBlock g.row.A.Denot). metadata_block_view found.0 found.1) _ (err_from_is_err_and c.from_residual-in_err-is_last.result c.from_residual-in_err-is_last.ensures.1)
-    (consumes_map _ c.in_ok-read_stream_header.ensures (λ p. first_stops (options_view c.args.options) stream_marker _ _ p)) c.in_err-is_last.ensures.is_read
+    (consumes_map _ c.in_ok-read_stream_header.ensures.gives (λ p. first_stops (options_view c.args.options) stream_marker _ _ p)) c.in_err-is_last.ensures.is_read
 
 pub returns-in_default-clause-gives : goal.returns-in_default-clause-gives
 unfolding fault_text
 returns-in_default-clause-gives g c =
     stops_fault StreaminfoMissing refl refl (refl, refl)
-    (consumes_then _ c.in_ok-read_stream_header.ensures c.in_ok-is_last.ensures.is_read (λ p q. no_streaminfo (options_view c.args.options) stream_marker c.in_ok-is_last.is_last c.in_ok-is_last.first _ _ _ c.in_default.not-StreamInfo p q))
+    (consumes_then _ c.in_ok-read_stream_header.ensures.gives c.in_ok-is_last.ensures.is_read (λ p q. no_streaminfo (options_view c.args.options) stream_marker c.in_ok-is_last.is_last c.in_ok-is_last.first _ _ _ c.in_default.not-StreamInfo p q))
 
 pub returns-then-is_last-clause-gives : goal.returns-then-is_last-clause-gives
 returns-then-is_last-clause-gives g c =
     let ends : streaminfo_ends_head (options_view c.args.options) c.in_ok-is_last.is_last ≡ true = search rules in
-    begun_short (options_view c.args.options) ends (head_begun c.in-StreamInfo.info c.in-StreamInfo.is c.in_ok-read_stream_header.ensures c.in_ok-is_last.ensures.is_read)
+    begun_short (options_view c.args.options) ends (head_begun c.in-StreamInfo.info c.in-StreamInfo.is c.in_ok-read_stream_header.ensures.gives c.in_ok-is_last.ensures.is_read)
 
 pub returns-in_err-comment-clause-out_of_memory_after_header : goal.returns-in_err-comment-clause-out_of_memory_after_header
 returns-in_err-comment-clause-out_of_memory_after_header g c =
     out_of_memory_after_first _ _ _ _ (err_from_is_err_and c.from_residual-in_err-comment.result c.from_residual-in_err-comment.ensures.1)
-    c.in_ok-read_stream_header.ensures c.in_ok-is_last.ensures.is_read (λ q. c.in_err-comment.ensures.out_of_memory_after_blocks (ap (λ (z : Error). Err z) q))
+    c.in_ok-read_stream_header.ensures.gives c.in_ok-is_last.ensures.is_read (λ q. c.in_err-comment.ensures.out_of_memory_after_blocks (ap (λ (z : Error). Err z) q))
 
 pub returns-in_err-comment-clause-gives : goal.returns-in_err-comment-clause-gives
 returns-in_err-comment-clause-gives g c =
     let goes_on : streaminfo_ends_head (options_view c.args.options) c.in_ok-is_last.is_last ≡ false = search rules in
     exit_with_memory (head_view {A = g.row.A.Denot}) (found_view {A = g.row.A.Denot}) _ (err_from_is_err_and c.from_residual-in_err-comment.result c.from_residual-in_err-comment.ensures.1)
-    (begun_stops (options_view c.args.options) goes_on (head_begun c.in-StreamInfo.info c.in-StreamInfo.is c.in_ok-read_stream_header.ensures c.in_ok-is_last.ensures.is_read))
+    (begun_stops (options_view c.args.options) goes_on (head_begun c.in-StreamInfo.info c.in-StreamInfo.is c.in_ok-read_stream_header.ensures.gives c.in_ok-is_last.ensures.is_read))
     c.in_err-comment.ensures.gives
 
 pub returns-then-options-2-clause-gives : goal.returns-then-options-2-clause-gives
 returns-then-options-2-clause-gives g c =
     let goes_on : streaminfo_ends_head (options_view c.args.options) c.in_ok-is_last.is_last ≡ false = search rules in
     begun_with (options_view c.args.options) (found_view c.in_ok-comment.comment) goes_on c.if-options-2.true
-    (head_begun c.in-StreamInfo.info c.in-StreamInfo.is c.in_ok-read_stream_header.ensures c.in_ok-is_last.ensures.is_read) c.in_ok-comment.ensures.gives
+    (head_begun c.in-StreamInfo.info c.in-StreamInfo.is c.in_ok-read_stream_header.ensures.gives c.in_ok-is_last.ensures.is_read) c.in_ok-comment.ensures.gives
 
 pub returns-else-options-2-clause-gives : goal.returns-else-options-2-clause-gives
 returns-else-options-2-clause-gives g c =
     let goes_on : streaminfo_ends_head (options_view c.args.options) c.in_ok-is_last.is_last ≡ false = search rules in
     begun_without (options_view c.args.options) (found_view c.in_ok-comment.comment) goes_on c.if-options-2.false
-    (head_begun c.in-StreamInfo.info c.in-StreamInfo.is c.in_ok-read_stream_header.ensures c.in_ok-is_last.ensures.is_read) c.in_ok-comment.ensures.gives
+    (head_begun c.in-StreamInfo.info c.in-StreamInfo.is c.in_ok-read_stream_header.ensures.gives c.in_ok-is_last.ensures.is_read) c.in_ok-comment.ensures.gives
 
 pub returns-in_default-clause-has_bounds : goal.returns-in_default-clause-has_bounds
 returns-in_default-clause-has_bounds g c = grind (arith, common_steps)

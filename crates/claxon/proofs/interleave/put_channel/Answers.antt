@@ -28,4 +28,4 @@ loop-i-preserved g c =
     channel_more g.U.SampleUnit.units width (size * c.args.ch) i s c.args.buffer.now c.loop-i.buffer c.put.new.place put (omega (arith, n, len)) (omega (arith, n, place)) here c.loop-i.invariant start
 
 pub returns : goal.returns
-returns g c = λ i lt. c.loop-i.invariant.put i (omega arith)
+returns g c = record { puts_channel = λ i lt. c.loop-i.invariant.put i (omega arith) }

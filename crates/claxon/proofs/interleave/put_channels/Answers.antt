@@ -16,7 +16,7 @@ loop-ch-preserved g c =
     let to = c.args.to in
     let channel = c.channel.result.now in
     channel_after g.U.SampleUnit.units g.U.SampleUnit.SIZE g.met.U.SampleUnit.size c.args.block.now.channels (g.U.SampleUnit.SIZE * g.row.CHANNELS) from to (to - from) c.loop-ch.ch channel (between from to channel) c.loop-ch.buffer c.put_channel.new.buffer c.channel.ensures.samples refl
-    (omega (arith, c.requires.order)) (sym (length-between channel from to (omega (arith, c.requires.in_block, c.channel.ensures.len)))) c.loop-ch.invariant c.put_channel.ensures
+    (omega (arith, c.requires.order)) (sym (length-between channel from to (omega (arith, c.requires.in_block, c.channel.ensures.len)))) c.loop-ch.invariant c.put_channel.ensures.puts_channel
 
 pub returns : goal.returns
 returns g c =

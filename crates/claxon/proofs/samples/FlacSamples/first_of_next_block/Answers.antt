@@ -6,8 +6,8 @@ use Rattle.claxon.specs.FlacSamples.{samples_left, samples_stream, samples_bytes
 use Rattle.claxon_frame.specs.declared.frame.FrameReader.{FrameReader}
 use Rattle.claxon.proofs.samples.FlacSamples.first_of_next_block.Goals as goal
 
-pub returns-then-more-clause-step : goal.returns-then-more-clause-step
-returns-then-more-clause-step g c =
+pub returns-then-more-clause-next_block : goal.returns-then-more-clause-next_block
+returns-then-more-clause-next_block g c =
     let mid = c.read_block.new.self in
     let read = rw c.if-more.true at c.in-Ok.ensures.is_read in
     let capacity = rw c.if-more.true at c.in-Ok.ensures.keeps_capacity in
@@ -24,8 +24,8 @@ returns-then-more-clause-step g c =
           (c.give.result, samples_left c.give.new.self, sym (c.in-Ok.ensures.left c.if-more.true) ∙ c.give.ensures.sample, record { is = refl; left_are = refl; goes_on = c.give.ensures.has_failed ∙ c.in-Ok.ensures.has_failed ∙ c.requires }, c.give.ensures.capacity);
     })
 
-pub returns-else-more-clause-step : goal.returns-else-more-clause-step
-returns-else-more-clause-step g c =
+pub returns-else-more-clause-next_block : goal.returns-else-more-clause-next_block
+returns-else-more-clause-next_block g c =
     record {
       found = Ok None;
       reads = rw c.if-more.false at c.in-Ok.ensures.is_read;
@@ -35,5 +35,5 @@ returns-else-more-clause-step g c =
       capacity = rw c.if-more.false at c.in-Ok.ensures.keeps_capacity;
     }
 
-pub returns-in-Err-clause-step : goal.returns-in-Err-clause-step
-returns-in-Err-clause-step g c = record { found = Err c.in-Err.error; reads = c.in-Err.ensures.is_read; answer = (refl, refl); memory = c.in-Err.ensures.out_of_memory_for_larger_block; enough = c.in-Err.ensures.max_capacity_is_enough; capacity = tt }
+pub returns-in-Err-clause-next_block : goal.returns-in-Err-clause-next_block
+returns-in-Err-clause-next_block g c = record { found = Err c.in-Err.error; reads = c.in-Err.ensures.is_read; answer = (refl, refl); memory = c.in-Err.ensures.out_of_memory_for_larger_block; enough = c.in-Err.ensures.max_capacity_is_enough; capacity = tt }
