@@ -53,7 +53,7 @@ impl<'a> Arguments<'a> {
 
     /// All arguments of these words.
     pub fn new(words: &'a [String]) -> Arguments<'a>
-        ensures { AreArgumentsOf words.now result }
+        ensures are_arguments_of { AreArgumentsOf words.now result }
     {
         Arguments {
             words,
@@ -63,8 +63,8 @@ impl<'a> Arguments<'a> {
 
     /// The next argument.
     pub fn next(&mut self) -> Option<Argument<'a>>
-        ensures next_is_sound { NextIsSound self.old result self.new }
-        ensures shorter { TakesWord result self.old self.new }
+        ensures is_sound { NextIsSound self.old result self.new }
+        ensures takes_word { TakesWord result self.old self.new }
     {
         let word = self.value()?;
         if !self.has_options {
@@ -82,8 +82,8 @@ impl<'a> Arguments<'a> {
 
     /// The next word, whatever it is, as the value of an option.
     pub fn value(&mut self) -> Option<&'a str>
-        ensures value_is_sound { ValueIsSound self.old result self.new }
-        ensures shorter { TakesWord result self.old self.new }
+        ensures is_sound { ValueIsSound self.old result self.new }
+        ensures takes_word { TakesWord result self.old self.new }
         ensures not_longer { words_left self.new ≤ words_left self.old }
     {
         let (first, others) = self.words.split_first()?;
@@ -125,7 +125,7 @@ impl<'a> Notice<'a> {
 
     /// What is printed for an option that each command has, or for one that it doesn't have.
     pub fn of_option(option: &'a str) -> Notice<'a>
-        ensures { IsNoticeOf option.now result }
+        ensures is_notice_of { IsNoticeOf option.now result }
     {
         if option == "--help" {
             return Notice::Help;
@@ -159,7 +159,7 @@ impl<'a> Operands<'a> {
 
     /// The operands among these words, of which there is one or more, and no option.
     pub fn parse(words: &'a [String]) -> result::Result<Operands<'a>, Notice<'a>>
-        ensures { ParseIsSound result }
+        ensures is_sound { ParseIsSound result }
     {
         let mut arguments = Arguments::new(words);
         let mut count = 0usize;

@@ -33,7 +33,7 @@ pub fn open_input<Q: Files, I: Read + Drop>(
     name: &str,
     standard: I,
 ) -> io::Result<Input<Q::File, I>>
-    ensures { OpensInput name.now standard result }
+    ensures opens_input { OpensInput name.now standard result }
 {
     if name == STANDARD {
         return Ok(Input::Standard(standard));

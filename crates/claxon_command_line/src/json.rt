@@ -7,7 +7,7 @@ use std::alloc::{AllocError, Allocator};
 /// Adds a string of JSON (RFC 8259, section 7) with its quotation marks. Only what has to be escaped is: a quotation mark, a
 /// backslash and each character below U+0020.
 pub fn push_json_string<A: Allocator>(text: &mut String<A>, s: &str) -> Result<(), AllocError>
-    ensures { Adds (json_string s.now) result text.old text.new }
+    ensures adds { Adds (json_string s.now) result text.old text.new }
 {
     text.push_str("\"")?;
     push_json_chars(text, s)?;
@@ -15,7 +15,7 @@ pub fn push_json_string<A: Allocator>(text: &mut String<A>, s: &str) -> Result<(
 }
 
 fn push_json_chars<A: Allocator>(text: &mut String<A>, s: &str) -> Result<(), AllocError>
-    ensures { Adds (json_chars s.now) result text.old text.new }
+    ensures adds { Adds (json_chars s.now) result text.old text.new }
 {
     for c in s.chars() {
         push_json_char(text, c)?;
@@ -25,7 +25,7 @@ fn push_json_chars<A: Allocator>(text: &mut String<A>, s: &str) -> Result<(), Al
 
 #[tactic(auto, unfolding(crate::specs::Json::json_char))]
 fn push_json_char<A: Allocator>(text: &mut String<A>, c: char) -> Result<(), AllocError>
-    ensures { Adds (json_char c) result text.old text.new }
+    ensures adds { Adds (json_char c) result text.old text.new }
 {
     match c {
         '"' => text.push_str("\\\""),

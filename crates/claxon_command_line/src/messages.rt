@@ -45,7 +45,7 @@ pub fn print_message<E: Write>(
 
 /// The name that is printed for an input or an output: `-` is a standard stream.
 pub fn shown_name(name: &str, part: Part) -> &str
-    ensures { IsShownName name.now part result.now }
+    ensures is_shown_name { IsShownName name.now part result.now }
 {
     match part {
         Part::Head | Part::Frame if name == STANDARD => "standard input",
@@ -57,7 +57,7 @@ pub fn shown_name(name: &str, part: Part) -> &str
 /// A line `NAME: TEXT`, with the text as `escaped_text` has it.
 #[tactic(auto, unfolding(crate::specs::Text::line))]
 pub fn line<A: Allocator + Copy>(alloc: A, name: &str, text: &str) -> Result<String<A>, AllocError>
-    ensures { IsText (line (escaped_text name.now) (escaped_text text.now)) result }
+    ensures is_text { IsText (line (escaped_text name.now) (escaped_text text.now)) result }
 {
     let (name, text) = (escaped_text(alloc, name)?, escaped_text(alloc, text)?);
     format!(in alloc; "{name}: {text}\n")
@@ -69,7 +69,7 @@ pub fn error_text<A: Allocator + Copy>(
     part: Part,
     error: &Error,
 ) -> Result<String<A>, AllocError>
-    ensures { ErrorTextIsSound part error.now result }
+    ensures is_sound { ErrorTextIsSound part error.now result }
 {
     match error {
         Error::IoError(cause) => io_text(alloc, part, cause),
@@ -83,7 +83,7 @@ fn io_text<A: Allocator + Copy>(
     part: Part,
     cause: &io::Error,
 ) -> Result<String<A>, AllocError>
-    ensures { IoTextIsSound part cause.now result }
+    ensures is_sound { IoTextIsSound part cause.now result }
 {
     let is_eof = cause.kind() == ErrorKind::UnexpectedEof;
     match part {

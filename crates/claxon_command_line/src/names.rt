@@ -15,7 +15,7 @@ use std::result;
 ///
 /// An `IoError` if a read fails, `OutOfMemory` if memory for the name is refused.
 pub fn read_name<R: ReadBytes, A: Allocator>(input: &mut R, name: &mut Vec<u8, A>) -> Result<bool>
-    ensures { ReadNameIsSound R.source input.old result input.new name.new.items }
+    ensures is_sound { ReadNameIsSound R.source input.old result input.new name.new.items }
 {
     name.clear();
     for _ in 0..u64::MAX {
@@ -37,7 +37,7 @@ pub fn escaped_bytes<A: Allocator + Copy>(
     alloc: A,
     name: &[u8],
 ) -> result::Result<String<A>, AllocError>
-    ensures { IsText (escaped_bytes name.now) result }
+    ensures is_text { IsText (escaped_bytes name.now) result }
 {
     let mut text = String::new(alloc);
     for chunk in name.utf8_chunks() {
@@ -51,7 +51,7 @@ fn push_hex_escapes<A: Allocator>(
     text: &mut String<A>,
     bytes: &[u8],
 ) -> result::Result<(), AllocError>
-    ensures { Adds (hex_escapes bytes.now) result text.old text.new }
+    ensures adds { Adds (hex_escapes bytes.now) result text.old text.new }
 {
     for byte in bytes {
         write!(text, "\\x{byte:02x}")?;

@@ -27,7 +27,7 @@ impl<'e, 'l, E: Write> Progress<'e, 'l, E> {
 
     /// A line on `errors` that isn't written yet, and begins with this label. Without one it never is.
     pub fn new(errors: &'e mut E, label: Option<&'l str>) -> Progress<'e, 'l, E>
-        ensures { IsNewProgress errors.entry label.entry result }
+        ensures is_new_progress { IsNewProgress errors.entry label.entry result }
     {
         Progress {
             errors,

@@ -16,7 +16,7 @@ use std::alloc::{AllocError, Allocator};
 /// A number in decimal digits, or `unknown` for None.
 #[tactic(auto, unfolding(crate::specs::Text::number_text))]
 pub fn number_text<A: Allocator>(alloc: A, number: Option<u64>) -> Result<String<A>, AllocError>
-    ensures { IsText (number_text number) result }
+    ensures is_text { IsText (number_text number) result }
 {
     match number {
         Some(number) => format!(in alloc; "{number}"),
@@ -27,7 +27,7 @@ pub fn number_text<A: Allocator>(alloc: A, number: Option<u64>) -> Result<String
 /// A number of things, in the plural unless it is 1.
 #[tactic(auto, unfolding(crate::specs::Text::count_text))]
 pub fn count_text<A: Allocator>(alloc: A, count: u64, thing: &str) -> Result<String<A>, AllocError>
-    ensures { IsText (count_text count thing.now) result }
+    ensures is_text { IsText (count_text count thing.now) result }
 {
     let end = if count == 1 { "" } else { "s" };
     format!(in alloc; "{count} {thing}{end}")
@@ -41,7 +41,7 @@ pub fn length_text<A: Allocator>(
     samples: Option<u64>,
     rate: u32,
 ) -> Result<String<A>, AllocError>
-    ensures { IsText (length_text samples rate) result }
+    ensures is_text { IsText (length_text samples rate) result }
 {
     match samples {
         Some(samples) if rate > 0 => {
@@ -53,7 +53,7 @@ pub fn length_text<A: Allocator>(
 
 // A time in milliseconds.
 fn time_text<A: Allocator>(alloc: A, time: u128) -> Result<String<A>, AllocError>
-    ensures { IsText (time_text time) result }
+    ensures is_text { IsText (time_text time) result }
 {
     let (hours, minutes) = (time / 3_600_000, time / 60_000 % 60);
     let (seconds, thousandths) = (time / 1000 % 60, time % 1000);
@@ -63,7 +63,7 @@ fn time_text<A: Allocator>(alloc: A, time: u128) -> Result<String<A>, AllocError
 /// An MD5 sum in hexadecimal digits, or `unknown` if it is all zeros.
 #[tactic(auto, unfolding(crate::specs::Text::md5_text))]
 pub fn md5_text<A: Allocator>(alloc: A, md5sum: &[u8; 16]) -> Result<String<A>, AllocError>
-    ensures { IsText (md5_text md5sum.now) result }
+    ensures is_text { IsText (md5_text md5sum.now) result }
 {
     if *md5sum == [0; 16] {
         return String::from_str(alloc, "unknown");
@@ -78,7 +78,7 @@ pub fn md5_text<A: Allocator>(alloc: A, md5sum: &[u8; 16]) -> Result<String<A>, 
 /// A text on one line, from which it can be read back: a backslash as `\\`, a line feed as `\n`, a carriage return as
 /// `\r`, a tab as `\t`, and any other control character, U+2028 and U+2029 as `\u{..}` with its hexadecimal number.
 pub fn escaped_text<A: Allocator>(alloc: A, text: &str) -> Result<String<A>, AllocError>
-    ensures { IsText (escaped_text text.now) result }
+    ensures is_text { IsText (escaped_text text.now) result }
 {
     let mut line = String::new(alloc);
     for c in text.chars() {
@@ -89,7 +89,7 @@ pub fn escaped_text<A: Allocator>(alloc: A, text: &str) -> Result<String<A>, All
 
 #[tactic(auto, unfolding(crate::specs::Text::escaped_char))]
 fn push_escaped<A: Allocator>(line: &mut String<A>, c: char) -> Result<(), AllocError>
-    ensures { Adds (escaped_char c) result line.old line.new }
+    ensures adds { Adds (escaped_char c) result line.old line.new }
 {
     match c {
         '\\' => line.push_str("\\\\"),

@@ -20,4 +20,4 @@ returns-in-0-to-31 g c =
       | in_default+then-c-lt32 w ↦ by_number x (omega arith) (omega arith) (omega arith) (omega arith) (omega arith) (omega arith)
     ] in
     let small : x < 256 = omega arith in
-    rw (is, ← two_hex_digits false x small) (simp (c.laid_out.ensures, c.in_radix.ensures, c.from-number.ensures) at c.write.ensures.bytes)
+    record { adds = rw (is, ← two_hex_digits false x small) (simp (c.laid_out.ensures, c.in_radix.ensures, c.from-number.ensures) at c.write.ensures.bytes) }

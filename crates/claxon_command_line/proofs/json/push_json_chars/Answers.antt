@@ -7,9 +7,9 @@ use Rattle.claxon_command_line.specs.Json.{json_char}
 use Rattle.claxon_command_line.proofs.json.push_json_chars.Goals as goal
 
 pub loop-c-preserved : goal.loop-c-preserved
-loop-c-preserved g c = rw (flat_map-append, append-nil, ← append_assoc, ← c.loop-c.invariant) c.in_ok-push_json_char.ensures
+loop-c-preserved g c = rw (flat_map-append, append-nil, ← append_assoc, ← c.loop-c.invariant) c.in_ok-push_json_char.ensures.adds
 
 pub returns : goal.returns
 returns g c =
     let done = YieldsList-end (YieldsList-from_chars c.args.s.now c.utf8.s cc) c.loop-c.yielded _ c.loop-c.yielded_by _ _ c.in-None.is c.next.ensures.steps in
-    c.loop-c.invariant ∙ ap (λ cs. string_bytes c.args.text.now ++ flat_map json_char cs) (sym (map-id c.loop-c.yielded) ∙ done.0)
+    record { adds = c.loop-c.invariant ∙ ap (λ cs. string_bytes c.args.text.now ++ flat_map json_char cs) (sym (map-id c.loop-c.yielded) ∙ done.0) }

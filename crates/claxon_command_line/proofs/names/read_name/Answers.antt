@@ -28,11 +28,11 @@ pub returns-in_default : goal.returns-in_default
 returns-in_default g c =
     let t = rw c.in_default.is at c.in_ok-byte.ensures.eof_is_sound in
     let same : vec_len c.loop.name ≡ length c.loop.name.items = grind (arith, common_steps) in
-    at_end g.R.ReadBytes.source c.args.input.now c.loop.input c.read_u8_or_eof.new.self c.loop.name.items c.is_empty.result (rw same at c.is_empty.ensures) c.loop.invariant t
+    record { is_sound = at_end g.R.ReadBytes.source c.args.input.now c.loop.input c.read_u8_or_eof.new.self c.loop.name.items c.is_empty.result (rw same at c.is_empty.ensures) c.loop.invariant t }
 
 pub returns-then-not-is_empty : goal.returns-then-not-is_empty
 returns-then-not-is_empty g c =
     let t = rw c.in-Some.is at c.in_ok-byte.ensures.eof_is_sound in
     let zero : c.in-Some.byte ≡ 0 = c.if-byte-ne0.false in
     let full : 0 < length c.loop.name.items = grind (arith, common_steps) in
-    ((λ e. absurd (omega (arith, ap length e))), inl (zero_ends g.R.ReadBytes.source c.args.input.now c.loop.input c.read_u8_or_eof.new.self c.loop.name.items c.loop.invariant (rw zero at t)))
+    record { is_sound = ((λ e. absurd (omega (arith, ap length e))), inl (zero_ends g.R.ReadBytes.source c.args.input.now c.loop.input c.read_u8_or_eof.new.self c.loop.name.items c.loop.invariant (rw zero at t))) }

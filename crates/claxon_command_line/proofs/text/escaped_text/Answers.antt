@@ -7,9 +7,9 @@ use Rattle.claxon_command_line.specs.Text.{escaped_char}
 use Rattle.claxon_command_line.proofs.text.escaped_text.Goals as goal
 
 pub loop-c-preserved : goal.loop-c-preserved
-loop-c-preserved g c = rw (flat_map-append, append-nil, ← c.loop-c.invariant) c.in_ok-push_escaped.ensures
+loop-c-preserved g c = rw (flat_map-append, append-nil, ← c.loop-c.invariant) c.in_ok-push_escaped.ensures.adds
 
 pub returns : goal.returns
 returns g c =
     let done = YieldsList-end (YieldsList-from_chars c.args.text.now c.utf8.text cc) c.loop-c.yielded _ c.loop-c.yielded_by _ _ c.in-None.is c.next.ensures.steps in
-    c.loop-c.invariant ∙ ap (λ cs. flat_map escaped_char cs) (sym (map-id c.loop-c.yielded) ∙ done.0)
+    record { is_text = c.loop-c.invariant ∙ ap (λ cs. flat_map escaped_char cs) (sym (map-id c.loop-c.yielded) ∙ done.0) }

@@ -17,8 +17,8 @@ loop-byte-preserved g c =
 
 pub returns-then-eq : goal.returns-then-eq
 unfolding md5_text
-returns-then-eq g c = search rules
+returns-then-eq g c = record { is_text = search rules }
 
 pub returns : goal.returns
 unfolding md5_text
-returns g c = grind (arith, common_steps)
+returns g c = record { is_text = grind (arith, common_steps) }

@@ -4,4 +4,4 @@ use Rattle.claxon_command_line.proofs.text.number_text.Goals as goal
 
 pub returns-in-None : goal.returns-in-None
 unfolding number_text
-returns-in-None g c = search rules
+returns-in-None g c = record { is_text = search rules }
