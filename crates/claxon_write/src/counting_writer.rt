@@ -54,7 +54,7 @@ impl<'w, W: Write> CountingWriter<'w, W> {
 
     /// Borrows the writer. All counts are 0.
     pub fn new(inner: &'w mut W) -> CountingWriter<'w, W>
-        ensures { IsNewCountingWriter inner.entry result }
+        ensures is_new_counting_writer { IsNewCountingWriter inner.entry result }
     {
         CountingWriter {
             inner,
@@ -68,7 +68,7 @@ impl<'w, W: Write> CountingWriter<'w, W> {
 
     /// Returns the writer.
     pub fn into_inner(self) -> &'w mut W
-        ensures { IsInnerOf self.entry result }
+        ensures is_inner_of { IsInnerOf self.entry result }
     {
         let CountingWriter {
             inner: writer,

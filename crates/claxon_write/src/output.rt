@@ -139,7 +139,7 @@ impl<'w, W: Write> Output<'w, W> {
 
     /// Borrows the writer. No bytes are gathered yet, and all counts are 0.
     pub fn new(inner: &'w mut W) -> Output<'w, W>
-        ensures { IsNewOutput inner.entry result }
+        ensures is_new_output { IsNewOutput inner.entry result }
     {
         Output {
             writer: CountingWriter::new(inner),
@@ -152,7 +152,7 @@ impl<'w, W: Write> Output<'w, W> {
 
     /// Returns the writer. Bytes that were gathered and not written are lost.
     pub fn into_inner(self) -> &'w mut W
-        ensures { IsWriterOf self.entry result }
+        ensures is_writer_of { IsWriterOf self.entry result }
     {
         let Output {
             writer,

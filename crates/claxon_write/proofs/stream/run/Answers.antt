@@ -7,31 +7,31 @@ use Rattle.claxon_write.proofs.stream.run.Goals as goal
 
 pub returns-clause-is_sound : goal.returns-clause-is_sound
 returns-clause-is_sound g c =
-    let same = c.into_inner.ensures.same_reference ∙ (c.write_samples-outcome.ensures.same_writer ∙ c.new-output.ensures.writer_is.same_reference) in
+    let same = c.into_inner.ensures.is_writer_of.same_reference ∙ (c.write_samples-outcome.ensures.same_writer ∙ c.new-output.ensures.is_new_output.writer_is.same_reference) in
     let e = sym same in
     let k = ran g.W.Write.contents (flac_head c.in_ok-flac.flac) (unread (g.R.Read.remaining c.args.input)) (flac_bytes g.R.Read.remaining c.in_ok-flac.flac) _ (g.W.Write.contents c.args.output.now) c.new-output.result c.write_samples-outcome.new.output
-    c.in_ok-flac.ensures.is_sound (ap g.W.Write.contents c.new-output.ensures.writer_is.writer) c.new-output.ensures.none_pending c.write_samples-outcome.result c.write_samples-outcome.ensures.is_sound in
-    let w = c.into_inner.ensures.writer in
+    c.in_ok-flac.ensures.is_sound (ap g.W.Write.contents c.new-output.ensures.is_new_output.writer_is.writer) c.new-output.ensures.is_new_output.none_pending c.write_samples-outcome.result c.write_samples-outcome.ensures.is_sound in
+    let w = c.into_inner.ensures.is_writer_of.writer in
     let j = rw (← w) at k in
     search rules
 
 pub returns-clause-fault_is_sound : goal.returns-clause-fault_is_sound
 returns-clause-fault_is_sound g c =
-    let same = c.into_inner.ensures.same_reference ∙ (c.write_samples-outcome.ensures.same_writer ∙ c.new-output.ensures.writer_is.same_reference) in
+    let same = c.into_inner.ensures.is_writer_of.same_reference ∙ (c.write_samples-outcome.ensures.same_writer ∙ c.new-output.ensures.is_new_output.writer_is.same_reference) in
     let e = sym same in
     let k = stopped g.W.Write.contents (flac_head c.in_ok-flac.flac) (unread (g.R.Read.remaining c.args.input)) (flac_bytes g.R.Read.remaining c.in_ok-flac.flac) _ (g.W.Write.contents c.args.output.now) c.new-output.result c.write_samples-outcome.new.output
-    c.in_ok-flac.ensures.is_sound (ap g.W.Write.contents c.new-output.ensures.writer_is.writer) c.new-output.ensures.none_pending c.write_samples-outcome.result c.write_samples-outcome.ensures.fault_is_sound in
-    let w = c.into_inner.ensures.writer in
+    c.in_ok-flac.ensures.is_sound (ap g.W.Write.contents c.new-output.ensures.is_new_output.writer_is.writer) c.new-output.ensures.is_new_output.none_pending c.write_samples-outcome.result c.write_samples-outcome.ensures.fault_is_sound in
+    let w = c.into_inner.ensures.is_writer_of.writer in
     let j = rw (← w) at k in
     search rules
 
 pub returns-clause-writes_prefix : goal.returns-clause-writes_prefix
 returns-clause-writes_prefix g c =
-    let same = c.into_inner.ensures.same_reference ∙ (c.write_samples-outcome.ensures.same_writer ∙ c.new-output.ensures.writer_is.same_reference) in
+    let same = c.into_inner.ensures.is_writer_of.same_reference ∙ (c.write_samples-outcome.ensures.same_writer ∙ c.new-output.ensures.is_new_output.writer_is.same_reference) in
     let e = sym same in
     let k = prefixes g.W.Write.contents (flac_head c.in_ok-flac.flac) (unread (g.R.Read.remaining c.args.input)) (flac_bytes g.R.Read.remaining c.in_ok-flac.flac) _ (g.W.Write.contents c.args.output.now) c.new-output.result c.write_samples-outcome.new.output
-    c.in_ok-flac.ensures.is_sound (ap g.W.Write.contents c.new-output.ensures.writer_is.writer) c.new-output.ensures.none_pending c.write_samples-outcome.result c.write_samples-outcome.ensures.fault_is_sound in
-    let w = c.into_inner.ensures.writer in
+    c.in_ok-flac.ensures.is_sound (ap g.W.Write.contents c.new-output.ensures.is_new_output.writer_is.writer) c.new-output.ensures.is_new_output.none_pending c.write_samples-outcome.result c.write_samples-outcome.ensures.fault_is_sound in
+    let w = c.into_inner.ensures.is_writer_of.writer in
     let j = rw (← w) at k in
     search rules
 
