@@ -27,14 +27,13 @@ use Rattle.claxon.specs.BlockInfos.{BlockInfo}
 use Rattle.claxon.specs.Error.{IsFault}
 use Rattle.claxon.specs.Errors.{Error}
 use Rattle.claxon.specs.Fault.{Fault}
-use Rattle.claxon.specs.FlacReader.{comment_tags, comment_vendor}
 use Rattle.claxon.specs.Frame.{Block, Frame, FrameBytesFault, StreamFormat}
 use Rattle.claxon.specs.FrameReader.{FrameAnswer, block_view, stream_with}
 use Rattle.claxon.specs.Heads.{Head, HeadCode}
 use Rattle.claxon.specs.OtherErrors.{IfOtherErr}
 use Rattle.claxon.specs.Prefix.{BeginsWith}
 use Rattle.claxon.specs.Promises.{IsOutOfMemory}
-use Rattle.claxon.specs.ReadHead.{head_view}
+use Rattle.claxon.specs.ShownHead.{head_streaminfo, head_tags, head_vendor, shown_view}
 use Rattle.claxon.specs.StreamInfos.{StreamInfo}
 use Rattle.claxon.specs.Streams.{duration_of, with_samples}
 use Rattle.claxon_seek.specs.AtStart.{FrameAtStart}
@@ -46,19 +45,19 @@ use Rattle.claxon_seek.specs.declared.reader.SeekableReader.{SeekableReader}
 
 -- the head of the stream, as far as it is shown
 abbrev pub shown_head : {R : Type 0} → SeekableReader R → Head
-shown_head s = head_view (s.head.streaminfo, s.head.vorbis_comment)
+shown_head s = shown_view s.head
 
 -- `flac.streaminfo()`
 abbrev pub shown_streaminfo : {R : Type 0} → SeekableReader R → StreamInfo
-shown_streaminfo s = s.head.streaminfo
+shown_streaminfo s = head_streaminfo s.head
 
 -- the vendor string that is shown
 abbrev pub shown_vendor : {R : Type 0} → SeekableReader R → Option (List ℕ)
-shown_vendor s = comment_vendor (shown_head s).comment
+shown_vendor s = head_vendor s.head
 
 -- the names and values of the tags that are shown
 abbrev pub shown_tags : {R : Type 0} → SeekableReader R → List (List ℕ × List ℕ)
-shown_tags s = comment_tags (shown_head s).comment
+shown_tags s = head_tags s.head
 
 -- ---- where it is
 

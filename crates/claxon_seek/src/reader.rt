@@ -9,12 +9,10 @@ ghost use Rattle.std.specs.Prelude.{
   IsTrue,
   Some,
 };
-ghost use Rattle.std.specs.Option.{ForSome, option_map};
-ghost use Rattle.std.proofs.Props.{props};
+ghost use Rattle.std.specs.Option.{option_map};
 ghost use Rattle.claxon.specs.MetadataBlock.{HasBounds};
-ghost use Rattle.claxon.specs.TagEntries.{HaveSeparatorIndices};
 ghost use Rattle.claxon.specs.Error.{IsIo};
-ghost use Rattle.claxon.specs.FlacReader.{HasBitDepth};
+ghost use Rattle.claxon.specs.ShownHead.{HasBitDepth};
 ghost use Rattle.claxon.specs.FrameReader.{stream_with};
 ghost use Rattle.claxon_format.specs.Tags.{values};
 ghost use Rattle.claxon_seek.specs.Find.{BeginsWithFrame};
@@ -30,7 +28,7 @@ use crate::search::{FoundFrame, Search};
 use crate::window::Window;
 use claxon::frame::{BlockInfo, FrameResult};
 use claxon::input::{BufferedReader, ReadBytes};
-use claxon::metadata::{GetTag, StreamInfo, Tags, VorbisComment};
+use claxon::metadata::{GetTag, Head, StreamInfo, Tags};
 use claxon::{Error, FlacReaderOptions, Result, read_head};
 use std::alloc::Global;
 use std::io;
@@ -56,15 +54,6 @@ const MAX_ATTEMPTS: u32 = 11;
 const MAX_WASTED: u64 = 1 << 25;
 
 const WASTED_OF_A_BYTE: u64 = 4;
-
-/// What is shown of a stream's head.
-#[derive(Drop)]
-struct Head {
-    streaminfo: StreamInfo,
-    vorbis_comment: Option<VorbisComment>,
-    ghost bounds: { HasBounds streaminfo } by { Prim.hlevel props },
-    ghost places: { ForSome vorbis_comment (λ comment. HaveSeparatorIndices comment.comments.items) },
-}
 
 /// A FLAC stream in a source that can seek, as a file or a `Cursor`.
 ///
@@ -137,10 +126,7 @@ impl<R: Read + Seek> SeekableReader<R> {
         let mut source = input.into_inner();
         let first_frame = source.stream_position()?.saturating_sub(unread);
         Ok(SeekableReader {
-            head: Head {
-                streaminfo,
-                vorbis_comment,
-            },
+            head: Head::new(streaminfo, vorbis_comment),
             first_frame,
             window: Window::new(alloc, source, first_frame),
             alloc,
@@ -153,37 +139,28 @@ impl<R: Read + Seek> SeekableReader<R> {
         ensures has_bounds { HasBounds result }
         ensures has_bit_depth { HasBitDepth result }
     {
-        self.head.streaminfo
+        self.head.streaminfo()
     }
 
     /// The name of the program that wrote the stream, if the stream has a Vorbis comment.
     pub fn vendor(&self) -> Option<&str>
         ensures { option_map (λ text. text.now) result ≡ shown_vendor self.now }
     {
-        self.head
-            .vorbis_comment
-            .as_ref()
-            .map(|comment| comment.vendor.as_str())
+        self.head.vendor()
     }
 
     /// The names and values of all tags, in order.
     pub fn tags<'a>(&'a self) -> Tags<'a, Global>
         ensures { remaining_tags result ≡ shown_tags self.now }
     {
-        match &self.head.vorbis_comment {
-            Some(comment) => Tags::new(comment.comments.as_slice()),
-            None => Tags::new(&[]),
-        }
+        self.head.tags()
     }
 
     /// The values of the tags of this name, in order.
     pub fn get_tag<'a>(&'a self, tag_name: &'a str) -> GetTag<'a, Global>
         ensures { remaining_values result ≡ values tag_name.now (shown_tags self.now) }
     {
-        match &self.head.vorbis_comment {
-            Some(comment) => GetTag::new(comment.comments.as_slice(), tag_name),
-            None => GetTag::new(&[], tag_name),
-        }
+        self.head.get_tag(tag_name)
     }
 
     /// The position in the source of the next byte that isn't consumed.
@@ -286,7 +263,7 @@ impl<R: Read + Seek> SeekableReader<R> {
         ensures keeps_stream { KeepsStream self.old self.new }
     {
         let filled = self.window.fill(wanted);
-        let known = Some(self.head.streaminfo);
+        let known = Some(self.head.streaminfo());
         let mut taken = 0;
         let found = block_in_buffer(buffer, self.window.pending(), known, &mut taken);
         if is_cut(&found) {
@@ -302,7 +279,7 @@ impl<R: Read + Seek> SeekableReader<R> {
 
     // As many bytes as have a whole header, and mostly a whole frame.
     fn usual_bytes(&self) -> usize {
-        match self.head.streaminfo.max_frame_size {
+        match self.head.streaminfo().max_frame_size {
             Some(size) => {
                 let bytes = (size as usize).saturating_add(MAX_HEADER_BYTES);
                 bytes.min(MAX_USUAL_BYTES)
@@ -342,7 +319,7 @@ impl<R: Read + Seek> SeekableReader<R> {
     {
         let first_frame = self.first_frame as usize;
         let end = self.window.end()? as usize;
-        let known = Some(self.head.streaminfo);
+        let known = Some(self.head.streaminfo());
         let mut span = Span::whole(first_frame, end.max(first_frame), known, sample);
         for step in 0..MAX_STEPS {
             let from = span.guess(step, sample, max_block_size(known));
@@ -373,7 +350,7 @@ impl<R: Read + Seek> SeekableReader<R> {
             self.window.pending(),
             from,
             span,
-            Some(self.head.streaminfo),
+            Some(self.head.streaminfo()),
         ))
     }
 
@@ -387,7 +364,7 @@ impl<R: Read + Seek> SeekableReader<R> {
         if !self.hold_frame()? {
             return Ok(None);
         }
-        let known = Some(self.head.streaminfo);
+        let known = Some(self.head.streaminfo());
         match wanted_header(self.window.pending(), &known, Some(sample)) {
             HeaderThere::Wanted(block) => Ok(Some(block)),
             _ => Ok(None),
@@ -405,7 +382,7 @@ impl<R: Read + Seek> SeekableReader<R> {
         let mut wanted = self.usual_bytes();
         for _ in 0..MAX_ATTEMPTS {
             let is_full = self.window.fill(wanted)?;
-            let known = Some(self.head.streaminfo);
+            let known = Some(self.head.streaminfo());
             match frame_at_start(self.alloc, self.window.pending(), known)? {
                 FrameThere::Whole => return Ok(true),
                 FrameThere::CutFrame if is_full => wanted = self.more_bytes(),
@@ -445,7 +422,7 @@ impl<R: Read + Seek> SeekableReader<R> {
     {
         let pending = self.window.pending();
         let len = pending.len();
-        let known = Some(self.head.streaminfo);
+        let known = Some(self.head.streaminfo());
         let passed = match find(self.alloc, pending, 0, known, Some(sample), budget)? {
             Search::Found(found) => {
                 self.window.pass(found.position);

@@ -18,8 +18,8 @@ returns g c =
     let after = c.read_head.new.input in
     record {
       at_first_frame = search rules;
-      head_is_shown = begins_with_head (known c.args.reader) (HeadCode (with_samples true) head) (bytes_in source after)
-          (is_sound known c.args.reader source c.in_ok-input.input c.in_ok-input.ensures.nothing_was_read after (with_samples true) head c.in_ok-streaminfo.ensures.is_sound);
+      head_is_shown = rw c.new-2.ensures.view (begins_with_head (known c.args.reader) (HeadCode (with_samples true) head) (bytes_in source after)
+          (is_sound known c.args.reader source c.in_ok-input.input c.in_ok-input.ensures.nothing_was_read after (with_samples true) head c.in_ok-streaminfo.ensures.is_sound));
       err_names_fault = tt;
     }
 

@@ -1,5 +1,6 @@
 use Rattle.std.proofs.Common.{ap, inl, subst, ◌∙◌}
 use Rattle.claxon.specs.FrameReader.{stream_with}
+use Rattle.claxon.specs.ShownHead.{head_streaminfo}
 use Rattle.claxon.specs.StreamInfos.{StreamInfo}
 use Rattle.claxon_seek.specs.SeekableReader.{NoFrame, bytes_read, shown_streaminfo}
 use Rattle.claxon_seek.proofs.Readers.{refused, then_more}
@@ -11,7 +12,7 @@ loop-preserved g c =
     let gives = c.in_default-try_block.ensures.gives in
     let keeps = c.in_default-try_block.ensures.keeps_stream in (
       then_more c.loop.invariant.0 gives.0,
-      subst (λ (i : StreamInfo). NoFrame (stream_with i) (bytes_read c.try_block-in-loop.new.self)) (ap (λ h. h.streaminfo) kept.head) gives.1,
+      subst (λ (i : StreamInfo). NoFrame (stream_with i) (bytes_read c.try_block-in-loop.new.self)) (ap (λ h. head_streaminfo h) kept.head) gives.1,
       record { head = keeps.head ∙ kept.head; first = keeps.first ∙ kept.first },
     )
 
