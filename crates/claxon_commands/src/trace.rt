@@ -2,10 +2,10 @@
 ghost use Rattle.std.specs.Prelude.{◌≤◌};
 
 use crate::program::Program;
-use claxon::frame::FrameReader;
 use claxon::input::ReadBytes;
 use claxon::metadata::StreamInfo;
 use claxon::{Block, Error, FlacReader, Result};
+use claxon_blocks::frames::read_block;
 use claxon_command_line::arguments::{Argument, Arguments, Notice};
 use claxon_command_line::fnv::{OFFSET_BASIS, hash_on};
 use claxon_command_line::input::{STANDARD, open_input};
@@ -233,18 +233,17 @@ fn trace_frames<R: ReadBytes, W: Write>(
     requires min_bit_depth { 1 ≤ info.bits_per_sample }
     requires max_bit_depth { info.bits_per_sample ≤ 32 }
 {
-    let mut frames = FrameReader::with_streaminfo(input, info);
     for _ in 0..u64::MAX {
-        match frames.read_next_or_eof(Vec::new(alloc)) {
+        match read_block(input, info, Vec::new(alloc)) {
             Ok(Some(block)) => faults.write_line(block_line(alloc, &block), output)?,
             Ok(None) => {
                 faults.write_line(end_line(alloc), output)?;
                 break;
             }
-            Err(error) => {
-                faults.write_fault(fault_label(alloc, &error), output)?;
-                if let Error::IoError(_) = error {
-                    return Ok(ending_of(Part::Frame, error));
+            Err(fault) => {
+                faults.write_fault(fault_label(alloc, &fault.error), output)?;
+                if let Error::IoError(_) = fault.error {
+                    return Ok(ending_of(Part::Frame, fault.error));
                 }
                 if faults.count == max_faults {
                     return Ok(Ending::Stopped);
