@@ -59,6 +59,20 @@ impl<R: ReadBytes, S: Running> RunningReader<R, S> {
         }
     }
 
+    /// Wraps the reader. What was read so far has this value.
+    #[inline(always)]
+    pub fn resume(inner: R, value: S) -> RunningReader<R, S>
+        ensures source { running_source R.source S.update result
+            ≡ with_crc (S.update value) (R.source inner) }
+        ensures value { running_value result ≡ value }
+        ensures inner { running_inner result ≡ inner }
+    {
+        RunningReader {
+            inner,
+            state: value,
+        }
+    }
+
     /// The value of what was read so far.
     pub fn value(&self) -> S
         ensures { result ≡ running_value self.now }
