@@ -19,6 +19,7 @@ ghost use Rattle.claxon_blocks.specs.Frames.{
   frame_block,
 };
 
+use claxon::fault_texts::RESERVED_HEADER_VALUE;
 use claxon::frame::{DecodedFrame, DecodedFrameResult, FrameReader};
 use claxon::input::ReadBytes;
 use claxon::metadata::StreamInfo;
@@ -56,7 +57,7 @@ pub fn read_frame<R: ReadBytes, A: Allocator>(
     ensures is_read { StreamFrameIsRead R.source info input.old result input.new }
     ensures has_header { StreamFrameHasHeader R.source info input.old result input.new }
     ensures tells_of_32_bits { TellsOf32Bits result (bytes_in R.source input.old) }
-    ensures keeps_first { KeepsFirstBytes result
+    ensures keeps_first_bytes { KeepsFirstBytes result
         (bytes_in R.source input.old) (bytes_in R.source input.new) }
     ensures has_samples { BlockHasSamples (decoder_answer frame_block result) }
 {
@@ -86,7 +87,7 @@ pub fn read_block<R: ReadBytes, A: Allocator>(
     requires max_bit_depth { info.bits_per_sample ≤ 32 }
     ensures is_read { StreamBlockIsRead R.source info input.old result input.new }
     ensures tells_of_32_bits { TellsOf32Bits result (bytes_in R.source input.old) }
-    ensures keeps_first { KeepsFirstBytes result
+    ensures keeps_first_bytes { KeepsFirstBytes result
         (bytes_in R.source input.old) (bytes_in R.source input.new) }
     ensures has_samples { BlockHasSamples (answer_of result) }
 {
@@ -106,7 +107,7 @@ fn read_from<R: ReadBytes, A: Allocator>(
 ) -> DecodedFrameResult<A>
     requires min_bit_depth { 1 ≤ info.bits_per_sample }
     requires max_bit_depth { info.bits_per_sample ≤ 32 }
-    ensures is_read { ReadsFrame (Some (stream_with info)) (frame_answer result)
+    ensures reads_frame { ReadsFrame (Some (stream_with info)) (frame_answer result)
         (bytes_in R.source input.old) (bytes_in R.source input.new) }
     ensures is_sound { FoundIsSound decoded_view result (FrameWithHeader (Some (stream_with info)))
         (bytes_in R.source input.old) (bytes_in R.source input.new) }
@@ -127,10 +128,7 @@ fn is_32_bit_fault(error: &Error, first: FirstBytes) -> bool
 fn is_reserved_value(error: &Error) -> bool
     ensures { IsTrue result ↔ IsFault BitDepthReserved error.now }
 {
-    matches!(
-        error,
-        Error::FormatError("invalid frame header, encountered reserved value")
-    )
+    matches!(error, Error::FormatError(RESERVED_HEADER_VALUE))
 }
 
 // Whether four bytes, as a number, begin such a header, and nothing in them before that code is reserved.

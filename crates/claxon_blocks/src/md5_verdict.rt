@@ -20,7 +20,7 @@ pub enum Md5Verdict {
 
 /// What became of the MD5 sum of the samples that were hashed.
 pub fn judge_md5(info: &StreamInfo, md5: Option<Md5>) -> Md5Verdict
-    ensures { Md5IsJudged (info_view info.now) md5 result }
+    ensures md5_is_judged { Md5IsJudged (info_view info.now) md5 result }
 {
     let Some(md5) = md5 else {
         return Md5Verdict::NotComputed;

@@ -154,7 +154,7 @@ fn report_of<A: Allocator>(info: StreamInfo, walk: Walk<A>) -> Report<A>
     ensures frames { result.found.frames ≡ walk.frames }
     ensures samples { result.found.samples ≡ walk.samples }
     ensures first { result.found.places.first ≡ first_place walk.places }
-    ensures md5 { Md5IsJudged (info_view info) walk.md5 result.md5 }
+    ensures md5_is_judged { Md5IsJudged (info_view info) walk.md5 result.md5 }
     ensures is_right { IsTrue result.is_right ↔ ((result.found.places.first ≡ None)
         × (((or_zero info.samples ≡ 0) ⊎ (or_zero info.samples ≡ result.found.samples))
         × (result.md5 ≢ Md5Verdict.Wrong))) }

@@ -19,7 +19,7 @@ pub(crate) struct Order {
 impl Order {
     /// What is wrong with a frame; None if it is the next one.
     pub fn damage(self, info: &StreamInfo, frame: &BlockInfo) -> Option<Damage>
-        ensures { IsJudged (info_view info.now) self.is_variable self.number frame.now result }
+        ensures is_judged { IsJudged (info_view info.now) self.is_variable self.number frame.now result }
     {
         if frame.channels != info.channels {
             return Some(Damage::Channels(frame.channels));
@@ -39,7 +39,7 @@ impl Order {
 
     // What is missing before a frame, or there twice.
     fn gap(self, frame: &BlockInfo) -> Option<Damage>
-        ensures { IsNumbered self.number frame.now result }
+        ensures is_numbered { IsNumbered self.number frame.now result }
     {
         let is_variable = frame.is_variable;
         if frame.number > self.number {
@@ -68,7 +68,7 @@ impl Order {
 
     /// The next frame after one with so many samples of each channel.
     pub fn after(self, frame: &BlockInfo, duration: u32) -> Order
-        ensures { GoesOn duration frame.now self result }
+        ensures goes_on { GoesOn duration frame.now self result }
     {
         let step = if frame.is_variable {
             u64::from(duration)

@@ -30,7 +30,7 @@ impl<A: Allocator> PlacesSoFar<A> {
 
     /// One place more, or the last one made longer, if it goes on.
     pub fn with(self, place: Place) -> PlacesSoFar<A>
-        ensures { AddsPlace place self result }
+        ensures adds_place { AddsPlace place self result }
     {
         let PlacesSoFar { ended, last } = self;
         match last {
@@ -78,7 +78,7 @@ impl<A: Allocator> PlacesSoFar<A> {
 
     /// The bytes from this one on, up to another, belong to the fault before them, if there is one.
     pub fn longer(self, start: u64, end: u64) -> PlacesSoFar<A>
-        ensures { KeepsFirstPlace (first_place self) (first_place result) }
+        ensures keeps_first_place { KeepsFirstPlace (first_place self) (first_place result) }
     {
         let PlacesSoFar { ended, last } = self;
         let last = match last {
@@ -93,7 +93,7 @@ impl<A: Allocator> PlacesSoFar<A> {
 
     /// The samples up to this one are in the last place.
     pub fn up_to(self, sample: u64) -> PlacesSoFar<A>
-        ensures { KeepsFirstPlace (first_place self) (first_place result) }
+        ensures keeps_first_place { KeepsFirstPlace (first_place self) (first_place result) }
     {
         let PlacesSoFar { ended, last } = self;
         let last = match last {

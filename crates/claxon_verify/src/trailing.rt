@@ -1,6 +1,7 @@
 //! What stands after the last frame.
 use crate::report::{Damage, Trailing};
 use claxon::Error;
+use claxon::fault_texts::SYNC_CODE_MISSING;
 use claxon_blocks::frames::FirstBytes;
 use std::io::ErrorKind;
 
@@ -80,10 +81,7 @@ pub(crate) fn is_of_bytes(damage: &Damage) -> bool {
 /// Whether no frame begins there, as far as its first two bytes tell.
 pub(crate) fn is_no_sync_code(damage: &Damage) -> bool {
     match damage {
-        Damage::Fault(fault) => matches!(
-            &fault.error,
-            Error::FormatError("frame sync code missing")
-        ),
+        Damage::Fault(fault) => matches!(&fault.error, Error::FormatError(SYNC_CODE_MISSING)),
         _ => false,
     }
 }

@@ -49,7 +49,7 @@ pub(crate) struct ByteRange {
 impl<A: Allocator> Walk<A> {
     /// Nothing was found so far.
     pub fn new(alloc: A, computes_md5: bool) -> Walk<A>
-        ensures { BeginsWalk computes_md5 result }
+        ensures begins_walk { BeginsWalk computes_md5 result }
     {
         Walk {
             frames: 0,
@@ -160,7 +160,7 @@ fn with_damage<A: Allocator>(
     start: u64,
     duration: u32,
 ) -> PlacesSoFar<A>
-    ensures { FirstBecomes damage span.start sample (first_place places) (first_place result) }
+    ensures first_becomes { FirstBecomes damage span.start sample (first_place places) (first_place result) }
 {
     let Some(damage) = damage else {
         return places;
@@ -210,7 +210,7 @@ fn with_sizes(
 fn hashed<A: Allocator>(md5: Option<Md5>, block: &Block<A>, bit_depth: u32) -> Option<Md5>
     requires min_bit_depth { 1 ≤ bit_depth }
     requires max_bit_depth { bit_depth ≤ 32 }
-    ensures { HashesToo bit_depth block.now md5 result }
+    ensures hashes_too { HashesToo bit_depth block.now md5 result }
 {
     match md5 {
         Some(hasher) => {
@@ -260,7 +260,7 @@ pub(crate) fn with_fault<A: Allocator>(
 /// The walk at the end of the stream: these bytes, of which there are fewer than two, are no frame. If there is one, it is
 /// `last`.
 pub(crate) fn at_end<A: Allocator>(walk: Walk<A>, span: ByteRange, last: u8) -> Walk<A>
-    ensures { EndsWalk walk result }
+    ensures ends_walk { EndsWalk walk result }
 {
     let Walk {
         places,
@@ -312,7 +312,7 @@ fn sum(a: u64, b: u64) -> Result<u64>
 
 /// That there is more than can be counted.
 pub(crate) fn too_many() -> Error
-    ensures { IsTooMany result }
+    ensures is_too_many { IsTooMany result }
 {
     Error::Unsupported("more than 18446744073709551615 frames, faults or samples")
 }

@@ -16,7 +16,7 @@ returns-clause-promises g c =
     let b = counted_bytes source c.walk_frames.new.input in
     let h = head_consumed a m (c.in_ok-info.info, c.in_ok-info._comment) (position_of c.read_head.new.input) e.is_sound e.is_complete e.fault_is_complete e.is_read e.has_bounds (λ known after crcs front is. position_modulo source c.args.input.now c.read_head.new.input known after crcs front is ∙ ap (λ (n : ℕ). n % 2 ^ 64) (ap (λ (n : ℕ). n + length front) c.requires ∙ zero-add (length front))) in
     let r = c.report_of.ensures in
-    all_counted b h c.args.computes_md5 c.in_ok-info.info c.in_ok-walk.walk c.report_of.result refl c.in_ok-walk.ensures.ok r.info r.frames r.samples r.first r.md5 r.is_right
+    all_counted b h c.args.computes_md5 c.in_ok-info.info c.in_ok-walk.walk c.report_of.result refl c.in_ok-walk.ensures.ok r.info r.frames r.samples r.first r.md5_is_judged r.is_right
 
 pub returns-clause-loans : goal.returns-clause-loans
 returns-clause-loans g c = c.in_ok-walk.ensures.loans ∙ c.in_ok-info.ensures.is_read.loans

@@ -12,7 +12,7 @@ use Rattle.claxon_verify.proofs.walk_frames.Goals.{in-Ok-Some+in_ok-walk-in-Ok-S
 use Rattle.claxon_verify.proofs.walk_frames.Goals as goal
 
 pub loop-init : goal.loop-init
-loop-init g c = record { so_far = none_so_far _ _ _ _ _ _ c.new-walk.ensures; quiet = λ none. (refl, refl); total = refl }
+loop-init g c = record { so_far = none_so_far _ _ _ _ _ _ c.new-walk.ensures.begins_walk; quiet = λ none. (refl, refl); total = refl }
 
 pub loop-preserved : goal.loop-preserved
 loop-preserved g c =
@@ -57,7 +57,7 @@ pub returns-in-Ok-None-clause-ok : goal.returns-in-Ok-None-clause-ok
 returns-in-Ok-None-clause-ok g c =
     let b = counted_bytes g.R.ReadBytes.source c.read_frame-read.new.input in
     let is = ap (decoder_answer frame_block) (c.in-Ok-None.is ∙ ap (λ (z : Option (DecodedFrame _)). Ok z) c.in-Ok-None.field-0-is) in
-    eof_found c.loop.invariant.so_far b (read_as {b = b} is c.read_frame-read.ensures.is_read) c.at_end.ensures
+    eof_found c.loop.invariant.so_far b (read_as {b = b} is c.read_frame-read.ensures.is_read) c.at_end.ensures.ends_walk
 
 pub returns-then-is_last-clause-ok : goal.returns-then-is_last-clause-ok
 returns-then-is_last-clause-ok g c =

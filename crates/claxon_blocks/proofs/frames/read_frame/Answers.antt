@@ -25,8 +25,8 @@ same_answer (Some frame) = refl
 pub returns-in-Ok-clause-is_read : goal.returns-in-Ok-clause-is_read
 returns-in-Ok-clause-is_read g c =
     let read = c.read_from-found in
-    let n = same_reference g.R.ReadBytes.source update_first _ c.new-input.result read.new.input c.new-input.ensures.inner read.ensures.is_read in
-    let k = reads_as (same_answer c.in-Ok.frame) (reads_below g.R.ReadBytes.source update_first _ c.new-input.result read.new.input c.new-input.ensures.inner c.in-Ok.ensures.is_read) in
+    let n = same_reference g.R.ReadBytes.source update_first _ c.new-input.result read.new.input c.new-input.ensures.inner read.ensures.reads_frame in
+    let k = reads_as (same_answer c.in-Ok.frame) (reads_below g.R.ReadBytes.source update_first _ c.new-input.result read.new.input c.new-input.ensures.inner c.in-Ok.ensures.reads_frame) in
     search rules
 
 pub returns-in-Ok-clause-has_header : goal.returns-in-Ok-clause-has_header
@@ -35,7 +35,7 @@ returns-in-Ok-clause-has_header g c =
     let read = c.read_from-found in
     let source = g.R.ReadBytes.source in
     let stream = Some (stream_with c.args.info) in
-    let n = same_reference source update_first _ c.new-input.result read.new.input c.new-input.ensures.inner read.ensures.is_read in
+    let n = same_reference source update_first _ c.new-input.result read.new.input c.new-input.ensures.inner read.ensures.reads_frame in
     let k = sound_below source update_first _ c.new-input.result read.new.input c.new-input.ensures.inner stream (Ok c.in-Ok.frame) c.in-Ok.ensures.is_sound in
     search rules
 
@@ -45,8 +45,8 @@ returns-in-Ok-clause-has_samples g c = subst BlockHasSamples (same_answer c.in-O
 pub returns-in-Err-clause-is_read : goal.returns-in-Err-clause-is_read
 returns-in-Err-clause-is_read g c =
     let read = c.read_from-found in
-    let n = same_reference g.R.ReadBytes.source update_first _ c.new-input.result read.new.input c.new-input.ensures.inner read.ensures.is_read in
-    let k = reads_below g.R.ReadBytes.source update_first _ c.new-input.result read.new.input c.new-input.ensures.inner c.in-Err.ensures.is_read in
+    let n = same_reference g.R.ReadBytes.source update_first _ c.new-input.result read.new.input c.new-input.ensures.inner read.ensures.reads_frame in
+    let k = reads_below g.R.ReadBytes.source update_first _ c.new-input.result read.new.input c.new-input.ensures.inner c.in-Err.ensures.reads_frame in
     search rules
 
 pub returns-in-Err-clause-tells_of_32_bits : goal.returns-in-Err-clause-tells_of_32_bits
@@ -60,20 +60,20 @@ returns-in-Err-clause-tells_of_32_bits g c =
     let said = subst (λ (s : FirstBytes). IsTrue is_32_bit ↔ (IsFault BitDepthReserved error × FourSay32Bits s)) c.value-first.ensures c.is_32_bit_fault-is_32_bit.ensures in
     let answer : Result (Option ℕ) FrameError = Err (record { error = error; is_32_bit = is_32_bit; first = first }) in
     tells_below g.R.ReadBytes.source update_first _ c.new-input.result c.new-input.ensures.inner answer
-    (tells (lent g.R.ReadBytes.source) c.new-input.result read.new.input size error c.new-input.ensures.state c.in-Err.ensures.is_read is_32_bit said)
+    (tells (lent g.R.ReadBytes.source) c.new-input.result read.new.input size error c.new-input.ensures.state c.in-Err.ensures.reads_frame is_32_bit said)
 
-pub returns-in-Err-clause-keeps_first : goal.returns-in-Err-clause-keeps_first
-returns-in-Err-clause-keeps_first g c = λ f is before.
+pub returns-in-Err-clause-keeps_first_bytes : goal.returns-in-Err-clause-keeps_first_bytes
+returns-in-Err-clause-keeps_first_bytes g c = λ f is before.
     let read = c.read_from-found in
     let x = c.new-input.result in
     let y = read.new.input in
     let source = g.R.ReadBytes.source in
     let error = c.in-Err.error in
     let first = c.value-first.result in
-    let n = same_reference source update_first _ x y c.new-input.ensures.inner read.ensures.is_read in
+    let n = same_reference source update_first _ x y c.new-input.ensures.inner read.ensures.reads_frame in
     let known : length first.bytes ≡ 16 = search rules in
     let size = subst (λ (s : FirstBytes). length s.bytes ≡ 16) c.value-first.ensures known in
-    let keeps = fault_keeps (lent source) x y size error c.new-input.ensures.state c.in-Err.ensures.is_read in
+    let keeps = fault_keeps (lent source) x y size error c.new-input.ensures.state c.in-Err.ensures.reads_frame in
     let below = first_below source update_first _ x y c.new-input.ensures.inner _ (λ f. IsFault f error) keeps in
     let k = subst (λ (s : FirstBytes). (f : Fault) → IsFault f error → RemainingIsKnown (bytes_in source c.args.input.now) → AreFirst s (bytes_in source c.args.input.now).remaining (bytes_in source (running_inner y).now).remaining) (sym c.value-first.ensures) below in
     let are : AreFirst first (bytes_in source c.args.input.now).remaining (bytes_in source (running_inner y).now).remaining = k f is before in

@@ -5,8 +5,8 @@ use Rattle.claxon.proofs.Loans.{reads_loans, same_name}
 use Rattle.claxon_blocks.proofs.ReadsBelow.{reads_borrowed, sound_borrowed}
 use Rattle.claxon_blocks.proofs.frames.read_from.Goals as goal
 
-pub returns-clause-is_read : goal.returns-clause-is_read
-returns-clause-is_read g c =
+pub returns-clause-reads_frame : goal.returns-clause-reads_frame
+returns-clause-reads_frame g c =
     let at = c.with_streaminfo-frames.ensures.input in
     let e = c.read_next_with_info_or_eof.ensures in
     let q = frame_input c.read_next_with_info_or_eof.new.self in
