@@ -22,7 +22,8 @@ pub enum Part {
 }
 
 /// Prints a line `NAME: TEXT` for an error. The name is on one line, as `escaped_text` has it. Where an input ends inside
-/// its metadata or a frame, the text says that it is truncated. A failed write to `errors` is ignored, and so is memory that is refused.
+/// its metadata or a frame, the text says that it is truncated. A failed write to `errors` is ignored, and so is memory that
+/// is refused.
 pub fn print_error<E: Write>(alloc: Global, name: &str, part: Part, error: &Error, errors: &mut E) {
     let text = error_text(alloc, part, error);
     print_message(alloc, name, part, text, errors);

@@ -5,8 +5,8 @@ use crate::text::escaped_text;
 use std::alloc::{AllocError, Global};
 use std::io::Write;
 
-/// A line `12 of 300  song.flac  57 %`: a label, and the percentage of samples of a file that are done. It is written again when
-/// that changes. `end` or `clear` has to be called.
+/// A line `12 of 300  song.flac  57 %`: a label, and the percentage of samples of a file that are done. It is written again
+/// when that changes. `end` or `clear` has to be called.
 pub struct Progress<'e, 'l, E> {
     errors: &'e mut E,
     // None where no line is shown.

@@ -7,8 +7,8 @@ ghost use Rattle.claxon_wav.specs.Convert.{
   ConvertFaultIsComplete,
   ConvertFaultIsSound,
   ConvertIsComplete,
-  ConvertIsSound,
   ConvertToStreamIsSound,
+  FileIsSound,
   PutBlocksFaultIsSound,
   PutBlocksIsSound,
 };
@@ -21,10 +21,10 @@ use crate::writer::WavWriter;
 use claxon::input::ReadBytes;
 use claxon::metadata::StreamInfo;
 use claxon::{Block, FlacReader};
-use claxon_command_line::progress::Progress;
-use claxon_md5::Md5;
 use claxon_blocks::frames::read_block;
 use claxon_blocks::hashing::hash_block;
+use claxon_command_line::progress::Progress;
+use claxon_md5::Md5;
 use std::alloc::{Allocator, Global};
 use std::io::{Read, Seek, Write};
 
@@ -43,8 +43,8 @@ pub fn convert<R: Read + Drop, W: Write + Seek, E: Write>(
 ) -> Result<()>
     requires { flac_metadata_only flac.old ≡ false }
     ensures same_output { SameOutput wav.old wav.new }
-    ensures is_sound { ConvertIsSound W.contents W.stream_position R.remaining
-        flac.old result wav.old wav.new md5.old md5.new }
+    ensures is_sound { FileIsSound W.contents W.stream_position R.remaining flac.old result
+        wav.old wav.new md5.old md5.new }
     ensures fault_is_sound { ConvertFaultIsSound R.remaining result flac.old flac.new wav.old
         wav.new }
     ensures is_complete { ConvertIsComplete R.remaining result flac.old flac.new wav.old wav.new }
@@ -92,8 +92,8 @@ pub fn convert_to_stream<R: Read + Drop, W: Write, E: Write>(
     ended
 }
 
-// Writes and hashes block after block of the stream with this streaminfo. Each block has samples, so the size of a WAV file bounds their
-// number.
+// Writes and hashes block after block of the stream with this streaminfo. Each block has samples, so the size of a WAV file
+// bounds their number.
 fn put_blocks<R: ReadBytes, W: Write, E: Write>(
     alloc: Global,
     input: &mut R,

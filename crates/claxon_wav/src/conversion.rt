@@ -9,10 +9,9 @@ use crate::error::Result;
 use crate::plan::Plan;
 use crate::writer::WavWriter;
 use claxon::FlacReader;
+use claxon_blocks::md5_verdict::{Md5Verdict, judge_md5};
 use claxon_command_line::progress::Progress;
 use claxon_md5::Md5;
-use claxon_blocks::md5_verdict::judge_md5;
-use claxon_blocks::md5_verdict::Md5Verdict;
 use std::alloc::Global;
 use std::io::{Read, Seek, Write};
 
@@ -24,7 +23,7 @@ pub struct Conversion {
     pub md5: Md5Verdict,
 }
 
-/// To a file, whose header is corrected at the end where it isn't right.
+/// Writes a stream to a file, whose header is corrected at the end where it isn't right.
 ///
 /// # Errors
 ///
@@ -50,7 +49,7 @@ pub fn write_file<R: Read + Drop, W: Write + Seek + Drop, E: Write>(
     })
 }
 
-/// To an output that can't seek.
+/// Writes a stream to an output that can't seek.
 ///
 /// # Errors
 ///
@@ -80,7 +79,7 @@ pub fn write_stream<R: Read + Drop, W: Write + Drop, E: Write>(
 
 // A hasher of no samples, if the MD5 sum is computed.
 fn new_hasher(computes_md5: bool) -> Option<Md5>
-    ensures { HasHashedBytes computes_md5 [] result }
+    ensures has_hashed_bytes { HasHashedBytes computes_md5 [] result }
 {
     if computes_md5 { Some(Md5::new()) } else { None }
 }

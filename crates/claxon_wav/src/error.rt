@@ -43,7 +43,7 @@ pub type Result<T> = result::Result<T, Error>;
 // The result of a call of an output, whose error is `Output`.
 pub(crate) fn of_output<T>(answer: claxon::Result<T>) -> Result<T>
     requires { IfErr answer IsIo }
-    ensures { IsOutputResult answer result }
+    ensures is_output_result { IsOutputResult answer result }
 {
     match answer {
         Ok(value) => Ok(value),

@@ -54,7 +54,7 @@ impl Layout {
         requires few_channels { channels ≤ 8 }
         requires some_bits { 1 ≤ valid_bits }
         requires few_bits { valid_bits ≤ 32 }
-        ensures { IsLayoutOf channels valid_bits sample_rate channel_mask result }
+        ensures is_layout_of { IsLayoutOf channels valid_bits sample_rate channel_mask result }
     {
         Layout {
             channels,
@@ -100,7 +100,7 @@ impl Layout {
 
     /// The number of bytes of `count` samples per channel, or None if no WAV file holds them.
     pub fn data_size(&self, count: u64) -> Option<u32>
-        ensures { IsSizeOf self.now count result }
+        ensures is_size_of { IsSizeOf self.now count result }
     {
         let size = count.checked_mul(u64::from(self.block_align()))?;
         if size > u64::from(MAX_DATA_SIZE) {
@@ -131,7 +131,7 @@ impl Layout {
     /// Replaces the bytes by the header for `size` bytes of samples.
     pub fn put_header(&self, size: u32, bytes: &mut Vec<u8>) -> Result<(), AllocError>
         requires { size ≤ max_data_size }
-        ensures { PutHeaderIsSound self.now size result bytes.new.items }
+        ensures is_sound { PutHeaderIsSound self.now size result bytes.new.items }
     {
         let format_size = self.format_size();
         self.put_sizes(20 + format_size + size + size % 2, size, bytes)

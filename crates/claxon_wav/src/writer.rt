@@ -89,7 +89,8 @@ impl<'w, W: Write> WavWriter<'w, W> {
         header: Vec<u8>,
     ) -> Result<WavWriter<'w, W>>
         requires { announced ≤ max_data_size }
-        ensures is_sound { BeginIsSound W.contents header.items layout announced output.entry result }
+        ensures is_sound { BeginIsSound W.contents header.items layout announced output.entry
+            result }
         ensures fault_is_sound { StartFaultIsSound result }
     {
         let mut output = CountingWriter::new(output);
@@ -202,7 +203,8 @@ impl<'w, W: Write + Seek> WavWriter<'w, W> {
 
     fn update_header(&mut self) -> Result<()>
         ensures same_output { SameOutput self.old self.new }
-        ensures is_sound { UpdateHeaderIsSound W.contents W.stream_position result self.old self.new }
+        ensures is_sound { UpdateHeaderIsSound W.contents W.stream_position result self.old
+            self.new }
         ensures flushes { FinishFlushes result self.old self.new }
         ensures fault_is_sound { UpdateFaultIsSound result self.old self.new }
     {

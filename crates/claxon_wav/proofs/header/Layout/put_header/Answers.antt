@@ -7,4 +7,4 @@ pub returns : goal.returns
 returns c =
     let f = format c.args.self.now in
     let even : length f % 2 ≡ 0 = rw (sym c.format_size-format_size.ensures.size) c.format_size-format_size.ensures.even in
-    header_is c.args.self.now c.args.size _ _ _ (omega (arith, c.format_size-format_size.ensures.size)) even c.put_sizes.ensures
+    record { is_sound = header_is c.args.self.now c.args.size _ _ _ (omega (arith, c.format_size-format_size.ensures.size)) even c.put_sizes.ensures }

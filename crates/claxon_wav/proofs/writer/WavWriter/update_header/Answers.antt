@@ -14,14 +14,14 @@ use Rattle.claxon_wav.proofs.writer.WavWriter.update_header.Goals as goal
 pub returns-in_err-of_output-clause-fault_is_sound : goal.returns-in_err-of_output-clause-fault_is_sound
 returns-in_err-of_output-clause-fault_is_sound g c =
     let p = err_from_is_err_and c.from_residual-in_err-of_output.result c.from_residual-in_err-of_output.ensures.1 in
-    let k = output_failed c.rewind.result c.of_output.result c.in_err-of_output.field-0.0 c.of_output.ensures c.in_err-of_output.was c.rewind.ensures.failed in
+    let k = output_failed c.rewind.result c.of_output.result c.in_err-of_output.field-0.0 c.of_output.ensures.is_output_result c.in_err-of_output.was c.rewind.ensures.failed in
     rw (p.1, p.2) (inr (k.0, inr (inr k.1)))
 
 pub returns-in_err-of_output-2-clause-fault_is_sound : goal.returns-in_err-of_output-2-clause-fault_is_sound
 returns-in_err-of_output-2-clause-fault_is_sound g c =
     let p = err_from_is_err_and c.from_residual-in_err-of_output-2.result c.from_residual-in_err-of_output-2.ensures.1 in
-    let moved = output_succeeded c.rewind.result c.of_output.result c.in_ok-of_output.field-0 c.of_output.ensures c.in_ok-of_output.was c.rewind.ensures.succeeded in
-    let k = output_failed c.write_whole.result c.of_output-then-self.result c.in_err-of_output-2.field-0.0 c.of_output-then-self.ensures c.in_err-of_output-2.was c.write_whole.ensures.failed in
+    let moved = output_succeeded c.rewind.result c.of_output.result c.in_ok-of_output.field-0 c.of_output.ensures.is_output_result c.in_ok-of_output.was c.rewind.ensures.succeeded in
+    let k = output_failed c.write_whole.result c.of_output-then-self.result c.in_err-of_output-2.field-0.0 c.of_output-then-self.ensures.is_output_result c.in_err-of_output-2.was c.write_whole.ensures.failed in
     rw (p.1, p.2) (inr (k.0, inl (write_failed_after moved k.1)))
 
 -- no call failed before the flush, and none was a flush
@@ -29,18 +29,18 @@ none_before : (g : Over) (c : goal.After-of_output-2 g) → CountsNoFailure c.ar
 none_before g c = elim c.if-self.branch [
   | then-self+in_ok-put_header+in_ok-of_output+in_ok-of_output-2 w ↦ (
       let output : c.if-self.self.1.0 ≡ w.write_whole.new.self = rw w.self-is refl in
-      let moved = output_succeeded w.rewind.result w.of_output.result w.in_ok-of_output.field-0 w.of_output.ensures w.in_ok-of_output.was w.rewind.ensures.succeeded in
-      let written = output_succeeded w.write_whole.result w.of_output-then-self.result w.in_ok-of_output-2.field-0 w.of_output-then-self.ensures w.in_ok-of_output-2.was w.write_whole.ensures.succeeded in
+      let moved = output_succeeded w.rewind.result w.of_output.result w.in_ok-of_output.field-0 w.of_output.ensures.is_output_result w.in_ok-of_output.was w.rewind.ensures.succeeded in
+      let written = output_succeeded w.write_whole.result w.of_output-then-self.result w.in_ok-of_output-2.field-0 w.of_output-then-self.ensures.is_output_result w.in_ok-of_output-2.was w.write_whole.ensures.succeeded in
       rw output (none_failed_both moved written, w.write_whole.ensures.counts_no_flush ∙ w.rewind.ensures.counts_other_call.none)
       )
   | else-self w ↦ (let output : c.if-self.self.1.0 ≡ c.args.self.now.output = rw w.self-is refl in rw output (none_failed c.args.self.now.output, refl))
 ]
 
 pub returns-clause-flushes : goal.returns-clause-flushes
-returns-clause-flushes g c = let none = none_before g c in flush_succeeds c.flush.new.self none.0 none.1 c.flush.result c.of_output-2.result c.of_output-2.ensures c.flush.ensures.succeeded c.flush.ensures.counts_flush
+returns-clause-flushes g c = let none = none_before g c in flush_succeeds c.flush.new.self none.0 none.1 c.flush.result c.of_output-2.result c.of_output-2.ensures.is_output_result c.flush.ensures.succeeded c.flush.ensures.counts_flush
 
 pub returns-clause-fault_is_sound : goal.returns-clause-fault_is_sound
-returns-clause-fault_is_sound g c = let none = none_before g c in flush_fails c.flush.new.self none.0 none.1 c.flush.result c.of_output-2.result c.of_output-2.ensures c.flush.ensures.failed
+returns-clause-fault_is_sound g c = let none = none_before g c in flush_fails c.flush.new.self none.0 none.1 c.flush.result c.of_output-2.result c.of_output-2.ensures.is_output_result c.flush.ensures.failed
 
 pub returns-clause-is_sound : goal.returns-clause-is_sound
 returns-clause-is_sound g c =
@@ -53,10 +53,10 @@ returns-clause-is_sound g c =
           let output : c.if-self.self.1.0 ≡ w.write_whole.new.self = rw w.self-is refl in
           let kept = subst flushed output c.flush.ensures.keeps_inner in
           let bytes : w.as_slice.result.now ≡ w.put_header.new.bytes.items = w.as_slice.ensures.value in
-          let written = output_succeeded w.write_whole.result w.of_output-then-self.result w.in_ok-of_output-2.field-0 w.of_output-then-self.ensures w.in_ok-of_output-2.was w.write_whole.ensures.writes_all in (
+          let written = output_succeeded w.write_whole.result w.of_output-then-self.result w.in_ok-of_output-2.field-0 w.of_output-then-self.ensures.is_output_result w.in_ok-of_output-2.was w.write_whole.ensures.writes_all in (
             record {
               right = λ e. absurd (w.if-self.true (sym e));
-              wrong = λ differ. record { header = w.put_header.new.bytes.items; is_header = w.in_ok-put_header.ensures; start = w.rewind.new.self; at_start = at_start _ _ w.rewind.result w.of_output.result w.in_ok-of_output.field-0 w.of_output.ensures w.in_ok-of_output.was w.rewind.ensures.moves_to_start; written = subst (λ (z : List ℕ). Appends (inner_contents contents w.rewind.new.self) (inner_contents contents c.flush.new.self) z) bytes (Appends-kept _ _ _ _ written kept) };
+              wrong = λ differ. record { header = w.put_header.new.bytes.items; is_header = w.in_ok-put_header.ensures.is_sound; start = w.rewind.new.self; at_start = at_start _ _ w.rewind.result w.of_output.result w.in_ok-of_output.field-0 w.of_output.ensures.is_output_result w.in_ok-of_output.was w.rewind.ensures.moves_to_start; written = subst (λ (z : List ℕ). Appends (inner_contents contents w.rewind.new.self) (inner_contents contents c.flush.new.self) z) bytes (Appends-kept _ _ _ _ written kept) };
             },
             record { announced_is = announced; written_is = refl; layout_is = layout },
           )
