@@ -19,7 +19,8 @@ pub(crate) struct Order {
 impl Order {
     /// What is wrong with a frame; None if it is the next one.
     pub fn damage(self, info: &StreamInfo, frame: &BlockInfo) -> Option<Damage>
-        ensures is_judged { IsJudged (info_view info.now) self.is_variable self.number frame.now result }
+        ensures is_judged { IsJudged (info_view info.now) self.is_variable self.number frame.now
+            result }
     {
         if frame.channels != info.channels {
             return Some(Damage::Channels(frame.channels));

@@ -160,7 +160,8 @@ fn with_damage<A: Allocator>(
     start: u64,
     duration: u32,
 ) -> PlacesSoFar<A>
-    ensures first_becomes { FirstBecomes damage span.start sample (first_place places) (first_place result) }
+    ensures first_becomes { FirstBecomes damage span.start sample
+        (first_place places) (first_place result) }
 {
     let Some(damage) = damage else {
         return places;
