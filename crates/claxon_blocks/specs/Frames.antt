@@ -1,5 +1,23 @@
 -- A frame that is read, and whether it is refused because its samples have 32 bits.
-use Rattle.std.specs.Prelude.{◌≡◌, ◌↔◌, ◌≤◌, ℕ, List, length, take, Option, None, Some, IfErr, IfOk, IfSome, IsTrue, Ok, Err, Result}
+use Rattle.std.specs.Prelude.{
+  ◌≡◌,
+  ◌↔◌,
+  ◌≤◌,
+  ℕ,
+  List,
+  length,
+  take,
+  Option,
+  None,
+  Some,
+  IfErr,
+  IfOk,
+  IfSome,
+  IsTrue,
+  Ok,
+  Err,
+  Result,
+}
 use Rattle.claxon.specs.Bits.{bits_of, number}
 use Rattle.claxon.specs.Block.{BlockValue}
 use Rattle.claxon.specs.DecodedFrame.{FrameWithHeader, decoded_view}

@@ -6,7 +6,12 @@ use Rattle.claxon_md5.specs.HasHashed.{HasHashed}
 use Rattle.claxon_md5.specs.Md5.{md5}
 use Rattle.claxon_md5.specs.declared.Md5.{Md5}
 use Rattle.claxon_blocks.specs.declared.md5_verdict.Md5Verdict.{Md5Verdict}
-use Rattle.claxon_blocks.specs.declared.md5_verdict.Md5Verdict.TheVariants.{NotComputed, Missing as NoMd5, Right, Wrong}
+use Rattle.claxon_blocks.specs.declared.md5_verdict.Md5Verdict.TheVariants.{
+  NotComputed,
+  Missing as NoMd5,
+  Right,
+  Wrong,
+}
 
 -- The hasher has hashed these bytes, if there is to be one.
 abbrev pub HasHashedBytes : Bool → List ℕ → Option Md5 → Type 0

@@ -111,7 +111,8 @@ fn read_streaminfo(alloc: Global, content: &[u8]) -> Result<StreamInfo>
 }
 
 fn read_comment(alloc: Global, content: &[u8]) -> Result<VorbisComment>
-    ensures is_read { BodyIsRead (λ found. Comments (comment_view found)) comment_type content.now result }
+    ensures is_read { BodyIsRead (λ found. Comments (comment_view found)) comment_type content.now
+        result }
 {
     let block = read_body(alloc, VORBIS_COMMENT, content)?;
     if let MetadataBlock::VorbisComment(found) = block {

@@ -1,9 +1,9 @@
--- What clauses say of the readers that compute a CRC.
+-- What clauses say of the readers that keep a value of what they read.
 use Rattle.std.specs.Prelude.{ℕ, List}
 use Rattle.claxon_input.specs.Source.{Source, with_crc}
 use Rattle.claxon_input.specs.declared.running.RunningReader.{RunningReader}
 
--- the CRC of what was read so far
+-- the value of what was read so far
 abbrev pub running_value : {R S : Type 0} → RunningReader R S → S
 running_value r = r.state
 
@@ -11,7 +11,7 @@ running_value r = r.state
 abbrev pub running_inner : {R S : Type 0} → RunningReader R S → R
 running_inner r = r.inner
 
--- the source of the wrapped reader, with its CRC, which what is consumed updates
+-- the source of the wrapped reader, with the value, which what is consumed updates
 abbrev pub running_source : {R S : Type 0} → (R → Source ℕ) → (S → List ℕ → ℕ) → RunningReader R S
     → Source ℕ
-running_source source update_crc r = with_crc (update_crc (running_value r)) (source (running_inner r))
+running_source source update r = with_crc (update (running_value r)) (source (running_inner r))

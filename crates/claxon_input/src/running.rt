@@ -44,7 +44,11 @@ pub struct RunningReader<R, S> {
 }
 
 impl<R: ReadBytes, S: Running> RunningReader<R, S> {
-    ghost use Rattle.claxon_input.specs.RunningReader.{running_source, running_inner, running_value};
+    ghost use Rattle.claxon_input.specs.RunningReader.{
+      running_source,
+      running_inner,
+      running_value,
+    };
 
     /// Wraps the reader. Nothing was read so far.
     pub fn new(inner: R) -> RunningReader<R, S>

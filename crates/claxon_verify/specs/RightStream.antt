@@ -1,5 +1,24 @@
 -- What a right stream is: a head, and frames that agree with it and with one another.
-use Rattle.std.specs.Prelude.{◌≡◌, ◌⊎◌, ℕ, ◌<◌, ℤ, Bool, true, if◌then◌else◌, List, [], ◌∷◌, ◌++◌, flat_map, length, Option, None, Some, IfSome}
+use Rattle.std.specs.Prelude.{
+  ◌≡◌,
+  ◌⊎◌,
+  ℕ,
+  ◌<◌,
+  ℤ,
+  Bool,
+  true,
+  if◌then◌else◌,
+  List,
+  [],
+  ◌∷◌,
+  ◌++◌,
+  flat_map,
+  length,
+  Option,
+  None,
+  Some,
+  IfSome,
+}
 use Rattle.std.specs.List.{sum_by}
 use Rattle.claxon.specs.BlockInfos.{BlockInfo}
 use Rattle.claxon.specs.DecodedFrame.{FrameValue, FrameWithHeader}

@@ -1,5 +1,20 @@
 -- What is found in a stream, frame by frame.
-use Rattle.std.specs.Prelude.{◌≡◌, ◌⊎◌, ℕ, ◌<◌, ◌≤◌, ◌+◌, ◌^◌, Bool, if◌then◌else◌, [], Option, None, Some, IsSomeAnd}
+use Rattle.std.specs.Prelude.{
+  ◌≡◌,
+  ◌⊎◌,
+  ℕ,
+  ◌<◌,
+  ◌≤◌,
+  ◌+◌,
+  ◌^◌,
+  Bool,
+  if◌then◌else◌,
+  [],
+  Option,
+  None,
+  Some,
+  IsSomeAnd,
+}
 use Rattle.claxon.specs.Codes.{when◌then◌else◌}
 use Rattle.claxon.specs.BlockInfos.{BlockInfo}
 use Rattle.claxon.specs.DecodedFrames.{DecodedFrame}

@@ -3,7 +3,16 @@ ghost use Rattle.std.specs.Prelude.{◌≡◌, ◌<◌, ◌≤◌, ◌+◌, ◌^
 ghost use Rattle.claxon.specs.Error.{is_out_of_memory};
 ghost use Rattle.claxon.specs.MetadataBlock.{info_view};
 ghost use Rattle.claxon_verify.specs.Verify.{IsTooMany};
-ghost use Rattle.claxon_verify.specs.Walk.{AddsFault, AddsFrame, BeginsWalk, EndsWalk, ExceedsCount, FirstBecomes, GoesOn, first_place};
+ghost use Rattle.claxon_verify.specs.Walk.{
+  AddsFault,
+  AddsFrame,
+  BeginsWalk,
+  EndsWalk,
+  ExceedsCount,
+  FirstBecomes,
+  GoesOn,
+  first_place,
+};
 ghost use Rattle.claxon_blocks.specs.HashBlock.{HashesToo};
 
 use crate::order::Order;
