@@ -207,10 +207,10 @@ abbrev pub flac_bit_depth : {R A : Type 0} → FlacReader R A → ℕ
 flac_bit_depth flac = (flac_streaminfo flac).bits_per_sample
 
 -- An Ok converted the whole stream to a file.
-abbrev pub FileIsSound : {R A W : Type 0} → (W → Option (List ℕ)) → (W → Option ℕ)
+abbrev pub IsSound : {R A W : Type 0} → (W → Option (List ℕ)) → (W → Option ℕ)
     → (R → Option (List ℕ)) → FlacReader R A → Result (Unit {0}) Error → WavWriter W → WavWriter W
     → Option Md5 → Option Md5 → Type 0
-FileIsSound contents position remaining flac r old new hasher hashed =
+IsSound contents position remaining flac r old new hasher hashed =
     OnOk r (Converts contents position (flac_stream flac) (flac_bit_depth flac)
     (flac_bytes remaining flac) old new hasher hashed)
 

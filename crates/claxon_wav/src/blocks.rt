@@ -8,7 +8,7 @@ ghost use Rattle.claxon_wav.specs.Convert.{
   ConvertFaultIsSound,
   ConvertIsComplete,
   ConvertToStreamIsSound,
-  FileIsSound,
+  IsSound,
   PutBlocksFaultIsSound,
   PutBlocksIsSound,
 };
@@ -43,7 +43,7 @@ pub fn convert<R: Read + Drop, W: Write + Seek, E: Write>(
 ) -> Result<()>
     requires { flac_metadata_only flac.old ≡ false }
     ensures same_output { SameOutput wav.old wav.new }
-    ensures is_sound { FileIsSound W.contents W.stream_position R.remaining flac.old result
+    ensures is_sound { IsSound W.contents W.stream_position R.remaining flac.old result
         wav.old wav.new md5.old md5.new }
     ensures fault_is_sound { ConvertFaultIsSound R.remaining result flac.old flac.new wav.old
         wav.new }
