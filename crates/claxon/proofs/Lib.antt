@@ -21,6 +21,7 @@ pub use Rattle.claxon_input.proofs.CacheBits
 pub use Rattle.claxon_frame.proofs.BlockInfo
 pub use Rattle.claxon_frame.proofs.FrameHeaders
 pub use Rattle.claxon_frame.proofs.DecodedFrames
+pub use Rattle.claxon_frame.proofs.StartedFrames
 -- Where the reader of a head can run out of memory: before that, the marker and whole blocks
 -- were consumed.
 pub mod HeadMemory

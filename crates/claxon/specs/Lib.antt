@@ -37,9 +37,11 @@ pub use Rattle.claxon_frame.specs.FrameReader
 pub use Rattle.claxon_frame.specs.BlockInfo
 pub use Rattle.claxon_frame.specs.Prefix
 pub use Rattle.claxon_frame.specs.DecodedFrame
+pub use Rattle.claxon_frame.specs.StartedFrame
 pub use Rattle.claxon_frame.specs.declared.frame.FrameReader as FrameReaders
 pub use Rattle.claxon_frame.specs.declared.frame.info.BlockInfo as BlockInfos
 pub use Rattle.claxon_frame.specs.declared.frame.decoded.DecodedFrame as DecodedFrames
+pub use Rattle.claxon_frame.specs.declared.frame.started.StartedFrame as StartedFrames
 pub use Rattle.claxon_frame.specs.Decorrelation
 pub mod ReadHead
 pub mod ShownHead

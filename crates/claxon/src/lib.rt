@@ -62,7 +62,8 @@ pub mod running {
 /// Frames: blocks of samples, one after another.
 pub mod frame {
     pub use claxon_frame::frame::{
-        Block, BlockInfo, DecodedFrame, DecodedFrameResult, FrameReader, FrameResult, StereoSamples,
+        Block, BlockInfo, DecodedFrame, DecodedFrameResult, FrameReader, FrameResult, StartedFrame,
+        StereoSamples,
     };
 }
 

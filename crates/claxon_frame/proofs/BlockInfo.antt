@@ -10,7 +10,7 @@ use Rattle.claxon_input.specs.declared.error.Error.TheVariants.{OutOfMemory}
 use Rattle.claxon_input.specs.State.{State}
 use Rattle.claxon_input.specs.Promises.{Remains, EofPromises, ReadFailed, IsOutOfMemory}
 use Rattle.claxon_input.specs.Gives.{Consumes, GivesOrEof, or_eof}
-use Rattle.claxon_input.proofs.ConsecutiveCalls.{StopsWith, consumes_map}
+use Rattle.claxon_input.proofs.ConsecutiveCalls.{consumes_map}
 use Rattle.claxon_input.proofs.FieldOrEof.{enough, found, never_out_of_memory_or_eof, some_read}
 use Rattle.claxon_input.proofs.Memory.{stops_not_out_of_memory}
 use Rattle.claxon_input.proofs.FieldOrEofPromises.{eof_promises}
@@ -28,12 +28,6 @@ pub headers_unambiguous : (stream : Option StreamFormat) → HeaderIsUnambiguous
 headers_unambiguous stream = unambiguous BlockInfo (header_info_at stream) (HeaderOf stream) (HeaderBytesFault stream) (Reads-info stream)
 
 -- ---- after the header nothing is read
-
-pub info_stops : (stream : Option StreamFormat) → StopsWith (start_at stream) (header_info_at stream)
-info_stops stream = record {
-  fault = λ s f rest e. rw e refl;
-  incomplete = λ s e. rw e refl;
-}
 
 pub info_consumes : (stream : Option StreamFormat) {start : Start} {a b : State ℕ} → Consumes a b (λ s m. or_eof 2 (start_at stream) s ≡ Done (Some start) m) → Consumes a b (λ s m. or_eof 2 (header_info_at stream) s ≡ Done (Some (info_of_start start)) m)
 info_consumes stream {start = start} {a = a} {b = b} h =

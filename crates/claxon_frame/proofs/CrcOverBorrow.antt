@@ -4,7 +4,6 @@ use Rattle.std.specs.Borrow.{GName, MutBor}
 use Rattle.std.specs.Prelude.{Result, Ok, Err}
 use Rattle.claxon_format.specs.read.Reading.{Reading, Done}
 use Rattle.claxon_input.specs.RunningReader.{running_inner, running_source, running_value}
-use Rattle.claxon_input.specs.CrcUpdate.{update_crc8}
 use Rattle.claxon_input.specs.Source.{Source, through_loan, with_crc}
 use Rattle.claxon_input.specs.State.{State, bytes_in}
 use Rattle.claxon_input.specs.Error.{is_io}
@@ -20,7 +19,7 @@ module _ {X : Type 0} (a b : State X) (m n : GName) (f g : List ℕ → ℕ) whe
   eof_below count h = record { errors = h.errors; loans = same_loans_below m n a.source.loans b.source.loans h.loans; known = λ t. let x = h.known t in record { known = x.known; is = x.is; rest = x.rest; crcs = same_crcs_below a.source.remaining b.source.remaining f g a.source.crcs b.source.crcs t x.known x.crcs } }
 
   -- what was read through a CRC and a loan was read from the source under them
-  pub gives_or_eof_below : {A Y : Type 0} (count : ℕ) (view : A → Y) (r : Result (Option A) Error) (read : List X → Reading X Y) → GivesOrEof count view r read (under m f a) (under n g b) → GivesOrEof count view r read a b
+  gives_or_eof_below : {A Y : Type 0} (count : ℕ) (view : A → Y) (r : Result (Option A) Error) (read : List X → Reading X Y) → GivesOrEof count view r read (under m f a) (under n g b) → GivesOrEof count view r read a b
   gives_or_eof_below count view (Ok (Some x)) read h = consumes_below a b m n f g (λ s k. or_eof count read s ≡ Done (Some (view x)) k) h
   gives_or_eof_below count view (Ok None) read h = eof_below count h
   gives_or_eof_below count view (Err e) read h = stops_below a b m n f g e (or_eof count read) h
@@ -32,20 +31,20 @@ gives_or_eof_loans count view (Ok None) read a b g = g.loans
 gives_or_eof_loans count view (Err e) read a b g = stops_loans e (or_eof count read) a b (is_io e) refl g
 
 module _ (s t : Source ℕ) (j k : GName) (f g : List ℕ → ℕ) where
-  pub gives_or_eof_borrowed : {A Y : Type 0} (count : ℕ) (view : A → Y) (r : Result (Option A) Error) (read : List ℕ → Reading ℕ Y)
+  gives_or_eof_borrowed : {A Y : Type 0} (count : ℕ) (view : A → Y) (r : Result (Option A) Error) (read : List ℕ → Reading ℕ Y)
       → GivesOrEof count view r read (bytes_of_source (with_crc f (through_loan j s))) (bytes_of_source (with_crc g (through_loan k t))) → GivesOrEof count view r read (bytes_of_source s) (bytes_of_source t)
   gives_or_eof_borrowed count view r read h = gives_or_eof_below (bytes_of_source s) (bytes_of_source t) j k f g count view r read h
 
   -- and the reference is still the same
-  pub gives_or_eof_borrow_name : {A Y : Type 0} (count : ℕ) (view : A → Y) (r : Result (Option A) Error) (read : List ℕ → Reading ℕ Y)
+  gives_or_eof_borrow_name : {A Y : Type 0} (count : ℕ) (view : A → Y) (r : Result (Option A) Error) (read : List ℕ → Reading ℕ Y)
       → GivesOrEof count view r read (bytes_of_source (with_crc f (through_loan j s))) (bytes_of_source (with_crc g (through_loan k t))) → j ≡ k
   gives_or_eof_borrow_name count view r read h = let e : k ∷ t.loans ≡ j ∷ s.loans = gives_or_eof_loans count view r read _ _ h in cc
 
-module _ {R A Y : Type 0} (source : R → Source ℕ) (x : R) (j : GName) (b c : RunningReader (MutBor R) ℕ) (count : ℕ) (view : A → Y) (r : Result (Option A) Error) (read : List ℕ → Reading ℕ Y) where
+module _ {R A Y : Type 0} (update : ℕ → List ℕ → ℕ) (source : R → Source ℕ) (x : R) (j : GName) {f : List ℕ → ℕ} (b c : RunningReader (MutBor R) ℕ) (count : ℕ) (view : A → Y) (r : Result (Option A) Error) (read : List ℕ → Reading ℕ Y) where
   -- and the reference is still the same
-  pub gives_or_eof_through : running_source (over_borrow source) update_crc8 b ≡ with_crc (update_crc8 0) (through_loan j (source x))
-      → GivesOrEof count view r read (bytes_in (running_source (over_borrow source) update_crc8) b) (bytes_in (running_source (over_borrow source) update_crc8) c) → (j ≡ (running_inner c).ghost_name) × GivesOrEof count view r read (bytes_in source x) (bytes_in source (running_inner c).now)
+  pub gives_or_eof_through : running_source (over_borrow source) update b ≡ with_crc f (through_loan j (source x))
+      → GivesOrEof count view r read (bytes_in (running_source (over_borrow source) update) b) (bytes_in (running_source (over_borrow source) update) c) → (j ≡ (running_inner c).ghost_name) × GivesOrEof count view r read (bytes_in source x) (bytes_in source (running_inner c).now)
   unfolding bytes_in
   gives_or_eof_through e h =
-      let k = subst (λ z. GivesOrEof count view r read (bytes_of_source z) (bytes_of_source (running_source (over_borrow source) update_crc8 c))) e h in
-      (gives_or_eof_borrow_name (source x) (source (running_inner c).now) j (running_inner c).ghost_name (update_crc8 0) (update_crc8 (running_value c)) count view r read k, gives_or_eof_borrowed (source x) (source (running_inner c).now) j (running_inner c).ghost_name (update_crc8 0) (update_crc8 (running_value c)) count view r read k)
+      let k = subst (λ z. GivesOrEof count view r read (bytes_of_source z) (bytes_of_source (running_source (over_borrow source) update c))) e h in
+      (gives_or_eof_borrow_name (source x) (source (running_inner c).now) j (running_inner c).ghost_name f (update (running_value c)) count view r read k, gives_or_eof_borrowed (source x) (source (running_inner c).now) j (running_inner c).ghost_name f (update (running_value c)) count view r read k)

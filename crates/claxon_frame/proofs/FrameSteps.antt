@@ -1,98 +1,98 @@
 -- The calls that read a frame, one after another.
+use Rattle.std.proofs.Common.{◌≡◌, ℕ, ◌-◌, ◌*◌, ◌≤◌, arith, ◌<◌, true, ltb, List, [], ◌∷◌, ◌++◌, refl, sym, ap, subst, ◌∙◌, ℤ, append-nil}
 use Rattle.std.proofs.lemmas.Bool.{lt-ltb}
-use Rattle.std.proofs.Common.{◌≡◌, ℕ, ◌-◌, ◌*◌, ◌≤◌, arith, ◌<◌, true, false, ltb, List, length, refl, subst, ◌∙◌, ℤ}
-use Rattle.std.specs.Prelude.{Result, Err, Option, None, Some}
+use Rattle.std.specs.Prelude.{Result, Ok, Err, Option, None, Some}
 use Rattle.claxon_format.specs.Fault.{FrameCrc}
-use Rattle.claxon_format.specs.Frame.{IsBitDepth, StreamFormat, known_bit_depth}
+use Rattle.claxon_format.specs.Frame.{Block, IsBitDepth, StreamFormat, known_bit_depth}
 use Rattle.claxon_format.specs.read.Frame.{frame_bytes_at, block_from, subframes_at, Start, start_at}
 use Rattle.claxon_format.specs.read.Bytes.{crc_at}
 use Rattle.claxon_format.specs.FrameWriter.{channel_count}
-use Rattle.claxon_format.specs.read.Reading.{Reading, Done, Faulty, Incomplete, bind, done}
+use Rattle.claxon_format.specs.read.Reading.{Reading, Done, bind, done, taken}
 use Rattle.claxon_format.specs.Stereo.{bit_depths}
+use Rattle.claxon_format.proofs.Laws.{taken_is}
 use Rattle.claxon_input.specs.declared.error.Error.{Error}
 use Rattle.claxon_input.specs.declared.error.Error.TheVariants.{IoError, FormatError, Unsupported, OutOfMemory}
 use Rattle.claxon_input.specs.CrcUpdate.{update_crc16}
-use Rattle.claxon_input.specs.Source.{Source, with_crc}
-use Rattle.claxon_input.specs.State.{State}
-use Rattle.claxon_input.specs.Gives.{Consumes, Stops, or_eof, GivesOrEofOrOutOfMemory}
+use Rattle.claxon_input.specs.Source.{IsKnown, Source, with_crc}
+use Rattle.claxon_input.specs.State.{State, crcs_at_eof, remaining_as}
+use Rattle.claxon_input.specs.Gives.{Consumes, Stops, IsRest, or_eof, GivesOrEofOrOutOfMemory, GivesOrOutOfMemory}
 use Rattle.claxon_input.proofs.RunningReaders.{source_crc_of_taken}
-use Rattle.claxon_input.proofs.CrcUpdate.{determines_crc16}
+use Rattle.claxon_input.proofs.CrcUpdate.{determines_crc16, update_crc-taken}
 use Rattle.claxon_input.proofs.States.{bytes_of_source}
-use Rattle.claxon_input.proofs.ConsecutiveCalls.{consumes_map, consumes_then, stops_as}
+use Rattle.claxon_input.proofs.ConsecutiveCalls.{StopsAs, consumes_known, consumes_map, consumes_none, consumes_then, out_of_memory_later, stops_as}
 use Rattle.claxon_input.specs.Error.{is_out_of_memory}
 use Rattle.claxon_frame.specs.FrameStart.{stream_format_view}
 use Rattle.claxon_frame.specs.FrameReader.{BufferTooSmall}
 use Rattle.claxon_frame.specs.FrameHeader.{channels_of, channel_code}
+use Rattle.claxon_frame.specs.StartedFrame.{RestTooSmall, Started, rest_at, started_at, whole_answer}
 use Rattle.claxon_frame.specs.declared.frame.header.parts.ChannelAssignment.{ChannelAssignment}
 use Rattle.claxon_frame.specs.declared.frame.header.parts.ChannelAssignment.TheVariants.{Independent, LeftSideStereo, RightSideStereo, MidSideStereo}
 use Rattle.claxon_frame.specs.declared.frame.header.parts.KnownStreamFormat.{KnownStreamFormat}
-use Rattle.claxon_frame.proofs.FrameParts.{start_stops, channels_stop, footer_is}
-use Rattle.claxon_input.proofs.FieldOrEof.{found, first_stops, some_read, exit_out_of_memory_or_eof}
+use Rattle.claxon_frame.proofs.StartedFrames.{frame_is_both, rest_after, rest_stops, start_of_started, started_from}
+use Rattle.claxon_input.proofs.FieldOrEof.{after_first, enough, found, some_ok, some_read, some_stops}
 
--- ---- a frame through a CRC-16 reader, whose CRC starts with the frame
+-- ---- a header through a CRC-16 reader, whose CRC starts with the frame
 
 -- the bytes of a source with a CRC-16
 abbrev pub bytes_with_crc16 : ℕ → Source ℕ → State ℕ
 bytes_with_crc16 crc s = bytes_of_source (with_crc (update_crc16 crc) s)
 
-or_found : {X A : Type 0} (k : ℕ) (read : List X → Reading X A) (s : List X) (x : Reading X A) → ltb (length s) k ≡ false → read s ≡ x → or_eof k read s ≡ found x
-or_found k read s x t e = rw (t, e) refl
+pub started_consumes : (stream : Option StreamFormat) (start : Start) (first last crc : ℕ) (s t : Source ℕ) → first ≡ 0 → crc ≡ last → crc < 65536 → Consumes (bytes_with_crc16 first s) (bytes_with_crc16 last t) (λ s m. or_eof 2 (start_at stream) s ≡ Done (Some start) m)
+    → Consumes (bytes_with_crc16 first s) (bytes_with_crc16 last t) (λ s m. or_eof 2 (started_at stream) s ≡ Done (Some (record { start = start; crc = crc })) m)
+started_consumes stream start first last crc s t zero same small h =
+    consumes_known _ h (λ known p.
+    let all = (bytes_with_crc16 first s).remaining in
+    let left = (bytes_with_crc16 last t).remaining in
+    let q = some_read 2 (start_at stream) all start left p in
+    let low : last < 65536 = rw (← same) small in
+    let covers = source_crc_of_taken determines_crc16 s t last low (subst (λ (n : ℕ). Consumes (bytes_with_crc16 n s) (bytes_with_crc16 last t) (λ s m. or_eof 2 (start_at stream) s ≡ Done (Some start) m)) zero h) known in
+    enough 2 (started_at stream) all q.0 ∙ ap found (started_from stream all (record { start = start; crc = crc }) left q.1 (same ∙ covers)))
 
-module _ (stream : Option StreamFormat) (bit_depth : IsBitDepth (known_bit_depth stream)) where
-  -- the header is invalid or incomplete
-  pub header_stops : {e : Error} {a b : State ℕ} → Stops e (or_eof 2 (start_at stream)) a b → Stops e (or_eof 2 (frame_bytes_at stream)) a b
-  header_stops h = first_stops 2 (start_at stream) (frame_bytes_at stream) (start_stops stream) h
+-- ---- the rest through one whose CRC goes on
 
-  -- or the subframes are
-  pub channels_stopped : {e : Error} {start : Start} {a b c : State ℕ} → Consumes a b (λ s m. or_eof 2 (start_at stream) s ≡ Done (Some start) m) → Stops e (subframes_at start.size (bit_depths start.channel_code start.bit_depth)) b c
-      → Stops e (or_eof 2 (frame_bytes_at stream)) a c
-  channels_stopped {start = start} {a = a} {b = b} h k = stops_as (consumes_map _ h (λ p.
-      let q = some_read 2 (start_at stream) a.remaining start b.remaining p in
-      let w = channels_stop stream start a.remaining b.remaining q.1 in
-      record {
-        fault = λ f rest e. or_found 2 (frame_bytes_at stream) a.remaining (Faulty f rest) q.0 (w.fault f rest e);
-        incomplete = λ e. or_found 2 (frame_bytes_at stream) a.remaining Incomplete q.0 (w.incomplete e);
-      })) k
+-- the bytes that remain, where they are known
+abbrev bytes_of_all : Option (List ℕ) → List ℕ
+bytes_of_all = remaining_as (λ all. all)
 
-  -- the bytes before the CRC, and the CRC of them
-  record BeforeCrc (start : Start) (channels : List (List ℤ)) (crc : ℕ) (s rest : List ℕ) : Type 0 where
-    enough : ltb (length s) 2 ≡ false
-    frame_is : frame_bytes_at stream s ≡ bind (crc_at 2 crc FrameCrc rest) (λ u. done (block_from start channels))
+crc_is_updated : (p q : Option (List ℕ)) (c crc : ℕ) (u v : List ℕ → List ℕ) → c < 65536 → crc < 65536 → IsKnown p → IsKnown q → IsRest (bytes_of_all p) (bytes_of_all q)
+    → crcs_at_eof q (λ xs. update_crc16 crc xs ∷ v xs) ≡ crcs_at_eof p (λ xs. update_crc16 c xs ∷ u xs) → crc ≡ update_crc16 c (taken (bytes_of_all p) (bytes_of_all q))
+unfolding IsRest
+crc_is_updated None q c crc u v low small t k r e = absurd t
+crc_is_updated (Some all) None c crc u v low small t k r e = absurd k
+crc_is_updated (Some all) (Some rest) c crc u v low small t k r e =
+    let both : update_crc16 crc (rest ++ []) ∷ v (rest ++ []) ≡ update_crc16 c (all ++ []) ∷ u (all ++ []) = ap (λ (h : List ℕ → List ℕ). h []) e in
+    let first : update_crc16 crc (rest ++ []) ≡ update_crc16 c (all ++ []) = cc in
+    let same : update_crc16 crc rest ≡ update_crc16 c (r.0 ++ rest) = ap (update_crc16 crc) (sym (append-nil rest)) ∙ first ∙ ap (update_crc16 c) (append-nil all ∙ r.1) in
+    update_crc-taken 16 0x18005 (omega arith) (omega arith) (omega arith) r.0 rest c crc refl (omega arith) low small same ∙ ap (update_crc16 c) (sym (taken_is all r.0 rest r.1))
 
-  before_crc : (start : Start) (channels : List (List ℤ)) (first crc : ℕ) (s t : Source ℕ) {b : State ℕ} → first ≡ 0 → crc < 65536 → Consumes (bytes_with_crc16 first s) b (λ s m. or_eof 2 (start_at stream) s ≡ Done (Some start) m)
-      → Consumes b (bytes_with_crc16 crc t) (λ s m. subframes_at start.size (bit_depths start.channel_code start.bit_depth) s ≡ Done channels m) → Consumes (bytes_with_crc16 first s) (bytes_with_crc16 crc t) (BeforeCrc start channels crc)
-  before_crc start channels first crc s t {b = b} zero small h k =
-      let all = consumes_then (λ s m. Unit {0}) h k (λ p q. tt) in
-      record {
-        errors = all.errors;
-        empty_reads = all.empty_reads;
-        loans = all.loans;
-        known = λ known.
-            let x = h.known known in
-            let y = k.known x.known in
-            let z = all.known known in
-            let q = some_read 2 (start_at stream) (bytes_with_crc16 first s).remaining start b.remaining x.is in
-            record {
-              known = z.known;
-              is = record { enough = q.0; frame_is = footer_is stream start channels crc (bytes_with_crc16 first s).remaining b.remaining (bytes_with_crc16 crc t).remaining q.1 y.is (source_crc_of_taken determines_crc16 s t crc small (subst (λ (n : ℕ). Consumes (bytes_with_crc16 n s) (bytes_with_crc16 crc t) (λ s m. Unit {0})) zero all) known) };
-              rest = z.rest;
-              crcs = z.crcs;
-            };
-      }
+crc_of_rest : (c crc : ℕ) (s t : Source ℕ) {P : List ℕ → List ℕ → Type 0} → c < 65536 → crc < 65536 → Consumes (bytes_with_crc16 c s) (bytes_with_crc16 crc t) P → IsKnown s.remaining → crc ≡ update_crc16 c (taken (bytes_of_all s.remaining) (bytes_of_all t.remaining))
+unfolding IsRest
+crc_of_rest c crc s t low small h known =
+    let k = h.known known in
+    crc_is_updated s.remaining t.remaining c crc s.crcs t.crcs low small known k.known (k.rest (bytes_of_all s.remaining) ([], refl)) k.crcs
 
-  -- the CRC is wrong or incomplete
-  pub footer_stops : {e : Error} (start : Start) (channels : List (List ℤ)) (first crc : ℕ) (s t : Source ℕ) {b c : State ℕ} → first ≡ 0 → crc < 65536 → Consumes (bytes_with_crc16 first s) b (λ s m. or_eof 2 (start_at stream) s ≡ Done (Some start) m)
-      → Consumes b (bytes_with_crc16 crc t) (λ s m. subframes_at start.size (bit_depths start.channel_code start.bit_depth) s ≡ Done channels m) → Stops e (crc_at 2 crc FrameCrc) (bytes_with_crc16 crc t) c → Stops e (or_eof 2 (frame_bytes_at stream)) (bytes_with_crc16 first s) c
-  footer_stops start channels first crc s t zero small h k e = stops_as (consumes_map _ (before_crc start channels first crc s t zero small h k) (λ p. record {
-    fault = λ f rest q. or_found 2 (frame_bytes_at stream) (bytes_with_crc16 first s).remaining (Faulty f rest) p.enough (p.frame_is ∙ rw q refl);
-    incomplete = λ q. or_found 2 (frame_bytes_at stream) (bytes_with_crc16 first s).remaining Incomplete p.enough (p.frame_is ∙ rw q refl);
-  })) e
+module _ (started : Started) where
+  -- the reader of the subframes
+  abbrev subframes_of : List ℕ → Reading ℕ (List (List ℤ))
+  subframes_of = subframes_at started.start.size (bit_depths started.start.channel_code started.start.bit_depth)
 
-  pub frame_consumes : (start : Start) (channels : List (List ℤ)) (first crc : ℕ) (s t : Source ℕ) {b c : State ℕ} → first ≡ 0 → crc < 65536 → Consumes (bytes_with_crc16 first s) b (λ s m. or_eof 2 (start_at stream) s ≡ Done (Some start) m)
-      → Consumes b (bytes_with_crc16 crc t) (λ s m. subframes_at start.size (bit_depths start.channel_code start.bit_depth) s ≡ Done channels m) → Consumes (bytes_with_crc16 crc t) c (λ s m. crc_at 2 crc FrameCrc s ≡ Done tt m)
-      → Consumes (bytes_with_crc16 first s) c (λ s m. or_eof 2 (frame_bytes_at stream) s ≡ Done (Some (block_from start channels)) m)
-  frame_consumes start channels first crc s t {c = c} zero small h k f =
-      consumes_then _ (before_crc start channels first crc s t zero small h k) f (λ p q. or_found 2 (frame_bytes_at stream) (bytes_with_crc16 first s).remaining (Done (block_from start channels) c.remaining) p.enough (p.frame_is ∙ rw q refl))
+  -- the subframes are invalid or incomplete
+  pub subframes_stop : {e : Error} {a b : State ℕ} → Stops e subframes_of a b → Stops e (rest_at started) a b
+  subframes_stop {a = a} k = stops_as (consumes_none a (λ s m. StopsAs (subframes_of m) (rest_at started s)) (rest_stops started a.remaining)) k
+
+  module _ (channels : List (List ℤ)) (first crc : ℕ) (s t : Source ℕ) (same : first ≡ started.crc) (low : first < 65536) (small : crc < 65536) (h : Consumes (bytes_with_crc16 first s) (bytes_with_crc16 crc t) (λ s m. subframes_of s ≡ Done channels m)) where
+    before_crc : Consumes (bytes_with_crc16 first s) (bytes_with_crc16 crc t) (λ s m. rest_at started s ≡ bind (crc_at 2 crc FrameCrc m) (λ u. done (block_from started.start channels)))
+    before_crc =
+        consumes_known _ h (λ known p.
+        rest_after started (bytes_of_all s.remaining) (bytes_of_all t.remaining) channels p
+        ∙ ap (λ (n : ℕ). bind (crc_at 2 n FrameCrc (bytes_of_all t.remaining)) (λ u. done (block_from started.start channels))) (sym (crc_of_rest first crc s t low small h known ∙ ap (λ (n : ℕ). update_crc16 n (taken (bytes_of_all s.remaining) (bytes_of_all t.remaining))) same)))
+
+    -- the CRC is wrong or incomplete
+    pub footer_stops : {e : Error} {b : State ℕ} → Stops e (crc_at 2 crc FrameCrc) (bytes_with_crc16 crc t) b → Stops e (rest_at started) (bytes_with_crc16 first s) b
+    footer_stops k = stops_as (consumes_map _ before_crc (λ p. record { fault = λ f rest q. p ∙ rw q refl; incomplete = λ q. p ∙ rw q refl })) k
+
+    pub rest_consumes : {b : State ℕ} → Consumes (bytes_with_crc16 crc t) b (λ s m. crc_at 2 crc FrameCrc s ≡ Done tt m) → Consumes (bytes_with_crc16 first s) b (λ s m. rest_at started s ≡ Done (block_from started.start channels) m)
+    rest_consumes k = consumes_then _ before_crc k (λ p q. p ∙ rw q refl)
 
 -- ---- the bit depth of a stream
 
@@ -112,9 +112,8 @@ channel_count_is RightSideStereo some few = refl
 channel_count_is MidSideStereo some few = refl
 
 -- there is no memory for the samples
-pub memory_refused : {X A Y : Type 0} (view : A → Y) {r : Result (Option A) Error} (read : List X → Reading X Y) {e : Error} {a b : State X} {P : List X → List X → Type 0} → (y : Error) × (r ≡ Err y) × (y ≡ e) → is_out_of_memory e ≡ true → Consumes a b P
-    → GivesOrEofOrOutOfMemory 2 view r read a b
-memory_refused view read {e} {a} {b} p m h = exit_out_of_memory_or_eof 2 view read (p.0, p.1, p.2 ∙ go e m) (record { consumed = consumes_map (λ s m. Unit {0}) h (λ p. tt) })
+pub memory_refused : {X A Y : Type 0} (view : A → Y) {r : Result A Error} (read : List X → Reading X Y) {e : Error} (a : State X) → (y : Error) × (r ≡ Err y) × (y ≡ e) → is_out_of_memory e ≡ true → GivesOrOutOfMemory view r read a a
+memory_refused view read {e} a p m = rw (p.1, p.2 ∙ go e m) (record { consumed = consumes_none a (λ s m. Unit {0}) tt })
   where
     go : (e : Error) → is_out_of_memory e ≡ true → e ≡ OutOfMemory
     go OutOfMemory m = refl
@@ -122,10 +121,38 @@ memory_refused view read {e} {a} {b} p m h = exit_out_of_memory_or_eof 2 view re
     go (FormatError text) m = absurd cc
     go (Unsupported text) m = absurd cc
 
--- and then just the header was consumed
-pub buffer_too_small : (stream : Option StreamFormat) {start : Start} {a b : State ℕ} (capacity n : ℕ) → Consumes a b (λ s m. or_eof 2 (start_at stream) s ≡ Done (Some start) m) → n ≡ channel_count start.channel_code → capacity < n * start.size → BufferTooSmall stream capacity a b
-buffer_too_small stream {start = start} {a = a} {b = b} capacity n h e small = record {
-  start = start;
-  header = consumes_map _ h (λ p. (some_read 2 (start_at stream) a.remaining start b.remaining p).1);
-  small = rw (← e) small;
-}
+-- and then nothing was consumed
+pub too_small : (started : Started) (a : State ℕ) (capacity n : ℕ) → n ≡ channel_count started.start.channel_code → capacity < n * started.start.size → RestTooSmall started capacity a a
+too_small started a capacity n e small = record { nothing = consumes_none a (λ s m. s ≡ m) refl; small = rw (← e) small }
+
+-- ---- a header, and then the rest
+
+module _ (stream : Option StreamFormat) (started : Started) {a b : State ℕ} (h : Consumes a b (λ s m. or_eof 2 (started_at stream) s ≡ Done (Some started) m)) where
+  -- the rest is read as the frame is
+  rest_follows : Consumes a b (λ s m. or_eof 2 (frame_bytes_at stream) s ≡ found (rest_at started m))
+  rest_follows = after_first 2 (started_at stream) (frame_bytes_at stream) (rest_at started) (frame_is_both stream started) h
+
+  -- what the rest gives, the frame gives
+  pub frame_consumes : {c : State ℕ} {block : Block} → Consumes b c (λ s m. rest_at started s ≡ Done block m) → Consumes a c (λ s m. or_eof 2 (frame_bytes_at stream) s ≡ Done (Some block) m)
+  frame_consumes k = some_ok 2 (frame_bytes_at stream) (rest_at started) rest_follows k
+
+  pub frame_stops : {c : State ℕ} {e : Error} → Stops e (rest_at started) b c → Stops e (or_eof 2 (frame_bytes_at stream)) a c
+  frame_stops k = some_stops 2 (frame_bytes_at stream) (rest_at started) rest_follows k
+
+  pub start_consumes : Consumes a b (λ s m. or_eof 2 (start_at stream) s ≡ Done (Some started.start) m)
+  start_consumes = consumes_map _ h (λ p. let q = some_read 2 (started_at stream) a.remaining started b.remaining p in enough 2 (start_at stream) a.remaining q.0 ∙ ap found (start_of_started stream started a.remaining b.remaining q.1))
+
+  pub buffer_too_small : {c : State ℕ} (capacity : ℕ) → RestTooSmall started capacity b c → BufferTooSmall stream capacity a c
+  buffer_too_small capacity k = record {
+    start = started.start;
+    header = consumes_then _ h k.nothing (λ p q. subst (λ (m : List ℕ). start_at stream a.remaining ≡ Done started.start m) q (start_of_started stream started a.remaining b.remaining (some_read 2 (started_at stream) a.remaining started b.remaining p).1));
+    small = k.small;
+  }
+
+  -- whatever the rest gives
+  pub frame_gives : {A : Type 0} (view : A → Block) (r : Result A Error) (c : State ℕ) → GivesOrOutOfMemory view r (rest_at started) b c → GivesOrEofOrOutOfMemory 2 view (whole_answer r) (frame_bytes_at stream) a c
+  frame_gives view (Ok x) c k = frame_consumes k
+  frame_gives view (Err OutOfMemory) c k = out_of_memory_later h k
+  frame_gives view (Err (IoError cause)) c k = frame_stops k
+  frame_gives view (Err (FormatError text)) c k = frame_stops k
+  frame_gives view (Err (Unsupported text)) c k = frame_stops k

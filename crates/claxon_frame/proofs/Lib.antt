@@ -26,3 +26,7 @@ pub mod BlockInfo
 pub mod FrameHeaders
 -- A frame that is read with its header.
 pub mod DecodedFrames
+-- A frame whose header was read: the header, the rest, and both together.
+pub mod StartedFrames
+-- The clauses of the calls that read a header, and the rest of its frame.
+pub mod StartPromises

@@ -1,6 +1,7 @@
 pub mod FrameStart
 pub mod FrameReader
 pub mod BlockInfo
+pub mod StartedFrame
 pub mod Prefix
 pub mod DecodedFrame
 pub mod FrameHeader

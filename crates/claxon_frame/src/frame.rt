@@ -21,7 +21,7 @@ ghost use Rattle.claxon_format.specs.Fault.{FrameCrc};
 ghost use Rattle.claxon_format.specs.read.Bytes.{crc_at};
 ghost use Rattle.claxon_input.specs.RunningReader.{running_value};
 ghost use Rattle.claxon_input.specs.State.{bytes_in};
-ghost use Rattle.claxon_input.specs.Gives.{Gives, GivesOrEofOrOutOfMemory};
+ghost use Rattle.claxon_input.specs.Gives.{Gives, GivesOrEofOrOutOfMemory, GivesOrOutOfMemory};
 ghost use Rattle.claxon_input.specs.Promises.{IfOutOfMemory};
 ghost use Rattle.claxon_frame.specs.BlockInfo.{HasBlockBounds, SaysBlock, info_of_header};
 ghost use Rattle.claxon_frame.specs.DecodedFrame.{
@@ -38,12 +38,21 @@ ghost use Rattle.claxon_frame.specs.FrameReader.{
   BufferTooSmall,
   block_view,
 };
+ghost use Rattle.claxon_frame.specs.StartedFrame.{
+  RestHasSamples,
+  RestIsSaid,
+  RestKeepsCapacity,
+  RestTooSmall,
+  rest_at,
+  started_view,
+};
 ghost use Rattle.claxon_frame.specs.Subframes.{SubframesAreRead, channels_in, sample_count};
 
 mod block;
 mod decoded;
 mod header;
 mod info;
+mod started;
 mod stereo;
 
 pub use block::{Block, StereoSamples};
@@ -54,9 +63,11 @@ use claxon_metadata::metadata::StreamInfo;
 use claxon_subframe::subframe;
 pub use decoded::{DecodedFrame, DecodedFrameResult};
 pub use header::{RESERVED_HEADER_VALUE, SIDE_TOO_WIDE, SYNC_CODE_MISSING};
-use header::{FrameHeader, KnownStreamFormat, read_frame_header_or_eof};
+use header::{FrameHeader, KnownStreamFormat};
 pub use info::BlockInfo;
 use info::read_block_info_or_eof;
+pub use started::StartedFrame;
+use started::read_started_or_eof;
 use std::alloc::{Allocator, Global};
 use stereo::undo_decorrelation;
 
@@ -102,6 +113,33 @@ impl<R: ReadBytes> FrameReader<R> {
       header_answer,
     };
     ghost use Rattle.claxon_subframe.specs.Decode.{NeverOutOfMemory};
+    ghost use Rattle.claxon_frame.specs.StartedFrame.{
+      RestElseIoError,
+      RestFailureIsErr,
+      RestFaultIsComplete,
+      RestFaultIsSound,
+      RestHasSamples,
+      RestIsComplete,
+      RestIsRead,
+      RestIsSaid,
+      RestIsSound,
+      RestKeepsCapacity,
+      RestLeavesRest,
+      RestMaxCapacityIsEnough,
+      RestOutOfMemoryKeepsBytes,
+      RestReadsFrame,
+      StartElseIoError,
+      StartEofIsNone,
+      StartFailureIsErr,
+      StartFaultIsComplete,
+      StartFaultIsSound,
+      StartIsComplete,
+      StartIsRead,
+      StartIsSound,
+      StartIsUnambiguous,
+      StartLeavesRest,
+      StartNoneIsEof,
+    };
     ghost use Rattle.claxon_frame.specs.FrameReader.{
       BlockHasSamples,
       BlockKeepsCapacity,
@@ -270,6 +308,70 @@ impl<R: ReadBytes> FrameReader<R> {
         read_block_info_or_eof(&mut self.input, self.stream)
     }
 
+    /// Reads the header of the next frame, with its CRC-8. `read_rest` decodes the rest.
+    ///
+    /// So a caller sees what the header says before it decodes the frame, and the header is read once. None if fewer than two
+    /// bytes are left, which are consumed. (RFC 9639, section 9.1.)
+    ///
+    /// # Errors
+    ///
+    /// Those of `read_header_or_eof`.
+    pub fn read_start_or_eof(&mut self) -> Result<Option<StartedFrame>>
+        ensures stream { frame_stream self.new ≡ frame_stream self.old }
+        ensures is_sound { StartIsSound R.source self.old result self.new }
+        ensures is_complete { StartIsComplete R.source self.old result self.new }
+        ensures is_unambiguous { StartIsUnambiguous (frame_stream self.old) }
+        ensures none_is_eof { StartNoneIsEof R.source self.old result self.new }
+        ensures eof_is_none { StartEofIsNone R.source self.old result self.new }
+        ensures failure_is_err { StartFailureIsErr R.source self.old result self.new }
+        ensures fault_is_sound { StartFaultIsSound R.source self.old result self.new }
+        ensures fault_is_complete { StartFaultIsComplete R.source self.old result self.new }
+        ensures else_io_error { StartElseIoError R.source self.old result self.new }
+        ensures leaves_rest { StartLeavesRest R.source self.old result self.new }
+        ensures never_out_of_memory { NeverOutOfMemory result }
+        ensures is_read { StartIsRead R.source self.old result self.new }
+    {
+        read_started_or_eof(&mut self.input, self.stream)
+    }
+
+    /// Reads the rest of the frame whose header `read_start_or_eof` has read last, into the buffer's memory if it is large
+    /// enough.
+    ///
+    /// The block is that of `read_next_or_eof`: the CRC-16 is that of the header and the bytes after it. (RFC 9639, section 9.)
+    ///
+    /// # Errors
+    ///
+    /// Those of `read_next_or_eof` after a header. `OutOfMemory` consumes nothing, so the call can be made once more, with a
+    /// larger buffer.
+    pub fn read_rest<A: Allocator>(
+        &mut self,
+        started: StartedFrame,
+        buffer: Vec<i32, A>,
+    ) -> Result<Block<A>>
+        // What it returns, and consumes.
+        ensures is_sound { RestIsSound R.source self.old started result self.new }
+        ensures is_complete { RestIsComplete R.source self.old started result self.new }
+        ensures failure_is_err { RestFailureIsErr R.source self.old started result self.new }
+        ensures fault_is_sound { RestFaultIsSound R.source self.old started result self.new }
+        ensures fault_is_complete { RestFaultIsComplete R.source self.old started result self.new }
+        ensures else_io_error { RestElseIoError R.source self.old started result self.new }
+        ensures leaves_rest { RestLeavesRest R.source self.old started result self.new }
+        // What the definitions say.
+        ensures reads_frame { RestReadsFrame (frame_stream self.old) started }
+        // Memory.
+        ensures out_of_memory_keeps_bytes { RestOutOfMemoryKeepsBytes R.source
+            (vec_capacity buffer) self.old started result self.new }
+        ensures max_capacity_is_enough { RestMaxCapacityIsEnough (vec_capacity buffer) result }
+        ensures keeps_capacity { RestKeepsCapacity (vec_capacity buffer) result }
+        // What callers' proofs need.
+        ensures stream { frame_stream self.new ≡ frame_stream self.old }
+        ensures has_samples { RestHasSamples result }
+        ensures is_said { RestIsSaid started result }
+        ensures is_read { RestIsRead R.source self.old started result self.new }
+    {
+        read_rest_exact(&mut self.input, started, buffer)
+    }
+
     /// The wrapped reader.
     pub fn into_inner(self) -> R
         ensures { result ≡ frame_input self }
@@ -300,18 +402,38 @@ fn read_frame_exact<R: ReadBytes, A: Allocator>(
     ensures max_capacity { IfOutOfMemory (frame_answer result)
         (vec_capacity buffer < max_block_samples) }
 {
-    let mut input = Crc16Reader::new(input);
-    let Some(header) = read_frame_header_or_eof(&mut input, stream)? else {
+    let Some(started) = read_started_or_eof(input, stream)? else {
         return Ok(None);
     };
+    let block = read_rest_exact(input, started, buffer)?;
+    let info = started.info();
+    Ok(Some(DecodedFrame { info, block }))
+}
+
+// `read_rest`, with its exact clauses.
+fn read_rest_exact<R: ReadBytes, A: Allocator>(
+    input: &mut R,
+    started: StartedFrame,
+    buffer: Vec<i32, A>,
+) -> Result<Block<A>>
+    ensures gives { GivesOrOutOfMemory block_view result (rest_at (started_view started))
+        (bytes_in R.source input.old) (bytes_in R.source input.new) }
+    ensures has_samples { RestHasSamples result }
+    ensures is_said { RestIsSaid started result }
+    ensures keeps_capacity { RestKeepsCapacity (vec_capacity buffer) result }
+    ensures too_small { IfOutOfMemory result
+        (RestTooSmall (started_view started) (vec_capacity buffer)
+        (bytes_in R.source input.old) (bytes_in R.source input.new)) }
+    ensures max_capacity { IfOutOfMemory result (vec_capacity buffer < max_block_samples) }
+{
+    let mut input = Crc16Reader::resume(input, started.crc);
+    let header = started.header;
     let samples = usize::from(header.channel_assignment.channels())
         * usize::from(header.block_size);
     let mut buffer = ensure_buffer_len(buffer, samples)?;
     decode_subframes(&mut input, &header, buffer.as_mut_slice())?;
     check_footer(&mut input)?;
-    let info = BlockInfo::new(&header);
-    let block = to_block(header, buffer);
-    Ok(Some(DecodedFrame { info, block }))
+    Ok(to_block(header, buffer))
 }
 
 // The block alone.

@@ -4,9 +4,9 @@ use crate::answers::{
 };
 use crate::doubles::RefusesOne;
 use crate::doubles::sinks::Sink;
-use claxon::FlacReader;
 use claxon::frame::FrameReader;
 use claxon::metadata::{MetadataBlock, VorbisComment, read_metadata_block_with_header};
+use claxon::{Error, FlacReader};
 use claxon_write::run;
 use linked_list_allocator::LocalHeap;
 use std::alloc::{Allocator, Global};
@@ -187,4 +187,20 @@ fn a_buffer_that_cannot_grow(rt: HostRuntime) {
     let no_sync = Err(Fault::Format("frame sync code missing"));
     check_calls(&rt, &[Err(Fault::Memory)], 7);
     check_calls(&rt, &[Err(Fault::Memory), no_sync], 9);
+}
+
+// Memory that is refused for the rest of a frame leaves it unread, so the call can be made once more.
+#[test]
+fn a_rest_read_once_more(rt: HostRuntime) -> Result<(), Fail> {
+    let heap = RefusesOne::new(rt.alloc(), 0);
+    let mut reader = FrameReader::new(Cursor::new(FRAME.as_slice()));
+    let Ok(Some(started)) = reader.read_start_or_eof() else {
+        return Err(Fail::new("no header"));
+    };
+    let refused = reader.read_rest(started, Vec::new(&heap)).err();
+    assert!(rt; refused == Some(Error::OutOfMemory));
+    let block = reader.read_rest(started, Vec::new(&heap));
+    assert!(rt; matches!(&block, Ok(block) if block.channel(0) == [5].as_slice()));
+    assert!(rt; reader.into_inner().position() == FRAME.len() as u64);
+    Ok(())
 }

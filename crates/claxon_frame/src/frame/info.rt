@@ -3,7 +3,8 @@ ghost use Rattle.std.specs.Prelude.{◌≡◌};
 ghost use Rattle.claxon_frame.specs.BlockInfo.{HasBlockBounds, HeaderInfoIsRead, info_of_header};
 ghost use Rattle.claxon_frame.specs.FrameStart.{stream_format_view};
 
-use crate::frame::header::{BlockTime, FrameHeader, KnownStreamFormat, read_frame_header_or_eof};
+use crate::frame::header::{BlockTime, FrameHeader, KnownStreamFormat};
+use crate::frame::started::read_started_or_eof;
 use claxon_input::error::Result;
 use claxon_input::input::ReadBytes;
 
@@ -68,8 +69,8 @@ pub(super) fn read_block_info_or_eof<R: ReadBytes>(
         input.old result input.new }
     ensures has_block_bounds { HasBlockBounds result }
 {
-    let Some(header) = read_frame_header_or_eof(input, stream)? else {
+    let Some(started) = read_started_or_eof(input, stream)? else {
         return Ok(None);
     };
-    Ok(Some(BlockInfo::new(&header)))
+    Ok(Some(started.info()))
 }
