@@ -2,9 +2,9 @@
 use crate::text::{notes, place_text};
 use crate::verdict::Verdict;
 use claxon::Error;
+use claxon_blocks::md5_verdict::Md5Verdict;
 use claxon_command_line::json::push_json_string;
 use claxon_command_line::messages::{Part, error_text};
-use claxon_blocks::md5_verdict::Md5Verdict;
 use claxon_verify::report::{Place, Report};
 use std::alloc::{AllocError, Global};
 

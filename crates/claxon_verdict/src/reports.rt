@@ -1,12 +1,11 @@
 //! Reports for the tests of what is printed.
 use claxon::Error;
+use claxon::fault_texts::{FRAME_CRC_MISMATCH, RESERVED_HEADER_VALUE};
 use claxon::metadata::StreamInfo;
 use claxon::running::Running;
 use claxon_blocks::frames::{FirstBytes, FrameError};
 use claxon_blocks::md5_verdict::Md5Verdict;
-use claxon_verify::report::{
-    Damage, Found, Gap, Notes, Place, Places, Report, Trailing,
-};
+use claxon_verify::report::{Damage, Found, Gap, Notes, Place, Places, Report, Trailing};
 use std::alloc::{AllocError, Global};
 
 const INFO: StreamInfo = StreamInfo {
@@ -134,7 +133,7 @@ fn fault_place(
 
 // A place with a frame whose CRC is wrong.
 fn crc_place() -> Place {
-    fault_place((53, 1234), (4096, 8192), "frame CRC mismatch", false)
+    fault_place((53, 1234), (4096, 8192), FRAME_CRC_MISMATCH, false)
 }
 
 /// The same stream, with a place.
@@ -181,8 +180,7 @@ pub fn more_places(
 
 /// A stream of frames with 32 bits a sample.
 pub fn wide(alloc: Global) -> Report {
-    let text = "invalid frame header, encountered reserved value";
-    let first = fault_place((42, 9000), (0, 0), text, true);
+    let first = fault_place((42, 9000), (0, 0), RESERVED_HEADER_VALUE, true);
     let report = report((0, 0), places(alloc, Some(first)), Md5Verdict::Wrong, false);
     Report {
         info: StreamInfo {

@@ -12,10 +12,10 @@ ghost use Rattle.claxon_command_line.specs.Text.{IsText};
 use crate::verdict::Verdict;
 use claxon::Error;
 use claxon::metadata::StreamInfo;
-use claxon_command_line::messages::{Part, error_text};
-use claxon_command_line::text::count_text;
 use claxon_blocks::frames::{FrameError, UNSUPPORTED_32_BIT};
 use claxon_blocks::md5_verdict::Md5Verdict;
+use claxon_command_line::messages::{Part, error_text};
+use claxon_command_line::text::count_text;
 use claxon_verify::report::{Damage, Found, Gap, Place, Places, Report, Trailing};
 use std::alloc::{AllocError, Global};
 
@@ -170,7 +170,7 @@ pub fn place_text(
 
 // What stands after the last frame: so many bytes.
 fn trailing_text(alloc: Global, bytes: u64, trailing: Trailing) -> Result<String, AllocError>
-    ensures { IsText (trailing_text bytes trailing) result }
+    ensures is_text { IsText (trailing_text bytes trailing) result }
 {
     let counted = count_text(alloc, bytes, "byte")?;
     let name = trailing_name(trailing);
@@ -190,7 +190,7 @@ fn trailing_name(trailing: Trailing) -> &'static str
 
 // What is wrong.
 fn damage_text(alloc: Global, info: &StreamInfo, damage: &Damage) -> Result<String, AllocError>
-    ensures { DamageTextIsSound info.now damage.now result }
+    ensures is_sound { DamageTextIsSound info.now damage.now result }
 {
     match damage {
         Damage::Fault(fault) => frame_error_text(alloc, fault),
@@ -223,7 +223,7 @@ fn damage_text(alloc: Global, info: &StreamInfo, damage: &Damage) -> Result<Stri
 
 // A number of frames, or of samples where the block size is variable, and what they are.
 fn gap_text(alloc: Global, gap: Gap, what: &str) -> Result<String, AllocError>
-    ensures { IsText (gap_text gap what.now) result }
+    ensures is_text { IsText (gap_text gap what.now) result }
 {
     let Gap { count, is_variable } = gap;
     let thing = if is_variable { "sample" } else { "frame" };
@@ -234,7 +234,7 @@ fn gap_text(alloc: Global, gap: Gap, what: &str) -> Result<String, AllocError>
 
 // What is wrong with a frame.
 fn frame_error_text(alloc: Global, fault: &FrameError) -> Result<String, AllocError>
-    ensures { FrameErrorTextIsSound fault.now result }
+    ensures is_sound { FrameErrorTextIsSound fault.now result }
 {
     if fault.is_32_bit {
         return String::from_str(alloc, UNSUPPORTED_32_BIT);

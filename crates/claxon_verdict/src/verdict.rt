@@ -14,6 +14,7 @@ ghost use Rattle.claxon_verdict.specs.Verdict.{
 };
 
 use claxon::Error;
+use claxon::fault_texts::{ID3_HEADER, INVALID_SAMPLE_RATE, SIDE_TOO_WIDE};
 use claxon::metadata::StreamInfo;
 use claxon_blocks::frames::FrameError;
 use claxon_verify::report::{Damage, Report};
@@ -35,7 +36,7 @@ pub enum Verdict {
 impl Verdict {
     /// What is said of a stream with this report.
     pub fn of_report(report: &Report) -> Verdict
-        ensures { ReportVerdictIsSound report.now result }
+        ensures is_sound { ReportVerdictIsSound report.now result }
     {
         if report.is_right {
             return Verdict::Right;
@@ -53,7 +54,7 @@ impl Verdict {
 
     /// What is said of a file that gave this error in place of a report.
     pub fn of_error(error: &Error) -> Verdict
-        ensures { ErrorVerdictIsSound error.now result }
+        ensures is_sound { ErrorVerdictIsSound error.now result }
     {
         if is_unread(error) {
             return Verdict::NotRead;
@@ -107,17 +108,14 @@ fn head_reason(error: &Error) -> Option<&'static str>
 fn is_id3_tag(error: &Error) -> bool
     ensures { IsTrue result ↔ IsFault Id3Header error.now }
 {
-    matches!(
-        error,
-        Error::FormatError("stream starts with ID3 header rather than FLAC header")
-    )
+    matches!(error, Error::FormatError(ID3_HEADER))
 }
 
 // Whether the error says that the decoder refuses the sample rate of the streaminfo.
 fn is_other_rate(error: &Error) -> bool
     ensures { IsTrue result ↔ IsFault SampleRate error.now }
 {
-    matches!(error, Error::FormatError("invalid sample rate"))
+    matches!(error, Error::FormatError(INVALID_SAMPLE_RATE))
 }
 
 // The name of a feature, of which the decoder says that it isn't supported.
@@ -139,10 +137,7 @@ fn is_unsupported_frame(info: &StreamInfo, fault: &FrameError) -> bool
 fn is_wide_side(error: &Error) -> bool
     ensures { IsTrue result ↔ IsFault SideTooWide error.now }
 {
-    matches!(
-        error,
-        Error::Unsupported("side channels of 33 bits are not supported")
-    )
+    matches!(error, Error::Unsupported(SIDE_TOO_WIDE))
 }
 
 fn frame_reason(fault: &FrameError) -> &'static str {
@@ -166,7 +161,7 @@ pub enum Outcome {
 impl Outcome {
     /// The outcome of these files and of others.
     pub fn worst(self, other: Outcome) -> Outcome
-        ensures { IsWorst self other result }
+        ensures is_worst { IsWorst self other result }
     {
         match (self, other) {
             (Outcome::Wrong, _) | (_, Outcome::Wrong) => Outcome::Wrong,

@@ -1,5 +1,6 @@
 //! Streams that are verified, and command lines of `claxon verify`.
 use crate::reports::report_of;
+use claxon_blocks::md5_verdict::Md5Verdict;
 use claxon_command_line::progress::Progress;
 use claxon_commands::verify::command;
 use claxon_tests::answers::{
@@ -8,7 +9,6 @@ use claxon_tests::answers::{
 use claxon_tests::command_lines::owned;
 use claxon_tests::doubles::sinks::Sink;
 use claxon_tests::temporary_files::{file_of, path_of};
-use claxon_blocks::md5_verdict::Md5Verdict;
 use claxon_verify::report::{Damage, Place, Report};
 use claxon_verify::verify;
 use std::fs;
