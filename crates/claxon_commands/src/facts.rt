@@ -39,7 +39,8 @@ pub fn write_facts<R: Read, W: Write, A: Allocator + Copy>(
 ) -> claxon::Result<()>
     ensures same_writer { SameWriter output.old output.new }
     ensures is_sound { WriteFactsIsSound W.contents flac.now result output.old output.new }
-    ensures fault_is_sound { WriteFactsFaultIsSound W.contents flac.now result output.old output.new }
+    ensures fault_is_sound { WriteFactsFaultIsSound W.contents flac.now result output.old
+        output.new }
 {
     let text = facts(alloc, flac)?;
     output.put(text.as_bytes())?;
@@ -51,7 +52,7 @@ fn facts<R: Read, A: Allocator + Copy>(
     alloc: A,
     flac: &FlacReader<R, A>,
 ) -> Result<String<A>, AllocError>
-    ensures { FactsAreSound flac.now result }
+    ensures are_sound { FactsAreSound flac.now result }
 {
     let mut text = String::new(alloc);
     let info = flac.streaminfo();
@@ -68,7 +69,7 @@ fn push_format<A: Allocator + Copy>(
     text: &mut String<A>,
     info: &StreamInfo,
 ) -> Result<(), AllocError>
-    ensures { Adds (format_text info.now) result text.old text.new }
+    ensures adds { Adds (format_text info.now) result text.old text.new }
 {
     let numbers = [
         ("sample_rate", Some(u64::from(info.sample_rate))),
@@ -87,7 +88,7 @@ fn push_sizes<A: Allocator + Copy>(
     text: &mut String<A>,
     info: &StreamInfo,
 ) -> Result<(), AllocError>
-    ensures { Adds (sizes_text info.now) result text.old text.new }
+    ensures adds { Adds (sizes_text info.now) result text.old text.new }
 {
     let numbers = [
         ("min_block_size", Some(u64::from(info.min_block_size))),
@@ -104,7 +105,8 @@ fn push_vendor<A: Allocator + Copy>(
     text: &mut String<A>,
     vendor: Option<&str>,
 ) -> Result<(), AllocError>
-    ensures { Adds (vendor_text (option_map (λ v. v.now) vendor.entry)) result text.old text.new }
+    ensures adds { Adds (vendor_text (option_map (λ v. v.now) vendor.entry)) result
+        text.old text.new }
 {
     match vendor {
         Some(vendor) => push_line(text, "vendor", escaped_text(alloc, vendor)?.as_str()),
@@ -117,7 +119,7 @@ fn push_tags<A: Allocator + Copy>(
     text: &mut String<A>,
     mut tags: Tags<'_, A>,
 ) -> Result<(), AllocError>
-    ensures { Adds (tags_text (remaining_tags tags.entry)) result text.old text.new }
+    ensures adds { Adds (tags_text (remaining_tags tags.entry)) result text.old text.new }
 {
     while let Some((name, value)) = tags.next() {
         push_tag(alloc, text, name, value)?;
@@ -131,7 +133,7 @@ fn push_tag<A: Allocator + Copy>(
     name: &str,
     value: &str,
 ) -> Result<(), AllocError>
-    ensures { Adds (tag_text (name.now, value.now)) result text.old text.new }
+    ensures adds { Adds (tag_text (name.now, value.now)) result text.old text.new }
 {
     let name = escaped_text(alloc, name)?;
     let value = escaped_text(alloc, value)?;
@@ -145,7 +147,7 @@ fn push_numbers<A: Allocator + Copy>(
     text: &mut String<A>,
     numbers: &[(&str, Option<u64>)],
 ) -> Result<(), AllocError>
-    ensures { Adds (numbers_text numbers.now) result text.old text.new }
+    ensures adds { Adds (numbers_text numbers.now) result text.old text.new }
 {
     for (name, number) in numbers {
         push_line(text, *name, number_text(alloc, *number)?.as_str())?;
@@ -155,7 +157,7 @@ fn push_numbers<A: Allocator + Copy>(
 
 #[tactic(auto, unfolding(claxon_command_line::specs::Text::line))]
 fn push_line<A: Allocator>(text: &mut String<A>, name: &str, value: &str) -> Result<(), AllocError>
-    ensures { Adds (line name.now value.now) result text.old text.new }
+    ensures adds { Adds (line name.now value.now) result text.old text.new }
 {
     writeln!(text, "{name}: {value}")
 }

@@ -51,7 +51,8 @@ impl Program {
         output: &mut W,
         errors: &mut E,
     ) -> u8
-        ensures { PrintIsSound W.contents self.now notice.entry result output.old output.new }
+        ensures is_sound { PrintIsSound W.contents self.now notice.entry result output.old
+            output.new }
     {
         match notice {
             Notice::Help => print_text(alloc, self.help_text(alloc), output, errors),
@@ -82,7 +83,7 @@ impl Program {
     }
 
     fn help_text(&self, alloc: Global) -> Result<String, AllocError>
-        ensures { IsText (help_text self.now) result }
+        ensures is_text { IsText (help_text self.now) result }
     {
         let (name, arguments) = (self.name, self.arguments);
         let mut text = format!(in alloc; "usage: {name} {arguments}\n\n")?;
@@ -92,7 +93,7 @@ impl Program {
     }
 
     fn version_text(&self, alloc: Global, version: &str) -> Result<String, AllocError>
-        ensures { IsText (version_text self.now version.now) result }
+        ensures is_text { IsText (version_text self.now version.now) result }
     {
         let mut text = String::from_str(alloc, self.name)?;
         text.push_str(" ")?;
@@ -104,7 +105,7 @@ impl Program {
 
 // A line for each command.
 fn push_commands(text: &mut String, commands: &[(&str, &str)]) -> Result<(), AllocError>
-    ensures { Adds (commands_text commands.now) result text.old text.new }
+    ensures adds { Adds (commands_text commands.now) result text.old text.new }
 {
     for (name, summary) in commands {
         push_command(text, *name, *summary)?;
@@ -114,7 +115,7 @@ fn push_commands(text: &mut String, commands: &[(&str, &str)]) -> Result<(), All
 
 #[tactic(auto, unfolding(crate::specs::Program::command_text))]
 fn push_command(text: &mut String, name: &str, summary: &str) -> Result<(), AllocError>
-    ensures { Adds (command_text name.now summary.now) result text.old text.new }
+    ensures adds { Adds (command_text name.now summary.now) result text.old text.new }
 {
     writeln!(text, "  {name:<11}{summary}")
 }
@@ -126,7 +127,7 @@ fn print_text<W: Write, E: Write>(
     output: &mut W,
     errors: &mut E,
 ) -> u8
-    ensures { PrintsText W.contents text result output.old output.new }
+    ensures prints_text { PrintsText W.contents text result output.old output.new }
 {
     let mut output = Output::new(output);
     let outcome = write_text(text, &mut output);

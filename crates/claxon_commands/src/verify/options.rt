@@ -35,7 +35,7 @@ pub struct Options {
 
 /// What the words ask for. With a list there are no operands, and without one there is one or more.
 pub fn parse<'a>(words: &'a [String]) -> Result<VerifyRequest<'a>, Notice<'a>>
-    ensures { RequestIsSound result }
+    ensures is_sound { RequestIsSound result }
 {
     let mut arguments = Arguments::new(words);
     let mut options = Options {
@@ -83,7 +83,7 @@ fn files_of<'a>(
     list: Option<&'a str>,
     count: usize,
 ) -> Result<NamedFiles<'a>, Notice<'a>>
-    ensures { FilesAre list.entry count result }
+    ensures files_are { FilesAre list.entry count result }
 {
     match list {
         Some(name) if count == 0 => Ok(NamedFiles::List(name)),

@@ -13,6 +13,6 @@ pub returns : goal.returns
 returns g c =
     let min = widened _ _ c.map.ensures.cases in
     let max = widened _ _ c.map-2.ensures.cases in
-    let numbers = simp (c.from.ensures, c.from-2.ensures, min, max) at c.in_ok-push_numbers.ensures in
-    let all = simp (c.as_str.ensures.value, c.in_ok-md5_text.ensures.is_text, numbers, append_assoc, append-nil) at c.push_line.ensures in
-    simp (append_assoc) all
+    let numbers = simp (c.from.ensures, c.from-2.ensures, min, max) at c.in_ok-push_numbers.ensures.adds in
+    let all = simp (c.as_str.ensures.value, c.in_ok-md5_text.ensures.is_text, numbers, append_assoc, append-nil) at c.push_line.ensures.adds in
+    record { adds = simp (append_assoc) all }

@@ -2,4 +2,4 @@ use Rattle.std.proofs.Common.{append_assoc, arith}
 use Rattle.claxon_commands.proofs.program.Program.help_text.Goals as goal
 
 pub returns : goal.returns
-returns c = grind (arith, append_assoc)
+returns c = record { is_text = grind (arith, append_assoc) }
