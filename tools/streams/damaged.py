@@ -12,8 +12,10 @@ from typing import Any, Dict, Iterable, Iterator, List, Optional, Sequence, Tupl
 from streams import frames as writer
 
 CRC = "Ill-formed FLAC stream: frame CRC mismatch"
+SYNC = "Ill-formed FLAC stream: frame sync code missing"
 CUT = "truncated: the file ends inside a frame"
 CUT_HEAD = "truncated: the file ends inside the metadata"
+DEEP_SAMPLES = "32-bit samples"
 BLOCK_NOTE = "a block size is out of the streaminfo's bounds"
 FRAME_NOTE = "a frame size is out of the streaminfo's bounds"
 BYTE_NOTE, MD5_NOTE, LENGTH_NOTE = "1 byte after the last frame", "no MD5 sum", "unknown length"
@@ -22,6 +24,8 @@ WRONG_MD5 = "but their MD5 sum isn't that of the streaminfo"
 # The first byte of a place and that after it, the first sample and that after it, and what is
 # wrong.
 Place = Tuple[int, int, int, int, str]
+MISSING = "1 frame is missing"
+SECOND_MISSING = 53, 53, 16, 32, MISSING
 
 
 @dataclasses.dataclass(frozen=True)
@@ -84,29 +88,39 @@ def numbered(
     samples: Optional[int] = None,
     md5: Optional[bytes] = None,
     stream: Format = PLAIN,
-    frames: Format = PLAIN,
+    frames: Optional[Format] = None,
 ) -> bytes:
     """A stream of `of` frames of 16 samples, of which just those of these numbers are there, in
-    this order. The samples of frame N are N + 1. The frames are right where `of` is left out."""
+    this order. The samples of frame N are N + 1. The frames are right where `of` and `frames` are
+    left out."""
     of = len(numbers) if of is None else of
     md5 = md5_of(range(1, of + 1), stream) if md5 is None else md5
     front = head(16 * of if samples is None else samples, md5, stream)
-    return front + b"".join(frame(number, number + 1, stream=frames) for number in numbers)
+    return front + b"".join(
+        frame(number, number + 1, stream=frames or stream) for number in numbers
+    )
 
 
-def flipped(data: bytes, positions: Iterable[int]) -> bytes:
-    """The data, with the lowest bit of these bytes flipped."""
+TWO, THREE = numbered([0, 1]), numbered([0, 1, 2])
+
+
+def variable(number: int, sample: int) -> bytes:
+    """A frame of a stream whose block size is variable."""
+    return frame(number, sample, is_variable=True)
+
+
+def flipped(data: bytes, positions: Iterable[int], bit: int = 1) -> bytes:
+    """The data, with the lowest bit of these bytes flipped, or another one."""
     changed = bytearray(data)
     for position in positions:
-        changed[position] ^= 1
+        changed[position] ^= bit
     return bytes(changed)
 
 
 @dataclasses.dataclass
 class Row:
     """A stream, and what is to be said of it: the line without the name, and the parts of the
-    JSON object. Without `counts` there are no frames, but a reason. A place is its first byte
-    and that after it, its first sample and that after it, and what is wrong."""
+    JSON object. Without `counts` there are no frames, but a reason."""
 
     name: str
     data: bytes
@@ -162,176 +176,123 @@ class Row:
         return wanted
 
 
-def right_rows() -> Iterator[Row]:
-    """Streams that are right, with all that is noted of one."""
-    two = numbered([0, 1])
-    line = "ok, 2 frames, 32 samples"
-    yield Row("right", two, line, (2, 32))
-    yield Row(
-        "no frame",
-        head(0, bytes(16)),
-        "ok, 0 frames, 0 samples, no MD5 sum, unknown length",
-        (0, 0),
-        md5="none",
-        notes=(MD5_NOTE, LENGTH_NOTE),
+def line_of(verdict: str, counts: Tuple[int, int], *parts: str) -> str:
+    frames, samples = (
+        f"{count} {thing}{'' if count == 1 else 's'}"
+        for count, thing in zip(counts, ("frame", "sample"))
     )
-    yield Row(
-        "no MD5 sum",
-        numbered([0, 1], md5=bytes(16)),
-        line + ", no MD5 sum",
-        (2, 32),
-        md5="none",
-        notes=(MD5_NOTE,),
-    )
-    yield Row(
-        "unknown length",
-        numbered([0, 1], samples=0),
-        line + ", unknown length",
-        (2, 32),
-        notes=(LENGTH_NOTE,),
-    )
-    small = Format(blocks=(17, 20))
-    yield Row(
-        "a block that is too small",
-        numbered([0, 1], stream=small),
-        line + ", " + BLOCK_NOTE,
-        (2, 32),
-        notes=(BLOCK_NOTE,),
-    )
-    last = head(32, md5_of([1, 1])) + frame(0, 1, 18) + frame(1, 1, 14)
-    yield Row(
-        "a block that is too large", last, line + ", " + BLOCK_NOTE, (2, 32), notes=(BLOCK_NOTE,)
-    )
-    yield Row(
-        "a short last block",
-        head(18, md5_of([1], size=18)) + frame(0, 1) + frame(1, 1, 2),
-        "ok, 2 frames, 18 samples",
-        (2, 18),
-    )
-    for sizes in (12, 0), (0, 10), (5, 10), (12, 13):
-        yield Row(
-            f"frames out of {sizes[0]} to {sizes[1]} bytes",
-            numbered([0, 1], stream=Format(sizes=sizes)),
-            line + ", " + FRAME_NOTE,
-            (2, 32),
-            notes=(FRAME_NOTE,),
-        )
-    for sizes in (11, 11), (0, 11), (11, 0), (1, 20):
-        yield Row(
-            f"frames within {sizes[0]} to {sizes[1]} bytes",
-            numbered([0, 1], stream=Format(sizes=sizes)),
-            line,
-            (2, 32),
-        )
-    yield Row("a byte after", two + b"\xff", line + ", " + BYTE_NOTE, (2, 32), notes=(BYTE_NOTE,))
-    all_notes = (
-        numbered([0, 1], samples=0, md5=bytes(16), stream=Format(blocks=(17, 20), sizes=(12, 12)))
-        + b"\0"
-    )
-    notes = MD5_NOTE, LENGTH_NOTE, BLOCK_NOTE, FRAME_NOTE, BYTE_NOTE
-    yield Row("all notes", all_notes, ", ".join((line,) + notes), (2, 32), md5="none", notes=notes)
-    variable = (
-        head(32, md5_of([1, 2])) + frame(0, 1, is_variable=True) + frame(16, 2, is_variable=True)
-    )
-    yield Row("variable blocks", variable, line, (2, 32))
-    deep = Format(bits=24, channels=2)
-    yield Row(
-        "24 bits, two channels",
-        numbered([0, 1], stream=deep, frames=deep),
-        line,
-        (2, 32),
-        stream=deep,
-    )
+    return ", ".join((verdict, frames, samples, *parts))
 
 
-def counted(count: int, thing: str) -> str:
-    return f"{count} {thing}{'' if count == 1 else 's'}"
+def right(
+    name: str,
+    data: bytes,
+    counts: Tuple[int, int] = (2, 32),
+    notes: Tuple[str, ...] = (),
+    stream: Format = PLAIN,
+) -> Row:
+    """A row of a stream that is right."""
+    md5 = "none" if MD5_NOTE in notes else "ok"
+    line = line_of("ok", counts, *notes)
+    return Row(name, data, line, counts, md5=md5, notes=notes, stream=stream)
 
 
-def one_place(
+def wrong(
     name: str,
     data: bytes,
     counts: Tuple[int, int],
-    place: Place,
+    *places: Place,
     said: Optional[int] = None,
+    notes: Tuple[str, ...] = (),
     **members: Any,
 ) -> Row:
-    """A row of a stream with one place. `said` is the number of samples in the streaminfo, where
-    it is another one."""
-    start, _, first, _, what = place
-    other = "" if said is None else f", but the streaminfo says {said}"
-    frames, samples = counted(counts[0], "frame"), counted(counts[1], "sample")
-    line = (
-        f"wrong, {frames}, {samples}{other}, 1 place at byte {start} after {first} samples: {what}"
+    """A row of a stream with these places. `said` is the number of samples in the streaminfo, where
+    it is another one. Where neither is wrong, the MD5 sum is."""
+    parts = [] if said is None else [f"but the streaminfo says {said}"]
+    if places:
+        start, _, first, _, what = places[0]
+        where = "1 place at" if len(places) == 1 else f"{len(places)} places, the first at"
+        parts.append(f"{where} byte {start} after {first} samples: {what}")
+    line = line_of("wrong", counts, *(parts or [WRONG_MD5]))
+    members.setdefault("md5", "none" if MD5_NOTE in notes else "wrong")
+    return Row(name, data, line, counts, places, notes=notes, **members)
+
+
+def refused(name: str, data: bytes, verdict: str, reason: str) -> Row:
+    """A row of a stream whose head is refused."""
+    return Row(name, data, f"{verdict}, {reason}", reason=reason)
+
+
+def right_rows() -> Iterator[Row]:
+    """Streams that are right, with all that is noted of one."""
+    yield right("right", TWO)
+    yield right("no frame", head(0, bytes(16)), (0, 0), (MD5_NOTE, LENGTH_NOTE))
+    yield right("no MD5 sum", numbered([0, 1], md5=bytes(16)), notes=(MD5_NOTE,))
+    yield right("unknown length", numbered([0, 1], samples=0), notes=(LENGTH_NOTE,))
+    large = Format(blocks=(17, 20))
+    yield right("a block that is too small", numbered([0, 1], stream=large), notes=(BLOCK_NOTE,))
+    last = head(32, md5_of([1, 1])) + frame(0, 1, 18) + frame(1, 1, 14)
+    yield right("a block that is too large", last, notes=(BLOCK_NOTE,))
+    short = head(18, md5_of([1], size=18)) + frame(0, 1) + frame(1, 1, 2)
+    yield right("a short last block", short, (2, 18))
+    outside = (12, 0), (0, 10), (5, 10), (12, 13)
+    for sizes in (*outside, (11, 11), (0, 11), (11, 0), (1, 20)):
+        where = "out of" if sizes in outside else "within"
+        yield right(
+            f"frames {where} {sizes[0]} to {sizes[1]} bytes",
+            numbered([0, 1], stream=Format(sizes=sizes)),
+            notes=(FRAME_NOTE,) if sizes in outside else (),
+        )
+    yield right("a byte after", TWO + b"\xff", notes=(BYTE_NOTE,))
+    noted = dataclasses.replace(large, sizes=(12, 12))
+    yield right(
+        "all notes",
+        numbered([0, 1], samples=0, md5=bytes(16), stream=noted) + b"\0",
+        notes=(MD5_NOTE, LENGTH_NOTE, BLOCK_NOTE, FRAME_NOTE, BYTE_NOTE),
     )
-    members.setdefault("md5", "wrong")
-    return Row(name, data, line, counts, (place,), **members)
+    yield right("variable blocks", TWO[:42] + variable(0, 1) + variable(16, 2))
+    deep = Format(bits=24, channels=2)
+    yield right("24 bits, two channels", numbered([0, 1], stream=deep), stream=deep)
 
 
 def order_rows() -> Iterator[Row]:
     """Frames that are all right by themselves, and not where they have to be."""
-    missing, twice = "1 frame is missing", "1 frame is repeated"
-    swapped = (53, 53, 16, 32, missing), (64, 64, 48, 16, "2 frames are repeated"), (
-        75, 75, 32, 48, missing
-    )
-    yield Row(
+    twice, both_twice = "1 frame is repeated", "2 frames are repeated"
+    yield wrong(
         "two frames swapped",
         numbered([0, 2, 1, 3]),
-        "wrong, 4 frames, 64 samples, 3 places, the first at byte 53 after 16 samples: " + missing,
         (4, 64),
-        swapped,
-        "wrong",
+        SECOND_MISSING,
+        (64, 64, 48, 16, both_twice),
+        (75, 75, 32, 48, MISSING),
     )
-    overwritten = (53, 53, 16, 32, missing), (64, 64, 48, 32, twice)
-    yield Row(
+    yield wrong(
         "a frame overwritten by the next one",
         numbered([0, 2, 2, 3]),
-        "wrong, 4 frames, 64 samples, 2 places, the first at byte 53 after 16 samples: " + missing,
         (4, 64),
-        overwritten,
-        "wrong",
+        SECOND_MISSING,
+        (64, 64, 48, 32, twice),
     )
-    yield one_place(
-        "a frame missing", numbered([0, 2], of=3), (2, 32), (53, 53, 16, 32, missing), 48
-    )
-    yield one_place(
-        "three frames missing",
-        numbered([0, 4], of=5),
-        (2, 32),
-        (53, 53, 16, 64, "3 frames are missing"),
-        80,
-    )
-    yield one_place(
-        "a frame twice", numbered([0, 1, 1, 2], of=3), (4, 64), (64, 64, 32, 16, twice), 48
-    )
-    yield one_place(
-        "two frames twice",
-        numbered([0, 1, 0, 1], of=2),
-        (4, 64),
-        (64, 64, 32, 0, "2 frames are repeated"),
-        32,
-    )
-    yield one_place(
-        "numbers from 1 on",
-        numbered([1, 2], of=2, md5=md5_of([2, 3])),
-        (2, 32),
-        (42, 42, 0, 16, missing),
-        md5="ok",
-    )
-    gap = head(32, md5_of([1, 2])) + frame(0, 1, is_variable=True) + frame(48, 2, is_variable=True)
-    yield one_place(
-        "a gap of samples", gap, (2, 32), (53, 53, 16, 48, "32 samples are missing"), md5="ok"
-    )
-    back = head(32, md5_of([1, 2])) + frame(0, 1, is_variable=True) + frame(15, 2, is_variable=True)
-    yield one_place(
-        "a sample twice", back, (2, 32), (53, 53, 16, 15, "1 sample is repeated"), md5="ok"
-    )
-    unknown = numbered([0, 2], of=3, samples=0, md5=md5_of([1, 3]))
-    yield one_place(
+    yield wrong("a frame missing", numbered([0, 2], of=3), (2, 32), SECOND_MISSING, said=48)
+    gap = 53, 53, 16, 64, "3 frames are missing"
+    yield wrong("three frames missing", numbered([0, 4], of=5), (2, 32), gap, said=80)
+    repeated = 64, 64, 32, 16, twice
+    yield wrong("a frame twice", numbered([0, 1, 1, 2], of=3), (4, 64), repeated, said=48)
+    repeated = 64, 64, 32, 0, both_twice
+    yield wrong("two frames twice", numbered([0, 1, 0, 1], of=2), (4, 64), repeated, said=32)
+    later = numbered([1, 2], of=2, md5=md5_of([2, 3]))
+    yield wrong("numbers from 1 on", later, (2, 32), (42, 42, 0, 16, MISSING), md5="ok")
+    for name, number, what in (
+        ("a gap of samples", 48, "32 samples are missing"),
+        ("a sample twice", 15, "1 sample is repeated"),
+    ):
+        data = TWO[:42] + variable(0, 1) + variable(number, 2)
+        yield wrong(name, data, (2, 32), (53, 53, 16, number, what), md5="ok")
+    yield wrong(
         "a frame missing, unknown length",
-        unknown,
+        numbered([0, 2], of=3, samples=0, md5=md5_of([1, 3])),
         (2, 32),
-        (53, 53, 16, 32, missing),
+        SECOND_MISSING,
         md5="ok",
         notes=(LENGTH_NOTE,),
     )
@@ -339,87 +300,49 @@ def order_rows() -> Iterator[Row]:
 
 def strategy_rows() -> Iterator[Row]:
     """Frames of both blocking strategies."""
-    turns = (
-        head(48, md5_of([1, 2, 3]))
-        + frame(0, 1)
-        + frame(16, 2, is_variable=True)
-        + frame(32, 3, is_variable=True)
-    )
-    yield one_place(
-        "another blocking strategy from the middle on",
-        turns,
-        (3, 48),
-        (53, 75, 16, 48, STRATEGY),
-        md5="ok",
-    )
-    within = (
-        head(48, md5_of([1, 2, 3])) + frame(0, 1) + frame(16, 2, is_variable=True) + frame(2, 3)
-    )
-    yield one_place(
-        "another blocking strategy in the middle",
-        within,
-        (3, 48),
-        (53, 64, 16, 32, STRATEGY),
-        md5="ok",
-    )
-    within = (
-        head(48, md5_of([1, 2, 3]))
-        + frame(0, 1, is_variable=True)
-        + frame(1, 2)
-        + frame(32, 3, is_variable=True)
-    )
-    yield one_place(
-        "fixed blocks in the middle", within, (3, 48), (53, 64, 16, 32, STRATEGY), md5="ok"
-    )
+    other, last = variable(16, 2), variable(32, 3)
+    for name, data, end, after in (
+        ("another blocking strategy from the middle on", THREE[:53] + other + last, 75, 48),
+        ("another blocking strategy in the middle", THREE[:53] + other + THREE[64:], 64, 32),
+        (
+            "fixed blocks in the middle",
+            THREE[:42] + variable(0, 1) + THREE[53:64] + last,
+            64,
+            32,
+        ),
+    ):
+        yield wrong(name, data, (3, 48), (53, end, 16, after, STRATEGY), md5="ok")
 
 
 def format_rows() -> Iterator[Row]:
     """Frames that disagree with the streaminfo."""
+    fast, stereo = Format(rate=48000), Format(channels=2)
     for name, stream, what in (
-        ("48 kHz", Format(rate=48000), "44100 Hz, but the streaminfo says 48000"),
-        ("two channels", Format(channels=2), "1 channel, but the streaminfo says 2"),
+        ("48 kHz", fast, "44100 Hz, but the streaminfo says 48000"),
+        ("two channels", stereo, "1 channel, but the streaminfo says 2"),
         ("16 bits", Format(bits=16), "8 bits per sample, but the streaminfo says 16"),
     ):
-        data = numbered([0, 1], stream=stream, md5=bytes(16))
-        yield one_place(
+        yield wrong(
             "a streaminfo of " + name,
-            data,
+            numbered([0, 1], md5=bytes(16), stream=stream, frames=PLAIN),
             (2, 32),
             (42, 64, 0, 32, what),
+            notes=(MD5_NOTE,),
             stream=stream,
-            md5="none",
+        )
+    three = numbered([0, 1, 2], md5=bytes(16))
+    place = 53, 66, 16, 32, "2 channels, but the streaminfo says 1"
+    for name, number in ("", 1), (" with another number", 7):
+        yield wrong(
+            "a frame of two channels" + name,
+            three[:53] + frame(number, 2, stream=stereo) + three[64:],
+            (3, 48),
+            place,
             notes=(MD5_NOTE,),
         )
-    stream, stereo = Format(), Format(channels=2)
-    other = head(48, bytes(16)) + frame(0, 1) + frame(1, 2, stream=stereo) + frame(2, 3)
-    yield one_place(
-        "a frame of two channels",
-        other,
-        (3, 48),
-        (53, 66, 16, 32, "2 channels, but the streaminfo says 1"),
-        md5="none",
-        notes=(MD5_NOTE,),
-        stream=stream,
-    )
-    other = head(48, bytes(16)) + frame(0, 1) + frame(7, 2, stream=stereo) + frame(2, 3)
-    yield one_place(
-        "a frame of two channels with another number",
-        other,
-        (3, 48),
-        (53, 66, 16, 32, "2 channels, but the streaminfo says 1"),
-        md5="none",
-        notes=(MD5_NOTE,),
-        stream=stream,
-    )
-    rates = (
-        head(48, md5_of([1, 2, 3]))
-        + frame(0, 1)
-        + frame(1, 2, stream=Format(rate=48000))
-        + frame(2, 3)
-    )
-    yield one_place(
+    yield wrong(
         "a frame of 48 kHz",
-        rates,
+        THREE[:53] + frame(1, 2, stream=fast) + THREE[64:],
         (3, 48),
         (53, 64, 16, 32, "48000 Hz, but the streaminfo says 44100"),
         md5="ok",
@@ -427,41 +350,31 @@ def format_rows() -> Iterator[Row]:
 
 
 def sum_rows() -> Iterator[Row]:
-    line = "wrong, 2 frames, 32 samples, "
-    yield Row(
-        "another MD5 sum",
-        numbered([0, 1], md5=md5_of([1, 1])),
-        line + WRONG_MD5,
-        (2, 32),
-        md5="wrong",
-    )
+    yield wrong("another MD5 sum", numbered([0, 1], md5=md5_of([1, 1])), (2, 32))
     for samples in 48, 16, 1, 31, 33, 2**36 - 1:
-        yield Row(
-            f"{samples} samples in the streaminfo",
-            numbered([0, 1], samples=samples),
-            line + f"but the streaminfo says {samples}",
-            (2, 32),
-        )
-    yield Row(
-        "no frame, but samples",
-        head(16, bytes(16)),
-        "wrong, 0 frames, 0 samples, but the streaminfo says 16",
-        (0, 0),
-        md5="none",
-        notes=(MD5_NOTE,),
-    )
+        data = numbered([0, 1], samples=samples)
+        name = f"{samples} samples in the streaminfo"
+        yield wrong(name, data, (2, 32), said=samples, md5="ok")
+    data = head(16, bytes(16))
+    yield wrong("no frame, but samples", data, (0, 0), said=16, notes=(MD5_NOTE,))
+
+
+def bytes_after(position: int, sample: int, data: bytes, what: str = "") -> Place:
+    """The place of bytes after the last frame."""
+    said = f"{len(data)} bytes after the last frame{what}"
+    return position, position + len(data), sample, sample, said
 
 
 def trailing_rows() -> Iterator[Row]:
     """Bytes after the last frame."""
-    two = numbered([0, 1])
+    is_id3, is_ape, are_zeros = ": an ID3v1 tag", ": an APE tag", ": zeros"
     ape = b"APETAGEX" + struct.pack("<IIII8x", 2000, 41, 1, 0x80000000) + bytes(9)
     for name, more, what in (
-        ("an ID3v1 tag", b"TAG" + b"title".ljust(124, b"\0") + b"\xff", ": an ID3v1 tag"),
-        ("an APE tag", ape, ": an APE tag"),
-        ("2 zeros", bytes(2), ": zeros"),
-        ("3 zeros", bytes(3), ": zeros"),
-        ("4096 zeros", bytes(4096), ": zeros"),
+        ("an ID3v1 tag", b"TAG" + b"title".ljust(124, b"\0") + b"\xff", is_id3),
+        ("an APE tag", ape, is_ape),
+        ("2 zeros", bytes(2), are_zeros),
+        ("3 zeros", bytes(3), are_zeros),
+        ("4096 zeros", bytes(4096), are_zeros),
         ("other bytes", b"hello", ""),
         ("other bytes after zeros", bytes(4) + b"a", ""),
         ("a byte after two zeros", b"\0\0\1", ""),
@@ -469,208 +382,138 @@ def trailing_rows() -> Iterator[Row]:
         ("129 bytes of a tag", b"TAG".ljust(129, b"a"), ""),
         ("7 bytes of a tag", b"APETAGE", ""),
     ):
-        said = f"{len(more)} bytes after the last frame{what}"
-        yield one_place(
-            name + " after", two + more, (2, 32), (64, 64 + len(more), 32, 32, said), md5="ok"
-        )
-    said = "128 bytes after the last frame: an ID3v1 tag"
-    yield one_place(
+        place = bytes_after(64, 32, more, what)
+        yield wrong(name + " after", TWO + more, (2, 32), place, md5="ok")
+    tag = b"TAG".ljust(128, b"\0")
+    yield wrong(
         "a tag, unknown length",
-        numbered([0, 1], samples=0) + b"TAG".ljust(128, b"\0"),
+        numbered([0, 1], samples=0) + tag,
         (2, 32),
-        (64, 192, 32, 32, said),
+        bytes_after(64, 32, tag, is_id3),
         md5="ok",
         notes=(LENGTH_NOTE,),
     )
-    what = "128 bytes after the last frame: an ID3v1 tag"
-    yield Row(
+    yield wrong(
         "a frame missing, and a tag",
-        numbered([0, 2], of=3) + b"TAG".ljust(128, b"\0"),
-        "wrong, 2 frames, 32 samples, but the streaminfo says 48, 2 places, the first at byte 53"
-        " after 16 samples: 1 frame is missing",
+        numbered([0, 2], of=3) + tag,
         (2, 32),
-        ((53, 53, 16, 32, "1 frame is missing"), (64, 192, 48, 48, what)),
-        "wrong",
+        SECOND_MISSING,
+        bytes_after(64, 48, tag, is_id3),
+        said=48,
     )
-    yield one_place(
+    yield wrong(
         "a flipped bit in the last frame, and a tag",
-        flipped(numbered([0, 1, 2]), [72]) + b"TAG".ljust(128, b"\0"),
+        flipped(THREE, [72]) + tag,
         (2, 32),
         (64, 203, 32, 32, CRC),
-        48,
+        said=48,
     )
-    said = "4 bytes after the last frame: zeros"
-    yield one_place(
+    yield wrong(
         "only zeros after the head",
         head(0, bytes(16)) + bytes(4),
         (0, 0),
-        (42, 46, 0, 0, said),
-        md5="none",
+        bytes_after(42, 0, bytes(4), are_zeros),
         notes=(MD5_NOTE, LENGTH_NOTE),
     )
 
 
 def fault_rows() -> Iterator[Row]:
     """Frames that can't be decoded."""
-    ten = [42 + 11 * index + 8 for index in range(1, 20, 2)]
-    places = tuple(
-        (position - 8, position + 3, 16 * index, 16 * index + 16, CRC)
-        for index, position in zip(range(1, 20, 2), ten)
-    )
-    yield Row(
-        "ten flipped bits",
-        flipped(numbered(range(21)), ten),
-        "wrong, 11 frames, 176 samples, but the streaminfo says 336, 10 places, the first at byte"
-        " 53 after 16 samples: " + CRC,
-        (11, 176),
-        places,
-        "wrong",
-    )
-    three = numbered([0, 1, 2])
-    yield one_place(
-        "a flipped bit in the first frame", flipped(three, [50]), (2, 32), (42, 53, 0, 16, CRC), 48
-    )
-    yield one_place(
-        "a flipped bit in the middle", flipped(three, [61]), (2, 32), (53, 64, 16, 32, CRC), 48
-    )
-    yield one_place(
-        "a flipped bit in the last frame", flipped(three, [72]), (2, 32), (64, 75, 32, 32, CRC), 48
-    )
-    yield Row(
+    places = [
+        (42 + 11 * index, 53 + 11 * index, 16 * index, 16 * index + 16, CRC)
+        for index in range(1, 20, 2)
+    ]
+    data = flipped(numbered(range(21)), [place[0] + 8 for place in places])
+    yield wrong("ten flipped bits", data, (11, 176), *places, said=336)
+    first, last = (42, 53, 0, 16, CRC), (64, 75, 32, 32, CRC)
+    for name, position, place in (
+        ("the first frame", 50, first),
+        ("the middle", 61, (53, 64, 16, 32, CRC)),
+        ("the last frame", 72, last),
+    ):
+        data = flipped(THREE, [position])
+        yield wrong("a flipped bit in " + name, data, (2, 32), place, said=48)
+    yield wrong(
         "a flipped bit in the first and the last frame",
-        flipped(three, [50, 72]),
-        "wrong, 1 frame, 16 samples, but the streaminfo says 48, 2 places, the first at byte 42"
-        " after 0 samples: " + CRC,
+        flipped(THREE, [50, 72]),
         (1, 16),
-        ((42, 53, 0, 16, CRC), (64, 75, 32, 32, CRC)),
-        "wrong",
+        first,
+        last,
+        said=48,
     )
-    yield one_place(
-        "flipped bits in neighbours",
-        flipped(numbered(range(4)), [61, 72]),
-        (2, 32),
-        (53, 75, 16, 48, CRC),
-        64,
-    )
+    data = flipped(numbered(range(4)), [61, 72])
+    yield wrong("flipped bits in neighbours", data, (2, 32), (53, 75, 16, 48, CRC), said=64)
     # No frame begins there, so decoding goes on two bytes on: with frames of 12 bytes at the next
     # frame, with those of 11 at none.
-    sync, deep = "Ill-formed FLAC stream: frame sync code missing", Format(bits=16)
-    even = numbered([0, 1, 2], stream=deep, frames=deep)
-    yield one_place(
+    deep = Format(bits=16)
+    yield wrong(
         "a flipped bit of a sync code",
-        flipped(even, [54]),
+        flipped(numbered([0, 1, 2], stream=deep), [54]),
         (2, 32),
-        (54, 66, 16, 32, sync),
-        48,
+        (54, 66, 16, 32, SYNC),
+        said=48,
         stream=deep,
     )
-    yield one_place(
+    yield wrong(
         "a flipped bit of a sync code, odd frames",
-        flipped(three, [53]),
+        flipped(THREE, [53]),
         (1, 16),
-        (53, 75, 16, 16, sync),
-        48,
+        (53, 75, 16, 16, SYNC),
+        said=48,
     )
     # The code of 24 bits becomes that of 32 bits: the frame is damaged, since the stream has 24
     # bits.
     deep = Format(bits=24)
-    code = bytearray(numbered([0, 1], stream=deep, frames=deep))
-    code[55 + 3] ^= 2
-    yield one_place(
+    yield wrong(
         "a flipped bit of a bit depth code",
-        bytes(code),
+        flipped(numbered([0, 1], stream=deep), [55 + 3], bit=2),
         (1, 16),
-        (55, 68, 16, 16, "32-bit samples are not supported"),
-        32,
+        (55, 68, 16, 16, DEEP_SAMPLES + " are not supported"),
+        said=32,
         stream=deep,
     )
-    sync = "Ill-formed FLAC stream: frame sync code missing"
-    yield one_place(
-        "bytes between frames",
-        numbered([0])[:53] + b"bytes!" + frame(1, 2),
-        (2, 32),
-        (53, 59, 16, 16, sync),
-        16,
-    )
+    data = numbered([0]) + b"bytes!" + frame(1, 2)
+    yield wrong("bytes between frames", data, (2, 32), (53, 59, 16, 16, SYNC), said=16)
     for length in 55, 58, 63:
-        yield one_place(
-            f"cut at byte {length}",
-            numbered([0, 1])[:length],
-            (1, 16),
-            (53, length, 16, 16, CUT),
-            32,
-        )
-    yield Row(
-        "cut between frames",
-        numbered([0, 1])[:53],
-        "wrong, 1 frame, 16 samples, but the streaminfo says 32",
-        (1, 16),
-        md5="wrong",
-    )
-    yield Row(
-        "cut after a byte of a frame",
-        numbered([0, 1])[:54],
-        "wrong, 1 frame, 16 samples, but the streaminfo says 32",
-        (1, 16),
-        md5="wrong",
-        notes=(BYTE_NOTE,),
-    )
+        place = 53, length, 16, 16, CUT
+        yield wrong(f"cut at byte {length}", TWO[:length], (1, 16), place, said=32)
+    yield wrong("cut between frames", TWO[:53], (1, 16), said=32)
+    yield wrong("cut after a byte of a frame", TWO[:54], (1, 16), said=32, notes=(BYTE_NOTE,))
 
 
 def head_rows() -> Iterator[Row]:
     """Streams that are refused before a frame, or because of what isn't supported."""
-    two = numbered([0, 1])
-    yield Row("an empty file", b"", "wrong, " + CUT_HEAD, reason=CUT_HEAD)
-    yield Row("41 bytes", two[:41], "wrong, " + CUT_HEAD, reason=CUT_HEAD)
+    yield refused("an empty file", b"", "wrong", CUT_HEAD)
+    yield refused("41 bytes", TWO[:41], "wrong", CUT_HEAD)
     marker = "Ill-formed FLAC stream: invalid stream header"
-    yield Row("another marker", b"fLaD" + two[4:], "wrong, " + marker, reason=marker)
-    tag = "an ID3v2 tag in front of the stream"
-    yield Row("an ID3v2 tag", b"ID3\4" + bytes(6) + two, "not supported, " + tag, reason=tag)
+    yield refused("another marker", b"fLaD" + TWO[4:], "wrong", marker)
+    unsupported, tag = "not supported", "an ID3v2 tag in front of the stream"
+    yield refused("an ID3v2 tag", b"ID3\4" + bytes(6) + TWO, unsupported, tag)
     for rate in 0, 655351, 2**20 - 1:
+        data = numbered([0, 1], stream=Format(rate=rate), frames=PLAIN)
         reason = "a sample rate of 0 or above 655350 Hz"
-        yield Row(
-            f"a rate of {rate} Hz",
-            numbered([0, 1], stream=Format(rate=rate)),
-            "not supported, " + reason,
-            reason=reason,
-        )
+        yield refused(f"a rate of {rate} Hz", data, unsupported, reason)
     high = Format(rate=655350)
-    yield Row(
-        "655350 Hz",
-        numbered([0, 1], stream=high, frames=high),
-        "ok, 2 frames, 32 samples",
-        (2, 32),
-        stream=high,
-    )
+    yield right("655350 Hz", numbered([0, 1], stream=high), stream=high)
     wide = Format(bits=32)
-    what = "32-bit samples are not supported"
-    frames = frame(0, 1, stream=wide)
-    yield Row(
-        "32 bits a sample",
-        head(16, bytes(16), wide) + frames,
-        "not supported, 32-bit samples",
-        (0, 0),
-        ((42, 42 + len(frames), 0, 0, what),),
-        md5="none",
-        notes=(MD5_NOTE,),
-        reason="32-bit samples",
-        stream=wide,
-    )
-    wide = Format(bits=32, channels=2)
-    side = writer.with_crc8(frame(0, 1, stream=wide, channel_code=8)[:3] + b"\x80\0\x0f")
-    reason = "side channels of 33 bits"
-    unsupported = "A currently unsupported feature of the FLAC format was encountered: "
-    yield Row(
-        "a side channel of 33 bits",
-        head(16, bytes(16), wide) + side,
-        "not supported, " + reason,
-        (0, 0),
-        ((42, 49, 0, 0, f"{unsupported}{reason} are not supported"),),
-        md5="none",
-        notes=(MD5_NOTE,),
-        reason=reason,
-        stream=wide,
-    )
+    pair = dataclasses.replace(wide, channels=2)
+    side = writer.with_crc8(frame(0, 1, stream=pair, channel_code=8)[:3] + b"\x80\0\x0f")
+    feature = "A currently unsupported feature of the FLAC format was encountered: "
+    for name, stream, data, before, reason in (
+        ("32 bits a sample", wide, frame(0, 1, stream=wide), "", DEEP_SAMPLES),
+        ("a side channel of 33 bits", pair, side, feature, "side channels of 33 bits"),
+    ):
+        yield Row(
+            name,
+            head(16, bytes(16), stream) + data,
+            f"{unsupported}, {reason}",
+            (0, 0),
+            ((42, 42 + len(data), 0, 0, f"{before}{reason} are not supported"),),
+            md5="none",
+            notes=(MD5_NOTE,),
+            reason=reason,
+            stream=stream,
+        )
 
 
 def rows() -> Iterator[Row]:
