@@ -9,12 +9,13 @@ ghost use Rattle.claxon.specs.Gives.{Gives};
 ghost use Rattle.claxon_tests.specs.PairWithCrc.{PairIsRead, pair_at, pair_with_crc_at};
 
 use claxon::crc::Crc16Reader;
+use claxon::fault_texts::FRAME_CRC_MISMATCH;
 use claxon::input::{Bitstream, ReadBytes};
 use claxon::{Error, Result};
 
 /// Reads two numbers, of 5 and of 9 bits, the padding up to byte alignment, and the CRC-16 of these bytes.
 pub fn read_pair_with_crc<R: ReadBytes>(input: &mut R) -> Result<(u32, u32)>
-    ensures { PairIsRead R.source input.old result input.new }
+    ensures is_read { PairIsRead R.source input.old result input.new }
 {
     let mut input = Crc16Reader::new(input);
     read_pair_through_crc(&mut input)
@@ -22,7 +23,7 @@ pub fn read_pair_with_crc<R: ReadBytes>(input: &mut R) -> Result<(u32, u32)>
 
 fn read_pair_through_crc<R: ReadBytes>(input: &mut Crc16Reader<R>) -> Result<(u32, u32)>
     requires { running_value input.old ≡ 0 }
-    ensures { Gives (λ pair. pair) result pair_with_crc_at
+    ensures gives { Gives (λ pair. pair) result pair_with_crc_at
         (bytes_in (running_source R.source update_crc16) input.old)
         (bytes_in (running_source R.source update_crc16) input.new) }
 {
@@ -33,7 +34,7 @@ fn read_pair_through_crc<R: ReadBytes>(input: &mut Crc16Reader<R>) -> Result<(u3
 }
 
 fn read_pair<R: ReadBytes>(input: &mut R) -> Result<(u32, u32)>
-    ensures { Gives (λ pair. pair) result (by_bytes pair_at)
+    ensures gives { Gives (λ pair. pair) result (by_bytes pair_at)
         (bytes_in R.source input.old) (bytes_in R.source input.new) }
 {
     let mut bits = Bitstream::new(input);
@@ -42,7 +43,7 @@ fn read_pair<R: ReadBytes>(input: &mut R) -> Result<(u32, u32)>
 
 #[tactic(auto, unfolding(crate::specs::PairWithCrc::pair_at))]
 fn read_pair_of_bits<R: ReadBytes>(bits: &mut Bitstream<R>) -> Result<(u32, u32)>
-    ensures { Gives (λ pair. pair) result pair_at
+    ensures gives { Gives (λ pair. pair) result pair_at
         (bits_in R.source bits.old) (bits_in R.source bits.new) }
 {
     let first = bits.read_leq_u32(5)?;
@@ -51,11 +52,11 @@ fn read_pair_of_bits<R: ReadBytes>(bits: &mut Bitstream<R>) -> Result<(u32, u32)
 }
 
 fn check_crc<R: ReadBytes>(input: &mut R, computed: u16) -> Result<()>
-    ensures { Gives (λ x. tt) result (crc_at 2 computed FrameCrc)
+    ensures gives { Gives (λ x. tt) result (crc_at 2 computed FrameCrc)
         (bytes_in R.source input.old) (bytes_in R.source input.new) }
 {
     if input.read_be_u16()? != computed {
-        return Err(Error::FormatError("frame CRC mismatch"));
+        return Err(Error::FormatError(FRAME_CRC_MISMATCH));
     }
     Ok(())
 }

@@ -5,6 +5,6 @@ use Rattle.claxon_tests.proofs.input.crc_pair.read_pair_with_crc.Goals as goal
 
 pub returns : goal.returns
 returns g c =
-    let e = name_with_crc g.R.ReadBytes.source update_crc16 c.args.input.now _ _ c.new-input.result c.read_pair_through_crc.new.input _ c.read_pair_through_crc.result _ c.new-input.ensures.source c.read_pair_through_crc.ensures in
-    let k = gives_with_crc g.R.ReadBytes.source update_crc16 c.args.input.now _ _ c.new-input.result c.read_pair_through_crc.new.input _ c.read_pair_through_crc.result _ c.new-input.ensures.source c.read_pair_through_crc.ensures in
-    search rules
+    let e = name_with_crc g.R.ReadBytes.source update_crc16 c.args.input.now _ _ c.new-input.result c.read_pair_through_crc.new.input _ c.read_pair_through_crc.result _ c.new-input.ensures.source c.read_pair_through_crc.ensures.gives in
+    let k = gives_with_crc g.R.ReadBytes.source update_crc16 c.args.input.now _ _ c.new-input.result c.read_pair_through_crc.new.input _ c.read_pair_through_crc.result _ c.new-input.ensures.source c.read_pair_through_crc.ensures.gives in
+    record { is_read = search rules }
