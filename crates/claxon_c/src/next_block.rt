@@ -1,8 +1,5 @@
 //! Blocks, one after another.
 ghost use Rattle.std.specs.Prelude.{◌↔◌, IfSome, IsTrue, length};
-ghost use Rattle.std.specs.Option.{option_map};
-ghost use Rattle.claxon.specs.FlacReader.{HasBitDepth};
-ghost use Rattle.claxon.specs.FrameReader.{stream_with};
 ghost use Rattle.claxon_c.specs.NextBlock.{
   BlockIsKept,
   CBlockElseIoError,
@@ -19,7 +16,6 @@ ghost use Rattle.claxon_c.specs.NextBlock.{
   CSamplesArePlanar,
   CTooSmallIffLarger,
   HasLarger,
-  HeaderOrNone,
   NextBlock,
   PositionIsKept,
   ShowsInfo,
@@ -33,8 +29,7 @@ use crate::planar::put_planar;
 use crate::status::{BUFFER_TOO_SMALL, NO_MORE, OK, report};
 use claxon::Block;
 use claxon::frame::BlockInfo;
-use claxon::metadata::StreamInfo;
-use claxon_seek::{block_at_start, header_at_start};
+use claxon_seek::{header_at_start, rest_at_start};
 use std::alloc::Global;
 
 /// The properties of a block.
@@ -181,31 +176,24 @@ fn next_block(
     let start = bytes.len().min(*at);
     let rest = &bytes[start..];
     let known = info.known_stream();
-    let header = header_there(rest, known);
-    if has_larger(&header, capacity) {
-        show(&header, block);
+    let header = match header_at_start(rest, known) {
+        Ok(Some(header)) => header,
+        Ok(None) => return Err(NO_MORE),
+        Err(fault) => return Err(report(&fault, error)),
+    };
+    let said = header.info();
+    if has_larger(&Some(said), capacity) {
+        *block = ClaxonBlock::from_header(&said);
         return Err(BUFFER_TOO_SMALL);
     }
     let mut count = 0;
-    match block_at_start(alloc, rest, known, &mut count) {
-        Ok(Some(found)) => {
-            show(&header, block);
+    match rest_at_start(alloc, rest, known, header, &mut count) {
+        Ok(found) => {
+            *block = ClaxonBlock::from_header(&said);
             *at = start + count;
             Ok(found)
         }
-        Ok(None) => Err(NO_MORE),
         Err(fault) => Err(report(&fault, error)),
-    }
-}
-
-// What the header says with which the bytes begin, if there is one.
-fn header_there(bytes: &[u8], known: Option<StreamInfo>) -> Option<BlockInfo>
-    requires { IfSome known (λ info. HasBitDepth info) }
-    ensures header_or_none { HeaderOrNone (option_map stream_with known) bytes.now result }
-{
-    match header_at_start(bytes, known) {
-        Ok(header) => header,
-        Err(_) => None,
     }
 }
 
@@ -216,14 +204,5 @@ pub(crate) fn has_larger(header: &Option<BlockInfo>, capacity: usize) -> bool
     match header {
         Some(info) => info.channels as usize * info.duration as usize > capacity,
         None => false,
-    }
-}
-
-// Shows what the header says, if there is one.
-fn show(header: &Option<BlockInfo>, block: &mut ClaxonBlock)
-    ensures { IfSome header.now (λ info. ShowsInfo info block.new) }
-{
-    if let Some(info) = header {
-        *block = ClaxonBlock::from_header(info);
     }
 }

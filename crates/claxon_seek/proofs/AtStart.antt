@@ -1,5 +1,5 @@
 -- What bytes in memory begin with, and how many bytes it has.
-use Rattle.std.proofs.Common.{◌≡◌, inl, inr, ℕ, ◌-◌, true, subst, List, ◌++◌, length, Option, None, Some, sym, ap, ◌∙◌, arith, length-append, Bor}
+use Rattle.std.proofs.Common.{◌≡◌, inl, inr, ℕ, ◌-◌, true, subst, List, ◌++◌, length, Option, None, Some, sym, ap, ◌∙◌, append_assoc, arith, length-append, Bor}
 use Rattle.std.specs.Prelude.{Result, Ok, Err, IfOk, IfSome}
 use Rattle.std.specs.Io.Cursor.{cursor_position, cursor_inner}
 use Rattle.std.proofs.lemmas.List.{length-drop}
@@ -16,6 +16,7 @@ use Rattle.claxon.specs.MetadataBlock.{HasBounds}
 use Rattle.claxon.specs.StreamInfos.{StreamInfo}
 use Rattle.claxon.specs.FrameReader.{FrameAnswer, block_view}
 use Rattle.claxon.specs.ReadHead.{HeadOutOfMemoryAfterHeader, MemoryMayBeNeeded}
+use Rattle.claxon.specs.StartedFrame.{RestAnswer, RestOf, whole_answer}
 use Rattle.claxon.proofs.FramesInMemory.{Slice, SliceFramePromises, begins_with_consumed, slice_state}
 use Rattle.claxon.specs.Prefix.{BeginsWith}
 use Rattle.claxon.specs.Error.{IsFault}
@@ -42,6 +43,23 @@ module _ (bytes : List ℕ) (a : State ℕ) (b : Slice) (taken : ℕ) (remains :
 
   pub frame_at_start : (stream : Option StreamFormat) (r : FrameAnswer) → FoundIsSound block_view r (Frame stream) a (slice_state b) → SliceFramePromises stream bytes r → FrameAtStart stream bytes r taken
   frame_at_start stream r h m = record { sound = frame_begins stream r h; complete = m.complete; eof = m.eof; fault = m.fault; named = m.named; memory = m.memory }
+
+-- the rest of a frame, after the bytes of its header
+module _ (stream : Option StreamFormat) (bytes header rest : List ℕ) (a : State ℕ) (b : Slice) (taken : ℕ) (parts : bytes ≡ header ++ rest) (remains : Remains a rest) (count : taken ≡ length bytes - cursor_left shown_bytes b) where
+  completed_with_length : (r : RestAnswer) → CodeIsSound block_view r (RestOf stream header) a (slice_state b) → IfOk (whole_answer r) (λ found. IfSome found (λ block. BeginsWithLength (Frame stream (block_view block)) bytes taken))
+  completed_with_length (Ok block) h =
+      let k = (h remains.known).1 in
+      let left = cursor_remains shown_bytes b in
+      let m = (slice_state b).remaining in
+      let joined : bytes ≡ (header ++ k.0) ++ m = parts ∙ ap (λ (z : List ℕ). header ++ z) (sym remains.are ∙ k.2) ∙ sym (append_assoc header k.0 m) in
+      let last : length m ≡ cursor_left shown_bytes b = ap length left.are ∙ length-drop (cursor_position b) (cursor_inner b).now in
+      (header ++ k.0, m, k.1, joined, omega (arith, count, last, ap length joined, length-append (header ++ k.0) m))
+  completed_with_length (Err e) h = tt
+
+  pub rest_at_start : (r : RestAnswer) → CodeIsSound block_view r (RestOf stream header) a (slice_state b) → SliceFramePromises stream (header ++ rest) (whole_answer r) → FrameAtStart stream bytes (whole_answer r) taken
+  rest_at_start r h promises =
+      let m = subst (λ (z : List ℕ). SliceFramePromises stream z (whole_answer r)) (sym parts) promises in
+      record { sound = completed_with_length r h; complete = m.complete; eof = m.eof; fault = m.fault; named = m.named; memory = m.memory }
 
 -- a head, before which nothing was consumed
 module _ {A : Type 0} (view : StreamInfo × Option A → Head) (bytes : Bor (List ℕ)) (a b : Slice) (taken : ℕ) (at : cursor_position a ≡ 0) (inner : cursor_inner a ≡ bytes) (count : taken ≡ length bytes.now - cursor_left shown_bytes b) where

@@ -1,40 +1,51 @@
 -- A frame with a sample at a position, and its block.
-use Rattle.std.proofs.Common.{◌≡◌, ℕ, ◌≤◌, List, [], drop, length, Option, None, Some, refl, sym, ap, subst, arith, inl, inr}
-use Rattle.std.specs.Prelude.{Ok, Err, IsOkAnd, IsSomeAnd}
+use Rattle.std.proofs.Common.{◌≡◌, ℕ, ◌≤◌, List, [], drop, length, Option, None, Some, refl, sym, ap, subst, append-nil, arith, inl, inr}
+use Rattle.std.specs.Prelude.{Ok, Err}
 use Rattle.std.proofs.lemmas.Bool.{cases_lt}
 use Rattle.claxon.specs.Block.{BlockValue}
 use Rattle.claxon.specs.BlockInfos.{BlockInfo}
 use Rattle.claxon.specs.Errors.{Error}
 use Rattle.claxon.specs.Errors.TheVariants.{OutOfMemory}
-use Rattle.claxon.specs.Frame.{Block}
-use Rattle.claxon.specs.FrameReader.{FrameAnswer, block_view}
 use Rattle.claxon.specs.Promises.{IsOutOfMemory}
 use Rattle.claxon.specs.StreamInfos.{StreamInfo}
-use Rattle.claxon_seek.specs.AtStart.{FrameAtStart}
-use Rattle.claxon_seek.specs.Find.{WantedFrame, WantedHeader, WantedHeaderAtStart, known_format}
+use Rattle.claxon_seek.specs.Find.{BeginsWithFrame, FrameIsAtStart, SampleIsAtStart, WantedFrame, WantedHeader, WantedHeaderAtStart, known_format, sample_there}
 use Rattle.claxon_seek.specs.Seek.{SeekGives, found_at}
 use Rattle.claxon_seek.specs.SeekBlock.{BlockThere}
+use Rattle.claxon_seek.specs.declared.at_start.HeaderInBytes.{HeaderInBytes}
+use Rattle.claxon_seek.specs.declared.find.FrameThere.{FrameThere}
+use Rattle.claxon_seek.specs.declared.find.FrameThere.TheVariants.{CutFrame, Faulty, Whole}
 use Rattle.claxon_seek.specs.declared.find.HeaderThere.{HeaderThere}
 use Rattle.claxon_seek.specs.declared.find.HeaderThere.TheVariants.{CutHeader, NotWanted, Wanted}
 use Rattle.claxon_seek.specs.declared.search.FoundBlock.{FoundBlock}
-use Rattle.claxon_seek.proofs.Searches.{frame_is_wanted, frame_of_wanted, header_longer, none_at_end, none_else, whole_there}
+use Rattle.claxon_seek.proofs.Searches.{frame_is_wanted, frame_of_wanted, header_longer, none_at_end, whole_there}
+
+-- a frame at the start, whose block has the sample
+pub sample_is_there : (known : Option StreamInfo) (bytes : List ℕ) (sample : ℕ) (info : BlockInfo) (f : FrameThere) → WantedHeader known (Some sample) bytes info → FrameIsAtStart known bytes (Ok f) → SampleIsAtStart known sample bytes (Ok (sample_there f info))
+sample_is_there known bytes sample info (Whole len block) wanted h = frame_is_wanted known (Some sample) bytes info wanted (whole_there known bytes len block h)
+sample_is_there known bytes sample info Faulty wanted h = tt
+sample_is_there known bytes sample info CutFrame wanted h = tt
 
 module _ (known : Option StreamInfo) (bytes : List ℕ) (at sample : ℕ) where
   -- no such header
-  pub no_header_there : (h : HeaderThere) → ((info : BlockInfo) → h ≡ Wanted info → ⊥) → WantedHeaderAtStart known (Some sample) (drop at bytes) h → BlockThere known bytes at sample (Ok None)
-  no_header_there (Wanted info) other there = absurd (other info refl)
+  pub no_header_there : (h : HeaderThere) → ((header : HeaderInBytes) → h ≡ Wanted header → ⊥) → WantedHeaderAtStart known (Some sample) (drop at bytes) h → BlockThere known bytes at sample (Ok None)
+  no_header_there (Wanted header) other there = absurd (other header refl)
   no_header_there NotWanted other there = λ info frame. there [] info (header_longer known (Some sample) (drop at bytes) [] info frame.wanted)
   no_header_there CutHeader other there = λ info frame. there.0 info frame.wanted
 
-  module _ (taken : ℕ) where
-    -- no frame
-    pub no_frame_there : (r : FrameAnswer) → FrameAtStart (known_format known) (drop at bytes) r taken → (IsOutOfMemory r → ⊥) → ((block : Block) → IsOkAnd r (λ found. IsSomeAnd found (λ x. block_view x ≡ block)) → ⊥) → BlockThere known bytes at sample (Ok None)
-    no_frame_there r h other no_block info frame = none_else known (drop at bytes) taken r h other no_block (frame_of_wanted known (Some sample) (drop at bytes) info frame)
+  -- no frame
+  pub no_frame_there : (f : FrameThere) → ((len : ℕ) (block : BlockValue) → f ≡ Whole len block → ⊥) → FrameIsAtStart known (drop at bytes) (Ok f) → BlockThere known bytes at sample (Ok None)
+  no_frame_there (Whole len block) other there = absurd (other len block refl)
+  no_frame_there Faulty other there = λ info frame. there [] (subst (BeginsWithFrame (known_format known)) (sym (append-nil (drop at bytes))) (frame_of_wanted known (Some sample) (drop at bytes) info frame))
+  no_frame_there CutFrame other there = λ info frame. there.0 (frame_of_wanted known (Some sample) (drop at bytes) info frame)
 
-    -- a frame
-    pub block_is_there : (info : BlockInfo) (block : BlockValue) → WantedHeader known (Some sample) (drop at bytes) info → FrameAtStart (known_format known) (drop at bytes) (Ok (Some block)) taken
-        → BlockThere known bytes at sample (Ok (Some (record { frame = record { position = at; block = info }; len = taken; block = block })))
-    block_is_there info block wanted h = (refl, frame_is_wanted known (Some sample) (drop at bytes) info wanted (whole_there known (drop at bytes) taken block h), h.sound)
+  -- a frame
+  pub block_is_there : (info : BlockInfo) (len : ℕ) (block : BlockValue) → WantedHeader known (Some sample) (drop at bytes) info → FrameIsAtStart known (drop at bytes) (Ok (Whole len block))
+      → BlockThere known bytes at sample (Ok (Some (record { frame = record { position = at; block = info }; len = len; block = block })))
+  block_is_there info len block wanted h = (refl, frame_is_wanted known (Some sample) (drop at bytes) info wanted (whole_there known (drop at bytes) len block h), h)
+
+  -- memory was refused
+  pub refused_there : (info : BlockInfo) (e : Error) → WantedHeader known (Some sample) (drop at bytes) info → FrameIsAtStart known (drop at bytes) (Err e) → BlockThere known bytes at sample (Err e)
+  refused_there info e wanted h = let is : e ≡ OutOfMemory = cc in (ap (λ (x : Error). Err x) is, (info, wanted))
 
   -- it begins before the end
   pub frame_is_inside : (info : BlockInfo) → WantedFrame known (Some sample) (drop at bytes) info → at ≤ length bytes

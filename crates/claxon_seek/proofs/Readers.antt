@@ -18,10 +18,10 @@ use Rattle.claxon.specs.State.{State}
 use Rattle.claxon.specs.StreamInfos.{StreamInfo}
 use Rattle.claxon_seek.specs.AtStart.{FrameAtStart}
 use Rattle.claxon_seek.specs.Attempt.{IsCut}
-use Rattle.claxon_seek.specs.Find.{BeginsWithFrame, WantedFrame, WantedHeader}
+use Rattle.claxon_seek.specs.Find.{WantedFrame}
 use Rattle.claxon_seek.specs.SeekableReader.{BlockHasSample, IsOfBytes, NextGives, NoFrame, WasConsumed}
 use Rattle.claxon_seek.specs.Window.{IsIoOrMemory, ReadsOn}
-use Rattle.claxon_seek.proofs.Searches.{begins_longer, cut_without_bytes, frame_is_wanted}
+use Rattle.claxon_seek.proofs.Searches.{begins_longer, cut_without_bytes}
 
 -- ---- bytes that are read on
 
@@ -151,13 +151,6 @@ next_has_sample info old r new g sample header wanted =
       | inl p ↦ inl (same_block (BlockHasSample sample) block r has p)
       | inr memory ↦ inr memory
     ]
-
--- ---- the frame with a sample
-
--- a header that is wanted, and a whole frame
-pub wanted_here : (known info : StreamInfo) (sample : ℕ) (bytes now : List ℕ) (block : BlockInfo) → known ≡ info → now ≡ bytes → WantedHeader (Some known) (Some sample) now block → BeginsWithFrame (Some (stream_with info)) bytes → WantedFrame (Some known) (Some sample) bytes block
-wanted_here known info sample bytes now block same read header frame =
-    frame_is_wanted (Some known) (Some sample) bytes block (subst (λ (s : List ℕ). WantedHeader (Some known) (Some sample) s block) read header) (subst (λ (i : StreamInfo). BeginsWithFrame (Some (stream_with i)) bytes) (sym same) frame)
 
 -- ---- the head
 

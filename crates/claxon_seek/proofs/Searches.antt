@@ -11,7 +11,7 @@ use Rattle.claxon.specs.Errors.{Error}
 use Rattle.claxon.specs.Errors.TheVariants.{IoError, OutOfMemory}
 use Rattle.claxon.specs.Fault.{Fault}
 use Rattle.claxon.specs.FlacReader.{HasBitDepth}
-use Rattle.claxon.specs.Frame.{Block, IsBitDepth, StreamFormat, known_bit_depth}
+use Rattle.claxon.specs.Frame.{Block, Frame, IsBitDepth, StreamFormat, known_bit_depth}
 use Rattle.claxon.specs.FrameReader.{FrameAnswer, block_view}
 use Rattle.claxon.specs.Prefix.{BeginsWith}
 use Rattle.claxon.specs.Promises.{IsOutOfMemory}
@@ -20,10 +20,10 @@ use Rattle.claxon.proofs.BlockInfo.{header_has_two_bytes, headers_unambiguous}
 use Rattle.claxon.proofs.FormatLaws.{frames_unambiguous}
 use Rattle.claxon.proofs.FrameHeaders.{frame_has_header}
 use Rattle.claxon.proofs.OutOfMemory.{not_out_of_memory}
-use Rattle.claxon_seek.specs.AtStart.{FrameAtStart, HeaderAtStart}
+use Rattle.claxon_seek.specs.AtStart.{BeginsWithLength, FrameAtStart, HeaderAtStart}
 use Rattle.claxon_seek.specs.Find.{BeginsWithFrame, FindGives, FrameIsAtStart, HasFormat, HeaderSamples, HoldsSample, IsSpent, IsUndecided, NoFrameBetween, WantedFrame, WantedHeader, WantedHeaderAtStart, known_format}
 use Rattle.claxon_seek.specs.declared.find.FrameThere.{FrameThere}
-use Rattle.claxon_seek.specs.declared.find.FrameThere.TheVariants.{CutFrame, Faulty, Whole}
+use Rattle.claxon_seek.specs.declared.find.FrameThere.TheVariants.{CutFrame, Faulty}
 use Rattle.claxon_seek.specs.declared.find.HeaderThere.TheVariants.{CutHeader, NotWanted}
 use Rattle.claxon_seek.specs.declared.search.Search.TheVariants.{Found, NotFound, OverBudget}
 
@@ -51,8 +51,8 @@ module _ (known : Option StreamInfo) (bytes : List ℕ) (taken : ℕ) where
   abbrev stream : Option StreamFormat
   stream = known_format known
 
-  pub whole_there : (block : BlockValue) → FrameAtStart stream bytes (Ok (Some block)) taken → BeginsWithFrame stream bytes
-  whole_there block h = let k = h.sound in record { block = block_view block; frame = (k.0, k.1, k.2, k.3) }
+  pub whole_there : (block : BlockValue) → BeginsWithLength (Frame stream (block_view block)) bytes taken → BeginsWithFrame stream bytes
+  whole_there block k = record { block = block_view block; frame = (k.0, k.1, k.2, k.3) }
 
   -- a result that is no block and not `OutOfMemory`
   pub none_else : (r : FrameAnswer) → FrameAtStart stream bytes r taken → (IsOutOfMemory r → ⊥) → ((block : Block) → IsOkAnd r (λ found. IsSomeAnd found (λ x. block_view x ≡ block)) → ⊥) → BeginsWithFrame stream bytes → ⊥
@@ -277,7 +277,7 @@ module _ (known : Option StreamInfo) (sample : Option ℕ) where
           abbrev rest_left : ℕ
           rest_left = left - info.channels * info.duration
 
-          pub whole_frame_there : FrameIsAtStart known (drop position bytes) (Ok Whole) → FindGives known sample bytes from budget (Ok (Found (record { position = position; block = info }))) rest_left
+          pub whole_frame_there : BeginsWithFrame (known_format known) (drop position bytes) → FindGives known sample bytes from budget (Ok (Found (record { position = position; block = info }))) rest_left
           whole_frame_there found = (s.passed, frame_is_wanted (drop position bytes) info wanted found, s.none, passed_header left position info s.passed wanted fits s.spent)
 
           pub faulty_frame_there : FrameIsAtStart known (drop position bytes) (Ok Faulty) → Searched bytes from budget rest_left undecided (position + 1)

@@ -3,6 +3,7 @@ use Rattle.std.specs.Prelude.{
   ◌≡◌,
   ◌⊎◌,
   ◌<◌,
+  ◌↔◌,
   ℕ,
   true,
   List,
@@ -10,7 +11,10 @@ use Rattle.std.specs.Prelude.{
   length,
   Option,
   None,
+  Some,
   Result,
+  Ok,
+  Err,
   IfErr,
   IfOk,
   IfSome,
@@ -32,6 +36,8 @@ use Rattle.claxon.specs.BlockInfo.{HeaderAnswer, HeaderBytesFault, HeaderOf}
 use Rattle.claxon.specs.BlockInfos.{BlockInfo}
 use Rattle.claxon.specs.FrameReader.{FrameAnswer, block_view}
 use Rattle.claxon.specs.ReadHead.{MemoryMayBeNeeded}
+use Rattle.claxon.specs.StartedFrame.{StartedAnswer, StartedCode, started_info, started_view}
+use Rattle.claxon_seek.specs.declared.at_start.HeaderInBytes.{HeaderInBytes}
 use Rattle.claxon.specs.Prefix.{BeginsWith}
 use Rattle.claxon.specs.FramesInMemory.{
   SliceFrameIsComplete,
@@ -82,12 +88,42 @@ pub record HeaderAtStart (stream : Option StreamFormat) (bytes : List ℕ) (r : 
         IfOk r (λ found. IfSome found (λ info. BeginsWith (HeaderOf stream info) bytes))
     pub complete : (info : BlockInfo) → BeginsWith (HeaderOf stream info) bytes
         → IsOkAnd r (λ found. IsSomeAnd found (λ x. x ≡ info))
-    pub none : IfOk r (λ found. found ≡ None → length bytes < 2)
+    pub eof : (r ≡ Ok None) ↔ (length bytes < 2)
     pub fault :
         IfErr r (λ e.
         IsIo e ⊎ ((f : Fault) × IsFault f e × BeginsWith (HeaderBytesFault stream f) bytes))
     pub named : (f : Fault) → BeginsWith (HeaderBytesFault stream f) bytes
         → IsErrAnd r (IsFault f)
+
+-- what a header says of its block
+abbrev pub said_by : HeaderInBytes → BlockInfo
+said_by header = started_info header.started
+
+-- what a call returns for the header that bytes begin with
+abbrev pub FoundHeader : Type 0
+FoundHeader = Result (Option HeaderInBytes) Error
+
+-- what it says of the header
+abbrev pub header_said : FoundHeader → HeaderAnswer
+header_said (Ok (Some header)) = Ok (Some (said_by header))
+header_said (Ok None) = Ok None
+header_said (Err e) = Err e
+
+-- the answer of a call that read a header of this length
+abbrev pub header_of_length : StartedAnswer → ℕ → FoundHeader
+header_of_length (Ok (Some started)) len = Ok (Some (record { started = started; len = len }))
+header_of_length (Ok None) len = Ok None
+header_of_length (Err e) len = Err e
+
+-- The bytes begin with this header.
+abbrev pub HeaderIsThere : Option StreamFormat → List ℕ → HeaderInBytes → Type 0
+HeaderIsThere stream bytes header =
+    BeginsWithLength (StartedCode stream (started_view header.started)) bytes header.len
+
+-- The bytes begin with the header that is returned.
+abbrev pub FoundHeaderIsThere : Option StreamFormat → List ℕ → FoundHeader → Type 0
+FoundHeaderIsThere stream bytes result =
+    IfOk result (λ found. IfSome found (λ header. HeaderIsThere stream bytes header))
 
 -- The bytes don't begin with a frame header, of whatever stream and whatever follows.
 abbrev pub NoHeaderAtStart : List ℕ → Type 0

@@ -29,14 +29,17 @@ use Rattle.claxon.specs.BlockInfos.{BlockInfo}
 use Rattle.claxon.specs.Errors.{Error}
 use Rattle.claxon.specs.Errors.TheVariants.{OutOfMemory}
 use Rattle.claxon.specs.Frame.{Block, Frame, FrameBytesFault, StreamFormat}
-use Rattle.claxon.specs.FrameReader.{HeaderOfLargerBlock, stream_with}
+use Rattle.claxon.specs.FrameReader.{HeaderOfLargerBlock, block_view, stream_with}
 use Rattle.claxon.specs.Prefix.{BeginsWith}
 use Rattle.claxon.specs.Promises.{HasNeither, IsOutOfMemory}
 use Rattle.claxon.specs.StreamInfos.{StreamInfo}
+use Rattle.claxon_seek.specs.AtStart.{BeginsWithLength, HeaderIsThere, said_by}
 use Rattle.claxon_seek.specs.declared.find.FrameThere.{FrameThere}
 use Rattle.claxon_seek.specs.declared.find.FrameThere.TheVariants.{CutFrame, Faulty, Whole}
 use Rattle.claxon_seek.specs.declared.find.HeaderThere.{HeaderThere}
 use Rattle.claxon_seek.specs.declared.find.HeaderThere.TheVariants.{CutHeader, NotWanted, Wanted}
+use Rattle.claxon_seek.specs.declared.find.SampleThere.{SampleThere}
+use Rattle.claxon_seek.specs.declared.find.SampleThere.TheVariants.{Absent, Held, Undecided}
 use Rattle.claxon_seek.specs.declared.search.FoundFrame.{FoundFrame}
 use Rattle.claxon_seek.specs.declared.search.Search.{Search}
 use Rattle.claxon_seek.specs.declared.search.Search.TheVariants.{Found, NotFound, OverBudget}
@@ -158,7 +161,8 @@ module _ (known : Option StreamInfo) (sample : Option ℕ) where
 
   -- The bytes begin with such a header, or with none whatever follows, or they end within one.
   abbrev pub WantedHeaderAtStart : List ℕ → HeaderThere → Type 0
-  WantedHeaderAtStart bytes (Wanted info) = WantedHeader bytes info
+  WantedHeaderAtStart bytes (Wanted header) =
+      WantedHeader bytes (said_by header) × HeaderIsThere (known_format known) bytes header
   WantedHeaderAtStart bytes NotWanted =
       (more : List ℕ) (info : BlockInfo) → WantedHeader (bytes ++ more) info → ⊥
   WantedHeaderAtStart bytes CutHeader =
@@ -172,7 +176,8 @@ pub record BeginsWithFrame (stream : Option StreamFormat) (bytes : List ℕ) : T
 -- The bytes begin with a frame, or with none whatever follows, or they end within one.
 -- `OutOfMemory`, and no other Err, is returned only for one whose header they begin with.
 abbrev pub FrameIsAtStart : Option StreamInfo → List ℕ → Result FrameThere Error → Type 0
-FrameIsAtStart known bytes (Ok Whole) = BeginsWithFrame (known_format known) bytes
+FrameIsAtStart known bytes (Ok (Whole len block)) =
+    BeginsWithLength (Frame (known_format known) (block_view block)) bytes len
 FrameIsAtStart known bytes (Ok Faulty) =
     (more : List ℕ) → BeginsWithFrame (known_format known) (bytes ++ more) → ⊥
 FrameIsAtStart known bytes (Ok CutFrame) =
@@ -180,6 +185,18 @@ FrameIsAtStart known bytes (Ok CutFrame) =
 FrameIsAtStart known bytes (Err e) =
     IsOutOfMemory {A = FrameThere} (Err e)
     × BeginsWith (HeaderOfLargerBlock (known_format known) 0) bytes
+
+-- what is known of a sample, where a header says that its block has it
+abbrev pub sample_there : FrameThere → BlockInfo → SampleThere
+sample_there (Whole len block) info = Held info
+sample_there Faulty info = Absent
+sample_there CutFrame info = Undecided
+
+-- A frame whose block has the sample begins the bytes, if one is said to. An Err is `OutOfMemory`.
+abbrev pub SampleIsAtStart : Option StreamInfo → ℕ → List ℕ → Result SampleThere Error → Type 0
+SampleIsAtStart known sample bytes (Ok (Held info)) = WantedFrame known (Some sample) bytes info
+SampleIsAtStart known sample bytes (Ok _) = Unit {0}
+SampleIsAtStart known sample bytes (Err e) = IsOutOfMemory {A = SampleThere} (Err e)
 
 -- The search found a frame of which P holds.
 abbrev pub IfFound : Result Search Error → (FoundFrame → Type 0) → Type 0

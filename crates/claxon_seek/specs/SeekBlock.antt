@@ -1,5 +1,6 @@
 -- What a call answers that seeks to a sample, and decodes its block.
 use Rattle.std.specs.Prelude.{◌≡◌, ℕ, List, drop, Option, None, Some, Result, Ok, Err}
+use Rattle.claxon.specs.Block.{BlockValue}
 use Rattle.claxon.specs.BlockInfos.{BlockInfo}
 use Rattle.claxon.specs.Errors.{Error}
 use Rattle.claxon.specs.Frame.{Frame}
@@ -20,6 +21,11 @@ searched (Ok (Found found)) = Ok (found_at found.frame)
 searched (Ok (NotFound undecided)) = Ok (not_found undecided)
 searched (Ok (OverBudget to)) = Ok (stopped_at to)
 searched (Err e) = Err e
+
+-- the answer of a search that found a frame and decoded it
+abbrev pub decoded_at : ℕ → BlockInfo → ℕ → BlockValue → BlockSearch
+decoded_at at info len block =
+    Found (record { frame = record { position = at; block = info }; len = len; block = block })
 
 module _ (known : Option StreamInfo) (bytes : List ℕ) where
   -- At the position of the frame the bytes begin with the code of its block, which has this length.

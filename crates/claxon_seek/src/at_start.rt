@@ -7,9 +7,19 @@ ghost use Rattle.claxon.specs.ReadHead.{head_view};
 ghost use Rattle.claxon.specs.FlacReader.{HasBitDepth};
 ghost use Rattle.claxon.specs.FrameReader.{frame_input, frame_stream, stream_with};
 ghost use Rattle.claxon.specs.Promises.{IsOutOfMemory};
-ghost use Rattle.claxon_seek.specs.AtStart.{FrameAtStart, HeadAtStart, HeaderAtStart};
+ghost use Rattle.claxon.specs.StartedFrame.{whole_answer};
+ghost use Rattle.claxon_seek.specs.AtStart.{
+  FoundHeaderIsThere,
+  FrameAtStart,
+  HeadAtStart,
+  HeaderAtStart,
+  HeaderIsThere,
+  header_of_length,
+  header_said,
+  said_by,
+};
 
-use claxon::frame::{BlockInfo, FrameReader, FrameResult};
+use claxon::frame::{Block, BlockInfo, FrameReader, FrameResult, StartedFrame};
 use claxon::metadata::{StreamInfo, VorbisComment};
 use claxon::{FlacReaderOptions, Result, read_head};
 use std::alloc::Global;
@@ -70,17 +80,75 @@ pub(crate) fn block_in_buffer(
     found
 }
 
-/// What the frame header says that the bytes begin with.
+/// The header of a frame that bytes begin with.
+#[derive(Clone, Copy)]
+pub struct HeaderInBytes {
+    started: StartedFrame,
+
+    // The number of its bytes.
+    len: usize,
+}
+
+impl HeaderInBytes {
+    /// What it says of the block.
+    pub fn info(self) -> BlockInfo
+        ensures { result ≡ said_by self }
+    {
+        self.started.info()
+    }
+}
+
+/// The frame header that the bytes begin with. `rest_at_start` decodes the frame.
 ///
 /// # Errors
 ///
-/// Those of `FrameReader::read_header_or_eof`.
-pub fn header_at_start(bytes: &[u8], known: Option<StreamInfo>) -> Result<Option<BlockInfo>>
+/// Those of `FrameReader::read_start_or_eof`.
+pub fn header_at_start(bytes: &[u8], known: Option<StreamInfo>) -> Result<Option<HeaderInBytes>>
     requires { IfSome known (λ info. HasBitDepth info) }
-    ensures at_start { HeaderAtStart (option_map stream_with known) bytes.now result }
+    ensures at_start { HeaderAtStart (option_map stream_with known) bytes.now (header_said result) }
+    ensures is_there { FoundHeaderIsThere (option_map stream_with known) bytes.now result }
     ensures never_out_of_memory { IsOutOfMemory result → ⊥ }
 {
-    frames_of(bytes, known).read_header_or_eof()
+    let mut frames = frames_of(bytes, known);
+    let found = frames.read_start_or_eof();
+    let len = bytes.len().saturating_sub(left_in(&frames.into_inner()));
+    with_length(found, len)
+}
+
+// With the number of bytes of the header.
+fn with_length(found: Result<Option<StartedFrame>>, len: usize) -> Result<Option<HeaderInBytes>>
+    ensures { result ≡ header_of_length found len }
+{
+    match found {
+        Ok(Some(started)) => Ok(Some(HeaderInBytes { started, len })),
+        Ok(None) => Ok(None),
+        Err(error) => Err(error),
+    }
+}
+
+/// The block of the frame whose header the bytes begin with, and in `taken` the frame's number of bytes. The header isn't read
+/// again.
+///
+/// # Errors
+///
+/// Those of `FrameReader::read_rest`.
+pub fn rest_at_start(
+    alloc: Global,
+    bytes: &[u8],
+    known: Option<StreamInfo>,
+    header: HeaderInBytes,
+    taken: &mut usize,
+) -> Result<Block>
+    requires depth { IfSome known (λ info. HasBitDepth info) }
+    requires is_there { HeaderIsThere (option_map stream_with known) bytes.now header }
+    ensures at_start { FrameAtStart (option_map stream_with known) bytes.now
+        (whole_answer result) taken.new }
+{
+    let mut frames = frames_of(&bytes[header.len..], known);
+    let block = frames.read_rest(header.started, Vec::new(alloc));
+    let left = left_in(&frames.into_inner());
+    *taken = bytes.len().saturating_sub(left);
+    block
 }
 
 // A reader of the frames in the bytes.

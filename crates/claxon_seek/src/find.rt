@@ -1,7 +1,7 @@
 //! The next position at which a frame begins.
-ghost use Rattle.std.specs.Prelude.{◌↔◌, IfSome, IsTrue};
+ghost use Rattle.std.specs.Prelude.{◌≡◌, ◌↔◌, IfSome, IsTrue};
 ghost use Rattle.claxon.specs.FlacReader.{HasBitDepth};
-ghost use Rattle.claxon_seek.specs.AtStart.{NoHeaderAtStart};
+ghost use Rattle.claxon_seek.specs.AtStart.{HeaderIsThere, NoHeaderAtStart};
 ghost use Rattle.claxon_seek.specs.Find.{
   BudgetIsSpent,
   FindGives,
@@ -13,16 +13,20 @@ ghost use Rattle.claxon_seek.specs.Find.{
   HoldsSample,
   NoneIsNotFound,
   NotFoundIsNone,
+  SampleIsAtStart,
   StopsOverBudget,
   UndecidedIsFirst,
   WantedHeaderAtStart,
+  known_format,
+  sample_there,
 };
+ghost use Rattle.claxon_seek.specs.SeekBlock.{BlockIsDecoded, decoded_at, searched};
 
-use crate::at_start::{block_at_start, header_at_start};
-use crate::search::{FoundFrame, Search};
+use crate::at_start::{HeaderInBytes, header_at_start, rest_at_start};
+use crate::search::{BlockSearch, FoundBlock, FoundFrame, Search};
 use claxon::frame::BlockInfo;
 use claxon::metadata::StreamInfo;
-use claxon::{Error, Result};
+use claxon::{Block, Error, Result};
 use std::alloc::Global;
 
 /// Finds the first frame from the position `from` on, and what its header says of its block.
@@ -57,14 +61,26 @@ pub fn find_frame(
     ensures out_of_memory_after_header { FindOutOfMemoryAfterHeader known bytes.now from
         budget.old result budget.new }
 {
-    find(alloc, bytes, from, known, None, budget)
+    without_block(find(alloc, bytes, from, known, None, budget))
+}
+
+// The same answer without the block.
+pub(crate) fn without_block(answer: Result<BlockSearch>) -> Result<Search>
+    ensures { result ≡ searched answer }
+{
+    match answer {
+        Ok(BlockSearch::Found(found)) => Ok(Search::Found(found.frame)),
+        Ok(BlockSearch::NotFound(undecided)) => Ok(Search::NotFound(undecided)),
+        Ok(BlockSearch::OverBudget(position)) => Ok(Search::OverBudget(position)),
+        Err(error) => Err(error),
+    }
 }
 
 // What a search knows of the header that bytes begin with.
 #[derive(Clone, Copy)]
 pub(crate) enum HeaderThere {
     // Its frame is one that is searched for.
-    Wanted(BlockInfo),
+    Wanted(HeaderInBytes),
     // There is none of such a frame, whatever follows.
     NotWanted,
     // The bytes end within it.
@@ -72,9 +88,10 @@ pub(crate) enum HeaderThere {
 }
 
 // What a search knows of the frame that bytes begin with.
-#[derive(Clone, Copy)]
+#[derive(Drop)]
 pub(crate) enum FrameThere {
-    Whole,
+    // The number of its bytes, and its block.
+    Whole(usize, Block),
     // There is none, whatever follows.
     Faulty,
     // The bytes end within it.
@@ -89,33 +106,45 @@ pub(crate) fn find(
     known: Option<StreamInfo>,
     sample: Option<u64>,
     budget: &mut u64,
-) -> Result<Search>
+) -> Result<BlockSearch>
     requires { IfSome known (λ info. HasBitDepth info) }
-    ensures gives { FindGives known sample bytes.now from budget.old result budget.new }
+    ensures gives { FindGives known sample bytes.now from budget.old (searched result) budget.new }
+    ensures is_decoded { BlockIsDecoded known bytes.now result }
 {
     let mut undecided = from.max(bytes.len());
     for position in from..bytes.len() {
         let rest = &bytes[position..];
-        let block = match wanted_header(rest, &known, sample) {
-            HeaderThere::Wanted(block) => block,
+        let header = match wanted_header(rest, &known, sample) {
+            HeaderThere::Wanted(header) => header,
             HeaderThere::NotWanted => continue,
             HeaderThere::CutHeader => {
                 undecided = undecided.min(position);
                 continue;
             }
         };
-        let samples = u64::from(block.channels) * u64::from(block.duration);
+        let info = header.info();
+        let samples = u64::from(info.channels) * u64::from(info.duration);
         if samples > *budget {
-            return Ok(Search::OverBudget(position));
+            return Ok(BlockSearch::OverBudget(position));
         }
         *budget -= samples;
-        match frame_at_start(alloc, rest, known)? {
-            FrameThere::Whole => return Ok(Search::Found(FoundFrame { position, block })),
+        match frame_at_start(alloc, rest, known, header)? {
+            FrameThere::Whole(len, block) => return Ok(found_block(position, info, len, block)),
             FrameThere::Faulty => continue,
             FrameThere::CutFrame => undecided = undecided.min(position),
         }
     }
-    Ok(Search::NotFound(undecided))
+    Ok(BlockSearch::NotFound(undecided))
+}
+
+fn found_block(position: usize, info: BlockInfo, len: usize, block: Block) -> BlockSearch
+    ensures { result ≡ decoded_at position info len block }
+{
+    let frame = FoundFrame {
+        position,
+        block: info,
+    };
+    BlockSearch::Found(FoundBlock { frame, len, block })
 }
 
 // The header that the bytes begin with, if its frame is one that is searched for. The streaminfo is lent, as it is asked for at
@@ -141,9 +170,10 @@ fn read_wanted_header(bytes: &[u8], known: &Option<StreamInfo>, sample: Option<u
     ensures at_start { WantedHeaderAtStart known.now sample bytes.now result }
 {
     match header_at_start(bytes, *known) {
-        Ok(Some(block)) => {
+        Ok(Some(header)) => {
+            let block = header.info();
             if has_format(&block, *known) && holds_sample(&block, sample) {
-                HeaderThere::Wanted(block)
+                HeaderThere::Wanted(header)
             } else {
                 HeaderThere::NotWanted
             }
@@ -190,19 +220,61 @@ pub(crate) fn holds_sample(block: &BlockInfo, sample: Option<u64>) -> bool
     }
 }
 
-// The frame that the bytes begin with.
+// What a search knows of the frame with a sample that bytes begin with.
+#[derive(Clone, Copy)]
+pub(crate) enum SampleThere {
+    // What its header says.
+    Held(BlockInfo),
+    // There is none.
+    Absent,
+    // The bytes end within what may be one.
+    Undecided,
+}
+
+// The frame that the bytes begin with, if its block has the sample.
+pub(crate) fn sample_at_start(
+    alloc: Global,
+    bytes: &[u8],
+    known: Option<StreamInfo>,
+    sample: u64,
+) -> Result<SampleThere>
+    requires { IfSome known (λ info. HasBitDepth info) }
+    ensures at_start { SampleIsAtStart known sample bytes.now result }
+{
+    let header = match wanted_header(bytes, &known, Some(sample)) {
+        HeaderThere::Wanted(header) => header,
+        HeaderThere::NotWanted => return Ok(SampleThere::Absent),
+        HeaderThere::CutHeader => return Ok(SampleThere::Undecided),
+    };
+    let frame = frame_at_start(alloc, bytes, known, header)?;
+    Ok(sample_of(&frame, header.info()))
+}
+
+// What is known of the sample, where a header says that its block has it.
+fn sample_of(frame: &FrameThere, info: BlockInfo) -> SampleThere
+    ensures { result ≡ sample_there frame.now info }
+{
+    match frame {
+        FrameThere::Whole(_, _) => SampleThere::Held(info),
+        FrameThere::Faulty => SampleThere::Absent,
+        FrameThere::CutFrame => SampleThere::Undecided,
+    }
+}
+
+// The frame whose header the bytes begin with.
 pub(crate) fn frame_at_start(
     alloc: Global,
     bytes: &[u8],
     known: Option<StreamInfo>,
+    header: HeaderInBytes,
 ) -> Result<FrameThere>
-    requires { IfSome known (λ info. HasBitDepth info) }
+    requires depth { IfSome known (λ info. HasBitDepth info) }
+    requires is_there { HeaderIsThere (known_format known) bytes.now header }
     ensures is_at_start { FrameIsAtStart known bytes.now result }
 {
-    let mut taken = 0;
-    match block_at_start(alloc, bytes, known, &mut taken) {
-        Ok(Some(_)) => Ok(FrameThere::Whole),
-        Ok(None) => Ok(FrameThere::CutFrame),
+    let mut len = 0;
+    match rest_at_start(alloc, bytes, known, header, &mut len) {
+        Ok(block) => Ok(FrameThere::Whole(len, block)),
         Err(Error::IoError(_)) => Ok(FrameThere::CutFrame),
         Err(Error::FormatError(_)) => Ok(FrameThere::Faulty),
         Err(Error::Unsupported(_)) => Ok(FrameThere::Faulty),

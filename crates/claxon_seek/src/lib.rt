@@ -11,7 +11,7 @@ mod seeking;
 mod tests;
 mod window;
 
-pub use at_start::{block_at_start, head_at_start, header_at_start};
+pub use at_start::{HeaderInBytes, block_at_start, head_at_start, header_at_start, rest_at_start};
 pub use find::find_frame;
 pub use reader::SeekableReader;
 pub use search::{BlockSearch, FoundBlock, FoundFrame, Search};

@@ -216,7 +216,8 @@ fn header_in_eight(
 {
     let len = span.end.saturating_sub(from).min(bytes.len());
     for i in start..len.min(start.saturating_add(8)) {
-        if let HeaderThere::Wanted(block) = wanted_header(&bytes[i..], &known, None) {
+        if let HeaderThere::Wanted(header) = wanted_header(&bytes[i..], &known, None) {
+            let block = header.info();
             if span.is_likely(&block) {
                 return Some(FoundFrame {
                     position: from + i,

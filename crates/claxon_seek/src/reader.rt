@@ -15,16 +15,15 @@ ghost use Rattle.claxon.specs.Error.{IsIo};
 ghost use Rattle.claxon.specs.ShownHead.{HasBitDepth};
 ghost use Rattle.claxon.specs.FrameReader.{stream_with};
 ghost use Rattle.claxon_format.specs.Tags.{values};
-ghost use Rattle.claxon_seek.specs.Find.{BeginsWithFrame};
 ghost use Rattle.claxon_seek.specs.Attempt.{IsCut};
 
 #[cfg(test)]
 mod tests;
 
 use crate::at_start::block_in_buffer;
-use crate::find::{FrameThere, HeaderThere, find, frame_at_start, wanted_header};
+use crate::find::{SampleThere, find, sample_at_start};
 use crate::likely::{MAX_STEPS, Span, Step, likely_header, max_block_size};
-use crate::search::{FoundFrame, Search};
+use crate::search::{BlockSearch, FoundFrame};
 use crate::window::Window;
 use claxon::frame::{BlockInfo, FrameResult};
 use claxon::input::{BufferedReader, ReadBytes};
@@ -361,35 +360,17 @@ impl<R: Read + Seek> SeekableReader<R> {
         ensures is_io_or_memory { IfErr result IsIoOrMemory }
         ensures keeps_stream { KeepsStream self.old self.new }
     {
-        if !self.hold_frame()? {
-            return Ok(None);
-        }
-        let known = Some(self.head.streaminfo());
-        match wanted_header(self.window.pending(), &known, Some(sample)) {
-            HeaderThere::Wanted(block) => Ok(Some(block)),
-            _ => Ok(None),
-        }
-    }
-
-    // Reads until the bytes begin with a whole frame. Returns whether they do.
-    fn hold_frame(&mut self) -> Result<bool>
-        ensures frame { IfOk result (λ whole. IsTrue whole → BeginsWithFrame
-            (Some (stream_with (shown_streaminfo self.old))) (bytes_read self.new)) }
-        ensures stays { reader_position self.new ≡ reader_position self.old }
-        ensures is_io_or_memory { IfErr result IsIoOrMemory }
-        ensures keeps_stream { KeepsStream self.old self.new }
-    {
         let mut wanted = self.usual_bytes();
         for _ in 0..MAX_ATTEMPTS {
             let is_full = self.window.fill(wanted)?;
             let known = Some(self.head.streaminfo());
-            match frame_at_start(self.alloc, self.window.pending(), known)? {
-                FrameThere::Whole => return Ok(true),
-                FrameThere::CutFrame if is_full => wanted = self.more_bytes(),
-                _ => return Ok(false),
+            match sample_at_start(self.alloc, self.window.pending(), known, sample)? {
+                SampleThere::Held(block) => return Ok(Some(block)),
+                SampleThere::Undecided if is_full => wanted = self.more_bytes(),
+                _ => return Ok(None),
             }
         }
-        Ok(false)
+        Ok(None)
     }
 
     // Goes to the first frame from here on whose block has the sample.
@@ -424,12 +405,12 @@ impl<R: Read + Seek> SeekableReader<R> {
         let len = pending.len();
         let known = Some(self.head.streaminfo());
         let passed = match find(self.alloc, pending, 0, known, Some(sample), budget)? {
-            Search::Found(found) => {
-                self.window.pass(found.position);
-                return Ok(Some(found.block));
+            BlockSearch::Found(found) => {
+                self.window.pass(found.frame.position);
+                return Ok(Some(found.frame.block));
             }
-            Search::NotFound(undecided) => undecided,
-            Search::OverBudget(_) => return Err(too_many_headers()),
+            BlockSearch::NotFound(undecided) => undecided,
+            BlockSearch::OverBudget(_) => return Err(too_many_headers()),
         };
         // A frame that has more bytes than one may have is passed.
         let passed = passed.max(usize::from(len >= MAX_FRAME_BYTES));

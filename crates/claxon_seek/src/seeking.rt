@@ -12,12 +12,11 @@ ghost use Rattle.claxon_seek.specs.Seek.{
 };
 ghost use Rattle.claxon_seek.specs.SeekBlock.{BlockIsDecoded, BlockThere, searched};
 
-use crate::at_start::block_at_start;
-use crate::find::{HeaderThere, find, wanted_header};
+use crate::find::{FrameThere, HeaderThere, find, frame_at_start, wanted_header, without_block};
 use crate::likely::likely_position;
 use crate::search::{BlockSearch, FoundBlock, FoundFrame, Search};
+use claxon::Result;
 use claxon::metadata::StreamInfo;
-use claxon::{Error, Result};
 use std::alloc::Global;
 
 /// Finds a frame whose block has the sample: `time <= sample < time + duration`.
@@ -56,7 +55,7 @@ pub fn seek(
     without_block(seek_exact(alloc, bytes, known, first_frame, sample, budget))
 }
 
-/// As `seek`, and the block of the frame, which is decoded once where headers lead to it.
+/// As `seek`, and the block of the frame, which is decoded once.
 ///
 /// # Errors
 ///
@@ -86,18 +85,6 @@ pub fn seek_block(
     seek_exact(alloc, bytes, known, first_frame, sample, budget)
 }
 
-// The same answer without the block.
-fn without_block(answer: Result<BlockSearch>) -> Result<Search>
-    ensures { result ≡ searched answer }
-{
-    match answer {
-        Ok(BlockSearch::Found(found)) => Ok(Search::Found(found.frame)),
-        Ok(BlockSearch::NotFound(undecided)) => Ok(Search::NotFound(undecided)),
-        Ok(BlockSearch::OverBudget(position)) => Ok(Search::OverBudget(position)),
-        Err(error) => Err(error),
-    }
-}
-
 // `seek_block`, with its exact clauses.
 fn seek_exact(
     alloc: Global,
@@ -117,14 +104,7 @@ fn seek_exact(
         }
     }
     let mut left = budget;
-    match find(alloc, bytes, first_frame, known, Some(sample), &mut left)? {
-        Search::Found(frame) => {
-            let found = block_there(alloc, bytes, known, frame.position, sample)?;
-            Ok(BlockSearch::Found(found.unwrap()))
-        }
-        Search::NotFound(undecided) => Ok(BlockSearch::NotFound(undecided)),
-        Search::OverBudget(position) => Ok(BlockSearch::OverBudget(position)),
-    }
+    find(alloc, bytes, first_frame, known, Some(sample), &mut left)
 }
 
 // The frame that begins at the position, if its block has the sample.
@@ -140,22 +120,18 @@ fn block_there(
     ensures there { BlockThere known bytes.now position sample result }
 {
     let rest = &bytes[position..];
-    let HeaderThere::Wanted(info) = wanted_header(rest, &known, Some(sample)) else {
+    let HeaderThere::Wanted(header) = wanted_header(rest, &known, Some(sample)) else {
         return Ok(None);
     };
-    let mut len = 0;
-    match block_at_start(alloc, rest, known, &mut len) {
-        Ok(Some(block)) => {
+    match frame_at_start(alloc, rest, known, header)? {
+        FrameThere::Whole(len, block) => {
             let frame = FoundFrame {
                 position,
-                block: info,
+                block: header.info(),
             };
             Ok(Some(FoundBlock { frame, len, block }))
         }
-        Ok(None) => Ok(None),
-        Err(Error::IoError(_)) => Ok(None),
-        Err(Error::FormatError(_)) => Ok(None),
-        Err(Error::Unsupported(_)) => Ok(None),
-        Err(Error::OutOfMemory) => Err(Error::OutOfMemory),
+        FrameThere::Faulty => Ok(None),
+        FrameThere::CutFrame => Ok(None),
     }
 }

@@ -1,49 +1,19 @@
 use Rattle.std.proofs.Common.{◌≡◌, ◌↔◌, IsTrue, false, true, inl, inr, refl, ap, length, drop, min, rules, None, Some}
-use Rattle.std.specs.Prelude.{Ok}
+use Rattle.std.specs.Prelude.{Ok, Err}
 use Rattle.std.specs.Option.{option_map}
-use Rattle.claxon.specs.FrameReader.{stream_with}
+use Rattle.claxon.specs.Errors.{Error}
+use Rattle.claxon.specs.FrameReader.{FrameAnswer, stream_with}
 use Rattle.claxon_c.specs.Info.{known_stream}
 use Rattle.claxon_c.proofs.BlockCalls.{at_position, decoded_there, header_at_position, too_small_there}
-use Rattle.claxon_c.proofs.HeadersAtStart.{not_larger_there}
+use Rattle.claxon_c.proofs.HeadersAtStart.{header_of_ok, no_header_of_err, not_larger_there}
+use Rattle.claxon_seek.proofs.HeadersAtStart.{none_at_start, refused_at_start}
+use Rattle.claxon_seek.proofs.Searches.{known_depth}
+use Rattle.claxon_seek.specs.AtStart.{FoundHeader}
 use Rattle.claxon_c.proofs.next_block.next_block.Goals as goal
 
 -- what is true just where a test holds that failed
 unless_true : {P : Type 0} → (IsTrue false ↔ P) → P → ⊥
 unless_true h p = let q : false ≡ true = h.1 p in cc
-
-pub returns-then-has_larger : goal.returns-then-has_larger
-returns-then-has_larger c =
-    let from = c.args.at.now in
-    let start = c.min-start.result in
-    let bytes = c.args.bytes.now in
-    let capacity = c.args.capacity in
-    let info = c.args.info.now in
-    let stream = known_stream info in
-    let known = option_map stream_with c.known_stream-known.result in
-    let header = c.header_there-header.result in
-    let same : known ≡ stream = ap (option_map stream_with) c.known_stream-known.ensures.is_known in
-    let s : start ≡ min (length bytes) from = search rules in
-    let there = header_at_position info bytes from capacity start s known stream header same c.header_there-header.ensures.header_or_none in
-    let shown = c.show.new.block in
-    record { next_block = (refl, inl (too_small_there info bytes from capacity start s header shown there (c.if-has_larger.ensures.0 refl) c.show.ensures, refl)) }
-
-pub returns-in-Ok-Some : goal.returns-in-Ok-Some
-returns-in-Ok-Some c =
-    let from = c.args.at.now in
-    let start = c.min-start.result in
-    let bytes = c.args.bytes.now in
-    let capacity = c.args.capacity in
-    let info = c.args.info.now in
-    let stream = known_stream info in
-    let known = option_map stream_with c.known_stream-known.result in
-    let header = c.header_there-header.result in
-    let same : known ≡ stream = ap (option_map stream_with) c.known_stream-known.ensures.is_known in
-    let s : start ≡ min (length bytes) from = search rules in
-    let there = header_at_position info bytes from capacity start s known stream header same c.header_there-header.ensures.header_or_none in
-    let found = c.in-Ok-Some.found in
-    let shown = c.show-in-Ok-Some.new.block in
-    let h = at_position known stream bytes from start (Ok (Some found)) c.block_at_start.new.taken same s (rw (c.in-Ok-Some.is, c.in-Ok-Some.field-0-is) at c.block_at_start.ensures.at_start) in
-    record { next_block = (decoded_there info bytes from capacity start s found c.block_at_start.new.taken header shown h there (unless_true c.if-has_larger.ensures) c.show-in-Ok-Some.ensures, refl) }
 
 pub returns-in-Ok-None : goal.returns-in-Ok-None
 returns-in-Ok-None c =
@@ -54,13 +24,14 @@ returns-in-Ok-None c =
     let info = c.args.info.now in
     let stream = known_stream info in
     let known = option_map stream_with c.known_stream-known.result in
-    let header = c.header_there-header.result in
     let same : known ≡ stream = ap (option_map stream_with) c.known_stream-known.ensures.is_known in
     let s : start ≡ min (length bytes) from = search rules in
-    let there = header_at_position info bytes from capacity start s known stream header same c.header_there-header.ensures.header_or_none in
-    let none = not_larger_there stream (drop from bytes) capacity header there (unless_true c.if-has_larger.ensures) in
-    let h = at_position known stream bytes from start (Ok None) c.block_at_start.new.taken same s (rw (c.in-Ok-None.is, c.in-Ok-None.field-0-is) at c.block_at_start.ensures.at_start) in
-    record { next_block = (refl, inr (inl (record { not_larger = none; status_is = refl; count = c.block_at_start.new.taken; none = h }, refl, refl))) }
+    let depth = known_depth c.known_stream-known.result c.known_stream-known.ensures.bit_depth in
+    let h = rw (c.in-Ok-None.is, c.in-Ok-None.field-0-is) at c.header_at_start.ensures.at_start in
+    let there = header_at_position info bytes from capacity start s known stream None same (header_of_ok known _ None h) in
+    let larger = not_larger_there stream (drop from bytes) capacity None there (λ x. x) in
+    let none = at_position known stream bytes from start (Ok None) 0 same s (none_at_start known depth _ h) in
+    record { next_block = (refl, inr (inl (record { not_larger = larger; status_is = refl; count = 0; none = none }, refl, refl))) }
 
 pub returns-in-Err : goal.returns-in-Err
 returns-in-Err c =
@@ -71,10 +42,69 @@ returns-in-Err c =
     let info = c.args.info.now in
     let stream = known_stream info in
     let known = option_map stream_with c.known_stream-known.result in
-    let header = c.header_there-header.result in
     let same : known ≡ stream = ap (option_map stream_with) c.known_stream-known.ensures.is_known in
     let s : start ≡ min (length bytes) from = search rules in
-    let there = header_at_position info bytes from capacity start s known stream header same c.header_there-header.ensures.header_or_none in
-    let none = not_larger_there stream (drop from bytes) capacity header there (unless_true c.if-has_larger.ensures) in
-    let h = at_position known stream bytes from start _ c.block_at_start.new.taken same s c.in-Err.ensures.at_start in
-    record { next_block = (refl, inr (inr (record { not_larger = none; error = c.in-Err.fault; count = c.block_at_start.new.taken; refused = h; reported = c.report.ensures.is_reported }, refl))) }
+    let depth = known_depth c.known_stream-known.result c.known_stream-known.ensures.bit_depth in
+    let e = c.in-Err.fault in
+    let r : FrameAnswer = Err e in
+    let h = rw c.in-Err.is at c.header_at_start.ensures.at_start in
+    let other = rw c.in-Err.is at c.header_at_start.ensures.never_out_of_memory in
+    let there = header_at_position info bytes from capacity start s known stream None same (no_header_of_err known _ e h) in
+    let larger = not_larger_there stream (drop from bytes) capacity None there (λ x. x) in
+    let refused = at_position known stream bytes from start r 0 same s (refused_at_start known depth _ e (λ m. other (ap (λ (x : Error). let q : FoundHeader = Err x in q) m)) h) in
+    record { next_block = (refl, inr (inr (record { not_larger = larger; error = e; count = 0; refused = refused; reported = c.report.ensures.is_reported }, refl))) }
+
+pub returns-then-has_larger : goal.returns-then-has_larger
+returns-then-has_larger c =
+    let from = c.args.at.now in
+    let start = c.min-start.result in
+    let bytes = c.args.bytes.now in
+    let capacity = c.args.capacity in
+    let info = c.args.info.now in
+    let stream = known_stream info in
+    let known = option_map stream_with c.known_stream-known.result in
+    let same : known ≡ stream = ap (option_map stream_with) c.known_stream-known.ensures.is_known in
+    let s : start ≡ min (length bytes) from = search rules in
+    let h = rw (c.in-Ok-Some.is, c.in-Ok-Some.field-0-is) at c.header_at_start.ensures.at_start in
+    let said = c.info-said.result in
+    let there = header_at_position info bytes from capacity start s known stream (Some said) same (rw c.info-said.ensures h.sound) in
+    record { next_block = (refl, inl (too_small_there info bytes from capacity start s (Some said) c.from_header.result there (c.if-has_larger.ensures.0 refl) c.from_header.ensures.shows_info, refl)) }
+
+pub returns-in-Ok : goal.returns-in-Ok
+returns-in-Ok c =
+    let from = c.args.at.now in
+    let start = c.min-start.result in
+    let bytes = c.args.bytes.now in
+    let capacity = c.args.capacity in
+    let info = c.args.info.now in
+    let stream = known_stream info in
+    let known = option_map stream_with c.known_stream-known.result in
+    let same : known ≡ stream = ap (option_map stream_with) c.known_stream-known.ensures.is_known in
+    let s : start ≡ min (length bytes) from = search rules in
+    let h = rw (c.in-Ok-Some.is, c.in-Ok-Some.field-0-is) at c.header_at_start.ensures.at_start in
+    let said = c.info-said.result in
+    let there = header_at_position info bytes from capacity start s known stream (Some said) same (rw c.info-said.ensures h.sound) in
+    let found = c.in-Ok.found in
+    let count = c.rest_at_start.new.taken in
+    let frame = at_position known stream bytes from start (Ok (Some found)) count same s (rw c.in-Ok.is at c.rest_at_start.ensures.at_start) in
+    record { next_block = (decoded_there info bytes from capacity start s found count (Some said) c.from_header-in-Ok.result frame there (unless_true c.if-has_larger.ensures) c.from_header-in-Ok.ensures.shows_info, refl) }
+
+pub returns-in-Err-rest_at_start : goal.returns-in-Err-rest_at_start
+returns-in-Err-rest_at_start c =
+    let from = c.args.at.now in
+    let start = c.min-start.result in
+    let bytes = c.args.bytes.now in
+    let capacity = c.args.capacity in
+    let info = c.args.info.now in
+    let stream = known_stream info in
+    let known = option_map stream_with c.known_stream-known.result in
+    let same : known ≡ stream = ap (option_map stream_with) c.known_stream-known.ensures.is_known in
+    let s : start ≡ min (length bytes) from = search rules in
+    let h = rw (c.in-Ok-Some.is, c.in-Ok-Some.field-0-is) at c.header_at_start.ensures.at_start in
+    let said = c.info-said.result in
+    let there = header_at_position info bytes from capacity start s known stream (Some said) same (rw c.info-said.ensures h.sound) in
+    let e = c.in-Err-rest_at_start.fault in
+    let count = c.rest_at_start.new.taken in
+    let larger = not_larger_there stream (drop from bytes) capacity (Some said) there (unless_true c.if-has_larger.ensures) in
+    let refused = at_position known stream bytes from start _ count same s (rw c.in-Err-rest_at_start.is at c.rest_at_start.ensures.at_start) in
+    record { next_block = (refl, inr (inr (record { not_larger = larger; error = e; count = count; refused = refused; reported = c.report-in-Err-rest_at_start.ensures.is_reported }, refl))) }

@@ -6,9 +6,9 @@ pub returns-else-has_format : goal.returns-else-has_format
 returns-else-has_format c =
     let h = rw (c.in-Ok-Some.is, c.in-Ok-Some.field-0-is) at c.header_at_start.ensures.at_start in
     record {
-      at_start = other_header c.args.known.now c.args.sample c.args.bytes.now c.in-Ok-Some.block h.sound (λ is. elim c.else-has_format.branch [
-        | else-has_format-via-then-has_format+else-holds_sample w ↦ (let no = w.holds_sample.ensures.1 is.1 in cc)
-        | else-has_format-via-else-has_format w ↦ (let no = c.has_format.ensures.1 is.0 in cc)
+      at_start = other_header c.args.known.now c.args.sample c.args.bytes.now _ h.sound (λ is. elim c.else-has_format.branch [
+        | else-has_format-via-then-has_format+else-holds_sample w ↦ (let no = w.holds_sample.ensures.1 (rw c.info-block.ensures is.1) in cc)
+        | else-has_format-via-else-has_format w ↦ (let no = c.has_format.ensures.1 (rw c.info-block.ensures is.0) in cc)
       ]);
     }
 

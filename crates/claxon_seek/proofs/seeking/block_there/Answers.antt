@@ -1,10 +1,8 @@
 use Rattle.std.proofs.Common.{List, Some, subst}
-use Rattle.std.specs.Prelude.{Ok, Err, None}
-use Rattle.claxon.specs.Errors.TheVariants.{FormatError, IoError, Unsupported}
-use Rattle.claxon.proofs.OutOfMemory.{not_out_of_memory}
-use Rattle.claxon.specs.FrameReader.{FrameAnswer}
-use Rattle.claxon_seek.specs.AtStart.{FrameAtStart}
-use Rattle.claxon_seek.specs.Find.{WantedHeader, WantedHeaderAtStart, known_format}
+use Rattle.std.specs.Prelude.{Ok}
+use Rattle.claxon_seek.specs.Find.{FrameIsAtStart, WantedHeaderAtStart}
+use Rattle.claxon_seek.specs.declared.find.FrameThere.TheVariants.{CutFrame, Faulty, Whole}
+use Rattle.claxon_seek.specs.declared.find.HeaderThere.TheVariants.{Wanted}
 use Rattle.claxon_seek.proofs.BlockSearches.{block_is_there, no_frame_there, no_header_there}
 use Rattle.claxon_seek.proofs.Searches.{rest_is}
 use Rattle.claxon_seek.proofs.seeking.block_there.Goals as goal
@@ -15,45 +13,26 @@ returns-in_default c =
     let h = c.wanted_header.result in
     record { there = no_header_there a.known a.bytes.now a.position a.sample h c.in_default.not-Wanted (subst (λ (s : List _). WantedHeaderAtStart a.known (Some a.sample) s h) (rest_is a.bytes.now a.position) c.wanted_header.ensures.at_start) }
 
-pub returns-in-Ok-Some : goal.returns-in-Ok-Some
-returns-in-Ok-Some c =
-    let a = c.args in
-    let info = c.in-Wanted.info in
-    let block = c.in-Ok-Some.block in
-    let taken = c.block_at_start.new.taken in
-    let r : FrameAnswer = Ok (Some block) in
-    let wanted : WantedHeader a.known (Some a.sample) _ info = subst (λ (s : List _). WantedHeader a.known (Some a.sample) s info) (rest_is a.bytes.now a.position) (rw c.in-Wanted.is at c.wanted_header.ensures.at_start) in
-    let frame = subst (λ (s : List _). FrameAtStart (known_format a.known) s r taken) (rest_is a.bytes.now a.position) (rw (c.in-Ok-Some.is, c.in-Ok-Some.field-0-is) at c.block_at_start.ensures.at_start) in
-    record { there = block_is_there a.known a.bytes.now a.position a.sample taken info block wanted frame }
+pub frame_at_start-requires-clause-is_there : goal.frame_at_start-requires-clause-is_there
+frame_at_start-requires-clause-is_there c = (rw c.in-Wanted.is at c.wanted_header.ensures.at_start).1
 
-pub returns-in-Ok-None : goal.returns-in-Ok-None
-returns-in-Ok-None c =
+pub returns-in-Whole : goal.returns-in-Whole
+returns-in-Whole c =
     let a = c.args in
-    let taken = c.block_at_start.new.taken in
-    let r : FrameAnswer = Ok None in
-    let frame = subst (λ (s : List _). FrameAtStart (known_format a.known) s r taken) (rest_is a.bytes.now a.position) (rw (c.in-Ok-None.is, c.in-Ok-None.field-0-is) at c.block_at_start.ensures.at_start) in
-    record { there = no_frame_there a.known a.bytes.now a.position a.sample taken r frame (not_out_of_memory None) (λ block p. p) }
+    let h = Wanted c.in-Wanted.header in
+    let wanted = (subst (λ (s : List _). WantedHeaderAtStart a.known (Some a.sample) s h) (rest_is a.bytes.now a.position) (rw c.in-Wanted.is at c.wanted_header.ensures.at_start)).0 in
+    let f = Whole c.in-Whole.len c.in-Whole.block in
+    let frame = subst (λ (s : List _). FrameIsAtStart a.known s (Ok f)) (rest_is a.bytes.now a.position) (rw (c.in_ok-len.was, c.in-Whole.is) at c.frame_at_start.ensures.is_at_start) in
+    rw c.info.ensures (record { there = block_is_there a.known a.bytes.now a.position a.sample _ c.in-Whole.len c.in-Whole.block wanted frame })
 
-pub returns-in-Err-IoError : goal.returns-in-Err-IoError
-returns-in-Err-IoError c =
+pub returns-in-Faulty : goal.returns-in-Faulty
+returns-in-Faulty c =
     let a = c.args in
-    let taken = c.block_at_start.new.taken in
-    let r : FrameAnswer = Err (IoError c.in-Err-IoError.field-0-0) in
-    let frame = subst (λ (s : List _). FrameAtStart (known_format a.known) s r taken) (rest_is a.bytes.now a.position) (rw (c.in-Err-IoError.is, c.in-Err-IoError.field-0-is) at c.block_at_start.ensures.at_start) in
-    record { there = no_frame_there a.known a.bytes.now a.position a.sample taken r frame (λ m. absurd cc) (λ block p. p) }
+    let frame = subst (λ (s : List _). FrameIsAtStart a.known s (Ok Faulty)) (rest_is a.bytes.now a.position) (rw (c.in_ok-len.was, c.in-Faulty.is) at c.frame_at_start.ensures.is_at_start) in
+    record { there = no_frame_there a.known a.bytes.now a.position a.sample Faulty (λ len block e. cc) frame }
 
-pub returns-in-Err-FormatError : goal.returns-in-Err-FormatError
-returns-in-Err-FormatError c =
+pub returns-in-CutFrame : goal.returns-in-CutFrame
+returns-in-CutFrame c =
     let a = c.args in
-    let taken = c.block_at_start.new.taken in
-    let r : FrameAnswer = Err (FormatError c.in-Err-FormatError.field-0-0) in
-    let frame = subst (λ (s : List _). FrameAtStart (known_format a.known) s r taken) (rest_is a.bytes.now a.position) (rw (c.in-Err-FormatError.is, c.in-Err-FormatError.field-0-is) at c.block_at_start.ensures.at_start) in
-    record { there = no_frame_there a.known a.bytes.now a.position a.sample taken r frame (λ m. absurd cc) (λ block p. p) }
-
-pub returns-in-Err-Unsupported : goal.returns-in-Err-Unsupported
-returns-in-Err-Unsupported c =
-    let a = c.args in
-    let taken = c.block_at_start.new.taken in
-    let r : FrameAnswer = Err (Unsupported c.in-Err-Unsupported.field-0-0) in
-    let frame = subst (λ (s : List _). FrameAtStart (known_format a.known) s r taken) (rest_is a.bytes.now a.position) (rw (c.in-Err-Unsupported.is, c.in-Err-Unsupported.field-0-is) at c.block_at_start.ensures.at_start) in
-    record { there = no_frame_there a.known a.bytes.now a.position a.sample taken r frame (λ m. absurd cc) (λ block p. p) }
+    let frame = subst (λ (s : List _). FrameIsAtStart a.known s (Ok CutFrame)) (rest_is a.bytes.now a.position) (rw (c.in_ok-len.was, c.in-CutFrame.is) at c.frame_at_start.ensures.is_at_start) in
+    record { there = no_frame_there a.known a.bytes.now a.position a.sample CutFrame (λ len block e. cc) frame }

@@ -1,0 +1,29 @@
+use Rattle.std.proofs.Common.{◌≡◌, List, drop, ap, sym, subst, refl, rules, ◌∙◌}
+use Rattle.std.proofs.lemmas.List.{drop_at}
+use Rattle.std.specs.Option.{option_map}
+use Rattle.claxon.specs.FrameReader.{frame_input, stream_with}
+use Rattle.claxon.specs.Promises.{Remains}
+use Rattle.claxon.proofs.FramesInMemory.{slice_bytes, slice_remains, slice_never_fails, slice_rest_promises}
+use Rattle.claxon_seek.proofs.AtStart.{rest_at_start}
+use Rattle.claxon_seek.proofs.Searches.{known_depth, rest_is}
+use Rattle.claxon_seek.proofs.at_start.rest_at_start.Goals as goal
+
+pub returns : goal.returns
+returns c =
+    let e = rw c.frames_of-frames.ensures.stream at c.read_rest-block.ensures in
+    let old = c.frames_of-frames.result in
+    let new = c.read_rest-block.new.self in
+    let stream = option_map stream_with c.args.known in
+    let bytes = c.args.bytes.now in
+    let started = c.args.header.started in
+    let len = c.args.header.len in
+    let there = c.requires.is_there in
+    let header : List _ = there.0 in
+    let rest : List _ = there.1 in
+    let after : drop len bytes ≡ rest = ap (drop len) there.3 ∙ drop_at header rest len (sym there.4) in
+    let remains = slice_remains old (frame_input old) _ refl c.frames_of-frames.ensures.position c.frames_of-frames.ensures.inner in
+    let left : Remains (slice_bytes old) rest = subst (λ (s : List _). Remains (slice_bytes old) s) (rest_is bytes len ∙ after) remains in
+    let r = c.read_rest-block.result in
+    let code = there.2 in
+    let promises = slice_rest_promises stream (known_depth c.args.known c.requires.depth) started header rest code (slice_bytes old) (slice_bytes new) left (slice_never_fails old new) _ r (e.is_sound header code) (e.is_complete header code) (e.fault_is_sound header code) (e.fault_is_complete header code) e.out_of_memory_keeps_bytes in
+    record { at_start = rest_at_start stream bytes header rest (slice_bytes old) (frame_input new) c.saturating_sub.result there.3 left (search rules) r (e.is_sound header code) promises }
