@@ -1,0 +1,187 @@
+-- What `FrameDecoder::decode_next` promises.
+use Rattle.std.specs.Prelude.{
+  ◌≡◌,
+  ◌⊎◌,
+  ℕ,
+  ◌+◌,
+  ◌*◌,
+  ◌<◌,
+  ◌≤◌,
+  Bool,
+  true,
+  false,
+  List,
+  ◌++◌,
+  drop,
+  length,
+  max,
+  Option,
+  Result,
+  Ok,
+}
+use Rattle.std.specs.Option.{option_map}
+use Rattle.claxon.specs.Error.{IsFault}
+use Rattle.claxon.specs.Errors.{Error}
+use Rattle.claxon.specs.Fault.{Fault}
+use Rattle.claxon.specs.Block.{max_block_samples}
+use Rattle.claxon.specs.Frame.{Block, Frame, FrameBytesFault, NoFrameLeft, StreamFormat}
+use Rattle.claxon.specs.FrameReader.{block_view, stream_with}
+use Rattle.claxon.specs.Prefix.{BeginsWith}
+use Rattle.claxon.specs.Promises.{IsOutOfMemory}
+use Rattle.claxon.specs.StreamInfos.{StreamInfo}
+use Rattle.claxon_stream.specs.Event.{
+  EventIs,
+  IsAnswer,
+  IsCutFrame,
+  IsDecodedAnd,
+  IsFaultyAnd,
+  IsOpen,
+  IsReadOn,
+}
+use Rattle.claxon_stream.specs.Budget.{IsSpent, wasted_work}
+use Rattle.claxon_stream.specs.FrameEnd.{
+  IsZeroWithin,
+  Knows,
+  StartKnows,
+  StartsWith,
+  summed_bytes,
+  tried_bytes,
+}
+use Rattle.claxon_stream.specs.Held.{StandsIn, ends_there, held_from}
+use Rattle.claxon_stream.specs.declared.event.Event.{Event}
+use Rattle.claxon_stream.specs.declared.event.Event.TheVariants.{End}
+use Rattle.claxon_stream.specs.declared.frames.FrameDecoder.{FrameDecoder}
+
+-- `frames.position()`
+abbrev pub decoder_position : FrameDecoder → ℕ
+decoder_position s = s.position
+
+-- `frames.is_over_budget()`
+abbrev pub IsOverBudget : FrameDecoder → Type 0
+IsOverBudget s = IsSpent s.budget
+
+-- What a new decoder notes is so of every stream.
+abbrev pub StartsRight : FrameDecoder → Type 0
+StartsRight s = StartKnows s.end
+
+-- What the decoder noted is so of the stream of these bytes.
+abbrev pub IsRightOf : Option StreamInfo → List ℕ → FrameDecoder → Type 0
+IsRightOf known stream s =
+    Knows (option_map stream_with known) (drop (decoder_position s) stream) s.end
+
+-- The clauses. `old` and `new` are the decoder before and after the call.
+module _ (known : Option StreamInfo) (capacity at : ℕ) (bytes : List ℕ) (is_end : Bool)
+    (old : FrameDecoder) (result : Result Event Error) (new : FrameDecoder) where
+  -- What is answered stands at the position, and the position moves after it.
+  abbrev pub EventIsSound : Type 0
+  EventIsSound =
+      EventIs (option_map stream_with known) (held_from at (decoder_position old) bytes)
+      (ends_there at (decoder_position old) is_end) capacity
+      (decoder_position old) result (decoder_position new)
+
+  -- Of each stream in which the bytes stand, an answer other than `ReadOn` is what stands there in
+  -- all its bytes. So it doesn't matter where the stream is cut.
+  abbrev pub EventIsOfStream : Type 0
+  EventIsOfStream = (stream : List ℕ) → StandsIn stream at bytes is_end → IsAnswer result
+      → EventIs (option_map stream_with known) (drop (decoder_position old) stream) true capacity
+      (decoder_position old) result (decoder_position new)
+
+module _ (known : Option StreamInfo) (at : ℕ) (bytes : List ℕ) (old : FrameDecoder)
+    (result : Result Event Error) where
+  -- A frame that stands there in the bytes is answered, or memory was refused, or `ReadOn` is
+  -- answered (`FrameIsTimely`).
+  abbrev pub FrameIsComplete : Type 0
+  FrameIsComplete = (block : Block)
+      → BeginsWith (Frame (option_map stream_with known) block)
+      (held_from at (decoder_position old) bytes)
+      → IsDecodedAnd result (λ frame. block_view frame.block ≡ block)
+      ⊎ (IsOutOfMemory result ⊎ IsReadOn result)
+
+  -- A fault that stands there in the bytes is answered, or memory was refused, or `ReadOn` is
+  -- answered (`FaultIsTimely`).
+  abbrev pub FaultIsComplete : Type 0
+  FaultIsComplete = (f : Fault)
+      → BeginsWith (FrameBytesFault (option_map stream_with known) f)
+      (held_from at (decoder_position old) bytes)
+      → IsFaultyAnd result (λ fault. IsFault f fault.error)
+      ⊎ (IsOutOfMemory result ⊎ IsReadOn result)
+
+-- Where the stream ends and fewer than two bytes are left, that is answered.
+abbrev pub EndIsComplete : ℕ → List ℕ → Bool → FrameDecoder → Result Event Error → Type 0
+EndIsComplete at bytes is_end old result =
+    length (held_from at (decoder_position old) bytes) < 2
+    → ends_there at (decoder_position old) is_end ≡ true → result ≡ Ok End
+
+module _ (known : Option StreamInfo) (at : ℕ) (bytes : List ℕ) (is_end : Bool)
+    (old : FrameDecoder) (result : Result Event Error) where
+  -- Where the stream ends within a frame, that is answered, or memory was refused.
+  abbrev pub CutIsComplete : Type 0
+  CutIsComplete =
+      2 ≤ length (held_from at (decoder_position old) bytes)
+      → IsOpen (option_map stream_with known) (held_from at (decoder_position old) bytes)
+      → ends_there at (decoder_position old) is_end ≡ true
+      → IsCutFrame result ⊎ IsOutOfMemory result
+
+  -- Where neither a frame nor a fault stands in the bytes and the stream goes on, `ReadOn` is
+  -- answered, or memory was refused.
+  abbrev pub ReadOnIsComplete : Type 0
+  ReadOnIsComplete =
+      IsOpen (option_map stream_with known) (held_from at (decoder_position old) bytes)
+      → ends_there at (decoder_position old) is_end ≡ false
+      → IsReadOn result ⊎ IsOutOfMemory result
+
+-- ---- what was noted, of each stream in which the bytes stand
+
+module _ (known : Option StreamInfo) (at : ℕ) (bytes : List ℕ) (is_end : Bool)
+    (old : FrameDecoder) where
+  -- It stays right.
+  abbrev pub KeepsNotes : FrameDecoder → Type 0
+  KeepsNotes new = (stream : List ℕ) → StandsIn stream at bytes is_end
+      → IsRightOf known stream old → IsRightOf known stream new
+
+  -- `ReadOn` is answered only where no whole frame stands in the bytes, or over the budget.
+  abbrev pub FrameIsTimely : Result Event Error → FrameDecoder → Type 0
+  FrameIsTimely result new = (stream : List ℕ) → StandsIn stream at bytes is_end
+      → IsRightOf known stream old → IsReadOn result
+      → NoFrameLeft (option_map stream_with known) (held_from at (decoder_position old) bytes)
+      ⊎ IsOverBudget new
+
+  -- `ReadOn` is answered only where no fault stands in the first half of the bytes.
+  abbrev pub FaultIsTimely : Result Event Error → Type 0
+  FaultIsTimely result = (stream : List ℕ) → StandsIn stream at bytes is_end
+      → IsRightOf known stream old → IsReadOn result
+      → (f : Fault) (t rest : List ℕ) → FrameBytesFault (option_map stream_with known) f t
+      → held_from at (decoder_position old) bytes ≡ t ++ rest
+      → length (held_from at (decoder_position old) bytes) < 2 * length t
+
+  -- Work is wasted only by a try in vain after bytes whose CRC-16 is 0, and no more than its bytes
+  -- and the samples of a block.
+  abbrev pub WasteIsInVain : Result Event Error → FrameDecoder → Type 0
+  WasteIsInVain result new = (stream : List ℕ) → StandsIn stream at bytes is_end
+      → IsRightOf known stream old → (wasted_work new.budget ≤ wasted_work old.budget)
+      ⊎ (IsReadOn result
+      × IsOpen (option_map stream_with known) (held_from at (decoder_position old) bytes)
+      × IsZeroWithin (drop (decoder_position old) stream)
+      (max (length (held_from at (decoder_position old) bytes)) (summed_bytes old.end))
+      × (wasted_work new.budget ≤ wasted_work old.budget
+      + (length (held_from at (decoder_position old) bytes) + max_block_samples)))
+
+-- ---- parts of the code
+
+-- The bytes are due to be tried, or there are less than twice as many as were tried last, and the
+-- stream may go on.
+abbrev pub IsDue : List ℕ → Bool → FrameDecoder → Bool → Type 0
+IsDue rest ends s due =
+    due ≡ false → (ends ≡ false) × (length rest < 2 * tried_bytes s.end)
+
+-- The bytes are tried if they are due; else if a frame may end in them, within the budget.
+pub record IsWorthATry (rest : List ℕ) (is_due : Bool) (old : FrameDecoder) (result : Bool)
+    (new : FrameDecoder) : Type 0 where
+  pub position : new.position ≡ old.position
+  pub budget : new.budget ≡ old.budget
+  pub summed : summed_bytes new.end ≤ max (length rest) (summed_bytes old.end)
+  pub waits : result ≡ false → is_due ≡ false
+  pub knows : (stream : Option StreamFormat) (bytes : List ℕ) → StartsWith bytes rest
+      → Knows stream bytes old.end → Knows stream bytes new.end
+      × (result ≡ false → NoFrameLeft stream rest ⊎ IsSpent old.budget)
+      × (is_due ≡ false → result ≡ true → IsZeroWithin bytes (summed_bytes new.end))

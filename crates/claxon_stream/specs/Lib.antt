@@ -1,0 +1,9 @@
+pub mod Budget
+pub mod DecodedAtStart
+pub mod Event
+pub mod FrameDecoder
+pub mod FrameEnd
+pub mod Held
+pub mod Laws
+pub mod Noted
+pub mod SumThrough
